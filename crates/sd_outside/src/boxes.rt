@@ -1,0 +1,113 @@
+ghost use Rattle.std.specs.Prelude.{◌≡◌, List, ℕ, [], ◌∷◌, ◌++◌, length, IfOk, OnOk, OnErr, slice_get};
+ghost use Rattle.std.specs.Option.{option_copied};
+
+use crate::{NoMemory, TextBox};
+use std::alloc::Global;
+use std::marker::Model;
+
+/// Owned bytes. Contracts see the list of them.
+#[derive(Debug, Drop)]
+pub struct ByteBox {
+    bytes: Vec<u8>,
+}
+
+impl Model for ByteBox {
+    ghost use Rattle.std.specs.Prelude.{List, ℕ};
+
+    ghost Value = { List ℕ };
+
+    ghost view = { λ b. b.bytes.items };
+}
+
+impl ByteBox {
+    /// No bytes. It takes no memory.
+    pub fn new(alloc: Global) -> ByteBox
+        ensures { result ≡ [] }
+    {
+        ByteBox {
+            bytes: Vec::new(alloc),
+        }
+    }
+
+    /// No bytes, with memory for as many as are expected.
+    pub fn with_capacity(alloc: Global, capacity: usize) -> Result<ByteBox, NoMemory>
+        ensures { IfOk result (λ bytes. bytes ≡ []) }
+    {
+        Ok(ByteBox {
+            bytes: Vec::with_capacity(alloc, capacity)?,
+        })
+    }
+
+    /// Adds a byte at the end.
+    pub fn push(&mut self, byte: u8) -> Result<(), NoMemory>
+        ensures ok { OnOk result (self.new ≡ self.old ++ byte ∷ []) }
+        ensures err { OnErr result (self.new ≡ self.old) }
+    {
+        self.bytes.push(byte)?;
+        Ok(())
+    }
+
+    /// Adds bytes at the end, all of them or none.
+    pub fn append(&mut self, bytes: &[u8]) -> Result<(), NoMemory>
+        ensures ok { OnOk result (self.new ≡ self.old ++ bytes.now) }
+        ensures err { OnErr result (self.new ≡ self.old) }
+    {
+        self.bytes.extend_from_slice(bytes)?;
+        Ok(())
+    }
+
+    /// The bytes.
+    pub fn bytes(&self) -> &[u8]
+        ensures { result.now ≡ self.now }
+    {
+        self.bytes.as_slice()
+    }
+}
+
+/// Texts in order. Contracts see the list of their bytes.
+#[derive(Debug, Drop)]
+pub struct TextList {
+    texts: Vec<TextBox>,
+}
+
+impl Model for TextList {
+    ghost use Rattle.std.specs.Prelude.{List, ℕ};
+
+    ghost Value = { List (List ℕ) };
+
+    ghost view = { λ l. l.texts.items };
+}
+
+impl TextList {
+    /// No texts. It takes no memory.
+    pub fn new(alloc: Global) -> TextList
+        ensures { result ≡ [] }
+    {
+        TextList {
+            texts: Vec::new(alloc),
+        }
+    }
+
+    /// Adds a text at the end.
+    pub fn push(&mut self, text: TextBox) -> Result<(), NoMemory>
+        ensures ok { OnOk result (self.new ≡ self.old ++ text ∷ []) }
+        ensures err { OnErr result (self.new ≡ self.old) }
+    {
+        self.texts.push(text)?;
+        Ok(())
+    }
+
+    /// The number of texts.
+    pub fn len(&self) -> usize
+        ensures { result ≡ length self.now }
+    {
+        self.texts.len()
+    }
+
+    /// The text at a position, counted from 0.
+    pub fn at(&self, i: usize) -> Option<&TextBox>
+        ensures { option_copied result ≡ slice_get self.now i }
+    {
+        self.texts.get(i)
+    }
+}

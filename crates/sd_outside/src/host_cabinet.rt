@@ -1,0 +1,101 @@
+ghost use Rattle.std.specs.Prelude.{◌≡◌, ◌≤◌, None, length, IfOk};
+
+use crate::{ByteBox, Cabinet, FetchError, TextBox};
+use std::alloc::Global;
+use std::fs;
+use std::fs::OpenFile;
+use std::io::Read;
+use std::rt::Files;
+
+/// The files of the host, by path. It tells no content.
+#[derive(Drop)]
+pub struct HostCabinet<R: Files> {
+    rt: R,
+    faults: u64,
+    missed: Option<TextBox>,
+}
+
+impl<R: Files> HostCabinet<R> {
+    /// The files that the runtime reaches, with no fault yet. It takes no memory.
+    pub fn new(rt: R) -> HostCabinet<R>
+        ensures faults { result.faults ≡ 0 }
+        ensures missed { result.missed ≡ None }
+    {
+        HostCabinet {
+            rt,
+            faults: 0,
+            missed: None,
+        }
+    }
+}
+
+// The most bytes that one read asks for.
+const BLOCK: usize = 32_768;
+
+// At most `most` bytes of a file, with memory for `size` at first. Each turn but the last takes a byte or more.
+fn read_front<F: Read>(
+    alloc: Global,
+    file: &mut F,
+    size: usize,
+    most: usize,
+) -> Result<ByteBox, FetchError>
+    ensures { IfOk result (λ bytes. length bytes ≤ most) }
+{
+    let mut bytes = ByteBox::with_capacity(alloc, size.min(most))?;
+    let mut block = [0u8; BLOCK];
+    let mut left = most;
+    while left > 0 {
+        let wanted = left.min(BLOCK);
+        match file.read(&mut block[..wanted]) {
+            Ok(0) => break,
+            Ok(count) => {
+                bytes.append(&block[..count])?;
+                left -= count;
+            }
+            Err(_) => return Err(FetchError::Failed),
+        }
+    }
+    Ok(bytes)
+}
+
+// The size that a file tells, in bytes, or 0. It is a hint alone.
+fn size_of<F: OpenFile>(file: &F) -> usize {
+    file.metadata().map_or(0, |told| told.len() as usize)
+}
+
+fn read_file<R: Files>(
+    alloc: Global,
+    rt: &R,
+    name: &str,
+    most: usize,
+) -> Result<ByteBox, FetchError>
+    ensures { IfOk result (λ bytes. length bytes ≤ most) }
+{
+    match fs::open(rt, name) {
+        Ok(mut file) => {
+            let size = size_of(&file);
+            read_front(alloc, &mut file, size, most)
+        }
+        Err(_) => Err(FetchError::Failed),
+    }
+}
+
+impl<R: Files> Cabinet for HostCabinet<R> {
+    ghost holds = { λ _ _. None };
+
+    ghost faults = { λ c. c.faults };
+
+    ghost missed = { λ c. c.missed };
+
+    fn fetch(&mut self, alloc: Global, name: &str, most: usize) -> Result<ByteBox, FetchError> {
+        let missing = TextBox::make(alloc, name)?;
+        match read_file(alloc, &self.rt, name, most) {
+            Err(FetchError::Failed) => {
+                self.faults = self.faults.saturating_add(1);
+                self.missed = Some(missing);
+                Err(FetchError::Failed)
+            }
+            answer => answer,
+        }
+    }
+}

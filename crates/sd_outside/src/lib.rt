@@ -1,0 +1,30 @@
+//! What stands outside the program, and the small owned values that each layer hands on.
+//!
+//! Bytes come from a [`Cabinet`] and go to a [`Sink`]. Both are traits with a meaning and a count of
+//! faults, so that a layer above can be proved without knowing which one it is given. The objects in
+//! memory tell what they hold; the objects of the host tell nothing, and are the trusted edge.
+#![tactic(auto)]
+
+mod boxes;
+mod cabinet;
+mod errors;
+mod host_cabinet;
+mod host_sink;
+mod memory_cabinet;
+mod memory_sink;
+mod sink;
+mod status;
+#[cfg(test)]
+mod tests;
+mod text;
+
+pub use boxes::{ByteBox, TextList};
+pub use cabinet::Cabinet;
+pub use errors::{Failed, FetchError, NoMemory};
+pub use host_cabinet::HostCabinet;
+pub use host_sink::HostSink;
+pub use memory_cabinet::MemCabinet;
+pub use memory_sink::MemSink;
+pub use sink::Sink;
+pub use status::Status;
+pub use text::TextBox;

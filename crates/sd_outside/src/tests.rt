@@ -1,0 +1,99 @@
+use crate::{
+    ByteBox, Cabinet, Failed, FetchError, HostCabinet, HostSink, MemCabinet, MemSink, Sink,
+    TextBox, TextList,
+};
+use std::fs;
+use std::fs::File;
+use std::test::Fail;
+
+#[test]
+fn boxes_keep_what_is_added(rt: HostRuntime) -> Result<(), Fail> {
+    let alloc = rt.alloc();
+    let mut bytes = ByteBox::with_capacity(alloc, 1)?;
+    bytes.push(b'a')?;
+    bytes.append(b"bc")?;
+    assert_eq!(rt; bytes.bytes(), b"abc".as_slice());
+
+    let mut texts = TextList::new(alloc);
+    texts.push(TextBox::make(alloc, "one")?)?;
+    texts.push(TextBox::from_string(String::from_str(alloc, "two")?))?;
+    assert_eq!(rt; texts.len(), 2);
+    assert_eq!(rt; texts.at(1).ok_or("no second text")?.as_str(), "two");
+    assert!(rt; texts.at(2).is_none());
+    Ok(())
+}
+
+#[test]
+fn texts_are_ordered_by_their_bytes(rt: HostRuntime) -> Result<(), Fail> {
+    // U+FF5A comes before U+1F600 in UTF-8, and after it in UTF-16
+    for (low, high) in [
+        ("", "a"),
+        ("a", "b"),
+        ("a", "aa"),
+        ("Z", "a"),
+        ("\u{ff5a}", "\u{1f600}"),
+    ] {
+        let low = TextBox::make(rt.alloc(), low)?;
+        let high = TextBox::make(rt.alloc(), high)?;
+        assert!(rt; low < high);
+        assert!(rt; low == low);
+        assert!(rt; low != high);
+    }
+    Ok(())
+}
+
+#[test]
+fn objects_in_memory_count_their_failures(rt: HostRuntime) -> Result<(), Fail> {
+    let alloc = rt.alloc();
+    let mut cabinet = MemCabinet::new(alloc);
+    cabinet.add("name", b"first")?;
+    cabinet.add("name", b"second")?;
+    let front = cabinet.fetch(alloc, "name", 3).map_err(|_| "held")?;
+    assert_eq!(rt; front.bytes(), b"sec".as_slice());
+    assert!(rt; matches!(cabinet.fetch(alloc, "other", 3), Err(FetchError::Failed)));
+    assert_eq!(rt; cabinet.failures(), 1);
+
+    let mut sink = MemSink::new(alloc, 5)?;
+    assert_eq!(rt; sink.put(b"abc"), Ok(()));
+    assert_eq!(rt; sink.put(b"defg"), Err(Failed));
+    assert_eq!(rt; sink.written(), b"abcde".as_slice());
+    assert_eq!(rt; sink.failures(), 1);
+    Ok(())
+}
+
+#[test]
+fn files_of_the_host_are_read_in_part_and_in_whole(rt: HostRuntime) -> Result<(), Fail> {
+    let alloc = rt.alloc();
+    let long = vec![in alloc; b'x'; 100_000]?;
+    fs::write(&rt, "long", long.as_slice())?;
+    let mut cabinet = HostCabinet::new(&rt);
+    for (most, size) in [
+        (0, 0),
+        (1, 1),
+        (99_999, 99_999),
+        (100_000, 100_000),
+        (100_001, 100_000),
+    ] {
+        let bytes = cabinet.fetch(alloc, "long", most).map_err(|_| "not read")?;
+        assert_eq!(rt; bytes.bytes(), &long[..size]);
+    }
+    for name in ["absent", ".", ""] {
+        assert!(rt;
+            matches!(cabinet.fetch(alloc, name, 10), Err(FetchError::Failed)),
+            "{name}"
+        );
+    }
+    Ok(())
+}
+
+#[test]
+fn streams_of_the_host_take_whole_pieces_or_fail(rt: HostRuntime) -> Result<(), Fail> {
+    let long = vec![in rt.alloc(); b'x'; 100_000]?;
+    let mut sink = HostSink::new(File::create(&rt, "written")?);
+    assert_eq!(rt; sink.put(long.as_slice()), Ok(()));
+    assert_eq!(rt; sink.put(b""), Ok(()));
+    assert_eq!(rt; fs::read(&rt, "written")?.as_slice(), long.as_slice());
+    let mut full = HostSink::new(File::create(&rt, "/dev/full")?);
+    assert_eq!(rt; full.put(b"a"), Err(Failed));
+    Ok(())
+}
