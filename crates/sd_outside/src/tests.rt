@@ -2,6 +2,7 @@ use crate::{
     ByteBox, Cabinet, Failed, FetchError, HostCabinet, HostSink, MemCabinet, MemSink, Sink,
     TextBox, TextList,
 };
+use std::alloc::Global;
 use std::fs;
 use std::fs::File;
 use std::test::Fail;
@@ -61,21 +62,25 @@ fn objects_in_memory_count_their_failures(rt: HostRuntime) -> Result<(), Fail> {
     Ok(())
 }
 
+// Bytes of which neighbouring blocks differ.
+fn long_content(alloc: Global) -> Result<Vec<u8>, Fail> {
+    let mut content = Vec::new(alloc);
+    for i in 0..100_000u32 {
+        content.push((i % 251) as u8)?;
+    }
+    Ok(content)
+}
+
 #[test]
 fn files_of_the_host_are_read_in_part_and_in_whole(rt: HostRuntime) -> Result<(), Fail> {
     let alloc = rt.alloc();
-    let long = vec![in alloc; b'x'; 100_000]?;
+    let long = long_content(alloc)?;
     fs::write(&rt, "long", long.as_slice())?;
     let mut cabinet = HostCabinet::new(&rt);
-    for (most, size) in [
-        (0, 0),
-        (1, 1),
-        (99_999, 99_999),
-        (100_000, 100_000),
-        (100_001, 100_000),
-    ] {
+    for (most, size) in [(0, 0), (1, 1), (99_999, 99_999), (100_001, 100_000)] {
         let bytes = cabinet.fetch(alloc, "long", most).map_err(|_| "not read")?;
-        assert_eq!(rt; bytes.bytes(), &long[..size]);
+        assert_eq!(rt; bytes.bytes().len(), size);
+        assert!(rt; long.as_slice().starts_with(bytes.bytes()), "{most}");
     }
     for name in ["absent", ".", ""] {
         assert!(rt;
@@ -88,7 +93,7 @@ fn files_of_the_host_are_read_in_part_and_in_whole(rt: HostRuntime) -> Result<()
 
 #[test]
 fn streams_of_the_host_take_whole_pieces_or_fail(rt: HostRuntime) -> Result<(), Fail> {
-    let long = vec![in rt.alloc(); b'x'; 100_000]?;
+    let long = long_content(rt.alloc())?;
     let mut sink = HostSink::new(File::create(&rt, "written")?);
     assert_eq!(rt; sink.put(long.as_slice()), Ok(()));
     assert_eq!(rt; sink.put(b""), Ok(()));
