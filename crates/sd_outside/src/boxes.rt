@@ -1,4 +1,4 @@
-ghost use Rattle.std.specs.Prelude.{◌≡◌, List, ℕ, [], ◌∷◌, ◌++◌, length, IfOk, OnOk, OnErr, slice_get};
+ghost use Rattle.std.specs.Prelude.{◌≡◌, List, ℕ, [], ◌∷◌, ◌++◌, length, OnOk, OnErr, slice_get};
 ghost use Rattle.std.specs.Option.{option_copied};
 
 use crate::{NoMemory, TextBox};
@@ -29,13 +29,11 @@ impl ByteBox {
         }
     }
 
-    /// No bytes, with memory for as many as are expected.
-    pub fn with_capacity(alloc: Global, capacity: usize) -> Result<ByteBox, NoMemory>
-        ensures { IfOk result (λ bytes. bytes ≡ []) }
+    /// The bytes of a vector, with no copy.
+    pub fn from_vec(bytes: Vec<u8>) -> ByteBox
+        ensures { result ≡ bytes.items }
     {
-        Ok(ByteBox {
-            bytes: Vec::with_capacity(alloc, capacity)?,
-        })
+        ByteBox { bytes }
     }
 
     /// Adds a byte at the end.

@@ -1,6 +1,6 @@
 ghost use Rattle.std.specs.Prelude.{◌≡◌, ◌≤◌, None, length, IfOk};
 
-use crate::{ByteBox, Cabinet, FetchError, TextBox};
+use crate::{ByteBox, Cabinet, FetchError, NoMemory, TextBox};
 use std::alloc::Global;
 use std::fs;
 use std::fs::OpenFile;
@@ -41,7 +41,7 @@ fn read_front<F: Read>(
 ) -> Result<ByteBox, FetchError>
     ensures { IfOk result (λ bytes. length bytes ≤ most) }
 {
-    let mut bytes = ByteBox::with_capacity(alloc, size.min(most))?;
+    let mut bytes = Vec::with_capacity(alloc, size.min(most)).map_err(NoMemory::from)?;
     let mut block = [0u8; BLOCK];
     let mut left = most;
     while left > 0 {
@@ -49,13 +49,15 @@ fn read_front<F: Read>(
         match file.read(&mut block[..wanted]) {
             Ok(0) => break,
             Ok(count) => {
-                bytes.append(&block[..count])?;
+                bytes
+                    .extend_from_slice(&block[..count])
+                    .map_err(NoMemory::from)?;
                 left -= count;
             }
             Err(_) => return Err(FetchError::Failed),
         }
     }
-    Ok(bytes)
+    Ok(ByteBox::from_vec(bytes))
 }
 
 // The size that a file tells, in bytes, or 0. It is a hint alone.

@@ -10,7 +10,7 @@ use std::test::Fail;
 #[test]
 fn boxes_keep_what_is_added(rt: HostRuntime) -> Result<(), Fail> {
     let alloc = rt.alloc();
-    let mut bytes = ByteBox::with_capacity(alloc, 1)?;
+    let mut bytes = ByteBox::from_vec(Vec::new(alloc));
     bytes.push(b'a')?;
     bytes.append(b"bc")?;
     assert_eq!(rt; bytes.bytes(), b"abc".as_slice());

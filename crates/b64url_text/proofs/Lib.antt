@@ -1,0 +1,4 @@
+pub mod Letters
+pub mod Words
+mod LaneRuns
+mod LookUps

@@ -1,0 +1,2 @@
+pub mod Base64url
+pub mod Lanes

@@ -1,0 +1,121 @@
+// Letters found 32 bytes at a time.
+ghost use Rattle.std.specs.Prelude.{◌≡◌, ◌+◌, ◌≤◌, length, take, drop};
+ghost use Rattle.std.specs.List.{prefix_len};
+ghost use Rattle.b64url_text.specs.Base64url.{is_letter as letter_test};
+ghost use Rattle.b64url_text.specs.Lanes.{first_set as place_of_first};
+
+use std::simd::prelude::*;
+
+pub(crate) const LANES: usize = 32;
+
+// The letters by the high four bits of their code. Each class is a bit, and a byte is a letter where the
+// class of its high four bits has its low four bits.
+const DASH: u8 = 1; // 0x2D
+
+const DIGITS: u8 = 2; // 0x30 to 0x39
+
+const A_TO_O: u8 = 4; // 0x41 to 0x4F, 0x61 to 0x6F
+
+const UPPER_P_TO_Z: u8 = 8; // 0x50 to 0x5A, and 0x5F
+
+const LOWER_P_TO_Z: u8 = 16; // 0x70 to 0x7A
+
+const ZERO: u8 = DIGITS | UPPER_P_TO_Z | LOWER_P_TO_Z;
+
+const TO_NINE: u8 = ZERO | A_TO_O;
+
+const TEN: u8 = A_TO_O | UPPER_P_TO_Z | LOWER_P_TO_Z;
+
+// The class of a high four bits, for both halves of a vector.
+const CLASS: [u8; LANES] = [
+    0,
+    0,
+    DASH,
+    DIGITS,
+    A_TO_O,
+    UPPER_P_TO_Z,
+    A_TO_O,
+    LOWER_P_TO_Z,
+    0,
+    0,
+    0,
+    0,
+    0,
+    0,
+    0,
+    0,
+    0,
+    0,
+    DASH,
+    DIGITS,
+    A_TO_O,
+    UPPER_P_TO_Z,
+    A_TO_O,
+    LOWER_P_TO_Z,
+    0,
+    0,
+    0,
+    0,
+    0,
+    0,
+    0,
+    0,
+];
+
+// The classes that have a low four bits, likewise.
+const CLASSES: [u8; LANES] = [
+    ZERO,
+    TO_NINE,
+    TO_NINE,
+    TO_NINE,
+    TO_NINE,
+    TO_NINE,
+    TO_NINE,
+    TO_NINE,
+    TO_NINE,
+    TO_NINE,
+    TEN,
+    A_TO_O,
+    A_TO_O,
+    A_TO_O | DASH,
+    A_TO_O,
+    A_TO_O | UPPER_P_TO_Z,
+    ZERO,
+    TO_NINE,
+    TO_NINE,
+    TO_NINE,
+    TO_NINE,
+    TO_NINE,
+    TO_NINE,
+    TO_NINE,
+    TO_NINE,
+    TO_NINE,
+    TEN,
+    A_TO_O,
+    A_TO_O,
+    A_TO_O | DASH,
+    A_TO_O,
+    A_TO_O | UPPER_P_TO_Z,
+];
+
+// The lowest bit that is set, or the number of lanes.
+fn first_set(mask: u64) -> usize
+    ensures { result ≡ place_of_first mask LANES }
+{
+    if mask == 0 {
+        LANES
+    } else {
+        mask.trailing_zeros() as usize
+    }
+}
+
+// How many of the 32 bytes from `at` on stand before the first that is no letter.
+pub(crate) fn letters_at(text: &[u8], at: usize) -> usize
+    requires { at + LANES ≤ length text.now }
+    ensures { result ≡ prefix_len letter_test (take LANES (drop at text.now)) }
+{
+    let bytes = u8x32::from_slice(&text[at..]);
+    let class = u8x32::from_array(CLASS).swizzle_dyn_within::<16>(bytes >> u8x32::splat(4));
+    let classes = u8x32::from_array(CLASSES).swizzle_dyn_within::<16>(bytes & u8x32::splat(15));
+    first_set((class & classes).simd_eq(u8x32::splat(0)).to_bitmask())
+}
