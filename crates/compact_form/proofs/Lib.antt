@@ -1,0 +1,11 @@
+mod FrontWords
+mod Fronts
+mod Built
+mod Runs
+mod Cuts
+mod Stops
+mod Steps
+mod Spelled
+pub mod Unique
+mod Verdicts
+mod GatheredParts

@@ -1,0 +1,5 @@
+pub mod Compact
+pub mod Trim
+pub mod Token
+pub mod Views
+pub mod Reading

@@ -1,0 +1,55 @@
+/// The number of the condition that a token is short enough.
+pub const TOO_LONG: u8 = 1;
+
+/// The number of the condition that a token has a form of RFC 9901 section 4 or 8.
+pub const FORM: u8 = 2;
+
+/// The number of the condition that a token has few enough disclosures.
+pub const TOO_MUCH: u8 = 3;
+
+/// A condition of a verifier that fails: its number, and the place that its failure names.
+#[derive(Clone, Copy, Debug, PartialEq, Eq)]
+pub struct Fault {
+    pub number: u8,
+    pub place: Place,
+}
+
+/// Where a condition fails, in its own terms.
+#[derive(Clone, Copy, Debug, PartialEq, Eq)]
+pub enum Place {
+    /// The condition names no place.
+    Nowhere,
+    /// A position, counted from 0: of a byte, a disclosure, a digest or a name.
+    At(usize),
+    /// A place in a JSON serialization.
+    Json(JsonPlace),
+}
+
+/// A member of a JSON serialization, RFC 9901 section 8.
+#[derive(Clone, Copy, Debug, PartialEq, Eq)]
+pub enum Part {
+    Payload,
+    Protected,
+    Signature,
+    Signatures,
+    Header,
+    Disclosures,
+    KbJwt,
+}
+
+/// What is wrong with a JSON serialization.
+#[derive(Clone, Copy, Debug, PartialEq, Eq)]
+pub enum JsonPlace {
+    /// The text is not read as JSON.
+    NotJson,
+    /// A number is not whole.
+    NotWhole,
+    /// The value is no object.
+    NotObject,
+    /// A member is not there.
+    Missing(Part),
+    /// A member is not of its form.
+    Wrong(Part),
+    /// A later entry of `signatures` has members that only the first may have. Counted from 0.
+    Stray(usize),
+}

@@ -1,0 +1,23 @@
+//! What the definitions of the compact form say together. Each law holds for every value.
+ghost use Rattle.std.specs.Prelude.{◌≡◌, ℕ, List};
+ghost use Rattle.compact_form.specs.declared.fault.Fault.{Fault};
+ghost use Rattle.compact_form.specs.declared.parts.Parts.{Parts};
+ghost use Rattle.compact_form.specs.Compact.{IsCompact, IsStop};
+ghost use Rattle.compact_form.specs.Token.{IsRefused, Reads};
+
+/// A text is the spelling of at most one value of parts.
+pub fn one_spelling()
+    ensures { (p q : Parts) (text : List ℕ) → IsCompact p text → IsCompact q text → p ≡ q }
+{}
+
+/// A text stops at one place.
+pub fn one_stop()
+    ensures { (text : List ℕ) (m n : ℕ) → IsStop text m → IsStop text n → m ≡ n }
+{}
+
+/// A text that is read is not refused, and one that is refused has one fault.
+pub fn one_verdict()
+    ensures not_both { (text : List ℕ) (parts : Parts) (fault : Fault) → Reads text parts → IsRefused text fault → ⊥ }
+    ensures one_fault { (text : List ℕ) (f g : Fault) → IsRefused text f → IsRefused text g → f ≡ g }
+    ensures one_value { (text : List ℕ) (p q : Parts) → Reads text p → Reads text q → p ≡ q }
+{}

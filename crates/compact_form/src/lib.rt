@@ -1,0 +1,28 @@
+//! The compact serialization of an SD-JWT, RFC 9901 section 4: its grammar, its parts and its limits.
+//!
+//! [`View::scan`] reads a text once and borrows its parts; [`parse`] copies them. Both refuse a text at
+//! the first byte at which it stops being the front of a token. [`read_view`] judges a token as it comes
+//! from a file: its limits, its blanks and its form.
+#![tactic(auto)]
+
+mod blanks;
+mod fault;
+mod field;
+mod form;
+pub mod laws;
+mod limits;
+mod parts;
+mod reader;
+#[cfg(test)]
+mod tests;
+mod token;
+mod view;
+
+pub use blanks::trim;
+pub use fault::{FORM, Fault, JsonPlace, Part, Place, TOO_LONG, TOO_MUCH};
+pub use form::{FormError, check, parse};
+pub use limits::{COMPACT_MAX, COUNT_MAX, FILE_MAX, ISSUE_MAX};
+pub use parts::{JwtParts, Parts};
+pub use reader::At;
+pub use token::read_view;
+pub use view::{JwtView, Pieces, View};

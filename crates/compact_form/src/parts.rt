@@ -1,0 +1,17 @@
+use sd_outside::{TextBox, TextList};
+
+/// The three base64url texts of a JWS in compact serialization, RFC 7515 section 7.1.
+#[derive(Debug, Drop)]
+pub struct JwtParts {
+    pub protected: TextBox,
+    pub payload: TextBox,
+    pub signature: TextBox,
+}
+
+/// The parts of an SD-JWT: the issuer's JWT, the disclosures, and the key binding token where there is one.
+#[derive(Debug, Drop)]
+pub struct Parts {
+    pub signed: JwtParts,
+    pub disclosures: TextList,
+    pub binding: Option<JwtParts>,
+}
