@@ -7,5 +7,5 @@ mod Stops
 mod Steps
 mod Spelled
 pub mod Unique
-mod Verdicts
+pub mod Verdicts
 mod GatheredParts

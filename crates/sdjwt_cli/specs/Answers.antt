@@ -1,0 +1,36 @@
+-- What each command answers over its files, by its definition.
+use Rattle.std.specs.Prelude.{◌≡◌, ℕ, List, [], ◌∷◌, Option, IfSome, IsSomeAnd, take}
+use Rattle.std.specs.List.{AllZip}
+use Rattle.sdjwt_cli.specs.Command.{Command, split, Wanted, wanted_by}
+use Rattle.sdjwt_cli.specs.Split.{Gives, Refuses}
+
+-- the bytes for standard output, or the line of a refusal, or that of a file that is not of its form
+pub data Verdict : Type 0 where
+  gives : (answer : List ℕ) → Verdict
+  refuses : (text : List ℕ) → Verdict
+  unreadable : (text : List ℕ) → Verdict
+
+abbrev pub SplitAnswers : List ℕ → Verdict → Type 0
+SplitAnswers file (gives answer) = Gives file answer
+SplitAnswers file (refuses text) = Refuses file text
+SplitAnswers file (unreadable text) = ⊥
+
+-- the verdict of a command over its files, at a moment
+abbrev pub Answers : Command → List (List ℕ) → ℕ → Verdict → Type 0
+Answers (split token) [] now verdict = ⊥
+Answers (split token) (file ∷ []) now verdict = SplitAnswers file verdict
+Answers (split token) (file ∷ more ∷ files) now verdict = ⊥
+
+-- each file is what a fetch answers, where the cabinet tells it
+abbrev pub AreFetched : (List ℕ → Option (List ℕ)) → Command → List (List ℕ) → Type 0
+AreFetched holds command files = AllZip (λ (wanted : Wanted) (file : List ℕ). IfSome (holds wanted.name) (λ content. file ≡ take wanted.most content)) (wanted_by command) files
+
+-- the verdict of a command over what the cabinet holds
+pub record IsAnswered (holds : List ℕ → Option (List ℕ)) (command : Command) (now : ℕ) (verdict : Verdict) : Type 0 where
+  pub files : List (List ℕ)
+  pub fetched : AreFetched holds command files
+  pub answers : Answers command files now verdict
+
+-- the cabinet tells each file
+abbrev pub AreTold : (List ℕ → Option (List ℕ)) → Command → List (List ℕ) → Type 0
+AreTold holds command files = AllZip (λ (wanted : Wanted) (file : List ℕ). IsSomeAnd (holds wanted.name) (λ content. file ≡ take wanted.most content)) (wanted_by command) files

@@ -1,0 +1,7 @@
+-- For private functions: a command by its names, as the code has it.
+use Rattle.sdjwt_cli.specs.Command.{Command, split}
+use Rattle.sdjwt_cli.specs.declared.command.Command.{Command as Named}
+use Rattle.sdjwt_cli.specs.declared.command.Command.TheVariants.{Split}
+
+abbrev pub meant_by : Named → Command
+meant_by (Split token) = split token.now

@@ -1,0 +1,117 @@
+-- What a run of the program does to the outside, by the status with which it ends.
+use Rattle.std.specs.Prelude.{zero, suc, ◌≡◌, ◌⊎◌, ◌≤◌, ℕ, List, [], ◌∷◌, Option, None, Some, codes}
+use Rattle.std.specs.Io.KnownBytes.{Appends}
+use Rattle.sd_outside.specs.Causes.{Rose, AppendsPrefix}
+use Rattle.sd_outside.specs.declared.status.Status.{Status}
+use Rattle.sd_outside.specs.declared.status.Status.TheVariants.{Done, Refused, Usage, Unread, Unwritten, Memory, Unreadable}
+use Rattle.sdjwt_cli.specs.Command.{Command, command_of, Wanted, wanted_by}
+use Rattle.sdjwt_cli.specs.Lines.{line, unread}
+use Rattle.sdjwt_cli.specs.Answers.{gives, refuses, unreadable, IsAnswered}
+
+-- a sink at one moment
+pub record Stream : Type 0 where
+  pub written : Option (List ℕ)
+  pub faults : ℕ
+
+abbrev pub stream : Option (List ℕ) → ℕ → Stream
+stream written faults = record { written = written; faults = faults }
+
+-- the cabinet, `out` and `err` at one moment
+pub record Outside : Type 0 where
+  pub holds : List ℕ → Option (List ℕ)
+  pub missed : Option (List ℕ)
+  pub faults : ℕ
+  pub out : Stream
+  pub err : Stream
+
+abbrev pub outside : (List ℕ → Option (List ℕ)) → Option (List ℕ) → ℕ → Stream → Stream → Outside
+outside holds missed faults out err = record { holds = holds; missed = missed; faults = faults; out = out; err = err }
+
+-- the text went to the sink, or the sink failed at it
+abbrev pub Tells : Stream → Stream → List ℕ → Type 0
+Tells before after text = Appends before.written after.written text ⊎ (Rose before.faults after.faults × AppendsPrefix before.written after.written text)
+
+-- the name that was missed is that of the file of this word
+abbrev pub MissesIn : List Wanted → ℕ → Option (List ℕ) → Type 0
+MissesIn [] word missed = ⊥
+MissesIn (wanted ∷ more) zero missed = missed ≡ Some wanted.name
+MissesIn (wanted ∷ more) (suc word) missed = MissesIn more word missed
+
+abbrev pub Misses : Command → ℕ → Option (List ℕ) → Type 0
+Misses command word missed = MissesIn (wanted_by command) word missed
+
+-- the whole answer was written
+pub record IsDone (words : List (List ℕ)) (before after : Outside) (now : ℕ) : Type 0 where
+  pub command : Command
+  pub answer : List ℕ
+  pub named : command_of words ≡ Some command
+  pub answered : IsAnswered before.holds command now (gives answer)
+  pub out : Appends before.out.written after.out.written answer
+  pub err : after.err.written ≡ before.err.written
+
+-- the definition of the command refuses
+pub record IsRefused (words : List (List ℕ)) (before after : Outside) (now : ℕ) : Type 0 where
+  pub command : Command
+  pub text : List ℕ
+  pub named : command_of words ≡ Some command
+  pub answered : IsAnswered before.holds command now (refuses text)
+  pub out : after.out.written ≡ before.out.written
+  pub err : Tells before.err after.err text
+
+-- a policy, an order or a seed is not of its form
+pub record IsUnreadable (words : List (List ℕ)) (before after : Outside) (now : ℕ) : Type 0 where
+  pub command : Command
+  pub text : List ℕ
+  pub named : command_of words ≡ Some command
+  pub answered : IsAnswered before.holds command now (unreadable text)
+  pub out : after.out.written ≡ before.out.written
+  pub err : Tells before.err after.err text
+
+-- the words are no command
+pub record IsUsage (words : List (List ℕ)) (before after : Outside) : Type 0 where
+  pub named : command_of words ≡ None
+  pub out : after.out.written ≡ before.out.written
+  pub err : Tells before.err after.err (line (codes "usage"))
+
+-- the cabinet failed at the file of this word
+pub record IsUnread (words : List (List ℕ)) (before after : Outside) : Type 0 where
+  pub command : Command
+  pub word : ℕ
+  pub named : command_of words ≡ Some command
+  pub missed : Misses command word after.missed
+  pub rose : Rose before.faults after.faults
+  pub out : after.out.written ≡ before.out.written
+  pub err : Tells before.err after.err (unread word)
+
+-- `out` failed at an answer that was due
+pub record IsUnwritten (words : List (List ℕ)) (before after : Outside) (now : ℕ) : Type 0 where
+  pub command : Command
+  pub answer : List ℕ
+  pub named : command_of words ≡ Some command
+  pub answered : IsAnswered before.holds command now (gives answer)
+  pub rose : Rose before.out.faults after.out.faults
+  pub out : AppendsPrefix before.out.written after.out.written answer
+  pub err : Tells before.err after.err (line (codes "unwritten"))
+
+-- there was no memory: this may come of any command, and of no other words
+pub record IsMemory (words : List (List ℕ)) (before after : Outside) : Type 0 where
+  pub command : Command
+  pub named : command_of words ≡ Some command
+  pub out : after.out.written ≡ before.out.written
+  pub err : Tells before.err after.err (line (codes "memory"))
+
+abbrev pub Ends : List (List ℕ) → Outside → Outside → ℕ → Status → Type 0
+Ends words before after now Done = IsDone words before after now
+Ends words before after now Refused = IsRefused words before after now
+Ends words before after now Usage = IsUsage words before after
+Ends words before after now Unread = IsUnread words before after
+Ends words before after now Unwritten = IsUnwritten words before after now
+Ends words before after now Memory = IsMemory words before after
+Ends words before after now Unreadable = IsUnreadable words before after now
+
+-- what each run leaves
+pub record Keeps (before after : Outside) : Type 0 where
+  pub held : (name : List ℕ) → after.holds name ≡ before.holds name
+  pub later : before.faults ≤ after.faults
+  pub out_later : before.out.faults ≤ after.out.faults
+  pub err_later : before.err.faults ≤ after.err.faults

@@ -1,0 +1,37 @@
+-- The command `split`: what it prints of a token file, and when it refuses one.
+use Rattle.std.specs.Prelude.{◌≡◌, ℕ, ◌+◌, List, [], ◌∷◌, ◌++◌, Option, None, Some, codes}
+use Rattle.std.specs.Fmt.{decimal}
+use Rattle.compact_form.specs.declared.fault.Fault.{Fault}
+use Rattle.compact_form.specs.declared.parts.JwtParts.{JwtParts}
+use Rattle.compact_form.specs.declared.parts.Parts.{Parts}
+use Rattle.compact_form.specs.Compact.{jwt}
+use Rattle.compact_form.specs.Token.{IsRefused, Reads}
+use Rattle.sdjwt_cli.specs.Lines.{line, refusal}
+
+abbrev pub signed_lines : JwtParts → List ℕ
+signed_lines j = line (codes "protected " ++ j.protected) ++ (line (codes "payload " ++ j.payload) ++ line (codes "signature " ++ j.signature))
+
+-- the disclosures, numbered from i
+abbrev pub numbered : ℕ → List (List ℕ) → List ℕ
+numbered i [] = []
+numbered i (disclosure ∷ disclosures) = line (codes "disclosure " ++ (decimal i ++ (codes " " ++ disclosure))) ++ numbered (i + 1) disclosures
+
+abbrev pub binding_line : Option JwtParts → List ℕ
+binding_line None = []
+binding_line (Some j) = line (codes "binding " ++ jwt j)
+
+-- a line for each part
+abbrev pub split_lines : Parts → List ℕ
+split_lines parts = signed_lines parts.signed ++ numbered 0 parts.disclosures ++ binding_line parts.binding
+
+-- the file is read, and these are the lines of its parts
+pub record Gives (file answer : List ℕ) : Type 0 where
+  pub parts : Parts
+  pub reads : Reads file parts
+  pub lines : answer ≡ split_lines parts
+
+-- the file is refused, with this line
+pub record Refuses (file text : List ℕ) : Type 0 where
+  pub fault : Fault
+  pub refused : IsRefused file fault
+  pub line_is : text ≡ refusal fault

@@ -1,0 +1,25 @@
+ghost use Rattle.std.specs.Prelude.{◌≡◌, map, string_bytes};
+ghost use Rattle.std.specs.Option.{option_map};
+
+// A command, with the names of its files.
+#[derive(Clone, Copy, Debug)]
+pub(crate) enum Command<'a> {
+    Split { token: &'a str },
+}
+
+impl<'a> Command<'a> {
+    ghost use Rattle.sdjwt_cli.specs.Command.{command_of};
+    ghost use Rattle.sdjwt_cli.specs.Names.{meant_by};
+
+    // The command that the words are. Words are compared byte by byte, and none is an option.
+    pub(crate) fn of(words: &'a [String]) -> Option<Command<'a>>
+        ensures { option_map meant_by result ≡ command_of (map string_bytes words.now) }
+    {
+        match words {
+            [command, token] if command.as_str() == "split" => Some(Command::Split {
+                token: token.as_str(),
+            }),
+            _ => None,
+        }
+    }
+}

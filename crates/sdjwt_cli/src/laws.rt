@@ -1,0 +1,22 @@
+//! What the definitions of a run say together. Each law holds for every value.
+ghost use Rattle.std.specs.Prelude.{◌≡◌, ◌⊎◌, ℕ, List, Option, Some};
+ghost use Rattle.std.specs.Io.KnownBytes.{Appends};
+ghost use Rattle.sd_outside.specs.Causes.{Rose};
+ghost use Rattle.sd_outside.specs.declared.status.Status.{Status};
+ghost use Rattle.sdjwt_cli.specs.Command.{Command, command_of};
+ghost use Rattle.sdjwt_cli.specs.Answers.{Verdict, gives, Answers, AreTold};
+ghost use Rattle.sdjwt_cli.specs.Run.{Outside, Ends};
+
+/// The definition of a command has at most one verdict over its files.
+pub fn one_answer()
+    ensures { (command : Command) (files : List (List ℕ)) (now : ℕ) (v w : Verdict) → Answers command files now v → Answers command files now w → v ≡ w }
+{}
+
+/// Where the cabinet tells the files of a command, its definition gives an answer, and neither the cabinet
+/// nor `out` failed, that answer was written, or there was no memory.
+pub fn completes()
+    ensures { (words : List (List ℕ)) (before after : Outside) (now : ℕ) (status : Status) (command : Command) (files : List (List ℕ)) (answer : List ℕ)
+        → command_of words ≡ Some command → AreTold before.holds command files → Answers command files now (gives answer)
+        → (Rose before.faults after.faults → ⊥) → (Rose before.out.faults after.out.faults → ⊥) → Ends words before after now status
+        → ((status ≡ Status.Done) × Appends before.out.written after.out.written answer) ⊎ (status ≡ Status.Memory) }
+{}

@@ -1,0 +1,17 @@
+//! The program `sdjwt` as one call, over a cabinet of files and two sinks.
+//!
+//! [`run`] does all that the program does. Each command is a module of its own, which answers the bytes
+//! for standard output or the reason why there are none.
+#![tactic(auto)]
+
+mod command;
+pub mod laws;
+mod lines;
+mod split;
+mod stop;
+#[cfg(test)]
+mod tests;
+mod top;
+
+pub use sd_outside::Status;
+pub use top::run;

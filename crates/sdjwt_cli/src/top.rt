@@ -1,0 +1,93 @@
+ghost use Rattle.std.specs.Prelude.{◌≡◌, ◌≤◌, ℕ, List, map, IfOk, IfErr, string_bytes};
+ghost use Rattle.sd_outside.specs.Causes.{Rose};
+ghost use Rattle.sdjwt_cli.specs.Names.{meant_by};
+ghost use Rattle.sdjwt_cli.specs.Answers.{gives, refuses, IsAnswered};
+ghost use Rattle.sdjwt_cli.specs.Stops.{OnRefused, OnUnread};
+ghost use Rattle.sdjwt_cli.specs.Run.{outside, stream, Misses, Tells, Ends, Keeps};
+
+use crate::command::Command;
+use crate::lines::unread_line;
+use crate::split::split;
+use crate::stop::Stop;
+use compact_form::FILE_MAX;
+use sd_outside::{Cabinet, Failed, FetchError, Sink, Status};
+use std::alloc::Global;
+
+// The answer of the command, over the files that the cabinet has under its names.
+fn answer<C: Cabinet>(
+    alloc: Global,
+    cab: &mut C,
+    command: Command<'_>,
+    _now: u64,
+) -> Result<String, Stop>
+    ensures gives { IfOk result (λ text. IsAnswered (C.holds cab.old) (meant_by command.entry) _now (gives (string_bytes text))) }
+    ensures refuses { IfErr result (λ stop. OnRefused stop (λ text. IsAnswered (C.holds cab.old) (meant_by command.entry) _now (refuses text))) }
+    ensures misses { IfErr result (λ stop. OnUnread stop (λ word. Misses (meant_by command.entry) word (C.missed cab.new))) }
+    ensures rose { IfErr result (λ stop. OnUnread stop (λ word. Rose (C.faults cab.old) (C.faults cab.new))) }
+    ensures held { (name : List ℕ) → C.holds cab.new name ≡ C.holds cab.old name }
+    ensures later { C.faults cab.old ≤ C.faults cab.new }
+{
+    let Command::Split { token } = command;
+    match cab.fetch(alloc, token, FILE_MAX + 1) {
+        Ok(file) => split(alloc, file.bytes()),
+        Err(FetchError::Memory) => Err(Stop::Memory),
+        Err(FetchError::Failed) => Err(Stop::Unread(0)),
+    }
+}
+
+// A line on `err`. Where `err` fails, nothing else is tried.
+fn tell<E: Sink>(err: &mut E, text: &str)
+    ensures told { Tells (stream (E.written err.old) (E.faults err.old)) (stream (E.written err.new) (E.faults err.new)) text.now }
+    ensures later { E.faults err.old ≤ E.faults err.new }
+{
+    let _ = err.put(text.as_bytes());
+}
+
+/// Runs the command that the words name, over the files of the cabinet.
+///
+/// `words` are the words behind the program's name, and `now` is the moment in seconds since 1970. The whole
+/// answer goes to `out` in one piece, and the line of any other status to `err`. What each status says of the
+/// outside before and after is `Ends`, by cases.
+pub fn run<C: Cabinet, O: Sink, E: Sink>(
+    alloc: Global,
+    words: &[String],
+    cab: &mut C,
+    now: u64,
+    out: &mut O,
+    err: &mut E,
+) -> Status
+    ensures ends { Ends (map string_bytes words.now)
+        (outside (C.holds cab.old) (C.missed cab.old) (C.faults cab.old) (stream (O.written out.old) (O.faults out.old)) (stream (E.written err.old) (E.faults err.old)))
+        (outside (C.holds cab.new) (C.missed cab.new) (C.faults cab.new) (stream (O.written out.new) (O.faults out.new)) (stream (E.written err.new) (E.faults err.new)))
+        now
+        result }
+    ensures keeps { Keeps
+        (outside (C.holds cab.old) (C.missed cab.old) (C.faults cab.old) (stream (O.written out.old) (O.faults out.old)) (stream (E.written err.old) (E.faults err.old)))
+        (outside (C.holds cab.new) (C.missed cab.new) (C.faults cab.new) (stream (O.written out.new) (O.faults out.new)) (stream (E.written err.new) (E.faults err.new))) }
+{
+    let Some(command) = Command::of(words) else {
+        tell(err, "usage\n");
+        return Status::Usage;
+    };
+    match answer(alloc, cab, command, now) {
+        Ok(text) => match out.put(text.as_bytes()) {
+            Ok(()) => Status::Done,
+            Err(Failed) => {
+                tell(err, "unwritten\n");
+                Status::Unwritten
+            }
+        },
+        Err(Stop::Refused(line)) => {
+            tell(err, line.as_str());
+            Status::Refused
+        }
+        Err(Stop::Unread(word)) => {
+            tell(err, unread_line(word));
+            Status::Unread
+        }
+        Err(Stop::Memory) => {
+            tell(err, "memory\n");
+            Status::Memory
+        }
+    }
+}
