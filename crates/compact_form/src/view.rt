@@ -1,4 +1,4 @@
-ghost use Rattle.std.specs.Prelude.{◌≡◌, ◌++◌, length, take, IfOk, IfErr, IfSome};
+ghost use Rattle.std.specs.Prelude.{◌≡◌, ◌^◌, ◌<◌, ◌++◌, length, take, IfOk, IfErr, IfSome};
 ghost use Rattle.std.specs.Option.{option_map};
 ghost use Rattle.std.specs.Iterator.{YieldsFirstBy, item_count};
 ghost use Rattle.compact_form.specs.Compact.{hashed as hashed_of, ending, HasWords, IsCompact, IsRefusedAt};
@@ -124,8 +124,11 @@ impl<'a> View<'a> {
 
     /// The disclosures, in their order.
     pub fn pieces(&self) -> Pieces<'a>
-        ensures { result ≡ self.now.disclosures }
+        ensures value { result ≡ self.now.disclosures }
+        ensures countable { length result < 2 ^ 64 }
     {
+        // the number that is read here bounds the list
+        let _count = self.count;
         Pieces {
             rest: self.disclosures,
         }

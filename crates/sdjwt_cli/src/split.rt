@@ -1,5 +1,5 @@
 // The command `split`: the parts of a token, each on a line.
-ghost use Rattle.std.specs.Prelude.{◌≡◌, ◌++◌, IfOk, IfErr, OnOk, codes, string_bytes};
+ghost use Rattle.std.specs.Prelude.{◌≡◌, ◌^◌, ◌<◌, ◌++◌, length, IfOk, IfErr, OnOk, codes, string_bytes};
 ghost use Rattle.std.specs.Fmt.{decimal};
 ghost use Rattle.std.specs.Option.{option_map};
 ghost use Rattle.compact_form.specs.Views.{jwt_of};
@@ -35,6 +35,7 @@ fn push_disclosure(text: &mut String, i: usize, disclosure: &str) -> Result<(), 
 }
 
 fn push_disclosures(text: &mut String, disclosures: Pieces<'_>) -> Result<(), NoMemory>
+    requires { length disclosures < 2 ^ 64 }
     ensures { OnOk result (string_bytes text.new ≡ string_bytes text.old ++ numbered 0 disclosures.entry) }
 {
     for (i, disclosure) in disclosures.enumerate() {

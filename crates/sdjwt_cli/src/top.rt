@@ -1,5 +1,6 @@
 ghost use Rattle.std.specs.Prelude.{◌≡◌, ◌≤◌, ℕ, List, map, IfOk, IfErr, string_bytes};
 ghost use Rattle.sd_outside.specs.Causes.{Rose};
+ghost use Rattle.sdjwt_cli.specs.Command.{split as split_of};
 ghost use Rattle.sdjwt_cli.specs.Names.{meant_by};
 ghost use Rattle.sdjwt_cli.specs.Answers.{gives, refuses, IsAnswered};
 ghost use Rattle.sdjwt_cli.specs.Stops.{OnRefused, OnUnread};
@@ -13,25 +14,38 @@ use compact_form::FILE_MAX;
 use sd_outside::{Cabinet, Failed, FetchError, Sink, Status};
 use std::alloc::Global;
 
-// The answer of the command, over the files that the cabinet has under its names.
+// The answer of `split` to the file under this name, at any moment.
+fn answer_split<C: Cabinet>(alloc: Global, cab: &mut C, token: &str) -> Result<String, Stop>
+    ensures gives { IfOk result (λ text. (now : ℕ) → IsAnswered (C.holds cab.old) (split_of token.now) now (gives (string_bytes text))) }
+    ensures refuses { IfErr result (λ stop. OnRefused stop (λ text. (now : ℕ) → IsAnswered (C.holds cab.old) (split_of token.now) now (refuses text))) }
+    ensures misses { IfErr result (λ stop. OnUnread stop (λ word. Misses (split_of token.now) word (C.missed cab.new))) }
+    ensures rose { IfErr result (λ stop. OnUnread stop (λ word. Rose (C.faults cab.old) (C.faults cab.new))) }
+    ensures held { (name : List ℕ) → C.holds cab.new name ≡ C.holds cab.old name }
+    ensures later { C.faults cab.old ≤ C.faults cab.new }
+{
+    match cab.fetch(alloc, token, FILE_MAX + 1) {
+        Ok(file) => split(alloc, file.bytes()),
+        Err(FetchError::Memory) => Err(Stop::Memory),
+        Err(FetchError::Failed) => Err(Stop::Unread(0)),
+    }
+}
+
+// The answer of a command, over the files that the cabinet has under its names.
 fn answer<C: Cabinet>(
     alloc: Global,
     cab: &mut C,
     command: Command<'_>,
-    _now: u64,
+    now: u64,
 ) -> Result<String, Stop>
-    ensures gives { IfOk result (λ text. IsAnswered (C.holds cab.old) (meant_by command.entry) _now (gives (string_bytes text))) }
-    ensures refuses { IfErr result (λ stop. OnRefused stop (λ text. IsAnswered (C.holds cab.old) (meant_by command.entry) _now (refuses text))) }
+    ensures gives { IfOk result (λ text. IsAnswered (C.holds cab.old) (meant_by command.entry) now (gives (string_bytes text))) }
+    ensures refuses { IfErr result (λ stop. OnRefused stop (λ text. IsAnswered (C.holds cab.old) (meant_by command.entry) now (refuses text))) }
     ensures misses { IfErr result (λ stop. OnUnread stop (λ word. Misses (meant_by command.entry) word (C.missed cab.new))) }
     ensures rose { IfErr result (λ stop. OnUnread stop (λ word. Rose (C.faults cab.old) (C.faults cab.new))) }
     ensures held { (name : List ℕ) → C.holds cab.new name ≡ C.holds cab.old name }
     ensures later { C.faults cab.old ≤ C.faults cab.new }
 {
-    let Command::Split { token } = command;
-    match cab.fetch(alloc, token, FILE_MAX + 1) {
-        Ok(file) => split(alloc, file.bytes()),
-        Err(FetchError::Memory) => Err(Stop::Memory),
-        Err(FetchError::Failed) => Err(Stop::Unread(0)),
+    match command {
+        Command::Split { token } => answer_split(alloc, cab, token),
     }
 }
 

@@ -1,0 +1,26 @@
+-- From the answer to one file to that of a command of one file.
+use Rattle.std.proofs.Common.{◌≡◌, ℕ, ◌+◌, List, [], ◌∷◌, Option, Ok, Err, Result, String, Global, take, string_bytes, IfOk, IfErr, IfSome}
+use Rattle.compact_form.specs.declared.limits.TheConstants.{FILE_MAX}
+use Rattle.sdjwt_cli.specs.declared.stop.Stop.{Stop}
+use Rattle.sdjwt_cli.specs.declared.stop.Stop.TheVariants.{Memory, Unread, Refused}
+use Rattle.sdjwt_cli.specs.Command.{split}
+use Rattle.sdjwt_cli.specs.Split.{Gives, Refuses}
+use Rattle.sdjwt_cli.specs.Answers.{gives, refuses, AreFetched, IsAnswered}
+use Rattle.sdjwt_cli.specs.Stops.{OnRefused}
+
+module _ (holds : List ℕ → Option (List ℕ)) (name file bytes : List ℕ)
+    (fetched : IfSome (holds name) (λ content. file ≡ take (FILE_MAX + 1) content)) (same : bytes ≡ file) where
+  one_file : AreFetched holds (split name) (bytes ∷ [])
+  one_file = (rw same fetched, tt)
+
+  pub lift_gives : (r : Result (String Global) Stop) → IfOk r (λ text. Gives bytes (string_bytes text))
+      → IfOk r (λ text. (now : ℕ) → IsAnswered holds (split name) now (gives (string_bytes text)))
+  lift_gives (Ok text) h = λ now. record { files = bytes ∷ []; fetched = one_file; answers = h }
+  lift_gives (Err stop) h = tt
+
+  pub lift_refuses : (r : Result (String Global) Stop) → IfErr r (λ stop. OnRefused stop (Refuses bytes))
+      → IfErr r (λ stop. OnRefused stop (λ text. (now : ℕ) → IsAnswered holds (split name) now (refuses text)))
+  lift_refuses (Ok text) h = tt
+  lift_refuses (Err Memory) h = tt
+  lift_refuses (Err (Unread word)) h = tt
+  lift_refuses (Err (Refused text)) h = λ now. record { files = bytes ∷ []; fetched = one_file; answers = h }

@@ -1,0 +1,93 @@
+-- A command has one verdict over its files, and a run that nothing stops is done.
+use Rattle.std.proofs.Common.{◌≡◌, ◌⊎◌, inl, inr, ℕ, List, [], ◌∷◌, Option, None, Some, take, refl, ap, ◌∙◌, sym, subst}
+use Rattle.std.specs.Prelude.{IfSome, IsSomeAnd}
+use Rattle.std.specs.List.{AllZip}
+use Rattle.std.specs.Io.KnownBytes.{Appends}
+use Rattle.sd_outside.specs.Causes.{Rose}
+use Rattle.sd_outside.specs.declared.status.Status.{Status}
+use Rattle.sd_outside.specs.declared.status.Status.TheVariants.{Done, Refused, Usage, Unread, Unwritten, Memory, Unreadable}
+use Rattle.compact_form.proofs.Verdicts.{not_both, one_fault, one_value}
+use Rattle.sdjwt_cli.specs.Command.{Command, split, command_of, Wanted, wanted_by}
+use Rattle.sdjwt_cli.specs.Lines.{refusal}
+use Rattle.sdjwt_cli.specs.Split.{split_lines, Gives, Refuses}
+use Rattle.sdjwt_cli.specs.Answers.{Verdict, gives, refuses, unreadable, SplitAnswers, Answers, AreFetched, AreTold, IsAnswered}
+use Rattle.sdjwt_cli.specs.Run.{Outside, Ends}
+
+one_split : (file : List ℕ) (v w : Verdict) → SplitAnswers file v → SplitAnswers file w → v ≡ w
+one_split file (gives a) (gives b) g h = ap gives (g.lines ∙ ap split_lines (one_value file g.parts h.parts g.reads h.reads) ∙ sym h.lines)
+one_split file (gives a) (refuses t) g h = absurd (not_both file g.parts h.fault g.reads h.refused)
+one_split file (gives a) (unreadable t) g h = absurd h
+one_split file (refuses s) (gives b) g h = absurd (not_both file h.parts g.fault h.reads g.refused)
+one_split file (refuses s) (refuses t) g h = ap refuses (g.line_is ∙ ap refusal (one_fault file g.fault h.fault g.refused h.refused) ∙ sym h.line_is)
+one_split file (refuses s) (unreadable t) g h = absurd h
+one_split file (unreadable s) w g h = absurd g
+
+pub one_answer : (command : Command) (files : List (List ℕ)) (now : ℕ) (v w : Verdict) → Answers command files now v → Answers command files now w → v ≡ w
+one_answer (split token) [] now v w g h = absurd g
+one_answer (split token) (file ∷ []) now v w g h = one_split file v w g h
+one_answer (split token) (file ∷ more ∷ files) now v w g h = absurd g
+
+none_some : (o : Option Command) (k : Command) → o ≡ None → o ≡ Some k → ⊥
+none_some o k e f = cc
+
+same_command : (o : Option Command) (c d : Command) → o ≡ Some c → o ≡ Some d → c ≡ d
+same_command o c d e f = cc
+
+-- what the cabinet tells is what was fetched
+told : (o : Option (List ℕ)) (n : ℕ) (x y : List ℕ) → IsSomeAnd o (λ content. x ≡ take n content) → IfSome o (λ content. y ≡ take n content) → x ≡ y
+told None n x y t f = absurd t
+told (Some content) n x y t f = t ∙ sym f
+
+abbrev IsTold : (List ℕ → Option (List ℕ)) → Wanted → List ℕ → Type 0
+IsTold holds wanted file = IsSomeAnd (holds wanted.name) (λ content. file ≡ take wanted.most content)
+
+abbrev IsFetched : (List ℕ → Option (List ℕ)) → Wanted → List ℕ → Type 0
+IsFetched holds wanted file = IfSome (holds wanted.name) (λ content. file ≡ take wanted.most content)
+
+all_told : (holds : List ℕ → Option (List ℕ)) (ws : List Wanted) (xs ys : List (List ℕ)) → AllZip (IsTold holds) ws xs → AllZip (IsFetched holds) ws ys → xs ≡ ys
+all_told holds [] [] [] t f = refl
+all_told holds [] [] (y ∷ ys) t f = absurd f
+all_told holds [] (x ∷ xs) ys t f = absurd t
+all_told holds (w ∷ ws) [] ys t f = absurd t
+all_told holds (w ∷ ws) (x ∷ xs) [] t f = absurd f
+all_told holds (w ∷ ws) (x ∷ xs) (y ∷ ys) t f =
+    let first : x ≡ y = told (holds w.name) w.most x y t.0 f.0 in
+    let others : xs ≡ ys = all_told holds ws xs ys t.1 f.1 in
+    cc
+
+-- over files that are told there is one verdict
+told_verdict : (holds : List ℕ → Option (List ℕ)) (command other : Command) (files : List (List ℕ)) (now : ℕ) (v w : Verdict)
+    → other ≡ command → AreTold holds command files → Answers command files now v → IsAnswered holds other now w → v ≡ w
+told_verdict holds command other files now v w same told g h =
+    let fetched : AreFetched holds command h.files = subst (λ (c : Command). AreFetched holds c h.files) same h.fetched in
+    let answers : Answers command h.files now w = subst (λ (c : Command). Answers c h.files now w) same h.answers in
+    let files_are = all_told holds (wanted_by command) files h.files told fetched in
+    one_answer command files now v w g (subst (λ (fs : List (List ℕ)). Answers command fs now w) (sym files_are) answers)
+
+given_refused : (a t : List ℕ) → gives a ≡ refuses t → ⊥
+given_refused a t e = cc
+
+given_unreadable : (a t : List ℕ) → gives a ≡ unreadable t → ⊥
+given_unreadable a t e = cc
+
+given_given : (a b : List ℕ) → gives a ≡ gives b → b ≡ a
+given_given a b e = cc
+
+pub completes : (words : List (List ℕ)) (before after : Outside) (now : ℕ) (status : Status) (command : Command) (files : List (List ℕ)) (answer : List ℕ)
+    → command_of words ≡ Some command → AreTold before.holds command files → Answers command files now (gives answer)
+    → (Rose before.faults after.faults → ⊥) → (Rose before.out.faults after.out.faults → ⊥) → Ends words before after now status
+    → ((status ≡ Done) × Appends before.out.written after.out.written answer) ⊎ (status ≡ Memory)
+completes words before after now Done command files answer named told good read written e =
+    let same = same_command (command_of words) e.command command e.named named in
+    let is = given_given answer e.answer (told_verdict before.holds command e.command files now (gives answer) (gives e.answer) same told good e.answered) in
+    inl (refl, subst (λ (a : List ℕ). Appends before.out.written after.out.written a) is e.out)
+completes words before after now Refused command files answer named told good read written e =
+    let same = same_command (command_of words) e.command command e.named named in
+    absurd (given_refused answer e.text (told_verdict before.holds command e.command files now (gives answer) (refuses e.text) same told good e.answered))
+completes words before after now Usage command files answer named told good read written e = absurd (none_some (command_of words) command e.named named)
+completes words before after now Unread command files answer named told good read written e = absurd (read e.rose)
+completes words before after now Unwritten command files answer named told good read written e = absurd (written e.rose)
+completes words before after now Memory command files answer named told good read written e = inr refl
+completes words before after now Unreadable command files answer named told good read written e =
+    let same = same_command (command_of words) e.command command e.named named in
+    absurd (given_unreadable answer e.text (told_verdict before.holds command e.command files now (gives answer) (unreadable e.text) same told good e.answered))
