@@ -3,12 +3,12 @@ use Rattle.std.proofs.Common.{◌≡◌, ◌⊎◌, inl, inr, ℕ, zero, suc, �
 use Rattle.std.specs.Prelude.{◌==◌, IfSome}
 use Rattle.std.specs.List.{AllByRecursion}
 use Rattle.std.specs.Option.{option_map}
-use Rattle.std.specs.Str.{IsAscii}
+use Rattle.std.specs.Str.{IsAscii, IsCharBoundary}
 use Rattle.std.proofs.Math.Seq.{take-add}
 use Rattle.std.proofs.lemmas.Bool.{eqb-true}
-use Rattle.std.proofs.lemmas.List.{append_cancel_left, length-take}
+use Rattle.std.proofs.lemmas.List.{drop_at, length-take}
 use Rattle.std.proofs.lemmas.Grind.{flat_map-append}
-use Rattle.std.proofs.lemmas.Str.{IsAscii-append}
+use Rattle.std.proofs.lemmas.Str.{IsAscii-append, IsCharBoundary-from_ascii}
 use Rattle.b64url_text.specs.Base64url.{IsWord}
 use Rattle.b64url_text.proofs.Words.{IsAscii-letters}
 use Rattle.compact_form.specs.declared.field.Field.{Field}
@@ -46,26 +46,31 @@ IsAscii-spelled (d ∷ ds) words =
 
 module _ (x : List ℕ) (from end count : ℕ) (j : JwtParts) (g : Gathered x from end count j) where
   -- the disclosures as they stand in the text
-  pub slice_is : take (end - from) (drop from x) ≡ spelled g.disclosures
+  pub slice_is : drop from (take end x) ≡ spelled g.disclosures
   slice_is =
       let later = g.later in
-      let cut : take from x ++ take (end - from) (drop from x) ≡ take end x = sym (take-add from (end - from) x) ∙ ap (λ (n : ℕ). take n x) (omega arith) in
-      append_cancel_left (jwt j ++ (126 ∷ [])) (take (end - from) (drop from x)) (spelled g.disclosures)
-      (ap (λ (y : List ℕ). y ++ take (end - from) (drop from x)) (sym g.opening) ∙ cut ∙ g.front ∙ sym (append_assoc (jwt j) (126 ∷ []) (spelled g.disclosures)))
-
-  pub slice_ascii : IsAscii (take (end - from) (drop from x))
-  slice_ascii = subst IsAscii (sym slice_is) (IsAscii-spelled g.disclosures g.are_words)
+      let within = g.stands.within in
+      let size : from ≡ length (jwt j ++ (126 ∷ [])) = omega (arith, ap length g.opening, length-take from x) in
+      ap (drop from) (g.front ∙ sym (append_assoc (jwt j) (126 ∷ []) (spelled g.disclosures)))
+      ∙ drop_at (jwt j ++ (126 ∷ [])) (spelled g.disclosures) from (sym size)
 
   pub front_ascii : IsAscii (take end x)
   front_ascii = subst IsAscii (sym g.front)
       (IsAscii-append (jwt j) (126 ∷ spelled g.disclosures) (IsAscii-jwt j g.signed)
       (IsAscii-append (126 ∷ []) (spelled g.disclosures) (IsAscii-one 126 (omega arith)) (IsAscii-spelled g.disclosures g.are_words)))
 
-  pub pieces_are : (d : List ℕ) → d ≡ take (end - from) (drop from x) → pieces_of d ≡ g.disclosures
+  -- they begin at a character
+  pub boundary : (h : List ℕ) → h ≡ take end x → IsCharBoundary h from
+  boundary h is =
+      let later = g.later in
+      let within = g.stands.within in
+      IsCharBoundary-from_ascii h from (subst IsAscii (sym is) front_ascii) (omega (arith, ap length is, length-take end x))
+
+  pub pieces_are : (d : List ℕ) → d ≡ drop from (take end x) → pieces_of d ≡ g.disclosures
   pieces_are d is = ap pieces_of (is ∙ slice_is) ∙ pieces_of-spelled g.disclosures g.are_words
 
 -- what the view of these parts keeps
-pub kept : (x : List ℕ) (from end count : ℕ) (signed : JwtView) (g : Gathered x from end count (jwt_of signed)) (d h : List ℕ) → d ≡ take (end - from) (drop from x) → h ≡ take end x
+pub kept : (x : List ℕ) (from end count : ℕ) (signed : JwtView) (g : Gathered x from end count (jwt_of signed)) (d h : List ℕ) → d ≡ drop from (take end x) → h ≡ take end x
     → AreSpelled signed d count h
 kept x from end count signed g d h is front = record {
   spelling = subst IsSpelled (sym (is ∙ slice_is x from end count (jwt_of signed) g)) (IsSpelled-spelled g.disclosures g.are_words);
@@ -75,7 +80,7 @@ kept x from end count signed g d h is front = record {
 
 -- the text is the spelling of these parts
 pub is_compact : (x : List ℕ) (from end count : ℕ) (signed : JwtView) (g : Gathered x from end count (jwt_of signed)) (d : List ℕ) (binding : Option JwtView)
-    → d ≡ take (end - from) (drop from x) → IfSome (option_map jwt_of binding) HasWords → x ≡ take end x ++ ending (option_map jwt_of binding) → IsCompact (parts_of signed d binding) x
+    → d ≡ drop from (take end x) → IfSome (option_map jwt_of binding) HasWords → x ≡ take end x ++ ending (option_map jwt_of binding) → IsCompact (parts_of signed d binding) x
 is_compact x from end count signed g d binding is words ends =
     let pieces = pieces_are x from end count (jwt_of signed) g d is in
     record {

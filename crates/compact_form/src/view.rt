@@ -75,11 +75,12 @@ impl<'a> Front<'a> {
         requires ends { text.now ≡ take self.end text.now ++ ending (option_map jwt_of binding) }
         ensures { IsCompact result text.now }
     {
+        let hashed = text_of(&text[..self.end]);
         View {
             signed: self.signed,
-            disclosures: text_of(&text[self.from..self.end]),
+            disclosures: &hashed[self.from..],
             count: self.count,
-            hashed: text_of(&text[..self.end]),
+            hashed,
             binding,
         }
     }
