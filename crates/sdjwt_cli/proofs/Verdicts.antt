@@ -9,7 +9,7 @@ use Rattle.sd_outside.specs.declared.status.Status.TheVariants.{Done, Refused, U
 use Rattle.compact_form.proofs.Verdicts.{not_both, one_fault, one_value}
 use Rattle.sdjwt_cli.specs.Command.{Command, split, command_of, Wanted, wanted_by}
 use Rattle.sdjwt_cli.specs.Lines.{refusal}
-use Rattle.sdjwt_cli.specs.Split.{split_lines, Gives, Refuses}
+use Rattle.sdjwt_cli.specs.Split.{split_lines}
 use Rattle.sdjwt_cli.specs.Answers.{Verdict, gives, refuses, unreadable, SplitAnswers, Answers, AreFetched, AreTold, IsAnswered}
 use Rattle.sdjwt_cli.specs.Run.{Outside, Ends}
 

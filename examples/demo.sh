@@ -1,0 +1,26 @@
+#!/bin/sh
+# Builds `sdjwt` and runs it on the files of this folder, showing each command before its output.
+set -eu
+cd "$(dirname "$0")"
+top=$(cd .. && pwd)
+log=$(mktemp)
+trap 'rm -f "$log"' EXIT
+
+if ! (cd "$top/crates/sdjwt" && rt run -- split data/token) >"$log" 2>&1; then
+    cat "$log" >&2
+    exit 1
+fi
+sdjwt=$top/crates/sdjwt/out/sdjwt
+
+show() {
+    echo "\$ sdjwt $*"
+    status=0
+    "$sdjwt" "$@" || status=$?
+    [ "$status" -eq 0 ] || echo "(status $status)"
+    echo
+}
+
+show split rfc9901.txt
+show split rfc9901_chosen.txt
+show split plain_jwt.txt
+show split absent.txt
