@@ -1,0 +1,57 @@
+-- What the calls of a list and of a map do, seen as elements and as members.
+use Rattle.std.proofs.Common.{◌≡◌, ℕ, zero, suc, ◌+◌, ◌<◌, ◌≤◌, List, [], ◌∷◌, ◌++◌, length, Option, Some, None, option_map, get_or, MatchOption, Bor, refl, sym, ap, ◌∙◌, arith}
+use Rattle.std.specs.Prelude.{HoldsAt}
+use Rattle.claim_tree.specs.Tree as spec
+use Rattle.claim_tree.specs.Tree.{Text, Elements, element, no_elements, Members, member, no_members, elements_len, element_at, pushed, members_len, member_at, IsOrdered, ElementsOrdered}
+use Rattle.claim_tree.specs.declared.tree.Tree.{Tree}
+use Rattle.claim_tree.specs.View.{tree_of, elements_of, members_of}
+
+-- ---- arrays
+
+pub elements_of-push : (ts : List Tree) (t : Tree) → elements_of (ts ++ t ∷ []) ≡ pushed (elements_of ts) (tree_of t)
+elements_of-push [] t = refl
+elements_of-push (u ∷ ts) t = ap (element (tree_of u)) (elements_of-push ts t)
+
+pub elements_len-of : (ts : List Tree) → elements_len (elements_of ts) ≡ length ts
+elements_len-of [] = refl
+elements_len-of (t ∷ ts) = ap suc (elements_len-of ts)
+
+pub ordered-pushed : (es : Elements) (t : spec.Tree) → ElementsOrdered es → IsOrdered t → ElementsOrdered (pushed es t)
+ordered-pushed no_elements t o p = (p, tt)
+ordered-pushed (element u es) t o p = (o.0, ordered-pushed es t o.1 p)
+
+past : (ts : List Tree) (i : ℕ) → length ts ≤ i → element_at (elements_of ts) i ≡ None
+past [] i h = refl
+past (t ∷ ts) zero h = absurd (omega arith)
+past (t ∷ ts) (suc i) h = past ts i (omega arith)
+
+there : (ts : List Tree) (i : ℕ) (d : Tree) → i < length ts → element_at (elements_of ts) i ≡ Some (tree_of (get_or ts i d))
+there [] i d h = absurd (omega arith)
+there (t ∷ ts) zero d h = refl
+there (t ∷ ts) (suc i) d h = there ts i d (omega arith)
+
+pub element_at-of : (ts : List Tree) (i : ℕ) (r : Option (Bor Tree)) → MatchOption r (length ts ≤ i) (λ x. (i < length ts) × HoldsAt (λ y. x.now ≡ y) ts i)
+    → option_map (λ t. tree_of t.now) r ≡ element_at (elements_of ts) i
+element_at-of ts i None h = sym (past ts i h)
+element_at-of ts i (Some x) h = ap (λ t. Some (tree_of t)) (h.1 x.now) ∙ sym (there ts i x.now h.0)
+
+-- ---- objects
+
+pub members_len-of : (ms : List (Text × Tree)) → members_len (members_of ms) ≡ length ms
+members_len-of [] = refl
+members_len-of (m ∷ ms) = ap suc (members_len-of ms)
+
+member_at-past : (ms : List (Text × Tree)) (i : ℕ) → length ms ≤ i → member_at (members_of ms) i ≡ None
+member_at-past [] i h = refl
+member_at-past (m ∷ ms) zero h = absurd (omega arith)
+member_at-past (m ∷ ms) (suc i) h = member_at-past ms i (omega arith)
+
+member_at-there : (ms : List (Text × Tree)) (i : ℕ) (d : Text × Tree) → i < length ms → member_at (members_of ms) i ≡ Some ((get_or ms i d).0, tree_of (get_or ms i d).1)
+member_at-there [] i d h = absurd (omega arith)
+member_at-there (m ∷ ms) zero d h = refl
+member_at-there (m ∷ ms) (suc i) d h = member_at-there ms i d (omega arith)
+
+pub member_at-of : (ms : List (Text × Tree)) (i : ℕ) (r : Option (Bor (Text × Tree))) → MatchOption r (length ms ≤ i) (λ x. (i < length ms) × HoldsAt (λ y. ◌≡◌ {A = Text × Tree} x.now y) ms i)
+    → option_map (λ m. (m.now.0, tree_of m.now.1)) r ≡ member_at (members_of ms) i
+member_at-of ms i None h = sym (member_at-past ms i h)
+member_at-of ms i (Some x) h = ap (λ (m : Text × Tree). Some (m.0, tree_of m.1)) (h.1 x.now) ∙ sym (member_at-there ms i x.now h.0)

@@ -1,0 +1,14 @@
+use Rattle.std.proofs.Common.{ap, ◌∙◌, sym, subst}
+use Rattle.claim_tree.specs.Tree.{pushed, ElementsOrdered}
+use Rattle.claim_tree.specs.View.{tree_of, elements_of}
+use Rattle.claim_tree.proofs.Views.{elements_of-push, ordered-pushed}
+use Rattle.claim_tree.proofs.tree.TreeList.push.Goals as goal
+
+pub invariant_of-self-2 : goal.invariant_of-self-2
+invariant_of-self-2 c =
+    let grown = ap elements_of c.in_ok-push.ensures.items ∙ elements_of-push c.self.inside.trees.items c.args.tree in
+    subst ElementsOrdered (sym grown) (ordered-pushed (elements_of c.self.inside.trees.items) (tree_of c.args.tree) c.self.invariant c.is_ordered.ensures)
+
+pub returns-clause-ok : goal.returns-clause-ok
+returns-clause-ok c =
+    ap elements_of c.in_ok-push.ensures.items ∙ elements_of-push c.self.inside.trees.items c.args.tree ∙ ap (λ es. pushed es (tree_of c.args.tree)) c.self.view_is

@@ -1,0 +1,26 @@
+-- For the models: a tree inside another has fewer nodes.
+use Rattle.std.specs.Prelude.{ℕ, ◌≤◌, List, [], ◌∷◌, map}
+use Rattle.std.proofs.Common.{arith}
+use denote.Param.Weighed.{most}
+use Rattle.claim_tree.specs.Tree.{Text, nodes, elements_nodes, members_nodes}
+use Rattle.claim_tree.specs.declared.tree.Tree.{Tree}
+use Rattle.claim_tree.specs.declared.tree.Tree.TheVariants.{the_data}
+use Rattle.claim_tree.specs.declared.tree.TreeList.TheDeep.{deep-Tree}
+use Rattle.claim_tree.specs.declared.tree.TreeList.TheShapes.{weighed-TreeMap-members-at-2}
+use Rattle.claim_tree.specs.View.{tree_of, elements_of, members_of}
+
+deep-le : (t : Tree) → deep-Tree t ≤ nodes (tree_of t)
+deep-le Tree.Null = omega arith
+deep-le (Tree.Flag b) = omega arith
+deep-le (Tree.Whole n) = omega arith
+deep-le (Tree.Text s) = omega arith
+deep-le (Tree.List es) = omega arith
+deep-le (Tree.Object ms) = omega arith
+
+pub most-elements : (ts : List Tree) → most (λ t. deep-Tree t) ts ≤ elements_nodes (elements_of ts)
+most-elements [] = omega arith
+most-elements (t ∷ ts) = omega (arith, deep-le t, most-elements ts)
+
+pub most-members : (ms : List (Text × Tree)) → most (λ x. (weighed-TreeMap-members-at-2).weight the_data (λ t. deep-Tree t) x) ms ≤ members_nodes (members_of ms)
+most-members [] = omega arith
+most-members (m ∷ ms) = omega (arith, deep-le m.1, most-members ms)

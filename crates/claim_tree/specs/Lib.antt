@@ -1,0 +1,5 @@
+pub mod Tree
+pub mod View
+pub mod Code
+pub mod Falls
+pub mod Places

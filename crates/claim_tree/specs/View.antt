@@ -1,0 +1,21 @@
+-- The tree that a value of the code is.
+use Rattle.std.specs.Prelude.{ℕ, List, [], ◌∷◌}
+use Rattle.claim_tree.specs.Tree as spec
+use Rattle.claim_tree.specs.Tree.{Text, Elements, no_elements, element, Members, no_members, member, leaf, array, object, null, flag, whole, text}
+use Rattle.claim_tree.specs.declared.tree.Tree.{Tree}
+
+abbrev pub tree_of : Tree → spec.Tree
+tree_of Tree.Null = leaf null
+tree_of (Tree.Flag b) = leaf (flag b)
+tree_of (Tree.Whole n) = leaf (whole n)
+tree_of (Tree.Text s) = leaf (text s)
+tree_of (Tree.List es) = array es
+tree_of (Tree.Object ms) = object ms
+
+abbrev pub elements_of : List Tree → Elements
+elements_of [] = no_elements
+elements_of (t ∷ ts) = element (tree_of t) (elements_of ts)
+
+abbrev pub members_of : List (Text × Tree) → Members
+members_of [] = no_members
+members_of (m ∷ ms) = member m.0 (tree_of m.1) (members_of ms)

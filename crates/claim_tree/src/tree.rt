@@ -1,0 +1,228 @@
+ghost use Rattle.std.specs.Prelude.{◌≡◌, OnOk, OnErr, IfOk, IfErr, option_map};
+ghost use Rattle.std.specs.Ordering.{nat_cmp};
+ghost use Rattle.std.specs.Cmp.Lexicographic.{slice_cmp};
+ghost use Rattle.claim_tree.specs.Tree.{no_elements, no_members, elements_len, members_len, element_at, member_at, member_named, pushed, inserted, IsOrdered, ElementsOrdered, MembersOrdered};
+ghost use Rattle.claim_tree.specs.View.{tree_of, elements_of, members_of};
+ghost use Rattle.claim_tree.specs.Places.{IsPlace, IsGap};
+
+use sd_outside::{NoMemory, TextBox};
+use std::alloc::Global;
+use std::cmp::Ordering;
+use std::marker::Model;
+
+/// A JSON value whose numbers are whole (RFC 8259). Contracts see it by `tree_of`.
+#[cycle(tree)]
+#[derive(Debug, Drop)]
+pub enum Tree {
+    Null,
+    Flag(bool),
+    /// From -2^63 to 2^64 - 1.
+    Whole(i128),
+    Text(TextBox),
+    List(TreeList),
+    Object(TreeMap),
+}
+
+/// The elements of an array. Contracts see the list of their trees.
+#[cycle(tree)]
+#[derive(Debug, Drop)]
+pub struct TreeList {
+    trees: Vec<Tree>,
+}
+
+impl Model for TreeList {
+    ghost use Rattle.claim_tree.specs.Tree.{Elements};
+
+    ghost Value = { Elements };
+
+    ghost use Rattle.claim_tree.specs.Code.{elements_code};
+
+    ghost coded = { elements_code };
+
+    ghost use Rattle.claim_tree.specs.Tree.{elements_nodes, ElementsOrdered};
+    ghost use Rattle.claim_tree.specs.View.{elements_of};
+
+    ghost view = { λ l. elements_of l.trees.items };
+
+    ghost invariant = { λ l. ElementsOrdered (elements_of l.trees.items) };
+
+    ghost size = { elements_nodes };
+
+    ghost use Rattle.std.proofs.Common.{arith};
+    ghost use Rattle.claim_tree.specs.Falls.{most-elements};
+
+    ghost size_decreases = { λ l h. omega (arith, most-elements l.trees.items) };
+}
+
+/// The members of an object, ascending by the bytes of their names, each name once. Contracts see them in this order.
+#[cycle(tree)]
+#[derive(Debug, Drop)]
+pub struct TreeMap {
+    members: Vec<(TextBox, Tree)>,
+}
+
+impl Model for TreeMap {
+    ghost use Rattle.claim_tree.specs.Tree.{Members};
+
+    ghost Value = { Members };
+
+    ghost use Rattle.claim_tree.specs.Code.{members_code};
+
+    ghost coded = { members_code };
+
+    ghost use Rattle.claim_tree.specs.Tree.{members_nodes, MembersOrdered};
+    ghost use Rattle.claim_tree.specs.View.{members_of};
+
+    ghost view = { λ m. members_of m.members.items };
+
+    ghost invariant = { λ m. MembersOrdered (members_of m.members.items) };
+
+    ghost size = { members_nodes };
+
+    ghost use Rattle.std.proofs.Common.{arith};
+    ghost use Rattle.claim_tree.specs.Falls.{most-members};
+
+    ghost size_decreases = { λ m h. omega (arith, most-members m.members.items) };
+}
+
+// What every tree is, by the invariants of what it holds.
+fn is_ordered(tree: &Tree)
+    ensures { IsOrdered (tree_of tree.now) }
+{
+    match tree {
+        Tree::List(list) => {
+            let _ = list.trees();
+        }
+        Tree::Object(map) => {
+            let _ = map.members();
+        }
+        _ => (),
+    }
+}
+
+impl TreeList {
+    /// No elements. It takes no memory.
+    pub fn new(alloc: Global) -> TreeList
+        ensures { result ≡ no_elements }
+    {
+        TreeList {
+            trees: Vec::new(alloc),
+        }
+    }
+
+    /// Adds a tree at the end.
+    pub fn push(&mut self, tree: Tree) -> Result<(), NoMemory>
+        ensures ok { OnOk result (self.new ≡ pushed self.old (tree_of tree)) }
+        ensures err { OnErr result (self.new ≡ self.old) }
+    {
+        is_ordered(&tree);
+        self.trees.push(tree)?;
+        Ok(())
+    }
+
+    /// The trees, in their order.
+    pub fn trees(&self) -> &[Tree]
+        ensures value { elements_of result.now ≡ self.now }
+        ensures ordered { ElementsOrdered self.now }
+    {
+        self.trees.as_slice()
+    }
+
+    /// The number of elements.
+    pub fn len(&self) -> usize
+        ensures { result ≡ elements_len self.now }
+    {
+        self.trees().len()
+    }
+
+    /// The tree at a position, counted from 0.
+    pub fn at(&self, i: usize) -> Option<&Tree>
+        ensures { option_map (λ t. tree_of t.now) result ≡ element_at self.now i }
+    {
+        self.trees().get(i)
+    }
+}
+
+impl TreeMap {
+    /// No members. It takes no memory.
+    pub fn new(alloc: Global) -> TreeMap
+        ensures { result ≡ no_members }
+    {
+        TreeMap {
+            members: Vec::new(alloc),
+        }
+    }
+
+    /// The members, ascending by the bytes of their names.
+    pub fn members(&self) -> &[(TextBox, Tree)]
+        ensures value { members_of result.now ≡ self.now }
+        ensures ordered { MembersOrdered self.now }
+    {
+        self.members.as_slice()
+    }
+
+    /// The number of members.
+    pub fn len(&self) -> usize
+        ensures { result ≡ members_len self.now }
+    {
+        self.members().len()
+    }
+
+    /// The tree under a name. It takes no memory.
+    pub fn get(&self, name: &str) -> Option<&Tree>
+        ensures { option_map (λ t. tree_of t.now) result ≡ member_named self.now name.now }
+    {
+        let members = self.members();
+        match search(members, name) {
+            Ok(place) => Some(&members[place].1),
+            Err(_) => None,
+        }
+    }
+
+    /// The member at a position, counted from 0 in ascending order.
+    pub fn entry_at(&self, i: usize) -> Option<(&TextBox, &Tree)>
+        ensures { option_map (λ m. (m.0.now, tree_of m.1.now)) result ≡ member_at self.now i }
+    {
+        let (name, tree) = self.members().get(i)?;
+        Some((name, tree))
+    }
+
+    /// Puts a tree under a name, in place of the one that is there. Where the name comes after each other, it goes to the end at once.
+    pub fn insert(&mut self, name: TextBox, tree: Tree) -> Result<(), NoMemory>
+        ensures ok { OnOk result (self.new ≡ inserted self.old name (tree_of tree)) }
+        ensures err { OnErr result (self.new ≡ self.old) }
+    {
+        is_ordered(&tree);
+        put(&mut self.members, name, tree)
+    }
+}
+
+// How the name of a member compares with another.
+fn compared(member: &(TextBox, Tree), name: &str) -> Ordering
+    ensures { result ≡ slice_cmp nat_cmp member.now.0 name.now }
+{
+    member.0.as_str().cmp(name)
+}
+
+// Where the name stands among ascending members, or where it would go.
+fn search(members: &[(TextBox, Tree)], name: &str) -> Result<usize, usize>
+    requires { MembersOrdered (members_of members.now) }
+    ensures found { IfOk result (IsPlace members.now name.now) }
+    ensures absent { IfErr result (IsGap members.now name.now) }
+{
+    members.binary_search_by(|member| compared(member, name))
+}
+
+fn put(members: &mut Vec<(TextBox, Tree)>, name: TextBox, tree: Tree) -> Result<(), NoMemory>
+    requires members { MembersOrdered (members_of members.old.items) }
+    requires tree { IsOrdered (tree_of tree) }
+    ensures ok { OnOk result (members_of members.new.items ≡ inserted (members_of members.old.items) name (tree_of tree)) }
+    ensures ordered { MembersOrdered (members_of members.new.items) }
+    ensures err { OnErr result (members_of members.new.items ≡ members_of members.old.items) }
+{
+    match search(members.as_slice(), name.as_str()) {
+        Ok(place) => members[place] = (name, tree),
+        Err(place) => members.insert(place, (name, tree))?,
+    }
+    Ok(())
+}
