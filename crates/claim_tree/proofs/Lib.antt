@@ -1,2 +1,3 @@
 pub mod Views
 pub mod MapPlaces
+pub mod Datas

@@ -1,5 +1,6 @@
 pub mod Tree
 pub mod View
+pub mod JsonText
 pub mod Code
 pub mod Falls
 pub mod Places

@@ -86,7 +86,7 @@ impl Model for TreeMap {
 }
 
 // What every tree is, by the invariants of what it holds.
-fn is_ordered(tree: &Tree)
+pub(crate) fn is_ordered(tree: &Tree)
     ensures { IsOrdered (tree_of tree.now) }
 {
     match tree {

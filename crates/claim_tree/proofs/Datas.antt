@@ -1,0 +1,189 @@
+-- Trees beside the data of `serde_json`.
+use Rattle.std.proofs.Common.{◌≡◌, ℕ, ℤ, pos, negsuc, zero, suc, ◌+◌, ◌<◌, ◌≤◌, List, [], ◌∷◌, ◌++◌, length, get_or, take, add-one, subst, arith, String, Global, string_bytes, string_cmp, nat_cmp, Ordering, Less, Equal, Greater, Bool, true, false, ◌||◌, refl, sym, ap, ◌∙◌}
+use Rattle.std.specs.Cmp.Lexicographic.{slice_cmp}
+use Rattle.std.specs.Ordering.{match_ordering, ordering_reverse}
+use Rattle.std.proofs.Math.Seq.{take-suc}
+use Rattle.std.proofs.lemmas.Cmp.{nat_list_cmp_total}
+use Rattle.std.specs.BTreeMap.{insert_entry}
+use Rattle.std.specs.Map.{keys_of}
+use Rattle.std.specs.List.{AllByRecursion}
+use Rattle.std.specs.List.Sorted.{IsStrictlySortedBy}
+use Rattle.serde_json.specs.Data as port
+use Rattle.serde_json.specs.View.{view, items_view, members_view}
+use Rattle.serde_json.specs.Written.{has_float, items_have_float, members_have_float}
+use Rattle.serde_json.specs.Find.{is_float, of_integer}
+use Rattle.serde_json.specs.declared.value.Value.{Value}
+use Rattle.claim_tree.specs.Tree.{Text, null, flag, whole, text, Tree, leaf, array, object, Elements, no_elements, element, Members, no_members, member, depth, elements_depth, members_depth, nodes, elements_nodes, members_nodes, names, pushed, inserted, IsBeforeAll, MembersOrdered, IsRanged, ElementsRanged, MembersRanged}
+use Rattle.serde_json.proofs.Views.{members_view-insert_entry}
+use Rattle.claim_tree.specs.View.{tree_of, elements_of, members_of}
+use Rattle.claim_tree.specs.declared.tree.Tree as tree
+use Rattle.claim_tree.proofs.Views.{elements_of-push}
+use Rattle.claim_tree.specs.JsonText.{data_of, elements_data, members_data}
+
+abbrev pub Entry : Type 0
+Entry = String Global × Value
+
+-- ---- arrays
+
+pub elements_data-pushed : (vs : List Value) (v : Value) (es : Elements) (t : Tree) → items_view vs ≡ elements_data es → view v ≡ data_of t → items_view (vs ++ v ∷ []) ≡ elements_data (pushed es t)
+elements_data-pushed [] v no_elements t e h = ap (λ d. port.item d port.no_items) h
+elements_data-pushed [] v (element u es) t e h = cc e
+elements_data-pushed (w ∷ vs) v no_elements t e h = cc e
+elements_data-pushed (w ∷ vs) v (element u es) t e h =
+    let first : view w ≡ data_of u = cc e in
+    let tail : items_view vs ≡ elements_data es = cc e in
+    let more = elements_data-pushed vs v es t tail h in
+    cc more
+
+pub ElementsRanged-pushed : (es : Elements) (t : Tree) → ElementsRanged es → IsRanged t → ElementsRanged (pushed es t)
+ElementsRanged-pushed no_elements t h r = (r, h)
+ElementsRanged-pushed (element u es) t h r = (h.0, ElementsRanged-pushed es t h.1 r)
+
+or_true : (a b : Bool) → b ≡ true → (a || b) ≡ true
+or_true true b e = refl
+or_true false b e = e
+
+-- a float in an element is one of the list
+pub items_have_float-at : (done : List Value) (v : Value) (more : List Value) → has_float (view v) ≡ true → items_have_float (items_view (done ++ v ∷ more)) ≡ true
+items_have_float-at [] v more h = rw h refl
+items_have_float-at (w ∷ done) v more h = or_true (has_float (view w)) _ (items_have_float-at done v more h)
+
+-- ---- objects
+
+pub members_have_float-at : (done : List Entry) (e : Entry) (more : List Entry) → has_float (view e.1) ≡ true → members_have_float (members_view (done ++ e ∷ more)) ≡ true
+members_have_float-at [] e more h = rw h refl
+members_have_float-at (d ∷ done) e more h = or_true (has_float (view d.1)) _ (members_have_float-at done e more h)
+
+ranged_by : (o : Ordering) (a b c : Members) → MembersRanged a → MembersRanged b → MembersRanged c → MembersRanged (match_ordering o a b c)
+ranged_by Less a b c ha hb hc = ha
+ranged_by Equal a b c ha hb hc = hb
+ranged_by Greater a b c ha hb hc = hc
+
+pub MembersRanged-inserted : (ms : Members) (name : Text) (t : Tree) → MembersRanged ms → IsRanged t → MembersRanged (inserted ms name t)
+MembersRanged-inserted no_members name t h r = (r, h)
+MembersRanged-inserted (member other u ms) name t h r = ranged_by (slice_cmp nat_cmp other name) _ _ _ (h.0, MembersRanged-inserted ms name t h.1 r) (r, h.1) (r, h)
+
+before_middle : (first : Entry) (es : List Entry) (e : Entry) (more : List Entry) → AllByRecursion (λ y. string_cmp first.0 y ≡ Less) (keys_of (es ++ e ∷ more)) → string_cmp first.0 e.0 ≡ Less
+before_middle first [] e more h = h.0
+before_middle first (x ∷ es) e more h = before_middle first es e more h.1
+
+-- a name after those before it goes last
+pub members_data-inserted : (done : List Entry) (e : Entry) (more : List Entry) (ms : Members) (name : Text) (t : Tree) → members_view done ≡ members_data ms → IsStrictlySortedBy string_cmp (keys_of (done ++ e ∷ more)) → name ≡ string_bytes e.0 → view e.1 ≡ data_of t
+    → members_view (done ++ e ∷ []) ≡ members_data (inserted ms name t)
+unfolding IsStrictlySortedBy
+members_data-inserted [] e more no_members name t s h named same = rw (named, same) refl
+members_data-inserted [] e more (member other u ms) name t s h named same = cc s
+members_data-inserted (d ∷ done) e more no_members name t s h named same = cc s
+members_data-inserted (d ∷ done) e more (member other u ms) name t s h named same =
+    let here : string_bytes d.0 ≡ other = cc s in
+    let first : view d.1 ≡ data_of u = cc s in
+    let tail : members_view done ≡ members_data ms = cc s in
+    let before : slice_cmp nat_cmp other name ≡ Less = rw (← here, named) (before_middle d done e more h.0) in
+    let rest = members_data-inserted done e more ms name t tail h.1 named same in
+    rw before (cc (here, first, rest))
+
+-- ---- the trees of a slice, one by one
+
+pub values_turn : (vs : List Value) (v : Value) (ts : List tree.Tree) (i : ℕ) (t : tree.Tree) → items_view vs ≡ elements_data (elements_of (take i ts)) → i < length ts → t ≡ get_or ts i t → view v ≡ data_of (tree_of t)
+    → items_view (vs ++ v ∷ []) ≡ elements_data (elements_of (take (i + 1) ts))
+values_turn vs v ts i t e within is same =
+    let front : take (i + 1) ts ≡ take i ts ++ t ∷ [] = rw add-one (take-suc ts i t within ∙ ap (λ w. take i ts ++ w ∷ []) (sym is)) in
+    rw (front, elements_of-push (take i ts) t) (elements_data-pushed vs v (elements_of (take i ts)) (tree_of t) e same)
+
+ranged_there : (ts : List tree.Tree) (i : ℕ) (d : tree.Tree) → i < length ts → ElementsRanged (elements_of ts) → IsRanged (tree_of (get_or ts i d))
+ranged_there [] i d within h = absurd (omega arith)
+ranged_there (t ∷ ts) zero d within h = h.0
+ranged_there (t ∷ ts) (suc i) d within h = ranged_there ts i d (omega arith) h.1
+
+pub ranged_at : (ts : List tree.Tree) (i : ℕ) (t : tree.Tree) → i < length ts → t ≡ get_or ts i t → ElementsRanged (elements_of ts) → IsRanged (tree_of t)
+ranged_at ts i t within is h = subst (λ u. IsRanged (tree_of u)) (sym is) (ranged_there ts i t within h)
+
+nodes_there : (ts : List tree.Tree) (i : ℕ) (d : tree.Tree) → i < length ts → nodes (tree_of (get_or ts i d)) ≤ elements_nodes (elements_of ts)
+nodes_there [] i d within = absurd (omega arith)
+nodes_there (t ∷ ts) zero d within = omega arith
+nodes_there (t ∷ ts) (suc i) d within = let rest = nodes_there ts i d (omega arith) in omega (arith, rest)
+
+pub nodes_at : (ts : List tree.Tree) (i : ℕ) (t : tree.Tree) → i < length ts → t ≡ get_or ts i t → nodes (tree_of t) ≤ elements_nodes (elements_of ts)
+nodes_at ts i t within is = subst (λ u. nodes (tree_of u) ≤ elements_nodes (elements_of ts)) (sym is) (nodes_there ts i t within)
+
+-- ---- the members of a slice, one by one
+
+abbrev pub Named : Type 0
+Named = Text × tree.Tree
+
+ranged_member_there : (ms : List Named) (i : ℕ) (d : Named) → i < length ms → MembersRanged (members_of ms) → IsRanged (tree_of (get_or ms i d).1)
+ranged_member_there [] i d within h = absurd (omega arith)
+ranged_member_there (m ∷ ms) zero d within h = h.0
+ranged_member_there (m ∷ ms) (suc i) d within h = ranged_member_there ms i d (omega arith) h.1
+
+pub ranged_member_at : (ms : List Named) (i : ℕ) (m : Named) → i < length ms → m ≡ get_or ms i m → MembersRanged (members_of ms) → IsRanged (tree_of m.1)
+ranged_member_at ms i m within is h = subst (λ (n : Named). IsRanged (tree_of n.1)) (sym is) (ranged_member_there ms i m within h)
+
+nodes_member_there : (ms : List Named) (i : ℕ) (d : Named) → i < length ms → nodes (tree_of (get_or ms i d).1) ≤ members_nodes (members_of ms)
+nodes_member_there [] i d within = absurd (omega arith)
+nodes_member_there (m ∷ ms) zero d within = omega arith
+nodes_member_there (m ∷ ms) (suc i) d within = let rest = nodes_member_there ms i d (omega arith) in omega (arith, rest)
+
+pub nodes_member_at : (ms : List Named) (i : ℕ) (m : Named) → i < length ms → m ≡ get_or ms i m → nodes (tree_of m.1) ≤ members_nodes (members_of ms)
+nodes_member_at ms i m within is = subst (λ (n : Named). nodes (tree_of n.1) ≤ members_nodes (members_of ms)) (sym is) (nodes_member_there ms i m within)
+
+after_first : (name : Text) (ms : List Named) (i : ℕ) (d : Named) → i < length ms → IsBeforeAll name (names (members_of ms)) → slice_cmp nat_cmp (get_or ms i d).0 name ≡ Greater
+after_first name [] i d within h = absurd (omega arith)
+after_first name (m ∷ ms) zero d within h = nat_list_cmp_total.antisymm m.0 name ∙ ap ordering_reverse h.0
+after_first name (m ∷ ms) (suc i) d within h = after_first name ms i d (omega arith) h.1
+
+put_there : (ms : List Named) (i : ℕ) (d : Named) → i < length ms → MembersOrdered (members_of ms)
+    → port.put (get_or ms i d).0 (data_of (tree_of (get_or ms i d).1)) (members_data (members_of (take i ms))) ≡ members_data (members_of (take (suc i) ms))
+put_there [] i d within h = absurd (omega arith)
+put_there (m ∷ ms) zero d within h = refl
+put_there (m ∷ ms) (suc i) d within h =
+    let rest = put_there ms i d (omega arith) h.2 in
+    rw (after_first m.0 ms i d (omega arith) h.0) (ap (port.member m.0 (data_of (tree_of m.1))) rest)
+
+pub members_turn : (es : List Entry) (key : String Global) (v : Value) (ms : List Named) (i : ℕ) (m : Named) → members_view es ≡ members_data (members_of (take i ms)) → i < length ms → m ≡ get_or ms i m → MembersOrdered (members_of ms) → string_bytes key ≡ m.0 → view v ≡ data_of (tree_of m.1)
+    → members_view (insert_entry string_cmp es key v) ≡ members_data (members_of (take (i + 1) ms))
+members_turn es key v ms i m e within is ordered named same =
+    let a : members_view (insert_entry string_cmp es key v) ≡ port.put (string_bytes key) (view v) (members_view es) = members_view-insert_entry es key v in
+    let b : port.put (string_bytes key) (view v) (members_view es) ≡ port.put m.0 (data_of (tree_of m.1)) (members_data (members_of (take i ms))) = rw (named, same, e) refl in
+    let at : port.put m.0 (data_of (tree_of m.1)) (members_data (members_of (take i ms))) ≡ port.put (get_or ms i m).0 (data_of (tree_of (get_or ms i m).1)) (members_data (members_of (take i ms))) = ap (λ (n : Named). port.put n.0 (data_of (tree_of n.1)) (members_data (members_of (take i ms)))) is in
+    rw add-one (a ∙ (b ∙ (at ∙ put_there ms i m within ordered)))
+
+-- ---- depths and floats
+
+mutual
+  pub depth-data : (t : Tree) → port.depth (data_of t) ≡ depth t
+  depth-data (leaf null) = refl
+  depth-data (leaf (flag b)) = refl
+  depth-data (leaf (whole z)) = refl
+  depth-data (leaf (text s)) = refl
+  depth-data (array es) = ap suc (depth-elements_data es)
+  depth-data (object ms) = ap suc (depth-members_data ms)
+
+  pub depth-elements_data : (es : Elements) → port.items_depth (elements_data es) ≡ elements_depth es
+  depth-elements_data no_elements = refl
+  depth-elements_data (element t es) = rw (depth-data t, depth-elements_data es) refl
+
+  pub depth-members_data : (ms : Members) → port.members_depth (members_data ms) ≡ members_depth ms
+  depth-members_data no_members = refl
+  depth-members_data (member name t ms) = rw (depth-data t, depth-members_data ms) refl
+
+whole_no_float : (z : ℤ) → is_float (of_integer z) ≡ false
+whole_no_float (pos n) = refl
+whole_no_float (negsuc n) = refl
+
+mutual
+  pub no_float : (t : Tree) → has_float (data_of t) ≡ false
+  no_float (leaf null) = refl
+  no_float (leaf (flag b)) = refl
+  no_float (leaf (whole z)) = whole_no_float z
+  no_float (leaf (text s)) = refl
+  no_float (array es) = no_float_elements es
+  no_float (object ms) = no_float_members ms
+
+  no_float_elements : (es : Elements) → items_have_float (elements_data es) ≡ false
+  no_float_elements no_elements = refl
+  no_float_elements (element t es) = rw (no_float t, no_float_elements es) refl
+
+  no_float_members : (ms : Members) → members_have_float (members_data ms) ≡ false
+  no_float_members no_members = refl
+  no_float_members (member name t ms) = rw (no_float t, no_float_members ms) refl

@@ -1,0 +1,140 @@
+// Trees from and to the values of `serde_json`.
+ghost use Rattle.std.specs.Prelude.{◌≡◌, true, IfOk, IfErr};
+ghost use Rattle.serde_json.specs.View.{view as value_view, number_view, items_view, members_view};
+ghost use Rattle.serde_json.specs.Written.{has_float, items_have_float, members_have_float};
+ghost use Rattle.serde_json.specs.Data.{number as number_data};
+ghost use Rattle.serde_json.specs.Find.{is_float, of_integer};
+ghost use Rattle.claim_tree.specs.Tree.{InRange, IsRanged, ElementsRanged, MembersRanged};
+ghost use Rattle.claim_tree.specs.View.{tree_of};
+ghost use Rattle.claim_tree.specs.JsonText.{data_of, elements_data, members_data};
+ghost use Rattle.claim_tree.specs.declared.convert.TakeError.TheVariants.{NotWhole};
+
+use crate::{Tree, TreeList, TreeMap};
+use sd_outside::{NoMemory, TextBox};
+use serde_json::{Map, Number, Value};
+use std::alloc::Global;
+
+// Why a value is no tree.
+#[derive(Clone, Copy, Debug, PartialEq, Eq)]
+pub(crate) enum TakeError {
+    Memory,
+    NotWhole,
+}
+
+impl From<NoMemory> for TakeError {
+    ghost use Rattle.claim_tree.specs.declared.convert.TakeError.TheVariants.{Memory};
+
+    ghost from_gives = { λ _ e. e ≡ Memory };
+
+    fn from(_: NoMemory) -> Self {
+        TakeError::Memory
+    }
+}
+
+// The tree of a value, whose texts are moved.
+#[cycle(take)]
+pub(crate) fn take(alloc: Global, value: Value) -> Result<Tree, TakeError>
+    ensures ok { IfOk result (λ t. value_view value ≡ data_of (tree_of t)) }
+    ensures ranged { IfOk result (λ t. IsRanged (tree_of t)) }
+    ensures not_whole { IfErr result (λ e. e ≡ NotWhole → has_float (value_view value) ≡ true) }
+{
+    match value {
+        Value::Null => Ok(Tree::Null),
+        Value::Bool(flag) => Ok(Tree::Flag(flag)),
+        Value::Number(number) => take_number(number),
+        Value::String(text) => Ok(Tree::Text(TextBox::from_string(text))),
+        Value::Array(values) => Ok(Tree::List(take_elements(alloc, values)?)),
+        Value::Object(members) => Ok(Tree::Object(take_members(alloc, members)?)),
+    }
+}
+
+fn take_number(number: Number) -> Result<Tree, TakeError>
+    ensures ok { IfOk result (λ t. number_data (number_view number) ≡ data_of (tree_of t)) }
+    ensures ranged { IfOk result (λ t. IsRanged (tree_of t)) }
+    ensures not_whole { IfErr result (λ _. is_float (number_view number) ≡ true) }
+{
+    if let Some(n) = number.as_u64() {
+        Ok(Tree::Whole(n as i128))
+    } else if let Some(n) = number.as_i64() {
+        Ok(Tree::Whole(n as i128))
+    } else {
+        Err(TakeError::NotWhole)
+    }
+}
+
+#[cycle(take)]
+fn take_elements(alloc: Global, values: Vec<Value>) -> Result<TreeList, TakeError>
+    ensures ok { IfOk result (λ trees. items_view values.items ≡ elements_data trees) }
+    ensures ranged { IfOk result ElementsRanged }
+    ensures not_whole { IfErr result (λ e. e ≡ NotWhole → items_have_float (items_view values.items) ≡ true) }
+{
+    let mut trees = TreeList::new(alloc);
+    for value in values {
+        trees.push(take(alloc, value)?)?;
+    }
+    Ok(trees)
+}
+
+#[cycle(take)]
+fn take_members(alloc: Global, members: Map<String, Value>) -> Result<TreeMap, TakeError>
+    ensures ok { IfOk result (λ trees. members_view members.entries ≡ members_data trees) }
+    ensures ranged { IfOk result MembersRanged }
+    ensures not_whole { IfErr result (λ e. e ≡ NotWhole → members_have_float (members_view members.entries) ≡ true) }
+{
+    let mut trees = TreeMap::new(alloc);
+    for (name, value) in members {
+        trees.insert(TextBox::from_string(name), take(alloc, value)?)?;
+    }
+    Ok(trees)
+}
+
+// The value of a tree, with copies of its texts.
+#[cycle(give)]
+pub(crate) fn give(alloc: Global, tree: &Tree) -> Result<Value, NoMemory>
+    requires { IsRanged (tree_of tree.now) }
+    ensures ok { IfOk result (λ v. value_view v ≡ data_of (tree_of tree.now)) }
+{
+    match tree {
+        Tree::Null => Ok(Value::Null),
+        Tree::Flag(flag) => Ok(Value::Bool(*flag)),
+        Tree::Whole(n) => Ok(Value::Number(give_number(*n))),
+        Tree::Text(text) => Ok(Value::String(String::from_str(alloc, text.as_str())?)),
+        Tree::List(trees) => Ok(Value::Array(give_elements(alloc, trees)?)),
+        Tree::Object(trees) => Ok(Value::Object(give_members(alloc, trees)?)),
+    }
+}
+
+fn give_number(n: i128) -> Number
+    requires { InRange n }
+    ensures { number_view result ≡ of_integer n }
+{
+    let Some(number) = Number::from_i128(n) else {
+        unreachable!();
+    };
+    number
+}
+
+#[cycle(give)]
+fn give_elements(alloc: Global, trees: &TreeList) -> Result<Vec<Value>, NoMemory>
+    requires { ElementsRanged trees.now }
+    ensures ok { IfOk result (λ values. items_view values.items ≡ elements_data trees.now) }
+{
+    let mut values = Vec::with_capacity(alloc, trees.len())?;
+    for tree in trees.trees() {
+        values.push(give(alloc, tree)?)?;
+    }
+    Ok(values)
+}
+
+#[cycle(give)]
+fn give_members(alloc: Global, trees: &TreeMap) -> Result<Map<String, Value>, NoMemory>
+    requires { MembersRanged trees.now }
+    ensures ok { IfOk result (λ members. members_view members.entries ≡ members_data trees.now) }
+{
+    let mut members = Map::new(alloc);
+    for (name, tree) in trees.members() {
+        let name = String::from_str(alloc, name.as_str())?;
+        drop(members.insert(name, give(alloc, tree)?)?);
+    }
+    Ok(members)
+}

@@ -1,0 +1,60 @@
+// JSON texts, read and written.
+ghost use Rattle.std.specs.Prelude.{◌≡◌, ◌≤◌, IfOk, IfErr};
+ghost use Rattle.claim_tree.specs.Tree.{IsRanged, IsOrdered, depth as depth_of};
+ghost use Rattle.claim_tree.specs.View.{tree_of};
+ghost use Rattle.claim_tree.specs.JsonText.{Reads, IsUnread, json_text};
+
+use crate::convert::{TakeError, give, take};
+use crate::tree::{Tree, is_ordered};
+use sd_outside::{NoMemory, TextBox};
+use serde_json::Value;
+use std::alloc::Global;
+use std::str;
+
+/// Why a text is not read.
+#[derive(Clone, Copy, Debug, PartialEq, Eq)]
+pub enum ReadError {
+    /// There was no memory for the tree.
+    Memory,
+    /// The bytes are not UTF-8, or no JSON text, or nest deeper than 127.
+    NotJson,
+    /// A number has a fraction or an exponent, is `-0`, or is out of the range of 64 bits.
+    NotWhole,
+}
+
+/// The tree of a JSON text (RFC 8259). Of two members of one name the last is kept.
+pub fn read(alloc: Global, bytes: &[u8]) -> Result<Tree, ReadError>
+    ensures ok { IfOk result (λ t. Reads bytes.now (tree_of t)) }
+    ensures ranged { IfOk result (λ t. IsRanged (tree_of t)) }
+    ensures ordered { IfOk result (λ t. IsOrdered (tree_of t)) }
+    ensures depth { IfOk result (λ t. depth_of (tree_of t) ≤ 127) }
+    ensures unread { IfErr result (IsUnread bytes.now) }
+{
+    let Ok(text) = str::from_utf8(bytes) else {
+        return Err(ReadError::NotJson);
+    };
+    let value = match Value::from_str(alloc, text) {
+        Ok(value) => value,
+        Err(e) if e.is_memory() => return Err(ReadError::Memory),
+        Err(_) => return Err(ReadError::NotJson),
+    };
+    match take(alloc, value) {
+        Ok(tree) => {
+            is_ordered(&tree);
+            Ok(tree)
+        }
+        Err(TakeError::Memory) => Err(ReadError::Memory),
+        Err(TakeError::NotWhole) => Err(ReadError::NotWhole),
+    }
+}
+
+/// The compact JSON text of a tree: no blanks, the members ascending by the bytes of their names.
+pub fn write(alloc: Global, tree: &Tree) -> Result<TextBox, NoMemory>
+    requires { IsRanged (tree_of tree.now) }
+    ensures ok { IfOk result (λ text. text ≡ json_text (tree_of tree.now)) }
+    ensures back { depth_of (tree_of tree.now) ≤ 127 → IfOk result (λ text. Reads text (tree_of tree.now)) }
+{
+    let text = give(alloc, tree)?.to_string(alloc)?;
+    let _ = text.as_str();
+    Ok(TextBox::from_string(text))
+}
