@@ -1,3 +1,10 @@
 pub mod Views
 pub mod MapPlaces
 pub mod Datas
+pub mod RoundTrip
+pub mod PathFronts
+mod PointerEscapes
+mod PointerTildes
+mod PointerPieces
+pub mod PointerTexts
+pub mod PointerRule

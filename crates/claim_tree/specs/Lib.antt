@@ -4,3 +4,4 @@ pub mod JsonText
 pub mod Code
 pub mod Falls
 pub mod Places
+pub mod Path

@@ -1,9 +1,19 @@
-//! JSON values without floats, over `serde_json`: trees that own their texts, read and written exactly.
+//! JSON values without floats, over `serde_json`, and the paths into them.
+//!
+//! A [`Tree`] owns its texts. [`read`] and [`write`] are its JSON text (RFC 8259). A [`Path`] is a list of
+//! steps, each a text; its JSON Pointer (RFC 6901) is read by [`read_pointer`] and printed by [`print_path`].
 #![tactic(auto)]
 
 mod convert;
+pub mod laws;
+mod path;
+mod pointer;
+#[cfg(test)]
+mod pointer_tests;
 mod text;
 mod tree;
 
+pub use path::{Path, PathList};
+pub use pointer::{PointerError, is_prefix, print_path, read_pointer};
 pub use text::{ReadError, read, write};
 pub use tree::{Tree, TreeList, TreeMap};
