@@ -17,7 +17,7 @@ use Rattle.claim_tree.specs.Tree.{Text, null, flag, whole, text, Tree, leaf, arr
 use Rattle.serde_json.proofs.Views.{members_view-insert_entry}
 use Rattle.claim_tree.specs.View.{tree_of, elements_of, members_of}
 use Rattle.claim_tree.specs.declared.tree.Tree as tree
-use Rattle.claim_tree.proofs.Views.{elements_of-push}
+use Rattle.claim_tree.proofs.Walks.{Named, elements_turn}
 use Rattle.claim_tree.specs.JsonText.{data_of, elements_data, members_data}
 
 abbrev pub Entry : Type 0
@@ -82,50 +82,12 @@ members_data-inserted (d ∷ done) e more (member other u ms) name t s h named s
     let rest = members_data-inserted done e more ms name t tail h.1 named same in
     rw before (cc (here, first, rest))
 
--- ---- the trees of a slice, one by one
+-- ---- values beside the trees of a slice
 
 pub values_turn : (vs : List Value) (v : Value) (ts : List tree.Tree) (i : ℕ) (t : tree.Tree) → items_view vs ≡ elements_data (elements_of (take i ts)) → i < length ts → t ≡ get_or ts i t → view v ≡ data_of (tree_of t)
     → items_view (vs ++ v ∷ []) ≡ elements_data (elements_of (take (i + 1) ts))
 values_turn vs v ts i t e within is same =
-    let front : take (i + 1) ts ≡ take i ts ++ t ∷ [] = rw add-one (take-suc ts i t within ∙ ap (λ w. take i ts ++ w ∷ []) (sym is)) in
-    rw (front, elements_of-push (take i ts) t) (elements_data-pushed vs v (elements_of (take i ts)) (tree_of t) e same)
-
-ranged_there : (ts : List tree.Tree) (i : ℕ) (d : tree.Tree) → i < length ts → ElementsRanged (elements_of ts) → IsRanged (tree_of (get_or ts i d))
-ranged_there [] i d within h = absurd (omega arith)
-ranged_there (t ∷ ts) zero d within h = h.0
-ranged_there (t ∷ ts) (suc i) d within h = ranged_there ts i d (omega arith) h.1
-
-pub ranged_at : (ts : List tree.Tree) (i : ℕ) (t : tree.Tree) → i < length ts → t ≡ get_or ts i t → ElementsRanged (elements_of ts) → IsRanged (tree_of t)
-ranged_at ts i t within is h = subst (λ u. IsRanged (tree_of u)) (sym is) (ranged_there ts i t within h)
-
-nodes_there : (ts : List tree.Tree) (i : ℕ) (d : tree.Tree) → i < length ts → nodes (tree_of (get_or ts i d)) ≤ elements_nodes (elements_of ts)
-nodes_there [] i d within = absurd (omega arith)
-nodes_there (t ∷ ts) zero d within = omega arith
-nodes_there (t ∷ ts) (suc i) d within = let rest = nodes_there ts i d (omega arith) in omega (arith, rest)
-
-pub nodes_at : (ts : List tree.Tree) (i : ℕ) (t : tree.Tree) → i < length ts → t ≡ get_or ts i t → nodes (tree_of t) ≤ elements_nodes (elements_of ts)
-nodes_at ts i t within is = subst (λ u. nodes (tree_of u) ≤ elements_nodes (elements_of ts)) (sym is) (nodes_there ts i t within)
-
--- ---- the members of a slice, one by one
-
-abbrev pub Named : Type 0
-Named = Text × tree.Tree
-
-ranged_member_there : (ms : List Named) (i : ℕ) (d : Named) → i < length ms → MembersRanged (members_of ms) → IsRanged (tree_of (get_or ms i d).1)
-ranged_member_there [] i d within h = absurd (omega arith)
-ranged_member_there (m ∷ ms) zero d within h = h.0
-ranged_member_there (m ∷ ms) (suc i) d within h = ranged_member_there ms i d (omega arith) h.1
-
-pub ranged_member_at : (ms : List Named) (i : ℕ) (m : Named) → i < length ms → m ≡ get_or ms i m → MembersRanged (members_of ms) → IsRanged (tree_of m.1)
-ranged_member_at ms i m within is h = subst (λ (n : Named). IsRanged (tree_of n.1)) (sym is) (ranged_member_there ms i m within h)
-
-nodes_member_there : (ms : List Named) (i : ℕ) (d : Named) → i < length ms → nodes (tree_of (get_or ms i d).1) ≤ members_nodes (members_of ms)
-nodes_member_there [] i d within = absurd (omega arith)
-nodes_member_there (m ∷ ms) zero d within = omega arith
-nodes_member_there (m ∷ ms) (suc i) d within = let rest = nodes_member_there ms i d (omega arith) in omega (arith, rest)
-
-pub nodes_member_at : (ms : List Named) (i : ℕ) (m : Named) → i < length ms → m ≡ get_or ms i m → nodes (tree_of m.1) ≤ members_nodes (members_of ms)
-nodes_member_at ms i m within is = subst (λ (n : Named). nodes (tree_of n.1) ≤ members_nodes (members_of ms)) (sym is) (nodes_member_there ms i m within)
+    rw (elements_turn ts i t within is) (elements_data-pushed vs v (elements_of (take i ts)) (tree_of t) e same)
 
 after_first : (name : Text) (ms : List Named) (i : ℕ) (d : Named) → i < length ms → IsBeforeAll name (names (members_of ms)) → slice_cmp nat_cmp (get_or ms i d).0 name ≡ Greater
 after_first name [] i d within h = absurd (omega arith)
@@ -140,9 +102,9 @@ put_there (m ∷ ms) (suc i) d within h =
     let rest = put_there ms i d (omega arith) h.2 in
     rw (after_first m.0 ms i d (omega arith) h.0) (ap (port.member m.0 (data_of (tree_of m.1))) rest)
 
-pub members_turn : (es : List Entry) (key : String Global) (v : Value) (ms : List Named) (i : ℕ) (m : Named) → members_view es ≡ members_data (members_of (take i ms)) → i < length ms → m ≡ get_or ms i m → MembersOrdered (members_of ms) → string_bytes key ≡ m.0 → view v ≡ data_of (tree_of m.1)
+pub put_turn : (es : List Entry) (key : String Global) (v : Value) (ms : List Named) (i : ℕ) (m : Named) → members_view es ≡ members_data (members_of (take i ms)) → i < length ms → m ≡ get_or ms i m → MembersOrdered (members_of ms) → string_bytes key ≡ m.0 → view v ≡ data_of (tree_of m.1)
     → members_view (insert_entry string_cmp es key v) ≡ members_data (members_of (take (i + 1) ms))
-members_turn es key v ms i m e within is ordered named same =
+put_turn es key v ms i m e within is ordered named same =
     let a : members_view (insert_entry string_cmp es key v) ≡ port.put (string_bytes key) (view v) (members_view es) = members_view-insert_entry es key v in
     let b : port.put (string_bytes key) (view v) (members_view es) ≡ port.put m.0 (data_of (tree_of m.1)) (members_data (members_of (take i ms))) = rw (named, same, e) refl in
     let at : port.put m.0 (data_of (tree_of m.1)) (members_data (members_of (take i ms))) ≡ port.put (get_or ms i m).0 (data_of (tree_of (get_or ms i m).1)) (members_data (members_of (take i ms))) = ap (λ (n : Named). port.put n.0 (data_of (tree_of n.1)) (members_data (members_of (take i ms)))) is in

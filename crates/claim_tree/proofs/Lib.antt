@@ -1,5 +1,7 @@
 pub mod Views
 pub mod MapPlaces
+pub mod Positions
+pub mod Walks
 pub mod Datas
 pub mod RoundTrip
 pub mod PathFronts

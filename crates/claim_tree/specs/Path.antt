@@ -1,40 +1,57 @@
 -- Paths into a JSON value, and their pointers, RFC 6901.
-use Rattle.std.specs.Prelude.{◌≡◌, ◌≢◌, ℕ, nat_eq, ◌==◌, false, List, [], ◌∷◌, ◌++◌, codes, if◌then◌else◌}
+use Rattle.std.specs.Prelude.{◌≡◌, ◌≢◌, ℕ, suc, nat_eq, ◌==◌, false, List, [], ◌∷◌, ◌++◌, Option, Some, None, option_and_then, bytes_eq, decimal, codes, if◌then◌else◌}
+use Rattle.claim_tree.specs.Tree.{Text, Tree, leaf, array, object, Elements, no_elements, element, member_named}
 use Rattle.std.specs.List.{flat_map, starts_with}
 use Rattle.std.specs.Str.Iter.{LacksByte}
 
 -- the first path is a front of the second
-abbrev pub LeadsTo : List (List ℕ) → List (List ℕ) → Type 0
-LeadsTo front whole = (rest : List (List ℕ)) × (whole ≡ front ++ rest)
+abbrev pub LeadsTo : List Text → List Text → Type 0
+LeadsTo front whole = (rest : List Text) × (whole ≡ front ++ rest)
 
 -- section 3: `~` is written `~0`, and `/` is written `~1`
 abbrev pub escaped_byte : ℕ → List ℕ
 escaped_byte byte = if byte == 126 then codes "~0" else if byte == 47 then codes "~1" else byte ∷ []
 
-abbrev pub escaped : List ℕ → List ℕ
+abbrev pub escaped : Text → List ℕ
 escaped step = flat_map escaped_byte step
 
 -- each step behind a `/`
-abbrev pub pointer_text : List (List ℕ) → List ℕ
+abbrev pub pointer_text : List Text → List ℕ
 pointer_text path = flat_map (λ step. codes "/" ++ escaped step) path
 
 -- the text begins with neither `0` nor `1`, which end an escape
-pub record EndsNoEscape (text : List ℕ) : Type 0 where
+pub record EndsNoEscape (text : Text) : Type 0 where
   pub no_zero : starts_with nat_eq text (codes "0") ≡ false
   pub no_one : starts_with nat_eq text (codes "1") ≡ false
 
 -- a `~` stands in the text with neither behind it
-pub record HasLoneTilde (text : List ℕ) : Type 0 where
-  pub front : List ℕ
-  pub rest : List ℕ
+pub record HasLoneTilde (text : Text) : Type 0 where
+  pub front : Text
+  pub rest : Text
   pub stands : text ≡ front ++ (codes "~" ++ rest)
   pub alone : EndsNoEscape rest
 
 -- the text begins with another byte than `/`, or has a lone `~`
-pub data IsNoPointer (text : List ℕ) : Type 0 where
+pub data IsNoPointer (text : Text) : Type 0 where
   no_slash : text ≢ [] → starts_with nat_eq text (codes "/") ≡ false → IsNoPointer text
   lone_tilde : HasLoneTilde text → IsNoPointer text
 
 -- for private functions: the text has no `/`
-abbrev pub HasNoSlash : List ℕ → Type 0
+abbrev pub HasNoSlash : Text → Type 0
 HasNoSlash text = LacksByte 47 text
+
+-- the element whose position, counted from the given one, has the step as its decimal digits
+abbrev pub element_on : Elements → ℕ → Text → Option Tree
+element_on no_elements i step = None
+element_on (element t es) i step = if bytes_eq (decimal i) step then Some t else element_on es (suc i) step
+
+-- the tree one step inside (RFC 6901 section 4)
+abbrev pub stepped : Tree → Text → Option Tree
+stepped (leaf l) step = None
+stepped (array es) step = element_on es 0 step
+stepped (object ms) step = member_named ms step
+
+-- the tree at a path
+abbrev pub tree_at : Tree → List Text → Option Tree
+tree_at t [] = Some t
+tree_at t (step ∷ steps) = option_and_then (λ u. tree_at u steps) (stepped t step)

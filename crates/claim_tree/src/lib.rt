@@ -5,6 +5,9 @@
 #![tactic(auto)]
 
 mod convert;
+mod copies;
+mod depths;
+mod inside;
 pub mod laws;
 mod path;
 mod pointer;
@@ -13,6 +16,9 @@ mod pointer_tests;
 mod text;
 mod tree;
 
+pub use copies::copy;
+pub use depths::depth;
+pub use inside::{find, get};
 pub use path::{Path, PathList};
 pub use pointer::{PointerError, is_prefix, print_path, read_pointer};
 pub use text::{ReadError, read, write};

@@ -4,7 +4,8 @@ use Rattle.serde_json.specs.View.{items_view, members_view}
 use Rattle.claim_tree.specs.Tree.{IsRanged, ElementsRanged, MembersRanged, nodes, elements_nodes, members_nodes, MembersOrdered}
 use Rattle.claim_tree.specs.View.{tree_of, elements_of, members_of}
 use Rattle.claim_tree.specs.JsonText.{elements_data, members_data}
-use Rattle.claim_tree.proofs.Datas.{values_turn, ranged_at, nodes_at, Named, ranged_member_at, nodes_member_at, members_turn}
+use Rattle.claim_tree.proofs.Walks.{Named, ranged_at, nodes_at, ranged_member_at, nodes_member_at}
+use Rattle.claim_tree.proofs.Datas.{values_turn, put_turn}
 use Rattle.claim_tree.proofs.convert.+give.Goals as goal
 
 pub give_elements-loop-tree-init : goal.give_elements-loop-tree-init
@@ -48,7 +49,7 @@ give_members-loop-name-preserved t c =
     let m : Named = c.loop-name-item.result in
     let ordered : MembersOrdered (members_of ms) = rw c.members-name-items.ensures.value c.members-name-items.ensures.ordered in
     let named : string_bytes c.in_ok-name.name ≡ m.0 = c.in_ok-name.ensures.ok ∙ c.as_str.ensures in
-    rw c.in_ok-insert.ensures.entries (members_turn c.loop-name.members.entries c.in_ok-name.name c.in_ok-give.field-0 ms c.loop-name.name-index m c.loop-name.invariant c.loop-name-test.true c.loop-name-item.is ordered named c.in_ok-give.ensures.ok)
+    rw c.in_ok-insert.ensures.entries (put_turn c.loop-name.members.entries c.in_ok-name.name c.in_ok-give.field-0 ms c.loop-name.name-index m c.loop-name.invariant c.loop-name-test.true c.loop-name-item.is ordered named c.in_ok-give.ensures.ok)
 
 pub give_members-returns : goal.give_members-returns
 give_members-returns t c =

@@ -1,0 +1,31 @@
+use Rattle.std.proofs.Common.{◌≡◌, sym, ◌∙◌, arith}
+use Rattle.claim_tree.specs.Tree.{MembersOrdered, inserted, pushed}
+use Rattle.claim_tree.specs.View.{tree_of, elements_of, members_of}
+use Rattle.claim_tree.proofs.Walks.{Named, into_element, into_member, elements_turn, members_turn}
+use Rattle.claim_tree.proofs.copies.+copy.Goals as goal
+
+pub copy_elements-copy-requires : goal.copy_elements-copy-requires
+copy_elements-copy-requires t c =
+    let step = into_element c.trees-tree-items.result.now c.loop-tree.tree-index c.tree-item.result c.args.trees.now c.loop-tree-test.true c.tree-item.is c.trees-tree-items.ensures.value c.requires in
+    (omega (arith, step.0), step.1)
+
+pub copy_elements-loop-tree-preserved : goal.copy_elements-loop-tree-preserved
+copy_elements-loop-tree-preserved t c =
+    let l = c.loop-tree in
+    let more = elements_turn c.trees-tree-items.result.now l.tree-index c.tree-item.result c.loop-tree-test.true c.tree-item.is in
+    rw (c.in_ok-push.ensures.ok, l.invariant, c.in_ok-copy.ensures.ok) (sym more)
+
+pub copy_members-copy-requires : goal.copy_members-copy-requires
+copy_members-copy-requires t c =
+    let step = into_member c.members-name-items.result.now c.loop-name.name-index c.loop-name-item.result c.args.trees.now c.loop-name-test.true c.loop-name-item.is c.members-name-items.ensures.value c.requires in
+    (omega (arith, step.0), step.1)
+
+pub copy_members-loop-name-preserved : goal.copy_members-loop-name-preserved
+copy_members-loop-name-preserved t c =
+    let l = c.loop-name in
+    let ms = c.members-name-items.result.now in
+    let m : Named = c.loop-name-item.result in
+    let ordered : MembersOrdered (members_of ms) = rw c.members-name-items.ensures.value c.members-name-items.ensures.ordered in
+    let named : c.in_ok-name.name ≡ m.0 = c.in_ok-name.ensures ∙ c.as_str.ensures in
+    let more = members_turn ms l.name-index m c.loop-name-test.true c.loop-name-item.is ordered in
+    rw (c.in_ok-insert.ensures.ok, l.invariant, named, c.in_ok-copy.ensures.ok) (sym more)

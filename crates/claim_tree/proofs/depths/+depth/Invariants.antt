@@ -1,0 +1,19 @@
+use Rattle.std.proofs.Common.{◌≡◌, ◌+◌, ◌*◌, max, drop}
+use Rattle.claim_tree.specs.Tree.{nodes, elements_nodes, members_nodes, elements_depth, members_depth}
+use Rattle.claim_tree.specs.View.{tree_of, elements_of, members_of}
+use Rattle.claim_tree.proofs.depths.+depth.Given as goal
+
+abbrev pub decreases-depth : goal.decreases-depth
+decreases-depth l = 2 * nodes (tree_of l.tree.now)
+
+abbrev pub decreases-depth_of_elements : goal.decreases-depth_of_elements
+decreases-depth_of_elements l = 2 * elements_nodes l.trees.now + 1
+
+abbrev pub decreases-depth_of_members : goal.decreases-depth_of_members
+decreases-depth_of_members l = 2 * members_nodes l.trees.now + 1
+
+abbrev pub invariant-depth_of_elements-loop-tree : goal.invariant-depth_of_elements-loop-tree
+invariant-depth_of_elements-loop-tree l = max l.most (elements_depth (elements_of (drop l.tree-index l.tree-items))) ≡ elements_depth (elements_of l.tree-items)
+
+abbrev pub invariant-depth_of_members-loop-tree : goal.invariant-depth_of_members-loop-tree
+invariant-depth_of_members-loop-tree l = max l.most (members_depth (members_of (drop l.tree-index l.tree-items))) ≡ members_depth (members_of l.tree-items)

@@ -1,0 +1,52 @@
+// The trees inside a tree.
+ghost use Rattle.std.specs.Prelude.{◌≡◌, ◌≢◌, ◌<◌, ℕ, IfSome, None, option_map};
+ghost use Rattle.std.specs.Fmt.{decimal};
+ghost use Rattle.claim_tree.specs.Tree.{get as get_of};
+ghost use Rattle.claim_tree.specs.Path.{tree_at, stepped as stepped_of};
+ghost use Rattle.claim_tree.specs.View.{tree_of};
+
+use crate::{Path, Tree};
+use itoa::Buffer;
+
+/// The member of an object. It takes no memory.
+pub fn get<'a>(tree: &'a Tree, name: &str) -> Option<&'a Tree>
+    ensures { option_map (λ t. tree_of t.now) result ≡ get_of (tree_of tree.now) name.now }
+{
+    match tree {
+        Tree::Object(members) => members.get(name),
+        _ => None,
+    }
+}
+
+/// The tree at a path (RFC 6901 section 4). In an array a step is a position in decimal digits, without a
+/// leading zero; `-` leads nowhere. It takes no memory.
+pub fn find<'a>(tree: &'a Tree, path: &Path) -> Option<&'a Tree>
+    ensures { option_map (λ t. tree_of t.now) result ≡ tree_at (tree_of tree.now) path.now }
+{
+    let mut found = tree;
+    for step in path.steps() {
+        found = stepped(found, step.as_str())?;
+    }
+    Some(found)
+}
+
+// The tree one step inside.
+fn stepped<'a>(tree: &'a Tree, step: &str) -> Option<&'a Tree>
+    ensures { option_map (λ t. tree_of t.now) result ≡ stepped_of (tree_of tree.now) step.now }
+{
+    match tree {
+        Tree::List(trees) => trees.at(position(step, trees.len())?),
+        Tree::Object(trees) => trees.get(step),
+        _ => None,
+    }
+}
+
+// The number whose decimal digits are the step, which is sought up to the length.
+fn position(step: &str, len: usize) -> Option<usize>
+    ensures digits { IfSome result (λ i. decimal i ≡ step.now) }
+    ensures none { result ≡ None → (i : ℕ) → i < len → decimal i ≢ step.now }
+{
+    let i = step.parse::<usize>().ok()?;
+    let mut digits = Buffer::new();
+    if digits.format(i) == step { Some(i) } else { None }
+}
