@@ -5,3 +5,4 @@ pub mod Code
 pub mod Falls
 pub mod Places
 pub mod Path
+pub mod FileWords

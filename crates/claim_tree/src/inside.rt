@@ -48,5 +48,9 @@ fn position(step: &str, len: usize) -> Option<usize>
 {
     let i = step.parse::<usize>().ok()?;
     let mut digits = Buffer::new();
-    if digits.format(i) == step { Some(i) } else { None }
+    if digits.format(i) == step {
+        Some(i)
+    } else {
+        None
+    }
 }

@@ -7,6 +7,7 @@
 mod convert;
 mod copies;
 mod depths;
+mod file_fault;
 mod inside;
 pub mod laws;
 mod path;
@@ -15,9 +16,12 @@ mod pointer;
 mod pointer_tests;
 mod text;
 mod tree;
+#[cfg(test)]
+mod tree_tests;
 
 pub use copies::copy;
 pub use depths::depth;
+pub use file_fault::{Field, FileFault};
 pub use inside::{find, get};
 pub use path::{Path, PathList};
 pub use pointer::{PointerError, is_prefix, print_path, read_pointer};

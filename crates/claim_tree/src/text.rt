@@ -16,7 +16,7 @@ use std::str;
 pub enum ReadError {
     /// There was no memory for the tree.
     Memory,
-    /// The bytes are not UTF-8, or no JSON text, or nest deeper than 127.
+    /// The bytes are not UTF-8, or no JSON text, or nest deeper than 127, or a number is too great for a float.
     NotJson,
     /// A number has a fraction or an exponent, is `-0`, or is out of the range of 64 bits.
     NotWhole,
