@@ -1,4 +1,6 @@
 pub mod Letters
 pub mod Words
+pub mod Codes
+mod Sixes
 mod LaneRuns
 mod LookUps
