@@ -1,0 +1,30 @@
+-- HMAC with SHA-256, RFC 2104, and the signature HS256, RFC 7515 section 5 and RFC 7518 section 3.2.
+use Rattle.std.specs.Prelude.{◌≡◌, ℕ, ◌-◌, List, ◌++◌, map, length, replicate, bit_xor, nat_lt, codes, if◌then◌else◌}
+use Rattle.sha2.specs.Sha256.{sha256}
+
+-- filled with zeros to a block of 64 bytes
+abbrev pub filled : List ℕ → List ℕ
+filled key = key ++ replicate (64 - length key) 0
+
+-- the key as a block: a key longer than a block is hashed first
+abbrev pub key_block : List ℕ → List ℕ
+key_block key = filled (if nat_lt 64 (length key) then sha256 key else key)
+
+-- each byte combined with one byte by exclusive or
+abbrev pub xored : List ℕ → ℕ → List ℕ
+xored block pad = map (λ byte. bit_xor byte pad) block
+
+-- the HMAC of a text under a key of one block
+abbrev pub block_hmac : List ℕ → List ℕ → List ℕ
+block_hmac block text = sha256 (xored block 0x5c ++ sha256 (xored block 0x36 ++ text))
+
+abbrev pub hmac : List ℕ → List ℕ → List ℕ
+hmac key text = block_hmac (key_block key) text
+
+-- the HMAC of a head, a full stop and a body
+abbrev pub mac : List ℕ → List ℕ → List ℕ → List ℕ
+mac key head body = hmac key (head ++ (codes "." ++ body))
+
+-- the signature is good for the head and the body under the key
+abbrev pub IsGood : List ℕ → List ℕ → List ℕ → List ℕ → Type 0
+IsGood key head body signature = signature ≡ mac key head body

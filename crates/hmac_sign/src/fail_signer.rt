@@ -1,0 +1,71 @@
+ghost use Rattle.std.specs.Prelude.{◌≡◌};
+ghost use Rattle.hmac_sign.specs.Hmac.{IsGood};
+
+use crate::{Alg, Hs256Key, SignError, Signatures, Signer};
+use sd_outside::ByteBox;
+use std::alloc::Global;
+use std::marker::Model;
+
+/// A key that fails to sign at one call. Contracts see the key and how often it has failed.
+#[derive(Drop)]
+pub struct FailSigner {
+    key: Hs256Key,
+    call: u64,
+    calls: u64,
+    faults: u64,
+}
+
+impl Model for FailSigner {
+    ghost use Rattle.hmac_sign.specs.FailState.{FailState};
+
+    ghost Value = { FailState };
+
+    ghost view = { λ s. record { key = s.key; faults = s.faults } };
+}
+
+impl FailSigner {
+    /// Signs as the key does, but fails the call of this number, counted from 0.
+    pub fn new(key: Hs256Key, call: u64) -> FailSigner
+        ensures { result ≡ record { key = key; faults = 0 } }
+    {
+        FailSigner {
+            key,
+            call,
+            calls: 0,
+            faults: 0,
+        }
+    }
+
+    /// The number of calls that failed.
+    pub fn failures(&self) -> u64
+        ensures { result ≡ self.now.faults }
+    {
+        self.faults
+    }
+}
+
+impl Signatures for FailSigner {
+    ghost good = { λ s. IsGood s.key };
+}
+
+impl Signer for FailSigner {
+    ghost use Rattle.hmac_sign.specs.declared.sign.Alg.TheVariants.{Hs256};
+
+    ghost faults = { λ s. s.faults };
+
+    ghost alg_of = { λ _. Hs256 };
+
+    fn alg(&self) -> Alg {
+        self.key.alg()
+    }
+
+    fn sign(&mut self, alloc: Global, head: &str, body: &str) -> Result<ByteBox, SignError> {
+        let call = self.calls;
+        self.calls = call.saturating_add(1);
+        if call == self.call {
+            self.faults = self.faults.saturating_add(1);
+            return Err(SignError::Failed);
+        }
+        self.key.sign(alloc, head, body)
+    }
+}

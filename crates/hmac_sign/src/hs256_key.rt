@@ -1,0 +1,85 @@
+ghost use Rattle.std.specs.Prelude.{◌≡◌, ◌<◌, ◌≤◌, length, IfOk, IfErr};
+ghost use Rattle.hmac_sign.specs.Hmac.{key_block as block_of, mac as mac_of, IsGood};
+
+use crate::hmac::{BLOCK, inner_hash, key_block, outer_hash};
+use crate::{Alg, Checker, SignError, Signatures, Signer};
+use sd_outside::ByteBox;
+use sha2::Digest;
+use std::alloc::Global;
+use std::marker::Model;
+
+// The fewest bytes of a key: as many as a hash has, RFC 7518 section 3.2.
+const KEY_MIN: usize = 32;
+
+/// The key has fewer than 32 bytes.
+#[derive(Clone, Copy, Debug, PartialEq, Eq)]
+pub struct KeyShort;
+
+/// A key for HS256. Contracts see the block of 64 bytes that HMAC makes of it, so keys of one block are one.
+#[derive(Drop)]
+pub struct Hs256Key {
+    block: [u8; BLOCK],
+}
+
+impl Model for Hs256Key {
+    ghost use Rattle.std.specs.Prelude.{List, ℕ};
+
+    ghost Value = { List ℕ };
+
+    ghost view = { λ key. key.block };
+}
+
+impl Hs256Key {
+    /// The key of these bytes.
+    pub fn new(key: &[u8]) -> Result<Hs256Key, KeyShort>
+        ensures ok { IfOk result (λ made. made ≡ block_of key.now) }
+        ensures enough { IfOk result (λ _. 32 ≤ length key.now) }
+        ensures short { IfErr result (λ _. length key.now < 32) }
+    {
+        if key.len() < KEY_MIN {
+            return Err(KeyShort);
+        }
+        Ok(Hs256Key {
+            block: key_block(key),
+        })
+    }
+
+    /// The HMAC of the head, a full stop and the body: the signing input of RFC 7515 section 5.1.
+    pub fn mac(&self, head: &str, body: &str) -> [u8; 32]
+        ensures { result ≡ mac_of self.now head.now body.now }
+    {
+        let inner = inner_hash(&self.block)
+            .chain_update(head)
+            .chain_update(".")
+            .chain_update(body);
+        outer_hash(&self.block, &inner.finalize())
+    }
+}
+
+impl Signatures for Hs256Key {
+    ghost good = { IsGood };
+}
+
+impl Checker for Hs256Key {
+    fn check(&self, head: &str, body: &str, signature: &[u8]) -> bool {
+        signature == self.mac(head, body).as_slice()
+    }
+}
+
+impl Signer for Hs256Key {
+    ghost use Rattle.hmac_sign.specs.declared.sign.Alg.TheVariants.{Hs256};
+
+    ghost faults = { λ _. 0 };
+
+    ghost alg_of = { λ _. Hs256 };
+
+    fn alg(&self) -> Alg {
+        Alg::Hs256
+    }
+
+    fn sign(&mut self, alloc: Global, head: &str, body: &str) -> Result<ByteBox, SignError> {
+        let mut signature = ByteBox::new(alloc);
+        signature.append(&self.mac(head, body))?;
+        Ok(signature)
+    }
+}

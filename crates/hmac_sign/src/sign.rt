@@ -1,0 +1,68 @@
+ghost use Rattle.std.specs.Prelude.{◌≡◌, ◌<◌, ◌≤◌, ◌↔◌, ℕ, length, IfOk, IsTrue, IsErrOf};
+ghost use Rattle.sd_outside.specs.Causes.{Rose};
+ghost use Rattle.hmac_sign.specs.Signatures.{Agree, Meaning};
+ghost use Rattle.hmac_sign.specs.declared.sign.Alg.{Alg};
+ghost use Rattle.hmac_sign.specs.declared.sign.SignError.TheVariants.{Memory};
+
+use sd_outside::{ByteBox, NoMemory};
+use std::alloc::Global;
+
+/// An algorithm of signatures, by its name in RFC 7518.
+#[derive(Clone, Copy, Debug, PartialEq, Eq)]
+pub enum Alg {
+    /// HMAC with SHA-256.
+    Hs256,
+}
+
+/// Why a signer answers no signature.
+#[derive(Clone, Copy, Debug, PartialEq, Eq)]
+pub enum SignError {
+    /// There was no memory for it.
+    Memory,
+    /// The signer failed.
+    Failed,
+}
+
+impl From<NoMemory> for SignError {
+    ghost from_gives = { λ _ e. e ≡ Memory };
+
+    fn from(_: NoMemory) -> Self {
+        SignError::Memory
+    }
+}
+
+/// Which signatures are good. A signer and its checker have this one meaning.
+pub trait Signatures {
+    ghost good: { Self → Meaning };
+}
+
+/// Who signs.
+pub trait Signer: Signatures {
+    /// How often the signer has failed.
+    ghost faults: { Self → ℕ };
+
+    /// The algorithm of its signatures.
+    ghost alg_of: { Self → Alg };
+
+    /// The algorithm of the signatures.
+    fn alg(&self) -> Alg
+        ensures { result ≡ alg_of self.now };
+
+    /// A signature of the head and the body.
+    fn sign(&mut self, alloc: Global, head: &str, body: &str) -> Result<ByteBox, SignError>
+        ensures good { IfOk result (Self.good self.old head.now body.now) }
+        ensures some { IfOk result (λ signature. 0 < length signature) }
+        ensures failed { IsErrOf result SignError.Failed → Rose (faults self.old) (faults self.new) }
+
+        // what stays
+        ensures same_good { Agree (Self.good self.new) (Self.good self.old) }
+        ensures same_alg { alg_of self.new ≡ alg_of self.old }
+        ensures later { faults self.old ≤ faults self.new };
+}
+
+/// Who checks signatures.
+pub trait Checker: Signatures {
+    /// Whether the signature is good for the head and the body. It takes no memory.
+    fn check(&self, head: &str, body: &str, signature: &[u8]) -> bool
+        ensures { IsTrue result ↔ Self.good self.now head.now body.now signature.now };
+}
