@@ -1,5 +1,5 @@
 -- The text of bytes.
-use Rattle.std.proofs.Common.{◌≡◌, ℕ, zero, suc, ◌/◌, ◌%◌, ◌<◌, true, List, [], ◌∷◌, length, take, slice_index, refl, ap, sym, ◌∙◌, arith}
+use Rattle.std.proofs.Common.{◌≡◌, ℕ, zero, suc, ◌/◌, ◌%◌, ◌<◌, true, List, [], ◌∷◌, ◌++◌, length, take, slice_index, refl, ap, sym, ◌∙◌, arith}
 use Rattle.std.specs.Prelude.{Ok, Err}
 use Rattle.std.specs.List.{list_all}
 use Rattle.std.proofs.lemmas.Bool.{agree_below_at}
@@ -38,6 +38,11 @@ AreBytes-take zero x h i = omega arith
 AreBytes-take (suc n) [] h i = h i
 AreBytes-take (suc n) (a ∷ x) h zero = h 0
 AreBytes-take (suc n) (a ∷ x) h (suc i) = AreBytes-take n x (λ j. h (suc j)) i
+
+pub AreBytes-append : (bytes more : List ℕ) → AreBytes bytes → AreBytes more → AreBytes (bytes ++ more)
+AreBytes-append [] y hx hy i = hy i
+AreBytes-append (a ∷ x) y hx hy zero = hx 0
+AreBytes-append (a ∷ x) y hx hy (suc i) = AreBytes-append x y (λ j. hx (suc j)) hy i
 
 letter_at : (n : ℕ) → n < 64 → is_letter (slice_index letters n) ≡ true
 unfolding is_letter letters

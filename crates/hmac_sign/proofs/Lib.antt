@@ -1,1 +1,3 @@
+pub mod Macs
 mod Blocks
+mod Equal

@@ -1,12 +1,15 @@
-ghost use Rattle.std.specs.Prelude.{◌≡◌};
+ghost use Rattle.std.specs.Prelude.{◌≡◌, ◌<◌, ◌≤◌, ◌↔◌, length, IfOk, IsErrOf};
+ghost use Rattle.sd_outside.specs.Causes.{Rose};
+ghost use Rattle.hmac_sign.specs.FailState.{after_call};
 ghost use Rattle.hmac_sign.specs.Hmac.{IsGood};
+ghost use Rattle.hmac_sign.specs.Signatures.{Agree};
 
 use crate::{Alg, Hs256Key, SignError, Signatures, Signer};
 use sd_outside::ByteBox;
 use std::alloc::Global;
 use std::marker::Model;
 
-/// A key that fails to sign at one call. Contracts see the key and how often it has failed.
+/// A key that fails to sign at one call.
 #[derive(Drop)]
 pub struct FailSigner {
     key: Hs256Key,
@@ -20,13 +23,13 @@ impl Model for FailSigner {
 
     ghost Value = { FailState };
 
-    ghost view = { λ s. record { key = s.key; faults = s.faults } };
+    ghost view = { λ s. record { key = s.key; call = s.call; calls = s.calls; faults = s.faults } };
 }
 
 impl FailSigner {
     /// Signs as the key does, but fails the call of this number, counted from 0.
     pub fn new(key: Hs256Key, call: u64) -> FailSigner
-        ensures { result ≡ record { key = key; faults = 0 } }
+        ensures { result ≡ record { key = key; call = call; calls = 0; faults = 0 } }
     {
         FailSigner {
             key,
@@ -59,13 +62,24 @@ impl Signer for FailSigner {
         self.key.alg()
     }
 
-    fn sign(&mut self, alloc: Global, head: &str, body: &str) -> Result<ByteBox, SignError> {
+    fn sign(&mut self, alloc: Global, head: &str, body: &str) -> Result<ByteBox, SignError>
+        // the clauses of the trait
+        ensures good { IfOk result (IsGood self.old.key head.now body.now) }
+        ensures some { IfOk result (λ signature. 0 < length signature) }
+        ensures failed { IsErrOf result SignError.Failed → Rose self.old.faults self.new.faults }
+        ensures same_good { Agree (IsGood self.new.key) (IsGood self.old.key) }
+        ensures later { self.old.faults ≤ self.new.faults }
+
+        // it fails exactly at its call, and just then it counts
+        ensures fails { IsErrOf result SignError.Failed ↔ (self.old.calls ≡ self.old.call) }
+        ensures counts { self.new ≡ after_call self.old }
+    {
         let call = self.calls;
         self.calls = call.saturating_add(1);
         if call == self.call {
             self.faults = self.faults.saturating_add(1);
             return Err(SignError::Failed);
         }
-        self.key.sign(alloc, head, body)
+        self.key.signature(alloc, head, body)
     }
 }

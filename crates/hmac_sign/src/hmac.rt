@@ -1,4 +1,4 @@
-ghost use Rattle.std.specs.Prelude.{◌≡◌, ◌≤◌, ◌++◌, length};
+ghost use Rattle.std.specs.Prelude.{◌≡◌, ◌↔◌, ◌≤◌, ◌++◌, length, IsTrue};
 ghost use Rattle.sha2.specs.Hashers.{Holds256};
 ghost use Rattle.sha2.specs.Sha256.{sha256};
 ghost use Rattle.hmac_sign.specs.Hmac.{filled as filled_block, hmac, key_block as block_of, xored};
@@ -70,4 +70,18 @@ pub fn hmac_sha256(key: &[u8], text: &[u8]) -> [u8; 32]
     let block = key_block(key);
     let inner = inner_hash(&block).chain_update(text);
     outer_hash(&block, &inner.finalize())
+}
+
+// Whether two codes are equal, in a time that does not tell where they differ.
+pub(crate) fn are_equal(code: &[u8; 32], other: &[u8]) -> bool
+    ensures { IsTrue result ↔ (other.now ≡ code.now) }
+{
+    if other.len() != code.len() {
+        return false;
+    }
+    let mut differing = 0;
+    for i in 0..code.len() {
+        differing |= code[i] ^ other[i];
+    }
+    differing == 0
 }

@@ -1,7 +1,7 @@
 ghost use Rattle.std.specs.Prelude.{◌≡◌, ◌<◌, ◌≤◌, length, IfOk, IfErr};
 ghost use Rattle.hmac_sign.specs.Hmac.{key_block as block_of, mac as mac_of, IsGood};
 
-use crate::hmac::{BLOCK, inner_hash, key_block, outer_hash};
+use crate::hmac::{BLOCK, are_equal, inner_hash, key_block, outer_hash};
 use crate::{Alg, Checker, SignError, Signatures, Signer};
 use sd_outside::ByteBox;
 use sha2::Digest;
@@ -54,6 +54,22 @@ impl Hs256Key {
             .chain_update(body);
         outer_hash(&self.block, &inner.finalize())
     }
+
+    // The code as a signature.
+    pub(crate) fn signature(
+        &self,
+        alloc: Global,
+        head: &str,
+        body: &str,
+    ) -> Result<ByteBox, SignError>
+        ensures good { IfOk result (IsGood self.now head.now body.now) }
+        ensures some { IfOk result (λ signature. 0 < length signature) }
+        ensures memory { IfErr result (λ error. error ≡ SignError.Memory) }
+    {
+        let mut signature = ByteBox::new(alloc);
+        signature.append(&self.mac(head, body))?;
+        Ok(signature)
+    }
 }
 
 impl Signatures for Hs256Key {
@@ -62,7 +78,7 @@ impl Signatures for Hs256Key {
 
 impl Checker for Hs256Key {
     fn check(&self, head: &str, body: &str, signature: &[u8]) -> bool {
-        signature == self.mac(head, body).as_slice()
+        are_equal(&self.mac(head, body), signature)
     }
 }
 
@@ -78,8 +94,6 @@ impl Signer for Hs256Key {
     }
 
     fn sign(&mut self, alloc: Global, head: &str, body: &str) -> Result<ByteBox, SignError> {
-        let mut signature = ByteBox::new(alloc);
-        signature.append(&self.mac(head, body))?;
-        Ok(signature)
+        self.signature(alloc, head, body)
     }
 }
