@@ -187,7 +187,7 @@ impl TreeMap {
         Some((name, tree))
     }
 
-    /// Puts a tree under a name, in place of the one that is there. Where the name comes after each other, it goes to the end at once.
+    /// Puts a tree under a name, in place of the one that is there. A name behind all others goes to the end, which moves no member.
     pub fn insert(&mut self, name: TextBox, tree: Tree) -> Result<(), NoMemory>
         ensures ok { OnOk result (self.new ≡ inserted self.old name (tree_of tree)) }
         ensures err { OnErr result (self.new ≡ self.old) }
