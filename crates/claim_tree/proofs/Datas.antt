@@ -1,8 +1,7 @@
 -- Trees beside the data of `serde_json`.
-use Rattle.std.proofs.Common.{◌≡◌, ℕ, ℤ, pos, negsuc, zero, suc, ◌+◌, ◌<◌, ◌≤◌, List, [], ◌∷◌, ◌++◌, length, get_or, take, add-one, subst, arith, String, Global, string_bytes, string_cmp, nat_cmp, Ordering, Less, Equal, Greater, Bool, true, false, ◌||◌, refl, sym, ap, ◌∙◌}
+use Rattle.std.proofs.Common.{◌≡◌, ℕ, ℤ, pos, negsuc, zero, suc, ◌+◌, ◌<◌, List, [], ◌∷◌, ◌++◌, length, get_or, take, add-one, arith, String, Global, string_bytes, string_cmp, nat_cmp, Ordering, Less, Equal, Greater, Bool, true, false, ◌||◌, refl, ap, ◌∙◌}
 use Rattle.std.specs.Cmp.Lexicographic.{slice_cmp}
 use Rattle.std.specs.Ordering.{match_ordering, ordering_reverse}
-use Rattle.std.proofs.Math.Seq.{take-suc}
 use Rattle.std.proofs.lemmas.Cmp.{nat_list_cmp_total}
 use Rattle.std.specs.BTreeMap.{insert_entry}
 use Rattle.std.specs.Map.{keys_of}
@@ -13,7 +12,7 @@ use Rattle.serde_json.specs.View.{view, items_view, members_view}
 use Rattle.serde_json.specs.Written.{has_float, items_have_float, members_have_float}
 use Rattle.serde_json.specs.Find.{is_float, of_integer}
 use Rattle.serde_json.specs.declared.value.Value.{Value}
-use Rattle.claim_tree.specs.Tree.{Text, null, flag, whole, text, Tree, leaf, array, object, Elements, no_elements, element, Members, no_members, member, depth, elements_depth, members_depth, nodes, elements_nodes, members_nodes, names, pushed, inserted, IsBeforeAll, MembersOrdered, IsRanged, ElementsRanged, MembersRanged}
+use Rattle.claim_tree.specs.Tree.{Text, null, flag, whole, text, Tree, leaf, array, object, Elements, no_elements, element, Members, no_members, member, depth, elements_depth, members_depth, names, pushed, inserted, IsBeforeAll, MembersOrdered, IsRanged, ElementsRanged, MembersRanged}
 use Rattle.serde_json.proofs.Views.{members_view-insert_entry}
 use Rattle.claim_tree.specs.View.{tree_of, elements_of, members_of}
 use Rattle.claim_tree.specs.declared.tree.Tree as tree

@@ -1,5 +1,6 @@
 pub mod Views
 pub mod MapPlaces
+pub mod Inner
 pub mod Positions
 pub mod Walks
 pub mod Datas

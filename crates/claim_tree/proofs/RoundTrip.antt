@@ -1,27 +1,24 @@
 -- What is written is read again, for every tree.
-use Rattle.std.proofs.Common.{◌≡◌, ℕ, ℤ, pos, negsuc, zero, suc, ◌<◌, ◌≤◌, ◌^◌, max, List, [], ◌∷◌, ◌++◌, Option, Some, None, option_map, option_and_then, Ordering, Less, Equal, Greater, Bool, true, false, cond, decimal, nat_cmp, refl, sym, ap, ◌∙◌, arith, append-nil}
-use Rattle.std.specs.Fmt.{signed_decimal}
+use Rattle.std.proofs.Common.{◌≡◌, ℕ, ℤ, pos, negsuc, suc, ◌≤◌, List, [], Option, Some, option_map, option_and_then, Greater, nat_cmp, refl, sym, ap, ◌∙◌, append-nil}
 use Rattle.std.specs.Cmp.Lexicographic.{slice_cmp}
-use Rattle.std.specs.Ordering.{match_ordering, ordering_reverse}
+use Rattle.std.specs.Ordering.{ordering_reverse}
 use Rattle.std.proofs.lemmas.Cmp.{nat_list_cmp_total}
 use Rattle.json.specs.Json as json
 use Rattle.json.specs.Tree as tree
 use Rattle.json.specs.Token.{Token}
 use Rattle.json.specs.Print.{IsNumber}
 use Rattle.json.specs.Lex.{tokens}
-use Rattle.json.specs.Print.{print}
 use Rattle.json.proofs.Printed.Tokens.{tokens-print}
 use Rattle.json.proofs.Printed.Trees.{ArePrintable-json_tokens, value-json_tokens}
 use Rattle.json.proofs.Printed.Decimals.{IsNumber-decimal, IsNumber-signed_decimal}
 use Rattle.serde_json.specs.Data as port
-use Rattle.serde_json.specs.Find.{of_integer, is_float}
+use Rattle.serde_json.specs.Find.{of_integer}
 use Rattle.serde_json.specs.Read.{read, number_of, of_json, of_items, of_members}
-use Rattle.serde_json.specs.Written.{outline, items_outline, members_outline, number_text, unless_float, blank, blank_items, blank_members, compact_text}
-use Rattle.serde_json.proofs.Texts.{print-outline, unless_float-number_of}
+use Rattle.serde_json.specs.Written.{outline, items_outline, members_outline, number_text}
+use Rattle.serde_json.proofs.Texts.{print-outline}
 use Rattle.serde_json.proofs.Numbers.{number_of-decimal, number_of-negative}
 use Rattle.claim_tree.specs.Tree.{Tree, leaf, null, flag, whole, text, array, object, Elements, no_elements, element, Members, no_members, member, names, depth, elements_depth, members_depth, InRange, IsRanged, ElementsRanged, MembersRanged, IsOrdered, ElementsOrdered, MembersOrdered, IsBeforeAll}
 use Rattle.claim_tree.specs.JsonText.{data_of, elements_data, members_data, json_text}
-use Rattle.claim_tree.proofs.Datas.{depth-data, no_float}
 
 -- the digits of a whole number read back as it
 digits_back : (z : ℤ) → InRange z → number_of (number_text (of_integer z)) ≡ Some (of_integer z)

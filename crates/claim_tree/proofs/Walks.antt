@@ -1,7 +1,6 @@
 -- The trees of a slice, one by one.
-use Rattle.std.proofs.Common.{◌≡◌, ℕ, zero, suc, max, ◌+◌, ◌*◌, ◌<◌, ◌≤◌, List, [], ◌∷◌, ◌++◌, length, get_or, take, drop, nat_cmp, Ordering, Less, Equal, Greater, add-one, refl, sym, ap, subst, ◌∙◌, arith}
+use Rattle.std.proofs.Common.{◌≡◌, ℕ, zero, suc, ◌+◌, ◌*◌, ◌<◌, ◌≤◌, List, [], ◌∷◌, ◌++◌, length, get_or, take, add-one, refl, sym, ap, subst, ◌∙◌, arith}
 use Rattle.std.proofs.Math.Seq.{take-suc}
-use Rattle.std.specs.Cmp.Lexicographic.{slice_cmp}
 use Rattle.claim_tree.specs.Tree as spec
 use Rattle.claim_tree.specs.Tree.{Text, nodes, elements_nodes, members_nodes, depth, elements_depth, members_depth, names, pushed, inserted, IsBefore, IsBeforeAll, MembersOrdered, IsRanged, ElementsRanged, MembersRanged}
 use Rattle.claim_tree.specs.View.{tree_of, elements_of, members_of}

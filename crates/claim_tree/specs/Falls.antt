@@ -1,5 +1,5 @@
 -- For the models: a tree inside another has fewer nodes.
-use Rattle.std.specs.Prelude.{ℕ, ◌≤◌, List, [], ◌∷◌, map}
+use Rattle.std.specs.Prelude.{◌≤◌, List, [], ◌∷◌}
 use Rattle.std.proofs.Common.{arith}
 use denote.Param.Weighed.{most}
 use Rattle.claim_tree.specs.Tree.{Text, nodes, elements_nodes, members_nodes}

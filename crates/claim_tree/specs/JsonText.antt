@@ -1,5 +1,5 @@
 -- JSON texts (RFC 8259): what `serde_json` reads of a text, and the compact text of a tree.
-use Rattle.std.specs.Prelude.{◌≡◌, ◌⊎◌, true, List, ℕ, Some, None}
+use Rattle.std.specs.Prelude.{◌≡◌, ◌⊎◌, true, Some, None}
 use Rattle.std.specs.Str.{IsUtf8}
 use Rattle.serde_json.specs.Data.{Data}
 use Rattle.serde_json.specs.Data as port

@@ -1,7 +1,6 @@
-use Rattle.std.proofs.Common.{◌≡◌, ℕ, ◌+◌, ◌*◌, ◌<◌, ◌≤◌, take, length, string_bytes, sym, ap, ◌∙◌, subst, refl, arith, rules}
+use Rattle.std.proofs.Common.{◌≡◌, ◌≤◌, take, length, string_bytes, ap, ◌∙◌, subst, refl, arith}
 use Rattle.std.proofs.Math.Seq.{take-length}
-use Rattle.serde_json.specs.View.{items_view, members_view}
-use Rattle.claim_tree.specs.Tree.{IsRanged, ElementsRanged, MembersRanged, nodes, elements_nodes, members_nodes, MembersOrdered}
+use Rattle.claim_tree.specs.Tree.{IsRanged, nodes, elements_nodes, members_nodes, MembersOrdered}
 use Rattle.claim_tree.specs.View.{tree_of, elements_of, members_of}
 use Rattle.claim_tree.specs.JsonText.{elements_data, members_data}
 use Rattle.claim_tree.proofs.Walks.{Named, ranged_at, nodes_at, ranged_member_at, nodes_member_at}

@@ -1,15 +1,11 @@
-use Rattle.std.proofs.Common.{◌≡◌, true, List, [], ◌∷◌, ◌++◌, sym, ap, ◌∙◌, subst, append_assoc, append-nil, refl}
+use Rattle.std.proofs.Common.{◌≡◌, [], ◌∷◌, ◌++◌, sym, ap, ◌∙◌, subst, append_assoc, append-nil, refl}
 use Rattle.std.proofs.lemmas.List.{nil_from_length}
 use Rattle.std.proofs.lemmas.Result.{err_from_is_err_and}
 use Rattle.std.specs.List.Sorted.{IsStrictlySortedBy}
 use Rattle.std.specs.Map.{keys_of}
 use Rattle.std.specs.String.{string_cmp}
 use Rattle.std.specs.Vec.Iter.{into_iter_items}
-use Rattle.serde_json.specs.View.{items_view, members_view}
-use Rattle.serde_json.specs.Written.{items_have_float, members_have_float}
-use Rattle.claim_tree.specs.Tree.{ElementsRanged, MembersRanged}
 use Rattle.claim_tree.specs.View.{tree_of}
-use Rattle.claim_tree.specs.JsonText.{elements_data, members_data}
 use Rattle.claim_tree.proofs.Datas.{Entry, elements_data-pushed, ElementsRanged-pushed, items_have_float-at, members_have_float-at, MembersRanged-inserted, members_data-inserted}
 use Rattle.claim_tree.proofs.convert.+take.Goals as goal
 

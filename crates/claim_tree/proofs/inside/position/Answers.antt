@@ -1,4 +1,4 @@
-use Rattle.std.proofs.Common.{◌≡◌, ℕ, ◌<◌, Some, None, Ok, true, false, decimal, bytes_eq, sym, ap, ◌∙◌, refl, subst, arith, true≢false}
+use Rattle.std.proofs.Common.{◌≡◌, Some, None, decimal, sym, ap, ◌∙◌, arith, true≢false}
 use Rattle.std.specs.Result.{result_ok}
 use Rattle.std.proofs.lemmas.Fmt.{parse-decimal}
 use Rattle.std.proofs.lemmas.Slice.Eq.{bytes_eq-Decides}

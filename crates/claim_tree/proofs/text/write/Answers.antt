@@ -1,12 +1,10 @@
 use Rattle.std.proofs.Common.{◌≡◌, ◌≤◌, false, ap, sym, subst, ◌∙◌}
 use Rattle.std.specs.Str.{IsUtf8}
 use Rattle.serde_json.specs.Data as port
-use Rattle.serde_json.specs.Read as reading
 use Rattle.serde_json.specs.Written.{has_float, compact_text}
 use Rattle.serde_json.specs.View.{view}
 use Rattle.claim_tree.specs.Tree.{depth}
 use Rattle.claim_tree.specs.View.{tree_of}
-use Rattle.claim_tree.specs.JsonText.{data_of}
 use Rattle.claim_tree.proofs.Datas.{depth-data, no_float}
 use Rattle.claim_tree.proofs.text.write.Goals as goal
 

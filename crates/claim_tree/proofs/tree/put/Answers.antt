@@ -1,5 +1,5 @@
 use Rattle.std.proofs.Common.{ap, ◌∙◌, sym, subst}
-use Rattle.claim_tree.specs.Tree.{Text, MembersOrdered, inserted}
+use Rattle.claim_tree.specs.Tree.{Text, MembersOrdered}
 use Rattle.claim_tree.specs.View.{tree_of, members_of}
 use Rattle.claim_tree.specs.Places.{IsPlace, IsGap}
 use Rattle.claim_tree.proofs.MapPlaces.{set_at, insert_at, ordered-inserted}
