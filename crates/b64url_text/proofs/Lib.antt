@@ -4,3 +4,4 @@ pub mod Codes
 mod Sixes
 mod LaneRuns
 mod LookUps
+mod Examples

@@ -11,3 +11,4 @@ mod PointerTildes
 mod PointerPieces
 pub mod PointerTexts
 pub mod PointerRule
+mod Examples
