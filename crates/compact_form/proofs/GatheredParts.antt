@@ -1,10 +1,9 @@
 -- What is read of a text, one disclosure more, and the parts in the end.
-use Rattle.std.proofs.Common.{◌≡◌, ◌⊎◌, inl, inr, ℕ, zero, suc, ◌+◌, ◌-◌, ◌<◌, true, false, List, [], ◌∷◌, ◌++◌, Option, length, take, drop, ap, ◌∙◌, sym, subst, arith, append_assoc, append-nil, length-append}
+use Rattle.std.proofs.Common.{◌≡◌, ◌⊎◌, inl, inr, ℕ, zero, suc, ◌+◌, ◌<◌, true, false, List, [], ◌∷◌, ◌++◌, Option, length, take, drop, ap, ◌∙◌, sym, subst, arith, append_assoc, append-nil, length-append}
 use Rattle.std.specs.Prelude.{◌==◌, IfSome}
 use Rattle.std.specs.List.{AllByRecursion}
 use Rattle.std.specs.Option.{option_map}
 use Rattle.std.specs.Str.{IsAscii, IsCharBoundary}
-use Rattle.std.proofs.Math.Seq.{take-add}
 use Rattle.std.proofs.lemmas.Bool.{eqb-true}
 use Rattle.std.proofs.lemmas.List.{drop_at, length-take}
 use Rattle.std.proofs.lemmas.Grind.{flat_map-append}
@@ -95,7 +94,7 @@ is_compact x from end count signed g d binding is words ends =
 
 -- ---- one disclosure more
 
-spelled-push : (ds : List (List ℕ)) (w : List ℕ) → spelled (ds ++ (w ∷ [])) ≡ spelled ds ++ (w ++ (126 ∷ []))
+pub spelled-push : (ds : List (List ℕ)) (w : List ℕ) → spelled (ds ++ (w ∷ [])) ≡ spelled ds ++ (w ++ (126 ∷ []))
 spelled-push ds w = flat_map-append (λ (d : List ℕ). d ++ (126 ∷ [])) ds (w ∷ []) ∙ ap (λ (y : List ℕ). spelled ds ++ y) (append-nil (w ++ (126 ∷ [])))
 
 words-push : (ds : List (List ℕ)) (w : List ℕ) → AllByRecursion IsWord ds → IsWord w → AllByRecursion IsWord (ds ++ (w ∷ []))

@@ -9,3 +9,4 @@ mod Spelled
 pub mod Unique
 pub mod Verdicts
 mod GatheredParts
+pub mod Printed

@@ -1,6 +1,6 @@
 -- The compact serialization, RFC 9901 section 4: parts, and the text that spells them.
-use Rattle.std.specs.Prelude.{◌≡◌, ◌<◌, ◌≤◌, ℕ, List, [], ◌++◌, length, take, Option, None, Some, IfSome, codes}
-use Rattle.std.specs.List.{flat_map, AllByRecursion}
+use Rattle.std.specs.Prelude.{◌≡◌, ◌<◌, ◌≤◌, ℕ, ◌==◌, false, List, [], ◌++◌, length, take, Option, None, Some, IfSome, codes}
+use Rattle.std.specs.List.{flat_map, list_any, AllByRecursion}
 use Rattle.b64url_text.specs.Base64url.{IsWord}
 use Rattle.compact_form.specs.declared.parts.JwtParts.{JwtParts}
 use Rattle.compact_form.specs.declared.parts.Parts.{Parts}
@@ -30,6 +30,12 @@ pub record HasWords (j : JwtParts) : Type 0 where
   pub payload : IsWord j.payload
   pub signature : IsWord j.signature
 
+-- each text of the parts is a word
+pub record AreWords (parts : Parts) : Type 0 where
+  pub signed : HasWords parts.signed
+  pub disclosures : AllByRecursion IsWord parts.disclosures
+  pub binding : IfSome parts.binding HasWords
+
 -- the text is the spelling of the parts
 pub record IsCompact (parts : Parts) (text : List ℕ) : Type 0 where
   pub signed : HasWords parts.signed
@@ -51,3 +57,11 @@ pub record IsStop (text : List ℕ) (stop : ℕ) : Type 0 where
 pub record IsRefusedAt (text : List ℕ) (stop : ℕ) : Type 0 where
   pub no_parts : (parts : Parts) → IsCompact parts text → ⊥
   pub longest : IsStop text stop
+
+-- the front of a text up to and with its last tilde
+pub record IsUpToLastTilde (text front : List ℕ) : Type 0 where
+  pub before : List ℕ
+  pub behind : List ℕ
+  pub tilde : front ≡ before ++ codes "~"
+  pub cut : text ≡ front ++ behind
+  pub last : list_any (λ byte. byte == 126) behind ≡ false

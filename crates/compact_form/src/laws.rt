@@ -2,12 +2,24 @@
 ghost use Rattle.std.specs.Prelude.{◌≡◌, ℕ, List};
 ghost use Rattle.compact_form.specs.declared.fault.Fault.{Fault};
 ghost use Rattle.compact_form.specs.declared.parts.Parts.{Parts};
-ghost use Rattle.compact_form.specs.Compact.{IsCompact, IsStop};
+ghost use Rattle.compact_form.specs.Compact.{compact, hashed, AreWords, IsCompact, IsRefusedAt, IsStop, IsUpToLastTilde};
 ghost use Rattle.compact_form.specs.Token.{IsRefused, Reads};
 
 /// A text is the spelling of at most one value of parts.
 pub fn one_spelling()
     ensures { (p q : Parts) (text : List ℕ) → IsCompact p text → IsCompact q text → p ≡ q }
+{}
+
+/// What is printed of parts is parsed to the same parts, and to no others.
+pub fn printed_is_parsed()
+    ensures parsed { (parts : Parts) → AreWords parts → IsCompact parts (compact parts) }
+    ensures same { (parts other : Parts) → AreWords parts → IsCompact other (compact parts) → other ≡ parts }
+    ensures not_refused { (parts : Parts) (stop : ℕ) → AreWords parts → IsRefusedAt (compact parts) stop → ⊥ }
+{}
+
+/// What a key binding token hashes is the compact text up to and with its last tilde.
+pub fn hashed_is_front()
+    ensures { (parts : Parts) (text : List ℕ) → IsCompact parts text → IsUpToLastTilde text (hashed parts) }
 {}
 
 /// A text stops at one place.

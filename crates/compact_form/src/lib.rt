@@ -2,7 +2,8 @@
 //!
 //! [`View::scan`] reads a text once and borrows its parts; [`parse`] copies them. Both refuse a text at
 //! the first byte at which it stops being the front of a token. [`read_view`] judges a token as it comes
-//! from a file: its limits, its blanks and its form.
+//! from a file: its limits, its blanks and its form. [`print`] writes parts as the text that [`parse`]
+//! reads, and [`hashed_text`] as much of it as a key binding token hashes.
 #![tactic(auto)]
 
 mod blanks;
@@ -13,6 +14,7 @@ pub mod laws;
 mod limits;
 mod parts;
 mod reader;
+mod spelling;
 #[cfg(test)]
 mod tests;
 mod token;
@@ -24,5 +26,6 @@ pub use form::{FormError, check, parse};
 pub use limits::{COMPACT_MAX, COUNT_MAX, FILE_MAX, ISSUE_MAX};
 pub use parts::{JwtParts, Parts};
 pub use reader::At;
+pub use spelling::{hashed_text, print};
 pub use token::read_view;
 pub use view::{JwtView, Pieces, View};

@@ -1,0 +1,62 @@
+// The text that spells parts.
+ghost use Rattle.std.specs.Prelude.{◌≡◌, ◌++◌, OnOk, IfOk, string_bytes};
+ghost use Rattle.compact_form.specs.Compact.{jwt as jwt_text, spelled, hashed, compact, AreWords, IsCompact, IsUpToLastTilde};
+
+use crate::{JwtParts, Parts};
+use sd_outside::{NoMemory, TextBox, TextList};
+use std::alloc::Global;
+
+fn push_jwt(text: &mut String, jwt: &JwtParts) -> Result<(), NoMemory>
+    ensures { OnOk result (string_bytes text.new ≡ string_bytes text.old ++ jwt_text jwt.now) }
+{
+    text.push_str(jwt.protected.as_str())?;
+    text.push('.')?;
+    text.push_str(jwt.payload.as_str())?;
+    text.push('.')?;
+    text.push_str(jwt.signature.as_str())?;
+    Ok(())
+}
+
+fn push_disclosures(text: &mut String, disclosures: &TextList) -> Result<(), NoMemory>
+    ensures { OnOk result (string_bytes text.new ≡ string_bytes text.old ++ spelled disclosures.now) }
+{
+    for i in 0..disclosures.len() {
+        let disclosure = disclosures.at(i).unwrap();
+        text.push_str(disclosure.as_str())?;
+        text.push('~')?;
+    }
+    Ok(())
+}
+
+// The text up to and with the last tilde.
+fn front(alloc: Global, parts: &Parts) -> Result<String, NoMemory>
+    ensures { IfOk result (λ text. string_bytes text ≡ hashed parts.now) }
+{
+    let mut text = String::new(alloc);
+    push_jwt(&mut text, &parts.signed)?;
+    text.push('~')?;
+    push_disclosures(&mut text, &parts.disclosures)?;
+    Ok(text)
+}
+
+/// The compact text of the parts: the one that [`parse`](crate::parse) reads as these parts.
+pub fn print(alloc: Global, parts: &Parts) -> Result<TextBox, NoMemory>
+    requires words { AreWords parts.now }
+    ensures { IfOk result (IsCompact parts.now) }
+{
+    let mut text = front(alloc, parts)?;
+    if let Some(binding) = &parts.binding {
+        push_jwt(&mut text, binding)?;
+    }
+    Ok(TextBox::from_string(text))
+}
+
+/// The compact text of the parts up to and with its last tilde, which a key binding token hashes (RFC 9901
+/// section 4.3.1).
+pub fn hashed_text(alloc: Global, parts: &Parts) -> Result<TextBox, NoMemory>
+    requires words { AreWords parts.now }
+    ensures text { IfOk result (λ text. text ≡ hashed parts.now) }
+    ensures front { IfOk result (IsUpToLastTilde (compact parts.now)) }
+{
+    Ok(TextBox::from_string(front(alloc, parts)?))
+}
