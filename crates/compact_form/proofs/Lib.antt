@@ -9,4 +9,5 @@ mod Spelled
 pub mod Unique
 pub mod Verdicts
 mod GatheredParts
+mod Absent
 pub mod Printed

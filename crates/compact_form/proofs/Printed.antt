@@ -1,18 +1,22 @@
 -- The text that is printed of parts.
-use Rattle.std.proofs.Common.{◌≡◌, ℕ, ◌+◌, Bool, true, false, List, [], ◌∷◌, ◌++◌, Option, None, Some, take, refl, ap, ◌∙◌, sym, append_assoc}
-use Rattle.std.specs.Prelude.{◌==◌, slice_get, IfSome}
-use Rattle.std.specs.List.{list_all, list_any}
-use Rattle.std.proofs.lemmas.Bool.{and_parts}
+use Rattle.std.proofs.Common.{◌≡◌, ℕ, ◌+◌, Bool, true, false, List, [], ◌∷◌, ◌++◌, Some, take, refl, length, ap, ◌∙◌, sym, subst, arith, ◌≤◌, append_assoc}
+use Rattle.std.specs.Prelude.{◌==◌, ◌&&◌, ◌||◌, not, nat_lt, slice_get}
+use Rattle.std.proofs.Math.Bool.{and-false}
+use Rattle.std.proofs.lemmas.Bool.{le-ltb}
 use Rattle.std.proofs.lemmas.List.{take_more}
-use Rattle.std.proofs.lemmas.List.Folds.{list_any-append}
 use Rattle.std.proofs.lemmas.Option.{slice_get_within, get_or_from_slice_get}
-use Rattle.b64url_text.specs.Base64url.{is_letter}
-use Rattle.compact_form.specs.declared.parts.JwtParts.{JwtParts}
+use Rattle.b64url_text.specs.Base64url.{letters, is_letter}
+use Rattle.compact_form.specs.declared.limits.TheConstants.{FILE_MAX, COMPACT_MAX, COUNT_MAX}
 use Rattle.compact_form.specs.declared.parts.Parts.{Parts}
-use Rattle.compact_form.specs.Compact.{jwt, spelled, hashed, ending, compact, HasWords, AreWords, IsCompact, IsRefusedAt, IsUpToLastTilde}
+use Rattle.compact_form.specs.Compact.{jwt, spelled, hashed, ending, compact, AreWords, IsCompact, IsRefusedAt, IsUpToLastTilde}
+use Rattle.compact_form.specs.Trim.{is_blank, trimmed}
+use Rattle.compact_form.specs.Token.{is_json, is_too_long, Reads}
 use Rattle.compact_form.proofs.GatheredParts.{spelled-push}
-use Rattle.compact_form.proofs.Spelled.{no_tilde}
+use Rattle.compact_form.proofs.Runs.{tilde}
+use Rattle.compact_form.proofs.Spelled.{other_byte}
+use Rattle.compact_form.proofs.Absent.{none_in_ending, none_in_compact, trimmed_bare}
 use Rattle.compact_form.proofs.Unique.{one_spelling}
+use Rattle.compact_form.proofs.Verdicts.{reads}
 
 -- one disclosure more
 spelled-take : (ds : List (List ℕ)) (i : ℕ) (d : List ℕ) → slice_get ds i ≡ Some d → spelled (take (i + 1) ds) ≡ spelled (take i ds) ++ (d ++ (126 ∷ []))
@@ -43,27 +47,6 @@ not_refused parts stop words refused = refused.no_parts parts (is_compact parts 
 
 -- ---- the last tilde
 
-abbrev is_tilde : ℕ → Bool
-is_tilde byte = byte == 126
-
-none_in_letters : (w : List ℕ) → list_all is_letter w ≡ true → list_any is_tilde w ≡ false
-none_in_letters [] h = refl
-none_in_letters (b ∷ w) h = let p = and_parts (is_letter b) (list_all is_letter w) h in rw (no_tilde b p.0) (none_in_letters w p.1)
-
-none_in_jwt : (j : JwtParts) → HasWords j → list_any is_tilde (jwt j) ≡ false
-none_in_jwt j words =
-    list_any-append is_tilde j.protected (46 ∷ (j.payload ++ (46 ∷ j.signature)))
-    ∙ rw (
-      none_in_letters j.protected words.protected.letters,
-      list_any-append is_tilde j.payload (46 ∷ j.signature),
-      none_in_letters j.payload words.payload.letters,
-      none_in_letters j.signature words.signature.letters,
-    ) refl
-
-none_in_ending : (b : Option JwtParts) → IfSome b HasWords → list_any is_tilde (ending b) ≡ false
-none_in_ending None words = refl
-none_in_ending (Some j) words = none_in_jwt j words
-
 moved : (x d s : List ℕ) → x ++ (126 ∷ ((d ++ (126 ∷ [])) ++ s)) ≡ (x ++ (126 ∷ d)) ++ (126 ∷ s)
 moved x d s = simp append_assoc
 
@@ -75,4 +58,31 @@ last_tilde x (d ∷ ds) = let end = last_tilde (x ++ (126 ∷ d)) ds in (end.0, 
 pub hashed_is_front : (parts : Parts) (text : List ℕ) → IsCompact parts text → IsUpToLastTilde text (hashed parts)
 hashed_is_front parts text is =
     let end = last_tilde (jwt parts.signed) parts.disclosures in
-    record { before = end.0; behind = ending parts.binding; tilde = end.1; cut = is.spelling; last = none_in_ending parts.binding is.binding }
+    record {
+      before = end.0;
+      behind = ending parts.binding;
+      tilde = end.1;
+      cut = is.spelling;
+      last = none_in_ending (λ byte. byte == 126) (λ b h. other_byte b 126 h tilde) refl parts.binding is.binding;
+    }
+
+-- ---- the printed text is read as it stands
+
+no_blank : (b : ℕ) → is_letter b ≡ true → is_blank b ≡ false
+unfolding is_letter letters
+no_blank b h = rw (other_byte b 32 h refl, other_byte b 9 h refl, other_byte b 10 h refl, other_byte b 13 h refl) refl
+
+neither : (a b c : Bool) → a ≡ false → c ≡ false → (a || (b && c)) ≡ false
+neither a b c h k = rw (h, k) (and-false b)
+
+short : (text : List ℕ) → trimmed text ≡ text → length text ≤ COMPACT_MAX → is_too_long text ≡ false
+short text bare small =
+    neither (nat_lt FILE_MAX (length text)) (not (is_json (trimmed text))) (nat_lt COMPACT_MAX (length (trimmed text)))
+    (le-ltb FILE_MAX (length text) (omega arith))
+    (le-ltb COMPACT_MAX (length (trimmed text)) (omega (arith, ap length bare)))
+
+pub reads_printed : (parts : Parts) → AreWords parts → length (compact parts) ≤ COMPACT_MAX → length parts.disclosures ≤ COUNT_MAX → Reads (compact parts) parts
+reads_printed parts words small few =
+    let text = compact parts in
+    let bare : trimmed text ≡ text = trimmed_bare text (none_in_compact is_blank no_blank refl refl parts words) in
+    reads text parts (short text bare small) (subst (IsCompact parts) (sym bare) (is_compact parts words)) few

@@ -9,8 +9,12 @@ use Rattle.compact_form.specs.Compact.{spelled}
 use Rattle.compact_form.specs.Views.{longer, pieces_of, IsSpelled}
 use Rattle.compact_form.proofs.Runs.{tilde}
 
-pub no_tilde : (b : ℕ) → is_letter b ≡ true → (b == 126) ≡ false
-no_tilde b h = ne_eqb b 126 (λ e. let p : is_letter 126 ≡ true = ap is_letter (sym e) ∙ h in let q = tilde in cc)
+-- a letter is no other byte
+pub other_byte : (b c : ℕ) → is_letter b ≡ true → is_letter c ≡ false → (b == c) ≡ false
+other_byte b c h k = ne_eqb b c (λ e. let p : is_letter c ≡ true = ap is_letter (sym e) ∙ h in cc)
+
+no_tilde : (b : ℕ) → is_letter b ≡ true → (b == 126) ≡ false
+no_tilde b h = other_byte b 126 h tilde
 
 piece_front : (d x : List ℕ) → list_all is_letter d ≡ true → pieces_of (d ++ (126 ∷ x)) ≡ d ∷ pieces_of x
 unfolding pieces_of

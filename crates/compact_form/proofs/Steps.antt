@@ -1,10 +1,10 @@
 -- One word, and one byte behind it, read at a place that the reader reaches.
-use Rattle.std.proofs.Common.{◌≡◌, ◌⊎◌, inl, inr, ℕ, ◌+◌, ◌-◌, ◌<◌, ◌≤◌, Bool, true, false, List, ◌++◌, None, Some, length, take, drop, get_or, refl, ap, ◌∙◌, sym, subst, arith}
+use Rattle.std.proofs.Common.{◌≡◌, ◌⊎◌, inl, inr, ℕ, ◌+◌, ◌-◌, ◌<◌, ◌≤◌, true, false, List, ◌++◌, None, Some, length, take, drop, get_or, refl, ap, ◌∙◌, sym, subst, arith}
 use Rattle.std.proofs.Math.Seq.{take-add}
 use Rattle.std.proofs.lemmas.List.{take_more, take_all, length-drop, get_or-drop}
 use Rattle.std.proofs.lemmas.List.Folds.{length-prefix_len}
 use Rattle.std.proofs.lemmas.List.Sums.{prefix_len-le-length, prefix_len_stops}
-use Rattle.std.proofs.lemmas.Bool.{cases_lt}
+use Rattle.std.proofs.lemmas.Bool.{cases_lt, false_from_ne_true}
 use Rattle.std.specs.List.{list_all, prefix_len}
 use Rattle.std.specs.Option.{option_and_then}
 use Rattle.b64url_text.specs.Base64url.{is_letter, IsWord}
@@ -79,17 +79,13 @@ word_at x at n f s counted some =
 pub word_within : (x : List ℕ) (at n : ℕ) → at ≤ length x → n ≡ prefix_len is_letter (rest x at) → at + n ≤ length x
 word_within x at n l counted = (run_at x at n l counted).within
 
-closed : (b : Bool) → (b ≡ true → ⊥) → b ≡ false
-closed true h = absurd (h refl)
-closed false h = refl
-
 no_word_by : (x : List ℕ) (at : ℕ) (f : Field) → Stands x at (f, false) → (may_end (f, false) ≡ true → at < length x) → (at < length x → is_letter (get_or x at 0) ≡ false)
     → (at < length x) ⊎ (length x ≤ at) → IsRefusedAt x at
 no_word_by x at f s unended no_letter (inl l) =
     refused_at_byte x at (f, false) l s.so_far (run_more start (f, false) x at (get_or x at 0) l refl s.so_far ∙ step_before f (get_or x at 0) (no_letter l))
 no_word_by x at f s unended no_letter (inr g) =
     let within = s.within in
-    refused_at_end x at (f, false) (omega arith) s.so_far (closed (may_end (f, false)) (λ e. let l = unended e in omega arith))
+    refused_at_end x at (f, false) (omega arith) s.so_far (false_from_ne_true (may_end (f, false)) (λ e. let l = unended e in omega arith))
 
 pub no_word : (x : List ℕ) (at n : ℕ) (f : Field) → Stands x at (f, false) → (may_end (f, false) ≡ true → at < length x) → n ≡ prefix_len is_letter (rest x at) → n ≡ 0 → IsRefusedAt x at
 no_word x at n f s unended counted none =

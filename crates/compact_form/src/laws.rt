@@ -1,6 +1,7 @@
 //! What the definitions of the compact form say together. Each law holds for every value.
-ghost use Rattle.std.specs.Prelude.{◌≡◌, ℕ, List};
+ghost use Rattle.std.specs.Prelude.{◌≡◌, ◌≤◌, ℕ, List, length};
 ghost use Rattle.compact_form.specs.declared.fault.Fault.{Fault};
+ghost use Rattle.compact_form.specs.declared.limits.TheConstants.{COMPACT_MAX, COUNT_MAX};
 ghost use Rattle.compact_form.specs.declared.parts.Parts.{Parts};
 ghost use Rattle.compact_form.specs.Compact.{compact, hashed, AreWords, IsCompact, IsRefusedAt, IsStop, IsUpToLastTilde};
 ghost use Rattle.compact_form.specs.Token.{IsRefused, Reads};
@@ -15,6 +16,12 @@ pub fn printed_is_parsed()
     ensures parsed { (parts : Parts) → AreWords parts → IsCompact parts (compact parts) }
     ensures same { (parts other : Parts) → AreWords parts → IsCompact other (compact parts) → other ≡ parts }
     ensures not_refused { (parts : Parts) (stop : ℕ) → AreWords parts → IsRefusedAt (compact parts) stop → ⊥ }
+{}
+
+/// What is printed of parts, within the limits, is read from a file as the same parts.
+pub fn printed_is_read()
+    ensures { (parts : Parts) → AreWords parts → length (compact parts) ≤ COMPACT_MAX
+        → length parts.disclosures ≤ COUNT_MAX → Reads (compact parts) parts }
 {}
 
 /// What a key binding token hashes is the compact text up to and with its last tilde.
