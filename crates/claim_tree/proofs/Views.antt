@@ -20,20 +20,20 @@ pub ordered-pushed : (es : Elements) (t : spec.Tree) → ElementsOrdered es → 
 ordered-pushed no_elements t o p = (p, tt)
 ordered-pushed (element u es) t o p = (o.0, ordered-pushed es t o.1 p)
 
-past : (ts : List Tree) (i : ℕ) → length ts ≤ i → element_at (elements_of ts) i ≡ None
-past [] i h = refl
-past (t ∷ ts) zero h = absurd (omega arith)
-past (t ∷ ts) (suc i) h = past ts i (omega arith)
+pub element_at-past : (ts : List Tree) (i : ℕ) → length ts ≤ i → element_at (elements_of ts) i ≡ None
+element_at-past [] i h = refl
+element_at-past (t ∷ ts) zero h = absurd (omega arith)
+element_at-past (t ∷ ts) (suc i) h = element_at-past ts i (omega arith)
 
-there : (ts : List Tree) (i : ℕ) (d : Tree) → i < length ts → element_at (elements_of ts) i ≡ Some (tree_of (get_or ts i d))
-there [] i d h = absurd (omega arith)
-there (t ∷ ts) zero d h = refl
-there (t ∷ ts) (suc i) d h = there ts i d (omega arith)
+pub element_at-there : (ts : List Tree) (i : ℕ) (d : Tree) → i < length ts → element_at (elements_of ts) i ≡ Some (tree_of (get_or ts i d))
+element_at-there [] i d h = absurd (omega arith)
+element_at-there (t ∷ ts) zero d h = refl
+element_at-there (t ∷ ts) (suc i) d h = element_at-there ts i d (omega arith)
 
 pub element_at-of : (ts : List Tree) (i : ℕ) (r : Option (Bor Tree)) → MatchOption r (length ts ≤ i) (λ x. (i < length ts) × HoldsAt (λ y. x.now ≡ y) ts i)
     → option_map (λ t. tree_of t.now) r ≡ element_at (elements_of ts) i
-element_at-of ts i None h = sym (past ts i h)
-element_at-of ts i (Some x) h = ap (λ t. Some (tree_of t)) (h.1 x.now) ∙ sym (there ts i x.now h.0)
+element_at-of ts i None h = sym (element_at-past ts i h)
+element_at-of ts i (Some x) h = ap (λ t. Some (tree_of t)) (h.1 x.now) ∙ sym (element_at-there ts i x.now h.0)
 
 -- ---- objects
 

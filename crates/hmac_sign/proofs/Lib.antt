@@ -1,3 +1,4 @@
 pub mod Macs
 mod Blocks
 mod Equal
+mod KeySets

@@ -1,3 +1,4 @@
 pub mod Hmac
 pub mod Signatures
 pub mod FailState
+pub mod Keys

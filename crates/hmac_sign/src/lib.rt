@@ -7,6 +7,10 @@
 mod fail_signer;
 mod hmac;
 mod hs256_key;
+mod key_set;
+#[cfg(test)]
+mod key_set_tests;
+mod keys;
 pub mod laws;
 mod sign;
 #[cfg(test)]
@@ -15,4 +19,5 @@ mod tests;
 pub use fail_signer::FailSigner;
 pub use hmac::hmac_sha256;
 pub use hs256_key::{Hs256Key, KeyShort};
+pub use key_set::{KeySet, KeySetError, NamedKey};
 pub use sign::{Alg, Checker, SignError, Signatures, Signer};

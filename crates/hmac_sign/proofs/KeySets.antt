@@ -1,0 +1,84 @@
+-- The elements of a key set, one by one.
+use Rattle.std.proofs.Common.{◌≡◌, ℕ, ◌+◌, ◌<◌, ◌≤◌, List, [], ◌∷◌, ◌++◌, length, get_or, Option, Some, None, IfSome, codes, ◌⊎◌, inl, inr, refl, sym, ap, subst, ◌∙◌, arith}
+use Rattle.std.proofs.lemmas.Bool.{cases_lt}
+use Rattle.b64url_text.specs.Base64url.{Decodes}
+use Rattle.b64url_text.proofs.Codes.{one_code}
+use Rattle.claim_tree.specs.Tree as spec
+use Rattle.claim_tree.specs.Tree.{Elements, no_elements, element, element_at, pushed}
+use Rattle.claim_tree.specs.View.{tree_of, elements_of}
+use Rattle.claim_tree.specs.declared.tree.Tree.{Tree}
+use Rattle.claim_tree.proofs.Views.{element_at-there, element_at-past}
+use Rattle.hmac_sign.specs.Hmac.{key_block}
+use Rattle.hmac_sign.specs.Keys.{text_under, oct_code, IsOct, HasNoCode, IsShort, NoneBefore, IsFirst, KeysOf, no_keys, other, key, IsAdded, added_none, added_key}
+use Rattle.hmac_sign.specs.declared.key_set.NamedKey.{NamedKey}
+
+-- the element that stands there
+pub at_is : (ts : List Tree) (i : ℕ) (t : Tree) → i < length ts → t ≡ get_or ts i t → element_at (elements_of ts) i ≡ Some (tree_of t)
+at_is ts i t within is = element_at-there ts i t within ∙ ap (λ u. Some (tree_of u)) (sym is)
+
+pub none_more : (P : spec.Tree → Type 0) (ts : List Tree) (i : ℕ) (t : Tree) → i < length ts → t ≡ get_or ts i t → NoneBefore P (elements_of ts) i → (P (tree_of t) → ⊥) → NoneBefore P (elements_of ts) (i + 1)
+none_more P ts i t within is before here j u below at p = by_place (cases_lt j i)
+  where
+    by_place : (j < i) ⊎ (i ≤ j) → ⊥
+    by_place (inl earlier) = before j u earlier at p
+    by_place (inr later) =
+        let same : j ≡ i = omega (arith, below, later) in
+        let found : Some u ≡ Some (tree_of t) = sym at ∙ (ap (element_at (elements_of ts)) same ∙ at_is ts i t within is) in
+        let one : u ≡ tree_of t = cc found in
+        here (subst P one p)
+
+pub first_at : (P : spec.Tree → Type 0) (ts : List Tree) (i : ℕ) (t : Tree) → i < length ts → t ≡ get_or ts i t → NoneBefore P (elements_of ts) i → P (tree_of t) → IsFirst P (elements_of ts) i
+first_at P ts i t within is before p = record { key = tree_of t; at = at_is ts i t within is; is = p; first = before }
+
+pub none_at_all : (P : spec.Tree → Type 0) (ts : List Tree) → NoneBefore P (elements_of ts) (length ts) → (i : ℕ) (u : spec.Tree) → element_at (elements_of ts) i ≡ Some u → P u → ⊥
+none_at_all P ts before i u at p = by_place (cases_lt i (length ts))
+  where
+    by_place : (i < length ts) ⊎ (length ts ≤ i) → ⊥
+    by_place (inl below) = before i u below at p
+    by_place (inr past) = let same : None ≡ Some u = sym (element_at-past ts i past) ∙ at in absurd (cc same)
+
+-- ---- what a key is not
+
+pub has_code : (t : spec.Tree) (bytes : List ℕ) → IsOct t bytes → HasNoCode t → ⊥
+has_code t bytes o n =
+    let same : Some o.code ≡ Some n.code = sym o.is ∙ n.is in
+    let one : o.code ≡ n.code = cc same in
+    n.none bytes (subst (λ code. Decodes code bytes) one o.decodes)
+
+pub of_other_kind : (t : spec.Tree) → oct_code t ≡ None → HasNoCode t → ⊥
+of_other_kind t none n = let same : None ≡ Some n.code = sym none ∙ n.is in absurd (cc same)
+
+pub not_short : (t : spec.Tree) (bytes : List ℕ) → IsOct t bytes → 32 ≤ length bytes → IsShort t → ⊥
+not_short t bytes o enough s =
+    let same : Some o.code ≡ Some s.is.code = sym o.is ∙ s.is.is in
+    let one : o.code ≡ s.is.code = cc same in
+    let equal : bytes ≡ s.bytes = one_code s.is.code bytes s.bytes (subst (λ code. Decodes code bytes) one o.decodes) s.is.decodes in
+    let long : 32 ≤ length s.bytes = subst (λ bs. 32 ≤ length bs) equal enough in
+    absurd (omega (arith, long, s.short))
+
+pub no_short : (t : spec.Tree) → oct_code t ≡ None → IsShort t → ⊥
+no_short t none s = let same : None ≡ Some s.is.code = sym none ∙ s.is.is in absurd (cc same)
+
+pub decoded : (t : spec.Tree) (o : Option (List ℕ)) → (o ≡ None → oct_code t ≡ None) → IfSome o (IsOct t) → HasNoCode t → ⊥
+decoded t None none oct = of_other_kind t (none refl)
+decoded t (Some bytes) none oct = has_code t bytes oct
+
+-- ---- one element more
+
+pub other_more : (es : Elements) (keys : List NamedKey) (t : spec.Tree) → KeysOf es keys → oct_code t ≡ None → KeysOf (pushed es t) keys
+other_more _ _ t no_keys none = other t no_elements [] none no_keys
+other_more _ _ t (other u es keys e more) none = other u (pushed es t) keys e (other_more es keys t more none)
+other_more _ _ t (key u es n keys bytes o enough block name more) none = key u (pushed es t) n keys bytes o enough block name (other_more es keys t more none)
+
+pub key_more : (es : Elements) (keys : List NamedKey) (t : spec.Tree) (named : NamedKey) (bytes : List ℕ) → KeysOf es keys → IsOct t bytes → 32 ≤ length bytes → named.key ≡ key_block bytes → named.kid ≡ text_under t (codes "kid") → KeysOf (pushed es t) (keys ++ named ∷ [])
+key_more _ _ t named bytes no_keys o enough block name = key t no_elements named [] bytes o enough block name no_keys
+key_more _ _ t named bytes (other u es keys e more) o enough block name = other u (pushed es t) (keys ++ named ∷ []) e (key_more es keys t named bytes more o enough block name)
+key_more _ _ t named bytes (key u es n keys bs p long b k more) o enough block name = key u (pushed es t) n (keys ++ named ∷ []) bs p long b k (key_more es keys t named bytes more o enough block name)
+
+pub added : (es : Elements) (t : spec.Tree) (old new : List NamedKey) → KeysOf es old → IsAdded t old new → KeysOf (pushed es t) new
+added es t old new before (added_none none same) = rw same (other_more es old t before none)
+added es t old new before (added_key named bytes o enough block name more) = rw more (key_more es old t named bytes before o enough block name)
+
+pub added_long : (t : spec.Tree) (old new : List NamedKey) → IsAdded t old new → IsShort t → ⊥
+added_long t old new (added_none none same) = no_short t none
+added_long t old new (added_key named bytes o enough block name more) = not_short t bytes o enough

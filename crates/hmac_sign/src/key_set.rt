@@ -1,0 +1,118 @@
+// Sets of keys.
+ghost use Rattle.std.specs.Prelude.{◌≡◌, ℕ, IfOk, IsErrOf, option_map, slice_get};
+ghost use Rattle.hmac_sign.specs.Keys.{IsKeySet, IsNoKeySet, NoCodeAt, ShortAt, key_named, has_text};
+ghost use Rattle.hmac_sign.specs.declared.key_set.KeySetError.{KeySetError};
+ghost use Rattle.claim_tree.specs.View.{tree_of};
+
+use crate::Hs256Key;
+use crate::keys::{all_decode, are_keys, make_keys};
+use claim_tree::{Tree, get};
+use sd_outside::{NoMemory, TextBox};
+use std::alloc::{AllocFailed, Global};
+use std::marker::Model;
+
+/// A key, and the name by which a header may ask for it.
+#[derive(Drop)]
+pub struct NamedKey {
+    pub key: Hs256Key,
+    pub kid: Option<TextBox>,
+}
+
+/// Why a tree is not read as a key set. A place counts all elements of `keys` from 0.
+#[derive(Clone, Copy, Debug, PartialEq, Eq)]
+pub enum KeySetError {
+    /// There was no memory for the keys.
+    Memory,
+    /// It is no object with an array `keys`, or an element of it is no key.
+    NotASet,
+    /// The `k` of this key is no base64url code.
+    KeyNotBase64(usize),
+    /// The `k` of this key is the code of fewer than 32 bytes.
+    KeyShort(usize),
+}
+
+impl From<NoMemory> for KeySetError {
+    ghost use Rattle.hmac_sign.specs.declared.key_set.KeySetError.TheVariants.{Memory};
+
+    ghost from_gives = { λ _ e. e ≡ Memory };
+
+    fn from(_: NoMemory) -> Self {
+        KeySetError::Memory
+    }
+}
+
+impl<T: Drop> From<AllocFailed<T>> for KeySetError {
+    ghost use Rattle.hmac_sign.specs.declared.key_set.KeySetError.TheVariants.{Memory};
+
+    ghost from_gives = { λ _ e. e ≡ Memory };
+
+    fn from(_: AllocFailed<T>) -> Self {
+        KeySetError::Memory
+    }
+}
+
+/// The keys of the kind `oct` of a JSON Web Key Set (RFC 7517 section 5), in their order. Contracts see them so.
+#[derive(Drop)]
+pub struct KeySet {
+    keys: Vec<NamedKey>,
+}
+
+impl Model for KeySet {
+    ghost use Rattle.std.specs.Prelude.{List};
+    ghost use Rattle.hmac_sign.specs.declared.key_set.NamedKey.{NamedKey};
+
+    ghost Value = { List NamedKey };
+
+    ghost view = { λ set. set.keys.items };
+}
+
+impl KeySet {
+    /// The set of a JSON value. Keys of another kind are left out, and so is what a key says beyond `kty`, `k` and `kid`.
+    pub fn read(alloc: Global, tree: &Tree) -> Result<KeySet, KeySetError>
+        ensures ok { IfOk result (IsKeySet (tree_of tree.now)) }
+        ensures not_a_set { IsErrOf result KeySetError.NotASet → IsNoKeySet (tree_of tree.now) }
+        ensures not_base64 { (place : ℕ) → IsErrOf result (KeySetError.KeyNotBase64 place) → NoCodeAt (tree_of tree.now) place }
+        ensures short { (place : ℕ) → IsErrOf result (KeySetError.KeyShort place) → ShortAt (tree_of tree.now) place }
+    {
+        let Some(Tree::List(list)) = get(tree, "keys") else {
+            return Err(KeySetError::NotASet);
+        };
+        let trees = list.trees();
+        if !are_keys(trees) {
+            return Err(KeySetError::NotASet);
+        }
+        all_decode(alloc, trees)?;
+        let keys = make_keys(alloc, trees)?;
+        Ok(KeySet { keys })
+    }
+
+    /// The first key of this name. It takes no memory.
+    pub fn find(&self, kid: &str) -> Option<&Hs256Key>
+        ensures { option_map (λ key. key.now) result ≡ key_named self.now kid.now }
+    {
+        for named in &self.keys {
+            if is_named(named, kid) {
+                return Some(&named.key);
+            }
+        }
+        None
+    }
+
+    /// The first key. It takes no memory.
+    pub fn first(&self) -> Option<&Hs256Key>
+        ensures { option_map (λ key. key.now) result ≡ option_map (λ named. named.key) (slice_get self.now 0) }
+    {
+        let named = self.keys.first()?;
+        Some(&named.key)
+    }
+}
+
+// Whether the key has this name.
+fn is_named(named: &NamedKey, kid: &str) -> bool
+    ensures { result ≡ has_text named.now.kid kid.now }
+{
+    match &named.kid {
+        Some(own) => own.as_str() == kid,
+        None => false,
+    }
+}

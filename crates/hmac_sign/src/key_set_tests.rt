@@ -1,0 +1,51 @@
+use crate::{KeySet, KeySetError};
+use claim_tree::read;
+use std::test::Fail;
+
+#[test]
+fn key_sets_are_read(rt: HostRuntime) -> Result<(), Fail> {
+    let alloc = rt.alloc();
+    let text =
+        br#"{"keys":[{"kty":"EC"},{"kty":"oct","k":"AAECAwQFBgcICQoLDA0ODxAREhMUFRYXGBkaGxwdHh8"},{"kty":"oct","k":"ICEiIyQlJicoKSorLC0uLzAxMjM0NTY3ODk6Ozw9Pj8","kid":"b"},{"kty":"oct","k":"AAECAwQFBgcICQoLDA0ODxAREhMUFRYXGBkaGxwdHh8","kid":"b"}],"more":1}"#;
+    let tree = read(alloc, text).map_err(|_| "no tree")?;
+    let set = KeySet::read(alloc, &tree).map_err(|_| "no key set")?;
+    let first = set.first().ok_or("no key")?;
+    let named = set.find("b").ok_or("no key")?;
+    assert!(rt; first.mac("a", "b") != named.mac("a", "b"));
+    assert!(rt; set.find("B").is_none() && set.find("").is_none());
+    Ok(())
+}
+
+#[test]
+fn what_is_no_key_set_is_refused(rt: HostRuntime) -> Result<(), Fail> {
+    let alloc = rt.alloc();
+    for (text, error) in [
+        ("[]", KeySetError::NotASet),
+        (r#"{"keys":{}}"#, KeySetError::NotASet),
+        (r#"{"keys":["oct"]}"#, KeySetError::NotASet),
+        (
+            r#"{"keys":[{"kty":"oct","k":"A"},{"kty":1}]}"#,
+            KeySetError::NotASet,
+        ),
+        (r#"{"keys":[{"kty":"oct"}]}"#, KeySetError::NotASet),
+        (
+            r#"{"keys":[{"kty":"oct","k":"AA","kid":1}]}"#,
+            KeySetError::NotASet,
+        ),
+        (
+            r#"{"keys":[{"kty":"oct","k":"AA"},{"kty":"EC"},{"kty":"oct","k":"A"}]}"#,
+            KeySetError::KeyNotBase64(2),
+        ),
+        (
+            r#"{"keys":[{"kty":"EC","k":"A"},{"kty":"oct","k":"AAECAwQFBgcICQoLDA0ODxAREhMUFRYXGBkaGxwdHg"}]}"#,
+            KeySetError::KeyShort(1),
+        ),
+    ] {
+        let tree = read(alloc, text.as_bytes()).map_err(|_| "no tree")?;
+        let Err(refusal) = KeySet::read(alloc, &tree) else {
+            return Err("a key set".into());
+        };
+        assert_eq!(rt; refusal, error, "{text}");
+    }
+    Ok(())
+}
