@@ -1,0 +1,77 @@
+// What of a tree the reserved names read.
+ghost use Rattle.std.specs.Prelude.{◌≡◌, is_some, option_map, bytes_eq};
+ghost use Rattle.claim_tree.specs.View.{tree_of};
+ghost use Rattle.digest_sites.specs.Reserved.{text_of as text_in, texts_of, text_list, element_digest as digest_in, is_ill_named as is_ill_named_as, sd_name, dots_name};
+
+use claim_tree::{Tree, TreeList};
+use sd_outside::TextBox;
+
+// The name of the digests of hidden members.
+pub(crate) const SD: &str = "_sd";
+
+// The name of the digest of a hidden element.
+pub(crate) const DOTS: &str = "...";
+
+#[tactic(auto, unfolding(crate::specs::Reserved::sd_name))]
+pub(crate) fn is_sd(name: &TextBox) -> bool
+    ensures { result ≡ bytes_eq name.now sd_name }
+{
+    name.as_str() == SD
+}
+
+#[tactic(auto, unfolding(crate::specs::Reserved::dots_name))]
+pub(crate) fn is_dots(name: &TextBox) -> bool
+    ensures { result ≡ bytes_eq name.now dots_name }
+{
+    name.as_str() == DOTS
+}
+
+pub(crate) fn text_of(tree: &Tree) -> Option<&TextBox>
+    ensures { option_map (λ t. t.now) result ≡ text_in (tree_of tree.now) }
+{
+    match tree {
+        Tree::Text(text) => Some(text),
+        _ => None,
+    }
+}
+
+pub(crate) fn are_texts(trees: &TreeList) -> bool
+    ensures { result ≡ is_some (texts_of trees.now) }
+{
+    for tree in trees.trees() {
+        if text_of(tree).is_none() {
+            return false;
+        }
+    }
+    true
+}
+
+pub(crate) fn is_text_list(tree: &Tree) -> bool
+    ensures { result ≡ is_some (text_list (tree_of tree.now)) }
+{
+    match tree {
+        Tree::List(trees) => are_texts(trees),
+        _ => false,
+    }
+}
+
+// Whether a member with this name and value misuses a reserved name, in an object that is walked.
+pub(crate) fn is_ill_named(name: &TextBox, tree: &Tree) -> bool
+    ensures { result ≡ is_ill_named_as name.now (tree_of tree.now) }
+{
+    is_sd(name) && !is_text_list(tree) || is_dots(name)
+}
+
+// The digest of an element that stands for a hidden one.
+#[tactic(auto, unfolding(crate::specs::Reserved::dots_name))]
+pub(crate) fn element_digest(tree: &Tree) -> Option<&TextBox>
+    ensures { option_map (λ t. t.now) result ≡ digest_in (tree_of tree.now) }
+{
+    let Tree::Object(members) = tree else {
+        return None;
+    };
+    if members.len() != 1 {
+        return None;
+    }
+    text_of(members.get(DOTS)?)
+}
