@@ -1,0 +1,208 @@
+// The sites of a tree, in their order.
+ghost use Rattle.std.specs.Prelude.{◌≡◌, ◌≤◌, [], ◌∷◌, ◌++◌, map, false, Some, IsSome, IfOk, IfErr, OnOk, unwrap_or};
+ghost use Rattle.std.specs.Fmt.{decimal};
+ghost use Rattle.claim_tree.specs.Tree.{depth, elements_depth, members_depth};
+ghost use Rattle.claim_tree.specs.View.{tree_of};
+ghost use Rattle.digest_sites.specs.Reserved.{misuses, texts_of, element_digest as digest_in};
+ghost use Rattle.digest_sites.specs.Sites.{site, sites as sites_of, sites_at, own_sites as own_sites_at, element_sites, elements_sites, members_sites, IsSiteRefusal};
+ghost use Rattle.digest_sites.specs.declared.site.SiteKind.TheVariants.{Member};
+
+use crate::misuse::is_misused;
+use crate::reserved::{SD, are_texts, element_digest, is_sd, text_of};
+use crate::site::{Site, SiteKind, SiteList};
+use claim_tree::{Path, Tree, TreeList, TreeMap};
+use sd_outside::{NoMemory, TextBox};
+use std::alloc::Global;
+
+/// Why a tree has no list of sites.
+#[derive(Clone, Copy, Debug, PartialEq, Eq)]
+pub enum SiteError {
+    /// There was no memory for the sites.
+    Memory,
+    /// The tree misuses a reserved name.
+    Misused,
+}
+
+impl From<NoMemory> for SiteError {
+    ghost use Rattle.digest_sites.specs.declared.walk.SiteError.TheVariants.{Memory};
+
+    ghost from_gives = { λ _ e. e ≡ Memory };
+
+    fn from(_: NoMemory) -> Self {
+        SiteError::Memory
+    }
+}
+
+/// The sites of a tree: of an object first those of its `_sd`, then those inside its other members in ascending
+/// order; of an array those of its elements in order, where an element with a digest is one site.
+pub fn sites(alloc: Global, tree: &Tree) -> Result<SiteList, SiteError>
+    requires { depth (tree_of tree.now) ≤ 127 }
+    ensures ok { IfOk result (λ list. list ≡ sites_of (tree_of tree.now)) }
+    ensures well { IfOk result (λ _. misuses (tree_of tree.now) ≡ false) }
+    ensures refused { IfErr result (IsSiteRefusal (tree_of tree.now)) }
+{
+    if is_misused(tree) {
+        return Err(SiteError::Misused);
+    }
+    let mut found = SiteList::new(alloc);
+    walk(alloc, tree, &mut Path::new(alloc), &mut found)?;
+    Ok(found)
+}
+
+#[cycle(walk)]
+fn walk(alloc: Global, tree: &Tree, at: &mut Path, found: &mut SiteList) -> Result<(), NoMemory>
+    requires { depth (tree_of tree.now) ≤ 127 }
+    ensures found { OnOk result (found.new ≡ found.old ++ sites_at at.old (tree_of tree.now)) }
+    ensures at { OnOk result (at.new ≡ at.old) }
+{
+    match tree {
+        Tree::List(trees) => walk_elements(alloc, trees, at, found),
+        Tree::Object(trees) => {
+            add_own_sites(alloc, trees, at, found)?;
+            walk_members(alloc, trees, at, found)
+        }
+        _ => Ok(()),
+    }
+}
+
+#[cycle(walk)]
+fn walk_elements(
+    alloc: Global,
+    trees: &TreeList,
+    at: &mut Path,
+    found: &mut SiteList,
+) -> Result<(), NoMemory>
+    requires { elements_depth trees.now ≤ 126 }
+    ensures found { OnOk result (found.new ≡ found.old ++ elements_sites at.old 0 trees.now) }
+    ensures at { OnOk result (at.new ≡ at.old) }
+{
+    for (i, tree) in trees.trees().iter().enumerate() {
+        let step = digits(alloc, i)?;
+        walk_element(alloc, step, tree, at, found)?;
+    }
+    Ok(())
+}
+
+// The element on a step.
+#[cycle(walk)]
+fn walk_element(
+    alloc: Global,
+    step: TextBox,
+    tree: &Tree,
+    at: &mut Path,
+    found: &mut SiteList,
+) -> Result<(), NoMemory>
+    requires { depth (tree_of tree.now) ≤ 127 }
+    ensures found { OnOk result (found.new ≡ found.old ++ element_sites (at.old ++ step ∷ []) (digest_in (tree_of tree.now)) (sites_at (at.old ++ step ∷ []) (tree_of tree.now))) }
+    ensures at { OnOk result (at.new ≡ at.old) }
+{
+    match element_digest(tree) {
+        Some(digest) => add_element_site(alloc, step, digest, at, found),
+        None => walk_inside(alloc, step, tree, at, found),
+    }
+}
+
+#[cycle(walk)]
+fn walk_members(
+    alloc: Global,
+    trees: &TreeMap,
+    at: &mut Path,
+    found: &mut SiteList,
+) -> Result<(), NoMemory>
+    requires { members_depth trees.now ≤ 126 }
+    ensures found { OnOk result (found.new ≡ found.old ++ members_sites at.old trees.now) }
+    ensures at { OnOk result (at.new ≡ at.old) }
+{
+    for (name, tree) in trees.members() {
+        if !is_sd(name) {
+            let step = TextBox::make(alloc, name.as_str())?;
+            walk_inside(alloc, step, tree, at, found)?;
+        }
+    }
+    Ok(())
+}
+
+// The tree on a step.
+#[cycle(walk)]
+fn walk_inside(
+    alloc: Global,
+    step: TextBox,
+    tree: &Tree,
+    at: &mut Path,
+    found: &mut SiteList,
+) -> Result<(), NoMemory>
+    requires { depth (tree_of tree.now) ≤ 127 }
+    ensures found { OnOk result (found.new ≡ found.old ++ sites_at (at.old ++ step ∷ []) (tree_of tree.now)) }
+    ensures at { OnOk result (at.new ≡ at.old) }
+{
+    at.push(step)?;
+    walk(alloc, tree, at, found)?;
+    at.pop();
+    Ok(())
+}
+
+// The decimal digits of a position.
+fn digits(alloc: Global, i: usize) -> Result<TextBox, NoMemory>
+    ensures { IfOk result (λ text. text ≡ decimal i) }
+{
+    Ok(TextBox::from_string(format!(in alloc; "{i}")?))
+}
+
+fn add_element_site(
+    alloc: Global,
+    step: TextBox,
+    digest: &TextBox,
+    at: &Path,
+    found: &mut SiteList,
+) -> Result<(), NoMemory>
+    ensures { OnOk result (found.new ≡ found.old ++ element_sites (at.now ++ step ∷ []) (Some digest.now) []) }
+{
+    let mut at = at.copy(alloc)?;
+    at.push(step)?;
+    let digest = TextBox::make(alloc, digest.as_str())?;
+    found.push(Site {
+        at,
+        kind: SiteKind::Element,
+        digest,
+    })
+}
+
+#[tactic(auto, unfolding(crate::specs::Reserved::sd_name))]
+fn add_own_sites(
+    alloc: Global,
+    trees: &TreeMap,
+    at: &Path,
+    found: &mut SiteList,
+) -> Result<(), NoMemory>
+    ensures { OnOk result (found.new ≡ found.old ++ own_sites_at at.now trees.now) }
+{
+    match trees.get(SD) {
+        Some(Tree::List(digests)) if are_texts(digests) => {
+            add_member_sites(alloc, digests, at, found)
+        }
+        _ => Ok(()),
+    }
+}
+
+fn add_member_sites(
+    alloc: Global,
+    digests: &TreeList,
+    at: &Path,
+    found: &mut SiteList,
+) -> Result<(), NoMemory>
+    requires { IsSome (texts_of digests.now) }
+    ensures { OnOk result (found.new ≡ found.old ++ map (site at.now Member) (unwrap_or (texts_of digests.now) [])) }
+{
+    for tree in digests.trees() {
+        if let Some(digest) = text_of(tree) {
+            let at = at.copy(alloc)?;
+            let digest = TextBox::make(alloc, digest.as_str())?;
+            found.push(Site {
+                at,
+                kind: SiteKind::Member,
+                digest,
+            })?;
+        }
+    }
+    Ok(())
+}
