@@ -1,2 +1,4 @@
 pub mod Reserved
 pub mod Sites
+pub mod Given
+pub mod Code

@@ -1,12 +1,12 @@
-ghost use Rattle.std.specs.Prelude.{◌≡◌, [], ◌∷◌, ◌++◌, length, OnOk, OnErr, slice_get};
-ghost use Rattle.std.specs.Option.{option_copied};
+ghost use Rattle.std.specs.Prelude.{◌≡◌, [], ◌∷◌, ◌++◌, map, length, OnOk, OnErr, option_map, slice_get};
+ghost use Rattle.digest_sites.specs.Given.{given_of};
 
 use claim_tree::Tree;
 use sd_outside::{NoMemory, TextBox};
 use std::alloc::Global;
 use std::marker::Model;
 
-/// What a disclosure gives, RFC 9901 section 4.2.
+/// What a disclosure gives, RFC 9901 section 4.2. Contracts see it by `given_of`.
 #[derive(Debug, Drop)]
 pub struct Given {
     /// The digest of the disclosure.
@@ -23,17 +23,18 @@ pub struct GivenList {
 }
 
 impl Model for GivenList {
-    ghost use Rattle.std.specs.Prelude.{List};
-    ghost use Rattle.digest_sites.specs.declared.given.Given.{Given};
+    ghost use Rattle.std.specs.Prelude.{List, map};
+    ghost use Rattle.digest_sites.specs.Given.{Given as Seen};
 
-    ghost Value = { List Given };
+    ghost Value = { List Seen };
 
-    ghost use Rattle.std.specs.Coded.{codes};
-    ghost use Rattle.claim_tree.specs.Code.{elements_code, members_code};
+    ghost use Rattle.digest_sites.specs.Code.{given_code};
 
-    ghost coded = { Prim.hlevel (codes, elements_code, members_code) };
+    ghost coded = { given_code };
 
-    ghost view = { λ l. l.items.items };
+    ghost use Rattle.digest_sites.specs.Given.{given_of};
+
+    ghost view = { λ l. map given_of l.items.items };
 }
 
 impl GivenList {
@@ -48,24 +49,31 @@ impl GivenList {
 
     /// Adds a disclosure at the end.
     pub fn push(&mut self, item: Given) -> Result<(), NoMemory>
-        ensures ok { OnOk result (self.new ≡ self.old ++ item ∷ []) }
+        ensures ok { OnOk result (self.new ≡ self.old ++ given_of item ∷ []) }
         ensures err { OnErr result (self.new ≡ self.old) }
     {
         self.items.push(item)?;
         Ok(())
     }
 
+    /// The disclosures, in their order.
+    pub fn items(&self) -> &[Given]
+        ensures { map given_of result.now ≡ self.now }
+    {
+        self.items.as_slice()
+    }
+
     /// The number of disclosures.
     pub fn len(&self) -> usize
         ensures { result ≡ length self.now }
     {
-        self.items.len()
+        self.items().len()
     }
 
     /// The disclosure at a position, counted from 0.
     pub fn at(&self, i: usize) -> Option<&Given>
-        ensures { option_copied result ≡ slice_get self.now i }
+        ensures { option_map (λ g. given_of g.now) result ≡ slice_get self.now i }
     {
-        self.items.get(i)
+        self.items().get(i)
     }
 }

@@ -58,6 +58,13 @@ impl SiteList {
         Ok(())
     }
 
+    /// The sites, in their order.
+    pub fn sites(&self) -> &[Site]
+        ensures { result.now ≡ self.now }
+    {
+        self.sites.as_slice()
+    }
+
     /// The number of sites.
     pub fn len(&self) -> usize
         ensures { result ≡ length self.now }
