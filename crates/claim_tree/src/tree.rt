@@ -128,6 +128,14 @@ impl TreeList {
         self.trees.as_slice()
     }
 
+    /// The trees, in their order, with no copy.
+    pub fn into_trees(self) -> Vec<Tree>
+        ensures { elements_of result.items ≡ self }
+    {
+        let TreeList { trees } = self;
+        trees
+    }
+
     /// The number of elements.
     pub fn len(&self) -> usize
         ensures { result ≡ elements_len self.now }
