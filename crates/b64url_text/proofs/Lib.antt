@@ -1,6 +1,7 @@
 pub mod Letters
 pub mod Words
 pub mod Codes
+pub mod Texts
 mod Sixes
 mod LaneRuns
 mod LookUps
