@@ -1,0 +1,10 @@
+use Rattle.std.proofs.lemmas.Result.{err_from_is_err_and}
+use Rattle.disclosure.proofs.Unread.{unread}
+use Rattle.disclosure.proofs.disclosure.read_disclosure.Goals as goal
+
+pub returns-in_err-tree-clause-refused : goal.returns-in_err-tree-clause-refused
+returns-in_err-tree-clause-refused c =
+    let p = err_from_is_err_and c.from_residual-in_err-tree.result c.from_residual-in_err-tree.ensures.1 in
+    let error = c.in_err-tree.field-0.0 in
+    let why = c.in_err-tree.ensures.unread in
+    rw (p.1, p.2) (unread error c.args.text.now c.in_ok-json.json (rw c.as_bytes.ensures.value at c.in_ok-json.ensures.ok) (rw c.bytes.ensures at why))

@@ -1,0 +1,116 @@
+ghost use Rattle.std.specs.Prelude.{◌≡◌, ◌≤◌, IfOk, IfErr, IfSome, IfNone, Option, option_map};
+ghost use Rattle.claim_tree.specs.Tree.{IsRanged, IsOrdered, depth, leaf, text as text_leaf};
+ghost use Rattle.claim_tree.specs.View.{tree_of};
+ghost use Rattle.disclosure.specs.Digest.{digest_of};
+ghost use Rattle.disclosure.specs.Disclosure.{IsDisclosure, IsNoArray, array_of, disclosure_text};
+ghost use Rattle.disclosure.specs.Refusals.{IsRefused};
+
+use crate::{DisclosureError, HashAlg, digest};
+use b64url_text::{decode, encode};
+use claim_tree::{Tree, TreeList, copy, read, write};
+use sd_outside::{NoMemory, TextBox};
+use std::alloc::Global;
+
+/// A disclosure: its text, and what the list in it holds.
+#[derive(Debug, Drop)]
+pub struct Disclosure {
+    /// The base64url text.
+    pub text: TextBox,
+    /// Any JSON value.
+    pub salt: Tree,
+    /// The name of the member, or nothing where it is an element.
+    pub name: Option<TextBox>,
+    pub value: Tree,
+}
+
+impl Disclosure {
+    /// The digest of its text.
+    pub fn digest(&self, alloc: Global, alg: HashAlg) -> Result<TextBox, NoMemory>
+        ensures { IfOk result (λ digest. digest ≡ digest_of alg self.now.text) }
+    {
+        digest(alloc, alg, self.text.as_str())
+    }
+}
+
+// The disclosure of a text whose JSON is this tree.
+fn of_tree(text: TextBox, tree: Tree) -> Option<Disclosure>
+    ensures text { IfSome result (λ d. d.text ≡ text) }
+    ensures parts { IfSome result (λ d. tree_of tree ≡ array_of (tree_of d.salt) d.name (tree_of d.value)) }
+    ensures other { IfNone result (IsNoArray (tree_of tree)) }
+{
+    let Tree::List(list) = tree else {
+        return None;
+    };
+    let mut trees = list.into_trees().into_iter();
+    let salt = trees.next()?;
+    let second = trees.next()?;
+    let Some(value) = trees.next() else {
+        return Some(Disclosure {
+            text,
+            salt,
+            name: None,
+            value: second,
+        });
+    };
+    match second {
+        Tree::Text(name) if trees.next().is_none() => Some(Disclosure {
+            text,
+            salt,
+            name: Some(name),
+            value,
+        }),
+        _ => None,
+    }
+}
+
+/// Reads a disclosure. Whole numbers alone are taken, as everywhere.
+pub fn read_disclosure(alloc: Global, text: &str) -> Result<Disclosure, DisclosureError>
+    ensures text { IfOk result (λ d. d.text ≡ text.now) }
+    ensures ok { IfOk result (λ d. IsDisclosure text.now (tree_of d.salt) d.name (tree_of d.value)) }
+    ensures ranged { IfOk result (λ d. IsRanged (tree_of d.value)) }
+    ensures ordered { IfOk result (λ d. IsOrdered (tree_of d.value)) }
+    ensures depth { IfOk result (λ d. depth (tree_of d.value) ≤ 126) }
+    ensures refused { IfErr result (IsRefused text.now) }
+{
+    let json = decode(alloc, text.as_bytes())?;
+    let tree = read(alloc, json.bytes())?;
+    of_tree(TextBox::make(alloc, text)?, tree).ok_or(DisclosureError::NotDisclosure)
+}
+
+// The list of a salt, a name and a value.
+fn list_of(alloc: Global, salt: &str, name: Option<&str>, value: &Tree) -> Result<Tree, NoMemory>
+    requires { depth (tree_of value.now) ≤ 126 }
+    ensures { IfOk result (λ t. tree_of t ≡ array_of (leaf (text_leaf salt.now)) (option_map (λ n. n.now) name.entry) (tree_of value.now)) }
+{
+    let mut list = TreeList::new(alloc);
+    list.push(Tree::Text(TextBox::make(alloc, salt)?))?;
+    if let Some(name) = name {
+        list.push(Tree::Text(TextBox::make(alloc, name)?))?;
+    }
+    list.push(copy(alloc, value)?)?;
+    Ok(Tree::List(list))
+}
+
+/// The disclosure of a salt, a name and a value, whose JSON is compact.
+pub fn make(
+    alloc: Global,
+    salt: &str,
+    name: Option<&str>,
+    value: &Tree,
+) -> Result<Disclosure, NoMemory>
+    requires ranged { IsRanged (tree_of value.now) }
+    requires depth { depth (tree_of value.now) ≤ 126 }
+    ensures salt { IfOk result (λ d. tree_of d.salt ≡ leaf (text_leaf salt.now)) }
+    ensures name { IfOk result (λ d. d.name ≡ option_map (λ n. n.now) name.entry) }
+    ensures value { IfOk result (λ d. tree_of d.value ≡ tree_of value.now) }
+    ensures text { IfOk result (λ d. d.text ≡ disclosure_text (tree_of d.salt) d.name (tree_of d.value)) }
+    ensures back { IfOk result (λ d. IsDisclosure d.text (tree_of d.salt) d.name (tree_of d.value)) }
+{
+    let list = list_of(alloc, salt, name, value)?;
+    let json = write(alloc, &list)?;
+    let text = encode(alloc, json.as_str().as_bytes())?;
+    let Some(disclosure) = of_tree(text, list) else {
+        unreachable!();
+    };
+    Ok(disclosure)
+}

@@ -1,0 +1,58 @@
+use b64url_text::DecodeError;
+use claim_tree::ReadError;
+use sd_outside::NoMemory;
+
+/// Why a text is no disclosure, in the order in which it is judged.
+#[derive(Clone, Copy, Debug, PartialEq, Eq)]
+pub enum DisclosureError {
+    /// There was no memory for the disclosure.
+    Memory,
+    /// The text is the base64url text of no bytes.
+    NotBase64,
+    /// The bytes are no JSON text.
+    NotJson,
+    /// A number in the JSON is not whole.
+    NotWhole,
+    /// The JSON is no list of two, and none of three whose second is a text.
+    NotDisclosure,
+}
+
+impl From<NoMemory> for DisclosureError {
+    ghost use Rattle.std.specs.Prelude.{◌≡◌};
+    ghost use Rattle.disclosure.specs.declared.errors.DisclosureError.TheVariants.{Memory};
+
+    ghost from_gives = { λ _ e. e ≡ Memory };
+
+    fn from(_: NoMemory) -> Self {
+        DisclosureError::Memory
+    }
+}
+
+impl From<DecodeError> for DisclosureError {
+    ghost use Rattle.std.specs.Prelude.{◌≡◌};
+    ghost use Rattle.disclosure.specs.Refusals.{of_decode};
+
+    ghost from_gives = { λ e f. f ≡ of_decode e };
+
+    fn from(error: DecodeError) -> Self {
+        match error {
+            DecodeError::Memory => DisclosureError::Memory,
+            DecodeError::NotBase64 => DisclosureError::NotBase64,
+        }
+    }
+}
+
+impl From<ReadError> for DisclosureError {
+    ghost use Rattle.std.specs.Prelude.{◌≡◌};
+    ghost use Rattle.disclosure.specs.Refusals.{of_read};
+
+    ghost from_gives = { λ e f. f ≡ of_read e };
+
+    fn from(error: ReadError) -> Self {
+        match error {
+            ReadError::Memory => DisclosureError::Memory,
+            ReadError::NotJson => DisclosureError::NotJson,
+            ReadError::NotWhole => DisclosureError::NotWhole,
+        }
+    }
+}

@@ -1,0 +1,13 @@
+//! Disclosures and their digests, RFC 9901 section 4.2.
+//!
+//! A [`Disclosure`] is the base64url text of a JSON list: the salt, the name of a member, its value. The name is
+//! left out where an element of an array is disclosed. Its digest is taken over the text as it stands.
+#![tactic(auto)]
+
+mod digests;
+mod disclosure;
+mod errors;
+
+pub use digests::{HashAlg, digest, hash_named};
+pub use disclosure::{Disclosure, make, read_disclosure};
+pub use errors::DisclosureError;
