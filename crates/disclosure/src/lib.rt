@@ -7,6 +7,8 @@
 mod digests;
 mod disclosure;
 mod errors;
+#[cfg(test)]
+mod tests;
 
 pub use digests::{HashAlg, digest, hash_named};
 pub use disclosure::{Disclosure, make, read_disclosure};
