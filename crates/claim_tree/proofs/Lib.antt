@@ -5,6 +5,7 @@ pub mod Positions
 pub mod Walks
 pub mod Datas
 pub mod RoundTrip
+pub mod OneTree
 pub mod PathFronts
 mod PointerEscapes
 mod PointerTildes
