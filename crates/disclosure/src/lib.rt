@@ -7,6 +7,7 @@
 mod digests;
 mod disclosure;
 mod errors;
+pub mod laws;
 #[cfg(test)]
 mod tests;
 

@@ -1,0 +1,97 @@
+-- A text has one verdict.
+use Rattle.std.proofs.Common.{◌≡◌, ◌≢◌, ◌⊎◌, inl, inr, Option, Some, None, true, false, refl, sym, ap, subst, ◌∙◌}
+use Rattle.std.specs.Str.{IsUtf8}
+use Rattle.serde_json.specs.Data as port
+use Rattle.serde_json.specs.Read as reading
+use Rattle.serde_json.specs.Written.{has_float}
+use Rattle.b64url_text.specs.Base64url.{Decodes}
+use Rattle.b64url_text.proofs.Codes.{one_code}
+use Rattle.claim_tree.specs.Tree.{Text, text as text_leaf, Tree, leaf, array, Elements, element, no_elements}
+use Rattle.claim_tree.specs.JsonText.{Reads, IsNotJson, IsNotWhole, data_of}
+use Rattle.claim_tree.proofs.Datas.{no_float}
+use Rattle.claim_tree.proofs.OneTree.{one_tree}
+use Rattle.disclosure.specs.Disclosure.{array_of, IsDisclosure}
+use Rattle.disclosure.specs.Refusals.{DecodesTo, IsRefused}
+use Rattle.disclosure.specs.declared.errors.DisclosureError.{DisclosureError}
+
+-- ---- one list has one salt, name and value
+
+array_same : (es fs : Elements) → array es ≡ array fs → es ≡ fs
+array_same es fs e = cc
+
+element_same : (t u : Tree) (es fs : Elements) → element t es ≡ element u fs → (t ≡ u) × (es ≡ fs)
+element_same t u es fs e = (cc, cc)
+
+name_same : (n m : Text) → leaf (text_leaf n) ≡ leaf (text_leaf m) → n ≡ m
+name_same n m e = cc
+
+two_three : (t u v : Tree) → element t no_elements ≡ element u (element v no_elements) → ⊥
+two_three t u v e = let rest = (element_same t u no_elements (element v no_elements) e).1 in cc rest
+
+pub array_of-injective : (salt s : Tree) (name n : Option Text) (value v : Tree) → array_of salt name value ≡ array_of s n v → (salt ≡ s) × (name ≡ n) × (value ≡ v)
+array_of-injective salt s (Some name) (Some n) value v e =
+    let all = element_same _ _ _ _ (array_same _ _ e) in
+    let rest = element_same _ _ _ _ all.1 in
+    (all.0, ap (λ m. Some m) (name_same name n rest.0), (element_same _ _ _ _ rest.1).0)
+array_of-injective salt s None None value v e =
+    let all = element_same _ _ _ _ (array_same _ _ e) in
+    (all.0, refl, (element_same _ _ _ _ all.1).0)
+array_of-injective salt s (Some name) None value v e = absurd (two_three v (leaf (text_leaf name)) value (sym (element_same _ _ _ _ (array_same _ _ e)).1))
+array_of-injective salt s None (Some n) value v e = absurd (two_three value (leaf (text_leaf n)) v (element_same _ _ _ _ (array_same _ _ e)).1)
+
+same_tree : (text json other : Text) (t u : Tree) → Decodes text json → Decodes text other → Reads json t → Reads other u → t ≡ u
+same_tree text json other t u d e r s = one_tree other t u (subst (λ j. Reads j t) (one_code text json other d e) r) s
+
+pub one_disclosure : (text : Text) (salt s : Tree) (name n : Option Text) (value v : Tree) → IsDisclosure text salt name value → IsDisclosure text s n v → (salt ≡ s) × (name ≡ n) × (value ≡ v)
+one_disclosure text salt s name n value v d e =
+    array_of-injective salt s name n value v (same_tree text d.json e.json (array_of salt name value) (array_of s n v) d.decodes e.decodes d.reads e.reads)
+
+-- ---- one verdict
+
+has_value : (bytes : Text) (x : port.Data) → IsUtf8 bytes → reading.read bytes ≡ Some x → IsNotJson bytes → ⊥
+has_value bytes x u value (inl not_utf8) = not_utf8 u
+has_value bytes x u value (inr none) = let both = sym none ∙ value in cc both
+
+is_whole : (bytes : Text) (t : Tree) → Reads bytes t → IsNotWhole bytes → ⊥
+is_whole bytes t r n =
+    let both : Some n.data_is ≡ Some (data_of t) = sym n.value ∙ r.value in
+    let same : n.data_is ≡ data_of t = cc both in
+    let float : false ≡ true = sym (no_float t) ∙ (ap has_float (sym same) ∙ n.float) in
+    cc float
+
+json_read : (text json : Text) (t : Tree) → Decodes text json → Reads json t → DecodesTo IsNotJson text → ⊥
+json_read text json t d r h = has_value json (data_of t) r.utf8 r.value (subst IsNotJson (one_code text h.json json h.decodes d) h.so)
+
+whole_read : (text json : Text) (t : Tree) → Decodes text json → Reads json t → DecodesTo IsNotWhole text → ⊥
+whole_read text json t d r h = is_whole json t r (subst IsNotWhole (one_code text h.json json h.decodes d) h.so)
+
+json_whole : (text : Text) → DecodesTo IsNotJson text → DecodesTo IsNotWhole text → ⊥
+json_whole text h n = has_value n.json n.so.data_is n.so.utf8 n.so.value (subst IsNotJson (one_code text h.json n.json h.decodes n.decodes) h.so)
+
+pub not_both : (text : Text) (salt : Tree) (name : Option Text) (value : Tree) (error : DisclosureError) → IsDisclosure text salt name value → IsRefused text error → error ≡ DisclosureError.Memory
+not_both text salt name value DisclosureError.Memory d h = refl
+not_both text salt name value DisclosureError.NotBase64 d h = absurd (h d.json d.decodes)
+not_both text salt name value DisclosureError.NotJson d h = absurd (json_read text d.json (array_of salt name value) d.decodes d.reads h)
+not_both text salt name value DisclosureError.NotWhole d h = absurd (whole_read text d.json (array_of salt name value) d.decodes d.reads h)
+not_both text salt name value DisclosureError.NotDisclosure d h =
+    absurd (h.other salt name value (same_tree text h.json d.json h.tree (array_of salt name value) h.decodes d.decodes h.reads d.reads))
+
+pub one_cause : (text : Text) (error other : DisclosureError) → IsRefused text error → IsRefused text other → error ≢ DisclosureError.Memory → other ≢ DisclosureError.Memory → error ≡ other
+one_cause text DisclosureError.Memory other g h m n = absurd (m refl)
+one_cause text error DisclosureError.Memory g h m n = absurd (n refl)
+one_cause text DisclosureError.NotBase64 DisclosureError.NotBase64 g h m n = refl
+one_cause text DisclosureError.NotBase64 DisclosureError.NotJson g h m n = absurd (g h.json h.decodes)
+one_cause text DisclosureError.NotBase64 DisclosureError.NotWhole g h m n = absurd (g h.json h.decodes)
+one_cause text DisclosureError.NotBase64 DisclosureError.NotDisclosure g h m n = absurd (g h.json h.decodes)
+one_cause text DisclosureError.NotJson DisclosureError.NotBase64 g h m n = absurd (h g.json g.decodes)
+one_cause text DisclosureError.NotJson DisclosureError.NotJson g h m n = refl
+one_cause text DisclosureError.NotJson DisclosureError.NotWhole g h m n = absurd (json_whole text g h)
+one_cause text DisclosureError.NotJson DisclosureError.NotDisclosure g h m n = absurd (json_read text h.json h.tree h.decodes h.reads g)
+one_cause text DisclosureError.NotWhole DisclosureError.NotBase64 g h m n = absurd (h g.json g.decodes)
+one_cause text DisclosureError.NotWhole DisclosureError.NotJson g h m n = absurd (json_whole text h g)
+one_cause text DisclosureError.NotWhole DisclosureError.NotWhole g h m n = refl
+one_cause text DisclosureError.NotWhole DisclosureError.NotDisclosure g h m n = absurd (whole_read text h.json h.tree h.decodes h.reads g)
+one_cause text DisclosureError.NotDisclosure DisclosureError.NotBase64 g h m n = absurd (h g.json g.decodes)
+one_cause text DisclosureError.NotDisclosure DisclosureError.NotJson g h m n = absurd (json_read text g.json g.tree g.decodes g.reads h)
+one_cause text DisclosureError.NotDisclosure DisclosureError.NotWhole g h m n = absurd (whole_read text g.json g.tree g.decodes g.reads h)
+one_cause text DisclosureError.NotDisclosure DisclosureError.NotDisclosure g h m n = refl
