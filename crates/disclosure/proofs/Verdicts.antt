@@ -1,43 +1,19 @@
--- A text has one verdict.
-use Rattle.std.proofs.Common.{◌≡◌, ◌≢◌, ◌⊎◌, inl, inr, Option, Some, None, true, false, refl, sym, ap, subst, ◌∙◌}
+-- A text is one disclosure or has one refusal.
+use Rattle.std.proofs.Common.{◌≡◌, ◌≢◌, inl, inr, Option, Some, true, false, refl, sym, ap, subst, ◌∙◌}
 use Rattle.std.specs.Str.{IsUtf8}
 use Rattle.serde_json.specs.Data as port
 use Rattle.serde_json.specs.Read as reading
 use Rattle.serde_json.specs.Written.{has_float}
 use Rattle.b64url_text.specs.Base64url.{Decodes}
 use Rattle.b64url_text.proofs.Codes.{one_code}
-use Rattle.claim_tree.specs.Tree.{Text, text as text_leaf, Tree, leaf, array, Elements, element, no_elements}
+use Rattle.claim_tree.specs.Tree.{Text, Tree}
 use Rattle.claim_tree.specs.JsonText.{Reads, IsNotJson, IsNotWhole, data_of}
 use Rattle.claim_tree.proofs.Datas.{no_float}
 use Rattle.claim_tree.proofs.OneTree.{one_tree}
 use Rattle.disclosure.specs.Disclosure.{array_of, IsDisclosure}
 use Rattle.disclosure.specs.Refusals.{DecodesTo, IsRefused}
+use Rattle.disclosure.proofs.Arrays.{array_of-injective}
 use Rattle.disclosure.specs.declared.errors.DisclosureError.{DisclosureError}
-
--- ---- one list has one salt, name and value
-
-array_same : (es fs : Elements) → array es ≡ array fs → es ≡ fs
-array_same es fs e = cc
-
-element_same : (t u : Tree) (es fs : Elements) → element t es ≡ element u fs → (t ≡ u) × (es ≡ fs)
-element_same t u es fs e = (cc, cc)
-
-name_same : (n m : Text) → leaf (text_leaf n) ≡ leaf (text_leaf m) → n ≡ m
-name_same n m e = cc
-
-two_three : (t u v : Tree) → element t no_elements ≡ element u (element v no_elements) → ⊥
-two_three t u v e = let rest = (element_same t u no_elements (element v no_elements) e).1 in cc rest
-
-pub array_of-injective : (salt s : Tree) (name n : Option Text) (value v : Tree) → array_of salt name value ≡ array_of s n v → (salt ≡ s) × (name ≡ n) × (value ≡ v)
-array_of-injective salt s (Some name) (Some n) value v e =
-    let all = element_same _ _ _ _ (array_same _ _ e) in
-    let rest = element_same _ _ _ _ all.1 in
-    (all.0, ap (λ m. Some m) (name_same name n rest.0), (element_same _ _ _ _ rest.1).0)
-array_of-injective salt s None None value v e =
-    let all = element_same _ _ _ _ (array_same _ _ e) in
-    (all.0, refl, (element_same _ _ _ _ all.1).0)
-array_of-injective salt s (Some name) None value v e = absurd (two_three v (leaf (text_leaf name)) value (sym (element_same _ _ _ _ (array_same _ _ e)).1))
-array_of-injective salt s None (Some n) value v e = absurd (two_three value (leaf (text_leaf n)) v (element_same _ _ _ _ (array_same _ _ e)).1)
 
 same_tree : (text json other : Text) (t u : Tree) → Decodes text json → Decodes text other → Reads json t → Reads other u → t ≡ u
 same_tree text json other t u d e r s = one_tree other t u (subst (λ j. Reads j t) (one_code text json other d e) r) s
@@ -45,8 +21,6 @@ same_tree text json other t u d e r s = one_tree other t u (subst (λ j. Reads j
 pub one_disclosure : (text : Text) (salt s : Tree) (name n : Option Text) (value v : Tree) → IsDisclosure text salt name value → IsDisclosure text s n v → (salt ≡ s) × (name ≡ n) × (value ≡ v)
 one_disclosure text salt s name n value v d e =
     array_of-injective salt s name n value v (same_tree text d.json e.json (array_of salt name value) (array_of s n v) d.decodes e.decodes d.reads e.reads)
-
--- ---- one verdict
 
 has_value : (bytes : Text) (x : port.Data) → IsUtf8 bytes → reading.read bytes ≡ Some x → IsNotJson bytes → ⊥
 has_value bytes x u value (inl not_utf8) = not_utf8 u
