@@ -1,0 +1,3 @@
+pub mod Parts
+mod Names
+pub mod Headers

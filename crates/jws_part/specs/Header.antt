@@ -1,0 +1,84 @@
+-- The header of a JWS, RFC 7515 sections 4 and 7.2.1: the members of the protected one, and of an outer one beside it.
+use Rattle.std.specs.Prelude.{◌≡◌, Bool, ◌||◌, true, false, Option, Some, None, codes}
+use Rattle.std.specs.List.{list_any}
+use Rattle.std.specs.Option.{is_some, option_map, option_or}
+use Rattle.claim_tree.specs.Tree.{Text, text, Tree, leaf, object, Members, no_members, member, names, member_named, inserted}
+use Rattle.jws_part.specs.Part.{Carries, IsNoObject}
+use Rattle.jws_part.specs.declared.header.Header.{Header}
+use Rattle.jws_part.specs.declared.body.BodyError.{BodyError}
+use Rattle.jws_part.specs.declared.header.HeaderError.{HeaderError}
+
+abbrev pub text_tree : Text → Tree
+text_tree s = leaf (text s)
+
+abbrev pub has_name : Members → Text → Bool
+has_name ms name = is_some (member_named ms name)
+
+-- a name stands in both headers
+abbrev pub shares_name : Members → Members → Bool
+shares_name ms outer = list_any (has_name ms) (names outer)
+
+-- one of the headers has a member `crit` (section 4.1.11)
+abbrev pub has_crit : Members → Members → Bool
+has_crit ms outer = has_name ms (codes "crit") || has_name outer (codes "crit")
+
+-- what the two headers say together: a text under each name that is there, the key in either of them
+pub record Says (ms outer : Members) (header : Header) : Type 0 where
+  pub apart : shares_name ms outer ≡ false
+  pub alg : member_named ms (codes "alg") ≡ Some (text_tree header.alg)
+  pub typ : member_named ms (codes "typ") ≡ option_map text_tree header.typ
+  pub kid : option_or (member_named ms (codes "kid")) (member_named outer (codes "kid")) ≡ option_map text_tree header.kid
+
+-- the protected header is read, both together say this, and neither is critical
+pub record IsHeader (protected : Text) (outer : Members) (header : Header) : Type 0 where
+  pub members : Members
+  pub carried : Carries protected (object members)
+  pub says : Says members outer header
+  pub plain : has_crit members outer ≡ false
+
+-- the headers are read, and want an extension to be understood
+pub record IsCritical (protected : Text) (outer : Members) : Type 0 where
+  pub members : Members
+  pub header : Header
+  pub carried : Carries protected (object members)
+  pub says : Says members outer header
+  pub crit : has_crit members outer ≡ true
+
+-- what stands under the name is no text
+pub record IsNoText (ms : Members) (name : Text) : Type 0 where
+  pub found : Tree
+  pub stands : member_named ms name ≡ Some found
+  pub no_text : (s : Text) → found ≡ text_tree s → ⊥
+
+-- why the headers say nothing together
+pub data SayNothing (ms outer : Members) : Type 0 where
+  shared_name : shares_name ms outer ≡ true → SayNothing ms outer
+  no_alg : member_named ms (codes "alg") ≡ None → SayNothing ms outer
+  odd_alg : IsNoText ms (codes "alg") → SayNothing ms outer
+  odd_typ : IsNoText ms (codes "typ") → SayNothing ms outer
+  odd_kid : IsNoText ms (codes "kid") → SayNothing ms outer
+  odd_outer_kid : IsNoText outer (codes "kid") → SayNothing ms outer
+
+-- why the headers are not read
+pub data IsUnreadable (protected : Text) (outer : Members) : Type 0 where
+  no_object : IsNoObject protected → IsUnreadable protected outer
+  nothing_said : (ms : Members) → Carries protected (object ms) → SayNothing ms outer → IsUnreadable protected outer
+
+-- the text as a member, where it is some, and then these
+abbrev pub given : Text → Option Text → Members → Members
+given name None ms = ms
+given name (Some s) ms = member name (text_tree s) ms
+
+-- the members that are written of a header
+abbrev pub header_members : Header → Members
+header_members h = member (codes "alg") (text_tree h.alg) (given (codes "kid") h.kid (given (codes "typ") h.typ no_members))
+
+-- for private functions: the members, with the text put under the name, where it is some
+abbrev pub with_text : Members → Text → Option Text → Members
+with_text ms name None = ms
+with_text ms name (Some s) = inserted ms name (text_tree s)
+
+-- for conversions: the answer for a header that is not read
+abbrev pub unread_header : BodyError → HeaderError
+unread_header BodyError.Memory = HeaderError.Memory
+unread_header BodyError.Unreadable = HeaderError.Unreadable

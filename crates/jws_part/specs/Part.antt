@@ -1,0 +1,33 @@
+-- The parts of a JWS that are JSON (RFC 7515 section 2): base64url texts of JSON objects.
+use Rattle.std.specs.Prelude.{◌≡◌}
+use Rattle.b64url_text.specs.Base64url.{Decodes}
+use Rattle.claim_tree.specs.Tree.{Text, Tree, object, Members}
+use Rattle.claim_tree.specs.JsonText.{Reads}
+use Rattle.b64url_text.specs.declared.errors.DecodeError.{DecodeError}
+use Rattle.claim_tree.specs.declared.text.ReadError.{ReadError}
+use Rattle.jws_part.specs.declared.body.BodyError.{BodyError}
+
+-- the text decodes to a JSON text that reads to the tree, so each of its numbers is whole
+pub record Carries (part : Text) (t : Tree) : Type 0 where
+  pub bytes : Text
+  pub decodes : Decodes part bytes
+  pub reads : Reads bytes t
+
+-- the text carries an object, which is the tree
+pub record IsBody (part : Text) (t : Tree) : Type 0 where
+  pub members : Members
+  pub is_object : t ≡ object members
+  pub carried : Carries part t
+
+-- the text carries no object
+abbrev pub IsNoObject : Text → Type 0
+IsNoObject part = (ms : Members) → Carries part (object ms) → ⊥
+
+-- the answer for a text that is not decoded, or not read
+abbrev pub undecoded : DecodeError → BodyError
+undecoded DecodeError.Memory = BodyError.Memory
+undecoded DecodeError.NotBase64 = BodyError.Unreadable
+
+abbrev pub unread : ReadError → BodyError
+unread ReadError.Memory = BodyError.Memory
+unread _ = BodyError.Unreadable

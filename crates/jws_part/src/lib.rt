@@ -1,0 +1,14 @@
+//! The header and the payload of a JWS (RFC 7515): base64url texts of JSON objects.
+//!
+//! Both are read from such a text, and written to one. No extension of headers is understood, so one with `crit`
+//! is refused by name.
+#![tactic(auto)]
+
+mod body;
+mod header;
+mod members;
+#[cfg(test)]
+mod tests;
+
+pub use body::{BodyError, read_body, write_body};
+pub use header::{Header, HeaderError, read_header, write_header};
