@@ -3,76 +3,62 @@ use Rattle.std.proofs.Common.{◌≡◌, ℤ, pos, negsuc, Some, refl, sym, ap, 
 use Rattle.serde_json.specs.Data as port
 use Rattle.serde_json.specs.Find.{of_integer}
 use Rattle.claim_tree.specs.Tree.{Text, Leaf, null, flag, whole, text, Tree, leaf, array, object, Elements, no_elements, element, Members, no_members, member}
-use Rattle.claim_tree.specs.JsonText.{leaf_data, data_of, elements_data, members_data, Reads}
+use Rattle.claim_tree.specs.JsonText.{Reads, leaf_data, data_of, elements_data, members_data}
 
-number_same : (x y : port.Num) → port.number x ≡ port.number y → x ≡ y
-number_same x y e = cc
+one_whole : (y z : ℤ) → of_integer y ≡ of_integer z → y ≡ z
+one_whole (pos m) (pos n) e = cc e
+one_whole (negsuc m) (negsuc n) e = cc e
+one_whole (pos m) (negsuc n) e = cc e
+one_whole (negsuc m) (pos n) e = cc e
 
-integer_same : (x y : ℤ) → of_integer x ≡ of_integer y → x ≡ y
-integer_same (pos n) (pos m) e = cc
-integer_same (pos n) (negsuc m) e = cc
-integer_same (negsuc n) (pos m) e = cc
-integer_same (negsuc n) (negsuc m) e = cc
+one_leaf : (l m : Leaf) → leaf_data l ≡ leaf_data m → l ≡ m
+one_leaf null null e = refl
+one_leaf (flag b) (flag c) e = cc e
+one_leaf (whole y) (whole z) e = let same : y ≡ z = one_whole y z (cc e) in cc same
+one_leaf (text x) (text y) e = cc e
+one_leaf l m e = cc e
 
-leaf_same : (l m : Leaf) → leaf_data l ≡ leaf_data m → l ≡ m
-leaf_same null null e = refl
-leaf_same (flag b) (flag c) e = cc
-leaf_same (whole x) (whole y) e = ap whole (integer_same x y (number_same (of_integer x) (of_integer y) e))
-leaf_same (text s) (text r) e = cc
-leaf_same l m e = cc
-
-no_array : (l : Leaf) (xs : port.Items) → leaf_data l ≡ port.array xs → ⊥
-no_array null xs e = cc
-no_array (flag b) xs e = cc
-no_array (whole z) xs e = cc
-no_array (text s) xs e = cc
+no_array : (l : Leaf) (items : port.Items) → leaf_data l ≡ port.array items → ⊥
+no_array null items e = cc e
+no_array (flag b) items e = cc e
+no_array (whole z) items e = cc e
+no_array (text x) items e = cc e
 
 no_object : (l : Leaf) (ms : port.Members) → leaf_data l ≡ port.object ms → ⊥
-no_object null ms e = cc
-no_object (flag b) ms e = cc
-no_object (whole z) ms e = cc
-no_object (text s) ms e = cc
-
-array_same : (x y : port.Items) → port.array x ≡ port.array y → x ≡ y
-array_same x y e = cc
-
-object_same : (x y : port.Members) → port.object x ≡ port.object y → x ≡ y
-object_same x y e = cc
-
-item_same : (a b : port.Data) (x y : port.Items) → port.item a x ≡ port.item b y → (a ≡ b) × (x ≡ y)
-item_same a b x y e = (cc, cc)
-
-member_same : (k l : Text) (a b : port.Data) (x y : port.Members) → port.member k a x ≡ port.member l b y → (k ≡ l) × (a ≡ b) × (x ≡ y)
-member_same k l a b x y e = (cc, cc, cc)
+no_object null ms e = cc e
+no_object (flag b) ms e = cc e
+no_object (whole z) ms e = cc e
+no_object (text x) ms e = cc e
 
 mutual
+  -- trees of one value are equal
   pub data_of-injective : (t u : Tree) → data_of t ≡ data_of u → t ≡ u
-  data_of-injective (leaf l) (leaf m) e = ap leaf (leaf_same l m e)
-  data_of-injective (leaf l) (array es) e = absurd (no_array l (elements_data es) e)
-  data_of-injective (leaf l) (object ms) e = absurd (no_object l (members_data ms) e)
-  data_of-injective (array es) (leaf m) e = absurd (no_array m (elements_data es) (sym e))
-  data_of-injective (array es) (array fs) e = ap array (elements_same es fs (array_same (elements_data es) (elements_data fs) e))
-  data_of-injective (array es) (object ms) e = cc
-  data_of-injective (object ms) (leaf m) e = absurd (no_object m (members_data ms) (sym e))
-  data_of-injective (object ms) (array es) e = cc
-  data_of-injective (object ms) (object ns) e = ap object (members_same ms ns (object_same (members_data ms) (members_data ns) e))
+  data_of-injective (leaf l) (leaf m) e = ap leaf (one_leaf l m e)
+  data_of-injective (leaf l) (array fs) e = absurd (no_array l _ e)
+  data_of-injective (leaf l) (object ns) e = absurd (no_object l _ e)
+  data_of-injective (array es) (leaf m) e = absurd (no_array m _ (sym e))
+  data_of-injective (object ms) (leaf m) e = absurd (no_object m _ (sym e))
+  data_of-injective (array es) (array fs) e = ap array (elements_data-injective es fs (cc e))
+  data_of-injective (object ms) (object ns) e = ap object (members_data-injective ms ns (cc e))
+  data_of-injective (array es) (object ns) e = cc e
+  data_of-injective (object ms) (array fs) e = cc e
 
-  elements_same : (es fs : Elements) → elements_data es ≡ elements_data fs → es ≡ fs
-  elements_same no_elements no_elements e = refl
-  elements_same (element t es) (element u fs) e =
-      let parts = item_same (data_of t) (data_of u) (elements_data es) (elements_data fs) e in
-      ap₂ element (data_of-injective t u parts.0) (elements_same es fs parts.1)
-  elements_same es fs e = cc
+  elements_data-injective : (es fs : Elements) → elements_data es ≡ elements_data fs → es ≡ fs
+  elements_data-injective no_elements no_elements e = refl
+  elements_data-injective (element t es) (element u fs) e =
+      let first : t ≡ u = data_of-injective t u (cc e) in
+      let rest : es ≡ fs = elements_data-injective es fs (cc e) in
+      cc (first, rest)
+  elements_data-injective es fs e = cc e
 
-  members_same : (ms ns : Members) → members_data ms ≡ members_data ns → ms ≡ ns
-  members_same no_members no_members e = refl
-  members_same (member k t ms) (member l u ns) e =
-      let parts = member_same k l (data_of t) (data_of u) (members_data ms) (members_data ns) e in
-      rw parts.0 (ap₂ (member l) (data_of-injective t u parts.1) (members_same ms ns parts.2))
-  members_same ms ns e = cc
-
-some_same : (x y : port.Data) → Some x ≡ Some y → x ≡ y
-some_same x y e = cc
+  members_data-injective : (ms ns : Members) → members_data ms ≡ members_data ns → ms ≡ ns
+  members_data-injective no_members no_members e = refl
+  members_data-injective (member name t ms) (member other u ns) e =
+      let here : name ≡ other = cc e in
+      let first : t ≡ u = data_of-injective t u (cc e) in
+      let rest : ms ≡ ns = members_data-injective ms ns (cc e) in
+      cc (here, first, rest)
+  members_data-injective ms ns e = cc e
 
 pub one_tree : (bytes : Text) (t u : Tree) → Reads bytes t → Reads bytes u → t ≡ u
-one_tree bytes t u r s = data_of-injective t u (some_same (data_of t) (data_of u) (sym r.value ∙ s.value))
+one_tree bytes t u r s = data_of-injective t u (let both = sym r.value ∙ s.value in cc both)
