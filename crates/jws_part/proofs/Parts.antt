@@ -10,7 +10,8 @@ use Rattle.claim_tree.specs.View.{tree_of}
 use Rattle.claim_tree.specs.declared.tree.Tree as tree
 use Rattle.claim_tree.specs.declared.tree.TreeMap.{TreeMap}
 use Rattle.claim_tree.proofs.Datas.{no_float}
-use Rattle.jws_part.specs.Part.{IsNoObject}
+use Rattle.claim_tree.proofs.OneTree.{one_tree}
+use Rattle.jws_part.specs.Part.{Carries, IsBody, IsNoObject}
 
 pub no_code : (part : Text) → IsNoCode part → IsNoObject part
 no_code part refused ms c = refused c.bytes c.decodes
@@ -51,3 +52,19 @@ other_tree part bytes (tree.Tree.Whole z) d r other = no_object part bytes _ d r
 other_tree part bytes (tree.Tree.Text x) d r other = no_object part bytes _ d r (λ ms e. cc e)
 other_tree part bytes (tree.Tree.List es) d r other = no_object part bytes _ d r (λ ms e. cc e)
 other_tree part bytes (tree.Tree.Object m) d r other = absurd (other m refl)
+
+-- a text carries one tree
+pub one_carried : (part : Text) (t u : Tree) → Carries part t → Carries part u → t ≡ u
+one_carried part t u c d = one_tree c.bytes t u c.reads (subst (λ x. Reads x u) (one_code part d.bytes c.bytes d.decodes c.decodes) d.reads)
+
+pub one_object : (part : Text) (ms ns : Members) → Carries part (object ms) → Carries part (object ns) → ms ≡ ns
+one_object part ms ns c d = let same = one_carried part (object ms) (object ns) c d in cc same
+
+pub one_body : (part : Text) (t u : Tree) → IsBody part t → IsBody part u → t ≡ u
+one_body part t u a b = one_carried part t u a.carried b.carried
+
+pub not_both : (part : Text) (t : Tree) → IsBody part t → IsNoObject part → ⊥
+not_both part t body none = none body.members (subst (Carries part) body.is_object body.carried)
+
+pub body_of : (part : Text) (ms : Members) → Carries part (object ms) → IsBody part (object ms)
+body_of part ms carried = record { members = ms; is_object = refl; carried = carried }

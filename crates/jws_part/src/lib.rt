@@ -6,6 +6,7 @@
 
 mod body;
 mod header;
+pub mod laws;
 mod members;
 #[cfg(test)]
 mod tests;
