@@ -7,14 +7,19 @@ ghost use Rattle.jws_part.specs.Header.{IsHeader, IsCritical, IsUnreadable};
 
 /// A protected header, with an outer one, is read as one header, is critical or is unreadable, and never two of these.
 pub fn one_header()
-    ensures one { (protected : List ℕ) (outer : Members) (h other : Header) → IsHeader protected outer h → IsHeader protected outer other → h ≡ other }
-    ensures readable { (protected : List ℕ) (outer : Members) (h : Header) → IsHeader protected outer h → IsUnreadable protected outer → ⊥ }
-    ensures plain { (protected : List ℕ) (outer : Members) (h : Header) → IsHeader protected outer h → IsCritical protected outer → ⊥ }
-    ensures critical { (protected : List ℕ) (outer : Members) → IsCritical protected outer → IsUnreadable protected outer → ⊥ }
+    ensures one { (protected : List ℕ) (outer : Members) (header other : Header) →
+        IsHeader protected outer header → IsHeader protected outer other → header ≡ other }
+    ensures readable { (protected : List ℕ) (outer : Members) (header : Header) →
+        IsHeader protected outer header → IsUnreadable protected outer → ⊥ }
+    ensures plain { (protected : List ℕ) (outer : Members) (header : Header) →
+        IsHeader protected outer header → IsCritical protected outer → ⊥ }
+    ensures critical { (protected : List ℕ) (outer : Members) →
+        IsCritical protected outer → IsUnreadable protected outer → ⊥ }
 {}
 
 /// A payload carries one object, or none.
 pub fn one_body()
-    ensures one { (payload : List ℕ) (t other : Tree) → IsBody payload t → IsBody payload other → t ≡ other }
+    ensures one { (payload : List ℕ) (t other : Tree) →
+        IsBody payload t → IsBody payload other → t ≡ other }
     ensures none { (payload : List ℕ) (t : Tree) → IsBody payload t → IsNoObject payload → ⊥ }
 {}
