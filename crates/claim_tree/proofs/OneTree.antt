@@ -1,5 +1,5 @@
 -- A text reads to at most one tree.
-use Rattle.std.proofs.Common.{◌≡◌, ℤ, pos, negsuc, Some, refl, sym, ap, ap₂, ◌∙◌}
+use Rattle.std.proofs.Common.{◌≡◌, ℤ, pos, negsuc, refl, sym, ap, ◌∙◌}
 use Rattle.serde_json.specs.Data as port
 use Rattle.serde_json.specs.Find.{of_integer}
 use Rattle.claim_tree.specs.Tree.{Text, Leaf, null, flag, whole, text, Tree, leaf, array, object, Elements, no_elements, element, Members, no_members, member}
