@@ -23,4 +23,5 @@ show() {
 show split rfc9901.txt
 show split rfc9901_chosen.txt
 show split plain_jwt.txt
+show show rfc9901_chosen.txt
 show split absent.txt

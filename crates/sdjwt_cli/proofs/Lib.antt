@@ -1,2 +1,4 @@
 mod Lifts
 mod Verdicts
+mod Shown
+mod ShowVerdicts

@@ -7,11 +7,12 @@ use Rattle.sd_outside.specs.Causes.{Rose}
 use Rattle.sd_outside.specs.declared.status.Status.{Status}
 use Rattle.sd_outside.specs.declared.status.Status.TheVariants.{Done, Refused, Usage, Unread, Unwritten, Memory, Unreadable}
 use Rattle.compact_form.proofs.Verdicts.{not_both, one_fault, one_value}
-use Rattle.sdjwt_cli.specs.Command.{Command, split, command_of, Wanted, wanted_by}
+use Rattle.sdjwt_cli.specs.Command.{Command, split, show, command_of, Wanted, wanted_by}
 use Rattle.sdjwt_cli.specs.Lines.{refusal}
 use Rattle.sdjwt_cli.specs.Split.{split_lines}
-use Rattle.sdjwt_cli.specs.Answers.{Verdict, gives, refuses, unreadable, SplitAnswers, Answers, AreFetched, AreTold, IsAnswered}
+use Rattle.sdjwt_cli.specs.Answers.{Verdict, gives, refuses, unreadable, SplitAnswers, ShowAnswers, Answers, AreFetched, AreTold, IsAnswered}
 use Rattle.sdjwt_cli.specs.Run.{Outside, Ends}
+use Rattle.sdjwt_cli.proofs.ShowVerdicts.{one_shown, shown_not_refused, one_refusal}
 
 one_split : (file : List ℕ) (v w : Verdict) → SplitAnswers file v → SplitAnswers file w → v ≡ w
 one_split file (gives a) (gives b) g h = ap gives (g.lines ∙ ap split_lines (one_value file g.parts h.parts g.reads h.reads) ∙ sym h.lines)
@@ -22,10 +23,22 @@ one_split file (refuses s) (refuses t) g h = ap refuses (g.line_is ∙ ap refusa
 one_split file (refuses s) (unreadable t) g h = absurd h
 one_split file (unreadable s) w g h = absurd g
 
+one_show : (file : List ℕ) (v w : Verdict) → ShowAnswers file v → ShowAnswers file w → v ≡ w
+one_show file (gives a) (gives b) g h = ap gives (one_shown file a b g h)
+one_show file (gives a) (refuses t) g h = absurd (shown_not_refused file a t g h)
+one_show file (gives a) (unreadable t) g h = absurd h
+one_show file (refuses s) (gives b) g h = absurd (shown_not_refused file b s h g)
+one_show file (refuses s) (refuses t) g h = ap refuses (one_refusal file s t g h)
+one_show file (refuses s) (unreadable t) g h = absurd h
+one_show file (unreadable s) w g h = absurd g
+
 pub one_answer : (command : Command) (files : List (List ℕ)) (now : ℕ) (v w : Verdict) → Answers command files now v → Answers command files now w → v ≡ w
 one_answer (split token) [] now v w g h = absurd g
 one_answer (split token) (file ∷ []) now v w g h = one_split file v w g h
 one_answer (split token) (file ∷ more ∷ files) now v w g h = absurd g
+one_answer (show token) [] now v w g h = absurd g
+one_answer (show token) (file ∷ []) now v w g h = one_show file v w g h
+one_answer (show token) (file ∷ more ∷ files) now v w g h = absurd g
 
 none_some : (o : Option Command) (k : Command) → o ≡ None → o ≡ Some k → ⊥
 none_some o k e f = cc

@@ -1,8 +1,9 @@
 -- What each command answers over its files, by its definition.
 use Rattle.std.specs.Prelude.{◌≡◌, ℕ, List, [], ◌∷◌, Option, IfSome, IsSomeAnd, take}
 use Rattle.std.specs.List.{AllZip}
-use Rattle.sdjwt_cli.specs.Command.{Command, split, Wanted, wanted_by}
+use Rattle.sdjwt_cli.specs.Command.{Command, split, show, Wanted, wanted_by}
 use Rattle.sdjwt_cli.specs.Split.{Gives, Refuses}
+use Rattle.sdjwt_cli.specs.Show.{Shows, DoesNotShow}
 
 -- the bytes for standard output, or the line of a refusal, or that of a file that is not of its form
 pub data Verdict : Type 0 where
@@ -15,11 +16,19 @@ SplitAnswers file (gives answer) = Gives file answer
 SplitAnswers file (refuses text) = Refuses file text
 SplitAnswers file (unreadable text) = ⊥
 
+abbrev pub ShowAnswers : List ℕ → Verdict → Type 0
+ShowAnswers file (gives answer) = Shows file answer
+ShowAnswers file (refuses text) = DoesNotShow file text
+ShowAnswers file (unreadable text) = ⊥
+
 -- the verdict of a command over its files, at a moment
 abbrev pub Answers : Command → List (List ℕ) → ℕ → Verdict → Type 0
 Answers (split token) [] now verdict = ⊥
 Answers (split token) (file ∷ []) now verdict = SplitAnswers file verdict
 Answers (split token) (file ∷ more ∷ files) now verdict = ⊥
+Answers (show token) [] now verdict = ⊥
+Answers (show token) (file ∷ []) now verdict = ShowAnswers file verdict
+Answers (show token) (file ∷ more ∷ files) now verdict = ⊥
 
 -- each file is what a fetch answers, where the cabinet tells it
 abbrev pub AreFetched : (List ℕ → Option (List ℕ)) → Command → List (List ℕ) → Type 0

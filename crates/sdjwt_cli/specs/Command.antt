@@ -5,12 +5,13 @@ use Rattle.compact_form.specs.declared.limits.TheConstants.{FILE_MAX}
 -- a command, with the names of its files
 pub data Command : Type 0 where
   split : (token : List ℕ) → Command
+  show : (token : List ℕ) → Command
 
 -- the command that the words behind the program's name are
 abbrev pub command_of : List (List ℕ) → Option Command
 command_of [] = None
 command_of (word ∷ []) = None
-command_of (word ∷ token ∷ []) = if bytes_eq word (codes "split") then Some (split token) else None
+command_of (word ∷ token ∷ []) = if bytes_eq word (codes "split") then Some (split token) else if bytes_eq word (codes "show") then Some (show token) else None
 command_of (word ∷ token ∷ more ∷ rest) = None
 
 -- the name of a file, and the most bytes that are read of it
@@ -21,3 +22,4 @@ pub record Wanted : Type 0 where
 -- the files of a command, in the order in which they are read: one byte more than the limit tells a file that is too long
 abbrev pub wanted_by : Command → List Wanted
 wanted_by (split token) = record { name = token; most = FILE_MAX + 1 } ∷ []
+wanted_by (show token) = record { name = token; most = FILE_MAX + 1 } ∷ []

@@ -5,3 +5,4 @@ pub mod Answers
 pub mod Run
 pub mod Names
 pub mod Stops
+pub mod Show

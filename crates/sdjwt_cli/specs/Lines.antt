@@ -11,7 +11,7 @@ line text = text ++ (10 ∷ [])
 
 -- the printed name of a condition
 abbrev pub name_of : ℕ → List ℕ
-name_of number = if number == TOO_LONG then codes "tooLong" else if number == FORM then codes "form" else codes "tooMuch"
+name_of number = if number == TOO_LONG then codes "tooLong" else if number == FORM then codes "form" else if number == 5 then codes "headerUnreadable" else if number == 11 then codes "payloadUnreadable" else if number == 12 then codes "hashUnknown" else if number == 13 then codes "disclosureUnreadable" else codes "tooMuch"
 
 abbrev pub place_text : Place → List ℕ
 place_text Nowhere = []

@@ -1,7 +1,8 @@
 -- For private functions: a command by its names, as the code has it.
-use Rattle.sdjwt_cli.specs.Command.{Command, split}
+use Rattle.sdjwt_cli.specs.Command.{Command, split, show}
 use Rattle.sdjwt_cli.specs.declared.command.Command.{Command as Named}
-use Rattle.sdjwt_cli.specs.declared.command.Command.TheVariants.{Split}
+use Rattle.sdjwt_cli.specs.declared.command.Command.TheVariants.{Split, Show}
 
 abbrev pub meant_by : Named → Command
 meant_by (Split token) = split token.now
+meant_by (Show token) = show token.now

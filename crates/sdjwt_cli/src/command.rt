@@ -5,6 +5,7 @@ ghost use Rattle.std.specs.Option.{option_map};
 #[derive(Clone, Copy, Debug)]
 pub(crate) enum Command<'a> {
     Split { token: &'a str },
+    Show { token: &'a str },
 }
 
 impl<'a> Command<'a> {
@@ -17,6 +18,9 @@ impl<'a> Command<'a> {
     {
         match words {
             [command, token] if command.as_str() == "split" => Some(Command::Split {
+                token: token.as_str(),
+            }),
+            [command, token] if command.as_str() == "show" => Some(Command::Show {
                 token: token.as_str(),
             }),
             _ => None,

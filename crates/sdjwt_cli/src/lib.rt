@@ -7,6 +7,7 @@
 mod command;
 pub mod laws;
 mod lines;
+mod show;
 mod split;
 mod stop;
 #[cfg(test)]

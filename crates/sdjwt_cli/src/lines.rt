@@ -13,6 +13,10 @@ fn name(number: u8) -> &'static str
     match number {
         TOO_LONG => "tooLong",
         FORM => "form",
+        5 => "headerUnreadable",
+        11 => "payloadUnreadable",
+        12 => "hashUnknown",
+        13 => "disclosureUnreadable",
         _ => "tooMuch",
     }
 }

@@ -44,7 +44,7 @@ fn push_disclosures(text: &mut String, disclosures: Pieces<'_>) -> Result<(), No
     Ok(())
 }
 
-fn push_binding(text: &mut String, binding: Option<JwtView<'_>>) -> Result<(), NoMemory>
+pub(crate) fn push_binding(text: &mut String, binding: Option<JwtView<'_>>) -> Result<(), NoMemory>
     ensures { OnOk result (string_bytes text.new ≡ string_bytes text.old ++ binding_line (option_map jwt_of binding.entry)) }
 {
     if let Some(jwt) = binding {

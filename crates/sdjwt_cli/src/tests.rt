@@ -43,6 +43,13 @@ fn split(alloc: Global, text: &[u8], room: usize) -> Result<Ran, Fail> {
     over(alloc, &["split", "t"], cabinet, room)
 }
 
+// `show t` over a cabinet that holds this text under `t`.
+fn show(alloc: Global, text: &[u8]) -> Result<Ran, Fail> {
+    let mut cabinet = MemCabinet::new(alloc);
+    cabinet.add("t", text)?;
+    over(alloc, &["show", "t"], cabinet, 1000)
+}
+
 #[test]
 fn tokens_are_split(rt: HostRuntime) -> Result<(), Fail> {
     for (text, out) in [
@@ -247,6 +254,64 @@ fn a_file_is_fetched_once_and_the_answer_is_one_piece(rt: HostRuntime) -> Result
             "{text}"
         );
         assert_eq!(rt; cabinet.most, 2_097_153);
+    }
+    Ok(())
+}
+
+#[test]
+fn tokens_are_shown(rt: HostRuntime) -> Result<(), Fail> {
+    for (text, out) in [
+        (
+            "eyJhbGciOiJIUzI1NiJ9.eyJuYXRpb25hbGl0aWVzIjpbeyIuLi4iOiJ3MEk4RUtjZEN0VVBrR0NOVXJmd1ZwMnhFZ05qdG9JRGxPeGM5LVBsT2hzIn1dfQ.AA~WyJsa2x4RjVqTVlsR1RQVW92TU5JdkNBIiwgIkZSIl0~",
+            "header {\"alg\":\"HS256\"}\npayload {\"nationalities\":[{\"...\":\"w0I8EKcdCtUPkGCNUrfwVp2xEgNjtoIDlOxc9-PlOhs\"}]}\ndisclosure 0 w0I8EKcdCtUPkGCNUrfwVp2xEgNjtoIDlOxc9-PlOhs element \"FR\"\n",
+        ),
+        (
+            "eyJjcml0IjpbIngiXSwiYWxnIjoiSFMyNTYifQ.eyJfc2RfYWxnIjoic2hhLTI1NiIsIl9zZCI6WyJqc3U5eVZ1bHdRUWxoRmxNXzNKbHpNYVNGemdsaFFHMERwZmF5UXdMVUs0Il19.AA~WyIyR0xDNDJzS1F2ZUNmR2ZyeU5STjl3IiwgImdpdmVuX25hbWUiLCAiSm9obiJd~e.f.g",
+            "header {\"alg\":\"HS256\",\"crit\":[\"x\"]}\npayload {\"_sd\":[\"jsu9yVulwQQlhFlM_3JlzMaSFzglhQG0DpfayQwLUK4\"],\"_sd_alg\":\"sha-256\"}\ndisclosure 0 jsu9yVulwQQlhFlM_3JlzMaSFzglhQG0DpfayQwLUK4 member \"given_name\" \"John\"\nbinding e.f.g\n",
+        ),
+    ] {
+        let ran = show(rt.alloc(), text.as_bytes())?;
+        assert_eq!(rt; ran.status, Status::Done, "{text}");
+        assert_eq!(rt; ran.out.written(), out.as_bytes(), "{text}");
+    }
+    Ok(())
+}
+
+#[test]
+fn tokens_that_cannot_be_shown_are_refused(rt: HostRuntime) -> Result<(), Fail> {
+    for (text, line) in [
+        ("a.b", "refused 2 form at 3\n"),
+        ("W10.e30.AA~", "refused 5 headerUnreadable\n"),
+        ("eyJ0eXAiOiJhIn0.e30.AA~", "refused 5 headerUnreadable\n"),
+        (
+            "eyJhbGciOiJIUzI1NiJ9.W10.AA~",
+            "refused 11 payloadUnreadable\n",
+        ),
+        (
+            "eyJhbGciOiJIUzI1NiJ9.eyJhIjoxLjV9.AA~",
+            "refused 11 payloadUnreadable\n",
+        ),
+        (
+            "eyJhbGciOiJIUzI1NiJ9.eyJfc2RfYWxnIjoibWQ1In0.AA~",
+            "refused 12 hashUnknown\n",
+        ),
+        (
+            "eyJhbGciOiJIUzI1NiJ9.eyJfc2RfYWxnIjoxfQ.AA~AB~",
+            "refused 12 hashUnknown\n",
+        ),
+        (
+            "eyJhbGciOiJIUzI1NiJ9.e30.AA~WyJzIl0~",
+            "refused 13 disclosureUnreadable at 0\n",
+        ),
+        (
+            "eyJhbGciOiJIUzI1NiJ9.e30.AA~WyJsa2x4RjVqTVlsR1RQVW92TU5JdkNBIiwgIkZSIl0~AB~AB~",
+            "refused 13 disclosureUnreadable at 1\n",
+        ),
+    ] {
+        let ran = show(rt.alloc(), text.as_bytes())?;
+        assert_eq!(rt; ran.status, Status::Refused, "{text}");
+        assert_eq!(rt; ran.err.written(), line.as_bytes(), "{text}");
+        assert!(rt; ran.out.written().is_empty());
     }
     Ok(())
 }

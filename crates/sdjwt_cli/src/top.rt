@@ -1,6 +1,6 @@
 ghost use Rattle.std.specs.Prelude.{◌≡◌, ◌≤◌, ℕ, List, map, IfOk, IfErr, string_bytes};
 ghost use Rattle.sd_outside.specs.Causes.{Rose};
-ghost use Rattle.sdjwt_cli.specs.Command.{split as split_of};
+ghost use Rattle.sdjwt_cli.specs.Command.{split as split_of, show as show_of};
 ghost use Rattle.sdjwt_cli.specs.Names.{meant_by};
 ghost use Rattle.sdjwt_cli.specs.Answers.{gives, refuses, IsAnswered};
 ghost use Rattle.sdjwt_cli.specs.Stops.{OnRefused, OnUnread};
@@ -8,6 +8,7 @@ ghost use Rattle.sdjwt_cli.specs.Run.{outside, stream, Misses, Tells, Ends, Keep
 
 use crate::command::Command;
 use crate::lines::unread_line;
+use crate::show::show;
 use crate::split::split;
 use crate::stop::Stop;
 use compact_form::FILE_MAX;
@@ -30,6 +31,22 @@ fn answer_split<C: Cabinet>(alloc: Global, cab: &mut C, token: &str) -> Result<S
     }
 }
 
+// The answer of `show` to the file under this name, at any moment.
+fn answer_show<C: Cabinet>(alloc: Global, cab: &mut C, token: &str) -> Result<String, Stop>
+    ensures gives { IfOk result (λ text. (now : ℕ) → IsAnswered (C.holds cab.old) (show_of token.now) now (gives (string_bytes text))) }
+    ensures refuses { IfErr result (λ stop. OnRefused stop (λ text. (now : ℕ) → IsAnswered (C.holds cab.old) (show_of token.now) now (refuses text))) }
+    ensures misses { IfErr result (λ stop. OnUnread stop (λ word. Misses (show_of token.now) word (C.missed cab.new))) }
+    ensures rose { IfErr result (λ stop. OnUnread stop (λ word. Rose (C.faults cab.old) (C.faults cab.new))) }
+    ensures held { (name : List ℕ) → C.holds cab.new name ≡ C.holds cab.old name }
+    ensures later { C.faults cab.old ≤ C.faults cab.new }
+{
+    match cab.fetch(alloc, token, FILE_MAX + 1) {
+        Ok(file) => show(alloc, file.bytes()),
+        Err(FetchError::Memory) => Err(Stop::Memory),
+        Err(FetchError::Failed) => Err(Stop::Unread(0)),
+    }
+}
+
 // The answer of a command, over the files that the cabinet has under its names.
 fn answer<C: Cabinet>(
     alloc: Global,
@@ -46,6 +63,7 @@ fn answer<C: Cabinet>(
 {
     match command {
         Command::Split { token } => answer_split(alloc, cab, token),
+        Command::Show { token } => answer_show(alloc, cab, token),
     }
 }
 

@@ -1,0 +1,159 @@
+-- The command `show` has one verdict over a file.
+use Rattle.std.proofs.Common.{◌≡◌, ℕ, List, [], ◌∷◌, ◌++◌, length, Bool, true, false, Option, refl, ap, ◌∙◌, sym, subst}
+use Rattle.std.specs.List.{AllZip}
+use Rattle.claim_tree.specs.Tree.{Text, Tree, no_members}
+use Rattle.jws_part.specs.Part.{IsBody, IsNoObject}
+use Rattle.jws_part.specs.Header.{IsUnreadable}
+use Rattle.jws_part.proofs.Parts as bodies
+use Rattle.disclosure.proofs.Verdicts as readings
+use Rattle.compact_form.specs.declared.fault.Fault.{Fault}
+use Rattle.compact_form.specs.declared.fault.Place.TheVariants.{At}
+use Rattle.compact_form.specs.declared.parts.JwtParts.{JwtParts}
+use Rattle.compact_form.specs.declared.parts.Parts.{Parts}
+use Rattle.compact_form.specs.Token.{Reads}
+use Rattle.compact_form.proofs.Verdicts.{not_both, one_fault, one_value}
+use Rattle.sdjwt_cli.specs.Lines.{refusal}
+use Rattle.sdjwt_cli.specs.Show.{has_known_hash, Shown, IsShown, IsUnread, show_lines, IsHead, IsPayload, Shows, IsUnreadAt, IsShowRefused, form, header, payload, hash, disclosure, DoesNotShow}
+
+abbrev shown_of : Text → Option Text → Tree → Shown
+shown_of digest name value = record { digest = digest; name = name; value = value }
+
+one_reading : (disclosed : Text) (s t : Shown) → IsShown disclosed s → IsShown disclosed t → s ≡ t
+one_reading disclosed s t g h =
+    let same = readings.one_disclosure disclosed g.salt h.salt s.name t.name s.value t.value g.is h.is in
+    let digests : s.digest ≡ t.digest = g.digest_is ∙ sym h.digest_is in
+    let names : s.name ≡ t.name = same.1 in
+    let values : s.value ≡ t.value = same.2 in
+    ap (λ (x : Text). shown_of x s.name s.value) digests ∙ (ap (λ (x : Option Text). shown_of t.digest x s.value) names ∙ ap (λ (x : Tree). shown_of t.digest t.name x) values)
+
+all_readings : (ds : List Text) (ss ts : List Shown) → AllZip IsShown ds ss → AllZip IsShown ds ts → ss ≡ ts
+all_readings [] [] [] g h = refl
+all_readings [] [] (t ∷ ts) g h = absurd h
+all_readings [] (s ∷ ss) ts g h = absurd g
+all_readings (d ∷ ds) [] ts g h = absurd g
+all_readings (d ∷ ds) (s ∷ ss) [] g h = absurd h
+all_readings (d ∷ ds) (s ∷ ss) (t ∷ ts) g h =
+    let first : s ≡ t = one_reading d s t g.0 h.0 in
+    let others : ss ≡ ts = all_readings ds ss ts g.1 h.1 in
+    cc
+
+-- a disclosure that is read is not one that is not
+read_unread : (disclosed : Text) (s : Shown) → IsShown disclosed s → IsUnread disclosed → ⊥
+read_unread disclosed s g u = u.cause (readings.not_both disclosed g.salt s.name s.value u.error g.is u.refused)
+
+all_read : (front : List Text) (d : Text) (rest : List Text) (ss : List Shown) → AllZip IsShown (front ++ d ∷ rest) ss → IsUnread d → ⊥
+all_read [] d rest [] g u = g
+all_read [] d rest (s ∷ ss) g u = read_unread d s g.0 u
+all_read (x ∷ front) d rest [] g u = g
+all_read (x ∷ front) d rest (s ∷ ss) g u = all_read front d rest ss g.1 u
+
+-- of two fronts that are read, each before a text that is not, neither is longer
+one_front : (xs ys : List Text) (d e : Text) (ds es : List Text) (ss ts : List Shown) → xs ++ d ∷ ds ≡ ys ++ e ∷ es
+    → AllZip IsShown xs ss → AllZip IsShown ys ts → IsUnread d → IsUnread e → xs ≡ ys
+one_front [] [] d e ds es ss ts same g h u v = refl
+one_front [] (y ∷ ys) d e ds es ss [] same g h u v = absurd h
+one_front [] (y ∷ ys) d e ds es ss (t ∷ ts) same g h u v =
+    let lists : d ∷ ds ≡ y ∷ (ys ++ e ∷ es) = same in
+    let first : d ≡ y = cc lists in
+    absurd (read_unread y t h.0 (subst IsUnread first u))
+one_front (x ∷ xs) [] d e ds es [] ts same g h u v = absurd g
+one_front (x ∷ xs) [] d e ds es (s ∷ ss) ts same g h u v =
+    let lists : x ∷ (xs ++ d ∷ ds) ≡ e ∷ es = same in
+    let first : e ≡ x = cc lists in
+    absurd (read_unread x s g.0 (subst IsUnread first v))
+one_front (x ∷ xs) (y ∷ ys) d e ds es [] ts same g h u v = absurd g
+one_front (x ∷ xs) (y ∷ ys) d e ds es (s ∷ ss) [] same g h u v = absurd h
+one_front (x ∷ xs) (y ∷ ys) d e ds es (s ∷ ss) (t ∷ ts) same g h u v =
+    let lists : x ∷ (xs ++ d ∷ ds) ≡ y ∷ (ys ++ e ∷ es) = same in
+    let first : x ≡ y = cc lists in
+    let tails : xs ++ d ∷ ds ≡ ys ++ e ∷ es = cc lists in
+    let others : xs ≡ ys = one_front xs ys d e ds es ss ts tails g.1 h.1 u v in
+    cc
+
+abbrev at_front : List Text → Fault
+at_front front = record { number = 13; place = At (length front) }
+
+one_unread : (ds : List Text) (f g : Fault) → IsUnreadAt ds f → IsUnreadAt ds g → f ≡ g
+one_unread ds f g u v =
+    let fronts : u.front ≡ v.front = one_front u.front v.front u.text v.text u.rest v.rest u.shown v.shown (sym u.stand ∙ v.stand) u.read v.read u.unread v.unread in
+    u.fault_is ∙ (ap at_front fronts ∙ sym v.fault_is)
+
+-- over the parts that one file has
+headless : (file : List ℕ) (p q : Parts) (head : Tree) → Reads file p → Reads file q → IsUnreadable p.signed.protected no_members → IsHead q.signed.protected head → ⊥
+headless file p q head r s u h = h.readable (subst (λ (x : Parts). IsUnreadable x.signed.protected no_members) (one_value file p q r s) u)
+
+bodiless : (file : List ℕ) (p q : Parts) (body : Tree) → Reads file p → Reads file q → IsNoObject p.signed.payload → IsBody q.signed.payload body → ⊥
+bodiless file p q body r s n b = bodies.not_both q.signed.payload body b (subst (λ (x : Parts). IsNoObject x.signed.payload) (one_value file p q r s) n)
+
+clash : (b : Bool) → b ≡ true → b ≡ false → ⊥
+clash b h k = cc
+
+one_payload : (file : List ℕ) (p q : Parts) (b c : Tree) → Reads file p → Reads file q → IsBody p.signed.payload b → IsBody q.signed.payload c → b ≡ c
+one_payload file p q b c r s g h = bodies.one_body q.signed.payload b c (subst (λ (x : Parts). IsBody x.signed.payload b) (one_value file p q r s) g) h
+
+hashless : (file : List ℕ) (p q : Parts) (b c : Tree) → Reads file p → Reads file q → IsBody p.signed.payload b → has_known_hash b ≡ false → IsPayload q.signed.payload c → ⊥
+hashless file p q b c r s g none h = clash (has_known_hash c) h.hash (subst (λ (x : Tree). has_known_hash x ≡ false) (one_payload file p q b c r s g h.body) none)
+
+same_unread : (file : List ℕ) (p q : Parts) (f g : Fault) → Reads file p → Reads file q → IsUnreadAt p.disclosures f → IsUnreadAt q.disclosures g → f ≡ g
+same_unread file p q f g r s u v = one_unread q.disclosures f g (subst (λ (x : Parts). IsUnreadAt x.disclosures f) (one_value file p q r s) u) v
+
+same_lines : (h k p q : Tree) (ss ts : List Shown) (b c : Option JwtParts) → h ≡ k → p ≡ q → ss ≡ ts → b ≡ c → show_lines h p ss b ≡ show_lines k q ts c
+same_lines h k p q ss ts b c heads payloads all bindings =
+    ap (λ (x : Tree). show_lines x p ss b) heads
+    ∙ (ap (λ (x : Tree). show_lines k x ss b) payloads
+    ∙ (ap (λ (x : List Shown). show_lines k q x b) all
+    ∙ ap (λ (x : Option JwtParts). show_lines k q ts x) bindings))
+
+pub one_shown : (file a b : List ℕ) → Shows file a → Shows file b → a ≡ b
+one_shown file a b g h =
+    let same : g.parts ≡ h.parts = one_value file g.parts h.parts g.reads h.reads in
+    let head : IsBody h.parts.signed.protected g.header = subst (λ (x : Parts). IsBody x.signed.protected g.header) same g.head.body in
+    let heads : g.header ≡ h.header = bodies.one_body h.parts.signed.protected g.header h.header head h.head.body in
+    let payloads : g.payload ≡ h.payload = one_payload file g.parts h.parts g.payload h.payload g.reads h.reads g.body.body h.body.body in
+    let read : AllZip IsShown h.parts.disclosures g.shown = subst (λ (x : Parts). AllZip IsShown x.disclosures g.shown) same g.disclosures in
+    let all : g.shown ≡ h.shown = all_readings h.parts.disclosures g.shown h.shown read h.disclosures in
+    let bindings : g.parts.binding ≡ h.parts.binding = ap (λ (x : Parts). x.binding) same in
+    g.lines ∙ (same_lines g.header h.header g.payload h.payload g.shown h.shown g.parts.binding h.parts.binding heads payloads all bindings ∙ sym h.lines)
+
+no_refusal : (file a : List ℕ) (f : Fault) → Shows file a → IsShowRefused file f → ⊥
+no_refusal file a f g (form r) = not_both file g.parts f g.reads r
+no_refusal file a f g (header p r u e) = headless file p g.parts g.header r g.reads u g.head
+no_refusal file a f g (payload p h r i n e) = bodiless file p g.parts g.payload r g.reads n g.body.body
+no_refusal file a f g (hash p h b r i j n e) = hashless file p g.parts b g.payload r g.reads j n g.body
+no_refusal file a f g (disclosure p h b r i j u) =
+    let same : g.parts ≡ p = one_value file g.parts p g.reads r in
+    let read : AllZip IsShown p.disclosures g.shown = subst (λ (x : Parts). AllZip IsShown x.disclosures g.shown) same g.disclosures in
+    all_read u.front u.text u.rest g.shown (subst (λ (ds : List Text). AllZip IsShown ds g.shown) u.stand read) u.unread
+
+pub shown_not_refused : (file a t : List ℕ) → Shows file a → DoesNotShow file t → ⊥
+shown_not_refused file a t g h = no_refusal file a h.fault g h.refused
+
+same_fault : (file : List ℕ) (f g : Fault) → IsShowRefused file f → IsShowRefused file g → f ≡ g
+same_fault file f g (form r) (form s) = one_fault file f g r s
+same_fault file f g (form r) (header q s v d) = absurd (not_both file q f s r)
+same_fault file f g (form r) (payload q k s l m d) = absurd (not_both file q f s r)
+same_fault file f g (form r) (hash q k c s l m o d) = absurd (not_both file q f s r)
+same_fault file f g (form r) (disclosure q k c s l m v) = absurd (not_both file q f s r)
+same_fault file f g (header p r u e) (form s) = absurd (not_both file p g r s)
+same_fault file f g (header p r u e) (header q s v d) = e ∙ sym d
+same_fault file f g (header p r u e) (payload q k s l m d) = absurd (headless file p q k r s u l)
+same_fault file f g (header p r u e) (hash q k c s l m o d) = absurd (headless file p q k r s u l)
+same_fault file f g (header p r u e) (disclosure q k c s l m v) = absurd (headless file p q k r s u l)
+same_fault file f g (payload p h r i n e) (form s) = absurd (not_both file p g r s)
+same_fault file f g (payload p h r i n e) (header q s v d) = absurd (headless file q p h s r v i)
+same_fault file f g (payload p h r i n e) (payload q k s l m d) = e ∙ sym d
+same_fault file f g (payload p h r i n e) (hash q k c s l m o d) = absurd (bodiless file p q c r s n m)
+same_fault file f g (payload p h r i n e) (disclosure q k c s l m v) = absurd (bodiless file p q c r s n m.body)
+same_fault file f g (hash p h b r i j n e) (form s) = absurd (not_both file p g r s)
+same_fault file f g (hash p h b r i j n e) (header q s v d) = absurd (headless file q p h s r v i)
+same_fault file f g (hash p h b r i j n e) (payload q k s l m d) = absurd (bodiless file q p b s r m j)
+same_fault file f g (hash p h b r i j n e) (hash q k c s l m o d) = e ∙ sym d
+same_fault file f g (hash p h b r i j n e) (disclosure q k c s l m v) = absurd (hashless file p q b c r s j n m)
+same_fault file f g (disclosure p h b r i j u) (form s) = absurd (not_both file p g r s)
+same_fault file f g (disclosure p h b r i j u) (header q s v d) = absurd (headless file q p h s r v i)
+same_fault file f g (disclosure p h b r i j u) (payload q k s l m d) = absurd (bodiless file q p b s r m j.body)
+same_fault file f g (disclosure p h b r i j u) (hash q k c s l m o d) = absurd (hashless file q p c b s r m o j)
+same_fault file f g (disclosure p h b r i j u) (disclosure q k c s l m v) = same_unread file p q f g r s u v
+
+pub one_refusal : (file s t : List ℕ) → DoesNotShow file s → DoesNotShow file t → s ≡ t
+one_refusal file s t g h = g.line_is ∙ (ap refusal (same_fault file g.fault h.fault g.refused h.refused) ∙ sym h.line_is)

@@ -1,0 +1,32 @@
+-- The lines of the disclosures, one by one.
+use Rattle.std.proofs.Common.{◌≡◌, ℕ, suc, ◌+◌, List, [], ◌∷◌, ◌++◌, length, refl, sym, ap, ◌∙◌, arith, append_assoc, append-nil}
+use Rattle.std.specs.List.{AllZip}
+use Rattle.claim_tree.specs.Tree.{Text}
+use Rattle.sdjwt_cli.specs.Show.{Shown, IsShown, shown_line, shown_lines, AddsLine}
+
+pub zip_more : (xs : List Text) (ss : List Shown) (x : Text) (s : Shown) → AllZip IsShown xs ss → IsShown x s → AllZip IsShown (xs ++ x ∷ []) (ss ++ s ∷ [])
+zip_more [] [] x s all is = (is, tt)
+zip_more [] (t ∷ ss) x s all is = absurd all
+zip_more (y ∷ xs) [] x s all is = absurd all
+zip_more (y ∷ xs) (t ∷ ss) x s all is = (all.0, zip_more xs ss x s all.1 is)
+
+zip_length : (xs : List Text) (ss : List Shown) → AllZip IsShown xs ss → length xs ≡ length ss
+zip_length [] [] all = refl
+zip_length [] (t ∷ ss) all = absurd all
+zip_length (y ∷ xs) [] all = absurd all
+zip_length (y ∷ xs) (t ∷ ss) all = ap suc (zip_length xs ss all.1)
+
+lines_more : (i : ℕ) (ss : List Shown) (s : Shown) → shown_lines i (ss ++ s ∷ []) ≡ shown_lines i ss ++ shown_line (i + length ss) s
+lines_more i [] s = let same : i + 0 ≡ i = omega arith in rw same (append-nil (shown_line i s))
+lines_more i (t ∷ ss) s =
+    let rest = lines_more (i + 1) ss s in
+    let same : i + 1 + length ss ≡ i + suc (length ss) = omega arith in
+    ap (λ w. shown_line i t ++ w) (rest ∙ ap (λ n. shown_lines (i + 1) ss ++ shown_line n s) same) ∙ sym (append_assoc (shown_line i t) _ _)
+
+-- one line more, at its number
+pub line_more : (old text new : Text) (xs : List Text) (ss : List Shown) (x : Text) (i : ℕ) (adds : AddsLine i x text new) → AllZip IsShown xs ss → i ≡ length xs → text ≡ old ++ shown_lines 0 ss → new ≡ old ++ shown_lines 0 (ss ++ adds.shown ∷ [])
+line_more old text new xs ss x i adds all at before =
+    let same : i ≡ length ss = at ∙ zip_length xs ss all in
+    let place : i ≡ 0 + length ss = omega (arith, same) in
+    let more : shown_lines 0 (ss ++ adds.shown ∷ []) ≡ shown_lines 0 ss ++ shown_line i adds.shown = lines_more 0 ss adds.shown ∙ ap (λ n. shown_lines 0 ss ++ shown_line n adds.shown) (sym place) in
+    adds.more ∙ (ap (λ t. t ++ shown_line i adds.shown) before ∙ (append_assoc old (shown_lines 0 ss) (shown_line i adds.shown) ∙ ap (λ t. old ++ t) (sym more)))

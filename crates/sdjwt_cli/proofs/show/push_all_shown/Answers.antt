@@ -1,0 +1,31 @@
+use Rattle.std.proofs.Common.{[], ◌∷◌, ◌++◌, length-append, string_bytes, append_assoc, append-nil, sym, ap, ◌∙◌, arith, rules}
+use Rattle.sdjwt_cli.proofs.Shown.{zip_more, line_more}
+use Rattle.sdjwt_cli.proofs.show.push_all_shown.Goals as goal
+
+pub loop-i-init : goal.loop-i-init
+loop-i-init c = record {
+  ready = search rules;
+  finite = search rules;
+  done = [];
+  shown = [];
+  are = tt;
+  stand = search rules;
+  counted = search rules;
+  so_far = sym (append-nil (string_bytes c.args.text.now));
+}
+
+pub loop-i-preserved : goal.loop-i-preserved
+loop-i-preserved c =
+    let l = c.loop-i.invariant in
+    let part = c.in-Some.part.now in
+    let adds = c.in-Ok.ensures.ok in
+    record {
+      ready = search rules;
+      finite = search rules;
+      done = l.done ++ part ∷ [];
+      shown = l.shown ++ adds.shown ∷ [];
+      are = zip_more l.done l.shown part adds.shown l.are adds.is;
+      stand = l.stand ∙ (ap (λ w. l.done ++ w) c.in-Some.ensures.steps.0 ∙ sym (append_assoc l.done (part ∷ []) c.next.new.self.iter));
+      counted = (let more = length-append l.done (part ∷ []) in omega (arith, more, l.counted, c.in-Some.ensures.steps.2));
+      so_far = line_more (string_bytes c.args.text.now) (string_bytes c.loop-i.text) (string_bytes c.push_shown.new.text) l.done l.shown part c.in-Some.i adds l.are (c.in-Some.ensures.steps.1 ∙ l.counted) l.so_far;
+    }

@@ -1,0 +1,129 @@
+-- The command `show`: what it prints of a token file, unchecked, and when it refuses one.
+use Rattle.std.specs.Prelude.{◌≡◌, ◌≢◌, ℕ, ◌+◌, length, List, [], ◌∷◌, ◌++◌, Bool, true, false, Option, None, Some, bytes_eq, codes}
+use Rattle.std.specs.Fmt.{decimal}
+use Rattle.std.specs.List.{AllZip}
+use Rattle.claim_tree.specs.Tree.{Text, Tree, leaf, text, no_members, get}
+use Rattle.claim_tree.specs.JsonText.{json_text}
+use Rattle.jws_part.specs.Part.{IsBody, IsNoObject}
+use Rattle.jws_part.specs.Header.{IsUnreadable}
+use Rattle.disclosure.specs.Digest.{digest_of}
+use Rattle.disclosure.specs.Disclosure.{IsDisclosure}
+use Rattle.disclosure.specs.Refusals as reasons
+use Rattle.disclosure.specs.declared.digests.HashAlg.{HashAlg}
+use Rattle.disclosure.specs.declared.errors.DisclosureError.{DisclosureError}
+use Rattle.compact_form.specs.declared.fault.Fault.{Fault}
+use Rattle.compact_form.specs.declared.fault.Place.TheVariants.{Nowhere, At}
+use Rattle.compact_form.specs.declared.parts.JwtParts.{JwtParts}
+use Rattle.compact_form.specs.declared.parts.Parts.{Parts}
+use Rattle.compact_form.specs.Token.{IsRefused, Reads}
+use Rattle.sdjwt_cli.specs.declared.show.Unshown.{Unshown}
+use Rattle.sdjwt_cli.specs.declared.show.Unshown.TheVariants.{Memory, Fails}
+use Rattle.sdjwt_cli.specs.Lines.{line, refusal}
+use Rattle.sdjwt_cli.specs.Split.{binding_line}
+
+-- `_sd_alg` is not there, or it is the text `sha-256` (RFC 9901 section 4.1.1)
+abbrev pub is_hash_name : Option Tree → Bool
+is_hash_name None = true
+is_hash_name (Some (leaf (text name))) = bytes_eq name (codes "sha-256")
+is_hash_name (Some t) = false
+
+abbrev pub has_known_hash : Tree → Bool
+has_known_hash payload = is_hash_name (get payload (codes "_sd_alg"))
+
+-- what is printed of a disclosure
+pub record Shown : Type 0 where
+  pub digest : Text
+  pub name : Option Text
+  pub value : Tree
+
+pub record IsShown (disclosure : Text) (shown : Shown) : Type 0 where
+  pub salt : Tree
+  pub is : IsDisclosure disclosure salt shown.name shown.value
+  pub digest_is : shown.digest ≡ digest_of HashAlg.Sha256 disclosure
+
+-- the text is refused, for another cause than want of memory
+pub record IsUnread (disclosure : Text) : Type 0 where
+  pub error : DisclosureError
+  pub refused : reasons.IsRefused disclosure error
+  pub cause : error ≢ DisclosureError.Memory
+
+-- the name of a member as JSON, or that it is an element
+abbrev pub kind_text : Option Text → Text
+kind_text None = codes " element "
+kind_text (Some name) = codes " member " ++ (json_text (leaf (text name)) ++ codes " ")
+
+abbrev pub shown_line : ℕ → Shown → Text
+shown_line i shown = line (codes "disclosure " ++ (decimal i ++ (codes " " ++ (shown.digest ++ (kind_text shown.name ++ json_text shown.value)))))
+
+-- numbered from i
+abbrev pub shown_lines : ℕ → List Shown → Text
+shown_lines i [] = []
+shown_lines i (shown ∷ more) = shown_line i shown ++ shown_lines (i + 1) more
+
+abbrev pub show_lines : Tree → Tree → List Shown → Option JwtParts → Text
+show_lines header payload shown binding = line (codes "header " ++ json_text header) ++ (line (codes "payload " ++ json_text payload) ++ (shown_lines 0 shown ++ binding_line binding))
+
+-- the header is read: the text carries an object, and is not refused as unreadable
+pub record IsHead (protected : Text) (header : Tree) : Type 0 where
+  pub body : IsBody protected header
+  pub readable : IsUnreadable protected no_members → ⊥
+
+-- the payload is read, and its hash is known
+pub record IsPayload (payload : Text) (tree : Tree) : Type 0 where
+  pub body : IsBody payload tree
+  pub hash : has_known_hash tree ≡ true
+
+-- the file is read, and these are its lines
+pub record Shows (file answer : List ℕ) : Type 0 where
+  pub parts : Parts
+  pub reads : Reads file parts
+  pub header : Tree
+  pub head : IsHead parts.signed.protected header
+  pub payload : Tree
+  pub body : IsPayload parts.signed.payload payload
+  pub shown : List Shown
+  pub disclosures : AllZip IsShown parts.disclosures shown
+  pub lines : answer ≡ show_lines header payload shown parts.binding
+
+-- for private functions: a line, or all lines, put behind a text
+pub record AddsLine (i : ℕ) (disclosure : Text) (old new : Text) : Type 0 where
+  pub shown : Shown
+  pub is : IsShown disclosure shown
+  pub more : new ≡ old ++ shown_line i shown
+
+pub record AddsLines (disclosures : List Text) (old new : Text) : Type 0 where
+  pub shown : List Shown
+  pub are : AllZip IsShown disclosures shown
+  pub more : new ≡ old ++ shown_lines 0 shown
+
+-- the first disclosure that is not read
+pub record IsUnreadAt (disclosures : List Text) (fault : Fault) : Type 0 where
+  pub front : List Text
+  pub text : Text
+  pub rest : List Text
+  pub shown : List Shown
+  pub stand : disclosures ≡ front ++ text ∷ rest
+  pub read : AllZip IsShown front shown
+  pub unread : IsUnread text
+  pub fault_is : fault ≡ record { number = 13; place = At (length front) }
+
+abbrev pub OnFails : Unshown → (Fault → Type 0) → Type 0
+OnFails Memory P = Unit {0}
+OnFails (Fails fault) P = P fault
+
+abbrev pub fault_of : ℕ → Fault
+fault_of number = record { number = number; place = Nowhere }
+
+-- the lowest condition that fails: of the form, then of the header, of the payload, of its hash, and of the disclosures the first
+pub data IsShowRefused (file : List ℕ) (fault : Fault) : Type 0 where
+  form : IsRefused file fault → IsShowRefused file fault
+  header : (parts : Parts) → Reads file parts → IsUnreadable parts.signed.protected no_members → fault ≡ fault_of 5 → IsShowRefused file fault
+  payload : (parts : Parts) (head : Tree) → Reads file parts → IsHead parts.signed.protected head → IsNoObject parts.signed.payload → fault ≡ fault_of 11 → IsShowRefused file fault
+  hash : (parts : Parts) (head body : Tree) → Reads file parts → IsHead parts.signed.protected head → IsBody parts.signed.payload body → has_known_hash body ≡ false → fault ≡ fault_of 12 → IsShowRefused file fault
+  disclosure : (parts : Parts) (head body : Tree) → Reads file parts → IsHead parts.signed.protected head → IsPayload parts.signed.payload body → IsUnreadAt parts.disclosures fault → IsShowRefused file fault
+
+-- the file is refused, with this line
+pub record DoesNotShow (file text : List ℕ) : Type 0 where
+  pub fault : Fault
+  pub refused : IsShowRefused file fault
+  pub line_is : text ≡ refusal fault

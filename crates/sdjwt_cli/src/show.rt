@@ -1,0 +1,206 @@
+// The command `show`: the JSON of a token, unchecked.
+ghost use Rattle.std.specs.Prelude.{◌≡◌, ◌^◌, ◌<◌, ◌++◌, ℕ, length, List, IfOk, IfErr, OnOk, IsErrOf, codes, string_bytes};
+ghost use Rattle.std.specs.Fmt.{decimal};
+ghost use Rattle.std.specs.Option.{option_map};
+ghost use Rattle.claim_tree.specs.Tree.{IsRanged, depth as depth_of, no_members};
+ghost use Rattle.claim_tree.specs.JsonText.{json_text};
+ghost use Rattle.claim_tree.specs.View.{tree_of};
+ghost use Rattle.jws_part.specs.Part.{IsBody, IsNoObject};
+ghost use Rattle.jws_part.specs.Header.{IsUnreadable};
+ghost use Rattle.disclosure.specs.Refusals.{IsRefused};
+ghost use Rattle.compact_form.specs.Views.{jwt_of};
+ghost use Rattle.sdjwt_cli.specs.Lines.{line};
+ghost use Rattle.sdjwt_cli.specs.Show.{has_known_hash as has_known_hash_of, IsHead, IsShown, IsUnread, kind_text, AddsLine, AddsLines, IsUnreadAt, OnFails, Shows, IsShowRefused, DoesNotShow, fault_of};
+ghost use Rattle.compact_form.specs.Token.{Reads};
+ghost use Rattle.sdjwt_cli.specs.declared.show.Unshown.TheVariants.{Fails};
+ghost use Rattle.sdjwt_cli.specs.Stops.{OnRefused, OnUnread};
+
+use crate::lines::refusal_line;
+use crate::split::push_binding;
+use crate::stop::Stop;
+use claim_tree::{Tree, TreeMap, get, write};
+use compact_form::{Fault, JwtView, Pieces, Place, View, read_view};
+use disclosure::{Disclosure, DisclosureError, HashAlg, hash_named, read_disclosure};
+use jws_part::{BodyError, HeaderError, read_body, read_header};
+use sd_outside::{NoMemory, TextBox};
+use std::alloc::Global;
+
+// The protected header as a tree.
+fn read_head(alloc: Global, protected: &str) -> Result<Tree, BodyError>
+    ensures head { IfOk result (λ t. IsHead protected.now (tree_of t)) }
+    ensures ranged { IfOk result (λ t. IsRanged (tree_of t)) }
+    ensures unreadable { IsErrOf result BodyError.Unreadable → IsUnreadable protected.now no_members }
+{
+    let tree = read_body(alloc, protected)?;
+    match read_header(alloc, protected, &TreeMap::new(alloc)) {
+        Ok(_) => Ok(tree),
+        Err(HeaderError::Critical) => Ok(tree),
+        Err(HeaderError::Unreadable) => Err(BodyError::Unreadable),
+        Err(HeaderError::Memory) => Err(BodyError::Memory),
+    }
+}
+
+// Whether the payload asks for no hash, or for one that is known.
+fn has_known_hash(payload: &Tree) -> bool
+    ensures { result ≡ has_known_hash_of (tree_of payload.now) }
+{
+    match get(payload, "_sd_alg") {
+        None => true,
+        Some(Tree::Text(name)) => name.as_str() == "sha-256",
+        Some(_) => false,
+    }
+}
+
+// The word of a disclosure's kind, with blanks around it, and the name of a member.
+fn kind(alloc: Global, name: &Option<TextBox>) -> Result<String, NoMemory>
+    ensures { IfOk result (λ text. string_bytes text ≡ kind_text name.now) }
+{
+    match name {
+        None => Ok(String::from_str(alloc, " element ")?),
+        Some(name) => {
+            let name = Tree::Text(TextBox::make(alloc, name.as_str())?);
+            let json = write(alloc, &name)?;
+            let json = json.as_str();
+            Ok(format!(in alloc; " member {json} ")?)
+        }
+    }
+}
+
+fn push_line(
+    text: &mut String,
+    i: usize,
+    digest: &str,
+    kind: &str,
+    value: &str,
+) -> Result<(), NoMemory>
+    ensures { OnOk result (string_bytes text.new ≡ string_bytes text.old ++ line (codes "disclosure " ++ (decimal i ++ (codes " " ++ (digest.now ++ (kind.now ++ value.now)))))) }
+{
+    writeln!(text, "disclosure {i} {digest}{kind}{value}")?;
+    Ok(())
+}
+
+// The line of a disclosure.
+fn push_shown(alloc: Global, text: &mut String, i: usize, part: &str) -> Result<(), DisclosureError>
+    ensures ok { OnOk result (AddsLine i part.now (string_bytes text.old) (string_bytes text.new)) }
+    ensures refused { IfErr result (IsRefused part.now) }
+{
+    let disclosure = read_disclosure(alloc, part)?;
+    let digest = disclosure.digest(alloc, HashAlg::Sha256)?;
+    let kind = kind(alloc, &disclosure.name)?;
+    let value = write(alloc, &disclosure.value)?;
+    push_line(text, i, digest.as_str(), kind.as_str(), value.as_str())?;
+    Ok(())
+}
+
+// Why a token is not shown.
+#[derive(Clone, Copy, Debug)]
+pub(crate) enum Unshown {
+    Memory,
+    Fails(Fault),
+}
+
+impl From<NoMemory> for Unshown {
+    ghost use Rattle.sdjwt_cli.specs.declared.show.Unshown.TheVariants.{Memory};
+
+    ghost from_gives = { λ _ e. e ≡ Memory };
+
+    fn from(_: NoMemory) -> Self {
+        Unshown::Memory
+    }
+}
+
+// The lines of the disclosures, up to the first that is not read.
+fn push_all_shown(alloc: Global, text: &mut String, disclosures: Pieces<'_>) -> Result<(), Unshown>
+    requires { length disclosures < 2 ^ 64 }
+    ensures ok { OnOk result (AddsLines disclosures.entry (string_bytes text.old) (string_bytes text.new)) }
+    ensures unread { IfErr result (λ e. OnFails e (IsUnreadAt disclosures.entry)) }
+{
+    for (i, part) in disclosures.enumerate() {
+        match push_shown(alloc, text, i, part) {
+            Ok(()) => (),
+            Err(DisclosureError::Memory) => return Err(Unshown::Memory),
+            Err(_) => {
+                return Err(Unshown::Fails(Fault {
+                    number: 13,
+                    place: Place::At(i),
+                }));
+            }
+        }
+    }
+    Ok(())
+}
+
+fn fails(number: u8) -> Unshown
+    ensures { result ≡ Fails (fault_of number) }
+{
+    Unshown::Fails(Fault {
+        number,
+        place: Place::Nowhere,
+    })
+}
+
+fn push_json(text: &mut String, word: &str, json: &str) -> Result<(), NoMemory>
+    ensures { OnOk result (string_bytes text.new ≡ string_bytes text.old ++ line (word.now ++ json.now)) }
+{
+    writeln!(text, "{word}{json}")?;
+    Ok(())
+}
+
+// The lines of the header and of the payload. The text takes memory for `room` bytes at first.
+fn start(alloc: Global, head: &Tree, payload: &Tree, room: usize) -> Result<String, NoMemory>
+    requires head { IsRanged (tree_of head.now) }
+    requires payload { IsRanged (tree_of payload.now) }
+    ensures { IfOk result (λ text. string_bytes text ≡ line (codes "header " ++ json_text (tree_of head.now)) ++ line (codes "payload " ++ json_text (tree_of payload.now))) }
+{
+    let mut text = String::with_capacity(alloc, room)?;
+    push_json(&mut text, "header ", write(alloc, head)?.as_str())?;
+    push_json(&mut text, "payload ", write(alloc, payload)?.as_str())?;
+    Ok(text)
+}
+
+// The lines of a token that is read.
+fn show_view(alloc: Global, file: &[u8], view: &View<'_>) -> Result<String, Unshown>
+    requires { Reads file.now view.now }
+    ensures shows { IfOk result (λ text. Shows file.now (string_bytes text)) }
+    ensures fails { IfErr result (λ e. OnFails e (IsShowRefused file.now)) }
+{
+    let JwtView {
+        protected,
+        payload,
+        ..
+    } = view.signed();
+    let head = match read_head(alloc, protected) {
+        Ok(head) => head,
+        Err(BodyError::Unreadable) => return Err(fails(5)),
+        Err(BodyError::Memory) => return Err(Unshown::Memory),
+    };
+    let payload = match read_body(alloc, payload) {
+        Ok(payload) => payload,
+        Err(BodyError::Unreadable) => return Err(fails(11)),
+        Err(BodyError::Memory) => return Err(Unshown::Memory),
+    };
+    if !has_known_hash(&payload) {
+        return Err(fails(12));
+    }
+    let mut text = start(alloc, &head, &payload, file.len())?;
+    push_all_shown(alloc, &mut text, view.pieces())?;
+    push_binding(&mut text, view.binding())?;
+    Ok(text)
+}
+
+/// The answer to a token file.
+pub(crate) fn show(alloc: Global, file: &[u8]) -> Result<String, Stop>
+    ensures shows { IfOk result (λ text. Shows file.now (string_bytes text)) }
+    ensures refuses { IfErr result (λ stop. OnRefused stop (DoesNotShow file.now)) }
+    ensures read { IfErr result (λ stop. OnUnread stop (λ _. ⊥)) }
+{
+    let view = match read_view(file) {
+        Ok(view) => view,
+        Err(fault) => return Err(Stop::Refused(refusal_line(alloc, fault)?)),
+    };
+    match show_view(alloc, file, &view) {
+        Ok(text) => Ok(text),
+        Err(Unshown::Memory) => Err(Stop::Memory),
+        Err(Unshown::Fails(fault)) => Err(Stop::Refused(refusal_line(alloc, fault)?)),
+    }
+}
