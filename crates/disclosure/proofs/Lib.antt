@@ -1,3 +1,4 @@
 pub mod Arrays
 pub mod Verdicts
 mod Unread
+mod Examples

@@ -1,3 +1,4 @@
 pub mod Parts
 mod Names
 pub mod Headers
+mod Examples
