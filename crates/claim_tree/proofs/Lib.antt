@@ -1,3 +1,4 @@
+pub mod Lists
 pub mod Views
 pub mod MapPlaces
 pub mod Inner

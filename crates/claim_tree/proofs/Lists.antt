@@ -1,0 +1,124 @@
+-- Elements of lists and tests on them, by cases on the list.
+use Rattle.std.proofs.Common.{◌≡◌, ℕ, zero, suc, ◌+◌, ◌<◌, List, [], ◌∷◌, ◌++◌, map, length, Bool, true, false, ◌||◌, ◌&&◌, ◌⊎◌, inl, inr, ⊎_elim, Option, Some, refl, sym, ap, ◌∙◌, subst, arith}
+use Rattle.std.specs.Prelude.{bytes_eq}
+use Rattle.std.specs.List.{list_any}
+use Rattle.std.proofs.lemmas.Slice.Eq.{bytes_eq-Decides}
+use Rattle.claim_tree.specs.Tree.{Text}
+use Rattle.claim_tree.specs.Lists.{At, In, Repeats, Nowhere}
+
+pub bytes_same : (a b : Text) → bytes_eq a b ≡ true → a ≡ b
+bytes_same a b h = (bytes_eq-Decides a b).0 h
+
+pub bytes_refl : (a b : Text) → a ≡ b → bytes_eq a b ≡ true
+bytes_refl a b h = (bytes_eq-Decides a b).1 h
+
+pub or_left : (a b : Bool) → a ≡ true → (a || b) ≡ true
+or_left true b h = refl
+or_left false b h = cc
+
+pub or_right : (a b : Bool) → b ≡ true → (a || b) ≡ true
+or_right true b h = refl
+or_right false b h = h
+
+pub or_split : (a b : Bool) → (a || b) ≡ true → (a ≡ true) ⊎ (b ≡ true)
+or_split true b h = inl refl
+or_split false b h = inr h
+
+pub and_split : (a b : Bool) → (a && b) ≡ true → (a ≡ true) × (b ≡ true)
+and_split true b h = (refl, h)
+and_split false b h = cc
+
+pub and_join : (a b : Bool) → a ≡ true → b ≡ true → (a && b) ≡ true
+and_join true b h k = k
+and_join false b h k = cc
+
+pub true_unless_false : (a : Bool) → (a ≡ false → ⊥) → a ≡ true
+true_unless_false true h = refl
+true_unless_false false h = absurd (h refl)
+
+pub In-left : {X : Type 0} (x : X) (xs ys : List X) → In x xs → In x (xs ++ ys)
+In-left x (z ∷ xs) ys (inl e) = inl e
+In-left x (z ∷ xs) ys (inr h) = inr (In-left x xs ys h)
+In-left x [] ys h = elim h [ ]
+
+pub In-right : {X : Type 0} (x : X) (xs ys : List X) → In x ys → In x (xs ++ ys)
+In-right x [] ys h = h
+In-right x (z ∷ xs) ys h = inr (In-right x xs ys h)
+
+pub In-append : {X : Type 0} (x : X) (xs ys : List X) → In x (xs ++ ys) → In x xs ⊎ In x ys
+In-append x [] ys h = inr h
+In-append x (z ∷ xs) ys (inl e) = inl (inl e)
+In-append x (z ∷ xs) ys (inr h) = ⊎_elim (λ l. inl (inr l)) (λ r. inr r) (In-append x xs ys h)
+
+pub In-map : {X Y : Type 0} (f : X → Y) (x : X) (xs : List X) → In x xs → In (f x) (map f xs)
+In-map f x (z ∷ xs) (inl e) = inl (ap f e)
+In-map f x (z ∷ xs) (inr h) = inr (In-map f x xs h)
+In-map f x [] h = elim h [ ]
+
+pub In-of_map : {X Y : Type 0} (f : X → Y) (y : Y) (xs : List X) → In y (map f xs) → (x : X) × In x xs × (y ≡ f x)
+In-of_map f y (z ∷ xs) (inl e) = (z, inl refl, e)
+In-of_map f y (z ∷ xs) (inr h) = let w = In-of_map f y xs h in (w.0, inr w.1, w.2)
+In-of_map f y [] h = elim h [ ]
+
+pub At-In : {X : Type 0} (xs : List X) (i : ℕ) (x : X) → At xs i x → In x xs
+At-In (y ∷ ys) zero x h = inl h
+At-In (y ∷ ys) (suc i) x h = inr (At-In ys i x h)
+At-In [] i x h = elim h [ ]
+
+pub In-At : {X : Type 0} (xs : List X) (x : X) → In x xs → (i : ℕ) × At xs i x
+In-At (y ∷ ys) x (inl e) = (0, e)
+In-At (y ∷ ys) x (inr h) = let w = In-At ys x h in (suc w.0, w.1)
+In-At [] x h = elim h [ ]
+
+pub At-same : {X : Type 0} (xs : List X) (i : ℕ) (x y : X) → At xs i x → At xs i y → x ≡ y
+At-same (z ∷ zs) zero x y h k = h ∙ sym k
+At-same (z ∷ zs) (suc i) x y h k = At-same zs i x y h k
+At-same [] i x y h k = elim h [ ]
+
+pub At-map : {X Y : Type 0} (f : X → Y) (xs : List X) (i : ℕ) (x : X) → At xs i x → At (map f xs) i (f x)
+At-map f (z ∷ zs) zero x h = ap f h
+At-map f (z ∷ zs) (suc i) x h = At-map f zs i x h
+At-map f [] i x h = elim h [ ]
+
+pub At-below : {X : Type 0} (xs : List X) (i : ℕ) (x : X) → At xs i x → i < length xs
+At-below (z ∷ zs) zero x h = omega arith
+At-below (z ∷ zs) (suc i) x h = omega (arith, At-below zs i x h)
+At-below [] i x h = elim h [ ]
+
+pub At-get : {X : Type 0} (xs : List X) (i : ℕ) → i < length xs → (x : X) × At xs i x
+At-get (z ∷ zs) zero h = (z, refl)
+At-get (z ∷ zs) (suc i) h = At-get zs i (omega arith)
+At-get [] i h = absurd (omega arith)
+
+-- where no element equals an earlier one, a value stands at one place
+pub one_place : (ds : List Text) → Nowhere (Repeats ds) → (p q : ℕ) (d : Text) → At ds p d → At ds q d → p ≡ q
+one_place ds none p q d h k = go (compare_lt p q)
+  where
+    compare_lt : (a b : ℕ) → (a < b) ⊎ ((a ≡ b) ⊎ (b < a))
+    compare_lt a b = grind arith
+
+    go : (p < q) ⊎ ((p ≡ q) ⊎ (q < p)) → p ≡ q
+    go (inl l) = absurd (none q (d, k, p, l, h))
+    go (inr (inl e)) = e
+    go (inr (inr l)) = absurd (none p (d, h, q, l, k))
+
+-- so two elements with one image are the same
+pub same_by_image : {X : Type 0} (f : X → Text) (xs : List X) → Nowhere (Repeats (map f xs)) → (x y : X) → In x xs → In y xs → f x ≡ f y → x ≡ y
+same_by_image f xs none x y h k e =
+    let a = In-At xs x h in
+    let b = In-At xs y k in
+    let u = At-map f xs a.0 x a.1 in
+    let v = At-map f xs b.0 y b.1 in
+    let s = one_place (map f xs) none a.0 b.0 (f y) (subst (λ d. At (map f xs) a.0 d) e u) v in
+    At-same xs b.0 x y (subst (λ i. At xs i x) s a.1) b.1
+
+pub list_any-In : {X : Type 0} (p : X → Bool) (xs : List X) → list_any p xs ≡ true → (x : X) × In x xs × (p x ≡ true)
+list_any-In p [] h = cc
+list_any-In p (z ∷ xs) h =
+    ⊎_elim (λ l. (z, inl refl, l)) (λ r. let w = list_any-In p xs r in (w.0, inr w.1, w.2)) (or_split (p z) (list_any p xs) h)
+
+-- two pairs in one
+pub pair_same : {X Y : Type 0} (a b : X) (c d : Y) → ◌≡◌ {A = Option (X × Y)} (Some (a, c)) (Some (b, d)) → (a ≡ b) × (c ≡ d)
+pair_same {X} {Y} a b c d h =
+    let e : ◌≡◌ {A = X × Y} (a, c) (b, d) = cc in
+    (ap (λ (p : X × Y). p.0) e, ap (λ (p : X × Y). p.1) e)
