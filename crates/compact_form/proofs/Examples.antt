@@ -17,7 +17,7 @@ parts_of disclosures binding = record { signed = jwt_of (codes "a") (codes "b") 
 abbrev bare : Parts
 bare = parts_of [] None
 
-abbrev bound : Parts
+abbrev pub bound : Parts
 bound = parts_of (codes "d" ∷ []) (Some (jwt_of (codes "e") (codes "f") (codes "g")))
 
 abbrev two : Parts
@@ -59,7 +59,7 @@ issued = record { signed = record { protected = a; payload = b; signature = c };
 disclosed : IsCompact two (codes "a.b.c~d~e~")
 disclosed = record { signed = record { protected = a; payload = b; signature = c }; disclosures = (d, (e, tt)); binding = tt; spelling = refl }
 
-presented : IsCompact bound (codes "a.b.c~d~e.f.g")
+pub presented : IsCompact bound (codes "a.b.c~d~e.f.g")
 presented = record {
   signed = record { protected = a; payload = b; signature = c };
   disclosures = (d, tt);
@@ -76,7 +76,7 @@ without_binding = refl
 -- ---- where a text stops
 
 -- a JWT alone: the tilde is missing
-no_tilde : IsRefusedAt (codes "a.b.c") 5
+pub no_tilde : IsRefusedAt (codes "a.b.c") 5
 unfolding is_letter letters
 no_tilde = refused_at_end (codes "a.b.c") 5 (Signature, true) refl refl refl
 

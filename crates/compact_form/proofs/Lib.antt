@@ -11,4 +11,4 @@ pub mod Verdicts
 mod GatheredParts
 mod Absent
 pub mod Printed
-mod Examples
+pub mod Examples

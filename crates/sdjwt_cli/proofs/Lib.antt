@@ -2,3 +2,4 @@ mod Lifts
 mod Verdicts
 mod Shown
 mod ShowVerdicts
+mod Examples
