@@ -1,5 +1,5 @@
 -- Worked values, by the definitions.
-use Rattle.std.proofs.Common.{◌≡◌, Some, None, true, false, codes, pos, refl}
+use Rattle.std.proofs.Common.{◌≡◌, Some, None, true, codes, refl}
 use Rattle.json.specs.Print.{escape_byte}
 use Rattle.b64url_text.specs.Base64url.{letters, bits, sixes, b64}
 use Rattle.claim_tree.specs.Tree.{Members, leaf, text, object, no_members, member}

@@ -1,5 +1,5 @@
 -- The command `show` has one verdict over a file.
-use Rattle.std.proofs.Common.{◌≡◌, ℕ, List, [], ◌∷◌, ◌++◌, length, Bool, true, false, Option, refl, ap, ◌∙◌, sym, subst}
+use Rattle.std.proofs.Common.{◌≡◌, ℕ, List, [], ◌∷◌, ◌++◌, length, false, Option, refl, ap, ◌∙◌, sym, subst}
 use Rattle.std.specs.List.{AllZip}
 use Rattle.claim_tree.specs.Tree.{Text, Tree, no_members}
 use Rattle.jws_part.specs.Part.{IsBody, IsNoObject}

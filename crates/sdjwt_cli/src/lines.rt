@@ -3,8 +3,8 @@ ghost use Rattle.std.specs.Prelude.{◌≡◌, IfOk, string_bytes};
 ghost use Rattle.sdjwt_cli.specs.Lines.{name_of, place_text, refusal, unread};
 
 use compact_form::{
-    DISCLOSURE_UNREADABLE, FORM, Fault, HASH_UNKNOWN, HEADER_UNREADABLE, PAYLOAD_UNREADABLE,
-    Place, TOO_LONG,
+    DISCLOSURE_UNREADABLE, FORM, Fault, HASH_UNKNOWN, HEADER_UNREADABLE, PAYLOAD_UNREADABLE, Place,
+    TOO_LONG,
 };
 use sd_outside::NoMemory;
 use std::alloc::Global;
