@@ -1,17 +1,23 @@
 -- Worked values, by the definitions.
-use Rattle.std.proofs.Common.{◌≡◌, List, [], ◌∷◌, Option, Some, None, true, false, codes, refl, arith}
+use Rattle.std.proofs.Common.{◌≡◌, List, [], ◌∷◌, Option, Some, None, true, false, codes, refl, sym, arith}
 use Rattle.std.specs.Fmt.{digits}
 use Rattle.json.specs.Print.{escape_byte}
+use Rattle.b64url_text.specs.Base64url.{letters, is_letter}
 use Rattle.claim_tree.specs.Tree.{Text, Tree, leaf, text, object, no_members, member}
 use Rattle.compact_form.specs.declared.fault.Place.TheVariants.{Nowhere, At}
 use Rattle.compact_form.specs.declared.fault.TheConstants.{TOO_LONG, FORM}
+use Rattle.compact_form.specs.declared.parts.Parts.{Parts}
+use Rattle.compact_form.specs.Compact.{IsCompact}
 use Rattle.compact_form.specs.Token.{Reads}
 use Rattle.compact_form.proofs.Examples.{bound, presented, no_tilde}
 use Rattle.compact_form.proofs.Verdicts.{reads, refused_form}
+use Rattle.disclosure.proofs.Examples.{salt, value, a_disclosure, its_digest}
+use Rattle.jws_part.proofs.Examples.{alg_alone, a_head, a_header, sd_alg_alone, a_body}
+use Rattle.jws_part.proofs.Headers.{read_not_unreadable}
 use Rattle.sdjwt_cli.specs.Command.{split, command_of}
 use Rattle.sdjwt_cli.specs.Lines.{refusal, unread}
 use Rattle.sdjwt_cli.specs.Split.{Gives, Refuses}
-use Rattle.sdjwt_cli.specs.Show.{Shown, show_lines, has_known_hash}
+use Rattle.sdjwt_cli.specs.Show.{Shown, show_lines, Shows, has_known_hash}
 
 -- ---- the words
 
@@ -56,22 +62,54 @@ of_a_jwt = record {
 
 -- ---- show
 
--- {"alg":"HS256"}
+-- of the header {"alg":"HS256"}, the payload {"_sd_alg":"sha-256"} and the disclosure ["lklxF5jMYlGTPUovMNIvCA","FR"]
+abbrev token : Text
+token = codes "eyJhbGciOiJIUzI1NiJ9.eyJfc2RfYWxnIjoic2hhLTI1NiJ9.c~WyJsa2x4RjVqTVlsR1RQVW92TU5JdkNBIiwiRlIiXQ~"
+
+abbrev parts : Parts
+parts = record {
+  signed = record { protected = codes "eyJhbGciOiJIUzI1NiJ9"; payload = codes "eyJfc2RfYWxnIjoic2hhLTI1NiJ9"; signature = codes "c" };
+  disclosures = codes "WyJsa2x4RjVqTVlsR1RQVW92TU5JdkNBIiwiRlIiXQ" ∷ [];
+  binding = None;
+}
+
+spells : IsCompact parts token
+unfolding is_letter letters
+spells = record {
+  signed = record {
+    protected = record { some = omega arith; letters = refl };
+    payload = record { some = omega arith; letters = refl };
+    signature = record { some = omega arith; letters = refl };
+  };
+  disclosures = (record { some = omega arith; letters = refl }, tt);
+  binding = tt;
+  spelling = refl;
+}
+
 abbrev header : Tree
-header = object (member (codes "alg") (leaf (text (codes "HS256"))) no_members)
+header = object alg_alone
 
--- {"_sd_alg":"sha-256"}
 abbrev payload : Tree
-payload = object (member (codes "_sd_alg") (leaf (text (codes "sha-256"))) no_members)
+payload = object sd_alg_alone
 
-abbrev shown : Option Text → List Shown
-shown name = record { digest = codes "w0I8EKcdCtUPkGCNUrfwVp2xEgNjtoIDlOxc9-PlOhs"; name = name; value = leaf (text (codes "FR")) } ∷ []
+abbrev shown : Option Text → Shown
+shown name = record { digest = codes "qswwxPH-MjwEMOgKBBv2x2CF7lufmWFrWvVq7pj7YJE"; name = name; value = value }
 
-of_an_element : show_lines header payload (shown None) None ≡ codes "header {\"alg\":\"HS256\"}\npayload {\"_sd_alg\":\"sha-256\"}\ndisclosure 0 w0I8EKcdCtUPkGCNUrfwVp2xEgNjtoIDlOxc9-PlOhs element \"FR\"\n"
+of_a_token : Shows token (codes "header {\"alg\":\"HS256\"}\npayload {\"_sd_alg\":\"sha-256\"}\ndisclosure 0 qswwxPH-MjwEMOgKBBv2x2CF7lufmWFrWvVq7pj7YJE element \"FR\"\n")
 unfolding digits escape_byte
-of_an_element = refl
+of_a_token = record {
+  parts = parts;
+  reads = reads token parts refl spells (omega arith);
+  header = header;
+  head = record { body = a_head; readable = read_not_unreadable (codes "eyJhbGciOiJIUzI1NiJ9") no_members (record { alg = codes "HS256"; kid = None; typ = None }) a_header };
+  payload = payload;
+  body = record { body = a_body; hash = refl };
+  shown = shown None ∷ [];
+  disclosures = (record { salt = salt; is = a_disclosure; digest_is = sym its_digest }, tt);
+  lines = refl;
+}
 
-of_a_member : show_lines header payload (shown (Some (codes "country"))) None ≡ codes "header {\"alg\":\"HS256\"}\npayload {\"_sd_alg\":\"sha-256\"}\ndisclosure 0 w0I8EKcdCtUPkGCNUrfwVp2xEgNjtoIDlOxc9-PlOhs member \"country\" \"FR\"\n"
+of_a_member : show_lines header payload (shown (Some (codes "country")) ∷ []) None ≡ codes "header {\"alg\":\"HS256\"}\npayload {\"_sd_alg\":\"sha-256\"}\ndisclosure 0 qswwxPH-MjwEMOgKBBv2x2CF7lufmWFrWvVq7pj7YJE member \"country\" \"FR\"\n"
 unfolding digits escape_byte
 of_a_member = refl
 
