@@ -1,5 +1,5 @@
 -- JSON values without floats (RFC 8259), as trees.
-use Rattle.std.specs.Prelude.{◌≡◌, ℕ, zero, suc, ◌+◌, ◌<◌, ◌^◌, max, ℤ, pos, negsuc, List, [], ◌∷◌, Bool, Option, Some, None, bytes_eq, if◌then◌else◌}
+use Rattle.std.specs.Prelude.{◌≡◌, ℕ, zero, suc, ◌+◌, ◌<◌, ◌^◌, max, ℤ, pos, negsuc, List, [], ◌∷◌, Bool, false, Option, Some, None, bytes_eq, if◌then◌else◌}
 use Rattle.std.specs.Ordering.{nat_cmp, match_ordering}
 use Rattle.std.specs.Cmp.Lexicographic.{slice_cmp}
 use Rattle.std.specs.declared.cmp.Ordering.TheVariants.{Less}
@@ -108,6 +108,18 @@ abbrev mutual
   pub MembersRanged : Members → Type 0
   MembersRanged no_members = Unit {0}
   MembersRanged (member name t ms) = IsRanged t × MembersRanged ms
+
+-- ---- texts
+
+-- the text that a tree is
+abbrev pub text_of : Tree → Option Text
+text_of (leaf (text s)) = Some s
+text_of _ = None
+
+-- there is a text, and it is this one
+abbrev pub has_text : Option Text → Text → Bool
+has_text None word = false
+has_text (Some s) word = bytes_eq s word
 
 -- ---- arrays
 

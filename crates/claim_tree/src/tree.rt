@@ -1,7 +1,7 @@
 ghost use Rattle.std.specs.Prelude.{◌≡◌, OnOk, OnErr, IfOk, IfErr, option_map};
 ghost use Rattle.std.specs.Ordering.{nat_cmp};
 ghost use Rattle.std.specs.Cmp.Lexicographic.{slice_cmp};
-ghost use Rattle.claim_tree.specs.Tree.{no_elements, no_members, elements_len, members_len, element_at, member_at, member_named, pushed, inserted, IsOrdered, ElementsOrdered, MembersOrdered};
+ghost use Rattle.claim_tree.specs.Tree.{text_of, no_elements, no_members, elements_len, members_len, element_at, member_at, member_named, pushed, inserted, IsOrdered, ElementsOrdered, MembersOrdered};
 ghost use Rattle.claim_tree.specs.View.{tree_of, elements_of, members_of};
 ghost use Rattle.claim_tree.specs.Places.{IsPlace, IsGap};
 
@@ -97,6 +97,18 @@ pub(crate) fn is_ordered(tree: &Tree)
             let _ = map.members();
         }
         _ => (),
+    }
+}
+
+impl Tree {
+    /// The text, where the value is a text.
+    pub fn as_text(&self) -> Option<&TextBox>
+        ensures { option_map (λ s. s.now) result ≡ text_of (tree_of self.now) }
+    {
+        match self {
+            Tree::Text(text) => Some(text),
+            _ => None,
+        }
     }
 }
 

@@ -11,3 +11,4 @@ pub mod Verdicts
 mod GatheredParts
 mod Absent
 pub mod Printed
+pub mod Examples

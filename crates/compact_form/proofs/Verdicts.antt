@@ -34,7 +34,7 @@ same_number text f g (too_much p e h i) (too_much q d k l) n = e ∙ sym d
 pub one_fault : (text : List ℕ) (f g : Fault) → IsRefused text f → IsRefused text g → f ≡ g
 one_fault text f g r s = same_number text f g r.fails s.fails (let a = r.lowest g s.fails in let b = s.lowest f r.fails in omega arith)
 
-clash : (b : Bool) → b ≡ true → b ≡ false → ⊥
+pub clash : (b : Bool) → b ≡ true → b ≡ false → ⊥
 clash b h k = cc
 
 -- condition 1 is the lowest

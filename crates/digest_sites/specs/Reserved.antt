@@ -1,6 +1,6 @@
 -- The names that SD-JWT reserves in a JSON value, RFC 9901 section 4.2.4.
 use Rattle.std.specs.Prelude.{List, [], ◌∷◌, Bool, false, ◌||◌, ◌&&◌, not, Option, Some, None, is_some, option_map, option_and_then, bytes_eq, codes, if◌then◌else◌}
-use Rattle.claim_tree.specs.Tree.{Text, Tree, leaf, array, object, text, Elements, no_elements, element, Members, no_members, member}
+use Rattle.claim_tree.specs.Tree.{Text, Tree, leaf, array, object, Elements, no_elements, element, Members, no_members, member, text_of}
 
 -- section 4.2.4.1: the digests of hidden members
 unfoldable pub sd_name : Text
@@ -9,10 +9,6 @@ sd_name = codes "_sd"
 -- section 4.2.4.2: the digest of a hidden element
 unfoldable pub dots_name : Text
 dots_name = codes "..."
-
-abbrev pub text_of : Tree → Option Text
-text_of (leaf (text s)) = Some s
-text_of _ = None
 
 -- the texts of an array that has texts alone
 abbrev pub texts_of : Elements → Option (List Text)

@@ -1,7 +1,8 @@
 // What of a tree the reserved names read.
 ghost use Rattle.std.specs.Prelude.{◌≡◌, [], Some, MatchOption, is_some, option_map, bytes_eq};
+ghost use Rattle.claim_tree.specs.Tree.{text_of as text_in};
 ghost use Rattle.claim_tree.specs.View.{tree_of};
-ghost use Rattle.digest_sites.specs.Reserved.{text_of as text_in, texts_of, text_list, element_digest as digest_in, is_ill_named as is_ill_named_as, sd_texts, sd_name, dots_name};
+ghost use Rattle.digest_sites.specs.Reserved.{texts_of, text_list, element_digest as digest_in, is_ill_named as is_ill_named_as, sd_texts, sd_name, dots_name};
 
 use claim_tree::{Tree, TreeList, TreeMap};
 use sd_outside::TextBox;
@@ -30,10 +31,7 @@ pub(crate) fn is_dots(name: &TextBox) -> bool
 pub(crate) fn text_of(tree: &Tree) -> Option<&TextBox>
     ensures { option_map (λ t. t.now) result ≡ text_in (tree_of tree.now) }
 {
-    match tree {
-        Tree::Text(text) => Some(text),
-        _ => None,
-    }
+    tree.as_text()
 }
 
 pub(crate) fn are_texts(trees: &TreeList) -> bool

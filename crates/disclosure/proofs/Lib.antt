@@ -1,4 +1,4 @@
 pub mod Arrays
 pub mod Verdicts
 mod Unread
-mod Examples
+pub mod Examples

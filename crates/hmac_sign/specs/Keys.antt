@@ -1,19 +1,15 @@
 -- Key sets (RFC 7517 section 5): an object whose `keys` is an array of keys.
-use Rattle.std.specs.Prelude.{◌≡◌, ℕ, ◌<◌, ◌≤◌, List, [], ◌∷◌, ◌++◌, Option, Some, None, Bool, true, false, ◌&&◌, length, codes, bytes_eq, is_some, if◌then◌else◌}
+use Rattle.std.specs.Prelude.{◌≡◌, ℕ, ◌<◌, ◌≤◌, List, [], ◌∷◌, ◌++◌, Option, Some, None, Bool, true, false, ◌&&◌, length, codes, is_some, option_and_then, if◌then◌else◌}
 use Rattle.b64url_text.specs.Base64url.{Decodes, IsNoCode}
-use Rattle.claim_tree.specs.Tree.{Text, Tree, leaf, array, text, Elements, no_elements, element, element_at, get}
+use Rattle.claim_tree.specs.Tree.{Text, Tree, array, Elements, no_elements, element, element_at, get, text_of, has_text}
 use Rattle.hmac_sign.specs.Hmac.{key_block}
 use Rattle.hmac_sign.specs.declared.key_set.NamedKey.{NamedKey}
 use Rattle.hmac_sign.specs.declared.key_set.KeySetError.{KeySetError}
 use Rattle.hmac_sign.specs.declared.key_set.KeySetError.TheVariants.{Memory, NotASet, KeyNotBase64, KeyShort}
 
-abbrev pub text_in : Option Tree → Option Text
-text_in (Some (leaf (text s))) = Some s
-text_in _ = None
-
 -- the text under a name
 abbrev pub text_under : Tree → Text → Option Text
-text_under t name = text_in (get t name)
+text_under t name = option_and_then text_of (get t name)
 
 abbrev pub array_in : Option Tree → Option Elements
 array_in (Some (array es)) = Some es
@@ -24,17 +20,13 @@ abbrev pub keys_under : Tree → Option Elements
 keys_under t = array_in (get t (codes "keys"))
 
 -- the key is of the kind `oct` (RFC 7518 section 6.4)
-abbrev pub has_text : Option Text → Text → Bool
-has_text None word = false
-has_text (Some s) word = bytes_eq s word
-
 abbrev pub is_oct : Tree → Bool
 is_oct t = has_text (text_under t (codes "kty")) (codes "oct")
 
 -- there is no `kid`, or it is a text
 abbrev pub is_name : Option Tree → Bool
 is_name None = true
-is_name (Some t) = is_some (text_in (Some t))
+is_name (Some t) = is_some (text_of t)
 
 -- an object with a text `kty`; one of the kind `oct` has a text `k`, and no `kid` or a text
 abbrev pub is_key : Tree → Bool

@@ -1,6 +1,7 @@
 // Sets of keys.
 ghost use Rattle.std.specs.Prelude.{◌≡◌, ℕ, IfOk, IsErrOf, option_map, slice_get};
-ghost use Rattle.hmac_sign.specs.Keys.{IsKeySet, IsNoKeySet, NoCodeAt, ShortAt, key_named, has_text};
+ghost use Rattle.hmac_sign.specs.Keys.{IsKeySet, IsNoKeySet, NoCodeAt, ShortAt, key_named};
+ghost use Rattle.claim_tree.specs.Tree.{has_text};
 ghost use Rattle.hmac_sign.specs.declared.key_set.KeySetError.{KeySetError};
 ghost use Rattle.claim_tree.specs.View.{tree_of};
 

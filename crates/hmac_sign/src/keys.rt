@@ -18,10 +18,8 @@ use std::alloc::Global;
 fn text_under<'a>(tree: &'a Tree, name: &str) -> Option<&'a str>
     ensures { option_map (λ text. text.now) result ≡ spec.text_under (tree_of tree.now) name.now }
 {
-    match get(tree, name) {
-        Some(Tree::Text(text)) => Some(text.as_str()),
-        _ => None,
-    }
+    let text = get(tree, name)?.as_text()?;
+    Some(text.as_str())
 }
 
 // Whether a key is of the kind `oct`.
@@ -39,8 +37,8 @@ fn has_good_name(tree: &Tree) -> bool
     ensures { result ≡ spec.is_name (get_of (tree_of tree.now) (codes "kid")) }
 {
     match get(tree, "kid") {
-        None | Some(Tree::Text(_)) => true,
-        Some(_) => false,
+        None => true,
+        Some(kid) => kid.as_text().is_some(),
     }
 }
 

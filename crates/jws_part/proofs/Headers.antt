@@ -3,7 +3,7 @@ use Rattle.std.proofs.Common.{◌≡◌, Bool, true, false, ◌||◌, Option, So
 use Rattle.std.specs.List.{list_any}
 use Rattle.std.specs.Option.{is_some, option_or}
 use Rattle.std.proofs.lemmas.Slice.Eq.{bytes_eq-Decides}
-use Rattle.claim_tree.specs.Tree.{Text, Tree, object, Members, no_members, member, names, member_named}
+use Rattle.claim_tree.specs.Tree.{Text, Tree, object, Members, no_members, member, names, member_named, text_of}
 use Rattle.jws_part.specs.Part.{Carries}
 use Rattle.jws_part.specs.Header.{text_tree, has_name, shares_name, has_crit, Says, IsHeader, IsCritical, IsNoText, SayNothing, shared_name, no_alg, odd_alg, odd_typ, odd_kid, odd_outer_kid, IsUnreadable, no_object, nothing_said, unread_header}
 use Rattle.jws_part.specs.declared.header.Header.{Header}
@@ -37,7 +37,7 @@ one_saying ms outer h h' s s' =
 -- what is no text under a name is none of the texts that could be there
 odd : (ms : Members) (name : Text) (s : Option Text) → IsNoText ms name → member_named ms name ≡ option_map text_tree s → ⊥
 odd ms name None n e = let both = sym n.stands ∙ e in cc both
-odd ms name (Some s) n e = n.no_text s (let both = sym n.stands ∙ e in cc both)
+odd ms name (Some s) n e = let both = sym n.stands ∙ e in let found : n.found ≡ text_tree s = cc both in let none : Some s ≡ None = ap text_of (sym found) ∙ n.no_text in cc none
 
 odd_own : (ms outer : Members) (name : Text) (s : Option Text) → IsNoText ms name → option_or (member_named ms name) (member_named outer name) ≡ option_map text_tree s → ⊥
 odd_own ms outer name s n e = odd ms name s n (n.stands ∙ (ap (λ o. option_or o (member_named outer name)) (sym n.stands) ∙ e))

@@ -1,4 +1,4 @@
 pub mod Parts
 mod Names
 pub mod Headers
-mod Examples
+pub mod Examples

@@ -1,13 +1,14 @@
 -- The header of a JWS, RFC 7515 sections 4 and 7.2.1: the members of the protected one, and of an outer one beside it.
-use Rattle.std.specs.Prelude.{◌≡◌, ◌≢◌, Bool, ◌||◌, true, false, Option, Some, None, codes}
+use Rattle.std.specs.Prelude.{◌≡◌, Bool, ◌||◌, true, false, Option, Some, None, codes}
 use Rattle.std.specs.List.{list_any}
 use Rattle.std.specs.Option.{is_some, option_map, option_or}
-use Rattle.claim_tree.specs.Tree.{Text, text, Tree, leaf, object, Members, no_members, member, names, member_named, inserted}
+use Rattle.claim_tree.specs.Tree.{Text, text, Tree, leaf, object, Members, no_members, member, names, member_named, inserted, text_of}
 use Rattle.jws_part.specs.Part.{Carries, IsNoObject}
 use Rattle.jws_part.specs.declared.header.Header.{Header}
 use Rattle.jws_part.specs.declared.body.BodyError.{BodyError}
 use Rattle.jws_part.specs.declared.header.HeaderError.{HeaderError}
 
+-- the tree of a text
 abbrev pub text_tree : Text → Tree
 text_tree s = leaf (text s)
 
@@ -48,7 +49,7 @@ pub record IsCritical (protected : Text) (outer : Members) : Type 0 where
 pub record IsNoText (ms : Members) (name : Text) : Type 0 where
   pub found : Tree
   pub stands : member_named ms name ≡ Some found
-  pub no_text : (s : Text) → found ≢ text_tree s
+  pub no_text : text_of found ≡ None
 
 -- why the headers say nothing together
 pub data SayNothing (ms outer : Members) : Type 0 where

@@ -1,4 +1,6 @@
 mod Lifts
 mod Verdicts
 mod Shown
+mod HashNames
 mod ShowVerdicts
+mod Examples

@@ -1,17 +1,18 @@
 -- The command `show` has one verdict over a file.
-use Rattle.std.proofs.Common.{◌≡◌, ℕ, List, [], ◌∷◌, ◌++◌, length, Bool, true, false, Option, refl, ap, ◌∙◌, sym, subst}
+use Rattle.std.proofs.Common.{◌≡◌, ℕ, List, [], ◌∷◌, ◌++◌, length, false, Option, refl, ap, ◌∙◌, sym, subst}
 use Rattle.std.specs.List.{AllZip}
 use Rattle.claim_tree.specs.Tree.{Text, Tree, no_members}
 use Rattle.jws_part.specs.Part.{IsBody, IsNoObject}
 use Rattle.jws_part.specs.Header.{IsUnreadable}
 use Rattle.jws_part.proofs.Parts as bodies
 use Rattle.disclosure.proofs.Verdicts as readings
+use Rattle.compact_form.specs.declared.fault.TheConstants.{DISCLOSURE_UNREADABLE}
 use Rattle.compact_form.specs.declared.fault.Fault.{Fault}
 use Rattle.compact_form.specs.declared.fault.Place.TheVariants.{At}
 use Rattle.compact_form.specs.declared.parts.JwtParts.{JwtParts}
 use Rattle.compact_form.specs.declared.parts.Parts.{Parts}
 use Rattle.compact_form.specs.Token.{Reads}
-use Rattle.compact_form.proofs.Verdicts.{not_both, one_fault, one_value}
+use Rattle.compact_form.proofs.Verdicts.{not_both, one_fault, one_value, clash}
 use Rattle.sdjwt_cli.specs.Lines.{refusal}
 use Rattle.sdjwt_cli.specs.Show.{has_known_hash, Shown, IsShown, IsUnread, show_lines, IsHead, IsPayload, Shows, IsUnreadAt, IsShowRefused, form, header, payload, hash, disclosure, DoesNotShow}
 
@@ -71,7 +72,7 @@ one_front (x ∷ xs) (y ∷ ys) d e ds es (s ∷ ss) (t ∷ ts) same g h u v =
     cc
 
 abbrev at_front : List Text → Fault
-at_front front = record { number = 13; place = At (length front) }
+at_front front = record { number = DISCLOSURE_UNREADABLE; place = At (length front) }
 
 one_unread : (ds : List Text) (f g : Fault) → IsUnreadAt ds f → IsUnreadAt ds g → f ≡ g
 one_unread ds f g u v =
@@ -84,9 +85,6 @@ headless file p q head r s u h = h.readable (subst (λ (x : Parts). IsUnreadable
 
 bodiless : (file : List ℕ) (p q : Parts) (body : Tree) → Reads file p → Reads file q → IsNoObject p.signed.payload → IsBody q.signed.payload body → ⊥
 bodiless file p q body r s n b = bodies.not_both q.signed.payload body b (subst (λ (x : Parts). IsNoObject x.signed.payload) (one_value file p q r s) n)
-
-clash : (b : Bool) → b ≡ true → b ≡ false → ⊥
-clash b h k = cc
 
 one_payload : (file : List ℕ) (p q : Parts) (b c : Tree) → Reads file p → Reads file q → IsBody p.signed.payload b → IsBody q.signed.payload c → b ≡ c
 one_payload file p q b c r s g h = bodies.one_body q.signed.payload b c (subst (λ (x : Parts). IsBody x.signed.payload b) (one_value file p q r s) g) h

@@ -1,7 +1,7 @@
 -- The lines on standard error.
 use Rattle.std.specs.Prelude.{zero, suc, ℕ, ◌==◌, List, [], ◌∷◌, ◌++◌, codes, if◌then◌else◌}
 use Rattle.std.specs.Fmt.{decimal}
-use Rattle.compact_form.specs.declared.fault.TheConstants.{TOO_LONG, FORM}
+use Rattle.compact_form.specs.declared.fault.TheConstants.{TOO_LONG, FORM, HEADER_UNREADABLE, PAYLOAD_UNREADABLE, HASH_UNKNOWN, DISCLOSURE_UNREADABLE}
 use Rattle.compact_form.specs.declared.fault.Fault.{Fault}
 use Rattle.compact_form.specs.declared.fault.Place.{Place}
 use Rattle.compact_form.specs.declared.fault.Place.TheVariants.{Nowhere, At, Json}
@@ -11,7 +11,7 @@ line text = text ++ (10 ∷ [])
 
 -- the printed name of a condition
 abbrev pub name_of : ℕ → List ℕ
-name_of number = if number == TOO_LONG then codes "tooLong" else if number == FORM then codes "form" else if number == 5 then codes "headerUnreadable" else if number == 11 then codes "payloadUnreadable" else if number == 12 then codes "hashUnknown" else if number == 13 then codes "disclosureUnreadable" else codes "tooMuch"
+name_of number = if number == TOO_LONG then codes "tooLong" else if number == FORM then codes "form" else if number == HEADER_UNREADABLE then codes "headerUnreadable" else if number == PAYLOAD_UNREADABLE then codes "payloadUnreadable" else if number == HASH_UNKNOWN then codes "hashUnknown" else if number == DISCLOSURE_UNREADABLE then codes "disclosureUnreadable" else codes "tooMuch"
 
 abbrev pub place_text : Place → List ℕ
 place_text Nowhere = []

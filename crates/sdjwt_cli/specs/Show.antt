@@ -1,16 +1,17 @@
 -- The command `show`: what it prints of a token file, unchecked, and when it refuses one.
-use Rattle.std.specs.Prelude.{◌≡◌, ◌≢◌, ℕ, ◌+◌, length, List, [], ◌∷◌, ◌++◌, Bool, true, false, Option, None, Some, bytes_eq, codes}
+use Rattle.std.specs.Prelude.{◌≡◌, ◌≢◌, ℕ, ◌+◌, length, List, [], ◌∷◌, ◌++◌, Bool, true, false, Option, None, Some, codes}
 use Rattle.std.specs.Fmt.{decimal}
 use Rattle.std.specs.List.{AllZip}
-use Rattle.claim_tree.specs.Tree.{Text, Tree, leaf, text, no_members, get}
+use Rattle.claim_tree.specs.Tree.{Text, Tree, leaf, text, no_members, get, text_of, has_text}
 use Rattle.claim_tree.specs.JsonText.{json_text}
 use Rattle.jws_part.specs.Part.{IsBody, IsNoObject}
 use Rattle.jws_part.specs.Header.{IsUnreadable}
-use Rattle.disclosure.specs.Digest.{digest_of}
+use Rattle.disclosure.specs.Digest.{name_of, digest_of}
 use Rattle.disclosure.specs.Disclosure.{IsDisclosure}
 use Rattle.disclosure.specs.Refusals as reasons
 use Rattle.disclosure.specs.declared.digests.HashAlg.{HashAlg}
 use Rattle.disclosure.specs.declared.errors.DisclosureError.{DisclosureError}
+use Rattle.compact_form.specs.declared.fault.TheConstants.{HEADER_UNREADABLE, PAYLOAD_UNREADABLE, HASH_UNKNOWN, DISCLOSURE_UNREADABLE}
 use Rattle.compact_form.specs.declared.fault.Fault.{Fault}
 use Rattle.compact_form.specs.declared.fault.Place.TheVariants.{Nowhere, At}
 use Rattle.compact_form.specs.declared.parts.JwtParts.{JwtParts}
@@ -21,14 +22,13 @@ use Rattle.sdjwt_cli.specs.declared.show.Unshown.TheVariants.{Memory, Fails}
 use Rattle.sdjwt_cli.specs.Lines.{line, refusal}
 use Rattle.sdjwt_cli.specs.Split.{binding_line}
 
--- `_sd_alg` is not there, or it is the text `sha-256` (RFC 9901 section 4.1.1)
-abbrev pub is_hash_name : Option Tree → Bool
-is_hash_name None = true
-is_hash_name (Some (leaf (text name))) = bytes_eq name (codes "sha-256")
-is_hash_name (Some t) = false
+-- `_sd_alg` is not there, or it is the name of the hash that is known (RFC 9901 section 4.1.1)
+abbrev pub is_known_hash : Option Tree → Bool
+is_known_hash None = true
+is_known_hash (Some t) = has_text (text_of t) (name_of HashAlg.Sha256)
 
 abbrev pub has_known_hash : Tree → Bool
-has_known_hash payload = is_hash_name (get payload (codes "_sd_alg"))
+has_known_hash payload = is_known_hash (get payload (codes "_sd_alg"))
 
 -- what is printed of a disclosure
 pub record Shown : Type 0 where
@@ -105,7 +105,7 @@ pub record IsUnreadAt (disclosures : List Text) (fault : Fault) : Type 0 where
   pub stand : disclosures ≡ front ++ text ∷ rest
   pub read : AllZip IsShown front shown
   pub unread : IsUnread text
-  pub fault_is : fault ≡ record { number = 13; place = At (length front) }
+  pub fault_is : fault ≡ record { number = DISCLOSURE_UNREADABLE; place = At (length front) }
 
 abbrev pub OnFails : Unshown → (Fault → Type 0) → Type 0
 OnFails Memory P = Unit {0}
@@ -117,9 +117,9 @@ fault_of number = record { number = number; place = Nowhere }
 -- the lowest condition that fails: of the form, then of the header, of the payload, of its hash, and of the disclosures the first
 pub data IsShowRefused (file : List ℕ) (fault : Fault) : Type 0 where
   form : IsRefused file fault → IsShowRefused file fault
-  header : (parts : Parts) → Reads file parts → IsUnreadable parts.signed.protected no_members → fault ≡ fault_of 5 → IsShowRefused file fault
-  payload : (parts : Parts) (head : Tree) → Reads file parts → IsHead parts.signed.protected head → IsNoObject parts.signed.payload → fault ≡ fault_of 11 → IsShowRefused file fault
-  hash : (parts : Parts) (head body : Tree) → Reads file parts → IsHead parts.signed.protected head → IsBody parts.signed.payload body → has_known_hash body ≡ false → fault ≡ fault_of 12 → IsShowRefused file fault
+  header : (parts : Parts) → Reads file parts → IsUnreadable parts.signed.protected no_members → fault ≡ fault_of HEADER_UNREADABLE → IsShowRefused file fault
+  payload : (parts : Parts) (head : Tree) → Reads file parts → IsHead parts.signed.protected head → IsNoObject parts.signed.payload → fault ≡ fault_of PAYLOAD_UNREADABLE → IsShowRefused file fault
+  hash : (parts : Parts) (head body : Tree) → Reads file parts → IsHead parts.signed.protected head → IsBody parts.signed.payload body → has_known_hash body ≡ false → fault ≡ fault_of HASH_UNKNOWN → IsShowRefused file fault
   disclosure : (parts : Parts) (head body : Tree) → Reads file parts → IsHead parts.signed.protected head → IsPayload parts.signed.payload body → IsUnreadAt parts.disclosures fault → IsShowRefused file fault
 
 -- the file is refused, with this line

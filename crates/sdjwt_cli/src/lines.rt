@@ -2,7 +2,10 @@
 ghost use Rattle.std.specs.Prelude.{◌≡◌, IfOk, string_bytes};
 ghost use Rattle.sdjwt_cli.specs.Lines.{name_of, place_text, refusal, unread};
 
-use compact_form::{FORM, Fault, Place, TOO_LONG};
+use compact_form::{
+    DISCLOSURE_UNREADABLE, FORM, Fault, HASH_UNKNOWN, HEADER_UNREADABLE, PAYLOAD_UNREADABLE, Place,
+    TOO_LONG,
+};
 use sd_outside::NoMemory;
 use std::alloc::Global;
 
@@ -13,10 +16,10 @@ fn name(number: u8) -> &'static str
     match number {
         TOO_LONG => "tooLong",
         FORM => "form",
-        5 => "headerUnreadable",
-        11 => "payloadUnreadable",
-        12 => "hashUnknown",
-        13 => "disclosureUnreadable",
+        HEADER_UNREADABLE => "headerUnreadable",
+        PAYLOAD_UNREADABLE => "payloadUnreadable",
+        HASH_UNKNOWN => "hashUnknown",
+        DISCLOSURE_UNREADABLE => "disclosureUnreadable",
         _ => "tooMuch",
     }
 }

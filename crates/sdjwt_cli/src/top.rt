@@ -1,6 +1,6 @@
-ghost use Rattle.std.specs.Prelude.{◌≡◌, ◌≤◌, ℕ, List, map, IfOk, IfErr, string_bytes};
+ghost use Rattle.std.specs.Prelude.{◌≡◌, ◌≤◌, ◌+◌, ℕ, List, Some, map, take, IfOk, IfErr, IfSome, string_bytes};
 ghost use Rattle.sd_outside.specs.Causes.{Rose};
-ghost use Rattle.sdjwt_cli.specs.Command.{split as split_of, show as show_of};
+ghost use Rattle.compact_form.specs.declared.limits.TheConstants.{FILE_MAX};
 ghost use Rattle.sdjwt_cli.specs.Names.{meant_by};
 ghost use Rattle.sdjwt_cli.specs.Answers.{gives, refuses, IsAnswered};
 ghost use Rattle.sdjwt_cli.specs.Stops.{OnRefused, OnUnread};
@@ -12,36 +12,21 @@ use crate::show::show;
 use crate::split::split;
 use crate::stop::Stop;
 use compact_form::FILE_MAX;
-use sd_outside::{Cabinet, Failed, FetchError, Sink, Status};
+use sd_outside::{ByteBox, Cabinet, Failed, FetchError, Sink, Status};
 use std::alloc::Global;
 
-// The answer of `split` to the file under this name, at any moment.
-fn answer_split<C: Cabinet>(alloc: Global, cab: &mut C, token: &str) -> Result<String, Stop>
-    ensures gives { IfOk result (λ text. (now : ℕ) → IsAnswered (C.holds cab.old) (split_of token.now) now (gives (string_bytes text))) }
-    ensures refuses { IfErr result (λ stop. OnRefused stop (λ text. (now : ℕ) → IsAnswered (C.holds cab.old) (split_of token.now) now (refuses text))) }
-    ensures misses { IfErr result (λ stop. OnUnread stop (λ word. Misses (split_of token.now) word (C.missed cab.new))) }
-    ensures rose { IfErr result (λ stop. OnUnread stop (λ word. Rose (C.faults cab.old) (C.faults cab.new))) }
-    ensures held { (name : List ℕ) → C.holds cab.new name ≡ C.holds cab.old name }
+// A token file. A file that is too long shows by one byte more than is allowed.
+fn fetch_token<C: Cabinet>(alloc: Global, cab: &mut C, name: &str) -> Result<ByteBox, Stop>
+    ensures content { IfOk result (λ file. IfSome (C.holds cab.old name.now) (λ content. file ≡ take (FILE_MAX + 1) content)) }
+    ensures refuses { IfErr result (λ stop. OnRefused stop (λ _. ⊥)) }
+    ensures unread { IfErr result (λ stop. OnUnread stop (λ word. word ≡ 0)) }
+    ensures missed { IfErr result (λ stop. OnUnread stop (λ _. C.missed cab.new ≡ Some name.now)) }
+    ensures rose { IfErr result (λ stop. OnUnread stop (λ _. Rose (C.faults cab.old) (C.faults cab.new))) }
+    ensures held { (other : List ℕ) → C.holds cab.new other ≡ C.holds cab.old other }
     ensures later { C.faults cab.old ≤ C.faults cab.new }
 {
-    match cab.fetch(alloc, token, FILE_MAX + 1) {
-        Ok(file) => split(alloc, file.bytes()),
-        Err(FetchError::Memory) => Err(Stop::Memory),
-        Err(FetchError::Failed) => Err(Stop::Unread(0)),
-    }
-}
-
-// The answer of `show` to the file under this name, at any moment.
-fn answer_show<C: Cabinet>(alloc: Global, cab: &mut C, token: &str) -> Result<String, Stop>
-    ensures gives { IfOk result (λ text. (now : ℕ) → IsAnswered (C.holds cab.old) (show_of token.now) now (gives (string_bytes text))) }
-    ensures refuses { IfErr result (λ stop. OnRefused stop (λ text. (now : ℕ) → IsAnswered (C.holds cab.old) (show_of token.now) now (refuses text))) }
-    ensures misses { IfErr result (λ stop. OnUnread stop (λ word. Misses (show_of token.now) word (C.missed cab.new))) }
-    ensures rose { IfErr result (λ stop. OnUnread stop (λ word. Rose (C.faults cab.old) (C.faults cab.new))) }
-    ensures held { (name : List ℕ) → C.holds cab.new name ≡ C.holds cab.old name }
-    ensures later { C.faults cab.old ≤ C.faults cab.new }
-{
-    match cab.fetch(alloc, token, FILE_MAX + 1) {
-        Ok(file) => show(alloc, file.bytes()),
+    match cab.fetch(alloc, name, FILE_MAX + 1) {
+        Ok(file) => Ok(file),
         Err(FetchError::Memory) => Err(Stop::Memory),
         Err(FetchError::Failed) => Err(Stop::Unread(0)),
     }
@@ -62,8 +47,14 @@ fn answer<C: Cabinet>(
     ensures later { C.faults cab.old ≤ C.faults cab.new }
 {
     match command {
-        Command::Split { token } => answer_split(alloc, cab, token),
-        Command::Show { token } => answer_show(alloc, cab, token),
+        Command::Split { token } => {
+            let file = fetch_token(alloc, cab, token)?;
+            split(alloc, file.bytes())
+        }
+        Command::Show { token } => {
+            let file = fetch_token(alloc, cab, token)?;
+            show(alloc, file.bytes())
+        }
     }
 }
 

@@ -1,0 +1,103 @@
+-- Worked values, by the definitions.
+use Rattle.std.proofs.Common.{◌≡◌, List, ℕ, [], ◌∷◌, Option, None, Some, true, false, codes, refl, arith}
+use Rattle.b64url_text.specs.Base64url.{letters, is_letter, IsWord}
+use Rattle.compact_form.specs.declared.field.Field.TheVariants.{Protected, Signature, Piece, BindingSignature}
+use Rattle.compact_form.specs.declared.parts.JwtParts.{JwtParts}
+use Rattle.compact_form.specs.declared.parts.Parts.{Parts}
+use Rattle.compact_form.specs.Compact.{hashed, compact, IsCompact, IsRefusedAt}
+use Rattle.compact_form.specs.Trim.{trimmed}
+use Rattle.compact_form.proofs.Stops.{refused_at_byte, refused_at_end}
+
+abbrev jwt_of : List ℕ → List ℕ → List ℕ → JwtParts
+jwt_of protected payload signature = record { protected = protected; payload = payload; signature = signature }
+
+abbrev parts_of : List (List ℕ) → Option JwtParts → Parts
+parts_of disclosures binding = record { signed = jwt_of (codes "a") (codes "b") (codes "c"); disclosures = disclosures; binding = binding }
+
+abbrev bare : Parts
+bare = parts_of [] None
+
+abbrev pub bound : Parts
+bound = parts_of (codes "d" ∷ []) (Some (jwt_of (codes "e") (codes "f") (codes "g")))
+
+abbrev two : Parts
+two = parts_of (codes "d" ∷ codes "e" ∷ []) None
+
+a : IsWord (codes "a")
+unfolding is_letter letters
+a = record { some = omega arith; letters = refl }
+
+b : IsWord (codes "b")
+unfolding is_letter letters
+b = record { some = omega arith; letters = refl }
+
+c : IsWord (codes "c")
+unfolding is_letter letters
+c = record { some = omega arith; letters = refl }
+
+d : IsWord (codes "d")
+unfolding is_letter letters
+d = record { some = omega arith; letters = refl }
+
+e : IsWord (codes "e")
+unfolding is_letter letters
+e = record { some = omega arith; letters = refl }
+
+f : IsWord (codes "f")
+unfolding is_letter letters
+f = record { some = omega arith; letters = refl }
+
+g : IsWord (codes "g")
+unfolding is_letter letters
+g = record { some = omega arith; letters = refl }
+
+-- ---- texts and the parts that they spell
+
+issued : IsCompact bare (codes "a.b.c~")
+issued = record { signed = record { protected = a; payload = b; signature = c }; disclosures = tt; binding = tt; spelling = refl }
+
+disclosed : IsCompact two (codes "a.b.c~d~e~")
+disclosed = record { signed = record { protected = a; payload = b; signature = c }; disclosures = (d, (e, tt)); binding = tt; spelling = refl }
+
+pub presented : IsCompact bound (codes "a.b.c~d~e.f.g")
+presented = record {
+  signed = record { protected = a; payload = b; signature = c };
+  disclosures = (d, tt);
+  binding = record { protected = e; payload = f; signature = g };
+  spelling = refl;
+}
+
+hashed_of_it : hashed bound ≡ codes "a.b.c~d~"
+hashed_of_it = refl
+
+without_binding : hashed two ≡ compact two
+without_binding = refl
+
+-- ---- where a text stops
+
+-- a JWT alone: the tilde is missing
+pub no_tilde : IsRefusedAt (codes "a.b.c") 5
+unfolding is_letter letters
+no_tilde = refused_at_end (codes "a.b.c") 5 (Signature, true) refl refl refl
+
+-- an empty disclosure
+empty_disclosure : IsRefusedAt (codes "a.b.c~~") 6
+unfolding is_letter letters
+empty_disclosure = refused_at_byte (codes "a.b.c~~") 6 (Piece, false) (omega arith) refl refl
+
+nothing : IsRefusedAt [] 0
+nothing = refused_at_end [] 0 (Protected, false) refl refl refl
+
+-- behind a key binding token nothing stands
+tilde_behind_binding : IsRefusedAt (codes "a.b.c~d.e.f~") 11
+unfolding is_letter letters
+tilde_behind_binding = refused_at_byte (codes "a.b.c~d.e.f~") 11 (BindingSignature, true) (omega arith) refl refl
+
+padded : IsRefusedAt (codes "a.b.c~d=~") 7
+unfolding is_letter letters
+padded = refused_at_byte (codes "a.b.c~d=~") 7 (Piece, true) (omega arith) refl refl
+
+-- ---- blanks at the ends
+
+trimmed_at_both_ends : trimmed (codes " a.b.c~ \n") ≡ codes "a.b.c~"
+trimmed_at_both_ends = refl

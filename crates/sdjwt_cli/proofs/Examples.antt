@@ -1,0 +1,123 @@
+-- Worked values, by the definitions.
+use Rattle.std.proofs.Common.{◌≡◌, [], ◌∷◌, Option, Some, None, true, false, codes, refl, sym, arith}
+use Rattle.std.specs.Fmt.{digits}
+use Rattle.json.specs.Print.{escape_byte}
+use Rattle.b64url_text.specs.Base64url.{letters, is_letter}
+use Rattle.claim_tree.specs.Tree.{Text, Tree, leaf, text, object, no_members, member}
+use Rattle.compact_form.specs.declared.fault.Place.TheVariants.{Nowhere, At}
+use Rattle.compact_form.specs.declared.fault.TheConstants.{TOO_LONG, FORM}
+use Rattle.compact_form.specs.declared.parts.Parts.{Parts}
+use Rattle.compact_form.specs.Compact.{IsCompact}
+use Rattle.compact_form.specs.Token.{Reads}
+use Rattle.compact_form.proofs.Examples.{bound, presented, no_tilde}
+use Rattle.compact_form.proofs.Verdicts.{reads, refused_form}
+use Rattle.disclosure.proofs.Examples.{salt, value, a_disclosure, its_digest}
+use Rattle.jws_part.proofs.Examples.{alg_alone, a_head, a_header, sd_alg_alone, a_body}
+use Rattle.jws_part.proofs.Headers.{read_not_unreadable}
+use Rattle.sdjwt_cli.specs.Command.{split, command_of}
+use Rattle.sdjwt_cli.specs.Lines.{refusal, unread}
+use Rattle.sdjwt_cli.specs.Split.{Gives, Refuses}
+use Rattle.sdjwt_cli.specs.Show.{Shown, show_lines, Shows, has_known_hash}
+
+-- ---- the words
+
+a_command : command_of (codes "split" ∷ codes "token.txt" ∷ []) ≡ Some (split (codes "token.txt"))
+a_command = refl
+
+no_command : command_of (codes "join" ∷ codes "token.txt" ∷ []) ≡ None
+no_command = refl
+
+one_word_more : command_of (codes "show" ∷ codes "token.txt" ∷ codes "more" ∷ []) ≡ None
+one_word_more = refl
+
+-- ---- lines of standard error
+
+at_a_byte : refusal (record { number = FORM; place = At 5 }) ≡ codes "refused 2 form at 5\n"
+unfolding digits
+at_a_byte = refl
+
+nowhere : refusal (record { number = TOO_LONG; place = Nowhere }) ≡ codes "refused 1 tooLong\n"
+unfolding digits
+nowhere = refl
+
+first_file : unread 0 ≡ codes "unread 1\n"
+first_file = refl
+
+-- ---- split
+
+is_read : Reads (codes "a.b.c~d~e.f.g") bound
+is_read = reads (codes "a.b.c~d~e.f.g") bound refl presented (omega arith)
+
+of_a_presentation : Gives (codes "a.b.c~d~e.f.g") (codes "protected a\npayload b\nsignature c\ndisclosure 0 d\nbinding e.f.g\n")
+unfolding digits
+of_a_presentation = record { parts = bound; reads = is_read; lines = refl }
+
+of_a_jwt : Refuses (codes "a.b.c") (codes "refused 2 form at 5\n")
+unfolding digits
+of_a_jwt = record {
+  fault = record { number = FORM; place = At 5 };
+  refused = refused_form (codes "a.b.c") (record { number = FORM; place = At 5 }) 5 refl refl no_tilde;
+  line_is = refl;
+}
+
+-- ---- show
+
+-- of the header {"alg":"HS256"}, the payload {"_sd_alg":"sha-256"} and the disclosure ["lklxF5jMYlGTPUovMNIvCA","FR"]
+abbrev token : Text
+token = codes "eyJhbGciOiJIUzI1NiJ9.eyJfc2RfYWxnIjoic2hhLTI1NiJ9.c~WyJsa2x4RjVqTVlsR1RQVW92TU5JdkNBIiwiRlIiXQ~"
+
+abbrev parts : Parts
+parts = record {
+  signed = record { protected = codes "eyJhbGciOiJIUzI1NiJ9"; payload = codes "eyJfc2RfYWxnIjoic2hhLTI1NiJ9"; signature = codes "c" };
+  disclosures = codes "WyJsa2x4RjVqTVlsR1RQVW92TU5JdkNBIiwiRlIiXQ" ∷ [];
+  binding = None;
+}
+
+spells : IsCompact parts token
+unfolding is_letter letters
+spells = record {
+  signed = record {
+    protected = record { some = omega arith; letters = refl };
+    payload = record { some = omega arith; letters = refl };
+    signature = record { some = omega arith; letters = refl };
+  };
+  disclosures = (record { some = omega arith; letters = refl }, tt);
+  binding = tt;
+  spelling = refl;
+}
+
+abbrev header : Tree
+header = object alg_alone
+
+abbrev payload : Tree
+payload = object sd_alg_alone
+
+abbrev shown : Option Text → Shown
+shown name = record { digest = codes "qswwxPH-MjwEMOgKBBv2x2CF7lufmWFrWvVq7pj7YJE"; name = name; value = value }
+
+of_a_token : Shows token (codes "header {\"alg\":\"HS256\"}\npayload {\"_sd_alg\":\"sha-256\"}\ndisclosure 0 qswwxPH-MjwEMOgKBBv2x2CF7lufmWFrWvVq7pj7YJE element \"FR\"\n")
+unfolding digits escape_byte
+of_a_token = record {
+  parts = parts;
+  reads = reads token parts refl spells (omega arith);
+  header = header;
+  head = record { body = a_head; readable = read_not_unreadable (codes "eyJhbGciOiJIUzI1NiJ9") no_members (record { alg = codes "HS256"; kid = None; typ = None }) a_header };
+  payload = payload;
+  body = record { body = a_body; hash = refl };
+  shown = shown None ∷ [];
+  disclosures = (record { salt = salt; is = a_disclosure; digest_is = sym its_digest }, tt);
+  lines = refl;
+}
+
+of_a_member : show_lines header payload (shown (Some (codes "country")) ∷ []) None ≡ codes "header {\"alg\":\"HS256\"}\npayload {\"_sd_alg\":\"sha-256\"}\ndisclosure 0 qswwxPH-MjwEMOgKBBv2x2CF7lufmWFrWvVq7pj7YJE member \"country\" \"FR\"\n"
+unfolding digits escape_byte
+of_a_member = refl
+
+known_hash : has_known_hash payload ≡ true
+known_hash = refl
+
+no_hash : has_known_hash header ≡ true
+no_hash = refl
+
+other_hash : has_known_hash (object (member (codes "_sd_alg") (leaf (text (codes "sha-512"))) no_members)) ≡ false
+other_hash = refl
