@@ -1,6 +1,5 @@
 // What of a tree the reserved names read.
 ghost use Rattle.std.specs.Prelude.{◌≡◌, [], Some, MatchOption, is_some, option_map, bytes_eq};
-ghost use Rattle.claim_tree.specs.Tree.{text_of as text_in};
 ghost use Rattle.claim_tree.specs.View.{tree_of};
 ghost use Rattle.digest_sites.specs.Reserved.{texts_of, text_list, element_digest as digest_in, is_ill_named as is_ill_named_as, sd_texts, sd_name, dots_name};
 
@@ -28,17 +27,11 @@ pub(crate) fn is_dots(name: &TextBox) -> bool
     name.as_str() == DOTS
 }
 
-pub(crate) fn text_of(tree: &Tree) -> Option<&TextBox>
-    ensures { option_map (λ t. t.now) result ≡ text_in (tree_of tree.now) }
-{
-    tree.as_text()
-}
-
 pub(crate) fn are_texts(trees: &TreeList) -> bool
     ensures { result ≡ is_some (texts_of trees.now) }
 {
     for tree in trees.trees() {
-        if text_of(tree).is_none() {
+        if tree.as_text().is_none() {
             return false;
         }
     }
@@ -88,5 +81,5 @@ pub fn element_digest(tree: &Tree) -> Option<&TextBox>
     if members.len() != 1 {
         return None;
     }
-    text_of(members.get(DOTS)?)
+    members.get(DOTS)?.as_text()
 }

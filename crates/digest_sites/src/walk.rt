@@ -9,7 +9,7 @@ ghost use Rattle.digest_sites.specs.Walk.{site, sites_at, own_sites as own_sites
 ghost use Rattle.digest_sites.specs.declared.site.SiteKind.TheVariants.{Member};
 
 use crate::misuse::is_misused;
-use crate::reserved::{element_digest, is_sd, own_digests, text_of};
+use crate::reserved::{element_digest, is_sd, own_digests};
 use crate::site::{Site, SiteKind, SiteList};
 use claim_tree::{Path, Tree, TreeList, TreeMap};
 use sd_outside::{NoMemory, TextBox};
@@ -193,7 +193,7 @@ fn add_member_sites(
     ensures { OnOk result (found.new ≡ found.old ++ map (site at.now Member) (texts_or_none (texts_of digests.now))) }
 {
     for tree in digests.trees() {
-        if let Some(digest) = text_of(tree) {
+        if let Some(digest) = tree.as_text() {
             let at = at.copy(alloc)?;
             let digest = TextBox::make(alloc, digest.as_str())?;
             found.push(Site {
