@@ -5,4 +5,6 @@ pub mod Falls
 pub mod Places
 pub mod Choice
 pub mod Numbers
+pub mod NamePlaces
+pub mod Rests
 pub mod Laws
