@@ -4,3 +4,7 @@ pub mod MarkFacts
 pub mod Spots
 pub mod Closing
 pub mod MarkedViews
+pub mod Names
+pub mod Lookups
+pub mod NumberSets
+pub mod MarkedWalks
