@@ -8,3 +8,4 @@ pub mod Names
 pub mod Lookups
 pub mod NumberSets
 pub mod MarkedWalks
+pub mod Finds

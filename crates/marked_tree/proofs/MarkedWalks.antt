@@ -1,8 +1,8 @@
 -- The elements and members of a slice, one by one.
-use Rattle.std.proofs.Common.{◌≡◌, ℕ, zero, suc, ◌+◌, ◌*◌, ◌<◌, ◌≤◌, List, [], ◌∷◌, ◌++◌, length, get_or, take, Option, Some, None, Greater, add-one, refl, sym, ap, subst, ◌∙◌, arith}
-use Rattle.claim_tree.specs.Tree.{Text, Elements, Members, member, nodes, elements_nodes, members_nodes, depth, elements_depth, members_depth, pushed, inserted, IsBefore, IsBeforeAll, MembersOrdered}
+use Rattle.std.proofs.Common.{◌≡◌, ℕ, zero, suc, ◌+◌, ◌*◌, ◌<◌, ◌≤◌, List, [], ◌∷◌, ◌++◌, length, get_or, take, Bool, true, false, cond, Option, Some, None, is_some, option_map, add-one, refl, sym, ap, subst, ◌∙◌, arith}
+use Rattle.claim_tree.specs.Tree.{Text, element, member, nodes, elements_nodes, members_nodes, depth, elements_depth, members_depth, pushed, inserted, IsBefore, IsBeforeAll, MembersOrdered}
 use Rattle.marked_tree.specs.Marked as spec
-use Rattle.marked_tree.specs.Marked.{MarkedElements, marked_element, MarkedMembers, marked_member, no_marked_members, marked_names, strip, strip_elements, strip_members, marked_pushed, put, remark, remark_elements, remark_members, new_mark, keep_element, keep_member}
+use Rattle.marked_tree.specs.Marked.{MarkedElements, marked_element, MarkedMembers, marked_member, no_marked_members, marked_names, strip, strip_elements, strip_members, marked_pushed, put, remark, remark_elements, remark_members, new_mark, kept, keep_element, keep_member}
 use Rattle.marked_tree.specs.View.{marked_of, marked_elements_of, marked_members_of}
 use Rattle.marked_tree.proofs.MarkedViews.{Element, Entry, strip-pushed}
 use Rattle.marked_tree.proofs.Names.{Ascend, names_of, ascend, turned_back}
@@ -125,3 +125,63 @@ pub kept_member_turn : (f : ℕ → Option ℕ) (ms : List Entry) (n : ℕ) (m :
 kept_member_turn f ms n m within is ordered =
     rw add-one (kept_more f ms n m within (ascend (marked_members_of ms) ordered)
     ∙ ap (λ (e : Entry). kept_put (remark_members f (marked_members_of (take n ms))) e.0 (new_mark f e.1) (remark f (marked_of e.2))) (sym is))
+
+-- ---- among elements and members that are taken by value
+
+element_among : (xs : List Element) (e : Element) (rest : List Element)
+    → (nodes (strip (marked_of e.1)) ≤ elements_nodes (strip_elements (marked_elements_of (xs ++ e ∷ rest)))) × (depth (strip (marked_of e.1)) ≤ elements_depth (strip_elements (marked_elements_of (xs ++ e ∷ rest))))
+element_among [] e rest = (omega arith, omega arith)
+element_among (x ∷ xs) e rest = let there = element_among xs e rest in (omega (arith, there.0), omega (arith, there.1))
+
+pub into_taken_element : (xs : List Element) (e : Element) (rest : List Element) (us : MarkedElements) → marked_elements_of (xs ++ e ∷ rest) ≡ us → elements_depth (strip_elements us) ≤ 126
+    → (nodes (strip (marked_of e.1)) ≤ elements_nodes (strip_elements us)) × (depth (strip (marked_of e.1)) ≤ 127)
+into_taken_element xs e rest us all low =
+    let here = subst (λ vs. (nodes (strip (marked_of e.1)) ≤ elements_nodes (strip_elements vs)) × (depth (strip (marked_of e.1)) ≤ elements_depth (strip_elements vs))) all (element_among xs e rest) in
+    (here.0, omega (arith, here.1, low))
+
+member_among : (xs : List Entry) (m : Entry) (rest : List Entry)
+    → (nodes (strip (marked_of m.2)) ≤ members_nodes (strip_members (marked_members_of (xs ++ m ∷ rest)))) × (depth (strip (marked_of m.2)) ≤ members_depth (strip_members (marked_members_of (xs ++ m ∷ rest))))
+member_among [] m rest = (omega arith, omega arith)
+member_among (x ∷ xs) m rest = let there = member_among xs m rest in (omega (arith, there.0), omega (arith, there.1))
+
+pub into_taken_member : (xs : List Entry) (m : Entry) (rest : List Entry) (us : MarkedMembers) → marked_members_of (xs ++ m ∷ rest) ≡ us → members_depth (strip_members us) ≤ 126
+    → (nodes (strip (marked_of m.2)) ≤ members_nodes (strip_members us)) × (depth (strip (marked_of m.2)) ≤ 127)
+into_taken_member xs m rest us all low =
+    let here = subst (λ vs. (nodes (strip (marked_of m.2)) ≤ members_nodes (strip_members vs)) × (depth (strip (marked_of m.2)) ≤ members_depth (strip_members vs))) all (member_among xs m rest) in
+    (here.0, omega (arith, here.1, low))
+
+pub stripped-taken : (xs : List Element) (e : Element) → strip_elements (marked_elements_of (xs ++ e ∷ [])) ≡ pushed (strip_elements (marked_elements_of xs)) (strip (marked_of e.1))
+stripped-taken [] e = refl
+stripped-taken (x ∷ xs) e = ap (element (strip (marked_of x.1))) (stripped-taken xs e)
+
+before_taken : (name : Text) (xs : List Entry) (m : Entry) (rest : List Entry) → IsBeforeAll name (names_of (xs ++ m ∷ rest)) → IsBefore name m.0
+before_taken name [] m rest all = all.0
+before_taken name (x ∷ xs) m rest all = before_taken name xs m rest all.1
+
+inserted-taken : (xs : List Entry) (m : Entry) (rest : List Entry) → Ascend (names_of (xs ++ m ∷ rest))
+    → strip_members (marked_members_of (xs ++ m ∷ [])) ≡ inserted (strip_members (marked_members_of xs)) m.0 (strip (marked_of m.2))
+inserted-taken [] m rest o = refl
+inserted-taken (x ∷ xs) m rest o =
+    let more = inserted-taken xs m rest o.1 in
+    rw (before_taken x.0 xs m rest o.0) (ap (member x.0 (strip (marked_of x.2))) more)
+
+pub stripped_member-taken : (xs : List Entry) (m : Entry) (rest : List Entry) → MembersOrdered (strip_members (marked_members_of (xs ++ m ∷ rest)))
+    → strip_members (marked_members_of (xs ++ m ∷ [])) ≡ inserted (strip_members (marked_members_of xs)) m.0 (strip (marked_of m.2))
+stripped_member-taken xs m rest o = inserted-taken xs m rest (ascend (marked_members_of (xs ++ m ∷ rest)) o)
+
+-- ---- what stays
+
+pub kept_is : (s : ℕ → Bool) (i : Option ℕ) → is_some (new_mark (kept s) i) ≡ true → new_mark (kept s) i ≡ Some i
+kept_is s None e = refl
+kept_is s (Some i) e = go (s i) e
+  where
+    go : (b : Bool) → is_some (option_map (λ (j : ℕ). Some j) (cond b (Some i) None)) ≡ true → option_map (λ (j : ℕ). Some j) (cond b (Some i) None) ≡ Some (Some i)
+    go true f = refl
+    go false f = cc
+
+pub left_out_is : (s : ℕ → Bool) (i : Option ℕ) → is_some (new_mark (kept s) i) ≡ false → new_mark (kept s) i ≡ None
+left_out_is s i e = go (new_mark (kept s) i) e
+  where
+    go : (o : Option (Option ℕ)) → is_some o ≡ false → o ≡ None
+    go None f = refl
+    go (Some x) f = cc

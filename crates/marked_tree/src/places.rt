@@ -58,7 +58,8 @@ fn find_element(
     requires { elements_depth (strip_elements list.now) ≤ 126 }
     ensures { IfOk result (λ steps. option_map (λ s. reverse s.items) steps ≡ first_with mark (elements_spots 0 list.now)) }
 {
-    for (i, (own, tree)) in list.elements().iter().enumerate() {
+    for (i, element) in list.elements().iter().enumerate() {
+        let (own, tree) = element;
         if let Some(mut steps) = find_at(alloc, *own, tree, mark)? {
             steps.push(digits(alloc, i)?)?;
             return Ok(Some(steps));
