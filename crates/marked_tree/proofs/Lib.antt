@@ -9,3 +9,4 @@ pub mod Lookups
 pub mod NumberSets
 pub mod MarkedWalks
 pub mod Finds
+pub mod Remarks

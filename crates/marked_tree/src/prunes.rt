@@ -1,5 +1,5 @@
 // Trees without what is not chosen.
-ghost use Rattle.std.specs.Prelude.{◌≡◌, ◌≤◌, ℕ, Bool, Option, Some, IfOk, is_some};
+ghost use Rattle.std.specs.Prelude.{◌≡◌, ◌≤◌, IfOk, is_some};
 ghost use Rattle.claim_tree.specs.Tree.{depth, elements_depth, members_depth, IsRanged};
 ghost use Rattle.marked_tree.specs.Marked.{strip, strip_elements, strip_members, prune as prune_of, kept as kept_by, new_mark, remark_elements, remark_members};
 ghost use Rattle.marked_tree.specs.Numbers.{has};
@@ -11,10 +11,18 @@ use std::alloc::Global;
 
 /// The tree without each member and element whose mark is not kept, and all below it, with texts of its own. What
 /// has no mark stays.
-#[cycle(prune)]
 pub fn prune(alloc: Global, tree: &Marked, kept: &ChosenSet) -> Result<Marked, NoMemory>
     requires { depth (strip (marked_of tree.now)) ≤ 127 }
     ensures value { IfOk result (λ pruned. marked_of pruned ≡ prune_of (marked_of tree.now) (has kept.now)) }
+    ensures ranged { IsRanged (strip (marked_of tree.now)) → IfOk result (λ pruned. IsRanged (strip (marked_of pruned))) }
+{
+    prune_tree(alloc, tree, kept)
+}
+
+#[cycle(prune)]
+fn prune_tree(alloc: Global, tree: &Marked, kept: &ChosenSet) -> Result<Marked, NoMemory>
+    requires { depth (strip (marked_of tree.now)) ≤ 127 }
+    ensures { IfOk result (λ pruned. marked_of pruned ≡ prune_of (marked_of tree.now) (has kept.now)) }
 {
     match tree {
         Marked::Null => Ok(Marked::Null),
@@ -34,7 +42,7 @@ fn prune_list(alloc: Global, list: &MarkedList, kept: &ChosenSet) -> Result<Mark
     let mut pruned = MarkedList::new(alloc);
     for (mark, tree) in list.elements() {
         if stays(*mark, kept) {
-            pruned.push(*mark, prune(alloc, tree, kept)?)?;
+            pruned.push(*mark, prune_tree(alloc, tree, kept)?)?;
         }
     }
     Ok(pruned)
@@ -49,7 +57,7 @@ fn prune_map(alloc: Global, map: &MarkedMap, kept: &ChosenSet) -> Result<MarkedM
     for (name, mark, tree) in map.members() {
         if stays(*mark, kept) {
             let name = TextBox::make(alloc, name.as_str())?;
-            pruned.put(name, *mark, prune(alloc, tree, kept)?)?;
+            pruned.put(name, *mark, prune_tree(alloc, tree, kept)?)?;
         }
     }
     Ok(pruned)

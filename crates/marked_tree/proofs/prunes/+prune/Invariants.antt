@@ -5,8 +5,8 @@ use Rattle.marked_tree.specs.Numbers.{has}
 use Rattle.marked_tree.specs.View.{marked_of, marked_elements_of, marked_members_of}
 use Rattle.marked_tree.proofs.prunes.+prune.Given as goal
 
-abbrev pub decreases-prune : goal.decreases-prune
-decreases-prune l = 2 * nodes (strip (marked_of l.tree.now))
+abbrev pub decreases-prune_tree : goal.decreases-prune_tree
+decreases-prune_tree l = 2 * nodes (strip (marked_of l.tree.now))
 
 abbrev pub decreases-prune_list : goal.decreases-prune_list
 decreases-prune_list l = 2 * elements_nodes (strip_elements l.list.now) + 1
