@@ -1,5 +1,6 @@
 -- The first spot with a mark.
 use Rattle.std.proofs.Common.{◌≡◌, ℕ, suc, ◌+◌, ◌<◌, List, [], ◌∷◌, ◌++◌, map, length, reverse, drop, get_or, Bool, true, false, cond, eqb, Option, Some, None, option_map, arith, refl, sym, ap, ◌∙◌, subst, eq-eqb, eqb-true, decimal}
+use Rattle.std.specs.Option.{option_eq}
 use Rattle.std.proofs.lemmas.List.{drop_more, reverse-append}
 use Rattle.claim_tree.specs.Tree.{Text}
 use Rattle.marked_tree.specs.Marked as spec
@@ -83,3 +84,16 @@ member_passed i n ms m within is none = sym (members_left i n ms m within is ∙
 pub member_found : (i n : ℕ) (ms : List Entry) (m : Entry) (p : Path) → n < length ms → m ≡ get_or ms n m
     → first_with i (node_spots m.0 m.1 (marked_of m.2)) ≡ Some p → left_members i n ms ≡ Some p
 member_found i n ms m p within is some = members_left i n ms m within is ∙ ap (λ q. or_path q (left_members i (n + 1) ms)) some
+
+-- ---- at a node
+
+pub not_own : (own : Option ℕ) (i : ℕ) → option_eq eqb own (Some i) ≡ false → own ≡ Some i → ⊥
+not_own None i e f = cc
+not_own (Some j) i e f =
+    let same : j ≡ i = cc in
+    let w : eqb j i ≡ true = eq-eqb j i same in
+    cc
+
+pub stepped : {V : Type 0} (f : V → Path) (step : Text) (o : Option V) → option_map (λ s. step ∷ f s) o ≡ option_map (λ p. step ∷ p) (option_map f o)
+stepped f step None = refl
+stepped f step (Some s) = refl

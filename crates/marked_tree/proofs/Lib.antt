@@ -10,3 +10,6 @@ pub mod NumberSets
 pub mod MarkedWalks
 pub mod Finds
 pub mod Remarks
+pub mod MarkSame
+pub mod PathOrder
+pub mod HeadCounts

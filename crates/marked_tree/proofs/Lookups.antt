@@ -32,10 +32,10 @@ at_own name other i t = cond (bytes_eq other name) (Some (i, t)) None
 
 -- ---- names apart
 
-apart : (a b : Text) → IsBefore a b → bytes_eq a b ≡ false
+pub apart : (a b : Text) → IsBefore a b → bytes_eq a b ≡ false
 apart a b l = sym (is_eq-slice_cmp a b) ∙ ap is_eq l
 
-apart_back : (a b : Text) → IsBefore a b → bytes_eq b a ≡ false
+pub apart_back : (a b : Text) → IsBefore a b → bytes_eq b a ≡ false
 apart_back a b l = sym (is_eq-slice_cmp b a) ∙ ap is_eq (turned_back a b l)
 
 none_behind : (name : Text) (ms : MarkedMembers) → IsBeforeAll name (marked_names ms) → first_named name ms ≡ None

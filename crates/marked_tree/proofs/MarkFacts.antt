@@ -16,7 +16,7 @@ mutual
   strips_elements h n i no_elements = refl
   strips_elements h n i (element t es) = ap₂ element (strips (below (decimal i) h) n t) (strips_elements h (n + (hidden_in (below (decimal i) h) t + one_if (h (decimal i ∷ [])))) (suc i) es)
 
-  strips_members : (h : Path → Bool) (n : ℕ) (ms : Members) → strip_members (mark_members h n ms) ≡ ms
+  pub strips_members : (h : Path → Bool) (n : ℕ) (ms : Members) → strip_members (mark_members h n ms) ≡ ms
   strips_members h n no_members = refl
   strips_members h n (member k t ms) = ap₂ (member k) (strips (below k h) n t) (strips_members h (n + (hidden_in (below k h) t + one_if (h (k ∷ [])))) ms)
 

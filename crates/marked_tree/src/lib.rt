@@ -7,12 +7,14 @@
 mod chosen;
 pub mod laws;
 mod marked;
+mod marking;
 mod places;
 mod prunes;
 mod strips;
 
 pub use chosen::ChosenSet;
 pub use marked::{Marked, MarkedList, MarkedMap};
+pub use marking::mark;
 pub use places::place_of;
 pub use prunes::prune;
 pub use strips::{into_tree, strip};

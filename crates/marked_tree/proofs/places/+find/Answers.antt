@@ -1,9 +1,11 @@
-use Rattle.std.proofs.Common.{◌∷◌, Some, decimal, reverse, sym, ◌∙◌, ap, arith}
+use Rattle.std.proofs.Common.{◌∷◌, option_map, Some, decimal, reverse, sym, ◌∙◌, ap, arith}
+use Rattle.std.proofs.lemmas.Result.{IfOk-weaker}
 use Rattle.claim_tree.specs.Tree.{Text}
 use Rattle.marked_tree.specs.Places.{Path, first_with, elements_spots, members_spots}
+use Rattle.marked_tree.specs.View.{marked_of}
 use Rattle.marked_tree.proofs.MarkedViews.{Entry}
 use Rattle.marked_tree.proofs.MarkedWalks.{into_element, into_member}
-use Rattle.marked_tree.proofs.Finds.{found_inside, step_behind, element_passed, element_found, member_passed, member_found}
+use Rattle.marked_tree.proofs.Finds.{found_inside, not_own, stepped, step_behind, element_passed, element_found, member_passed, member_found}
 use Rattle.marked_tree.proofs.places.+find.Goals as goal
 
 pub find_element-find_at-requires : goal.find_element-find_at-requires
@@ -17,7 +19,10 @@ find_member-find_at-requires t c =
     (omega (arith, step.0), step.1)
 
 pub find_at-returns : goal.find_at-returns
-find_at-returns t c = ?
+find_at-returns t c =
+    let other = not_own c.args.own c.args.mark (sym c.eq.ensures ∙ c.if-eq.false) in
+    IfOk-weaker c.find.result _ _
+    (λ steps e step. stepped (λ s. reverse s.items) step steps ∙ ap (option_map (λ (p : Path). step ∷ p)) e ∙ sym (found_inside c.args.mark step c.args.own (marked_of c.args.tree.now) other)) c.find.ensures
 
 pub find_element-returns-in-Some : goal.find_element-returns-in-Some
 find_element-returns-in-Some t c =
