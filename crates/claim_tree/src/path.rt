@@ -112,6 +112,13 @@ impl PathList {
         Ok(())
     }
 
+    /// The paths, in their order.
+    pub fn paths(&self) -> &[Path]
+        ensures { result.now ≡ self.now }
+    {
+        self.paths.as_slice()
+    }
+
     /// The number of paths.
     pub fn len(&self) -> usize
         ensures { result ≡ length self.now }

@@ -1,0 +1,149 @@
+-- Marking by tests that answer alike, and marking step by step.
+use Rattle.std.proofs.Common.{◌≡◌, ℕ, suc, ◌+◌, ◌<◌, List, [], ◌∷◌, length, drop, get_or, Bool, Option, refl, sym, ap, ap₂, ◌∙◌, subst, arith, decimal}
+use Rattle.std.proofs.lemmas.List.{drop_more}
+use Rattle.claim_tree.specs.Tree.{Text, Tree, leaf, array, object, Elements, no_elements, element, Members, no_members, member, names, IsBefore, IsBeforeAll, MembersOrdered}
+use Rattle.claim_tree.specs.declared.tree.Tree as tree
+use Rattle.claim_tree.specs.View.{tree_of, elements_of, members_of}
+use Rattle.claim_tree.proofs.Walks.{Named}
+use Rattle.marked_tree.specs.Marked.{Marked, marked_leaf, marked_array, marked_object, MarkedElements, no_marked_elements, marked_element, MarkedMembers, no_marked_members, marked_member, marked_names, marked_pushed, put, strip_members}
+use Rattle.marked_tree.specs.Places.{Path, below, one_if, hidden_in, hidden_elements, hidden_members, mark_if, mark_from, mark_elements, mark_members}
+use Rattle.marked_tree.proofs.Names.{Ascend, ascend, turned_back}
+use Rattle.marked_tree.proofs.MarkFacts.{strips_members}
+
+abbrev pub Alike : (Path → Bool) → (Path → Bool) → Type 0
+Alike g h = (p : Path) → g p ≡ h p
+
+mutual
+  pub hidden_same : (g h : Path → Bool) → Alike g h → (t : Tree) → hidden_in g t ≡ hidden_in h t
+  hidden_same g h same (leaf l) = refl
+  hidden_same g h same (array es) = hidden_elements_same g h same 0 es
+  hidden_same g h same (object ms) = hidden_members_same g h same ms
+
+  hidden_elements_same : (g h : Path → Bool) → Alike g h → (i : ℕ) (es : Elements) → hidden_elements g i es ≡ hidden_elements h i es
+  hidden_elements_same g h same i no_elements = refl
+  hidden_elements_same g h same i (element t es) =
+      omega (arith, hidden_same (below (decimal i) g) (below (decimal i) h) (λ p. same (decimal i ∷ p)) t, ap one_if (same (decimal i ∷ [])), hidden_elements_same g h same (suc i) es)
+
+  hidden_members_same : (g h : Path → Bool) → Alike g h → (ms : Members) → hidden_members g ms ≡ hidden_members h ms
+  hidden_members_same g h same no_members = refl
+  hidden_members_same g h same (member k t ms) =
+      omega (arith, hidden_same (below k g) (below k h) (λ p. same (k ∷ p)) t, ap one_if (same (k ∷ [])), hidden_members_same g h same ms)
+
+element_same : (b c : Bool) (n a d : ℕ) (t u : Marked) (rest : ℕ → MarkedElements) (other : ℕ → MarkedElements) → b ≡ c → a ≡ d → t ≡ u → ((m : ℕ) → rest m ≡ other m)
+    → marked_element (mark_if b (n + a)) t (rest (n + (a + one_if b))) ≡ marked_element (mark_if c (n + d)) u (other (n + (d + one_if c)))
+element_same b c n a d t u rest other e f g more = rw (e, f, g) (ap (marked_element (mark_if c (n + d)) u) (more (n + (d + one_if c))))
+
+member_same : (k : Text) (b c : Bool) (n a d : ℕ) (t u : Marked) (rest : ℕ → MarkedMembers) (other : ℕ → MarkedMembers) → b ≡ c → a ≡ d → t ≡ u → ((m : ℕ) → rest m ≡ other m)
+    → marked_member k (mark_if b (n + a)) t (rest (n + (a + one_if b))) ≡ marked_member k (mark_if c (n + d)) u (other (n + (d + one_if c)))
+member_same k b c n a d t u rest other e f g more = rw (e, f, g) (ap (marked_member k (mark_if c (n + d)) u) (more (n + (d + one_if c))))
+
+mutual
+  pub mark_same : (g h : Path → Bool) → Alike g h → (n : ℕ) (t : Tree) → mark_from g n t ≡ mark_from h n t
+  mark_same g h same n (leaf l) = refl
+  mark_same g h same n (array es) = ap marked_array (mark_elements_same g h same n 0 es)
+  mark_same g h same n (object ms) = ap marked_object (mark_members_same g h same n ms)
+
+  mark_elements_same : (g h : Path → Bool) → Alike g h → (n i : ℕ) (es : Elements) → mark_elements g n i es ≡ mark_elements h n i es
+  mark_elements_same g h same n i no_elements = refl
+  mark_elements_same g h same n i (element t es) =
+      element_same (g (decimal i ∷ [])) (h (decimal i ∷ [])) n (hidden_in (below (decimal i) g) t) (hidden_in (below (decimal i) h) t) (mark_from (below (decimal i) g) n t) (mark_from (below (decimal i) h) n t)
+      (λ m. mark_elements g m (suc i) es) (λ m. mark_elements h m (suc i) es) (same (decimal i ∷ [])) (hidden_same (below (decimal i) g) (below (decimal i) h) (λ p. same (decimal i ∷ p)) t)
+      (mark_same (below (decimal i) g) (below (decimal i) h) (λ p. same (decimal i ∷ p)) n t) (λ m. mark_elements_same g h same m (suc i) es)
+
+  mark_members_same : (g h : Path → Bool) → Alike g h → (n : ℕ) (ms : Members) → mark_members g n ms ≡ mark_members h n ms
+  mark_members_same g h same n no_members = refl
+  mark_members_same g h same n (member k t ms) =
+      member_same k (g (k ∷ [])) (h (k ∷ [])) n (hidden_in (below k g) t) (hidden_in (below k h) t) (mark_from (below k g) n t) (mark_from (below k h) n t)
+      (λ m. mark_members g m ms) (λ m. mark_members h m ms) (same (k ∷ [])) (hidden_same (below k g) (below k h) (λ p. same (k ∷ p)) t)
+      (mark_same (below k g) (below k h) (λ p. same (k ∷ p)) n t) (λ m. mark_members_same g h same m ms)
+
+-- ---- what is done, and what is left
+
+abbrev pub joined : MarkedElements → MarkedElements → MarkedElements
+joined no_marked_elements rest = rest
+joined (marked_element i t es) rest = marked_element i t (joined es rest)
+
+pub joined-pushed : (es : MarkedElements) (i : Option ℕ) (t : Marked) (rest : MarkedElements) → joined (marked_pushed es i t) rest ≡ joined es (marked_element i t rest)
+joined-pushed no_marked_elements i t rest = refl
+joined-pushed (marked_element j u es) i t rest = ap (marked_element j u) (joined-pushed es i t rest)
+
+pub joined-none : (es : MarkedElements) → joined es no_marked_elements ≡ es
+joined-none no_marked_elements = refl
+joined-none (marked_element i t es) = ap (marked_element i t) (joined-none es)
+
+abbrev pub joined_members : MarkedMembers → MarkedMembers → MarkedMembers
+joined_members no_marked_members rest = rest
+joined_members (marked_member k i t ms) rest = marked_member k i t (joined_members ms rest)
+
+pub joined_members-none : (ms : MarkedMembers) → joined_members ms no_marked_members ≡ ms
+joined_members-none no_marked_members = refl
+joined_members-none (marked_member k i t ms) = ap (marked_member k i t) (joined_members-none ms)
+
+before_joined : (name k : Text) (i : Option ℕ) (t : Marked) (ms rest : MarkedMembers) → IsBeforeAll name (marked_names (joined_members ms (marked_member k i t rest))) → IsBefore name k
+before_joined name k i t no_marked_members rest all = all.0
+before_joined name k i t (marked_member l j u ms) rest all = before_joined name k i t ms rest all.1
+
+joined-put : (k : Text) (i : Option ℕ) (t : Marked) (ms rest : MarkedMembers) → Ascend (marked_names (joined_members ms (marked_member k i t rest)))
+    → joined_members (put k i t ms) rest ≡ joined_members ms (marked_member k i t rest)
+joined-put k i t no_marked_members rest o = refl
+joined-put k i t (marked_member l j u ms) rest o = rw (turned_back l k (before_joined l k i t ms rest o.0)) (ap (marked_member l j u) (joined-put k i t ms rest o.1))
+
+-- where all of them are the marked members of a tree
+pub joined-put_marked : (h : Path → Bool) (n : ℕ) (us : Members) → MembersOrdered us → (k : Text) (i : Option ℕ) (t : Marked) (ms rest : MarkedMembers)
+    → joined_members ms (marked_member k i t rest) ≡ mark_members h n us → joined_members (put k i t ms) rest ≡ joined_members ms (marked_member k i t rest)
+joined-put_marked h n us o k i t ms rest all =
+    joined-put k i t ms rest (subst (λ ns. Ascend (marked_names ns)) (sym all) (ascend (mark_members h n us) (subst MembersOrdered (sym (strips_members h n us)) o)))
+
+-- ---- one element more
+
+-- what a step adds: its own mark, its inside, and where the next marks begin
+pub record IsMarkedAt (h : Path → Bool) (n : ℕ) (step : Text) (t : Tree) (own : Option ℕ) (inside : Marked) (next : ℕ) : Type 0 where
+  pub own_is : own ≡ mark_if (h (step ∷ [])) (n + hidden_in (below step h) t)
+  pub inside_is : inside ≡ mark_from (below step h) n t
+  pub next_is : next ≡ n + (hidden_in (below step h) t + one_if (h (step ∷ [])))
+
+pub element_marked : (h : Path → Bool) (n i : ℕ) (ts : List tree.Tree) (t : tree.Tree) → i < length ts → t ≡ get_or ts i t → (done : MarkedElements) (own : Option ℕ) (inside : Marked) (next : ℕ)
+    → IsMarkedAt h n (decimal i) (tree_of t) own inside next
+    → joined (marked_pushed done own inside) (mark_elements h next (i + 1) (elements_of (drop (i + 1) ts))) ≡ joined done (mark_elements h n i (elements_of (drop i ts)))
+element_marked h n i ts t within is done own inside next m =
+    let there : drop i ts ≡ t ∷ drop (i + 1) ts = drop_more ts i t within ∙ ap (λ (d : tree.Tree). d ∷ drop (i + 1) ts) (sym is) in
+    let more : i + 1 ≡ suc i = omega arith in
+    joined-pushed done own inside (mark_elements h next (i + 1) (elements_of (drop (i + 1) ts)))
+    ∙ ap (joined done)
+    (rw (m.own_is, m.inside_is, m.next_is)
+    (ap (λ j. marked_element (mark_if (h (decimal i ∷ [])) (n + hidden_in (below (decimal i) h) (tree_of t))) (mark_from (below (decimal i) h) n (tree_of t))
+    (mark_elements h (n + (hidden_in (below (decimal i) h) (tree_of t) + one_if (h (decimal i ∷ [])))) j (elements_of (drop (i + 1) ts)))) more
+    ∙ ap (λ us. mark_elements h n i (elements_of us)) (sym there)))
+
+pub element_counted : (h : Path → Bool) (n i : ℕ) (ts : List tree.Tree) (t : tree.Tree) → i < length ts → t ≡ get_or ts i t → (own : Option ℕ) (inside : Marked) (next : ℕ)
+    → IsMarkedAt h n (decimal i) (tree_of t) own inside next
+    → next + hidden_elements h (i + 1) (elements_of (drop (i + 1) ts)) ≡ n + hidden_elements h i (elements_of (drop i ts))
+element_counted h n i ts t within is own inside next m =
+    let there : drop i ts ≡ t ∷ drop (i + 1) ts = drop_more ts i t within ∙ ap (λ (d : tree.Tree). d ∷ drop (i + 1) ts) (sym is) in
+    let more : i + 1 ≡ suc i = omega arith in
+    let shown = ap (λ us. hidden_elements h i (elements_of us)) there in
+    let further = ap (λ j. hidden_elements h j (elements_of (drop (i + 1) ts))) more in
+    let begun = m.next_is in
+    omega (arith, shown, further, begun)
+
+-- ---- one member more
+
+pub member_marked : (h : Path → Bool) (n : ℕ) (ts : List Named) (i : ℕ) (m : Named) → i < length ts → m ≡ get_or ts i m → MembersOrdered (members_of ts)
+    → (first : ℕ) (done : MarkedMembers) (own : Option ℕ) (inside : Marked) (next : ℕ) → IsMarkedAt h n m.0 (tree_of m.1) own inside next
+    → joined_members done (mark_members h n (members_of (drop i ts))) ≡ mark_members h first (members_of ts)
+    → joined_members (put m.0 own inside done) (mark_members h next (members_of (drop (i + 1) ts))) ≡ mark_members h first (members_of ts)
+member_marked h n ts i m within is ordered first done own inside next k all =
+    let there : drop i ts ≡ m ∷ drop (i + 1) ts = drop_more ts i m within ∙ ap (λ (d : Named). d ∷ drop (i + 1) ts) (sym is) in
+    let rest = mark_members h next (members_of (drop (i + 1) ts)) in
+    let here : marked_member m.0 own inside rest ≡ mark_members h n (members_of (drop i ts)) = rw (k.own_is, k.inside_is, k.next_is) (ap (λ us. mark_members h n (members_of us)) (sym there)) in
+    let whole : joined_members done (marked_member m.0 own inside rest) ≡ mark_members h first (members_of ts) = ap (joined_members done) here ∙ all in
+    joined-put_marked h first (members_of ts) ordered m.0 own inside done rest whole ∙ whole
+
+pub member_counted : (h : Path → Bool) (n : ℕ) (ts : List Named) (i : ℕ) (m : Named) → i < length ts → m ≡ get_or ts i m → (own : Option ℕ) (inside : Marked) (next : ℕ)
+    → IsMarkedAt h n m.0 (tree_of m.1) own inside next
+    → next + hidden_members h (members_of (drop (i + 1) ts)) ≡ n + hidden_members h (members_of (drop i ts))
+member_counted h n ts i m within is own inside next k =
+    let there : drop i ts ≡ m ∷ drop (i + 1) ts = drop_more ts i m within ∙ ap (λ (d : Named). d ∷ drop (i + 1) ts) (sym is) in
+    let shown = ap (λ us. hidden_members h (members_of us)) there in
+    let begun = k.next_is in
+    omega (arith, shown, begun)

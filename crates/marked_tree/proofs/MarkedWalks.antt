@@ -1,0 +1,187 @@
+-- The elements and members of a slice, one by one.
+use Rattle.std.proofs.Common.{◌≡◌, ℕ, zero, suc, ◌+◌, ◌*◌, ◌<◌, ◌≤◌, List, [], ◌∷◌, ◌++◌, length, get_or, take, Bool, true, false, cond, Option, Some, None, is_some, option_map, add-one, refl, sym, ap, subst, ◌∙◌, arith}
+use Rattle.claim_tree.specs.Tree.{Text, element, member, nodes, elements_nodes, members_nodes, depth, elements_depth, members_depth, pushed, inserted, IsBefore, IsBeforeAll, MembersOrdered}
+use Rattle.marked_tree.specs.Marked as spec
+use Rattle.marked_tree.specs.Marked.{MarkedElements, marked_element, MarkedMembers, marked_member, no_marked_members, marked_names, strip, strip_elements, strip_members, marked_pushed, put, remark, remark_elements, remark_members, new_mark, kept, keep_element, keep_member}
+use Rattle.marked_tree.specs.View.{marked_of, marked_elements_of, marked_members_of}
+use Rattle.marked_tree.proofs.MarkedViews.{Element, Entry, strip-pushed}
+use Rattle.marked_tree.proofs.Names.{Ascend, names_of, ascend, turned_back}
+
+-- ---- what every element is
+
+element_there : (es : List Element) (n : ℕ) (d : Element) → n < length es
+    → (nodes (strip (marked_of (get_or es n d).1)) ≤ elements_nodes (strip_elements (marked_elements_of es))) × (depth (strip (marked_of (get_or es n d).1)) ≤ elements_depth (strip_elements (marked_elements_of es)))
+element_there [] n d within = absurd (omega arith)
+element_there (e ∷ es) zero d within = (omega arith, omega arith)
+element_there (e ∷ es) (suc n) d within = let rest = element_there es n d (omega arith) in (omega (arith, rest.0), omega (arith, rest.1))
+
+-- the step of a call that goes into each tree
+pub into_element : (es : List Element) (n : ℕ) (e : Element) (us : MarkedElements) → n < length es → e ≡ get_or es n e → marked_elements_of es ≡ us → elements_depth (strip_elements us) ≤ 126
+    → (nodes (strip (marked_of e.1)) ≤ elements_nodes (strip_elements us)) × (depth (strip (marked_of e.1)) ≤ 127)
+into_element es n e us within is all low =
+    let there = subst (λ (d : Element). (nodes (strip (marked_of d.1)) ≤ elements_nodes (strip_elements (marked_elements_of es))) × (depth (strip (marked_of d.1)) ≤ elements_depth (strip_elements (marked_elements_of es)))) (sym is) (element_there es n e within) in
+    let here = subst (λ vs. (nodes (strip (marked_of e.1)) ≤ elements_nodes (strip_elements vs)) × (depth (strip (marked_of e.1)) ≤ elements_depth (strip_elements vs))) all there in
+    (here.0, omega (arith, here.1, low))
+
+element_more : (es : List Element) (n : ℕ) (d : Element) → n < length es → marked_elements_of (take (suc n) es) ≡ marked_pushed (marked_elements_of (take n es)) (get_or es n d).0 (marked_of (get_or es n d).1)
+element_more [] n d within = absurd (omega arith)
+element_more (e ∷ es) zero d within = refl
+element_more (e ∷ es) (suc n) d within = ap (marked_element e.0 (marked_of e.1)) (element_more es n d (omega arith))
+
+-- one element more
+pub element_turn : (es : List Element) (n : ℕ) (e : Element) → n < length es → e ≡ get_or es n e → marked_elements_of (take (n + 1) es) ≡ marked_pushed (marked_elements_of (take n es)) e.0 (marked_of e.1)
+element_turn es n e within is =
+    rw add-one (element_more es n e within ∙ ap (λ (d : Element). marked_pushed (marked_elements_of (take n es)) d.0 (marked_of d.1)) (sym is))
+
+pub stripped_turn : (es : List Element) (n : ℕ) (e : Element) → n < length es → e ≡ get_or es n e
+    → strip_elements (marked_elements_of (take (n + 1) es)) ≡ pushed (strip_elements (marked_elements_of (take n es))) (strip (marked_of e.1))
+stripped_turn es n e within is = ap strip_elements (element_turn es n e within is) ∙ strip-pushed (marked_elements_of (take n es)) e.0 (marked_of e.1)
+
+-- the elements with one more where it is kept
+abbrev pub kept_pushed : MarkedElements → Option (Option ℕ) → spec.Marked → MarkedElements
+kept_pushed es None t = es
+kept_pushed es (Some i) t = marked_pushed es i t
+
+remark-pushed : (f : ℕ → Option ℕ) (es : MarkedElements) (i : Option ℕ) (t : spec.Marked) → remark_elements f (marked_pushed es i t) ≡ kept_pushed (remark_elements f es) (new_mark f i) (remark f t)
+remark-pushed f spec.no_marked_elements i t = go (new_mark f i)
+  where
+    go : (o : Option (Option ℕ)) → keep_element o (remark f t) spec.no_marked_elements ≡ kept_pushed spec.no_marked_elements o (remark f t)
+    go None = refl
+    go (Some j) = refl
+remark-pushed f (marked_element j u es) i t = go (new_mark f j) (new_mark f i) (remark-pushed f es i t)
+  where
+    go : (o q : Option (Option ℕ)) → remark_elements f (marked_pushed es i t) ≡ kept_pushed (remark_elements f es) q (remark f t)
+        → keep_element o (remark f u) (remark_elements f (marked_pushed es i t)) ≡ kept_pushed (keep_element o (remark f u) (remark_elements f es)) q (remark f t)
+    go None q ih = ih
+    go (Some k) None ih = ap (marked_element k (remark f u)) ih
+    go (Some k) (Some l) ih = ap (marked_element k (remark f u)) ih
+
+pub kept_turn : (f : ℕ → Option ℕ) (es : List Element) (n : ℕ) (e : Element) → n < length es → e ≡ get_or es n e
+    → remark_elements f (marked_elements_of (take (n + 1) es)) ≡ kept_pushed (remark_elements f (marked_elements_of (take n es))) (new_mark f e.0) (remark f (marked_of e.1))
+kept_turn f es n e within is = ap (remark_elements f) (element_turn es n e within is) ∙ remark-pushed f (marked_elements_of (take n es)) e.0 (marked_of e.1)
+
+-- ---- what every member is
+
+member_there : (ms : List Entry) (n : ℕ) (d : Entry) → n < length ms
+    → (nodes (strip (marked_of (get_or ms n d).2)) ≤ members_nodes (strip_members (marked_members_of ms))) × (depth (strip (marked_of (get_or ms n d).2)) ≤ members_depth (strip_members (marked_members_of ms)))
+member_there [] n d within = absurd (omega arith)
+member_there (m ∷ ms) zero d within = (omega arith, omega arith)
+member_there (m ∷ ms) (suc n) d within = let rest = member_there ms n d (omega arith) in (omega (arith, rest.0), omega (arith, rest.1))
+
+pub into_member : (ms : List Entry) (n : ℕ) (m : Entry) (us : MarkedMembers) → n < length ms → m ≡ get_or ms n m → marked_members_of ms ≡ us → members_depth (strip_members us) ≤ 126
+    → (nodes (strip (marked_of m.2)) ≤ members_nodes (strip_members us)) × (depth (strip (marked_of m.2)) ≤ 127)
+into_member ms n m us within is all low =
+    let there = subst (λ (d : Entry). (nodes (strip (marked_of d.2)) ≤ members_nodes (strip_members (marked_members_of ms))) × (depth (strip (marked_of d.2)) ≤ members_depth (strip_members (marked_members_of ms)))) (sym is) (member_there ms n m within) in
+    let here = subst (λ vs. (nodes (strip (marked_of m.2)) ≤ members_nodes (strip_members vs)) × (depth (strip (marked_of m.2)) ≤ members_depth (strip_members vs))) all there in
+    (here.0, omega (arith, here.1, low))
+
+before_there : (name : Text) (ms : List Entry) (n : ℕ) (d : Entry) → n < length ms → IsBeforeAll name (names_of ms) → IsBefore name (get_or ms n d).0
+before_there name [] n d within h = absurd (omega arith)
+before_there name (m ∷ ms) zero d within h = h.0
+before_there name (m ∷ ms) (suc n) d within h = before_there name ms n d (omega arith) h.1
+
+stripped_more : (ms : List Entry) (n : ℕ) (d : Entry) → n < length ms → Ascend (names_of ms)
+    → strip_members (marked_members_of (take (suc n) ms)) ≡ inserted (strip_members (marked_members_of (take n ms))) (get_or ms n d).0 (strip (marked_of (get_or ms n d).2))
+stripped_more [] n d within o = absurd (omega arith)
+stripped_more (m ∷ ms) zero d within o = refl
+stripped_more (m ∷ ms) (suc n) d within o =
+    let rest = stripped_more ms n d (omega arith) o.1 in
+    rw (before_there m.0 ms n d (omega arith) o.0) (ap (member m.0 (strip (marked_of m.2))) rest)
+
+-- one member more
+pub stripped_member_turn : (ms : List Entry) (n : ℕ) (m : Entry) → n < length ms → m ≡ get_or ms n m → MembersOrdered (strip_members (marked_members_of ms))
+    → strip_members (marked_members_of (take (n + 1) ms)) ≡ inserted (strip_members (marked_members_of (take n ms))) m.0 (strip (marked_of m.2))
+stripped_member_turn ms n m within is ordered =
+    rw add-one (stripped_more ms n m within (ascend (marked_members_of ms) ordered) ∙ ap (λ (e : Entry). inserted (strip_members (marked_members_of (take n ms))) e.0 (strip (marked_of e.2))) (sym is))
+
+-- the members with one more where it is kept
+abbrev pub kept_put : MarkedMembers → Text → Option (Option ℕ) → spec.Marked → MarkedMembers
+kept_put ms name None t = ms
+kept_put ms name (Some i) t = put name i t ms
+
+-- a member that comes before is passed over
+kept_later : (name : Text) (o : Option (Option ℕ)) (t : spec.Marked) (other : Text) (q : Option (Option ℕ)) (u : spec.Marked) (ms : MarkedMembers) → IsBefore other name
+    → keep_member other q u (kept_put ms name o t) ≡ kept_put (keep_member other q u ms) name o t
+kept_later name o t other None u ms l = refl
+kept_later name None t other (Some j) u ms l = refl
+kept_later name (Some i) t other (Some j) u ms l = rw (turned_back other name l) refl
+
+kept_more : (f : ℕ → Option ℕ) (ms : List Entry) (n : ℕ) (d : Entry) → n < length ms → Ascend (names_of ms)
+    → remark_members f (marked_members_of (take (suc n) ms)) ≡ kept_put (remark_members f (marked_members_of (take n ms))) (get_or ms n d).0 (new_mark f (get_or ms n d).1) (remark f (marked_of (get_or ms n d).2))
+kept_more f [] n d within o = absurd (omega arith)
+kept_more f (m ∷ ms) zero d within o = go (new_mark f m.1)
+  where
+    go : (q : Option (Option ℕ)) → keep_member m.0 q (remark f (marked_of m.2)) no_marked_members ≡ kept_put no_marked_members m.0 q (remark f (marked_of m.2))
+    go None = refl
+    go (Some j) = refl
+kept_more f (m ∷ ms) (suc n) d within o =
+    let e = get_or ms n d in
+    ap (keep_member m.0 (new_mark f m.1) (remark f (marked_of m.2))) (kept_more f ms n d (omega arith) o.1)
+    ∙ kept_later (get_or ms n d).0 (new_mark f (get_or ms n d).1) (remark f (marked_of (get_or ms n d).2)) m.0 (new_mark f m.1) (remark f (marked_of m.2)) (remark_members f (marked_members_of (take n ms)))
+    (before_there m.0 ms n d (omega arith) o.0)
+
+pub kept_member_turn : (f : ℕ → Option ℕ) (ms : List Entry) (n : ℕ) (m : Entry) → n < length ms → m ≡ get_or ms n m → MembersOrdered (strip_members (marked_members_of ms))
+    → remark_members f (marked_members_of (take (n + 1) ms)) ≡ kept_put (remark_members f (marked_members_of (take n ms))) m.0 (new_mark f m.1) (remark f (marked_of m.2))
+kept_member_turn f ms n m within is ordered =
+    rw add-one (kept_more f ms n m within (ascend (marked_members_of ms) ordered)
+    ∙ ap (λ (e : Entry). kept_put (remark_members f (marked_members_of (take n ms))) e.0 (new_mark f e.1) (remark f (marked_of e.2))) (sym is))
+
+-- ---- among elements and members that are taken by value
+
+element_among : (xs : List Element) (e : Element) (rest : List Element)
+    → (nodes (strip (marked_of e.1)) ≤ elements_nodes (strip_elements (marked_elements_of (xs ++ e ∷ rest)))) × (depth (strip (marked_of e.1)) ≤ elements_depth (strip_elements (marked_elements_of (xs ++ e ∷ rest))))
+element_among [] e rest = (omega arith, omega arith)
+element_among (x ∷ xs) e rest = let there = element_among xs e rest in (omega (arith, there.0), omega (arith, there.1))
+
+pub into_taken_element : (xs : List Element) (e : Element) (rest : List Element) (us : MarkedElements) → marked_elements_of (xs ++ e ∷ rest) ≡ us → elements_depth (strip_elements us) ≤ 126
+    → (nodes (strip (marked_of e.1)) ≤ elements_nodes (strip_elements us)) × (depth (strip (marked_of e.1)) ≤ 127)
+into_taken_element xs e rest us all low =
+    let here = subst (λ vs. (nodes (strip (marked_of e.1)) ≤ elements_nodes (strip_elements vs)) × (depth (strip (marked_of e.1)) ≤ elements_depth (strip_elements vs))) all (element_among xs e rest) in
+    (here.0, omega (arith, here.1, low))
+
+member_among : (xs : List Entry) (m : Entry) (rest : List Entry)
+    → (nodes (strip (marked_of m.2)) ≤ members_nodes (strip_members (marked_members_of (xs ++ m ∷ rest)))) × (depth (strip (marked_of m.2)) ≤ members_depth (strip_members (marked_members_of (xs ++ m ∷ rest))))
+member_among [] m rest = (omega arith, omega arith)
+member_among (x ∷ xs) m rest = let there = member_among xs m rest in (omega (arith, there.0), omega (arith, there.1))
+
+pub into_taken_member : (xs : List Entry) (m : Entry) (rest : List Entry) (us : MarkedMembers) → marked_members_of (xs ++ m ∷ rest) ≡ us → members_depth (strip_members us) ≤ 126
+    → (nodes (strip (marked_of m.2)) ≤ members_nodes (strip_members us)) × (depth (strip (marked_of m.2)) ≤ 127)
+into_taken_member xs m rest us all low =
+    let here = subst (λ vs. (nodes (strip (marked_of m.2)) ≤ members_nodes (strip_members vs)) × (depth (strip (marked_of m.2)) ≤ members_depth (strip_members vs))) all (member_among xs m rest) in
+    (here.0, omega (arith, here.1, low))
+
+pub stripped-taken : (xs : List Element) (e : Element) → strip_elements (marked_elements_of (xs ++ e ∷ [])) ≡ pushed (strip_elements (marked_elements_of xs)) (strip (marked_of e.1))
+stripped-taken [] e = refl
+stripped-taken (x ∷ xs) e = ap (element (strip (marked_of x.1))) (stripped-taken xs e)
+
+before_taken : (name : Text) (xs : List Entry) (m : Entry) (rest : List Entry) → IsBeforeAll name (names_of (xs ++ m ∷ rest)) → IsBefore name m.0
+before_taken name [] m rest all = all.0
+before_taken name (x ∷ xs) m rest all = before_taken name xs m rest all.1
+
+inserted-taken : (xs : List Entry) (m : Entry) (rest : List Entry) → Ascend (names_of (xs ++ m ∷ rest))
+    → strip_members (marked_members_of (xs ++ m ∷ [])) ≡ inserted (strip_members (marked_members_of xs)) m.0 (strip (marked_of m.2))
+inserted-taken [] m rest o = refl
+inserted-taken (x ∷ xs) m rest o =
+    let more = inserted-taken xs m rest o.1 in
+    rw (before_taken x.0 xs m rest o.0) (ap (member x.0 (strip (marked_of x.2))) more)
+
+pub stripped_member-taken : (xs : List Entry) (m : Entry) (rest : List Entry) → MembersOrdered (strip_members (marked_members_of (xs ++ m ∷ rest)))
+    → strip_members (marked_members_of (xs ++ m ∷ [])) ≡ inserted (strip_members (marked_members_of xs)) m.0 (strip (marked_of m.2))
+stripped_member-taken xs m rest o = inserted-taken xs m rest (ascend (marked_members_of (xs ++ m ∷ rest)) o)
+
+-- ---- what stays
+
+pub kept_is : (s : ℕ → Bool) (i : Option ℕ) → is_some (new_mark (kept s) i) ≡ true → new_mark (kept s) i ≡ Some i
+kept_is s None e = refl
+kept_is s (Some i) e = go (s i) e
+  where
+    go : (b : Bool) → is_some (option_map (λ (j : ℕ). Some j) (cond b (Some i) None)) ≡ true → option_map (λ (j : ℕ). Some j) (cond b (Some i) None) ≡ Some (Some i)
+    go true f = refl
+    go false f = cc
+
+pub left_out_is : (s : ℕ → Bool) (i : Option ℕ) → is_some (new_mark (kept s) i) ≡ false → new_mark (kept s) i ≡ None
+left_out_is s i e = go (new_mark (kept s) i) e
+  where
+    go : (o : Option (Option ℕ)) → is_some o ≡ false → o ≡ None
+    go None f = refl
+    go (Some x) f = cc

@@ -1,0 +1,42 @@
+use Rattle.std.proofs.Common.{◌≡◌, ◌+◌, ◌≤◌, drop, length, sym, ap, subst, ◌∙◌, arith, Result, Ok, Err, OnOk, List}
+use Rattle.std.proofs.lemmas.Result.{IfOk-weaker}
+use Rattle.std.proofs.lemmas.List.{length-map}
+use Rattle.std.proofs.lemmas.List.Sorted.{length_permutation, list_any-IsPermutation}
+use Rattle.claim_tree.specs.View.{tree_of}
+use Rattle.marked_tree.specs.Places.{Path, same_path, is_among}
+use Rattle.marked_tree.specs.Rests.{rests, AreSorted}
+use Rattle.marked_tree.proofs.MarkSame.{Alike, mark_same, hidden_same}
+use Rattle.marked_tree.proofs.PathOrder.{rests_zero}
+use Rattle.marked_tree.proofs.HeadCounts.{inner_le}
+use Rattle.marked_tree.proofs.marking.mark.Goals as goal
+
+both : {T E : Type 0} (r : Result T E) (P Q R : Type 0) → (P → Q → R) → OnOk r P → OnOk r Q → OnOk r R
+both (Ok x) P Q R f p q = f p q
+both (Err x) P Q R f p q = tt
+
+pub mark_tree-requires-clause-sorted : goal.mark_tree-requires-clause-sorted
+mark_tree-requires-clause-sorted c = subst AreSorted (sym (rests_zero c.as_slice.result.now ∙ c.as_slice.ensures.value)) c.in_ok-sorted.ensures.sorted
+
+pub mark_tree-requires-clause-few : goal.mark_tree-requires-clause-few
+mark_tree-requires-clause-few c =
+    let xs = c.as_slice.result.now in
+    let same = length_permutation c.args.paths.now c.in_ok-sorted.sorted.items c.in_ok-sorted.ensures.same in
+    let shown = ap (λ (ys : List Path). length ys) c.as_slice.ensures.value in
+    let few = c.requires.few in
+    omega (arith, inner_le (rests 0 xs), length-map xs (drop 0), same, shown, few)
+
+pub alike : (c : goal.After-drop-sorted) → Alike (is_among (rests 0 c.as_slice.result.now)) (is_among c.args.paths.now)
+alike c p =
+    ap (λ ys. is_among ys p) (rests_zero c.as_slice.result.now ∙ c.as_slice.ensures.value) ∙ sym (list_any-IsPermutation (same_path p) c.args.paths.now c.in_ok-sorted.sorted.items c.in_ok-sorted.ensures.same)
+
+pub returns-clause-marked : goal.returns-clause-marked
+returns-clause-marked c =
+    IfOk-weaker c.mark_tree.result _ _ (λ marked e. e ∙ mark_same (is_among (rests 0 c.as_slice.result.now)) (is_among c.args.paths.now) (alike c) 0 (tree_of c.args.tree.now)) c.mark_tree.ensures.marked
+
+pub returns-clause-count : goal.returns-clause-count
+returns-clause-count c =
+    let xs = c.as_slice.result.now in
+    let same = length_permutation c.args.paths.now c.in_ok-sorted.sorted.items c.in_ok-sorted.ensures.same in
+    let shown = ap (λ (ys : List Path). length ys) c.as_slice.ensures.value in
+    let counted = hidden_same (is_among (rests 0 xs)) (is_among c.args.paths.now) (alike c) (tree_of c.args.tree.now) in
+    both c.mark_tree.result _ _ _ (λ n f. omega (arith, n, f, counted, inner_le (rests 0 xs), length-map xs (drop 0), same, shown)) c.mark_tree.ensures.next c.mark_tree.ensures.few

@@ -1,0 +1,24 @@
+-- What the laws of marking say.
+use Rattle.std.specs.Prelude.{◌≡◌, ℕ, List, length, ltb, Some, if◌then◌else◌}
+use Rattle.claim_tree.specs.Tree.{Tree}
+use Rattle.claim_tree.specs.Lists.{At}
+use Rattle.marked_tree.specs.Marked.{Marked, strip, weight, only}
+use Rattle.marked_tree.specs.Places.{Path, mark, hidden_count, closing, is_among, place}
+
+abbrev pub MarkStrips : Type 0
+MarkStrips = (t : Tree) (hide : List Path) → strip (mark t hide) ≡ t
+
+-- each number below n is the mark of exactly one node, and no node has another mark
+abbrev pub HasEachMarkOnce : Marked → ℕ → Type 0
+HasEachMarkOnce m n = (i : ℕ) → weight (only i) m ≡ (if ltb i n then 1 else 0)
+
+abbrev pub MarksOnce : Type 0
+MarksOnce = (t : Tree) (hide : List Path) → HasEachMarkOnce (mark t hide) (hidden_count t hide)
+
+-- mark k stands at the hidden place that has k others before it in closing order
+pub record IsNumbered (t : Tree) (hide : List Path) : Type 0 where
+  pub count : length (closing (is_among hide) t) ≡ hidden_count t hide
+  pub places : (k : ℕ) (q : Path) → At (closing (is_among hide) t) k q → place (mark t hide) k ≡ Some q
+
+abbrev pub MarksClose : Type 0
+MarksClose = (t : Tree) (hide : List Path) → IsNumbered t hide

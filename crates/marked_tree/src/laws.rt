@@ -1,0 +1,17 @@
+//! What the definitions say together. Each law holds for every value.
+ghost use Rattle.marked_tree.specs.Laws.{MarkStrips, MarksOnce, MarksClose};
+
+/// Marking changes no tree.
+pub fn mark_strips()
+    ensures { MarkStrips }
+{}
+
+/// Each number below the count of hidden places marks exactly one node, and no other number does.
+pub fn marks_once()
+    ensures { MarksOnce }
+{}
+
+/// Mark k stands at the hidden place that has k others before it in closing order.
+pub fn marks_close()
+    ensures { MarksClose }
+{}

@@ -1,0 +1,320 @@
+ghost use Rattle.std.specs.Prelude.{◌≡◌, OnOk, OnErr, IfOk, IfErr, option_map};
+ghost use Rattle.std.specs.Ordering.{nat_cmp};
+ghost use Rattle.std.specs.Cmp.Lexicographic.{slice_cmp};
+ghost use Rattle.claim_tree.specs.Tree.{IsOrdered, ElementsOrdered, MembersOrdered};
+ghost use Rattle.claim_tree.specs.Lists.{At};
+ghost use Rattle.marked_tree.specs.Marked.{strip, strip_elements, strip_members, no_marked_elements, no_marked_members, marked_elements_len, marked_members_len, marked_element_at, marked_member_at, marked_names, marked_pushed, marked_inserted, put, put_all};
+ghost use Rattle.marked_tree.specs.NamePlaces.{IsGap};
+ghost use Rattle.marked_tree.specs.View.{marked_of, marked_elements_of, marked_members_of};
+
+use sd_outside::{NoMemory, TextBox};
+use std::alloc::Global;
+use std::cmp::Ordering;
+use std::marker::Model;
+
+/// A JSON value whose members and elements may carry a mark. Contracts see it by `marked_of`.
+#[cycle(marked)]
+#[derive(Debug, Drop)]
+pub enum Marked {
+    Null,
+    Flag(bool),
+    /// From -2^63 to 2^64 - 1.
+    Whole(i128),
+    Text(TextBox),
+    List(MarkedList),
+    Object(MarkedMap),
+}
+
+/// The elements of an array, each with its mark. Contracts see the list of their marks and trees.
+#[cycle(marked)]
+#[derive(Debug, Drop)]
+pub struct MarkedList {
+    elements: Vec<(Option<u32>, Marked)>,
+}
+
+impl Model for MarkedList {
+    ghost use Rattle.marked_tree.specs.Marked.{MarkedElements};
+
+    ghost Value = { MarkedElements };
+
+    ghost use Rattle.marked_tree.specs.Code.{marked_elements_code};
+
+    ghost coded = { marked_elements_code };
+
+    ghost use Rattle.claim_tree.specs.Tree.{elements_nodes, ElementsOrdered};
+    ghost use Rattle.marked_tree.specs.Marked.{strip_elements};
+    ghost use Rattle.marked_tree.specs.View.{marked_elements_of};
+
+    ghost view = { λ l. marked_elements_of l.elements.items };
+
+    ghost invariant = { λ l. ElementsOrdered (strip_elements (marked_elements_of l.elements.items)) };
+
+    ghost size = { λ es. elements_nodes (strip_elements es) };
+
+    ghost use Rattle.std.proofs.Common.{arith};
+    ghost use Rattle.marked_tree.specs.Falls.{most-elements};
+
+    ghost size_decreases = { λ l h. omega (arith, most-elements l.elements.items) };
+}
+
+/// The members of an object, each with its mark, ascending by the bytes of their names, each name once. Contracts
+/// see them in this order.
+#[cycle(marked)]
+#[derive(Debug, Drop)]
+pub struct MarkedMap {
+    members: Vec<(TextBox, Option<u32>, Marked)>,
+}
+
+impl Model for MarkedMap {
+    ghost use Rattle.marked_tree.specs.Marked.{MarkedMembers};
+
+    ghost Value = { MarkedMembers };
+
+    ghost use Rattle.marked_tree.specs.Code.{marked_members_code};
+
+    ghost coded = { marked_members_code };
+
+    ghost use Rattle.claim_tree.specs.Tree.{members_nodes, MembersOrdered};
+    ghost use Rattle.marked_tree.specs.Marked.{strip_members};
+    ghost use Rattle.marked_tree.specs.View.{marked_members_of};
+
+    ghost view = { λ m. marked_members_of m.members.items };
+
+    ghost invariant = { λ m. MembersOrdered (strip_members (marked_members_of m.members.items)) };
+
+    ghost size = { λ ms. members_nodes (strip_members ms) };
+
+    ghost use Rattle.std.proofs.Common.{arith};
+    ghost use Rattle.marked_tree.specs.Falls.{most-members};
+
+    ghost size_decreases = { λ m h. omega (arith, most-members m.members.items) };
+}
+
+// What every marked tree is, by the invariants of what it holds.
+pub(crate) fn is_ordered(tree: &Marked)
+    ensures { IsOrdered (strip (marked_of tree.now)) }
+{
+    match tree {
+        Marked::List(list) => {
+            let _ = list.elements();
+        }
+        Marked::Object(map) => {
+            let _ = map.members();
+        }
+        _ => (),
+    }
+}
+
+impl MarkedList {
+    /// No elements. It takes no memory.
+    pub fn new(alloc: Global) -> MarkedList
+        ensures { result ≡ no_marked_elements }
+    {
+        MarkedList {
+            elements: Vec::new(alloc),
+        }
+    }
+
+    /// Adds an element at the end.
+    pub fn push(&mut self, mark: Option<u32>, tree: Marked) -> Result<(), NoMemory>
+        ensures ok { OnOk result (self.new ≡ marked_pushed self.old mark (marked_of tree)) }
+        ensures err { OnErr result (self.new ≡ self.old) }
+    {
+        is_ordered(&tree);
+        self.elements.push((mark, tree))?;
+        Ok(())
+    }
+
+    /// The elements, in their order.
+    pub fn elements(&self) -> &[(Option<u32>, Marked)]
+        ensures value { marked_elements_of result.now ≡ self.now }
+        ensures ordered { ElementsOrdered (strip_elements self.now) }
+    {
+        self.elements.as_slice()
+    }
+
+    /// The elements, in their order, with no copy.
+    pub fn into_elements(self) -> Vec<(Option<u32>, Marked)>
+        ensures { marked_elements_of result.items ≡ self }
+    {
+        let MarkedList { elements } = self;
+        elements
+    }
+
+    /// The number of elements.
+    pub fn len(&self) -> usize
+        ensures { result ≡ marked_elements_len self.now }
+    {
+        self.elements().len()
+    }
+
+    /// The element at a position, counted from 0.
+    pub fn at(&self, i: usize) -> Option<(Option<u32>, &Marked)>
+        ensures { option_map (λ e. (e.0, marked_of e.1.now)) result ≡ marked_element_at self.now i }
+    {
+        let (mark, tree) = self.elements().get(i)?;
+        Some((*mark, tree))
+    }
+}
+
+impl MarkedMap {
+    /// No members. It takes no memory.
+    pub fn new(alloc: Global) -> MarkedMap
+        ensures { result ≡ no_marked_members }
+    {
+        MarkedMap {
+            members: Vec::new(alloc),
+        }
+    }
+
+    /// The members, ascending by the bytes of their names.
+    pub fn members(&self) -> &[(TextBox, Option<u32>, Marked)]
+        ensures value { marked_members_of result.now ≡ self.now }
+        ensures ordered { MembersOrdered (strip_members self.now) }
+    {
+        self.members.as_slice()
+    }
+
+    /// The members, ascending by the bytes of their names, with no copy.
+    pub fn into_members(self) -> Vec<(TextBox, Option<u32>, Marked)>
+        ensures value { marked_members_of result.items ≡ self }
+        ensures ordered { MembersOrdered (strip_members self) }
+    {
+        let MarkedMap { members } = self;
+        members
+    }
+
+    /// The number of members.
+    pub fn len(&self) -> usize
+        ensures { result ≡ marked_members_len self.now }
+    {
+        self.members().len()
+    }
+
+    /// The member at a position, counted from 0 in ascending order.
+    pub fn entry_at(&self, i: usize) -> Option<(&TextBox, Option<u32>, &Marked)>
+        ensures { option_map (λ m. (m.0.now, m.1, marked_of m.2.now)) result ≡ marked_member_at self.now i }
+    {
+        let (name, mark, tree) = self.members().get(i)?;
+        Some((name, *mark, tree))
+    }
+
+    /// Puts a mark and a tree under a name, in place of those that are there. A name behind all others is not
+    /// searched for, and moves no member.
+    pub fn insert(
+        &mut self,
+        name: TextBox,
+        mark: Option<u32>,
+        tree: Marked,
+    ) -> Result<(), NoMemory>
+        ensures ok { OnOk result (self.new ≡ marked_inserted self.old name mark (marked_of tree)) }
+        ensures err { OnErr result (self.new ≡ self.old) }
+    {
+        is_ordered(&tree);
+        set(&mut self.members, name, mark, tree)
+    }
+
+    /// Puts a mark and a tree under a name, unless it is there. A name behind all others is not searched for, and
+    /// moves no member.
+    pub fn put(&mut self, name: TextBox, mark: Option<u32>, tree: Marked) -> Result<(), NoMemory>
+        ensures ok { OnOk result (self.new ≡ put name mark (marked_of tree) self.old) }
+        ensures err { OnErr result (self.new ≡ self.old) }
+    {
+        is_ordered(&tree);
+        add(&mut self.members, name, mark, tree)
+    }
+
+    /// The members, and those that are added in any order, each put there in turn. Of n members it sorts them
+    /// once, in n log n steps.
+    pub fn with_all(
+        self,
+        alloc: Global,
+        mut added: Vec<(TextBox, Option<u32>, Marked)>,
+    ) -> Result<MarkedMap, NoMemory>
+        ensures { IfOk result (λ map. map ≡ put_all (marked_members_of added.items) self) }
+    {
+        let MarkedMap { members } = self;
+        let mut all = members;
+        all.append(&mut added)?;
+        sort_by_name(&mut all)?;
+        of_members(alloc, all)
+    }
+}
+
+// The members, each put there in turn.
+fn of_members(
+    alloc: Global,
+    members: Vec<(TextBox, Option<u32>, Marked)>,
+) -> Result<MarkedMap, NoMemory>
+    ensures { IfOk result (λ map. map ≡ put_all (marked_members_of members.items) no_marked_members) }
+{
+    let mut map = MarkedMap::new(alloc);
+    for (name, mark, tree) in members {
+        map.put(name, mark, tree)?;
+    }
+    Ok(map)
+}
+
+// How the name of a member compares with another.
+fn compared(member: &(TextBox, Option<u32>, Marked), name: &str) -> Ordering
+    ensures { result ≡ slice_cmp nat_cmp member.now.0 name.now }
+{
+    member.0.as_str().cmp(name)
+}
+
+// Members of one name keep their order.
+fn sort_by_name(members: &mut Vec<(TextBox, Option<u32>, Marked)>) -> Result<(), NoMemory>
+    ensures { OnOk result (put_all (marked_members_of members.new.items) no_marked_members ≡ put_all (marked_members_of members.old.items) no_marked_members) }
+{
+    members.sort_by(|one, other| compared(one, other.0.as_str()))?;
+    Ok(())
+}
+
+// Where the name stands among ascending members, or where it would go.
+fn search(members: &[(TextBox, Option<u32>, Marked)], name: &str) -> Result<usize, usize>
+    requires { MembersOrdered (strip_members (marked_members_of members.now)) }
+    ensures found { IfOk result (λ i. At (marked_names (marked_members_of members.now)) i name.now) }
+    ensures absent { IfErr result (IsGap (marked_names (marked_members_of members.now)) name.now) }
+{
+    match members.last() {
+        Some(last) if compared(last, name) == Ordering::Less => Err(members.len()),
+        _ => members.binary_search_by(|member| compared(member, name)),
+    }
+}
+
+fn set(
+    members: &mut Vec<(TextBox, Option<u32>, Marked)>,
+    name: TextBox,
+    mark: Option<u32>,
+    tree: Marked,
+) -> Result<(), NoMemory>
+    requires members { MembersOrdered (strip_members (marked_members_of members.old.items)) }
+    requires tree { IsOrdered (strip (marked_of tree)) }
+    ensures ok { OnOk result (marked_members_of members.new.items ≡ marked_inserted (marked_members_of members.old.items) name mark (marked_of tree)) }
+    ensures ordered { MembersOrdered (strip_members (marked_members_of members.new.items)) }
+    ensures err { OnErr result (marked_members_of members.new.items ≡ marked_members_of members.old.items) }
+{
+    match search(members.as_slice(), name.as_str()) {
+        Ok(place) => members[place] = (name, mark, tree),
+        Err(place) => members.insert(place, (name, mark, tree))?,
+    }
+    Ok(())
+}
+
+fn add(
+    members: &mut Vec<(TextBox, Option<u32>, Marked)>,
+    name: TextBox,
+    mark: Option<u32>,
+    tree: Marked,
+) -> Result<(), NoMemory>
+    requires members { MembersOrdered (strip_members (marked_members_of members.old.items)) }
+    requires tree { IsOrdered (strip (marked_of tree)) }
+    ensures ok { OnOk result (marked_members_of members.new.items ≡ put name mark (marked_of tree) (marked_members_of members.old.items)) }
+    ensures ordered { MembersOrdered (strip_members (marked_members_of members.new.items)) }
+    ensures err { OnErr result (marked_members_of members.new.items ≡ marked_members_of members.old.items) }
+{
+    if let Err(place) = search(members.as_slice(), name.as_str()) {
+        members.insert(place, (name, mark, tree))?;
+    }
+    Ok(())
+}

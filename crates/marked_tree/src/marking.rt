@@ -1,0 +1,193 @@
+// The marking of a plain tree.
+ghost use Rattle.std.specs.Prelude.{◌≡◌, ◌≤◌, ◌<◌, ◌+◌, ◌-◌, ◌^◌, List, ◌∷◌, [], length, IfOk, OnOk, drop};
+ghost use Rattle.std.specs.List.Sorted.{IsPermutation};
+ghost use Rattle.claim_tree.specs.Tree.{depth as depth_of, elements_depth, members_depth};
+ghost use Rattle.claim_tree.specs.View.{tree_of};
+ghost use Rattle.marked_tree.specs.Places.{Path as Steps, mark as mark_of, hidden_count, is_among, below as test_below, one_if, hidden_in, hidden_elements, hidden_members, mark_from, mark_elements, mark_members, mark_if};
+ghost use Rattle.marked_tree.specs.Rests.{rests, step_order, path_order, AreSorted, headed, inner};
+ghost use Rattle.marked_tree.specs.View.{marked_of};
+
+use crate::{Marked, MarkedList, MarkedMap};
+use claim_tree::{Path, PathList, Tree, TreeList, TreeMap};
+use itoa::Buffer;
+use sd_outside::{NoMemory, TextBox};
+use std::alloc::Global;
+use std::cmp::Ordering;
+
+/// The tree with a mark at each place that a path leads to, and with texts of its own. The marks count from 0 in
+/// closing order: members go by the bytes of their names, elements by position, and a place is numbered after all
+/// inside it. The paths are sorted once, and each step down searches those below by halves.
+pub fn mark(alloc: Global, tree: &Tree, paths: &PathList) -> Result<Marked, NoMemory>
+    requires depth { depth_of (tree_of tree.now) ≤ 127 }
+    requires few { length paths.now < 2 ^ 32 - 1 }
+    ensures marked { IfOk result (λ marked. marked_of marked ≡ mark_of (tree_of tree.now) paths.now) }
+    ensures count { IfOk result (λ _. hidden_count (tree_of tree.now) paths.now ≤ length paths.now) }
+{
+    let sorted = sorted_paths(alloc, paths)?;
+    let mut next = 0;
+    mark_tree(alloc, tree, sorted.as_slice(), 0, &mut next)
+}
+
+fn sorted_paths(alloc: Global, paths: &PathList) -> Result<Vec<Path>, NoMemory>
+    ensures same { IfOk result (λ sorted. IsPermutation paths.now sorted.items) }
+    ensures sorted { IfOk result (λ sorted. AreSorted sorted.items) }
+{
+    let mut sorted = copies(alloc, paths)?;
+    sorted.sort_by(|one, other| ordered(one, other))?;
+    Ok(sorted)
+}
+
+fn copies(alloc: Global, paths: &PathList) -> Result<Vec<Path>, NoMemory>
+    ensures { IfOk result (λ copies. copies.items ≡ paths.now) }
+{
+    let mut copies = Vec::new(alloc);
+    for path in paths.paths() {
+        copies.push(path.copy(alloc)?)?;
+    }
+    Ok(copies)
+}
+
+// By the bytes of their steps, a front first.
+fn ordered(one: &Path, other: &Path) -> Ordering
+    ensures { result ≡ path_order one.now other.now }
+{
+    one.steps().cmp(other.steps())
+}
+
+// The paths go on from the depth. Where `next` would be the next mark, the tree takes those from there on.
+#[cycle(mark)]
+fn mark_tree(
+    alloc: Global,
+    tree: &Tree,
+    paths: &[Path],
+    depth: usize,
+    next: &mut u32,
+) -> Result<Marked, NoMemory>
+    requires depth { depth + depth_of (tree_of tree.now) ≤ 127 }
+    requires sorted { AreSorted (rests depth paths.now) }
+    requires few { next.old + inner (rests depth paths.now) < 2 ^ 32 }
+    ensures marked { IfOk result (λ marked. marked_of marked ≡ mark_from (is_among (rests depth paths.now)) next.old (tree_of tree.now)) }
+    ensures next { OnOk result (next.new ≡ next.old + hidden_in (is_among (rests depth paths.now)) (tree_of tree.now)) }
+    ensures few { OnOk result (next.new ≤ next.old + inner (rests depth paths.now)) }
+{
+    match tree {
+        Tree::Null => Ok(Marked::Null),
+        Tree::Flag(flag) => Ok(Marked::Flag(*flag)),
+        Tree::Whole(n) => Ok(Marked::Whole(*n)),
+        Tree::Text(text) => Ok(Marked::Text(TextBox::make(alloc, text.as_str())?)),
+        Tree::List(trees) => Ok(Marked::List(mark_list(alloc, trees, paths, depth, next)?)),
+        Tree::Object(trees) => Ok(Marked::Object(mark_map(alloc, trees, paths, depth, next)?)),
+    }
+}
+
+#[cycle(mark)]
+fn mark_list(
+    alloc: Global,
+    trees: &TreeList,
+    paths: &[Path],
+    depth: usize,
+    next: &mut u32,
+) -> Result<MarkedList, NoMemory>
+    requires depth { depth + elements_depth trees.now ≤ 126 }
+    requires sorted { AreSorted (rests depth paths.now) }
+    requires few { next.old + inner (rests depth paths.now) < 2 ^ 32 }
+    ensures marked { IfOk result (λ marked. marked ≡ mark_elements (is_among (rests depth paths.now)) next.old 0 trees.now) }
+    ensures next { OnOk result (next.new ≡ next.old + hidden_elements (is_among (rests depth paths.now)) 0 trees.now) }
+    ensures few { OnOk result (next.new ≤ next.old + inner (rests depth paths.now)) }
+{
+    let mut marked = MarkedList::new(alloc);
+    for (i, tree) in trees.trees().iter().enumerate() {
+        let mut digits = Buffer::new();
+        let (mark, inside) = mark_at(alloc, digits.format(i), tree, paths, depth, next)?;
+        marked.push(mark, inside)?;
+    }
+    Ok(marked)
+}
+
+#[cycle(mark)]
+fn mark_map(
+    alloc: Global,
+    trees: &TreeMap,
+    paths: &[Path],
+    depth: usize,
+    next: &mut u32,
+) -> Result<MarkedMap, NoMemory>
+    requires depth { depth + members_depth trees.now ≤ 126 }
+    requires sorted { AreSorted (rests depth paths.now) }
+    requires few { next.old + inner (rests depth paths.now) < 2 ^ 32 }
+    ensures marked { IfOk result (λ marked. marked ≡ mark_members (is_among (rests depth paths.now)) next.old trees.now) }
+    ensures next { OnOk result (next.new ≡ next.old + hidden_members (is_among (rests depth paths.now)) trees.now) }
+    ensures few { OnOk result (next.new ≤ next.old + inner (rests depth paths.now)) }
+{
+    let mut marked = MarkedMap::new(alloc);
+    for (name, tree) in trees.members() {
+        let (mark, inside) = mark_at(alloc, name.as_str(), tree, paths, depth, next)?;
+        marked.put(TextBox::make(alloc, name.as_str())?, mark, inside)?;
+    }
+    Ok(marked)
+}
+
+// The mark and the inside of the tree on a step: it is numbered after its inside.
+#[cycle(mark)]
+fn mark_at(
+    alloc: Global,
+    step: &str,
+    tree: &Tree,
+    paths: &[Path],
+    depth: usize,
+    next: &mut u32,
+) -> Result<(Option<u32>, Marked), NoMemory>
+    requires depth { depth + depth_of (tree_of tree.now) ≤ 126 }
+    requires sorted { AreSorted (rests depth paths.now) }
+    requires few { next.old + headed step.now (rests depth paths.now) < 2 ^ 32 }
+    ensures own { IfOk result (λ marked. marked.0 ≡ mark_if (is_among (rests depth paths.now) (step.now ∷ [])) (next.old + hidden_in (test_below step.now (is_among (rests depth paths.now))) (tree_of tree.now))) }
+    ensures inside { IfOk result (λ marked. marked_of marked.1 ≡ mark_from (test_below step.now (is_among (rests depth paths.now))) next.old (tree_of tree.now)) }
+    ensures next { OnOk result (next.new ≡ next.old + (hidden_in (test_below step.now (is_among (rests depth paths.now))) (tree_of tree.now) + one_if (is_among (rests depth paths.now) (step.now ∷ [])))) }
+    ensures few { OnOk result (next.new ≤ next.old + headed step.now (rests depth paths.now)) }
+{
+    let below = paths_below(paths, depth, step);
+    let inside = mark_tree(alloc, tree, below, depth + 1, next)?;
+    let mark = own_mark(below, depth + 1, next);
+    Ok((mark, inside))
+}
+
+// The paths that go on by the step.
+fn paths_below<'a>(paths: &'a [Path], depth: usize, step: &str) -> &'a [Path]
+    requires fits { depth ≤ 126 }
+    requires sorted { AreSorted (rests depth paths.now) }
+    ensures sorted { AreSorted (rests (depth + 1) result.now) }
+    ensures below { (p : Steps) → is_among (rests (depth + 1) result.now) p ≡ is_among (rests depth paths.now) (step.now ∷ p) }
+    ensures count { length result.now ≡ headed step.now (rests depth paths.now) }
+{
+    let start = paths.partition_point(|path| compared(path, depth, step) == Ordering::Less);
+    let rest = &paths[start..];
+    let end = rest.partition_point(|path| compared(path, depth, step) == Ordering::Equal);
+    &rest[..end]
+}
+
+// How the step of a path at the depth compares with another.
+fn compared(path: &Path, depth: usize, step: &str) -> Ordering
+    ensures { result ≡ step_order (drop depth path.now) step.now }
+{
+    match path.at(depth) {
+        Some(found) => found.as_str().cmp(step),
+        None => Ordering::Less,
+    }
+}
+
+// The next mark, where one of the paths ends at the depth.
+fn own_mark(paths: &[Path], depth: usize, next: &mut u32) -> Option<u32>
+    requires sorted { AreSorted (rests depth paths.now) }
+    requires few { next.old + one_if (is_among (rests depth paths.now) []) < 2 ^ 32 }
+    ensures own { result ≡ mark_if (is_among (rests depth paths.now) []) next.old }
+    ensures next { next.new ≡ next.old + one_if (is_among (rests depth paths.now) []) }
+{
+    match paths.first() {
+        Some(path) if path.len() <= depth => {
+            let mark = *next;
+            *next += 1;
+            Some(mark)
+        }
+        _ => None,
+    }
+}

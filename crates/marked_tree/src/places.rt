@@ -1,0 +1,108 @@
+// Where marks stand.
+ghost use Rattle.std.specs.Prelude.{◌≡◌, ◌≤◌, ℕ, List, [], ◌∷◌, ◌++◌, map, reverse, IfOk, IfSome, option_map, decimal};
+ghost use Rattle.claim_tree.specs.Tree.{depth, elements_depth, members_depth};
+ghost use Rattle.marked_tree.specs.Marked.{strip, strip_elements, strip_members};
+ghost use Rattle.marked_tree.specs.Places.{place, own_spot, inside, spots, elements_spots, members_spots, first_with};
+ghost use Rattle.marked_tree.specs.View.{marked_of};
+
+use crate::{Marked, MarkedList, MarkedMap};
+use claim_tree::Path;
+use itoa::Buffer;
+use sd_outside::{NoMemory, TextBox};
+use std::alloc::Global;
+
+/// The path, in the tree without marks, of the first node with the mark: each node comes before those inside it,
+/// members come by the bytes of their names. None where no node has the mark.
+pub fn place_of(alloc: Global, tree: &Marked, mark: u32) -> Result<Option<Path>, NoMemory>
+    requires { depth (strip (marked_of tree.now)) ≤ 127 }
+    ensures { IfOk result (λ path. path ≡ place (marked_of tree.now) mark) }
+{
+    match find(alloc, tree, mark)? {
+        Some(steps) => Ok(Some(path_back(alloc, steps)?)),
+        None => Ok(None),
+    }
+}
+
+// The path of steps that are given from the last to the first.
+fn path_back(alloc: Global, steps: Vec<TextBox>) -> Result<Path, NoMemory>
+    ensures { IfOk result (λ path. path ≡ reverse steps.items) }
+{
+    let mut steps = steps;
+    steps.reverse();
+    let mut path = Path::new(alloc);
+    for step in steps {
+        path.push(step)?;
+    }
+    Ok(path)
+}
+
+// The steps to the first node with the mark, from the last to the first.
+#[cycle(find)]
+fn find(alloc: Global, tree: &Marked, mark: u32) -> Result<Option<Vec<TextBox>>, NoMemory>
+    requires { depth (strip (marked_of tree.now)) ≤ 127 }
+    ensures { IfOk result (λ steps. option_map (λ s. reverse s.items) steps ≡ first_with mark (spots (marked_of tree.now))) }
+{
+    match tree {
+        Marked::List(list) => find_element(alloc, list, mark),
+        Marked::Object(map) => find_member(alloc, map, mark),
+        _ => Ok(None),
+    }
+}
+
+#[cycle(find)]
+fn find_element(
+    alloc: Global,
+    list: &MarkedList,
+    mark: u32,
+) -> Result<Option<Vec<TextBox>>, NoMemory>
+    requires { elements_depth (strip_elements list.now) ≤ 126 }
+    ensures { IfOk result (λ steps. option_map (λ s. reverse s.items) steps ≡ first_with mark (elements_spots 0 list.now)) }
+{
+    for (i, element) in list.elements().iter().enumerate() {
+        let (own, tree) = element;
+        if let Some(mut steps) = find_at(alloc, *own, tree, mark)? {
+            steps.push(digits(alloc, i)?)?;
+            return Ok(Some(steps));
+        }
+    }
+    Ok(None)
+}
+
+#[cycle(find)]
+fn find_member(alloc: Global, map: &MarkedMap, mark: u32) -> Result<Option<Vec<TextBox>>, NoMemory>
+    requires { members_depth (strip_members map.now) ≤ 126 }
+    ensures { IfOk result (λ steps. option_map (λ s. reverse s.items) steps ≡ first_with mark (members_spots map.now)) }
+{
+    for (name, own, tree) in map.members() {
+        if let Some(mut steps) = find_at(alloc, *own, tree, mark)? {
+            steps.push(TextBox::make(alloc, name.as_str())?)?;
+            return Ok(Some(steps));
+        }
+    }
+    Ok(None)
+}
+
+// The same at a node with its own mark: without the step to this node.
+#[cycle(find)]
+fn find_at(
+    alloc: Global,
+    own: Option<u32>,
+    tree: &Marked,
+    mark: u32,
+) -> Result<Option<Vec<TextBox>>, NoMemory>
+    requires { depth (strip (marked_of tree.now)) ≤ 127 }
+    ensures { IfOk result (λ steps. (step : List ℕ) → option_map (λ s. step ∷ reverse s.items) steps ≡ first_with mark (own_spot step own ++ map (inside step own) (spots (marked_of tree.now)))) }
+{
+    if own == Some(mark) {
+        return Ok(Some(Vec::new(alloc)));
+    }
+    find(alloc, tree, mark)
+}
+
+// The decimal digits of a position.
+pub(crate) fn digits(alloc: Global, i: usize) -> Result<TextBox, NoMemory>
+    ensures { IfOk result (λ text. text ≡ decimal i) }
+{
+    let mut digits = Buffer::new();
+    TextBox::make(alloc, digits.format(i))
+}
