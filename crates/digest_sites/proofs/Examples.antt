@@ -1,10 +1,9 @@
 -- Worked values, by the definitions.
-use Rattle.std.proofs.Common.{◌≡◌, List, [], ◌∷◌, Option, Some, None, true, false, codes, pos, refl}
+use Rattle.std.proofs.Common.{◌≡◌, [], ◌∷◌, None, true, false, codes, pos, refl}
 use Rattle.std.specs.Fmt.{digits}
 use Rattle.claim_tree.specs.Tree.{Tree, leaf, whole, text, array, object, no_elements, element, no_members, member}
 use Rattle.digest_sites.specs.Reserved.{sd_name, dots_name, element_digest, misuses}
-use Rattle.digest_sites.specs.Sites.{site, sites}
-use Rattle.digest_sites.specs.declared.site.SiteKind.TheVariants.{Member, Element}
+use Rattle.digest_sites.specs.Sites.{own_site, element_site, to_member, to_element, under, sites}
 
 -- {"...":"F"}
 abbrev hidden : Tree
@@ -14,7 +13,9 @@ hidden = object (member (codes "...") (leaf (text (codes "F"))) no_members)
 abbrev both : Tree
 both = object (member (codes "_sd") (array (element (leaf (text (codes "A"))) (element (leaf (text (codes "B"))) no_elements))) (member (codes "n") (array (element hidden no_elements)) no_members))
 
-in_order : sites both ≡ site [] Member (codes "A") ∷ site [] Member (codes "B") ∷ site (codes "n" ∷ codes "0" ∷ []) Element (codes "F") ∷ []
+in_order : sites both
+    ≡ own_site (codes "_sd" ∷ codes "n" ∷ []) (codes "A") ∷ own_site (codes "_sd" ∷ codes "n" ∷ []) (codes "B")
+    ∷ under (to_member (codes "n")) (element_site (to_element 0) (codes "F")) ∷ []
 unfolding sd_name dots_name digits
 in_order = refl
 

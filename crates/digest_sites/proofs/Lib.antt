@@ -1,2 +1,3 @@
 pub mod Moved
+mod Found
 mod Examples

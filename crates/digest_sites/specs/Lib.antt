@@ -1,4 +1,5 @@
 pub mod Reserved
 pub mod Sites
+pub mod Walk
 pub mod Given
 pub mod Code

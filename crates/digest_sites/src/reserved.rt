@@ -1,9 +1,9 @@
 // What of a tree the reserved names read.
-ghost use Rattle.std.specs.Prelude.{◌≡◌, is_some, option_map, bytes_eq};
+ghost use Rattle.std.specs.Prelude.{◌≡◌, [], Some, MatchOption, is_some, option_map, bytes_eq};
 ghost use Rattle.claim_tree.specs.View.{tree_of};
-ghost use Rattle.digest_sites.specs.Reserved.{text_of as text_in, texts_of, text_list, element_digest as digest_in, is_ill_named as is_ill_named_as, sd_name, dots_name};
+ghost use Rattle.digest_sites.specs.Reserved.{text_of as text_in, texts_of, text_list, element_digest as digest_in, is_ill_named as is_ill_named_as, sd_texts, sd_name, dots_name};
 
-use claim_tree::{Tree, TreeList};
+use claim_tree::{Tree, TreeList, TreeMap};
 use sd_outside::TextBox;
 
 // The name of the digests of hidden members.
@@ -12,8 +12,9 @@ pub(crate) const SD: &str = "_sd";
 // The name of the digest of a hidden element.
 pub(crate) const DOTS: &str = "...";
 
+/// Whether a name is `_sd`, RFC 9901 section 4.2.4.1.
 #[tactic(auto, unfolding(crate::specs::Reserved::sd_name))]
-pub(crate) fn is_sd(name: &TextBox) -> bool
+pub fn is_sd(name: &TextBox) -> bool
     ensures { result ≡ bytes_eq name.now sd_name }
 {
     name.as_str() == SD
@@ -55,6 +56,21 @@ pub(crate) fn is_text_list(tree: &Tree) -> bool
     }
 }
 
+/// The list of the digests of an object's own hidden members, `None` where the object has no member `_sd` or that is
+/// no list of texts. It takes no memory.
+#[tactic(auto, unfolding(crate::specs::Reserved::sd_name), using(crate::proofs::Found::sd_found))]
+pub fn own_digests(members: &TreeMap) -> Option<&TreeList>
+    ensures { MatchOption result (sd_texts members.now ≡ []) (λ list. texts_of list.now ≡ Some (sd_texts members.now)) }
+{
+    let Tree::List(list) = members.get(SD)? else {
+        return None;
+    };
+    if !are_texts(list) {
+        return None;
+    }
+    Some(list)
+}
+
 // Whether a member with this name and value misuses a reserved name, in an object that is walked.
 pub(crate) fn is_ill_named(name: &TextBox, tree: &Tree) -> bool
     ensures { result ≡ is_ill_named_as name.now (tree_of tree.now) }
@@ -62,9 +78,10 @@ pub(crate) fn is_ill_named(name: &TextBox, tree: &Tree) -> bool
     is_sd(name) && !is_text_list(tree) || is_dots(name)
 }
 
-// The digest of an element that stands for a hidden one.
+/// The digest of an element that stands for a hidden one, RFC 9901 section 4.2.4.2, `None` for any other element. It
+/// takes no memory.
 #[tactic(auto, unfolding(crate::specs::Reserved::dots_name))]
-pub(crate) fn element_digest(tree: &Tree) -> Option<&TextBox>
+pub fn element_digest(tree: &Tree) -> Option<&TextBox>
     ensures { option_map (λ t. t.now) result ≡ digest_in (tree_of tree.now) }
 {
     let Tree::Object(members) = tree else {

@@ -1,14 +1,15 @@
 // The sites of a tree, in their order.
-ghost use Rattle.std.specs.Prelude.{◌≡◌, ◌≤◌, [], ◌∷◌, ◌++◌, map, false, Some, IsSome, IfOk, IfErr, OnOk, unwrap_or};
+ghost use Rattle.std.specs.Prelude.{◌≡◌, ◌≤◌, [], ◌∷◌, ◌++◌, map, false, Some, IsSome, IfOk, IfErr, OnOk};
 ghost use Rattle.std.specs.Fmt.{decimal};
 ghost use Rattle.claim_tree.specs.Tree.{depth, elements_depth, members_depth};
 ghost use Rattle.claim_tree.specs.View.{tree_of};
-ghost use Rattle.digest_sites.specs.Reserved.{misuses, texts_of, element_digest as digest_in};
-ghost use Rattle.digest_sites.specs.Sites.{site, sites as sites_of, sites_at, own_sites as own_sites_at, element_sites, elements_sites, members_sites, IsSiteRefusal};
+ghost use Rattle.digest_sites.specs.Reserved.{misuses, texts_of, texts_or_none, element_digest as digest_in};
+ghost use Rattle.digest_sites.specs.Sites.{sites as sites_of, listed, IsSiteRefusal};
+ghost use Rattle.digest_sites.specs.Walk.{site, sites_at, own_sites as own_sites_at, element_sites, elements_sites, members_sites};
 ghost use Rattle.digest_sites.specs.declared.site.SiteKind.TheVariants.{Member};
 
 use crate::misuse::is_misused;
-use crate::reserved::{SD, are_texts, element_digest, is_sd, text_of};
+use crate::reserved::{element_digest, is_sd, own_digests, text_of};
 use crate::site::{Site, SiteKind, SiteList};
 use claim_tree::{Path, Tree, TreeList, TreeMap};
 use sd_outside::{NoMemory, TextBox};
@@ -35,9 +36,10 @@ impl From<NoMemory> for SiteError {
 
 /// The sites of a tree: of an object first those of its `_sd`, then those inside its other members in ascending
 /// order; of an array those of its elements in order, where an element with a digest is one site.
+#[tactic(auto, using(crate::proofs::Moved::listed_sites))]
 pub fn sites(alloc: Global, tree: &Tree) -> Result<SiteList, SiteError>
     requires { depth (tree_of tree.now) ≤ 127 }
-    ensures ok { IfOk result (λ list. list ≡ sites_of (tree_of tree.now)) }
+    ensures ok { IfOk result (λ list. list ≡ map listed (sites_of (tree_of tree.now))) }
     ensures well { IfOk result (λ _. misuses (tree_of tree.now) ≡ false) }
     ensures refused { IfErr result (IsSiteRefusal (tree_of tree.now)) }
 {
@@ -167,7 +169,6 @@ fn add_element_site(
     })
 }
 
-#[tactic(auto, unfolding(crate::specs::Reserved::sd_name))]
 fn add_own_sites(
     alloc: Global,
     trees: &TreeMap,
@@ -176,11 +177,9 @@ fn add_own_sites(
 ) -> Result<(), NoMemory>
     ensures { OnOk result (found.new ≡ found.old ++ own_sites_at at.now trees.now) }
 {
-    match trees.get(SD) {
-        Some(Tree::List(digests)) if are_texts(digests) => {
-            add_member_sites(alloc, digests, at, found)
-        }
-        _ => Ok(()),
+    match own_digests(trees) {
+        Some(digests) => add_member_sites(alloc, digests, at, found),
+        None => Ok(()),
     }
 }
 
@@ -191,7 +190,7 @@ fn add_member_sites(
     found: &mut SiteList,
 ) -> Result<(), NoMemory>
     requires { IsSome (texts_of digests.now) }
-    ensures { OnOk result (found.new ≡ found.old ++ map (site at.now Member) (unwrap_or (texts_of digests.now) [])) }
+    ensures { OnOk result (found.new ≡ found.old ++ map (site at.now Member) (texts_or_none (texts_of digests.now))) }
 {
     for tree in digests.trees() {
         if let Some(digest) = text_of(tree) {

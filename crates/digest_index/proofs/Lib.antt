@@ -1,0 +1,5 @@
+pub mod Places
+pub mod Interned
+pub mod Ticks
+mod Keys
+mod Examples

@@ -1,0 +1,79 @@
+ghost use Rattle.std.specs.Prelude.{◌≡◌, [], length, None, bytes_eq, IfOk, OnErr, OnOk};
+ghost use Rattle.std.specs.List.{IsDistinct};
+ghost use Rattle.digest_index.specs.Index.{interned, place_of, place_or_end, ticked};
+
+use crate::Steps;
+use indexmap::IndexSet;
+use sd_outside::NoMemory;
+use std::alloc::Global;
+use std::marker::Model;
+
+/// Distinct texts, in the order in which they were first seen. Contracts see the list of them.
+///
+/// A position never changes, and a look-up costs one hash of the text. The hash has no secret, so someone who picks
+/// the texts can pick ones that collide.
+#[derive(Debug, Drop)]
+pub struct DigestIndex {
+    alloc: Global,
+    texts: IndexSet<String>,
+}
+
+impl Model for DigestIndex {
+    ghost use Rattle.std.specs.Prelude.{List, ℕ, map, string_bytes, bytes_eq};
+    ghost use Rattle.std.specs.List.{IsDistinct};
+
+    ghost Value = { List (List ℕ) };
+
+    ghost view = { λ d. map string_bytes d.texts.keys };
+
+    ghost invariant = { λ d. IsDistinct bytes_eq (map string_bytes d.texts.keys) };
+}
+
+impl DigestIndex {
+    /// No texts. It takes no memory.
+    pub fn new(alloc: Global) -> DigestIndex
+        ensures { result ≡ [] }
+    {
+        DigestIndex {
+            alloc,
+            texts: IndexSet::new(alloc),
+        }
+    }
+
+    /// The number of texts.
+    pub fn len(&self) -> usize
+        ensures len { result ≡ length self.now }
+        ensures distinct { IsDistinct bytes_eq self.now }
+    {
+        self.texts.len()
+    }
+
+    /// The position of a text, counted from 0, which is put at the end where it is new.
+    ///
+    /// Only a text that is new is copied, so one that is there takes no memory.
+    pub fn intern(&mut self, text: &str, steps: &mut Steps) -> Result<usize, NoMemory>
+        ensures place { IfOk result (λ place. place ≡ place_or_end text.now self.old) }
+        ensures ok { OnOk result (self.new ≡ interned text.now self.old) }
+        ensures err { OnErr result (self.new ≡ self.old) }
+        ensures only_new { OnErr result (place_of text.now self.old ≡ None) }
+        ensures distinct { IsDistinct bytes_eq self.new }
+        ensures ticked { steps.new ≡ ticked steps.old }
+    {
+        if let Some(place) = self.find(text, steps) {
+            return Ok(place);
+        }
+        let copy = String::from_str(self.alloc, text)?;
+        let (place, _) = self.texts.insert_full(copy)?;
+        Ok(place)
+    }
+
+    /// The position of a text, counted from 0, where it is there. It takes no memory.
+    pub fn find(&self, text: &str, steps: &mut Steps) -> Option<usize>
+        ensures place { result ≡ place_of text.now self.now }
+        ensures distinct { IsDistinct bytes_eq self.now }
+        ensures ticked { steps.new ≡ ticked steps.old }
+    {
+        steps.tick();
+        self.texts.get_index_of(text)
+    }
+}

@@ -1,0 +1,13 @@
+//! Numbers for texts, in the order in which they are first seen, and a count of the look-ups.
+//!
+//! A [`DigestIndex`] gives each text the position at which it was first seen, so that what follows works on numbers.
+//! Each look-up adds one to the [`Steps`] that it is lent.
+#![tactic(auto)]
+
+mod index;
+mod steps;
+#[cfg(test)]
+mod tests;
+
+pub use index::DigestIndex;
+pub use steps::Steps;
