@@ -1,5 +1,5 @@
 -- The first spot with a mark.
-use Rattle.std.proofs.Common.{◌≡◌, ℕ, suc, ◌+◌, ◌<◌, List, [], ◌∷◌, ◌++◌, map, length, reverse, drop, get_or, Bool, true, false, cond, eqb, Option, Some, None, option_map, arith, refl, sym, ap, ◌∙◌, subst, eq-eqb, eqb-true, decimal}
+use Rattle.std.proofs.Common.{◌≡◌, ℕ, suc, ◌+◌, ◌<◌, List, [], ◌∷◌, ◌++◌, map, length, reverse, drop, get_or, Bool, true, false, cond, eqb, Option, Some, None, option_map, arith, refl, sym, ap, ◌∙◌, eq-eqb, eqb-true, decimal}
 use Rattle.std.specs.Option.{option_eq}
 use Rattle.std.proofs.lemmas.List.{drop_more, reverse-append}
 use Rattle.claim_tree.specs.Tree.{Text}

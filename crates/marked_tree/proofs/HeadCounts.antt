@@ -6,8 +6,8 @@ use Rattle.claim_tree.specs.Tree.{Text, Members, no_members, member, names, IsBe
 use Rattle.claim_tree.specs.View.{members_of}
 use Rattle.claim_tree.proofs.Lists.{bytes_same}
 use Rattle.claim_tree.proofs.Walks.{Named}
-use Rattle.marked_tree.specs.Places.{Path, one_if, same_path, is_among}
-use Rattle.marked_tree.specs.Rests.{one_head, headed, has_step, inner}
+use Rattle.marked_tree.specs.Places.{Path, one_if, is_among}
+use Rattle.marked_tree.specs.Rests.{headed, inner}
 use Rattle.marked_tree.proofs.Names.{Ascend}
 use Rattle.marked_tree.proofs.Lookups.{apart}
 

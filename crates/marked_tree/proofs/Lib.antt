@@ -13,3 +13,4 @@ pub mod Remarks
 pub mod MarkSame
 pub mod PathOrder
 pub mod HeadCounts
+mod Examples

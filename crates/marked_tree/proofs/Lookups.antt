@@ -1,10 +1,9 @@
 -- Members that are put in turn: what stands under each name, and that a stable sort changes nothing.
-use Rattle.std.proofs.Common.{◌≡◌, ℕ, List, [], ◌∷◌, ◌++◌, Bool, true, false, cond, ◌&&◌, Option, Some, None, Ordering, Less, Equal, Greater, refl, sym, ap, ap₂, subst, ◌∙◌}
+use Rattle.std.proofs.Common.{◌≡◌, ℕ, List, [], ◌∷◌, ◌++◌, Bool, true, false, cond, ◌&&◌, Option, Some, None, Ordering, Less, Equal, Greater, refl, sym, ap, subst, ◌∙◌}
 use Rattle.std.specs.Prelude.{bytes_eq, not}
 use Rattle.std.specs.List.{filter}
 use Rattle.std.specs.List.Sorted.{IsStableBy, ties}
 use Rattle.std.specs.Ordering.{is_lt, is_eq}
-use Rattle.std.proofs.lemmas.Cmp.{tied_itself}
 use Rattle.std.proofs.lemmas.Map.Text.{is_eq-slice_cmp}
 use Rattle.claim_tree.specs.Tree.{Text, IsBefore, IsBeforeAll}
 use Rattle.claim_tree.proofs.Lists.{bytes_same, bytes_refl, pair_same}
@@ -13,7 +12,7 @@ use Rattle.marked_tree.specs.Marked.{MarkedMembers, marked_member, no_marked_mem
 use Rattle.marked_tree.specs.declared.marked.Marked.{Marked}
 use Rattle.marked_tree.specs.View.{marked_of, marked_members_of}
 use Rattle.marked_tree.proofs.MarkedViews.{Entry}
-use Rattle.marked_tree.proofs.Names.{cmp, order, Ascend, names_of, put_by, before_through, turned, turned_back, tie_turned, same_name}
+use Rattle.marked_tree.proofs.Names.{cmp, Ascend, names_of, put_by, before_through, turned, turned_back, tie_turned, same_name}
 
 abbrev Found : Type 0
 Found = Option (Option ℕ × spec.Marked)

@@ -1,5 +1,5 @@
 -- Members that ascend: where a name stands among them, and what is put there.
-use Rattle.std.proofs.Common.{◌≡◌, ◌⊎◌, inl, inr, ℕ, zero, suc, ◌+◌, ◌-◌, ◌<◌, ◌≤◌, true, List, [], ◌∷◌, length, set, get_or, Option, Some, None, Ordering, Less, Equal, Greater, nat_cmp, Result, Ok, Err, IfOk, IfErr, refl, sym, ap, subst, ◌∙◌, arith}
+use Rattle.std.proofs.Common.{◌≡◌, ◌⊎◌, inl, inr, ℕ, zero, suc, ◌+◌, ◌-◌, ◌<◌, true, List, [], ◌∷◌, length, set, get_or, Option, Some, Ordering, Less, Equal, Greater, nat_cmp, Result, Ok, Err, IfOk, IfErr, refl, sym, ap, subst, ◌∙◌, arith}
 use Rattle.std.specs.Prelude.{◌==◌}
 use Rattle.std.specs.List.{insert, slice_get}
 use Rattle.std.specs.List.Sorted.{IsSortedBy, IsSearchInRange, IsBinarySearchResult}
@@ -10,7 +10,7 @@ use Rattle.std.proofs.lemmas.Cmp.{is_lt_index, tied_itself}
 use Rattle.std.proofs.lemmas.Map.Text.{is_eq-slice_cmp}
 use Rattle.std.proofs.lemmas.Slice.Eq.{bytes_eq-Decides}
 use Rattle.std.proofs.lemmas.List.Sorted.{searchable_from_sorted}
-use Rattle.claim_tree.specs.Tree.{Text, Members, member, names, inserted, IsBefore, IsBeforeAll, IsOrdered, MembersOrdered}
+use Rattle.claim_tree.specs.Tree.{Text, member, names, inserted, IsBefore, IsBeforeAll, IsOrdered, MembersOrdered}
 use Rattle.claim_tree.specs.Lists.{At}
 use Rattle.claim_tree.proofs.Lists.{At-below, At-same}
 use Rattle.claim_tree.proofs.MapPlaces.{ordered-inserted}

@@ -1,6 +1,6 @@
--- Leaving out and renumbering: what stays in range and in order.
-use Rattle.std.proofs.Common.{ℕ, List, Option, Some, None}
-use Rattle.claim_tree.specs.Tree.{IsRanged, ElementsRanged, MembersRanged}
+-- Leaving out and renumbering: the depth, and what stays in range.
+use Rattle.std.proofs.Common.{ℕ, ◌≤◌, max, List, Option, Some, None, arith}
+use Rattle.claim_tree.specs.Tree.{depth, elements_depth, members_depth, IsRanged, ElementsRanged, MembersRanged}
 use Rattle.marked_tree.specs.Marked.{Marked, marked_leaf, marked_array, marked_object, MarkedElements, no_marked_elements, marked_element, MarkedMembers, no_marked_members, marked_member, strip, strip_elements, strip_members, remark, remark_elements, remark_members, new_mark, keep_element, keep_member}
 
 element_kept : (o : Option (Option ℕ)) (t : Marked) (es : MarkedElements) → IsRanged (strip t) → ElementsRanged (strip_elements es) → ElementsRanged (strip_elements (keep_element o t es))
@@ -24,3 +24,25 @@ mutual
   ranged_members : (f : ℕ → Option ℕ) (ms : MarkedMembers) → MembersRanged (strip_members ms) → MembersRanged (strip_members (remark_members f ms))
   ranged_members f no_marked_members r = r
   ranged_members f (marked_member name i t ms) r = member_kept name (new_mark f i) (remark f t) (remark_members f ms) (ranged-remark f t r.0) (ranged_members f ms r.1)
+
+element_shallow : (o : Option (Option ℕ)) (t : Marked) (es : MarkedElements) → elements_depth (strip_elements (keep_element o t es)) ≤ max (depth (strip t)) (elements_depth (strip_elements es))
+element_shallow None t es = omega arith
+element_shallow (Some i) t es = omega arith
+
+member_shallow : (name : List ℕ) (o : Option (Option ℕ)) (t : Marked) (ms : MarkedMembers) → members_depth (strip_members (keep_member name o t ms)) ≤ max (depth (strip t)) (members_depth (strip_members ms))
+member_shallow name None t ms = omega arith
+member_shallow name (Some i) t ms = omega arith
+
+mutual
+  pub depth-remark : (f : ℕ → Option ℕ) (m : Marked) → depth (strip (remark f m)) ≤ depth (strip m)
+  depth-remark f (marked_leaf l) = omega arith
+  depth-remark f (marked_array es) = omega (arith, depth_elements f es)
+  depth-remark f (marked_object ms) = omega (arith, depth_members f ms)
+
+  depth_elements : (f : ℕ → Option ℕ) (es : MarkedElements) → elements_depth (strip_elements (remark_elements f es)) ≤ elements_depth (strip_elements es)
+  depth_elements f no_marked_elements = omega arith
+  depth_elements f (marked_element i t es) = omega (arith, element_shallow (new_mark f i) (remark f t) (remark_elements f es), depth-remark f t, depth_elements f es)
+
+  depth_members : (f : ℕ → Option ℕ) (ms : MarkedMembers) → members_depth (strip_members (remark_members f ms)) ≤ members_depth (strip_members ms)
+  depth_members f no_marked_members = omega arith
+  depth_members f (marked_member name i t ms) = omega (arith, member_shallow name (new_mark f i) (remark f t) (remark_members f ms), depth-remark f t, depth_members f ms)

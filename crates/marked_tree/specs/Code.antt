@@ -3,7 +3,7 @@ use Rattle.std.specs.Prelude.{◌≡◌, ℕ, Option, refl}
 use Rattle.std.proofs.Common.{ap}
 use Rattle.std.specs.Coded.{Coded, coded_ℕ, coded_list, coded_option}
 use base.Stored.{Gv, gnil, gnum, gcons}
-use Rattle.claim_tree.specs.Tree.{Text, Tree, leaf, Leaf, Elements, no_elements, element}
+use Rattle.claim_tree.specs.Tree.{Text, leaf, Leaf, no_elements, element}
 use Rattle.claim_tree.specs.Code.{elements_code}
 use Rattle.marked_tree.specs.Marked.{Marked, marked_leaf, marked_array, marked_object, MarkedElements, no_marked_elements, marked_element, MarkedMembers, no_marked_members, marked_member}
 

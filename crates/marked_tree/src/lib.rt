@@ -11,6 +11,8 @@ mod marking;
 mod places;
 mod prunes;
 mod strips;
+#[cfg(test)]
+mod tests;
 
 pub use chosen::ChosenSet;
 pub use marked::{Marked, MarkedList, MarkedMap};

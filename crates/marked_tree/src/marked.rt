@@ -201,12 +201,7 @@ impl MarkedMap {
 
     /// Puts a mark and a tree under a name, in place of those that are there. A name behind all others is not
     /// searched for, and moves no member.
-    pub fn insert(
-        &mut self,
-        name: TextBox,
-        mark: Option<u32>,
-        tree: Marked,
-    ) -> Result<(), NoMemory>
+    pub fn insert(&mut self, name: TextBox, mark: Option<u32>, tree: Marked) -> Result<(), NoMemory>
         ensures ok { OnOk result (self.new ≡ marked_inserted self.old name mark (marked_of tree)) }
         ensures err { OnErr result (self.new ≡ self.old) }
     {

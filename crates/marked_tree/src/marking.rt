@@ -3,6 +3,7 @@ ghost use Rattle.std.specs.Prelude.{◌≡◌, ◌≤◌, ◌<◌, ◌+◌, ◌-
 ghost use Rattle.std.specs.List.Sorted.{IsPermutation};
 ghost use Rattle.claim_tree.specs.Tree.{depth as depth_of, elements_depth, members_depth};
 ghost use Rattle.claim_tree.specs.View.{tree_of};
+ghost use Rattle.marked_tree.specs.Marked.{strip};
 ghost use Rattle.marked_tree.specs.Places.{Path as Steps, mark as mark_of, hidden_count, is_among, below as test_below, one_if, hidden_in, hidden_elements, hidden_members, mark_from, mark_elements, mark_members, mark_if};
 ghost use Rattle.marked_tree.specs.Rests.{rests, step_order, path_order, AreSorted, headed, inner};
 ghost use Rattle.marked_tree.specs.View.{marked_of};
@@ -21,6 +22,7 @@ pub fn mark(alloc: Global, tree: &Tree, paths: &PathList) -> Result<Marked, NoMe
     requires depth { depth_of (tree_of tree.now) ≤ 127 }
     requires few { length paths.now < 2 ^ 32 - 1 }
     ensures marked { IfOk result (λ marked. marked_of marked ≡ mark_of (tree_of tree.now) paths.now) }
+    ensures strips { IfOk result (λ marked. strip (marked_of marked) ≡ tree_of tree.now) }
     ensures count { IfOk result (λ _. hidden_count (tree_of tree.now) paths.now ≤ length paths.now) }
 {
     let sorted = sorted_paths(alloc, paths)?;
@@ -54,7 +56,7 @@ fn ordered(one: &Path, other: &Path) -> Ordering
     one.steps().cmp(other.steps())
 }
 
-// The paths go on from the depth. Where `next` would be the next mark, the tree takes those from there on.
+// Marks a tree that the paths come to by their first `depth` steps, from the mark `next` on.
 #[cycle(mark)]
 fn mark_tree(
     alloc: Global,
@@ -151,7 +153,7 @@ fn mark_at(
     Ok((mark, inside))
 }
 
-// The paths that go on by the step.
+// The paths whose step at the depth is this one, which stand in one run.
 fn paths_below<'a>(paths: &'a [Path], depth: usize, step: &str) -> &'a [Path]
     requires fits { depth ≤ 126 }
     requires sorted { AreSorted (rests depth paths.now) }

@@ -14,6 +14,7 @@ use std::alloc::Global;
 pub fn prune(alloc: Global, tree: &Marked, kept: &ChosenSet) -> Result<Marked, NoMemory>
     requires { depth (strip (marked_of tree.now)) ≤ 127 }
     ensures value { IfOk result (λ pruned. marked_of pruned ≡ prune_of (marked_of tree.now) (has kept.now)) }
+    ensures shallow { IfOk result (λ pruned. depth (strip (marked_of pruned)) ≤ depth (strip (marked_of tree.now))) }
     ensures ranged { IsRanged (strip (marked_of tree.now)) → IfOk result (λ pruned. IsRanged (strip (marked_of pruned))) }
 {
     prune_tree(alloc, tree, kept)

@@ -1,5 +1,4 @@
 use Rattle.std.proofs.Common.{rules}
-use Rattle.std.specs.Ordering.{is_lt}
 use Rattle.std.proofs.lemmas.List.Sorted.{ranks_by, answers_always}
 use Rattle.marked_tree.proofs.MarkedViews.{Entry}
 use Rattle.marked_tree.proofs.Names.{order}

@@ -1,14 +1,14 @@
-use Rattle.std.proofs.Common.{◌≡◌, ◌+◌, ◌<◌, ◌≤◌, decimal, drop, length, ap, sym, subst, ◌∙◌, arith, rules}
+use Rattle.std.proofs.Common.{◌≡◌, ◌+◌, ◌<◌, ◌≤◌, drop, ap, sym, subst, ◌∙◌, arith, rules}
 use Rattle.std.proofs.Math.ListN.{drop_of_length-le}
 use Rattle.std.proofs.lemmas.List.{length-map}
-use Rattle.claim_tree.specs.Tree.{nodes, depth, elements_nodes, elements_depth, members_nodes, members_depth, MembersOrdered, names}
+use Rattle.claim_tree.specs.Tree.{nodes, depth, elements_nodes, elements_depth, members_nodes, members_depth, MembersOrdered}
 use Rattle.claim_tree.specs.View.{tree_of, elements_of, members_of}
 use Rattle.claim_tree.proofs.Walks.{Named, nodes_at, depth_at, nodes_member_at, depth_member_at}
 use Rattle.marked_tree.specs.Places.{is_among, mark_elements, mark_members}
-use Rattle.marked_tree.specs.Rests.{rests, headed, inner}
+use Rattle.marked_tree.specs.Rests.{rests, headed}
 use Rattle.marked_tree.specs.View.{marked_of}
-use Rattle.marked_tree.proofs.MarkSame.{Alike, mark_same, hidden_same, IsMarkedAt, element_marked, element_counted, member_marked, member_counted, joined, joined_members, joined-none, joined_members-none}
-use Rattle.marked_tree.proofs.HeadCounts.{ascending, taken, decimals, decimals_more, decimals_le, first_names, names_taken, names_le, inner_le, ends_le}
+use Rattle.marked_tree.proofs.MarkSame.{IsMarkedAt, element_marked, element_counted, member_marked, member_counted, joined, joined_members, joined-none, joined_members-none}
+use Rattle.marked_tree.proofs.HeadCounts.{ascending, decimals_more, decimals_le, names_taken, names_le, inner_le, ends_le}
 use Rattle.marked_tree.proofs.marking.+mark.Goals as goal
 
 pub mark_at-mark_tree-requires : goal.mark_at-mark_tree-requires
@@ -59,8 +59,7 @@ mark_map-mark_at-requires t c =
     let low = subst (λ us. depth (tree_of m.1) ≤ members_depth us) c.members-name-items.ensures.value (depth_member_at ts l.name-index m c.loop-name-test.true c.loop-name-item.is) in
     let few = c.requires.few in
     let so_far = l.invariant.2 in
-    let step = ap (λ s. headed s ps) c.as_str.ensures in
-    (
+    let step = ap (λ s. headed s ps) c.as_str.ensures in (
       omega (arith, small),
       (omega (arith, low, c.requires.depth), (c.requires.sorted, omega (arith, step, few, so_far, names_taken l.name-index ts m ps c.loop-name-test.true c.loop-name-item.is, names_le (l.name-index + 1) ts ps (ascending (members_of ts) ordered)))),
     )

@@ -1,10 +1,12 @@
-use Rattle.std.proofs.Common.{◌≡◌, ◌+◌, ◌≤◌, drop, length, sym, ap, subst, ◌∙◌, arith, Result, Ok, Err, OnOk, List}
+use Rattle.std.proofs.Common.{drop, length, sym, ap, subst, ◌∙◌, arith, Result, Ok, Err, OnOk, List}
 use Rattle.std.proofs.lemmas.Result.{IfOk-weaker}
 use Rattle.std.proofs.lemmas.List.{length-map}
 use Rattle.std.proofs.lemmas.List.Sorted.{length_permutation, list_any-IsPermutation}
 use Rattle.claim_tree.specs.View.{tree_of}
+use Rattle.marked_tree.specs.Marked.{strip}
 use Rattle.marked_tree.specs.Places.{Path, same_path, is_among}
 use Rattle.marked_tree.specs.Rests.{rests, AreSorted}
+use Rattle.marked_tree.proofs.MarkFacts.{strips}
 use Rattle.marked_tree.proofs.MarkSame.{Alike, mark_same, hidden_same}
 use Rattle.marked_tree.proofs.PathOrder.{rests_zero}
 use Rattle.marked_tree.proofs.HeadCounts.{inner_le}
@@ -32,6 +34,10 @@ alike c p =
 pub returns-clause-marked : goal.returns-clause-marked
 returns-clause-marked c =
     IfOk-weaker c.mark_tree.result _ _ (λ marked e. e ∙ mark_same (is_among (rests 0 c.as_slice.result.now)) (is_among c.args.paths.now) (alike c) 0 (tree_of c.args.tree.now)) c.mark_tree.ensures.marked
+
+pub returns-clause-strips : goal.returns-clause-strips
+returns-clause-strips c =
+    IfOk-weaker c.mark_tree.result _ _ (λ marked e. ap strip e ∙ strips (is_among (rests 0 c.as_slice.result.now)) 0 (tree_of c.args.tree.now)) c.mark_tree.ensures.marked
 
 pub returns-clause-count : goal.returns-clause-count
 returns-clause-count c =

@@ -1,8 +1,7 @@
-use Rattle.std.proofs.Common.{◌≡◌, ◌-◌, ◌+◌, true, false, ap, sym, subst, length, take, drop, arith, rules}
+use Rattle.std.proofs.Common.{◌≡◌, ◌+◌, true, false, sym, subst, take, drop, arith, rules}
 use Rattle.std.specs.List.Sorted.{IsPartitionedBy, IsPartitionPoint}
 use Rattle.std.proofs.lemmas.List.Sorted.{IsPartitionPoint-from_clause}
-use Rattle.marked_tree.specs.Places.{is_among}
-use Rattle.marked_tree.specs.Rests.{rests, headed, AreSorted}
+use Rattle.marked_tree.specs.Rests.{rests, AreSorted}
 use Rattle.marked_tree.proofs.PathOrder.{is_less, is_tied, parted_less, parted_tied, none_left, rest_whole, sorted_drop, IsCut, cut_sorted, cut_below, cut_count}
 use Rattle.marked_tree.proofs.marking.paths_below.Goals as goal
 

@@ -28,7 +28,7 @@ prune_list-loop-mark-preserved t c =
     let before = remark_elements (kept s) (marked_elements_of (take l.mark-index es)) in
     let tree = remark (kept s) (marked_of e.1) in
     elim c.if-stays.branch [
-      prune_list-then-stays+in_ok-prune_tree+in_ok-push w ↦ rw (w.pruned-is, w.in_ok-push.ensures.ok, l.invariant, w.in_ok-prune_tree.ensures) (sym (more ∙ ap (λ o. kept_pushed before o tree) (kept_is s e.0 (sym c.stays.ensures ∙ w.if-stays.true))))
+      | prune_list-then-stays+in_ok-prune_tree+in_ok-push w ↦ rw (w.pruned-is, w.in_ok-push.ensures.ok, l.invariant, w.in_ok-prune_tree.ensures) (sym (more ∙ ap (λ o. kept_pushed before o tree) (kept_is s e.0 (sym c.stays.ensures ∙ w.if-stays.true))))
       | prune_list-else-stays w ↦ rw (w.pruned-is, l.invariant) (sym (more ∙ ap (λ o. kept_pushed before o tree) (left_out_is s e.0 (sym c.stays.ensures ∙ w.if-stays.false))))
     ]
 
@@ -43,7 +43,7 @@ prune_map-loop-name-preserved t c =
     let before = remark_members (kept s) (marked_members_of (take l.name-index ms)) in
     let tree = remark (kept s) (marked_of m.2) in
     elim c.if-stays.branch [
-      prune_map-then-stays+in_ok-name+in_ok-prune_tree+in_ok-put w ↦
+      | prune_map-then-stays+in_ok-name+in_ok-prune_tree+in_ok-put w ↦
           rw (w.pruned-is, w.in_ok-put.ensures.ok, l.invariant, w.in_ok-prune_tree.ensures, w.in_ok-name.ensures, w.as_str.ensures)
           (sym (more ∙ ap (λ o. kept_put before m.0 o tree) (kept_is s m.1 (sym c.stays.ensures ∙ w.if-stays.true))))
       | prune_map-else-stays w ↦ rw (w.pruned-is, l.invariant) (sym (more ∙ ap (λ o. kept_put before m.0 o tree) (left_out_is s m.1 (sym c.stays.ensures ∙ w.if-stays.false))))
