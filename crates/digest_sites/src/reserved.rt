@@ -20,8 +20,9 @@ pub fn is_sd(name: &TextBox) -> bool
     name.as_str() == SD
 }
 
+/// Whether a name is `...`, RFC 9901 section 4.2.4.2.
 #[tactic(auto, unfolding(crate::specs::Reserved::dots_name))]
-pub(crate) fn is_dots(name: &TextBox) -> bool
+pub fn is_dots(name: &TextBox) -> bool
     ensures { result ≡ bytes_eq name.now dots_name }
 {
     name.as_str() == DOTS

@@ -1,0 +1,151 @@
+-- How deep what is opened is.
+use Rattle.std.proofs.Common.{◌≡◌, ℕ, suc, ◌≤◌, max, List, [], ◌∷◌, ◌++◌, length, Option, Some, None, Ordering, Less, Equal, Greater, nat_cmp, inl, inr, refl, sym, ap, ◌∙◌, arith}
+use Rattle.std.specs.Ordering.{match_ordering}
+use Rattle.std.specs.Cmp.Lexicographic.{slice_cmp}
+use Rattle.std.proofs.lemmas.Map.Lookups.{exact_bytes}
+use Rattle.std.specs.Prelude.{option_map, option_and_then}
+use Rattle.digest_sites.specs.Reserved.{texts_of}
+use Rattle.claim_tree.specs.Tree.{Text, Elements, no_elements, element, elements_len, depth, elements_depth, members_depth, text_of}
+use Rattle.claim_tree.specs.Lists.{In}
+use Rattle.marked_tree.specs.Marked.{Marked, MarkedElements, no_marked_elements, marked_element, marked_pushed, MarkedMembers, no_marked_members, marked_member, marked_names, put, put_all, strip, strip_elements, strip_members}
+use Rattle.marked_tree.specs.View.{marked_of, marked_members_of}
+use Rattle.marked_tree.specs.declared.marked.Marked.{Marked as Code}
+use Rattle.rebuild_core.specs.Opening.{Shown, hidden, shown, show_element, show_member, show_members}
+use Rattle.rebuild_core.specs.Whole.{joined, members_joined, shown_member, shown_members, shown_depth, shown_depths, IsNew, AllNew, IsElement}
+
+abbrev pub list_depth : MarkedElements → ℕ
+list_depth es = elements_depth (strip_elements es)
+
+abbrev pub map_depth : MarkedMembers → ℕ
+map_depth ms = members_depth (strip_members ms)
+
+-- ---- arrays
+
+pub joined_push : (es fs : MarkedElements) (i : Option ℕ) (t : Marked) → joined (marked_pushed es i t) fs ≡ joined es (marked_element i t fs)
+joined_push no_marked_elements fs i t = refl
+joined_push (marked_element j u es) fs i t = ap (marked_element j u) (joined_push es fs i t)
+
+pub joined_end : (es : MarkedElements) → joined es no_marked_elements ≡ es
+joined_end no_marked_elements = refl
+joined_end (marked_element i t es) = ap (marked_element i t) (joined_end es)
+
+pub joined_depth : (xs ys : MarkedElements) → list_depth (joined xs ys) ≡ max (list_depth xs) (list_depth ys)
+joined_depth no_marked_elements ys = omega arith
+joined_depth (marked_element i t xs) ys = omega (arith, joined_depth xs ys)
+
+-- after a push
+pub pushed_depth : (xs ys : MarkedElements) (t : Marked) → ((es : MarkedElements) → joined ys es ≡ joined xs (marked_element None t es)) → list_depth ys ≡ max (list_depth xs) (depth (strip t))
+pushed_depth xs ys t h =
+    let e : ys ≡ joined xs (marked_element None t no_marked_elements) = sym (joined_end ys) ∙ h no_marked_elements in
+    omega (arith, ap list_depth e, joined_depth xs (marked_element None t no_marked_elements))
+
+shown_element_depth : (s : Shown) (es : MarkedElements) → list_depth (show_element s es) ≤ max (shown_depth s) (list_depth es)
+shown_element_depth hidden es = omega arith
+shown_element_depth (shown i None t) es = omega arith
+shown_element_depth (shown i (Some k) t) es = omega arith
+
+pub pushed_shown_depth : (xs ys : MarkedElements) (s : Shown) → ((es : MarkedElements) → joined ys es ≡ joined xs (show_element s es)) → list_depth ys ≤ max (list_depth xs) (shown_depth s)
+pushed_shown_depth xs ys s h =
+    let e : ys ≡ joined xs (show_element s no_marked_elements) = sym (joined_end ys) ∙ h no_marked_elements in
+    omega (arith, ap list_depth e, joined_depth xs (show_element s no_marked_elements), shown_element_depth s no_marked_elements)
+
+-- an element that is shown is there
+pub element_keeps : (s : Shown) (es : MarkedElements) → IsElement s → shown_depth s ≤ list_depth (show_element s es)
+element_keeps hidden es h = omega arith
+element_keeps (shown i None t) es h = omega arith
+element_keeps (shown i (Some k) t) es h = absurd h
+
+-- ---- objects
+
+pub members_joined_push : (es : List (Text × Option ℕ × Code)) (k : Text) (i : Option ℕ) (t : Code) (ms : MarkedMembers)
+    → members_joined (marked_members_of (es ++ (k, i, t) ∷ [])) ms ≡ members_joined (marked_members_of es) (marked_member k i (marked_of t) ms)
+members_joined_push [] k i t ms = refl
+members_joined_push (e ∷ es) k i t ms = ap (marked_member e.0 e.1 (marked_of e.2)) (members_joined_push es k i t ms)
+
+pub members_joined_end : (ms : MarkedMembers) → members_joined ms no_marked_members ≡ ms
+members_joined_end no_marked_members = refl
+members_joined_end (marked_member k i t ms) = ap (marked_member k i t) (members_joined_end ms)
+
+pub members_joined_depth : (xs ys : MarkedMembers) → map_depth (members_joined xs ys) ≡ max (map_depth xs) (map_depth ys)
+members_joined_depth no_marked_members ys = omega arith
+members_joined_depth (marked_member k i t xs) ys = omega (arith, members_joined_depth xs ys)
+
+-- what is shown is put there
+pub put_shown : (r : Text → Shown) (ds : List Text) (ms : MarkedMembers) → put_all (shown_members r ds) ms ≡ show_members r ds ms
+put_shown r [] ms = refl
+put_shown r (d ∷ ds) ms = go (r d) (put_shown r ds)
+  where
+    go : (s : Shown) → ((ns : MarkedMembers) → put_all (shown_members r ds) ns ≡ show_members r ds ns) → put_all (shown_member s (shown_members r ds)) ms ≡ show_members r ds (show_member s ms)
+    go hidden ih = ih ms
+    go (shown i None t) ih = ih ms
+    go (shown i (Some k) t) ih = ih (put k (Some i) t ms)
+
+pub put_depth_most : (k : Text) (i : Option ℕ) (t : Marked) (ms : MarkedMembers) → map_depth (put k i t ms) ≤ max (depth (strip t)) (map_depth ms)
+put_depth_most k i t no_marked_members = omega arith
+put_depth_most k i t (marked_member l j u ms) = go (slice_cmp nat_cmp k l) (put_depth_most k i t ms)
+  where
+    go : (o : Ordering) → map_depth (put k i t ms) ≤ max (depth (strip t)) (map_depth ms)
+        → map_depth (match_ordering o (marked_member k i t (marked_member l j u ms)) (marked_member l j u ms) (marked_member l j u (put k i t ms))) ≤ max (depth (strip t)) (map_depth (marked_member l j u ms))
+    go Less ih = omega arith
+    go Equal ih = omega arith
+    go Greater ih = omega (arith, ih)
+
+put_keeps : (k : Text) (i : Option ℕ) (t : Marked) (ms : MarkedMembers) → map_depth ms ≤ map_depth (put k i t ms)
+put_keeps k i t no_marked_members = omega arith
+put_keeps k i t (marked_member l j u ms) = go (slice_cmp nat_cmp k l) (put_keeps k i t ms)
+  where
+    go : (o : Ordering) → map_depth ms ≤ map_depth (put k i t ms)
+        → map_depth (marked_member l j u ms) ≤ map_depth (match_ordering o (marked_member k i t (marked_member l j u ms)) (marked_member l j u ms) (marked_member l j u (put k i t ms)))
+    go Less ih = omega arith
+    go Equal ih = omega arith
+    go Greater ih = omega (arith, ih)
+
+-- a new member is there
+put_new : (k : Text) (i : Option ℕ) (t : Marked) (ms : MarkedMembers) → (In k (marked_names ms) → ⊥) → depth (strip t) ≤ map_depth (put k i t ms)
+put_new k i t no_marked_members h = omega arith
+put_new k i t (marked_member l j u ms) h = go (slice_cmp nat_cmp k l) refl (put_new k i t ms (λ m. h (inr m)))
+  where
+    go : (o : Ordering) → slice_cmp nat_cmp k l ≡ o → depth (strip t) ≤ map_depth (put k i t ms)
+        → depth (strip t) ≤ map_depth (match_ordering o (marked_member k i t (marked_member l j u ms)) (marked_member l j u ms) (marked_member l j u (put k i t ms)))
+    go Less e ih = omega arith
+    go Equal e ih = absurd (h (inl (exact_bytes k l e)))
+    go Greater e ih = omega (arith, ih)
+
+show_most : (s : Shown) (ms : MarkedMembers) → map_depth (show_member s ms) ≤ max (shown_depth s) (map_depth ms)
+show_most hidden ms = omega arith
+show_most (shown i None t) ms = omega arith
+show_most (shown i (Some k) t) ms = put_depth_most k (Some i) t ms
+
+show_keeps : (s : Shown) (ms : MarkedMembers) → map_depth ms ≤ map_depth (show_member s ms)
+show_keeps hidden ms = omega arith
+show_keeps (shown i None t) ms = omega arith
+show_keeps (shown i (Some k) t) ms = put_keeps k (Some i) t ms
+
+show_new : (s : Shown) (ms : MarkedMembers) → IsNew s ms → shown_depth s ≤ map_depth (show_member s ms)
+show_new hidden ms h = omega arith
+show_new (shown i None t) ms h = absurd h
+show_new (shown i (Some k) t) ms h = put_new k (Some i) t ms h
+
+pub members_most : (r : Text → Shown) (ds : List Text) (ms : MarkedMembers) → map_depth (show_members r ds ms) ≤ max (shown_depths r ds) (map_depth ms)
+members_most r [] ms = omega arith
+members_most r (d ∷ ds) ms = omega (arith, members_most r ds (show_member (r d) ms), show_most (r d) ms)
+
+pub members_keep : (r : Text → Shown) (ds : List Text) (ms : MarkedMembers) → map_depth ms ≤ map_depth (show_members r ds ms)
+members_keep r [] ms = omega arith
+members_keep r (d ∷ ds) ms = omega (arith, show_keeps (r d) ms, members_keep r ds (show_member (r d) ms))
+
+pub members_new : (r : Text → Shown) (ds : List Text) (ms : MarkedMembers) → AllNew r ds ms → shown_depths r ds ≤ map_depth (show_members r ds ms)
+members_new r [] ms h = omega arith
+members_new r (d ∷ ds) ms h = omega (arith, show_new (r d) ms h.0, members_keep r ds (show_member (r d) ms), members_new r ds (show_member (r d) ms) h.1)
+
+pub own_length : (es : Elements) (ds : List Text) → texts_of es ≡ Some ds → elements_len es ≡ length ds
+own_length no_elements [] h = refl
+own_length no_elements (d ∷ ds) h = cc
+own_length (element t es) ds h = go (text_of t) (texts_of es) ds h (own_length es)
+  where
+    go : (o : Option Text) (p : Option (List Text)) (ds : List Text) → option_and_then (λ s. option_map (λ ss. s ∷ ss) p) o ≡ Some ds → ((ds : List Text) → p ≡ Some ds → elements_len es ≡ length ds) → suc (elements_len es) ≡ length ds
+    go None p ds h ih = cc
+    go (Some s) None ds h ih = cc
+    go (Some s) (Some ss) ds h ih =
+        let e : s ∷ ss ≡ ds = cc in
+        ap suc (ih ss refl) ∙ ap length e

@@ -1,0 +1,41 @@
+use Rattle.std.proofs.Common.{◌≡◌, ◌+◌, ◌*◌, ◌≤◌, length, drop}
+use Rattle.claim_tree.specs.View.{elements_of, members_of}
+use Rattle.digest_sites.specs.Reserved.{sd_texts}
+use Rattle.marked_tree.specs.View.{marked_members_of}
+use Rattle.rebuild_core.specs.Cursor.{elements_digests, members_digests}
+use Rattle.rebuild_core.specs.Whole.{topped}
+use Rattle.rebuild_core.proofs.ListOpening.{ListState}
+use Rattle.rebuild_core.proofs.MapOpening.{OwnState, MapState}
+use Rattle.rebuild_core.proofs.opening.+opening.Given as goal
+
+abbrev pub decreases-open : goal.decreases-open
+decreases-open l = 4 * l.limit + 1
+
+abbrev pub decreases-open_list : goal.decreases-open_list
+decreases-open_list l = 4 * l.limit + 3
+
+abbrev pub decreases-open_next : goal.decreases-open_next
+decreases-open_next l = 4 * l.limit + 2
+
+abbrev pub decreases-open_object : goal.decreases-open_object
+decreases-open_object l = 4 * l.limit + 0
+
+abbrev pub decreases-open_own : goal.decreases-open_own
+decreases-open_own l = 4 * l.limit + 3
+
+abbrev pub decreases-open_plain : goal.decreases-open_plain
+decreases-open_plain l = 4 * l.limit + 3
+
+abbrev pub invariant-open_list-loop-tree : goal.invariant-open_list-loop-tree
+invariant-open_list-loop-tree l =
+    ListState l.given l.graph.numbers.items l.limit l.list (l.fn.at + length (elements_digests l.list)) (elements_of (drop l.tree-index l.tree-items)) l.out l.at
+
+abbrev pub invariant-open_own-loop : goal.invariant-open_own-loop
+invariant-open_own-loop l =
+    (l.end ≡ length (sd_texts l.map))
+    × (l.counter ≤ l.end)
+    × OwnState l.given l.graph.numbers.items l.limit (sd_texts l.map) (l.fn.at + length (sd_texts l.map)) (drop l.counter (sd_texts l.map)) (marked_members_of l.out.items) l.at
+
+abbrev pub invariant-open_plain-loop-name : goal.invariant-open_plain-loop-name
+invariant-open_plain-loop-name l =
+    MapState l.given l.graph.numbers.items l.limit l.top l.map (l.fn.at + length (members_digests (topped l.top l.map))) (members_of (drop l.name-index l.name-items)) l.out l.at

@@ -1,0 +1,38 @@
+-- What an answer of processing says, over the payload without its own `_sd_alg`.
+use Rattle.std.specs.Prelude.{◌≡◌, ◌≤◌, List, Some}
+use Rattle.claim_tree.specs.Tree.{Text, Tree, object, leaf, text, member_named, depth, IsRanged}
+use Rattle.claim_tree.specs.Lists.{In, Nowhere, IsLeast}
+use Rattle.digest_sites.specs.Given.{Given}
+use Rattle.rebuild_core.specs.Payload.{alg_name}
+use Rattle.rebuild_core.specs.Conditions as fails
+use Rattle.rebuild_core.specs.Conditions.{IsReferencedOnce, IsWellNamed}
+use Rattle.rebuild_core.specs.declared.errors.ProcessError.{ProcessError}
+
+-- an object whose `_sd_alg`, where it is there, is a text
+abbrev pub IsPayload : Tree → Type 0
+IsPayload (object ms) = (t : Tree) → member_named ms alg_name ≡ Some t → (s : Text) × (t ≡ leaf (text s))
+IsPayload _ = ⊥
+
+-- no value nests deeper than a tree that is read
+abbrev pub ValuesShallow : List Given → Type 0
+ValuesShallow given = (x : Given) → In x given → depth x.value ≤ 127
+
+-- the whole numbers of each value are in range
+abbrev pub ValuesRanged : List Given → Type 0
+ValuesRanged given = (x : Given) → In x given → IsRanged x.value
+
+-- the lowest condition that fails, at its least place
+abbrev pub IsRefusal : Tree → List Given → ProcessError → Type 0
+IsRefusal p given ProcessError.Memory = Unit {0}
+IsRefusal p given (ProcessError.RepeatedDisclosure i) = IsLeast (fails.RepeatedDisclosure given) i
+IsRefusal p given (ProcessError.ReservedMisused i) = Nowhere (fails.RepeatedDisclosure given) × IsLeast (fails.Misused p given) i
+IsRefusal p given (ProcessError.RepeatedDigest place) =
+    Nowhere (fails.RepeatedDisclosure given) × Nowhere (fails.Misused p given) × IsLeast (fails.RepeatedDigest p given) place
+IsRefusal p given (ProcessError.Unreferenced i) =
+    Nowhere (fails.RepeatedDisclosure given) × Nowhere (fails.Misused p given) × Nowhere (fails.RepeatedDigest p given) × IsLeast (fails.Unreferenced p given) i
+IsRefusal p given (ProcessError.WrongShape i) = IsReferencedOnce p given × IsLeast (fails.WrongShape p given) i
+IsRefusal p given (ProcessError.ReservedName i) =
+    IsReferencedOnce p given × Nowhere (fails.WrongShape p given) × IsLeast (fails.ReservedName p given) i
+IsRefusal p given (ProcessError.NameClash place) =
+    IsReferencedOnce p given × Nowhere (fails.WrongShape p given) × Nowhere (fails.ReservedName p given) × IsLeast (fails.NameClash p given) place
+IsRefusal p given ProcessError.TooDeep = IsReferencedOnce p given × IsWellNamed p given × fails.IsTooDeep p given

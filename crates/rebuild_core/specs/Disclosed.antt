@@ -1,0 +1,13 @@
+-- For private functions: the names that are disclosed in each object.
+use Rattle.std.specs.Prelude.{ℕ, Bool, eqb, ◌&&◌, bytes_eq}
+use Rattle.std.specs.List.{list_any}
+use Rattle.std.specs.BTreeSet.{BTreeSet}
+use Rattle.claim_tree.specs.Tree.{Text}
+use Rattle.rebuild_core.specs.declared.names.Disclosed.{Disclosed}
+
+abbrev pub is_disclosed : ℕ → Text → Disclosed → Bool
+is_disclosed object name d = eqb object d.object && bytes_eq name d.name
+
+-- the name is disclosed in the object with this number
+abbrev pub has_name : BTreeSet Disclosed → ℕ → Text → Bool
+has_name disclosed object name = list_any (is_disclosed object name) disclosed.keys

@@ -1,0 +1,87 @@
+-- What the laws say.
+use Rattle.std.specs.Prelude.{◌≡◌, ℕ, suc, ◌<◌, ◌≤◌, ◌+◌, List, [], ◌∷◌, length, eqb, Bool, true, Option, Some, None, sum_by, if◌then◌else◌}
+use Rattle.std.specs.List.{IsDistinct}
+use Rattle.claim_tree.specs.Tree.{Text, Tree, nodes, IsOrdered}
+use Rattle.claim_tree.specs.Lists.{At, In}
+use Rattle.digest_sites.specs.Sites.{Site}
+use Rattle.digest_sites.specs.Given.{Given}
+use Rattle.marked_tree.specs.Marked.{Marked, strip, remark, prune}
+use Rattle.marked_tree.specs.Choice.{IsClosed}
+use Rattle.marked_tree.specs.Laws.{HasEachMarkOnce}
+use Rattle.rebuild_core.specs.Given.{Owner, payload, value_of, item, met, item_digests}
+use Rattle.rebuild_core.specs.Conditions.{IsReferencedOnce, IsSound}
+use Rattle.rebuild_core.specs.Opening.{opened, processed}
+
+-- ---- one site for each disclosure
+
+-- exactly one item of the met list has the digest
+abbrev pub StandsOnce : Tree → List Given → Text → Type 0
+StandsOnce p given digest = (place : ℕ) × At (item_digests (met p given)) place digest × ((other : ℕ) → At (item_digests (met p given)) other digest → other ≡ place)
+
+-- disclosure i stands at a site of the owner
+abbrev pub StandsIn : Tree → List Given → ℕ → Owner → Type 0
+StandsIn p given i owner = (x : Given) × At given i x × (s : Site) × In (item owner s) (met p given) × (s.digest ≡ x.digest)
+
+-- from this owner, the owner of the site of each disclosure in turn, up to the payload
+abbrev pub LeadsUp : Tree → List Given → Owner → List ℕ → Type 0
+LeadsUp p given owner [] = owner ≡ payload
+LeadsUp p given owner (i ∷ is) = (owner ≡ value_of i) × (above : Owner) × StandsIn p given i above × LeadsUp p given above is
+
+-- each disclosure stands at one place, from which the owners lead to the payload with none twice, and opening needs no more
+-- fuel than there are disclosures
+pub record HasOneSite (p : Tree) (given : List Given) : Type 0 where
+  pub once : (i : ℕ) (x : Given) → At given i x → StandsOnce p given x.digest
+  pub leads : (i : ℕ) (x : Given) → At given i x → (is : List ℕ) × LeadsUp p given (value_of i) is × (length is ≤ length given) × IsDistinct eqb is
+  pub settled : (fuel : ℕ) → length given ≤ fuel → opened fuel given p ≡ opened (length given) given p
+
+abbrev pub OneSite : Type 0
+OneSite = (p : Tree) (given : List Given) → IsReferencedOnce p given → HasOneSite p given
+
+-- ---- no more nodes than came in
+
+abbrev pub SizeBound : Type 0
+SizeBound = (p : Tree) (given : List Given) → IsReferencedOnce p given → nodes (strip (processed p given)) ≤ nodes p + sum_by (λ x. nodes x.value) given
+
+-- ---- presenting a choice
+
+-- the names of each object ascend, each once, as they do in every tree that is read
+pub record IsReadable (p : Tree) (given : List Given) : Type 0 where
+  pub in_payload : IsOrdered p
+  pub in_values : (x : Given) → In x given → IsOrdered x.value
+
+-- the list has each number of the choice once, and no other
+pub record Enumerates (choice : ℕ → Bool) (order : List ℕ) : Type 0 where
+  pub distinct : IsDistinct eqb order
+  pub within : (i : ℕ) → In i order → choice i ≡ true
+  pub whole : (i : ℕ) → choice i ≡ true → In i order
+
+-- these are the disclosures with those numbers, in that order
+abbrev pub IsPick : List Given → List ℕ → List Given → Type 0
+IsPick given [] [] = Unit {0}
+IsPick given [] (x ∷ xs) = ⊥
+IsPick given (i ∷ order) [] = ⊥
+IsPick given (i ∷ order) (x ∷ xs) = At given i x × IsPick given order xs
+
+-- the place of a number in the list, where the first has the place k
+abbrev pub place_from : ℕ → List ℕ → ℕ → Option ℕ
+place_from k [] i = None
+place_from k (j ∷ order) i = if eqb j i then Some k else place_from (suc k) order i
+
+-- each mark replaced by its place in the list
+abbrev pub numbered : List ℕ → Marked → Marked
+numbered order m = remark (place_from 0 order) m
+
+-- what is presented is sound again, and shows what was not left out
+pub record IsPresented (p : Tree) (given picked : List Given) (choice : ℕ → Bool) (order : List ℕ) : Type 0 where
+  pub sound : IsSound p picked
+  pub pruned : processed p picked ≡ numbered order (prune (processed p given) choice)
+
+abbrev pub Presentation : Type 0
+Presentation =
+    (p : Tree) (given : List Given) → IsReadable p given → IsSound p given
+    → (choice : ℕ → Bool) → ((i : ℕ) → choice i ≡ true → i < length given) → IsClosed (processed p given) choice
+    → (order : List ℕ) → Enumerates choice order → (picked : List Given) → IsPick given order picked
+    → IsPresented p given picked choice order
+
+abbrev pub OneNode : Type 0
+OneNode = (p : Tree) (given : List Given) → IsReadable p given → IsSound p given → HasEachMarkOnce (processed p given) (length given)

@@ -1,0 +1,13 @@
+pub mod Payload
+pub mod Given
+pub mod Opening
+pub mod Conditions
+pub mod Laws
+pub mod Answer
+pub mod Rows
+pub mod RowNames
+pub mod Disclosed
+pub mod Graph
+pub mod Numbers
+pub mod Cursor
+pub mod Whole

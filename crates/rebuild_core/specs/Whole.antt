@@ -1,0 +1,116 @@
+-- For private functions: what is shown, and how deep it is.
+use Rattle.std.specs.Prelude.{ℕ, ◌<◌, ◌^◌, max, List, [], ◌∷◌, length, Bool, true, false, Option, Some, None, not, ◌&&◌, bytes_eq, if◌then◌else◌}
+use Rattle.claim_tree.specs.Tree.{Text, Tree, leaf, array, object, Elements, no_elements, element, Members, no_members, member, depth}
+use Rattle.claim_tree.specs.Lists.{At, In}
+use Rattle.digest_sites.specs.Reserved.{sd_name, sd_texts, element_digest}
+use Rattle.digest_sites.specs.Given.{Given}
+use Rattle.marked_tree.specs.Marked.{strip, MarkedElements, no_marked_elements, marked_element, MarkedMembers, no_marked_members, marked_member, marked_names}
+use Rattle.marked_tree.specs.View.{marked_of}
+use Rattle.rebuild_core.specs.Payload.{alg_name, without_member}
+use Rattle.rebuild_core.specs.Opening.{Shown, hidden, shown, show_member, reveal, open_members}
+use Rattle.rebuild_core.specs.Cursor.{tree_digests, TellEach}
+use Rattle.rebuild_core.specs.declared.errors.ProcessError.{ProcessError}
+use Rattle.rebuild_core.specs.declared.shown.Revealed.{Revealed}
+
+-- what the code holds of it
+abbrev pub shown_of : Option Revealed → Shown
+shown_of None = hidden
+shown_of (Some r) = shown r.mark r.name (marked_of r.tree)
+
+-- what each digest shows, without fuel
+abbrev pub settled : List Given → Text → Shown
+settled given digest = reveal (length given) given digest
+
+-- ---- lists
+
+abbrev pub joined : MarkedElements → MarkedElements → MarkedElements
+joined no_marked_elements fs = fs
+joined (marked_element i t es) fs = marked_element i t (joined es fs)
+
+abbrev pub members_joined : MarkedMembers → MarkedMembers → MarkedMembers
+members_joined no_marked_members ns = ns
+members_joined (marked_member name i t ms) ns = marked_member name i t (members_joined ms ns)
+
+-- before these members
+abbrev pub shown_member : Shown → MarkedMembers → MarkedMembers
+shown_member hidden ms = ms
+shown_member (shown i None t) ms = ms
+shown_member (shown i (Some name) t) ms = marked_member name (Some i) t ms
+
+-- what the digests show, in their order
+abbrev pub shown_members : (Text → Shown) → List Text → MarkedMembers
+shown_members reveals [] = no_marked_members
+shown_members reveals (digest ∷ digests) = shown_member (reveals digest) (shown_members reveals digests)
+
+-- ---- depths
+
+-- where it is no lack of memory, the tree is too deep
+abbrev pub IfTooDeep : ProcessError → Type 0 → Type 0
+IfTooDeep ProcessError.Memory P = Unit {0}
+IfTooDeep ProcessError.TooDeep P = P
+IfTooDeep _ P = ⊥
+
+abbrev pub shown_depth : Shown → ℕ
+shown_depth hidden = 0
+shown_depth (shown i name t) = depth (strip t)
+
+abbrev pub shown_depths : (Text → Shown) → List Text → ℕ
+shown_depths reveals [] = 0
+shown_depths reveals (digest ∷ digests) = max (shown_depth (reveals digest)) (shown_depths reveals digests)
+
+-- ---- the payload's own object
+
+-- without `_sd_alg` where it is the payload itself
+abbrev pub topped : Bool → Members → Members
+topped top ms = if top then without_member alg_name ms else ms
+
+-- a member that stays a member
+abbrev pub stays : Bool → Text → Bool
+stays top name = not (bytes_eq name sd_name) && not (top && bytes_eq name alg_name)
+
+-- ---- where nothing that is shown is left out
+
+-- a member with a name that is not there, where it is shown
+abbrev pub IsNew : Shown → MarkedMembers → Type 0
+IsNew hidden ms = Unit {0}
+IsNew (shown i None t) ms = ⊥
+IsNew (shown i (Some name) t) ms = In name (marked_names ms) → ⊥
+
+abbrev pub AllNew : (Text → Shown) → List Text → MarkedMembers → Type 0
+AllNew reveals [] ms = Unit {0}
+AllNew reveals (digest ∷ digests) ms = IsNew (reveals digest) ms × AllNew reveals digests (show_member (reveals digest) ms)
+
+-- an element, where it is shown
+abbrev pub IsElement : Shown → Type 0
+IsElement hidden = Unit {0}
+IsElement (shown i None t) = Unit {0}
+IsElement (shown i (Some name) t) = ⊥
+
+abbrev pub WholeOn : (Text → Shown) → Option Text → Type 0 → Type 0
+WholeOn reveals None Inside = Inside
+WholeOn reveals (Some digest) Inside = IsElement (reveals digest)
+
+abbrev pub WholeUnless : Bool → Type 0 → Type 0
+WholeUnless true Inside = Unit {0}
+WholeUnless false Inside = Inside
+
+abbrev mutual
+  pub OpensWhole : (Text → Shown) → Tree → Type 0
+  OpensWhole reveals (leaf l) = Unit {0}
+  OpensWhole reveals (array es) = ElementsWhole reveals es
+  OpensWhole reveals (object ms) = AllNew reveals (sd_texts ms) (open_members reveals ms) × MembersWhole reveals ms
+
+  pub ElementsWhole : (Text → Shown) → Elements → Type 0
+  ElementsWhole reveals no_elements = Unit {0}
+  ElementsWhole reveals (element t es) = WholeOn reveals (element_digest t) (OpensWhole reveals t) × ElementsWhole reveals es
+
+  pub MembersWhole : (Text → Shown) → Members → Type 0
+  MembersWhole reveals no_members = Unit {0}
+  MembersWhole reveals (member name t ms) = WholeUnless (bytes_eq name sd_name) (OpensWhole reveals t) × MembersWhole reveals ms
+
+-- ---- what every step of opening asks
+
+pub record IsOpenable (given : List Given) (numbers ends : List ℕ) : Type 0 where
+  pub few : length given < 2 ^ 32
+  pub told : TellEach tree_digests given numbers ends
+  pub whole : (j : ℕ) (x : Given) → At given j x → OpensWhole (settled given) x.value

@@ -1,0 +1,24 @@
+//! Laws over every payload and every list of disclosures.
+ghost use Rattle.rebuild_core.specs.Laws.{OneSite, SizeBound, Presentation, OneNode};
+
+/// Where no disclosure is given twice, no digest stands twice, no reserved name is misused and each disclosure is
+/// reached, each stands at one site, and opening needs no more fuel than there are disclosures.
+pub fn one_site()
+    ensures { OneSite }
+{}
+
+/// There the processed payload has no more nodes than the payload and the values together.
+pub fn size_bound()
+    ensures { SizeBound }
+{}
+
+/// A closed choice of the disclosures, in any order, is sound again, and opens to the processed payload without what
+/// was not chosen, each mark being the place in that order.
+pub fn presentation()
+    ensures { Presentation }
+{}
+
+/// Each disclosure is the mark of exactly one node of the processed payload, and no other number is.
+pub fn one_node()
+    ensures { OneNode }
+{}

@@ -1,0 +1,19 @@
+//! A payload rebuilt from its disclosures, RFC 9901 section 7.1.
+//!
+//! [`process`] answers the processed payload, or why a token is refused. What may be relied on besides stands in [`laws`].
+#![tactic(auto)]
+
+mod errors;
+mod graph;
+pub mod laws;
+mod names;
+mod numbers;
+mod opening;
+mod processing;
+mod readable;
+mod references;
+mod rows;
+mod shown;
+
+pub use errors::ProcessError;
+pub use processing::process;

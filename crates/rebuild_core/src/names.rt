@@ -1,0 +1,195 @@
+// Whether each disclosure fits its place: its shape, its name, and the names beside it.
+ghost use Rattle.std.specs.Prelude.{◌≡◌, ◌<◌, ◌&&◌, ℕ, true, not, eqb, if◌then◌else◌, ◌↔◌, map, length, IsTrue, IfOk, OnOk, MatchOption, MatchResult, bytes_eq, option_map};
+ghost use Rattle.claim_tree.specs.Tree.{Text};
+ghost use Rattle.claim_tree.specs.Lists.{At, In, Nowhere, IsLeast};
+ghost use Rattle.claim_tree.specs.View.{tree_of};
+ghost use Rattle.digest_sites.specs.Given.{given_of};
+ghost use Rattle.rebuild_core.specs.Payload.{alg_name, without_alg};
+ghost use Rattle.rebuild_core.specs.Conditions.{IsReferencedOnce, IsWellNamed};
+ghost use Rattle.rebuild_core.specs.Answer.{IsPayload, IsRefusal};
+ghost use Rattle.rebuild_core.specs.Rows.{seen, beside_names, all_rows};
+ghost use Rattle.rebuild_core.specs.Numbers.{IsNumbered};
+ghost use Rattle.rebuild_core.specs.RowNames.{IsWrongRow, IsReservedRow, StandsAt, given_name, Clashes};
+ghost use Rattle.rebuild_core.specs.Disclosed.{has_name};
+
+use crate::errors::ProcessError;
+use crate::readable::is_readable;
+use crate::rows::Row;
+use claim_tree::{Tree, TreeMap};
+use digest_sites::{Given, GivenList, SiteKind, is_dots, is_sd};
+use sd_outside::{NoMemory, TextBox};
+use std::alloc::Global;
+use std::collections::BTreeSet;
+
+// The disclosure with a number.
+fn given_at(given: &GivenList, number: usize) -> &Given
+    requires { number < length given.now }
+    ensures { At given.now number (given_of result.now) }
+{
+    &given.items()[number]
+}
+
+#[tactic(auto, unfolding(crate::specs::Payload::alg_name))]
+pub(crate) fn is_alg(name: &TextBox) -> bool
+    ensures { result ≡ bytes_eq name.now alg_name }
+{
+    name.as_str() == "_sd_alg"
+}
+
+// Whether a disclosure has no name and stands for a member, or has one and stands for an element.
+fn is_wrong(row: &Row<'_>, item: &Given) -> bool
+    ensures { IsTrue result ↔ IsWrongRow (seen row.now) (given_of item.now) }
+{
+    match row.kind {
+        SiteKind::Member => item.name.is_none(),
+        SiteKind::Element => item.name.is_some(),
+    }
+}
+
+// Whether a disclosure gives a reserved name to a member.
+fn is_reserved(row: &Row<'_>, item: &Given) -> bool
+    ensures { IsTrue result ↔ IsReservedRow (seen row.now) (given_of item.now) }
+{
+    match (&row.kind, &item.name) {
+        (SiteKind::Member, Some(name)) => is_sd(name) || is_dots(name) || is_alg(name) && row.top,
+        _ => false,
+    }
+}
+
+// The first disclosure whose shape is wrong where it stands.
+pub(crate) fn first_wrong(rows: &[Row<'_>], numbers: &[usize], given: &GivenList) -> Option<usize>
+    requires { length numbers.now ≡ length rows.now }
+    ensures { MatchOption result (Nowhere (StandsAt IsWrongRow (map seen rows.now) numbers.now given.now)) (λ i. IsLeast (StandsAt IsWrongRow (map seen rows.now) numbers.now given.now) i) }
+{
+    let mut least = given.len();
+    for (place, row) in rows.iter().enumerate() {
+        let number = numbers[place];
+        if number < least && is_wrong(row, given_at(given, number)) {
+            least = number;
+        }
+    }
+    if least < given.len() {
+        Some(least)
+    } else {
+        None
+    }
+}
+
+// The first disclosure whose name is reserved where it stands.
+pub(crate) fn first_reserved(
+    rows: &[Row<'_>],
+    numbers: &[usize],
+    given: &GivenList,
+) -> Option<usize>
+    requires { length numbers.now ≡ length rows.now }
+    ensures { MatchOption result (Nowhere (StandsAt IsReservedRow (map seen rows.now) numbers.now given.now)) (λ i. IsLeast (StandsAt IsReservedRow (map seen rows.now) numbers.now given.now) i) }
+{
+    let mut least = given.len();
+    for (place, row) in rows.iter().enumerate() {
+        let number = numbers[place];
+        if number < least && is_reserved(row, given_at(given, number)) {
+            least = number;
+        }
+    }
+    if least < given.len() {
+        Some(least)
+    } else {
+        None
+    }
+}
+
+// A name that is disclosed, and the number of its object.
+#[derive(Debug, PartialEq, Eq, PartialOrd, Ord, Drop)]
+struct Disclosed {
+    object: usize,
+    name: TextBox,
+}
+
+// Whether an object has the name, where the payload's own `_sd_alg` is passed over.
+fn has_member(members: &TreeMap, top: bool, name: &TextBox) -> bool
+    ensures { IsTrue result ↔ In name.now (beside_names top members.now) }
+{
+    members.get(name.as_str()).is_some() && !(top && is_alg(name))
+}
+
+// Whether the name is beside the digest.
+fn is_beside(row: &Row<'_>, name: &TextBox) -> bool
+    ensures { IsTrue result ↔ In name.now (seen row.now).beside }
+{
+    match row.beside {
+        Some(members) => has_member(members, row.top, name),
+        None => false,
+    }
+}
+
+// The name that a disclosure gives to a member.
+fn name_given<'a>(row: &Row<'_>, given: &'a GivenList, number: usize) -> Option<&'a TextBox>
+    ensures { option_map (λ t. t.now) result ≡ given_name (seen row.now).kind given.now number }
+{
+    match row.kind {
+        SiteKind::Member => given.at(number)?.name.as_ref(),
+        SiteKind::Element => None,
+    }
+}
+
+// Notes a name, and answers whether it is new in its object.
+fn note(
+    alloc: Global,
+    disclosed: &mut BTreeSet<Disclosed>,
+    object: usize,
+    name: &TextBox,
+) -> Result<bool, NoMemory>
+    ensures new { IfOk result (λ new. new ≡ not (has_name disclosed.old object name.now)) }
+    ensures noted { OnOk result ((o : ℕ) (n : Text) → has_name disclosed.new o n ≡ (if eqb object o && bytes_eq name.now n then true else has_name disclosed.old o n)) }
+{
+    let name = TextBox::make(alloc, name.as_str())?;
+    Ok(disclosed.insert(Disclosed { object, name })?)
+}
+
+// The first place at which a name is disclosed that its object has already.
+pub(crate) fn first_clash(
+    alloc: Global,
+    rows: &[Row<'_>],
+    numbers: &[usize],
+    given: &GivenList,
+) -> Result<Option<usize>, NoMemory>
+    requires { length numbers.now ≡ length rows.now }
+    ensures { IfOk result (λ r. MatchOption r (Nowhere (Clashes (map seen rows.now) numbers.now given.now)) (λ place. IsLeast (Clashes (map seen rows.now) numbers.now given.now) place)) }
+{
+    let mut disclosed = BTreeSet::new(alloc);
+    for (place, row) in rows.iter().enumerate() {
+        if let Some(name) = name_given(row, given, numbers[place]) {
+            if is_beside(row, name) || !note(alloc, &mut disclosed, row.object, name)? {
+                return Ok(Some(place));
+            }
+        }
+    }
+    Ok(None)
+}
+
+// Whether each disclosure fits its place in this payload or in a value, where each is referenced once.
+pub(crate) fn check_names(
+    alloc: Global,
+    payload: &Tree,
+    given: &GivenList,
+    rows: &[Row<'_>],
+    numbers: &[usize],
+) -> Result<(), ProcessError>
+    requires object { IsPayload (tree_of payload.now) }
+    requires rows { map seen rows.now ≡ all_rows (tree_of payload.now) given.now }
+    requires referenced { IsReferencedOnce (without_alg (tree_of payload.now)) given.now }
+    requires numbered { IsNumbered (without_alg (tree_of payload.now)) given.now numbers.now }
+    ensures { MatchResult result (λ _. IsWellNamed (without_alg (tree_of payload.now)) given.now) (λ e. IsRefusal (without_alg (tree_of payload.now)) given.now e) }
+{
+    is_readable(payload, given);
+    if let Some(i) = first_wrong(rows, numbers, given) {
+        return Err(ProcessError::WrongShape(i));
+    }
+    if let Some(i) = first_reserved(rows, numbers, given) {
+        return Err(ProcessError::ReservedName(i));
+    }
+    if let Some(place) = first_clash(alloc, rows, numbers, given)? {
+        return Err(ProcessError::NameClash(place));
+    }
+    Ok(())
+}

@@ -1,0 +1,63 @@
+// The processed payload.
+ghost use Rattle.std.specs.Prelude.{◌≡◌, ◌≤◌, ◌<◌, ◌-◌, ◌^◌, length, IfOk, IfErr};
+ghost use Rattle.claim_tree.specs.Tree.{depth, IsRanged};
+ghost use Rattle.claim_tree.specs.View.{tree_of};
+ghost use Rattle.marked_tree.specs.Marked.{strip};
+ghost use Rattle.marked_tree.specs.View.{marked_of};
+ghost use Rattle.rebuild_core.specs.Answer.{IsPayload, ValuesShallow, ValuesRanged, IsRefusal};
+ghost use Rattle.rebuild_core.specs.Conditions.{IsSound};
+ghost use Rattle.rebuild_core.specs.Given.{look_ups, counted, RoseWithin};
+ghost use Rattle.rebuild_core.specs.Opening.{processed};
+ghost use Rattle.rebuild_core.specs.Payload.{without_alg};
+
+use crate::ProcessError;
+use crate::names::check_names;
+use crate::opening::open_payload;
+use crate::references::check_references;
+use claim_tree::Tree;
+use digest_index::Steps;
+use digest_sites::GivenList;
+use marked_tree::Marked;
+use std::alloc::Global;
+
+/// The payload with its disclosures in their places, RFC 9901 section 7.1, or the lowest of the conditions 14 to 21 that
+/// fails, at its least place.
+///
+/// Each member and element that a disclosure shows has the number of the disclosure as its mark. Digests are taken as
+/// they are handed in: no digest is computed here, and they may lead in a circle. Every condition speaks of the payload
+/// without its own member `_sd_alg`.
+///
+/// Each given digest and each digest of a site is looked up once, and what follows works on numbers. So time and memory
+/// grow with n log n, and the answer is built no deeper than 100, whatever the input. `steps` counts the look-ups.
+pub fn process(
+    alloc: Global,
+    payload: &Tree,
+    given: &GivenList,
+    steps: &mut Steps,
+) -> Result<Marked, ProcessError>
+    requires object { IsPayload (tree_of payload.now) }
+    requires payload_depth { depth (tree_of payload.now) ≤ 127 }
+    requires values_depth { ValuesShallow given.now }
+    requires payload_range { IsRanged (tree_of payload.now) }
+    requires values_range { ValuesRanged given.now }
+    requires few { length given.now < 2 ^ 32 - 1 }
+    ensures sound { IfOk result (λ _. IsSound (without_alg (tree_of payload.now)) given.now) }
+    ensures processed { IfOk result (λ marked. marked_of marked ≡ processed (without_alg (tree_of payload.now)) given.now) }
+    ensures ranged { IfOk result (λ marked. IsRanged (strip (marked_of marked))) }
+    ensures refused { IfErr result (IsRefusal (without_alg (tree_of payload.now)) given.now) }
+
+    // the look-ups
+    ensures counted { IfOk result (λ _. steps.new ≡ counted steps.old (look_ups (without_alg (tree_of payload.now)) given.now)) }
+    ensures risen { RoseWithin (look_ups (without_alg (tree_of payload.now)) given.now) steps.old steps.new }
+{
+    let found = match check_references(alloc, payload, given, steps) {
+        Ok(found) => found,
+        Err(e) => return Err(e),
+    };
+    let rows = found.rows.as_slice();
+    let numbers = found.graph.numbers.as_slice();
+    if let Err(e) = check_names(alloc, payload, given, rows, numbers) {
+        return Err(e);
+    }
+    open_payload(alloc, payload, given, &found.graph)
+}

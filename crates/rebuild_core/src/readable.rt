@@ -1,0 +1,30 @@
+// Every tree has ascending names, by the invariants of what it holds.
+ghost use Rattle.claim_tree.specs.Tree.{IsOrdered};
+ghost use Rattle.claim_tree.specs.View.{tree_of};
+ghost use Rattle.rebuild_core.specs.Laws.{IsReadable};
+
+use claim_tree::Tree;
+use digest_sites::GivenList;
+
+fn is_ordered(tree: &Tree)
+    ensures { IsOrdered (tree_of tree.now) }
+{
+    match tree {
+        Tree::List(trees) => {
+            let _ = trees.trees();
+        }
+        Tree::Object(members) => {
+            let _ = members.members();
+        }
+        _ => (),
+    }
+}
+
+pub(crate) fn is_readable(payload: &Tree, given: &GivenList)
+    ensures { IsReadable (tree_of payload.now) given.now }
+{
+    is_ordered(payload);
+    for item in given.items() {
+        is_ordered(&item.value);
+    }
+}

@@ -1,0 +1,61 @@
+// What a digest shows, and where it is put.
+ghost use Rattle.std.specs.Prelude.{◌≡◌, IfOk, OnOk};
+ghost use Rattle.marked_tree.specs.Marked.{MarkedElements, MarkedMembers};
+ghost use Rattle.marked_tree.specs.View.{marked_of, marked_members_of};
+ghost use Rattle.rebuild_core.specs.Opening.{show_element, show_member};
+ghost use Rattle.rebuild_core.specs.Whole.{shown_of, joined, members_joined, shown_member};
+
+use digest_sites::Given;
+use marked_tree::{Marked, MarkedList};
+use sd_outside::{NoMemory, TextBox};
+use std::alloc::Global;
+
+// A disclosure with its value opened.
+#[derive(Debug, Drop)]
+pub(crate) struct Revealed {
+    // The number of the disclosure.
+    pub mark: u32,
+    pub name: Option<TextBox>,
+    pub tree: Marked,
+}
+
+pub(crate) fn copy_name(alloc: Global, item: &Given) -> Result<Option<TextBox>, NoMemory>
+    ensures { IfOk result (λ name. name ≡ item.now.name) }
+{
+    match &item.name {
+        Some(name) => Ok(Some(TextBox::make(alloc, name.as_str())?)),
+        None => Ok(None),
+    }
+}
+
+// At the end of an array.
+#[tactic(auto, using(crate::proofs::ShownDepths::joined_push))]
+pub(crate) fn push_element(out: &mut MarkedList, shown: Option<Revealed>) -> Result<(), NoMemory>
+    ensures { OnOk result ((es : MarkedElements) → joined out.new es ≡ joined out.old (show_element (shown_of shown) es)) }
+{
+    let Some(Revealed { mark, name, tree }) = shown else {
+        return Ok(());
+    };
+    if name.is_some() {
+        return Ok(());
+    }
+    out.push(Some(mark), tree)
+}
+
+// Behind other hidden members.
+#[tactic(auto, using(crate::proofs::ShownDepths::members_joined_push))]
+pub(crate) fn push_member(
+    out: &mut Vec<(TextBox, Option<u32>, Marked)>,
+    shown: Option<Revealed>,
+) -> Result<(), NoMemory>
+    ensures { OnOk result ((ms : MarkedMembers) → members_joined (marked_members_of out.new.items) ms ≡ members_joined (marked_members_of out.old.items) (shown_member (shown_of shown) ms)) }
+{
+    let Some(Revealed { mark, name, tree }) = shown else {
+        return Ok(());
+    };
+    let Some(name) = name else {
+        return Ok(());
+    };
+    out.push((name, Some(mark), tree))?;
+    Ok(())
+}
