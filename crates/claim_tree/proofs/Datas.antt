@@ -1,9 +1,7 @@
 -- Trees beside the data of `serde_json`.
-use Rattle.std.proofs.Common.{◌≡◌, ℕ, ℤ, pos, negsuc, zero, suc, ◌+◌, ◌<◌, List, [], ◌∷◌, ◌++◌, length, get_or, take, add-one, arith, String, Global, string_bytes, string_cmp, nat_cmp, Ordering, Less, Equal, Greater, Bool, true, false, ◌||◌, refl, ap, ◌∙◌}
+use Rattle.std.proofs.Common.{◌≡◌, ℤ, pos, negsuc, suc, List, [], ◌∷◌, ◌++◌, String, Global, string_bytes, string_cmp, nat_cmp, Ordering, Less, Equal, Greater, Bool, true, false, ◌||◌, refl, ap}
 use Rattle.std.specs.Cmp.Lexicographic.{slice_cmp}
-use Rattle.std.specs.Ordering.{match_ordering, ordering_reverse}
-use Rattle.std.proofs.lemmas.Cmp.{nat_list_cmp_total}
-use Rattle.std.specs.BTreeMap.{insert_entry}
+use Rattle.std.specs.Ordering.{match_ordering}
 use Rattle.std.specs.Map.{keys_of}
 use Rattle.std.specs.List.{AllByRecursion}
 use Rattle.std.specs.List.Sorted.{IsStrictlySortedBy}
@@ -12,11 +10,7 @@ use Rattle.serde_json.specs.View.{view, items_view, members_view}
 use Rattle.serde_json.specs.Written.{has_float, items_have_float, members_have_float}
 use Rattle.serde_json.specs.Find.{is_float, of_integer}
 use Rattle.serde_json.specs.declared.value.Value.{Value}
-use Rattle.claim_tree.specs.Tree.{Text, null, flag, whole, text, Tree, leaf, array, object, Elements, no_elements, element, Members, no_members, member, depth, elements_depth, members_depth, names, pushed, inserted, IsBeforeAll, MembersOrdered, IsRanged, ElementsRanged, MembersRanged}
-use Rattle.serde_json.proofs.Views.{members_view-insert_entry}
-use Rattle.claim_tree.specs.View.{tree_of, elements_of, members_of}
-use Rattle.claim_tree.specs.declared.tree.Tree as tree
-use Rattle.claim_tree.proofs.Walks.{Named, elements_turn}
+use Rattle.claim_tree.specs.Tree.{Text, null, flag, whole, text, Tree, leaf, array, object, Elements, no_elements, element, Members, no_members, member, depth, elements_depth, members_depth, pushed, inserted, IsRanged, ElementsRanged, MembersRanged}
 use Rattle.claim_tree.specs.JsonText.{data_of, elements_data, members_data}
 
 abbrev pub Entry : Type 0
@@ -80,34 +74,6 @@ members_data-inserted (d ∷ done) e more (member other u ms) name t s h named s
     let before : slice_cmp nat_cmp other name ≡ Less = rw (← here, named) (before_middle d done e more h.0) in
     let rest = members_data-inserted done e more ms name t tail h.1 named same in
     rw before (cc (here, first, rest))
-
--- ---- values beside the trees of a slice
-
-pub values_turn : (vs : List Value) (v : Value) (ts : List tree.Tree) (i : ℕ) (t : tree.Tree) → items_view vs ≡ elements_data (elements_of (take i ts)) → i < length ts → t ≡ get_or ts i t → view v ≡ data_of (tree_of t)
-    → items_view (vs ++ v ∷ []) ≡ elements_data (elements_of (take (i + 1) ts))
-values_turn vs v ts i t e within is same =
-    rw (elements_turn ts i t within is) (elements_data-pushed vs v (elements_of (take i ts)) (tree_of t) e same)
-
-after_first : (name : Text) (ms : List Named) (i : ℕ) (d : Named) → i < length ms → IsBeforeAll name (names (members_of ms)) → slice_cmp nat_cmp (get_or ms i d).0 name ≡ Greater
-after_first name [] i d within h = absurd (omega arith)
-after_first name (m ∷ ms) zero d within h = nat_list_cmp_total.antisymm m.0 name ∙ ap ordering_reverse h.0
-after_first name (m ∷ ms) (suc i) d within h = after_first name ms i d (omega arith) h.1
-
-put_there : (ms : List Named) (i : ℕ) (d : Named) → i < length ms → MembersOrdered (members_of ms)
-    → port.put (get_or ms i d).0 (data_of (tree_of (get_or ms i d).1)) (members_data (members_of (take i ms))) ≡ members_data (members_of (take (suc i) ms))
-put_there [] i d within h = absurd (omega arith)
-put_there (m ∷ ms) zero d within h = refl
-put_there (m ∷ ms) (suc i) d within h =
-    let rest = put_there ms i d (omega arith) h.2 in
-    rw (after_first m.0 ms i d (omega arith) h.0) (ap (port.member m.0 (data_of (tree_of m.1))) rest)
-
-pub put_turn : (es : List Entry) (key : String Global) (v : Value) (ms : List Named) (i : ℕ) (m : Named) → members_view es ≡ members_data (members_of (take i ms)) → i < length ms → m ≡ get_or ms i m → MembersOrdered (members_of ms) → string_bytes key ≡ m.0 → view v ≡ data_of (tree_of m.1)
-    → members_view (insert_entry string_cmp es key v) ≡ members_data (members_of (take (i + 1) ms))
-put_turn es key v ms i m e within is ordered named same =
-    let a : members_view (insert_entry string_cmp es key v) ≡ port.put (string_bytes key) (view v) (members_view es) = members_view-insert_entry es key v in
-    let b : port.put (string_bytes key) (view v) (members_view es) ≡ port.put m.0 (data_of (tree_of m.1)) (members_data (members_of (take i ms))) = rw (named, same, e) refl in
-    let at : port.put m.0 (data_of (tree_of m.1)) (members_data (members_of (take i ms))) ≡ port.put (get_or ms i m).0 (data_of (tree_of (get_or ms i m).1)) (members_data (members_of (take i ms))) = ap (λ (n : Named). port.put n.0 (data_of (tree_of n.1)) (members_data (members_of (take i ms)))) is in
-    rw add-one (a ∙ (b ∙ (at ∙ put_there ms i m within ordered)))
 
 -- ---- depths and floats
 

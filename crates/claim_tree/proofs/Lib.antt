@@ -4,6 +4,7 @@ pub mod MapPlaces
 pub mod Inner
 pub mod Positions
 pub mod Walks
+pub mod TreeTokens
 pub mod Datas
 pub mod RoundTrip
 pub mod OneTree

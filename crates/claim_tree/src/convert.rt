@@ -1,10 +1,10 @@
-// Trees from and to the values of `serde_json`.
+// Trees from the values of `serde_json`.
 ghost use Rattle.std.specs.Prelude.{◌≡◌, true, IfOk, IfErr};
 ghost use Rattle.serde_json.specs.View.{view as value_view, number_view, items_view, members_view};
 ghost use Rattle.serde_json.specs.Written.{has_float, items_have_float, members_have_float};
 ghost use Rattle.serde_json.specs.Data.{number as number_data};
-ghost use Rattle.serde_json.specs.Find.{is_float, of_integer};
-ghost use Rattle.claim_tree.specs.Tree.{InRange, IsRanged, ElementsRanged, MembersRanged};
+ghost use Rattle.serde_json.specs.Find.{is_float};
+ghost use Rattle.claim_tree.specs.Tree.{IsRanged, ElementsRanged, MembersRanged};
 ghost use Rattle.claim_tree.specs.View.{tree_of};
 ghost use Rattle.claim_tree.specs.JsonText.{data_of, elements_data, members_data};
 ghost use Rattle.claim_tree.specs.declared.convert.TakeError.TheVariants.{NotWhole};
@@ -86,55 +86,4 @@ fn take_members(alloc: Global, members: Map<String, Value>) -> Result<TreeMap, T
         trees.insert(TextBox::from_string(name), take(alloc, value)?)?;
     }
     Ok(trees)
-}
-
-// The value of a tree, with copies of its texts.
-#[cycle(give)]
-pub(crate) fn give(alloc: Global, tree: &Tree) -> Result<Value, NoMemory>
-    requires { IsRanged (tree_of tree.now) }
-    ensures ok { IfOk result (λ v. value_view v ≡ data_of (tree_of tree.now)) }
-{
-    match tree {
-        Tree::Null => Ok(Value::Null),
-        Tree::Flag(flag) => Ok(Value::Bool(*flag)),
-        Tree::Whole(n) => Ok(Value::Number(give_number(*n))),
-        Tree::Text(text) => Ok(Value::String(String::from_str(alloc, text.as_str())?)),
-        Tree::List(trees) => Ok(Value::Array(give_elements(alloc, trees)?)),
-        Tree::Object(trees) => Ok(Value::Object(give_members(alloc, trees)?)),
-    }
-}
-
-fn give_number(n: i128) -> Number
-    requires { InRange n }
-    ensures { number_view result ≡ of_integer n }
-{
-    let Some(number) = Number::from_i128(n) else {
-        unreachable!();
-    };
-    number
-}
-
-#[cycle(give)]
-fn give_elements(alloc: Global, trees: &TreeList) -> Result<Vec<Value>, NoMemory>
-    requires { ElementsRanged trees.now }
-    ensures ok { IfOk result (λ values. items_view values.items ≡ elements_data trees.now) }
-{
-    let mut values = Vec::with_capacity(alloc, trees.len())?;
-    for tree in trees.trees() {
-        values.push(give(alloc, tree)?)?;
-    }
-    Ok(values)
-}
-
-#[cycle(give)]
-fn give_members(alloc: Global, trees: &TreeMap) -> Result<Map<String, Value>, NoMemory>
-    requires { MembersRanged trees.now }
-    ensures ok { IfOk result (λ members. members_view members.entries ≡ members_data trees.now) }
-{
-    let mut members = Map::new(alloc);
-    for (name, tree) in trees.members() {
-        let name = String::from_str(alloc, name.as_str())?;
-        drop(members.insert(name, give(alloc, tree)?)?);
-    }
-    Ok(members)
 }

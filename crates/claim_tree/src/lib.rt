@@ -15,6 +15,7 @@ mod pointer;
 #[cfg(test)]
 mod pointer_tests;
 mod text;
+mod tokens;
 mod tree;
 #[cfg(test)]
 mod tree_tests;

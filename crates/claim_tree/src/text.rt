@@ -4,8 +4,10 @@ ghost use Rattle.claim_tree.specs.Tree.{IsRanged, IsOrdered, depth as depth_of};
 ghost use Rattle.claim_tree.specs.View.{tree_of};
 ghost use Rattle.claim_tree.specs.JsonText.{Reads, IsUnread, json_text};
 
-use crate::convert::{TakeError, give, take};
+use crate::convert::{TakeError, take};
+use crate::tokens::put_tree;
 use crate::tree::{Tree, is_ordered};
+use json::Writer;
 use sd_outside::{NoMemory, TextBox};
 use serde_json::Value;
 use std::alloc::Global;
@@ -48,13 +50,20 @@ pub fn read(alloc: Global, bytes: &[u8]) -> Result<Tree, ReadError>
     }
 }
 
+// The bytes that a written text takes memory for at first.
+const ROOM: usize = 128;
+
 /// The compact JSON text of a tree: no blanks, the members ascending by the bytes of their names.
 pub fn write(alloc: Global, tree: &Tree) -> Result<TextBox, NoMemory>
     requires { IsRanged (tree_of tree.now) }
     ensures ok { IfOk result (λ text. text ≡ json_text (tree_of tree.now)) }
     ensures back { depth_of (tree_of tree.now) ≤ 127 → IfOk result (λ text. Reads text (tree_of tree.now)) }
 {
-    let text = give(alloc, tree)?.to_string(alloc)?;
-    let _ = text.as_str();
+    is_ordered(tree);
+    let mut out = Writer::new(Vec::with_capacity(alloc, ROOM)?);
+    put_tree(&mut out, tree)?;
+    let Ok(text) = String::from_utf8(out.into_inner()) else {
+        unreachable!();
+    };
     Ok(TextBox::from_string(text))
 }
