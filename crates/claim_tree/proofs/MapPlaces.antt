@@ -1,5 +1,5 @@
 -- Members that ascend: where a name stands among them, and what is put there.
-use Rattle.std.proofs.Common.{◌≡◌, ◌⊎◌, inl, inr, ℕ, zero, suc, ◌+◌, ◌<◌, ◌≤◌, true, false, List, [], ◌∷◌, length, set, get_or, Some, None, Ordering, Less, Equal, Greater, nat_cmp, Result, Ok, Err, IfOk, IfErr, refl, sym, ap, subst, ◌∙◌, arith}
+use Rattle.std.proofs.Common.{◌≡◌, ◌⊎◌, inl, inr, ℕ, zero, suc, ◌+◌, ◌-◌, ◌<◌, ◌≤◌, true, false, List, [], ◌∷◌, length, set, get_or, Some, None, Ordering, Less, Equal, Greater, nat_cmp, Result, Ok, Err, IfOk, IfErr, refl, sym, ap, subst, ◌∙◌, arith}
 use Rattle.std.specs.Prelude.{bytes_eq}
 use Rattle.std.specs.List.{insert}
 use Rattle.std.specs.List.Sorted.{IsSortedBy, IsSearchInRange, IsBinarySearchResult}
@@ -26,7 +26,7 @@ order : IsTotalOrder cmp
 order = nat_list_cmp_total
 
 -- names that tie are one
-same_name : (a b : Text) → cmp a b ≡ Equal → a ≡ b
+pub same_name : (a b : Text) → cmp a b ≡ Equal → a ≡ b
 same_name a b e = (bytes_eq-Decides a b).0 (sym (is_eq-slice_cmp a b) ∙ ap is_eq e)
 
 before_after : (a b : Text) → cmp a b ≡ Greater → IsBefore b a
@@ -64,6 +64,24 @@ found_gap ms name (Ok i) o within is = tt
 found_gap ms name (Err i) o within is =
     let parted = is (searchable_from_sorted order (λ (m : Entry). m.0) ms name (sorted ms o)) in
     record { within = within; before = λ k d l. parted.0 k d (omega arith) l; after = λ k d l h. parted.1 k d l h }
+
+is_less : (o : Ordering) → is_lt o ≡ true → o ≡ Less
+is_less Less e = refl
+is_less Equal e = cc e
+is_less Greater e = cc e
+
+before_last : (ms : List Entry) (name : Text) (m : Entry) → MembersOrdered (members_of ms) → ((d : Entry) → m ≡ get_or ms (length ms - 1) d) → cmp m.0 name ≡ Less → (k : ℕ) (d : Entry) → k < length ms → cmp (get_or ms k d).0 name ≡ Less
+before_last ms name m o is less k d within =
+    let last : cmp (get_or ms (length ms - 1) d).0 name ≡ Less = subst (λ (n : Entry). cmp n.0 name ≡ Less) (is d) less in
+    elim (cases_lt k (length ms - 1)) [
+      | inl low ↦ (order).trans (get_or ms k d).0 (get_or ms (length ms - 1) d).0 name (ascends ms k (length ms - 1) d o low (omega arith)) last
+      | inr high ↦ let here : k ≡ length ms - 1 = omega arith in subst (λ i. cmp (get_or ms i d).0 name ≡ Less) (sym here) last
+    ]
+
+-- behind the last member
+pub last_gap : (ms : List Entry) (name : Text) (m : Entry) → MembersOrdered (members_of ms) → ((d : Entry) → m ≡ get_or ms (length ms - 1) d) → is_lt (cmp m.0 name) ≡ true → IsGap ms name (length ms)
+last_gap ms name m o is behind =
+    record { within = omega arith; before = before_last ms name m o is (is_less _ behind); after = λ k d l h. absurd (omega (arith, l, h)) }
 
 -- ---- a name that is there
 

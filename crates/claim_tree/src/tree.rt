@@ -1,4 +1,4 @@
-ghost use Rattle.std.specs.Prelude.{◌≡◌, OnOk, OnErr, IfOk, IfErr, option_map};
+ghost use Rattle.std.specs.Prelude.{◌≡◌, length, OnOk, OnErr, IfOk, IfErr, IsTrue, option_map};
 ghost use Rattle.std.specs.Ordering.{nat_cmp};
 ghost use Rattle.std.specs.Cmp.Lexicographic.{slice_cmp};
 ghost use Rattle.claim_tree.specs.Tree.{text_of, no_elements, no_members, elements_len, members_len, element_at, member_at, member_named, pushed, inserted, IsOrdered, ElementsOrdered, MembersOrdered};
@@ -207,7 +207,7 @@ impl TreeMap {
         Some((name, tree))
     }
 
-    /// Puts a tree under a name, in place of the one that is there. A name behind all others goes to the end, which moves no member.
+    /// Puts a tree under a name, in place of the one that is there. A name behind all others costs one comparison and moves no member.
     pub fn insert(&mut self, name: TextBox, tree: Tree) -> Result<(), NoMemory>
         ensures ok { OnOk result (self.new ≡ inserted self.old name (tree_of tree)) }
         ensures err { OnErr result (self.new ≡ self.old) }
@@ -233,6 +233,30 @@ fn search(members: &[(TextBox, Tree)], name: &str) -> Result<usize, usize>
     members.binary_search_by(|member| compared(member, name))
 }
 
+// Whether the name comes after all others.
+fn is_behind(members: &[(TextBox, Tree)], name: &str) -> bool
+    requires { MembersOrdered (members_of members.now) }
+    ensures { IsTrue result → IsGap members.now name.now (length members.now) }
+{
+    match members.last() {
+        None => true,
+        Some(last) => compared(last, name).is_lt(),
+    }
+}
+
+// The same as `search`, by one comparison where the name comes after all others.
+fn search_from_end(members: &[(TextBox, Tree)], name: &str) -> Result<usize, usize>
+    requires { MembersOrdered (members_of members.now) }
+    ensures found { IfOk result (IsPlace members.now name.now) }
+    ensures absent { IfErr result (IsGap members.now name.now) }
+{
+    if is_behind(members, name) {
+        Err(members.len())
+    } else {
+        search(members, name)
+    }
+}
+
 fn put(members: &mut Vec<(TextBox, Tree)>, name: TextBox, tree: Tree) -> Result<(), NoMemory>
     requires members { MembersOrdered (members_of members.old.items) }
     requires tree { IsOrdered (tree_of tree) }
@@ -240,7 +264,7 @@ fn put(members: &mut Vec<(TextBox, Tree)>, name: TextBox, tree: Tree) -> Result<
     ensures ordered { MembersOrdered (members_of members.new.items) }
     ensures err { OnErr result (members_of members.new.items ≡ members_of members.old.items) }
 {
-    match search(members.as_slice(), name.as_str()) {
+    match search_from_end(members.as_slice(), name.as_str()) {
         Ok(place) => members[place] = (name, tree),
         Err(place) => members.insert(place, (name, tree))?,
     }
