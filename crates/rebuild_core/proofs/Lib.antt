@@ -39,6 +39,7 @@ pub mod ShownDepths
 pub mod ListOpening
 pub mod MapOpening
 pub mod Opened
+pub mod PlainOpening
 pub mod Ranged
 mod Examples
 mod Premises

@@ -120,19 +120,19 @@ later : (k l : Text) → IsBefore l k → slice_cmp nat_cmp k l ≡ Greater
 later k l h = nat_list_cmp_total.antisymm k l ∙ ap ordering_reverse h
 
 -- a name that comes after all is put last
-put_last : (ms ns : MarkedMembers) (k : Text) (ls : List Text) (i : Option ℕ) (t : Marked) → AllBefore ms (k ∷ ls) → members_joined (put k i t ms) ns ≡ members_joined ms (marked_member k i t ns)
+pub put_last : (ms ns : MarkedMembers) (k : Text) (ls : List Text) (i : Option ℕ) (t : Marked) → AllBefore ms (k ∷ ls) → members_joined (put k i t ms) ns ≡ members_joined ms (marked_member k i t ns)
 put_last no_marked_members ns k ls i t h = refl
 put_last (marked_member l j u ms) ns k ls i t h = rw (later k l h.0.0) (ap (marked_member l j u) (put_last ms ns k ls i t h.1))
 
-before_put : (ms : MarkedMembers) (k : Text) (ls : List Text) (i : Option ℕ) (t : Marked) → AllBefore ms (k ∷ ls) → IsBeforeAll k ls → AllBefore (put k i t ms) ls
+pub before_put : (ms : MarkedMembers) (k : Text) (ls : List Text) (i : Option ℕ) (t : Marked) → AllBefore ms (k ∷ ls) → IsBeforeAll k ls → AllBefore (put k i t ms) ls
 before_put no_marked_members k ls i t h a = (a, tt)
 before_put (marked_member l j u ms) k ls i t h a = rw (later k l h.0.0) (h.0.1, before_put ms k ls i t h.1 a)
 
-before_less : (ms : MarkedMembers) (k : Text) (ls : List Text) → AllBefore ms (k ∷ ls) → AllBefore ms ls
+pub before_less : (ms : MarkedMembers) (k : Text) (ls : List Text) → AllBefore ms (k ∷ ls) → AllBefore ms ls
 before_less no_marked_members k ls h = tt
 before_less (marked_member l j u ms) k ls h = (h.0.1, before_less ms k ls h.1)
 
-member_here : (ms : List Named) (i : ℕ) (m : Named) → i < length ms → m ≡ get_or ms i m → members_of (drop i ms) ≡ member m.0 (tree_of m.1) (members_of (drop (i + 1) ms))
+pub member_here : (ms : List Named) (i : ℕ) (m : Named) → i < length ms → m ≡ get_or ms i m → members_of (drop i ms) ≡ member m.0 (tree_of m.1) (members_of (drop (i + 1) ms))
 member_here ms i m l e = at_drop_more members_of ms i m l ∙ ap (λ (n : Named). member n.0 (tree_of n.1) (members_of (drop (i + 1) ms))) (sym e)
 
 pub members_end : (ms : List Named) (i : ℕ) → length ms ≤ i → members_of (drop i ms) ≡ no_members

@@ -9,6 +9,8 @@ pub mod laws;
 mod names;
 mod numbers;
 mod opening;
+#[cfg(test)]
+mod plain;
 mod processing;
 mod readable;
 mod references;
