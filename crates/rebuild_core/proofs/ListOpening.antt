@@ -1,5 +1,5 @@
 -- The loop that opens the elements of an array.
-use Rattle.std.proofs.Common.{◌≡◌, ℕ, zero, suc, ◌+◌, ◌^◌, ◌<◌, ◌≤◌, List, [], ◌∷◌, ◌++◌, length, get_or, drop, Option, Some, None, MatchOption, Bor, refl, sym, ap, ◌∙◌, subst, arith}
+use Rattle.std.proofs.Common.{◌≡◌, ℕ, zero, suc, ◌+◌, ◌^◌, ◌<◌, ◌≤◌, List, [], ◌∷◌, ◌++◌, length, get_or, drop, Option, Some, None, MatchOption, Bor, sym, ap, ◌∙◌, subst, arith}
 use Rattle.std.specs.Prelude.{slice_index, slice_get, option_map}
 use Rattle.std.proofs.lemmas.List.{at_drop_more}
 use Rattle.std.proofs.lemmas.Grind.{get_or_default_zero}
@@ -12,8 +12,8 @@ use Rattle.claim_tree.proofs.Lists.{At-below}
 use Rattle.digest_sites.specs.Reserved.{element_digest}
 use Rattle.digest_sites.specs.Given.{Given, given_of}
 use Rattle.digest_sites.specs.declared.given.Given.{Given as GivenCode}
-use Rattle.marked_tree.specs.Marked.{Marked, MarkedElements, no_marked_elements, marked_element, marked_pushed, strip}
-use Rattle.rebuild_core.specs.Opening.{Shown, hidden as nothing, shown, show_element, open_tree, open_element, open_elements}
+use Rattle.marked_tree.specs.Marked.{Marked, MarkedElements, marked_element, marked_pushed, strip}
+use Rattle.rebuild_core.specs.Opening.{Shown, shown, show_element, open_tree, open_element, open_elements}
 use Rattle.rebuild_core.specs.Cursor.{digests_on, tree_digests, elements_digests, Tells, TellFirst}
 use Rattle.rebuild_core.specs.Whole.{settled, joined, shown_depth, IfTooDeep, IsElement, WholeOn, OpensWhole, ElementsWhole, IsOpenable}
 use Rattle.rebuild_core.specs.declared.errors.ProcessError.{ProcessError}
@@ -74,9 +74,6 @@ module _ (g : List Given) (ks ends : List ℕ) (ready : IsOpenable g ks ends) (j
       let w : At g (slice_index ks at) x = subst (λ i. At g i x) e there in
       tells.known x w ∙ ap (λ i. shown i x.name (open_tree (settled g) x.value)) (sym e)
 
-pub shows_nothing : (g : List Given) (ks : List ℕ) (j at : ℕ) (d : Text) → length g ≤ j → at < length ks → j ≡ get_or ks at j → Tells g (slice_index ks at) d → settled g d ≡ nothing
-shows_nothing g ks j at d past within read tells = let e : j ≡ slice_index ks at = read ∙ get_or_default_zero ks at j within in tells.unknown (omega (arith, past, e))
-
 -- ---- the elements
 
 pub element_here : (ts : List Code) (i : ℕ) (t : Code) → i < length ts → t ≡ get_or ts i t → elements_of (drop i ts) ≡ element (tree_of t) (elements_of (drop (i + 1) ts))
@@ -91,10 +88,6 @@ pub record ListState (g : List Given) (ks : List ℕ) (limit : ℕ) (all : Eleme
   pub joins : joined out (open_elements (settled g) rest) ≡ open_elements (settled g) all
   pub whole : ElementsWhole (settled g) rest
   pub low : list_depth out ≤ limit
-
-pub list_starts : (g : List Given) (ks : List ℕ) (limit : ℕ) (all rest : Elements) (out : MarkedElements) (at : ℕ) → rest ≡ all → out ≡ no_marked_elements
-    → TellFirst g (drop at ks) (elements_digests all) → ElementsWhole (settled g) all → ListState g ks limit all (at + length (elements_digests all)) rest out at
-list_starts g ks limit all rest out at same none told whole = rw (same, none) record { goes = (told, refl); joins = refl; whole = whole; low = omega arith }
 
 pub list_ends : (g : List Given) (ks : List ℕ) (limit : ℕ) (all : Elements) (end : ℕ) (rest : Elements) (out : MarkedElements) (at : ℕ) → ListState g ks limit all end rest out at → rest ≡ no_elements
     → (at ≡ end) × (out ≡ open_elements (settled g) all) × (list_depth out ≤ limit)

@@ -74,9 +74,6 @@ pub record OwnState (g : List Given) (ks : List ℕ) (limit : ℕ) (all : List T
   pub low : shown_depths (settled g) all ≤ max limit (shown_depths (settled g) rest)
   pub part : shown_depths (settled g) rest ≤ shown_depths (settled g) all
 
-pub own_starts : (g : List Given) (ks : List ℕ) (limit : ℕ) (all : List Text) (at : ℕ) → TellFirst g (drop at ks) all → OwnState g ks limit all (at + length all) all no_marked_members at
-own_starts g ks limit all at told = record { goes = (told, refl); joins = refl; low = omega arith; part = omega arith }
-
 pub own_ends : (g : List Given) (ks : List ℕ) (limit : ℕ) (all : List Text) (end : ℕ) (rest : List Text) (out : MarkedMembers) (at : ℕ) → OwnState g ks limit all end rest out at → rest ≡ []
     → (at ≡ end) × (out ≡ shown_members (settled g) all) × (shown_depths (settled g) all ≤ limit)
 own_ends g ks limit all end rest out at s e = (
@@ -145,12 +142,6 @@ pub record MapState (g : List Given) (ks : List ℕ) (limit : ℕ) (top : Bool) 
   pub ordered : MembersOrdered rest
   pub before : AllBefore out (names rest)
   pub low : map_depth out ≤ limit
-
-pub map_starts : (g : List Given) (ks : List ℕ) (limit : ℕ) (top : Bool) (all rest : Members) (out : MarkedMembers) (at : ℕ) → rest ≡ all → out ≡ no_marked_members
-    → TellFirst g (drop at ks) (members_digests (topped top all)) → MembersWhole (settled g) (topped top all) → MembersOrdered all
-    → MapState g ks limit top all (at + length (members_digests (topped top all))) rest out at
-map_starts g ks limit top all rest out at same none told whole ordered =
-    rw (same, none) record { goes = (told, refl); joins = refl; whole = whole; ordered = ordered; before = tt; low = omega arith }
 
 topped_none : (top : Bool) → topped top no_members ≡ no_members
 topped_none true = refl

@@ -1,16 +1,16 @@
 -- Opening by search, element by element and member by member.
-use Rattle.std.proofs.Common.{◌≡◌, ℕ, zero, suc, ◌+◌, ◌-◌, ◌*◌, ◌<◌, ◌≤◌, List, [], ◌∷◌, map, length, get_or, drop, true, false, cond, Option, Some, None, IsSome, refl, sym, ap, ap₂, ◌∙◌, subst, arith}
-use Rattle.std.specs.Prelude.{bytes_eq, option_map, option_and_then, is_some}
+use Rattle.std.proofs.Common.{◌≡◌, ℕ, zero, suc, ◌+◌, ◌-◌, ◌*◌, ◌<◌, ◌≤◌, List, [], ◌∷◌, map, length, get_or, drop, true, false, cond, Option, Some, None, IsSome, sym, ap, ap₂, ◌∙◌, subst, arith}
+use Rattle.std.specs.Prelude.{bytes_eq}
 use Rattle.std.proofs.lemmas.List.{at_drop_more}
 use Rattle.claim_tree.specs.Tree.{Text, Tree, Elements, no_elements, element, Members, no_members, member, names, nodes, MembersOrdered}
 use Rattle.claim_tree.specs.Lists.{At}
 use Rattle.claim_tree.proofs.Lists.{At-below}
-use Rattle.digest_sites.specs.Reserved.{sd_name, element_digest, text_of, texts_of, texts_or_none}
+use Rattle.digest_sites.specs.Reserved.{sd_name, element_digest, texts_of, texts_or_none}
 use Rattle.digest_sites.specs.Given.{Given, given_of}
 use Rattle.digest_sites.specs.declared.given.Given.{Given as GivenCode}
 use Rattle.marked_tree.specs.Marked.{Marked, MarkedElements, marked_element, marked_pushed, MarkedMembers, marked_member, put}
 use Rattle.rebuild_core.specs.Given.{find_from, find}
-use Rattle.rebuild_core.specs.Opening.{Shown, shown, reveal, opened, open_tree, open_element, open_elements, open_members, show_element, show_member, show_members}
+use Rattle.rebuild_core.specs.Opening.{Shown, shown, reveal, opened, open_tree, open_element, open_elements, open_members, show_element, show_members}
 use Rattle.rebuild_core.specs.Whole.{joined, members_joined}
 use Rattle.rebuild_core.proofs.Found.{found}
 use Rattle.rebuild_core.proofs.Sums.{sum_of}
@@ -109,32 +109,3 @@ module _ (r : Text → Shown) (all : MarkedMembers) (k : Text) (t : Tree) (rest 
 
 abbrev pub TextState : (Text → Shown) → MarkedMembers → Elements → MarkedMembers → Type 0
 TextState r all rest out = IsSome (texts_of rest) × (show_members r (texts_or_none (texts_of rest)) out ≡ all)
-
-pub texts_done : (r : Text → Shown) (all : MarkedMembers) (rest : Elements) (out : MarkedMembers) → TextState r all rest out → rest ≡ no_elements → out ≡ all
-texts_done r all rest out s e = ap (λ es. show_members r (texts_or_none (texts_of es)) out) (sym e) ∙ s.1
-
--- the first of them
-pub record FirstText (t : Tree) (rest : Elements) : Type 0 where
-  pub text : Text
-  pub is : text_of t ≡ Some text
-  pub more : IsSome (texts_of rest)
-  pub all : texts_or_none (texts_of (element t rest)) ≡ text ∷ texts_or_none (texts_of rest)
-
-first_text : (t : Tree) (rest : Elements) → IsSome (texts_of (element t rest)) → FirstText t rest
-first_text t rest h = go (text_of t) (texts_of rest) refl refl h
-  where
-    go : (o : Option Text) (p : Option (List Text)) → text_of t ≡ o → texts_of rest ≡ p → is_some (option_and_then (λ s. option_map (λ ss. s ∷ ss) p) o) ≡ true → FirstText t rest
-    go None p e f h = cc
-    go (Some s) None e f h = cc
-    go (Some s) (Some ss) e f h = record { text = s; is = e; more = ap is_some f; all = rw (e, f) refl }
-
-pub text_after : (r : Text → Shown) (all : MarkedMembers) (t : Tree) (rest : Elements) (out : MarkedMembers) → TextState r all (element t rest) out
-    → (d : Text) (x : Shown) (new : MarkedMembers) → text_of t ≡ Some d → x ≡ r d → new ≡ show_member x out → TextState r all rest new
-text_after r all t rest out s d x new here is put_is =
-    let w = first_text t rest s.0 in
-    let same : w.text ≡ d = let e : Some w.text ≡ Some d = sym w.is ∙ here in cc in
-    (w.more, ap (show_members r (texts_or_none (texts_of rest))) (put_is ∙ ap₂ show_member (is ∙ ap r (sym same)) refl) ∙ ap (λ ds. show_members r ds out) (sym w.all) ∙ s.1)
-
--- each of them is a text
-pub never_other : (r : Text → Shown) (all : MarkedMembers) (t : Tree) (rest : Elements) (out : MarkedMembers) → TextState r all (element t rest) out → text_of t ≡ None → ⊥
-never_other r all t rest out s h = let w = first_text t rest s.0 in let e : Some w.text ≡ None = sym w.is ∙ h in cc
