@@ -14,3 +14,5 @@ mod PointerPieces
 pub mod PointerTexts
 pub mod PointerRule
 mod Examples
+pub mod MemberNames
+pub mod FileMembers
