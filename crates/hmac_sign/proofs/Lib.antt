@@ -2,3 +2,4 @@ pub mod Macs
 mod Blocks
 mod Equal
 mod KeySets
+pub mod KeySetVerdicts
