@@ -21,7 +21,10 @@ mod token;
 mod view;
 
 pub use blanks::trim;
-pub use fault::{FORM, Fault, JsonPlace, Part, Place, TOO_LONG, TOO_MUCH};
+pub use fault::{
+    DISCLOSURE_UNREADABLE, FORM, Fault, HASH_UNKNOWN, HEADER_UNREADABLE, JsonPlace,
+    PAYLOAD_UNREADABLE, Part, Place, TOO_LONG, TOO_MUCH,
+};
 pub use form::{FormError, check, parse};
 pub use limits::{COMPACT_MAX, COUNT_MAX, FILE_MAX, ISSUE_MAX};
 pub use parts::{JwtParts, Parts};

@@ -1,11 +1,13 @@
 -- A tree is read as one key set, or is refused.
-use Rattle.std.proofs.Common.{◌≡◌, ℕ, zero, suc, ◌≤◌, List, [], ◌∷◌, length, Option, Some, None, Bool, true, false, codes, refl, sym, ap, subst, ◌∙◌}
+use Rattle.std.proofs.Common.{◌≡◌, ◌≢◌, ℕ, zero, suc, ◌≤◌, List, ◌∷◌, length, Option, Some, None, true, false, refl, sym, ap, subst, ◌∙◌}
 use Rattle.b64url_text.specs.Base64url.{Decodes}
 use Rattle.b64url_text.proofs.Codes.{one_code}
-use Rattle.claim_tree.specs.Tree.{Text, Tree, Elements, no_elements, element, element_at}
+use Rattle.claim_tree.specs.Tree.{Text, Tree, Elements, element_at}
 use Rattle.hmac_sign.specs.Hmac.{key_block}
-use Rattle.hmac_sign.specs.Keys.{text_under, oct_code, keys_under, are_keys, IsOct, HasNoCode, IsShort, KeysOf, no_keys, other, key, IsKeySet, IsNoKeySet, no_array, no_key, NoCodeAt, ShortAt}
+use Rattle.hmac_sign.specs.Keys.{oct_code, keys_under, are_keys, IsOct, HasNoCode, IsShort, KeysOf, no_keys, other, key, IsKeySet, IsNoKeySet, no_array, no_key, NoCodeAt, ShortAt}
 use Rattle.hmac_sign.specs.declared.key_set.NamedKey.{NamedKey}
+use Rattle.hmac_sign.specs.declared.key_set.KeySetError.{KeySetError}
+use Rattle.hmac_sign.specs.declared.key_set.KeySetError.TheVariants.{Memory, NotASet, KeyNotBase64, KeyShort}
 use Rattle.hmac_sign.proofs.KeySets.{has_code, of_other_kind, not_short, no_short}
 
 -- ---- no element of a set has a fault
@@ -64,3 +66,11 @@ pub one_key_set : (t : Tree) (keys others : List NamedKey) → IsKeySet t keys �
 one_key_set t keys others set more =
     let same : set.elements ≡ more.elements = same_elements (keys_under t) set.elements more.elements set.stand more.stand in
     one_keys more.elements keys others (subst (λ es. KeysOf es keys) same set.keys_are) more.keys_are
+
+-- a tree that is refused for another cause than want of memory is no set
+pub not_read : (t : Tree) (error : KeySetError) → (error ≡ NotASet → IsNoKeySet t) → ((place : ℕ) → error ≡ KeyNotBase64 place → NoCodeAt t place) → ((place : ℕ) → error ≡ KeyShort place → ShortAt t place) → error ≢ Memory
+    → (keys : List NamedKey) → IsKeySet t keys → ⊥
+not_read t Memory no_set no_code short cause keys set = cause refl
+not_read t NotASet no_set no_code short cause keys set = not_no_set t keys set (no_set refl)
+not_read t (KeyNotBase64 place) no_set no_code short cause keys set = not_no_code t keys place set (no_code place refl)
+not_read t (KeyShort place) no_set no_code short cause keys set = not_too_short t keys place set (short place refl)

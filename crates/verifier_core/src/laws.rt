@@ -1,0 +1,16 @@
+//! What the definitions of conditions and policies say together. Each law holds for every value.
+ghost use Rattle.std.specs.Prelude.{◌≡◌, ℕ, List, Some};
+ghost use Rattle.compact_form.specs.declared.fault.Fault.{Fault};
+ghost use Rattle.verifier_core.specs.Condition.{Condition, number_of, condition_of};
+ghost use Rattle.verifier_core.specs.FaultLine.{IsFault, IsFaultLine};
+
+/// A condition has a number of its own, under which it is found.
+pub fn one_condition()
+    ensures one { (condition other : Condition) → number_of condition ≡ number_of other → condition ≡ other }
+    ensures found { (condition : Condition) → condition_of (number_of condition) ≡ Some condition }
+{}
+
+/// A fault of a condition has one line.
+pub fn one_line()
+    ensures { (fault : Fault) (line other : List ℕ) → IsFault fault → IsFaultLine fault line → IsFaultLine fault other → line ≡ other }
+{}
