@@ -1,7 +1,7 @@
-use Rattle.std.proofs.Common.{◌≡◌, [], ◌∷◌, codes, List, IfErr}
+use Rattle.std.proofs.Common.{[], ◌∷◌, codes}
 use Rattle.std.proofs.lemmas.Result.{err_from_is_err_and}
 use Rattle.compact_form.specs.declared.limits.TheConstants.{FILE_MAX}
-use Rattle.claim_tree.specs.FileForms.{IsText, IsTexts, IsWholeUpTo, Entry, required, optional, Meets}
+use Rattle.claim_tree.specs.FileForms.{IsText, IsTexts, IsWholeUpTo, Entry, required, optional}
 use Rattle.claim_tree.specs.declared.file_fault.Field.TheVariants.{Keys, Algs, Typ, Iss, Require, Skew}
 use Rattle.claim_tree.proofs.FileMembers.{says_meets, may_say_meets, says_or_meets, member_refused}
 use Rattle.hmac_sign.specs.Keys.{IsKeySet}
