@@ -16,3 +16,4 @@ pub mod PointerRule
 mod Examples
 pub mod MemberNames
 pub mod FileMembers
+pub mod FileVerdicts
