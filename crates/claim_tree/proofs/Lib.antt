@@ -15,3 +15,6 @@ mod PointerPieces
 pub mod PointerTexts
 pub mod PointerRule
 mod Examples
+pub mod MemberNames
+pub mod FileMembers
+pub mod FileVerdicts

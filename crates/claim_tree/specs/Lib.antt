@@ -7,3 +7,4 @@ pub mod Falls
 pub mod Places
 pub mod Path
 pub mod FileWords
+pub mod FileForms

@@ -8,6 +8,7 @@ mod convert;
 mod copies;
 mod depths;
 mod file_fault;
+mod file_form;
 mod inside;
 pub mod laws;
 mod path;
@@ -23,6 +24,9 @@ mod tree_tests;
 pub use copies::copy;
 pub use depths::depth;
 pub use file_fault::{Field, FileFault};
+pub use file_form::{
+    read_members, text_list_member, text_member, texts_of, whole_member, whole_up_to,
+};
 pub use inside::{find, get};
 pub use path::{Path, PathList};
 pub use pointer::{PointerError, is_prefix, print_path, read_pointer};

@@ -1,8 +1,19 @@
-//! What the definition of HMAC says. The law holds for every value.
+//! What the definitions of keys say. Each law holds for every value.
 ghost use Rattle.std.specs.Prelude.{◌≡◌, ℕ, List};
+ghost use Rattle.claim_tree.specs.Tree.{Tree};
 ghost use Rattle.hmac_sign.specs.Hmac.{hmac, key_block};
+ghost use Rattle.hmac_sign.specs.Keys.{IsKeySet, IsNoKeySet, NoCodeAt, ShortAt};
+ghost use Rattle.hmac_sign.specs.declared.key_set.NamedKey.{NamedKey};
 
 /// A key and the block made of it are one key.
 pub fn one_key()
     ensures { (key text : List ℕ) → hmac (key_block key) text ≡ hmac key text }
+{}
+
+/// A tree is one key set, and none of its refusals holds of it.
+pub fn one_key_set()
+    ensures one { (t : Tree) (keys others : List NamedKey) → IsKeySet t keys → IsKeySet t others → keys ≡ others }
+    ensures a_set { (t : Tree) (keys : List NamedKey) → IsKeySet t keys → IsNoKeySet t → ⊥ }
+    ensures codes { (t : Tree) (keys : List NamedKey) (place : ℕ) → IsKeySet t keys → NoCodeAt t place → ⊥ }
+    ensures long { (t : Tree) (keys : List NamedKey) (place : ℕ) → IsKeySet t keys → ShortAt t place → ⊥ }
 {}

@@ -1,4 +1,3 @@
 pub mod Parts
-mod Names
 pub mod Headers
 pub mod Examples

@@ -2,7 +2,7 @@ use Rattle.std.proofs.Common.{rules, tests, ap, ◌∙◌}
 use Rattle.std.proofs.lemmas.Iterator.{YieldsList-from_slice}
 use Rattle.std.proofs.lemmas.Iterator.Search.{any_from_yields_List}
 use Rattle.jws_part.specs.Header.{has_name, shares_name}
-use Rattle.jws_part.proofs.Names.{any_member}
+use Rattle.claim_tree.proofs.MemberNames.{any_member}
 use Rattle.jws_part.proofs.members.shares_name.Goals as goal
 
 pub returns : goal.returns

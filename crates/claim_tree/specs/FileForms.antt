@@ -1,0 +1,138 @@
+-- The files that a command reads: each is one JSON object, whose members stand in a table.
+use Rattle.std.specs.Prelude.{◌≡◌, ◌≢◌, ◌<◌, ◌≤◌, ◌⊎◌, ℕ, pos, Bool, true, false, not, List, [], ◌∷◌, length, Option, Some, None, bytes_eq}
+use Rattle.std.specs.List.{list_any}
+use Rattle.claim_tree.specs.Tree.{Text, text, whole, Tree, leaf, array, object, Elements, no_elements, element, Members, names, member_named}
+use Rattle.claim_tree.specs.JsonText.{Reads, IsNotJson, IsNotWhole}
+use Rattle.claim_tree.specs.FileWords.{word_of}
+use Rattle.claim_tree.specs.declared.file_fault.Field.{Field}
+use Rattle.claim_tree.specs.declared.file_fault.FileFault.{FileFault}
+use Rattle.claim_tree.specs.declared.file_fault.FileFault.TheVariants.{Memory, TooLong, NotJson, NotWhole, NotObject, Unknown, Missing, Wrong}
+
+-- ---- what a member says
+
+-- the tree is this text
+abbrev pub IsText : Tree → Text → Type 0
+IsText t s = t ≡ leaf (text s)
+
+abbrev pub text_elements : List Text → Elements
+text_elements [] = no_elements
+text_elements (s ∷ texts) = element (leaf (text s)) (text_elements texts)
+
+-- the tree is the list of these texts
+abbrev pub IsTexts : Tree → List Text → Type 0
+IsTexts t texts = t ≡ array (text_elements texts)
+
+-- the tree is this whole number, from 0 to the most
+pub record IsWholeUpTo (most : ℕ) (t : Tree) (n : ℕ) : Type 0 where
+  pub is : t ≡ leaf (whole (pos n))
+  pub within : n ≤ most
+
+-- what is found says this; where nothing is found, it says nothing
+abbrev pub Says : {X : Type 0} → (Tree → X → Type 0) → Option Tree → X → Type 0
+Says Is None x = ⊥
+Says Is (Some t) x = Is t x
+
+-- what is found says some value, and none where nothing is found
+abbrev pub MaySay : {X : Type 0} → (Tree → X → Type 0) → Option Tree → Option X → Type 0
+MaySay Is None None = Unit {0}
+MaySay Is (Some t) (Some x) = Is t x
+MaySay Is _ _ = ⊥
+
+-- what is found says this, and the value is the default where nothing is found
+abbrev pub SaysOr : {X : Type 0} → (Tree → X → Type 0) → X → Option Tree → X → Type 0
+SaysOr Is default None x = x ≡ default
+SaysOr Is default (Some t) x = Is t x
+
+-- ---- the table of a file
+
+-- a member of a file: its name, whether the file must have it, and its form
+pub record Entry : Type 1 where
+  pub field : Field
+  pub is_required : Bool
+  pub Form : Tree → Type 0
+
+-- the form of a member that says a value
+abbrev pub HasValue : {X : Type 0} → (Tree → X → Type 0) → Tree → Type 0
+HasValue {X} Is t = (x : X) × Is t x
+
+abbrev pub required : {X : Type 0} → Field → (Tree → X → Type 0) → Entry
+required field Is = record { field = field; is_required = true; Form = HasValue Is }
+
+abbrev pub optional : {X : Type 0} → Field → (Tree → X → Type 0) → Entry
+optional field Is = record { field = field; is_required = false; Form = HasValue Is }
+
+abbrev pub fields_of : List Entry → List Field
+fields_of [] = []
+fields_of (entry ∷ table) = entry.field ∷ fields_of table
+
+abbrev pub found : Members → Field → Option Tree
+found ms field = member_named ms (word_of field)
+
+-- the member is there and has its form, or is not there and need not be
+pub data Meets (entry : Entry) (ms : Members) : Type 0 where
+  present : (t : Tree) → found ms entry.field ≡ Some t → entry.Form t → Meets entry ms
+  absent : found ms entry.field ≡ None → entry.is_required ≡ false → Meets entry ms
+
+-- the member is not there and must be, or is there without its form
+pub data Fails (entry : Entry) (ms : Members) (fault : FileFault) : Type 0 where
+  missing : found ms entry.field ≡ None → entry.is_required ≡ true → fault ≡ Missing entry.field → Fails entry ms fault
+  wrong : (t : Tree) → found ms entry.field ≡ Some t → (entry.Form t → ⊥) → fault ≡ Wrong entry.field → Fails entry ms fault
+
+-- the fault of the first member, in the order of the table, that is missing or wrong
+abbrev pub IsFirstFault : List Entry → Members → FileFault → Type 0
+IsFirstFault [] ms fault = ⊥
+IsFirstFault (entry ∷ table) ms fault = Fails entry ms fault ⊎ (Meets entry ms × IsFirstFault table ms fault)
+
+-- ---- the file
+
+abbrev pub is_known : List Field → Text → Bool
+is_known fields name = list_any (λ field. bytes_eq (word_of field) name) fields
+
+-- a member is there that is none of the fields
+abbrev pub has_unknown : List Field → Members → Bool
+has_unknown fields ms = list_any (λ name. not (is_known fields name)) (names ms)
+
+-- the file has no more bytes than the most, and is the JSON text of an object of these members
+pub record IsObjectFile (most : ℕ) (bytes : Text) (ms : Members) : Type 0 where
+  pub short : length bytes ≤ most
+  pub reads : Reads bytes (object ms)
+
+-- the same, and each member is one of the fields
+pub record HasMembers (most : ℕ) (fields : List Field) (bytes : Text) (ms : Members) : Type 0 where
+  pub object : IsObjectFile most bytes ms
+  pub known : has_unknown fields ms ≡ false
+
+-- the file is JSON, and no object
+pub record IsNotObject (most : ℕ) (bytes : Text) : Type 0 where
+  pub short : length bytes ≤ most
+  pub tree : Tree
+  pub reads : Reads bytes tree
+  pub other : (ms : Members) → tree ≢ object ms
+
+-- why a file is no object of such members, in the order in which it is judged; want of memory says nothing
+abbrev pub HasNoMembers : ℕ → List Field → Text → FileFault → Type 0
+HasNoMembers most fields bytes Memory = Unit {0}
+HasNoMembers most fields bytes TooLong = most < length bytes
+HasNoMembers most fields bytes NotJson = (length bytes ≤ most) × IsNotJson bytes
+HasNoMembers most fields bytes NotWhole = (length bytes ≤ most) × IsNotWhole bytes
+HasNoMembers most fields bytes NotObject = IsNotObject most bytes
+HasNoMembers most fields bytes Unknown = (ms : Members) × IsObjectFile most bytes ms × (has_unknown fields ms ≡ true)
+HasNoMembers most fields bytes (Missing field) = ⊥
+HasNoMembers most fields bytes (Wrong field) = ⊥
+
+-- why a member is refused; want of memory says nothing
+abbrev pub IsMemberRefused : Entry → Members → FileFault → Type 0
+IsMemberRefused entry ms Memory = Unit {0}
+IsMemberRefused entry ms fault = Fails entry ms fault
+
+-- the file has known members, and this is the first fault of them
+pub record HasFirstFault (most : ℕ) (table : List Entry) (bytes : Text) (fault : FileFault) : Type 0 where
+  pub members : Members
+  pub file : HasMembers most (fields_of table) bytes members
+  pub first : IsFirstFault table members fault
+
+-- why a file is refused: it is no object of known members, or else by the first fault of them; want of memory says nothing
+abbrev pub IsFileRefused : ℕ → List Entry → Text → FileFault → Type 0
+IsFileRefused most table bytes (Missing field) = HasFirstFault most table bytes (Missing field)
+IsFileRefused most table bytes (Wrong field) = HasFirstFault most table bytes (Wrong field)
+IsFileRefused most table bytes fault = HasNoMembers most (fields_of table) bytes fault

@@ -1,0 +1,134 @@
+// What the files that a command reads have in common.
+ghost use Rattle.std.specs.Prelude.{◌≡◌, ◌≢◌, ◌≤◌, List, IfOk, IfErr, IfSome, IfNone};
+ghost use Rattle.claim_tree.specs.Tree.{Text, object, IsRanged, IsOrdered, depth as depth_of};
+ghost use Rattle.claim_tree.specs.View.{tree_of, elements_of};
+ghost use Rattle.claim_tree.specs.FileForms as spec;
+ghost use Rattle.claim_tree.specs.FileForms.{IsText, IsTexts, IsWholeUpTo, HasValue, MaySay, HasMembers, HasNoMembers, IsMemberRefused, optional, found};
+
+use crate::{Field, FileFault, Tree, TreeMap, read};
+use sd_outside::{NoMemory, TextBox, TextList};
+use std::alloc::Global;
+
+// Whether a name is that of one of the fields.
+fn is_known(name: &str, fields: &[Field]) -> bool
+    ensures { result ≡ spec.is_known fields.now name.now }
+{
+    fields.iter().any(|field| field.word() == name)
+}
+
+fn has_unknown(members: &TreeMap, fields: &[Field]) -> bool
+    ensures { result ≡ spec.has_unknown fields.now members.now }
+{
+    members
+        .members()
+        .iter()
+        .any(|member| !is_known(member.0.as_str(), fields))
+}
+
+/// The members of the JSON object that a file is. It has no more bytes than `most`, and each member is one of `fields`.
+///
+/// The faults are those of a file as a whole, in the order of [`FileFault`]; none of them is `Missing` or `Wrong`.
+pub fn read_members(
+    alloc: Global,
+    bytes: &[u8],
+    most: usize,
+    fields: &[Field],
+) -> Result<TreeMap, FileFault>
+    ensures ok { IfOk result (HasMembers most fields.now bytes.now) }
+    ensures ranged { IfOk result (λ ms. IsRanged (object ms)) }
+    ensures ordered { IfOk result (λ ms. IsOrdered (object ms)) }
+    ensures depth { IfOk result (λ ms. depth_of (object ms) ≤ 127) }
+    ensures refused { IfErr result (HasNoMembers most fields.now bytes.now) }
+{
+    if bytes.len() > most {
+        return Err(FileFault::TooLong);
+    }
+    let members = match read(alloc, bytes)? {
+        Tree::Object(members) => members,
+        _ => return Err(FileFault::NotObject),
+    };
+    if has_unknown(&members, fields) {
+        return Err(FileFault::Unknown);
+    }
+    Ok(members)
+}
+
+/// The text of a member that a file need not have.
+pub fn text_member(
+    alloc: Global,
+    members: &TreeMap,
+    field: Field,
+) -> Result<Option<TextBox>, FileFault>
+    ensures ok { IfOk result (MaySay IsText (found members.now field)) }
+    ensures refused { IfErr result (IsMemberRefused (optional field IsText) members.now) }
+{
+    let Some(tree) = members.get(field.word()) else {
+        return Ok(None);
+    };
+    let Tree::Text(text) = tree else {
+        return Err(FileFault::Wrong(field));
+    };
+    Ok(Some(TextBox::make(alloc, text.as_str())?))
+}
+
+/// Copies of the texts of a list, or None where an element is no text.
+pub fn texts_of(alloc: Global, trees: &[Tree]) -> Result<Option<TextList>, NoMemory>
+    ensures texts { IfOk result (λ texts. IfSome texts (λ list. spec.text_elements list ≡ elements_of trees.now)) }
+    ensures none { IfOk result (λ texts. IfNone texts ((list : List Text) → spec.text_elements list ≢ elements_of trees.now)) }
+{
+    let mut texts = TextList::new(alloc);
+    for tree in trees {
+        let Tree::Text(text) = tree else {
+            return Ok(None);
+        };
+        texts.push(TextBox::make(alloc, text.as_str())?)?;
+    }
+    Ok(Some(texts))
+}
+
+/// The list of texts of a member that a file need not have.
+pub fn text_list_member(
+    alloc: Global,
+    members: &TreeMap,
+    field: Field,
+) -> Result<Option<TextList>, FileFault>
+    ensures ok { IfOk result (MaySay IsTexts (found members.now field)) }
+    ensures refused { IfErr result (IsMemberRefused (optional field IsTexts) members.now) }
+{
+    let Some(tree) = members.get(field.word()) else {
+        return Ok(None);
+    };
+    let Tree::List(list) = tree else {
+        return Err(FileFault::Wrong(field));
+    };
+    match texts_of(alloc, list.trees())? {
+        Some(texts) => Ok(Some(texts)),
+        None => Err(FileFault::Wrong(field)),
+    }
+}
+
+/// The whole number of a tree, where it is one from 0 to `most`. It takes no memory.
+pub fn whole_up_to(tree: &Tree, most: u32) -> Option<u32>
+    ensures whole { IfSome result (IsWholeUpTo most (tree_of tree.now)) }
+    ensures none { IfNone result (HasValue (IsWholeUpTo most) (tree_of tree.now) → ⊥) }
+{
+    let Tree::Whole(whole) = tree else {
+        return None;
+    };
+    let n = u32::try_from(*whole).ok()?;
+    if n <= most { Some(n) } else { None }
+}
+
+/// The whole number from 0 to `most` of a member that a file need not have. It takes no memory.
+pub fn whole_member(members: &TreeMap, field: Field, most: u32) -> Result<Option<u32>, FileFault>
+    ensures ok { IfOk result (MaySay (IsWholeUpTo most) (found members.now field)) }
+    ensures refused { IfErr result (IsMemberRefused (optional field (IsWholeUpTo most)) members.now) }
+{
+    let Some(tree) = members.get(field.word()) else {
+        return Ok(None);
+    };
+    match whole_up_to(tree, most) {
+        Some(n) => Ok(Some(n)),
+        None => Err(FileFault::Wrong(field)),
+    }
+}

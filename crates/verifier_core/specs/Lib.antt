@@ -1,0 +1,4 @@
+pub mod Condition
+pub mod FaultLine
+pub mod Named
+pub mod PolicyFile

@@ -1,0 +1,36 @@
+-- The policy of a verifier, and the file that says it.
+use Rattle.std.specs.Prelude.{List, [], ◌∷◌, codes}
+use Rattle.compact_form.specs.declared.limits.TheConstants.{FILE_MAX}
+use Rattle.claim_tree.specs.Tree.{Text, Members}
+use Rattle.claim_tree.specs.FileForms.{IsText, IsTexts, IsWholeUpTo, Says, MaySay, SaysOr, Entry, required, optional, fields_of, found, HasMembers, IsFileRefused}
+use Rattle.claim_tree.specs.declared.file_fault.Field.TheVariants.{Keys, Algs, Typ, Iss, Require, Skew}
+use Rattle.claim_tree.specs.declared.file_fault.FileFault.{FileFault}
+use Rattle.hmac_sign.specs.Keys.{IsKeySet}
+use Rattle.verifier_core.specs.declared.policy.Policy.{Policy}
+use Rattle.verifier_core.specs.declared.policy.TheConstants.{SKEW_MAX}
+
+-- the members of a policy file
+abbrev pub policy_table : List Entry
+policy_table =
+    required Keys IsKeySet
+    ∷ optional Algs IsTexts
+    ∷ optional Typ IsText
+    ∷ optional Iss IsText
+    ∷ optional Require IsTexts
+    ∷ optional Skew (IsWholeUpTo SKEW_MAX)
+    ∷ []
+
+-- the file says this policy
+pub record IsPolicyFile (bytes : Text) (policy : Policy) : Type 0 where
+  pub members : Members
+  pub file : HasMembers FILE_MAX (fields_of policy_table) bytes members
+  pub keys : Says IsKeySet (found members Keys) policy.keys
+  pub algs : SaysOr IsTexts (codes "HS256" ∷ []) (found members Algs) policy.algs
+  pub typ : MaySay IsText (found members Typ) policy.typ
+  pub iss : MaySay IsText (found members Iss) policy.iss
+  pub require : SaysOr IsTexts [] (found members Require) policy.require
+  pub skew : SaysOr (IsWholeUpTo SKEW_MAX) 0 (found members Skew) policy.skew
+
+-- why the file says no policy; want of memory says nothing
+abbrev pub IsPolicyRefused : Text → FileFault → Type 0
+IsPolicyRefused bytes fault = IsFileRefused FILE_MAX policy_table bytes fault

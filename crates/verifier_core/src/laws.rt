@@ -1,0 +1,27 @@
+//! What the definitions of conditions and policies say together. Each law holds for every value.
+ghost use Rattle.std.specs.Prelude.{◌≡◌, ◌≢◌, ℕ, List, Some};
+ghost use Rattle.claim_tree.specs.declared.file_fault.FileFault.{FileFault};
+ghost use Rattle.compact_form.specs.declared.fault.Fault.{Fault};
+ghost use Rattle.verifier_core.specs.Condition.{Condition, number_of, condition_of};
+ghost use Rattle.verifier_core.specs.FaultLine.{IsFault, IsFaultLine};
+ghost use Rattle.verifier_core.specs.PolicyFile.{IsPolicyFile, IsPolicyRefused};
+ghost use Rattle.verifier_core.specs.declared.policy.Policy.{Policy};
+
+/// A condition has a number of its own, under which it is found.
+pub fn one_condition()
+    ensures one { (condition other : Condition) → number_of condition ≡ number_of other → condition ≡ other }
+    ensures found { (condition : Condition) → condition_of (number_of condition) ≡ Some condition }
+{}
+
+/// A fault of a condition has one line.
+pub fn one_line()
+    ensures { (fault : Fault) (line other : List ℕ) → IsFault fault → IsFaultLine fault line → IsFaultLine fault other → line ≡ other }
+{}
+
+/// A file says one policy or is refused, and has one fault beside want of memory.
+pub fn one_policy()
+    ensures one { (bytes : List ℕ) (policy other : Policy) → IsPolicyFile bytes policy → IsPolicyFile bytes other → policy ≡ other }
+    ensures not_both { (bytes : List ℕ) (policy : Policy) (fault : FileFault) → IsPolicyFile bytes policy → IsPolicyRefused bytes fault → fault ≡ FileFault.Memory }
+    ensures one_fault { (bytes : List ℕ) (fault other : FileFault) → IsPolicyRefused bytes fault → IsPolicyRefused bytes other
+        → fault ≢ FileFault.Memory → other ≢ FileFault.Memory → fault ≡ other }
+{}

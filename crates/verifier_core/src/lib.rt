@@ -1,0 +1,22 @@
+//! What a verifier wants of a token, and the conditions by which it refuses one (RFC 9901 section 7.3).
+//!
+//! [`read_policy`] reads a [`Policy`] from its file. [`fault_line`] is the line that tells of a condition that fails.
+#![tactic(auto)]
+
+mod conditions;
+pub mod laws;
+mod policy;
+mod refusal;
+#[cfg(test)]
+mod tests;
+
+pub use conditions::{
+    ALG_REFUSED, AUDIENCE_DIFFERS, BAD_SIGNATURE, BINDING_ALG, BINDING_EARLY, BINDING_HEADER,
+    BINDING_MISSING, BINDING_PAYLOAD, BINDING_SIGNATURE, BINDING_STALE, BINDING_TIME, BINDING_TYPE,
+    CLAIM_MISSING, EXPIRED, HASH_DIFFERS, HEADER_CRITICAL, HOLDER_KEY_UNKNOWN, ISSUER_KEY_UNKNOWN,
+    ISSUER_REFUSED, NAME_CLASH, NONCE_DIFFERS, NOT_YET, REPEATED_DIGEST, REPEATED_DISCLOSURE,
+    RESERVED_MISUSED, RESERVED_NAME, TIME_UNREADABLE, TOO_DEEP, TYPE_REFUSED,
+    UNREFERENCED_DISCLOSURE, WRONG_SHAPE,
+};
+pub use policy::{Policy, SKEW_MAX, keys_member, read_policy};
+pub use refusal::fault_line;

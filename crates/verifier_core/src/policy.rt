@@ -1,0 +1,117 @@
+// The policy of a verifier, and the file that says it.
+ghost use Rattle.std.specs.Prelude.{◌≡◌, [], ◌∷◌, codes, IfOk, IfErr};
+ghost use Rattle.claim_tree.specs.FileForms.{IsText, IsTexts, IsWholeUpTo, Says, SaysOr, IsMemberRefused, required, optional, found};
+ghost use Rattle.claim_tree.specs.declared.file_fault.Field.TheVariants.{Algs, Require, Skew};
+ghost use Rattle.hmac_sign.specs.Keys.{IsKeySet};
+ghost use Rattle.verifier_core.specs.PolicyFile.{IsPolicyFile, IsPolicyRefused};
+
+use claim_tree::{
+    Field, FileFault, TreeMap, read_members, text_list_member, text_member, whole_member,
+};
+use compact_form::FILE_MAX;
+use hmac_sign::{KeySet, KeySetError};
+use sd_outside::{TextBox, TextList};
+use std::alloc::Global;
+
+/// The most seconds by which clocks may differ.
+pub const SKEW_MAX: u32 = 3_600;
+
+const FIELDS: [Field; 6] = [
+    Field::Keys,
+    Field::Algs,
+    Field::Typ,
+    Field::Iss,
+    Field::Require,
+    Field::Skew,
+];
+
+/// What a verifier wants of a token.
+#[derive(Drop)]
+pub struct Policy {
+    /// The keys of the issuers that are trusted.
+    pub keys: KeySet,
+    /// The algorithms that the header may name, of those that are known.
+    pub algs: TextList,
+    /// The type that the header has to name (RFC 7515 section 4.1.9), where one is wanted.
+    pub typ: Option<TextBox>,
+    /// The issuer that the payload has to name (RFC 7519 section 4.1.1), where one is wanted.
+    pub iss: Option<TextBox>,
+    /// The names of the claims that the processed payload has to have.
+    pub require: TextList,
+    /// The seconds by which the clocks may differ, at most [`SKEW_MAX`].
+    pub skew: u32,
+}
+
+/// The key set of a member that a file must have.
+pub fn keys_member(alloc: Global, members: &TreeMap, field: Field) -> Result<KeySet, FileFault>
+    ensures ok { IfOk result (Says IsKeySet (found members.now field)) }
+    ensures refused { IfErr result (IsMemberRefused (required field IsKeySet) members.now) }
+{
+    let Some(tree) = members.get(field.word()) else {
+        return Err(FileFault::Missing(field));
+    };
+    match KeySet::read(alloc, tree) {
+        Ok(keys) => Ok(keys),
+        Err(error) => match error {
+            KeySetError::Memory => Err(FileFault::Memory),
+            _ => Err(FileFault::Wrong(field)),
+        },
+    }
+}
+
+fn algs_member(alloc: Global, members: &TreeMap) -> Result<TextList, FileFault>
+    ensures ok { IfOk result (SaysOr IsTexts (codes "HS256" ∷ []) (found members.now Algs)) }
+    ensures refused { IfErr result (IsMemberRefused (optional Algs IsTexts) members.now) }
+{
+    if let Some(algs) = text_list_member(alloc, members, Field::Algs)? {
+        return Ok(algs);
+    }
+    let mut algs = TextList::new(alloc);
+    algs.push(TextBox::make(alloc, "HS256")?)?;
+    Ok(algs)
+}
+
+fn require_member(alloc: Global, members: &TreeMap) -> Result<TextList, FileFault>
+    ensures ok { IfOk result (SaysOr IsTexts [] (found members.now Require)) }
+    ensures refused { IfErr result (IsMemberRefused (optional Require IsTexts) members.now) }
+{
+    match text_list_member(alloc, members, Field::Require)? {
+        Some(require) => Ok(require),
+        None => Ok(TextList::new(alloc)),
+    }
+}
+
+fn skew_member(members: &TreeMap) -> Result<u32, FileFault>
+    ensures ok { IfOk result (SaysOr (IsWholeUpTo SKEW_MAX) 0 (found members.now Skew)) }
+    ensures refused { IfErr result (IsMemberRefused (optional Skew (IsWholeUpTo SKEW_MAX)) members.now) }
+{
+    match whole_member(members, Field::Skew, SKEW_MAX)? {
+        Some(skew) => Ok(skew),
+        None => Ok(0),
+    }
+}
+
+/// The policy that a file says: a JSON object whose one member that it must have is `keys`, a key set.
+///
+/// `algs` and `require` are lists of texts, `typ` and `iss` texts, and `skew` is a whole number of seconds. Where they are
+/// missing, the algorithm is HS256, nothing else is wanted, and the clocks do not differ. Another member is a fault.
+pub fn read_policy(alloc: Global, bytes: &[u8]) -> Result<Policy, FileFault>
+    ensures ok { IfOk result (IsPolicyFile bytes.now) }
+    ensures refused { IfErr result (IsPolicyRefused bytes.now) }
+{
+    let members = read_members(alloc, bytes, FILE_MAX, &FIELDS)?;
+    let keys = keys_member(alloc, &members, Field::Keys)?;
+    let algs = algs_member(alloc, &members)?;
+    let typ = text_member(alloc, &members, Field::Typ)?;
+    let iss = text_member(alloc, &members, Field::Iss)?;
+    let require = require_member(alloc, &members)?;
+    let skew = skew_member(&members)?;
+    Ok(Policy {
+        keys,
+        algs,
+        typ,
+        iss,
+        require,
+        skew,
+    })
+}
