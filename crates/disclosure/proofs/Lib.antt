@@ -1,3 +1,4 @@
+pub mod HashNames
 pub mod Arrays
 pub mod Verdicts
 mod Unread

@@ -1,7 +1,8 @@
 -- The digest of a disclosure, RFC 9901 section 4.2.3.
-use Rattle.std.specs.Prelude.{ℕ, List, codes}
+use Rattle.std.specs.Prelude.{ℕ, List, Option, None, Some, bytes_eq, codes, if◌then◌else◌}
 use Rattle.sha2.specs.Sha256.{sha256}
 use Rattle.b64url_text.specs.Base64url.{b64}
+use Rattle.claim_tree.specs.Tree.{Text, Tree, get, text_of}
 use Rattle.disclosure.specs.declared.digests.HashAlg.{HashAlg}
 
 -- the name of an algorithm
@@ -14,3 +15,20 @@ hash_of HashAlg.Sha256 text = sha256 text
 -- the base64url text of the hash of a text's bytes
 abbrev pub digest_of : HashAlg → List ℕ → List ℕ
 digest_of alg text = b64 (hash_of alg text)
+
+-- the algorithm of this name
+abbrev pub hash_of_text : Text → Option HashAlg
+hash_of_text name = if bytes_eq name (name_of HashAlg.Sha256) then Some HashAlg.Sha256 else None
+
+abbrev pub hash_of_claim : Option Text → Option HashAlg
+hash_of_claim None = None
+hash_of_claim (Some name) = hash_of_text name
+
+-- that of the claim, or SHA-256 where there is none
+abbrev pub hash_of_name : Option Tree → Option HashAlg
+hash_of_name None = Some HashAlg.Sha256
+hash_of_name (Some t) = hash_of_claim (text_of t)
+
+-- the algorithm of a payload's digests, by its `_sd_alg` (RFC 9901 section 4.1.1)
+abbrev pub payload_hash : Tree → Option HashAlg
+payload_hash payload = hash_of_name (get payload (codes "_sd_alg"))

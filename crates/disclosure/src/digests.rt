@@ -1,8 +1,10 @@
-ghost use Rattle.std.specs.Prelude.{◌≡◌, ◌≢◌, IfOk, IfSome, IfNone};
-ghost use Rattle.disclosure.specs.Digest.{digest_of, name_of};
+ghost use Rattle.std.specs.Prelude.{◌≡◌, ◌≢◌, IfOk, Some, IfSome, IfNone};
+ghost use Rattle.claim_tree.specs.View.{tree_of};
+ghost use Rattle.disclosure.specs.Digest.{digest_of, name_of, hash_of_text as hash_of_text_by, hash_of_name as hash_of_name_by, payload_hash as payload_hash_by};
 ghost use Rattle.disclosure.specs.declared.digests.HashAlg.{HashAlg};
 
 use b64url_text::encode;
+use claim_tree::{Tree, get};
 use sd_outside::{NoMemory, TextBox};
 use sha2::{Digest, Sha256};
 use std::alloc::Global;
@@ -22,6 +24,34 @@ pub fn hash_named(name: &str) -> Option<HashAlg>
     match name {
         "sha-256" => Some(HashAlg::Sha256),
         _ => None,
+    }
+}
+
+// The same, as one equation.
+fn hash_of_text(name: &str) -> Option<HashAlg>
+    ensures { result ≡ hash_of_text_by name.now }
+{
+    hash_named(name)
+}
+
+// The algorithm whose name the claim is.
+fn hash_of_name(name: &Tree) -> Option<HashAlg>
+    ensures { result ≡ hash_of_name_by (Some (tree_of name.now)) }
+{
+    match name.as_text() {
+        Some(text) => hash_of_text(text.as_str()),
+        None => None,
+    }
+}
+
+/// The algorithm of a payload's digests, RFC 9901 section 4.1.1: that of its `_sd_alg`, or SHA-256 where it has none. `None`
+/// where `_sd_alg` names no algorithm that is known, or is no text.
+pub fn payload_hash(payload: &Tree) -> Option<HashAlg>
+    ensures { result ≡ payload_hash_by (tree_of payload.now) }
+{
+    match get(payload, "_sd_alg") {
+        Some(name) => hash_of_name(name),
+        None => Some(HashAlg::Sha256),
     }
 }
 

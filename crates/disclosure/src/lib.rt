@@ -11,6 +11,6 @@ pub mod laws;
 #[cfg(test)]
 mod tests;
 
-pub use digests::{HashAlg, digest, hash_named};
+pub use digests::{HashAlg, digest, hash_named, payload_hash};
 pub use disclosure::{Disclosure, make, read_disclosure};
 pub use errors::DisclosureError;

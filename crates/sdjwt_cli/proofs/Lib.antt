@@ -1,6 +1,5 @@
 mod Lifts
 mod Verdicts
 mod Shown
-mod HashNames
 mod ShowVerdicts
 mod Examples

@@ -1,12 +1,12 @@
 -- The command `show`: what it prints of a token file, unchecked, and when it refuses one.
-use Rattle.std.specs.Prelude.{◌≡◌, ◌≢◌, ℕ, ◌+◌, length, List, [], ◌∷◌, ◌++◌, Bool, true, false, Option, None, Some, codes}
+use Rattle.std.specs.Prelude.{◌≡◌, ◌≢◌, ℕ, ◌+◌, length, List, [], ◌∷◌, ◌++◌, Bool, true, false, Option, None, Some, is_some, codes}
 use Rattle.std.specs.Fmt.{decimal}
 use Rattle.std.specs.List.{AllZip}
-use Rattle.claim_tree.specs.Tree.{Text, Tree, leaf, text, no_members, get, text_of, has_text}
+use Rattle.claim_tree.specs.Tree.{Text, Tree, leaf, text, no_members}
 use Rattle.claim_tree.specs.JsonText.{json_text}
 use Rattle.jws_part.specs.Part.{IsBody, IsNoObject}
 use Rattle.jws_part.specs.Header.{IsUnreadable}
-use Rattle.disclosure.specs.Digest.{name_of, digest_of}
+use Rattle.disclosure.specs.Digest.{digest_of, payload_hash}
 use Rattle.disclosure.specs.Disclosure.{IsDisclosure}
 use Rattle.disclosure.specs.Refusals as reasons
 use Rattle.disclosure.specs.declared.digests.HashAlg.{HashAlg}
@@ -22,13 +22,9 @@ use Rattle.sdjwt_cli.specs.declared.show.Unshown.TheVariants.{Memory, Fails}
 use Rattle.sdjwt_cli.specs.Lines.{line, refusal}
 use Rattle.sdjwt_cli.specs.Split.{binding_line}
 
--- `_sd_alg` is not there, or it is the name of the hash that is known (RFC 9901 section 4.1.1)
-abbrev pub is_known_hash : Option Tree → Bool
-is_known_hash None = true
-is_known_hash (Some t) = has_text (text_of t) (name_of HashAlg.Sha256)
-
+-- `_sd_alg` is not there, or names a hash that is known
 abbrev pub has_known_hash : Tree → Bool
-has_known_hash payload = is_known_hash (get payload (codes "_sd_alg"))
+has_known_hash payload = is_some (payload_hash payload)
 
 -- what is printed of a disclosure
 pub record Shown : Type 0 where

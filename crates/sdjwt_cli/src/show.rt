@@ -1,5 +1,5 @@
 // The command `show`: the JSON of a token, unchecked.
-ghost use Rattle.std.specs.Prelude.{◌≡◌, ◌^◌, ◌<◌, ◌++◌, ℕ, length, List, IfOk, IfErr, OnOk, IsErrOf, bytes_eq, codes, string_bytes};
+ghost use Rattle.std.specs.Prelude.{◌≡◌, ◌^◌, ◌<◌, ◌++◌, ℕ, length, List, IfOk, IfErr, OnOk, IsErrOf, codes, string_bytes};
 ghost use Rattle.std.specs.Fmt.{decimal};
 ghost use Rattle.std.specs.Option.{option_map};
 ghost use Rattle.claim_tree.specs.Tree.{IsRanged, depth as depth_of, no_members};
@@ -7,9 +7,7 @@ ghost use Rattle.claim_tree.specs.JsonText.{json_text};
 ghost use Rattle.claim_tree.specs.View.{tree_of};
 ghost use Rattle.jws_part.specs.Part.{IsBody, IsNoObject};
 ghost use Rattle.jws_part.specs.Header.{IsUnreadable};
-ghost use Rattle.disclosure.specs.Digest.{name_of};
 ghost use Rattle.disclosure.specs.Refusals.{IsRefused};
-ghost use Rattle.disclosure.specs.declared.digests.HashAlg.{HashAlg};
 ghost use Rattle.compact_form.specs.Views.{jwt_of};
 ghost use Rattle.sdjwt_cli.specs.Lines.{line};
 ghost use Rattle.sdjwt_cli.specs.Show.{has_known_hash as has_known_hash_of, IsHead, IsShown, IsUnread, kind_text, AddsLine, AddsLines, IsUnreadAt, OnFails, Shows, IsShowRefused, DoesNotShow, fault_of};
@@ -20,12 +18,12 @@ ghost use Rattle.sdjwt_cli.specs.Stops.{OnRefused, OnUnread};
 use crate::lines::refusal_line;
 use crate::split::push_binding;
 use crate::stop::Stop;
-use claim_tree::{Tree, TreeMap, get, write};
+use claim_tree::{Tree, TreeMap, write};
 use compact_form::{
     DISCLOSURE_UNREADABLE, Fault, HASH_UNKNOWN, HEADER_UNREADABLE, JwtView, PAYLOAD_UNREADABLE,
     Pieces, Place, View, read_view,
 };
-use disclosure::{Disclosure, DisclosureError, HashAlg, hash_named, read_disclosure};
+use disclosure::{Disclosure, DisclosureError, HashAlg, payload_hash, read_disclosure};
 use jws_part::{BodyError, HeaderError, read_body, read_header};
 use sd_outside::{NoMemory, TextBox};
 use std::alloc::Global;
@@ -45,25 +43,11 @@ fn read_head(alloc: Global, protected: &str) -> Result<Tree, BodyError>
     }
 }
 
-// Whether a hash of this name is known.
-#[tactic(auto, using(crate::proofs::HashNames::is_known))]
-fn is_hash_name(name: &str) -> bool
-    ensures { result ≡ bytes_eq name.now (name_of HashAlg.Sha256) }
-{
-    hash_named(name).is_some()
-}
-
 // Whether the payload asks for no hash, or for one that is known.
 fn has_known_hash(payload: &Tree) -> bool
     ensures { result ≡ has_known_hash_of (tree_of payload.now) }
 {
-    match get(payload, "_sd_alg") {
-        None => true,
-        Some(alg) => match alg.as_text() {
-            Some(name) => is_hash_name(name.as_str()),
-            None => false,
-        },
-    }
+    payload_hash(payload).is_some()
 }
 
 // The word of a disclosure's kind, with blanks around it, and the name of a member.
