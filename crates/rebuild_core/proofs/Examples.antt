@@ -18,19 +18,19 @@ number n = leaf (whole (pos n))
 abbrev word : Text → Tree
 word s = leaf (text s)
 
--- {"_sd":["D0"],"_sd_alg":"sha-256","b":[{"...":"D1"},5]}
+-- {"_sd":["A"],"_sd_alg":"sha-256","b":[{"...":"B"},5]}
 abbrev payload : Tree
 unfolding sd_name dots_name alg_name
 payload =
-    object (member (codes "_sd") (array (element (word (codes "D0")) no_elements))
-    (member (codes "b") (array (element (object (member (codes "...") (word (codes "D1")) no_members)) (element (number 5) no_elements))) no_members))
+    object (member (codes "_sd") (array (element (word (codes "A")) no_elements))
+    (member (codes "b") (array (element (object (member (codes "...") (word (codes "B")) no_members)) (element (number 5) no_elements))) no_members))
 
--- x: {"_sd":["D2"]}, an element 7, and y: 8
+-- x: {"_sd":["C"]}, an element 7, and y: 8
 abbrev given : List Given
 given =
-    record { digest = codes "D0"; name = Some (codes "x"); value = object (member (codes "_sd") (array (element (word (codes "D2")) no_elements)) no_members) }
-    ∷ record { digest = codes "D1"; name = None; value = number 7 }
-    ∷ record { digest = codes "D2"; name = Some (codes "y"); value = number 8 } ∷ []
+    record { digest = codes "A"; name = Some (codes "x"); value = object (member (codes "_sd") (array (element (word (codes "C")) no_elements)) no_members) }
+    ∷ record { digest = codes "B"; name = None; value = number 7 }
+    ∷ record { digest = codes "C"; name = Some (codes "y"); value = number 8 } ∷ []
 
 -- {"b":[7,5],"x":{"y":8}}
 opens : processed payload given
@@ -39,7 +39,7 @@ opens : processed payload given
 unfolding sd_name dots_name alg_name
 opens = refl
 
-meets : item_digests (met payload given) ≡ codes "D0" ∷ codes "D1" ∷ codes "D2" ∷ []
+meets : item_digests (met payload given) ≡ codes "A" ∷ codes "B" ∷ codes "C" ∷ []
 unfolding sd_name dots_name alg_name
 meets = refl
 
@@ -49,9 +49,9 @@ no_misuse = refl
 
 -- a name that is taken, and a digest that leads to itself
 abbrev round_trip : List Given
-round_trip = record { digest = codes "D9"; name = Some (codes "z"); value = object (member (codes "_sd") (array (element (word (codes "D9")) no_elements)) no_members) } ∷ []
+round_trip = record { digest = codes "Z"; name = Some (codes "z"); value = object (member (codes "_sd") (array (element (word (codes "Z")) no_elements)) no_members) } ∷ []
 
-not_reached : is_in_round payload round_trip 1 (codes "D9") ≡ false
+not_reached : is_in_round payload round_trip 1 (codes "Z") ≡ false
 unfolding sd_name dots_name alg_name
 not_reached = refl
 
@@ -66,7 +66,7 @@ unfolding sd_name dots_name alg_name
 ways_are = refl
 
 -- the same, flat and by numbers
-digests_are : map (λ (r : Seen). r.digest) (all_rows payload given) ≡ codes "D0" ∷ codes "D1" ∷ codes "D2" ∷ []
+digests_are : map (λ (r : Seen). r.digest) (all_rows payload given) ≡ codes "A" ∷ codes "B" ∷ codes "C" ∷ []
 unfolding sd_name dots_name alg_name
 digests_are = refl
 
@@ -78,7 +78,7 @@ ends_are : row_ends payload given ≡ 2 ∷ 3 ∷ 3 ∷ 3 ∷ []
 unfolding sd_name dots_name alg_name
 ends_are = refl
 
-numbers_are : numbers (given_digests given) (codes "D2" ∷ codes "D9" ∷ codes "D1" ∷ codes "D9" ∷ []) ≡ 2 ∷ 3 ∷ 1 ∷ 3 ∷ []
+numbers_are : numbers (given_digests given) (codes "C" ∷ codes "Z" ∷ codes "B" ∷ codes "Z" ∷ []) ≡ 2 ∷ 3 ∷ 1 ∷ 3 ∷ []
 numbers_are = refl
 
 pieces_are : cut 0 (2 ∷ 3 ∷ 3 ∷ 3 ∷ []) (0 ∷ 1 ∷ 2 ∷ []) ≡ (0 ∷ 1 ∷ []) ∷ (2 ∷ []) ∷ [] ∷ [] ∷ []

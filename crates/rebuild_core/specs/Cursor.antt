@@ -7,11 +7,12 @@ use Rattle.digest_sites.specs.Sites.{sites, digests}
 use Rattle.digest_sites.specs.Given.{Given}
 use Rattle.rebuild_core.specs.Opening.{hidden, shown, reveal, opened}
 
--- the digests of a tree in the order of its sites
+-- that of an element with a digest, else those inside it
 abbrev pub digests_on : Option Text → List Text → List Text
 digests_on None inside = inside
 digests_on (Some digest) inside = digest ∷ []
 
+-- the digests of a tree in the order of its sites
 abbrev mutual
   pub tree_digests : Tree → List Text
   tree_digests (leaf l) = []

@@ -12,7 +12,7 @@ use Rattle.rebuild_core.specs.Cursor.{tree_digests, TellEach}
 use Rattle.rebuild_core.specs.declared.errors.ProcessError.{ProcessError}
 use Rattle.rebuild_core.specs.declared.shown.Revealed.{Revealed}
 
--- what the code holds of it
+-- what a digest shows, as the code has it
 abbrev pub shown_of : Option Revealed → Shown
 shown_of None = hidden
 shown_of (Some r) = shown r.mark r.name (marked_of r.tree)
@@ -23,15 +23,17 @@ settled given digest = reveal (length given) given digest
 
 -- ---- lists
 
+-- the elements of one array, then those of another
 abbrev pub joined : MarkedElements → MarkedElements → MarkedElements
 joined no_marked_elements fs = fs
 joined (marked_element i t es) fs = marked_element i t (joined es fs)
 
+-- the members of one object, then those of another
 abbrev pub members_joined : MarkedMembers → MarkedMembers → MarkedMembers
 members_joined no_marked_members ns = ns
 members_joined (marked_member name i t ms) ns = marked_member name i t (members_joined ms ns)
 
--- before these members
+-- what a digest shows, before these members
 abbrev pub shown_member : Shown → MarkedMembers → MarkedMembers
 shown_member hidden ms = ms
 shown_member (shown i None t) ms = ms
@@ -50,17 +52,19 @@ IfTooDeep ProcessError.Memory P = Unit {0}
 IfTooDeep ProcessError.TooDeep P = P
 IfTooDeep _ P = ⊥
 
+-- 0 where nothing is shown
 abbrev pub shown_depth : Shown → ℕ
 shown_depth hidden = 0
 shown_depth (shown i name t) = depth (strip t)
 
+-- the greatest
 abbrev pub shown_depths : (Text → Shown) → List Text → ℕ
 shown_depths reveals [] = 0
 shown_depths reveals (digest ∷ digests) = max (shown_depth (reveals digest)) (shown_depths reveals digests)
 
 -- ---- the payload's own object
 
--- without `_sd_alg` where it is the payload itself
+-- the members without `_sd_alg`, where the object is the payload itself
 abbrev pub topped : Bool → Members → Members
 topped top ms = if top then without_member alg_name ms else ms
 
@@ -76,6 +80,7 @@ IsNew hidden ms = Unit {0}
 IsNew (shown i None t) ms = ⊥
 IsNew (shown i (Some name) t) ms = In name (marked_names ms) → ⊥
 
+-- each of them, beside those that are put before it
 abbrev pub AllNew : (Text → Shown) → List Text → MarkedMembers → Type 0
 AllNew reveals [] ms = Unit {0}
 AllNew reveals (digest ∷ digests) ms = IsNew (reveals digest) ms × AllNew reveals digests (show_member (reveals digest) ms)
@@ -86,14 +91,17 @@ IsElement hidden = Unit {0}
 IsElement (shown i None t) = Unit {0}
 IsElement (shown i (Some name) t) = ⊥
 
+-- of an element with a digest what it shows, of any other what is inside
 abbrev pub WholeOn : (Text → Shown) → Option Text → Type 0 → Type 0
 WholeOn reveals None Inside = Inside
 WholeOn reveals (Some digest) Inside = IsElement (reveals digest)
 
+-- nothing is asked inside `_sd`
 abbrev pub WholeUnless : Bool → Type 0 → Type 0
 WholeUnless true Inside = Unit {0}
 WholeUnless false Inside = Inside
 
+-- what each digest of a tree shows stands in the opened tree
 abbrev mutual
   pub OpensWhole : (Text → Shown) → Tree → Type 0
   OpensWhole reveals (leaf l) = Unit {0}
@@ -110,6 +118,7 @@ abbrev mutual
 
 -- ---- what every step of opening asks
 
+-- the numbers of all values, and that each value opens whole
 pub record IsOpenable (given : List Given) (numbers ends : List ℕ) : Type 0 where
   pub few : length given < 2 ^ 32
   pub told : TellEach tree_digests given numbers ends
