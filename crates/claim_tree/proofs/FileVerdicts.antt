@@ -75,11 +75,11 @@ no_first_fault [] ms fault meet first = first
 no_first_fault (entry ∷ table) ms fault meet (inl fails) = fails_or_meets entry ms fault meet.0 fails
 no_first_fault (entry ∷ table) ms fault meet (inr rest) = no_first_fault table ms fault meet.1 rest.1
 
-is_json : (bytes : Text) (t : Tree) → Reads bytes t → IsNotJson bytes → ⊥
+pub is_json : (bytes : Text) (t : Tree) → Reads bytes t → IsNotJson bytes → ⊥
 is_json bytes t reads (inl odd) = odd reads.utf8
 is_json bytes t reads (inr none) = let both : Some (data_of t) ≡ None = sym reads.value ∙ none in cc both
 
-is_whole : (bytes : Text) (t : Tree) → Reads bytes t → IsNotWhole bytes → ⊥
+pub is_whole : (bytes : Text) (t : Tree) → Reads bytes t → IsNotWhole bytes → ⊥
 is_whole bytes t reads odd =
     let both : Some (data_of t) ≡ Some odd.data_is = sym reads.value ∙ odd.value in
     let same : data_of t ≡ odd.data_is = cc both in

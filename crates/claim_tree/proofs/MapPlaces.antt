@@ -16,13 +16,13 @@ use Rattle.claim_tree.specs.declared.tree.Tree.{Tree}
 use Rattle.claim_tree.specs.View.{tree_of, members_of}
 use Rattle.claim_tree.specs.Places.{IsPlace, IsGap}
 
-abbrev cmp : Text → Text → Ordering
+abbrev pub cmp : Text → Text → Ordering
 cmp = slice_cmp nat_cmp
 
 abbrev Entry : Type 0
 Entry = Text × Tree
 
-order : IsTotalOrder cmp
+pub order : IsTotalOrder cmp
 order = nat_list_cmp_total
 
 -- names that tie are one
@@ -128,7 +128,7 @@ before_inserted : (k : Text) (ms : Members) (name : Text) (t : spec.Tree) → Is
 before_inserted k no_members name t b all = (b, tt)
 before_inserted k (member other u ms) name t b all = before_one (cmp other name) k other u ms name t (inserted ms name t) b all.0 all.1 (before_inserted k ms name t b all.1)
 
-before_through : (a b : Text) (ns : List Text) → IsBefore a b → IsBeforeAll b ns → IsBeforeAll a ns
+pub before_through : (a b : Text) (ns : List Text) → IsBefore a b → IsBeforeAll b ns → IsBeforeAll a ns
 before_through a b [] l all = tt
 before_through a b (n ∷ ns) l all = ((order).trans a b n l all.0, before_through a b ns l all.1)
 

@@ -1,6 +1,6 @@
 -- The names of the hashes that are known.
-use Rattle.std.proofs.Common.{◌≡◌, ◌≢◌, Option, Some, None, IfSome, sym, refl, Bool, true, false}
-use Rattle.std.specs.Prelude.{IfNone, bytes_eq, if◌then◌else◌}
+use Rattle.std.proofs.Common.{◌≡◌, ◌≢◌, Option, Some, None, IfSome, refl}
+use Rattle.std.specs.Prelude.{IfNone, bytes_eq}
 use Rattle.std.proofs.lemmas.Bool.{false_from_ne_true}
 use Rattle.std.proofs.lemmas.Slice.Eq.{bytes_eq-Decides}
 use Rattle.claim_tree.specs.Tree.{Text}

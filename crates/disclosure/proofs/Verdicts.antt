@@ -1,15 +1,14 @@
 -- A text is one disclosure or has one refusal.
-use Rattle.std.proofs.Common.{◌≡◌, ◌≢◌, inl, inr, Option, Some, true, false, refl, sym, ap, subst, ◌∙◌}
+use Rattle.std.proofs.Common.{◌≡◌, ◌≢◌, inl, inr, Option, Some, refl, sym, subst, ◌∙◌}
 use Rattle.std.specs.Str.{IsUtf8}
 use Rattle.serde_json.specs.Data as port
 use Rattle.serde_json.specs.Read as reading
-use Rattle.serde_json.specs.Written.{has_float}
 use Rattle.b64url_text.specs.Base64url.{Decodes}
 use Rattle.b64url_text.proofs.Codes.{one_code}
 use Rattle.claim_tree.specs.Tree.{Text, Tree}
 use Rattle.claim_tree.specs.JsonText.{Reads, IsNotJson, IsNotWhole, data_of}
-use Rattle.claim_tree.proofs.Datas.{no_float}
 use Rattle.claim_tree.proofs.OneTree.{one_tree}
+use Rattle.claim_tree.proofs.FileVerdicts.{is_whole}
 use Rattle.disclosure.specs.Disclosure.{array_of, IsDisclosure}
 use Rattle.disclosure.specs.Refusals.{DecodesTo, IsRefused}
 use Rattle.disclosure.proofs.Arrays.{array_of-injective}
@@ -25,13 +24,6 @@ one_disclosure text salt s name n value v d e =
 has_value : (bytes : Text) (x : port.Data) → IsUtf8 bytes → reading.read bytes ≡ Some x → IsNotJson bytes → ⊥
 has_value bytes x u value (inl not_utf8) = not_utf8 u
 has_value bytes x u value (inr none) = let both = sym none ∙ value in cc both
-
-is_whole : (bytes : Text) (t : Tree) → Reads bytes t → IsNotWhole bytes → ⊥
-is_whole bytes t r n =
-    let both : Some n.data_is ≡ Some (data_of t) = sym n.value ∙ r.value in
-    let same : n.data_is ≡ data_of t = cc both in
-    let float : false ≡ true = sym (no_float t) ∙ (ap has_float (sym same) ∙ n.float) in
-    cc float
 
 json_read : (text json : Text) (t : Tree) → Decodes text json → Reads json t → DecodesTo IsNotJson text → ⊥
 json_read text json t d r h = has_value json (data_of t) r.utf8 r.value (subst IsNotJson (one_code text h.json json h.decodes d) h.so)

@@ -6,8 +6,7 @@ use Rattle.marked_tree.specs.Marked.{Marked, only}
 use Rattle.claim_tree.specs.Lists.{At, In}
 use Rattle.marked_tree.specs.Places.{Path, Spot, inside, own_spot, spots, elements_spots, members_spots, below, one_if, hidden_in, hidden_elements, hidden_members, mark_if, mark_from, mark_elements, mark_members, is_among, mark, hidden_count, own_path, closing, closing_elements, closing_members}
 use Rattle.marked_tree.specs.Laws.{MarksClose}
-use Rattle.claim_tree.proofs.Lists.{In-left, In-right, In-map}
-use Rattle.marked_tree.proofs.Ats.{At-of_map, At-either}
+use Rattle.claim_tree.proofs.Lists.{In-left, In-right, In-map, At-of_map, At-either}
 use Rattle.marked_tree.proofs.MarkFacts.{marks_once_holds, up_to_le}
 use Rattle.marked_tree.proofs.Spots.{spots_weigh, first_is}
 

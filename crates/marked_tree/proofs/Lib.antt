@@ -1,4 +1,3 @@
-pub mod Ats
 pub mod Sums
 pub mod MarkFacts
 pub mod Spots

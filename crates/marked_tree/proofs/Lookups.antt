@@ -12,7 +12,8 @@ use Rattle.marked_tree.specs.Marked.{MarkedMembers, marked_member, no_marked_mem
 use Rattle.marked_tree.specs.declared.marked.Marked.{Marked}
 use Rattle.marked_tree.specs.View.{marked_of, marked_members_of}
 use Rattle.marked_tree.proofs.MarkedViews.{Entry}
-use Rattle.marked_tree.proofs.Names.{cmp, Ascend, names_of, put_by, before_through, turned, turned_back, tie_turned, same_name}
+use Rattle.claim_tree.proofs.MapPlaces.{cmp, before_through, same_name}
+use Rattle.marked_tree.proofs.Names.{Ascend, names_of, put_by, turned, turned_back, tie_turned}
 
 abbrev Found : Type 0
 Found = Option (Option ℕ × spec.Marked)

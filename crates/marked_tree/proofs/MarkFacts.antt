@@ -60,13 +60,13 @@ mutual
       let b = h (k ∷ []) in
       omega (arith, weighs w (below k h) n t, members_weigh w h (n + (a + one_if b)) ms, step_weight w n a (hidden_members h ms) b)
 
-one_if_same : (i k : ℕ) → i ≡ k → only i k ≡ 1
+pub one_if_same : (i k : ℕ) → i ≡ k → only i k ≡ 1
 one_if_same i k e = grind (arith, nat_tests)
 
-none_if_less : (i k : ℕ) → i < k → only i k ≡ 0
+pub none_if_less : (i k : ℕ) → i < k → only i k ≡ 0
 none_if_less i k l = grind (arith, nat_tests)
 
-none_if_more : (i k : ℕ) → k < i → only i k ≡ 0
+pub none_if_more : (i k : ℕ) → k < i → only i k ≡ 0
 none_if_more i k l = grind (arith, nat_tests)
 
 abbrev pub up_to : ℕ → ℕ → ℕ

@@ -1,19 +1,15 @@
 -- Members that ascend: where a name stands among them, and what is put there.
-use Rattle.std.proofs.Common.{◌≡◌, ◌⊎◌, inl, inr, ℕ, zero, suc, ◌+◌, ◌-◌, ◌<◌, true, List, [], ◌∷◌, length, set, get_or, Option, Some, Ordering, Less, Equal, Greater, nat_cmp, Result, Ok, Err, IfOk, IfErr, refl, sym, ap, subst, ◌∙◌, arith}
+use Rattle.std.proofs.Common.{◌≡◌, ◌⊎◌, inl, inr, ℕ, zero, suc, ◌+◌, ◌-◌, ◌<◌, true, List, [], ◌∷◌, length, set, get_or, Option, Some, Ordering, Less, Equal, Greater, Result, Ok, Err, IfOk, IfErr, refl, sym, ap, subst, ◌∙◌, arith}
 use Rattle.std.specs.Prelude.{◌==◌}
 use Rattle.std.specs.List.{insert, slice_get}
 use Rattle.std.specs.List.Sorted.{IsSortedBy, IsSearchInRange, IsBinarySearchResult}
-use Rattle.std.specs.Ordering.{match_ordering, is_lt, is_eq, ordering_reverse, ordering_index}
-use Rattle.std.specs.Cmp.{IsTotalOrder}
-use Rattle.std.specs.Cmp.Lexicographic.{slice_cmp, nat_list_cmp_total}
+use Rattle.std.specs.Ordering.{match_ordering, is_lt, ordering_reverse, ordering_index}
 use Rattle.std.proofs.lemmas.Cmp.{is_lt_index, tied_itself}
-use Rattle.std.proofs.lemmas.Map.Text.{is_eq-slice_cmp}
-use Rattle.std.proofs.lemmas.Slice.Eq.{bytes_eq-Decides}
 use Rattle.std.proofs.lemmas.List.Sorted.{searchable_from_sorted}
 use Rattle.claim_tree.specs.Tree.{Text, member, names, inserted, IsBefore, IsBeforeAll, IsOrdered, MembersOrdered}
 use Rattle.claim_tree.specs.Lists.{At}
 use Rattle.claim_tree.proofs.Lists.{At-below, At-same}
-use Rattle.claim_tree.proofs.MapPlaces.{ordered-inserted}
+use Rattle.claim_tree.proofs.MapPlaces.{cmp, order, same_name, before_through, ordered-inserted}
 use Rattle.marked_tree.specs.Marked as spec
 use Rattle.marked_tree.specs.Marked.{MarkedMembers, marked_member, no_marked_members, marked_names, marked_inserted, put, strip, strip_members}
 use Rattle.marked_tree.specs.NamePlaces.{IsGap}
@@ -21,17 +17,7 @@ use Rattle.marked_tree.specs.declared.marked.Marked.{Marked}
 use Rattle.marked_tree.specs.View.{marked_of, marked_members_of}
 use Rattle.marked_tree.proofs.MarkedViews.{Entry}
 
-abbrev pub cmp : Text → Text → Ordering
-cmp = slice_cmp nat_cmp
-
-pub order : IsTotalOrder cmp
-order = nat_list_cmp_total
-
 -- ---- names
-
--- names that tie are one
-pub same_name : (a b : Text) → cmp a b ≡ Equal → a ≡ b
-same_name a b e = (bytes_eq-Decides a b).0 (sym (is_eq-slice_cmp a b) ∙ ap is_eq e)
 
 pub turned : (a b : Text) → cmp a b ≡ Greater → IsBefore b a
 turned a b e = (order).antisymm b a ∙ ap ordering_reverse e
@@ -41,10 +27,6 @@ turned_back a b e = (order).antisymm b a ∙ ap ordering_reverse e
 
 pub tie_turned : (a b : Text) → cmp a b ≡ Equal → cmp b a ≡ Equal
 tie_turned a b e = (order).antisymm b a ∙ ap ordering_reverse e
-
-pub before_through : (a b : Text) (ns : List Text) → IsBefore a b → IsBeforeAll b ns → IsBeforeAll a ns
-before_through a b [] l all = tt
-before_through a b (n ∷ ns) l all = ((order).trans a b n l all.0, before_through a b ns l all.1)
 
 abbrev pub Ascend : List Text → Type 0
 Ascend [] = Unit {0}

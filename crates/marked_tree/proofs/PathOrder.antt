@@ -13,7 +13,8 @@ use Rattle.claim_tree.specs.Tree.{Text}
 use Rattle.claim_tree.proofs.Lists.{bytes_refl}
 use Rattle.marked_tree.specs.Places.{Path, same_path, is_among}
 use Rattle.marked_tree.specs.Rests.{rests, step_order, path_order, AfterNone, AreSorted, one_head, headed}
-use Rattle.marked_tree.proofs.Names.{cmp, order, same_name, behind_last, turned}
+use Rattle.claim_tree.proofs.MapPlaces.{cmp, order, same_name}
+use Rattle.marked_tree.proofs.Names.{behind_last, turned}
 use Rattle.marked_tree.proofs.Lookups.{apart, apart_back}
 
 pub paths_total : IsTotalOrder path_order

@@ -13,7 +13,8 @@ use Rattle.claim_tree.proofs.Lists.{bytes_same, bytes_refl, In-At, At-In, At-map
 use Rattle.rebuild_core.proofs.Found.{found}
 use Rattle.rebuild_core.proofs.Chains.{reached_all, leads_up, short_chain}
 use Rattle.rebuild_core.proofs.Settled.{settled_value, before}
-use Rattle.rebuild_core.proofs.Sums.{sum_of, sum_of-append, sum_of-map, same_sum, Apart-from}
+use Rattle.marked_tree.proofs.Sums.{sum_of, sum_of-append, sum_of-map}
+use Rattle.rebuild_core.proofs.Sums.{same_sum, Apart-from}
 use Rattle.rebuild_core.proofs.OneSite.{one_site_holds}
 
 -- the item with a digest is found, where the digests differ

@@ -9,7 +9,7 @@ use Rattle.digest_sites.specs.declared.site.SiteKind.TheVariants.{Element}
 use Rattle.marked_tree.specs.Marked.{Marked, MarkedElements, MarkedMembers, marked_member, weight, elements_weight, members_weight, ways, elements_ways, members_ways, way_of}
 use Rattle.rebuild_core.specs.Opening.{Shown, hidden, shown, open_tree, open_elements, open_members, open_element, show_members, show_element, show_member}
 use Rattle.claim_tree.proofs.Lists.{In-left, In-right, In-append, In-of_map}
-use Rattle.rebuild_core.proofs.Sums.{sum_of, sum_of-append, sum_of-map}
+use Rattle.marked_tree.proofs.Sums.{sum_of, sum_of-append, sum_of-map}
 use Rattle.rebuild_core.proofs.Members.{put_weight, put_way, put_way_other}
 use Rattle.rebuild_core.specs.Whole.{IsNew, AllNew}
 use Rattle.rebuild_core.proofs.Fits.{AreFit, Suits, object_new, fit_left, fit_right, fit_under}

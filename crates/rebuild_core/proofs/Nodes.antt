@@ -8,7 +8,7 @@ use Rattle.digest_sites.specs.Reserved.{sd_name, sd_texts, element_digest}
 use Rattle.digest_sites.specs.Sites.{Step, to_member, to_element, Site, sites, element_sites, member_sites, sites_on, own_site, under}
 use Rattle.marked_tree.specs.Marked.{Marked, MarkedElements, MarkedMembers, no_marked_members, marked_member, put, strip, strip_elements, strip_members}
 use Rattle.rebuild_core.specs.Opening.{Shown, hidden, shown, open_tree, open_elements, open_members, open_element, show_members, show_element, show_member}
-use Rattle.rebuild_core.proofs.Sums.{sum_of, sum_of-append, sum_of-map}
+use Rattle.marked_tree.proofs.Sums.{sum_of, sum_of-append, sum_of-map}
 
 abbrev pub size : Marked → ℕ
 size m = nodes (strip m)

@@ -9,17 +9,12 @@ use Rattle.rebuild_core.specs.Given.{find, is_reached, Owner, payload, value_of,
 use Rattle.rebuild_core.specs.Opening.{shown, shown_by, reveal, open_tree}
 use Rattle.rebuild_core.specs.Conditions.{IsReferencedOnce, IsWellNamed, RepeatedDigest, RepeatedDisclosure, Misused, Discloses, IsWrong}
 use Rattle.rebuild_core.specs.Laws.{IsPick, place_from}
-use Rattle.claim_tree.proofs.Lists.{In-append, In-of_map, In-At, At-In, At-same, At-map, one_place}
+use Rattle.claim_tree.proofs.Lists.{In-append, In-of_map, In-At, At-In, At-same, At-map, one_place, At-of_map}
 use Rattle.rebuild_core.proofs.Found.{found}
 use Rattle.rebuild_core.proofs.Chains.{in_payload, in_value, same_item, reached_all}
 use Rattle.rebuild_core.proofs.Fixed.{find_at}
 use Rattle.rebuild_core.proofs.Fits.{Pairwise, Pairwise-left, Pairwise-right, Pairwise-join, Pairwise-map, Pairwise-of_map, reshown, remark_open}
 use Rattle.rebuild_core.proofs.Named.{Pairwise-from, Pairwise-at, value_part, value_fits}
-
-pub At-of_map : {X Y : Type 0} (f : X → Y) (xs : List X) (i : ℕ) (y : Y) → At (map f xs) i y → (x : X) × At xs i x × (y ≡ f x)
-At-of_map f (z ∷ zs) zero y h = (z, refl, h)
-At-of_map f (z ∷ zs) (suc i) y h = At-of_map f zs i y h
-At-of_map f [] i y h = elim h [ ]
 
 pub pick_at : (g : List Given) (h : List ℕ) (gs : List Given) → IsPick g h gs → (k : ℕ) (x : Given) → At gs k x → (i : ℕ) × At h k i × At g i x
 pick_at g (i ∷ h) (y ∷ gs) p zero x a = (i, refl, subst (λ z. At g i z) (sym a) p.0)

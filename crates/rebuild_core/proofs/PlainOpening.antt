@@ -13,7 +13,7 @@ use Rattle.rebuild_core.specs.Given.{find_from, find}
 use Rattle.rebuild_core.specs.Opening.{Shown, shown, reveal, opened, open_tree, open_element, open_elements, open_members, show_element, show_members}
 use Rattle.rebuild_core.specs.Whole.{joined, members_joined}
 use Rattle.rebuild_core.proofs.Found.{found}
-use Rattle.rebuild_core.proofs.Sums.{sum_of}
+use Rattle.marked_tree.proofs.Sums.{sum_of}
 use Rattle.rebuild_core.proofs.ShownDepths.{joined_push, joined_end, members_joined_end}
 use Rattle.rebuild_core.proofs.MapOpening.{AllBefore, put_last, before_put, before_less}
 

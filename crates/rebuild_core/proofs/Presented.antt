@@ -12,7 +12,8 @@ use Rattle.rebuild_core.specs.Conditions.{IsReferencedOnce, IsSound}
 use Rattle.rebuild_core.specs.Laws.{IsReadable, IsPick, Enumerates, IsPresented, Presentation, place_from, OneNode}
 use Rattle.claim_tree.proofs.Lists.{At-In}
 use Rattle.rebuild_core.proofs.OneSite.{one_site_holds}
-use Rattle.rebuild_core.proofs.Sums.{sum_of}
+use Rattle.marked_tree.proofs.MarkFacts.{one_if_same, none_if_less, none_if_more}
+use Rattle.marked_tree.proofs.Sums.{sum_of}
 use Rattle.rebuild_core.proofs.Fixed.{fixed, unknown, processed_settles, disclosures_sum}
 use Rattle.rebuild_core.proofs.Fits.{remark_open}
 use Rattle.rebuild_core.proofs.Named.{payload_fits, value_fits}
@@ -140,15 +141,6 @@ weight_is p g sound w =
     let z : n ≡ k = omega arith in
     omega (arith, ap (shown_weight w) (fixed p g sound.referenced k x a), ap w z, open_weight w r x.value (value_fits p g sound.referenced sound.named (length g) k x a))) in
     omega (arith, top, all, each, ap (weight w) (processed_settles p g sound.referenced))
-
-one_if_same : (i k : ℕ) → i ≡ k → only i k ≡ 1
-one_if_same i k e = grind (arith, nat_tests)
-
-none_if_less : (i k : ℕ) → i < k → only i k ≡ 0
-none_if_less i k l = grind (arith, nat_tests)
-
-none_if_more : (i k : ℕ) → k < i → only i k ≡ 0
-none_if_more i k l = grind (arith, nat_tests)
 
 abbrev inside : ℕ → ℕ → ℕ
 inside i n = cond (ltb i n) 1 0

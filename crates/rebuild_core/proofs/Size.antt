@@ -7,7 +7,8 @@ use Rattle.digest_sites.specs.Given.{Given}
 use Rattle.rebuild_core.specs.Opening.{Shown, reveal}
 use Rattle.rebuild_core.specs.Laws.{SizeBound}
 use Rattle.claim_tree.proofs.Lists.{In-At}
-use Rattle.rebuild_core.proofs.Sums.{sum_of, sum_of-le}
+use Rattle.marked_tree.proofs.Sums.{sum_of}
+use Rattle.rebuild_core.proofs.Sums.{sum_of-le}
 use Rattle.rebuild_core.proofs.Nodes.{size, shown_size, sites_size, open_size}
 use Rattle.rebuild_core.proofs.Fixed.{unknown, fixed, processed_settles, disclosures_sum}
 

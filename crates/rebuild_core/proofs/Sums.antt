@@ -1,21 +1,10 @@
 -- Sums over lists, and over lists that have the same elements where it counts.
-use Rattle.std.proofs.Common.{◌≡◌, ℕ, suc, ◌+◌, ◌≤◌, List, [], ◌∷◌, ◌++◌, map, Bool, true, false, cond, ◌⊎◌, inl, inr, ⊎_elim, refl, sym, ap, ap₂, subst, arith}
+use Rattle.std.proofs.Common.{◌≡◌, ℕ, suc, ◌+◌, ◌≤◌, List, [], ◌∷◌, Bool, true, false, cond, ◌⊎◌, inl, inr, ⊎_elim, refl, sym, ap, ap₂, subst, arith}
 use Rattle.std.specs.Prelude.{bytes_eq}
 use Rattle.claim_tree.specs.Tree.{Text}
 use Rattle.claim_tree.specs.Lists.{In, Repeats, Nowhere}
 use Rattle.claim_tree.proofs.Lists.{bytes_same, bytes_refl, In-At}
-
-abbrev pub sum_of : {X : Type 0} → (X → ℕ) → List X → ℕ
-sum_of f [] = 0
-sum_of f (x ∷ xs) = f x + sum_of f xs
-
-pub sum_of-append : {X : Type 0} (f : X → ℕ) (xs ys : List X) → sum_of f (xs ++ ys) ≡ sum_of f xs + sum_of f ys
-sum_of-append f [] ys = omega arith
-sum_of-append f (x ∷ xs) ys = omega (arith, sum_of-append f xs ys)
-
-pub sum_of-map : {X Y : Type 0} (f : Y → ℕ) (h : X → Y) (xs : List X) → sum_of f (map h xs) ≡ sum_of (λ x. f (h x)) xs
-sum_of-map f h [] = refl
-sum_of-map f h (x ∷ xs) = ap (λ n. f (h x) + n) (sum_of-map f h xs)
+use Rattle.marked_tree.proofs.Sums.{sum_of}
 
 pub sum_of-same : {X : Type 0} (f h : X → ℕ) (xs : List X) → ((x : X) → In x xs → f x ≡ h x) → sum_of f xs ≡ sum_of h xs
 sum_of-same f h [] same = refl

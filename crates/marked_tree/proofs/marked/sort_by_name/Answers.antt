@@ -1,7 +1,7 @@
 use Rattle.std.proofs.Common.{rules}
 use Rattle.std.proofs.lemmas.List.Sorted.{ranks_by, answers_always}
 use Rattle.marked_tree.proofs.MarkedViews.{Entry}
-use Rattle.marked_tree.proofs.Names.{order}
+use Rattle.claim_tree.proofs.MapPlaces.{order}
 use Rattle.marked_tree.proofs.Lookups.{lower, sorted_puts}
 use Rattle.marked_tree.proofs.marked.sort_by_name.Goals as goal
 

@@ -1,5 +1,5 @@
 use Rattle.std.proofs.Common.{ap, ◌∙◌}
-use Rattle.marked_tree.proofs.Names.{cmp}
+use Rattle.claim_tree.proofs.MapPlaces.{cmp}
 use Rattle.marked_tree.proofs.PathOrder.{step_there, no_step}
 use Rattle.marked_tree.proofs.marking.compared.Goals as goal
 

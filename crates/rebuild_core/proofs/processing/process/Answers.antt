@@ -1,8 +1,4 @@
-use Rattle.std.proofs.Common.{◌≡◌, IfOk, sym, subst}
-use Rattle.claim_tree.specs.Tree.{IsRanged}
 use Rattle.claim_tree.specs.View.{tree_of}
-use Rattle.marked_tree.specs.Marked.{strip}
-use Rattle.marked_tree.specs.View.{marked_of}
 use Rattle.rebuild_core.proofs.Ranged.{answer_ranged}
 use Rattle.rebuild_core.proofs.processing.process.Goals as goal
 
