@@ -5,6 +5,7 @@ pub mod Closing
 pub mod MarkedViews
 pub mod Names
 pub mod Lookups
+pub mod Puts
 pub mod NumberSets
 pub mod MarkedWalks
 pub mod Finds

@@ -7,7 +7,7 @@ use Rattle.claim_tree.proofs.Lists.{bytes_same}
 use Rattle.digest_sites.specs.Reserved.{sd_name, dots_name, sd_texts, text_list, texts_or_none, misuses, members_misuse, is_ill_named}
 use Rattle.rebuild_core.specs.Payload.{alg_name, without_member, without_alg}
 use Rattle.rebuild_core.specs.Answer.{IsPayload}
-use Rattle.rebuild_core.proofs.Members.{IsBeforeAll-not_in}
+use Rattle.marked_tree.proofs.Puts.{IsBeforeAll-not_in}
 
 -- each member `_sd_alg` is a text
 abbrev pub HasTextAlg : Members → Type 0

@@ -13,7 +13,7 @@ use Rattle.rebuild_core.specs.Conditions.{IsWrong}
 use Rattle.rebuild_core.specs.Whole.{IsNew, AllNew}
 use Rattle.claim_tree.proofs.Lists.{In-left, In-right, In-append, In-map, In-of_map}
 use Rattle.rebuild_core.proofs.Agree.{Each, Each-left, Each-right, Each-under, Each-own, Each-rest}
-use Rattle.rebuild_core.proofs.Members.{IsAscending, put_names, put_ascending, put_kept, remark_put}
+use Rattle.marked_tree.proofs.Puts.{IsAscending, put_names, put_ascending, put_kept, remark_put}
 
 -- R holds of each element and each later one
 abbrev pub Pairwise : {X : Type 0} → (X → X → Type 0) → List X → Type 0

@@ -7,7 +7,6 @@ pub mod Sums
 pub mod Nodes
 pub mod Fixed
 pub mod Size
-pub mod Members
 pub mod Fits
 pub mod Marks
 pub mod Named

@@ -10,7 +10,7 @@ use Rattle.marked_tree.specs.Marked.{Marked, MarkedElements, MarkedMembers, mark
 use Rattle.rebuild_core.specs.Opening.{Shown, hidden, shown, open_tree, open_elements, open_members, open_element, show_members, show_element, show_member}
 use Rattle.claim_tree.proofs.Lists.{In-left, In-right, In-append, In-of_map}
 use Rattle.marked_tree.proofs.Sums.{sum_of, sum_of-append, sum_of-map}
-use Rattle.rebuild_core.proofs.Members.{put_weight, put_way, put_way_other}
+use Rattle.marked_tree.proofs.Puts.{put_weight, put_way, put_way_other}
 use Rattle.rebuild_core.specs.Whole.{IsNew, AllNew}
 use Rattle.rebuild_core.proofs.Fits.{AreFit, Suits, object_new, fit_left, fit_right, fit_under}
 

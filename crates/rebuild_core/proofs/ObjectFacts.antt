@@ -10,7 +10,7 @@ use Rattle.digest_sites.specs.Sites.{Site, Step, to_member, to_element, sites, e
 use Rattle.digest_sites.specs.declared.site.SiteKind.{SiteKind}
 use Rattle.digest_sites.specs.declared.site.SiteKind.TheVariants.{Member, Element}
 use Rattle.rebuild_core.specs.Rows.{Seen, own_row, rows_on, tree_rows, element_rows, member_rows}
-use Rattle.rebuild_core.proofs.Members.{IsBeforeAll-not_in}
+use Rattle.marked_tree.proofs.Puts.{IsBeforeAll-not_in}
 use Rattle.rebuild_core.proofs.SideBySide.{Both, both_left, both_right, both_append, both_map}
 
 -- these rows have numbers of objects from low to below high, and members have one number where their keys are one
