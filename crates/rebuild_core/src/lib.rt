@@ -16,6 +16,8 @@ mod readable;
 mod references;
 mod rows;
 mod shown;
+#[cfg(test)]
+mod tests;
 
 pub use errors::ProcessError;
 pub use processing::process;
