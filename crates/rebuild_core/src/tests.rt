@@ -112,7 +112,7 @@ fn shown(alloc: Global, marks: u32, marked: &Marked) -> Result<String, Fail>
     Ok(text)
 }
 
-// The condition that fails, and its place.
+// The condition that fails, and its place, 0 where it has none.
 fn refusal(alloc: Global, error: ProcessError) -> Result<String, Fail> {
     let (condition, place) = match error {
         ProcessError::Memory => return Err("no memory")?,
