@@ -2,3 +2,4 @@ pub mod Condition
 pub mod FaultLine
 pub mod Named
 pub mod PolicyFile
+pub mod Verdict
