@@ -3,3 +3,4 @@ pub mod FaultLine
 pub mod Named
 pub mod PolicyFile
 pub mod Verdict
+pub mod Check
