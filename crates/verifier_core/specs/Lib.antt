@@ -2,3 +2,5 @@ pub mod Condition
 pub mod FaultLine
 pub mod Named
 pub mod PolicyFile
+pub mod Verdict
+pub mod Check

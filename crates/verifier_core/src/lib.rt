@@ -3,6 +3,10 @@
 //! [`read_policy`] reads a [`Policy`] from its file. [`fault_line`] is the line that tells of a condition that fails.
 #![tactic(auto)]
 
+mod check;
+mod check_given;
+mod check_payload;
+mod check_signed;
 mod conditions;
 pub mod laws;
 mod policy;
@@ -10,6 +14,7 @@ mod refusal;
 #[cfg(test)]
 mod tests;
 
+pub use check::{Checked, VerifyError, check_token};
 pub use conditions::{
     ALG_REFUSED, AUDIENCE_DIFFERS, BAD_SIGNATURE, BINDING_ALG, BINDING_EARLY, BINDING_HEADER,
     BINDING_MISSING, BINDING_PAYLOAD, BINDING_SIGNATURE, BINDING_STALE, BINDING_TIME, BINDING_TYPE,

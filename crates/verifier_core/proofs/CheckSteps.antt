@@ -1,0 +1,283 @@
+-- What the steps of a check say of the conditions on the token.
+use Rattle.std.proofs.Common.{◌≡◌, ℕ, zero, suc, ◌<◌, ◌≤◌, List, [], ◌∷◌, length, take, slice_get, Option, Some, None, refl, sym, ap, subst, ◌∙◌, arith}
+use Rattle.std.specs.List.{AllZip}
+use Rattle.claim_tree.specs.Tree.{Text, Tree, Members, leaf, null, flag, whole, text, array, object, depth}
+use Rattle.claim_tree.specs.Lists.{At as StandsAt, Nowhere as AtNone, IsLeast}
+use Rattle.compact_form.specs.declared.fault.Fault.{Fault}
+use Rattle.compact_form.specs.declared.fault.Place.{Place}
+use Rattle.json_form.specs.declared.token.Token.{Token}
+use Rattle.jws_part.specs.declared.header.Header.{Header}
+use Rattle.jws_part.specs.Part.{IsBody}
+use Rattle.jws_part.proofs.Headers as headers
+use Rattle.jws_part.proofs.Parts as bodies
+use Rattle.disclosure.specs.Digest.{payload_hash, hash_of_name}
+use Rattle.disclosure.specs.declared.digests.HashAlg.{HashAlg}
+use Rattle.disclosure.proofs.Verdicts as readings
+use Rattle.digest_sites.specs.Given.{Given}
+use Rattle.marked_tree.specs.Marked.{strip}
+use Rattle.rebuild_core.specs.Payload.{alg_name, without_alg}
+use Rattle.rebuild_core.specs.Opening.{processed}
+use Rattle.rebuild_core.specs.Answer.{IsPayload, IsRefusal}
+use Rattle.rebuild_core.specs.Conditions as opening
+use Rattle.rebuild_core.specs.declared.errors.ProcessError.{ProcessError}
+use Rattle.verifier_core.specs.Condition as condition
+use Rattle.verifier_core.specs.Verdict.{Rules, key_for, HasHeader, HasPayload, IsAlgRefused, IsTypeRefused, IsBadSignature, IsUnread, Gives, HasContent, OfContent, Unplaced, Numbered, TokenFails, IsLowest}
+use Rattle.verifier_core.specs.Check.{OnFault, Passes, unplaced, refusal_of, IsSigned, IsSignedFault, bad_header, critical, bad_alg, bad_type, no_key, not_signed, IsPayloadFault, no_body, no_hash, IsUnreadAt}
+use Rattle.verifier_core.specs.declared.check.VerifyError.{VerifyError}
+use Rattle.verifier_core.proofs.Lowest.{start, step, refuse_unplaced, refuse_placed}
+
+-- ---- one header
+
+same_header : (token : Token) (h k : Header) → HasHeader token h → HasHeader token k → h ≡ k
+same_header token h k a b = headers.one_header token.parts.signed.protected token.outer h k a b
+
+none_of : (P : Header → Type 0) (token : Token) (h : Header) → HasHeader token h → (P h → ⊥) → (place : Place) → Unplaced ((header : Header) × HasHeader token header × P header) place → ⊥
+none_of P token h has none place (is, (k, other, p)) = none (subst P (same_header token k h other has) p)
+
+good_signature : (token : Token) (rules : Rules) (h : Header) (key : List ℕ) → HasHeader token h → key_for rules.keys h.kid ≡ Some key → (IsBadSignature key token.parts.signed → ⊥)
+    → (place : Place) → TokenFails token rules condition.bad_signature place → ⊥
+good_signature token rules h key has key_is good place (is, (k, other, found, found_is, bad)) =
+    let heads : k ≡ h = same_header token k h other has in
+    let keys : Some found ≡ Some key = sym found_is ∙ (ap (λ (x : Header). key_for rules.keys x.kid) heads ∙ key_is) in
+    let same : found ≡ key = cc keys in
+    good (subst (λ x. IsBadSignature x token.parts.signed) same bad)
+
+at7 : (token : Token) (rules : Rules) (h : Header) → HasHeader token h → Passes 7 (TokenFails token rules)
+at7 token rules h has =
+    step (TokenFails token rules) condition.header_critical
+    (step (TokenFails token rules) condition.header_unreadable (start token rules) (λ place w. headers.read_not_unreadable token.parts.signed.protected token.outer h has w.1))
+    (λ place w. headers.read_not_critical token.parts.signed.protected token.outer h has w.1)
+
+at8 : (token : Token) (rules : Rules) (h : Header) → HasHeader token h → (IsAlgRefused rules.algs h.alg → ⊥) → Passes 8 (TokenFails token rules)
+at8 token rules h has alg = step (TokenFails token rules) condition.alg_refused (at7 token rules h has) (none_of (λ x. IsAlgRefused rules.algs x.alg) token h has alg)
+
+at9 : (token : Token) (rules : Rules) (h : Header) → HasHeader token h → (IsAlgRefused rules.algs h.alg → ⊥) → (IsTypeRefused rules.typ h.typ → ⊥) → Passes 9 (TokenFails token rules)
+at9 token rules h has alg typ = step (TokenFails token rules) condition.type_refused (at8 token rules h has alg) (none_of (λ x. IsTypeRefused rules.typ x.typ) token h has typ)
+
+at10 : (token : Token) (rules : Rules) (h : Header) (key : List ℕ) → HasHeader token h → (IsAlgRefused rules.algs h.alg → ⊥) → (IsTypeRefused rules.typ h.typ → ⊥) → key_for rules.keys h.kid ≡ Some key
+    → Passes 10 (TokenFails token rules)
+at10 token rules h key has alg typ key_is =
+    step (TokenFails token rules) condition.issuer_key_unknown (at9 token rules h has alg typ)
+    (none_of (λ x. key_for rules.keys x.kid ≡ None) token h has (λ none. let both : Some key ≡ None = sym key_is ∙ none in absurd (cc both)))
+
+pub signed_passes : (token : Token) (rules : Rules) → IsSigned token.parts.signed token.outer rules → Passes 11 (TokenFails token rules)
+signed_passes token rules s =
+    step (TokenFails token rules) condition.bad_signature (at10 token rules s.header s.key s.is_header s.alg s.typ s.key_is)
+    (good_signature token rules s.header s.key s.is_header s.key_is s.good)
+
+pub signed_fault : (token : Token) (rules : Rules) (fault : Fault) → IsSignedFault token.parts.signed token.outer rules fault → IsLowest (TokenFails token rules) fault
+signed_fault token rules fault (bad_header w is) = refuse_unplaced (TokenFails token rules) condition.header_unreadable fault is (start token rules) (refl, w)
+signed_fault token rules fault (critical w is) =
+    refuse_unplaced (TokenFails token rules) condition.header_critical fault is
+    (step (TokenFails token rules) condition.header_unreadable (start token rules) (λ place u. headers.critical_not_unreadable token.parts.signed.protected token.outer w u.1))
+    (refl, w)
+signed_fault token rules fault (bad_alg h has w is) = refuse_unplaced (TokenFails token rules) condition.alg_refused fault is (at7 token rules h has) (refl, (h, has, w))
+signed_fault token rules fault (bad_type h has alg w is) = refuse_unplaced (TokenFails token rules) condition.type_refused fault is (at8 token rules h has alg) (refl, (h, has, w))
+signed_fault token rules fault (no_key h has alg typ w is) = refuse_unplaced (TokenFails token rules) condition.issuer_key_unknown fault is (at9 token rules h has alg typ) (refl, (h, has, w))
+signed_fault token rules fault (not_signed h has alg typ key key_is w is) =
+    refuse_unplaced (TokenFails token rules) condition.bad_signature fault is (at10 token rules h key has alg typ key_is) (refl, (h, has, key, key_is, w))
+
+-- ---- one payload
+
+at12 : (token : Token) (rules : Rules) (body : Tree) → Passes 11 (TokenFails token rules) → HasPayload token body → Passes 12 (TokenFails token rules)
+at12 token rules body passes has = step (TokenFails token rules) condition.payload_unreadable passes (λ place w. bodies.not_both token.parts.signed.payload body has w.1)
+
+pub payload_passes : (token : Token) (rules : Rules) (body : Tree) (hash : HashAlg) → Passes 11 (TokenFails token rules) → HasPayload token body → payload_hash body ≡ Some hash → Passes 13 (TokenFails token rules)
+payload_passes token rules body hash passes has hash_is = step (TokenFails token rules) condition.hash_unknown (at12 token rules body passes has) go
+  where
+    go : (place : Place) → TokenFails token rules condition.hash_unknown place → ⊥
+    go place (is, (other, other_has, none)) =
+        let same : other ≡ body = bodies.one_body token.parts.signed.payload other body other_has has in
+        let both : Some hash ≡ None = sym hash_is ∙ (ap payload_hash (sym same) ∙ none) in
+        absurd (cc both)
+
+pub payload_fault : (token : Token) (rules : Rules) (fault : Fault) → Passes 11 (TokenFails token rules) → IsPayloadFault token.parts.signed.payload fault → IsLowest (TokenFails token rules) fault
+payload_fault token rules fault passes (no_body w is) = refuse_unplaced (TokenFails token rules) condition.payload_unreadable fault is passes (refl, w)
+payload_fault token rules fault passes (no_hash body has w is) = refuse_unplaced (TokenFails token rules) condition.hash_unknown fault is (at12 token rules body passes has) (refl, (body, has, w))
+
+-- ---- one list of what is given
+
+-- a disclosure that is read is not one that is not
+read_unread : (hash : HashAlg) (d : Text) (x : Given) → Gives hash d x → IsUnread d → ⊥
+read_unread hash d x g u = u g.1 x.name x.value g.2
+
+all_read : (hash : HashAlg) (ds : List Text) (xs : List Given) (i : ℕ) (d : Text) → AllZip (Gives hash) ds xs → StandsAt ds i d → IsUnread d → ⊥
+all_read hash [] xs i d all there u = there
+all_read hash (e ∷ ds) [] i d all there u = all
+all_read hash (e ∷ ds) (x ∷ xs) zero d all there u = read_unread hash e x all.0 (subst IsUnread there u)
+all_read hash (e ∷ ds) (x ∷ xs) (suc i) d all there u = all_read hash ds xs i d all.1 there u
+
+front_read : (hash : HashAlg) (ds : List Text) (xs : List Given) (i j : ℕ) (d : Text) → AllZip (Gives hash) (take i ds) xs → j < i → StandsAt ds j d → IsUnread d → ⊥
+front_read hash [] xs i j d all below there u = there
+front_read hash (e ∷ ds) xs zero j d all below there u = absurd (omega (arith, below))
+front_read hash (e ∷ ds) [] (suc i) j d all below there u = all
+front_read hash (e ∷ ds) (x ∷ xs) (suc i) zero d all below there u = read_unread hash e x all.0 (subst IsUnread there u)
+front_read hash (e ∷ ds) (x ∷ xs) (suc i) (suc j) d all below there u = front_read hash ds xs i j d all.1 (omega (arith, below)) there u
+
+pub got_stands : (ds : List Text) (i : ℕ) (d : Text) → slice_get ds i ≡ Some d → StandsAt ds i d
+got_stands [] i d e = absurd (cc e)
+got_stands (x ∷ ds) zero d e = let same : Some x ≡ Some d = e in sym (cc same)
+got_stands (x ∷ ds) (suc i) d e = got_stands ds i d e
+
+abbrev UnreadAt : Token → ℕ → Type 0
+UnreadAt token i = (disclosure : Text) × StandsAt token.parts.disclosures i disclosure × IsUnread disclosure
+
+pub given_passes : (token : Token) (rules : Rules) (hash : HashAlg) (given : List Given) → Passes 13 (TokenFails token rules) → AllZip (Gives hash) token.parts.disclosures given → Passes 14 (TokenFails token rules)
+given_passes token rules hash given passes read =
+    step (TokenFails token rules) condition.disclosure_unreadable passes (λ place w. all_read hash token.parts.disclosures given w.0 w.2.0 read w.2.1 w.2.2)
+
+pub given_fault : (token : Token) (rules : Rules) (hash : HashAlg) (fault : Fault) → Passes 13 (TokenFails token rules) → IsUnreadAt hash token.parts.disclosures fault → IsLowest (TokenFails token rules) fault
+given_fault token rules hash fault passes u =
+    subst (IsLowest (TokenFails token rules)) (sym u.fault_is)
+    (refuse_placed (TokenFails token rules) condition.disclosure_unreadable (UnreadAt token) u.i (λ place h. h) (λ h. (u.i, refl, h)) passes
+    (record {
+      fails = (u.disclosure, got_stands token.parts.disclosures u.i u.disclosure u.there, u.unread);
+      first = λ j below w. front_read hash token.parts.disclosures u.before u.i j w.0 u.read below w.1 w.2;
+    }))
+
+-- ---- one content
+
+abbrev given_as : Text → Option Text → Tree → Given
+given_as digest name value = record { digest = digest; name = name; value = value }
+
+one_given : (hash : HashAlg) (d : Text) (x y : Given) → Gives hash d x → Gives hash d y → x ≡ y
+one_given hash d x y g h =
+    let same = readings.one_disclosure d g.1 h.1 x.name y.name x.value y.value g.2 h.2 in
+    let digests : x.digest ≡ y.digest = g.0 ∙ sym h.0 in
+    let names : x.name ≡ y.name = same.1 in
+    let values : x.value ≡ y.value = same.2 in
+    ap (λ (a : Text). given_as a x.name x.value) digests ∙ (ap (λ (a : Option Text). given_as y.digest a x.value) names ∙ ap (λ (a : Tree). given_as y.digest y.name a) values)
+
+one_list : (hash : HashAlg) (ds : List Text) (xs ys : List Given) → AllZip (Gives hash) ds xs → AllZip (Gives hash) ds ys → xs ≡ ys
+one_list hash [] [] [] g h = refl
+one_list hash [] [] (y ∷ ys) g h = absurd h
+one_list hash [] (x ∷ xs) ys g h = absurd g
+one_list hash (d ∷ ds) [] ys g h = absurd g
+one_list hash (d ∷ ds) (x ∷ xs) [] g h = absurd h
+one_list hash (d ∷ ds) (x ∷ xs) (y ∷ ys) g h =
+    let first : x ≡ y = one_given hash d x y g.0 h.0 in
+    let others : xs ≡ ys = one_list hash ds xs ys g.1 h.1 in
+    cc
+
+one_content : (token : Token) (p q : Tree) (g h : List Given) → HasContent token p g → HasContent token q h → (p ≡ q) × (g ≡ h)
+one_content token p q g h a b =
+    let bodies_same : a.body ≡ b.body = bodies.one_body token.parts.signed.payload a.body b.body a.is_body b.is_body in
+    let hashes : Some a.hash ≡ Some b.hash = sym a.hash_is ∙ (ap payload_hash bodies_same ∙ b.hash_is) in
+    let hash_same : a.hash ≡ b.hash = cc hashes in (
+      a.payload_is ∙ (ap without_alg bodies_same ∙ sym b.payload_is),
+      one_list b.hash token.parts.disclosures g h (subst (λ x. AllZip (Gives x) token.parts.disclosures g) hash_same a.disclosures) b.disclosures,
+    )
+
+-- a condition on the content is one on this content
+here : (C : Tree → List Given → ℕ → Type 0) (token : Token) (p : Tree) (g : List Given) → HasContent token p g → (i : ℕ) → OfContent C token i → C p g i
+here C token p g has i (q, h, other, fails) =
+    let same = one_content token q p h g other has in
+    subst (λ x. C p x i) same.1 (subst (λ x. C x h i) same.0 fails)
+
+nowhere : (C : Tree → List Given → ℕ → Type 0) (token : Token) (p : Tree) (g : List Given) → HasContent token p g → AtNone (C p g) → (place : Place) → Numbered (OfContent C token) place → ⊥
+nowhere C token p g has none place w = none w.0 (here C token p g has w.0 w.2)
+
+least : (C : Tree → List Given → ℕ → Type 0) (token : Token) (p : Tree) (g : List Given) → HasContent token p g → (i : ℕ) → IsLeast (C p g) i → IsLeast (OfContent C token) i
+least C token p g has i l = record { fails = (p, g, has, l.fails); first = λ j below w. l.first j below (here C token p g has j w) }
+
+-- ---- the conditions 14 to 21
+
+abbrev Doubled : Tree → List Given → ℕ → Type 0
+Doubled p g i = opening.RepeatedDisclosure g i
+
+at15 : (token : Token) (rules : Rules) (p : Tree) (g : List Given) → HasContent token p g → Passes 14 (TokenFails token rules) → AtNone (opening.RepeatedDisclosure g) → Passes 15 (TokenFails token rules)
+at15 token rules p g has passes none = step (TokenFails token rules) condition.repeated_disclosure passes (nowhere Doubled token p g has none)
+
+at16 : (token : Token) (rules : Rules) (p : Tree) (g : List Given) → HasContent token p g → Passes 15 (TokenFails token rules) → AtNone (opening.Misused p g) → Passes 16 (TokenFails token rules)
+at16 token rules p g has passes none = step (TokenFails token rules) condition.reserved_misused passes (nowhere opening.Misused token p g has none)
+
+at17 : (token : Token) (rules : Rules) (p : Tree) (g : List Given) → HasContent token p g → Passes 16 (TokenFails token rules) → AtNone (opening.RepeatedDigest p g) → Passes 17 (TokenFails token rules)
+at17 token rules p g has passes none = step (TokenFails token rules) condition.repeated_digest passes (nowhere opening.RepeatedDigest token p g has none)
+
+at18 : (token : Token) (rules : Rules) (p : Tree) (g : List Given) → HasContent token p g → Passes 14 (TokenFails token rules) → opening.IsReferencedOnce p g → Passes 18 (TokenFails token rules)
+at18 token rules p g has passes r =
+    step (TokenFails token rules) condition.unreferenced_disclosure
+    (at17 token rules p g has (at16 token rules p g has (at15 token rules p g has passes r.no_repeated_disclosure) r.no_misuse) r.no_repeated_digest)
+    (nowhere opening.Unreferenced token p g has r.no_unreferenced)
+
+at19 : (token : Token) (rules : Rules) (p : Tree) (g : List Given) → HasContent token p g → Passes 18 (TokenFails token rules) → AtNone (opening.WrongShape p g) → Passes 19 (TokenFails token rules)
+at19 token rules p g has passes none = step (TokenFails token rules) condition.wrong_shape passes (nowhere opening.WrongShape token p g has none)
+
+at20 : (token : Token) (rules : Rules) (p : Tree) (g : List Given) → HasContent token p g → Passes 19 (TokenFails token rules) → AtNone (opening.ReservedName p g) → Passes 20 (TokenFails token rules)
+at20 token rules p g has passes none = step (TokenFails token rules) condition.reserved_name passes (nowhere opening.ReservedName token p g has none)
+
+at21 : (token : Token) (rules : Rules) (p : Tree) (g : List Given) → HasContent token p g → Passes 14 (TokenFails token rules) → opening.IsReferencedOnce p g → opening.IsWellNamed p g → Passes 21 (TokenFails token rules)
+at21 token rules p g has passes r n =
+    step (TokenFails token rules) condition.name_clash
+    (at20 token rules p g has (at19 token rules p g has (at18 token rules p g has passes r) n.no_wrong_shape) n.no_reserved_name)
+    (nowhere opening.NameClash token p g has n.no_name_clash)
+
+shallow : (token : Token) (rules : Rules) (p : Tree) (g : List Given) → HasContent token p g → depth (strip (processed p g)) ≤ 100 → (place : Place) → TokenFails token rules condition.too_deep place → ⊥
+shallow token rules p g has low place (is, (q, h, other, deep)) =
+    let same = one_content token q p h g other has in
+    let here_deep : opening.IsTooDeep p g = subst (λ x. opening.IsTooDeep p x) same.1 (subst (λ x. opening.IsTooDeep x h) same.0 deep) in
+    absurd (omega (arith, low, here_deep))
+
+pub content_passes : (token : Token) (rules : Rules) (p : Tree) (g : List Given) → HasContent token p g → Passes 14 (TokenFails token rules) → opening.IsSound p g → Passes 22 (TokenFails token rules)
+content_passes token rules p g has passes s = step (TokenFails token rules) condition.too_deep (at21 token rules p g has passes s.referenced s.named) (shallow token rules p g has s.shallow)
+
+-- a refusal to process is the lowest condition that fails
+pub content_fault : (token : Token) (rules : Rules) (p : Tree) (g : List Given) → HasContent token p g → Passes 14 (TokenFails token rules) → (e : ProcessError) → IsRefusal p g e
+    → OnFault (refusal_of e) (IsLowest (TokenFails token rules))
+content_fault token rules p g has passes ProcessError.Memory r = tt
+content_fault token rules p g has passes (ProcessError.RepeatedDisclosure i) r =
+    refuse_placed (TokenFails token rules) condition.repeated_disclosure (OfContent Doubled token) i (λ place h. h) (λ h. (i, refl, h)) passes (least Doubled token p g has i r)
+content_fault token rules p g has passes (ProcessError.ReservedMisused i) r =
+    refuse_placed (TokenFails token rules) condition.reserved_misused (OfContent opening.Misused token) i (λ place h. h) (λ h. (i, refl, h))
+    (at15 token rules p g has passes r.0)
+    (least opening.Misused token p g has i r.1)
+content_fault token rules p g has passes (ProcessError.RepeatedDigest i) r =
+    refuse_placed (TokenFails token rules) condition.repeated_digest (OfContent opening.RepeatedDigest token) i (λ place h. h) (λ h. (i, refl, h))
+    (at16 token rules p g has (at15 token rules p g has passes r.0) r.1)
+    (least opening.RepeatedDigest token p g has i r.2)
+content_fault token rules p g has passes (ProcessError.Unreferenced i) r =
+    refuse_placed (TokenFails token rules) condition.unreferenced_disclosure (OfContent opening.Unreferenced token) i (λ place h. h) (λ h. (i, refl, h))
+    (at17 token rules p g has (at16 token rules p g has (at15 token rules p g has passes r.0) r.1) r.2)
+    (least opening.Unreferenced token p g has i r.3)
+content_fault token rules p g has passes (ProcessError.WrongShape i) r =
+    refuse_placed (TokenFails token rules) condition.wrong_shape (OfContent opening.WrongShape token) i (λ place h. h) (λ h. (i, refl, h))
+    (at18 token rules p g has passes r.0)
+    (least opening.WrongShape token p g has i r.1)
+content_fault token rules p g has passes (ProcessError.ReservedName i) r =
+    refuse_placed (TokenFails token rules) condition.reserved_name (OfContent opening.ReservedName token) i (λ place h. h) (λ h. (i, refl, h))
+    (at19 token rules p g has (at18 token rules p g has passes r.0) r.1)
+    (least opening.ReservedName token p g has i r.2)
+content_fault token rules p g has passes (ProcessError.NameClash i) r =
+    refuse_placed (TokenFails token rules) condition.name_clash (OfContent opening.NameClash token) i (λ place h. h) (λ h. (i, refl, h))
+    (at20 token rules p g has (at19 token rules p g has (at18 token rules p g has passes r.0) r.1) r.2)
+    (least opening.NameClash token p g has i r.3)
+content_fault token rules p g has passes ProcessError.TooDeep r =
+    refuse_unplaced (TokenFails token rules) condition.too_deep (unplaced 21) refl (at21 token rules p g has passes r.0 r.1) (refl, (p, g, has, r.2))
+
+-- ---- from step to step
+
+pub on_fault : (e : VerifyError) (P Q : Fault → Type 0) → ((fault : Fault) → P fault → Q fault) → OnFault e P → OnFault e Q
+on_fault VerifyError.Memory P Q more h = tt
+on_fault (VerifyError.Fault fault) P Q more h = more fault h
+
+pub zip_length : (hash : HashAlg) (ds : List Text) (xs : List Given) → AllZip (Gives hash) ds xs → length xs ≡ length ds
+zip_length hash [] [] all = refl
+zip_length hash [] (x ∷ xs) all = absurd all
+zip_length hash (d ∷ ds) [] all = absurd all
+zip_length hash (d ∷ ds) (x ∷ xs) all = ap suc (zip_length hash ds xs all.1)
+
+-- what names a hash is a text
+known_text : (t : Tree) (hash : HashAlg) → hash_of_name (Some t) ≡ Some hash → (s : Text) × (t ≡ leaf (text s))
+known_text (leaf (text s)) hash e = (s, refl)
+known_text (leaf null) hash e = absurd (cc e)
+known_text (leaf (flag b)) hash e = absurd (cc e)
+known_text (leaf (whole z)) hash e = absurd (cc e)
+known_text (array es) hash e = absurd (cc e)
+known_text (object ms) hash e = absurd (cc e)
+
+object_payload : (ms : Members) (hash : HashAlg) → payload_hash (object ms) ≡ Some hash → IsPayload (object ms)
+unfolding alg_name
+object_payload ms hash e t there = known_text t hash (ap hash_of_name (sym there) ∙ e)
+
+pub is_payload : (part : Text) (t : Tree) (hash : HashAlg) → IsBody part t → payload_hash t ≡ Some hash → IsPayload t
+is_payload part t hash b e = subst IsPayload (sym b.is_object) (object_payload b.members hash (subst (λ x. payload_hash x ≡ Some hash) b.is_object e))

@@ -1,0 +1,104 @@
+-- What the tests of a check tell.
+use Rattle.std.proofs.Common.{◌≡◌, ◌↔◌, ◌⊎◌, inl, inr, ℕ, zero, suc, ◌<◌, List, [], ◌∷◌, ◌++◌, length, take, slice_get, Bool, true, false, not, bytes_eq, Option, Some, None, refl, sym, ap, subst, ◌∙◌, arith, IsTrue}
+use Rattle.std.specs.List.{AllZip}
+use Rattle.b64url_text.specs.Base64url.{Decodes}
+use Rattle.b64url_text.proofs.Codes.{one_code}
+use Rattle.claim_tree.specs.Tree.{Text}
+use Rattle.claim_tree.specs.Lists.{At as StandsAt, In}
+use Rattle.claim_tree.proofs.Lists.{At-same, bytes_same, bytes_refl, In-append}
+use Rattle.compact_form.specs.declared.parts.JwtParts.{JwtParts}
+use Rattle.disclosure.specs.declared.digests.HashAlg.{HashAlg}
+use Rattle.disclosure.specs.declared.errors.DisclosureError.{DisclosureError}
+use Rattle.disclosure.specs.Refusals.{IsRefused}
+use Rattle.disclosure.proofs.Verdicts as readings
+use Rattle.digest_sites.specs.Given.{Given}
+use Rattle.hmac_sign.specs.Hmac.{IsGood}
+use Rattle.verifier_core.specs.Verdict.{IsTypeRefused, IsBadSignature, Gives, IsUnread}
+use Rattle.verifier_core.specs.Check.{Tells, OnFault, unread_at, IsUnreadAt}
+use Rattle.verifier_core.proofs.CheckSteps.{got_stands}
+
+pub said_yes : (b : Bool) (P : Type 0) → Tells b P → b ≡ true → P
+said_yes true P told is = told
+said_yes false P told is = absurd (cc is)
+
+pub said_no : (b : Bool) (P : Type 0) → Tells b P → b ≡ false → P → ⊥
+said_no false P told is = told
+said_no true P told is = absurd (cc is)
+
+pub at_told : (xs : List Text) (i : ℕ) (y x : Text) → slice_get xs i ≡ Some y → (b : Bool) → b ≡ bytes_eq y x → Tells b (StandsAt xs i x)
+at_told xs i y x there true is = subst (λ z. StandsAt xs i z) (bytes_same y x (sym is)) (got_stands xs i y there)
+at_told xs i y x there false is = λ h.
+    let same : y ≡ x = At-same xs i y x (got_stands xs i y there) h in
+    let clash : false ≡ true = is ∙ bytes_refl y x same in
+    cc clash
+
+pub none_told : (xs : List Text) (i : ℕ) (x : Text) → slice_get xs i ≡ None → StandsAt xs i x → ⊥
+none_told [] i x none h = h
+none_told (y ∷ xs) zero x none h = cc none
+none_told (y ∷ xs) (suc i) x none h = none_told xs i x none h
+
+pub type_told : (asked typ : Option Text) (name own : Text) → asked ≡ Some name → typ ≡ Some own → (b : Bool) → b ≡ not (bytes_eq own name) → Tells b (IsTypeRefused asked typ)
+type_told asked typ name own a t b is = subst (λ z. Tells z (IsTypeRefused asked typ)) (sym is) (go (bytes_eq own name) refl)
+  where
+    go : (z : Bool) → bytes_eq own name ≡ z → Tells (not z) (IsTypeRefused asked typ)
+    go true e = λ w.
+        let names : Some w.0 ≡ Some name = sym w.1 ∙ a in
+        let same : own ≡ name = bytes_same own name e in
+        w.2 (t ∙ (ap Some same ∙ sym names))
+    go false e = (
+      name,
+      a,
+      λ h.
+          let both : Some own ≡ Some name = sym t ∙ h in
+          let same : own ≡ name = cc both in
+          let clash : false ≡ true = sym e ∙ bytes_refl own name same in
+          cc clash,
+    )
+
+pub signature_told : (key : List ℕ) (signed : JwtParts) (signature : List ℕ) → Decodes signed.signature signature → (b : Bool) → IsTrue b ↔ IsGood key signed.protected signed.payload signature
+    → Tells (not b) (IsBadSignature key signed)
+signature_told key signed signature decodes true good = λ bad. bad signature decodes (good.0 refl)
+signature_told key signed signature decodes false good = λ other other_decodes other_good.
+    let wrong : false ≡ true = good.1 (subst (λ x. IsGood key signed.protected signed.payload x) (one_code signed.signature other signature other_decodes decodes) other_good) in
+    cc wrong
+
+-- ---- what is given
+
+pub unread_of : (text : Text) (e : DisclosureError) → IsRefused text e → (e ≡ DisclosureError.Memory → ⊥) → IsUnread text
+unread_of text e refused cause = λ salt name value is. cause (readings.not_both text salt name value e is refused)
+
+pub take_more : (hash : HashAlg) (ds : List Text) (xs : List Given) (i : ℕ) (d : Text) (x : Given) → AllZip (Gives hash) (take i ds) xs → slice_get ds i ≡ Some d → Gives hash d x → AllZip (Gives hash) (take (suc i) ds) (xs ++ x ∷ [])
+take_more hash [] xs i d x all there g = absurd (cc there)
+take_more hash (e ∷ ds) [] zero d x all there g = let both : Some e ≡ Some d = there in let same : d ≡ e = sym (cc both) in (subst (λ z. Gives hash z x) same g, tt)
+take_more hash (e ∷ ds) (y ∷ xs) zero d x all there g = absurd all
+take_more hash (e ∷ ds) [] (suc i) d x all there g = absurd all
+take_more hash (e ∷ ds) (y ∷ xs) (suc i) d x all there g = (all.0, take_more hash ds xs i d x all.1 there g)
+
+pub take_all : (hash : HashAlg) (ds : List Text) (xs : List Given) (i : ℕ) → length ds ≡ i → AllZip (Gives hash) (take i ds) xs → AllZip (Gives hash) ds xs
+take_all hash [] xs zero e all = all
+take_all hash [] xs (suc i) e all = absurd (omega (arith, e))
+take_all hash (d ∷ ds) xs zero e all = absurd (omega (arith, e))
+take_all hash (d ∷ ds) [] (suc i) e all = absurd all
+take_all hash (d ∷ ds) (x ∷ xs) (suc i) e all = (all.0, take_all hash ds xs i (omega (arith, e)) all.1)
+
+pub more_in : (P : Given → Type 0) (old new : List Given) (x : Given) → new ≡ old ++ x ∷ [] → ((y : Given) → In y old → P y) → P x → (y : Given) → In y new → P y
+more_in P old new x is each one y there = go (In-append y old (x ∷ []) (subst (λ zs. In y zs) is there))
+  where
+    go : In y old ⊎ In y (x ∷ []) → P y
+    go (inl h) = each y h
+    go (inr (inl same)) = subst P (sym same) one
+    go (inr (inr h)) = absurd h
+
+pub got_below : (ds : List Text) (i : ℕ) → i < length ds → slice_get ds i ≡ None → ⊥
+got_below [] i below none = omega (arith, below)
+got_below (d ∷ ds) zero below none = cc none
+got_below (d ∷ ds) (suc i) below none = got_below ds i (omega (arith, below)) none
+
+-- the refusal of a disclosure is that at its place
+pub unread_told : (hash : HashAlg) (ds : List Text) (i : ℕ) (d : Text) (before : List Given) (e : DisclosureError) → slice_get ds i ≡ Some d → AllZip (Gives hash) (take i ds) before → IsRefused d e
+    → OnFault (unread_at i e) (IsUnreadAt hash ds)
+unread_told hash ds i d before DisclosureError.Memory there read refused = tt
+unread_told hash ds i d before DisclosureError.NotBase64 there read refused = record { i = i; disclosure = d; there = there; before = before; read = read; unread = unread_of d DisclosureError.NotBase64 refused (λ e. cc e); fault_is = refl }
+unread_told hash ds i d before DisclosureError.NotJson there read refused = record { i = i; disclosure = d; there = there; before = before; read = read; unread = unread_of d DisclosureError.NotJson refused (λ e. cc e); fault_is = refl }
+unread_told hash ds i d before DisclosureError.NotWhole there read refused = record { i = i; disclosure = d; there = there; before = before; read = read; unread = unread_of d DisclosureError.NotWhole refused (λ e. cc e); fault_is = refl }
+unread_told hash ds i d before DisclosureError.NotDisclosure there read refused = record { i = i; disclosure = d; there = there; before = before; read = read; unread = unread_of d DisclosureError.NotDisclosure refused (λ e. cc e); fault_is = refl }

@@ -1,0 +1,53 @@
+use Rattle.std.proofs.Common.{Err, refl, sym, ap, subst, ◌∙◌}
+use Rattle.std.specs.Option.{option_copied}
+use Rattle.compact_form.specs.Views.{jwt_of}
+use Rattle.verifier_core.specs.Verdict.{key_for, IsAlgRefused, IsTypeRefused, IsBadSignature}
+use Rattle.verifier_core.specs.Check.{bad_header, bad_alg, bad_type, no_key, not_signed}
+use Rattle.verifier_core.proofs.CheckTests.{said_yes, said_no}
+use Rattle.verifier_core.proofs.check_signed.check_signed.Goals as goal
+
+pub returns-in-Err-Unreadable-clause-refused : goal.returns-in-Err-Unreadable-clause-refused
+returns-in-Err-Unreadable-clause-refused c = rw c.fails.ensures (bad_header (c.in-Err-Unreadable.ensures.unreadable (ap Err c.in-Err-Unreadable.field-0-is)) refl)
+
+pub returns-then-is_alg_refused-clause-refused : goal.returns-then-is_alg_refused-clause-refused
+returns-then-is_alg_refused-clause-refused c =
+    rw c.fails-then-is_alg_refused.ensures (bad_alg c.in-Ok.header c.in-Ok.ensures.ok (subst (λ a. IsAlgRefused c.args.algs.now a) c.as_str.ensures c.if-is_alg_refused.ensures) refl)
+
+pub returns-then-is_type_refused-clause-refused : goal.returns-then-is_type_refused-clause-refused
+returns-then-is_type_refused-clause-refused c =
+    rw c.fails-then-is_type_refused.ensures
+    (bad_type c.in-Ok.header c.in-Ok.ensures.ok
+    (λ w. c.if-is_alg_refused.ensures (subst (λ a. IsAlgRefused c.args.algs.now a) (sym c.as_str.ensures) w))
+    (subst (λ t. IsTypeRefused (option_copied c.args.typ) t) c.as_ref.ensures.value c.if-is_type_refused.ensures)
+    refl)
+
+pub returns-in_default-clause-refused : goal.returns-in_default-clause-refused
+returns-in_default-clause-refused c =
+    rw c.fails-in_default.ensures
+    (no_key c.in-Ok.header c.in-Ok.ensures.ok
+    (λ w. c.if-is_alg_refused.ensures (subst (λ a. IsAlgRefused c.args.algs.now a) (sym c.as_str.ensures) w))
+    (λ w. c.if-is_type_refused.ensures (subst (λ t. IsTypeRefused (option_copied c.args.typ) t) (sym c.as_ref.ensures.value) w))
+    (sym (c.in_default.ensures ∙ ap (λ k. key_for c.args.keys.now k) c.as_ref-2.ensures.value))
+    refl)
+
+pub returns-then-branch-clause-refused : goal.returns-then-branch-clause-refused
+returns-then-branch-clause-refused c =
+    rw c.fails-then-branch.ensures
+    (not_signed c.in-Ok.header c.in-Ok.ensures.ok
+    (λ w. c.if-is_alg_refused.ensures (subst (λ a. IsAlgRefused c.args.algs.now a) (sym c.as_str.ensures) w))
+    (λ w. c.if-is_type_refused.ensures (subst (λ t. IsTypeRefused (option_copied c.args.typ) t) (sym c.as_ref.ensures.value) w))
+    c.in-Some.key.now
+    (sym (c.in-Some.ensures ∙ ap (λ k. key_for c.args.keys.now k) c.as_ref-2.ensures.value))
+    (said_yes c.in_ok-is_signature_bad.field-0 (IsBadSignature c.in-Some.key.now (jwt_of c.args.signed)) c.in_ok-is_signature_bad.ensures c.if-branch.true)
+    refl)
+
+pub returns-clause-ok : goal.returns-clause-ok
+returns-clause-ok c = record {
+  header = c.in-Ok.header;
+  is_header = c.in-Ok.ensures.ok;
+  alg = λ w. c.if-is_alg_refused.ensures (subst (λ a. IsAlgRefused c.args.algs.now a) (sym c.as_str.ensures) w);
+  typ = λ w. c.if-is_type_refused.ensures (subst (λ t. IsTypeRefused (option_copied c.args.typ) t) (sym c.as_ref.ensures.value) w);
+  key = c.in-Some.key.now;
+  key_is = sym (c.in-Some.ensures ∙ ap (λ k. key_for c.args.keys.now k) c.as_ref-2.ensures.value);
+  good = said_no c.in_ok-is_signature_bad.field-0 (IsBadSignature c.in-Some.key.now (jwt_of c.args.signed)) c.in_ok-is_signature_bad.ensures c.if-branch.false;
+}

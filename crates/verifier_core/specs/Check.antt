@@ -1,0 +1,122 @@
+-- What the check of a token answers, and what its steps answer.
+use Rattle.std.specs.Prelude.{◌≡◌, ◌≤◌, ℕ, Bool, true, false, List, ◌∷◌, [], ◌++◌, take, slice_get, Option, Some, None, ◌⊎◌}
+use Rattle.std.specs.List.{AllZip}
+use Rattle.claim_tree.specs.Tree.{Text, Tree, Members, IsRanged, depth}
+use Rattle.compact_form.specs.declared.fault.Fault.{Fault}
+use Rattle.compact_form.specs.declared.fault.Place.{Place}
+use Rattle.compact_form.specs.declared.fault.Place.TheVariants.{Nowhere, At}
+use Rattle.compact_form.specs.declared.parts.JwtParts.{JwtParts}
+use Rattle.jws_part.specs.declared.header.Header.{Header}
+use Rattle.jws_part.specs.Header.{IsHeader, IsUnreadable, IsCritical}
+use Rattle.jws_part.specs.Part.{IsBody, IsNoObject}
+use Rattle.hmac_sign.specs.declared.key_set.NamedKey.{NamedKey}
+use Rattle.disclosure.specs.Digest.{payload_hash}
+use Rattle.disclosure.specs.declared.errors.DisclosureError.{DisclosureError}
+use Rattle.disclosure.specs.declared.digests.HashAlg.{HashAlg}
+use Rattle.digest_sites.specs.Given.{Given}
+use Rattle.json_form.specs.declared.token.Token.{Token}
+use Rattle.rebuild_core.specs.Given.{look_ups, counted, RoseWithin}
+use Rattle.rebuild_core.specs.declared.errors.ProcessError.{ProcessError}
+use Rattle.verifier_core.specs.Condition.{Condition, number_of}
+use Rattle.verifier_core.specs.Verdict.{Rules, key_for, HasPayload, HasContent, IsAlgRefused, IsTypeRefused, IsBadSignature, IsUnread, Gives}
+use Rattle.verifier_core.specs.declared.check.VerifyError.{VerifyError}
+
+-- the fault that is answered, where memory did not end
+abbrev pub OnFault : VerifyError → (Fault → Type 0) → Type 0
+OnFault VerifyError.Memory P = Unit {0}
+OnFault (VerifyError.Fault fault) P = P fault
+
+abbrev pub asked : List NamedKey → List Text → Option Text → Rules
+asked keys algs typ = record { keys = keys; algs = algs; typ = typ }
+
+-- the algorithm of the digests
+abbrev pub HasHash : Token → HashAlg → Type 0
+HasHash token hash = (body : Tree) × HasPayload token body × (payload_hash body ≡ Some hash)
+
+-- the look-ups of a token that is checked
+abbrev pub IsCounted : Token → ℕ → ℕ → Type 0
+IsCounted token old new = (payload : Tree) × (given : List Given) × HasContent token payload given × (new ≡ counted old (look_ups payload given))
+
+-- the look-ups of a token that is not: no more than of one that is
+abbrev pub IsCountedWithin : Token → ℕ → ℕ → Type 0
+IsCountedWithin token old new = (new ≡ old) ⊎ ((payload : Tree) × (given : List Given) × HasContent token payload given × RoseWithin (look_ups payload given) old new)
+
+-- where one of the conditions 5 to 13 fails, nothing is looked up
+abbrev pub IsUncounted : ℕ → ℕ → Fault → Type 0
+IsUncounted old new fault = fault.number ≤ 13 → new ≡ old
+
+-- ---- for private functions
+
+-- none with a lower number fails
+abbrev pub Passes : ℕ → (Condition → Place → Type 0) → Type 0
+Passes k FailsSo = (c : Condition) (place : Place) → FailsSo c place → k ≤ number_of c
+
+abbrev pub unplaced : ℕ → Fault
+unplaced number = record { number = number; place = Nowhere }
+
+abbrev pub placed : ℕ → ℕ → Fault
+placed number i = record { number = number; place = At i }
+
+-- the answer of a test
+abbrev pub Tells : Bool → Type 0 → Type 0
+Tells true P = P
+Tells false P = P → ⊥
+
+-- the header, its algorithm, its type, its key and the signature are good
+pub record IsSigned (signed : JwtParts) (outer : Members) (rules : Rules) : Type 0 where
+  pub header : Header
+  pub is_header : IsHeader signed.protected outer header
+  pub alg : IsAlgRefused rules.algs header.alg → ⊥
+  pub typ : IsTypeRefused rules.typ header.typ → ⊥
+  pub key : List ℕ
+  pub key_is : key_for rules.keys header.kid ≡ Some key
+  pub good : IsBadSignature key signed → ⊥
+
+-- the lowest of the conditions 5 to 10 that fails
+pub data IsSignedFault (signed : JwtParts) (outer : Members) (rules : Rules) (fault : Fault) : Type 0 where
+  bad_header : IsUnreadable signed.protected outer → fault ≡ unplaced 5 → IsSignedFault signed outer rules fault
+  critical : IsCritical signed.protected outer → fault ≡ unplaced 6 → IsSignedFault signed outer rules fault
+  bad_alg : (header : Header) → IsHeader signed.protected outer header → IsAlgRefused rules.algs header.alg → fault ≡ unplaced 7 → IsSignedFault signed outer rules fault
+  bad_type : (header : Header) → IsHeader signed.protected outer header → (IsAlgRefused rules.algs header.alg → ⊥) → IsTypeRefused rules.typ header.typ → fault ≡ unplaced 8 → IsSignedFault signed outer rules fault
+  no_key : (header : Header) → IsHeader signed.protected outer header → (IsAlgRefused rules.algs header.alg → ⊥) → (IsTypeRefused rules.typ header.typ → ⊥) → key_for rules.keys header.kid ≡ None → fault ≡ unplaced 9 → IsSignedFault signed outer rules fault
+  not_signed : (header : Header) → IsHeader signed.protected outer header → (IsAlgRefused rules.algs header.alg → ⊥) → (IsTypeRefused rules.typ header.typ → ⊥) → (key : List ℕ) → key_for rules.keys header.kid ≡ Some key → IsBadSignature key signed → fault ≡ unplaced 10 → IsSignedFault signed outer rules fault
+
+-- the lowest of the conditions 11 and 12 that fails
+pub data IsPayloadFault (payload : Text) (fault : Fault) : Type 0 where
+  no_body : IsNoObject payload → fault ≡ unplaced 11 → IsPayloadFault payload fault
+  no_hash : (body : Tree) → IsBody payload body → payload_hash body ≡ None → fault ≡ unplaced 12 → IsPayloadFault payload fault
+
+-- the first disclosure that is not read
+pub record IsUnreadAt (hash : HashAlg) (disclosures : List Text) (fault : Fault) : Type 0 where
+  pub i : ℕ
+  pub disclosure : Text
+  pub there : slice_get disclosures i ≡ Some disclosure
+  pub before : List Given
+  pub read : AllZip (Gives hash) (take i disclosures) before
+  pub unread : IsUnread disclosure
+  pub fault_is : fault ≡ placed 13 i
+
+-- the answer for a disclosure that is not read
+abbrev pub unread_at : ℕ → DisclosureError → VerifyError
+unread_at i DisclosureError.Memory = VerifyError.Memory
+unread_at i _ = VerifyError.Fault (placed 13 i)
+
+-- one more is given
+pub record Adds (hash : HashAlg) (disclosure : Text) (old new : List Given) : Type 0 where
+  pub one : Given
+  pub gives : Gives hash disclosure one
+  pub ranged : IsRanged one.value
+  pub shallow : depth one.value ≤ 127
+  pub more : new ≡ old ++ one ∷ []
+
+-- the fault of a refusal to process
+abbrev pub refusal_of : ProcessError → VerifyError
+refusal_of ProcessError.Memory = VerifyError.Memory
+refusal_of (ProcessError.RepeatedDisclosure i) = VerifyError.Fault (placed 14 i)
+refusal_of (ProcessError.ReservedMisused i) = VerifyError.Fault (placed 15 i)
+refusal_of (ProcessError.RepeatedDigest i) = VerifyError.Fault (placed 16 i)
+refusal_of (ProcessError.Unreferenced i) = VerifyError.Fault (placed 17 i)
+refusal_of (ProcessError.WrongShape i) = VerifyError.Fault (placed 18 i)
+refusal_of (ProcessError.ReservedName i) = VerifyError.Fault (placed 19 i)
+refusal_of (ProcessError.NameClash i) = VerifyError.Fault (placed 20 i)
+refusal_of ProcessError.TooDeep = VerifyError.Fault (unplaced 21)

@@ -1,0 +1,182 @@
+-- The verdict on a token: what fails each condition and at which place, and the lowest that fails (RFC 9901 section 7.3).
+use Rattle.std.specs.Prelude.{◌≡◌, ◌≢◌, ℕ, ◌<◌, ◌≤◌, ◌⊎◌, ℤ, pos, ◌+ℤ◌, ◌≤ℤ◌, ◌<ℤ◌, List, Option, Some, None, codes, option_map, slice_get}
+use Rattle.std.specs.List.{AllZip}
+use Rattle.b64url_text.specs.Base64url.{Decodes}
+use Rattle.claim_tree.specs.Tree.{Text, Tree, leaf, text, whole, get}
+use Rattle.claim_tree.specs.Lists.{At as StandsAt}
+use Rattle.compact_form.specs.declared.fault.Fault.{Fault}
+use Rattle.compact_form.specs.declared.fault.Place.{Place}
+use Rattle.compact_form.specs.declared.fault.Place.TheVariants.{Nowhere, At}
+use Rattle.compact_form.specs.declared.parts.JwtParts.{JwtParts}
+use Rattle.compact_form.specs.Token as file
+use Rattle.json_form.specs.declared.token.Token.{Token}
+use Rattle.json_form.specs.Token.{IsToken}
+use Rattle.jws_part.specs.declared.header.Header.{Header}
+use Rattle.jws_part.specs.Header.{IsHeader, IsUnreadable, IsCritical}
+use Rattle.jws_part.specs.Part.{IsBody, IsNoObject}
+use Rattle.hmac_sign.specs.declared.key_set.NamedKey.{NamedKey}
+use Rattle.hmac_sign.specs.Keys.{key_named}
+use Rattle.hmac_sign.specs.Hmac.{IsGood}
+use Rattle.disclosure.specs.Digest.{digest_of, payload_hash}
+use Rattle.disclosure.specs.Disclosure.{IsDisclosure}
+use Rattle.disclosure.specs.declared.digests.HashAlg.{HashAlg}
+use Rattle.digest_sites.specs.Given.{Given}
+use Rattle.marked_tree.specs.Marked.{Marked, strip}
+use Rattle.rebuild_core.specs.Payload.{without_alg}
+use Rattle.rebuild_core.specs.Opening.{processed}
+use Rattle.rebuild_core.specs.Conditions as opening
+use Rattle.verifier_core.specs.Condition as condition
+use Rattle.verifier_core.specs.Condition.{Condition, number_of}
+use Rattle.verifier_core.specs.declared.policy.Policy.{Policy}
+
+-- ---- places
+
+-- the condition names no place
+abbrev pub Unplaced : Type 0 → Place → Type 0
+Unplaced IsFailed place = (place ≡ Nowhere) × IsFailed
+
+-- the condition fails at a number
+abbrev pub Numbered : (ℕ → Type 0) → Place → Type 0
+Numbered FailsAt place = (i : ℕ) × (place ≡ At i) × FailsAt i
+
+-- ---- what a token says
+
+-- what is asked of a token itself: who may sign it, with which algorithm, and its type
+pub record Rules : Type 0 where
+  pub keys : List NamedKey
+  pub algs : List Text
+  pub typ : Option Text
+
+-- the headers of the token are read, and say this
+abbrev pub HasHeader : Token → Header → Type 0
+HasHeader token header = IsHeader token.parts.signed.protected token.outer header
+
+-- the algorithm is not HS256, or is not one of those
+abbrev pub IsAlgRefused : List Text → Text → Type 0
+IsAlgRefused algs alg = (alg ≢ codes "HS256") ⊎ ((i : ℕ) → StandsAt algs i alg → ⊥)
+
+-- a type is asked for, and the header has none or another
+abbrev pub IsTypeRefused : Option Text → Option Text → Type 0
+IsTypeRefused asked typ = (name : Text) × (asked ≡ Some name) × (typ ≢ Some name)
+
+-- the key that the header asks for: by its name, or else the first
+abbrev pub key_for : List NamedKey → Option Text → Option (List ℕ)
+key_for keys (Some kid) = key_named keys kid
+key_for keys None = option_map (λ named. named.key) (slice_get keys 0)
+
+-- the signature is no base64url text, or is not good under the key
+abbrev pub IsBadSignature : List ℕ → JwtParts → Type 0
+IsBadSignature key signed = (signature : List ℕ) → Decodes signed.signature signature → IsGood key signed.protected signed.payload signature → ⊥
+
+abbrev pub HasPayload : Token → Tree → Type 0
+HasPayload token payload = IsBody token.parts.signed.payload payload
+
+-- the text is no disclosure
+abbrev pub IsUnread : Text → Type 0
+IsUnread disclosure = (salt : Tree) (name : Option Text) (value : Tree) → IsDisclosure disclosure salt name value → ⊥
+
+-- the disclosure has this digest, and gives this name and value
+abbrev pub Gives : HashAlg → Text → Given → Type 0
+Gives hash disclosure given = (given.digest ≡ digest_of hash disclosure) × (salt : Tree) × IsDisclosure disclosure salt given.name given.value
+
+-- the payload of the token without its own `_sd_alg`, and what its disclosures give
+pub record HasContent (token : Token) (payload : Tree) (given : List Given) : Type 0 where
+  pub body : Tree
+  pub is_body : HasPayload token body
+  pub payload_is : payload ≡ without_alg body
+  pub hash : HashAlg
+  pub hash_is : payload_hash body ≡ Some hash
+  pub disclosures : AllZip (Gives hash) token.parts.disclosures given
+
+-- the condition on the content fails at this place
+abbrev pub OfContent : (Tree → List Given → ℕ → Type 0) → Token → ℕ → Type 0
+OfContent FailsAt token i = (payload : Tree) × (given : List Given) × HasContent token payload given × FailsAt payload given i
+
+-- the token processes to this payload
+abbrev pub Opens : Token → Marked → Type 0
+Opens token marked = (payload : Tree) × (given : List Given) × HasContent token payload given × (marked ≡ processed payload given)
+
+-- ---- what the processed payload claims
+
+-- the claim is there, and is this whole number
+abbrev pub IsMoment : Tree → Text → ℤ → Type 0
+IsMoment payload name moment = get payload name ≡ Some (leaf (whole moment))
+
+-- the claim is there, and is no whole number
+abbrev pub IsNoMoment : Tree → Text → Type 0
+IsNoMoment payload name = (claim : Tree) × (get payload name ≡ Some claim) × ((moment : ℤ) → claim ≢ leaf (whole moment))
+
+-- ---- the conditions
+
+-- what fails each condition on a token, where no lower one fails
+abbrev pub TokenFails : Token → Rules → Condition → Place → Type 0
+TokenFails token rules condition.header_unreadable place = Unplaced (IsUnreadable token.parts.signed.protected token.outer) place
+TokenFails token rules condition.header_critical place = Unplaced (IsCritical token.parts.signed.protected token.outer) place
+TokenFails token rules condition.alg_refused place = Unplaced ((header : Header) × HasHeader token header × IsAlgRefused rules.algs header.alg) place
+TokenFails token rules condition.type_refused place = Unplaced ((header : Header) × HasHeader token header × IsTypeRefused rules.typ header.typ) place
+TokenFails token rules condition.issuer_key_unknown place = Unplaced ((header : Header) × HasHeader token header × (key_for rules.keys header.kid ≡ None)) place
+TokenFails token rules condition.bad_signature place =
+    Unplaced ((header : Header) × HasHeader token header × (key : List ℕ) × (key_for rules.keys header.kid ≡ Some key) × IsBadSignature key token.parts.signed) place
+TokenFails token rules condition.payload_unreadable place = Unplaced (IsNoObject token.parts.signed.payload) place
+TokenFails token rules condition.hash_unknown place = Unplaced ((body : Tree) × HasPayload token body × (payload_hash body ≡ None)) place
+TokenFails token rules condition.disclosure_unreadable place = Numbered (λ i. (disclosure : Text) × StandsAt token.parts.disclosures i disclosure × IsUnread disclosure) place
+TokenFails token rules condition.repeated_disclosure place = Numbered (OfContent (λ payload given i. opening.RepeatedDisclosure given i) token) place
+TokenFails token rules condition.reserved_misused place = Numbered (OfContent opening.Misused token) place
+TokenFails token rules condition.repeated_digest place = Numbered (OfContent opening.RepeatedDigest token) place
+TokenFails token rules condition.unreferenced_disclosure place = Numbered (OfContent opening.Unreferenced token) place
+TokenFails token rules condition.wrong_shape place = Numbered (OfContent opening.WrongShape token) place
+TokenFails token rules condition.reserved_name place = Numbered (OfContent opening.ReservedName token) place
+TokenFails token rules condition.name_clash place = Numbered (OfContent opening.NameClash token) place
+TokenFails token rules condition.too_deep place = Unplaced ((payload : Tree) × (given : List Given) × HasContent token payload given × opening.IsTooDeep payload given) place
+TokenFails token rules _ place = ⊥
+
+-- what fails each condition on the processed payload, at a moment in seconds since 1970
+abbrev pub ClaimFails : Tree → Policy → ℕ → Condition → Place → Type 0
+ClaimFails payload policy now condition.issuer_refused place =
+    Unplaced ((iss : Text) × (policy.iss ≡ Some iss) × (get payload (codes "iss") ≢ Some (leaf (text iss)))) place
+ClaimFails payload policy now condition.claim_missing place = Numbered (λ i. (name : Text) × StandsAt policy.require i name × (get payload name ≡ None)) place
+ClaimFails payload policy now condition.time_unreadable place = Unplaced (IsNoMoment payload (codes "exp") ⊎ IsNoMoment payload (codes "nbf")) place
+ClaimFails payload policy now condition.expired place = Unplaced ((moment : ℤ) × IsMoment payload (codes "exp") moment × ((moment +ℤ pos policy.skew) ≤ℤ pos now)) place
+ClaimFails payload policy now condition.not_yet place = Unplaced ((moment : ℤ) × IsMoment payload (codes "nbf") moment × ((pos now +ℤ pos policy.skew) <ℤ moment)) place
+ClaimFails payload policy now _ place = ⊥
+
+abbrev pub rules_of : Policy → Rules
+rules_of policy = record { keys = policy.keys; algs = policy.algs; typ = policy.typ }
+
+-- what fails each condition on a token file under a policy
+abbrev pub FileFails : List ℕ → Condition → Place → Type 0
+FileFails content c place = file.Fails content (record { number = number_of c; place = place })
+
+pub data Fails (content : List ℕ) (policy : Policy) (now : ℕ) (c : Condition) (place : Place) : Type 0 where
+  of_file : FileFails content c place → Fails content policy now c place
+  of_token : (token : Token) → IsToken content token → TokenFails token (rules_of policy) c place → Fails content policy now c place
+  of_claims : (token : Token) (marked : Marked) → IsToken content token → Opens token marked → ClaimFails (strip marked) policy now c place → Fails content policy now c place
+
+-- ---- the verdict
+
+-- places of one condition, in their order
+abbrev pub IsNoLater : Place → Place → Type 0
+IsNoLater (At i) (At j) = i ≤ j
+IsNoLater _ _ = Unit {0}
+
+-- a condition fails, with its number and at its least place, and none lower
+pub record IsLowest (FailsSo : Condition → Place → Type 0) (fault : Fault) : Type 0 where
+  pub failed : Condition
+  pub number_is : fault.number ≡ number_of failed
+  pub fails : FailsSo failed fault.place
+  pub lowest : (other : Condition) (place : Place) → FailsSo other place → (number_of failed < number_of other) ⊎ ((other ≡ failed) × IsNoLater fault.place place)
+
+abbrev pub NoneFails : (Condition → Place → Type 0) → Type 0
+NoneFails FailsSo = (c : Condition) (place : Place) → FailsSo c place → ⊥
+
+-- no condition on a token fails, and it processes to this payload
+pub record IsChecked (token : Token) (rules : Rules) (marked : Marked) : Type 0 where
+  pub passes : NoneFails (TokenFails token rules)
+  pub opens : Opens token marked
+
+-- no condition fails, and the token processes to this payload
+pub record IsAccepted (content : List ℕ) (policy : Policy) (now : ℕ) (marked : Marked) : Type 0 where
+  pub passes : NoneFails (Fails content policy now)
+  pub token : Token
+  pub is_token : IsToken content token
+  pub opens : Opens token marked

@@ -1,0 +1,66 @@
+// What the disclosures of a token give.
+ghost use Rattle.std.specs.Prelude.{◌≡◌, ◌≤◌, IfOk, IfErr, OnOk};
+ghost use Rattle.std.specs.List.{AllZip};
+ghost use Rattle.rebuild_core.specs.Answer.{ValuesShallow, ValuesRanged};
+ghost use Rattle.disclosure.specs.Refusals.{IsRefused};
+ghost use Rattle.verifier_core.specs.Verdict.{Gives};
+ghost use Rattle.verifier_core.specs.Check.{OnFault, Adds, IsUnreadAt, unread_at};
+
+use crate::check::{VerifyError, fails_at};
+use compact_form::DISCLOSURE_UNREADABLE;
+use digest_sites::{Given, GivenList};
+use disclosure::{DisclosureError, HashAlg, read_disclosure};
+use sd_outside::TextList;
+use std::alloc::Global;
+
+// Reads one more disclosure.
+pub(crate) fn push_given(
+    alloc: Global,
+    hash: HashAlg,
+    given: &mut GivenList,
+    text: &str,
+) -> Result<(), DisclosureError>
+    ensures ok { OnOk result (Adds hash text.now given.old given.new) }
+    ensures refused { IfErr result (IsRefused text.now) }
+{
+    let disclosure = read_disclosure(alloc, text)?;
+    let digest = disclosure.digest(alloc, hash)?;
+    given.push(Given {
+        digest,
+        name: disclosure.name,
+        value: disclosure.value,
+    })?;
+    Ok(())
+}
+
+fn unread(i: usize, error: DisclosureError) -> VerifyError
+    ensures { result ≡ unread_at i error }
+{
+    match error {
+        DisclosureError::Memory => VerifyError::Memory,
+        _ => fails_at(DISCLOSURE_UNREADABLE, i),
+    }
+}
+
+// Condition 13.
+pub(crate) fn read_given(
+    alloc: Global,
+    hash: HashAlg,
+    disclosures: &TextList,
+) -> Result<GivenList, VerifyError>
+    ensures ok { IfOk result (AllZip (Gives hash) disclosures.now) }
+    ensures shallow { IfOk result ValuesShallow }
+    ensures ranged { IfOk result ValuesRanged }
+    ensures refused { IfErr result (λ e. OnFault e (IsUnreadAt hash disclosures.now)) }
+{
+    let mut given = GivenList::new(alloc);
+    for i in 0..disclosures.len() {
+        let Some(text) = disclosures.at(i) else {
+            unreachable!();
+        };
+        if let Err(error) = push_given(alloc, hash, &mut given, text.as_str()) {
+            return Err(unread(i, error));
+        }
+    }
+    Ok(given)
+}

@@ -1,0 +1,34 @@
+// The payload of a token, and its hash.
+ghost use Rattle.std.specs.Prelude.{◌≡◌, ◌≤◌, IfOk, IfErr, Some};
+ghost use Rattle.claim_tree.specs.Tree.{IsRanged, depth as depth_of};
+ghost use Rattle.claim_tree.specs.View.{tree_of};
+ghost use Rattle.jws_part.specs.Part.{IsBody};
+ghost use Rattle.disclosure.specs.Digest.{payload_hash as payload_hash_of};
+ghost use Rattle.verifier_core.specs.Check.{OnFault, IsPayloadFault};
+
+use crate::check::VerifyError;
+use crate::check_signed::fails;
+use claim_tree::Tree;
+use compact_form::{HASH_UNKNOWN, PAYLOAD_UNREADABLE};
+use disclosure::{HashAlg, payload_hash};
+use jws_part::{BodyError, read_body};
+use std::alloc::Global;
+
+// The conditions 11 and 12.
+pub(crate) fn read_payload(alloc: Global, payload: &str) -> Result<(Tree, HashAlg), VerifyError>
+    ensures ok { IfOk result (λ p. IsBody payload.now (tree_of p.0)) }
+    ensures hash { IfOk result (λ p. payload_hash_of (tree_of p.0) ≡ Some p.1) }
+    ensures ranged { IfOk result (λ p. IsRanged (tree_of p.0)) }
+    ensures depth { IfOk result (λ p. depth_of (tree_of p.0) ≤ 127) }
+    ensures refused { IfErr result (λ e. OnFault e (IsPayloadFault payload.now)) }
+{
+    let body = match read_body(alloc, payload) {
+        Ok(body) => body,
+        Err(BodyError::Memory) => return Err(VerifyError::Memory),
+        Err(BodyError::Unreadable) => return Err(fails(PAYLOAD_UNREADABLE)),
+    };
+    match payload_hash(&body) {
+        Some(hash) => Ok((body, hash)),
+        None => Err(fails(HASH_UNKNOWN)),
+    }
+}

@@ -1,0 +1,123 @@
+// The header of a token, and its signature.
+ghost use Rattle.std.specs.Prelude.{◌≡◌, ℕ, IfOk, IfErr, OnOk, option_map};
+ghost use Rattle.std.specs.Option.{option_copied};
+ghost use Rattle.claim_tree.specs.Lists.{At as StandsAt};
+ghost use Rattle.compact_form.specs.Views.{jwt_of};
+ghost use Rattle.jws_part.specs.Header.{IsHeader};
+ghost use Rattle.verifier_core.specs.Verdict.{key_for as key_for_of, IsAlgRefused, IsTypeRefused, IsBadSignature};
+ghost use Rattle.verifier_core.specs.Check.{OnFault, asked, unplaced, Tells, IsSigned, IsSignedFault};
+ghost use Rattle.verifier_core.specs.declared.check.VerifyError as error;
+
+use crate::check::VerifyError;
+use crate::{ALG_REFUSED, BAD_SIGNATURE, HEADER_CRITICAL, ISSUER_KEY_UNKNOWN, TYPE_REFUSED};
+use b64url_text::{DecodeError, decode};
+use claim_tree::TreeMap;
+use compact_form::{Fault, HEADER_UNREADABLE, JwtView, Place};
+use hmac_sign::{Checker, Hs256Key, KeySet};
+use jws_part::{HeaderError, read_header};
+use sd_outside::{NoMemory, TextBox, TextList};
+use std::alloc::Global;
+
+// A condition that names no place.
+pub(crate) fn fails(number: u8) -> VerifyError
+    ensures { result ≡ error.VerifyError.Fault (unplaced number) }
+{
+    VerifyError::Fault(Fault {
+        number,
+        place: Place::Nowhere,
+    })
+}
+
+// The key that a header asks for.
+fn key_for<'a>(keys: &'a KeySet, kid: Option<&TextBox>) -> Option<&'a Hs256Key>
+    ensures { option_map (λ key. key.now) result ≡ key_for_of keys.now (option_copied kid.entry) }
+{
+    match kid {
+        Some(kid) => keys.find(kid.as_str()),
+        None => keys.first(),
+    }
+}
+
+fn is_at(algs: &TextList, i: usize, alg: &str) -> bool
+    ensures { Tells result (StandsAt algs.now i alg.now) }
+{
+    match algs.at(i) {
+        Some(other) => other.as_str() == alg,
+        None => false,
+    }
+}
+
+fn is_among(algs: &TextList, alg: &str) -> bool
+    ensures { Tells result ((i : ℕ) × StandsAt algs.now i alg.now) }
+{
+    for i in 0..algs.len() {
+        if is_at(algs, i, alg) {
+            return true;
+        }
+    }
+    false
+}
+
+fn is_alg_refused(algs: &TextList, alg: &str) -> bool
+    ensures { Tells result (IsAlgRefused algs.now alg.now) }
+{
+    if alg != "HS256" {
+        return true;
+    }
+    !is_among(algs, alg)
+}
+
+fn is_type_refused(asked: Option<&TextBox>, typ: Option<&TextBox>) -> bool
+    ensures { Tells result (IsTypeRefused (option_copied asked.entry) (option_copied typ.entry)) }
+{
+    let Some(name) = asked else {
+        return false;
+    };
+    let Some(typ) = typ else {
+        return true;
+    };
+    typ.as_str() != name.as_str()
+}
+
+fn is_signature_bad(alloc: Global, key: &Hs256Key, signed: JwtView<'_>) -> Result<bool, NoMemory>
+    ensures { IfOk result (λ bad. Tells bad (IsBadSignature key.now (jwt_of signed.entry))) }
+{
+    match decode(alloc, signed.signature.as_bytes()) {
+        Ok(signature) => Ok(!key.check(signed.protected, signed.payload, signature.bytes())),
+        Err(DecodeError::NotBase64) => Ok(true),
+        Err(DecodeError::Memory) => Err(NoMemory),
+    }
+}
+
+/// The conditions 5 to 10.
+pub(crate) fn check_signed(
+    alloc: Global,
+    signed: JwtView<'_>,
+    outer: &TreeMap,
+    keys: &KeySet,
+    algs: &TextList,
+    typ: Option<&TextBox>,
+) -> Result<(), VerifyError>
+    ensures ok { OnOk result (IsSigned (jwt_of signed.entry) outer.now (asked keys.now algs.now (option_copied typ.entry))) }
+    ensures refused { IfErr result (λ e. OnFault e (IsSignedFault (jwt_of signed.entry) outer.now (asked keys.now algs.now (option_copied typ.entry)))) }
+{
+    let header = match read_header(alloc, signed.protected, outer) {
+        Ok(header) => header,
+        Err(HeaderError::Memory) => return Err(VerifyError::Memory),
+        Err(HeaderError::Unreadable) => return Err(fails(HEADER_UNREADABLE)),
+        Err(HeaderError::Critical) => return Err(fails(HEADER_CRITICAL)),
+    };
+    if is_alg_refused(algs, header.alg.as_str()) {
+        return Err(fails(ALG_REFUSED));
+    }
+    if is_type_refused(typ, header.typ.as_ref()) {
+        return Err(fails(TYPE_REFUSED));
+    }
+    let Some(key) = key_for(keys, header.kid.as_ref()) else {
+        return Err(fails(ISSUER_KEY_UNKNOWN));
+    };
+    if is_signature_bad(alloc, key, signed)? {
+        return Err(fails(BAD_SIGNATURE));
+    }
+    Ok(())
+}
