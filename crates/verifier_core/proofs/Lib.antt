@@ -1,3 +1,4 @@
 pub mod Numbers
+pub mod Lowest
 pub mod Policies
 mod Examples

@@ -1,0 +1,64 @@
+-- The lowest condition that fails, sought step by step.
+use Rattle.std.proofs.Common.{◌≡◌, ℕ, suc, ◌<◌, ◌≤◌, ◌⊎◌, inl, inr, ⊎_elim, refl, sym, subst, arith}
+use Rattle.compact_form.specs.declared.fault.Fault.{Fault}
+use Rattle.compact_form.specs.declared.fault.Place.{Place}
+use Rattle.compact_form.specs.declared.fault.Place.TheVariants.{Nowhere, At}
+use Rattle.claim_tree.specs.Lists.{IsLeast, Nowhere as NoPlace}
+use Rattle.verifier_core.specs.Condition.{Condition, number_of}
+use Rattle.verifier_core.specs.Verdict.{Unplaced, Numbered, IsNoLater, IsLowest, NoneFails}
+use Rattle.verifier_core.proofs.Numbers.{one_condition}
+
+-- each condition that fails has this number or a greater one
+abbrev pub PassesBelow : (Condition → Place → Type 0) → ℕ → Type 0
+PassesBelow FailsSo number = (c : Condition) (place : Place) → FailsSo c place → number ≤ number_of c
+
+-- the condition fails at no place
+abbrev pub Holds : (Condition → Place → Type 0) → Condition → Type 0
+Holds FailsSo c = (place : Place) → FailsSo c place → ⊥
+
+below_or_at : (number other : ℕ) → number ≤ other → (number < other) ⊎ (number ≡ other)
+below_or_at number other h = grind arith
+
+at_or_above : (number other : ℕ) → number ≤ other → (number ≡ other → ⊥) → suc number ≤ other
+at_or_above number other h differs = grind arith
+
+-- the condition holds as well
+pub holds_too : (FailsSo : Condition → Place → Type 0) (held : Condition) → PassesBelow FailsSo (number_of held) → Holds FailsSo held → PassesBelow FailsSo (suc (number_of held))
+holds_too FailsSo held below holds c place fails =
+    at_or_above (number_of held) (number_of c) (below c place fails) (λ same. holds place (subst (λ d. FailsSo d place) (one_condition c held (sym same)) fails))
+
+-- the condition is the lowest that fails, at its least place
+pub lowest_at : (FailsSo : Condition → Place → Type 0) (failed : Condition) (fault : Fault) → fault.number ≡ number_of failed → PassesBelow FailsSo (number_of failed) → FailsSo failed fault.place
+    → ((place : Place) → FailsSo failed place → IsNoLater fault.place place) → IsLowest FailsSo fault
+lowest_at FailsSo failed fault number_is below fails least = record {
+  failed = failed;
+  number_is = number_is;
+  fails = fails;
+  lowest = λ other place h. ⊎_elim (λ less. inl less) (λ same.
+      let is : other ≡ failed = one_condition other failed (sym same) in
+      inr (is, least place (subst (λ c. FailsSo c place) is h)))
+      (below_or_at (number_of failed) (number_of other) (below other place h));
+}
+
+-- where all that may fail are below, none fails
+pub none_fails : (FailsSo : Condition → Place → Type 0) (number : ℕ) → PassesBelow FailsSo number → ((c : Condition) (place : Place) → FailsSo c place → number_of c < number) → NoneFails FailsSo
+none_fails FailsSo number below all c place h = omega (arith, below c place h, all c place h)
+
+-- no place is later than none
+pub nowhere_first : (fault : Fault) → fault.place ≡ Nowhere → (place : Place) → IsNoLater fault.place place
+nowhere_first fault is place = subst (λ p. IsNoLater p place) (sym is) tt
+
+-- the place of a condition that is unplaced
+pub unplaced : (IsFailed : Type 0) → IsFailed → Unplaced IsFailed Nowhere
+unplaced IsFailed h = (refl, h)
+
+-- a least number is the least place
+pub first_numbered : (FailsAt : ℕ → Type 0) (i : ℕ) → IsLeast FailsAt i → (place : Place) → Numbered FailsAt place → IsNoLater (At i) place
+first_numbered FailsAt i least place h = subst (λ p. IsNoLater (At i) p) (sym h.1) (not_below i h.0 (λ less. least.first h.0 less h.2))
+  where
+    not_below : (a b : ℕ) → (b < a → ⊥) → a ≤ b
+    not_below a b h = grind arith
+
+-- no number, no place
+pub none_numbered : (FailsAt : ℕ → Type 0) → NoPlace FailsAt → (place : Place) → Numbered FailsAt place → ⊥
+none_numbered FailsAt none place h = none h.0 h.2
