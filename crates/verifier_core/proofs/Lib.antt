@@ -1,4 +1,5 @@
 pub mod Numbers
 pub mod Lowest
+pub mod ClaimSteps
 pub mod Policies
 mod Examples

@@ -1,11 +1,11 @@
 -- The lowest condition that fails, sought step by step.
-use Rattle.std.proofs.Common.{◌≡◌, ℕ, suc, ◌<◌, ◌≤◌, ◌⊎◌, inl, inr, ⊎_elim, refl, sym, subst, arith}
+use Rattle.std.proofs.Common.{◌≡◌, ℕ, suc, ◌<◌, ◌≤◌, ◌⊎◌, inl, inr, ⊎_elim, sym, subst, arith}
 use Rattle.compact_form.specs.declared.fault.Fault.{Fault}
 use Rattle.compact_form.specs.declared.fault.Place.{Place}
 use Rattle.compact_form.specs.declared.fault.Place.TheVariants.{Nowhere, At}
 use Rattle.claim_tree.specs.Lists.{IsLeast, Nowhere as NoPlace}
 use Rattle.verifier_core.specs.Condition.{Condition, number_of}
-use Rattle.verifier_core.specs.Verdict.{Unplaced, Numbered, IsNoLater, IsLowest, NoneFails}
+use Rattle.verifier_core.specs.Verdict.{Numbered, IsNoLater, IsLowest, NoneFails}
 use Rattle.verifier_core.proofs.Numbers.{one_condition}
 
 -- each condition that fails has this number or a greater one
@@ -48,9 +48,9 @@ none_fails FailsSo number below all c place h = omega (arith, below c place h, a
 pub nowhere_first : (fault : Fault) → fault.place ≡ Nowhere → (place : Place) → IsNoLater fault.place place
 nowhere_first fault is place = subst (λ p. IsNoLater p place) (sym is) tt
 
--- the place of a condition that is unplaced
-pub unplaced : (IsFailed : Type 0) → IsFailed → Unplaced IsFailed Nowhere
-unplaced IsFailed h = (refl, h)
+-- a condition that fails at no place is the lowest
+pub lowest_unplaced : (FailsSo : Condition → Place → Type 0) (failed : Condition) (fault : Fault) → fault.number ≡ number_of failed → fault.place ≡ Nowhere → PassesBelow FailsSo (number_of failed) → FailsSo failed Nowhere → IsLowest FailsSo fault
+lowest_unplaced FailsSo failed fault number_is place_is below fails = lowest_at FailsSo failed fault number_is below (subst (FailsSo failed) (sym place_is) fails) (λ place _. nowhere_first fault place_is place)
 
 -- a least number is the least place
 pub first_numbered : (FailsAt : ℕ → Type 0) (i : ℕ) → IsLeast FailsAt i → (place : Place) → Numbered FailsAt place → IsNoLater (At i) place

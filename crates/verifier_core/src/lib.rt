@@ -3,6 +3,7 @@
 //! [`read_policy`] reads a [`Policy`] from its file. [`fault_line`] is the line that tells of a condition that fails.
 #![tactic(auto)]
 
+mod claims;
 mod conditions;
 pub mod laws;
 mod policy;
