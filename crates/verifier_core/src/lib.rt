@@ -4,6 +4,8 @@
 #![tactic(auto)]
 
 mod claims;
+#[cfg(test)]
+mod claims_tests;
 mod conditions;
 pub mod laws;
 mod policy;
