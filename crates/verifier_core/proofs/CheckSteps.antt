@@ -24,7 +24,8 @@ use Rattle.verifier_core.specs.Condition as condition
 use Rattle.verifier_core.specs.Verdict.{Rules, key_for, HasHeader, HasPayload, IsAlgRefused, IsTypeRefused, IsBadSignature, IsUnread, Gives, HasContent, OfContent, Unplaced, Numbered, TokenFails, IsLowest}
 use Rattle.verifier_core.specs.Check.{OnFault, Passes, unplaced, refusal_of, IsSigned, IsSignedFault, bad_header, critical, bad_alg, bad_type, no_key, not_signed, IsPayloadFault, no_body, no_hash, IsUnreadAt}
 use Rattle.verifier_core.specs.declared.check.VerifyError.{VerifyError}
-use Rattle.verifier_core.proofs.Lowest.{start, step, refuse_unplaced, refuse_placed}
+use Rattle.verifier_core.proofs.Lowest.{holds_too}
+use Rattle.verifier_core.proofs.TokenConditions.{start, refuse_unplaced, refuse_placed}
 
 -- ---- one header
 
@@ -44,32 +45,32 @@ good_signature token rules h key has key_is good place (is, (k, other, found, fo
 
 at7 : (token : Token) (rules : Rules) (h : Header) → HasHeader token h → Passes 7 (TokenFails token rules)
 at7 token rules h has =
-    step (TokenFails token rules) condition.header_critical
-    (step (TokenFails token rules) condition.header_unreadable (start token rules) (λ place w. headers.read_not_unreadable token.parts.signed.protected token.outer h has w.1))
+    holds_too (TokenFails token rules) condition.header_critical
+    (holds_too (TokenFails token rules) condition.header_unreadable (start token rules) (λ place w. headers.read_not_unreadable token.parts.signed.protected token.outer h has w.1))
     (λ place w. headers.read_not_critical token.parts.signed.protected token.outer h has w.1)
 
 at8 : (token : Token) (rules : Rules) (h : Header) → HasHeader token h → (IsAlgRefused rules.algs h.alg → ⊥) → Passes 8 (TokenFails token rules)
-at8 token rules h has alg = step (TokenFails token rules) condition.alg_refused (at7 token rules h has) (none_of (λ x. IsAlgRefused rules.algs x.alg) token h has alg)
+at8 token rules h has alg = holds_too (TokenFails token rules) condition.alg_refused (at7 token rules h has) (none_of (λ x. IsAlgRefused rules.algs x.alg) token h has alg)
 
 at9 : (token : Token) (rules : Rules) (h : Header) → HasHeader token h → (IsAlgRefused rules.algs h.alg → ⊥) → (IsTypeRefused rules.typ h.typ → ⊥) → Passes 9 (TokenFails token rules)
-at9 token rules h has alg typ = step (TokenFails token rules) condition.type_refused (at8 token rules h has alg) (none_of (λ x. IsTypeRefused rules.typ x.typ) token h has typ)
+at9 token rules h has alg typ = holds_too (TokenFails token rules) condition.type_refused (at8 token rules h has alg) (none_of (λ x. IsTypeRefused rules.typ x.typ) token h has typ)
 
 at10 : (token : Token) (rules : Rules) (h : Header) (key : List ℕ) → HasHeader token h → (IsAlgRefused rules.algs h.alg → ⊥) → (IsTypeRefused rules.typ h.typ → ⊥) → key_for rules.keys h.kid ≡ Some key
     → Passes 10 (TokenFails token rules)
 at10 token rules h key has alg typ key_is =
-    step (TokenFails token rules) condition.issuer_key_unknown (at9 token rules h has alg typ)
+    holds_too (TokenFails token rules) condition.issuer_key_unknown (at9 token rules h has alg typ)
     (none_of (λ x. key_for rules.keys x.kid ≡ None) token h has (λ none. let both : Some key ≡ None = sym key_is ∙ none in absurd (cc both)))
 
 pub signed_passes : (token : Token) (rules : Rules) → IsSigned token.parts.signed token.outer rules → Passes 11 (TokenFails token rules)
 signed_passes token rules s =
-    step (TokenFails token rules) condition.bad_signature (at10 token rules s.header s.key s.is_header s.alg s.typ s.key_is)
+    holds_too (TokenFails token rules) condition.bad_signature (at10 token rules s.header s.key s.is_header s.alg s.typ s.key_is)
     (good_signature token rules s.header s.key s.is_header s.key_is s.good)
 
 pub signed_fault : (token : Token) (rules : Rules) (fault : Fault) → IsSignedFault token.parts.signed token.outer rules fault → IsLowest (TokenFails token rules) fault
 signed_fault token rules fault (bad_header w is) = refuse_unplaced (TokenFails token rules) condition.header_unreadable fault is (start token rules) (refl, w)
 signed_fault token rules fault (critical w is) =
     refuse_unplaced (TokenFails token rules) condition.header_critical fault is
-    (step (TokenFails token rules) condition.header_unreadable (start token rules) (λ place u. headers.critical_not_unreadable token.parts.signed.protected token.outer w u.1))
+    (holds_too (TokenFails token rules) condition.header_unreadable (start token rules) (λ place u. headers.critical_not_unreadable token.parts.signed.protected token.outer w u.1))
     (refl, w)
 signed_fault token rules fault (bad_alg h has w is) = refuse_unplaced (TokenFails token rules) condition.alg_refused fault is (at7 token rules h has) (refl, (h, has, w))
 signed_fault token rules fault (bad_type h has alg w is) = refuse_unplaced (TokenFails token rules) condition.type_refused fault is (at8 token rules h has alg) (refl, (h, has, w))
@@ -80,10 +81,10 @@ signed_fault token rules fault (not_signed h has alg typ key key_is w is) =
 -- ---- one payload
 
 at12 : (token : Token) (rules : Rules) (body : Tree) → Passes 11 (TokenFails token rules) → HasPayload token body → Passes 12 (TokenFails token rules)
-at12 token rules body passes has = step (TokenFails token rules) condition.payload_unreadable passes (λ place w. bodies.not_both token.parts.signed.payload body has w.1)
+at12 token rules body passes has = holds_too (TokenFails token rules) condition.payload_unreadable passes (λ place w. bodies.not_both token.parts.signed.payload body has w.1)
 
 pub payload_passes : (token : Token) (rules : Rules) (body : Tree) (hash : HashAlg) → Passes 11 (TokenFails token rules) → HasPayload token body → payload_hash body ≡ Some hash → Passes 13 (TokenFails token rules)
-payload_passes token rules body hash passes has hash_is = step (TokenFails token rules) condition.hash_unknown (at12 token rules body passes has) go
+payload_passes token rules body hash passes has hash_is = holds_too (TokenFails token rules) condition.hash_unknown (at12 token rules body passes has) go
   where
     go : (place : Place) → TokenFails token rules condition.hash_unknown place → ⊥
     go place (is, (other, other_has, none)) =
@@ -124,7 +125,7 @@ UnreadAt token i = (disclosure : Text) × StandsAt token.parts.disclosures i dis
 
 pub given_passes : (token : Token) (rules : Rules) (hash : HashAlg) (given : List Given) → Passes 13 (TokenFails token rules) → AllZip (Gives hash) token.parts.disclosures given → Passes 14 (TokenFails token rules)
 given_passes token rules hash given passes read =
-    step (TokenFails token rules) condition.disclosure_unreadable passes (λ place w. all_read hash token.parts.disclosures given w.0 w.2.0 read w.2.1 w.2.2)
+    holds_too (TokenFails token rules) condition.disclosure_unreadable passes (λ place w. all_read hash token.parts.disclosures given w.0 w.2.0 read w.2.1 w.2.2)
 
 pub given_fault : (token : Token) (rules : Rules) (hash : HashAlg) (fault : Fault) → Passes 13 (TokenFails token rules) → IsUnreadAt hash token.parts.disclosures fault → IsLowest (TokenFails token rules) fault
 given_fault token rules hash fault passes u =
@@ -186,29 +187,29 @@ abbrev Doubled : Tree → List Given → ℕ → Type 0
 Doubled p g i = opening.RepeatedDisclosure g i
 
 at15 : (token : Token) (rules : Rules) (p : Tree) (g : List Given) → HasContent token p g → Passes 14 (TokenFails token rules) → AtNone (opening.RepeatedDisclosure g) → Passes 15 (TokenFails token rules)
-at15 token rules p g has passes none = step (TokenFails token rules) condition.repeated_disclosure passes (nowhere Doubled token p g has none)
+at15 token rules p g has passes none = holds_too (TokenFails token rules) condition.repeated_disclosure passes (nowhere Doubled token p g has none)
 
 at16 : (token : Token) (rules : Rules) (p : Tree) (g : List Given) → HasContent token p g → Passes 15 (TokenFails token rules) → AtNone (opening.Misused p g) → Passes 16 (TokenFails token rules)
-at16 token rules p g has passes none = step (TokenFails token rules) condition.reserved_misused passes (nowhere opening.Misused token p g has none)
+at16 token rules p g has passes none = holds_too (TokenFails token rules) condition.reserved_misused passes (nowhere opening.Misused token p g has none)
 
 at17 : (token : Token) (rules : Rules) (p : Tree) (g : List Given) → HasContent token p g → Passes 16 (TokenFails token rules) → AtNone (opening.RepeatedDigest p g) → Passes 17 (TokenFails token rules)
-at17 token rules p g has passes none = step (TokenFails token rules) condition.repeated_digest passes (nowhere opening.RepeatedDigest token p g has none)
+at17 token rules p g has passes none = holds_too (TokenFails token rules) condition.repeated_digest passes (nowhere opening.RepeatedDigest token p g has none)
 
 at18 : (token : Token) (rules : Rules) (p : Tree) (g : List Given) → HasContent token p g → Passes 14 (TokenFails token rules) → opening.IsReferencedOnce p g → Passes 18 (TokenFails token rules)
 at18 token rules p g has passes r =
-    step (TokenFails token rules) condition.unreferenced_disclosure
+    holds_too (TokenFails token rules) condition.unreferenced_disclosure
     (at17 token rules p g has (at16 token rules p g has (at15 token rules p g has passes r.no_repeated_disclosure) r.no_misuse) r.no_repeated_digest)
     (nowhere opening.Unreferenced token p g has r.no_unreferenced)
 
 at19 : (token : Token) (rules : Rules) (p : Tree) (g : List Given) → HasContent token p g → Passes 18 (TokenFails token rules) → AtNone (opening.WrongShape p g) → Passes 19 (TokenFails token rules)
-at19 token rules p g has passes none = step (TokenFails token rules) condition.wrong_shape passes (nowhere opening.WrongShape token p g has none)
+at19 token rules p g has passes none = holds_too (TokenFails token rules) condition.wrong_shape passes (nowhere opening.WrongShape token p g has none)
 
 at20 : (token : Token) (rules : Rules) (p : Tree) (g : List Given) → HasContent token p g → Passes 19 (TokenFails token rules) → AtNone (opening.ReservedName p g) → Passes 20 (TokenFails token rules)
-at20 token rules p g has passes none = step (TokenFails token rules) condition.reserved_name passes (nowhere opening.ReservedName token p g has none)
+at20 token rules p g has passes none = holds_too (TokenFails token rules) condition.reserved_name passes (nowhere opening.ReservedName token p g has none)
 
 at21 : (token : Token) (rules : Rules) (p : Tree) (g : List Given) → HasContent token p g → Passes 14 (TokenFails token rules) → opening.IsReferencedOnce p g → opening.IsWellNamed p g → Passes 21 (TokenFails token rules)
 at21 token rules p g has passes r n =
-    step (TokenFails token rules) condition.name_clash
+    holds_too (TokenFails token rules) condition.name_clash
     (at20 token rules p g has (at19 token rules p g has (at18 token rules p g has passes r) n.no_wrong_shape) n.no_reserved_name)
     (nowhere opening.NameClash token p g has n.no_name_clash)
 
@@ -219,7 +220,7 @@ shallow token rules p g has low place (is, (q, h, other, deep)) =
     absurd (omega (arith, low, here_deep))
 
 pub content_passes : (token : Token) (rules : Rules) (p : Tree) (g : List Given) → HasContent token p g → Passes 14 (TokenFails token rules) → opening.IsSound p g → Passes 22 (TokenFails token rules)
-content_passes token rules p g has passes s = step (TokenFails token rules) condition.too_deep (at21 token rules p g has passes s.referenced s.named) (shallow token rules p g has s.shallow)
+content_passes token rules p g has passes s = holds_too (TokenFails token rules) condition.too_deep (at21 token rules p g has passes s.referenced s.named) (shallow token rules p g has s.shallow)
 
 -- a refusal to process is the lowest condition that fails
 pub content_fault : (token : Token) (rules : Rules) (p : Tree) (g : List Given) → HasContent token p g → Passes 14 (TokenFails token rules) → (e : ProcessError) → IsRefusal p g e
@@ -254,7 +255,7 @@ content_fault token rules p g has passes (ProcessError.NameClash i) r =
 content_fault token rules p g has passes ProcessError.TooDeep r =
     refuse_unplaced (TokenFails token rules) condition.too_deep (unplaced 21) refl (at21 token rules p g has passes r.0 r.1) (refl, (p, g, has, r.2))
 
--- ---- from step to step
+-- ---- from holds_too to step
 
 pub on_fault : (e : VerifyError) (P Q : Fault → Type 0) → ((fault : Fault) → P fault → Q fault) → OnFault e P → OnFault e Q
 on_fault VerifyError.Memory P Q more h = tt

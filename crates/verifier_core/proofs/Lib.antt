@@ -1,6 +1,8 @@
 pub mod Numbers
-pub mod Policies
 pub mod Lowest
+pub mod ClaimSteps
+pub mod Policies
+pub mod TokenConditions
 pub mod CheckSteps
 pub mod CheckTests
 mod Examples

@@ -1,140 +1,61 @@
--- The lowest condition that fails: conditions are passed one after another.
-use Rattle.std.proofs.Common.{◌≡◌, ℕ, suc, ◌<◌, ◌≤◌, ◌⊎◌, inl, inr, refl, sym, subst, arith}
+-- The lowest condition that fails, sought step by step.
+use Rattle.std.proofs.Common.{◌≡◌, ℕ, suc, ◌<◌, ◌≤◌, ◌⊎◌, inl, inr, ⊎_elim, sym, subst, arith}
 use Rattle.compact_form.specs.declared.fault.Fault.{Fault}
 use Rattle.compact_form.specs.declared.fault.Place.{Place}
 use Rattle.compact_form.specs.declared.fault.Place.TheVariants.{Nowhere, At}
-use Rattle.claim_tree.specs.Lists.{IsLeast}
-use Rattle.json_form.specs.declared.token.Token.{Token}
-use Rattle.verifier_core.specs.Condition.{Condition, number_of, too_long, form, too_much, binding_missing, header_unreadable, header_critical, alg_refused, type_refused, issuer_key_unknown, bad_signature, payload_unreadable, hash_unknown, disclosure_unreadable, repeated_disclosure, reserved_misused, repeated_digest, unreferenced_disclosure, wrong_shape, reserved_name, name_clash, too_deep, issuer_refused, claim_missing, time_unreadable, expired, not_yet, holder_key_unknown, binding_header, binding_alg, binding_signature, binding_type, binding_payload, binding_stale, binding_early, nonce_differs, audience_differs, hash_differs, binding_time}
-use Rattle.verifier_core.specs.Verdict.{Rules, TokenFails, IsLowest, IsNoLater, NoneFails, Numbered}
-use Rattle.verifier_core.specs.Check.{unplaced, placed, Passes}
+use Rattle.claim_tree.specs.Lists.{IsLeast, Nowhere as NoPlace}
+use Rattle.verifier_core.specs.Condition.{Condition, number_of}
+use Rattle.verifier_core.specs.Verdict.{Numbered, IsNoLater, IsLowest, NoneFails}
+use Rattle.verifier_core.specs.Check.{Passes}
 use Rattle.verifier_core.proofs.Numbers.{one_condition}
 
-apart : (a b : ℕ) → a ≤ b → (a ≡ b) ⊎ (suc a ≤ b)
-apart a b l = grind arith
+-- the condition fails at no place
+abbrev pub Holds : (Condition → Place → Type 0) → Condition → Type 0
+Holds FailsSo c = (place : Place) → FailsSo c place → ⊥
 
-later : (a b : ℕ) → (a ≤ b) ⊎ (b < a)
-later a b = grind arith
+below_or_at : (number other : ℕ) → number ≤ other → (number < other) ⊎ (number ≡ other)
+below_or_at number other h = grind arith
 
--- one more is passed
-pub step : (FailsSo : Condition → Place → Type 0) (d : Condition) → Passes (number_of d) FailsSo → ((place : Place) → FailsSo d place → ⊥) → Passes (suc (number_of d)) FailsSo
-step FailsSo d passes none c place fails = go (apart (number_of d) (number_of c) (passes c place fails))
-  where
-    go : (number_of d ≡ number_of c) ⊎ (suc (number_of d) ≤ number_of c) → suc (number_of d) ≤ number_of c
-    go (inl same) = absurd (none place (subst (λ x. FailsSo x place) (sym (one_condition d c same)) fails))
-    go (inr above) = above
+at_or_above : (number other : ℕ) → number ≤ other → (number ≡ other → ⊥) → suc number ≤ other
+at_or_above number other h differs = grind arith
 
--- the next fails
-pub refuse : (FailsSo : Condition → Place → Type 0) (d : Condition) (fault : Fault) → fault.number ≡ number_of d → Passes (number_of d) FailsSo → FailsSo d fault.place
-    → ((place : Place) → FailsSo d place → IsNoLater fault.place place) → IsLowest FailsSo fault
-refuse FailsSo d fault number_is passes fails least = record {
-  failed = d;
+-- the condition holds as well
+pub holds_too : (FailsSo : Condition → Place → Type 0) (held : Condition) → Passes (number_of held) FailsSo → Holds FailsSo held → Passes (suc (number_of held)) FailsSo
+holds_too FailsSo held below holds c place fails =
+    at_or_above (number_of held) (number_of c) (below c place fails) (λ same. holds place (subst (λ d. FailsSo d place) (one_condition c held (sym same)) fails))
+
+-- the condition is the lowest that fails, at its least place
+pub lowest_at : (FailsSo : Condition → Place → Type 0) (failed : Condition) (fault : Fault) → fault.number ≡ number_of failed → Passes (number_of failed) FailsSo → FailsSo failed fault.place
+    → ((place : Place) → FailsSo failed place → IsNoLater fault.place place) → IsLowest FailsSo fault
+lowest_at FailsSo failed fault number_is below fails least = record {
+  failed = failed;
   number_is = number_is;
   fails = fails;
-  lowest = λ other place h. go other place h (apart (number_of d) (number_of other) (passes other place h));
+  lowest = λ other place h. ⊎_elim (λ less. inl less) (λ same.
+      let is : other ≡ failed = one_condition other failed (sym same) in
+      inr (is, least place (subst (λ c. FailsSo c place) is h)))
+      (below_or_at (number_of failed) (number_of other) (below other place h));
 }
+
+-- where all that may fail are below, none fails
+pub none_fails : (FailsSo : Condition → Place → Type 0) (number : ℕ) → Passes number FailsSo → ((c : Condition) (place : Place) → FailsSo c place → number_of c < number) → NoneFails FailsSo
+none_fails FailsSo number below all c place h = omega (arith, below c place h, all c place h)
+
+-- no place is later than none
+pub nowhere_first : (fault : Fault) → fault.place ≡ Nowhere → (place : Place) → IsNoLater fault.place place
+nowhere_first fault is place = subst (λ p. IsNoLater p place) (sym is) tt
+
+-- a condition that fails at no place is the lowest
+pub lowest_unplaced : (FailsSo : Condition → Place → Type 0) (failed : Condition) (fault : Fault) → fault.number ≡ number_of failed → fault.place ≡ Nowhere → Passes (number_of failed) FailsSo → FailsSo failed Nowhere → IsLowest FailsSo fault
+lowest_unplaced FailsSo failed fault number_is place_is below fails = lowest_at FailsSo failed fault number_is below (subst (FailsSo failed) (sym place_is) fails) (λ place _. nowhere_first fault place_is place)
+
+-- a least number is the least place
+pub first_numbered : (FailsAt : ℕ → Type 0) (i : ℕ) → IsLeast FailsAt i → (place : Place) → Numbered FailsAt place → IsNoLater (At i) place
+first_numbered FailsAt i least place h = subst (λ p. IsNoLater (At i) p) (sym h.1) (not_below i h.0 (λ less. least.first h.0 less h.2))
   where
-    go : (other : Condition) (place : Place) → FailsSo other place → (number_of d ≡ number_of other) ⊎ (suc (number_of d) ≤ number_of other)
-        → (number_of d < number_of other) ⊎ ((other ≡ d) × IsNoLater fault.place place)
-    go other place h (inl same) = let is : d ≡ other = one_condition d other same in inr (sym is, least place (subst (λ x. FailsSo x place) (sym is) h))
-    go other place h (inr above) = inl (omega (arith, above))
+    not_below : (a b : ℕ) → (b < a → ⊥) → a ≤ b
+    not_below a b h = grind arith
 
--- a condition without a place
-pub refuse_unplaced : (FailsSo : Condition → Place → Type 0) (d : Condition) (fault : Fault) → fault ≡ unplaced (number_of d) → Passes (number_of d) FailsSo → FailsSo d Nowhere → IsLowest FailsSo fault
-refuse_unplaced FailsSo d fault is passes fails =
-    subst (IsLowest FailsSo) (sym is) (refuse FailsSo d (unplaced (number_of d)) refl passes fails (λ place h. tt))
-
--- a condition at its least place
-pub refuse_placed : (FailsSo : Condition → Place → Type 0) (d : Condition) (FailsAt : ℕ → Type 0) (i : ℕ)
-    → ((place : Place) → FailsSo d place → Numbered FailsAt place) → (FailsAt i → FailsSo d (At i)) → Passes (number_of d) FailsSo → IsLeast FailsAt i → IsLowest FailsSo (placed (number_of d) i)
-refuse_placed FailsSo d FailsAt i into back passes least = refuse FailsSo d (placed (number_of d) i) refl passes (back least.fails) (λ place h. go place (into place h))
-  where
-    go : (place : Place) → Numbered FailsAt place → IsNoLater (At i) place
-    go place (j, is, fails) = subst (IsNoLater (At i)) (sym is) (below (later i j))
-      where
-        below : (i ≤ j) ⊎ (j < i) → i ≤ j
-        below (inl l) = l
-        below (inr l) = absurd (least.first j l fails)
-
--- ---- those of a token
-
-pub start : (token : Token) (rules : Rules) → Passes 5 (TokenFails token rules)
-start token rules too_long place h = absurd h
-start token rules form place h = absurd h
-start token rules too_much place h = absurd h
-start token rules binding_missing place h = absurd h
-start token rules header_unreadable place h = omega arith
-start token rules header_critical place h = omega arith
-start token rules alg_refused place h = omega arith
-start token rules type_refused place h = omega arith
-start token rules issuer_key_unknown place h = omega arith
-start token rules bad_signature place h = omega arith
-start token rules payload_unreadable place h = omega arith
-start token rules hash_unknown place h = omega arith
-start token rules disclosure_unreadable place h = omega arith
-start token rules repeated_disclosure place h = omega arith
-start token rules reserved_misused place h = omega arith
-start token rules repeated_digest place h = omega arith
-start token rules unreferenced_disclosure place h = omega arith
-start token rules wrong_shape place h = omega arith
-start token rules reserved_name place h = omega arith
-start token rules name_clash place h = omega arith
-start token rules too_deep place h = omega arith
-start token rules issuer_refused place h = absurd h
-start token rules claim_missing place h = absurd h
-start token rules time_unreadable place h = absurd h
-start token rules expired place h = absurd h
-start token rules not_yet place h = absurd h
-start token rules holder_key_unknown place h = absurd h
-start token rules binding_header place h = absurd h
-start token rules binding_alg place h = absurd h
-start token rules binding_signature place h = absurd h
-start token rules binding_type place h = absurd h
-start token rules binding_payload place h = absurd h
-start token rules binding_stale place h = absurd h
-start token rules binding_early place h = absurd h
-start token rules nonce_differs place h = absurd h
-start token rules audience_differs place h = absurd h
-start token rules hash_differs place h = absurd h
-start token rules binding_time place h = absurd h
-
--- all of them are passed
-pub finish : (token : Token) (rules : Rules) → Passes 22 (TokenFails token rules) → NoneFails (TokenFails token rules)
-finish token rules passes too_long place h = h
-finish token rules passes form place h = h
-finish token rules passes too_much place h = h
-finish token rules passes binding_missing place h = h
-finish token rules passes issuer_refused place h = h
-finish token rules passes claim_missing place h = h
-finish token rules passes time_unreadable place h = h
-finish token rules passes expired place h = h
-finish token rules passes not_yet place h = h
-finish token rules passes holder_key_unknown place h = h
-finish token rules passes binding_header place h = h
-finish token rules passes binding_alg place h = h
-finish token rules passes binding_signature place h = h
-finish token rules passes binding_type place h = h
-finish token rules passes binding_payload place h = h
-finish token rules passes binding_stale place h = h
-finish token rules passes binding_early place h = h
-finish token rules passes nonce_differs place h = h
-finish token rules passes audience_differs place h = h
-finish token rules passes hash_differs place h = h
-finish token rules passes binding_time place h = h
-finish token rules passes header_unreadable place h = let l = passes header_unreadable place h in absurd (omega (arith, l))
-finish token rules passes header_critical place h = let l = passes header_critical place h in absurd (omega (arith, l))
-finish token rules passes alg_refused place h = let l = passes alg_refused place h in absurd (omega (arith, l))
-finish token rules passes type_refused place h = let l = passes type_refused place h in absurd (omega (arith, l))
-finish token rules passes issuer_key_unknown place h = let l = passes issuer_key_unknown place h in absurd (omega (arith, l))
-finish token rules passes bad_signature place h = let l = passes bad_signature place h in absurd (omega (arith, l))
-finish token rules passes payload_unreadable place h = let l = passes payload_unreadable place h in absurd (omega (arith, l))
-finish token rules passes hash_unknown place h = let l = passes hash_unknown place h in absurd (omega (arith, l))
-finish token rules passes disclosure_unreadable place h = let l = passes disclosure_unreadable place h in absurd (omega (arith, l))
-finish token rules passes repeated_disclosure place h = let l = passes repeated_disclosure place h in absurd (omega (arith, l))
-finish token rules passes reserved_misused place h = let l = passes reserved_misused place h in absurd (omega (arith, l))
-finish token rules passes repeated_digest place h = let l = passes repeated_digest place h in absurd (omega (arith, l))
-finish token rules passes unreferenced_disclosure place h = let l = passes unreferenced_disclosure place h in absurd (omega (arith, l))
-finish token rules passes wrong_shape place h = let l = passes wrong_shape place h in absurd (omega (arith, l))
-finish token rules passes reserved_name place h = let l = passes reserved_name place h in absurd (omega (arith, l))
-finish token rules passes name_clash place h = let l = passes name_clash place h in absurd (omega (arith, l))
-finish token rules passes too_deep place h = let l = passes too_deep place h in absurd (omega (arith, l))
+-- no number, no place
+pub none_numbered : (FailsAt : ℕ → Type 0) → NoPlace FailsAt → (place : Place) → Numbered FailsAt place → ⊥
+none_numbered FailsAt none place h = none h.0 h.2

@@ -7,6 +7,9 @@ mod check;
 mod check_given;
 mod check_payload;
 mod check_signed;
+mod claims;
+#[cfg(test)]
+mod claims_tests;
 mod conditions;
 pub mod laws;
 mod policy;

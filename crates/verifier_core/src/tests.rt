@@ -9,7 +9,7 @@ const KEYS: &str =
     "{\"keys\":[{\"kty\":\"oct\",\"k\":\"AQEBAQEBAQEBAQEBAQEBAQEBAQEBAQEBAQEBAQEBAQE\"}]}";
 
 // The policy of an object with these members.
-fn policy(alloc: Global, members: &str) -> Result<Policy, Fail> {
+pub(crate) fn policy(alloc: Global, members: &str) -> Result<Policy, Fail> {
     let text = format!(in alloc; "{{\"keys\":{KEYS}{members}}}")?;
     Ok(read_policy(alloc, text.as_bytes()).map_err(|_| "refused")?)
 }

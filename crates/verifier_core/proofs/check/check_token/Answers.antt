@@ -2,7 +2,7 @@ use Rattle.std.specs.Option.{option_copied}
 use Rattle.claim_tree.specs.View.{tree_of}
 use Rattle.rebuild_core.specs.Payload.{without_alg}
 use Rattle.verifier_core.specs.Check.{asked}
-use Rattle.verifier_core.proofs.Lowest.{finish}
+use Rattle.verifier_core.proofs.TokenConditions.{finish}
 use Rattle.verifier_core.proofs.CheckSteps.{content_fault, content_passes}
 use Rattle.verifier_core.proofs.check.check_token.Goals as goal
 

@@ -1,0 +1,97 @@
+-- What each condition on the claims says of the payload.
+use Rattle.std.proofs.Common.{◌≡◌, ◌≢◌, ℕ, zero, suc, ℤ, [], ◌∷◌, true, false, Bor, option_map, slice_get, is_some, pos, ◌+ℤ◌, ◌≤ℤ◌, ◌<◌, ◌⊎◌, List, Option, Some, None, codes, sym, ◌∙◌, subst, ◌+◌, ⊎_elim, arith}
+use Rattle.compact_form.specs.declared.fault.Place.{Place}
+use Rattle.claim_tree.specs.Tree.{Text, Tree, leaf, text, get}
+use Rattle.claim_tree.specs.View.{tree_of}
+use Rattle.claim_tree.specs.declared.tree.Tree as tree
+use Rattle.claim_tree.specs.Lists.{At as StandsAt}
+use Rattle.claim_tree.proofs.Lists.{At-same}
+use Rattle.verifier_core.specs.Condition.{Condition, number_of, too_long, form, too_much, binding_missing, header_unreadable, header_critical, alg_refused, type_refused, issuer_key_unknown, bad_signature, payload_unreadable, hash_unknown, disclosure_unreadable, repeated_disclosure, reserved_misused, repeated_digest, unreferenced_disclosure, wrong_shape, reserved_name, name_clash, too_deep, issuer_refused, claim_missing, time_unreadable, expired, not_yet, holder_key_unknown, binding_header, binding_alg, binding_signature, binding_type, binding_payload, binding_stale, binding_early, nonce_differs, audience_differs, hash_differs, binding_time}
+use Rattle.verifier_core.specs.Verdict.{IsMoment, IsNoMoment, ClaimFails}
+use Rattle.verifier_core.specs.declared.policy.Policy.{Policy}
+use Rattle.verifier_core.specs.Check.{Passes}
+use Rattle.verifier_core.proofs.Lowest.{holds_too}
+
+-- a condition on the claims has a number from 22 to 26
+pub claim_numbers : (payload : Tree) (policy : Policy) (now : ℕ) (c : Condition) (place : Place) → ClaimFails payload policy now c place → (21 < number_of c) × (number_of c < 27)
+claim_numbers payload policy now issuer_refused place h = (omega arith, omega arith)
+claim_numbers payload policy now claim_missing place h = (omega arith, omega arith)
+claim_numbers payload policy now time_unreadable place h = (omega arith, omega arith)
+claim_numbers payload policy now expired place h = (omega arith, omega arith)
+claim_numbers payload policy now not_yet place h = (omega arith, omega arith)
+claim_numbers payload policy now too_long place h = absurd h
+claim_numbers payload policy now form place h = absurd h
+claim_numbers payload policy now too_much place h = absurd h
+claim_numbers payload policy now binding_missing place h = absurd h
+claim_numbers payload policy now header_unreadable place h = absurd h
+claim_numbers payload policy now header_critical place h = absurd h
+claim_numbers payload policy now alg_refused place h = absurd h
+claim_numbers payload policy now type_refused place h = absurd h
+claim_numbers payload policy now issuer_key_unknown place h = absurd h
+claim_numbers payload policy now bad_signature place h = absurd h
+claim_numbers payload policy now payload_unreadable place h = absurd h
+claim_numbers payload policy now hash_unknown place h = absurd h
+claim_numbers payload policy now disclosure_unreadable place h = absurd h
+claim_numbers payload policy now repeated_disclosure place h = absurd h
+claim_numbers payload policy now reserved_misused place h = absurd h
+claim_numbers payload policy now repeated_digest place h = absurd h
+claim_numbers payload policy now unreferenced_disclosure place h = absurd h
+claim_numbers payload policy now wrong_shape place h = absurd h
+claim_numbers payload policy now reserved_name place h = absurd h
+claim_numbers payload policy now name_clash place h = absurd h
+claim_numbers payload policy now too_deep place h = absurd h
+claim_numbers payload policy now holder_key_unknown place h = absurd h
+claim_numbers payload policy now binding_header place h = absurd h
+claim_numbers payload policy now binding_alg place h = absurd h
+claim_numbers payload policy now binding_signature place h = absurd h
+claim_numbers payload policy now binding_type place h = absurd h
+claim_numbers payload policy now binding_payload place h = absurd h
+claim_numbers payload policy now binding_stale place h = absurd h
+claim_numbers payload policy now binding_early place h = absurd h
+claim_numbers payload policy now nonce_differs place h = absurd h
+claim_numbers payload policy now audience_differs place h = absurd h
+claim_numbers payload policy now hash_differs place h = absurd h
+claim_numbers payload policy now binding_time place h = absurd h
+
+-- ---- one condition after another
+
+module _ (payload : Tree) (policy : Policy) (now : ℕ) where
+  pub before_issuer : Passes 22 (ClaimFails payload policy now)
+  before_issuer c place h = let n = claim_numbers payload policy now c place h in omega (arith, n.0)
+
+  pub before_missing : ((iss : Text) → policy.iss ≡ Some iss → get payload (codes "iss") ≢ Some (leaf (text iss)) → ⊥) → Passes 23 (ClaimFails payload policy now)
+  before_missing holds = holds_too (ClaimFails payload policy now) issuer_refused before_issuer (λ place h. holds h.1.0 h.1.1 h.1.2)
+
+  pub before_times : Passes 23 (ClaimFails payload policy now) → ((i : ℕ) (name : Text) → StandsAt policy.require i name → get payload name ≢ None) → Passes 24 (ClaimFails payload policy now)
+  before_times below holds = holds_too (ClaimFails payload policy now) claim_missing below (λ place h. holds h.0 h.2.0 h.2.1 h.2.2)
+
+  pub before_expiry : Passes 24 (ClaimFails payload policy now) → (IsNoMoment payload (codes "exp") ⊎ IsNoMoment payload (codes "nbf") → ⊥) → Passes 25 (ClaimFails payload policy now)
+  before_expiry below holds = holds_too (ClaimFails payload policy now) time_unreadable below (λ place h. holds h.1)
+
+  pub before_start : Passes 25 (ClaimFails payload policy now) → ((moment : ℤ) × IsMoment payload (codes "exp") moment × ((moment +ℤ pos policy.skew) ≤ℤ pos now) → ⊥) → Passes 26 (ClaimFails payload policy now)
+  before_start below holds = holds_too (ClaimFails payload policy now) expired below (λ place h. holds h.1)
+
+-- the first so many names are names of claims
+abbrev pub HasFirst : Tree → List Text → ℕ → Type 0
+HasFirst payload names i = (j : ℕ) (name : Text) → j < i → StandsAt names j name → get payload name ≢ None
+
+pub has_more : (payload : Tree) (names : List Text) (i : ℕ) (name : Text) → HasFirst payload names i → StandsAt names i name → get payload name ≢ None → HasFirst payload names (i + 1)
+has_more payload names i name first at there j other less stands none = ⊎_elim (λ below. first j other below stands none) (λ same. there (subst (λ n. get payload n ≡ None) (At-same names i other name (subst (λ k. StandsAt names k other) same stands) at) none)) (split j i less)
+  where
+    split : (x y : ℕ) → x < y + 1 → (x < y) ⊎ (x ≡ y)
+    split x y l = grind arith
+
+-- what is read at a place stands there
+pub stands : (names : List Text) (i : ℕ) (name : Text) → slice_get names i ≡ Some name → StandsAt names i name
+stands (other ∷ names) zero name e = cc e
+stands (other ∷ names) (suc i) name e = stands names i name e
+stands [] i name e = cc e
+
+-- where nothing is found, there is no claim
+pub no_claim : (found : Option (Bor tree.Tree)) (claim : Option Tree) → option_map (λ t. tree_of t.now) found ≡ claim → is_some found ≡ false → claim ≡ None
+no_claim None claim e none = sym e
+no_claim (Some t) claim e none = cc none
+
+pub some_claim : (found : Option (Bor tree.Tree)) (claim : Option Tree) → option_map (λ t. tree_of t.now) found ≡ claim → is_some found ≡ true → claim ≢ None
+some_claim None claim e some none = cc some
+some_claim (Some t) claim e some none = cc (e ∙ none)
