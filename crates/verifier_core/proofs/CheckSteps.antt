@@ -160,7 +160,7 @@ one_list hash (d ∷ ds) (x ∷ xs) (y ∷ ys) g h =
     let others : xs ≡ ys = one_list hash ds xs ys g.1 h.1 in
     cc
 
-one_content : (token : Token) (p q : Tree) (g h : List Given) → HasContent token p g → HasContent token q h → (p ≡ q) × (g ≡ h)
+pub one_content : (token : Token) (p q : Tree) (g h : List Given) → HasContent token p g → HasContent token q h → (p ≡ q) × (g ≡ h)
 one_content token p q g h a b =
     let bodies_same : a.body ≡ b.body = bodies.one_body token.parts.signed.payload a.body b.body a.is_body b.is_body in
     let hashes : Some a.hash ≡ Some b.hash = sym a.hash_is ∙ (ap payload_hash bodies_same ∙ b.hash_is) in
@@ -255,7 +255,7 @@ content_fault token rules p g has passes (ProcessError.NameClash i) r =
 content_fault token rules p g has passes ProcessError.TooDeep r =
     refuse_unplaced (TokenFails token rules) condition.too_deep (unplaced 21) refl (at21 token rules p g has passes r.0 r.1) (refl, (p, g, has, r.2))
 
--- ---- from holds_too to step
+-- ---- from step to step
 
 pub on_fault : (e : VerifyError) (P Q : Fault → Type 0) → ((fault : Fault) → P fault → Q fault) → OnFault e P → OnFault e Q
 on_fault VerifyError.Memory P Q more h = tt

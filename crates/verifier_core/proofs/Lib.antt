@@ -5,4 +5,5 @@ pub mod Policies
 pub mod TokenConditions
 pub mod CheckSteps
 pub mod CheckTests
+pub mod Verdicts
 mod Examples

@@ -1,5 +1,5 @@
 -- The conditions on a token, passed one after another.
-use Rattle.std.proofs.Common.{◌≡◌, ℕ, ◌≤◌, refl, sym, subst, arith}
+use Rattle.std.proofs.Common.{◌≡◌, ℕ, ◌<◌, ◌≤◌, refl, sym, subst, arith}
 use Rattle.compact_form.specs.declared.fault.Fault.{Fault}
 use Rattle.compact_form.specs.declared.fault.Place.{Place}
 use Rattle.compact_form.specs.declared.fault.Place.TheVariants.{Nowhere, At}
@@ -23,83 +23,50 @@ refuse_placed FailsSo d FailsAt i into back passes least =
 
 -- ---- those of a token
 
+-- a condition on a token has a number from 5 to 21
+pub token_numbers : (token : Token) (rules : Rules) (c : Condition) (place : Place) → TokenFails token rules c place → (4 < number_of c) × (number_of c < 22)
+token_numbers token rules too_long place h = absurd h
+token_numbers token rules form place h = absurd h
+token_numbers token rules too_much place h = absurd h
+token_numbers token rules binding_missing place h = absurd h
+token_numbers token rules header_unreadable place h = (omega arith, omega arith)
+token_numbers token rules header_critical place h = (omega arith, omega arith)
+token_numbers token rules alg_refused place h = (omega arith, omega arith)
+token_numbers token rules type_refused place h = (omega arith, omega arith)
+token_numbers token rules issuer_key_unknown place h = (omega arith, omega arith)
+token_numbers token rules bad_signature place h = (omega arith, omega arith)
+token_numbers token rules payload_unreadable place h = (omega arith, omega arith)
+token_numbers token rules hash_unknown place h = (omega arith, omega arith)
+token_numbers token rules disclosure_unreadable place h = (omega arith, omega arith)
+token_numbers token rules repeated_disclosure place h = (omega arith, omega arith)
+token_numbers token rules reserved_misused place h = (omega arith, omega arith)
+token_numbers token rules repeated_digest place h = (omega arith, omega arith)
+token_numbers token rules unreferenced_disclosure place h = (omega arith, omega arith)
+token_numbers token rules wrong_shape place h = (omega arith, omega arith)
+token_numbers token rules reserved_name place h = (omega arith, omega arith)
+token_numbers token rules name_clash place h = (omega arith, omega arith)
+token_numbers token rules too_deep place h = (omega arith, omega arith)
+token_numbers token rules issuer_refused place h = absurd h
+token_numbers token rules claim_missing place h = absurd h
+token_numbers token rules time_unreadable place h = absurd h
+token_numbers token rules expired place h = absurd h
+token_numbers token rules not_yet place h = absurd h
+token_numbers token rules holder_key_unknown place h = absurd h
+token_numbers token rules binding_header place h = absurd h
+token_numbers token rules binding_alg place h = absurd h
+token_numbers token rules binding_signature place h = absurd h
+token_numbers token rules binding_type place h = absurd h
+token_numbers token rules binding_payload place h = absurd h
+token_numbers token rules binding_stale place h = absurd h
+token_numbers token rules binding_early place h = absurd h
+token_numbers token rules nonce_differs place h = absurd h
+token_numbers token rules audience_differs place h = absurd h
+token_numbers token rules hash_differs place h = absurd h
+token_numbers token rules binding_time place h = absurd h
+
 pub start : (token : Token) (rules : Rules) → Passes 5 (TokenFails token rules)
-start token rules too_long place h = absurd h
-start token rules form place h = absurd h
-start token rules too_much place h = absurd h
-start token rules binding_missing place h = absurd h
-start token rules header_unreadable place h = omega arith
-start token rules header_critical place h = omega arith
-start token rules alg_refused place h = omega arith
-start token rules type_refused place h = omega arith
-start token rules issuer_key_unknown place h = omega arith
-start token rules bad_signature place h = omega arith
-start token rules payload_unreadable place h = omega arith
-start token rules hash_unknown place h = omega arith
-start token rules disclosure_unreadable place h = omega arith
-start token rules repeated_disclosure place h = omega arith
-start token rules reserved_misused place h = omega arith
-start token rules repeated_digest place h = omega arith
-start token rules unreferenced_disclosure place h = omega arith
-start token rules wrong_shape place h = omega arith
-start token rules reserved_name place h = omega arith
-start token rules name_clash place h = omega arith
-start token rules too_deep place h = omega arith
-start token rules issuer_refused place h = absurd h
-start token rules claim_missing place h = absurd h
-start token rules time_unreadable place h = absurd h
-start token rules expired place h = absurd h
-start token rules not_yet place h = absurd h
-start token rules holder_key_unknown place h = absurd h
-start token rules binding_header place h = absurd h
-start token rules binding_alg place h = absurd h
-start token rules binding_signature place h = absurd h
-start token rules binding_type place h = absurd h
-start token rules binding_payload place h = absurd h
-start token rules binding_stale place h = absurd h
-start token rules binding_early place h = absurd h
-start token rules nonce_differs place h = absurd h
-start token rules audience_differs place h = absurd h
-start token rules hash_differs place h = absurd h
-start token rules binding_time place h = absurd h
+start token rules c place h = let n = token_numbers token rules c place h in omega (arith, n.0)
 
 -- all of them are passed
 pub finish : (token : Token) (rules : Rules) → Passes 22 (TokenFails token rules) → NoneFails (TokenFails token rules)
-finish token rules passes too_long place h = h
-finish token rules passes form place h = h
-finish token rules passes too_much place h = h
-finish token rules passes binding_missing place h = h
-finish token rules passes issuer_refused place h = h
-finish token rules passes claim_missing place h = h
-finish token rules passes time_unreadable place h = h
-finish token rules passes expired place h = h
-finish token rules passes not_yet place h = h
-finish token rules passes holder_key_unknown place h = h
-finish token rules passes binding_header place h = h
-finish token rules passes binding_alg place h = h
-finish token rules passes binding_signature place h = h
-finish token rules passes binding_type place h = h
-finish token rules passes binding_payload place h = h
-finish token rules passes binding_stale place h = h
-finish token rules passes binding_early place h = h
-finish token rules passes nonce_differs place h = h
-finish token rules passes audience_differs place h = h
-finish token rules passes hash_differs place h = h
-finish token rules passes binding_time place h = h
-finish token rules passes header_unreadable place h = let l = passes header_unreadable place h in absurd (omega (arith, l))
-finish token rules passes header_critical place h = let l = passes header_critical place h in absurd (omega (arith, l))
-finish token rules passes alg_refused place h = let l = passes alg_refused place h in absurd (omega (arith, l))
-finish token rules passes type_refused place h = let l = passes type_refused place h in absurd (omega (arith, l))
-finish token rules passes issuer_key_unknown place h = let l = passes issuer_key_unknown place h in absurd (omega (arith, l))
-finish token rules passes bad_signature place h = let l = passes bad_signature place h in absurd (omega (arith, l))
-finish token rules passes payload_unreadable place h = let l = passes payload_unreadable place h in absurd (omega (arith, l))
-finish token rules passes hash_unknown place h = let l = passes hash_unknown place h in absurd (omega (arith, l))
-finish token rules passes disclosure_unreadable place h = let l = passes disclosure_unreadable place h in absurd (omega (arith, l))
-finish token rules passes repeated_disclosure place h = let l = passes repeated_disclosure place h in absurd (omega (arith, l))
-finish token rules passes reserved_misused place h = let l = passes reserved_misused place h in absurd (omega (arith, l))
-finish token rules passes repeated_digest place h = let l = passes repeated_digest place h in absurd (omega (arith, l))
-finish token rules passes unreferenced_disclosure place h = let l = passes unreferenced_disclosure place h in absurd (omega (arith, l))
-finish token rules passes wrong_shape place h = let l = passes wrong_shape place h in absurd (omega (arith, l))
-finish token rules passes reserved_name place h = let l = passes reserved_name place h in absurd (omega (arith, l))
-finish token rules passes name_clash place h = let l = passes name_clash place h in absurd (omega (arith, l))
-finish token rules passes too_deep place h = let l = passes too_deep place h in absurd (omega (arith, l))
+finish token rules passes c place h = let n = token_numbers token rules c place h in let l = passes c place h in absurd (omega (arith, l, n.1))

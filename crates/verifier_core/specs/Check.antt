@@ -15,6 +15,7 @@ use Rattle.disclosure.specs.declared.errors.DisclosureError.{DisclosureError}
 use Rattle.disclosure.specs.declared.digests.HashAlg.{HashAlg}
 use Rattle.digest_sites.specs.Given.{Given}
 use Rattle.json_form.specs.declared.token.Token.{Token}
+use Rattle.json_form.specs.declared.token.TokenError.{TokenError}
 use Rattle.rebuild_core.specs.Given.{look_ups, counted, RoseWithin}
 use Rattle.rebuild_core.specs.declared.errors.ProcessError.{ProcessError}
 use Rattle.verifier_core.specs.Condition.{Condition, number_of}
@@ -120,3 +121,8 @@ refusal_of (ProcessError.WrongShape i) = VerifyError.Fault (placed 18 i)
 refusal_of (ProcessError.ReservedName i) = VerifyError.Fault (placed 19 i)
 refusal_of (ProcessError.NameClash i) = VerifyError.Fault (placed 20 i)
 refusal_of ProcessError.TooDeep = VerifyError.Fault (unplaced 21)
+
+-- the refusal of a text that is no token
+abbrev pub form_refusal : TokenError → VerifyError
+form_refusal TokenError.Memory = VerifyError.Memory
+form_refusal (TokenError.Fault fault) = VerifyError.Fault fault

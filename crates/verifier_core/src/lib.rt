@@ -16,6 +16,7 @@ mod policy;
 mod refusal;
 #[cfg(test)]
 mod tests;
+mod verdict;
 
 pub use check::{Checked, VerifyError, check_token};
 pub use conditions::{
@@ -28,3 +29,4 @@ pub use conditions::{
 };
 pub use policy::{Policy, SKEW_MAX, keys_member, read_policy};
 pub use refusal::fault_line;
+pub use verdict::{Accepted, verify};

@@ -1,0 +1,124 @@
+-- The verdict on a file, from the verdicts on its form, its token and its claims.
+use Rattle.std.proofs.Common.{◌≡◌, ℕ, ◌<◌, ◌≤◌, ◌-◌, ◌^◌, ◌⊎◌, inl, inr, List, length, Result, Err, refl, sym, ap, ap₂, subst, ◌∙◌, arith}
+use Rattle.claim_tree.specs.Tree.{Tree}
+use Rattle.compact_form.specs.declared.limits.TheConstants.{COUNT_MAX}
+use Rattle.compact_form.specs.declared.fault.TheConstants.{TOO_MUCH}
+use Rattle.compact_form.specs.declared.fault.Fault.{Fault}
+use Rattle.compact_form.specs.declared.fault.Place.{Place}
+use Rattle.compact_form.specs.declared.fault.Place.TheVariants.{Nowhere, At, Json}
+use Rattle.compact_form.specs.Token as file
+use Rattle.compact_form.proofs.Verdicts as files
+use Rattle.json_form.specs.declared.token.Token.{Token}
+use Rattle.json_form.specs.declared.token.TokenError.{TokenError}
+use Rattle.json_form.specs.Token.{IsToken}
+use Rattle.json_form.proofs.Tokens as tokens
+use Rattle.digest_sites.specs.Given.{Given}
+use Rattle.marked_tree.specs.Marked.{Marked, strip}
+use Rattle.rebuild_core.specs.Opening.{processed}
+use Rattle.verifier_core.specs.Condition as condition
+use Rattle.verifier_core.specs.Condition.{Condition, number_of}
+use Rattle.verifier_core.specs.Verdict.{TokenFails, ClaimFails, Fails, of_file, of_token, of_claims, rules_of, Opens, IsNoLater, IsLowest, NoneFails, IsChecked, IsAccepted}
+use Rattle.verifier_core.specs.Check.{OnFault, form_refusal}
+use Rattle.verifier_core.specs.declared.policy.Policy.{Policy}
+use Rattle.verifier_core.proofs.Numbers.{one_condition}
+use Rattle.verifier_core.proofs.TokenConditions.{token_numbers}
+use Rattle.verifier_core.proofs.ClaimSteps.{claim_numbers}
+use Rattle.verifier_core.proofs.CheckSteps.{one_content}
+
+pub few : (content : List ℕ) (token : Token) → IsToken content token → length token.parts.disclosures < 2 ^ 32 - 1
+few content token is = go (either (length token.parts.disclosures))
+  where
+    either : (n : ℕ) → (COUNT_MAX < n) ⊎ (n ≤ COUNT_MAX)
+    either n = grind arith
+
+    go : (COUNT_MAX < length token.parts.disclosures) ⊎ (length token.parts.disclosures ≤ COUNT_MAX) → length token.parts.disclosures < 2 ^ 32 - 1
+    go (inl many) = absurd (is.reads.passes (record { number = TOO_MUCH; place = Nowhere }) (file.too_much token.parts refl is.reads.spelling many))
+    go (inr low) = omega (arith, low)
+
+no_later : (place : Place) → IsNoLater place place
+no_later Nowhere = tt
+no_later (At i) = omega arith
+no_later (Json j) = tt
+
+abbrev fault_at : Condition → Place → Fault
+fault_at c place = record { number = number_of c; place = place }
+
+file_condition : (content : List ℕ) (fault : Fault) → file.Fails content fault → (c : Condition) × (fault.number ≡ number_of c)
+file_condition content fault (file.too_long e h) = (condition.too_long, ap (λ (x : Fault). x.number) e)
+file_condition content fault (file.form stop e h) = (condition.form, ap (λ (x : Fault). x.number) e)
+file_condition content fault (file.too_much parts e h many) = (condition.too_much, ap (λ (x : Fault). x.number) e)
+
+less_or_same : (a b : ℕ) → a ≤ b → (a < b) ⊎ (a ≡ b)
+less_or_same a b l = grind arith
+
+-- a file that is no token
+pub file_lowest : (content : List ℕ) (policy : Policy) (now : ℕ) (fault : Fault) → file.IsRefused content fault → IsLowest (Fails content policy now) fault
+file_lowest content policy now fault refused =
+    let c = file_condition content fault refused.fails in
+    record {
+      failed = c.0;
+      number_is = c.1;
+      fails = of_file (subst (λ (n : ℕ). file.Fails content (record { number = n; place = fault.place })) c.1 refused.fails);
+      lowest = λ other place h. go c.0 c.1 other place h;
+    }
+  where
+    go : (c : Condition) → fault.number ≡ number_of c → (other : Condition) (place : Place) → Fails content policy now other place
+        → (number_of c < number_of other) ⊎ ((other ≡ c) × IsNoLater fault.place place)
+    go c is other place (of_token token there h) = absurd (tokens.not_both content token fault there refused)
+    go c is other place (of_claims token marked there opens h) = absurd (tokens.not_both content token fault there refused)
+    go c is other place (of_file h) = placed (less_or_same fault.number (number_of other) (refused.lowest (fault_at other place) h))
+      where
+        placed : (fault.number < number_of other) ⊎ (fault.number ≡ number_of other) → (number_of c < number_of other) ⊎ ((other ≡ c) × IsNoLater fault.place place)
+        placed (inl less) = inl (omega (arith, less, is))
+        placed (inr same) =
+            let twin : file.IsRefused content (fault_at other place) = record { fails = h; lowest = λ o k. let l = refused.lowest o k in omega (arith, l, same) } in
+            let one : fault ≡ fault_at other place = files.one_fault content fault (fault_at other place) refused twin in
+            inr (one_condition other c (sym same ∙ is), subst (λ (x : Fault). IsNoLater fault.place x.place) one (no_later fault.place))
+
+pub form_lowest : (content : List ℕ) (policy : Policy) (now : ℕ) (error : TokenError) → ((fault : Fault) → ◌≡◌ {A = Result Token TokenError} (Err error) (Err (TokenError.Fault fault)) → file.IsRefused content fault)
+    → OnFault (form_refusal error) (IsLowest (Fails content policy now))
+form_lowest content policy now TokenError.Memory h = tt
+form_lowest content policy now (TokenError.Fault fault) h = file_lowest content policy now fault (h fault refl)
+
+module _ (content : List ℕ) (policy : Policy) (now : ℕ) (token : Token) (is : IsToken content token) where
+  -- a token that is refused
+  pub token_lowest : (fault : Fault) → IsLowest (TokenFails token (rules_of policy)) fault → IsLowest (Fails content policy now) fault
+  token_lowest fault l = record { failed = l.failed; number_is = l.number_is; fails = of_token token is l.fails; lowest = λ other place h. go other place h }
+    where
+      go : (other : Condition) (place : Place) → Fails content policy now other place → (number_of l.failed < number_of other) ⊎ ((other ≡ l.failed) × IsNoLater fault.place place)
+      go other place (of_file h) = absurd (is.reads.passes (fault_at other place) h)
+      go other place (of_token t there h) = l.lowest other place (subst (λ (x : Token). TokenFails x (rules_of policy) other place) (tokens.one content t token there is) h)
+      go other place (of_claims t marked there opens h) =
+          let low = token_numbers token (rules_of policy) l.failed fault.place l.fails in
+          let high = claim_numbers (strip marked) policy now other place h in
+          inl (omega (arith, low.1, high.0))
+
+  one_opening : (m n : Marked) → Opens token m → Opens token n → m ≡ n
+  one_opening m n (p, g, has, e) (q, h, other, f) =
+      let same = one_content token p q g h has other in
+      e ∙ (ap₂ (λ (t : Tree) (xs : List Given). processed t xs) same.0 same.1 ∙ sym f)
+
+  module _ (marked : Marked) (checked : IsChecked token (rules_of policy) marked) where
+    no_token_fault : (t : Token) → IsToken content t → (c : Condition) (place : Place) → TokenFails t (rules_of policy) c place → ⊥
+    no_token_fault t there c place h = checked.passes c place (subst (λ (x : Token). TokenFails x (rules_of policy) c place) (tokens.one content t token there is) h)
+
+    same_claims : (t : Token) (m : Marked) → IsToken content t → Opens t m → m ≡ marked
+    same_claims t m there opens = one_opening m marked (subst (λ (x : Token). Opens x m) (tokens.one content t token there is) opens) checked.opens
+
+    -- claims that are refused
+    pub claims_lowest : (fault : Fault) → IsLowest (ClaimFails (strip marked) policy now) fault → IsLowest (Fails content policy now) fault
+    claims_lowest fault l =
+        record { failed = l.failed; number_is = l.number_is; fails = of_claims token marked is checked.opens l.fails; lowest = λ other place h. go other place h }
+      where
+        go : (other : Condition) (place : Place) → Fails content policy now other place → (number_of l.failed < number_of other) ⊎ ((other ≡ l.failed) × IsNoLater fault.place place)
+        go other place (of_file h) = absurd (is.reads.passes (fault_at other place) h)
+        go other place (of_token t there h) = absurd (no_token_fault t there other place h)
+        go other place (of_claims t m there opens h) = l.lowest other place (subst (λ (x : Marked). ClaimFails (strip x) policy now other place) (same_claims t m there opens) h)
+
+    pub accepted : NoneFails (ClaimFails (strip marked) policy now) → IsAccepted content policy now marked
+    accepted none = record { passes = λ c place h. go c place h; token = token; is_token = is; opens = checked.opens }
+      where
+        go : (c : Condition) (place : Place) → Fails content policy now c place → ⊥
+        go c place (of_file h) = is.reads.passes (fault_at c place) h
+        go c place (of_token t there h) = no_token_fault t there c place h
+        go c place (of_claims t m there opens h) = none c place (subst (λ (x : Marked). ClaimFails (strip x) policy now c place) (same_claims t m there opens) h)

@@ -1,0 +1,72 @@
+// The verdict on a token file under a policy.
+ghost use Rattle.std.specs.Prelude.{◌≡◌, ◌≤◌, IfOk, IfErr};
+ghost use Rattle.claim_tree.specs.Tree.{IsRanged};
+ghost use Rattle.claim_tree.specs.View.{tree_of};
+ghost use Rattle.marked_tree.specs.Marked.{strip as strip_of};
+ghost use Rattle.marked_tree.specs.View.{marked_of};
+ghost use Rattle.json_form.specs.declared.token.Token.{Token as SeenToken};
+ghost use Rattle.json_form.specs.Token.{IsToken};
+ghost use Rattle.verifier_core.specs.Verdict.{Fails, IsLowest, IsAccepted};
+ghost use Rattle.verifier_core.specs.Check.{OnFault, IsCounted, IsUncounted, form_refusal as form_refusal_of};
+
+use crate::claims::check_claims;
+use crate::{Checked, Policy, VerifyError, check_token};
+use claim_tree::Tree;
+use digest_index::Steps;
+use json_form::{TokenError, read_token};
+use marked_tree::Marked;
+use std::alloc::Global;
+
+/// What a token that is accepted says.
+#[derive(Debug, Drop)]
+pub struct Accepted {
+    /// The processed payload.
+    pub payload: Tree,
+    /// The same, where each node that a disclosure shows has the number of the disclosure.
+    pub marked: Marked,
+}
+
+fn form_refusal(error: TokenError) -> VerifyError
+    ensures { result ≡ form_refusal_of error }
+{
+    match error {
+        TokenError::Memory => VerifyError::Memory,
+        TokenError::Fault(fault) => VerifyError::Fault(fault),
+    }
+}
+
+/// Verifies a token as it comes from a file, RFC 9901 section 7.3, at a moment in seconds since 1970.
+///
+/// The conditions 1 to 3 and 5 to 26 are judged in the order of their numbers, and the first that fails is answered with its least
+/// place. A key binding token that is there is read as grammar and otherwise ignored. `steps` counts the look-ups of digests.
+pub fn verify(
+    alloc: Global,
+    text: &[u8],
+    policy: &Policy,
+    now: u64,
+    steps: &mut Steps,
+) -> Result<Accepted, VerifyError>
+    ensures accepted { IfOk result (λ a. IsAccepted text.now policy.now now (marked_of a.marked)) }
+    ensures payload { IfOk result (λ a. tree_of a.payload ≡ strip_of (marked_of a.marked)) }
+    ensures ranged { IfOk result (λ a. IsRanged (tree_of a.payload)) }
+    ensures refused { IfErr result (λ e. OnFault e (IsLowest (Fails text.now policy.now now))) }
+
+    // the look-ups
+    ensures counted { IfOk result (λ _. (token : SeenToken) × IsToken text.now token × IsCounted token steps.old steps.new) }
+    ensures uncounted { IfErr result (λ e. OnFault e (IsUncounted steps.old steps.new)) }
+{
+    let token = match read_token(alloc, text) {
+        Ok(token) => token,
+        Err(error) => return Err(form_refusal(error)),
+    };
+    let typ = policy.typ.as_ref();
+    let Checked { payload, marked, .. } =
+        match check_token(alloc, &token, &policy.keys, &policy.algs, typ, steps) {
+            Ok(checked) => checked,
+            Err(error) => return Err(error),
+        };
+    if let Err(fault) = check_claims(&payload, policy, now) {
+        return Err(VerifyError::Fault(fault));
+    }
+    Ok(Accepted { payload, marked })
+}
