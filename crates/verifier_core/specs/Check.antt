@@ -1,11 +1,12 @@
 -- What the check of a token answers, and what its steps answer.
 use Rattle.std.specs.Prelude.{◌≡◌, ◌≤◌, ℕ, Bool, true, false, List, ◌∷◌, [], ◌++◌, take, slice_get, Option, Some, None, ◌⊎◌}
 use Rattle.std.specs.List.{AllZip}
-use Rattle.claim_tree.specs.Tree.{Text, Tree, Members, IsRanged, depth}
+use Rattle.claim_tree.specs.Tree.{Text, Tree, Members, no_members, IsRanged, depth}
 use Rattle.compact_form.specs.declared.fault.Fault.{Fault}
 use Rattle.compact_form.specs.declared.fault.Place.{Place}
 use Rattle.compact_form.specs.declared.fault.Place.TheVariants.{Nowhere, At}
 use Rattle.compact_form.specs.declared.parts.JwtParts.{JwtParts}
+use Rattle.compact_form.specs.declared.parts.Parts.{Parts}
 use Rattle.jws_part.specs.declared.header.Header.{Header}
 use Rattle.jws_part.specs.Header.{IsHeader, IsUnreadable, IsCritical}
 use Rattle.jws_part.specs.Part.{IsBody, IsNoObject}
@@ -16,6 +17,7 @@ use Rattle.disclosure.specs.declared.digests.HashAlg.{HashAlg}
 use Rattle.digest_sites.specs.Given.{Given}
 use Rattle.json_form.specs.declared.token.Token.{Token}
 use Rattle.rebuild_core.specs.Given.{look_ups, counted, RoseWithin}
+use Rattle.rebuild_core.specs.Answer.{IsRefusal}
 use Rattle.rebuild_core.specs.declared.errors.ProcessError.{ProcessError}
 use Rattle.verifier_core.specs.Condition.{Condition, number_of}
 use Rattle.verifier_core.specs.Verdict.{Rules, key_for, HasPayload, HasContent, IsAlgRefused, IsTypeRefused, IsBadSignature, IsUnread, Gives}
@@ -28,6 +30,10 @@ OnFault (VerifyError.Fault fault) P = P fault
 
 abbrev pub asked : List NamedKey → List Text → Option Text → Rules
 asked keys algs typ = record { keys = keys; algs = algs; typ = typ }
+
+-- a compact token: it has no unprotected header
+abbrev pub compact : Parts → Token
+compact parts = record { parts = parts; outer = no_members }
 
 -- the algorithm of the digests
 abbrev pub HasHash : Token → HashAlg → Type 0
@@ -120,3 +126,7 @@ refusal_of (ProcessError.WrongShape i) = VerifyError.Fault (placed 18 i)
 refusal_of (ProcessError.ReservedName i) = VerifyError.Fault (placed 19 i)
 refusal_of (ProcessError.NameClash i) = VerifyError.Fault (placed 20 i)
 refusal_of ProcessError.TooDeep = VerifyError.Fault (unplaced 21)
+
+-- the answer for content that is not processed
+abbrev pub IsUnopened : Tree → List Given → VerifyError → Type 0
+IsUnopened payload given e = (error : ProcessError) × (e ≡ refusal_of error) × IsRefusal payload given error
