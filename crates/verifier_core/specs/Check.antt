@@ -28,6 +28,7 @@ abbrev pub OnFault : VerifyError → (Fault → Type 0) → Type 0
 OnFault VerifyError.Memory P = Unit {0}
 OnFault (VerifyError.Fault fault) P = P fault
 
+-- the rules of these keys, algorithms and type
 abbrev pub asked : List NamedKey → List Text → Option Text → Rules
 asked keys algs typ = record { keys = keys; algs = algs; typ = typ }
 
@@ -57,9 +58,11 @@ IsUncounted old new fault = fault.number ≤ 13 → new ≡ old
 abbrev pub Passes : ℕ → (Condition → Place → Type 0) → Type 0
 Passes k FailsSo = (c : Condition) (place : Place) → FailsSo c place → k ≤ number_of c
 
+-- the fault of a condition that names no place
 abbrev pub unplaced : ℕ → Fault
 unplaced number = record { number = number; place = Nowhere }
 
+-- the fault of a condition that fails at a number
 abbrev pub placed : ℕ → ℕ → Fault
 placed number i = record { number = number; place = At i }
 

@@ -1,6 +1,7 @@
 //! What a verifier wants of a token, and the conditions by which it refuses one (RFC 9901 section 7.3).
 //!
-//! [`read_policy`] reads a [`Policy`] from its file. [`fault_line`] is the line that tells of a condition that fails.
+//! [`read_policy`] reads a [`Policy`] from its file. [`check_token`] and [`check_view`] judge a token itself, and [`fault_line`] is
+//! the line that tells of a condition that fails.
 #![tactic(auto)]
 
 mod check;
