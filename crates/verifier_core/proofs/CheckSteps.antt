@@ -22,7 +22,7 @@ use Rattle.rebuild_core.specs.Conditions as opening
 use Rattle.rebuild_core.specs.declared.errors.ProcessError.{ProcessError}
 use Rattle.verifier_core.specs.Condition as condition
 use Rattle.verifier_core.specs.Verdict.{Rules, key_for, HasHeader, HasPayload, IsAlgRefused, IsTypeRefused, IsBadSignature, IsUnread, Gives, HasContent, OfContent, Unplaced, Numbered, TokenFails, IsLowest, IsChecked}
-use Rattle.verifier_core.specs.Check.{OnFault, IsUnopened, IsUncounted, Passes, unplaced, refusal_of, IsSigned, IsSignedFault, bad_header, critical, bad_alg, bad_type, no_key, not_signed, IsPayloadFault, no_body, no_hash, IsUnreadAt}
+use Rattle.verifier_core.specs.Check.{OnFault, IsUnopened, Passes, unplaced, refusal_of, IsSigned, IsSignedFault, bad_header, critical, bad_alg, bad_type, no_key, not_signed, IsPayloadFault, no_body, no_hash, IsUnreadAt}
 use Rattle.verifier_core.specs.declared.check.VerifyError.{VerifyError}
 use Rattle.verifier_core.proofs.Lowest.{finish, start, step, refuse_unplaced, refuse_placed}
 
@@ -285,21 +285,6 @@ is_payload part t hash b e = subst IsPayload (sym b.is_object) (object_payload b
 pub unopened_fault : (token : Token) (rules : Rules) (p : Tree) (g : List Given) (e : VerifyError) → HasContent token p g → Passes 14 (TokenFails token rules) → IsUnopened p g e
     → OnFault e (IsLowest (TokenFails token rules))
 unopened_fault token rules p g e has passes w = subst (λ x. OnFault x (IsLowest (TokenFails token rules))) (sym w.1) (content_fault token rules p g has passes w.0 w.2)
-
--- what is read is looked up, so a lower condition did not fail
-looked_up : (e : ProcessError) (old new : ℕ) → OnFault (refusal_of e) (IsUncounted old new)
-looked_up ProcessError.Memory old new = tt
-looked_up (ProcessError.RepeatedDisclosure i) old new = λ low. absurd (omega (arith, low))
-looked_up (ProcessError.ReservedMisused i) old new = λ low. absurd (omega (arith, low))
-looked_up (ProcessError.RepeatedDigest i) old new = λ low. absurd (omega (arith, low))
-looked_up (ProcessError.Unreferenced i) old new = λ low. absurd (omega (arith, low))
-looked_up (ProcessError.WrongShape i) old new = λ low. absurd (omega (arith, low))
-looked_up (ProcessError.ReservedName i) old new = λ low. absurd (omega (arith, low))
-looked_up (ProcessError.NameClash i) old new = λ low. absurd (omega (arith, low))
-looked_up ProcessError.TooDeep old new = λ low. absurd (omega (arith, low))
-
-pub unopened_uncounted : (p : Tree) (g : List Given) (e : VerifyError) (old new : ℕ) → IsUnopened p g e → OnFault e (IsUncounted old new)
-unopened_uncounted p g e old new w = subst (λ x. OnFault x (IsUncounted old new)) (sym w.1) (looked_up w.0 old new)
 
 pub content_checked : (token : Token) (rules : Rules) (p : Tree) (g : List Given) (marked : Marked) → HasContent token p g → Passes 14 (TokenFails token rules) → opening.IsSound p g → marked ≡ processed p g → IsChecked token rules marked
 content_checked token rules p g marked has passes sound is = record {
