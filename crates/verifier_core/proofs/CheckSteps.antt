@@ -14,18 +14,18 @@ use Rattle.disclosure.specs.Digest.{payload_hash, hash_of_name}
 use Rattle.disclosure.specs.declared.digests.HashAlg.{HashAlg}
 use Rattle.disclosure.proofs.Verdicts as readings
 use Rattle.digest_sites.specs.Given.{Given}
-use Rattle.marked_tree.specs.Marked.{strip}
+use Rattle.marked_tree.specs.Marked.{Marked, strip}
 use Rattle.rebuild_core.specs.Payload.{alg_name, without_alg}
 use Rattle.rebuild_core.specs.Opening.{processed}
 use Rattle.rebuild_core.specs.Answer.{IsPayload, IsRefusal}
 use Rattle.rebuild_core.specs.Conditions as opening
 use Rattle.rebuild_core.specs.declared.errors.ProcessError.{ProcessError}
 use Rattle.verifier_core.specs.Condition as condition
-use Rattle.verifier_core.specs.Verdict.{Rules, key_for, HasHeader, HasPayload, IsAlgRefused, IsTypeRefused, IsBadSignature, IsUnread, Gives, HasContent, OfContent, Unplaced, Numbered, TokenFails, IsLowest}
-use Rattle.verifier_core.specs.Check.{OnFault, Passes, unplaced, refusal_of, IsSigned, IsSignedFault, bad_header, critical, bad_alg, bad_type, no_key, not_signed, IsPayloadFault, no_body, no_hash, IsUnreadAt}
+use Rattle.verifier_core.specs.Verdict.{Rules, key_for, HasHeader, HasPayload, IsAlgRefused, IsTypeRefused, IsBadSignature, IsUnread, Gives, HasContent, OfContent, Unplaced, Numbered, TokenFails, IsLowest, IsChecked}
+use Rattle.verifier_core.specs.Check.{OnFault, IsUnopened, Passes, unplaced, refusal_of, IsSigned, IsSignedFault, bad_header, critical, bad_alg, bad_type, no_key, not_signed, IsPayloadFault, no_body, no_hash, IsUnreadAt}
 use Rattle.verifier_core.specs.declared.check.VerifyError.{VerifyError}
 use Rattle.verifier_core.proofs.Lowest.{holds_too}
-use Rattle.verifier_core.proofs.TokenConditions.{start, refuse_unplaced, refuse_placed}
+use Rattle.verifier_core.proofs.TokenConditions.{finish, start, refuse_unplaced, refuse_placed}
 
 -- ---- one header
 
@@ -282,3 +282,13 @@ object_payload ms hash e t there = known_text t hash (ap hash_of_name (sym there
 
 pub is_payload : (part : Text) (t : Tree) (hash : HashAlg) → IsBody part t → payload_hash t ≡ Some hash → IsPayload t
 is_payload part t hash b e = subst IsPayload (sym b.is_object) (object_payload b.members hash (subst (λ x. payload_hash x ≡ Some hash) b.is_object e))
+
+pub unopened_fault : (token : Token) (rules : Rules) (p : Tree) (g : List Given) (e : VerifyError) → HasContent token p g → Passes 14 (TokenFails token rules) → IsUnopened p g e
+    → OnFault e (IsLowest (TokenFails token rules))
+unopened_fault token rules p g e has passes w = subst (λ x. OnFault x (IsLowest (TokenFails token rules))) (sym w.1) (content_fault token rules p g has passes w.0 w.2)
+
+pub content_checked : (token : Token) (rules : Rules) (p : Tree) (g : List Given) (marked : Marked) → HasContent token p g → Passes 14 (TokenFails token rules) → opening.IsSound p g → marked ≡ processed p g → IsChecked token rules marked
+content_checked token rules p g marked has passes sound is = record {
+  passes = finish token rules (content_passes token rules p g has passes sound);
+  opens = (p, g, has, is);
+}

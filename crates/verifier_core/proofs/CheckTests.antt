@@ -1,5 +1,5 @@
 -- What the tests of a check tell.
-use Rattle.std.proofs.Common.{◌≡◌, ◌↔◌, ◌⊎◌, inl, inr, ℕ, zero, suc, ◌<◌, List, [], ◌∷◌, ◌++◌, length, take, slice_get, Bool, true, false, not, bytes_eq, Option, Some, None, refl, sym, ap, subst, ◌∙◌, arith, IsTrue}
+use Rattle.std.proofs.Common.{Result, Ok, Err, IfOk, IfErr, ◌≡◌, ◌↔◌, ◌⊎◌, inl, inr, ℕ, zero, suc, ◌<◌, List, [], ◌∷◌, ◌++◌, length, take, slice_get, Bool, true, false, not, bytes_eq, Option, Some, None, refl, sym, ap, subst, ◌∙◌, arith, IsTrue}
 use Rattle.std.specs.List.{AllZip}
 use Rattle.b64url_text.specs.Base64url.{Decodes}
 use Rattle.b64url_text.proofs.Codes.{one_code}
@@ -102,3 +102,37 @@ unread_told hash ds i d before DisclosureError.NotBase64 there read refused = re
 unread_told hash ds i d before DisclosureError.NotJson there read refused = record { i = i; disclosure = d; there = there; before = before; read = read; unread = unread_of d DisclosureError.NotJson refused (λ e. cc e); fault_is = refl }
 unread_told hash ds i d before DisclosureError.NotWhole there read refused = record { i = i; disclosure = d; there = there; before = before; read = read; unread = unread_of d DisclosureError.NotWhole refused (λ e. cc e); fault_is = refl }
 unread_told hash ds i d before DisclosureError.NotDisclosure there read refused = record { i = i; disclosure = d; there = there; before = before; read = read; unread = unread_of d DisclosureError.NotDisclosure refused (λ e. cc e); fault_is = refl }
+
+-- ---- disclosures that come one by one
+
+pub zip_more : (hash : HashAlg) (ds : List Text) (xs : List Given) (d : Text) (x : Given) → AllZip (Gives hash) ds xs → Gives hash d x → AllZip (Gives hash) (ds ++ d ∷ []) (xs ++ x ∷ [])
+zip_more hash [] [] d x all g = (g, tt)
+zip_more hash [] (y ∷ xs) d x all g = absurd all
+zip_more hash (e ∷ ds) [] d x all g = absurd all
+zip_more hash (e ∷ ds) (y ∷ xs) d x all g = (all.0, zip_more hash ds xs d x all.1 g)
+
+front_of : (done : List Text) (d : Text) (rest : List Text) → take (length done) (done ++ d ∷ rest) ≡ done
+front_of [] d rest = refl
+front_of (x ∷ done) d rest = ap (λ t. x ∷ t) (front_of done d rest)
+
+got_next : (done : List Text) (d : Text) (rest : List Text) → slice_get (done ++ d ∷ rest) (length done) ≡ Some d
+got_next [] d rest = refl
+got_next (x ∷ done) d rest = got_next done d rest
+
+-- the next one is not read
+pub next_unread : (hash : HashAlg) (ds done rest : List Text) (i : ℕ) (d : Text) (before : List Given) (e : DisclosureError) → ds ≡ done ++ d ∷ rest → i ≡ length done → AllZip (Gives hash) done before → IsRefused d e
+    → OnFault (unread_at i e) (IsUnreadAt hash ds)
+next_unread hash ds done rest i d before e stand at read refused =
+    let there : slice_get ds i ≡ Some d = subst (λ k. slice_get ds k ≡ Some d) (sym at) (subst (λ xs. slice_get xs (length done) ≡ Some d) (sym stand) (got_next done d rest)) in
+    let front : take i ds ≡ done = subst (λ k. take k ds ≡ done) (sym at) (subst (λ xs. take (length done) xs ≡ done) (sym stand) (front_of done d rest)) in
+    unread_told hash ds i d before e there (subst (λ xs. AllZip (Gives hash) xs before) (sym front) read) refused
+
+-- ---- an answer that is handed on
+
+pub ok_both : {T E : Type 0} (r : Result T E) (P Q R : T → Type 0) → ((x : T) → P x → Q x → R x) → IfOk r P → IfOk r Q → IfOk r R
+ok_both (Ok x) P Q R more p q = more x p q
+ok_both (Err e) P Q R more p q = tt
+
+pub err_more : {T E : Type 0} (r : Result T E) (P Q : E → Type 0) → ((e : E) → P e → Q e) → IfErr r P → IfErr r Q
+err_more (Ok x) P Q more p = tt
+err_more (Err e) P Q more p = more e p

@@ -1,15 +1,15 @@
 -- The verdict on a file, from the verdicts on its form, its token and its claims.
-use Rattle.std.proofs.Common.{◌≡◌, ℕ, ◌<◌, ◌≤◌, ◌-◌, ◌^◌, ◌⊎◌, inl, inr, List, length, Result, Err, refl, sym, ap, ap₂, subst, ◌∙◌, arith}
+use Rattle.std.proofs.Common.{◌≡◌, ℕ, ◌<◌, ◌≤◌, ◌-◌, ◌^◌, ◌⊎◌, inl, inr, List, length, refl, sym, ap, ap₂, subst, ◌∙◌, arith}
 use Rattle.claim_tree.specs.Tree.{Tree}
 use Rattle.compact_form.specs.declared.limits.TheConstants.{COUNT_MAX}
 use Rattle.compact_form.specs.declared.fault.TheConstants.{TOO_MUCH}
 use Rattle.compact_form.specs.declared.fault.Fault.{Fault}
 use Rattle.compact_form.specs.declared.fault.Place.{Place}
 use Rattle.compact_form.specs.declared.fault.Place.TheVariants.{Nowhere, At, Json}
+use Rattle.compact_form.specs.declared.parts.Parts.{Parts}
 use Rattle.compact_form.specs.Token as file
 use Rattle.compact_form.proofs.Verdicts as files
 use Rattle.json_form.specs.declared.token.Token.{Token}
-use Rattle.json_form.specs.declared.token.TokenError.{TokenError}
 use Rattle.json_form.specs.Token.{IsToken}
 use Rattle.json_form.proofs.Tokens as tokens
 use Rattle.digest_sites.specs.Given.{Given}
@@ -18,7 +18,7 @@ use Rattle.rebuild_core.specs.Opening.{processed}
 use Rattle.verifier_core.specs.Condition as condition
 use Rattle.verifier_core.specs.Condition.{Condition, number_of}
 use Rattle.verifier_core.specs.Verdict.{TokenFails, ClaimFails, Fails, of_file, of_token, of_claims, rules_of, Opens, IsNoLater, IsLowest, NoneFails, IsChecked, IsAccepted}
-use Rattle.verifier_core.specs.Check.{OnFault, form_refusal}
+use Rattle.verifier_core.specs.Check.{compact}
 use Rattle.verifier_core.specs.declared.policy.Policy.{Policy}
 use Rattle.verifier_core.proofs.Numbers.{one_condition}
 use Rattle.verifier_core.proofs.TokenConditions.{token_numbers}
@@ -75,10 +75,9 @@ file_lowest content policy now fault refused =
             let one : fault ≡ fault_at other place = files.one_fault content fault (fault_at other place) refused twin in
             inr (one_condition other c (sym same ∙ is), subst (λ (x : Fault). IsNoLater fault.place x.place) one (no_later fault.place))
 
-pub form_lowest : (content : List ℕ) (policy : Policy) (now : ℕ) (error : TokenError) → ((fault : Fault) → ◌≡◌ {A = Result Token TokenError} (Err error) (Err (TokenError.Fault fault)) → file.IsRefused content fault)
-    → OnFault (form_refusal error) (IsLowest (Fails content policy now))
-form_lowest content policy now TokenError.Memory h = tt
-form_lowest content policy now (TokenError.Fault fault) h = file_lowest content policy now fault (h fault refl)
+-- the token that a file reads as
+pub is_compact : (content : List ℕ) (parts : Parts) → file.Reads content parts → IsToken content (compact parts)
+is_compact content parts reads = record { reads = reads; plain = refl }
 
 module _ (content : List ℕ) (policy : Policy) (now : ℕ) (token : Token) (is : IsToken content token) where
   -- a token that is refused

@@ -1,11 +1,12 @@
 -- What the check of a token answers, and what its steps answer.
 use Rattle.std.specs.Prelude.{◌≡◌, ◌≤◌, ℕ, Bool, true, false, List, ◌∷◌, [], ◌++◌, take, slice_get, Option, Some, None, ◌⊎◌}
 use Rattle.std.specs.List.{AllZip}
-use Rattle.claim_tree.specs.Tree.{Text, Tree, Members, IsRanged, depth}
+use Rattle.claim_tree.specs.Tree.{Text, Tree, Members, no_members, IsRanged, depth}
 use Rattle.compact_form.specs.declared.fault.Fault.{Fault}
 use Rattle.compact_form.specs.declared.fault.Place.{Place}
 use Rattle.compact_form.specs.declared.fault.Place.TheVariants.{Nowhere, At}
 use Rattle.compact_form.specs.declared.parts.JwtParts.{JwtParts}
+use Rattle.compact_form.specs.declared.parts.Parts.{Parts}
 use Rattle.jws_part.specs.declared.header.Header.{Header}
 use Rattle.jws_part.specs.Header.{IsHeader, IsUnreadable, IsCritical}
 use Rattle.jws_part.specs.Part.{IsBody, IsNoObject}
@@ -15,8 +16,8 @@ use Rattle.disclosure.specs.declared.errors.DisclosureError.{DisclosureError}
 use Rattle.disclosure.specs.declared.digests.HashAlg.{HashAlg}
 use Rattle.digest_sites.specs.Given.{Given}
 use Rattle.json_form.specs.declared.token.Token.{Token}
-use Rattle.json_form.specs.declared.token.TokenError.{TokenError}
 use Rattle.rebuild_core.specs.Given.{look_ups, counted, RoseWithin}
+use Rattle.rebuild_core.specs.Answer.{IsRefusal}
 use Rattle.rebuild_core.specs.declared.errors.ProcessError.{ProcessError}
 use Rattle.verifier_core.specs.Condition.{Condition, number_of}
 use Rattle.verifier_core.specs.Verdict.{Rules, key_for, HasPayload, HasContent, IsAlgRefused, IsTypeRefused, IsBadSignature, IsUnread, Gives}
@@ -27,8 +28,13 @@ abbrev pub OnFault : VerifyError → (Fault → Type 0) → Type 0
 OnFault VerifyError.Memory P = Unit {0}
 OnFault (VerifyError.Fault fault) P = P fault
 
+-- the rules of these keys, algorithms and type
 abbrev pub asked : List NamedKey → List Text → Option Text → Rules
 asked keys algs typ = record { keys = keys; algs = algs; typ = typ }
+
+-- a compact token: it has no unprotected header
+abbrev pub compact : Parts → Token
+compact parts = record { parts = parts; outer = no_members }
 
 -- the algorithm of the digests
 abbrev pub HasHash : Token → HashAlg → Type 0
@@ -52,9 +58,11 @@ IsUncounted old new fault = fault.number ≤ 13 → new ≡ old
 abbrev pub Passes : ℕ → (Condition → Place → Type 0) → Type 0
 Passes k FailsSo = (c : Condition) (place : Place) → FailsSo c place → k ≤ number_of c
 
+-- the fault of a condition that names no place
 abbrev pub unplaced : ℕ → Fault
 unplaced number = record { number = number; place = Nowhere }
 
+-- the fault of a condition that fails at a number
 abbrev pub placed : ℕ → ℕ → Fault
 placed number i = record { number = number; place = At i }
 
@@ -122,7 +130,6 @@ refusal_of (ProcessError.ReservedName i) = VerifyError.Fault (placed 19 i)
 refusal_of (ProcessError.NameClash i) = VerifyError.Fault (placed 20 i)
 refusal_of ProcessError.TooDeep = VerifyError.Fault (unplaced 21)
 
--- the refusal of a text that is no token
-abbrev pub form_refusal : TokenError → VerifyError
-form_refusal TokenError.Memory = VerifyError.Memory
-form_refusal (TokenError.Fault fault) = VerifyError.Fault fault
+-- the answer for content that is not processed
+abbrev pub IsUnopened : Tree → List Given → VerifyError → Type 0
+IsUnopened payload given e = (error : ProcessError) × (e ≡ refusal_of error) × IsRefusal payload given error

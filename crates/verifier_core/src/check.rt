@@ -8,20 +8,23 @@ ghost use Rattle.marked_tree.specs.View.{marked_of};
 ghost use Rattle.claim_tree.specs.Tree.{depth as depth_of};
 ghost use Rattle.compact_form.specs.Views.{jwt_of};
 ghost use Rattle.rebuild_core.specs.Answer.{IsPayload, ValuesShallow, ValuesRanged};
+ghost use Rattle.rebuild_core.specs.Conditions.{IsSound};
+ghost use Rattle.rebuild_core.specs.Given.{look_ups, counted, RoseWithin};
+ghost use Rattle.rebuild_core.specs.Opening.{processed};
 ghost use Rattle.rebuild_core.specs.Payload.{without_alg};
 ghost use Rattle.verifier_core.specs.Verdict.{TokenFails, IsLowest, IsChecked, HasContent};
-ghost use Rattle.verifier_core.specs.Check.{OnFault, HasHash, IsCounted, IsCountedWithin, IsUncounted, Passes, asked, placed, refusal_of};
+ghost use Rattle.verifier_core.specs.Check.{OnFault, HasHash, IsCounted, IsCountedWithin, IsUncounted, Passes, IsUnopened, asked, compact, placed, refusal_of};
 ghost use Rattle.verifier_core.specs.declared.check.VerifyError.{VerifyError};
 
-use crate::check_given::read_given;
+use crate::check_given::{read_given, read_pieces};
 use crate::check_payload::read_payload;
 use crate::check_signed::check_signed;
 use crate::{
     NAME_CLASH, REPEATED_DIGEST, REPEATED_DISCLOSURE, RESERVED_MISUSED, RESERVED_NAME, TOO_DEEP,
     UNREFERENCED_DISCLOSURE, WRONG_SHAPE,
 };
-use claim_tree::Tree;
-use compact_form::{Fault, JwtParts, JwtView, Place};
+use claim_tree::{Tree, TreeMap};
+use compact_form::{Fault, JwtParts, JwtView, Place, View};
 use digest_index::Steps;
 use digest_sites::GivenList;
 use disclosure::HashAlg;
@@ -142,6 +145,70 @@ fn read_content(
     Ok(Content { body, hash, given })
 }
 
+// The same of a compact token.
+fn view_content(
+    alloc: Global,
+    view: &View<'_>,
+    keys: &KeySet,
+    algs: &TextList,
+    typ: Option<&TextBox>,
+) -> Result<Content, VerifyError>
+    ensures passes { IfOk result (λ _. Passes 14 (TokenFails (compact view.now) (asked keys.now algs.now (option_copied typ.entry)))) }
+    ensures content { IfOk result (λ c. HasContent (compact view.now) (without_alg (tree_of c.body)) c.given) }
+    ensures hash { IfOk result (λ c. HasHash (compact view.now) c.hash) }
+    ensures payload { IfOk result (λ c. IsPayload (tree_of c.body)) }
+    ensures body_depth { IfOk result (λ c. depth_of (tree_of c.body) ≤ 127) }
+    ensures body_range { IfOk result (λ c. IsRanged (tree_of c.body)) }
+    ensures values_depth { IfOk result (λ c. ValuesShallow c.given) }
+    ensures values_range { IfOk result (λ c. ValuesRanged c.given) }
+    ensures as_many { IfOk result (λ c. length c.given ≡ length view.now.disclosures) }
+    ensures refused { IfErr result (λ e. OnFault e (IsLowest (TokenFails (compact view.now) (asked keys.now algs.now (option_copied typ.entry))))) }
+{
+    let signed = view.signed();
+    let outer = TreeMap::new(alloc);
+    if let Err(error) = check_signed(alloc, signed, &outer, keys, algs, typ) {
+        return Err(error);
+    }
+    let (body, hash) = match read_payload(alloc, signed.payload) {
+        Ok(read) => read,
+        Err(error) => return Err(error),
+    };
+    let given = match read_pieces(alloc, hash, view.pieces()) {
+        Ok(given) => given,
+        Err(error) => return Err(error),
+    };
+    Ok(Content { body, hash, given })
+}
+
+// The conditions 14 to 21.
+fn open_content(alloc: Global, content: Content, steps: &mut Steps) -> Result<Checked, VerifyError>
+    requires object { IsPayload (tree_of content.body) }
+    requires body_depth { depth_of (tree_of content.body) ≤ 127 }
+    requires values_depth { ValuesShallow content.given }
+    requires body_range { IsRanged (tree_of content.body) }
+    requires values_range { ValuesRanged content.given }
+    requires few { length content.given < 2 ^ 32 - 1 }
+    ensures sound { IfOk result (λ _. IsSound (without_alg (tree_of content.body)) content.given) }
+    ensures processed { IfOk result (λ c. marked_of c.marked ≡ processed (without_alg (tree_of content.body)) content.given) }
+    ensures payload { IfOk result (λ c. tree_of c.payload ≡ strip_of (marked_of c.marked)) }
+    ensures ranged { IfOk result (λ c. IsRanged (tree_of c.payload)) }
+    ensures hash { IfOk result (λ c. c.hash ≡ content.hash) }
+    ensures refused { IfErr result (IsUnopened (without_alg (tree_of content.body)) content.given) }
+    ensures counted { IfOk result (λ _. steps.new ≡ counted steps.old (look_ups (without_alg (tree_of content.body)) content.given)) }
+    ensures risen { RoseWithin (look_ups (without_alg (tree_of content.body)) content.given) steps.old steps.new }
+{
+    let marked = match process(alloc, &content.body, &content.given, steps) {
+        Ok(marked) => marked,
+        Err(error) => return Err(refusal(error)),
+    };
+    let payload = strip(alloc, &marked)?;
+    Ok(Checked {
+        payload,
+        marked,
+        hash: content.hash,
+    })
+}
+
 /// Checks a token itself: the conditions 5 to 21, RFC 9901 section 7.3, without its key binding token.
 ///
 /// The header, the signature, the payload and the disclosures are judged in this order, and the first condition that fails is
@@ -170,14 +237,33 @@ pub fn check_token(
         Ok(content) => content,
         Err(error) => return Err(error),
     };
-    let marked = match process(alloc, &content.body, &content.given, steps) {
-        Ok(marked) => marked,
-        Err(error) => return Err(refusal(error)),
+    open_content(alloc, content, steps)
+}
+
+/// Checks a compact token in the same way, without a copy of its texts. It has no unprotected header.
+pub fn check_view(
+    alloc: Global,
+    view: &View<'_>,
+    keys: &KeySet,
+    algs: &TextList,
+    typ: Option<&TextBox>,
+    steps: &mut Steps,
+) -> Result<Checked, VerifyError>
+    requires few { length view.now.disclosures < 2 ^ 32 - 1 }
+    ensures checked { IfOk result (λ c. IsChecked (compact view.now) (asked keys.now algs.now (option_copied typ.entry)) (marked_of c.marked)) }
+    ensures payload { IfOk result (λ c. tree_of c.payload ≡ strip_of (marked_of c.marked)) }
+    ensures ranged { IfOk result (λ c. IsRanged (tree_of c.payload)) }
+    ensures hash { IfOk result (λ c. HasHash (compact view.now) c.hash) }
+    ensures refused { IfErr result (λ e. OnFault e (IsLowest (TokenFails (compact view.now) (asked keys.now algs.now (option_copied typ.entry))))) }
+
+    // the look-ups
+    ensures counted { IfOk result (λ _. IsCounted (compact view.now) steps.old steps.new) }
+    ensures within { IsCountedWithin (compact view.now) steps.old steps.new }
+    ensures uncounted { IfErr result (λ e. OnFault e (IsUncounted steps.old steps.new)) }
+{
+    let content = match view_content(alloc, view, keys, algs, typ) {
+        Ok(content) => content,
+        Err(error) => return Err(error),
     };
-    let payload = strip(alloc, &marked)?;
-    Ok(Checked {
-        payload,
-        marked,
-        hash: content.hash,
-    })
+    open_content(alloc, content, steps)
 }

@@ -1,5 +1,5 @@
 // What the disclosures of a token give.
-ghost use Rattle.std.specs.Prelude.{◌≡◌, ◌≤◌, IfOk, IfErr, OnOk};
+ghost use Rattle.std.specs.Prelude.{◌≡◌, ◌≤◌, ◌<◌, ◌^◌, length, IfOk, IfErr, OnOk};
 ghost use Rattle.std.specs.List.{AllZip};
 ghost use Rattle.rebuild_core.specs.Answer.{ValuesShallow, ValuesRanged};
 ghost use Rattle.disclosure.specs.Refusals.{IsRefused};
@@ -7,7 +7,7 @@ ghost use Rattle.verifier_core.specs.Verdict.{Gives};
 ghost use Rattle.verifier_core.specs.Check.{OnFault, Adds, IsUnreadAt, unread_at};
 
 use crate::check::{VerifyError, fails_at};
-use compact_form::DISCLOSURE_UNREADABLE;
+use compact_form::{DISCLOSURE_UNREADABLE, Pieces};
 use digest_sites::{Given, GivenList};
 use disclosure::{DisclosureError, HashAlg, read_disclosure};
 use sd_outside::TextList;
@@ -59,6 +59,27 @@ pub(crate) fn read_given(
             unreachable!();
         };
         if let Err(error) = push_given(alloc, hash, &mut given, text.as_str()) {
+            return Err(unread(i, error));
+        }
+    }
+    Ok(given)
+}
+
+// Condition 13 of a compact token.
+pub(crate) fn read_pieces(
+    alloc: Global,
+    hash: HashAlg,
+    disclosures: Pieces<'_>,
+) -> Result<GivenList, VerifyError>
+    requires { length disclosures < 2 ^ 64 }
+    ensures ok { IfOk result (AllZip (Gives hash) disclosures.entry) }
+    ensures shallow { IfOk result ValuesShallow }
+    ensures ranged { IfOk result ValuesRanged }
+    ensures refused { IfErr result (λ e. OnFault e (IsUnreadAt hash disclosures.entry)) }
+{
+    let mut given = GivenList::new(alloc);
+    for (i, text) in disclosures.enumerate() {
+        if let Err(error) = push_given(alloc, hash, &mut given, text) {
             return Err(unread(i, error));
         }
     }

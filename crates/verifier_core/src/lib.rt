@@ -1,12 +1,15 @@
 //! What a verifier wants of a token, and the conditions by which it refuses one (RFC 9901 section 7.3).
 //!
-//! [`read_policy`] reads a [`Policy`] from its file. [`fault_line`] is the line that tells of a condition that fails.
+//! [`read_policy`] reads a [`Policy`] from its file. [`check_token`] and [`check_view`] judge a token itself, and [`fault_line`] is
+//! the line that tells of a condition that fails.
 #![tactic(auto)]
 
 mod check;
 mod check_given;
 mod check_payload;
 mod check_signed;
+#[cfg(test)]
+mod check_tests;
 mod claims;
 #[cfg(test)]
 mod claims_tests;
@@ -17,8 +20,10 @@ mod refusal;
 #[cfg(test)]
 mod tests;
 mod verdict;
+#[cfg(test)]
+mod verify_tests;
 
-pub use check::{Checked, VerifyError, check_token};
+pub use check::{Checked, VerifyError, check_token, check_view};
 pub use conditions::{
     ALG_REFUSED, AUDIENCE_DIFFERS, BAD_SIGNATURE, BINDING_ALG, BINDING_EARLY, BINDING_HEADER,
     BINDING_MISSING, BINDING_PAYLOAD, BINDING_SIGNATURE, BINDING_STALE, BINDING_TIME, BINDING_TYPE,

@@ -7,13 +7,13 @@ ghost use Rattle.marked_tree.specs.View.{marked_of};
 ghost use Rattle.json_form.specs.declared.token.Token.{Token as SeenToken};
 ghost use Rattle.json_form.specs.Token.{IsToken};
 ghost use Rattle.verifier_core.specs.Verdict.{Fails, IsLowest, IsAccepted};
-ghost use Rattle.verifier_core.specs.Check.{OnFault, IsCounted, IsUncounted, form_refusal as form_refusal_of};
+ghost use Rattle.verifier_core.specs.Check.{OnFault, IsCounted, IsUncounted};
 
 use crate::claims::check_claims;
-use crate::{Checked, Policy, VerifyError, check_token};
+use crate::{Checked, Policy, VerifyError, check_view};
 use claim_tree::Tree;
+use compact_form::read_view;
 use digest_index::Steps;
-use json_form::{TokenError, read_token};
 use marked_tree::Marked;
 use std::alloc::Global;
 
@@ -24,15 +24,6 @@ pub struct Accepted {
     pub payload: Tree,
     /// The same, where each node that a disclosure shows has the number of the disclosure.
     pub marked: Marked,
-}
-
-fn form_refusal(error: TokenError) -> VerifyError
-    ensures { result ≡ form_refusal_of error }
-{
-    match error {
-        TokenError::Memory => VerifyError::Memory,
-        TokenError::Fault(fault) => VerifyError::Fault(fault),
-    }
 }
 
 /// Verifies a token as it comes from a file, RFC 9901 section 7.3, at a moment in seconds since 1970.
@@ -55,16 +46,19 @@ pub fn verify(
     ensures counted { IfOk result (λ _. (token : SeenToken) × IsToken text.now token × IsCounted token steps.old steps.new) }
     ensures uncounted { IfErr result (λ e. OnFault e (IsUncounted steps.old steps.new)) }
 {
-    let token = match read_token(alloc, text) {
-        Ok(token) => token,
-        Err(error) => return Err(form_refusal(error)),
+    let view = match read_view(text) {
+        Ok(view) => view,
+        Err(fault) => return Err(VerifyError::Fault(fault)),
     };
     let typ = policy.typ.as_ref();
-    let Checked { payload, marked, .. } =
-        match check_token(alloc, &token, &policy.keys, &policy.algs, typ, steps) {
-            Ok(checked) => checked,
-            Err(error) => return Err(error),
-        };
+    let Checked {
+        payload,
+        marked,
+        ..
+    } = match check_view(alloc, &view, &policy.keys, &policy.algs, typ, steps) {
+        Ok(checked) => checked,
+        Err(error) => return Err(error),
+    };
     if let Err(fault) = check_claims(&payload, policy, now) {
         return Err(VerifyError::Fault(fault));
     }

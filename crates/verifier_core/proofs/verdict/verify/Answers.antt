@@ -7,40 +7,42 @@ use Rattle.compact_form.specs.declared.fault.Fault.{Fault}
 use Rattle.verifier_core.specs.Verdict.{Rules, TokenFails, ClaimFails, Fails, IsLowest, IsChecked, rules_of}
 use Rattle.compact_form.specs.declared.fault.Place.{Place}
 use Rattle.verifier_core.specs.Condition.{Condition}
-use Rattle.verifier_core.specs.Check.{asked}
+use Rattle.verifier_core.specs.Check.{asked, compact}
 use Rattle.verifier_core.proofs.CheckSteps.{on_fault}
-use Rattle.verifier_core.proofs.Verdicts.{few, form_lowest, token_lowest, claims_lowest, accepted}
+use Rattle.verifier_core.proofs.Verdicts.{few, is_compact, file_lowest, token_lowest, claims_lowest, accepted}
 use Rattle.verifier_core.proofs.verdict.verify.Goals as goal
 
 pub returns-in-Err-clause-refused : goal.returns-in-Err-clause-refused
-returns-in-Err-clause-refused c =
-    rw c.form_refusal.ensures (form_lowest c.args.text.now c.args.policy.now c.args.now c.in-Err.error c.in-Err.ensures.refused)
+returns-in-Err-clause-refused c = file_lowest c.args.text.now c.args.policy.now c.args.now c.in-Err.fault c.in-Err.ensures.err
 
-pub check_token-requires : goal.check_token-requires
-check_token-requires c = record { few = few c.args.text.now c.in-Ok.token c.in-Ok.ensures.ok }
+pub check_view-requires : goal.check_view-requires
+check_view-requires c = record { few = few c.args.text.now (compact c.in-Ok.view) (is_compact c.args.text.now c.in-Ok.view c.in-Ok.ensures.ok) }
 
-pub returns-in-Err-check_token-clause-refused : goal.returns-in-Err-check_token-clause-refused
-returns-in-Err-check_token-clause-refused c =
+pub returns-in-Err-check_view-clause-refused : goal.returns-in-Err-check_view-clause-refused
+returns-in-Err-check_view-clause-refused c =
     let rules = asked c.args.policy.now.keys c.args.policy.now.algs (option_copied c.as_ref-typ.result) in
     let same : rules ≡ rules_of c.args.policy.now = ap (asked c.args.policy.now.keys c.args.policy.now.algs) c.as_ref-typ.ensures.value in
-    on_fault c.in-Err-check_token.error (IsLowest (TokenFails c.in-Ok.token rules)) (IsLowest (Fails c.args.text.now c.args.policy.now c.args.now))
-    (λ fault l. token_lowest c.args.text.now c.args.policy.now c.args.now c.in-Ok.token c.in-Ok.ensures.ok fault (subst (λ (r : Rules). IsLowest (TokenFails c.in-Ok.token r) fault) same l))
-    c.in-Err-check_token.ensures.refused
+    let token = compact c.in-Ok.view in
+    on_fault c.in-Err-check_view.error (IsLowest (TokenFails token rules)) (IsLowest (Fails c.args.text.now c.args.policy.now c.args.now))
+    (λ fault l. token_lowest c.args.text.now c.args.policy.now c.args.now token (is_compact c.args.text.now c.in-Ok.view c.in-Ok.ensures.ok) fault (subst (λ (r : Rules). IsLowest (TokenFails token r) fault) same l))
+    c.in-Err-check_view.ensures.refused
 
 pub returns-in-Err-check_claims-clause-refused : goal.returns-in-Err-check_claims-clause-refused
 returns-in-Err-check_claims-clause-refused c =
     let rules = asked c.args.policy.now.keys c.args.policy.now.algs (option_copied c.as_ref-typ.result) in
     let same : rules ≡ rules_of c.args.policy.now = ap (asked c.args.policy.now.keys c.args.policy.now.algs) c.as_ref-typ.ensures.value in
-    let marked = marked_of c.in-Ok-check_token.checked.marked in
-    let checked = subst (λ (r : Rules). IsChecked c.in-Ok.token r marked) same c.in-Ok-check_token.ensures.checked in
-    let claims = subst (λ (t : Tree). IsLowest (ClaimFails t c.args.policy.now c.args.now) c.in-Err-check_claims.fault) c.in-Ok-check_token.ensures.payload c.in-Err-check_claims.ensures.lowest in
-    claims_lowest c.args.text.now c.args.policy.now c.args.now c.in-Ok.token c.in-Ok.ensures.ok marked checked c.in-Err-check_claims.fault claims
+    let token = compact c.in-Ok.view in
+    let marked = marked_of c.in-Ok-check_view.checked.marked in
+    let checked = subst (λ (r : Rules). IsChecked token r marked) same c.in-Ok-check_view.ensures.checked in
+    let claims = subst (λ (t : Tree). IsLowest (ClaimFails t c.args.policy.now c.args.now) c.in-Err-check_claims.fault) c.in-Ok-check_view.ensures.payload c.in-Err-check_claims.ensures.lowest in
+    claims_lowest c.args.text.now c.args.policy.now c.args.now token (is_compact c.args.text.now c.in-Ok.view c.in-Ok.ensures.ok) marked checked c.in-Err-check_claims.fault claims
 
 pub returns-clause-accepted : goal.returns-clause-accepted
 returns-clause-accepted c =
     let rules = asked c.args.policy.now.keys c.args.policy.now.algs (option_copied c.as_ref-typ.result) in
     let same : rules ≡ rules_of c.args.policy.now = ap (asked c.args.policy.now.keys c.args.policy.now.algs) c.as_ref-typ.ensures.value in
-    let marked = marked_of c.in-Ok-check_token.checked.marked in
-    let checked = subst (λ (r : Rules). IsChecked c.in-Ok.token r marked) same c.in-Ok-check_token.ensures.checked in
-    let none = subst (λ (t : Tree). (d : Condition) (place : Place) → ClaimFails t c.args.policy.now c.args.now d place → ⊥) c.in-Ok-check_token.ensures.payload c.in_default.ensures.passes in
-    accepted c.args.text.now c.args.policy.now c.args.now c.in-Ok.token c.in-Ok.ensures.ok marked checked none
+    let token = compact c.in-Ok.view in
+    let marked = marked_of c.in-Ok-check_view.checked.marked in
+    let checked = subst (λ (r : Rules). IsChecked token r marked) same c.in-Ok-check_view.ensures.checked in
+    let none = subst (λ (t : Tree). (d : Condition) (place : Place) → ClaimFails t c.args.policy.now c.args.now d place → ⊥) c.in-Ok-check_view.ensures.payload c.in_default.ensures.passes in
+    accepted c.args.text.now c.args.policy.now c.args.now token (is_compact c.args.text.now c.in-Ok.view c.in-Ok.ensures.ok) marked checked none
