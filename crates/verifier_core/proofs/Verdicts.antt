@@ -92,7 +92,7 @@ module _ (content : List ℕ) (policy : Policy) (now : ℕ) (token : Token) (is 
           let high = claim_numbers (strip marked) policy now other place h in
           inl (omega (arith, low.1, high.0))
 
-  one_opening : (m n : Marked) → Opens token m → Opens token n → m ≡ n
+  pub one_opening : (m n : Marked) → Opens token m → Opens token n → m ≡ n
   one_opening m n (p, g, has, e) (q, h, other, f) =
       let same = one_content token p q g h has other in
       e ∙ (ap₂ (λ (t : Tree) (xs : List Given). processed t xs) same.0 same.1 ∙ sym f)
