@@ -43,7 +43,7 @@ no_later (Json j) = tt
 abbrev fault_at : Condition → Place → Fault
 fault_at c place = record { number = number_of c; place = place }
 
-file_condition : (content : List ℕ) (fault : Fault) → file.Fails content fault → (c : Condition) × (fault.number ≡ number_of c)
+pub file_condition : (content : List ℕ) (fault : Fault) → file.Fails content fault → (c : Condition) × (fault.number ≡ number_of c)
 file_condition content fault (file.too_long e h) = (condition.too_long, ap (λ (x : Fault). x.number) e)
 file_condition content fault (file.form stop e h) = (condition.form, ap (λ (x : Fault). x.number) e)
 file_condition content fault (file.too_much parts e h many) = (condition.too_much, ap (λ (x : Fault). x.number) e)
