@@ -1,8 +1,6 @@
 -- The command `verify` has one verdict over its files.
 use Rattle.std.proofs.Common.{◌≡◌, ℕ, List, ap, ◌∙◌, sym, subst}
 use Rattle.claim_tree.specs.JsonText.{json_text}
-use Rattle.claim_tree.specs.declared.file_fault.FileFault.{FileFault}
-use Rattle.compact_form.specs.declared.fault.Fault.{Fault}
 use Rattle.marked_tree.specs.Marked.{Marked, strip}
 use Rattle.verifier_core.specs.Verdict.{Fails, IsLowest, IsAccepted}
 use Rattle.verifier_core.specs.declared.policy.Policy.{Policy}

@@ -1,4 +1,4 @@
-use Rattle.std.proofs.Common.{List, [], ◌∷◌, ◌+◌, refl}
+use Rattle.std.proofs.Common.{[], ◌∷◌, ◌+◌, refl}
 use Rattle.compact_form.specs.declared.limits.TheConstants.{FILE_MAX}
 use Rattle.sdjwt_cli.specs.Command.{split, show, verify}
 use Rattle.sdjwt_cli.specs.Answers.{AreFetched}
