@@ -7,7 +7,7 @@ ghost use Rattle.rebuild_core.specs.Answer.{IsPayload, ValuesShallow, ValuesRang
 ghost use Rattle.rebuild_core.specs.Payload.{without_alg};
 
 use crate::plain::plain_opening;
-use crate::{ProcessError, process};
+use crate::{ProcessError, process, process_payload};
 use claim_tree::{Tree, print_path, read, write};
 use digest_index::Steps;
 use digest_sites::{Given, GivenList};
@@ -275,6 +275,51 @@ fn disclosures_stand_in_their_places(rt: HostRuntime) -> Result<(), Fail> {
         let mut steps = Steps::new();
         let answer = answer_on(alloc, payload, disclosures, &mut steps)?;
         assert_eq!(rt; answer.as_str(), expected, "{payload} {disclosures}");
+        assert_eq!(rt; steps.count(), look_ups, "{payload} {disclosures}");
+    }
+    Ok(())
+}
+
+// The payload that is answered without marks, or the condition that fails.
+fn payload_alone(
+    alloc: Global,
+    text: &str,
+    disclosures: &str,
+    steps: &mut Steps,
+) -> Result<String, Fail> {
+    let payload = payload(alloc, text)?;
+    let given = given(alloc, disclosures)?;
+    match process_payload(alloc, payload, &given, steps) {
+        Ok(tree) => Ok(write(alloc, &tree)?.into_string()),
+        Err(error) => refusal(alloc, error),
+    }
+}
+
+#[test]
+fn payloads_are_answered_alone(rt: HostRuntime) -> Result<(), Fail> {
+    let alloc = rt.alloc();
+    for (payload, disclosures, look_ups, expected) in [
+        (r#"{"a":[{"b":"c"}]}"#, "", 0, r#"{"a":[{"b":"c"}]}"#),
+        // The payload's own `_sd_alg` is left out, and no other.
+        (
+            r#"{"_sd_alg":"sha-256","Z":0,"a":{"_sd_alg":1}}"#,
+            "",
+            0,
+            r#"{"Z":0,"a":{"_sd_alg":1}}"#,
+        ),
+        // Digests that no disclosure has.
+        (r#"{"_sd":[],"a":[{"_sd":[]}]}"#, "", 0, r#"{"a":[{}]}"#),
+        (r#"{"a":{"_sd":["Z"],"b":1}}"#, "", 1, r#"{"a":{"b":1}}"#),
+        (r#"{"a":[{"...":"Z"},1]}"#, "", 1, r#"{"a":[1]}"#),
+        (r#"{"a":[{"_sd":"Z"}]}"#, "", 0, "15 at 0"),
+        (r#"{"a":{"...":"Z"}}"#, "", 0, "15 at 0"),
+        // Disclosures.
+        (r#"{"_sd":["A"],"b":0}"#, "A a 1", 2, r#"{"a":1,"b":0}"#),
+        (r#"{"a":0}"#, "A a 1", 1, "17 at 0"),
+    ] {
+        let mut steps = Steps::new();
+        let found = payload_alone(alloc, payload, disclosures, &mut steps)?;
+        assert_eq!(rt; found.as_str(), expected, "{payload} {disclosures}");
         assert_eq!(rt; steps.count(), look_ups, "{payload} {disclosures}");
     }
     Ok(())
