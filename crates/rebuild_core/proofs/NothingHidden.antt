@@ -1,19 +1,18 @@
 -- Where nothing is hidden and nothing is given: no condition but the last can fail, and the payload opens to itself.
-use Rattle.std.proofs.Common.{◌≡◌, ℕ, zero, suc, ◌≤◌, ◌<◌, ◌-◌, ◌^◌, min, max, List, [], ◌∷◌, ◌++◌, map, Bool, true, false, ◌&&◌, ◌||◌, not, Option, None, refl, sym, ap, ap₂, ◌∙◌, subst, arith}
-use Rattle.std.specs.Prelude.{bytes_eq, if◌then◌else◌, is_some, Result, Ok, Err, IfOk, IfErr, MatchResult}
-use Rattle.claim_tree.specs.Tree.{Text, Tree, leaf, array, object, Elements, no_elements, element, Members, no_members, member, names, depth, members_depth, IsRanged}
+use Rattle.std.proofs.Common.{◌≡◌, ℕ, zero, suc, ◌≤◌, ◌<◌, ◌-◌, ◌^◌, List, [], Bool, true, false, not, None, refl, sym, ap, ap₂, ◌∙◌, subst, arith}
+use Rattle.std.specs.Prelude.{bytes_eq, if◌then◌else◌, Result, Ok, Err, IfOk, IfErr, MatchResult}
+use Rattle.claim_tree.specs.Tree.{Text, Tree, leaf, array, object, Elements, no_elements, element, Members, no_members, member, depth, members_depth, IsRanged}
 use Rattle.claim_tree.specs.View.{tree_of}
 use Rattle.claim_tree.specs.declared.tree.Tree as code
 use Rattle.claim_tree.specs.Removed.{removed}
 use Rattle.claim_tree.specs.Lists.{At, Repeats}
 use Rattle.claim_tree.proofs.Lists.{and_split}
-use Rattle.digest_sites.specs.Reserved.{sd_name, dots_name, sd_texts, text_list, texts_or_none, element_digest, misuses, elements_misuse, members_misuse, is_ill_named}
-use Rattle.digest_sites.specs.Sites.{Site, sites, element_sites, member_sites, sites_on, to_element, to_member, under}
-use Rattle.digest_sites.specs.Given.{Given}
+use Rattle.digest_sites.specs.Reserved.{sd_name, dots_name, sd_texts, element_digest, misuses, elements_misuse, members_misuse}
+use Rattle.digest_sites.specs.Sites.{sites, element_sites, member_sites}
 use Rattle.marked_tree.specs.Marked.{strip, strip_elements, strip_members}
 use Rattle.rebuild_core.specs.Payload.{alg_name, without_member, without_alg}
 use Rattle.rebuild_core.specs.Given.{Item, met, item_digests, look_ups, counted}
-use Rattle.rebuild_core.specs.Opening.{Shown, reveal, open_tree, open_element, open_elements, open_members, show_members, processed}
+use Rattle.rebuild_core.specs.Opening.{Shown, reveal, open_tree, open_elements, open_members, processed}
 use Rattle.rebuild_core.specs.Answer.{IsRefusal}
 use Rattle.rebuild_core.specs.declared.errors.ProcessError.{ProcessError}
 use Rattle.rebuild_core.specs.declared.errors.ProcessError.TheVariants.{TooDeep}

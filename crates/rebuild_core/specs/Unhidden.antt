@@ -1,5 +1,5 @@
 -- For private functions: trees in which no digest stands.
-use Rattle.std.specs.Prelude.{Bool, true, not, ◌||◌, ◌&&◌, bytes_eq}
+use Rattle.std.specs.Prelude.{Bool, true, not, ◌&&◌, bytes_eq}
 use Rattle.claim_tree.specs.Tree.{Text, Tree, leaf, array, object, Elements, no_elements, element, Members, no_members, member}
 use Rattle.digest_sites.specs.Reserved.{sd_name, dots_name}
 

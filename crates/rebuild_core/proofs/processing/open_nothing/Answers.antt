@@ -1,12 +1,4 @@
-use Rattle.std.proofs.Common.{sym, subst}
-use Rattle.std.specs.Prelude.{IfOk, IfErr}
 use Rattle.claim_tree.specs.View.{tree_of}
-use Rattle.marked_tree.specs.Marked.{strip}
-use Rattle.rebuild_core.specs.Answer.{IsRefusal}
-use Rattle.rebuild_core.specs.Conditions.{IsSound}
-use Rattle.rebuild_core.specs.Given.{look_ups, counted}
-use Rattle.rebuild_core.specs.Opening.{processed}
-use Rattle.rebuild_core.specs.Payload.{without_alg}
 use Rattle.rebuild_core.proofs.NothingHidden.{answer_sound, answer_processed, answer_in_range, answer_refused, answer_counted}
 use Rattle.rebuild_core.proofs.processing.open_nothing.Goals as goal
 
