@@ -13,10 +13,14 @@ mod check_tests;
 mod claims;
 #[cfg(test)]
 mod claims_tests;
+#[cfg(test)]
+mod condition_tests;
 mod conditions;
 pub mod laws;
 mod policy;
 mod refusal;
+#[cfg(test)]
+mod test_tokens;
 #[cfg(test)]
 mod tests;
 mod verdict;
