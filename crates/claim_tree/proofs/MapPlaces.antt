@@ -1,7 +1,7 @@
 -- Members that ascend: where a name stands among them, and what is put there.
-use Rattle.std.proofs.Common.{◌≡◌, ◌⊎◌, inl, inr, ℕ, zero, suc, ◌+◌, ◌-◌, ◌<◌, ◌≤◌, true, false, List, [], ◌∷◌, length, set, get_or, Some, None, Ordering, Less, Equal, Greater, nat_cmp, Result, Ok, Err, IfOk, IfErr, refl, sym, ap, subst, ◌∙◌, arith}
-use Rattle.std.specs.Prelude.{bytes_eq}
-use Rattle.std.specs.List.{insert}
+use Rattle.std.proofs.Common.{◌≡◌, ◌⊎◌, inl, inr, ℕ, zero, suc, ◌+◌, ◌-◌, ◌<◌, ◌≤◌, Bool, true, false, List, [], ◌∷◌, length, set, get_or, Some, None, Ordering, Less, Equal, Greater, nat_cmp, Result, Ok, Err, IfOk, IfErr, refl, sym, ap, subst, ◌∙◌, arith}
+use Rattle.std.specs.Prelude.{bytes_eq, if◌then◌else◌}
+use Rattle.std.specs.List.{insert, remove}
 use Rattle.std.specs.List.Sorted.{IsSortedBy, IsSearchInRange, IsBinarySearchResult}
 use Rattle.std.specs.Ordering.{match_ordering, is_lt, is_eq, ordering_reverse}
 use Rattle.std.specs.Cmp.{IsTotalOrder}
@@ -12,6 +12,7 @@ use Rattle.std.proofs.lemmas.Slice.Eq.{bytes_eq-Decides}
 use Rattle.std.proofs.lemmas.List.Sorted.{searchable_from_sorted}
 use Rattle.claim_tree.specs.Tree as spec
 use Rattle.claim_tree.specs.Tree.{Text, Members, member, no_members, names, IsBefore, IsBeforeAll, IsOrdered, MembersOrdered, inserted, member_named}
+use Rattle.claim_tree.specs.Removed.{removed}
 use Rattle.claim_tree.specs.declared.tree.Tree.{Tree}
 use Rattle.claim_tree.specs.View.{tree_of, members_of}
 use Rattle.claim_tree.specs.Places.{IsPlace, IsGap}
@@ -164,3 +165,45 @@ at_gap ms name i g k d l (inr high) = apart (get_or ms k d).0 name Greater (g.af
 
 pub named_gap : (ms : List Entry) (name : Text) (i : ℕ) → IsGap ms name i → member_named (members_of ms) name ≡ None
 named_gap ms name i g = none_named ms name (λ k d l. at_gap ms name i g k d l (cases_lt k i))
+
+-- ---- a name that is taken out
+
+behind_removed : (name : Text) (ms : Members) → IsBeforeAll name (names ms) → removed ms name ≡ ms
+behind_removed name no_members all = refl
+behind_removed name (member other t ms) all = rw (apart other name Greater (after_before name other all.0) refl) (ap (member other t) (behind_removed name ms all.1))
+
+pub remove_at : (ms : List Entry) (name : Text) (i : ℕ) → MembersOrdered (members_of ms) → IsPlace ms name i → members_of (remove ms i) ≡ removed (members_of ms) name
+remove_at [] name i o p = absurd (let w = p.within in omega arith)
+remove_at (m ∷ ms) name zero o p =
+    let same : m.0 ≡ name = same_name m.0 name (p.named m) in
+    let e : bytes_eq m.0 name ≡ true = sym (is_eq-slice_cmp m.0 name) ∙ ap is_eq (p.named m) in
+    rw e (sym (behind_removed name (members_of ms) (subst (λ (n : Text). IsBeforeAll n (names (members_of ms))) same o.0)))
+remove_at (m ∷ ms) name (suc i) o p =
+    let w = p.within in
+    let here : i < length ms = omega arith in
+    let there : (get_or ms i m).0 ≡ name = same_name (get_or ms i m).0 name (p.named m) in
+    let first : cmp m.0 name ≡ Less = ap (cmp m.0) (sym there) ∙ before_at m.0 ms i m o.0 here in
+    rw (apart m.0 name Less first refl) (ap (member m.0 (tree_of m.1)) (remove_at ms name i o.2 (record { within = here; named = p.named })))
+
+none_removed : (ms : List Entry) (name : Text) → ((k : ℕ) (d : Entry) → k < length ms → bytes_eq (get_or ms k d).0 name ≡ false) → members_of ms ≡ removed (members_of ms) name
+none_removed [] name h = refl
+none_removed (m ∷ ms) name h = rw (h 0 m (omega arith)) (ap (member m.0 (tree_of m.1)) (none_removed ms name (λ k d l. h (suc k) d (omega arith))))
+
+pub removed_gap : (ms : List Entry) (name : Text) (i : ℕ) → IsGap ms name i → members_of ms ≡ removed (members_of ms) name
+removed_gap ms name i g = none_removed ms name (λ k d l. at_gap ms name i g k d l (cases_lt k i))
+
+before_removed : (k : Text) (ms : Members) (name : Text) → IsBeforeAll k (names ms) → IsBeforeAll k (names (removed ms name))
+before_removed k no_members name all = tt
+before_removed k (member other t ms) name all = go (bytes_eq other name) (before_removed k ms name all.1)
+  where
+    go : (b : Bool) → IsBeforeAll k (names (removed ms name)) → IsBeforeAll k (names (if b then removed ms name else member other t (removed ms name)))
+    go true ih = ih
+    go false ih = (all.0, ih)
+
+pub ordered-removed : (ms : Members) (name : Text) → MembersOrdered ms → MembersOrdered (removed ms name)
+ordered-removed no_members name o = tt
+ordered-removed (member other t ms) name o = go (bytes_eq other name) (ordered-removed ms name o.2)
+  where
+    go : (b : Bool) → MembersOrdered (removed ms name) → MembersOrdered (if b then removed ms name else member other t (removed ms name))
+    go true ih = ih
+    go false ih = (before_removed other ms name o.0, o.1, ih)

@@ -1,4 +1,5 @@
 pub mod Tree
+pub mod Removed
 pub mod Lists
 pub mod View
 pub mod JsonText

@@ -2,6 +2,7 @@ ghost use Rattle.std.specs.Prelude.{◌≡◌, length, OnOk, OnErr, IfOk, IfErr,
 ghost use Rattle.std.specs.Ordering.{nat_cmp};
 ghost use Rattle.std.specs.Cmp.Lexicographic.{slice_cmp};
 ghost use Rattle.claim_tree.specs.Tree.{text_of, no_elements, no_members, elements_len, members_len, element_at, member_at, member_named, pushed, inserted, IsOrdered, ElementsOrdered, MembersOrdered};
+ghost use Rattle.claim_tree.specs.Removed.{removed};
 ghost use Rattle.claim_tree.specs.View.{tree_of, elements_of, members_of};
 ghost use Rattle.claim_tree.specs.Places.{IsPlace, IsGap};
 
@@ -215,6 +216,14 @@ impl TreeMap {
         is_ordered(&tree);
         put(&mut self.members, name, tree)
     }
+
+    /// Takes out the tree under a name. Those behind it move up; nothing is copied.
+    pub fn remove(&mut self, name: &str) -> Option<Tree>
+        ensures tree { option_map tree_of result ≡ member_named self.old name.now }
+        ensures others { self.new ≡ removed self.old name.now }
+    {
+        take(&mut self.members, name)
+    }
 }
 
 // How the name of a member compares with another.
@@ -269,4 +278,19 @@ fn put(members: &mut Vec<(TextBox, Tree)>, name: TextBox, tree: Tree) -> Result<
         Err(place) => members.insert(place, (name, tree))?,
     }
     Ok(())
+}
+
+fn take(members: &mut Vec<(TextBox, Tree)>, name: &str) -> Option<Tree>
+    requires { MembersOrdered (members_of members.old.items) }
+    ensures tree { option_map tree_of result ≡ member_named (members_of members.old.items) name.now }
+    ensures others { members_of members.new.items ≡ removed (members_of members.old.items) name.now }
+    ensures ordered { MembersOrdered (members_of members.new.items) }
+{
+    match search(members.as_slice(), name) {
+        Ok(place) => {
+            let (_, tree) = members.remove(place);
+            Some(tree)
+        }
+        Err(_) => None,
+    }
 }

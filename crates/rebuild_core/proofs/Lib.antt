@@ -5,6 +5,7 @@ pub mod Settled
 pub mod OneSite
 pub mod Sums
 pub mod Nodes
+pub mod NothingHidden
 pub mod Fixed
 pub mod Size
 pub mod Fits

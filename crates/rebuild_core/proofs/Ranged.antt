@@ -87,7 +87,7 @@ without_ranged name (member other t ms) h = go (bytes_eq other name) (without_ra
     go true ih = ih
     go false ih = (h.0, ih)
 
-payload_ranged : (p : Tree) → IsRanged p → IsRanged (without_alg p)
+pub payload_ranged : (p : Tree) → IsRanged p → IsRanged (without_alg p)
 payload_ranged (leaf l) h = h
 payload_ranged (array es) h = h
 payload_ranged (object ms) h = without_ranged alg_name ms h

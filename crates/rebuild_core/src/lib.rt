@@ -1,6 +1,7 @@
 //! A payload rebuilt from its disclosures, RFC 9901 section 7.1.
 //!
-//! [`process`] answers the processed payload, or why a token is refused. What may be relied on besides stands in [`laws`].
+//! [`process`] answers the processed payload, or why a token is refused; [`process_payload`] answers it without its marks. What may be
+//! relied on besides stands in [`laws`].
 #![tactic(auto)]
 
 mod errors;
@@ -18,6 +19,7 @@ mod rows;
 mod shown;
 #[cfg(test)]
 mod tests;
+mod unhidden;
 
 pub use errors::ProcessError;
-pub use processing::process;
+pub use processing::{process, process_payload};

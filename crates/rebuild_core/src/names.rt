@@ -29,11 +29,14 @@ fn given_at(given: &GivenList, number: usize) -> &Given
     &given.items()[number]
 }
 
+// The name of the member of the payload that names the hash.
+pub(crate) const ALG: &str = "_sd_alg";
+
 #[tactic(auto, unfolding(crate::specs::Payload::alg_name))]
 pub(crate) fn is_alg(name: &TextBox) -> bool
     ensures { result ≡ bytes_eq name.now alg_name }
 {
-    name.as_str() == "_sd_alg"
+    name.as_str() == ALG
 }
 
 // Whether a disclosure has no name and stands for a member, or has one and stands for an element.

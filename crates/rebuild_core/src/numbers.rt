@@ -13,7 +13,7 @@ use sd_outside::NoMemory;
 use std::alloc::Global;
 
 // What every count is.
-fn steps_fit(steps: &Steps)
+pub(crate) fn steps_fit(steps: &Steps)
     ensures { steps.now ≤ 2 ^ 64 - 1 }
 {
     let _ = steps.count();

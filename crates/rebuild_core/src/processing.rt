@@ -1,5 +1,5 @@
 // The processed payload.
-ghost use Rattle.std.specs.Prelude.{◌≡◌, ◌≤◌, ◌<◌, ◌-◌, ◌^◌, length, IfOk, IfErr};
+ghost use Rattle.std.specs.Prelude.{◌≡◌, ◌≤◌, ◌<◌, ◌-◌, ◌^◌, [], true, length, IfOk, IfErr};
 ghost use Rattle.claim_tree.specs.Tree.{depth, IsRanged};
 ghost use Rattle.claim_tree.specs.View.{tree_of};
 ghost use Rattle.marked_tree.specs.Marked.{strip};
@@ -9,15 +9,18 @@ ghost use Rattle.rebuild_core.specs.Conditions.{IsSound};
 ghost use Rattle.rebuild_core.specs.Given.{look_ups, counted, RoseWithin};
 ghost use Rattle.rebuild_core.specs.Opening.{processed};
 ghost use Rattle.rebuild_core.specs.Payload.{without_alg};
+ghost use Rattle.rebuild_core.specs.Unhidden.{is_unhidden as is_unhidden_of};
 
 use crate::ProcessError;
 use crate::names::check_names;
+use crate::numbers::steps_fit;
 use crate::opening::open_payload;
 use crate::references::check_references;
+use crate::unhidden::{is_unhidden, move_out};
 use claim_tree::Tree;
 use digest_index::Steps;
 use digest_sites::GivenList;
-use marked_tree::Marked;
+use marked_tree::{Marked, into_tree};
 use std::alloc::Global;
 
 /// The payload with its disclosures in their places, RFC 9901 section 7.1, or the lowest of the conditions 14 to 21 that
@@ -60,4 +63,56 @@ pub fn process(
         return Err(e);
     }
     open_payload(alloc, payload, given, &found.graph)
+}
+
+// What a payload in which nothing is hidden says, where no disclosure is given.
+fn open_nothing(payload: Tree, given: &GivenList, steps: &mut Steps) -> Result<Tree, ProcessError>
+    requires object { IsPayload (tree_of payload) }
+    requires depth { depth (tree_of payload) ≤ 127 }
+    requires range { IsRanged (tree_of payload) }
+    requires unhidden { is_unhidden_of (tree_of payload) ≡ true }
+    requires none { given.now ≡ [] }
+    ensures sound { IfOk result (λ _. IsSound (without_alg (tree_of payload)) given.now) }
+    ensures processed { IfOk result (λ tree. tree_of tree ≡ strip (processed (without_alg (tree_of payload)) given.now)) }
+    ensures ranged { IfOk result (λ tree. IsRanged (tree_of tree)) }
+    ensures refused { IfErr result (IsRefusal (without_alg (tree_of payload)) given.now) }
+    ensures counted { steps.new ≡ counted steps.old (look_ups (without_alg (tree_of payload)) given.now) }
+    ensures risen { RoseWithin (look_ups (without_alg (tree_of payload)) given.now) steps.old steps.new }
+{
+    steps_fit(steps);
+    move_out(payload)
+}
+
+/// The same, for who needs no marks: the processed payload alone, whose texts are moved. A payload in which nothing is hidden is
+/// handed back without its own `_sd_alg`, and no part of it is copied.
+pub fn process_payload(
+    alloc: Global,
+    payload: Tree,
+    given: &GivenList,
+    steps: &mut Steps,
+) -> Result<Tree, ProcessError>
+    requires object { IsPayload (tree_of payload) }
+    requires payload_depth { depth (tree_of payload) ≤ 127 }
+    requires values_depth { ValuesShallow given.now }
+    requires payload_range { IsRanged (tree_of payload) }
+    requires values_range { ValuesRanged given.now }
+    requires few { length given.now < 2 ^ 32 - 1 }
+    ensures sound { IfOk result (λ _. IsSound (without_alg (tree_of payload)) given.now) }
+    ensures processed { IfOk result (λ tree. tree_of tree ≡ strip (processed (without_alg (tree_of payload)) given.now)) }
+    ensures ranged { IfOk result (λ tree. IsRanged (tree_of tree)) }
+    ensures refused { IfErr result (IsRefusal (without_alg (tree_of payload)) given.now) }
+
+    // the look-ups
+    ensures counted { IfOk result (λ _. steps.new ≡ counted steps.old (look_ups (without_alg (tree_of payload)) given.now)) }
+    ensures risen { RoseWithin (look_ups (without_alg (tree_of payload)) given.now) steps.old steps.new }
+{
+    if given.len() == 0 && is_unhidden(&payload) {
+        return open_nothing(payload, given, steps);
+    }
+    let marked = match process(alloc, &payload, given, steps) {
+        Ok(marked) => marked,
+        Err(e) => return Err(e),
+    };
+    drop(payload);
+    Ok(into_tree(alloc, marked)?)
 }

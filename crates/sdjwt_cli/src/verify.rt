@@ -13,7 +13,7 @@ use claim_tree::{FileFault, Tree, write};
 use digest_index::Steps;
 use sd_outside::NoMemory;
 use std::alloc::Global;
-use verifier_core::{VerifyError, read_policy};
+use verifier_core::{VerifyError, read_policy, verify_payload};
 
 // The JSON of a tree, as a line.
 fn json_line(alloc: Global, tree: &Tree) -> Result<String, NoMemory>
@@ -42,8 +42,8 @@ pub(crate) fn verify(
         Err(FileFault::Memory) => return Err(Stop::Memory),
         Err(fault) => return Err(Stop::Unreadable(unreadable_line(alloc, 1, fault)?)),
     };
-    match verifier_core::verify(alloc, token_file, &policy, now, &mut Steps::new()) {
-        Ok(accepted) => Ok(json_line(alloc, &accepted.payload)?),
+    match verify_payload(alloc, token_file, &policy, now, &mut Steps::new()) {
+        Ok(payload) => Ok(json_line(alloc, &payload)?),
         Err(VerifyError::Fault(fault)) => Err(Stop::Refused(refusal_line(alloc, &fault)?)),
         Err(VerifyError::Memory) => Err(Stop::Memory),
     }

@@ -180,3 +180,10 @@ pub record IsAccepted (content : List ℕ) (policy : Policy) (now : ℕ) (marked
   pub token : Token
   pub is_token : IsToken content token
   pub opens : Opens token marked
+
+-- the same of the payload without its marks
+abbrev pub IsCheckedAs : Token → Rules → Tree → Type 0
+IsCheckedAs token rules payload = (marked : Marked) × IsChecked token rules marked × (payload ≡ strip marked)
+
+abbrev pub IsAcceptedAs : List ℕ → Policy → ℕ → Tree → Type 0
+IsAcceptedAs content policy now payload = (marked : Marked) × IsAccepted content policy now marked × (payload ≡ strip marked)

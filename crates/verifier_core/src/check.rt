@@ -12,7 +12,7 @@ ghost use Rattle.rebuild_core.specs.Conditions.{IsSound};
 ghost use Rattle.rebuild_core.specs.Given.{look_ups, counted, RoseWithin};
 ghost use Rattle.rebuild_core.specs.Opening.{processed};
 ghost use Rattle.rebuild_core.specs.Payload.{without_alg};
-ghost use Rattle.verifier_core.specs.Verdict.{TokenFails, IsLowest, IsChecked, HasContent};
+ghost use Rattle.verifier_core.specs.Verdict.{TokenFails, IsLowest, IsChecked, IsCheckedAs, HasContent};
 ghost use Rattle.verifier_core.specs.Check.{OnFault, HasHash, IsCounted, IsCountedWithin, IsUncounted, Passes, IsUnopened, asked, compact, placed, refusal_of};
 ghost use Rattle.verifier_core.specs.declared.check.VerifyError.{VerifyError};
 
@@ -31,7 +31,7 @@ use disclosure::HashAlg;
 use hmac_sign::KeySet;
 use json_form::Token;
 use marked_tree::{Marked, strip};
-use rebuild_core::{ProcessError, process};
+use rebuild_core::{ProcessError, process, process_payload};
 use sd_outside::{NoMemory, TextBox, TextList};
 use std::alloc::Global;
 
@@ -209,6 +209,28 @@ fn open_content(alloc: Global, content: Content, steps: &mut Steps) -> Result<Ch
     })
 }
 
+// The same, for the payload alone.
+fn open_payload(alloc: Global, content: Content, steps: &mut Steps) -> Result<Tree, VerifyError>
+    requires object { IsPayload (tree_of content.body) }
+    requires body_depth { depth_of (tree_of content.body) ≤ 127 }
+    requires values_depth { ValuesShallow content.given }
+    requires body_range { IsRanged (tree_of content.body) }
+    requires values_range { ValuesRanged content.given }
+    requires few { length content.given < 2 ^ 32 - 1 }
+    ensures sound { IfOk result (λ _. IsSound (without_alg (tree_of content.body)) content.given) }
+    ensures processed { IfOk result (λ payload. tree_of payload ≡ strip_of (processed (without_alg (tree_of content.body)) content.given)) }
+    ensures ranged { IfOk result (λ payload. IsRanged (tree_of payload)) }
+    ensures refused { IfErr result (IsUnopened (without_alg (tree_of content.body)) content.given) }
+    ensures counted { IfOk result (λ _. steps.new ≡ counted steps.old (look_ups (without_alg (tree_of content.body)) content.given)) }
+    ensures risen { RoseWithin (look_ups (without_alg (tree_of content.body)) content.given) steps.old steps.new }
+{
+    let Content { body, given, .. } = content;
+    match process_payload(alloc, body, &given, steps) {
+        Ok(payload) => Ok(payload),
+        Err(error) => Err(refusal(error)),
+    }
+}
+
 /// Checks a token itself: the conditions 5 to 21, RFC 9901 section 7.3, without its key binding token.
 ///
 /// The header, the signature, the payload and the disclosures are judged in this order, and the first condition that fails is
@@ -266,4 +288,28 @@ pub fn check_view(
         Err(error) => return Err(error),
     };
     open_content(alloc, content, steps)
+}
+
+// The same, for the processed payload alone.
+pub(crate) fn checked_payload(
+    alloc: Global,
+    view: &View<'_>,
+    keys: &KeySet,
+    algs: &TextList,
+    typ: Option<&TextBox>,
+    steps: &mut Steps,
+) -> Result<Tree, VerifyError>
+    requires few { length view.now.disclosures < 2 ^ 32 - 1 }
+    ensures checked { IfOk result (λ payload. IsCheckedAs (compact view.now) (asked keys.now algs.now (option_copied typ.entry)) (tree_of payload)) }
+    ensures ranged { IfOk result (λ payload. IsRanged (tree_of payload)) }
+    ensures refused { IfErr result (λ e. OnFault e (IsLowest (TokenFails (compact view.now) (asked keys.now algs.now (option_copied typ.entry))))) }
+    ensures counted { IfOk result (λ _. IsCounted (compact view.now) steps.old steps.new) }
+    ensures within { IsCountedWithin (compact view.now) steps.old steps.new }
+    ensures uncounted { IfErr result (λ e. OnFault e (IsUncounted steps.old steps.new)) }
+{
+    let content = match view_content(alloc, view, keys, algs, typ) {
+        Ok(content) => content,
+        Err(error) => return Err(error),
+    };
+    open_payload(alloc, content, steps)
 }

@@ -38,4 +38,4 @@ pub use conditions::{
 };
 pub use policy::{Policy, SKEW_MAX, keys_member, read_policy};
 pub use refusal::fault_line;
-pub use verdict::{Accepted, verify};
+pub use verdict::{Accepted, verify, verify_payload};

@@ -6,9 +6,10 @@ ghost use Rattle.marked_tree.specs.Marked.{strip as strip_of};
 ghost use Rattle.marked_tree.specs.View.{marked_of};
 ghost use Rattle.json_form.specs.declared.token.Token.{Token as SeenToken};
 ghost use Rattle.json_form.specs.Token.{IsToken};
-ghost use Rattle.verifier_core.specs.Verdict.{Fails, IsLowest, IsAccepted};
+ghost use Rattle.verifier_core.specs.Verdict.{Fails, IsLowest, IsAccepted, IsAcceptedAs};
 ghost use Rattle.verifier_core.specs.Check.{OnFault, IsCounted, IsReadWithin, IsUncounted};
 
+use crate::check::checked_payload;
 use crate::claims::check_claims;
 use crate::{Checked, Policy, VerifyError, check_view};
 use claim_tree::Tree;
@@ -64,4 +65,36 @@ pub fn verify(
         return Err(VerifyError::Fault(fault));
     }
     Ok(Accepted { payload, marked })
+}
+
+/// The same, for who needs no marks: the processed payload alone, whose texts are moved.
+pub fn verify_payload(
+    alloc: Global,
+    text: &[u8],
+    policy: &Policy,
+    now: u64,
+    steps: &mut Steps,
+) -> Result<Tree, VerifyError>
+    ensures accepted { IfOk result (λ payload. IsAcceptedAs text.now policy.now now (tree_of payload)) }
+    ensures ranged { IfOk result (λ payload. IsRanged (tree_of payload)) }
+    ensures refused { IfErr result (λ e. OnFault e (IsLowest (Fails text.now policy.now now))) }
+
+    // the look-ups
+    ensures counted { IfOk result (λ _. (token : SeenToken) × IsToken text.now token × IsCounted token steps.old steps.new) }
+    ensures within { IsReadWithin text.now steps.old steps.new }
+    ensures uncounted { IfErr result (λ e. OnFault e (IsUncounted steps.old steps.new)) }
+{
+    let view = match read_view(text) {
+        Ok(view) => view,
+        Err(fault) => return Err(VerifyError::Fault(fault)),
+    };
+    let typ = policy.typ.as_ref();
+    let payload = match checked_payload(alloc, &view, &policy.keys, &policy.algs, typ, steps) {
+        Ok(payload) => payload,
+        Err(error) => return Err(error),
+    };
+    if let Err(fault) = check_claims(&payload, policy, now) {
+        return Err(VerifyError::Fault(fault));
+    }
+    Ok(payload)
 }

@@ -1,9 +1,7 @@
-use Rattle.std.proofs.Common.{◌≡◌, Option, Err, refl, sym, ap, subst, ◌∙◌}
+use Rattle.std.proofs.Common.{◌≡◌, ap, subst}
 use Rattle.std.specs.Option.{option_copied}
 use Rattle.claim_tree.specs.Tree.{Tree}
-use Rattle.marked_tree.specs.Marked.{strip}
 use Rattle.marked_tree.specs.View.{marked_of}
-use Rattle.compact_form.specs.declared.fault.Fault.{Fault}
 use Rattle.verifier_core.specs.Verdict.{Rules, TokenFails, ClaimFails, Fails, IsLowest, IsChecked, rules_of}
 use Rattle.compact_form.specs.declared.fault.Place.{Place}
 use Rattle.verifier_core.specs.Condition.{Condition}
