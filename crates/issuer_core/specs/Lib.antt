@@ -1,2 +1,4 @@
 pub mod Code
 pub mod Order
+pub mod Decoys
+pub mod GoodOrder

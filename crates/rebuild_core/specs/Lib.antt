@@ -11,3 +11,4 @@ pub mod Graph
 pub mod Numbers
 pub mod Cursor
 pub mod Whole
+pub mod Free
