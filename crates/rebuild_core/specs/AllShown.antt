@@ -5,8 +5,7 @@ use Rattle.claim_tree.specs.Lists.{In, Repeats, Nowhere}
 use Rattle.digest_sites.specs.Reserved.{sd_name, text_list}
 use Rattle.digest_sites.specs.Given.{Given}
 use Rattle.marked_tree.specs.Marked.{strip, ways}
-use Rattle.rebuild_core.specs.Given.{item_digests}
-use Rattle.rebuild_core.specs.Numbers.{all_items}
+use Rattle.rebuild_core.specs.Given.{item_digests, all_items}
 use Rattle.rebuild_core.specs.Opening.{processed}
 use Rattle.rebuild_core.specs.Conditions.{RepeatedDisclosure, IsSound}
 use Rattle.rebuild_core.specs.Free.{HasNoReserved}
