@@ -12,8 +12,7 @@ use Rattle.digest_sites.specs.Sites.{Site, Step, element_site, element_sites, me
 use Rattle.marked_tree.specs.Marked.{Marked, MarkedElements, MarkedMembers, marked_element, marked_member, only}
 use Rattle.marked_tree.specs.Places.{Path, Spot, below, elements_spots, hidden_in, inside, is_among, mark, mark_elements, mark_from, mark_if, mark_members, members_spots, one_if, own_spot, place, spots}
 use Rattle.rebuild_core.specs.Free.{ElementsNoReserved, HasNoReserved, MembersNoReserved}
-use Rattle.rebuild_core.specs.Given.{Item, item, payload, value_items, value_of}
-use Rattle.rebuild_core.specs.Numbers.{all_items}
+use Rattle.rebuild_core.specs.Given.{Item, item, payload, value_items, value_of, all_items}
 use Rattle.issuer_core.specs.Decoys.{decoys_at, decoys_of, earlier}
 use Rattle.issuer_core.specs.Digests.{Maker, hidden_of, marked_of}
 use Rattle.issuer_core.specs.GoodOrder.{HoldsOthers, IsGoodOrder}

@@ -10,8 +10,7 @@ use Rattle.digest_sites.specs.Sites.{Site, Step, element_sites, member_sites, ow
 use Rattle.marked_tree.specs.Marked.{Marked, MarkedElements, MarkedMembers, marked_array, marked_element, marked_leaf, marked_member, marked_object, no_marked_elements, no_marked_members, strip, strip_elements, strip_members}
 use Rattle.marked_tree.specs.Places.{Path}
 use Rattle.rebuild_core.specs.AllShown.{all_digests}
-use Rattle.rebuild_core.specs.Given.{Item, item, payload, value_items, value_of}
-use Rattle.rebuild_core.specs.Numbers.{all_items}
+use Rattle.rebuild_core.specs.Given.{Item, item, payload, value_items, value_of, all_items}
 use Rattle.issuer_core.specs.Issued.{occurs}
 use Rattle.issuer_core.specs.Laid.{digest_elements, digest_object, hidden_digests, laid_elements, laid_items, laid_members, lay, lay_elements, lay_members, sorted, sorted_with, with_sd}
 use Rattle.marked_tree.proofs.Sums.{sum_of, sum_of-append, sum_of-map}

@@ -12,4 +12,6 @@ pub mod LaidIssued
 pub mod LaidDecoys
 pub mod IssuedSound
 pub mod Agrees
+pub mod WithAlg
+pub mod LaidBounds
 mod Examples

@@ -9,8 +9,7 @@ use Rattle.digest_sites.specs.Given.{Given}
 use Rattle.digest_sites.specs.declared.site.SiteKind.TheVariants.{Member, Element}
 use Rattle.marked_tree.specs.Marked.{Marked}
 use Rattle.marked_tree.specs.Places.{Path, place}
-use Rattle.rebuild_core.specs.Given.{Owner, payload, value_of, Item}
-use Rattle.rebuild_core.specs.Numbers.{all_items}
+use Rattle.rebuild_core.specs.Given.{Owner, payload, value_of, Item, all_items}
 use Rattle.rebuild_core.specs.AllShown.{all_digests}
 use Rattle.rebuild_core.specs.Opening.{processed}
 use Rattle.issuer_core.specs.Order.{Order}
