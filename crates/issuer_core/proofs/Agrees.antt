@@ -1,9 +1,9 @@
 -- What is laid depends on the decoys at each place, and on the digests of the marks in it alone.
-use Rattle.std.proofs.Common.{◌≡◌, ℕ, suc, ◌+◌, ◌<◌, ◌≤◌, List, [], ◌∷◌, ◌++◌, Bool, None, Option, Some, ap, ap₂, arith, decimal, false, refl, true}
-use Rattle.claim_tree.specs.Tree.{Elements, Members, Text, Tree, array, element, leaf, member, no_elements, no_members, object}
+use Rattle.std.proofs.Common.{◌≡◌, ℕ, suc, List, [], ◌∷◌, ◌++◌, None, Option, Some, ap, ap₂, decimal, refl}
+use Rattle.claim_tree.specs.Tree.{Elements, Members, Text, Tree, array, element, member, object}
 use Rattle.digest_sites.specs.Given.{Given}
 use Rattle.marked_tree.specs.Marked.{Marked, MarkedElements, MarkedMembers, marked_array, marked_element, marked_leaf, marked_member, marked_object, no_marked_elements, no_marked_members}
-use Rattle.marked_tree.specs.Places.{Path, below, hidden_elements, hidden_in, hidden_members, mark_elements, mark_from, mark_if, mark_members, one_if}
+use Rattle.marked_tree.specs.Places.{Path}
 use Rattle.issuer_core.specs.Laid.{digest_elements, digest_object, hidden_digests, laid_elements, laid_items, laid_members, lay, lay_elements, lay_members, own_item, sorted, with_sd}
 
 abbrev pub MarkAgrees : (ℕ → Text) → (ℕ → Text) → Option ℕ → Type 0
@@ -93,49 +93,3 @@ module _ (dg dh : ℕ → Text) where
         let b = below_agrees dec ded name e in
         item_agrees (laid_items x dg t) (laid_items y dh t) (Some name) k (lay x dg t) (lay y dh t) (laid_members dec dg ms) (laid_members ded dh ms)
         (items_agree x y b t a.1) a.0 (lay_agrees x y b t a.1) (member_items_agree dec ded e ms a.2)
-
--- ---- marks in a range
-
--- the digests of c numbers from n are the same
-abbrev pub RangeAgrees : (ℕ → Text) → (ℕ → Text) → ℕ → ℕ → Type 0
-RangeAgrees dg dh n c = (k : ℕ) → n ≤ k → k < n + c → dg k ≡ dh k
-
-module _ (dg dh : ℕ → Text) where
-  own_in_range : (b : Bool) (n a c : ℕ) → RangeAgrees dg dh n ((a + one_if b) + c) → MarkAgrees dg dh (mark_if b (n + a))
-  own_in_range true n a c r = r (n + a) (omega arith) (omega arith)
-  own_in_range false n a c r = tt
-
-  inner_range : (n a s c : ℕ) → RangeAgrees dg dh n ((a + s) + c) → RangeAgrees dg dh n a
-  inner_range n a s c r k l u = r k l (omega (arith, u))
-
-  later_range : (n a s c : ℕ) → RangeAgrees dg dh n ((a + s) + c) → RangeAgrees dg dh (n + (a + s)) c
-  later_range n a s c r k l u = r k (omega (arith, l)) (omega (arith, u))
-
-  mutual
-    -- those of the hidden places of a tree, numbered from n
-    pub range_agrees : (h : Path → Bool) (n : ℕ) (t : Tree) → RangeAgrees dg dh n (hidden_in h t) → MarksAgree dg dh (mark_from h n t)
-    range_agrees h n (leaf l) r = tt
-    range_agrees h n (array es) r = range_agrees_elements h n 0 es r
-    range_agrees h n (object ms) r = range_agrees_members h n ms r
-
-    range_agrees_elements : (h : Path → Bool) (n i : ℕ) (es : Elements) → RangeAgrees dg dh n (hidden_elements h i es) → ElementsAgree dg dh (mark_elements h n i es)
-    range_agrees_elements h n i no_elements r = tt
-    range_agrees_elements h n i (element t es) r =
-        let a = hidden_in (below (decimal i) h) t in
-        let b = h (decimal i ∷ []) in
-        let c = hidden_elements h (suc i) es in (
-          own_in_range b n a c r,
-          range_agrees (below (decimal i) h) n t (inner_range n a (one_if b) c r),
-          range_agrees_elements h (n + (a + one_if b)) (suc i) es (later_range n a (one_if b) c r),
-        )
-
-    range_agrees_members : (h : Path → Bool) (n : ℕ) (ms : Members) → RangeAgrees dg dh n (hidden_members h ms) → MembersAgree dg dh (mark_members h n ms)
-    range_agrees_members h n no_members r = tt
-    range_agrees_members h n (member k t ms) r =
-        let a = hidden_in (below k h) t in
-        let b = h (k ∷ []) in
-        let c = hidden_members h ms in (
-          own_in_range b n a c r,
-          range_agrees (below k h) n t (inner_range n a (one_if b) c r),
-          range_agrees_members h (n + (a + one_if b)) ms (later_range n a (one_if b) c r),
-        )

@@ -12,6 +12,7 @@ pub mod LaidIssued
 pub mod LaidDecoys
 pub mod IssuedSound
 pub mod Agrees
+pub mod Runs
 pub mod WithAlg
 pub mod LaidBounds
 mod Examples

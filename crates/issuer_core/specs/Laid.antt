@@ -1,5 +1,5 @@
 -- Claims with what is marked hidden behind digests, RFC 9901 section 4.2.4, and the disclosures of what is hidden.
-use Rattle.std.specs.Prelude.{◌≡◌, ℕ, suc, ◌+◌, ◌<◌, List, [], ◌∷◌, ◌++◌, length, Option, Some, None, decimal, codes}
+use Rattle.std.specs.Prelude.{◌≡◌, ℕ, suc, ◌+◌, ◌<◌, List, [], ◌∷◌, ◌++◌, length, Option, Some, None, decimal}
 use Rattle.std.specs.Ordering.{match_ordering, nat_cmp}
 use Rattle.std.specs.Cmp.Lexicographic.{slice_cmp}
 use Rattle.claim_tree.specs.Tree.{Text, text, Tree, leaf, array, object, Elements, no_elements, element, Members, no_members, member, inserted}
@@ -9,6 +9,8 @@ use Rattle.digest_sites.specs.Given.{Given}
 use Rattle.marked_tree.specs.Marked.{Marked, marked_leaf, marked_array, marked_object, MarkedElements, no_marked_elements, marked_element, MarkedMembers, no_marked_members, marked_member}
 use Rattle.marked_tree.specs.Places.{Path}
 use Rattle.rebuild_core.specs.Payload.{alg_name}
+use Rattle.disclosure.specs.Digest.{name_of}
+use Rattle.disclosure.specs.declared.digests.HashAlg.{HashAlg}
 use Rattle.issuer_core.specs.Order.{Order}
 use Rattle.issuer_core.specs.Decoys.{decoys_of, decoys_at}
 use Rattle.issuer_core.specs.Digests.{Maker, marked_of, hidden_of}
@@ -47,7 +49,7 @@ digest_elements (digest ∷ digests) = element (digest_object digest) (digest_el
 
 -- section 4.1.1: the hash is named, always
 abbrev pub with_alg : Tree → Tree
-with_alg (object ms) = object (inserted ms alg_name (leaf (text (codes "sha-256"))))
+with_alg (object ms) = object (inserted ms alg_name (leaf (text (name_of HashAlg.Sha256))))
 with_alg t = t
 
 -- ---- hiding
