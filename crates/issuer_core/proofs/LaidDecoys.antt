@@ -1,33 +1,34 @@
 -- Each decoy stands at its place: in the object, or behind the elements of the list.
-use Rattle.std.proofs.Common.{◌≡◌, ℕ, zero, suc, ◌+◌, List, [], ◌∷◌, ◌++◌, Bool, Equal, Greater, Less, None, Option, Ordering, Some, ap, append-nil, append_assoc, ap₂, arith, cond, decimal, false, inl, inr, length, length-append, map, refl, subst, sym, true, ⊎_elim, ◌∙◌, ◌⊎◌}
+use Rattle.std.proofs.Common.{◌≡◌, ℕ, zero, suc, ◌+◌, List, [], ◌∷◌, ◌++◌, Bool, Equal, Greater, Less, None, Option, Ordering, Some, ap, append-nil, append_assoc, ap₂, arith, cond, decimal, false, inl, inr, map, refl, subst, sym, true, ⊎_elim, ◌∙◌, ◌⊎◌}
 use Rattle.std.specs.Cmp.Lexicographic.{slice_cmp}
 use Rattle.std.specs.Ordering.{match_ordering, nat_cmp}
 use Rattle.std.specs.Prelude.{bytes_eq, option_and_then}
 use Rattle.claim_tree.specs.Lists.{At, In}
 use Rattle.claim_tree.specs.Path.{element_on, tree_at}
-use Rattle.claim_tree.specs.Tree.{Elements, ElementsOrdered, IsOrdered, Members, MembersOrdered, Text, Tree, array, element, elements_len, leaf, member, member_named, names, no_elements, no_members, object}
+use Rattle.claim_tree.specs.Tree.{Text, Tree, elements_len, member_named, names}
 use Rattle.digest_sites.specs.Given.{Given}
 use Rattle.digest_sites.specs.Reserved.{element_digest, sd_name, sd_texts}
 use Rattle.digest_sites.specs.Sites.{Site, Step, element_site, element_sites, member_sites, own_site, sites, sites_on, step_text, to_element, to_member, under}
-use Rattle.marked_tree.specs.Marked.{Marked, MarkedElements, MarkedMembers, marked_element, marked_member, only}
-use Rattle.marked_tree.specs.Places.{Path, Spot, below, elements_spots, hidden_in, inside, is_among, mark, mark_elements, mark_from, mark_if, mark_members, members_spots, one_if, own_spot, place, spots}
-use Rattle.rebuild_core.specs.Free.{ElementsNoReserved, HasNoReserved, MembersNoReserved}
-use Rattle.rebuild_core.specs.Given.{Item, item, payload, value_items, value_of, all_items}
-use Rattle.issuer_core.specs.Decoys.{decoys_at, decoys_of, earlier}
+use Rattle.marked_tree.specs.Marked.{Marked, MarkedElements, MarkedMembers, marked_array, marked_element, marked_leaf, marked_member, marked_object, no_marked_elements, no_marked_members, only, strip, strip_elements, strip_members}
+use Rattle.marked_tree.specs.Places.{Path, Spot, elements_spots, inside, is_among, mark, members_spots, own_spot, place, spots}
+use Rattle.rebuild_core.specs.Given.{Item, all_items, item, payload, value_items, value_of}
+use Rattle.issuer_core.specs.Decoys.{decoys_of, earlier}
 use Rattle.issuer_core.specs.Digests.{Maker, hidden_of, marked_of}
 use Rattle.issuer_core.specs.GoodOrder.{HoldsOthers, IsGoodOrder}
 use Rattle.issuer_core.specs.Issued.{DecoysStand, IsDecoySite, or_root, origin}
-use Rattle.issuer_core.specs.Laid.{IsLaid, digest_elements, digest_object, hidden_digests, laid_elements, laid_items, laid_members, lay, lay_elements, lay_members, own_item, sorted, sorted_with, with_sd}
+use Rattle.issuer_core.specs.Laid.{IsLaid, digest_elements, digest_object, hidden_digests, laid_elements, laid_items, laid_members, lay, lay_elements, lay_members, order_decoys, own_item, sorted, sorted_with, with_sd}
 use Rattle.issuer_core.specs.Laws.{LaidIsIssued}
 use Rattle.issuer_core.specs.Order.{Order}
+use Rattle.issuer_core.specs.Runs.{ElementsRunFrom, IsMark, MembersRunFrom, RunsFrom, marks_in, own_mark}
 use Rattle.claim_tree.proofs.Lists.{At-In, At-below, In-left, In-map, In-right, bytes_same}
-use Rattle.marked_tree.proofs.MarkFacts.{marks_once_holds, up_to_le}
+use Rattle.marked_tree.proofs.MarkFacts.{mark_strips_holds, marks_once_holds, up_to_le}
 use Rattle.marked_tree.proofs.Spots.{first_is, spots_weigh}
 use Rattle.rebuild_core.proofs.Chains.{item_of_value}
 use Rattle.issuer_core.proofs.DecoyPlaces.{earlier_at, held_at}
+use Rattle.issuer_core.proofs.ItemNumbers.{Holds, parts}
 use Rattle.issuer_core.proofs.LaidIssued.{issued}
-use Rattle.issuer_core.proofs.LaidItems.{Holds, holds_first, holds_last, items_count, own_count}
-use Rattle.issuer_core.proofs.Plain.{IsPlain, marked_plain}
+use Rattle.issuer_core.proofs.Plain.{ElementsPlain, IsPlain, MembersPlain, marked_plain}
+use Rattle.issuer_core.proofs.Runs.{items_length, order_runs}
 use Rattle.issuer_core.proofs.SdMembers.{digest_read, laid_no_digest, lay_has_no, with_sd_sites, with_sd_texts}
 
 insert_has : (d : Text) (ds : List Text) (e : Text) → (e ≡ d) ⊎ In e ds → In e (sorted_with d ds)
@@ -56,25 +57,27 @@ module _ (p : Tree) (g : List Given) (dg : ℕ → Text) (M : Marked) where
   abbrev Spotted : Path → List Spot → Type 0
   Spotted pre xs = (s : Spot) → In s xs → place M s.mark ≡ Some (pre ++ s.at)
 
-  record Below (pre : Path) (k : Step) (u : Marked) (v : Tree) : Type 0 where
-    embeds : Embeds (pre ++ (step_text k ∷ [])) (sites v)
-    spotted : Spotted (pre ++ (step_text k ∷ [])) (spots u)
+  record Below (pre : Path) (step : Step) (u : Marked) (v : Tree) : Type 0 where
+    embeds : Embeds (pre ++ (step_text step ∷ [])) (sites v)
+    spotted : Spotted (pre ++ (step_text step ∷ [])) (spots u)
 
-  descend : (b : Bool) (pre : Path) (k : Step) (j : ℕ) (name : Option Text) (u : Marked) (v : Tree) → (b ≡ false → Embeds pre (map (under k) (sites v)))
-      → Spotted pre (own_spot (step_text k) (mark_if b j) ++ map (inside (step_text k) (mark_if b j)) (spots u)) → Holds g j (own_item dg name (mark_if b j) v) → Below pre k u v
-  descend b pre k j name u v emb sp own = record {
-    embeds = go b emb sp own;
+  -- a hidden node is no site above, but its value is that of a disclosure
+  descend : (step : Step) (pre : Path) (k : Option ℕ) (n : ℕ) (name : Option Text) (u : Marked) (v : Tree) → IsMark n k → (k ≡ None → Embeds pre (map (under step) (sites v)))
+      → Spotted pre (own_spot (step_text step) k ++ map (inside (step_text step) k) (spots u)) → Holds g n (own_item dg name k v) → Below pre step u v
+  descend step pre k n name u v is emb sp own = record {
+    embeds = go k is emb sp own;
     spotted = λ s m.
-        sp (inside (step_text k) (mark_if b j) s) (In-right (inside (step_text k) (mark_if b j) s) (own_spot (step_text k) (mark_if b j)) (map (inside (step_text k) (mark_if b j)) (spots u)) (In-map (inside (step_text k) (mark_if b j)) s (spots u) m))
-        ∙ ap Some (sym (append_assoc pre (step_text k ∷ []) s.at));
+        sp (inside (step_text step) k s) (In-right (inside (step_text step) k s) (own_spot (step_text step) k) (map (inside (step_text step) k) (spots u)) (In-map (inside (step_text step) k) s (spots u) m))
+        ∙ ap Some (sym (append_assoc pre (step_text step ∷ []) s.at));
   }
     where
-      go : (b : Bool) → (b ≡ false → Embeds pre (map (under k) (sites v))) → Spotted pre (own_spot (step_text k) (mark_if b j) ++ map (inside (step_text k) (mark_if b j)) (spots u)) → Holds g j (own_item dg name (mark_if b j) v) → Embeds (pre ++ (step_text k ∷ [])) (sites v)
-      go false emb sp own s m = let w = emb refl (under k s) (In-map (under k) s (sites v) m) in (w.0, w.1, w.2, w.3, w.4 ∙ sym (append_assoc pre (step_text k ∷ []) (map step_text s.at)))
-      go true emb sp own s m =
+      go : (k : Option ℕ) → IsMark n k → (k ≡ None → Embeds pre (map (under step) (sites v))) → Spotted pre (own_spot (step_text step) k ++ map (inside (step_text step) k) (spots u)) → Holds g n (own_item dg name k v)
+          → Embeds (pre ++ (step_text step ∷ [])) (sites v)
+      go None is emb sp own s m = let w = emb refl (under step s) (In-map (under step) s (sites v) m) in (w.0, w.1, w.2, w.3, w.4 ∙ sym (append_assoc pre (step_text step ∷ []) (map step_text s.at)))
+      go (Some j) is emb sp own s m =
           let x : Given = record { digest = dg j; name = name; value = v } in
-          let a : At g j x = subst (λ z. At g z x) (let e : j + 0 ≡ j = omega arith in e) (own 0 x refl) in
-          let at_place = sp (record { mark = j; at = step_text k ∷ []; above = [] }) (inl refl) in (
+          let a : At g j x = subst (λ z. At g z x) (let e : n + 0 ≡ j = omega (arith, is) in e) (own 0 x refl) in
+          let at_place = sp (record { mark = j; at = step_text step ∷ []; above = [] }) (inl refl) in (
             item (value_of j) s,
             In-right (item (value_of j) s) (map (item payload) (sites p)) (value_items (λ x. true) 0 g) (item_of_value (λ x. true) g 0 j j x s (omega arith) a refl m),
             refl,
@@ -82,13 +85,13 @@ module _ (p : Tree) (g : List Given) (dg : ℕ → Text) (M : Marked) where
             ap (λ o. or_root o ++ map step_text s.at) at_place,
           )
 
-  embeds_element : (b : Bool) (pre : Path) (dec : Path → List Text) (i j : ℕ) (u : Marked) (es : MarkedElements) → IsPlain u → Embeds pre (element_sites i (lay_elements dec dg i (marked_element (mark_if b j) u es)))
-      → (b ≡ false → Embeds pre (map (under (to_element i)) (sites (lay (λ q. dec (decimal i ∷ q)) dg u)))) × Embeds pre (element_sites (suc i) (lay_elements dec dg (suc i) es))
-  embeds_element true pre dec i j u es plain emb = (
+  embeds_element : (k : Option ℕ) (pre : Path) (dec : Path → List Text) (i : ℕ) (u : Marked) (es : MarkedElements) → IsPlain u → Embeds pre (element_sites i (lay_elements dec dg i (marked_element k u es)))
+      → (k ≡ None → Embeds pre (map (under (to_element i)) (sites (lay (λ q. dec (decimal i ∷ q)) dg u)))) × Embeds pre (element_sites (suc i) (lay_elements dec dg (suc i) es))
+  embeds_element (Some j) pre dec i u es plain emb = (
     (λ e. cc),
     (λ s m. emb s (In-right s (sites_on (to_element i) (element_digest (digest_object (dg j))) (sites (digest_object (dg j)))) (element_sites (suc i) (lay_elements dec dg (suc i) es)) m)),
   )
-  embeds_element false pre dec i j u es plain emb =
+  embeds_element None pre dec i u es plain emb =
       let v = lay (λ q. dec (decimal i ∷ q)) dg u in
       let none = laid_no_digest (λ q. dec (decimal i ∷ q)) dg u plain in (
         (λ e s m. emb s (In-left s (sites_on (to_element i) (element_digest v) (sites v)) (element_sites (suc i) (lay_elements dec dg (suc i) es))
@@ -96,30 +99,14 @@ module _ (p : Tree) (g : List Given) (dg : ℕ → Text) (M : Marked) where
         (λ s m. emb s (In-right s (sites_on (to_element i) (element_digest v) (sites v)) (element_sites (suc i) (lay_elements dec dg (suc i) es)) m)),
       )
 
-  embeds_member : (b : Bool) (pre : Path) (dec : Path → List Text) (k : Text) (j : ℕ) (u : Marked) (ms : MarkedMembers) → bytes_eq k sd_name ≡ false → Embeds pre (member_sites (lay_members dec dg (marked_member k (mark_if b j) u ms)))
-      → (b ≡ false → Embeds pre (map (under (to_member k)) (sites (lay (λ q. dec (k ∷ q)) dg u)))) × Embeds pre (member_sites (lay_members dec dg ms))
-  embeds_member true pre dec k j u ms f emb = ((λ e. cc), emb)
-  embeds_member false pre dec k j u ms f emb =
-      let v = lay (λ q. dec (k ∷ q)) dg u in (
-        (λ e s m. emb s (In-left s (cond (bytes_eq k sd_name) [] (map (under (to_member k)) (sites v))) (member_sites (lay_members dec dg ms)) (subst (λ c. In s (cond c [] (map (under (to_member k)) (sites v)))) (sym f) m))),
-        (λ s m. emb s (In-right s (cond (bytes_eq k sd_name) [] (map (under (to_member k)) (sites v))) (member_sites (lay_members dec dg ms)) m)),
+  embeds_member : (k : Option ℕ) (pre : Path) (dec : Path → List Text) (name : Text) (u : Marked) (ms : MarkedMembers) → bytes_eq name sd_name ≡ false → Embeds pre (member_sites (lay_members dec dg (marked_member name k u ms)))
+      → (k ≡ None → Embeds pre (map (under (to_member name)) (sites (lay (λ q. dec (name ∷ q)) dg u)))) × Embeds pre (member_sites (lay_members dec dg ms))
+  embeds_member (Some j) pre dec name u ms f emb = ((λ e. cc), emb)
+  embeds_member None pre dec name u ms f emb =
+      let v = lay (λ q. dec (name ∷ q)) dg u in (
+        (λ e s m. emb s (In-left s (cond (bytes_eq name sd_name) [] (map (under (to_member name)) (sites v))) (member_sites (lay_members dec dg ms)) (subst (λ c. In s (cond c [] (map (under (to_member name)) (sites v)))) (sym f) m))),
+        (λ s m. emb s (In-right s (cond (bytes_eq name sd_name) [] (map (under (to_member name)) (sites v))) (member_sites (lay_members dec dg ms)) m)),
       )
-
-  record Three (n a : ℕ) (b : Bool) (name : Option Text) (v : Tree) (xs ys : List Given) : Type 0 where
-    inner : Holds g n xs
-    own : Holds g (n + a) (own_item dg name (mark_if b (n + a)) v)
-    rest : Holds g (n + (a + one_if b)) ys
-
-  three : (n a : ℕ) (b : Bool) (name : Option Text) (v : Tree) (xs ys : List Given) → length xs ≡ a
-      → Holds g n ((xs ++ own_item dg name (mark_if b (n + a)) v) ++ ys) → Three n a b name v xs ys
-  three n a b name v xs ys l h =
-      let o = own_item dg name (mark_if b (n + a)) v in
-      let first = holds_first g n (xs ++ o) ys h in
-      record {
-        inner = holds_first g n xs o first;
-        own = holds_last g n a xs o (sym l) first;
-        rest = holds_last g n (a + one_if b) (xs ++ o) ys (omega (arith, l, length-append xs o, own_count dg name b (n + a) v)) h;
-      }
 
   -- the decoys of a list come after its elements
   at_decoys : (ds : List Text) (i e : ℕ) (d : Text) → At ds e d → In (element_site (to_element (i + e)) d) (element_sites i (digest_elements ds))
@@ -133,24 +120,22 @@ module _ (p : Tree) (g : List Given) (dg : ℕ → Text) (M : Marked) where
       (subst (λ n. In (element_site (to_element n) d) (element_sites (suc i) (digest_elements ds))) x (at_decoys ds (suc i) e d a))
   at_decoys [] i e d a = elim a [ ]
 
-  one_right : (b : Bool) (dec : Path → List Text) (i j : ℕ) (u : Marked) (es : MarkedElements) (s : Site) → In s (element_sites (suc i) (lay_elements dec dg (suc i) es)) → In s (element_sites i (lay_elements dec dg i (marked_element (mark_if b j) u es)))
-  one_right true dec i j u es s m = In-right s (sites_on (to_element i) (element_digest (digest_object (dg j))) (sites (digest_object (dg j)))) (element_sites (suc i) (lay_elements dec dg (suc i) es)) m
-  one_right false dec i j u es s m =
+  one_right : (k : Option ℕ) (dec : Path → List Text) (i : ℕ) (u : Marked) (es : MarkedElements) (s : Site) → In s (element_sites (suc i) (lay_elements dec dg (suc i) es)) → In s (element_sites i (lay_elements dec dg i (marked_element k u es)))
+  one_right (Some j) dec i u es s m = In-right s (sites_on (to_element i) (element_digest (digest_object (dg j))) (sites (digest_object (dg j)))) (element_sites (suc i) (lay_elements dec dg (suc i) es)) m
+  one_right None dec i u es s m =
       let v = lay (λ q. dec (decimal i ∷ q)) dg u in
       In-right s (sites_on (to_element i) (element_digest v) (sites v)) (element_sites (suc i) (lay_elements dec dg (suc i) es)) m
 
-  after_all : (dec : Path → List Text) (h : Path → Bool) (n i : ℕ) (es : Elements) (e : ℕ) (d : Text) → At (dec []) e d
-      → In (element_site (to_element (i + (elements_len es + e))) d) (element_sites i (lay_elements dec dg i (mark_elements h n i es)))
-  after_all dec h n i no_elements e d a =
+  after_all : (dec : Path → List Text) (i : ℕ) (es : MarkedElements) (e : ℕ) (d : Text) → At (dec []) e d
+      → In (element_site (to_element (i + (elements_len (strip_elements es) + e))) d) (element_sites i (lay_elements dec dg i es))
+  after_all dec i no_marked_elements e d a =
       let x : i + e ≡ i + (0 + e) = omega arith in
       subst (λ n. In (element_site (to_element n) d) (element_sites i (digest_elements (dec [])))) x (at_decoys (dec []) i e d a)
-  after_all dec h n i (element t es) e d a =
-      let x : suc i + (elements_len es + e) ≡ i + (suc (elements_len es) + e) = omega arith in
-      let w = hidden_in (below (decimal i) h) t in
-      let b = h (decimal i ∷ []) in
-      subst (λ c. In (element_site (to_element c) d) (element_sites i (lay_elements dec dg i (mark_elements h n i (element t es))))) x
-      (one_right b dec i (n + w) (mark_from (below (decimal i) h) n t) (mark_elements h (n + (w + one_if b)) (suc i) es) (element_site (to_element (suc i + (elements_len es + e))) d)
-      (after_all dec h (n + (w + one_if b)) (suc i) es e d a))
+  after_all dec i (marked_element k t es) e d a =
+      let len = elements_len (strip_elements es) in
+      let x : suc i + (len + e) ≡ i + (suc len + e) = omega arith in
+      subst (λ c. In (element_site (to_element c) d) (element_sites i (lay_elements dec dg i (marked_element k t es)))) x
+      (one_right k dec i t es (element_site (to_element (suc i + (len + e))) d) (after_all dec (suc i) es e d a))
 
   abbrev Standing : Text → Path → ℕ → Option Tree → Type 0
   Standing d q e o = (z : Item) × In z (all_items p g) × (z.site.digest ≡ d) × IsDecoySite M z q e o
@@ -159,95 +144,85 @@ module _ (p : Tree) (g : List Given) (dg : ℕ → Text) (M : Marked) where
   restep d pre k l r e o h s = subst (λ q. Standing d q e o) (append_assoc pre (l ∷ []) r ∙ ap (λ c. pre ++ (c ∷ r)) (bytes_same l k h)) s
 
   mutual
-    pub decoy_there : (r : Path) (t : Tree) (dec : Path → List Text) (h : Path → Bool) (n : ℕ) (pre : Path) → IsOrdered t → HasNoReserved t → HoldsOthers (tree_at t r)
-        → Embeds pre (sites (lay dec dg (mark_from h n t))) → Spotted pre (spots (mark_from h n t)) → Holds g n (laid_items dec dg (mark_from h n t))
-        → (e : ℕ) (d : Text) → At (dec r) e d → Standing d (pre ++ r) e (tree_at t r)
-    decoy_there [] (leaf l) dec h n pre o f holds emb sp all e d a = absurd holds
-    decoy_there [] (array es) dec h n pre o f holds emb sp all e d a =
-        let x : 0 + (elements_len es + e) ≡ elements_len es + e = omega arith in
-        let w = emb (element_site (to_element (0 + (elements_len es + e))) d) (after_all dec h n 0 es e d a) in
+    pub decoy_there : (r : Path) (m : Marked) (dec : Path → List Text) (n : ℕ) (pre : Path) → IsPlain m → RunsFrom n m → HoldsOthers (tree_at (strip m) r)
+        → Embeds pre (sites (lay dec dg m)) → Spotted pre (spots m) → Holds g n (laid_items dec dg m)
+        → (e : ℕ) (d : Text) → At (dec r) e d → Standing d (pre ++ r) e (tree_at (strip m) r)
+    decoy_there [] (marked_leaf l) dec n pre plain is holds emb sp all e d a = absurd holds
+    decoy_there [] (marked_array es) dec n pre plain is holds emb sp all e d a =
+        let len = elements_len (strip_elements es) in
+        let x : 0 + (len + e) ≡ len + e = omega arith in
+        let w = emb (element_site (to_element (0 + (len + e))) d) (after_all dec 0 es e d a) in
         (w.0, w.1, w.2, (w.3, w.4 ∙ ap₂ (λ (q : Path) (c : ℕ). q ++ (decimal c ∷ [])) (sym (append-nil pre)) x))
-    decoy_there [] (object ms) dec h n pre o f holds emb sp all e d a =
-        let m = mark_members h n ms in
-        let plain = marked_plain h n (object ms) o f in
-        let ds = hidden_digests dg m ++ dec [] in
-        let new = with_sd (sorted ds) (lay_members dec dg m) in
-        let there : In d (sd_texts new) = subst (λ (zs : List Text). In d zs) (sym (with_sd_texts (sorted ds) (lay_members dec dg m) (lay_has_no sd_name (λ k a c. a) dec dg m plain)))
-        (sort_has ds d (In-right d (hidden_digests dg m) (dec []) (At-In (dec []) e d a))) in
+    decoy_there [] (marked_object ms) dec n pre plain is holds emb sp all e d a =
+        let ds = hidden_digests dg ms ++ dec [] in
+        let new = with_sd (sorted ds) (lay_members dec dg ms) in
+        let there : In d (sd_texts new) = subst (λ (zs : List Text). In d zs) (sym (with_sd_texts (sorted ds) (lay_members dec dg ms) (lay_has_no sd_name (λ k a c. a) dec dg ms plain)))
+        (sort_has ds d (In-right d (hidden_digests dg ms) (dec []) (At-In (dec []) e d a))) in
         let w = emb (own_site (names new) d) (In-left (own_site (names new) d) (map (own_site (names new)) (sd_texts new)) (member_sites new) (In-map (own_site (names new)) d (sd_texts new) there)) in
         (w.0, w.1, w.2, (w.3, w.4))
-    decoy_there (k ∷ r) (leaf l) dec h n pre o f holds emb sp all e d a = absurd holds
-    decoy_there (k ∷ r) (array es) dec h n pre o f holds emb sp all e d a = element_there k r 0 es dec h n pre o f holds emb sp all e d a
-    decoy_there (k ∷ r) (object ms) dec h n pre o f holds emb sp all e d a =
-        let m = mark_members h n ms in
-        let plain = marked_plain h n (object ms) o f in
-        let ds = sorted (hidden_digests dg m ++ dec []) in
-        let new = with_sd ds (lay_members dec dg m) in
-        member_there k r ms dec h n pre o f holds
+    decoy_there (k ∷ r) (marked_leaf l) dec n pre plain is holds emb sp all e d a = absurd holds
+    decoy_there (k ∷ r) (marked_array es) dec n pre plain is holds emb sp all e d a = element_there k r 0 es dec n pre plain is holds emb sp all e d a
+    decoy_there (k ∷ r) (marked_object ms) dec n pre plain is holds emb sp all e d a =
+        let ds = sorted (hidden_digests dg ms ++ dec []) in
+        let new = with_sd ds (lay_members dec dg ms) in
+        member_there k r ms dec n pre plain is holds
         (λ s i. emb s (In-right s (map (own_site (names new)) (sd_texts new)) (member_sites new)
-        (subst (λ (zs : List Site). In s zs) (sym (with_sd_sites ds (lay_members dec dg m) (lay_has_no sd_name (λ k a c. a) dec dg m plain))) i)))
+        (subst (λ (zs : List Site). In s zs) (sym (with_sd_sites ds (lay_members dec dg ms) (lay_has_no sd_name (λ k a c. a) dec dg ms plain))) i)))
         sp all e d a
 
-    element_there : (k : Text) (r : Path) (i : ℕ) (es : Elements) (dec : Path → List Text) (h : Path → Bool) (n : ℕ) (pre : Path) → ElementsOrdered es → ElementsNoReserved es → HoldsOthers (option_and_then (λ z. tree_at z r) (element_on es i k))
-        → Embeds pre (element_sites i (lay_elements dec dg i (mark_elements h n i es))) → Spotted pre (elements_spots i (mark_elements h n i es)) → Holds g n (laid_elements dec dg i (mark_elements h n i es))
-        → (e : ℕ) (d : Text) → At (dec (k ∷ r)) e d → Standing d (pre ++ (k ∷ r)) e (option_and_then (λ z. tree_at z r) (element_on es i k))
-    element_there k r i no_elements dec h n pre o f holds emb sp all e d a = absurd holds
-    element_there k r i (element t es) dec h n pre o f holds emb sp all e d a =
+    element_there : (k : Text) (r : Path) (i : ℕ) (es : MarkedElements) (dec : Path → List Text) (n : ℕ) (pre : Path) → ElementsPlain es → ElementsRunFrom n es
+        → HoldsOthers (option_and_then (λ z. tree_at z r) (element_on (strip_elements es) i k))
+        → Embeds pre (element_sites i (lay_elements dec dg i es)) → Spotted pre (elements_spots i es) → Holds g n (laid_elements dec dg i es)
+        → (e : ℕ) (d : Text) → At (dec (k ∷ r)) e d → Standing d (pre ++ (k ∷ r)) e (option_and_then (λ z. tree_at z r) (element_on (strip_elements es) i k))
+    element_there k r i no_marked_elements dec n pre plain is holds emb sp all e d a = absurd holds
+    element_there k r i (marked_element j t es) dec n pre plain is holds emb sp all e d a =
         let s : Path → List Text = λ q. dec (decimal i ∷ q) in
-        let w = hidden_in (below (decimal i) h) t in
-        let b = h (decimal i ∷ []) in
-        let u = mark_from (below (decimal i) h) n t in
-        let v = lay s dg u in
-        let j = mark_if b (n + w) in
-        let es' = mark_elements h (n + (w + one_if b)) (suc i) es in
-        let own = own_spot (decimal i) j ++ map (inside (decimal i) j) (spots u) in
-        let parts = three n w b None v (laid_items s dg u) (laid_elements dec dg (suc i) es') (items_count s dg (below (decimal i) h) n t) all in
-        let embs = embeds_element b pre dec i (n + w) u es' (marked_plain (below (decimal i) h) n t o.0 f.0) emb in
-        let down = descend b pre (to_element i) (n + w) None u v embs.0 (λ c m. sp c (In-left c own (elements_spots (suc i) es') m)) parts.own in
+        let v = lay s dg t in
+        let own = own_spot (decimal i) j ++ map (inside (decimal i) j) (spots t) in
+        let w = parts dg g n (marks_in t) j None v (laid_items s dg t) (laid_elements dec dg (suc i) es) (items_length s dg t) all in
+        let embs = embeds_element j pre dec i t es plain.0 emb in
+        let down = descend (to_element i) pre j (n + marks_in t) None t v is.1 embs.0 (λ c m. sp c (In-left c own (elements_spots (suc i) es) m)) w.own in
         go (bytes_eq (decimal i) k) refl holds
-        (λ x. λ y. decoy_there r t s (below (decimal i) h) n (pre ++ (decimal i ∷ [])) o.0 f.0 x down.embeds down.spotted parts.inner e d y)
-        (λ x. element_there k r (suc i) es dec h (n + (w + one_if b)) pre o.1 f.1 x embs.1 (λ c m. sp c (In-right c own (elements_spots (suc i) es') m)) parts.rest e d a)
+        (λ x. λ y. decoy_there r t s n (pre ++ (decimal i ∷ [])) plain.0 is.0 x down.embeds down.spotted w.inner e d y)
+        (λ x. element_there k r (suc i) es dec (n + (marks_in t + own_mark j)) pre plain.1 is.2 x embs.1 (λ c m. sp c (In-right c own (elements_spots (suc i) es) m)) w.rest e d a)
       where
-        go : (c : Bool) → bytes_eq (decimal i) k ≡ c → HoldsOthers (option_and_then (λ z. tree_at z r) (cond c (Some t) (element_on es (suc i) k)))
-            → (HoldsOthers (tree_at t r) → At (dec (decimal i ∷ r)) e d → Standing d ((pre ++ (decimal i ∷ [])) ++ r) e (tree_at t r))
-            → (HoldsOthers (option_and_then (λ z. tree_at z r) (element_on es (suc i) k)) → Standing d (pre ++ (k ∷ r)) e (option_and_then (λ z. tree_at z r) (element_on es (suc i) k)))
-            → Standing d (pre ++ (k ∷ r)) e (option_and_then (λ z. tree_at z r) (cond c (Some t) (element_on es (suc i) k)))
-        go true q x here rest = restep d pre k (decimal i) r e (tree_at t r) q (here x (subst (λ l. At (dec (l ∷ r)) e d) (sym (bytes_same (decimal i) k q)) a))
+        go : (c : Bool) → bytes_eq (decimal i) k ≡ c → HoldsOthers (option_and_then (λ z. tree_at z r) (cond c (Some (strip t)) (element_on (strip_elements es) (suc i) k)))
+            → (HoldsOthers (tree_at (strip t) r) → At (dec (decimal i ∷ r)) e d → Standing d ((pre ++ (decimal i ∷ [])) ++ r) e (tree_at (strip t) r))
+            → (HoldsOthers (option_and_then (λ z. tree_at z r) (element_on (strip_elements es) (suc i) k)) → Standing d (pre ++ (k ∷ r)) e (option_and_then (λ z. tree_at z r) (element_on (strip_elements es) (suc i) k)))
+            → Standing d (pre ++ (k ∷ r)) e (option_and_then (λ z. tree_at z r) (cond c (Some (strip t)) (element_on (strip_elements es) (suc i) k)))
+        go true q x here rest = restep d pre k (decimal i) r e (tree_at (strip t) r) q (here x (subst (λ l. At (dec (l ∷ r)) e d) (sym (bytes_same (decimal i) k q)) a))
         go false q x here rest = rest x
 
-    member_there : (k : Text) (r : Path) (ms : Members) (dec : Path → List Text) (h : Path → Bool) (n : ℕ) (pre : Path) → MembersOrdered ms → MembersNoReserved ms → HoldsOthers (option_and_then (λ z. tree_at z r) (member_named ms k))
-        → Embeds pre (member_sites (lay_members dec dg (mark_members h n ms))) → Spotted pre (members_spots (mark_members h n ms)) → Holds g n (laid_members dec dg (mark_members h n ms))
-        → (e : ℕ) (d : Text) → At (dec (k ∷ r)) e d → Standing d (pre ++ (k ∷ r)) e (option_and_then (λ z. tree_at z r) (member_named ms k))
-    member_there k r no_members dec h n pre o f holds emb sp all e d a = absurd holds
-    member_there k r (member l t ms) dec h n pre o f holds emb sp all e d a =
+    member_there : (k : Text) (r : Path) (ms : MarkedMembers) (dec : Path → List Text) (n : ℕ) (pre : Path) → MembersPlain ms → MembersRunFrom n ms
+        → HoldsOthers (option_and_then (λ z. tree_at z r) (member_named (strip_members ms) k))
+        → Embeds pre (member_sites (lay_members dec dg ms)) → Spotted pre (members_spots ms) → Holds g n (laid_members dec dg ms)
+        → (e : ℕ) (d : Text) → At (dec (k ∷ r)) e d → Standing d (pre ++ (k ∷ r)) e (option_and_then (λ z. tree_at z r) (member_named (strip_members ms) k))
+    member_there k r no_marked_members dec n pre plain is holds emb sp all e d a = absurd holds
+    member_there k r (marked_member l j t ms) dec n pre plain is holds emb sp all e d a =
         let s : Path → List Text = λ q. dec (l ∷ q) in
-        let w = hidden_in (below l h) t in
-        let b = h (l ∷ []) in
-        let u = mark_from (below l h) n t in
-        let v = lay s dg u in
-        let j = mark_if b (n + w) in
-        let ms' = mark_members h (n + (w + one_if b)) ms in
-        let own = own_spot l j ++ map (inside l j) (spots u) in
-        let parts = three n w b (Some l) v (laid_items s dg u) (laid_members dec dg ms') (items_count s dg (below l h) n t) all in
-        let embs = embeds_member b pre dec l (n + w) u ms' f.0.0 emb in
-        let down = descend b pre (to_member l) (n + w) (Some l) u v embs.0 (λ c m. sp c (In-left c own (members_spots ms') m)) parts.own in
+        let v = lay s dg t in
+        let own = own_spot l j ++ map (inside l j) (spots t) in
+        let w = parts dg g n (marks_in t) j (Some l) v (laid_items s dg t) (laid_members dec dg ms) (items_length s dg t) all in
+        let embs = embeds_member j pre dec l t ms plain.0 emb in
+        let down = descend (to_member l) pre j (n + marks_in t) (Some l) t v is.1 embs.0 (λ c m. sp c (In-left c own (members_spots ms) m)) w.own in
         go (bytes_eq l k) refl holds
-        (λ x. λ y. decoy_there r t s (below l h) n (pre ++ (l ∷ [])) o.1 f.1 x down.embeds down.spotted parts.inner e d y)
-        (λ x. member_there k r ms dec h (n + (w + one_if b)) pre o.2 f.2 x embs.1 (λ c m. sp c (In-right c own (members_spots ms') m)) parts.rest e d a)
+        (λ x. λ y. decoy_there r t s n (pre ++ (l ∷ [])) plain.3 is.0 x down.embeds down.spotted w.inner e d y)
+        (λ x. member_there k r ms dec (n + (marks_in t + own_mark j)) pre plain.4 is.2 x embs.1 (λ c m. sp c (In-right c own (members_spots ms) m)) w.rest e d a)
       where
-        go : (c : Bool) → bytes_eq l k ≡ c → HoldsOthers (option_and_then (λ z. tree_at z r) (cond c (Some t) (member_named ms k)))
-            → (HoldsOthers (tree_at t r) → At (dec (l ∷ r)) e d → Standing d ((pre ++ (l ∷ [])) ++ r) e (tree_at t r))
-            → (HoldsOthers (option_and_then (λ z. tree_at z r) (member_named ms k)) → Standing d (pre ++ (k ∷ r)) e (option_and_then (λ z. tree_at z r) (member_named ms k)))
-            → Standing d (pre ++ (k ∷ r)) e (option_and_then (λ z. tree_at z r) (cond c (Some t) (member_named ms k)))
-        go true q x here rest = restep d pre k l r e (tree_at t r) q (here x (subst (λ c. At (dec (c ∷ r)) e d) (sym (bytes_same l k q)) a))
+        go : (c : Bool) → bytes_eq l k ≡ c → HoldsOthers (option_and_then (λ z. tree_at z r) (cond c (Some (strip t)) (member_named (strip_members ms) k)))
+            → (HoldsOthers (tree_at (strip t) r) → At (dec (l ∷ r)) e d → Standing d ((pre ++ (l ∷ [])) ++ r) e (tree_at (strip t) r))
+            → (HoldsOthers (option_and_then (λ z. tree_at z r) (member_named (strip_members ms) k)) → Standing d (pre ++ (k ∷ r)) e (option_and_then (λ z. tree_at z r) (member_named (strip_members ms) k)))
+            → Standing d (pre ++ (k ∷ r)) e (option_and_then (λ z. tree_at z r) (cond c (Some (strip t)) (member_named (strip_members ms) k)))
+        go true q x here rest = restep d pre k l r e (tree_at (strip t) r) q (here x (subst (λ c. At (dec (c ∷ r)) e d) (sym (bytes_same l k q)) a))
         go false q x here rest = rest x
 
 -- ---- the order's decoys
 
 pub decoys_stand : (mk : Maker) (o : Order) (p : Tree) (g : List Given) (dg : ℕ → Text) → IsGoodOrder o → IsLaid mk o p g dg → DecoysStand mk o p g
 decoys_stand mk o p g dg good laid d q a =
-    let dec = decoys_at dg (hidden_of o) (decoys_of o) in
-    let w = decoy_there p g dg (marked_of o) q o.claims dec (is_among o.hide) 0 [] good.ordered good.no_reserved (held_at o good q (At-In (decoys_of o) d q a))
+    let same : strip (marked_of o) ≡ o.claims = mark_strips_holds o.claims o.hide in
+    let w = decoy_there p g dg (marked_of o) q (marked_of o) (order_decoys o dg) 0 [] (marked_plain (is_among o.hide) 0 o.claims good.ordered good.no_reserved) (order_runs o)
+    (subst (λ t. HoldsOthers (tree_at t q)) (sym same) (held_at o good q (At-In (decoys_of o) d q a)))
     (λ s m.
     let i : In s (sites p) = subst (λ (t : Tree). In s (sites t)) (sym laid.payload_laid) m in
     (item payload s, In-left (item payload s) (map (item payload) (sites p)) (value_items (λ x. true) 0 g) (In-map (item payload) s (sites p) i), refl, refl, refl))
@@ -255,7 +230,7 @@ decoys_stand mk o p g dg good laid d q a =
     (omega (arith, spots_weigh (only s.mark) (marked_of o), marks_once_holds o.claims o.hide s.mark, up_to_le s.mark (hidden_of o))) m refl)
     (λ i x b. subst (λ n. At g n x) (let e : i ≡ 0 + i = omega arith in e) (subst (λ (xs : List Given). At xs i x) (sym laid.given_laid) b))
     (earlier d q (decoys_of o)) (dg (hidden_of o + d)) (earlier_at dg (hidden_of o) (decoys_of o) d q a) in
-    (w.0, w.1, w.2 ∙ laid.decoys d (At-below (decoys_of o) d q a), w.3)
+    (w.0, w.1, w.2 ∙ laid.decoys d (At-below (decoys_of o) d q a), subst (λ t. IsDecoySite (marked_of o) w.0 q (earlier d q (decoys_of o)) (tree_at t q)) same w.3)
 
 pub laid_is_issued_holds : LaidIsIssued
 laid_is_issued_holds mk o p g dg good laid differ = issued mk o p g dg good laid differ (decoys_stand mk o p g dg good laid)

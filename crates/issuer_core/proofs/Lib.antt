@@ -3,6 +3,9 @@ pub mod PutSwaps
 pub mod SdMembers
 pub mod LaidOpens
 pub mod DecoyPlaces
+pub mod Agrees
+pub mod Runs
+pub mod ItemNumbers
 pub mod LaidItems
 pub mod DecoySums
 pub mod LaidSums
@@ -11,8 +14,6 @@ pub mod LaidOrdered
 pub mod LaidIssued
 pub mod LaidDecoys
 pub mod IssuedSound
-pub mod Agrees
-pub mod Runs
 pub mod WithAlg
 pub mod LaidBounds
 mod Examples

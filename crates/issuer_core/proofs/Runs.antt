@@ -74,9 +74,9 @@ order_marks o = marks_marked (is_among o.hide) 0 o.claims
 
 -- ---- so many disclosures there are
 
-own_length : (dg : ℕ → Text) (name : Option Text) (k : Option ℕ) (v : Tree) → length (own_item dg name k v) ≡ own_mark k
-own_length dg name None v = refl
-own_length dg name (Some k) v = refl
+pub own_items_length : (dg : ℕ → Text) (name : Option Text) (k : Option ℕ) (v : Tree) → length (own_item dg name k v) ≡ own_mark k
+own_items_length dg name None v = refl
+own_items_length dg name (Some k) v = refl
 
 mutual
   pub items_length : (dec : Path → List Text) (dg : ℕ → Text) (m : Marked) → length (laid_items dec dg m) ≡ marks_in m
@@ -91,7 +91,7 @@ mutual
       let xs = laid_items s dg t in
       let own = own_item dg None k (lay s dg t) in
       let ys = laid_elements dec dg (suc i) es in
-      omega (arith, length-append (xs ++ own) ys, length-append xs own, items_length s dg t, own_length dg None k (lay s dg t), elements_length dec dg (suc i) es)
+      omega (arith, length-append (xs ++ own) ys, length-append xs own, items_length s dg t, own_items_length dg None k (lay s dg t), elements_length dec dg (suc i) es)
 
   pub members_length : (dec : Path → List Text) (dg : ℕ → Text) (ms : MarkedMembers) → length (laid_members dec dg ms) ≡ marks_in_members ms
   members_length dec dg no_marked_members = refl
@@ -100,7 +100,7 @@ mutual
       let xs = laid_items s dg t in
       let own = own_item dg (Some name) k (lay s dg t) in
       let ys = laid_members dec dg ms in
-      omega (arith, length-append (xs ++ own) ys, length-append xs own, items_length s dg t, own_length dg (Some name) k (lay s dg t), members_length dec dg ms)
+      omega (arith, length-append (xs ++ own) ys, length-append xs own, items_length s dg t, own_items_length dg (Some name) k (lay s dg t), members_length dec dg ms)
 
 -- ---- digests that agree on a run
 
