@@ -2,3 +2,8 @@ pub mod Code
 pub mod Order
 pub mod Decoys
 pub mod GoodOrder
+pub mod Reserved
+pub mod Refusals
+pub mod Judging
+pub mod Salts
+pub mod Clash

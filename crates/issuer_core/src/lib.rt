@@ -1,6 +1,14 @@
 //! Issuing an SD-JWT, RFC 9901 section 4.2: places of a payload hidden behind the digests of their disclosures, and decoys.
 #![tactic(auto)]
 
+mod clash;
+mod errors;
+mod judging;
 mod order;
+mod reserved;
+mod salts;
 
+pub use clash::first_clash;
+pub use errors::IssueError;
+pub use judging::{DEPTH_MAX, judge};
 pub use order::{Decoy, DecoyList, Order};
