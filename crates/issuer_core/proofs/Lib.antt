@@ -17,3 +17,10 @@ pub mod IssuedSound
 pub mod WithAlg
 pub mod LaidBounds
 mod Examples
+pub mod Firsts
+pub mod ReservedPlaces
+pub mod SaltSteps
+pub mod Clashes
+pub mod Counts
+pub mod Lowest
+pub mod Judged

@@ -7,3 +7,8 @@ pub mod Laid
 pub mod Issued
 pub mod Laws
 pub mod Runs
+pub mod Reserved
+pub mod Refusals
+pub mod Judging
+pub mod Salts
+pub mod Clash

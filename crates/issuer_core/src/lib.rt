@@ -2,6 +2,14 @@
 #![tactic(auto)]
 
 pub mod laws;
+mod clash;
+mod errors;
+mod judging;
 mod order;
+mod reserved;
+mod salts;
 
+pub use clash::first_clash;
+pub use errors::IssueError;
+pub use judging::{DEPTH_MAX, judge};
 pub use order::{Decoy, DecoyList, Order};
