@@ -16,6 +16,8 @@ pub mod LaidDecoys
 pub mod IssuedSound
 pub mod WithAlg
 pub mod LaidBounds
+pub mod OneLaid
+pub mod FromLaid
 mod Examples
 pub mod Firsts
 pub mod ReservedPlaces

@@ -12,3 +12,5 @@ pub mod Refusals
 pub mod Judging
 pub mod Salts
 pub mod Clash
+pub mod Written
+pub mod Issue

@@ -1,4 +1,5 @@
 use claim_tree::Path;
+use hmac_sign::SignError;
 use sd_outside::NoMemory;
 
 /// Why an order is not issued.
@@ -43,5 +44,19 @@ impl From<NoMemory> for IssueError {
 
     fn from(_: NoMemory) -> Self {
         IssueError::Memory
+    }
+}
+
+impl From<SignError> for IssueError {
+    ghost use Rattle.std.specs.Prelude.{◌≡◌};
+    ghost use Rattle.issuer_core.specs.Issue.{unsigned};
+
+    ghost from_gives = { λ error e. e ≡ unsigned error };
+
+    fn from(error: SignError) -> Self {
+        match error {
+            SignError::Memory => IssueError::Memory,
+            SignError::Failed => IssueError::SignFailed,
+        }
     }
 }

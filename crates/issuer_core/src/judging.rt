@@ -169,6 +169,7 @@ fn judge_places(order: &Order) -> Result<(), IssueError>
 pub fn judge(alloc: Global, order: &Order) -> Result<(), IssueError>
     requires { depth_of (tree_of order.now.payload) ≤ 127 }
     ensures passes { OnOk result (NoneApplies (Refuses (order_of order.now))) }
+    ensures good { OnOk result (good.IsGoodOrder (order_of order.now)) }
     ensures refused { IfErr result (IsRefused (order_of order.now)) }
 {
     judge_payload(alloc, order)?;

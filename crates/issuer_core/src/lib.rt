@@ -4,12 +4,15 @@
 pub mod laws;
 mod clash;
 mod errors;
+mod issuing;
 mod judging;
+mod laying;
 mod order;
 mod reserved;
 mod salts;
 
 pub use clash::first_clash;
 pub use errors::IssueError;
+pub use issuing::issue;
 pub use judging::{DEPTH_MAX, judge};
 pub use order::{Decoy, DecoyList, Order};
