@@ -1,6 +1,5 @@
 -- An order, and what is laid for it: the definitions computed, and the premises of the laws met.
-use Rattle.std.proofs.Common.{◌≡◌, ℕ, ◌+◌, List, [], ◌∷◌, None, Some, arith, inl, inr, length, pos, refl, subst, sym}
-use Rattle.std.proofs.Common.{codes}
+use Rattle.std.proofs.Common.{◌≡◌, ℕ, ◌+◌, List, [], ◌∷◌, None, Some, arith, inl, inr, length, pos, refl, subst, sym, codes}
 use Rattle.issuer_core.specs.declared.order.Decoy.{Decoy}
 use Rattle.claim_tree.specs.Lists.{In}
 use Rattle.claim_tree.specs.Path.{tree_at}
@@ -17,7 +16,6 @@ use Rattle.issuer_core.specs.GoodOrder.{HoldsOthers, IsGoodOrder}
 use Rattle.issuer_core.specs.Issued.{IsIssuedFor}
 use Rattle.issuer_core.specs.Laid.{IsLaid, laid_items, lay, order_decoys}
 use Rattle.issuer_core.specs.Order.{Order}
-use Rattle.rebuild_core.proofs.Chains.{short}
 use Rattle.issuer_core.proofs.IssuedSound.{issued_is_sound_holds}
 use Rattle.issuer_core.proofs.LaidDecoys.{laid_is_issued_holds}
 use Rattle.issuer_core.proofs.LaidOrdered.{laid_is_readable_holds}
