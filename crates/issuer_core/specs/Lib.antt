@@ -6,4 +6,4 @@ pub mod Digests
 pub mod Laid
 pub mod Issued
 pub mod Laws
-pub mod Runs
+pub mod Closing
