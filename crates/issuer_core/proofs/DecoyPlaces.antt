@@ -1,7 +1,6 @@
 -- Where decoys are put.
 use Rattle.std.proofs.Common.{◌≡◌, ℕ, zero, suc, ◌+◌, ◌<◌, List, [], ◌∷◌, ◌++◌, Bool, ap, arith, cond, false, inl, inr, length, refl, subst, sym, true, ⊎_elim, ◌∙◌}
-use Rattle.std.specs.Prelude.{bytes_eq}
-use Rattle.std.specs.Prelude.{replicate}
+use Rattle.std.specs.Prelude.{bytes_eq, replicate}
 use Rattle.issuer_core.specs.declared.order.Decoy.{Decoy}
 use Rattle.claim_tree.specs.Lists.{At, In}
 use Rattle.claim_tree.specs.Path.{tree_at}

@@ -1,6 +1,5 @@
 -- An issued token is sound.
-use Rattle.std.proofs.Common.{◌≡◌, ℕ, zero, suc, ◌+◌, ◌<◌, ◌≤◌, List, [], ◌∷◌, ◌++◌, Bool, ap, arith, cond, false, inl, inr, is_some, length, refl, subst, sym, true, ◌∙◌}
-use Rattle.std.proofs.Common.{ltb}
+use Rattle.std.proofs.Common.{◌≡◌, ℕ, zero, suc, ◌+◌, ◌<◌, ◌≤◌, List, [], ◌∷◌, ◌++◌, Bool, ap, arith, cond, false, inl, inr, is_some, length, refl, subst, sym, true, ◌∙◌, ltb}
 use Rattle.std.specs.Prelude.{bytes_eq}
 use Rattle.claim_tree.specs.Lists.{At, In, Nowhere, Repeats}
 use Rattle.claim_tree.specs.Tree.{Elements, Members, Text, Tree, array, depth, element, leaf, member, no_elements, no_members, object}

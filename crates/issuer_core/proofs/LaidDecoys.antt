@@ -9,9 +9,10 @@ use Rattle.claim_tree.specs.Tree.{Text, Tree, elements_len, member_named, names}
 use Rattle.digest_sites.specs.Given.{Given}
 use Rattle.digest_sites.specs.Reserved.{element_digest, sd_name, sd_texts}
 use Rattle.digest_sites.specs.Sites.{Site, Step, element_site, element_sites, member_sites, own_site, sites, sites_on, step_text, to_element, to_member, under}
-use Rattle.marked_tree.specs.Marked.{Marked, MarkedElements, MarkedMembers, marked_array, marked_element, marked_leaf, marked_member, marked_object, no_marked_elements, no_marked_members, only, strip, strip_elements, strip_members}
+use Rattle.marked_tree.specs.Marked.{Marked, MarkedElements, MarkedMembers, mark_weight, marked_array, marked_element, marked_leaf, marked_member, marked_object, no_marked_elements, no_marked_members, only, strip, strip_elements, strip_members, weight}
 use Rattle.marked_tree.specs.Places.{Path, Spot, elements_spots, inside, is_among, mark, members_spots, own_spot, place, spots}
 use Rattle.rebuild_core.specs.Given.{Item, all_items, item, payload, value_items, value_of}
+use Rattle.issuer_core.specs.Closing.{ClosesFrom, ElementsClose, IsNumbered, MembersClose, one}
 use Rattle.issuer_core.specs.Decoys.{decoys_of, earlier}
 use Rattle.issuer_core.specs.Digests.{Maker, hidden_of, marked_of}
 use Rattle.issuer_core.specs.GoodOrder.{HoldsOthers, IsGoodOrder}
@@ -19,16 +20,15 @@ use Rattle.issuer_core.specs.Issued.{DecoysStand, IsDecoySite, or_root, origin}
 use Rattle.issuer_core.specs.Laid.{IsLaid, digest_elements, digest_object, hidden_digests, laid_elements, laid_items, laid_members, lay, lay_elements, lay_members, order_decoys, own_item, sorted, sorted_with, with_sd}
 use Rattle.issuer_core.specs.Laws.{LaidIsIssued}
 use Rattle.issuer_core.specs.Order.{Order}
-use Rattle.issuer_core.specs.Runs.{ElementsRunFrom, IsMark, MembersRunFrom, RunsFrom, marks_in, own_mark}
 use Rattle.claim_tree.proofs.Lists.{At-In, At-below, In-left, In-map, In-right, bytes_same}
 use Rattle.marked_tree.proofs.MarkFacts.{mark_strips_holds, marks_once_holds, up_to_le}
 use Rattle.marked_tree.proofs.Spots.{first_is, spots_weigh}
 use Rattle.rebuild_core.proofs.Chains.{item_of_value}
+use Rattle.issuer_core.proofs.Closing.{items_length, order_closes}
 use Rattle.issuer_core.proofs.DecoyPlaces.{earlier_at, held_at}
 use Rattle.issuer_core.proofs.ItemNumbers.{Holds, parts}
 use Rattle.issuer_core.proofs.LaidIssued.{issued}
 use Rattle.issuer_core.proofs.Plain.{ElementsPlain, IsPlain, MembersPlain, marked_plain}
-use Rattle.issuer_core.proofs.Runs.{items_length, order_runs}
 use Rattle.issuer_core.proofs.SdMembers.{digest_read, laid_no_digest, lay_has_no, with_sd_sites, with_sd_texts}
 
 insert_has : (d : Text) (ds : List Text) (e : Text) → (e ≡ d) ⊎ In e ds → In e (sorted_with d ds)
@@ -62,7 +62,7 @@ module _ (p : Tree) (g : List Given) (dg : ℕ → Text) (M : Marked) where
     spotted : Spotted (pre ++ (step_text step ∷ [])) (spots u)
 
   -- a hidden node is no site above, but its value is that of a disclosure
-  descend : (step : Step) (pre : Path) (k : Option ℕ) (n : ℕ) (name : Option Text) (u : Marked) (v : Tree) → IsMark n k → (k ≡ None → Embeds pre (map (under step) (sites v)))
+  descend : (step : Step) (pre : Path) (k : Option ℕ) (n : ℕ) (name : Option Text) (u : Marked) (v : Tree) → IsNumbered k n → (k ≡ None → Embeds pre (map (under step) (sites v)))
       → Spotted pre (own_spot (step_text step) k ++ map (inside (step_text step) k) (spots u)) → Holds g n (own_item dg name k v) → Below pre step u v
   descend step pre k n name u v is emb sp own = record {
     embeds = go k is emb sp own;
@@ -71,7 +71,7 @@ module _ (p : Tree) (g : List Given) (dg : ℕ → Text) (M : Marked) where
         ∙ ap Some (sym (append_assoc pre (step_text step ∷ []) s.at));
   }
     where
-      go : (k : Option ℕ) → IsMark n k → (k ≡ None → Embeds pre (map (under step) (sites v))) → Spotted pre (own_spot (step_text step) k ++ map (inside (step_text step) k) (spots u)) → Holds g n (own_item dg name k v)
+      go : (k : Option ℕ) → IsNumbered k n → (k ≡ None → Embeds pre (map (under step) (sites v))) → Spotted pre (own_spot (step_text step) k ++ map (inside (step_text step) k) (spots u)) → Holds g n (own_item dg name k v)
           → Embeds (pre ++ (step_text step ∷ [])) (sites v)
       go None is emb sp own s m = let w = emb refl (under step s) (In-map (under step) s (sites v) m) in (w.0, w.1, w.2, w.3, w.4 ∙ sym (append_assoc pre (step_text step ∷ []) (map step_text s.at)))
       go (Some j) is emb sp own s m =
@@ -144,7 +144,7 @@ module _ (p : Tree) (g : List Given) (dg : ℕ → Text) (M : Marked) where
   restep d pre k l r e o h s = subst (λ q. Standing d q e o) (append_assoc pre (l ∷ []) r ∙ ap (λ c. pre ++ (c ∷ r)) (bytes_same l k h)) s
 
   mutual
-    pub decoy_there : (r : Path) (m : Marked) (dec : Path → List Text) (n : ℕ) (pre : Path) → IsPlain m → RunsFrom n m → HoldsOthers (tree_at (strip m) r)
+    pub decoy_there : (r : Path) (m : Marked) (dec : Path → List Text) (n : ℕ) (pre : Path) → IsPlain m → ClosesFrom n m → HoldsOthers (tree_at (strip m) r)
         → Embeds pre (sites (lay dec dg m)) → Spotted pre (spots m) → Holds g n (laid_items dec dg m)
         → (e : ℕ) (d : Text) → At (dec r) e d → Standing d (pre ++ r) e (tree_at (strip m) r)
     decoy_there [] (marked_leaf l) dec n pre plain is holds emb sp all e d a = absurd holds
@@ -170,7 +170,7 @@ module _ (p : Tree) (g : List Given) (dg : ℕ → Text) (M : Marked) where
         (subst (λ (zs : List Site). In s zs) (sym (with_sd_sites ds (lay_members dec dg ms) (lay_has_no sd_name (λ k a c. a) dec dg ms plain))) i)))
         sp all e d a
 
-    element_there : (k : Text) (r : Path) (i : ℕ) (es : MarkedElements) (dec : Path → List Text) (n : ℕ) (pre : Path) → ElementsPlain es → ElementsRunFrom n es
+    element_there : (k : Text) (r : Path) (i : ℕ) (es : MarkedElements) (dec : Path → List Text) (n : ℕ) (pre : Path) → ElementsPlain es → ElementsClose n es
         → HoldsOthers (option_and_then (λ z. tree_at z r) (element_on (strip_elements es) i k))
         → Embeds pre (element_sites i (lay_elements dec dg i es)) → Spotted pre (elements_spots i es) → Holds g n (laid_elements dec dg i es)
         → (e : ℕ) (d : Text) → At (dec (k ∷ r)) e d → Standing d (pre ++ (k ∷ r)) e (option_and_then (λ z. tree_at z r) (element_on (strip_elements es) i k))
@@ -179,12 +179,12 @@ module _ (p : Tree) (g : List Given) (dg : ℕ → Text) (M : Marked) where
         let s : Path → List Text = λ q. dec (decimal i ∷ q) in
         let v = lay s dg t in
         let own = own_spot (decimal i) j ++ map (inside (decimal i) j) (spots t) in
-        let w = parts dg g n (marks_in t) j None v (laid_items s dg t) (laid_elements dec dg (suc i) es) (items_length s dg t) all in
+        let w = parts dg g n (weight one t) j None v (laid_items s dg t) (laid_elements dec dg (suc i) es) (items_length s dg t) all in
         let embs = embeds_element j pre dec i t es plain.0 emb in
-        let down = descend (to_element i) pre j (n + marks_in t) None t v is.1 embs.0 (λ c m. sp c (In-left c own (elements_spots (suc i) es) m)) w.own in
+        let down = descend (to_element i) pre j (n + weight one t) None t v is.1 embs.0 (λ c m. sp c (In-left c own (elements_spots (suc i) es) m)) w.own in
         go (bytes_eq (decimal i) k) refl holds
         (λ x. λ y. decoy_there r t s n (pre ++ (decimal i ∷ [])) plain.0 is.0 x down.embeds down.spotted w.inner e d y)
-        (λ x. element_there k r (suc i) es dec (n + (marks_in t + own_mark j)) pre plain.1 is.2 x embs.1 (λ c m. sp c (In-right c own (elements_spots (suc i) es) m)) w.rest e d a)
+        (λ x. element_there k r (suc i) es dec (n + (mark_weight one j + weight one t)) pre plain.1 is.2 x embs.1 (λ c m. sp c (In-right c own (elements_spots (suc i) es) m)) w.rest e d a)
       where
         go : (c : Bool) → bytes_eq (decimal i) k ≡ c → HoldsOthers (option_and_then (λ z. tree_at z r) (cond c (Some (strip t)) (element_on (strip_elements es) (suc i) k)))
             → (HoldsOthers (tree_at (strip t) r) → At (dec (decimal i ∷ r)) e d → Standing d ((pre ++ (decimal i ∷ [])) ++ r) e (tree_at (strip t) r))
@@ -193,7 +193,7 @@ module _ (p : Tree) (g : List Given) (dg : ℕ → Text) (M : Marked) where
         go true q x here rest = restep d pre k (decimal i) r e (tree_at (strip t) r) q (here x (subst (λ l. At (dec (l ∷ r)) e d) (sym (bytes_same (decimal i) k q)) a))
         go false q x here rest = rest x
 
-    member_there : (k : Text) (r : Path) (ms : MarkedMembers) (dec : Path → List Text) (n : ℕ) (pre : Path) → MembersPlain ms → MembersRunFrom n ms
+    member_there : (k : Text) (r : Path) (ms : MarkedMembers) (dec : Path → List Text) (n : ℕ) (pre : Path) → MembersPlain ms → MembersClose n ms
         → HoldsOthers (option_and_then (λ z. tree_at z r) (member_named (strip_members ms) k))
         → Embeds pre (member_sites (lay_members dec dg ms)) → Spotted pre (members_spots ms) → Holds g n (laid_members dec dg ms)
         → (e : ℕ) (d : Text) → At (dec (k ∷ r)) e d → Standing d (pre ++ (k ∷ r)) e (option_and_then (λ z. tree_at z r) (member_named (strip_members ms) k))
@@ -202,12 +202,12 @@ module _ (p : Tree) (g : List Given) (dg : ℕ → Text) (M : Marked) where
         let s : Path → List Text = λ q. dec (l ∷ q) in
         let v = lay s dg t in
         let own = own_spot l j ++ map (inside l j) (spots t) in
-        let w = parts dg g n (marks_in t) j (Some l) v (laid_items s dg t) (laid_members dec dg ms) (items_length s dg t) all in
+        let w = parts dg g n (weight one t) j (Some l) v (laid_items s dg t) (laid_members dec dg ms) (items_length s dg t) all in
         let embs = embeds_member j pre dec l t ms plain.0 emb in
-        let down = descend (to_member l) pre j (n + marks_in t) (Some l) t v is.1 embs.0 (λ c m. sp c (In-left c own (members_spots ms) m)) w.own in
+        let down = descend (to_member l) pre j (n + weight one t) (Some l) t v is.1 embs.0 (λ c m. sp c (In-left c own (members_spots ms) m)) w.own in
         go (bytes_eq l k) refl holds
         (λ x. λ y. decoy_there r t s n (pre ++ (l ∷ [])) plain.3 is.0 x down.embeds down.spotted w.inner e d y)
-        (λ x. member_there k r ms dec (n + (marks_in t + own_mark j)) pre plain.4 is.2 x embs.1 (λ c m. sp c (In-right c own (members_spots ms) m)) w.rest e d a)
+        (λ x. member_there k r ms dec (n + (mark_weight one j + weight one t)) pre plain.4 is.2 x embs.1 (λ c m. sp c (In-right c own (members_spots ms) m)) w.rest e d a)
       where
         go : (c : Bool) → bytes_eq l k ≡ c → HoldsOthers (option_and_then (λ z. tree_at z r) (cond c (Some (strip t)) (member_named (strip_members ms) k)))
             → (HoldsOthers (tree_at (strip t) r) → At (dec (l ∷ r)) e d → Standing d ((pre ++ (l ∷ [])) ++ r) e (tree_at (strip t) r))
@@ -221,7 +221,7 @@ module _ (p : Tree) (g : List Given) (dg : ℕ → Text) (M : Marked) where
 pub decoys_stand : (mk : Maker) (o : Order) (p : Tree) (g : List Given) (dg : ℕ → Text) → IsGoodOrder o → IsLaid mk o p g dg → DecoysStand mk o p g
 decoys_stand mk o p g dg good laid d q a =
     let same : strip (marked_of o) ≡ o.claims = mark_strips_holds o.claims o.hide in
-    let w = decoy_there p g dg (marked_of o) q (marked_of o) (order_decoys o dg) 0 [] (marked_plain (is_among o.hide) 0 o.claims good.ordered good.no_reserved) (order_runs o)
+    let w = decoy_there p g dg (marked_of o) q (marked_of o) (order_decoys o dg) 0 [] (marked_plain (is_among o.hide) 0 o.claims good.ordered good.no_reserved) (order_closes o)
     (subst (λ t. HoldsOthers (tree_at t q)) (sym same) (held_at o good q (At-In (decoys_of o) d q a)))
     (λ s m.
     let i : In s (sites p) = subst (λ (t : Tree). In s (sites t)) (sym laid.payload_laid) m in

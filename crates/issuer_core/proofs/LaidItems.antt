@@ -14,11 +14,11 @@ use Rattle.issuer_core.specs.Order.{Order}
 use Rattle.claim_tree.proofs.Lists.{At-below, At-either, At-of_map}
 use Rattle.rebuild_core.proofs.AllShown.{At-left}
 use Rattle.rebuild_core.proofs.Found.{found}
+use Rattle.issuer_core.proofs.Closing.{items_length, order_closes, order_marks}
 use Rattle.issuer_core.proofs.DecoyPlaces.{in_decoys}
 use Rattle.issuer_core.proofs.ItemNumbers.{depth_within, has_items, items_numbered}
 use Rattle.issuer_core.proofs.LaidOpens.{NoneFound, laid_opens}
 use Rattle.issuer_core.proofs.Plain.{marked_plain}
-use Rattle.issuer_core.proofs.Runs.{items_length, order_marks, order_runs}
 
 module _ (mk : Maker) (o : Order) (p : Tree) (g : List Given) (dg : ℕ → Text) (good : IsGoodOrder o) (laid : IsLaid mk o p g dg) (differ : AllDiffer dg (hidden_of o + length (decoys_of o))) where
   abbrev n : ℕ
@@ -32,7 +32,7 @@ module _ (mk : Maker) (o : Order) (p : Tree) (g : List Given) (dg : ℕ → Text
 
   pub digest_is : (k : ℕ) (x : Given) → At g k x → x.digest ≡ dg k
   digest_is k x a =
-      items_numbered dec dg 0 (marked_of o) (order_runs o) k x (subst (λ (xs : List Given). At xs k x) laid.given_laid a)
+      items_numbered dec dg 0 (marked_of o) (order_closes o) k x (subst (λ (xs : List Given). At xs k x) laid.given_laid a)
       ∙ ap dg (let e : 0 + k ≡ k = omega arith in e)
 
   pub laid_made : (k : ℕ) (x : Given) → At g k x → x.digest ≡ mk.digest (mk.disclosure k x.name x.value)
@@ -83,5 +83,5 @@ module _ (mk : Maker) (o : Order) (p : Tree) (g : List Given) (dg : ℕ → Text
       ∙ laid_opens g dg (suc (length g)) dec (marked_of o)
       (omega (arith, depth_within (marked_of o), order_marks o, laid_count))
       (marked_plain (is_among o.hide) 0 o.claims good.ordered good.no_reserved)
-      (has_items g dg given_differ dec 0 (marked_of o) (order_runs o) none_found
+      (has_items g dg given_differ dec 0 (marked_of o) (order_closes o) none_found
       (λ q x a. subst (λ z. At g z x) (let e : q ≡ 0 + q = omega arith in e) (subst (λ (xs : List Given). At xs q x) (sym laid.given_laid) a)))

@@ -1,21 +1,20 @@
 -- The lists `_sd` of what is laid are not empty and ascend strictly.
-use Rattle.std.proofs.Common.{◌≡◌, ℕ, suc, ◌+◌, ◌<◌, ◌≤◌, List, [], ◌∷◌, ◌++◌, Bool, Equal, Greater, Less, None, Option, Ordering, Some, ap, arith, cond, decimal, false, inl, inr, length, refl, subst, sym, true, ⊎_elim, ◌∙◌, ◌⊎◌}
+use Rattle.std.proofs.Common.{◌≡◌, ℕ, suc, ◌+◌, ◌<◌, ◌≤◌, List, [], ◌∷◌, ◌++◌, Bool, Equal, Greater, Less, None, Option, Ordering, Some, arith, cond, decimal, false, inl, inr, length, refl, subst, sym, true, ⊎_elim, ◌∙◌, ◌⊎◌}
 use Rattle.std.proofs.lemmas.Map.Lookups.{exact_bytes}
 use Rattle.std.specs.Cmp.Lexicographic.{slice_cmp}
 use Rattle.std.specs.Ordering.{match_ordering, nat_cmp}
 use Rattle.std.specs.Prelude.{bytes_eq}
 use Rattle.claim_tree.specs.Lists.{In}
-use Rattle.claim_tree.specs.Tree.{Elements, IsBefore, IsBeforeAll, Members, Text, Tree, array, element, inserted, leaf, member, no_elements, no_members, object, text}
+use Rattle.claim_tree.specs.Tree.{Elements, IsBefore, IsBeforeAll, Members, Text, Tree, array, element, inserted, leaf, member, no_elements, no_members, object}
 use Rattle.digest_sites.specs.Given.{Given}
 use Rattle.digest_sites.specs.Reserved.{dots_name, sd_name}
 use Rattle.marked_tree.specs.Marked.{Marked, MarkedElements, MarkedMembers, marked_element, marked_member}
 use Rattle.marked_tree.specs.Places.{Path, below, hidden_elements, hidden_in, hidden_members, mark_elements, mark_from, mark_if, mark_members, one_if, same_path}
 use Rattle.rebuild_core.specs.Free.{ElementsNoReserved, HasNoReserved, MembersNoReserved}
-use Rattle.rebuild_core.specs.Payload.{alg_name}
 use Rattle.issuer_core.specs.Decoys.{decoys_at}
 use Rattle.issuer_core.specs.Digests.{AllDiffer}
 use Rattle.issuer_core.specs.Issued.{ElementsDigestLists, HasDigestLists, IsDigestList, MembersDigestLists, Rises}
-use Rattle.issuer_core.specs.Laid.{digest_elements, digest_object, hidden_digests, laid_elements, laid_items, laid_members, lay, lay_elements, lay_members, own_item, sorted, sorted_with, texts_array, with_alg, with_sd}
+use Rattle.issuer_core.specs.Laid.{digest_elements, digest_object, hidden_digests, laid_elements, laid_items, laid_members, lay, lay_elements, lay_members, own_item, sorted, sorted_with, texts_array, with_sd}
 use Rattle.claim_tree.proofs.Lists.{In-append}
 use Rattle.marked_tree.proofs.Puts.{IsBeforeAll-weaker, after_turned}
 use Rattle.rebuild_core.proofs.Sums.{Apart}

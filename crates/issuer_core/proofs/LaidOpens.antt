@@ -1,6 +1,5 @@
 -- What is laid opens to the tree from which it was laid.
-use Rattle.std.proofs.Common.{◌≡◌, ℕ, zero, suc, ◌≤◌, List, [], ◌∷◌, ◌++◌, None, Option, Some, ap, ap₂, arith, cond, decimal, inl, inr, refl, subst, sym, ⊎_elim, ◌∙◌}
-use Rattle.std.proofs.Common.{max}
+use Rattle.std.proofs.Common.{◌≡◌, ℕ, zero, suc, ◌≤◌, List, [], ◌∷◌, ◌++◌, None, Option, Some, ap, ap₂, arith, cond, decimal, inl, inr, refl, subst, sym, ⊎_elim, ◌∙◌, max}
 use Rattle.claim_tree.specs.Lists.{In}
 use Rattle.claim_tree.specs.Tree.{IsBefore, IsBeforeAll, Text, Tree}
 use Rattle.digest_sites.specs.Given.{Given}

@@ -12,7 +12,6 @@ use Rattle.issuer_core.specs.Laid.{digest_elements, hidden_digests, laid_element
 use Rattle.issuer_core.specs.Laws.{LaidIsReadable}
 use Rattle.claim_tree.proofs.Lists.{In-append}
 use Rattle.claim_tree.proofs.MapPlaces.{ordered-inserted}
-use Rattle.rebuild_core.proofs.Chains.{in_payload}
 use Rattle.issuer_core.proofs.Plain.{ElementsPlain, IsPlain, MembersPlain, marked_plain}
 
 texts_ordered : (ds : List Text) → ElementsOrdered (texts_array ds)

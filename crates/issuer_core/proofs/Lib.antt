@@ -4,7 +4,7 @@ pub mod SdMembers
 pub mod LaidOpens
 pub mod DecoyPlaces
 pub mod Agrees
-pub mod Runs
+pub mod Closing
 pub mod ItemNumbers
 pub mod LaidItems
 pub mod DecoySums

@@ -1,6 +1,5 @@
 -- The payload with its `_sd_alg`: taken out again, it leaves what was laid.
-use Rattle.std.proofs.Common.{◌≡◌, ℕ, List, [], ◌∷◌, ◌++◌, Bool, Equal, Greater, Less, None, Ordering, Some, ap, false, refl, subst, sym, true}
-use Rattle.std.proofs.Common.{codes}
+use Rattle.std.proofs.Common.{◌≡◌, ℕ, List, [], ◌∷◌, ◌++◌, Bool, Equal, Greater, Less, None, Ordering, Some, ap, false, refl, subst, sym, true, codes}
 use Rattle.std.proofs.lemmas.Map.Lookups.{exact_bytes}
 use Rattle.std.specs.Cmp.Lexicographic.{slice_cmp}
 use Rattle.std.specs.Ordering.{match_ordering, nat_cmp}

@@ -14,3 +14,4 @@ pub mod Salts
 pub mod Clash
 pub mod Written
 pub mod Issue
+pub mod Closing

@@ -7,9 +7,9 @@ use Rattle.digest_sites.specs.Given.{Given}
 use Rattle.digest_sites.specs.Reserved.{dots_name, element_digest, elements_misuse, members_misuse, misuses, sd_name, sd_texts, text_list, texts_of}
 use Rattle.digest_sites.specs.Sites.{Site, sites}
 use Rattle.marked_tree.specs.Marked.{Marked, marked_member, strip, strip_elements, strip_members, ways}
-use Rattle.rebuild_core.specs.AllShown.{all_digests, HasTextLists, ElementsTextLists, MembersTextLists, AreAllShown, ShownIsSound}
+use Rattle.rebuild_core.specs.AllShown.{HasTextLists, ElementsTextLists, MembersTextLists, AreAllShown, ShownIsSound}
 use Rattle.rebuild_core.specs.Laws.{IsReadable}
-use Rattle.rebuild_core.specs.Conditions.{Discloses, EarlierName, IsReferencedOnce, IsSound, IsWellNamed, IsWrong, Misused, NameClash, RepeatedDigest, RepeatedDisclosure, ReservedName, Unreferenced, WrongShape}
+use Rattle.rebuild_core.specs.Conditions.{Discloses, EarlierName, IsReferencedOnce, IsSound, IsWellNamed, IsWrong, Misused, NameClash, RepeatedDigest, ReservedName, Unreferenced, WrongShape}
 use Rattle.rebuild_core.specs.Free.{ElementsNoReserved, HasNoReserved, IsFree, MembersNoReserved}
 use Rattle.rebuild_core.specs.Given.{Item, Owner, find, is_in_round, is_reached, item, item_digests, met, payload, stands, value_items, value_of}
 use Rattle.rebuild_core.specs.Opening.{Shown, hidden, open_element, open_elements, open_members, open_tree, opened, processed, reveal, show_element, shown, shown_by}
@@ -23,7 +23,7 @@ use Rattle.rebuild_core.proofs.Marks.{Way, shown_ways}
 use Rattle.rebuild_core.proofs.Pick.{met_item}
 use Rattle.rebuild_core.proofs.Reach.{later_round, list_any-from, stands-from}
 use Rattle.rebuild_core.proofs.ShownAt.{ShownFree, Shows, shown_back, shows_free}
-use Rattle.digest_sites.specs.declared.site.SiteKind.TheVariants.{Member, Element}
+use Rattle.digest_sites.specs.declared.site.SiteKind.TheVariants.{Member}
 
 -- ---- an element before another
 

@@ -1,22 +1,19 @@
 -- Each way in an opened tree comes from a site that shows: of the right kind, with a name that is new.
-use Rattle.std.proofs.Common.{◌≡◌, ℕ, suc, ◌+◌, ◌<◌, ◌≤◌, ◌^◌, List, [], ◌∷◌, ◌++◌, map, Bool, true, false, cond, ◌⊎◌, inl, inr, ⊎_elim, Option, Some, None, Ordering, Less, Equal, Greater, refl, sym, ap, ◌∙◌, subst, arith, append_assoc}
+use Rattle.std.proofs.Common.{◌≡◌, ℕ, suc, ◌+◌, ◌≤◌, List, [], ◌∷◌, ◌++◌, map, Bool, true, false, cond, ◌⊎◌, inl, inr, ⊎_elim, Option, Some, None, refl, sym, ap, ◌∙◌, subst, arith, append_assoc}
 use Rattle.std.proofs.lemmas.List.{map-append}
 use Rattle.std.specs.Prelude.{bytes_eq}
-use Rattle.std.specs.Ordering.{match_ordering, nat_cmp}
-use Rattle.std.specs.Cmp.Lexicographic.{slice_cmp}
-use Rattle.std.proofs.lemmas.Map.Lookups.{exact_bytes}
 use Rattle.claim_tree.specs.Lists.{In}
-use Rattle.claim_tree.specs.Tree.{Elements, ElementsOrdered, IsBefore, IsOrdered, Members, MembersOrdered, Text, Tree, array, element, elements_len, leaf, member, names, no_elements, no_members, object}
+use Rattle.claim_tree.specs.Tree.{Elements, ElementsOrdered, IsOrdered, Members, MembersOrdered, Text, Tree, array, element, leaf, member, names, no_elements, no_members, object}
 use Rattle.digest_sites.specs.Reserved.{element_digest, sd_name, sd_texts}
 use Rattle.digest_sites.specs.Sites.{Step, to_member, to_element, Site, element_site, element_sites, member_sites, own_site, sites, sites_on, under}
-use Rattle.marked_tree.specs.Marked.{Marked, MarkedElements, MarkedMembers, elements_ways, marked_member, marked_names, members_ways, no_marked_members, put, strip, strip_elements, strip_members, way_of, ways}
+use Rattle.marked_tree.specs.Marked.{Marked, MarkedElements, MarkedMembers, elements_ways, marked_member, marked_names, members_ways, put, strip, strip_elements, strip_members, way_of, ways}
 use Rattle.rebuild_core.specs.Free.{ElementsNoReserved, HasNoReserved, IsFree, MembersNoReserved}
 use Rattle.rebuild_core.specs.Opening.{Shown, hidden, open_element, open_elements, open_members, open_tree, show_element, show_member, show_members, shown}
-use Rattle.claim_tree.proofs.Lists.{In-append, In-left, In-of_map, In-right, bytes_same}
-use Rattle.marked_tree.proofs.Puts.{IsAscending, IsBeforeAll-not_in, IsBeforeAll-weaker, after_turned, never_itself, put_ascending}
+use Rattle.claim_tree.proofs.Lists.{In-append, In-of_map, In-right, bytes_same}
+use Rattle.marked_tree.proofs.Puts.{IsAscending, IsBeforeAll-not_in, put_ascending}
 use Rattle.rebuild_core.proofs.Fits.{Names, NamesApart, Suits, open_ascending}
 use Rattle.rebuild_core.proofs.Marks.{Way, shown_ways}
-use Rattle.rebuild_core.proofs.ObjectFacts.{Starts, on_starts, in_starts, element_starts, member_starts, same_step}
+use Rattle.rebuild_core.proofs.ObjectFacts.{on_starts, in_starts, element_starts, member_starts, same_step}
 use Rattle.rebuild_core.proofs.ShownPuts.{put_adds, put_has, put_keeps, put_free, put_new_free}
 use Rattle.digest_sites.specs.declared.site.SiteKind.TheVariants.{Member, Element}
 

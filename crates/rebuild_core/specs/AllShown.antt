@@ -1,5 +1,5 @@
 -- The converse of `OneNode`: where each disclosure is shown and each digest stands once, the conditions hold.
-use Rattle.std.specs.Prelude.{◌≡◌, ◌<◌, ◌≤◌, ℕ, List, length, Bool, true, is_some, bytes_eq}
+use Rattle.std.specs.Prelude.{◌≡◌, ◌<◌, ◌≤◌, ℕ, List, length, true, is_some, bytes_eq}
 use Rattle.claim_tree.specs.Tree.{Text, Tree, leaf, array, object, Elements, no_elements, element, Members, no_members, member, depth}
 use Rattle.claim_tree.specs.Lists.{In, Repeats, Nowhere}
 use Rattle.digest_sites.specs.Reserved.{sd_name, text_list}
