@@ -9,11 +9,12 @@ use Rattle.issuer_core.specs.Order.{Order}
 use Rattle.issuer_core.specs.Decoys.{decoys_of, decoys_at}
 use Rattle.issuer_core.specs.Digests.{Maker, hidden_of, marked_of}
 use Rattle.issuer_core.specs.Laid.{laid_elements, laid_items, laid_members, lay, own_item, order_decoys, IsLaid}
-use Rattle.issuer_core.specs.Runs.{ElementsRunFrom, IsMark, MembersRunFrom, RunsFrom, marks_in, marks_in_elements, marks_in_members, own_mark}
+use Rattle.marked_tree.specs.Marked.{weight, mark_weight}
+use Rattle.issuer_core.specs.Closing.{one, IsNumbered, ClosesFrom, ElementsClose, MembersClose}
 use Rattle.claim_tree.proofs.Lists.{At-get, At-below}
 use Rattle.rebuild_core.proofs.AllShown.{At-left, At-right}
 use Rattle.issuer_core.proofs.Agrees.{MarkAgrees, MarksAgree, ElementsAgree, MembersAgree, DecoysAgree, lay_agrees, items_agree}
-use Rattle.issuer_core.proofs.Runs.{own_items_length, items_length, order_runs, order_marks}
+use Rattle.issuer_core.proofs.Closing.{own_items_length, items_length, order_closes, order_marks}
 
 module _ (maker : Maker) where
   -- the digest of each of the disclosures, from the number n on, is that of its text
@@ -32,7 +33,7 @@ module _ (maker : Maker) where
   record Cut (dg : ℕ → Text) (n a : ℕ) (k : Option ℕ) (name : Option Text) (v : Tree) (xs ys : List Given) : Type 0 where
     inner : Made dg n xs
     own : Made dg (n + a) (own_item dg name k v)
-    rest : Made dg (n + (a + own_mark k)) ys
+    rest : Made dg (n + (mark_weight one k + a)) ys
 
   cut : (dg : ℕ → Text) (n a : ℕ) (k : Option ℕ) (name : Option Text) (v : Tree) (xs ys : List Given) → length xs ≡ a → Made dg n ((xs ++ own_item dg name k v) ++ ys) → Cut dg n a k name v xs ys
   cut dg n a k name v xs ys l h =
@@ -41,50 +42,50 @@ module _ (maker : Maker) where
       record {
         inner = made_first dg n xs o first;
         own = made_last dg n a xs o (sym l) first;
-        rest = made_last dg n (a + own_mark k) (xs ++ o) ys (omega (arith, l, length-append xs o, own_items_length dg name k v)) h;
+        rest = made_last dg n (mark_weight one k + a) (xs ++ o) ys (omega (arith, l, length-append xs o, own_items_length dg name k v)) h;
       }
 
   module _ (dg dh : ℕ → Text) where
-    own_agrees : (name : Option Text) (k : Option ℕ) (n : ℕ) (v u : Tree) → IsMark n k → v ≡ u → Made dg n (own_item dg name k v) → Made dh n (own_item dh name k u) → MarkAgrees dg dh k
+    own_agrees : (name : Option Text) (k : Option ℕ) (n : ℕ) (v u : Tree) → IsNumbered k n → v ≡ u → Made dg n (own_item dg name k v) → Made dh n (own_item dh name k u) → MarkAgrees dg dh k
     own_agrees name None n v u is e a b = tt
     own_agrees name (Some k) n v u is e a b =
         let c : n + 0 ≡ k = omega (arith, is) in
-        let one : dg k ≡ maker.digest (maker.disclosure k name v) = subst (λ z. dg z ≡ maker.digest (maker.disclosure z name v)) c (a 0 (record { digest = dg k; name = name; value = v }) refl) in
+        let here : dg k ≡ maker.digest (maker.disclosure k name v) = subst (λ z. dg z ≡ maker.digest (maker.disclosure z name v)) c (a 0 (record { digest = dg k; name = name; value = v }) refl) in
         let other : dh k ≡ maker.digest (maker.disclosure k name u) = subst (λ z. dh z ≡ maker.digest (maker.disclosure z name u)) c (b 0 (record { digest = dh k; name = name; value = u }) refl) in
-        one ∙ (ap (λ t. maker.digest (maker.disclosure k name t)) e ∙ sym other)
+        here ∙ (ap (λ t. maker.digest (maker.disclosure k name t)) e ∙ sym other)
 
     mutual
-      pub marks_agree : (dec ded : Path → List Text) → DecoysAgree dec ded → (n : ℕ) (m : Marked) → RunsFrom n m → Made dg n (laid_items dec dg m) → Made dh n (laid_items ded dh m) → MarksAgree dg dh m
+      pub marks_agree : (dec ded : Path → List Text) → DecoysAgree dec ded → (n : ℕ) (m : Marked) → ClosesFrom n m → Made dg n (laid_items dec dg m) → Made dh n (laid_items ded dh m) → MarksAgree dg dh m
       marks_agree dec ded e n (marked_leaf l) is a b = tt
       marks_agree dec ded e n (marked_array es) is a b = elements_agree dec ded e n 0 es is a b
       marks_agree dec ded e n (marked_object ms) is a b = members_agree dec ded e n ms is a b
 
-      elements_agree : (dec ded : Path → List Text) → DecoysAgree dec ded → (n i : ℕ) (es : MarkedElements) → ElementsRunFrom n es → Made dg n (laid_elements dec dg i es) → Made dh n (laid_elements ded dh i es) → ElementsAgree dg dh es
+      elements_agree : (dec ded : Path → List Text) → DecoysAgree dec ded → (n i : ℕ) (es : MarkedElements) → ElementsClose n es → Made dg n (laid_elements dec dg i es) → Made dh n (laid_elements ded dh i es) → ElementsAgree dg dh es
       elements_agree dec ded e n i no_marked_elements is a b = tt
       elements_agree dec ded e n i (marked_element k t es) is a b =
           let x : Path → List Text = λ q. dec (decimal i ∷ q) in
           let y : Path → List Text = λ q. ded (decimal i ∷ q) in
           let s : DecoysAgree x y = λ q. e (decimal i ∷ q) in
-          let v = cut dg n (marks_in t) k None (lay x dg t) (laid_items x dg t) (laid_elements dec dg (suc i) es) (items_length x dg t) a in
-          let w = cut dh n (marks_in t) k None (lay y dh t) (laid_items y dh t) (laid_elements ded dh (suc i) es) (items_length y dh t) b in
+          let v = cut dg n (weight one t) k None (lay x dg t) (laid_items x dg t) (laid_elements dec dg (suc i) es) (items_length x dg t) a in
+          let w = cut dh n (weight one t) k None (lay y dh t) (laid_items y dh t) (laid_elements ded dh (suc i) es) (items_length y dh t) b in
           let inside = marks_agree x y s n t is.0 v.inner w.inner in (
-            own_agrees None k (n + marks_in t) (lay x dg t) (lay y dh t) is.1 (lay_agrees dg dh x y s t inside) v.own w.own,
+            own_agrees None k (n + weight one t) (lay x dg t) (lay y dh t) is.1 (lay_agrees dg dh x y s t inside) v.own w.own,
             inside,
-            elements_agree dec ded e (n + (marks_in t + own_mark k)) (suc i) es is.2 v.rest w.rest,
+            elements_agree dec ded e (n + (mark_weight one k + weight one t)) (suc i) es is.2 v.rest w.rest,
           )
 
-      members_agree : (dec ded : Path → List Text) → DecoysAgree dec ded → (n : ℕ) (ms : MarkedMembers) → MembersRunFrom n ms → Made dg n (laid_members dec dg ms) → Made dh n (laid_members ded dh ms) → MembersAgree dg dh ms
+      members_agree : (dec ded : Path → List Text) → DecoysAgree dec ded → (n : ℕ) (ms : MarkedMembers) → MembersClose n ms → Made dg n (laid_members dec dg ms) → Made dh n (laid_members ded dh ms) → MembersAgree dg dh ms
       members_agree dec ded e n no_marked_members is a b = tt
       members_agree dec ded e n (marked_member name k t ms) is a b =
           let x : Path → List Text = λ q. dec (name ∷ q) in
           let y : Path → List Text = λ q. ded (name ∷ q) in
           let s : DecoysAgree x y = λ q. e (name ∷ q) in
-          let v = cut dg n (marks_in t) k (Some name) (lay x dg t) (laid_items x dg t) (laid_members dec dg ms) (items_length x dg t) a in
-          let w = cut dh n (marks_in t) k (Some name) (lay y dh t) (laid_items y dh t) (laid_members ded dh ms) (items_length y dh t) b in
+          let v = cut dg n (weight one t) k (Some name) (lay x dg t) (laid_items x dg t) (laid_members dec dg ms) (items_length x dg t) a in
+          let w = cut dh n (weight one t) k (Some name) (lay y dh t) (laid_items y dh t) (laid_members ded dh ms) (items_length y dh t) b in
           let inside = marks_agree x y s n t is.0 v.inner w.inner in (
-            own_agrees (Some name) k (n + marks_in t) (lay x dg t) (lay y dh t) is.1 (lay_agrees dg dh x y s t inside) v.own w.own,
+            own_agrees (Some name) k (n + weight one t) (lay x dg t) (lay y dh t) is.1 (lay_agrees dg dh x y s t inside) v.own w.own,
             inside,
-            members_agree dec ded e (n + (marks_in t + own_mark k)) ms is.2 v.rest w.rest,
+            members_agree dec ded e (n + (mark_weight one k + weight one t)) ms is.2 v.rest w.rest,
           )
 
     -- the decoys at a place have the same digests
@@ -95,9 +96,9 @@ module _ (maker : Maker) where
         let first : dg n ≡ dh n = subst (λ z. dg z ≡ dh z) c (e 0 (omega arith)) in
         rw first (ap (λ ds. (if same_path place q then dh n ∷ [] else []) ++ ds) (decoys_agree (suc n) places (λ d l. let k : n + suc d ≡ suc n + d = omega arith in subst (λ z. dg z ≡ dh z) k (e (suc d) (omega (arith, l)))) q))
 
-module _ (maker : Maker) (o : Order) (p q : Tree) (g h : List Given) (dg dh : ℕ → Text) (one : IsLaid maker o p g dg) (other : IsLaid maker o q h dh) where
+module _ (maker : Maker) (o : Order) (p q : Tree) (g h : List Given) (dg dh : ℕ → Text) (this : IsLaid maker o p g dg) (other : IsLaid maker o q h dh) where
   same_decoys : (d : ℕ) → d < length (decoys_of o) → dg (hidden_of o + d) ≡ dh (hidden_of o + d)
-  same_decoys d l = one.decoys d l ∙ sym (other.decoys d l)
+  same_decoys d l = this.decoys d l ∙ sym (other.decoys d l)
 
   decoys_same : DecoysAgree (order_decoys o dg) (order_decoys o dh)
   decoys_same = decoys_agree maker dg dh (hidden_of o) (decoys_of o) same_decoys
@@ -108,16 +109,16 @@ module _ (maker : Maker) (o : Order) (p q : Tree) (g h : List Given) (dg dh : �
       subst (λ z. dk z ≡ maker.digest (maker.disclosure z x.name x.value)) c (laid.disclosures i x (subst (λ (xs : List Given). At xs i x) (sym laid.given_laid) a))
 
   marks_same : MarksAgree dg dh (marked_of o)
-  marks_same = marks_agree maker dg dh (order_decoys o dg) (order_decoys o dh) decoys_same 0 (marked_of o) (order_runs o) (made_of dg p g one) (made_of dh q h other)
+  marks_same = marks_agree maker dg dh (order_decoys o dg) (order_decoys o dh) decoys_same 0 (marked_of o) (order_closes o) (made_of dg p g this) (made_of dh q h other)
 
   pub one_payload : p ≡ q
-  one_payload = one.payload_laid ∙ (lay_agrees dg dh (order_decoys o dg) (order_decoys o dh) decoys_same (marked_of o) marks_same ∙ sym other.payload_laid)
+  one_payload = this.payload_laid ∙ (lay_agrees dg dh (order_decoys o dg) (order_decoys o dh) decoys_same (marked_of o) marks_same ∙ sym other.payload_laid)
 
   pub one_given : g ≡ h
-  one_given = one.given_laid ∙ (items_agree dg dh (order_decoys o dg) (order_decoys o dh) decoys_same (marked_of o) marks_same ∙ sym other.given_laid)
+  one_given = this.given_laid ∙ (items_agree dg dh (order_decoys o dg) (order_decoys o dh) decoys_same (marked_of o) marks_same ∙ sym other.given_laid)
 
   count : length g ≡ hidden_of o
-  count = ap (λ (xs : List Given). length xs) one.given_laid ∙ (items_length (order_decoys o dg) dg (marked_of o) ∙ order_marks o)
+  count = ap (λ (xs : List Given). length xs) this.given_laid ∙ (items_length (order_decoys o dg) dg (marked_of o) ∙ order_marks o)
 
   below : (k n c : ℕ) → k < n + c → (k < n) ⊎ ((d : ℕ) × (d < c) × (k ≡ n + d))
   below k n c l = go (either k n)
@@ -137,4 +138,4 @@ module _ (maker : Maker) (o : Order) (p q : Tree) (g h : List Given) (dg dh : �
       go (inl less) =
           let there = At-get g k (omega (arith, less, count)) in
           let x = there.0 in
-          one.disclosures k x there.1 ∙ sym (other.disclosures k x (subst (λ (xs : List Given). At xs k x) one_given there.1))
+          this.disclosures k x there.1 ∙ sym (other.disclosures k x (subst (λ (xs : List Given). At xs k x) one_given there.1))
