@@ -3,10 +3,13 @@
 
 mod clash;
 mod errors;
+mod hidden;
 mod judging;
 mod order;
 mod reserved;
 mod salts;
+#[cfg(test)]
+mod tests;
 
 pub use clash::first_clash;
 pub use errors::IssueError;
