@@ -1,17 +1,21 @@
 -- What the tests of an order tell.
-use Rattle.std.proofs.Common.{◌≡◌, List, [], ◌∷◌, Bool, true, false, inl, inr, ◌||◌, Option, Some, None, refl, sym, subst, ◌∙◌}
-use Rattle.std.specs.Prelude.{bytes_eq, is_none}
+use Rattle.std.proofs.Common.{◌≡◌, ◌<◌, ◌≤◌, ℕ, List, [], ◌∷◌, Bool, true, false, inl, inr, ◌||◌, Option, Some, None, refl, sym, subst, ◌∙◌, arith}
+use Rattle.std.specs.Prelude.{bytes_eq, is_none, slice_get}
 use Rattle.std.specs.List.{list_any}
-use Rattle.claim_tree.specs.Tree.{Text, Tree, leaf, array, object}
+use Rattle.claim_tree.specs.Tree.{Text, Tree, leaf, array, object, depth, IsOrdered}
 use Rattle.claim_tree.specs.Path.{tree_at}
 use Rattle.claim_tree.specs.Lists.{In}
-use Rattle.claim_tree.proofs.Lists.{bytes_same, bytes_refl, or_left, or_right, list_any-In}
+use Rattle.claim_tree.proofs.Lists.{bytes_same, bytes_refl, or_left, or_right, list_any-In, In-At}
 use Rattle.marked_tree.specs.Places.{Path}
 use Rattle.issuer_core.specs.declared.order.Decoy.{Decoy}
-use Rattle.issuer_core.specs.GoodOrder.{HoldsOthers}
+use Rattle.issuer_core.specs.declared.errors.IssueError.TheVariants.{PayloadNotObject, ReservedName, TooDeep, DecoyPlace}
+use Rattle.issuer_core.specs.Order.{Order}
+use Rattle.issuer_core.specs.Reserved.{reserved_places}
+use Rattle.issuer_core.specs.GoodOrder.{IsObject, HoldsOthers, HasShortLists, IsGoodOrder}
 use Rattle.issuer_core.specs.Refusals.{IsRoot, IsNowhere, IsProtected, IsMisplaced, protected_names}
-use Rattle.issuer_core.specs.Judging.{is_root, is_nowhere, is_protected, is_no_holder, is_misplaced}
+use Rattle.issuer_core.specs.Judging.{is_root, is_nowhere, is_protected, is_no_holder, is_misplaced, PassesBelow}
 use Rattle.issuer_core.proofs.Firsts.{Tells}
+use Rattle.issuer_core.proofs.ReservedPlaces.{no_reserved}
 
 root_is : (path : Path) → is_root path ≡ true → IsRoot path
 root_is [] h = refl
@@ -69,4 +73,36 @@ pub misplaced_tells : (claims : Tree) → Tells (IsMisplaced claims) (is_misplac
 misplaced_tells claims = record {
   is = λ (entry : Decoy) h. no_holder_is (tree_at claims entry.at) h;
   passes = λ (entry : Decoy) h. no_holder_passes (tree_at claims entry.at) h;
+}
+
+-- ---- what is so of an order that is not refused
+
+object_there : (t : Tree) → ((IsObject t → ⊥) → ⊥) → IsObject t
+object_there (leaf l) h = absurd (h (λ x. x))
+object_there (array es) h = absurd (h (λ x. x))
+object_there (object ms) h = tt
+
+holder_there : (o : Option Tree) → ((HoldsOthers o → ⊥) → ⊥) → HoldsOthers o
+holder_there None h = absurd (h (λ x. x))
+holder_there (Some (leaf l)) h = absurd (h (λ x. x))
+holder_there (Some (array es)) h = tt
+holder_there (Some (object ms)) h = tt
+
+none_there : (o : Option Path) → ((path : Path) → o ≡ Some path → ⊥) → o ≡ None
+none_there None h = refl
+none_there (Some path) h = absurd (h path refl)
+
+not_over : (a b : ℕ) → (a < b → ⊥) → b ≤ a
+not_over a b h = grind arith
+
+pub good_order : (o : Order) → PassesBelow 58 o → IsOrdered o.claims → HasShortLists o.claims → IsGoodOrder o
+good_order o below ordered short = record {
+  is_object = object_there o.claims (λ h. let over = below PayloadNotObject h in omega (arith, over));
+  no_reserved = no_reserved o.claims (none_there (slice_get (reserved_places o.claims) 0) (λ path e. let over = below (ReservedName path) e in omega (arith, over)));
+  shallow = not_over 100 (depth o.claims) (λ h. let over = below TooDeep h in omega (arith, over));
+  decoys_held = λ entry stands.
+      let w = In-At o.decoys entry stands in
+      holder_there (tree_at o.claims entry.at) (λ m. let over = below (DecoyPlace w.0) (entry, w.1, m) in omega (arith, over));
+  ordered = ordered;
+  short = short;
 }

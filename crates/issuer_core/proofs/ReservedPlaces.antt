@@ -12,6 +12,7 @@ use Rattle.digest_sites.specs.Reserved.{sd_name, dots_name}
 use Rattle.marked_tree.specs.Places.{Path}
 use Rattle.rebuild_core.specs.Payload.{alg_name}
 use Rattle.rebuild_core.specs.Free.{IsFree, HasNoReserved, ElementsNoReserved, MembersNoReserved}
+use Rattle.issuer_core.specs.GoodOrder.{HasShortLists, ElementsShort, MembersShort}
 use Rattle.issuer_core.specs.Reserved.{is_sd, is_reserved, own_place, reserved_places, reserved_elements, reserved_members}
 use Rattle.issuer_core.proofs.Firsts.{first_none, first_some, first_map, no_first, both_empty, none_mapped}
 
@@ -168,3 +169,15 @@ mutual
 
 pub no_reserved : (t : spec.Tree) → slice_get (reserved_places t) 0 ≡ None → HasNoReserved t
 no_reserved t h = none_reserved t (no_first (reserved_places t) h)
+
+-- ---- lists are short
+
+pub short_element : (n : ℕ) (ts : List Tree) (t : Tree) → n < length ts → t ≡ get_or ts n t → HasShortLists (tree_of t) → ElementsShort (elements_of (drop (n + 1) ts)) → ElementsShort (elements_of (drop n ts))
+short_element n ts t within is here rest =
+    let there : drop n ts ≡ t ∷ drop (n + 1) ts = drop_more ts n t within ∙ ap (λ (d : Tree). d ∷ drop (n + 1) ts) (sym is) in
+    subst (λ us. ElementsShort (elements_of us)) (sym there) (here, rest)
+
+pub short_member : (n : ℕ) (ms : List Named) (m : Named) → n < length ms → m ≡ get_or ms n m → HasShortLists (tree_of m.1) → MembersShort (members_of (drop (n + 1) ms)) → MembersShort (members_of (drop n ms))
+short_member n ms m within is here rest =
+    let there : drop n ms ≡ m ∷ drop (n + 1) ms = drop_more ms n m within ∙ ap (λ (d : Named). d ∷ drop (n + 1) ms) (sym is) in
+    subst (λ us. MembersShort (members_of us)) (sym there) (here, rest)

@@ -1,34 +1,36 @@
 // The refusals that an order alone decides.
-ghost use Rattle.std.specs.Prelude.{◌≡◌, ◌≤◌, ◌<◌, ◌↔◌, length, IfOk, OnOk, IfErr, IsTrue, bytes_eq};
+ghost use Rattle.std.specs.Prelude.{◌≡◌, ◌≤◌, ◌<◌, ◌↔◌, length, OnOk, IfErr, IsTrue, bytes_eq};
 ghost use Rattle.std.specs.List.{position_from, list_any};
-ghost use Rattle.std.specs.Set.{distinct_count};
-ghost use Rattle.claim_tree.specs.Tree.{depth as depth_of};
+ghost use Rattle.claim_tree.specs.Tree.{depth as depth_of, IsOrdered};
 ghost use Rattle.claim_tree.specs.Path.{tree_at};
 ghost use Rattle.claim_tree.specs.View.{tree_of};
-ghost use Rattle.marked_tree.specs.Places.{same_path};
 ghost use Rattle.issuer_core.specs.Order.{order_of};
 ghost use Rattle.issuer_core.specs.Decoys.{places};
 ghost use Rattle.issuer_core.specs.GoodOrder as good;
+ghost use Rattle.issuer_core.specs.GoodOrder.{IsGoodOrder};
 ghost use Rattle.issuer_core.specs.Refusals.{Refuses, NoneApplies, IsRefused, protected_names};
 ghost use Rattle.issuer_core.specs.Judging as spec;
 ghost use Rattle.issuer_core.specs.Judging.{PassesBelow};
 
+use crate::hidden::different;
 use crate::reserved::first_reserved;
 use crate::{DecoyList, IssueError, Order};
-use claim_tree::{Path, PathList, Tree, depth, find, print_path};
+use claim_tree::{Path, PathList, Tree, depth, find};
 use compact_form::COUNT_MAX;
-use digest_index::{DigestIndex, Steps};
-use sd_outside::NoMemory;
 use std::alloc::Global;
 
 /// The most that the payload of an order nests.
 pub const DEPTH_MAX: usize = 100;
 
 fn is_object(tree: &Tree) -> bool
-    ensures { IsTrue result ↔ good.IsObject (tree_of tree.now) }
+    ensures is { IsTrue result ↔ good.IsObject (tree_of tree.now) }
+    ensures ordered { IsTrue result → IsOrdered (tree_of tree.now) }
 {
     match tree {
-        Tree::Object(_) => true,
+        Tree::Object(members) => {
+            let _ascending = members.members();
+            true
+        }
         _ => false,
     }
 }
@@ -98,19 +100,6 @@ fn first_misplaced(payload: &Tree, decoys: &DecoyList) -> Option<usize>
         .position(|entry| is_no_holder(payload, &entry.at))
 }
 
-// How many different paths there are. They are told apart by their pointers.
-fn count_different(alloc: Global, hide: &PathList) -> Result<usize, NoMemory>
-    ensures { IfOk result (λ count. count ≡ distinct_count same_path hide.now) }
-{
-    let mut index = DigestIndex::new(alloc);
-    let mut steps = Steps::new();
-    for path in hide.paths() {
-        let pointer = print_path(alloc, path)?;
-        index.intern(pointer.as_str(), &mut steps)?;
-    }
-    Ok(index.len())
-}
-
 fn are_too_many(decoys: &DecoyList) -> bool
     ensures { IsTrue result ↔ (COUNT_MAX < length (places decoys.now)) }
 {
@@ -128,6 +117,8 @@ fn are_too_many(decoys: &DecoyList) -> bool
 fn judge_payload(alloc: Global, order: &Order) -> Result<(), IssueError>
     requires { depth_of (tree_of order.now.payload) ≤ 127 }
     ensures passes { OnOk result (PassesBelow 54 (order_of order.now)) }
+    ensures ordered { OnOk result (IsOrdered (tree_of order.now.payload)) }
+    ensures short { OnOk result (good.HasShortLists (tree_of order.now.payload)) }
     ensures refused { IfErr result (IsRefused (order_of order.now)) }
 {
     if !is_object(&order.payload) {
@@ -169,12 +160,12 @@ fn judge_places(order: &Order) -> Result<(), IssueError>
 pub fn judge(alloc: Global, order: &Order) -> Result<(), IssueError>
     requires { depth_of (tree_of order.now.payload) ≤ 127 }
     ensures passes { OnOk result (NoneApplies (Refuses (order_of order.now))) }
-    ensures good { OnOk result (good.IsGoodOrder (order_of order.now)) }
+    ensures good { OnOk result (IsGoodOrder (order_of order.now)) }
     ensures refused { IfErr result (IsRefused (order_of order.now)) }
 {
     judge_payload(alloc, order)?;
     judge_places(order)?;
-    if count_different(alloc, &order.hide)? > COUNT_MAX {
+    if different(alloc, &order.hide)?.len() > COUNT_MAX {
         return Err(IssueError::TooManyHidden);
     }
     if are_too_many(&order.decoys) {

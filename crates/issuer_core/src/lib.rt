@@ -5,11 +5,14 @@ pub mod laws;
 mod clash;
 mod errors;
 mod issuing;
+mod hidden;
 mod judging;
 mod laying;
 mod order;
 mod reserved;
 mod salts;
+#[cfg(test)]
+mod tests;
 
 pub use clash::first_clash;
 pub use errors::IssueError;
