@@ -18,6 +18,7 @@ pub mod WithAlg
 pub mod LaidBounds
 pub mod OneLaid
 pub mod FromLaid
+pub mod OneToken
 mod Examples
 pub mod Firsts
 pub mod ReservedPlaces

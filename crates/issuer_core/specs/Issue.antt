@@ -37,6 +37,9 @@ pub record ClashesAt (maker : Maker) (o : Order) (i j : ℕ) : Type 0 where
   pub laid : IsLaid maker o payload given digests
   pub clash : IsFirstClash (laid_digests o digests) i j
 
+abbrev pub HasNoClash : Maker → Order → Type 0
+HasNoClash maker o = (i j : ℕ) → ClashesAt maker o i j → ⊥
+
 -- what is laid for the order is too long with some good signature
 pub record IsTooLong (maker : Maker) (o : Order) (good : Meaning) : Type 0 where
   pub parts : Parts

@@ -6,7 +6,6 @@ pub mod Digests
 pub mod Laid
 pub mod Issued
 pub mod Laws
-pub mod Runs
 pub mod Reserved
 pub mod Refusals
 pub mod Judging

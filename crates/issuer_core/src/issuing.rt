@@ -14,7 +14,8 @@ ghost use Rattle.claim_tree.specs.Tree.{object};
 ghost use Rattle.claim_tree.specs.JsonText.{json_text};
 ghost use Rattle.jws_part.specs.Header.{header_members};
 ghost use Rattle.issuer_core.specs.Written.{header_of};
-ghost use Rattle.issuer_core.specs.Issue.{IsNotIssued, AreSigned, IsUnsigned, HasClash};
+ghost use Rattle.issuer_core.specs.Issue.{IsNotIssued, HasNoClash, AreSigned, IsUnsigned, HasClash};
+ghost use Rattle.issuer_core.specs.Refusals.{Refuses, NoneApplies};
 ghost use Rattle.claim_tree.specs.Lists.{Repeats, Nowhere};
 
 use crate::laying::{Laid, lay_order};
@@ -39,6 +40,8 @@ pub fn issue<S: Signer>(
     requires ranged { IsRanged (tree_of order.now.payload) }
     ensures issued { IfOk result (IsIssued (maker_of seed.now) (order_of order.now) (S.good signer.old)) }
     ensures laid { IfOk result (IsLaidOut (maker_of seed.now) (order_of order.now) (S.good signer.old)) }
+    ensures passes { IfOk result (λ _. NoneApplies (Refuses (order_of order.now))) }
+    ensures differ { IfOk result (λ _. HasNoClash (maker_of seed.now) (order_of order.now)) }
     ensures words { IfOk result AreWords }
     ensures short { IfOk result (λ parts. length (compact parts) ≤ ISSUE_MAX) }
     ensures refused { IfErr result (IsNotIssued (maker_of seed.now) (order_of order.now) (S.good signer.old)) }

@@ -44,3 +44,8 @@ returns-clause-issued g c =
     let laid = c.in_ok-laid.ensures.laid in
     issued c.args.seed.now o body c.in_ok-laid.laid.disclosures c.in_ok-laid.laid.digests laid (g.S.Signatures.good c.args.signer.now) c.in-Ok.parts c.in-Ok.ensures.signed
     c.in_default.ensures.good c.in_default-judge_digests.ensures.differ
+
+pub returns-clause-differ : goal.returns-clause-differ
+returns-clause-differ g c =
+    let o = order_of c.args.order.now in
+    no_clash c.args.seed.now o (tree_of c.in_ok-laid.laid.payload) c.in_ok-laid.laid.disclosures c.in_ok-laid.laid.digests c.in_ok-laid.ensures.laid c.in_default-judge_digests.ensures.differ
