@@ -25,3 +25,7 @@ show split rfc9901_chosen.txt
 show split plain_jwt.txt
 show show rfc9901_chosen.txt
 show split absent.txt
+show verify rfc9901.txt policy.json
+show verify policy.json rfc9901.txt
+show verify policy_birthdate.json rfc9901_chosen.txt
+show verify policy.json rfc9901_chosen.txt

@@ -14,8 +14,10 @@ use Rattle.compact_form.proofs.Verdicts.{reads, refused_form}
 use Rattle.disclosure.proofs.Examples.{salt, value, a_disclosure, its_digest}
 use Rattle.jws_part.proofs.Examples.{alg_alone, a_head, a_header, sd_alg_alone, a_body}
 use Rattle.jws_part.proofs.Headers.{read_not_unreadable}
-use Rattle.sdjwt_cli.specs.Command.{split, command_of}
-use Rattle.sdjwt_cli.specs.Lines.{refusal, unread}
+use Rattle.claim_tree.specs.declared.file_fault.Field.TheVariants.{Keys}
+use Rattle.claim_tree.specs.declared.file_fault.FileFault.TheVariants.{NotJson, Missing}
+use Rattle.sdjwt_cli.specs.Command.{split, verify, command_of}
+use Rattle.sdjwt_cli.specs.Lines.{refusal, unread, unreadable_line}
 use Rattle.sdjwt_cli.specs.Split.{Gives, Refuses}
 use Rattle.sdjwt_cli.specs.Show.{Shown, show_lines, Shows, has_known_hash}
 
@@ -26,6 +28,12 @@ a_command = refl
 
 no_command : command_of (codes "join" ∷ codes "token.txt" ∷ []) ≡ None
 no_command = refl
+
+of_two_files : command_of (codes "verify" ∷ codes "policy.json" ∷ codes "token.txt" ∷ []) ≡ Some (verify (codes "policy.json") (codes "token.txt"))
+of_two_files = refl
+
+one_word_less : command_of (codes "verify" ∷ codes "token.txt" ∷ []) ≡ None
+one_word_less = refl
 
 one_word_more : command_of (codes "show" ∷ codes "token.txt" ∷ codes "more" ∷ []) ≡ None
 one_word_more = refl
@@ -42,6 +50,14 @@ nowhere = refl
 
 first_file : unread 0 ≡ codes "unread 1\n"
 first_file = refl
+
+no_json : unreadable_line 1 NotJson ≡ codes "unreadable 1 notJson\n"
+unfolding digits
+no_json = refl
+
+no_keys : unreadable_line 1 (Missing Keys) ≡ codes "unreadable 1 missing keys\n"
+unfolding digits
+no_keys = refl
 
 -- ---- split
 

@@ -1,26 +1,38 @@
--- From the answer to one token file to that of a command that reads no other file.
-use Rattle.std.proofs.Common.{◌≡◌, ℕ, ◌+◌, List, [], ◌∷◌, Option, Ok, Err, Result, String, Global, take, string_bytes, IfOk, IfErr, IfSome}
-use Rattle.compact_form.specs.declared.limits.TheConstants.{FILE_MAX}
+-- From the answer over files to that of the command that fetched them.
+use Rattle.std.proofs.Common.{◌≡◌, ℕ, List, Option, Ok, Err, Result, String, Global, take, string_bytes, IfOk, IfErr, IfSome, subst, sym}
 use Rattle.sdjwt_cli.specs.declared.stop.Stop.{Stop}
-use Rattle.sdjwt_cli.specs.declared.stop.Stop.TheVariants.{Memory, Unread, Refused}
-use Rattle.sdjwt_cli.specs.Command.{Command, wanted_by}
-use Rattle.sdjwt_cli.specs.Answers.{Verdict, gives, refuses, Answers, IsAnswered}
-use Rattle.sdjwt_cli.specs.Stops.{OnRefused}
+use Rattle.sdjwt_cli.specs.declared.stop.Stop.TheVariants.{Memory, Unread, Unreadable, Refused}
+use Rattle.sdjwt_cli.specs.Command.{Command}
+use Rattle.sdjwt_cli.specs.Answers.{Verdict, gives, refuses, unreadable, Answers, AreFetched, IsAnswered}
+use Rattle.sdjwt_cli.specs.Stops.{OnRefused, OnUnreadable}
 
-module _ (holds : List ℕ → Option (List ℕ)) (command : Command) (name file bytes : List ℕ)
-    (alone : wanted_by command ≡ record { name = name; most = FILE_MAX + 1 } ∷ [])
-    (fetched : IfSome (holds name) (λ content. file ≡ take (FILE_MAX + 1) content)) (same : bytes ≡ file) where
-  answered : (now : ℕ) (verdict : Verdict) → Answers command (bytes ∷ []) now verdict → IsAnswered holds command now verdict
-  answered now verdict h = record { files = bytes ∷ []; fetched = rw (alone, same) (fetched, tt); answers = h }
+-- the bytes of a file, under what the cabinet holds at another moment
+pub fetched_as : (o now_held : Option (List ℕ)) (most : ℕ) (file bytes : List ℕ) → now_held ≡ o → bytes ≡ file
+    → IfSome now_held (λ content. file ≡ take most content) → IfSome o (λ content. bytes ≡ take most content)
+fetched_as o now_held most file bytes held same fetched =
+    subst (λ (x : Option (List ℕ)). IfSome x (λ content. bytes ≡ take most content)) held (subst (λ (x : List ℕ). IfSome now_held (λ content. x ≡ take most content)) (sym same) fetched)
 
-  pub lift_gives : (now : ℕ) (r : Result (String Global) Stop) → IfOk r (λ text. Answers command (bytes ∷ []) now (gives (string_bytes text)))
+module _ (holds : List ℕ → Option (List ℕ)) (command : Command) (files : List (List ℕ)) (fetched : AreFetched holds command files) (now : ℕ) where
+  answered : (verdict : Verdict) → Answers command files now verdict → IsAnswered holds command now verdict
+  answered verdict h = record { files = files; fetched = fetched; answers = h }
+
+  pub lift_gives : (r : Result (String Global) Stop) → IfOk r (λ text. Answers command files now (gives (string_bytes text)))
       → IfOk r (λ text. IsAnswered holds command now (gives (string_bytes text)))
-  lift_gives now (Ok text) h = answered now (gives (string_bytes text)) h
-  lift_gives now (Err stop) h = tt
+  lift_gives (Ok text) h = answered (gives (string_bytes text)) h
+  lift_gives (Err stop) h = tt
 
-  pub lift_refuses : (now : ℕ) (r : Result (String Global) Stop) → IfErr r (λ stop. OnRefused stop (λ text. Answers command (bytes ∷ []) now (refuses text)))
+  pub lift_refuses : (r : Result (String Global) Stop) → IfErr r (λ stop. OnRefused stop (λ text. Answers command files now (refuses text)))
       → IfErr r (λ stop. OnRefused stop (λ text. IsAnswered holds command now (refuses text)))
-  lift_refuses now (Ok text) h = tt
-  lift_refuses now (Err Memory) h = tt
-  lift_refuses now (Err (Unread word)) h = tt
-  lift_refuses now (Err (Refused text)) h = answered now (refuses (string_bytes text)) h
+  lift_refuses (Ok text) h = tt
+  lift_refuses (Err Memory) h = tt
+  lift_refuses (Err (Unread word)) h = tt
+  lift_refuses (Err (Unreadable text)) h = tt
+  lift_refuses (Err (Refused text)) h = answered (refuses (string_bytes text)) h
+
+  pub lift_unreadable : (r : Result (String Global) Stop) → IfErr r (λ stop. OnUnreadable stop (λ text. Answers command files now (unreadable text)))
+      → IfErr r (λ stop. OnUnreadable stop (λ text. IsAnswered holds command now (unreadable text)))
+  lift_unreadable (Ok text) h = tt
+  lift_unreadable (Err Memory) h = tt
+  lift_unreadable (Err (Unread word)) h = tt
+  lift_unreadable (Err (Unreadable text)) h = answered (unreadable (string_bytes text)) h
+  lift_unreadable (Err (Refused text)) h = tt

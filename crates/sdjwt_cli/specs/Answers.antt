@@ -1,9 +1,10 @@
 -- What each command answers over its files, by its definition.
 use Rattle.std.specs.Prelude.{◌≡◌, ℕ, List, [], ◌∷◌, Option, IfSome, IsSomeAnd, take}
 use Rattle.std.specs.List.{AllZip}
-use Rattle.sdjwt_cli.specs.Command.{Command, split, show, Wanted, wanted_by}
+use Rattle.sdjwt_cli.specs.Command.{Command, split, show, verify, Wanted, wanted_by}
 use Rattle.sdjwt_cli.specs.Split.{Gives, Refuses}
 use Rattle.sdjwt_cli.specs.Show.{Shows, DoesNotShow}
+use Rattle.sdjwt_cli.specs.Verify.{Verifies, DoesNotVerify, HasNoPolicy}
 
 -- the bytes for standard output, or the line of a refusal, or that of a file that is not of its form
 pub data Verdict : Type 0 where
@@ -21,6 +22,11 @@ ShowAnswers file (gives answer) = Shows file answer
 ShowAnswers file (refuses text) = DoesNotShow file text
 ShowAnswers file (unreadable text) = ⊥
 
+abbrev pub VerifyAnswers : List ℕ → List ℕ → ℕ → Verdict → Type 0
+VerifyAnswers policy token now (gives answer) = Verifies policy token now answer
+VerifyAnswers policy token now (refuses text) = DoesNotVerify policy token now text
+VerifyAnswers policy token now (unreadable text) = HasNoPolicy policy text
+
 -- the verdict of a command over its files, at a moment
 abbrev pub Answers : Command → List (List ℕ) → ℕ → Verdict → Type 0
 Answers (split token) [] now verdict = ⊥
@@ -29,6 +35,10 @@ Answers (split token) (file ∷ more ∷ files) now verdict = ⊥
 Answers (show token) [] now verdict = ⊥
 Answers (show token) (file ∷ []) now verdict = ShowAnswers file verdict
 Answers (show token) (file ∷ more ∷ files) now verdict = ⊥
+Answers (verify policy token) [] now verdict = ⊥
+Answers (verify policy token) (file ∷ []) now verdict = ⊥
+Answers (verify policy token) (file ∷ other ∷ []) now verdict = VerifyAnswers file other now verdict
+Answers (verify policy token) (file ∷ other ∷ more ∷ files) now verdict = ⊥
 
 -- each file is what a fetch answers, where the cabinet tells it
 abbrev pub AreFetched : (List ℕ → Option (List ℕ)) → Command → List (List ℕ) → Type 0

@@ -6,13 +6,15 @@ use Rattle.compact_form.specs.declared.limits.TheConstants.{FILE_MAX}
 pub data Command : Type 0 where
   split : (token : List ℕ) → Command
   show : (token : List ℕ) → Command
+  verify : (policy token : List ℕ) → Command
 
 -- the command that the words behind the program's name are
 abbrev pub command_of : List (List ℕ) → Option Command
 command_of [] = None
 command_of (word ∷ []) = None
 command_of (word ∷ token ∷ []) = if bytes_eq word (codes "split") then Some (split token) else if bytes_eq word (codes "show") then Some (show token) else None
-command_of (word ∷ token ∷ more ∷ rest) = None
+command_of (word ∷ policy ∷ token ∷ []) = if bytes_eq word (codes "verify") then Some (verify policy token) else None
+command_of (word ∷ policy ∷ token ∷ more ∷ rest) = None
 
 -- the name of a file, and the most bytes that are read of it
 pub record Wanted : Type 0 where
@@ -23,3 +25,4 @@ pub record Wanted : Type 0 where
 abbrev pub wanted_by : Command → List Wanted
 wanted_by (split token) = record { name = token; most = FILE_MAX + 1 } ∷ []
 wanted_by (show token) = record { name = token; most = FILE_MAX + 1 } ∷ []
+wanted_by (verify policy token) = record { name = policy; most = FILE_MAX + 1 } ∷ record { name = token; most = FILE_MAX + 1 } ∷ []

@@ -6,3 +6,4 @@ pub mod Run
 pub mod Names
 pub mod Stops
 pub mod Show
+pub mod Verify

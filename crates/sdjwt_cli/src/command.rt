@@ -6,6 +6,7 @@ ghost use Rattle.std.specs.Option.{option_map};
 pub(crate) enum Command<'a> {
     Split { token: &'a str },
     Show { token: &'a str },
+    Verify { policy: &'a str, token: &'a str },
 }
 
 impl<'a> Command<'a> {
@@ -21,6 +22,10 @@ impl<'a> Command<'a> {
                 token: token.as_str(),
             }),
             [command, token] if command.as_str() == "show" => Some(Command::Show {
+                token: token.as_str(),
+            }),
+            [command, policy, token] if command.as_str() == "verify" => Some(Command::Verify {
+                policy: policy.as_str(),
                 token: token.as_str(),
             }),
             _ => None,

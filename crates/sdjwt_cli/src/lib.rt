@@ -13,6 +13,9 @@ mod stop;
 #[cfg(test)]
 mod tests;
 mod top;
+mod verify;
+#[cfg(test)]
+mod verify_tests;
 
 pub use sd_outside::Status;
 pub use top::run;

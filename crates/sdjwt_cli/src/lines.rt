@@ -1,45 +1,21 @@
 // The lines that the program writes to standard error.
 ghost use Rattle.std.specs.Prelude.{◌≡◌, IfOk, string_bytes};
-ghost use Rattle.sdjwt_cli.specs.Lines.{name_of, place_text, refusal, unread};
+ghost use Rattle.sdjwt_cli.specs.Lines.{reason as reason_of, refusal, unread, unreadable_line as line_of};
+ghost use Rattle.verifier_core.specs.Condition.{Condition, number_of};
 
-use compact_form::{
-    DISCLOSURE_UNREADABLE, FORM, Fault, HASH_UNKNOWN, HEADER_UNREADABLE, PAYLOAD_UNREADABLE, Place,
-    TOO_LONG,
-};
+use claim_tree::FileFault;
+use compact_form::Fault;
 use sd_outside::NoMemory;
 use std::alloc::Global;
+use verifier_core::fault_line;
 
-// The printed name of a condition.
-fn name(number: u8) -> &'static str
-    ensures { result.now ≡ name_of number }
+// The line of a condition that fails.
+pub(crate) fn refusal_line(alloc: Global, fault: &Fault) -> Result<String, NoMemory>
+    ensures { (condition : Condition) → fault.now.number ≡ number_of condition → IfOk result (λ text. string_bytes text ≡ refusal fault.now) }
 {
-    match number {
-        TOO_LONG => "tooLong",
-        FORM => "form",
-        HEADER_UNREADABLE => "headerUnreadable",
-        PAYLOAD_UNREADABLE => "payloadUnreadable",
-        HASH_UNKNOWN => "hashUnknown",
-        DISCLOSURE_UNREADABLE => "disclosureUnreadable",
-        _ => "tooMuch",
-    }
-}
-
-fn place(alloc: Global, place: Place) -> Result<String, NoMemory>
-    ensures { IfOk result (λ text. string_bytes text ≡ place_text place) }
-{
-    match place {
-        Place::At(at) => Ok(format!(in alloc; " at {at}")?),
-        Place::Nowhere | Place::Json(_) => Ok(String::new(alloc)),
-    }
-}
-
-pub(crate) fn refusal_line(alloc: Global, fault: Fault) -> Result<String, NoMemory>
-    ensures { IfOk result (λ text. string_bytes text ≡ refusal fault) }
-{
-    let number = fault.number;
-    let name = name(number);
-    let at = place(alloc, fault.place)?;
-    Ok(format!(in alloc; "refused {number} {name}{at}\n")?)
+    let mut text = fault_line(alloc, fault)?.into_string();
+    text.push_str("\n")?;
+    Ok(text)
 }
 
 // No command has more than two files.
@@ -50,4 +26,39 @@ pub(crate) fn unread_line(word: usize) -> &'static str
         0 => "unread 1\n",
         _ => "unread 2\n",
     }
+}
+
+// Why a file is not of its form.
+fn reason(alloc: Global, fault: FileFault) -> Result<String, NoMemory>
+    ensures { IfOk result (λ text. string_bytes text ≡ reason_of fault) }
+{
+    let text = match fault {
+        FileFault::Memory => String::new(alloc),
+        FileFault::TooLong => String::from_str(alloc, "tooLong")?,
+        FileFault::NotJson => String::from_str(alloc, "notJson")?,
+        FileFault::NotWhole => String::from_str(alloc, "notWhole")?,
+        FileFault::NotObject => String::from_str(alloc, "notObject")?,
+        FileFault::Unknown => String::from_str(alloc, "unknown")?,
+        FileFault::Missing(field) => {
+            let word = field.word();
+            format!(in alloc; "missing {word}")?
+        }
+        FileFault::Wrong(field) => {
+            let word = field.word();
+            format!(in alloc; "wrong {word}")?
+        }
+    };
+    Ok(text)
+}
+
+// The line of a file that is not of its form. Its word is counted behind the command, from 1.
+pub(crate) fn unreadable_line(
+    alloc: Global,
+    word: usize,
+    fault: FileFault,
+) -> Result<String, NoMemory>
+    ensures { IfOk result (λ text. string_bytes text ≡ line_of word fault) }
+{
+    let reason = reason(alloc, fault)?;
+    Ok(format!(in alloc; "unreadable {word} {reason}\n")?)
 }

@@ -13,7 +13,7 @@ ghost use Rattle.sdjwt_cli.specs.Lines.{line};
 ghost use Rattle.sdjwt_cli.specs.Show.{has_known_hash as has_known_hash_of, IsHead, IsShown, IsUnread, kind_text, AddsLine, AddsLines, IsUnreadAt, OnFails, Shows, IsShowRefused, DoesNotShow, fault_of};
 ghost use Rattle.compact_form.specs.Token.{Reads};
 ghost use Rattle.sdjwt_cli.specs.declared.show.Unshown.TheVariants.{Fails};
-ghost use Rattle.sdjwt_cli.specs.Stops.{OnRefused, OnUnread};
+ghost use Rattle.sdjwt_cli.specs.Stops.{OnRefused, OnUnread, OnUnreadable};
 
 use crate::lines::refusal_line;
 use crate::split::push_binding;
@@ -192,14 +192,15 @@ pub(crate) fn show(alloc: Global, file: &[u8]) -> Result<String, Stop>
     ensures shows { IfOk result (λ text. Shows file.now (string_bytes text)) }
     ensures refuses { IfErr result (λ stop. OnRefused stop (DoesNotShow file.now)) }
     ensures read { IfErr result (λ stop. OnUnread stop (λ _. ⊥)) }
+    ensures readable { IfErr result (λ stop. OnUnreadable stop (λ _. ⊥)) }
 {
     let view = match read_view(file) {
         Ok(view) => view,
-        Err(fault) => return Err(Stop::Refused(refusal_line(alloc, fault)?)),
+        Err(fault) => return Err(Stop::Refused(refusal_line(alloc, &fault)?)),
     };
     match show_view(alloc, file, &view) {
         Ok(text) => Ok(text),
         Err(Unshown::Memory) => Err(Stop::Memory),
-        Err(Unshown::Fails(fault)) => Err(Stop::Refused(refusal_line(alloc, fault)?)),
+        Err(Unshown::Fails(fault)) => Err(Stop::Refused(refusal_line(alloc, &fault)?)),
     }
 }

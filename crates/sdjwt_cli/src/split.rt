@@ -5,7 +5,7 @@ ghost use Rattle.std.specs.Option.{option_map};
 ghost use Rattle.compact_form.specs.Views.{jwt_of};
 ghost use Rattle.sdjwt_cli.specs.Lines.{line};
 ghost use Rattle.sdjwt_cli.specs.Split.{numbered, binding_line, signed_lines, split_lines, Gives, Refuses};
-ghost use Rattle.sdjwt_cli.specs.Stops.{OnRefused, OnUnread};
+ghost use Rattle.sdjwt_cli.specs.Stops.{OnRefused, OnUnread, OnUnreadable};
 
 use crate::lines::refusal_line;
 use crate::stop::Stop;
@@ -83,9 +83,10 @@ pub(crate) fn split(alloc: Global, file: &[u8]) -> Result<String, Stop>
     ensures gives { IfOk result (λ text. Gives file.now (string_bytes text)) }
     ensures refuses { IfErr result (λ stop. OnRefused stop (Refuses file.now)) }
     ensures read { IfErr result (λ stop. OnUnread stop (λ _. ⊥)) }
+    ensures readable { IfErr result (λ stop. OnUnreadable stop (λ _. ⊥)) }
 {
     match read_view(file) {
         Ok(view) => Ok(split_text(alloc, &view, room_for(file, view.count()))?),
-        Err(fault) => Err(Stop::Refused(refusal_line(alloc, fault)?)),
+        Err(fault) => Err(Stop::Refused(refusal_line(alloc, &fault)?)),
     }
 }

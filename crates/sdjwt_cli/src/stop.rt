@@ -9,6 +9,8 @@ pub(crate) enum Stop {
     Memory,
     // The file of this word could not be read. Words are counted behind the command, from 0.
     Unread(usize),
+    // A policy, an order or a seed is not of its form, with this line.
+    Unreadable(String),
     // The command refuses its files, with this line.
     Refused(String),
 }

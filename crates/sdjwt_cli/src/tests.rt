@@ -1,15 +1,16 @@
 use super::run;
+use crate::verify_tests::POLICY;
 use sd_outside::{ByteBox, Cabinet, Failed, FetchError, MemCabinet, MemSink, Sink, Status};
 use std::alloc::Global;
 use std::test::Fail;
 
 // What a run left.
 #[derive(Drop)]
-struct Ran {
-    status: Status,
-    out: MemSink,
-    err: MemSink,
-    cabinet: MemCabinet,
+pub(crate) struct Ran {
+    pub(crate) status: Status,
+    pub(crate) out: MemSink,
+    pub(crate) err: MemSink,
+    pub(crate) cabinet: MemCabinet,
 }
 
 fn words_of(alloc: Global, words: &[&str]) -> Result<Vec<String>, Fail> {
@@ -20,19 +21,36 @@ fn words_of(alloc: Global, words: &[&str]) -> Result<Vec<String>, Fail> {
     Ok(list)
 }
 
-// A run of these words over this cabinet, with so much room on `out`.
-fn over(alloc: Global, words: &[&str], cabinet: MemCabinet, room: usize) -> Result<Ran, Fail> {
+// A run of these words over this cabinet at a moment, with so much room on `out`.
+pub(crate) fn over_at(
+    alloc: Global,
+    words: &[&str],
+    cabinet: MemCabinet,
+    now: u64,
+    room: usize,
+) -> Result<Ran, Fail> {
     let words = words_of(alloc, words)?;
     let mut cabinet = cabinet;
     let mut out = MemSink::new(alloc, room)?;
     let mut err = MemSink::new(alloc, 100)?;
-    let status = run(alloc, words.as_slice(), &mut cabinet, 0, &mut out, &mut err);
+    let status = run(
+        alloc,
+        words.as_slice(),
+        &mut cabinet,
+        now,
+        &mut out,
+        &mut err,
+    );
     Ok(Ran {
         status,
         out,
         err,
         cabinet,
     })
+}
+
+fn over(alloc: Global, words: &[&str], cabinet: MemCabinet, room: usize) -> Result<Ran, Fail> {
+    over_at(alloc, words, cabinet, 0, room)
 }
 
 // `split t` over a cabinet that holds this text under `t`.
@@ -164,7 +182,10 @@ fn each_other_status_has_its_line(rt: HostRuntime) -> Result<(), Fail> {
         &["split"],
         &["split", "x", "y"],
         &["Split", "t"],
-        &["verify", "p", "t"],
+        &["verify", "p"],
+        &["verify", "p", "t", "x"],
+        &["Verify", "p", "t"],
+        &["show", "p", "t"],
     ] {
         let ran = over(alloc, words, MemCabinet::new(alloc), 100)?;
         assert_eq!(rt; ran.status, Status::Usage);
@@ -228,12 +249,15 @@ impl Sink for Pieces {
 #[test]
 fn a_file_is_fetched_once_and_the_answer_is_one_piece(rt: HostRuntime) -> Result<(), Fail> {
     let alloc = rt.alloc();
-    for (word, text, fetches, out, err) in [
-        ("split", "a.b.c~d~", 1, 1, 0),
-        ("split", "a.b.c", 1, 0, 1),
-        ("verify", "a.b.c~", 0, 0, 1),
-    ] {
-        let words = words_of(alloc, &[word, "t"])?;
+    let cases: [(&[&str], &str, u64, u64, u64); 5] = [
+        (&["split", "t"], "a.b.c~d~", 1, 1, 0),
+        (&["split", "t"], "a.b.c", 1, 0, 1),
+        (&["verify", "p", "t"], "{}", 2, 0, 1),
+        (&["verify", "p", "t"], POLICY, 2, 0, 1),
+        (&["verify", "t"], "a.b.c~", 0, 0, 1),
+    ];
+    for (words, text, fetches, out, err) in cases {
+        let words = words_of(alloc, words)?;
         let mut cabinet = Counted {
             text: text.as_bytes(),
             fetches: 0,

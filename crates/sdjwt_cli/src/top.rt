@@ -2,8 +2,8 @@ ghost use Rattle.std.specs.Prelude.{◌≡◌, ◌≤◌, ◌+◌, ℕ, List, So
 ghost use Rattle.sd_outside.specs.Causes.{Rose};
 ghost use Rattle.compact_form.specs.declared.limits.TheConstants.{FILE_MAX};
 ghost use Rattle.sdjwt_cli.specs.Names.{meant_by};
-ghost use Rattle.sdjwt_cli.specs.Answers.{gives, refuses, IsAnswered};
-ghost use Rattle.sdjwt_cli.specs.Stops.{OnRefused, OnUnread};
+ghost use Rattle.sdjwt_cli.specs.Answers.{gives, refuses, unreadable, IsAnswered};
+ghost use Rattle.sdjwt_cli.specs.Stops.{OnRefused, OnUnread, OnUnreadable};
 ghost use Rattle.sdjwt_cli.specs.Run.{outside, stream, Misses, Tells, Ends, Keeps};
 
 use crate::command::Command;
@@ -11,15 +11,22 @@ use crate::lines::unread_line;
 use crate::show::show;
 use crate::split::split;
 use crate::stop::Stop;
+use crate::verify::verify;
 use compact_form::FILE_MAX;
 use sd_outside::{ByteBox, Cabinet, Failed, FetchError, Sink, Status};
 use std::alloc::Global;
 
-// A token file. A file that is too long shows by one byte more than is allowed.
-fn fetch_token<C: Cabinet>(alloc: Global, cab: &mut C, name: &str) -> Result<ByteBox, Stop>
+// The file of a word, which is counted behind the command, from 0. A file that is too long shows by one byte more than is allowed.
+fn fetch_file<C: Cabinet>(
+    alloc: Global,
+    cab: &mut C,
+    name: &str,
+    word: usize,
+) -> Result<ByteBox, Stop>
     ensures content { IfOk result (λ file. IfSome (C.holds cab.old name.now) (λ content. file ≡ take (FILE_MAX + 1) content)) }
     ensures refuses { IfErr result (λ stop. OnRefused stop (λ _. ⊥)) }
-    ensures unread { IfErr result (λ stop. OnUnread stop (λ word. word ≡ 0)) }
+    ensures unreadable { IfErr result (λ stop. OnUnreadable stop (λ _. ⊥)) }
+    ensures unread { IfErr result (λ stop. OnUnread stop (λ k. k ≡ word)) }
     ensures missed { IfErr result (λ stop. OnUnread stop (λ _. C.missed cab.new ≡ Some name.now)) }
     ensures rose { IfErr result (λ stop. OnUnread stop (λ _. Rose (C.faults cab.old) (C.faults cab.new))) }
     ensures held { (other : List ℕ) → C.holds cab.new other ≡ C.holds cab.old other }
@@ -28,7 +35,7 @@ fn fetch_token<C: Cabinet>(alloc: Global, cab: &mut C, name: &str) -> Result<Byt
     match cab.fetch(alloc, name, FILE_MAX + 1) {
         Ok(file) => Ok(file),
         Err(FetchError::Memory) => Err(Stop::Memory),
-        Err(FetchError::Failed) => Err(Stop::Unread(0)),
+        Err(FetchError::Failed) => Err(Stop::Unread(word)),
     }
 }
 
@@ -41,6 +48,7 @@ fn answer<C: Cabinet>(
 ) -> Result<String, Stop>
     ensures gives { IfOk result (λ text. IsAnswered (C.holds cab.old) (meant_by command.entry) now (gives (string_bytes text))) }
     ensures refuses { IfErr result (λ stop. OnRefused stop (λ text. IsAnswered (C.holds cab.old) (meant_by command.entry) now (refuses text))) }
+    ensures unreadable { IfErr result (λ stop. OnUnreadable stop (λ text. IsAnswered (C.holds cab.old) (meant_by command.entry) now (unreadable text))) }
     ensures misses { IfErr result (λ stop. OnUnread stop (λ word. Misses (meant_by command.entry) word (C.missed cab.new))) }
     ensures rose { IfErr result (λ stop. OnUnread stop (λ word. Rose (C.faults cab.old) (C.faults cab.new))) }
     ensures held { (name : List ℕ) → C.holds cab.new name ≡ C.holds cab.old name }
@@ -48,12 +56,17 @@ fn answer<C: Cabinet>(
 {
     match command {
         Command::Split { token } => {
-            let file = fetch_token(alloc, cab, token)?;
+            let file = fetch_file(alloc, cab, token, 0)?;
             split(alloc, file.bytes())
         }
         Command::Show { token } => {
-            let file = fetch_token(alloc, cab, token)?;
+            let file = fetch_file(alloc, cab, token, 0)?;
             show(alloc, file.bytes())
+        }
+        Command::Verify { policy, token } => {
+            let policy = fetch_file(alloc, cab, policy, 0)?;
+            let token = fetch_file(alloc, cab, token, 1)?;
+            verify(alloc, policy.bytes(), token.bytes(), now)
         }
     }
 }
@@ -107,6 +120,10 @@ pub fn run<C: Cabinet, O: Sink, E: Sink>(
         Err(Stop::Unread(word)) => {
             tell(err, unread_line(word));
             Status::Unread
+        }
+        Err(Stop::Unreadable(line)) => {
+            tell(err, line.as_str());
+            Status::Unreadable
         }
         Err(Stop::Memory) => {
             tell(err, "memory\n");

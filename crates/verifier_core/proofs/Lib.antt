@@ -6,4 +6,5 @@ pub mod TokenConditions
 pub mod CheckSteps
 pub mod CheckTests
 pub mod Verdicts
+pub mod OneVerdict
 mod Examples

@@ -43,7 +43,7 @@ no_later (Json j) = tt
 abbrev fault_at : Condition → Place → Fault
 fault_at c place = record { number = number_of c; place = place }
 
-file_condition : (content : List ℕ) (fault : Fault) → file.Fails content fault → (c : Condition) × (fault.number ≡ number_of c)
+pub file_condition : (content : List ℕ) (fault : Fault) → file.Fails content fault → (c : Condition) × (fault.number ≡ number_of c)
 file_condition content fault (file.too_long e h) = (condition.too_long, ap (λ (x : Fault). x.number) e)
 file_condition content fault (file.form stop e h) = (condition.form, ap (λ (x : Fault). x.number) e)
 file_condition content fault (file.too_much parts e h many) = (condition.too_much, ap (λ (x : Fault). x.number) e)
@@ -92,7 +92,7 @@ module _ (content : List ℕ) (policy : Policy) (now : ℕ) (token : Token) (is 
           let high = claim_numbers (strip marked) policy now other place h in
           inl (omega (arith, low.1, high.0))
 
-  one_opening : (m n : Marked) → Opens token m → Opens token n → m ≡ n
+  pub one_opening : (m n : Marked) → Opens token m → Opens token n → m ≡ n
   one_opening m n (p, g, has, e) (q, h, other, f) =
       let same = one_content token p q g h has other in
       e ∙ (ap₂ (λ (t : Tree) (xs : List Given). processed t xs) same.0 same.1 ∙ sym f)

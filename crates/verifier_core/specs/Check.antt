@@ -16,6 +16,7 @@ use Rattle.disclosure.specs.declared.errors.DisclosureError.{DisclosureError}
 use Rattle.disclosure.specs.declared.digests.HashAlg.{HashAlg}
 use Rattle.digest_sites.specs.Given.{Given}
 use Rattle.json_form.specs.declared.token.Token.{Token}
+use Rattle.json_form.specs.Token.{IsToken}
 use Rattle.rebuild_core.specs.Given.{look_ups, counted, RoseWithin}
 use Rattle.rebuild_core.specs.Answer.{IsRefusal}
 use Rattle.rebuild_core.specs.declared.errors.ProcessError.{ProcessError}
@@ -48,7 +49,11 @@ IsCounted token old new = (payload : Tree) × (given : List Given) × HasContent
 abbrev pub IsCountedWithin : Token → ℕ → ℕ → Type 0
 IsCountedWithin token old new = (new ≡ old) ⊎ ((payload : Tree) × (given : List Given) × HasContent token payload given × RoseWithin (look_ups payload given) old new)
 
--- where one of the conditions 5 to 13 fails, nothing is looked up
+-- the same of a text: none, or no more than of the token that it is read as
+abbrev pub IsReadWithin : List ℕ → ℕ → ℕ → Type 0
+IsReadWithin content old new = (new ≡ old) ⊎ ((token : Token) × IsToken content token × IsCountedWithin token old new)
+
+-- where one of the conditions 1 to 13 fails, nothing is looked up
 abbrev pub IsUncounted : ℕ → ℕ → Fault → Type 0
 IsUncounted old new fault = fault.number ≤ 13 → new ≡ old
 

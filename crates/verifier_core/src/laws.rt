@@ -2,9 +2,11 @@
 ghost use Rattle.std.specs.Prelude.{◌≡◌, ◌≢◌, ℕ, List, Some};
 ghost use Rattle.claim_tree.specs.declared.file_fault.FileFault.{FileFault};
 ghost use Rattle.compact_form.specs.declared.fault.Fault.{Fault};
+ghost use Rattle.marked_tree.specs.Marked.{Marked};
 ghost use Rattle.verifier_core.specs.Condition.{Condition, number_of, condition_of};
 ghost use Rattle.verifier_core.specs.FaultLine.{IsFault, IsFaultLine};
 ghost use Rattle.verifier_core.specs.PolicyFile.{IsPolicyFile, IsPolicyRefused};
+ghost use Rattle.verifier_core.specs.Verdict.{Fails, IsLowest, IsAccepted};
 ghost use Rattle.verifier_core.specs.declared.policy.Policy.{Policy};
 
 /// A condition has a number of its own, under which it is found.
@@ -24,4 +26,14 @@ pub fn one_policy()
     ensures not_both { (bytes : List ℕ) (policy : Policy) (fault : FileFault) → IsPolicyFile bytes policy → IsPolicyRefused bytes fault → fault ≡ FileFault.Memory }
     ensures one_fault { (bytes : List ℕ) (fault other : FileFault) → IsPolicyRefused bytes fault → IsPolicyRefused bytes other
         → fault ≢ FileFault.Memory → other ≢ FileFault.Memory → fault ≡ other }
+{}
+
+/// A text under a policy at a moment is accepted with one payload, or refused with one fault.
+pub fn one_verdict()
+    ensures not_both { (content : List ℕ) (policy : Policy) (now : ℕ) (marked : Marked) (fault : Fault)
+        → IsAccepted content policy now marked → IsLowest (Fails content policy now) fault → ⊥ }
+    ensures one_payload { (content : List ℕ) (policy : Policy) (now : ℕ) (marked other : Marked)
+        → IsAccepted content policy now marked → IsAccepted content policy now other → marked ≡ other }
+    ensures one_fault { (content : List ℕ) (policy : Policy) (now : ℕ) (fault other : Fault)
+        → IsLowest (Fails content policy now) fault → IsLowest (Fails content policy now) other → fault ≡ other }
 {}

@@ -7,7 +7,7 @@ ghost use Rattle.marked_tree.specs.View.{marked_of};
 ghost use Rattle.json_form.specs.declared.token.Token.{Token as SeenToken};
 ghost use Rattle.json_form.specs.Token.{IsToken};
 ghost use Rattle.verifier_core.specs.Verdict.{Fails, IsLowest, IsAccepted};
-ghost use Rattle.verifier_core.specs.Check.{OnFault, IsCounted, IsUncounted};
+ghost use Rattle.verifier_core.specs.Check.{OnFault, IsCounted, IsReadWithin, IsUncounted};
 
 use crate::claims::check_claims;
 use crate::{Checked, Policy, VerifyError, check_view};
@@ -44,6 +44,7 @@ pub fn verify(
 
     // the look-ups
     ensures counted { IfOk result (λ _. (token : SeenToken) × IsToken text.now token × IsCounted token steps.old steps.new) }
+    ensures within { IsReadWithin text.now steps.old steps.new }
     ensures uncounted { IfErr result (λ e. OnFault e (IsUncounted steps.old steps.new)) }
 {
     let view = match read_view(text) {

@@ -1,30 +1,63 @@
-use Rattle.std.proofs.Common.{refl}
-use Rattle.sdjwt_cli.specs.Command.{split, show}
-use Rattle.sdjwt_cli.proofs.Lifts.{lift_gives, lift_refuses}
+use Rattle.std.proofs.Common.{[], ◌∷◌, ◌+◌, refl}
+use Rattle.compact_form.specs.declared.limits.TheConstants.{FILE_MAX}
+use Rattle.sdjwt_cli.specs.Command.{split, show, verify}
+use Rattle.sdjwt_cli.specs.Answers.{AreFetched}
+use Rattle.sdjwt_cli.proofs.Lifts.{fetched_as, lift_gives, lift_refuses, lift_unreadable}
+use Rattle.sdjwt_cli.proofs.top.answer.Given as given
 use Rattle.sdjwt_cli.proofs.top.answer.Goals as goal
 
 pub returns-in_ok-file-in-Split-clause-gives : goal.returns-in_ok-file-in-Split-clause-gives
 returns-in_ok-file-in-Split-clause-gives g c =
-    rw c.in-Split.is (
-    lift_gives (g.C.Cabinet.holds c.args.cab.now) (split c.in-Split.token.now) c.in-Split.token.now c.in_ok-file-in-Split.file c.bytes.result.now refl c.in_ok-file-in-Split.ensures.content c.bytes.ensures c.args.now c.split.result c.split.ensures.gives
-    )
+    let held = g.C.Cabinet.holds c.args.cab.now in
+    let name = c.in-Split.token.now in
+    let file = fetched_as (held name) (held name) (FILE_MAX + 1) c.in_ok-file-in-Split.file c.bytes.result.now refl c.bytes.ensures c.in_ok-file-in-Split.ensures.content in
+    rw c.in-Split.is (lift_gives held (split name) (c.bytes.result.now ∷ []) (file, tt) c.args.now c.split.result c.split.ensures.gives)
 
 pub returns-in_ok-file-in-Split-clause-refuses :
     goal.returns-in_ok-file-in-Split-clause-refuses
 returns-in_ok-file-in-Split-clause-refuses g c =
-    rw c.in-Split.is (
-    lift_refuses (g.C.Cabinet.holds c.args.cab.now) (split c.in-Split.token.now) c.in-Split.token.now c.in_ok-file-in-Split.file c.bytes.result.now refl c.in_ok-file-in-Split.ensures.content c.bytes.ensures c.args.now c.split.result c.split.ensures.refuses
-    )
+    let held = g.C.Cabinet.holds c.args.cab.now in
+    let name = c.in-Split.token.now in
+    let file = fetched_as (held name) (held name) (FILE_MAX + 1) c.in_ok-file-in-Split.file c.bytes.result.now refl c.bytes.ensures c.in_ok-file-in-Split.ensures.content in
+    rw c.in-Split.is (lift_refuses held (split name) (c.bytes.result.now ∷ []) (file, tt) c.args.now c.split.result c.split.ensures.refuses)
 
 pub returns-in_ok-file-in-Show-clause-gives : goal.returns-in_ok-file-in-Show-clause-gives
 returns-in_ok-file-in-Show-clause-gives g c =
-    rw c.in-Show.is (
-    lift_gives (g.C.Cabinet.holds c.args.cab.now) (show c.in-Show.token.now) c.in-Show.token.now c.in_ok-file-in-Show.file c.bytes-in-Show.result.now refl c.in_ok-file-in-Show.ensures.content c.bytes-in-Show.ensures c.args.now c.show.result c.show.ensures.shows
-    )
+    let held = g.C.Cabinet.holds c.args.cab.now in
+    let name = c.in-Show.token.now in
+    let file = fetched_as (held name) (held name) (FILE_MAX + 1) c.in_ok-file-in-Show.file c.bytes-in-Show.result.now refl c.bytes-in-Show.ensures c.in_ok-file-in-Show.ensures.content in
+    rw c.in-Show.is (lift_gives held (show name) (c.bytes-in-Show.result.now ∷ []) (file, tt) c.args.now c.show.result c.show.ensures.shows)
 
 pub returns-in_ok-file-in-Show-clause-refuses :
     goal.returns-in_ok-file-in-Show-clause-refuses
 returns-in_ok-file-in-Show-clause-refuses g c =
-    rw c.in-Show.is (
-    lift_refuses (g.C.Cabinet.holds c.args.cab.now) (show c.in-Show.token.now) c.in-Show.token.now c.in_ok-file-in-Show.file c.bytes-in-Show.result.now refl c.in_ok-file-in-Show.ensures.content c.bytes-in-Show.ensures c.args.now c.show.result c.show.ensures.refuses
-    )
+    let held = g.C.Cabinet.holds c.args.cab.now in
+    let name = c.in-Show.token.now in
+    let file = fetched_as (held name) (held name) (FILE_MAX + 1) c.in_ok-file-in-Show.file c.bytes-in-Show.result.now refl c.bytes-in-Show.ensures c.in_ok-file-in-Show.ensures.content in
+    rw c.in-Show.is (lift_refuses held (show name) (c.bytes-in-Show.result.now ∷ []) (file, tt) c.args.now c.show.result c.show.ensures.refuses)
+
+-- both files, each by what the cabinet held before the first was fetched
+both_fetched : (g : given.Over) (c : goal.After-drop-policy-inside-in-Verify g)
+    → AreFetched (g.C.Cabinet.holds c.args.cab.now) (verify c.in-Verify.policy.now c.in-Verify.token.now) (c.bytes-in-Verify.result.now ∷ c.bytes-in-Verify-2.result.now ∷ [])
+both_fetched g c =
+    let held = g.C.Cabinet.holds c.args.cab.now in
+    let later = g.C.Cabinet.holds c.fetch_file-in-Verify.new.cab in
+    let policy = c.in-Verify.policy.now in
+    let token = c.in-Verify.token.now in
+    let first = fetched_as (held policy) (held policy) (FILE_MAX + 1) c.in_ok-policy-in-Verify.policy c.bytes-in-Verify.result.now refl c.bytes-in-Verify.ensures c.in_ok-policy-in-Verify.ensures.content in
+    let second = fetched_as (held token) (later token) (FILE_MAX + 1) c.in_ok-token-in-Verify.token c.bytes-in-Verify-2.result.now (c.in_ok-policy-in-Verify.ensures.held token) c.bytes-in-Verify-2.ensures c.in_ok-token-in-Verify.ensures.content in
+    (first, (second, tt))
+
+pub returns-in_ok-token-in-Verify-clause-gives : goal.returns-in_ok-token-in-Verify-clause-gives
+returns-in_ok-token-in-Verify-clause-gives g c =
+    rw c.in-Verify.is (lift_gives (g.C.Cabinet.holds c.args.cab.now) (verify c.in-Verify.policy.now c.in-Verify.token.now) (c.bytes-in-Verify.result.now ∷ c.bytes-in-Verify-2.result.now ∷ []) (both_fetched g c) c.args.now c.verify.result c.verify.ensures.verifies)
+
+pub returns-in_ok-token-in-Verify-clause-refuses :
+    goal.returns-in_ok-token-in-Verify-clause-refuses
+returns-in_ok-token-in-Verify-clause-refuses g c =
+    rw c.in-Verify.is (lift_refuses (g.C.Cabinet.holds c.args.cab.now) (verify c.in-Verify.policy.now c.in-Verify.token.now) (c.bytes-in-Verify.result.now ∷ c.bytes-in-Verify-2.result.now ∷ []) (both_fetched g c) c.args.now c.verify.result c.verify.ensures.refuses)
+
+pub returns-in_ok-token-in-Verify-clause-unreadable :
+    goal.returns-in_ok-token-in-Verify-clause-unreadable
+returns-in_ok-token-in-Verify-clause-unreadable g c =
+    rw c.in-Verify.is (lift_unreadable (g.C.Cabinet.holds c.args.cab.now) (verify c.in-Verify.policy.now c.in-Verify.token.now) (c.bytes-in-Verify.result.now ∷ c.bytes-in-Verify-2.result.now ∷ []) (both_fetched g c) c.args.now c.verify.result c.verify.ensures.unreadable)

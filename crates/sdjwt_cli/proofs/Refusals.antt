@@ -1,0 +1,25 @@
+-- The line of a refusal, by the condition that fails.
+use Rattle.std.proofs.Common.{◌≡◌, ℕ, List, Option, ap, sym, subst}
+use Rattle.compact_form.specs.declared.fault.Fault.{Fault}
+use Rattle.compact_form.specs.Token.{IsRefused}
+use Rattle.verifier_core.specs.Condition as condition
+use Rattle.verifier_core.specs.Condition.{Condition, number_of, condition_of}
+use Rattle.verifier_core.specs.FaultLine.{refusal_text}
+use Rattle.verifier_core.proofs.Numbers.{numbered}
+use Rattle.verifier_core.proofs.Verdicts.{file_condition}
+use Rattle.sdjwt_cli.specs.Lines.{line, refusal_of, refusal}
+use Rattle.sdjwt_cli.specs.Show.{IsShowRefused, form, header, payload, hash, disclosure}
+
+pub refusal_is : (fault : Fault) (c : Condition) → fault.number ≡ number_of c → refusal fault ≡ line (refusal_text c fault.place)
+refusal_is fault c is = subst (λ (n : ℕ). refusal_of (condition_of n) fault.place ≡ line (refusal_text c fault.place)) (sym is) (ap (λ (o : Option Condition). refusal_of o fault.place) (numbered c))
+
+-- a token file is refused by the number of a condition
+pub form_condition : (file : List ℕ) (fault : Fault) → IsRefused file fault → (c : Condition) × (fault.number ≡ number_of c)
+form_condition file fault r = file_condition file fault r.fails
+
+pub show_condition : (file : List ℕ) (fault : Fault) → IsShowRefused file fault → (c : Condition) × (fault.number ≡ number_of c)
+show_condition file fault (form r) = form_condition file fault r
+show_condition file fault (header p r u e) = (condition.header_unreadable, ap (λ (x : Fault). x.number) e)
+show_condition file fault (payload p h r i n e) = (condition.payload_unreadable, ap (λ (x : Fault). x.number) e)
+show_condition file fault (hash p h b r i j n e) = (condition.hash_unknown, ap (λ (x : Fault). x.number) e)
+show_condition file fault (disclosure p h b r i j u) = (condition.disclosure_unreadable, ap (λ (x : Fault). x.number) u.fault_is)

@@ -1,0 +1,171 @@
+-- A text is accepted or refused, in one way.
+use Rattle.std.proofs.Common.{◌≡◌, ℕ, ◌<◌, ◌≤◌, ◌⊎◌, inl, inr, Bool, true, false, List, refl, sym, ap, ap₂, subst, ◌∙◌, arith}
+use Rattle.compact_form.specs.declared.fault.Fault.{Fault}
+use Rattle.compact_form.specs.declared.fault.Place.{Place}
+use Rattle.compact_form.specs.declared.fault.Place.TheVariants.{Nowhere, At}
+use Rattle.compact_form.specs.Token as file
+use Rattle.json_form.specs.declared.token.Token.{Token}
+use Rattle.json_form.proofs.Tokens as tokens
+use Rattle.claim_tree.specs.Tree.{Tree}
+use Rattle.marked_tree.specs.Marked.{Marked, strip}
+use Rattle.verifier_core.specs.Condition.{Condition, number_of, too_long, form, too_much, binding_missing, header_unreadable, header_critical, alg_refused, type_refused, issuer_key_unknown, bad_signature, payload_unreadable, hash_unknown, disclosure_unreadable, repeated_disclosure, reserved_misused, repeated_digest, unreferenced_disclosure, wrong_shape, reserved_name, name_clash, too_deep, issuer_refused, claim_missing, time_unreadable, expired, not_yet, holder_key_unknown, binding_header, binding_alg, binding_signature, binding_type, binding_payload, binding_stale, binding_early, nonce_differs, audience_differs, hash_differs, binding_time}
+use Rattle.verifier_core.specs.Verdict.{Rules, TokenFails, ClaimFails, FileFails, Fails, of_file, of_token, of_claims, rules_of, Opens, IsNoLater, IsLowest, IsAccepted}
+use Rattle.verifier_core.specs.declared.policy.Policy.{Policy}
+use Rattle.verifier_core.proofs.Numbers.{one_condition}
+use Rattle.verifier_core.proofs.Verdicts.{one_opening}
+
+-- ---- the place of a condition
+
+-- the condition fails at a number
+abbrev has_number : Condition → Bool
+has_number form = true
+has_number disclosure_unreadable = true
+has_number repeated_disclosure = true
+has_number reserved_misused = true
+has_number repeated_digest = true
+has_number unreferenced_disclosure = true
+has_number wrong_shape = true
+has_number reserved_name = true
+has_number name_clash = true
+has_number claim_missing = true
+has_number _ = false
+
+abbrev Suits : Bool → Place → Type 0
+Suits true place = (i : ℕ) × (place ≡ At i)
+Suits false place = place ≡ Nowhere
+
+abbrev at : ℕ → Place
+at i = At i
+
+abbrev fault_of : ℕ → Place → Fault
+fault_of number place = record { number = number; place = place }
+
+-- two places of one condition, neither of which is later, are one
+one_place : (placed : Bool) (p q : Place) → Suits placed p → Suits placed q → IsNoLater p q → IsNoLater q p → p ≡ q
+one_place false p q h k l m = h ∙ sym k
+one_place true p q (i, h) (j, k) l m =
+    let there : IsNoLater (At i) (At j) = subst (λ (x : Place). IsNoLater x (At j)) h (subst (λ (x : Place). IsNoLater p x) k l) in
+    let back : IsNoLater (At j) (At i) = subst (λ (x : Place). IsNoLater x (At i)) k (subst (λ (x : Place). IsNoLater q x) h m) in
+    let same : i ≡ j = omega (arith, there, back) in
+    h ∙ (ap at same ∙ sym k)
+
+token_place : (token : Token) (rules : Rules) (c : Condition) (place : Place) → TokenFails token rules c place → Suits (has_number c) place
+token_place token rules too_long place h = absurd h
+token_place token rules form place h = absurd h
+token_place token rules too_much place h = absurd h
+token_place token rules binding_missing place h = absurd h
+token_place token rules header_unreadable place h = h.0
+token_place token rules header_critical place h = h.0
+token_place token rules alg_refused place h = h.0
+token_place token rules type_refused place h = h.0
+token_place token rules issuer_key_unknown place h = h.0
+token_place token rules bad_signature place h = h.0
+token_place token rules payload_unreadable place h = h.0
+token_place token rules hash_unknown place h = h.0
+token_place token rules disclosure_unreadable place h = (h.0, h.1)
+token_place token rules repeated_disclosure place h = (h.0, h.1)
+token_place token rules reserved_misused place h = (h.0, h.1)
+token_place token rules repeated_digest place h = (h.0, h.1)
+token_place token rules unreferenced_disclosure place h = (h.0, h.1)
+token_place token rules wrong_shape place h = (h.0, h.1)
+token_place token rules reserved_name place h = (h.0, h.1)
+token_place token rules name_clash place h = (h.0, h.1)
+token_place token rules too_deep place h = h.0
+token_place token rules issuer_refused place h = absurd h
+token_place token rules claim_missing place h = absurd h
+token_place token rules time_unreadable place h = absurd h
+token_place token rules expired place h = absurd h
+token_place token rules not_yet place h = absurd h
+token_place token rules holder_key_unknown place h = absurd h
+token_place token rules binding_header place h = absurd h
+token_place token rules binding_alg place h = absurd h
+token_place token rules binding_signature place h = absurd h
+token_place token rules binding_type place h = absurd h
+token_place token rules binding_payload place h = absurd h
+token_place token rules binding_stale place h = absurd h
+token_place token rules binding_early place h = absurd h
+token_place token rules nonce_differs place h = absurd h
+token_place token rules audience_differs place h = absurd h
+token_place token rules hash_differs place h = absurd h
+token_place token rules binding_time place h = absurd h
+
+claim_place : (payload : Tree) (policy : Policy) (now : ℕ) (c : Condition) (place : Place) → ClaimFails payload policy now c place → Suits (has_number c) place
+claim_place payload policy now too_long place h = absurd h
+claim_place payload policy now form place h = absurd h
+claim_place payload policy now too_much place h = absurd h
+claim_place payload policy now binding_missing place h = absurd h
+claim_place payload policy now header_unreadable place h = absurd h
+claim_place payload policy now header_critical place h = absurd h
+claim_place payload policy now alg_refused place h = absurd h
+claim_place payload policy now type_refused place h = absurd h
+claim_place payload policy now issuer_key_unknown place h = absurd h
+claim_place payload policy now bad_signature place h = absurd h
+claim_place payload policy now payload_unreadable place h = absurd h
+claim_place payload policy now hash_unknown place h = absurd h
+claim_place payload policy now disclosure_unreadable place h = absurd h
+claim_place payload policy now repeated_disclosure place h = absurd h
+claim_place payload policy now reserved_misused place h = absurd h
+claim_place payload policy now repeated_digest place h = absurd h
+claim_place payload policy now unreferenced_disclosure place h = absurd h
+claim_place payload policy now wrong_shape place h = absurd h
+claim_place payload policy now reserved_name place h = absurd h
+claim_place payload policy now name_clash place h = absurd h
+claim_place payload policy now too_deep place h = absurd h
+claim_place payload policy now issuer_refused place h = h.0
+claim_place payload policy now claim_missing place h = (h.0, h.1)
+claim_place payload policy now time_unreadable place h = h.0
+claim_place payload policy now expired place h = h.0
+claim_place payload policy now not_yet place h = h.0
+claim_place payload policy now holder_key_unknown place h = absurd h
+claim_place payload policy now binding_header place h = absurd h
+claim_place payload policy now binding_alg place h = absurd h
+claim_place payload policy now binding_signature place h = absurd h
+claim_place payload policy now binding_type place h = absurd h
+claim_place payload policy now binding_payload place h = absurd h
+claim_place payload policy now binding_stale place h = absurd h
+claim_place payload policy now binding_early place h = absurd h
+claim_place payload policy now nonce_differs place h = absurd h
+claim_place payload policy now audience_differs place h = absurd h
+claim_place payload policy now hash_differs place h = absurd h
+claim_place payload policy now binding_time place h = absurd h
+
+file_place : (content : List ℕ) (c : Condition) (place : Place) → FileFails content c place → Suits (has_number c) place
+file_place content c place (file.too_long e h) =
+    let is : c ≡ too_long = one_condition c too_long (ap (λ (x : Fault). x.number) e) in
+    subst (λ (d : Condition). Suits (has_number d) place) (sym is) (ap (λ (x : Fault). x.place) e)
+file_place content c place (file.form stop e h) =
+    let is : c ≡ form = one_condition c form (ap (λ (x : Fault). x.number) e) in
+    subst (λ (d : Condition). Suits (has_number d) place) (sym is) (stop, ap (λ (x : Fault). x.place) e)
+file_place content c place (file.too_much parts e h many) =
+    let is : c ≡ too_much = one_condition c too_much (ap (λ (x : Fault). x.number) e) in
+    subst (λ (d : Condition). Suits (has_number d) place) (sym is) (ap (λ (x : Fault). x.place) e)
+
+-- ---- the verdict
+
+module _ (content : List ℕ) (policy : Policy) (now : ℕ) where
+  place_of : (c : Condition) (place : Place) → Fails content policy now c place → Suits (has_number c) place
+  place_of c place (of_file h) = file_place content c place h
+  place_of c place (of_token token there h) = token_place token (rules_of policy) c place h
+  place_of c place (of_claims token marked there opens h) = claim_place (strip marked) policy now c place h
+
+  pub accepted_not_refused : (marked : Marked) (fault : Fault) → IsAccepted content policy now marked → IsLowest (Fails content policy now) fault → ⊥
+  accepted_not_refused marked fault accepted refused = accepted.passes refused.failed fault.place refused.fails
+
+  pub one_lowest : (f g : Fault) → IsLowest (Fails content policy now) f → IsLowest (Fails content policy now) g → f ≡ g
+  one_lowest f g l m = go (l.lowest m.failed g.place m.fails) (m.lowest l.failed f.place l.fails)
+    where
+      go : (number_of l.failed < number_of m.failed) ⊎ ((m.failed ≡ l.failed) × IsNoLater f.place g.place)
+          → (number_of m.failed < number_of l.failed) ⊎ ((l.failed ≡ m.failed) × IsNoLater g.place f.place) → f ≡ g
+      go (inl less) (inl more) = absurd (omega (arith, less, more))
+      go (inl less) (inr (same, _)) = let e : number_of l.failed ≡ number_of m.failed = ap number_of same in absurd (omega (arith, less, e))
+      go (inr (same, _)) (inl more) = let e : number_of m.failed ≡ number_of l.failed = ap number_of same in absurd (omega (arith, more, e))
+      go (inr (same, there)) (inr (_, back)) =
+          let numbers : f.number ≡ g.number = l.number_is ∙ (ap number_of (sym same) ∙ sym m.number_is) in
+          let at_g = subst (λ (c : Condition). Suits (has_number c) g.place) same (place_of m.failed g.place m.fails) in
+          let places : f.place ≡ g.place = one_place (has_number l.failed) f.place g.place (place_of l.failed f.place l.fails) at_g there back in
+          ap₂ fault_of numbers places
+
+  pub one_accepted : (m n : Marked) → IsAccepted content policy now m → IsAccepted content policy now n → m ≡ n
+  one_accepted m n a b =
+      let same : a.token ≡ b.token = tokens.one content a.token b.token a.is_token b.is_token in
+      one_opening content policy now b.token b.is_token m n (subst (λ (t : Token). Opens t m) same a.opens) b.opens
