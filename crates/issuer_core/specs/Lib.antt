@@ -8,6 +8,7 @@ pub mod Issued
 pub mod Laws
 pub mod Reserved
 pub mod Refusals
+pub mod RefusalLine
 pub mod Judging
 pub mod Salts
 pub mod Clash

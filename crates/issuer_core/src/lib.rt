@@ -9,6 +9,7 @@ mod hidden;
 mod judging;
 mod laying;
 mod order;
+mod refusal;
 mod reserved;
 mod salts;
 #[cfg(test)]
@@ -19,3 +20,4 @@ pub use errors::IssueError;
 pub use issuing::issue;
 pub use judging::{DEPTH_MAX, judge};
 pub use order::{Decoy, DecoyList, Order};
+pub use refusal::refusal_line;
