@@ -7,3 +7,6 @@ pub mod Refusals
 pub mod Judging
 pub mod Salts
 pub mod Clash
+pub mod FileLists
+pub mod KeyText
+pub mod OrderFile

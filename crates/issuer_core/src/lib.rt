@@ -3,9 +3,13 @@
 
 mod clash;
 mod errors;
+mod file_list;
 mod hidden;
 mod judging;
+mod key_text;
+pub mod laws;
 mod order;
+mod order_file;
 mod reserved;
 mod salts;
 #[cfg(test)]
@@ -15,3 +19,4 @@ pub use clash::first_clash;
 pub use errors::IssueError;
 pub use judging::{DEPTH_MAX, judge};
 pub use order::{Decoy, DecoyList, Order};
+pub use order_file::{IssueFile, read_order};
