@@ -1,5 +1,5 @@
 -- What the laws say.
-use Rattle.std.specs.Prelude.{ℕ, ◌+◌, List, length}
+use Rattle.std.specs.Prelude.{◌≡◌, ℕ, ◌+◌, List, length}
 use Rattle.claim_tree.specs.Tree.{Text, Tree}
 use Rattle.digest_sites.specs.Given.{Given}
 use Rattle.rebuild_core.specs.Conditions.{IsSound}
@@ -10,6 +10,9 @@ use Rattle.issuer_core.specs.Decoys.{decoys_of}
 use Rattle.issuer_core.specs.Digests.{Maker, hidden_of, AllDiffer}
 use Rattle.issuer_core.specs.Laid.{IsLaid}
 use Rattle.issuer_core.specs.Issued.{IsIssuedFor}
+use Rattle.issuer_core.specs.Written.{maker_of, IsLaidOut}
+use Rattle.compact_form.specs.declared.parts.Parts.{Parts}
+use Rattle.hmac_sign.specs.Hmac.{IsGood}
 
 abbrev pub LaidIsIssued : Type 0
 LaidIsIssued =
@@ -25,3 +28,8 @@ abbrev pub IssuedIsSound : Type 0
 IssuedIsSound =
     (maker : Maker) (o : Order) (p : Tree) (given : List Given)
     → IsGoodOrder o → IsIssuedFor maker o p given → IsReadable p given → IsSound p given
+
+abbrev pub OneToken : Type 0
+OneToken =
+    (seed : List ℕ) (o : Order) (key : List ℕ) (parts other : Parts)
+    → IsLaidOut (maker_of seed) o (IsGood key) parts → IsLaidOut (maker_of seed) o (IsGood key) other → parts ≡ other

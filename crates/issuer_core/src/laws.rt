@@ -1,7 +1,7 @@
 //! What the definitions say together. Each law holds for every value.
 ghost use Rattle.std.specs.Prelude.{◌≡◌, ◌≢◌, ℕ, List};
 ghost use Rattle.claim_tree.specs.declared.file_fault.FileFault.{FileFault};
-ghost use Rattle.issuer_core.specs.Laws.{LaidIsIssued, LaidIsReadable, IssuedIsSound};
+ghost use Rattle.issuer_core.specs.Laws.{LaidIsIssued, LaidIsReadable, IssuedIsSound, OneToken};
 ghost use Rattle.issuer_core.specs.Order.{order_of};
 ghost use Rattle.issuer_core.specs.OrderFile.{IsOrderFile, IsOrderRefused};
 ghost use Rattle.issuer_core.specs.declared.order_file.IssueFile.{IssueFile};
@@ -28,4 +28,9 @@ pub fn one_order()
     ensures not_both { (bytes : List ℕ) (said : IssueFile) (fault : FileFault) → IsOrderFile bytes said → IsOrderRefused bytes fault → fault ≡ FileFault.Memory }
     ensures one_fault { (bytes : List ℕ) (fault other : FileFault) → IsOrderRefused bytes fault → IsOrderRefused bytes other
         → fault ≢ FileFault.Memory → other ≢ FileFault.Memory → fault ≡ other }
+{}
+
+/// With a key an order and a seed have one token.
+pub fn one_token()
+    ensures { OneToken }
 {}
