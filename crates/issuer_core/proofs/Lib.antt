@@ -19,6 +19,7 @@ pub mod LaidBounds
 pub mod OneLaid
 pub mod FromLaid
 pub mod OneToken
+pub mod OneRefusal
 mod Examples
 pub mod Firsts
 pub mod ReservedPlaces

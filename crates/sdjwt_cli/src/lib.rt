@@ -5,6 +5,9 @@
 #![tactic(auto)]
 
 mod command;
+mod issue;
+#[cfg(test)]
+mod issue_tests;
 pub mod laws;
 mod lines;
 mod show;
