@@ -10,6 +10,8 @@ mod key_text;
 pub mod laws;
 mod order;
 mod order_file;
+#[cfg(test)]
+mod order_file_tests;
 mod reserved;
 mod salts;
 #[cfg(test)]

@@ -13,9 +13,7 @@ ghost use Rattle.issuer_core.specs.OrderFile.{IsValue, IsDecoy, IsOrderFile, IsO
 use crate::file_list::{pointer_list_member, pointer_of};
 use crate::key_text::key_member;
 use crate::{Decoy, DecoyList, Order};
-use claim_tree::{
-    Field, FileFault, Tree, TreeMap, copy, read_members, text_member, whole_up_to,
-};
+use claim_tree::{Field, FileFault, Tree, TreeMap, copy, read_members, text_member, whole_up_to};
 use compact_form::FILE_MAX;
 use hmac_sign::Hs256Key;
 use sd_outside::NoMemory;
