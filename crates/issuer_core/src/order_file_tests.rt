@@ -37,15 +37,17 @@ fn an_order_says_what_its_file_says(rt: HostRuntime) -> Result<(), Fail> {
     let payload = write(alloc, &least.order.payload)?;
     assert_eq!(rt; payload.as_str(), "[1,{}]");
     assert_eq!(rt; places(alloc, &least)?.as_str(), "");
-    assert!(rt; least.order.kid.is_none() && least.order.typ.is_none());
+    let said = least.order;
+    assert!(rt; said.kid.is_none() && said.typ.is_none());
     let whole = order(
         alloc,
         "{\"iss\":\"i\"}",
         ",\"hide\":[\"/a~1b\",\"\",\"/a~1b\"],\"decoys\":[{\"count\":4096,\"at\":\"/n\"},{\"at\":\"\",\"count\":0}],\"kid\":\"k\",\"typ\":\"\"",
     )?;
     assert_eq!(rt; places(alloc, &whole)?.as_str(), "/a~1b  /a~1b /n=4096 =0 ");
-    assert_eq!(rt; whole.order.kid.ok_or("no kid")?.as_str(), "k");
-    assert_eq!(rt; whole.order.typ.ok_or("no typ")?.as_str(), "");
+    let said = whole.order;
+    assert_eq!(rt; said.kid.ok_or("no kid")?.as_str(), "k");
+    assert_eq!(rt; said.typ.ok_or("no typ")?.as_str(), "");
     let empty = order(alloc, "null", ",\"hide\":[],\"decoys\":[]")?;
     assert_eq!(rt; places(alloc, &empty)?.as_str(), "");
     Ok(())
