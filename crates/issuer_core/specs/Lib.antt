@@ -2,3 +2,8 @@ pub mod Code
 pub mod Order
 pub mod Decoys
 pub mod GoodOrder
+pub mod Digests
+pub mod Laid
+pub mod Salts
+pub mod Laying
+pub mod Seed

@@ -1,6 +1,11 @@
 //! Issuing an SD-JWT, RFC 9901 section 4.2: places of a payload hidden behind the digests of their disclosures, and decoys.
 #![tactic(auto)]
 
+mod decoys;
+mod laying;
 mod order;
+mod salts;
+#[cfg(test)]
+mod tests;
 
 pub use order::{Decoy, DecoyList, Order};

@@ -57,7 +57,7 @@ after_at depth p [] j d s l = absurd (omega arith)
 after_at depth p (x ∷ xs) zero d s l = s.0
 after_at depth p (x ∷ xs) (suc j) d s l = after_at depth p xs j d s.1 (omega arith)
 
-sorted_pair : (depth : ℕ) (xs : List Path) (i j : ℕ) (d : Path) → AreSorted (rests depth xs) → i ≤ j → j < length xs → path_order (drop depth (get_or xs i d)) (drop depth (get_or xs j d)) ≢ Greater
+pub sorted_pair : (depth : ℕ) (xs : List Path) (i j : ℕ) (d : Path) → AreSorted (rests depth xs) → i ≤ j → j < length xs → path_order (drop depth (get_or xs i d)) (drop depth (get_or xs j d)) ≢ Greater
 sorted_pair depth [] i j d s l h = absurd (omega arith)
 sorted_pair depth (x ∷ xs) zero zero d s l h = tie_not_greater (path_order (drop depth x) (drop depth x)) (tied_itself paths_total (drop depth x))
 sorted_pair depth (x ∷ xs) zero (suc j) d s l h = after_at depth (drop depth x) xs j d s.0 (omega arith)
@@ -303,13 +303,13 @@ none_ends k t [] s = refl
 none_ends k t ([] ∷ ps) s = absurd (s.0 refl)
 none_ends k t ((l ∷ q) ∷ ps) s = none_ends k t ps s.1
 
-at_end : (depth : ℕ) (x : Path) → length x ≤ depth → drop depth x ≡ []
+pub at_end : (depth : ℕ) (x : Path) → length x ≤ depth → drop depth x ≡ []
 at_end zero [] l = refl
 at_end zero (k ∷ x) l = absurd (omega arith)
 at_end (suc depth) [] l = refl
 at_end (suc depth) (k ∷ x) l = at_end depth x (omega arith)
 
-goes_on : (depth : ℕ) (x : Path) → depth < length x → (k : Text) × (t : Path) × (drop depth x ≡ k ∷ t)
+pub goes_on : (depth : ℕ) (x : Path) → depth < length x → (k : Text) × (t : Path) × (drop depth x ≡ k ∷ t)
 goes_on zero (k ∷ x) l = (k, x, refl)
 goes_on zero [] l = absurd (omega arith)
 goes_on (suc depth) [] l = absurd (omega arith)

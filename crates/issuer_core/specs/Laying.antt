@@ -1,0 +1,97 @@
+-- For private functions: what the walk that hides has and makes.
+use Rattle.std.specs.Prelude.{◌≡◌, ℕ, zero, suc, ◌+◌, List, [], ◌∷◌, ◌++◌, length, map, Option, Some, None, if◌then◌else◌}
+use Rattle.claim_tree.specs.Tree.{Text, text, Tree, leaf, Elements, no_elements, element}
+use Rattle.claim_tree.specs.View.{tree_of}
+use Rattle.claim_tree.specs.declared.tree.Tree as code
+use Rattle.digest_sites.specs.Given.{Given}
+use Rattle.marked_tree.specs.Marked.{Marked, marked_leaf, marked_array, marked_object, MarkedElements, no_marked_elements, marked_element, MarkedMembers, no_marked_members, marked_member, weight, mark_weight}
+use Rattle.marked_tree.specs.Places.{Path, same_path}
+use Rattle.marked_tree.specs.Rests.{rests, AreSorted}
+use Rattle.disclosure.specs.Digest.{digest_of}
+use Rattle.disclosure.specs.Disclosure.{disclosure_text}
+use Rattle.disclosure.specs.declared.digests.HashAlg.{HashAlg}
+use Rattle.issuer_core.specs.Laid.{lay}
+use Rattle.issuer_core.specs.declared.decoys.Decoys.{Decoys}
+use Rattle.issuer_core.specs.declared.laying.Part.{Part}
+
+-- ---- texts by their numbers
+
+-- the text at a place, or an empty one
+abbrev pub nth : List Text → ℕ → Text
+nth [] k = []
+nth (t ∷ ts) zero = t
+nth (t ∷ ts) (suc k) = nth ts k
+
+abbrev pub digest : Text → Text
+digest t = digest_of HashAlg.Sha256 t
+
+-- the digest of the text at a place
+abbrev pub digest_at : List Text → ℕ → Text
+digest_at texts k = digest (nth texts k)
+
+-- the text of disclosure k
+abbrev pub salted : List Text → ℕ → Option Text → Tree → Text
+salted salts k name value = disclosure_text (leaf (text (nth salts k))) name value
+
+-- the texts of disclosures, where the first has the number k
+abbrev pub made_texts : (ℕ → Option Text → Tree → Text) → ℕ → List Given → List Text
+made_texts made k [] = []
+made_texts made k (x ∷ xs) = made k x.name x.value ∷ made_texts made (suc k) xs
+
+-- elements, and then others
+abbrev pub elements_joined : Elements → Elements → Elements
+elements_joined no_elements others = others
+elements_joined (element t es) others = element t (elements_joined es others)
+
+-- ---- marks in closing order
+
+abbrev pub one : ℕ → ℕ
+one i = 1
+
+-- a mark is the number n
+abbrev pub IsNumbered : Option ℕ → ℕ → Type 0
+IsNumbered None n = Unit {0}
+IsNumbered (Some k) n = k ≡ n
+
+-- the marks are numbered in closing order, from n
+abbrev mutual
+  pub ClosesFrom : ℕ → Marked → Type 0
+  ClosesFrom n (marked_leaf l) = Unit {0}
+  ClosesFrom n (marked_array es) = ElementsClose n es
+  ClosesFrom n (marked_object ms) = MembersClose n ms
+
+  pub ElementsClose : ℕ → MarkedElements → Type 0
+  ElementsClose n no_marked_elements = Unit {0}
+  ElementsClose n (marked_element k t es) = ClosesFrom n t × IsNumbered k (n + weight one t) × ElementsClose (n + (mark_weight one k + weight one t)) es
+
+  pub MembersClose : ℕ → MarkedMembers → Type 0
+  MembersClose n no_marked_members = Unit {0}
+  MembersClose n (marked_member name k t ms) = ClosesFrom n t × IsNumbered k (n + weight one t) × MembersClose (n + (mark_weight one k + weight one t)) ms
+
+-- ---- decoys at their places
+
+-- the digests whose path is this one
+abbrev pub placed : List Path → List Text → Path → List Text
+placed [] digests at = []
+placed (path ∷ paths) [] at = []
+placed (path ∷ paths) (digest ∷ digests) at = (if same_path path at then digest ∷ [] else []) ++ placed paths digests at
+
+-- seen from their place
+abbrev pub placed_at : Decoys → Path → List Text
+placed_at d at = placed (rests d.depth d.paths.now) d.digests.now at
+
+pub record ArePlaced (d : Decoys) : Type 0 where
+  pub sorted : AreSorted (rests d.depth d.paths.now)
+  pub each : length d.digests.now ≡ length d.paths.now
+
+-- dec has the digests at each place
+abbrev pub Tells : Decoys → (Path → List Text) → Type 0
+Tells d dec = (at : Path) → placed_at d at ≡ dec at
+
+-- ---- a part
+
+-- what is shown is laid, and what is hidden has the digest of its mark
+abbrev pub IsPart : (Path → List Text) → (ℕ → Text) → Option ℕ → Marked → Part → Type 0
+IsPart dec dg None m (Part.Shown t) = tree_of t ≡ lay dec dg m
+IsPart dec dg (Some k) m (Part.Hidden d) = d ≡ dg k
+IsPart dec dg k m part = ⊥
