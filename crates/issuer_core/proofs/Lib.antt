@@ -1,4 +1,3 @@
-pub mod SaltSteps
 pub mod PlacedDecoys
 pub mod SortedEntries
 pub mod SortedDigests
@@ -6,3 +5,22 @@ pub mod LaidValues
 pub mod LayingSteps
 pub mod LayingElements
 pub mod LayingMembers
+pub mod Plain
+pub mod PutSwaps
+pub mod SdMembers
+pub mod LaidOpens
+pub mod DecoyPlaces
+pub mod Agrees
+pub mod Closing
+pub mod ItemNumbers
+pub mod LaidItems
+pub mod DecoySums
+pub mod LaidSums
+pub mod LaidLists
+pub mod LaidOrdered
+pub mod LaidIssued
+pub mod LaidDecoys
+pub mod IssuedSound
+pub mod WithAlg
+pub mod LaidBounds
+mod Examples

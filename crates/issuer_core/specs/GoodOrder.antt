@@ -1,5 +1,5 @@
 -- What refusals 51, 52, 53 and 57 ask of an order, and what is so of every payload that a machine holds.
-use Rattle.std.specs.Prelude.{◌<◌, ◌≤◌, ◌^◌, List, Option, Some}
+use Rattle.std.specs.Prelude.{◌<◌, ◌≤◌, ◌^◌, Option, Some}
 use Rattle.claim_tree.specs.Tree.{Tree, leaf, array, object, Elements, no_elements, element, Members, no_members, member, depth, elements_len, IsOrdered}
 use Rattle.claim_tree.specs.Lists.{In}
 use Rattle.claim_tree.specs.Path.{tree_at}

@@ -4,6 +4,8 @@ pub mod Decoys
 pub mod GoodOrder
 pub mod Digests
 pub mod Laid
-pub mod Salts
 pub mod Laying
 pub mod Seed
+pub mod Issued
+pub mod Laws
+pub mod Closing

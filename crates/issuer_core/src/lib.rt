@@ -3,8 +3,8 @@
 
 mod decoys;
 mod laying;
+pub mod laws;
 mod order;
-mod salts;
 #[cfg(test)]
 mod tests;
 

@@ -12,3 +12,4 @@ pub mod Numbers
 pub mod Cursor
 pub mod Whole
 pub mod Free
+pub mod AllShown
