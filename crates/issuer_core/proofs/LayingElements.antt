@@ -9,7 +9,8 @@ use Rattle.marked_tree.specs.Marked.{Marked, MarkedElements, MarkedMembers, mark
 use Rattle.marked_tree.specs.Places.{Path}
 use Rattle.marked_tree.proofs.Names.{Ascend, ascend}
 use Rattle.issuer_core.specs.Laid.{with_sd, sorted, digest_object, digest_elements, hidden_digests, laid_items, laid_elements, laid_members, own_item, lay, lay_elements, lay_members}
-use Rattle.issuer_core.specs.Laying.{nth, digest, digest_at, salted, made_texts, elements_joined, one, IsNumbered, ClosesFrom, ElementsClose, MembersClose, placed_at, Tells, IsPart}
+use Rattle.issuer_core.specs.Laying.{nth, digest, digest_at, salted, made_texts, elements_joined, placed_at, Tells, IsPart}
+use Rattle.issuer_core.specs.Closing.{one, IsNumbered, ClosesFrom, ElementsClose, MembersClose}
 use Rattle.issuer_core.specs.declared.decoys.Decoys.{Decoys}
 use Rattle.issuer_core.specs.declared.laying.Part.{Part}
 

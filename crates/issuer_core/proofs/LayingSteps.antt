@@ -1,5 +1,6 @@
 -- The texts of disclosures, some more at each step.
 use Rattle.std.proofs.Common.{◌≡◌, ℕ, zero, suc, ◌+◌, ◌≤◌, List, [], ◌∷◌, ◌++◌, length, map, append_assoc, Option, None, Some, Less, decimal, refl, sym, ap, subst, ◌∙◌, arith}
+use Rattle.std.specs.List.{slice_get}
 use Rattle.std.proofs.lemmas.List.{length-append}
 use Rattle.claim_tree.specs.Tree.{Text, Tree, Elements, no_elements, element, Members, no_members, member, pushed, inserted, elements_len, names, IsBefore, IsBeforeAll, MembersOrdered, depth, nodes, elements_depth, members_depth, elements_nodes, members_nodes, IsRanged, ElementsRanged, MembersRanged}
 use Rattle.claim_tree.specs.View.{tree_of}
@@ -9,7 +10,8 @@ use Rattle.marked_tree.specs.Marked.{Marked, MarkedElements, MarkedMembers, mark
 use Rattle.marked_tree.specs.Places.{Path}
 use Rattle.marked_tree.proofs.Names.{Ascend, ascend}
 use Rattle.issuer_core.specs.Laid.{digest_object, digest_elements, hidden_digests, laid_items, laid_elements, laid_members, own_item, lay, lay_elements, lay_members}
-use Rattle.issuer_core.specs.Laying.{nth, digest, digest_at, salted, made_texts, elements_joined, one, IsNumbered, ClosesFrom, ElementsClose, MembersClose, placed_at, Tells, IsPart}
+use Rattle.issuer_core.specs.Laying.{nth, digest, digest_at, salted, made_texts, elements_joined, placed_at, Tells, IsPart}
+use Rattle.issuer_core.specs.Closing.{one, IsNumbered, ClosesFrom, ElementsClose, MembersClose}
 use Rattle.issuer_core.specs.declared.decoys.Decoys.{Decoys}
 use Rattle.issuer_core.specs.declared.laying.Part.{Part}
 
@@ -18,6 +20,11 @@ use Rattle.issuer_core.specs.declared.laying.Part.{Part}
 pub nth_seam : (ts : List Text) (t : Text) (us : List Text) → nth (ts ++ t ∷ us) (length ts) ≡ t
 nth_seam [] t us = refl
 nth_seam (x ∷ ts) t us = nth_seam ts t us
+
+pub nth_got : (ts : List Text) (k : ℕ) (t : Text) → Some t ≡ slice_get ts k → nth ts k ≡ t
+nth_got [] k t e = cc
+nth_got (x ∷ ts) zero t e = cc
+nth_got (x ∷ ts) (suc k) t e = nth_got ts k t e
 
 abbrev Made : Type 0
 Made = ℕ → Option Text → Tree → Text

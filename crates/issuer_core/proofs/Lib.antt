@@ -1,10 +1,3 @@
-pub mod PlacedDecoys
-pub mod SortedEntries
-pub mod SortedDigests
-pub mod LaidValues
-pub mod LayingSteps
-pub mod LayingElements
-pub mod LayingMembers
 pub mod Plain
 pub mod PutSwaps
 pub mod SdMembers
@@ -23,4 +16,20 @@ pub mod LaidDecoys
 pub mod IssuedSound
 pub mod WithAlg
 pub mod LaidBounds
+pub mod PlacedDecoys
+pub mod SortedEntries
+pub mod SortedDigests
+pub mod LayingSteps
+pub mod LayingElements
+pub mod LayingMembers
 mod Examples
+pub mod Firsts
+pub mod ReservedPlaces
+pub mod SaltSteps
+pub mod Clashes
+pub mod Counts
+pub mod Lowest
+pub mod Judged
+pub mod ListForms
+pub mod KeyTexts
+pub mod OrderFiles

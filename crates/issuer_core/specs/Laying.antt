@@ -4,13 +4,17 @@ use Rattle.claim_tree.specs.Tree.{Text, text, Tree, leaf, Elements, no_elements,
 use Rattle.claim_tree.specs.View.{tree_of}
 use Rattle.claim_tree.specs.declared.tree.Tree as code
 use Rattle.digest_sites.specs.Given.{Given}
-use Rattle.marked_tree.specs.Marked.{Marked, marked_leaf, marked_array, marked_object, MarkedElements, no_marked_elements, marked_element, MarkedMembers, no_marked_members, marked_member, weight, mark_weight}
+use Rattle.marked_tree.specs.Marked.{Marked}
 use Rattle.marked_tree.specs.Places.{Path, same_path}
 use Rattle.marked_tree.specs.Rests.{rests, AreSorted}
 use Rattle.disclosure.specs.Digest.{digest_of}
 use Rattle.disclosure.specs.Disclosure.{disclosure_text}
 use Rattle.disclosure.specs.declared.digests.HashAlg.{HashAlg}
-use Rattle.issuer_core.specs.Laid.{lay}
+use Rattle.claim_tree.specs.Lists.{At}
+use Rattle.issuer_core.specs.Order.{Order}
+use Rattle.issuer_core.specs.Decoys.{decoys_of}
+use Rattle.issuer_core.specs.Digests.{Maker, hidden_of}
+use Rattle.issuer_core.specs.Laid.{lay, with_alg, IsLaid}
 use Rattle.issuer_core.specs.declared.decoys.Decoys.{Decoys}
 use Rattle.issuer_core.specs.declared.laying.Part.{Part}
 
@@ -43,31 +47,6 @@ abbrev pub elements_joined : Elements → Elements → Elements
 elements_joined no_elements others = others
 elements_joined (element t es) others = element t (elements_joined es others)
 
--- ---- marks in closing order
-
-abbrev pub one : ℕ → ℕ
-one i = 1
-
--- a mark is the number n
-abbrev pub IsNumbered : Option ℕ → ℕ → Type 0
-IsNumbered None n = Unit {0}
-IsNumbered (Some k) n = k ≡ n
-
--- the marks are numbered in closing order, from n
-abbrev mutual
-  pub ClosesFrom : ℕ → Marked → Type 0
-  ClosesFrom n (marked_leaf l) = Unit {0}
-  ClosesFrom n (marked_array es) = ElementsClose n es
-  ClosesFrom n (marked_object ms) = MembersClose n ms
-
-  pub ElementsClose : ℕ → MarkedElements → Type 0
-  ElementsClose n no_marked_elements = Unit {0}
-  ElementsClose n (marked_element k t es) = ClosesFrom n t × IsNumbered k (n + weight one t) × ElementsClose (n + (mark_weight one k + weight one t)) es
-
-  pub MembersClose : ℕ → MarkedMembers → Type 0
-  MembersClose n no_marked_members = Unit {0}
-  MembersClose n (marked_member name k t ms) = ClosesFrom n t × IsNumbered k (n + weight one t) × MembersClose (n + (mark_weight one k + weight one t)) ms
-
 -- ---- decoys at their places
 
 -- the digests whose path is this one
@@ -75,6 +54,13 @@ abbrev pub placed : List Path → List Text → Path → List Text
 placed [] digests at = []
 placed (path ∷ paths) [] at = []
 placed (path ∷ paths) (digest ∷ digests) at = (if same_path path at then digest ∷ [] else []) ++ placed paths digests at
+
+-- entries: a digest beside its path
+abbrev pub paths_in : List (Path × Text) → List Path
+paths_in entries = map (λ e. e.0) entries
+
+abbrev pub digests_in : List (Path × Text) → List Text
+digests_in entries = map (λ e. e.1) entries
 
 -- seen from their place
 abbrev pub placed_at : Decoys → Path → List Text
@@ -95,3 +81,16 @@ abbrev pub IsPart : (Path → List Text) → (ℕ → Text) → Option ℕ → M
 IsPart dec dg None m (Part.Shown t) = tree_of t ≡ lay dec dg m
 IsPart dec dg (Some k) m (Part.Hidden d) = d ≡ dg k
 IsPart dec dg k m part = ⊥
+
+-- ---- an order
+
+-- the payload and the disclosures' texts are laid for the order, and the digests are those of the disclosures and then of the decoys
+pub record IsLaidFor (maker : Maker) (o : Order) (payload : Tree) (texts digests : List Text) : Type 0 where
+  pub laid : Tree
+  pub given : List Given
+  pub dg : ℕ → Text
+  pub is_laid : IsLaid maker o laid given dg
+  pub payload_is : payload ≡ with_alg laid
+  pub texts_are : texts ≡ made_texts maker.disclosure 0 given
+  pub count : length digests ≡ hidden_of o + length (decoys_of o)
+  pub each : (k : ℕ) (d : Text) → At digests k d → d ≡ dg k

@@ -7,7 +7,8 @@ ghost use Rattle.marked_tree.specs.Places.{Path as Steps};
 ghost use Rattle.marked_tree.specs.View.{marked_of};
 ghost use Rattle.issuer_core.specs.Laid as spec;
 ghost use Rattle.issuer_core.specs.Laid.{sorted, texts_array, with_sd, digest_elements, hidden_digests, laid_items, laid_elements, laid_members, own_item, lay_elements, lay_members};
-ghost use Rattle.issuer_core.specs.Laying.{digest as digest_by, digest_at, salted, made_texts, elements_joined, one, IsNumbered, ClosesFrom, ElementsClose, MembersClose, placed_at, ArePlaced, Tells, IsPart};
+ghost use Rattle.issuer_core.specs.Laying.{digest as digest_by, digest_at, salted, made_texts, elements_joined, placed_at, ArePlaced, Tells, IsPart, IsLaidFor};
+ghost use Rattle.issuer_core.specs.Closing.{one, IsNumbered, ClosesFrom, ElementsClose, MembersClose};
 
 use crate::Order;
 use crate::decoys::{Decoys, sort_decoys};

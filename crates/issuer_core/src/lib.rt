@@ -1,11 +1,26 @@
 //! Issuing an SD-JWT, RFC 9901 section 4.2: places of a payload hidden behind the digests of their disclosures, and decoys.
 #![tactic(auto)]
 
+mod clash;
 mod decoys;
-mod laying;
+mod errors;
+mod file_list;
+mod hidden;
+mod judging;
+mod key_text;
 pub mod laws;
+mod laying;
+#[cfg(test)]
+mod laying_tests;
 mod order;
+mod order_file;
+mod reserved;
+mod salts;
 #[cfg(test)]
 mod tests;
 
+pub use clash::first_clash;
+pub use errors::IssueError;
+pub use judging::{DEPTH_MAX, judge};
 pub use order::{Decoy, DecoyList, Order};
+pub use order_file::{IssueFile, read_order};

@@ -1,200 +1,215 @@
-use crate::laying::{Laid, lay_order};
-use crate::{Decoy, DecoyList, Order};
-use b64url_text::decode;
-use claim_tree::{PathList, read, read_pointer, write};
+use crate::salts::salts_of;
+use crate::{Decoy, DecoyList, IssueError, Order, first_clash, judge};
+use claim_tree::{PathList, print_path, read, read_pointer};
 use sd_outside::{TextBox, TextList};
 use std::alloc::Global;
 use std::test::Fail;
 
-fn paths_of(alloc: Global, pointers: &[&str]) -> Result<PathList, Fail> {
+#[test]
+fn salts_of_the_zero_seed(rt: HostRuntime) -> Result<(), Fail> {
+    let salts = salts_of(rt.alloc(), &[0; 32], 3)?;
+    assert_eq!(rt; salts.len(), 3);
+    for (k, salt) in [
+        "drjgraDxPZBAXWrlU4a9KA",
+        "vdIZuKCN7RqoNu_Mi3cNxw",
+        "2kFZfFFXSI13JOA_uNhKNw",
+    ]
+    .into_iter()
+    .enumerate()
+    {
+        assert_eq!(rt; salts.at(k).map(|text| text.as_str()), Some(salt));
+    }
+    Ok(())
+}
+
+// The texts between blanks.
+fn texts_of(alloc: Global, texts: &str) -> Result<TextList, Fail> {
+    let mut list = TextList::new(alloc);
+    for text in texts.split(' ') {
+        list.push(TextBox::make(alloc, text)?)?;
+    }
+    Ok(list)
+}
+
+#[test]
+fn the_first_clash_is_named_by_its_places(rt: HostRuntime) -> Result<(), Fail> {
+    let alloc = rt.alloc();
+    for (texts, clash) in [
+        ("x y x", Some((0, 2))),
+        ("x y", None),
+        ("x", None),
+        ("a b c b a c", Some((1, 3))),
+        ("a a a", Some((0, 1))),
+        ("a b c d d a", Some((3, 4))),
+        ("a A", None),
+    ] {
+        let list = texts_of(alloc, texts)?;
+        assert_eq!(rt; first_clash(alloc, &list)?, clash, "{texts}");
+    }
+    assert_eq!(rt; first_clash(alloc, &TextList::new(alloc))?, None);
+    Ok(())
+}
+
+// The paths of pointers with blanks between them; `-` alone is none.
+fn paths_of(alloc: Global, pointers: &str) -> Result<PathList, Fail> {
     let mut paths = PathList::new(alloc);
-    for pointer in pointers {
-        paths.push(read_pointer(alloc, pointer).map_err(|_| "no pointer")?)?;
+    for pointer in pointers.split(' ') {
+        if pointer != "-" {
+            paths.push(read_pointer(alloc, pointer).map_err(|_| "no pointer")?)?;
+        }
     }
     Ok(paths)
 }
 
-fn decoys_of(alloc: Global, entries: &[(&str, u32)]) -> Result<DecoyList, Fail> {
+// Decoys, each as `pointer=count`.
+fn decoys_of(alloc: Global, entries: &str) -> Result<DecoyList, Fail> {
     let mut decoys = DecoyList::new(alloc);
-    for (pointer, count) in entries {
-        let at = read_pointer(alloc, pointer).map_err(|_| "no pointer")?;
-        decoys.push(Decoy { at, count: *count })?;
+    for entry in entries.split(' ') {
+        if let Some((pointer, count)) = entry.split_once('=') {
+            let at = read_pointer(alloc, pointer).map_err(|_| "no pointer")?;
+            let count = count.parse::<u32>().map_err(|_| "no number")?;
+            decoys.push(Decoy { at, count })?;
+        }
     }
     Ok(decoys)
 }
 
-fn order_of(
-    alloc: Global,
-    payload: &str,
-    hide: &[&str],
-    decoys: &[(&str, u32)],
-) -> Result<Order, Fail> {
-    Ok(Order {
-        payload: read(alloc, payload.as_bytes()).map_err(|_| "not read")?,
+// The number of the refusal of an order, with its place, or `good`.
+fn judged(alloc: Global, payload: &str, hide: &str, decoys: &str) -> Result<String, Fail> {
+    let payload = read(alloc, payload.as_bytes()).map_err(|_| "not read")?;
+    let order = Order {
+        payload,
         hide: paths_of(alloc, hide)?,
         decoys: decoys_of(alloc, decoys)?,
         kid: None,
         typ: None,
-    })
+    };
+    match judge(alloc, &order) {
+        Ok(()) => Ok(String::from_str(alloc, "good")?),
+        Err(error) => printed(alloc, error),
+    }
 }
 
-// The form, with the digest of each number that stands between two signs #.
-fn push_filled(text: &mut String, form: &str, digests: &TextList) -> Result<(), Fail> {
-    for (i, piece) in form.split('#').enumerate() {
-        if i % 2 == 0 {
-            text.push_str(piece)?;
-        } else {
-            let k = piece.parse::<usize>().map_err(|_| "no number")?;
-            text.push_str(digests.at(k).ok_or("no such digest")?.as_str())?;
+fn printed(alloc: Global, error: IssueError) -> Result<String, Fail> {
+    match error {
+        IssueError::PayloadNotObject => Ok(String::from_str(alloc, "51")?),
+        IssueError::ReservedName(path) => {
+            let pointer = print_path(alloc, &path)?;
+            let pointer = pointer.as_str();
+            Ok(format!(in alloc; "52 {pointer}")?)
         }
+        IssueError::TooDeep => Ok(String::from_str(alloc, "53")?),
+        IssueError::RootMarked(k) => Ok(format!(in alloc; "54 {k}")?),
+        IssueError::NoSuchPlace(k) => Ok(format!(in alloc; "55 {k}")?),
+        IssueError::ProtectedClaim(k) => Ok(format!(in alloc; "56 {k}")?),
+        IssueError::DecoyPlace(k) => Ok(format!(in alloc; "57 {k}")?),
+        IssueError::TooManyHidden => Ok(String::from_str(alloc, "58")?),
+        IssueError::TooManyDecoys => Ok(String::from_str(alloc, "59")?),
+        _ => Err("not judged")?,
+    }
+}
+
+const LIST: &str = r#"{"n":["A","B","C"]}"#;
+
+#[test]
+fn orders_are_refused_by_number_and_then_by_place(rt: HostRuntime) -> Result<(), Fail> {
+    let alloc = rt.alloc();
+    for (payload, hide, decoys, answer) in [
+        ("[]", "-", "", "51"),
+        ("7", "", "/x=1", "51"),
+        ("{}", "-", "", "good"),
+        (r#"{"list":[{"...":1}]}"#, "-", "", "52 /list/0/..."),
+        (r#"{"list":[{"..":1}]}"#, "-", "", "good"),
+        (r#"{"list":[{"...":"x"}]}"#, "", "", "52 /list/0/..."),
+        (r#"{"a":{"_sd_alg":1}}"#, "-", "", "52 /a/_sd_alg"),
+        (r#"{"_sd":[],"!":{"_sd":1}}"#, "-", "", "52 /_sd"),
+        (r#"{"!":{"_sd":1},"...":1}"#, "-", "", "52 /!/_sd"),
+        (r#"{"...":{"_sd":1},"a":1}"#, "-", "", "52 /..."),
+        (
+            r#"{"a/b":[0,{"~":{"_sd":1}}]}"#,
+            "-",
+            "",
+            "52 /a~1b/1/~0/_sd",
+        ),
+        (r#"{"exp":5}"#, "", "", "54 0"),
+        (r#"{"exp":5}"#, "/nowhere ", "", "54 1"),
+        (r#"{"exp":5}"#, "/nbf", "/x=1", "55 0"),
+        (r#"{"cnf":5}"#, "/cnf/x", "", "55 0"),
+        (r#"{"exp":5,"x":1}"#, "/x /exp /y", "", "55 2"),
+        (r#"{"exp":5}"#, "/exp", "/x=1", "56 0"),
+        (r#"{"cnf":{"x":1},"y":1}"#, "/y /cnf/x", "", "56 1"),
+        (r#"{"Exp":5}"#, "/Exp", "", "good"),
+        (r#"{"a":{"exp":5}}"#, "/a/exp", "", "good"),
+        (LIST, "/n/0 /n/2", "=2 /n=3", "good"),
+        (LIST, "/n/00", "", "55 0"),
+        (LIST, "/n/0", "/x=1", "57 0"),
+        (LIST, "/n/0", "/n/0=1", "57 0"),
+        (LIST, "/n/0", "/n=1 /x=0", "57 1"),
+        (LIST, "-", "=4096 /n=0", "good"),
+        (LIST, "-", "=4096 /n=1", "59"),
+        (LIST, "-", "=2048 /n=2048", "good"),
+        (LIST, "-", "=4294967295 =4294967295", "59"),
+    ] {
+        let line = judged(alloc, payload, hide, decoys)?;
+        assert_eq!(rt; line.as_str(), answer, "{payload} {hide} {decoys}");
     }
     Ok(())
 }
 
-// The payload and the JSON of each disclosure, each with a line feed.
-fn printed(alloc: Global, laid: &Laid) -> Result<String, Fail> {
-    let mut lines = String::new(alloc);
-    lines.push_str(write(alloc, &laid.payload)?.as_str())?;
-    lines.push('\n')?;
-    for k in 0..laid.texts.len() {
-        let text = laid.texts.at(k).ok_or("no text")?;
-        let json = decode(alloc, text.as_str().as_bytes()).map_err(|_| "no base64url")?;
-        lines.push_str(std::str::from_utf8(json.bytes()).map_err(|_| "no UTF-8")?)?;
-        lines.push('\n')?;
+// A member that holds nested lists, with a value inside.
+fn nested(alloc: Global, depth: usize, inside: &str) -> Result<String, Fail> {
+    let mut text = String::from_str(alloc, r#"{"a":"#)?;
+    for _ in 0..depth {
+        text.push('[')?;
     }
-    Ok(lines)
+    text.push_str(inside)?;
+    for _ in 0..depth {
+        text.push(']')?;
+    }
+    text.push('}')?;
+    Ok(text)
 }
 
 #[test]
-fn what_is_hidden_stands_behind_digests(rt: HostRuntime) -> Result<(), Fail> {
+fn payloads_nest_to_a_hundred(rt: HostRuntime) -> Result<(), Fail> {
     let alloc = rt.alloc();
-    // the numbers are those of digests
-    let rows: [(&str, &[&str], &[(&str, u32)], &[&str]); 8] = [
-        (
-            r#"{"iss":"i","given":"Ann","age":40}"#,
-            &["/given", "/age"],
-            &[],
-            &[
-                r##"{"_sd":["#0#","#1#"],"_sd_alg":"sha-256","iss":"i"}"##,
-                r##"["drjgraDxPZBAXWrlU4a9KA","age",40]"##,
-                r##"["vdIZuKCN7RqoNu_Mi3cNxw","given","Ann"]"##,
-            ],
-        ),
-        // a place that stands twice, and decoys among the digests
-        (
-            r#"{"iss":"i","given":"Ann","age":40}"#,
-            &["/given", "/age", "/given"],
-            &[("", 2)],
-            &[
-                r##"{"_sd":["#3#","#0#","#2#","#1#"],"_sd_alg":"sha-256","iss":"i"}"##,
-                r##"["drjgraDxPZBAXWrlU4a9KA","age",40]"##,
-                r##"["vdIZuKCN7RqoNu_Mi3cNxw","given","Ann"]"##,
-            ],
-        ),
-        (
-            r#"{"n":["A","B","C"]}"#,
-            &["/n/0", "/n/2"],
-            &[],
-            &[
-                r##"{"_sd_alg":"sha-256","n":[{"...":"#0#"},"B",{"...":"#1#"}]}"##,
-                r##"["drjgraDxPZBAXWrlU4a9KA","A"]"##,
-                r##"["vdIZuKCN7RqoNu_Mi3cNxw","C"]"##,
-            ],
-        ),
-        // decoys behind the elements
-        (
-            r#"{"n":["A","B","C"]}"#,
-            &["/n/0", "/n/2"],
-            &[("/n", 3), ("", 2)],
-            &[
-                r##"{"_sd":["#6#","#5#"],"_sd_alg":"sha-256","n":[{"...":"#0#"},"B",{"...":"#1#"},{"...":"#2#"},{"...":"#3#"},{"...":"#4#"}]}"##,
-                r##"["drjgraDxPZBAXWrlU4a9KA","A"]"##,
-                r##"["vdIZuKCN7RqoNu_Mi3cNxw","C"]"##,
-            ],
-        ),
-        // inside what is hidden
-        (
-            r#"{"address":{"street":"S","zip":"1"}}"#,
-            &["/address", "/address/street"],
-            &[],
-            &[
-                r##"{"_sd":["#1#"],"_sd_alg":"sha-256"}"##,
-                r##"["drjgraDxPZBAXWrlU4a9KA","street","S"]"##,
-                r##"["vdIZuKCN7RqoNu_Mi3cNxw","address",{"_sd":["#0#"],"zip":"1"}]"##,
-            ],
-        ),
-        (
-            r#"{"l":[["a","b"],1]}"#,
-            &["/l/0", "/l/0/1"],
-            &[],
-            &[
-                r##"{"_sd_alg":"sha-256","l":[{"...":"#1#"},1]}"##,
-                r##"["drjgraDxPZBAXWrlU4a9KA","b"]"##,
-                r##"["vdIZuKCN7RqoNu_Mi3cNxw",["a",{"...":"#0#"}]]"##,
-            ],
-        ),
-        // decoys where nothing is, and in what is hidden
-        (
-            r#"{"a":[],"b":{},"c":{"d":[{}]}}"#,
-            &["/c"],
-            &[
-                ("/a", 1),
-                ("/b", 1),
-                ("/c/d/0", 1),
-                ("/c", 1),
-                ("/c/d", 1),
-                ("/a", 1),
-            ],
-            &[
-                r##"{"_sd":["#0#"],"_sd_alg":"sha-256","a":[{"...":"#1#"},{"...":"#6#"}],"b":{"_sd":["#2#"]}}"##,
-                r##"["drjgraDxPZBAXWrlU4a9KA","c",{"_sd":["#4#"],"d":[{"_sd":["#3#"]},{"...":"#5#"}]}]"##,
-            ],
-        ),
-        // names before `_sd`, and no empty `_sd`
-        (
-            r#"{"Z":1,"_a":{"x":1},"o":{"x":1}}"#,
-            &["/o/x"],
-            &[("/_a", 0)],
-            &[
-                r##"{"Z":1,"_a":{"x":1},"_sd_alg":"sha-256","o":{"_sd":["#0#"]}}"##,
-                r##"["drjgraDxPZBAXWrlU4a9KA","x",1]"##,
-            ],
-        ),
-    ];
-    for (payload, hide, decoys, forms) in rows {
-        let order = order_of(alloc, payload, hide, decoys)?;
-        let laid = lay_order(alloc, &order, &[0; 32])?;
-        let mut wanted = String::new(alloc);
-        for form in forms {
-            push_filled(&mut wanted, form, &laid.digests)?;
-            wanted.push('\n')?;
-        }
-        assert_eq!(rt; printed(alloc, &laid)?.as_str(), wanted.as_str());
+    for (depth, inside, answer) in [
+        (99, "", "good"),
+        (100, "", "53"),
+        (99, "1", "good"),
+        (98, "{}", "good"),
+        (99, "{}", "53"),
+    ] {
+        let payload = nested(alloc, depth, inside)?;
+        let line = judged(alloc, payload.as_str(), "-", "")?;
+        assert_eq!(rt; line.as_str(), answer, "{depth} {inside}");
     }
+    let payload = nested(alloc, 120, r#"{"_sd":1}"#)?;
+    let line = judged(alloc, payload.as_str(), "-", "")?;
+    assert!(rt; line.as_str().starts_with("52 /a/0/0"));
     Ok(())
 }
 
 #[test]
-fn texts_and_digests_of_a_seed(rt: HostRuntime) -> Result<(), Fail> {
+fn different_paths_are_counted_once(rt: HostRuntime) -> Result<(), Fail> {
     let alloc = rt.alloc();
-    let payload = r#"{"iss":"i","given":"Ann","age":40}"#;
-    let order = order_of(alloc, payload, &["/given", "/age"], &[("", 1)])?;
-    let laid = lay_order(alloc, &order, &[0; 32])?;
-    let texts = [
-        "WyJkcmpncmFEeFBaQkFYV3JsVTRhOUtBIiwiYWdlIiw0MF0",
-        "WyJ2ZEladUtDTjdScW9OdV9NaTNjTnh3IiwiZ2l2ZW4iLCJBbm4iXQ",
-    ];
-    for (k, text) in texts.iter().enumerate() {
-        assert_eq!(rt; laid.texts.at(k).ok_or("no text")?.as_str(), *text);
+    for (last, more, answer) in [
+        (4095, "", "good"),
+        (4095, " /n/0 /n/0", "good"),
+        (4096, "", "58"),
+        (4096, " /nowhere", "55 4097"),
+    ] {
+        let mut payload = String::from_str(alloc, r#"{"n":[0"#)?;
+        let mut hide = String::from_str(alloc, "/n/0")?;
+        for i in 1..=last {
+            payload.push_str(",0")?;
+            hide.push_str(format!(in alloc; " /n/{i}")?.as_str())?;
+        }
+        payload.push_str("]}")?;
+        hide.push_str(more)?;
+        let line = judged(alloc, payload.as_str(), hide.as_str(), "=4097")?;
+        let wanted = if answer == "good" { "59" } else { answer };
+        assert_eq!(rt; line.as_str(), wanted, "{last}{more}");
     }
-    let digests = [
-        "O68pOXEqYxoGBQLH-LLNHrkrg7boWc3JOIeJYPNThlM",
-        "qvxPwnSm8yQ9lXSEEHiyUgJQ2aznDaFQWo4sdBiIcPA",
-        "dpyYTWx-vNXeha2WPZvwfwG0kUTzRlbdXDh_dZYlgTo",
-    ];
-    for (k, digest) in digests.iter().enumerate() {
-        assert_eq!(rt; laid.digests.at(k).ok_or("no digest")?.as_str(), *digest);
-    }
-    assert_eq!(rt; laid.digests.len(), 3);
     Ok(())
 }

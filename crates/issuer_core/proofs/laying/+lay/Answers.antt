@@ -8,9 +8,10 @@ use Rattle.marked_tree.specs.Marked.{MarkedElements, MarkedMembers, no_marked_el
 use Rattle.marked_tree.specs.View.{marked_of, marked_elements_of, marked_members_of}
 use Rattle.marked_tree.proofs.MarkedViews.{Element, Entry}
 use Rattle.issuer_core.specs.Laid.{sorted, with_sd}
-use Rattle.issuer_core.specs.Laying.{digest_at, placed_at, Tells, IsNumbered, IsPart}
+use Rattle.issuer_core.specs.Laying.{digest_at, placed_at, Tells, IsPart}
+use Rattle.issuer_core.specs.Closing.{IsNumbered}
 use Rattle.issuer_core.specs.declared.laying.Part.{Part}
-use Rattle.issuer_core.proofs.LaidValues.{lay_ranged, lay_depth}
+use Rattle.issuer_core.proofs.LaidBounds.{lay_ranged, lay_depth}
 use Rattle.issuer_core.proofs.LayingSteps.{IsMade, hidden_part, hidden_made}
 use Rattle.issuer_core.proofs.LayingElements.{LaysElements, IsElement, elements_start, element_more, elements_end, elements_made, shown_element, hidden_element}
 use Rattle.issuer_core.proofs.LayingMembers.{LaysMembers, members_start, member_more_shown, member_more_hidden, members_end, members_made}
@@ -184,13 +185,13 @@ lay_map-returns-clause-digests t c = c.loop-name.invariant.digested
 pub lay_part-disclose-requires-clause-ranged : goal.lay_part-disclose-requires-clause-ranged
 lay_part-disclose-requires-clause-ranged t c =
     let m = marked_of c.args.tree in
-    subst IsRanged (sym (c.in_ok-inside.ensures.laid (placed_at c.args.decoys) (λ at. refl) [])) (lay_ranged (digest_at (c.lay.new.layer.texts ++ [])) (placed_at c.args.decoys) m c.requires.ranged)
+    subst IsRanged (sym (c.in_ok-inside.ensures.laid (placed_at c.args.decoys) (λ at. refl) [])) (lay_ranged (placed_at c.args.decoys) (digest_at (c.lay.new.layer.texts ++ [])) m c.requires.ranged)
 
 pub lay_part-disclose-requires-clause-depth : goal.lay_part-disclose-requires-clause-depth
 lay_part-disclose-requires-clause-depth t c =
     let m = marked_of c.args.tree in
     let same = ap depth (c.in_ok-inside.ensures.laid (placed_at c.args.decoys) (λ at. refl) []) in
-    let low = lay_depth (digest_at (c.lay.new.layer.texts ++ [])) (placed_at c.args.decoys) m in
+    let low = lay_depth (placed_at c.args.decoys) (digest_at (c.lay.new.layer.texts ++ [])) m in
     let deep = c.requires.depth in
     omega (arith, same, low, deep)
 
