@@ -1,19 +1,17 @@
 -- One element more of a list that is laid.
-use Rattle.std.proofs.Common.{◌≡◌, ℕ, zero, suc, ◌+◌, ◌≤◌, List, [], ◌∷◌, ◌++◌, length, map, append_assoc, append-nil, Option, None, Some, Less, decimal, refl, sym, ap, ap₂, subst, ◌∙◌, arith}
-use Rattle.std.proofs.lemmas.List.{length-append}
-use Rattle.claim_tree.specs.Tree.{Text, Tree, Elements, no_elements, element, Members, no_members, member, pushed, inserted, elements_len, names, IsBefore, IsBeforeAll, MembersOrdered, depth, nodes, elements_depth, members_depth, elements_nodes, members_nodes, IsRanged, ElementsRanged, MembersRanged}
+use Rattle.std.proofs.Common.{◌≡◌, ℕ, suc, ◌+◌, ◌≤◌, List, [], ◌∷◌, ◌++◌, length, map, drop, get_or, ◌<◌, append-nil, Option, None, Some, decimal, refl, sym, ap, subst, ◌∙◌, arith}
+use Rattle.std.proofs.lemmas.List.{drop_more}
+use Rattle.claim_tree.specs.Tree.{Text, text, leaf, Tree, Elements, no_elements, element, pushed, elements_len, elements_depth, elements_nodes, ElementsRanged}
 use Rattle.claim_tree.specs.View.{tree_of}
 use Rattle.claim_tree.specs.declared.tree.Tree as code
 use Rattle.digest_sites.specs.Given.{Given}
-use Rattle.marked_tree.specs.Marked.{Marked, MarkedElements, MarkedMembers, marked_element, marked_member, no_marked_elements, no_marked_members, marked_names, strip, strip_elements, strip_members, weight, elements_weight, members_weight, mark_weight}
+use Rattle.marked_tree.specs.Marked.{Marked, MarkedElements, marked_element, no_marked_elements, strip_elements, weight, elements_weight, mark_weight}
 use Rattle.marked_tree.specs.Places.{Path}
-use Rattle.marked_tree.proofs.Names.{Ascend, ascend}
-use Rattle.issuer_core.specs.Laid.{with_sd, sorted, digest_object, digest_elements, hidden_digests, laid_items, laid_elements, laid_members, own_item, lay, lay_elements, lay_members}
-use Rattle.issuer_core.specs.Laying.{nth, digest, digest_at, salted, made_texts, elements_joined, placed_at, Tells, IsPart}
-use Rattle.issuer_core.specs.Closing.{one, IsNumbered, ClosesFrom, ElementsClose, MembersClose}
+use Rattle.issuer_core.specs.Laid.{texts_array, digest_object, digest_elements, laid_items, laid_elements, own_item, lay, lay_elements}
+use Rattle.issuer_core.specs.Laying.{digest, digest_at, salted, made_texts, elements_joined, placed_at, Tells, IsPart}
+use Rattle.issuer_core.specs.Closing.{one, ElementsClose}
 use Rattle.issuer_core.specs.declared.decoys.Decoys.{Decoys}
 use Rattle.issuer_core.specs.declared.laying.Part.{Part}
-
 use Rattle.issuer_core.proofs.LayingSteps.{grown, behind, IsMade}
 
 pub joined_pushed : (es : Elements) (t : Tree) (rest : Elements) → elements_joined (pushed es t) rest ≡ elements_joined es (element t rest)
@@ -49,9 +47,9 @@ element_laid dec dg i (Some k) m es u e = ap (λ (t : Tree). element t (lay_elem
 -- what is known where a list is laid up to some of its elements
 pub record LaysElements (decoys : Decoys) (salts : List Text) (first : List Text) (all : MarkedElements) (laid : Elements) (texts digests : List Text) (left : MarkedElements) : Type 0 where
   pub so_far : (dec : Path → List Text) → Tells decoys dec → (more : List Text)
-    → elements_joined laid (lay_elements dec (digest_at (texts ++ more)) (elements_len laid) left) ≡ lay_elements dec (digest_at (texts ++ more)) 0 all
+      → elements_joined laid (lay_elements dec (digest_at (texts ++ more)) (elements_len laid) left) ≡ lay_elements dec (digest_at (texts ++ more)) 0 all
   pub made : (dec : Path → List Text) → Tells decoys dec → (more : List Text)
-    → texts ++ made_texts (salted salts) (length texts) (laid_elements dec (digest_at (texts ++ more)) (elements_len laid) left) ≡ first ++ made_texts (salted salts) (length first) (laid_elements dec (digest_at (texts ++ more)) 0 all)
+      → texts ++ made_texts (salted salts) (length texts) (laid_elements dec (digest_at (texts ++ more)) (elements_len laid) left) ≡ first ++ made_texts (salted salts) (length first) (laid_elements dec (digest_at (texts ++ more)) 0 all)
   pub closes : ElementsClose (length texts) left
   pub count : length texts + elements_weight one left ≡ length first + elements_weight one all
   pub digested : digests ≡ map digest texts
@@ -60,60 +58,60 @@ pub record LaysElements (decoys : Decoys) (salts : List Text) (first : List Text
   pub few : elements_nodes (strip_elements left) ≤ elements_nodes (strip_elements all)
 
 module _ (decoys : Decoys) (salts first : List Text) (all : MarkedElements) (laid : Elements) (texts digests : List Text) (k : Option ℕ) (m : Marked) (left : MarkedElements)
-  (so : LaysElements decoys salts first all laid texts digests (marked_element k m left))
-  (below : Decoys) (step : (at : Path) → placed_at below at ≡ placed_at decoys (decimal (elements_len laid) ∷ at))
-  (u : Tree) (texts2 digests2 : List Text)
-  (is : (dec : Path → List Text) → Tells below dec → (more : List Text) → IsElement dec (digest_at (texts2 ++ more)) k m u)
-  (made : IsMade below salts None k m texts texts2)
-  (count : length texts2 ≡ length texts + (mark_weight one k + weight one m))
-  (digested : digests2 ≡ map digest texts2)
+    (so : LaysElements decoys salts first all laid texts digests (marked_element k m left))
+    (below : Decoys) (step : (at : Path) → placed_at below at ≡ placed_at decoys (decimal (elements_len laid) ∷ at))
+    (u : Tree) (texts2 digests2 : List Text)
+    (is : (dec : Path → List Text) → Tells below dec → (more : List Text) → IsElement dec (digest_at (texts2 ++ more)) k m u)
+    (made : IsMade below salts None k m texts texts2)
+    (count : length texts2 ≡ length texts + (mark_weight one k + weight one m))
+    (digested : digests2 ≡ map digest texts2)
   where
-  module _ (dec : Path → List Text) (tells : Tells decoys dec) (more : List Text) where
-    abbrev inner : Path → List Text
-    inner = λ at. dec (decimal (elements_len laid) ∷ at)
+    module _ (dec : Path → List Text) (tells : Tells decoys dec) (more : List Text) where
+      abbrev inner : Path → List Text
+      inner = λ at. dec (decimal (elements_len laid) ∷ at)
 
-    tells_below : Tells below inner
-    tells_below at = step at ∙ tells (decimal (elements_len laid) ∷ at)
+      tells_below : Tells below inner
+      tells_below at = step at ∙ tells (decimal (elements_len laid) ∷ at)
 
-    abbrev dg : ℕ → Text
-    dg = digest_at (texts2 ++ more)
+      abbrev dg : ℕ → Text
+      dg = digest_at (texts2 ++ more)
 
-    abbrev parts : List Given
-    parts = laid_items inner dg m ++ own_item dg None k (lay inner dg m)
+      abbrev parts : List Given
+      parts = laid_items inner dg m ++ own_item dg None k (lay inner dg m)
 
-    abbrev added : List Text
-    added = made_texts (salted salts) (length texts) parts
+      abbrev added : List Text
+      added = made_texts (salted salts) (length texts) parts
 
-    grows : texts2 ≡ texts ++ added
-    grows = made inner tells_below more
+      grows : texts2 ≡ texts ++ added
+      grows = made inner tells_below more
 
-    same : texts ++ (added ++ more) ≡ texts2 ++ more
-    same = behind texts texts2 added more grows
+      same : texts ++ (added ++ more) ≡ texts2 ++ more
+      same = behind texts texts2 added more grows
 
-    further : elements_joined (pushed laid u) (lay_elements dec dg (elements_len (pushed laid u)) left) ≡ lay_elements dec dg 0 all
-    further =
-        ap (λ i. elements_joined (pushed laid u) (lay_elements dec dg i left)) (len_pushed laid u)
-        ∙ (joined_pushed laid u (lay_elements dec dg (suc (elements_len laid)) left)
-        ∙ (ap (elements_joined laid) (element_laid dec dg (elements_len laid) k m left u (is inner tells_below more))
-        ∙ subst (λ (ts : List Text). elements_joined laid (lay_elements dec (digest_at ts) (elements_len laid) (marked_element k m left)) ≡ lay_elements dec (digest_at ts) 0 all) same (so.so_far dec tells (added ++ more))))
+      further : elements_joined (pushed laid u) (lay_elements dec dg (elements_len (pushed laid u)) left) ≡ lay_elements dec dg 0 all
+      further =
+          ap (λ i. elements_joined (pushed laid u) (lay_elements dec dg i left)) (len_pushed laid u)
+          ∙ (joined_pushed laid u (lay_elements dec dg (suc (elements_len laid)) left)
+          ∙ (ap (elements_joined laid) (element_laid dec dg (elements_len laid) k m left u (is inner tells_below more))
+          ∙ subst (λ (ts : List Text). elements_joined laid (lay_elements dec (digest_at ts) (elements_len laid) (marked_element k m left)) ≡ lay_elements dec (digest_at ts) 0 all) same (so.so_far dec tells (added ++ more))))
 
-    made_further : texts2 ++ made_texts (salted salts) (length texts2) (laid_elements dec dg (elements_len (pushed laid u)) left) ≡ first ++ made_texts (salted salts) (length first) (laid_elements dec dg 0 all)
-    made_further =
-        ap (λ i. texts2 ++ made_texts (salted salts) (length texts2) (laid_elements dec dg i left)) (len_pushed laid u)
-        ∙ (grown (salted salts) texts texts2 parts (laid_elements dec dg (suc (elements_len laid)) left) grows
-        ∙ subst (λ (ts : List Text). texts ++ made_texts (salted salts) (length texts) (laid_elements dec (digest_at ts) (elements_len laid) (marked_element k m left)) ≡ first ++ made_texts (salted salts) (length first) (laid_elements dec (digest_at ts) 0 all)) same (so.made dec tells (added ++ more)))
+      made_further : texts2 ++ made_texts (salted salts) (length texts2) (laid_elements dec dg (elements_len (pushed laid u)) left) ≡ first ++ made_texts (salted salts) (length first) (laid_elements dec dg 0 all)
+      made_further =
+          ap (λ i. texts2 ++ made_texts (salted salts) (length texts2) (laid_elements dec dg i left)) (len_pushed laid u)
+          ∙ (grown (salted salts) texts texts2 parts (laid_elements dec dg (suc (elements_len laid)) left) grows
+          ∙ subst (λ (ts : List Text). texts ++ made_texts (salted salts) (length texts) (laid_elements dec (digest_at ts) (elements_len laid) (marked_element k m left)) ≡ first ++ made_texts (salted salts) (length first) (laid_elements dec (digest_at ts) 0 all)) same (so.made dec tells (added ++ more)))
 
-  pub element_more : LaysElements decoys salts first all (pushed laid u) texts2 digests2 left
-  element_more = record {
-    so_far = further;
-    made = made_further;
-    closes = subst (λ n. ElementsClose n left) (sym count) so.closes.2;
-    count = let old = so.count in omega (arith, old, count);
-    digested = digested;
-    ranged = so.ranged.1;
-    low = let old = so.low in omega (arith, old);
-    few = let old = so.few in omega (arith, old);
-  }
+    pub element_more : LaysElements decoys salts first all (pushed laid u) texts2 digests2 left
+    element_more = record {
+      so_far = further;
+      made = made_further;
+      closes = subst (λ n. ElementsClose n left) (sym count) so.closes.2;
+      count = let old = so.count in omega (arith, old, count);
+      digested = digested;
+      ranged = so.ranged.1;
+      low = let old = so.low in omega (arith, old);
+      few = let old = so.few in omega (arith, old);
+    }
 
 -- ---- the first and the last
 
@@ -137,3 +135,13 @@ elements_end decoys salts first texts digests all laid so here e dec tells more 
 pub elements_made : (decoys : Decoys) (salts first texts digests : List Text) (all : MarkedElements) (laid : Elements) → LaysElements decoys salts first all laid texts digests no_marked_elements
     → (dec : Path → List Text) → Tells decoys dec → (more : List Text) → texts ≡ first ++ made_texts (salted salts) (length first) (laid_elements dec (digest_at (texts ++ more)) 0 all)
 elements_made decoys salts first texts digests all laid so dec tells more = sym (append-nil texts) ∙ so.made dec tells more
+
+-- ---- digests and texts as elements
+
+pub decoy_more : (laid : Elements) (ds : List Text) (i : ℕ) (d : Text) → i < length ds → d ≡ get_or ds i d → elements_joined (pushed laid (digest_object d)) (digest_elements (drop (i + 1) ds)) ≡ elements_joined laid (digest_elements (drop i ds))
+decoy_more laid ds i d within is =
+    let there : drop i ds ≡ d ∷ drop (i + 1) ds = drop_more ds i d within ∙ ap (λ (x : Text). x ∷ drop (i + 1) ds) (sym is) in
+    joined_pushed laid (digest_object d) (digest_elements (drop (i + 1) ds)) ∙ ap (λ (xs : List Text). elements_joined laid (digest_elements xs)) (sym there)
+
+pub text_more : (list : Elements) (t : Text) (left rest : List Text) → left ≡ t ∷ rest → elements_joined (pushed list (leaf (text t))) (texts_array rest) ≡ elements_joined list (texts_array left)
+text_more list t left rest e = joined_pushed list (leaf (text t)) (texts_array rest) ∙ ap (λ (xs : List Text). elements_joined list (texts_array xs)) (sym e)

@@ -1,17 +1,14 @@
 -- The texts of disclosures, some more at each step.
-use Rattle.std.proofs.Common.{◌≡◌, ℕ, zero, suc, ◌+◌, ◌≤◌, List, [], ◌∷◌, ◌++◌, length, map, append_assoc, Option, None, Some, Less, decimal, refl, sym, ap, subst, ◌∙◌, arith}
+use Rattle.std.proofs.Common.{◌≡◌, ℕ, zero, suc, ◌+◌, List, [], ◌∷◌, ◌++◌, length, map, drop, append_assoc, Option, Some, refl, sym, ap, subst, ◌∙◌, arith}
 use Rattle.std.specs.List.{slice_get}
 use Rattle.std.proofs.lemmas.List.{length-append}
-use Rattle.claim_tree.specs.Tree.{Text, Tree, Elements, no_elements, element, Members, no_members, member, pushed, inserted, elements_len, names, IsBefore, IsBeforeAll, MembersOrdered, depth, nodes, elements_depth, members_depth, elements_nodes, members_nodes, IsRanged, ElementsRanged, MembersRanged}
-use Rattle.claim_tree.specs.View.{tree_of}
-use Rattle.claim_tree.specs.declared.tree.Tree as code
+use Rattle.claim_tree.specs.Tree.{Text, Tree}
 use Rattle.digest_sites.specs.Given.{Given}
-use Rattle.marked_tree.specs.Marked.{Marked, MarkedElements, MarkedMembers, marked_element, marked_member, no_marked_elements, no_marked_members, marked_names, strip, strip_elements, strip_members, weight, elements_weight, members_weight, mark_weight}
+use Rattle.marked_tree.specs.Marked.{Marked}
 use Rattle.marked_tree.specs.Places.{Path}
-use Rattle.marked_tree.proofs.Names.{Ascend, ascend}
-use Rattle.issuer_core.specs.Laid.{digest_object, digest_elements, hidden_digests, laid_items, laid_elements, laid_members, own_item, lay, lay_elements, lay_members}
-use Rattle.issuer_core.specs.Laying.{nth, digest, digest_at, salted, made_texts, elements_joined, placed_at, Tells, IsPart}
-use Rattle.issuer_core.specs.Closing.{one, IsNumbered, ClosesFrom, ElementsClose, MembersClose}
+use Rattle.issuer_core.specs.Laid.{laid_items, own_item, lay}
+use Rattle.issuer_core.specs.Laying.{nth, digest, digest_at, salted, made_texts, Tells, IsPart}
+use Rattle.issuer_core.specs.Closing.{IsNumbered}
 use Rattle.issuer_core.specs.declared.decoys.Decoys.{Decoys}
 use Rattle.issuer_core.specs.declared.laying.Part.{Part}
 
@@ -26,7 +23,19 @@ nth_got [] k t e = cc
 nth_got (x ∷ ts) zero t e = cc
 nth_got (x ∷ ts) (suc k) t e = nth_got ts k t e
 
-abbrev Made : Type 0
+got_drop : (ts : List Text) (k : ℕ) (t : Text) → Some t ≡ slice_get ts k → t ∷ drop (k + 1) ts ≡ drop k ts
+got_drop [] k t e = cc
+got_drop (x ∷ ts) zero t e = let same : t ≡ x = cc in ap (λ (y : Text). y ∷ ts) same
+got_drop (x ∷ ts) (suc k) t e = let more : suc k + 1 ≡ suc (k + 1) = omega arith in rw more (got_drop ts k t e)
+
+-- one text more, and those behind it
+pub got_further : (old ts : List Text) (k : ℕ) (t : Text) → Some t ≡ slice_get ts k → (old ++ t ∷ []) ++ drop (k + 1) ts ≡ old ++ drop k ts
+got_further old ts k t e = append_assoc old (t ∷ []) (drop (k + 1) ts) ∙ ap (λ (xs : List Text). old ++ xs) (got_drop ts k t e)
+
+pub digested_further : (old ts : List Text) (k : ℕ) (t : Text) → Some t ≡ slice_get ts k → (old ++ digest t ∷ []) ++ map digest (drop (k + 1) ts) ≡ old ++ map digest (drop k ts)
+digested_further old ts k t e = append_assoc old (digest t ∷ []) (map digest (drop (k + 1) ts)) ∙ ap (λ (xs : List Text). old ++ map digest xs) (got_drop ts k t e)
+
+abbrev pub Made : Type 0
 Made = ℕ → Option Text → Tree → Text
 
 pub made_length : (f : Made) (k : ℕ) (xs : List Given) → length (made_texts f k xs) ≡ length xs
@@ -62,25 +71,25 @@ IsMade decoys salts name k m old new =
 
 -- a part that is hidden: its inside is laid, and its text is behind those inside it
 module _ (decoys : Decoys) (salts : List Text) (name : Option Text) (k : Option ℕ) (m : Marked) (i : ℕ) (inside : Tree) (texts texts2 texts3 : List Text)
-  (is : k ≡ Some i)
-  (laid : (dec : Path → List Text) → Tells decoys dec → (more : List Text) → inside ≡ lay dec (digest_at (texts2 ++ more)) m)
-  (made : (dec : Path → List Text) → Tells decoys dec → (more : List Text) → texts2 ≡ texts ++ made_texts (salted salts) (length texts) (laid_items dec (digest_at (texts2 ++ more)) m))
-  (own : texts3 ≡ texts2 ++ salted salts (length texts2) name inside ∷ [])
+    (is : k ≡ Some i)
+    (laid : (dec : Path → List Text) → Tells decoys dec → (more : List Text) → inside ≡ lay dec (digest_at (texts2 ++ more)) m)
+    (made : (dec : Path → List Text) → Tells decoys dec → (more : List Text) → texts2 ≡ texts ++ made_texts (salted salts) (length texts) (laid_items dec (digest_at (texts2 ++ more)) m))
+    (own : texts3 ≡ texts2 ++ salted salts (length texts2) name inside ∷ [])
   where
-  pub hidden_part : (digest_is : Text) → digest_is ≡ digest (salted salts (length texts2) name inside) → IsNumbered k (length texts2) → (more : List Text) → (dec : Path → List Text) → IsPart dec (digest_at (texts3 ++ more)) k m (Part.Hidden digest_is)
-  hidden_part d e n more dec =
-      let numbered : i ≡ length texts2 = subst (λ j. IsNumbered j (length texts2)) is n in
-      let there : texts3 ++ more ≡ texts2 ++ salted salts (length texts2) name inside ∷ more = sym (behind texts2 texts3 (salted salts (length texts2) name inside ∷ []) more own) in
-      let found : d ≡ digest_at (texts3 ++ more) i = e ∙ (ap digest (sym (nth_seam texts2 (salted salts (length texts2) name inside) more)) ∙ (ap (λ (ts : List Text). digest_at ts (length texts2)) (sym there) ∙ ap (digest_at (texts3 ++ more)) (sym numbered))) in
-      subst (λ j. IsPart dec (digest_at (texts3 ++ more)) j m (Part.Hidden d)) (sym is) found
+    pub hidden_part : (digest_is : Text) → digest_is ≡ digest (salted salts (length texts2) name inside) → IsNumbered k (length texts2) → (more : List Text) → (dec : Path → List Text) → IsPart dec (digest_at (texts3 ++ more)) k m (Part.Hidden digest_is)
+    hidden_part d e n more dec =
+        let numbered : i ≡ length texts2 = subst (λ j. IsNumbered j (length texts2)) is n in
+        let there : texts3 ++ more ≡ texts2 ++ salted salts (length texts2) name inside ∷ more = sym (behind texts2 texts3 (salted salts (length texts2) name inside ∷ []) more own) in
+        let found : d ≡ digest_at (texts3 ++ more) i = e ∙ (ap digest (sym (nth_seam texts2 (salted salts (length texts2) name inside) more)) ∙ (ap (λ (ts : List Text). digest_at ts (length texts2)) (sym there) ∙ ap (digest_at (texts3 ++ more)) (sym numbered))) in
+        subst (λ j. IsPart dec (digest_at (texts3 ++ more)) j m (Part.Hidden d)) (sym is) found
 
-  pub hidden_made : IsMade decoys salts name k m texts texts3
-  hidden_made dec tells more =
-      let own_text = salted salts (length texts2) name inside in
-      let there : texts2 ++ (own_text ∷ more) ≡ texts3 ++ more = behind texts2 texts3 (own_text ∷ []) more own in
-      let dg : ℕ → Text = digest_at (texts3 ++ more) in
-      let inner = subst (λ (ts : List Text). texts2 ≡ texts ++ made_texts (salted salts) (length texts) (laid_items dec (digest_at ts) m)) there (made dec tells (own_text ∷ more)) in
-      let shown = subst (λ (ts : List Text). inside ≡ lay dec (digest_at ts) m) there (laid dec tells (own_text ∷ more)) in
-      let item = own_item (digest_at (texts3 ++ more)) name (Some i) (lay dec (digest_at (texts3 ++ more)) m) in
-      subst (λ j. texts3 ≡ texts ++ made_texts (salted salts) (length texts) (laid_items dec (digest_at (texts3 ++ more)) m ++ own_item (digest_at (texts3 ++ more)) name j (lay dec (digest_at (texts3 ++ more)) m))) (sym is)
-      (own ∙ (ap (λ (t : Tree). texts2 ++ salted salts (length texts2) name t ∷ []) shown ∙ grown (salted salts) texts texts2 (laid_items dec (digest_at (texts3 ++ more)) m) item inner))
+    pub hidden_made : IsMade decoys salts name k m texts texts3
+    hidden_made dec tells more =
+        let own_text = salted salts (length texts2) name inside in
+        let there : texts2 ++ (own_text ∷ more) ≡ texts3 ++ more = behind texts2 texts3 (own_text ∷ []) more own in
+        let dg : ℕ → Text = digest_at (texts3 ++ more) in
+        let inner = subst (λ (ts : List Text). texts2 ≡ texts ++ made_texts (salted salts) (length texts) (laid_items dec (digest_at ts) m)) there (made dec tells (own_text ∷ more)) in
+        let shown = subst (λ (ts : List Text). inside ≡ lay dec (digest_at ts) m) there (laid dec tells (own_text ∷ more)) in
+        let item = own_item (digest_at (texts3 ++ more)) name (Some i) (lay dec (digest_at (texts3 ++ more)) m) in
+        subst (λ j. texts3 ≡ texts ++ made_texts (salted salts) (length texts) (laid_items dec (digest_at (texts3 ++ more)) m ++ own_item (digest_at (texts3 ++ more)) name j (lay dec (digest_at (texts3 ++ more)) m))) (sym is)
+        (own ∙ (ap (λ (t : Tree). texts2 ++ salted salts (length texts2) name t ∷ []) shown ∙ grown (salted salts) texts texts2 (laid_items dec (digest_at (texts3 ++ more)) m) item inner))

@@ -16,13 +16,6 @@ pub mod LaidDecoys
 pub mod IssuedSound
 pub mod WithAlg
 pub mod LaidBounds
-pub mod PlacedDecoys
-pub mod SortedEntries
-pub mod SortedDigests
-pub mod LayingSteps
-pub mod LayingElements
-pub mod LayingMembers
-mod Examples
 pub mod Firsts
 pub mod ReservedPlaces
 pub mod SaltSteps
@@ -33,3 +26,11 @@ pub mod Judged
 pub mod ListForms
 pub mod KeyTexts
 pub mod OrderFiles
+pub mod PlacedDecoys
+pub mod SortedEntries
+pub mod SortedDigests
+pub mod LayingSteps
+pub mod LayingElements
+pub mod LayingMembers
+pub mod LaidOrders
+mod Examples

@@ -1,12 +1,13 @@
 -- Decoys' digests at their places: one step down, at the place itself, and sorted.
-use Rattle.std.proofs.Common.{◌≡◌, ◌≢◌, ℕ, zero, suc, ◌+◌, ◌-◌, ◌<◌, ◌≤◌, List, [], ◌∷◌, ◌++◌, length, map, take, drop, get_or, Bool, true, false, cond, Ordering, Less, Equal, Greater, refl, sym, ap, subst, ◌∙◌, arith}
+use Rattle.std.proofs.Common.{◌≡◌, ◌≢◌, ℕ, zero, suc, ◌+◌, ◌-◌, ◌<◌, ◌≤◌, List, [], ◌∷◌, ◌++◌, length, take, drop, get_or, Bool, false, cond, Less, Equal, Greater, refl, sym, ap, subst, ◌∙◌, arith}
 use Rattle.std.proofs.lemmas.List.{length-take-le, length-drop}
 use Rattle.std.proofs.Math.Seq.{take-length}
-use Rattle.std.specs.List.Sorted.{IsPartitionedBy, IsSortedBy, IsStableBy, ties}
-use Rattle.std.specs.Ordering.{is_lt}
+use Rattle.std.specs.Prelude.{nat_le}
+use Rattle.std.proofs.lemmas.Bool.{leb-true, le-leb}
+use Rattle.std.specs.List.Sorted.{IsPartitionedBy}
 use Rattle.claim_tree.specs.Tree.{Text}
 use Rattle.claim_tree.proofs.Lists.{bytes_refl}
-use Rattle.claim_tree.proofs.MapPlaces.{cmp, same_name}
+use Rattle.claim_tree.proofs.MapPlaces.{same_name}
 use Rattle.marked_tree.specs.Places.{Path, same_path}
 use Rattle.marked_tree.specs.Rests.{rests, step_order, path_order, AreSorted, Every, Compares, IsRun}
 use Rattle.marked_tree.proofs.Names.{turned}
@@ -81,6 +82,13 @@ pub ends_before : (depth : ℕ) (xs : List Path) (i j : ℕ) (d : Path) → AreS
 ends_before depth xs i j d s l h short =
     let last = at_end depth (get_or xs j d) short in
     ends_short depth (get_or xs i d) (front_ends (drop depth (get_or xs i d)) (subst (λ q. path_order (drop depth (get_or xs i d)) q ≢ Greater) last (sorted_pair depth xs i j d s l h)))
+
+-- the test by which those that end are searched
+abbrev pub is_short : ℕ → Path → Bool
+is_short depth p = nat_le (length p) depth
+
+pub parted_short : (depth : ℕ) (xs : List Path) → AreSorted (rests depth xs) → IsPartitionedBy (is_short depth) xs
+parted_short depth xs s i j d l h t = le-leb (length (get_or xs i d)) depth (ends_before depth xs i j d s l h (leb-true (length (get_or xs j d)) depth t))
 
 none_here : (depth : ℕ) (xs : List Path) (ds : List Text) → ((k : ℕ) (d : Path) → k < length xs → depth < length (get_or xs k d)) → placed (rests depth xs) ds [] ≡ []
 none_here depth [] ds all = refl

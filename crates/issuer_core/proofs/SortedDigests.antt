@@ -1,17 +1,17 @@
 -- Texts sorted by their bytes: a stable sort answers what the definition says.
-use Rattle.std.proofs.Common.{◌≡◌, ◌≢◌, ℕ, zero, suc, ◌+◌, ◌<◌, ◌≤◌, List, [], ◌∷◌, ◌++◌, length, get_or, Bool, true, false, cond, not, ◌&&◌, Ordering, Less, Equal, Greater, refl, sym, ap, subst, ◌∙◌, arith}
+use Rattle.std.proofs.Common.{◌≡◌, ◌≢◌, ℕ, suc, ◌<◌, ◌≤◌, List, [], ◌∷◌, length, get_or, Bool, true, false, cond, not, ◌&&◌, Ordering, Less, Equal, Greater, refl, sym, ap, subst, ◌∙◌, arith}
 use Rattle.std.specs.Prelude.{bytes_eq}
 use Rattle.std.specs.List.{filter}
 use Rattle.std.specs.List.Sorted.{IsSortedBy, IsStableBy, ties}
 use Rattle.std.specs.Ordering.{is_lt, match_ordering}
-use Rattle.std.proofs.lemmas.Cmp.{tied_itself}
 use Rattle.std.proofs.lemmas.List.Sorted.{sorted_far, ranks_by}
-use Rattle.claim_tree.specs.Tree.{Text}
+use Rattle.claim_tree.specs.Tree.{Text, Members, array, inserted}
+use Rattle.digest_sites.specs.Reserved.{sd_name}
 use Rattle.claim_tree.proofs.Lists.{bytes_refl, bytes_same}
 use Rattle.claim_tree.proofs.MapPlaces.{cmp, order, same_name}
-use Rattle.marked_tree.proofs.Names.{turned, turned_back, tie_turned}
+use Rattle.marked_tree.proofs.Names.{turned, tie_turned}
 use Rattle.marked_tree.proofs.Lookups.{apart, apart_back}
-use Rattle.issuer_core.specs.Laid.{sorted, sorted_with}
+use Rattle.issuer_core.specs.Laid.{sorted, sorted_with, texts_array, with_sd}
 
 abbrev pub lower : Text → Text → Bool
 lower x y = is_lt (cmp x y)
@@ -165,3 +165,17 @@ one_rising (y ∷ ys) (z ∷ zs) r s same = go (cmp y z) refl (λ tails. one_ris
 
 pub sort_is : (xs ys : List Text) → IsSortedBy lower ys → IsStableBy lower xs ys → ys ≡ sorted xs
 sort_is xs ys s stable = one_rising ys (sorted xs) (rising ys s) (sorted_rising xs) (λ x. stable x ∙ sym (sorted_same x xs))
+
+-- some digests are a member
+pub with_some : (ds : List Text) (ms : Members) → 0 < length ds → with_sd (sorted ds) ms ≡ inserted ms sd_name (array (texts_array (sorted ds)))
+with_some [] ms l = absurd (omega (arith, l))
+with_some (d ∷ ds) ms l = go (sorted ds)
+  where
+    go : (es : List Text) → with_sd (sorted_with d es) ms ≡ inserted ms sd_name (array (texts_array (sorted_with d es)))
+    go [] = refl
+    go (e ∷ es) = by (cmp d e)
+      where
+        by : (o : Ordering) → with_sd (match_ordering o (d ∷ e ∷ es) (d ∷ e ∷ es) (e ∷ sorted_with d es)) ms ≡ inserted ms sd_name (array (texts_array (match_ordering o (d ∷ e ∷ es) (d ∷ e ∷ es) (e ∷ sorted_with d es))))
+        by Less = refl
+        by Equal = refl
+        by Greater = refl

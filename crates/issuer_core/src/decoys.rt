@@ -1,9 +1,9 @@
 // Decoys' digests at their places, for the walk that hides.
-ghost use Rattle.std.specs.Prelude.{◌≡◌, ◌+◌, ◌≤◌, List, ℕ, [], ◌∷◌, length, map, IfOk, OnOk};
+ghost use Rattle.std.specs.Prelude.{◌≡◌, ◌+◌, ◌≤◌, [], ◌∷◌, ◌++◌, length, take, replicate, IfOk, OnOk};
 ghost use Rattle.marked_tree.specs.Places.{Path as Steps};
-ghost use Rattle.marked_tree.specs.Rests.{path_order};
+ghost use Rattle.marked_tree.specs.Rests.{path_order, AreSorted};
 ghost use Rattle.issuer_core.specs.Decoys.{places};
-ghost use Rattle.issuer_core.specs.Laying.{placed, placed_at, ArePlaced};
+ghost use Rattle.issuer_core.specs.Laying.{placed, placed_at, paths_in, digests_in, ArePlaced};
 
 use crate::DecoyList;
 use claim_tree::Path;
@@ -72,13 +72,18 @@ pub(crate) fn sort_decoys(
     alloc: Global,
     decoys: &DecoyList,
     digests: &TextList,
-) -> Result<SortedDecoys, NoMemory> {
+) -> Result<SortedDecoys, NoMemory>
+    requires { length digests.now ≡ length (places decoys.now) }
+    ensures sorted { IfOk result (λ sorted. AreSorted sorted.paths.items) }
+    ensures each { IfOk result (λ sorted. length sorted.digests.items ≡ length sorted.paths.items) }
+    ensures placed { IfOk result (λ sorted. (at : Steps) → placed sorted.paths.items sorted.digests.items at ≡ placed (places decoys.now) digests.now at) }
+{
     let mut entries = Vec::new(alloc);
     for decoy in decoys.items() {
         push_entries(alloc, &mut entries, &decoy.at, decoy.count, digests)?;
     }
     entries.sort_by(|one, other| ordered(one, other))?;
-    Ok(parted(alloc, entries)?)
+    parted(alloc, entries)
 }
 
 // So many more entries with this path, each with the next digest.
@@ -88,7 +93,12 @@ fn push_entries(
     at: &Path,
     count: u32,
     digests: &TextList,
-) -> Result<(), NoMemory> {
+) -> Result<(), NoMemory>
+    requires few { length entries.old.items + count ≤ length digests.now }
+    requires digests { digests_in entries.old.items ≡ take (length entries.old.items) digests.now }
+    ensures paths { OnOk result (paths_in entries.new.items ≡ paths_in entries.old.items ++ replicate count at.now) }
+    ensures digests { OnOk result (digests_in entries.new.items ≡ take (length entries.new.items) digests.now) }
+{
     for _ in 0..count {
         let Some(digest) = digests.at(entries.len()) else {
             unreachable!();
@@ -99,11 +109,16 @@ fn push_entries(
 }
 
 // By the bytes of the steps of their paths, a front first.
-fn ordered(one: &(Path, TextBox), other: &(Path, TextBox)) -> Ordering {
+fn ordered(one: &(Path, TextBox), other: &(Path, TextBox)) -> Ordering
+    ensures { result ≡ path_order one.now.0 other.now.0 }
+{
     one.0.steps().cmp(other.0.steps())
 }
 
-fn parted(alloc: Global, entries: Vec<(Path, TextBox)>) -> Result<SortedDecoys, NoMemory> {
+fn parted(alloc: Global, entries: Vec<(Path, TextBox)>) -> Result<SortedDecoys, NoMemory>
+    ensures paths { IfOk result (λ parted. parted.paths.items ≡ paths_in entries.items) }
+    ensures digests { IfOk result (λ parted. parted.digests.items ≡ digests_in entries.items) }
+{
     let mut paths = Vec::new(alloc);
     let mut digests = Vec::new(alloc);
     for (path, digest) in entries {

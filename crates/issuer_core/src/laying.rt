@@ -1,22 +1,28 @@
 // The walk that hides, RFC 9901 section 4.2.4.
-ghost use Rattle.std.specs.Prelude.{◌≡◌, ◌+◌, ◌≤◌, ◌<◌, List, ℕ, [], ◌∷◌, ◌++◌, length, map, option_map, IfOk, OnOk};
+ghost use Rattle.std.specs.Prelude.{◌≡◌, ◌+◌, ◌≤◌, ◌<◌, List, ℕ, [], ◌∷◌, ◌++◌, length, map, drop, option_map, IfOk, OnOk};
+ghost use Rattle.std.specs.Set.{distinct_count};
 ghost use Rattle.claim_tree.specs.Tree.{Text, IsRanged, leaf, text as text_leaf, depth, elements_depth, members_depth, ElementsRanged, MembersRanged};
 ghost use Rattle.claim_tree.specs.View.{tree_of};
 ghost use Rattle.marked_tree.specs.Marked.{strip, strip_elements, strip_members, weight, elements_weight, members_weight, mark_weight};
-ghost use Rattle.marked_tree.specs.Places.{Path as Steps};
+ghost use Rattle.marked_tree.specs.Places.{Path as Steps, same_path};
 ghost use Rattle.marked_tree.specs.View.{marked_of};
+ghost use Rattle.issuer_core.specs.Order.{order_of};
+ghost use Rattle.issuer_core.specs.Decoys.{places};
+ghost use Rattle.issuer_core.specs.Seed.{maker_of};
 ghost use Rattle.issuer_core.specs.Laid as spec;
 ghost use Rattle.issuer_core.specs.Laid.{sorted, texts_array, with_sd, digest_elements, hidden_digests, laid_items, laid_elements, laid_members, own_item, lay_elements, lay_members};
 ghost use Rattle.issuer_core.specs.Laying.{digest as digest_by, digest_at, salted, made_texts, elements_joined, placed_at, ArePlaced, Tells, IsPart, IsLaidFor};
 ghost use Rattle.issuer_core.specs.Closing.{one, IsNumbered, ClosesFrom, ElementsClose, MembersClose};
 
-use crate::Order;
 use crate::decoys::{Decoys, sort_decoys};
+use crate::hidden::mark_hidden;
 use crate::salts::salts_of;
+use crate::{DecoyList, Order};
 use claim_tree::{Tree, TreeList, TreeMap};
+use compact_form::COUNT_MAX;
 use disclosure::{HashAlg, digest, make_owned};
 use itoa::Buffer;
-use marked_tree::{Marked, MarkedList, MarkedMap, mark_counted};
+use marked_tree::{Marked, MarkedList, MarkedMap};
 use sd_outside::{NoMemory, TextBox, TextList};
 use std::alloc::Global;
 
@@ -271,16 +277,22 @@ fn lay_part(
 }
 
 // How many decoys there are.
-fn count_decoys(order: &Order) -> usize {
+fn count_decoys(decoys: &DecoyList) -> usize
+    requires { length (places decoys.now) ≤ COUNT_MAX }
+    ensures { result ≡ length (places decoys.now) }
+{
     let mut count = 0;
-    for entry in order.decoys.items() {
+    for entry in decoys.items() {
         count += entry.count as usize;
     }
     count
 }
 
 // The digests of the salts from `first` on.
-fn decoy_digests(alloc: Global, salts: &TextList, first: usize) -> Result<TextList, NoMemory> {
+fn decoy_digests(alloc: Global, salts: &TextList, first: usize) -> Result<TextList, NoMemory>
+    requires { first ≤ length salts.now }
+    ensures { IfOk result (λ digests. digests ≡ map digest_by (drop first salts.now)) }
+{
     let mut digests = TextList::new(alloc);
     for k in first..salts.len() {
         let Some(salt) = salts.at(k) else {
@@ -292,7 +304,9 @@ fn decoy_digests(alloc: Global, salts: &TextList, first: usize) -> Result<TextLi
 }
 
 // Names the hash of the digests, section 4.1.1.
-fn with_alg(alloc: Global, payload: Tree) -> Result<Tree, NoMemory> {
+fn with_alg(alloc: Global, payload: Tree) -> Result<Tree, NoMemory>
+    ensures { IfOk result (λ named. tree_of named ≡ spec.with_alg (tree_of payload)) }
+{
     match payload {
         Tree::Object(mut members) => {
             let name = TextBox::make(alloc, "_sd_alg")?;
@@ -303,10 +317,29 @@ fn with_alg(alloc: Global, payload: Tree) -> Result<Tree, NoMemory> {
     }
 }
 
-pub(crate) fn lay_order(alloc: Global, order: &Order, seed: &[u8; 32]) -> Result<Laid, NoMemory> {
-    let (claims, hidden) = mark_counted(alloc, &order.payload, &order.hide)?;
+fn joined(alloc: Global, mut texts: TextList, others: &TextList) -> Result<TextList, NoMemory>
+    ensures { IfOk result (λ joined. joined ≡ texts ++ others.now) }
+{
+    for k in 0..others.len() {
+        let Some(text) = others.at(k) else {
+            unreachable!();
+        };
+        texts.push(TextBox::make(alloc, text.as_str())?)?;
+    }
+    Ok(texts)
+}
+
+// Lays an order, with the salts of a seed.
+pub(crate) fn lay_order(alloc: Global, order: &Order, seed: &[u8; 32]) -> Result<Laid, NoMemory>
+    requires shallow { depth (order_of order.now).claims ≤ 100 }
+    requires ranged { IsRanged (order_of order.now).claims }
+    requires few { distinct_count same_path order.now.hide ≤ COUNT_MAX }
+    requires decoys { length (places order.now.decoys) ≤ COUNT_MAX }
+    ensures { IfOk result (λ laid. IsLaidFor (maker_of seed.now) (order_of order.now) (tree_of laid.payload) laid.texts laid.digests) }
+{
+    let (claims, hidden) = mark_hidden(alloc, &order.payload, &order.hide)?;
     let hidden = hidden as usize;
-    let salts = salts_of(alloc, seed, hidden + count_decoys(order))?;
+    let salts = salts_of(alloc, seed, hidden + count_decoys(&order.decoys))?;
     let of_decoys = decoy_digests(alloc, &salts, hidden)?;
     let decoys = sort_decoys(alloc, &order.decoys, &of_decoys)?;
     let mut layer = Layer::new(alloc);
@@ -319,14 +352,4 @@ pub(crate) fn lay_order(alloc: Global, order: &Order, seed: &[u8; 32]) -> Result
         texts,
         digests,
     })
-}
-
-fn joined(alloc: Global, mut texts: TextList, others: &TextList) -> Result<TextList, NoMemory> {
-    for k in 0..others.len() {
-        let Some(text) = others.at(k) else {
-            unreachable!();
-        };
-        texts.push(TextBox::make(alloc, text.as_str())?)?;
-    }
-    Ok(texts)
 }

@@ -1,19 +1,18 @@
-use Rattle.std.proofs.Common.{◌≡◌, ℕ, refl, ◌+◌, ◌≤◌, List, [], ◌∷◌, ◌++◌, Some, sym, ap, subst, ◌∙◌, length, arith, rules, option_map, decimal}
+use Rattle.std.proofs.Common.{◌≡◌, ℕ, refl, [], ◌∷◌, ◌++◌, Some, sym, ap, subst, ◌∙◌, arith, option_map, decimal}
 use Rattle.std.specs.Vec.Iter.{into_iter_items}
 use Rattle.std.proofs.lemmas.List.{nil_from_length}
-use Rattle.claim_tree.specs.Tree.{Text, IsRanged, depth, elements_len}
+use Rattle.claim_tree.specs.Tree.{IsRanged, depth, elements_len}
 use Rattle.marked_tree.specs.Places.{Path}
 use Rattle.claim_tree.specs.View.{tree_of}
-use Rattle.marked_tree.specs.Marked.{MarkedElements, MarkedMembers, no_marked_elements, no_marked_members, marked_element, marked_member, strip, strip_members}
+use Rattle.marked_tree.specs.Marked.{no_marked_elements, no_marked_members, marked_element, marked_member}
 use Rattle.marked_tree.specs.View.{marked_of, marked_elements_of, marked_members_of}
 use Rattle.marked_tree.proofs.MarkedViews.{Element, Entry}
 use Rattle.issuer_core.specs.Laid.{sorted, with_sd}
-use Rattle.issuer_core.specs.Laying.{digest_at, placed_at, Tells, IsPart}
+use Rattle.issuer_core.specs.Laying.{digest_at, placed_at, IsPart}
 use Rattle.issuer_core.specs.Closing.{IsNumbered}
-use Rattle.issuer_core.specs.declared.laying.Part.{Part}
 use Rattle.issuer_core.proofs.LaidBounds.{lay_ranged, lay_depth}
 use Rattle.issuer_core.proofs.LayingSteps.{IsMade, hidden_part, hidden_made}
-use Rattle.issuer_core.proofs.LayingElements.{LaysElements, IsElement, elements_start, element_more, elements_end, elements_made, shown_element, hidden_element}
+use Rattle.issuer_core.proofs.LayingElements.{LaysElements, elements_start, element_more, elements_end, elements_made, shown_element, hidden_element}
 use Rattle.issuer_core.proofs.LayingMembers.{LaysMembers, members_start, member_more_shown, member_more_hidden, members_end, members_made}
 use Rattle.issuer_core.proofs.laying.+lay.Goals as goal
 use Rattle.issuer_core.proofs.laying.+lay.Goals.{lay_list-in-Shown, lay_list-in-Hidden+in_ok-tree-in-Hidden}
@@ -34,7 +33,7 @@ lay_list-lay_part-requires t c =
     let l = c.loop-mark in
     let e : Element = (c.in-Some.mark, c.in-Some.tree) in
     let so : LaysElements a.decoys a.salts.now a.layer.now.texts a.list l.laid l.layer.texts l.layer.digests (marked_element e.0 (marked_of e.1) (marked_elements_of (into_iter_items c.next.new.self))) =
-        subst (λ es. LaysElements a.decoys a.salts.now a.layer.now.texts a.list l.laid l.layer.texts l.layer.digests (marked_elements_of es)) c.in-Some.ensures.steps.0 l.invariant in
+    subst (λ es. LaysElements a.decoys a.salts.now a.layer.now.texts a.list l.laid l.layer.texts l.layer.digests (marked_elements_of es)) c.in-Some.ensures.steps.0 l.invariant in
     let low = so.low in
     let few = so.few in
     let count = so.count in
@@ -51,10 +50,10 @@ lay_list-loop-mark-preserved t c =
     let left = marked_elements_of (into_iter_items c.next.new.self) in
     let texts = c.lay_part.new.layer.texts in
     let so : LaysElements a.decoys a.salts.now a.layer.now.texts a.list l.laid l.layer.texts l.layer.digests (marked_element e.0 (marked_of e.1) (marked_elements_of (into_iter_items c.next.new.self))) =
-        subst (λ es. LaysElements a.decoys a.salts.now a.layer.now.texts a.list l.laid l.layer.texts l.layer.digests (marked_elements_of es)) c.in-Some.ensures.steps.0 l.invariant in
+    subst (λ es. LaysElements a.decoys a.salts.now a.layer.now.texts a.list l.laid l.layer.texts l.layer.digests (marked_elements_of es)) c.in-Some.ensures.steps.0 l.invariant in
     let told = c.in_ok-tree.ensures in
     let step : (at : Path) → placed_at c.below-below.result at ≡ placed_at a.decoys (decimal (elements_len l.laid) ∷ at) =
-        λ at. c.below-below.ensures.below at ∙ ap (λ s. placed_at a.decoys (s ∷ at)) (c.format.ensures.text ∙ ap decimal c.len.ensures) in
+    λ at. c.below-below.ensures.below at ∙ ap (λ s. placed_at a.decoys (s ∷ at)) (c.format.ensures.text ∙ ap decimal c.len.ensures) in
     let next = element_more a.decoys a.salts.now a.layer.now.texts a.list l.laid l.layer.texts l.layer.digests c.in-Some.mark (marked_of c.in-Some.tree) left so c.below-below.result step
     (tree_of c.match-branch-2.tree) texts c.lay_part.new.layer.digests
     (λ dec tells more.
@@ -110,7 +109,7 @@ lay_map-lay_part-requires t c =
     let l = c.loop-name in
     let e : Entry = (c.in-Some.name, c.in-Some.mark, c.in-Some.tree) in
     let so : LaysMembers a.decoys a.salts.now a.layer.now.texts a.members l.laid l.digests.items l.layer.texts l.layer.digests (marked_member e.0 e.1 (marked_of e.2) (marked_members_of (into_iter_items c.next.new.self))) =
-        subst (λ es. LaysMembers a.decoys a.salts.now a.layer.now.texts a.members l.laid l.digests.items l.layer.texts l.layer.digests (marked_members_of es)) c.in-Some.ensures.steps.0 l.invariant in
+    subst (λ es. LaysMembers a.decoys a.salts.now a.layer.now.texts a.members l.laid l.digests.items l.layer.texts l.layer.digests (marked_members_of es)) c.in-Some.ensures.steps.0 l.invariant in
     let low = so.low in
     let few = so.few in
     let count = so.count in
@@ -127,10 +126,10 @@ lay_map-loop-name-preserved-in-Continue-branch-3 t c =
     let e : Entry = (c.in-Some.name, c.in-Some.mark, c.in-Some.tree) in
     let left = marked_members_of (into_iter_items c.next.new.self) in
     let so : LaysMembers a.decoys a.salts.now a.layer.now.texts a.members l.laid l.digests.items l.layer.texts l.layer.digests (marked_member e.0 e.1 (marked_of e.2) (marked_members_of (into_iter_items c.next.new.self))) =
-        subst (λ es. LaysMembers a.decoys a.salts.now a.layer.now.texts a.members l.laid l.digests.items l.layer.texts l.layer.digests (marked_members_of es)) c.in-Some.ensures.steps.0 l.invariant in
+    subst (λ es. LaysMembers a.decoys a.salts.now a.layer.now.texts a.members l.laid l.digests.items l.layer.texts l.layer.digests (marked_members_of es)) c.in-Some.ensures.steps.0 l.invariant in
     let told = c.in_ok-tree.ensures in
     let step : (at : Path) → placed_at c.below-below.result at ≡ placed_at a.decoys (c.in-Some.name ∷ at) =
-        λ at. c.below-below.ensures.below at ∙ ap (λ s. placed_at a.decoys (s ∷ at)) c.as_str.ensures in
+    λ at. c.below-below.ensures.below at ∙ ap (λ s. placed_at a.decoys (s ∷ at)) c.as_str.ensures in
     let made = subst (λ s. IsMade c.below-below.result a.salts.now (Some s) c.in-Some.mark (marked_of c.in-Some.tree) l.layer.texts c.lay_part.new.layer.texts) c.as_str-in-loop-name.ensures told.texts in
     let next = member_more_shown a.decoys a.salts.now a.layer.now.texts a.members l.laid l.digests.items l.layer.texts l.layer.digests c.in-Some.name c.in-Some.mark (marked_of c.in-Some.tree) left so c.below-below.result step
     c.in_ok-tree.field-0 c.lay_part.new.layer.texts c.lay_part.new.layer.digests told.part made told.count told.digests c.in-Shown.tree c.in-Shown.is in
@@ -143,10 +142,10 @@ lay_map-loop-name-preserved t c =
     let e : Entry = (c.in-Some.name, c.in-Some.mark, c.in-Some.tree) in
     let left = marked_members_of (into_iter_items c.next.new.self) in
     let so : LaysMembers a.decoys a.salts.now a.layer.now.texts a.members l.laid l.digests.items l.layer.texts l.layer.digests (marked_member e.0 e.1 (marked_of e.2) (marked_members_of (into_iter_items c.next.new.self))) =
-        subst (λ es. LaysMembers a.decoys a.salts.now a.layer.now.texts a.members l.laid l.digests.items l.layer.texts l.layer.digests (marked_members_of es)) c.in-Some.ensures.steps.0 l.invariant in
+    subst (λ es. LaysMembers a.decoys a.salts.now a.layer.now.texts a.members l.laid l.digests.items l.layer.texts l.layer.digests (marked_members_of es)) c.in-Some.ensures.steps.0 l.invariant in
     let told = c.in_ok-tree.ensures in
     let step : (at : Path) → placed_at c.below-below.result at ≡ placed_at a.decoys (c.in-Some.name ∷ at) =
-        λ at. c.below-below.ensures.below at ∙ ap (λ s. placed_at a.decoys (s ∷ at)) c.as_str.ensures in
+    λ at. c.below-below.ensures.below at ∙ ap (λ s. placed_at a.decoys (s ∷ at)) c.as_str.ensures in
     let made = subst (λ s. IsMade c.below-below.result a.salts.now (Some s) c.in-Some.mark (marked_of c.in-Some.tree) l.layer.texts c.lay_part.new.layer.texts) c.as_str-in-loop-name.ensures told.texts in
     let next = member_more_hidden a.decoys a.salts.now a.layer.now.texts a.members l.laid l.digests.items l.layer.texts l.layer.digests c.in-Some.name c.in-Some.mark (marked_of c.in-Some.tree) left so c.below-below.result step
     c.in_ok-tree.field-0 c.lay_part.new.layer.texts c.lay_part.new.layer.digests told.part made told.count told.digests c.in-Hidden.digest c.in-Hidden.is in

@@ -1,4 +1,4 @@
-use Rattle.std.proofs.Common.{◌≡◌, ◌+◌, ◌*◌}
+use Rattle.std.proofs.Common.{◌+◌, ◌*◌}
 use Rattle.std.specs.Vec.Iter.{into_iter_items}
 use Rattle.claim_tree.specs.Tree.{nodes, elements_nodes, members_nodes}
 use Rattle.marked_tree.specs.Marked.{strip, strip_elements, strip_members}

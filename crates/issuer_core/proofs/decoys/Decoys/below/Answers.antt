@@ -1,9 +1,7 @@
-use Rattle.std.proofs.Common.{◌≡◌, ◌+◌, ◌-◌, ◌≤◌, List, sym, ap, subst, ◌∙◌, length, take, drop, arith}
-use Rattle.claim_tree.specs.Tree.{Text}
-use Rattle.marked_tree.specs.Places.{Path}
+use Rattle.std.proofs.Common.{◌+◌, ◌-◌, sym, ap, subst, ◌∙◌, length, take, drop}
 use Rattle.marked_tree.specs.Rests.{rests, AreSorted, IsRun}
 use Rattle.marked_tree.proofs.PathOrder.{rest_whole, run_sorted}
-use Rattle.issuer_core.specs.Laying.{placed, placed_at}
+use Rattle.issuer_core.specs.Laying.{placed}
 use Rattle.issuer_core.proofs.PlacedDecoys.{placed_below, whole_rest, run_length}
 use Rattle.issuer_core.proofs.decoys.Decoys.below.Goals as goal
 

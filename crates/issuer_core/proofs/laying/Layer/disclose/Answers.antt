@@ -1,5 +1,5 @@
-use Rattle.std.proofs.Common.{◌≡◌, List, ◌∷◌, [], ◌++◌, Some, length, sym, ap, ap₂, ◌∙◌, option_map}
-use Rattle.claim_tree.specs.Tree.{Text, Tree, leaf, text}
+use Rattle.std.proofs.Common.{◌≡◌, ◌∷◌, [], ◌++◌, length, sym, ap, ◌∙◌, option_map}
+use Rattle.claim_tree.specs.Tree.{Text, leaf, text}
 use Rattle.claim_tree.specs.View.{tree_of}
 use Rattle.disclosure.specs.Disclosure.{disclosure_text}
 use Rattle.issuer_core.specs.Laying.{nth, digest, salted}
