@@ -1,10 +1,12 @@
 -- From what is laid and signed to what is issued, and why it is not.
-use Rattle.std.proofs.Common.{◌≡◌, ℕ, zero, suc, ◌+◌, ◌<◌, ◌≤◌, List, [], ◌∷◌, None, Option, Some, ap, ap₂, arith, length, refl, subst, sym, ◌∙◌, IfSome}
+use Rattle.std.proofs.Common.{◌≡◌, ℕ, zero, suc, ◌+◌, ◌<◌, ◌≤◌, List, [], ◌∷◌, None, Option, Some, ap, ap₂, arith, length, refl, subst, sym, ◌∙◌, IfSome, codes}
 use Rattle.std.specs.List.{AllByRecursion}
 use Rattle.b64url_text.specs.Base64url.{IsWord, b64}
 use Rattle.b64url_text.proofs.Codes.{IsWord-b64}
 use Rattle.claim_tree.specs.Lists.{At, Repeats, Nowhere}
-use Rattle.claim_tree.specs.Tree.{Text, Tree, leaf, text, array, object}
+use Rattle.claim_tree.specs.Tree.{Text, Tree, leaf, text, array, object, IsRanged}
+use Rattle.claim_tree.proofs.Datas.{MembersRanged-inserted}
+use Rattle.rebuild_core.specs.Payload.{alg_name}
 use Rattle.claim_tree.specs.JsonText.{json_text}
 use Rattle.compact_form.specs.declared.limits.TheConstants.{ISSUE_MAX}
 use Rattle.compact_form.specs.declared.parts.Parts.{Parts}
@@ -18,16 +20,19 @@ use Rattle.issuer_core.specs.declared.errors.IssueError.TheVariants.{Memory, Sig
 use Rattle.issuer_core.specs.Order.{Order}
 use Rattle.issuer_core.specs.Decoys.{decoys_of}
 use Rattle.issuer_core.specs.GoodOrder.{IsGoodOrder, IsObject}
-use Rattle.issuer_core.specs.Digests.{Maker, hidden_of, AllDiffer}
+use Rattle.issuer_core.specs.Digests.{Maker, hidden_of, AllDiffer, made_texts}
+use Rattle.issuer_core.specs.Laying.{IsLaidFor}
 use Rattle.issuer_core.specs.Laid.{IsLaid, with_alg}
 use Rattle.issuer_core.specs.Clash.{IsFirstClash}
 use Rattle.issuer_core.specs.Refusals.{Refuses, IsRefused, IsLowest, NoneApplies, number_of, place_of}
 use Rattle.issuer_core.specs.Salts.{salt_of}
-use Rattle.issuer_core.specs.Written.{maker_of, texts_from, header_of, IsWritten, IsIssued, IsLaidOut}
-use Rattle.issuer_core.specs.Issue.{first_digests, laid_digests, ClashesAt, IsTooLong, Applies, IsNotIssued, AreLaid, AreSigned, IsUnsigned, HasClash}
+use Rattle.issuer_core.specs.Seed.{maker_of}
+use Rattle.issuer_core.specs.Written.{header_of, IsWritten, IsIssued, IsLaidOut}
+use Rattle.issuer_core.specs.Issue.{first_digests, laid_digests, ClashesAt, IsTooLong, Applies, IsNotIssued, AreSigned, IsUnsigned, HasClash}
 use Rattle.issuer_core.proofs.LaidDecoys.{laid_is_issued_holds}
 use Rattle.issuer_core.proofs.OneLaid.{one_digest}
 use Rattle.issuer_core.proofs.WithAlg.{payload_object}
+use Rattle.issuer_core.proofs.LaidBounds.{payload_ranged}
 
 -- ---- the digests as a list
 
@@ -160,14 +165,23 @@ module _ (maker : Maker) (o : Order) (good : Meaning) where
 
 -- ---- what is laid and signed
 
-module _ (seed : List ℕ) (o : Order) (body : Tree) (texts digests : List Text) (laid : AreLaid seed o body texts digests) where
+list_is : (ds : List Text) (dg : ℕ → Text) (n : ℕ) → length ds ≡ n → ((k : ℕ) (d : Text) → At ds k d → d ≡ dg k) → ds ≡ first_digests dg n
+list_is [] dg zero e each = refl
+list_is [] dg (suc n) e each = absurd (omega (arith, e))
+list_is (d ∷ ds) dg zero e each = absurd (omega (arith, e))
+list_is (d ∷ ds) dg (suc n) e each = ap₂ (λ (x : Text) (xs : List Text). x ∷ xs) (each 0 d refl) (list_is ds (λ k. dg (suc k)) n (omega (arith, e)) (λ k x a. each (suc k) x a))
+
+digests_are : (seed : List ℕ) (o : Order) (body : Tree) (texts digests : List Text) (laid : IsLaidFor (maker_of seed) o body texts digests) → digests ≡ laid_digests o laid.dg
+digests_are seed o body texts digests laid = list_is digests laid.dg (hidden_of o + length (decoys_of o)) laid.count laid.each
+
+module _ (seed : List ℕ) (o : Order) (body : Tree) (texts digests : List Text) (laid : IsLaidFor (maker_of seed) o body texts digests) where
   pub clash_at : (i j : ℕ) → IsFirstClash digests i j → ClashesAt (maker_of seed) o i j
   clash_at i j clash = record {
-    payload = laid.payload;
+    payload = laid.laid;
     given = laid.given;
     digests = laid.dg;
-    laid = laid.laid;
-    clash = subst (λ (ds : List Text). IsFirstClash ds i j) laid.digests_are clash;
+    laid = laid.is_laid;
+    clash = subst (λ (ds : List Text). IsFirstClash ds i j) (digests_are seed o body texts digests laid) clash;
   }
 
   pub clash_refused : (good : Meaning) → NoneApplies (Refuses o) → (error : IssueError) → HasClash digests error → IsNotIssued (maker_of seed) o good error
@@ -187,14 +201,14 @@ module _ (seed : List ℕ) (o : Order) (body : Tree) (texts digests : List Text)
 
   pub no_clash : Nowhere (Repeats digests) → (i j : ℕ) → ClashesAt (maker_of seed) o i j → ⊥
   no_clash none i j clash =
-      let same = one_list (maker_of seed) o clash.payload laid.payload clash.given laid.given clash.digests laid.dg clash.laid laid.laid in
-      none j (subst (λ (ds : List Text). Repeats ds j) (same ∙ sym laid.digests_are) clash.clash.later.fails)
+      let same = one_list (maker_of seed) o clash.payload laid.laid clash.given laid.given clash.digests laid.dg clash.laid laid.is_laid in
+      none j (subst (λ (ds : List Text). Repeats ds j) (same ∙ sym (digests_are seed o body texts digests laid)) clash.clash.later.fails)
 
   module _ (good : Meaning) (parts : Parts) (signed : AreSigned o good body texts parts) where
-    written : IsWritten (maker_of seed) o good laid.payload laid.given parts
+    written : IsWritten (maker_of seed) o good laid.laid laid.given parts
     written = record {
       protected = signed.protected;
-      body = subst (λ t. parts.signed.payload ≡ b64 (json_text t)) laid.body_is signed.payload;
+      body = subst (λ t. parts.signed.payload ≡ b64 (json_text t)) laid.payload_is signed.payload;
       signature = signed.signature;
       signature_text = signed.signature_text;
       signed = signed.signed;
@@ -203,22 +217,22 @@ module _ (seed : List ℕ) (o : Order) (body : Tree) (texts digests : List Text)
     }
 
     pub laid_out : IsLaidOut (maker_of seed) o good parts
-    laid_out = record { payload = laid.payload; given = laid.given; digests = laid.dg; laid = laid.laid; written = written }
+    laid_out = record { payload = laid.laid; given = laid.given; digests = laid.dg; laid = laid.is_laid; written = written }
 
     pub issued : IsGoodOrder o → Nowhere (Repeats digests) → IsIssued (maker_of seed) o good parts
     issued is_good none = record {
-      payload = laid.payload;
+      payload = laid.laid;
       given = laid.given;
-      issued = laid_is_issued_holds (maker_of seed) o laid.payload laid.given laid.dg is_good laid.laid
-          (all_differ laid.dg (hidden_of o + length (decoys_of o)) (subst (λ (ds : List Text). Nowhere (Repeats ds)) laid.digests_are none));
+      issued = laid_is_issued_holds (maker_of seed) o laid.laid laid.given laid.dg is_good laid.is_laid
+          (all_differ laid.dg (hidden_of o + length (decoys_of o)) (subst (λ (ds : List Text). Nowhere (Repeats ds)) (digests_are seed o body texts digests laid) none));
       written = written;
     }
 
 -- ---- words
 
-pub body_object : (seed : List ℕ) (o : Order) (body : Tree) (texts digests : List Text) → IsGoodOrder o → AreLaid seed o body texts digests → IsObject body
+pub body_object : (seed : List ℕ) (o : Order) (body : Tree) (texts digests : List Text) → IsGoodOrder o → IsLaidFor (maker_of seed) o body texts digests → IsObject body
 body_object seed o body texts digests good laid =
-    subst IsObject (sym laid.body_is) (with_alg_object laid.payload (payload_object (maker_of seed) o laid.payload laid.given laid.dg good laid.laid))
+    subst IsObject (sym laid.payload_is) (with_alg_object laid.laid (payload_object (maker_of seed) o laid.laid laid.given laid.dg good laid.is_laid))
   where
     with_alg_object : (t : Tree) → IsObject t → IsObject (with_alg t)
     with_alg_object (object ms) h = tt
@@ -229,7 +243,7 @@ disclosure_word : (salt : Tree) (name : Option Text) (value : Tree) → IsWord (
 disclosure_word salt None value = IsWord-b64 (json_text (array_of salt None value)) (omega arith)
 disclosure_word salt (Some name) value = IsWord-b64 (json_text (array_of salt (Some name) value)) (omega arith)
 
-texts_words : (seed : List ℕ) (k : ℕ) (given : List Given) → AllByRecursion IsWord (texts_from (maker_of seed) k given)
+texts_words : (seed : List ℕ) (k : ℕ) (given : List Given) → AllByRecursion IsWord (made_texts (maker_of seed).disclosure k given)
 texts_words seed k [] = tt
 texts_words seed k (x ∷ given) = (disclosure_word (leaf (text (salt_of seed k))) x.name x.value, texts_words seed (suc k) given)
 
@@ -239,7 +253,7 @@ object_word (leaf l) h = absurd h
 object_word (array es) h = absurd h
 
 pub words : (seed : List ℕ) (o : Order) (body : Tree) (digests : List Text) (good : Meaning) (parts : Parts) → IsObject body
-    → (texts : List Text) → AreLaid seed o body texts digests → AreSigned o good body texts parts → AreWords parts
+    → (texts : List Text) → IsLaidFor (maker_of seed) o body texts digests → AreSigned o good body texts parts → AreWords parts
 words seed o body digests good parts is_object texts laid signed = record {
   signed = record {
     protected = subst IsWord (sym signed.protected) (object_word (object (header_members (header_of o))) tt);
@@ -249,3 +263,17 @@ words seed o body digests good parts is_object texts laid signed = record {
   disclosures = subst (λ (ds : List Text). AllByRecursion IsWord ds) (sym (signed.disclosures ∙ laid.texts_are)) (texts_words seed 0 laid.given);
   binding = subst (λ b. IfSome b HasWords) (sym signed.unbound) tt;
 }
+
+-- ---- what laying asks for, and the range of what is laid
+
+pub not_more : (a b : ℕ) → (a < b → ⊥) → b ≤ a
+not_more a b h = grind arith
+
+with_alg_ranged : (t : Tree) → IsRanged t → IsRanged (with_alg t)
+with_alg_ranged (object ms) r = MembersRanged-inserted ms alg_name (leaf (text (codes "sha-256"))) r tt
+with_alg_ranged (leaf l) r = r
+with_alg_ranged (array es) r = r
+
+pub body_ranged : (seed : List ℕ) (o : Order) (body : Tree) (texts digests : List Text) → IsLaidFor (maker_of seed) o body texts digests → IsRanged o.claims → IsRanged body
+body_ranged seed o body texts digests laid ranged =
+    subst IsRanged (sym laid.payload_is) (with_alg_ranged laid.laid (payload_ranged (maker_of seed) o laid.laid laid.given laid.dg laid.is_laid ranged))

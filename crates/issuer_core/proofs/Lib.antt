@@ -31,3 +31,11 @@ pub mod Judged
 pub mod ListForms
 pub mod KeyTexts
 pub mod OrderFiles
+pub mod PlacedDecoys
+pub mod SortedEntries
+pub mod SortedDigests
+pub mod LayingSteps
+pub mod LayingElements
+pub mod LayingMembers
+pub mod LaidOrders
+mod Examples

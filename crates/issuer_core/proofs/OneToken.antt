@@ -12,11 +12,11 @@ use Rattle.digest_sites.specs.Given.{Given}
 use Rattle.issuer_core.specs.declared.errors.IssueError.{IssueError}
 use Rattle.issuer_core.specs.declared.errors.IssueError.TheVariants.{DigestClash, TooLong}
 use Rattle.issuer_core.specs.Order.{Order}
-use Rattle.issuer_core.specs.Digests.{Maker}
+use Rattle.issuer_core.specs.Digests.{Maker, made_texts}
 use Rattle.issuer_core.specs.Laid.{with_alg}
 use Rattle.issuer_core.specs.Clash.{IsFirstClash}
 use Rattle.issuer_core.specs.Refusals.{Refuses, NoneApplies, IsLowest}
-use Rattle.issuer_core.specs.Written.{texts_from, IsWritten, IsLaidOut}
+use Rattle.issuer_core.specs.Written.{IsWritten, IsLaidOut}
 use Rattle.issuer_core.specs.Issue.{Applies, HasNoClash, ClashesAt, IsTooLong}
 use Rattle.issuer_core.proofs.OneLaid.{one_payload, one_given}
 
@@ -35,7 +35,7 @@ module _ (maker : Maker) (o : Order) (key : List ℕ) where
       let body : parts.signed.payload ≡ other.signed.payload = this.body ∙ (ap (λ t. b64 (json_text (with_alg t))) same_payload ∙ sym that.body) in
       let signatures : this.signature ≡ that.signature = this.signed ∙ (ap₂ (λ (x y : Text). mac key x y) protected body ∙ sym that.signed) in
       let signature : parts.signed.signature ≡ other.signed.signature = this.signature_text ∙ (ap b64 signatures ∙ sym that.signature_text) in
-      let disclosures : parts.disclosures ≡ other.disclosures = this.disclosures ∙ (ap (texts_from maker 0) same_given ∙ sym that.disclosures) in
+      let disclosures : parts.disclosures ≡ other.disclosures = this.disclosures ∙ (ap (made_texts maker.disclosure 0) same_given ∙ sym that.disclosures) in
       let binding : parts.binding ≡ other.binding = this.unbound ∙ sym that.unbound in
       same_parts parts.signed.protected parts.signed.payload parts.signed.signature parts.disclosures parts.binding
       other.signed.protected other.signed.payload other.signed.signature other.disclosures other.binding protected body signature disclosures binding

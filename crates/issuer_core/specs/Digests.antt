@@ -15,6 +15,11 @@ pub record Maker : Type 0 where
   pub piece : ℕ → Text
   pub digest : Text → Text
 
+-- the texts of disclosures, where the first has the number k
+abbrev pub made_texts : (ℕ → Option Text → Tree → Text) → ℕ → List Given → List Text
+made_texts made k [] = []
+made_texts made k (x ∷ xs) = made k x.name x.value ∷ made_texts made (suc k) xs
+
 -- the claims, the hidden places numbered
 abbrev pub marked_of : Order → Marked
 marked_of o = mark o.claims o.hide

@@ -15,10 +15,10 @@ use Rattle.issuer_core.specs.declared.errors.IssueError.TheVariants.{Memory, Sig
 use Rattle.issuer_core.specs.Order.{Order}
 use Rattle.issuer_core.specs.Decoys.{decoys_of}
 use Rattle.issuer_core.specs.Digests.{Maker, hidden_of}
-use Rattle.issuer_core.specs.Laid.{IsLaid, with_alg}
+use Rattle.issuer_core.specs.Laid.{IsLaid}
 use Rattle.issuer_core.specs.Clash.{IsFirstClash}
 use Rattle.issuer_core.specs.Refusals.{Refuses, IsLowest}
-use Rattle.issuer_core.specs.Written.{IsLaidOut, maker_of, texts_from, header_of}
+use Rattle.issuer_core.specs.Written.{IsLaidOut, header_of}
 
 -- the first n digests
 abbrev pub first_digests : (ℕ → Text) → ℕ → List Text
@@ -57,16 +57,6 @@ abbrev pub IsNotIssued : Maker → Order → Meaning → IssueError → Type 0
 IsNotIssued maker o good Memory = Unit {0}
 IsNotIssued maker o good SignFailed = Unit {0}
 IsNotIssued maker o good error = IsLowest (Applies maker o good) error
-
--- for private functions: a payload with the name of its hash, disclosures and digests are those of what is laid
-pub record AreLaid (seed : List ℕ) (o : Order) (body : Tree) (texts digests : List Text) : Type 0 where
-  pub payload : Tree
-  pub given : List Given
-  pub dg : ℕ → Text
-  pub laid : IsLaid (maker_of seed) o payload given dg
-  pub body_is : body ≡ with_alg payload
-  pub texts_are : texts ≡ texts_from (maker_of seed) 0 given
-  pub digests_are : digests ≡ laid_digests o dg
 
 -- for conversions: the answer where nothing is signed
 abbrev pub unsigned : SignError → IssueError

@@ -10,7 +10,8 @@ use Rattle.issuer_core.specs.Decoys.{decoys_of}
 use Rattle.issuer_core.specs.Digests.{Maker, hidden_of, AllDiffer}
 use Rattle.issuer_core.specs.Laid.{IsLaid}
 use Rattle.issuer_core.specs.Issued.{IsIssuedFor}
-use Rattle.issuer_core.specs.Written.{maker_of, IsLaidOut}
+use Rattle.issuer_core.specs.Seed.{maker_of}
+use Rattle.issuer_core.specs.Written.{IsLaidOut}
 use Rattle.compact_form.specs.declared.parts.Parts.{Parts}
 use Rattle.hmac_sign.specs.Hmac.{IsGood}
 

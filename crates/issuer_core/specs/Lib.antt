@@ -18,3 +18,6 @@ pub mod Closing
 pub mod FileLists
 pub mod KeyText
 pub mod OrderFile
+pub mod Closing
+pub mod Seed
+pub mod Laying

@@ -1,34 +1,17 @@
 -- The token that is written for an order, RFC 9901 sections 4.1 and 4.2: its texts, and the signature over them.
-use Rattle.std.specs.Prelude.{◌≡◌, ℕ, suc, List, [], ◌∷◌, None, codes}
+use Rattle.std.specs.Prelude.{◌≡◌, ℕ, List, None, codes}
 use Rattle.b64url_text.specs.Base64url.{b64}
-use Rattle.claim_tree.specs.Tree.{Text, Tree, leaf, text, object}
+use Rattle.claim_tree.specs.Tree.{Text, Tree, object}
 use Rattle.claim_tree.specs.JsonText.{json_text}
 use Rattle.compact_form.specs.declared.parts.Parts.{Parts}
 use Rattle.hmac_sign.specs.Signatures.{Meaning}
-use Rattle.disclosure.specs.Digest.{digest_of}
-use Rattle.disclosure.specs.Disclosure.{disclosure_text}
-use Rattle.disclosure.specs.declared.digests.HashAlg.TheVariants.{Sha256}
 use Rattle.jws_part.specs.declared.header.Header.{Header}
 use Rattle.jws_part.specs.Header.{header_members}
 use Rattle.digest_sites.specs.Given.{Given}
 use Rattle.issuer_core.specs.Order.{Order}
-use Rattle.issuer_core.specs.Digests.{Maker}
+use Rattle.issuer_core.specs.Digests.{Maker, made_texts}
 use Rattle.issuer_core.specs.Laid.{with_alg, IsLaid}
 use Rattle.issuer_core.specs.Issued.{IsIssuedFor}
-use Rattle.issuer_core.specs.Salts.{salt_of}
-
--- what is made of a seed: disclosure k has the salt k, a decoy is the salt of its number, and digests are those of SHA-256
-abbrev pub maker_of : List ℕ → Maker
-maker_of seed = record {
-  disclosure = λ k name value. disclosure_text (leaf (text (salt_of seed k))) name value;
-  piece = salt_of seed;
-  digest = digest_of Sha256;
-}
-
--- the texts of disclosures, where the first has the number k
-abbrev pub texts_from : Maker → ℕ → List Given → List Text
-texts_from maker k [] = []
-texts_from maker k (x ∷ given) = maker.disclosure k x.name x.value ∷ texts_from maker (suc k) given
 
 abbrev pub header_of : Order → Header
 header_of o = record { alg = codes "HS256"; kid = o.kid; typ = o.typ }
@@ -41,7 +24,7 @@ pub record IsWritten (maker : Maker) (o : Order) (good : Meaning) (payload : Tre
   pub signature : List ℕ
   pub signature_text : parts.signed.signature ≡ b64 signature
   pub signed : good parts.signed.protected parts.signed.payload signature
-  pub disclosures : parts.disclosures ≡ texts_from maker 0 given
+  pub disclosures : parts.disclosures ≡ made_texts maker.disclosure 0 given
   pub unbound : parts.binding ≡ None
 
 -- the parts are issued for the order: what they show, and how they are written

@@ -10,7 +10,7 @@ ghost use Rattle.marked_tree.specs.View.{marked_of};
 use claim_tree::{PathList, Tree, print_path};
 use compact_form::COUNT_MAX;
 use digest_index::{DigestIndex, Steps as LookUps};
-use marked_tree::{Marked, mark};
+use marked_tree::{Marked, mark_counted};
 use sd_outside::NoMemory;
 use std::alloc::Global;
 
@@ -32,18 +32,19 @@ pub(crate) fn different(alloc: Global, paths: &PathList) -> Result<PathList, NoM
     Ok(kept)
 }
 
-// The payload with a mark at each place that is hidden.
+// The payload with a mark at each place that is hidden, and how many these are.
 pub(crate) fn mark_hidden(
     alloc: Global,
     payload: &Tree,
     hide: &PathList,
-) -> Result<Marked, NoMemory>
+) -> Result<(Marked, u32), NoMemory>
     requires depth { depth_of (tree_of payload.now) ≤ 127 }
     requires few { distinct_count same_path hide.now ≤ COUNT_MAX }
-    ensures marked { IfOk result (λ marked. marked_of marked ≡ mark_of (tree_of payload.now) hide.now) }
-    ensures strips { IfOk result (λ marked. strip (marked_of marked) ≡ tree_of payload.now) }
-    ensures count { IfOk result (λ _. hidden_count (tree_of payload.now) hide.now ≤ COUNT_MAX) }
+    ensures marked { IfOk result (λ marked. marked_of marked.0 ≡ mark_of (tree_of payload.now) hide.now) }
+    ensures strips { IfOk result (λ marked. strip (marked_of marked.0) ≡ tree_of payload.now) }
+    ensures count { IfOk result (λ marked. marked.1 ≡ hidden_count (tree_of payload.now) hide.now) }
+    ensures few { IfOk result (λ marked. marked.1 ≤ COUNT_MAX) }
 {
     let kept = different(alloc, hide)?;
-    mark(alloc, payload, &kept)
+    mark_counted(alloc, payload, &kept)
 }

@@ -8,7 +8,8 @@ ghost use Rattle.compact_form.specs.Compact.{compact, AreWords};
 ghost use Rattle.hmac_sign.specs.Signatures.{Agree};
 ghost use Rattle.issuer_core.specs.declared.errors.IssueError.{IssueError};
 ghost use Rattle.issuer_core.specs.Order.{order_of};
-ghost use Rattle.issuer_core.specs.Written.{maker_of, IsIssued, IsLaidOut};
+ghost use Rattle.issuer_core.specs.Seed.{maker_of};
+ghost use Rattle.issuer_core.specs.Written.{IsIssued, IsLaidOut};
 ghost use Rattle.b64url_text.specs.Base64url.{b64};
 ghost use Rattle.claim_tree.specs.Tree.{object};
 ghost use Rattle.claim_tree.specs.JsonText.{json_text};
@@ -109,7 +110,7 @@ fn sign_laid<S: Signer>(
     signer: &mut S,
 ) -> Result<Parts, IssueError>
     requires ranged { IsRanged (tree_of laid.payload) }
-    ensures signed { IfOk result (AreSigned (order_of order.now) (S.good signer.old) (tree_of laid.payload) laid.disclosures) }
+    ensures signed { IfOk result (AreSigned (order_of order.now) (S.good signer.old) (tree_of laid.payload) laid.texts) }
     ensures unsigned { IfErr result (IsUnsigned) }
     ensures failed { IsErrOf result IssueError.SignFailed → Rose (S.faults signer.old) (S.faults signer.new) }
     ensures same_good { Agree (S.good signer.new) (S.good signer.old) }
@@ -126,7 +127,7 @@ fn sign_laid<S: Signer>(
             payload,
             signature,
         },
-        disclosures: laid.disclosures,
+        disclosures: laid.texts,
         binding: None,
     })
 }

@@ -1,15 +1,18 @@
 //! Issuing an SD-JWT, RFC 9901 section 4.2: places of a payload hidden behind the digests of their disclosures, and decoys.
 #![tactic(auto)]
 
-pub mod laws;
 mod clash;
+mod decoys;
 mod errors;
 mod file_list;
 mod hidden;
 mod issuing;
 mod judging;
 mod key_text;
+pub mod laws;
 mod laying;
+#[cfg(test)]
+mod laying_tests;
 mod order;
 mod order_file;
 #[cfg(test)]

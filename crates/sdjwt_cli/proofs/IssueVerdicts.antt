@@ -8,7 +8,8 @@ use Rattle.issuer_core.specs.declared.errors.IssueError.{IssueError}
 use Rattle.issuer_core.specs.Order.{Order, order_of}
 use Rattle.issuer_core.specs.Refusals.{IsLowest}
 use Rattle.issuer_core.specs.RefusalLine.{refusal_text}
-use Rattle.issuer_core.specs.Written.{maker_of, IsLaidOut}
+use Rattle.issuer_core.specs.Seed.{maker_of}
+use Rattle.issuer_core.specs.Written.{IsLaidOut}
 use Rattle.issuer_core.specs.Issue.{Applies}
 use Rattle.issuer_core.proofs.OrderFiles as orders
 use Rattle.issuer_core.proofs.OneToken.{one_token, issued_not_refused}

@@ -12,7 +12,8 @@ use Rattle.issuer_core.specs.OrderFile.{IsOrderFile, IsOrderRefused}
 use Rattle.issuer_core.specs.Digests.{Maker}
 use Rattle.issuer_core.specs.Refusals.{Refuses, NoneApplies, IsLowest}
 use Rattle.issuer_core.specs.RefusalLine.{refusal_text}
-use Rattle.issuer_core.specs.Written.{maker_of, IsIssued, IsLaidOut}
+use Rattle.issuer_core.specs.Seed.{maker_of}
+use Rattle.issuer_core.specs.Written.{IsIssued, IsLaidOut}
 use Rattle.issuer_core.specs.Issue.{Applies, HasNoClash}
 use Rattle.sdjwt_cli.specs.declared.issue.TheConstants.{SEED_LEN}
 use Rattle.sdjwt_cli.specs.Lines.{line, unreadable_line, short_seed}

@@ -1,5 +1,5 @@
 -- The law of the definitions.
-use Rattle.issuer_core.specs.Written.{maker_of}
+use Rattle.issuer_core.specs.Seed.{maker_of}
 use Rattle.issuer_core.proofs.OneToken as tokens
 use Rattle.issuer_core.proofs.laws.one_token.Goals as goal
 

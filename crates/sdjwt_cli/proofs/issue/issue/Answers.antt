@@ -3,7 +3,7 @@ use Rattle.issuer_core.specs.declared.errors.IssueError.TheVariants.{Memory, Sig
 use Rattle.issuer_core.specs.declared.order_file.IssueFile.{IssueFile}
 use Rattle.issuer_core.specs.Order.{order_of}
 use Rattle.hmac_sign.specs.Hmac.{IsGood}
-use Rattle.issuer_core.specs.Written.{maker_of}
+use Rattle.issuer_core.specs.Seed.{maker_of}
 use Rattle.sdjwt_cli.specs.Lines.{line}
 use Rattle.sdjwt_cli.specs.Issuing.{no_order, no_seed}
 use Rattle.sdjwt_cli.proofs.Issuings.{is_asked, never, lowest, line_of}
