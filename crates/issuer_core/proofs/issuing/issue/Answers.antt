@@ -1,10 +1,14 @@
 use Rattle.std.proofs.Common.{◌<◌, length, sym, subst, ◌∙◌}
-use Rattle.compact_form.specs.declared.limits.TheConstants.{ISSUE_MAX}
+use Rattle.std.specs.Set.{distinct_count}
+use Rattle.compact_form.specs.declared.limits.TheConstants.{ISSUE_MAX, COUNT_MAX}
+use Rattle.marked_tree.specs.Places.{same_path}
+use Rattle.issuer_core.specs.Decoys.{places}
+use Rattle.issuer_core.specs.declared.errors.IssueError.TheVariants.{TooManyHidden, TooManyDecoys}
 use Rattle.claim_tree.specs.View.{tree_of}
 use Rattle.issuer_core.specs.Order.{order_of}
 use Rattle.issuer_core.specs.Seed.{maker_of}
 use Rattle.issuer_core.specs.Issue.{AreSigned}
-use Rattle.issuer_core.proofs.FromLaid.{order_refused, clash_refused, unsigned_refused, long_lowest, no_clash, laid_out, issued, words, body_object}
+use Rattle.issuer_core.proofs.FromLaid.{order_refused, clash_refused, unsigned_refused, long_lowest, no_clash, laid_out, issued, words, body_object, body_ranged, not_more}
 use Rattle.issuer_core.proofs.issuing.issue.Goals as goal
 
 pub returns-in-Err-judge_digests-clause-refused : goal.returns-in-Err-judge_digests-clause-refused
@@ -49,3 +53,14 @@ pub returns-clause-differ : goal.returns-clause-differ
 returns-clause-differ g c =
     let o = order_of c.args.order.now in
     no_clash c.args.seed.now o (tree_of c.in_ok-laid.laid.payload) c.in_ok-laid.laid.texts c.in_ok-laid.laid.digests c.in_ok-laid.ensures c.in_default-judge_digests.ensures.differ
+
+pub lay_order-requires-clause-few : goal.lay_order-requires-clause-few
+lay_order-requires-clause-few g c = not_more COUNT_MAX (distinct_count same_path c.args.order.now.hide) (c.in_default.ensures.passes TooManyHidden)
+
+pub lay_order-requires-clause-decoys : goal.lay_order-requires-clause-decoys
+lay_order-requires-clause-decoys g c = not_more COUNT_MAX (length (places c.args.order.now.decoys)) (c.in_default.ensures.passes TooManyDecoys)
+
+pub sign_laid-requires : goal.sign_laid-requires
+sign_laid-requires g c =
+    let o = order_of c.args.order.now in
+    record { ranged = body_ranged c.args.seed.now o (tree_of c.in_ok-laid.laid.payload) c.in_ok-laid.laid.texts c.in_ok-laid.laid.digests c.in_ok-laid.ensures c.requires.ranged; }
