@@ -11,8 +11,6 @@ mod judging;
 mod key_text;
 pub mod laws;
 mod laying;
-#[cfg(test)]
-mod laying_tests;
 mod order;
 mod order_file;
 #[cfg(test)]
