@@ -12,6 +12,8 @@ mod key_text;
 mod laying;
 mod order;
 mod order_file;
+#[cfg(test)]
+mod order_file_tests;
 mod refusal;
 mod reserved;
 mod salts;
