@@ -1,11 +1,10 @@
 -- The command `issue` has one verdict over its files.
-use Rattle.std.proofs.Common.{◌≡◌, ℕ, ◌<◌, ◌≤◌, List, ap, ◌∙◌, sym, subst, arith, length}
-use Rattle.compact_form.specs.declared.limits.TheConstants.{ISSUE_MAX}
+use Rattle.std.proofs.Common.{◌≡◌, ℕ, List, ap, ◌∙◌, sym, subst, arith}
 use Rattle.compact_form.specs.declared.parts.Parts.{Parts}
 use Rattle.compact_form.specs.Compact.{compact}
 use Rattle.hmac_sign.specs.Hmac.{IsGood}
 use Rattle.issuer_core.specs.declared.errors.IssueError.{IssueError}
-use Rattle.issuer_core.specs.Order.{Order, order_of}
+use Rattle.issuer_core.specs.Order.{Order}
 use Rattle.issuer_core.specs.Refusals.{IsLowest}
 use Rattle.issuer_core.specs.RefusalLine.{refusal_text}
 use Rattle.issuer_core.specs.Seed.{maker_of}

@@ -17,14 +17,6 @@ pub(crate) fn order_for(alloc: Global, payload: &str, more: &str) -> Result<Stri
     Ok(format!(in alloc; r#"{{"payload":{payload},"key":"{key}"{more}}}"#)?)
 }
 
-fn is_refused(rt: &HostRuntime, order: &str, line: &str) -> Result<(), Fail> {
-    let ran = issue(rt.alloc(), order, &[0; 32])?;
-    assert_eq!(rt; ran.status, Status::Refused, "{line}");
-    assert_eq!(rt; ran.err.written(), line.as_bytes(), "{line}");
-    assert!(rt; ran.out.written().is_empty(), "{line}");
-    Ok(())
-}
-
 const LIST: &str = r#"{"n":["A","B","C"]}"#;
 
 #[test]
@@ -79,48 +71,52 @@ fn an_order_is_refused_by_number_name_and_place(rt: HostRuntime) -> Result<(), F
         ),
     ] {
         let order = order_for(rt.alloc(), payload, more)?;
-        is_refused(&rt, order.as_str(), line)?;
+        let ran = issue(rt.alloc(), order.as_str(), &[0; 32])?;
+        assert_eq!(rt; ran.status, Status::Refused, "{line}");
+        assert_eq!(rt; ran.err.written(), line.as_bytes(), "{line}");
+        assert!(rt; ran.out.written().is_empty(), "{line}");
     }
     Ok(())
 }
 
-// So many copies of a text, with commas between them.
-fn listed(alloc: Global, count: usize) -> Result<(String, String), Fail> {
+// The order that hides each of so many elements of a list.
+fn hiding(alloc: Global, count: usize) -> Result<String, Fail> {
     let mut zeros = String::from_str(alloc, "0")?;
     let mut places = String::from_str(alloc, r#""/n/0""#)?;
     for i in 1..count {
         zeros.push_str(",0")?;
         places.push_str(format!(in alloc; r#","/n/{i}""#)?.as_str())?;
     }
-    Ok((zeros, places))
+    let (zeros, places) = (zeros.as_str(), places.as_str());
+    let payload = format!(in alloc; r#"{{"n":[{zeros}]}}"#)?;
+    let hide = format!(in alloc; r#","hide":[{places}]"#)?;
+    order_for(alloc, payload.as_str(), hide.as_str())
+}
+
+// The order for a member that holds so many nested lists.
+fn nesting(alloc: Global, depth: usize) -> Result<String, Fail> {
+    let mut payload = String::from_str(alloc, r#"{"a":"#)?;
+    for _ in 0..depth {
+        payload.push('[')?;
+    }
+    for _ in 0..depth {
+        payload.push(']')?;
+    }
+    payload.push('}')?;
+    order_for(alloc, payload.as_str(), "")
 }
 
 #[test]
 fn an_order_with_too_much_is_refused(rt: HostRuntime) -> Result<(), Fail> {
     let alloc = rt.alloc();
-    let (zeros, places) = listed(alloc, 4_097)?;
-    let (zeros, places) = (zeros.as_str(), places.as_str());
-    let payload = format!(in alloc; r#"{{"n":[{zeros}]}}"#)?;
-    let hide = format!(in alloc; r#","hide":[{places}]"#)?;
-    let order = order_for(alloc, payload.as_str(), hide.as_str())?;
-    is_refused(&rt, order.as_str(), "refused 58 tooManyHidden\n")?;
-    let (mut open, mut close) = (String::new(alloc), String::new(alloc));
-    for _ in 0..100 {
-        open.push('[')?;
-        close.push(']')?;
+    for (order, line) in [
+        (hiding(alloc, 4_097)?, "refused 58 tooManyHidden\n"),
+        (nesting(alloc, 100)?, "refused 53 payloadTooDeep\n"),
+    ] {
+        let ran = issue(alloc, order.as_str(), &[0; 32])?;
+        assert_eq!(rt; ran.status, Status::Refused, "{line}");
+        assert_eq!(rt; ran.err.written(), line.as_bytes(), "{line}");
     }
-    let (open, close) = (open.as_str(), close.as_str());
-    let payload = format!(in alloc; r#"{{"a":{open}{close}}}"#)?;
-    let order = order_for(alloc, payload.as_str(), "")?;
-    is_refused(&rt, order.as_str(), "refused 53 payloadTooDeep\n")
-}
-
-fn is_unreadable(rt: &HostRuntime, order: &str, seed: &[u8], reason: &str) -> Result<(), Fail> {
-    let ran = issue(rt.alloc(), order, seed)?;
-    let line = format!(in rt.alloc(); "unreadable {reason}\n")?;
-    assert_eq!(rt; ran.status, Status::Unreadable, "{reason}");
-    assert_eq!(rt; ran.err.written(), line.as_bytes(), "{reason}");
-    assert!(rt; ran.out.written().is_empty(), "{reason}");
     Ok(())
 }
 
@@ -156,8 +152,13 @@ fn a_file_that_is_no_order_has_its_reason(rt: HostRuntime) -> Result<(), Fail> {
         (with(r#","typ":[]"#)?, "1 wrong typ"),
     ] {
         // what stands beside it as the seed is not judged
-        is_unreadable(&rt, order.as_str(), &[0; 32], reason)?;
-        is_unreadable(&rt, order.as_str(), b"", reason)?;
+        let line = format!(in alloc; "unreadable {reason}\n")?;
+        for seed in [[0; 32].as_slice(), b"".as_slice()] {
+            let ran = issue(alloc, order.as_str(), seed)?;
+            assert_eq!(rt; ran.status, Status::Unreadable, "{reason}");
+            assert_eq!(rt; ran.err.written(), line.as_bytes(), "{reason}");
+            assert!(rt; ran.out.written().is_empty(), "{reason}");
+        }
     }
     Ok(())
 }
@@ -167,8 +168,12 @@ fn a_seed_has_32_bytes_at_its_front(rt: HostRuntime) -> Result<(), Fail> {
     let refused = order_for(rt.alloc(), "[]", "")?;
     let good = order_for(rt.alloc(), "{}", "")?;
     for order in [refused.as_str(), good.as_str()] {
-        is_unreadable(&rt, order, &[0; 31], "2 short")?;
-        is_unreadable(&rt, order, b"", "2 short")?;
+        for seed in [[0; 31].as_slice(), b"".as_slice()] {
+            let ran = issue(rt.alloc(), order, seed)?;
+            assert_eq!(rt; ran.status, Status::Unreadable);
+            assert_eq!(rt; ran.err.written(), b"unreadable 2 short\n".as_slice());
+            assert!(rt; ran.out.written().is_empty());
+        }
     }
     for seed in [[0; 33].as_slice(), [0; 32].as_slice()] {
         let ran = issue(rt.alloc(), refused.as_str(), seed)?;

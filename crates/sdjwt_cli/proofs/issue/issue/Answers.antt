@@ -1,6 +1,5 @@
-use Rattle.std.proofs.Common.{◌≡◌, ◌≢◌, Err, ap, ◌∙◌, rules}
+use Rattle.std.proofs.Common.{◌≢◌, Err, ap, ◌∙◌, rules}
 use Rattle.issuer_core.specs.declared.errors.IssueError.TheVariants.{Memory, SignFailed}
-use Rattle.issuer_core.specs.declared.order_file.IssueFile.{IssueFile}
 use Rattle.issuer_core.specs.Order.{order_of}
 use Rattle.hmac_sign.specs.Hmac.{IsGood}
 use Rattle.issuer_core.specs.Seed.{maker_of}
