@@ -8,6 +8,8 @@ mod command;
 mod issue;
 #[cfg(test)]
 mod issue_tests;
+#[cfg(test)]
+mod issued_tests;
 pub mod laws;
 mod lines;
 mod show;
