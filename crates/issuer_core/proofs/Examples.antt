@@ -71,14 +71,14 @@ word k = leaf (text (digests k))
 abbrev dots : ℕ → Tree
 dots k = object (member (codes "...") (word k) no_members)
 
--- {"_sd":[D0,D2,D4],"l":[{"...":D3},5,{"...":D6},{"...":D7}]}
+-- {"_sd":[#0,#2,#4],"l":[{"...":#3},5,{"...":#6},{"...":#7}]}
 payload_is : payload
     ≡ object (member (codes "_sd") (array (element (word 0) (element (word 2) (element (word 4) no_elements))))
     (member (codes "l") (array (element (dots 3) (element (number 5) (element (dots 6) (element (dots 7) no_elements))))) no_members))
 unfolding sd_name dots_name digits
 payload_is = refl
 
--- the value of /b is {"_sd":[D1,D5],"d":3}
+-- the value of /b is {"_sd":[#1,#5],"d":3}
 given_are : map (λ (x : Given). x.value) given
     ≡ number 1 ∷ number 2 ∷ object (member (codes "_sd") (array (element (word 1) (element (word 5) no_elements))) (member (codes "d") (number 3) no_members)) ∷ number 4 ∷ []
 unfolding sd_name dots_name digits
