@@ -30,11 +30,7 @@ pub fn mark(alloc: Global, tree: &Tree, paths: &PathList) -> Result<Marked, NoMe
 }
 
 /// The same, and how many marks there are.
-pub fn mark_counted(
-    alloc: Global,
-    tree: &Tree,
-    paths: &PathList,
-) -> Result<(Marked, u32), NoMemory>
+pub fn mark_counted(alloc: Global, tree: &Tree, paths: &PathList) -> Result<(Marked, u32), NoMemory>
     requires depth { depth_of (tree_of tree.now) ≤ 127 }
     requires few { length paths.now < 2 ^ 32 - 1 }
     ensures marked { IfOk result (λ marked. marked_of marked.0 ≡ mark_of (tree_of tree.now) paths.now) }

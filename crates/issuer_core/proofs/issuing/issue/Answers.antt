@@ -63,4 +63,4 @@ lay_order-requires-clause-decoys g c = not_more COUNT_MAX (length (places c.args
 pub sign_laid-requires : goal.sign_laid-requires
 sign_laid-requires g c =
     let o = order_of c.args.order.now in
-    record { ranged = body_ranged c.args.seed.now o (tree_of c.in_ok-laid.laid.payload) c.in_ok-laid.laid.texts c.in_ok-laid.laid.digests c.in_ok-laid.ensures c.requires.ranged; }
+    record { ranged = body_ranged c.args.seed.now o (tree_of c.in_ok-laid.laid.payload) c.in_ok-laid.laid.texts c.in_ok-laid.laid.digests c.in_ok-laid.ensures c.requires.ranged }
