@@ -38,4 +38,3 @@ pub mod LayingSteps
 pub mod LayingElements
 pub mod LayingMembers
 pub mod LaidOrders
-mod Examples

@@ -18,6 +18,5 @@ pub mod Closing
 pub mod FileLists
 pub mod KeyText
 pub mod OrderFile
-pub mod Closing
 pub mod Seed
 pub mod Laying
