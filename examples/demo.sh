@@ -4,7 +4,8 @@ set -eu
 cd "$(dirname "$0")"
 top=$(cd .. && pwd)
 log=$(mktemp)
-trap 'rm -f "$log"' EXIT
+issued=$(mktemp -d)
+trap 'rm -rf "$log" "$issued"' EXIT
 
 if ! (cd "$top/crates/sdjwt" && rt run -- split data/token) >"$log" 2>&1; then
     cat "$log" >&2
@@ -29,3 +30,12 @@ show verify rfc9901.txt policy.json
 show verify policy.json rfc9901.txt
 show verify policy_birthdate.json rfc9901_chosen.txt
 show verify policy.json rfc9901_chosen.txt
+
+# A token of one's own: issued, shown, and verified with all of its disclosures.
+show issue seed.txt order.json
+show issue order.json seed.txt
+"$sdjwt" issue order.json seed.txt >"$issued/issued.txt"
+cp policy.json "$issued"
+cd "$issued"
+show show issued.txt
+show verify policy.json issued.txt

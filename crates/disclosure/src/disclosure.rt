@@ -78,20 +78,19 @@ pub fn read_disclosure(alloc: Global, text: &str) -> Result<Disclosure, Disclosu
 }
 
 // The list of a salt, a name and a value.
-fn list_of(alloc: Global, salt: &str, name: Option<&str>, value: &Tree) -> Result<Tree, NoMemory>
-    requires { depth (tree_of value.now) ≤ 126 }
-    ensures { IfOk result (λ t. tree_of t ≡ array_of (leaf (text_leaf salt.now)) (option_map (λ n. n.now) name.entry) (tree_of value.now)) }
+fn list_of(alloc: Global, salt: &str, name: Option<&str>, value: Tree) -> Result<Tree, NoMemory>
+    ensures { IfOk result (λ t. tree_of t ≡ array_of (leaf (text_leaf salt.now)) (option_map (λ n. n.now) name.entry) (tree_of value)) }
 {
     let mut list = TreeList::new(alloc);
     list.push(Tree::Text(TextBox::make(alloc, salt)?))?;
     if let Some(name) = name {
         list.push(Tree::Text(TextBox::make(alloc, name)?))?;
     }
-    list.push(copy(alloc, value)?)?;
+    list.push(value)?;
     Ok(Tree::List(list))
 }
 
-/// The disclosure of a salt, a name and a value, whose JSON is compact.
+/// The disclosure of a salt, a name and a value, whose JSON is compact. It has a copy of the value.
 pub fn make(
     alloc: Global,
     salt: &str,
@@ -103,6 +102,24 @@ pub fn make(
     ensures salt { IfOk result (λ d. tree_of d.salt ≡ leaf (text_leaf salt.now)) }
     ensures name { IfOk result (λ d. d.name ≡ option_map (λ n. n.now) name.entry) }
     ensures value { IfOk result (λ d. tree_of d.value ≡ tree_of value.now) }
+    ensures text { IfOk result (λ d. d.text ≡ disclosure_text (tree_of d.salt) d.name (tree_of d.value)) }
+    ensures back { IfOk result (λ d. IsDisclosure d.text (tree_of d.salt) d.name (tree_of d.value)) }
+{
+    make_owned(alloc, salt, name, copy(alloc, value)?)
+}
+
+/// The same, of a value that is moved.
+pub fn make_owned(
+    alloc: Global,
+    salt: &str,
+    name: Option<&str>,
+    value: Tree,
+) -> Result<Disclosure, NoMemory>
+    requires ranged { IsRanged (tree_of value) }
+    requires depth { depth (tree_of value) ≤ 126 }
+    ensures salt { IfOk result (λ d. tree_of d.salt ≡ leaf (text_leaf salt.now)) }
+    ensures name { IfOk result (λ d. d.name ≡ option_map (λ n. n.now) name.entry) }
+    ensures value { IfOk result (λ d. tree_of d.value ≡ tree_of value) }
     ensures text { IfOk result (λ d. d.text ≡ disclosure_text (tree_of d.salt) d.name (tree_of d.value)) }
     ensures back { IfOk result (λ d. IsDisclosure d.text (tree_of d.salt) d.name (tree_of d.value)) }
 {

@@ -12,5 +12,5 @@ pub mod laws;
 mod tests;
 
 pub use digests::{HashAlg, digest, hash_named, payload_hash};
-pub use disclosure::{Disclosure, make, read_disclosure};
+pub use disclosure::{Disclosure, make, make_owned, read_disclosure};
 pub use errors::DisclosureError;

@@ -2,6 +2,7 @@ pub mod Sums
 pub mod MarkFacts
 pub mod Spots
 pub mod Closing
+pub mod SpotMarks
 pub mod MarkedViews
 pub mod Names
 pub mod Lookups

@@ -72,7 +72,7 @@ none_if_more i k l = grind (arith, nat_tests)
 abbrev pub up_to : ℕ → ℕ → ℕ
 up_to i n = cond (ltb i n) 1 0
 
-within_is : (i n : ℕ) → i < n → up_to i n ≡ 1
+pub within_is : (i n : ℕ) → i < n → up_to i n ≡ 1
 within_is i n l = grind (arith, nat_tests)
 
 outside_is : (i n : ℕ) → n ≤ i → up_to i n ≡ 0

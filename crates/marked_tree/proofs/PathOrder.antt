@@ -12,7 +12,7 @@ use Rattle.std.proofs.lemmas.List.Sorted.{sorted_far, ranks_by}
 use Rattle.claim_tree.specs.Tree.{Text}
 use Rattle.claim_tree.proofs.Lists.{bytes_refl}
 use Rattle.marked_tree.specs.Places.{Path, same_path, is_among}
-use Rattle.marked_tree.specs.Rests.{rests, step_order, path_order, AfterNone, AreSorted, one_head, headed}
+use Rattle.marked_tree.specs.Rests.{rests, step_order, path_order, AfterNone, AreSorted, Every, Compares, IsRun, one_head, headed}
 use Rattle.claim_tree.proofs.MapPlaces.{cmp, order, same_name}
 use Rattle.marked_tree.proofs.Names.{behind_last, turned}
 use Rattle.marked_tree.proofs.Lookups.{apart, apart_back}
@@ -57,7 +57,7 @@ after_at depth p [] j d s l = absurd (omega arith)
 after_at depth p (x ∷ xs) zero d s l = s.0
 after_at depth p (x ∷ xs) (suc j) d s l = after_at depth p xs j d s.1 (omega arith)
 
-sorted_pair : (depth : ℕ) (xs : List Path) (i j : ℕ) (d : Path) → AreSorted (rests depth xs) → i ≤ j → j < length xs → path_order (drop depth (get_or xs i d)) (drop depth (get_or xs j d)) ≢ Greater
+pub sorted_pair : (depth : ℕ) (xs : List Path) (i j : ℕ) (d : Path) → AreSorted (rests depth xs) → i ≤ j → j < length xs → path_order (drop depth (get_or xs i d)) (drop depth (get_or xs j d)) ≢ Greater
 sorted_pair depth [] i j d s l h = absurd (omega arith)
 sorted_pair depth (x ∷ xs) zero zero d s l h = tie_not_greater (path_order (drop depth x) (drop depth x)) (tied_itself paths_total (drop depth x))
 sorted_pair depth (x ∷ xs) zero (suc j) d s l h = after_at depth (drop depth x) xs j d s.0 (omega arith)
@@ -124,10 +124,6 @@ sorted_take depth (suc n) (x ∷ xs) s = (after_take depth (drop depth x) n xs s
 
 -- ---- the run
 
-abbrev pub Every : (Path → Type 0) → List Path → Type 0
-Every P [] = Unit {0}
-Every P (x ∷ xs) = P x × Every P xs
-
 every_taken : (P : Path → Type 0) (n : ℕ) (xs : List Path) → ((k : ℕ) (d : Path) → k < n → k < length xs → P (get_or xs k d)) → Every P (take n xs)
 every_taken P zero xs all = tt
 every_taken P (suc n) [] all = tt
@@ -163,13 +159,13 @@ module _ (depth : ℕ) (step : Text) where
           record { rest = t; is = here; further = rest_of depth x step t here }
 
   abbrev Before : Path → Type 0
-  Before x = step_order (drop depth x) step ≡ Less
+  Before = Compares Less depth step
 
   abbrev Within : Path → Type 0
-  Within x = step_order (drop depth x) step ≡ Equal
+  Within = Compares Equal depth step
 
   abbrev Behind : Path → Type 0
-  Behind x = step_order (drop depth x) step ≡ Greater
+  Behind = Compares Greater depth step
 
   front_differs : (q p : Path) → step_order q step ≡ Less → same_path (step ∷ p) q ≡ false
   front_differs [] p e = refl
@@ -256,25 +252,24 @@ module _ (depth : ℕ) (step : Text) where
     pub run : (k : ℕ) (d : Path) → k < end → k < length (drop start xs) → is_tied depth step (get_or (drop start xs) k d) ≡ true
     pub back : (k : ℕ) (d : Path) → end ≤ k → k < length (drop start xs) → is_tied depth step (get_or (drop start xs) k d) ≡ false
 
-  module _ (xs : List Path) (start end : ℕ) (cut : IsCut xs start end) where
-    all_front : Every Before (take start xs)
-    all_front = every_taken Before start xs (λ k d l h. behind_last (step_order (drop depth (get_or xs k d)) step) (cut.front k d l h))
+  pub cut_run : (xs : List Path) (start count : ℕ) → IsCut xs start count → start + count ≤ length xs → IsRun depth step xs start count
+  cut_run xs start count cut within = record {
+    within = within;
+    before = every_taken Before start xs (λ k d l h. behind_last (step_order (drop depth (get_or xs k d)) step) (cut.front k d l h));
+    run = every_taken Within count (drop start xs) (λ k d l h. tied_is (step_order (drop depth (get_or (drop start xs) k d)) step) (cut.run k d l h));
+    behind = every_dropped Behind count (drop start xs) (λ k d l h. index_greater (step_order (drop depth (get_or (drop start xs) k d)) step) (cut.none k d h) (cut.back k d l h));
+  }
 
-    all_run : Every Within (take end (drop start xs))
-    all_run = every_taken Within end (drop start xs) (λ k d l h. tied_is (step_order (drop depth (get_or (drop start xs) k d)) step) (cut.run k d l h))
+  module _ (xs : List Path) (start count : ℕ) (run : IsRun depth step xs start count) where
+    pub run_sorted : AreSorted (rests depth xs) → AreSorted (rests (depth + 1) (take count (drop start xs)))
+    run_sorted s = sorted_tails (take count (drop start xs)) run.run (sorted_take depth count (drop start xs) (sorted_drop depth start xs s))
 
-    all_back : Every Behind (drop end (drop start xs))
-    all_back = every_dropped Behind end (drop start xs) (λ k d l h. index_greater (step_order (drop depth (get_or (drop start xs) k d)) step) (cut.none k d h) (cut.back k d l h))
+    pub run_below : (p : Path) → is_among (rests (depth + 1) (take count (drop start xs))) p ≡ is_among (rests depth xs) (step ∷ p)
+    run_below p =
+        sym (skip_front p start xs run.before ∙ skip_back p count (drop start xs) run.behind ∙ go_on p (take count (drop start xs)) run.run)
 
-    pub cut_sorted : AreSorted (rests depth xs) → AreSorted (rests (depth + 1) (take end (drop start xs)))
-    cut_sorted s = sorted_tails (take end (drop start xs)) all_run (sorted_take depth end (drop start xs) (sorted_drop depth start xs s))
-
-    pub cut_below : (p : Path) → is_among (rests (depth + 1) (take end (drop start xs))) p ≡ is_among (rests depth xs) (step ∷ p)
-    cut_below p =
-        sym (skip_front p start xs all_front ∙ skip_back p end (drop start xs) all_back ∙ go_on p (take end (drop start xs)) all_run)
-
-    pub cut_count : length (take end (drop start xs)) ≡ headed step (rests depth xs)
-    cut_count = sym (count_front start xs all_front ∙ count_back end (drop start xs) all_back ∙ count_within (take end (drop start xs)) all_run)
+    pub run_count : length (take count (drop start xs)) ≡ headed step (rests depth xs)
+    run_count = sym (count_front start xs run.before ∙ count_back count (drop start xs) run.behind ∙ count_within (take count (drop start xs)) run.run)
 
 -- ---- paths that are sorted once
 
@@ -308,13 +303,13 @@ none_ends k t [] s = refl
 none_ends k t ([] ∷ ps) s = absurd (s.0 refl)
 none_ends k t ((l ∷ q) ∷ ps) s = none_ends k t ps s.1
 
-at_end : (depth : ℕ) (x : Path) → length x ≤ depth → drop depth x ≡ []
+pub at_end : (depth : ℕ) (x : Path) → length x ≤ depth → drop depth x ≡ []
 at_end zero [] l = refl
 at_end zero (k ∷ x) l = absurd (omega arith)
 at_end (suc depth) [] l = refl
 at_end (suc depth) (k ∷ x) l = at_end depth x (omega arith)
 
-goes_on : (depth : ℕ) (x : Path) → depth < length x → (k : Text) × (t : Path) × (drop depth x ≡ k ∷ t)
+pub goes_on : (depth : ℕ) (x : Path) → depth < length x → (k : Text) × (t : Path) × (drop depth x ≡ k ∷ t)
 goes_on zero (k ∷ x) l = (k, x, refl)
 goes_on zero [] l = absurd (omega arith)
 goes_on (suc depth) [] l = absurd (omega arith)

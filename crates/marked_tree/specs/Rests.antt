@@ -1,9 +1,9 @@
--- For private functions: sorted paths, seen from a depth.
-use Rattle.std.specs.Prelude.{◌≢◌, ℕ, ◌+◌, List, [], ◌∷◌, map, drop, bytes_eq, if◌then◌else◌}
+-- Sorted paths, seen from a depth. What counts steps is for private functions.
+use Rattle.std.specs.Prelude.{◌≡◌, ◌≢◌, ℕ, ◌+◌, ◌≤◌, List, [], ◌∷◌, length, map, take, drop, bytes_eq, if◌then◌else◌}
 use Rattle.std.specs.Ordering.{nat_cmp}
 use Rattle.std.specs.Cmp.Lexicographic.{slice_cmp}
 use Rattle.std.specs.declared.cmp.Ordering.{Ordering}
-use Rattle.std.specs.declared.cmp.Ordering.TheVariants.{Less, Greater}
+use Rattle.std.specs.declared.cmp.Ordering.TheVariants.{Less, Equal, Greater}
 use Rattle.claim_tree.specs.Tree.{Text}
 use Rattle.marked_tree.specs.Places.{Path}
 
@@ -29,6 +29,21 @@ AfterNone p (q ∷ qs) = (path_order p q ≢ Greater) × AfterNone p qs
 abbrev pub AreSorted : List Path → Type 0
 AreSorted [] = Unit {0}
 AreSorted (p ∷ ps) = AfterNone p ps × AreSorted ps
+
+abbrev pub Every : (Path → Type 0) → List Path → Type 0
+Every P [] = Unit {0}
+Every P (p ∷ ps) = P p × Every P ps
+
+-- how the step of a path at the depth compares with this one
+abbrev pub Compares : Ordering → ℕ → Text → Path → Type 0
+Compares o depth step p = step_order (drop depth p) step ≡ o
+
+-- the paths with this step at the depth: so many, from the place `start` on
+pub record IsRun (depth : ℕ) (step : Text) (paths : List Path) (start count : ℕ) : Type 0 where
+  pub within : start + count ≤ length paths
+  pub before : Every (Compares Less depth step) (take start paths)
+  pub run : Every (Compares Equal depth step) (take count (drop start paths))
+  pub behind : Every (Compares Greater depth step) (drop count (drop start paths))
 
 abbrev pub one_head : Text → Path → ℕ
 one_head step [] = 0

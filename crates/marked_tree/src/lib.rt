@@ -16,7 +16,7 @@ mod tests;
 
 pub use chosen::ChosenSet;
 pub use marked::{Marked, MarkedList, MarkedMap};
-pub use marking::mark;
+pub use marking::{mark, mark_counted, run_below};
 pub use places::place_of;
 pub use prunes::prune;
 pub use strips::{into_tree, strip};

@@ -5,7 +5,7 @@ ghost use Rattle.claim_tree.specs.Tree.{depth as depth_of, elements_depth, membe
 ghost use Rattle.claim_tree.specs.View.{tree_of};
 ghost use Rattle.marked_tree.specs.Marked.{strip};
 ghost use Rattle.marked_tree.specs.Places.{Path as Steps, mark as mark_of, hidden_count, is_among, below as test_below, one_if, hidden_in, hidden_elements, hidden_members, mark_from, mark_elements, mark_members, mark_if};
-ghost use Rattle.marked_tree.specs.Rests.{rests, step_order, path_order, AreSorted, headed, inner};
+ghost use Rattle.marked_tree.specs.Rests.{rests, step_order, path_order, AreSorted, IsRun, headed, inner};
 ghost use Rattle.marked_tree.specs.View.{marked_of};
 
 use crate::{Marked, MarkedList, MarkedMap};
@@ -25,9 +25,23 @@ pub fn mark(alloc: Global, tree: &Tree, paths: &PathList) -> Result<Marked, NoMe
     ensures strips { IfOk result (λ marked. strip (marked_of marked) ≡ tree_of tree.now) }
     ensures count { IfOk result (λ _. hidden_count (tree_of tree.now) paths.now ≤ length paths.now) }
 {
+    let (marked, _) = mark_counted(alloc, tree, paths)?;
+    Ok(marked)
+}
+
+/// The same, and how many marks there are.
+pub fn mark_counted(alloc: Global, tree: &Tree, paths: &PathList) -> Result<(Marked, u32), NoMemory>
+    requires depth { depth_of (tree_of tree.now) ≤ 127 }
+    requires few { length paths.now < 2 ^ 32 - 1 }
+    ensures marked { IfOk result (λ marked. marked_of marked.0 ≡ mark_of (tree_of tree.now) paths.now) }
+    ensures strips { IfOk result (λ marked. strip (marked_of marked.0) ≡ tree_of tree.now) }
+    ensures count { IfOk result (λ marked. marked.1 ≡ hidden_count (tree_of tree.now) paths.now) }
+    ensures few { IfOk result (λ marked. marked.1 ≤ length paths.now) }
+{
     let sorted = sorted_paths(alloc, paths)?;
     let mut next = 0;
-    mark_tree(alloc, tree, sorted.as_slice(), 0, &mut next)
+    let marked = mark_tree(alloc, tree, sorted.as_slice(), 0, &mut next)?;
+    Ok((marked, next))
 }
 
 fn sorted_paths(alloc: Global, paths: &PathList) -> Result<Vec<Path>, NoMemory>
@@ -153,7 +167,7 @@ fn mark_at(
     Ok((mark, inside))
 }
 
-// The paths whose step at the depth is this one, which stand in one run.
+// The paths whose step at the depth is this one.
 fn paths_below<'a>(paths: &'a [Path], depth: usize, step: &str) -> &'a [Path]
     requires fits { depth ≤ 126 }
     requires sorted { AreSorted (rests depth paths.now) }
@@ -161,10 +175,20 @@ fn paths_below<'a>(paths: &'a [Path], depth: usize, step: &str) -> &'a [Path]
     ensures below { (p : Steps) → is_among (rests (depth + 1) result.now) p ≡ is_among (rests depth paths.now) (step.now ∷ p) }
     ensures count { length result.now ≡ headed step.now (rests depth paths.now) }
 {
+    let (start, count) = run_below(paths, depth, step);
+    &paths[start..][..count]
+}
+
+/// Where the paths whose step at the depth is this one stand in one run, and how many they are.
+pub fn run_below(paths: &[Path], depth: usize, step: &str) -> (usize, usize)
+    requires fits { depth ≤ 126 }
+    requires sorted { AreSorted (rests depth paths.now) }
+    ensures { IsRun depth step.now paths.now result.0 result.1 }
+{
     let start = paths.partition_point(|path| compared(path, depth, step) == Ordering::Less);
     let rest = &paths[start..];
-    let end = rest.partition_point(|path| compared(path, depth, step) == Ordering::Equal);
-    &rest[..end]
+    let count = rest.partition_point(|path| compared(path, depth, step) == Ordering::Equal);
+    (start, count)
 }
 
 // How the step of a path at the depth compares with another.

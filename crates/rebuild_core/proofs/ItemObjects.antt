@@ -10,12 +10,11 @@ use Rattle.digest_sites.specs.Sites.{Site, Step, to_member, sites, member_sites,
 use Rattle.digest_sites.specs.Given.{Given}
 use Rattle.digest_sites.specs.declared.site.SiteKind.{SiteKind}
 use Rattle.rebuild_core.specs.Payload.{alg_name, without_member, without_alg}
-use Rattle.rebuild_core.specs.Given.{Owner, payload, value_of, Item, item, value_items}
+use Rattle.rebuild_core.specs.Given.{Owner, payload, value_of, Item, item, value_items, all_items}
 use Rattle.rebuild_core.specs.Answer.{IsPayload}
 use Rattle.rebuild_core.specs.Laws.{IsReadable}
 use Rattle.rebuild_core.specs.Rows.{Seen, beside_names, own_row, rows_on, tree_rows, element_rows, member_rows, value_rows, all_rows}
 use Rattle.rebuild_core.proofs.AlgFacts.{HasTextAlg, has_text_alg, alg_is_not_sd, sd_texts_without}
-use Rattle.rebuild_core.specs.Numbers.{all_items}
 use Rattle.rebuild_core.proofs.RowFacts.{length_top_rows}
 use Rattle.rebuild_core.proofs.SideBySide.{Both, both_left, both_right, both_append, both_map}
 use Rattle.rebuild_core.proofs.ObjectFacts.{IsLaid, laid_none, laid_wider, laid_append, laid_map, site_kind, site_at, object_laid, tree_laid, members_laid, member_starts}

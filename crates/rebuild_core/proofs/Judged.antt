@@ -5,12 +5,12 @@ use Rattle.claim_tree.specs.Lists.{At, In, Nowhere, IsLeast}
 use Rattle.digest_sites.specs.Sites.{sites}
 use Rattle.digest_sites.specs.Given.{Given}
 use Rattle.rebuild_core.specs.Payload.{without_alg}
-use Rattle.rebuild_core.specs.Given.{Item, item, payload, value_of, value_items, is_reached, met, item_digests, given_digests, look_ups}
+use Rattle.rebuild_core.specs.Given.{Item, item, payload, value_of, value_items, is_reached, met, item_digests, given_digests, look_ups, all_items}
 use Rattle.rebuild_core.specs.Rows.{Seen, seen, all_rows, row_ends}
 use Rattle.rebuild_core.specs.Conditions.{RepeatedDisclosure, Misused, RepeatedDigest, Unreferenced, IsReferencedOnce}
 use Rattle.claim_tree.proofs.Lists.{At-same, At-map, In-At, one_place}
 use Rattle.rebuild_core.specs.Given.{counted, RoseWithin}
-use Rattle.rebuild_core.specs.Numbers.{numbers, all_interned, row_texts, AllAt, all_items, IsFlat, IsNumbered}
+use Rattle.rebuild_core.specs.Numbers.{numbers, all_interned, row_texts, AllAt, IsFlat, IsNumbered}
 use Rattle.rebuild_core.specs.Answer.{IsPayload}
 use Rattle.rebuild_core.specs.declared.rows.Row.{Row}
 use Rattle.rebuild_core.specs.Graph.{roots_in, rows_in, is_in, flagged_rows, Recurs, IsClear}

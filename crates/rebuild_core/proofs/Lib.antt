@@ -41,5 +41,8 @@ pub mod MapOpening
 pub mod Opened
 pub mod PlainOpening
 pub mod Ranged
+pub mod ShownPuts
+pub mod ShownAt
+pub mod AllShown
 mod Examples
 mod Premises

@@ -9,7 +9,7 @@ use Rattle.digest_sites.specs.Given.{Given}
 use Rattle.digest_sites.specs.declared.site.SiteKind.{SiteKind}
 use Rattle.digest_sites.specs.declared.site.SiteKind.TheVariants.{Member}
 use Rattle.rebuild_core.specs.Payload.{without_alg}
-use Rattle.rebuild_core.specs.Given.{Owner, Item, met}
+use Rattle.rebuild_core.specs.Given.{Owner, Item, met, all_items}
 use Rattle.rebuild_core.specs.Conditions.{IsReferencedOnce, IsWrong, WrongShape, IsReserved, ReservedName, Discloses, NameClash}
 use Rattle.rebuild_core.specs.Answer.{IsPayload}
 use Rattle.rebuild_core.specs.Laws.{IsReadable}
@@ -17,7 +17,6 @@ use Rattle.rebuild_core.specs.Rows.{Seen, all_rows}
 use Rattle.rebuild_core.specs.Numbers.{IsNumbered}
 use Rattle.rebuild_core.specs.RowNames.{IsWrongRow, IsReservedRow, IsReservedIn, StandsAt, given_name, Names, Clashes}
 use Rattle.rebuild_core.proofs.Judged.{met_all}
-use Rattle.rebuild_core.specs.Numbers.{all_items}
 use Rattle.rebuild_core.proofs.RowFacts.{row_is_item}
 use Rattle.rebuild_core.proofs.SideBySide.{both_at}
 use Rattle.rebuild_core.proofs.ObjectFacts.{IsLaid}

@@ -131,12 +131,12 @@ Starts step s = (rest : List Step) × (s.at ≡ step ∷ rest)
 under_starts : (step : Step) (ss : List Site) (s : Site) → In s (map (under step) ss) → Starts step s
 under_starts step ss s h = let w = In-of_map (under step) s ss h in (w.0.at, ap (λ (z : Site). z.at) w.2)
 
-on_starts : (step : Step) (digest : Option Text) (ss : List Site) (s : Site) → In s (sites_on step digest ss) → Starts step s
+pub on_starts : (step : Step) (digest : Option Text) (ss : List Site) (s : Site) → In s (sites_on step digest ss) → Starts step s
 on_starts step None ss s h = under_starts step ss s h
 on_starts step (Some d) ss s (inl e) = ([], ap (λ (z : Site). z.at) e)
 on_starts step (Some d) ss s (inr h) = elim h [ ]
 
-in_starts : (own : Bool) (name : Text) (ss : List Site) (s : Site) → In s (if own then [] else map (under (to_member name)) ss) → Starts (to_member name) s
+pub in_starts : (own : Bool) (name : Text) (ss : List Site) (s : Site) → In s (if own then [] else map (under (to_member name)) ss) → Starts (to_member name) s
 in_starts true name ss s h = elim h [ ]
 in_starts false name ss s h = under_starts (to_member name) ss s h
 
@@ -154,7 +154,7 @@ member_starts (member name t ms) s h = ⊎_elim
     (λ r. let w = member_starts ms s r in (w.0, inr w.1, w.2))
     (In-append s (if bytes_eq name sd_name then [] else map (under (to_member name)) (sites t)) (member_sites ms) h)
 
-same_step : (step other : Step) (s u : Site) → Starts step s → Starts other u → s.at ≡ u.at → step ≡ other
+pub same_step : (step other : Step) (s u : Site) → Starts step s → Starts other u → s.at ≡ u.at → step ≡ other
 same_step step other s u a b e = let z : (step ∷ a.0) ≡ (other ∷ b.0) = sym a.1 ∙ e ∙ b.1 in cc
 
 -- ---- a tree

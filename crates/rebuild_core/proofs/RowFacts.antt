@@ -11,9 +11,9 @@ use Rattle.digest_sites.specs.Sites.{Site, Step, to_member, to_element, sites, e
 use Rattle.digest_sites.specs.Given.{Given}
 use Rattle.digest_sites.specs.declared.site.SiteKind.{SiteKind}
 use Rattle.rebuild_core.specs.Payload.{alg_name, without_member, without_alg}
-use Rattle.rebuild_core.specs.Given.{Owner, payload, value_of, Item, item, value_items, item_digests, look_ups}
+use Rattle.rebuild_core.specs.Given.{Owner, payload, value_of, Item, item, value_items, item_digests, look_ups, all_items}
 use Rattle.rebuild_core.specs.Answer.{IsPayload}
-use Rattle.rebuild_core.specs.Numbers.{row_texts, all_items}
+use Rattle.rebuild_core.specs.Numbers.{row_texts}
 use Rattle.rebuild_core.specs.declared.rows.Row.{Row}
 use Rattle.rebuild_core.specs.Rows.{Seen, seen, own_row, rows_on, tree_rows, element_rows, member_rows, value_rows, all_rows}
 use Rattle.rebuild_core.proofs.AlgFacts.{HasTextAlg, has_text_alg, alg_is_not_sd, sd_texts_without}

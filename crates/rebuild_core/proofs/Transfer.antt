@@ -7,11 +7,11 @@ use Rattle.claim_tree.specs.Tree.{Text, Tree, IsOrdered}
 use Rattle.claim_tree.specs.Lists.{At, In, Repeats, Nowhere}
 use Rattle.digest_sites.specs.Sites.{Site, sites, digests}
 use Rattle.digest_sites.specs.Given.{Given}
-use Rattle.rebuild_core.specs.Given.{stands, is_in_round, is_reached, Item, item, Owner, payload, value_of, value_items, met, item_digests}
+use Rattle.rebuild_core.specs.Given.{stands, is_in_round, is_reached, Item, item, Owner, payload, value_of, value_items, met, item_digests, all_items}
 use Rattle.rebuild_core.specs.Conditions.{RepeatedDigest, Unreferenced}
 use Rattle.claim_tree.proofs.Lists.{bytes_same, bytes_refl, At-same, At-below, At-In, At-get, one_place}
 use Rattle.digest_index.specs.Index.{place_or_end, interned}
-use Rattle.rebuild_core.specs.Numbers.{numbers, all_interned, AllAt, all_items, IsFlat}
+use Rattle.rebuild_core.specs.Numbers.{numbers, all_interned, AllAt, IsFlat}
 use Rattle.rebuild_core.specs.Graph.{cut, Ascends, roots_in, rows_in, has, any_row, is_in, flagged_rows, Recurs}
 use Rattle.digest_index.proofs.Places.{place_or_end-within}
 use Rattle.digest_index.proofs.Interned.{interned-new, interned-there}

@@ -1,5 +1,5 @@
 -- Which given disclosures a payload reaches, and the digests that are met there, RFC 9901 section 7.1.
-use Rattle.std.specs.Prelude.{ℕ, zero, suc, ◌+◌, ◌-◌, ◌^◌, ◌≤◌, min, List, [], ◌∷◌, ◌++◌, map, length, Bool, ◌||◌, ◌&&◌, Option, Some, None, bytes_eq, if◌then◌else◌, sum_by}
+use Rattle.std.specs.Prelude.{ℕ, zero, suc, ◌+◌, ◌-◌, ◌^◌, ◌≤◌, min, List, [], ◌∷◌, ◌++◌, map, length, Bool, true, ◌||◌, ◌&&◌, Option, Some, None, bytes_eq, if◌then◌else◌, sum_by}
 use Rattle.std.specs.List.{list_any}
 use Rattle.claim_tree.specs.Tree.{Text, Tree}
 use Rattle.digest_sites.specs.Sites.{Site, sites}
@@ -50,6 +50,10 @@ value_items passes i (x ∷ given) = (if passes x then map (item (value_of i)) (
 -- the met list: the sites of the payload, then those of the values of the reached disclosures
 abbrev pub met : Tree → List Given → List Item
 met p given = map (item payload) (sites p) ++ value_items (is_reached p given) 0 given
+
+-- the sites of the payload and then of each value, reached or not
+abbrev pub all_items : Tree → List Given → List Item
+all_items p given = map (item payload) (sites p) ++ value_items (λ _. true) 0 given
 
 abbrev pub item_digests : List Item → List Text
 item_digests items = map (λ m. m.site.digest) items

@@ -12,3 +12,5 @@ pub mod Numbers
 pub mod Cursor
 pub mod Whole
 pub mod Unhidden
+pub mod Free
+pub mod AllShown

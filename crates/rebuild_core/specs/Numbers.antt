@@ -1,12 +1,11 @@
 -- For private functions: digests as numbers, by the places at which they were first seen.
-use Rattle.std.specs.Prelude.{◌≡◌, ℕ, List, [], ◌∷◌, ◌++◌, map, length, true}
+use Rattle.std.specs.Prelude.{◌≡◌, ℕ, List, [], ◌∷◌, map, length}
 use Rattle.claim_tree.specs.Tree.{Text, Tree}
 use Rattle.claim_tree.specs.Lists.{At, Repeats, Nowhere}
 use Rattle.digest_index.specs.Index.{place_or_end, interned}
 use Rattle.digest_sites.specs.Given.{Given}
-use Rattle.digest_sites.specs.Sites.{sites}
 use Rattle.rebuild_core.specs.Payload.{without_alg}
-use Rattle.rebuild_core.specs.Given.{payload, Item, item, value_items, met, item_digests}
+use Rattle.rebuild_core.specs.Given.{Item, met, item_digests, all_items}
 use Rattle.rebuild_core.specs.Rows.{row_ends}
 use Rattle.rebuild_core.specs.declared.rows.Row.{Row}
 
@@ -28,10 +27,6 @@ AllAt known [] [] = Unit {0}
 AllAt known [] (t ∷ texts) = ⊥
 AllAt known (k ∷ ks) [] = ⊥
 AllAt known (k ∷ ks) (t ∷ texts) = At known k t × AllAt known ks texts
-
--- the sites of the payload, and then of each value
-abbrev pub all_items : Tree → List Given → List Item
-all_items p given = map (item payload) (sites p) ++ value_items (λ _. true) 0 given
 
 -- the numbers of the digests of a payload and of each value, with where those of each tree end: distinct texts are known, those
 -- of the disclosures first

@@ -1,5 +1,6 @@
 //! Laws over every payload and every list of disclosures.
 ghost use Rattle.rebuild_core.specs.Laws.{OneSite, SizeBound, Presentation, OneNode};
+ghost use Rattle.rebuild_core.specs.AllShown.{ShownIsSound};
 
 /// Where no disclosure is given twice, no digest stands twice, no reserved name is misused and each disclosure is
 /// reached, each stands at one site, and opening needs no more fuel than there are disclosures.
@@ -21,4 +22,10 @@ pub fn presentation()
 /// Each disclosure is the mark of exactly one node of the processed payload, and no other number is.
 pub fn one_node()
     ensures { OneNode }
+{}
+
+/// Where no digest stands twice and each disclosure is the mark of a node, conditions 14 to 20 hold, if nothing that is
+/// shown has a reserved name and each `_sd` is a list of texts.
+pub fn shown_is_sound()
+    ensures { ShownIsSound }
 {}

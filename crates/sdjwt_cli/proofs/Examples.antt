@@ -16,8 +16,10 @@ use Rattle.jws_part.proofs.Examples.{alg_alone, a_head, a_header, sd_alg_alone, 
 use Rattle.jws_part.proofs.Headers.{read_not_unreadable}
 use Rattle.claim_tree.specs.declared.file_fault.Field.TheVariants.{Keys}
 use Rattle.claim_tree.specs.declared.file_fault.FileFault.TheVariants.{NotJson, Missing}
-use Rattle.sdjwt_cli.specs.Command.{split, verify, command_of}
-use Rattle.sdjwt_cli.specs.Lines.{refusal, unread, unreadable_line}
+use Rattle.issuer_core.specs.declared.errors.IssueError.TheVariants.{ReservedName, DigestClash, TooLong as IssueTooLong}
+use Rattle.issuer_core.specs.RefusalLine.{refusal_text}
+use Rattle.sdjwt_cli.specs.Command.{split, verify, issue, command_of}
+use Rattle.sdjwt_cli.specs.Lines.{line, refusal, unread, unreadable_line, short_seed}
 use Rattle.sdjwt_cli.specs.Split.{Gives, Refuses}
 use Rattle.sdjwt_cli.specs.Show.{Shown, show_lines, Shows, has_known_hash}
 
@@ -31,6 +33,9 @@ no_command = refl
 
 of_two_files : command_of (codes "verify" ∷ codes "policy.json" ∷ codes "token.txt" ∷ []) ≡ Some (verify (codes "policy.json") (codes "token.txt"))
 of_two_files = refl
+
+of_an_order : command_of (codes "issue" ∷ codes "order.json" ∷ codes "seed" ∷ []) ≡ Some (issue (codes "order.json") (codes "seed"))
+of_an_order = refl
 
 one_word_less : command_of (codes "verify" ∷ codes "token.txt" ∷ []) ≡ None
 one_word_less = refl
@@ -58,6 +63,21 @@ no_json = refl
 no_keys : unreadable_line 1 (Missing Keys) ≡ codes "unreadable 1 missing keys\n"
 unfolding digits
 no_keys = refl
+
+too_short : short_seed ≡ codes "unreadable 2 short\n"
+too_short = refl
+
+at_a_pointer : line (refusal_text (ReservedName (codes "list" ∷ codes "0" ∷ codes "..." ∷ []))) ≡ codes "refused 52 reservedInPayload at \"/list/0/...\"\n"
+unfolding digits escape_byte
+at_a_pointer = refl
+
+at_two_places : line (refusal_text (DigestClash 0 2)) ≡ codes "refused 60 digestClash at 0 2\n"
+unfolding digits
+at_two_places = refl
+
+of_a_long_token : line (refusal_text IssueTooLong) ≡ codes "refused 61 issueTooLong\n"
+unfolding digits
+of_a_long_token = refl
 
 -- ---- split
 

@@ -1,7 +1,9 @@
 mod Lifts
+mod Issuings
 mod Verdicts
 mod Shown
 mod ShowVerdicts
 mod VerifyVerdicts
+mod IssueVerdicts
 mod Refusals
 mod Examples

@@ -1,10 +1,11 @@
 -- What each command answers over its files, by its definition.
 use Rattle.std.specs.Prelude.{◌≡◌, ℕ, List, [], ◌∷◌, Option, IfSome, IsSomeAnd, take}
 use Rattle.std.specs.List.{AllZip}
-use Rattle.sdjwt_cli.specs.Command.{Command, split, show, verify, Wanted, wanted_by}
+use Rattle.sdjwt_cli.specs.Command.{Command, split, show, verify, issue, Wanted, wanted_by}
 use Rattle.sdjwt_cli.specs.Split.{Gives, Refuses}
 use Rattle.sdjwt_cli.specs.Show.{Shows, DoesNotShow}
 use Rattle.sdjwt_cli.specs.Verify.{Verifies, DoesNotVerify, HasNoPolicy}
+use Rattle.sdjwt_cli.specs.Issuing.{Issues, DoesNotIssue, HasNoOrder}
 
 -- the bytes for standard output, or the line of a refusal, or that of a file that is not of its form
 pub data Verdict : Type 0 where
@@ -27,6 +28,11 @@ VerifyAnswers policy token now (gives answer) = Verifies policy token now answer
 VerifyAnswers policy token now (refuses text) = DoesNotVerify policy token now text
 VerifyAnswers policy token now (unreadable text) = HasNoPolicy policy text
 
+abbrev pub IssueAnswers : List ℕ → List ℕ → Verdict → Type 0
+IssueAnswers order seed (gives answer) = Issues order seed answer
+IssueAnswers order seed (refuses text) = DoesNotIssue order seed text
+IssueAnswers order seed (unreadable text) = HasNoOrder order seed text
+
 -- the verdict of a command over its files, at a moment
 abbrev pub Answers : Command → List (List ℕ) → ℕ → Verdict → Type 0
 Answers (split token) [] now verdict = ⊥
@@ -39,6 +45,10 @@ Answers (verify policy token) [] now verdict = ⊥
 Answers (verify policy token) (file ∷ []) now verdict = ⊥
 Answers (verify policy token) (file ∷ other ∷ []) now verdict = VerifyAnswers file other now verdict
 Answers (verify policy token) (file ∷ other ∷ more ∷ files) now verdict = ⊥
+Answers (issue order seed) [] now verdict = ⊥
+Answers (issue order seed) (file ∷ []) now verdict = ⊥
+Answers (issue order seed) (file ∷ other ∷ []) now verdict = IssueAnswers file other verdict
+Answers (issue order seed) (file ∷ other ∷ more ∷ files) now verdict = ⊥
 
 -- each file is what a fetch answers, where the cabinet tells it
 abbrev pub AreFetched : (List ℕ → Option (List ℕ)) → Command → List (List ℕ) → Type 0

@@ -7,3 +7,4 @@ pub mod Names
 pub mod Stops
 pub mod Show
 pub mod Verify
+pub mod Issuing

@@ -39,3 +39,7 @@ reason (Wrong field) = codes "wrong " ++ word_of field
 -- the line of a file that is not of its form: its word is counted behind the command, from 1
 abbrev pub unreadable_line : ℕ → FileFault → List ℕ
 unreadable_line word fault = line (codes "unreadable " ++ (decimal word ++ (codes " " ++ reason fault)))
+
+-- the line of a seed file with too few bytes, the second of its command
+abbrev pub short_seed : List ℕ
+short_seed = line (codes "unreadable 2 short")

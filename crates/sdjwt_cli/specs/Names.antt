@@ -1,9 +1,10 @@
 -- For private functions: a command by its names, as the code has it.
-use Rattle.sdjwt_cli.specs.Command.{Command, split, show, verify}
+use Rattle.sdjwt_cli.specs.Command.{Command, split, show, verify, issue}
 use Rattle.sdjwt_cli.specs.declared.command.Command.{Command as Named}
-use Rattle.sdjwt_cli.specs.declared.command.Command.TheVariants.{Split, Show, Verify}
+use Rattle.sdjwt_cli.specs.declared.command.Command.TheVariants.{Split, Show, Verify, Issue}
 
 abbrev pub meant_by : Named → Command
 meant_by (Split token) = split token.now
 meant_by (Show token) = show token.now
 meant_by (Verify policy token) = verify policy.now token.now
+meant_by (Issue order seed) = issue order.now seed.now

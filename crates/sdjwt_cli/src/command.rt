@@ -7,6 +7,7 @@ pub(crate) enum Command<'a> {
     Split { token: &'a str },
     Show { token: &'a str },
     Verify { policy: &'a str, token: &'a str },
+    Issue { order: &'a str, seed: &'a str },
 }
 
 impl<'a> Command<'a> {
@@ -27,6 +28,10 @@ impl<'a> Command<'a> {
             [command, policy, token] if command.as_str() == "verify" => Some(Command::Verify {
                 policy: policy.as_str(),
                 token: token.as_str(),
+            }),
+            [command, order, seed] if command.as_str() == "issue" => Some(Command::Issue {
+                order: order.as_str(),
+                seed: seed.as_str(),
             }),
             _ => None,
         }

@@ -5,6 +5,11 @@
 #![tactic(auto)]
 
 mod command;
+mod issue;
+#[cfg(test)]
+mod issue_tests;
+#[cfg(test)]
+mod issued_tests;
 pub mod laws;
 mod lines;
 mod show;

@@ -1,21 +1,28 @@
 // The lines that the program writes to standard error.
 ghost use Rattle.std.specs.Prelude.{◌≡◌, IfOk, string_bytes};
-ghost use Rattle.sdjwt_cli.specs.Lines.{reason as reason_of, refusal, unread, unreadable_line as line_of};
+ghost use Rattle.sdjwt_cli.specs.Lines.{line, reason as reason_of, refusal, short_seed, unread, unreadable_line as line_of};
 ghost use Rattle.verifier_core.specs.Condition.{Condition, number_of};
 
 use claim_tree::FileFault;
 use compact_form::Fault;
-use sd_outside::NoMemory;
+use sd_outside::{NoMemory, TextBox};
 use std::alloc::Global;
 use verifier_core::fault_line;
+
+// The text with a line end behind it.
+pub(crate) fn as_line(text: TextBox) -> Result<String, NoMemory>
+    ensures { IfOk result (λ whole. string_bytes whole ≡ line text) }
+{
+    let mut whole = text.into_string();
+    whole.push_str("\n")?;
+    Ok(whole)
+}
 
 // The line of a condition that fails.
 pub(crate) fn refusal_line(alloc: Global, fault: &Fault) -> Result<String, NoMemory>
     ensures { (condition : Condition) → fault.now.number ≡ number_of condition → IfOk result (λ text. string_bytes text ≡ refusal fault.now) }
 {
-    let mut text = fault_line(alloc, fault)?.into_string();
-    text.push_str("\n")?;
-    Ok(text)
+    as_line(fault_line(alloc, fault)?)
 }
 
 // No command has more than two files.
@@ -61,4 +68,11 @@ pub(crate) fn unreadable_line(
 {
     let reason = reason(alloc, fault)?;
     Ok(format!(in alloc; "unreadable {word} {reason}\n")?)
+}
+
+// The line of a seed that is too short.
+pub(crate) fn short_seed_line(alloc: Global) -> Result<String, NoMemory>
+    ensures { IfOk result (λ text. string_bytes text ≡ short_seed) }
+{
+    Ok(String::from_str(alloc, "unreadable 2 short\n")?)
 }

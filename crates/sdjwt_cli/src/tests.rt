@@ -186,6 +186,9 @@ fn each_other_status_has_its_line(rt: HostRuntime) -> Result<(), Fail> {
         &["verify", "p", "t", "x"],
         &["Verify", "p", "t"],
         &["show", "p", "t"],
+        &["issue", "o"],
+        &["issue", "o", "s", "x"],
+        &["Issue", "o", "s"],
     ] {
         let ran = over(alloc, words, MemCabinet::new(alloc), 100)?;
         assert_eq!(rt; ran.status, Status::Usage);
@@ -249,19 +252,20 @@ impl Sink for Pieces {
 #[test]
 fn a_file_is_fetched_once_and_the_answer_is_one_piece(rt: HostRuntime) -> Result<(), Fail> {
     let alloc = rt.alloc();
-    let cases: [(&[&str], &str, u64, u64, u64); 5] = [
-        (&["split", "t"], "a.b.c~d~", 1, 1, 0),
-        (&["split", "t"], "a.b.c", 1, 0, 1),
-        (&["verify", "p", "t"], "{}", 2, 0, 1),
-        (&["verify", "p", "t"], POLICY, 2, 0, 1),
-        (&["verify", "t"], "a.b.c~", 0, 0, 1),
+    let cases: [(&[&str], &str, u64, usize, u64, u64); 6] = [
+        (&["split", "t"], "a.b.c~d~", 1, 2_097_153, 1, 0),
+        (&["split", "t"], "a.b.c", 1, 2_097_153, 0, 1),
+        (&["verify", "p", "t"], "{}", 2, 2_097_153, 0, 1),
+        (&["verify", "p", "t"], POLICY, 2, 2_097_153, 0, 1),
+        (&["verify", "t"], "a.b.c~", 0, 0, 0, 1),
+        (&["issue", "o", "s"], "{}", 2, 32, 0, 1),
     ];
-    for (words, text, fetches, out, err) in cases {
+    for (words, text, fetches, most, out, err) in cases {
         let words = words_of(alloc, words)?;
         let mut cabinet = Counted {
             text: text.as_bytes(),
             fetches: 0,
-            most: 2_097_153,
+            most: 0,
         };
         let (mut pieces, mut lines) = (Pieces(0), Pieces(0));
         let _ = run(
@@ -277,7 +281,7 @@ fn a_file_is_fetched_once_and_the_answer_is_one_piece(rt: HostRuntime) -> Result
             [fetches, out, err],
             "{text}"
         );
-        assert_eq!(rt; cabinet.most, 2_097_153);
+        assert_eq!(rt; cabinet.most, most);
     }
     Ok(())
 }

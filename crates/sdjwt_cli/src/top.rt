@@ -7,6 +7,7 @@ ghost use Rattle.sdjwt_cli.specs.Stops.{OnRefused, OnUnread, OnUnreadable};
 ghost use Rattle.sdjwt_cli.specs.Run.{outside, stream, Misses, Tells, Ends, Keeps};
 
 use crate::command::Command;
+use crate::issue::{SEED_LEN, issue};
 use crate::lines::unread_line;
 use crate::show::show;
 use crate::split::split;
@@ -16,14 +17,18 @@ use compact_form::FILE_MAX;
 use sd_outside::{ByteBox, Cabinet, Failed, FetchError, Sink, Status};
 use std::alloc::Global;
 
-// The file of a word, which is counted behind the command, from 0. A file that is too long shows by one byte more than is allowed.
+// A file that is too long shows by one byte more than is allowed.
+const FETCH_MAX: usize = FILE_MAX + 1;
+
+// At most so many bytes of the file of a word, which is counted behind the command, from 0.
 fn fetch_file<C: Cabinet>(
     alloc: Global,
     cab: &mut C,
     name: &str,
+    most: usize,
     word: usize,
 ) -> Result<ByteBox, Stop>
-    ensures content { IfOk result (λ file. IfSome (C.holds cab.old name.now) (λ content. file ≡ take (FILE_MAX + 1) content)) }
+    ensures content { IfOk result (λ file. IfSome (C.holds cab.old name.now) (λ content. file ≡ take most content)) }
     ensures refuses { IfErr result (λ stop. OnRefused stop (λ _. ⊥)) }
     ensures unreadable { IfErr result (λ stop. OnUnreadable stop (λ _. ⊥)) }
     ensures unread { IfErr result (λ stop. OnUnread stop (λ k. k ≡ word)) }
@@ -32,7 +37,7 @@ fn fetch_file<C: Cabinet>(
     ensures held { (other : List ℕ) → C.holds cab.new other ≡ C.holds cab.old other }
     ensures later { C.faults cab.old ≤ C.faults cab.new }
 {
-    match cab.fetch(alloc, name, FILE_MAX + 1) {
+    match cab.fetch(alloc, name, most) {
         Ok(file) => Ok(file),
         Err(FetchError::Memory) => Err(Stop::Memory),
         Err(FetchError::Failed) => Err(Stop::Unread(word)),
@@ -56,17 +61,22 @@ fn answer<C: Cabinet>(
 {
     match command {
         Command::Split { token } => {
-            let file = fetch_file(alloc, cab, token, 0)?;
+            let file = fetch_file(alloc, cab, token, FETCH_MAX, 0)?;
             split(alloc, file.bytes())
         }
         Command::Show { token } => {
-            let file = fetch_file(alloc, cab, token, 0)?;
+            let file = fetch_file(alloc, cab, token, FETCH_MAX, 0)?;
             show(alloc, file.bytes())
         }
         Command::Verify { policy, token } => {
-            let policy = fetch_file(alloc, cab, policy, 0)?;
-            let token = fetch_file(alloc, cab, token, 1)?;
+            let policy = fetch_file(alloc, cab, policy, FETCH_MAX, 0)?;
+            let token = fetch_file(alloc, cab, token, FETCH_MAX, 1)?;
             verify(alloc, policy.bytes(), token.bytes(), now)
+        }
+        Command::Issue { order, seed } => {
+            let order = fetch_file(alloc, cab, order, FETCH_MAX, 0)?;
+            let seed = fetch_file(alloc, cab, seed, SEED_LEN, 1)?;
+            issue(alloc, order.bytes(), seed.bytes())
         }
     }
 }

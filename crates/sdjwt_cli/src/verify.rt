@@ -7,7 +7,7 @@ ghost use Rattle.sdjwt_cli.specs.Lines.{line};
 ghost use Rattle.sdjwt_cli.specs.Verify.{Verifies, DoesNotVerify, HasNoPolicy};
 ghost use Rattle.sdjwt_cli.specs.Stops.{OnRefused, OnUnread, OnUnreadable};
 
-use crate::lines::{refusal_line, unreadable_line};
+use crate::lines::{as_line, refusal_line, unreadable_line};
 use crate::stop::Stop;
 use claim_tree::{FileFault, Tree, write};
 use digest_index::Steps;
@@ -20,9 +20,7 @@ fn json_line(alloc: Global, tree: &Tree) -> Result<String, NoMemory>
     requires { IsRanged (tree_of tree.now) }
     ensures { IfOk result (λ text. string_bytes text ≡ line (json_text (tree_of tree.now))) }
 {
-    let mut text = write(alloc, tree)?.into_string();
-    text.push_str("\n")?;
-    Ok(text)
+    as_line(write(alloc, tree)?)
 }
 
 /// The answer to a policy file and a token file, at a moment.

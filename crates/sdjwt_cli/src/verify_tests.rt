@@ -6,7 +6,7 @@ use std::alloc::Global;
 use std::test::Fail;
 
 // `verify p t` at a moment, over a cabinet that holds this policy and this token.
-fn verify(alloc: Global, policy: &str, token: &str, now: u64) -> Result<Ran, Fail> {
+pub(crate) fn verify(alloc: Global, policy: &str, token: &str, now: u64) -> Result<Ran, Fail> {
     let mut cabinet = MemCabinet::new(alloc);
     cabinet.add("t", token.as_bytes())?;
     cabinet.add("p", policy.as_bytes())?;

@@ -1,46 +1,23 @@
-use Rattle.std.proofs.Common.{◌≡◌, ◌+◌, true, false, sym, subst, take, drop, arith, rules}
-use Rattle.std.specs.List.Sorted.{IsPartitionedBy, IsPartitionPoint}
-use Rattle.std.proofs.lemmas.List.Sorted.{IsPartitionPoint-from_clause}
+use Rattle.std.proofs.Common.{◌+◌, sym, ap, ◌∙◌, length, subst, take}
+use Rattle.marked_tree.specs.Places.{is_among}
 use Rattle.marked_tree.specs.Rests.{rests, AreSorted}
-use Rattle.marked_tree.proofs.PathOrder.{is_less, is_tied, parted_less, parted_tied, none_left, rest_whole, sorted_drop, IsCut, cut_sorted, cut_below, cut_count}
+use Rattle.marked_tree.proofs.PathOrder.{rest_whole, run_sorted, run_below, run_count}
 use Rattle.marked_tree.proofs.marking.paths_below.Goals as goal
-
-pub cut_is : (c : goal.After-partition_point-end) → IsCut c.args.depth c.args.step.now c.args.paths.now c.partition_point-start.result c.partition_point-end.result
-cut_is c =
-    let d = c.args.depth in
-    let step = c.args.step.now in
-    let xs = c.args.paths.now in
-    let start = c.partition_point-start.result in
-    let end = c.partition_point-end.result in
-    let point = IsPartitionPoint-from_clause (is_less d step) _ _ c.partition_point-start.ensures.partitioned (parted_less d step xs c.requires.sorted) (λ a r q k. search rules) in
-    let none = none_left d step xs start (λ k e l h. point.1 k e l h) in
-    let parted = subst (λ ys. IsPartitionedBy (is_tied d step) ys) (sym (rest_whole xs start)) (parted_tied d step (drop start xs) (sorted_drop d start xs c.requires.sorted) none) in
-    let run = IsPartitionPoint-from_clause (is_tied d step) _ _ c.partition_point-end.ensures.partitioned parted (λ a r q k. search rules) in
-    let tied = subst (λ ys. IsPartitionPoint (λ y. is_tied d step y ≡ true) (λ y. is_tied d step y ≡ false) ys end) (rest_whole xs start) run in
-    record {
-      front = λ k e l h. point.0 k e (omega arith) l;
-      none = none;
-      run = λ k e l h. tied.0 k e (omega arith) l;
-      back = λ k e l h. tied.1 k e l h;
-    }
 
 pub returns-clause-sorted : goal.returns-clause-sorted
 returns-clause-sorted c =
     let xs = c.args.paths.now in
-    let start = c.partition_point-start.result in
-    let end = c.partition_point-end.result in
-    subst (λ ys. AreSorted (rests (c.args.depth + 1) (take end ys))) (sym (rest_whole xs start)) (cut_sorted c.args.depth c.args.step.now xs start end (cut_is c) c.requires.sorted)
+    let r = c.run_below-start.result in
+    subst (λ ys. AreSorted (rests (c.args.depth + 1) (take r.1 ys))) (sym (rest_whole xs r.0)) (run_sorted c.args.depth c.args.step.now xs r.0 r.1 c.run_below-start.ensures c.requires.sorted)
 
 pub returns-clause-below : goal.returns-clause-below
 returns-clause-below c p =
     let xs = c.args.paths.now in
-    let start = c.partition_point-start.result in
-    let end = c.partition_point-end.result in
-    rw (rest_whole xs start) (cut_below c.args.depth c.args.step.now xs start end (cut_is c) p)
+    let r = c.run_below-start.result in
+    ap (λ ys. is_among (rests (c.args.depth + 1) (take r.1 ys)) p) (rest_whole xs r.0) ∙ run_below c.args.depth c.args.step.now xs r.0 r.1 c.run_below-start.ensures p
 
 pub returns-clause-count : goal.returns-clause-count
 returns-clause-count c =
     let xs = c.args.paths.now in
-    let start = c.partition_point-start.result in
-    let end = c.partition_point-end.result in
-    rw (rest_whole xs start) (cut_count c.args.depth c.args.step.now xs start end (cut_is c))
+    let r = c.run_below-start.result in
+    ap (λ ys. length (take r.1 ys)) (rest_whole xs r.0) ∙ run_count c.args.depth c.args.step.now xs r.0 r.1 c.run_below-start.ensures

@@ -1,6 +1,7 @@
 use Rattle.std.proofs.Common.{[], ◌∷◌, ◌+◌, refl}
 use Rattle.compact_form.specs.declared.limits.TheConstants.{FILE_MAX}
-use Rattle.sdjwt_cli.specs.Command.{split, show, verify}
+use Rattle.sdjwt_cli.specs.Command.{split, show, verify, issue}
+use Rattle.sdjwt_cli.specs.declared.issue.TheConstants.{SEED_LEN}
 use Rattle.sdjwt_cli.specs.Answers.{AreFetched}
 use Rattle.sdjwt_cli.proofs.Lifts.{fetched_as, lift_gives, lift_refuses, lift_unreadable}
 use Rattle.sdjwt_cli.proofs.top.answer.Given as given
@@ -61,3 +62,29 @@ pub returns-in_ok-token-in-Verify-clause-unreadable :
     goal.returns-in_ok-token-in-Verify-clause-unreadable
 returns-in_ok-token-in-Verify-clause-unreadable g c =
     rw c.in-Verify.is (lift_unreadable (g.C.Cabinet.holds c.args.cab.now) (verify c.in-Verify.policy.now c.in-Verify.token.now) (c.bytes-in-Verify.result.now ∷ c.bytes-in-Verify-2.result.now ∷ []) (both_fetched g c) c.args.now c.verify.result c.verify.ensures.unreadable)
+
+-- the order and the seed likewise
+both_read : (g : given.Over) (c : goal.After-drop-order-inside-in-Issue g)
+    → AreFetched (g.C.Cabinet.holds c.args.cab.now) (issue c.in-Issue.order.now c.in-Issue.seed.now) (c.bytes-in-Issue.result.now ∷ c.bytes-in-Issue-2.result.now ∷ [])
+both_read g c =
+    let held = g.C.Cabinet.holds c.args.cab.now in
+    let later = g.C.Cabinet.holds c.fetch_file-in-Issue.new.cab in
+    let order = c.in-Issue.order.now in
+    let seed = c.in-Issue.seed.now in
+    let first = fetched_as (held order) (held order) (FILE_MAX + 1) c.in_ok-order-in-Issue.order c.bytes-in-Issue.result.now refl c.bytes-in-Issue.ensures c.in_ok-order-in-Issue.ensures.content in
+    let second = fetched_as (held seed) (later seed) SEED_LEN c.in_ok-seed-in-Issue.seed c.bytes-in-Issue-2.result.now (c.in_ok-order-in-Issue.ensures.held seed) c.bytes-in-Issue-2.ensures c.in_ok-seed-in-Issue.ensures.content in
+    (first, (second, tt))
+
+pub returns-in_ok-seed-in-Issue-clause-gives : goal.returns-in_ok-seed-in-Issue-clause-gives
+returns-in_ok-seed-in-Issue-clause-gives g c =
+    rw c.in-Issue.is (lift_gives (g.C.Cabinet.holds c.args.cab.now) (issue c.in-Issue.order.now c.in-Issue.seed.now) (c.bytes-in-Issue.result.now ∷ c.bytes-in-Issue-2.result.now ∷ []) (both_read g c) c.args.now c.issue.result c.issue.ensures.issues)
+
+pub returns-in_ok-seed-in-Issue-clause-refuses :
+    goal.returns-in_ok-seed-in-Issue-clause-refuses
+returns-in_ok-seed-in-Issue-clause-refuses g c =
+    rw c.in-Issue.is (lift_refuses (g.C.Cabinet.holds c.args.cab.now) (issue c.in-Issue.order.now c.in-Issue.seed.now) (c.bytes-in-Issue.result.now ∷ c.bytes-in-Issue-2.result.now ∷ []) (both_read g c) c.args.now c.issue.result c.issue.ensures.refuses)
+
+pub returns-in_ok-seed-in-Issue-clause-unreadable :
+    goal.returns-in_ok-seed-in-Issue-clause-unreadable
+returns-in_ok-seed-in-Issue-clause-unreadable g c =
+    rw c.in-Issue.is (lift_unreadable (g.C.Cabinet.holds c.args.cab.now) (issue c.in-Issue.order.now c.in-Issue.seed.now) (c.bytes-in-Issue.result.now ∷ c.bytes-in-Issue-2.result.now ∷ []) (both_read g c) c.args.now c.issue.result c.issue.ensures.unreadable)

@@ -1,0 +1,279 @@
+-- From what is laid and signed to what is issued, and why it is not.
+use Rattle.std.proofs.Common.{◌≡◌, ℕ, zero, suc, ◌+◌, ◌<◌, ◌≤◌, List, [], ◌∷◌, None, Option, Some, ap, ap₂, arith, length, refl, subst, sym, ◌∙◌, IfSome, codes}
+use Rattle.std.specs.List.{AllByRecursion}
+use Rattle.b64url_text.specs.Base64url.{IsWord, b64}
+use Rattle.b64url_text.proofs.Codes.{IsWord-b64}
+use Rattle.claim_tree.specs.Lists.{At, Repeats, Nowhere}
+use Rattle.claim_tree.specs.Tree.{Text, Tree, leaf, text, array, object, IsRanged}
+use Rattle.claim_tree.proofs.Datas.{MembersRanged-inserted}
+use Rattle.rebuild_core.specs.Payload.{alg_name}
+use Rattle.claim_tree.specs.JsonText.{json_text}
+use Rattle.compact_form.specs.declared.limits.TheConstants.{ISSUE_MAX}
+use Rattle.compact_form.specs.declared.parts.Parts.{Parts}
+use Rattle.compact_form.specs.Compact.{compact, AreWords, HasWords}
+use Rattle.hmac_sign.specs.Signatures.{Meaning}
+use Rattle.disclosure.specs.Disclosure.{array_of, disclosure_text}
+use Rattle.digest_sites.specs.Given.{Given}
+use Rattle.jws_part.specs.Header.{header_members}
+use Rattle.issuer_core.specs.declared.errors.IssueError.{IssueError}
+use Rattle.issuer_core.specs.declared.errors.IssueError.TheVariants.{Memory, SignFailed, PayloadNotObject, ReservedName, TooDeep, RootMarked, NoSuchPlace, ProtectedClaim, DecoyPlace, TooManyHidden, TooManyDecoys, DigestClash, TooLong}
+use Rattle.issuer_core.specs.Order.{Order}
+use Rattle.issuer_core.specs.Decoys.{decoys_of}
+use Rattle.issuer_core.specs.GoodOrder.{IsGoodOrder, IsObject}
+use Rattle.issuer_core.specs.Digests.{Maker, hidden_of, AllDiffer, made_texts}
+use Rattle.issuer_core.specs.Laying.{IsLaidFor}
+use Rattle.issuer_core.specs.Laid.{IsLaid, with_alg}
+use Rattle.issuer_core.specs.Clash.{IsFirstClash}
+use Rattle.issuer_core.specs.Refusals.{Refuses, IsRefused, IsLowest, NoneApplies, number_of, place_of}
+use Rattle.issuer_core.specs.Salts.{salt_of}
+use Rattle.issuer_core.specs.Seed.{maker_of}
+use Rattle.issuer_core.specs.Written.{header_of, IsWritten, IsIssued, IsLaidOut}
+use Rattle.issuer_core.specs.Issue.{first_digests, laid_digests, ClashesAt, IsTooLong, Applies, IsNotIssued, AreSigned, IsUnsigned, HasClash}
+use Rattle.issuer_core.proofs.LaidDecoys.{laid_is_issued_holds}
+use Rattle.issuer_core.proofs.OneLaid.{one_digest}
+use Rattle.issuer_core.proofs.WithAlg.{payload_object}
+use Rattle.issuer_core.proofs.LaidBounds.{payload_ranged}
+
+-- ---- the digests as a list
+
+first_at : (dg : ℕ → Text) (n i : ℕ) → i < n → At (first_digests dg n) i (dg i)
+first_at dg zero i l = absurd (omega (arith, l))
+first_at dg (suc n) zero l = refl
+first_at dg (suc n) (suc i) l = first_at (λ k. dg (suc k)) n i (omega (arith, l))
+
+pub all_differ : (dg : ℕ → Text) (n : ℕ) → Nowhere (Repeats (first_digests dg n)) → AllDiffer dg n
+all_differ dg n none i j less low same =
+    none j (dg i, subst (λ d. At (first_digests dg n) j d) (sym same) (first_at dg n j low), i, less, first_at dg n i (omega (arith, less, low)))
+
+first_same : (dg dh : ℕ → Text) (n : ℕ) → ((k : ℕ) → k < n → dg k ≡ dh k) → first_digests dg n ≡ first_digests dh n
+first_same dg dh zero e = refl
+first_same dg dh (suc n) e = ap₂ (λ (d : Text) (ds : List Text). d ∷ ds) (e 0 (omega arith)) (first_same (λ k. dg (suc k)) (λ k. dh (suc k)) n (λ k l. e (suc k) (omega (arith, l))))
+
+pub one_list : (maker : Maker) (o : Order) (p q : Tree) (g h : List Given) (dg dh : ℕ → Text) → IsLaid maker o p g dg → IsLaid maker o q h dh → laid_digests o dg ≡ laid_digests o dh
+one_list maker o p q g h dg dh one other = first_same dg dh (hidden_of o + length (decoys_of o)) (one_digest maker o p q g h dg dh one other)
+
+-- ---- refusals
+
+-- a refusal of the order alone is the lowest of all
+module _ (maker : Maker) (o : Order) (good : Meaning) where
+  above : (n : ℕ) → n ≤ 59 → (n ≤ 60) × (n ≤ 61)
+  above n l = (omega (arith, l), omega (arith, l))
+
+  -- what applies is a refusal of the order alone, or one of the last two
+  pub applies_or : (error : IssueError) → Applies maker o good error → (NoneApplies (Refuses o) → 60 ≤ number_of error)
+  applies_or Memory h none = absurd h
+  applies_or SignFailed h none = absurd h
+  applies_or PayloadNotObject h none = absurd (none PayloadNotObject h)
+  applies_or (ReservedName path) h none = absurd (none (ReservedName path) h)
+  applies_or TooDeep h none = absurd (none TooDeep h)
+  applies_or (RootMarked k) h none = absurd (none (RootMarked k) h)
+  applies_or (NoSuchPlace k) h none = absurd (none (NoSuchPlace k) h)
+  applies_or (ProtectedClaim k) h none = absurd (none (ProtectedClaim k) h)
+  applies_or (DecoyPlace k) h none = absurd (none (DecoyPlace k) h)
+  applies_or TooManyHidden h none = absurd (none TooManyHidden h)
+  applies_or TooManyDecoys h none = absurd (none TooManyDecoys h)
+  applies_or (DigestClash i j) h none = omega arith
+  applies_or TooLong h none = omega arith
+
+  pub clash_lowest : NoneApplies (Refuses o) → (i j : ℕ) → ClashesAt maker o i j → IsLowest (Applies maker o good) (DigestClash i j)
+  clash_lowest none i j clash = record { applies = clash; lowest = λ other h. applies_or other h none; first = λ other h e. omega arith }
+
+  pub long_lowest : NoneApplies (Refuses o) → ((i j : ℕ) → ClashesAt maker o i j → ⊥) → IsTooLong maker o good → IsLowest (Applies maker o good) TooLong
+  long_lowest none differ long = record { applies = long; lowest = λ other h. go other h (applies_or other h none); first = λ other h e. omega arith }
+    where
+      go : (other : IssueError) → Applies maker o good other → 60 ≤ number_of other → 61 ≤ number_of other
+      go (DigestClash i j) h l = absurd (differ i j h)
+      go TooLong h l = omega arith
+      go Memory h l = absurd (omega (arith, l))
+      go SignFailed h l = absurd (omega (arith, l))
+      go PayloadNotObject h l = absurd (omega (arith, l))
+      go (ReservedName path) h l = absurd (omega (arith, l))
+      go TooDeep h l = absurd (omega (arith, l))
+      go (RootMarked k) h l = absurd (omega (arith, l))
+      go (NoSuchPlace k) h l = absurd (omega (arith, l))
+      go (ProtectedClaim k) h l = absurd (omega (arith, l))
+      go (DecoyPlace k) h l = absurd (omega (arith, l))
+      go TooManyHidden h l = absurd (omega (arith, l))
+      go TooManyDecoys h l = absurd (omega (arith, l))
+
+  raised : (error : IssueError) → number_of error ≤ 59 → (Refuses o error → Applies maker o good error) → IsLowest (Refuses o) error → IsLowest (Applies maker o good) error
+  raised error low same l = record {
+    applies = same l.applies;
+    lowest = λ other h. lower other h;
+    first = λ other h e. earlier other h e;
+  }
+    where
+      lower : (other : IssueError) → Applies maker o good other → number_of error ≤ number_of other
+      lower Memory h = l.lowest Memory h
+      lower SignFailed h = l.lowest SignFailed h
+      lower PayloadNotObject h = l.lowest PayloadNotObject h
+      lower (ReservedName path) h = l.lowest (ReservedName path) h
+      lower TooDeep h = l.lowest TooDeep h
+      lower (RootMarked k) h = l.lowest (RootMarked k) h
+      lower (NoSuchPlace k) h = l.lowest (NoSuchPlace k) h
+      lower (ProtectedClaim k) h = l.lowest (ProtectedClaim k) h
+      lower (DecoyPlace k) h = l.lowest (DecoyPlace k) h
+      lower TooManyHidden h = l.lowest TooManyHidden h
+      lower TooManyDecoys h = l.lowest TooManyDecoys h
+      lower (DigestClash i j) h = omega (arith, low)
+      lower TooLong h = omega (arith, low)
+
+      earlier : (other : IssueError) → Applies maker o good other → number_of other ≡ number_of error → place_of error ≤ place_of other
+      earlier Memory h e = l.first Memory h e
+      earlier SignFailed h e = l.first SignFailed h e
+      earlier PayloadNotObject h e = l.first PayloadNotObject h e
+      earlier (ReservedName path) h e = l.first (ReservedName path) h e
+      earlier TooDeep h e = l.first TooDeep h e
+      earlier (RootMarked k) h e = l.first (RootMarked k) h e
+      earlier (NoSuchPlace k) h e = l.first (NoSuchPlace k) h e
+      earlier (ProtectedClaim k) h e = l.first (ProtectedClaim k) h e
+      earlier (DecoyPlace k) h e = l.first (DecoyPlace k) h e
+      earlier TooManyHidden h e = l.first TooManyHidden h e
+      earlier TooManyDecoys h e = l.first TooManyDecoys h e
+      earlier (DigestClash i j) h e = absurd (omega (arith, low, e))
+      earlier TooLong h e = absurd (omega (arith, low, e))
+
+  pub order_refused : (error : IssueError) → IsRefused o error → IsNotIssued maker o good error
+  order_refused Memory r = tt
+  order_refused SignFailed r = tt
+  order_refused PayloadNotObject r = raised PayloadNotObject (omega arith) (λ h. h) r
+  order_refused (ReservedName path) r = raised (ReservedName path) (omega arith) (λ h. h) r
+  order_refused TooDeep r = raised TooDeep (omega arith) (λ h. h) r
+  order_refused (RootMarked k) r = raised (RootMarked k) (omega arith) (λ h. h) r
+  order_refused (NoSuchPlace k) r = raised (NoSuchPlace k) (omega arith) (λ h. h) r
+  order_refused (ProtectedClaim k) r = raised (ProtectedClaim k) (omega arith) (λ h. h) r
+  order_refused (DecoyPlace k) r = raised (DecoyPlace k) (omega arith) (λ h. h) r
+  order_refused TooManyHidden r = raised TooManyHidden (omega arith) (λ h. h) r
+  order_refused TooManyDecoys r = raised TooManyDecoys (omega arith) (λ h. h) r
+  order_refused (DigestClash i j) r = absurd r.applies
+  order_refused TooLong r = absurd r.applies
+
+  pub unsigned_refused : (error : IssueError) → IsUnsigned error → IsNotIssued maker o good error
+  unsigned_refused Memory h = tt
+  unsigned_refused SignFailed h = tt
+  unsigned_refused PayloadNotObject h = absurd h
+  unsigned_refused (ReservedName path) h = absurd h
+  unsigned_refused TooDeep h = absurd h
+  unsigned_refused (RootMarked k) h = absurd h
+  unsigned_refused (NoSuchPlace k) h = absurd h
+  unsigned_refused (ProtectedClaim k) h = absurd h
+  unsigned_refused (DecoyPlace k) h = absurd h
+  unsigned_refused TooManyHidden h = absurd h
+  unsigned_refused TooManyDecoys h = absurd h
+  unsigned_refused (DigestClash i j) h = absurd h
+  unsigned_refused TooLong h = absurd h
+
+-- ---- what is laid and signed
+
+list_is : (ds : List Text) (dg : ℕ → Text) (n : ℕ) → length ds ≡ n → ((k : ℕ) (d : Text) → At ds k d → d ≡ dg k) → ds ≡ first_digests dg n
+list_is [] dg zero e each = refl
+list_is [] dg (suc n) e each = absurd (omega (arith, e))
+list_is (d ∷ ds) dg zero e each = absurd (omega (arith, e))
+list_is (d ∷ ds) dg (suc n) e each = ap₂ (λ (x : Text) (xs : List Text). x ∷ xs) (each 0 d refl) (list_is ds (λ k. dg (suc k)) n (omega (arith, e)) (λ k x a. each (suc k) x a))
+
+digests_are : (seed : List ℕ) (o : Order) (body : Tree) (texts digests : List Text) (laid : IsLaidFor (maker_of seed) o body texts digests) → digests ≡ laid_digests o laid.dg
+digests_are seed o body texts digests laid = list_is digests laid.dg (hidden_of o + length (decoys_of o)) laid.count laid.each
+
+module _ (seed : List ℕ) (o : Order) (body : Tree) (texts digests : List Text) (laid : IsLaidFor (maker_of seed) o body texts digests) where
+  pub clash_at : (i j : ℕ) → IsFirstClash digests i j → ClashesAt (maker_of seed) o i j
+  clash_at i j clash = record {
+    payload = laid.laid;
+    given = laid.given;
+    digests = laid.dg;
+    laid = laid.is_laid;
+    clash = subst (λ (ds : List Text). IsFirstClash ds i j) (digests_are seed o body texts digests laid) clash;
+  }
+
+  pub clash_refused : (good : Meaning) → NoneApplies (Refuses o) → (error : IssueError) → HasClash digests error → IsNotIssued (maker_of seed) o good error
+  clash_refused good none Memory h = tt
+  clash_refused good none (DigestClash i j) h = clash_lowest (maker_of seed) o good none i j (clash_at i j h)
+  clash_refused good none SignFailed h = tt
+  clash_refused good none PayloadNotObject h = absurd h
+  clash_refused good none (ReservedName path) h = absurd h
+  clash_refused good none TooDeep h = absurd h
+  clash_refused good none (RootMarked k) h = absurd h
+  clash_refused good none (NoSuchPlace k) h = absurd h
+  clash_refused good none (ProtectedClaim k) h = absurd h
+  clash_refused good none (DecoyPlace k) h = absurd h
+  clash_refused good none TooManyHidden h = absurd h
+  clash_refused good none TooManyDecoys h = absurd h
+  clash_refused good none TooLong h = absurd h
+
+  pub no_clash : Nowhere (Repeats digests) → (i j : ℕ) → ClashesAt (maker_of seed) o i j → ⊥
+  no_clash none i j clash =
+      let same = one_list (maker_of seed) o clash.payload laid.laid clash.given laid.given clash.digests laid.dg clash.laid laid.is_laid in
+      none j (subst (λ (ds : List Text). Repeats ds j) (same ∙ sym (digests_are seed o body texts digests laid)) clash.clash.later.fails)
+
+  module _ (good : Meaning) (parts : Parts) (signed : AreSigned o good body texts parts) where
+    written : IsWritten (maker_of seed) o good laid.laid laid.given parts
+    written = record {
+      protected = signed.protected;
+      body = subst (λ t. parts.signed.payload ≡ b64 (json_text t)) laid.payload_is signed.payload;
+      signature = signed.signature;
+      signature_text = signed.signature_text;
+      signed = signed.signed;
+      disclosures = signed.disclosures ∙ laid.texts_are;
+      unbound = signed.unbound;
+    }
+
+    pub laid_out : IsLaidOut (maker_of seed) o good parts
+    laid_out = record { payload = laid.laid; given = laid.given; digests = laid.dg; laid = laid.is_laid; written = written }
+
+    pub issued : IsGoodOrder o → Nowhere (Repeats digests) → IsIssued (maker_of seed) o good parts
+    issued is_good none = record {
+      payload = laid.laid;
+      given = laid.given;
+      issued = laid_is_issued_holds (maker_of seed) o laid.laid laid.given laid.dg is_good laid.is_laid
+          (all_differ laid.dg (hidden_of o + length (decoys_of o)) (subst (λ (ds : List Text). Nowhere (Repeats ds)) (digests_are seed o body texts digests laid) none));
+      written = written;
+    }
+
+-- ---- words
+
+pub body_object : (seed : List ℕ) (o : Order) (body : Tree) (texts digests : List Text) → IsGoodOrder o → IsLaidFor (maker_of seed) o body texts digests → IsObject body
+body_object seed o body texts digests good laid =
+    subst IsObject (sym laid.payload_is) (with_alg_object laid.laid (payload_object (maker_of seed) o laid.laid laid.given laid.dg good laid.is_laid))
+  where
+    with_alg_object : (t : Tree) → IsObject t → IsObject (with_alg t)
+    with_alg_object (object ms) h = tt
+    with_alg_object (leaf l) h = absurd h
+    with_alg_object (array es) h = absurd h
+
+disclosure_word : (salt : Tree) (name : Option Text) (value : Tree) → IsWord (disclosure_text salt name value)
+disclosure_word salt None value = IsWord-b64 (json_text (array_of salt None value)) (omega arith)
+disclosure_word salt (Some name) value = IsWord-b64 (json_text (array_of salt (Some name) value)) (omega arith)
+
+texts_words : (seed : List ℕ) (k : ℕ) (given : List Given) → AllByRecursion IsWord (made_texts (maker_of seed).disclosure k given)
+texts_words seed k [] = tt
+texts_words seed k (x ∷ given) = (disclosure_word (leaf (text (salt_of seed k))) x.name x.value, texts_words seed (suc k) given)
+
+object_word : (t : Tree) → IsObject t → IsWord (b64 (json_text t))
+object_word (object ms) h = IsWord-b64 (json_text (object ms)) (omega arith)
+object_word (leaf l) h = absurd h
+object_word (array es) h = absurd h
+
+pub words : (seed : List ℕ) (o : Order) (body : Tree) (digests : List Text) (good : Meaning) (parts : Parts) → IsObject body
+    → (texts : List Text) → IsLaidFor (maker_of seed) o body texts digests → AreSigned o good body texts parts → AreWords parts
+words seed o body digests good parts is_object texts laid signed = record {
+  signed = record {
+    protected = subst IsWord (sym signed.protected) (object_word (object (header_members (header_of o))) tt);
+    payload = subst IsWord (sym signed.payload) (object_word body is_object);
+    signature = subst IsWord (sym signed.signature_text) (IsWord-b64 signed.signature signed.some);
+  };
+  disclosures = subst (λ (ds : List Text). AllByRecursion IsWord ds) (sym (signed.disclosures ∙ laid.texts_are)) (texts_words seed 0 laid.given);
+  binding = subst (λ b. IfSome b HasWords) (sym signed.unbound) tt;
+}
+
+-- ---- what laying asks for, and the range of what is laid
+
+pub not_more : (a b : ℕ) → (a < b → ⊥) → b ≤ a
+not_more a b h = grind arith
+
+with_alg_ranged : (t : Tree) → IsRanged t → IsRanged (with_alg t)
+with_alg_ranged (object ms) r = MembersRanged-inserted ms alg_name (leaf (text (codes "sha-256"))) r tt
+with_alg_ranged (leaf l) r = r
+with_alg_ranged (array es) r = r
+
+pub body_ranged : (seed : List ℕ) (o : Order) (body : Tree) (texts digests : List Text) → IsLaidFor (maker_of seed) o body texts digests → IsRanged o.claims → IsRanged body
+body_ranged seed o body texts digests laid ranged =
+    subst IsRanged (sym laid.payload_is) (with_alg_ranged laid.laid (payload_ranged (maker_of seed) o laid.laid laid.given laid.dg laid.is_laid ranged))

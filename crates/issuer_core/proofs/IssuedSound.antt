@@ -1,0 +1,104 @@
+-- An issued token is sound.
+use Rattle.std.proofs.Common.{◌≡◌, ℕ, zero, suc, ◌+◌, ◌<◌, ◌≤◌, List, [], ◌∷◌, ◌++◌, Bool, ap, arith, cond, false, inl, inr, is_some, length, refl, subst, sym, true, ◌∙◌, ltb}
+use Rattle.std.specs.Prelude.{bytes_eq}
+use Rattle.claim_tree.specs.Lists.{At, In, Nowhere, Repeats}
+use Rattle.claim_tree.specs.Tree.{Elements, Members, Text, Tree, array, depth, element, leaf, member, no_elements, no_members, object}
+use Rattle.digest_sites.specs.Given.{Given}
+use Rattle.marked_tree.specs.Laws.{HasEachMarkOnce}
+use Rattle.marked_tree.specs.Marked.{only, strip, weight}
+use Rattle.rebuild_core.specs.AllShown.{AreAllShown, ElementsTextLists, HasTextLists, MembersTextLists, all_digests}
+use Rattle.rebuild_core.specs.Conditions.{IsSound}
+use Rattle.rebuild_core.specs.Free.{HasNoReserved}
+use Rattle.rebuild_core.specs.Given.{given_digests}
+use Rattle.rebuild_core.specs.Laws.{IsReadable}
+use Rattle.rebuild_core.specs.Opening.{processed}
+use Rattle.issuer_core.specs.Digests.{Maker, decoy_digests, issued_digests}
+use Rattle.issuer_core.specs.GoodOrder.{IsGoodOrder}
+use Rattle.issuer_core.specs.Issued.{ElementsDigestLists, HasDigestLists, IsIssuedFor, MembersDigestLists, occurs}
+use Rattle.issuer_core.specs.Laws.{IssuedIsSound}
+use Rattle.issuer_core.specs.Order.{Order}
+use Rattle.claim_tree.proofs.Lists.{In-At, bytes_refl, bytes_same}
+use Rattle.marked_tree.proofs.MarkFacts.{mark_strips_holds, marks_once_holds}
+use Rattle.marked_tree.proofs.SpotMarks.{way_with}
+use Rattle.rebuild_core.proofs.AllShown.{At-left, shown_is_sound_holds}
+use Rattle.issuer_core.proofs.LaidIssued.{issued}
+
+-- ---- lists that have each text as often
+
+once_at_most : (d : Text) (ds : List Text) → Nowhere (Repeats ds) → occurs d ds ≤ 1
+once_at_most d [] h = omega arith
+once_at_most d (e ∷ ds) h = go (bytes_eq e d) refl (once_at_most d ds (λ q r. h (suc q) (r.0, r.1, suc r.2, omega (arith, r.3), r.4)))
+  where
+    none : (ds : List Text) → (In d ds → ⊥) → occurs d ds ≡ 0
+    none [] out = refl
+    none (e ∷ ds) out = step (bytes_eq e d) refl (none ds (λ m. out (inr m)))
+      where
+        step : (b : Bool) → bytes_eq e d ≡ b → occurs d ds ≡ 0 → cond b 1 0 + occurs d ds ≡ 0
+        step true q ih = absurd (out (inl (sym (bytes_same e d q))))
+        step false q ih = omega (arith, ih)
+
+    go : (b : Bool) → bytes_eq e d ≡ b → occurs d ds ≤ 1 → cond b 1 0 + occurs d ds ≤ 1
+    go true q ih =
+        let z = none ds (λ m. let w = In-At ds d m in h (suc w.0) (d, w.1, 0, omega arith, sym (bytes_same e d q))) in
+        omega (arith, z)
+    go false q ih = omega (arith, ih)
+
+pub there_once : (d : Text) (ds : List Text) (i : ℕ) → At ds i d → 1 ≤ occurs d ds
+there_once d (e ∷ ds) zero a = let q : bytes_eq e d ≡ true = bytes_refl e d (sym a) in rw q (omega arith)
+there_once d (e ∷ ds) (suc i) a = omega (arith, there_once d ds i a)
+there_once d [] i a = elim a [ ]
+
+there_twice : (d : Text) (ds : List Text) (i j : ℕ) → i < j → At ds i d → At ds j d → 2 ≤ occurs d ds
+there_twice d (e ∷ ds) zero zero l a b = absurd (omega arith)
+there_twice d (e ∷ ds) zero (suc j) l a b = let q : bytes_eq e d ≡ true = bytes_refl e d (sym a) in let z = there_once d ds j b in rw q (omega (arith, z))
+there_twice d (e ∷ ds) (suc i) zero l a b = absurd (omega arith)
+there_twice d (e ∷ ds) (suc i) (suc j) l a b = omega (arith, there_twice d ds i j (omega arith) a b)
+there_twice d [] i j l a b = elim a [ ]
+
+same_occurrences : (xs ys : List Text) → ((d : Text) → occurs d xs ≡ occurs d ys) → Nowhere (Repeats ys) → Nowhere (Repeats xs)
+same_occurrences xs ys same none q (d, a, j, l, b) = absurd (omega (arith, there_twice d xs j q l b a, same d, once_at_most d ys none))
+
+first_part : (xs ys : List Text) → Nowhere (Repeats (xs ++ ys)) → Nowhere (Repeats xs)
+first_part xs ys h q (d, a, j, l, b) = h q (d, At-left xs ys q d a, j, l, At-left xs ys j d b)
+
+-- ---- an issued token
+
+mutual
+  text_lists : (t : Tree) → HasDigestLists t → HasTextLists t
+  text_lists (leaf l) h = tt
+  text_lists (array es) h = elements_text_lists es h
+  text_lists (object ms) h = members_text_lists ms h
+
+  elements_text_lists : (es : Elements) → ElementsDigestLists es → ElementsTextLists es
+  elements_text_lists no_elements h = tt
+  elements_text_lists (element t es) h = (text_lists t h.0, elements_text_lists es h.1)
+
+  members_text_lists : (ms : Members) → MembersDigestLists ms → MembersTextLists ms
+  members_text_lists no_members h = tt
+  members_text_lists (member name t ms) h = ((λ e. let w = h.0 e in ap is_some w.2), text_lists t h.1, members_text_lists ms h.2)
+
+module _ (mk : Maker) (o : Order) (p : Tree) (g : List Given) (good : IsGoodOrder o) (issued : IsIssuedFor mk o p g) (readable : IsReadable p g) where
+  once : HasEachMarkOnce (processed p g) (length g)
+  once i =
+      ap (weight (only i)) issued.opens ∙ marks_once_holds o.claims o.hide i
+      ∙ ap (λ n. cond (ltb i n) 1 0) (sym issued.count)
+
+  stripped : strip (processed p g) ≡ o.claims
+  stripped = ap strip issued.opens ∙ mark_strips_holds o.claims o.hide
+
+  shown : AreAllShown p g
+  shown = record {
+    no_repeated_disclosure = first_part (given_digests g) (decoy_digests mk o) issued.differ;
+    no_repeated_digest = same_occurrences (all_digests p g) (issued_digests mk o g) issued.each_once issued.differ;
+    each_shown = λ i l. let w = way_with (processed p g) (length g) once i l in (w.0, w.1, w.2);
+    free = subst HasNoReserved (sym stripped) good.no_reserved;
+    shallow = subst (λ t. depth t ≤ 100) (sym stripped) good.shallow;
+    payload_lists = text_lists p issued.payload_rises;
+    value_lists = λ x m. text_lists x.value (issued.values_rise x m);
+  }
+
+  sound : IsSound p g
+  sound = shown_is_sound_holds p g readable shown
+
+pub issued_is_sound_holds : IssuedIsSound
+issued_is_sound_holds mk o p g good issued readable = sound mk o p g good issued readable

@@ -1,0 +1,73 @@
+-- What is laid, with digests that all differ, is issued.
+use Rattle.std.proofs.Common.{◌≡◌, ℕ, suc, ◌+◌, ◌<◌, List, [], ◌∷◌, ap, ap₂, arith, cond, length, refl, subst, sym, ◌∙◌}
+use Rattle.std.specs.Prelude.{bytes_eq}
+use Rattle.claim_tree.specs.Lists.{At, In, Nowhere, Repeats}
+use Rattle.claim_tree.specs.Tree.{Text, Tree}
+use Rattle.digest_sites.specs.Given.{Given}
+use Rattle.digest_sites.specs.Sites.{sites}
+use Rattle.marked_tree.specs.Places.{Path, is_among}
+use Rattle.rebuild_core.specs.AllShown.{all_digests}
+use Rattle.rebuild_core.specs.Given.{given_digests}
+use Rattle.issuer_core.specs.Decoys.{decoys_at, decoys_of}
+use Rattle.issuer_core.specs.Digests.{AllDiffer, Maker, decoy_digests, digests_from, hidden_of, issued_digests, marked_of}
+use Rattle.issuer_core.specs.GoodOrder.{IsGoodOrder}
+use Rattle.issuer_core.specs.Issued.{DecoysStand, HasDigestLists, IsIssuedFor}
+use Rattle.issuer_core.specs.Laid.{IsLaid}
+use Rattle.issuer_core.specs.Order.{Order}
+use Rattle.claim_tree.proofs.Lists.{At-get}
+use Rattle.marked_tree.proofs.MarkFacts.{mark_strips_holds}
+use Rattle.marked_tree.proofs.Sums.{sum_of, sum_of-append, sum_of-map}
+use Rattle.issuer_core.proofs.DecoyPlaces.{held_at}
+use Rattle.issuer_core.proofs.DecoySums.{decoy_sum, decoys_sum}
+use Rattle.issuer_core.proofs.LaidItems.{laid_count, laid_differ, laid_made, laid_processed}
+use Rattle.issuer_core.proofs.LaidLists.{are_decoys, items_listed, lay_lists}
+use Rattle.issuer_core.proofs.LaidSums.{all_sum, digest_sum, laid_sum, occurs_is, site_sum, value_sum}
+use Rattle.issuer_core.proofs.Plain.{marked_plain}
+
+-- the digests of a list in which none repeats
+pub all_differ : (dg : ℕ → Text) (ds : List Text) → ((k : ℕ) (d : Text) → At ds k d → d ≡ dg k) → Nowhere (Repeats ds) → AllDiffer dg (length ds)
+all_differ dg ds same none i j l b e =
+    let x = At-get ds i (omega (arith, l, b)) in
+    let y = At-get ds j b in
+    none j (y.0, y.1, i, l, subst (λ z. At ds i z) (same i x.0 x.1 ∙ e ∙ sym (same j y.0 y.1)) x.1)
+
+numbered_same : (f h : ℕ → Text) (k : ℕ) (qs : List Path) → ((d : ℕ) → d < length qs → f (k + d) ≡ h (k + d)) → digests_from f k qs ≡ digests_from h k qs
+numbered_same f h k [] e = refl
+numbered_same f h k (q ∷ qs) e =
+    ap₂ (λ (a : Text) (b : List Text). a ∷ b) (ap f (let z : k ≡ k + 0 = omega arith in z) ∙ e 0 (omega arith) ∙ ap h (let z : k + 0 ≡ k = omega arith in z))
+    (numbered_same f h (suc k) qs (λ d l. let z : suc k + d ≡ k + suc d = omega arith in ap f z ∙ e (suc d) (omega (arith, l)) ∙ ap h (sym z)))
+
+module _ (mk : Maker) (o : Order) (p : Tree) (g : List Given) (dg : ℕ → Text) (good : IsGoodOrder o) (laid : IsLaid mk o p g dg) (differ : AllDiffer dg (hidden_of o + length (decoys_of o))) where
+  abbrev dec : Path → List Text
+  dec = decoys_at dg (hidden_of o) (decoys_of o)
+
+  same_sums : (f : Text → ℕ) → sum_of f (all_digests p g) ≡ sum_of f (issued_digests mk o g)
+  same_sums f =
+      omega (
+        arith,
+        all_sum f p g,
+        ap (λ t. site_sum f (sites t)) laid.payload_laid,
+        ap (value_sum f) laid.given_laid,
+        laid_sum f dec dg (marked_of o) (marked_plain (is_among o.hide) 0 o.claims good.ordered good.no_reserved),
+        ap (digest_sum f) laid.given_laid,
+        ap (decoy_sum f dec) (mark_strips_holds o.claims o.hide),
+        decoys_sum f dg (hidden_of o) (decoys_of o) o.claims good.ordered good.short (held_at o good),
+        sum_of-append f (given_digests g) (decoy_digests mk o),
+        sum_of-map f (λ (x : Given). x.digest) g,
+        ap (sum_of f) (numbered_same dg (λ k. mk.digest (mk.piece k)) (hidden_of o) (decoys_of o) laid.decoys),
+      )
+
+  pub issued : DecoysStand mk o p g → IsIssuedFor mk o p g
+  issued decoys =
+      let d = are_decoys dg (hidden_of o) (length (decoys_of o)) differ (decoys_of o) refl in
+      record {
+        count = laid_count mk o p g dg good laid differ;
+        made = laid_made mk o p g dg good laid differ;
+        opens = laid_processed mk o p g dg good laid differ;
+        each_once = λ e. occurs_is e (all_digests p g) ∙ same_sums (λ z. cond (bytes_eq z e) 1 0) ∙ sym (occurs_is e (issued_digests mk o g));
+        differ = laid_differ mk o p g dg good laid differ;
+        decoys = decoys;
+        payload_rises = subst HasDigestLists (sym laid.payload_laid)
+            (lay_lists dg (hidden_of o) (length (decoys_of o)) differ dec d (is_among o.hide) 0 o.claims good.no_reserved (omega arith));
+        values_rise = λ x m. items_listed dg (hidden_of o) (length (decoys_of o)) differ dec d (is_among o.hide) 0 o.claims good.no_reserved (omega arith) x (subst (λ (xs : List Given). In x xs) laid.given_laid m);
+      }

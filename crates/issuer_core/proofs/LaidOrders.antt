@@ -1,0 +1,117 @@
+-- An order that is laid with the salts of a seed.
+use Rattle.std.proofs.Common.{◌≡◌, ℕ, zero, suc, ◌+◌, ◌<◌, ◌≤◌, List, [], ◌∷◌, ◌++◌, length, map, drop, Option, Some, refl, sym, ap, ap₂, ◌∙◌, arith}
+use Rattle.std.specs.List.{slice_get}
+use Rattle.std.proofs.lemmas.List.{length-append, length-map, length-drop}
+use Rattle.claim_tree.specs.Tree.{Text, Tree, leaf, text}
+use Rattle.claim_tree.specs.Lists.{At}
+use Rattle.digest_sites.specs.Given.{Given}
+use Rattle.disclosure.specs.Disclosure.{disclosure_text}
+use Rattle.marked_tree.specs.Places.{Path}
+use Rattle.issuer_core.specs.Order.{Order}
+use Rattle.issuer_core.specs.Decoys.{decoys_of}
+use Rattle.issuer_core.specs.Digests.{hidden_of, marked_of, made_texts}
+use Rattle.issuer_core.specs.Laid.{lay, laid_items, with_alg, order_decoys}
+use Rattle.issuer_core.specs.Salts.{salt_of}
+use Rattle.issuer_core.specs.Seed.{maker_of}
+use Rattle.issuer_core.specs.Laying.{nth, digest, digest_at, salted, placed, IsLaidFor}
+use Rattle.issuer_core.proofs.LayingSteps.{Made, nth_got, made_length}
+use Rattle.issuer_core.proofs.SortedEntries.{placed_numbered}
+
+nth_before : (ts us : List Text) (k : ℕ) → k < length ts → nth (ts ++ us) k ≡ nth ts k
+nth_before [] us k l = absurd (omega (arith, l))
+nth_before (t ∷ ts) us zero l = refl
+nth_before (t ∷ ts) us (suc k) l = nth_before ts us k (omega (arith, l))
+
+nth_behind : (ts us : List Text) (k : ℕ) → nth (ts ++ us) (length ts + k) ≡ nth us k
+nth_behind [] us k = let none : 0 + k ≡ k = omega arith in ap (nth us) none
+nth_behind (t ∷ ts) us k = let more : suc (length ts) + k ≡ suc (length ts + k) = omega arith in rw more (nth_behind ts us k)
+
+nth_drop : (ts : List Text) (n k : ℕ) → nth (drop n ts) k ≡ nth ts (n + k)
+nth_drop ts zero k = let none : 0 + k ≡ k = omega arith in ap (nth ts) (sym none)
+nth_drop [] (suc n) k = refl
+nth_drop (t ∷ ts) (suc n) k = let more : suc n + k ≡ suc (n + k) = omega arith in rw more (nth_drop ts n k)
+
+nth_map : (ts : List Text) (k : ℕ) → k < length ts → nth (map digest ts) k ≡ digest_at ts k
+nth_map [] k l = absurd (omega (arith, l))
+nth_map (t ∷ ts) zero l = refl
+nth_map (t ∷ ts) (suc k) l = nth_map ts k (omega (arith, l))
+
+made_same : (f g : Made) (k n : ℕ) (xs : List Given) → k + length xs ≤ n → ((j : ℕ) → j < n → (name : Option Text) (value : Tree) → f j name value ≡ g j name value) → made_texts f k xs ≡ made_texts g k xs
+made_same f g k n [] l same = refl
+made_same f g k n (x ∷ xs) l same = ap₂ (λ (t : Text) (ts : List Text). t ∷ ts) (same k (omega (arith, l)) x.name x.value) (made_same f g (suc k) n xs (omega (arith, l)) same)
+
+made_at : (f : Made) (n : ℕ) (xs : List Given) (k : ℕ) (x : Given) → At xs k x → (k < length xs) × (nth (made_texts f n xs) k ≡ f (n + k) x.name x.value)
+made_at f n [] k x a = elim a [ ]
+made_at f n (y ∷ xs) zero x a = let none : n + 0 ≡ n = omega arith in (omega arith, rw (none, a) refl)
+made_at f n (y ∷ xs) (suc k) x a =
+    let rest = made_at f (suc n) xs k x a in
+    let more : suc n + k ≡ n + suc k = omega arith in
+    (omega (arith, rest.0), rest.1 ∙ ap (λ j. f j x.name x.value) more)
+
+digests_at : (ts us : List Text) (k : ℕ) (d : Text) → At (map digest ts ++ map digest us) k d → d ≡ digest_at (ts ++ us) k
+digests_at [] [] k d a = elim a [ ]
+digests_at [] (u ∷ us) zero d a = a
+digests_at [] (u ∷ us) (suc k) d a = digests_at [] us k d a
+digests_at (t ∷ ts) us zero d a = a
+digests_at (t ∷ ts) us (suc k) d a = digests_at ts us k d a
+
+module _ (seed : List ℕ) (o : Order) (salts texts : List Text) (p : Tree)
+    (many : length salts ≡ hidden_of o + length (decoys_of o))
+    (each : (k : ℕ) → k < length salts → Some (salt_of seed k) ≡ slice_get salts k)
+    (count : length texts ≡ hidden_of o)
+    (laid : (dec : Path → List Text) → ((q : Path) → placed (decoys_of o) (map digest (drop (hidden_of o) salts)) q ≡ dec q) → (more : List Text) → p ≡ lay dec (digest_at (texts ++ more)) (marked_of o))
+    (made : (dec : Path → List Text) → ((q : Path) → placed (decoys_of o) (map digest (drop (hidden_of o) salts)) q ≡ dec q) → (more : List Text)
+    → texts ≡ made_texts (salted salts) 0 (laid_items dec (digest_at (texts ++ more)) (marked_of o)))
+  where
+    abbrev pieces : List Text
+    pieces = drop (hidden_of o) salts
+
+    abbrev dg : ℕ → Text
+    dg = digest_at (texts ++ pieces)
+
+    salt_is : (k : ℕ) → k < length salts → nth salts k ≡ salt_of seed k
+    salt_is k l = nth_got salts k (salt_of seed k) (each k l)
+
+    pieces_many : length pieces ≡ length (decoys_of o)
+    pieces_many = let d = length-drop (hidden_of o) salts in omega (arith, d, many)
+
+    piece_at : (k : ℕ) → nth (texts ++ pieces) (hidden_of o + k) ≡ nth pieces k
+    piece_at k = ap (λ n. nth (texts ++ pieces) (n + k)) (sym count) ∙ nth_behind texts pieces k
+
+    tells : (q : Path) → placed (decoys_of o) (map digest pieces) q ≡ order_decoys o dg q
+    tells q =
+        placed_numbered (decoys_of o) (map digest pieces) dg (hidden_of o) (length-map pieces digest ∙ pieces_many)
+        (λ k l. nth_map pieces k (let m = pieces_many in omega (arith, m, l)) ∙ ap digest (sym (piece_at k))) q
+
+    abbrev given : List Given
+    given = laid_items (order_decoys o dg) dg (marked_of o)
+
+    texts_are : texts ≡ made_texts (maker_of seed).disclosure 0 given
+    texts_are =
+        let first = made (order_decoys o dg) tells pieces in
+        let long : length given ≡ length texts = sym (ap length first ∙ made_length (salted salts) 0 given) in
+        first ∙ made_same (salted salts) (maker_of seed).disclosure 0 (length salts) given (omega (arith, long, count, many)) (λ j l name value. ap (λ s. disclosure_text (leaf (text s)) name value) (salt_is j l))
+
+    disclosed : (k : ℕ) (x : Given) → At given k x → dg k ≡ digest ((maker_of seed).disclosure k x.name x.value)
+    disclosed k x a =
+        let none : 0 + k ≡ k = omega arith in
+        let there = made_at (maker_of seed).disclosure 0 given k x a in
+        let within : k < length texts = let long = ap length texts_are ∙ made_length (maker_of seed).disclosure 0 given in let low = there.0 in omega (arith, long, low) in
+        ap digest (nth_before texts pieces k within ∙ (ap (λ ts. nth ts k) texts_are ∙ (there.1 ∙ ap (λ j. (maker_of seed).disclosure j x.name x.value) none)))
+
+    pub order_laid : IsLaidFor (maker_of seed) o (with_alg p) texts (map digest texts ++ map digest pieces)
+    order_laid = record {
+      laid = p;
+      given = given;
+      dg = dg;
+      is_laid = record {
+        payload_laid = laid (order_decoys o dg) tells pieces;
+        given_laid = refl;
+        disclosures = disclosed;
+        decoys = λ d l. ap digest (piece_at d ∙ (nth_drop salts (hidden_of o) d ∙ salt_is (hidden_of o + d) (omega (arith, l, many))));
+      };
+      payload_is = refl;
+      texts_are = texts_are;
+      count = let a = length-append (map digest texts) (map digest pieces) in let b = length-map texts digest in let c = length-map pieces digest in let m = pieces_many in omega (arith, a, b, c, m, count);
+      each = digests_at texts pieces;
+    }

@@ -1,0 +1,77 @@
+-- An order that is refused is refused in one way.
+use Rattle.std.proofs.Common.{◌≡◌, ℕ, ◌<◌, ◌⊎◌, inl, inr, List, Some, Option, ap, ap₂, arith, refl, subst, sym, ◌∙◌}
+use Rattle.claim_tree.specs.Tree.{Text}
+use Rattle.claim_tree.specs.Lists.{IsLeast}
+use Rattle.hmac_sign.specs.Signatures.{Meaning}
+use Rattle.marked_tree.specs.Places.{Path}
+use Rattle.issuer_core.specs.declared.errors.IssueError.{IssueError}
+use Rattle.issuer_core.specs.declared.errors.IssueError.TheVariants.{Memory, SignFailed, PayloadNotObject, ReservedName, TooDeep, RootMarked, NoSuchPlace, ProtectedClaim, DecoyPlace, TooManyHidden, TooManyDecoys, DigestClash, TooLong}
+use Rattle.issuer_core.specs.Order.{Order}
+use Rattle.issuer_core.specs.Digests.{Maker}
+use Rattle.issuer_core.specs.Clash.{IsEqualAt, IsFirstClash}
+use Rattle.issuer_core.specs.Refusals.{number_of, place_of, IsLowest}
+use Rattle.issuer_core.specs.Issue.{laid_digests, ClashesAt, Applies}
+use Rattle.issuer_core.proofs.FromLaid.{one_list}
+
+one_least : (Fails : ℕ → Type 0) (i j : ℕ) → IsLeast Fails i → IsLeast Fails j → i ≡ j
+one_least Fails i j this other = go (either i j)
+  where
+    either : (a b : ℕ) → (a < b) ⊎ ((b < a) ⊎ (a ≡ b))
+    either a b = grind arith
+
+    go : (i < j) ⊎ ((j < i) ⊎ (i ≡ j)) → i ≡ j
+    go (inl less) = absurd (other.first i less this.fails)
+    go (inr (inl more)) = absurd (this.first j more other.fails)
+    go (inr (inr same)) = same
+
+one_first_clash : (texts : List Text) (i j k l : ℕ) → IsFirstClash texts i j → IsFirstClash texts k l → (i ≡ k) × (j ≡ l)
+one_first_clash texts i j k l this other =
+    let later : j ≡ l = one_least _ j l this.later other.later in
+    let earlier : IsLeast (IsEqualAt texts l) i = subst (λ q. IsLeast (IsEqualAt texts q) i) later this.earlier in
+    (one_least (IsEqualAt texts l) i k earlier other.earlier, later)
+
+module _ (maker : Maker) (o : Order) where
+  one_clash : (i j k l : ℕ) → ClashesAt maker o i j → ClashesAt maker o k l → (i ≡ k) × (j ≡ l)
+  one_clash i j k l this other =
+      let same : laid_digests o this.digests ≡ laid_digests o other.digests = one_list maker o this.payload other.payload this.given other.given this.digests other.digests this.laid other.laid in
+      one_first_clash (laid_digests o other.digests) i j k l (subst (λ (ds : List Text). IsFirstClash ds i j) same this.clash) other.clash
+
+  one_path : (found : Option Path) (p q : Path) → found ≡ Some p → found ≡ Some q → p ≡ q
+  one_path found p q e f = let same : Some p ≡ Some q = sym e ∙ f in cc same
+
+  module _ (good : Meaning) where
+    -- the number and the place tell what applies
+    by_number : (e f : IssueError) → Applies maker o good e → Applies maker o good f → number_of e ≡ number_of f → place_of e ≡ place_of f → e ≡ f
+    by_number Memory f a b n p = absurd a
+    by_number SignFailed f a b n p = absurd a
+    by_number PayloadNotObject PayloadNotObject a b n p = refl
+    by_number PayloadNotObject f a b n p = absurd (omega (arith, n))
+    by_number (ReservedName x) (ReservedName y) a b n p = ap ReservedName (one_path _ x y a b)
+    by_number (ReservedName x) f a b n p = absurd (omega (arith, n))
+    by_number TooDeep TooDeep a b n p = refl
+    by_number TooDeep f a b n p = absurd (omega (arith, n))
+    by_number (RootMarked k) (RootMarked l) a b n p = ap RootMarked p
+    by_number (RootMarked k) f a b n p = absurd (omega (arith, n))
+    by_number (NoSuchPlace k) (NoSuchPlace l) a b n p = ap NoSuchPlace p
+    by_number (NoSuchPlace k) f a b n p = absurd (omega (arith, n))
+    by_number (ProtectedClaim k) (ProtectedClaim l) a b n p = ap ProtectedClaim p
+    by_number (ProtectedClaim k) f a b n p = absurd (omega (arith, n))
+    by_number (DecoyPlace k) (DecoyPlace l) a b n p = ap DecoyPlace p
+    by_number (DecoyPlace k) f a b n p = absurd (omega (arith, n))
+    by_number TooManyHidden TooManyHidden a b n p = refl
+    by_number TooManyHidden f a b n p = absurd (omega (arith, n))
+    by_number TooManyDecoys TooManyDecoys a b n p = refl
+    by_number TooManyDecoys f a b n p = absurd (omega (arith, n))
+    by_number (DigestClash i j) (DigestClash k l) a b n p = let same = one_clash i j k l a b in ap₂ DigestClash same.0 same.1
+    by_number (DigestClash i j) f a b n p = absurd (omega (arith, n))
+    by_number TooLong TooLong a b n p = refl
+    by_number TooLong f a b n p = absurd (omega (arith, n))
+
+    pub one_refusal : (e f : IssueError) → IsLowest (Applies maker o good) e → IsLowest (Applies maker o good) f → e ≡ f
+    one_refusal e f this other =
+        let up = this.lowest f other.applies in
+        let down = other.lowest e this.applies in
+        let numbers : number_of e ≡ number_of f = omega (arith, up, down) in
+        let before = this.first f other.applies (sym numbers) in
+        let behind = other.first e this.applies numbers in
+        by_number e f this.applies other.applies numbers (omega (arith, before, behind))

@@ -1,0 +1,204 @@
+-- A file says one order, or is refused.
+use Rattle.std.proofs.Common.{◌≡◌, ◌≢◌, ℕ, ◌<◌, ◌≤◌, max, List, [], ◌∷◌, Bool, true, false, cond, inl, inr, Option, Some, None, refl, sym, ap, ap₂, subst, ◌∙◌, arith, codes}
+use Rattle.std.specs.Prelude.{bytes_eq}
+use Rattle.compact_form.specs.declared.limits.TheConstants.{COUNT_MAX, FILE_MAX}
+use Rattle.claim_tree.specs.Tree as spec
+use Rattle.claim_tree.specs.Tree.{Text, leaf, array, object, Elements, no_elements, element, Members, no_members, member, members_len, member_named, depth, members_depth, IsOrdered, MembersOrdered, IsRanged, MembersRanged}
+use Rattle.claim_tree.specs.Lists.{In}
+use Rattle.claim_tree.specs.View.{tree_of}
+use Rattle.claim_tree.specs.declared.tree.Tree as tree
+use Rattle.claim_tree.specs.FileForms.{IsText, IsWholeUpTo, Says, MaySay, SaysOr, HasValue, found}
+use Rattle.claim_tree.specs.declared.file_fault.Field.TheVariants.{Payload, Hide, Decoys, Key, Kid, Typ}
+use Rattle.claim_tree.specs.declared.file_fault.FileFault.{FileFault}
+use Rattle.claim_tree.proofs.FileMembers.{says_meets, may_say_meets, says_or_meets}
+use Rattle.claim_tree.proofs.FileVerdicts as verdicts
+use Rattle.claim_tree.proofs.FileVerdicts.{SaysOne}
+use Rattle.issuer_core.specs.FileLists.{IsListOf, EachSays, IsPointer}
+use Rattle.issuer_core.specs.KeyText.{IsKeyText}
+use Rattle.issuer_core.specs.Order.{Order, order_of}
+use Rattle.issuer_core.specs.OrderFile.{IsValue, IsDecoy, order_table, IsOrderFile, IsOrderRefused}
+use Rattle.issuer_core.specs.declared.order.Decoy.{Decoy}
+use Rattle.issuer_core.specs.declared.order_file.IssueFile.{IssueFile}
+use Rattle.issuer_core.proofs.ListForms.{one_list, one_pointer}
+use Rattle.issuer_core.proofs.KeyTexts.{one_key_text}
+
+-- ---- what a member says
+
+says_none : {X : Type 0} (Is : spec.Tree → X → Type 0) (o : Option spec.Tree) (x : X) → o ≡ None → Says Is o x → ⊥
+says_none Is None x e h = h
+says_none Is (Some t) x e h = cc e
+
+says_odd : {X : Type 0} (Is : spec.Tree → X → Type 0) (o : Option spec.Tree) (t : spec.Tree) (x : X) → o ≡ Some t → (HasValue Is t → ⊥) → Says Is o x → ⊥
+says_odd Is None t x e none h = h
+says_odd Is (Some u) t x e none h = let same : u ≡ t = cc e in none (x, subst (λ v. Is v x) same h)
+
+says_it : {X : Type 0} (Is : spec.Tree → X → Type 0) (o : Option spec.Tree) (t : spec.Tree) (x : X) → o ≡ Some t → Is t x → Says Is o x
+says_it Is None t x e h = cc e
+says_it Is (Some u) t x e h = let same : u ≡ t = cc e in subst (λ v. Is v x) (sym same) h
+
+-- ---- entries of decoys
+
+object_inside : (t : tree.Tree) (ms : Members) → tree_of t ≡ object ms → t ≡ tree.Tree.Object ms
+object_inside tree.Tree.Null ms e = cc e
+object_inside (tree.Tree.Flag b) ms e = cc e
+object_inside (tree.Tree.Whole n) ms e = cc e
+object_inside (tree.Tree.Text s) ms e = cc e
+object_inside (tree.Tree.List es) ms e = cc e
+object_inside (tree.Tree.Object other) ms e = let same : other ≡ ms = cc e in ap tree.Tree.Object same
+
+pub no_object : (t : tree.Tree) → ((ms : Members) → t ≢ tree.Tree.Object ms) → HasValue IsDecoy (tree_of t) → ⊥
+no_object t other h = other h.1.members (object_inside t h.1.members h.1.is)
+
+same_members : (t : tree.Tree) (ms : Members) → t ≡ tree.Tree.Object ms → (h : HasValue IsDecoy (tree_of t)) → h.1.members ≡ ms
+same_members t ms is h = let both : object h.1.members ≡ object ms = sym h.1.is ∙ ap tree_of is in cc both
+
+pub not_two : (t : tree.Tree) (ms : Members) → t ≡ tree.Tree.Object ms → (members_len ms ≡ 2 → ⊥) → HasValue IsDecoy (tree_of t) → ⊥
+not_two t ms is differs h = differs (subst (λ ns. members_len ns ≡ 2) (same_members t ms is h) h.1.two)
+
+pub no_at : (t : tree.Tree) (ms : Members) → t ≡ tree.Tree.Object ms → member_named ms (codes "at") ≡ None → HasValue IsDecoy (tree_of t) → ⊥
+no_at t ms is none h = says_none IsPointer (member_named ms (codes "at")) h.0.at none (subst (λ ns. Says IsPointer (member_named ns (codes "at")) h.0.at) (same_members t ms is h) h.1.at)
+
+pub odd_at : (t : tree.Tree) (ms : Members) (u : spec.Tree) → t ≡ tree.Tree.Object ms → member_named ms (codes "at") ≡ Some u → (HasValue IsPointer u → ⊥) → HasValue IsDecoy (tree_of t) → ⊥
+odd_at t ms u is there odd h = says_odd IsPointer (member_named ms (codes "at")) u h.0.at there odd (subst (λ ns. Says IsPointer (member_named ns (codes "at")) h.0.at) (same_members t ms is h) h.1.at)
+
+pub no_count : (t : tree.Tree) (ms : Members) → t ≡ tree.Tree.Object ms → member_named ms (codes "count") ≡ None → HasValue IsDecoy (tree_of t) → ⊥
+no_count t ms is none h =
+    says_none (IsWholeUpTo COUNT_MAX) (member_named ms (codes "count")) h.0.count none (subst (λ ns. Says (IsWholeUpTo COUNT_MAX) (member_named ns (codes "count")) h.0.count) (same_members t ms is h) h.1.count)
+
+pub odd_count : (t : tree.Tree) (ms : Members) (u : spec.Tree) → t ≡ tree.Tree.Object ms → member_named ms (codes "count") ≡ Some u → (HasValue (IsWholeUpTo COUNT_MAX) u → ⊥) → HasValue IsDecoy (tree_of t) → ⊥
+odd_count t ms u is there odd h =
+    says_odd (IsWholeUpTo COUNT_MAX) (member_named ms (codes "count")) u h.0.count there odd (subst (λ ns. Says (IsWholeUpTo COUNT_MAX) (member_named ns (codes "count")) h.0.count) (same_members t ms is h) h.1.count)
+
+pub is_decoy : (t : tree.Tree) (ms : Members) (u v : spec.Tree) (entry : Decoy) → t ≡ tree.Tree.Object ms → members_len ms ≡ 2 → member_named ms (codes "at") ≡ Some u → IsPointer u entry.at
+    → member_named ms (codes "count") ≡ Some v → IsWholeUpTo COUNT_MAX v entry.count → IsDecoy (tree_of t) entry
+is_decoy t ms u v entry is two there at stands count = record {
+  members = ms;
+  is = ap tree_of is;
+  two = two;
+  at = says_it IsPointer (member_named ms (codes "at")) u entry.at there at;
+  count = says_it (IsWholeUpTo COUNT_MAX) (member_named ms (codes "count")) v entry.count stands count;
+}
+
+entry_of : List Text → ℕ → Decoy
+entry_of at count = record { at = at; count = count }
+
+one_decoy : SaysOne IsDecoy
+unfolding entry_of
+one_decoy t d e h k =
+    let both : object h.members ≡ object k.members = sym h.is ∙ k.is in
+    let same : h.members ≡ k.members = cc both in
+    let at : d.at ≡ e.at = verdicts.says_one IsPointer (member_named k.members (codes "at")) d.at e.at one_pointer (subst (λ ns. Says IsPointer (member_named ns (codes "at")) d.at) same h.at) k.at in
+    let count : d.count ≡ e.count = verdicts.says_one (IsWholeUpTo COUNT_MAX) (member_named k.members (codes "count")) d.count e.count (verdicts.one_whole COUNT_MAX) (subst (λ ns. Says (IsWholeUpTo COUNT_MAX) (member_named ns (codes "count")) d.count) same h.count) k.count in
+    ap (λ x. entry_of x d.count) at ∙ ap (λ n. entry_of e.at n) count
+
+-- no entry asks for more than an order may have
+count_within : (o : Option spec.Tree) (n : ℕ) → Says (IsWholeUpTo COUNT_MAX) o n → n ≤ COUNT_MAX
+count_within None n h = absurd h
+count_within (Some t) n h = h.within
+
+each_within : (es : Elements) (ds : List Decoy) (entry : Decoy) → EachSays IsDecoy es ds → In entry ds → entry.count ≤ COUNT_MAX
+each_within no_elements [] entry h m = elim m [ ]
+each_within no_elements (d ∷ ds) entry h m = absurd h
+each_within (element t es) [] entry h m = absurd h
+each_within (element t es) (d ∷ ds) entry h (inl e) = subst (λ (x : Decoy). x.count ≤ COUNT_MAX) (sym e) (count_within (member_named h.0.members (codes "count")) d.count h.0.count)
+each_within (element t es) (d ∷ ds) entry h (inr m) = each_within es ds entry h.1 m
+
+pub counts_within : (o : Option spec.Tree) (ds : List Decoy) (entry : Decoy) → SaysOr (IsListOf IsDecoy) [] o ds → In entry ds → entry.count ≤ COUNT_MAX
+counts_within None ds entry h m = let none : In entry [] = subst (λ xs. In entry xs) h m in elim none [ ]
+counts_within (Some t) ds entry h m = each_within h.elements ds entry h.each m
+
+-- ---- the payload
+
+pub one_value : SaysOne IsValue
+one_value t x y h k = h ∙ sym k
+
+value_named : (o : Option spec.Tree) (u : spec.Tree) → Says IsValue o u → o ≡ Some u
+value_named None u h = absurd h
+value_named (Some t) u h = ap Some (sym h)
+
+pub depth_named : (ms : Members) (name : Text) (u : spec.Tree) → member_named ms name ≡ Some u → depth u ≤ members_depth ms
+depth_named no_members name u e = cc e
+depth_named (member k t ms) name u e = go (bytes_eq k name) e (depth_named ms name u)
+  where
+    go : (b : Bool) → cond b (Some t) (member_named ms name) ≡ Some u → (member_named ms name ≡ Some u → depth u ≤ members_depth ms) → depth u ≤ max (depth t) (members_depth ms)
+    go true e ih = let same : t ≡ u = cc e in omega (arith, ap depth same)
+    go false e ih = omega (arith, ih e)
+
+ordered_named : (ms : Members) (name : Text) (u : spec.Tree) → MembersOrdered ms → member_named ms name ≡ Some u → IsOrdered u
+ordered_named no_members name u o e = cc e
+ordered_named (member k t ms) name u o e = go (bytes_eq k name) e (ordered_named ms name u o.2)
+  where
+    go : (b : Bool) → cond b (Some t) (member_named ms name) ≡ Some u → (member_named ms name ≡ Some u → IsOrdered u) → IsOrdered u
+    go true e ih = let same : t ≡ u = cc e in subst IsOrdered same o.1
+    go false e ih = ih e
+
+ranged_named : (ms : Members) (name : Text) (u : spec.Tree) → MembersRanged ms → member_named ms name ≡ Some u → IsRanged u
+ranged_named no_members name u r e = cc e
+ranged_named (member k t ms) name u r e = go (bytes_eq k name) e (ranged_named ms name u r.1)
+  where
+    go : (b : Bool) → cond b (Some t) (member_named ms name) ≡ Some u → (member_named ms name ≡ Some u → IsRanged u) → IsRanged u
+    go true e ih = let same : t ≡ u = cc e in subst IsRanged same r.0
+    go false e ih = ih e
+
+pub value_depth : (ms : Members) (name : Text) (u : spec.Tree) → members_depth ms ≤ 126 → Says IsValue (member_named ms name) u → depth u ≤ 126
+value_depth ms name u low says = omega (arith, low, depth_named ms name u (value_named (member_named ms name) u says))
+
+pub value_ordered : (ms : Members) (name : Text) (u : spec.Tree) → MembersOrdered ms → Says IsValue (member_named ms name) u → IsOrdered u
+value_ordered ms name u o says = ordered_named ms name u o (value_named (member_named ms name) u says)
+
+pub value_ranged : (ms : Members) (name : Text) (u : spec.Tree) → MembersRanged ms → Says IsValue (member_named ms name) u → IsRanged u
+value_ranged ms name u r says = ranged_named ms name u r (value_named (member_named ms name) u says)
+
+-- ---- the file
+
+made : spec.Tree → List (List Text) → List Decoy → Option Text → Option Text → Order
+made claims hide decoys kid typ = record { claims = claims; hide = hide; decoys = decoys; kid = kid; typ = typ }
+
+-- what the members say is one
+module _ (bytes : Text) (f g : IssueFile) (h : IsOrderFile bytes f) (k : IsOrderFile bytes g) where
+  same : h.members ≡ k.members
+  same = verdicts.one_object FILE_MAX bytes h.members k.members h.file.object k.file.object
+
+  claims_one : tree_of f.order.payload ≡ tree_of g.order.payload
+  claims_one = verdicts.says_one IsValue (found k.members Payload) (tree_of f.order.payload) (tree_of g.order.payload) one_value (subst (λ ns. Says IsValue (found ns Payload) (tree_of f.order.payload)) same h.payload) k.payload
+
+  hide_one : f.order.hide ≡ g.order.hide
+  hide_one = verdicts.says_or_one (IsListOf IsPointer) [] (found k.members Hide) f.order.hide g.order.hide (one_list IsPointer one_pointer) (subst (λ ns. SaysOr (IsListOf IsPointer) [] (found ns Hide) f.order.hide) same h.hide) k.hide
+
+  decoys_one : f.order.decoys ≡ g.order.decoys
+  decoys_one = verdicts.says_or_one (IsListOf IsDecoy) [] (found k.members Decoys) f.order.decoys g.order.decoys (one_list IsDecoy one_decoy) (subst (λ ns. SaysOr (IsListOf IsDecoy) [] (found ns Decoys) f.order.decoys) same h.decoys) k.decoys
+
+  kid_one : f.order.kid ≡ g.order.kid
+  kid_one = verdicts.may_say_one IsText (found k.members Kid) f.order.kid g.order.kid verdicts.one_text (subst (λ ns. MaySay IsText (found ns Kid) f.order.kid) same h.kid) k.kid
+
+  typ_one : f.order.typ ≡ g.order.typ
+  typ_one = verdicts.may_say_one IsText (found k.members Typ) f.order.typ g.order.typ verdicts.one_text (subst (λ ns. MaySay IsText (found ns Typ) f.order.typ) same h.typ) k.typ
+
+  pub key_one : f.key ≡ g.key
+  key_one = verdicts.says_one IsKeyText (found k.members Key) f.key g.key one_key_text (subst (λ ns. Says IsKeyText (found ns Key) f.key) same h.key) k.key
+
+  pub order_one : order_of f.order ≡ order_of g.order
+  unfolding made
+  order_one =
+      ap (λ x. made x f.order.hide f.order.decoys f.order.kid f.order.typ) claims_one
+      ∙ (ap (λ x. made (tree_of g.order.payload) x f.order.decoys f.order.kid f.order.typ) hide_one
+      ∙ (ap (λ x. made (tree_of g.order.payload) g.order.hide x f.order.kid f.order.typ) decoys_one
+      ∙ (ap (λ x. made (tree_of g.order.payload) g.order.hide g.order.decoys x f.order.typ) kid_one
+      ∙ ap (λ x. made (tree_of g.order.payload) g.order.hide g.order.decoys g.order.kid x) typ_one)))
+
+pub one_order : (bytes : Text) (f g : IssueFile) → IsOrderFile bytes f → IsOrderFile bytes g → (order_of f.order ≡ order_of g.order) × (f.key ≡ g.key)
+one_order bytes f g h k = (order_one bytes f g h k, key_one bytes f g h k)
+
+pub not_both : (bytes : Text) (said : IssueFile) (fault : FileFault) → IsOrderFile bytes said → IsOrderRefused bytes fault → fault ≡ FileFault.Memory
+not_both bytes said fault says refused =
+    let ms = says.members in
+    let payload = says_meets IsValue Payload ms (tree_of said.order.payload) says.payload in
+    let hide = says_or_meets (IsListOf IsPointer) [] Hide ms said.order.hide says.hide in
+    let decoys = says_or_meets (IsListOf IsDecoy) [] Decoys ms said.order.decoys says.decoys in
+    let key = says_meets IsKeyText Key ms said.key says.key in
+    let kid = may_say_meets IsText Kid ms said.order.kid says.kid in
+    let typ = may_say_meets IsText Typ ms said.order.typ says.typ in
+    verdicts.not_refused FILE_MAX order_table bytes ms fault says.file (payload, (hide, (decoys, (key, (kid, (typ, tt)))))) refused
+
+pub one_fault : (bytes : Text) (fault other : FileFault) → IsOrderRefused bytes fault → IsOrderRefused bytes other → fault ≢ FileFault.Memory → other ≢ FileFault.Memory → fault ≡ other
+one_fault bytes fault other h k = verdicts.one_fault FILE_MAX order_table bytes fault other h k

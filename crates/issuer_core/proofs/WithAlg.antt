@@ -1,0 +1,111 @@
+-- The payload with its `_sd_alg`: taken out again, it leaves what was laid.
+use Rattle.std.proofs.Common.{◌≡◌, ℕ, List, [], ◌∷◌, ◌++◌, Bool, Equal, Greater, Less, None, Ordering, Some, ap, false, refl, subst, sym, true, codes}
+use Rattle.std.proofs.lemmas.Map.Lookups.{exact_bytes}
+use Rattle.std.specs.Cmp.Lexicographic.{slice_cmp}
+use Rattle.std.specs.Ordering.{match_ordering, nat_cmp}
+use Rattle.std.specs.Prelude.{bytes_eq}
+use Rattle.claim_tree.specs.Tree.{IsBefore, IsOrdered, Members, Text, Tree, array, get, inserted, leaf, member, member_named, no_members, object, text}
+use Rattle.digest_sites.specs.Given.{Given}
+use Rattle.digest_sites.specs.Reserved.{sd_name}
+use Rattle.marked_tree.specs.Marked.{Marked, MarkedMembers, marked_array, marked_leaf, marked_member, marked_object, no_marked_members, strip, strip_members}
+use Rattle.marked_tree.specs.Places.{Path}
+use Rattle.rebuild_core.specs.Free.{HasNoReserved, MembersNoReserved}
+use Rattle.rebuild_core.specs.Payload.{alg_name, without_alg, without_member}
+use Rattle.issuer_core.specs.Digests.{Maker, marked_of}
+use Rattle.issuer_core.specs.GoodOrder.{IsGoodOrder, IsObject}
+use Rattle.issuer_core.specs.Laid.{IsLaid, hidden_digests, lay, lay_members, order_decoys, sorted, texts_array, with_alg, with_sd}
+use Rattle.issuer_core.specs.Order.{Order}
+use Rattle.claim_tree.proofs.Lists.{bytes_refl, bytes_same}
+use Rattle.claim_tree.proofs.MapPlaces.{ordered-inserted}
+use Rattle.marked_tree.proofs.MarkFacts.{mark_strips_holds}
+use Rattle.marked_tree.proofs.Puts.{never_itself}
+use Rattle.issuer_core.proofs.SdMembers.{HasNo}
+
+name_differs : (l n : Text) → slice_cmp nat_cmp l n ≡ Less → bytes_eq l n ≡ false
+name_differs l n e = go (bytes_eq l n) refl
+  where
+    go : (b : Bool) → bytes_eq l n ≡ b → bytes_eq l n ≡ false
+    go true q = absurd (never_itself l (subst (IsBefore l) (sym (bytes_same l n q)) e))
+    go false q = q
+
+-- the member that is put in is there
+pub inserted_named : (ms : Members) (n : Text) (t : Tree) → member_named (inserted ms n t) n ≡ Some t
+inserted_named no_members n t = rw (bytes_refl n n refl)
+inserted_named (member l u ms) n t = go (slice_cmp nat_cmp l n) refl (inserted_named ms n t)
+  where
+    go : (o : Ordering) → slice_cmp nat_cmp l n ≡ o → member_named (inserted ms n t) n ≡ Some t
+        → member_named (match_ordering o (member l u (inserted ms n t)) (member n t ms) (member n t (member l u ms))) n ≡ Some t
+    go Less e ih = rw (name_differs l n e) ih
+    go Equal e ih = rw (bytes_refl n n refl)
+    go Greater e ih = rw (bytes_refl n n refl)
+
+-- and taken out again it leaves the others
+inserted_out : (ms : Members) (n : Text) (t : Tree) → HasNo n ms → without_member n (inserted ms n t) ≡ ms
+inserted_out no_members n t h = rw (bytes_refl n n refl)
+inserted_out (member l u ms) n t h = go (slice_cmp nat_cmp l n) refl (inserted_out ms n t h.1)
+  where
+    gone : (us : Members) → HasNo n us → without_member n us ≡ us
+    gone no_members k = refl
+    gone (member m v us) k = rw k.0 (ap (member m v) (gone us k.1))
+
+    go : (o : Ordering) → slice_cmp nat_cmp l n ≡ o → without_member n (inserted ms n t) ≡ ms
+        → without_member n (match_ordering o (member l u (inserted ms n t)) (member n t ms) (member n t (member l u ms))) ≡ member l u ms
+    go Less e ih = rw h.0 (ap (member l u) ih)
+    go Equal e ih = let q : bytes_eq l n ≡ true = bytes_refl l n (exact_bytes l n e) in let f : bytes_eq l n ≡ false = h.0 in cc
+    go Greater e ih = rw (bytes_refl n n refl) (gone (member l u ms) h)
+
+has_no_inserted : (k n : Text) (t : Tree) (ms : Members) → bytes_eq n k ≡ false → HasNo k ms → HasNo k (inserted ms n t)
+has_no_inserted k n t no_members d h = (d, tt)
+has_no_inserted k n t (member l u ms) d h = go (slice_cmp nat_cmp l n) (has_no_inserted k n t ms d h.1)
+  where
+    go : (o : Ordering) → HasNo k (inserted ms n t) → HasNo k (match_ordering o (member l u (inserted ms n t)) (member n t ms) (member n t (member l u ms)))
+    go Less ih = (h.0, ih)
+    go Equal ih = (d, h.1)
+    go Greater ih = (d, h)
+
+sd_not_alg : bytes_eq sd_name alg_name ≡ false
+unfolding sd_name alg_name
+sd_not_alg = refl
+
+with_sd_no_alg : (ds : List Text) (ms : Members) → HasNo alg_name ms → HasNo alg_name (with_sd ds ms)
+with_sd_no_alg [] ms h = h
+with_sd_no_alg (d ∷ ds) ms h = has_no_inserted alg_name sd_name (array (texts_array (d ∷ ds))) ms sd_not_alg h
+
+lay_no_alg : (dec : Path → List Text) (dg : ℕ → Text) (ms : MarkedMembers) → MembersNoReserved (strip_members ms) → HasNo alg_name (lay_members dec dg ms)
+lay_no_alg dec dg no_marked_members f = tt
+lay_no_alg dec dg (marked_member k None t ms) f = (f.0.2, lay_no_alg dec dg ms f.2)
+lay_no_alg dec dg (marked_member k (Some i) t ms) f = lay_no_alg dec dg ms f.2
+
+laid_without_alg : (dec : Path → List Text) (dg : ℕ → Text) (m : Marked) → HasNoReserved (strip m) → without_alg (with_alg (lay dec dg m)) ≡ lay dec dg m
+laid_without_alg dec dg (marked_leaf l) f = refl
+laid_without_alg dec dg (marked_array es) f = refl
+laid_without_alg dec dg (marked_object ms) f =
+    let us = with_sd (sorted (hidden_digests dg ms ++ dec [])) (lay_members dec dg ms) in
+    ap object (inserted_out us alg_name (leaf (text (codes "sha-256"))) (with_sd_no_alg (sorted (hidden_digests dg ms ++ dec [])) (lay_members dec dg ms) (lay_no_alg dec dg ms f)))
+
+-- the payload that is handed out, without its `_sd_alg`, is what was laid
+pub without_with_alg : (mk : Maker) (o : Order) (p : Tree) (g : List Given) (dg : ℕ → Text) → IsGoodOrder o → IsLaid mk o p g dg → without_alg (with_alg p) ≡ p
+without_with_alg mk o p g dg good laid =
+    let free : HasNoReserved (strip (marked_of o)) = subst HasNoReserved (sym (mark_strips_holds o.claims o.hide)) good.no_reserved in
+    subst (λ t. without_alg (with_alg t) ≡ t) (sym laid.payload_laid) (laid_without_alg (order_decoys o dg) dg (marked_of o) free)
+
+pub with_alg_ordered : (t : Tree) → IsOrdered t → IsOrdered (with_alg t)
+with_alg_ordered (leaf l) o = o
+with_alg_ordered (array es) o = o
+with_alg_ordered (object ms) o = ordered-inserted ms alg_name (leaf (text (codes "sha-256"))) o tt
+
+-- an object names its hash
+pub alg_named : (t : Tree) → IsObject t → get (with_alg t) alg_name ≡ Some (leaf (text (codes "sha-256")))
+alg_named (object ms) h = inserted_named ms alg_name (leaf (text (codes "sha-256")))
+alg_named (leaf l) h = absurd h
+alg_named (array es) h = absurd h
+
+-- what is laid from an object is one
+pub laid_object : (dec : Path → List Text) (dg : ℕ → Text) (m : Marked) → IsObject (strip m) → IsObject (lay dec dg m)
+laid_object dec dg (marked_object ms) h = tt
+laid_object dec dg (marked_leaf l) h = absurd h
+laid_object dec dg (marked_array es) h = absurd h
+
+pub payload_object : (mk : Maker) (o : Order) (p : Tree) (g : List Given) (dg : ℕ → Text) → IsGoodOrder o → IsLaid mk o p g dg → IsObject p
+payload_object mk o p g dg good laid =
+    subst IsObject (sym laid.payload_laid) (laid_object (order_decoys o dg) dg (marked_of o) (subst IsObject (sym (mark_strips_holds o.claims o.hide)) good.is_object))

@@ -1,0 +1,44 @@
+-- The digests of an issued token, RFC 9901 section 4.2.3: those of its disclosures, then those of its decoys.
+use Rattle.std.specs.Prelude.{◌≡◌, ℕ, suc, ◌<◌, List, [], ◌∷◌, ◌++◌, Option}
+use Rattle.claim_tree.specs.Tree.{Text, Tree}
+use Rattle.digest_sites.specs.Given.{Given}
+use Rattle.marked_tree.specs.Marked.{Marked}
+use Rattle.marked_tree.specs.Places.{Path, mark, hidden_count}
+use Rattle.rebuild_core.specs.Given.{given_digests}
+use Rattle.issuer_core.specs.Order.{Order}
+use Rattle.issuer_core.specs.Decoys.{decoys_of}
+
+-- how texts are made: that of a disclosure with its number, its name or none, and its value; that of a decoy with its number;
+-- and the digest of a text
+pub record Maker : Type 0 where
+  pub disclosure : ℕ → Option Text → Tree → Text
+  pub piece : ℕ → Text
+  pub digest : Text → Text
+
+-- the texts of disclosures, where the first has the number k
+abbrev pub made_texts : (ℕ → Option Text → Tree → Text) → ℕ → List Given → List Text
+made_texts made k [] = []
+made_texts made k (x ∷ xs) = made k x.name x.value ∷ made_texts made (suc k) xs
+
+-- the claims, the hidden places numbered
+abbrev pub marked_of : Order → Marked
+marked_of o = mark o.claims o.hide
+
+-- how many places are hidden: so many disclosures there are
+abbrev pub hidden_of : Order → ℕ
+hidden_of o = hidden_count o.claims o.hide
+
+-- the digests of some decoys, where the first has the number k
+abbrev pub digests_from : (ℕ → Text) → ℕ → List Path → List Text
+digests_from dg k [] = []
+digests_from dg k (at ∷ decoys) = dg k ∷ digests_from dg (suc k) decoys
+
+abbrev pub decoy_digests : Maker → Order → List Text
+decoy_digests maker o = digests_from (λ k. maker.digest (maker.piece k)) (hidden_of o) (decoys_of o)
+
+abbrev pub issued_digests : Maker → Order → List Given → List Text
+issued_digests maker o given = given_digests given ++ decoy_digests maker o
+
+-- the first n differ from each other
+abbrev pub AllDiffer : (ℕ → Text) → ℕ → Type 0
+AllDiffer dg n = (i j : ℕ) → i < j → j < n → dg i ≡ dg j → ⊥

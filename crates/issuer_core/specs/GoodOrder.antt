@@ -1,0 +1,45 @@
+-- What refusals 51, 52, 53 and 57 ask of an order, and what is so of every payload that a machine holds.
+use Rattle.std.specs.Prelude.{◌<◌, ◌≤◌, ◌^◌, Option, Some}
+use Rattle.claim_tree.specs.Tree.{Tree, leaf, array, object, Elements, no_elements, element, Members, no_members, member, depth, elements_len, IsOrdered}
+use Rattle.claim_tree.specs.Lists.{In}
+use Rattle.claim_tree.specs.Path.{tree_at}
+use Rattle.rebuild_core.specs.Free.{HasNoReserved}
+use Rattle.issuer_core.specs.declared.order.Decoy.{Decoy}
+use Rattle.issuer_core.specs.Order.{Order}
+
+abbrev pub IsObject : Tree → Type 0
+IsObject (object ms) = Unit {0}
+IsObject _ = ⊥
+
+-- there is a tree, an object or a list
+abbrev pub HoldsOthers : Option Tree → Type 0
+HoldsOthers (Some (object ms)) = Unit {0}
+HoldsOthers (Some (array es)) = Unit {0}
+HoldsOthers _ = ⊥
+
+-- each list has fewer than 2 ^ 64 elements
+abbrev mutual
+  pub HasShortLists : Tree → Type 0
+  HasShortLists (leaf l) = Unit {0}
+  HasShortLists (array es) = (elements_len es < 2 ^ 64) × ElementsShort es
+  HasShortLists (object ms) = MembersShort ms
+
+  pub ElementsShort : Elements → Type 0
+  ElementsShort no_elements = Unit {0}
+  ElementsShort (element t es) = HasShortLists t × ElementsShort es
+
+  pub MembersShort : Members → Type 0
+  MembersShort no_members = Unit {0}
+  MembersShort (member name t ms) = HasShortLists t × MembersShort ms
+
+pub record IsGoodOrder (o : Order) : Type 0 where
+  -- 51
+  pub is_object : IsObject o.claims
+  -- 52
+  pub no_reserved : HasNoReserved o.claims
+  -- 53
+  pub shallow : depth o.claims ≤ 100
+  -- 57
+  pub decoys_held : (entry : Decoy) → In entry o.decoys → HoldsOthers (tree_at o.claims entry.at)
+  pub ordered : IsOrdered o.claims
+  pub short : HasShortLists o.claims

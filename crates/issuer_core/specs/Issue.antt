@@ -1,0 +1,87 @@
+-- Why an order is not issued.
+use Rattle.std.specs.Prelude.{◌≡◌, ℕ, suc, zero, ◌+◌, ◌<◌, List, [], ◌∷◌, length, None}
+use Rattle.b64url_text.specs.Base64url.{b64}
+use Rattle.claim_tree.specs.Tree.{Text, Tree, object}
+use Rattle.claim_tree.specs.JsonText.{json_text}
+use Rattle.jws_part.specs.Header.{header_members}
+use Rattle.compact_form.specs.declared.limits.TheConstants.{ISSUE_MAX}
+use Rattle.compact_form.specs.declared.parts.Parts.{Parts}
+use Rattle.compact_form.specs.Compact.{compact}
+use Rattle.hmac_sign.specs.Signatures.{Meaning}
+use Rattle.hmac_sign.specs.declared.sign.SignError.{SignError}
+use Rattle.digest_sites.specs.Given.{Given}
+use Rattle.issuer_core.specs.declared.errors.IssueError.{IssueError}
+use Rattle.issuer_core.specs.declared.errors.IssueError.TheVariants.{Memory, SignFailed, DigestClash, TooLong}
+use Rattle.issuer_core.specs.Order.{Order}
+use Rattle.issuer_core.specs.Decoys.{decoys_of}
+use Rattle.issuer_core.specs.Digests.{Maker, hidden_of}
+use Rattle.issuer_core.specs.Laid.{IsLaid}
+use Rattle.issuer_core.specs.Clash.{IsFirstClash}
+use Rattle.issuer_core.specs.Refusals.{Refuses, IsLowest}
+use Rattle.issuer_core.specs.Written.{IsLaidOut, header_of}
+
+-- the first n digests
+abbrev pub first_digests : (ℕ → Text) → ℕ → List Text
+first_digests dg zero = []
+first_digests dg (suc n) = dg 0 ∷ first_digests (λ k. dg (suc k)) n
+
+-- the digests of the disclosures, and then of the decoys
+abbrev pub laid_digests : Order → (ℕ → Text) → List Text
+laid_digests o dg = first_digests dg (hidden_of o + length (decoys_of o))
+
+-- two digests of what is laid for the order are equal, first at these places
+pub record ClashesAt (maker : Maker) (o : Order) (i j : ℕ) : Type 0 where
+  pub payload : Tree
+  pub given : List Given
+  pub digests : ℕ → Text
+  pub laid : IsLaid maker o payload given digests
+  pub clash : IsFirstClash (laid_digests o digests) i j
+
+abbrev pub HasNoClash : Maker → Order → Type 0
+HasNoClash maker o = (i j : ℕ) → ClashesAt maker o i j → ⊥
+
+-- what is laid for the order is too long with some good signature
+pub record IsTooLong (maker : Maker) (o : Order) (good : Meaning) : Type 0 where
+  pub parts : Parts
+  pub laid : IsLaidOut maker o good parts
+  pub long : ISSUE_MAX < length (compact parts)
+
+-- what each refusal says, where none with a lower number applies
+abbrev pub Applies : Maker → Order → Meaning → IssueError → Type 0
+Applies maker o good (DigestClash i j) = ClashesAt maker o i j
+Applies maker o good TooLong = IsTooLong maker o good
+Applies maker o good error = Refuses o error
+
+-- why an order is not issued: by the lowest refusal that applies; want of memory and a signer that fails say nothing of it
+abbrev pub IsNotIssued : Maker → Order → Meaning → IssueError → Type 0
+IsNotIssued maker o good Memory = Unit {0}
+IsNotIssued maker o good SignFailed = Unit {0}
+IsNotIssued maker o good error = IsLowest (Applies maker o good) error
+
+-- for conversions: the answer where nothing is signed
+abbrev pub unsigned : SignError → IssueError
+unsigned SignError.Memory = Memory
+unsigned SignError.Failed = SignFailed
+
+-- for private functions: the parts are written with this header, this payload and these disclosures, and signed
+pub record AreSigned (o : Order) (good : Meaning) (body : Tree) (texts : List Text) (parts : Parts) : Type 0 where
+  pub protected : parts.signed.protected ≡ b64 (json_text (object (header_members (header_of o))))
+  pub payload : parts.signed.payload ≡ b64 (json_text body)
+  pub signature : List ℕ
+  pub signature_text : parts.signed.signature ≡ b64 signature
+  pub some : 0 < length signature
+  pub signed : good parts.signed.protected parts.signed.payload signature
+  pub disclosures : parts.disclosures ≡ texts
+  pub unbound : parts.binding ≡ None
+
+-- for private functions: nothing was signed
+abbrev pub IsUnsigned : IssueError → Type 0
+IsUnsigned Memory = Unit {0}
+IsUnsigned SignFailed = Unit {0}
+IsUnsigned error = ⊥
+
+-- for private functions: two of the digests are equal, first at these places
+abbrev pub HasClash : List Text → IssueError → Type 0
+HasClash digests Memory = Unit {0}
+HasClash digests (DigestClash i j) = IsFirstClash digests i j
+HasClash digests error = ⊥

@@ -1,0 +1,90 @@
+-- For private functions: what the walk that hides has and makes.
+use Rattle.std.specs.Prelude.{◌≡◌, ℕ, zero, suc, ◌+◌, List, [], ◌∷◌, ◌++◌, length, map, Option, Some, None, if◌then◌else◌}
+use Rattle.claim_tree.specs.Tree.{Text, text, Tree, leaf, Elements, no_elements, element}
+use Rattle.claim_tree.specs.View.{tree_of}
+use Rattle.digest_sites.specs.Given.{Given}
+use Rattle.marked_tree.specs.Marked.{Marked}
+use Rattle.marked_tree.specs.Places.{Path, same_path}
+use Rattle.marked_tree.specs.Rests.{rests, AreSorted}
+use Rattle.disclosure.specs.Digest.{digest_of}
+use Rattle.disclosure.specs.Disclosure.{disclosure_text}
+use Rattle.disclosure.specs.declared.digests.HashAlg.{HashAlg}
+use Rattle.claim_tree.specs.Lists.{At}
+use Rattle.issuer_core.specs.Order.{Order}
+use Rattle.issuer_core.specs.Decoys.{decoys_of}
+use Rattle.issuer_core.specs.Digests.{Maker, hidden_of, made_texts}
+use Rattle.issuer_core.specs.Laid.{lay, with_alg, IsLaid}
+use Rattle.issuer_core.specs.declared.decoys.Decoys.{Decoys}
+use Rattle.issuer_core.specs.declared.laying.Part.{Part}
+
+-- ---- texts by their numbers
+
+-- the text at a place, or an empty one
+abbrev pub nth : List Text → ℕ → Text
+nth [] k = []
+nth (t ∷ ts) zero = t
+nth (t ∷ ts) (suc k) = nth ts k
+
+abbrev pub digest : Text → Text
+digest t = digest_of HashAlg.Sha256 t
+
+-- the digest of the text at a place
+abbrev pub digest_at : List Text → ℕ → Text
+digest_at texts k = digest (nth texts k)
+
+-- the text of disclosure k
+abbrev pub salted : List Text → ℕ → Option Text → Tree → Text
+salted salts k name value = disclosure_text (leaf (text (nth salts k))) name value
+
+-- elements, and then others
+abbrev pub elements_joined : Elements → Elements → Elements
+elements_joined no_elements others = others
+elements_joined (element t es) others = element t (elements_joined es others)
+
+-- ---- decoys at their places
+
+-- the digests whose path is this one
+abbrev pub placed : List Path → List Text → Path → List Text
+placed [] digests at = []
+placed (path ∷ paths) [] at = []
+placed (path ∷ paths) (digest ∷ digests) at = (if same_path path at then digest ∷ [] else []) ++ placed paths digests at
+
+-- entries: a digest beside its path
+abbrev pub paths_in : List (Path × Text) → List Path
+paths_in entries = map (λ e. e.0) entries
+
+abbrev pub digests_in : List (Path × Text) → List Text
+digests_in entries = map (λ e. e.1) entries
+
+-- seen from their place
+abbrev pub placed_at : Decoys → Path → List Text
+placed_at d at = placed (rests d.depth d.paths.now) d.digests.now at
+
+pub record ArePlaced (d : Decoys) : Type 0 where
+  pub sorted : AreSorted (rests d.depth d.paths.now)
+  pub each : length d.digests.now ≡ length d.paths.now
+
+-- dec has the digests at each place
+abbrev pub Tells : Decoys → (Path → List Text) → Type 0
+Tells d dec = (at : Path) → placed_at d at ≡ dec at
+
+-- ---- a part
+
+-- what is shown is laid, and what is hidden has the digest of its mark
+abbrev pub IsPart : (Path → List Text) → (ℕ → Text) → Option ℕ → Marked → Part → Type 0
+IsPart dec dg None m (Part.Shown t) = tree_of t ≡ lay dec dg m
+IsPart dec dg (Some k) m (Part.Hidden d) = d ≡ dg k
+IsPart dec dg k m part = ⊥
+
+-- ---- an order
+
+-- the payload and the disclosures' texts are laid for the order, and the digests are those of the disclosures and then of the decoys
+pub record IsLaidFor (maker : Maker) (o : Order) (payload : Tree) (texts digests : List Text) : Type 0 where
+  pub laid : Tree
+  pub given : List Given
+  pub dg : ℕ → Text
+  pub is_laid : IsLaid maker o laid given dg
+  pub payload_is : payload ≡ with_alg laid
+  pub texts_are : texts ≡ made_texts maker.disclosure 0 given
+  pub count : length digests ≡ hidden_of o + length (decoys_of o)
+  pub each : (k : ℕ) (d : Text) → At digests k d → d ≡ dg k

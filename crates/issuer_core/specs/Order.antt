@@ -1,0 +1,17 @@
+-- What an issuer is asked for, RFC 9901 section 4.2.
+use Rattle.std.specs.Prelude.{List, Option}
+use Rattle.claim_tree.specs.Tree.{Text, Tree}
+use Rattle.claim_tree.specs.View.{tree_of}
+use Rattle.issuer_core.specs.declared.order.Decoy.{Decoy}
+use Rattle.issuer_core.specs.declared.order.Order as code
+
+-- the payload before anything is hidden, the places to hide, the entries of decoys, and what the header names
+pub record Order : Type 0 where
+  pub claims : Tree
+  pub hide : List (List Text)
+  pub decoys : List Decoy
+  pub kid : Option Text
+  pub typ : Option Text
+
+abbrev pub order_of : code.Order → Order
+order_of o = record { claims = tree_of o.payload; hide = o.hide; decoys = o.decoys; kid = o.kid; typ = o.typ }

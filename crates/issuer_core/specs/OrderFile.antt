@@ -1,0 +1,50 @@
+-- What an issuer is asked for, and the file that says it.
+use Rattle.std.specs.Prelude.{◌≡◌, List, [], ◌∷◌, codes}
+use Rattle.compact_form.specs.declared.limits.TheConstants.{COUNT_MAX, FILE_MAX}
+use Rattle.claim_tree.specs.Tree.{Text, Tree, object, Members, members_len, member_named}
+use Rattle.claim_tree.specs.View.{tree_of}
+use Rattle.claim_tree.specs.FileForms.{IsText, IsWholeUpTo, Says, MaySay, SaysOr, Entry, required, optional, fields_of, found, HasMembers, IsFileRefused}
+use Rattle.claim_tree.specs.declared.file_fault.Field.TheVariants.{Payload, Hide, Decoys, Key, Kid, Typ}
+use Rattle.claim_tree.specs.declared.file_fault.FileFault.{FileFault}
+use Rattle.issuer_core.specs.FileLists.{IsListOf, IsPointer}
+use Rattle.issuer_core.specs.KeyText.{IsKeyText}
+use Rattle.issuer_core.specs.declared.order.Decoy.{Decoy}
+use Rattle.issuer_core.specs.declared.order_file.IssueFile.{IssueFile}
+
+-- any JSON value
+abbrev pub IsValue : Tree → Tree → Type 0
+IsValue t value = value ≡ t
+
+-- an object with two members, a pointer and a count
+pub record IsDecoy (t : Tree) (entry : Decoy) : Type 0 where
+  pub members : Members
+  pub is : t ≡ object members
+  pub two : members_len members ≡ 2
+  pub at : Says IsPointer (member_named members (codes "at")) entry.at
+  pub count : Says (IsWholeUpTo COUNT_MAX) (member_named members (codes "count")) entry.count
+
+-- the members of an order file
+abbrev pub order_table : List Entry
+order_table =
+    required Payload IsValue
+    ∷ optional Hide (IsListOf IsPointer)
+    ∷ optional Decoys (IsListOf IsDecoy)
+    ∷ required Key IsKeyText
+    ∷ optional Kid IsText
+    ∷ optional Typ IsText
+    ∷ []
+
+-- the file says this order and this key
+pub record IsOrderFile (bytes : Text) (said : IssueFile) : Type 0 where
+  pub members : Members
+  pub file : HasMembers FILE_MAX (fields_of order_table) bytes members
+  pub payload : Says IsValue (found members Payload) (tree_of said.order.payload)
+  pub hide : SaysOr (IsListOf IsPointer) [] (found members Hide) said.order.hide
+  pub decoys : SaysOr (IsListOf IsDecoy) [] (found members Decoys) said.order.decoys
+  pub key : Says IsKeyText (found members Key) said.key
+  pub kid : MaySay IsText (found members Kid) said.order.kid
+  pub typ : MaySay IsText (found members Typ) said.order.typ
+
+-- why the file says no order; want of memory says nothing
+abbrev pub IsOrderRefused : Text → FileFault → Type 0
+IsOrderRefused bytes fault = IsFileRefused FILE_MAX order_table bytes fault

@@ -1,0 +1,129 @@
+// Decoys' digests at their places, for the walk that hides.
+ghost use Rattle.std.specs.Prelude.{◌≡◌, ◌+◌, ◌≤◌, [], ◌∷◌, ◌++◌, length, take, replicate, IfOk, OnOk};
+ghost use Rattle.marked_tree.specs.Places.{Path as Steps};
+ghost use Rattle.marked_tree.specs.Rests.{path_order, AreSorted};
+ghost use Rattle.issuer_core.specs.Decoys.{places};
+ghost use Rattle.issuer_core.specs.Laying.{placed, placed_at, paths_in, digests_in, ArePlaced};
+
+use crate::DecoyList;
+use claim_tree::Path;
+use marked_tree::run_below;
+use sd_outside::{NoMemory, TextBox, TextList};
+use std::alloc::Global;
+use std::cmp::Ordering;
+
+// The digests of decoys, sorted by their places; those of one place in the order of their pieces.
+#[derive(Debug, Drop)]
+pub(crate) struct SortedDecoys {
+    paths: Vec<Path>,
+    digests: Vec<TextBox>,
+}
+
+// Those at a place, which they come to by their first `depth` steps, and below it.
+#[derive(Clone, Copy, Debug)]
+pub(crate) struct Decoys<'a> {
+    paths: &'a [Path],
+    digests: &'a [TextBox],
+    depth: usize,
+}
+
+impl SortedDecoys {
+    pub(crate) fn all(&self) -> Decoys<'_>
+        ensures paths { result.paths.now ≡ self.now.paths.items }
+        ensures digests { result.digests.now ≡ self.now.digests.items }
+        ensures depth { result.depth ≡ 0 }
+    {
+        Decoys {
+            paths: self.paths.as_slice(),
+            digests: self.digests.as_slice(),
+            depth: 0,
+        }
+    }
+}
+
+impl<'a> Decoys<'a> {
+    // The digests of those at the place.
+    pub(crate) fn here(&self) -> &'a [TextBox]
+        requires { ArePlaced self.now }
+        ensures { result.now ≡ placed_at self.now [] }
+    {
+        let count = self.paths.partition_point(|path| path.len() <= self.depth);
+        &self.digests[..count]
+    }
+
+    // Those at and below the place that is one step further.
+    pub(crate) fn below(&self, step: &str) -> Decoys<'a>
+        requires fits { self.now.depth ≤ 126 }
+        requires placed { ArePlaced self.now }
+        ensures placed { ArePlaced result }
+        ensures below { (at : Steps) → placed_at result at ≡ placed_at self.now (step.now ∷ at) }
+        ensures depth { result.depth ≡ self.now.depth + 1 }
+    {
+        let (start, count) = run_below(self.paths, self.depth, step);
+        Decoys {
+            paths: &self.paths[start..][..count],
+            digests: &self.digests[start..][..count],
+            depth: self.depth + 1,
+        }
+    }
+}
+
+pub(crate) fn sort_decoys(
+    alloc: Global,
+    decoys: &DecoyList,
+    digests: &TextList,
+) -> Result<SortedDecoys, NoMemory>
+    requires { length digests.now ≡ length (places decoys.now) }
+    ensures sorted { IfOk result (λ sorted. AreSorted sorted.paths.items) }
+    ensures each { IfOk result (λ sorted. length sorted.digests.items ≡ length sorted.paths.items) }
+    ensures placed { IfOk result (λ sorted. (at : Steps) → placed sorted.paths.items sorted.digests.items at ≡ placed (places decoys.now) digests.now at) }
+{
+    let mut entries = Vec::new(alloc);
+    for decoy in decoys.items() {
+        push_entries(alloc, &mut entries, &decoy.at, decoy.count, digests)?;
+    }
+    entries.sort_by(|one, other| ordered(one, other))?;
+    parted(alloc, entries)
+}
+
+// So many more entries with this path, each with the next digest.
+fn push_entries(
+    alloc: Global,
+    entries: &mut Vec<(Path, TextBox)>,
+    at: &Path,
+    count: u32,
+    digests: &TextList,
+) -> Result<(), NoMemory>
+    requires few { length entries.old.items + count ≤ length digests.now }
+    requires digests { digests_in entries.old.items ≡ take (length entries.old.items) digests.now }
+    ensures paths { OnOk result (paths_in entries.new.items ≡ paths_in entries.old.items ++ replicate count at.now) }
+    ensures digests { OnOk result (digests_in entries.new.items ≡ take (length entries.new.items) digests.now) }
+{
+    for _ in 0..count {
+        let Some(digest) = digests.at(entries.len()) else {
+            unreachable!();
+        };
+        entries.push((at.copy(alloc)?, TextBox::make(alloc, digest.as_str())?))?;
+    }
+    Ok(())
+}
+
+// By the bytes of the steps of their paths, a front first.
+fn ordered(one: &(Path, TextBox), other: &(Path, TextBox)) -> Ordering
+    ensures { result ≡ path_order one.now.0 other.now.0 }
+{
+    one.0.steps().cmp(other.0.steps())
+}
+
+fn parted(alloc: Global, entries: Vec<(Path, TextBox)>) -> Result<SortedDecoys, NoMemory>
+    ensures paths { IfOk result (λ parted. parted.paths.items ≡ paths_in entries.items) }
+    ensures digests { IfOk result (λ parted. parted.digests.items ≡ digests_in entries.items) }
+{
+    let mut paths = Vec::new(alloc);
+    let mut digests = Vec::new(alloc);
+    for (path, digest) in entries {
+        paths.push(path)?;
+        digests.push(digest)?;
+    }
+    Ok(SortedDecoys { paths, digests })
+}

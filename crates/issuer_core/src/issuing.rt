@@ -1,0 +1,133 @@
+// The call that issues.
+ghost use Rattle.std.specs.Prelude.{◌≡◌, ◌≤◌, length, IfOk, OnOk, IfErr, IsErrOf};
+ghost use Rattle.sd_outside.specs.Causes.{Rose};
+ghost use Rattle.claim_tree.specs.Tree.{depth as depth_of, IsRanged};
+ghost use Rattle.claim_tree.specs.View.{tree_of};
+ghost use Rattle.compact_form.specs.declared.limits.TheConstants.{ISSUE_MAX};
+ghost use Rattle.compact_form.specs.Compact.{compact, AreWords};
+ghost use Rattle.hmac_sign.specs.Signatures.{Agree};
+ghost use Rattle.issuer_core.specs.declared.errors.IssueError.{IssueError};
+ghost use Rattle.issuer_core.specs.Order.{order_of};
+ghost use Rattle.issuer_core.specs.Seed.{maker_of};
+ghost use Rattle.issuer_core.specs.Written.{IsIssued, IsLaidOut};
+ghost use Rattle.b64url_text.specs.Base64url.{b64};
+ghost use Rattle.claim_tree.specs.Tree.{object};
+ghost use Rattle.claim_tree.specs.JsonText.{json_text};
+ghost use Rattle.jws_part.specs.Header.{header_members};
+ghost use Rattle.issuer_core.specs.Written.{header_of};
+ghost use Rattle.issuer_core.specs.Issue.{IsNotIssued, HasNoClash, AreSigned, IsUnsigned, HasClash};
+ghost use Rattle.issuer_core.specs.Refusals.{Refuses, NoneApplies};
+ghost use Rattle.claim_tree.specs.Lists.{Repeats, Nowhere};
+
+use crate::laying::{Laid, lay_order};
+use crate::{IssueError, Order, first_clash, judge};
+use b64url_text::encode;
+use compact_form::{ISSUE_MAX, JwtParts, Parts, print};
+use hmac_sign::{SignError, Signer};
+use jws_part::{Header, write_body, write_header};
+use sd_outside::{NoMemory, TextBox, TextList};
+use std::alloc::Global;
+
+/// Issues a token for an order: the compact parts of an SD-JWT, RFC 9901 section 4, without a key binding token.
+///
+/// The seed makes the salts, so that one order and one seed make one token. The signer is asked once, when all else is there.
+pub fn issue<S: Signer>(
+    alloc: Global,
+    order: &Order,
+    seed: &[u8; 32],
+    signer: &mut S,
+) -> Result<Parts, IssueError>
+    requires depth { depth_of (tree_of order.now.payload) ≤ 127 }
+    requires ranged { IsRanged (tree_of order.now.payload) }
+    ensures issued { IfOk result (IsIssued (maker_of seed.now) (order_of order.now) (S.good signer.old)) }
+    ensures laid { IfOk result (IsLaidOut (maker_of seed.now) (order_of order.now) (S.good signer.old)) }
+    ensures passes { IfOk result (λ _. NoneApplies (Refuses (order_of order.now))) }
+    ensures differ { IfOk result (λ _. HasNoClash (maker_of seed.now) (order_of order.now)) }
+    ensures words { IfOk result AreWords }
+    ensures short { IfOk result (λ parts. length (compact parts) ≤ ISSUE_MAX) }
+    ensures refused { IfErr result (IsNotIssued (maker_of seed.now) (order_of order.now) (S.good signer.old)) }
+    ensures failed { IsErrOf result IssueError.SignFailed → Rose (S.faults signer.old) (S.faults signer.new) }
+
+    // what stays
+    ensures same_good { Agree (S.good signer.new) (S.good signer.old) }
+    ensures same_alg { S.alg_of signer.new ≡ S.alg_of signer.old }
+    ensures later { S.faults signer.old ≤ S.faults signer.new }
+{
+    if let Err(error) = judge(alloc, order) {
+        return Err(error);
+    }
+    let laid = lay_order(alloc, order, seed)?;
+    if let Err(error) = judge_digests(alloc, &laid.digests) {
+        return Err(error);
+    }
+    let parts = match sign_laid(alloc, order, laid, signer) {
+        Ok(parts) => parts,
+        Err(error) => return Err(error),
+    };
+    let text = print(alloc, &parts)?;
+    if text.as_str().len() > ISSUE_MAX {
+        return Err(IssueError::TooLong);
+    }
+    Ok(parts)
+}
+
+// 60.
+fn judge_digests(alloc: Global, digests: &TextList) -> Result<(), IssueError>
+    ensures differ { OnOk result (Nowhere (Repeats digests.now)) }
+    ensures clash { IfErr result (HasClash digests.now) }
+{
+    match first_clash(alloc, digests) {
+        Ok(None) => Ok(()),
+        Ok(Some((i, j))) => Err(IssueError::DigestClash(i, j)),
+        Err(NoMemory) => Err(IssueError::Memory),
+    }
+}
+
+fn write_order_header(alloc: Global, order: &Order) -> Result<TextBox, NoMemory>
+    ensures { IfOk result (λ part. part ≡ b64 (json_text (object (header_members (header_of (order_of order.now)))))) }
+{
+    let header = Header {
+        alg: TextBox::make(alloc, "HS256")?,
+        kid: copy_of(alloc, &order.kid)?,
+        typ: copy_of(alloc, &order.typ)?,
+    };
+    write_header(alloc, &header)
+}
+
+fn copy_of(alloc: Global, text: &Option<TextBox>) -> Result<Option<TextBox>, NoMemory>
+    ensures { IfOk result (λ copy. copy ≡ text.now) }
+{
+    match text {
+        Some(text) => Ok(Some(TextBox::make(alloc, text.as_str())?)),
+        None => Ok(None),
+    }
+}
+
+fn sign_laid<S: Signer>(
+    alloc: Global,
+    order: &Order,
+    laid: Laid,
+    signer: &mut S,
+) -> Result<Parts, IssueError>
+    requires ranged { IsRanged (tree_of laid.payload) }
+    ensures signed { IfOk result (AreSigned (order_of order.now) (S.good signer.old) (tree_of laid.payload) laid.texts) }
+    ensures unsigned { IfErr result (IsUnsigned) }
+    ensures failed { IsErrOf result IssueError.SignFailed → Rose (S.faults signer.old) (S.faults signer.new) }
+    ensures same_good { Agree (S.good signer.new) (S.good signer.old) }
+    ensures same_alg { S.alg_of signer.new ≡ S.alg_of signer.old }
+    ensures later { S.faults signer.old ≤ S.faults signer.new }
+{
+    let protected = write_order_header(alloc, order)?;
+    let payload = write_body(alloc, &laid.payload)?;
+    let signature = signer.sign(alloc, protected.as_str(), payload.as_str())?;
+    let signature = encode(alloc, signature.bytes())?;
+    Ok(Parts {
+        signed: JwtParts {
+            protected,
+            payload,
+            signature,
+        },
+        disclosures: laid.texts,
+        binding: None,
+    })
+}

@@ -1,0 +1,175 @@
+// The refusals that an order alone decides.
+ghost use Rattle.std.specs.Prelude.{◌≡◌, ◌≤◌, ◌<◌, ◌↔◌, length, OnOk, IfErr, IsTrue, bytes_eq};
+ghost use Rattle.std.specs.List.{position_from, list_any};
+ghost use Rattle.claim_tree.specs.Tree.{depth as depth_of, IsOrdered};
+ghost use Rattle.claim_tree.specs.Path.{tree_at};
+ghost use Rattle.claim_tree.specs.View.{tree_of};
+ghost use Rattle.issuer_core.specs.Order.{order_of};
+ghost use Rattle.issuer_core.specs.Decoys.{places};
+ghost use Rattle.issuer_core.specs.GoodOrder as good;
+ghost use Rattle.issuer_core.specs.GoodOrder.{IsGoodOrder};
+ghost use Rattle.issuer_core.specs.Refusals.{Refuses, NoneApplies, IsRefused, protected_names};
+ghost use Rattle.issuer_core.specs.Judging as spec;
+ghost use Rattle.issuer_core.specs.Judging.{PassesBelow};
+
+use crate::hidden::different;
+use crate::reserved::first_reserved;
+use crate::{DecoyList, IssueError, Order};
+use claim_tree::{Path, PathList, Tree, depth, find};
+use compact_form::COUNT_MAX;
+use std::alloc::Global;
+
+/// The most that the payload of an order nests.
+pub const DEPTH_MAX: usize = 100;
+
+fn is_object(tree: &Tree) -> bool
+    ensures is { IsTrue result ↔ good.IsObject (tree_of tree.now) }
+    ensures ordered { IsTrue result → IsOrdered (tree_of tree.now) }
+{
+    match tree {
+        Tree::Object(members) => {
+            let _ascending = members.members();
+            true
+        }
+        _ => false,
+    }
+}
+
+// The first path that is that of the whole payload.
+fn first_root(hide: &PathList) -> Option<usize>
+    ensures { result ≡ position_from spec.is_root 0 hide.now }
+{
+    hide.paths().iter().position(|path| path.steps().is_empty())
+}
+
+fn is_nowhere(payload: &Tree, path: &Path) -> bool
+    ensures { result ≡ spec.is_nowhere (tree_of payload.now) path.now }
+{
+    find(payload, path).is_none()
+}
+
+// The first path that leads nowhere in the payload.
+fn first_nowhere(payload: &Tree, hide: &PathList) -> Option<usize>
+    ensures { result ≡ position_from (spec.is_nowhere (tree_of payload.now)) 0 hide.now }
+{
+    hide.paths()
+        .iter()
+        .position(|path| is_nowhere(payload, path))
+}
+
+// Whether a verifier cannot do without the claim (RFC 9901 section 9.7).
+fn is_protected_name(name: &str) -> bool
+    ensures { result ≡ list_any (bytes_eq name.now) protected_names }
+{
+    matches!(name, "iss" | "aud" | "exp" | "nbf" | "cnf")
+}
+
+// Whether the path begins with such a claim.
+fn is_protected(path: &Path) -> bool
+    ensures { result ≡ spec.is_protected path.now }
+{
+    match path.at(0) {
+        Some(step) => is_protected_name(step.as_str()),
+        None => false,
+    }
+}
+
+fn first_protected(hide: &PathList) -> Option<usize>
+    ensures { result ≡ position_from spec.is_protected 0 hide.now }
+{
+    hide.paths().iter().position(|path| is_protected(path))
+}
+
+// Whether the path leads to no object and no list of the payload.
+fn is_no_holder(payload: &Tree, path: &Path) -> bool
+    ensures { result ≡ spec.is_no_holder (tree_at (tree_of payload.now) path.now) }
+{
+    match find(payload, path) {
+        Some(Tree::List(_)) => false,
+        Some(Tree::Object(_)) => false,
+        _ => true,
+    }
+}
+
+fn first_misplaced(payload: &Tree, decoys: &DecoyList) -> Option<usize>
+    ensures { result ≡ position_from (spec.is_misplaced (tree_of payload.now)) 0 decoys.now }
+{
+    decoys
+        .items()
+        .iter()
+        .position(|entry| is_no_holder(payload, &entry.at))
+}
+
+fn are_too_many(decoys: &DecoyList) -> bool
+    ensures { IsTrue result ↔ (COUNT_MAX < length (places decoys.now)) }
+{
+    let mut total = 0;
+    for entry in decoys.items() {
+        total += entry.count as usize;
+        if total > COUNT_MAX {
+            return true;
+        }
+    }
+    false
+}
+
+// 51 to 53.
+fn judge_payload(alloc: Global, order: &Order) -> Result<(), IssueError>
+    requires { depth_of (tree_of order.now.payload) ≤ 127 }
+    ensures passes { OnOk result (PassesBelow 54 (order_of order.now)) }
+    ensures ordered { OnOk result (IsOrdered (tree_of order.now.payload)) }
+    ensures short { OnOk result (good.HasShortLists (tree_of order.now.payload)) }
+    ensures refused { IfErr result (IsRefused (order_of order.now)) }
+{
+    if !is_object(&order.payload) {
+        return Err(IssueError::PayloadNotObject);
+    }
+    if let Some(path) = first_reserved(alloc, &order.payload)? {
+        return Err(IssueError::ReservedName(path));
+    }
+    if depth(&order.payload) > DEPTH_MAX {
+        return Err(IssueError::TooDeep);
+    }
+    Ok(())
+}
+
+// 54 to 57.
+fn judge_places(order: &Order) -> Result<(), IssueError>
+    requires { PassesBelow 54 (order_of order.now) }
+    ensures passes { OnOk result (PassesBelow 58 (order_of order.now)) }
+    ensures refused { IfErr result (IsRefused (order_of order.now)) }
+{
+    if let Some(k) = first_root(&order.hide) {
+        return Err(IssueError::RootMarked(k));
+    }
+    if let Some(k) = first_nowhere(&order.payload, &order.hide) {
+        return Err(IssueError::NoSuchPlace(k));
+    }
+    if let Some(k) = first_protected(&order.hide) {
+        return Err(IssueError::ProtectedClaim(k));
+    }
+    if let Some(k) = first_misplaced(&order.payload, &order.decoys) {
+        return Err(IssueError::DecoyPlace(k));
+    }
+    Ok(())
+}
+
+/// Whether an order is refused by what it says itself: by one of 51 to 59, the lowest that applies at its least place.
+///
+/// It searches the paths one by one, and costs no more than that and one walk of the payload.
+pub fn judge(alloc: Global, order: &Order) -> Result<(), IssueError>
+    requires { depth_of (tree_of order.now.payload) ≤ 127 }
+    ensures passes { OnOk result (NoneApplies (Refuses (order_of order.now))) }
+    ensures good { OnOk result (IsGoodOrder (order_of order.now)) }
+    ensures refused { IfErr result (IsRefused (order_of order.now)) }
+{
+    judge_payload(alloc, order)?;
+    judge_places(order)?;
+    if different(alloc, &order.hide)?.len() > COUNT_MAX {
+        return Err(IssueError::TooManyHidden);
+    }
+    if are_too_many(&order.decoys) {
+        return Err(IssueError::TooManyDecoys);
+    }
+    Ok(())
+}

@@ -1,0 +1,36 @@
+//! What the definitions say together. Each law of digests holds for every way to make texts and digests.
+ghost use Rattle.std.specs.Prelude.{◌≡◌, ◌≢◌, ℕ, List};
+ghost use Rattle.claim_tree.specs.declared.file_fault.FileFault.{FileFault};
+ghost use Rattle.issuer_core.specs.Order.{order_of};
+ghost use Rattle.issuer_core.specs.OrderFile.{IsOrderFile, IsOrderRefused};
+ghost use Rattle.issuer_core.specs.declared.order_file.IssueFile.{IssueFile};
+ghost use Rattle.issuer_core.specs.Laws.{LaidIsIssued, LaidIsReadable, IssuedIsSound, OneToken};
+
+/// A file says one order and one key or is refused, and has one fault beside want of memory.
+pub fn one_order()
+    ensures one { (bytes : List ℕ) (said other : IssueFile) → IsOrderFile bytes said → IsOrderFile bytes other
+        → (order_of said.order ≡ order_of other.order) × (said.key ≡ other.key) }
+    ensures not_both { (bytes : List ℕ) (said : IssueFile) (fault : FileFault) → IsOrderFile bytes said → IsOrderRefused bytes fault → fault ≡ FileFault.Memory }
+    ensures one_fault { (bytes : List ℕ) (fault other : FileFault) → IsOrderRefused bytes fault → IsOrderRefused bytes other
+        → fault ≢ FileFault.Memory → other ≢ FileFault.Memory → fault ≡ other }
+{}
+
+/// Where the digests all differ, what is laid for a good order is issued for it.
+pub fn laid_is_issued()
+    ensures { LaidIsIssued }
+{}
+
+/// The members of each object that is laid ascend by the bytes of their names.
+pub fn laid_is_readable()
+    ensures { LaidIsReadable }
+{}
+
+/// What is issued for a good order is sound: no condition of 14 to 21 fails.
+pub fn issued_is_sound()
+    ensures { IssuedIsSound }
+{}
+
+/// With a key an order and a seed have one token.
+pub fn one_token()
+    ensures { OneToken }
+{}

@@ -1,0 +1,356 @@
+// The walk that hides, RFC 9901 section 4.2.4.
+ghost use Rattle.std.specs.Prelude.{◌≡◌, ◌+◌, ◌≤◌, ◌<◌, List, ℕ, [], ◌∷◌, ◌++◌, length, map, drop, option_map, IfOk, OnOk};
+ghost use Rattle.std.specs.Set.{distinct_count};
+ghost use Rattle.claim_tree.specs.Tree.{Text, IsRanged, leaf, text as text_leaf, depth, elements_depth, members_depth, ElementsRanged, MembersRanged};
+ghost use Rattle.claim_tree.specs.View.{tree_of};
+ghost use Rattle.marked_tree.specs.Marked.{strip, strip_elements, strip_members, weight, elements_weight, members_weight, mark_weight};
+ghost use Rattle.marked_tree.specs.Places.{Path as Steps, same_path};
+ghost use Rattle.marked_tree.specs.View.{marked_of};
+ghost use Rattle.issuer_core.specs.Order.{order_of};
+ghost use Rattle.issuer_core.specs.Decoys.{places};
+ghost use Rattle.issuer_core.specs.Seed.{maker_of};
+ghost use Rattle.issuer_core.specs.Laid as spec;
+ghost use Rattle.issuer_core.specs.Laid.{sorted, texts_array, with_sd, digest_elements, hidden_digests, laid_items, laid_elements, laid_members, own_item, lay_elements, lay_members};
+ghost use Rattle.issuer_core.specs.Digests.{made_texts};
+ghost use Rattle.issuer_core.specs.Laying.{digest as digest_by, digest_at, salted, elements_joined, placed_at, ArePlaced, Tells, IsPart, IsLaidFor};
+ghost use Rattle.issuer_core.specs.Closing.{one, IsNumbered, ClosesFrom, ElementsClose, MembersClose};
+
+use crate::decoys::{Decoys, sort_decoys};
+use crate::hidden::mark_hidden;
+use crate::salts::salts_of;
+use crate::{DecoyList, Order};
+use claim_tree::{Tree, TreeList, TreeMap};
+use compact_form::COUNT_MAX;
+use disclosure::{HashAlg, digest, make_owned};
+use itoa::Buffer;
+use marked_tree::{Marked, MarkedList, MarkedMap};
+use sd_outside::{NoMemory, TextBox, TextList};
+use std::alloc::Global;
+
+// An order with all that it hides behind digests.
+#[derive(Debug, Drop)]
+pub(crate) struct Laid {
+    // With its `_sd_alg`.
+    pub(crate) payload: Tree,
+    // Those of the disclosures, in closing order.
+    pub(crate) texts: TextList,
+    // Those of the disclosures, and then of the decoys.
+    pub(crate) digests: TextList,
+}
+
+// The texts of the disclosures so far, in closing order, and their digests.
+#[derive(Debug, Drop)]
+struct Layer {
+    texts: TextList,
+    digests: TextList,
+}
+
+// A member or an element: laid, or the digest of its disclosure.
+#[derive(Debug, Drop)]
+enum Part {
+    Shown(Tree),
+    Hidden(TextBox),
+}
+
+impl Layer {
+    fn new(alloc: Global) -> Layer
+        ensures texts { result.texts ≡ [] }
+        ensures digests { result.digests ≡ [] }
+    {
+        Layer {
+            texts: TextList::new(alloc),
+            digests: TextList::new(alloc),
+        }
+    }
+
+    // Makes the next disclosure, and answers its digest.
+    fn disclose(
+        &mut self,
+        alloc: Global,
+        salts: &TextList,
+        name: Option<&str>,
+        value: Tree,
+    ) -> Result<TextBox, NoMemory>
+        requires salts { length self.old.texts < length salts.now }
+        requires ranged { IsRanged (tree_of value) }
+        requires depth { depth (tree_of value) ≤ 126 }
+        requires digests { self.old.digests ≡ map digest_by self.old.texts }
+        ensures text { OnOk result (self.new.texts ≡ self.old.texts ++ salted salts.now (length self.old.texts) (option_map (λ n. n.now) name.entry) (tree_of value) ∷ []) }
+        ensures digest { IfOk result (λ digest. digest ≡ digest_by (salted salts.now (length self.old.texts) (option_map (λ n. n.now) name.entry) (tree_of value))) }
+        ensures digests { OnOk result (self.new.digests ≡ map digest_by self.new.texts) }
+    {
+        let Some(salt) = salts.at(self.texts.len()) else {
+            unreachable!();
+        };
+        let disclosure = make_owned(alloc, salt.as_str(), name, value)?;
+        let digest = disclosure.digest(alloc, HashAlg::Sha256)?;
+        self.texts.push(disclosure.text)?;
+        self.digests.push(TextBox::make(alloc, digest.as_str())?)?;
+        Ok(digest)
+    }
+}
+
+// What stands for a hidden element, section 4.2.4.2.
+fn digest_object(alloc: Global, digest: TextBox) -> Result<Tree, NoMemory>
+    ensures { IfOk result (λ object. tree_of object ≡ spec.digest_object digest) }
+{
+    let mut object = TreeMap::new(alloc);
+    object.insert(TextBox::make(alloc, "...")?, Tree::Text(digest))?;
+    Ok(Tree::Object(object))
+}
+
+fn push_decoys(alloc: Global, laid: &mut TreeList, digests: &[TextBox]) -> Result<(), NoMemory>
+    ensures { OnOk result (laid.new ≡ elements_joined laid.old (digest_elements digests.now)) }
+{
+    for digest in digests {
+        let digest = TextBox::make(alloc, digest.as_str())?;
+        laid.push(digest_object(alloc, digest)?)?;
+    }
+    Ok(())
+}
+
+fn push_copies(
+    alloc: Global,
+    digests: &mut Vec<TextBox>,
+    decoys: &[TextBox],
+) -> Result<(), NoMemory>
+    ensures { OnOk result (digests.new.items ≡ digests.old.items ++ decoys.now) }
+{
+    for decoy in decoys {
+        digests.push(TextBox::make(alloc, decoy.as_str())?)?;
+    }
+    Ok(())
+}
+
+fn texts_list(alloc: Global, texts: Vec<TextBox>) -> Result<TreeList, NoMemory>
+    ensures { IfOk result (λ list. list ≡ texts_array texts.items) }
+{
+    let mut list = TreeList::new(alloc);
+    for text in texts {
+        list.push(Tree::Text(text))?;
+    }
+    Ok(list)
+}
+
+fn sort_digests(digests: &mut Vec<TextBox>) -> Result<(), NoMemory>
+    ensures { OnOk result (digests.new.items ≡ sorted digests.old.items) }
+{
+    digests.sort()?;
+    Ok(())
+}
+
+// Puts the member `_sd`, section 4.2.4.1, where it has a digest.
+fn put_sd(alloc: Global, laid: &mut TreeMap, mut digests: Vec<TextBox>) -> Result<(), NoMemory>
+    ensures { OnOk result (laid.new ≡ with_sd (sorted digests.items) laid.old) }
+{
+    if digests.is_empty() {
+        return Ok(());
+    }
+    sort_digests(&mut digests)?;
+    let list = texts_list(alloc, digests)?;
+    laid.insert(TextBox::make(alloc, "_sd")?, Tree::List(list))
+}
+
+// The tree with its marked parts behind digests. The disclosure of a marked part is made after those inside it.
+#[cycle(lay)]
+fn lay(
+    alloc: Global,
+    tree: Marked,
+    decoys: Decoys<'_>,
+    salts: &TextList,
+    layer: &mut Layer,
+) -> Result<Tree, NoMemory>
+    requires depth { decoys.depth + depth (strip (marked_of tree)) ≤ 125 }
+    requires ranged { IsRanged (strip (marked_of tree)) }
+    requires decoys { ArePlaced decoys }
+    requires closes { ClosesFrom (length layer.old.texts) (marked_of tree) }
+    requires salts { length layer.old.texts + weight one (marked_of tree) ≤ length salts.now }
+    requires digests { layer.old.digests ≡ map digest_by layer.old.texts }
+    ensures laid { IfOk result (λ laid. (dec : Steps → List Text) → Tells decoys.entry dec → (more : List Text) → tree_of laid ≡ spec.lay dec (digest_at (layer.new.texts ++ more)) (marked_of tree)) }
+    ensures texts { OnOk result ((dec : Steps → List Text) → Tells decoys.entry dec → (more : List Text) → layer.new.texts ≡ layer.old.texts ++ made_texts (salted salts.now) (length layer.old.texts) (laid_items dec (digest_at (layer.new.texts ++ more)) (marked_of tree))) }
+    ensures count { OnOk result (length layer.new.texts ≡ length layer.old.texts + weight one (marked_of tree)) }
+    ensures digests { OnOk result (layer.new.digests ≡ map digest_by layer.new.texts) }
+{
+    match tree {
+        Marked::Null => Ok(Tree::Null),
+        Marked::Flag(flag) => Ok(Tree::Flag(flag)),
+        Marked::Whole(n) => Ok(Tree::Whole(n)),
+        Marked::Text(text) => Ok(Tree::Text(text)),
+        Marked::List(list) => Ok(Tree::List(lay_list(alloc, list, decoys, salts, layer)?)),
+        Marked::Object(map) => Ok(Tree::Object(lay_map(alloc, map, decoys, salts, layer)?)),
+    }
+}
+
+#[cycle(lay)]
+fn lay_list(
+    alloc: Global,
+    list: MarkedList,
+    decoys: Decoys<'_>,
+    salts: &TextList,
+    layer: &mut Layer,
+) -> Result<TreeList, NoMemory>
+    requires depth { decoys.depth + elements_depth (strip_elements list) ≤ 124 }
+    requires ranged { ElementsRanged (strip_elements list) }
+    requires decoys { ArePlaced decoys }
+    requires closes { ElementsClose (length layer.old.texts) list }
+    requires salts { length layer.old.texts + elements_weight one list ≤ length salts.now }
+    requires digests { layer.old.digests ≡ map digest_by layer.old.texts }
+    ensures laid { IfOk result (λ laid. (dec : Steps → List Text) → Tells decoys.entry dec → (more : List Text) → laid ≡ lay_elements dec (digest_at (layer.new.texts ++ more)) 0 list) }
+    ensures texts { OnOk result ((dec : Steps → List Text) → Tells decoys.entry dec → (more : List Text) → layer.new.texts ≡ layer.old.texts ++ made_texts (salted salts.now) (length layer.old.texts) (laid_elements dec (digest_at (layer.new.texts ++ more)) 0 list)) }
+    ensures count { OnOk result (length layer.new.texts ≡ length layer.old.texts + elements_weight one list) }
+    ensures digests { OnOk result (layer.new.digests ≡ map digest_by layer.new.texts) }
+{
+    let mut laid = TreeList::new(alloc);
+    for (mark, tree) in list.into_elements() {
+        let mut digits = Buffer::new();
+        let below = decoys.below(digits.format(laid.len()));
+        let tree = match lay_part(alloc, None, mark, tree, below, salts, layer)? {
+            Part::Shown(tree) => tree,
+            Part::Hidden(digest) => digest_object(alloc, digest)?,
+        };
+        laid.push(tree)?;
+    }
+    push_decoys(alloc, &mut laid, decoys.here())?;
+    Ok(laid)
+}
+
+#[cycle(lay)]
+fn lay_map(
+    alloc: Global,
+    members: MarkedMap,
+    decoys: Decoys<'_>,
+    salts: &TextList,
+    layer: &mut Layer,
+) -> Result<TreeMap, NoMemory>
+    requires depth { decoys.depth + members_depth (strip_members members) ≤ 124 }
+    requires ranged { MembersRanged (strip_members members) }
+    requires decoys { ArePlaced decoys }
+    requires closes { MembersClose (length layer.old.texts) members }
+    requires salts { length layer.old.texts + members_weight one members ≤ length salts.now }
+    requires digests { layer.old.digests ≡ map digest_by layer.old.texts }
+    ensures laid { IfOk result (λ laid. (dec : Steps → List Text) → Tells decoys.entry dec → (more : List Text) → laid ≡ with_sd (sorted (hidden_digests (digest_at (layer.new.texts ++ more)) members ++ dec [])) (lay_members dec (digest_at (layer.new.texts ++ more)) members)) }
+    ensures texts { OnOk result ((dec : Steps → List Text) → Tells decoys.entry dec → (more : List Text) → layer.new.texts ≡ layer.old.texts ++ made_texts (salted salts.now) (length layer.old.texts) (laid_members dec (digest_at (layer.new.texts ++ more)) members)) }
+    ensures count { OnOk result (length layer.new.texts ≡ length layer.old.texts + members_weight one members) }
+    ensures digests { OnOk result (layer.new.digests ≡ map digest_by layer.new.texts) }
+{
+    let mut laid = TreeMap::new(alloc);
+    let mut digests = Vec::new(alloc);
+    for (name, mark, tree) in members.into_members() {
+        let below = decoys.below(name.as_str());
+        match lay_part(alloc, Some(name.as_str()), mark, tree, below, salts, layer)? {
+            Part::Shown(tree) => laid.insert(name, tree)?,
+            Part::Hidden(digest) => digests.push(digest)?,
+        }
+    }
+    push_copies(alloc, &mut digests, decoys.here())?;
+    put_sd(alloc, &mut laid, digests)?;
+    Ok(laid)
+}
+
+// A member or an element with its mark, where its own decoys are told.
+#[cycle(lay)]
+fn lay_part(
+    alloc: Global,
+    name: Option<&str>,
+    mark: Option<u32>,
+    tree: Marked,
+    decoys: Decoys<'_>,
+    salts: &TextList,
+    layer: &mut Layer,
+) -> Result<Part, NoMemory>
+    requires depth { decoys.depth + depth (strip (marked_of tree)) ≤ 125 }
+    requires ranged { IsRanged (strip (marked_of tree)) }
+    requires decoys { ArePlaced decoys }
+    requires closes { ClosesFrom (length layer.old.texts) (marked_of tree) }
+    requires numbered { IsNumbered mark (length layer.old.texts + weight one (marked_of tree)) }
+    requires salts { length layer.old.texts + (mark_weight one mark + weight one (marked_of tree)) ≤ length salts.now }
+    requires digests { layer.old.digests ≡ map digest_by layer.old.texts }
+    ensures part { IfOk result (λ part. (dec : Steps → List Text) → Tells decoys.entry dec → (more : List Text) → IsPart dec (digest_at (layer.new.texts ++ more)) mark (marked_of tree) part) }
+    ensures texts { OnOk result ((dec : Steps → List Text) → Tells decoys.entry dec → (more : List Text) → layer.new.texts ≡ layer.old.texts ++ made_texts (salted salts.now) (length layer.old.texts) (laid_items dec (digest_at (layer.new.texts ++ more)) (marked_of tree) ++ own_item (digest_at (layer.new.texts ++ more)) (option_map (λ n. n.now) name.entry) mark (spec.lay dec (digest_at (layer.new.texts ++ more)) (marked_of tree)))) }
+    ensures count { OnOk result (length layer.new.texts ≡ length layer.old.texts + (mark_weight one mark + weight one (marked_of tree))) }
+    ensures digests { OnOk result (layer.new.digests ≡ map digest_by layer.new.texts) }
+{
+    let inside = lay(alloc, tree, decoys, salts, layer)?;
+    match mark {
+        None => Ok(Part::Shown(inside)),
+        Some(_) => Ok(Part::Hidden(layer.disclose(alloc, salts, name, inside)?)),
+    }
+}
+
+// How many decoys there are.
+fn count_decoys(decoys: &DecoyList) -> usize
+    requires { length (places decoys.now) ≤ COUNT_MAX }
+    ensures { result ≡ length (places decoys.now) }
+{
+    let mut count = 0;
+    for entry in decoys.items() {
+        count += entry.count as usize;
+    }
+    count
+}
+
+// The digests of the salts from `first` on.
+fn decoy_digests(alloc: Global, salts: &TextList, first: usize) -> Result<TextList, NoMemory>
+    requires { first ≤ length salts.now }
+    ensures { IfOk result (λ digests. digests ≡ map digest_by (drop first salts.now)) }
+{
+    let mut digests = TextList::new(alloc);
+    for k in first..salts.len() {
+        let Some(salt) = salts.at(k) else {
+            unreachable!();
+        };
+        digests.push(digest(alloc, HashAlg::Sha256, salt.as_str())?)?;
+    }
+    Ok(digests)
+}
+
+// Names the hash of the digests, section 4.1.1.
+fn with_alg(alloc: Global, payload: Tree) -> Result<Tree, NoMemory>
+    ensures { IfOk result (λ named. tree_of named ≡ spec.with_alg (tree_of payload)) }
+{
+    match payload {
+        Tree::Object(mut members) => {
+            let name = TextBox::make(alloc, "_sd_alg")?;
+            members.insert(name, Tree::Text(TextBox::make(alloc, "sha-256")?))?;
+            Ok(Tree::Object(members))
+        }
+        other => Ok(other),
+    }
+}
+
+fn joined(alloc: Global, mut texts: TextList, others: &TextList) -> Result<TextList, NoMemory>
+    ensures { IfOk result (λ joined. joined ≡ texts ++ others.now) }
+{
+    for k in 0..others.len() {
+        let Some(text) = others.at(k) else {
+            unreachable!();
+        };
+        texts.push(TextBox::make(alloc, text.as_str())?)?;
+    }
+    Ok(texts)
+}
+
+// Lays an order, with the salts of a seed.
+pub(crate) fn lay_order(alloc: Global, order: &Order, seed: &[u8; 32]) -> Result<Laid, NoMemory>
+    requires shallow { depth (order_of order.now).claims ≤ 100 }
+    requires ranged { IsRanged (order_of order.now).claims }
+    requires few { distinct_count same_path order.now.hide ≤ COUNT_MAX }
+    requires decoys { length (places order.now.decoys) ≤ COUNT_MAX }
+    ensures { IfOk result (λ laid. IsLaidFor (maker_of seed.now) (order_of order.now) (tree_of laid.payload) laid.texts laid.digests) }
+{
+    let (claims, hidden) = mark_hidden(alloc, &order.payload, &order.hide)?;
+    let hidden = hidden as usize;
+    let salts = salts_of(alloc, seed, hidden + count_decoys(&order.decoys))?;
+    let of_decoys = decoy_digests(alloc, &salts, hidden)?;
+    let decoys = sort_decoys(alloc, &order.decoys, &of_decoys)?;
+    let mut layer = Layer::new(alloc);
+    let payload = lay(alloc, claims, decoys.all(), &salts, &mut layer)?;
+    let payload = with_alg(alloc, payload)?;
+    let Layer { texts, digests } = layer;
+    let digests = joined(alloc, digests, &of_decoys)?;
+    Ok(Laid {
+        payload,
+        texts,
+        digests,
+    })
+}

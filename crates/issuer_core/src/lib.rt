@@ -1,0 +1,30 @@
+//! Issuing an SD-JWT, RFC 9901 section 4.2: places of a payload hidden behind the digests of their disclosures, and decoys.
+#![tactic(auto)]
+
+mod clash;
+mod decoys;
+mod errors;
+mod file_list;
+mod hidden;
+mod issuing;
+mod judging;
+mod key_text;
+pub mod laws;
+mod laying;
+mod order;
+mod order_file;
+#[cfg(test)]
+mod order_file_tests;
+mod refusal;
+mod reserved;
+mod salts;
+#[cfg(test)]
+mod tests;
+
+pub use clash::first_clash;
+pub use errors::IssueError;
+pub use issuing::issue;
+pub use judging::{DEPTH_MAX, judge};
+pub use order::{Decoy, DecoyList, Order};
+pub use order_file::{IssueFile, read_order};
+pub use refusal::refusal_line;

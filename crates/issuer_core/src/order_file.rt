@@ -1,0 +1,136 @@
+// The file that says an order.
+ghost use Rattle.std.specs.Prelude.{◌≡◌, ◌≤◌, List, [], IfOk, IfErr, IfSome, IfNone};
+ghost use Rattle.compact_form.specs.declared.limits.TheConstants.{COUNT_MAX};
+ghost use Rattle.claim_tree.specs.Tree.{IsRanged, IsOrdered, depth as depth_of, members_depth};
+ghost use Rattle.claim_tree.specs.Lists.{In};
+ghost use Rattle.claim_tree.specs.View.{tree_of, elements_of};
+ghost use Rattle.claim_tree.specs.FileForms.{HasValue, Says, SaysOr, IsMemberRefused, required, optional, found};
+ghost use Rattle.claim_tree.specs.declared.file_fault.Field.TheVariants.{Payload, Decoys};
+ghost use Rattle.issuer_core.specs.FileLists.{IsListOf, EachSays};
+ghost use Rattle.issuer_core.specs.declared.order.Decoy.{Decoy as Seen};
+ghost use Rattle.issuer_core.specs.OrderFile.{IsValue, IsDecoy, IsOrderFile, IsOrderRefused};
+
+use crate::file_list::{pointer_list_member, pointer_of};
+use crate::key_text::key_member;
+use crate::{Decoy, DecoyList, Order};
+use claim_tree::{Field, FileFault, Tree, TreeMap, copy, read_members, text_member, whole_up_to};
+use compact_form::FILE_MAX;
+use hmac_sign::Hs256Key;
+use sd_outside::NoMemory;
+use std::alloc::Global;
+
+const FIELDS: [Field; 6] = [
+    Field::Payload,
+    Field::Hide,
+    Field::Decoys,
+    Field::Key,
+    Field::Kid,
+    Field::Typ,
+];
+
+// The most decoys of one entry, as many as an order may have.
+const ENTRY_MAX: u32 = 4_096;
+
+/// What an order file says: the order, and the key that signs.
+#[derive(Drop)]
+pub struct IssueFile {
+    pub order: Order,
+    pub key: Hs256Key,
+}
+
+fn payload_member(alloc: Global, members: &TreeMap) -> Result<Tree, FileFault>
+    requires { members_depth members.now ≤ 126 }
+    ensures ok { IfOk result (λ payload. Says IsValue (found members.now Payload) (tree_of payload)) }
+    ensures refused { IfErr result (IsMemberRefused (required Payload IsValue) members.now) }
+{
+    let Some(tree) = members.get(Field::Payload.word()) else {
+        return Err(FileFault::Missing(Field::Payload));
+    };
+    Ok(copy(alloc, tree)?)
+}
+
+// The entry of an object of just a pointer and a count.
+fn decoy_of(alloc: Global, tree: &Tree) -> Result<Option<Decoy>, NoMemory>
+    ensures decoy { IfOk result (λ decoy. IfSome decoy (IsDecoy (tree_of tree.now))) }
+    ensures none { IfOk result (λ decoy. IfNone decoy (HasValue IsDecoy (tree_of tree.now) → ⊥)) }
+{
+    let Tree::Object(members) = tree else {
+        return Ok(None);
+    };
+    if members.len() != 2 {
+        return Ok(None);
+    }
+    let Some(at) = members.get("at") else {
+        return Ok(None);
+    };
+    let Some(count) = members.get("count") else {
+        return Ok(None);
+    };
+    let Some(at) = pointer_of(alloc, at)? else {
+        return Ok(None);
+    };
+    match whole_up_to(count, ENTRY_MAX) {
+        Some(count) => Ok(Some(Decoy { at, count })),
+        None => Ok(None),
+    }
+}
+
+fn decoys_of(alloc: Global, trees: &[Tree]) -> Result<Option<DecoyList>, NoMemory>
+    ensures decoys { IfOk result (λ decoys. IfSome decoys (EachSays IsDecoy (elements_of trees.now))) }
+    ensures none { IfOk result (λ decoys. IfNone decoys ((list : List Seen) → EachSays IsDecoy (elements_of trees.now) list → ⊥)) }
+{
+    let mut decoys = DecoyList::new(alloc);
+    for tree in trees {
+        let Some(decoy) = decoy_of(alloc, tree)? else {
+            return Ok(None);
+        };
+        decoys.push(decoy)?;
+    }
+    Ok(Some(decoys))
+}
+
+fn decoys_member(alloc: Global, members: &TreeMap) -> Result<DecoyList, FileFault>
+    ensures ok { IfOk result (SaysOr (IsListOf IsDecoy) [] (found members.now Decoys)) }
+    ensures refused { IfErr result (IsMemberRefused (optional Decoys (IsListOf IsDecoy)) members.now) }
+{
+    let Some(tree) = members.get(Field::Decoys.word()) else {
+        return Ok(DecoyList::new(alloc));
+    };
+    let Tree::List(list) = tree else {
+        return Err(FileFault::Wrong(Field::Decoys));
+    };
+    match decoys_of(alloc, list.trees())? {
+        Some(decoys) => Ok(decoys),
+        None => Err(FileFault::Wrong(Field::Decoys)),
+    }
+}
+
+/// The order that a file says: a JSON object that must have `payload`, any JSON value, and `key`, the base64url text of at
+/// least 32 bytes.
+///
+/// `hide` is a list of JSON Pointers, and `decoys` a list of objects of just `at`, a pointer, and `count`, from 0 to 4,096; where
+/// they are missing they are empty. `kid` and `typ` are texts. Another member is a fault.
+pub fn read_order(alloc: Global, bytes: &[u8]) -> Result<IssueFile, FileFault>
+    ensures ok { IfOk result (IsOrderFile bytes.now) }
+    ensures ranged { IfOk result (λ said. IsRanged (tree_of said.order.payload)) }
+    ensures ordered { IfOk result (λ said. IsOrdered (tree_of said.order.payload)) }
+    ensures depth { IfOk result (λ said. depth_of (tree_of said.order.payload) ≤ 126) }
+    ensures counts { IfOk result (λ said. (entry : Seen) → In entry said.order.decoys → entry.count ≤ COUNT_MAX) }
+    ensures refused { IfErr result (IsOrderRefused bytes.now) }
+{
+    let members = read_members(alloc, bytes, FILE_MAX, &FIELDS)?;
+    let payload = payload_member(alloc, &members)?;
+    let hide = pointer_list_member(alloc, &members, Field::Hide)?;
+    let decoys = decoys_member(alloc, &members)?;
+    let key = key_member(alloc, &members, Field::Key)?;
+    let kid = text_member(alloc, &members, Field::Kid)?;
+    let typ = text_member(alloc, &members, Field::Typ)?;
+    let order = Order {
+        payload,
+        hide,
+        decoys,
+        kid,
+        typ,
+    };
+    Ok(IssueFile { order, key })
+}

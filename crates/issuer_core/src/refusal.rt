@@ -1,0 +1,88 @@
+// The lines that tell of a refusal.
+ghost use Rattle.std.specs.Prelude.{◌≡◌, IfOk, string_bytes};
+ghost use Rattle.claim_tree.specs.Tree.{leaf, text as text_leaf};
+ghost use Rattle.claim_tree.specs.JsonText.{json_text};
+ghost use Rattle.claim_tree.specs.Path.{pointer_text};
+ghost use Rattle.issuer_core.specs.Refusals.{number_of};
+ghost use Rattle.issuer_core.specs.RefusalLine.{name_of, place_text, IsRefusalLine};
+
+use crate::IssueError;
+use claim_tree::{Path, Tree, print_path, write};
+use sd_outside::{NoMemory, TextBox};
+use std::alloc::Global;
+
+fn number(error: &IssueError) -> u8
+    ensures { result ≡ number_of error.now }
+{
+    match error {
+        IssueError::Memory | IssueError::SignFailed => 0,
+        IssueError::PayloadNotObject => 51,
+        IssueError::ReservedName(_) => 52,
+        IssueError::TooDeep => 53,
+        IssueError::RootMarked(_) => 54,
+        IssueError::NoSuchPlace(_) => 55,
+        IssueError::ProtectedClaim(_) => 56,
+        IssueError::DecoyPlace(_) => 57,
+        IssueError::TooManyHidden => 58,
+        IssueError::TooManyDecoys => 59,
+        IssueError::DigestClash(_, _) => 60,
+        IssueError::TooLong => 61,
+    }
+}
+
+fn name(error: &IssueError) -> &'static str
+    ensures { result.now ≡ name_of error.now }
+{
+    match error {
+        IssueError::Memory | IssueError::SignFailed => "",
+        IssueError::PayloadNotObject => "payloadNotObject",
+        IssueError::ReservedName(_) => "reservedInPayload",
+        IssueError::TooDeep => "payloadTooDeep",
+        IssueError::RootMarked(_) => "rootMarked",
+        IssueError::NoSuchPlace(_) => "noSuchPlace",
+        IssueError::ProtectedClaim(_) => "protectedClaim",
+        IssueError::DecoyPlace(_) => "decoyPlace",
+        IssueError::TooManyHidden => "tooManyHidden",
+        IssueError::TooManyDecoys => "tooManyDecoys",
+        IssueError::DigestClash(_, _) => "digestClash",
+        IssueError::TooLong => "issueTooLong",
+    }
+}
+
+// The pointer of a path, as a JSON text.
+fn pointer_json(alloc: Global, path: &Path) -> Result<TextBox, NoMemory>
+    ensures { IfOk result (λ json. json ≡ json_text (leaf (text_leaf (pointer_text path.now)))) }
+{
+    let pointer = Tree::Text(print_path(alloc, path)?);
+    write(alloc, &pointer)
+}
+
+fn place(alloc: Global, error: &IssueError) -> Result<String, NoMemory>
+    ensures { IfOk result (λ text. string_bytes text ≡ place_text error.now) }
+{
+    match error {
+        IssueError::ReservedName(path) => {
+            let json = pointer_json(alloc, path)?;
+            let json = json.as_str();
+            Ok(format!(in alloc; " at {json}")?)
+        }
+        IssueError::RootMarked(k)
+        | IssueError::NoSuchPlace(k)
+        | IssueError::ProtectedClaim(k)
+        | IssueError::DecoyPlace(k) => Ok(format!(in alloc; " at {k}")?),
+        IssueError::DigestClash(i, j) => Ok(format!(in alloc; " at {i} {j}")?),
+        _ => Ok(String::new(alloc)),
+    }
+}
+
+/// The line that tells of a refusal of 51 to 61, without its line end: `refused`, the number, the name of the refusal, and the
+/// place where there is one. What is no refusal has no name.
+pub fn refusal_line(alloc: Global, error: &IssueError) -> Result<TextBox, NoMemory>
+    ensures { IfOk result (IsRefusalLine error.now) }
+{
+    let number = number(error);
+    let name = name(error);
+    let place = place(alloc, error)?;
+    let line = format!(in alloc; "refused {number} {name}{place}")?;
+    Ok(TextBox::from_string(line))
+}

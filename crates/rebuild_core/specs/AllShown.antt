@@ -1,0 +1,48 @@
+-- The converse of `OneNode`: where each disclosure is shown and each digest stands once, the conditions hold.
+use Rattle.std.specs.Prelude.{◌≡◌, ◌<◌, ◌≤◌, ℕ, List, length, true, is_some, bytes_eq}
+use Rattle.claim_tree.specs.Tree.{Text, Tree, leaf, array, object, Elements, no_elements, element, Members, no_members, member, depth}
+use Rattle.claim_tree.specs.Lists.{In, Repeats, Nowhere}
+use Rattle.digest_sites.specs.Reserved.{sd_name, text_list}
+use Rattle.digest_sites.specs.Given.{Given}
+use Rattle.marked_tree.specs.Marked.{strip, ways}
+use Rattle.rebuild_core.specs.Given.{item_digests, all_items}
+use Rattle.rebuild_core.specs.Opening.{processed}
+use Rattle.rebuild_core.specs.Conditions.{RepeatedDisclosure, IsSound}
+use Rattle.rebuild_core.specs.Free.{HasNoReserved}
+use Rattle.rebuild_core.specs.Laws.{IsReadable}
+
+-- the digests of the payload and of all values, reached or not
+abbrev pub all_digests : Tree → List Given → List Text
+all_digests p given = item_digests (all_items p given)
+
+-- each member `_sd` is a list of texts
+abbrev mutual
+  pub HasTextLists : Tree → Type 0
+  HasTextLists (leaf l) = Unit {0}
+  HasTextLists (array es) = ElementsTextLists es
+  HasTextLists (object ms) = MembersTextLists ms
+
+  pub ElementsTextLists : Elements → Type 0
+  ElementsTextLists no_elements = Unit {0}
+  ElementsTextLists (element t es) = HasTextLists t × ElementsTextLists es
+
+  pub MembersTextLists : Members → Type 0
+  MembersTextLists no_members = Unit {0}
+  MembersTextLists (member name t ms) = (bytes_eq name sd_name ≡ true → is_some (text_list t) ≡ true) × HasTextLists t × MembersTextLists ms
+
+-- the number is the mark of a node
+abbrev pub IsMarkOf : ℕ → Tree → List Given → Type 0
+IsMarkOf i p given = (way : ℕ × List ℕ) × In way (ways (processed p given)) × (way.0 ≡ i)
+
+-- each disclosure is shown, each digest stands once, and nothing that is shown has a reserved name
+pub record AreAllShown (p : Tree) (given : List Given) : Type 0 where
+  pub no_repeated_disclosure : Nowhere (RepeatedDisclosure given)
+  pub no_repeated_digest : Nowhere (Repeats (all_digests p given))
+  pub each_shown : (i : ℕ) → i < length given → IsMarkOf i p given
+  pub free : HasNoReserved (strip (processed p given))
+  pub shallow : depth (strip (processed p given)) ≤ 100
+  pub payload_lists : HasTextLists p
+  pub value_lists : (x : Given) → In x given → HasTextLists x.value
+
+abbrev pub ShownIsSound : Type 0
+ShownIsSound = (p : Tree) (given : List Given) → IsReadable p given → AreAllShown p given → IsSound p given

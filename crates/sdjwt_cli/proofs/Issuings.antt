@@ -1,0 +1,35 @@
+-- What the steps of `issue` say of its files.
+use Rattle.std.proofs.Common.{◌≡◌, ◌≢◌, ℕ, List, refl, arith}
+use Rattle.std.specs.Array.{IsFirstChunk}
+use Rattle.sd_outside.specs.Causes.{Rose}
+use Rattle.hmac_sign.specs.Signatures.{Meaning}
+use Rattle.issuer_core.specs.declared.errors.IssueError.{IssueError}
+use Rattle.issuer_core.specs.declared.errors.IssueError.TheVariants.{Memory, SignFailed, PayloadNotObject, ReservedName, TooDeep, RootMarked, NoSuchPlace, ProtectedClaim, DecoyPlace, TooManyHidden, TooManyDecoys, DigestClash, TooLong}
+use Rattle.issuer_core.specs.declared.order_file.IssueFile.{IssueFile}
+use Rattle.issuer_core.specs.Order.{Order, order_of}
+use Rattle.issuer_core.specs.OrderFile.{IsOrderFile}
+use Rattle.issuer_core.specs.Digests.{Maker}
+use Rattle.issuer_core.specs.Refusals.{IsLowest}
+use Rattle.issuer_core.specs.RefusalLine.{refusal_text, IsRefusalLine}
+use Rattle.issuer_core.specs.Issue.{Applies, IsNotIssued}
+use Rattle.sdjwt_cli.specs.declared.issue.TheConstants.{SEED_LEN}
+use Rattle.sdjwt_cli.specs.Issuing.{IsAsked}
+
+pub is_asked : (order_file seed_file seed : List ℕ) (said : IssueFile) → IsOrderFile order_file said → IsFirstChunk seed_file seed SEED_LEN → IsAsked order_file seed_file (order_of said.order) said.key seed
+is_asked order_file seed_file seed said is_order chunk = record { said = said; is_order = is_order; order_is = refl; key_is = refl; enough = chunk.enough; seed_is = chunk.same }
+
+-- a count that is always 0 does not rise
+pub never : Rose 0 0 → ⊥
+never h = omega (arith, h)
+
+-- beside want of memory and a signer that fails an error is a refusal
+module _ (maker : Maker) (o : Order) (good : Meaning) where
+  pub lowest : (error : IssueError) → error ≢ Memory → error ≢ SignFailed → IsNotIssued maker o good error → IsLowest (Applies maker o good) error
+  lowest Memory memory failed h = absurd (memory refl)
+  lowest SignFailed memory failed h = absurd (failed refl)
+  lowest error memory failed h = h
+
+pub line_of : (error : IssueError) → error ≢ Memory → error ≢ SignFailed → (text : List ℕ) → IsRefusalLine error text → text ≡ refusal_text error
+line_of Memory memory failed text h = absurd (memory refl)
+line_of SignFailed memory failed text h = absurd (failed refl)
+line_of error memory failed text h = h
