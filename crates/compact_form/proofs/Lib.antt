@@ -12,3 +12,5 @@ mod GatheredParts
 mod Absent
 pub mod Printed
 pub mod Examples
+pub mod Numbers
+pub mod Lowest

@@ -1,7 +1,7 @@
 -- A text is read or refused, in one way.
 use Rattle.std.proofs.Common.{◌≡◌, ℕ, ◌<◌, ◌≤◌, Bool, true, false, List, length, ap, ◌∙◌, sym, arith}
 use Rattle.compact_form.specs.declared.limits.TheConstants.{COUNT_MAX}
-use Rattle.compact_form.specs.declared.fault.TheConstants.{TOO_LONG, FORM, TOO_MUCH}
+use Rattle.compact_form.specs.declared.conditions.TheConstants.{TOO_LONG, FORM, TOO_MUCH}
 use Rattle.compact_form.specs.declared.fault.Fault.{Fault}
 use Rattle.compact_form.specs.declared.fault.Place.TheVariants.{Nowhere, At}
 use Rattle.compact_form.specs.declared.parts.Parts.{Parts}

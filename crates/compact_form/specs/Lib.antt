@@ -3,3 +3,5 @@ pub mod Trim
 pub mod Token
 pub mod Views
 pub mod Reading
+pub mod Condition
+pub mod Lowest

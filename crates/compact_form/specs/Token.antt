@@ -1,7 +1,7 @@
 -- A compact token as it comes from a file: conditions 1 to 3 of a verifier, and its parts.
 use Rattle.std.specs.Prelude.{◌≡◌, ◌<◌, ◌≤◌, ℕ, Bool, true, false, not, nat_lt, ◌&&◌, ◌||◌, ◌==◌, List, [], ◌∷◌, length}
 use Rattle.compact_form.specs.declared.limits.TheConstants.{FILE_MAX, COMPACT_MAX, COUNT_MAX}
-use Rattle.compact_form.specs.declared.fault.TheConstants.{TOO_LONG, FORM, TOO_MUCH}
+use Rattle.compact_form.specs.declared.conditions.TheConstants.{TOO_LONG, FORM, TOO_MUCH}
 use Rattle.compact_form.specs.declared.fault.Fault.{Fault}
 use Rattle.compact_form.specs.declared.fault.Place.TheVariants.{Nowhere, At}
 use Rattle.compact_form.specs.declared.parts.Parts.{Parts}

@@ -1,24 +1,3 @@
-/// The number of the condition that a token is short enough.
-pub const TOO_LONG: u8 = 1;
-
-/// The number of the condition that a token has a form of RFC 9901 section 4 or 8.
-pub const FORM: u8 = 2;
-
-/// The number of the condition that a token has few enough disclosures.
-pub const TOO_MUCH: u8 = 3;
-
-/// The number of the condition that the header of a token is read.
-pub const HEADER_UNREADABLE: u8 = 5;
-
-/// The number of the condition that the payload of a token is read.
-pub const PAYLOAD_UNREADABLE: u8 = 11;
-
-/// The number of the condition that the hash that a payload names is known.
-pub const HASH_UNKNOWN: u8 = 12;
-
-/// The number of the condition that each disclosure is read.
-pub const DISCLOSURE_UNREADABLE: u8 = 13;
-
 /// A condition of a verifier that fails: its number, and the place that its failure names.
 #[derive(Clone, Copy, Debug, PartialEq, Eq)]
 pub struct Fault {

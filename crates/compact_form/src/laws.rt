@@ -1,9 +1,10 @@
 //! What the definitions of the compact form say together. Each law holds for every value.
-ghost use Rattle.std.specs.Prelude.{◌≡◌, ◌≤◌, ℕ, List, length};
+ghost use Rattle.std.specs.Prelude.{◌≡◌, ◌≤◌, ℕ, List, Some, length};
 ghost use Rattle.compact_form.specs.declared.fault.Fault.{Fault};
 ghost use Rattle.compact_form.specs.declared.limits.TheConstants.{COMPACT_MAX, COUNT_MAX};
 ghost use Rattle.compact_form.specs.declared.parts.Parts.{Parts};
 ghost use Rattle.compact_form.specs.Compact.{compact, hashed, AreWords, IsCompact, IsRefusedAt, IsStop, IsUpToLastTilde};
+ghost use Rattle.compact_form.specs.Condition.{Condition, number_of, condition_of};
 ghost use Rattle.compact_form.specs.Token.{IsRefused, Reads};
 
 /// A text is the spelling of at most one value of parts.
@@ -39,4 +40,10 @@ pub fn one_verdict()
     ensures not_both { (text : List ℕ) (parts : Parts) (fault : Fault) → Reads text parts → IsRefused text fault → ⊥ }
     ensures one_fault { (text : List ℕ) (f g : Fault) → IsRefused text f → IsRefused text g → f ≡ g }
     ensures one_value { (text : List ℕ) (p q : Parts) → Reads text p → Reads text q → p ≡ q }
+{}
+
+/// A condition has a number of its own, under which it is found.
+pub fn one_condition()
+    ensures one { (condition other : Condition) → number_of condition ≡ number_of other → condition ≡ other }
+    ensures found { (condition : Condition) → condition_of (number_of condition) ≡ Some condition }
 {}

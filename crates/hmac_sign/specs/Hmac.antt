@@ -1,6 +1,7 @@
 -- HMAC with SHA-256, RFC 2104, and the signature HS256, RFC 7515 section 5 and RFC 7518 section 3.2.
 use Rattle.std.specs.Prelude.{◌≡◌, ℕ, ◌-◌, List, ◌++◌, map, length, replicate, bit_xor, nat_lt, codes, if◌then◌else◌}
 use Rattle.sha2.specs.Sha256.{sha256}
+use Rattle.b64url_text.specs.Base64url.{Decodes}
 
 -- filled with zeros to a block of 64 bytes
 abbrev pub filled : List ℕ → List ℕ
@@ -28,3 +29,7 @@ mac key head body = hmac key (head ++ (codes "." ++ body))
 -- the signature is good for the head and the body under the key
 abbrev pub IsGood : List ℕ → List ℕ → List ℕ → List ℕ → Type 0
 IsGood key head body signature = signature ≡ mac key head body
+
+-- the text is the base64url text of a good signature, as it stands in a JWS (RFC 7515 section 5.2)
+abbrev pub IsGoodText : List ℕ → List ℕ → List ℕ → List ℕ → Type 0
+IsGoodText key head body text = (signature : List ℕ) × Decodes text signature × IsGood key head body signature

@@ -1,9 +1,10 @@
-ghost use Rattle.std.specs.Prelude.{◌≡◌, ◌<◌, ◌≤◌, length, IfOk, IfErr};
-ghost use Rattle.hmac_sign.specs.Hmac.{key_block as block_of, mac as mac_of, IsGood};
+ghost use Rattle.std.specs.Prelude.{◌≡◌, ◌<◌, ◌≤◌, ◌↔◌, length, IfOk, IfErr, IsTrue};
+ghost use Rattle.hmac_sign.specs.Hmac.{key_block as block_of, mac as mac_of, IsGood, IsGoodText};
 
 use crate::hmac::{BLOCK, are_equal, inner_hash, key_block, outer_hash};
 use crate::{Alg, Checker, SignError, Signatures, Signer};
-use sd_outside::ByteBox;
+use b64url_text::{DecodeError, decode};
+use sd_outside::{ByteBox, NoMemory};
 use sha2::Digest;
 use std::alloc::Global;
 use std::marker::Model;
@@ -53,6 +54,23 @@ impl Hs256Key {
             .chain_update(".")
             .chain_update(body);
         outer_hash(&self.block, &inner.finalize())
+    }
+
+    /// Whether a text is the base64url text of a good signature. One that does not decode is none.
+    pub fn check_text(
+        &self,
+        alloc: Global,
+        head: &str,
+        body: &str,
+        text: &str,
+    ) -> Result<bool, NoMemory>
+        ensures { IfOk result (λ good. IsTrue good ↔ IsGoodText self.now head.now body.now text.now) }
+    {
+        match decode(alloc, text.as_bytes()) {
+            Ok(signature) => Ok(self.check(head, body, signature.bytes())),
+            Err(DecodeError::NotBase64) => Ok(false),
+            Err(DecodeError::Memory) => Err(NoMemory),
+        }
     }
 
     // The code as a signature.

@@ -5,7 +5,7 @@ use Rattle.json.specs.Print.{escape_byte}
 use Rattle.b64url_text.specs.Base64url.{letters, is_letter}
 use Rattle.claim_tree.specs.Tree.{Text, Tree, leaf, text, object, no_members, member}
 use Rattle.compact_form.specs.declared.fault.Place.TheVariants.{Nowhere, At}
-use Rattle.compact_form.specs.declared.fault.TheConstants.{TOO_LONG, FORM}
+use Rattle.compact_form.specs.declared.conditions.TheConstants.{TOO_LONG, FORM}
 use Rattle.compact_form.specs.declared.parts.Parts.{Parts}
 use Rattle.compact_form.specs.Compact.{IsCompact}
 use Rattle.compact_form.specs.Token.{Reads}

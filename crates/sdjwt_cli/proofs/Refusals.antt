@@ -2,10 +2,10 @@
 use Rattle.std.proofs.Common.{◌≡◌, ℕ, List, Option, ap, sym, subst}
 use Rattle.compact_form.specs.declared.fault.Fault.{Fault}
 use Rattle.compact_form.specs.Token.{IsRefused}
-use Rattle.verifier_core.specs.Condition as condition
-use Rattle.verifier_core.specs.Condition.{Condition, number_of, condition_of}
+use Rattle.compact_form.specs.Condition as condition
+use Rattle.compact_form.specs.Condition.{Condition, number_of, condition_of}
 use Rattle.verifier_core.specs.FaultLine.{refusal_text}
-use Rattle.verifier_core.proofs.Numbers.{numbered}
+use Rattle.compact_form.proofs.Numbers.{numbered}
 use Rattle.verifier_core.proofs.Verdicts.{file_condition}
 use Rattle.sdjwt_cli.specs.Lines.{line, refusal_of, refusal}
 use Rattle.sdjwt_cli.specs.Show.{IsShowRefused, form, header, payload, hash, disclosure}

@@ -6,7 +6,7 @@ use Rattle.jws_part.specs.Part.{IsBody, IsNoObject}
 use Rattle.jws_part.specs.Header.{IsUnreadable}
 use Rattle.jws_part.proofs.Parts as bodies
 use Rattle.disclosure.proofs.Verdicts as readings
-use Rattle.compact_form.specs.declared.fault.TheConstants.{DISCLOSURE_UNREADABLE}
+use Rattle.compact_form.specs.declared.conditions.TheConstants.{DISCLOSURE_UNREADABLE}
 use Rattle.compact_form.specs.declared.fault.Fault.{Fault}
 use Rattle.compact_form.specs.declared.fault.Place.TheVariants.{At}
 use Rattle.compact_form.specs.declared.parts.JwtParts.{JwtParts}

@@ -2,7 +2,8 @@
 use Rattle.std.proofs.Common.{◌≡◌, ℕ, List, ap, ◌∙◌, sym, subst}
 use Rattle.claim_tree.specs.JsonText.{json_text}
 use Rattle.marked_tree.specs.Marked.{Marked, strip}
-use Rattle.verifier_core.specs.Verdict.{Fails, IsLowest, IsAccepted}
+use Rattle.verifier_core.specs.Verdict.{Fails, IsAccepted}
+use Rattle.compact_form.specs.Lowest.{IsLowest}
 use Rattle.verifier_core.specs.declared.policy.Policy.{Policy}
 use Rattle.verifier_core.proofs.Policies as policies
 use Rattle.verifier_core.proofs.OneVerdict as verdicts

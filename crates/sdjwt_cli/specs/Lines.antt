@@ -6,7 +6,7 @@ use Rattle.claim_tree.specs.declared.file_fault.FileFault.{FileFault}
 use Rattle.claim_tree.specs.declared.file_fault.FileFault.TheVariants.{Memory, TooLong, NotJson, NotWhole, NotObject, Unknown, Missing, Wrong}
 use Rattle.compact_form.specs.declared.fault.Fault.{Fault}
 use Rattle.compact_form.specs.declared.fault.Place.{Place}
-use Rattle.verifier_core.specs.Condition.{Condition, condition_of}
+use Rattle.compact_form.specs.Condition.{Condition, condition_of}
 use Rattle.verifier_core.specs.FaultLine.{refusal_text}
 
 abbrev pub line : List ℕ → List ℕ

@@ -11,7 +11,7 @@ use Rattle.disclosure.specs.Disclosure.{IsDisclosure}
 use Rattle.disclosure.specs.Refusals as reasons
 use Rattle.disclosure.specs.declared.digests.HashAlg.{HashAlg}
 use Rattle.disclosure.specs.declared.errors.DisclosureError.{DisclosureError}
-use Rattle.compact_form.specs.declared.fault.TheConstants.{HEADER_UNREADABLE, PAYLOAD_UNREADABLE, HASH_UNKNOWN, DISCLOSURE_UNREADABLE}
+use Rattle.compact_form.specs.declared.conditions.TheConstants.{HEADER_UNREADABLE, PAYLOAD_UNREADABLE, HASH_UNKNOWN, DISCLOSURE_UNREADABLE}
 use Rattle.compact_form.specs.declared.fault.Fault.{Fault}
 use Rattle.compact_form.specs.declared.fault.Place.TheVariants.{Nowhere, At}
 use Rattle.compact_form.specs.declared.parts.JwtParts.{JwtParts}

@@ -5,7 +5,8 @@ use Rattle.claim_tree.specs.declared.file_fault.FileFault.{FileFault}
 use Rattle.compact_form.specs.declared.fault.Fault.{Fault}
 use Rattle.marked_tree.specs.Marked.{Marked, strip}
 use Rattle.verifier_core.specs.PolicyFile.{IsPolicyFile, IsPolicyRefused}
-use Rattle.verifier_core.specs.Verdict.{Fails, IsLowest, IsAccepted}
+use Rattle.verifier_core.specs.Verdict.{Fails, IsAccepted}
+use Rattle.compact_form.specs.Lowest.{IsLowest}
 use Rattle.verifier_core.specs.declared.policy.Policy.{Policy}
 use Rattle.sdjwt_cli.specs.Lines.{line, refusal, unreadable_line}
 

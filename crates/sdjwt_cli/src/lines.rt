@@ -1,7 +1,7 @@
 // The lines that the program writes to standard error.
 ghost use Rattle.std.specs.Prelude.{◌≡◌, IfOk, string_bytes};
 ghost use Rattle.sdjwt_cli.specs.Lines.{line, reason as reason_of, refusal, short_seed, unread, unreadable_line as line_of};
-ghost use Rattle.verifier_core.specs.Condition.{Condition, number_of};
+ghost use Rattle.compact_form.specs.Condition.{Condition, number_of};
 
 use claim_tree::FileFault;
 use compact_form::Fault;

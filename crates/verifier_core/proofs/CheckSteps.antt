@@ -20,12 +20,14 @@ use Rattle.rebuild_core.specs.Opening.{processed}
 use Rattle.rebuild_core.specs.Answer.{IsPayload, IsRefusal}
 use Rattle.rebuild_core.specs.Conditions as opening
 use Rattle.rebuild_core.specs.declared.errors.ProcessError.{ProcessError}
-use Rattle.verifier_core.specs.Condition as condition
-use Rattle.verifier_core.specs.Verdict.{Rules, key_for, HasHeader, HasPayload, IsAlgRefused, IsTypeRefused, IsBadSignature, IsUnread, Gives, HasContent, OfContent, Unplaced, Numbered, TokenFails, IsLowest, IsChecked}
-use Rattle.verifier_core.specs.Check.{OnFault, IsUnopened, Passes, unplaced, refusal_of, IsSigned, IsSignedFault, bad_header, critical, bad_alg, bad_type, no_key, not_signed, IsPayloadFault, no_body, no_hash, IsUnreadAt}
+use Rattle.compact_form.specs.Condition as condition
+use Rattle.verifier_core.specs.Verdict.{Rules, key_for, HasHeader, HasPayload, IsAlgRefused, IsTypeRefused, IsBadSignature, IsUnread, Gives, HasContent, OfContent, TokenFails, IsChecked}
+use Rattle.verifier_core.specs.Check.{OnFault, IsUnopened, refusal_of, IsSigned, IsSignedFault, bad_header, critical, bad_alg, bad_type, no_key, not_signed, IsPayloadFault, no_body, no_hash, IsUnreadAt}
 use Rattle.verifier_core.specs.declared.check.VerifyError.{VerifyError}
-use Rattle.verifier_core.proofs.Lowest.{holds_too}
-use Rattle.verifier_core.proofs.TokenConditions.{finish, start, refuse_unplaced, refuse_placed}
+use Rattle.verifier_core.proofs.TokenConditions.{finish, start}
+use Rattle.compact_form.specs.Lowest.{Unplaced, Numbered, IsLowest, Passes, unplaced}
+use Rattle.compact_form.proofs.Lowest.{holds_too, refuse_unplaced}
+use Rattle.verifier_core.proofs.LeastPlaces.{refuse_placed}
 
 -- ---- one header
 

@@ -1,19 +1,15 @@
 -- What the tests of a check tell.
-use Rattle.std.proofs.Common.{Result, Ok, Err, IfOk, IfErr, ◌≡◌, ◌↔◌, ◌⊎◌, inl, inr, ℕ, zero, suc, ◌<◌, List, [], ◌∷◌, ◌++◌, length, take, slice_get, Bool, true, false, not, bytes_eq, Option, Some, None, refl, sym, ap, subst, ◌∙◌, arith, IsTrue}
+use Rattle.std.proofs.Common.{Result, Ok, Err, IfOk, IfErr, ◌≡◌, ◌⊎◌, inl, inr, ℕ, zero, suc, ◌<◌, List, [], ◌∷◌, ◌++◌, length, take, slice_get, Bool, true, false, not, bytes_eq, Option, Some, None, refl, sym, ap, subst, ◌∙◌, arith}
 use Rattle.std.specs.List.{AllZip}
-use Rattle.b64url_text.specs.Base64url.{Decodes}
-use Rattle.b64url_text.proofs.Codes.{one_code}
 use Rattle.claim_tree.specs.Tree.{Text}
 use Rattle.claim_tree.specs.Lists.{At as StandsAt, In}
 use Rattle.claim_tree.proofs.Lists.{At-same, bytes_same, bytes_refl, In-append}
-use Rattle.compact_form.specs.declared.parts.JwtParts.{JwtParts}
 use Rattle.disclosure.specs.declared.digests.HashAlg.{HashAlg}
 use Rattle.disclosure.specs.declared.errors.DisclosureError.{DisclosureError}
 use Rattle.disclosure.specs.Refusals.{IsRefused}
 use Rattle.disclosure.proofs.Verdicts as readings
 use Rattle.digest_sites.specs.Given.{Given}
-use Rattle.hmac_sign.specs.Hmac.{IsGood}
-use Rattle.verifier_core.specs.Verdict.{IsTypeRefused, IsBadSignature, Gives, IsUnread}
+use Rattle.verifier_core.specs.Verdict.{IsTypeRefused, Gives, IsUnread}
 use Rattle.verifier_core.specs.Check.{Tells, OnFault, unread_at, IsUnreadAt}
 use Rattle.verifier_core.proofs.CheckSteps.{got_stands}
 
@@ -54,13 +50,6 @@ type_told asked typ name own a t b is = subst (λ z. Tells z (IsTypeRefused aske
           let clash : false ≡ true = sym e ∙ bytes_refl own name same in
           cc clash,
     )
-
-pub signature_told : (key : List ℕ) (signed : JwtParts) (signature : List ℕ) → Decodes signed.signature signature → (b : Bool) → IsTrue b ↔ IsGood key signed.protected signed.payload signature
-    → Tells (not b) (IsBadSignature key signed)
-signature_told key signed signature decodes true good = λ bad. bad signature decodes (good.0 refl)
-signature_told key signed signature decodes false good = λ other other_decodes other_good.
-    let wrong : false ≡ true = good.1 (subst (λ x. IsGood key signed.protected signed.payload x) (one_code signed.signature other signature other_decodes decodes) other_good) in
-    cc wrong
 
 -- ---- what is given
 

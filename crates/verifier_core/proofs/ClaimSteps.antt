@@ -1,16 +1,17 @@
 -- What each condition on the claims says of the payload.
-use Rattle.std.proofs.Common.{◌≡◌, ◌≢◌, ℕ, zero, suc, ℤ, [], ◌∷◌, true, false, Bor, option_map, slice_get, is_some, pos, ◌+ℤ◌, ◌≤ℤ◌, ◌<◌, ◌⊎◌, List, Option, Some, None, codes, sym, ◌∙◌, subst, ◌+◌, ⊎_elim, arith}
+use Rattle.std.proofs.Common.{◌≡◌, ◌≢◌, ℕ, zero, suc, [], ◌∷◌, true, false, Bor, option_map, slice_get, is_some, ◌<◌, ◌⊎◌, List, Option, Some, None, codes, sym, ◌∙◌, subst, ◌+◌, ⊎_elim, arith}
 use Rattle.compact_form.specs.declared.fault.Place.{Place}
+use Rattle.jws_part.specs.Times.{IsTimeUnreadable, IsExpired}
 use Rattle.claim_tree.specs.Tree.{Text, Tree, leaf, text, get}
 use Rattle.claim_tree.specs.View.{tree_of}
 use Rattle.claim_tree.specs.declared.tree.Tree as tree
 use Rattle.claim_tree.specs.Lists.{At as StandsAt}
 use Rattle.claim_tree.proofs.Lists.{At-same}
-use Rattle.verifier_core.specs.Condition.{Condition, number_of, too_long, form, too_much, binding_missing, header_unreadable, header_critical, alg_refused, type_refused, issuer_key_unknown, bad_signature, payload_unreadable, hash_unknown, disclosure_unreadable, repeated_disclosure, reserved_misused, repeated_digest, unreferenced_disclosure, wrong_shape, reserved_name, name_clash, too_deep, issuer_refused, claim_missing, time_unreadable, expired, not_yet, holder_key_unknown, binding_header, binding_alg, binding_signature, binding_type, binding_payload, binding_stale, binding_early, nonce_differs, audience_differs, hash_differs, binding_time}
-use Rattle.verifier_core.specs.Verdict.{IsMoment, IsNoMoment, ClaimFails}
+use Rattle.compact_form.specs.Condition.{Condition, number_of, too_long, form, too_much, binding_missing, header_unreadable, header_critical, alg_refused, type_refused, issuer_key_unknown, bad_signature, payload_unreadable, hash_unknown, disclosure_unreadable, repeated_disclosure, reserved_misused, repeated_digest, unreferenced_disclosure, wrong_shape, reserved_name, name_clash, too_deep, issuer_refused, claim_missing, time_unreadable, expired, not_yet, holder_key_unknown, binding_header, binding_alg, binding_signature, binding_type, binding_payload, binding_stale, binding_early, nonce_differs, audience_differs, hash_differs, binding_time}
+use Rattle.verifier_core.specs.Verdict.{ClaimFails}
 use Rattle.verifier_core.specs.declared.policy.Policy.{Policy}
-use Rattle.verifier_core.specs.Check.{Passes}
-use Rattle.verifier_core.proofs.Lowest.{holds_too}
+use Rattle.compact_form.specs.Lowest.{Passes}
+use Rattle.compact_form.proofs.Lowest.{holds_too}
 
 -- a condition on the claims has a number from 22 to 26
 pub claim_numbers : (payload : Tree) (policy : Policy) (now : ℕ) (c : Condition) (place : Place) → ClaimFails payload policy now c place → (21 < number_of c) × (number_of c < 27)
@@ -65,10 +66,10 @@ module _ (payload : Tree) (policy : Policy) (now : ℕ) where
   pub before_times : Passes 23 (ClaimFails payload policy now) → ((i : ℕ) (name : Text) → StandsAt policy.require i name → get payload name ≢ None) → Passes 24 (ClaimFails payload policy now)
   before_times below holds = holds_too (ClaimFails payload policy now) claim_missing below (λ place h. holds h.0 h.2.0 h.2.1 h.2.2)
 
-  pub before_expiry : Passes 24 (ClaimFails payload policy now) → (IsNoMoment payload (codes "exp") ⊎ IsNoMoment payload (codes "nbf") → ⊥) → Passes 25 (ClaimFails payload policy now)
+  pub before_expiry : Passes 24 (ClaimFails payload policy now) → (IsTimeUnreadable payload → ⊥) → Passes 25 (ClaimFails payload policy now)
   before_expiry below holds = holds_too (ClaimFails payload policy now) time_unreadable below (λ place h. holds h.1)
 
-  pub before_start : Passes 25 (ClaimFails payload policy now) → ((moment : ℤ) × IsMoment payload (codes "exp") moment × ((moment +ℤ pos policy.skew) ≤ℤ pos now) → ⊥) → Passes 26 (ClaimFails payload policy now)
+  pub before_start : Passes 25 (ClaimFails payload policy now) → (IsExpired payload policy.skew now → ⊥) → Passes 26 (ClaimFails payload policy now)
   before_start below holds = holds_too (ClaimFails payload policy now) expired below (λ place h. holds h.1)
 
 -- the first so many names are names of claims

@@ -6,7 +6,7 @@ use Rattle.claim_tree.specs.FileForms.{fields_of, has_unknown}
 use Rattle.compact_form.specs.declared.fault.Place.TheVariants.{Nowhere, At, Json}
 use Rattle.compact_form.specs.declared.fault.Part.{Part}
 use Rattle.compact_form.specs.declared.fault.JsonPlace.{JsonPlace}
-use Rattle.verifier_core.specs.Condition.{form, claim_missing, expired}
+use Rattle.compact_form.specs.Condition.{form, claim_missing, expired}
 use Rattle.verifier_core.specs.FaultLine.{refusal_text}
 use Rattle.verifier_core.specs.PolicyFile.{policy_table}
 

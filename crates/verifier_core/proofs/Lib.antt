@@ -1,5 +1,5 @@
 pub mod Numbers
-pub mod Lowest
+pub mod LeastPlaces
 pub mod ClaimSteps
 pub mod Policies
 pub mod TokenConditions

@@ -5,21 +5,12 @@ use Rattle.compact_form.specs.declared.fault.Place.{Place}
 use Rattle.compact_form.specs.declared.fault.Place.TheVariants.{Nowhere, At}
 use Rattle.claim_tree.specs.Lists.{IsLeast}
 use Rattle.json_form.specs.declared.token.Token.{Token}
-use Rattle.verifier_core.specs.Condition.{Condition, number_of, too_long, form, too_much, binding_missing, header_unreadable, header_critical, alg_refused, type_refused, issuer_key_unknown, bad_signature, payload_unreadable, hash_unknown, disclosure_unreadable, repeated_disclosure, reserved_misused, repeated_digest, unreferenced_disclosure, wrong_shape, reserved_name, name_clash, too_deep, issuer_refused, claim_missing, time_unreadable, expired, not_yet, holder_key_unknown, binding_header, binding_alg, binding_signature, binding_type, binding_payload, binding_stale, binding_early, nonce_differs, audience_differs, hash_differs, binding_time}
-use Rattle.verifier_core.specs.Verdict.{Rules, TokenFails, IsLowest, NoneFails, Numbered}
-use Rattle.verifier_core.specs.Check.{unplaced, placed, Passes}
-use Rattle.verifier_core.proofs.Lowest.{lowest_at, first_numbered}
-
--- a condition without a place
-pub refuse_unplaced : (FailsSo : Condition → Place → Type 0) (d : Condition) (fault : Fault) → fault ≡ unplaced (number_of d) → Passes (number_of d) FailsSo → FailsSo d Nowhere → IsLowest FailsSo fault
-refuse_unplaced FailsSo d fault is passes fails =
-    subst (IsLowest FailsSo) (sym is) (lowest_at FailsSo d (unplaced (number_of d)) refl passes fails (λ place h. tt))
-
--- a condition at its least place
-pub refuse_placed : (FailsSo : Condition → Place → Type 0) (d : Condition) (FailsAt : ℕ → Type 0) (i : ℕ)
-    → ((place : Place) → FailsSo d place → Numbered FailsAt place) → (FailsAt i → FailsSo d (At i)) → Passes (number_of d) FailsSo → IsLeast FailsAt i → IsLowest FailsSo (placed (number_of d) i)
-refuse_placed FailsSo d FailsAt i into back passes least =
-    lowest_at FailsSo d (placed (number_of d) i) refl passes (back least.fails) (λ place h. first_numbered FailsAt i least place (into place h))
+use Rattle.compact_form.specs.Condition.{Condition, number_of, too_long, form, too_much, binding_missing, header_unreadable, header_critical, alg_refused, type_refused, issuer_key_unknown, bad_signature, payload_unreadable, hash_unknown, disclosure_unreadable, repeated_disclosure, reserved_misused, repeated_digest, unreferenced_disclosure, wrong_shape, reserved_name, name_clash, too_deep, issuer_refused, claim_missing, time_unreadable, expired, not_yet, holder_key_unknown, binding_header, binding_alg, binding_signature, binding_type, binding_payload, binding_stale, binding_early, nonce_differs, audience_differs, hash_differs, binding_time}
+use Rattle.verifier_core.specs.Verdict.{Rules, TokenFails}
+use Rattle.verifier_core.specs.Check.{placed}
+use Rattle.compact_form.specs.Lowest.{IsLowest, NoneFails, Numbered, unplaced, Passes}
+use Rattle.compact_form.proofs.Lowest.{lowest_at}
+use Rattle.verifier_core.proofs.LeastPlaces.{first_numbered}
 
 -- ---- those of a token
 

@@ -2,7 +2,7 @@
 use Rattle.std.proofs.Common.{◌≡◌, ℕ, ◌<◌, ◌≤◌, ◌-◌, ◌^◌, ◌⊎◌, inl, inr, List, length, refl, sym, ap, ap₂, subst, ◌∙◌, arith}
 use Rattle.claim_tree.specs.Tree.{Tree}
 use Rattle.compact_form.specs.declared.limits.TheConstants.{COUNT_MAX}
-use Rattle.compact_form.specs.declared.fault.TheConstants.{TOO_MUCH}
+use Rattle.compact_form.specs.declared.conditions.TheConstants.{TOO_MUCH}
 use Rattle.compact_form.specs.declared.fault.Fault.{Fault}
 use Rattle.compact_form.specs.declared.fault.Place.{Place}
 use Rattle.compact_form.specs.declared.fault.Place.TheVariants.{Nowhere, At, Json}
@@ -15,12 +15,13 @@ use Rattle.json_form.proofs.Tokens as tokens
 use Rattle.digest_sites.specs.Given.{Given}
 use Rattle.marked_tree.specs.Marked.{Marked, strip}
 use Rattle.rebuild_core.specs.Opening.{processed}
-use Rattle.verifier_core.specs.Condition as condition
-use Rattle.verifier_core.specs.Condition.{Condition, number_of}
-use Rattle.verifier_core.specs.Verdict.{TokenFails, ClaimFails, Fails, of_file, of_token, of_claims, rules_of, Opens, IsNoLater, IsLowest, NoneFails, IsChecked, IsAccepted}
+use Rattle.compact_form.specs.Condition as condition
+use Rattle.compact_form.specs.Condition.{Condition, number_of}
+use Rattle.verifier_core.specs.Verdict.{TokenFails, ClaimFails, Fails, of_file, of_token, of_claims, rules_of, Opens, IsChecked, IsAccepted}
 use Rattle.verifier_core.specs.Check.{compact}
 use Rattle.verifier_core.specs.declared.policy.Policy.{Policy}
-use Rattle.verifier_core.proofs.Numbers.{one_condition}
+use Rattle.compact_form.specs.Lowest.{IsNoLater, IsLowest, NoneFails}
+use Rattle.compact_form.proofs.Numbers.{one_condition}
 use Rattle.verifier_core.proofs.TokenConditions.{token_numbers}
 use Rattle.verifier_core.proofs.ClaimSteps.{claim_numbers}
 use Rattle.verifier_core.proofs.CheckSteps.{one_content}

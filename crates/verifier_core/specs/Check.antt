@@ -20,7 +20,7 @@ use Rattle.json_form.specs.Token.{IsToken}
 use Rattle.rebuild_core.specs.Given.{look_ups, counted, RoseWithin}
 use Rattle.rebuild_core.specs.Answer.{IsRefusal}
 use Rattle.rebuild_core.specs.declared.errors.ProcessError.{ProcessError}
-use Rattle.verifier_core.specs.Condition.{Condition, number_of}
+use Rattle.compact_form.specs.Condition.{Condition, number_of}
 use Rattle.verifier_core.specs.Verdict.{Rules, key_for, HasPayload, HasContent, IsAlgRefused, IsTypeRefused, IsBadSignature, IsUnread, Gives}
 use Rattle.verifier_core.specs.declared.check.VerifyError.{VerifyError}
 
@@ -58,14 +58,6 @@ abbrev pub IsUncounted : ℕ → ℕ → Fault → Type 0
 IsUncounted old new fault = fault.number ≤ 13 → new ≡ old
 
 -- ---- for private functions
-
--- none with a lower number fails
-abbrev pub Passes : ℕ → (Condition → Place → Type 0) → Type 0
-Passes k FailsSo = (c : Condition) (place : Place) → FailsSo c place → k ≤ number_of c
-
--- the fault of a condition that names no place
-abbrev pub unplaced : ℕ → Fault
-unplaced number = record { number = number; place = Nowhere }
 
 -- the fault of a condition that fails at a number
 abbrev pub placed : ℕ → ℕ → Fault

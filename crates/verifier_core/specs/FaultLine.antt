@@ -7,7 +7,7 @@ use Rattle.compact_form.specs.declared.fault.Place.{Place}
 use Rattle.compact_form.specs.declared.fault.Place.TheVariants.{Nowhere, At, Json}
 use Rattle.compact_form.specs.declared.fault.Part.{Part}
 use Rattle.compact_form.specs.declared.fault.JsonPlace.{JsonPlace}
-use Rattle.verifier_core.specs.Condition.{Condition, number_of, name_of, form, disclosure_unreadable, repeated_disclosure, reserved_misused, repeated_digest, unreferenced_disclosure, wrong_shape, reserved_name, name_clash, claim_missing}
+use Rattle.compact_form.specs.Condition.{Condition, number_of, name_of, form, disclosure_unreadable, repeated_disclosure, reserved_misused, repeated_digest, unreferenced_disclosure, wrong_shape, reserved_name, name_clash, claim_missing}
 
 -- ---- places
 

@@ -1,4 +1,3 @@
-pub mod Condition
 pub mod FaultLine
 pub mod Named
 pub mod PolicyFile

@@ -1,7 +1,7 @@
 -- For private functions: the printed name of a number.
 use Rattle.std.specs.Prelude.{ℕ, [], Option, Some, None}
 use Rattle.claim_tree.specs.Tree.{Text}
-use Rattle.verifier_core.specs.Condition.{Condition, condition_of, name_of}
+use Rattle.compact_form.specs.Condition.{Condition, condition_of, name_of}
 
 abbrev pub name_in : Option Condition → Text
 name_in None = []

@@ -1,8 +1,7 @@
 -- The verdict on a token: what fails each condition and at which place, and the lowest that fails (RFC 9901 section 7.3).
-use Rattle.std.specs.Prelude.{◌≡◌, ◌≢◌, ℕ, ◌<◌, ◌≤◌, ◌⊎◌, ℤ, pos, ◌+ℤ◌, ◌≤ℤ◌, ◌<ℤ◌, List, Option, Some, None, codes, option_map, slice_get}
+use Rattle.std.specs.Prelude.{◌≡◌, ◌≢◌, ℕ, ◌<◌, ◌≤◌, ◌⊎◌, List, Option, Some, None, codes, option_map, slice_get}
 use Rattle.std.specs.List.{AllZip}
-use Rattle.b64url_text.specs.Base64url.{Decodes}
-use Rattle.claim_tree.specs.Tree.{Text, Tree, leaf, text, whole, get}
+use Rattle.claim_tree.specs.Tree.{Text, Tree, leaf, text, get}
 use Rattle.claim_tree.specs.Lists.{At as StandsAt}
 use Rattle.compact_form.specs.declared.fault.Fault.{Fault}
 use Rattle.compact_form.specs.declared.fault.Place.{Place}
@@ -14,9 +13,10 @@ use Rattle.json_form.specs.Token.{IsToken}
 use Rattle.jws_part.specs.declared.header.Header.{Header}
 use Rattle.jws_part.specs.Header.{IsHeader, IsUnreadable, IsCritical}
 use Rattle.jws_part.specs.Part.{IsBody, IsNoObject}
+use Rattle.jws_part.specs.Times.{IsTimeUnreadable, IsExpired, IsNotYet}
 use Rattle.hmac_sign.specs.declared.key_set.NamedKey.{NamedKey}
 use Rattle.hmac_sign.specs.Keys.{key_named}
-use Rattle.hmac_sign.specs.Hmac.{IsGood}
+use Rattle.hmac_sign.specs.Hmac.{IsGoodText}
 use Rattle.disclosure.specs.Digest.{digest_of, payload_hash}
 use Rattle.disclosure.specs.Disclosure.{IsDisclosure}
 use Rattle.disclosure.specs.declared.digests.HashAlg.{HashAlg}
@@ -25,19 +25,9 @@ use Rattle.marked_tree.specs.Marked.{Marked, strip}
 use Rattle.rebuild_core.specs.Payload.{without_alg}
 use Rattle.rebuild_core.specs.Opening.{processed}
 use Rattle.rebuild_core.specs.Conditions as opening
-use Rattle.verifier_core.specs.Condition as condition
-use Rattle.verifier_core.specs.Condition.{Condition, number_of}
+use Rattle.compact_form.specs.Condition as condition
+use Rattle.compact_form.specs.Condition.{Condition, number_of}
 use Rattle.verifier_core.specs.declared.policy.Policy.{Policy}
-
--- ---- places
-
--- the condition names no place
-abbrev pub Unplaced : Type 0 → Place → Type 0
-Unplaced IsFailed place = (place ≡ Nowhere) × IsFailed
-
--- the condition fails at a number
-abbrev pub Numbered : (ℕ → Type 0) → Place → Type 0
-Numbered FailsAt place = (i : ℕ) × (place ≡ At i) × FailsAt i
 
 -- ---- what a token says
 
@@ -66,7 +56,7 @@ key_for keys None = option_map (λ named. named.key) (slice_get keys 0)
 
 -- the signature is no base64url text, or is not good under the key
 abbrev pub IsBadSignature : List ℕ → JwtParts → Type 0
-IsBadSignature key signed = (signature : List ℕ) → Decodes signed.signature signature → IsGood key signed.protected signed.payload signature → ⊥
+IsBadSignature key signed = IsGoodText key signed.protected signed.payload signed.signature → ⊥
 
 abbrev pub HasPayload : Token → Tree → Type 0
 HasPayload token payload = IsBody token.parts.signed.payload payload
@@ -95,16 +85,6 @@ OfContent FailsAt token i = (payload : Tree) × (given : List Given) × HasConte
 -- the token processes to this payload
 abbrev pub Opens : Token → Marked → Type 0
 Opens token marked = (payload : Tree) × (given : List Given) × HasContent token payload given × (marked ≡ processed payload given)
-
--- ---- what the processed payload claims
-
--- the claim is there, and is this whole number
-abbrev pub IsMoment : Tree → Text → ℤ → Type 0
-IsMoment payload name moment = get payload name ≡ Some (leaf (whole moment))
-
--- the claim is there, and is no whole number
-abbrev pub IsNoMoment : Tree → Text → Type 0
-IsNoMoment payload name = (claim : Tree) × (get payload name ≡ Some claim) × ((moment : ℤ) → claim ≢ leaf (whole moment))
 
 -- ---- the conditions
 
@@ -135,9 +115,9 @@ abbrev pub ClaimFails : Tree → Policy → ℕ → Condition → Place → Type
 ClaimFails payload policy now condition.issuer_refused place =
     Unplaced ((iss : Text) × (policy.iss ≡ Some iss) × (get payload (codes "iss") ≢ Some (leaf (text iss)))) place
 ClaimFails payload policy now condition.claim_missing place = Numbered (λ i. (name : Text) × StandsAt policy.require i name × (get payload name ≡ None)) place
-ClaimFails payload policy now condition.time_unreadable place = Unplaced (IsNoMoment payload (codes "exp") ⊎ IsNoMoment payload (codes "nbf")) place
-ClaimFails payload policy now condition.expired place = Unplaced ((moment : ℤ) × IsMoment payload (codes "exp") moment × ((moment +ℤ pos policy.skew) ≤ℤ pos now)) place
-ClaimFails payload policy now condition.not_yet place = Unplaced ((moment : ℤ) × IsMoment payload (codes "nbf") moment × ((pos now +ℤ pos policy.skew) <ℤ moment)) place
+ClaimFails payload policy now condition.time_unreadable place = Unplaced (IsTimeUnreadable payload) place
+ClaimFails payload policy now condition.expired place = Unplaced (IsExpired payload policy.skew now) place
+ClaimFails payload policy now condition.not_yet place = Unplaced (IsNotYet payload policy.skew now) place
 ClaimFails payload policy now _ place = ⊥
 
 abbrev pub rules_of : Policy → Rules
@@ -153,21 +133,6 @@ pub data Fails (content : List ℕ) (policy : Policy) (now : ℕ) (c : Condition
   of_claims : (token : Token) (marked : Marked) → IsToken content token → Opens token marked → ClaimFails (strip marked) policy now c place → Fails content policy now c place
 
 -- ---- the verdict
-
--- places of one condition, in their order
-abbrev pub IsNoLater : Place → Place → Type 0
-IsNoLater (At i) (At j) = i ≤ j
-IsNoLater _ _ = Unit {0}
-
--- a condition fails, with its number and at its least place, and none lower
-pub record IsLowest (FailsSo : Condition → Place → Type 0) (fault : Fault) : Type 0 where
-  pub failed : Condition
-  pub number_is : fault.number ≡ number_of failed
-  pub fails : FailsSo failed fault.place
-  pub lowest : (other : Condition) (place : Place) → FailsSo other place → (number_of failed < number_of other) ⊎ ((other ≡ failed) × IsNoLater fault.place place)
-
-abbrev pub NoneFails : (Condition → Place → Type 0) → Type 0
-NoneFails FailsSo = (c : Condition) (place : Place) → FailsSo c place → ⊥
 
 -- no condition on a token fails, and it processes to this payload
 pub record IsChecked (token : Token) (rules : Rules) (marked : Marked) : Type 0 where

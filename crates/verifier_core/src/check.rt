@@ -12,19 +12,19 @@ ghost use Rattle.rebuild_core.specs.Conditions.{IsSound};
 ghost use Rattle.rebuild_core.specs.Given.{look_ups, counted, RoseWithin};
 ghost use Rattle.rebuild_core.specs.Opening.{processed};
 ghost use Rattle.rebuild_core.specs.Payload.{without_alg};
-ghost use Rattle.verifier_core.specs.Verdict.{TokenFails, IsLowest, IsChecked, IsCheckedAs, HasContent};
-ghost use Rattle.verifier_core.specs.Check.{OnFault, HasHash, IsCounted, IsCountedWithin, IsUncounted, Passes, IsUnopened, asked, compact, placed, refusal_of};
+ghost use Rattle.verifier_core.specs.Verdict.{TokenFails, IsChecked, IsCheckedAs, HasContent};
+ghost use Rattle.verifier_core.specs.Check.{OnFault, HasHash, IsCounted, IsCountedWithin, IsUncounted, IsUnopened, asked, compact, placed, refusal_of};
+ghost use Rattle.compact_form.specs.Lowest.{IsLowest, Passes};
 ghost use Rattle.verifier_core.specs.declared.check.VerifyError.{VerifyError};
 
 use crate::check_given::{read_given, read_pieces};
 use crate::check_payload::read_payload;
 use crate::check_signed::check_signed;
-use crate::{
-    NAME_CLASH, REPEATED_DIGEST, REPEATED_DISCLOSURE, RESERVED_MISUSED, RESERVED_NAME, TOO_DEEP,
-    UNREFERENCED_DISCLOSURE, WRONG_SHAPE,
-};
 use claim_tree::{Tree, TreeMap};
-use compact_form::{Fault, JwtParts, JwtView, Place, View};
+use compact_form::{
+    Fault, NAME_CLASH, Place, REPEATED_DIGEST, REPEATED_DISCLOSURE, RESERVED_MISUSED,
+    RESERVED_NAME, TOO_DEEP, UNREFERENCED_DISCLOSURE, View, WRONG_SHAPE,
+};
 use digest_index::Steps;
 use digest_sites::GivenList;
 use disclosure::HashAlg;
@@ -93,16 +93,6 @@ fn refusal(error: ProcessError) -> VerifyError
     }
 }
 
-fn view_of(jwt: &JwtParts) -> JwtView<'_>
-    ensures { jwt_of result ≡ jwt.now }
-{
-    JwtView {
-        protected: jwt.protected.as_str(),
-        payload: jwt.payload.as_str(),
-        signature: jwt.signature.as_str(),
-    }
-}
-
 // What is read of a token.
 #[derive(Drop)]
 struct Content {
@@ -130,7 +120,7 @@ fn read_content(
     ensures as_many { IfOk result (λ c. length c.given ≡ length token.now.parts.disclosures) }
     ensures refused { IfErr result (λ e. OnFault e (IsLowest (TokenFails token.now (asked keys.now algs.now (option_copied typ.entry))))) }
 {
-    let signed = view_of(&token.parts.signed);
+    let signed = token.parts.signed.view();
     if let Err(error) = check_signed(alloc, signed, &token.outer, keys, algs, typ) {
         return Err(error);
     }

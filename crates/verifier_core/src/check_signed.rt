@@ -1,21 +1,23 @@
 // The header of a token, and its signature.
-ghost use Rattle.std.specs.Prelude.{◌≡◌, ℕ, IfOk, IfErr, OnOk, option_map};
+ghost use Rattle.std.specs.Prelude.{◌≡◌, ℕ, IfErr, OnOk, option_map};
 ghost use Rattle.std.specs.Option.{option_copied};
 ghost use Rattle.claim_tree.specs.Lists.{At as StandsAt};
 ghost use Rattle.compact_form.specs.Views.{jwt_of};
 ghost use Rattle.jws_part.specs.Header.{IsHeader};
-ghost use Rattle.verifier_core.specs.Verdict.{key_for as key_for_of, IsAlgRefused, IsTypeRefused, IsBadSignature};
-ghost use Rattle.verifier_core.specs.Check.{OnFault, asked, unplaced, Tells, IsSigned, IsSignedFault};
+ghost use Rattle.verifier_core.specs.Verdict.{key_for as key_for_of, IsAlgRefused, IsTypeRefused};
+ghost use Rattle.verifier_core.specs.Check.{OnFault, asked, Tells, IsSigned, IsSignedFault};
+ghost use Rattle.compact_form.specs.Lowest.{unplaced};
 ghost use Rattle.verifier_core.specs.declared.check.VerifyError as error;
 
 use crate::check::VerifyError;
-use crate::{ALG_REFUSED, BAD_SIGNATURE, HEADER_CRITICAL, ISSUER_KEY_UNKNOWN, TYPE_REFUSED};
-use b64url_text::{DecodeError, decode};
 use claim_tree::TreeMap;
-use compact_form::{Fault, HEADER_UNREADABLE, JwtView, Place};
-use hmac_sign::{Checker, Hs256Key, KeySet};
+use compact_form::{
+    ALG_REFUSED, BAD_SIGNATURE, Fault, HEADER_CRITICAL, HEADER_UNREADABLE, ISSUER_KEY_UNKNOWN,
+    JwtView, Place, TYPE_REFUSED,
+};
+use hmac_sign::{Hs256Key, KeySet};
 use jws_part::{HeaderError, read_header};
-use sd_outside::{NoMemory, TextBox, TextList};
+use sd_outside::{TextBox, TextList};
 use std::alloc::Global;
 
 // A condition that names no place.
@@ -79,16 +81,6 @@ fn is_type_refused(asked: Option<&TextBox>, typ: Option<&TextBox>) -> bool
     typ.as_str() != name.as_str()
 }
 
-fn is_signature_bad(alloc: Global, key: &Hs256Key, signed: JwtView<'_>) -> Result<bool, NoMemory>
-    ensures { IfOk result (λ bad. Tells bad (IsBadSignature key.now (jwt_of signed.entry))) }
-{
-    match decode(alloc, signed.signature.as_bytes()) {
-        Ok(signature) => Ok(!key.check(signed.protected, signed.payload, signature.bytes())),
-        Err(DecodeError::NotBase64) => Ok(true),
-        Err(DecodeError::Memory) => Err(NoMemory),
-    }
-}
-
 /// The conditions 5 to 10.
 pub(crate) fn check_signed(
     alloc: Global,
@@ -116,7 +108,8 @@ pub(crate) fn check_signed(
     let Some(key) = key_for(keys, header.kid.as_ref()) else {
         return Err(fails(ISSUER_KEY_UNKNOWN));
     };
-    if is_signature_bad(alloc, key, signed)? {
+    let is_good = key.check_text(alloc, signed.protected, signed.payload, signed.signature)?;
+    if !is_good {
         return Err(fails(BAD_SIGNATURE));
     }
     Ok(())

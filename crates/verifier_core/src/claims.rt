@@ -1,15 +1,18 @@
 // What a policy wants of the claims of the processed payload.
-ghost use Rattle.std.specs.Prelude.{◌≡◌, ◌≢◌, ◌↔◌, ◌⊎◌, ◌+ℤ◌, ◌≤ℤ◌, ◌<ℤ◌, ℕ, ℤ, pos, Some, None, codes, IsTrue, OnOk, IfErr, IfSome, IfNone};
-ghost use Rattle.claim_tree.specs.Tree.{Text, leaf, text, get as get_of, InRange, IsRanged};
+ghost use Rattle.std.specs.Prelude.{◌≡◌, ◌≢◌, ◌↔◌, ℕ, Some, None, codes, IsTrue, OnOk, IfErr, IfSome, IfNone};
+ghost use Rattle.claim_tree.specs.Tree.{Text, leaf, text, get as get_of, IsRanged};
 ghost use Rattle.claim_tree.specs.Lists.{At, IsLeast};
 ghost use Rattle.claim_tree.specs.View.{tree_of};
 ghost use Rattle.compact_form.specs.declared.fault.Place.TheVariants.{Nowhere};
-ghost use Rattle.verifier_core.specs.Verdict.{IsMoment, IsNoMoment, ClaimFails, IsLowest, NoneFails};
+ghost use Rattle.verifier_core.specs.Verdict.{ClaimFails};
+ghost use Rattle.compact_form.specs.Lowest.{IsLowest, NoneFails};
 
 use crate::Policy;
-use crate::conditions::{CLAIM_MISSING, EXPIRED, ISSUER_REFUSED, NOT_YET, TIME_UNREADABLE};
 use claim_tree::{Tree, get};
-use compact_form::{Fault, Place};
+use compact_form::{
+    CLAIM_MISSING, EXPIRED, Fault, ISSUER_REFUSED, NOT_YET, Place, TIME_UNREADABLE,
+};
+use jws_part::{is_expired, is_not_yet, is_time_unreadable};
 use sd_outside::{TextBox, TextList};
 
 // Whether the payload names this issuer.
@@ -46,58 +49,6 @@ fn first_missing(payload: &Tree, names: &TextList) -> Option<usize>
     None
 }
 
-// The whole number that a claim is.
-fn moment(payload: &Tree, name: &str) -> Option<i128>
-    requires { IsRanged (tree_of payload.now) }
-    ensures whole { IfSome result (IsMoment (tree_of payload.now) name.now) }
-    ensures none { IfNone result ((moment : ℤ) → IsMoment (tree_of payload.now) name.now moment → ⊥) }
-    ensures ranged { IfSome result InRange }
-{
-    match get(payload, name) {
-        Some(Tree::Whole(moment)) => Some(*moment),
-        _ => None,
-    }
-}
-
-// Whether a claim is there, and is no whole number.
-fn is_no_moment(payload: &Tree, name: &str) -> bool
-    ensures { IsTrue result ↔ IsNoMoment (tree_of payload.now) name.now }
-{
-    match get(payload, name) {
-        None | Some(Tree::Whole(_)) => false,
-        Some(_) => true,
-    }
-}
-
-// Whether a time of the payload is no whole number (RFC 7519 section 2).
-fn is_time_unreadable(payload: &Tree) -> bool
-    ensures { IsTrue result ↔ (IsNoMoment (tree_of payload.now) (codes "exp") ⊎ IsNoMoment (tree_of payload.now) (codes "nbf")) }
-{
-    is_no_moment(payload, "exp") || is_no_moment(payload, "nbf")
-}
-
-// Whether the token is expired, where the clocks may differ by the skew (RFC 7519 section 4.1.4).
-fn is_expired(payload: &Tree, skew: u32, now: u64) -> bool
-    requires { IsRanged (tree_of payload.now) }
-    ensures { IsTrue result ↔ ((moment : ℤ) × IsMoment (tree_of payload.now) (codes "exp") moment × ((moment +ℤ pos skew) ≤ℤ pos now)) }
-{
-    match moment(payload, "exp") {
-        Some(moment) => moment + i128::from(skew) <= i128::from(now),
-        None => false,
-    }
-}
-
-// Whether the token is not yet valid, where the clocks may differ by the skew (RFC 7519 section 4.1.5).
-fn is_early(payload: &Tree, skew: u32, now: u64) -> bool
-    requires { IsRanged (tree_of payload.now) }
-    ensures { IsTrue result ↔ ((moment : ℤ) × IsMoment (tree_of payload.now) (codes "nbf") moment × ((pos now +ℤ pos skew) <ℤ moment)) }
-{
-    match moment(payload, "nbf") {
-        Some(moment) => i128::from(now) + i128::from(skew) < moment,
-        None => false,
-    }
-}
-
 fn unplaced(number: u8) -> Fault
     ensures number { result.number ≡ number }
     ensures place { result.place ≡ Nowhere }
@@ -130,7 +81,7 @@ pub(crate) fn check_claims(payload: &Tree, policy: &Policy, now: u64) -> Result<
     if is_expired(payload, policy.skew, now) {
         return Err(unplaced(EXPIRED));
     }
-    if is_early(payload, policy.skew, now) {
+    if is_not_yet(payload, policy.skew, now) {
         return Err(unplaced(NOT_YET));
     }
     Ok(())

@@ -3,17 +3,11 @@ ghost use Rattle.std.specs.Prelude.{◌≡◌, ◌≢◌, ℕ, List, Some};
 ghost use Rattle.claim_tree.specs.declared.file_fault.FileFault.{FileFault};
 ghost use Rattle.compact_form.specs.declared.fault.Fault.{Fault};
 ghost use Rattle.marked_tree.specs.Marked.{Marked};
-ghost use Rattle.verifier_core.specs.Condition.{Condition, number_of, condition_of};
 ghost use Rattle.verifier_core.specs.FaultLine.{IsFault, IsFaultLine};
 ghost use Rattle.verifier_core.specs.PolicyFile.{IsPolicyFile, IsPolicyRefused};
-ghost use Rattle.verifier_core.specs.Verdict.{Fails, IsLowest, IsAccepted};
+ghost use Rattle.verifier_core.specs.Verdict.{Fails, IsAccepted};
+ghost use Rattle.compact_form.specs.Lowest.{IsLowest};
 ghost use Rattle.verifier_core.specs.declared.policy.Policy.{Policy};
-
-/// A condition has a number of its own, under which it is found.
-pub fn one_condition()
-    ensures one { (condition other : Condition) → number_of condition ≡ number_of other → condition ≡ other }
-    ensures found { (condition : Condition) → condition_of (number_of condition) ≡ Some condition }
-{}
 
 /// A fault of a condition has one line.
 pub fn one_line()

@@ -15,7 +15,6 @@ mod claims;
 mod claims_tests;
 #[cfg(test)]
 mod condition_tests;
-mod conditions;
 pub mod laws;
 mod policy;
 mod refusal;
@@ -28,14 +27,6 @@ mod verdict;
 mod verify_tests;
 
 pub use check::{Checked, VerifyError, check_token, check_view};
-pub use conditions::{
-    ALG_REFUSED, AUDIENCE_DIFFERS, BAD_SIGNATURE, BINDING_ALG, BINDING_EARLY, BINDING_HEADER,
-    BINDING_MISSING, BINDING_PAYLOAD, BINDING_SIGNATURE, BINDING_STALE, BINDING_TIME, BINDING_TYPE,
-    CLAIM_MISSING, EXPIRED, HASH_DIFFERS, HEADER_CRITICAL, HOLDER_KEY_UNKNOWN, ISSUER_KEY_UNKNOWN,
-    ISSUER_REFUSED, NAME_CLASH, NONCE_DIFFERS, NOT_YET, REPEATED_DIGEST, REPEATED_DISCLOSURE,
-    RESERVED_MISUSED, RESERVED_NAME, TIME_UNREADABLE, TOO_DEEP, TYPE_REFUSED,
-    UNREFERENCED_DISCLOSURE, WRONG_SHAPE,
-};
 pub use policy::{Policy, SKEW_MAX, keys_member, read_policy};
 pub use refusal::fault_line;
 pub use verdict::{Accepted, verify, verify_payload};

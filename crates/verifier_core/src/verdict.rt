@@ -6,7 +6,8 @@ ghost use Rattle.marked_tree.specs.Marked.{strip as strip_of};
 ghost use Rattle.marked_tree.specs.View.{marked_of};
 ghost use Rattle.json_form.specs.declared.token.Token.{Token as SeenToken};
 ghost use Rattle.json_form.specs.Token.{IsToken};
-ghost use Rattle.verifier_core.specs.Verdict.{Fails, IsLowest, IsAccepted, IsAcceptedAs};
+ghost use Rattle.verifier_core.specs.Verdict.{Fails, IsAccepted, IsAcceptedAs};
+ghost use Rattle.compact_form.specs.Lowest.{IsLowest};
 ghost use Rattle.verifier_core.specs.Check.{OnFault, IsCounted, IsReadWithin, IsUncounted};
 
 use crate::check::checked_payload;

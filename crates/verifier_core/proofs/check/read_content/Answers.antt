@@ -10,23 +10,23 @@ pub returns-in-Err-clause-refused : goal.returns-in-Err-clause-refused
 returns-in-Err-clause-refused c =
     let token = c.args.token.now in
     let rules = asked c.args.keys.now c.args.algs.now (option_copied c.args.typ) in
-    on_fault c.in-Err.error _ _ (λ f h. signed_fault token rules f (subst (λ s. IsSignedFault s token.outer rules f) c.view_of-signed.ensures h)) c.in-Err.ensures.refused
+    on_fault c.in-Err.error _ _ (λ f h. signed_fault token rules f (subst (λ s. IsSignedFault s token.outer rules f) c.view-signed.ensures h)) c.in-Err.ensures.refused
 
 pub returns-in-Err-read_payload-clause-refused : goal.returns-in-Err-read_payload-clause-refused
 returns-in-Err-read_payload-clause-refused c =
     let token = c.args.token.now in
     let rules = asked c.args.keys.now c.args.algs.now (option_copied c.args.typ) in
-    let part = ap (λ j. j.payload) c.view_of-signed.ensures in
-    let passes = signed_passes token rules (subst (λ s. IsSigned s token.outer rules) c.view_of-signed.ensures c.in_default.ensures.ok) in
+    let part = ap (λ j. j.payload) c.view-signed.ensures in
+    let passes = signed_passes token rules (subst (λ s. IsSigned s token.outer rules) c.view-signed.ensures c.in_default.ensures.ok) in
     on_fault c.in-Err-read_payload.error _ _ (λ f h. payload_fault token rules f passes (subst (λ p. IsPayloadFault p f) part h)) c.in-Err-read_payload.ensures.refused
 
 pub returns-in-Err-read_given-clause-refused : goal.returns-in-Err-read_given-clause-refused
 returns-in-Err-read_given-clause-refused c =
     let token = c.args.token.now in
     let rules = asked c.args.keys.now c.args.algs.now (option_copied c.args.typ) in
-    let part = ap (λ j. j.payload) c.view_of-signed.ensures in
+    let part = ap (λ j. j.payload) c.view-signed.ensures in
     let body = tree_of c.in-Ok.read.0 in
-    let passes = signed_passes token rules (subst (λ s. IsSigned s token.outer rules) c.view_of-signed.ensures c.in_default.ensures.ok) in
+    let passes = signed_passes token rules (subst (λ s. IsSigned s token.outer rules) c.view-signed.ensures c.in_default.ensures.ok) in
     let read = payload_passes token rules body c.in-Ok.read.1 passes (subst (λ p. IsBody p body) part c.in-Ok.ensures.ok) c.in-Ok.ensures.hash in
     on_fault c.in-Err-read_given.error _ _ (λ f h. given_fault token rules c.in-Ok.read.1 f read h) c.in-Err-read_given.ensures.refused
 
@@ -34,14 +34,14 @@ pub returns-clause-passes : goal.returns-clause-passes
 returns-clause-passes c =
     let token = c.args.token.now in
     let rules = asked c.args.keys.now c.args.algs.now (option_copied c.args.typ) in
-    let part = ap (λ j. j.payload) c.view_of-signed.ensures in
+    let part = ap (λ j. j.payload) c.view-signed.ensures in
     let body = tree_of c.in-Ok.read.0 in
-    let passes = signed_passes token rules (subst (λ s. IsSigned s token.outer rules) c.view_of-signed.ensures c.in_default.ensures.ok) in
+    let passes = signed_passes token rules (subst (λ s. IsSigned s token.outer rules) c.view-signed.ensures c.in_default.ensures.ok) in
     let read = payload_passes token rules body c.in-Ok.read.1 passes (subst (λ p. IsBody p body) part c.in-Ok.ensures.ok) c.in-Ok.ensures.hash in
     given_passes token rules c.in-Ok.read.1 c.in-Ok-read_given.given read c.in-Ok-read_given.ensures.ok
 
 pub returns-clause-payload : goal.returns-clause-payload
-returns-clause-payload c = is_payload c.view_of-signed.result.payload.now (tree_of c.in-Ok.read.0) c.in-Ok.read.1 c.in-Ok.ensures.ok c.in-Ok.ensures.hash
+returns-clause-payload c = is_payload c.view-signed.result.payload.now (tree_of c.in-Ok.read.0) c.in-Ok.read.1 c.in-Ok.ensures.ok c.in-Ok.ensures.hash
 
 pub returns-clause-as_many : goal.returns-clause-as_many
 returns-clause-as_many c = zip_length c.in-Ok.read.1 c.args.token.now.parts.disclosures c.in-Ok-read_given.given c.in-Ok-read_given.ensures.ok

@@ -1,8 +1,9 @@
 use Rattle.std.proofs.Common.{◌≡◌, true, false, refl}
 use Rattle.claim_tree.specs.View.{tree_of}
-use Rattle.verifier_core.specs.Condition.{issuer_refused, claim_missing, time_unreadable, expired, not_yet}
+use Rattle.compact_form.specs.Condition.{issuer_refused, claim_missing, time_unreadable, expired, not_yet}
 use Rattle.verifier_core.specs.Verdict.{ClaimFails}
-use Rattle.verifier_core.proofs.Lowest.{lowest_at, lowest_unplaced, first_numbered}
+use Rattle.compact_form.proofs.Lowest.{lowest_at, lowest_unplaced}
+use Rattle.verifier_core.proofs.LeastPlaces.{first_numbered}
 use Rattle.verifier_core.proofs.ClaimSteps.{before_issuer, before_missing, before_times, before_expiry, before_start}
 use Rattle.verifier_core.proofs.claims.check_claims.Goals as goal
 
@@ -47,8 +48,8 @@ returns-then-is_expired-clause-lowest c =
     let fault = c.unplaced-then-is_expired in
     lowest_unplaced (ClaimFails payload policy now) expired fault.result fault.ensures.number fault.ensures.place times (refl, c.if-is_expired.ensures.0 refl)
 
-pub returns-then-is_early-clause-lowest : goal.returns-then-is_early-clause-lowest
-returns-then-is_early-clause-lowest c =
+pub returns-then-is_not_yet-clause-lowest : goal.returns-then-is_not_yet-clause-lowest
+returns-then-is_not_yet-clause-lowest c =
     let payload = tree_of c.args.payload.now in
     let policy = c.args.policy.now in
     let now = c.args.now in
@@ -56,5 +57,5 @@ returns-then-is_early-clause-lowest c =
     let claims = before_times payload policy now issuer c.in_default.ensures.none in
     let times = before_expiry payload policy now claims (λ h. no_truth (c.if-is_time_unreadable.ensures.1 h)) in
     let expiry = before_start payload policy now times (λ h. no_truth (c.if-is_expired.ensures.1 h)) in
-    let fault = c.unplaced-then-is_early in
-    lowest_unplaced (ClaimFails payload policy now) not_yet fault.result fault.ensures.number fault.ensures.place expiry (refl, c.if-is_early.ensures.0 refl)
+    let fault = c.unplaced-then-is_not_yet in
+    lowest_unplaced (ClaimFails payload policy now) not_yet fault.result fault.ensures.number fault.ensures.place expiry (refl, c.if-is_not_yet.ensures.0 refl)

@@ -2,9 +2,10 @@ use Rattle.std.proofs.Common.{◌≡◌, ap, subst}
 use Rattle.std.specs.Option.{option_copied}
 use Rattle.claim_tree.specs.Tree.{Tree}
 use Rattle.marked_tree.specs.View.{marked_of}
-use Rattle.verifier_core.specs.Verdict.{Rules, TokenFails, ClaimFails, Fails, IsLowest, IsChecked, rules_of}
+use Rattle.verifier_core.specs.Verdict.{Rules, TokenFails, ClaimFails, Fails, IsChecked, rules_of}
+use Rattle.compact_form.specs.Lowest.{IsLowest}
 use Rattle.compact_form.specs.declared.fault.Place.{Place}
-use Rattle.verifier_core.specs.Condition.{Condition}
+use Rattle.compact_form.specs.Condition.{Condition}
 use Rattle.verifier_core.specs.Check.{asked, compact}
 use Rattle.verifier_core.proofs.CheckSteps.{on_fault}
 use Rattle.verifier_core.proofs.Verdicts.{few, is_compact, file_lowest, token_lowest, claims_lowest, accepted}

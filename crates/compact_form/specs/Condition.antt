@@ -1,6 +1,5 @@
 -- The conditions of a verifier, in the order in which they are judged: their numbers and their printed names.
 use Rattle.std.specs.Prelude.{ℕ, ◌==◌, List, [], ◌∷◌, Option, codes, find}
-use Rattle.claim_tree.specs.Tree.{Text}
 
 -- each is named for its failure
 pub data Condition : Type 0 where
@@ -121,7 +120,7 @@ number_of audience_differs = 36
 number_of hash_differs = 37
 number_of binding_time = 38
 
-abbrev pub name_of : Condition → Text
+abbrev pub name_of : Condition → List ℕ
 name_of too_long = codes "tooLong"
 name_of form = codes "form"
 name_of too_much = codes "tooMuch"

@@ -1,13 +1,11 @@
 -- The lowest condition that fails, sought step by step.
-use Rattle.std.proofs.Common.{◌≡◌, ℕ, suc, ◌<◌, ◌≤◌, ◌⊎◌, inl, inr, ⊎_elim, sym, subst, arith}
+use Rattle.std.proofs.Common.{◌≡◌, ℕ, suc, ◌<◌, ◌≤◌, ◌⊎◌, inl, inr, ⊎_elim, refl, sym, subst, arith}
 use Rattle.compact_form.specs.declared.fault.Fault.{Fault}
 use Rattle.compact_form.specs.declared.fault.Place.{Place}
-use Rattle.compact_form.specs.declared.fault.Place.TheVariants.{Nowhere, At}
-use Rattle.claim_tree.specs.Lists.{IsLeast, Nowhere as NoPlace}
-use Rattle.verifier_core.specs.Condition.{Condition, number_of}
-use Rattle.verifier_core.specs.Verdict.{Numbered, IsNoLater, IsLowest, NoneFails}
-use Rattle.verifier_core.specs.Check.{Passes}
-use Rattle.verifier_core.proofs.Numbers.{one_condition}
+use Rattle.compact_form.specs.declared.fault.Place.TheVariants.{Nowhere}
+use Rattle.compact_form.specs.Condition.{Condition, number_of}
+use Rattle.compact_form.specs.Lowest.{IsNoLater, IsLowest, NoneFails, Passes, unplaced}
+use Rattle.compact_form.proofs.Numbers.{one_condition}
 
 -- the condition fails at no place
 abbrev pub Holds : (Condition → Place → Type 0) → Condition → Type 0
@@ -49,13 +47,7 @@ nowhere_first fault is place = subst (λ p. IsNoLater p place) (sym is) tt
 pub lowest_unplaced : (FailsSo : Condition → Place → Type 0) (failed : Condition) (fault : Fault) → fault.number ≡ number_of failed → fault.place ≡ Nowhere → Passes (number_of failed) FailsSo → FailsSo failed Nowhere → IsLowest FailsSo fault
 lowest_unplaced FailsSo failed fault number_is place_is below fails = lowest_at FailsSo failed fault number_is below (subst (FailsSo failed) (sym place_is) fails) (λ place _. nowhere_first fault place_is place)
 
--- a least number is the least place
-pub first_numbered : (FailsAt : ℕ → Type 0) (i : ℕ) → IsLeast FailsAt i → (place : Place) → Numbered FailsAt place → IsNoLater (At i) place
-first_numbered FailsAt i least place h = subst (λ p. IsNoLater (At i) p) (sym h.1) (not_below i h.0 (λ less. least.first h.0 less h.2))
-  where
-    not_below : (a b : ℕ) → (b < a → ⊥) → a ≤ b
-    not_below a b h = grind arith
-
--- no number, no place
-pub none_numbered : (FailsAt : ℕ → Type 0) → NoPlace FailsAt → (place : Place) → Numbered FailsAt place → ⊥
-none_numbered FailsAt none place h = none h.0 h.2
+-- a condition without a place
+pub refuse_unplaced : (FailsSo : Condition → Place → Type 0) (d : Condition) (fault : Fault) → fault ≡ unplaced (number_of d) → Passes (number_of d) FailsSo → FailsSo d Nowhere → IsLowest FailsSo fault
+refuse_unplaced FailsSo d fault is passes fails =
+    subst (IsLowest FailsSo) (sym is) (lowest_at FailsSo d (unplaced (number_of d)) refl passes fails (λ place h. tt))

@@ -1,7 +1,19 @@
-// The numbers of the conditions of a verifier, beside those that `compact_form` names.
+// The numbers of the conditions of a verifier, RFC 9901 section 7.3.
+
+/// The number of the condition that a token is short enough.
+pub const TOO_LONG: u8 = 1;
+
+/// The number of the condition that a token has a form of RFC 9901 section 4 or 8.
+pub const FORM: u8 = 2;
+
+/// The number of the condition that a token has few enough disclosures.
+pub const TOO_MUCH: u8 = 3;
 
 /// The number of the condition that there is a key binding token.
 pub const BINDING_MISSING: u8 = 4;
+
+/// The number of the condition that the header of a token is read.
+pub const HEADER_UNREADABLE: u8 = 5;
 
 /// The number of the condition that no header has `crit`.
 pub const HEADER_CRITICAL: u8 = 6;
@@ -17,6 +29,15 @@ pub const ISSUER_KEY_UNKNOWN: u8 = 9;
 
 /// The number of the condition that the issuer's signature is good.
 pub const BAD_SIGNATURE: u8 = 10;
+
+/// The number of the condition that the payload of a token is read.
+pub const PAYLOAD_UNREADABLE: u8 = 11;
+
+/// The number of the condition that the hash that a payload names is known.
+pub const HASH_UNKNOWN: u8 = 12;
+
+/// The number of the condition that each disclosure is read.
+pub const DISCLOSURE_UNREADABLE: u8 = 13;
 
 /// The number of the condition that no two disclosures have one digest.
 pub const REPEATED_DISCLOSURE: u8 = 14;

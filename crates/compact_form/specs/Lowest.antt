@@ -1,0 +1,39 @@
+-- What fails a condition, at which place, and the lowest condition that fails.
+use Rattle.std.specs.Prelude.{◌≡◌, ℕ, ◌<◌, ◌≤◌, ◌⊎◌}
+use Rattle.compact_form.specs.declared.fault.Fault.{Fault}
+use Rattle.compact_form.specs.declared.fault.Place.{Place}
+use Rattle.compact_form.specs.declared.fault.Place.TheVariants.{Nowhere, At}
+use Rattle.compact_form.specs.Condition.{Condition, number_of}
+
+-- the condition names no place
+abbrev pub Unplaced : Type 0 → Place → Type 0
+Unplaced IsFailed place = (place ≡ Nowhere) × IsFailed
+
+-- the condition fails at a number
+abbrev pub Numbered : (ℕ → Type 0) → Place → Type 0
+Numbered FailsAt place = (i : ℕ) × (place ≡ At i) × FailsAt i
+
+-- the fault of a condition that names no place
+abbrev pub unplaced : ℕ → Fault
+unplaced number = record { number = number; place = Nowhere }
+
+-- places of one condition, in their order
+abbrev pub IsNoLater : Place → Place → Type 0
+IsNoLater (At i) (At j) = i ≤ j
+IsNoLater _ _ = Unit {0}
+
+-- a condition fails, with its number and at its least place, and none lower
+pub record IsLowest (FailsSo : Condition → Place → Type 0) (fault : Fault) : Type 0 where
+  pub failed : Condition
+  pub number_is : fault.number ≡ number_of failed
+  pub fails : FailsSo failed fault.place
+  pub lowest : (other : Condition) (place : Place) → FailsSo other place → (number_of failed < number_of other) ⊎ ((other ≡ failed) × IsNoLater fault.place place)
+
+abbrev pub NoneFails : (Condition → Place → Type 0) → Type 0
+NoneFails FailsSo = (c : Condition) (place : Place) → FailsSo c place → ⊥
+
+-- ---- for private functions
+
+-- none with a lower number fails
+abbrev pub Passes : ℕ → (Condition → Place → Type 0) → Type 0
+Passes k FailsSo = (c : Condition) (place : Place) → FailsSo c place → k ≤ number_of c

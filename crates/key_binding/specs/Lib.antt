@@ -1,0 +1,5 @@
+pub mod Binding
+pub mod Judged
+pub mod BindingConditions
+pub mod Unsigned
+pub mod Read

@@ -1,0 +1,186 @@
+// The conditions 27 to 38, in their order.
+ghost use Rattle.std.specs.Prelude.{◌≡◌, ◌≢◌, ◌↔◌, ◌⊎◌, Some, codes, IsTrue, OnOk, IfErr};
+ghost use Rattle.std.specs.Option.{option_copied};
+ghost use Rattle.claim_tree.specs.Tree.{InRange, IsRanged};
+ghost use Rattle.claim_tree.specs.View.{tree_of};
+ghost use Rattle.compact_form.specs.Lowest.{IsLowest, NoneFails, Passes, unplaced};
+ghost use Rattle.key_binding.specs.Judged.{Judged, judged, judged_of, holder_key as holder_key_of, HasClaims};
+ghost use Rattle.key_binding.specs.BindingConditions.{BindingFails, OnFault, IsTimeRefused};
+ghost use Rattle.key_binding.specs.Read.{claims_of};
+
+use crate::holder::holder_key;
+use crate::reading::{Claims, read_claims};
+use crate::{BindingError, BindingPolicy};
+use claim_tree::{Tree, TreeMap};
+use compact_form::{
+    AUDIENCE_DIFFERS, BINDING_ALG, BINDING_EARLY, BINDING_HEADER, BINDING_PAYLOAD,
+    BINDING_SIGNATURE, BINDING_STALE, BINDING_TIME, BINDING_TYPE, HASH_DIFFERS, HOLDER_KEY_UNKNOWN,
+    JwtParts, JwtView, NONCE_DIFFERS,
+};
+use disclosure::{HashAlg, digest};
+use hmac_sign::Hs256Key;
+use jws_part::{
+    BodyError, HeaderError, is_expired, is_not_yet, is_time_unreadable, read_body, read_header,
+};
+use sd_outside::TextBox;
+use std::alloc::Global;
+
+/// A key binding token, and what it is judged by.
+#[derive(Clone, Copy)]
+pub struct Bound<'a> {
+    /// The key binding token.
+    pub token: JwtView<'a>,
+    /// The processed payload of the token that it is sent with.
+    pub payload: &'a Tree,
+    pub policy: &'a BindingPolicy,
+    /// By how many seconds clocks may differ.
+    pub skew: u32,
+    /// The hash of the token that it is sent with.
+    pub hash: HashAlg,
+    /// The text of that token up to and with its last tilde.
+    pub hashed: &'a str,
+    /// The moment, in seconds since 1970.
+    pub now: u64,
+}
+
+/// Judges a key binding token, RFC 9901 section 7.3, at a moment in seconds since 1970.
+///
+/// `payload` is the processed payload of the token that it is sent with, `hash` the algorithm of its digests, and `hashed` its
+/// text up to and with the last tilde. The conditions 27 to 38 are judged in the order of their numbers, and the first that fails
+/// is answered.
+pub fn check_binding(
+    alloc: Global,
+    token: &JwtParts,
+    payload: &Tree,
+    policy: &BindingPolicy,
+    skew: u32,
+    hash: HashAlg,
+    hashed: &str,
+    now: u64,
+) -> Result<(), BindingError>
+    ensures passes { OnOk result (NoneFails (BindingFails (judged token.now (tree_of payload.now) policy.now skew hash hashed.now now))) }
+    ensures refused { IfErr result (λ e. OnFault e (λ number. IsLowest (BindingFails (judged token.now (tree_of payload.now) policy.now skew hash hashed.now now)) (unplaced number))) }
+{
+    let bound = Bound {
+        token: token.view(),
+        payload,
+        policy,
+        skew,
+        hash,
+        hashed,
+        now,
+    };
+    check_bound(alloc, bound)
+}
+
+/// The same of borrowed texts, with no copy.
+pub fn check_bound(alloc: Global, bound: Bound<'_>) -> Result<(), BindingError>
+    ensures passes { OnOk result (NoneFails (BindingFails (judged_of bound.entry))) }
+    ensures refused { IfErr result (λ e. OnFault e (λ number. IsLowest (BindingFails (judged_of bound.entry)) (unplaced number))) }
+{
+    let Some(key) = holder_key(&bound.policy.keys, bound.payload) else {
+        return Err(BindingError::Fault(HOLDER_KEY_UNKNOWN));
+    };
+    if let Err(error) = check_signed(alloc, bound, key) {
+        return Err(error);
+    }
+    check_payload(alloc, bound)
+}
+
+fn is_binding_type(typ: Option<&TextBox>) -> bool
+    ensures { IsTrue result ↔ (option_copied typ.entry ≡ Some (codes "kb+jwt")) }
+{
+    match typ {
+        Some(typ) => typ.as_str() == "kb+jwt",
+        None => false,
+    }
+}
+
+// 28 to 31.
+fn check_signed(alloc: Global, bound: Bound<'_>, key: &Hs256Key) -> Result<(), BindingError>
+    requires key { holder_key_of bound.policy.now.keys (tree_of bound.payload.now) ≡ Some key.now }
+    ensures ok { OnOk result (Passes 32 (BindingFails (judged_of bound.entry))) }
+    ensures refused { IfErr result (λ e. OnFault e (λ number. IsLowest (BindingFails (judged_of bound.entry)) (unplaced number))) }
+{
+    let JwtView {
+        protected,
+        payload,
+        signature,
+    } = bound.token;
+    let header = match read_header(alloc, protected, &TreeMap::new(alloc)) {
+        Ok(header) => header,
+        Err(HeaderError::Memory) => return Err(BindingError::Memory),
+        Err(HeaderError::Unreadable) => return Err(BindingError::Fault(BINDING_HEADER)),
+        Err(HeaderError::Critical) => return Err(BindingError::Fault(BINDING_HEADER)),
+    };
+    if header.alg.as_str() != "HS256" {
+        return Err(BindingError::Fault(BINDING_ALG));
+    }
+    if !key.check_text(alloc, protected, payload, signature)? {
+        return Err(BindingError::Fault(BINDING_SIGNATURE));
+    }
+    if !is_binding_type(header.typ.as_ref()) {
+        return Err(BindingError::Fault(BINDING_TYPE));
+    }
+    Ok(())
+}
+
+// 32 to 38.
+fn check_payload(alloc: Global, bound: Bound<'_>) -> Result<(), BindingError>
+    requires below { Passes 32 (BindingFails (judged_of bound)) }
+    ensures passes { OnOk result (NoneFails (BindingFails (judged_of bound.entry))) }
+    ensures refused { IfErr result (λ e. OnFault e (λ number. IsLowest (BindingFails (judged_of bound.entry)) (unplaced number))) }
+{
+    let body = match read_body(alloc, bound.token.payload) {
+        Ok(body) => body,
+        Err(BodyError::Memory) => return Err(BindingError::Memory),
+        Err(BodyError::Unreadable) => return Err(BindingError::Fault(BINDING_PAYLOAD)),
+    };
+    let Some(claims) = read_claims(&body) else {
+        return Err(BindingError::Fault(BINDING_PAYLOAD));
+    };
+    if let Err(number) = check_claims(bound, claims) {
+        return Err(BindingError::Fault(number));
+    }
+    let digest = digest(alloc, bound.hash, bound.hashed)?;
+    if claims.sd_hash != digest.as_str() {
+        return Err(BindingError::Fault(HASH_DIFFERS));
+    }
+    if is_time_refused(&body, bound.skew, bound.now) {
+        return Err(BindingError::Fault(BINDING_TIME));
+    }
+    Ok(())
+}
+
+// 33 to 36.
+fn check_claims(bound: Bound<'_>, claims: Claims<'_>) -> Result<(), u8>
+    requires below { Passes 33 (BindingFails (judged_of bound)) }
+    requires read { HasClaims (judged_of bound).token (claims_of claims) }
+    requires ranged { InRange claims.iat }
+    ensures ok { OnOk result (Passes 37 (BindingFails (judged_of bound.entry))) }
+    ensures refused { IfErr result (λ number. IsLowest (BindingFails (judged_of bound.entry)) (unplaced number)) }
+{
+    let skew = i128::from(bound.skew);
+    let now = i128::from(bound.now);
+    if claims.iat + i128::from(bound.policy.max_age) + skew < now {
+        return Err(BINDING_STALE);
+    }
+    if now + skew < claims.iat {
+        return Err(BINDING_EARLY);
+    }
+    if claims.nonce != bound.policy.nonce.as_str() {
+        return Err(NONCE_DIFFERS);
+    }
+    if claims.aud != bound.policy.aud.as_str() {
+        return Err(AUDIENCE_DIFFERS);
+    }
+    Ok(())
+}
+
+// Whether the token's own times are no whole numbers, or do not hold.
+fn is_time_refused(body: &Tree, skew: u32, now: u64) -> bool
+    requires { IsRanged (tree_of body.now) }
+    ensures { IsTrue result ↔ IsTimeRefused (tree_of body.now) skew now }
+{
+    is_time_unreadable(body) || is_expired(body, skew, now) || is_not_yet(body, skew, now)
+}

@@ -1,0 +1,30 @@
+//! What the definitions of both ends say together. Each law holds for every value.
+ghost use Rattle.std.specs.Prelude.{◌≡◌, ◌<◌, ◌≤◌, ◌^◌, ◌+◌, ℕ, List, Some, length};
+ghost use Rattle.compact_form.specs.Compact.{jwt};
+ghost use Rattle.compact_form.specs.Lowest.{NoneFails};
+ghost use Rattle.compact_form.specs.declared.parts.JwtParts.{JwtParts};
+ghost use Rattle.disclosure.specs.declared.digests.HashAlg.{HashAlg};
+ghost use Rattle.hmac_sign.specs.Hmac.{IsGood};
+ghost use Rattle.key_binding.specs.Binding.{IsBinding, IsReadBack};
+ghost use Rattle.key_binding.specs.BindingConditions.{BindingFails};
+ghost use Rattle.key_binding.specs.Judged.{Judged, holder_key};
+
+/// What is bound is accepted: by the holder's key, for this audience and nonce, and over this text, as long as it is fresh. It is
+/// so at the very second of each limit.
+pub fn bound_is_accepted()
+    ensures { (key : List ℕ) (iat : ℕ) (j : Judged)
+        → IsBinding (IsGood key) j.hash j.hashed j.policy.aud j.policy.nonce iat j.token
+        → IsReadBack j.hash j.hashed j.policy.aud j.policy.nonce iat j.token
+        → holder_key j.policy.keys j.payload ≡ Some key
+        → j.now ≤ iat + j.policy.max_age + j.skew
+        → iat ≤ j.now + j.skew
+        → NoneFails (BindingFails j) }
+{}
+
+/// A key binding token is short: an audience and a nonce of at most 256 bytes each make fewer than 5,000 bytes.
+pub fn bound_is_short()
+    ensures { (key : List ℕ) (hash : HashAlg) (hashed aud nonce : List ℕ) (iat : ℕ) (token : JwtParts)
+        → length aud ≤ 256 → length nonce ≤ 256 → iat < 2 ^ 64
+        → IsBinding (IsGood key) hash hashed aud nonce iat token
+        → length (jwt token) < 5000 }
+{}
