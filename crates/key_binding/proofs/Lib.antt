@@ -1,0 +1,2 @@
+pub mod BindingSteps
+pub mod BindingTests

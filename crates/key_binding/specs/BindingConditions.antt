@@ -32,12 +32,12 @@ abbrev pub IsBadSignature : Judged → Type 0
 IsBadSignature j = (key : List ℕ) × (holder_key j.policy.keys j.payload ≡ Some key) × (IsGoodText key j.token.protected j.token.payload j.token.signature → ⊥)
 
 -- it was made too long ago; sums have no limit
-abbrev pub IsStale : Judged → ℤ → Type 0
-IsStale j iat = ((iat +ℤ pos j.policy.max_age) +ℤ pos j.skew) <ℤ pos j.now
+abbrev pub IsStale : ℤ → ℕ → ℕ → ℕ → Type 0
+IsStale iat max_age skew now = ((iat +ℤ pos max_age) +ℤ pos skew) <ℤ pos now
 
 -- it is of the future
-abbrev pub IsEarly : Judged → ℤ → Type 0
-IsEarly j iat = (pos j.now +ℤ pos j.skew) <ℤ iat
+abbrev pub IsEarly : ℤ → ℕ → ℕ → Type 0
+IsEarly iat skew now = (pos now +ℤ pos skew) <ℤ iat
 
 -- its own times are no whole numbers, or do not hold
 abbrev pub IsTimeRefused : Tree → ℕ → ℕ → Type 0
@@ -51,8 +51,8 @@ BindingFails j condition.binding_alg place = Unplaced (OfHeader j (λ header. he
 BindingFails j condition.binding_signature place = Unplaced (IsBadSignature j) place
 BindingFails j condition.binding_type place = Unplaced (OfHeader j (λ header. header.typ ≢ Some (codes "kb+jwt"))) place
 BindingFails j condition.binding_payload place = Unplaced ((claims : Claims) → HasClaims j.token claims → ⊥) place
-BindingFails j condition.binding_stale place = Unplaced (OfClaims j (λ claims. IsStale j claims.iat)) place
-BindingFails j condition.binding_early place = Unplaced (OfClaims j (λ claims. IsEarly j claims.iat)) place
+BindingFails j condition.binding_stale place = Unplaced (OfClaims j (λ claims. IsStale claims.iat j.policy.max_age j.skew j.now)) place
+BindingFails j condition.binding_early place = Unplaced (OfClaims j (λ claims. IsEarly claims.iat j.skew j.now)) place
 BindingFails j condition.nonce_differs place = Unplaced (OfClaims j (λ claims. claims.nonce ≢ j.policy.nonce)) place
 BindingFails j condition.audience_differs place = Unplaced (OfClaims j (λ claims. claims.aud ≢ j.policy.aud)) place
 BindingFails j condition.hash_differs place = Unplaced (OfClaims j (λ claims. claims.sd_hash ≢ digest_of j.hash j.hashed)) place

@@ -5,7 +5,7 @@ ghost use Rattle.claim_tree.specs.Tree.{InRange, IsRanged};
 ghost use Rattle.claim_tree.specs.View.{tree_of};
 ghost use Rattle.compact_form.specs.Lowest.{IsLowest, NoneFails, Passes, unplaced};
 ghost use Rattle.key_binding.specs.Judged.{Judged, judged, judged_of, holder_key as holder_key_of, HasClaims};
-ghost use Rattle.key_binding.specs.BindingConditions.{BindingFails, OnFault, IsTimeRefused};
+ghost use Rattle.key_binding.specs.BindingConditions.{BindingFails, OnFault, IsStale, IsEarly, IsTimeRefused};
 ghost use Rattle.key_binding.specs.Read.{claims_of};
 
 use crate::holder::holder_key;
@@ -160,12 +160,10 @@ fn check_claims(bound: Bound<'_>, claims: Claims<'_>) -> Result<(), u8>
     ensures ok { OnOk result (Passes 37 (BindingFails (judged_of bound.entry))) }
     ensures refused { IfErr result (λ number. IsLowest (BindingFails (judged_of bound.entry)) (unplaced number)) }
 {
-    let skew = i128::from(bound.skew);
-    let now = i128::from(bound.now);
-    if claims.iat + i128::from(bound.policy.max_age) + skew < now {
+    if is_stale(&claims, bound.policy.max_age, bound.skew, bound.now) {
         return Err(BINDING_STALE);
     }
-    if now + skew < claims.iat {
+    if is_early(&claims, bound.skew, bound.now) {
         return Err(BINDING_EARLY);
     }
     if claims.nonce != bound.policy.nonce.as_str() {
@@ -183,4 +181,20 @@ fn is_time_refused(body: &Tree, skew: u32, now: u64) -> bool
     ensures { IsTrue result ↔ IsTimeRefused (tree_of body.now) skew now }
 {
     is_time_unreadable(body) || is_expired(body, skew, now) || is_not_yet(body, skew, now)
+}
+
+// Whether the token was made too long ago.
+fn is_stale(claims: &Claims<'_>, max_age: u32, skew: u32, now: u64) -> bool
+    requires { InRange claims.now.iat }
+    ensures { IsTrue result ↔ IsStale claims.now.iat max_age skew now }
+{
+    claims.iat + i128::from(max_age) + i128::from(skew) < i128::from(now)
+}
+
+// Whether the token is of the future.
+fn is_early(claims: &Claims<'_>, skew: u32, now: u64) -> bool
+    requires { InRange claims.now.iat }
+    ensures { IsTrue result ↔ IsEarly claims.now.iat skew now }
+{
+    i128::from(now) + i128::from(skew) < claims.iat
 }

@@ -1,7 +1,9 @@
 // The call that writes a key binding token.
-ghost use Rattle.std.specs.Prelude.{◌≡◌, ◌≤◌, IfOk, IsErrOf};
+ghost use Rattle.std.specs.Prelude.{◌≡◌, ◌≤◌, IfOk, OnOk, IsErrOf};
 ghost use Rattle.sd_outside.specs.Causes.{Rose};
-ghost use Rattle.claim_tree.specs.Tree.{Members};
+ghost use Rattle.claim_tree.specs.Tree.{inserted};
+ghost use Rattle.claim_tree.specs.View.{tree_of};
+ghost use Rattle.jws_part.specs.Header.{text_tree};
 ghost use Rattle.compact_form.specs.Compact.{HasWords};
 ghost use Rattle.hmac_sign.specs.Signatures.{Agree};
 ghost use Rattle.hmac_sign.specs.declared.sign.Alg.{Alg};
@@ -28,11 +30,15 @@ fn header(alloc: Global) -> Result<Header, NoMemory>
     })
 }
 
-fn put(alloc: Global, members: &mut TreeMap, name: &str, claim: Tree) -> Result<(), NoMemory> {
+fn put(alloc: Global, members: &mut TreeMap, name: &str, claim: Tree) -> Result<(), NoMemory>
+    ensures { OnOk result (members.new ≡ inserted members.old name.now (tree_of claim)) }
+{
     members.insert(TextBox::make(alloc, name)?, claim)
 }
 
-fn text(alloc: Global, text: &str) -> Result<Tree, NoMemory> {
+fn text(alloc: Global, text: &str) -> Result<Tree, NoMemory>
+    ensures { IfOk result (λ tree. tree_of tree ≡ text_tree text.now) }
+{
     Ok(Tree::Text(TextBox::make(alloc, text)?))
 }
 

@@ -3,9 +3,7 @@ use Rattle.std.specs.Prelude.{◌≡◌, ◌≢◌, ℕ, ◌<◌, ◌≤◌, ◌
 use Rattle.std.specs.List.{AllZip}
 use Rattle.claim_tree.specs.Tree.{Text, Tree, leaf, text, get}
 use Rattle.claim_tree.specs.Lists.{At as StandsAt}
-use Rattle.compact_form.specs.declared.fault.Fault.{Fault}
 use Rattle.compact_form.specs.declared.fault.Place.{Place}
-use Rattle.compact_form.specs.declared.fault.Place.TheVariants.{Nowhere, At}
 use Rattle.compact_form.specs.declared.parts.JwtParts.{JwtParts}
 use Rattle.compact_form.specs.Token as file
 use Rattle.json_form.specs.declared.token.Token.{Token}
@@ -25,6 +23,7 @@ use Rattle.marked_tree.specs.Marked.{Marked, strip}
 use Rattle.rebuild_core.specs.Payload.{without_alg}
 use Rattle.rebuild_core.specs.Opening.{processed}
 use Rattle.rebuild_core.specs.Conditions as opening
+use Rattle.compact_form.specs.Lowest.{Unplaced, Numbered, NoneFails}
 use Rattle.compact_form.specs.Condition as condition
 use Rattle.compact_form.specs.Condition.{Condition, number_of}
 use Rattle.verifier_core.specs.declared.policy.Policy.{Policy}

@@ -1,10 +1,13 @@
-use Rattle.std.proofs.Common.{Err, refl, sym, ap, subst, ◌∙◌}
+use Rattle.std.proofs.Common.{◌≡◌, true, false, Err, refl, sym, ap, subst, ◌∙◌}
 use Rattle.std.specs.Option.{option_copied}
 use Rattle.compact_form.specs.Views.{jwt_of}
 use Rattle.verifier_core.specs.Verdict.{key_for, IsAlgRefused, IsTypeRefused, IsBadSignature}
 use Rattle.verifier_core.specs.Check.{bad_header, bad_alg, bad_type, no_key, not_signed}
 use Rattle.verifier_core.proofs.CheckTests.{said_yes, said_no}
 use Rattle.verifier_core.proofs.check_signed.check_signed.Goals as goal
+
+no_truth : false ≡ true → ⊥
+no_truth e = cc e
 
 pub returns-in-Err-Unreadable-clause-refused : goal.returns-in-Err-Unreadable-clause-refused
 returns-in-Err-Unreadable-clause-refused c = rw c.fails.ensures (bad_header (c.in-Err-Unreadable.ensures.unreadable (ap Err c.in-Err-Unreadable.field-0-is)) refl)
@@ -30,15 +33,15 @@ returns-in_default-clause-refused c =
     (sym (c.in_default.ensures ∙ ap (λ k. key_for c.args.keys.now k) c.as_ref-2.ensures.value))
     refl)
 
-pub returns-then-branch-clause-refused : goal.returns-then-branch-clause-refused
-returns-then-branch-clause-refused c =
-    rw c.fails-then-branch.ensures
+pub returns-then-not-is_good-clause-refused : goal.returns-then-not-is_good-clause-refused
+returns-then-not-is_good-clause-refused c =
+    rw c.fails-then-not-is_good.ensures
     (not_signed c.in-Ok.header c.in-Ok.ensures.ok
     (λ w. c.if-is_alg_refused.ensures (subst (λ a. IsAlgRefused c.args.algs.now a) (sym c.as_str.ensures) w))
     (λ w. c.if-is_type_refused.ensures (subst (λ t. IsTypeRefused (option_copied c.args.typ) t) (sym c.as_ref.ensures.value) w))
     c.in-Some.key.now
     (sym (c.in-Some.ensures ∙ ap (λ k. key_for c.args.keys.now k) c.as_ref-2.ensures.value))
-    (said_yes c.in_ok-is_signature_bad.field-0 (IsBadSignature c.in-Some.key.now (jwt_of c.args.signed)) c.in_ok-is_signature_bad.ensures c.if-branch.true)
+    (λ good. no_truth (sym c.if-not-is_good.true ∙ c.in_ok-is_good.ensures.1 good))
     refl)
 
 pub returns-clause-ok : goal.returns-clause-ok
@@ -49,5 +52,5 @@ returns-clause-ok c = record {
   typ = λ w. c.if-is_type_refused.ensures (subst (λ t. IsTypeRefused (option_copied c.args.typ) t) (sym c.as_ref.ensures.value) w);
   key = c.in-Some.key.now;
   key_is = sym (c.in-Some.ensures ∙ ap (λ k. key_for c.args.keys.now k) c.as_ref-2.ensures.value);
-  good = said_no c.in_ok-is_signature_bad.field-0 (IsBadSignature c.in-Some.key.now (jwt_of c.args.signed)) c.in_ok-is_signature_bad.ensures c.if-branch.false;
+  good = λ bad. bad (c.in_ok-is_good.ensures.0 c.if-not-is_good.false);
 }

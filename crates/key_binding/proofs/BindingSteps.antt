@@ -1,0 +1,157 @@
+-- The conditions on a key binding token, passed one after another.
+use Rattle.std.proofs.Common.{◌≡◌, ◌≢◌, ℕ, ℤ, ◌<◌, ◌≤◌, ◌⊎◌, inl, inr, List, Option, Some, None, codes, refl, sym, ap, subst, ◌∙◌, arith}
+use Rattle.claim_tree.specs.Tree.{Text, Tree, leaf, text, whole, no_members, get}
+use Rattle.compact_form.specs.declared.fault.Place.{Place}
+use Rattle.compact_form.specs.declared.fault.Place.TheVariants.{Nowhere}
+use Rattle.compact_form.specs.Condition.{Condition, number_of, too_long, form, too_much, binding_missing, header_unreadable, header_critical, alg_refused, type_refused, issuer_key_unknown, bad_signature, payload_unreadable, hash_unknown, disclosure_unreadable, repeated_disclosure, reserved_misused, repeated_digest, unreferenced_disclosure, wrong_shape, reserved_name, name_clash, too_deep, issuer_refused, claim_missing, time_unreadable, expired, not_yet, holder_key_unknown, binding_header, binding_alg, binding_signature, binding_type, binding_payload, binding_stale, binding_early, nonce_differs, audience_differs, hash_differs, binding_time}
+use Rattle.compact_form.specs.Lowest.{unplaced, IsLowest, NoneFails, Passes}
+use Rattle.compact_form.proofs.Lowest.{holds_too, none_fails, refuse_unplaced}
+use Rattle.disclosure.specs.Digest.{digest_of}
+use Rattle.hmac_sign.specs.Hmac.{IsGoodText}
+use Rattle.jws_part.specs.declared.header.Header.{Header}
+use Rattle.jws_part.specs.Header.{text_tree}
+use Rattle.jws_part.specs.Part.{IsBody, IsNoObject}
+use Rattle.jws_part.proofs.Headers as headers
+use Rattle.jws_part.proofs.Parts as bodies
+use Rattle.key_binding.specs.Binding.{Claims}
+use Rattle.key_binding.specs.Judged.{Judged, holder_key, HasHeader, HasClaims, Says}
+use Rattle.key_binding.specs.BindingConditions.{BindingFails, OfClaims, IsStale, IsEarly, IsTimeRefused}
+
+-- each has a number from 27 to 38
+pub binding_numbers : (j : Judged) (c : Condition) (place : Place) → BindingFails j c place → (26 < number_of c) × (number_of c < 39)
+binding_numbers j too_long place h = absurd h
+binding_numbers j form place h = absurd h
+binding_numbers j too_much place h = absurd h
+binding_numbers j binding_missing place h = absurd h
+binding_numbers j header_unreadable place h = absurd h
+binding_numbers j header_critical place h = absurd h
+binding_numbers j alg_refused place h = absurd h
+binding_numbers j type_refused place h = absurd h
+binding_numbers j issuer_key_unknown place h = absurd h
+binding_numbers j bad_signature place h = absurd h
+binding_numbers j payload_unreadable place h = absurd h
+binding_numbers j hash_unknown place h = absurd h
+binding_numbers j disclosure_unreadable place h = absurd h
+binding_numbers j repeated_disclosure place h = absurd h
+binding_numbers j reserved_misused place h = absurd h
+binding_numbers j repeated_digest place h = absurd h
+binding_numbers j unreferenced_disclosure place h = absurd h
+binding_numbers j wrong_shape place h = absurd h
+binding_numbers j reserved_name place h = absurd h
+binding_numbers j name_clash place h = absurd h
+binding_numbers j too_deep place h = absurd h
+binding_numbers j issuer_refused place h = absurd h
+binding_numbers j claim_missing place h = absurd h
+binding_numbers j time_unreadable place h = absurd h
+binding_numbers j expired place h = absurd h
+binding_numbers j not_yet place h = absurd h
+binding_numbers j holder_key_unknown place h = (omega arith, omega arith)
+binding_numbers j binding_header place h = (omega arith, omega arith)
+binding_numbers j binding_alg place h = (omega arith, omega arith)
+binding_numbers j binding_signature place h = (omega arith, omega arith)
+binding_numbers j binding_type place h = (omega arith, omega arith)
+binding_numbers j binding_payload place h = (omega arith, omega arith)
+binding_numbers j binding_stale place h = (omega arith, omega arith)
+binding_numbers j binding_early place h = (omega arith, omega arith)
+binding_numbers j nonce_differs place h = (omega arith, omega arith)
+binding_numbers j audience_differs place h = (omega arith, omega arith)
+binding_numbers j hash_differs place h = (omega arith, omega arith)
+binding_numbers j binding_time place h = (omega arith, omega arith)
+
+-- ---- what is read is one
+
+same_text : (found : Option Tree) (a b : Text) → found ≡ Some (text_tree a) → found ≡ Some (text_tree b) → a ≡ b
+same_text found a b e f = let both : Some (text_tree a) ≡ Some (text_tree b) = sym e ∙ f in cc both
+
+abbrev said : Text → ℤ → Text → Text → Claims
+said aud iat nonce sd_hash = record { aud = aud; iat = iat; nonce = nonce; sd_hash = sd_hash }
+
+same_claims : (body : Tree) (a b : Claims) → Says body a → Says body b → a ≡ b
+same_claims body a b s t =
+    let auds : a.aud ≡ b.aud = same_text _ a.aud b.aud s.aud t.aud in
+    let moments : Some (leaf (whole a.iat)) ≡ Some (leaf (whole b.iat)) = sym s.iat ∙ t.iat in
+    let iats : a.iat ≡ b.iat = cc moments in
+    let nonces : a.nonce ≡ b.nonce = same_text _ a.nonce b.nonce s.nonce t.nonce in
+    let hashes : a.sd_hash ≡ b.sd_hash = same_text _ a.sd_hash b.sd_hash s.sd_hash t.sd_hash in
+    ap (λ (x : Text). said x a.iat a.nonce a.sd_hash) auds ∙ (ap (λ (x : ℤ). said b.aud x a.nonce a.sd_hash) iats
+    ∙ (ap (λ (x : Text). said b.aud b.iat x a.sd_hash) nonces ∙ ap (λ (x : Text). said b.aud b.iat b.nonce x) hashes))
+
+module _ (j : Judged) where
+  one_body : (a b : Tree) → IsBody j.token.payload a → IsBody j.token.payload b → a ≡ b
+  one_body a b = bodies.one_body j.token.payload a b
+
+  one_header : (a b : Header) → HasHeader j.token a → HasHeader j.token b → a ≡ b
+  one_header a b = headers.one_header j.token.protected no_members a b
+
+  one_claims : (a b : Claims) → HasClaims j.token a → HasClaims j.token b → a ≡ b
+  one_claims a b s t = same_claims t.body a b (subst (λ body. Says body a) (one_body s.body t.body s.is_body t.is_body) s.says) t.says
+
+  -- a condition without a place is the lowest that fails
+  pub refuse : (d : Condition) → Passes (number_of d) (BindingFails j) → BindingFails j d Nowhere → IsLowest (BindingFails j) (unplaced (number_of d))
+  refuse d passes fails = refuse_unplaced (BindingFails j) d (unplaced (number_of d)) refl passes fails
+
+  -- ---- one after another
+
+  pub start : Passes 27 (BindingFails j)
+  start c place h = let n = binding_numbers j c place h in omega (arith, n.0)
+
+  pub at28 : (key : List ℕ) → holder_key j.policy.keys j.payload ≡ Some key → Passes 28 (BindingFails j)
+  at28 key is = holds_too (BindingFails j) holder_key_unknown start (λ place w. let both : Some key ≡ None = sym is ∙ w.1 in cc both)
+
+  no_refusal : (h : Header) → HasHeader j.token h → (place : Place) → BindingFails j binding_header place → ⊥
+  no_refusal h has place (is, inl w) = headers.read_not_unreadable j.token.protected no_members h has w
+  no_refusal h has place (is, inr w) = headers.read_not_critical j.token.protected no_members h has w
+
+  pub at29 : Passes 28 (BindingFails j) → (h : Header) → HasHeader j.token h → Passes 29 (BindingFails j)
+  at29 passes h has = holds_too (BindingFails j) binding_header passes (no_refusal h has)
+
+  pub at30 : Passes 29 (BindingFails j) → (h : Header) → HasHeader j.token h → h.alg ≡ codes "HS256" → Passes 30 (BindingFails j)
+  at30 passes h has alg = holds_too (BindingFails j) binding_alg passes (λ place (is, (k, other, differs)). differs (subst (λ (x : Header). x.alg ≡ codes "HS256") (one_header h k has other) alg))
+
+  pub at31 : Passes 30 (BindingFails j) → (key : List ℕ) → holder_key j.policy.keys j.payload ≡ Some key → IsGoodText key j.token.protected j.token.payload j.token.signature → Passes 31 (BindingFails j)
+  at31 passes key is good = holds_too (BindingFails j) binding_signature passes go
+    where
+      go : (place : Place) → BindingFails j binding_signature place → ⊥
+      go place (at, (other, other_is, bad)) =
+          let both : Some other ≡ Some key = sym other_is ∙ is in
+          let same : other ≡ key = cc both in
+          bad (subst (λ x. IsGoodText x j.token.protected j.token.payload j.token.signature) (sym same) good)
+
+  pub at32 : Passes 31 (BindingFails j) → (h : Header) → HasHeader j.token h → h.typ ≡ Some (codes "kb+jwt") → Passes 32 (BindingFails j)
+  at32 passes h has typ = holds_too (BindingFails j) binding_type passes (λ place (is, (k, other, differs)). differs (subst (λ (x : Header). x.typ ≡ Some (codes "kb+jwt")) (one_header h k has other) typ))
+
+  pub at33 : Passes 32 (BindingFails j) → (claims : Claims) → HasClaims j.token claims → Passes 33 (BindingFails j)
+  at33 passes claims has = holds_too (BindingFails j) binding_payload passes (λ place w. w.1 claims has)
+
+  -- what is not so of these claims is so of none
+  no_claims : (P : Claims → Type 0) (claims : Claims) → HasClaims j.token claims → (P claims → ⊥) → (place : Place) → (place ≡ Nowhere) × OfClaims j P → ⊥
+  no_claims P claims has none place (is, (other, other_has, p)) = none (subst P (one_claims other claims other_has has) p)
+
+  pub at34 : Passes 33 (BindingFails j) → (claims : Claims) → HasClaims j.token claims → (IsStale claims.iat j.policy.max_age j.skew j.now → ⊥) → Passes 34 (BindingFails j)
+  at34 passes claims has fresh = holds_too (BindingFails j) binding_stale passes (no_claims (λ x. IsStale x.iat j.policy.max_age j.skew j.now) claims has fresh)
+
+  pub at35 : Passes 34 (BindingFails j) → (claims : Claims) → HasClaims j.token claims → (IsEarly claims.iat j.skew j.now → ⊥) → Passes 35 (BindingFails j)
+  at35 passes claims has made = holds_too (BindingFails j) binding_early passes (no_claims (λ x. IsEarly x.iat j.skew j.now) claims has made)
+
+  pub at36 : Passes 35 (BindingFails j) → (claims : Claims) → HasClaims j.token claims → claims.nonce ≡ j.policy.nonce → Passes 36 (BindingFails j)
+  at36 passes claims has same = holds_too (BindingFails j) nonce_differs passes (no_claims (λ x. x.nonce ≢ j.policy.nonce) claims has (λ differs. differs same))
+
+  pub at37 : Passes 36 (BindingFails j) → (claims : Claims) → HasClaims j.token claims → claims.aud ≡ j.policy.aud → Passes 37 (BindingFails j)
+  at37 passes claims has same = holds_too (BindingFails j) audience_differs passes (no_claims (λ x. x.aud ≢ j.policy.aud) claims has (λ differs. differs same))
+
+  pub at38 : Passes 37 (BindingFails j) → (claims : Claims) → HasClaims j.token claims → claims.sd_hash ≡ digest_of j.hash j.hashed → Passes 38 (BindingFails j)
+  at38 passes claims has same = holds_too (BindingFails j) hash_differs passes (no_claims (λ x. x.sd_hash ≢ digest_of j.hash j.hashed) claims has (λ differs. differs same))
+
+  pub finish : Passes 38 (BindingFails j) → (body : Tree) → IsBody j.token.payload body → (IsTimeRefused body j.skew j.now → ⊥) → NoneFails (BindingFails j)
+  finish passes body has held = none_fails (BindingFails j) 39 (holds_too (BindingFails j) binding_time passes go) (λ c place h. (binding_numbers j c place h).1)
+    where
+      go : (place : Place) → BindingFails j binding_time place → ⊥
+      go place (at, (other, other_has, refused)) = held (subst (λ x. IsTimeRefused x j.skew j.now) (one_body other body other_has has) refused)
+
+  -- ---- no claims
+
+  pub refuse_unread : Passes 32 (BindingFails j) → IsNoObject j.token.payload → IsLowest (BindingFails j) (unplaced 32)
+  refuse_unread passes none = refuse binding_payload passes (refl, λ claims has. bodies.not_both j.token.payload has.body has.is_body none)
+
+  pub refuse_unsaid : Passes 32 (BindingFails j) → (body : Tree) → IsBody j.token.payload body → ((claims : Claims) → Says body claims → ⊥) → IsLowest (BindingFails j) (unplaced 32)
+  refuse_unsaid passes body is_body none = refuse binding_payload passes (refl, λ claims has. none claims (subst (λ b. Says b claims) (one_body has.body body has.is_body is_body) has.says))

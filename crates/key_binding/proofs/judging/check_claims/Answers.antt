@@ -1,0 +1,52 @@
+use Rattle.std.proofs.Common.{◌≡◌, not, bytes_eq, refl, ap, ◌∙◌}
+use Rattle.compact_form.specs.Condition.{binding_stale, binding_early, nonce_differs, audience_differs}
+use Rattle.key_binding.specs.Judged.{judged_of}
+use Rattle.key_binding.specs.Read.{claims_of}
+use Rattle.key_binding.proofs.BindingSteps.{refuse, at34, at35, at36, at37}
+use Rattle.key_binding.proofs.BindingTests.{told_same, told_other, no_truth}
+use Rattle.key_binding.proofs.judging.check_claims.Goals as goal
+
+pub returns-then-is_stale-clause-refused : goal.returns-then-is_stale-clause-refused
+returns-then-is_stale-clause-refused c =
+    let j = judged_of c.args.bound in
+    refuse j binding_stale c.requires.below (refl, (claims_of c.args.claims, c.requires.read, c.is_stale.ensures.0 c.if-is_stale.true))
+
+pub returns-then-is_early-clause-refused : goal.returns-then-is_early-clause-refused
+returns-then-is_early-clause-refused c =
+    let j = judged_of c.args.bound in
+    let claims = claims_of c.args.claims in
+    let read = c.requires.read in
+    let fresh = at34 j c.requires.below claims read (λ stale. no_truth _ c.if-is_stale.false (c.is_stale.ensures.1 stale)) in
+    refuse j binding_early fresh (refl, (claims, read, c.is_early.ensures.0 c.if-is_early.true))
+
+pub returns-then-ne-clause-refused : goal.returns-then-ne-clause-refused
+returns-then-ne-clause-refused c =
+    let j = judged_of c.args.bound in
+    let claims = claims_of c.args.claims in
+    let read = c.requires.read in
+    let fresh = at34 j c.requires.below claims read (λ stale. no_truth _ c.if-is_stale.false (c.is_stale.ensures.1 stale)) in
+    let made = at35 j fresh claims read (λ early. no_truth _ c.if-is_early.false (c.is_early.ensures.1 early)) in
+    refuse j nonce_differs made
+    (refl, (claims, read, told_other claims.nonce j.policy.nonce c.ne.result (c.ne.ensures ∙ ap (λ t. not (bytes_eq claims.nonce t)) c.as_str.ensures) c.if-ne.true))
+
+pub returns-then-ne-2-clause-refused : goal.returns-then-ne-2-clause-refused
+returns-then-ne-2-clause-refused c =
+    let j = judged_of c.args.bound in
+    let claims = claims_of c.args.claims in
+    let read = c.requires.read in
+    let fresh = at34 j c.requires.below claims read (λ stale. no_truth _ c.if-is_stale.false (c.is_stale.ensures.1 stale)) in
+    let made = at35 j fresh claims read (λ early. no_truth _ c.if-is_early.false (c.is_early.ensures.1 early)) in
+    let nonces = told_same claims.nonce j.policy.nonce c.ne.result (c.ne.ensures ∙ ap (λ t. not (bytes_eq claims.nonce t)) c.as_str.ensures) c.if-ne.false in
+    refuse j audience_differs (at36 j made claims read nonces)
+    (refl, (claims, read, told_other claims.aud j.policy.aud c.ne-2.result (c.ne-2.ensures ∙ ap (λ t. not (bytes_eq claims.aud t)) c.as_str-2.ensures) c.if-ne-2.true))
+
+pub returns-clause-ok : goal.returns-clause-ok
+returns-clause-ok c =
+    let j = judged_of c.args.bound in
+    let claims = claims_of c.args.claims in
+    let read = c.requires.read in
+    let fresh = at34 j c.requires.below claims read (λ stale. no_truth _ c.if-is_stale.false (c.is_stale.ensures.1 stale)) in
+    let made = at35 j fresh claims read (λ early. no_truth _ c.if-is_early.false (c.is_early.ensures.1 early)) in
+    let nonces = told_same claims.nonce j.policy.nonce c.ne.result (c.ne.ensures ∙ ap (λ t. not (bytes_eq claims.nonce t)) c.as_str.ensures) c.if-ne.false in
+    let auds = told_same claims.aud j.policy.aud c.ne-2.result (c.ne-2.ensures ∙ ap (λ t. not (bytes_eq claims.aud t)) c.as_str-2.ensures) c.if-ne-2.false in
+    at37 j (at36 j made claims read nonces) claims read auds
