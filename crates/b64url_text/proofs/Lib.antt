@@ -6,3 +6,4 @@ mod Sixes
 mod LaneRuns
 mod LookUps
 mod Examples
+pub mod Lengths

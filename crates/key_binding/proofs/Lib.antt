@@ -1,2 +1,4 @@
 pub mod BindingSteps
 pub mod BindingTests
+pub mod Bindings
+pub mod Accepted

@@ -1,0 +1,130 @@
+-- What is written of a key binding token: words, and short.
+use Rattle.std.proofs.Common.{◌≡◌, ℕ, suc, ◌+◌, ◌*◌, ◌^◌, ◌<◌, ◌≤◌, List, [], ◌∷◌, ◌++◌, Bool, true, false, cond, nat_lt, decimal, length, codes, pos, refl, sym, ap, subst, ◌∙◌, arith, length-append}
+use Rattle.std.proofs.lemmas.Fmt.{length-decimal-le}
+use Rattle.json.specs.Print.{escape_letter, escape_byte, escape, quoted}
+use Rattle.serde_json.specs.Data as port
+use Rattle.serde_json.specs.Written.{compact_text, members_text, comma_if}
+use Rattle.sha2.proofs.Facts256.{length-sha256}
+use Rattle.b64url_text.specs.Base64url.{IsWord, b64}
+use Rattle.b64url_text.proofs.Codes.{IsWord-b64}
+use Rattle.b64url_text.proofs.Lengths.{length-b64}
+use Rattle.claim_tree.specs.Tree.{Text, object, Members}
+use Rattle.claim_tree.specs.JsonText.{members_data, json_text}
+use Rattle.compact_form.specs.Compact.{jwt}
+use Rattle.compact_form.specs.declared.parts.JwtParts.{JwtParts}
+use Rattle.disclosure.specs.Digest.{digest_of, hash_of}
+use Rattle.disclosure.specs.declared.digests.HashAlg.{HashAlg}
+use Rattle.hmac_sign.specs.Hmac.{IsGood}
+use Rattle.hmac_sign.proofs.Macs.{length-mac}
+use Rattle.jws_part.specs.Header.{header_members}
+use Rattle.key_binding.specs.Binding.{claims_for, claim_members, binding_header, IsBinding}
+
+pub object_word : (ms : Members) → IsWord (b64 (json_text (object ms)))
+object_word ms = IsWord-b64 (json_text (object ms)) (omega arith)
+
+-- ---- the length of JSON
+
+either_short : (b : Bool) (x y : List ℕ) → length x ≤ 6 → length y ≤ 6 → length (cond b x y) ≤ 6
+either_short true x y h k = h
+either_short false x y h k = k
+
+byte_short : (x : ℕ) → length (escape_byte x) ≤ 6
+unfolding escape_byte
+byte_short x = either_short (nat_lt 0 (escape_letter x)) _ _ (omega arith) (either_short (nat_lt x 32) _ _ (omega arith) (omega arith))
+
+escape_short : (s : Text) → length (escape s) ≤ 6 * length s
+escape_short [] = omega arith
+escape_short (x ∷ s) = omega (arith, length-append (escape_byte x) (escape s), byte_short x, escape_short s)
+
+quoted_short : (s : Text) → length (quoted s) ≤ 6 * length s + 2
+quoted_short s = omega (arith, length-append (escape s) (34 ∷ []), escape_short s)
+
+comma_short : (later : Bool) → length (comma_if later) ≤ 1
+comma_short true = omega arith
+comma_short false = omega arith
+
+member_short : (later : Bool) (k : Text) (d : port.Data) (ms : port.Members) → length (members_text later (port.member k d ms)) ≤ 6 * length k + 4 + length (compact_text d) + length (members_text true ms)
+member_short later k d ms =
+    omega (
+      arith,
+      length-append (comma_if later) (quoted k ++ 58 ∷ (compact_text d ++ members_text true ms)),
+      length-append (quoted k) (58 ∷ (compact_text d ++ members_text true ms)),
+      length-append (compact_text d) (members_text true ms),
+      comma_short later,
+      quoted_short k,
+    )
+
+-- within bounds on what is inside
+member_within : (later : Bool) (k : Text) (d : port.Data) (ms : port.Members) (x y : ℕ) → length (compact_text d) ≤ x → length (members_text true ms) ≤ y → length (members_text later (port.member k d ms)) ≤ 6 * length k + 4 + x + y
+member_within later k d ms x y h i = omega (arith, member_short later k d ms, h, i)
+
+text_within : (s : Text) (n : ℕ) → length s ≤ n → length (quoted s) ≤ 6 * n + 2
+text_within s n h = omega (arith, quoted_short s, h)
+
+braced : (s : Text) (n : ℕ) → length s ≤ n → length (123 ∷ s) ≤ suc n
+braced s n h = omega (arith, h)
+
+end_within : length (members_text true port.no_members) ≤ 1
+end_within = omega arith
+
+-- ---- the parts
+
+digest_short : (hash : HashAlg) (hashed : Text) → length (digest_of hash hashed) ≤ 43
+digest_short HashAlg.Sha256 hashed = omega (arith, length-b64 (hash_of HashAlg.Sha256 hashed), length-sha256 hashed)
+
+abbrev header_data : port.Data
+header_data = port.object (port.member (codes "alg") (port.string (codes "HS256")) (port.member (codes "typ") (port.string (codes "kb+jwt")) port.no_members))
+
+header_data_short : length (compact_text header_data) ≤ 116
+header_data_short =
+    let typ = member_within true (codes "typ") (port.string (codes "kb+jwt")) port.no_members 38 1 (text_within (codes "kb+jwt") 6 (omega arith)) end_within in
+    let alg = member_within false (codes "alg") (port.string (codes "HS256")) (port.member (codes "typ") (port.string (codes "kb+jwt")) port.no_members) 32 61 (text_within (codes "HS256") 5 (omega arith)) typ in
+    braced (members_text false (port.member (codes "alg") (port.string (codes "HS256")) (port.member (codes "typ") (port.string (codes "kb+jwt")) port.no_members))) 115 alg
+
+header_short : length (json_text (object (header_members binding_header))) ≤ 116
+header_short = header_data_short
+
+abbrev claims_data : Text → ℕ → Text → Text → port.Data
+claims_data aud iat nonce sd_hash =
+    port.object
+    (port.member (codes "aud") (port.string aud)
+    (port.member (codes "iat") (port.number (port.unsigned iat)) (port.member (codes "nonce") (port.string nonce) (port.member (codes "sd_hash") (port.string sd_hash) port.no_members))))
+
+claims_data_short : (aud nonce sd_hash : Text) (iat : ℕ) → length aud ≤ 256 → length nonce ≤ 256 → length sd_hash ≤ 43 → iat < 2 ^ 64 → length (compact_text (claims_data aud iat nonce sd_hash)) ≤ 3482
+claims_data_short aud nonce sd_hash iat a n h i =
+    let last = port.member (codes "sd_hash") (port.string sd_hash) port.no_members in
+    let third = port.member (codes "nonce") (port.string nonce) last in
+    let second = port.member (codes "iat") (port.number (port.unsigned iat)) third in
+    let at_last = member_within true (codes "sd_hash") (port.string sd_hash) port.no_members 260 1 (text_within sd_hash 43 h) end_within in
+    let at_third = member_within true (codes "nonce") (port.string nonce) last 1538 307 (text_within nonce 256 n) at_last in
+    let at_second = member_within true (codes "iat") (port.number (port.unsigned iat)) third 20 1879 (length-decimal-le 20 iat (omega arith) (omega (arith, i)) i) at_third in
+    let at_first = member_within false (codes "aud") (port.string aud) second 1538 1921 (text_within aud 256 a) at_second in
+    braced (members_text false (port.member (codes "aud") (port.string aud) second)) 3481 at_first
+
+claims_short : (hash : HashAlg) (hashed aud nonce : Text) (iat : ℕ) → length aud ≤ 256 → length nonce ≤ 256 → iat < 2 ^ 64
+    → length (json_text (object (claim_members (claims_for hash hashed aud nonce iat)))) ≤ 3482
+claims_short hash hashed aud nonce iat a n i = claims_data_short aud nonce (digest_of hash hashed) iat a n (digest_short hash hashed) i
+
+-- ---- the token
+
+pub binding_short : (key : List ℕ) (hash : HashAlg) (hashed aud nonce : Text) (iat : ℕ) (token : JwtParts) → length aud ≤ 256 → length nonce ≤ 256 → iat < 2 ^ 64 → IsBinding (IsGood key) hash hashed aud nonce iat token
+    → length (jwt token) < 5000
+binding_short key hash hashed aud nonce iat token a n i is =
+    let protected = ap length is.protected in
+    let payload = ap length is.payload in
+    let signature = ap length is.signature_text in
+    let code = ap length is.signed ∙ length-mac key token.protected token.payload in
+    omega (
+      arith,
+      protected,
+      payload,
+      signature,
+      code,
+      length-b64 (json_text (object (header_members binding_header))),
+      length-b64 (json_text (object (claim_members (claims_for hash hashed aud nonce iat)))),
+      length-b64 is.signature,
+      header_short,
+      claims_short hash hashed aud nonce iat a n i,
+      length-append token.protected (46 ∷ (token.payload ++ 46 ∷ token.signature)),
+      length-append token.payload (46 ∷ token.signature),
+    )
