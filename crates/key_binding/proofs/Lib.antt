@@ -2,3 +2,4 @@ pub mod BindingSteps
 pub mod BindingTests
 pub mod Bindings
 pub mod Accepted
+pub mod BindingNumbers

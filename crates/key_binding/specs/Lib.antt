@@ -3,3 +3,4 @@ pub mod Judged
 pub mod BindingConditions
 pub mod Unsigned
 pub mod Read
+pub mod ShortText

@@ -10,6 +10,7 @@ mod judging;
 pub mod laws;
 mod policy;
 mod reading;
+mod short_text;
 #[cfg(test)]
 mod tests;
 mod writing;
@@ -18,4 +19,5 @@ pub use errors::{BindError, BindingError};
 pub use holder::holder_kid;
 pub use judging::{Bound, check_binding, check_bound};
 pub use policy::BindingPolicy;
+pub use short_text::{BINDING_TEXT_MAX, short_text_in};
 pub use writing::bind;

@@ -3,13 +3,18 @@ use Rattle.std.proofs.Common.{◌≡◌, ℕ, ◌<◌, ◌⊎◌, inl, inr, Bool
 use Rattle.compact_form.specs.declared.fault.Fault.{Fault}
 use Rattle.compact_form.specs.declared.fault.Place.{Place}
 use Rattle.compact_form.specs.declared.fault.Place.TheVariants.{Nowhere, At}
+use Rattle.compact_form.specs.declared.parts.Parts.{Parts}
+use Rattle.compact_form.specs.Compact.{hashed}
 use Rattle.compact_form.specs.Token as file
+use Rattle.disclosure.specs.declared.digests.HashAlg.{HashAlg}
+use Rattle.key_binding.specs.Judged.{Judged, judged}
+use Rattle.key_binding.specs.BindingConditions.{BindingFails}
 use Rattle.json_form.specs.declared.token.Token.{Token}
 use Rattle.json_form.proofs.Tokens as tokens
 use Rattle.claim_tree.specs.Tree.{Tree}
 use Rattle.marked_tree.specs.Marked.{Marked, strip}
 use Rattle.compact_form.specs.Condition.{Condition, number_of, too_long, form, too_much, binding_missing, header_unreadable, header_critical, alg_refused, type_refused, issuer_key_unknown, bad_signature, payload_unreadable, hash_unknown, disclosure_unreadable, repeated_disclosure, reserved_misused, repeated_digest, unreferenced_disclosure, wrong_shape, reserved_name, name_clash, too_deep, issuer_refused, claim_missing, time_unreadable, expired, not_yet, holder_key_unknown, binding_header, binding_alg, binding_signature, binding_type, binding_payload, binding_stale, binding_early, nonce_differs, audience_differs, hash_differs, binding_time}
-use Rattle.verifier_core.specs.Verdict.{Rules, TokenFails, ClaimFails, FileFails, Fails, of_file, of_token, of_claims, rules_of, Opens, IsAccepted}
+use Rattle.verifier_core.specs.Verdict.{Rules, TokenFails, ClaimFails, MissingFails, HolderFails, FileFails, Fails, of_file, of_missing, of_token, of_claims, of_holder, rules_of, Opens, IsAccepted}
 use Rattle.verifier_core.specs.declared.policy.Policy.{Policy}
 use Rattle.compact_form.specs.Lowest.{IsNoLater, IsLowest}
 use Rattle.compact_form.proofs.Numbers.{one_condition}
@@ -141,13 +146,62 @@ file_place content c place (file.too_much parts e h many) =
     let is : c ≡ too_much = one_condition c too_much (ap (λ (x : Fault). x.number) e) in
     subst (λ (d : Condition). Suits (has_number d) place) (sym is) (ap (λ (x : Fault). x.place) e)
 
+missing_place : (policy : Policy) (parts : Parts) (c : Condition) (place : Place) → MissingFails policy parts c place → Suits (has_number c) place
+missing_place policy parts c place h = subst (λ (d : Condition). Suits (has_number d) place) (sym h.0) h.1
+
+-- a condition on the key binding token fails at no number
+no_number : (j : Judged) (c : Condition) (place : Place) → BindingFails j c place → Suits (has_number c) place
+no_number j too_long place h = absurd h
+no_number j form place h = absurd h
+no_number j too_much place h = absurd h
+no_number j binding_missing place h = absurd h
+no_number j header_unreadable place h = absurd h
+no_number j header_critical place h = absurd h
+no_number j alg_refused place h = absurd h
+no_number j type_refused place h = absurd h
+no_number j issuer_key_unknown place h = absurd h
+no_number j bad_signature place h = absurd h
+no_number j payload_unreadable place h = absurd h
+no_number j hash_unknown place h = absurd h
+no_number j disclosure_unreadable place h = absurd h
+no_number j repeated_disclosure place h = absurd h
+no_number j reserved_misused place h = absurd h
+no_number j repeated_digest place h = absurd h
+no_number j unreferenced_disclosure place h = absurd h
+no_number j wrong_shape place h = absurd h
+no_number j reserved_name place h = absurd h
+no_number j name_clash place h = absurd h
+no_number j too_deep place h = absurd h
+no_number j issuer_refused place h = absurd h
+no_number j claim_missing place h = absurd h
+no_number j time_unreadable place h = absurd h
+no_number j expired place h = absurd h
+no_number j not_yet place h = absurd h
+no_number j holder_key_unknown place h = h.0
+no_number j binding_header place h = h.0
+no_number j binding_alg place h = h.0
+no_number j binding_signature place h = h.0
+no_number j binding_type place h = h.0
+no_number j binding_payload place h = h.0
+no_number j binding_stale place h = h.0
+no_number j binding_early place h = h.0
+no_number j nonce_differs place h = h.0
+no_number j audience_differs place h = h.0
+no_number j hash_differs place h = h.0
+no_number j binding_time place h = h.0
+
+holder_place : (parts : Parts) (payload : Tree) (hash : HashAlg) (policy : Policy) (now : ℕ) (c : Condition) (place : Place) → HolderFails parts payload hash policy now c place → Suits (has_number c) place
+holder_place parts payload hash policy now c place h = no_number (judged h.token payload h.binding policy.skew hash (hashed parts) now) c place h.fails
+
 -- ---- the verdict
 
 module _ (content : List ℕ) (policy : Policy) (now : ℕ) where
   place_of : (c : Condition) (place : Place) → Fails content policy now c place → Suits (has_number c) place
   place_of c place (of_file h) = file_place content c place h
+  place_of c place (of_missing token there h) = missing_place policy token.parts c place h
   place_of c place (of_token token there h) = token_place token (rules_of policy) c place h
   place_of c place (of_claims token marked there opens h) = claim_place (strip marked) policy now c place h
+  place_of c place (of_holder token marked hash there opens has h) = holder_place token.parts (strip marked) hash policy now c place h
 
   pub accepted_not_refused : (marked : Marked) (fault : Fault) → IsAccepted content policy now marked → IsLowest (Fails content policy now) fault → ⊥
   accepted_not_refused marked fault accepted refused = accepted.passes refused.failed fault.place refused.fails

@@ -3,19 +3,21 @@ use Rattle.std.proofs.Common.{◌≡◌, ◌≢◌, ℕ, List, [], ◌∷◌, Op
 use Rattle.compact_form.specs.declared.limits.TheConstants.{FILE_MAX}
 use Rattle.claim_tree.specs.Tree.{Text}
 use Rattle.claim_tree.specs.FileForms.{IsText, IsTexts, IsWholeUpTo, Says, MaySay, SaysOr, found}
-use Rattle.claim_tree.specs.declared.file_fault.Field.TheVariants.{Keys, Algs, Typ, Iss, Require, Skew}
+use Rattle.claim_tree.specs.declared.file_fault.Field.TheVariants.{Keys, Algs, Typ, Iss, Require, Skew, Binding}
 use Rattle.claim_tree.specs.declared.file_fault.FileFault.{FileFault}
 use Rattle.claim_tree.proofs.FileMembers.{says_meets, may_say_meets, says_or_meets}
 use Rattle.claim_tree.proofs.FileVerdicts as verdicts
 use Rattle.hmac_sign.specs.Keys.{IsKeySet}
 use Rattle.hmac_sign.specs.declared.key_set.NamedKey.{NamedKey}
 use Rattle.hmac_sign.proofs.KeySetVerdicts.{one_key_set}
-use Rattle.verifier_core.specs.PolicyFile.{policy_table, IsPolicyFile, IsPolicyRefused}
+use Rattle.verifier_core.specs.PolicyFile.{IsBindingPolicy, policy_table, IsPolicyFile, IsPolicyRefused}
+use Rattle.key_binding.specs.declared.policy.BindingPolicy.{BindingPolicy}
 use Rattle.verifier_core.specs.declared.policy.Policy.{Policy}
 use Rattle.verifier_core.specs.declared.policy.TheConstants.{SKEW_MAX}
+use Rattle.verifier_core.proofs.BindingPolicies.{one_binding}
 
-made : List NamedKey → List Text → Option Text → Option Text → List Text → ℕ → Policy
-made keys algs typ iss require skew = record { keys = keys; algs = algs; typ = typ; iss = iss; require = require; skew = skew }
+made : List NamedKey → List Text → Option Text → Option Text → List Text → ℕ → Option BindingPolicy → Policy
+made keys algs typ iss require skew binding = record { keys = keys; algs = algs; typ = typ; iss = iss; require = require; skew = skew; binding = binding }
 
 pub one_policy : (bytes : Text) (p q : Policy) → IsPolicyFile bytes p → IsPolicyFile bytes q → p ≡ q
 unfolding made
@@ -28,12 +30,14 @@ one_policy bytes p q h k =
     let iss : p.iss ≡ q.iss = verdicts.may_say_one IsText (found ms Iss) p.iss q.iss verdicts.one_text (subst (λ ns. MaySay IsText (found ns Iss) p.iss) same h.iss) k.iss in
     let require : p.require ≡ q.require = verdicts.says_or_one IsTexts [] (found ms Require) p.require q.require verdicts.one_texts (subst (λ ns. SaysOr IsTexts [] (found ns Require) p.require) same h.require) k.require in
     let skew : p.skew ≡ q.skew = verdicts.says_or_one (IsWholeUpTo SKEW_MAX) 0 (found ms Skew) p.skew q.skew (verdicts.one_whole SKEW_MAX) (subst (λ ns. SaysOr (IsWholeUpTo SKEW_MAX) 0 (found ns Skew) p.skew) same h.skew) k.skew in
-    ap (λ x. made x p.algs p.typ p.iss p.require p.skew) keys
-    ∙ (ap (λ x. made q.keys x p.typ p.iss p.require p.skew) algs
-    ∙ (ap (λ x. made q.keys q.algs x p.iss p.require p.skew) typ
-    ∙ (ap (λ x. made q.keys q.algs q.typ x p.require p.skew) iss
-    ∙ (ap (λ x. made q.keys q.algs q.typ q.iss x p.skew) require
-    ∙ ap (λ x. made q.keys q.algs q.typ q.iss q.require x) skew))))
+    let binding : p.binding ≡ q.binding = verdicts.may_say_one IsBindingPolicy (found ms Binding) p.binding q.binding one_binding (subst (λ ns. MaySay IsBindingPolicy (found ns Binding) p.binding) same h.binding) k.binding in
+    ap (λ x. made x p.algs p.typ p.iss p.require p.skew p.binding) keys
+    ∙ (ap (λ x. made q.keys x p.typ p.iss p.require p.skew p.binding) algs
+    ∙ (ap (λ x. made q.keys q.algs x p.iss p.require p.skew p.binding) typ
+    ∙ (ap (λ x. made q.keys q.algs q.typ x p.require p.skew p.binding) iss
+    ∙ (ap (λ x. made q.keys q.algs q.typ q.iss x p.skew p.binding) require
+    ∙ (ap (λ x. made q.keys q.algs q.typ q.iss q.require x p.binding) skew
+    ∙ ap (λ x. made q.keys q.algs q.typ q.iss q.require q.skew x) binding)))))
 
 pub not_both : (bytes : Text) (policy : Policy) (fault : FileFault) → IsPolicyFile bytes policy → IsPolicyRefused bytes fault → fault ≡ FileFault.Memory
 not_both bytes policy fault says refused =
@@ -44,7 +48,8 @@ not_both bytes policy fault says refused =
     let iss = may_say_meets IsText Iss ms policy.iss says.iss in
     let require = says_or_meets IsTexts [] Require ms policy.require says.require in
     let skew = says_or_meets (IsWholeUpTo SKEW_MAX) 0 Skew ms policy.skew says.skew in
-    verdicts.not_refused FILE_MAX policy_table bytes ms fault says.file (keys, (algs, (typ, (iss, (require, (skew, tt)))))) refused
+    let binding = may_say_meets IsBindingPolicy Binding ms policy.binding says.binding in
+    verdicts.not_refused FILE_MAX policy_table bytes ms fault says.file (keys, (algs, (typ, (iss, (require, (skew, (binding, tt))))))) refused
 
 pub one_fault : (bytes : Text) (fault other : FileFault) → IsPolicyRefused bytes fault → IsPolicyRefused bytes other → fault ≢ FileFault.Memory → other ≢ FileFault.Memory → fault ≡ other
 one_fault bytes fault other h k = verdicts.one_fault FILE_MAX policy_table bytes fault other h k

@@ -1,5 +1,5 @@
 -- The verdict on a file, from the verdicts on its form, its token and its claims.
-use Rattle.std.proofs.Common.{◌≡◌, ℕ, ◌<◌, ◌≤◌, ◌-◌, ◌^◌, ◌⊎◌, inl, inr, List, length, refl, sym, ap, ap₂, subst, ◌∙◌, arith}
+use Rattle.std.proofs.Common.{◌≡◌, ℕ, ◌<◌, ◌≤◌, ◌-◌, ◌^◌, ◌⊎◌, inl, inr, List, length, Some, refl, sym, ap, ap₂, subst, ◌∙◌, arith}
 use Rattle.claim_tree.specs.Tree.{Tree}
 use Rattle.compact_form.specs.declared.limits.TheConstants.{COUNT_MAX}
 use Rattle.compact_form.specs.declared.conditions.TheConstants.{TOO_MUCH}
@@ -7,20 +7,26 @@ use Rattle.compact_form.specs.declared.fault.Fault.{Fault}
 use Rattle.compact_form.specs.declared.fault.Place.{Place}
 use Rattle.compact_form.specs.declared.fault.Place.TheVariants.{Nowhere, At, Json}
 use Rattle.compact_form.specs.declared.parts.Parts.{Parts}
+use Rattle.compact_form.specs.Compact.{hashed}
 use Rattle.compact_form.specs.Token as file
 use Rattle.compact_form.proofs.Verdicts as files
 use Rattle.json_form.specs.declared.token.Token.{Token}
 use Rattle.json_form.specs.Token.{IsToken}
 use Rattle.json_form.proofs.Tokens as tokens
+use Rattle.disclosure.specs.Digest.{payload_hash}
+use Rattle.disclosure.specs.declared.digests.HashAlg.{HashAlg}
 use Rattle.digest_sites.specs.Given.{Given}
+use Rattle.jws_part.proofs.Parts.{one_body}
+use Rattle.key_binding.specs.Judged.{judged}
+use Rattle.key_binding.proofs.BindingNumbers.{binding_numbers}
 use Rattle.marked_tree.specs.Marked.{Marked, strip}
 use Rattle.rebuild_core.specs.Opening.{processed}
 use Rattle.compact_form.specs.Condition as condition
 use Rattle.compact_form.specs.Condition.{Condition, number_of}
-use Rattle.verifier_core.specs.Verdict.{TokenFails, ClaimFails, Fails, of_file, of_token, of_claims, rules_of, Opens, IsChecked, IsAccepted}
-use Rattle.verifier_core.specs.Check.{compact}
+use Rattle.verifier_core.specs.Verdict.{TokenFails, ClaimFails, MissingFails, HolderFails, IsBindingMissing, HasHash, Fails, of_file, of_missing, of_token, of_claims, of_holder, rules_of, Opens, IsChecked, IsAccepted}
+use Rattle.verifier_core.specs.Check.{compact, ShownFails}
 use Rattle.verifier_core.specs.declared.policy.Policy.{Policy}
-use Rattle.compact_form.specs.Lowest.{IsNoLater, IsLowest, NoneFails}
+use Rattle.compact_form.specs.Lowest.{IsNoLater, IsLowest, NoneFails, unplaced}
 use Rattle.compact_form.proofs.Numbers.{one_condition}
 use Rattle.verifier_core.proofs.TokenConditions.{token_numbers}
 use Rattle.verifier_core.proofs.ClaimSteps.{claim_numbers}
@@ -65,8 +71,10 @@ file_lowest content policy now fault refused =
   where
     go : (c : Condition) → fault.number ≡ number_of c → (other : Condition) (place : Place) → Fails content policy now other place
         → (number_of c < number_of other) ⊎ ((other ≡ c) × IsNoLater fault.place place)
+    go c is other place (of_missing token there h) = absurd (tokens.not_both content token fault there refused)
     go c is other place (of_token token there h) = absurd (tokens.not_both content token fault there refused)
     go c is other place (of_claims token marked there opens h) = absurd (tokens.not_both content token fault there refused)
+    go c is other place (of_holder token marked hash there opens has h) = absurd (tokens.not_both content token fault there refused)
     go c is other place (of_file h) = placed (less_or_same fault.number (number_of other) (refused.lowest (fault_at other place) h))
       where
         placed : (fault.number < number_of other) ⊎ (fault.number ≡ number_of other) → (number_of c < number_of other) ⊎ ((other ≡ c) × IsNoLater fault.place place)
@@ -80,45 +88,118 @@ file_lowest content policy now fault refused =
 pub is_compact : (content : List ℕ) (parts : Parts) → file.Reads content parts → IsToken content (compact parts)
 is_compact content parts reads = record { reads = reads; plain = refl }
 
-module _ (content : List ℕ) (policy : Policy) (now : ℕ) (token : Token) (is : IsToken content token) where
-  -- a token that is refused
-  pub token_lowest : (fault : Fault) → IsLowest (TokenFails token (rules_of policy)) fault → IsLowest (Fails content policy now) fault
-  token_lowest fault l = record { failed = l.failed; number_is = l.number_is; fails = of_token token is l.fails; lowest = λ other place h. go other place h }
+-- a condition on the key binding token has a number from 27 to 38
+holder_numbers : (parts : Parts) (payload : Tree) (hash : HashAlg) (policy : Policy) (now : ℕ) (c : Condition) (place : Place) → HolderFails parts payload hash policy now c place → 26 < number_of c
+holder_numbers parts payload hash policy now c place h =
+    let numbers = binding_numbers (judged h.token payload h.binding policy.skew hash (hashed parts) now) c place h.fails in
+    numbers.0
+
+module _ (parts : Parts) (payload : Tree) (hash : HashAlg) (policy : Policy) (now : ℕ) where
+  -- claims that are refused
+  pub claims_shown : (fault : Fault) → IsLowest (ClaimFails payload policy now) fault → IsLowest (ShownFails parts payload hash policy now) fault
+  claims_shown fault l = record { failed = l.failed; number_is = l.number_is; fails = inl l.fails; lowest = λ other place h. go other place h }
     where
-      go : (other : Condition) (place : Place) → Fails content policy now other place → (number_of l.failed < number_of other) ⊎ ((other ≡ l.failed) × IsNoLater fault.place place)
+      go : (other : Condition) (place : Place) → ShownFails parts payload hash policy now other place → (number_of l.failed < number_of other) ⊎ ((other ≡ l.failed) × IsNoLater fault.place place)
+      go other place (inl h) = l.lowest other place h
+      go other place (inr h) =
+          let low = claim_numbers payload policy now l.failed fault.place l.fails in
+          let high = holder_numbers parts payload hash policy now other place h in
+          inl (omega (arith, low.1, high))
+
+  -- a key binding token that is refused
+  pub holder_shown : NoneFails (ClaimFails payload policy now) → (fault : Fault) → IsLowest (HolderFails parts payload hash policy now) fault → IsLowest (ShownFails parts payload hash policy now) fault
+  holder_shown none fault l = record { failed = l.failed; number_is = l.number_is; fails = inr l.fails; lowest = λ other place h. go other place h }
+    where
+      go : (other : Condition) (place : Place) → ShownFails parts payload hash policy now other place → (number_of l.failed < number_of other) ⊎ ((other ≡ l.failed) × IsNoLater fault.place place)
+      go other place (inl h) = absurd (none other place h)
+      go other place (inr h) = l.lowest other place h
+
+  pub none_shown : NoneFails (ClaimFails payload policy now) → NoneFails (HolderFails parts payload hash policy now) → NoneFails (ShownFails parts payload hash policy now)
+  none_shown claims holder c place (inl h) = claims c place h
+  none_shown claims holder c place (inr h) = holder c place h
+
+module _ (content : List ℕ) (policy : Policy) (now : ℕ) (token : Token) (is : IsToken content token) where
+  -- a key binding token that is asked for and missing
+  pub missing_lowest : IsBindingMissing policy token.parts → IsLowest (Fails content policy now) (unplaced 4)
+  missing_lowest missing = record { failed = condition.binding_missing; number_is = refl; fails = of_missing token is (refl, refl, missing); lowest = λ other place h. go other place h }
+    where
+      go : (other : Condition) (place : Place) → Fails content policy now other place → (4 < number_of other) ⊎ ((other ≡ condition.binding_missing) × Unit {0})
       go other place (of_file h) = absurd (is.reads.passes (fault_at other place) h)
-      go other place (of_token t there h) = l.lowest other place (subst (λ (x : Token). TokenFails x (rules_of policy) other place) (tokens.one content t token there is) h)
-      go other place (of_claims t marked there opens h) =
-          let low = token_numbers token (rules_of policy) l.failed fault.place l.fails in
-          let high = claim_numbers (strip marked) policy now other place h in
-          inl (omega (arith, low.1, high.0))
+      go other place (of_missing t there h) = inr (h.0, tt)
+      go other place (of_token t there h) = let numbers = token_numbers t (rules_of policy) other place h in inl numbers.0
+      go other place (of_claims t marked there opens h) = let numbers = claim_numbers (strip marked) policy now other place h in inl (omega (arith, numbers.0))
+      go other place (of_holder t marked hash there opens has h) = let high = holder_numbers t.parts (strip marked) hash policy now other place h in inl (omega (arith, high))
 
   pub one_opening : (m n : Marked) → Opens token m → Opens token n → m ≡ n
   one_opening m n (p, g, has, e) (q, h, other, f) =
       let same = one_content token p q g h has other in
       e ∙ (ap₂ (λ (t : Tree) (xs : List Given). processed t xs) same.0 same.1 ∙ sym f)
 
-  module _ (marked : Marked) (checked : IsChecked token (rules_of policy) marked) where
-    no_token_fault : (t : Token) → IsToken content t → (c : Condition) (place : Place) → TokenFails t (rules_of policy) c place → ⊥
-    no_token_fault t there c place h = checked.passes c place (subst (λ (x : Token). TokenFails x (rules_of policy) c place) (tokens.one content t token there is) h)
+  one_hash : (a b : HashAlg) → HasHash token a → HasHash token b → a ≡ b
+  one_hash a b (body, is_body, named) (other, is_other, also) =
+      let same : body ≡ other = one_body token.parts.signed.payload body other is_body is_other in
+      let both : Some a ≡ Some b = sym named ∙ (ap payload_hash same ∙ also) in
+      cc both
 
-    same_claims : (t : Token) (m : Marked) → IsToken content t → Opens t m → m ≡ marked
-    same_claims t m there opens = one_opening m marked (subst (λ (x : Token). Opens x m) (tokens.one content t token there is) opens) checked.opens
+  module _ (sent : IsBindingMissing policy token.parts → ⊥) where
+    not_missing : (t : Token) → IsToken content t → (c : Condition) (place : Place) → MissingFails policy t.parts c place → ⊥
+    not_missing t there c place h = sent (subst (λ (x : Token). IsBindingMissing policy x.parts) (tokens.one content t token there is) h.2)
 
-    -- claims that are refused
-    pub claims_lowest : (fault : Fault) → IsLowest (ClaimFails (strip marked) policy now) fault → IsLowest (Fails content policy now) fault
-    claims_lowest fault l =
-        record { failed = l.failed; number_is = l.number_is; fails = of_claims token marked is checked.opens l.fails; lowest = λ other place h. go other place h }
+    -- a token that is refused
+    pub token_lowest : (fault : Fault) → IsLowest (TokenFails token (rules_of policy)) fault → IsLowest (Fails content policy now) fault
+    token_lowest fault l = record { failed = l.failed; number_is = l.number_is; fails = of_token token is l.fails; lowest = λ other place h. go other place h }
       where
         go : (other : Condition) (place : Place) → Fails content policy now other place → (number_of l.failed < number_of other) ⊎ ((other ≡ l.failed) × IsNoLater fault.place place)
         go other place (of_file h) = absurd (is.reads.passes (fault_at other place) h)
-        go other place (of_token t there h) = absurd (no_token_fault t there other place h)
-        go other place (of_claims t m there opens h) = l.lowest other place (subst (λ (x : Marked). ClaimFails (strip x) policy now other place) (same_claims t m there opens) h)
+        go other place (of_missing t there h) = absurd (not_missing t there other place h)
+        go other place (of_token t there h) = l.lowest other place (subst (λ (x : Token). TokenFails x (rules_of policy) other place) (tokens.one content t token there is) h)
+        go other place (of_claims t marked there opens h) =
+            let low = token_numbers token (rules_of policy) l.failed fault.place l.fails in
+            let high = claim_numbers (strip marked) policy now other place h in
+            inl (omega (arith, low.1, high.0))
+        go other place (of_holder t marked hash there opens has h) =
+            let low = token_numbers token (rules_of policy) l.failed fault.place l.fails in
+            let high = holder_numbers t.parts (strip marked) hash policy now other place h in
+            inl (omega (arith, low.1, high))
 
-    pub accepted : NoneFails (ClaimFails (strip marked) policy now) → IsAccepted content policy now marked
-    accepted none = record { passes = λ c place h. go c place h; token = token; is_token = is; opens = checked.opens }
-      where
-        go : (c : Condition) (place : Place) → Fails content policy now c place → ⊥
-        go c place (of_file h) = is.reads.passes (fault_at c place) h
-        go c place (of_token t there h) = no_token_fault t there c place h
-        go c place (of_claims t m there opens h) = none c place (subst (λ (x : Marked). ClaimFails (strip x) policy now c place) (same_claims t m there opens) h)
+    module _ (marked : Marked) (checked : IsChecked token (rules_of policy) marked) where
+      no_token_fault : (t : Token) → IsToken content t → (c : Condition) (place : Place) → TokenFails t (rules_of policy) c place → ⊥
+      no_token_fault t there c place h = checked.passes c place (subst (λ (x : Token). TokenFails x (rules_of policy) c place) (tokens.one content t token there is) h)
+
+      same_claims : (t : Token) (m : Marked) → IsToken content t → Opens t m → m ≡ marked
+      same_claims t m there opens = one_opening m marked (subst (λ (x : Token). Opens x m) (tokens.one content t token there is) opens) checked.opens
+
+      module _ (hash : HashAlg) (has : HasHash token hash) where
+        same_holder : (t : Token) (m : Marked) (other : HashAlg) (c : Condition) (place : Place) → IsToken content t → Opens t m → HasHash t other
+            → HolderFails t.parts (strip m) other policy now c place → HolderFails token.parts (strip marked) hash policy now c place
+        same_holder t m other c place there opens names h =
+            let token_same = tokens.one content t token there is in
+            let hash_same = one_hash other hash (subst (λ (x : Token). HasHash x other) token_same names) has in
+            subst (λ (a : HashAlg). HolderFails token.parts (strip marked) a policy now c place) hash_same
+            (subst (λ (x : Marked). HolderFails token.parts (strip x) other policy now c place) (same_claims t m there opens)
+            (subst (λ (x : Token). HolderFails x.parts (strip m) other policy now c place) token_same h))
+
+        -- what is shown is refused
+        pub shown_lowest : (fault : Fault) → IsLowest (ShownFails token.parts (strip marked) hash policy now) fault → IsLowest (Fails content policy now) fault
+        shown_lowest fault l = record { failed = l.failed; number_is = l.number_is; fails = failing l.failed fault.place l.fails; lowest = λ other place h. go other place h }
+          where
+            failing : (c : Condition) (place : Place) → ShownFails token.parts (strip marked) hash policy now c place → Fails content policy now c place
+            failing c place (inl h) = of_claims token marked is checked.opens h
+            failing c place (inr h) = of_holder token marked hash is checked.opens has h
+
+            go : (other : Condition) (place : Place) → Fails content policy now other place → (number_of l.failed < number_of other) ⊎ ((other ≡ l.failed) × IsNoLater fault.place place)
+            go other place (of_file h) = absurd (is.reads.passes (fault_at other place) h)
+            go other place (of_missing t there h) = absurd (not_missing t there other place h)
+            go other place (of_token t there h) = absurd (no_token_fault t there other place h)
+            go other place (of_claims t m there opens h) = l.lowest other place (inl (subst (λ (x : Marked). ClaimFails (strip x) policy now other place) (same_claims t m there opens) h))
+            go other place (of_holder t m a there opens names h) = l.lowest other place (inr (same_holder t m a other place there opens names h))
+
+        pub accepted : NoneFails (ShownFails token.parts (strip marked) hash policy now) → IsAccepted content policy now marked
+        accepted none = record { passes = λ c place h. go c place h; token = token; is_token = is; opens = checked.opens }
+          where
+            go : (c : Condition) (place : Place) → Fails content policy now c place → ⊥
+            go c place (of_file h) = is.reads.passes (fault_at c place) h
+            go c place (of_missing t there h) = not_missing t there c place h
+            go c place (of_token t there h) = no_token_fault t there c place h
+            go c place (of_claims t m there opens h) = none c place (inl (subst (λ (x : Marked). ClaimFails (strip x) policy now c place) (same_claims t m there opens) h))
+            go c place (of_holder t m a there opens names h) = none c place (inr (same_holder t m a c place there opens names h))

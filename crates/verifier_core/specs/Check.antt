@@ -20,8 +20,10 @@ use Rattle.rebuild_core.specs.Given.{look_ups, counted, RoseWithin}
 use Rattle.rebuild_core.specs.Answer.{IsRefusal}
 use Rattle.rebuild_core.specs.declared.errors.ProcessError.{ProcessError}
 use Rattle.compact_form.specs.Lowest.{unplaced}
-use Rattle.verifier_core.specs.Verdict.{Rules, key_for, HasPayload, HasContent, IsAlgRefused, IsTypeRefused, IsBadSignature, IsUnread, Gives}
+use Rattle.compact_form.specs.Condition.{Condition, number_of}
+use Rattle.verifier_core.specs.Verdict.{Rules, key_for, HasContent, ClaimFails, HolderFails, IsAlgRefused, IsTypeRefused, IsBadSignature, IsUnread, Gives}
 use Rattle.verifier_core.specs.declared.check.VerifyError.{VerifyError}
+use Rattle.verifier_core.specs.declared.policy.Policy.{Policy}
 
 -- the fault that is answered, where memory did not end
 abbrev pub OnFault : VerifyError → (Fault → Type 0) → Type 0
@@ -35,10 +37,6 @@ asked keys algs typ = record { keys = keys; algs = algs; typ = typ }
 -- a compact token: it has no unprotected header
 abbrev pub compact : Parts → Token
 compact parts = record { parts = parts; outer = no_members }
-
--- the algorithm of the digests
-abbrev pub HasHash : Token → HashAlg → Type 0
-HasHash token hash = (body : Tree) × HasPayload token body × (payload_hash body ≡ Some hash)
 
 -- the look-ups of a token that is checked
 abbrev pub IsCounted : Token → ℕ → ℕ → Type 0
@@ -57,6 +55,10 @@ abbrev pub IsUncounted : ℕ → ℕ → Fault → Type 0
 IsUncounted old new fault = fault.number ≤ 13 → new ≡ old
 
 -- ---- for private functions
+
+-- what fails each condition on what the disclosures show: on the claims, and on the key binding token
+abbrev pub ShownFails : Parts → Tree → HashAlg → Policy → ℕ → Condition → Place → Type 0
+ShownFails parts payload hash policy now c place = ClaimFails payload policy now c place ⊎ HolderFails parts payload hash policy now c place
 
 -- the fault of a condition that fails at a number
 abbrev pub placed : ℕ → ℕ → Fault

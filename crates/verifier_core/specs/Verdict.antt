@@ -5,6 +5,8 @@ use Rattle.claim_tree.specs.Tree.{Text, Tree, leaf, text, get}
 use Rattle.claim_tree.specs.Lists.{At as StandsAt}
 use Rattle.compact_form.specs.declared.fault.Place.{Place}
 use Rattle.compact_form.specs.declared.parts.JwtParts.{JwtParts}
+use Rattle.compact_form.specs.declared.parts.Parts.{Parts}
+use Rattle.compact_form.specs.Compact.{hashed}
 use Rattle.compact_form.specs.Token as file
 use Rattle.json_form.specs.declared.token.Token.{Token}
 use Rattle.json_form.specs.Token.{IsToken}
@@ -26,6 +28,9 @@ use Rattle.rebuild_core.specs.Conditions as opening
 use Rattle.compact_form.specs.Lowest.{Unplaced, Numbered, NoneFails}
 use Rattle.compact_form.specs.Condition as condition
 use Rattle.compact_form.specs.Condition.{Condition, number_of}
+use Rattle.key_binding.specs.Judged.{judged}
+use Rattle.key_binding.specs.BindingConditions.{BindingFails}
+use Rattle.key_binding.specs.declared.policy.BindingPolicy.{BindingPolicy}
 use Rattle.verifier_core.specs.declared.policy.Policy.{Policy}
 
 -- ---- what a token says
@@ -59,6 +64,10 @@ IsBadSignature key signed = IsGoodText key signed.protected signed.payload signe
 
 abbrev pub HasPayload : Token → Tree → Type 0
 HasPayload token payload = IsBody token.parts.signed.payload payload
+
+-- the algorithm of the digests
+abbrev pub HasHash : Token → HashAlg → Type 0
+HasHash token hash = (body : Tree) × HasPayload token body × (payload_hash body ≡ Some hash)
 
 -- the text is no disclosure
 abbrev pub IsUnread : Text → Type 0
@@ -122,14 +131,31 @@ ClaimFails payload policy now _ place = ⊥
 abbrev pub rules_of : Policy → Rules
 rules_of policy = record { keys = policy.keys; algs = policy.algs; typ = policy.typ }
 
+-- a key binding token is asked for, and there is none
+abbrev pub IsBindingMissing : Policy → Parts → Type 0
+IsBindingMissing policy parts = (binding : BindingPolicy) × (policy.binding ≡ Some binding) × (parts.binding ≡ None)
+
+abbrev pub MissingFails : Policy → Parts → Condition → Place → Type 0
+MissingFails policy parts c place = (c ≡ condition.binding_missing) × Unplaced (IsBindingMissing policy parts) place
+
+-- what fails each condition on the key binding token that is asked for, over the processed payload and the hash of the token that it is sent with
+pub record HolderFails (parts : Parts) (payload : Tree) (hash : HashAlg) (policy : Policy) (now : ℕ) (c : Condition) (place : Place) : Type 0 where
+  pub binding : BindingPolicy
+  pub asked : policy.binding ≡ Some binding
+  pub token : JwtParts
+  pub sent : parts.binding ≡ Some token
+  pub fails : BindingFails (judged token payload binding policy.skew hash (hashed parts) now) c place
+
 -- what fails each condition on a token file under a policy
 abbrev pub FileFails : List ℕ → Condition → Place → Type 0
 FileFails content c place = file.Fails content (record { number = number_of c; place = place })
 
 pub data Fails (content : List ℕ) (policy : Policy) (now : ℕ) (c : Condition) (place : Place) : Type 0 where
   of_file : FileFails content c place → Fails content policy now c place
+  of_missing : (token : Token) → IsToken content token → MissingFails policy token.parts c place → Fails content policy now c place
   of_token : (token : Token) → IsToken content token → TokenFails token (rules_of policy) c place → Fails content policy now c place
   of_claims : (token : Token) (marked : Marked) → IsToken content token → Opens token marked → ClaimFails (strip marked) policy now c place → Fails content policy now c place
+  of_holder : (token : Token) (marked : Marked) (hash : HashAlg) → IsToken content token → Opens token marked → HasHash token hash → HolderFails token.parts (strip marked) hash policy now c place → Fails content policy now c place
 
 -- ---- the verdict
 

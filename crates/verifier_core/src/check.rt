@@ -12,8 +12,8 @@ ghost use Rattle.rebuild_core.specs.Conditions.{IsSound};
 ghost use Rattle.rebuild_core.specs.Given.{look_ups, counted, RoseWithin};
 ghost use Rattle.rebuild_core.specs.Opening.{processed};
 ghost use Rattle.rebuild_core.specs.Payload.{without_alg};
-ghost use Rattle.verifier_core.specs.Verdict.{TokenFails, IsChecked, IsCheckedAs, HasContent};
-ghost use Rattle.verifier_core.specs.Check.{OnFault, HasHash, IsCounted, IsCountedWithin, IsUncounted, IsUnopened, asked, compact, placed, refusal_of};
+ghost use Rattle.verifier_core.specs.Verdict.{TokenFails, IsChecked, IsCheckedAs, HasContent, HasHash};
+ghost use Rattle.verifier_core.specs.Check.{OnFault, IsCounted, IsCountedWithin, IsUncounted, IsUnopened, asked, compact, placed, refusal_of};
 ghost use Rattle.compact_form.specs.Lowest.{IsLowest, Passes};
 ghost use Rattle.verifier_core.specs.declared.check.VerifyError.{VerifyError};
 
@@ -44,6 +44,13 @@ pub struct Checked {
     pub marked: Marked,
     /// The algorithm of its digests.
     pub hash: HashAlg,
+}
+
+// The same, without the marks.
+#[derive(Debug, Drop)]
+pub(crate) struct CheckedPayload {
+    pub(crate) payload: Tree,
+    pub(crate) hash: HashAlg,
 }
 
 /// Why a token is not accepted.
@@ -200,7 +207,11 @@ fn open_content(alloc: Global, content: Content, steps: &mut Steps) -> Result<Ch
 }
 
 // The same, for the payload alone.
-fn open_payload(alloc: Global, content: Content, steps: &mut Steps) -> Result<Tree, VerifyError>
+fn open_payload(
+    alloc: Global,
+    content: Content,
+    steps: &mut Steps,
+) -> Result<CheckedPayload, VerifyError>
     requires object { IsPayload (tree_of content.body) }
     requires body_depth { depth_of (tree_of content.body) ≤ 127 }
     requires values_depth { ValuesShallow content.given }
@@ -208,15 +219,16 @@ fn open_payload(alloc: Global, content: Content, steps: &mut Steps) -> Result<Tr
     requires values_range { ValuesRanged content.given }
     requires few { length content.given < 2 ^ 32 - 1 }
     ensures sound { IfOk result (λ _. IsSound (without_alg (tree_of content.body)) content.given) }
-    ensures processed { IfOk result (λ payload. tree_of payload ≡ strip_of (processed (without_alg (tree_of content.body)) content.given)) }
-    ensures ranged { IfOk result (λ payload. IsRanged (tree_of payload)) }
+    ensures processed { IfOk result (λ c. tree_of c.payload ≡ strip_of (processed (without_alg (tree_of content.body)) content.given)) }
+    ensures ranged { IfOk result (λ c. IsRanged (tree_of c.payload)) }
+    ensures hash { IfOk result (λ c. c.hash ≡ content.hash) }
     ensures refused { IfErr result (IsUnopened (without_alg (tree_of content.body)) content.given) }
     ensures counted { IfOk result (λ _. steps.new ≡ counted steps.old (look_ups (without_alg (tree_of content.body)) content.given)) }
     ensures risen { RoseWithin (look_ups (without_alg (tree_of content.body)) content.given) steps.old steps.new }
 {
-    let Content { body, given, .. } = content;
+    let Content { body, hash, given } = content;
     match process_payload(alloc, body, &given, steps) {
-        Ok(payload) => Ok(payload),
+        Ok(payload) => Ok(CheckedPayload { payload, hash }),
         Err(error) => Err(refusal(error)),
     }
 }
@@ -288,10 +300,11 @@ pub(crate) fn checked_payload(
     algs: &TextList,
     typ: Option<&TextBox>,
     steps: &mut Steps,
-) -> Result<Tree, VerifyError>
+) -> Result<CheckedPayload, VerifyError>
     requires few { length view.now.disclosures < 2 ^ 32 - 1 }
-    ensures checked { IfOk result (λ payload. IsCheckedAs (compact view.now) (asked keys.now algs.now (option_copied typ.entry)) (tree_of payload)) }
-    ensures ranged { IfOk result (λ payload. IsRanged (tree_of payload)) }
+    ensures checked { IfOk result (λ c. IsCheckedAs (compact view.now) (asked keys.now algs.now (option_copied typ.entry)) (tree_of c.payload)) }
+    ensures ranged { IfOk result (λ c. IsRanged (tree_of c.payload)) }
+    ensures hash { IfOk result (λ c. HasHash (compact view.now) c.hash) }
     ensures refused { IfErr result (λ e. OnFault e (IsLowest (TokenFails (compact view.now) (asked keys.now algs.now (option_copied typ.entry))))) }
     ensures counted { IfOk result (λ _. IsCounted (compact view.now) steps.old steps.new) }
     ensures within { IsCountedWithin (compact view.now) steps.old steps.new }

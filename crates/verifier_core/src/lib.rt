@@ -4,6 +4,7 @@
 //! the line that tells of a condition that fails.
 #![tactic(auto)]
 
+mod binding_file;
 mod check;
 mod check_given;
 mod check_payload;
@@ -15,6 +16,7 @@ mod claims;
 mod claims_tests;
 #[cfg(test)]
 mod condition_tests;
+mod holder;
 pub mod laws;
 mod policy;
 mod refusal;
@@ -26,6 +28,7 @@ mod verdict;
 #[cfg(test)]
 mod verify_tests;
 
+pub use binding_file::AGE_MAX;
 pub use check::{Checked, VerifyError, check_token, check_view};
 pub use policy::{Policy, SKEW_MAX, keys_member, read_policy};
 pub use refusal::fault_line;

@@ -5,24 +5,27 @@ ghost use Rattle.claim_tree.specs.declared.file_fault.Field.TheVariants.{Algs, R
 ghost use Rattle.hmac_sign.specs.Keys.{IsKeySet};
 ghost use Rattle.verifier_core.specs.PolicyFile.{IsPolicyFile, IsPolicyRefused};
 
+use crate::binding_file::binding_member;
 use claim_tree::{
     Field, FileFault, TreeMap, read_members, text_list_member, text_member, whole_member,
 };
 use compact_form::FILE_MAX;
 use hmac_sign::{KeySet, KeySetError};
+use key_binding::BindingPolicy;
 use sd_outside::{TextBox, TextList};
 use std::alloc::Global;
 
 /// The most seconds by which clocks may differ.
 pub const SKEW_MAX: u32 = 3_600;
 
-const FIELDS: [Field; 6] = [
+const FIELDS: [Field; 7] = [
     Field::Keys,
     Field::Algs,
     Field::Typ,
     Field::Iss,
     Field::Require,
     Field::Skew,
+    Field::Binding,
 ];
 
 /// What a verifier wants of a token.
@@ -40,6 +43,8 @@ pub struct Policy {
     pub require: TextList,
     /// The seconds by which the clocks may differ, at most [`SKEW_MAX`].
     pub skew: u32,
+    /// What is wanted of a key binding token, where one is asked for.
+    pub binding: Option<BindingPolicy>,
 }
 
 /// The key set of a member that a file must have.
@@ -94,7 +99,9 @@ fn skew_member(members: &TreeMap) -> Result<u32, FileFault>
 /// The policy that a file says: a JSON object whose one member that it must have is `keys`, a key set.
 ///
 /// `algs` and `require` are lists of texts, `typ` and `iss` texts, and `skew` is a whole number of seconds. Where they are
-/// missing, the algorithm is HS256, nothing else is wanted, and the clocks do not differ. Another member is a fault.
+/// missing, the algorithm is HS256, nothing else is wanted, and the clocks do not differ. `binding` is an object of just `aud` and
+/// `nonce`, texts of at most 256 bytes, `keys`, a key set, and `max_age`, a whole number of seconds below 2^32; where it is
+/// missing, no key binding token is asked for. Another member is a fault.
 pub fn read_policy(alloc: Global, bytes: &[u8]) -> Result<Policy, FileFault>
     ensures ok { IfOk result (IsPolicyFile bytes.now) }
     ensures refused { IfErr result (IsPolicyRefused bytes.now) }
@@ -106,6 +113,7 @@ pub fn read_policy(alloc: Global, bytes: &[u8]) -> Result<Policy, FileFault>
     let iss = text_member(alloc, &members, Field::Iss)?;
     let require = require_member(alloc, &members)?;
     let skew = skew_member(&members)?;
+    let binding = binding_member(alloc, &members)?;
     Ok(Policy {
         keys,
         algs,
@@ -113,5 +121,6 @@ pub fn read_policy(alloc: Global, bytes: &[u8]) -> Result<Policy, FileFault>
         iss,
         require,
         skew,
+        binding,
     })
 }

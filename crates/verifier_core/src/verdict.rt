@@ -10,11 +10,12 @@ ghost use Rattle.verifier_core.specs.Verdict.{Fails, IsAccepted, IsAcceptedAs};
 ghost use Rattle.compact_form.specs.Lowest.{IsLowest};
 ghost use Rattle.verifier_core.specs.Check.{OnFault, IsCounted, IsReadWithin, IsUncounted};
 
-use crate::check::checked_payload;
-use crate::claims::check_claims;
+use crate::check::{CheckedPayload, checked_payload};
+use crate::check_signed::fails;
+use crate::holder::{check_shown, is_binding_missing};
 use crate::{Checked, Policy, VerifyError, check_view};
 use claim_tree::Tree;
-use compact_form::read_view;
+use compact_form::{BINDING_MISSING, read_view};
 use digest_index::Steps;
 use marked_tree::Marked;
 use std::alloc::Global;
@@ -30,8 +31,9 @@ pub struct Accepted {
 
 /// Verifies a token as it comes from a file, RFC 9901 section 7.3, at a moment in seconds since 1970.
 ///
-/// The conditions 1 to 3 and 5 to 26 are judged in the order of their numbers, and the first that fails is answered with its least
-/// place. A key binding token that is there is read as grammar and otherwise ignored. `steps` counts the look-ups of digests.
+/// The conditions 1 to 38 are judged in the order of their numbers, and the first that fails is answered with its least place. A key
+/// binding token that is there without being asked for is read as grammar and otherwise ignored. `steps` counts the look-ups of
+/// digests.
 pub fn verify(
     alloc: Global,
     text: &[u8],
@@ -53,17 +55,20 @@ pub fn verify(
         Ok(view) => view,
         Err(fault) => return Err(VerifyError::Fault(fault)),
     };
+    if is_binding_missing(&view, policy) {
+        return Err(fails(BINDING_MISSING));
+    }
     let typ = policy.typ.as_ref();
     let Checked {
         payload,
         marked,
-        ..
+        hash,
     } = match check_view(alloc, &view, &policy.keys, &policy.algs, typ, steps) {
         Ok(checked) => checked,
         Err(error) => return Err(error),
     };
-    if let Err(fault) = check_claims(&payload, policy, now) {
-        return Err(VerifyError::Fault(fault));
+    if let Err(error) = check_shown(alloc, &view, &payload, hash, policy, now) {
+        return Err(error);
     }
     Ok(Accepted { payload, marked })
 }
@@ -89,13 +94,16 @@ pub fn verify_payload(
         Ok(view) => view,
         Err(fault) => return Err(VerifyError::Fault(fault)),
     };
+    if is_binding_missing(&view, policy) {
+        return Err(fails(BINDING_MISSING));
+    }
     let typ = policy.typ.as_ref();
-    let payload = match checked_payload(alloc, &view, &policy.keys, &policy.algs, typ, steps) {
+    let CheckedPayload { payload, hash } = match checked_payload(alloc, &view, &policy.keys, &policy.algs, typ, steps) {
         Ok(payload) => payload,
         Err(error) => return Err(error),
     };
-    if let Err(fault) = check_claims(&payload, policy, now) {
-        return Err(VerifyError::Fault(fault));
+    if let Err(error) = check_shown(alloc, &view, &payload, hash, policy, now) {
+        return Err(error);
     }
     Ok(payload)
 }
