@@ -8,3 +8,4 @@ pub mod CheckTests
 pub mod Verdicts
 pub mod OneVerdict
 mod Examples
+pub mod BindingPolicies
