@@ -147,7 +147,7 @@ file_place content c place (file.too_much parts e h many) =
     subst (λ (d : Condition). Suits (has_number d) place) (sym is) (ap (λ (x : Fault). x.place) e)
 
 missing_place : (policy : Policy) (parts : Parts) (c : Condition) (place : Place) → MissingFails policy parts c place → Suits (has_number c) place
-missing_place policy parts c place h = subst (λ (d : Condition). Suits (has_number d) place) (sym h.0) h.1
+missing_place policy parts c place h = subst (λ (d : Condition). Suits (has_number d) place) (sym h.0) h.1.0
 
 -- a condition on the key binding token fails at no number
 no_number : (j : Judged) (c : Condition) (place : Place) → BindingFails j c place → Suits (has_number c) place

@@ -6,6 +6,7 @@ use Rattle.compact_form.specs.declared.conditions.TheConstants.{TOO_MUCH}
 use Rattle.compact_form.specs.declared.fault.Fault.{Fault}
 use Rattle.compact_form.specs.declared.fault.Place.{Place}
 use Rattle.compact_form.specs.declared.fault.Place.TheVariants.{Nowhere, At, Json}
+use Rattle.compact_form.specs.declared.parts.JwtParts.{JwtParts}
 use Rattle.compact_form.specs.declared.parts.Parts.{Parts}
 use Rattle.compact_form.specs.Compact.{hashed}
 use Rattle.compact_form.specs.Token as file
@@ -18,6 +19,8 @@ use Rattle.disclosure.specs.declared.digests.HashAlg.{HashAlg}
 use Rattle.digest_sites.specs.Given.{Given}
 use Rattle.jws_part.proofs.Parts.{one_body}
 use Rattle.key_binding.specs.Judged.{judged}
+use Rattle.key_binding.specs.BindingConditions.{BindingFails}
+use Rattle.key_binding.specs.declared.policy.BindingPolicy.{BindingPolicy}
 use Rattle.key_binding.proofs.BindingNumbers.{binding_numbers}
 use Rattle.marked_tree.specs.Marked.{Marked, strip}
 use Rattle.rebuild_core.specs.Opening.{processed}
@@ -95,6 +98,16 @@ holder_numbers parts payload hash policy now c place h =
     numbers.0
 
 module _ (parts : Parts) (payload : Tree) (hash : HashAlg) (policy : Policy) (now : ℕ) where
+  same_fails : (binding : BindingPolicy) (token : JwtParts) → policy.binding ≡ Some binding → parts.binding ≡ Some token → (c : Condition) (place : Place) → HolderFails parts payload hash policy now c place
+      → BindingFails (judged token payload binding policy.skew hash (hashed parts) now) c place
+  same_fails binding token asked sent c place h =
+      let bindings : Some h.binding ≡ Some binding = sym h.asked ∙ asked in
+      let tokens_same : Some h.token ≡ Some token = sym h.sent ∙ sent in
+      let binding_same : h.binding ≡ binding = cc bindings in
+      let token_same : h.token ≡ token = cc tokens_same in
+      subst (λ (b : BindingPolicy). BindingFails (judged token payload b policy.skew hash (hashed parts) now) c place) binding_same
+      (subst (λ (j : JwtParts). BindingFails (judged j payload h.binding policy.skew hash (hashed parts) now) c place) token_same h.fails)
+
   -- claims that are refused
   pub claims_shown : (fault : Fault) → IsLowest (ClaimFails payload policy now) fault → IsLowest (ShownFails parts payload hash policy now) fault
   claims_shown fault l = record { failed = l.failed; number_is = l.number_is; fails = inl l.fails; lowest = λ other place h. go other place h }
@@ -114,6 +127,16 @@ module _ (parts : Parts) (payload : Tree) (hash : HashAlg) (policy : Policy) (no
       go other place (inl h) = absurd (none other place h)
       go other place (inr h) = l.lowest other place h
 
+  -- a key binding token that is judged to fail
+  pub holder_lowest : (binding : BindingPolicy) (token : JwtParts) → policy.binding ≡ Some binding → parts.binding ≡ Some token → (fault : Fault)
+      → IsLowest (BindingFails (judged token payload binding policy.skew hash (hashed parts) now)) fault → IsLowest (HolderFails parts payload hash policy now) fault
+  holder_lowest binding token asked sent fault l = record {
+    failed = l.failed;
+    number_is = l.number_is;
+    fails = record { binding = binding; asked = asked; token = token; sent = sent; fails = l.fails };
+    lowest = λ other place h. l.lowest other place (same_fails binding token asked sent other place h);
+  }
+
   pub none_shown : NoneFails (ClaimFails payload policy now) → NoneFails (HolderFails parts payload hash policy now) → NoneFails (ShownFails parts payload hash policy now)
   none_shown claims holder c place (inl h) = claims c place h
   none_shown claims holder c place (inr h) = holder c place h
@@ -121,7 +144,7 @@ module _ (parts : Parts) (payload : Tree) (hash : HashAlg) (policy : Policy) (no
 module _ (content : List ℕ) (policy : Policy) (now : ℕ) (token : Token) (is : IsToken content token) where
   -- a key binding token that is asked for and missing
   pub missing_lowest : IsBindingMissing policy token.parts → IsLowest (Fails content policy now) (unplaced 4)
-  missing_lowest missing = record { failed = condition.binding_missing; number_is = refl; fails = of_missing token is (refl, refl, missing); lowest = λ other place h. go other place h }
+  missing_lowest missing = record { failed = condition.binding_missing; number_is = refl; fails = of_missing token is (refl, (refl, missing)); lowest = λ other place h. go other place h }
     where
       go : (other : Condition) (place : Place) → Fails content policy now other place → (4 < number_of other) ⊎ ((other ≡ condition.binding_missing) × Unit {0})
       go other place (of_file h) = absurd (is.reads.passes (fault_at other place) h)
@@ -143,7 +166,7 @@ module _ (content : List ℕ) (policy : Policy) (now : ℕ) (token : Token) (is 
 
   module _ (sent : IsBindingMissing policy token.parts → ⊥) where
     not_missing : (t : Token) → IsToken content t → (c : Condition) (place : Place) → MissingFails policy t.parts c place → ⊥
-    not_missing t there c place h = sent (subst (λ (x : Token). IsBindingMissing policy x.parts) (tokens.one content t token there is) h.2)
+    not_missing t there c place h = sent (subst (λ (x : Token). IsBindingMissing policy x.parts) (tokens.one content t token there is) h.1.1)
 
     -- a token that is refused
     pub token_lowest : (fault : Fault) → IsLowest (TokenFails token (rules_of policy)) fault → IsLowest (Fails content policy now) fault

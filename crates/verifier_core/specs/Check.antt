@@ -21,6 +21,7 @@ use Rattle.rebuild_core.specs.Answer.{IsRefusal}
 use Rattle.rebuild_core.specs.declared.errors.ProcessError.{ProcessError}
 use Rattle.compact_form.specs.Lowest.{unplaced}
 use Rattle.compact_form.specs.Condition.{Condition, number_of}
+use Rattle.compact_form.specs.Lowest.{unplaced}
 use Rattle.verifier_core.specs.Verdict.{Rules, key_for, HasContent, ClaimFails, HolderFails, IsAlgRefused, IsTypeRefused, IsBadSignature, IsUnread, Gives}
 use Rattle.verifier_core.specs.declared.check.VerifyError.{VerifyError}
 use Rattle.verifier_core.specs.declared.policy.Policy.{Policy}

@@ -28,6 +28,7 @@ use Rattle.rebuild_core.specs.Conditions as opening
 use Rattle.compact_form.specs.Lowest.{Unplaced, Numbered, NoneFails}
 use Rattle.compact_form.specs.Condition as condition
 use Rattle.compact_form.specs.Condition.{Condition, number_of}
+use Rattle.compact_form.specs.Lowest.{Unplaced, Numbered, NoneFails}
 use Rattle.key_binding.specs.Judged.{judged}
 use Rattle.key_binding.specs.BindingConditions.{BindingFails}
 use Rattle.key_binding.specs.declared.policy.BindingPolicy.{BindingPolicy}

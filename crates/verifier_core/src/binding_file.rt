@@ -1,5 +1,5 @@
 // What a policy file says of key binding.
-ghost use Rattle.std.specs.Prelude.{List, ℕ, IfOk, IfErr, IfSome, IfNone};
+ghost use Rattle.std.specs.Prelude.{List, ℕ, codes, IfOk, IfErr, IfSome, IfNone};
 ghost use Rattle.claim_tree.specs.FileForms.{IsWholeUpTo, HasValue, Says, MaySay, IsMemberRefused, optional, found};
 ghost use Rattle.claim_tree.specs.Tree.{member_named};
 ghost use Rattle.claim_tree.specs.View.{tree_of};
