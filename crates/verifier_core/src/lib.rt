@@ -1,10 +1,13 @@
 //! What a verifier wants of a token, and the conditions by which it refuses one (RFC 9901 section 7.3).
 //!
-//! [`read_policy`] reads a [`Policy`] from its file. [`check_token`] and [`check_view`] judge a token itself, and [`fault_line`] is
-//! the line that tells of a condition that fails.
+//! [`read_policy`] reads a [`Policy`] from its file, and [`verify`] and [`verify_payload`] judge a token file under it, by the
+//! conditions 1 to 38. [`check_token`] and [`check_view`] judge a token itself, and [`fault_line`] is the line that tells of a
+//! condition that fails.
 #![tactic(auto)]
 
 mod binding_file;
+#[cfg(test)]
+mod binding_tests;
 mod check;
 mod check_given;
 mod check_payload;

@@ -56,7 +56,7 @@ fn a_policy_with_a_fault_is_refused(rt: HostRuntime) -> Result<(), Fail> {
     for (keys, members, fault) in [
         ("1.5", ",\"binding\":{}", FileFault::NotWhole),
         ("1e999", ",\"a\":1.5", FileFault::NotJson),
-        (KEYS, ",\"binding\":{}", FileFault::Unknown),
+        (KEYS, ",\"bindings\":{}", FileFault::Unknown),
         ("[]", ",\"Keys\":[]", FileFault::Unknown),
         ("[]", "", FileFault::Wrong(Field::Keys)),
         ("{\"keys\":[{}]}", "", FileFault::Wrong(Field::Keys)),
@@ -70,7 +70,11 @@ fn a_policy_with_a_fault_is_refused(rt: HostRuntime) -> Result<(), Fail> {
         (KEYS, ",\"skew\":3601", FileFault::Wrong(Field::Skew)),
         (KEYS, ",\"skew\":-1", FileFault::Wrong(Field::Skew)),
         (KEYS, ",\"skew\":4294967296", FileFault::Wrong(Field::Skew)),
-        (KEYS, ",\"skew\":\"1\"", FileFault::Wrong(Field::Skew)),
+        (
+            KEYS,
+            ",\"skew\":\"1\",\"binding\":{}",
+            FileFault::Wrong(Field::Skew),
+        ),
     ] {
         let text = format!(in alloc; "{{\"keys\":{keys}{members}}}")?;
         let read = read_policy(alloc, text.as_bytes());

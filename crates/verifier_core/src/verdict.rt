@@ -98,7 +98,14 @@ pub fn verify_payload(
         return Err(fails(BINDING_MISSING));
     }
     let typ = policy.typ.as_ref();
-    let CheckedPayload { payload, hash } = match checked_payload(alloc, &view, &policy.keys, &policy.algs, typ, steps) {
+    let CheckedPayload { payload, hash } = match checked_payload(
+        alloc,
+        &view,
+        &policy.keys,
+        &policy.algs,
+        typ,
+        steps,
+    ) {
         Ok(payload) => payload,
         Err(error) => return Err(error),
     };
