@@ -2,4 +2,3 @@ pub mod BindingSteps
 pub mod BindingTests
 pub mod Bindings
 pub mod Accepted
-pub mod BindingNumbers

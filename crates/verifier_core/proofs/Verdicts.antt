@@ -21,7 +21,7 @@ use Rattle.jws_part.proofs.Parts.{one_body}
 use Rattle.key_binding.specs.Judged.{judged}
 use Rattle.key_binding.specs.BindingConditions.{BindingFails}
 use Rattle.key_binding.specs.declared.policy.BindingPolicy.{BindingPolicy}
-use Rattle.key_binding.proofs.BindingNumbers.{binding_numbers}
+use Rattle.key_binding.proofs.BindingSteps.{binding_numbers}
 use Rattle.marked_tree.specs.Marked.{Marked, strip}
 use Rattle.rebuild_core.specs.Opening.{processed}
 use Rattle.compact_form.specs.Condition as condition

@@ -3,6 +3,7 @@ use Rattle.std.specs.Prelude.{◌≡◌, ◌≤◌, ℕ, Bool, true, false, List
 use Rattle.std.specs.List.{AllZip}
 use Rattle.claim_tree.specs.Tree.{Text, Tree, Members, no_members, IsRanged, depth}
 use Rattle.compact_form.specs.declared.fault.Fault.{Fault}
+use Rattle.compact_form.specs.declared.fault.Place.{Place}
 use Rattle.compact_form.specs.declared.fault.Place.TheVariants.{At}
 use Rattle.compact_form.specs.declared.parts.JwtParts.{JwtParts}
 use Rattle.compact_form.specs.declared.parts.Parts.{Parts}
@@ -19,7 +20,6 @@ use Rattle.json_form.specs.Token.{IsToken}
 use Rattle.rebuild_core.specs.Given.{look_ups, counted, RoseWithin}
 use Rattle.rebuild_core.specs.Answer.{IsRefusal}
 use Rattle.rebuild_core.specs.declared.errors.ProcessError.{ProcessError}
-use Rattle.compact_form.specs.Lowest.{unplaced}
 use Rattle.compact_form.specs.Condition.{Condition, number_of}
 use Rattle.compact_form.specs.Lowest.{unplaced}
 use Rattle.verifier_core.specs.Verdict.{Rules, key_for, HasContent, ClaimFails, HolderFails, IsAlgRefused, IsTypeRefused, IsBadSignature, IsUnread, Gives}
