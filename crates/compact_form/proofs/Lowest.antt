@@ -1,5 +1,5 @@
 -- The lowest condition that fails, sought step by step.
-use Rattle.std.proofs.Common.{◌≡◌, ℕ, suc, ◌<◌, ◌≤◌, ◌⊎◌, inl, inr, ⊎_elim, refl, sym, subst, arith}
+use Rattle.std.proofs.Common.{◌≡◌, ℕ, suc, ◌<◌, ◌≤◌, ◌⊎◌, inl, inr, ⊎_elim, refl, sym, ap, subst, ◌∙◌, arith}
 use Rattle.compact_form.specs.declared.fault.Fault.{Fault}
 use Rattle.compact_form.specs.declared.fault.Place.{Place}
 use Rattle.compact_form.specs.declared.fault.Place.TheVariants.{Nowhere}
@@ -51,3 +51,20 @@ lowest_unplaced FailsSo failed fault number_is place_is below fails = lowest_at 
 pub refuse_unplaced : (FailsSo : Condition → Place → Type 0) (d : Condition) (fault : Fault) → fault ≡ unplaced (number_of d) → Passes (number_of d) FailsSo → FailsSo d Nowhere → IsLowest FailsSo fault
 refuse_unplaced FailsSo d fault is passes fails =
     subst (IsLowest FailsSo) (sym is) (lowest_at FailsSo d (unplaced (number_of d)) refl passes fails (λ place h. tt))
+
+-- two lowest conditions are one, and neither place is later
+pub one_failed : (FailsSo : Condition → Place → Type 0) (f g : Fault) (l : IsLowest FailsSo f) (m : IsLowest FailsSo g)
+    → (m.failed ≡ l.failed) × (IsNoLater f.place g.place × IsNoLater g.place f.place)
+one_failed FailsSo f g l m = go (l.lowest m.failed g.place m.fails) (m.lowest l.failed f.place l.fails)
+  where
+    go : (number_of l.failed < number_of m.failed) ⊎ ((m.failed ≡ l.failed) × IsNoLater f.place g.place)
+        → (number_of m.failed < number_of l.failed) ⊎ ((l.failed ≡ m.failed) × IsNoLater g.place f.place)
+        → (m.failed ≡ l.failed) × (IsNoLater f.place g.place × IsNoLater g.place f.place)
+    go (inl less) (inl more) = absurd (omega (arith, less, more))
+    go (inl less) (inr (same, _)) = let e : number_of l.failed ≡ number_of m.failed = ap number_of same in absurd (omega (arith, less, e))
+    go (inr (same, _)) (inl more) = let e : number_of m.failed ≡ number_of l.failed = ap number_of same in absurd (omega (arith, more, e))
+    go (inr (same, there)) (inr (_, back)) = (same, (there, back))
+
+-- so they have one number
+pub one_number : (FailsSo : Condition → Place → Type 0) (f g : Fault) → IsLowest FailsSo f → IsLowest FailsSo g → f.number ≡ g.number
+one_number FailsSo f g l m = l.number_is ∙ (ap number_of (sym (one_failed FailsSo f g l m).0) ∙ sym m.number_is)

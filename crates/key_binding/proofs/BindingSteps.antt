@@ -58,6 +58,47 @@ binding_numbers j audience_differs place h = (omega arith, omega arith)
 binding_numbers j hash_differs place h = (omega arith, omega arith)
 binding_numbers j binding_time place h = (omega arith, omega arith)
 
+-- none names a place
+pub no_place : (j : Judged) (c : Condition) (place : Place) → BindingFails j c place → place ≡ Nowhere
+no_place j too_long place h = absurd h
+no_place j form place h = absurd h
+no_place j too_much place h = absurd h
+no_place j binding_missing place h = absurd h
+no_place j header_unreadable place h = absurd h
+no_place j header_critical place h = absurd h
+no_place j alg_refused place h = absurd h
+no_place j type_refused place h = absurd h
+no_place j issuer_key_unknown place h = absurd h
+no_place j bad_signature place h = absurd h
+no_place j payload_unreadable place h = absurd h
+no_place j hash_unknown place h = absurd h
+no_place j disclosure_unreadable place h = absurd h
+no_place j repeated_disclosure place h = absurd h
+no_place j reserved_misused place h = absurd h
+no_place j repeated_digest place h = absurd h
+no_place j unreferenced_disclosure place h = absurd h
+no_place j wrong_shape place h = absurd h
+no_place j reserved_name place h = absurd h
+no_place j name_clash place h = absurd h
+no_place j too_deep place h = absurd h
+no_place j issuer_refused place h = absurd h
+no_place j claim_missing place h = absurd h
+no_place j time_unreadable place h = absurd h
+no_place j expired place h = absurd h
+no_place j not_yet place h = absurd h
+no_place j holder_key_unknown place h = h.0
+no_place j binding_header place h = h.0
+no_place j binding_alg place h = h.0
+no_place j binding_signature place h = h.0
+no_place j binding_type place h = h.0
+no_place j binding_payload place h = h.0
+no_place j binding_stale place h = h.0
+no_place j binding_early place h = h.0
+no_place j nonce_differs place h = h.0
+no_place j audience_differs place h = h.0
+no_place j hash_differs place h = h.0
+no_place j binding_time place h = h.0
+
 -- ---- what is read is one
 
 same_text : (found : Option Tree) (a b : Text) → found ≡ Some (text_tree a) → found ≡ Some (text_tree b) → a ≡ b

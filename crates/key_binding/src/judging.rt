@@ -32,6 +32,7 @@ pub struct Bound<'a> {
     pub token: JwtView<'a>,
     /// The processed payload of the token that it is sent with.
     pub payload: &'a Tree,
+    /// What the verifier wants.
     pub policy: &'a BindingPolicy,
     /// By how many seconds clocks may differ.
     pub skew: u32,

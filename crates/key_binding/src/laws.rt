@@ -1,7 +1,7 @@
 //! What the definitions of both ends say together. Each law holds for every value.
 ghost use Rattle.std.specs.Prelude.{◌≡◌, ◌<◌, ◌≤◌, ◌^◌, ◌+◌, ℕ, List, Some, length};
 ghost use Rattle.compact_form.specs.Compact.{jwt};
-ghost use Rattle.compact_form.specs.Lowest.{NoneFails};
+ghost use Rattle.compact_form.specs.Lowest.{IsLowest, NoneFails, unplaced};
 ghost use Rattle.compact_form.specs.declared.parts.JwtParts.{JwtParts};
 ghost use Rattle.disclosure.specs.declared.digests.HashAlg.{HashAlg};
 ghost use Rattle.hmac_sign.specs.Hmac.{IsGood};
@@ -28,4 +28,11 @@ pub fn bound_is_short()
         → length aud ≤ BINDING_TEXT_MAX → length nonce ≤ BINDING_TEXT_MAX → iat < 2 ^ 64
         → IsBinding (IsGood key) hash hashed aud nonce iat token
         → length (jwt token) < 5000 }
+{}
+
+/// A key binding token is accepted, or refused by one number from 27 to 38.
+pub fn one_binding_verdict()
+    ensures not_both { (j : Judged) (number : ℕ) → NoneFails (BindingFails j) → IsLowest (BindingFails j) (unplaced number) → ⊥ }
+    ensures one_fault { (j : Judged) (number other : ℕ) → IsLowest (BindingFails j) (unplaced number) → IsLowest (BindingFails j) (unplaced other) → number ≡ other }
+    ensures from_27 { (j : Judged) (number : ℕ) → IsLowest (BindingFails j) (unplaced number) → (27 ≤ number) × (number ≤ 38) }
 {}

@@ -18,6 +18,7 @@ use Rattle.verifier_core.specs.Verdict.{Rules, TokenFails, ClaimFails, MissingFa
 use Rattle.verifier_core.specs.declared.policy.Policy.{Policy}
 use Rattle.compact_form.specs.Lowest.{IsNoLater, IsLowest}
 use Rattle.compact_form.proofs.Numbers.{one_condition}
+use Rattle.compact_form.proofs.Lowest.{one_failed, one_number}
 use Rattle.verifier_core.proofs.Verdicts.{one_opening}
 
 -- ---- the place of a condition
@@ -207,18 +208,11 @@ module _ (content : List ℕ) (policy : Policy) (now : ℕ) where
   accepted_not_refused marked fault accepted refused = accepted.passes refused.failed fault.place refused.fails
 
   pub one_lowest : (f g : Fault) → IsLowest (Fails content policy now) f → IsLowest (Fails content policy now) g → f ≡ g
-  one_lowest f g l m = go (l.lowest m.failed g.place m.fails) (m.lowest l.failed f.place l.fails)
-    where
-      go : (number_of l.failed < number_of m.failed) ⊎ ((m.failed ≡ l.failed) × IsNoLater f.place g.place)
-          → (number_of m.failed < number_of l.failed) ⊎ ((l.failed ≡ m.failed) × IsNoLater g.place f.place) → f ≡ g
-      go (inl less) (inl more) = absurd (omega (arith, less, more))
-      go (inl less) (inr (same, _)) = let e : number_of l.failed ≡ number_of m.failed = ap number_of same in absurd (omega (arith, less, e))
-      go (inr (same, _)) (inl more) = let e : number_of m.failed ≡ number_of l.failed = ap number_of same in absurd (omega (arith, more, e))
-      go (inr (same, there)) (inr (_, back)) =
-          let numbers : f.number ≡ g.number = l.number_is ∙ (ap number_of (sym same) ∙ sym m.number_is) in
-          let at_g = subst (λ (c : Condition). Suits (has_number c) g.place) same (place_of m.failed g.place m.fails) in
-          let places : f.place ≡ g.place = one_place (has_number l.failed) f.place g.place (place_of l.failed f.place l.fails) at_g there back in
-          ap₂ fault_of numbers places
+  one_lowest f g l m =
+      let one = one_failed (Fails content policy now) f g l m in
+      let at_g = subst (λ (c : Condition). Suits (has_number c) g.place) one.0 (place_of m.failed g.place m.fails) in
+      let places : f.place ≡ g.place = one_place (has_number l.failed) f.place g.place (place_of l.failed f.place l.fails) at_g one.1.0 one.1.1 in
+      ap₂ fault_of (one_number (Fails content policy now) f g l m) places
 
   pub one_accepted : (m n : Marked) → IsAccepted content policy now m → IsAccepted content policy now n → m ≡ n
   one_accepted m n a b =

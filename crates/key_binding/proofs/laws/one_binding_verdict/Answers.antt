@@ -1,0 +1,13 @@
+use Rattle.std.proofs.Common.{◌≤◌, sym, subst, arith}
+use Rattle.compact_form.specs.Lowest.{unplaced}
+use Rattle.compact_form.proofs.Lowest.{one_number}
+use Rattle.key_binding.specs.BindingConditions.{BindingFails}
+use Rattle.key_binding.proofs.BindingSteps.{binding_numbers}
+use Rattle.key_binding.proofs.laws.one_binding_verdict.Goals as goal
+
+pub returns : goal.returns
+returns c = record {
+  not_both = λ j number none lowest. none lowest.failed _ lowest.fails;
+  one_fault = λ j number other l m. one_number (BindingFails j) (unplaced number) (unplaced other) l m;
+  from_27 = λ j number lowest. let n = binding_numbers j lowest.failed _ lowest.fails in (omega (arith, n.0, lowest.number_is), omega (arith, n.1, lowest.number_is));
+}
