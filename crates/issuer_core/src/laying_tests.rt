@@ -1,17 +1,21 @@
 use crate::salts::salts_of;
 use crate::tests::{decoys_of, paths_of};
-use crate::{Order, issue};
+use crate::{IssueError, Order, issue};
 use b64url_text::decode;
 use claim_tree::read;
 use compact_form::Parts;
 use disclosure::{HashAlg, digest};
-use hmac_sign::Hs256Key;
+use hmac_sign::{FailSigner, Hs256Key, Signer};
 use sd_outside::{TextBox, TextList};
 use std::alloc::Global;
 use std::test::Fail;
 
-// What is issued under the seed of zeros.
-fn issued(alloc: Global, payload: &str, hide: &str, decoys: &str) -> Result<Parts, Fail> {
+// The answer to an order under the seed of zeros.
+fn answered<S: Signer>(
+    alloc: Global,
+    (payload, hide, decoys): (&str, &str, &str),
+    signer: &mut S,
+) -> Result<Result<Parts, IssueError>, Fail> {
     let payload = read(alloc, payload.as_bytes()).map_err(|_| "not read")?;
     let order = Order {
         payload,
@@ -20,8 +24,13 @@ fn issued(alloc: Global, payload: &str, hide: &str, decoys: &str) -> Result<Part
         kid: None,
         typ: None,
     };
+    Ok(issue(alloc, &order, &[0; 32], signer))
+}
+
+// What is issued for an order under the seed of zeros.
+fn issued(alloc: Global, order: (&str, &str, &str)) -> Result<Parts, Fail> {
     let mut key = Hs256Key::new(&[1; 32]).map_err(|_| "short")?;
-    Ok(issue(alloc, &order, &[0; 32], &mut key).map_err(|_| "not issued")?)
+    Ok(answered(alloc, order, &mut key)?.map_err(|_| "not issued")?)
 }
 
 // The digests of the disclosures and then of eight decoys.
@@ -115,7 +124,7 @@ fn what_is_hidden_stands_behind_digests(rt: HostRuntime) -> Result<(), Fail> {
 ["drjgraDxPZBAXWrlU4a9KA","x",1]"##,
         ),
     ] {
-        let parts = issued(alloc, payload, hide, decoys)?;
+        let parts = issued(alloc, (payload, hide, decoys))?;
         let digests = digests_of(alloc, &parts.disclosures)?;
         let wanted = filled(alloc, form, &digests)?;
         assert_eq!(rt; shown(alloc, &parts)?.as_str(), wanted.as_str());
@@ -152,7 +161,7 @@ fn decoys_stand_among_digests_and_behind_elements(rt: HostRuntime) -> Result<(),
 ["drjgraDxPZBAXWrlU4a9KA","c",{"_sd":["#4#"],"d":[{"_sd":["#3#"]},{"...":"#5#"}]}]"##,
         ),
     ] {
-        let parts = issued(alloc, payload, hide, decoys)?;
+        let parts = issued(alloc, (payload, hide, decoys))?;
         let digests = digests_of(alloc, &parts.disclosures)?;
         let wanted = filled(alloc, form, &digests)?;
         assert_eq!(rt; shown(alloc, &parts)?.as_str(), wanted.as_str());
@@ -164,7 +173,7 @@ fn decoys_stand_among_digests_and_behind_elements(rt: HostRuntime) -> Result<(),
 fn texts_and_digests_of_the_zero_seed(rt: HostRuntime) -> Result<(), Fail> {
     let alloc = rt.alloc();
     let payload = r#"{"iss":"i","given":"Ann","age":40}"#;
-    let parts = issued(alloc, payload, "/given /age", "=1")?;
+    let parts = issued(alloc, (payload, "/given /age", "=1"))?;
     let texts = [
         "WyJkcmpncmFEeFBaQkFYV3JsVTRhOUtBIiwiYWdlIiw0MF0",
         "WyJ2ZEladUtDTjdScW9OdV9NaTNjTnh3IiwiZ2l2ZW4iLCJBbm4iXQ",
@@ -187,5 +196,19 @@ fn texts_and_digests_of_the_zero_seed(rt: HostRuntime) -> Result<(), Fail> {
     push_json(alloc, &mut json, &parts.signed.payload)?;
     let wanted = r##"{"_sd":["#0#","#2#","#1#"],"_sd_alg":"sha-256","iss":"i"}"##;
     assert_eq!(rt; json.as_str(), filled(alloc, wanted, &digests)?.as_str());
+    Ok(())
+}
+
+#[test]
+fn a_signer_is_asked_once(rt: HostRuntime) -> Result<(), Fail> {
+    let order = (r#"{"iss":"i","given":"Ann","age":40}"#, "/given /age", "");
+    for (call, fails) in [(0, true), (1, false)] {
+        let key = Hs256Key::new(&[1; 32]).map_err(|_| "short")?;
+        let mut signer = FailSigner::new(key, call);
+        let answer = answered(rt.alloc(), order, &mut signer)?;
+        assert_eq!(rt; matches!(answer, Err(IssueError::SignFailed)), fails);
+        assert_eq!(rt; answer.is_ok(), !fails);
+        assert_eq!(rt; signer.failures(), if fails { 1 } else { 0 });
+    }
     Ok(())
 }
