@@ -33,10 +33,10 @@ fn issued(alloc: Global, order: (&str, &str, &str)) -> Result<Parts, Fail> {
     Ok(answered(alloc, order, &mut key)?.map_err(|_| "not issued")?)
 }
 
-// The digests of the disclosures and then of eight decoys.
+// The digests of the disclosures, and then of decoys up to twelve in all.
 fn digests_of(alloc: Global, disclosures: &TextList) -> Result<TextList, Fail> {
     let hidden = disclosures.len();
-    let salts = salts_of(alloc, &[0; 32], hidden + 8)?;
+    let salts = salts_of(alloc, &[0; 32], 12)?;
     let mut digests = TextList::new(alloc);
     for k in 0..hidden {
         let text = disclosures.at(k).ok_or("no text")?;
