@@ -11,6 +11,8 @@ mod judging;
 mod key_text;
 pub mod laws;
 mod laying;
+#[cfg(test)]
+mod laying_tests;
 mod order;
 mod order_file;
 #[cfg(test)]

@@ -1,5 +1,5 @@
 use crate::{IssueFile, read_order};
-use claim_tree::{Field, FileFault, print_path, write};
+use claim_tree::{Field, FileFault, Tree, print_path};
 use compact_form::FILE_MAX;
 use std::alloc::Global;
 use std::test::Fail;
@@ -34,8 +34,10 @@ fn places(alloc: Global, said: &IssueFile) -> Result<String, Fail> {
 fn an_order_says_what_its_file_says(rt: HostRuntime) -> Result<(), Fail> {
     let alloc = rt.alloc();
     let least = order(alloc, "[1,{}]", "")?;
-    let payload = write(alloc, &least.order.payload)?;
-    assert_eq!(rt; payload.as_str(), "[1,{}]");
+    let Tree::List(payload) = &least.order.payload else {
+        return Err("no list")?;
+    };
+    assert_eq!(rt; payload.len(), 2);
     assert_eq!(rt; places(alloc, &least)?.as_str(), "");
     let said = least.order;
     assert!(rt; said.kid.is_none() && said.typ.is_none());

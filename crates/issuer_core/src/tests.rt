@@ -51,7 +51,7 @@ fn the_first_clash_is_named_by_its_places(rt: HostRuntime) -> Result<(), Fail> {
 }
 
 // The paths of pointers with blanks between them; `-` alone is none.
-fn paths_of(alloc: Global, pointers: &str) -> Result<PathList, Fail> {
+pub(crate) fn paths_of(alloc: Global, pointers: &str) -> Result<PathList, Fail> {
     let mut paths = PathList::new(alloc);
     for pointer in pointers.split(' ') {
         if pointer != "-" {
@@ -62,7 +62,7 @@ fn paths_of(alloc: Global, pointers: &str) -> Result<PathList, Fail> {
 }
 
 // Decoys, each as `pointer=count`.
-fn decoys_of(alloc: Global, entries: &str) -> Result<DecoyList, Fail> {
+pub(crate) fn decoys_of(alloc: Global, entries: &str) -> Result<DecoyList, Fail> {
     let mut decoys = DecoyList::new(alloc);
     for entry in entries.split(' ') {
         if let Some((pointer, count)) = entry.split_once('=') {

@@ -8,7 +8,7 @@ pub(crate) fn issue(alloc: Global, order: &str, seed: &[u8]) -> Result<Ran, Fail
     let mut cabinet = MemCabinet::new(alloc);
     cabinet.add("s", seed)?;
     cabinet.add("o", order.as_bytes())?;
-    over_at(alloc, &["issue", "o", "s"], cabinet, 0, 10_000)
+    over_at(alloc, &["issue", "o", "s"], cabinet, 0, 1_100_000)
 }
 
 // The order for a payload with the key of 32 bytes 1, and these members more.
@@ -79,18 +79,25 @@ fn an_order_is_refused_by_number_name_and_place(rt: HostRuntime) -> Result<(), F
     Ok(())
 }
 
-// The order that hides each of so many elements of a list.
-fn hiding(alloc: Global, count: usize) -> Result<String, Fail> {
-    let mut zeros = String::from_str(alloc, "0")?;
-    let mut places = String::from_str(alloc, r#""/n/0""#)?;
-    for i in 1..count {
-        zeros.push_str(",0")?;
-        places.push_str(format!(in alloc; r#","/n/{i}""#)?.as_str())?;
+// A payload with a list of so many zeros.
+pub(crate) fn zeros(alloc: Global, count: usize) -> Result<String, Fail> {
+    let mut payload = String::from_str(alloc, r#"{"n":[0"#)?;
+    for _ in 1..count {
+        payload.push_str(",0")?;
     }
-    let (zeros, places) = (zeros.as_str(), places.as_str());
-    let payload = format!(in alloc; r#"{{"n":[{zeros}]}}"#)?;
-    let hide = format!(in alloc; r#","hide":[{places}]"#)?;
-    order_for(alloc, payload.as_str(), hide.as_str())
+    payload.push_str("]}")?;
+    Ok(payload)
+}
+
+// The order that hides each of so many zeros, with these members more.
+pub(crate) fn hiding(alloc: Global, count: usize, more: &str) -> Result<String, Fail> {
+    let mut members = String::from_str(alloc, r#","hide":["/n/0""#)?;
+    for i in 1..count {
+        members.push_str(format!(in alloc; r#","/n/{i}""#)?.as_str())?;
+    }
+    members.push(']')?;
+    members.push_str(more)?;
+    order_for(alloc, zeros(alloc, count)?.as_str(), members.as_str())
 }
 
 // The order for a member that holds so many nested lists.
@@ -110,7 +117,7 @@ fn nesting(alloc: Global, depth: usize) -> Result<String, Fail> {
 fn an_order_with_too_much_is_refused(rt: HostRuntime) -> Result<(), Fail> {
     let alloc = rt.alloc();
     for (order, line) in [
-        (hiding(alloc, 4_097)?, "refused 58 tooManyHidden\n"),
+        (hiding(alloc, 4_097, "")?, "refused 58 tooManyHidden\n"),
         (nesting(alloc, 100)?, "refused 53 payloadTooDeep\n"),
     ] {
         let ran = issue(alloc, order.as_str(), &[0; 32])?;

@@ -10,7 +10,7 @@ pub(crate) fn verify(alloc: Global, policy: &str, token: &str, now: u64) -> Resu
     let mut cabinet = MemCabinet::new(alloc);
     cabinet.add("t", token.as_bytes())?;
     cabinet.add("p", policy.as_bytes())?;
-    over_at(alloc, &["verify", "p", "t"], cabinet, now, 1000)
+    over_at(alloc, &["verify", "p", "t"], cabinet, now, 10_000)
 }
 
 // The token of RFC 7515 appendix A.1, and the policy with its key and these members more.
