@@ -5,6 +5,7 @@
 #![tactic(auto)]
 
 mod chosen;
+mod inside;
 pub mod laws;
 mod marked;
 mod marking;
@@ -15,6 +16,7 @@ mod strips;
 mod tests;
 
 pub use chosen::ChosenSet;
+pub use inside::stepped;
 pub use marked::{Marked, MarkedList, MarkedMap};
 pub use marking::{mark, mark_counted, run_below};
 pub use places::place_of;

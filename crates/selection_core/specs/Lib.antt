@@ -1,0 +1,2 @@
+pub mod Consent
+pub mod Refusals
