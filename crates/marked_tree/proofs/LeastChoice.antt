@@ -1,0 +1,47 @@
+-- The choice by wanted paths is closed, and the least that keeps the way to each.
+use Rattle.std.proofs.Common.{◌≡◌, ℕ, List, refl, Bool, true, eqb, ◌&&◌, sym, ap, subst, arith, eqb-true, eq-eqb}
+use Rattle.std.specs.List.{list_any}
+use Rattle.claim_tree.specs.Lists.{In}
+use Rattle.claim_tree.proofs.Lists.{and_split, and_join, In-of_map, list_any-In}
+use Rattle.marked_tree.specs.Choice.{IsClosed, chosen, KeepsTheWay, IsUnmixed, IsLeastChoice}
+use Rattle.marked_tree.specs.Laws.{Choice}
+use Rattle.marked_tree.specs.Marked.{Marked, ways, only}
+use Rattle.marked_tree.specs.Places.{Path, leads, Spot, spots}
+use Rattle.marked_tree.proofs.Spots.{Way, way, any-from, ways_of_spots, spots_weigh, same_spot, leads_through, spots_above}
+
+module _ (m : Marked) (want : List Path) where
+  choose : (s : Spot) → In s (spots m) → (p : Path) → In p want → leads s.at p ≡ true → chosen m want s.mark ≡ true
+  choose s n p o l =
+      any-from (λ z. eqb z.mark s.mark && list_any (leads z.at) want) (spots m) s n
+      (and_join (eqb s.mark s.mark) (list_any (leads s.at) want) (eq-eqb s.mark s.mark refl) (any-from (leads s.at) want p o l))
+
+  is_wanted : (i : ℕ) → chosen m want i ≡ true → (s : Spot) × In s (spots m) × (s.mark ≡ i) × (p : Path) × In p want × (leads s.at p ≡ true)
+  is_wanted i h =
+      let a = list_any-In (λ z. eqb z.mark i && list_any (leads z.at) want) (spots m) h in
+      let b = and_split (eqb a.0.mark i) (list_any (leads a.0.at) want) a.2 in
+      let c = list_any-In (leads a.0.at) want b.1 in
+      (a.0, a.1, eqb-true a.0.mark i b.0, c.0, c.1, c.2)
+
+  keeps_way : KeepsTheWay m want (chosen m want)
+  keeps_way s n p o l = (
+    choose s n p o l,
+    (λ j h. let v = spots_above m s n j h in subst (λ z. chosen m want z ≡ true) v.is (choose v.spot v.there p o (leads_through v.spot.at s.at p v.before l))),
+  )
+
+  is_closed : IsUnmixed m → IsClosed m (chosen m want)
+  is_closed once w n t j h =
+      let a = In-of_map way w (spots m) (subst (λ (ws : List Way). In w ws) (sym (ways_of_spots m)) n) in
+      let b = is_wanted w.0 t in
+      let same = same_spot w.0 (spots m) a.0 b.0 (omega (arith, once w.0, spots_weigh (only w.0) m)) a.1 b.1 (ap (λ (z : Way). z.0) (sym a.2)) b.2 in
+      let k : In j b.0.above = subst (λ (z : Spot). In j z.above) same (subst (λ (z : Way). In j z.1) a.2 h) in
+      (keeps_way b.0 b.1 b.3 b.4 b.5).1 j k
+
+  pub least_choice : IsUnmixed m → IsLeastChoice m want (chosen m want)
+  least_choice once = record {
+    closed = is_closed once;
+    keeps = keeps_way;
+    least = λ s keeps i h. let b = is_wanted i h in subst (λ z. s z ≡ true) b.2 (keeps b.0 b.1 b.3 b.4 b.5).0;
+  }
+
+pub choice_holds : Choice
+choice_holds m want once = least_choice m want once
