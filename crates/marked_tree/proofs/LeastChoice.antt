@@ -1,9 +1,9 @@
 -- The choice by wanted paths is closed, and the least that keeps the way to each.
-use Rattle.std.proofs.Common.{◌≡◌, ℕ, List, refl, Bool, true, eqb, ◌&&◌, sym, ap, subst, arith, eqb-true, eq-eqb}
+use Rattle.std.proofs.Common.{◌≡◌, ℕ, List, [], ◌∷◌, Bool, true, false, eqb, ◌&&◌, ◌||◌, refl, sym, ap, ap₂, ◌∙◌, subst, arith, eqb-true, eq-eqb}
 use Rattle.std.specs.List.{list_any}
 use Rattle.claim_tree.specs.Lists.{In}
 use Rattle.claim_tree.proofs.Lists.{and_split, and_join, In-of_map, list_any-In}
-use Rattle.marked_tree.specs.Choice.{IsClosed, chosen, KeepsTheWay, IsUnmixed, IsLeastChoice}
+use Rattle.marked_tree.specs.Choice.{IsClosed, chosen, is_on_way, KeepsTheWay, IsUnmixed, IsLeastChoice}
 use Rattle.marked_tree.specs.Laws.{Choice}
 use Rattle.marked_tree.specs.Marked.{Marked, ways, only}
 use Rattle.marked_tree.specs.Places.{Path, leads, Spot, spots}
@@ -45,3 +45,43 @@ module _ (m : Marked) (want : List Path) where
 
 pub choice_holds : Choice
 choice_holds m want once = least_choice m want once
+
+-- a set with the same marks
+pub least_same : (m : Marked) (want : List Path) (s t : ℕ → Bool) → ((i : ℕ) → s i ≡ t i) → IsLeastChoice m want t → IsLeastChoice m want s
+least_same m want s t same least = record {
+  closed = λ w n e j h. same j ∙ least.closed w n (sym (same w.0) ∙ e) j h;
+  keeps = λ node n p o l. let k = least.keeps node n p o l in (same node.mark ∙ k.0, λ j h. same j ∙ k.1 j h);
+  least = λ other keeps i e. least.least other keeps i (sym (same i) ∙ e);
+}
+
+-- ---- the chosen marks are those on the way to a wanted path
+
+and_none : (i : ℕ) (ss : List Spot) → list_any (λ s. eqb s.mark i && false) ss ≡ false
+and_none i [] = refl
+and_none i (s ∷ ss) = ap₂ (λ a b. a || b) (no_and (eqb s.mark i)) (and_none i ss)
+  where
+    no_and : (b : Bool) → (b && false) ≡ false
+    no_and true = refl
+    no_and false = refl
+
+spread : (a b c x y : Bool) → ((a && (b || c)) || (x || y)) ≡ (((a && b) || x) || ((a && c) || y))
+spread true true c x y = refl
+spread true false true x y = sym (yes_or x (true || y))
+  where
+    yes_or : (x z : Bool) → (x || true) ≡ true
+    yes_or true z = refl
+    yes_or false z = refl
+spread true false false x y = refl
+spread false b c x y = refl
+
+both_ways : (i : ℕ) (p : Path) (want : List Path) (ss : List Spot)
+    → list_any (λ s. eqb s.mark i && (leads s.at p || list_any (leads s.at) want)) ss
+    ≡ (list_any (λ s. eqb s.mark i && leads s.at p) ss || list_any (λ s. eqb s.mark i && list_any (leads s.at) want) ss)
+both_ways i p want [] = refl
+both_ways i p want (s ∷ ss) =
+    ap (λ b. (eqb s.mark i && (leads s.at p || list_any (leads s.at) want)) || b) (both_ways i p want ss)
+    ∙ spread (eqb s.mark i) (leads s.at p) (list_any (leads s.at) want) (list_any (λ s. eqb s.mark i && leads s.at p) ss) (list_any (λ s. eqb s.mark i && list_any (leads s.at) want) ss)
+
+pub chosen_by_ways : (m : Marked) (want : List Path) (i : ℕ) → chosen m want i ≡ list_any (λ p. is_on_way m p i) want
+chosen_by_ways m [] i = and_none i (spots m)
+chosen_by_ways m (p ∷ want) i = both_ways i p want (spots m) ∙ ap (λ b. is_on_way m p i || b) (chosen_by_ways m want i)

@@ -192,6 +192,34 @@ way_stepped (marked_leaf l) step e o short h p i = cc
 way_stepped (marked_array es) step e o short h p i = elements_way 0 es step e (omega (arith, short)) h p i
 way_stepped (marked_object ms) step e o short h p i = members_way ms step e (ascend ms o) h p i
 
+-- ---- nothing marked stands at the root
+
+node_root : (k : Text) (own : Option ℕ) (t : spec.Marked) (i : ℕ) → list_any (on [] i) (node_spots k own t) ≡ false
+node_root k own t i = list_any-append (on [] i) (own_spot k own) (map (inside k own) (spots t)) ∙ ap₂ (λ a b. a || b) (here own) (below (spots t))
+  where
+    here : (own : Option ℕ) → list_any (on [] i) (own_spot k own) ≡ false
+    here None = refl
+    here (Some j) = or_no (eqb j i && false) ∙ no_and (eqb j i)
+
+    below : (ss : List Spot) → list_any (on [] i) (map (inside k own) ss) ≡ false
+    below [] = refl
+    below (s ∷ ss) = rw (no_and (eqb s.mark i)) (below ss)
+
+elements_root : (n : ℕ) (es : MarkedElements) (i : ℕ) → list_any (on [] i) (elements_spots n es) ≡ false
+elements_root n no_marked_elements i = refl
+elements_root n (marked_element own t es) i =
+    list_any-append (on [] i) (node_spots (decimal n) own t) (elements_spots (suc n) es) ∙ ap₂ (λ a b. a || b) (node_root (decimal n) own t i) (elements_root (suc n) es i)
+
+members_root : (ms : MarkedMembers) (i : ℕ) → list_any (on [] i) (members_spots ms) ≡ false
+members_root no_marked_members i = refl
+members_root (marked_member k own t ms) i =
+    list_any-append (on [] i) (node_spots k own t) (members_spots ms) ∙ ap₂ (λ a b. a || b) (node_root k own t i) (members_root ms i)
+
+pub none_at_root : (m : spec.Marked) (i : ℕ) → is_on_way m [] i ≡ false
+none_at_root (marked_leaf l) i = refl
+none_at_root (marked_array es) i = elements_root 0 es i
+none_at_root (marked_object ms) i = members_root ms i
+
 -- ---- the same of what the code finds
 
 abbrev Found : Type 0

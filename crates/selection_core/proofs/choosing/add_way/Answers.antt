@@ -1,29 +1,16 @@
-use Rattle.std.proofs.Common.{rules, ◌≡◌, ◌||◌, ℕ, true, is_some, IfOk, IfErr, ◌+◌, ◌-◌, ◌*◌, ◌<◌, ◌≤◌, length, ◌/◌, ◌%◌, Bool, false, nat_eq, nat_lt, List, [], ◌∷◌, ◌++◌, slice_index_or, slice_set, bit_and, bit_or, Fits, w8, w32, w64, Bor, MutBor}
-use Rattle.claim_tree.specs.Lists.{Nowhere}
-use Rattle.claim_tree.specs.Path.{tree_at}
-use Rattle.marked_tree.specs.Choice.{chosen, is_on_way, IsUnmixed, IsLeastChoice}
-use Rattle.marked_tree.specs.Marked.{strip}
-use Rattle.marked_tree.specs.Numbers.{has}
+use Rattle.std.proofs.Common.{subst, drop, ◌≡◌, []}
+use Rattle.std.proofs.lemmas.List.{drop_all}
+use Rattle.marked_tree.specs.Places.{Path}
 use Rattle.marked_tree.specs.View.{marked_of}
-use Rattle.selection_core.specs.Refusals.{IsMissing, IsNotThere}
+use Rattle.selection_core.proofs.PathWalks.{ArePassed, passed_all}
 use Rattle.selection_core.proofs.choosing.add_way.Goals as goal
 
--- src/choosing.rt:42:5
-pub loop-step-init : goal.loop-step-init
-loop-step-init c = ?
-
--- src/choosing.rt:50:21
-pub returns-in-None-clause-there : goal.returns-in-None-clause-there
-returns-in-None-clause-there c = ?
-
--- src/choosing.rt:42:5
-pub loop-step-preserved : goal.loop-step-preserved
-loop-step-preserved c = ?
-
--- src/choosing.rt:37:1
-pub returns-clause-there : goal.returns-clause-there
-returns-clause-there c = ?
-
--- src/choosing.rt:37:1
 pub returns-clause-marks : goal.returns-clause-marks
-returns-clause-marks c = ?
+returns-clause-marks c there =
+    let steps : Path = c.steps-step-items.result.now in
+    let m = marked_of c.args.tree.now in
+    let inside = marked_of c.loop-step.inside.now in
+    let none : drop c.loop-step.step-index steps ≡ [] = drop_all _ _ c.loop-step-test.false in
+    passed_all c.args.marks.now c.loop-step.marks m c.args.path.now inside
+    (subst (λ (p : Path). ArePassed c.args.marks.now m p c.loop-step.marks inside []) c.steps-step-items.ensures
+    (subst (λ (p : Path). ArePassed c.args.marks.now m steps c.loop-step.marks inside p) none c.loop-step.invariant.1))

@@ -1,0 +1,2 @@
+pub mod PathWalks
+pub mod Wanted
