@@ -1,13 +1,16 @@
 -- The choice by wanted paths is closed, and the least that keeps the way to each.
-use Rattle.std.proofs.Common.{◌≡◌, ℕ, List, [], ◌∷◌, Bool, true, false, eqb, ◌&&◌, ◌||◌, refl, sym, ap, ap₂, ◌∙◌, subst, arith, eqb-true, eq-eqb}
+use Rattle.std.proofs.Common.{◌≡◌, ℕ, ◌<◌, ◌≤◌, List, [], ◌∷◌, Bool, true, false, eqb, ◌&&◌, ◌||◌, refl, sym, ap, ap₂, ◌∙◌, subst, arith, eqb-true, eq-eqb}
 use Rattle.std.specs.List.{list_any}
+use Rattle.std.proofs.lemmas.Bool.Decides.{nat_tests}
+use Rattle.claim_tree.specs.Tree.{Tree}
 use Rattle.claim_tree.specs.Lists.{In}
 use Rattle.claim_tree.proofs.Lists.{and_split, and_join, In-of_map, list_any-In}
 use Rattle.marked_tree.specs.Choice.{IsClosed, chosen, is_on_way, KeepsTheWay, IsUnmixed, IsLeastChoice}
-use Rattle.marked_tree.specs.Laws.{Choice}
+use Rattle.marked_tree.specs.Laws.{Choice, HasEachMarkOnce}
 use Rattle.marked_tree.specs.Marked.{Marked, ways, only}
-use Rattle.marked_tree.specs.Places.{Path, leads, Spot, spots}
-use Rattle.marked_tree.proofs.Spots.{Way, way, any-from, ways_of_spots, spots_weigh, same_spot, leads_through, spots_above}
+use Rattle.marked_tree.specs.Places.{Path, leads, Spot, spots, mark, hidden_count}
+use Rattle.marked_tree.proofs.MarkFacts.{up_to, up_to_le, marks_once_holds}
+use Rattle.marked_tree.proofs.Spots.{at_least_one, Way, way, any-from, ways_of_spots, spots_weigh, same_spot, leads_through, spots_above}
 
 module _ (m : Marked) (want : List Path) where
   choose : (s : Spot) → In s (spots m) → (p : Path) → In p want → leads s.at p ≡ true → chosen m want s.mark ≡ true
@@ -85,3 +88,21 @@ both_ways i p want (s ∷ ss) =
 pub chosen_by_ways : (m : Marked) (want : List Path) (i : ℕ) → chosen m want i ≡ list_any (λ p. is_on_way m p i) want
 chosen_by_ways m [] i = and_none i (spots m)
 chosen_by_ways m (p ∷ want) i = both_ways i p want (spots m) ∙ ap (λ b. is_on_way m p i || b) (chosen_by_ways m want i)
+
+-- ---- where each number below a count marks one node
+
+pub unmixed_once : (m : Marked) (n : ℕ) → HasEachMarkOnce m n → IsUnmixed m
+unmixed_once m n once i = omega (arith, once i, up_to_le i n)
+
+pub unmixed_mark : (t : Tree) (hide : List Path) → IsUnmixed (mark t hide)
+unmixed_mark t hide = unmixed_once (mark t hide) (hidden_count t hide) (marks_once_holds t hide)
+
+-- what is chosen is one of these numbers
+pub chosen_below : (m : Marked) (n : ℕ) → HasEachMarkOnce m n → (want : List Path) (i : ℕ) → chosen m want i ≡ true → i < n
+chosen_below m n once want i h =
+    let a = list_any-In (λ z. eqb z.mark i && list_any (leads z.at) want) (spots m) h in
+    let b = and_split (eqb a.0.mark i) (list_any (leads a.0.at) want) a.2 in
+    below_if i n (omega (arith, once i, spots_weigh (only i) m, at_least_one i (spots m) a.0 a.1 (eqb-true a.0.mark i b.0)))
+  where
+    below_if : (i n : ℕ) → 1 ≤ up_to i n → i < n
+    below_if i n l = grind (arith, nat_tests)

@@ -8,6 +8,8 @@ mod allowing;
 mod choosing;
 mod consent;
 mod errors;
+#[cfg(test)]
+mod tests;
 
 pub use allowing::allow;
 pub use choosing::choose;

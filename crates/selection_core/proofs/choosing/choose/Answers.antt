@@ -23,8 +23,7 @@ returns-then-not-branch-clause-refused c =
 pub loop-k-preserved : goal.loop-k-preserved
 loop-k-preserved c =
     let m = marked_of c.args.tree.now in
-    let want = c.paths-path-items.result.now in
-    (
+    let want = c.paths-path-items.result.now in (
       gathered_more m want c.loop-k.marks c.add_way.new.marks c.loop-k.k c.path-item.result c.loop-k-test.true c.path-item.is c.loop-k.invariant.0 (c.in_ok-add_way.ensures.marks c.if-not-branch.false),
       none_missing_more (strip m) want c.loop-k.k c.path-item.result c.path-item.is (sym c.if-not-branch.false ∙ c.in_ok-add_way.ensures.there) c.loop-k.invariant.1,
     )
