@@ -1,5 +1,5 @@
 -- Elements of lists and tests on them, by cases on the list.
-use Rattle.std.proofs.Common.{◌≡◌, ℕ, zero, suc, ◌+◌, ◌<◌, List, [], ◌∷◌, ◌++◌, map, length, Bool, true, false, ◌||◌, ◌&&◌, ◌⊎◌, inl, inr, ⊎_elim, Option, Some, refl, sym, ap, ◌∙◌, subst, arith}
+use Rattle.std.proofs.Common.{◌≡◌, ℕ, zero, suc, ◌+◌, ◌<◌, List, [], ◌∷◌, ◌++◌, map, length, get_or, Bool, true, false, ◌||◌, ◌&&◌, ◌⊎◌, inl, inr, ⊎_elim, Option, Some, refl, sym, ap, ◌∙◌, subst, arith}
 use Rattle.std.specs.Prelude.{bytes_eq}
 use Rattle.std.specs.List.{list_any}
 use Rattle.std.proofs.lemmas.Slice.Eq.{bytes_eq-Decides}
@@ -89,6 +89,11 @@ pub At-get : {X : Type 0} (xs : List X) (i : ℕ) → i < length xs → (x : X) 
 At-get (z ∷ zs) zero h = (z, refl)
 At-get (z ∷ zs) (suc i) h = At-get zs i (omega arith)
 At-get [] i h = absurd (omega arith)
+
+pub At-get_or : {X : Type 0} (xs : List X) (i : ℕ) (d : X) → i < length xs → At xs i (get_or xs i d)
+At-get_or (z ∷ zs) zero d h = refl
+At-get_or (z ∷ zs) (suc i) d h = At-get_or zs i d (omega arith)
+At-get_or [] i d h = absurd (omega arith)
 
 -- an element of an image, and of two lists in a row
 pub At-of_map : {X Y : Type 0} (f : X → Y) (xs : List X) (i : ℕ) (y : Y) → At (map f xs) i y → (x : X) × At xs i x × (y ≡ f x)

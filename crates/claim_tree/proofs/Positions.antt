@@ -9,7 +9,7 @@ differs : (b : Bool) → (b ≡ true → ⊥) → b ≡ false
 differs true other = absurd (other refl)
 differs false other = refl
 
-unequal : (a b : Text) → a ≢ b → bytes_eq a b ≡ false
+pub unequal : (a b : Text) → a ≢ b → bytes_eq a b ≡ false
 unequal a b other = differs (bytes_eq a b) (λ e. other ((bytes_eq-Decides a b).0 e))
 
 -- no position has these digits

@@ -44,8 +44,9 @@ fn stepped<'a>(tree: &'a Tree, step: &str) -> Option<&'a Tree>
     }
 }
 
-// The number whose decimal digits are the step, which is sought up to the length.
-fn position(step: &str, len: usize) -> Option<usize>
+/// The position whose decimal digits are the step. None where no position below the length has such digits. It takes
+/// no memory.
+pub fn position(step: &str, len: usize) -> Option<usize>
     ensures digits { IfSome result (λ i. decimal i ≡ step.now) }
     ensures none { result ≡ None → (i : ℕ) → i < len → decimal i ≢ step.now }
 {

@@ -27,7 +27,7 @@ pub use file_fault::{Field, FileFault};
 pub use file_form::{
     read_members, text_list_member, text_member, texts_of, whole_member, whole_up_to,
 };
-pub use inside::{find, get};
+pub use inside::{find, get, position};
 pub use path::{Path, PathList};
 pub use pointer::{PointerError, is_prefix, print_path, read_pointer};
 pub use text::{ReadError, read, write};

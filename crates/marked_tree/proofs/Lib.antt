@@ -15,3 +15,5 @@ pub mod MarkSame
 pub mod PathOrder
 pub mod HeadCounts
 mod Examples
+pub mod StepFacts
+pub mod LeastChoice

@@ -9,6 +9,7 @@ use Rattle.claim_tree.specs.Tree.{Text, IsBefore, IsBeforeAll}
 use Rattle.claim_tree.proofs.Lists.{bytes_same, bytes_refl, pair_same}
 use Rattle.marked_tree.specs.Marked as spec
 use Rattle.marked_tree.specs.Marked.{MarkedMembers, marked_member, no_marked_members, marked_names, put, put_all}
+use Rattle.marked_tree.specs.Steps.{marked_member_named}
 use Rattle.marked_tree.specs.declared.marked.Marked.{Marked}
 use Rattle.marked_tree.specs.View.{marked_of, marked_members_of}
 use Rattle.marked_tree.proofs.MarkedViews.{Entry}
@@ -20,8 +21,7 @@ Found = Option (Option ℕ × spec.Marked)
 
 -- what the first member with the name has
 abbrev pub first_named : Text → MarkedMembers → Found
-first_named name no_marked_members = None
-first_named name (marked_member other j u ms) = cond (bytes_eq other name) (Some (j, u)) (first_named name ms)
+first_named name ms = marked_member_named ms name
 
 abbrev or_else : Found → Found → Found
 or_else None more = more

@@ -1,12 +1,16 @@
 -- Numbers in rising order.
-use Rattle.std.proofs.Common.{◌≡◌, ℕ, ◌<◌, List, [], ◌∷◌, Bool, true, false, eqb, ◌||◌, Ordering, Less, Equal, Greater, nat_cmp, refl, sym, subst}
-use Rattle.std.specs.List.{AllByRecursion}
+use Rattle.std.proofs.Common.{◌≡◌, ℕ, ◌<◌, List, [], ◌∷◌, Bool, true, false, eqb, ◌||◌, Ordering, Less, Equal, Greater, nat_cmp, inl, inr, refl, sym, subst, arith, eqb-true, eq-eqb}
 use Rattle.std.specs.List.Sorted.{IsStrictlySortedBy}
 use Rattle.std.specs.Ordering.{MatchOrdering, match_ordering}
 use Rattle.std.specs.BTreeSet.{insert_key}
 use Rattle.std.proofs.lemmas.Cmp.{ranked}
 use Rattle.std.proofs.lemmas.Map.Keys.{sorted_head, sorted_tail}
+use Rattle.std.specs.List.{AllByRecursion, IsDistinct}
+use Rattle.std.proofs.lemmas.Bool.Decides.{nat_tests}
+use Rattle.claim_tree.specs.Lists.{In}
+use Rattle.claim_tree.proofs.Lists.{list_any-In}
 use Rattle.marked_tree.specs.Numbers.{has, AllAbove, IsRising}
+use Rattle.marked_tree.proofs.Spots.{any-from}
 
 swapped : (a b c : Bool) → (a || (b || c)) ≡ (b || (a || c))
 swapped true true c = refl
@@ -34,3 +38,28 @@ above n (m ∷ ns) all = (subst (λ o. MatchOrdering o (n < m) (n ≡ m) (m < n)
 pub rising : (ns : List ℕ) → IsStrictlySortedBy nat_cmp ns → IsRising ns
 rising [] s = tt
 rising (n ∷ ns) s = (above n ns (sorted_head nat_cmp n ns s), rising ns (sorted_tail nat_cmp n ns s))
+
+-- ---- rising numbers
+
+pub above_in : (n : ℕ) (ns : List ℕ) → AllAbove n ns → (m : ℕ) → In m ns → n < m
+above_in n (k ∷ ns) all m (inl e) = omega (arith, all.0, e)
+above_in n (k ∷ ns) all m (inr there) = above_in n ns all.1 m there
+above_in n [] all m there = elim there [ ]
+
+pub rising_distinct : (ns : List ℕ) → IsRising ns → IsDistinct eqb ns
+unfolding IsDistinct
+rising_distinct [] r = tt
+rising_distinct (n ∷ ns) r = (differ_all n ns r.0, rising_distinct ns r.1)
+  where
+    differ : (n m : ℕ) → n < m → eqb n m ≡ false
+    differ n m l = grind (arith, nat_tests)
+
+    differ_all : (n : ℕ) (ns : List ℕ) → AllAbove n ns → AllByRecursion (λ m. eqb n m ≡ false) ns
+    differ_all n [] all = tt
+    differ_all n (m ∷ ns) all = (differ n m all.0, differ_all n ns all.1)
+
+pub has-In : (ns : List ℕ) (i : ℕ) → has ns i ≡ true → In i ns
+has-In ns i h = let w = list_any-In (eqb i) ns h in subst (λ n. In n ns) (sym (eqb-true i w.0 w.2)) w.1
+
+pub In-has : (ns : List ℕ) (i : ℕ) → In i ns → has ns i ≡ true
+In-has ns i there = any-from (eqb i) ns i there (eq-eqb i i refl)

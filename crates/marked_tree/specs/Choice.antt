@@ -1,9 +1,9 @@
 -- Choices of marks.
-use Rattle.std.specs.Prelude.{◌≡◌, ℕ, List, eqb, Bool, true, ◌&&◌}
+use Rattle.std.specs.Prelude.{◌≡◌, ℕ, ◌≤◌, List, eqb, Bool, true, ◌&&◌, Option, Some, None, false}
 use Rattle.std.specs.List.{list_any}
 use Rattle.claim_tree.specs.Lists.{In}
-use Rattle.marked_tree.specs.Marked.{Marked, ways}
-use Rattle.marked_tree.specs.Places.{Path, leads, spots}
+use Rattle.marked_tree.specs.Marked.{Marked, ways, weight, only}
+use Rattle.marked_tree.specs.Places.{Path, leads, Spot, spots}
 
 -- for each node whose mark is in s, so are all marks above it
 abbrev pub IsClosed : Marked → (ℕ → Bool) → Type 0
@@ -12,3 +12,32 @@ IsClosed m s = (w : ℕ × List ℕ) → In w (ways m) → s w.0 ≡ true → (j
 -- some node with mark i has a path that leads to a wanted one
 abbrev pub chosen : Marked → List Path → ℕ → Bool
 chosen m want i = list_any (λ s. eqb s.mark i && list_any (leads s.at) want) (spots m)
+
+-- some node with mark i has a path that leads to p
+abbrev pub is_on_way : Marked → Path → ℕ → Bool
+is_on_way m p i = list_any (λ s. eqb s.mark i && leads s.at p) (spots m)
+
+-- the node has mark i
+abbrev pub has_mark : Option ℕ → ℕ → Bool
+has_mark None i = false
+has_mark (Some j) i = eqb j i
+
+-- every node on the way to a wanted path stays: its own mark and all above it are in s
+abbrev pub KeepsTheWay : Marked → List Path → (ℕ → Bool) → Type 0
+KeepsTheWay m want s =
+    (node : Spot) → In node (spots m) → (p : Path) → In p want → leads node.at p ≡ true
+    → (s node.mark ≡ true) × ((j : ℕ) → In j node.above → s j ≡ true)
+
+-- no mark of s stands on two nodes
+abbrev pub StandOnce : Marked → (ℕ → Bool) → Type 0
+StandOnce m s = (i : ℕ) → s i ≡ true → weight (only i) m ≤ 1
+
+-- no mark stands on two nodes
+abbrev pub IsUnmixed : Marked → Type 0
+IsUnmixed m = (i : ℕ) → weight (only i) m ≤ 1
+
+-- s is closed and keeps the way to each wanted path, and each set that keeps it has all of s
+pub record IsLeastChoice (m : Marked) (want : List Path) (s : ℕ → Bool) : Type 0 where
+  pub closed : IsClosed m s
+  pub keeps : KeepsTheWay m want s
+  pub least : (other : ℕ → Bool) → KeepsTheWay m want other → (i : ℕ) → s i ≡ true → other i ≡ true

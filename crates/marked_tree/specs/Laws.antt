@@ -1,9 +1,10 @@
--- What the laws of marking say.
+-- What the laws of marking and choosing say.
 use Rattle.std.specs.Prelude.{◌≡◌, ℕ, List, length, ltb, Some, if◌then◌else◌}
 use Rattle.claim_tree.specs.Tree.{Tree}
 use Rattle.claim_tree.specs.Lists.{At}
 use Rattle.marked_tree.specs.Marked.{Marked, strip, weight, only}
 use Rattle.marked_tree.specs.Places.{Path, mark, hidden_count, closing, is_among, place}
+use Rattle.marked_tree.specs.Choice.{chosen, IsUnmixed, IsLeastChoice}
 
 abbrev pub MarkStrips : Type 0
 MarkStrips = (t : Tree) (hide : List Path) → strip (mark t hide) ≡ t
@@ -22,3 +23,7 @@ pub record IsNumbered (t : Tree) (hide : List Path) : Type 0 where
 
 abbrev pub MarksClose : Type 0
 MarksClose = (t : Tree) (hide : List Path) → IsNumbered t hide
+
+-- the chosen marks are closed, and the least that keep the way to each wanted path
+abbrev pub Choice : Type 0
+Choice = (m : Marked) (want : List Path) → IsUnmixed m → IsLeastChoice m want (chosen m want)

@@ -3,6 +3,7 @@ pub mod View
 pub mod Code
 pub mod Falls
 pub mod Places
+pub mod Steps
 pub mod Choice
 pub mod Numbers
 pub mod NamePlaces

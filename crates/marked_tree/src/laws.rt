@@ -1,5 +1,5 @@
 //! What the definitions say together. Each law holds for every value.
-ghost use Rattle.marked_tree.specs.Laws.{MarkStrips, MarksOnce, MarksClose};
+ghost use Rattle.marked_tree.specs.Laws.{MarkStrips, MarksOnce, MarksClose, Choice};
 
 /// Marking changes no tree.
 pub fn mark_strips()
@@ -14,4 +14,10 @@ pub fn marks_once()
 /// Mark k stands at the hidden place that has k others before it in closing order.
 pub fn marks_close()
     ensures { MarksClose }
+{}
+
+/// Where no mark stands on two nodes, the marks of the nodes that lead to a wanted path are closed, and the least that keep the
+/// way to each wanted path.
+pub fn choice()
+    ensures { Choice }
 {}

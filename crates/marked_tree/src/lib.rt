@@ -5,6 +5,7 @@
 #![tactic(auto)]
 
 mod chosen;
+mod inside;
 pub mod laws;
 mod marked;
 mod marking;
@@ -15,8 +16,9 @@ mod strips;
 mod tests;
 
 pub use chosen::ChosenSet;
+pub use inside::stepped;
 pub use marked::{Marked, MarkedList, MarkedMap};
 pub use marking::{mark, mark_counted, run_below};
-pub use places::place_of;
+pub use places::{digits, place_of};
 pub use prunes::prune;
 pub use strips::{into_tree, strip};

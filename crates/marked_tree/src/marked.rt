@@ -5,6 +5,7 @@ ghost use Rattle.claim_tree.specs.Tree.{IsOrdered, ElementsOrdered, MembersOrder
 ghost use Rattle.claim_tree.specs.Lists.{At};
 ghost use Rattle.marked_tree.specs.Marked.{strip, strip_elements, strip_members, no_marked_elements, no_marked_members, marked_elements_len, marked_members_len, marked_element_at, marked_member_at, marked_names, marked_pushed, marked_inserted, put, put_all};
 ghost use Rattle.marked_tree.specs.NamePlaces.{IsGap};
+ghost use Rattle.marked_tree.specs.Steps.{marked_member_named};
 ghost use Rattle.marked_tree.specs.View.{marked_of, marked_elements_of, marked_members_of};
 
 use sd_outside::{NoMemory, TextBox};
@@ -197,6 +198,20 @@ impl MarkedMap {
     {
         let (name, mark, tree) = self.members().get(i)?;
         Some((name, *mark, tree))
+    }
+
+    /// The mark and the tree under a name. It takes no memory.
+    pub fn get(&self, name: &str) -> Option<(Option<u32>, &Marked)>
+        ensures { option_map (λ e. (e.0, marked_of e.1.now)) result ≡ marked_member_named self.now name.now }
+    {
+        let members = self.members();
+        match search(members, name) {
+            Ok(place) => {
+                let (_, mark, tree) = &members[place];
+                Some((*mark, tree))
+            }
+            Err(_) => None,
+        }
     }
 
     /// Puts a mark and a tree under a name, in place of those that are there. A name behind all others is not

@@ -99,8 +99,8 @@ fn find_at(
     find(alloc, tree, mark)
 }
 
-// The decimal digits of a position.
-pub(crate) fn digits(alloc: Global, i: usize) -> Result<TextBox, NoMemory>
+/// The decimal digits of a position: the step to it.
+pub fn digits(alloc: Global, i: usize) -> Result<TextBox, NoMemory>
     ensures { IfOk result (λ text. text ≡ decimal i) }
 {
     let mut digits = Buffer::new();

@@ -44,5 +44,7 @@ pub mod Ranged
 pub mod ShownPuts
 pub mod ShownAt
 pub mod AllShown
+pub mod Ranked
+pub mod ChosenShown
 mod Examples
 mod Premises

@@ -5,8 +5,10 @@ use Rattle.claim_tree.specs.Tree.{Text, Tree, nodes, IsOrdered}
 use Rattle.claim_tree.specs.Lists.{At, In}
 use Rattle.digest_sites.specs.Sites.{Site}
 use Rattle.digest_sites.specs.Given.{Given}
-use Rattle.marked_tree.specs.Marked.{Marked, strip, remark, prune}
-use Rattle.marked_tree.specs.Choice.{IsClosed}
+use Rattle.marked_tree.specs.Marked.{Marked, strip, remark, prune, ranked}
+use Rattle.marked_tree.specs.Choice.{IsClosed, chosen}
+use Rattle.marked_tree.specs.Numbers.{IsRising}
+use Rattle.marked_tree.specs.Places.{Path}
 use Rattle.marked_tree.specs.Laws.{HasEachMarkOnce}
 use Rattle.rebuild_core.specs.Given.{Owner, payload, value_of, item, met, item_digests}
 use Rattle.rebuild_core.specs.Conditions.{IsReferencedOnce, IsSound}
@@ -82,6 +84,24 @@ Presentation =
     → (choice : ℕ → Bool) → ((i : ℕ) → choice i ≡ true → i < length given) → IsClosed (processed p given) choice
     → (order : List ℕ) → Enumerates choice order → (picked : List Given) → IsPick given order picked
     → IsPresented p given picked choice order
+
+-- in rising order the places are the ranks
+abbrev pub Ranks : Type 0
+Ranks = (m : Marked) (choice : ℕ → Bool) (order : List ℕ) → Enumerates choice order → IsRising order → numbered order (prune m choice) ≡ ranked (prune m choice) choice
+
+-- of the disclosures on the way to wanted paths: they are sound again, and show the processed payload without what is hidden and
+-- leads to none of these; each mark is its rank among the chosen
+pub record IsChoiceShown (p : Tree) (given picked : List Given) (want : List Path) : Type 0 where
+  pub sound : IsSound p picked
+  pub ranks : processed p picked ≡ ranked (prune (processed p given) (chosen (processed p given) want)) (chosen (processed p given) want)
+  pub shows : strip (processed p picked) ≡ strip (prune (processed p given) (chosen (processed p given) want))
+
+-- the chosen disclosures in their order
+abbrev pub ChoiceShown : Type 0
+ChoiceShown =
+    (p : Tree) (given : List Given) → IsReadable p given → IsSound p given
+    → (want : List Path) (order : List ℕ) → Enumerates (chosen (processed p given) want) order → IsRising order
+    → (picked : List Given) → IsPick given order picked → IsChoiceShown p given picked want
 
 abbrev pub OneNode : Type 0
 OneNode = (p : Tree) (given : List Given) → IsReadable p given → IsSound p given → HasEachMarkOnce (processed p given) (length given)

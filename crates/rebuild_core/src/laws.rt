@@ -1,5 +1,5 @@
 //! Laws over every payload and every list of disclosures.
-ghost use Rattle.rebuild_core.specs.Laws.{OneSite, SizeBound, Presentation, OneNode};
+ghost use Rattle.rebuild_core.specs.Laws.{OneSite, SizeBound, Presentation, Ranks, ChoiceShown, OneNode};
 ghost use Rattle.rebuild_core.specs.AllShown.{ShownIsSound};
 
 /// Where no disclosure is given twice, no digest stands twice, no reserved name is misused and each disclosure is
@@ -17,6 +17,17 @@ pub fn size_bound()
 /// was not chosen, each mark being the place in that order.
 pub fn presentation()
     ensures { Presentation }
+{}
+
+/// In rising order the place of a number is its rank.
+pub fn ranks()
+    ensures { Ranks }
+{}
+
+/// The disclosures on the way to wanted paths, in their order, are sound again, and open to the processed payload without
+/// what is hidden and leads to none of these paths, each mark being its rank among the chosen.
+pub fn choice_shown()
+    ensures { ChoiceShown }
 {}
 
 /// Each disclosure is the mark of exactly one node of the processed payload, and no other number is.

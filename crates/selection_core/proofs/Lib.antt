@@ -1,0 +1,3 @@
+pub mod PathWalks
+pub mod Wanted
+pub mod Asking

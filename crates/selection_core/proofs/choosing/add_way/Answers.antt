@@ -1,0 +1,16 @@
+use Rattle.std.proofs.Common.{subst, drop, ◌≡◌, []}
+use Rattle.std.proofs.lemmas.List.{drop_all}
+use Rattle.marked_tree.specs.Places.{Path}
+use Rattle.marked_tree.specs.View.{marked_of}
+use Rattle.selection_core.proofs.PathWalks.{ArePassed, passed_all}
+use Rattle.selection_core.proofs.choosing.add_way.Goals as goal
+
+pub returns-clause-marks : goal.returns-clause-marks
+returns-clause-marks c there =
+    let steps : Path = c.steps-step-items.result.now in
+    let m = marked_of c.args.tree.now in
+    let inside = marked_of c.loop-step.inside.now in
+    let none : drop c.loop-step.step-index steps ≡ [] = drop_all _ _ c.loop-step-test.false in
+    passed_all c.args.marks.now c.loop-step.marks m c.args.path.now inside
+    (subst (λ (p : Path). ArePassed c.args.marks.now m p c.loop-step.marks inside []) c.steps-step-items.ensures
+    (subst (λ (p : Path). ArePassed c.args.marks.now m steps c.loop-step.marks inside p) none c.loop-step.invariant.1))

@@ -1,0 +1,8 @@
+use Rattle.std.proofs.Common.{subst, sym}
+use Rattle.claim_tree.specs.View.{tree_of}
+use Rattle.marked_tree.specs.Choice.{IsUnmixed}
+use Rattle.marked_tree.proofs.LeastChoice.{unmixed_mark}
+use Rattle.selection_core.proofs.tests.marked.Goals as goal
+
+pub returns-clause-unmixed : goal.returns-clause-unmixed
+returns-clause-unmixed c = subst IsUnmixed (sym c.in_ok-mark.ensures.marked) (unmixed_mark (tree_of c.in_ok-tree.tree) c.in_ok-paths.paths)

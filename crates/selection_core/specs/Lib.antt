@@ -1,0 +1,3 @@
+pub mod Consent
+pub mod Refusals
+pub mod Asked

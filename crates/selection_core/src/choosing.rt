@@ -1,0 +1,54 @@
+// The choice of the marks that lead to wanted places.
+ghost use Rattle.std.specs.Prelude.{◌≡◌, ◌||◌, ℕ, true, is_some, IfOk, IfErr};
+ghost use Rattle.claim_tree.specs.Lists.{Nowhere};
+ghost use Rattle.claim_tree.specs.Path.{tree_at};
+ghost use Rattle.marked_tree.specs.Choice.{chosen, is_on_way, IsUnmixed, IsLeastChoice};
+ghost use Rattle.marked_tree.specs.Marked.{strip};
+ghost use Rattle.marked_tree.specs.Numbers.{has};
+ghost use Rattle.marked_tree.specs.View.{marked_of};
+ghost use Rattle.selection_core.specs.Refusals.{IsMissing, IsNotThere};
+
+use crate::ChooseError;
+use claim_tree::{Path, PathList};
+use marked_tree::{ChosenSet, Marked, stepped};
+use sd_outside::NoMemory;
+use std::alloc::Global;
+
+/// The marks on the way to the wanted paths: those of the places that lead to one of them. Nothing inside a wanted place
+/// is chosen for it.
+///
+/// Each path is followed from the root, by search in each object, so the cost is that of the paths and not of the tree.
+pub fn choose(alloc: Global, tree: &Marked, wanted: &PathList) -> Result<ChosenSet, ChooseError>
+    ensures chosen { IfOk result (λ marks. (i : ℕ) → has marks i ≡ chosen (marked_of tree.now) wanted.now i) }
+    ensures least { IsUnmixed (marked_of tree.now) → IfOk result (λ marks. IsLeastChoice (marked_of tree.now) wanted.now (has marks)) }
+    ensures there { IfOk result (λ _. Nowhere (IsMissing (strip (marked_of tree.now)) wanted.now)) }
+    ensures refused { IfErr result (IsNotThere (strip (marked_of tree.now)) wanted.now) }
+{
+    let mut marks = ChosenSet::new(alloc);
+    for (k, path) in wanted.paths().iter().enumerate() {
+        if !add_way(tree, path, &mut marks)? {
+            return Err(ChooseError::NoSuchPlace(k));
+        }
+    }
+    Ok(marks)
+}
+
+// Adds the marks on the way to the path. False where it leads nowhere.
+fn add_way(tree: &Marked, path: &Path, marks: &mut ChosenSet) -> Result<bool, NoMemory>
+    ensures there { IfOk result (λ there. there ≡ is_some (tree_at (strip (marked_of tree.now)) path.now)) }
+    ensures marks { IfOk result (λ there. there ≡ true → (i : ℕ) → has marks.new i ≡ (has marks.old i || is_on_way (marked_of tree.now) path.now i)) }
+{
+    let mut inside = tree;
+    for step in path.steps() {
+        match stepped(inside, step.as_str()) {
+            Some((mark, below)) => {
+                if let Some(mark) = mark {
+                    marks.add(mark)?;
+                }
+                inside = below;
+            }
+            None => return Ok(false),
+        }
+    }
+    Ok(true)
+}

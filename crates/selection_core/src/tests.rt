@@ -1,0 +1,171 @@
+ghost use Rattle.std.specs.Prelude.{◌≡◌, ◌<◌, ◌≤◌, ℕ, true, Some, Err, length, IfOk};
+ghost use Rattle.claim_tree.specs.Tree.{depth};
+ghost use Rattle.marked_tree.specs.Choice.{IsUnmixed, StandOnce};
+ghost use Rattle.marked_tree.specs.Marked.{strip as strip_of};
+ghost use Rattle.marked_tree.specs.Numbers.{has};
+ghost use Rattle.marked_tree.specs.Places.{Path as Steps, place};
+ghost use Rattle.marked_tree.specs.View.{marked_of};
+ghost use Rattle.selection_core.specs.declared.errors.AllowError.TheVariants.{Refused};
+
+use crate::{AllowError, ChooseError, Consent, allow, choose};
+use claim_tree::{Path, PathList, is_prefix, read, read_pointer};
+use marked_tree::{ChosenSet, Marked, mark};
+use std::alloc::Global;
+use std::test::Fail;
+
+// The paths of pointers with blanks between them.
+fn paths_of(alloc: Global, pointers: &str) -> Result<PathList, Fail>
+    ensures { IfOk result (λ paths. length paths ≤ 100) }
+{
+    let mut paths = PathList::new(alloc);
+    for pointer in pointers.split(' ') {
+        let path = read_pointer(alloc, pointer).map_err(|_| "no pointer")?;
+        paths.push(path)?;
+    }
+    if paths.len() > 100 {
+        return Err("too many pointers")?;
+    }
+    Ok(paths)
+}
+
+// The JSON value with a mark at each place.
+fn marked(alloc: Global, text: &str, pointers: &str) -> Result<Marked, Fail>
+    ensures shallow { IfOk result (λ marked. depth (strip_of (marked_of marked)) ≤ 127) }
+    ensures unmixed { IfOk result (λ marked. IsUnmixed (marked_of marked)) }
+{
+    let tree = read(alloc, text.as_bytes()).map_err(|_| "not read")?;
+    let paths = paths_of(alloc, pointers)?;
+    Ok(mark(alloc, &tree, &paths)?)
+}
+
+// The first marks that are chosen, each behind a blank.
+fn listed(alloc: Global, chosen: &ChosenSet) -> Result<String, Fail> {
+    let mut listed = String::new(alloc);
+    for i in 0..20u32 {
+        if chosen.has(i) {
+            listed = format!(in alloc; "{listed} {i}")?;
+        }
+    }
+    Ok(listed)
+}
+
+// The marks that are chosen for the wanted pointers, or the number of the one that leads nowhere.
+fn told(alloc: Global, text: &str, hide: &str, want: &str) -> Result<String, Fail> {
+    let marked = marked(alloc, text, hide)?;
+    match choose(alloc, &marked, &paths_of(alloc, want)?) {
+        Ok(chosen) => listed(alloc, &chosen),
+        Err(ChooseError::NoSuchPlace(k)) => Ok(format!(in alloc; "nowhere {k}")?),
+        Err(ChooseError::Memory) => Err("no memory")?,
+    }
+}
+
+#[test]
+fn the_marks_on_the_way_are_chosen(rt: HostRuntime) -> Result<(), Fail> {
+    let alloc = rt.alloc();
+    let address = r#"{"address":{"street":"S","zip":"1"}}"#;
+    let names = r#"{"":{"":0},"a":{"a":{"a":1}},"a/b":2,"aa":3}"#;
+    let list = r#"{"n":["A",["B"],"C",3,4,5,6,7,8,9,[10],11]}"#;
+    for (text, hide, want, chosen) in [
+        (
+            address,
+            "/address /address/street",
+            "/address/street",
+            " 0 1",
+        ),
+        (address, "/address /address/street", "/address", " 1"),
+        (address, "/address /address/street", "", ""),
+        (address, "/address/street", "/address/zip", ""),
+        (address, "/address", "/address/street /address/zip", " 0"),
+        (address, "/address", "/nothing", "nowhere 0"),
+        (
+            address,
+            "/address",
+            "/address /address/street/x /y",
+            "nowhere 1",
+        ),
+        (names, "// /a/a /a /aa /a~1b", "// /a/a/a", " 0 1 2"),
+        (names, "/ // /a~1b /aa", "/a~1b /aa /a~1b", " 2 3"),
+        (list, "/n/0 /n/2 /n/10/0 /n/10", "/n/10/0", " 2 3"),
+        (list, "/n/0 /n/1 /n/1/0 /n/11", "/n/11 /n/1", " 2 3"),
+        (list, "/n", "/n/10/0 /n/12", "nowhere 1"),
+        (list, "/n", "/n/00", "nowhere 0"),
+        (list, "/n", "/n/-", "nowhere 0"),
+    ] {
+        assert_eq!(rt; told(alloc, text, hide, want)?.as_str(), chosen);
+    }
+    Ok(())
+}
+
+// Whether a rule allows what is chosen: nothing, or the mark that it refuses.
+fn judged(alloc: Global, answer: Result<(), AllowError>) -> Result<String, Fail> {
+    match answer {
+        Ok(()) => Ok(String::new(alloc)),
+        Err(AllowError::Refused(i)) => Ok(format!(in alloc; "refused {i}")?),
+        Err(AllowError::Memory) => Err("no memory")?,
+    }
+}
+
+fn chosen(alloc: Global, marked: &Marked, want: &str) -> Result<ChosenSet, Fail> {
+    let wanted = paths_of(alloc, want)?;
+    let chosen = choose(alloc, marked, &wanted).map_err(|_| "not chosen")?;
+    Ok(chosen)
+}
+
+#[test]
+fn each_chosen_place_is_asked_for(rt: HostRuntime) -> Result<(), Fail> {
+    let alloc = rt.alloc();
+    let deep = r#"{"a":{"b":{"c":1,"d":2}},"l":[{"m":1}],"z":0}"#;
+    let hide = "/a /a/b /a/b/c /a/b/d /l/0 /l/0/m /z";
+    for (want, never, answer) in [
+        ("/a/b/c /z", "/l", ""),
+        ("/a/b/c /z", "/a", "refused 0"),
+        ("/a/b/d /z", "/a/b/c", ""),
+        ("/a/b/d /z", "/a/b/d", "refused 1"),
+        ("/a/b /z", "/a/b", "refused 2"),
+        ("/a /z", "/a/b", ""),
+        ("/l/0/m", "/l/0", "refused 4"),
+        ("/l/0/m", "/l/0/m", "refused 4"),
+        ("/l/0", "/l/0/m", ""),
+        ("/l/0 /z", "/z /l/0", "refused 5"),
+        ("", "", ""),
+        ("/z", "", "refused 6"),
+    ] {
+        let marked = marked(alloc, deep, hide)?;
+        let chosen = chosen(alloc, &marked, want)?;
+        let never = paths_of(alloc, never)?;
+        let consent = Consent::new(|place: &Path| !never
+            .paths()
+            .iter()
+            .any(|path| is_prefix(path, place)));
+        let answer_told = judged(alloc, allow(alloc, &consent, &marked, &chosen))?;
+        assert_eq!(rt; answer_told.as_str(), answer);
+    }
+    Ok(())
+}
+
+// Asks a rule that allows places of one step at most: what it says of a place is known to who keeps it.
+fn judge_steps(alloc: Global, marked: &Marked, chosen: &ChosenSet) -> Result<(), AllowError>
+    requires depth { depth (strip_of (marked_of marked.now)) ≤ 127 }
+    requires once { StandOnce (marked_of marked.now) (has chosen.now) }
+    ensures allowed { IfOk result (λ _. (i : ℕ) (at : Steps) → has chosen.now i ≡ true → place (marked_of marked.now) i ≡ Some at → length at ≤ 1) }
+    ensures refused { (i : ℕ) → result ≡ Err (Refused i) → (at : Steps) × (place (marked_of marked.now) i ≡ Some at) × (1 < length at) }
+{
+    let consent = Consent::new(|place: &Path| place.len() <= 1);
+    allow(alloc, &consent, marked, chosen)
+}
+
+#[test]
+fn a_rule_may_count_steps(rt: HostRuntime) -> Result<(), Fail> {
+    let alloc = rt.alloc();
+    for (want, answer) in [("/address/street", "refused 0"), ("/address", "")] {
+        let marked = marked(
+            alloc,
+            r#"{"address":{"street":"S","zip":"1"}}"#,
+            "/address /address/street",
+        )?;
+        let chosen = chosen(alloc, &marked, want)?;
+        let answer_told = judged(alloc, judge_steps(alloc, &marked, &chosen))?;
+        assert_eq!(rt; answer_told.as_str(), answer);
+    }
+    Ok(())
+}
