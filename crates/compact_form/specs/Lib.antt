@@ -3,3 +3,4 @@ pub mod Trim
 pub mod Token
 pub mod Views
 pub mod Reading
+pub mod PartWords

@@ -1,1 +1,3 @@
 pub mod Token
+pub mod Json
+pub mod PlaceTable
