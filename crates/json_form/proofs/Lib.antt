@@ -1,1 +1,6 @@
 pub mod Tokens
+mod Members
+mod SayOrFail
+mod Objects
+mod WordLists
+mod EntryLists

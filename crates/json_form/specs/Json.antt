@@ -1,5 +1,5 @@
 -- The JSON serializations of an SD-JWT, RFC 9901 section 8 and RFC 7515 section 7.2: the members of an object, and the token that they say.
-use Rattle.std.specs.Prelude.{◌≡◌, ◌<◌, ℕ, Bool, true, false, ◌||◌, ◌&&◌, ◌⊎◌, [], Option, Some, None}
+use Rattle.std.specs.Prelude.{◌≡◌, ◌<◌, ℕ, Bool, true, false, ◌||◌, ◌&&◌, ◌⊎◌, List, [], Option, Some, None}
 use Rattle.std.specs.List.{AllByRecursion}
 use Rattle.std.specs.Option.{is_some}
 use Rattle.b64url_text.specs.Base64url.{IsWord}

@@ -1,3 +1,4 @@
 pub mod Token
 pub mod Json
 pub mod PlaceTable
+pub mod Reading
