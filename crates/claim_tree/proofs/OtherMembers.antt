@@ -30,6 +30,14 @@ named_other (member k t ms) name other apart = go (bytes_eq k name) refl (named_
     go true e ih = rw (differs k name other e apart) ih
     go false e ih = ap (λ o. if bytes_eq k other then Some t else o) ih
 
+pub named_gone : (ms : Members) (name : Text) → member_named (removed ms name) name ≡ None
+named_gone no_members name = refl
+named_gone (member k t ms) name = go (bytes_eq k name) refl (named_gone ms name)
+  where
+    go : (b : Bool) → bytes_eq k name ≡ b → member_named (removed ms name) name ≡ None → member_named (if b then removed ms name else member k t (removed ms name)) name ≡ None
+    go true e ih = ih
+    go false e ih = rw e ih
+
 pub removed_absent : (ms : Members) (name : Text) → member_named ms name ≡ None → removed ms name ≡ ms
 removed_absent no_members name none = refl
 removed_absent (member k t ms) name none = go (bytes_eq k name) none (removed_absent ms name)
@@ -106,3 +114,13 @@ removed_inserted (member k u ms) name t none = go (cmp k name) refl (removed_ins
     go Less e ih = let apart : bytes_eq k name ≡ false = tied k name Less e in rw apart (ap (member k u) (ih (later apart)))
     go Equal e ih = absurd (clash (bytes_eq k name) u (member_named ms name) (tied k name Equal e) none)
     go Greater e ih = rw (same_bytes name) (removed_absent (member k u ms) name none)
+
+pub depth-inserted : (ms : Members) (name : Text) (t : Tree) → members_depth (inserted ms name t) ≤ max (depth t) (members_depth ms)
+depth-inserted no_members name t = omega arith
+depth-inserted (member k u ms) name t = go (cmp k name) (depth-inserted ms name t)
+  where
+    go : (o : Ordering) → members_depth (inserted ms name t) ≤ max (depth t) (members_depth ms)
+        → members_depth (match_ordering o (member k u (inserted ms name t)) (member name t ms) (member name t (member k u ms))) ≤ max (depth t) (max (depth u) (members_depth ms))
+    go Less ih = omega (arith, ih)
+    go Equal ih = omega arith
+    go Greater ih = omega arith

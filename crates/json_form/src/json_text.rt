@@ -3,6 +3,7 @@ ghost use Rattle.compact_form.specs.declared.fault.JsonPlace.{JsonPlace as ThePl
 ghost use Rattle.json_form.specs.Json.{IsJson};
 ghost use Rattle.json_form.specs.PlaceTable.{MembersApply, IsFirst, IsJsonFault};
 ghost use Rattle.json_form.specs.Reading.{MembersSay};
+ghost use Rattle.json_form.specs.Written.{IsPrintable};
 
 use crate::entries::entries_of;
 use crate::entry::{read_entry, take_word};
@@ -33,6 +34,7 @@ fn token_of(alloc: Global, members: TreeMap) -> Result<Token, JsonFormError>
 /// in the rules, and the first that applies is named.
 pub fn parse_json(alloc: Global, text: &[u8]) -> Result<Token, JsonFormError>
     ensures ok { IfOk result (λ token. IsJson token text.now) }
+    ensures printable { IfOk result IsPrintable }
     ensures fault { (place : ThePlace) → IsErrOf result (JsonFormError.Fault place) → IsJsonFault text.now place }
 {
     let Tree::Object(members) = read(alloc, text)? else {

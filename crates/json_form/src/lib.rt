@@ -9,6 +9,7 @@ mod entry;
 mod json_error;
 mod json_text;
 pub mod laws;
+mod printing;
 #[cfg(test)]
 mod tests;
 mod token;
@@ -16,4 +17,5 @@ mod values;
 
 pub use json_error::JsonFormError;
 pub use json_text::parse_json;
+pub use printing::{print_flat, print_general};
 pub use token::{Token, TokenError, read_token};
