@@ -3,5 +3,6 @@ mod Members
 mod SayOrFail
 mod Objects
 mod WrittenForms
+pub mod OneForm
 mod WordLists
 mod EntryLists

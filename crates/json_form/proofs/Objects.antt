@@ -23,7 +23,7 @@ use Rattle.json_form.proofs.SayOrFail.{says_word, row_no_word, no_word_at, SameE
 
 -- ---- the entries of an object
 
-one_entry : (ms : Members) (entries : Entries) (m : Members) → HasEntries ms entries → IsEntry ms m → m ≡ entries.first
+pub one_entry : (ms : Members) (entries : Entries) (m : Members) → HasEntries ms entries → IsEntry ms m → m ≡ entries.first
 one_entry ms entries m (itself none is unstray) (flat absent same) = same ∙ sym is
 one_entry ms entries m (itself none is unstray) (first later at) = let both : None ≡ Some (array (element (object m) later)) = sym none ∙ at in cc both
 one_entry ms entries m (listed list at has alone) (flat absent same) = let both : Some list ≡ None = sym at ∙ absent in cc both
@@ -33,7 +33,7 @@ one_entry ms entries m (listed list at has alone) (first later there) =
     let lists : array (element (object m) later) ≡ array (element (object entries.first) has.later) = sym same ∙ has.are.are in
     cc lists
 
-is_entry : (ms : Members) (entries : Entries) → HasEntries ms entries → IsEntry ms entries.first
+pub is_entry : (ms : Members) (entries : Entries) → HasEntries ms entries → IsEntry ms entries.first
 is_entry ms entries (itself none is unstray) = flat none is
 is_entry ms entries (listed list at has alone) = first has.later (at ∙ ap Some has.are.are)
 
@@ -105,7 +105,7 @@ settled_from ms rest entries gone list kept (listed t at has alone) =
 
 -- ---- the first place at which an object fails
 
-from_payload : (ms : Members) (o : JsonPlace) → MembersApply ms o → 3 ≤ row_of o
+pub from_payload : (ms : Members) (o : JsonPlace) → MembersApply ms o → 3 ≤ row_of o
 from_payload ms o (payload v) = omega (arith, row_no_word ms Payload o v)
 from_payload ms o (signatures named odd) = omega (arith, ap row_of named)
 from_payload ms o (entry m is v) = omega (arith, lower m o v)

@@ -32,7 +32,7 @@ pub row_no_word : (ms : Members) (part : Part) (o : JsonPlace) → IsNoWord ms p
 row_no_word ms part o (missing is none) = ap row_of is
 row_no_word ms part o (other t is stands odd) = ap row_of is
 
-row_wrong : {X : Type 0} (Is : Tree → X → Type 0) (ms : Members) (part : Part) (o : JsonPlace) → IsWrong Is ms part o → row_of o ≡ part_row part
+pub row_wrong : {X : Type 0} (Is : Tree → X → Type 0) (ms : Members) (part : Part) (o : JsonPlace) → IsWrong Is ms part o → row_of o ≡ part_row part
 row_wrong Is ms part o wrong = ap row_of wrong.named
 
 -- ---- the same member of other members
