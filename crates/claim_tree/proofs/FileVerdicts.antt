@@ -35,7 +35,7 @@ says_or_one Is default (Some t) x y one h k = one t x y h k
 pub one_text : SaysOne IsText
 one_text t x y h k = let both : leaf (text x) ≡ leaf (text y) = sym h ∙ k in cc both
 
-one_list : (xs ys : List Text) → text_elements xs ≡ text_elements ys → xs ≡ ys
+pub one_list : (xs ys : List Text) → text_elements xs ≡ text_elements ys → xs ≡ ys
 one_list [] [] e = refl
 one_list [] (y ∷ ys) e = cc e
 one_list (x ∷ xs) [] e = cc e
@@ -105,7 +105,7 @@ not_refused most table bytes ms (Wrong field) file meet refused =
     absurd (no_first_fault table ms (Wrong field) meet (subst (λ ns. IsFirstFault table ns (Wrong field)) same refused.first))
 
 -- a text that is no JSON has no value
-one_cause : (bytes : Text) → IsNotJson bytes → IsNotWhole bytes → ⊥
+pub one_cause : (bytes : Text) → IsNotJson bytes → IsNotWhole bytes → ⊥
 one_cause bytes (inl odd) whole_is = odd whole_is.utf8
 one_cause bytes (inr none) whole_is = let both : Some whole_is.data_is ≡ None = sym whole_is.value ∙ none in cc both
 

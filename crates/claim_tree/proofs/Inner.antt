@@ -8,11 +8,11 @@ chosen : (b : Bool) (t : Tree) (rest : Option Tree) (u : Tree) → IsRanged t �
 chosen true t rest u here there e = let same : t ≡ u = cc e in subst IsRanged same here
 chosen false t rest u here there e = there e
 
-ranged-member_named : (ms : Members) (name : Text) (u : Tree) → MembersRanged ms → member_named ms name ≡ Some u → IsRanged u
+pub ranged-member_named : (ms : Members) (name : Text) (u : Tree) → MembersRanged ms → member_named ms name ≡ Some u → IsRanged u
 ranged-member_named no_members name u h e = absurd (cc e)
 ranged-member_named (member other t ms) name u h e = chosen (bytes_eq other name) t (member_named ms name) u h.0 (ranged-member_named ms name u h.1) e
 
-ranged-element_at : (es : Elements) (i : ℕ) (u : Tree) → ElementsRanged es → element_at es i ≡ Some u → IsRanged u
+pub ranged-element_at : (es : Elements) (i : ℕ) (u : Tree) → ElementsRanged es → element_at es i ≡ Some u → IsRanged u
 ranged-element_at no_elements i u h e = absurd (cc e)
 ranged-element_at (element t es) zero u h e = let same : t ≡ u = cc e in subst IsRanged same h.0
 ranged-element_at (element t es) (suc i) u h e = ranged-element_at es i u h.1 e

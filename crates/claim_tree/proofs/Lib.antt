@@ -1,6 +1,7 @@
 pub mod Lists
 pub mod Views
 pub mod MapPlaces
+pub mod OtherMembers
 pub mod Inner
 pub mod Positions
 pub mod Walks

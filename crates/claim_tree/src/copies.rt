@@ -35,8 +35,9 @@ fn copy_elements(alloc: Global, trees: &TreeList) -> Result<TreeList, NoMemory>
     Ok(copies)
 }
 
+/// An equal object, with texts of its own.
 #[cycle(copy)]
-fn copy_members(alloc: Global, trees: &TreeMap) -> Result<TreeMap, NoMemory>
+pub fn copy_members(alloc: Global, trees: &TreeMap) -> Result<TreeMap, NoMemory>
     requires { members_depth trees.now ≤ 126 }
     ensures ok { IfOk result (λ copy. copy ≡ trees.now) }
 {

@@ -21,7 +21,7 @@ mod tree;
 #[cfg(test)]
 mod tree_tests;
 
-pub use copies::copy;
+pub use copies::{copy, copy_members};
 pub use depths::depth;
 pub use file_fault::{Field, FileFault};
 pub use file_form::{

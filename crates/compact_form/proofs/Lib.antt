@@ -6,6 +6,7 @@ mod Cuts
 mod Stops
 mod Steps
 mod Spelled
+mod JwtTexts
 pub mod Unique
 pub mod Verdicts
 mod GatheredParts

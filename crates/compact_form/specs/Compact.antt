@@ -30,6 +30,11 @@ pub record HasWords (j : JwtParts) : Type 0 where
   pub payload : IsWord j.payload
   pub signature : IsWord j.signature
 
+-- the text is the spelling of a jwt that stands alone
+pub record IsJwt (j : JwtParts) (text : List ℕ) : Type 0 where
+  pub words : HasWords j
+  pub spelling : text ≡ jwt j
+
 -- each text of the parts is a word
 pub record AreWords (parts : Parts) : Type 0 where
   pub signed : HasWords parts.signed

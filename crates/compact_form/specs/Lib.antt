@@ -5,3 +5,4 @@ pub mod Views
 pub mod Reading
 pub mod Condition
 pub mod Lowest
+pub mod PartWords

@@ -1,3 +1,6 @@
+ghost use Rattle.std.specs.Prelude.{◌≡◌};
+ghost use Rattle.compact_form.specs.PartWords.{word_of};
+
 /// A condition of a verifier that fails: its number, and the place that its failure names.
 #[derive(Clone, Copy, Debug, PartialEq, Eq)]
 pub struct Fault {
@@ -26,6 +29,23 @@ pub enum Part {
     Header,
     Disclosures,
     KbJwt,
+}
+
+impl Part {
+    /// Its name in the serialization.
+    pub fn word(self) -> &'static str
+        ensures { result.now ≡ word_of self }
+    {
+        match self {
+            Part::Payload => "payload",
+            Part::Protected => "protected",
+            Part::Signature => "signature",
+            Part::Signatures => "signatures",
+            Part::Header => "header",
+            Part::Disclosures => "disclosures",
+            Part::KbJwt => "kb_jwt",
+        }
+    }
 }
 
 /// What is wrong with a JSON serialization.

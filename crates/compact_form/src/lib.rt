@@ -3,7 +3,8 @@
 //! [`View::scan`] reads a text once and borrows its parts; [`parse`] copies them. Both refuse a text at
 //! the first byte at which it stops being the front of a token. [`read_view`] judges a token as it comes
 //! from a file: its limits, its blanks and its form. [`print`] writes parts as the text that [`parse`]
-//! reads, and [`hashed_text`] as much of it as a key binding token hashes.
+//! reads, and [`hashed_text`] as much of it as a key binding token hashes. [`read_jwt`] and [`print_jwt`] are for a
+//! JWT that stands alone.
 #![tactic(auto)]
 
 mod blanks;
@@ -11,6 +12,7 @@ mod conditions;
 mod fault;
 mod field;
 mod form;
+mod jwt_view;
 pub mod laws;
 mod limits;
 mod parts;
@@ -33,9 +35,10 @@ pub use conditions::{
 };
 pub use fault::{Fault, JsonPlace, Part, Place};
 pub use form::{FormError, check, parse};
+pub use jwt_view::read_jwt;
 pub use limits::{COMPACT_MAX, COUNT_MAX, FILE_MAX, ISSUE_MAX};
 pub use parts::{JwtParts, Parts};
 pub use reader::At;
-pub use spelling::{hashed_text, print};
+pub use spelling::{hashed_text, print, print_jwt};
 pub use token::read_view;
 pub use view::{JwtView, Pieces, View};

@@ -1,6 +1,6 @@
 // The text that spells parts.
 ghost use Rattle.std.specs.Prelude.{◌≡◌, ◌++◌, OnOk, IfOk, string_bytes};
-ghost use Rattle.compact_form.specs.Compact.{jwt as jwt_text, spelled, hashed, compact, AreWords, IsCompact, IsUpToLastTilde};
+ghost use Rattle.compact_form.specs.Compact.{jwt as jwt_text, spelled, hashed, compact, AreWords, HasWords, IsCompact, IsJwt, IsUpToLastTilde};
 
 use crate::{JwtParts, Parts};
 use sd_outside::{NoMemory, TextBox, TextList};
@@ -37,6 +37,16 @@ fn front(alloc: Global, parts: &Parts) -> Result<String, NoMemory>
     text.push('~')?;
     push_disclosures(&mut text, &parts.disclosures)?;
     Ok(text)
+}
+
+/// The text of a JWT that stands alone: the one that [`read_jwt`](crate::read_jwt) reads as these texts.
+pub fn print_jwt(alloc: Global, jwt: &JwtParts) -> Result<TextBox, NoMemory>
+    requires words { HasWords jwt.now }
+    ensures { IfOk result (IsJwt jwt.now) }
+{
+    let mut text = String::new(alloc);
+    push_jwt(&mut text, jwt)?;
+    Ok(TextBox::from_string(text))
 }
 
 /// The compact text of the parts: the one that [`parse`](crate::parse) reads as these parts.

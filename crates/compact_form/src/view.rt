@@ -1,4 +1,4 @@
-ghost use Rattle.std.specs.Prelude.{◌≡◌, ◌^◌, ◌<◌, ◌++◌, length, take, IfOk, IfErr, IfSome};
+ghost use Rattle.std.specs.Prelude.{◌≡◌, ◌↔◌, ◌^◌, ◌<◌, ◌++◌, length, take, IfOk, IfErr, IfSome, IsTrue};
 ghost use Rattle.std.specs.Option.{option_map};
 ghost use Rattle.std.specs.Iterator.{YieldsFirstBy, item_count};
 ghost use Rattle.compact_form.specs.Compact.{hashed as hashed_of, ending, HasWords, IsCompact, IsRefusedAt};
@@ -8,6 +8,7 @@ ghost use Rattle.compact_form.specs.Reading.{Gathered};
 use crate::field::Field;
 use crate::reader::{At, Reader, text_of};
 use crate::{JwtParts, Parts};
+use b64url_text::is_word;
 use sd_outside::{NoMemory, TextBox, TextList};
 use std::alloc::Global;
 use std::marker::Model;
@@ -18,6 +19,28 @@ pub struct JwtView<'a> {
     pub protected: &'a str,
     pub payload: &'a str,
     pub signature: &'a str,
+}
+
+impl<'a> JwtView<'a> {
+    // Whether each text is a base64url word.
+    pub(crate) fn has_words(&self) -> bool
+        ensures { IsTrue result ↔ HasWords (jwt_of self.now) }
+    {
+        is_word(self.protected.as_bytes())
+            && is_word(self.payload.as_bytes())
+            && is_word(self.signature.as_bytes())
+    }
+
+    /// A copy of the texts.
+    pub fn to_parts(&self, alloc: Global) -> Result<JwtParts, NoMemory>
+        ensures { IfOk result (λ parts. parts ≡ jwt_of self.now) }
+    {
+        Ok(JwtParts {
+            protected: TextBox::make(alloc, self.protected)?,
+            payload: TextBox::make(alloc, self.payload)?,
+            signature: TextBox::make(alloc, self.signature)?,
+        })
+    }
 }
 
 /// The parts of a compact text, borrowed from it. Contracts see the parts.
@@ -161,11 +184,11 @@ impl<'a> View<'a> {
         ensures { IfOk result (λ parts. parts ≡ self.now) }
     {
         let binding = match self.binding {
-            Some(jwt) => Some(copy_jwt(alloc, jwt)?),
+            Some(jwt) => Some(jwt.to_parts(alloc)?),
             None => None,
         };
         Ok(Parts {
-            signed: copy_jwt(alloc, self.signed)?,
+            signed: self.signed.to_parts(alloc)?,
             disclosures: copy_pieces(alloc, self.pieces())?,
             binding,
         })
@@ -188,16 +211,6 @@ impl<'a> Iterator for Pieces<'a> {
             None => None,
         }
     }
-}
-
-fn copy_jwt(alloc: Global, jwt: JwtView<'_>) -> Result<JwtParts, NoMemory>
-    ensures { IfOk result (λ copy. copy ≡ jwt_of jwt.entry) }
-{
-    Ok(JwtParts {
-        protected: TextBox::make(alloc, jwt.protected)?,
-        payload: TextBox::make(alloc, jwt.payload)?,
-        signature: TextBox::make(alloc, jwt.signature)?,
-    })
 }
 
 fn copy_pieces(alloc: Global, pieces: Pieces<'_>) -> Result<TextList, NoMemory>

@@ -1,1 +1,8 @@
 pub mod Tokens
+mod Members
+mod SayOrFail
+mod Objects
+mod WrittenForms
+pub mod OneForm
+mod WordLists
+mod EntryLists

@@ -1,1 +1,5 @@
 pub mod Token
+pub mod Json
+pub mod PlaceTable
+pub mod Written
+pub mod Reading

@@ -4,9 +4,18 @@
 //! text that begins with `{` is refused as a compact text would be.
 #![tactic(auto)]
 
+mod entries;
+mod entry;
+mod json_error;
+mod json_text;
 pub mod laws;
+mod printing;
 #[cfg(test)]
 mod tests;
 mod token;
+mod values;
 
+pub use json_error::JsonFormError;
+pub use json_text::parse_json;
+pub use printing::{print_flat, print_general};
 pub use token::{Token, TokenError, read_token};

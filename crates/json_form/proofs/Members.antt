@@ -1,0 +1,46 @@
+-- Members under their names, found and taken out.
+use Rattle.std.proofs.Common.{◌≡◌, ◌≢◌, Bool, true, false, ◌||◌, Option, Some, None, bytes_eq, refl, sym, ap, ◌∙◌}
+use Rattle.std.specs.Option.{is_some}
+use Rattle.claim_tree.specs.Tree as spec
+use Rattle.claim_tree.specs.Tree.{Text, Members, object, member_named}
+use Rattle.claim_tree.specs.Removed.{removed}
+use Rattle.claim_tree.specs.View.{tree_of}
+use Rattle.claim_tree.specs.declared.tree.Tree as tree
+use Rattle.claim_tree.proofs.OtherMembers.{named_other, removed_absent}
+use Rattle.compact_form.specs.PartWords.{word_of}
+use Rattle.compact_form.specs.declared.fault.Part.{Part}
+use Rattle.compact_form.specs.declared.fault.Part.TheVariants.{Protected, Signature, Signatures, Header}
+use Rattle.json_form.specs.Json.{found, has, has_beside}
+
+pub found_here : (ms : Members) (part : Part) (word : Text) (t : spec.Tree) → word ≡ word_of part → Some t ≡ member_named ms word → found ms part ≡ Some t
+found_here ms part word t is stands = ap (member_named ms) (sym is) ∙ sym stands
+
+pub absent_here : (ms : Members) (part : Part) (word : Text) → word ≡ word_of part → None ≡ member_named ms word → found ms part ≡ None
+absent_here ms part word is none = ap (member_named ms) (sym is) ∙ sym none
+
+-- the others are found as before
+pub found_other : (ms : Members) (gone part : Part) → bytes_eq (word_of gone) (word_of part) ≡ false → found (removed ms (word_of gone)) part ≡ found ms part
+found_other ms gone part apart = named_other ms (word_of gone) (word_of part) apart
+
+-- where nothing is taken out, nothing changes
+pub same_members : (ms new : Members) (part : Part) (word : Text) → word ≡ word_of part → None ≡ member_named ms word → new ≡ removed ms word → new ≡ ms
+same_members ms new part word is none gone = gone ∙ removed_absent ms word (sym none)
+
+either_of : (a b c d e f : Bool) → a ≡ d → b ≡ e → c ≡ f → (a || b || c) ≡ (d || e || f)
+either_of a b c d e f p q r = cc
+
+pub beside_kept : (ms : Members) (gone : Part) → bytes_eq (word_of gone) (word_of Protected) ≡ false → bytes_eq (word_of gone) (word_of Signature) ≡ false → bytes_eq (word_of gone) (word_of Header) ≡ false
+    → has_beside (removed ms (word_of gone)) ≡ has_beside ms
+beside_kept ms gone p s h =
+    either_of _ _ _ (has ms Protected) (has ms Signature) (has ms Header) (ap is_some (found_other ms gone Protected p)) (ap is_some (found_other ms gone Signature s)) (ap is_some (found_other ms gone Header h))
+
+object_inside : (t : tree.Tree) (ms : Members) → tree_of t ≡ object ms → t ≡ tree.Tree.Object ms
+object_inside tree.Tree.Null ms e = cc e
+object_inside (tree.Tree.Flag b) ms e = cc e
+object_inside (tree.Tree.Whole n) ms e = cc e
+object_inside (tree.Tree.Text s) ms e = cc e
+object_inside (tree.Tree.List es) ms e = cc e
+object_inside (tree.Tree.Object other) ms e = let same : other ≡ ms = cc e in ap tree.Tree.Object same
+
+pub no_object : (t : tree.Tree) → ((ms : Members) → t ≢ tree.Tree.Object ms) → (ms : Members) → tree_of t ≢ object ms
+no_object t other ms e = other ms (object_inside t ms e)

@@ -1,0 +1,216 @@
+-- What is written of a token says it, and what says a token can be written.
+use Rattle.std.proofs.Common.{◌≡◌, ℕ, zero, suc, ◌+◌, ◌<◌, ◌≤◌, max, List, [], ◌∷◌, ◌++◌, take, length, get_or, Option, Some, None, IfSome, refl, sym, ap, subst, ◌∙◌, arith}
+use Rattle.std.specs.Prelude.{slice_get}
+use Rattle.std.specs.List.{AllByRecursion}
+use Rattle.std.proofs.lemmas.List.{take_more}
+use Rattle.std.proofs.lemmas.Option.{slice_get_within, get_or_from_slice_get}
+use Rattle.b64url_text.specs.Base64url.{IsWord}
+use Rattle.claim_tree.specs.Tree.{Text, text, Tree, leaf, array, object, Elements, no_elements, element, Members, no_members, member, depth, elements_depth, members_depth, IsRanged, ElementsRanged, MembersRanged, inserted, member_named, pushed}
+use Rattle.claim_tree.specs.Removed.{removed}
+use Rattle.claim_tree.specs.FileForms.{Says, MaySay, SaysOr, text_elements}
+use Rattle.claim_tree.specs.JsonText.{Reads}
+use Rattle.claim_tree.proofs.Datas.{MembersRanged-inserted}
+use Rattle.claim_tree.proofs.FileMembers.{text_elements-push}
+use Rattle.claim_tree.proofs.Inner.{ranged-member_named}
+use Rattle.claim_tree.proofs.OtherMembers.{named_other, named_gone, removed_absent, ranged-removed, depth-removed, depth-member_named, named_inserted, other_inserted, removed_inserted, depth-inserted}
+use Rattle.compact_form.specs.Compact.{jwt, HasWords, AreWords}
+use Rattle.compact_form.specs.PartWords.{word_of}
+use Rattle.compact_form.specs.declared.parts.JwtParts.{JwtParts}
+use Rattle.compact_form.specs.declared.fault.Part.TheVariants.{Payload, Protected, Signature, Signatures, Header, Disclosures, KbJwt}
+use Rattle.json_form.specs.declared.token.Token.{Token}
+use Rattle.json_form.specs.declared.entries.Entries.{Entries}
+use Rattle.json_form.specs.Json.{found, IsWordTree, AreWordTrees, IsJwtTree, IsObject, HeaderSays, EntrySays, IsStray, IsFlat, IsGeneral}
+use Rattle.json_form.specs.Reading.{HasEntries, itself, listed, MembersSay}
+use Rattle.json_form.specs.Written.{IsPrintable, with_binding, header_of, flat_of, entry_of, general_of}
+
+-- ---- lists of texts
+
+pub texts_depth : (texts : List Text) → elements_depth (text_elements texts) ≡ 0
+texts_depth [] = refl
+texts_depth (s ∷ texts) = omega (arith, texts_depth texts)
+
+texts_ranged : (texts : List Text) → ElementsRanged (text_elements texts)
+texts_ranged [] = tt
+texts_ranged (s ∷ texts) = (tt, texts_ranged texts)
+
+-- one text more
+pub texts_turn : (texts : List Text) (i : ℕ) (s : Text) → slice_get texts i ≡ Some s → text_elements (take (i + 1) texts) ≡ pushed (text_elements (take i texts)) (leaf (text s))
+texts_turn texts i s at =
+    ap text_elements (take_more texts i [] (slice_get_within texts i s at) ∙ ap (λ (e : Text). take i texts ++ (e ∷ [])) (get_or_from_slice_get texts i s [] at))
+    ∙ text_elements-push (take i texts) s
+
+-- ---- the header that is written
+
+binding_disclosures : (b : Option JwtParts) (ms : Members) → found ms Disclosures ≡ None → found (with_binding b ms) Disclosures ≡ None
+binding_disclosures None ms none = none
+binding_disclosures (Some j) ms none = other_inserted ms (word_of KbJwt) (leaf (text (jwt j))) (word_of Disclosures) refl ∙ none
+
+binding_said : (b : Option JwtParts) (ms : Members) → found ms KbJwt ≡ None → IfSome b HasWords → MaySay IsJwtTree (found (with_binding b ms) KbJwt) b
+binding_said None ms none words = subst (λ t. MaySay IsJwtTree t None) (sym none) tt
+binding_said (Some j) ms none words = subst (λ t. MaySay IsJwtTree t (Some j)) (sym (named_inserted ms (word_of KbJwt) (leaf (text (jwt j))))) (record { is = refl; words = words })
+
+binding_out : (b : Option JwtParts) (ms : Members) → found ms KbJwt ≡ None → removed (with_binding b ms) (word_of KbJwt) ≡ ms
+binding_out None ms none = removed_absent ms (word_of KbJwt) none
+binding_out (Some j) ms none = removed_inserted ms (word_of KbJwt) (leaf (text (jwt j))) none
+
+header_says : (token : Token) → IsPrintable token → HeaderSays (header_of token) token
+header_says token good =
+    let more = with_binding token.parts.binding token.outer in
+    let list = array (text_elements token.parts.disclosures) in
+    let kept : found (header_of token) KbJwt ≡ found more KbJwt = other_inserted more (word_of Disclosures) list (word_of KbJwt) refl in
+    record {
+      disclosures = subst (λ t. SaysOr AreWordTrees [] t token.parts.disclosures) (sym (named_inserted more (word_of Disclosures) list)) (record { are = refl; words = good.words.disclosures });
+      binding = subst (λ t. MaySay IsJwtTree t token.parts.binding) (sym kept) (binding_said token.parts.binding token.outer good.no_binding good.words.binding);
+      outer = sym (
+        ap (λ (ms : Members). removed ms (word_of KbJwt)) (removed_inserted more (word_of Disclosures) list (binding_disclosures token.parts.binding token.outer good.no_disclosures))
+        ∙ binding_out token.parts.binding token.outer good.no_binding
+      );
+    }
+
+binding_depth : (b : Option JwtParts) (ms : Members) → members_depth (with_binding b ms) ≤ members_depth ms
+binding_depth None ms = omega arith
+binding_depth (Some j) ms = omega (arith, depth-inserted ms (word_of KbJwt) (leaf (text (jwt j))))
+
+header_depth : (token : Token) → members_depth (header_of token) ≤ max 1 (members_depth token.outer)
+header_depth token =
+    let more = with_binding token.parts.binding token.outer in
+    omega (
+      arith,
+      depth-inserted more (word_of Disclosures) (array (text_elements token.parts.disclosures)),
+      texts_depth token.parts.disclosures,
+      binding_depth token.parts.binding token.outer,
+    )
+
+binding_ranged : (b : Option JwtParts) (ms : Members) → MembersRanged ms → MembersRanged (with_binding b ms)
+binding_ranged None ms ranged = ranged
+binding_ranged (Some j) ms ranged = MembersRanged-inserted ms (word_of KbJwt) (leaf (text (jwt j))) ranged tt
+
+header_ranged : (token : Token) → IsPrintable token → MembersRanged (header_of token)
+header_ranged token good =
+    MembersRanged-inserted (with_binding token.parts.binding token.outer) (word_of Disclosures) (array (text_elements token.parts.disclosures)) (binding_ranged token.parts.binding token.outer good.ranged) (texts_ranged token.parts.disclosures)
+
+-- ---- the flattened form
+
+pub flat_ranged : (token : Token) → IsPrintable token → IsRanged (flat_of token)
+flat_ranged token good = (header_ranged token good, (tt, (tt, (tt, tt))))
+
+pub flat_depth : (token : Token) → IsPrintable token → depth (flat_of token) ≤ 127
+flat_depth token good = omega (arith, header_depth token, good.shallow)
+
+pub flat_says : (token : Token) (bytes : Text) → IsPrintable token → Reads bytes (flat_of token) → IsFlat token bytes
+flat_says token bytes good reads =
+    record {
+      members = member (word_of Header) (object (header_of token)) (
+        member (word_of Payload) (leaf (text token.parts.signed.payload)) (
+          member (word_of Protected) (leaf (text token.parts.signed.protected)) (member (word_of Signature) (leaf (text token.parts.signed.signature)) no_members)
+        )
+      );
+      reads = reads;
+      flat = refl;
+      payload = record { is = refl; word = good.words.signed.payload };
+      entry = record {
+        protected = record { is = refl; word = good.words.signed.protected };
+        signature = record { is = refl; word = good.words.signed.signature };
+        header = header_of token;
+        unprotected = refl;
+        says = header_says token good;
+      };
+    }
+
+-- ---- the general form
+
+pub general_ranged : (token : Token) → IsPrintable token → IsRanged (general_of token)
+general_ranged token good = (tt, (((header_ranged token good, (tt, (tt, tt))), tt), tt))
+
+pub general_depth : (token : Token) → members_depth token.outer ≤ 123 → depth (general_of token) ≤ 127
+general_depth token shallow = omega (arith, header_depth token, shallow)
+
+one_alone : (first : Members) (place : ℕ) → IsStray (element (object first) no_elements) place → ⊥
+one_alone first zero stray = omega (arith, stray.later)
+one_alone first (suc place) stray = let both : Some stray.entry ≡ None = sym stray.stands in cc both
+
+pub general_says : (token : Token) (bytes : Text) → IsPrintable token → Reads bytes (general_of token) → IsGeneral token bytes
+general_says token bytes good reads =
+    record {
+      members = member (word_of Payload) (leaf (text token.parts.signed.payload)) (member (word_of Signatures) (array (element (object (entry_of token)) no_elements)) no_members);
+      reads = reads;
+      first = entry_of token;
+      later = no_elements;
+      list = array (element (object (entry_of token)) no_elements);
+      general = refl;
+      entries = record { are = refl; objects = refl };
+      alone = refl;
+      payload = record { is = refl; word = good.words.signed.payload };
+      entry = record {
+        protected = record { is = refl; word = good.words.signed.protected };
+        signature = record { is = refl; word = good.words.signed.signature };
+        header = header_of token;
+        unprotected = refl;
+        says = header_says token good;
+      };
+      no_stray = one_alone (entry_of token);
+    }
+
+-- ---- what says a token can be written
+
+word_of_says : (o : Option Tree) (s : Text) → Says IsWordTree o s → IsWord s
+word_of_says None s says = absurd says
+word_of_says (Some t) s says = says.word
+
+words_of_says : (o : Option Tree) (texts : List Text) → SaysOr AreWordTrees [] o texts → AllByRecursion IsWord texts
+words_of_says None texts none = subst (AllByRecursion IsWord) (sym none) tt
+words_of_says (Some t) texts says = says.words
+
+jwt_of_says : (o : Option Tree) (b : Option JwtParts) → MaySay IsJwtTree o b → IfSome b HasWords
+jwt_of_says None None says = tt
+jwt_of_says None (Some j) says = absurd says
+jwt_of_says (Some t) None says = absurd says
+jwt_of_says (Some t) (Some j) says = says.words
+
+-- the header of an entry is no deeper than the entry allows, and its numbers are in range
+record IsInside (e h : Members) : Type 0 where
+  shallow : members_depth h + 1 ≤ max 1 (members_depth e)
+  ranged : MembersRanged e → MembersRanged h
+
+inside_of : (e h : Members) → SaysOr IsObject no_members (found e Header) h → IsInside e h
+inside_of e h says = go (found e Header) refl says
+  where
+    go : (o : Option Tree) → found e Header ≡ o → SaysOr IsObject no_members o h → IsInside e h
+    go None at is = record { shallow = omega (arith, ap members_depth is); ranged = λ ranged. subst MembersRanged (sym is) tt }
+    go (Some t) at is =
+        let stands : found e Header ≡ Some (object h) = at ∙ ap Some is in
+        let low : suc (members_depth h) ≤ members_depth e = depth-member_named e (word_of Header) (object h) stands in
+        record { shallow = omega (arith, low); ranged = λ ranged. ranged-member_named e (word_of Header) (object h) ranged stands }
+
+-- the entry of an object is no deeper than the object allows
+entry_inside : (ms : Members) (entries : Entries) → HasEntries ms entries → MembersRanged ms → (members_depth entries.first ≤ members_depth ms) × MembersRanged entries.first
+entry_inside ms entries (itself none is unstray) ranged = (omega (arith, ap members_depth is), subst MembersRanged (sym is) ranged)
+entry_inside ms entries (listed list at has alone) ranged =
+    let stands : found ms Signatures ≡ Some (array (element (object entries.first) has.later)) = at ∙ ap Some has.are.are in
+    let low : suc (max (suc (members_depth entries.first)) (elements_depth has.later)) ≤ members_depth ms = depth-member_named ms (word_of Signatures) (array (element (object entries.first) has.later)) stands in
+    (omega (arith, low), (ranged-member_named ms (word_of Signatures) (array (element (object entries.first) has.later)) ranged stands).0)
+
+pub printable : (ms : Members) (token : Token) → MembersSay ms token → IsRanged (object ms) → depth (object ms) ≤ 127 → IsPrintable token
+printable ms token says ranged low =
+    let e = says.entries.first in
+    let h = says.entry.header in
+    let in_object = entry_inside ms says.entries says.has ranged in
+    let in_entry = inside_of e h says.entry.unprotected in
+    let parts = token.parts in
+    let without = removed h (word_of Disclosures) in
+    let is = says.entry.says.outer in
+    record {
+      words = record {
+        signed = record {
+          protected = word_of_says (found e Protected) parts.signed.protected says.entry.protected;
+          payload = word_of_says (found ms Payload) parts.signed.payload says.payload;
+          signature = word_of_says (found e Signature) parts.signed.signature says.entry.signature;
+        };
+        disclosures = words_of_says (found h Disclosures) parts.disclosures says.entry.says.disclosures;
+        binding = jwt_of_says (found h KbJwt) parts.binding says.entry.says.binding;
+      };
+      no_disclosures = ap (λ (us : Members). found us Disclosures) is ∙ named_other without (word_of KbJwt) (word_of Disclosures) refl ∙ named_gone h (word_of Disclosures);
+      no_binding = ap (λ (us : Members). found us KbJwt) is ∙ named_gone without (word_of KbJwt);
+      shallow = omega (arith, ap members_depth is, depth-removed without (word_of KbJwt), depth-removed h (word_of Disclosures), in_entry.shallow, in_object.0, low);
+      ranged = subst MembersRanged (sym is) (ranged-removed without (word_of KbJwt) (ranged-removed h (word_of Disclosures) (in_entry.ranged in_object.1)));
+    }

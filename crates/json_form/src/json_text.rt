@@ -1,0 +1,44 @@
+ghost use Rattle.std.specs.Prelude.{◌≡◌, IfOk, IsErrOf};
+ghost use Rattle.compact_form.specs.declared.fault.JsonPlace.{JsonPlace as ThePlace};
+ghost use Rattle.json_form.specs.Json.{IsJson};
+ghost use Rattle.json_form.specs.PlaceTable.{MembersApply, IsFirst, IsJsonFault};
+ghost use Rattle.json_form.specs.Reading.{MembersSay};
+ghost use Rattle.json_form.specs.Written.{IsPrintable};
+
+use crate::entries::entries_of;
+use crate::entry::{read_entry, take_word};
+use crate::{JsonFormError, Token};
+use claim_tree::{Tree, TreeMap, read};
+use compact_form::{JsonPlace, Part};
+use std::alloc::Global;
+
+// The token that the members of an object say.
+fn token_of(alloc: Global, members: TreeMap) -> Result<Token, JsonFormError>
+    ensures ok { IfOk result (MembersSay members) }
+    ensures refused { (place : ThePlace) → IsErrOf result (JsonFormError.Fault place) → IsFirst (MembersApply members) place }
+{
+    let mut members = members;
+    let payload = take_word(&mut members, Part::Payload)?;
+    let entries = entries_of(members)?;
+    let token = read_entry(alloc, payload, entries.first)?;
+    match entries.stray {
+        None => Ok(token),
+        Some(entry) => Err(JsonFormError::Fault(JsonPlace::Stray(entry))),
+    }
+}
+
+/// The token of its flattened or general JSON serialization (RFC 9901 section 8).
+///
+/// A text with a member `signatures` is general, whatever stands there, and its first entry is read. Members that the
+/// form does not know are left out. The places are judged in the order of [`JsonPlace`](compact_form::JsonPlace)'s table
+/// in the rules, and the first that applies is named.
+pub fn parse_json(alloc: Global, text: &[u8]) -> Result<Token, JsonFormError>
+    ensures ok { IfOk result (λ token. IsJson token text.now) }
+    ensures printable { IfOk result IsPrintable }
+    ensures fault { (place : ThePlace) → IsErrOf result (JsonFormError.Fault place) → IsJsonFault text.now place }
+{
+    let Tree::Object(members) = read(alloc, text)? else {
+        return Err(JsonFormError::Fault(JsonPlace::NotObject));
+    };
+    token_of(alloc, members)
+}
