@@ -1,10 +1,10 @@
 -- What is bound is accepted.
-use Rattle.std.proofs.Common.{◌≡◌, ◌⊎◌, inl, inr, ℕ, pos, ◌+◌, ◌<◌, ◌≤◌, List, Some, None, codes, refl, sym, subst, arith}
+use Rattle.std.proofs.Common.{◌≡◌, inl, inr, ℕ, pos, ◌+◌, ◌<◌, ◌≤◌, List, Some, refl, sym, subst, arith}
 use Rattle.std.proofs.Math.Facts.{ltb_yes}
 use Rattle.b64url_text.specs.Base64url.{AreBytes}
-use Rattle.claim_tree.specs.Tree.{Tree, object}
+use Rattle.claim_tree.specs.Tree.{object}
 use Rattle.compact_form.specs.Lowest.{NoneFails}
-use Rattle.hmac_sign.specs.Hmac.{mac, IsGood, IsGoodText}
+use Rattle.hmac_sign.specs.Hmac.{IsGood, IsGoodText}
 use Rattle.hmac_sign.proofs.Macs.{AreBytes-mac}
 use Rattle.key_binding.specs.Binding.{Claims, claims_for, claim_members, binding_header, IsBinding, IsReadBack}
 use Rattle.key_binding.specs.Judged.{Judged, holder_key, HasClaims}

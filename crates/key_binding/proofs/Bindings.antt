@@ -1,5 +1,5 @@
 -- What is written of a key binding token: words, and short.
-use Rattle.std.proofs.Common.{◌≡◌, ℕ, suc, ◌+◌, ◌*◌, ◌^◌, ◌<◌, ◌≤◌, List, [], ◌∷◌, ◌++◌, Bool, true, false, cond, nat_lt, decimal, length, codes, pos, refl, sym, ap, subst, ◌∙◌, arith, length-append}
+use Rattle.std.proofs.Common.{ℕ, suc, ◌+◌, ◌*◌, ◌^◌, ◌<◌, ◌≤◌, List, [], ◌∷◌, ◌++◌, Bool, true, false, cond, nat_lt, length, codes, ap, ◌∙◌, arith, length-append}
 use Rattle.std.proofs.lemmas.Fmt.{length-decimal-le}
 use Rattle.json.specs.Print.{escape_letter, escape_byte, escape, quoted}
 use Rattle.serde_json.specs.Data as port
@@ -9,7 +9,7 @@ use Rattle.b64url_text.specs.Base64url.{IsWord, b64}
 use Rattle.b64url_text.proofs.Codes.{IsWord-b64}
 use Rattle.b64url_text.proofs.Lengths.{length-b64}
 use Rattle.claim_tree.specs.Tree.{Text, object, Members}
-use Rattle.claim_tree.specs.JsonText.{members_data, json_text}
+use Rattle.claim_tree.specs.JsonText.{json_text}
 use Rattle.compact_form.specs.Compact.{jwt}
 use Rattle.compact_form.specs.declared.parts.JwtParts.{JwtParts}
 use Rattle.disclosure.specs.Digest.{digest_of, hash_of}

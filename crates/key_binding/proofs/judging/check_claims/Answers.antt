@@ -1,4 +1,4 @@
-use Rattle.std.proofs.Common.{◌≡◌, not, bytes_eq, refl, ap, ◌∙◌}
+use Rattle.std.proofs.Common.{not, bytes_eq, refl, ap, ◌∙◌}
 use Rattle.compact_form.specs.Condition.{binding_stale, binding_early, nonce_differs, audience_differs}
 use Rattle.key_binding.specs.Judged.{judged_of}
 use Rattle.key_binding.specs.Read.{claims_of}

@@ -1,9 +1,8 @@
-use Rattle.std.proofs.Common.{◌≡◌, not, bytes_eq, Err, refl, ap, ◌∙◌}
+use Rattle.std.proofs.Common.{not, bytes_eq, Err, refl, ap, ◌∙◌}
 use Rattle.claim_tree.specs.View.{tree_of}
-use Rattle.compact_form.specs.Condition.{binding_payload, hash_differs, binding_time}
+use Rattle.compact_form.specs.Condition.{hash_differs, binding_time}
 use Rattle.disclosure.specs.Digest.{digest_of}
-use Rattle.jws_part.proofs.Parts as bodies
-use Rattle.key_binding.specs.Judged.{judged_of, HasClaims, Says}
+use Rattle.key_binding.specs.Judged.{judged_of, HasClaims}
 use Rattle.key_binding.specs.Read.{claims_of}
 use Rattle.key_binding.proofs.BindingSteps.{refuse, refuse_unread, refuse_unsaid, at33, at38, finish}
 use Rattle.key_binding.proofs.BindingTests.{told_same, told_other, no_truth}

@@ -1,4 +1,4 @@
-use Rattle.std.proofs.Common.{◌≡◌, inl, inr, not, bytes_eq, codes, Err, refl, sym, ap, subst, ◌∙◌}
+use Rattle.std.proofs.Common.{inl, inr, not, bytes_eq, codes, Err, refl, sym, ap, subst, ◌∙◌}
 use Rattle.compact_form.specs.Condition.{binding_header, binding_alg, binding_signature, binding_type}
 use Rattle.jws_part.specs.Header.{IsHeader, IsUnreadable, IsCritical}
 use Rattle.key_binding.specs.Judged.{judged_of, HasHeader}
