@@ -13,14 +13,6 @@ use Rattle.verifier_core.specs.Verdict.{IsTypeRefused, Gives, IsUnread}
 use Rattle.verifier_core.specs.Check.{Tells, OnFault, unread_at, IsUnreadAt}
 use Rattle.verifier_core.proofs.CheckSteps.{got_stands}
 
-pub said_yes : (b : Bool) (P : Type 0) → Tells b P → b ≡ true → P
-said_yes true P told is = told
-said_yes false P told is = absurd (cc is)
-
-pub said_no : (b : Bool) (P : Type 0) → Tells b P → b ≡ false → P → ⊥
-said_no false P told is = told
-said_no true P told is = absurd (cc is)
-
 pub at_told : (xs : List Text) (i : ℕ) (y x : Text) → slice_get xs i ≡ Some y → (b : Bool) → b ≡ bytes_eq y x → Tells b (StandsAt xs i x)
 at_told xs i y x there true is = subst (λ z. StandsAt xs i z) (bytes_same y x (sym is)) (got_stands xs i y there)
 at_told xs i y x there false is = λ h.

@@ -1,4 +1,4 @@
-use Rattle.std.proofs.Common.{◌≤◌, sym, subst, arith}
+use Rattle.std.proofs.Common.{arith}
 use Rattle.compact_form.specs.Lowest.{unplaced}
 use Rattle.compact_form.proofs.Lowest.{one_number}
 use Rattle.key_binding.specs.BindingConditions.{BindingFails}

@@ -1,9 +1,7 @@
 use Rattle.std.proofs.Common.{◌≡◌, true, false, Err, refl, sym, ap, subst, ◌∙◌}
 use Rattle.std.specs.Option.{option_copied}
-use Rattle.compact_form.specs.Views.{jwt_of}
-use Rattle.verifier_core.specs.Verdict.{key_for, IsAlgRefused, IsTypeRefused, IsBadSignature}
+use Rattle.verifier_core.specs.Verdict.{key_for, IsAlgRefused, IsTypeRefused}
 use Rattle.verifier_core.specs.Check.{bad_header, bad_alg, bad_type, no_key, not_signed}
-use Rattle.verifier_core.proofs.CheckTests.{said_yes, said_no}
 use Rattle.verifier_core.proofs.check_signed.check_signed.Goals as goal
 
 no_truth : false ≡ true → ⊥
