@@ -3,9 +3,7 @@ use Rattle.std.proofs.Common.{sym, subst, ap, ◌∙◌}
 use Rattle.marked_tree.specs.Choice.{chosen}
 use Rattle.marked_tree.specs.Marked.{Marked, strip, prune}
 use Rattle.rebuild_core.specs.Laws.{Enumerates}
-use Rattle.rebuild_core.specs.Opening.{processed}
 use Rattle.rebuild_core.proofs.ChosenShown.{choice_shown_holds}
-use Rattle.issuer_core.specs.Digests.{marked_of}
 use Rattle.issuer_core.specs.Laws.{IssuedIsShown}
 use Rattle.issuer_core.proofs.IssuedSound.{issued_is_sound_holds}
 
