@@ -14,6 +14,7 @@ pub mod LaidOrdered
 pub mod LaidIssued
 pub mod LaidDecoys
 pub mod IssuedSound
+pub mod IssuedShown
 pub mod WithAlg
 pub mod LaidBounds
 pub mod OneLaid

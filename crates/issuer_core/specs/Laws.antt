@@ -2,12 +2,17 @@
 use Rattle.std.specs.Prelude.{◌≡◌, ℕ, ◌+◌, List, length}
 use Rattle.claim_tree.specs.Tree.{Text, Tree}
 use Rattle.digest_sites.specs.Given.{Given}
+use Rattle.marked_tree.specs.Choice.{chosen}
+use Rattle.marked_tree.specs.Marked.{strip, prune}
+use Rattle.marked_tree.specs.Numbers.{IsRising}
+use Rattle.marked_tree.specs.Places.{Path}
 use Rattle.rebuild_core.specs.Conditions.{IsSound}
-use Rattle.rebuild_core.specs.Laws.{IsReadable}
+use Rattle.rebuild_core.specs.Laws.{IsReadable, Enumerates, IsPick}
+use Rattle.rebuild_core.specs.Opening.{processed}
 use Rattle.issuer_core.specs.Order.{Order}
 use Rattle.issuer_core.specs.GoodOrder.{IsGoodOrder}
 use Rattle.issuer_core.specs.Decoys.{decoys_of}
-use Rattle.issuer_core.specs.Digests.{Maker, hidden_of, AllDiffer}
+use Rattle.issuer_core.specs.Digests.{Maker, marked_of, hidden_of, AllDiffer}
 use Rattle.issuer_core.specs.Laid.{IsLaid}
 use Rattle.issuer_core.specs.Issued.{IsIssuedFor}
 use Rattle.issuer_core.specs.Seed.{maker_of}
@@ -29,6 +34,19 @@ abbrev pub IssuedIsSound : Type 0
 IssuedIsSound =
     (maker : Maker) (o : Order) (p : Tree) (given : List Given)
     → IsGoodOrder o → IsIssuedFor maker o p given → IsReadable p given → IsSound p given
+
+-- the presented disclosures are sound, and show the claims of the order without what is hidden and leads to no wanted path
+pub record IsShownAs (o : Order) (want : List Path) (p : Tree) (picked : List Given) : Type 0 where
+  pub sound : IsSound p picked
+  pub shows : strip (processed p picked) ≡ strip (prune (marked_of o) (chosen (marked_of o) want))
+
+-- those on the way to the wanted paths, in their order
+abbrev pub IssuedIsShown : Type 0
+IssuedIsShown =
+    (maker : Maker) (o : Order) (p : Tree) (given : List Given)
+    → IsGoodOrder o → IsIssuedFor maker o p given → IsReadable p given
+    → (want : List Path) (order : List ℕ) → Enumerates (chosen (marked_of o) want) order → IsRising order
+    → (picked : List Given) → IsPick given order picked → IsShownAs o want p picked
 
 abbrev pub OneToken : Type 0
 OneToken =

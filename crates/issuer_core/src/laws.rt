@@ -4,7 +4,7 @@ ghost use Rattle.claim_tree.specs.declared.file_fault.FileFault.{FileFault};
 ghost use Rattle.issuer_core.specs.Order.{order_of};
 ghost use Rattle.issuer_core.specs.OrderFile.{IsOrderFile, IsOrderRefused};
 ghost use Rattle.issuer_core.specs.declared.order_file.IssueFile.{IssueFile};
-ghost use Rattle.issuer_core.specs.Laws.{LaidIsIssued, LaidIsReadable, IssuedIsSound, OneToken};
+ghost use Rattle.issuer_core.specs.Laws.{LaidIsIssued, LaidIsReadable, IssuedIsSound, IssuedIsShown, OneToken};
 
 /// A file says one order and one key or is refused, and has one fault beside want of memory.
 pub fn one_order()
@@ -28,6 +28,12 @@ pub fn laid_is_readable()
 /// What is issued for a good order is sound: no condition of 14 to 21 fails.
 pub fn issued_is_sound()
     ensures { IssuedIsSound }
+{}
+
+/// Of a token that is issued for a good order, the disclosures on the way to wanted paths are sound, and show the claims
+/// without what is hidden and leads to none of these paths.
+pub fn issued_is_shown()
+    ensures { IssuedIsShown }
 {}
 
 /// With a key an order and a seed have one token.

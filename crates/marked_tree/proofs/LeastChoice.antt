@@ -7,7 +7,7 @@ use Rattle.claim_tree.specs.Lists.{In}
 use Rattle.claim_tree.proofs.Lists.{and_split, and_join, In-of_map, list_any-In}
 use Rattle.marked_tree.specs.Choice.{IsClosed, chosen, is_on_way, KeepsTheWay, IsUnmixed, IsLeastChoice}
 use Rattle.marked_tree.specs.Laws.{Choice, HasEachMarkOnce}
-use Rattle.marked_tree.specs.Marked.{Marked, ways, only}
+use Rattle.marked_tree.specs.Marked.{Marked, only}
 use Rattle.marked_tree.specs.Places.{Path, leads, Spot, spots, mark, hidden_count}
 use Rattle.marked_tree.proofs.MarkFacts.{up_to, up_to_le, marks_once_holds}
 use Rattle.marked_tree.proofs.Spots.{at_least_one, Way, way, any-from, ways_of_spots, spots_weigh, same_spot, leads_through, spots_above}

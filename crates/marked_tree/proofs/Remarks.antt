@@ -1,6 +1,6 @@
 -- Leaving out and renumbering: the depth, what stays in range, and that renumbering changes marks alone.
 use Rattle.std.proofs.Common.{◌≡◌, ℕ, ◌≤◌, max, List, Option, Some, None, refl, ap, ap₂, arith}
-use Rattle.claim_tree.specs.Tree.{Text, element, member, array, object, depth, elements_depth, members_depth, IsRanged, ElementsRanged, MembersRanged}
+use Rattle.claim_tree.specs.Tree.{element, member, array, object, depth, elements_depth, members_depth, IsRanged, ElementsRanged, MembersRanged}
 use Rattle.marked_tree.specs.Marked.{Marked, marked_leaf, marked_array, marked_object, MarkedElements, no_marked_elements, marked_element, MarkedMembers, no_marked_members, marked_member, strip, strip_elements, strip_members, remark, remark_elements, remark_members, new_mark, keep_element, keep_member}
 
 element_kept : (o : Option (Option ℕ)) (t : Marked) (es : MarkedElements) → IsRanged (strip t) → ElementsRanged (strip_elements es) → ElementsRanged (strip_elements (keep_element o t es))

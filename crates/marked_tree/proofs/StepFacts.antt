@@ -4,7 +4,7 @@ use Rattle.std.specs.List.{list_any}
 use Rattle.std.proofs.lemmas.Fmt.{decimal_injective}
 use Rattle.std.proofs.lemmas.List.Folds.{list_any-append}
 use Rattle.std.proofs.lemmas.Slice.Eq.{bytes_eq-Decides}
-use Rattle.claim_tree.specs.Tree.{Text, Tree, IsBeforeAll, names, MembersOrdered, IsOrdered, member_named}
+use Rattle.claim_tree.specs.Tree.{Text, Tree, IsBeforeAll, IsOrdered, member_named}
 use Rattle.claim_tree.specs.Lists.{At}
 use Rattle.claim_tree.specs.Path.{stepped, element_on}
 use Rattle.claim_tree.proofs.Lists.{bytes_same, bytes_refl}

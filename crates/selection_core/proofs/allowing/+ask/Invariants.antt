@@ -1,4 +1,4 @@
-use Rattle.std.proofs.Common.{◌≡◌, ℕ, ◌+◌, ◌*◌, drop, Option}
+use Rattle.std.proofs.Common.{◌≡◌, ◌+◌, ◌*◌, drop}
 use Rattle.claim_tree.specs.Tree.{nodes, elements_nodes, members_nodes}
 use Rattle.marked_tree.specs.Marked.{strip, strip_elements, strip_members}
 use Rattle.marked_tree.specs.Numbers.{has}

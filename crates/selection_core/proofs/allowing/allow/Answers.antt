@@ -1,8 +1,8 @@
-use Rattle.std.proofs.Common.{ℕ, [], Option, None, Some, List, subst, sym, ap}
+use Rattle.std.proofs.Common.{ℕ, [], Option, None, subst}
 use Rattle.marked_tree.specs.Numbers.{has}
 use Rattle.marked_tree.specs.Places.{Path, spots}
 use Rattle.marked_tree.specs.View.{marked_of}
-use Rattle.selection_core.specs.Asked.{Seen, seen_from, IsAsked}
+use Rattle.selection_core.specs.Asked.{seen_from, IsAsked}
 use Rattle.selection_core.proofs.Asking.{all_allowed, one_refused}
 use Rattle.selection_core.proofs.allowing.allow.Goals as goal
 

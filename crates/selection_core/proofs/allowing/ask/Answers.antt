@@ -1,4 +1,4 @@
-use Rattle.std.proofs.Common.{◌≡◌, Option, Some, Bool, true, false, sym, ◌∙◌, subst, ℕ}
+use Rattle.std.proofs.Common.{Option, Some, Bool, false, sym, ◌∙◌, subst, ℕ}
 use Rattle.marked_tree.specs.Numbers.{has}
 use Rattle.selection_core.specs.Asked.{own_seen, IsAsked}
 use Rattle.selection_core.specs.Consent.{Allows}
