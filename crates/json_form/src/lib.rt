@@ -7,6 +7,8 @@
 mod entries;
 mod entry;
 mod json_error;
+#[cfg(test)]
+mod json_tests;
 mod json_text;
 pub mod laws;
 mod printing;
