@@ -31,6 +31,10 @@ show verify policy.json rfc9901.txt
 show verify policy_birthdate.json rfc9901_chosen.txt
 show verify policy.json rfc9901_chosen.txt
 
+# With key binding: a token with the holder's, and one without.
+show verify policy_binding.json rfc9901_bound.txt
+show verify policy_binding.json rfc9901_chosen.txt
+
 # A token of one's own: issued, shown, and verified with all of its disclosures.
 show issue seed.txt order.json
 show issue order.json seed.txt

@@ -1,7 +1,7 @@
 //! Tokens as they come from a file, in the serializations of RFC 9901.
 //!
-//! [`read_token`] reads the compact serialization (section 4). The JSON serialization (section 8) is not read yet: a
-//! text that begins with `{` is refused as a compact text would be.
+//! [`read_token`] reads the compact serialization (section 4), and refuses a text that begins with `{` as a compact text would be.
+//! [`parse_json`] reads the JSON serialization (section 8), flattened or general, and [`print_flat`] and [`print_general`] write it.
 #![tactic(auto)]
 
 mod entries;
