@@ -4,6 +4,8 @@
 //! for standard output or the reason why there are none.
 #![tactic(auto)]
 
+#[cfg(test)]
+mod bound_tests;
 mod command;
 mod issue;
 #[cfg(test)]

@@ -138,7 +138,7 @@ fn a_file_that_is_no_policy_has_its_reason(rt: HostRuntime) -> Result<(), Fail> 
         (String::from_str(alloc, "{")?, "notJson"),
         (with(r#""skew":1.5"#)?, "notWhole"),
         (String::from_str(alloc, "[]")?, "notObject"),
-        (with(r#""binding":{}"#)?, "unknown"),
+        (with(r#""bindings":{}"#)?, "unknown"),
         (String::from_str(alloc, "{}")?, "missing keys"),
         (String::from_str(alloc, r#"{"keys":[]}"#)?, "wrong keys"),
         (with(r#""algs":"HS256""#)?, "wrong algs"),
