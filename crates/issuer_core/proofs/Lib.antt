@@ -38,3 +38,4 @@ pub mod LayingSteps
 pub mod LayingElements
 pub mod LayingMembers
 pub mod LaidOrders
+pub mod NothingHidden
