@@ -1,5 +1,5 @@
 -- From what is laid and signed to what is issued, and why it is not.
-use Rattle.std.proofs.Common.{◌≡◌, ℕ, zero, suc, ◌+◌, ◌<◌, ◌≤◌, List, [], ◌∷◌, None, Option, Some, ap, ap₂, arith, length, refl, subst, sym, ◌∙◌, IfSome, codes}
+use Rattle.std.proofs.Common.{◌≡◌, ℕ, zero, suc, ◌+◌, ◌<◌, ◌≤◌, List, [], ◌∷◌, None, Option, Some, ap₂, arith, length, refl, subst, sym, ⊎_elim, ◌∙◌, IfSome, codes}
 use Rattle.std.specs.List.{AllByRecursion}
 use Rattle.b64url_text.specs.Base64url.{IsWord, b64}
 use Rattle.b64url_text.proofs.Codes.{IsWord-b64}
@@ -8,12 +8,12 @@ use Rattle.claim_tree.specs.Tree.{Text, Tree, leaf, text, array, object, IsRange
 use Rattle.claim_tree.proofs.Datas.{MembersRanged-inserted}
 use Rattle.rebuild_core.specs.Payload.{alg_name}
 use Rattle.claim_tree.specs.JsonText.{json_text}
-use Rattle.compact_form.specs.declared.limits.TheConstants.{ISSUE_MAX}
 use Rattle.compact_form.specs.declared.parts.Parts.{Parts}
-use Rattle.compact_form.specs.Compact.{compact, AreWords, HasWords}
+use Rattle.compact_form.specs.Compact.{AreWords, HasWords}
 use Rattle.hmac_sign.specs.Signatures.{Meaning}
 use Rattle.disclosure.specs.Disclosure.{array_of, disclosure_text}
 use Rattle.digest_sites.specs.Given.{Given}
+use Rattle.jws_part.specs.declared.header.Header.{Header}
 use Rattle.jws_part.specs.Header.{header_members}
 use Rattle.issuer_core.specs.declared.errors.IssueError.{IssueError}
 use Rattle.issuer_core.specs.declared.errors.IssueError.TheVariants.{Memory, SignFailed, PayloadNotObject, ReservedName, TooDeep, RootMarked, NoSuchPlace, ProtectedClaim, DecoyPlace, TooManyHidden, TooManyDecoys, DigestClash, TooLong}
@@ -28,7 +28,7 @@ use Rattle.issuer_core.specs.Refusals.{Refuses, IsRefused, IsLowest, NoneApplies
 use Rattle.issuer_core.specs.Salts.{salt_of}
 use Rattle.issuer_core.specs.Seed.{maker_of}
 use Rattle.issuer_core.specs.Written.{header_of, IsWritten, IsIssued, IsLaidOut}
-use Rattle.issuer_core.specs.Issue.{first_digests, laid_digests, ClashesAt, IsTooLong, Applies, IsNotIssued, AreSigned, IsUnsigned, HasClash}
+use Rattle.issuer_core.specs.Issue.{first_digests, laid_digests, ClashesAt, IsTooLong, Applies, IsNotIssued, AreSigned, IsUnsigned, HasClash, IsFinished, IsOverlong, IsUnfinished}
 use Rattle.issuer_core.proofs.LaidDecoys.{laid_is_issued_holds}
 use Rattle.issuer_core.proofs.OneLaid.{one_digest}
 use Rattle.issuer_core.proofs.WithAlg.{payload_object}
@@ -204,7 +204,7 @@ module _ (seed : List ℕ) (o : Order) (body : Tree) (texts digests : List Text)
       let same = one_list (maker_of seed) o clash.payload laid.laid clash.given laid.given clash.digests laid.dg clash.laid laid.is_laid in
       none j (subst (λ (ds : List Text). Repeats ds j) (same ∙ sym (digests_are seed o body texts digests laid)) clash.clash.later.fails)
 
-  module _ (good : Meaning) (parts : Parts) (signed : AreSigned o good body texts parts) where
+  module _ (good : Meaning) (parts : Parts) (signed : AreSigned (header_of o) good body texts parts) where
     written : IsWritten (maker_of seed) o good laid.laid laid.given parts
     written = record {
       protected = signed.protected;
@@ -227,6 +227,29 @@ module _ (seed : List ℕ) (o : Order) (body : Tree) (texts digests : List Text)
           (all_differ laid.dg (hidden_of o + length (decoys_of o)) (subst (λ (ds : List Text). Nowhere (Repeats ds)) (digests_are seed o body texts digests laid) none));
       written = written;
     }
+
+-- ---- what is finished, or not
+
+module _ (seed : List ℕ) (o : Order) (body : Tree) (texts digests : List Text) (laid : IsLaidFor (maker_of seed) o body texts digests) (header : Header) (is : header ≡ header_of o) (good : Meaning) where
+  named : (parts : Parts) → AreSigned header good body texts parts → AreSigned (header_of o) good body texts parts
+  named parts signed = subst (λ h. AreSigned h good body texts parts) is signed
+
+  pub finished_laid : (parts : Parts) → IsFinished header good body texts digests parts → IsLaidOut (maker_of seed) o good parts
+  finished_laid parts done = laid_out seed o body texts digests laid good parts (named parts done.signed)
+
+  pub finished_issued : IsGoodOrder o → (parts : Parts) → IsFinished header good body texts digests parts → IsIssued (maker_of seed) o good parts
+  finished_issued is_good parts done = issued seed o body texts digests laid good parts (named parts done.signed) is_good done.differ
+
+  long_refused : NoneApplies (Refuses o) → (error : IssueError) → IsOverlong header good body texts digests error → IsNotIssued (maker_of seed) o good error
+  long_refused none error over =
+      subst (IsNotIssued (maker_of seed) o good) (sym over.is)
+      (long_lowest (maker_of seed) o good none (no_clash seed o body texts digests laid over.differ)
+      (record { parts = over.parts; laid = laid_out seed o body texts digests laid good over.parts (named over.parts over.signed); long = over.long }))
+
+  pub unfinished_refused : NoneApplies (Refuses o) → (error : IssueError) → IsUnfinished header good body texts digests error → IsNotIssued (maker_of seed) o good error
+  unfinished_refused none error h =
+      ⊎_elim (clash_refused seed o body texts digests laid good none error)
+      (λ k. ⊎_elim (unsigned_refused (maker_of seed) o good error) (long_refused none error) k) h
 
 -- ---- words
 
@@ -252,15 +275,18 @@ object_word (object ms) h = IsWord-b64 (json_text (object ms)) (omega arith)
 object_word (leaf l) h = absurd h
 object_word (array es) h = absurd h
 
-pub words : (seed : List ℕ) (o : Order) (body : Tree) (digests : List Text) (good : Meaning) (parts : Parts) → IsObject body
-    → (texts : List Text) → IsLaidFor (maker_of seed) o body texts digests → AreSigned o good body texts parts → AreWords parts
-words seed o body digests good parts is_object texts laid signed = record {
+-- the disclosures of what is laid are words
+pub laid_words : (seed : List ℕ) (o : Order) (body : Tree) (texts digests : List Text) → IsLaidFor (maker_of seed) o body texts digests → AllByRecursion IsWord texts
+laid_words seed o body texts digests laid = subst (λ (ds : List Text). AllByRecursion IsWord ds) (sym laid.texts_are) (texts_words seed 0 laid.given)
+
+pub words : (header : Header) (good : Meaning) (body : Tree) (texts : List Text) (parts : Parts) → IsObject body → AllByRecursion IsWord texts → AreSigned header good body texts parts → AreWords parts
+words header good body texts parts is_object are_words signed = record {
   signed = record {
-    protected = subst IsWord (sym signed.protected) (object_word (object (header_members (header_of o))) tt);
+    protected = subst IsWord (sym signed.protected) (object_word (object (header_members header)) tt);
     payload = subst IsWord (sym signed.payload) (object_word body is_object);
     signature = subst IsWord (sym signed.signature_text) (IsWord-b64 signed.signature signed.some);
   };
-  disclosures = subst (λ (ds : List Text). AllByRecursion IsWord ds) (sym (signed.disclosures ∙ laid.texts_are)) (texts_words seed 0 laid.given);
+  disclosures = subst (λ (ds : List Text). AllByRecursion IsWord ds) (sym signed.disclosures) are_words;
   binding = subst (λ b. IfSome b HasWords) (sym signed.unbound) tt;
 }
 

@@ -39,3 +39,4 @@ pub mod LayingSteps
 pub mod LayingElements
 pub mod LayingMembers
 pub mod LaidOrders
+pub mod NothingHidden

@@ -1,12 +1,14 @@
 -- Why an order is not issued.
-use Rattle.std.specs.Prelude.{◌≡◌, ℕ, suc, zero, ◌+◌, ◌<◌, List, [], ◌∷◌, length, None}
+use Rattle.std.specs.Prelude.{◌≡◌, ℕ, suc, zero, ◌+◌, ◌<◌, ◌≤◌, ◌⊎◌, List, [], ◌∷◌, length, None}
 use Rattle.b64url_text.specs.Base64url.{b64}
 use Rattle.claim_tree.specs.Tree.{Text, Tree, object}
 use Rattle.claim_tree.specs.JsonText.{json_text}
+use Rattle.claim_tree.specs.Lists.{Repeats, Nowhere}
+use Rattle.jws_part.specs.declared.header.Header.{Header}
 use Rattle.jws_part.specs.Header.{header_members}
 use Rattle.compact_form.specs.declared.limits.TheConstants.{ISSUE_MAX}
 use Rattle.compact_form.specs.declared.parts.Parts.{Parts}
-use Rattle.compact_form.specs.Compact.{compact}
+use Rattle.compact_form.specs.Compact.{compact, AreWords}
 use Rattle.hmac_sign.specs.Signatures.{Meaning}
 use Rattle.hmac_sign.specs.declared.sign.SignError.{SignError}
 use Rattle.digest_sites.specs.Given.{Given}
@@ -18,7 +20,7 @@ use Rattle.issuer_core.specs.Digests.{Maker, hidden_of}
 use Rattle.issuer_core.specs.Laid.{IsLaid}
 use Rattle.issuer_core.specs.Clash.{IsFirstClash}
 use Rattle.issuer_core.specs.Refusals.{Refuses, IsLowest}
-use Rattle.issuer_core.specs.Written.{IsLaidOut, header_of}
+use Rattle.issuer_core.specs.Written.{IsLaidOut}
 
 -- the first n digests
 abbrev pub first_digests : (ℕ → Text) → ℕ → List Text
@@ -64,8 +66,8 @@ unsigned SignError.Memory = Memory
 unsigned SignError.Failed = SignFailed
 
 -- for private functions: the parts are written with this header, this payload and these disclosures, and signed
-pub record AreSigned (o : Order) (good : Meaning) (body : Tree) (texts : List Text) (parts : Parts) : Type 0 where
-  pub protected : parts.signed.protected ≡ b64 (json_text (object (header_members (header_of o))))
+pub record AreSigned (header : Header) (good : Meaning) (body : Tree) (texts : List Text) (parts : Parts) : Type 0 where
+  pub protected : parts.signed.protected ≡ b64 (json_text (object (header_members header)))
   pub payload : parts.signed.payload ≡ b64 (json_text body)
   pub signature : List ℕ
   pub signature_text : parts.signed.signature ≡ b64 signature
@@ -85,3 +87,22 @@ abbrev pub HasClash : List Text → IssueError → Type 0
 HasClash digests Memory = Unit {0}
 HasClash digests (DigestClash i j) = IsFirstClash digests i j
 HasClash digests error = ⊥
+
+-- for private functions: the parts are signed, no digests clash, and the parts are no longer than may be
+pub record IsFinished (header : Header) (good : Meaning) (body : Tree) (texts digests : List Text) (parts : Parts) : Type 0 where
+  pub signed : AreSigned header good body texts parts
+  pub differ : Nowhere (Repeats digests)
+  pub words : AreWords parts
+  pub short : length (compact parts) ≤ ISSUE_MAX
+
+-- for private functions: the parts that are signed are longer
+pub record IsOverlong (header : Header) (good : Meaning) (body : Tree) (texts digests : List Text) (error : IssueError) : Type 0 where
+  pub is : error ≡ TooLong
+  pub parts : Parts
+  pub signed : AreSigned header good body texts parts
+  pub differ : Nowhere (Repeats digests)
+  pub long : ISSUE_MAX < length (compact parts)
+
+-- for private functions: digests clash, nothing was signed, or what was signed is too long
+abbrev pub IsUnfinished : Header → Meaning → Tree → List Text → List Text → IssueError → Type 0
+IsUnfinished header good body texts digests error = HasClash digests error ⊎ (IsUnsigned error ⊎ IsOverlong header good body texts digests error)

@@ -45,6 +45,9 @@ pub(crate) fn mark_hidden(
     ensures count { IfOk result (λ marked. marked.1 ≡ hidden_count (tree_of payload.now) hide.now) }
     ensures few { IfOk result (λ marked. marked.1 ≤ COUNT_MAX) }
 {
+    if hide.len() <= COUNT_MAX {
+        return mark_counted(alloc, payload, hide);
+    }
     let kept = different(alloc, hide)?;
     mark_counted(alloc, payload, &kept)
 }

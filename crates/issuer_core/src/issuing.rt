@@ -1,5 +1,6 @@
 // The call that issues.
-ghost use Rattle.std.specs.Prelude.{◌≡◌, ◌≤◌, length, IfOk, OnOk, IfErr, IsErrOf};
+ghost use Rattle.std.specs.Prelude.{◌≡◌, ◌≤◌, ◌<◌, ◌↔◌, length, IfOk, OnOk, IfErr, IsErrOf, IsTrue};
+ghost use Rattle.std.specs.List.{AllByRecursion};
 ghost use Rattle.sd_outside.specs.Causes.{Rose};
 ghost use Rattle.claim_tree.specs.Tree.{depth as depth_of, IsRanged};
 ghost use Rattle.claim_tree.specs.View.{tree_of};
@@ -10,16 +11,14 @@ ghost use Rattle.issuer_core.specs.declared.errors.IssueError.{IssueError};
 ghost use Rattle.issuer_core.specs.Order.{order_of};
 ghost use Rattle.issuer_core.specs.Seed.{maker_of};
 ghost use Rattle.issuer_core.specs.Written.{IsIssued, IsLaidOut};
-ghost use Rattle.b64url_text.specs.Base64url.{b64};
-ghost use Rattle.claim_tree.specs.Tree.{object};
-ghost use Rattle.claim_tree.specs.JsonText.{json_text};
-ghost use Rattle.jws_part.specs.Header.{header_members};
+ghost use Rattle.b64url_text.specs.Base64url.{IsWord};
 ghost use Rattle.issuer_core.specs.Written.{header_of};
-ghost use Rattle.issuer_core.specs.Issue.{IsNotIssued, HasNoClash, AreSigned, IsUnsigned, HasClash};
+ghost use Rattle.issuer_core.specs.GoodOrder.{IsObject};
+ghost use Rattle.issuer_core.specs.Issue.{IsNotIssued, HasNoClash, AreSigned, IsUnsigned, HasClash, IsFinished, IsUnfinished};
 ghost use Rattle.issuer_core.specs.Refusals.{Refuses, NoneApplies};
 ghost use Rattle.claim_tree.specs.Lists.{Repeats, Nowhere};
 
-use crate::laying::{Laid, lay_order};
+use crate::laying::{Laid, lay_order, lay_owned};
 use crate::{IssueError, Order, first_clash, judge};
 use b64url_text::encode;
 use compact_form::{ISSUE_MAX, JwtParts, Parts, print};
@@ -56,16 +55,86 @@ pub fn issue<S: Signer>(
     if let Err(error) = judge(alloc, order) {
         return Err(error);
     }
+    let header = order_header(alloc, order)?;
     let laid = lay_order(alloc, order, seed)?;
+    issue_laid(alloc, header, laid, signer)
+}
+
+/// The same of an order that is given away: where it hides nothing and has no decoys, its payload is moved and not copied.
+pub fn issue_owned<S: Signer>(
+    alloc: Global,
+    order: Order,
+    seed: &[u8; 32],
+    signer: &mut S,
+) -> Result<Parts, IssueError>
+    requires depth { depth_of (tree_of order.payload) ≤ 127 }
+    requires ranged { IsRanged (tree_of order.payload) }
+    ensures issued { IfOk result (IsIssued (maker_of seed.now) (order_of order) (S.good signer.old)) }
+    ensures laid { IfOk result (IsLaidOut (maker_of seed.now) (order_of order) (S.good signer.old)) }
+    ensures passes { IfOk result (λ _. NoneApplies (Refuses (order_of order))) }
+    ensures differ { IfOk result (λ _. HasNoClash (maker_of seed.now) (order_of order)) }
+    ensures words { IfOk result AreWords }
+    ensures short { IfOk result (λ parts. length (compact parts) ≤ ISSUE_MAX) }
+    ensures refused { IfErr result (IsNotIssued (maker_of seed.now) (order_of order) (S.good signer.old)) }
+    ensures failed { IsErrOf result IssueError.SignFailed → Rose (S.faults signer.old) (S.faults signer.new) }
+
+    // what stays
+    ensures same_good { Agree (S.good signer.new) (S.good signer.old) }
+    ensures same_alg { S.alg_of signer.new ≡ S.alg_of signer.old }
+    ensures later { S.faults signer.old ≤ S.faults signer.new }
+{
+    if let Err(error) = judge(alloc, &order) {
+        return Err(error);
+    }
+    let header = order_header(alloc, &order)?;
+    let laid = lay_owned(alloc, order, seed)?;
+    issue_laid(alloc, header, laid, signer)
+}
+
+fn order_header(alloc: Global, order: &Order) -> Result<Header, NoMemory>
+    ensures { IfOk result (λ header. header ≡ header_of (order_of order.now)) }
+{
+    Ok(Header {
+        alg: TextBox::make(alloc, "HS256")?,
+        kid: copy_of(alloc, &order.kid)?,
+        typ: copy_of(alloc, &order.typ)?,
+    })
+}
+
+fn copy_of(alloc: Global, text: &Option<TextBox>) -> Result<Option<TextBox>, NoMemory>
+    ensures { IfOk result (λ copy. copy ≡ text.now) }
+{
+    match text {
+        Some(text) => Ok(Some(TextBox::make(alloc, text.as_str())?)),
+        None => Ok(None),
+    }
+}
+
+// Issues what is laid, unless digests clash or the token is too long.
+fn issue_laid<S: Signer>(
+    alloc: Global,
+    header: Header,
+    laid: Laid,
+    signer: &mut S,
+) -> Result<Parts, IssueError>
+    requires ranged { IsRanged (tree_of laid.payload) }
+    requires object { IsObject (tree_of laid.payload) }
+    requires words { AllByRecursion IsWord laid.texts }
+    ensures finished { IfOk result (IsFinished header (S.good signer.old) (tree_of laid.payload) laid.texts laid.digests) }
+    ensures unfinished { IfErr result (IsUnfinished header (S.good signer.old) (tree_of laid.payload) laid.texts laid.digests) }
+    ensures failed { IsErrOf result IssueError.SignFailed → Rose (S.faults signer.old) (S.faults signer.new) }
+    ensures same_good { Agree (S.good signer.new) (S.good signer.old) }
+    ensures same_alg { S.alg_of signer.new ≡ S.alg_of signer.old }
+    ensures later { S.faults signer.old ≤ S.faults signer.new }
+{
     if let Err(error) = judge_digests(alloc, &laid.digests) {
         return Err(error);
     }
-    let parts = match sign_laid(alloc, order, laid, signer) {
+    let parts = match sign_laid(alloc, &header, laid, signer) {
         Ok(parts) => parts,
         Err(error) => return Err(error),
     };
-    let text = print(alloc, &parts)?;
-    if text.as_str().len() > ISSUE_MAX {
+    if is_too_long(alloc, &parts)? {
         return Err(IssueError::TooLong);
     }
     Ok(parts)
@@ -83,41 +152,30 @@ fn judge_digests(alloc: Global, digests: &TextList) -> Result<(), IssueError>
     }
 }
 
-fn write_order_header(alloc: Global, order: &Order) -> Result<TextBox, NoMemory>
-    ensures { IfOk result (λ part. part ≡ b64 (json_text (object (header_members (header_of (order_of order.now)))))) }
+// 61.
+fn is_too_long(alloc: Global, parts: &Parts) -> Result<bool, NoMemory>
+    requires { AreWords parts.now }
+    ensures { IfOk result (λ answer. IsTrue answer ↔ (ISSUE_MAX < length (compact parts.now))) }
 {
-    let header = Header {
-        alg: TextBox::make(alloc, "HS256")?,
-        kid: copy_of(alloc, &order.kid)?,
-        typ: copy_of(alloc, &order.typ)?,
-    };
-    write_header(alloc, &header)
-}
-
-fn copy_of(alloc: Global, text: &Option<TextBox>) -> Result<Option<TextBox>, NoMemory>
-    ensures { IfOk result (λ copy. copy ≡ text.now) }
-{
-    match text {
-        Some(text) => Ok(Some(TextBox::make(alloc, text.as_str())?)),
-        None => Ok(None),
-    }
+    let text = print(alloc, parts)?;
+    Ok(text.as_str().len() > ISSUE_MAX)
 }
 
 fn sign_laid<S: Signer>(
     alloc: Global,
-    order: &Order,
+    header: &Header,
     laid: Laid,
     signer: &mut S,
 ) -> Result<Parts, IssueError>
     requires ranged { IsRanged (tree_of laid.payload) }
-    ensures signed { IfOk result (AreSigned (order_of order.now) (S.good signer.old) (tree_of laid.payload) laid.texts) }
+    ensures signed { IfOk result (AreSigned header.now (S.good signer.old) (tree_of laid.payload) laid.texts) }
     ensures unsigned { IfErr result (IsUnsigned) }
     ensures failed { IsErrOf result IssueError.SignFailed → Rose (S.faults signer.old) (S.faults signer.new) }
     ensures same_good { Agree (S.good signer.new) (S.good signer.old) }
     ensures same_alg { S.alg_of signer.new ≡ S.alg_of signer.old }
     ensures later { S.faults signer.old ≤ S.faults signer.new }
 {
-    let protected = write_order_header(alloc, order)?;
+    let protected = write_header(alloc, header)?;
     let payload = write_body(alloc, &laid.payload)?;
     let signature = signer.sign(alloc, protected.as_str(), payload.as_str())?;
     let signature = encode(alloc, signature.bytes())?;

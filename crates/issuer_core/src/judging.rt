@@ -1,9 +1,11 @@
 // The refusals that an order alone decides.
-ghost use Rattle.std.specs.Prelude.{◌≡◌, ◌≤◌, ◌<◌, ◌↔◌, length, OnOk, IfErr, IsTrue, bytes_eq};
+ghost use Rattle.std.specs.Prelude.{◌≡◌, ◌≤◌, ◌<◌, ◌↔◌, length, OnOk, IfOk, IfErr, IsTrue, bytes_eq};
 ghost use Rattle.std.specs.List.{position_from, list_any};
+ghost use Rattle.std.specs.Set.{distinct_count};
 ghost use Rattle.claim_tree.specs.Tree.{depth as depth_of, IsOrdered};
 ghost use Rattle.claim_tree.specs.Path.{tree_at};
 ghost use Rattle.claim_tree.specs.View.{tree_of};
+ghost use Rattle.marked_tree.specs.Places.{same_path};
 ghost use Rattle.issuer_core.specs.Order.{order_of};
 ghost use Rattle.issuer_core.specs.Decoys.{places};
 ghost use Rattle.issuer_core.specs.GoodOrder as good;
@@ -17,6 +19,7 @@ use crate::reserved::first_reserved;
 use crate::{DecoyList, IssueError, Order};
 use claim_tree::{Path, PathList, Tree, depth, find};
 use compact_form::COUNT_MAX;
+use sd_outside::NoMemory;
 use std::alloc::Global;
 
 /// The most that the payload of an order nests.
@@ -100,6 +103,16 @@ fn first_misplaced(payload: &Tree, decoys: &DecoyList) -> Option<usize>
         .position(|entry| is_no_holder(payload, &entry.at))
 }
 
+// They are told apart only where there are so many paths.
+fn hides_too_many(alloc: Global, hide: &PathList) -> Result<bool, NoMemory>
+    ensures { IfOk result (λ answer. IsTrue answer ↔ (COUNT_MAX < distinct_count same_path hide.now)) }
+{
+    if hide.len() <= COUNT_MAX {
+        return Ok(false);
+    }
+    Ok(different(alloc, hide)?.len() > COUNT_MAX)
+}
+
 fn are_too_many(decoys: &DecoyList) -> bool
     ensures { IsTrue result ↔ (COUNT_MAX < length (places decoys.now)) }
 {
@@ -165,7 +178,7 @@ pub fn judge(alloc: Global, order: &Order) -> Result<(), IssueError>
 {
     judge_payload(alloc, order)?;
     judge_places(order)?;
-    if different(alloc, &order.hide)?.len() > COUNT_MAX {
+    if hides_too_many(alloc, &order.hide)? {
         return Err(IssueError::TooManyHidden);
     }
     if are_too_many(&order.decoys) {

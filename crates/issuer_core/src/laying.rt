@@ -1,5 +1,5 @@
 // The walk that hides, RFC 9901 section 4.2.4.
-ghost use Rattle.std.specs.Prelude.{◌≡◌, ◌+◌, ◌≤◌, ◌<◌, List, ℕ, [], ◌∷◌, ◌++◌, length, map, drop, option_map, IfOk, OnOk};
+ghost use Rattle.std.specs.Prelude.{◌≡◌, ◌+◌, ◌≤◌, ◌<◌, List, ℕ, [], ◌∷◌, ◌++◌, length, map, drop, option_map, IfOk, OnOk, IsTrue};
 ghost use Rattle.std.specs.Set.{distinct_count};
 ghost use Rattle.claim_tree.specs.Tree.{Text, IsRanged, leaf, text as text_leaf, depth, elements_depth, members_depth, ElementsRanged, MembersRanged};
 ghost use Rattle.claim_tree.specs.View.{tree_of};
@@ -353,4 +353,31 @@ pub(crate) fn lay_order(alloc: Global, order: &Order, seed: &[u8; 32]) -> Result
         texts,
         digests,
     })
+}
+
+// The same of an order that is given away: where it hides nothing and has no decoys, its payload is moved.
+pub(crate) fn lay_owned(alloc: Global, order: Order, seed: &[u8; 32]) -> Result<Laid, NoMemory>
+    requires shallow { depth (order_of order).claims ≤ 100 }
+    requires ranged { IsRanged (order_of order).claims }
+    requires few { distinct_count same_path order.hide ≤ COUNT_MAX }
+    requires decoys { length (places order.decoys) ≤ COUNT_MAX }
+    ensures { IfOk result (λ laid. IsLaidFor (maker_of seed.now) (order_of order) (tree_of laid.payload) laid.texts laid.digests) }
+{
+    if !hides_nothing(&order) {
+        return lay_order(alloc, &order, seed);
+    }
+    let payload = with_alg(alloc, order.payload)?;
+    Ok(Laid {
+        payload,
+        texts: TextList::new(alloc),
+        digests: TextList::new(alloc),
+    })
+}
+
+// Whether it hides nothing and has no decoys.
+fn hides_nothing(order: &Order) -> bool
+    ensures hide { IsTrue result → order.now.hide ≡ [] }
+    ensures decoys { IsTrue result → order.now.decoys ≡ [] }
+{
+    order.hide.paths().is_empty() && order.decoys.items().is_empty()
 }

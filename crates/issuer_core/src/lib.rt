@@ -25,7 +25,7 @@ mod tests;
 
 pub use clash::first_clash;
 pub use errors::IssueError;
-pub use issuing::issue;
+pub use issuing::{issue, issue_owned};
 pub use judging::{DEPTH_MAX, judge};
 pub use order::{Decoy, DecoyList, Order};
 pub use order_file::{IssueFile, read_order};

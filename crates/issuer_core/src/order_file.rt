@@ -1,10 +1,10 @@
 // The file that says an order.
-ghost use Rattle.std.specs.Prelude.{◌≡◌, ◌≤◌, List, [], IfOk, IfErr, IfSome, IfNone};
+ghost use Rattle.std.specs.Prelude.{◌≡◌, ◌≤◌, List, [], OnOk, IfOk, IfErr, IfSome, IfNone};
 ghost use Rattle.compact_form.specs.declared.limits.TheConstants.{COUNT_MAX};
-ghost use Rattle.claim_tree.specs.Tree.{IsRanged, IsOrdered, depth as depth_of, members_depth};
+ghost use Rattle.claim_tree.specs.Tree.{IsRanged, IsOrdered, depth as depth_of};
 ghost use Rattle.claim_tree.specs.Lists.{In};
 ghost use Rattle.claim_tree.specs.View.{tree_of, elements_of};
-ghost use Rattle.claim_tree.specs.FileForms.{HasValue, Says, SaysOr, IsMemberRefused, required, optional, found};
+ghost use Rattle.claim_tree.specs.FileForms.{HasValue, Says, SaysOr, Meets, IsMemberRefused, required, optional, found};
 ghost use Rattle.claim_tree.specs.declared.file_fault.Field.TheVariants.{Payload, Decoys};
 ghost use Rattle.issuer_core.specs.FileLists.{IsListOf, EachSays};
 ghost use Rattle.issuer_core.specs.declared.order.Decoy.{Decoy as Seen};
@@ -13,7 +13,7 @@ ghost use Rattle.issuer_core.specs.OrderFile.{IsValue, IsDecoy, IsOrderFile, IsO
 use crate::file_list::{pointer_list_member, pointer_of};
 use crate::key_text::key_member;
 use crate::{Decoy, DecoyList, Order};
-use claim_tree::{Field, FileFault, Tree, TreeMap, copy, read_members, text_member, whole_up_to};
+use claim_tree::{Field, FileFault, Tree, TreeMap, read_members, text_member, whole_up_to};
 use compact_form::FILE_MAX;
 use hmac_sign::Hs256Key;
 use sd_outside::NoMemory;
@@ -38,15 +38,25 @@ pub struct IssueFile {
     pub key: Hs256Key,
 }
 
-fn payload_member(alloc: Global, members: &TreeMap) -> Result<Tree, FileFault>
-    requires { members_depth members.now ≤ 126 }
-    ensures ok { IfOk result (λ payload. Says IsValue (found members.now Payload) (tree_of payload)) }
+fn need_payload(members: &TreeMap) -> Result<(), FileFault>
+    ensures there { OnOk result (Meets (required Payload IsValue) members.now) }
     ensures refused { IfErr result (IsMemberRefused (required Payload IsValue) members.now) }
 {
-    let Some(tree) = members.get(Field::Payload.word()) else {
-        return Err(FileFault::Missing(Field::Payload));
+    match members.get(Field::Payload.word()) {
+        Some(_) => Ok(()),
+        None => Err(FileFault::Missing(Field::Payload)),
+    }
+}
+
+// The payload of a file that has one, with no copy.
+fn into_payload(mut members: TreeMap) -> Tree
+    requires { Meets (required Payload IsValue) members }
+    ensures { Says IsValue (found members Payload) (tree_of result) }
+{
+    let Some(payload) = members.remove(Field::Payload.word()) else {
+        unreachable!();
     };
-    Ok(copy(alloc, tree)?)
+    payload
 }
 
 // The entry of an object of just a pointer and a count.
@@ -119,14 +129,14 @@ pub fn read_order(alloc: Global, bytes: &[u8]) -> Result<IssueFile, FileFault>
     ensures refused { IfErr result (IsOrderRefused bytes.now) }
 {
     let members = read_members(alloc, bytes, FILE_MAX, &FIELDS)?;
-    let payload = payload_member(alloc, &members)?;
+    need_payload(&members)?;
     let hide = pointer_list_member(alloc, &members, Field::Hide)?;
     let decoys = decoys_member(alloc, &members)?;
     let key = key_member(alloc, &members, Field::Key)?;
     let kid = text_member(alloc, &members, Field::Kid)?;
     let typ = text_member(alloc, &members, Field::Typ)?;
     let order = Order {
-        payload,
+        payload: into_payload(members),
         hide,
         decoys,
         kid,

@@ -7,7 +7,7 @@ use crate::lines::{as_line, short_seed_line, unreadable_line};
 use crate::stop::Stop;
 use claim_tree::FileFault;
 use compact_form::print;
-use issuer_core::{IssueError, IssueFile, read_order, refusal_line};
+use issuer_core::{IssueError, IssueFile, issue_owned, read_order, refusal_line};
 use std::alloc::Global;
 
 // The bytes of a seed.
@@ -28,7 +28,7 @@ pub(crate) fn issue(alloc: Global, order_file: &[u8], seed_file: &[u8]) -> Resul
     let Some(seed) = seed_file.first_chunk::<SEED_LEN>() else {
         return Err(Stop::Unreadable(short_seed_line(alloc)?));
     };
-    match issuer_core::issue(alloc, &order, seed, &mut key) {
+    match issue_owned(alloc, order, seed, &mut key) {
         Ok(parts) => Ok(as_line(print(alloc, &parts)?)?),
         Err(IssueError::Memory) => Err(Stop::Memory),
         Err(error) => Err(Stop::Refused(as_line(refusal_line(alloc, &error)?)?)),

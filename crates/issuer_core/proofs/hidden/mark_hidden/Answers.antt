@@ -7,13 +7,13 @@ use Rattle.issuer_core.proofs.hidden.mark_hidden.Goals as goal
 
 pub returns-clause-marked : goal.returns-clause-marked
 returns-clause-marked c =
-    IfOk-weaker c.mark_counted.result _ _ (λ marked e. e ∙ mark_same (is_among c.in_ok-kept.kept) (is_among c.args.hide.now) c.in_ok-kept.ensures.same 0 (tree_of c.args.payload.now)) c.mark_counted.ensures.marked
+    IfOk-weaker c.mark_counted-2.result _ _ (λ marked e. e ∙ mark_same (is_among c.in_ok-kept.kept) (is_among c.args.hide.now) c.in_ok-kept.ensures.same 0 (tree_of c.args.payload.now)) c.mark_counted-2.ensures.marked
 
 pub returns-clause-count : goal.returns-clause-count
 returns-clause-count c =
-    IfOk-weaker c.mark_counted.result _ _ (λ marked e. e ∙ hidden_same (is_among c.in_ok-kept.kept) (is_among c.args.hide.now) c.in_ok-kept.ensures.same (tree_of c.args.payload.now)) c.mark_counted.ensures.count
+    IfOk-weaker c.mark_counted-2.result _ _ (λ marked e. e ∙ hidden_same (is_among c.in_ok-kept.kept) (is_among c.args.hide.now) c.in_ok-kept.ensures.same (tree_of c.args.payload.now)) c.mark_counted-2.ensures.count
 
 pub returns-clause-few : goal.returns-clause-few
 returns-clause-few c =
     let few = c.requires.few in
-    IfOk-weaker c.mark_counted.result _ _ (λ marked n. omega (arith, n, few, c.in_ok-kept.ensures.count)) c.mark_counted.ensures.few
+    IfOk-weaker c.mark_counted-2.result _ _ (λ marked n. omega (arith, n, few, c.in_ok-kept.ensures.count)) c.mark_counted-2.ensures.few

@@ -30,18 +30,21 @@ kid = optional Kid IsText
 abbrev typ : Entry
 typ = optional Typ IsText
 
+pub into_payload-requires : goal.into_payload-requires
+into_payload-requires c = c.in_ok-need_payload.ensures.there
+
 pub returns-in_err-hide-clause-refused : goal.returns-in_err-hide-clause-refused
 returns-in_err-hide-clause-refused c =
     let handed = err_from_is_err_and c.from_residual-in_err-hide.result c.from_residual-in_err-hide.ensures.1 in
     let ms = c.in_ok-members.members in
-    let payload_meets = says_meets IsValue Payload ms (tree_of c.in_ok-payload.payload) c.in_ok-payload.ensures.ok in
+    let payload_meets = c.in_ok-need_payload.ensures.there in
     rw (handed.1, handed.2) (member_refused FILE_MAX (payload ∷ []) hide (decoys ∷ key ∷ kid ∷ typ ∷ []) c.args.bytes.now ms c.in_err-hide.field-0.0 c.in_ok-members.ensures.ok (payload_meets, tt) c.in_err-hide.ensures.refused)
 
 pub returns-in_err-decoys-clause-refused : goal.returns-in_err-decoys-clause-refused
 returns-in_err-decoys-clause-refused c =
     let handed = err_from_is_err_and c.from_residual-in_err-decoys.result c.from_residual-in_err-decoys.ensures.1 in
     let ms = c.in_ok-members.members in
-    let payload_meets = says_meets IsValue Payload ms (tree_of c.in_ok-payload.payload) c.in_ok-payload.ensures.ok in
+    let payload_meets = c.in_ok-need_payload.ensures.there in
     let hide_meets = says_or_meets (IsListOf IsPointer) [] Hide ms c.in_ok-hide.hide c.in_ok-hide.ensures.ok in
     rw (handed.1, handed.2) (member_refused FILE_MAX (payload ∷ hide ∷ []) decoys (key ∷ kid ∷ typ ∷ []) c.args.bytes.now ms c.in_err-decoys.field-0.0 c.in_ok-members.ensures.ok (payload_meets, (hide_meets, tt)) c.in_err-decoys.ensures.refused)
 
@@ -49,7 +52,7 @@ pub returns-in_err-key-clause-refused : goal.returns-in_err-key-clause-refused
 returns-in_err-key-clause-refused c =
     let handed = err_from_is_err_and c.from_residual-in_err-key.result c.from_residual-in_err-key.ensures.1 in
     let ms = c.in_ok-members.members in
-    let payload_meets = says_meets IsValue Payload ms (tree_of c.in_ok-payload.payload) c.in_ok-payload.ensures.ok in
+    let payload_meets = c.in_ok-need_payload.ensures.there in
     let hide_meets = says_or_meets (IsListOf IsPointer) [] Hide ms c.in_ok-hide.hide c.in_ok-hide.ensures.ok in
     let decoys_meet = says_or_meets (IsListOf IsDecoy) [] Decoys ms c.in_ok-decoys.decoys c.in_ok-decoys.ensures.ok in
     rw (handed.1, handed.2) (member_refused FILE_MAX (payload ∷ hide ∷ decoys ∷ []) key (kid ∷ typ ∷ []) c.args.bytes.now ms c.in_err-key.field-0.0 c.in_ok-members.ensures.ok (payload_meets, (hide_meets, (decoys_meet, tt))) c.in_err-key.ensures.refused)
@@ -58,7 +61,7 @@ pub returns-in_err-kid-clause-refused : goal.returns-in_err-kid-clause-refused
 returns-in_err-kid-clause-refused c =
     let handed = err_from_is_err_and c.from_residual-in_err-kid.result c.from_residual-in_err-kid.ensures.1 in
     let ms = c.in_ok-members.members in
-    let payload_meets = says_meets IsValue Payload ms (tree_of c.in_ok-payload.payload) c.in_ok-payload.ensures.ok in
+    let payload_meets = c.in_ok-need_payload.ensures.there in
     let hide_meets = says_or_meets (IsListOf IsPointer) [] Hide ms c.in_ok-hide.hide c.in_ok-hide.ensures.ok in
     let decoys_meet = says_or_meets (IsListOf IsDecoy) [] Decoys ms c.in_ok-decoys.decoys c.in_ok-decoys.ensures.ok in
     let key_meets = says_meets IsKeyText Key ms c.in_ok-key.key c.in_ok-key.ensures.ok in
@@ -68,7 +71,7 @@ pub returns-in_err-typ-clause-refused : goal.returns-in_err-typ-clause-refused
 returns-in_err-typ-clause-refused c =
     let handed = err_from_is_err_and c.from_residual-in_err-typ.result c.from_residual-in_err-typ.ensures.1 in
     let ms = c.in_ok-members.members in
-    let payload_meets = says_meets IsValue Payload ms (tree_of c.in_ok-payload.payload) c.in_ok-payload.ensures.ok in
+    let payload_meets = c.in_ok-need_payload.ensures.there in
     let hide_meets = says_or_meets (IsListOf IsPointer) [] Hide ms c.in_ok-hide.hide c.in_ok-hide.ensures.ok in
     let decoys_meet = says_or_meets (IsListOf IsDecoy) [] Decoys ms c.in_ok-decoys.decoys c.in_ok-decoys.ensures.ok in
     let key_meets = says_meets IsKeyText Key ms c.in_ok-key.key c.in_ok-key.ensures.ok in
@@ -76,12 +79,12 @@ returns-in_err-typ-clause-refused c =
     rw (handed.1, handed.2) (member_refused FILE_MAX (payload ∷ hide ∷ decoys ∷ key ∷ kid ∷ []) typ [] c.args.bytes.now ms c.in_err-typ.field-0.0 c.in_ok-members.ensures.ok (payload_meets, (hide_meets, (decoys_meet, (key_meets, (kid_meets, tt))))) c.in_err-typ.ensures.refused)
 
 pub returns-clause-ranged : goal.returns-clause-ranged
-returns-clause-ranged c = value_ranged c.in_ok-members.members (word_of Payload) (tree_of c.in_ok-payload.payload) c.in_ok-members.ensures.ranged c.in_ok-payload.ensures.ok
+returns-clause-ranged c = value_ranged c.in_ok-members.members (word_of Payload) (tree_of c.into_payload.result) c.in_ok-members.ensures.ranged c.into_payload.ensures
 
 pub returns-clause-depth : goal.returns-clause-depth
 returns-clause-depth c =
     let deep = c.in_ok-members.ensures.depth in
-    value_depth c.in_ok-members.members (word_of Payload) (tree_of c.in_ok-payload.payload) (omega (arith, deep)) c.in_ok-payload.ensures.ok
+    value_depth c.in_ok-members.members (word_of Payload) (tree_of c.into_payload.result) (omega (arith, deep)) c.into_payload.ensures
 
 pub returns-clause-counts : goal.returns-clause-counts
 returns-clause-counts c entry stands = counts_within (found c.in_ok-members.members Decoys) c.in_ok-decoys.decoys entry c.in_ok-decoys.ensures.ok stands

@@ -1,0 +1,67 @@
+use Rattle.std.proofs.Common.{length}
+use Rattle.std.proofs.lemmas.Result.{IfOk-weaker, IfErr-weaker}
+use Rattle.std.specs.Set.{distinct_count}
+use Rattle.compact_form.specs.declared.limits.TheConstants.{COUNT_MAX}
+use Rattle.marked_tree.specs.Places.{same_path}
+use Rattle.claim_tree.specs.View.{tree_of}
+use Rattle.issuer_core.specs.Decoys.{places}
+use Rattle.issuer_core.specs.declared.errors.IssueError.TheVariants.{TooManyHidden, TooManyDecoys}
+use Rattle.issuer_core.specs.Order.{order_of}
+use Rattle.issuer_core.specs.Seed.{maker_of}
+use Rattle.issuer_core.proofs.FromLaid.{order_refused, finished_issued, finished_laid, unfinished_refused, no_clash, laid_words, body_object, body_ranged, not_more}
+use Rattle.issuer_core.proofs.issuing.issue_owned.Goals as goal
+
+pub returns-in-Err-clause-refused : goal.returns-in-Err-clause-refused
+returns-in-Err-clause-refused g c = order_refused (maker_of c.args.seed.now) (order_of c.args.order) (g.S.Signatures.good c.args.signer.now) c.in-Err.error c.in-Err.ensures.refused
+
+pub returns-clause-issued : goal.returns-clause-issued
+returns-clause-issued g c =
+    let l = c.in_ok-laid.laid in
+    IfOk-weaker c.issue_laid.result _ _
+    (finished_issued c.args.seed.now (order_of c.args.order) (tree_of l.payload) l.texts l.digests c.in_ok-laid.ensures c.in_ok-header.header c.in_ok-header.ensures (g.S.Signatures.good c.args.signer.now) c.in_default.ensures.good)
+    c.issue_laid.ensures.finished
+
+pub returns-clause-laid : goal.returns-clause-laid
+returns-clause-laid g c =
+    let l = c.in_ok-laid.laid in
+    IfOk-weaker c.issue_laid.result _ _
+    (finished_laid c.args.seed.now (order_of c.args.order) (tree_of l.payload) l.texts l.digests c.in_ok-laid.ensures c.in_ok-header.header c.in_ok-header.ensures (g.S.Signatures.good c.args.signer.now))
+    c.issue_laid.ensures.finished
+
+pub returns-clause-passes : goal.returns-clause-passes
+returns-clause-passes g c = IfOk-weaker c.issue_laid.result _ _ (λ parts done. c.in_default.ensures.passes) c.issue_laid.ensures.finished
+
+pub returns-clause-differ : goal.returns-clause-differ
+returns-clause-differ g c =
+    let l = c.in_ok-laid.laid in
+    IfOk-weaker c.issue_laid.result _ _ (λ parts done. no_clash c.args.seed.now (order_of c.args.order) (tree_of l.payload) l.texts l.digests c.in_ok-laid.ensures done.differ) c.issue_laid.ensures.finished
+
+pub returns-clause-words : goal.returns-clause-words
+returns-clause-words g c = IfOk-weaker c.issue_laid.result _ _ (λ parts done. done.words) c.issue_laid.ensures.finished
+
+pub returns-clause-short : goal.returns-clause-short
+returns-clause-short g c = IfOk-weaker c.issue_laid.result _ _ (λ parts done. done.short) c.issue_laid.ensures.finished
+
+pub returns-clause-refused : goal.returns-clause-refused
+returns-clause-refused g c =
+    let l = c.in_ok-laid.laid in
+    IfErr-weaker c.issue_laid.result _ _
+    (unfinished_refused c.args.seed.now (order_of c.args.order) (tree_of l.payload) l.texts l.digests c.in_ok-laid.ensures c.in_ok-header.header c.in_ok-header.ensures (g.S.Signatures.good c.args.signer.now) c.in_default.ensures.passes)
+    c.issue_laid.ensures.unfinished
+
+pub lay_owned-requires-clause-few : goal.lay_owned-requires-clause-few
+lay_owned-requires-clause-few g c = not_more COUNT_MAX (distinct_count same_path c.args.order.hide) (c.in_default.ensures.passes TooManyHidden)
+
+pub lay_owned-requires-clause-decoys : goal.lay_owned-requires-clause-decoys
+lay_owned-requires-clause-decoys g c = not_more COUNT_MAX (length (places c.args.order.decoys)) (c.in_default.ensures.passes TooManyDecoys)
+
+pub issue_laid-requires : goal.issue_laid-requires
+issue_laid-requires g c =
+    let o = order_of c.args.order in
+    let l = c.in_ok-laid.laid in
+    let t = tree_of l.payload in
+    record {
+      ranged = body_ranged c.args.seed.now o t l.texts l.digests c.in_ok-laid.ensures c.requires.ranged;
+      object = body_object c.args.seed.now o t l.texts l.digests c.in_default.ensures.good c.in_ok-laid.ensures;
+      words = laid_words c.args.seed.now o t l.texts l.digests c.in_ok-laid.ensures;
+    }
