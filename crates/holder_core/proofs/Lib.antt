@@ -1,0 +1,2 @@
+pub mod ListForms
+pub mod KeyTexts

@@ -1,0 +1,13 @@
+use Rattle.holder_core.specs.FileLists.{IsPointer}
+use Rattle.holder_core.proofs.ListForms.{no_element, each_turn}
+use Rattle.holder_core.proofs.file_list.pointers_of.Goals as goal
+
+pub returns-in_default-clause-none : goal.returns-in_default-clause-none
+returns-in_default-clause-none c =
+    let none = rw c.in_default.is at c.in_ok-path.ensures.none in
+    no_element IsPointer c.args.trees.now c.loop-tree.tree-index c.tree-item.result c.loop-tree-test.true c.tree-item.is none
+
+pub loop-tree-preserved : goal.loop-tree-preserved
+loop-tree-preserved c =
+    let says = rw c.in-Some.is at c.in_ok-path.ensures.path in
+    rw c.in_ok-push.ensures.ok (each_turn IsPointer c.args.trees.now c.loop-tree.tree-index c.tree-item.result c.loop-tree.paths c.in-Some.path c.loop-tree-test.true c.tree-item.is c.loop-tree.invariant says)

@@ -1,0 +1,7 @@
+use Rattle.std.proofs.Common.{take}
+use Rattle.claim_tree.specs.View.{elements_of}
+use Rattle.holder_core.specs.FileLists.{EachSays, IsPointer}
+use Rattle.holder_core.proofs.file_list.pointers_of.Given as goal
+
+abbrev pub invariant-loop-tree : goal.invariant-loop-tree
+invariant-loop-tree l = EachSays IsPointer (elements_of (take l.tree-index l.trees)) l.paths

@@ -1,0 +1,15 @@
+-- To be replaced by the definitions of a lower crate: a copy of what issuer_core has.
+-- The text of a key for HS256, RFC 7518 section 3.2.
+use Rattle.std.specs.Prelude.{◌≡◌, ◌≤◌, ℕ, List, length}
+use Rattle.b64url_text.specs.Base64url.{Decodes}
+use Rattle.claim_tree.specs.Tree.{Text, text, Tree, leaf}
+use Rattle.hmac_sign.specs.Hmac.{key_block}
+
+-- the tree is the base64url text of at least 32 bytes, and this is their key
+pub record IsKeyText (t : Tree) (key : List ℕ) : Type 0 where
+  pub code : Text
+  pub is : t ≡ leaf (text code)
+  pub bytes : List ℕ
+  pub decodes : Decodes code bytes
+  pub enough : 32 ≤ length bytes
+  pub key_is : key ≡ key_block bytes

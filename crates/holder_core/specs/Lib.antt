@@ -1,0 +1,5 @@
+pub mod FileLists
+pub mod KeyText
+pub mod Present
+pub mod PresentFile
+pub mod Presenting

@@ -1,0 +1,46 @@
+-- For private functions: the steps of presenting.
+use Rattle.std.specs.Prelude.{◌≡◌, ◌≢◌, ℕ, List, Option, None, Some}
+use Rattle.claim_tree.specs.Tree.{Tree}
+use Rattle.claim_tree.specs.Lists.{IsLeast, Nowhere}
+use Rattle.compact_form.specs.Lowest.{IsLowest}
+use Rattle.json_form.specs.declared.token.Token.{Token}
+use Rattle.key_binding.specs.Judged.{holder_kid}
+use Rattle.marked_tree.specs.Choice.{chosen}
+use Rattle.marked_tree.specs.Marked.{Marked, strip}
+use Rattle.marked_tree.specs.Numbers.{has}
+use Rattle.marked_tree.specs.Places.{Path}
+use Rattle.selection_core.specs.Consent.{Answers, AllAllowed, IsRefusedAt}
+use Rattle.selection_core.specs.Refusals.{IsMissing}
+use Rattle.verifier_core.specs.Verdict.{Rules, TokenFails}
+use Rattle.holder_core.specs.declared.ask.BindingAsk.{BindingAsk}
+use Rattle.holder_core.specs.declared.errors.PresentError.{PresentError}
+use Rattle.holder_core.specs.declared.errors.PresentError.TheVariants.{Memory, Token as OnCondition, NoSuchPlace, ConsentRefused, BindingKeyDiffers, SignFailed}
+
+abbrev pub IsUnchecked : Token → Rules → PresentError → Type 0
+IsUnchecked token rules Memory = Unit {0}
+IsUnchecked token rules (OnCondition fault) = IsLowest (TokenFails token rules) fault
+IsUnchecked token rules _ = ⊥
+
+-- these are the marks that lead to the wanted places, which are there, and the rule may allow them
+pub record IsChosen {F : Type 0} (answers : Answers F) (rule : F) (m : Marked) (want : List Path) (marks : List ℕ) : Type 0 where
+  pub same : (i : ℕ) → has marks i ≡ chosen m want i
+  pub there : Nowhere (IsMissing (strip m) want)
+  pub allowed : AllAllowed answers rule m (chosen m want)
+
+abbrev pub IsUnchosen : {F : Type 0} → Answers F → F → Marked → List Path → PresentError → Type 0
+IsUnchosen answers rule m want Memory = Unit {0}
+IsUnchosen answers rule m want (NoSuchPlace k) = IsLeast (IsMissing (strip m) want) k
+IsUnchosen answers rule m want (ConsentRefused i) = Nowhere (IsMissing (strip m) want) × IsRefusedAt answers rule m (chosen m want) i
+IsUnchosen answers rule m want _ = ⊥
+
+-- a key binding token is asked for, and the payload does not name its key
+abbrev pub IsOtherKey : Option BindingAsk → Tree → PresentError → Type 0
+IsOtherKey binding payload Memory = Unit {0}
+IsOtherKey binding payload BindingKeyDiffers = (ask : BindingAsk) × (binding ≡ Some ask) × (holder_kid payload ≢ Some ask.kid)
+IsOtherKey binding payload _ = ⊥
+
+-- a key binding token is asked for, and was not signed
+abbrev pub IsUnsigned : Option BindingAsk → PresentError → Type 0
+IsUnsigned binding Memory = Unit {0}
+IsUnsigned binding SignFailed = (ask : BindingAsk) × (binding ≡ Some ask)
+IsUnsigned binding _ = ⊥
