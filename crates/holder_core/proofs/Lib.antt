@@ -1,2 +1,6 @@
 pub mod ListForms
 pub mod KeyTexts
+pub mod ReadOrdered
+pub mod HeldFacts
+pub mod Picking
+pub mod Steps

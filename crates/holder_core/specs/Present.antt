@@ -50,15 +50,14 @@ shown marked s = strip (prune marked s)
 abbrev pub rules_of : List NamedKey → Rules
 rules_of keys = asked keys (codes "HS256" ∷ []) None
 
--- the text is a token without a key binding token, no condition from 5 to 21 fails, and it processes to this payload
-pub record IsHeld (content : Text) (ask : Ask) (token : Token) (marked : Marked) : Type 0 where
-  pub is_token : IsToken content token
+-- it has no key binding token, no condition from 5 to 21 fails, and it processes to this payload
+pub record IsHeld (token : Token) (ask : Ask) (marked : Marked) : Type 0 where
   pub unbound : token.parts.binding ≡ None
   pub checked : IsChecked token (rules_of ask.keys) marked
 
 -- besides, each wanted place is there, and the rule may allow the place of each disclosure that leads to one
-pub record IsAgreed {F : Type 0} (answers : Answers F) (rule : F) (content : Text) (ask : Ask) (token : Token) (marked : Marked) : Type 0 where
-  pub held : IsHeld content ask token marked
+pub record IsAgreed {F : Type 0} (answers : Answers F) (rule : F) (token : Token) (ask : Ask) (marked : Marked) : Type 0 where
+  pub held : IsHeld token ask marked
   pub there : Nowhere (IsMissing (strip marked) ask.want)
   pub allowed : AllAllowed answers rule marked (chosen marked ask.want)
 
@@ -86,77 +85,73 @@ IsBoundAs ask good hash now answer = IsBoundWith ask good hash (hashed answer) n
 -- ---- the answer
 
 -- the chosen disclosures of the token are presented as is asked, by a signer with these good signatures, at a moment in seconds since 1970
-pub record IsPresented {F : Type 0} (answers : Answers F) (rule : F) (content : Text) (ask : Ask) (good : Meaning) (now : ℕ) (answer : Parts) : Type 0 where
-  pub token : Token
+pub record IsAnswer {F : Type 0} (answers : Answers F) (rule : F) (token : Token) (ask : Ask) (good : Meaning) (now : ℕ) (answer : Parts) : Type 0 where
   pub marked : Marked
-  pub agreed : IsAgreed answers rule content ask token marked
+  pub agreed : IsAgreed answers rule token ask marked
   pub key : NamesKey ask.binding (shown marked (chosen marked ask.want))
   pub presents : Presents token.parts (chosen marked ask.want) answer.binding answer
   pub hash : HashAlg
   pub has_hash : HasHash token hash
   pub bound : IsBoundAs ask.binding good hash now answer
 
--- ---- the refusals
-
--- the lowest of the conditions 1 to 3, or, where they hold and there is no key binding token, of the others
-pub data IsTokenFault (content : Text) (ask : Ask) (fault : Fault) : Type 0 where
-  not_read : file.IsRefused content fault → IsTokenFault content ask fault
-  not_good : (token : Token) → IsToken content token → token.parts.binding ≡ None → IsLowest (TokenFails token (rules_of ask.keys)) fault → IsTokenFault content ask fault
-
-pub record IsBoundAlready (content : Text) : Type 0 where
+-- the same of a text
+pub record IsPresented {F : Type 0} (answers : Answers F) (rule : F) (content : Text) (ask : Ask) (good : Meaning) (now : ℕ) (answer : Parts) : Type 0 where
   pub token : Token
   pub is_token : IsToken content token
-  pub bound : token.parts.binding ≢ None
+  pub is_answer : IsAnswer answers rule token ask good now answer
+
+-- ---- the refusals
 
 -- the first wanted path that leads nowhere
-pub record IsNotThere (content : Text) (ask : Ask) (k : ℕ) : Type 0 where
-  pub token : Token
+pub record IsNotThere (token : Token) (ask : Ask) (k : ℕ) : Type 0 where
   pub marked : Marked
-  pub held : IsHeld content ask token marked
+  pub held : IsHeld token ask marked
   pub missing : IsLeast (IsMissing (strip marked) ask.want) k
 
 -- each wanted place is there, and this is the least chosen disclosure whose place the rule may refuse
-pub record IsDenied {F : Type 0} (answers : Answers F) (rule : F) (content : Text) (ask : Ask) (i : ℕ) : Type 0 where
-  pub token : Token
+pub record IsDenied {F : Type 0} (answers : Answers F) (rule : F) (token : Token) (ask : Ask) (i : ℕ) : Type 0 where
   pub marked : Marked
-  pub held : IsHeld content ask token marked
+  pub held : IsHeld token ask marked
   pub there : Nowhere (IsMissing (strip marked) ask.want)
   pub refused : IsRefusedAt answers rule marked (chosen marked ask.want) i
 
 -- a key binding token is asked for, and what is to be shown does not name its key
-pub record IsKeyOther {F : Type 0} (answers : Answers F) (rule : F) (content : Text) (ask : Ask) : Type 0 where
-  pub token : Token
+pub record IsKeyOther {F : Type 0} (answers : Answers F) (rule : F) (token : Token) (ask : Ask) : Type 0 where
   pub marked : Marked
-  pub agreed : IsAgreed answers rule content ask token marked
+  pub agreed : IsAgreed answers rule token ask marked
   pub binding : BindingAsk
   pub asked_for : ask.binding ≡ Some binding
   pub differs : holder_kid (shown marked (chosen marked ask.want)) ≢ Some binding.kid
 
 -- nothing is refused before a key binding token that is asked for is signed
-pub record IsToBeSigned {F : Type 0} (answers : Answers F) (rule : F) (content : Text) (ask : Ask) : Type 0 where
-  pub token : Token
+pub record IsToBeSigned {F : Type 0} (answers : Answers F) (rule : F) (token : Token) (ask : Ask) : Type 0 where
   pub marked : Marked
-  pub agreed : IsAgreed answers rule content ask token marked
+  pub agreed : IsAgreed answers rule token ask marked
   pub binding : BindingAsk
   pub asked_for : ask.binding ≡ Some binding
   pub key : holder_kid (shown marked (chosen marked ask.want)) ≡ Some binding.kid
 
 -- what is presented is too long, with some good signature
-pub record IsTooLong {F : Type 0} (answers : Answers F) (rule : F) (content : Text) (ask : Ask) (good : Meaning) (now : ℕ) : Type 0 where
+pub record IsTooLong {F : Type 0} (answers : Answers F) (rule : F) (token : Token) (ask : Ask) (good : Meaning) (now : ℕ) : Type 0 where
   pub answer : Parts
-  pub presented : IsPresented answers rule content ask good now answer
+  pub is_answer : IsAnswer answers rule token ask good now answer
   pub long : COMPACT_MAX < length (compact answer)
 
--- why nothing is presented: by the first refusal that applies; want of memory says nothing
-abbrev pub IsNotPresented : {F : Type 0} → Answers F → F → Text → Ask → Meaning → ℕ → PresentError → Type 0
-IsNotPresented answers rule content ask good now Memory = Unit {0}
-IsNotPresented answers rule content ask good now (OnCondition fault) = IsTokenFault content ask fault
-IsNotPresented answers rule content ask good now HasBinding = IsBoundAlready content
-IsNotPresented answers rule content ask good now (NoSuchPlace k) = IsNotThere content ask k
-IsNotPresented answers rule content ask good now (ConsentRefused i) = IsDenied answers rule content ask i
-IsNotPresented answers rule content ask good now BindingKeyDiffers = IsKeyOther answers rule content ask
-IsNotPresented answers rule content ask good now SignFailed = IsToBeSigned answers rule content ask
-IsNotPresented answers rule content ask good now TooLong = IsTooLong answers rule content ask good now
+-- what each refusal of a token says: that it applies, and no earlier one; want of memory says nothing
+abbrev pub Refuses : {F : Type 0} → Answers F → F → Token → Ask → Meaning → ℕ → PresentError → Type 0
+Refuses answers rule token ask good now Memory = Unit {0}
+Refuses answers rule token ask good now HasBinding = token.parts.binding ≢ None
+Refuses answers rule token ask good now (OnCondition fault) = (token.parts.binding ≡ None) × IsLowest (TokenFails token (rules_of ask.keys)) fault
+Refuses answers rule token ask good now (NoSuchPlace k) = IsNotThere token ask k
+Refuses answers rule token ask good now (ConsentRefused i) = IsDenied answers rule token ask i
+Refuses answers rule token ask good now BindingKeyDiffers = IsKeyOther answers rule token ask
+Refuses answers rule token ask good now SignFailed = IsToBeSigned answers rule token ask
+Refuses answers rule token ask good now TooLong = IsTooLong answers rule token ask good now
+
+-- why nothing is presented of a text: it is no token, by the lowest of the conditions 1 to 3, or its token is refused
+pub data IsNotPresented {F : Type 0} (answers : Answers F) (rule : F) (content : Text) (ask : Ask) (good : Meaning) (now : ℕ) (error : PresentError) : Type 0 where
+  not_read : (fault : Fault) → error ≡ OnCondition fault → file.IsRefused content fault → IsNotPresented answers rule content ask good now error
+  refused : (token : Token) → IsToken content token → Refuses answers rule token ask good now error → IsNotPresented answers rule content ask good now error
 
 -- the condition that is answered
 abbrev pub OnToken : PresentError → (Fault → Type 0) → Type 0

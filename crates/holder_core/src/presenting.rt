@@ -16,7 +16,7 @@ ghost use Rattle.marked_tree.specs.Numbers.{has};
 ghost use Rattle.marked_tree.specs.View.{marked_of};
 ghost use Rattle.verifier_core.specs.Verdict.{TokenFails, IsChecked, HasHash};
 ghost use Rattle.verifier_core.specs.Check.{IsCounted, IsCountedWithin, IsReadWithin, IsUncounted, compact};
-ghost use Rattle.holder_core.specs.Present.{rules_of, picked, shown, IsPresented, IsNotPresented, IsBoundAs, NamesKey, OnToken};
+ghost use Rattle.holder_core.specs.Present.{rules_of, picked, shown, IsAnswer, Refuses, IsPresented, IsNotPresented, IsBoundAs, NamesKey, OnToken};
 ghost use Rattle.holder_core.specs.Presenting.{IsUnchecked, IsUnchosen, IsChosen, IsOtherKey, IsUnsigned};
 ghost use Rattle.holder_core.specs.declared.errors.PresentError.{PresentError};
 
@@ -75,7 +75,38 @@ pub fn present<S: Signer, F: Fn(&Path) -> bool>(
     if view.binding().is_some() {
         return Err(PresentError::HasBinding);
     }
-    let Checked { marked, hash, .. } = match check_held(alloc, &view, &ask.keys, steps) {
+    present_view(alloc, &view, ask, consent, signer, now, steps)
+}
+
+// Presents a token that has no key binding token.
+fn present_view<S: Signer, F: Fn(&Path) -> bool>(
+    alloc: Global,
+    view: &View<'_>,
+    ask: &Ask,
+    consent: &Consent<F>,
+    signer: &mut S,
+    now: u64,
+    steps: &mut Steps,
+) -> Result<Parts, PresentError>
+    requires few { length view.now.disclosures < 2 ^ 32 - 1 }
+    requires words { AreWords view.now }
+    requires unbound { view.now.binding ≡ None }
+    requires hs256 { S.alg_of signer.old ≡ Alg.Hs256 }
+    requires callable { F.IsAlwaysCallable consent.now }
+    ensures answer { IfOk result (IsAnswer F.Fn consent.now (compact view.now) ask.now (S.good signer.old) now) }
+    ensures words { IfOk result AreWords }
+    ensures short { IfOk result (λ answer. length (compact_text answer) ≤ COMPACT_MAX) }
+    ensures refused { IfErr result (Refuses F.Fn consent.now (compact view.now) ask.now (S.good signer.old) now) }
+    ensures failed { IsErrOf result PresentError.SignFailed → Rose (S.faults signer.old) (S.faults signer.new) }
+    ensures unasked { ask.now.binding ≡ None → signer.new ≡ signer.old }
+    ensures same_good { Agree (S.good signer.new) (S.good signer.old) }
+    ensures same_alg { S.alg_of signer.new ≡ S.alg_of signer.old }
+    ensures later { S.faults signer.old ≤ S.faults signer.new }
+    ensures counted { IfOk result (λ _. IsCounted (compact view.now) steps.old steps.new) }
+    ensures within { IsCountedWithin (compact view.now) steps.old steps.new }
+    ensures uncounted { IfErr result (λ e. OnToken e (IsUncounted steps.old steps.new)) }
+{
+    let Checked { marked, hash, .. } = match check_held(alloc, view, &ask.keys, steps) {
         Ok(checked) => checked,
         Err(error) => return Err(error),
     };
@@ -86,7 +117,7 @@ pub fn present<S: Signer, F: Fn(&Path) -> bool>(
     if let Err(error) = check_key(alloc, &ask.binding, &marked, &chosen) {
         return Err(error);
     }
-    let unbound = picked_parts(alloc, &view, &chosen)?;
+    let unbound = picked_parts(alloc, view, &chosen)?;
     let parts = match bound_parts(alloc, unbound, &ask.binding, hash, signer, now) {
         Ok(parts) => parts,
         Err(error) => return Err(error),
@@ -181,6 +212,7 @@ fn picked_parts(
     ensures signed { IfOk result (λ parts. parts.signed ≡ view.now.signed) }
     ensures disclosures { IfOk result (λ parts. parts.disclosures ≡ picked (has chosen.now) view.now.disclosures) }
     ensures unbound { IfOk result (λ parts. parts.binding ≡ None) }
+    ensures words { AreWords view.now → IfOk result AreWords }
 {
     let signed = view.signed().to_parts(alloc)?;
     let disclosures = pick(alloc, view.pieces(), chosen)?;

@@ -1,0 +1,74 @@
+-- Texts that are picked by their places, and trees that are pruned, under sets with the same members.
+use Rattle.std.proofs.Common.{◌≡◌, ℕ, suc, List, [], ◌∷◌, ◌++◌, length, Bool, true, false, Option, Some, None, refl, sym, ap, ap₂, subst, ◌∙◌}
+use Rattle.std.specs.Prelude.{if◌then◌else◌}
+use Rattle.std.specs.List.{AllByRecursion}
+use Rattle.b64url_text.specs.Base64url.{IsWord}
+use Rattle.claim_tree.specs.Tree.{Text}
+use Rattle.marked_tree.specs.Marked.{Marked, marked_leaf, marked_array, marked_object, MarkedElements, no_marked_elements, marked_element, MarkedMembers, no_marked_members, marked_member, remark, remark_elements, remark_members, new_mark, keep_element, keep_member, kept, prune}
+use Rattle.holder_core.specs.Present.{picked}
+
+abbrev first_if : Bool → Text → List Text → List Text
+first_if b x xs = if b then x ∷ xs else xs
+
+pub picked_same : (s t : ℕ → Bool) → ((i : ℕ) → s i ≡ t i) → (xs : List Text) → picked s xs ≡ picked t xs
+picked_same s t same [] = refl
+picked_same s t same (x ∷ xs) = ap₂ (λ (b : Bool) (ys : List Text). first_if b x ys) (same 0) (picked_same (λ k. s (suc k)) (λ k. t (suc k)) (λ k. same (suc k)) xs)
+
+-- one more behind
+abbrev last_if : Bool → Text → List Text → List Text
+last_if b x xs = if b then xs ++ x ∷ [] else xs
+
+pub picked_more : (s : ℕ → Bool) (xs : List Text) (x : Text) → picked s (xs ++ x ∷ []) ≡ (if s (length xs) then picked s xs ++ x ∷ [] else picked s xs)
+picked_more s [] x = go (s 0)
+  where
+    go : (b : Bool) → first_if b x [] ≡ last_if b x []
+    go true = refl
+    go false = refl
+picked_more s (y ∷ xs) x = ap (first_if (s 0) y) (picked_more (λ k. s (suc k)) xs x) ∙ go (s 0) (s (suc (length xs))) (picked (λ k. s (suc k)) xs)
+  where
+    go : (b c : Bool) (ys : List Text) → first_if b y (last_if c x ys) ≡ last_if c x (first_if b y ys)
+    go true true ys = refl
+    go true false ys = refl
+    go false true ys = refl
+    go false false ys = refl
+
+pub picked_words : (s : ℕ → Bool) (xs : List Text) → AllByRecursion IsWord xs → AllByRecursion IsWord (picked s xs)
+picked_words s [] all = tt
+picked_words s (x ∷ xs) all = go (s 0) (picked_words (λ k. s (suc k)) xs all.1)
+  where
+    go : (b : Bool) → AllByRecursion IsWord (picked (λ k. s (suc k)) xs) → AllByRecursion IsWord (first_if b x (picked (λ k. s (suc k)) xs))
+    go true ih = (all.0, ih)
+    go false ih = ih
+
+-- ---- trees
+
+abbrev pub Same : (ℕ → Bool) → (ℕ → Bool) → Type 0
+Same s t = (i : ℕ) → s i ≡ t i
+
+keeps_same : (s t : ℕ → Bool) → Same s t → (i : Option ℕ) → new_mark (kept s) i ≡ new_mark (kept t) i
+keeps_same s t same None = refl
+keeps_same s t same (Some i) = ap (λ (b : Bool). new_mark (λ k. if b then Some k else None) (Some i)) (same i)
+
+mutual
+  pub prune_same : (s t : ℕ → Bool) → Same s t → (m : Marked) → prune m s ≡ prune m t
+  prune_same s t same (marked_leaf l) = refl
+  prune_same s t same (marked_array es) = ap marked_array (prune_elements_same s t same es)
+  prune_same s t same (marked_object ms) = ap marked_object (prune_members_same s t same ms)
+
+  prune_elements_same : (s t : ℕ → Bool) → Same s t → (es : MarkedElements) → remark_elements (kept s) es ≡ remark_elements (kept t) es
+  prune_elements_same s t same no_marked_elements = refl
+  prune_elements_same s t same (marked_element i m es) =
+      ap (λ (o : Option (Option ℕ)). keep_element o (prune m s) (remark_elements (kept s) es)) (keeps_same s t same i)
+      ∙ ap₂ (λ (n : Marked) (ns : MarkedElements). keep_element (new_mark (kept t) i) n ns) (prune_same s t same m) (prune_elements_same s t same es)
+
+  prune_members_same : (s t : ℕ → Bool) → Same s t → (ms : MarkedMembers) → remark_members (kept s) ms ≡ remark_members (kept t) ms
+  prune_members_same s t same no_marked_members = refl
+  prune_members_same s t same (marked_member k i m ms) =
+      ap (λ (o : Option (Option ℕ)). keep_member k o (prune m s) (remark_members (kept s) ms)) (keeps_same s t same i)
+      ∙ ap₂ (λ (n : Marked) (ns : MarkedMembers). keep_member k (new_mark (kept t) i) n ns) (prune_same s t same m) (prune_members_same s t same ms)
+
+pub picked_in : (s : ℕ → Bool) (xs : List Text) (x : Text) → s (length xs) ≡ true → picked s (xs ++ x ∷ []) ≡ picked s xs ++ x ∷ []
+picked_in s xs x is = picked_more s xs x ∙ ap (λ (b : Bool). last_if b x (picked s xs)) is
+
+pub picked_out : (s : ℕ → Bool) (xs : List Text) (x : Text) → s (length xs) ≡ false → picked s (xs ++ x ∷ []) ≡ picked s xs
+picked_out s xs x is = picked_more s xs x ∙ ap (λ (b : Bool). last_if b x (picked s xs)) is
