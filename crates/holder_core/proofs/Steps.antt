@@ -20,8 +20,8 @@ use Rattle.holder_core.specs.declared.ask.Ask.{Ask}
 use Rattle.holder_core.specs.declared.ask.BindingAsk.{BindingAsk}
 use Rattle.holder_core.specs.declared.errors.PresentError.{PresentError}
 use Rattle.holder_core.specs.declared.errors.PresentError.TheVariants.{Memory, Token as OnCondition, HasBinding, NoSuchPlace, ConsentRefused, BindingKeyDiffers, SignFailed, TooLong}
-use Rattle.holder_core.specs.Present.{picked, shown, rules_of, IsHeld, IsAgreed, NamesKey, IsBoundAs, IsAnswer, Refuses}
-use Rattle.holder_core.specs.Presenting.{IsUnchecked, IsUnchosen, IsChosen, IsOtherKey, IsUnsigned}
+use Rattle.holder_core.specs.Present.{picked, shown, rules_of, IsHeld, IsAgreed, NamesKey, IsAnswer, Refuses, OnToken}
+use Rattle.holder_core.specs.Presenting.{IsUnchecked, IsUnchosen, IsChosen, IsOtherKey, IsReady, IsUnready, IsFinished, IsUnfinished}
 use Rattle.holder_core.proofs.Picking.{Same, picked_same, picked_words, prune_same}
 
 module _ {F : Type 0} (answers : Answers F) (rule : F) (m : Marked) (s t : ℕ → Bool) (same : Same s t) where
@@ -47,27 +47,17 @@ words_picked parts answer s words signed disclosures none = record {
   binding = subst (λ o. IfSome o form.HasWords) (sym none) tt;
 }
 
-module _ {F : Type 0} (answers : Answers F) (rule : F) (token : Token) (ask : Ask) (good : Meaning) (now : ℕ) where
-  pub unchecked_refused : (e : PresentError) → token.parts.binding ≡ None → IsUnchecked token (rules_of ask.keys) e → Refuses answers rule token ask good now e
-  unchecked_refused Memory none h = tt
-  unchecked_refused (OnCondition fault) none h = (none, h)
-  unchecked_refused HasBinding none h = absurd h
-  unchecked_refused (NoSuchPlace k) none h = absurd h
-  unchecked_refused (ConsentRefused i) none h = absurd h
-  unchecked_refused BindingKeyDiffers none h = absurd h
-  unchecked_refused SignFailed none h = absurd h
-  unchecked_refused TooLong none h = absurd h
-
+module _ {F : Type 0} (answers : Answers F) (rule : F) (token : Token) (ask : Ask) where
   module _ (marked : Marked) (held : IsHeld token ask marked) where
-    pub unchosen_refused : (e : PresentError) → IsUnchosen answers rule marked ask.want e → Refuses answers rule token ask good now e
-    unchosen_refused Memory h = tt
-    unchosen_refused (OnCondition fault) h = absurd h
-    unchosen_refused HasBinding h = absurd h
-    unchosen_refused (NoSuchPlace k) h = record { marked = marked; held = held; missing = h }
-    unchosen_refused (ConsentRefused i) h = record { marked = marked; held = held; there = h.0; refused = h.1 }
-    unchosen_refused BindingKeyDiffers h = absurd h
-    unchosen_refused SignFailed h = absurd h
-    unchosen_refused TooLong h = absurd h
+    pub unchosen : (e : PresentError) → IsUnchosen answers rule marked ask.want e → IsUnready answers rule token ask e
+    unchosen Memory h = tt
+    unchosen (OnCondition fault) h = absurd h
+    unchosen HasBinding h = absurd h
+    unchosen (NoSuchPlace k) h = record { marked = marked; held = held; missing = h }
+    unchosen (ConsentRefused i) h = record { marked = marked; held = held; there = h.0; refused = h.1 }
+    unchosen BindingKeyDiffers h = absurd h
+    unchosen SignFailed h = absurd h
+    unchosen TooLong h = absurd h
 
     module _ (marks : List ℕ) (is : IsChosen answers rule marked ask.want marks) where
       agreed : IsAgreed answers rule token ask marked
@@ -76,57 +66,99 @@ module _ {F : Type 0} (answers : Answers F) (rule : F) (token : Token) (ask : As
       same_shown : shown marked (has marks) ≡ shown marked (chosen marked ask.want)
       same_shown = shown_same marked (has marks) (chosen marked ask.want) is.same
 
-      pub other_refused : (e : PresentError) → IsOtherKey ask.binding (shown marked (has marks)) e → Refuses answers rule token ask good now e
-      other_refused Memory h = tt
-      other_refused (OnCondition fault) h = absurd h
-      other_refused HasBinding h = absurd h
-      other_refused (NoSuchPlace k) h = absurd h
-      other_refused (ConsentRefused i) h = absurd h
-      other_refused BindingKeyDiffers h = record {
+      pub other_key : (e : PresentError) → IsOtherKey ask.binding (shown marked (has marks)) e → IsUnready answers rule token ask e
+      other_key Memory h = tt
+      other_key (OnCondition fault) h = absurd h
+      other_key HasBinding h = absurd h
+      other_key (NoSuchPlace k) h = absurd h
+      other_key (ConsentRefused i) h = absurd h
+      other_key BindingKeyDiffers h = record {
         marked = marked;
         agreed = agreed;
         binding = h.0;
         asked_for = h.1;
         differs = subst (λ (p : Tree). holder_kid p ≢ Some h.0.kid) same_shown h.2;
       }
-      other_refused SignFailed h = absurd h
-      other_refused TooLong h = absurd h
+      other_key SignFailed h = absurd h
+      other_key TooLong h = absurd h
 
-      module _ (key : NamesKey ask.binding (shown marked (has marks))) where
-        named : NamesKey ask.binding (shown marked (chosen marked ask.want))
-        named = subst (NamesKey ask.binding) same_shown key
+      pub ready : NamesKey ask.binding (shown marked (has marks)) → (unbound : Parts) → unbound.signed ≡ token.parts.signed → unbound.disclosures ≡ picked (has marks) token.parts.disclosures → unbound.binding ≡ None
+          → IsReady answers rule token ask marked unbound
+      ready key unbound signed disclosures none = record {
+        agreed = agreed;
+        key = subst (NamesKey ask.binding) same_shown key;
+        presents = record {
+          signed = signed;
+          disclosures = disclosures ∙ picked_same (has marks) (chosen marked ask.want) is.same token.parts.disclosures;
+          binding_is = none;
+        };
+      }
 
-        pub unsigned_refused : (e : PresentError) → IsUnsigned ask.binding e → Refuses answers rule token ask good now e
-        unsigned_refused Memory h = tt
-        unsigned_refused (OnCondition fault) h = absurd h
-        unsigned_refused HasBinding h = absurd h
-        unsigned_refused (NoSuchPlace k) h = absurd h
-        unsigned_refused (ConsentRefused i) h = absurd h
-        unsigned_refused BindingKeyDiffers h = absurd h
-        unsigned_refused SignFailed h = record {
-          marked = marked;
-          agreed = agreed;
-          binding = h.0;
-          asked_for = h.1;
-          key = subst (λ (b : Option BindingAsk). NamesKey b (shown marked (chosen marked ask.want))) h.1 named;
-        }
-        unsigned_refused TooLong h = absurd h
+  module _ (good : Meaning) (now : ℕ) where
+    pub unchecked_refused : (e : PresentError) → token.parts.binding ≡ None → IsUnchecked token (rules_of ask.keys) e → Refuses answers rule token ask good now e
+    unchecked_refused Memory none h = tt
+    unchecked_refused (OnCondition fault) none h = (none, h)
+    unchecked_refused HasBinding none h = absurd h
+    unchecked_refused (NoSuchPlace k) none h = absurd h
+    unchecked_refused (ConsentRefused i) none h = absurd h
+    unchecked_refused BindingKeyDiffers none h = absurd h
+    unchecked_refused SignFailed none h = absurd h
+    unchecked_refused TooLong none h = absurd h
 
-        pub answered : (hash : HashAlg) → HasHash token hash → (unbound answer : Parts) → unbound.signed ≡ token.parts.signed → unbound.disclosures ≡ picked (has marks) token.parts.disclosures
-            → answer.signed ≡ unbound.signed → answer.disclosures ≡ unbound.disclosures → IsBoundAs ask.binding good hash now answer → IsAnswer answers rule token ask good now answer
-        answered hash has_hash unbound answer signed disclosures same_signed same_disclosures bound = record {
-          marked = marked;
-          agreed = agreed;
-          key = named;
-          presents = record {
-            signed = same_signed ∙ signed;
-            disclosures = same_disclosures ∙ (disclosures ∙ picked_same (has marks) (chosen marked ask.want) is.same token.parts.disclosures);
-            binding_is = refl;
-          };
-          hash = hash;
-          has_hash = has_hash;
-          bound = bound;
-        }
+    pub unready_refused : (e : PresentError) → IsUnready answers rule token ask e → Refuses answers rule token ask good now e
+    unready_refused Memory h = tt
+    unready_refused (OnCondition fault) h = absurd h
+    unready_refused HasBinding h = absurd h
+    unready_refused (NoSuchPlace k) h = h
+    unready_refused (ConsentRefused i) h = h
+    unready_refused BindingKeyDiffers h = h
+    unready_refused SignFailed h = absurd h
+    unready_refused TooLong h = absurd h
 
-  pub long_refused : (answer : Parts) → IsAnswer answers rule token ask good now answer → COMPACT_MAX < length (form.compact answer) → Refuses answers rule token ask good now TooLong
-  long_refused answer is long = record { answer = answer; is_answer = is; long = long }
+    module _ (marked : Marked) (unbound : Parts) (is : IsReady answers rule token ask marked unbound) (hash : HashAlg) (has_hash : HasHash token hash) where
+      pub answered : (answer : Parts) → IsFinished ask.binding good hash now unbound answer → IsAnswer answers rule token ask good now answer
+      answered answer done = record {
+        marked = marked;
+        agreed = is.agreed;
+        key = is.key;
+        presents = record { signed = done.signed ∙ is.presents.signed; disclosures = done.disclosures ∙ is.presents.disclosures; binding_is = refl };
+        hash = hash;
+        has_hash = has_hash;
+        bound = done.bound;
+      }
+
+      pub unfinished_refused : (e : PresentError) → IsUnfinished ask.binding good hash now unbound e → Refuses answers rule token ask good now e
+      unfinished_refused Memory h = tt
+      unfinished_refused (OnCondition fault) h = absurd h
+      unfinished_refused HasBinding h = absurd h
+      unfinished_refused (NoSuchPlace k) h = absurd h
+      unfinished_refused (ConsentRefused i) h = absurd h
+      unfinished_refused BindingKeyDiffers h = absurd h
+      unfinished_refused SignFailed h = record {
+        marked = marked;
+        agreed = is.agreed;
+        binding = h.0;
+        asked_for = h.1;
+        key = subst (λ (b : Option BindingAsk). NamesKey b (shown marked (chosen marked ask.want))) h.1 is.key;
+      }
+      unfinished_refused TooLong h = record { answer = h.answer; is_answer = answered h.answer h.finished; long = h.long }
+
+pub unready_unread : {F : Type 0} (answers : Answers F) (rule : F) (token : Token) (ask : Ask) (e : PresentError) → IsUnready answers rule token ask e → OnToken e (λ fault. ⊥)
+unready_unread answers rule token ask Memory h = tt
+unready_unread answers rule token ask (OnCondition fault) h = h
+unready_unread answers rule token ask HasBinding h = tt
+unready_unread answers rule token ask (NoSuchPlace k) h = tt
+unready_unread answers rule token ask (ConsentRefused i) h = tt
+unready_unread answers rule token ask BindingKeyDiffers h = tt
+unready_unread answers rule token ask SignFailed h = tt
+unready_unread answers rule token ask TooLong h = tt
+
+pub unfinished_unread : (binding : Option BindingAsk) (good : Meaning) (hash : HashAlg) (now : ℕ) (unbound : Parts) (e : PresentError) → IsUnfinished binding good hash now unbound e → OnToken e (λ fault. ⊥)
+unfinished_unread binding good hash now unbound Memory h = tt
+unfinished_unread binding good hash now unbound (OnCondition fault) h = h
+unfinished_unread binding good hash now unbound HasBinding h = tt
+unfinished_unread binding good hash now unbound (NoSuchPlace k) h = tt
+unfinished_unread binding good hash now unbound (ConsentRefused i) h = tt
+unfinished_unread binding good hash now unbound BindingKeyDiffers h = tt
+unfinished_unread binding good hash now unbound SignFailed h = tt
+unfinished_unread binding good hash now unbound TooLong h = tt

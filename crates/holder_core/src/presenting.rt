@@ -16,8 +16,8 @@ ghost use Rattle.marked_tree.specs.Numbers.{has};
 ghost use Rattle.marked_tree.specs.View.{marked_of};
 ghost use Rattle.verifier_core.specs.Verdict.{TokenFails, IsChecked, HasHash};
 ghost use Rattle.verifier_core.specs.Check.{IsCounted, IsCountedWithin, IsReadWithin, IsUncounted, compact};
-ghost use Rattle.holder_core.specs.Present.{rules_of, picked, shown, IsAnswer, Refuses, IsPresented, IsNotPresented, IsBoundAs, NamesKey, OnToken};
-ghost use Rattle.holder_core.specs.Presenting.{IsUnchecked, IsUnchosen, IsChosen, IsOtherKey, IsUnsigned};
+ghost use Rattle.holder_core.specs.Present.{rules_of, picked, shown, IsHeld, IsAnswer, Refuses, IsPresented, IsNotPresented, NamesKey, OnToken};
+ghost use Rattle.holder_core.specs.Presenting.{IsUnchecked, IsUnchosen, IsChosen, IsOtherKey, IsReady, IsUnready, IsUnsigned, IsFinished, IsUnfinished};
 ghost use Rattle.holder_core.specs.declared.errors.PresentError.{PresentError};
 
 use crate::{Ask, BindingAsk, PresentError};
@@ -106,19 +106,96 @@ fn present_view<S: Signer, F: Fn(&Path) -> bool>(
     ensures within { IsCountedWithin (compact view.now) steps.old steps.new }
     ensures uncounted { IfErr result (λ e. OnToken e (IsUncounted steps.old steps.new)) }
 {
-    let Checked { marked, hash, .. } = match check_held(alloc, view, &ask.keys, steps) {
+    let checked = match check_held(alloc, view, &ask.keys, steps) {
         Ok(checked) => checked,
         Err(error) => return Err(error),
     };
-    let chosen = match choose_allowed(alloc, &marked, &ask.want, consent) {
+    present_checked(alloc, view, &checked, ask, consent, signer, now)
+}
+
+// Presents a token that is checked.
+fn present_checked<S: Signer, F: Fn(&Path) -> bool>(
+    alloc: Global,
+    view: &View<'_>,
+    checked: &Checked,
+    ask: &Ask,
+    consent: &Consent<F>,
+    signer: &mut S,
+    now: u64,
+) -> Result<Parts, PresentError>
+    requires few { length view.now.disclosures < 2 ^ 32 - 1 }
+    requires words { AreWords view.now }
+    requires held { IsHeld (compact view.now) ask.now (marked_of checked.now.marked) }
+    requires hash { HasHash (compact view.now) checked.now.hash }
+    requires hs256 { S.alg_of signer.old ≡ Alg.Hs256 }
+    requires callable { F.IsAlwaysCallable consent.now }
+    ensures answer { IfOk result (IsAnswer F.Fn consent.now (compact view.now) ask.now (S.good signer.old) now) }
+    ensures words { IfOk result AreWords }
+    ensures short { IfOk result (λ answer. length (compact_text answer) ≤ COMPACT_MAX) }
+    ensures refused { IfErr result (Refuses F.Fn consent.now (compact view.now) ask.now (S.good signer.old) now) }
+    ensures unread { IfErr result (λ e. OnToken e (λ _. ⊥)) }
+    ensures failed { IsErrOf result PresentError.SignFailed → Rose (S.faults signer.old) (S.faults signer.new) }
+    ensures unasked { ask.now.binding ≡ None → signer.new ≡ signer.old }
+    ensures same_good { Agree (S.good signer.new) (S.good signer.old) }
+    ensures same_alg { S.alg_of signer.new ≡ S.alg_of signer.old }
+    ensures later { S.faults signer.old ≤ S.faults signer.new }
+{
+    let unbound = match choose_parts(alloc, view, &checked.marked, ask, consent) {
+        Ok(parts) => parts,
+        Err(error) => return Err(error),
+    };
+    finish(alloc, unbound, &ask.binding, checked.hash, signer, now)
+}
+
+// The token with the disclosures that are asked for, if nothing is refused.
+fn choose_parts<F: Fn(&Path) -> bool>(
+    alloc: Global,
+    view: &View<'_>,
+    marked: &Marked,
+    ask: &Ask,
+    consent: &Consent<F>,
+) -> Result<Parts, PresentError>
+    requires few { length view.now.disclosures < 2 ^ 32 - 1 }
+    requires words { AreWords view.now }
+    requires held { IsHeld (compact view.now) ask.now (marked_of marked.now) }
+    requires callable { F.IsAlwaysCallable consent.now }
+    ensures ready { IfOk result (IsReady F.Fn consent.now (compact view.now) ask.now (marked_of marked.now)) }
+    ensures words { IfOk result AreWords }
+    ensures refused { IfErr result (IsUnready F.Fn consent.now (compact view.now) ask.now) }
+{
+    let chosen = match choose_allowed(alloc, marked, &ask.want, consent) {
         Ok(chosen) => chosen,
         Err(error) => return Err(error),
     };
-    if let Err(error) = check_key(alloc, &ask.binding, &marked, &chosen) {
+    if let Err(error) = check_key(alloc, &ask.binding, marked, &chosen) {
         return Err(error);
     }
-    let unbound = picked_parts(alloc, view, &chosen)?;
-    let parts = match bound_parts(alloc, unbound, &ask.binding, hash, signer, now) {
+    Ok(picked_parts(alloc, view, &chosen)?)
+}
+
+// The parts with the key binding token that is asked for, unless they are too long.
+fn finish<S: Signer>(
+    alloc: Global,
+    unbound: Parts,
+    binding: &Option<BindingAsk>,
+    hash: HashAlg,
+    signer: &mut S,
+    now: u64,
+) -> Result<Parts, PresentError>
+    requires hs256 { S.alg_of signer.old ≡ Alg.Hs256 }
+    requires words { AreWords unbound }
+    requires none { unbound.binding ≡ None }
+    ensures finished { IfOk result (IsFinished binding.now (S.good signer.old) hash now unbound) }
+    ensures words { IfOk result AreWords }
+    ensures short { IfOk result (λ answer. length (compact_text answer) ≤ COMPACT_MAX) }
+    ensures unfinished { IfErr result (IsUnfinished binding.now (S.good signer.old) hash now unbound) }
+    ensures failed { IsErrOf result PresentError.SignFailed → Rose (S.faults signer.old) (S.faults signer.new) }
+    ensures unasked { binding.now ≡ None → signer.new ≡ signer.old }
+    ensures same_good { Agree (S.good signer.new) (S.good signer.old) }
+    ensures same_alg { S.alg_of signer.new ≡ S.alg_of signer.old }
+    ensures later { S.faults signer.old ≤ S.faults signer.new }
+{
+    let parts = match bound_parts(alloc, unbound, binding, hash, signer, now) {
         Ok(parts) => parts,
         Err(error) => return Err(error),
     };
@@ -255,9 +332,7 @@ fn bound_parts<S: Signer>(
     requires hs256 { S.alg_of signer.old ≡ Alg.Hs256 }
     requires words { AreWords unbound }
     requires none { unbound.binding ≡ None }
-    ensures signed { IfOk result (λ parts. parts.signed ≡ unbound.signed) }
-    ensures disclosures { IfOk result (λ parts. parts.disclosures ≡ unbound.disclosures) }
-    ensures bound { IfOk result (λ parts. IsBoundAs binding.now (S.good signer.old) hash now parts) }
+    ensures finished { IfOk result (IsFinished binding.now (S.good signer.old) hash now unbound) }
     ensures words { IfOk result AreWords }
     ensures unsigned { IfErr result (IsUnsigned binding.now) }
     ensures failed { IsErrOf result PresentError.SignFailed → Rose (S.faults signer.old) (S.faults signer.new) }
