@@ -95,13 +95,13 @@ pub checked_unmixed : (token : Token) (rules : Rules) (marked : Marked) → IsCh
 checked_unmixed token rules marked checked =
     let p = checked.opens.0 in
     let g = checked.opens.1 in
-    let has = checked.opens.2.0 in
-    subst IsUnmixed (sym checked.opens.2.1) (processed_unmixed p g (content_readable token p g has) (content_sound token rules p g has checked.passes))
+    let has = checked.opens.2 in
+    subst IsUnmixed (sym checked.opens.3) (processed_unmixed p g (content_readable token p g has) (content_sound token rules p g has checked.passes))
 
 pub checked_shallow : (token : Token) (rules : Rules) (marked : Marked) → IsChecked token rules marked → depth (strip marked) ≤ 127
 checked_shallow token rules marked checked =
     let p = checked.opens.0 in
     let g = checked.opens.1 in
-    let sound = content_sound token rules p g checked.opens.2.0 checked.passes in
+    let sound = content_sound token rules p g checked.opens.2 checked.passes in
     let low = sound.shallow in
-    subst (λ (m : Marked). depth (strip m) ≤ 127) (sym checked.opens.2.1) (omega (arith, low))
+    subst (λ (m : Marked). depth (strip m) ≤ 127) (sym checked.opens.3) (omega (arith, low))

@@ -6,6 +6,7 @@ use Rattle.claim_tree.specs.Tree.{Tree}
 use Rattle.compact_form.specs.Compact.{AreWords}
 use Rattle.compact_form.specs.declared.limits.TheConstants.{COMPACT_MAX}
 use Rattle.compact_form.specs.Compact as form
+use Rattle.compact_form.specs.declared.fault.Fault.{Fault}
 use Rattle.compact_form.specs.declared.parts.Parts.{Parts}
 use Rattle.disclosure.specs.declared.digests.HashAlg.{HashAlg}
 use Rattle.hmac_sign.specs.Signatures.{Meaning}
@@ -162,3 +163,13 @@ unfinished_unread binding good hash now unbound (ConsentRefused i) h = tt
 unfinished_unread binding good hash now unbound BindingKeyDiffers h = tt
 unfinished_unread binding good hash now unbound SignFailed h = tt
 unfinished_unread binding good hash now unbound TooLong h = tt
+
+pub no_token : (e : PresentError) (P : Fault → Type 0) → OnToken e (λ fault. ⊥) → OnToken e P
+no_token Memory P h = tt
+no_token (OnCondition fault) P h = absurd h
+no_token HasBinding P h = tt
+no_token (NoSuchPlace k) P h = tt
+no_token (ConsentRefused i) P h = tt
+no_token BindingKeyDiffers P h = tt
+no_token SignFailed P h = tt
+no_token TooLong P h = tt

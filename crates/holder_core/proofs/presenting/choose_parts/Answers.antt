@@ -13,3 +13,10 @@ choose_allowed-requires-clause-unmixed g c = checked_unmixed (compact c.args.vie
 
 pub returns-in-Err-clause-refused : goal.returns-in-Err-clause-refused
 returns-in-Err-clause-refused g c = unchosen g.F.Fn c.args.consent.now (compact c.args.view.now) c.args.ask.now (marked_of c.args.marked.now) c.requires.held c.in-Err.error c.in-Err.ensures.refused
+
+pub check_key-requires : goal.check_key-requires
+check_key-requires g c = record { depth = checked_shallow (compact c.args.view.now) (rules_of c.args.ask.now.keys) (marked_of c.args.marked.now) c.requires.held.checked }
+
+pub returns-in-Err-check_key-clause-refused : goal.returns-in-Err-check_key-clause-refused
+returns-in-Err-check_key-clause-refused g c =
+    other_key g.F.Fn c.args.consent.now (compact c.args.view.now) c.args.ask.now (marked_of c.args.marked.now) c.requires.held c.in-Ok.chosen c.in-Ok.ensures.chosen c.in-Err-check_key.error c.in-Err-check_key.ensures.refused
