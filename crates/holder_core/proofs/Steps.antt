@@ -1,13 +1,17 @@
 -- From the steps of presenting to what is presented, and why it is not.
-use Rattle.std.proofs.Common.{◌≡◌, ◌≢◌, ℕ, ◌<◌, Bool, true, List, length, Option, Some, None, IfSome, refl, sym, ap, subst, ◌∙◌}
+use Rattle.std.proofs.Common.{◌≡◌, ◌≢◌, ℕ, ◌<◌, Bool, true, false, List, length, Option, Some, None, IfSome, refl, sym, ap, subst, ◌∙◌}
 use Rattle.std.specs.List.{AllByRecursion}
+use Rattle.std.specs.Option.{option_map, is_some}
 use Rattle.b64url_text.specs.Base64url.{IsWord}
 use Rattle.claim_tree.specs.Tree.{Tree}
 use Rattle.compact_form.specs.Compact.{AreWords}
 use Rattle.compact_form.specs.declared.limits.TheConstants.{COMPACT_MAX}
 use Rattle.compact_form.specs.Compact as form
 use Rattle.compact_form.specs.declared.fault.Fault.{Fault}
+use Rattle.compact_form.specs.Views.{jwt_of}
+use Rattle.compact_form.specs.declared.parts.JwtParts.{JwtParts}
 use Rattle.compact_form.specs.declared.parts.Parts.{Parts}
+use Rattle.compact_form.specs.declared.view.JwtView.{JwtView}
 use Rattle.disclosure.specs.declared.digests.HashAlg.{HashAlg}
 use Rattle.hmac_sign.specs.Signatures.{Meaning}
 use Rattle.json_form.specs.declared.token.Token.{Token}
@@ -173,3 +177,13 @@ no_token (ConsentRefused i) P h = tt
 no_token BindingKeyDiffers P h = tt
 no_token SignFailed P h = tt
 no_token TooLong P h = tt
+
+-- ---- whether there is a key binding token
+
+pub is_bound : (o : Option JwtView) (p : Option JwtParts) → option_map jwt_of o ≡ p → is_some o ≡ true → p ≢ None
+is_bound None p same there none = cc there
+is_bound (Some j) p same there none = let both = same ∙ none in cc both
+
+pub is_unbound : (o : Option JwtView) (p : Option JwtParts) → option_map jwt_of o ≡ p → is_some o ≡ false → p ≡ None
+is_unbound None p same there = sym same
+is_unbound (Some j) p same there = absurd (cc there)

@@ -1,0 +1,12 @@
+use crate::{Ask, BindingAsk, PresentError, PresentFile, present, read_present};
+use b64url_text::encode;
+use claim_tree::{Field, FileFault, Path, PathList, is_prefix, read, read_pointer};
+use compact_form::{Parts, print};
+use digest_index::Steps;
+use disclosure::{HashAlg, digest};
+use hmac_sign::{FailSigner, Hs256Key, KeySet};
+use sd_outside::{TextBox, TextList};
+use selection_core::Consent;
+use std::alloc::Global;
+use std::test::Fail;
+use verifier_core::fault_line;
