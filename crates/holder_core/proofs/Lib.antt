@@ -4,3 +4,4 @@ pub mod ReadOrdered
 pub mod HeldFacts
 pub mod Picking
 pub mod Steps
+pub mod PresentFiles

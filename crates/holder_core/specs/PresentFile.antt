@@ -1,5 +1,5 @@
 -- The file that says what is asked of a holder.
-use Rattle.std.specs.Prelude.{◌≡◌, ℕ, List, [], ◌∷◌, Option, Some, None, codes}
+use Rattle.std.specs.Prelude.{◌≡◌, ℕ, List, [], ◌∷◌, Option, Some, None, is_some, codes}
 use Rattle.compact_form.specs.declared.limits.TheConstants.{FILE_MAX}
 use Rattle.claim_tree.specs.Tree.{Text, Tree, object, Members, members_len, member_named}
 use Rattle.claim_tree.specs.FileForms.{IsText, Says, MaySay, SaysOr, Entry, required, optional, fields_of, found, HasMembers, IsFileRefused}
@@ -43,6 +43,7 @@ pub record IsPresentFile (bytes : Text) (said : PresentFile) : Type 0 where
   pub want : SaysOr (IsListOf IsPointer) [] (found members Want) said.ask.want
   pub never : SaysOr (IsListOf IsPointer) [] (found members Never) said.never
   pub binding : MaySay IsBindingOrder (found members Binding) (both said.ask.binding said.key)
+  pub together : is_some said.key ≡ is_some said.ask.binding
 
 -- why the file says no present order; want of memory says nothing
 abbrev pub IsPresentRefused : Text → FileFault → Type 0

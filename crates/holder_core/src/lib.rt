@@ -9,6 +9,7 @@ mod ask;
 mod errors;
 mod file_list;
 mod key_text;
+pub mod laws;
 mod present_file;
 mod presenting;
 #[cfg(test)]

@@ -1,5 +1,5 @@
 // The file that says what is asked of a holder.
-ghost use Rattle.std.specs.Prelude.{◌≡◌, [], List, ℕ, codes, option_map, is_some, IfOk, IfErr, IfSome, IfNone};
+ghost use Rattle.std.specs.Prelude.{◌≡◌, [], List, ℕ, codes, option_map, IfOk, IfErr, IfSome, IfNone};
 ghost use Rattle.claim_tree.specs.Tree.{Text, member_named};
 ghost use Rattle.claim_tree.specs.View.{tree_of};
 ghost use Rattle.claim_tree.specs.FileForms.{HasValue, IsText, Says, MaySay, IsMemberRefused, optional, found};
@@ -107,7 +107,6 @@ fn binding_member(alloc: Global, members: &TreeMap) -> Result<Option<BindingOrde
 /// binding token is asked for. Another member is a fault.
 pub fn read_present(alloc: Global, bytes: &[u8]) -> Result<PresentFile, FileFault>
     ensures ok { IfOk result (IsPresentFile bytes.now) }
-    ensures key { IfOk result (λ said. is_some said.key ≡ is_some said.ask.binding) }
     ensures refused { IfErr result (IsPresentRefused bytes.now) }
 {
     let members = read_members(alloc, bytes, FILE_MAX, &FIELDS)?;
