@@ -5,3 +5,4 @@ pub mod HeldFacts
 pub mod Picking
 pub mod Steps
 pub mod PresentFiles
+pub mod OnePresentation

@@ -70,9 +70,9 @@ one_present bytes p q h k =
     let want : p.ask.want ≡ q.ask.want = verdicts.says_or_one (IsListOf IsPointer) [] (found ms Want) p.ask.want q.ask.want (one_list IsPointer one_pointer) (subst (λ ns. SaysOr (IsListOf IsPointer) [] (found ns Want) p.ask.want) same h.want) k.want in
     let never : p.never ≡ q.never = verdicts.says_or_one (IsListOf IsPointer) [] (found ms Never) p.never q.never (one_list IsPointer one_pointer) (subst (λ ns. SaysOr (IsListOf IsPointer) [] (found ns Never) p.never) same h.never) k.never in
     let said : both p.ask.binding p.key ≡ both q.ask.binding q.key =
-        verdicts.may_say_one IsBindingOrder (found ms Binding) (both p.ask.binding p.key) (both q.ask.binding q.key) one_binding
-        (subst (λ ns. MaySay IsBindingOrder (found ns Binding) (both p.ask.binding p.key)) same h.binding)
-        k.binding in
+    verdicts.may_say_one IsBindingOrder (found ms Binding) (both p.ask.binding p.key) (both q.ask.binding q.key) one_binding
+    (subst (λ ns. MaySay IsBindingOrder (found ns Binding) (both p.ask.binding p.key)) same h.binding)
+    k.binding in
     let parts = parts_of p.ask.binding q.ask.binding p.key q.key h.together k.together said in
     ap (λ x. made x p.ask.want p.ask.binding p.never p.key) keys
     ∙ (ap (λ x. made q.ask.keys x p.ask.binding p.never p.key) want

@@ -27,7 +27,11 @@ pub(crate) fn key_of(alloc: Global, tree: &Tree) -> Result<Option<Hs256Key>, NoM
 }
 
 /// The key of a member that a file must have.
-pub(crate) fn key_member(alloc: Global, members: &TreeMap, field: Field) -> Result<Hs256Key, FileFault>
+pub(crate) fn key_member(
+    alloc: Global,
+    members: &TreeMap,
+    field: Field,
+) -> Result<Hs256Key, FileFault>
     ensures ok { IfOk result (Says IsKeyText (found members.now field)) }
     ensures refused { IfErr result (IsMemberRefused (required field IsKeyText) members.now) }
 {

@@ -280,11 +280,7 @@ fn check_key(
 }
 
 // The token with the chosen disclosures alone.
-fn picked_parts(
-    alloc: Global,
-    view: &View<'_>,
-    chosen: &ChosenSet,
-) -> Result<Parts, NoMemory>
+fn picked_parts(alloc: Global, view: &View<'_>, chosen: &ChosenSet) -> Result<Parts, NoMemory>
     requires few { length view.now.disclosures < 2 ^ 32 - 1 }
     ensures signed { IfOk result (λ parts. parts.signed ≡ view.now.signed) }
     ensures disclosures { IfOk result (λ parts. parts.disclosures ≡ picked (has chosen.now) view.now.disclosures) }
@@ -301,11 +297,7 @@ fn picked_parts(
 }
 
 // The chosen disclosures, in their order.
-fn pick(
-    alloc: Global,
-    disclosures: Pieces<'_>,
-    chosen: &ChosenSet,
-) -> Result<TextList, NoMemory>
+fn pick(alloc: Global, disclosures: Pieces<'_>, chosen: &ChosenSet) -> Result<TextList, NoMemory>
     requires few { length disclosures < 2 ^ 32 - 1 }
     ensures { IfOk result (λ texts. texts ≡ picked (has chosen.now) disclosures.entry) }
 {

@@ -9,8 +9,7 @@ use std::alloc::Global;
 use std::test::Fail;
 
 // The key set of 32 bytes 1.
-const KEYS: &str =
-    r#"{"keys":[{"kty":"oct","k":"AQEBAQEBAQEBAQEBAQEBAQEBAQEBAQEBAQEBAQEBAQE"}]}"#;
+const KEYS: &str = r#"{"keys":[{"kty":"oct","k":"AQEBAQEBAQEBAQEBAQEBAQEBAQEBAQEBAQEBAQEBAQE"}]}"#;
 
 // A key binding token is asked for, by the key of 32 bytes 2.
 const BINDING: &str =
@@ -44,8 +43,7 @@ const SEVEN: &str =
 const FOUR: &str =
     "WyJkcmpncmFEeFBaQkFYV3JsVTRhOUtBIiwiYWRkcmVzcyIseyJjb3VudHJ5IjoiVVMiLCJsb2NhbGl0eSI6IkFueXRvd24iLCJyZWdpb24iOiJBbnlzdGF0ZSIsInN0cmVldF9hZGRyZXNzIjoiMTIzIE1haW4gU3QifV0~WyJha080OUJVWW9SekRoN1pwc3U1bGhnIiwiZmFtaWx5X25hbWUiLCJEb2UiXQ~WyJud2ZudmxWUk9IcVl1cGQ4Y3kwSURRIiwiZ2l2ZW5fbmFtZSIsIkpvaG4iXQ~WyJ5dzhwb0VqalpXa1N4bE0tTXU1NjdRIiwiVVMiXQ~";
 
-const WANTED: &str =
-    r#","want":["/given_name","/family_name","/address","/nationalities/0"]"#;
+const WANTED: &str = r#","want":["/given_name","/family_name","/address","/nationalities/0"]"#;
 
 // Made at 1700000000 for those four.
 const BOUND: &str =
@@ -77,7 +75,15 @@ fn presented(
         .iter()
         .any(|path| is_prefix(path, place)));
     let text = token.as_bytes();
-    present(alloc, text, &said.ask, &consent, signer, 1_700_000_000, steps)
+    present(
+        alloc,
+        text,
+        &said.ask,
+        &consent,
+        signer,
+        1_700_000_000,
+        steps,
+    )
 }
 
 // The compact text of what is presented, with the look-ups before it.
@@ -125,13 +131,31 @@ fn the_disclosures_on_the_way_are_presented(rt: HostRuntime) -> Result<(), Fail>
     let address = address.as_str();
     for (jwt, rest, members, count, shown) in [
         (PERSON, person, r#","want":["/given"]"#, 4, GIVEN),
-        (PERSON, person, r#","want":["/given","/iss"],"never":["/age"]"#, 4, GIVEN),
+        (
+            PERSON,
+            person,
+            r#","want":["/given","/iss"],"never":["/age"]"#,
+            4,
+            GIVEN,
+        ),
         (PERSON, person, "", 4, ""),
         (PERSON, person, r#","want":[""],"never":[""]"#, 4, ""),
-        (PERSON, person, r#","want":["/age","/given","/age"]"#, 4, person),
+        (
+            PERSON,
+            person,
+            r#","want":["/age","/given","/age"]"#,
+            4,
+            person,
+        ),
         (PERSON, turned, r#","want":["/age","/given"]"#, 4, turned),
         (PERSON, GIVEN, r#","want":["/given"]"#, 3, GIVEN),
-        (ADDRESS, address, r#","want":["/address/street"]"#, 4, address),
+        (
+            ADDRESS,
+            address,
+            r#","want":["/address/street"]"#,
+            4,
+            address,
+        ),
         (ADDRESS, address, r#","want":["/address"]"#, 4, WHOLE),
         (ADDRESS, address, r#","want":["/address/zip"]"#, 4, WHOLE),
         (HOLDER, SEVEN, WANTED, 17, FOUR),
@@ -156,15 +180,33 @@ fn the_first_refusal_is_answered(rt: HostRuntime) -> Result<(), Fail> {
     let bound = format!(in alloc; "{AGE}{GIVEN}e.f.g")?;
     let nowhere = r#","want":["/iss","/nothing","/no"],"never":[""]"#;
     for (jwt, rest, members, error, count) in [
-        (PERSON, "=", nowhere, fails(2, Place::At(PERSON.len() + 1)), 0),
+        (
+            PERSON,
+            "=",
+            nowhere,
+            fails(2, Place::At(PERSON.len() + 1)),
+            0,
+        ),
         (PERSON, twice.as_str(), nowhere, PresentError::HasBinding, 0),
         (PERSON, bound.as_str(), "", PresentError::HasBinding, 0),
         ("e30.e30.AA", "", nowhere, fails(5, Place::Nowhere), 0),
         (PERSON, STREET, nowhere, fails(17, Place::At(0)), 3),
         (ADDRESS, STREET, "", fails(17, Place::At(0)), 2),
         (PERSON, person, nowhere, PresentError::NoSuchPlace(1), 4),
-        (PERSON, person, r#","want":["/given"],"never":["/given"]"#, PresentError::ConsentRefused(1), 4),
-        (PERSON, person, r#","want":["/given","/age"],"never":["/given","/age"]"#, PresentError::ConsentRefused(0), 4),
+        (
+            PERSON,
+            person,
+            r#","want":["/given"],"never":["/given"]"#,
+            PresentError::ConsentRefused(1),
+            4,
+        ),
+        (
+            PERSON,
+            person,
+            r#","want":["/given","/age"],"never":["/given","/age"]"#,
+            PresentError::ConsentRefused(0),
+            4,
+        ),
     ] {
         let (told, counted) = refusal(alloc, jwt, rest, members)?;
         assert_eq!(rt; told, error);
@@ -289,21 +331,51 @@ fn an_order_with_a_fault_is_refused(rt: HostRuntime) -> Result<(), Fail> {
         ("1.5", ",\"want\":1", FileFault::NotWhole),
         (KEYS, ",\"wants\":[],\"want\":1", FileFault::Unknown),
         ("[]", ",\"want\":1", FileFault::Wrong(Field::Keys)),
-        (KEYS, ",\"want\":\"/a\",\"never\":1", FileFault::Wrong(Field::Want)),
+        (
+            KEYS,
+            ",\"want\":\"/a\",\"never\":1",
+            FileFault::Wrong(Field::Want),
+        ),
         (KEYS, ",\"want\":[\"a\"]", FileFault::Wrong(Field::Want)),
-        (KEYS, ",\"never\":[\"/~2\"],\"binding\":1", FileFault::Wrong(Field::Never)),
+        (
+            KEYS,
+            ",\"never\":[\"/~2\"],\"binding\":1",
+            FileFault::Wrong(Field::Never),
+        ),
         (KEYS, ",\"binding\":null", FileFault::Wrong(Field::Binding)),
-        (KEYS, ",\"binding\":{\"key\":\"AgIC\",\"kid\":\"k\",\"aud\":\"a\",\"nonce\":\"n\"}", FileFault::Wrong(Field::Binding)),
-        (KEYS, ",\"binding\":{\"key\":\"<\",\"kid\":\"k\",\"aud\":\"a\"}", FileFault::Wrong(Field::Binding)),
-        (KEYS, ",\"binding\":{\"key\":\"<\",\"kid\":1,\"aud\":\"a\",\"nonce\":\"n\"}", FileFault::Wrong(Field::Binding)),
-        (KEYS, ",\"binding\":{\"key\":\"<\",\"kid\":\"k\",\"aud\":\"a\",\"nonce\":\"n\",\"max_age\":1}", FileFault::Wrong(Field::Binding)),
+        (
+            KEYS,
+            ",\"binding\":{\"key\":\"AgIC\",\"kid\":\"k\",\"aud\":\"a\",\"nonce\":\"n\"}",
+            FileFault::Wrong(Field::Binding),
+        ),
+        (
+            KEYS,
+            ",\"binding\":{\"key\":\"<\",\"kid\":\"k\",\"aud\":\"a\"}",
+            FileFault::Wrong(Field::Binding),
+        ),
+        (
+            KEYS,
+            ",\"binding\":{\"key\":\"<\",\"kid\":1,\"aud\":\"a\",\"nonce\":\"n\"}",
+            FileFault::Wrong(Field::Binding),
+        ),
+        (
+            KEYS,
+            ",\"binding\":{\"key\":\"<\",\"kid\":\"k\",\"aud\":\"a\",\"nonce\":\"n\",\"max_age\":1}",
+            FileFault::Wrong(Field::Binding),
+        ),
     ] {
         let text = format!(in alloc; "{{\"keys\":{keys}{members}}}")?;
         let text = text.replace(alloc, "<", key)?;
         let answer = read_present(alloc, text.as_bytes());
         assert_eq!(rt; answer.err(), Some(fault));
     }
-    assert_eq!(rt; read_present(alloc, b"{}").err(), Some(FileFault::Missing(Field::Keys)));
-    assert_eq!(rt; read_present(alloc, b"[]").err(), Some(FileFault::NotObject));
+    assert_eq!(rt;
+        read_present(alloc, b"{}").err(),
+        Some(FileFault::Missing(Field::Keys))
+    );
+    assert_eq!(rt;
+        read_present(alloc, b"[]").err(),
+        Some(FileFault::NotObject)
+    );
     Ok(())
 }

@@ -15,7 +15,7 @@ loop-text-preserved c =
       stand = l.stand ∙ (ap (λ w. l.done ++ w) c.in-Some.ensures.steps ∙ sym (append_assoc l.done (text ∷ []) c.next.new.self));
       counted = (let more = length-append l.done (text ∷ []) in omega (arith, more, l.counted));
       picked_is = elim c.if-has.branch [
-          then-has+in_ok-make+in_ok-push w ↦
+        | then-has+in_ok-make+in_ok-push w ↦
             let yes : s (length l.done) ≡ true = ap s (sym l.counted) ∙ (sym c.has.ensures ∙ w.if-has.true) in
             let more = picked_in s l.done text yes in
             let pushed = w.in_ok-push.ensures.ok in
@@ -28,5 +28,6 @@ loop-text-preserved c =
             let more = picked_out s l.done text no in
             let is = w.texts-is in
             let before = l.picked_is in
-            cc ];
+            cc
+      ];
     }
