@@ -13,6 +13,8 @@ use Rattle.disclosure.specs.declared.digests.HashAlg.{HashAlg}
 use Rattle.hmac_sign.specs.Signatures.{Meaning}
 use Rattle.disclosure.specs.Digest.{payload_hash}
 use Rattle.jws_part.proofs.Parts.{one_body}
+use Rattle.compact_form.proofs.Verdicts as files
+use Rattle.json_form.proofs.Tokens as tokens
 use Rattle.json_form.specs.Token.{IsToken}
 use Rattle.json_form.specs.declared.token.Token.{Token}
 use Rattle.key_binding.specs.Binding.{IsBinding}
@@ -30,7 +32,7 @@ use Rattle.holder_core.specs.declared.ask.Ask.{Ask}
 use Rattle.holder_core.specs.declared.ask.BindingAsk.{BindingAsk}
 use Rattle.holder_core.specs.declared.errors.PresentError.{PresentError}
 use Rattle.holder_core.specs.declared.errors.PresentError.TheVariants.{Memory, Token as OnCondition, HasBinding, NoSuchPlace, ConsentRefused, BindingKeyDiffers, SignFailed, TooLong}
-use Rattle.holder_core.specs.Present.{picked, shown, rules_of, IsHeld, IsAgreed, NamesKey, IsBoundWith, IsBoundAs, IsAnswer, IsNotThere, IsDenied, IsKeyOther, IsTooLong, Refuses}
+use Rattle.holder_core.specs.Present.{picked, shown, rules_of, IsHeld, IsAgreed, NamesKey, IsBoundWith, IsBoundAs, IsAnswer, IsNotThere, IsDenied, IsKeyOther, IsTooLong, Refuses, IsPresented, IsNotPresented, not_read, refused}
 
 -- the rule does not both allow and refuse a place
 abbrev pub IsDecided : {F : Type 0} → Answers F → F → Type 0
@@ -204,3 +206,24 @@ module _ {F : Type 0} (answers : Answers F) (rule : F) (decided : IsDecided answ
   one_refusal TooLong (ConsentRefused j) a b c d x y = absurd (no_denied j x.is_answer.marked y x.is_answer.agreed.held x.is_answer.agreed.allowed)
   one_refusal TooLong BindingKeyDiffers a b c d x y = absurd (no_other x.is_answer.marked y x.is_answer.agreed.held x.is_answer.key)
   one_refusal TooLong TooLong a b c d x y = refl
+
+-- ---- the same of a text
+
+module _ {F : Type 0} (answers : Answers F) (rule : F) (decided : IsDecided answers rule) (content : Text) (ask : Ask) (good : Meaning) (once : HasOneSignature good) (now : ℕ) where
+  pub one_presented : (a b : Parts) → IsPresented answers rule content ask good now a → IsPresented answers rule content ask good now b → a ≡ b
+  one_presented a b h k =
+      one_answer answers rule decided content k.token k.is_token ask good once now a b
+      (subst (λ (t : Token). IsAnswer answers rule t ask good now a) (tokens.one content h.token k.token h.is_token k.is_token) h.is_answer)
+      k.is_answer
+
+  pub presented_not_refused : (a : Parts) (e : PresentError) → IsPresented answers rule content ask good now a → length (compact a) ≤ COMPACT_MAX → IsNotPresented answers rule content ask good now e → (e ≡ Memory) ⊎ (e ≡ SignFailed)
+  presented_not_refused a e h short (not_read fault is r) = absurd (tokens.not_both content h.token fault h.is_token r)
+  presented_not_refused a e h short (refused token is r) =
+      answered_not_refused answers rule decided content token is ask good once now a e (subst (λ (t : Token). IsAnswer answers rule t ask good now a) (tokens.one content h.token token h.is_token is) h.is_answer) short r
+
+  pub one_cause : (e o : PresentError) → e ≢ Memory → e ≢ SignFailed → o ≢ Memory → o ≢ SignFailed → IsNotPresented answers rule content ask good now e → IsNotPresented answers rule content ask good now o → e ≡ o
+  one_cause e o a b c d (not_read f is r) (not_read g also q) = is ∙ (ap OnCondition (files.one_fault content f g r q) ∙ sym also)
+  one_cause e o a b c d (not_read f is r) (refused token there q) = absurd (tokens.not_both content token f there r)
+  one_cause e o a b c d (refused token there r) (not_read g is q) = absurd (tokens.not_both content token g there q)
+  one_cause e o a b c d (refused token there r) (refused other here q) =
+      one_refusal answers rule decided content other here ask good once now e o a b c d (subst (λ (t : Token). Refuses answers rule t ask good now e) (tokens.one content token other there here) r) q

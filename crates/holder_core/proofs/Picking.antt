@@ -7,26 +7,26 @@ use Rattle.claim_tree.specs.Tree.{Text}
 use Rattle.marked_tree.specs.Marked.{Marked, marked_leaf, marked_array, marked_object, MarkedElements, no_marked_elements, marked_element, MarkedMembers, no_marked_members, marked_member, remark, remark_elements, remark_members, new_mark, keep_element, keep_member, kept, prune}
 use Rattle.holder_core.specs.Present.{picked}
 
-abbrev first_if : Bool → Text → List Text → List Text
+abbrev first_if : {X : Type 0} → Bool → X → List X → List X
 first_if b x xs = if b then x ∷ xs else xs
 
-pub picked_same : (s t : ℕ → Bool) → ((i : ℕ) → s i ≡ t i) → (xs : List Text) → picked s xs ≡ picked t xs
+pub picked_same : {X : Type 0} (s t : ℕ → Bool) → ((i : ℕ) → s i ≡ t i) → (xs : List X) → picked s xs ≡ picked t xs
 picked_same s t same [] = refl
-picked_same s t same (x ∷ xs) = ap₂ (λ (b : Bool) (ys : List Text). first_if b x ys) (same 0) (picked_same (λ k. s (suc k)) (λ k. t (suc k)) (λ k. same (suc k)) xs)
+picked_same {X} s t same (x ∷ xs) = ap₂ (λ (b : Bool) (ys : List X). first_if b x ys) (same 0) (picked_same (λ k. s (suc k)) (λ k. t (suc k)) (λ k. same (suc k)) xs)
 
 -- one more behind
-abbrev last_if : Bool → Text → List Text → List Text
+abbrev last_if : {X : Type 0} → Bool → X → List X → List X
 last_if b x xs = if b then xs ++ x ∷ [] else xs
 
-pub picked_more : (s : ℕ → Bool) (xs : List Text) (x : Text) → picked s (xs ++ x ∷ []) ≡ (if s (length xs) then picked s xs ++ x ∷ [] else picked s xs)
+pub picked_more : {X : Type 0} (s : ℕ → Bool) (xs : List X) (x : X) → picked s (xs ++ x ∷ []) ≡ (if s (length xs) then picked s xs ++ x ∷ [] else picked s xs)
 picked_more s [] x = go (s 0)
   where
     go : (b : Bool) → first_if b x [] ≡ last_if b x []
     go true = refl
     go false = refl
-picked_more s (y ∷ xs) x = ap (first_if (s 0) y) (picked_more (λ k. s (suc k)) xs x) ∙ go (s 0) (s (suc (length xs))) (picked (λ k. s (suc k)) xs)
+picked_more {X} s (y ∷ xs) x = ap (first_if (s 0) y) (picked_more (λ k. s (suc k)) xs x) ∙ go (s 0) (s (suc (length xs))) (picked (λ k. s (suc k)) xs)
   where
-    go : (b c : Bool) (ys : List Text) → first_if b y (last_if c x ys) ≡ last_if c x (first_if b y ys)
+    go : (b c : Bool) (ys : List X) → first_if b y (last_if c x ys) ≡ last_if c x (first_if b y ys)
     go true true ys = refl
     go true false ys = refl
     go false true ys = refl
@@ -67,8 +67,8 @@ mutual
       ap (λ (o : Option (Option ℕ)). keep_member k o (prune m s) (remark_members (kept s) ms)) (keeps_same s t same i)
       ∙ ap₂ (λ (n : Marked) (ns : MarkedMembers). keep_member k (new_mark (kept t) i) n ns) (prune_same s t same m) (prune_members_same s t same ms)
 
-pub picked_in : (s : ℕ → Bool) (xs : List Text) (x : Text) → s (length xs) ≡ true → picked s (xs ++ x ∷ []) ≡ picked s xs ++ x ∷ []
+pub picked_in : {X : Type 0} (s : ℕ → Bool) (xs : List X) (x : X) → s (length xs) ≡ true → picked s (xs ++ x ∷ []) ≡ picked s xs ++ x ∷ []
 picked_in s xs x is = picked_more s xs x ∙ ap (λ (b : Bool). last_if b x (picked s xs)) is
 
-pub picked_out : (s : ℕ → Bool) (xs : List Text) (x : Text) → s (length xs) ≡ false → picked s (xs ++ x ∷ []) ≡ picked s xs
+pub picked_out : {X : Type 0} (s : ℕ → Bool) (xs : List X) (x : X) → s (length xs) ≡ false → picked s (xs ++ x ∷ []) ≡ picked s xs
 picked_out s xs x is = picked_more s xs x ∙ ap (λ (b : Bool). last_if b x (picked s xs)) is

@@ -29,8 +29,8 @@ use Rattle.holder_core.specs.declared.errors.PresentError.TheVariants.{Memory, T
 
 -- ---- what is presented
 
--- the texts whose places are in the set, in their order
-abbrev pub picked : (ℕ → Bool) → List Text → List Text
+-- the elements whose places are in the set, in their order
+abbrev pub picked : {X : Type 0} → (ℕ → Bool) → List X → List X
 picked s [] = []
 picked s (x ∷ xs) = if s 0 then x ∷ picked (λ k. s (suc k)) xs else picked (λ k. s (suc k)) xs
 
