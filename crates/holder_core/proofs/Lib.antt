@@ -6,3 +6,4 @@ pub mod Picking
 pub mod Steps
 pub mod PresentFiles
 pub mod OnePresentation
+pub mod PickedNumbers
