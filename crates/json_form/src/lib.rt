@@ -1,7 +1,7 @@
 //! Tokens as they come from a file, in the serializations of RFC 9901.
 //!
-//! [`read_token`] reads the compact serialization (section 4). The JSON serialization (section 8) is not read yet: a
-//! text that begins with `{` is refused as a compact text would be.
+//! [`read_token`] reads the compact serialization (section 4) and, where a text begins with `{`, the JSON ones, flattened
+//! and general (section 8). [`parse_json`] reads these alone; [`print_flat`] and [`print_general`] write them.
 #![tactic(auto)]
 
 mod entries;
