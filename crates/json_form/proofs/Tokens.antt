@@ -17,6 +17,9 @@ use Rattle.compact_form.specs.Token.{is_json, is_too_long}
 use Rattle.compact_form.proofs.Unique.{one_spelling, one_stop}
 use Rattle.compact_form.proofs.Verdicts.{clash}
 use Rattle.json_form.specs.declared.token.Token.{Token}
+use Rattle.json_form.specs.declared.token.TokenError.{TokenError}
+use Rattle.json_form.specs.declared.json_error.JsonFormError.{JsonFormError}
+use Rattle.json_form.specs.Reading.{misformed}
 use Rattle.json_form.specs.Json.{IsJson}
 use Rattle.json_form.specs.PlaceTable.{IsJsonFault}
 use Rattle.json_form.specs.Token.{Spells, spells_compact, spells_json, IsMisformed, no_compact, no_json, IsTooMuch, Fails, too_long, form, too_much, IsRefused, IsToken}
@@ -180,3 +183,14 @@ read_json text token json short said few = record { spells = spells_json json sa
     go other (too_long e h) = clash (is_too_long text) h (short_text text json short)
     go other (form p e h) = spelled_well (trimmed text) token p (spells_json json said) h
     go other (too_much t e h i) = few (subst (λ (u : Token). IsTooMuch u.parts) (one_spelled (trimmed text) t token h (spells_json json said)) i)
+
+-- ---- answers
+
+pub same_fault : (fault named : Fault) → TokenError.Fault named ≡ TokenError.Fault fault → fault ≡ named
+same_fault fault named is = cc is
+
+-- an error of a JSON text that is handed on
+pub refused_misformed : (text : List ℕ) (fault : Fault) (error : JsonFormError) → misformed error ≡ TokenError.Fault fault → is_json (trimmed text) ≡ true → length text ≤ FILE_MAX
+    → ((place : JsonPlace) → error ≡ JsonFormError.Fault place → IsJsonFault (trimmed text) place) → IsRefused text fault
+refused_misformed text fault JsonFormError.Memory is json short why = cc is
+refused_misformed text fault (JsonFormError.Fault place) is json short why = refused_form text fault place (same_fault fault (record { number = FORM; place = Json place }) is) json short (why place refl)

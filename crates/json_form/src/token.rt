@@ -54,6 +54,22 @@ impl From<Fault> for TokenError {
     }
 }
 
+impl From<JsonFormError> for TokenError {
+    ghost use Rattle.json_form.specs.Reading.{misformed};
+
+    ghost from_gives = { λ error e. e ≡ misformed error };
+
+    fn from(error: JsonFormError) -> Self {
+        match error {
+            JsonFormError::Memory => TokenError::Memory,
+            JsonFormError::Fault(place) => TokenError::Fault(Fault {
+                number: FORM,
+                place: Place::Json(place),
+            }),
+        }
+    }
+}
+
 // The token of a compact text, with the blanks around it.
 fn read_compact(alloc: Global, text: &[u8]) -> Result<Token, TokenError>
     requires plain { is_json_test (trimmed text.now) ≡ false }
@@ -66,12 +82,6 @@ fn read_compact(alloc: Global, text: &[u8]) -> Result<Token, TokenError>
         parts,
         outer: TreeMap::new(alloc),
     })
-}
-
-fn fault_at(number: u8, place: Place) -> TokenError
-    ensures { result ≡ TokenError.Fault record { number = number; place = place } }
-{
-    TokenError::Fault(Fault { number, place })
 }
 
 // Whether the parts are more than a token may have.
@@ -95,15 +105,17 @@ fn read_json(alloc: Global, text: &[u8], json: &[u8]) -> Result<Token, TokenErro
     ensures refused { (fault : TheFault) → IsErrOf result (TokenError.Fault fault) → IsRefused text.now fault }
 {
     if text.len() > FILE_MAX {
-        return Err(fault_at(TOO_LONG, Place::Nowhere));
+        return Err(TokenError::Fault(Fault {
+            number: TOO_LONG,
+            place: Place::Nowhere,
+        }));
     }
-    let token = match parse_json(alloc, json) {
-        Ok(token) => token,
-        Err(JsonFormError::Memory) => return Err(TokenError::Memory),
-        Err(JsonFormError::Fault(place)) => return Err(fault_at(FORM, Place::Json(place))),
-    };
+    let token = parse_json(alloc, json)?;
     if is_too_much(alloc, &token.parts)? {
-        return Err(fault_at(TOO_MUCH, Place::Nowhere));
+        return Err(TokenError::Fault(Fault {
+            number: TOO_MUCH,
+            place: Place::Nowhere,
+        }));
     }
     Ok(token)
 }
