@@ -1,7 +1,6 @@
 -- Lists of entries, and the stray ones among them.
-use Rattle.std.proofs.Common.{◌≡◌, ℕ, ◌<◌, ◌≤◌, true, false, List, [], ◌∷◌, ◌&&◌, length, get_or, Some, None, refl, sym, ap, ◌∙◌, arith}
+use Rattle.std.proofs.Common.{◌≡◌, ℕ, ◌<◌, ◌≤◌, true, false, List, [], ◌∷◌, ◌&&◌, length, get_or, Some, None, refl, sym, ap, ◌∙◌}
 use Rattle.std.specs.List.{list_all}
-use Rattle.claim_tree.specs.Tree as spec
 use Rattle.claim_tree.specs.Tree.{element_at, get}
 use Rattle.claim_tree.specs.View.{tree_of, elements_of}
 use Rattle.claim_tree.specs.declared.tree.Tree as tree

@@ -1,5 +1,5 @@
 -- Members under their names, found and taken out.
-use Rattle.std.proofs.Common.{◌≡◌, ◌≢◌, Bool, true, false, ◌||◌, Option, Some, None, bytes_eq, refl, sym, ap, ◌∙◌}
+use Rattle.std.proofs.Common.{◌≡◌, ◌≢◌, Bool, false, ◌||◌, Some, None, bytes_eq, sym, ap, ◌∙◌}
 use Rattle.std.specs.Option.{is_some}
 use Rattle.claim_tree.specs.Tree as spec
 use Rattle.claim_tree.specs.Tree.{Text, Members, object, member_named}
@@ -9,7 +9,7 @@ use Rattle.claim_tree.specs.declared.tree.Tree as tree
 use Rattle.claim_tree.proofs.OtherMembers.{named_other, removed_absent}
 use Rattle.compact_form.specs.PartWords.{word_of}
 use Rattle.compact_form.specs.declared.fault.Part.{Part}
-use Rattle.compact_form.specs.declared.fault.Part.TheVariants.{Protected, Signature, Signatures, Header}
+use Rattle.compact_form.specs.declared.fault.Part.TheVariants.{Protected, Signature, Header}
 use Rattle.json_form.specs.Json.{found, has, has_beside}
 
 pub found_here : (ms : Members) (part : Part) (word : Text) (t : spec.Tree) → word ≡ word_of part → Some t ≡ member_named ms word → found ms part ≡ Some t

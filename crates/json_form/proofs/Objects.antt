@@ -1,7 +1,6 @@
 -- An object says a token, or fails by a first place.
-use Rattle.std.proofs.Common.{◌≡◌, ◌≢◌, ℕ, ◌<◌, ◌≤◌, true, false, List, [], ◌∷◌, Option, Some, None, inl, inr, refl, sym, ap, subst, ◌∙◌, arith}
+use Rattle.std.proofs.Common.{◌≡◌, ◌≢◌, ℕ, ◌≤◌, true, false, Some, None, inl, inr, refl, sym, ap, subst, ◌∙◌, arith}
 use Rattle.std.proofs.lemmas.Bool.{cases_lt}
-use Rattle.claim_tree.specs.Tree as spec
 use Rattle.claim_tree.specs.Tree.{Text, Tree, array, object, Elements, element, Members}
 use Rattle.claim_tree.specs.Removed.{removed}
 use Rattle.claim_tree.specs.FileForms.{Says}
@@ -15,11 +14,11 @@ use Rattle.compact_form.specs.declared.fault.JsonPlace.{JsonPlace}
 use Rattle.compact_form.specs.declared.fault.JsonPlace.TheVariants.{NotJson, NotWhole, NotObject, Wrong, Stray}
 use Rattle.json_form.specs.declared.token.Token.{Token}
 use Rattle.json_form.specs.declared.entries.Entries.{Entries}
-use Rattle.json_form.specs.Json.{found, has_beside, IsWordTree, AreEntries, IsStray, EntrySays, IsFlat, IsGeneral, IsJson}
+use Rattle.json_form.specs.Json.{found, has_beside, IsWordTree, AreEntries, IsStray, EntrySays, IsJson}
 use Rattle.json_form.specs.PlaceTable.{row_of, IsNoWord, IsEntry, flat, first, AreNoEntries, no_list, beside, EntryApplies, MembersApply, payload, signatures, entry, stray, Applies, not_json, not_whole, not_object, members, IsFirst, IsJsonFault}
 use Rattle.json_form.specs.Reading.{IsFirstStray, ListHas, HasEntries, itself, listed, MembersSay}
 use Rattle.json_form.proofs.Members.{found_other, beside_kept}
-use Rattle.json_form.proofs.SayOrFail.{says_word, row_no_word, no_word_at, SameEntry, back, first_at, entry_says_at, lower, upper, entry_says}
+use Rattle.json_form.proofs.SayOrFail.{says_word, row_no_word, SameEntry, first_at, entry_says_at, lower, upper, entry_says}
 
 -- ---- the entries of an object
 
@@ -232,19 +231,19 @@ json_of bytes ms token reads says = go says.has
     go (itself none is unstray) = inl (record { members = ms; reads = reads; flat = none; payload = says.payload; entry = subst (λ (us : Members). EntrySays us token) is says.entry })
     go (listed list at has alone) =
         inr (
-          record {
-            members = ms;
-            reads = reads;
-            first = says.entries.first;
-            later = has.later;
-            list = list;
-            general = at;
-            entries = has.are;
-            alone = alone;
-            payload = says.payload;
-            entry = says.entry;
-            no_stray = subst (IsFirstStray (element (object says.entries.first) has.later)) says.none_stray has.stray;
-          }
+        record {
+          members = ms;
+          reads = reads;
+          first = says.entries.first;
+          later = has.later;
+          list = list;
+          general = at;
+          entries = has.are;
+          alone = alone;
+          payload = says.payload;
+          entry = says.entry;
+          no_stray = subst (IsFirstStray (element (object says.entries.first) has.later)) says.none_stray has.stray;
+        }
         )
 
 -- what a text says, by its members

@@ -1,9 +1,8 @@
 -- A text says one token, or fails at one first place.
-use Rattle.std.proofs.Common.{◌≡◌, ℕ, ◌≤◌, ◌++◌, List, [], Option, Some, None, ◌==◌, if◌then◌else◌, refl, sym, ap, subst, ◌∙◌, arith}
-use Rattle.claim_tree.specs.Tree.{Text, text, Tree, leaf, array, object, Elements, element, Members, no_members}
+use Rattle.std.proofs.Common.{◌≡◌, ℕ, List, [], Option, Some, None, ◌==◌, if◌then◌else◌, refl, sym, ap, subst, ◌∙◌, arith}
+use Rattle.claim_tree.specs.Tree.{Text, text, Tree, leaf, array, object, element, Members, no_members}
 use Rattle.claim_tree.specs.Removed.{removed}
 use Rattle.claim_tree.specs.FileForms.{MaySay, SaysOr}
-use Rattle.claim_tree.specs.JsonText.{Reads}
 use Rattle.claim_tree.proofs.FileVerdicts.{SaysOne, says_one, may_say_one, says_or_one, one_texts, is_json, is_whole, one_cause}
 use Rattle.claim_tree.proofs.OneTree.{one_tree}
 use Rattle.compact_form.specs.Compact.{jwt, HasWords, compact, IsCompact}
@@ -11,17 +10,16 @@ use Rattle.compact_form.specs.PartWords.{word_of}
 use Rattle.compact_form.specs.declared.parts.JwtParts.{JwtParts}
 use Rattle.compact_form.specs.declared.parts.Parts.{Parts}
 use Rattle.compact_form.specs.declared.fault.Part.{Part}
-use Rattle.compact_form.specs.declared.fault.Part.TheVariants.{Payload, Protected, Signature, Signatures, Header, Disclosures, KbJwt}
+use Rattle.compact_form.specs.declared.fault.Part.TheVariants.{Payload, Protected, Signature, Header, Disclosures, KbJwt}
 use Rattle.compact_form.specs.declared.fault.JsonPlace.{JsonPlace}
 use Rattle.compact_form.specs.declared.fault.JsonPlace.TheVariants.{Missing, Wrong, Stray}
 use Rattle.compact_form.proofs.Unique.{one_spelling}
 use Rattle.json_form.specs.declared.token.Token.{Token}
-use Rattle.json_form.specs.declared.entries.Entries.{Entries}
 use Rattle.json_form.specs.Json.{found, IsWordTree, AreWordTrees, IsJwtTree, IsObject, EntrySays, IsJson}
-use Rattle.json_form.specs.PlaceTable.{row_of, IsNoWord, missing, other, IsWrong, IsEntry, flat, first, EntryApplies, protected, signature, header, disclosures, kb_jwt, MembersApply, payload, signatures, entry, stray, Applies, not_json, not_whole, not_object, members, IsFirst, IsJsonFault}
+use Rattle.json_form.specs.PlaceTable.{row_of, IsNoWord, missing, other, IsEntry, flat, first, EntryApplies, protected, signature, header, disclosures, kb_jwt, MembersApply, payload, signatures, entry, stray, Applies, not_json, not_whole, not_object, members, IsJsonFault}
 use Rattle.json_form.specs.Reading.{MembersSay}
 use Rattle.json_form.proofs.SayOrFail.{row_no_word, row_wrong, lower, upper}
-use Rattle.json_form.proofs.Objects.{one_entry, is_entry, one_object, from_payload, of_json, says_nothing_wrong}
+use Rattle.json_form.proofs.Objects.{one_entry, is_entry, one_object, of_json, says_nothing_wrong}
 
 -- ---- one value
 
@@ -76,14 +74,14 @@ one_said e t u h k same =
     let a = h.says in
     let b = subst (λ (ms : Members). SaysOr AreWordTrees [] (found ms Disclosures) u.parts.disclosures) (sym headers) k.says.disclosures in
     same_token t u (
-      record {
-        payload = same;
-        protected = says_one IsWordTree (found e Protected) t.parts.signed.protected u.parts.signed.protected one_word h.protected k.protected;
-        signature = says_one IsWordTree (found e Signature) t.parts.signed.signature u.parts.signed.signature one_word h.signature k.signature;
-        disclosures = says_or_one AreWordTrees [] (found h.header Disclosures) t.parts.disclosures u.parts.disclosures one_list a.disclosures b;
-        binding = may_say_one IsJwtTree (found h.header KbJwt) t.parts.binding u.parts.binding one_jwt a.binding (subst (λ (ms : Members). MaySay IsJwtTree (found ms KbJwt) u.parts.binding) (sym headers) k.says.binding);
-        outer = a.outer ∙ ap (λ (ms : Members). removed (removed ms (word_of Disclosures)) (word_of KbJwt)) headers ∙ sym k.says.outer;
-      }
+    record {
+      payload = same;
+      protected = says_one IsWordTree (found e Protected) t.parts.signed.protected u.parts.signed.protected one_word h.protected k.protected;
+      signature = says_one IsWordTree (found e Signature) t.parts.signed.signature u.parts.signed.signature one_word h.signature k.signature;
+      disclosures = says_or_one AreWordTrees [] (found h.header Disclosures) t.parts.disclosures u.parts.disclosures one_list a.disclosures b;
+      binding = may_say_one IsJwtTree (found h.header KbJwt) t.parts.binding u.parts.binding one_jwt a.binding (subst (λ (ms : Members). MaySay IsJwtTree (found ms KbJwt) u.parts.binding) (sym headers) k.says.binding);
+      outer = a.outer ∙ ap (λ (ms : Members). removed (removed ms (word_of Disclosures)) (word_of KbJwt)) headers ∙ sym k.says.outer;
+    }
     )
 
 one_of_members : (ms : Members) (t u : Token) → MembersSay ms t → MembersSay ms u → t ≡ u

@@ -1,17 +1,15 @@
 -- A member says its value, or fails by it, and never both.
-use Rattle.std.proofs.Common.{◌≡◌, ℕ, ◌≤◌, List, [], Option, Some, None, Result, Err, bytes_eq, refl, sym, ap, subst, ◌∙◌, arith}
-use Rattle.claim_tree.specs.Tree as spec
+use Rattle.std.proofs.Common.{◌≡◌, ◌≤◌, List, [], Option, Some, None, Result, Err, refl, sym, ap, subst, ◌∙◌, arith}
 use Rattle.claim_tree.specs.Tree.{Text, Tree, object, Members, no_members}
 use Rattle.claim_tree.specs.Removed.{removed}
 use Rattle.claim_tree.specs.FileForms.{Says, MaySay, SaysOr}
 use Rattle.compact_form.specs.PartWords.{word_of}
-use Rattle.compact_form.specs.declared.parts.JwtParts.{JwtParts}
 use Rattle.compact_form.specs.declared.fault.Part.{Part}
 use Rattle.compact_form.specs.declared.fault.Part.TheVariants.{Protected, Signature, Header, Disclosures, KbJwt}
 use Rattle.compact_form.specs.declared.fault.JsonPlace.{JsonPlace}
 use Rattle.json_form.specs.declared.token.Token.{Token}
 use Rattle.json_form.specs.declared.json_error.JsonFormError.{JsonFormError}
-use Rattle.json_form.specs.Json.{found, IsWordTree, AreWordTrees, IsJwtTree, IsObject, HeaderSays, EntrySays}
+use Rattle.json_form.specs.Json.{found, IsWordTree, AreWordTrees, IsJwtTree, IsObject, EntrySays}
 use Rattle.json_form.specs.PlaceTable.{part_row, row_of, IsNoWord, missing, other, IsWrong, EntryApplies, protected, signature, header, disclosures, kb_jwt, IsFirst}
 use Rattle.json_form.proofs.Members.{found_other}
 

@@ -1,5 +1,5 @@
 -- Lists of base64url words.
-use Rattle.std.proofs.Common.{◌≡◌, ℕ, List, [], ◌∷◌, ◌++◌, refl, sym, ap, subst, ◌∙◌}
+use Rattle.std.proofs.Common.{◌≡◌, List, [], ◌∷◌, ◌++◌, sym, ap, ◌∙◌}
 use Rattle.std.specs.List.{AllByRecursion}
 use Rattle.b64url_text.specs.Base64url.{IsWord}
 use Rattle.claim_tree.specs.Tree as spec

@@ -1,11 +1,11 @@
 -- What is written of a token says it, and what says a token can be written.
-use Rattle.std.proofs.Common.{◌≡◌, ℕ, zero, suc, ◌+◌, ◌<◌, ◌≤◌, max, List, [], ◌∷◌, ◌++◌, take, length, get_or, Option, Some, None, IfSome, refl, sym, ap, subst, ◌∙◌, arith}
+use Rattle.std.proofs.Common.{◌≡◌, ℕ, zero, suc, ◌+◌, ◌≤◌, max, List, [], ◌∷◌, ◌++◌, take, Option, Some, None, IfSome, refl, sym, ap, subst, ◌∙◌, arith}
 use Rattle.std.specs.Prelude.{slice_get}
 use Rattle.std.specs.List.{AllByRecursion}
 use Rattle.std.proofs.lemmas.List.{take_more}
 use Rattle.std.proofs.lemmas.Option.{slice_get_within, get_or_from_slice_get}
 use Rattle.b64url_text.specs.Base64url.{IsWord}
-use Rattle.claim_tree.specs.Tree.{Text, text, Tree, leaf, array, object, Elements, no_elements, element, Members, no_members, member, depth, elements_depth, members_depth, IsRanged, ElementsRanged, MembersRanged, inserted, member_named, pushed}
+use Rattle.claim_tree.specs.Tree.{Text, text, Tree, leaf, array, object, no_elements, element, Members, no_members, member, depth, elements_depth, members_depth, IsRanged, ElementsRanged, MembersRanged, pushed}
 use Rattle.claim_tree.specs.Removed.{removed}
 use Rattle.claim_tree.specs.FileForms.{Says, MaySay, SaysOr, text_elements}
 use Rattle.claim_tree.specs.JsonText.{Reads}
@@ -13,13 +13,13 @@ use Rattle.claim_tree.proofs.Datas.{MembersRanged-inserted}
 use Rattle.claim_tree.proofs.FileMembers.{text_elements-push}
 use Rattle.claim_tree.proofs.Inner.{ranged-member_named}
 use Rattle.claim_tree.proofs.OtherMembers.{named_other, named_gone, removed_absent, ranged-removed, depth-removed, depth-member_named, named_inserted, other_inserted, removed_inserted, depth-inserted}
-use Rattle.compact_form.specs.Compact.{jwt, HasWords, AreWords}
+use Rattle.compact_form.specs.Compact.{jwt, HasWords}
 use Rattle.compact_form.specs.PartWords.{word_of}
 use Rattle.compact_form.specs.declared.parts.JwtParts.{JwtParts}
 use Rattle.compact_form.specs.declared.fault.Part.TheVariants.{Payload, Protected, Signature, Signatures, Header, Disclosures, KbJwt}
 use Rattle.json_form.specs.declared.token.Token.{Token}
 use Rattle.json_form.specs.declared.entries.Entries.{Entries}
-use Rattle.json_form.specs.Json.{found, IsWordTree, AreWordTrees, IsJwtTree, IsObject, HeaderSays, EntrySays, IsStray, IsFlat, IsGeneral}
+use Rattle.json_form.specs.Json.{found, IsWordTree, AreWordTrees, IsJwtTree, IsObject, HeaderSays, IsStray, IsFlat, IsGeneral}
 use Rattle.json_form.specs.Reading.{HasEntries, itself, listed, MembersSay}
 use Rattle.json_form.specs.Written.{IsPrintable, with_binding, header_of, flat_of, entry_of, general_of}
 
@@ -62,9 +62,9 @@ header_says token good =
       disclosures = subst (λ t. SaysOr AreWordTrees [] t token.parts.disclosures) (sym (named_inserted more (word_of Disclosures) list)) (record { are = refl; words = good.words.disclosures });
       binding = subst (λ t. MaySay IsJwtTree t token.parts.binding) (sym kept) (binding_said token.parts.binding token.outer good.no_binding good.words.binding);
       outer = sym (
-        ap (λ (ms : Members). removed ms (word_of KbJwt)) (removed_inserted more (word_of Disclosures) list (binding_disclosures token.parts.binding token.outer good.no_disclosures))
-        ∙ binding_out token.parts.binding token.outer good.no_binding
-      );
+          ap (λ (ms : Members). removed ms (word_of KbJwt)) (removed_inserted more (word_of Disclosures) list (binding_disclosures token.parts.binding token.outer good.no_disclosures))
+          ∙ binding_out token.parts.binding token.outer good.no_binding
+          );
     }
 
 binding_depth : (b : Option JwtParts) (ms : Members) → members_depth (with_binding b ms) ≤ members_depth ms
@@ -101,10 +101,10 @@ pub flat_says : (token : Token) (bytes : Text) → IsPrintable token → Reads b
 flat_says token bytes good reads =
     record {
       members = member (word_of Header) (object (header_of token)) (
-        member (word_of Payload) (leaf (text token.parts.signed.payload)) (
+          member (word_of Payload) (leaf (text token.parts.signed.payload)) (
           member (word_of Protected) (leaf (text token.parts.signed.protected)) (member (word_of Signature) (leaf (text token.parts.signed.signature)) no_members)
-        )
-      );
+          )
+          );
       reads = reads;
       flat = refl;
       payload = record { is = refl; word = good.words.signed.payload };

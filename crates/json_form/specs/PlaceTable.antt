@@ -1,5 +1,5 @@
 -- The places at which a text fails to be a JSON serialization, in the order in which they are judged.
-use Rattle.std.specs.Prelude.{◌≡◌, ◌≢◌, ◌≤◌, ◌+◌, ℕ, true, Option, Some, None}
+use Rattle.std.specs.Prelude.{◌≡◌, ◌≢◌, ◌≤◌, ◌+◌, ℕ, true, Some, None}
 use Rattle.claim_tree.specs.Tree.{Text, Tree, array, object, Elements, element, Members}
 use Rattle.claim_tree.specs.FileForms.{HasValue}
 use Rattle.claim_tree.specs.JsonText.{Reads, IsNotJson, IsNotWhole}

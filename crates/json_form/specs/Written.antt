@@ -29,18 +29,18 @@ header_of token = inserted (with_binding token.parts.binding token.outer) (word_
 abbrev pub flat_of : Token → Tree
 flat_of token =
     object (
-      member (word_of Header) (object (header_of token)) (
-        member (word_of Payload) (leaf (text token.parts.signed.payload)) (
-          member (word_of Protected) (leaf (text token.parts.signed.protected)) (member (word_of Signature) (leaf (text token.parts.signed.signature)) no_members)
-        )
-      )
+    member (word_of Header) (object (header_of token)) (
+    member (word_of Payload) (leaf (text token.parts.signed.payload)) (
+    member (word_of Protected) (leaf (text token.parts.signed.protected)) (member (word_of Signature) (leaf (text token.parts.signed.signature)) no_members)
+    )
+    )
     )
 
 -- what belongs to the one signature
 abbrev pub entry_of : Token → Members
 entry_of token =
     member (word_of Header) (object (header_of token)) (
-      member (word_of Protected) (leaf (text token.parts.signed.protected)) (member (word_of Signature) (leaf (text token.parts.signed.signature)) no_members)
+    member (word_of Protected) (leaf (text token.parts.signed.protected)) (member (word_of Signature) (leaf (text token.parts.signed.signature)) no_members)
     )
 
 abbrev pub general_of : Token → Tree

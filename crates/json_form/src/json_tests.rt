@@ -264,9 +264,16 @@ fn a_deep_header_is_written_and_may_not_be_read_back(rt: HostRuntime) -> Result<
             return Err("refused".into());
         };
         let flat = print_flat(alloc, &token)?;
-        assert!(rt; parse_json(alloc, flat.as_str().as_bytes()).is_ok(), "{depth}");
+        assert!(rt;
+            parse_json(alloc, flat.as_str().as_bytes()).is_ok(),
+            "{depth}"
+        );
         let general = print_general(alloc, &token)?;
-        assert_eq!(rt; parse_json(alloc, general.as_str().as_bytes()).is_ok(), is_read, "{depth}");
+        assert_eq!(rt;
+            parse_json(alloc, general.as_str().as_bytes()).is_ok(),
+            is_read,
+            "{depth}"
+        );
     }
     let text = nested_text(alloc, 126)?;
     let refused = parse_json(alloc, text.as_bytes()).err();

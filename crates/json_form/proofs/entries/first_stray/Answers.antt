@@ -16,12 +16,12 @@ pub loop-place-preserved : goal.loop-place-preserved
 loop-place-preserved c = (
   omega (arith, c.loop-place.invariant.0),
   λ earlier less stray.
-    elim (cases_lt earlier c.loop-place.place) [
-      | inl low ↦ c.loop-place.invariant.1 earlier low stray
-      | inr high ↦
-        let same : earlier ≡ c.loop-place.place = omega (arith, less, high) in
-        not_here c.args.entries.now c.loop-place.place c.index-entries-place.result c.loop-place-test.true c.index-entries-place.is (sym c.is_odd.ensures ∙ c.if-is_odd.false) (subst (IsStray (elements_of c.args.entries.now)) same stray)
-    ],
+      elim (cases_lt earlier c.loop-place.place) [
+        | inl low ↦ c.loop-place.invariant.1 earlier low stray
+        | inr high ↦
+            let same : earlier ≡ c.loop-place.place = omega (arith, less, high) in
+            not_here c.args.entries.now c.loop-place.place c.index-entries-place.result c.loop-place-test.true c.index-entries-place.is (sym c.is_odd.ensures ∙ c.if-is_odd.false) (subst (IsStray (elements_of c.args.entries.now)) same stray)
+      ],
 )
 
 pub returns : goal.returns

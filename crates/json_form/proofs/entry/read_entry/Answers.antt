@@ -1,11 +1,11 @@
-use Rattle.std.proofs.Common.{◌≡◌, Err, refl, sym, ap, subst, ◌∙◌}
+use Rattle.std.proofs.Common.{Err, ap, subst, ◌∙◌}
 use Rattle.std.proofs.lemmas.Result.{err_from_is_err_and}
 use Rattle.claim_tree.specs.Tree.{Members, no_members}
 use Rattle.claim_tree.specs.FileForms.{Says, SaysOr, MaySay}
 use Rattle.claim_tree.specs.Removed.{removed}
 use Rattle.compact_form.specs.PartWords.{word_of}
-use Rattle.compact_form.specs.declared.fault.Part.TheVariants.{Protected, Signature, Header, Disclosures, KbJwt}
-use Rattle.json_form.specs.Json.{found, IsWordTree, IsJwtTree, IsObject}
+use Rattle.compact_form.specs.declared.fault.Part.TheVariants.{Protected, Signature, Header, KbJwt}
+use Rattle.json_form.specs.Json.{IsWordTree, IsJwtTree, IsObject}
 use Rattle.json_form.specs.PlaceTable.{IsNoWord, IsWrong}
 use Rattle.json_form.proofs.SayOrFail.{Taken, HasBoth, signature_kept, header_kept, binding_kept, no_word_at, wrong_at, same_place, same_error, first_protected, first_signature, first_header, first_disclosures, first_kb_jwt}
 use Rattle.json_form.proofs.entry.read_entry.Goals as goal

@@ -1,4 +1,4 @@
-use Rattle.std.proofs.Common.{◌≡◌, ◌≤◌, Err, refl, sym, ap, subst, ◌∙◌}
+use Rattle.std.proofs.Common.{◌≡◌, ◌≤◌, sym, subst}
 use Rattle.std.proofs.lemmas.Result.{IfOk-weaker}
 use Rattle.claim_tree.specs.Tree.{depth, IsRanged}
 use Rattle.claim_tree.specs.View.{tree_of}
@@ -18,8 +18,8 @@ returns-in_default c =
       ok = tt;
       printable = tt;
       fault = λ place is.
-        let named : NotObject ≡ place = cc is in
-        first_not_object c.args.text.now (tree_of c.in_ok-members.field-0) place (sym named) c.in_ok-members.ensures.ok (no_object c.in_ok-members.field-0 c.in_default.not-Object);
+          let named : NotObject ≡ place = cc is in
+          first_not_object c.args.text.now (tree_of c.in_ok-members.field-0) place (sym named) c.in_ok-members.ensures.ok (no_object c.in_ok-members.field-0 c.in_default.not-Object);
     }
 
 pub returns-clause-ok : goal.returns-clause-ok

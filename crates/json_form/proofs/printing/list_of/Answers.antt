@@ -1,6 +1,5 @@
-use Rattle.std.proofs.Common.{◌≡◌, Some, take, ap, sym, ◌∙◌}
+use Rattle.std.proofs.Common.{◌≡◌, ap, sym, ◌∙◌}
 use Rattle.std.specs.Option.{option_copied}
-use Rattle.claim_tree.specs.Tree.{leaf, text, pushed}
 use Rattle.json_form.proofs.WrittenForms.{texts_turn}
 use Rattle.json_form.proofs.printing.list_of.Goals as goal
 
