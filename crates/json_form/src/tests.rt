@@ -20,7 +20,8 @@ fn a_compact_token_has_its_parts_and_no_outer_members(rt: HostRuntime) -> Result
 #[test]
 fn each_form_is_read_and_written_flattened(rt: HostRuntime) -> Result<(), Fail> {
     let alloc = rt.alloc();
-    let flat = r#"{"header":{"disclosures":["d"],"kb_jwt":"e.f.g"},"payload":"b","protected":"a","signature":"c"}"#;
+    let flat =
+        r#"{"header":{"disclosures":["d"],"kb_jwt":"e.f.g"},"payload":"b","protected":"a","signature":"c"}"#;
     for text in [
         "\r\n a.b.c~d~e.f.g\t",
         "\n {\"protected\":\"a\",\"payload\":\"b\",\"signature\":\"c\",\"header\":{\"kb_jwt\":\"e.f.g\",\"disclosures\":[\"d\"]}} ",
@@ -97,8 +98,15 @@ fn limits_are_judged_at_their_last_byte(rt: HostRuntime) -> Result<(), Fail> {
     ] {
         let text = long_text(alloc, payload, count, blanks)?;
         let fault = fault_of(alloc, text.as_str());
-        assert_eq!(rt; fault.map(|fault| fault.number), number, "{payload} {count} {blanks}");
-        assert_eq!(rt; read_token(alloc, text.as_bytes()).is_ok(), number.is_none());
+        assert_eq!(rt;
+            fault.map(|fault| fault.number),
+            number,
+            "{payload} {count} {blanks}"
+        );
+        assert_eq!(rt;
+            read_token(alloc, text.as_bytes()).is_ok(),
+            number.is_none()
+        );
     }
     Ok(())
 }
