@@ -64,18 +64,18 @@ fn other_texts_are_refused(rt: HostRuntime) -> Result<(), Fail> {
     Ok(())
 }
 
-// A flattened text with a payload of so many bytes, so many disclosures of one byte, and so many blanks behind it.
-fn long_text(alloc: Global, payload: usize, count: usize, blanks: usize) -> Result<String, Fail> {
+// A flattened text with a payload of so many bytes and so many disclosures of one byte, and blanks up to a length.
+fn long_text(alloc: Global, payload: usize, count: usize, len: usize) -> Result<String, Fail> {
     let mut text = String::from_str(alloc, r#"{"header":{"disclosures":["#)?;
-    for i in 0..count {
-        text.push_str(if i == 0 { "\"d\"" } else { ",\"d\"" })?;
+    for _ in 0..count {
+        text.push_str("\"d\",")?;
     }
-    text.push_str(r#"]},"protected":"a","signature":"c","payload":""#)?;
+    text.push_str(r#""d"]},"protected":"a","signature":"c","payload":""#)?;
     for _ in 0..payload {
         text.push('b')?;
     }
     text.push_str("\"}")?;
-    for _ in 0..blanks {
+    for _ in text.len()..len {
         text.push(' ')?;
     }
     Ok(text)
@@ -84,29 +84,22 @@ fn long_text(alloc: Global, payload: usize, count: usize, blanks: usize) -> Resu
 #[test]
 fn limits_are_judged_at_their_last_byte(rt: HostRuntime) -> Result<(), Fail> {
     let alloc = rt.alloc();
-    let short = long_text(alloc, 1, 0, 0)?.len();
-    for (payload, count, blanks, number) in [
-        (1, 0, FILE_MAX - short, None),
-        (1, 0, FILE_MAX - short + 1, Some(TOO_LONG)),
-        (0, 0, FILE_MAX - short + 2, Some(TOO_LONG)),
-        // a compact text `a.`, the payload, `.c~`
-        (COMPACT_MAX - 5, 0, 0, None),
-        (COMPACT_MAX - 4, 0, 0, Some(TOO_MUCH)),
-        (0, COUNT_MAX + 1, 0, Some(FORM)),
-        (1, COUNT_MAX, 0, None),
-        (1, COUNT_MAX + 1, 0, Some(TOO_MUCH)),
+    // the compact text is `a.`, the payload, `.c~` and `d~` for each disclosure
+    for (payload, count, len, number) in [
+        (1, 0, FILE_MAX, 0),
+        (1, 0, FILE_MAX + 1, TOO_LONG),
+        (0, 0, FILE_MAX + 1, TOO_LONG),
+        (COMPACT_MAX - 7, 0, 0, 0),
+        (COMPACT_MAX - 6, 0, 0, TOO_MUCH),
+        (1, COUNT_MAX - 1, 0, 0),
+        (1, COUNT_MAX, 0, TOO_MUCH),
+        (0, COUNT_MAX, 0, FORM),
     ] {
-        let text = long_text(alloc, payload, count, blanks)?;
+        let text = long_text(alloc, payload, count, len)?;
         let fault = fault_of(alloc, text.as_str());
-        assert_eq!(rt;
-            fault.map(|fault| fault.number),
-            number,
-            "{payload} {count} {blanks}"
-        );
-        assert_eq!(rt;
-            read_token(alloc, text.as_bytes()).is_ok(),
-            number.is_none()
-        );
+        let found = fault.map_or(0, |fault| fault.number);
+        assert_eq!(rt; found, number, "{payload} {count} {len}");
+        assert_eq!(rt; read_token(alloc, text.as_bytes()).is_ok(), number == 0);
     }
     Ok(())
 }
