@@ -18,3 +18,4 @@ mod Examples
 pub mod MemberNames
 pub mod FileMembers
 pub mod FileVerdicts
+pub mod ListForms
