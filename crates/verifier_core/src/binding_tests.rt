@@ -52,37 +52,121 @@ fn judged(
     verdict(alloc, whole.as_str(), ONE, BINDING, 1000)
 }
 
-// A payload, a header and claims, and the verdict: a line each, with blanks between.
-const CASES: &str =
-    r##"{"cnf":{"kid":"two"}} {"alg":"HS256","typ":"kb+jwt"} {"aud":"v","iat":1000,"nonce":"n","sd_hash":"#"} 0 {"cnf":{"kid":"two"}}
-{} [] [] refused 27 holderKeyUnknown
-{"cnf":{"kid":"one"}} {"alg":"HS256","typ":"kb+jwt"} {} refused 27 holderKeyUnknown
-{"cnf":{"kid":2}} {"alg":"HS256","typ":"kb+jwt"} {} refused 27 holderKeyUnknown
-{"cnf":"two"} {"alg":"HS256","typ":"kb+jwt"} {} refused 27 holderKeyUnknown
-{"cnf":{"kid":"two"}} [] [] refused 28 bindingHeader
-{"cnf":{"kid":"two"}} {"alg":"HS256","crit":[]} [] refused 28 bindingHeader
-{"cnf":{"kid":"two"}} {"alg":"none","typ":"kb+jwt"} [] refused 29 bindingAlg
-{"cnf":{"kid":"two"}} {"alg":"HS256"} {} refused 31 bindingType
-{"cnf":{"kid":"two"}} {"alg":"HS256","typ":"KB+JWT"} [] refused 31 bindingType
-{"cnf":{"kid":"two"}} {"alg":"HS256","typ":"kb+jwt"} [] refused 32 bindingPayload
-{"cnf":{"kid":"two"}} {"alg":"HS256","typ":"kb+jwt"} {"aud":"v","iat":"1000","nonce":"n","sd_hash":"#"} refused 32 bindingPayload
-{"cnf":{"kid":"two"}} {"alg":"HS256","typ":"kb+jwt"} {"iat":1,"nonce":"n","sd_hash":"#"} refused 32 bindingPayload
-{"cnf":{"kid":"two"}} {"alg":"HS256","typ":"kb+jwt"} {"aud":"w","iat":1000,"nonce":"m","sd_hash":"#"} refused 35 nonceDiffers
-{"cnf":{"kid":"two"}} {"alg":"HS256","typ":"kb+jwt"} {"aud":"w","iat":1000,"nonce":"n","sd_hash":""} refused 36 audienceDiffers
-{"cnf":{"kid":"two"}} {"alg":"HS256","typ":"kb+jwt"} {"aud":"v","exp":1,"iat":1000,"nonce":"n","sd_hash":"#="} refused 37 hashDiffers"##;
-
 #[test]
 fn a_key_binding_token_is_judged(rt: HostRuntime) -> Result<(), Fail> {
     let alloc = rt.alloc();
-    for line in CASES.split('\n') {
-        let (payload, rest) = line.split_once(' ').ok_or("no payload")?;
-        let (header, rest) = rest.split_once(' ').ok_or("no header")?;
-        let (claims, answer) = rest.split_once(' ').ok_or("no claims")?;
+    for (payload, header, claims, answer) in [
+        (HOLDER, HEADER, CLAIMS, r#"0 {"cnf":{"kid":"two"}}"#),
+        ("{}", "[]", "[]", "refused 27 holderKeyUnknown"),
+        (
+            r#"{"cnf":{"kid":"one"}}"#,
+            HEADER,
+            CLAIMS,
+            "refused 27 holderKeyUnknown",
+        ),
+        (
+            r#"{"cnf":"two"}"#,
+            HEADER,
+            CLAIMS,
+            "refused 27 holderKeyUnknown",
+        ),
+        (HOLDER, "[]", "[]", "refused 28 bindingHeader"),
+        (
+            HOLDER,
+            r#"{"alg":"HS256","crit":[]}"#,
+            "[]",
+            "refused 28 bindingHeader",
+        ),
+        (
+            HOLDER,
+            r#"{"alg":"none","typ":"kb+jwt"}"#,
+            "[]",
+            "refused 29 bindingAlg",
+        ),
+        (HOLDER, HS256, CLAIMS, "refused 31 bindingType"),
+        (
+            HOLDER,
+            r#"{"alg":"HS256","typ":"KB+JWT"}"#,
+            "[]",
+            "refused 31 bindingType",
+        ),
+        (HOLDER, HEADER, "[]", "refused 32 bindingPayload"),
+        (
+            HOLDER,
+            HEADER,
+            r##"{"aud":"v","iat":"1000","nonce":"n","sd_hash":"#"}"##,
+            "refused 32 bindingPayload",
+        ),
+        (
+            HOLDER,
+            HEADER,
+            r##"{"iat":1,"nonce":"n","sd_hash":"#"}"##,
+            "refused 32 bindingPayload",
+        ),
+        (
+            HOLDER,
+            HEADER,
+            r##"{"aud":"w","iat":1000,"nonce":"m","sd_hash":"#"}"##,
+            "refused 35 nonceDiffers",
+        ),
+        (
+            HOLDER,
+            HEADER,
+            r##"{"aud":"w","iat":1000,"nonce":"n","sd_hash":""}"##,
+            "refused 36 audienceDiffers",
+        ),
+        (
+            HOLDER,
+            HEADER,
+            r##"{"aud":"v","exp":1,"iat":1000,"nonce":"n","sd_hash":"#="}"##,
+            "refused 37 hashDiffers",
+        ),
+    ] {
         let found = judged(alloc, payload, header, claims, 2)?;
-        assert_eq!(rt; found.as_str(), answer, "{line}");
+        assert_eq!(rt; found.as_str(), answer, "{header} {claims}");
     }
     let foreign = judged(alloc, HOLDER, HS256, "[]", 1)?;
     assert_eq!(rt; foreign.as_str(), "refused 30 bindingSignature");
+    Ok(())
+}
+
+#[test]
+fn a_key_binding_token_has_its_time(rt: HostRuntime) -> Result<(), Fail> {
+    let alloc = rt.alloc();
+    let token = signed(alloc, HS256, HOLDER, "")?;
+    let token = token.as_str();
+    let skew = format!(in alloc; "{BINDING},\"skew\":10")?;
+    let skew = skew.as_str();
+    let accepted = r#"0 {"cnf":{"kid":"two"}}"#;
+    for (time, members, now, answer) in [
+        ("", BINDING, 1300, accepted),
+        ("", BINDING, 1301, "refused 33 bindingStale"),
+        ("", skew, 1310, accepted),
+        ("", skew, 1311, "refused 33 bindingStale"),
+        ("", BINDING, 1000, accepted),
+        ("", BINDING, 999, "refused 34 bindingEarly"),
+        ("", skew, 990, accepted),
+        ("", skew, 989, "refused 34 bindingEarly"),
+        (r#""exp":1101,"#, BINDING, 1100, accepted),
+        (r#""exp":1101,"#, BINDING, 1101, "refused 38 bindingTime"),
+        (r#""exp":1101,"#, skew, 1110, accepted),
+        (r#""exp":1101,"#, skew, 1111, "refused 38 bindingTime"),
+        (r#""nbf":1101,"#, BINDING, 1101, accepted),
+        (r#""nbf":1101,"#, BINDING, 1100, "refused 38 bindingTime"),
+        (r#""nbf":1101,"#, skew, 1091, accepted),
+        (r#""nbf":1101,"#, skew, 1090, "refused 38 bindingTime"),
+        (r#""exp":"x","#, BINDING, 1000, "refused 38 bindingTime"),
+        (r#""nbf":null,"#, BINDING, 1000, "refused 38 bindingTime"),
+    ] {
+        let claims = format!(in alloc;
+            "{{{time}\"aud\":\"v\",\"iat\":1000,\"nonce\":\"n\",\"sd_hash\":\"#\"}}"
+        )?;
+        let binding = bound(alloc, token, HEADER, claims.as_str(), 2)?;
+        let binding = binding.as_str();
+        let whole = format!(in alloc; "{token}{binding}")?;
+        let found = verdict(alloc, whole.as_str(), ONE, members, now)?;
+        assert_eq!(rt; found.as_str(), answer, "{time} {now}");
+    }
     Ok(())
 }
 
