@@ -27,7 +27,7 @@ with_sd_ordered [] ms o = o
 with_sd_ordered (d ∷ ds) ms o = ordered-inserted ms sd_name (array (texts_array (d ∷ ds))) o (texts_ordered (d ∷ ds))
 
 module _ (dg : ℕ → Text) where
-  lay_names_after : (dec : Path → List Text) (l : Text) (ms : MarkedMembers) → IsBeforeAll l (marked_names ms) → IsBeforeAll l (names (lay_members dec dg ms))
+  pub lay_names_after : (dec : Path → List Text) (l : Text) (ms : MarkedMembers) → IsBeforeAll l (marked_names ms) → IsBeforeAll l (names (lay_members dec dg ms))
   lay_names_after dec l no_marked_members a = tt
   lay_names_after dec l (marked_member k None t ms) a = (a.0, lay_names_after dec l ms a.1)
   lay_names_after dec l (marked_member k (Some i) t ms) a = lay_names_after dec l ms a.1

@@ -13,6 +13,7 @@ use Rattle.issuer_core.specs.Laying.{digest, digest_at, salted, placed_at, Tells
 use Rattle.issuer_core.specs.Closing.{one, MembersClose}
 use Rattle.issuer_core.specs.declared.decoys.Decoys.{Decoys}
 use Rattle.issuer_core.specs.declared.laying.Part.{Part}
+use Rattle.issuer_core.proofs.LaidOrdered.{lay_names_after}
 use Rattle.issuer_core.proofs.LayingSteps.{grown, behind, IsMade}
 
 abbrev pub members_joined : Members → Members → Members
@@ -32,14 +33,9 @@ inserted_last k u no_members rest o = refl
 inserted_last k u (member l v ms) rest o = rw (before_joined l k u ms rest o.0) (ap (member l v) (inserted_last k u ms rest o.1))
 
 module _ (dec : Path → List Text) (dg : ℕ → Text) where
-  names_after : (l : Text) (ms : MarkedMembers) → IsBeforeAll l (marked_names ms) → IsBeforeAll l (names (lay_members dec dg ms))
-  names_after l no_marked_members a = tt
-  names_after l (marked_member k None t ms) a = (a.0, names_after l ms a.1)
-  names_after l (marked_member k (Some i) t ms) a = names_after l ms a.1
-
   names_ascend : (ms : MarkedMembers) → Ascend (marked_names ms) → Ascend (names (lay_members dec dg ms))
   names_ascend no_marked_members o = tt
-  names_ascend (marked_member k None t ms) o = (names_after k ms o.0, names_ascend ms o.1)
+  names_ascend (marked_member k None t ms) o = (lay_names_after dg dec k ms o.0, names_ascend ms o.1)
   names_ascend (marked_member k (Some i) t ms) o = names_ascend ms o.1
 
 -- what is known where an object is laid up to some of its members
