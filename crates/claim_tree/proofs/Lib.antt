@@ -19,3 +19,4 @@ mod Examples
 pub mod MemberNames
 pub mod FileMembers
 pub mod FileVerdicts
+pub mod ListForms

@@ -9,3 +9,4 @@ pub mod Places
 pub mod Path
 pub mod FileWords
 pub mod FileForms
+pub mod FileLists

@@ -9,6 +9,7 @@ mod copies;
 mod depths;
 mod file_fault;
 mod file_form;
+mod file_list;
 mod inside;
 pub mod laws;
 mod path;
@@ -27,6 +28,7 @@ pub use file_fault::{Field, FileFault};
 pub use file_form::{
     read_members, text_list_member, text_member, texts_of, whole_member, whole_up_to,
 };
+pub use file_list::{pointer_list_member, pointer_of};
 pub use inside::{find, get, position};
 pub use path::{Path, PathList};
 pub use pointer::{PointerError, is_prefix, print_path, read_pointer};

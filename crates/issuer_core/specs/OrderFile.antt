@@ -6,7 +6,7 @@ use Rattle.claim_tree.specs.View.{tree_of}
 use Rattle.claim_tree.specs.FileForms.{IsText, IsWholeUpTo, Says, MaySay, SaysOr, Entry, required, optional, fields_of, found, HasMembers, IsFileRefused}
 use Rattle.claim_tree.specs.declared.file_fault.Field.TheVariants.{Payload, Hide, Decoys, Key, Kid, Typ}
 use Rattle.claim_tree.specs.declared.file_fault.FileFault.{FileFault}
-use Rattle.issuer_core.specs.FileLists.{IsListOf, IsPointer}
+use Rattle.claim_tree.specs.FileLists.{IsListOf, IsPointer}
 use Rattle.issuer_core.specs.KeyText.{IsKeyText}
 use Rattle.issuer_core.specs.declared.order.Decoy.{Decoy}
 use Rattle.issuer_core.specs.declared.order_file.IssueFile.{IssueFile}

@@ -4,7 +4,6 @@
 mod clash;
 mod decoys;
 mod errors;
-mod file_list;
 mod hidden;
 mod issuing;
 mod judging;

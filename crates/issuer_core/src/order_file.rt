@@ -6,14 +6,16 @@ ghost use Rattle.claim_tree.specs.Lists.{In};
 ghost use Rattle.claim_tree.specs.View.{tree_of, elements_of};
 ghost use Rattle.claim_tree.specs.FileForms.{HasValue, Says, SaysOr, Meets, IsMemberRefused, required, optional, found};
 ghost use Rattle.claim_tree.specs.declared.file_fault.Field.TheVariants.{Payload, Decoys};
-ghost use Rattle.issuer_core.specs.FileLists.{IsListOf, EachSays};
+ghost use Rattle.claim_tree.specs.FileLists.{IsListOf, EachSays};
 ghost use Rattle.issuer_core.specs.declared.order.Decoy.{Decoy as Seen};
 ghost use Rattle.issuer_core.specs.OrderFile.{IsValue, IsDecoy, IsOrderFile, IsOrderRefused};
 
-use crate::file_list::{pointer_list_member, pointer_of};
 use crate::key_text::key_member;
 use crate::{Decoy, DecoyList, Order};
-use claim_tree::{Field, FileFault, Tree, TreeMap, read_members, text_member, whole_up_to};
+use claim_tree::{
+    Field, FileFault, Tree, TreeMap, pointer_list_member, pointer_of, read_members, text_member,
+    whole_up_to,
+};
 use compact_form::FILE_MAX;
 use hmac_sign::Hs256Key;
 use sd_outside::NoMemory;

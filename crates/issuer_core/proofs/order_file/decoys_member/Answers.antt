@@ -3,10 +3,10 @@ use Rattle.claim_tree.specs.View.{tree_of}
 use Rattle.claim_tree.specs.FileForms.{optional}
 use Rattle.claim_tree.specs.declared.file_fault.Field.TheVariants.{Decoys}
 use Rattle.claim_tree.proofs.FileMembers.{wrong_member}
-use Rattle.issuer_core.specs.FileLists.{IsListOf, EachSays}
+use Rattle.claim_tree.specs.FileLists.{IsListOf, EachSays}
 use Rattle.issuer_core.specs.OrderFile.{IsDecoy}
 use Rattle.issuer_core.specs.declared.order.Decoy.{Decoy}
-use Rattle.issuer_core.proofs.ListForms.{other_than_list, list_without}
+use Rattle.claim_tree.proofs.ListForms.{other_than_list, list_without}
 use Rattle.issuer_core.proofs.order_file.decoys_member.Goals as goal
 
 pub returns-in_default-tree : goal.returns-in_default-tree

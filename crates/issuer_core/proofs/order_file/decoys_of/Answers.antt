@@ -1,5 +1,5 @@
 use Rattle.issuer_core.specs.OrderFile.{IsDecoy}
-use Rattle.issuer_core.proofs.ListForms.{no_element, each_turn}
+use Rattle.claim_tree.proofs.ListForms.{no_element, each_turn}
 use Rattle.issuer_core.proofs.order_file.decoys_of.Goals as goal
 
 pub returns-in_default-clause-none : goal.returns-in_default-clause-none

@@ -1,7 +1,7 @@
 use Rattle.std.proofs.Common.{Err, ap, subst}
 use Rattle.claim_tree.specs.Path.{IsNoPointer}
-use Rattle.issuer_core.proofs.ListForms.{odd_pointer}
-use Rattle.issuer_core.proofs.file_list.pointer_of.Goals as goal
+use Rattle.claim_tree.proofs.ListForms.{odd_pointer}
+use Rattle.claim_tree.proofs.file_list.pointer_of.Goals as goal
 
 pub returns-in-Err-Syntax-clause-none : goal.returns-in-Err-Syntax-clause-none
 returns-in-Err-Syntax-clause-none c =

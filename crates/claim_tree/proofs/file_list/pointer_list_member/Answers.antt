@@ -3,9 +3,9 @@ use Rattle.claim_tree.specs.Tree.{Text}
 use Rattle.claim_tree.specs.View.{tree_of}
 use Rattle.claim_tree.specs.FileForms.{optional}
 use Rattle.claim_tree.proofs.FileMembers.{wrong_member}
-use Rattle.issuer_core.specs.FileLists.{IsListOf, IsPointer, EachSays}
-use Rattle.issuer_core.proofs.ListForms.{other_than_list, list_without}
-use Rattle.issuer_core.proofs.file_list.pointer_list_member.Goals as goal
+use Rattle.claim_tree.specs.FileLists.{IsListOf, IsPointer, EachSays}
+use Rattle.claim_tree.proofs.ListForms.{other_than_list, list_without}
+use Rattle.claim_tree.proofs.file_list.pointer_list_member.Goals as goal
 
 pub returns-in_default-tree : goal.returns-in_default-tree
 returns-in_default-tree c =

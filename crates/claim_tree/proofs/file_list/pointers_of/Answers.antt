@@ -1,6 +1,6 @@
-use Rattle.issuer_core.specs.FileLists.{IsPointer}
-use Rattle.issuer_core.proofs.ListForms.{no_element, each_turn}
-use Rattle.issuer_core.proofs.file_list.pointers_of.Goals as goal
+use Rattle.claim_tree.specs.FileLists.{IsPointer}
+use Rattle.claim_tree.proofs.ListForms.{no_element, each_turn}
+use Rattle.claim_tree.proofs.file_list.pointers_of.Goals as goal
 
 pub returns-in_default-clause-none : goal.returns-in_default-clause-none
 returns-in_default-clause-none c =

@@ -10,7 +10,7 @@ use Rattle.claim_tree.proofs.FileMembers.{no_text}
 use Rattle.claim_tree.proofs.FileVerdicts.{SaysOne}
 use Rattle.claim_tree.proofs.PointerTexts.{pointer_text-injective, no_path}
 use Rattle.claim_tree.proofs.Walks.{elements_turn}
-use Rattle.issuer_core.specs.FileLists.{EachSays, IsListOf, IsPointer}
+use Rattle.claim_tree.specs.FileLists.{EachSays, IsListOf, IsPointer}
 
 list_inside : (t : tree.Tree) (es : Elements) → tree_of t ≡ array es → t ≡ tree.Tree.List es
 list_inside tree.Tree.Null es e = cc e

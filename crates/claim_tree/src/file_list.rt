@@ -3,9 +3,9 @@ ghost use Rattle.std.specs.Prelude.{◌≡◌, List, [], IfOk, IfErr, IfSome, If
 ghost use Rattle.claim_tree.specs.Tree.{Text};
 ghost use Rattle.claim_tree.specs.View.{tree_of, elements_of};
 ghost use Rattle.claim_tree.specs.FileForms.{HasValue, SaysOr, IsMemberRefused, optional, found};
-ghost use Rattle.issuer_core.specs.FileLists.{IsPointer, EachSays, IsListOf};
+ghost use Rattle.claim_tree.specs.FileLists.{IsPointer, EachSays, IsListOf};
 
-use claim_tree::{Field, FileFault, Path, PathList, PointerError, Tree, TreeMap, read_pointer};
+use crate::{Field, FileFault, Path, PathList, PointerError, Tree, TreeMap, read_pointer};
 use sd_outside::NoMemory;
 use std::alloc::Global;
 
@@ -24,8 +24,8 @@ pub fn pointer_of(alloc: Global, tree: &Tree) -> Result<Option<Path>, NoMemory>
     }
 }
 
-/// The paths of trees that are the texts of JSON Pointers, or None where one of them is none.
-pub fn pointers_of(alloc: Global, trees: &[Tree]) -> Result<Option<PathList>, NoMemory>
+// The paths of trees that are the texts of JSON Pointers, or None where one of them is none.
+fn pointers_of(alloc: Global, trees: &[Tree]) -> Result<Option<PathList>, NoMemory>
     ensures paths { IfOk result (λ paths. IfSome paths (EachSays IsPointer (elements_of trees.now))) }
     ensures none { IfOk result (λ paths. IfNone paths ((list : List (List Text)) → EachSays IsPointer (elements_of trees.now) list → ⊥)) }
 {
