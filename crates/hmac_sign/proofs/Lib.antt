@@ -3,4 +3,5 @@ mod Blocks
 mod Equal
 mod KeySets
 pub mod KeySetVerdicts
+pub mod KeyTexts
 mod Examples

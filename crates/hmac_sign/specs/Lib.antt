@@ -2,3 +2,4 @@ pub mod Hmac
 pub mod Signatures
 pub mod FailState
 pub mod Keys
+pub mod KeyText

@@ -10,6 +10,7 @@ mod hs256_key;
 mod key_set;
 #[cfg(test)]
 mod key_set_tests;
+mod key_text;
 mod keys;
 pub mod laws;
 mod sign;
@@ -20,4 +21,5 @@ pub use fail_signer::FailSigner;
 pub use hmac::hmac_sha256;
 pub use hs256_key::{Hs256Key, KeyShort};
 pub use key_set::{KeySet, KeySetError, NamedKey};
+pub use key_text::{key_member, key_of};
 pub use sign::{Alg, Checker, SignError, Signatures, Signer};

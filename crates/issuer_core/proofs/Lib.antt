@@ -29,7 +29,6 @@ pub mod Clashes
 pub mod Counts
 pub mod Lowest
 pub mod Judged
-pub mod KeyTexts
 pub mod OrderFiles
 pub mod PlacedDecoys
 pub mod SortedEntries

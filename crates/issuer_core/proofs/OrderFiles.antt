@@ -14,13 +14,13 @@ use Rattle.claim_tree.proofs.FileMembers.{says_meets, may_say_meets, says_or_mee
 use Rattle.claim_tree.proofs.FileVerdicts as verdicts
 use Rattle.claim_tree.proofs.FileVerdicts.{SaysOne}
 use Rattle.claim_tree.specs.FileLists.{IsListOf, EachSays, IsPointer}
-use Rattle.issuer_core.specs.KeyText.{IsKeyText}
+use Rattle.hmac_sign.specs.KeyText.{IsKeyText}
 use Rattle.issuer_core.specs.Order.{Order, order_of}
 use Rattle.issuer_core.specs.OrderFile.{IsValue, IsDecoy, order_table, IsOrderFile, IsOrderRefused}
 use Rattle.issuer_core.specs.declared.order.Decoy.{Decoy}
 use Rattle.issuer_core.specs.declared.order_file.IssueFile.{IssueFile}
 use Rattle.claim_tree.proofs.ListForms.{one_list, one_pointer}
-use Rattle.issuer_core.proofs.KeyTexts.{one_key_text}
+use Rattle.hmac_sign.proofs.KeyTexts.{one_key_text}
 
 -- ---- what a member says
 

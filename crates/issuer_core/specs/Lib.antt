@@ -15,7 +15,6 @@ pub mod Clash
 pub mod Written
 pub mod Issue
 pub mod Closing
-pub mod KeyText
 pub mod OrderFile
 pub mod Seed
 pub mod Laying

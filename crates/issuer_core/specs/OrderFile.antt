@@ -7,7 +7,7 @@ use Rattle.claim_tree.specs.FileForms.{IsText, IsWholeUpTo, Says, MaySay, SaysOr
 use Rattle.claim_tree.specs.declared.file_fault.Field.TheVariants.{Payload, Hide, Decoys, Key, Kid, Typ}
 use Rattle.claim_tree.specs.declared.file_fault.FileFault.{FileFault}
 use Rattle.claim_tree.specs.FileLists.{IsListOf, IsPointer}
-use Rattle.issuer_core.specs.KeyText.{IsKeyText}
+use Rattle.hmac_sign.specs.KeyText.{IsKeyText}
 use Rattle.issuer_core.specs.declared.order.Decoy.{Decoy}
 use Rattle.issuer_core.specs.declared.order_file.IssueFile.{IssueFile}
 

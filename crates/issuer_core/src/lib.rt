@@ -7,7 +7,6 @@ mod errors;
 mod hidden;
 mod issuing;
 mod judging;
-mod key_text;
 pub mod laws;
 mod laying;
 #[cfg(test)]

@@ -10,14 +10,13 @@ ghost use Rattle.claim_tree.specs.FileLists.{IsListOf, EachSays};
 ghost use Rattle.issuer_core.specs.declared.order.Decoy.{Decoy as Seen};
 ghost use Rattle.issuer_core.specs.OrderFile.{IsValue, IsDecoy, IsOrderFile, IsOrderRefused};
 
-use crate::key_text::key_member;
 use crate::{Decoy, DecoyList, Order};
 use claim_tree::{
     Field, FileFault, Tree, TreeMap, pointer_list_member, pointer_of, read_members, text_member,
     whole_up_to,
 };
 use compact_form::FILE_MAX;
-use hmac_sign::Hs256Key;
+use hmac_sign::{Hs256Key, key_member};
 use sd_outside::NoMemory;
 use std::alloc::Global;
 

@@ -7,7 +7,7 @@ use Rattle.claim_tree.specs.FileWords.{word_of}
 use Rattle.claim_tree.specs.declared.file_fault.Field.TheVariants.{Payload, Hide, Decoys, Key, Kid, Typ}
 use Rattle.claim_tree.proofs.FileMembers.{says_meets, may_say_meets, says_or_meets, member_refused}
 use Rattle.claim_tree.specs.FileLists.{IsListOf, IsPointer}
-use Rattle.issuer_core.specs.KeyText.{IsKeyText}
+use Rattle.hmac_sign.specs.KeyText.{IsKeyText}
 use Rattle.issuer_core.specs.OrderFile.{IsValue, IsDecoy}
 use Rattle.issuer_core.proofs.OrderFiles.{value_ranged, value_depth, counts_within}
 use Rattle.issuer_core.proofs.order_file.read_order.Goals as goal

@@ -1,8 +1,8 @@
 use Rattle.claim_tree.specs.View.{tree_of}
 use Rattle.claim_tree.specs.FileForms.{required}
 use Rattle.claim_tree.proofs.FileMembers.{wrong_member}
-use Rattle.issuer_core.specs.KeyText.{IsKeyText}
-use Rattle.issuer_core.proofs.key_text.key_member.Goals as goal
+use Rattle.hmac_sign.specs.KeyText.{IsKeyText}
+use Rattle.hmac_sign.proofs.key_text.key_member.Goals as goal
 
 pub returns-in-None-clause-refused : goal.returns-in-None-clause-refused
 returns-in-None-clause-refused c =

@@ -10,7 +10,7 @@ use Rattle.claim_tree.specs.FileForms.{HasValue}
 use Rattle.claim_tree.proofs.FileMembers.{no_text}
 use Rattle.claim_tree.proofs.FileVerdicts.{SaysOne}
 use Rattle.hmac_sign.specs.Hmac.{key_block}
-use Rattle.issuer_core.specs.KeyText.{IsKeyText}
+use Rattle.hmac_sign.specs.KeyText.{IsKeyText}
 
 pub one_key_text : SaysOne IsKeyText
 one_key_text t x y h k =

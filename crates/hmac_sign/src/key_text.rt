@@ -2,11 +2,11 @@
 ghost use Rattle.std.specs.Prelude.{◌≡◌, ◌≤◌, ◌<◌, length, IfOk, IfErr, IfSome, IfNone};
 ghost use Rattle.claim_tree.specs.View.{tree_of};
 ghost use Rattle.claim_tree.specs.FileForms.{HasValue, Says, IsMemberRefused, required, found};
-ghost use Rattle.issuer_core.specs.KeyText.{IsKeyText};
+ghost use Rattle.hmac_sign.specs.KeyText.{IsKeyText};
 
+use crate::Hs256Key;
 use b64url_text::{DecodeError, decode};
 use claim_tree::{Field, FileFault, Tree, TreeMap};
-use hmac_sign::Hs256Key;
 use sd_outside::NoMemory;
 use std::alloc::Global;
 
