@@ -5,12 +5,13 @@ use Rattle.std.specs.Cmp.Lexicographic.{slice_cmp}
 use Rattle.std.specs.Ordering.{match_ordering, nat_cmp}
 use Rattle.std.specs.Prelude.{bytes_eq}
 use Rattle.claim_tree.specs.Tree.{IsBefore, IsOrdered, Members, Text, Tree, array, get, inserted, leaf, member, member_named, no_members, object, text}
+use Rattle.claim_tree.specs.Removed.{removed}
 use Rattle.digest_sites.specs.Given.{Given}
 use Rattle.digest_sites.specs.Reserved.{sd_name}
 use Rattle.marked_tree.specs.Marked.{Marked, MarkedMembers, marked_array, marked_leaf, marked_member, marked_object, no_marked_members, strip, strip_members}
 use Rattle.marked_tree.specs.Places.{Path}
 use Rattle.rebuild_core.specs.Free.{HasNoReserved, MembersNoReserved}
-use Rattle.rebuild_core.specs.Payload.{alg_name, without_alg, without_member}
+use Rattle.rebuild_core.specs.Payload.{alg_name, without_alg}
 use Rattle.issuer_core.specs.Digests.{Maker, marked_of}
 use Rattle.issuer_core.specs.GoodOrder.{IsGoodOrder, IsObject}
 use Rattle.issuer_core.specs.Laid.{IsLaid, hidden_digests, lay, lay_members, order_decoys, sorted, texts_array, with_alg, with_sd}
@@ -40,16 +41,16 @@ inserted_named (member l u ms) n t = go (slice_cmp nat_cmp l n) refl (inserted_n
     go Greater e ih = rw (bytes_refl n n refl)
 
 -- and taken out again it leaves the others
-inserted_out : (ms : Members) (n : Text) (t : Tree) → HasNo n ms → without_member n (inserted ms n t) ≡ ms
+inserted_out : (ms : Members) (n : Text) (t : Tree) → HasNo n ms → removed (inserted ms n t) n ≡ ms
 inserted_out no_members n t h = rw (bytes_refl n n refl)
 inserted_out (member l u ms) n t h = go (slice_cmp nat_cmp l n) refl (inserted_out ms n t h.1)
   where
-    gone : (us : Members) → HasNo n us → without_member n us ≡ us
+    gone : (us : Members) → HasNo n us → removed us n ≡ us
     gone no_members k = refl
     gone (member m v us) k = rw k.0 (ap (member m v) (gone us k.1))
 
-    go : (o : Ordering) → slice_cmp nat_cmp l n ≡ o → without_member n (inserted ms n t) ≡ ms
-        → without_member n (match_ordering o (member l u (inserted ms n t)) (member n t ms) (member n t (member l u ms))) ≡ member l u ms
+    go : (o : Ordering) → slice_cmp nat_cmp l n ≡ o → removed (inserted ms n t) n ≡ ms
+        → removed (match_ordering o (member l u (inserted ms n t)) (member n t ms) (member n t (member l u ms))) n ≡ member l u ms
     go Less e ih = rw h.0 (ap (member l u) ih)
     go Equal e ih = let q : bytes_eq l n ≡ true = bytes_refl l n (exact_bytes l n e) in let f : bytes_eq l n ≡ false = h.0 in cc
     go Greater e ih = rw (bytes_refl n n refl) (gone (member l u ms) h)

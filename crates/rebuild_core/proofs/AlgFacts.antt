@@ -3,9 +3,10 @@ use Rattle.std.proofs.Common.{◌≡◌, Bool, true, false, ◌||◌, Some, byte
 use Rattle.std.specs.Prelude.{if◌then◌else◌}
 use Rattle.claim_tree.specs.Tree.{Text, Tree, leaf, text, array, object, Members, no_members, member, member_named, names, IsBeforeAll, IsOrdered, MembersOrdered}
 use Rattle.claim_tree.specs.Lists.{In}
+use Rattle.claim_tree.specs.Removed.{removed}
 use Rattle.claim_tree.proofs.Lists.{bytes_same}
 use Rattle.digest_sites.specs.Reserved.{sd_name, dots_name, sd_texts, text_list, texts_or_none, misuses, members_misuse, is_ill_named}
-use Rattle.rebuild_core.specs.Payload.{alg_name, without_member, without_alg}
+use Rattle.rebuild_core.specs.Payload.{alg_name, without_alg}
 use Rattle.rebuild_core.specs.Answer.{IsPayload}
 use Rattle.marked_tree.proofs.Puts.{IsBeforeAll-not_in}
 
@@ -40,21 +41,21 @@ pub alg_is_not_dots : (name : Text) → bytes_eq name alg_name ≡ true → byte
 unfolding alg_name dots_name
 alg_is_not_dots name e = rw (bytes_same name alg_name e) refl
 
-pub sd_texts_without : (ms : Members) → sd_texts (without_member alg_name ms) ≡ sd_texts ms
+pub sd_texts_without : (ms : Members) → sd_texts (removed ms alg_name) ≡ sd_texts ms
 sd_texts_without no_members = refl
 sd_texts_without (member name t ms) = go (bytes_eq name alg_name) refl (sd_texts_without ms)
   where
-    go : (b : Bool) → bytes_eq name alg_name ≡ b → sd_texts (without_member alg_name ms) ≡ sd_texts ms
-        → sd_texts (if b then without_member alg_name ms else member name t (without_member alg_name ms)) ≡ (if bytes_eq name sd_name then texts_or_none (text_list t) else sd_texts ms)
+    go : (b : Bool) → bytes_eq name alg_name ≡ b → sd_texts (removed ms alg_name) ≡ sd_texts ms
+        → sd_texts (if b then removed ms alg_name else member name t (removed ms alg_name)) ≡ (if bytes_eq name sd_name then texts_or_none (text_list t) else sd_texts ms)
     go true e ih = rw (alg_is_not_sd name e) ih
     go false e ih = ap (λ ds. if bytes_eq name sd_name then texts_or_none (text_list t) else ds) ih
 
-members_misuse_without : (ms : Members) → HasTextAlg ms → members_misuse (without_member alg_name ms) ≡ members_misuse ms
+members_misuse_without : (ms : Members) → HasTextAlg ms → members_misuse (removed ms alg_name) ≡ members_misuse ms
 members_misuse_without no_members h = refl
 members_misuse_without (member name t ms) h = go (bytes_eq name alg_name) refl (members_misuse_without ms h.1)
   where
-    go : (b : Bool) → bytes_eq name alg_name ≡ b → members_misuse (without_member alg_name ms) ≡ members_misuse ms
-        → members_misuse (if b then without_member alg_name ms else member name t (without_member alg_name ms)) ≡ (is_ill_named name t || misuses t || members_misuse ms)
+    go : (b : Bool) → bytes_eq name alg_name ≡ b → members_misuse (removed ms alg_name) ≡ members_misuse ms
+        → members_misuse (if b then removed ms alg_name else member name t (removed ms alg_name)) ≡ (is_ill_named name t || misuses t || members_misuse ms)
     go true e ih = rw (alg_is_not_sd name e, alg_is_not_dots name e, (h.0 e).1) ih
     go false e ih = ap (λ b. is_ill_named name t || misuses t || b) ih
 

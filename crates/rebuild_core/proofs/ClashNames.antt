@@ -2,8 +2,9 @@
 use Rattle.std.proofs.Common.{◌≡◌, ◌∷◌, Bool, true, false, not, bytes_eq, if◌then◌else◌, IsTrue, Option, Some, None, is_some, option_map, inl, inr, refl, sym, ap, ◌∙◌}
 use Rattle.claim_tree.specs.Tree.{Text, Tree, Members, no_members, member, names, member_named}
 use Rattle.claim_tree.specs.Lists.{In}
+use Rattle.claim_tree.specs.Removed.{removed}
 use Rattle.claim_tree.proofs.Lists.{bytes_same, bytes_refl}
-use Rattle.rebuild_core.specs.Payload.{alg_name, without_member}
+use Rattle.rebuild_core.specs.Payload.{alg_name}
 use Rattle.rebuild_core.specs.Rows.{beside_names}
 
 -- ---- the names beside a digest
@@ -25,22 +26,22 @@ in_named (member other t ms) name h = go (bytes_eq other name) refl h (in_named 
     go false e (inl s) rest = let z = bytes_refl other name (sym s) in cc
     go false e (inr h) rest = rest h
 
-without_in : (name other : Text) (ms : Members) → In other (names (without_member name ms)) → In other (names ms) × (bytes_eq other name ≡ false)
+without_in : (name other : Text) (ms : Members) → In other (names (removed ms name)) → In other (names ms) × (bytes_eq other name ≡ false)
 without_in name other no_members h = elim h [ ]
 without_in name other (member n t ms) h = go (bytes_eq n name) refl h (without_in name other ms)
   where
-    go : (b : Bool) → bytes_eq n name ≡ b → In other (names (if b then without_member name ms else member n t (without_member name ms)))
-        → (In other (names (without_member name ms)) → In other (names ms) × (bytes_eq other name ≡ false)) → In other (n ∷ names ms) × (bytes_eq other name ≡ false)
+    go : (b : Bool) → bytes_eq n name ≡ b → In other (names (if b then removed ms name else member n t (removed ms name)))
+        → (In other (names (removed ms name)) → In other (names ms) × (bytes_eq other name ≡ false)) → In other (n ∷ names ms) × (bytes_eq other name ≡ false)
     go true e h rest = let w = rest h in (inr w.0, w.1)
     go false e (inl s) rest = (inl s, ap (λ z. bytes_eq z name) s ∙ e)
     go false e (inr h) rest = let w = rest h in (inr w.0, w.1)
 
-in_without : (name other : Text) (ms : Members) → In other (names ms) → bytes_eq other name ≡ false → In other (names (without_member name ms))
+in_without : (name other : Text) (ms : Members) → In other (names ms) → bytes_eq other name ≡ false → In other (names (removed ms name))
 in_without name other no_members h f = elim h [ ]
 in_without name other (member n t ms) h f = go (bytes_eq n name) refl h (λ m. in_without name other ms m f)
   where
-    go : (b : Bool) → bytes_eq n name ≡ b → In other (n ∷ names ms) → (In other (names ms) → In other (names (without_member name ms)))
-        → In other (names (if b then without_member name ms else member n t (without_member name ms)))
+    go : (b : Bool) → bytes_eq n name ≡ b → In other (n ∷ names ms) → (In other (names ms) → In other (names (removed ms name)))
+        → In other (names (if b then removed ms name else member n t (removed ms name)))
     go true e (inl s) rest = let z = ap (λ z. bytes_eq z name) s ∙ e in cc
     go true e (inr h) rest = rest h
     go false e (inl s) rest = inl s

@@ -2,14 +2,16 @@
 use Rattle.std.proofs.Common.{◌≡◌, ℕ, suc, ◌+◌, ◌≤◌, List, [], ◌∷◌, ◌++◌, map, length, Bool, true, false, Option, Some, None, bytes_eq, inl, inr, ⊎_elim, refl, sym, ap, ◌∙◌, subst, arith}
 use Rattle.std.specs.Prelude.{if◌then◌else◌}
 use Rattle.std.proofs.lemmas.List.{length-append, length-map}
-use Rattle.claim_tree.specs.Tree.{Text, Tree, leaf, array, object, Elements, no_elements, element, Members, no_members, member, names, IsBeforeAll, IsOrdered, MembersOrdered}
+use Rattle.claim_tree.specs.Tree.{Text, Tree, leaf, array, object, Elements, no_elements, element, Members, no_members, member, names, IsOrdered}
 use Rattle.claim_tree.specs.Lists.{In}
+use Rattle.claim_tree.specs.Removed.{removed}
 use Rattle.claim_tree.proofs.Lists.{In-append, In-of_map}
+use Rattle.claim_tree.proofs.MapPlaces.{ordered-removed}
 use Rattle.digest_sites.specs.Reserved.{sd_name, sd_texts, element_digest}
 use Rattle.digest_sites.specs.Sites.{Site, Step, to_member, sites, member_sites, own_site}
 use Rattle.digest_sites.specs.Given.{Given}
 use Rattle.digest_sites.specs.declared.site.SiteKind.{SiteKind}
-use Rattle.rebuild_core.specs.Payload.{alg_name, without_member, without_alg}
+use Rattle.rebuild_core.specs.Payload.{alg_name, without_alg}
 use Rattle.rebuild_core.specs.Given.{Owner, payload, value_of, Item, item, value_items, all_items}
 use Rattle.rebuild_core.specs.Answer.{IsPayload}
 use Rattle.rebuild_core.specs.Laws.{IsReadable}
@@ -21,40 +23,24 @@ use Rattle.rebuild_core.proofs.ObjectFacts.{IsLaid, laid_none, laid_wider, laid_
 
 -- ---- the payload without its own `_sd_alg`
 
-before_without : (other name : Text) (ms : Members) → IsBeforeAll other (names ms) → IsBeforeAll other (names (without_member name ms))
-before_without other name no_members h = tt
-before_without other name (member n t ms) h = go (bytes_eq n name) (before_without other name ms h.1)
-  where
-    go : (b : Bool) → IsBeforeAll other (names (without_member name ms)) → IsBeforeAll other (names (if b then without_member name ms else member n t (without_member name ms)))
-    go true rest = rest
-    go false rest = (h.0, rest)
-
-without_ordered : (name : Text) (ms : Members) → MembersOrdered ms → MembersOrdered (without_member name ms)
-without_ordered name no_members o = tt
-without_ordered name (member n t ms) o = go (bytes_eq n name) (without_ordered name ms o.2)
-  where
-    go : (b : Bool) → MembersOrdered (without_member name ms) → MembersOrdered (if b then without_member name ms else member n t (without_member name ms))
-    go true rest = rest
-    go false rest = (before_without n name ms o.0, o.1, rest)
-
-rows_without : (n : ℕ) (ms : Members) → HasTextAlg ms → member_rows n ms ≡ member_rows n (without_member alg_name ms)
+rows_without : (n : ℕ) (ms : Members) → HasTextAlg ms → member_rows n ms ≡ member_rows n (removed ms alg_name)
 rows_without n no_members h = refl
 rows_without n (member name t ms) h = go (bytes_eq name alg_name) refl (λ m. rows_without m ms h.1)
   where
-    go : (b : Bool) → bytes_eq name alg_name ≡ b → ((m : ℕ) → member_rows m ms ≡ member_rows m (without_member alg_name ms))
-        → member_rows n (member name t ms) ≡ member_rows n (if b then without_member alg_name ms else member name t (without_member alg_name ms))
+    go : (b : Bool) → bytes_eq name alg_name ≡ b → ((m : ℕ) → member_rows m ms ≡ member_rows m (removed ms alg_name))
+        → member_rows n (member name t ms) ≡ member_rows n (if b then removed ms alg_name else member name t (removed ms alg_name))
     go true e ih = let z : n + 0 ≡ n = omega arith in rw (alg_is_not_sd name e, (h.0 e).1) (ap (λ k. member_rows k ms) z ∙ ih n)
     go false e ih =
         ap (λ rs. (if bytes_eq name sd_name then [] else tree_rows false n t) ++ rs) (ih (n + length (if bytes_eq name sd_name then [] else tree_rows false n t)))
 
 payload_laid : (t : Tree) → IsOrdered t → IsPayload t → IsLaid site_kind site_at (sites (without_alg t)) (tree_rows true 0 t) 0 (0 + length (tree_rows true 0 t))
 payload_laid (object ms) o h =
-    let us = without_member alg_name ms in
+    let us = removed ms alg_name in
     let ds = sd_texts ms in
     let rs = member_rows (0 + length ds) ms in
     let inside : IsLaid site_kind site_at (member_sites us) rs (0 + length ds) ((0 + length ds) + length rs) =
     subst (λ z. IsLaid site_kind site_at (member_sites us) z (0 + length ds) ((0 + length ds) + length z)) (sym (rows_without (0 + length ds) ms (has_text_alg ms o h)))
-    (members_laid (0 + length ds) us (without_ordered alg_name ms o)) in
+    (members_laid (0 + length ds) us (ordered-removed ms alg_name o)) in
     subst (λ z. IsLaid site_kind site_at (map (own_site (names us)) z ++ member_sites us) (tree_rows true 0 (object ms)) 0 (0 + length (tree_rows true 0 (object ms)))) (sym (sd_texts_without ms))
     (object_laid true 0 (names us) (beside_names true ms) ds us rs inside)
 payload_laid (leaf l) o h = elim h [ ]
@@ -174,7 +160,7 @@ object_top n beside others ds ms rs all s r h = ⊎_elim
 
 payload_top : (t : Tree) → IsPayload t → (s : Site) (r : Seen) → Both (sites (without_alg t)) (tree_rows true 0 t) s r → IsTopAt s r
 payload_top (object ms) h s r b =
-    let us = without_member alg_name ms in
+    let us = removed ms alg_name in
     object_top 0 (names us) (beside_names true ms) (sd_texts ms) us (member_rows (0 + length (sd_texts ms)) ms) (λ q i. members_not_top (0 + length (sd_texts ms)) ms q i) s r
     (subst (λ z. Both (map (own_site (names us)) z ++ member_sites us) (tree_rows true 0 (object ms)) s r) (sd_texts_without ms) b)
 payload_top (leaf l) h s r b = elim h [ ]

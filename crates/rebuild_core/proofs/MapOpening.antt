@@ -8,12 +8,13 @@ use Rattle.std.proofs.lemmas.List.{at_drop_more}
 use Rattle.std.proofs.Math.ListN.{drop_of_length-le}
 use Rattle.claim_tree.specs.Tree.{Text, Tree, Members, no_members, member, object, names, depth, IsBefore, IsBeforeAll, MembersOrdered}
 use Rattle.claim_tree.specs.View.{tree_of, members_of}
+use Rattle.claim_tree.specs.Removed.{removed}
 use Rattle.claim_tree.proofs.Lists.{bytes_same}
 use Rattle.claim_tree.proofs.Walks.{Named}
 use Rattle.digest_sites.specs.Reserved.{sd_name, sd_texts, text_list, texts_or_none}
 use Rattle.digest_sites.specs.Given.{Given}
 use Rattle.marked_tree.specs.Marked.{Marked, MarkedMembers, no_marked_members, marked_member, put, put_all, strip}
-use Rattle.rebuild_core.specs.Payload.{alg_name, without_member}
+use Rattle.rebuild_core.specs.Payload.{alg_name}
 use Rattle.rebuild_core.specs.Opening.{Shown, open_tree, open_members, show_members}
 use Rattle.rebuild_core.specs.Cursor.{tree_digests, members_digests, TellFirst}
 use Rattle.rebuild_core.specs.Whole.{settled, members_joined, shown_member, shown_members, shown_depth, shown_depths, topped, stays, AllNew, WholeUnless, OpensWhole, MembersWhole}
@@ -26,12 +27,12 @@ alg_differs : bytes_eq alg_name sd_name ≡ false
 unfolding alg_name sd_name
 alg_differs = refl
 
-sd_texts-without : (ms : Members) → sd_texts (without_member alg_name ms) ≡ sd_texts ms
+sd_texts-without : (ms : Members) → sd_texts (removed ms alg_name) ≡ sd_texts ms
 sd_texts-without no_members = refl
 sd_texts-without (member k t ms) = go (bytes_eq k alg_name) refl (sd_texts-without ms)
   where
-    go : (b : Bool) → bytes_eq k alg_name ≡ b → sd_texts (without_member alg_name ms) ≡ sd_texts ms
-        → sd_texts (cond b (without_member alg_name ms) (member k t (without_member alg_name ms))) ≡ sd_texts (member k t ms)
+    go : (b : Bool) → bytes_eq k alg_name ≡ b → sd_texts (removed ms alg_name) ≡ sd_texts ms
+        → sd_texts (cond b (removed ms alg_name) (member k t (removed ms alg_name))) ≡ sd_texts (member k t ms)
     go true e ih = ih ∙ sym (ap (λ b. cond b (texts_or_none (text_list t)) (sd_texts ms)) (ap (λ z. bytes_eq z sd_name) (bytes_same k alg_name e) ∙ alg_differs))
     go false e ih = ap (cond (bytes_eq k sd_name) (texts_or_none (text_list t))) ih
 
@@ -44,7 +45,7 @@ pub topped_stays : (top : Bool) (k : Text) (t : Tree) (ms : Members) → stays t
 topped_stays top k t ms h = go top (bytes_eq k sd_name) (bytes_eq k alg_name) h
   where
     go : (top own alg : Bool) → (not own && not (top && alg)) ≡ true
-        → (cond top (cond alg (without_member alg_name ms) (member k t (without_member alg_name ms))) (member k t ms) ≡ member k t (topped top ms)) × (own ≡ false)
+        → (cond top (cond alg (removed ms alg_name) (member k t (removed ms alg_name))) (member k t ms) ≡ member k t (topped top ms)) × (own ≡ false)
     go top true alg e = cc
     go true false true e = cc
     go true false false e = (refl, refl)
@@ -59,7 +60,7 @@ pub topped_drops : (top : Bool) (k : Text) (t : Tree) (ms : Members) → stays t
 topped_drops top k t ms h = go top (bytes_eq k sd_name) refl (bytes_eq k alg_name) h
   where
     go : (top own : Bool) → bytes_eq k sd_name ≡ own → (alg : Bool) → (not own && not (top && alg)) ≡ false
-        → Drops top k t ms (cond top (cond alg (without_member alg_name ms) (member k t (without_member alg_name ms))) (member k t ms))
+        → Drops top k t ms (cond top (cond alg (removed ms alg_name) (member k t (removed ms alg_name))) (member k t ms))
     go true own q true e = (refl, (λ g. refl), (λ g w. w))
     go true true q false e = (rw q refl, (λ g. rw q refl), (λ g w. w.1))
     go false true q alg e = (rw q refl, (λ g. rw q refl), (λ g w. w.1))

@@ -10,7 +10,7 @@ use Rattle.claim_tree.proofs.Lists.{and_split}
 use Rattle.digest_sites.specs.Reserved.{sd_name, dots_name, sd_texts, element_digest, misuses, elements_misuse, members_misuse}
 use Rattle.digest_sites.specs.Sites.{sites, element_sites, member_sites}
 use Rattle.marked_tree.specs.Marked.{strip, strip_elements, strip_members}
-use Rattle.rebuild_core.specs.Payload.{alg_name, without_member, without_alg}
+use Rattle.rebuild_core.specs.Payload.{alg_name, without_alg}
 use Rattle.rebuild_core.specs.Given.{Item, met, item_digests, look_ups, counted}
 use Rattle.rebuild_core.specs.Opening.{Shown, reveal, open_tree, open_elements, open_members, processed}
 use Rattle.rebuild_core.specs.Answer.{IsRefusal}
@@ -102,16 +102,12 @@ mutual
 
 -- ---- its own `_sd_alg`
 
-pub removed_is : (name : Text) (ms : Members) → removed ms name ≡ without_member name ms
-removed_is name no_members = refl
-removed_is name (member other t ms) = ap (λ (us : Members). if bytes_eq other name then us else member other t us) (removed_is name ms)
-
-without_shallow : (name : Text) (ms : Members) → members_depth (without_member name ms) ≤ members_depth ms
+without_shallow : (name : Text) (ms : Members) → members_depth (removed ms name) ≤ members_depth ms
 without_shallow name no_members = omega arith
 without_shallow name (member other t ms) = go (bytes_eq other name) (without_shallow name ms)
   where
-    go : (b : Bool) → members_depth (without_member name ms) ≤ members_depth ms
-        → members_depth (if b then without_member name ms else member other t (without_member name ms)) ≤ members_depth (member other t ms)
+    go : (b : Bool) → members_depth (removed ms name) ≤ members_depth ms
+        → members_depth (if b then removed ms name else member other t (removed ms name)) ≤ members_depth (member other t ms)
     go true ih = omega (arith, ih)
     go false ih = omega (arith, ih)
 
@@ -120,15 +116,15 @@ without_alg_shallow (leaf l) = omega arith
 without_alg_shallow (array es) = omega arith
 without_alg_shallow (object ms) = let l = without_shallow alg_name ms in omega (arith, l)
 
-without_unhidden : (name : Text) (ms : Members) → members_unhidden ms ≡ true → members_unhidden (without_member name ms) ≡ true
+without_unhidden : (name : Text) (ms : Members) → members_unhidden ms ≡ true → members_unhidden (removed ms name) ≡ true
 without_unhidden name no_members h = refl
 without_unhidden name (member other t ms) h =
     let s = and_split _ _ h in
     let q = and_split _ _ s.1 in
     go (bytes_eq other name) s.0 q.0 (without_unhidden name ms q.1)
   where
-    go : (b : Bool) → is_unhidden_name other ≡ true → is_unhidden t ≡ true → members_unhidden (without_member name ms) ≡ true
-        → members_unhidden (if b then without_member name ms else member other t (without_member name ms)) ≡ true
+    go : (b : Bool) → is_unhidden_name other ≡ true → is_unhidden t ≡ true → members_unhidden (removed ms name) ≡ true
+        → members_unhidden (if b then removed ms name else member other t (removed ms name)) ≡ true
     go true n u ih = ih
     go false n u ih = rw (n, u) ih
 

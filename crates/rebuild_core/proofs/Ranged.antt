@@ -5,11 +5,12 @@ use Rattle.std.specs.Prelude.{Result, Ok, Err}
 use Rattle.std.specs.Ordering.{nat_cmp, match_ordering}
 use Rattle.std.specs.Cmp.Lexicographic.{slice_cmp}
 use Rattle.claim_tree.specs.Tree.{Text, Tree, leaf, array, object, Elements, no_elements, element, Members, no_members, member, IsRanged, ElementsRanged, MembersRanged}
+use Rattle.claim_tree.specs.Removed.{removed}
 use Rattle.claim_tree.proofs.Lists.{At-In}
 use Rattle.digest_sites.specs.Reserved.{sd_name, sd_texts, element_digest}
 use Rattle.digest_sites.specs.Given.{Given}
 use Rattle.marked_tree.specs.Marked.{Marked, MarkedElements, MarkedMembers, no_marked_members, marked_member, put, strip, strip_elements, strip_members}
-use Rattle.rebuild_core.specs.Payload.{alg_name, without_member, without_alg}
+use Rattle.rebuild_core.specs.Payload.{alg_name, without_alg}
 use Rattle.rebuild_core.specs.Given.{find}
 use Rattle.rebuild_core.specs.Opening.{Shown, hidden, shown, show_element, show_member, show_members, open_element, open_tree, open_elements, open_members, shown_by, reveal, processed}
 use Rattle.marked_tree.specs.View.{marked_of}
@@ -79,11 +80,11 @@ reveal_ranged g h (suc f) d = go (find g d) refl (reveal_ranged g h f)
     go None e ih = tt
     go (Some (j, x)) e ih = let w = found 0 g d j x e in open_ranged (reveal f g) ih x.value (h x (At-In g w.0 x w.1))
 
-without_ranged : (name : Text) (ms : Members) → MembersRanged ms → MembersRanged (without_member name ms)
+without_ranged : (name : Text) (ms : Members) → MembersRanged ms → MembersRanged (removed ms name)
 without_ranged name no_members h = tt
 without_ranged name (member other t ms) h = go (bytes_eq other name) (without_ranged name ms h.1)
   where
-    go : (b : Bool) → MembersRanged (without_member name ms) → MembersRanged (if b then without_member name ms else member other t (without_member name ms))
+    go : (b : Bool) → MembersRanged (removed ms name) → MembersRanged (if b then removed ms name else member other t (removed ms name))
     go true ih = ih
     go false ih = (h.0, ih)
 

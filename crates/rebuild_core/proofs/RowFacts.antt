@@ -5,12 +5,13 @@ use Rattle.std.proofs.lemmas.List.{map-append, length-map, length-append}
 use Rattle.std.proofs.lemmas.List.Sums.{sum_by-cons}
 use Rattle.claim_tree.specs.Tree.{Text, Tree, leaf, array, object, Elements, no_elements, element, Members, no_members, member, names, IsOrdered}
 use Rattle.claim_tree.specs.Lists.{At}
+use Rattle.claim_tree.specs.Removed.{removed}
 use Rattle.claim_tree.proofs.Lists.{At-map, At-same}
 use Rattle.digest_sites.specs.Reserved.{sd_name, sd_texts, element_digest}
 use Rattle.digest_sites.specs.Sites.{Site, Step, to_member, to_element, sites, element_sites, member_sites, sites_on, under, own_site, digests}
 use Rattle.digest_sites.specs.Given.{Given}
 use Rattle.digest_sites.specs.declared.site.SiteKind.{SiteKind}
-use Rattle.rebuild_core.specs.Payload.{alg_name, without_member, without_alg}
+use Rattle.rebuild_core.specs.Payload.{alg_name, without_alg}
 use Rattle.rebuild_core.specs.Given.{Owner, payload, value_of, Item, item, value_items, item_digests, look_ups, all_items}
 use Rattle.rebuild_core.specs.Answer.{IsPayload}
 use Rattle.rebuild_core.specs.Numbers.{row_texts}
@@ -73,19 +74,19 @@ mutual
 
 -- ---- the payload itself
 
-top_members : (n : ℕ) (ms : Members) → HasTextAlg ms → map row_look (member_rows n ms) ≡ map site_look (member_sites (without_member alg_name ms))
+top_members : (n : ℕ) (ms : Members) → HasTextAlg ms → map row_look (member_rows n ms) ≡ map site_look (member_sites (removed ms alg_name))
 top_members n no_members h = refl
 top_members n (member name t ms) h = go (bytes_eq name alg_name) refl (λ m. top_members m ms h.1)
   where
-    go : (b : Bool) → bytes_eq name alg_name ≡ b → ((m : ℕ) → map row_look (member_rows m ms) ≡ map site_look (member_sites (without_member alg_name ms)))
-        → map row_look (member_rows n (member name t ms)) ≡ map site_look (member_sites (if b then without_member alg_name ms else member name t (without_member alg_name ms)))
+    go : (b : Bool) → bytes_eq name alg_name ≡ b → ((m : ℕ) → map row_look (member_rows m ms) ≡ map site_look (member_sites (removed ms alg_name)))
+        → map row_look (member_rows n (member name t ms)) ≡ map site_look (member_sites (if b then removed ms alg_name else member name t (removed ms alg_name)))
     go true e ih = rw (alg_is_not_sd name e, (h.0 e).1) (ih (n + 0))
     go false e ih =
         joined _ _ _ _ (in_looks (bytes_eq name sd_name) name _ _ (tree_looks n t)) (ih (n + length (if bytes_eq name sd_name then [] else tree_rows false n t)))
 
 pub top_looks : (t : Tree) → IsOrdered t → IsPayload t → map row_look (tree_rows true 0 t) ≡ map site_look (sites (without_alg t))
 top_looks (object ms) o h =
-    let us = without_member alg_name ms in
+    let us = removed ms alg_name in
     joined _ _ _ _ (own_looks true 0 (names us) (sd_texts ms) ∙ ap (λ ds. map site_look (map (own_site (names us)) ds)) (sym (sd_texts_without ms))) (top_members (0 + length (sd_texts ms)) ms (has_text_alg ms o h))
 top_looks (leaf l) o h = elim h [ ]
 top_looks (array es) o h = elim h [ ]

@@ -2,11 +2,12 @@
 use Rattle.std.specs.Prelude.{ℕ, ◌+◌, List, [], ◌∷◌, ◌++◌, map, length, Bool, true, false, Option, Some, None, bytes_eq, if◌then◌else◌}
 use Rattle.std.proofs.Common.{Bor}
 use Rattle.claim_tree.specs.Tree.{Text, Tree, leaf, array, object, Elements, no_elements, element, Members, no_members, member, names}
+use Rattle.claim_tree.specs.Removed.{removed}
 use Rattle.digest_sites.specs.Reserved.{sd_name, sd_texts, element_digest}
 use Rattle.digest_sites.specs.Given.{Given}
 use Rattle.digest_sites.specs.declared.site.SiteKind.{SiteKind}
 use Rattle.digest_sites.specs.declared.site.SiteKind.TheVariants.{Member, Element}
-use Rattle.rebuild_core.specs.Payload.{alg_name, without_member}
+use Rattle.rebuild_core.specs.Payload.{alg_name}
 use Rattle.rebuild_core.specs.declared.rows.Row.{Row}
 
 -- what a row says of a digest: whether it stands in the payload's own object, and the number of its object
@@ -19,7 +20,7 @@ pub record Seen : Type 0 where
 
 -- in the payload `_sd_alg` is beside no digest
 abbrev pub beside_names : Bool → Members → List Text
-beside_names top ms = names (if top then without_member alg_name ms else ms)
+beside_names top ms = names (if top then removed ms alg_name else ms)
 
 abbrev pub names_beside : Bool → Option (Bor Members) → List Text
 names_beside top None = []

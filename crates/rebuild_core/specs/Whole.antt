@@ -2,11 +2,12 @@
 use Rattle.std.specs.Prelude.{ℕ, ◌<◌, ◌^◌, max, List, [], ◌∷◌, length, Bool, true, false, Option, Some, None, not, ◌&&◌, bytes_eq, if◌then◌else◌}
 use Rattle.claim_tree.specs.Tree.{Text, Tree, leaf, array, object, Elements, no_elements, element, Members, no_members, member, depth}
 use Rattle.claim_tree.specs.Lists.{At, In}
+use Rattle.claim_tree.specs.Removed.{removed}
 use Rattle.digest_sites.specs.Reserved.{sd_name, sd_texts, element_digest}
 use Rattle.digest_sites.specs.Given.{Given}
 use Rattle.marked_tree.specs.Marked.{strip, MarkedElements, no_marked_elements, marked_element, MarkedMembers, no_marked_members, marked_member, marked_names}
 use Rattle.marked_tree.specs.View.{marked_of}
-use Rattle.rebuild_core.specs.Payload.{alg_name, without_member}
+use Rattle.rebuild_core.specs.Payload.{alg_name}
 use Rattle.rebuild_core.specs.Opening.{Shown, hidden, shown, show_member, reveal, open_members}
 use Rattle.rebuild_core.specs.Cursor.{tree_digests, TellEach}
 use Rattle.rebuild_core.specs.declared.errors.ProcessError.{ProcessError}
@@ -66,7 +67,7 @@ shown_depths reveals (digest ∷ digests) = max (shown_depth (reveals digest)) (
 
 -- the members without `_sd_alg`, where the object is the payload itself
 abbrev pub topped : Bool → Members → Members
-topped top ms = if top then without_member alg_name ms else ms
+topped top ms = if top then removed ms alg_name else ms
 
 -- a member that stays a member
 abbrev pub stays : Bool → Text → Bool

@@ -1,7 +1,8 @@
 use Rattle.std.proofs.Common.{ap}
 use Rattle.claim_tree.specs.Tree.{object}
 use Rattle.claim_tree.specs.View.{tree_of}
-use Rattle.rebuild_core.specs.Payload.{alg_name, without_alg, without_member}
+use Rattle.claim_tree.specs.Removed.{removed}
+use Rattle.rebuild_core.specs.Payload.{alg_name, without_alg}
 use Rattle.rebuild_core.proofs.Opened.{openable, payload_told, payload_whole, answered, without_alg-other}
 use Rattle.rebuild_core.proofs.opening.open_payload.Goals as goal
 
@@ -10,11 +11,11 @@ open_object-requires-clause-ready c = openable (without_alg (tree_of c.args.payl
 
 pub open_object-requires-clause-numbered : goal.open_object-requires-clause-numbered
 open_object-requires-clause-numbered c =
-    payload_told (without_alg (tree_of c.args.payload.now)) _ c.requires.referenced c.requires.named (object (without_member alg_name c.in-Object.map)) (ap (λ t. without_alg (tree_of t)) c.in-Object.is) _ _ c.requires.told
+    payload_told (without_alg (tree_of c.args.payload.now)) _ c.requires.referenced c.requires.named (object (removed c.in-Object.map alg_name)) (ap (λ t. without_alg (tree_of t)) c.in-Object.is) _ _ c.requires.told
 
 pub open_object-requires-clause-whole : goal.open_object-requires-clause-whole
 open_object-requires-clause-whole c =
-    payload_whole (without_alg (tree_of c.args.payload.now)) _ c.requires.referenced c.requires.named (object (without_member alg_name c.in-Object.map)) (ap (λ t. without_alg (tree_of t)) c.in-Object.is)
+    payload_whole (without_alg (tree_of c.args.payload.now)) _ c.requires.referenced c.requires.named (object (removed c.in-Object.map alg_name)) (ap (λ t. without_alg (tree_of t)) c.in-Object.is)
 
 pub open-requires : goal.open-requires
 open-requires c = record {
@@ -26,7 +27,7 @@ open-requires c = record {
 
 pub returns-in-Object : goal.returns-in-Object
 returns-in-Object c =
-    answered (without_alg (tree_of c.args.payload.now)) _ c.requires.referenced c.requires.named (object (without_member alg_name c.in-Object.map)) (ap (λ t. without_alg (tree_of t)) c.in-Object.is) c.open_object.result c.open_object.ensures.opened
+    answered (without_alg (tree_of c.args.payload.now)) _ c.requires.referenced c.requires.named (object (removed c.in-Object.map alg_name)) (ap (λ t. without_alg (tree_of t)) c.in-Object.is) c.open_object.result c.open_object.ensures.opened
 
 pub returns-in_default : goal.returns-in_default
 returns-in_default c =

@@ -2,15 +2,16 @@ use Rattle.std.proofs.Common.{◌≡◌, ◌∙◌, Bool, true, false, not, Opti
 use Rattle.std.specs.Prelude.{if◌then◌else◌}
 use Rattle.claim_tree.specs.Tree.{Tree, object, Members, no_members, member, member_named}
 use Rattle.claim_tree.specs.View.{tree_of}
-use Rattle.rebuild_core.specs.Payload.{alg_name, without_member, without_alg}
+use Rattle.claim_tree.specs.Removed.{removed}
+use Rattle.rebuild_core.specs.Payload.{alg_name, without_alg}
 use Rattle.rebuild_core.proofs.tests.has_no_alg.Goals as goal
 
-without_absent : (ms : Members) → member_named ms alg_name ≡ None → without_member alg_name ms ≡ ms
+without_absent : (ms : Members) → member_named ms alg_name ≡ None → removed ms alg_name ≡ ms
 without_absent no_members h = refl
 without_absent (member name t ms) h = go (bytes_eq name alg_name) h (without_absent ms)
   where
-    go : (b : Bool) → (if b then Some t else member_named ms alg_name) ≡ None → (member_named ms alg_name ≡ None → without_member alg_name ms ≡ ms)
-        → (if b then without_member alg_name ms else member name t (without_member alg_name ms)) ≡ member name t ms
+    go : (b : Bool) → (if b then Some t else member_named ms alg_name) ≡ None → (member_named ms alg_name ≡ None → removed ms alg_name ≡ ms)
+        → (if b then removed ms alg_name else member name t (removed ms alg_name)) ≡ member name t ms
     go true h ih = cc
     go false h ih = ap (member name t) (ih h)
 
