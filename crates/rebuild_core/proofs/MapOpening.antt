@@ -9,35 +9,22 @@ use Rattle.std.proofs.Math.ListN.{drop_of_length-le}
 use Rattle.claim_tree.specs.Tree.{Text, Tree, Members, no_members, member, object, names, depth, IsBefore, IsBeforeAll, MembersOrdered}
 use Rattle.claim_tree.specs.View.{tree_of, members_of}
 use Rattle.claim_tree.specs.Removed.{removed}
-use Rattle.claim_tree.proofs.Lists.{bytes_same}
 use Rattle.claim_tree.proofs.Walks.{Named}
-use Rattle.digest_sites.specs.Reserved.{sd_name, sd_texts, text_list, texts_or_none}
+use Rattle.digest_sites.specs.Reserved.{sd_name, sd_texts}
 use Rattle.digest_sites.specs.Given.{Given}
 use Rattle.marked_tree.specs.Marked.{Marked, MarkedMembers, no_marked_members, marked_member, put, put_all, strip}
 use Rattle.rebuild_core.specs.Payload.{alg_name}
 use Rattle.rebuild_core.specs.Opening.{Shown, open_tree, open_members, show_members}
 use Rattle.rebuild_core.specs.Cursor.{tree_digests, members_digests, TellFirst}
 use Rattle.rebuild_core.specs.Whole.{settled, members_joined, shown_member, shown_members, shown_depth, shown_depths, topped, stays, AllNew, WholeUnless, OpensWhole, MembersWhole}
+use Rattle.rebuild_core.proofs.AlgFacts.{sd_texts_without}
 use Rattle.rebuild_core.proofs.Goes.{Goes, goes_past, first_part, length-join, IsTold, told_here}
 use Rattle.rebuild_core.proofs.ShownDepths.{map_depth, members_joined_end, members_joined_depth, put_shown, put_depth_most, members_most, members_keep, members_new}
 
 -- ---- the payload's own object
 
-alg_differs : bytes_eq alg_name sd_name ≡ false
-unfolding alg_name sd_name
-alg_differs = refl
-
-sd_texts-without : (ms : Members) → sd_texts (removed ms alg_name) ≡ sd_texts ms
-sd_texts-without no_members = refl
-sd_texts-without (member k t ms) = go (bytes_eq k alg_name) refl (sd_texts-without ms)
-  where
-    go : (b : Bool) → bytes_eq k alg_name ≡ b → sd_texts (removed ms alg_name) ≡ sd_texts ms
-        → sd_texts (cond b (removed ms alg_name) (member k t (removed ms alg_name))) ≡ sd_texts (member k t ms)
-    go true e ih = ih ∙ sym (ap (λ b. cond b (texts_or_none (text_list t)) (sd_texts ms)) (ap (λ z. bytes_eq z sd_name) (bytes_same k alg_name e) ∙ alg_differs))
-    go false e ih = ap (cond (bytes_eq k sd_name) (texts_or_none (text_list t))) ih
-
 pub sd_texts-topped : (top : Bool) (ms : Members) → sd_texts (topped top ms) ≡ sd_texts ms
-sd_texts-topped true ms = sd_texts-without ms
+sd_texts-topped true ms = sd_texts_without ms
 sd_texts-topped false ms = refl
 
 -- a member that stays
