@@ -9,6 +9,7 @@ pub mod TreeTokens
 pub mod Datas
 pub mod RoundTrip
 pub mod OneTree
+pub mod ReadOrdered
 pub mod PathFronts
 mod PointerEscapes
 mod PointerTildes

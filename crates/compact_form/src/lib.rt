@@ -40,5 +40,5 @@ pub use limits::{COMPACT_MAX, COUNT_MAX, FILE_MAX, ISSUE_MAX};
 pub use parts::{JwtParts, Parts};
 pub use reader::At;
 pub use spelling::{hashed_text, print, print_jwt};
-pub use token::read_view;
+pub use token::{is_json, read_view};
 pub use view::{JwtView, Pieces, View};

@@ -6,7 +6,8 @@ use crate::{
     At, COMPACT_MAX, COUNT_MAX, FILE_MAX, FORM, Fault, Place, TOO_LONG, TOO_MUCH, View, trim,
 };
 
-fn is_json(text: &[u8]) -> bool
+/// Whether a text begins with `{`, and so is to be a JSON serialization (RFC 9901 section 8).
+pub fn is_json(text: &[u8]) -> bool
     ensures { result ≡ json_test text.now }
 {
     text.first() == Some(&b'{')

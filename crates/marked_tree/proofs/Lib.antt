@@ -11,6 +11,7 @@ pub mod NumberSets
 pub mod MarkedWalks
 pub mod Finds
 pub mod Remarks
+pub mod PrunedSame
 pub mod MarkSame
 pub mod PathOrder
 pub mod HeadCounts
