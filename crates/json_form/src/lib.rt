@@ -1,7 +1,7 @@
 //! Tokens as they come from a file, in the serializations of RFC 9901.
 //!
-//! [`read_token`] reads the compact serialization (section 4), and refuses a text that begins with `{` as a compact text would be.
-//! [`parse_json`] reads the JSON serialization (section 8), flattened or general, and [`print_flat`] and [`print_general`] write it.
+//! [`read_token`] reads the compact serialization (section 4) and, where a text begins with `{`, the JSON ones, flattened
+//! and general (section 8). [`parse_json`] reads these alone; [`print_flat`] and [`print_general`] write them.
 #![tactic(auto)]
 
 mod entries;
