@@ -56,7 +56,7 @@ spelled_well text t place (spells_compact plainly is none) (no_json at json faul
 spelled_well text t place (spells_json json is) (no_compact stop plainly refused at) = clash (is_json text) json plainly
 spelled_well text t place (spells_json json is) (no_json at again fault named) = no_fault text t at is fault.applies
 
-one_place : (text : List ℕ) (p q : Place) → IsMisformed text p → IsMisformed text q → p ≡ q
+pub one_place : (text : List ℕ) (p q : Place) → IsMisformed text p → IsMisformed text q → p ≡ q
 one_place text p q (no_compact stop plainly refused at) (no_compact other again as_well was) = at ∙ ap At (one_stop text stop other refused.longest as_well.longest) ∙ sym was
 one_place text p q (no_compact stop plainly refused at) (no_json there json fault named) = absurd (clash (is_json text) json plainly)
 one_place text p q (no_json there json fault named) (no_compact stop plainly refused at) = absurd (clash (is_json text) json plainly)
