@@ -1,4 +1,3 @@
-pub mod Tokens
 mod Members
 mod SayOrFail
 mod Objects
@@ -6,3 +5,4 @@ mod WrittenForms
 pub mod OneForm
 mod WordLists
 mod EntryLists
+pub mod Tokens

@@ -5,8 +5,11 @@ use Rattle.claim_tree.specs.FileForms.{Says}
 use Rattle.claim_tree.specs.Lists.{IsLeast, Nowhere}
 use Rattle.claim_tree.specs.declared.text.ReadError.{ReadError}
 use Rattle.compact_form.specs.declared.fault.Part.TheVariants.{Payload, Signatures}
+use Rattle.compact_form.specs.declared.conditions.TheConstants.{FORM}
+use Rattle.compact_form.specs.declared.fault.Place.TheVariants.{Json}
 use Rattle.compact_form.specs.declared.fault.JsonPlace.TheVariants.{NotJson, NotWhole}
 use Rattle.json_form.specs.declared.token.Token.{Token}
+use Rattle.json_form.specs.declared.token.TokenError.{TokenError}
 use Rattle.json_form.specs.declared.entries.Entries.{Entries}
 use Rattle.json_form.specs.declared.json_error.JsonFormError.{JsonFormError}
 use Rattle.json_form.specs.Json.{found, has_beside, AreEntries, IsStray, IsWordTree, EntrySays}
@@ -16,6 +19,11 @@ abbrev pub unread_place : ReadError → JsonFormError
 unread_place ReadError.Memory = JsonFormError.Memory
 unread_place ReadError.NotJson = JsonFormError.Fault NotJson
 unread_place ReadError.NotWhole = JsonFormError.Fault NotWhole
+
+-- the answer for a text that is no JSON serialization
+abbrev pub misformed : JsonFormError → TokenError
+misformed JsonFormError.Memory = TokenError.Memory
+misformed (JsonFormError.Fault place) = TokenError.Fault record { number = FORM; place = Json place }
 
 -- the first entry that is stray, where there is one
 abbrev pub IsFirstStray : Elements → Option ℕ → Type 0

@@ -1,10 +1,46 @@
--- A token as it comes from a file, in any of its serializations (RFC 9901 sections 4 and 8).
-use Rattle.std.specs.Prelude.{◌≡◌, ℕ, List}
+-- A token as it comes from a file, in any of its serializations (RFC 9901 sections 4 and 8), or the lowest condition of 1 to 3 that fails.
+use Rattle.std.specs.Prelude.{◌≡◌, ◌<◌, ◌≤◌, ◌⊎◌, ℕ, true, false, List, length}
 use Rattle.claim_tree.specs.Tree.{no_members}
-use Rattle.compact_form.specs.Token.{Reads}
+use Rattle.compact_form.specs.declared.limits.TheConstants.{COMPACT_MAX, COUNT_MAX}
+use Rattle.compact_form.specs.declared.conditions.TheConstants.{TOO_LONG, FORM, TOO_MUCH}
+use Rattle.compact_form.specs.declared.fault.Fault.{Fault}
+use Rattle.compact_form.specs.declared.fault.Place.{Place}
+use Rattle.compact_form.specs.declared.fault.Place.TheVariants.{Nowhere, At, Json}
+use Rattle.compact_form.specs.declared.fault.JsonPlace.{JsonPlace}
+use Rattle.compact_form.specs.declared.parts.Parts.{Parts}
+use Rattle.compact_form.specs.Compact.{compact, IsCompact, IsRefusedAt}
+use Rattle.compact_form.specs.Token.{is_json, is_too_long}
+use Rattle.compact_form.specs.Trim.{trimmed}
 use Rattle.json_form.specs.declared.token.Token.{Token}
+use Rattle.json_form.specs.Json.{IsJson}
+use Rattle.json_form.specs.PlaceTable.{IsJsonFault}
 
--- the text is read as these parts, with no members of an unprotected header beside them
+-- the text is a serialization of the token: a JSON one where it begins with `{`, else the compact one, which has no unprotected header
+pub data Spells (text : List ℕ) (token : Token) : Type 0 where
+  spells_compact : is_json text ≡ false → IsCompact token.parts text → token.outer ≡ no_members → Spells text token
+  spells_json : is_json text ≡ true → IsJson token text → Spells text token
+
+-- the text is none, and this is the place that is named
+pub data IsMisformed (text : List ℕ) (place : Place) : Type 0 where
+  no_compact : (stop : ℕ) → is_json text ≡ false → IsRefusedAt text stop → place ≡ At stop → IsMisformed text place
+  no_json : (at : JsonPlace) → is_json text ≡ true → IsJsonFault text at → place ≡ Json at → IsMisformed text place
+
+-- there are too many disclosures, or the compact text of the parts is too long
+abbrev pub IsTooMuch : Parts → Type 0
+IsTooMuch parts = (COUNT_MAX < length parts.disclosures) ⊎ (COMPACT_MAX < length (compact parts))
+
+-- each condition that fails, with its number and its place
+pub data Fails (text : List ℕ) (fault : Fault) : Type 0 where
+  too_long : fault ≡ record { number = TOO_LONG; place = Nowhere } → is_too_long text ≡ true → Fails text fault
+  form : (place : Place) → fault ≡ record { number = FORM; place = place } → IsMisformed (trimmed text) place → Fails text fault
+  too_much : (token : Token) → fault ≡ record { number = TOO_MUCH; place = Nowhere } → Spells (trimmed text) token → IsTooMuch token.parts → Fails text fault
+
+-- the lowest condition that fails
+pub record IsRefused (text : List ℕ) (fault : Fault) : Type 0 where
+  pub fails : Fails text fault
+  pub lowest : (other : Fault) → Fails text other → fault.number ≤ other.number
+
+-- no condition fails, and the text between its blanks is a serialization of the token
 pub record IsToken (text : List ℕ) (token : Token) : Type 0 where
-  pub reads : Reads text token.parts
-  pub plain : token.outer ≡ no_members
+  pub spells : Spells (trimmed text) token
+  pub passes : (fault : Fault) → Fails text fault → ⊥

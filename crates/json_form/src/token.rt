@@ -1,10 +1,11 @@
 ghost use Rattle.std.specs.Prelude.{◌≡◌, IfOk, IsErrOf};
-ghost use Rattle.compact_form.specs.Token.{IsRefused};
 ghost use Rattle.compact_form.specs.declared.fault.Fault.{Fault as TheFault};
-ghost use Rattle.json_form.specs.Token.{IsToken};
+ghost use Rattle.json_form.specs.Token.{IsToken, IsRefused};
+ghost use Rattle.json_form.specs.Written.{IsPrintable};
 
+use crate::{JsonFormError, TokenText};
 use claim_tree::TreeMap;
-use compact_form::{Fault, Parts, read_view};
+use compact_form::{FORM, Fault, Parts, Place};
 use sd_outside::NoMemory;
 use std::alloc::Global;
 
@@ -47,17 +48,34 @@ impl From<Fault> for TokenError {
     }
 }
 
+impl From<JsonFormError> for TokenError {
+    ghost use Rattle.json_form.specs.Reading.{misformed};
+
+    ghost from_gives = { λ error e. e ≡ misformed error };
+
+    fn from(error: JsonFormError) -> Self {
+        match error {
+            JsonFormError::Memory => TokenError::Memory,
+            JsonFormError::Fault(place) => TokenError::Fault(Fault {
+                number: FORM,
+                place: Place::Json(place),
+            }),
+        }
+    }
+}
+
 /// The token of a text as it comes from a file, or the lowest condition of 1 to 3 that fails.
 ///
-/// The blanks at both ends are cut off first. Only the compact serialization is read yet, so a text that begins with `{`
-/// is refused by condition 2 at byte 0.
+/// The blanks at both ends are cut off first. A text that then begins with `{` is a JSON serialization, flattened or
+/// general (RFC 9901 section 8); any other is the compact one (section 4).
 pub fn read_token(alloc: Global, text: &[u8]) -> Result<Token, TokenError>
     ensures ok { IfOk result (IsToken text.now) }
+    ensures printable { IfOk result IsPrintable }
     ensures refused { (fault : TheFault) → IsErrOf result (TokenError.Fault fault) → IsRefused text.now fault }
 {
-    let parts = read_view(text)?.to_parts(alloc)?;
-    Ok(Token {
-        parts,
-        outer: TreeMap::new(alloc),
-    })
+    let token = match TokenText::read(alloc, text) {
+        Ok(token) => token,
+        Err(error) => return Err(error),
+    };
+    Ok(token.into_token(alloc)?)
 }
