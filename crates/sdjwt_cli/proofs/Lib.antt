@@ -5,5 +5,8 @@ mod Shown
 mod ShowVerdicts
 mod VerifyVerdicts
 mod IssueVerdicts
+mod NeverShown
+mod Presentings
+mod PresentVerdicts
 mod Refusals
 mod Examples

@@ -5,6 +5,7 @@ use Rattle.claim_tree.specs.declared.file_fault.FileFault.{FileFault}
 use Rattle.compact_form.specs.declared.limits.TheConstants.{COMPACT_MAX}
 use Rattle.compact_form.specs.declared.parts.Parts.{Parts}
 use Rattle.compact_form.specs.Compact.{compact}
+use Rattle.compact_form.specs.Condition.{Condition, number_of}
 use Rattle.hmac_sign.specs.Hmac.{key_block, IsGood}
 use Rattle.holder_core.specs.declared.errors.PresentError.{PresentError}
 use Rattle.holder_core.specs.declared.errors.PresentError.TheVariants.{Memory, Token as OnCondition, HasBinding, NoSuchPlace, ConsentRefused, BindingKeyDiffers, SignFailed, TooLong}
@@ -37,6 +38,11 @@ present_refusal (NoSuchPlace k) = line (codes "refused 72 wantedNotThere at " ++
 present_refusal (ConsentRefused i) = line (codes "refused 73 consentRefused at " ++ decimal i)
 present_refusal BindingKeyDiffers = line (codes "refused 74 bindingKeyDiffers")
 present_refusal TooLong = line (codes "refused 75 presentTooLong")
+
+-- for private functions: the text is the line of the refusal, where the number of a condition that fails is that of a condition
+abbrev pub HasLine : PresentError → List ℕ → Type 0
+HasLine (OnCondition fault) text = (condition : Condition) → fault.number ≡ number_of condition → text ≡ refusal fault
+HasLine error text = text ≡ present_refusal error
 
 -- the token is presented for the order, and this is the line of its compact text
 pub record Presents (order_file token_file : List ℕ) (now : ℕ) (answer : List ℕ) : Type 0 where

@@ -14,6 +14,10 @@ mod issue_tests;
 mod issued_tests;
 pub mod laws;
 mod lines;
+mod never;
+mod present;
+#[cfg(test)]
+mod present_tests;
 mod show;
 mod split;
 mod stop;
