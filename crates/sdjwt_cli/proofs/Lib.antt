@@ -5,6 +5,7 @@ mod Shown
 mod ShowVerdicts
 mod VerifyVerdicts
 mod IssueVerdicts
+mod OtherRules
 mod NeverShown
 mod Presentings
 mod PresentVerdicts

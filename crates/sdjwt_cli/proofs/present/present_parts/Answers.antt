@@ -1,7 +1,7 @@
 use Rattle.std.proofs.Common.{Bool, List, subst, ap}
 use Rattle.std.proofs.lemmas.Result.{IfOk-weaker, IfErr-weaker}
 use Rattle.marked_tree.specs.Places.{Path}
-use Rattle.holder_core.proofs.OtherRules.{presented_by, not_presented_by}
+use Rattle.sdjwt_cli.proofs.OtherRules.{presented_by, not_presented_by}
 use Rattle.sdjwt_cli.specs.Never.{Judges, never_rule}
 use Rattle.sdjwt_cli.proofs.Issuings.{never}
 use Rattle.sdjwt_cli.proofs.Presentings.{never_fails}
