@@ -31,8 +31,8 @@ judged never at false h = (λ _. all_in (λ front. LeadsTo front at → ⊥) nev
 
 -- the rule has one answer for each place
 pub never_decided : (never : List Path) → IsDecided never_rule never
-never_decided never at yes no =
-    let shown : MayBeShown never at = subst (MayBeShown never) yes.shows (yes.says.met.0 refl) in
-    let also : MayBeShown never no.shown.now = subst (MayBeShown never) (sym no.shows) shown in
-    let wrong : false ≡ true = no.says.met.1 also in
+never_decided never at allows refuses =
+    let shown : MayBeShown never at = subst (MayBeShown never) allows.shows (allows.says.met.0 refl) in
+    let also : MayBeShown never refuses.shown.now = subst (MayBeShown never) (sym refuses.shows) shown in
+    let wrong : false ≡ true = refuses.says.met.1 also in
     cc wrong

@@ -1,5 +1,5 @@
 -- What is presented by a rule of consent, or refused, is so by each rule that may answer as it does.
-use Rattle.std.proofs.Common.{◌≡◌, ℕ, Bool, true, false}
+use Rattle.std.proofs.Common.{ℕ, Bool, true, false, Result, Ok, Err, IfOk, IfErr}
 use Rattle.claim_tree.specs.Tree.{Text}
 use Rattle.compact_form.specs.declared.parts.Parts.{Parts}
 use Rattle.hmac_sign.specs.Signatures.{Meaning}
@@ -11,7 +11,7 @@ use Rattle.selection_core.specs.Consent.{Answers, Allows, AllAllowed, IsRefusedA
 use Rattle.holder_core.specs.declared.ask.Ask.{Ask}
 use Rattle.holder_core.specs.declared.errors.PresentError.{PresentError}
 use Rattle.holder_core.specs.declared.errors.PresentError.TheVariants.{Memory, Token as OnCondition, HasBinding, NoSuchPlace, ConsentRefused, BindingKeyDiffers, SignFailed, TooLong}
-use Rattle.holder_core.specs.Present.{IsAgreed, IsAnswer, IsDenied, IsKeyOther, IsToBeSigned, IsTooLong, Refuses, IsPresented, IsNotPresented, not_read, refused}
+use Rattle.holder_core.specs.Present.{IsAgreed, IsAnswer, Refuses, IsPresented, IsNotPresented, not_read, refused}
 
 module _ {F G : Type 0} {answers : Answers F} {rule : F} (others : Answers G) (other : G) (carries : (at : Path) (b : Bool) → Allows answers rule at b → Allows others other at b) where
   all_allowed : (m : Marked) (s : ℕ → Bool) → AllAllowed answers rule m s → AllAllowed others other m s
@@ -52,15 +52,17 @@ module _ {F G : Type 0} {answers : Answers F} {rule : F} (others : Answers G) (o
     refusal TooLong h = record { answer = h.answer; is_answer = answer h.answer h.is_answer; long = h.long }
 
 -- the fact comes first, and tells the rule
-pub presented_by : {F G : Type 0} {answers : Answers F} {rule : F} {content : Text} {ask : Ask} {good : Meaning} {now : ℕ} {a : Parts}
-    → IsPresented answers rule content ask good now a → (others : Answers G) (other : G)
-    → ((at : Path) (b : Bool) → Allows answers rule at b → Allows others other at b) → IsPresented others other content ask good now a
-presented_by {F} {G} {answers} {rule} {content} {ask} {good} {now} {a} h others other carries =
+pub presented_by : {F G : Type 0} {answers : Answers F} {rule : F} (content : Text) (ask : Ask) (good : Meaning) (now : ℕ) (r : Result Parts PresentError)
+    → IfOk r (IsPresented answers rule content ask good now) → (others : Answers G) (other : G)
+    → ((at : Path) (b : Bool) → Allows answers rule at b → Allows others other at b) → IfOk r (IsPresented others other content ask good now)
+presented_by content ask good now (Ok a) h others other carries =
     record { token = h.token; is_token = h.is_token; is_answer = answer others other carries h.token ask good now a h.is_answer }
+presented_by content ask good now (Err e) h others other carries = tt
 
-pub not_presented_by : {F G : Type 0} {answers : Answers F} {rule : F} {content : Text} {ask : Ask} {good : Meaning} {now : ℕ} {e : PresentError}
-    → IsNotPresented answers rule content ask good now e → (others : Answers G) (other : G)
-    → ((at : Path) (b : Bool) → Allows answers rule at b → Allows others other at b) → IsNotPresented others other content ask good now e
-not_presented_by (not_read fault is r) others other carries = not_read fault is r
-not_presented_by {F} {G} {answers} {rule} {content} {ask} {good} {now} {e} (refused token is r) others other carries =
+pub not_presented_by : {F G : Type 0} {answers : Answers F} {rule : F} (content : Text) (ask : Ask) (good : Meaning) (now : ℕ) (r : Result Parts PresentError)
+    → IfErr r (IsNotPresented answers rule content ask good now) → (others : Answers G) (other : G)
+    → ((at : Path) (b : Bool) → Allows answers rule at b → Allows others other at b) → IfErr r (IsNotPresented others other content ask good now)
+not_presented_by content ask good now (Ok a) h others other carries = tt
+not_presented_by content ask good now (Err e) (not_read fault is r) others other carries = not_read fault is r
+not_presented_by content ask good now (Err e) (refused token is r) others other carries =
     refused token is (refusal others other carries token ask good now e r)

@@ -3,7 +3,6 @@ use Rattle.std.proofs.Common.{◌≡◌, ℕ, List, ap, ◌∙◌, sym, subst, i
 use Rattle.compact_form.specs.declared.parts.Parts.{Parts}
 use Rattle.compact_form.specs.Compact.{compact}
 use Rattle.hmac_sign.specs.Hmac.{IsGood}
-use Rattle.holder_core.specs.declared.errors.PresentError.{PresentError}
 use Rattle.holder_core.specs.declared.errors.PresentError.TheVariants.{Memory, SignFailed}
 use Rattle.holder_core.specs.declared.present_file.PresentFile.{PresentFile}
 use Rattle.holder_core.proofs.PresentFiles as orders
@@ -39,6 +38,7 @@ no_order order a b g h = g.line_is ∙ (ap (unreadable_line 1) (orders.one_fault
 printed_not_refused : (order token : List ℕ) (now : ℕ) (a b : List ℕ) → Presents order token now a → DoesNotPresent order token now b → ⊥
 printed_not_refused order token now a b g h = neither (presented_not_refused never_rule g.said.never (never_decided g.said.never) token g.said.ask (IsGood key) (one_signature key) now g.parts h.error g.presented g.short applies)
   where
+    key : List ℕ
     key = signing_key g.said.key
 
     applies : IsNotPresentedFor g.said token now h.error

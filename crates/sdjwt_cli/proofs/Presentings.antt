@@ -1,5 +1,5 @@
 -- What the steps of `present` say of its files.
-use Rattle.std.proofs.Common.{◌≡◌, ◌≢◌, ℕ, List, Result, Ok, Err, IfErr, refl, ap, ◌∙◌}
+use Rattle.std.proofs.Common.{◌≡◌, ◌≢◌, ℕ, List, Result, Ok, Err, IfErr, ap, ◌∙◌}
 use Rattle.std.specs.Prelude.{IsErrOf}
 use Rattle.compact_form.specs.declared.fault.Fault.{Fault}
 use Rattle.compact_form.specs.Condition.{Condition, number_of}
@@ -17,21 +17,18 @@ never_fails (Err error) h = λ is. h (ap Err is)
 
 module _ (said : PresentFile) (token : List ℕ) (now : ℕ) where
   -- a condition that fails has the number of a condition
-  condition_of_fault : (error : PresentError) (fault : Fault) → error ≡ OnCondition fault → IsNotPresentedFor said token now error → (c : Condition) × (fault.number ≡ number_of c)
-  condition_of_fault error fault same (not_read other is r) =
-      let one : OnCondition fault ≡ OnCondition other = cc in
-      let faults : fault ≡ other = cc one in
+  condition_of_fault : (fault : Fault) → IsNotPresentedFor said token now (OnCondition fault) → (c : Condition) × (fault.number ≡ number_of c)
+  condition_of_fault fault (not_read other is r) =
+      let same : fault ≡ other = cc is in
       let condition = file_condition token other r.fails in
-      (condition.0, ap (λ (f : Fault). f.number) faults ∙ condition.1)
-  condition_of_fault (OnCondition other) fault same (refused t is r) =
-      let faults : other ≡ fault = cc same in
-      (r.1.failed, ap (λ (f : Fault). f.number) (sym faults) ∙ r.1.number_is)
+      (condition.0, ap (λ (f : Fault). f.number) same ∙ condition.1)
+  condition_of_fault fault (refused t is r) = (r.1.failed, r.1.number_is)
 
   -- the line of a refusal that applies
   pub line_of : (error : PresentError) → IsNotPresentedFor said token now error → (text : List ℕ) → HasLine error text → text ≡ present_refusal error
   line_of Memory r text h = h
   line_of SignFailed r text h = h
-  line_of (OnCondition fault) r text h = let condition = condition_of_fault (OnCondition fault) fault refl r in h condition.0 condition.1
+  line_of (OnCondition fault) r text h = let condition = condition_of_fault fault r in h condition.0 condition.1
   line_of HasBinding r text h = h
   line_of (NoSuchPlace k) r text h = h
   line_of (ConsentRefused i) r text h = h

@@ -1,5 +1,5 @@
 // The command `present`: the compact text of what a holder shows of a token.
-ghost use Rattle.std.specs.Prelude.{◌≡◌, ◌≢◌, ◌≤◌, ◌×◌, length, IfOk, IfErr, string_bytes};
+ghost use Rattle.std.specs.Prelude.{◌≡◌, ◌≢◌, ◌≤◌, length, IfOk, IfErr, string_bytes};
 ghost use Rattle.compact_form.specs.Compact.{AreWords, compact};
 ghost use Rattle.compact_form.specs.declared.limits.TheConstants.{COMPACT_MAX};
 ghost use Rattle.hmac_sign.specs.Hmac.{IsGood};

@@ -1,15 +1,30 @@
-use Rattle.std.proofs.Common.{ap, ◌∙◌, rules}
-use Rattle.sdjwt_cli.specs.Lines.{line}
+use Rattle.std.proofs.Common.{◌≢◌, string_bytes, ℕ, List, subst, rules}
+use Rattle.holder_core.specs.declared.errors.PresentError.TheVariants.{Memory}
+use Rattle.hmac_sign.specs.Hmac.{IsGood}
+use Rattle.holder_core.specs.Present.{IsNotPresented}
+use Rattle.sdjwt_cli.specs.Never.{never_rule}
+use Rattle.sdjwt_cli.specs.Presenting.{IsNotPresentedFor}
 use Rattle.sdjwt_cli.proofs.Presentings.{line_of}
 use Rattle.sdjwt_cli.proofs.present.present.Goals as goal
 
-pub returns-in_ok-as_line-in-Ok-present_parts-clause-presents : goal.returns-in_ok-as_line-in-Ok-present_parts-clause-presents
-returns-in_ok-as_line-in-Ok-present_parts-clause-presents c =
+pub returns : goal.returns
+returns c =
+    let said = c.in-Ok.said in
+    let error = c.in-Err-present_parts.error in
+    let memory : error ≢ Memory = search rules in
+    let refused : IsNotPresentedFor said c.args.token_file.now c.args.now error =
+    subst (λ (key : List ℕ). IsNotPresented never_rule said.never c.args.token_file.now said.ask (IsGood key) c.args.now error) c.signer-key.ensures c.in-Err-present_parts.ensures.refused in
     record {
-      said = c.in-Ok.said;
-      is_order = c.in-Ok.ensures.ok;
-      parts = c.in-Ok-present_parts.parts;
-      presented = c.in-Ok-present_parts.ensures.presented;
-      short = c.in-Ok-present_parts.ensures.short;
-      line_is = c.in_ok-as_line-in-Ok-present_parts.ensures ∙ ap line c.in_ok-print-in-Ok-present_parts.ensures.spelling;
+      presents = tt;
+      refuses = record {
+        said = said;
+        is_order = c.in-Ok.ensures.ok;
+        error = error;
+        refused = refused;
+        memory = memory;
+        signed = c.in-Err-present_parts.ensures.signed;
+        line_is = line_of said c.args.token_file.now c.args.now error refused (string_bytes c.in_ok-present_line-in-Err-present_parts.field-0) c.in_ok-present_line-in-Err-present_parts.ensures;
+      };
+      unreadable = tt;
+      read = tt;
     }
