@@ -62,19 +62,9 @@ not_below ds n d at more (text, here, earlier, before, there) =
     let stands_too : At ds earlier d = subst (λ t. At ds earlier t) same there in
     omega (arith, more, before, place_least (take n ds) earlier d (At-taken ds n earlier d stands_too before))
 
-first_repeats : (ds : List Text) → ((i j : ℕ) → IsFirstClash ds i j → ⊥) → (n : ℕ) → n ≤ length ds → (q : ℕ) → q < n → Repeats ds q → ⊥
-first_repeats ds none zero l q less r = omega (arith, less)
-first_repeats ds none (suc n) l q less r = go (either (place_or_end d (take n ds)) n) (sooner q n less)
+one_further : (ds : List Text) → ((i j : ℕ) → IsFirstClash ds i j → ⊥) → (n : ℕ) (d : Text) → At ds n d → ((p : ℕ) → p < n → Repeats ds p → ⊥) → (q : ℕ) → q < suc n → Repeats ds q → ⊥
+one_further ds none n d at before q less r = go (either (place_or_end d (take n ds)) n) (sooner q n less)
   where
-    there : (d : Text) × At ds n d
-    there = At-get ds n (omega (arith, l))
-
-    d : Text
-    d = there.0
-
-    before : (p : ℕ) → p < n → Repeats ds p → ⊥
-    before = first_repeats ds none n (omega (arith, l))
-
     either : (a b : ℕ) → (a < b) ⊎ (b ≤ a)
     either a b = grind arith
 
@@ -82,10 +72,16 @@ first_repeats ds none (suc n) l q less r = go (either (place_or_end d (take n ds
     sooner a b l = grind arith
 
     go : (place_or_end d (take n ds) < n) ⊎ (n ≤ place_or_end d (take n ds)) → (q < n) ⊎ (q ≡ n) → ⊥
-    go (inl below) s = none (place_or_end d (take n ds)) n (clash_at ds n (place_or_end d (take n ds)) d there.1 refl below before)
+    go (inl below) s = none (place_or_end d (take n ds)) n (clash_at ds n (place_or_end d (take n ds)) d at refl below before)
     go (inr more) (inl s) = before q s r
-    go (inr more) (inr e) = not_below ds n d there.1 more (subst (Repeats ds) e r)
+    go (inr more) (inr e) = not_below ds n d at more (subst (Repeats ds) e r)
+
+first_repeats : (ds : List Text) → ((i j : ℕ) → IsFirstClash ds i j → ⊥) → (n : ℕ) → n ≤ length ds → (q : ℕ) → q < n → Repeats ds q → ⊥
+first_repeats ds none zero l q less r = omega (arith, less)
+first_repeats ds none (suc n) l q less r =
+    let there = At-get ds n (omega (arith, l)) in
+    one_further ds none n there.0 there.1 (first_repeats ds none n (omega (arith, l))) q less r
 
 -- where no text is the first that repeats an earlier one, none does
 pub no_repeats : (ds : List Text) → ((i j : ℕ) → IsFirstClash ds i j → ⊥) → Nowhere (Repeats ds)
-no_repeats ds none q r = first_repeats ds none (length ds) (omega arith) q (At-below ds q r.0 r.1.0) r
+no_repeats ds none q r = first_repeats ds none (length ds) (omega arith) q (At-below ds q r.0 r.1) r

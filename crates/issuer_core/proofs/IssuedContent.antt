@@ -51,17 +51,23 @@ digests_zip : (seed : List ℕ) (k : ℕ) (given : List Given) → ((i : ℕ) (x
 digests_zip seed k [] each = tt
 digests_zip seed k (x ∷ given) each = (
   let c : k + 0 ≡ k = omega arith in
-  subst (λ n. x.digest ≡ digest_of HashAlg.Sha256 ((maker_of seed).disclosure n x.name x.value)) c (each 0 x refl),
+      subst (λ n. x.digest ≡ digest_of HashAlg.Sha256 ((maker_of seed).disclosure n x.name x.value)) c (each 0 x refl),
   digests_zip seed (suc k) given (λ i y a.
-  let c : k + suc i ≡ suc k + i = omega arith in
-  subst (λ n. y.digest ≡ digest_of HashAlg.Sha256 ((maker_of seed).disclosure n y.name y.value)) c (each (suc i) y a)),
+      let c : k + suc i ≡ suc k + i = omega arith in
+      subst (λ n. y.digest ≡ digest_of HashAlg.Sha256 ((maker_of seed).disclosure n y.name y.value)) c (each (suc i) y a)),
 )
 
-both_zip : {X Y : Type 0} (P Q : X → Y → Type 0) (xs : List X) (ys : List Y) → AllZip P xs ys → AllZip Q xs ys → AllZip (λ x y. P x y × Q x y) xs ys
-both_zip P Q [] [] h k = tt
-both_zip P Q [] (y ∷ ys) h k = absurd h
-both_zip P Q (x ∷ xs) [] h k = absurd h
-both_zip P Q (x ∷ xs) (y ∷ ys) h k = ((h.0, k.0), both_zip P Q xs ys h.1 k.1)
+abbrev HasDigest : Text → Given → Type 0
+HasDigest d x = x.digest ≡ digest_of HashAlg.Sha256 d
+
+abbrev IsRead : Text → Given → Type 0
+IsRead d x = (salt : Tree) × IsDisclosure d salt x.name x.value
+
+texts_zip : (ds : List Text) (given : List Given) → AllZip HasDigest ds given → AllZip IsRead ds given → AllZip IsTextOf ds given
+texts_zip [] [] h k = tt
+texts_zip [] (x ∷ given) h k = absurd h
+texts_zip (d ∷ ds) [] h k = absurd h
+texts_zip (d ∷ ds) (x ∷ given) h k = ((h.0, k.0.0, k.0.1), texts_zip ds given h.1 k.1)
 
 names_hash : (t : Tree) → IsObject t → payload_hash (with_alg t) ≡ Some HashAlg.Sha256
 unfolding alg_name
@@ -89,8 +95,8 @@ has_issued seed o good parts writable differ out =
       sound = issued_is_sound_holds (maker_of seed) o p g writable.good issued readable;
       hash = names_hash p (payload_object (maker_of seed) o p g out.digests writable.good out.laid);
       bare = without_with_alg (maker_of seed) o p g out.digests writable.good out.laid;
-      texts = both_zip (λ (d : Text) (x : Given). x.digest ≡ digest_of HashAlg.Sha256 d) (λ (d : Text) (x : Given). (salt : Tree) × IsDisclosure d salt x.name x.value) parts.disclosures g
-          (subst (λ (ds : List Text). AllZip (λ (d : Text) (x : Given). x.digest ≡ digest_of HashAlg.Sha256 d) ds g) (sym out.written.disclosures)
+      texts = texts_zip parts.disclosures g
+          (subst (λ (ds : List Text). AllZip HasDigest ds g) (sym out.written.disclosures)
           (digests_zip seed 0 g (λ i x a. let c : i ≡ 0 + i = omega arith in subst (λ n. x.digest ≡ digest_of HashAlg.Sha256 ((maker_of seed).disclosure n x.name x.value)) c (issued.made i x a))))
           back.disclosures;
     }

@@ -92,10 +92,10 @@ header_texts alg (Some kid) (Some typ) a k t = (alg_utf8, a, (kid_utf8, k, (typ_
 header_carried : (part alg : Text) (kid typ : Option Text) → part ≡ b64 (json_text (object (header_members (made alg kid typ)))) → HasTexts (object (header_members (made alg kid typ))) → Carries part (object (header_members (made alg kid typ)))
 unfolding made
 header_carried part alg None None is h = carried_back part (object (header_members (made alg None None))) is h (tt, tt) (tt, tt, tt) (omega arith)
-header_carried part alg None (Some typ) is h = carried_back part (object (header_members (made alg None (Some typ)))) is h (tt, tt, tt) ((refl, tt), tt, (tt, tt, tt)) (omega arith)
-header_carried part alg (Some kid) None is h = carried_back part (object (header_members (made alg (Some kid) None))) is h (tt, tt, tt) ((refl, tt), tt, (tt, tt, tt)) (omega arith)
+header_carried part alg None (Some typ) is h = carried_back part (object (header_members (made alg None (Some typ)))) is h (tt, (tt, tt)) ((refl, tt), tt, (tt, tt, tt)) (omega arith)
+header_carried part alg (Some kid) None is h = carried_back part (object (header_members (made alg (Some kid) None))) is h (tt, (tt, tt)) ((refl, tt), tt, (tt, tt, tt)) (omega arith)
 header_carried part alg (Some kid) (Some typ) is h =
-    carried_back part (object (header_members (made alg (Some kid) (Some typ)))) is h (tt, tt, tt, tt) ((refl, refl, tt), tt, ((refl, tt), tt, (tt, tt, tt))) (omega arith)
+    carried_back part (object (header_members (made alg (Some kid) (Some typ)))) is h (tt, (tt, (tt, tt))) ((refl, (refl, tt)), tt, ((refl, tt), tt, (tt, tt, tt))) (omega arith)
 
 made_back : (part alg : Text) (kid typ : Option Text) → part ≡ b64 (json_text (object (header_members (made alg kid typ)))) → IsUtf8 alg → IfSome kid IsUtf8 → IfSome typ IsUtf8 → IsHeader part no_members (made alg kid typ)
 made_back part alg kid typ is a k t = record {
@@ -112,16 +112,16 @@ header_back part h is a k t = made_back part h.alg h.kid h.typ is a k t
 -- ---- a disclosure
 
 array_texts : (salt : Text) (name : Option Text) (value : Tree) → IsUtf8 salt → IfSome name IsUtf8 → HasTexts value → HasTexts (array_of (leaf (text salt)) name value)
-array_texts salt None value s n v = (s, v, tt)
-array_texts salt (Some name) value s n v = (s, n, v, tt)
+array_texts salt None value s n v = (s, (v, tt))
+array_texts salt (Some name) value s n v = (s, (n, (v, tt)))
 
 array_ranged : (salt : Text) (name : Option Text) (value : Tree) → IsRanged value → IsRanged (array_of (leaf (text salt)) name value)
-array_ranged salt None value r = (tt, r, tt)
-array_ranged salt (Some name) value r = (tt, tt, r, tt)
+array_ranged salt None value r = (tt, (r, tt))
+array_ranged salt (Some name) value r = (tt, (tt, (r, tt)))
 
 array_ordered : (salt : Text) (name : Option Text) (value : Tree) → IsOrdered value → IsOrdered (array_of (leaf (text salt)) name value)
-array_ordered salt None value o = (tt, o, tt)
-array_ordered salt (Some name) value o = (tt, tt, o, tt)
+array_ordered salt None value o = (tt, (o, tt))
+array_ordered salt (Some name) value o = (tt, (tt, (o, tt)))
 
 pub disclosure_back : (salt : Text) (name : Option Text) (value : Tree) → IsUtf8 salt → IfSome name IsUtf8 → HasTexts value → IsRanged value → IsOrdered value → depth value ≤ 126
     → IsDisclosure (disclosure_text (leaf (text salt)) name value) (leaf (text salt)) name value
@@ -146,17 +146,17 @@ module _ (dg dh : ℕ → Text) (most : ℕ) (same : (k : ℕ) → k < most → 
     elements_agree : (n : ℕ) (es : MarkedElements) → ElementsClose n es → n + elements_weight one es ≤ most → ElementsAgree dg dh es
     elements_agree n no_marked_elements is low = tt
     elements_agree n (marked_element k t es) is low = (
-      mark_agrees k n (weight one t) is.1.0 (omega (arith, low)),
+      mark_agrees k n (weight one t) is.1 (omega (arith, low)),
       marks_agree n t is.0 (omega (arith, low)),
-      elements_agree (n + (mark_weight one k + weight one t)) es is.1.1 (omega (arith, low)),
+      elements_agree (n + (mark_weight one k + weight one t)) es is.2 (omega (arith, low)),
     )
 
     members_agree : (n : ℕ) (ms : MarkedMembers) → MembersClose n ms → n + members_weight one ms ≤ most → MembersAgree dg dh ms
     members_agree n no_marked_members is low = tt
     members_agree n (marked_member name k t ms) is low = (
-      mark_agrees k n (weight one t) is.1.0 (omega (arith, low)),
+      mark_agrees k n (weight one t) is.1 (omega (arith, low)),
       marks_agree n t is.0 (omega (arith, low)),
-      members_agree (n + (mark_weight one k + weight one t)) ms is.1.1 (omega (arith, low)),
+      members_agree (n + (mark_weight one k + weight one t)) ms is.2 (omega (arith, low)),
     )
 
 -- ---- an order
@@ -168,16 +168,19 @@ pub record IsReadBack (o : Order) (payload : Tree) (given : List Given) (parts :
   pub disclosures : AllZip (λ (d : Text) (x : Given). (salt : Tree) × IsDisclosure d salt x.name x.value) parts.disclosures given
 
 decoys_texts : (dg : ℕ → Text) (n : ℕ) (places : List Path) → ((d : ℕ) → d < length places → IsUtf8 (dg (n + d))) → (q : Path) → AllTexts (decoys_at dg n places q)
-decoys_texts dg n [] each q d m = elim m [ ]
+decoys_texts dg n [] each q = λ d m. absurd m
 decoys_texts dg n (place ∷ places) each q = go (same_path place q) (decoys_texts dg (suc n) places (λ d l. subst (λ k. IsUtf8 (dg k)) (next d) (each (suc d) (omega (arith, l)))) q)
   where
     next : (d : ℕ) → n + suc d ≡ suc n + d
     next d = omega arith
 
+    front : (d : Text) → AllTexts (decoys_at dg (suc n) places q) → In d (dg n ∷ decoys_at dg (suc n) places q) → IsUtf8 d
+    front d rest (inl e) = subst IsUtf8 (sym e) (let c : n + 0 ≡ n = omega arith in subst (λ k. IsUtf8 (dg k)) c (each 0 (omega arith)))
+    front d rest (inr m) = rest d m
+
     go : (b : Bool) → AllTexts (decoys_at dg (suc n) places q) → AllTexts ((if b then dg n ∷ [] else []) ++ decoys_at dg (suc n) places q)
     go false rest = rest
-    go true rest d (inl e) = subst IsUtf8 (sym e) (let c : n + 0 ≡ n = omega arith in subst (λ k. IsUtf8 (dg k)) c (each 0 (omega arith)))
-    go true rest d (inr m) = rest d m
+    go true rest = λ d there. front d rest there
 
 with_alg_depth : (t : Tree) (c : ℕ) → depth t ≤ suc c → depth (with_alg t) ≤ suc c
 with_alg_depth (leaf l) c h = h
@@ -203,7 +206,7 @@ salts_back : (seed : List ℕ) (k : ℕ) (given : List Given) → ((i : ℕ) (x 
 salts_back seed k [] each = tt
 salts_back seed k (x ∷ given) each =
     let h = each 0 x refl in
-    ((leaf (text (salt_of seed k)), disclosure_back (salt_of seed k) x.name x.value (b64_utf8 (salt_piece seed k)) h.0.0 h.0.1 h.1.0 h.1.1.0 h.1.1.1), salts_back seed (suc k) given (λ i y a. each (suc i) y a))
+    ((leaf (text (salt_of seed k)), disclosure_back (salt_of seed k) x.name x.value (b64_utf8 (salt_piece seed k)) h.0.0 h.0.1 h.1 h.2 h.3), salts_back seed (suc k) given (λ i y a. each (suc i) y a))
 
 module _ (seed : List ℕ) (o : Order) (p : Tree) (g : List Given) (dg : ℕ → Text) (writable : IsWritable o) (laid : IsLaid (maker_of seed) o p g dg) where
   count : length g ≡ hidden_of o
@@ -222,6 +225,7 @@ module _ (seed : List ℕ) (o : Order) (p : Tree) (g : List Given) (dg : ℕ →
   dh = first_texts dg (hidden_of o)
 
   agree : MarksAgree dg dh (marked_of o)
+  unfolding dh
   agree = marks_agree dg dh (hidden_of o) (first_same dg (hidden_of o)) 0 (marked_of o) (order_closes o) (omega (arith, order_marks o))
 
   claims_texts : HasTexts (strip (marked_of o))
@@ -231,12 +235,14 @@ module _ (seed : List ℕ) (o : Order) (p : Tree) (g : List Given) (dg : ℕ →
   decoys_are = decoys_texts dg (hidden_of o) (decoys_of o) decoy_utf8
 
   payload_texts : HasTexts p
+  unfolding dh
   payload_texts =
       let dec = order_decoys o dg in
       let same = laid.payload_laid ∙ lay_agrees dg dh dec dec (λ q. refl) (marked_of o) agree in
       subst HasTexts (sym same) (lay_texts dh (first_utf8 dg (hidden_of o) mark_utf8) dec decoys_are (marked_of o) claims_texts)
 
   given_texts : (x : Given) → In x g → GivenTexts x
+  unfolding dh
   given_texts x m =
       let dec = order_decoys o dg in
       let same = laid.given_laid ∙ items_agree dg dh dec dec (λ q. refl) (marked_of o) agree in
@@ -266,9 +272,9 @@ module _ (seed : List ℕ) (o : Order) (p : Tree) (g : List Given) (dg : ℕ →
       let readable = laid_is_readable_holds (maker_of seed) o p g dg writable.good laid in
       let shallow = writable.good.shallow in
       let each : (i : ℕ) (x : Given) → At g i x → GivenTexts x × IsRanged x.value × IsOrdered x.value × (depth x.value ≤ 126) = λ i x a.
-          let m = At-In g i x a in
-          let low = value_depth (maker_of seed) o p g dg laid x m in
-          (given_texts x m, value_ranged (maker_of seed) o p g dg laid writable.ranged x m, readable.in_values x m, omega (arith, low, shallow)) in
+      let m = At-In g i x a in
+      let low = value_depth (maker_of seed) o p g dg laid x m in
+      (given_texts x m, value_ranged (maker_of seed) o p g dg laid writable.ranged x m, readable.in_values x m, omega (arith, low, shallow)) in
       record {
         header = header_back parts.signed.protected (header_of o) written.protected (IsUtf8-are_ascii (codes "HS256") refl) writable.kid writable.typ;
         body = body_back parts.signed.payload written.body;

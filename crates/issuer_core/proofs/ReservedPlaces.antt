@@ -195,4 +195,4 @@ mutual
 
   members_short : (ms : Members) → MembersHeld ms → MembersShort ms
   members_short no_members h = tt
-  members_short (member name t ms) h = (held_short t h.1.0, members_short ms h.1.1)
+  members_short (member name t ms) h = (held_short t h.1, members_short ms h.2)

@@ -1,5 +1,5 @@
 -- The texts of what is laid are UTF-8, and so is its JSON text.
-use Rattle.std.proofs.Common.{◌≡◌, ℕ, suc, ◌<◌, ◌≤◌, ◌^◌, ℤ, pos, negsuc, List, [], ◌∷◌, ◌++◌, Bool, true, false, Equal, Greater, Less, None, Option, Ordering, Some, IfSome, IsUtf8, arith, decimal, codes, inl, inr, refl, subst, sym}
+use Rattle.std.proofs.Common.{◌≡◌, ℕ, suc, ◌<◌, ◌≤◌, ◌^◌, ◌⊎◌, ℤ, pos, negsuc, List, [], ◌∷◌, ◌++◌, Bool, true, false, Equal, Greater, Less, None, Option, Ordering, Some, IfSome, IsUtf8, arith, decimal, codes, inl, inr, refl, subst, sym}
 use Rattle.std.proofs.lemmas.Fmt.{IsAscii-decimal, IsAscii-signed}
 use Rattle.std.proofs.lemmas.Str.{IsUtf8-append, IsUtf8-nil, IsUtf8-from_ascii}
 use Rattle.std.specs.Cmp.Lexicographic.{slice_cmp}
@@ -13,6 +13,7 @@ use Rattle.b64url_text.proofs.Words.{IsAscii-letters}
 use Rattle.claim_tree.specs.Tree.{Text, Leaf, null, flag, whole, text, Tree, leaf, array, object, Elements, no_elements, element, Members, no_members, member, inserted, IsRanged, ElementsRanged, MembersRanged}
 use Rattle.claim_tree.specs.JsonText.{json_text, elements_data, members_data}
 use Rattle.claim_tree.specs.Lists.{In}
+use Rattle.claim_tree.proofs.Lists.{In-append}
 use Rattle.digest_sites.specs.Given.{Given}
 use Rattle.digest_sites.specs.Reserved.{sd_name, dots_name}
 use Rattle.marked_tree.specs.Marked.{Marked, MarkedElements, MarkedMembers, marked_array, marked_element, marked_leaf, marked_member, marked_object, no_marked_elements, no_marked_members, strip, strip_elements, strip_members}
@@ -57,7 +58,7 @@ mutual
 
   members_texts : (ms : Members) → MembersHeld ms → MembersTexts ms
   members_texts no_members h = tt
-  members_texts (member name t ms) h = (h.0, held_texts t h.1.0, members_texts ms h.1.1)
+  members_texts (member name t ms) h = (h.0, held_texts t h.1, members_texts ms h.2)
 
 -- ---- their JSON
 
@@ -95,7 +96,7 @@ mutual
       let rest = json_text t ++ members_text true (members_data ms) in
       comma_utf8 later (quoted name ++ 58 ∷ rest)
       (IsUtf8-append (quoted name) (58 ∷ rest) (IsUtf8-quoted name h.0)
-      (one_byte 58 rest (IsUtf8-are_ascii (58 ∷ []) refl) (IsUtf8-append (json_text t) (members_text true (members_data ms)) (json_utf8 t h.1.0 r.0) (members_utf8 true ms h.1.1 r.1))))
+      (one_byte 58 rest (IsUtf8-are_ascii (58 ∷ []) refl) (IsUtf8-append (json_text t) (members_text true (members_data ms)) (json_utf8 t h.1 r.0) (members_utf8 true ms h.2 r.1))))
 
 -- ---- what is laid
 
@@ -119,16 +120,15 @@ alg_utf8 = IsUtf8-are_ascii (codes "_sd_alg") refl
 
 inserted_texts : (ms : Members) (name : Text) (t : Tree) → IsUtf8 name → HasTexts t → MembersTexts ms → MembersTexts (inserted ms name t)
 inserted_texts no_members name t n h k = (n, h, tt)
-inserted_texts (member l u ms) name t n h k = go (slice_cmp nat_cmp l name) (inserted_texts ms name t n h k.1.1)
+inserted_texts (member l u ms) name t n h k = go (slice_cmp nat_cmp l name) (inserted_texts ms name t n h k.2)
   where
     go : (o : Ordering) → MembersTexts (inserted ms name t) → MembersTexts (match_ordering o (member l u (inserted ms name t)) (member name t ms) (member name t (member l u ms)))
-    go Less ih = (k.0, k.1.0, ih)
-    go Equal ih = (n, h, k.1.1)
+    go Less ih = (k.0, k.1, ih)
+    go Equal ih = (n, h, k.2)
     go Greater ih = (n, h, k)
 
 sorted_with_in : (P : Text → Type 0) (d : Text) (ds : List Text) → P d → ((x : Text) → In x ds → P x) → (x : Text) → In x (sorted_with d ds) → P x
-sorted_with_in P d [] p all x (inl e) = subst P (sym e) p
-sorted_with_in P d [] p all x (inr m) = elim m [ ]
+sorted_with_in P d [] p all = λ x there. elim there [ inl e ↦ subst P (sym e) p | inr m ↦ absurd m ]
 sorted_with_in P d (e ∷ ds) p all = go (slice_cmp nat_cmp d e) (sorted_with_in P d ds p (λ x m. all x (inr m)))
   where
     front : (x : Text) → In x (d ∷ e ∷ ds) → P x
@@ -161,17 +161,21 @@ digest_texts [] all = tt
 digest_texts (d ∷ ds) all = ((dots_utf8, all d (inl refl), tt), digest_texts ds (λ x m. all x (inr m)))
 
 joined_texts : (xs ys : List Text) → AllTexts xs → AllTexts ys → AllTexts (xs ++ ys)
-joined_texts [] ys h k = k
-joined_texts (x ∷ xs) ys h k d (inl e) = h d (inl e)
-joined_texts (x ∷ xs) ys h k d (inr m) = joined_texts xs ys (λ z n. h z (inr n)) k d m
+joined_texts xs ys h k d there = go (In-append d xs ys there)
+  where
+    go : In d xs ⊎ In d ys → IsUtf8 d
+    go (inl m) = h d m
+    go (inr m) = k d m
 
 abbrev AllValues : (Given → Type 0) → List Given → Type 0
 AllValues P xs = (x : Given) → In x xs → P x
 
 values_joined : (P : Given → Type 0) (xs ys : List Given) → AllValues P xs → AllValues P ys → AllValues P (xs ++ ys)
-values_joined P [] ys h k = k
-values_joined P (x ∷ xs) ys h k z (inl e) = h z (inl e)
-values_joined P (x ∷ xs) ys h k z (inr m) = values_joined P xs ys (λ y n. h y (inr n)) k z m
+values_joined P xs ys h k x there = go (In-append x xs ys there)
+  where
+    go : In x xs ⊎ In x ys → P x
+    go (inl m) = h x m
+    go (inr m) = k x m
 
 -- the name, where there is one, and the value have UTF-8 texts
 abbrev pub GivenTexts : Given → Type 0
@@ -203,8 +207,8 @@ module _ (dg : ℕ → Text) (each : (k : ℕ) → IsUtf8 (dg k)) where
 
     members_lay_texts : (dec : Path → List Text) → ((q : Path) → AllTexts (dec q)) → (ms : MarkedMembers) → MembersTexts (strip_members ms) → MembersTexts (lay_members dec dg ms)
     members_lay_texts dec all no_marked_members h = tt
-    members_lay_texts dec all (marked_member name None t ms) h = (h.0, lay_texts (λ q. dec (name ∷ q)) (λ q. all (name ∷ q)) t h.1.0, members_lay_texts dec all ms h.1.1)
-    members_lay_texts dec all (marked_member name (Some i) t ms) h = members_lay_texts dec all ms h.1.1
+    members_lay_texts dec all (marked_member name None t ms) h = (h.0, lay_texts (λ q. dec (name ∷ q)) (λ q. all (name ∷ q)) t h.1, members_lay_texts dec all ms h.2)
+    members_lay_texts dec all (marked_member name (Some i) t ms) h = members_lay_texts dec all ms h.2
 
   mutual
     pub items_texts : (dec : Path → List Text) → ((q : Path) → AllTexts (dec q)) → (m : Marked) → HasTexts (strip m) → AllValues GivenTexts (laid_items dec dg m)
@@ -227,8 +231,8 @@ module _ (dg : ℕ → Text) (each : (k : ℕ) → IsUtf8 (dg k)) where
         let s : Path → List Text = λ q. dec (name ∷ q) in
         let a : (q : Path) → AllTexts (s q) = λ q. all (name ∷ q) in
         values_joined GivenTexts (laid_items s dg t ++ own_item dg (Some name) k (lay s dg t)) (laid_members dec dg ms)
-        (values_joined GivenTexts (laid_items s dg t) (own_item dg (Some name) k (lay s dg t)) (items_texts s a t h.1.0) (own_texts (Some name) k (lay s dg t) h.0 (lay_texts s a t h.1.0)))
-        (members_items_texts dec all ms h.1.1)
+        (values_joined GivenTexts (laid_items s dg t) (own_item dg (Some name) k (lay s dg t)) (items_texts s a t h.1) (own_texts (Some name) k (lay s dg t) h.0 (lay_texts s a t h.1)))
+        (members_items_texts dec all ms h.2)
 
 -- the payload with its hash
 pub with_alg_texts : (t : Tree) → HasTexts t → HasTexts (with_alg t)
