@@ -5,5 +5,7 @@ mod Shown
 mod ShowVerdicts
 mod VerifyVerdicts
 mod IssueVerdicts
+mod ConvertVerdicts
+mod Converted
 mod Refusals
 mod Examples

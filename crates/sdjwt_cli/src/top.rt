@@ -7,6 +7,7 @@ ghost use Rattle.sdjwt_cli.specs.Stops.{OnRefused, OnUnread, OnUnreadable};
 ghost use Rattle.sdjwt_cli.specs.Run.{outside, stream, Misses, Tells, Ends, Keeps};
 
 use crate::command::Command;
+use crate::convert::convert;
 use crate::issue::{SEED_LEN, issue};
 use crate::lines::unread_line;
 use crate::show::show;
@@ -77,6 +78,10 @@ fn answer<C: Cabinet>(
             let order = fetch_file(alloc, cab, order, FETCH_MAX, 0)?;
             let seed = fetch_file(alloc, cab, seed, SEED_LEN, 1)?;
             issue(alloc, order.bytes(), seed.bytes())
+        }
+        Command::Convert { form, token } => {
+            let file = fetch_file(alloc, cab, token, FETCH_MAX, 0)?;
+            convert(alloc, form, file.bytes())
         }
     }
 }
