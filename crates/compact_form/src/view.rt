@@ -179,7 +179,7 @@ impl<'a> View<'a> {
         self.hashed
     }
 
-    /// The same view once more.
+    /// Another view of the same text.
     pub fn copy(&self) -> View<'a>
         ensures { result ≡ self.now }
     {

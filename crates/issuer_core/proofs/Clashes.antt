@@ -1,10 +1,10 @@
 -- The first text that repeats an earlier one, and where it stands first.
-use Rattle.std.proofs.Common.{◌≡◌, ℕ, zero, suc, ◌+◌, ◌<◌, ◌≤◌, List, [], ◌∷◌, length, take, Bool, true, false, cond, Some, bytes_eq, refl, sym, ap, subst, ◌∙◌, arith}
+use Rattle.std.proofs.Common.{◌≡◌, ℕ, zero, suc, ◌+◌, ◌<◌, ◌≤◌, ◌⊎◌, inl, inr, List, [], ◌∷◌, length, take, Bool, true, false, cond, Some, bytes_eq, refl, sym, ap, subst, ◌∙◌, arith}
 use Rattle.std.specs.Prelude.{slice_get}
 use Rattle.std.proofs.lemmas.List.{length-take-le}
 use Rattle.claim_tree.specs.Tree.{Text}
-use Rattle.claim_tree.specs.Lists.{At, Repeats, IsLeast}
-use Rattle.claim_tree.proofs.Lists.{bytes_refl, At-below, At-same}
+use Rattle.claim_tree.specs.Lists.{At, Repeats, Nowhere, IsLeast}
+use Rattle.claim_tree.proofs.Lists.{bytes_refl, At-below, At-get, At-same}
 use Rattle.digest_index.specs.Index.{place_or_end}
 use Rattle.rebuild_core.proofs.Repeated.{place_there, repeats_there}
 use Rattle.issuer_core.specs.Clash.{IsEqualAt, IsFirstClash}
@@ -53,3 +53,35 @@ clash_at ds j i d at is less none =
             omega (arith, is, before, place_least (take j ds) q d (At-taken ds j q d stands_too (omega (arith, before, less))));
       };
     }
+
+-- ---- where none is the first
+
+not_below : (ds : List Text) (n : ℕ) (d : Text) → At ds n d → n ≤ place_or_end d (take n ds) → Repeats ds n → ⊥
+not_below ds n d at more (text, here, earlier, before, there) =
+    let same : text ≡ d = At-same ds n text d here at in
+    let stands_too : At ds earlier d = subst (λ t. At ds earlier t) same there in
+    omega (arith, more, before, place_least (take n ds) earlier d (At-taken ds n earlier d stands_too before))
+
+one_further : (ds : List Text) → ((i j : ℕ) → IsFirstClash ds i j → ⊥) → (n : ℕ) (d : Text) → At ds n d → ((p : ℕ) → p < n → Repeats ds p → ⊥) → (q : ℕ) → q < suc n → Repeats ds q → ⊥
+one_further ds none n d at before q less r = go (either (place_or_end d (take n ds)) n) (sooner q n less)
+  where
+    either : (a b : ℕ) → (a < b) ⊎ (b ≤ a)
+    either a b = grind arith
+
+    sooner : (a b : ℕ) → a < suc b → (a < b) ⊎ (a ≡ b)
+    sooner a b l = grind arith
+
+    go : (place_or_end d (take n ds) < n) ⊎ (n ≤ place_or_end d (take n ds)) → (q < n) ⊎ (q ≡ n) → ⊥
+    go (inl below) s = none (place_or_end d (take n ds)) n (clash_at ds n (place_or_end d (take n ds)) d at refl below before)
+    go (inr more) (inl s) = before q s r
+    go (inr more) (inr e) = not_below ds n d at more (subst (Repeats ds) e r)
+
+first_repeats : (ds : List Text) → ((i j : ℕ) → IsFirstClash ds i j → ⊥) → (n : ℕ) → n ≤ length ds → (q : ℕ) → q < n → Repeats ds q → ⊥
+first_repeats ds none zero l q less r = omega (arith, less)
+first_repeats ds none (suc n) l q less r =
+    let there = At-get ds n (omega (arith, l)) in
+    one_further ds none n there.0 there.1 (first_repeats ds none n (omega (arith, l))) q less r
+
+-- where no text is the first that repeats an earlier one, none does
+pub no_repeats : (ds : List Text) → ((i j : ℕ) → IsFirstClash ds i j → ⊥) → Nowhere (Repeats ds)
+no_repeats ds none q r = first_repeats ds none (length ds) (omega arith) q (At-below ds q r.0 r.1) r

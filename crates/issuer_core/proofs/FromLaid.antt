@@ -295,7 +295,7 @@ words header good body texts parts is_object are_words signed = record {
 pub not_more : (a b : ℕ) → (a < b → ⊥) → b ≤ a
 not_more a b h = grind arith
 
-with_alg_ranged : (t : Tree) → IsRanged t → IsRanged (with_alg t)
+pub with_alg_ranged : (t : Tree) → IsRanged t → IsRanged (with_alg t)
 with_alg_ranged (object ms) r = MembersRanged-inserted ms alg_name (leaf (text (codes "sha-256"))) r tt
 with_alg_ranged (leaf l) r = r
 with_alg_ranged (array es) r = r

@@ -17,7 +17,7 @@ use Rattle.marked_tree.proofs.MarkFacts.{mark_strips_holds}
 
 -- ---- depths
 
-inserted_depth : (ms : Members) (n : Text) (t : Tree) (c : ℕ) → depth t ≤ c → members_depth ms ≤ c → members_depth (inserted ms n t) ≤ c
+pub inserted_depth : (ms : Members) (n : Text) (t : Tree) (c : ℕ) → depth t ≤ c → members_depth ms ≤ c → members_depth (inserted ms n t) ≤ c
 inserted_depth no_members n t c h k = omega (arith, h)
 inserted_depth (member l u ms) n t c h k = go (slice_cmp nat_cmp l n) (inserted_depth ms n t c h (omega (arith, k)))
   where

@@ -18,6 +18,9 @@ pub mod IssuedShown
 pub mod WithAlg
 pub mod LaidBounds
 pub mod OneLaid
+pub mod WrittenTexts
+pub mod ReadBack
+pub mod IssuedContent
 pub mod FromLaid
 pub mod OneToken
 pub mod OneRefusal

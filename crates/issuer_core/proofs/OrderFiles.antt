@@ -20,6 +20,8 @@ use Rattle.issuer_core.specs.OrderFile.{IsValue, IsDecoy, order_table, IsOrderFi
 use Rattle.issuer_core.specs.declared.order.Decoy.{Decoy}
 use Rattle.issuer_core.specs.declared.order_file.IssueFile.{IssueFile}
 use Rattle.claim_tree.proofs.ListForms.{one_list, one_pointer}
+use Rattle.claim_tree.proofs.Inner.{ranged-member_named}
+use Rattle.claim_tree.proofs.OtherMembers.{depth-member_named}
 use Rattle.hmac_sign.proofs.KeyTexts.{one_key_text}
 
 -- ---- what a member says
@@ -116,14 +118,6 @@ value_named : (o : Option spec.Tree) (u : spec.Tree) → Says IsValue o u → o 
 value_named None u h = absurd h
 value_named (Some t) u h = ap Some (sym h)
 
-pub depth_named : (ms : Members) (name : Text) (u : spec.Tree) → member_named ms name ≡ Some u → depth u ≤ members_depth ms
-depth_named no_members name u e = cc e
-depth_named (member k t ms) name u e = go (bytes_eq k name) e (depth_named ms name u)
-  where
-    go : (b : Bool) → cond b (Some t) (member_named ms name) ≡ Some u → (member_named ms name ≡ Some u → depth u ≤ members_depth ms) → depth u ≤ max (depth t) (members_depth ms)
-    go true e ih = let same : t ≡ u = cc e in omega (arith, ap depth same)
-    go false e ih = omega (arith, ih e)
-
 ordered_named : (ms : Members) (name : Text) (u : spec.Tree) → MembersOrdered ms → member_named ms name ≡ Some u → IsOrdered u
 ordered_named no_members name u o e = cc e
 ordered_named (member k t ms) name u o e = go (bytes_eq k name) e (ordered_named ms name u o.2)
@@ -132,22 +126,14 @@ ordered_named (member k t ms) name u o e = go (bytes_eq k name) e (ordered_named
     go true e ih = let same : t ≡ u = cc e in subst IsOrdered same o.1
     go false e ih = ih e
 
-ranged_named : (ms : Members) (name : Text) (u : spec.Tree) → MembersRanged ms → member_named ms name ≡ Some u → IsRanged u
-ranged_named no_members name u r e = cc e
-ranged_named (member k t ms) name u r e = go (bytes_eq k name) e (ranged_named ms name u r.1)
-  where
-    go : (b : Bool) → cond b (Some t) (member_named ms name) ≡ Some u → (member_named ms name ≡ Some u → IsRanged u) → IsRanged u
-    go true e ih = let same : t ≡ u = cc e in subst IsRanged same r.0
-    go false e ih = ih e
-
 pub value_depth : (ms : Members) (name : Text) (u : spec.Tree) → members_depth ms ≤ 126 → Says IsValue (member_named ms name) u → depth u ≤ 126
-value_depth ms name u low says = omega (arith, low, depth_named ms name u (value_named (member_named ms name) u says))
+value_depth ms name u low says = omega (arith, low, depth-member_named ms name u (value_named (member_named ms name) u says))
 
 pub value_ordered : (ms : Members) (name : Text) (u : spec.Tree) → MembersOrdered ms → Says IsValue (member_named ms name) u → IsOrdered u
 value_ordered ms name u o says = ordered_named ms name u o (value_named (member_named ms name) u says)
 
 pub value_ranged : (ms : Members) (name : Text) (u : spec.Tree) → MembersRanged ms → Says IsValue (member_named ms name) u → IsRanged u
-value_ranged ms name u r says = ranged_named ms name u r (value_named (member_named ms name) u says)
+value_ranged ms name u r says = ranged-member_named ms name u r (value_named (member_named ms name) u says)
 
 -- ---- the file
 

@@ -12,7 +12,8 @@ use Rattle.digest_sites.specs.Reserved.{sd_name, dots_name}
 use Rattle.marked_tree.specs.Places.{Path}
 use Rattle.rebuild_core.specs.Payload.{alg_name}
 use Rattle.rebuild_core.specs.Free.{IsFree, HasNoReserved, ElementsNoReserved, MembersNoReserved}
-use Rattle.issuer_core.specs.GoodOrder.{HasShortLists, ElementsShort, MembersShort}
+use Rattle.std.specs.Str.{IsUtf8}
+use Rattle.issuer_core.specs.GoodOrder.{HasShortLists, ElementsShort, MembersShort, IsHeld, ElementsHeld, MembersHeld}
 use Rattle.issuer_core.specs.Reserved.{is_sd, is_reserved, own_place, reserved_places, reserved_elements, reserved_members}
 use Rattle.issuer_core.proofs.Firsts.{first_none, first_some, first_map, no_first, both_empty, none_mapped}
 
@@ -170,14 +171,28 @@ mutual
 pub no_reserved : (t : spec.Tree) → slice_get (reserved_places t) 0 ≡ None → HasNoReserved t
 no_reserved t h = none_reserved t (no_first (reserved_places t) h)
 
--- ---- lists are short
+-- ---- what a machine holds
 
-pub short_element : (n : ℕ) (ts : List Tree) (t : Tree) → n < length ts → t ≡ get_or ts n t → HasShortLists (tree_of t) → ElementsShort (elements_of (drop (n + 1) ts)) → ElementsShort (elements_of (drop n ts))
-short_element n ts t within is here rest =
+pub held_element : (n : ℕ) (ts : List Tree) (t : Tree) → n < length ts → t ≡ get_or ts n t → IsHeld (tree_of t) → ElementsHeld (elements_of (drop (n + 1) ts)) → ElementsHeld (elements_of (drop n ts))
+held_element n ts t within is here rest =
     let there : drop n ts ≡ t ∷ drop (n + 1) ts = drop_more ts n t within ∙ ap (λ (d : Tree). d ∷ drop (n + 1) ts) (sym is) in
-    subst (λ us. ElementsShort (elements_of us)) (sym there) (here, rest)
+    subst (λ us. ElementsHeld (elements_of us)) (sym there) (here, rest)
 
-pub short_member : (n : ℕ) (ms : List Named) (m : Named) → n < length ms → m ≡ get_or ms n m → HasShortLists (tree_of m.1) → MembersShort (members_of (drop (n + 1) ms)) → MembersShort (members_of (drop n ms))
-short_member n ms m within is here rest =
+pub held_member : (n : ℕ) (ms : List Named) (m : Named) → n < length ms → m ≡ get_or ms n m → IsUtf8 m.0 → IsHeld (tree_of m.1) → MembersHeld (members_of (drop (n + 1) ms)) → MembersHeld (members_of (drop n ms))
+held_member n ms m within is name here rest =
     let there : drop n ms ≡ m ∷ drop (n + 1) ms = drop_more ms n m within ∙ ap (λ (d : Named). d ∷ drop (n + 1) ms) (sym is) in
-    subst (λ us. MembersShort (members_of us)) (sym there) (here, rest)
+    subst (λ us. MembersHeld (members_of us)) (sym there) (name, here, rest)
+
+mutual
+  pub held_short : (t : spec.Tree) → IsHeld t → HasShortLists t
+  held_short (leaf l) h = tt
+  held_short (array es) h = (h.0, elements_short es h.1)
+  held_short (object ms) h = members_short ms h
+
+  elements_short : (es : Elements) → ElementsHeld es → ElementsShort es
+  elements_short no_elements h = tt
+  elements_short (element t es) h = (held_short t h.0, elements_short es h.1)
+
+  members_short : (ms : Members) → MembersHeld ms → MembersShort ms
+  members_short no_members h = tt
+  members_short (member name t ms) h = (held_short t h.1, members_short ms h.2)

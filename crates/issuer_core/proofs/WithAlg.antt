@@ -16,31 +16,13 @@ use Rattle.issuer_core.specs.Digests.{Maker, marked_of}
 use Rattle.issuer_core.specs.GoodOrder.{IsGoodOrder, IsObject}
 use Rattle.issuer_core.specs.Laid.{IsLaid, hidden_digests, lay, lay_members, order_decoys, sorted, texts_array, with_alg, with_sd}
 use Rattle.issuer_core.specs.Order.{Order}
-use Rattle.claim_tree.proofs.Lists.{bytes_refl, bytes_same}
+use Rattle.claim_tree.proofs.Lists.{bytes_refl}
 use Rattle.claim_tree.proofs.MapPlaces.{ordered-inserted}
+use Rattle.claim_tree.proofs.OtherMembers.{named_inserted}
 use Rattle.marked_tree.proofs.MarkFacts.{mark_strips_holds}
-use Rattle.marked_tree.proofs.Puts.{never_itself}
 use Rattle.issuer_core.proofs.SdMembers.{HasNo}
 
-name_differs : (l n : Text) → slice_cmp nat_cmp l n ≡ Less → bytes_eq l n ≡ false
-name_differs l n e = go (bytes_eq l n) refl
-  where
-    go : (b : Bool) → bytes_eq l n ≡ b → bytes_eq l n ≡ false
-    go true q = absurd (never_itself l (subst (IsBefore l) (sym (bytes_same l n q)) e))
-    go false q = q
-
--- the member that is put in is there
-pub inserted_named : (ms : Members) (n : Text) (t : Tree) → member_named (inserted ms n t) n ≡ Some t
-inserted_named no_members n t = rw (bytes_refl n n refl)
-inserted_named (member l u ms) n t = go (slice_cmp nat_cmp l n) refl (inserted_named ms n t)
-  where
-    go : (o : Ordering) → slice_cmp nat_cmp l n ≡ o → member_named (inserted ms n t) n ≡ Some t
-        → member_named (match_ordering o (member l u (inserted ms n t)) (member n t ms) (member n t (member l u ms))) n ≡ Some t
-    go Less e ih = rw (name_differs l n e) ih
-    go Equal e ih = rw (bytes_refl n n refl)
-    go Greater e ih = rw (bytes_refl n n refl)
-
--- and taken out again it leaves the others
+-- what is put in and taken out again leaves the others
 inserted_out : (ms : Members) (n : Text) (t : Tree) → HasNo n ms → removed (inserted ms n t) n ≡ ms
 inserted_out no_members n t h = rw (bytes_refl n n refl)
 inserted_out (member l u ms) n t h = go (slice_cmp nat_cmp l n) refl (inserted_out ms n t h.1)
@@ -97,7 +79,7 @@ with_alg_ordered (object ms) o = ordered-inserted ms alg_name (leaf (text (codes
 
 -- an object names its hash
 pub alg_named : (t : Tree) → IsObject t → get (with_alg t) alg_name ≡ Some (leaf (text (codes "sha-256")))
-alg_named (object ms) h = inserted_named ms alg_name (leaf (text (codes "sha-256")))
+alg_named (object ms) h = named_inserted ms alg_name (leaf (text (codes "sha-256")))
 alg_named (leaf l) h = absurd h
 alg_named (array es) h = absurd h
 

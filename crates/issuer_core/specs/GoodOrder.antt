@@ -1,6 +1,7 @@
 -- What refusals 51, 52, 53 and 57 ask of an order, and what is so of every payload that a machine holds.
-use Rattle.std.specs.Prelude.{◌<◌, ◌≤◌, ◌^◌, Option, Some}
-use Rattle.claim_tree.specs.Tree.{Tree, leaf, array, object, Elements, no_elements, element, Members, no_members, member, depth, elements_len, IsOrdered}
+use Rattle.std.specs.Prelude.{◌<◌, ◌≤◌, ◌^◌, Option, Some, IfSome}
+use Rattle.std.specs.Str.{IsUtf8}
+use Rattle.claim_tree.specs.Tree.{Leaf, text, Tree, leaf, array, object, Elements, no_elements, element, Members, no_members, member, depth, elements_len, IsOrdered, IsRanged}
 use Rattle.claim_tree.specs.Lists.{In}
 use Rattle.claim_tree.specs.Path.{tree_at}
 use Rattle.rebuild_core.specs.Free.{HasNoReserved}
@@ -43,3 +44,30 @@ pub record IsGoodOrder (o : Order) : Type 0 where
   pub decoys_held : (entry : Decoy) → In entry o.decoys → HoldsOthers (tree_at o.claims entry.at)
   pub ordered : IsOrdered o.claims
   pub short : HasShortLists o.claims
+
+abbrev pub LeafHeld : Leaf → Type 0
+LeafHeld (text s) = IsUtf8 s
+LeafHeld _ = Unit {0}
+
+-- what is so of every tree that a machine holds: each list has fewer than 2 ^ 64 elements, and each text and each name is UTF-8
+abbrev mutual
+  pub IsHeld : Tree → Type 0
+  IsHeld (leaf l) = LeafHeld l
+  IsHeld (array es) = (elements_len es < 2 ^ 64) × ElementsHeld es
+  IsHeld (object ms) = MembersHeld ms
+
+  pub ElementsHeld : Elements → Type 0
+  ElementsHeld no_elements = Unit {0}
+  ElementsHeld (element t es) = IsHeld t × ElementsHeld es
+
+  pub MembersHeld : Members → Type 0
+  MembersHeld no_members = Unit {0}
+  MembersHeld (member name t ms) = IsUtf8 name × IsHeld t × MembersHeld ms
+
+-- a good order as a machine holds it, with numbers of 64 bits: what is written for it is read again
+pub record IsWritable (o : Order) : Type 0 where
+  pub good : IsGoodOrder o
+  pub held : IsHeld o.claims
+  pub ranged : IsRanged o.claims
+  pub kid : IfSome o.kid IsUtf8
+  pub typ : IfSome o.typ IsUtf8

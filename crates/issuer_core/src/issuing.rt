@@ -4,7 +4,7 @@ ghost use Rattle.std.specs.List.{AllByRecursion};
 ghost use Rattle.sd_outside.specs.Causes.{Rose};
 ghost use Rattle.claim_tree.specs.Tree.{depth as depth_of, IsRanged};
 ghost use Rattle.claim_tree.specs.View.{tree_of};
-ghost use Rattle.compact_form.specs.declared.limits.TheConstants.{ISSUE_MAX};
+ghost use Rattle.compact_form.specs.declared.limits.TheConstants.{COUNT_MAX, ISSUE_MAX};
 ghost use Rattle.compact_form.specs.Compact.{compact, AreWords};
 ghost use Rattle.hmac_sign.specs.Signatures.{Agree};
 ghost use Rattle.issuer_core.specs.declared.errors.IssueError.{IssueError};
@@ -13,7 +13,7 @@ ghost use Rattle.issuer_core.specs.Seed.{maker_of};
 ghost use Rattle.issuer_core.specs.Written.{IsIssued, IsLaidOut};
 ghost use Rattle.b64url_text.specs.Base64url.{IsWord};
 ghost use Rattle.issuer_core.specs.Written.{header_of};
-ghost use Rattle.issuer_core.specs.GoodOrder.{IsObject};
+ghost use Rattle.issuer_core.specs.GoodOrder.{IsObject, IsWritable};
 ghost use Rattle.issuer_core.specs.Issue.{IsNotIssued, HasNoClash, AreSigned, IsUnsigned, HasClash, IsFinished, IsUnfinished};
 ghost use Rattle.issuer_core.specs.Refusals.{Refuses, NoneApplies};
 ghost use Rattle.claim_tree.specs.Lists.{Repeats, Nowhere};
@@ -41,8 +41,10 @@ pub fn issue<S: Signer>(
     ensures issued { IfOk result (IsIssued (maker_of seed.now) (order_of order.now) (S.good signer.old)) }
     ensures laid { IfOk result (IsLaidOut (maker_of seed.now) (order_of order.now) (S.good signer.old)) }
     ensures passes { IfOk result (λ _. NoneApplies (Refuses (order_of order.now))) }
+    ensures writable { IfOk result (λ _. IsWritable (order_of order.now)) }
     ensures differ { IfOk result (λ _. HasNoClash (maker_of seed.now) (order_of order.now)) }
     ensures words { IfOk result AreWords }
+    ensures few { IfOk result (λ parts. length parts.disclosures ≤ COUNT_MAX) }
     ensures short { IfOk result (λ parts. length (compact parts) ≤ ISSUE_MAX) }
     ensures refused { IfErr result (IsNotIssued (maker_of seed.now) (order_of order.now) (S.good signer.old)) }
     ensures failed { IsErrOf result IssueError.SignFailed → Rose (S.faults signer.old) (S.faults signer.new) }
@@ -72,8 +74,10 @@ pub fn issue_owned<S: Signer>(
     ensures issued { IfOk result (IsIssued (maker_of seed.now) (order_of order) (S.good signer.old)) }
     ensures laid { IfOk result (IsLaidOut (maker_of seed.now) (order_of order) (S.good signer.old)) }
     ensures passes { IfOk result (λ _. NoneApplies (Refuses (order_of order))) }
+    ensures writable { IfOk result (λ _. IsWritable (order_of order)) }
     ensures differ { IfOk result (λ _. HasNoClash (maker_of seed.now) (order_of order)) }
     ensures words { IfOk result AreWords }
+    ensures few { IfOk result (λ parts. length parts.disclosures ≤ COUNT_MAX) }
     ensures short { IfOk result (λ parts. length (compact parts) ≤ ISSUE_MAX) }
     ensures refused { IfErr result (IsNotIssued (maker_of seed.now) (order_of order) (S.good signer.old)) }
     ensures failed { IsErrOf result IssueError.SignFailed → Rose (S.faults signer.old) (S.faults signer.new) }

@@ -1,5 +1,6 @@
 // The refusals that an order alone decides.
-ghost use Rattle.std.specs.Prelude.{◌≡◌, ◌≤◌, ◌<◌, ◌↔◌, length, OnOk, IfOk, IfErr, IsTrue, bytes_eq};
+ghost use Rattle.std.specs.Prelude.{◌≡◌, ◌≤◌, ◌<◌, ◌↔◌, length, OnOk, IfOk, IfErr, IfSome, IsTrue, bytes_eq};
+ghost use Rattle.std.specs.Str.{IsUtf8};
 ghost use Rattle.std.specs.List.{position_from, list_any};
 ghost use Rattle.std.specs.Set.{distinct_count};
 ghost use Rattle.claim_tree.specs.Tree.{depth as depth_of, IsOrdered};
@@ -15,11 +16,11 @@ ghost use Rattle.issuer_core.specs.Judging as spec;
 ghost use Rattle.issuer_core.specs.Judging.{PassesBelow};
 
 use crate::hidden::different;
-use crate::reserved::first_reserved;
+use crate::reserved::{first_reserved, spells};
 use crate::{DecoyList, IssueError, Order};
 use claim_tree::{Path, PathList, Tree, depth, find};
 use compact_form::COUNT_MAX;
-use sd_outside::NoMemory;
+use sd_outside::{NoMemory, TextBox};
 use std::alloc::Global;
 
 /// The most that the payload of an order nests.
@@ -131,7 +132,7 @@ fn judge_payload(alloc: Global, order: &Order) -> Result<(), IssueError>
     requires { depth_of (tree_of order.now.payload) ≤ 127 }
     ensures passes { OnOk result (PassesBelow 54 (order_of order.now)) }
     ensures ordered { OnOk result (IsOrdered (tree_of order.now.payload)) }
-    ensures short { OnOk result (good.HasShortLists (tree_of order.now.payload)) }
+    ensures held { OnOk result (good.IsHeld (tree_of order.now.payload)) }
     ensures refused { IfErr result (IsRefused (order_of order.now)) }
 {
     if !is_object(&order.payload) {
@@ -167,6 +168,14 @@ fn judge_places(order: &Order) -> Result<(), IssueError>
     Ok(())
 }
 
+fn spells_some(text: &Option<TextBox>)
+    ensures { IfSome text.now IsUtf8 }
+{
+    if let Some(text) = text {
+        spells(text);
+    }
+}
+
 /// Whether an order is refused by what it says itself: by one of 51 to 59, the lowest that applies at its least place.
 ///
 /// It searches the paths one by one, and costs no more than that and one walk of the payload.
@@ -174,6 +183,9 @@ pub fn judge(alloc: Global, order: &Order) -> Result<(), IssueError>
     requires { depth_of (tree_of order.now.payload) ≤ 127 }
     ensures passes { OnOk result (NoneApplies (Refuses (order_of order.now))) }
     ensures good { OnOk result (IsGoodOrder (order_of order.now)) }
+    ensures held { OnOk result (good.IsHeld (tree_of order.now.payload)) }
+    ensures kid { OnOk result (IfSome order.now.kid IsUtf8) }
+    ensures typ { OnOk result (IfSome order.now.typ IsUtf8) }
     ensures refused { IfErr result (IsRefused (order_of order.now)) }
 {
     judge_payload(alloc, order)?;
@@ -184,5 +196,7 @@ pub fn judge(alloc: Global, order: &Order) -> Result<(), IssueError>
     if are_too_many(&order.decoys) {
         return Err(IssueError::TooManyDecoys);
     }
+    spells_some(&order.kid);
+    spells_some(&order.typ);
     Ok(())
 }

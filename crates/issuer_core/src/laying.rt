@@ -336,7 +336,8 @@ pub(crate) fn lay_order(alloc: Global, order: &Order, seed: &[u8; 32]) -> Result
     requires ranged { IsRanged (order_of order.now).claims }
     requires few { distinct_count same_path order.now.hide ≤ COUNT_MAX }
     requires decoys { length (places order.now.decoys) ≤ COUNT_MAX }
-    ensures { IfOk result (λ laid. IsLaidFor (maker_of seed.now) (order_of order.now) (tree_of laid.payload) laid.texts laid.digests) }
+    ensures laid { IfOk result (λ laid. IsLaidFor (maker_of seed.now) (order_of order.now) (tree_of laid.payload) laid.texts laid.digests) }
+    ensures few { IfOk result (λ laid. length laid.texts ≤ COUNT_MAX) }
 {
     let (claims, hidden) = mark_hidden(alloc, &order.payload, &order.hide)?;
     let hidden = hidden as usize;
@@ -361,7 +362,8 @@ pub(crate) fn lay_owned(alloc: Global, order: Order, seed: &[u8; 32]) -> Result<
     requires ranged { IsRanged (order_of order).claims }
     requires few { distinct_count same_path order.hide ≤ COUNT_MAX }
     requires decoys { length (places order.decoys) ≤ COUNT_MAX }
-    ensures { IfOk result (λ laid. IsLaidFor (maker_of seed.now) (order_of order) (tree_of laid.payload) laid.texts laid.digests) }
+    ensures laid { IfOk result (λ laid. IsLaidFor (maker_of seed.now) (order_of order) (tree_of laid.payload) laid.texts laid.digests) }
+    ensures few { IfOk result (λ laid. length laid.texts ≤ COUNT_MAX) }
 {
     if !hides_nothing(&order) {
         return lay_order(alloc, &order, seed);

@@ -1,5 +1,5 @@
 use crate::{IssueFile, read_order};
-use claim_tree::{Field, FileFault, Tree, print_path};
+use claim_tree::{FileFault, Tree, print_path};
 use compact_form::FILE_MAX;
 use std::alloc::Global;
 use std::test::Fail;
@@ -55,86 +55,73 @@ fn an_order_says_what_its_file_says(rt: HostRuntime) -> Result<(), Fail> {
     Ok(())
 }
 
+// How a file is read, in words.
+fn told(alloc: Global, text: &str) -> Result<String, Fail> {
+    match read_order(alloc, text.as_bytes()) {
+        Ok(_) => Ok(String::from_str(alloc, "read")?),
+        Err(FileFault::Unknown) => Ok(String::from_str(alloc, "unknown")?),
+        Err(FileFault::NotJson) => Ok(String::from_str(alloc, "notJson")?),
+        Err(FileFault::NotWhole) => Ok(String::from_str(alloc, "notWhole")?),
+        Err(FileFault::NotObject) => Ok(String::from_str(alloc, "notObject")?),
+        Err(FileFault::TooLong) => Ok(String::from_str(alloc, "tooLong")?),
+        Err(FileFault::Missing(field)) => {
+            let word = field.word();
+            Ok(format!(in alloc; "missing {word}")?)
+        }
+        Err(FileFault::Wrong(field)) => {
+            let word = field.word();
+            Ok(format!(in alloc; "wrong {word}")?)
+        }
+        Err(FileFault::Memory) => Err("no memory")?,
+    }
+}
+
+// A file on each line behind what is told of it. The sign < stands for a key, and > for one of 31 bytes.
+const FAULTS: &str = r#"read^{"payload":1,"key":<}
+unknown^{"payload":1,"key":<,"want":[]}
+wrong hide^{"payload":1,"key":<,"hide":"/a"}
+wrong hide^{"payload":1,"key":<,"hide":null}
+wrong hide^{"payload":1,"key":<,"hide":["/a","a"]}
+wrong hide^{"payload":1,"key":<,"hide":["/~2"]}
+wrong hide^{"payload":1,"key":<,"hide":[1]}
+wrong decoys^{"payload":1,"key":<,"decoys":{}}
+wrong decoys^{"payload":1,"key":<,"decoys":[{}]}
+wrong decoys^{"payload":1,"key":<,"decoys":[{"at":""}]}
+wrong decoys^{"payload":1,"key":<,"decoys":[{"at":"a","count":1}]}
+wrong decoys^{"payload":1,"key":<,"decoys":[{"at":"","count":4097}]}
+wrong decoys^{"payload":1,"key":<,"decoys":[{"at":"","count":-1}]}
+wrong decoys^{"payload":1,"key":<,"decoys":[{"at":"","count":1,"k":1}]}
+wrong hide^{"payload":1,"key":1,"decoys":[1],"hide":1}
+wrong key^{"payload":1,"key":1,"kid":1}
+wrong key^{"payload":1,"key":>}
+wrong key^{"payload":1,"key":"AQ="}
+wrong key^{"payload":1,"key":""}
+wrong kid^{"payload":1,"key":<,"kid":null}
+wrong kid^{"payload":1,"key":<,"typ":1,"kid":1}
+wrong typ^{"payload":1,"key":<,"typ":1}
+notJson^
+notWhole^{"payload":1.5}
+notObject^[]
+missing payload^{}
+missing key^{"payload":1}
+wrong hide^{"payload":1,"hide":1}
+missing payload^{"hide":1,"key":1}"#;
+
 #[test]
 fn an_order_with_a_fault_is_refused(rt: HostRuntime) -> Result<(), Fail> {
     let alloc = rt.alloc();
     let short = "\"AQEBAQEBAQEBAQEBAQEBAQEBAQEBAQEBAQEBAQEBAQ\"";
-    for (key, members, fault) in [
-        (KEY, ",\"want\":[]", FileFault::Unknown),
-        (KEY, ",\"hide\":\"/a\"", FileFault::Wrong(Field::Hide)),
-        (KEY, ",\"hide\":null", FileFault::Wrong(Field::Hide)),
-        (
-            KEY,
-            ",\"hide\":[\"/a\",\"a\"]",
-            FileFault::Wrong(Field::Hide),
-        ),
-        (KEY, ",\"hide\":[\"/~2\"]", FileFault::Wrong(Field::Hide)),
-        (KEY, ",\"hide\":[1]", FileFault::Wrong(Field::Hide)),
-        (KEY, ",\"decoys\":{}", FileFault::Wrong(Field::Decoys)),
-        (KEY, ",\"decoys\":[{}]", FileFault::Wrong(Field::Decoys)),
-        (
-            KEY,
-            ",\"decoys\":[{\"at\":\"\"}]",
-            FileFault::Wrong(Field::Decoys),
-        ),
-        (
-            KEY,
-            ",\"decoys\":[{\"at\":\"a\",\"count\":1}]",
-            FileFault::Wrong(Field::Decoys),
-        ),
-        (
-            KEY,
-            ",\"decoys\":[{\"at\":\"\",\"count\":4097}]",
-            FileFault::Wrong(Field::Decoys),
-        ),
-        (
-            KEY,
-            ",\"decoys\":[{\"at\":\"\",\"count\":-1}]",
-            FileFault::Wrong(Field::Decoys),
-        ),
-        (
-            KEY,
-            ",\"decoys\":[{\"at\":\"\",\"count\":1,\"k\":1}]",
-            FileFault::Wrong(Field::Decoys),
-        ),
-        (
-            "1",
-            ",\"decoys\":[1],\"hide\":1",
-            FileFault::Wrong(Field::Hide),
-        ),
-        ("1", ",\"kid\":1", FileFault::Wrong(Field::Key)),
-        (short, "", FileFault::Wrong(Field::Key)),
-        ("\"AQ=\"", "", FileFault::Wrong(Field::Key)),
-        ("\"\"", "", FileFault::Wrong(Field::Key)),
-        (KEY, ",\"kid\":null", FileFault::Wrong(Field::Kid)),
-        (KEY, ",\"typ\":1,\"kid\":1", FileFault::Wrong(Field::Kid)),
-        (KEY, ",\"typ\":1", FileFault::Wrong(Field::Typ)),
-    ] {
-        let text = format!(in alloc; "{{\"payload\":1,\"key\":{key}{members}}}")?;
-        let read = read_order(alloc, text.as_bytes());
-        assert_eq!(rt; read.err(), Some(fault), "{text}");
+    let faults = FAULTS.replace(alloc, "<", KEY)?.replace(alloc, ">", short)?;
+    for line in faults.as_str().split('\n') {
+        let (wanted, text) = line.split_once('^').ok_or("no row")?;
+        assert_eq!(rt; told(alloc, text)?.as_str(), wanted, "{text}");
     }
-    for (text, fault) in [
-        ("", FileFault::NotJson),
-        ("{\"payload\":1.5}", FileFault::NotWhole),
-        ("[]", FileFault::NotObject),
-        ("{}", FileFault::Missing(Field::Payload)),
-        ("{\"payload\":1}", FileFault::Missing(Field::Key)),
-        ("{\"payload\":1,\"hide\":1}", FileFault::Wrong(Field::Hide)),
-        ("{\"hide\":1,\"key\":1}", FileFault::Missing(Field::Payload)),
-    ] {
-        let read = read_order(alloc, text.as_bytes());
-        assert_eq!(rt; read.err(), Some(fault), "{text}");
+    let mut blanks = String::new(alloc);
+    for _ in 0..FILE_MAX {
+        blanks.push(' ')?;
     }
-    let mut text = vec![in alloc; b' '; FILE_MAX]?;
-    assert_eq!(rt;
-        read_order(alloc, text.as_slice()).err(),
-        Some(FileFault::NotJson)
-    );
-    text.push(b' ')?;
-    assert_eq!(rt;
-        read_order(alloc, text.as_slice()).err(),
-        Some(FileFault::TooLong)
-    );
+    assert_eq!(rt; told(alloc, blanks.as_str())?.as_str(), "notJson");
+    blanks.push(' ')?;
+    assert_eq!(rt; told(alloc, blanks.as_str())?.as_str(), "tooLong");
     Ok(())
 }

@@ -4,7 +4,8 @@ ghost use Rattle.claim_tree.specs.Tree.{array, object, depth, elements_depth, me
 ghost use Rattle.claim_tree.specs.View.{tree_of};
 ghost use Rattle.digest_sites.specs.Reserved.{sd_name};
 ghost use Rattle.rebuild_core.specs.Payload.{alg_name};
-ghost use Rattle.issuer_core.specs.GoodOrder.{HasShortLists};
+ghost use Rattle.std.specs.Str.{IsUtf8};
+ghost use Rattle.issuer_core.specs.GoodOrder.{IsHeld};
 ghost use Rattle.issuer_core.specs.Reserved as spec;
 ghost use Rattle.issuer_core.specs.Reserved.{own_place, reserved_places, reserved_elements};
 
@@ -26,11 +27,18 @@ fn is_reserved(name: &TextBox) -> bool
     is_sd(name) || is_dots(name) || is_alg(name)
 }
 
+// The bytes of a text are UTF-8.
+pub(crate) fn spells(text: &TextBox)
+    ensures { IsUtf8 text.now }
+{
+    let _bytes = text.as_str().as_bytes();
+}
+
 // The path of the first member with a reserved name. Where there is none, the whole tree was walked.
 pub(crate) fn first_reserved(alloc: Global, tree: &Tree) -> Result<Option<Path>, NoMemory>
     requires { depth (tree_of tree.now) ≤ 127 }
     ensures first { IfOk result (λ path. path ≡ slice_get (reserved_places (tree_of tree.now)) 0) }
-    ensures short { IfOk result (λ path. IfNone path (HasShortLists (tree_of tree.now))) }
+    ensures held { IfOk result (λ path. IfNone path (IsHeld (tree_of tree.now))) }
 {
     match find(alloc, tree)? {
         Some(steps) => Ok(Some(path_back(alloc, steps)?)),
@@ -56,11 +64,15 @@ fn path_back(alloc: Global, steps: Vec<TextBox>) -> Result<Path, NoMemory>
 fn find(alloc: Global, tree: &Tree) -> Result<Option<Vec<TextBox>>, NoMemory>
     requires { depth (tree_of tree.now) ≤ 127 }
     ensures first { IfOk result (λ steps. option_map (λ s. reverse s.items) steps ≡ slice_get (reserved_places (tree_of tree.now)) 0) }
-    ensures short { IfOk result (λ steps. IfNone steps (HasShortLists (tree_of tree.now))) }
+    ensures held { IfOk result (λ steps. IfNone steps (IsHeld (tree_of tree.now))) }
 {
     match tree {
         Tree::List(trees) => find_in_list(alloc, trees),
         Tree::Object(trees) => find_in_object(alloc, trees),
+        Tree::Text(text) => {
+            spells(text);
+            Ok(None)
+        }
         _ => Ok(None),
     }
 }
@@ -69,7 +81,7 @@ fn find(alloc: Global, tree: &Tree) -> Result<Option<Vec<TextBox>>, NoMemory>
 fn find_in_list(alloc: Global, trees: &TreeList) -> Result<Option<Vec<TextBox>>, NoMemory>
     requires { elements_depth trees.now ≤ 126 }
     ensures first { IfOk result (λ steps. option_map (λ s. reverse s.items) steps ≡ slice_get (reserved_elements 0 trees.now) 0) }
-    ensures short { IfOk result (λ steps. IfNone steps (HasShortLists (array trees.now))) }
+    ensures held { IfOk result (λ steps. IfNone steps (IsHeld (array trees.now))) }
 {
     for (i, tree) in trees.trees().iter().enumerate() {
         if let Some(mut steps) = find(alloc, tree)? {
@@ -85,7 +97,7 @@ fn find_in_list(alloc: Global, trees: &TreeList) -> Result<Option<Vec<TextBox>>,
 fn find_in_object(alloc: Global, trees: &TreeMap) -> Result<Option<Vec<TextBox>>, NoMemory>
     requires { members_depth trees.now ≤ 126 }
     ensures first { IfOk result (λ steps. option_map (λ s. reverse s.items) steps ≡ slice_get (reserved_places (object trees.now)) 0) }
-    ensures short { IfOk result (λ steps. IfNone steps (HasShortLists (object trees.now))) }
+    ensures held { IfOk result (λ steps. IfNone steps (IsHeld (object trees.now))) }
 {
     if trees.get("_sd").is_some() {
         return Ok(Some(one_step(alloc, "_sd")?));
@@ -98,7 +110,7 @@ fn find_in_members(alloc: Global, trees: &TreeMap) -> Result<Option<Vec<TextBox>
     requires depth { members_depth trees.now ≤ 126 }
     requires no_sd { member_named trees.now sd_name ≡ None }
     ensures first { IfOk result (λ steps. option_map (λ s. reverse s.items) steps ≡ slice_get (reserved_places (object trees.now)) 0) }
-    ensures short { IfOk result (λ steps. IfNone steps (HasShortLists (object trees.now))) }
+    ensures held { IfOk result (λ steps. IfNone steps (IsHeld (object trees.now))) }
 {
     for (name, tree) in trees.members() {
         if let Some(mut steps) = find_at(alloc, name, tree)? {
@@ -114,11 +126,13 @@ fn find_in_members(alloc: Global, trees: &TreeMap) -> Result<Option<Vec<TextBox>
 fn find_at(alloc: Global, name: &TextBox, tree: &Tree) -> Result<Option<Vec<TextBox>>, NoMemory>
     requires { depth (tree_of tree.now) ≤ 127 }
     ensures first { IfOk result (λ steps. option_map (λ s. name.now ∷ reverse s.items) steps ≡ slice_get (own_place name.now ++ map (λ p. name.now ∷ p) (reserved_places (tree_of tree.now))) 0) }
-    ensures short { IfOk result (λ steps. IfNone steps (HasShortLists (tree_of tree.now))) }
+    ensures name { IfOk result (λ steps. IfNone steps (IsUtf8 name.now)) }
+    ensures held { IfOk result (λ steps. IfNone steps (IsHeld (tree_of tree.now))) }
 {
     if is_reserved(name) {
         return Ok(Some(Vec::new(alloc)));
     }
+    spells(name);
     find(alloc, tree)
 }
 

@@ -109,49 +109,53 @@ fn printed(alloc: Global, error: IssueError) -> Result<String, Fail> {
     }
 }
 
-const LIST: &str = r#"{"n":["A","B","C"]}"#;
+// On each line the answer, the payload, the paths to hide and the decoys of an order. The sign < stands for a list of three.
+const ORDERS: &str = r#"51^[]^-^
+51^7^^/x=1
+good^{}^-^
+52 /list/0/...^{"list":[{"...":1}]}^-^
+good^{"list":[{"..":1}]}^-^
+52 /list/0/...^{"list":[{"...":"x"}]}^^
+52 /a/_sd_alg^{"a":{"_sd_alg":1}}^-^
+52 /_sd^{"_sd":[],"!":{"_sd":1}}^-^
+52 /!/_sd^{"!":{"_sd":1},"...":1}^-^
+52 /...^{"...":{"_sd":1},"a":1}^-^
+52 /a~1b/1/~0/_sd^{"a/b":[0,{"~":{"_sd":1}}]}^-^
+54 0^{"exp":5}^^
+54 1^{"exp":5}^/nowhere ^
+55 0^{"exp":5}^/nbf^/x=1
+55 0^{"cnf":5}^/cnf/x^
+55 2^{"exp":5,"x":1}^/x /exp /y^
+56 0^{"exp":5}^/exp^/x=1
+56 1^{"cnf":{"x":1},"y":1}^/y /cnf/x^
+good^{"Exp":5}^/Exp^
+good^{"a":{"exp":5}}^/a/exp^
+good^<^/n/0 /n/2^=2 /n=3
+55 0^<^/n/00^
+57 0^<^/n/0^/x=1
+57 0^<^/n/0^/n/0=1
+57 1^<^/n/0^/n=1 /x=0
+good^<^-^=4096 /n=0
+59^<^-^=4096 /n=1
+good^<^-^=2048 /n=2048
+59^<^-^=4294967295 =4294967295"#;
+
+// The answer to the order of a line, and the one that is wanted.
+fn row(alloc: Global, line: &str) -> Result<(String, String), Fail> {
+    let (answer, rest) = line.split_once('^').ok_or("no answer")?;
+    let (payload, rest) = rest.split_once('^').ok_or("no payload")?;
+    let (hide, decoys) = rest.split_once('^').ok_or("no paths")?;
+    let judged = judged(alloc, payload, hide, decoys)?;
+    Ok((judged, String::from_str(alloc, answer)?))
+}
 
 #[test]
 fn orders_are_refused_by_number_and_then_by_place(rt: HostRuntime) -> Result<(), Fail> {
     let alloc = rt.alloc();
-    for (payload, hide, decoys, answer) in [
-        ("[]", "-", "", "51"),
-        ("7", "", "/x=1", "51"),
-        ("{}", "-", "", "good"),
-        (r#"{"list":[{"...":1}]}"#, "-", "", "52 /list/0/..."),
-        (r#"{"list":[{"..":1}]}"#, "-", "", "good"),
-        (r#"{"list":[{"...":"x"}]}"#, "", "", "52 /list/0/..."),
-        (r#"{"a":{"_sd_alg":1}}"#, "-", "", "52 /a/_sd_alg"),
-        (r#"{"_sd":[],"!":{"_sd":1}}"#, "-", "", "52 /_sd"),
-        (r#"{"!":{"_sd":1},"...":1}"#, "-", "", "52 /!/_sd"),
-        (r#"{"...":{"_sd":1},"a":1}"#, "-", "", "52 /..."),
-        (
-            r#"{"a/b":[0,{"~":{"_sd":1}}]}"#,
-            "-",
-            "",
-            "52 /a~1b/1/~0/_sd",
-        ),
-        (r#"{"exp":5}"#, "", "", "54 0"),
-        (r#"{"exp":5}"#, "/nowhere ", "", "54 1"),
-        (r#"{"exp":5}"#, "/nbf", "/x=1", "55 0"),
-        (r#"{"cnf":5}"#, "/cnf/x", "", "55 0"),
-        (r#"{"exp":5,"x":1}"#, "/x /exp /y", "", "55 2"),
-        (r#"{"exp":5}"#, "/exp", "/x=1", "56 0"),
-        (r#"{"cnf":{"x":1},"y":1}"#, "/y /cnf/x", "", "56 1"),
-        (r#"{"Exp":5}"#, "/Exp", "", "good"),
-        (r#"{"a":{"exp":5}}"#, "/a/exp", "", "good"),
-        (LIST, "/n/0 /n/2", "=2 /n=3", "good"),
-        (LIST, "/n/00", "", "55 0"),
-        (LIST, "/n/0", "/x=1", "57 0"),
-        (LIST, "/n/0", "/n/0=1", "57 0"),
-        (LIST, "/n/0", "/n=1 /x=0", "57 1"),
-        (LIST, "-", "=4096 /n=0", "good"),
-        (LIST, "-", "=4096 /n=1", "59"),
-        (LIST, "-", "=2048 /n=2048", "good"),
-        (LIST, "-", "=4294967295 =4294967295", "59"),
-    ] {
-        let line = judged(alloc, payload, hide, decoys)?;
-        assert_eq!(rt; line.as_str(), answer, "{payload} {hide} {decoys}");
+    let orders = ORDERS.replace(alloc, "<", r#"{"n":["A","B","C"]}"#)?;
+    for line in orders.as_str().split('\n') {
+        let (judged, answer) = row(alloc, line)?;
+        assert_eq!(rt; judged.as_str(), answer.as_str(), "{line}");
     }
     Ok(())
 }

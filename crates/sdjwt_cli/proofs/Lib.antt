@@ -5,5 +5,11 @@ mod Shown
 mod ShowVerdicts
 mod VerifyVerdicts
 mod IssueVerdicts
+mod OtherRules
+mod NeverShown
+mod Presentings
+mod PresentVerdicts
+mod ConvertVerdicts
+mod Converted
 mod Refusals
 mod Examples

@@ -8,3 +8,7 @@ pub mod Stops
 pub mod Show
 pub mod Verify
 pub mod Issuing
+pub mod Never
+pub mod Presenting
+pub mod Forms
+pub mod Converting

@@ -1,13 +1,17 @@
 ghost use Rattle.std.specs.Prelude.{◌≡◌, map, string_bytes};
 ghost use Rattle.std.specs.Option.{option_map};
 
-// A command, with the names of its files.
+use crate::form::Form;
+
+// A command, with the names of its files, and of `convert` the form.
 #[derive(Clone, Copy, Debug)]
 pub(crate) enum Command<'a> {
     Split { token: &'a str },
     Show { token: &'a str },
     Verify { policy: &'a str, token: &'a str },
     Issue { order: &'a str, seed: &'a str },
+    Present { order: &'a str, token: &'a str },
+    Convert { form: Form, token: &'a str },
 }
 
 impl<'a> Command<'a> {
@@ -33,6 +37,19 @@ impl<'a> Command<'a> {
                 order: order.as_str(),
                 seed: seed.as_str(),
             }),
+            [command, order, token] if command.as_str() == "present" => Some(Command::Present {
+                order: order.as_str(),
+                token: token.as_str(),
+            }),
+            [command, form, token] if command.as_str() == "convert" => match Form::of(
+                form.as_str(),
+            ) {
+                Some(form) => Some(Command::Convert {
+                    form,
+                    token: token.as_str(),
+                }),
+                None => None,
+            },
             _ => None,
         }
     }

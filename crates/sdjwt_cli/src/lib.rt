@@ -4,16 +4,22 @@
 //! for standard output or the reason why there are none.
 #![tactic(auto)]
 
-#[cfg(test)]
-mod bound_tests;
 mod command;
+mod convert;
+#[cfg(test)]
+mod convert_tests;
+mod form;
 mod issue;
 #[cfg(test)]
 mod issue_tests;
-#[cfg(test)]
-mod issued_tests;
 pub mod laws;
 mod lines;
+mod never;
+mod present;
+#[cfg(test)]
+mod present_tests;
+#[cfg(test)]
+mod rows;
 mod show;
 mod split;
 mod stop;

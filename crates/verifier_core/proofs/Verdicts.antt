@@ -1,6 +1,6 @@
 -- The verdict on a file, from the verdicts on its form, its token and its claims.
 use Rattle.std.proofs.Common.{◌≡◌, ℕ, ◌<◌, ◌≤◌, ◌-◌, ◌^◌, ◌⊎◌, inl, inr, List, length, Some, refl, sym, ap, ap₂, subst, ◌∙◌, arith}
-use Rattle.claim_tree.specs.Tree.{Tree}
+use Rattle.claim_tree.specs.Tree.{Tree, Members}
 use Rattle.compact_form.specs.declared.limits.TheConstants.{COUNT_MAX}
 use Rattle.compact_form.specs.declared.conditions.TheConstants.{TOO_MUCH}
 use Rattle.compact_form.specs.declared.fault.Fault.{Fault}
@@ -9,10 +9,9 @@ use Rattle.compact_form.specs.declared.fault.Place.TheVariants.{Nowhere, At, Jso
 use Rattle.compact_form.specs.declared.parts.JwtParts.{JwtParts}
 use Rattle.compact_form.specs.declared.parts.Parts.{Parts}
 use Rattle.compact_form.specs.Compact.{hashed}
-use Rattle.compact_form.specs.Token as file
-use Rattle.compact_form.proofs.Verdicts as files
 use Rattle.json_form.specs.declared.token.Token.{Token}
-use Rattle.json_form.specs.Token.{IsToken}
+use Rattle.json_form.specs.Token as file
+use Rattle.json_form.specs.Token.{IsToken, IsTooMuch}
 use Rattle.json_form.proofs.Tokens as tokens
 use Rattle.disclosure.specs.Digest.{payload_hash}
 use Rattle.disclosure.specs.declared.digests.HashAlg.{HashAlg}
@@ -27,13 +26,20 @@ use Rattle.rebuild_core.specs.Opening.{processed}
 use Rattle.compact_form.specs.Condition as condition
 use Rattle.compact_form.specs.Condition.{Condition, number_of}
 use Rattle.verifier_core.specs.Verdict.{TokenFails, ClaimFails, MissingFails, HolderFails, IsBindingMissing, HasHash, Fails, of_file, of_missing, of_token, of_claims, of_holder, rules_of, Opens, IsChecked, IsAccepted}
-use Rattle.verifier_core.specs.Check.{compact, ShownFails}
+use Rattle.verifier_core.specs.Check.{token_of, ShownFails}
 use Rattle.verifier_core.specs.declared.policy.Policy.{Policy}
 use Rattle.compact_form.specs.Lowest.{IsNoLater, IsLowest, NoneFails, unplaced}
 use Rattle.compact_form.proofs.Numbers.{one_condition}
 use Rattle.verifier_core.proofs.TokenConditions.{token_numbers}
 use Rattle.verifier_core.proofs.ClaimSteps.{claim_numbers}
 use Rattle.verifier_core.proofs.CheckSteps.{one_content}
+
+-- a token by its parts and its unprotected header
+pub whole : (token : Token) (parts : Parts) (outer : Members) → parts ≡ token.parts → outer ≡ token.outer → token_of parts outer ≡ token
+whole token parts outer same others = ap₂ token_of same others
+
+pub is_token : (content : List ℕ) (token : Token) (parts : Parts) (outer : Members) → parts ≡ token.parts → outer ≡ token.outer → IsToken content token → IsToken content (token_of parts outer)
+is_token content token parts outer same others is = subst (IsToken content) (sym (whole token parts outer same others)) is
 
 pub few : (content : List ℕ) (token : Token) → IsToken content token → length token.parts.disclosures < 2 ^ 32 - 1
 few content token is = go (either (length token.parts.disclosures))
@@ -42,7 +48,7 @@ few content token is = go (either (length token.parts.disclosures))
     either n = grind arith
 
     go : (COUNT_MAX < length token.parts.disclosures) ⊎ (length token.parts.disclosures ≤ COUNT_MAX) → length token.parts.disclosures < 2 ^ 32 - 1
-    go (inl many) = absurd (is.reads.passes (record { number = TOO_MUCH; place = Nowhere }) (file.too_much token.parts refl is.reads.spelling many))
+    go (inl many) = absurd (is.passes (record { number = TOO_MUCH; place = Nowhere }) (file.too_much token refl is.spells (inl many)))
     go (inr low) = omega (arith, low)
 
 no_later : (place : Place) → IsNoLater place place
@@ -55,8 +61,8 @@ fault_at c place = record { number = number_of c; place = place }
 
 pub file_condition : (content : List ℕ) (fault : Fault) → file.Fails content fault → (c : Condition) × (fault.number ≡ number_of c)
 file_condition content fault (file.too_long e h) = (condition.too_long, ap (λ (x : Fault). x.number) e)
-file_condition content fault (file.form stop e h) = (condition.form, ap (λ (x : Fault). x.number) e)
-file_condition content fault (file.too_much parts e h many) = (condition.too_much, ap (λ (x : Fault). x.number) e)
+file_condition content fault (file.form place e h) = (condition.form, ap (λ (x : Fault). x.number) e)
+file_condition content fault (file.too_much token e h much) = (condition.too_much, ap (λ (x : Fault). x.number) e)
 
 less_or_same : (a b : ℕ) → a ≤ b → (a < b) ⊎ (a ≡ b)
 less_or_same a b l = grind arith
@@ -84,12 +90,8 @@ file_lowest content policy now fault refused =
         placed (inl less) = inl (omega (arith, less, is))
         placed (inr same) =
             let twin : file.IsRefused content (fault_at other place) = record { fails = h; lowest = λ o k. let l = refused.lowest o k in omega (arith, l, same) } in
-            let one : fault ≡ fault_at other place = files.one_fault content fault (fault_at other place) refused twin in
+            let one : fault ≡ fault_at other place = tokens.one_refusal content fault (fault_at other place) refused twin in
             inr (one_condition other c (sym same ∙ is), subst (λ (x : Fault). IsNoLater fault.place x.place) one (no_later fault.place))
-
--- the token that a file reads as
-pub is_compact : (content : List ℕ) (parts : Parts) → file.Reads content parts → IsToken content (compact parts)
-is_compact content parts reads = record { reads = reads; plain = refl }
 
 -- a condition on the key binding token has a number from 27 to 38
 holder_numbers : (parts : Parts) (payload : Tree) (hash : HashAlg) (policy : Policy) (now : ℕ) (c : Condition) (place : Place) → HolderFails parts payload hash policy now c place → 26 < number_of c
@@ -160,7 +162,7 @@ module _ (content : List ℕ) (policy : Policy) (now : ℕ) (token : Token) (is 
   missing_lowest missing = record { failed = condition.binding_missing; number_is = refl; fails = of_missing token is (refl, (refl, missing)); lowest = λ other place h. go other place h }
     where
       go : (other : Condition) (place : Place) → Fails content policy now other place → (4 < number_of other) ⊎ ((other ≡ condition.binding_missing) × Unit {0})
-      go other place (of_file h) = absurd (is.reads.passes (fault_at other place) h)
+      go other place (of_file h) = absurd (is.passes (fault_at other place) h)
       go other place (of_missing t there h) = inr (h.0, tt)
       go other place (of_token t there h) = let numbers = token_numbers t (rules_of policy) other place h in inl numbers.0
       go other place (of_claims t marked there opens h) = let numbers = claim_numbers (strip marked) policy now other place h in inl (omega (arith, numbers.0))
@@ -175,7 +177,7 @@ module _ (content : List ℕ) (policy : Policy) (now : ℕ) (token : Token) (is 
     token_lowest fault l = record { failed = l.failed; number_is = l.number_is; fails = of_token token is l.fails; lowest = λ other place h. go other place h }
       where
         go : (other : Condition) (place : Place) → Fails content policy now other place → (number_of l.failed < number_of other) ⊎ ((other ≡ l.failed) × IsNoLater fault.place place)
-        go other place (of_file h) = absurd (is.reads.passes (fault_at other place) h)
+        go other place (of_file h) = absurd (is.passes (fault_at other place) h)
         go other place (of_missing t there h) = absurd (not_missing t there other place h)
         go other place (of_token t there h) = l.lowest other place (subst (λ (x : Token). TokenFails x (rules_of policy) other place) (tokens.one content t token there is) h)
         go other place (of_claims t marked there opens h) =
@@ -213,7 +215,7 @@ module _ (content : List ℕ) (policy : Policy) (now : ℕ) (token : Token) (is 
             failing c place (inr h) = of_holder token marked hash is checked.opens has h
 
             go : (other : Condition) (place : Place) → Fails content policy now other place → (number_of l.failed < number_of other) ⊎ ((other ≡ l.failed) × IsNoLater fault.place place)
-            go other place (of_file h) = absurd (is.reads.passes (fault_at other place) h)
+            go other place (of_file h) = absurd (is.passes (fault_at other place) h)
             go other place (of_missing t there h) = absurd (not_missing t there other place h)
             go other place (of_token t there h) = absurd (no_token_fault t there other place h)
             go other place (of_claims t m there opens h) = l.lowest other place (inl (subst (λ (x : Marked). ClaimFails (strip x) policy now other place) (same_claims t m there opens) h))
@@ -223,7 +225,7 @@ module _ (content : List ℕ) (policy : Policy) (now : ℕ) (token : Token) (is 
         accepted none = record { passes = λ c place h. go c place h; token = token; is_token = is; opens = checked.opens }
           where
             go : (c : Condition) (place : Place) → Fails content policy now c place → ⊥
-            go c place (of_file h) = is.reads.passes (fault_at c place) h
+            go c place (of_file h) = is.passes (fault_at c place) h
             go c place (of_missing t there h) = not_missing t there c place h
             go c place (of_token t there h) = no_token_fault t there c place h
             go c place (of_claims t m there opens h) = none c place (inl (subst (λ (x : Marked). ClaimFails (strip x) policy now c place) (same_claims t m there opens) h))

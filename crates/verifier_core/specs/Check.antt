@@ -1,7 +1,7 @@
 -- What the check of a token answers, and what its steps answer.
 use Rattle.std.specs.Prelude.{◌≡◌, ◌≤◌, ℕ, Bool, true, false, List, ◌∷◌, [], ◌++◌, take, slice_get, Option, Some, None, ◌⊎◌}
 use Rattle.std.specs.List.{AllZip}
-use Rattle.claim_tree.specs.Tree.{Text, Tree, Members, no_members, IsRanged, depth}
+use Rattle.claim_tree.specs.Tree.{Text, Tree, Members, IsRanged, depth}
 use Rattle.compact_form.specs.declared.fault.Fault.{Fault}
 use Rattle.compact_form.specs.declared.fault.Place.{Place}
 use Rattle.compact_form.specs.declared.fault.Place.TheVariants.{At}
@@ -35,11 +35,7 @@ OnFault (VerifyError.Fault fault) P = P fault
 abbrev pub asked : List NamedKey → List Text → Option Text → Rules
 asked keys algs typ = record { keys = keys; algs = algs; typ = typ }
 
--- a compact token: it has no unprotected header
-abbrev pub compact : Parts → Token
-compact parts = record { parts = parts; outer = no_members }
-
--- a token of these parts and this unprotected header
+-- the token of these parts, with these members of the unprotected header
 abbrev pub token_of : Parts → Members → Token
 token_of parts outer = record { parts = parts; outer = outer }
 

@@ -5,8 +5,8 @@ use Rattle.claim_tree.specs.Tree.{Text}
 use Rattle.compact_form.specs.declared.fault.Fault.{Fault}
 use Rattle.compact_form.specs.declared.fault.Place.{Place}
 use Rattle.compact_form.specs.declared.fault.Place.TheVariants.{Nowhere, At, Json}
-use Rattle.compact_form.specs.declared.fault.Part.{Part}
 use Rattle.compact_form.specs.declared.fault.JsonPlace.{JsonPlace}
+use Rattle.compact_form.specs.PartWords.{word_of}
 use Rattle.compact_form.specs.Condition.{Condition, number_of, name_of, form, disclosure_unreadable, repeated_disclosure, reserved_misused, repeated_digest, unreferenced_disclosure, wrong_shape, reserved_name, name_clash, claim_missing}
 
 -- ---- places
@@ -49,22 +49,12 @@ pub record IsFault (fault : Fault) : Type 0 where
 
 -- ---- what is printed
 
--- a member of a JSON serialization
-abbrev pub part_word : Part → Text
-part_word Part.Payload = codes "payload"
-part_word Part.Protected = codes "protected"
-part_word Part.Signature = codes "signature"
-part_word Part.Signatures = codes "signatures"
-part_word Part.Header = codes "header"
-part_word Part.Disclosures = codes "disclosures"
-part_word Part.KbJwt = codes "kb_jwt"
-
 abbrev pub json_place_text : JsonPlace → Text
 json_place_text JsonPlace.NotJson = codes "notJson"
 json_place_text JsonPlace.NotWhole = codes "notWhole"
 json_place_text JsonPlace.NotObject = codes "notObject"
-json_place_text (JsonPlace.Missing part) = codes "missing " ++ part_word part
-json_place_text (JsonPlace.Wrong part) = codes "wrong " ++ part_word part
+json_place_text (JsonPlace.Missing part) = codes "missing " ++ word_of part
+json_place_text (JsonPlace.Wrong part) = codes "wrong " ++ word_of part
 json_place_text (JsonPlace.Stray entry) = codes "stray " ++ decimal entry
 
 -- where there is a place

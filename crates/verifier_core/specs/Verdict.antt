@@ -7,8 +7,8 @@ use Rattle.compact_form.specs.declared.fault.Place.{Place}
 use Rattle.compact_form.specs.declared.parts.JwtParts.{JwtParts}
 use Rattle.compact_form.specs.declared.parts.Parts.{Parts}
 use Rattle.compact_form.specs.Compact.{hashed}
-use Rattle.compact_form.specs.Token as file
 use Rattle.json_form.specs.declared.token.Token.{Token}
+use Rattle.json_form.specs.Token as file
 use Rattle.json_form.specs.Token.{IsToken}
 use Rattle.jws_part.specs.declared.header.Header.{Header}
 use Rattle.jws_part.specs.Header.{IsHeader, IsUnreadable, IsCritical}

@@ -142,7 +142,7 @@ fn read_content(
     Ok(Content { body, hash, given })
 }
 
-// The same of a compact token.
+// The same of a token whose parts are borrowed.
 fn view_content(
     alloc: Global,
     view: &View<'_>,
@@ -264,7 +264,8 @@ pub fn check_token(
     open_content(alloc, content, steps)
 }
 
-/// Checks a compact token in the same way, without a copy of its texts. It has no unprotected header.
+/// Checks a token in the same way whose parts are borrowed. `outer` has the members of its unprotected header other than
+/// `disclosures` and `kb_jwt`; a compact token has none.
 pub fn check_view(
     alloc: Global,
     view: &View<'_>,

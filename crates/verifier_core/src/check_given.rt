@@ -65,7 +65,7 @@ pub(crate) fn read_given(
     Ok(given)
 }
 
-// Condition 13 of a compact token.
+// Condition 13 of disclosures that are borrowed.
 pub(crate) fn read_pieces(
     alloc: Global,
     hash: HashAlg,

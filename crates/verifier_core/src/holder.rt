@@ -56,7 +56,7 @@ fn check_holder(
     }
 }
 
-// The conditions 22 to 38 of a compact token, over its processed payload and its hash.
+// The conditions 22 to 38 of a token, over its processed payload and its hash.
 pub(crate) fn check_shown(
     alloc: Global,
     view: &View<'_>,

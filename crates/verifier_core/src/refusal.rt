@@ -1,6 +1,6 @@
 // The lines that tell of a refusal.
 ghost use Rattle.std.specs.Prelude.{◌≡◌, IfOk, string_bytes};
-ghost use Rattle.verifier_core.specs.FaultLine.{IsFaultLine, part_word, json_place_text, place_text};
+ghost use Rattle.verifier_core.specs.FaultLine.{IsFaultLine, json_place_text, place_text};
 ghost use Rattle.verifier_core.specs.Named.{name_at};
 
 use compact_form::{
@@ -8,9 +8,9 @@ use compact_form::{
     BINDING_MISSING, BINDING_PAYLOAD, BINDING_SIGNATURE, BINDING_STALE, BINDING_TIME, BINDING_TYPE,
     CLAIM_MISSING, DISCLOSURE_UNREADABLE, EXPIRED, FORM, Fault, HASH_DIFFERS, HASH_UNKNOWN,
     HEADER_CRITICAL, HEADER_UNREADABLE, HOLDER_KEY_UNKNOWN, ISSUER_KEY_UNKNOWN, ISSUER_REFUSED,
-    JsonPlace, NAME_CLASH, NONCE_DIFFERS, NOT_YET, PAYLOAD_UNREADABLE, Part, Place,
-    REPEATED_DIGEST, REPEATED_DISCLOSURE, RESERVED_MISUSED, RESERVED_NAME, TIME_UNREADABLE,
-    TOO_DEEP, TOO_LONG, TOO_MUCH, TYPE_REFUSED, UNREFERENCED_DISCLOSURE, WRONG_SHAPE,
+    JsonPlace, NAME_CLASH, NONCE_DIFFERS, NOT_YET, PAYLOAD_UNREADABLE, Place, REPEATED_DIGEST,
+    REPEATED_DISCLOSURE, RESERVED_MISUSED, RESERVED_NAME, TIME_UNREADABLE, TOO_DEEP, TOO_LONG,
+    TOO_MUCH, TYPE_REFUSED, UNREFERENCED_DISCLOSURE, WRONG_SHAPE,
 };
 use sd_outside::{NoMemory, TextBox};
 use std::alloc::Global;
@@ -62,20 +62,6 @@ fn name(number: u8) -> &'static str
     }
 }
 
-fn part(part: Part) -> &'static str
-    ensures { result.now ≡ part_word part }
-{
-    match part {
-        Part::Payload => "payload",
-        Part::Protected => "protected",
-        Part::Signature => "signature",
-        Part::Signatures => "signatures",
-        Part::Header => "header",
-        Part::Disclosures => "disclosures",
-        Part::KbJwt => "kb_jwt",
-    }
-}
-
 fn json_place(alloc: Global, place: JsonPlace) -> Result<String, NoMemory>
     ensures { IfOk result (λ text. string_bytes text ≡ json_place_text place) }
 {
@@ -84,11 +70,11 @@ fn json_place(alloc: Global, place: JsonPlace) -> Result<String, NoMemory>
         JsonPlace::NotWhole => String::from_str(alloc, "notWhole")?,
         JsonPlace::NotObject => String::from_str(alloc, "notObject")?,
         JsonPlace::Missing(missing) => {
-            let word = part(missing);
+            let word = missing.word();
             format!(in alloc; "missing {word}")?
         }
         JsonPlace::Wrong(wrong) => {
-            let word = part(wrong);
+            let word = wrong.word();
             format!(in alloc; "wrong {word}")?
         }
         JsonPlace::Stray(entry) => format!(in alloc; "stray {entry}")?,

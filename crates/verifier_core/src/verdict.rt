@@ -1,22 +1,23 @@
 // The verdict on a token file under a policy.
-ghost use Rattle.std.specs.Prelude.{◌≡◌, ◌≤◌, IfOk, IfErr};
+ghost use Rattle.std.specs.Prelude.{◌≡◌, ◌≤◌, ℕ, List, IfOk, IfErr};
 ghost use Rattle.claim_tree.specs.Tree.{IsRanged};
 ghost use Rattle.claim_tree.specs.View.{tree_of};
 ghost use Rattle.marked_tree.specs.Marked.{strip as strip_of};
 ghost use Rattle.marked_tree.specs.View.{marked_of};
 ghost use Rattle.json_form.specs.declared.token.Token.{Token as SeenToken};
-ghost use Rattle.json_form.specs.Token.{IsToken};
+ghost use Rattle.json_form.specs.Token.{IsToken, IsRefused};
 ghost use Rattle.verifier_core.specs.Verdict.{Fails, IsAccepted, IsAcceptedAs};
 ghost use Rattle.compact_form.specs.Lowest.{IsLowest};
-ghost use Rattle.verifier_core.specs.Check.{OnFault, IsCounted, IsReadWithin, IsUncounted};
+ghost use Rattle.verifier_core.specs.Check.{OnFault, IsCounted, IsCountedWithin, IsReadWithin, IsUncounted};
 
 use crate::check::{CheckedPayload, checked_payload};
 use crate::check_signed::fails;
 use crate::holder::{check_shown, is_binding_missing};
 use crate::{Checked, Policy, VerifyError, check_view};
 use claim_tree::Tree;
-use compact_form::{BINDING_MISSING, read_view};
+use compact_form::BINDING_MISSING;
 use digest_index::Steps;
+use json_form::{TokenError, TokenText};
 use marked_tree::Marked;
 use std::alloc::Global;
 
@@ -29,7 +30,97 @@ pub struct Accepted {
     pub marked: Marked,
 }
 
-/// Verifies a token as it comes from a file, RFC 9901 section 7.3, at a moment in seconds since 1970.
+// The conditions 1 to 3.
+fn read_text<'a>(alloc: Global, text: &'a [u8]) -> Result<TokenText<'a>, VerifyError>
+    ensures ok { IfOk result (IsToken text.now) }
+    ensures refused { IfErr result (λ e. OnFault e (IsRefused text.now)) }
+{
+    match TokenText::read(alloc, text) {
+        Ok(token) => Ok(token),
+        Err(TokenError::Memory) => Err(VerifyError::Memory),
+        Err(TokenError::Fault(fault)) => Err(VerifyError::Fault(fault)),
+    }
+}
+
+// The conditions 4 to 38 of a token that is read.
+fn judge(
+    alloc: Global,
+    token: &TokenText<'_>,
+    policy: &Policy,
+    now: u64,
+    steps: &mut Steps,
+) -> Result<Accepted, VerifyError>
+    requires read { (content : List ℕ) × IsToken content token.now }
+    ensures accepted { (content : List ℕ) → IsToken content token.now → IfOk result (λ a. IsAccepted content policy.now now (marked_of a.marked)) }
+    ensures payload { IfOk result (λ a. tree_of a.payload ≡ strip_of (marked_of a.marked)) }
+    ensures ranged { IfOk result (λ a. IsRanged (tree_of a.payload)) }
+    ensures refused { (content : List ℕ) → IsToken content token.now → IfErr result (λ e. OnFault e (IsLowest (Fails content policy.now now))) }
+    ensures counted { IfOk result (λ _. IsCounted token.now steps.old steps.new) }
+    ensures within { IsCountedWithin token.now steps.old steps.new }
+    ensures uncounted { IfErr result (λ e. OnFault e (IsUncounted steps.old steps.new)) }
+{
+    let view = token.view();
+    let outer = token.outer();
+    if is_binding_missing(&view, policy) {
+        return Err(fails(BINDING_MISSING));
+    }
+    let typ = policy.typ.as_ref();
+    let Checked {
+        payload,
+        marked,
+        hash,
+    } = match check_view(alloc, &view, outer, &policy.keys, &policy.algs, typ, steps) {
+        Ok(checked) => checked,
+        Err(error) => return Err(error),
+    };
+    if let Err(error) = check_shown(alloc, &view, &payload, hash, policy, now) {
+        return Err(error);
+    }
+    Ok(Accepted { payload, marked })
+}
+
+// The same, for the processed payload alone.
+fn judge_payload(
+    alloc: Global,
+    token: &TokenText<'_>,
+    policy: &Policy,
+    now: u64,
+    steps: &mut Steps,
+) -> Result<Tree, VerifyError>
+    requires read { (content : List ℕ) × IsToken content token.now }
+    ensures accepted { (content : List ℕ) → IsToken content token.now → IfOk result (λ payload. IsAcceptedAs content policy.now now (tree_of payload)) }
+    ensures ranged { IfOk result (λ payload. IsRanged (tree_of payload)) }
+    ensures refused { (content : List ℕ) → IsToken content token.now → IfErr result (λ e. OnFault e (IsLowest (Fails content policy.now now))) }
+    ensures counted { IfOk result (λ _. IsCounted token.now steps.old steps.new) }
+    ensures within { IsCountedWithin token.now steps.old steps.new }
+    ensures uncounted { IfErr result (λ e. OnFault e (IsUncounted steps.old steps.new)) }
+{
+    let view = token.view();
+    let outer = token.outer();
+    if is_binding_missing(&view, policy) {
+        return Err(fails(BINDING_MISSING));
+    }
+    let typ = policy.typ.as_ref();
+    let CheckedPayload { payload, hash } = match checked_payload(
+        alloc,
+        &view,
+        outer,
+        &policy.keys,
+        &policy.algs,
+        typ,
+        steps,
+    ) {
+        Ok(payload) => payload,
+        Err(error) => return Err(error),
+    };
+    if let Err(error) = check_shown(alloc, &view, &payload, hash, policy, now) {
+        return Err(error);
+    }
+    Ok(payload)
+}
+
+/// Verifies a token as it comes from a file, RFC 9901 section 7.3, at a moment in seconds since 1970. The token is in the
+/// compact serialization or, where its text begins with `{`, in a JSON one (section 8).
 ///
 /// The conditions 1 to 38 are judged in the order of their numbers, and the first that fails is answered with its least place. A key
 /// binding token that is there without being asked for is read as grammar and otherwise ignored. `steps` counts the look-ups of
@@ -51,26 +142,10 @@ pub fn verify(
     ensures within { IsReadWithin text.now steps.old steps.new }
     ensures uncounted { IfErr result (λ e. OnFault e (IsUncounted steps.old steps.new)) }
 {
-    let view = match read_view(text) {
-        Ok(view) => view,
-        Err(fault) => return Err(VerifyError::Fault(fault)),
-    };
-    if is_binding_missing(&view, policy) {
-        return Err(fails(BINDING_MISSING));
+    match read_text(alloc, text) {
+        Ok(token) => judge(alloc, &token, policy, now, steps),
+        Err(error) => Err(error),
     }
-    let typ = policy.typ.as_ref();
-    let Checked {
-        payload,
-        marked,
-        hash,
-    } = match check_view(alloc, &view, &policy.keys, &policy.algs, typ, steps) {
-        Ok(checked) => checked,
-        Err(error) => return Err(error),
-    };
-    if let Err(error) = check_shown(alloc, &view, &payload, hash, policy, now) {
-        return Err(error);
-    }
-    Ok(Accepted { payload, marked })
 }
 
 /// The same, for who needs no marks: the processed payload alone, whose texts are moved.
@@ -90,27 +165,8 @@ pub fn verify_payload(
     ensures within { IsReadWithin text.now steps.old steps.new }
     ensures uncounted { IfErr result (λ e. OnFault e (IsUncounted steps.old steps.new)) }
 {
-    let view = match read_view(text) {
-        Ok(view) => view,
-        Err(fault) => return Err(VerifyError::Fault(fault)),
-    };
-    if is_binding_missing(&view, policy) {
-        return Err(fails(BINDING_MISSING));
+    match read_text(alloc, text) {
+        Ok(token) => judge_payload(alloc, &token, policy, now, steps),
+        Err(error) => Err(error),
     }
-    let typ = policy.typ.as_ref();
-    let CheckedPayload { payload, hash } = match checked_payload(
-        alloc,
-        &view,
-        &policy.keys,
-        &policy.algs,
-        typ,
-        steps,
-    ) {
-        Ok(payload) => payload,
-        Err(error) => return Err(error),
-    };
-    if let Err(error) = check_shown(alloc, &view, &payload, hash, policy, now) {
-        return Err(error);
-    }
-    Ok(payload)
 }

@@ -1,4 +1,4 @@
-use Rattle.std.proofs.Common.{length}
+use Rattle.std.proofs.Common.{length, ap, arith}
 use Rattle.std.proofs.lemmas.Result.{IfOk-weaker, IfErr-weaker}
 use Rattle.std.specs.Set.{distinct_count}
 use Rattle.compact_form.specs.declared.limits.TheConstants.{COUNT_MAX}
@@ -14,26 +14,34 @@ pub returns-clause-issued : goal.returns-clause-issued
 returns-clause-issued g c =
     let l = c.in_ok-laid.laid in
     IfOk-weaker c.issue_laid.result _ _
-    (finished_issued c.args.seed.now (order_of c.args.order.now) (tree_of l.payload) l.texts l.digests c.in_ok-laid.ensures c.in_ok-header.header c.in_ok-header.ensures (g.S.Signatures.good c.args.signer.now) c.in_default.ensures.good)
+    (finished_issued c.args.seed.now (order_of c.args.order.now) (tree_of l.payload) l.texts l.digests c.in_ok-laid.ensures.laid c.in_ok-header.header c.in_ok-header.ensures (g.S.Signatures.good c.args.signer.now) c.in_default.ensures.good)
     c.issue_laid.ensures.finished
 
 pub returns-clause-laid : goal.returns-clause-laid
 returns-clause-laid g c =
     let l = c.in_ok-laid.laid in
     IfOk-weaker c.issue_laid.result _ _
-    (finished_laid c.args.seed.now (order_of c.args.order.now) (tree_of l.payload) l.texts l.digests c.in_ok-laid.ensures c.in_ok-header.header c.in_ok-header.ensures (g.S.Signatures.good c.args.signer.now))
+    (finished_laid c.args.seed.now (order_of c.args.order.now) (tree_of l.payload) l.texts l.digests c.in_ok-laid.ensures.laid c.in_ok-header.header c.in_ok-header.ensures (g.S.Signatures.good c.args.signer.now))
     c.issue_laid.ensures.finished
 
 pub returns-clause-passes : goal.returns-clause-passes
 returns-clause-passes g c = IfOk-weaker c.issue_laid.result _ _ (λ parts done. c.in_default.ensures.passes) c.issue_laid.ensures.finished
 
+pub returns-clause-writable : goal.returns-clause-writable
+returns-clause-writable g c =
+    let judged = c.in_default.ensures in
+    IfOk-weaker c.issue_laid.result _ _ (λ parts done. record { good = judged.good; held = judged.held; ranged = c.requires.ranged; kid = judged.kid; typ = judged.typ }) c.issue_laid.ensures.finished
+
 pub returns-clause-differ : goal.returns-clause-differ
 returns-clause-differ g c =
     let l = c.in_ok-laid.laid in
-    IfOk-weaker c.issue_laid.result _ _ (λ parts done. no_clash c.args.seed.now (order_of c.args.order.now) (tree_of l.payload) l.texts l.digests c.in_ok-laid.ensures done.differ) c.issue_laid.ensures.finished
+    IfOk-weaker c.issue_laid.result _ _ (λ parts done. no_clash c.args.seed.now (order_of c.args.order.now) (tree_of l.payload) l.texts l.digests c.in_ok-laid.ensures.laid done.differ) c.issue_laid.ensures.finished
 
 pub returns-clause-words : goal.returns-clause-words
 returns-clause-words g c = IfOk-weaker c.issue_laid.result _ _ (λ parts done. done.words) c.issue_laid.ensures.finished
+
+pub returns-clause-few : goal.returns-clause-few
+returns-clause-few g c = IfOk-weaker c.issue_laid.result _ _ (λ parts done. let few = c.in_ok-laid.ensures.few in omega (arith, few, ap length done.signed.disclosures)) c.issue_laid.ensures.finished
 
 pub returns-clause-short : goal.returns-clause-short
 returns-clause-short g c = IfOk-weaker c.issue_laid.result _ _ (λ parts done. done.short) c.issue_laid.ensures.finished
@@ -42,7 +50,7 @@ pub returns-clause-refused : goal.returns-clause-refused
 returns-clause-refused g c =
     let l = c.in_ok-laid.laid in
     IfErr-weaker c.issue_laid.result _ _
-    (unfinished_refused c.args.seed.now (order_of c.args.order.now) (tree_of l.payload) l.texts l.digests c.in_ok-laid.ensures c.in_ok-header.header c.in_ok-header.ensures (g.S.Signatures.good c.args.signer.now) c.in_default.ensures.passes)
+    (unfinished_refused c.args.seed.now (order_of c.args.order.now) (tree_of l.payload) l.texts l.digests c.in_ok-laid.ensures.laid c.in_ok-header.header c.in_ok-header.ensures (g.S.Signatures.good c.args.signer.now) c.in_default.ensures.passes)
     c.issue_laid.ensures.unfinished
 
 pub lay_order-requires-clause-few : goal.lay_order-requires-clause-few
@@ -57,7 +65,7 @@ issue_laid-requires g c =
     let l = c.in_ok-laid.laid in
     let t = tree_of l.payload in
     record {
-      ranged = body_ranged c.args.seed.now o t l.texts l.digests c.in_ok-laid.ensures c.requires.ranged;
-      object = body_object c.args.seed.now o t l.texts l.digests c.in_default.ensures.good c.in_ok-laid.ensures;
-      words = laid_words c.args.seed.now o t l.texts l.digests c.in_ok-laid.ensures;
+      ranged = body_ranged c.args.seed.now o t l.texts l.digests c.in_ok-laid.ensures.laid c.requires.ranged;
+      object = body_object c.args.seed.now o t l.texts l.digests c.in_default.ensures.good c.in_ok-laid.ensures.laid;
+      words = laid_words c.args.seed.now o t l.texts l.digests c.in_ok-laid.ensures.laid;
     }

@@ -41,8 +41,8 @@ lay-requires-clause-salts c =
     let many = c.in_ok-salts.ensures.count in
     omega (arith, none, marks, count, many)
 
-pub returns : goal.returns
-returns c =
+pub returns-clause-laid : goal.returns-clause-laid
+returns-clause-laid c =
     let o = order_of c.args.order.now in
     let seed = c.args.seed.now in
     let salts = c.in_ok-salts.salts in
@@ -70,3 +70,12 @@ returns c =
     let digests : c.in_ok-digests.digests ≡ map digest texts ++ map digest (drop (hidden_of o) salts) = c.in_ok-digests.ensures ∙ ap₂ (λ (xs ys : List Text). xs ++ ys) told.digests pieces in
     subst (λ t. IsLaidFor (maker_of seed) o t texts c.in_ok-digests.digests) (sym c.in_ok-payload-2.ensures)
     (subst (λ ds. IsLaidFor (maker_of seed) o (with_alg (tree_of c.in_ok-payload.payload)) texts ds) (sym digests) all)
+
+pub returns-clause-few : goal.returns-clause-few
+returns-clause-few c =
+    let none = ap length c.new-layer.ensures.texts in
+    let marks = ap (weight one) c.in_ok-claims.ensures.marked ∙ order_marks (order_of c.args.order.now) in
+    let hidden = c.in_ok-claims.ensures.count in
+    let few = c.in_ok-claims.ensures.few in
+    let all = c.in_ok-payload.ensures.count in
+    omega (arith, none, marks, hidden, few, all)

@@ -3,12 +3,12 @@ use Rattle.std.specs.Prelude.{slice_get}
 use Rattle.std.proofs.Math.ListN.{drop_of_length-le}
 use Rattle.claim_tree.specs.Tree.{Text, elements_len}
 use Rattle.claim_tree.proofs.Views.{elements_len-of}
-use Rattle.issuer_core.specs.GoodOrder.{ElementsShort}
+use Rattle.issuer_core.specs.GoodOrder.{ElementsHeld}
 use Rattle.claim_tree.specs.View.{tree_of, elements_of, members_of}
 use Rattle.claim_tree.proofs.Walks.{Named, into_element, into_member}
 use Rattle.marked_tree.specs.Places.{Path}
 use Rattle.issuer_core.specs.Reserved.{reserved_elements, reserved_members}
-use Rattle.issuer_core.proofs.ReservedPlaces.{every, element_found, element_passed, member_found, member_passed, step_behind, without_sd, object_with, object_without, short_element, short_member}
+use Rattle.issuer_core.proofs.ReservedPlaces.{every, element_found, element_passed, member_found, member_passed, step_behind, without_sd, object_with, object_without, held_element, held_member}
 use Rattle.issuer_core.proofs.reserved.+reserved.Goals as goal
 
 pub find_in_list-find-requires : goal.find_in_list-find-requires
@@ -31,9 +31,9 @@ pub find_in_list-loop-i-preserved : goal.find_in_list-loop-i-preserved
 find_in_list-loop-i-preserved t c =
     let l = c.loop-i in
     let here = rw c.in_default.is at c.in_ok-steps.ensures.first in
-    let short = rw c.in_default.is at c.in_ok-steps.ensures.short in (
+    let held = rw c.in_default.is at c.in_ok-steps.ensures.held in (
       element_passed l.i c.trees-tree-items.result.now c.tree-item.result c.loop-i-test.true c.tree-item.is (sym here) ∙ l.invariant.0,
-      λ rest. l.invariant.1 (short_element l.i c.trees-tree-items.result.now c.tree-item.result c.loop-i-test.true c.tree-item.is short rest),
+      λ rest. l.invariant.1 (held_element l.i c.trees-tree-items.result.now c.tree-item.result c.loop-i-test.true c.tree-item.is held rest),
     )
 
 pub find_in_members-find_at-requires : goal.find_in_members-find_at-requires
@@ -59,9 +59,10 @@ find_in_members-loop-name-preserved t c =
     let l = c.loop-name in
     let m : Named = c.loop-name-item.result in
     let here = rw c.in_default.is at c.in_ok-steps.ensures.first in
-    let short = rw c.in_default.is at c.in_ok-steps.ensures.short in (
+    let name = rw c.in_default.is at c.in_ok-steps.ensures.name in
+    let held = rw c.in_default.is at c.in_ok-steps.ensures.held in (
       member_passed l.name-index c.members-name-items.result.now m c.loop-name-test.true c.loop-name-item.is (sym here) ∙ l.invariant.0,
-      λ rest. l.invariant.1 (short_member l.name-index c.members-name-items.result.now m c.loop-name-test.true c.loop-name-item.is short rest),
+      λ rest. l.invariant.1 (held_member l.name-index c.members-name-items.result.now m c.loop-name-test.true c.loop-name-item.is name held rest),
     )
 
 pub find_in_members-returns-clause-first : goal.find_in_members-returns-clause-first
@@ -79,11 +80,11 @@ find_in_object-returns-then-is_some-clause-first t c = object_with c.args.trees.
 pub find_in_object-find_in_members-requires : goal.find_in_object-find_in_members-requires
 find_in_object-find_in_members-requires t c = (omega arith, (c.requires, object_without c.args.trees.now c.get.result c.get.ensures (sym c.is_some.ensures ∙ c.if-is_some.false)))
 
-pub find_in_list-returns-clause-short : goal.find_in_list-returns-clause-short
-find_in_list-returns-clause-short t c =
+pub find_in_list-returns-clause-held : goal.find_in_list-returns-clause-held
+find_in_list-returns-clause-held t c =
     let l = c.loop-i in
     let items = c.trees-tree-items.result.now in
-    let none = subst (λ us. ElementsShort (elements_of us)) (sym (drop_of_length-le items (omega (arith, c.loop-i-test.false)))) tt in
+    let none = subst (λ us. ElementsHeld (elements_of us)) (sym (drop_of_length-le items (omega (arith, c.loop-i-test.false)))) tt in
     let count = elements_len-of items in
     let whole = ap elements_len c.trees-tree-items.ensures.value in
-    (omega (arith, count, whole, c.loop-i.auto.i-end), subst ElementsShort c.trees-tree-items.ensures.value (l.invariant.1 none))
+    (omega (arith, count, whole, c.loop-i.auto.i-end), subst ElementsHeld c.trees-tree-items.ensures.value (l.invariant.1 none))

@@ -5,7 +5,6 @@ use Rattle.jws_part.specs.Part.{IsBody}
 use Rattle.verifier_core.specs.Check.{asked, token_of, IsSigned, IsSignedFault, IsPayloadFault, IsUnreadAt}
 use Rattle.verifier_core.specs.Verdict.{Gives}
 use Rattle.std.specs.List.{AllZip}
-use Rattle.compact_form.specs.Views.{jwt_of}
 use Rattle.verifier_core.proofs.CheckSteps.{on_fault, zip_length, is_payload, signed_fault, signed_passes, payload_fault, payload_passes, given_fault, given_passes}
 use Rattle.verifier_core.proofs.check.view_content.Goals as goal
 

@@ -1,0 +1,241 @@
+-- The texts of what is laid are UTF-8, and so is its JSON text.
+use Rattle.std.proofs.Common.{◌≡◌, ℕ, suc, ◌<◌, ◌≤◌, ◌^◌, ◌⊎◌, ℤ, pos, negsuc, List, [], ◌∷◌, ◌++◌, Bool, true, false, Equal, Greater, Less, None, Option, Ordering, Some, IfSome, IsUtf8, arith, decimal, codes, inl, inr, refl, subst, sym}
+use Rattle.std.proofs.lemmas.Fmt.{IsAscii-decimal, IsAscii-signed}
+use Rattle.std.proofs.lemmas.Str.{IsUtf8-append, IsUtf8-nil, IsUtf8-from_ascii}
+use Rattle.std.specs.Cmp.Lexicographic.{slice_cmp}
+use Rattle.std.specs.Ordering.{match_ordering, nat_cmp}
+use Rattle.json.specs.Print.{quoted}
+use Rattle.json.proofs.Printed.Utf8.{IsUtf8-are_ascii, IsUtf8-boolean, IsUtf8-quoted}
+use Rattle.serde_json.specs.Written.{comma_if, items_text, members_text}
+use Rattle.b64url_text.specs.Base64url.{b64}
+use Rattle.b64url_text.proofs.Codes.{letters-b64}
+use Rattle.b64url_text.proofs.Words.{IsAscii-letters}
+use Rattle.claim_tree.specs.Tree.{Text, Leaf, null, flag, whole, text, Tree, leaf, array, object, Elements, no_elements, element, Members, no_members, member, inserted, IsRanged, ElementsRanged, MembersRanged}
+use Rattle.claim_tree.specs.JsonText.{json_text, elements_data, members_data}
+use Rattle.claim_tree.specs.Lists.{In}
+use Rattle.claim_tree.proofs.Lists.{In-append}
+use Rattle.digest_sites.specs.Given.{Given}
+use Rattle.digest_sites.specs.Reserved.{sd_name, dots_name}
+use Rattle.marked_tree.specs.Marked.{Marked, MarkedElements, MarkedMembers, marked_array, marked_element, marked_leaf, marked_member, marked_object, no_marked_elements, no_marked_members, strip, strip_elements, strip_members}
+use Rattle.marked_tree.specs.Places.{Path}
+use Rattle.rebuild_core.specs.Payload.{alg_name}
+use Rattle.issuer_core.specs.GoodOrder.{IsHeld, ElementsHeld, MembersHeld}
+use Rattle.issuer_core.specs.Laid.{digest_elements, digest_object, hidden_digests, laid_elements, laid_items, laid_members, lay, lay_elements, lay_members, own_item, sorted, sorted_with, texts_array, with_sd, with_alg}
+
+-- ---- trees whose texts are UTF-8
+
+abbrev pub LeafTexts : Leaf → Type 0
+LeafTexts (text s) = IsUtf8 s
+LeafTexts _ = Unit {0}
+
+-- each text and each name is UTF-8
+abbrev mutual
+  pub HasTexts : Tree → Type 0
+  HasTexts (leaf l) = LeafTexts l
+  HasTexts (array es) = ElementsTexts es
+  HasTexts (object ms) = MembersTexts ms
+
+  pub ElementsTexts : Elements → Type 0
+  ElementsTexts no_elements = Unit {0}
+  ElementsTexts (element t es) = HasTexts t × ElementsTexts es
+
+  pub MembersTexts : Members → Type 0
+  MembersTexts no_members = Unit {0}
+  MembersTexts (member name t ms) = IsUtf8 name × HasTexts t × MembersTexts ms
+
+mutual
+  pub held_texts : (t : Tree) → IsHeld t → HasTexts t
+  held_texts (leaf null) h = tt
+  held_texts (leaf (flag b)) h = tt
+  held_texts (leaf (whole z)) h = tt
+  held_texts (leaf (text s)) h = h
+  held_texts (array es) h = elements_texts es h.1
+  held_texts (object ms) h = members_texts ms h
+
+  elements_texts : (es : Elements) → ElementsHeld es → ElementsTexts es
+  elements_texts no_elements h = tt
+  elements_texts (element t es) h = (held_texts t h.0, elements_texts es h.1)
+
+  members_texts : (ms : Members) → MembersHeld ms → MembersTexts ms
+  members_texts no_members h = tt
+  members_texts (member name t ms) h = (h.0, held_texts t h.1, members_texts ms h.2)
+
+-- ---- their JSON
+
+one_byte : (x : ℕ) (xs : List ℕ) → IsUtf8 (x ∷ []) → IsUtf8 xs → IsUtf8 (x ∷ xs)
+one_byte x xs one u = IsUtf8-append (x ∷ []) xs one u
+
+whole_utf8 : (z : ℤ) → IsRanged (leaf (whole z)) → IsUtf8 (json_text (leaf (whole z)))
+whole_utf8 (pos n) r = IsUtf8-from_ascii (decimal n) (IsAscii-decimal n r)
+whole_utf8 (negsuc n) r = go n r
+  where
+    go : (n : ℕ) → n < 2 ^ 63 → IsUtf8 (json_text (leaf (whole (negsuc n))))
+    go n r = one_byte 45 (decimal (suc n)) (IsUtf8-are_ascii (45 ∷ []) refl) (IsUtf8-from_ascii (decimal (suc n)) (IsAscii-decimal (suc n) (omega (arith, r))))
+
+comma_utf8 : (later : Bool) (xs : List ℕ) → IsUtf8 xs → IsUtf8 (comma_if later ++ xs)
+comma_utf8 true xs u = one_byte 44 xs (IsUtf8-are_ascii (44 ∷ []) refl) u
+comma_utf8 false xs u = u
+
+mutual
+  pub json_utf8 : (t : Tree) → HasTexts t → IsRanged t → IsUtf8 (json_text t)
+  json_utf8 (leaf null) h r = IsUtf8-are_ascii (json_text (leaf null)) refl
+  json_utf8 (leaf (flag b)) h r = IsUtf8-boolean b
+  json_utf8 (leaf (whole z)) h r = whole_utf8 z r
+  json_utf8 (leaf (text s)) h r = IsUtf8-quoted s h
+  json_utf8 (array es) h r = one_byte 91 (items_text false (elements_data es)) (IsUtf8-are_ascii (91 ∷ []) refl) (items_utf8 false es h r)
+  json_utf8 (object ms) h r = one_byte 123 (members_text false (members_data ms)) (IsUtf8-are_ascii (123 ∷ []) refl) (members_utf8 false ms h r)
+
+  items_utf8 : (later : Bool) (es : Elements) → ElementsTexts es → ElementsRanged es → IsUtf8 (items_text later (elements_data es))
+  items_utf8 later no_elements h r = IsUtf8-are_ascii (93 ∷ []) refl
+  items_utf8 later (element t es) h r =
+      comma_utf8 later (json_text t ++ items_text true (elements_data es)) (IsUtf8-append (json_text t) (items_text true (elements_data es)) (json_utf8 t h.0 r.0) (items_utf8 true es h.1 r.1))
+
+  members_utf8 : (later : Bool) (ms : Members) → MembersTexts ms → MembersRanged ms → IsUtf8 (members_text later (members_data ms))
+  members_utf8 later no_members h r = IsUtf8-are_ascii (125 ∷ []) refl
+  members_utf8 later (member name t ms) h r =
+      let rest = json_text t ++ members_text true (members_data ms) in
+      comma_utf8 later (quoted name ++ 58 ∷ rest)
+      (IsUtf8-append (quoted name) (58 ∷ rest) (IsUtf8-quoted name h.0)
+      (one_byte 58 rest (IsUtf8-are_ascii (58 ∷ []) refl) (IsUtf8-append (json_text t) (members_text true (members_data ms)) (json_utf8 t h.1 r.0) (members_utf8 true ms h.2 r.1))))
+
+-- ---- what is laid
+
+pub b64_utf8 : (bytes : List ℕ) → IsUtf8 (b64 bytes)
+b64_utf8 bytes = IsUtf8-from_ascii (b64 bytes) (IsAscii-letters (b64 bytes) (letters-b64 bytes))
+
+abbrev pub AllTexts : List Text → Type 0
+AllTexts ds = (d : Text) → In d ds → IsUtf8 d
+
+sd_utf8 : IsUtf8 sd_name
+unfolding sd_name
+sd_utf8 = IsUtf8-are_ascii (codes "_sd") refl
+
+dots_utf8 : IsUtf8 dots_name
+unfolding dots_name
+dots_utf8 = IsUtf8-are_ascii (codes "...") refl
+
+alg_utf8 : IsUtf8 alg_name
+unfolding alg_name
+alg_utf8 = IsUtf8-are_ascii (codes "_sd_alg") refl
+
+inserted_texts : (ms : Members) (name : Text) (t : Tree) → IsUtf8 name → HasTexts t → MembersTexts ms → MembersTexts (inserted ms name t)
+inserted_texts no_members name t n h k = (n, h, tt)
+inserted_texts (member l u ms) name t n h k = go (slice_cmp nat_cmp l name) (inserted_texts ms name t n h k.2)
+  where
+    go : (o : Ordering) → MembersTexts (inserted ms name t) → MembersTexts (match_ordering o (member l u (inserted ms name t)) (member name t ms) (member name t (member l u ms)))
+    go Less ih = (k.0, k.1, ih)
+    go Equal ih = (n, h, k.2)
+    go Greater ih = (n, h, k)
+
+sorted_with_in : (P : Text → Type 0) (d : Text) (ds : List Text) → P d → ((x : Text) → In x ds → P x) → (x : Text) → In x (sorted_with d ds) → P x
+sorted_with_in P d [] p all = λ x there. elim there [ inl e ↦ subst P (sym e) p | inr m ↦ absurd m ]
+sorted_with_in P d (e ∷ ds) p all = go (slice_cmp nat_cmp d e) (sorted_with_in P d ds p (λ x m. all x (inr m)))
+  where
+    front : (x : Text) → In x (d ∷ e ∷ ds) → P x
+    front x (inl is) = subst P (sym is) p
+    front x (inr m) = all x m
+
+    back : ((x : Text) → In x (sorted_with d ds) → P x) → (x : Text) → In x (e ∷ sorted_with d ds) → P x
+    back ih x (inl is) = all x (inl is)
+    back ih x (inr m) = ih x m
+
+    go : (o : Ordering) → ((x : Text) → In x (sorted_with d ds) → P x) → (x : Text) → In x (match_ordering o (d ∷ e ∷ ds) (d ∷ e ∷ ds) (e ∷ sorted_with d ds)) → P x
+    go Less ih = front
+    go Equal ih = front
+    go Greater ih = back ih
+
+sorted_texts : (ds : List Text) → AllTexts ds → AllTexts (sorted ds)
+sorted_texts [] all = all
+sorted_texts (d ∷ ds) all = sorted_with_in IsUtf8 d (sorted ds) (all d (inl refl)) (sorted_texts ds (λ x m. all x (inr m)))
+
+array_texts : (ds : List Text) → AllTexts ds → ElementsTexts (texts_array ds)
+array_texts [] all = tt
+array_texts (d ∷ ds) all = (all d (inl refl), array_texts ds (λ x m. all x (inr m)))
+
+with_sd_texts : (ds : List Text) (ms : Members) → AllTexts ds → MembersTexts ms → MembersTexts (with_sd ds ms)
+with_sd_texts [] ms all h = h
+with_sd_texts (d ∷ ds) ms all h = inserted_texts ms sd_name (array (texts_array (d ∷ ds))) sd_utf8 (array_texts (d ∷ ds) all) h
+
+digest_texts : (ds : List Text) → AllTexts ds → ElementsTexts (digest_elements ds)
+digest_texts [] all = tt
+digest_texts (d ∷ ds) all = ((dots_utf8, all d (inl refl), tt), digest_texts ds (λ x m. all x (inr m)))
+
+joined_texts : (xs ys : List Text) → AllTexts xs → AllTexts ys → AllTexts (xs ++ ys)
+joined_texts xs ys h k d there = go (In-append d xs ys there)
+  where
+    go : In d xs ⊎ In d ys → IsUtf8 d
+    go (inl m) = h d m
+    go (inr m) = k d m
+
+abbrev AllValues : (Given → Type 0) → List Given → Type 0
+AllValues P xs = (x : Given) → In x xs → P x
+
+values_joined : (P : Given → Type 0) (xs ys : List Given) → AllValues P xs → AllValues P ys → AllValues P (xs ++ ys)
+values_joined P xs ys h k x there = go (In-append x xs ys there)
+  where
+    go : In x xs ⊎ In x ys → P x
+    go (inl m) = h x m
+    go (inr m) = k x m
+
+-- the name, where there is one, and the value have UTF-8 texts
+abbrev pub GivenTexts : Given → Type 0
+GivenTexts x = IfSome x.name IsUtf8 × HasTexts x.value
+
+module _ (dg : ℕ → Text) (each : (k : ℕ) → IsUtf8 (dg k)) where
+  hidden_texts : (ms : MarkedMembers) → AllTexts (hidden_digests dg ms)
+  hidden_texts no_marked_members d m = elim m [ ]
+  hidden_texts (marked_member name None t ms) d m = hidden_texts ms d m
+  hidden_texts (marked_member name (Some i) t ms) d (inl e) = subst IsUtf8 (sym e) (each i)
+  hidden_texts (marked_member name (Some i) t ms) d (inr m) = hidden_texts ms d m
+
+  own_texts : (name : Option Text) (k : Option ℕ) (v : Tree) → IfSome name IsUtf8 → HasTexts v → AllValues GivenTexts (own_item dg name k v)
+  own_texts name None v n h x m = elim m [ ]
+  own_texts name (Some k) v n h x (inl e) = subst GivenTexts (sym e) (n, h)
+  own_texts name (Some k) v n h x (inr m) = elim m [ ]
+
+  mutual
+    pub lay_texts : (dec : Path → List Text) → ((q : Path) → AllTexts (dec q)) → (m : Marked) → HasTexts (strip m) → HasTexts (lay dec dg m)
+    lay_texts dec all (marked_leaf l) h = h
+    lay_texts dec all (marked_array es) h = elements_lay_texts dec all 0 es h
+    lay_texts dec all (marked_object ms) h =
+        with_sd_texts (sorted (hidden_digests dg ms ++ dec [])) (lay_members dec dg ms) (sorted_texts (hidden_digests dg ms ++ dec []) (joined_texts (hidden_digests dg ms) (dec []) (hidden_texts ms) (all []))) (members_lay_texts dec all ms h)
+
+    elements_lay_texts : (dec : Path → List Text) → ((q : Path) → AllTexts (dec q)) → (i : ℕ) (es : MarkedElements) → ElementsTexts (strip_elements es) → ElementsTexts (lay_elements dec dg i es)
+    elements_lay_texts dec all i no_marked_elements h = digest_texts (dec []) (all [])
+    elements_lay_texts dec all i (marked_element None t es) h = (lay_texts (λ q. dec (decimal i ∷ q)) (λ q. all (decimal i ∷ q)) t h.0, elements_lay_texts dec all (suc i) es h.1)
+    elements_lay_texts dec all i (marked_element (Some k) t es) h = ((dots_utf8, each k, tt), elements_lay_texts dec all (suc i) es h.1)
+
+    members_lay_texts : (dec : Path → List Text) → ((q : Path) → AllTexts (dec q)) → (ms : MarkedMembers) → MembersTexts (strip_members ms) → MembersTexts (lay_members dec dg ms)
+    members_lay_texts dec all no_marked_members h = tt
+    members_lay_texts dec all (marked_member name None t ms) h = (h.0, lay_texts (λ q. dec (name ∷ q)) (λ q. all (name ∷ q)) t h.1, members_lay_texts dec all ms h.2)
+    members_lay_texts dec all (marked_member name (Some i) t ms) h = members_lay_texts dec all ms h.2
+
+  mutual
+    pub items_texts : (dec : Path → List Text) → ((q : Path) → AllTexts (dec q)) → (m : Marked) → HasTexts (strip m) → AllValues GivenTexts (laid_items dec dg m)
+    items_texts dec all (marked_leaf l) h = λ x m. elim m [ ]
+    items_texts dec all (marked_array es) h = elements_items_texts dec all 0 es h
+    items_texts dec all (marked_object ms) h = members_items_texts dec all ms h
+
+    elements_items_texts : (dec : Path → List Text) → ((q : Path) → AllTexts (dec q)) → (i : ℕ) (es : MarkedElements) → ElementsTexts (strip_elements es) → AllValues GivenTexts (laid_elements dec dg i es)
+    elements_items_texts dec all i no_marked_elements h = λ x m. elim m [ ]
+    elements_items_texts dec all i (marked_element k t es) h =
+        let s : Path → List Text = λ q. dec (decimal i ∷ q) in
+        let a : (q : Path) → AllTexts (s q) = λ q. all (decimal i ∷ q) in
+        values_joined GivenTexts (laid_items s dg t ++ own_item dg None k (lay s dg t)) (laid_elements dec dg (suc i) es)
+        (values_joined GivenTexts (laid_items s dg t) (own_item dg None k (lay s dg t)) (items_texts s a t h.0) (own_texts None k (lay s dg t) tt (lay_texts s a t h.0)))
+        (elements_items_texts dec all (suc i) es h.1)
+
+    members_items_texts : (dec : Path → List Text) → ((q : Path) → AllTexts (dec q)) → (ms : MarkedMembers) → MembersTexts (strip_members ms) → AllValues GivenTexts (laid_members dec dg ms)
+    members_items_texts dec all no_marked_members h = λ x m. elim m [ ]
+    members_items_texts dec all (marked_member name k t ms) h =
+        let s : Path → List Text = λ q. dec (name ∷ q) in
+        let a : (q : Path) → AllTexts (s q) = λ q. all (name ∷ q) in
+        values_joined GivenTexts (laid_items s dg t ++ own_item dg (Some name) k (lay s dg t)) (laid_members dec dg ms)
+        (values_joined GivenTexts (laid_items s dg t) (own_item dg (Some name) k (lay s dg t)) (items_texts s a t h.1) (own_texts (Some name) k (lay s dg t) h.0 (lay_texts s a t h.1)))
+        (members_items_texts dec all ms h.2)
+
+-- the payload with its hash
+pub with_alg_texts : (t : Tree) → HasTexts t → HasTexts (with_alg t)
+with_alg_texts (leaf l) h = h
+with_alg_texts (array es) h = h
+with_alg_texts (object ms) h = inserted_texts ms alg_name (leaf (text (codes "sha-256"))) alg_utf8 (IsUtf8-are_ascii (codes "sha-256") refl) h
