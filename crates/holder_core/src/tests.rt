@@ -1,3 +1,6 @@
+ghost use Rattle.std.specs.Prelude.{IfOk};
+ghost use Rattle.compact_form.specs.Compact.{AreWords};
+
 use crate::{PresentError, PresentFile, present, read_present};
 use b64url_text::encode;
 use claim_tree::{FileFault, Path, PathList, is_prefix, print_path};
@@ -77,7 +80,9 @@ fn presented(
     said: &PresentFile,
     signer: &mut FailSigner,
     steps: &mut Steps,
-) -> Result<Parts, PresentError> {
+) -> Result<Parts, PresentError>
+    ensures { IfOk result AreWords }
+{
     let consent = Consent::new(|place: &Path| !said
         .never
         .paths()
