@@ -3,8 +3,8 @@ use Rattle.std.proofs.Common.{◌≡◌, ℕ, ◌<◌, ◌≤◌, Bool, true, fa
 use Rattle.std.specs.Prelude.{◌&&◌, ◌||◌, not, nat_lt}
 use Rattle.std.proofs.lemmas.Bool.{lt-ltb, le-ltb}
 use Rattle.claim_tree.specs.Tree.{Members, no_members}
-use Rattle.compact_form.specs.declared.limits.TheConstants.{FILE_MAX, COMPACT_MAX, COUNT_MAX}
-use Rattle.compact_form.specs.declared.fault.TheConstants.{TOO_LONG, FORM, TOO_MUCH}
+use Rattle.compact_form.specs.declared.limits.TheConstants.{FILE_MAX, COMPACT_MAX}
+use Rattle.compact_form.specs.declared.conditions.TheConstants.{TOO_LONG, FORM, TOO_MUCH}
 use Rattle.compact_form.specs.declared.fault.Fault.{Fault}
 use Rattle.compact_form.specs.declared.fault.Place.{Place}
 use Rattle.compact_form.specs.declared.fault.Place.TheVariants.{Nowhere, At, Json}

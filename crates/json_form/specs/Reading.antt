@@ -5,7 +5,7 @@ use Rattle.claim_tree.specs.FileForms.{Says}
 use Rattle.claim_tree.specs.Lists.{IsLeast, Nowhere}
 use Rattle.claim_tree.specs.declared.text.ReadError.{ReadError}
 use Rattle.compact_form.specs.declared.fault.Part.TheVariants.{Payload, Signatures}
-use Rattle.compact_form.specs.declared.fault.TheConstants.{FORM}
+use Rattle.compact_form.specs.declared.conditions.TheConstants.{FORM}
 use Rattle.compact_form.specs.declared.fault.Place.TheVariants.{Json}
 use Rattle.compact_form.specs.declared.fault.JsonPlace.TheVariants.{NotJson, NotWhole}
 use Rattle.json_form.specs.declared.token.Token.{Token}

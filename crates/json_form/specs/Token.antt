@@ -2,7 +2,7 @@
 use Rattle.std.specs.Prelude.{◌≡◌, ◌<◌, ◌≤◌, ◌⊎◌, ℕ, true, false, List, length}
 use Rattle.claim_tree.specs.Tree.{no_members}
 use Rattle.compact_form.specs.declared.limits.TheConstants.{COMPACT_MAX, COUNT_MAX}
-use Rattle.compact_form.specs.declared.fault.TheConstants.{TOO_LONG, FORM, TOO_MUCH}
+use Rattle.compact_form.specs.declared.conditions.TheConstants.{TOO_LONG, FORM, TOO_MUCH}
 use Rattle.compact_form.specs.declared.fault.Fault.{Fault}
 use Rattle.compact_form.specs.declared.fault.Place.{Place}
 use Rattle.compact_form.specs.declared.fault.Place.TheVariants.{Nowhere, At, Json}
