@@ -16,7 +16,9 @@ t: <J7515>~; a: {"keys":<S7515>}; present a t = 0 <J7515>~|
 t: <USER>~<ALL>~; a: {"keys":<S1>,"want":["/given_name","/family_name","/address","/nationalities/0"]}; present a t = 0 <USER>~<SHOWN>~|
 t: <USER>~<ALL>~; a: {"keys":<S1>,"want":["/given_name","/family_name","/address","/nationalities/0"],"binding":{"key":"AgICAgICAgICAgICAgICAgICAgICAgICAgICAgICAgI","kid":"h1","aud":"https://verifier.example.org","nonce":"1234567890"}}; present a t = 0 <USER>~<SHOWN>~<BOUND>|
 t: <USER>~<ALL>~; a: {"keys":<S1>,"want":["/given_name","/family_name","/address","/nationalities/0"],"binding":{"key":"AgICAgICAgICAgICAgICAgICAgICAgICAgICAgICAgI","kid":"h1","aud":"https://verifier.example.org","nonce":"1234567890"}}; present a t > q; p: {"keys":<S1>,"iss":"https://issuer.example","require":["given_name"],"binding":{"aud":"https://verifier.example.org","nonce":"1234567890","keys":<S2>,"max_age":300}}; verify p q = 0 <PART>|
-t: eyJhbGciOiJIUzI1NiJ9.eyJjbmYiOnsia2lkIjoiaDEifSwicCI6ImFh<262098*YWFh>YWEifQ.2pycuRlS9bglEEycwhPZTz9QpOZg-XZ71gtogP-QcQM~; a: {"keys":<S1>}; present a t = 0 eyJhbGciOiJIUzI1NiJ9.eyJjbmYiOnsia2lkIjoiaDEifSwicCI6ImFh<262098*YWFh>YWEifQ.2pycuRlS9bglEEycwhPZTz9QpOZg-XZ71gtogP-QcQM~|"#;
+t: eyJhbGciOiJIUzI1NiJ9.eyJjbmYiOnsia2lkIjoiaDEifSwicCI6ImFh<262098*YWFh>YWEifQ.2pycuRlS9bglEEycwhPZTz9QpOZg-XZ71gtogP-QcQM~; a: {"keys":<S1>}; present a t = 0 eyJhbGciOiJIUzI1NiJ9.eyJjbmYiOnsia2lkIjoiaDEifSwicCI6ImFh<262098*YWFh>YWEifQ.2pycuRlS9bglEEycwhPZTz9QpOZg-XZ71gtogP-QcQM~|
+t: {"payload":"eyJfc2QiOlsiTzY4cE9YRXFZeG9HQlFMSC1MTE5IcmtyZzdib1djM0pPSWVKWVBOVGhsTSIsInF2eFB3blNtOHlROWxYU0VFSGl5VWdKUTJhem5EYUZRV280c2RCaUljUEEiXSwiX3NkX2FsZyI6InNoYS0yNTYiLCJpc3MiOiJpIn0","protected":"eyJhbGciOiJIUzI1NiJ9","signature":"0vNlqAfId-WMajZnAzWdLZ6lIF4RRshkUq6jY-nQ1IE","header":{"disclosures":["<AGE>","<GIVEN>"],"x":1}}; a: {"keys":<S1>,"want":["/given"]}; present a t = 0 <ANN>~<GIVEN>~|
+t: {"payload":"eyJfc2QiOlsiTzY4cE9YRXFZeG9HQlFMSC1MTE5IcmtyZzdib1djM0pPSWVKWVBOVGhsTSIsInF2eFB3blNtOHlROWxYU0VFSGl5VWdKUTJhem5EYUZRV280c2RCaUljUEEiXSwiX3NkX2FsZyI6InNoYS0yNTYiLCJpc3MiOiJpIn0","signatures":[{"protected":"eyJhbGciOiJIUzI1NiJ9","signature":"0vNlqAfId-WMajZnAzWdLZ6lIF4RRshkUq6jY-nQ1IE","header":{"disclosures":["<AGE>"]}}]}; a: {"keys":<S1>,"want":["/age"]}; present a t = 0 <ANN>~<AGE>~|"#;
 
 #[test]
 fn tokens_are_presented(rt: HostRuntime) -> Result<(), Fail> {
@@ -28,7 +30,9 @@ fn tokens_are_presented(rt: HostRuntime) -> Result<(), Fail> {
 }
 
 const PRESENTING_IS_REFUSED_BY_NUMBER_NAME_AND_PLACE: &str =
-    r#"t: a.b.c; a: {"keys":<S1>}; present a t = 1 refused 2 form at 5|
+    r#"t: {}; a: {"keys":<S1>}; present a t = 1 refused 2 form at missing payload|
+t: {"payload":"eyJfc2QiOlsiTzY4cE9YRXFZeG9HQlFMSC1MTE5IcmtyZzdib1djM0pPSWVKWVBOVGhsTSIsInF2eFB3blNtOHlROWxYU0VFSGl5VWdKUTJhem5EYUZRV280c2RCaUljUEEiXSwiX3NkX2FsZyI6InNoYS0yNTYiLCJpc3MiOiJpIn0","protected":"eyJhbGciOiJIUzI1NiJ9","signature":"0vNlqAfId-WMajZnAzWdLZ6lIF4RRshkUq6jY-nQ1IE","header":{"disclosures":[],"kb_jwt":"e.f.g"}}; a: {"keys":<S1>}; present a t = 1 refused 71 hasBinding|
+t: a.b.c; a: {"keys":<S1>}; present a t = 1 refused 2 form at 5|
 t: <ANN>~e.f.g; a: {"keys":<S1>,"want":["/nothing"]}; present a t = 1 refused 71 hasBinding|
 t: a.b.c~e.f.g; a: {"keys":<S1>}; present a t = 1 refused 71 hasBinding|
 t: <USER>~<ALL>~; a: {"keys":<S1>,"binding":{"key":"AgICAgICAgICAgICAgICAgICAgICAgICAgICAgICAgI","kid":"h1","aud":"https://verifier.example.org","nonce":"1234567890"}}; present a t > q; present a q = 1 refused 71 hasBinding|
