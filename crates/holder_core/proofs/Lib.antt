@@ -1,0 +1,6 @@
+pub mod HeldFacts
+pub mod Picking
+pub mod Steps
+pub mod PresentFiles
+pub mod OnePresentation
+pub mod PickedNumbers

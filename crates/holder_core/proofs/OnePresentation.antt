@@ -1,0 +1,217 @@
+-- A text is presented in one way, or refused for one cause, where the rule has one answer for each place and a text has one good signature.
+use Rattle.std.proofs.Common.{◌≡◌, ◌≢◌, ◌⊎◌, inl, inr, ℕ, ◌<◌, ◌≤◌, Bool, true, false, List, [], ◌∷◌, length, Option, None, Some, refl, sym, ap, ap₂, subst, ◌∙◌, arith, codes}
+use Rattle.b64url_text.specs.Base64url.{b64}
+use Rattle.claim_tree.specs.Tree.{Text, Tree}
+use Rattle.claim_tree.specs.Lists.{IsLeast, Nowhere}
+use Rattle.compact_form.specs.Compact.{compact, hashed}
+use Rattle.compact_form.specs.Lowest.{IsLowest}
+use Rattle.compact_form.specs.declared.fault.Fault.{Fault}
+use Rattle.compact_form.specs.declared.limits.TheConstants.{COMPACT_MAX}
+use Rattle.compact_form.specs.declared.parts.JwtParts.{JwtParts}
+use Rattle.compact_form.specs.declared.parts.Parts.{Parts}
+use Rattle.disclosure.specs.declared.digests.HashAlg.{HashAlg}
+use Rattle.hmac_sign.specs.Signatures.{Meaning}
+use Rattle.json_form.proofs.Tokens as tokens
+use Rattle.json_form.specs.Token.{IsToken}
+use Rattle.json_form.specs.declared.token.Token.{Token}
+use Rattle.key_binding.specs.Binding.{IsBinding}
+use Rattle.key_binding.specs.Judged.{holder_kid}
+use Rattle.marked_tree.specs.Choice.{chosen}
+use Rattle.marked_tree.specs.Marked.{Marked, strip}
+use Rattle.marked_tree.specs.Places.{Path, place}
+use Rattle.selection_core.specs.Consent.{Answers, Allows, AllAllowed, IsRefusedAt}
+use Rattle.selection_core.specs.Refusals.{IsMissing}
+use Rattle.verifier_core.specs.Verdict.{TokenFails}
+use Rattle.verifier_core.proofs.Verdicts.{one_opening, one_hash}
+use Rattle.verifier_core.proofs.OneVerdict.{one_token_fault}
+use Rattle.holder_core.specs.declared.ask.Ask.{Ask}
+use Rattle.holder_core.specs.declared.ask.BindingAsk.{BindingAsk}
+use Rattle.holder_core.specs.declared.errors.PresentError.{PresentError}
+use Rattle.holder_core.specs.declared.errors.PresentError.TheVariants.{Memory, Token as OnCondition, HasBinding, NoSuchPlace, ConsentRefused, BindingKeyDiffers, SignFailed, TooLong}
+use Rattle.holder_core.specs.Present.{picked, shown, rules_of, IsHeld, IsAgreed, NamesKey, IsBoundWith, IsBoundAs, IsAnswer, IsNotThere, IsDenied, IsKeyOther, IsTooLong, Refuses, IsPresented, IsNotPresented, no_memory, not_read, refused}
+
+-- the rule does not both allow and refuse a place
+abbrev pub IsDecided : {F : Type 0} → Answers F → F → Type 0
+IsDecided answers rule = (at : Path) → Allows answers rule at true → Allows answers rule at false → ⊥
+
+-- no two signatures of a text are good
+abbrev pub HasOneSignature : Meaning → Type 0
+HasOneSignature good = (head body one other : List ℕ) → good head body one → good head body other → one ≡ other
+
+-- ---- key binding
+
+jwt_made : Text → Text → Text → JwtParts
+jwt_made protected payload signature = record { protected = protected; payload = payload; signature = signature }
+
+one_token : (good : Meaning) → HasOneSignature good → (hash : HashAlg) (text aud nonce : Text) (now : ℕ) (a b : JwtParts) → IsBinding good hash text aud nonce now a → IsBinding good hash text aud nonce now b → a ≡ b
+unfolding jwt_made
+one_token good once hash text aud nonce now a b h k =
+    let heads : a.protected ≡ b.protected = h.protected ∙ sym k.protected in
+    let bodies : a.payload ≡ b.payload = h.payload ∙ sym k.payload in
+    let signed = subst (λ (p : Text). good p b.payload h.signature) heads (subst (λ (p : Text). good a.protected p h.signature) bodies h.signed) in
+    let signatures : a.signature ≡ b.signature = h.signature_text ∙ (ap b64 (once b.protected b.payload h.signature k.signature signed k.signed) ∙ sym k.signature_text) in
+    ap (λ (x : Text). jwt_made x a.payload a.signature) heads ∙ (ap (λ (x : Text). jwt_made b.protected x a.signature) bodies ∙ ap (λ (x : Text). jwt_made b.protected b.payload x) signatures)
+
+one_bound : (good : Meaning) → HasOneSignature good → (ask : Option BindingAsk) (hash : HashAlg) (text : Text) (now : ℕ) (a b : Option JwtParts) → IsBoundWith ask good hash text now a → IsBoundWith ask good hash text now b → a ≡ b
+one_bound good once None hash text now a b h k = h ∙ sym k
+one_bound good once (Some ask) hash text now None b h k = absurd h
+one_bound good once (Some ask) hash text now (Some a) None h k = absurd k
+one_bound good once (Some ask) hash text now (Some a) (Some b) h k = ap Some (one_token good once hash text ask.aud ask.nonce now a b h.is_binding k.is_binding)
+
+parts_made : JwtParts → List Text → Option JwtParts → Parts
+parts_made signed disclosures binding = record { signed = signed; disclosures = disclosures; binding = binding }
+
+least_one : (P : ℕ → Type 0) (i j : ℕ) → IsLeast P i → IsLeast P j → i ≡ j
+least_one P i j h k = go (either i j)
+  where
+    either : (a b : ℕ) → (a < b) ⊎ ((b < a) ⊎ (a ≡ b))
+    either a b = grind arith
+
+    go : (i < j) ⊎ ((j < i) ⊎ (i ≡ j)) → i ≡ j
+    go (inl less) = absurd (k.first i less h.fails)
+    go (inr (inl more)) = absurd (h.first j more k.fails)
+    go (inr (inr same)) = same
+
+refused_one : {F : Type 0} (answers : Answers F) (rule : F) → IsDecided answers rule → (m : Marked) (s : ℕ → Bool) (i j : ℕ) → IsRefusedAt answers rule m s i → IsRefusedAt answers rule m s j → i ≡ j
+refused_one answers rule decided m s i j h k = go (either i j)
+  where
+    either : (a b : ℕ) → (a < b) ⊎ ((b < a) ⊎ (a ≡ b))
+    either a b = grind arith
+
+    go : (i < j) ⊎ ((j < i) ⊎ (i ≡ j)) → i ≡ j
+    go (inl less) = absurd (decided h.at (k.smaller i h.at less h.chosen h.stands) h.refused)
+    go (inr (inl more)) = absurd (decided k.at (h.smaller j k.at more k.chosen k.stands) k.refused)
+    go (inr (inr same)) = same
+
+module _ {F : Type 0} (answers : Answers F) (rule : F) (decided : IsDecided answers rule) (content : Text) (token : Token) (is : IsToken content token) (ask : Ask) (good : Meaning) (once : HasOneSignature good) (now : ℕ) where
+  one_marked : (m n : Marked) → IsHeld token ask m → IsHeld token ask n → m ≡ n
+  one_marked m n h k = one_opening token m n h.checked.opens k.checked.opens
+
+  one_fault : (f g : Fault) → IsLowest (TokenFails token (rules_of ask.keys)) f → IsLowest (TokenFails token (rules_of ask.keys)) g → f ≡ g
+  one_fault f g h k = one_token_fault token (rules_of ask.keys) f g h k
+
+  -- the answer is one
+  pub one_answer : (a b : Parts) → IsAnswer answers rule token ask good now a → IsAnswer answers rule token ask good now b → a ≡ b
+  unfolding parts_made
+  one_answer a b h k =
+      let marks : h.marked ≡ k.marked = one_marked h.marked k.marked h.agreed.held k.agreed.held in
+      let signed : a.signed ≡ b.signed = h.presents.signed ∙ sym k.presents.signed in
+      let texts : a.disclosures ≡ b.disclosures = h.presents.disclosures ∙ (ap (λ (m : Marked). picked (chosen m ask.want) token.parts.disclosures) marks ∙ sym k.presents.disclosures) in
+      let hashes : h.hash ≡ k.hash = one_hash token h.hash k.hash h.has_hash k.has_hash in
+      let fronts : hashed a ≡ hashed b = ap₂ (λ (j : JwtParts) (ds : List Text). hashed (parts_made j ds None)) signed texts in
+      let bound = subst (λ (x : HashAlg). IsBoundWith ask.binding good x (hashed b) now a.binding) hashes (subst (λ (x : Text). IsBoundWith ask.binding good h.hash x now a.binding) fronts h.bound) in
+      let bindings : a.binding ≡ b.binding = one_bound good once ask.binding k.hash (hashed b) now a.binding b.binding bound k.bound in
+      ap (λ (x : JwtParts). parts_made x a.disclosures a.binding) signed ∙ (ap (λ (x : List Text). parts_made b.signed x a.binding) texts ∙ ap (λ (x : Option JwtParts). parts_made b.signed b.disclosures x) bindings)
+
+  -- ---- what a step rules out
+
+  no_fault : (f : Fault) (m : Marked) → IsLowest (TokenFails token (rules_of ask.keys)) f → IsHeld token ask m → ⊥
+  no_fault f m l h = h.checked.passes l.failed f.place l.fails
+
+  no_missing : (k : ℕ) (m : Marked) → IsNotThere token ask k → IsHeld token ask m → Nowhere (IsMissing (strip m) ask.want) → ⊥
+  no_missing k m h held there = subst (λ (x : Marked). Nowhere (IsMissing (strip x) ask.want)) (one_marked m h.marked held h.held) there k h.missing.fails
+
+  no_denied : (i : ℕ) (m : Marked) → IsDenied answers rule token ask i → IsHeld token ask m → AllAllowed answers rule m (chosen m ask.want) → ⊥
+  no_denied i m h held allowed =
+      let all = subst (λ (x : Marked). AllAllowed answers rule x (chosen x ask.want)) (one_marked m h.marked held h.held) allowed in
+      decided h.refused.at (all i h.refused.at h.refused.chosen h.refused.stands) h.refused.refused
+
+  no_other : (m : Marked) → IsKeyOther answers rule token ask → IsHeld token ask m → NamesKey ask.binding (shown m (chosen m ask.want)) → ⊥
+  no_other m h held key =
+      let there = subst (λ (x : Marked). NamesKey ask.binding (shown x (chosen x ask.want))) (one_marked m h.marked held h.agreed.held) key in
+      h.differs (subst (λ (b : Option BindingAsk). NamesKey b (shown h.marked (chosen h.marked ask.want))) h.asked_for there)
+
+  -- a token that is presented is not refused
+  pub answered_not_refused : (a : Parts) (e : PresentError) → IsAnswer answers rule token ask good now a → length (compact a) ≤ COMPACT_MAX → Refuses answers rule token ask good now e → (e ≡ Memory) ⊎ (e ≡ SignFailed)
+  answered_not_refused a Memory h short r = inl refl
+  answered_not_refused a SignFailed h short r = inr refl
+  answered_not_refused a HasBinding h short r = absurd (r h.agreed.held.unbound)
+  answered_not_refused a (OnCondition f) h short r = absurd (no_fault f h.marked r.1 h.agreed.held)
+  answered_not_refused a (NoSuchPlace k) h short r = absurd (no_missing k h.marked r h.agreed.held h.agreed.there)
+  answered_not_refused a (ConsentRefused i) h short r = absurd (no_denied i h.marked r h.agreed.held h.agreed.allowed)
+  answered_not_refused a BindingKeyDiffers h short r = absurd (no_other h.marked r h.agreed.held h.key)
+  answered_not_refused a TooLong h short r =
+      let same : r.answer ≡ a = one_answer r.answer a r.is_answer h in
+      let long = subst (λ (x : Parts). COMPACT_MAX < length (compact x)) same r.long in
+      absurd (omega (arith, short, long))
+
+  -- a token is refused for one cause, beside want of memory and a signer that fails
+  abbrev IsRefusal : PresentError → Type 0
+  IsRefusal e = Refuses answers rule token ask good now e
+
+  pub one_refusal : (e o : PresentError) → e ≢ Memory → e ≢ SignFailed → o ≢ Memory → o ≢ SignFailed → IsRefusal e → IsRefusal o → e ≡ o
+  one_refusal Memory o a b c d x y = absurd (a refl)
+  one_refusal SignFailed o a b c d x y = absurd (b refl)
+  one_refusal HasBinding Memory a b c d x y = absurd (c refl)
+  one_refusal HasBinding SignFailed a b c d x y = absurd (d refl)
+  one_refusal HasBinding HasBinding a b c d x y = refl
+  one_refusal HasBinding (OnCondition g) a b c d x y = absurd (x (y.0))
+  one_refusal HasBinding (NoSuchPlace l) a b c d x y = absurd (x (y.held.unbound))
+  one_refusal HasBinding (ConsentRefused j) a b c d x y = absurd (x (y.held.unbound))
+  one_refusal HasBinding BindingKeyDiffers a b c d x y = absurd (x (y.agreed.held.unbound))
+  one_refusal HasBinding TooLong a b c d x y = absurd (x (y.is_answer.agreed.held.unbound))
+  one_refusal (OnCondition f) Memory a b c d x y = absurd (c refl)
+  one_refusal (OnCondition f) SignFailed a b c d x y = absurd (d refl)
+  one_refusal (OnCondition f) HasBinding a b c d x y = absurd (y (x.0))
+  one_refusal (OnCondition f) (OnCondition g) a b c d x y = ap OnCondition (one_fault f g x.1 y.1)
+  one_refusal (OnCondition f) (NoSuchPlace l) a b c d x y = absurd (no_fault f y.marked x.1 y.held)
+  one_refusal (OnCondition f) (ConsentRefused j) a b c d x y = absurd (no_fault f y.marked x.1 y.held)
+  one_refusal (OnCondition f) BindingKeyDiffers a b c d x y = absurd (no_fault f y.marked x.1 y.agreed.held)
+  one_refusal (OnCondition f) TooLong a b c d x y = absurd (no_fault f y.is_answer.marked x.1 y.is_answer.agreed.held)
+  one_refusal (NoSuchPlace k) Memory a b c d x y = absurd (c refl)
+  one_refusal (NoSuchPlace k) SignFailed a b c d x y = absurd (d refl)
+  one_refusal (NoSuchPlace k) HasBinding a b c d x y = absurd (y (x.held.unbound))
+  one_refusal (NoSuchPlace k) (OnCondition g) a b c d x y = absurd (no_fault g x.marked y.1 x.held)
+  one_refusal (NoSuchPlace k) (NoSuchPlace l) a b c d x y = ap NoSuchPlace (least_one (IsMissing (strip y.marked) ask.want) k l (subst (λ (m : Marked). IsLeast (IsMissing (strip m) ask.want) k) (one_marked x.marked y.marked x.held y.held) x.missing) y.missing)
+  one_refusal (NoSuchPlace k) (ConsentRefused j) a b c d x y = absurd (no_missing k y.marked x y.held y.there)
+  one_refusal (NoSuchPlace k) BindingKeyDiffers a b c d x y = absurd (no_missing k y.marked x y.agreed.held y.agreed.there)
+  one_refusal (NoSuchPlace k) TooLong a b c d x y = absurd (no_missing k y.is_answer.marked x y.is_answer.agreed.held y.is_answer.agreed.there)
+  one_refusal (ConsentRefused i) Memory a b c d x y = absurd (c refl)
+  one_refusal (ConsentRefused i) SignFailed a b c d x y = absurd (d refl)
+  one_refusal (ConsentRefused i) HasBinding a b c d x y = absurd (y (x.held.unbound))
+  one_refusal (ConsentRefused i) (OnCondition g) a b c d x y = absurd (no_fault g x.marked y.1 x.held)
+  one_refusal (ConsentRefused i) (NoSuchPlace l) a b c d x y = absurd (no_missing l x.marked y x.held x.there)
+  one_refusal (ConsentRefused i) (ConsentRefused j) a b c d x y = ap ConsentRefused (refused_one answers rule decided y.marked (chosen y.marked ask.want) i j (subst (λ (m : Marked). IsRefusedAt answers rule m (chosen m ask.want) i) (one_marked x.marked y.marked x.held y.held) x.refused) y.refused)
+  one_refusal (ConsentRefused i) BindingKeyDiffers a b c d x y = absurd (no_denied i y.marked x y.agreed.held y.agreed.allowed)
+  one_refusal (ConsentRefused i) TooLong a b c d x y = absurd (no_denied i y.is_answer.marked x y.is_answer.agreed.held y.is_answer.agreed.allowed)
+  one_refusal BindingKeyDiffers Memory a b c d x y = absurd (c refl)
+  one_refusal BindingKeyDiffers SignFailed a b c d x y = absurd (d refl)
+  one_refusal BindingKeyDiffers HasBinding a b c d x y = absurd (y (x.agreed.held.unbound))
+  one_refusal BindingKeyDiffers (OnCondition g) a b c d x y = absurd (no_fault g x.marked y.1 x.agreed.held)
+  one_refusal BindingKeyDiffers (NoSuchPlace l) a b c d x y = absurd (no_missing l x.marked y x.agreed.held x.agreed.there)
+  one_refusal BindingKeyDiffers (ConsentRefused j) a b c d x y = absurd (no_denied j x.marked y x.agreed.held x.agreed.allowed)
+  one_refusal BindingKeyDiffers BindingKeyDiffers a b c d x y = refl
+  one_refusal BindingKeyDiffers TooLong a b c d x y = absurd (no_other y.is_answer.marked x y.is_answer.agreed.held y.is_answer.key)
+  one_refusal TooLong Memory a b c d x y = absurd (c refl)
+  one_refusal TooLong SignFailed a b c d x y = absurd (d refl)
+  one_refusal TooLong HasBinding a b c d x y = absurd (y (x.is_answer.agreed.held.unbound))
+  one_refusal TooLong (OnCondition g) a b c d x y = absurd (no_fault g x.is_answer.marked y.1 x.is_answer.agreed.held)
+  one_refusal TooLong (NoSuchPlace l) a b c d x y = absurd (no_missing l x.is_answer.marked y x.is_answer.agreed.held x.is_answer.agreed.there)
+  one_refusal TooLong (ConsentRefused j) a b c d x y = absurd (no_denied j x.is_answer.marked y x.is_answer.agreed.held x.is_answer.agreed.allowed)
+  one_refusal TooLong BindingKeyDiffers a b c d x y = absurd (no_other x.is_answer.marked y x.is_answer.agreed.held x.is_answer.key)
+  one_refusal TooLong TooLong a b c d x y = refl
+
+-- ---- the same of a text
+
+module _ {F : Type 0} (answers : Answers F) (rule : F) (decided : IsDecided answers rule) (content : Text) (ask : Ask) (good : Meaning) (once : HasOneSignature good) (now : ℕ) where
+  pub one_presented : (a b : Parts) → IsPresented answers rule content ask good now a → IsPresented answers rule content ask good now b → a ≡ b
+  one_presented a b h k =
+      one_answer answers rule decided content k.token k.is_token ask good once now a b
+      (subst (λ (t : Token). IsAnswer answers rule t ask good now a) (tokens.one content h.token k.token h.is_token k.is_token) h.is_answer)
+      k.is_answer
+
+  pub presented_not_refused : (a : Parts) (e : PresentError) → IsPresented answers rule content ask good now a → length (compact a) ≤ COMPACT_MAX → IsNotPresented answers rule content ask good now e → (e ≡ Memory) ⊎ (e ≡ SignFailed)
+  presented_not_refused a e h short (no_memory is) = inl is
+  presented_not_refused a e h short (not_read fault is r) = absurd (tokens.not_both content h.token fault h.is_token r)
+  presented_not_refused a e h short (refused token is r) =
+      answered_not_refused answers rule decided content token is ask good once now a e (subst (λ (t : Token). IsAnswer answers rule t ask good now a) (tokens.one content h.token token h.is_token is) h.is_answer) short r
+
+  pub one_cause : (e o : PresentError) → e ≢ Memory → e ≢ SignFailed → o ≢ Memory → o ≢ SignFailed → IsNotPresented answers rule content ask good now e → IsNotPresented answers rule content ask good now o → e ≡ o
+  one_cause e o a b c d (no_memory is) k = absurd (a is)
+  one_cause e o a b c d (not_read f is r) (no_memory also) = absurd (c also)
+  one_cause e o a b c d (refused token there r) (no_memory also) = absurd (c also)
+  one_cause e o a b c d (not_read f is r) (not_read g also q) = is ∙ (ap OnCondition (tokens.one_refusal content f g r q) ∙ sym also)
+  one_cause e o a b c d (not_read f is r) (refused token there q) = absurd (tokens.not_both content token f there r)
+  one_cause e o a b c d (refused token there r) (not_read g is q) = absurd (tokens.not_both content token g there q)
+  one_cause e o a b c d (refused token there r) (refused other here q) =
+      one_refusal answers rule decided content other here ask good once now e o a b c d (subst (λ (t : Token). Refuses answers rule t ask good now e) (tokens.one content token other there here) r) q

@@ -1,0 +1,190 @@
+-- From the steps of presenting to what is presented, and why it is not.
+use Rattle.std.proofs.Common.{◌≡◌, ◌≢◌, ℕ, ◌<◌, Bool, true, false, List, length, Option, Some, None, IfSome, refl, sym, ap, subst, ◌∙◌}
+use Rattle.std.specs.List.{AllByRecursion}
+use Rattle.std.specs.Option.{option_map, is_some}
+use Rattle.b64url_text.specs.Base64url.{IsWord}
+use Rattle.claim_tree.specs.Tree.{Tree}
+use Rattle.compact_form.specs.Compact.{AreWords}
+use Rattle.compact_form.specs.declared.limits.TheConstants.{COMPACT_MAX}
+use Rattle.compact_form.specs.Compact as form
+use Rattle.compact_form.specs.declared.fault.Fault.{Fault}
+use Rattle.compact_form.specs.Views.{jwt_of}
+use Rattle.compact_form.specs.declared.parts.JwtParts.{JwtParts}
+use Rattle.compact_form.specs.declared.parts.Parts.{Parts}
+use Rattle.compact_form.specs.declared.view.JwtView.{JwtView}
+use Rattle.disclosure.specs.declared.digests.HashAlg.{HashAlg}
+use Rattle.hmac_sign.specs.Signatures.{Meaning}
+use Rattle.json_form.specs.declared.token.Token.{Token}
+use Rattle.key_binding.specs.Judged.{holder_kid}
+use Rattle.marked_tree.specs.Choice.{chosen}
+use Rattle.marked_tree.specs.Marked.{Marked, strip}
+use Rattle.marked_tree.specs.Numbers.{has}
+use Rattle.selection_core.specs.Consent.{Answers, AllAllowed, IsRefusedAt}
+use Rattle.verifier_core.specs.Verdict.{IsChecked, HasHash}
+use Rattle.holder_core.specs.declared.ask.Ask.{Ask}
+use Rattle.holder_core.specs.declared.ask.BindingAsk.{BindingAsk}
+use Rattle.holder_core.specs.declared.errors.PresentError.{PresentError}
+use Rattle.holder_core.specs.declared.errors.PresentError.TheVariants.{Memory, Token as OnCondition, HasBinding, NoSuchPlace, ConsentRefused, BindingKeyDiffers, SignFailed, TooLong}
+use Rattle.holder_core.specs.Present.{picked, shown, rules_of, IsHeld, IsAgreed, NamesKey, IsAnswer, Refuses, OnToken}
+use Rattle.holder_core.specs.Presenting.{IsUnchecked, IsUnchosen, IsChosen, IsOtherKey, IsReady, IsUnready, IsFinished, IsUnfinished}
+use Rattle.marked_tree.proofs.PrunedSame.{Same, prune_same}
+use Rattle.holder_core.proofs.Picking.{picked_same, picked_words}
+
+module _ {F : Type 0} (answers : Answers F) (rule : F) (m : Marked) (s t : ℕ → Bool) (same : Same s t) where
+  pub allowed_same : AllAllowed answers rule m s → AllAllowed answers rule m t
+  allowed_same all i at is stands = all i at (same i ∙ is) stands
+
+  pub refused_same : (i : ℕ) → IsRefusedAt answers rule m s i → IsRefusedAt answers rule m t i
+  refused_same i r = record {
+    chosen = sym (same i) ∙ r.chosen;
+    at = r.at;
+    stands = r.stands;
+    refused = r.refused;
+    smaller = λ j there low is stands. r.smaller j there low (same j ∙ is) stands;
+  }
+
+shown_same : (m : Marked) (s t : ℕ → Bool) → Same s t → shown m s ≡ shown m t
+shown_same m s t same = ap strip (prune_same s t same m)
+
+pub words_picked : (parts answer : Parts) (s : ℕ → Bool) → AreWords parts → answer.signed ≡ parts.signed → answer.disclosures ≡ picked s parts.disclosures → answer.binding ≡ None → AreWords answer
+words_picked parts answer s words signed disclosures none = record {
+  signed = subst form.HasWords (sym signed) words.signed;
+  disclosures = subst (AllByRecursion IsWord) (sym disclosures) (picked_words s parts.disclosures words.disclosures);
+  binding = subst (λ o. IfSome o form.HasWords) (sym none) tt;
+}
+
+module _ {F : Type 0} (answers : Answers F) (rule : F) (token : Token) (ask : Ask) where
+  module _ (marked : Marked) (held : IsHeld token ask marked) where
+    pub unchosen : (e : PresentError) → IsUnchosen answers rule marked ask.want e → IsUnready answers rule token ask e
+    unchosen Memory h = tt
+    unchosen (OnCondition fault) h = absurd h
+    unchosen HasBinding h = absurd h
+    unchosen (NoSuchPlace k) h = record { marked = marked; held = held; missing = h }
+    unchosen (ConsentRefused i) h = record { marked = marked; held = held; there = h.0; refused = h.1 }
+    unchosen BindingKeyDiffers h = absurd h
+    unchosen SignFailed h = absurd h
+    unchosen TooLong h = absurd h
+
+    module _ (marks : List ℕ) (is : IsChosen answers rule marked ask.want marks) where
+      agreed : IsAgreed answers rule token ask marked
+      agreed = record { held = held; there = is.there; allowed = is.allowed }
+
+      same_shown : shown marked (has marks) ≡ shown marked (chosen marked ask.want)
+      same_shown = shown_same marked (has marks) (chosen marked ask.want) is.same
+
+      pub other_key : (e : PresentError) → IsOtherKey ask.binding (shown marked (has marks)) e → IsUnready answers rule token ask e
+      other_key Memory h = tt
+      other_key (OnCondition fault) h = absurd h
+      other_key HasBinding h = absurd h
+      other_key (NoSuchPlace k) h = absurd h
+      other_key (ConsentRefused i) h = absurd h
+      other_key BindingKeyDiffers h = record {
+        marked = marked;
+        agreed = agreed;
+        binding = h.0;
+        asked_for = h.1;
+        differs = subst (λ (p : Tree). holder_kid p ≢ Some h.0.kid) same_shown h.2;
+      }
+      other_key SignFailed h = absurd h
+      other_key TooLong h = absurd h
+
+      pub ready : NamesKey ask.binding (shown marked (has marks)) → (unbound : Parts) → unbound.signed ≡ token.parts.signed → unbound.disclosures ≡ picked (has marks) token.parts.disclosures → unbound.binding ≡ None
+          → IsReady answers rule token ask marked unbound
+      ready key unbound signed disclosures none = record {
+        agreed = agreed;
+        key = subst (NamesKey ask.binding) same_shown key;
+        presents = record {
+          signed = signed;
+          disclosures = disclosures ∙ picked_same (has marks) (chosen marked ask.want) is.same token.parts.disclosures;
+          binding_is = none;
+        };
+      }
+
+  module _ (good : Meaning) (now : ℕ) where
+    pub unchecked_refused : (e : PresentError) → token.parts.binding ≡ None → IsUnchecked token (rules_of ask.keys) e → Refuses answers rule token ask good now e
+    unchecked_refused Memory none h = tt
+    unchecked_refused (OnCondition fault) none h = (none, h)
+    unchecked_refused HasBinding none h = absurd h
+    unchecked_refused (NoSuchPlace k) none h = absurd h
+    unchecked_refused (ConsentRefused i) none h = absurd h
+    unchecked_refused BindingKeyDiffers none h = absurd h
+    unchecked_refused SignFailed none h = absurd h
+    unchecked_refused TooLong none h = absurd h
+
+    pub unready_refused : (e : PresentError) → IsUnready answers rule token ask e → Refuses answers rule token ask good now e
+    unready_refused Memory h = tt
+    unready_refused (OnCondition fault) h = absurd h
+    unready_refused HasBinding h = absurd h
+    unready_refused (NoSuchPlace k) h = h
+    unready_refused (ConsentRefused i) h = h
+    unready_refused BindingKeyDiffers h = h
+    unready_refused SignFailed h = absurd h
+    unready_refused TooLong h = absurd h
+
+    module _ (marked : Marked) (unbound : Parts) (is : IsReady answers rule token ask marked unbound) (hash : HashAlg) (has_hash : HasHash token hash) where
+      pub answered : (answer : Parts) → IsFinished ask.binding good hash now unbound answer → IsAnswer answers rule token ask good now answer
+      answered answer done = record {
+        marked = marked;
+        agreed = is.agreed;
+        key = is.key;
+        presents = record { signed = done.signed ∙ is.presents.signed; disclosures = done.disclosures ∙ is.presents.disclosures; binding_is = refl };
+        hash = hash;
+        has_hash = has_hash;
+        bound = done.bound;
+      }
+
+      pub unfinished_refused : (e : PresentError) → IsUnfinished ask.binding good hash now unbound e → Refuses answers rule token ask good now e
+      unfinished_refused Memory h = tt
+      unfinished_refused (OnCondition fault) h = absurd h
+      unfinished_refused HasBinding h = absurd h
+      unfinished_refused (NoSuchPlace k) h = absurd h
+      unfinished_refused (ConsentRefused i) h = absurd h
+      unfinished_refused BindingKeyDiffers h = absurd h
+      unfinished_refused SignFailed h = record {
+        marked = marked;
+        agreed = is.agreed;
+        binding = h.0;
+        asked_for = h.1;
+        key = subst (λ (b : Option BindingAsk). NamesKey b (shown marked (chosen marked ask.want))) h.1 is.key;
+      }
+      unfinished_refused TooLong h = record { answer = h.answer; is_answer = answered h.answer h.finished; long = h.long }
+
+pub unready_unread : {F : Type 0} (answers : Answers F) (rule : F) (token : Token) (ask : Ask) (e : PresentError) → IsUnready answers rule token ask e → OnToken e (λ fault. ⊥)
+unready_unread answers rule token ask Memory h = tt
+unready_unread answers rule token ask (OnCondition fault) h = h
+unready_unread answers rule token ask HasBinding h = tt
+unready_unread answers rule token ask (NoSuchPlace k) h = tt
+unready_unread answers rule token ask (ConsentRefused i) h = tt
+unready_unread answers rule token ask BindingKeyDiffers h = tt
+unready_unread answers rule token ask SignFailed h = tt
+unready_unread answers rule token ask TooLong h = tt
+
+pub unfinished_unread : (binding : Option BindingAsk) (good : Meaning) (hash : HashAlg) (now : ℕ) (unbound : Parts) (e : PresentError) → IsUnfinished binding good hash now unbound e → OnToken e (λ fault. ⊥)
+unfinished_unread binding good hash now unbound Memory h = tt
+unfinished_unread binding good hash now unbound (OnCondition fault) h = h
+unfinished_unread binding good hash now unbound HasBinding h = tt
+unfinished_unread binding good hash now unbound (NoSuchPlace k) h = tt
+unfinished_unread binding good hash now unbound (ConsentRefused i) h = tt
+unfinished_unread binding good hash now unbound BindingKeyDiffers h = tt
+unfinished_unread binding good hash now unbound SignFailed h = tt
+unfinished_unread binding good hash now unbound TooLong h = tt
+
+pub no_token : (e : PresentError) (P : Fault → Type 0) → OnToken e (λ fault. ⊥) → OnToken e P
+no_token Memory P h = tt
+no_token (OnCondition fault) P h = absurd h
+no_token HasBinding P h = tt
+no_token (NoSuchPlace k) P h = tt
+no_token (ConsentRefused i) P h = tt
+no_token BindingKeyDiffers P h = tt
+no_token SignFailed P h = tt
+no_token TooLong P h = tt
+
+-- ---- whether there is a key binding token
+
+pub is_bound : (o : Option JwtView) (p : Option JwtParts) → option_map jwt_of o ≡ p → is_some o ≡ true → p ≢ None
+is_bound None p same there none = cc there
+is_bound (Some j) p same there none = let both = same ∙ none in cc both
+
+pub is_unbound : (o : Option JwtView) (p : Option JwtParts) → option_map jwt_of o ≡ p → is_some o ≡ false → p ≡ None
+is_unbound None p same there = sym same
+is_unbound (Some j) p same there = absurd (cc there)

@@ -1,0 +1,161 @@
+-- What a holder presents of a token as it is asked, and why it presents nothing (RFC 9901 section 7.2).
+use Rattle.std.specs.Prelude.{◌≡◌, ◌≢◌, ◌<◌, ℕ, suc, Bool, List, [], ◌∷◌, length, Option, None, Some, codes, if◌then◌else◌}
+use Rattle.claim_tree.specs.Tree.{Text, Tree}
+use Rattle.claim_tree.specs.Lists.{IsLeast, Nowhere}
+use Rattle.compact_form.specs.Compact.{compact, hashed}
+use Rattle.compact_form.specs.Lowest.{IsLowest}
+use Rattle.json_form.specs.Token as file
+use Rattle.compact_form.specs.declared.fault.Fault.{Fault}
+use Rattle.compact_form.specs.declared.limits.TheConstants.{COMPACT_MAX}
+use Rattle.compact_form.specs.declared.parts.JwtParts.{JwtParts}
+use Rattle.compact_form.specs.declared.parts.Parts.{Parts}
+use Rattle.disclosure.specs.declared.digests.HashAlg.{HashAlg}
+use Rattle.hmac_sign.specs.Signatures.{Meaning}
+use Rattle.hmac_sign.specs.declared.key_set.NamedKey.{NamedKey}
+use Rattle.json_form.specs.Token.{IsToken}
+use Rattle.json_form.specs.declared.token.Token.{Token}
+use Rattle.key_binding.specs.Binding.{IsBinding, IsReadBack}
+use Rattle.key_binding.specs.Judged.{holder_kid}
+use Rattle.marked_tree.specs.Choice.{chosen}
+use Rattle.marked_tree.specs.Marked.{Marked, strip, prune}
+use Rattle.selection_core.specs.Consent.{Answers, AllAllowed, IsRefusedAt}
+use Rattle.selection_core.specs.Refusals.{IsMissing}
+use Rattle.verifier_core.specs.Check.{asked}
+use Rattle.verifier_core.specs.Verdict.{Rules, TokenFails, IsChecked, HasHash}
+use Rattle.holder_core.specs.declared.ask.Ask.{Ask}
+use Rattle.holder_core.specs.declared.ask.BindingAsk.{BindingAsk}
+use Rattle.holder_core.specs.declared.errors.PresentError.{PresentError}
+use Rattle.holder_core.specs.declared.errors.PresentError.TheVariants.{Memory, Token as OnCondition, HasBinding, NoSuchPlace, ConsentRefused, BindingKeyDiffers, SignFailed, TooLong}
+
+-- ---- what is presented
+
+-- the elements whose places are in the set, in their order
+abbrev pub picked : {X : Type 0} → (ℕ → Bool) → List X → List X
+picked s [] = []
+picked s (x ∷ xs) = if s 0 then x ∷ picked (λ k. s (suc k)) xs else picked (λ k. s (suc k)) xs
+
+-- the token of the issuer, its disclosures whose numbers are in the set, in their order, and this key binding token or none
+pub record Presents (parts : Parts) (s : ℕ → Bool) (binding : Option JwtParts) (answer : Parts) : Type 0 where
+  pub signed : answer.signed ≡ parts.signed
+  pub disclosures : answer.disclosures ≡ picked s parts.disclosures
+  pub binding_is : answer.binding ≡ binding
+
+-- what is shown of a processed payload by the disclosures of a set
+abbrev pub shown : Marked → (ℕ → Bool) → Tree
+shown marked s = strip (prune marked s)
+
+-- ---- what is asked of the token
+
+-- it may be signed by these keys, with HS256 alone, and its type is not judged
+abbrev pub rules_of : List NamedKey → Rules
+rules_of keys = asked keys (codes "HS256" ∷ []) None
+
+-- it has no key binding token, no condition from 5 to 21 fails, and it processes to this payload
+pub record IsHeld (token : Token) (ask : Ask) (marked : Marked) : Type 0 where
+  pub unbound : token.parts.binding ≡ None
+  pub checked : IsChecked token (rules_of ask.keys) marked
+
+-- besides, each wanted place is there, and the rule may allow the place of each disclosure that leads to one
+pub record IsAgreed {F : Type 0} (answers : Answers F) (rule : F) (token : Token) (ask : Ask) (marked : Marked) : Type 0 where
+  pub held : IsHeld token ask marked
+  pub there : Nowhere (IsMissing (strip marked) ask.want)
+  pub allowed : AllAllowed answers rule marked (chosen marked ask.want)
+
+-- ---- key binding
+
+-- the payload names the key of the ask, where a key binding token is asked for (RFC 7800 section 3.4)
+abbrev pub NamesKey : Option BindingAsk → Tree → Type 0
+NamesKey None payload = Unit {0}
+NamesKey (Some ask) payload = holder_kid payload ≡ Some ask.kid
+
+-- the key binding token is what is asked for, over this text, and is read as that
+pub record IsBoundBy (ask : BindingAsk) (good : Meaning) (hash : HashAlg) (text : Text) (now : ℕ) (token : JwtParts) : Type 0 where
+  pub is_binding : IsBinding good hash text ask.aud ask.nonce now token
+  pub read_back : IsReadBack hash text ask.aud ask.nonce now token
+
+-- the answer has the key binding token that is asked for, over its own text, or none where none is asked for
+abbrev pub IsBoundWith : Option BindingAsk → Meaning → HashAlg → Text → ℕ → Option JwtParts → Type 0
+IsBoundWith None good hash text now binding = binding ≡ None
+IsBoundWith (Some ask) good hash text now None = ⊥
+IsBoundWith (Some ask) good hash text now (Some token) = IsBoundBy ask good hash text now token
+
+abbrev pub IsBoundAs : Option BindingAsk → Meaning → HashAlg → ℕ → Parts → Type 0
+IsBoundAs ask good hash now answer = IsBoundWith ask good hash (hashed answer) now answer.binding
+
+-- ---- the answer
+
+-- the chosen disclosures of the token are presented as is asked, by a signer with these good signatures, at a moment in seconds since 1970
+pub record IsAnswer {F : Type 0} (answers : Answers F) (rule : F) (token : Token) (ask : Ask) (good : Meaning) (now : ℕ) (answer : Parts) : Type 0 where
+  pub marked : Marked
+  pub agreed : IsAgreed answers rule token ask marked
+  pub key : NamesKey ask.binding (shown marked (chosen marked ask.want))
+  pub presents : Presents token.parts (chosen marked ask.want) answer.binding answer
+  pub hash : HashAlg
+  pub has_hash : HasHash token hash
+  pub bound : IsBoundAs ask.binding good hash now answer
+
+-- the same of a text
+pub record IsPresented {F : Type 0} (answers : Answers F) (rule : F) (content : Text) (ask : Ask) (good : Meaning) (now : ℕ) (answer : Parts) : Type 0 where
+  pub token : Token
+  pub is_token : IsToken content token
+  pub is_answer : IsAnswer answers rule token ask good now answer
+
+-- ---- the refusals
+
+-- the first wanted path that leads nowhere
+pub record IsNotThere (token : Token) (ask : Ask) (k : ℕ) : Type 0 where
+  pub marked : Marked
+  pub held : IsHeld token ask marked
+  pub missing : IsLeast (IsMissing (strip marked) ask.want) k
+
+-- each wanted place is there, and this is the least chosen disclosure whose place the rule may refuse
+pub record IsDenied {F : Type 0} (answers : Answers F) (rule : F) (token : Token) (ask : Ask) (i : ℕ) : Type 0 where
+  pub marked : Marked
+  pub held : IsHeld token ask marked
+  pub there : Nowhere (IsMissing (strip marked) ask.want)
+  pub refused : IsRefusedAt answers rule marked (chosen marked ask.want) i
+
+-- a key binding token is asked for, and what is to be shown does not name its key
+pub record IsKeyOther {F : Type 0} (answers : Answers F) (rule : F) (token : Token) (ask : Ask) : Type 0 where
+  pub marked : Marked
+  pub agreed : IsAgreed answers rule token ask marked
+  pub binding : BindingAsk
+  pub asked_for : ask.binding ≡ Some binding
+  pub differs : holder_kid (shown marked (chosen marked ask.want)) ≢ Some binding.kid
+
+-- nothing is refused before a key binding token that is asked for is signed
+pub record IsToBeSigned {F : Type 0} (answers : Answers F) (rule : F) (token : Token) (ask : Ask) : Type 0 where
+  pub marked : Marked
+  pub agreed : IsAgreed answers rule token ask marked
+  pub binding : BindingAsk
+  pub asked_for : ask.binding ≡ Some binding
+  pub key : holder_kid (shown marked (chosen marked ask.want)) ≡ Some binding.kid
+
+-- what is presented is too long, with some good signature
+pub record IsTooLong {F : Type 0} (answers : Answers F) (rule : F) (token : Token) (ask : Ask) (good : Meaning) (now : ℕ) : Type 0 where
+  pub answer : Parts
+  pub is_answer : IsAnswer answers rule token ask good now answer
+  pub long : COMPACT_MAX < length (compact answer)
+
+-- what each refusal of a token says: that it applies, and no earlier one; want of memory says nothing
+abbrev pub Refuses : {F : Type 0} → Answers F → F → Token → Ask → Meaning → ℕ → PresentError → Type 0
+Refuses answers rule token ask good now Memory = Unit {0}
+Refuses answers rule token ask good now HasBinding = token.parts.binding ≢ None
+Refuses answers rule token ask good now (OnCondition fault) = (token.parts.binding ≡ None) × IsLowest (TokenFails token (rules_of ask.keys)) fault
+Refuses answers rule token ask good now (NoSuchPlace k) = IsNotThere token ask k
+Refuses answers rule token ask good now (ConsentRefused i) = IsDenied answers rule token ask i
+Refuses answers rule token ask good now BindingKeyDiffers = IsKeyOther answers rule token ask
+Refuses answers rule token ask good now SignFailed = IsToBeSigned answers rule token ask
+Refuses answers rule token ask good now TooLong = IsTooLong answers rule token ask good now
+
+-- why nothing is presented of a text: it is no token, by the lowest of the conditions 1 to 3, or its token is refused; want of memory says
+-- nothing
+pub data IsNotPresented {F : Type 0} (answers : Answers F) (rule : F) (content : Text) (ask : Ask) (good : Meaning) (now : ℕ) (error : PresentError) : Type 0 where
+  no_memory : error ≡ Memory → IsNotPresented answers rule content ask good now error
+  not_read : (fault : Fault) → error ≡ OnCondition fault → file.IsRefused content fault → IsNotPresented answers rule content ask good now error
+  refused : (token : Token) → IsToken content token → Refuses answers rule token ask good now error → IsNotPresented answers rule content ask good now error
+
+-- the condition that is answered
+abbrev pub OnToken : PresentError → (Fault → Type 0) → Type 0
+OnToken (OnCondition fault) P = P fault
+OnToken _ P = Unit {0}

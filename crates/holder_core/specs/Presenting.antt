@@ -1,0 +1,86 @@
+-- For private functions: the steps of presenting.
+use Rattle.std.specs.Prelude.{◌≡◌, ◌≢◌, ◌<◌, ℕ, List, length, Option, None, Some}
+use Rattle.claim_tree.specs.Tree.{Tree}
+use Rattle.claim_tree.specs.Lists.{IsLeast, Nowhere}
+use Rattle.compact_form.specs.Compact.{compact}
+use Rattle.compact_form.specs.Lowest.{IsLowest}
+use Rattle.compact_form.specs.declared.limits.TheConstants.{COMPACT_MAX}
+use Rattle.compact_form.specs.declared.parts.Parts.{Parts}
+use Rattle.disclosure.specs.declared.digests.HashAlg.{HashAlg}
+use Rattle.hmac_sign.specs.Signatures.{Meaning}
+use Rattle.json_form.specs.declared.token.Token.{Token}
+use Rattle.key_binding.specs.Judged.{holder_kid}
+use Rattle.marked_tree.specs.Choice.{chosen}
+use Rattle.marked_tree.specs.Marked.{Marked, strip}
+use Rattle.marked_tree.specs.Numbers.{has}
+use Rattle.marked_tree.specs.Places.{Path}
+use Rattle.selection_core.specs.Consent.{Answers, AllAllowed, IsRefusedAt}
+use Rattle.selection_core.specs.Refusals.{IsMissing}
+use Rattle.verifier_core.specs.Verdict.{Rules, TokenFails}
+use Rattle.holder_core.specs.declared.ask.Ask.{Ask}
+use Rattle.holder_core.specs.declared.ask.BindingAsk.{BindingAsk}
+use Rattle.holder_core.specs.declared.errors.PresentError.{PresentError}
+use Rattle.holder_core.specs.declared.errors.PresentError.TheVariants.{Memory, Token as OnCondition, NoSuchPlace, ConsentRefused, BindingKeyDiffers, SignFailed, TooLong}
+use Rattle.holder_core.specs.Present.{shown, IsAgreed, NamesKey, IsBoundAs, Presents, IsNotThere, IsDenied, IsKeyOther}
+
+abbrev pub IsUnchecked : Token → Rules → PresentError → Type 0
+IsUnchecked token rules Memory = Unit {0}
+IsUnchecked token rules (OnCondition fault) = IsLowest (TokenFails token rules) fault
+IsUnchecked token rules _ = ⊥
+
+-- these are the marks that lead to the wanted places, which are there, and the rule may allow them
+pub record IsChosen {F : Type 0} (answers : Answers F) (rule : F) (m : Marked) (want : List Path) (marks : List ℕ) : Type 0 where
+  pub same : (i : ℕ) → has marks i ≡ chosen m want i
+  pub there : Nowhere (IsMissing (strip m) want)
+  pub allowed : AllAllowed answers rule m (chosen m want)
+
+abbrev pub IsUnchosen : {F : Type 0} → Answers F → F → Marked → List Path → PresentError → Type 0
+IsUnchosen answers rule m want Memory = Unit {0}
+IsUnchosen answers rule m want (NoSuchPlace k) = IsLeast (IsMissing (strip m) want) k
+IsUnchosen answers rule m want (ConsentRefused i) = Nowhere (IsMissing (strip m) want) × IsRefusedAt answers rule m (chosen m want) i
+IsUnchosen answers rule m want _ = ⊥
+
+-- a key binding token is asked for, and the payload does not name its key
+abbrev pub IsOtherKey : Option BindingAsk → Tree → PresentError → Type 0
+IsOtherKey binding payload Memory = Unit {0}
+IsOtherKey binding payload BindingKeyDiffers = (ask : BindingAsk) × (binding ≡ Some ask) × (holder_kid payload ≢ Some ask.kid)
+IsOtherKey binding payload _ = ⊥
+
+-- a key binding token is asked for, and was not signed
+abbrev pub IsUnsigned : Option BindingAsk → PresentError → Type 0
+IsUnsigned binding Memory = Unit {0}
+IsUnsigned binding SignFailed = (ask : BindingAsk) × (binding ≡ Some ask)
+IsUnsigned binding _ = ⊥
+
+-- the parts have the signed part and the disclosures of others, and the key binding token that is asked for
+pub record IsFinished (binding : Option BindingAsk) (good : Meaning) (hash : HashAlg) (now : ℕ) (unbound answer : Parts) : Type 0 where
+  pub signed : answer.signed ≡ unbound.signed
+  pub disclosures : answer.disclosures ≡ unbound.disclosures
+  pub bound : IsBoundAs binding good hash now answer
+
+-- these parts are too long
+pub record IsOverlong (binding : Option BindingAsk) (good : Meaning) (hash : HashAlg) (now : ℕ) (unbound : Parts) : Type 0 where
+  pub answer : Parts
+  pub finished : IsFinished binding good hash now unbound answer
+  pub long : COMPACT_MAX < length (compact answer)
+
+-- a key binding token that is asked for was not signed, or the parts are too long
+abbrev pub IsUnfinished : Option BindingAsk → Meaning → HashAlg → ℕ → Parts → PresentError → Type 0
+IsUnfinished binding good hash now unbound Memory = Unit {0}
+IsUnfinished binding good hash now unbound SignFailed = (ask : BindingAsk) × (binding ≡ Some ask)
+IsUnfinished binding good hash now unbound TooLong = IsOverlong binding good hash now unbound
+IsUnfinished binding good hash now unbound _ = ⊥
+
+-- the parts are those of the token with the disclosures that are asked for, and nothing is refused before they are signed
+pub record IsReady {F : Type 0} (answers : Answers F) (rule : F) (token : Token) (ask : Ask) (marked : Marked) (unbound : Parts) : Type 0 where
+  pub agreed : IsAgreed answers rule token ask marked
+  pub key : NamesKey ask.binding (shown marked (chosen marked ask.want))
+  pub presents : Presents token.parts (chosen marked ask.want) None unbound
+
+-- what is refused before
+abbrev pub IsUnready : {F : Type 0} → Answers F → F → Token → Ask → PresentError → Type 0
+IsUnready answers rule token ask Memory = Unit {0}
+IsUnready answers rule token ask (NoSuchPlace k) = IsNotThere token ask k
+IsUnready answers rule token ask (ConsentRefused i) = IsDenied answers rule token ask i
+IsUnready answers rule token ask BindingKeyDiffers = IsKeyOther answers rule token ask
+IsUnready answers rule token ask _ = ⊥

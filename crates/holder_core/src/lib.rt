@@ -1,0 +1,19 @@
+//! What a holder does with a credential: it shows the places that it is asked for, and no more (RFC 9901 section 7.2).
+//!
+//! [`read_present`] reads an [`Ask`] from its file, with the places that are never shown and the key of the holder. [`present`]
+//! answers it: the disclosures that lead to the wanted places, where the holder consents, with a key binding token where one is
+//! asked for.
+#![tactic(auto)]
+
+mod ask;
+mod errors;
+pub mod laws;
+mod present_file;
+mod presenting;
+#[cfg(test)]
+mod tests;
+
+pub use ask::{Ask, BindingAsk};
+pub use errors::PresentError;
+pub use present_file::{PresentFile, read_present};
+pub use presenting::present;

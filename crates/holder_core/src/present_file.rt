@@ -1,0 +1,124 @@
+// The file that says what is asked of a holder.
+ghost use Rattle.std.specs.Prelude.{◌≡◌, [], List, ℕ, codes, option_map, IfOk, IfErr, IfSome, IfNone};
+ghost use Rattle.claim_tree.specs.Tree.{Text, member_named};
+ghost use Rattle.claim_tree.specs.View.{tree_of};
+ghost use Rattle.claim_tree.specs.FileForms.{HasValue, IsText, Says, MaySay, IsMemberRefused, optional, found};
+ghost use Rattle.claim_tree.specs.declared.file_fault.Field.TheVariants.{Binding};
+ghost use Rattle.hmac_sign.specs.KeyText.{IsKeyText};
+ghost use Rattle.holder_core.specs.PresentFile.{IsBindingOrder, IsPresentFile, IsPresentRefused};
+
+use crate::{Ask, BindingAsk};
+use claim_tree::{Field, FileFault, PathList, Tree, TreeMap, pointer_list_member, read_members};
+use compact_form::FILE_MAX;
+use hmac_sign::{Hs256Key, key_of};
+use key_binding::short_text_in;
+use sd_outside::{NoMemory, TextBox};
+use std::alloc::Global;
+use verifier_core::keys_member;
+
+const FIELDS: [Field; 4] = [Field::Keys, Field::Want, Field::Never, Field::Binding];
+
+// The members of the object that asks for a key binding token: no more, and no fewer.
+const MEMBERS: usize = 4;
+
+/// What a present order says: what is asked, the places that are never shown, and the key of the holder, which is there exactly where
+/// a key binding token is asked for.
+#[derive(Drop)]
+pub struct PresentFile {
+    pub ask: Ask,
+    pub never: PathList,
+    pub key: Option<Hs256Key>,
+}
+
+// What a file says of key binding: what is asked, and the key that signs.
+#[derive(Drop)]
+struct BindingOrder {
+    ask: BindingAsk,
+    key: Hs256Key,
+}
+
+fn text_in(alloc: Global, members: &TreeMap, name: &str) -> Result<Option<TextBox>, NoMemory>
+    ensures text { IfOk result (λ text. IfSome text (Says IsText (member_named members.now name.now))) }
+    ensures none { IfOk result (λ text. IfNone text ((s : Text) → Says IsText (member_named members.now name.now) s → ⊥)) }
+{
+    let Some(Tree::Text(text)) = members.get(name) else {
+        return Ok(None);
+    };
+    Ok(Some(TextBox::make(alloc, text.as_str())?))
+}
+
+fn key_in(alloc: Global, members: &TreeMap) -> Result<Option<Hs256Key>, NoMemory>
+    ensures key { IfOk result (λ key. IfSome key (Says IsKeyText (member_named members.now (codes "key")))) }
+    ensures none { IfOk result (λ key. IfNone key ((k : List ℕ) → Says IsKeyText (member_named members.now (codes "key")) k → ⊥)) }
+{
+    let Some(tree) = members.get("key") else {
+        return Ok(None);
+    };
+    key_of(alloc, tree)
+}
+
+fn binding_of(alloc: Global, tree: &Tree) -> Result<Option<BindingOrder>, NoMemory>
+    ensures binding { IfOk result (λ said. IfSome said (λ order. IsBindingOrder (tree_of tree.now) (order.ask, order.key))) }
+    ensures none { IfOk result (λ said. IfNone said (HasValue IsBindingOrder (tree_of tree.now) → ⊥)) }
+{
+    let Tree::Object(members) = tree else {
+        return Ok(None);
+    };
+    if members.len() != MEMBERS {
+        return Ok(None);
+    }
+    let Some(key) = key_in(alloc, members)? else {
+        return Ok(None);
+    };
+    let Some(kid) = text_in(alloc, members, "kid")? else {
+        return Ok(None);
+    };
+    let Some(aud) = short_text_in(alloc, members, "aud")? else {
+        return Ok(None);
+    };
+    let Some(nonce) = short_text_in(alloc, members, "nonce")? else {
+        return Ok(None);
+    };
+    Ok(Some(BindingOrder {
+        ask: BindingAsk { kid, aud, nonce },
+        key,
+    }))
+}
+
+fn binding_member(alloc: Global, members: &TreeMap) -> Result<Option<BindingOrder>, FileFault>
+    ensures ok { IfOk result (λ said. MaySay IsBindingOrder (found members.now Binding) (option_map (λ order. (order.ask, order.key)) said)) }
+    ensures refused { IfErr result (IsMemberRefused (optional Binding IsBindingOrder) members.now) }
+{
+    let Some(tree) = members.get(Field::Binding.word()) else {
+        return Ok(None);
+    };
+    match binding_of(alloc, tree)? {
+        Some(order) => Ok(Some(order)),
+        None => Err(FileFault::Wrong(Field::Binding)),
+    }
+}
+
+/// The present order that a file says: a JSON object whose one member that it must have is `keys`, the key set of the issuers.
+///
+/// `want` and `never` are lists of JSON Pointers; where they are missing they are empty. `binding` is an object of just `key`, the
+/// base64url text of at least 32 bytes, `kid`, a text, and `aud` and `nonce`, texts of at most 256 bytes; where it is missing, no key
+/// binding token is asked for. Another member is a fault.
+pub fn read_present(alloc: Global, bytes: &[u8]) -> Result<PresentFile, FileFault>
+    ensures ok { IfOk result (IsPresentFile bytes.now) }
+    ensures refused { IfErr result (IsPresentRefused bytes.now) }
+{
+    let members = read_members(alloc, bytes, FILE_MAX, &FIELDS)?;
+    let keys = keys_member(alloc, &members, Field::Keys)?;
+    let want = pointer_list_member(alloc, &members, Field::Want)?;
+    let never = pointer_list_member(alloc, &members, Field::Never)?;
+    let (binding, key) = match binding_member(alloc, &members)? {
+        Some(BindingOrder { ask, key }) => (Some(ask), Some(key)),
+        None => (None, None),
+    };
+    let ask = Ask {
+        keys,
+        want,
+        binding,
+    };
+    Ok(PresentFile { ask, never, key })
+}

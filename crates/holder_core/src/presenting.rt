@@ -1,0 +1,362 @@
+// The call that presents.
+ghost use Rattle.std.specs.Prelude.{◌≡◌, ◌≢◌, ◌≤◌, ◌<◌, ◌-◌, ◌^◌, ◌↔◌, [], ◌∷◌, None, codes, length, IfOk, OnOk, IfErr, IsErrOf, IsTrue};
+ghost use Rattle.sd_outside.specs.Causes.{Rose};
+ghost use Rattle.claim_tree.specs.Tree.{depth as depth_of};
+ghost use Rattle.compact_form.specs.Compact.{AreWords, compact as compact_text};
+ghost use Rattle.compact_form.specs.Lowest.{IsLowest};
+ghost use Rattle.compact_form.specs.declared.limits.TheConstants.{COMPACT_MAX};
+ghost use Rattle.disclosure.specs.declared.digests.HashAlg.{HashAlg as SeenHash};
+ghost use Rattle.hmac_sign.specs.Signatures.{Agree};
+ghost use Rattle.hmac_sign.specs.declared.sign.Alg.{Alg};
+ghost use Rattle.json_form.specs.Token.{IsToken};
+ghost use Rattle.json_form.specs.declared.token.Token.{Token as SeenToken};
+ghost use Rattle.marked_tree.specs.Choice.{IsUnmixed};
+ghost use Rattle.marked_tree.specs.Marked.{strip};
+ghost use Rattle.marked_tree.specs.Numbers.{has};
+ghost use Rattle.marked_tree.specs.View.{marked_of};
+ghost use Rattle.verifier_core.specs.Verdict.{TokenFails, IsChecked, HasHash};
+ghost use Rattle.verifier_core.specs.Check.{IsCounted, IsCountedWithin, IsReadWithin, IsUncounted};
+ghost use Rattle.holder_core.specs.Present.{rules_of, picked, shown, IsHeld, IsAnswer, Refuses, IsPresented, IsNotPresented, NamesKey, OnToken};
+ghost use Rattle.holder_core.specs.Presenting.{IsUnchecked, IsUnchosen, IsChosen, IsOtherKey, IsReady, IsUnready, IsUnsigned, IsFinished, IsUnfinished};
+ghost use Rattle.holder_core.specs.declared.errors.PresentError.{PresentError};
+
+use crate::{Ask, BindingAsk, PresentError};
+use claim_tree::{Path, PathList};
+use compact_form::{COMPACT_MAX, Parts, Pieces, View, hashed_text, print};
+use digest_index::Steps;
+use disclosure::HashAlg;
+use hmac_sign::{KeySet, Signer};
+use json_form::{TokenError, TokenText};
+use key_binding::{BindError, bind, holder_kid};
+use marked_tree::{ChosenSet, Marked, into_tree, prune};
+use sd_outside::{NoMemory, TextBox, TextList};
+use selection_core::{AllowError, ChooseError, Consent, allow, choose};
+use std::alloc::Global;
+use verifier_core::{Checked, VerifyError, check_view};
+
+/// Presents a token as it comes from a file, RFC 9901 section 7.2: the issuer's JWT, the disclosures that lead to the wanted places in
+/// their order, and a key binding token of a moment in seconds since 1970 where one is asked for.
+///
+/// The token is checked by the conditions 5 to 21, with HS256 as the one algorithm that is allowed and whatever its type is. The rule is
+/// asked for the place of each disclosure that is chosen. The signer is asked once, when all else is there, and not at all where no key
+/// binding token is asked for. `steps` counts the look-ups of digests.
+pub fn present<S: Signer, F: Fn(&Path) -> bool>(
+    alloc: Global,
+    text: &[u8],
+    ask: &Ask,
+    consent: &Consent<F>,
+    signer: &mut S,
+    now: u64,
+    steps: &mut Steps,
+) -> Result<Parts, PresentError>
+    requires hs256 { S.alg_of signer.old ≡ Alg.Hs256 }
+    requires callable { F.IsAlwaysCallable consent.now }
+    ensures presented { IfOk result (IsPresented F.Fn consent.now text.now ask.now (S.good signer.old) now) }
+    ensures words { IfOk result AreWords }
+    ensures short { IfOk result (λ answer. length (compact_text answer) ≤ COMPACT_MAX) }
+    ensures refused { IfErr result (IsNotPresented F.Fn consent.now text.now ask.now (S.good signer.old) now) }
+    ensures failed { IsErrOf result PresentError.SignFailed → Rose (S.faults signer.old) (S.faults signer.new) }
+
+    // what stays
+    ensures unasked { ask.now.binding ≡ None → signer.new ≡ signer.old }
+    ensures same_good { Agree (S.good signer.new) (S.good signer.old) }
+    ensures same_alg { S.alg_of signer.new ≡ S.alg_of signer.old }
+    ensures later { S.faults signer.old ≤ S.faults signer.new }
+
+    // the look-ups
+    ensures counted { IfOk result (λ _. (token : SeenToken) × IsToken text.now token × IsCounted token steps.old steps.new) }
+    ensures within { IsReadWithin text.now steps.old steps.new }
+    ensures uncounted { IfErr result (λ e. OnToken e (IsUncounted steps.old steps.new)) }
+    ensures unopened { (token : SeenToken) → IsToken text.now token → token.parts.binding ≢ None → steps.new ≡ steps.old }
+{
+    let token = match TokenText::read(alloc, text) {
+        Ok(token) => token,
+        Err(TokenError::Memory) => return Err(PresentError::Memory),
+        Err(TokenError::Fault(fault)) => return Err(PresentError::Token(fault)),
+    };
+    if token.view().binding().is_some() {
+        return Err(PresentError::HasBinding);
+    }
+    present_token(alloc, &token, ask, consent, signer, now, steps)
+}
+
+// Presents a token that has no key binding token.
+fn present_token<S: Signer, F: Fn(&Path) -> bool>(
+    alloc: Global,
+    token: &TokenText<'_>,
+    ask: &Ask,
+    consent: &Consent<F>,
+    signer: &mut S,
+    now: u64,
+    steps: &mut Steps,
+) -> Result<Parts, PresentError>
+    requires few { length token.now.parts.disclosures < 2 ^ 32 - 1 }
+    requires words { AreWords token.now.parts }
+    requires unbound { token.now.parts.binding ≡ None }
+    requires hs256 { S.alg_of signer.old ≡ Alg.Hs256 }
+    requires callable { F.IsAlwaysCallable consent.now }
+    ensures answer { IfOk result (IsAnswer F.Fn consent.now token.now ask.now (S.good signer.old) now) }
+    ensures words { IfOk result AreWords }
+    ensures short { IfOk result (λ answer. length (compact_text answer) ≤ COMPACT_MAX) }
+    ensures refused { IfErr result (Refuses F.Fn consent.now token.now ask.now (S.good signer.old) now) }
+    ensures failed { IsErrOf result PresentError.SignFailed → Rose (S.faults signer.old) (S.faults signer.new) }
+    ensures unasked { ask.now.binding ≡ None → signer.new ≡ signer.old }
+    ensures same_good { Agree (S.good signer.new) (S.good signer.old) }
+    ensures same_alg { S.alg_of signer.new ≡ S.alg_of signer.old }
+    ensures later { S.faults signer.old ≤ S.faults signer.new }
+    ensures counted { IfOk result (λ _. IsCounted token.now steps.old steps.new) }
+    ensures within { IsCountedWithin token.now steps.old steps.new }
+    ensures uncounted { IfErr result (λ e. OnToken e (IsUncounted steps.old steps.new)) }
+{
+    let checked = match check_held(alloc, token, &ask.keys, steps) {
+        Ok(checked) => checked,
+        Err(error) => return Err(error),
+    };
+    present_checked(alloc, token, &checked, ask, consent, signer, now)
+}
+
+// Presents a token that is checked.
+fn present_checked<S: Signer, F: Fn(&Path) -> bool>(
+    alloc: Global,
+    token: &TokenText<'_>,
+    checked: &Checked,
+    ask: &Ask,
+    consent: &Consent<F>,
+    signer: &mut S,
+    now: u64,
+) -> Result<Parts, PresentError>
+    requires few { length token.now.parts.disclosures < 2 ^ 32 - 1 }
+    requires words { AreWords token.now.parts }
+    requires held { IsHeld token.now ask.now (marked_of checked.now.marked) }
+    requires hash { HasHash token.now checked.now.hash }
+    requires hs256 { S.alg_of signer.old ≡ Alg.Hs256 }
+    requires callable { F.IsAlwaysCallable consent.now }
+    ensures answer { IfOk result (IsAnswer F.Fn consent.now token.now ask.now (S.good signer.old) now) }
+    ensures words { IfOk result AreWords }
+    ensures short { IfOk result (λ answer. length (compact_text answer) ≤ COMPACT_MAX) }
+    ensures refused { IfErr result (Refuses F.Fn consent.now token.now ask.now (S.good signer.old) now) }
+    ensures unread { IfErr result (λ e. OnToken e (λ _. ⊥)) }
+    ensures failed { IsErrOf result PresentError.SignFailed → Rose (S.faults signer.old) (S.faults signer.new) }
+    ensures unasked { ask.now.binding ≡ None → signer.new ≡ signer.old }
+    ensures same_good { Agree (S.good signer.new) (S.good signer.old) }
+    ensures same_alg { S.alg_of signer.new ≡ S.alg_of signer.old }
+    ensures later { S.faults signer.old ≤ S.faults signer.new }
+{
+    let unbound = match choose_parts(alloc, token, &checked.marked, ask, consent) {
+        Ok(parts) => parts,
+        Err(error) => return Err(error),
+    };
+    finish(alloc, unbound, &ask.binding, checked.hash, signer, now)
+}
+
+// The token with the disclosures that are asked for, if nothing is refused.
+fn choose_parts<F: Fn(&Path) -> bool>(
+    alloc: Global,
+    token: &TokenText<'_>,
+    marked: &Marked,
+    ask: &Ask,
+    consent: &Consent<F>,
+) -> Result<Parts, PresentError>
+    requires few { length token.now.parts.disclosures < 2 ^ 32 - 1 }
+    requires words { AreWords token.now.parts }
+    requires held { IsHeld token.now ask.now (marked_of marked.now) }
+    requires callable { F.IsAlwaysCallable consent.now }
+    ensures ready { IfOk result (IsReady F.Fn consent.now token.now ask.now (marked_of marked.now)) }
+    ensures words { IfOk result AreWords }
+    ensures refused { IfErr result (IsUnready F.Fn consent.now token.now ask.now) }
+{
+    let chosen = match choose_allowed(alloc, marked, &ask.want, consent) {
+        Ok(chosen) => chosen,
+        Err(error) => return Err(error),
+    };
+    if let Err(error) = check_key(alloc, &ask.binding, marked, &chosen) {
+        return Err(error);
+    }
+    Ok(picked_parts(alloc, &token.view(), &chosen)?)
+}
+
+// The parts with the key binding token that is asked for, unless they are too long.
+fn finish<S: Signer>(
+    alloc: Global,
+    unbound: Parts,
+    binding: &Option<BindingAsk>,
+    hash: HashAlg,
+    signer: &mut S,
+    now: u64,
+) -> Result<Parts, PresentError>
+    requires hs256 { S.alg_of signer.old ≡ Alg.Hs256 }
+    requires words { AreWords unbound }
+    requires none { unbound.binding ≡ None }
+    ensures finished { IfOk result (IsFinished binding.now (S.good signer.old) hash now unbound) }
+    ensures words { IfOk result AreWords }
+    ensures short { IfOk result (λ answer. length (compact_text answer) ≤ COMPACT_MAX) }
+    ensures unfinished { IfErr result (IsUnfinished binding.now (S.good signer.old) hash now unbound) }
+    ensures failed { IsErrOf result PresentError.SignFailed → Rose (S.faults signer.old) (S.faults signer.new) }
+    ensures unasked { binding.now ≡ None → signer.new ≡ signer.old }
+    ensures same_good { Agree (S.good signer.new) (S.good signer.old) }
+    ensures same_alg { S.alg_of signer.new ≡ S.alg_of signer.old }
+    ensures later { S.faults signer.old ≤ S.faults signer.new }
+{
+    let parts = match bound_parts(alloc, unbound, binding, hash, signer, now) {
+        Ok(parts) => parts,
+        Err(error) => return Err(error),
+    };
+    if is_too_long(alloc, &parts)? {
+        return Err(PresentError::TooLong);
+    }
+    Ok(parts)
+}
+
+// The conditions 5 to 21, but 8.
+fn check_held(
+    alloc: Global,
+    token: &TokenText<'_>,
+    keys: &KeySet,
+    steps: &mut Steps,
+) -> Result<Checked, PresentError>
+    requires few { length token.now.parts.disclosures < 2 ^ 32 - 1 }
+    ensures checked { IfOk result (λ c. IsChecked token.now (rules_of keys.now) (marked_of c.marked)) }
+    ensures hash { IfOk result (λ c. HasHash token.now c.hash) }
+    ensures refused { IfErr result (IsUnchecked token.now (rules_of keys.now)) }
+    ensures counted { IfOk result (λ _. IsCounted token.now steps.old steps.new) }
+    ensures within { IsCountedWithin token.now steps.old steps.new }
+    ensures uncounted { IfErr result (λ e. OnToken e (IsUncounted steps.old steps.new)) }
+{
+    let mut algs = TextList::new(alloc);
+    algs.push(TextBox::make(alloc, "HS256")?)?;
+    let view = token.view();
+    match check_view(alloc, &view, token.outer(), keys, &algs, None, steps) {
+        Ok(checked) => Ok(checked),
+        Err(VerifyError::Memory) => Err(PresentError::Memory),
+        Err(VerifyError::Fault(fault)) => Err(PresentError::Token(fault)),
+    }
+}
+
+// The disclosures that lead to the wanted places, if each place is there and the rule allows all that is chosen.
+fn choose_allowed<F: Fn(&Path) -> bool>(
+    alloc: Global,
+    marked: &Marked,
+    want: &PathList,
+    consent: &Consent<F>,
+) -> Result<ChosenSet, PresentError>
+    requires callable { F.IsAlwaysCallable consent.now }
+    requires depth { depth_of (strip (marked_of marked.now)) ≤ 127 }
+    requires unmixed { IsUnmixed (marked_of marked.now) }
+    ensures chosen { IfOk result (IsChosen F.Fn consent.now (marked_of marked.now) want.now) }
+    ensures refused { IfErr result (IsUnchosen F.Fn consent.now (marked_of marked.now) want.now) }
+{
+    let chosen = match choose(alloc, marked, want) {
+        Ok(chosen) => chosen,
+        Err(ChooseError::Memory) => return Err(PresentError::Memory),
+        Err(ChooseError::NoSuchPlace(k)) => return Err(PresentError::NoSuchPlace(k)),
+    };
+    match allow(alloc, consent, marked, &chosen) {
+        Ok(()) => Ok(chosen),
+        Err(AllowError::Memory) => Err(PresentError::Memory),
+        Err(AllowError::Refused(mark)) => Err(PresentError::ConsentRefused(mark)),
+    }
+}
+
+// Whether what is shown names the key of the ask.
+fn check_key(
+    alloc: Global,
+    binding: &Option<BindingAsk>,
+    marked: &Marked,
+    chosen: &ChosenSet,
+) -> Result<(), PresentError>
+    requires depth { depth_of (strip (marked_of marked.now)) ≤ 127 }
+    ensures named { OnOk result (NamesKey binding.now (shown (marked_of marked.now) (has chosen.now))) }
+    ensures refused { IfErr result (IsOtherKey binding.now (shown (marked_of marked.now) (has chosen.now))) }
+{
+    let Some(binding) = binding else {
+        return Ok(());
+    };
+    let pruned = prune(alloc, marked, chosen)?;
+    let payload = into_tree(alloc, pruned)?;
+    let Some(kid) = holder_kid(&payload) else {
+        return Err(PresentError::BindingKeyDiffers);
+    };
+    if kid != binding.kid.as_str() {
+        return Err(PresentError::BindingKeyDiffers);
+    }
+    Ok(())
+}
+
+// The token with the chosen disclosures alone.
+fn picked_parts(alloc: Global, view: &View<'_>, chosen: &ChosenSet) -> Result<Parts, NoMemory>
+    requires few { length view.now.disclosures < 2 ^ 32 - 1 }
+    ensures signed { IfOk result (λ parts. parts.signed ≡ view.now.signed) }
+    ensures disclosures { IfOk result (λ parts. parts.disclosures ≡ picked (has chosen.now) view.now.disclosures) }
+    ensures unbound { IfOk result (λ parts. parts.binding ≡ None) }
+    ensures words { AreWords view.now → IfOk result AreWords }
+{
+    let signed = view.signed().to_parts(alloc)?;
+    let disclosures = pick(alloc, view.pieces(), chosen)?;
+    Ok(Parts {
+        signed,
+        disclosures,
+        binding: None,
+    })
+}
+
+// The chosen disclosures, in their order.
+fn pick(alloc: Global, disclosures: Pieces<'_>, chosen: &ChosenSet) -> Result<TextList, NoMemory>
+    requires few { length disclosures < 2 ^ 32 - 1 }
+    ensures { IfOk result (λ texts. texts ≡ picked (has chosen.now) disclosures.entry) }
+{
+    let mut texts = TextList::new(alloc);
+    let mut number = 0u32;
+    for text in disclosures {
+        if chosen.has(number) {
+            texts.push(TextBox::make(alloc, text)?)?;
+        }
+        number += 1;
+    }
+    Ok(texts)
+}
+
+// The parts with the key binding token that is asked for, if any.
+fn bound_parts<S: Signer>(
+    alloc: Global,
+    unbound: Parts,
+    binding: &Option<BindingAsk>,
+    hash: HashAlg,
+    signer: &mut S,
+    now: u64,
+) -> Result<Parts, PresentError>
+    requires hs256 { S.alg_of signer.old ≡ Alg.Hs256 }
+    requires words { AreWords unbound }
+    requires none { unbound.binding ≡ None }
+    ensures finished { IfOk result (IsFinished binding.now (S.good signer.old) hash now unbound) }
+    ensures words { IfOk result AreWords }
+    ensures unsigned { IfErr result (IsUnsigned binding.now) }
+    ensures failed { IsErrOf result PresentError.SignFailed → Rose (S.faults signer.old) (S.faults signer.new) }
+    ensures unasked { binding.now ≡ None → signer.new ≡ signer.old }
+    ensures same_good { Agree (S.good signer.new) (S.good signer.old) }
+    ensures same_alg { S.alg_of signer.new ≡ S.alg_of signer.old }
+    ensures later { S.faults signer.old ≤ S.faults signer.new }
+{
+    let Some(binding) = binding else {
+        return Ok(unbound);
+    };
+    let hashed = hashed_text(alloc, &unbound)?;
+    let aud = binding.aud.as_str();
+    let nonce = binding.nonce.as_str();
+    match bind(alloc, signer, hash, hashed.as_str(), aud, nonce, now) {
+        Ok(token) => Ok(Parts {
+            signed: unbound.signed,
+            disclosures: unbound.disclosures,
+            binding: Some(token),
+        }),
+        Err(BindError::Memory) => Err(PresentError::Memory),
+        Err(BindError::SignFailed) => Err(PresentError::SignFailed),
+    }
+}
+
+fn is_too_long(alloc: Global, parts: &Parts) -> Result<bool, NoMemory>
+    requires { AreWords parts.now }
+    ensures { IfOk result (λ answer. IsTrue answer ↔ (COMPACT_MAX < length (compact_text parts.now))) }
+{
+    let text = print(alloc, parts)?;
+    Ok(text.as_str().len() > COMPACT_MAX)
+}
