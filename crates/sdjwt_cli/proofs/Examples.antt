@@ -8,9 +8,10 @@ use Rattle.compact_form.specs.declared.fault.Place.TheVariants.{Nowhere, At}
 use Rattle.compact_form.specs.declared.conditions.TheConstants.{TOO_LONG, FORM}
 use Rattle.compact_form.specs.declared.parts.Parts.{Parts}
 use Rattle.compact_form.specs.Compact.{IsCompact}
-use Rattle.compact_form.specs.Token.{Reads}
 use Rattle.compact_form.proofs.Examples.{bound, presented, no_tilde}
 use Rattle.compact_form.proofs.Verdicts.{reads, refused_form}
+use Rattle.json_form.specs.Token.{IsToken}
+use Rattle.json_form.proofs.Tokens.{refused_plainly, read_plainly}
 use Rattle.disclosure.proofs.Examples.{salt, value, a_disclosure, its_digest}
 use Rattle.jws_part.proofs.Examples.{alg_alone, a_head, a_header, sd_alg_alone, a_body}
 use Rattle.jws_part.proofs.Headers.{read_not_unreadable}
@@ -19,12 +20,14 @@ use Rattle.claim_tree.specs.declared.file_fault.FileFault.TheVariants.{NotJson, 
 use Rattle.holder_core.specs.declared.errors.PresentError.TheVariants.{HasBinding, ConsentRefused}
 use Rattle.issuer_core.specs.declared.errors.IssueError.TheVariants.{ReservedName, DigestClash, TooLong as IssueTooLong}
 use Rattle.issuer_core.specs.RefusalLine.{refusal_text}
-use Rattle.sdjwt_cli.specs.Command.{split, verify, issue, present, command_of}
+use Rattle.sdjwt_cli.specs.declared.form.Form.TheVariants.{Compact, Flat, General}
+use Rattle.sdjwt_cli.specs.Command.{split, verify, issue, present, convert, command_of}
 use Rattle.sdjwt_cli.specs.Lines.{line, refusal, unread, unreadable_line, short_seed}
 use Rattle.sdjwt_cli.specs.Never.{MayBeShown}
 use Rattle.sdjwt_cli.specs.Presenting.{present_refusal}
 use Rattle.sdjwt_cli.specs.Split.{Gives, Refuses}
-use Rattle.sdjwt_cli.specs.Show.{Shown, show_lines, Shows, has_known_hash}
+use Rattle.sdjwt_cli.specs.Show.{Shown, show_lines, token_of, Shows, has_known_hash}
+use Rattle.sdjwt_cli.specs.Converting.{written}
 
 -- ---- the words
 
@@ -42,6 +45,12 @@ of_an_order = refl
 
 of_a_present_order : command_of (codes "present" ∷ codes "order.json" ∷ codes "token.txt" ∷ []) ≡ Some (present (codes "order.json") (codes "token.txt"))
 of_a_present_order = refl
+
+of_a_form : command_of (codes "convert" ∷ codes "flat" ∷ codes "token.txt" ∷ []) ≡ Some (convert Flat (codes "token.txt"))
+of_a_form = refl
+
+no_form : command_of (codes "convert" ∷ codes "xml" ∷ codes "token.txt" ∷ []) ≡ None
+no_form = refl
 
 one_word_less : command_of (codes "verify" ∷ codes "token.txt" ∷ []) ≡ None
 one_word_less = refl
@@ -106,18 +115,18 @@ all_are_shown front is = is
 
 -- ---- split
 
-is_read : Reads (codes "a.b.c~d~e.f.g") bound
-is_read = reads (codes "a.b.c~d~e.f.g") bound refl presented (omega arith)
+is_read : IsToken (codes "a.b.c~d~e.f.g") (token_of bound no_members)
+is_read = read_plainly (codes "a.b.c~d~e.f.g") (token_of bound no_members) refl (reads (codes "a.b.c~d~e.f.g") bound refl presented (omega arith)) refl
 
 of_a_presentation : Gives (codes "a.b.c~d~e.f.g") (codes "protected a\npayload b\nsignature c\ndisclosure 0 d\nbinding e.f.g\n")
 unfolding digits
-of_a_presentation = record { parts = bound; reads = is_read; lines = refl }
+of_a_presentation = record { token = token_of bound no_members; reads = is_read; lines = refl }
 
 of_a_jwt : Refuses (codes "a.b.c") (codes "refused 2 form at 5\n")
 unfolding digits
 of_a_jwt = record {
   fault = record { number = FORM; place = At 5 };
-  refused = refused_form (codes "a.b.c") (record { number = FORM; place = At 5 }) 5 refl refl no_tilde;
+  refused = refused_plainly (codes "a.b.c") (record { number = FORM; place = At 5 }) refl (refused_form (codes "a.b.c") (record { number = FORM; place = At 5 }) 5 refl refl no_tilde);
   line_is = refl;
 }
 
@@ -159,8 +168,8 @@ shown name = record { digest = codes "qswwxPH-MjwEMOgKBBv2x2CF7lufmWFrWvVq7pj7YJ
 of_a_token : Shows token (codes "header {\"alg\":\"HS256\"}\npayload {\"_sd_alg\":\"sha-256\"}\ndisclosure 0 qswwxPH-MjwEMOgKBBv2x2CF7lufmWFrWvVq7pj7YJE element \"FR\"\n")
 unfolding digits escape_byte
 of_a_token = record {
-  parts = parts;
-  reads = reads token parts refl spells (omega arith);
+  token = token_of parts no_members;
+  reads = read_plainly token (token_of parts no_members) refl (reads token parts refl spells (omega arith)) refl;
   header = header;
   head = record { body = a_head; readable = read_not_unreadable (codes "eyJhbGciOiJIUzI1NiJ9") no_members (record { alg = codes "HS256"; kid = None; typ = None }) a_header };
   payload = payload;
@@ -182,3 +191,17 @@ no_hash = refl
 
 other_hash : has_known_hash (object (member (codes "_sd_alg") (leaf (text (codes "sha-512"))) no_members)) ≡ false
 other_hash = refl
+
+-- ---- convert
+
+flattened : written Flat (token_of bound no_members) ≡ codes "{\"header\":{\"disclosures\":[\"d\"],\"kb_jwt\":\"e.f.g\"},\"payload\":\"b\",\"protected\":\"a\",\"signature\":\"c\"}"
+unfolding escape_byte
+flattened = refl
+
+in_general : written General (token_of bound alg_alone)
+    ≡ codes "{\"payload\":\"b\",\"signatures\":[{\"header\":{\"alg\":\"HS256\",\"disclosures\":[\"d\"],\"kb_jwt\":\"e.f.g\"},\"protected\":\"a\",\"signature\":\"c\"}]}"
+unfolding escape_byte
+in_general = refl
+
+without_outer : written Compact (token_of bound alg_alone) ≡ codes "a.b.c~d~e.f.g"
+without_outer = refl

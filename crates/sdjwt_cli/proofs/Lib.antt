@@ -9,5 +9,7 @@ mod OtherRules
 mod NeverShown
 mod Presentings
 mod PresentVerdicts
+mod ConvertVerdicts
+mod Converted
 mod Refusals
 mod Examples

@@ -1,7 +1,7 @@
 -- The command `show` has one verdict over a file.
 use Rattle.std.proofs.Common.{◌≡◌, ℕ, List, [], ◌∷◌, ◌++◌, length, false, Option, refl, ap, ◌∙◌, sym, subst}
 use Rattle.std.specs.List.{AllZip}
-use Rattle.claim_tree.specs.Tree.{Text, Tree, no_members}
+use Rattle.claim_tree.specs.Tree.{Text, Tree}
 use Rattle.jws_part.specs.Part.{IsBody, IsNoObject}
 use Rattle.jws_part.specs.Header.{IsUnreadable}
 use Rattle.jws_part.proofs.Parts as bodies
@@ -10,9 +10,10 @@ use Rattle.compact_form.specs.declared.conditions.TheConstants.{DISCLOSURE_UNREA
 use Rattle.compact_form.specs.declared.fault.Fault.{Fault}
 use Rattle.compact_form.specs.declared.fault.Place.TheVariants.{At}
 use Rattle.compact_form.specs.declared.parts.JwtParts.{JwtParts}
-use Rattle.compact_form.specs.declared.parts.Parts.{Parts}
-use Rattle.compact_form.specs.Token.{Reads}
-use Rattle.compact_form.proofs.Verdicts.{not_both, one_fault, one_value, clash}
+use Rattle.compact_form.proofs.Verdicts.{clash}
+use Rattle.json_form.specs.declared.token.Token.{Token}
+use Rattle.json_form.specs.Token.{IsToken}
+use Rattle.json_form.proofs.Tokens as tokens
 use Rattle.sdjwt_cli.specs.Lines.{refusal}
 use Rattle.sdjwt_cli.specs.Show.{has_known_hash, Shown, IsShown, IsUnread, show_lines, IsHead, IsPayload, Shows, IsUnreadAt, IsShowRefused, form, header, payload, hash, disclosure, DoesNotShow}
 
@@ -79,21 +80,21 @@ one_unread ds f g u v =
     let fronts : u.front ≡ v.front = one_front u.front v.front u.text v.text u.rest v.rest u.shown v.shown (sym u.stand ∙ v.stand) u.read v.read u.unread v.unread in
     u.fault_is ∙ (ap at_front fronts ∙ sym v.fault_is)
 
--- over the parts that one file has
-headless : (file : List ℕ) (p q : Parts) (head : Tree) → Reads file p → Reads file q → IsUnreadable p.signed.protected no_members → IsHead q.signed.protected head → ⊥
-headless file p q head r s u h = h.readable (subst (λ (x : Parts). IsUnreadable x.signed.protected no_members) (one_value file p q r s) u)
+-- over the token that one file has
+headless : (file : List ℕ) (p q : Token) (head : Tree) → IsToken file p → IsToken file q → IsUnreadable p.parts.signed.protected p.outer → IsHead q.parts.signed.protected q.outer head → ⊥
+headless file p q head r s u h = h.readable (subst (λ (x : Token). IsUnreadable x.parts.signed.protected x.outer) (tokens.one file p q r s) u)
 
-bodiless : (file : List ℕ) (p q : Parts) (body : Tree) → Reads file p → Reads file q → IsNoObject p.signed.payload → IsBody q.signed.payload body → ⊥
-bodiless file p q body r s n b = bodies.not_both q.signed.payload body b (subst (λ (x : Parts). IsNoObject x.signed.payload) (one_value file p q r s) n)
+bodiless : (file : List ℕ) (p q : Token) (body : Tree) → IsToken file p → IsToken file q → IsNoObject p.parts.signed.payload → IsBody q.parts.signed.payload body → ⊥
+bodiless file p q body r s n b = bodies.not_both q.parts.signed.payload body b (subst (λ (x : Token). IsNoObject x.parts.signed.payload) (tokens.one file p q r s) n)
 
-one_payload : (file : List ℕ) (p q : Parts) (b c : Tree) → Reads file p → Reads file q → IsBody p.signed.payload b → IsBody q.signed.payload c → b ≡ c
-one_payload file p q b c r s g h = bodies.one_body q.signed.payload b c (subst (λ (x : Parts). IsBody x.signed.payload b) (one_value file p q r s) g) h
+one_payload : (file : List ℕ) (p q : Token) (b c : Tree) → IsToken file p → IsToken file q → IsBody p.parts.signed.payload b → IsBody q.parts.signed.payload c → b ≡ c
+one_payload file p q b c r s g h = bodies.one_body q.parts.signed.payload b c (subst (λ (x : Token). IsBody x.parts.signed.payload b) (tokens.one file p q r s) g) h
 
-hashless : (file : List ℕ) (p q : Parts) (b c : Tree) → Reads file p → Reads file q → IsBody p.signed.payload b → has_known_hash b ≡ false → IsPayload q.signed.payload c → ⊥
+hashless : (file : List ℕ) (p q : Token) (b c : Tree) → IsToken file p → IsToken file q → IsBody p.parts.signed.payload b → has_known_hash b ≡ false → IsPayload q.parts.signed.payload c → ⊥
 hashless file p q b c r s g none h = clash (has_known_hash c) h.hash (subst (λ (x : Tree). has_known_hash x ≡ false) (one_payload file p q b c r s g h.body) none)
 
-same_unread : (file : List ℕ) (p q : Parts) (f g : Fault) → Reads file p → Reads file q → IsUnreadAt p.disclosures f → IsUnreadAt q.disclosures g → f ≡ g
-same_unread file p q f g r s u v = one_unread q.disclosures f g (subst (λ (x : Parts). IsUnreadAt x.disclosures f) (one_value file p q r s) u) v
+same_unread : (file : List ℕ) (p q : Token) (f g : Fault) → IsToken file p → IsToken file q → IsUnreadAt p.parts.disclosures f → IsUnreadAt q.parts.disclosures g → f ≡ g
+same_unread file p q f g r s u v = one_unread q.parts.disclosures f g (subst (λ (x : Token). IsUnreadAt x.parts.disclosures f) (tokens.one file p q r s) u) v
 
 same_lines : (h k p q : Tree) (ss ts : List Shown) (b c : Option JwtParts) → h ≡ k → p ≡ q → ss ≡ ts → b ≡ c → show_lines h p ss b ≡ show_lines k q ts c
 same_lines h k p q ss ts b c heads payloads all bindings =
@@ -104,50 +105,50 @@ same_lines h k p q ss ts b c heads payloads all bindings =
 
 pub one_shown : (file a b : List ℕ) → Shows file a → Shows file b → a ≡ b
 one_shown file a b g h =
-    let same : g.parts ≡ h.parts = one_value file g.parts h.parts g.reads h.reads in
-    let head : IsBody h.parts.signed.protected g.header = subst (λ (x : Parts). IsBody x.signed.protected g.header) same g.head.body in
-    let heads : g.header ≡ h.header = bodies.one_body h.parts.signed.protected g.header h.header head h.head.body in
-    let payloads : g.payload ≡ h.payload = one_payload file g.parts h.parts g.payload h.payload g.reads h.reads g.body.body h.body.body in
-    let read : AllZip IsShown h.parts.disclosures g.shown = subst (λ (x : Parts). AllZip IsShown x.disclosures g.shown) same g.disclosures in
-    let all : g.shown ≡ h.shown = all_readings h.parts.disclosures g.shown h.shown read h.disclosures in
-    let bindings : g.parts.binding ≡ h.parts.binding = ap (λ (x : Parts). x.binding) same in
-    g.lines ∙ (same_lines g.header h.header g.payload h.payload g.shown h.shown g.parts.binding h.parts.binding heads payloads all bindings ∙ sym h.lines)
+    let same : g.token ≡ h.token = tokens.one file g.token h.token g.reads h.reads in
+    let head : IsBody h.token.parts.signed.protected g.header = subst (λ (x : Token). IsBody x.parts.signed.protected g.header) same g.head.body in
+    let heads : g.header ≡ h.header = bodies.one_body h.token.parts.signed.protected g.header h.header head h.head.body in
+    let payloads : g.payload ≡ h.payload = one_payload file g.token h.token g.payload h.payload g.reads h.reads g.body.body h.body.body in
+    let read : AllZip IsShown h.token.parts.disclosures g.shown = subst (λ (x : Token). AllZip IsShown x.parts.disclosures g.shown) same g.disclosures in
+    let all : g.shown ≡ h.shown = all_readings h.token.parts.disclosures g.shown h.shown read h.disclosures in
+    let bindings : g.token.parts.binding ≡ h.token.parts.binding = ap (λ (x : Token). x.parts.binding) same in
+    g.lines ∙ (same_lines g.header h.header g.payload h.payload g.shown h.shown g.token.parts.binding h.token.parts.binding heads payloads all bindings ∙ sym h.lines)
 
 no_refusal : (file a : List ℕ) (f : Fault) → Shows file a → IsShowRefused file f → ⊥
-no_refusal file a f g (form r) = not_both file g.parts f g.reads r
-no_refusal file a f g (header p r u e) = headless file p g.parts g.header r g.reads u g.head
-no_refusal file a f g (payload p h r i n e) = bodiless file p g.parts g.payload r g.reads n g.body.body
-no_refusal file a f g (hash p h b r i j n e) = hashless file p g.parts b g.payload r g.reads j n g.body
+no_refusal file a f g (form r) = tokens.not_both file g.token f g.reads r
+no_refusal file a f g (header p r u e) = headless file p g.token g.header r g.reads u g.head
+no_refusal file a f g (payload p h r i n e) = bodiless file p g.token g.payload r g.reads n g.body.body
+no_refusal file a f g (hash p h b r i j n e) = hashless file p g.token b g.payload r g.reads j n g.body
 no_refusal file a f g (disclosure p h b r i j u) =
-    let same : g.parts ≡ p = one_value file g.parts p g.reads r in
-    let read : AllZip IsShown p.disclosures g.shown = subst (λ (x : Parts). AllZip IsShown x.disclosures g.shown) same g.disclosures in
+    let same : g.token ≡ p = tokens.one file g.token p g.reads r in
+    let read : AllZip IsShown p.parts.disclosures g.shown = subst (λ (x : Token). AllZip IsShown x.parts.disclosures g.shown) same g.disclosures in
     all_read u.front u.text u.rest g.shown (subst (λ (ds : List Text). AllZip IsShown ds g.shown) u.stand read) u.unread
 
 pub shown_not_refused : (file a t : List ℕ) → Shows file a → DoesNotShow file t → ⊥
 shown_not_refused file a t g h = no_refusal file a h.fault g h.refused
 
 same_fault : (file : List ℕ) (f g : Fault) → IsShowRefused file f → IsShowRefused file g → f ≡ g
-same_fault file f g (form r) (form s) = one_fault file f g r s
-same_fault file f g (form r) (header q s v d) = absurd (not_both file q f s r)
-same_fault file f g (form r) (payload q k s l m d) = absurd (not_both file q f s r)
-same_fault file f g (form r) (hash q k c s l m o d) = absurd (not_both file q f s r)
-same_fault file f g (form r) (disclosure q k c s l m v) = absurd (not_both file q f s r)
-same_fault file f g (header p r u e) (form s) = absurd (not_both file p g r s)
+same_fault file f g (form r) (form s) = tokens.one_refusal file f g r s
+same_fault file f g (form r) (header q s v d) = absurd (tokens.not_both file q f s r)
+same_fault file f g (form r) (payload q k s l m d) = absurd (tokens.not_both file q f s r)
+same_fault file f g (form r) (hash q k c s l m o d) = absurd (tokens.not_both file q f s r)
+same_fault file f g (form r) (disclosure q k c s l m v) = absurd (tokens.not_both file q f s r)
+same_fault file f g (header p r u e) (form s) = absurd (tokens.not_both file p g r s)
 same_fault file f g (header p r u e) (header q s v d) = e ∙ sym d
 same_fault file f g (header p r u e) (payload q k s l m d) = absurd (headless file p q k r s u l)
 same_fault file f g (header p r u e) (hash q k c s l m o d) = absurd (headless file p q k r s u l)
 same_fault file f g (header p r u e) (disclosure q k c s l m v) = absurd (headless file p q k r s u l)
-same_fault file f g (payload p h r i n e) (form s) = absurd (not_both file p g r s)
+same_fault file f g (payload p h r i n e) (form s) = absurd (tokens.not_both file p g r s)
 same_fault file f g (payload p h r i n e) (header q s v d) = absurd (headless file q p h s r v i)
 same_fault file f g (payload p h r i n e) (payload q k s l m d) = e ∙ sym d
 same_fault file f g (payload p h r i n e) (hash q k c s l m o d) = absurd (bodiless file p q c r s n m)
 same_fault file f g (payload p h r i n e) (disclosure q k c s l m v) = absurd (bodiless file p q c r s n m.body)
-same_fault file f g (hash p h b r i j n e) (form s) = absurd (not_both file p g r s)
+same_fault file f g (hash p h b r i j n e) (form s) = absurd (tokens.not_both file p g r s)
 same_fault file f g (hash p h b r i j n e) (header q s v d) = absurd (headless file q p h s r v i)
 same_fault file f g (hash p h b r i j n e) (payload q k s l m d) = absurd (bodiless file q p b s r m j)
 same_fault file f g (hash p h b r i j n e) (hash q k c s l m o d) = e ∙ sym d
 same_fault file f g (hash p h b r i j n e) (disclosure q k c s l m v) = absurd (hashless file p q b c r s j n m)
-same_fault file f g (disclosure p h b r i j u) (form s) = absurd (not_both file p g r s)
+same_fault file f g (disclosure p h b r i j u) (form s) = absurd (tokens.not_both file p g r s)
 same_fault file f g (disclosure p h b r i j u) (header q s v d) = absurd (headless file q p h s r v i)
 same_fault file f g (disclosure p h b r i j u) (payload q k s l m d) = absurd (bodiless file q p b s r m j.body)
 same_fault file f g (disclosure p h b r i j u) (hash q k c s l m o d) = absurd (hashless file q p c b s r m o j)

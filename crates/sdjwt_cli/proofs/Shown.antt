@@ -1,8 +1,13 @@
 -- The lines of the disclosures, one by one.
-use Rattle.std.proofs.Common.{◌≡◌, ℕ, suc, ◌+◌, List, [], ◌∷◌, ◌++◌, length, refl, sym, ap, ◌∙◌, arith, append_assoc, append-nil}
+use Rattle.std.proofs.Common.{◌≡◌, ℕ, suc, ◌+◌, List, [], ◌∷◌, ◌++◌, length, refl, sym, ap, ◌∙◌, arith, append_assoc, append-nil, codes}
 use Rattle.std.specs.List.{AllZip}
-use Rattle.claim_tree.specs.Tree.{Text}
-use Rattle.sdjwt_cli.specs.Show.{Shown, IsShown, shown_line, shown_lines, AddsLine}
+use Rattle.claim_tree.specs.Tree.{Text, Tree}
+use Rattle.claim_tree.specs.JsonText.{json_text}
+use Rattle.json_form.specs.declared.token.Token.{Token}
+use Rattle.json_form.specs.Token.{IsToken}
+use Rattle.sdjwt_cli.specs.Lines.{line}
+use Rattle.sdjwt_cli.specs.Split.{binding_line}
+use Rattle.sdjwt_cli.specs.Show.{Shown, IsShown, shown_line, shown_lines, IsHead, IsPayload, Shows, AddsLine, AddsLines}
 
 pub zip_more : (xs : List Text) (ss : List Shown) (x : Text) (s : Shown) → AllZip IsShown xs ss → IsShown x s → AllZip IsShown (xs ++ x ∷ []) (ss ++ s ∷ [])
 zip_more [] [] x s all is = (is, tt)
@@ -30,3 +35,25 @@ line_more old text new xs ss x i adds all at before =
     let place : i ≡ 0 + length ss = omega (arith, same) in
     let more : shown_lines 0 (ss ++ adds.shown ∷ []) ≡ shown_lines 0 ss ++ shown_line i adds.shown = lines_more 0 ss adds.shown ∙ ap (λ n. shown_lines 0 ss ++ shown_line n adds.shown) (sym place) in
     adds.more ∙ (ap (λ t. t ++ shown_line i adds.shown) before ∙ (append_assoc old (shown_lines 0 ss) (shown_line i adds.shown) ∙ ap (λ t. old ++ t) (sym more)))
+
+regrouped : (a b c d : Text) → ((a ++ b) ++ c) ++ d ≡ a ++ (b ++ (c ++ d))
+regrouped a b c d = simp append_assoc
+
+-- the lines of a token, put one behind the other
+pub shows : (file : List ℕ) (token : Token) (header payload : Tree) (start more answer : Text) → IsToken file token → IsHead token.parts.signed.protected token.outer header → IsPayload token.parts.signed.payload payload
+    → start ≡ line (codes "header " ++ json_text header) ++ line (codes "payload " ++ json_text payload) → AddsLines token.parts.disclosures start more → answer ≡ more ++ binding_line token.parts.binding → Shows file answer
+shows file token header payload start more answer reads head body begun adds ended =
+    let first = line (codes "header " ++ json_text header) in
+    let second = line (codes "payload " ++ json_text payload) in
+    let middle : more ≡ (first ++ second) ++ shown_lines 0 adds.shown = adds.more ∙ ap (λ (t : Text). t ++ shown_lines 0 adds.shown) begun in
+    record {
+      token = token;
+      reads = reads;
+      header = header;
+      head = head;
+      payload = payload;
+      body = body;
+      shown = adds.shown;
+      disclosures = adds.are;
+      lines = ended ∙ (ap (λ (t : Text). t ++ binding_line token.parts.binding) middle ∙ regrouped first second (shown_lines 0 adds.shown) (binding_line token.parts.binding));
+    }

@@ -6,8 +6,9 @@ use Rattle.std.specs.Io.KnownBytes.{Appends}
 use Rattle.sd_outside.specs.Causes.{Rose}
 use Rattle.sd_outside.specs.declared.status.Status.{Status}
 use Rattle.sd_outside.specs.declared.status.Status.TheVariants.{Done, Refused, Usage, Unread, Unwritten, Memory, Unreadable}
-use Rattle.compact_form.proofs.Verdicts.{not_both, one_fault, one_value}
-use Rattle.sdjwt_cli.specs.Command.{Command, split, show, verify, issue, present, command_of, Wanted, wanted_by}
+use Rattle.json_form.specs.declared.token.Token.{Token}
+use Rattle.json_form.proofs.Tokens as tokens
+use Rattle.sdjwt_cli.specs.Command.{Command, split, show, verify, issue, present, convert, command_of, Wanted, wanted_by}
 use Rattle.sdjwt_cli.specs.Lines.{refusal}
 use Rattle.sdjwt_cli.specs.Split.{split_lines}
 use Rattle.sdjwt_cli.specs.Answers.{Verdict, gives, refuses, unreadable, SplitAnswers, ShowAnswers, Answers, AreFetched, AreTold, IsAnswered}
@@ -16,13 +17,14 @@ use Rattle.sdjwt_cli.proofs.ShowVerdicts.{one_shown, shown_not_refused, one_refu
 use Rattle.sdjwt_cli.proofs.VerifyVerdicts.{one_verify}
 use Rattle.sdjwt_cli.proofs.IssueVerdicts.{one_issue}
 use Rattle.sdjwt_cli.proofs.PresentVerdicts.{one_present}
+use Rattle.sdjwt_cli.proofs.ConvertVerdicts.{one_convert}
 
 one_split : (file : List ℕ) (v w : Verdict) → SplitAnswers file v → SplitAnswers file w → v ≡ w
-one_split file (gives a) (gives b) g h = ap gives (g.lines ∙ ap split_lines (one_value file g.parts h.parts g.reads h.reads) ∙ sym h.lines)
-one_split file (gives a) (refuses t) g h = absurd (not_both file g.parts h.fault g.reads h.refused)
+one_split file (gives a) (gives b) g h = ap gives (g.lines ∙ ap (λ (t : Token). split_lines t.parts) (tokens.one file g.token h.token g.reads h.reads) ∙ sym h.lines)
+one_split file (gives a) (refuses t) g h = absurd (tokens.not_both file g.token h.fault g.reads h.refused)
 one_split file (gives a) (unreadable t) g h = absurd h
-one_split file (refuses s) (gives b) g h = absurd (not_both file h.parts g.fault h.reads g.refused)
-one_split file (refuses s) (refuses t) g h = ap refuses (g.line_is ∙ ap refusal (one_fault file g.fault h.fault g.refused h.refused) ∙ sym h.line_is)
+one_split file (refuses s) (gives b) g h = absurd (tokens.not_both file h.token g.fault h.reads g.refused)
+one_split file (refuses s) (refuses t) g h = ap refuses (g.line_is ∙ ap refusal (tokens.one_refusal file g.fault h.fault g.refused h.refused) ∙ sym h.line_is)
 one_split file (refuses s) (unreadable t) g h = absurd h
 one_split file (unreadable s) w g h = absurd g
 
@@ -54,6 +56,9 @@ one_answer (present order token) [] now v w g h = absurd g
 one_answer (present order token) (file ∷ []) now v w g h = absurd g
 one_answer (present order token) (file ∷ other ∷ []) now v w g h = one_present file other now v w g h
 one_answer (present order token) (file ∷ other ∷ more ∷ files) now v w g h = absurd g
+one_answer (convert form token) [] now v w g h = absurd g
+one_answer (convert form token) (file ∷ []) now v w g h = one_convert form file v w g h
+one_answer (convert form token) (file ∷ more ∷ files) now v w g h = absurd g
 
 none_some : (o : Option Command) (k : Command) → o ≡ None → o ≡ Some k → ⊥
 none_some o k e f = cc

@@ -1,12 +1,14 @@
 -- What each command answers over its files, by its definition.
 use Rattle.std.specs.Prelude.{◌≡◌, ℕ, List, [], ◌∷◌, Option, IfSome, IsSomeAnd, take}
 use Rattle.std.specs.List.{AllZip}
-use Rattle.sdjwt_cli.specs.Command.{Command, split, show, verify, issue, present, Wanted, wanted_by}
+use Rattle.sdjwt_cli.specs.Command.{Command, split, show, verify, issue, present, convert, Wanted, wanted_by}
 use Rattle.sdjwt_cli.specs.Split.{Gives, Refuses}
 use Rattle.sdjwt_cli.specs.Show.{Shows, DoesNotShow}
 use Rattle.sdjwt_cli.specs.Verify.{Verifies, DoesNotVerify, HasNoPolicy}
 use Rattle.sdjwt_cli.specs.Issuing.{Issues, DoesNotIssue, HasNoOrder}
 use Rattle.sdjwt_cli.specs.Presenting.{Presents, DoesNotPresent, HasNoPresentOrder}
+use Rattle.sdjwt_cli.specs.declared.form.Form.{Form}
+use Rattle.sdjwt_cli.specs.Converting.{Converts, DoesNotConvert}
 
 -- the bytes for standard output, or the line of a refusal, or that of a file that is not of its form
 pub data Verdict : Type 0 where
@@ -39,6 +41,11 @@ PresentAnswers order token now (gives answer) = Presents order token now answer
 PresentAnswers order token now (refuses text) = DoesNotPresent order token now text
 PresentAnswers order token now (unreadable text) = HasNoPresentOrder order text
 
+abbrev pub ConvertAnswers : Form → List ℕ → Verdict → Type 0
+ConvertAnswers form file (gives answer) = Converts form file answer
+ConvertAnswers form file (refuses text) = DoesNotConvert form file text
+ConvertAnswers form file (unreadable text) = ⊥
+
 -- the verdict of a command over its files, at a moment
 abbrev pub Answers : Command → List (List ℕ) → ℕ → Verdict → Type 0
 Answers (split token) [] now verdict = ⊥
@@ -59,6 +66,9 @@ Answers (present order token) [] now verdict = ⊥
 Answers (present order token) (file ∷ []) now verdict = ⊥
 Answers (present order token) (file ∷ other ∷ []) now verdict = PresentAnswers file other now verdict
 Answers (present order token) (file ∷ other ∷ more ∷ files) now verdict = ⊥
+Answers (convert form token) [] now verdict = ⊥
+Answers (convert form token) (file ∷ []) now verdict = ConvertAnswers form file verdict
+Answers (convert form token) (file ∷ more ∷ files) now verdict = ⊥
 
 -- each file is what a fetch answers, where the cabinet tells it
 abbrev pub AreFetched : (List ℕ → Option (List ℕ)) → Command → List (List ℕ) → Type 0

@@ -1,22 +1,26 @@
 -- The commands of the program, and the files that each reads.
 use Rattle.std.specs.Prelude.{◌+◌, ℕ, List, [], ◌∷◌, Option, None, Some, codes, bytes_eq, if◌then◌else◌}
+use Rattle.std.specs.Option.{option_map}
 use Rattle.compact_form.specs.declared.limits.TheConstants.{FILE_MAX}
+use Rattle.sdjwt_cli.specs.declared.form.Form.{Form}
 use Rattle.sdjwt_cli.specs.declared.issue.TheConstants.{SEED_LEN}
+use Rattle.sdjwt_cli.specs.Forms.{form_of}
 
--- a command, with the names of its files
+-- a command, with the names of its files, and of `convert` the form
 pub data Command : Type 0 where
   split : (token : List ℕ) → Command
   show : (token : List ℕ) → Command
   verify : (policy token : List ℕ) → Command
   issue : (order seed : List ℕ) → Command
   present : (order token : List ℕ) → Command
+  convert : (form : Form) (token : List ℕ) → Command
 
 -- the command that the words behind the program's name are
 abbrev pub command_of : List (List ℕ) → Option Command
 command_of [] = None
 command_of (word ∷ []) = None
 command_of (word ∷ token ∷ []) = if bytes_eq word (codes "split") then Some (split token) else if bytes_eq word (codes "show") then Some (show token) else None
-command_of (word ∷ first ∷ second ∷ []) = if bytes_eq word (codes "verify") then Some (verify first second) else if bytes_eq word (codes "issue") then Some (issue first second) else if bytes_eq word (codes "present") then Some (present first second) else None
+command_of (word ∷ first ∷ second ∷ []) = if bytes_eq word (codes "verify") then Some (verify first second) else if bytes_eq word (codes "issue") then Some (issue first second) else if bytes_eq word (codes "present") then Some (present first second) else if bytes_eq word (codes "convert") then option_map (λ form. convert form second) (form_of first) else None
 command_of (word ∷ first ∷ second ∷ more ∷ rest) = None
 
 -- the name of a file, and the most bytes that are read of it
@@ -32,3 +36,4 @@ wanted_by (show token) = record { name = token; most = FILE_MAX + 1 } ∷ []
 wanted_by (verify policy token) = record { name = policy; most = FILE_MAX + 1 } ∷ record { name = token; most = FILE_MAX + 1 } ∷ []
 wanted_by (issue order seed) = record { name = order; most = FILE_MAX + 1 } ∷ record { name = seed; most = SEED_LEN } ∷ []
 wanted_by (present order token) = record { name = order; most = FILE_MAX + 1 } ∷ record { name = token; most = FILE_MAX + 1 } ∷ []
+wanted_by (convert form token) = record { name = token; most = FILE_MAX + 1 } ∷ []

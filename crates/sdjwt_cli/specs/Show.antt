@@ -2,7 +2,7 @@
 use Rattle.std.specs.Prelude.{◌≡◌, ◌≢◌, ℕ, ◌+◌, length, List, [], ◌∷◌, ◌++◌, Bool, true, false, Option, None, Some, is_some, codes}
 use Rattle.std.specs.Fmt.{decimal}
 use Rattle.std.specs.List.{AllZip}
-use Rattle.claim_tree.specs.Tree.{Text, Tree, leaf, text, no_members}
+use Rattle.claim_tree.specs.Tree.{Text, Tree, Members, leaf, text}
 use Rattle.claim_tree.specs.JsonText.{json_text}
 use Rattle.jws_part.specs.Part.{IsBody, IsNoObject}
 use Rattle.jws_part.specs.Header.{IsUnreadable}
@@ -16,7 +16,8 @@ use Rattle.compact_form.specs.declared.fault.Fault.{Fault}
 use Rattle.compact_form.specs.declared.fault.Place.TheVariants.{Nowhere, At}
 use Rattle.compact_form.specs.declared.parts.JwtParts.{JwtParts}
 use Rattle.compact_form.specs.declared.parts.Parts.{Parts}
-use Rattle.compact_form.specs.Token.{IsRefused, Reads}
+use Rattle.json_form.specs.declared.token.Token.{Token}
+use Rattle.json_form.specs.Token.{IsRefused, IsToken}
 use Rattle.sdjwt_cli.specs.declared.show.Unshown.{Unshown}
 use Rattle.sdjwt_cli.specs.declared.show.Unshown.TheVariants.{Memory, Fails}
 use Rattle.sdjwt_cli.specs.Lines.{line, refusal}
@@ -59,27 +60,27 @@ shown_lines i (shown ∷ more) = shown_line i shown ++ shown_lines (i + 1) more
 abbrev pub show_lines : Tree → Tree → List Shown → Option JwtParts → Text
 show_lines header payload shown binding = line (codes "header " ++ json_text header) ++ (line (codes "payload " ++ json_text payload) ++ (shown_lines 0 shown ++ binding_line binding))
 
--- the header is read: the text carries an object, and is not refused as unreadable
-pub record IsHead (protected : Text) (header : Tree) : Type 0 where
+-- the protected header is read: the text carries an object, and with the unprotected one beside it is not refused as unreadable
+pub record IsHead (protected : Text) (outer : Members) (header : Tree) : Type 0 where
   pub body : IsBody protected header
-  pub readable : IsUnreadable protected no_members → ⊥
+  pub readable : IsUnreadable protected outer → ⊥
 
 -- the payload is read, and its hash is known
 pub record IsPayload (payload : Text) (tree : Tree) : Type 0 where
   pub body : IsBody payload tree
   pub hash : has_known_hash tree ≡ true
 
--- the file is read, and these are its lines
+-- the file is a token in one of its serializations, and these are its lines. Of the headers the protected one is printed
 pub record Shows (file answer : List ℕ) : Type 0 where
-  pub parts : Parts
-  pub reads : Reads file parts
+  pub token : Token
+  pub reads : IsToken file token
   pub header : Tree
-  pub head : IsHead parts.signed.protected header
+  pub head : IsHead token.parts.signed.protected token.outer header
   pub payload : Tree
-  pub body : IsPayload parts.signed.payload payload
+  pub body : IsPayload token.parts.signed.payload payload
   pub shown : List Shown
-  pub disclosures : AllZip IsShown parts.disclosures shown
-  pub lines : answer ≡ show_lines header payload shown parts.binding
+  pub disclosures : AllZip IsShown token.parts.disclosures shown
+  pub lines : answer ≡ show_lines header payload shown token.parts.binding
 
 -- for private functions: a line, or all lines, put behind a text
 pub record AddsLine (i : ℕ) (disclosure : Text) (old new : Text) : Type 0 where
@@ -91,6 +92,10 @@ pub record AddsLines (disclosures : List Text) (old new : Text) : Type 0 where
   pub shown : List Shown
   pub are : AllZip IsShown disclosures shown
   pub more : new ≡ old ++ shown_lines 0 shown
+
+-- the token of these parts and this unprotected header
+abbrev pub token_of : Parts → Members → Token
+token_of parts outer = record { parts = parts; outer = outer }
 
 -- the first disclosure that is not read
 pub record IsUnreadAt (disclosures : List Text) (fault : Fault) : Type 0 where
@@ -110,13 +115,13 @@ OnFails (Fails fault) P = P fault
 abbrev pub fault_of : ℕ → Fault
 fault_of number = record { number = number; place = Nowhere }
 
--- the lowest condition that fails: of the form, then of the header, of the payload, of its hash, and of the disclosures the first
+-- the lowest condition that fails: of the form, then of the headers, of the payload, of its hash, and of the disclosures the first
 pub data IsShowRefused (file : List ℕ) (fault : Fault) : Type 0 where
   form : IsRefused file fault → IsShowRefused file fault
-  header : (parts : Parts) → Reads file parts → IsUnreadable parts.signed.protected no_members → fault ≡ fault_of HEADER_UNREADABLE → IsShowRefused file fault
-  payload : (parts : Parts) (head : Tree) → Reads file parts → IsHead parts.signed.protected head → IsNoObject parts.signed.payload → fault ≡ fault_of PAYLOAD_UNREADABLE → IsShowRefused file fault
-  hash : (parts : Parts) (head body : Tree) → Reads file parts → IsHead parts.signed.protected head → IsBody parts.signed.payload body → has_known_hash body ≡ false → fault ≡ fault_of HASH_UNKNOWN → IsShowRefused file fault
-  disclosure : (parts : Parts) (head body : Tree) → Reads file parts → IsHead parts.signed.protected head → IsPayload parts.signed.payload body → IsUnreadAt parts.disclosures fault → IsShowRefused file fault
+  header : (t : Token) → IsToken file t → IsUnreadable t.parts.signed.protected t.outer → fault ≡ fault_of HEADER_UNREADABLE → IsShowRefused file fault
+  payload : (t : Token) (head : Tree) → IsToken file t → IsHead t.parts.signed.protected t.outer head → IsNoObject t.parts.signed.payload → fault ≡ fault_of PAYLOAD_UNREADABLE → IsShowRefused file fault
+  hash : (t : Token) (head body : Tree) → IsToken file t → IsHead t.parts.signed.protected t.outer head → IsBody t.parts.signed.payload body → has_known_hash body ≡ false → fault ≡ fault_of HASH_UNKNOWN → IsShowRefused file fault
+  disclosure : (t : Token) (head body : Tree) → IsToken file t → IsHead t.parts.signed.protected t.outer head → IsPayload t.parts.signed.payload body → IsUnreadAt t.parts.disclosures fault → IsShowRefused file fault
 
 -- the file is refused, with this line
 pub record DoesNotShow (file text : List ℕ) : Type 0 where

@@ -5,7 +5,8 @@ use Rattle.compact_form.specs.declared.fault.Fault.{Fault}
 use Rattle.compact_form.specs.declared.parts.JwtParts.{JwtParts}
 use Rattle.compact_form.specs.declared.parts.Parts.{Parts}
 use Rattle.compact_form.specs.Compact.{jwt}
-use Rattle.compact_form.specs.Token.{IsRefused, Reads}
+use Rattle.json_form.specs.declared.token.Token.{Token}
+use Rattle.json_form.specs.Token.{IsRefused, IsToken}
 use Rattle.sdjwt_cli.specs.Lines.{line, refusal}
 
 abbrev pub signed_lines : JwtParts → List ℕ
@@ -24,11 +25,11 @@ binding_line (Some j) = line (codes "binding " ++ jwt j)
 abbrev pub split_lines : Parts → List ℕ
 split_lines parts = signed_lines parts.signed ++ numbered 0 parts.disclosures ++ binding_line parts.binding
 
--- the file is read, and these are the lines of its parts
+-- the file is a token in one of its serializations, and these are the lines of its parts
 pub record Gives (file answer : List ℕ) : Type 0 where
-  pub parts : Parts
-  pub reads : Reads file parts
-  pub lines : answer ≡ split_lines parts
+  pub token : Token
+  pub reads : IsToken file token
+  pub lines : answer ≡ split_lines token.parts
 
 -- the file is refused, with this line
 pub record Refuses (file text : List ℕ) : Type 0 where

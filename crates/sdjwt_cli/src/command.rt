@@ -1,7 +1,9 @@
 ghost use Rattle.std.specs.Prelude.{◌≡◌, map, string_bytes};
 ghost use Rattle.std.specs.Option.{option_map};
 
-// A command, with the names of its files.
+use crate::form::Form;
+
+// A command, with the names of its files, and of `convert` the form.
 #[derive(Clone, Copy, Debug)]
 pub(crate) enum Command<'a> {
     Split { token: &'a str },
@@ -9,6 +11,7 @@ pub(crate) enum Command<'a> {
     Verify { policy: &'a str, token: &'a str },
     Issue { order: &'a str, seed: &'a str },
     Present { order: &'a str, token: &'a str },
+    Convert { form: Form, token: &'a str },
 }
 
 impl<'a> Command<'a> {
@@ -38,6 +41,15 @@ impl<'a> Command<'a> {
                 order: order.as_str(),
                 token: token.as_str(),
             }),
+            [command, form, token] if command.as_str() == "convert" => match Form::of(
+                form.as_str(),
+            ) {
+                Some(form) => Some(Command::Convert {
+                    form,
+                    token: token.as_str(),
+                }),
+                None => None,
+            },
             _ => None,
         }
     }

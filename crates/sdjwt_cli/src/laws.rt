@@ -5,6 +5,8 @@ ghost use Rattle.sd_outside.specs.Causes.{Rose};
 ghost use Rattle.sd_outside.specs.declared.status.Status.{Status};
 ghost use Rattle.sdjwt_cli.specs.Command.{Command, command_of};
 ghost use Rattle.sdjwt_cli.specs.Answers.{Verdict, gives, Answers, AreTold};
+ghost use Rattle.sdjwt_cli.specs.declared.form.Form.{Form};
+ghost use Rattle.sdjwt_cli.specs.Converting.{HasRoom, Converts};
 ghost use Rattle.sdjwt_cli.specs.Run.{Outside, Ends};
 
 /// The definition of a command has at most one verdict over its files.
@@ -19,4 +21,9 @@ pub fn completes()
         → command_of words ≡ Some command → AreTold before.holds command files → Answers command files now (gives answer)
         → (Rose before.faults after.faults → ⊥) → (Rose before.out.faults after.out.faults → ⊥) → Ends words before after now status
         → ((status ≡ Status.Done) × Appends before.out.written after.out.written answer) ⊎ (status ≡ Status.Memory) }
+{}
+
+/// What `convert` writes in a form is converted to this form as it stands.
+pub fn converted_again()
+    ensures { (form : Form) (file answer : List ℕ) (read : Converts form file answer) → HasRoom form read.token → Converts form answer answer }
 {}

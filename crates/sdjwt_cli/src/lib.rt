@@ -5,6 +5,10 @@
 #![tactic(auto)]
 
 mod command;
+mod convert;
+#[cfg(test)]
+mod convert_tests;
+mod form;
 mod issue;
 #[cfg(test)]
 mod issue_tests;

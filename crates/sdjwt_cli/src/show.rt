@@ -2,7 +2,7 @@
 ghost use Rattle.std.specs.Prelude.{◌≡◌, ◌^◌, ◌<◌, ◌++◌, ℕ, length, List, IfOk, IfErr, OnOk, IsErrOf, codes, string_bytes};
 ghost use Rattle.std.specs.Fmt.{decimal};
 ghost use Rattle.std.specs.Option.{option_map};
-ghost use Rattle.claim_tree.specs.Tree.{IsRanged, depth as depth_of, no_members};
+ghost use Rattle.claim_tree.specs.Tree.{IsRanged, depth as depth_of};
 ghost use Rattle.claim_tree.specs.JsonText.{json_text};
 ghost use Rattle.claim_tree.specs.View.{tree_of};
 ghost use Rattle.jws_part.specs.Part.{IsBody, IsNoObject};
@@ -10,8 +10,8 @@ ghost use Rattle.jws_part.specs.Header.{IsUnreadable};
 ghost use Rattle.disclosure.specs.Refusals.{IsRefused};
 ghost use Rattle.compact_form.specs.Views.{jwt_of};
 ghost use Rattle.sdjwt_cli.specs.Lines.{line};
-ghost use Rattle.sdjwt_cli.specs.Show.{has_known_hash as has_known_hash_of, IsHead, IsShown, IsUnread, kind_text, AddsLine, AddsLines, IsUnreadAt, OnFails, Shows, IsShowRefused, DoesNotShow, fault_of};
-ghost use Rattle.compact_form.specs.Token.{Reads};
+ghost use Rattle.sdjwt_cli.specs.Show.{has_known_hash as has_known_hash_of, IsHead, IsShown, IsUnread, kind_text, AddsLine, AddsLines, token_of, IsUnreadAt, OnFails, Shows, IsShowRefused, DoesNotShow, fault_of};
+ghost use Rattle.json_form.specs.Token.{IsToken};
 ghost use Rattle.sdjwt_cli.specs.declared.show.Unshown.TheVariants.{Fails};
 ghost use Rattle.sdjwt_cli.specs.Stops.{OnRefused, OnUnread, OnUnreadable};
 
@@ -21,21 +21,22 @@ use crate::stop::Stop;
 use claim_tree::{Tree, TreeMap, write};
 use compact_form::{
     DISCLOSURE_UNREADABLE, Fault, HASH_UNKNOWN, HEADER_UNREADABLE, JwtView, PAYLOAD_UNREADABLE,
-    Pieces, Place, View, read_view,
+    Pieces, Place, View,
 };
 use disclosure::{Disclosure, DisclosureError, HashAlg, payload_hash, read_disclosure};
+use json_form::{TokenError, TokenText};
 use jws_part::{BodyError, HeaderError, read_body, read_header};
 use sd_outside::{NoMemory, TextBox};
 use std::alloc::Global;
 
-// The protected header as a tree.
-fn read_head(alloc: Global, protected: &str) -> Result<Tree, BodyError>
-    ensures head { IfOk result (λ t. IsHead protected.now (tree_of t)) }
+// The protected header as a tree, read with the unprotected one beside it.
+fn read_head(alloc: Global, protected: &str, outer: &TreeMap) -> Result<Tree, BodyError>
+    ensures head { IfOk result (λ t. IsHead protected.now outer.now (tree_of t)) }
     ensures ranged { IfOk result (λ t. IsRanged (tree_of t)) }
-    ensures unreadable { IsErrOf result BodyError.Unreadable → IsUnreadable protected.now no_members }
+    ensures unreadable { IsErrOf result BodyError.Unreadable → IsUnreadable protected.now outer.now }
 {
     let tree = read_body(alloc, protected)?;
-    match read_header(alloc, protected, &TreeMap::new(alloc)) {
+    match read_header(alloc, protected, outer) {
         Ok(_) => Ok(tree),
         Err(HeaderError::Critical) => Ok(tree),
         Err(HeaderError::Unreadable) => Err(BodyError::Unreadable),
@@ -157,9 +158,14 @@ fn start(alloc: Global, head: &Tree, payload: &Tree, room: usize) -> Result<Stri
     Ok(text)
 }
 
-// The lines of a token that is read.
-fn show_view(alloc: Global, file: &[u8], view: &View<'_>) -> Result<String, Unshown>
-    requires { Reads file.now view.now }
+// The lines of a token that is read, of its parts and its unprotected header.
+fn show_view(
+    alloc: Global,
+    file: &[u8],
+    view: &View<'_>,
+    outer: &TreeMap,
+) -> Result<String, Unshown>
+    requires { IsToken file.now (token_of view.now outer.now) }
     ensures shows { IfOk result (λ text. Shows file.now (string_bytes text)) }
     ensures fails { IfErr result (λ e. OnFails e (IsShowRefused file.now)) }
 {
@@ -168,7 +174,7 @@ fn show_view(alloc: Global, file: &[u8], view: &View<'_>) -> Result<String, Unsh
         payload,
         ..
     } = view.signed();
-    let head = match read_head(alloc, protected) {
+    let head = match read_head(alloc, protected, outer) {
         Ok(head) => head,
         Err(BodyError::Unreadable) => return Err(fails(HEADER_UNREADABLE)),
         Err(BodyError::Memory) => return Err(Unshown::Memory),
@@ -194,11 +200,12 @@ pub(crate) fn show(alloc: Global, file: &[u8]) -> Result<String, Stop>
     ensures read { IfErr result (λ stop. OnUnread stop (λ _. ⊥)) }
     ensures readable { IfErr result (λ stop. OnUnreadable stop (λ _. ⊥)) }
 {
-    let view = match read_view(file) {
-        Ok(view) => view,
-        Err(fault) => return Err(Stop::Refused(refusal_line(alloc, &fault)?)),
+    let token = match TokenText::read(alloc, file) {
+        Ok(token) => token,
+        Err(TokenError::Memory) => return Err(Stop::Memory),
+        Err(TokenError::Fault(fault)) => return Err(Stop::Refused(refusal_line(alloc, &fault)?)),
     };
-    match show_view(alloc, file, &view) {
+    match show_view(alloc, file, &token.view(), token.outer()) {
         Ok(text) => Ok(text),
         Err(Unshown::Memory) => Err(Stop::Memory),
         Err(Unshown::Fails(fault)) => Err(Stop::Refused(refusal_line(alloc, &fault)?)),

@@ -9,7 +9,8 @@ ghost use Rattle.sdjwt_cli.specs.Stops.{OnRefused, OnUnread, OnUnreadable};
 
 use crate::lines::refusal_line;
 use crate::stop::Stop;
-use compact_form::{JwtView, Pieces, View, read_view};
+use compact_form::{JwtView, Pieces, View};
+use json_form::{TokenError, TokenText};
 use sd_outside::NoMemory;
 use std::alloc::Global;
 
@@ -85,8 +86,11 @@ pub(crate) fn split(alloc: Global, file: &[u8]) -> Result<String, Stop>
     ensures read { IfErr result (λ stop. OnUnread stop (λ _. ⊥)) }
     ensures readable { IfErr result (λ stop. OnUnreadable stop (λ _. ⊥)) }
 {
-    match read_view(file) {
-        Ok(view) => Ok(split_text(alloc, &view, room_for(file, view.count()))?),
-        Err(fault) => Err(Stop::Refused(refusal_line(alloc, &fault)?)),
-    }
+    let token = match TokenText::read(alloc, file) {
+        Ok(token) => token,
+        Err(TokenError::Memory) => return Err(Stop::Memory),
+        Err(TokenError::Fault(fault)) => return Err(Stop::Refused(refusal_line(alloc, &fault)?)),
+    };
+    let view = token.view();
+    Ok(split_text(alloc, &view, room_for(file, view.count()))?)
 }

@@ -7,6 +7,7 @@ ghost use Rattle.sdjwt_cli.specs.Stops.{OnRefused, OnUnread, OnUnreadable};
 ghost use Rattle.sdjwt_cli.specs.Run.{outside, stream, Misses, Tells, Ends, Keeps};
 
 use crate::command::Command;
+use crate::convert::convert;
 use crate::issue::{SEED_LEN, issue};
 use crate::lines::unread_line;
 use crate::present::present;
@@ -83,6 +84,10 @@ fn answer<C: Cabinet>(
             let order = fetch_file(alloc, cab, order, FETCH_MAX, 0)?;
             let token = fetch_file(alloc, cab, token, FETCH_MAX, 1)?;
             present(alloc, order.bytes(), token.bytes(), now)
+        }
+        Command::Convert { form, token } => {
+            let file = fetch_file(alloc, cab, token, FETCH_MAX, 0)?;
+            convert(alloc, form, file.bytes())
         }
     }
 }

@@ -1,8 +1,10 @@
+use Rattle.std.proofs.Common.{Err, ap}
 use Rattle.sdjwt_cli.proofs.Refusals.{form_condition}
 use Rattle.sdjwt_cli.proofs.split.split.Goals as goal
 
-pub returns-in_ok-refusal_line-in-Err-clause-refuses :
-    goal.returns-in_ok-refusal_line-in-Err-clause-refuses
-returns-in_ok-refusal_line-in-Err-clause-refuses c =
-    let numbered = form_condition c.args.file.now c.in-Err.fault c.in-Err.ensures.err in
-    record { fault = c.in-Err.fault; refused = c.in-Err.ensures.err; line_is = c.in_ok-refusal_line-in-Err.ensures numbered.0 numbered.1 }
+pub returns-in-Err-Fault-clause-refuses : goal.returns-in-Err-Fault-clause-refuses
+returns-in-Err-Fault-clause-refuses c =
+    let fault = c.in-Err-Fault.fault in
+    let refused = c.in-Err-Fault.ensures.refused fault (ap Err c.in-Err-Fault.field-0-is) in
+    let numbered = form_condition c.args.file.now fault refused in
+    record { fault = fault; refused = refused; line_is = c.in_ok-refusal_line-in-Err-Fault.ensures numbered.0 numbered.1 }

@@ -1,6 +1,6 @@
 use Rattle.std.proofs.Common.{[], ◌∷◌, ◌+◌, refl}
 use Rattle.compact_form.specs.declared.limits.TheConstants.{FILE_MAX}
-use Rattle.sdjwt_cli.specs.Command.{split, show, verify, issue, present}
+use Rattle.sdjwt_cli.specs.Command.{split, show, verify, issue, present, convert}
 use Rattle.sdjwt_cli.specs.declared.issue.TheConstants.{SEED_LEN}
 use Rattle.sdjwt_cli.specs.Answers.{AreFetched}
 use Rattle.sdjwt_cli.proofs.Lifts.{fetched_as, lift_gives, lift_refuses, lift_unreadable}
@@ -114,3 +114,18 @@ pub returns-in_ok-token-in-Present-clause-unreadable :
     goal.returns-in_ok-token-in-Present-clause-unreadable
 returns-in_ok-token-in-Present-clause-unreadable g c =
     rw c.in-Present.is (lift_unreadable (g.C.Cabinet.holds c.args.cab.now) (present c.in-Present.order.now c.in-Present.token.now) (c.bytes-in-Present.result.now ∷ c.bytes-in-Present-2.result.now ∷ []) (both_told g c) c.args.now c.present.result c.present.ensures.unreadable)
+
+pub returns-in_ok-file-in-Convert-clause-gives : goal.returns-in_ok-file-in-Convert-clause-gives
+returns-in_ok-file-in-Convert-clause-gives g c =
+    let held = g.C.Cabinet.holds c.args.cab.now in
+    let name = c.in-Convert.token.now in
+    let file = fetched_as (held name) (held name) (FILE_MAX + 1) c.in_ok-file-in-Convert.file c.bytes-in-Convert.result.now refl c.bytes-in-Convert.ensures c.in_ok-file-in-Convert.ensures.content in
+    rw c.in-Convert.is (lift_gives held (convert c.in-Convert.form name) (c.bytes-in-Convert.result.now ∷ []) (file, tt) c.args.now c.convert.result c.convert.ensures.converts)
+
+pub returns-in_ok-file-in-Convert-clause-refuses :
+    goal.returns-in_ok-file-in-Convert-clause-refuses
+returns-in_ok-file-in-Convert-clause-refuses g c =
+    let held = g.C.Cabinet.holds c.args.cab.now in
+    let name = c.in-Convert.token.now in
+    let file = fetched_as (held name) (held name) (FILE_MAX + 1) c.in_ok-file-in-Convert.file c.bytes-in-Convert.result.now refl c.bytes-in-Convert.ensures c.in_ok-file-in-Convert.ensures.content in
+    rw c.in-Convert.is (lift_refuses held (convert c.in-Convert.form name) (c.bytes-in-Convert.result.now ∷ []) (file, tt) c.args.now c.convert.result c.convert.ensures.refuses)

@@ -1,0 +1,34 @@
+-- The command `convert` has one verdict over a file.
+use Rattle.std.proofs.Common.{◌≡◌, ◌<◌, ◌≤◌, ℕ, List, length, ap, ◌∙◌, sym, subst, arith}
+use Rattle.compact_form.specs.declared.fault.Fault.{Fault}
+use Rattle.compact_form.specs.declared.limits.TheConstants.{FILE_MAX}
+use Rattle.json_form.specs.declared.token.Token.{Token}
+use Rattle.json_form.proofs.Tokens as tokens
+use Rattle.sdjwt_cli.specs.declared.form.Form.{Form}
+use Rattle.sdjwt_cli.specs.Lines.{line, refusal}
+use Rattle.sdjwt_cli.specs.Converting.{written, Converts, IsConvertRefused, unread, too_much, DoesNotConvert}
+use Rattle.sdjwt_cli.specs.Answers.{Verdict, gives, refuses, unreadable, ConvertAnswers}
+
+one_line : (form : Form) (file a b : List ℕ) → Converts form file a → Converts form file b → a ≡ b
+one_line form file a b g h = g.line_is ∙ (ap (λ (t : Token). line (written form t)) (tokens.one file g.token h.token g.reads h.reads) ∙ sym h.line_is)
+
+no_refusal : (form : Form) (file a : List ℕ) (f : Fault) → Converts form file a → IsConvertRefused form file f → ⊥
+no_refusal form file a f g (unread r) = tokens.not_both file g.token f g.reads r
+no_refusal form file a f g (too_much t r long e) =
+    let over : FILE_MAX < length (line (written form g.token)) = subst (λ (x : Token). FILE_MAX < length (line (written form x))) (tokens.one file t g.token r g.reads) long in
+    omega (arith, over, g.short, ap length g.line_is)
+
+one_fault : (form : Form) (file : List ℕ) (f g : Fault) → IsConvertRefused form file f → IsConvertRefused form file g → f ≡ g
+one_fault form file f g (unread r) (unread s) = tokens.one_refusal file f g r s
+one_fault form file f g (unread r) (too_much u s over d) = absurd (tokens.not_both file u f s r)
+one_fault form file f g (too_much t r long e) (unread s) = absurd (tokens.not_both file t g r s)
+one_fault form file f g (too_much t r long e) (too_much u s over d) = e ∙ sym d
+
+pub one_convert : (form : Form) (file : List ℕ) (v w : Verdict) → ConvertAnswers form file v → ConvertAnswers form file w → v ≡ w
+one_convert form file (gives a) (gives b) g h = ap gives (one_line form file a b g h)
+one_convert form file (gives a) (refuses t) g h = absurd (no_refusal form file a h.fault g h.refused)
+one_convert form file (gives a) (unreadable t) g h = absurd h
+one_convert form file (refuses s) (gives b) g h = absurd (no_refusal form file b g.fault h g.refused)
+one_convert form file (refuses s) (refuses t) g h = ap refuses (g.line_is ∙ (ap refusal (one_fault form file g.fault h.fault g.refused h.refused) ∙ sym h.line_is))
+one_convert form file (refuses s) (unreadable t) g h = absurd h
+one_convert form file (unreadable s) w g h = absurd g

@@ -1,0 +1,62 @@
+-- What `convert` writes is read as what it keeps of a token.
+use Rattle.std.proofs.Common.{◌≡◌, ◌≤◌, ℕ, List, length, refl, sym, ap, subst, ◌∙◌}
+use Rattle.claim_tree.specs.Tree.{Tree, object, Members, no_members}
+use Rattle.compact_form.specs.declared.limits.TheConstants.{FILE_MAX}
+use Rattle.compact_form.specs.declared.conditions.TheConstants.{TOO_MUCH}
+use Rattle.compact_form.specs.declared.fault.Place.TheVariants.{Nowhere}
+use Rattle.json_form.specs.declared.token.Token.{Token}
+use Rattle.json_form.specs.Token.{IsToken, IsTooMuch, too_much}
+use Rattle.json_form.specs.Written.{IsPrintable, flat_of, general_of}
+use Rattle.json_form.proofs.Lines.{read_compact_line, read_json_line}
+use Rattle.sdjwt_cli.specs.declared.form.Form.{Form}
+use Rattle.sdjwt_cli.specs.declared.form.Form.TheVariants.{Compact, Flat, General}
+use Rattle.sdjwt_cli.specs.Lines.{line}
+use Rattle.sdjwt_cli.specs.Converting.{written, kept, HasRoom, IsWritten, Converts}
+
+abbrev members_of : Tree → Members
+members_of (object ms) = ms
+members_of _ = no_members
+
+not_much : (file : List ℕ) (token : Token) → IsToken file token → IsTooMuch token.parts → ⊥
+not_much file token reads much = reads.passes (record { number = TOO_MUCH; place = Nowhere }) (too_much token refl reads.spells much)
+
+read_back : (form : Form) (file : List ℕ) (token : Token) → IsToken file token → IsPrintable token → IsWritten form token (written form token) → length (line (written form token)) ≤ FILE_MAX
+    → IsToken (line (written form token)) (kept form token)
+read_back Compact file token reads good is short = read_compact_line token.parts good.words (not_much file token reads)
+read_back Flat file token reads good is short = read_json_line token (members_of (flat_of token)) is short (not_much file token reads)
+read_back General file token reads good is short = read_json_line token (members_of (general_of token)) is short (not_much file token reads)
+
+pub converts : (form : Form) (file : List ℕ) (token : Token) (text answer : List ℕ) → IsToken file token → IsPrintable token → text ≡ written form token → (HasRoom form token → IsWritten form token text)
+    → answer ≡ line text → length answer ≤ FILE_MAX → Converts form file answer
+converts form file token text answer reads good is back line_is short =
+    let whole : answer ≡ line (written form token) = line_is ∙ ap line is in
+    record {
+      token = token;
+      reads = reads;
+      line_is = whole;
+      short = short;
+      back = λ room. subst (λ (x : List ℕ). IsToken x (kept form token)) (sym whole)
+          (read_back form file token reads good (subst (IsWritten form token) is (back room)) (subst (λ (x : List ℕ). length x ≤ FILE_MAX) whole short));
+    }
+
+-- ---- the same form again
+
+kept_again : (form : Form) (token : Token) → written form (kept form token) ≡ written form token
+kept_again Compact token = refl
+kept_again Flat token = refl
+kept_again General token = refl
+
+kept_twice : (form : Form) (token : Token) → kept form (kept form token) ≡ kept form token
+kept_twice Compact token = refl
+kept_twice Flat token = refl
+kept_twice General token = refl
+
+pub converted_again : (form : Form) (file answer : List ℕ) (read : Converts form file answer) → HasRoom form read.token → Converts form answer answer
+converted_again form file answer read room =
+    record {
+      token = kept form read.token;
+      reads = read.back room;
+      line_is = read.line_is ∙ ap line (sym (kept_again form read.token));
+      short = read.short;
+      back = λ again. subst (IsToken answer) (sym (kept_twice form read.token)) (read.back room);
+    }

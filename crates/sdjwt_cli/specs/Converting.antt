@@ -1,0 +1,59 @@
+-- The command `convert`: a token in another serialization, and when it refuses one.
+use Rattle.std.specs.Prelude.{◌≡◌, ◌<◌, ◌≤◌, ℕ, List, length}
+use Rattle.claim_tree.specs.Tree.{no_members, members_depth}
+use Rattle.claim_tree.specs.JsonText.{json_text}
+use Rattle.compact_form.specs.declared.limits.TheConstants.{FILE_MAX}
+use Rattle.compact_form.specs.declared.conditions.TheConstants.{TOO_MUCH}
+use Rattle.compact_form.specs.declared.fault.Fault.{Fault}
+use Rattle.compact_form.specs.declared.fault.Place.TheVariants.{Nowhere}
+use Rattle.compact_form.specs.Compact.{compact}
+use Rattle.json_form.specs.declared.token.Token.{Token}
+use Rattle.json_form.specs.Token.{IsRefused, IsToken}
+use Rattle.json_form.specs.Json.{IsJson}
+use Rattle.json_form.specs.Written.{flat_of, general_of}
+use Rattle.sdjwt_cli.specs.declared.form.Form.{Form}
+use Rattle.sdjwt_cli.specs.declared.form.Form.TheVariants.{Compact, Flat, General}
+use Rattle.sdjwt_cli.specs.Lines.{line, refusal}
+
+-- a token in a form: the JSON ones keep the other members of its unprotected header, which the compact one has no place for
+abbrev pub written : Form → Token → List ℕ
+written Compact token = compact token.parts
+written Flat token = json_text (flat_of token)
+written General token = json_text (general_of token)
+
+-- what is written of a token in a form
+abbrev pub kept : Form → Token → Token
+kept Compact token = record { parts = token.parts; outer = no_members }
+kept Flat token = token
+kept General token = token
+
+-- the general form has four levels around the other members of the unprotected header, two more than the flattened one, and no more than 127 are read
+abbrev pub HasRoom : Form → Token → Type 0
+HasRoom General token = members_depth token.outer ≤ 123
+HasRoom form token = Unit {0}
+
+-- the file is a token in one of its serializations, and this is the line of it in this form, which is no longer than a file may be. It
+-- is a file of what is kept of the token
+pub record Converts (form : Form) (file answer : List ℕ) : Type 0 where
+  pub token : Token
+  pub reads : IsToken file token
+  pub line_is : answer ≡ line (written form token)
+  pub short : length answer ≤ FILE_MAX
+  pub back : HasRoom form token → IsToken answer (kept form token)
+
+-- the lowest condition that fails: of the file, or that what would be written is longer than a file may be
+pub data IsConvertRefused (form : Form) (file : List ℕ) (fault : Fault) : Type 0 where
+  unread : IsRefused file fault → IsConvertRefused form file fault
+  too_much : (token : Token) → IsToken file token → FILE_MAX < length (line (written form token)) → fault ≡ record { number = TOO_MUCH; place = Nowhere } → IsConvertRefused form file fault
+
+-- the file is refused, with this line
+pub record DoesNotConvert (form : Form) (file text : List ℕ) : Type 0 where
+  pub fault : Fault
+  pub refused : IsConvertRefused form file fault
+  pub line_is : text ≡ refusal fault
+
+-- for private functions: the text of a JSON form is a serialization of the token
+abbrev pub IsWritten : Form → Token → List ℕ → Type 0
+IsWritten Compact token text = Unit {0}
+IsWritten Flat token text = IsJson token text
+IsWritten General token text = IsJson token text

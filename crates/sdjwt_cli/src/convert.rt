@@ -1,0 +1,49 @@
+// The command `convert`: a token in another serialization.
+ghost use Rattle.std.specs.Prelude.{◌≡◌, IfOk, IfErr, string_bytes};
+ghost use Rattle.json_form.specs.Written.{IsPrintable};
+ghost use Rattle.sdjwt_cli.specs.Converting.{written, HasRoom, IsWritten, Converts, DoesNotConvert};
+ghost use Rattle.sdjwt_cli.specs.Stops.{OnRefused, OnUnread, OnUnreadable};
+
+use crate::form::Form;
+use crate::lines::{as_line, refusal_line};
+use crate::stop::Stop;
+use compact_form::{FILE_MAX, Fault, Place, TOO_MUCH, print};
+use json_form::{Token, TokenError, print_flat, print_general, read_token};
+use sd_outside::{NoMemory, TextBox};
+use std::alloc::Global;
+
+// The text of a token in a form.
+fn write_as(alloc: Global, form: Form, token: &Token) -> Result<TextBox, NoMemory>
+    requires printable { IsPrintable token.now }
+    ensures text { IfOk result (λ text. text ≡ written form token.now) }
+    ensures back { HasRoom form token.now → IfOk result (IsWritten form token.now) }
+{
+    match form {
+        Form::Compact => print(alloc, &token.parts),
+        Form::Flat => print_flat(alloc, token),
+        Form::General => print_general(alloc, token),
+    }
+}
+
+/// The answer to a token file: its token in a form, as a line.
+pub(crate) fn convert(alloc: Global, form: Form, file: &[u8]) -> Result<String, Stop>
+    ensures converts { IfOk result (λ text. Converts form file.now (string_bytes text)) }
+    ensures refuses { IfErr result (λ stop. OnRefused stop (DoesNotConvert form file.now)) }
+    ensures read { IfErr result (λ stop. OnUnread stop (λ _. ⊥)) }
+    ensures readable { IfErr result (λ stop. OnUnreadable stop (λ _. ⊥)) }
+{
+    let token = match read_token(alloc, file) {
+        Ok(token) => token,
+        Err(TokenError::Memory) => return Err(Stop::Memory),
+        Err(TokenError::Fault(fault)) => return Err(Stop::Refused(refusal_line(alloc, &fault)?)),
+    };
+    let text = as_line(write_as(alloc, form, &token)?)?;
+    if text.len() > FILE_MAX {
+        let fault = Fault {
+            number: TOO_MUCH,
+            place: Place::Nowhere,
+        };
+        return Err(Stop::Refused(refusal_line(alloc, &fault)?));
+    }
+    Ok(text)
+}

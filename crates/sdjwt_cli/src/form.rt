@@ -1,0 +1,27 @@
+ghost use Rattle.std.specs.Prelude.{◌≡◌};
+ghost use Rattle.sdjwt_cli.specs.Forms.{form_of};
+
+// A serialization of a token: the compact one, or a JSON one, flattened or general.
+#[derive(Clone, Copy, Debug)]
+pub(crate) enum Form {
+    Compact,
+    Flat,
+    General,
+}
+
+impl Form {
+    // The form of a word.
+    pub(crate) fn of(word: &str) -> Option<Form>
+        ensures { result ≡ form_of word.now }
+    {
+        if word == "compact" {
+            Some(Form::Compact)
+        } else if word == "flat" {
+            Some(Form::Flat)
+        } else if word == "general" {
+            Some(Form::General)
+        } else {
+            None
+        }
+    }
+}
