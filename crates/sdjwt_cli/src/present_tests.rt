@@ -91,6 +91,7 @@ o: {"payload":{"a":[],"b":{},"n":[1,2]},"hide":["/n/1"],"decoys":[{"at":"","coun
 o: {"payload":{"c":{"d":[{}]},"e":true},"hide":["/c","/c/d","/e"],"decoys":[{"at":"/c","count":2},{"at":"/c/d","count":2},{"at":"/c/d/0","count":2}],"key":"<K1>"}; a: {"keys":<S1>,"want":["/c/d/0"]}; issue o s > t; present a t > q; verify p q = 0 {"c":{"d":[{}]}}|
 o: {"payload":{"f":false,"n":null,"s":"ü","w":-5},"hide":["/f","/n","/s","/w"],"key":"<K1>"}; a: {"keys":<S1>,"want":["/n","/w","/f"]}; issue o s > t; present a t > q; verify p q = 0 {"f":false,"n":null,"w":-5}|
 o: {"payload":{"iss":"i","o":{"x":1}},"hide":["/o/x"],"key":"<K1>"}; a: {"keys":<S1>,"want":["/iss",""]}; issue o s > t; present a t > q; verify p q = 0 {"iss":"i","o":{}}|
+o: {"payload":{"a":1,"b":2},"hide":["/a","/b"],"key":"<K1>"}; a: {"keys":<S1>,"want":["/b"]}; issue o s > t; convert general t > g; present a g > q; convert flat q > f; verify p f = 0 {"b":2}|
 o: {"payload":<99*{"a":>1<99*}>,"hide":[<90^/a>],"key":"<K1>"}; a: {"keys":<S1>,"want":["<99*/a>"]}; issue o s > t; present a t > q; verify p q = 0 <99*{"a":>1<99*}>|
 o: {"payload":<99*{"a":>1<99*}>,"hide":[<90^/a>],"key":"<K1>"}; a: {"keys":<S1>,"want":["<89*/a>"]}; issue o s > t; present a t > q; verify p q = 0 <89*{"a":>{}<89*}>|
 o: {"payload":{"n":[0<4095*,0>]},"hide":[<4095*"/n/#",>"/n/4095"],"key":"<K1>"}; a: {"keys":<S1>,"want":["/n/7","/n/4095"]}; issue o s > t; present a t > q; verify p q = 0 {"n":[0,0]}|"#;
