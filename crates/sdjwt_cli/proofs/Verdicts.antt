@@ -6,9 +6,9 @@ use Rattle.std.specs.Io.KnownBytes.{Appends}
 use Rattle.sd_outside.specs.Causes.{Rose}
 use Rattle.sd_outside.specs.declared.status.Status.{Status}
 use Rattle.sd_outside.specs.declared.status.Status.TheVariants.{Done, Refused, Usage, Unread, Unwritten, Memory, Unreadable}
-use Rattle.sdjwt_cli.specs.Command.{Command, split, show, verify, issue, present, convert, command_of, Wanted, wanted_by}
 use Rattle.json_form.specs.declared.token.Token.{Token}
 use Rattle.json_form.proofs.Tokens as tokens
+use Rattle.sdjwt_cli.specs.Command.{Command, split, show, verify, issue, present, convert, command_of, Wanted, wanted_by}
 use Rattle.sdjwt_cli.specs.Lines.{refusal}
 use Rattle.sdjwt_cli.specs.Split.{split_lines}
 use Rattle.sdjwt_cli.specs.Answers.{Verdict, gives, refuses, unreadable, SplitAnswers, ShowAnswers, Answers, AreFetched, AreTold, IsAnswered}
