@@ -179,6 +179,19 @@ impl<'a> View<'a> {
         self.hashed
     }
 
+    /// The same view once more.
+    pub fn copy(&self) -> View<'a>
+        ensures { result ≡ self.now }
+    {
+        View {
+            signed: self.signed,
+            disclosures: self.disclosures,
+            count: self.count,
+            hashed: self.hashed,
+            binding: self.binding,
+        }
+    }
+
     /// A copy of the parts.
     pub fn to_parts(&self, alloc: Global) -> Result<Parts, NoMemory>
         ensures { IfOk result (λ parts. parts ≡ self.now) }

@@ -11,9 +11,6 @@ use Rattle.compact_form.specs.declared.parts.JwtParts.{JwtParts}
 use Rattle.compact_form.specs.declared.parts.Parts.{Parts}
 use Rattle.disclosure.specs.declared.digests.HashAlg.{HashAlg}
 use Rattle.hmac_sign.specs.Signatures.{Meaning}
-use Rattle.disclosure.specs.Digest.{payload_hash}
-use Rattle.jws_part.proofs.Parts.{one_body}
-use Rattle.compact_form.proofs.Verdicts as files
 use Rattle.json_form.proofs.Tokens as tokens
 use Rattle.json_form.specs.Token.{IsToken}
 use Rattle.json_form.specs.declared.token.Token.{Token}
@@ -24,15 +21,14 @@ use Rattle.marked_tree.specs.Marked.{Marked, strip}
 use Rattle.marked_tree.specs.Places.{Path, place}
 use Rattle.selection_core.specs.Consent.{Answers, Allows, AllAllowed, IsRefusedAt}
 use Rattle.selection_core.specs.Refusals.{IsMissing}
-use Rattle.verifier_core.specs.Verdict.{TokenFails, IsBindingMissing, HasHash}
-use Rattle.verifier_core.specs.declared.policy.Policy.{Policy}
-use Rattle.verifier_core.proofs.Verdicts.{one_opening, token_lowest}
-use Rattle.verifier_core.proofs.OneVerdict.{one_lowest}
+use Rattle.verifier_core.specs.Verdict.{TokenFails}
+use Rattle.verifier_core.proofs.Verdicts.{one_opening, one_hash}
+use Rattle.verifier_core.proofs.OneVerdict.{one_token_fault}
 use Rattle.holder_core.specs.declared.ask.Ask.{Ask}
 use Rattle.holder_core.specs.declared.ask.BindingAsk.{BindingAsk}
 use Rattle.holder_core.specs.declared.errors.PresentError.{PresentError}
 use Rattle.holder_core.specs.declared.errors.PresentError.TheVariants.{Memory, Token as OnCondition, HasBinding, NoSuchPlace, ConsentRefused, BindingKeyDiffers, SignFailed, TooLong}
-use Rattle.holder_core.specs.Present.{picked, shown, rules_of, IsHeld, IsAgreed, NamesKey, IsBoundWith, IsBoundAs, IsAnswer, IsNotThere, IsDenied, IsKeyOther, IsTooLong, Refuses, IsPresented, IsNotPresented, not_read, refused}
+use Rattle.holder_core.specs.Present.{picked, shown, rules_of, IsHeld, IsAgreed, NamesKey, IsBoundWith, IsBoundAs, IsAnswer, IsNotThere, IsDenied, IsKeyOther, IsTooLong, Refuses, IsPresented, IsNotPresented, no_memory, not_read, refused}
 
 -- the rule does not both allow and refuse a place
 abbrev pub IsDecided : {F : Type 0} → Answers F → F → Type 0
@@ -41,12 +37,6 @@ IsDecided answers rule = (at : Path) → Allows answers rule at true → Allows 
 -- no two signatures of a text are good
 abbrev pub HasOneSignature : Meaning → Type 0
 HasOneSignature good = (head body one other : List ℕ) → good head body one → good head body other → one ≡ other
-
-one_hash : (token : Token) (a b : HashAlg) → HasHash token a → HasHash token b → a ≡ b
-one_hash token a b (body, is_body, named) (other, is_other, also) =
-    let same : body ≡ other = one_body token.parts.signed.payload body other is_body is_other in
-    let both : Some a ≡ Some b = sym named ∙ (ap payload_hash same ∙ also) in
-    cc both
 
 -- ---- key binding
 
@@ -94,17 +84,11 @@ refused_one answers rule decided m s i j h k = go (either i j)
     go (inr (inr same)) = same
 
 module _ {F : Type 0} (answers : Answers F) (rule : F) (decided : IsDecided answers rule) (content : Text) (token : Token) (is : IsToken content token) (ask : Ask) (good : Meaning) (once : HasOneSignature good) (now : ℕ) where
-  abbrev policy : Policy
-  policy = record { keys = ask.keys; algs = codes "HS256" ∷ []; typ = None; iss = None; require = []; skew = 0; binding = None }
-
-  not_missing : IsBindingMissing policy token.parts → ⊥
-  not_missing h = let e = h.1 in cc e
-
   one_marked : (m n : Marked) → IsHeld token ask m → IsHeld token ask n → m ≡ n
-  one_marked m n h k = one_opening content policy now token is m n h.checked.opens k.checked.opens
+  one_marked m n h k = one_opening token m n h.checked.opens k.checked.opens
 
   one_fault : (f g : Fault) → IsLowest (TokenFails token (rules_of ask.keys)) f → IsLowest (TokenFails token (rules_of ask.keys)) g → f ≡ g
-  one_fault f g h k = one_lowest content policy now f g (token_lowest content policy now token is not_missing f h) (token_lowest content policy now token is not_missing g k)
+  one_fault f g h k = one_token_fault token (rules_of ask.keys) f g h k
 
   -- the answer is one
   pub one_answer : (a b : Parts) → IsAnswer answers rule token ask good now a → IsAnswer answers rule token ask good now b → a ≡ b
@@ -217,12 +201,16 @@ module _ {F : Type 0} (answers : Answers F) (rule : F) (decided : IsDecided answ
       k.is_answer
 
   pub presented_not_refused : (a : Parts) (e : PresentError) → IsPresented answers rule content ask good now a → length (compact a) ≤ COMPACT_MAX → IsNotPresented answers rule content ask good now e → (e ≡ Memory) ⊎ (e ≡ SignFailed)
+  presented_not_refused a e h short (no_memory is) = inl is
   presented_not_refused a e h short (not_read fault is r) = absurd (tokens.not_both content h.token fault h.is_token r)
   presented_not_refused a e h short (refused token is r) =
       answered_not_refused answers rule decided content token is ask good once now a e (subst (λ (t : Token). IsAnswer answers rule t ask good now a) (tokens.one content h.token token h.is_token is) h.is_answer) short r
 
   pub one_cause : (e o : PresentError) → e ≢ Memory → e ≢ SignFailed → o ≢ Memory → o ≢ SignFailed → IsNotPresented answers rule content ask good now e → IsNotPresented answers rule content ask good now o → e ≡ o
-  one_cause e o a b c d (not_read f is r) (not_read g also q) = is ∙ (ap OnCondition (files.one_fault content f g r q) ∙ sym also)
+  one_cause e o a b c d (no_memory is) k = absurd (a is)
+  one_cause e o a b c d (not_read f is r) (no_memory also) = absurd (c also)
+  one_cause e o a b c d (refused token there r) (no_memory also) = absurd (c also)
+  one_cause e o a b c d (not_read f is r) (not_read g also q) = is ∙ (ap OnCondition (tokens.one_refusal content f g r q) ∙ sym also)
   one_cause e o a b c d (not_read f is r) (refused token there q) = absurd (tokens.not_both content token f there r)
   one_cause e o a b c d (refused token there r) (not_read g is q) = absurd (tokens.not_both content token g there q)
   one_cause e o a b c d (refused token there r) (refused other here q) =

@@ -148,8 +148,10 @@ Refuses answers rule token ask good now BindingKeyDiffers = IsKeyOther answers r
 Refuses answers rule token ask good now SignFailed = IsToBeSigned answers rule token ask
 Refuses answers rule token ask good now TooLong = IsTooLong answers rule token ask good now
 
--- why nothing is presented of a text: it is no token, by the lowest of the conditions 1 to 3, or its token is refused
+-- why nothing is presented of a text: it is no token, by the lowest of the conditions 1 to 3, or its token is refused; want of memory says
+-- nothing
 pub data IsNotPresented {F : Type 0} (answers : Answers F) (rule : F) (content : Text) (ask : Ask) (good : Meaning) (now : ℕ) (error : PresentError) : Type 0 where
+  no_memory : error ≡ Memory → IsNotPresented answers rule content ask good now error
   not_read : (fault : Fault) → error ≡ OnCondition fault → file.IsRefused content fault → IsNotPresented answers rule content ask good now error
   refused : (token : Token) → IsToken content token → Refuses answers rule token ask good now error → IsNotPresented answers rule content ask good now error
 

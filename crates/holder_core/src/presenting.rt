@@ -15,17 +15,18 @@ ghost use Rattle.marked_tree.specs.Marked.{strip};
 ghost use Rattle.marked_tree.specs.Numbers.{has};
 ghost use Rattle.marked_tree.specs.View.{marked_of};
 ghost use Rattle.verifier_core.specs.Verdict.{TokenFails, IsChecked, HasHash};
-ghost use Rattle.verifier_core.specs.Check.{IsCounted, IsCountedWithin, IsReadWithin, IsUncounted, compact};
+ghost use Rattle.verifier_core.specs.Check.{IsCounted, IsCountedWithin, IsReadWithin, IsUncounted};
 ghost use Rattle.holder_core.specs.Present.{rules_of, picked, shown, IsHeld, IsAnswer, Refuses, IsPresented, IsNotPresented, NamesKey, OnToken};
 ghost use Rattle.holder_core.specs.Presenting.{IsUnchecked, IsUnchosen, IsChosen, IsOtherKey, IsReady, IsUnready, IsUnsigned, IsFinished, IsUnfinished};
 ghost use Rattle.holder_core.specs.declared.errors.PresentError.{PresentError};
 
 use crate::{Ask, BindingAsk, PresentError};
 use claim_tree::{Path, PathList};
-use compact_form::{COMPACT_MAX, Parts, Pieces, View, hashed_text, print, read_view};
+use compact_form::{COMPACT_MAX, Parts, Pieces, View, hashed_text, print};
 use digest_index::Steps;
 use disclosure::HashAlg;
 use hmac_sign::{KeySet, Signer};
+use json_form::{TokenError, TokenText};
 use key_binding::{BindError, bind, holder_kid};
 use marked_tree::{ChosenSet, Marked, into_tree, prune};
 use sd_outside::{NoMemory, TextBox, TextList};
@@ -68,71 +69,72 @@ pub fn present<S: Signer, F: Fn(&Path) -> bool>(
     ensures uncounted { IfErr result (λ e. OnToken e (IsUncounted steps.old steps.new)) }
     ensures unopened { (token : SeenToken) → IsToken text.now token → token.parts.binding ≢ None → steps.new ≡ steps.old }
 {
-    let view = match read_view(text) {
-        Ok(view) => view,
-        Err(fault) => return Err(PresentError::Token(fault)),
+    let token = match TokenText::read(alloc, text) {
+        Ok(token) => token,
+        Err(TokenError::Memory) => return Err(PresentError::Memory),
+        Err(TokenError::Fault(fault)) => return Err(PresentError::Token(fault)),
     };
-    if view.binding().is_some() {
+    if token.view().binding().is_some() {
         return Err(PresentError::HasBinding);
     }
-    present_view(alloc, &view, ask, consent, signer, now, steps)
+    present_token(alloc, &token, ask, consent, signer, now, steps)
 }
 
 // Presents a token that has no key binding token.
-fn present_view<S: Signer, F: Fn(&Path) -> bool>(
+fn present_token<S: Signer, F: Fn(&Path) -> bool>(
     alloc: Global,
-    view: &View<'_>,
+    token: &TokenText<'_>,
     ask: &Ask,
     consent: &Consent<F>,
     signer: &mut S,
     now: u64,
     steps: &mut Steps,
 ) -> Result<Parts, PresentError>
-    requires few { length view.now.disclosures < 2 ^ 32 - 1 }
-    requires words { AreWords view.now }
-    requires unbound { view.now.binding ≡ None }
+    requires few { length token.now.parts.disclosures < 2 ^ 32 - 1 }
+    requires words { AreWords token.now.parts }
+    requires unbound { token.now.parts.binding ≡ None }
     requires hs256 { S.alg_of signer.old ≡ Alg.Hs256 }
     requires callable { F.IsAlwaysCallable consent.now }
-    ensures answer { IfOk result (IsAnswer F.Fn consent.now (compact view.now) ask.now (S.good signer.old) now) }
+    ensures answer { IfOk result (IsAnswer F.Fn consent.now token.now ask.now (S.good signer.old) now) }
     ensures words { IfOk result AreWords }
     ensures short { IfOk result (λ answer. length (compact_text answer) ≤ COMPACT_MAX) }
-    ensures refused { IfErr result (Refuses F.Fn consent.now (compact view.now) ask.now (S.good signer.old) now) }
+    ensures refused { IfErr result (Refuses F.Fn consent.now token.now ask.now (S.good signer.old) now) }
     ensures failed { IsErrOf result PresentError.SignFailed → Rose (S.faults signer.old) (S.faults signer.new) }
     ensures unasked { ask.now.binding ≡ None → signer.new ≡ signer.old }
     ensures same_good { Agree (S.good signer.new) (S.good signer.old) }
     ensures same_alg { S.alg_of signer.new ≡ S.alg_of signer.old }
     ensures later { S.faults signer.old ≤ S.faults signer.new }
-    ensures counted { IfOk result (λ _. IsCounted (compact view.now) steps.old steps.new) }
-    ensures within { IsCountedWithin (compact view.now) steps.old steps.new }
+    ensures counted { IfOk result (λ _. IsCounted token.now steps.old steps.new) }
+    ensures within { IsCountedWithin token.now steps.old steps.new }
     ensures uncounted { IfErr result (λ e. OnToken e (IsUncounted steps.old steps.new)) }
 {
-    let checked = match check_held(alloc, view, &ask.keys, steps) {
+    let checked = match check_held(alloc, token, &ask.keys, steps) {
         Ok(checked) => checked,
         Err(error) => return Err(error),
     };
-    present_checked(alloc, view, &checked, ask, consent, signer, now)
+    present_checked(alloc, token, &checked, ask, consent, signer, now)
 }
 
 // Presents a token that is checked.
 fn present_checked<S: Signer, F: Fn(&Path) -> bool>(
     alloc: Global,
-    view: &View<'_>,
+    token: &TokenText<'_>,
     checked: &Checked,
     ask: &Ask,
     consent: &Consent<F>,
     signer: &mut S,
     now: u64,
 ) -> Result<Parts, PresentError>
-    requires few { length view.now.disclosures < 2 ^ 32 - 1 }
-    requires words { AreWords view.now }
-    requires held { IsHeld (compact view.now) ask.now (marked_of checked.now.marked) }
-    requires hash { HasHash (compact view.now) checked.now.hash }
+    requires few { length token.now.parts.disclosures < 2 ^ 32 - 1 }
+    requires words { AreWords token.now.parts }
+    requires held { IsHeld token.now ask.now (marked_of checked.now.marked) }
+    requires hash { HasHash token.now checked.now.hash }
     requires hs256 { S.alg_of signer.old ≡ Alg.Hs256 }
     requires callable { F.IsAlwaysCallable consent.now }
-    ensures answer { IfOk result (IsAnswer F.Fn consent.now (compact view.now) ask.now (S.good signer.old) now) }
+    ensures answer { IfOk result (IsAnswer F.Fn consent.now token.now ask.now (S.good signer.old) now) }
     ensures words { IfOk result AreWords }
     ensures short { IfOk result (λ answer. length (compact_text answer) ≤ COMPACT_MAX) }
-    ensures refused { IfErr result (Refuses F.Fn consent.now (compact view.now) ask.now (S.good signer.old) now) }
+    ensures refused { IfErr result (Refuses F.Fn consent.now token.now ask.now (S.good signer.old) now) }
     ensures unread { IfErr result (λ e. OnToken e (λ _. ⊥)) }
     ensures failed { IsErrOf result PresentError.SignFailed → Rose (S.faults signer.old) (S.faults signer.new) }
     ensures unasked { ask.now.binding ≡ None → signer.new ≡ signer.old }
@@ -140,7 +142,7 @@ fn present_checked<S: Signer, F: Fn(&Path) -> bool>(
     ensures same_alg { S.alg_of signer.new ≡ S.alg_of signer.old }
     ensures later { S.faults signer.old ≤ S.faults signer.new }
 {
-    let unbound = match choose_parts(alloc, view, &checked.marked, ask, consent) {
+    let unbound = match choose_parts(alloc, token, &checked.marked, ask, consent) {
         Ok(parts) => parts,
         Err(error) => return Err(error),
     };
@@ -150,18 +152,18 @@ fn present_checked<S: Signer, F: Fn(&Path) -> bool>(
 // The token with the disclosures that are asked for, if nothing is refused.
 fn choose_parts<F: Fn(&Path) -> bool>(
     alloc: Global,
-    view: &View<'_>,
+    token: &TokenText<'_>,
     marked: &Marked,
     ask: &Ask,
     consent: &Consent<F>,
 ) -> Result<Parts, PresentError>
-    requires few { length view.now.disclosures < 2 ^ 32 - 1 }
-    requires words { AreWords view.now }
-    requires held { IsHeld (compact view.now) ask.now (marked_of marked.now) }
+    requires few { length token.now.parts.disclosures < 2 ^ 32 - 1 }
+    requires words { AreWords token.now.parts }
+    requires held { IsHeld token.now ask.now (marked_of marked.now) }
     requires callable { F.IsAlwaysCallable consent.now }
-    ensures ready { IfOk result (IsReady F.Fn consent.now (compact view.now) ask.now (marked_of marked.now)) }
+    ensures ready { IfOk result (IsReady F.Fn consent.now token.now ask.now (marked_of marked.now)) }
     ensures words { IfOk result AreWords }
-    ensures refused { IfErr result (IsUnready F.Fn consent.now (compact view.now) ask.now) }
+    ensures refused { IfErr result (IsUnready F.Fn consent.now token.now ask.now) }
 {
     let chosen = match choose_allowed(alloc, marked, &ask.want, consent) {
         Ok(chosen) => chosen,
@@ -170,7 +172,7 @@ fn choose_parts<F: Fn(&Path) -> bool>(
     if let Err(error) = check_key(alloc, &ask.binding, marked, &chosen) {
         return Err(error);
     }
-    Ok(picked_parts(alloc, view, &chosen)?)
+    Ok(picked_parts(alloc, &token.view(), &chosen)?)
 }
 
 // The parts with the key binding token that is asked for, unless they are too long.
@@ -208,21 +210,22 @@ fn finish<S: Signer>(
 // The conditions 5 to 21, but 8.
 fn check_held(
     alloc: Global,
-    view: &View<'_>,
+    token: &TokenText<'_>,
     keys: &KeySet,
     steps: &mut Steps,
 ) -> Result<Checked, PresentError>
-    requires few { length view.now.disclosures < 2 ^ 32 - 1 }
-    ensures checked { IfOk result (λ c. IsChecked (compact view.now) (rules_of keys.now) (marked_of c.marked)) }
-    ensures hash { IfOk result (λ c. HasHash (compact view.now) c.hash) }
-    ensures refused { IfErr result (IsUnchecked (compact view.now) (rules_of keys.now)) }
-    ensures counted { IfOk result (λ _. IsCounted (compact view.now) steps.old steps.new) }
-    ensures within { IsCountedWithin (compact view.now) steps.old steps.new }
+    requires few { length token.now.parts.disclosures < 2 ^ 32 - 1 }
+    ensures checked { IfOk result (λ c. IsChecked token.now (rules_of keys.now) (marked_of c.marked)) }
+    ensures hash { IfOk result (λ c. HasHash token.now c.hash) }
+    ensures refused { IfErr result (IsUnchecked token.now (rules_of keys.now)) }
+    ensures counted { IfOk result (λ _. IsCounted token.now steps.old steps.new) }
+    ensures within { IsCountedWithin token.now steps.old steps.new }
     ensures uncounted { IfErr result (λ e. OnToken e (IsUncounted steps.old steps.new)) }
 {
     let mut algs = TextList::new(alloc);
     algs.push(TextBox::make(alloc, "HS256")?)?;
-    match check_view(alloc, view, keys, &algs, None, steps) {
+    let view = token.view();
+    match check_view(alloc, &view, token.outer(), keys, &algs, None, steps) {
         Ok(checked) => Ok(checked),
         Err(VerifyError::Memory) => Err(PresentError::Memory),
         Err(VerifyError::Fault(fault)) => Err(PresentError::Token(fault)),

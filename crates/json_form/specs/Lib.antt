@@ -3,3 +3,5 @@ pub mod Json
 pub mod PlaceTable
 pub mod Written
 pub mod Reading
+pub mod Source
+pub mod Code

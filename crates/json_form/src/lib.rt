@@ -1,7 +1,8 @@
 //! Tokens as they come from a file, in the serializations of RFC 9901.
 //!
 //! [`read_token`] reads the compact serialization (section 4) and, where a text begins with `{`, the JSON ones, flattened
-//! and general (section 8). [`parse_json`] reads these alone; [`print_flat`] and [`print_general`] write them.
+//! and general (section 8). [`TokenText`] does the same without a copy of a compact text. [`parse_json`] reads the JSON ones
+//! alone; [`print_flat`] and [`print_general`] write them.
 #![tactic(auto)]
 
 mod entries;
@@ -15,9 +16,11 @@ mod printing;
 #[cfg(test)]
 mod tests;
 mod token;
+mod token_text;
 mod values;
 
 pub use json_error::JsonFormError;
 pub use json_text::parse_json;
 pub use printing::{print_flat, print_general};
 pub use token::{Token, TokenError, read_token};
+pub use token_text::TokenText;

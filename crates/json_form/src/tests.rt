@@ -1,4 +1,4 @@
-use crate::{Token, TokenError, print_flat, read_token};
+use crate::{Token, TokenError, TokenText, print_flat, read_token};
 use compact_form::{
     COMPACT_MAX, COUNT_MAX, FILE_MAX, FORM, Fault, JsonPlace, Part, Place, TOO_LONG, TOO_MUCH,
 };
@@ -31,6 +31,25 @@ fn each_form_is_read_and_written_flattened(rt: HostRuntime) -> Result<(), Fail> 
             return Err("refused".into());
         };
         assert_eq!(rt; print_flat(alloc, &token)?.as_str(), flat);
+    }
+    Ok(())
+}
+
+#[test]
+fn the_parts_of_each_form_stand_in_one_text(rt: HostRuntime) -> Result<(), Fail> {
+    for (text, members) in [
+        ("\r\n a.b.c~d~ee~e.f.g\t", 0),
+        (
+            r#" {"protected":"a","payload":"b","signature":"c","header":{"kid":"k","kb_jwt":"e.f.g","disclosures":["d","ee"]}}"#,
+            1,
+        ),
+    ] {
+        let token = TokenText::read(rt.alloc(), text.as_bytes()).map_err(|_| "refused")?;
+        let view = token.view();
+        assert_eq!(rt; view.hashed(), "a.b.c~d~ee~");
+        assert_eq!(rt; view.count(), 2);
+        assert_eq!(rt; view.binding().ok_or("no binding")?.payload, "f");
+        assert_eq!(rt; token.outer().len(), members);
     }
     Ok(())
 }

@@ -1,17 +1,11 @@
-ghost use Rattle.std.specs.Prelude.{◌≡◌, ◌↔◌, true, false, IfOk, IsErrOf, IsTrue};
-ghost use Rattle.compact_form.specs.Compact.{AreWords};
-ghost use Rattle.compact_form.specs.Token.{is_json as is_json_test};
-ghost use Rattle.compact_form.specs.Trim.{trimmed};
+ghost use Rattle.std.specs.Prelude.{◌≡◌, IfOk, IsErrOf};
 ghost use Rattle.compact_form.specs.declared.fault.Fault.{Fault as TheFault};
-ghost use Rattle.json_form.specs.Token.{IsToken, IsRefused, IsTooMuch};
+ghost use Rattle.json_form.specs.Token.{IsToken, IsRefused};
 ghost use Rattle.json_form.specs.Written.{IsPrintable};
 
-use crate::{JsonFormError, parse_json};
+use crate::{JsonFormError, TokenText};
 use claim_tree::TreeMap;
-use compact_form::{
-    COMPACT_MAX, COUNT_MAX, FILE_MAX, FORM, Fault, Parts, Place, TOO_LONG, TOO_MUCH, is_json,
-    print, read_view, trim,
-};
+use compact_form::{FORM, Fault, Parts, Place};
 use sd_outside::NoMemory;
 use std::alloc::Global;
 
@@ -70,56 +64,6 @@ impl From<JsonFormError> for TokenError {
     }
 }
 
-// The token of a compact text, with the blanks around it.
-fn read_compact(alloc: Global, text: &[u8]) -> Result<Token, TokenError>
-    requires plain { is_json_test (trimmed text.now) ≡ false }
-    ensures ok { IfOk result (IsToken text.now) }
-    ensures printable { IfOk result IsPrintable }
-    ensures refused { (fault : TheFault) → IsErrOf result (TokenError.Fault fault) → IsRefused text.now fault }
-{
-    let parts = read_view(text)?.to_parts(alloc)?;
-    Ok(Token {
-        parts,
-        outer: TreeMap::new(alloc),
-    })
-}
-
-// Whether the parts are more than a token may have.
-fn is_too_much(alloc: Global, parts: &Parts) -> Result<bool, NoMemory>
-    requires words { AreWords parts.now }
-    ensures { IfOk result (λ much. IsTrue much ↔ IsTooMuch parts.now) }
-{
-    if parts.disclosures.len() > COUNT_MAX {
-        return Ok(true);
-    }
-    let text = print(alloc, parts)?;
-    Ok(text.as_str().len() > COMPACT_MAX)
-}
-
-// The token of a JSON text with the blanks around it, `trimmed` being the text between them.
-fn read_json(alloc: Global, text: &[u8], json: &[u8]) -> Result<Token, TokenError>
-    requires between { json.now ≡ trimmed text.now }
-    requires json { is_json_test json.now ≡ true }
-    ensures ok { IfOk result (IsToken text.now) }
-    ensures printable { IfOk result IsPrintable }
-    ensures refused { (fault : TheFault) → IsErrOf result (TokenError.Fault fault) → IsRefused text.now fault }
-{
-    if text.len() > FILE_MAX {
-        return Err(TokenError::Fault(Fault {
-            number: TOO_LONG,
-            place: Place::Nowhere,
-        }));
-    }
-    let token = parse_json(alloc, json)?;
-    if is_too_much(alloc, &token.parts)? {
-        return Err(TokenError::Fault(Fault {
-            number: TOO_MUCH,
-            place: Place::Nowhere,
-        }));
-    }
-    Ok(token)
-}
-
 /// The token of a text as it comes from a file, or the lowest condition of 1 to 3 that fails.
 ///
 /// The blanks at both ends are cut off first. A text that then begins with `{` is a JSON serialization, flattened or
@@ -129,10 +73,9 @@ pub fn read_token(alloc: Global, text: &[u8]) -> Result<Token, TokenError>
     ensures printable { IfOk result IsPrintable }
     ensures refused { (fault : TheFault) → IsErrOf result (TokenError.Fault fault) → IsRefused text.now fault }
 {
-    let token = trim(text);
-    if is_json(token) {
-        read_json(alloc, text, token)
-    } else {
-        read_compact(alloc, text)
-    }
+    let token = match TokenText::read(alloc, text) {
+        Ok(token) => token,
+        Err(error) => return Err(error),
+    };
+    Ok(token.into_token(alloc)?)
 }

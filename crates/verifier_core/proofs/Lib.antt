@@ -7,5 +7,6 @@ pub mod CheckSteps
 pub mod CheckTests
 pub mod Verdicts
 pub mod OneVerdict
+pub mod ContentFacts
 mod Examples
 pub mod BindingPolicies

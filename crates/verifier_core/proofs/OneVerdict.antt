@@ -96,6 +96,14 @@ token_place token rules audience_differs place h = absurd h
 token_place token rules hash_differs place h = absurd h
 token_place token rules binding_time place h = absurd h
 
+-- the lowest condition on a token is one
+pub one_token_fault : (token : Token) (rules : Rules) (f g : Fault) → IsLowest (TokenFails token rules) f → IsLowest (TokenFails token rules) g → f ≡ g
+one_token_fault token rules f g l m =
+    let one = one_failed (TokenFails token rules) f g l m in
+    let at_g = subst (λ (c : Condition). Suits (has_number c) g.place) one.0 (token_place token rules m.failed g.place m.fails) in
+    let places : f.place ≡ g.place = one_place (has_number l.failed) f.place g.place (token_place token rules l.failed f.place l.fails) at_g one.1.0 one.1.1 in
+    ap₂ fault_of (one_number (TokenFails token rules) f g l m) places
+
 claim_place : (payload : Tree) (policy : Policy) (now : ℕ) (c : Condition) (place : Place) → ClaimFails payload policy now c place → Suits (has_number c) place
 claim_place payload policy now too_long place h = absurd h
 claim_place payload policy now form place h = absurd h
@@ -217,4 +225,4 @@ module _ (content : List ℕ) (policy : Policy) (now : ℕ) where
   pub one_accepted : (m n : Marked) → IsAccepted content policy now m → IsAccepted content policy now n → m ≡ n
   one_accepted m n a b =
       let same : a.token ≡ b.token = tokens.one content a.token b.token a.is_token b.is_token in
-      one_opening content policy now b.token b.is_token m n (subst (λ (t : Token). Opens t m) same a.opens) b.opens
+      one_opening b.token m n (subst (λ (t : Token). Opens t m) same a.opens) b.opens

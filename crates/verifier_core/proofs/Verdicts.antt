@@ -141,6 +141,19 @@ module _ (parts : Parts) (payload : Tree) (hash : HashAlg) (policy : Policy) (no
   none_shown claims holder c place (inl h) = claims c place h
   none_shown claims holder c place (inr h) = holder c place h
 
+-- ---- what a token says is one
+
+pub one_opening : (token : Token) (m n : Marked) → Opens token m → Opens token n → m ≡ n
+one_opening token m n (p, g, has, e) (q, h, other, f) =
+    let same = one_content token p q g h has other in
+    e ∙ (ap₂ (λ (t : Tree) (xs : List Given). processed t xs) same.0 same.1 ∙ sym f)
+
+pub one_hash : (token : Token) (a b : HashAlg) → HasHash token a → HasHash token b → a ≡ b
+one_hash token a b (body, is_body, named) (other, is_other, also) =
+    let same : body ≡ other = one_body token.parts.signed.payload body other is_body is_other in
+    let both : Some a ≡ Some b = sym named ∙ (ap payload_hash same ∙ also) in
+    cc both
+
 module _ (content : List ℕ) (policy : Policy) (now : ℕ) (token : Token) (is : IsToken content token) where
   -- a key binding token that is asked for and missing
   pub missing_lowest : IsBindingMissing policy token.parts → IsLowest (Fails content policy now) (unplaced 4)
@@ -152,17 +165,6 @@ module _ (content : List ℕ) (policy : Policy) (now : ℕ) (token : Token) (is 
       go other place (of_token t there h) = let numbers = token_numbers t (rules_of policy) other place h in inl numbers.0
       go other place (of_claims t marked there opens h) = let numbers = claim_numbers (strip marked) policy now other place h in inl (omega (arith, numbers.0))
       go other place (of_holder t marked hash there opens has h) = let high = holder_numbers t.parts (strip marked) hash policy now other place h in inl (omega (arith, high))
-
-  pub one_opening : (m n : Marked) → Opens token m → Opens token n → m ≡ n
-  one_opening m n (p, g, has, e) (q, h, other, f) =
-      let same = one_content token p q g h has other in
-      e ∙ (ap₂ (λ (t : Tree) (xs : List Given). processed t xs) same.0 same.1 ∙ sym f)
-
-  one_hash : (a b : HashAlg) → HasHash token a → HasHash token b → a ≡ b
-  one_hash a b (body, is_body, named) (other, is_other, also) =
-      let same : body ≡ other = one_body token.parts.signed.payload body other is_body is_other in
-      let both : Some a ≡ Some b = sym named ∙ (ap payload_hash same ∙ also) in
-      cc both
 
   module _ (sent : IsBindingMissing policy token.parts → ⊥) where
     not_missing : (t : Token) → IsToken content t → (c : Condition) (place : Place) → MissingFails policy t.parts c place → ⊥
@@ -190,14 +192,14 @@ module _ (content : List ℕ) (policy : Policy) (now : ℕ) (token : Token) (is 
       no_token_fault t there c place h = checked.passes c place (subst (λ (x : Token). TokenFails x (rules_of policy) c place) (tokens.one content t token there is) h)
 
       same_claims : (t : Token) (m : Marked) → IsToken content t → Opens t m → m ≡ marked
-      same_claims t m there opens = one_opening m marked (subst (λ (x : Token). Opens x m) (tokens.one content t token there is) opens) checked.opens
+      same_claims t m there opens = one_opening token m marked (subst (λ (x : Token). Opens x m) (tokens.one content t token there is) opens) checked.opens
 
       module _ (hash : HashAlg) (has : HasHash token hash) where
         same_holder : (t : Token) (m : Marked) (other : HashAlg) (c : Condition) (place : Place) → IsToken content t → Opens t m → HasHash t other
             → HolderFails t.parts (strip m) other policy now c place → HolderFails token.parts (strip marked) hash policy now c place
         same_holder t m other c place there opens names h =
             let token_same = tokens.one content t token there is in
-            let hash_same = one_hash other hash (subst (λ (x : Token). HasHash x other) token_same names) has in
+            let hash_same = one_hash token other hash (subst (λ (x : Token). HasHash x other) token_same names) has in
             subst (λ (a : HashAlg). HolderFails token.parts (strip marked) a policy now c place) hash_same
             (subst (λ (x : Marked). HolderFails token.parts (strip x) other policy now c place) (same_claims t m there opens)
             (subst (λ (x : Token). HolderFails x.parts (strip m) other policy now c place) token_same h))

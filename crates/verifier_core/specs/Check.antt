@@ -39,6 +39,10 @@ asked keys algs typ = record { keys = keys; algs = algs; typ = typ }
 abbrev pub compact : Parts → Token
 compact parts = record { parts = parts; outer = no_members }
 
+-- a token of these parts and this unprotected header
+abbrev pub token_of : Parts → Members → Token
+token_of parts outer = record { parts = parts; outer = outer }
+
 -- the look-ups of a token that is checked
 abbrev pub IsCounted : Token → ℕ → ℕ → Type 0
 IsCounted token old new = (payload : Tree) × (given : List Given) × HasContent token payload given × (new ≡ counted old (look_ups payload given))

@@ -13,7 +13,7 @@ ghost use Rattle.rebuild_core.specs.Given.{look_ups, counted, RoseWithin};
 ghost use Rattle.rebuild_core.specs.Opening.{processed};
 ghost use Rattle.rebuild_core.specs.Payload.{without_alg};
 ghost use Rattle.verifier_core.specs.Verdict.{TokenFails, IsChecked, IsCheckedAs, HasContent, HasHash};
-ghost use Rattle.verifier_core.specs.Check.{OnFault, IsCounted, IsCountedWithin, IsUncounted, IsUnopened, asked, compact, placed, refusal_of};
+ghost use Rattle.verifier_core.specs.Check.{OnFault, IsCounted, IsCountedWithin, IsUncounted, IsUnopened, asked, token_of, placed, refusal_of};
 ghost use Rattle.compact_form.specs.Lowest.{IsLowest, Passes};
 ghost use Rattle.verifier_core.specs.declared.check.VerifyError.{VerifyError};
 
@@ -146,24 +146,24 @@ fn read_content(
 fn view_content(
     alloc: Global,
     view: &View<'_>,
+    outer: &TreeMap,
     keys: &KeySet,
     algs: &TextList,
     typ: Option<&TextBox>,
 ) -> Result<Content, VerifyError>
-    ensures passes { IfOk result (λ _. Passes 14 (TokenFails (compact view.now) (asked keys.now algs.now (option_copied typ.entry)))) }
-    ensures content { IfOk result (λ c. HasContent (compact view.now) (without_alg (tree_of c.body)) c.given) }
-    ensures hash { IfOk result (λ c. HasHash (compact view.now) c.hash) }
+    ensures passes { IfOk result (λ _. Passes 14 (TokenFails (token_of view.now outer.now) (asked keys.now algs.now (option_copied typ.entry)))) }
+    ensures content { IfOk result (λ c. HasContent (token_of view.now outer.now) (without_alg (tree_of c.body)) c.given) }
+    ensures hash { IfOk result (λ c. HasHash (token_of view.now outer.now) c.hash) }
     ensures payload { IfOk result (λ c. IsPayload (tree_of c.body)) }
     ensures body_depth { IfOk result (λ c. depth_of (tree_of c.body) ≤ 127) }
     ensures body_range { IfOk result (λ c. IsRanged (tree_of c.body)) }
     ensures values_depth { IfOk result (λ c. ValuesShallow c.given) }
     ensures values_range { IfOk result (λ c. ValuesRanged c.given) }
     ensures as_many { IfOk result (λ c. length c.given ≡ length view.now.disclosures) }
-    ensures refused { IfErr result (λ e. OnFault e (IsLowest (TokenFails (compact view.now) (asked keys.now algs.now (option_copied typ.entry))))) }
+    ensures refused { IfErr result (λ e. OnFault e (IsLowest (TokenFails (token_of view.now outer.now) (asked keys.now algs.now (option_copied typ.entry))))) }
 {
     let signed = view.signed();
-    let outer = TreeMap::new(alloc);
-    if let Err(error) = check_signed(alloc, signed, &outer, keys, algs, typ) {
+    if let Err(error) = check_signed(alloc, signed, outer, keys, algs, typ) {
         return Err(error);
     }
     let (body, hash) = match read_payload(alloc, signed.payload) {
@@ -268,24 +268,25 @@ pub fn check_token(
 pub fn check_view(
     alloc: Global,
     view: &View<'_>,
+    outer: &TreeMap,
     keys: &KeySet,
     algs: &TextList,
     typ: Option<&TextBox>,
     steps: &mut Steps,
 ) -> Result<Checked, VerifyError>
     requires few { length view.now.disclosures < 2 ^ 32 - 1 }
-    ensures checked { IfOk result (λ c. IsChecked (compact view.now) (asked keys.now algs.now (option_copied typ.entry)) (marked_of c.marked)) }
+    ensures checked { IfOk result (λ c. IsChecked (token_of view.now outer.now) (asked keys.now algs.now (option_copied typ.entry)) (marked_of c.marked)) }
     ensures payload { IfOk result (λ c. tree_of c.payload ≡ strip_of (marked_of c.marked)) }
     ensures ranged { IfOk result (λ c. IsRanged (tree_of c.payload)) }
-    ensures hash { IfOk result (λ c. HasHash (compact view.now) c.hash) }
-    ensures refused { IfErr result (λ e. OnFault e (IsLowest (TokenFails (compact view.now) (asked keys.now algs.now (option_copied typ.entry))))) }
+    ensures hash { IfOk result (λ c. HasHash (token_of view.now outer.now) c.hash) }
+    ensures refused { IfErr result (λ e. OnFault e (IsLowest (TokenFails (token_of view.now outer.now) (asked keys.now algs.now (option_copied typ.entry))))) }
 
     // the look-ups
-    ensures counted { IfOk result (λ _. IsCounted (compact view.now) steps.old steps.new) }
-    ensures within { IsCountedWithin (compact view.now) steps.old steps.new }
+    ensures counted { IfOk result (λ _. IsCounted (token_of view.now outer.now) steps.old steps.new) }
+    ensures within { IsCountedWithin (token_of view.now outer.now) steps.old steps.new }
     ensures uncounted { IfErr result (λ e. OnFault e (IsUncounted steps.old steps.new)) }
 {
-    let content = match view_content(alloc, view, keys, algs, typ) {
+    let content = match view_content(alloc, view, outer, keys, algs, typ) {
         Ok(content) => content,
         Err(error) => return Err(error),
     };
@@ -296,21 +297,22 @@ pub fn check_view(
 pub(crate) fn checked_payload(
     alloc: Global,
     view: &View<'_>,
+    outer: &TreeMap,
     keys: &KeySet,
     algs: &TextList,
     typ: Option<&TextBox>,
     steps: &mut Steps,
 ) -> Result<CheckedPayload, VerifyError>
     requires few { length view.now.disclosures < 2 ^ 32 - 1 }
-    ensures checked { IfOk result (λ c. IsCheckedAs (compact view.now) (asked keys.now algs.now (option_copied typ.entry)) (tree_of c.payload)) }
+    ensures checked { IfOk result (λ c. IsCheckedAs (token_of view.now outer.now) (asked keys.now algs.now (option_copied typ.entry)) (tree_of c.payload)) }
     ensures ranged { IfOk result (λ c. IsRanged (tree_of c.payload)) }
-    ensures hash { IfOk result (λ c. HasHash (compact view.now) c.hash) }
-    ensures refused { IfErr result (λ e. OnFault e (IsLowest (TokenFails (compact view.now) (asked keys.now algs.now (option_copied typ.entry))))) }
-    ensures counted { IfOk result (λ _. IsCounted (compact view.now) steps.old steps.new) }
-    ensures within { IsCountedWithin (compact view.now) steps.old steps.new }
+    ensures hash { IfOk result (λ c. HasHash (token_of view.now outer.now) c.hash) }
+    ensures refused { IfErr result (λ e. OnFault e (IsLowest (TokenFails (token_of view.now outer.now) (asked keys.now algs.now (option_copied typ.entry))))) }
+    ensures counted { IfOk result (λ _. IsCounted (token_of view.now outer.now) steps.old steps.new) }
+    ensures within { IsCountedWithin (token_of view.now outer.now) steps.old steps.new }
     ensures uncounted { IfErr result (λ e. OnFault e (IsUncounted steps.old steps.new)) }
 {
-    let content = match view_content(alloc, view, keys, algs, typ) {
+    let content = match view_content(alloc, view, outer, keys, algs, typ) {
         Ok(content) => content,
         Err(error) => return Err(error),
     };

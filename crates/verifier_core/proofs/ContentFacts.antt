@@ -1,0 +1,65 @@
+-- What a token says where no condition fails: its content is sound, and the names in it ascend.
+use Rattle.std.proofs.Common.{◌≡◌, ◌<◌, ◌≤◌, ℕ, List, [], ◌∷◌, Option, Some, None, inl, inr, refl, sym, subst, arith}
+use Rattle.std.proofs.Math.Nat.{lt_of_not-le}
+use Rattle.std.specs.List.{AllZip}
+use Rattle.claim_tree.specs.Tree.{Text, Tree, leaf, array, object, depth, IsOrdered}
+use Rattle.claim_tree.specs.Lists.{In}
+use Rattle.claim_tree.proofs.MapPlaces.{ordered-removed}
+use Rattle.claim_tree.proofs.ReadOrdered.{reads_ordered}
+use Rattle.compact_form.specs.declared.fault.Place.TheVariants.{Nowhere, At}
+use Rattle.compact_form.specs.Condition as condition
+use Rattle.compact_form.specs.Lowest.{NoneFails}
+use Rattle.digest_sites.specs.Given.{Given}
+use Rattle.disclosure.specs.declared.digests.HashAlg.{HashAlg}
+use Rattle.disclosure.specs.Disclosure.{array_of}
+use Rattle.json_form.specs.declared.token.Token.{Token}
+use Rattle.marked_tree.specs.Marked.{strip}
+use Rattle.rebuild_core.specs.Conditions.{IsSound}
+use Rattle.rebuild_core.specs.Laws.{IsReadable}
+use Rattle.rebuild_core.specs.Opening.{processed}
+use Rattle.rebuild_core.specs.Payload.{alg_name, without_alg}
+use Rattle.verifier_core.specs.Verdict.{Rules, TokenFails, HasContent, Gives}
+
+-- ---- what is read has ascending names
+
+payload_ordered : (t : Tree) → IsOrdered t → IsOrdered (without_alg t)
+payload_ordered (leaf l) o = tt
+payload_ordered (array es) o = o
+payload_ordered (object ms) o = ordered-removed ms alg_name o
+
+value_ordered : (salt : Tree) (name : Option Text) (value : Tree) → IsOrdered (array_of salt name value) → IsOrdered value
+value_ordered salt None value o = o.1.0
+value_ordered salt (Some name) value o = o.1.1.0
+
+values_ordered : (hash : HashAlg) (ds : List Text) (g : List Given) → AllZip (Gives hash) ds g → (x : Given) → In x g → IsOrdered x.value
+values_ordered hash [] [] all x there = absurd there
+values_ordered hash [] (y ∷ g) all x there = absurd all
+values_ordered hash (d ∷ ds) [] all x there = absurd there
+values_ordered hash (d ∷ ds) (y ∷ g) all x (inl same) =
+    let read = all.0.2.reads in
+    subst (λ (z : Given). IsOrdered z.value) (sym same) (value_ordered all.0.1 y.name y.value (reads_ordered all.0.2.json (array_of all.0.1 y.name y.value) read))
+values_ordered hash (d ∷ ds) (y ∷ g) all x (inr there) = values_ordered hash ds g all.1 x there
+
+pub content_readable : (token : Token) (p : Tree) (g : List Given) → HasContent token p g → IsReadable p g
+content_readable token p g has = record {
+  in_payload = subst IsOrdered (sym has.payload_is) (payload_ordered has.body (reads_ordered has.is_body.carried.bytes has.body has.is_body.carried.reads));
+  in_values = values_ordered has.hash token.parts.disclosures g has.disclosures;
+}
+
+-- ---- no condition fails
+
+pub content_sound : (token : Token) (rules : Rules) (p : Tree) (g : List Given) → HasContent token p g → NoneFails (TokenFails token rules) → IsSound p g
+content_sound token rules p g has none = record {
+  referenced = record {
+    no_repeated_disclosure = λ i h. none condition.repeated_disclosure (At i) (i, refl, (p, g, has, h));
+    no_misuse = λ i h. none condition.reserved_misused (At i) (i, refl, (p, g, has, h));
+    no_repeated_digest = λ i h. none condition.repeated_digest (At i) (i, refl, (p, g, has, h));
+    no_unreferenced = λ i h. none condition.unreferenced_disclosure (At i) (i, refl, (p, g, has, h));
+  };
+  named = record {
+    no_wrong_shape = λ i h. none condition.wrong_shape (At i) (i, refl, (p, g, has, h));
+    no_reserved_name = λ i h. none condition.reserved_name (At i) (i, refl, (p, g, has, h));
+    no_name_clash = λ i h. none condition.name_clash (At i) (i, refl, (p, g, has, h));
+  };
+  shallow = (let low = lt_of_not-le (λ more. none condition.too_deep Nowhere (refl, (p, g, has, more))) in omega (arith, low));
+}
