@@ -12,6 +12,7 @@ pub mod Verdicts
 mod GatheredParts
 mod Absent
 pub mod Printed
+pub mod Trimmed
 pub mod Examples
 pub mod Numbers
 pub mod Lowest

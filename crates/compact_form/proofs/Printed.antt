@@ -68,7 +68,7 @@ hashed_is_front parts text is =
 
 -- ---- the printed text is read as it stands
 
-no_blank : (b : ℕ) → is_letter b ≡ true → is_blank b ≡ false
+pub no_blank : (b : ℕ) → is_letter b ≡ true → is_blank b ≡ false
 unfolding is_letter letters
 no_blank b h = rw (other_byte b 32 h refl, other_byte b 9 h refl, other_byte b 10 h refl, other_byte b 13 h refl) refl
 

@@ -6,3 +6,4 @@ pub mod OneForm
 mod WordLists
 mod EntryLists
 pub mod Tokens
+pub mod Lines

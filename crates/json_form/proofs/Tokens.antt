@@ -50,7 +50,7 @@ not_both text token fault h refused = h.passes fault refused.fails
 
 -- ---- one fault
 
-spelled_well : (text : List ℕ) (t : Token) (place : Place) → Spells text t → IsMisformed text place → ⊥
+pub spelled_well : (text : List ℕ) (t : Token) (place : Place) → Spells text t → IsMisformed text place → ⊥
 spelled_well text t place (spells_compact plainly is none) (no_compact stop again refused at) = refused.no_parts t.parts is
 spelled_well text t place (spells_compact plainly is none) (no_json at json fault named) = clash (is_json text) json plainly
 spelled_well text t place (spells_json json is) (no_compact stop plainly refused at) = clash (is_json text) json plainly
@@ -145,7 +145,7 @@ printable_plainly text token reads none =
 
 -- ---- a JSON text
 
-short_text : (text : List ℕ) → is_json (trimmed text) ≡ true → length text ≤ FILE_MAX → is_too_long text ≡ false
+pub short_text : (text : List ℕ) → is_json (trimmed text) ≡ true → length text ≤ FILE_MAX → is_too_long text ≡ false
 short_text text json short = rw (json, le-ltb FILE_MAX (length text) short) refl
 
 long_json : (text : List ℕ) → FILE_MAX < length text → is_too_long text ≡ true

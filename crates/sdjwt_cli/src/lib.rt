@@ -4,16 +4,14 @@
 //! for standard output or the reason why there are none.
 #![tactic(auto)]
 
-#[cfg(test)]
-mod bound_tests;
 mod command;
 mod issue;
 #[cfg(test)]
 mod issue_tests;
-#[cfg(test)]
-mod issued_tests;
 pub mod laws;
 mod lines;
+#[cfg(test)]
+mod rows;
 mod show;
 mod split;
 mod stop;

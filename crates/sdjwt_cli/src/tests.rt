@@ -1,208 +1,82 @@
-use super::run;
-use crate::verify_tests::POLICY;
-use sd_outside::{ByteBox, Cabinet, Failed, FetchError, MemCabinet, MemSink, Sink, Status};
+use crate::rows::{words_of, wrong_rows};
+use crate::run;
+use sd_outside::{ByteBox, Cabinet, Failed, FetchError, Sink};
 use std::alloc::Global;
 use std::test::Fail;
 
-// What a run left.
-#[derive(Drop)]
-pub(crate) struct Ran {
-    pub(crate) status: Status,
-    pub(crate) out: MemSink,
-    pub(crate) err: MemSink,
-    pub(crate) cabinet: MemCabinet,
-}
-
-fn words_of(alloc: Global, words: &[&str]) -> Result<Vec<String>, Fail> {
-    let mut list = Vec::new(alloc);
-    for word in words {
-        list.push(String::from_str(alloc, word)?)?;
-    }
-    Ok(list)
-}
-
-// A run of these words over this cabinet at a moment, with so much room on `out`.
-pub(crate) fn over_at(
-    alloc: Global,
-    words: &[&str],
-    cabinet: MemCabinet,
-    now: u64,
-    room: usize,
-) -> Result<Ran, Fail> {
-    let words = words_of(alloc, words)?;
-    let mut cabinet = cabinet;
-    let mut out = MemSink::new(alloc, room)?;
-    let mut err = MemSink::new(alloc, 100)?;
-    let status = run(
-        alloc,
-        words.as_slice(),
-        &mut cabinet,
-        now,
-        &mut out,
-        &mut err,
-    );
-    Ok(Ran {
-        status,
-        out,
-        err,
-        cabinet,
-    })
-}
-
-fn over(alloc: Global, words: &[&str], cabinet: MemCabinet, room: usize) -> Result<Ran, Fail> {
-    over_at(alloc, words, cabinet, 0, room)
-}
-
-// `split t` over a cabinet that holds this text under `t`.
-fn split(alloc: Global, text: &[u8], room: usize) -> Result<Ran, Fail> {
-    let mut cabinet = MemCabinet::new(alloc);
-    cabinet.add("t", b"another")?;
-    cabinet.add("t", text)?;
-    over(alloc, &["split", "t"], cabinet, room)
-}
-
-// `show t` over a cabinet that holds this text under `t`.
-fn show(alloc: Global, text: &[u8]) -> Result<Ran, Fail> {
-    let mut cabinet = MemCabinet::new(alloc);
-    cabinet.add("t", text)?;
-    over(alloc, &["show", "t"], cabinet, 1000)
-}
+const TOKENS_ARE_SPLIT: &str = r#"t: a.b.c~; split t = 0 protected a|payload b|signature c|
+t: | a.b.c~d~e.f.g|; split t = 0 protected a|payload b|signature c|disclosure 0 d|binding e.f.g|
+t: A-_9.b0.zZ~dd~eee~f~ ; split t = 0 protected A-_9|payload b0|signature zZ|disclosure 0 dd|disclosure 1 eee|disclosure 2 f|
+t: ; split t = 1 refused 2 form at 0|
+t: a.b.c; split t = 1 refused 2 form at 5|
+t: a.b.c~~; split t = 1 refused 2 form at 6|
+t: a.b.c~d=~; split t = 1 refused 2 form at 7|
+t: a.b.c~d.e.f~; split t = 1 refused 2 form at 11|
+t: a.b.c~<4096*a~>; split t = 0 protected a|payload b|signature c|<4096*disclosure # a|>
+t: a.b.c~<4097*a~>; split t = 1 refused 3 tooMuch|
+t: <1048577*a>; split t = 1 refused 1 tooLong|"#;
 
 #[test]
 fn tokens_are_split(rt: HostRuntime) -> Result<(), Fail> {
-    for (text, out) in [
-        ("a.b.c~", "protected a\npayload b\nsignature c\n"),
-        (
-            "\n a.b.c~d~e.f.g\n",
-            "protected a\npayload b\nsignature c\ndisclosure 0 d\nbinding e.f.g\n",
-        ),
-        (
-            "\t\r\n A-_9.b0.zZ~dd~eee~f~ \t",
-            "protected A-_9\npayload b0\nsignature zZ\ndisclosure 0 dd\ndisclosure 1 eee\ndisclosure 2 f\n",
-        ),
-    ] {
-        let ran = split(rt.alloc(), text.as_bytes(), 1000)?;
-        assert_eq!(rt; ran.status, Status::Done, "{text}");
-        assert_eq!(rt; ran.out.written(), out.as_bytes(), "{text}");
-        assert_eq!(rt; ran.err.written(), b"".as_slice(), "{text}");
-        assert_eq!(rt; ran.cabinet.failures(), 0, "{text}");
-    }
+    assert_eq!(rt; wrong_rows(rt.alloc(), "", TOKENS_ARE_SPLIT)?.as_str(), "");
     Ok(())
 }
 
+const TOKENS_ARE_SHOWN_UNCHECKED: &str =
+    r#"t: <NATIONS>~<FR>~; show t = 0 header {"alg":"HS256"}|payload {"nationalities":[{"...":"w0I8EKcdCtUPkGCNUrfwVp2xEgNjtoIDlOxc9-PlOhs"}]}|disclosure 0 w0I8EKcdCtUPkGCNUrfwVp2xEgNjtoIDlOxc9-PlOhs element "FR"|
+t: eyJjcml0IjpbIngiXSwiYWxnIjoiSFMyNTYifQ.eyJfc2RfYWxnIjoic2hhLTI1NiIsIl9zZCI6WyJqc3U5eVZ1bHdRUWxoRmxNXzNKbHpNYVNGemdsaFFHMERwZmF5UXdMVUs0Il19.AA~WyIyR0xDNDJzS1F2ZUNmR2ZyeU5STjl3IiwgImdpdmVuX25hbWUiLCAiSm9obiJd~e.f.g; show t = 0 header {"alg":"HS256","crit":["x"]}|payload {"_sd":["jsu9yVulwQQlhFlM_3JlzMaSFzglhQG0DpfayQwLUK4"],"_sd_alg":"sha-256"}|disclosure 0 jsu9yVulwQQlhFlM_3JlzMaSFzglhQG0DpfayQwLUK4 member "given_name" "John"|binding e.f.g|
+t: a.b; show t = 1 refused 2 form at 3|
+t: W10.e30.AA~; show t = 1 refused 5 headerUnreadable|
+t: eyJ0eXAiOiJhIn0.e30.AA~; show t = 1 refused 5 headerUnreadable|
+t: eyJhbGciOiJIUzI1NiJ9.W10.AA~; show t = 1 refused 11 payloadUnreadable|
+t: eyJhbGciOiJIUzI1NiJ9.eyJfc2RfYWxnIjoibWQ1In0.AA~AB~; show t = 1 refused 12 hashUnknown|
+t: eyJhbGciOiJIUzI1NiJ9.e30.AA~WyJzIl0~; show t = 1 refused 13 disclosureUnreadable at 0|
+t: eyJhbGciOiJIUzI1NiJ9.e30.AA~<FR>~AB~AB~; show t = 1 refused 13 disclosureUnreadable at 1|"#;
+
 #[test]
-fn other_texts_are_refused_at_their_byte(rt: HostRuntime) -> Result<(), Fail> {
-    let texts: [(&[u8], usize); 37] = [
-        (b"", 0),
-        (b" \t\r\n", 0),
-        (b".", 0),
-        (b"~", 0),
-        (b"{}", 0),
-        (b"\xef\xbb\xbfa.b.c~", 0),
-        (b"\xc3\xa9.b.c~", 0),
-        (b"\xff", 0),
-        (b"\0", 0),
-        (b"a", 1),
-        (b"a\0.b.c~", 1),
-        (b"a b.c.d~", 1),
-        (b"a=.b.c~", 1),
-        (b"a~", 1),
-        (b"a.", 2),
-        (b"a..b.c~", 2),
-        (b"a.b", 3),
-        (b"a.b~c~", 3),
-        (b"a.b.", 4),
-        (b"a.b..c~", 4),
-        (b"a.b.~", 4),
-        (b"a.b.c", 5),
-        (b"a.b.c.d~", 5),
-        (b"a.b.c~~", 6),
-        (b"a.b.c~.e.f", 6),
-        (b"a.b.c~\n~", 6),
-        (b"a.b.c~d", 7),
-        (b"a.b.c~d=~", 7),
-        (b"a.b.c~d+~", 7),
-        (b"a.b.c~d~~", 8),
-        (b"a.b.c~d.~", 8),
-        (b"a.b.c~d..f", 8),
-        (b"a.b.c~d.e", 9),
-        (b"a.b.c~d.e~", 9),
-        (b"a.b.c~d.e.", 10),
-        (b"a.b.c~d.e.f~", 11),
-        (b"a.b.c~d.e.f.g", 11),
-    ];
-    for (text, place) in texts {
-        let ran = split(rt.alloc(), text, 1000)?;
-        let line = format!(in rt.alloc(); "refused 2 form at {place}\n")?;
-        assert_eq!(rt; ran.status, Status::Refused, "{line}");
-        assert_eq!(rt; ran.err.written(), line.as_bytes(), "{line}");
-        assert_eq!(rt; ran.out.written(), b"".as_slice(), "{line}");
-    }
+fn tokens_are_shown_unchecked(rt: HostRuntime) -> Result<(), Fail> {
+    assert_eq!(rt;
+        wrong_rows(rt.alloc(), "", TOKENS_ARE_SHOWN_UNCHECKED)?.as_str(),
+        ""
+    );
     Ok(())
 }
 
-// So many bytes of this text.
-fn times(alloc: Global, text: &[u8], piece: &[u8], count: usize) -> Result<Vec<u8>, Fail> {
-    let mut all = text.to_vec(alloc)?;
-    for _ in 0..count {
-        all.extend_from_slice(piece)?;
-    }
-    Ok(all)
-}
+// A bad file beside one that is judged before it is not judged.
+const EACH_STATUS_HAS_ITS_LINE: &str = r#" = 2 usage|
+split = 2 usage|
+split x y = 2 usage|
+Split t = 2 usage|
+show p t = 2 usage|
+verify p = 2 usage|
+verify p t x = 2 usage|
+issue o = 2 usage|
+issue o s x = 2 usage|
+split t = 3 unread 1|
+p: {}; verify p t = 3 unread 2|
+t: a.b.c; verify p t = 3 unread 1|
+o: {}; issue o s = 3 unread 2|
+s: ; issue o s = 3 unread 1|
+t: a.b.c~; room: 10; split t = 4 protected unwritten|
+p: {"keys":<S1>}; t: <NATIONS>~; room: 3; verify p t = 4 {"nunwritten|
+o: {"payload":{},"key":"<K1>"}; s: <Z>; room: 5; issue o s = 4 eyJhbunwritten|
+p: <2097153* >; t: a.b.c; verify p t = 6 unreadable 1 tooLong|
+p: {; t: a.b.c; verify p t = 6 unreadable 1 notJson|
+p: {"skew":1.5}; t: a.b.c; verify p t = 6 unreadable 1 notWhole|
+p: []; t: a.b.c; verify p t = 6 unreadable 1 notObject|
+p: {"bindings":{}}; t: a.b.c; verify p t = 6 unreadable 1 unknown|
+p: {}; t: a.b.c; verify p t = 6 unreadable 1 missing keys|
+p: {"keys":<S1>,"skew":3601}; t: a.b.c; verify p t = 6 unreadable 1 wrong skew|
+o: {"hide":7}; s: ; issue o s = 6 unreadable 1 missing payload|
+o: {"payload":[],"key":"<K1>"}; s: <31*0>; issue o s = 6 unreadable 2 short|
+o: {"payload":[],"key":"<K1>"}; s: <33*0>; issue o s = 1 refused 51 payloadNotObject|"#;
 
 #[test]
-fn limits_hold_to_their_last_byte(rt: HostRuntime) -> Result<(), Fail> {
-    let alloc = rt.alloc();
-    for (text, piece, count, line) in [
-        ("a.b.c~", "a~", 4_096, ""),
-        ("a.b.c~", "a~", 4_097, "refused 3 tooMuch\n"),
-        ("a.b.c~", "a", 1_048_570, "refused 2 form at 1048576\n"),
-        ("a.b.c~", "a", 1_048_571, "refused 1 tooLong\n"),
-        ("", "a", 1_048_577, "refused 1 tooLong\n"),
-        ("a.b.c~", " ", 2_097_146, ""),
-        ("a.b.c~", " ", 2_097_147, "refused 1 tooLong\n"),
-        ("{", " ", 2_097_151, "refused 2 form at 0\n"),
-        ("{", "a", 2_097_151, "refused 2 form at 0\n"),
-        ("{", " ", 2_097_152, "refused 1 tooLong\n"),
-    ] {
-        let text = times(alloc, text.as_bytes(), piece.as_bytes(), count)?;
-        let ran = split(alloc, text.as_slice(), 100_000)?;
-        assert_eq!(rt; ran.err.written(), line.as_bytes(), "{count}");
-        assert_eq!(rt; ran.status == Status::Done, line.is_empty(), "{count}");
-    }
-    Ok(())
-}
-
-#[test]
-fn each_other_status_has_its_line(rt: HostRuntime) -> Result<(), Fail> {
-    let alloc = rt.alloc();
-    let none: &[&str] = &[];
-    for words in [
-        none,
-        &["split"],
-        &["split", "x", "y"],
-        &["Split", "t"],
-        &["verify", "p"],
-        &["verify", "p", "t", "x"],
-        &["Verify", "p", "t"],
-        &["show", "p", "t"],
-        &["issue", "o"],
-        &["issue", "o", "s", "x"],
-        &["Issue", "o", "s"],
-    ] {
-        let ran = over(alloc, words, MemCabinet::new(alloc), 100)?;
-        assert_eq!(rt; ran.status, Status::Usage);
-        assert_eq!(rt; ran.err.written(), b"usage\n".as_slice());
-    }
-    let ran = over(alloc, &["split", "t"], MemCabinet::new(alloc), 100)?;
-    assert_eq!(rt; ran.status, Status::Unread);
-    assert_eq!(rt; ran.err.written(), b"unread 1\n".as_slice());
-    assert_eq!(rt; ran.cabinet.failures(), 1);
-    let ran = split(alloc, b"a.b.c~", 10)?;
-    assert_eq!(rt; ran.status, Status::Unwritten);
-    assert_eq!(rt; ran.out.written(), b"protected ".as_slice());
-    assert_eq!(rt; ran.out.failures(), 1);
-    assert_eq!(rt; ran.err.written(), b"unwritten\n".as_slice());
+fn each_status_has_its_line(rt: HostRuntime) -> Result<(), Fail> {
+    assert_eq!(rt;
+        wrong_rows(rt.alloc(), "", EACH_STATUS_HAS_ITS_LINE)?.as_str(),
+        ""
+    );
     Ok(())
 }
 
@@ -249,97 +123,35 @@ impl Sink for Pieces {
     }
 }
 
+// How often a run of these words fetches a file with this text, how much it asks for at last, and how often it puts a piece on `out`
+// and on `err`.
+fn counts(alloc: Global, words: &str, text: &str) -> Result<String, Fail> {
+    let mut cabinet = Counted {
+        text: text.as_bytes(),
+        fetches: 0,
+        most: 0,
+    };
+    let (mut out, mut err) = (Pieces(0), Pieces(0));
+    let words = words_of(alloc, words)?;
+    let _ = run(alloc, words.as_slice(), &mut cabinet, 0, &mut out, &mut err);
+    let (fetches, most) = (cabinet.fetches, cabinet.most);
+    Ok(format!(in alloc; "{fetches} {most} {} {}", out.0, err.0)?)
+}
+
 #[test]
 fn a_file_is_fetched_once_and_the_answer_is_one_piece(rt: HostRuntime) -> Result<(), Fail> {
-    let alloc = rt.alloc();
-    let cases: [(&[&str], &str, u64, usize, u64, u64); 6] = [
-        (&["split", "t"], "a.b.c~d~", 1, 2_097_153, 1, 0),
-        (&["split", "t"], "a.b.c", 1, 2_097_153, 0, 1),
-        (&["verify", "p", "t"], "{}", 2, 2_097_153, 0, 1),
-        (&["verify", "p", "t"], POLICY, 2, 2_097_153, 0, 1),
-        (&["verify", "t"], "a.b.c~", 0, 0, 0, 1),
-        (&["issue", "o", "s"], "{}", 2, 32, 0, 1),
-    ];
-    for (words, text, fetches, most, out, err) in cases {
-        let words = words_of(alloc, words)?;
-        let mut cabinet = Counted {
-            text: text.as_bytes(),
-            fetches: 0,
-            most: 0,
-        };
-        let (mut pieces, mut lines) = (Pieces(0), Pieces(0));
-        let _ = run(
-            alloc,
-            words.as_slice(),
-            &mut cabinet,
-            0,
-            &mut pieces,
-            &mut lines,
-        );
+    for (words, text, wanted) in [
+        ("split t", "a.b.c~d~", "1 2097153 1 0"),
+        ("split t", "a.b.c", "1 2097153 0 1"),
+        ("verify p t", r#"{"keys":{"keys":[]}}"#, "2 2097153 0 1"),
+        ("verify t", "a.b.c~", "0 0 0 1"),
+        ("issue o s", "{}", "2 32 0 1"),
+    ] {
         assert_eq!(rt;
-            [cabinet.fetches, pieces.0, lines.0],
-            [fetches, out, err],
-            "{text}"
+            counts(rt.alloc(), words, text)?.as_str(),
+            wanted,
+            "{words} {text}"
         );
-        assert_eq!(rt; cabinet.most, most);
-    }
-    Ok(())
-}
-
-#[test]
-fn tokens_are_shown(rt: HostRuntime) -> Result<(), Fail> {
-    for (text, out) in [
-        (
-            "eyJhbGciOiJIUzI1NiJ9.eyJuYXRpb25hbGl0aWVzIjpbeyIuLi4iOiJ3MEk4RUtjZEN0VVBrR0NOVXJmd1ZwMnhFZ05qdG9JRGxPeGM5LVBsT2hzIn1dfQ.AA~WyJsa2x4RjVqTVlsR1RQVW92TU5JdkNBIiwgIkZSIl0~",
-            "header {\"alg\":\"HS256\"}\npayload {\"nationalities\":[{\"...\":\"w0I8EKcdCtUPkGCNUrfwVp2xEgNjtoIDlOxc9-PlOhs\"}]}\ndisclosure 0 w0I8EKcdCtUPkGCNUrfwVp2xEgNjtoIDlOxc9-PlOhs element \"FR\"\n",
-        ),
-        (
-            "eyJjcml0IjpbIngiXSwiYWxnIjoiSFMyNTYifQ.eyJfc2RfYWxnIjoic2hhLTI1NiIsIl9zZCI6WyJqc3U5eVZ1bHdRUWxoRmxNXzNKbHpNYVNGemdsaFFHMERwZmF5UXdMVUs0Il19.AA~WyIyR0xDNDJzS1F2ZUNmR2ZyeU5STjl3IiwgImdpdmVuX25hbWUiLCAiSm9obiJd~e.f.g",
-            "header {\"alg\":\"HS256\",\"crit\":[\"x\"]}\npayload {\"_sd\":[\"jsu9yVulwQQlhFlM_3JlzMaSFzglhQG0DpfayQwLUK4\"],\"_sd_alg\":\"sha-256\"}\ndisclosure 0 jsu9yVulwQQlhFlM_3JlzMaSFzglhQG0DpfayQwLUK4 member \"given_name\" \"John\"\nbinding e.f.g\n",
-        ),
-    ] {
-        let ran = show(rt.alloc(), text.as_bytes())?;
-        assert_eq!(rt; ran.status, Status::Done, "{text}");
-        assert_eq!(rt; ran.out.written(), out.as_bytes(), "{text}");
-    }
-    Ok(())
-}
-
-#[test]
-fn tokens_that_cannot_be_shown_are_refused(rt: HostRuntime) -> Result<(), Fail> {
-    for (text, line) in [
-        ("a.b", "refused 2 form at 3\n"),
-        ("W10.e30.AA~", "refused 5 headerUnreadable\n"),
-        ("eyJ0eXAiOiJhIn0.e30.AA~", "refused 5 headerUnreadable\n"),
-        (
-            "eyJhbGciOiJIUzI1NiJ9.W10.AA~",
-            "refused 11 payloadUnreadable\n",
-        ),
-        (
-            "eyJhbGciOiJIUzI1NiJ9.eyJhIjoxLjV9.AA~",
-            "refused 11 payloadUnreadable\n",
-        ),
-        (
-            "eyJhbGciOiJIUzI1NiJ9.eyJfc2RfYWxnIjoibWQ1In0.AA~",
-            "refused 12 hashUnknown\n",
-        ),
-        (
-            "eyJhbGciOiJIUzI1NiJ9.eyJfc2RfYWxnIjoxfQ.AA~AB~",
-            "refused 12 hashUnknown\n",
-        ),
-        (
-            "eyJhbGciOiJIUzI1NiJ9.e30.AA~WyJzIl0~",
-            "refused 13 disclosureUnreadable at 0\n",
-        ),
-        (
-            "eyJhbGciOiJIUzI1NiJ9.e30.AA~WyJsa2x4RjVqTVlsR1RQVW92TU5JdkNBIiwgIkZSIl0~AB~AB~",
-            "refused 13 disclosureUnreadable at 1\n",
-        ),
-    ] {
-        let ran = show(rt.alloc(), text.as_bytes())?;
-        assert_eq!(rt; ran.status, Status::Refused, "{text}");
-        assert_eq!(rt; ran.err.written(), line.as_bytes(), "{text}");
-        assert!(rt; ran.out.written().is_empty());
     }
     Ok(())
 }
