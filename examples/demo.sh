@@ -39,7 +39,15 @@ show verify policy_binding.json rfc9901_chosen.txt
 show issue seed.txt order.json
 show issue order.json seed.txt
 "$sdjwt" issue order.json seed.txt >"$issued/issued.txt"
-cp policy.json "$issued"
+cp policy.json policy_binding.json present.json present_binding.json present_birthdate.json "$issued"
 cd "$issued"
 show show issued.txt
 show verify policy.json issued.txt
+
+# What its holder shows of it: what was asked for, once without and once with key binding, but never the date of birth.
+show present present.json issued.txt
+show present present_binding.json issued.txt
+"$sdjwt" present present_binding.json issued.txt >shown.txt
+show verify policy_binding.json shown.txt
+show present present_birthdate.json issued.txt
+show present present.json shown.txt

@@ -1,5 +1,5 @@
 -- Worked values, by the definitions.
-use Rattle.std.proofs.Common.{◌≡◌, [], ◌∷◌, Option, Some, None, true, false, codes, refl, sym, arith}
+use Rattle.std.proofs.Common.{◌≡◌, [], ◌∷◌, Option, Some, None, true, false, codes, inl, refl, sym, arith}
 use Rattle.std.specs.Fmt.{digits}
 use Rattle.json.specs.Print.{escape_byte}
 use Rattle.b64url_text.specs.Base64url.{letters, is_letter}
@@ -16,10 +16,13 @@ use Rattle.jws_part.proofs.Examples.{alg_alone, a_head, a_header, sd_alg_alone, 
 use Rattle.jws_part.proofs.Headers.{read_not_unreadable}
 use Rattle.claim_tree.specs.declared.file_fault.Field.TheVariants.{Keys}
 use Rattle.claim_tree.specs.declared.file_fault.FileFault.TheVariants.{NotJson, Missing}
+use Rattle.holder_core.specs.declared.errors.PresentError.TheVariants.{HasBinding, ConsentRefused}
 use Rattle.issuer_core.specs.declared.errors.IssueError.TheVariants.{ReservedName, DigestClash, TooLong as IssueTooLong}
 use Rattle.issuer_core.specs.RefusalLine.{refusal_text}
-use Rattle.sdjwt_cli.specs.Command.{split, verify, issue, command_of}
+use Rattle.sdjwt_cli.specs.Command.{split, verify, issue, present, command_of}
 use Rattle.sdjwt_cli.specs.Lines.{line, refusal, unread, unreadable_line, short_seed}
+use Rattle.sdjwt_cli.specs.Never.{MayBeShown}
+use Rattle.sdjwt_cli.specs.Presenting.{present_refusal}
 use Rattle.sdjwt_cli.specs.Split.{Gives, Refuses}
 use Rattle.sdjwt_cli.specs.Show.{Shown, show_lines, Shows, has_known_hash}
 
@@ -36,6 +39,9 @@ of_two_files = refl
 
 of_an_order : command_of (codes "issue" ∷ codes "order.json" ∷ codes "seed" ∷ []) ≡ Some (issue (codes "order.json") (codes "seed"))
 of_an_order = refl
+
+of_a_present_order : command_of (codes "present" ∷ codes "order.json" ∷ codes "token.txt" ∷ []) ≡ Some (present (codes "order.json") (codes "token.txt"))
+of_a_present_order = refl
 
 one_word_less : command_of (codes "verify" ∷ codes "token.txt" ∷ []) ≡ None
 one_word_less = refl
@@ -78,6 +84,25 @@ at_two_places = refl
 of_a_long_token : line (refusal_text IssueTooLong) ≡ codes "refused 61 issueTooLong\n"
 unfolding digits
 of_a_long_token = refl
+
+of_a_bound_token : present_refusal HasBinding ≡ codes "refused 71 hasBinding\n"
+of_a_bound_token = refl
+
+of_a_refused_place : present_refusal (ConsentRefused 1) ≡ codes "refused 73 consentRefused at 1\n"
+unfolding digits
+of_a_refused_place = refl
+
+-- ---- the rule of consent
+
+-- a path leads to itself and to what is inside it
+not_shown : MayBeShown ((codes "a" ∷ []) ∷ []) (codes "a" ∷ codes "b" ∷ []) → ⊥
+not_shown h = h (codes "a" ∷ []) (inl refl) (codes "b" ∷ [], refl)
+
+none_is_shown : MayBeShown ([] ∷ []) [] → ⊥
+none_is_shown h = h [] (inl refl) ([], refl)
+
+all_are_shown : MayBeShown [] (codes "a" ∷ [])
+all_are_shown front is = is
 
 -- ---- split
 

@@ -5,5 +5,9 @@ mod Shown
 mod ShowVerdicts
 mod VerifyVerdicts
 mod IssueVerdicts
+mod OtherRules
+mod NeverShown
+mod Presentings
+mod PresentVerdicts
 mod Refusals
 mod Examples

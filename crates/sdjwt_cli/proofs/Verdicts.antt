@@ -7,7 +7,7 @@ use Rattle.sd_outside.specs.Causes.{Rose}
 use Rattle.sd_outside.specs.declared.status.Status.{Status}
 use Rattle.sd_outside.specs.declared.status.Status.TheVariants.{Done, Refused, Usage, Unread, Unwritten, Memory, Unreadable}
 use Rattle.compact_form.proofs.Verdicts.{not_both, one_fault, one_value}
-use Rattle.sdjwt_cli.specs.Command.{Command, split, show, verify, issue, command_of, Wanted, wanted_by}
+use Rattle.sdjwt_cli.specs.Command.{Command, split, show, verify, issue, present, command_of, Wanted, wanted_by}
 use Rattle.sdjwt_cli.specs.Lines.{refusal}
 use Rattle.sdjwt_cli.specs.Split.{split_lines}
 use Rattle.sdjwt_cli.specs.Answers.{Verdict, gives, refuses, unreadable, SplitAnswers, ShowAnswers, Answers, AreFetched, AreTold, IsAnswered}
@@ -15,6 +15,7 @@ use Rattle.sdjwt_cli.specs.Run.{Outside, Ends}
 use Rattle.sdjwt_cli.proofs.ShowVerdicts.{one_shown, shown_not_refused, one_refusal}
 use Rattle.sdjwt_cli.proofs.VerifyVerdicts.{one_verify}
 use Rattle.sdjwt_cli.proofs.IssueVerdicts.{one_issue}
+use Rattle.sdjwt_cli.proofs.PresentVerdicts.{one_present}
 
 one_split : (file : List ℕ) (v w : Verdict) → SplitAnswers file v → SplitAnswers file w → v ≡ w
 one_split file (gives a) (gives b) g h = ap gives (g.lines ∙ ap split_lines (one_value file g.parts h.parts g.reads h.reads) ∙ sym h.lines)
@@ -49,6 +50,10 @@ one_answer (issue order seed) [] now v w g h = absurd g
 one_answer (issue order seed) (file ∷ []) now v w g h = absurd g
 one_answer (issue order seed) (file ∷ other ∷ []) now v w g h = one_issue file other v w g h
 one_answer (issue order seed) (file ∷ other ∷ more ∷ files) now v w g h = absurd g
+one_answer (present order token) [] now v w g h = absurd g
+one_answer (present order token) (file ∷ []) now v w g h = absurd g
+one_answer (present order token) (file ∷ other ∷ []) now v w g h = one_present file other now v w g h
+one_answer (present order token) (file ∷ other ∷ more ∷ files) now v w g h = absurd g
 
 none_some : (o : Option Command) (k : Command) → o ≡ None → o ≡ Some k → ⊥
 none_some o k e f = cc

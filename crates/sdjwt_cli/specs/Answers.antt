@@ -1,11 +1,12 @@
 -- What each command answers over its files, by its definition.
 use Rattle.std.specs.Prelude.{◌≡◌, ℕ, List, [], ◌∷◌, Option, IfSome, IsSomeAnd, take}
 use Rattle.std.specs.List.{AllZip}
-use Rattle.sdjwt_cli.specs.Command.{Command, split, show, verify, issue, Wanted, wanted_by}
+use Rattle.sdjwt_cli.specs.Command.{Command, split, show, verify, issue, present, Wanted, wanted_by}
 use Rattle.sdjwt_cli.specs.Split.{Gives, Refuses}
 use Rattle.sdjwt_cli.specs.Show.{Shows, DoesNotShow}
 use Rattle.sdjwt_cli.specs.Verify.{Verifies, DoesNotVerify, HasNoPolicy}
 use Rattle.sdjwt_cli.specs.Issuing.{Issues, DoesNotIssue, HasNoOrder}
+use Rattle.sdjwt_cli.specs.Presenting.{Presents, DoesNotPresent, HasNoPresentOrder}
 
 -- the bytes for standard output, or the line of a refusal, or that of a file that is not of its form
 pub data Verdict : Type 0 where
@@ -33,6 +34,11 @@ IssueAnswers order seed (gives answer) = Issues order seed answer
 IssueAnswers order seed (refuses text) = DoesNotIssue order seed text
 IssueAnswers order seed (unreadable text) = HasNoOrder order seed text
 
+abbrev pub PresentAnswers : List ℕ → List ℕ → ℕ → Verdict → Type 0
+PresentAnswers order token now (gives answer) = Presents order token now answer
+PresentAnswers order token now (refuses text) = DoesNotPresent order token now text
+PresentAnswers order token now (unreadable text) = HasNoPresentOrder order text
+
 -- the verdict of a command over its files, at a moment
 abbrev pub Answers : Command → List (List ℕ) → ℕ → Verdict → Type 0
 Answers (split token) [] now verdict = ⊥
@@ -49,6 +55,10 @@ Answers (issue order seed) [] now verdict = ⊥
 Answers (issue order seed) (file ∷ []) now verdict = ⊥
 Answers (issue order seed) (file ∷ other ∷ []) now verdict = IssueAnswers file other verdict
 Answers (issue order seed) (file ∷ other ∷ more ∷ files) now verdict = ⊥
+Answers (present order token) [] now verdict = ⊥
+Answers (present order token) (file ∷ []) now verdict = ⊥
+Answers (present order token) (file ∷ other ∷ []) now verdict = PresentAnswers file other now verdict
+Answers (present order token) (file ∷ other ∷ more ∷ files) now verdict = ⊥
 
 -- each file is what a fetch answers, where the cabinet tells it
 abbrev pub AreFetched : (List ℕ → Option (List ℕ)) → Command → List (List ℕ) → Type 0

@@ -8,3 +8,5 @@ pub mod Stops
 pub mod Show
 pub mod Verify
 pub mod Issuing
+pub mod Never
+pub mod Presenting

@@ -8,6 +8,7 @@ pub(crate) enum Command<'a> {
     Show { token: &'a str },
     Verify { policy: &'a str, token: &'a str },
     Issue { order: &'a str, seed: &'a str },
+    Present { order: &'a str, token: &'a str },
 }
 
 impl<'a> Command<'a> {
@@ -32,6 +33,10 @@ impl<'a> Command<'a> {
             [command, order, seed] if command.as_str() == "issue" => Some(Command::Issue {
                 order: order.as_str(),
                 seed: seed.as_str(),
+            }),
+            [command, order, token] if command.as_str() == "present" => Some(Command::Present {
+                order: order.as_str(),
+                token: token.as_str(),
             }),
             _ => None,
         }

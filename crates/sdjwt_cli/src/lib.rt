@@ -10,6 +10,10 @@ mod issue;
 mod issue_tests;
 pub mod laws;
 mod lines;
+mod never;
+mod present;
+#[cfg(test)]
+mod present_tests;
 #[cfg(test)]
 mod rows;
 mod show;

@@ -4,7 +4,7 @@
 // `out` and to `err`. A step is a file, as `t: a.b.c~`, or the words of a run, as `split t`; that of `issue o s > t` puts what it
 // writes into a file. The files `now` and `room` are the moment, and the room on `out`.
 //
-// In all of it `|` is a line end, `<3*a#>` is `a0a1a2`, and `<NAME>` is the text of that name.
+// In all of it `|` is a line end, `<3*a#>` is `a0a1a2`, `<2^/a>` is `"/a","/a/a"`, and `<NAME>` is the text of that name.
 use crate::run;
 use sd_outside::{MemCabinet, MemSink};
 use std::alloc::Global;
@@ -23,6 +23,21 @@ fn repeated(alloc: Global, count: usize, piece: &str) -> Result<String, Fail> {
     Ok(text)
 }
 
+// So many JSON texts, each of one piece more than the one before.
+fn growing(alloc: Global, count: usize, piece: &str) -> Result<String, Fail> {
+    let mut text = String::new(alloc);
+    let mut grown = String::new(alloc);
+    for i in 0..count {
+        if i > 0 {
+            text.push(',')?;
+        }
+        grown.push_str(piece)?;
+        let grown = grown.as_str();
+        text.push_str(format!(in alloc; "\"{grown}\"")?.as_str())?;
+    }
+    Ok(text)
+}
+
 fn named(name: &str) -> Result<&'static str, Fail> {
     for (known, text) in TEXTS {
         if known == name {
@@ -32,19 +47,24 @@ fn named(name: &str) -> Result<&'static str, Fail> {
     Err("no such name".into())
 }
 
+// What stands for something else.
+fn written_out(alloc: Global, short: &str) -> Result<String, Fail> {
+    if let Some((count, piece)) = short.split_once('*') {
+        return repeated(alloc, count.parse().map_err(|_| "no number")?, piece);
+    }
+    if let Some((count, piece)) = short.split_once('^') {
+        return growing(alloc, count.parse().map_err(|_| "no number")?, piece);
+    }
+    Ok(String::from_str(alloc, named(short)?)?)
+}
+
 // The text with what stands for something else written out.
 fn spelled(alloc: Global, text: &str) -> Result<String, Fail> {
     let mut pieces = text.split('<');
     let mut whole = String::from_str(alloc, pieces.next().ok_or("no text")?)?;
     for piece in pieces {
         let (short, rest) = piece.split_once('>').ok_or("no end")?;
-        match short.split_once('*') {
-            Some((count, one)) => {
-                let count = count.parse().map_err(|_| "no number")?;
-                whole.push_str(repeated(alloc, count, one)?.as_str())?;
-            }
-            None => whole.push_str(named(short)?)?,
-        }
+        whole.push_str(written_out(alloc, short)?.as_str())?;
         whole.push_str(rest)?;
     }
     Ok(whole.as_str().replace(alloc, '|', "\n")?)

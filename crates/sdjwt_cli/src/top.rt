@@ -9,6 +9,7 @@ ghost use Rattle.sdjwt_cli.specs.Run.{outside, stream, Misses, Tells, Ends, Keep
 use crate::command::Command;
 use crate::issue::{SEED_LEN, issue};
 use crate::lines::unread_line;
+use crate::present::present;
 use crate::show::show;
 use crate::split::split;
 use crate::stop::Stop;
@@ -77,6 +78,11 @@ fn answer<C: Cabinet>(
             let order = fetch_file(alloc, cab, order, FETCH_MAX, 0)?;
             let seed = fetch_file(alloc, cab, seed, SEED_LEN, 1)?;
             issue(alloc, order.bytes(), seed.bytes())
+        }
+        Command::Present { order, token } => {
+            let order = fetch_file(alloc, cab, order, FETCH_MAX, 0)?;
+            let token = fetch_file(alloc, cab, token, FETCH_MAX, 1)?;
+            present(alloc, order.bytes(), token.bytes(), now)
         }
     }
 }

@@ -1,6 +1,6 @@
 use Rattle.std.proofs.Common.{[], ◌∷◌, ◌+◌, refl}
 use Rattle.compact_form.specs.declared.limits.TheConstants.{FILE_MAX}
-use Rattle.sdjwt_cli.specs.Command.{split, show, verify, issue}
+use Rattle.sdjwt_cli.specs.Command.{split, show, verify, issue, present}
 use Rattle.sdjwt_cli.specs.declared.issue.TheConstants.{SEED_LEN}
 use Rattle.sdjwt_cli.specs.Answers.{AreFetched}
 use Rattle.sdjwt_cli.proofs.Lifts.{fetched_as, lift_gives, lift_refuses, lift_unreadable}
@@ -88,3 +88,29 @@ pub returns-in_ok-seed-in-Issue-clause-unreadable :
     goal.returns-in_ok-seed-in-Issue-clause-unreadable
 returns-in_ok-seed-in-Issue-clause-unreadable g c =
     rw c.in-Issue.is (lift_unreadable (g.C.Cabinet.holds c.args.cab.now) (issue c.in-Issue.order.now c.in-Issue.seed.now) (c.bytes-in-Issue.result.now ∷ c.bytes-in-Issue-2.result.now ∷ []) (both_read g c) c.args.now c.issue.result c.issue.ensures.unreadable)
+
+-- and the order and the token
+both_told : (g : given.Over) (c : goal.After-drop-order-inside-in-Present g)
+    → AreFetched (g.C.Cabinet.holds c.args.cab.now) (present c.in-Present.order.now c.in-Present.token.now) (c.bytes-in-Present.result.now ∷ c.bytes-in-Present-2.result.now ∷ [])
+both_told g c =
+    let held = g.C.Cabinet.holds c.args.cab.now in
+    let later = g.C.Cabinet.holds c.fetch_file-in-Present.new.cab in
+    let order = c.in-Present.order.now in
+    let token = c.in-Present.token.now in
+    let first = fetched_as (held order) (held order) (FILE_MAX + 1) c.in_ok-order-in-Present.order c.bytes-in-Present.result.now refl c.bytes-in-Present.ensures c.in_ok-order-in-Present.ensures.content in
+    let second = fetched_as (held token) (later token) (FILE_MAX + 1) c.in_ok-token-in-Present.token c.bytes-in-Present-2.result.now (c.in_ok-order-in-Present.ensures.held token) c.bytes-in-Present-2.ensures c.in_ok-token-in-Present.ensures.content in
+    (first, (second, tt))
+
+pub returns-in_ok-token-in-Present-clause-gives : goal.returns-in_ok-token-in-Present-clause-gives
+returns-in_ok-token-in-Present-clause-gives g c =
+    rw c.in-Present.is (lift_gives (g.C.Cabinet.holds c.args.cab.now) (present c.in-Present.order.now c.in-Present.token.now) (c.bytes-in-Present.result.now ∷ c.bytes-in-Present-2.result.now ∷ []) (both_told g c) c.args.now c.present.result c.present.ensures.presents)
+
+pub returns-in_ok-token-in-Present-clause-refuses :
+    goal.returns-in_ok-token-in-Present-clause-refuses
+returns-in_ok-token-in-Present-clause-refuses g c =
+    rw c.in-Present.is (lift_refuses (g.C.Cabinet.holds c.args.cab.now) (present c.in-Present.order.now c.in-Present.token.now) (c.bytes-in-Present.result.now ∷ c.bytes-in-Present-2.result.now ∷ []) (both_told g c) c.args.now c.present.result c.present.ensures.refuses)
+
+pub returns-in_ok-token-in-Present-clause-unreadable :
+    goal.returns-in_ok-token-in-Present-clause-unreadable
+returns-in_ok-token-in-Present-clause-unreadable g c =
+    rw c.in-Present.is (lift_unreadable (g.C.Cabinet.holds c.args.cab.now) (present c.in-Present.order.now c.in-Present.token.now) (c.bytes-in-Present.result.now ∷ c.bytes-in-Present-2.result.now ∷ []) (both_told g c) c.args.now c.present.result c.present.ensures.unreadable)

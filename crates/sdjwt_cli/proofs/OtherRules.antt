@@ -1,0 +1,68 @@
+-- What is presented by a rule of consent, or refused, is so by each rule that may answer as it does.
+use Rattle.std.proofs.Common.{ℕ, Bool, true, false, Result, Ok, Err, IfOk, IfErr}
+use Rattle.claim_tree.specs.Tree.{Text}
+use Rattle.compact_form.specs.declared.parts.Parts.{Parts}
+use Rattle.hmac_sign.specs.Signatures.{Meaning}
+use Rattle.json_form.specs.declared.token.Token.{Token}
+use Rattle.marked_tree.specs.Choice.{chosen}
+use Rattle.marked_tree.specs.Marked.{Marked}
+use Rattle.marked_tree.specs.Places.{Path}
+use Rattle.selection_core.specs.Consent.{Answers, Allows, AllAllowed, IsRefusedAt}
+use Rattle.holder_core.specs.declared.ask.Ask.{Ask}
+use Rattle.holder_core.specs.declared.errors.PresentError.{PresentError}
+use Rattle.holder_core.specs.declared.errors.PresentError.TheVariants.{Memory, Token as OnCondition, HasBinding, NoSuchPlace, ConsentRefused, BindingKeyDiffers, SignFailed, TooLong}
+use Rattle.holder_core.specs.Present.{IsAgreed, IsAnswer, Refuses, IsPresented, IsNotPresented, not_read, refused}
+
+module _ {F G : Type 0} {answers : Answers F} {rule : F} (others : Answers G) (other : G) (carries : (at : Path) (b : Bool) → Allows answers rule at b → Allows others other at b) where
+  all_allowed : (m : Marked) (s : ℕ → Bool) → AllAllowed answers rule m s → AllAllowed others other m s
+  all_allowed m s h i at kept stands = carries at true (h i at kept stands)
+
+  refused_at : (m : Marked) (s : ℕ → Bool) (i : ℕ) → IsRefusedAt answers rule m s i → IsRefusedAt others other m s i
+  refused_at m s i h = record {
+    chosen = h.chosen;
+    at = h.at;
+    stands = h.stands;
+    refused = carries h.at false h.refused;
+    smaller = λ j there less kept stands. carries there true (h.smaller j there less kept stands);
+  }
+
+  agreed : (token : Token) (ask : Ask) (m : Marked) → IsAgreed answers rule token ask m → IsAgreed others other token ask m
+  agreed token ask m h = record { held = h.held; there = h.there; allowed = all_allowed m (chosen m ask.want) h.allowed }
+
+  module _ (token : Token) (ask : Ask) (good : Meaning) (now : ℕ) where
+    answer : (a : Parts) → IsAnswer answers rule token ask good now a → IsAnswer others other token ask good now a
+    answer a h = record {
+      marked = h.marked;
+      agreed = agreed token ask h.marked h.agreed;
+      key = h.key;
+      presents = h.presents;
+      hash = h.hash;
+      has_hash = h.has_hash;
+      bound = h.bound;
+    }
+
+    refusal : (e : PresentError) → Refuses answers rule token ask good now e → Refuses others other token ask good now e
+    refusal Memory h = h
+    refusal HasBinding h = h
+    refusal (OnCondition fault) h = h
+    refusal (NoSuchPlace k) h = h
+    refusal (ConsentRefused i) h = record { marked = h.marked; held = h.held; there = h.there; refused = refused_at h.marked (chosen h.marked ask.want) i h.refused }
+    refusal BindingKeyDiffers h = record { marked = h.marked; agreed = agreed token ask h.marked h.agreed; binding = h.binding; asked_for = h.asked_for; differs = h.differs }
+    refusal SignFailed h = record { marked = h.marked; agreed = agreed token ask h.marked h.agreed; binding = h.binding; asked_for = h.asked_for; key = h.key }
+    refusal TooLong h = record { answer = h.answer; is_answer = answer h.answer h.is_answer; long = h.long }
+
+-- the fact comes first, and tells the rule
+pub presented_by : {F G : Type 0} {answers : Answers F} {rule : F} (content : Text) (ask : Ask) (good : Meaning) (now : ℕ) (r : Result Parts PresentError)
+    → IfOk r (IsPresented answers rule content ask good now) → (others : Answers G) (other : G)
+    → ((at : Path) (b : Bool) → Allows answers rule at b → Allows others other at b) → IfOk r (IsPresented others other content ask good now)
+presented_by content ask good now (Ok a) h others other carries =
+    record { token = h.token; is_token = h.is_token; is_answer = answer others other carries h.token ask good now a h.is_answer }
+presented_by content ask good now (Err e) h others other carries = tt
+
+pub not_presented_by : {F G : Type 0} {answers : Answers F} {rule : F} (content : Text) (ask : Ask) (good : Meaning) (now : ℕ) (r : Result Parts PresentError)
+    → IfErr r (IsNotPresented answers rule content ask good now) → (others : Answers G) (other : G)
+    → ((at : Path) (b : Bool) → Allows answers rule at b → Allows others other at b) → IfErr r (IsNotPresented others other content ask good now)
+not_presented_by content ask good now (Ok a) h others other carries = tt
+not_presented_by content ask good now (Err e) (not_read fault is r) others other carries = not_read fault is r
+not_presented_by content ask good now (Err e) (refused token is r) others other carries =
+    refused token is (refusal others other carries token ask good now e r)

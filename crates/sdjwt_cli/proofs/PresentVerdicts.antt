@@ -1,0 +1,66 @@
+-- The command `present` has one verdict over its files.
+use Rattle.std.proofs.Common.{◌≡◌, ℕ, List, ap, ◌∙◌, sym, subst, inl, inr, ◌⊎◌}
+use Rattle.compact_form.specs.declared.parts.Parts.{Parts}
+use Rattle.compact_form.specs.Compact.{compact}
+use Rattle.hmac_sign.specs.Hmac.{IsGood}
+use Rattle.holder_core.specs.declared.errors.PresentError.TheVariants.{Memory, SignFailed}
+use Rattle.holder_core.specs.declared.present_file.PresentFile.{PresentFile}
+use Rattle.holder_core.proofs.PresentFiles as orders
+use Rattle.holder_core.proofs.OnePresentation.{HasOneSignature, one_presented, presented_not_refused, one_cause}
+use Rattle.sdjwt_cli.specs.Lines.{line, unreadable_line}
+use Rattle.sdjwt_cli.specs.Never.{never_rule}
+use Rattle.sdjwt_cli.specs.Presenting.{signing_key, IsPresentedFor, IsNotPresentedFor, present_refusal, Presents, DoesNotPresent, HasNoPresentOrder}
+use Rattle.sdjwt_cli.specs.Answers.{Verdict, gives, refuses, unreadable, PresentAnswers}
+use Rattle.sdjwt_cli.proofs.NeverShown.{never_decided}
+
+one_signature : (key : List ℕ) → HasOneSignature (IsGood key)
+one_signature key head body one other h k = h ∙ sym k
+
+printed : (order token : List ℕ) (now : ℕ) (a b : List ℕ) → Presents order token now a → Presents order token now b → a ≡ b
+printed order token now a b g h =
+    let same : g.said ≡ h.said = orders.one_present order g.said h.said g.is_order h.is_order in
+    let presented : IsPresentedFor h.said token now g.parts = subst (λ (said : PresentFile). IsPresentedFor said token now g.parts) same g.presented in
+    let key = signing_key h.said.key in
+    let one = one_presented never_rule h.said.never (never_decided h.said.never) token h.said.ask (IsGood key) (one_signature key) now g.parts h.parts presented h.presented in
+    g.line_is ∙ (ap (λ (parts : Parts). line (compact parts)) one ∙ sym h.line_is)
+
+refused : (order token : List ℕ) (now : ℕ) (a b : List ℕ) → DoesNotPresent order token now a → DoesNotPresent order token now b → a ≡ b
+refused order token now a b g h =
+    let same : g.said ≡ h.said = orders.one_present order g.said h.said g.is_order h.is_order in
+    let applies : IsNotPresentedFor h.said token now g.error = subst (λ (said : PresentFile). IsNotPresentedFor said token now g.error) same g.refused in
+    let key = signing_key h.said.key in
+    let one = one_cause never_rule h.said.never (never_decided h.said.never) token h.said.ask (IsGood key) (one_signature key) now g.error h.error g.memory g.signed h.memory h.signed applies h.refused in
+    g.line_is ∙ (ap present_refusal one ∙ sym h.line_is)
+
+no_order : (order : List ℕ) (a b : List ℕ) → HasNoPresentOrder order a → HasNoPresentOrder order b → a ≡ b
+no_order order a b g h = g.line_is ∙ (ap (unreadable_line 1) (orders.one_fault order g.fault h.fault g.refused h.refused g.cause h.cause) ∙ sym h.line_is)
+
+printed_not_refused : (order token : List ℕ) (now : ℕ) (a b : List ℕ) → Presents order token now a → DoesNotPresent order token now b → ⊥
+printed_not_refused order token now a b g h = neither (presented_not_refused never_rule g.said.never (never_decided g.said.never) token g.said.ask (IsGood key) (one_signature key) now g.parts h.error g.presented g.short applies)
+  where
+    key : List ℕ
+    key = signing_key g.said.key
+
+    applies : IsNotPresentedFor g.said token now h.error
+    applies = subst (λ (said : PresentFile). IsNotPresentedFor said token now h.error) (orders.one_present order h.said g.said h.is_order g.is_order) h.refused
+
+    neither : (h.error ≡ Memory) ⊎ (h.error ≡ SignFailed) → ⊥
+    neither (inl is) = h.memory is
+    neither (inr is) = h.signed is
+
+printed_has_order : (order token : List ℕ) (now : ℕ) (a b : List ℕ) → Presents order token now a → HasNoPresentOrder order b → ⊥
+printed_has_order order token now a b g h = h.cause (orders.not_both order g.said h.fault g.is_order h.refused)
+
+refused_has_order : (order token : List ℕ) (now : ℕ) (a b : List ℕ) → DoesNotPresent order token now a → HasNoPresentOrder order b → ⊥
+refused_has_order order token now a b g h = h.cause (orders.not_both order g.said h.fault g.is_order h.refused)
+
+pub one_present : (order token : List ℕ) (now : ℕ) (v w : Verdict) → PresentAnswers order token now v → PresentAnswers order token now w → v ≡ w
+one_present order token now (gives a) (gives b) g h = ap gives (printed order token now a b g h)
+one_present order token now (gives a) (refuses b) g h = absurd (printed_not_refused order token now a b g h)
+one_present order token now (gives a) (unreadable b) g h = absurd (printed_has_order order token now a b g h)
+one_present order token now (refuses a) (gives b) g h = absurd (printed_not_refused order token now b a h g)
+one_present order token now (refuses a) (refuses b) g h = ap refuses (refused order token now a b g h)
+one_present order token now (refuses a) (unreadable b) g h = absurd (refused_has_order order token now a b g h)
+one_present order token now (unreadable a) (gives b) g h = absurd (printed_has_order order token now b a h g)
+one_present order token now (unreadable a) (refuses b) g h = absurd (refused_has_order order token now b a h g)
+one_present order token now (unreadable a) (unreadable b) g h = ap unreadable (no_order order a b g h)

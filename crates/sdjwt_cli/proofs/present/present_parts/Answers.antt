@@ -1,0 +1,21 @@
+use Rattle.std.proofs.Common.{List, subst, ap}
+use Rattle.marked_tree.specs.Places.{Path}
+use Rattle.hmac_sign.specs.Hmac.{IsGood}
+use Rattle.sdjwt_cli.specs.Never.{Judges, never_rule}
+use Rattle.sdjwt_cli.proofs.Issuings.{never}
+use Rattle.sdjwt_cli.proofs.OtherRules.{presented_by, not_presented_by}
+use Rattle.sdjwt_cli.proofs.Presentings.{never_fails}
+use Rattle.sdjwt_cli.proofs.present.present_parts.Goals as goal
+
+pub returns : goal.returns
+returns c =
+    let text = c.args.token_file.now in
+    let good = IsGood c.args.key.now in
+    let list = ap (λ x. x.0.now) c.new-consent.ensures.rule in
+    record {
+      presented = presented_by text c.args.ask.now good c.args.now c.present.result c.present.ensures.presented never_rule c.args.never.now (λ at b h. record { shown = h.shown; shows = h.shows; says = record { met = subst (λ (paths : List Path). Judges paths h.shown.now b) list h.says.met } });
+      words = c.present.ensures.words;
+      short = c.present.ensures.short;
+      refused = not_presented_by text c.args.ask.now good c.args.now c.present.result c.present.ensures.refused never_rule c.args.never.now (λ at b h. record { shown = h.shown; shows = h.shows; says = record { met = subst (λ (paths : List Path). Judges paths h.shown.now b) list h.says.met } });
+      signed = never_fails c.present.result (λ is. never (c.present.ensures.failed is));
+    }

@@ -1,0 +1,106 @@
+// The command `present`: the compact text of what a holder shows of a token.
+ghost use Rattle.std.specs.Prelude.{◌≡◌, ◌≢◌, ◌≤◌, length, IfOk, IfErr, string_bytes};
+ghost use Rattle.compact_form.specs.Compact.{AreWords, compact};
+ghost use Rattle.compact_form.specs.declared.limits.TheConstants.{COMPACT_MAX};
+ghost use Rattle.hmac_sign.specs.Hmac.{IsGood};
+ghost use Rattle.holder_core.specs.Present.{IsPresented, IsNotPresented};
+ghost use Rattle.holder_core.specs.declared.errors.PresentError.{PresentError};
+ghost use Rattle.sdjwt_cli.specs.Never.{Judges, never_rule};
+ghost use Rattle.sdjwt_cli.specs.Presenting.{signing_key, HasLine, Presents, DoesNotPresent, HasNoPresentOrder};
+ghost use Rattle.sdjwt_cli.specs.Stops.{OnRefused, OnUnread, OnUnreadable};
+ghost use Rattle.sdjwt_cli.specs.Lines.{line};
+
+use crate::lines::{as_line, refusal_line, unreadable_line};
+use crate::never::may_be_shown;
+use crate::stop::Stop;
+use claim_tree::{FileFault, Path, PathList};
+use compact_form::{Parts, print};
+use digest_index::Steps;
+use hmac_sign::{Hs256Key, KeyShort};
+use holder_core::{Ask, PresentError, PresentFile, read_present};
+use sd_outside::NoMemory;
+use selection_core::Consent;
+use std::alloc::Global;
+
+// The key that signs: one of zeros where no key binding token is asked for, which signs nothing.
+fn signer(key: Option<Hs256Key>) -> Hs256Key
+    ensures { result ≡ signing_key key }
+{
+    if let Some(key) = key {
+        return key;
+    }
+    match Hs256Key::new(&[0; 32]) {
+        Ok(key) => key,
+        Err(KeyShort) => unreachable!(),
+    }
+}
+
+// What is presented of a token where no place is shown to which a path of `never` leads.
+fn present_parts(
+    alloc: Global,
+    token_file: &[u8],
+    ask: &Ask,
+    never: &PathList,
+    key: &mut Hs256Key,
+    now: u64,
+) -> Result<Parts, PresentError>
+    ensures presented { IfOk result (IsPresented never_rule never.now token_file.now ask.now (IsGood key.old) now) }
+    ensures words { IfOk result AreWords }
+    ensures short { IfOk result (λ parts. length (compact parts) ≤ COMPACT_MAX) }
+    ensures refused { IfErr result (IsNotPresented never_rule never.now token_file.now ask.now (IsGood key.old) now) }
+    ensures signed { IfErr result (λ error. error ≢ PresentError.SignFailed) }
+{
+    let consent = Consent::new(
+        |place: &Path|
+            ensures { Judges never.entry.now place.now result }
+        { may_be_shown(never, place) },
+    );
+    let mut steps = Steps::new();
+    holder_core::present(alloc, token_file, ask, &consent, key, now, &mut steps)
+}
+
+// The line of a refusal of a token.
+fn present_line(alloc: Global, error: &PresentError) -> Result<String, NoMemory>
+    ensures { IfOk result (λ text. HasLine error.now (string_bytes text)) }
+{
+    match error {
+        PresentError::Memory | PresentError::SignFailed => Ok(String::new(alloc)),
+        PresentError::Token(fault) => refusal_line(alloc, fault),
+        PresentError::HasBinding => Ok(String::from_str(alloc, "refused 71 hasBinding\n")?),
+        PresentError::NoSuchPlace(k) => {
+            Ok(format!(in alloc; "refused 72 wantedNotThere at {k}\n")?)
+        }
+        PresentError::ConsentRefused(i) => {
+            Ok(format!(in alloc; "refused 73 consentRefused at {i}\n")?)
+        }
+        PresentError::BindingKeyDiffers => {
+            Ok(String::from_str(alloc, "refused 74 bindingKeyDiffers\n")?)
+        }
+        PresentError::TooLong => Ok(String::from_str(alloc, "refused 75 presentTooLong\n")?),
+    }
+}
+
+/// The answer to an order file and a token file, at a moment.
+pub(crate) fn present(
+    alloc: Global,
+    order_file: &[u8],
+    token_file: &[u8],
+    now: u64,
+) -> Result<String, Stop>
+    ensures presents { IfOk result (λ text. Presents order_file.now token_file.now now (string_bytes text)) }
+    ensures refuses { IfErr result (λ stop. OnRefused stop (DoesNotPresent order_file.now token_file.now now)) }
+    ensures unreadable { IfErr result (λ stop. OnUnreadable stop (HasNoPresentOrder order_file.now)) }
+    ensures read { IfErr result (λ stop. OnUnread stop (λ _. ⊥)) }
+{
+    let PresentFile { ask, never, key } = match read_present(alloc, order_file) {
+        Ok(said) => said,
+        Err(FileFault::Memory) => return Err(Stop::Memory),
+        Err(fault) => return Err(Stop::Unreadable(unreadable_line(alloc, 1, fault)?)),
+    };
+    let mut key = signer(key);
+    match present_parts(alloc, token_file, &ask, &never, &mut key, now) {
+        Ok(parts) => Ok(as_line(print(alloc, &parts)?)?),
+        Err(PresentError::Memory) => Err(Stop::Memory),
+        Err(error) => Err(Stop::Refused(present_line(alloc, &error)?)),
+    }
+}
