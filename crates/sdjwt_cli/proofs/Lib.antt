@@ -10,4 +10,14 @@ mod NeverShown
 mod Presentings
 mod PresentVerdicts
 mod Refusals
+mod CompactLines
+mod CheckedParts
+mod HeldIssued
+mod PresentedShort
+mod KeptClaims
+mod PresentedAccepted
+mod NothingRefused
+mod PresentedVerified
+mod PresentedRuns
+mod SuitsExample
 mod Examples

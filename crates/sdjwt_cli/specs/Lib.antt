@@ -10,3 +10,5 @@ pub mod Verify
 pub mod Issuing
 pub mod Never
 pub mod Presenting
+pub mod Suits
+pub mod Presented

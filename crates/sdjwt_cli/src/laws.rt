@@ -6,6 +6,7 @@ ghost use Rattle.sd_outside.specs.declared.status.Status.{Status};
 ghost use Rattle.sdjwt_cli.specs.Command.{Command, command_of};
 ghost use Rattle.sdjwt_cli.specs.Answers.{Verdict, gives, Answers, AreTold};
 ghost use Rattle.sdjwt_cli.specs.Run.{Outside, Ends};
+ghost use Rattle.sdjwt_cli.specs.Presented.{PresentedOverFiles, PresentedOverRuns};
 
 /// The definition of a command has at most one verdict over its files.
 pub fn one_answer()
@@ -19,4 +20,12 @@ pub fn completes()
         → command_of words ≡ Some command → AreTold before.holds command files → Answers command files now (gives answer)
         → (Rose before.faults after.faults → ⊥) → (Rose before.out.faults after.out.faults → ⊥) → Ends words before after now status
         → ((status ≡ Status.Done) × Appends before.out.written after.out.written answer) ⊎ (status ≡ Status.Memory) }
+{}
+
+/// What is presented of an issued token, where the policy suits, is accepted with what was asked for: over the line that `issue` gives,
+/// `present` refuses nothing, and whatever it gives, `verify` prints the claims without the hidden places that lead to none of
+/// the wanted ones, and does nothing else.
+pub fn presented()
+    ensures over_files { PresentedOverFiles }
+    ensures over_runs { PresentedOverRuns }
 {}
