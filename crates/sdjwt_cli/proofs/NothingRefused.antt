@@ -23,7 +23,7 @@ use Rattle.selection_core.specs.Consent.{Allows, IsRefusedAt}
 use Rattle.selection_core.specs.Refusals.{IsMissing}
 use Rattle.issuer_core.specs.Digests.{marked_of}
 use Rattle.issuer_core.specs.Order.{Order}
-use Rattle.issuer_core.specs.Refusals.{NoneApplies} 
+use Rattle.issuer_core.specs.Refusals.{NoneApplies}
 use Rattle.issuer_core.specs.Refusals as issuing
 use Rattle.holder_core.specs.declared.ask.BindingAsk.{BindingAsk}
 use Rattle.holder_core.specs.declared.errors.PresentError.{PresentError}

@@ -1,5 +1,5 @@
 -- An order, what a holder is asked, and a policy that suits: the premise of the law of presenting at worked values.
-use Rattle.std.proofs.Common.{◌≡◌, ◌≢◌, inl, inr, ℕ, suc, ◌≤◌, ◌+◌, true, List, [], ◌∷◌, ◌++◌, None, Some, codes, refl, sym, ap, subst, ◌∙◌, arith}
+use Rattle.std.proofs.Common.{◌≡◌, ◌≢◌, inl, inr, ℕ, zero, suc, ◌≤◌, ◌+◌, true, List, [], ◌∷◌, ◌++◌, None, Some, codes, refl, sym, ap, subst, ◌∙◌, arith}
 use Rattle.claim_tree.specs.Tree.{Text, Tree, leaf, text, object, no_members, member, get}
 use Rattle.claim_tree.specs.Lists.{At, In}
 use Rattle.claim_tree.specs.Path.{tree_at}
@@ -92,7 +92,7 @@ claims_hold =
     (λ c place h. let n = claim_numbers shown policy 1300 c place h in n.1)
   where
     wanted : (i : ℕ) (name : Text) → At policy.require i name → get (shown_for order said.ask.want) name ≢ None
-    wanted 0 name is none = let found = ap (get (shown_for order said.ask.want)) is in cc (sym found ∙ none)
+    wanted zero name is none = let found = ap (get (shown_for order said.ask.want)) is in cc (sym found ∙ none)
     wanted (suc i) name is none = absurd is
 
     unreadable : IsTimeUnreadable (shown_for order said.ask.want) → ⊥
@@ -136,8 +136,8 @@ suits = record {
 }
   where
     may_be_shown : (i : ℕ) (at : Path) → chosen (marked_of order) said.ask.want i ≡ true → place (marked_of order) i ≡ Some at → MayBeShown said.never at
-    may_be_shown 0 at is_chosen stands = cc is_chosen
-    may_be_shown 1 at is_chosen stands = given_name at stands
+    may_be_shown zero at is_chosen stands = cc is_chosen
+    may_be_shown (suc zero) at is_chosen stands = given_name at stands
     may_be_shown (suc (suc i)) at is_chosen stands = absurd (let low = chosen_below (marked_of order) 2 (marks_once_holds order.claims order.hide) said.ask.want (suc (suc i)) is_chosen in omega (arith, low))
 
     bound : (binding : BindingPolicy) → policy.binding ≡ Some binding → BindingSuits said binding policy.skew 1000 1300
