@@ -12,4 +12,14 @@ mod PresentVerdicts
 mod ConvertVerdicts
 mod Converted
 mod Refusals
+mod CompactLines
+mod CheckedParts
+mod HeldIssued
+mod PresentedShort
+mod KeptClaims
+mod PresentedAccepted
+mod NothingRefused
+mod PresentedVerified
+mod PresentedRuns
+mod SuitsExample
 mod Examples
