@@ -22,4 +22,5 @@ mod NothingRefused
 mod PresentedVerified
 mod PresentedRuns
 mod SuitsExample
+mod SuitedFiles
 mod Examples

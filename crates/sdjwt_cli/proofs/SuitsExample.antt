@@ -1,11 +1,12 @@
 -- An order, what a holder is asked, and a policy that suits: the premise of the law of presenting at worked values.
 use Rattle.std.proofs.Common.{◌≡◌, ◌≢◌, inl, inr, ℕ, zero, suc, ◌+◌, true, List, [], ◌∷◌, ◌++◌, None, Some, codes, refl, sym, ap, subst, ◌∙◌, arith}
-use Rattle.claim_tree.specs.Tree.{Text, Tree, leaf, text, object, no_members, member, get}
+use Rattle.claim_tree.specs.Tree.{Text, Tree, leaf, text, object, Members, no_members, member, get}
 use Rattle.claim_tree.specs.Lists.{At, In}
 use Rattle.claim_tree.specs.Path.{tree_at}
 use Rattle.compact_form.specs.Lowest.{NoneFails}
 use Rattle.compact_form.specs.Condition as condition
 use Rattle.compact_form.proofs.Lowest.{holds_too, none_fails}
+use Rattle.hmac_sign.specs.Hmac.{key_block}
 use Rattle.jws_part.specs.Times.{IsTimeUnreadable}
 use Rattle.key_binding.specs.declared.policy.BindingPolicy.{BindingPolicy}
 use Rattle.marked_tree.specs.Choice.{chosen}
@@ -22,29 +23,39 @@ use Rattle.holder_core.specs.declared.present_file.PresentFile.{PresentFile}
 use Rattle.sdjwt_cli.specs.Never.{MayBeShown}
 use Rattle.sdjwt_cli.specs.Suits.{Suits, BindingSuits, shown_for}
 
-abbrev named : Text → Tree
+abbrev pub named : Text → Tree
 named s = leaf (text s)
 
 -- {"cnf":{"kid":"h"},"family_name":"Bee","given_name":"Ann","iss":"i"}, of which both names are hidden
-abbrev order : Order
+abbrev pub claims_members : Members
+claims_members =
+    member (codes "cnf") (object (member (codes "kid") (named (codes "h")) no_members))
+    (member (codes "family_name") (named (codes "Bee")) (member (codes "given_name") (named (codes "Ann")) (member (codes "iss") (named (codes "i")) no_members)))
+
+abbrev pub order : Order
 order = record {
-  claims = object (member (codes "cnf") (object (member (codes "kid") (named (codes "h")) no_members))
-      (member (codes "family_name") (named (codes "Bee")) (member (codes "given_name") (named (codes "Ann")) (member (codes "iss") (named (codes "i")) no_members))));
+  claims = object claims_members;
   hide = (codes "family_name" ∷ []) ∷ (codes "given_name" ∷ []) ∷ [];
   decoys = [];
   kid = None;
   typ = Some (codes "dc+sd-jwt");
 }
 
--- keys stand for any
-abbrev issuer_key : List ℕ
-issuer_key = 1 ∷ []
+-- two keys of 32 bytes
+abbrev pub issuer_bytes : List ℕ
+issuer_bytes = codes "the key of an issuer, 32 bytes.."
 
-abbrev holder_key : List ℕ
-holder_key = 2 ∷ []
+abbrev pub holder_bytes : List ℕ
+holder_bytes = codes "the key of a holder, of 32 bytes"
+
+abbrev pub issuer_key : List ℕ
+issuer_key = key_block issuer_bytes
+
+abbrev pub holder_key : List ℕ
+holder_key = key_block holder_bytes
 
 -- the given name is wanted, with a key binding token, and the family name is never shown
-abbrev said : PresentFile
+abbrev pub said : PresentFile
 said = record {
   ask = record {
     keys = record { kid = None; key = issuer_key } ∷ [];
@@ -55,11 +66,11 @@ said = record {
   key = Some holder_key;
 }
 
-abbrev asked_binding : BindingPolicy
+abbrev pub asked_binding : BindingPolicy
 asked_binding = record { aud = codes "v"; nonce = codes "7"; keys = record { kid = Some (codes "h"); key = holder_key } ∷ []; max_age = 300 }
 
 -- the verifier wants a given name by this issuer, and a key binding token of at most 300 seconds
-abbrev policy : Policy
+abbrev pub policy : Policy
 policy = record {
   keys = record { kid = None; key = issuer_key } ∷ [];
   algs = codes "HS256" ∷ [];
@@ -120,7 +131,7 @@ at_work = record {
   not_early = omega arith;
 }
 
-suits : Suits order issuer_key said policy 1000 1300
+pub suits : Suits order issuer_key said policy 1000 1300
 suits = record {
   holder_finds = refl;
   verifier_finds = refl;
