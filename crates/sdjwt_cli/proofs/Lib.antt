@@ -23,4 +23,5 @@ mod PresentedVerified
 mod PresentedRuns
 mod SuitsExample
 mod SuitedFiles
+mod IssuedValues
 mod Examples

@@ -30,7 +30,7 @@ picked_few {X} s (x ∷ xs) = go (s 0) (picked (λ k. s (suc k)) xs) (picked_few
     go true ys ih = omega (arith, ih)
     go false ys ih = omega (arith, ih)
 
-spelled_more : (d : Text) (ds : List Text) → length (spelled (d ∷ ds)) ≡ suc (length d) + length (spelled ds)
+pub spelled_more : (d : Text) (ds : List Text) → length (spelled (d ∷ ds)) ≡ suc (length d) + length (spelled ds)
 spelled_more d ds = omega (arith, length-append (d ++ codes "~") (spelled ds), length-append d (codes "~"))
 
 picked_short : (s : ℕ → Bool) (ds : List Text) → length (spelled (picked s ds)) ≤ length (spelled ds)
@@ -41,10 +41,10 @@ picked_short s (d ∷ ds) = go (s 0) (picked (λ k. s (suc k)) ds) (picked_short
     go true es ih = omega (arith, ih, spelled_more d es, spelled_more d ds)
     go false es ih = omega (arith, ih, spelled_more d ds)
 
-hashed_length : (parts : Parts) → length (hashed parts) ≡ length (jwt parts.signed) + suc (length (spelled parts.disclosures))
+pub hashed_length : (parts : Parts) → length (hashed parts) ≡ length (jwt parts.signed) + suc (length (spelled parts.disclosures))
 hashed_length parts = omega (arith, length-append (jwt parts.signed) (codes "~" ++ spelled parts.disclosures), length-append (codes "~") (spelled parts.disclosures))
 
-compact_length : (parts : Parts) → length (compact parts) ≡ length (hashed parts) + length (ending parts.binding)
+pub compact_length : (parts : Parts) → length (compact parts) ≡ length (hashed parts) + length (ending parts.binding)
 compact_length parts = length-append (hashed parts) (ending parts.binding)
 
 -- ---- a key binding token

@@ -130,7 +130,7 @@ policy_members =
     (member (codes "keys") (set_of issuer_tree)
     (member (codes "require") (array (element (named (codes "given_name")) no_elements)) (member (codes "skew") (leaf (whole (pos 5))) (member (codes "typ") (named (codes "dc+sd-jwt")) no_members)))))
 
-abbrev policy_file : Text
+abbrev pub policy_file : Text
 policy_file = json_text (object policy_members)
 
 policy_short : length policy_file ≤ FILE_MAX
@@ -140,7 +140,7 @@ policy_short = omega arith
 policy_ordered : MembersOrdered policy_members
 policy_ordered = search rules
 
-is_policy : IsPolicyFile policy_file policy
+pub is_policy : IsPolicyFile policy_file policy
 is_policy = record {
   members = policy_members;
   file = record { object = record { short = policy_short; reads = reads_plain (object policy_members) refl policy_ordered (omega arith) }; known = refl };
@@ -167,7 +167,7 @@ present_members =
     (member (codes "keys") (set_of issuer_tree)
     (member (codes "never") (array (element (named (codes "/family_name")) no_elements)) (member (codes "want") (array (element (named (codes "/given_name")) no_elements)) no_members)))
 
-abbrev present_file : Text
+abbrev pub present_file : Text
 present_file = json_text (object present_members)
 
 present_short : length present_file ≤ FILE_MAX
@@ -177,7 +177,7 @@ present_short = omega arith
 present_ordered : MembersOrdered present_members
 present_ordered = search rules
 
-is_said : IsPresentFile present_file said
+pub is_said : IsPresentFile present_file said
 is_said = record {
   members = present_members;
   file = record { object = record { short = present_short; reads = reads_plain (object present_members) refl present_ordered (omega arith) }; known = refl };
@@ -203,7 +203,7 @@ order_members =
     member (codes "hide") (array (element (named (codes "/family_name")) (element (named (codes "/given_name")) no_elements)))
     (member (codes "key") (named issuer_code) (member (codes "payload") order.claims (member (codes "typ") (named (codes "dc+sd-jwt")) no_members)))
 
-abbrev order_file : Text
+abbrev pub order_file : Text
 order_file = json_text (object order_members)
 
 order_short : length order_file ≤ FILE_MAX
@@ -216,7 +216,7 @@ order_ordered = search rules
 abbrev asked : IssueFile
 asked = record { order = record { payload = code.Tree.Object claims_members; hide = order.hide; decoys = []; kid = None; typ = order.typ }; key = issuer_key }
 
-is_asked : IsOrderFile order_file asked
+pub is_asked : IsOrderFile order_file asked
 is_asked = record {
   members = order_members;
   file = record { object = record { short = order_short; reads = reads_plain (object order_members) refl order_ordered (omega arith) }; known = refl };
@@ -228,11 +228,11 @@ is_asked = record {
   typ = refl;
 }
 
-abbrev seed_file : Text
+abbrev pub seed_file : Text
 seed_file = codes "a seed of bytes, no fewer than 32."
 
 -- what the law asks of the four files
-all_suits : AllSuits order_file seed_file present_file policy_file 1000 1300
+abbrev pub all_suits : AllSuits order_file seed_file present_file policy_file 1000 1300
 all_suits = record {
   order = order;
   key = issuer_key;
