@@ -1,5 +1,5 @@
 -- Parts that carry what is issued for an order are checked, and process to what they show.
-use Rattle.std.proofs.Common.{◌≡◌, ◌⊎◌, inl, inr, ℕ, List, Some, codes, refl, sym, ap, subst, ◌∙◌}
+use Rattle.std.proofs.Common.{◌≡◌, inl, inr, ℕ, List, Some, codes, refl, sym, subst}
 use Rattle.std.specs.List.{AllZip}
 use Rattle.b64url_text.specs.Base64url.{AreBytes, b64}
 use Rattle.claim_tree.specs.Tree.{Text, Tree, no_members}

@@ -1,10 +1,9 @@
 -- A token that is issued is held: it is read, no condition on it fails under the keys of a holder who finds the issuer's, and it
 -- processes to the claims with their marks.
-use Rattle.std.proofs.Common.{◌≡◌, ◌⊎◌, inl, inr, ℕ, ◌≤◌, List, [], ◌∷◌, length, None, Some, codes, refl, sym, ap, subst, ◌∙◌, arith, ap₂}
-use Rattle.compact_form.specs.declared.limits.TheConstants.{COMPACT_MAX, ISSUE_MAX, COUNT_MAX}
+use Rattle.std.proofs.Common.{◌≡◌, inl, ℕ, ◌≤◌, List, length, Some, refl, subst, ◌∙◌, arith, ap₂}
+use Rattle.compact_form.specs.declared.limits.TheConstants.{ISSUE_MAX, COUNT_MAX}
 use Rattle.compact_form.specs.declared.parts.Parts.{Parts}
 use Rattle.compact_form.specs.Compact.{compact, AreWords}
-use Rattle.disclosure.specs.declared.digests.HashAlg.{HashAlg}
 use Rattle.hmac_sign.specs.Hmac.{IsGood}
 use Rattle.json_form.specs.Token.{IsToken}
 use Rattle.json_form.specs.declared.token.Token.{Token}
@@ -20,10 +19,10 @@ use Rattle.holder_core.specs.declared.ask.Ask.{Ask}
 use Rattle.holder_core.specs.Present.{rules_of, IsHeld}
 use Rattle.sdjwt_cli.specs.Lines.{line}
 use Rattle.sdjwt_cli.proofs.CompactLines.{alone, line_token}
-use Rattle.sdjwt_cli.proofs.CheckedParts.{Takes, CarriesFor, content, checked}
+use Rattle.sdjwt_cli.proofs.CheckedParts.{CarriesFor, content, checked}
 
 -- what `issue` answers, with its key
-pub record IsAnswered (seed : List ℕ) (o : Order) (key : List ℕ) (parts : Parts) : Type 0 where
+pub record IsIssuedBy (seed : List ℕ) (o : Order) (key : List ℕ) (parts : Parts) : Type 0 where
   pub has : HasIssued seed o (IsGood key) parts
   pub words : AreWords parts
   pub few : length parts.disclosures ≤ COUNT_MAX
@@ -41,7 +40,7 @@ carries_issued seed o key parts has = record {
   texts = has.texts;
 }
 
-module _ (seed : List ℕ) (o : Order) (key : List ℕ) (parts : Parts) (is : IsAnswered seed o key parts) where
+module _ (seed : List ℕ) (o : Order) (key : List ℕ) (parts : Parts) (is : IsIssuedBy seed o key parts) where
   pub issued_token : IsToken (line (compact parts)) (alone parts)
   issued_token = let short = is.short in line_token parts is.words (omega (arith, short)) is.few
 

@@ -1,10 +1,10 @@
 -- A claim inside which nothing is hidden is shown whole, whatever is chosen.
-use Rattle.std.proofs.Common.{◌≡◌, ◌⊎◌, inl, inr, ℕ, suc, ◌+◌, List, [], ◌∷◌, Bool, true, false, Option, Some, None, bytes_eq, decimal, codes, refl, sym, ap, ap₂, subst, ◌∙◌}
+use Rattle.std.proofs.Common.{◌≡◌, inl, inr, ℕ, suc, ◌+◌, List, [], ◌∷◌, Bool, true, false, Option, Some, None, bytes_eq, decimal, codes, refl, sym, ap, ap₂, subst, ◌∙◌}
 use Rattle.std.specs.Prelude.{if◌then◌else◌, option_and_then}
 use Rattle.claim_tree.specs.Tree.{Text, Tree, leaf, array, object, Elements, no_elements, element, Members, no_members, member, member_named, get}
-use Rattle.claim_tree.specs.Lists.{At, In}
-use Rattle.claim_tree.proofs.Lists.{bytes_same, In-At, list_any-In, true_unless_false}
-use Rattle.marked_tree.specs.Marked.{Marked, MarkedElements, MarkedMembers, strip, strip_elements, strip_members, remark, remark_elements, remark_members, keep_member, new_mark, kept, prune}
+use Rattle.claim_tree.specs.Lists.{In}
+use Rattle.claim_tree.proofs.Lists.{bytes_same, In-At, list_any-In}
+use Rattle.marked_tree.specs.Marked.{Marked, MarkedMembers, strip, strip_elements, strip_members, remark, remark_elements, remark_members, keep_member, new_mark, kept, prune}
 use Rattle.marked_tree.specs.Places.{Path, below, hidden_in, one_if, mark_if, mark_from, mark_elements, mark_members, mark, is_among, same_path}
 use Rattle.hmac_sign.specs.Keys.{text_under}
 use Rattle.key_binding.specs.Judged.{holder_kid}

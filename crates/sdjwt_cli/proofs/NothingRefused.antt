@@ -1,18 +1,12 @@
 -- Presenting refuses nothing on an issued token, where the policy suits.
-use Rattle.std.proofs.Common.{◌≡◌, ◌≢◌, ◌⊎◌, inl, inr, ℕ, ◌<◌, ◌≤◌, ◌^◌, Bool, true, false, List, [], ◌∷◌, length, Option, None, Some, IsTrue, refl, sym, ap, subst, ◌∙◌, arith}
-use Rattle.std.specs.Prelude.{◌↔◌}
-use Rattle.claim_tree.specs.Tree.{Text, Tree}
-use Rattle.claim_tree.specs.Lists.{At, In, Nowhere}
+use Rattle.std.proofs.Common.{◌≡◌, ◌≢◌, ℕ, ◌<◌, ◌^◌, true, false, List, length, Option, Some, refl, sym, ap, subst, ◌∙◌, arith}
 use Rattle.claim_tree.specs.Path.{tree_at}
 use Rattle.claim_tree.proofs.Lists.{At-In}
-use Rattle.compact_form.specs.declared.fault.Fault.{Fault}
 use Rattle.compact_form.specs.declared.limits.TheConstants.{COMPACT_MAX}
 use Rattle.compact_form.specs.declared.parts.Parts.{Parts}
 use Rattle.compact_form.specs.Compact.{compact}
 use Rattle.disclosure.specs.declared.digests.HashAlg.{HashAlg}
 use Rattle.hmac_sign.specs.Hmac.{IsGood}
-use Rattle.json_form.specs.Token as file
-use Rattle.json_form.specs.Token.{IsToken}
 use Rattle.json_form.specs.declared.token.Token.{Token}
 use Rattle.key_binding.specs.Judged.{holder_kid}
 use Rattle.marked_tree.specs.Choice.{chosen}
@@ -29,20 +23,19 @@ use Rattle.holder_core.specs.declared.ask.BindingAsk.{BindingAsk}
 use Rattle.holder_core.specs.declared.errors.PresentError.{PresentError}
 use Rattle.holder_core.specs.declared.errors.PresentError.TheVariants.{Memory, Token as OnCondition, HasBinding, NoSuchPlace, ConsentRefused, BindingKeyDiffers, SignFailed, TooLong}
 use Rattle.holder_core.specs.declared.present_file.PresentFile.{PresentFile}
-use Rattle.holder_core.specs.Present.{rules_of, IsHeld, IsAgreed, Presents, NamesKey, IsBoundAs, IsAnswer, Refuses, IsNotPresented, not_read, refused, no_memory}
-use Rattle.verifier_core.specs.Verdict.{HasHash}
+use Rattle.holder_core.specs.Present.{IsHeld, Presents, NamesKey, IsBoundAs, IsAnswer, Refuses, not_read, refused, no_memory}
 use Rattle.verifier_core.specs.declared.policy.Policy.{Policy}
 use Rattle.sdjwt_cli.specs.Lines.{line}
 use Rattle.sdjwt_cli.specs.Never.{MayBeShown, never_rule}
 use Rattle.sdjwt_cli.specs.Presenting.{signing_key, IsPresentedFor, IsNotPresentedFor}
 use Rattle.sdjwt_cli.specs.Suits.{Suits, shown_for}
 use Rattle.sdjwt_cli.proofs.CompactLines.{alone}
-use Rattle.sdjwt_cli.proofs.HeldIssued.{IsAnswered, issued_token, issued_held, one_issued, one_marked}
+use Rattle.sdjwt_cli.proofs.HeldIssued.{IsIssuedBy, issued_token, issued_held, one_issued, one_marked}
 use Rattle.sdjwt_cli.proofs.KeptClaims.{holder_kept}
 use Rattle.sdjwt_cli.proofs.PresentedAccepted.{IsPresentedOf}
 use Rattle.sdjwt_cli.proofs.PresentedShort.{AreShort, answer_short}
 
-module _ (seed : List ℕ) (o : Order) (key : List ℕ) (parts : Parts) (passes : NoneApplies (issuing.Refuses o)) (is : IsAnswered seed o key parts)
+module _ (seed : List ℕ) (o : Order) (key : List ℕ) (parts : Parts) (passes : NoneApplies (issuing.Refuses o)) (is : IsIssuedBy seed o key parts)
     (said : PresentFile) (small : AreShort said.ask.binding) (now : ℕ) (in_range : now < 2 ^ 64) where
   abbrev pub text : List ℕ
   text = line (compact parts)

@@ -1,10 +1,8 @@
 -- What is presented of an issued token is accepted, where the policy suits, with what is asked for of the claims.
-use Rattle.std.proofs.Common.{◌≡◌, ◌⊎◌, inl, inr, ℕ, ◌+◌, ◌<◌, ◌≤◌, ◌^◌, Bool, true, false, List, [], ◌∷◌, length, Option, None, Some, IfSome, codes, refl, sym, ap, ap₂, subst, ◌∙◌, arith}
+use Rattle.std.proofs.Common.{◌≡◌, ℕ, ◌<◌, ◌^◌, Bool, true, List, length, Option, None, Some, sym, ap, ap₂, subst, ◌∙◌, arith}
 use Rattle.std.specs.Prelude.{option_and_then}
 use Rattle.std.specs.List.{AllZip}
 use Rattle.claim_tree.specs.Tree.{Text, Tree, no_members}
-use Rattle.claim_tree.specs.Lists.{In}
-use Rattle.compact_form.specs.declared.fault.Fault.{Fault}
 use Rattle.compact_form.specs.declared.fault.Place.{Place}
 use Rattle.compact_form.specs.declared.parts.JwtParts.{JwtParts}
 use Rattle.compact_form.specs.declared.parts.Parts.{Parts}
@@ -21,17 +19,15 @@ use Rattle.json_form.specs.Token.{IsToken}
 use Rattle.json_form.specs.declared.token.Token.{Token}
 use Rattle.json_form.proofs.Tokens as tokens
 use Rattle.key_binding.specs.Binding.{IsBinding, IsReadBack}
-use Rattle.key_binding.specs.BindingConditions.{BindingFails}
-use Rattle.key_binding.specs.Judged.{Judged, judged, holder_kid, holder_key}
-use Rattle.key_binding.specs.declared.policy.BindingPolicy.{BindingPolicy}
+use Rattle.key_binding.specs.Judged.{judged, holder_kid, holder_key}
 use Rattle.key_binding.proofs.Accepted.{accepted}
 use Rattle.marked_tree.specs.Choice.{chosen}
-use Rattle.marked_tree.specs.Marked.{Marked, strip, prune}
+use Rattle.marked_tree.specs.Marked.{Marked, strip}
 use Rattle.marked_tree.specs.Laws.{HasEachMarkOnce}
 use Rattle.marked_tree.proofs.LeastChoice.{chosen_below}
 use Rattle.marked_tree.proofs.MarkFacts.{marks_once_holds}
 use Rattle.rebuild_core.specs.Opening.{processed}
-use Rattle.verifier_core.specs.Verdict.{TokenFails, ClaimFails, HolderFails, Fails, of_file, of_missing, of_token, of_claims, of_holder, rules_of, Opens, HasHash, HasContent, IsChecked, IsAccepted, IsBindingMissing}
+use Rattle.verifier_core.specs.Verdict.{TokenFails, ClaimFails, HolderFails, Fails, of_file, of_missing, of_token, of_claims, of_holder, rules_of, Opens, HasContent, IsChecked, IsAccepted, IsBindingMissing}
 use Rattle.verifier_core.specs.declared.policy.Policy.{Policy}
 use Rattle.verifier_core.proofs.CheckSteps.{one_content}
 use Rattle.issuer_core.specs.Digests.{marked_of, hidden_of}
@@ -41,7 +37,7 @@ use Rattle.issuer_core.specs.Laws.{IsShownAs}
 use Rattle.issuer_core.specs.Order.{Order}
 use Rattle.issuer_core.specs.Seed.{maker_of}
 use Rattle.issuer_core.specs.Written.{header_of}
-use Rattle.issuer_core.proofs.IssuedContent.{IsTextOf, HasIssued}
+use Rattle.issuer_core.proofs.IssuedContent.{IsTextOf}
 use Rattle.issuer_core.proofs.IssuedShown.{issued_is_shown_holds}
 use Rattle.holder_core.specs.declared.ask.BindingAsk.{BindingAsk}
 use Rattle.holder_core.specs.declared.present_file.PresentFile.{PresentFile}
@@ -49,10 +45,10 @@ use Rattle.holder_core.specs.Present.{picked, Presents, NamesKey, IsBoundBy, IsB
 use Rattle.holder_core.proofs.PickedNumbers.{numbers, rising, enumerates, is_pick, zip_picked}
 use Rattle.sdjwt_cli.specs.Lines.{line}
 use Rattle.sdjwt_cli.specs.Presenting.{signing_key}
-use Rattle.sdjwt_cli.specs.Suits.{Suits, BindingSuits, shown_for}
+use Rattle.sdjwt_cli.specs.Suits.{Suits, shown_for}
 use Rattle.sdjwt_cli.proofs.CompactLines.{alone, line_token}
 use Rattle.sdjwt_cli.proofs.CheckedParts.{Takes, CarriesFor, content, checked}
-use Rattle.sdjwt_cli.proofs.HeldIssued.{IsAnswered, carries_issued}
+use Rattle.sdjwt_cli.proofs.HeldIssued.{IsIssuedBy, carries_issued}
 use Rattle.sdjwt_cli.proofs.PresentedShort.{AreShort, answer_words, answer_few, answer_short}
 
 -- the parts are what a holder presents of the issued ones, at a moment
@@ -61,7 +57,7 @@ pub record IsPresentedOf (o : Order) (said : PresentFile) (parts : Parts) (now :
   pub names : NamesKey said.ask.binding (shown_for o said.ask.want)
   pub bound : IsBoundAs said.ask.binding (IsGood (signing_key said.key)) HashAlg.Sha256 now answer
 
-module _ (seed : List ℕ) (o : Order) (key : List ℕ) (parts : Parts) (good : IsGoodOrder o) (is : IsAnswered seed o key parts)
+module _ (seed : List ℕ) (o : Order) (key : List ℕ) (parts : Parts) (good : IsGoodOrder o) (is : IsIssuedBy seed o key parts)
     (said : PresentFile) (small : AreShort said.ask.binding) (now : ℕ) (in_range : now < 2 ^ 64) (answer : Parts) (presented : IsPresentedOf o said parts now answer) where
   abbrev pub s : ℕ → Bool
   s = chosen (marked_of o) said.ask.want

@@ -1,12 +1,11 @@
 -- What is presented of an issued token is no longer than a compact text may be.
-use Rattle.std.proofs.Common.{◌≡◌, ℕ, suc, ◌+◌, ◌<◌, ◌≤◌, ◌^◌, List, [], ◌∷◌, ◌++◌, length, Bool, true, false, Option, None, Some, IfSome, codes, refl, sym, ap, subst, ◌∙◌, arith}
+use Rattle.std.proofs.Common.{◌≡◌, ℕ, suc, ◌+◌, ◌<◌, ◌≤◌, ◌^◌, List, [], ◌∷◌, ◌++◌, length, Bool, true, false, Option, None, Some, IfSome, codes, sym, ap, subst, arith}
 use Rattle.std.specs.Prelude.{if◌then◌else◌}
 use Rattle.std.specs.List.{AllByRecursion}
 use Rattle.std.proofs.lemmas.List.{length-append}
-use Rattle.b64url_text.specs.Base64url.{IsWord, b64}
+use Rattle.b64url_text.specs.Base64url.{IsWord}
 use Rattle.b64url_text.proofs.Codes.{IsWord-b64}
-use Rattle.claim_tree.specs.Tree.{Text, object, Members}
-use Rattle.claim_tree.specs.JsonText.{json_text}
+use Rattle.claim_tree.specs.Tree.{Text}
 use Rattle.compact_form.specs.declared.limits.TheConstants.{COMPACT_MAX, ISSUE_MAX, COUNT_MAX}
 use Rattle.compact_form.specs.declared.parts.JwtParts.{JwtParts}
 use Rattle.compact_form.specs.declared.parts.Parts.{Parts}
@@ -16,7 +15,7 @@ use Rattle.hmac_sign.specs.Hmac.{IsGood}
 use Rattle.hmac_sign.proofs.Macs.{length-mac}
 use Rattle.jws_part.specs.Header.{header_members}
 use Rattle.key_binding.specs.Binding.{IsBinding, binding_header, claim_members, claims_for}
-use Rattle.key_binding.proofs.Bindings.{binding_short}
+use Rattle.key_binding.proofs.Bindings.{object_word, binding_short}
 use Rattle.holder_core.specs.declared.ask.BindingAsk.{BindingAsk}
 use Rattle.holder_core.specs.Present.{picked, Presents, IsBoundWith, IsBoundAs}
 use Rattle.holder_core.proofs.Picking.{picked_words}
@@ -49,9 +48,6 @@ compact_length : (parts : Parts) → length (compact parts) ≡ length (hashed p
 compact_length parts = length-append (hashed parts) (ending parts.binding)
 
 -- ---- a key binding token
-
-object_word : (ms : Members) → IsWord (b64 (json_text (object ms)))
-object_word ms = IsWord-b64 (json_text (object ms)) (omega arith)
 
 binding_words : (key : List ℕ) (hash : HashAlg) (text aud nonce : Text) (now : ℕ) (token : JwtParts) → IsBinding (IsGood key) hash text aud nonce now token → HasWords token
 binding_words key hash text aud nonce now token is = record {

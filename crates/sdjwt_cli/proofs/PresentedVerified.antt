@@ -1,6 +1,6 @@
 -- The line that is presented of an issued token verifies to what is asked for.
-use Rattle.std.proofs.Common.{◌≡◌, ℕ, ◌<◌, ◌≤◌, ◌^◌, List, [], length, Option, None, Some, is_some, codes, refl, sym, ap, subst, ◌∙◌}
-use Rattle.claim_tree.specs.Tree.{Text, Tree, object, member_named}
+use Rattle.std.proofs.Common.{◌≡◌, ℕ, ◌<◌, ◌≤◌, ◌^◌, List, length, Option, None, Some, is_some, codes, sym, ap, subst}
+use Rattle.claim_tree.specs.Tree.{Text, Tree, member_named}
 use Rattle.claim_tree.specs.JsonText.{json_text}
 use Rattle.claim_tree.specs.FileForms.{Says, MaySay, found}
 use Rattle.claim_tree.specs.declared.file_fault.Field.TheVariants.{Binding}
@@ -19,14 +19,14 @@ use Rattle.issuer_core.proofs.IssuedContent.{has_issued}
 use Rattle.holder_core.specs.declared.ask.BindingAsk.{BindingAsk}
 use Rattle.holder_core.specs.declared.present_file.PresentFile.{PresentFile}
 use Rattle.holder_core.specs.Present.{picked}
-use Rattle.holder_core.specs.PresentFile.{BindingSaid, IsBindingOrder, both, IsPresentFile}
+use Rattle.holder_core.specs.PresentFile.{IsBindingOrder, both, IsPresentFile}
 use Rattle.holder_core.proofs.PresentFiles.{one_present}
 use Rattle.sdjwt_cli.specs.Issuing.{Issues}
 use Rattle.sdjwt_cli.specs.Lines.{line}
 use Rattle.sdjwt_cli.specs.Presenting.{Presents, DoesNotPresent, IsPresentedFor, IsNotPresentedFor}
 use Rattle.sdjwt_cli.specs.Suits.{Suits, shown_for}
 use Rattle.sdjwt_cli.specs.Verify.{Verifies}
-use Rattle.sdjwt_cli.proofs.HeldIssued.{IsAnswered}
+use Rattle.sdjwt_cli.proofs.HeldIssued.{IsIssuedBy}
 use Rattle.sdjwt_cli.proofs.NothingRefused.{is_presented_of, nothing_refused}
 use Rattle.sdjwt_cli.proofs.PresentedAccepted.{what_is_shown, presented_accepted}
 use Rattle.sdjwt_cli.proofs.PresentedShort.{AreShort}
@@ -53,7 +53,7 @@ asks_short bytes said is = short_by (found is.members Binding) said.ask.binding 
 
 module _ (order_file seed_file token present_file policy_file : List ℕ) (now later : ℕ) (issued : Issues order_file seed_file token) (said : PresentFile) (is_said : IsPresentFile present_file said)
     (policy : Policy) (is_policy : IsPolicyFile policy_file policy) (in_range : now < 2 ^ 64) (suits : Suits issued.order issued.key said policy now later) where
-  answered : IsAnswered issued.seed issued.order issued.key issued.parts
+  answered : IsIssuedBy issued.seed issued.order issued.key issued.parts
   answered = record {
     has = has_issued issued.seed issued.order (IsGood issued.key) issued.parts issued.writable issued.differ issued.laid;
     words = issued.words;

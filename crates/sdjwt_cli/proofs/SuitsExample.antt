@@ -1,12 +1,10 @@
 -- An order, what a holder is asked, and a policy that suits: the premise of the law of presenting at worked values.
-use Rattle.std.proofs.Common.{◌≡◌, ◌≢◌, inl, inr, ℕ, zero, suc, ◌≤◌, ◌+◌, true, List, [], ◌∷◌, ◌++◌, None, Some, codes, refl, sym, ap, subst, ◌∙◌, arith}
+use Rattle.std.proofs.Common.{◌≡◌, ◌≢◌, inl, inr, ℕ, zero, suc, ◌+◌, true, List, [], ◌∷◌, ◌++◌, None, Some, codes, refl, sym, ap, subst, ◌∙◌, arith}
 use Rattle.claim_tree.specs.Tree.{Text, Tree, leaf, text, object, no_members, member, get}
 use Rattle.claim_tree.specs.Lists.{At, In}
 use Rattle.claim_tree.specs.Path.{tree_at}
-use Rattle.compact_form.specs.declared.fault.Place.{Place}
 use Rattle.compact_form.specs.Lowest.{NoneFails}
 use Rattle.compact_form.specs.Condition as condition
-use Rattle.compact_form.specs.Condition.{Condition}
 use Rattle.compact_form.proofs.Lowest.{holds_too, none_fails}
 use Rattle.jws_part.specs.Times.{IsTimeUnreadable}
 use Rattle.key_binding.specs.declared.policy.BindingPolicy.{BindingPolicy}
