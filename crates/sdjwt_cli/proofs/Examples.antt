@@ -111,7 +111,7 @@ none_is_shown : MayBeShown ([] ∷ []) [] → ⊥
 none_is_shown h = h [] (inl refl) ([], refl)
 
 all_are_shown : MayBeShown [] (codes "a" ∷ [])
-all_are_shown front is = is
+all_are_shown front is leads = is
 
 -- ---- split
 
