@@ -24,9 +24,12 @@ const AGE: &str = "WyJkcmpncmFEeFBaQkFYV3JsVTRhOUtBIiwiYWdlIiw0MF0~";
 
 const GIVEN: &str = "WyJ2ZEladUtDTjdScW9OdV9NaTNjTnh3IiwiZ2l2ZW4iLCJBbm4iXQ~";
 
-// The token of a person in the flattened JSON form.
+// The same token in the flattened JSON form, behind its unprotected header, and its disclosures there.
 const FLAT: &str =
-    r#"{"header":{"disclosures":["WyJkcmpncmFEeFBaQkFYV3JsVTRhOUtBIiwiYWdlIiw0MF0","WyJ2ZEladUtDTjdScW9OdV9NaTNjTnh3IiwiZ2l2ZW4iLCJBbm4iXQ"]},"payload":"eyJfc2QiOlsiTzY4cE9YRXFZeG9HQlFMSC1MTE5IcmtyZzdib1djM0pPSWVKWVBOVGhsTSIsInF2eFB3blNtOHlROWxYU0VFSGl5VWdKUTJhem5EYUZRV280c2RCaUljUEEiXSwiX3NkX2FsZyI6InNoYS0yNTYiLCJpc3MiOiJpIn0","protected":"eyJhbGciOiJIUzI1NiJ9","signature":"0vNlqAfId-WMajZnAzWdLZ6lIF4RRshkUq6jY-nQ1IE"}"#;
+    r#","payload":"eyJfc2QiOlsiTzY4cE9YRXFZeG9HQlFMSC1MTE5IcmtyZzdib1djM0pPSWVKWVBOVGhsTSIsInF2eFB3blNtOHlROWxYU0VFSGl5VWdKUTJhem5EYUZRV280c2RCaUljUEEiXSwiX3NkX2FsZyI6InNoYS0yNTYiLCJpc3MiOiJpIn0","protected":"eyJhbGciOiJIUzI1NiJ9","signature":"0vNlqAfId-WMajZnAzWdLZ6lIF4RRshkUq6jY-nQ1IE"}"#;
+
+const BOTH: &str =
+    r#""disclosures":["WyJkcmpncmFEeFBaQkFYV3JsVTRhOUtBIiwiYWdlIiw0MF0","WyJ2ZEladUtDTjdScW9OdV9NaTNjTnh3IiwiZ2l2ZW4iLCJBbm4iXQ"]"#;
 
 // A token whose address is hidden, and its street inside it.
 const ADDRESS: &str =
@@ -73,6 +76,7 @@ fn named(name: &str) -> Option<&'static str> {
     match name {
         "person" => Some(PERSON),
         "flat" => Some(FLAT),
+        "both" => Some(BOTH),
         "age" => Some(AGE),
         "given" => Some(GIVEN),
         "address" => Some(ADDRESS),
@@ -174,7 +178,7 @@ fn the_disclosures_on_the_way_are_presented(rt: HostRuntime) -> Result<(), Fail>
 <person>~<age><given> ,"want":["/age","/given","/age"] 4 <person>~<age><given>
 <person>~<given><age> ,"want":["/age","/given"] 4 <person>~<given><age>
 <person>~<given> ,"want":["/given"] 3 <person>~<given>
-<flat> ,"want":["/given"] 4 <person>~<given>
+{"header":{<both>}<flat> ,"want":["/given"] 4 <person>~<given>
 <address>~<street><whole> ,"want":["/address/street"] 4 <address>~<street><whole>
 <address>~<street><whole> ,"want":["/address"] 4 <address>~<whole>
 <address>~<street><whole> ,"want":["/address/zip"] 4 <address>~<whole>
@@ -191,6 +195,7 @@ fn the_first_refusal_is_answered(rt: HostRuntime) -> Result<(), Fail> {
 <person>~<age><given>e.f.g  0 71
 <holder>~<four><bound> <wanted><binding> 0 71
 e30.e30.AA~ ,"want":["/no"],"never":[""] 0 refused 5 headerUnreadable
+{"header":{"kid":"no",<both>}<flat> ,"want":["/no"],"never":[""] 0 refused 9 issuerKeyUnknown
 <person>~<street> ,"want":["/no"],"never":[""] 3 refused 17 unreferencedDisclosure at 0
 <address>~<street>  2 refused 17 unreferencedDisclosure at 0
 <person>~<age><given> ,"want":["/iss","/nothing","/no"],"never":[""] 4 72 at 1
@@ -280,7 +285,9 @@ fn an_order_says_what_its_file_says(rt: HostRuntime) -> Result<(), Fail> {
     assert_eq!(rt; print_path(alloc, first)?.as_str(), "/a~1b");
     assert_eq!(rt; whole.never.len(), 1);
     assert!(rt; whole.key.is_some());
-    let asked = whole.ask.binding.ok_or("no binding")?;
+    let Some(asked) = &whole.ask.binding else {
+        return Err("no binding".into());
+    };
     assert_eq!(rt; asked.kid.as_str(), "h1");
     assert_eq!(rt; asked.aud.as_str(), "https://verifier.example.org");
     assert_eq!(rt; asked.nonce.as_str(), "1234567890");
