@@ -5,7 +5,6 @@ mod Shown
 mod ShowVerdicts
 mod VerifyVerdicts
 mod IssueVerdicts
-mod OtherRules
 mod NeverShown
 mod Presentings
 mod PresentVerdicts
