@@ -4,3 +4,4 @@ pub mod Steps
 pub mod PresentFiles
 pub mod OnePresentation
 pub mod PickedNumbers
+pub mod OtherRules
