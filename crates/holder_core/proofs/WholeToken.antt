@@ -1,5 +1,5 @@
 -- What follows for a token without disclosures: its payload has no mark, so nothing is chosen and pruning leaves it as it is.
-use Rattle.std.proofs.Common.{◌≡◌, ◌⊎◌, inl, inr, ℕ, ◌<◌, List, [], ◌∷◌, length, eqb, Bool, true, false, Option, Some, None, refl, sym, ap, ap₂, subst, ◌∙◌, arith, eq-eqb}
+use Rattle.std.proofs.Common.{◌≡◌, inl, inr, ℕ, List, [], length, Bool, true, false, Option, Some, None, refl, sym, ap, ap₂, subst, ◌∙◌, arith, eq-eqb}
 use Rattle.std.specs.Prelude.{if◌then◌else◌, ltb}
 use Rattle.std.specs.Option.{option_map, is_some}
 use Rattle.std.proofs.lemmas.Bool.Decides.{nat_tests}
@@ -14,7 +14,7 @@ use Rattle.marked_tree.specs.Numbers.{has}
 use Rattle.marked_tree.specs.Places.{Path}
 use Rattle.marked_tree.proofs.LeastChoice.{chosen_below}
 use Rattle.rebuild_core.proofs.Presented.{one_node_holds}
-use Rattle.selection_core.specs.Consent.{Answers, AllAllowed}
+use Rattle.selection_core.specs.Consent.{Answers}
 use Rattle.selection_core.specs.Refusals.{IsMissing}
 use Rattle.verifier_core.specs.Verdict.{Rules, IsChecked, IsCheckedAs}
 use Rattle.verifier_core.proofs.CheckSteps.{zip_length}
