@@ -1,9 +1,11 @@
 -- What is written of a token, with a line end behind it, is read as the token.
-use Rattle.std.proofs.Common.{◌≡◌, ℕ, ◌+◌, ◌<◌, ◌≤◌, Bool, true, false, List, [], ◌∷◌, ◌++◌, length, length-append, get_or, append_assoc, inr, refl, sym, ap, subst, ◌∙◌, arith}
+use Rattle.std.proofs.Common.{◌≡◌, ℕ, ◌+◌, ◌-◌, ◌<◌, ◌≤◌, Bool, true, false, List, [], ◌∷◌, ◌++◌, length, length-append, take, drop, get_or, append_assoc, inr, refl, sym, ap, subst, ◌∙◌, arith}
 use Rattle.std.specs.Prelude.{not}
+use Rattle.std.specs.List.{prefix_len, suffix_len}
 use Rattle.std.proofs.lemmas.Bool.{le-ltb}
 use Rattle.std.proofs.Math.Bool.{and-false}
-use Rattle.std.proofs.Math.Seq.{get_or-append_seam}
+use Rattle.std.proofs.lemmas.List.Sums.{suffix_len_is}
+use Rattle.std.proofs.Math.Seq.{get_or-append_seam, take-length}
 use Rattle.serde_json.specs.Data as port
 use Rattle.serde_json.specs.Written.{members_text, compact_text, comma_if}
 use Rattle.json.specs.Print.{quoted}
@@ -13,7 +15,7 @@ use Rattle.compact_form.specs.declared.limits.TheConstants.{FILE_MAX, COMPACT_MA
 use Rattle.compact_form.specs.declared.fault.Fault.{Fault}
 use Rattle.compact_form.specs.declared.parts.Parts.{Parts}
 use Rattle.compact_form.specs.Compact.{compact, AreWords}
-use Rattle.compact_form.specs.Trim.{is_blank, trimmed}
+use Rattle.compact_form.specs.Trim.{is_blank, without_back, trimmed}
 use Rattle.compact_form.specs.Token.{is_json, is_too_long}
 use Rattle.compact_form.proofs.Printed.{is_compact}
 use Rattle.compact_form.proofs.Trimmed.{trimmed_line, printed_line, printed_plainly}
@@ -47,6 +49,20 @@ last_brace rest front is =
 json_line : (ms : Members) → trimmed (json_text (object ms) ++ 10 ∷ []) ≡ json_text (object ms)
 json_line ms = let end = members_end false (members_data ms) in trimmed_line 123 (members_text false (members_data ms)) refl (last_brace (members_text false (members_data ms)) end.front end.is)
 
+-- where neither its first byte nor its last is a blank
+bare : (byte : ℕ) (rest : Text) → is_blank byte ≡ false → is_blank (get_or (byte ∷ rest) (length rest) 0) ≡ false → trimmed (byte ∷ rest) ≡ byte ∷ rest
+bare byte rest first last =
+    let x = byte ∷ rest in
+    let front : prefix_len is_blank x ≡ 0 = rw first refl in
+    let back : suffix_len is_blank x ≡ length x - length x =
+    suffix_len_is is_blank x (length x) 0 (omega arith) (λ k from to. absurd (omega (arith, from, to)))
+    (λ some. let before : length x - 1 ≡ length rest = omega arith in rw before last) in
+    let kept : length x - suffix_len is_blank x ≡ length x = omega (arith, back) in
+    ap (λ (n : ℕ). without_back (drop n x)) front ∙ (ap (λ (n : ℕ). take n x) kept ∙ take-length x)
+
+json_bare : (ms : Members) → trimmed (json_text (object ms)) ≡ json_text (object ms)
+json_bare ms = let end = members_end false (members_data ms) in bare 123 (members_text false (members_data ms)) refl (last_brace (members_text false (members_data ms)) end.front end.is)
+
 -- ---- a text that is no longer than it may be
 
 pub read_spelled : (text : List ℕ) (token : Token) → Spells (trimmed text) token → is_too_long text ≡ false → (IsTooMuch token.parts → ⊥) → IsToken text token
@@ -65,6 +81,14 @@ read_json_line token ms is small few =
     let bare : trimmed whole ≡ json_text (object ms) = json_line ms in
     let json : is_json (trimmed whole) ≡ true = ap is_json bare in
     read_spelled whole token (subst (λ (x : Text). Spells x token) (sym bare) (spells_json refl is)) (short_text whole json small) few
+
+-- the same without a line end
+pub read_json_text : (token : Token) (ms : Members) → IsJson token (json_text (object ms)) → length (json_text (object ms)) ≤ FILE_MAX → (IsTooMuch token.parts → ⊥) → IsToken (json_text (object ms)) token
+read_json_text token ms is small few =
+    let whole = json_text (object ms) in
+    let same : trimmed whole ≡ whole = json_bare ms in
+    let json : is_json (trimmed whole) ≡ true = ap is_json same in
+    read_spelled whole token (subst (λ (x : Text). Spells x token) (sym same) (spells_json refl is)) (short_text whole json small) few
 
 -- the compact serialization
 pub read_compact_line : (parts : Parts) → AreWords parts → (IsTooMuch parts → ⊥) → IsToken (compact parts ++ 10 ∷ []) (record { parts = parts; outer = no_members })

@@ -21,7 +21,7 @@ use Rattle.json_form.specs.declared.token.Token.{Token}
 use Rattle.json_form.specs.declared.entries.Entries.{Entries}
 use Rattle.json_form.specs.Json.{found, IsWordTree, AreWordTrees, IsJwtTree, IsObject, HeaderSays, IsStray, IsFlat, IsGeneral}
 use Rattle.json_form.specs.Reading.{HasEntries, itself, listed, MembersSay}
-use Rattle.json_form.specs.Written.{IsPrintable, with_binding, header_of, flat_of, entry_of, general_of}
+use Rattle.json_form.specs.Written.{IsPrintable, with_binding, header_of, flat_members, flat_of, entry_of, general_members, general_of}
 
 -- ---- lists of texts
 
@@ -100,11 +100,7 @@ flat_depth token good = omega (arith, header_depth token, good.shallow)
 pub flat_says : (token : Token) (bytes : Text) → IsPrintable token → Reads bytes (flat_of token) → IsFlat token bytes
 flat_says token bytes good reads =
     record {
-      members = member (word_of Header) (object (header_of token)) (
-          member (word_of Payload) (leaf (text token.parts.signed.payload)) (
-          member (word_of Protected) (leaf (text token.parts.signed.protected)) (member (word_of Signature) (leaf (text token.parts.signed.signature)) no_members)
-          )
-          );
+      members = flat_members token;
       reads = reads;
       flat = refl;
       payload = record { is = refl; word = good.words.signed.payload };
@@ -132,7 +128,7 @@ one_alone first (suc place) stray = let both : Some stray.entry ≡ None = sym s
 pub general_says : (token : Token) (bytes : Text) → IsPrintable token → Reads bytes (general_of token) → IsGeneral token bytes
 general_says token bytes good reads =
     record {
-      members = member (word_of Payload) (leaf (text token.parts.signed.payload)) (member (word_of Signatures) (array (element (object (entry_of token)) no_elements)) no_members);
+      members = general_members token;
       reads = reads;
       first = entry_of token;
       later = no_elements;

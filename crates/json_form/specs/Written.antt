@@ -26,15 +26,16 @@ with_binding (Some j) ms = inserted ms (word_of KbJwt) (leaf (text (jwt j)))
 abbrev pub header_of : Token → Members
 header_of token = inserted (with_binding token.parts.binding token.outer) (word_of Disclosures) (array (text_elements token.parts.disclosures))
 
-abbrev pub flat_of : Token → Tree
-flat_of token =
-    object (
+abbrev pub flat_members : Token → Members
+flat_members token =
     member (word_of Header) (object (header_of token)) (
     member (word_of Payload) (leaf (text token.parts.signed.payload)) (
     member (word_of Protected) (leaf (text token.parts.signed.protected)) (member (word_of Signature) (leaf (text token.parts.signed.signature)) no_members)
     )
     )
-    )
+
+abbrev pub flat_of : Token → Tree
+flat_of token = object (flat_members token)
 
 -- what belongs to the one signature
 abbrev pub entry_of : Token → Members
@@ -43,5 +44,8 @@ entry_of token =
     member (word_of Protected) (leaf (text token.parts.signed.protected)) (member (word_of Signature) (leaf (text token.parts.signed.signature)) no_members)
     )
 
+abbrev pub general_members : Token → Members
+general_members token = member (word_of Payload) (leaf (text token.parts.signed.payload)) (member (word_of Signatures) (array (element (object (entry_of token)) no_elements)) no_members)
+
 abbrev pub general_of : Token → Tree
-general_of token = object (member (word_of Payload) (leaf (text token.parts.signed.payload)) (member (word_of Signatures) (array (element (object (entry_of token)) no_elements)) no_members))
+general_of token = object (general_members token)

@@ -7,6 +7,7 @@ pub mod CheckSteps
 pub mod CheckTests
 pub mod Verdicts
 pub mod OneVerdict
+pub mod SameVerdict
 pub mod ContentFacts
 mod Examples
 pub mod BindingPolicies

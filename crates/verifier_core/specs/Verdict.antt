@@ -1,8 +1,9 @@
 -- The verdict on a token: what fails each condition and at which place, and the lowest that fails (RFC 9901 section 7.3).
-use Rattle.std.specs.Prelude.{◌≡◌, ◌≢◌, ℕ, ◌⊎◌, List, Option, Some, None, codes, option_map, slice_get}
+use Rattle.std.specs.Prelude.{◌≡◌, ◌≢◌, ◌↔◌, ℕ, ◌⊎◌, List, Option, Some, None, codes, option_map, slice_get}
 use Rattle.std.specs.List.{AllZip}
 use Rattle.claim_tree.specs.Tree.{Text, Tree, leaf, text, get}
 use Rattle.claim_tree.specs.Lists.{At as StandsAt}
+use Rattle.compact_form.specs.declared.fault.Fault.{Fault}
 use Rattle.compact_form.specs.declared.fault.Place.{Place}
 use Rattle.compact_form.specs.declared.parts.JwtParts.{JwtParts}
 use Rattle.compact_form.specs.declared.parts.Parts.{Parts}
@@ -27,7 +28,7 @@ use Rattle.rebuild_core.specs.Opening.{processed}
 use Rattle.rebuild_core.specs.Conditions as opening
 use Rattle.compact_form.specs.Condition as condition
 use Rattle.compact_form.specs.Condition.{Condition, number_of}
-use Rattle.compact_form.specs.Lowest.{Unplaced, Numbered, NoneFails}
+use Rattle.compact_form.specs.Lowest.{Unplaced, Numbered, NoneFails, IsLowest}
 use Rattle.key_binding.specs.Judged.{judged}
 use Rattle.key_binding.specs.BindingConditions.{BindingFails}
 use Rattle.key_binding.specs.declared.policy.BindingPolicy.{BindingPolicy}
@@ -177,3 +178,10 @@ IsCheckedAs token rules payload = (marked : Marked) × IsChecked token rules mar
 
 abbrev pub IsAcceptedAs : List ℕ → Policy → ℕ → Tree → Type 0
 IsAcceptedAs content policy now payload = (marked : Marked) × IsAccepted content policy now marked × (payload ≡ strip marked)
+
+-- ---- two texts
+
+-- the texts are accepted with the same payload, or refused with the same fault
+pub record HaveOneVerdict (text other : List ℕ) (policy : Policy) (now : ℕ) : Type 0 where
+  pub accepted : (marked : Marked) → IsAccepted text policy now marked ↔ IsAccepted other policy now marked
+  pub refused : (fault : Fault) → IsLowest (Fails text policy now) fault ↔ IsLowest (Fails other policy now) fault

@@ -4,6 +4,7 @@ use b64url_text::encode;
 use claim_tree::{Field, FileFault};
 use disclosure::{HashAlg, digest};
 use hmac_sign::Hs256Key;
+use json_form::{print_flat, print_general, read_token};
 use std::alloc::Global;
 use std::test::Fail;
 
@@ -52,121 +53,37 @@ fn judged(
     verdict(alloc, whole.as_str(), ONE, BINDING, 1000)
 }
 
+// A payload, a header and claims, and the verdict: a line each, with blanks between.
+const CASES: &str =
+    r##"{"cnf":{"kid":"two"}} {"alg":"HS256","typ":"kb+jwt"} {"aud":"v","iat":1000,"nonce":"n","sd_hash":"#"} 0 {"cnf":{"kid":"two"}}
+{} [] [] refused 27 holderKeyUnknown
+{"cnf":{"kid":"one"}} {"alg":"HS256","typ":"kb+jwt"} {} refused 27 holderKeyUnknown
+{"cnf":{"kid":2}} {"alg":"HS256","typ":"kb+jwt"} {} refused 27 holderKeyUnknown
+{"cnf":"two"} {"alg":"HS256","typ":"kb+jwt"} {} refused 27 holderKeyUnknown
+{"cnf":{"kid":"two"}} [] [] refused 28 bindingHeader
+{"cnf":{"kid":"two"}} {"alg":"HS256","crit":[]} [] refused 28 bindingHeader
+{"cnf":{"kid":"two"}} {"alg":"none","typ":"kb+jwt"} [] refused 29 bindingAlg
+{"cnf":{"kid":"two"}} {"alg":"HS256"} {} refused 31 bindingType
+{"cnf":{"kid":"two"}} {"alg":"HS256","typ":"KB+JWT"} [] refused 31 bindingType
+{"cnf":{"kid":"two"}} {"alg":"HS256","typ":"kb+jwt"} [] refused 32 bindingPayload
+{"cnf":{"kid":"two"}} {"alg":"HS256","typ":"kb+jwt"} {"aud":"v","iat":"1000","nonce":"n","sd_hash":"#"} refused 32 bindingPayload
+{"cnf":{"kid":"two"}} {"alg":"HS256","typ":"kb+jwt"} {"iat":1,"nonce":"n","sd_hash":"#"} refused 32 bindingPayload
+{"cnf":{"kid":"two"}} {"alg":"HS256","typ":"kb+jwt"} {"aud":"w","iat":1000,"nonce":"m","sd_hash":"#"} refused 35 nonceDiffers
+{"cnf":{"kid":"two"}} {"alg":"HS256","typ":"kb+jwt"} {"aud":"w","iat":1000,"nonce":"n","sd_hash":""} refused 36 audienceDiffers
+{"cnf":{"kid":"two"}} {"alg":"HS256","typ":"kb+jwt"} {"aud":"v","exp":1,"iat":1000,"nonce":"n","sd_hash":"#="} refused 37 hashDiffers"##;
+
 #[test]
 fn a_key_binding_token_is_judged(rt: HostRuntime) -> Result<(), Fail> {
     let alloc = rt.alloc();
-    for (payload, header, claims, answer) in [
-        (HOLDER, HEADER, CLAIMS, r#"0 {"cnf":{"kid":"two"}}"#),
-        ("{}", "[]", "[]", "refused 27 holderKeyUnknown"),
-        (
-            r#"{"cnf":{"kid":"one"}}"#,
-            HEADER,
-            CLAIMS,
-            "refused 27 holderKeyUnknown",
-        ),
-        (
-            r#"{"cnf":"two"}"#,
-            HEADER,
-            CLAIMS,
-            "refused 27 holderKeyUnknown",
-        ),
-        (HOLDER, "[]", "[]", "refused 28 bindingHeader"),
-        (
-            HOLDER,
-            r#"{"alg":"HS256","crit":[]}"#,
-            "[]",
-            "refused 28 bindingHeader",
-        ),
-        (
-            HOLDER,
-            r#"{"alg":"none","typ":"kb+jwt"}"#,
-            "[]",
-            "refused 29 bindingAlg",
-        ),
-        (HOLDER, HS256, CLAIMS, "refused 31 bindingType"),
-        (
-            HOLDER,
-            r#"{"alg":"HS256","typ":"KB+JWT"}"#,
-            "[]",
-            "refused 31 bindingType",
-        ),
-        (HOLDER, HEADER, "[]", "refused 32 bindingPayload"),
-        (
-            HOLDER,
-            HEADER,
-            r##"{"aud":"v","iat":"1000","nonce":"n","sd_hash":"#"}"##,
-            "refused 32 bindingPayload",
-        ),
-        (
-            HOLDER,
-            HEADER,
-            r##"{"iat":1,"nonce":"n","sd_hash":"#"}"##,
-            "refused 32 bindingPayload",
-        ),
-        (
-            HOLDER,
-            HEADER,
-            r##"{"aud":"w","iat":1000,"nonce":"m","sd_hash":"#"}"##,
-            "refused 35 nonceDiffers",
-        ),
-        (
-            HOLDER,
-            HEADER,
-            r##"{"aud":"w","iat":1000,"nonce":"n","sd_hash":""}"##,
-            "refused 36 audienceDiffers",
-        ),
-        (
-            HOLDER,
-            HEADER,
-            r##"{"aud":"v","exp":1,"iat":1000,"nonce":"n","sd_hash":"#="}"##,
-            "refused 37 hashDiffers",
-        ),
-    ] {
+    for line in CASES.split('\n') {
+        let (payload, rest) = line.split_once(' ').ok_or("no payload")?;
+        let (header, rest) = rest.split_once(' ').ok_or("no header")?;
+        let (claims, answer) = rest.split_once(' ').ok_or("no claims")?;
         let found = judged(alloc, payload, header, claims, 2)?;
-        assert_eq!(rt; found.as_str(), answer, "{header} {claims}");
+        assert_eq!(rt; found.as_str(), answer, "{line}");
     }
     let foreign = judged(alloc, HOLDER, HS256, "[]", 1)?;
     assert_eq!(rt; foreign.as_str(), "refused 30 bindingSignature");
-    Ok(())
-}
-
-#[test]
-fn a_key_binding_token_has_its_time(rt: HostRuntime) -> Result<(), Fail> {
-    let alloc = rt.alloc();
-    let token = signed(alloc, HS256, HOLDER, "")?;
-    let token = token.as_str();
-    let skew = format!(in alloc; "{BINDING},\"skew\":10")?;
-    let skew = skew.as_str();
-    let accepted = r#"0 {"cnf":{"kid":"two"}}"#;
-    for (time, members, now, answer) in [
-        ("", BINDING, 1300, accepted),
-        ("", BINDING, 1301, "refused 33 bindingStale"),
-        ("", skew, 1310, accepted),
-        ("", skew, 1311, "refused 33 bindingStale"),
-        ("", BINDING, 1000, accepted),
-        ("", BINDING, 999, "refused 34 bindingEarly"),
-        ("", skew, 990, accepted),
-        ("", skew, 989, "refused 34 bindingEarly"),
-        (r#""exp":1101,"#, BINDING, 1100, accepted),
-        (r#""exp":1101,"#, BINDING, 1101, "refused 38 bindingTime"),
-        (r#""exp":1101,"#, skew, 1110, accepted),
-        (r#""exp":1101,"#, skew, 1111, "refused 38 bindingTime"),
-        (r#""nbf":1101,"#, BINDING, 1101, accepted),
-        (r#""nbf":1101,"#, BINDING, 1100, "refused 38 bindingTime"),
-        (r#""nbf":1101,"#, skew, 1091, accepted),
-        (r#""nbf":1101,"#, skew, 1090, "refused 38 bindingTime"),
-        (r#""exp":"x","#, BINDING, 1000, "refused 38 bindingTime"),
-        (r#""nbf":null,"#, BINDING, 1000, "refused 38 bindingTime"),
-    ] {
-        let claims = format!(in alloc;
-            "{{{time}\"aud\":\"v\",\"iat\":1000,\"nonce\":\"n\",\"sd_hash\":\"#\"}}"
-        )?;
-        let binding = bound(alloc, token, HEADER, claims.as_str(), 2)?;
-        let binding = binding.as_str();
-        let whole = format!(in alloc; "{token}{binding}")?;
-        let found = verdict(alloc, whole.as_str(), ONE, members, now)?;
-        assert_eq!(rt; found.as_str(), answer, "{time} {now}");
-    }
     Ok(())
 }
 
@@ -205,6 +122,31 @@ fn a_key_binding_token_is_over_what_is_sent(rt: HostRuntime) -> Result<(), Fail>
     assert_eq!(rt; found.as_str(), r#"4 {"a":1,"cnf":{"kid":"two"}}"#);
     let found = bound_over(alloc, fewer.as_str(), fewer.as_str())?;
     assert_eq!(rt; found.as_str(), r#"3 {"cnf":{"kid":"two"}}"#);
+    Ok(())
+}
+
+#[test]
+fn each_serialization_has_one_verdict(rt: HostRuntime) -> Result<(), Fail> {
+    let alloc = rt.alloc();
+    let texts = r#"["s","cnf",{"kid":"two"}]|["s","a",1]"#;
+    let token = signed(alloc, HS256, r#"{"_sd":["<0>","<1>"]}"#, texts)?;
+    let binding = bound(alloc, token.as_str(), HEADER, CLAIMS, 2)?;
+    let token = token.as_str();
+    let binding = binding.as_str();
+    let compact = format!(in alloc; "{token}{binding}")?;
+    let token = read_token(alloc, compact.as_str().as_bytes()).map_err(|_| "refused")?;
+    let flat = print_flat(alloc, &token)?;
+    let general = print_general(alloc, &token)?;
+    for text in [compact.as_str(), flat.as_str(), general.as_str()] {
+        let found = verdict(alloc, text, ONE, BINDING, 1000)?;
+        assert_eq!(rt;
+            found.as_str(),
+            r#"4 {"a":1,"cnf":{"kid":"two"}}"#,
+            "{text}"
+        );
+        let found = verdict(alloc, text, ONE, BINDING, 999)?;
+        assert_eq!(rt; found.as_str(), "refused 34 bindingEarly", "{text}");
+    }
     Ok(())
 }
 

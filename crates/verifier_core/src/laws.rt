@@ -1,11 +1,19 @@
 //! What the definitions of conditions and policies say together. Each law holds for every value.
-ghost use Rattle.std.specs.Prelude.{◌≡◌, ◌≢◌, ℕ, List, Some};
+ghost use Rattle.std.specs.Prelude.{◌≡◌, ◌≢◌, ◌≤◌, ℕ, List, length, false};
 ghost use Rattle.claim_tree.specs.declared.file_fault.FileFault.{FileFault};
+ghost use Rattle.claim_tree.specs.JsonText.{json_text};
 ghost use Rattle.compact_form.specs.declared.fault.Fault.{Fault};
+ghost use Rattle.compact_form.specs.declared.limits.TheConstants.{FILE_MAX};
+ghost use Rattle.compact_form.specs.Token.{is_too_long};
+ghost use Rattle.compact_form.specs.Trim.{trimmed};
+ghost use Rattle.json_form.specs.declared.token.Token.{Token};
+ghost use Rattle.json_form.specs.Json.{IsFlat, IsGeneral};
+ghost use Rattle.json_form.specs.Token.{IsToken, Spells};
+ghost use Rattle.json_form.specs.Written.{flat_of, general_of};
 ghost use Rattle.marked_tree.specs.Marked.{Marked};
 ghost use Rattle.verifier_core.specs.FaultLine.{IsFault, IsFaultLine};
 ghost use Rattle.verifier_core.specs.PolicyFile.{IsPolicyFile, IsPolicyRefused};
-ghost use Rattle.verifier_core.specs.Verdict.{Fails, IsAccepted};
+ghost use Rattle.verifier_core.specs.Verdict.{Fails, IsAccepted, HaveOneVerdict};
 ghost use Rattle.compact_form.specs.Lowest.{IsLowest};
 ghost use Rattle.verifier_core.specs.declared.policy.Policy.{Policy};
 
@@ -30,4 +38,18 @@ pub fn one_verdict()
         → IsAccepted content policy now marked → IsAccepted content policy now other → marked ≡ other }
     ensures one_fault { (content : List ℕ) (policy : Policy) (now : ℕ) (fault other : Fault)
         → IsLowest (Fails content policy now) fault → IsLowest (Fails content policy now) other → fault ≡ other }
+{}
+
+/// The serializations of a token have one verdict: where one text is read as a token, every text that spells the token and
+/// is not too long is judged alike. So are the flattened and the general form that `json_form` writes, where they are not
+/// too long; each is read as its token (RFC 9901 section 8).
+pub fn same_verdict()
+    ensures spelled { (text other : List ℕ) (token : Token) (policy : Policy) (now : ℕ)
+        → IsToken text token → Spells (trimmed other) token → is_too_long other ≡ false → HaveOneVerdict text other policy now }
+    ensures flat { (text : List ℕ) (token : Token) (policy : Policy) (now : ℕ)
+        → IsToken text token → IsFlat token (json_text (flat_of token)) → length (json_text (flat_of token)) ≤ FILE_MAX
+        → HaveOneVerdict text (json_text (flat_of token)) policy now }
+    ensures general { (text : List ℕ) (token : Token) (policy : Policy) (now : ℕ)
+        → IsToken text token → IsGeneral token (json_text (general_of token)) → length (json_text (general_of token)) ≤ FILE_MAX
+        → HaveOneVerdict text (json_text (general_of token)) policy now }
 {}

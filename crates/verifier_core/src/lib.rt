@@ -16,13 +16,13 @@ mod check_signed;
 mod check_tests;
 mod claims;
 #[cfg(test)]
-mod claims_tests;
-#[cfg(test)]
 mod condition_tests;
 mod holder;
 pub mod laws;
 mod policy;
 mod refusal;
+#[cfg(test)]
+mod rows;
 #[cfg(test)]
 mod test_tokens;
 #[cfg(test)]

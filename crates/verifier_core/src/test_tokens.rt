@@ -16,6 +16,10 @@ pub(crate) const HS256: &str = r#"{"alg":"HS256"}"#;
 pub(crate) const ONE: &str =
     r#"{"kty":"oct","kid":"one","k":"AQEBAQEBAQEBAQEBAQEBAQEBAQEBAQEBAQEBAQEBAQE"}"#;
 
+/// The key of 32 bytes 2.
+pub(crate) const TWO: &str =
+    r#"{"kty":"oct","kid":"two","k":"AgICAgICAgICAgICAgICAgICAgICAgICAgICAgICAgI"}"#;
+
 /// The text with digest i in the place of each `<i>`.
 fn filled(alloc: Global, text: &str, digests: &TextList) -> Result<String, Fail> {
     let mut filled = String::new(alloc);

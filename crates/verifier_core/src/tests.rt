@@ -1,6 +1,7 @@
+use crate::rows::word;
 use crate::{Policy, fault_line, read_policy};
-use claim_tree::{Field, FileFault};
-use compact_form::{FILE_MAX, Fault, JsonPlace, Part, Place};
+use claim_tree::FileFault;
+use compact_form::{FILE_MAX, Fault, Place};
 use sd_outside::TextList;
 use std::alloc::Global;
 use std::test::Fail;
@@ -49,48 +50,54 @@ fn a_policy_says_what_its_file_says(rt: HostRuntime) -> Result<(), Fail> {
     Ok(())
 }
 
+// The fault of a file that is no policy.
+fn fault_of(alloc: Global, text: &str) -> Result<String, Fail> {
+    let (word, field) = match read_policy(alloc, text.as_bytes()).err() {
+        Some(FileFault::NotJson) => ("notJson", ""),
+        Some(FileFault::NotWhole) => ("notWhole", ""),
+        Some(FileFault::NotObject) => ("notObject", ""),
+        Some(FileFault::Unknown) => ("unknown", ""),
+        Some(FileFault::Missing(field)) => ("missing ", field.word()),
+        Some(FileFault::Wrong(field)) => ("wrong ", field.word()),
+        _ => return Err("another answer".into()),
+    };
+    Ok(format!(in alloc; "{word}{field}")?)
+}
+
+// Files, where `#` is a key set, and the fault of each.
+const FAULTS: &str = r#"- notJson
+{ notJson
+[1.5] notWhole
+[] notObject
+{} missing keys
+{"algs":1} missing keys
+{"a":1} unknown
+{"keys":1e999,"a":1.5} notJson
+{"keys":1.5,"binding":{}} notWhole
+{"keys":#,"bindings":{}} unknown
+{"keys":[],"Keys":[]} unknown
+{"keys":[]} wrong keys
+{"keys":{"keys":[{}]}} wrong keys
+{"keys":{"keys":[{"kty":"oct","k":"AQ"}]},"skew":3601} wrong keys
+{"keys":#,"algs":"HS256"} wrong algs
+{"keys":#,"algs":["a",1]} wrong algs
+{"keys":#,"typ":null} wrong typ
+{"keys":#,"iss":[],"typ":1} wrong typ
+{"keys":#,"iss":[]} wrong iss
+{"keys":#,"require":{}} wrong require
+{"keys":#,"skew":3601} wrong skew
+{"keys":#,"skew":-1} wrong skew
+{"keys":#,"skew":4294967296} wrong skew
+{"keys":#,"skew":"1","binding":{}} wrong skew"#;
+
 #[test]
 fn a_policy_with_a_fault_is_refused(rt: HostRuntime) -> Result<(), Fail> {
     let alloc = rt.alloc();
-    let short = "{\"keys\":[{\"kty\":\"oct\",\"k\":\"AQ\"}]}";
-    for (keys, members, fault) in [
-        ("1.5", ",\"binding\":{}", FileFault::NotWhole),
-        ("1e999", ",\"a\":1.5", FileFault::NotJson),
-        (KEYS, ",\"bindings\":{}", FileFault::Unknown),
-        ("[]", ",\"Keys\":[]", FileFault::Unknown),
-        ("[]", "", FileFault::Wrong(Field::Keys)),
-        ("{\"keys\":[{}]}", "", FileFault::Wrong(Field::Keys)),
-        (short, ",\"skew\":3601", FileFault::Wrong(Field::Keys)),
-        (KEYS, ",\"algs\":\"HS256\"", FileFault::Wrong(Field::Algs)),
-        (KEYS, ",\"algs\":[\"a\",1]", FileFault::Wrong(Field::Algs)),
-        (KEYS, ",\"typ\":null", FileFault::Wrong(Field::Typ)),
-        (KEYS, ",\"iss\":[],\"typ\":1", FileFault::Wrong(Field::Typ)),
-        (KEYS, ",\"iss\":[]", FileFault::Wrong(Field::Iss)),
-        (KEYS, ",\"require\":{}", FileFault::Wrong(Field::Require)),
-        (KEYS, ",\"skew\":3601", FileFault::Wrong(Field::Skew)),
-        (KEYS, ",\"skew\":-1", FileFault::Wrong(Field::Skew)),
-        (KEYS, ",\"skew\":4294967296", FileFault::Wrong(Field::Skew)),
-        (
-            KEYS,
-            ",\"skew\":\"1\",\"binding\":{}",
-            FileFault::Wrong(Field::Skew),
-        ),
-    ] {
-        let text = format!(in alloc; "{{\"keys\":{keys}{members}}}")?;
-        let read = read_policy(alloc, text.as_bytes());
-        assert_eq!(rt; read.err(), Some(fault), "{text}");
-    }
-    for (text, fault) in [
-        ("", FileFault::NotJson),
-        ("{", FileFault::NotJson),
-        ("[1.5]", FileFault::NotWhole),
-        ("[]", FileFault::NotObject),
-        ("{}", FileFault::Missing(Field::Keys)),
-        ("{\"algs\":1}", FileFault::Missing(Field::Keys)),
-        ("{\"a\":1}", FileFault::Unknown),
-    ] {
-        let read = read_policy(alloc, text.as_bytes());
-        assert_eq!(rt; read.err(), Some(fault), "{text}");
+    for row in FAULTS.split('\n') {
+        let (text, wanted) = word(row)?;
+        let text = text.replace(alloc, "#", KEYS)?;
+        let found = fault_of(alloc, text.as_str())?;
+        assert_eq!(rt; found.as_str(), wanted, "{row}");
     }
     Ok(())
 }
@@ -111,105 +118,56 @@ fn a_policy_has_a_limit(rt: HostRuntime) -> Result<(), Fail> {
     Ok(())
 }
 
+// The lines of the conditions, in their order.
+const LINES: &str = "refused 1 tooLong
+refused 2 form
+refused 3 tooMuch
+refused 4 bindingMissing
+refused 5 headerUnreadable
+refused 6 headerCritical
+refused 7 algRefused
+refused 8 typeRefused
+refused 9 issuerKeyUnknown
+refused 10 badSignature
+refused 11 payloadUnreadable
+refused 12 hashUnknown
+refused 13 disclosureUnreadable
+refused 14 repeatedDisclosure
+refused 15 reservedMisused
+refused 16 repeatedDigest
+refused 17 unreferencedDisclosure
+refused 18 wrongShape
+refused 19 reservedName
+refused 20 nameClash
+refused 21 tooDeep
+refused 22 issuerRefused
+refused 23 claimMissing
+refused 24 timeUnreadable
+refused 25 expired
+refused 26 notYet
+refused 27 holderKeyUnknown
+refused 28 bindingHeader
+refused 29 bindingAlg
+refused 30 bindingSignature
+refused 31 bindingType
+refused 32 bindingPayload
+refused 33 bindingStale
+refused 34 bindingEarly
+refused 35 nonceDiffers
+refused 36 audienceDiffers
+refused 37 hashDiffers
+refused 38 bindingTime
+";
+
 #[test]
 fn each_condition_has_its_line(rt: HostRuntime) -> Result<(), Fail> {
-    for (number, place, line) in [
-        (1, Place::Nowhere, "refused 1 tooLong"),
-        (2, Place::At(37), "refused 2 form at 37"),
-        (3, Place::Nowhere, "refused 3 tooMuch"),
-        (4, Place::Nowhere, "refused 4 bindingMissing"),
-        (5, Place::Nowhere, "refused 5 headerUnreadable"),
-        (6, Place::Nowhere, "refused 6 headerCritical"),
-        (7, Place::Nowhere, "refused 7 algRefused"),
-        (8, Place::Nowhere, "refused 8 typeRefused"),
-        (9, Place::Nowhere, "refused 9 issuerKeyUnknown"),
-        (10, Place::Nowhere, "refused 10 badSignature"),
-        (11, Place::Nowhere, "refused 11 payloadUnreadable"),
-        (12, Place::Nowhere, "refused 12 hashUnknown"),
-        (13, Place::At(0), "refused 13 disclosureUnreadable at 0"),
-        (14, Place::At(1), "refused 14 repeatedDisclosure at 1"),
-        (15, Place::At(2), "refused 15 reservedMisused at 2"),
-        (16, Place::At(3), "refused 16 repeatedDigest at 3"),
-        (17, Place::At(4), "refused 17 unreferencedDisclosure at 4"),
-        (18, Place::At(5), "refused 18 wrongShape at 5"),
-        (19, Place::At(6), "refused 19 reservedName at 6"),
-        (20, Place::At(7), "refused 20 nameClash at 7"),
-        (21, Place::Nowhere, "refused 21 tooDeep"),
-        (22, Place::Nowhere, "refused 22 issuerRefused"),
-        (23, Place::At(10), "refused 23 claimMissing at 10"),
-        (24, Place::Nowhere, "refused 24 timeUnreadable"),
-        (25, Place::Nowhere, "refused 25 expired"),
-        (26, Place::Nowhere, "refused 26 notYet"),
-        (27, Place::Nowhere, "refused 27 holderKeyUnknown"),
-        (28, Place::Nowhere, "refused 28 bindingHeader"),
-        (29, Place::Nowhere, "refused 29 bindingAlg"),
-        (30, Place::Nowhere, "refused 30 bindingSignature"),
-        (31, Place::Nowhere, "refused 31 bindingType"),
-        (32, Place::Nowhere, "refused 32 bindingPayload"),
-        (33, Place::Nowhere, "refused 33 bindingStale"),
-        (34, Place::Nowhere, "refused 34 bindingEarly"),
-        (35, Place::Nowhere, "refused 35 nonceDiffers"),
-        (36, Place::Nowhere, "refused 36 audienceDiffers"),
-        (37, Place::Nowhere, "refused 37 hashDiffers"),
-        (38, Place::Nowhere, "refused 38 bindingTime"),
-        (
-            2,
-            Place::Json(JsonPlace::NotJson),
-            "refused 2 form at notJson",
-        ),
-        (
-            2,
-            Place::Json(JsonPlace::NotWhole),
-            "refused 2 form at notWhole",
-        ),
-        (
-            2,
-            Place::Json(JsonPlace::NotObject),
-            "refused 2 form at notObject",
-        ),
-        (
-            2,
-            Place::Json(JsonPlace::Missing(Part::Payload)),
-            "refused 2 form at missing payload",
-        ),
-        (
-            2,
-            Place::Json(JsonPlace::Wrong(Part::Signatures)),
-            "refused 2 form at wrong signatures",
-        ),
-        (
-            2,
-            Place::Json(JsonPlace::Missing(Part::Protected)),
-            "refused 2 form at missing protected",
-        ),
-        (
-            2,
-            Place::Json(JsonPlace::Wrong(Part::Signature)),
-            "refused 2 form at wrong signature",
-        ),
-        (
-            2,
-            Place::Json(JsonPlace::Wrong(Part::Header)),
-            "refused 2 form at wrong header",
-        ),
-        (
-            2,
-            Place::Json(JsonPlace::Wrong(Part::Disclosures)),
-            "refused 2 form at wrong disclosures",
-        ),
-        (
-            2,
-            Place::Json(JsonPlace::Wrong(Part::KbJwt)),
-            "refused 2 form at wrong kb_jwt",
-        ),
-        (
-            2,
-            Place::Json(JsonPlace::Stray(12)),
-            "refused 2 form at stray 12",
-        ),
-    ] {
-        let line_is = fault_line(rt.alloc(), &Fault { number, place }).map_err(|_| "no memory")?;
-        assert_eq!(rt; line_is.as_str(), line);
+    let alloc = rt.alloc();
+    let mut lines = String::new(alloc);
+    for number in 1..39 {
+        let place = Place::Nowhere;
+        lines.push_str(fault_line(alloc, &Fault { number, place })?.as_str())?;
+        lines.push('\n')?;
     }
+    assert_eq!(rt; lines.as_str(), LINES);
     Ok(())
 }

@@ -1,0 +1,66 @@
+-- Two serializations of one token are judged alike.
+use Rattle.std.proofs.Common.{◌≡◌, ℕ, ◌≤◌, false, List, length, refl, subst}
+use Rattle.claim_tree.specs.Tree.{Members, object}
+use Rattle.claim_tree.specs.JsonText.{json_text}
+use Rattle.compact_form.specs.declared.limits.TheConstants.{FILE_MAX}
+use Rattle.compact_form.specs.declared.conditions.TheConstants.{TOO_MUCH}
+use Rattle.compact_form.specs.declared.fault.Fault.{Fault}
+use Rattle.compact_form.specs.declared.fault.Place.{Place}
+use Rattle.compact_form.specs.Condition.{Condition, number_of}
+use Rattle.compact_form.specs.Lowest.{IsLowest, unplaced}
+use Rattle.compact_form.specs.Token.{is_too_long}
+use Rattle.compact_form.specs.Trim.{trimmed}
+use Rattle.json_form.specs.declared.token.Token.{Token}
+use Rattle.json_form.specs.Json.{IsJson}
+use Rattle.json_form.specs.Token.{IsToken, Spells, IsTooMuch, too_much}
+use Rattle.json_form.proofs.Tokens as tokens
+use Rattle.json_form.proofs.Lines.{read_spelled, read_json_text}
+use Rattle.marked_tree.specs.Marked.{Marked}
+use Rattle.verifier_core.specs.Verdict.{Fails, of_file, of_missing, of_token, of_claims, of_holder, IsAccepted, HaveOneVerdict}
+use Rattle.verifier_core.specs.declared.policy.Policy.{Policy}
+
+module _ (text other : List ℕ) (token : Token) (policy : Policy) (now : ℕ) (here : IsToken text token) (there : IsToken other token) where
+  moved : (t : Token) → IsToken text t → IsToken other t
+  moved t is = subst (IsToken other) (tokens.one text token t here is) there
+
+  fails : (c : Condition) (place : Place) → Fails text policy now c place → Fails other policy now c place
+  fails c place (of_file h) = absurd (here.passes (record { number = number_of c; place = place }) h)
+  fails c place (of_missing t is h) = of_missing t (moved t is) h
+  fails c place (of_token t is h) = of_token t (moved t is) h
+  fails c place (of_claims t marked is opens h) = of_claims t marked (moved t is) opens h
+  fails c place (of_holder t marked hash is opens has h) = of_holder t marked hash (moved t is) opens has h
+
+module _ (text other : List ℕ) (token : Token) (policy : Policy) (now : ℕ) (here : IsToken text token) (there : IsToken other token) where
+  accepted : (marked : Marked) → IsAccepted text policy now marked → IsAccepted other policy now marked
+  accepted marked is = record {
+    passes = λ c place h. is.passes c place (fails other text token policy now there here c place h);
+    token = is.token;
+    is_token = moved text other token policy now here there is.token is.is_token;
+    opens = is.opens;
+  }
+
+  lowest : (fault : Fault) → IsLowest (Fails text policy now) fault → IsLowest (Fails other policy now) fault
+  lowest fault is = record {
+    failed = is.failed;
+    number_is = is.number_is;
+    fails = fails text other token policy now here there is.failed fault.place is.fails;
+    lowest = λ c place h. is.lowest c place (fails other text token policy now there here c place h);
+  }
+
+pub one_verdict : (text other : List ℕ) (token : Token) (policy : Policy) (now : ℕ) → IsToken text token → IsToken other token → HaveOneVerdict text other policy now
+one_verdict text other token policy now here there =
+    record {
+      accepted = λ marked. (accepted text other token policy now here there marked, accepted other text token policy now there here marked);
+      refused = λ fault. (lowest text other token policy now here there fault, lowest other text token policy now there here fault);
+    }
+
+-- what is read has no more parts than it may have
+few : (text : List ℕ) (token : Token) → IsToken text token → IsTooMuch token.parts → ⊥
+few text token is much = is.passes (unplaced TOO_MUCH) (too_much token refl is.spells much)
+
+pub spelled : (text other : List ℕ) (token : Token) (policy : Policy) (now : ℕ) → IsToken text token → Spells (trimmed other) token → is_too_long other ≡ false → HaveOneVerdict text other policy now
+spelled text other token policy now here spells short = one_verdict text other token policy now here (read_spelled other token spells short (few text token here))
+
+pub written : (text : List ℕ) (token : Token) (ms : Members) (policy : Policy) (now : ℕ) → IsToken text token → IsJson token (json_text (object ms)) → length (json_text (object ms)) ≤ FILE_MAX
+    → HaveOneVerdict text (json_text (object ms)) policy now
+written text token ms policy now here is short = one_verdict text (json_text (object ms)) token policy now here (read_json_text token ms is short (few text token here))
