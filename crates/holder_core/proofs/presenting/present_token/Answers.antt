@@ -1,6 +1,4 @@
-use Rattle.std.proofs.Common.{IfOk, Result, Ok, Err}
 use Rattle.std.proofs.lemmas.Result.{IfErr-weaker}
-use Rattle.marked_tree.specs.View.{marked_of}
 use Rattle.verifier_core.specs.Check.{IsUncounted}
 use Rattle.holder_core.proofs.Steps.{unchecked_refused, no_token}
 use Rattle.holder_core.proofs.presenting.present_token.Goals as goal
