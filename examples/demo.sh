@@ -51,3 +51,13 @@ show present present_binding.json issued.txt
 show verify policy_binding.json shown.txt
 show present present_birthdate.json issued.txt
 show present present.json shown.txt
+
+# The token of RFC 9901 in its JSON serializations, which each command reads, and back.
+cd "$top/examples"
+show convert flat rfc9901_bound.txt
+show split rfc9901_bound_flat.json
+show verify policy_binding.json rfc9901_bound_flat.json
+show convert compact rfc9901_bound_flat.json
+show convert general rfc9901_chosen.txt
+show verify policy.json rfc9901_chosen_general.json
+show convert xml rfc9901.txt

@@ -1,7 +1,7 @@
 -- A text is presented in one way, or refused for one cause, where the rule has one answer for each place and a text has one good signature.
-use Rattle.std.proofs.Common.{◌≡◌, ◌≢◌, ◌⊎◌, inl, inr, ℕ, ◌<◌, ◌≤◌, Bool, true, false, List, [], ◌∷◌, length, Option, None, Some, refl, sym, ap, ap₂, subst, ◌∙◌, arith, codes}
+use Rattle.std.proofs.Common.{◌≡◌, ◌≢◌, ◌⊎◌, inl, inr, ℕ, ◌<◌, ◌≤◌, Bool, true, false, List, length, Option, None, Some, refl, sym, ap, ap₂, subst, ◌∙◌, arith}
 use Rattle.b64url_text.specs.Base64url.{b64}
-use Rattle.claim_tree.specs.Tree.{Text, Tree}
+use Rattle.claim_tree.specs.Tree.{Text}
 use Rattle.claim_tree.specs.Lists.{IsLeast, Nowhere}
 use Rattle.compact_form.specs.Compact.{compact, hashed}
 use Rattle.compact_form.specs.Lowest.{IsLowest}
@@ -15,10 +15,9 @@ use Rattle.json_form.proofs.Tokens as tokens
 use Rattle.json_form.specs.Token.{IsToken}
 use Rattle.json_form.specs.declared.token.Token.{Token}
 use Rattle.key_binding.specs.Binding.{IsBinding}
-use Rattle.key_binding.specs.Judged.{holder_kid}
 use Rattle.marked_tree.specs.Choice.{chosen}
 use Rattle.marked_tree.specs.Marked.{Marked, strip}
-use Rattle.marked_tree.specs.Places.{Path, place}
+use Rattle.marked_tree.specs.Places.{Path}
 use Rattle.selection_core.specs.Consent.{Answers, Allows, AllAllowed, IsRefusedAt}
 use Rattle.selection_core.specs.Refusals.{IsMissing}
 use Rattle.verifier_core.specs.Verdict.{TokenFails}
@@ -28,7 +27,7 @@ use Rattle.holder_core.specs.declared.ask.Ask.{Ask}
 use Rattle.holder_core.specs.declared.ask.BindingAsk.{BindingAsk}
 use Rattle.holder_core.specs.declared.errors.PresentError.{PresentError}
 use Rattle.holder_core.specs.declared.errors.PresentError.TheVariants.{Memory, Token as OnCondition, HasBinding, NoSuchPlace, ConsentRefused, BindingKeyDiffers, SignFailed, TooLong}
-use Rattle.holder_core.specs.Present.{picked, shown, rules_of, IsHeld, IsAgreed, NamesKey, IsBoundWith, IsBoundAs, IsAnswer, IsNotThere, IsDenied, IsKeyOther, IsTooLong, Refuses, IsPresented, IsNotPresented, no_memory, not_read, refused}
+use Rattle.holder_core.specs.Present.{picked, shown, rules_of, IsHeld, NamesKey, IsBoundWith, IsAnswer, IsNotThere, IsDenied, IsKeyOther, Refuses, IsPresented, IsNotPresented, no_memory, not_read, refused}
 
 -- the rule does not both allow and refuse a place
 abbrev pub IsDecided : {F : Type 0} → Answers F → F → Type 0

@@ -1,5 +1,5 @@
 -- A file says one present order, or is refused.
-use Rattle.std.proofs.Common.{◌≡◌, ◌≢◌, ℕ, List, [], ◌∷◌, Option, Some, None, refl, sym, ap, ap₂, subst, ◌∙◌, codes}
+use Rattle.std.proofs.Common.{◌≡◌, ◌≢◌, ℕ, List, [], Option, Some, None, refl, sym, ap, subst, ◌∙◌, codes}
 use Rattle.std.specs.Prelude.{is_some}
 use Rattle.compact_form.specs.declared.limits.TheConstants.{FILE_MAX}
 use Rattle.claim_tree.specs.Tree.{Text, object, member_named}
@@ -16,7 +16,6 @@ use Rattle.key_binding.specs.ShortText.{IsShortText}
 use Rattle.claim_tree.specs.FileLists.{IsListOf, IsPointer}
 use Rattle.hmac_sign.specs.KeyText.{IsKeyText}
 use Rattle.holder_core.specs.PresentFile.{BindingSaid, IsBindingOrder, both, present_table, IsPresentFile, IsPresentRefused}
-use Rattle.holder_core.specs.declared.ask.Ask.{Ask}
 use Rattle.holder_core.specs.declared.ask.BindingAsk.{BindingAsk}
 use Rattle.holder_core.specs.declared.present_file.PresentFile.{PresentFile}
 use Rattle.claim_tree.proofs.ListForms.{one_list, one_pointer}

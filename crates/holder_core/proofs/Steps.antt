@@ -1,11 +1,10 @@
 -- From the steps of presenting to what is presented, and why it is not.
-use Rattle.std.proofs.Common.{◌≡◌, ◌≢◌, ℕ, ◌<◌, Bool, true, false, List, length, Option, Some, None, IfSome, refl, sym, ap, subst, ◌∙◌}
+use Rattle.std.proofs.Common.{◌≡◌, ◌≢◌, inl, inr, ℕ, Bool, true, false, List, Option, Some, None, IfSome, refl, sym, ap, subst, ◌∙◌}
 use Rattle.std.specs.List.{AllByRecursion}
 use Rattle.std.specs.Option.{option_map, is_some}
 use Rattle.b64url_text.specs.Base64url.{IsWord}
 use Rattle.claim_tree.specs.Tree.{Tree}
 use Rattle.compact_form.specs.Compact.{AreWords}
-use Rattle.compact_form.specs.declared.limits.TheConstants.{COMPACT_MAX}
 use Rattle.compact_form.specs.Compact as form
 use Rattle.compact_form.specs.declared.fault.Fault.{Fault}
 use Rattle.compact_form.specs.Views.{jwt_of}
@@ -20,13 +19,13 @@ use Rattle.marked_tree.specs.Choice.{chosen}
 use Rattle.marked_tree.specs.Marked.{Marked, strip}
 use Rattle.marked_tree.specs.Numbers.{has}
 use Rattle.selection_core.specs.Consent.{Answers, AllAllowed, IsRefusedAt}
-use Rattle.verifier_core.specs.Verdict.{IsChecked, HasHash}
+use Rattle.verifier_core.specs.Verdict.{HasHash}
 use Rattle.holder_core.specs.declared.ask.Ask.{Ask}
 use Rattle.holder_core.specs.declared.ask.BindingAsk.{BindingAsk}
 use Rattle.holder_core.specs.declared.errors.PresentError.{PresentError}
 use Rattle.holder_core.specs.declared.errors.PresentError.TheVariants.{Memory, Token as OnCondition, HasBinding, NoSuchPlace, ConsentRefused, BindingKeyDiffers, SignFailed, TooLong}
 use Rattle.holder_core.specs.Present.{picked, shown, rules_of, IsHeld, IsAgreed, NamesKey, IsAnswer, Refuses, OnToken}
-use Rattle.holder_core.specs.Presenting.{IsUnchecked, IsUnchosen, IsChosen, IsOtherKey, IsReady, IsUnready, IsFinished, IsUnfinished}
+use Rattle.holder_core.specs.Presenting.{IsUnchecked, IsUnchosen, IsChosen, IsOtherKey, IsReady, IsUnready, IsUncheckedOrUnready, IsFinished, IsUnfinished}
 use Rattle.marked_tree.proofs.PrunedSame.{Same, prune_same}
 use Rattle.holder_core.proofs.Picking.{picked_same, picked_words}
 
@@ -120,6 +119,10 @@ module _ {F : Type 0} (answers : Answers F) (rule : F) (token : Token) (ask : As
     unready_refused BindingKeyDiffers h = h
     unready_refused SignFailed h = absurd h
     unready_refused TooLong h = absurd h
+
+    pub unpresented_refused : (e : PresentError) → token.parts.binding ≡ None → IsUncheckedOrUnready answers rule token ask e → Refuses answers rule token ask good now e
+    unpresented_refused e none (inl h) = unchecked_refused e none h
+    unpresented_refused e none (inr h) = unready_refused e h
 
     module _ (marked : Marked) (unbound : Parts) (is : IsReady answers rule token ask marked unbound) (hash : HashAlg) (has_hash : HasHash token hash) where
       pub answered : (answer : Parts) → IsFinished ask.binding good hash now unbound answer → IsAnswer answers rule token ask good now answer

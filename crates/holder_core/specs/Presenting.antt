@@ -1,5 +1,5 @@
 -- For private functions: the steps of presenting.
-use Rattle.std.specs.Prelude.{◌≡◌, ◌≢◌, ◌<◌, ℕ, List, length, Option, None, Some}
+use Rattle.std.specs.Prelude.{◌≡◌, ◌≢◌, ◌<◌, ◌⊎◌, ℕ, List, [], length, Option, None, Some}
 use Rattle.claim_tree.specs.Tree.{Tree}
 use Rattle.claim_tree.specs.Lists.{IsLeast, Nowhere}
 use Rattle.compact_form.specs.Compact.{compact}
@@ -16,12 +16,12 @@ use Rattle.marked_tree.specs.Numbers.{has}
 use Rattle.marked_tree.specs.Places.{Path}
 use Rattle.selection_core.specs.Consent.{Answers, AllAllowed, IsRefusedAt}
 use Rattle.selection_core.specs.Refusals.{IsMissing}
-use Rattle.verifier_core.specs.Verdict.{Rules, TokenFails}
+use Rattle.verifier_core.specs.Verdict.{Rules, TokenFails, IsCheckedAs}
 use Rattle.holder_core.specs.declared.ask.Ask.{Ask}
 use Rattle.holder_core.specs.declared.ask.BindingAsk.{BindingAsk}
 use Rattle.holder_core.specs.declared.errors.PresentError.{PresentError}
 use Rattle.holder_core.specs.declared.errors.PresentError.TheVariants.{Memory, Token as OnCondition, NoSuchPlace, ConsentRefused, BindingKeyDiffers, SignFailed, TooLong}
-use Rattle.holder_core.specs.Present.{shown, IsAgreed, NamesKey, IsBoundAs, Presents, IsNotThere, IsDenied, IsKeyOther}
+use Rattle.holder_core.specs.Present.{rules_of, shown, IsAgreed, NamesKey, IsBoundAs, Presents, IsNotThere, IsDenied, IsKeyOther}
 
 abbrev pub IsUnchecked : Token → Rules → PresentError → Type 0
 IsUnchecked token rules Memory = Unit {0}
@@ -84,3 +84,36 @@ IsUnready answers rule token ask (NoSuchPlace k) = IsNotThere token ask k
 IsUnready answers rule token ask (ConsentRefused i) = IsDenied answers rule token ask i
 IsUnready answers rule token ask BindingKeyDiffers = IsKeyOther answers rule token ask
 IsUnready answers rule token ask _ = ⊥
+
+-- the same for some processed payload
+abbrev pub IsMadeReady : {F : Type 0} → Answers F → F → Token → Ask → Parts → Type 0
+IsMadeReady answers rule token ask unbound = (marked : Marked) × IsReady answers rule token ask marked unbound
+
+-- the token is refused, or what is asked of it
+abbrev pub IsUncheckedOrUnready : {F : Type 0} → Answers F → F → Token → Ask → PresentError → Type 0
+IsUncheckedOrUnready answers rule token ask e = IsUnchecked token (rules_of ask.keys) e ⊎ IsUnready answers rule token ask e
+
+-- ---- a token without disclosures
+
+-- each wanted place is in the payload, which names the key of the ask, and the parts are those of the token with no disclosure
+pub record IsWholeReady (token : Token) (ask : Ask) (payload : Tree) (unbound : Parts) : Type 0 where
+  pub there : Nowhere (IsMissing payload ask.want)
+  pub key : NamesKey ask.binding payload
+  pub presents : Presents token.parts (has []) None unbound
+
+-- what is refused before
+abbrev pub IsWholeUnready : Ask → Tree → PresentError → Type 0
+IsWholeUnready ask payload Memory = Unit {0}
+IsWholeUnready ask payload (NoSuchPlace k) = IsLeast (IsMissing payload ask.want) k
+IsWholeUnready ask payload BindingKeyDiffers = Nowhere (IsMissing payload ask.want) × IsOtherKey ask.binding payload BindingKeyDiffers
+IsWholeUnready ask payload _ = ⊥
+
+-- the same for some processed payload
+abbrev pub IsMadeWhole : Token → Ask → Parts → Type 0
+IsMadeWhole token ask unbound = (payload : Tree) × IsCheckedAs token (rules_of ask.keys) payload × IsWholeReady token ask payload unbound
+
+-- the token is refused, or what is asked of it
+abbrev pub IsUncheckedOrUnmade : Token → Ask → PresentError → Type 0
+IsUncheckedOrUnmade token ask e =
+    IsUnchecked token (rules_of ask.keys) e
+    ⊎ ((payload : Tree) × IsCheckedAs token (rules_of ask.keys) payload × IsWholeUnready ask payload e)

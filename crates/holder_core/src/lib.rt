@@ -12,6 +12,7 @@ mod present_file;
 mod presenting;
 #[cfg(test)]
 mod tests;
+mod whole;
 
 pub use ask::{Ask, BindingAsk};
 pub use errors::PresentError;

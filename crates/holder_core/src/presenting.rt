@@ -1,7 +1,8 @@
 // The call that presents.
-ghost use Rattle.std.specs.Prelude.{◌≡◌, ◌≢◌, ◌≤◌, ◌<◌, ◌-◌, ◌^◌, ◌↔◌, [], ◌∷◌, None, codes, length, IfOk, OnOk, IfErr, IsErrOf, IsTrue};
+ghost use Rattle.std.specs.Prelude.{◌≡◌, ◌≢◌, ◌≤◌, ◌<◌, ◌-◌, ◌^◌, ◌↔◌, [], ◌∷◌, None, Some, codes, length, IfOk, OnOk, IfErr, IsErrOf, IsTrue};
 ghost use Rattle.sd_outside.specs.Causes.{Rose};
 ghost use Rattle.claim_tree.specs.Tree.{depth as depth_of};
+ghost use Rattle.claim_tree.specs.View.{tree_of};
 ghost use Rattle.compact_form.specs.Compact.{AreWords, compact as compact_text};
 ghost use Rattle.compact_form.specs.Lowest.{IsLowest};
 ghost use Rattle.compact_form.specs.declared.limits.TheConstants.{COMPACT_MAX};
@@ -10,6 +11,7 @@ ghost use Rattle.hmac_sign.specs.Signatures.{Agree};
 ghost use Rattle.hmac_sign.specs.declared.sign.Alg.{Alg};
 ghost use Rattle.json_form.specs.Token.{IsToken};
 ghost use Rattle.json_form.specs.declared.token.Token.{Token as SeenToken};
+ghost use Rattle.key_binding.specs.Judged.{holder_kid as holder_kid_of};
 ghost use Rattle.marked_tree.specs.Choice.{IsUnmixed};
 ghost use Rattle.marked_tree.specs.Marked.{strip};
 ghost use Rattle.marked_tree.specs.Numbers.{has};
@@ -17,11 +19,12 @@ ghost use Rattle.marked_tree.specs.View.{marked_of};
 ghost use Rattle.verifier_core.specs.Verdict.{TokenFails, IsChecked, HasHash};
 ghost use Rattle.verifier_core.specs.Check.{IsCounted, IsCountedWithin, IsReadWithin, IsUncounted};
 ghost use Rattle.holder_core.specs.Present.{rules_of, picked, shown, IsHeld, IsAnswer, Refuses, IsPresented, IsNotPresented, NamesKey, OnToken};
-ghost use Rattle.holder_core.specs.Presenting.{IsUnchecked, IsUnchosen, IsChosen, IsOtherKey, IsReady, IsUnready, IsUnsigned, IsFinished, IsUnfinished};
+ghost use Rattle.holder_core.specs.Presenting.{IsUnchecked, IsUnchosen, IsChosen, IsOtherKey, IsReady, IsUnready, IsUnsigned, IsFinished, IsUnfinished, IsMadeReady, IsUncheckedOrUnready};
 ghost use Rattle.holder_core.specs.declared.errors.PresentError.{PresentError};
 
+use crate::whole::whole_parts;
 use crate::{Ask, BindingAsk, PresentError};
-use claim_tree::{Path, PathList};
+use claim_tree::{Path, PathList, Tree};
 use compact_form::{COMPACT_MAX, Parts, Pieces, View, hashed_text, print};
 use digest_index::Steps;
 use disclosure::HashAlg;
@@ -32,7 +35,7 @@ use marked_tree::{ChosenSet, Marked, into_tree, prune};
 use sd_outside::{NoMemory, TextBox, TextList};
 use selection_core::{AllowError, ChooseError, Consent, allow, choose};
 use std::alloc::Global;
-use verifier_core::{Checked, VerifyError, check_view};
+use verifier_core::{CheckedMarks, VerifyError, check_marks};
 
 /// Presents a token as it comes from a file, RFC 9901 section 7.2: the issuer's JWT, the disclosures that lead to the wanted places in
 /// their order, and a key binding token of a moment in seconds since 1970 where one is asked for.
@@ -108,45 +111,45 @@ fn present_token<S: Signer, F: Fn(&Path) -> bool>(
     ensures within { IsCountedWithin token.now steps.old steps.new }
     ensures uncounted { IfErr result (λ e. OnToken e (IsUncounted steps.old steps.new)) }
 {
+    let (unbound, hash) = match ready_parts(alloc, token, ask, consent, steps) {
+        Ok(ready) => ready,
+        Err(error) => return Err(error),
+    };
+    finish(alloc, unbound, &ask.binding, hash, signer, now)
+}
+
+// The token with the disclosures that are asked for, if nothing is refused, and the algorithm of its digests.
+fn ready_parts<F: Fn(&Path) -> bool>(
+    alloc: Global,
+    token: &TokenText<'_>,
+    ask: &Ask,
+    consent: &Consent<F>,
+    steps: &mut Steps,
+) -> Result<(Parts, HashAlg), PresentError>
+    requires few { length token.now.parts.disclosures < 2 ^ 32 - 1 }
+    requires words { AreWords token.now.parts }
+    requires unbound { token.now.parts.binding ≡ None }
+    requires callable { F.IsAlwaysCallable consent.now }
+    ensures ready { IfOk result (λ r. IsMadeReady F.Fn consent.now token.now ask.now r.0) }
+    ensures words { IfOk result (λ r. AreWords r.0) }
+    ensures none { IfOk result (λ r. r.0.binding ≡ None) }
+    ensures hash { IfOk result (λ r. HasHash token.now r.1) }
+    ensures refused { IfErr result (IsUncheckedOrUnready F.Fn consent.now token.now ask.now) }
+    ensures counted { IfOk result (λ _. IsCounted token.now steps.old steps.new) }
+    ensures within { IsCountedWithin token.now steps.old steps.new }
+    ensures uncounted { IfErr result (λ e. OnToken e (IsUncounted steps.old steps.new)) }
+{
+    if token.view().count() == 0 {
+        return whole_parts(alloc, token, ask, steps);
+    }
     let checked = match check_held(alloc, token, &ask.keys, steps) {
         Ok(checked) => checked,
         Err(error) => return Err(error),
     };
-    present_checked(alloc, token, &checked, ask, consent, signer, now)
-}
-
-// Presents a token that is checked.
-fn present_checked<S: Signer, F: Fn(&Path) -> bool>(
-    alloc: Global,
-    token: &TokenText<'_>,
-    checked: &Checked,
-    ask: &Ask,
-    consent: &Consent<F>,
-    signer: &mut S,
-    now: u64,
-) -> Result<Parts, PresentError>
-    requires few { length token.now.parts.disclosures < 2 ^ 32 - 1 }
-    requires words { AreWords token.now.parts }
-    requires held { IsHeld token.now ask.now (marked_of checked.now.marked) }
-    requires hash { HasHash token.now checked.now.hash }
-    requires hs256 { S.alg_of signer.old ≡ Alg.Hs256 }
-    requires callable { F.IsAlwaysCallable consent.now }
-    ensures answer { IfOk result (IsAnswer F.Fn consent.now token.now ask.now (S.good signer.old) now) }
-    ensures words { IfOk result AreWords }
-    ensures short { IfOk result (λ answer. length (compact_text answer) ≤ COMPACT_MAX) }
-    ensures refused { IfErr result (Refuses F.Fn consent.now token.now ask.now (S.good signer.old) now) }
-    ensures unread { IfErr result (λ e. OnToken e (λ _. ⊥)) }
-    ensures failed { IsErrOf result PresentError.SignFailed → Rose (S.faults signer.old) (S.faults signer.new) }
-    ensures unasked { ask.now.binding ≡ None → signer.new ≡ signer.old }
-    ensures same_good { Agree (S.good signer.new) (S.good signer.old) }
-    ensures same_alg { S.alg_of signer.new ≡ S.alg_of signer.old }
-    ensures later { S.faults signer.old ≤ S.faults signer.new }
-{
-    let unbound = match choose_parts(alloc, token, &checked.marked, ask, consent) {
-        Ok(parts) => parts,
-        Err(error) => return Err(error),
-    };
-    finish(alloc, unbound, &ask.binding, checked.hash, signer, now)
+    match choose_parts(alloc, token, &checked.marked, ask, consent) {
+        Ok(unbound) => Ok((unbound, checked.hash)),
+        Err(error) => Err(error),
+    }
 }
 
 // The token with the disclosures that are asked for, if nothing is refused.
@@ -207,13 +210,22 @@ fn finish<S: Signer>(
     Ok(parts)
 }
 
+// The algorithms that are allowed.
+pub(crate) fn hs256_alone(alloc: Global) -> Result<TextList, NoMemory>
+    ensures { IfOk result (λ algs. algs ≡ codes "HS256" ∷ []) }
+{
+    let mut algs = TextList::new(alloc);
+    algs.push(TextBox::make(alloc, "HS256")?)?;
+    Ok(algs)
+}
+
 // The conditions 5 to 21, but 8.
 fn check_held(
     alloc: Global,
     token: &TokenText<'_>,
     keys: &KeySet,
     steps: &mut Steps,
-) -> Result<Checked, PresentError>
+) -> Result<CheckedMarks, PresentError>
     requires few { length token.now.parts.disclosures < 2 ^ 32 - 1 }
     ensures checked { IfOk result (λ c. IsChecked token.now (rules_of keys.now) (marked_of c.marked)) }
     ensures hash { IfOk result (λ c. HasHash token.now c.hash) }
@@ -222,10 +234,9 @@ fn check_held(
     ensures within { IsCountedWithin token.now steps.old steps.new }
     ensures uncounted { IfErr result (λ e. OnToken e (IsUncounted steps.old steps.new)) }
 {
-    let mut algs = TextList::new(alloc);
-    algs.push(TextBox::make(alloc, "HS256")?)?;
+    let algs = hs256_alone(alloc)?;
     let view = token.view();
-    match check_view(alloc, &view, token.outer(), keys, &algs, None, steps) {
+    match check_marks(alloc, &view, token.outer(), keys, &algs, None, steps) {
         Ok(checked) => Ok(checked),
         Err(VerifyError::Memory) => Err(PresentError::Memory),
         Err(VerifyError::Fault(fault)) => Err(PresentError::Token(fault)),
@@ -273,7 +284,15 @@ fn check_key(
     };
     let pruned = prune(alloc, marked, chosen)?;
     let payload = into_tree(alloc, pruned)?;
-    let Some(kid) = holder_kid(&payload) else {
+    check_named(binding, &payload)
+}
+
+// Whether the payload names the key of the ask.
+pub(crate) fn check_named(binding: &BindingAsk, payload: &Tree) -> Result<(), PresentError>
+    ensures named { OnOk result (holder_kid_of (tree_of payload.now) ≡ Some binding.now.kid) }
+    ensures refused { IfErr result (IsOtherKey (Some binding.now) (tree_of payload.now)) }
+{
+    let Some(kid) = holder_kid(payload) else {
         return Err(PresentError::BindingKeyDiffers);
     };
     if kid != binding.kid.as_str() {
@@ -283,7 +302,11 @@ fn check_key(
 }
 
 // The token with the chosen disclosures alone.
-fn picked_parts(alloc: Global, view: &View<'_>, chosen: &ChosenSet) -> Result<Parts, NoMemory>
+pub(crate) fn picked_parts(
+    alloc: Global,
+    view: &View<'_>,
+    chosen: &ChosenSet,
+) -> Result<Parts, NoMemory>
     requires few { length view.now.disclosures < 2 ^ 32 - 1 }
     ensures signed { IfOk result (λ parts. parts.signed ≡ view.now.signed) }
     ensures disclosures { IfOk result (λ parts. parts.disclosures ≡ picked (has chosen.now) view.now.disclosures) }

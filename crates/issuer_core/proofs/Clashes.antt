@@ -1,13 +1,13 @@
 -- The first text that repeats an earlier one, and where it stands first.
-use Rattle.std.proofs.Common.{◌≡◌, ℕ, zero, suc, ◌+◌, ◌<◌, ◌≤◌, ◌⊎◌, inl, inr, List, [], ◌∷◌, length, take, Bool, true, false, cond, Some, bytes_eq, refl, sym, ap, subst, ◌∙◌, arith}
+use Rattle.std.proofs.Common.{◌≡◌, ℕ, zero, suc, ◌<◌, ◌≤◌, ◌⊎◌, inl, inr, List, [], ◌∷◌, length, take, Bool, true, false, cond, Some, bytes_eq, refl, sym, subst, ◌∙◌, arith}
 use Rattle.std.specs.Prelude.{slice_get}
 use Rattle.std.proofs.lemmas.List.{length-take-le}
 use Rattle.claim_tree.specs.Tree.{Text}
-use Rattle.claim_tree.specs.Lists.{At, Repeats, Nowhere, IsLeast}
+use Rattle.claim_tree.specs.Lists.{At, Repeats, Nowhere}
 use Rattle.claim_tree.proofs.Lists.{bytes_refl, At-below, At-get, At-same}
 use Rattle.digest_index.specs.Index.{place_or_end}
 use Rattle.rebuild_core.proofs.Repeated.{place_there, repeats_there}
-use Rattle.issuer_core.specs.Clash.{IsEqualAt, IsFirstClash}
+use Rattle.issuer_core.specs.Clash.{IsFirstClash}
 
 pub stands : {X : Type 0} (xs : List X) (i : ℕ) (x : X) → slice_get xs i ≡ Some x → At xs i x
 stands [] i x h = cc h

@@ -17,7 +17,6 @@ use Rattle.issuer_core.specs.GoodOrder.{HoldsOthers, IsGoodOrder}
 use Rattle.issuer_core.specs.Issued.{IsIssuedFor}
 use Rattle.issuer_core.specs.Laid.{IsLaid, laid_items, lay, order_decoys}
 use Rattle.issuer_core.specs.Order.{Order}
-use Rattle.rebuild_core.proofs.Chains.{short}
 use Rattle.issuer_core.proofs.IssuedSound.{issued_is_sound_holds}
 use Rattle.issuer_core.proofs.LaidDecoys.{laid_is_issued_holds}
 use Rattle.issuer_core.proofs.LaidOrdered.{laid_is_readable_holds}

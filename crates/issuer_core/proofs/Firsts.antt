@@ -1,8 +1,8 @@
 -- The first element of a list, and the first that passes a test.
-use Rattle.std.proofs.Common.{◌≡◌, ℕ, zero, suc, ◌+◌, ◌<◌, List, [], ◌∷◌, ◌++◌, map, Bool, true, false, cond, Option, Some, None, option_map, refl, sym, ap, subst, ◌∙◌, arith}
+use Rattle.std.proofs.Common.{◌≡◌, ℕ, zero, suc, ◌+◌, ◌<◌, List, [], ◌∷◌, ◌++◌, map, Bool, true, false, cond, Some, None, option_map, refl, sym, subst, ◌∙◌, arith}
 use Rattle.std.specs.Prelude.{slice_get}
 use Rattle.std.specs.List.{position_from}
-use Rattle.claim_tree.specs.Lists.{At, IsLeast, Nowhere}
+use Rattle.claim_tree.specs.Lists.{IsLeast, Nowhere}
 use Rattle.issuer_core.specs.Refusals.{IsSuchAt}
 
 -- ---- the first element

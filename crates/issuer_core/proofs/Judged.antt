@@ -1,5 +1,5 @@
 -- What the tests of an order tell.
-use Rattle.std.proofs.Common.{◌≡◌, ◌<◌, ◌≤◌, ℕ, List, [], ◌∷◌, Bool, true, false, inl, inr, ◌||◌, Option, Some, None, refl, sym, subst, ◌∙◌, arith}
+use Rattle.std.proofs.Common.{◌≡◌, ◌<◌, ◌≤◌, ℕ, List, [], ◌∷◌, true, inl, inr, Option, Some, None, refl, sym, subst, arith}
 use Rattle.std.specs.Prelude.{bytes_eq, is_none, slice_get}
 use Rattle.std.specs.List.{list_any}
 use Rattle.claim_tree.specs.Tree.{Text, Tree, leaf, array, object, depth, IsOrdered}

@@ -10,7 +10,7 @@ use Rattle.digest_sites.specs.Given.{Given}
 use Rattle.digest_sites.specs.Reserved.{element_digest, sd_name, sd_texts}
 use Rattle.digest_sites.specs.Sites.{Site, Step, element_site, element_sites, member_sites, own_site, sites, sites_on, step_text, to_element, to_member, under}
 use Rattle.marked_tree.specs.Marked.{Marked, MarkedElements, MarkedMembers, mark_weight, marked_array, marked_element, marked_leaf, marked_member, marked_object, no_marked_elements, no_marked_members, only, strip, strip_elements, strip_members, weight}
-use Rattle.marked_tree.specs.Places.{Path, Spot, elements_spots, inside, is_among, mark, members_spots, own_spot, place, spots}
+use Rattle.marked_tree.specs.Places.{Path, Spot, elements_spots, inside, is_among, members_spots, own_spot, place, spots}
 use Rattle.rebuild_core.specs.Given.{Item, all_items, item, payload, value_items, value_of}
 use Rattle.issuer_core.specs.Closing.{ClosesFrom, ElementsClose, IsNumbered, MembersClose, one}
 use Rattle.issuer_core.specs.Decoys.{decoys_of, earlier}

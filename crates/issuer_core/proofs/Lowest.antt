@@ -1,7 +1,5 @@
 -- The lowest refusal that applies, sought step by step.
-use Rattle.std.proofs.Common.{◌≡◌, ◌<◌, ◌≤◌, ℕ, suc, List, Option, Some, None, sym, subst, ◌∙◌, arith}
-use Rattle.std.specs.Prelude.{slice_get}
-use Rattle.claim_tree.specs.Tree.{depth}
+use Rattle.std.proofs.Common.{◌≡◌, ◌<◌, ◌≤◌, ℕ, suc, arith}
 use Rattle.claim_tree.specs.Lists.{IsLeast, Nowhere}
 use Rattle.marked_tree.specs.Places.{Path}
 use Rattle.issuer_core.specs.declared.errors.IssueError.{IssueError}

@@ -1,5 +1,5 @@
 -- An order is laid in one way: the digests, the disclosures and the payload are determined by how texts are made.
-use Rattle.std.proofs.Common.{◌≡◌, ℕ, zero, suc, ◌+◌, ◌-◌, ◌<◌, ◌≤◌, ◌⊎◌, inl, inr, List, [], ◌∷◌, ◌++◌, None, Option, Some, ap, ap₂, arith, decimal, length, length-append, refl, subst, sym, ⊎_elim, ◌∙◌, if◌then◌else◌}
+use Rattle.std.proofs.Common.{◌≡◌, ℕ, suc, ◌+◌, ◌-◌, ◌<◌, ◌≤◌, ◌⊎◌, inl, inr, List, [], ◌∷◌, ◌++◌, None, Option, Some, ap, arith, decimal, length, length-append, refl, subst, sym, ◌∙◌, if◌then◌else◌}
 use Rattle.claim_tree.specs.Lists.{At}
 use Rattle.claim_tree.specs.Tree.{Text, Tree}
 use Rattle.digest_sites.specs.Given.{Given}
@@ -11,7 +11,7 @@ use Rattle.issuer_core.specs.Digests.{Maker, hidden_of, marked_of}
 use Rattle.issuer_core.specs.Laid.{laid_elements, laid_items, laid_members, lay, own_item, order_decoys, IsLaid}
 use Rattle.marked_tree.specs.Marked.{weight, mark_weight}
 use Rattle.issuer_core.specs.Closing.{one, IsNumbered, ClosesFrom, ElementsClose, MembersClose}
-use Rattle.claim_tree.proofs.Lists.{At-get, At-below}
+use Rattle.claim_tree.proofs.Lists.{At-get}
 use Rattle.rebuild_core.proofs.AllShown.{At-left, At-right}
 use Rattle.issuer_core.proofs.Agrees.{MarkAgrees, MarksAgree, ElementsAgree, MembersAgree, DecoysAgree, lay_agrees, items_agree}
 use Rattle.issuer_core.proofs.Closing.{own_items_length, items_length, order_closes, order_marks}

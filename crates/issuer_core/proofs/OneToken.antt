@@ -1,5 +1,5 @@
 -- With a key an order and a seed have one token.
-use Rattle.std.proofs.Common.{◌≡◌, ℕ, ◌<◌, ◌≤◌, List, None, Option, ap, ap₂, arith, length, refl, subst, sym, ◌∙◌}
+use Rattle.std.proofs.Common.{◌≡◌, ℕ, ◌≤◌, List, Option, ap, ap₂, arith, length, refl, sym, ◌∙◌}
 use Rattle.b64url_text.specs.Base64url.{b64}
 use Rattle.claim_tree.specs.Tree.{Text, Tree}
 use Rattle.claim_tree.specs.JsonText.{json_text}
@@ -14,10 +14,9 @@ use Rattle.issuer_core.specs.declared.errors.IssueError.TheVariants.{DigestClash
 use Rattle.issuer_core.specs.Order.{Order}
 use Rattle.issuer_core.specs.Digests.{Maker, made_texts}
 use Rattle.issuer_core.specs.Laid.{with_alg}
-use Rattle.issuer_core.specs.Clash.{IsFirstClash}
-use Rattle.issuer_core.specs.Refusals.{Refuses, NoneApplies, IsLowest}
+use Rattle.issuer_core.specs.Refusals.{Refuses, NoneApplies}
 use Rattle.issuer_core.specs.Written.{IsWritten, IsLaidOut}
-use Rattle.issuer_core.specs.Issue.{Applies, HasNoClash, ClashesAt, IsTooLong}
+use Rattle.issuer_core.specs.Issue.{Applies, HasNoClash, IsTooLong}
 use Rattle.issuer_core.proofs.OneLaid.{one_payload, one_given}
 
 abbrev made : Text → Text → Text → List Text → Option JwtParts → Parts

@@ -1,5 +1,5 @@
 -- A file says one order, or is refused.
-use Rattle.std.proofs.Common.{◌≡◌, ◌≢◌, ℕ, ◌<◌, ◌≤◌, max, List, [], ◌∷◌, Bool, true, false, cond, inl, inr, Option, Some, None, refl, sym, ap, ap₂, subst, ◌∙◌, arith, codes}
+use Rattle.std.proofs.Common.{◌≡◌, ◌≢◌, ℕ, ◌≤◌, List, [], ◌∷◌, Bool, true, false, cond, inl, inr, Option, Some, None, sym, ap, subst, ◌∙◌, arith, codes}
 use Rattle.std.specs.Prelude.{bytes_eq}
 use Rattle.compact_form.specs.declared.limits.TheConstants.{COUNT_MAX, FILE_MAX}
 use Rattle.claim_tree.specs.Tree as spec

@@ -1,14 +1,14 @@
 -- What is written for an order is read again.
-use Rattle.std.proofs.Common.{◌≡◌, ℕ, zero, suc, ◌+◌, ◌-◌, ◌<◌, ◌≤◌, ◌⊎◌, inl, inr, List, [], ◌∷◌, ◌++◌, length, Bool, true, false, None, Option, Some, IfSome, IsUtf8, Less, arith, decimal, codes, ltb, ltb-true, refl, subst, sym, ap, ◌∙◌}
+use Rattle.std.proofs.Common.{◌≡◌, ℕ, suc, ◌+◌, ◌<◌, ◌≤◌, inl, inr, List, [], ◌∷◌, ◌++◌, length, Bool, true, false, None, Option, Some, IfSome, IsUtf8, arith, codes, ltb, ltb-true, refl, subst, sym, ap, ◌∙◌}
 use Rattle.std.specs.Prelude.{if◌then◌else◌}
 use Rattle.std.specs.List.{AllZip}
 use Rattle.std.proofs.lemmas.Bool.{lt-ltb}
 use Rattle.std.proofs.lemmas.Str.{IsUtf8-nil}
 use Rattle.json.proofs.Printed.Utf8.{IsUtf8-are_ascii}
-use Rattle.b64url_text.specs.Base64url.{b64, Decodes}
+use Rattle.b64url_text.specs.Base64url.{b64}
 use Rattle.b64url_text.proofs.Texts.{AreBytes-text}
-use Rattle.claim_tree.specs.Tree.{Text, Tree, leaf, text, array, object, Members, no_members, depth, IsOrdered, IsRanged}
-use Rattle.claim_tree.specs.JsonText.{json_text, Reads}
+use Rattle.claim_tree.specs.Tree.{Text, Tree, leaf, text, array, object, no_members, depth, IsOrdered, IsRanged}
+use Rattle.claim_tree.specs.JsonText.{json_text}
 use Rattle.claim_tree.specs.Lists.{At, In}
 use Rattle.claim_tree.proofs.Lists.{At-get, At-In}
 use Rattle.claim_tree.proofs.RoundTrip.{read_of_text}
@@ -25,9 +25,9 @@ use Rattle.marked_tree.specs.Places.{Path, same_path}
 use Rattle.marked_tree.proofs.MarkFacts.{mark_strips_holds}
 use Rattle.issuer_core.specs.Closing.{one, IsNumbered, ClosesFrom, ElementsClose, MembersClose}
 use Rattle.issuer_core.specs.Decoys.{decoys_of, decoys_at}
-use Rattle.issuer_core.specs.Digests.{Maker, marked_of, hidden_of, made_texts}
-use Rattle.issuer_core.specs.GoodOrder.{IsObject, IsGoodOrder, IsWritable}
-use Rattle.issuer_core.specs.Laid.{IsLaid, lay, laid_items, with_alg, order_decoys}
+use Rattle.issuer_core.specs.Digests.{marked_of, hidden_of, made_texts}
+use Rattle.issuer_core.specs.GoodOrder.{IsObject, IsWritable}
+use Rattle.issuer_core.specs.Laid.{IsLaid, with_alg, order_decoys}
 use Rattle.issuer_core.specs.Order.{Order}
 use Rattle.issuer_core.specs.Salts.{salt_of, salt_piece}
 use Rattle.issuer_core.specs.Seed.{maker_of}

@@ -1,5 +1,5 @@
 -- The first member with a reserved name.
-use Rattle.std.proofs.Common.{◌≡◌, ℕ, suc, ◌+◌, ◌<◌, List, [], ◌∷◌, ◌++◌, map, reverse, length, drop, get_or, Bool, true, false, cond, not, ◌||◌, Option, Some, None, option_map, Bor, refl, sym, ap, ap₂, subst, ◌∙◌, arith, decimal}
+use Rattle.std.proofs.Common.{◌≡◌, ℕ, suc, ◌+◌, ◌<◌, List, [], ◌∷◌, ◌++◌, map, reverse, length, drop, get_or, Bool, true, false, cond, not, ◌||◌, Option, Some, None, option_map, Bor, refl, sym, ap, subst, ◌∙◌, arith, decimal}
 use Rattle.std.specs.Prelude.{bytes_eq, slice_get, is_some, codes}
 use Rattle.std.proofs.lemmas.List.{drop_more, reverse-append}
 use Rattle.claim_tree.specs.Tree as spec

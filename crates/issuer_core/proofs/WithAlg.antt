@@ -1,10 +1,10 @@
 -- The payload with its `_sd_alg`: taken out again, it leaves what was laid.
-use Rattle.std.proofs.Common.{◌≡◌, ℕ, List, [], ◌∷◌, ◌++◌, Bool, Equal, Greater, Less, None, Ordering, Some, ap, false, refl, subst, sym, true, codes}
+use Rattle.std.proofs.Common.{◌≡◌, ℕ, List, [], ◌∷◌, ◌++◌, Equal, Greater, Less, None, Ordering, Some, ap, false, refl, subst, sym, true, codes}
 use Rattle.std.proofs.lemmas.Map.Lookups.{exact_bytes}
 use Rattle.std.specs.Cmp.Lexicographic.{slice_cmp}
 use Rattle.std.specs.Ordering.{match_ordering, nat_cmp}
 use Rattle.std.specs.Prelude.{bytes_eq}
-use Rattle.claim_tree.specs.Tree.{IsBefore, IsOrdered, Members, Text, Tree, array, get, inserted, leaf, member, member_named, no_members, object, text}
+use Rattle.claim_tree.specs.Tree.{IsOrdered, Members, Text, Tree, array, get, inserted, leaf, member, no_members, object, text}
 use Rattle.claim_tree.specs.Removed.{removed}
 use Rattle.digest_sites.specs.Given.{Given}
 use Rattle.digest_sites.specs.Reserved.{sd_name}

@@ -1,7 +1,7 @@
 -- The texts of what is laid are UTF-8, and so is its JSON text.
-use Rattle.std.proofs.Common.{◌≡◌, ℕ, suc, ◌<◌, ◌≤◌, ◌^◌, ◌⊎◌, ℤ, pos, negsuc, List, [], ◌∷◌, ◌++◌, Bool, true, false, Equal, Greater, Less, None, Option, Ordering, Some, IfSome, IsUtf8, arith, decimal, codes, inl, inr, refl, subst, sym}
-use Rattle.std.proofs.lemmas.Fmt.{IsAscii-decimal, IsAscii-signed}
-use Rattle.std.proofs.lemmas.Str.{IsUtf8-append, IsUtf8-nil, IsUtf8-from_ascii}
+use Rattle.std.proofs.Common.{ℕ, suc, ◌<◌, ◌^◌, ◌⊎◌, ℤ, pos, negsuc, List, [], ◌∷◌, ◌++◌, Bool, true, false, Equal, Greater, Less, None, Option, Ordering, Some, IfSome, IsUtf8, arith, decimal, codes, inl, inr, refl, subst, sym}
+use Rattle.std.proofs.lemmas.Fmt.{IsAscii-decimal}
+use Rattle.std.proofs.lemmas.Str.{IsUtf8-append, IsUtf8-from_ascii}
 use Rattle.std.specs.Cmp.Lexicographic.{slice_cmp}
 use Rattle.std.specs.Ordering.{match_ordering, nat_cmp}
 use Rattle.json.specs.Print.{quoted}
@@ -20,7 +20,7 @@ use Rattle.marked_tree.specs.Marked.{Marked, MarkedElements, MarkedMembers, mark
 use Rattle.marked_tree.specs.Places.{Path}
 use Rattle.rebuild_core.specs.Payload.{alg_name}
 use Rattle.issuer_core.specs.GoodOrder.{IsHeld, ElementsHeld, MembersHeld}
-use Rattle.issuer_core.specs.Laid.{digest_elements, digest_object, hidden_digests, laid_elements, laid_items, laid_members, lay, lay_elements, lay_members, own_item, sorted, sorted_with, texts_array, with_sd, with_alg}
+use Rattle.issuer_core.specs.Laid.{digest_elements, hidden_digests, laid_elements, laid_items, laid_members, lay, lay_elements, lay_members, own_item, sorted, sorted_with, texts_array, with_sd, with_alg}
 
 -- ---- trees whose texts are UTF-8
 

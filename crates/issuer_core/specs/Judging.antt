@@ -1,7 +1,7 @@
 -- For private functions: the tests by which an order is judged.
-use Rattle.std.specs.Prelude.{◌≤◌, ℕ, List, [], ◌∷◌, Bool, true, false, Option, Some, bytes_eq, is_none}
+use Rattle.std.specs.Prelude.{◌≤◌, ℕ, [], ◌∷◌, Bool, true, false, Option, Some, bytes_eq, is_none}
 use Rattle.std.specs.List.{list_any}
-use Rattle.claim_tree.specs.Tree.{Text, Tree, leaf, array, object}
+use Rattle.claim_tree.specs.Tree.{Tree, array, object}
 use Rattle.claim_tree.specs.Path.{tree_at}
 use Rattle.marked_tree.specs.Places.{Path}
 use Rattle.issuer_core.specs.declared.order.Decoy.{Decoy}

@@ -1,12 +1,12 @@
 -- The command `convert` has one verdict over a file.
-use Rattle.std.proofs.Common.{◌≡◌, ◌<◌, ◌≤◌, ℕ, List, length, ap, ◌∙◌, sym, subst, arith}
+use Rattle.std.proofs.Common.{◌≡◌, ◌<◌, ℕ, List, length, ap, ◌∙◌, sym, subst, arith}
 use Rattle.compact_form.specs.declared.fault.Fault.{Fault}
 use Rattle.compact_form.specs.declared.limits.TheConstants.{FILE_MAX}
 use Rattle.json_form.specs.declared.token.Token.{Token}
 use Rattle.json_form.proofs.Tokens as tokens
 use Rattle.sdjwt_cli.specs.declared.form.Form.{Form}
 use Rattle.sdjwt_cli.specs.Lines.{line, refusal}
-use Rattle.sdjwt_cli.specs.Converting.{written, Converts, IsConvertRefused, unread, too_much, DoesNotConvert}
+use Rattle.sdjwt_cli.specs.Converting.{written, Converts, IsConvertRefused, unread, too_much}
 use Rattle.sdjwt_cli.specs.Answers.{Verdict, gives, refuses, unreadable, ConvertAnswers}
 
 one_line : (form : Form) (file a b : List ℕ) → Converts form file a → Converts form file b → a ≡ b

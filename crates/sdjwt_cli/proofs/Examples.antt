@@ -20,8 +20,8 @@ use Rattle.claim_tree.specs.declared.file_fault.FileFault.TheVariants.{NotJson, 
 use Rattle.holder_core.specs.declared.errors.PresentError.TheVariants.{HasBinding, ConsentRefused}
 use Rattle.issuer_core.specs.declared.errors.IssueError.TheVariants.{ReservedName, DigestClash, TooLong as IssueTooLong}
 use Rattle.issuer_core.specs.RefusalLine.{refusal_text}
-use Rattle.sdjwt_cli.specs.Command.{split, verify, issue, present, convert, command_of}
 use Rattle.sdjwt_cli.specs.declared.form.Form.TheVariants.{Compact, Flat, General}
+use Rattle.sdjwt_cli.specs.Command.{split, verify, issue, present, convert, command_of}
 use Rattle.sdjwt_cli.specs.Lines.{line, refusal, unread, unreadable_line, short_seed}
 use Rattle.sdjwt_cli.specs.Never.{MayBeShown}
 use Rattle.sdjwt_cli.specs.Presenting.{present_refusal}
@@ -111,7 +111,7 @@ none_is_shown : MayBeShown ([] ∷ []) [] → ⊥
 none_is_shown h = h [] (inl refl) ([], refl)
 
 all_are_shown : MayBeShown [] (codes "a" ∷ [])
-all_are_shown front is = is
+all_are_shown front is = absurd is
 
 -- ---- split
 

@@ -19,7 +19,7 @@ use Rattle.sdjwt_cli.specs.Answers.{Verdict, gives, refuses, unreadable, IssueAn
 
 -- what the files ask for is one
 module _ (order_file seed_file : List ℕ) (o p : Order) (key other : List ℕ) (seed grain : List ℕ) (this : IsAsked order_file seed_file o key seed) (that : IsAsked order_file seed_file p other grain) where
-  same_order : o ≡ p
+  pub same_order : o ≡ p
   same_order = this.order_is ∙ ((orders.one_order order_file this.said that.said this.is_order that.is_order).0 ∙ sym that.order_is)
 
   same_key : key ≡ other
@@ -29,7 +29,7 @@ module _ (order_file seed_file : List ℕ) (o p : Order) (key other : List ℕ) 
   same_seed = this.seed_is ∙ sym that.seed_is
 
   -- a fact on what the first asks for is one on what the second does
-  carried : (P : Order → List ℕ → List ℕ → Type 0) → P o key seed → P p other grain
+  pub carried : (P : Order → List ℕ → List ℕ → Type 0) → P o key seed → P p other grain
   carried P h = subst (λ (x : Order). P x other grain) same_order (subst (λ (k : List ℕ). P o k grain) same_key (subst (λ (s : List ℕ). P o key s) same_seed h))
 
 printed : (order seed : List ℕ) (a b : List ℕ) → Issues order seed a → Issues order seed b → a ≡ b

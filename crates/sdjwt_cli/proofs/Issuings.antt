@@ -4,7 +4,7 @@ use Rattle.std.specs.Array.{IsFirstChunk}
 use Rattle.sd_outside.specs.Causes.{Rose}
 use Rattle.hmac_sign.specs.Signatures.{Meaning}
 use Rattle.issuer_core.specs.declared.errors.IssueError.{IssueError}
-use Rattle.issuer_core.specs.declared.errors.IssueError.TheVariants.{Memory, SignFailed, PayloadNotObject, ReservedName, TooDeep, RootMarked, NoSuchPlace, ProtectedClaim, DecoyPlace, TooManyHidden, TooManyDecoys, DigestClash, TooLong}
+use Rattle.issuer_core.specs.declared.errors.IssueError.TheVariants.{Memory, SignFailed}
 use Rattle.issuer_core.specs.declared.order_file.IssueFile.{IssueFile}
 use Rattle.issuer_core.specs.Order.{Order, order_of}
 use Rattle.issuer_core.specs.OrderFile.{IsOrderFile}

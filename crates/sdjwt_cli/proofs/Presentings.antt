@@ -7,7 +7,7 @@ use Rattle.verifier_core.proofs.Verdicts.{file_condition}
 use Rattle.holder_core.specs.declared.errors.PresentError.{PresentError}
 use Rattle.holder_core.specs.declared.errors.PresentError.TheVariants.{Memory, Token as OnCondition, HasBinding, NoSuchPlace, ConsentRefused, BindingKeyDiffers, SignFailed, TooLong}
 use Rattle.holder_core.specs.declared.present_file.PresentFile.{PresentFile}
-use Rattle.holder_core.specs.Present.{not_read, refused}
+use Rattle.holder_core.specs.Present.{no_memory, not_read, refused}
 use Rattle.sdjwt_cli.specs.Presenting.{IsNotPresentedFor, present_refusal, HasLine}
 
 -- a signer that never fails
@@ -18,6 +18,7 @@ never_fails (Err error) h = λ is. h (ap Err is)
 module _ (said : PresentFile) (token : List ℕ) (now : ℕ) where
   -- a condition that fails has the number of a condition
   condition_of_fault : (fault : Fault) → IsNotPresentedFor said token now (OnCondition fault) → (c : Condition) × (fault.number ≡ number_of c)
+  condition_of_fault fault (no_memory is) = absurd (cc is)
   condition_of_fault fault (not_read other is r) =
       let same : fault ≡ other = cc is in
       let condition = file_condition token other r.fails in

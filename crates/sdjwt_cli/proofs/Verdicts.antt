@@ -6,9 +6,9 @@ use Rattle.std.specs.Io.KnownBytes.{Appends}
 use Rattle.sd_outside.specs.Causes.{Rose}
 use Rattle.sd_outside.specs.declared.status.Status.{Status}
 use Rattle.sd_outside.specs.declared.status.Status.TheVariants.{Done, Refused, Usage, Unread, Unwritten, Memory, Unreadable}
-use Rattle.sdjwt_cli.specs.Command.{Command, split, show, verify, issue, present, convert, command_of, Wanted, wanted_by}
 use Rattle.json_form.specs.declared.token.Token.{Token}
 use Rattle.json_form.proofs.Tokens as tokens
+use Rattle.sdjwt_cli.specs.Command.{Command, split, show, verify, issue, present, convert, command_of, Wanted, wanted_by}
 use Rattle.sdjwt_cli.specs.Lines.{refusal}
 use Rattle.sdjwt_cli.specs.Split.{split_lines}
 use Rattle.sdjwt_cli.specs.Answers.{Verdict, gives, refuses, unreadable, SplitAnswers, ShowAnswers, Answers, AreFetched, AreTold, IsAnswered}
@@ -63,7 +63,7 @@ one_answer (convert form token) (file ∷ more ∷ files) now v w g h = absurd g
 none_some : (o : Option Command) (k : Command) → o ≡ None → o ≡ Some k → ⊥
 none_some o k e f = cc
 
-same_command : (o : Option Command) (c d : Command) → o ≡ Some c → o ≡ Some d → c ≡ d
+pub same_command : (o : Option Command) (c d : Command) → o ≡ Some c → o ≡ Some d → c ≡ d
 same_command o c d e f = cc
 
 -- what the cabinet tells is what was fetched
@@ -88,14 +88,18 @@ all_told holds (w ∷ ws) (x ∷ xs) (y ∷ ys) t f =
     let others : xs ≡ ys = all_told holds ws xs ys t.1 f.1 in
     cc
 
--- over files that are told there is one verdict
-told_verdict : (holds : List ℕ → Option (List ℕ)) (command other : Command) (files : List (List ℕ)) (now : ℕ) (v w : Verdict)
-    → other ≡ command → AreTold holds command files → Answers command files now v → IsAnswered holds other now w → v ≡ w
-told_verdict holds command other files now v w same told g h =
+-- over files that are told the answer is one over these files
+pub answers_told : (holds : List ℕ → Option (List ℕ)) (command other : Command) (files : List (List ℕ)) (now : ℕ) (w : Verdict) → other ≡ command → AreTold holds command files → IsAnswered holds other now w → Answers command files now w
+answers_told holds command other files now w same told h =
     let fetched : AreFetched holds command h.files = subst (λ (c : Command). AreFetched holds c h.files) same h.fetched in
     let answers : Answers command h.files now w = subst (λ (c : Command). Answers c h.files now w) same h.answers in
     let files_are = all_told holds (wanted_by command) files h.files told fetched in
-    one_answer command files now v w g (subst (λ (fs : List (List ℕ)). Answers command fs now w) (sym files_are) answers)
+    subst (λ (fs : List (List ℕ)). Answers command fs now w) (sym files_are) answers
+
+-- and there is one verdict
+told_verdict : (holds : List ℕ → Option (List ℕ)) (command other : Command) (files : List (List ℕ)) (now : ℕ) (v w : Verdict)
+    → other ≡ command → AreTold holds command files → Answers command files now v → IsAnswered holds other now w → v ≡ w
+told_verdict holds command other files now v w same told g h = one_answer command files now v w g (answers_told holds command other files now w same told h)
 
 given_refused : (a t : List ℕ) → gives a ≡ refuses t → ⊥
 given_refused a t e = cc

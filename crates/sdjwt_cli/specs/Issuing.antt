@@ -1,15 +1,15 @@
 -- The command `issue`: what it prints for an order file and a seed file, and when it refuses the order.
 use Rattle.std.specs.Prelude.{◌≡◌, ◌≢◌, ℕ, ◌<◌, ◌≤◌, List, length, take}
 use Rattle.claim_tree.specs.declared.file_fault.FileFault.{FileFault}
-use Rattle.compact_form.specs.declared.limits.TheConstants.{ISSUE_MAX}
+use Rattle.compact_form.specs.declared.limits.TheConstants.{ISSUE_MAX, COUNT_MAX}
 use Rattle.compact_form.specs.declared.parts.Parts.{Parts}
-use Rattle.compact_form.specs.Compact.{compact}
+use Rattle.compact_form.specs.Compact.{compact, AreWords}
 use Rattle.hmac_sign.specs.Hmac.{IsGood}
 use Rattle.issuer_core.specs.declared.errors.IssueError.{IssueError}
 use Rattle.issuer_core.specs.declared.order_file.IssueFile.{IssueFile}
 use Rattle.issuer_core.specs.Order.{Order, order_of}
 use Rattle.issuer_core.specs.OrderFile.{IsOrderFile, IsOrderRefused}
-use Rattle.issuer_core.specs.Digests.{Maker}
+use Rattle.issuer_core.specs.GoodOrder.{IsWritable}
 use Rattle.issuer_core.specs.Refusals.{Refuses, NoneApplies, IsLowest}
 use Rattle.issuer_core.specs.RefusalLine.{refusal_text}
 use Rattle.issuer_core.specs.Seed.{maker_of}
@@ -38,6 +38,9 @@ pub record Issues (order_file seed_file answer : List ℕ) : Type 0 where
   pub laid : IsLaidOut (maker_of seed) order (IsGood key) parts
   pub passes : NoneApplies (Refuses order)
   pub differ : HasNoClash (maker_of seed) order
+  pub writable : IsWritable order
+  pub words : AreWords parts
+  pub few : length parts.disclosures ≤ COUNT_MAX
   pub short : length (compact parts) ≤ ISSUE_MAX
   pub line_is : answer ≡ line (compact parts)
 

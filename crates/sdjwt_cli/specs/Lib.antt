@@ -12,3 +12,5 @@ pub mod Never
 pub mod Presenting
 pub mod Forms
 pub mod Converting
+pub mod Suits
+pub mod Presented

@@ -93,7 +93,7 @@ pub record AddsLines (disclosures : List Text) (old new : Text) : Type 0 where
   pub are : AllZip IsShown disclosures shown
   pub more : new ≡ old ++ shown_lines 0 shown
 
--- the token of these parts and this unprotected header
+-- for private functions: the token of these parts and this unprotected header
 abbrev pub token_of : Parts → Members → Token
 token_of parts outer = record { parts = parts; outer = outer }
 

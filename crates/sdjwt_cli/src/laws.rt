@@ -8,6 +8,7 @@ ghost use Rattle.sdjwt_cli.specs.Answers.{Verdict, gives, Answers, AreTold};
 ghost use Rattle.sdjwt_cli.specs.declared.form.Form.{Form};
 ghost use Rattle.sdjwt_cli.specs.Converting.{HasRoom, Converts};
 ghost use Rattle.sdjwt_cli.specs.Run.{Outside, Ends};
+ghost use Rattle.sdjwt_cli.specs.Presented.{PresentedOverFiles, PresentedOverRuns};
 
 /// The definition of a command has at most one verdict over its files.
 pub fn one_answer()
@@ -26,4 +27,12 @@ pub fn completes()
 /// What `convert` writes in a form is converted to this form as it stands.
 pub fn converted_again()
     ensures { (form : Form) (file answer : List ℕ) (read : Converts form file answer) → HasRoom form read.token → Converts form answer answer }
+{}
+
+/// What is presented of an issued token, where the policy suits, is accepted with what was asked for: over the line that `issue` gives,
+/// `present` refuses nothing, and whatever it gives, `verify` prints the claims without the hidden places that lead to none of
+/// the wanted ones, and does nothing else.
+pub fn presented()
+    ensures over_files { PresentedOverFiles }
+    ensures over_runs { PresentedOverRuns }
 {}

@@ -16,7 +16,9 @@ t: <J7515>~; a: {"keys":<S7515>}; present a t = 0 <J7515>~|
 t: <USER>~<ALL>~; a: {"keys":<S1>,"want":["/given_name","/family_name","/address","/nationalities/0"]}; present a t = 0 <USER>~<SHOWN>~|
 t: <USER>~<ALL>~; a: {"keys":<S1>,"want":["/given_name","/family_name","/address","/nationalities/0"],"binding":{"key":"AgICAgICAgICAgICAgICAgICAgICAgICAgICAgICAgI","kid":"h1","aud":"https://verifier.example.org","nonce":"1234567890"}}; present a t = 0 <USER>~<SHOWN>~<BOUND>|
 t: <USER>~<ALL>~; a: {"keys":<S1>,"want":["/given_name","/family_name","/address","/nationalities/0"],"binding":{"key":"AgICAgICAgICAgICAgICAgICAgICAgICAgICAgICAgI","kid":"h1","aud":"https://verifier.example.org","nonce":"1234567890"}}; present a t > q; p: {"keys":<S1>,"iss":"https://issuer.example","require":["given_name"],"binding":{"aud":"https://verifier.example.org","nonce":"1234567890","keys":<S2>,"max_age":300}}; verify p q = 0 <PART>|
-t: eyJhbGciOiJIUzI1NiJ9.eyJjbmYiOnsia2lkIjoiaDEifSwicCI6ImFh<262098*YWFh>YWEifQ.2pycuRlS9bglEEycwhPZTz9QpOZg-XZ71gtogP-QcQM~; a: {"keys":<S1>}; present a t = 0 eyJhbGciOiJIUzI1NiJ9.eyJjbmYiOnsia2lkIjoiaDEifSwicCI6ImFh<262098*YWFh>YWEifQ.2pycuRlS9bglEEycwhPZTz9QpOZg-XZ71gtogP-QcQM~|"#;
+t: eyJhbGciOiJIUzI1NiJ9.eyJjbmYiOnsia2lkIjoiaDEifSwicCI6ImFh<262098*YWFh>YWEifQ.2pycuRlS9bglEEycwhPZTz9QpOZg-XZ71gtogP-QcQM~; a: {"keys":<S1>}; present a t = 0 eyJhbGciOiJIUzI1NiJ9.eyJjbmYiOnsia2lkIjoiaDEifSwicCI6ImFh<262098*YWFh>YWEifQ.2pycuRlS9bglEEycwhPZTz9QpOZg-XZ71gtogP-QcQM~|
+t: {"payload":"eyJfc2QiOlsiTzY4cE9YRXFZeG9HQlFMSC1MTE5IcmtyZzdib1djM0pPSWVKWVBOVGhsTSIsInF2eFB3blNtOHlROWxYU0VFSGl5VWdKUTJhem5EYUZRV280c2RCaUljUEEiXSwiX3NkX2FsZyI6InNoYS0yNTYiLCJpc3MiOiJpIn0","protected":"eyJhbGciOiJIUzI1NiJ9","signature":"0vNlqAfId-WMajZnAzWdLZ6lIF4RRshkUq6jY-nQ1IE","header":{"disclosures":["<AGE>","<GIVEN>"],"x":1}}; a: {"keys":<S1>,"want":["/given"]}; present a t = 0 <ANN>~<GIVEN>~|
+t: {"payload":"eyJfc2QiOlsiTzY4cE9YRXFZeG9HQlFMSC1MTE5IcmtyZzdib1djM0pPSWVKWVBOVGhsTSIsInF2eFB3blNtOHlROWxYU0VFSGl5VWdKUTJhem5EYUZRV280c2RCaUljUEEiXSwiX3NkX2FsZyI6InNoYS0yNTYiLCJpc3MiOiJpIn0","signatures":[{"protected":"eyJhbGciOiJIUzI1NiJ9","signature":"0vNlqAfId-WMajZnAzWdLZ6lIF4RRshkUq6jY-nQ1IE","header":{"disclosures":["<AGE>"]}}]}; a: {"keys":<S1>,"want":["/age"]}; present a t = 0 <ANN>~<AGE>~|"#;
 
 #[test]
 fn tokens_are_presented(rt: HostRuntime) -> Result<(), Fail> {
@@ -28,7 +30,9 @@ fn tokens_are_presented(rt: HostRuntime) -> Result<(), Fail> {
 }
 
 const PRESENTING_IS_REFUSED_BY_NUMBER_NAME_AND_PLACE: &str =
-    r#"t: a.b.c; a: {"keys":<S1>}; present a t = 1 refused 2 form at 5|
+    r#"t: {}; a: {"keys":<S1>}; present a t = 1 refused 2 form at missing payload|
+t: {"payload":"eyJfc2QiOlsiTzY4cE9YRXFZeG9HQlFMSC1MTE5IcmtyZzdib1djM0pPSWVKWVBOVGhsTSIsInF2eFB3blNtOHlROWxYU0VFSGl5VWdKUTJhem5EYUZRV280c2RCaUljUEEiXSwiX3NkX2FsZyI6InNoYS0yNTYiLCJpc3MiOiJpIn0","protected":"eyJhbGciOiJIUzI1NiJ9","signature":"0vNlqAfId-WMajZnAzWdLZ6lIF4RRshkUq6jY-nQ1IE","header":{"disclosures":[],"kb_jwt":"e.f.g"}}; a: {"keys":<S1>}; present a t = 1 refused 71 hasBinding|
+t: a.b.c; a: {"keys":<S1>}; present a t = 1 refused 2 form at 5|
 t: <ANN>~e.f.g; a: {"keys":<S1>,"want":["/nothing"]}; present a t = 1 refused 71 hasBinding|
 t: a.b.c~e.f.g; a: {"keys":<S1>}; present a t = 1 refused 71 hasBinding|
 t: <USER>~<ALL>~; a: {"keys":<S1>,"binding":{"key":"AgICAgICAgICAgICAgICAgICAgICAgICAgICAgICAgI","kid":"h1","aud":"https://verifier.example.org","nonce":"1234567890"}}; present a t > q; present a q = 1 refused 71 hasBinding|
@@ -87,6 +91,7 @@ o: {"payload":{"a":[],"b":{},"n":[1,2]},"hide":["/n/1"],"decoys":[{"at":"","coun
 o: {"payload":{"c":{"d":[{}]},"e":true},"hide":["/c","/c/d","/e"],"decoys":[{"at":"/c","count":2},{"at":"/c/d","count":2},{"at":"/c/d/0","count":2}],"key":"<K1>"}; a: {"keys":<S1>,"want":["/c/d/0"]}; issue o s > t; present a t > q; verify p q = 0 {"c":{"d":[{}]}}|
 o: {"payload":{"f":false,"n":null,"s":"ü","w":-5},"hide":["/f","/n","/s","/w"],"key":"<K1>"}; a: {"keys":<S1>,"want":["/n","/w","/f"]}; issue o s > t; present a t > q; verify p q = 0 {"f":false,"n":null,"w":-5}|
 o: {"payload":{"iss":"i","o":{"x":1}},"hide":["/o/x"],"key":"<K1>"}; a: {"keys":<S1>,"want":["/iss",""]}; issue o s > t; present a t > q; verify p q = 0 {"iss":"i","o":{}}|
+o: {"payload":{"a":1,"b":2},"hide":["/a","/b"],"key":"<K1>"}; a: {"keys":<S1>,"want":["/b"]}; issue o s > t; convert general t > g; present a g > q; convert flat q > f; verify p f = 0 {"b":2}|
 o: {"payload":<99*{"a":>1<99*}>,"hide":[<90^/a>],"key":"<K1>"}; a: {"keys":<S1>,"want":["<99*/a>"]}; issue o s > t; present a t > q; verify p q = 0 <99*{"a":>1<99*}>|
 o: {"payload":<99*{"a":>1<99*}>,"hide":[<90^/a>],"key":"<K1>"}; a: {"keys":<S1>,"want":["<89*/a>"]}; issue o s > t; present a t > q; verify p q = 0 <89*{"a":>{}<89*}>|
 o: {"payload":{"n":[0<4095*,0>]},"hide":[<4095*"/n/#",>"/n/4095"],"key":"<K1>"}; a: {"keys":<S1>,"want":["/n/7","/n/4095"]}; issue o s > t; present a t > q; verify p q = 0 {"n":[0,0]}|"#;

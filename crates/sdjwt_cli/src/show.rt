@@ -2,7 +2,7 @@
 ghost use Rattle.std.specs.Prelude.{◌≡◌, ◌^◌, ◌<◌, ◌++◌, ℕ, length, List, IfOk, IfErr, OnOk, IsErrOf, codes, string_bytes};
 ghost use Rattle.std.specs.Fmt.{decimal};
 ghost use Rattle.std.specs.Option.{option_map};
-ghost use Rattle.claim_tree.specs.Tree.{IsRanged, depth as depth_of};
+ghost use Rattle.claim_tree.specs.Tree.{IsRanged};
 ghost use Rattle.claim_tree.specs.JsonText.{json_text};
 ghost use Rattle.claim_tree.specs.View.{tree_of};
 ghost use Rattle.jws_part.specs.Part.{IsBody, IsNoObject};

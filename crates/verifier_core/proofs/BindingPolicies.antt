@@ -1,6 +1,5 @@
 -- The member of a policy file for key binding says one binding policy.
-use Rattle.std.proofs.Common.{◌≡◌, ◌≢◌, ℕ, List, Option, Some, None, sym, ap, subst, ◌∙◌, codes}
-use Rattle.claim_tree.specs.Tree as spec
+use Rattle.std.proofs.Common.{◌≡◌, ◌≢◌, ℕ, List, sym, ap, subst, ◌∙◌, codes}
 use Rattle.claim_tree.specs.Tree.{Text, object, Members, members_len, member_named}
 use Rattle.claim_tree.specs.View.{tree_of}
 use Rattle.claim_tree.specs.declared.tree.Tree as tree

@@ -1,8 +1,8 @@
 -- What a token says where no condition fails: its content is sound, and the names in it ascend.
-use Rattle.std.proofs.Common.{◌≡◌, ◌<◌, ◌≤◌, ℕ, List, [], ◌∷◌, Option, Some, None, inl, inr, refl, sym, subst, arith}
+use Rattle.std.proofs.Common.{List, [], ◌∷◌, Option, Some, None, inl, inr, refl, sym, subst, arith}
 use Rattle.std.proofs.Math.Nat.{lt_of_not-le}
 use Rattle.std.specs.List.{AllZip}
-use Rattle.claim_tree.specs.Tree.{Text, Tree, leaf, array, object, depth, IsOrdered}
+use Rattle.claim_tree.specs.Tree.{Text, Tree, leaf, array, object, IsOrdered}
 use Rattle.claim_tree.specs.Lists.{In}
 use Rattle.claim_tree.proofs.MapPlaces.{ordered-removed}
 use Rattle.claim_tree.proofs.ReadOrdered.{reads_ordered}
@@ -13,10 +13,8 @@ use Rattle.digest_sites.specs.Given.{Given}
 use Rattle.disclosure.specs.declared.digests.HashAlg.{HashAlg}
 use Rattle.disclosure.specs.Disclosure.{array_of}
 use Rattle.json_form.specs.declared.token.Token.{Token}
-use Rattle.marked_tree.specs.Marked.{strip}
 use Rattle.rebuild_core.specs.Conditions.{IsSound}
 use Rattle.rebuild_core.specs.Laws.{IsReadable}
-use Rattle.rebuild_core.specs.Opening.{processed}
 use Rattle.rebuild_core.specs.Payload.{alg_name, without_alg}
 use Rattle.verifier_core.specs.Verdict.{Rules, TokenFails, HasContent, Gives}
 

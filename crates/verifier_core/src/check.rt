@@ -46,11 +46,22 @@ pub struct Checked {
     pub hash: HashAlg,
 }
 
-// The same, without the marks.
+/// The same, without the payload.
 #[derive(Debug, Drop)]
-pub(crate) struct CheckedPayload {
-    pub(crate) payload: Tree,
-    pub(crate) hash: HashAlg,
+pub struct CheckedMarks {
+    /// The processed payload, where each node that a disclosure shows has the number of the disclosure.
+    pub marked: Marked,
+    /// The algorithm of its digests.
+    pub hash: HashAlg,
+}
+
+/// The same, without the marks.
+#[derive(Debug, Drop)]
+pub struct CheckedPayload {
+    /// The processed payload.
+    pub payload: Tree,
+    /// The algorithm of its digests.
+    pub hash: HashAlg,
 }
 
 /// Why a token is not accepted.
@@ -178,6 +189,36 @@ fn view_content(
 }
 
 // The conditions 14 to 21.
+fn open_marks(
+    alloc: Global,
+    content: Content,
+    steps: &mut Steps,
+) -> Result<CheckedMarks, VerifyError>
+    requires object { IsPayload (tree_of content.body) }
+    requires body_depth { depth_of (tree_of content.body) ≤ 127 }
+    requires values_depth { ValuesShallow content.given }
+    requires body_range { IsRanged (tree_of content.body) }
+    requires values_range { ValuesRanged content.given }
+    requires few { length content.given < 2 ^ 32 - 1 }
+    ensures sound { IfOk result (λ _. IsSound (without_alg (tree_of content.body)) content.given) }
+    ensures processed { IfOk result (λ c. marked_of c.marked ≡ processed (without_alg (tree_of content.body)) content.given) }
+    ensures depth { IfOk result (λ c. depth_of (strip_of (marked_of c.marked)) ≤ 127) }
+    ensures ranged { IfOk result (λ c. IsRanged (strip_of (marked_of c.marked))) }
+    ensures hash { IfOk result (λ c. c.hash ≡ content.hash) }
+    ensures refused { IfErr result (IsUnopened (without_alg (tree_of content.body)) content.given) }
+    ensures counted { IfOk result (λ _. steps.new ≡ counted steps.old (look_ups (without_alg (tree_of content.body)) content.given)) }
+    ensures risen { RoseWithin (look_ups (without_alg (tree_of content.body)) content.given) steps.old steps.new }
+{
+    match process(alloc, &content.body, &content.given, steps) {
+        Ok(marked) => Ok(CheckedMarks {
+            marked,
+            hash: content.hash,
+        }),
+        Err(error) => Err(refusal(error)),
+    }
+}
+
+// The same, with the payload.
 fn open_content(alloc: Global, content: Content, steps: &mut Steps) -> Result<Checked, VerifyError>
     requires object { IsPayload (tree_of content.body) }
     requires body_depth { depth_of (tree_of content.body) ≤ 127 }
@@ -194,15 +235,15 @@ fn open_content(alloc: Global, content: Content, steps: &mut Steps) -> Result<Ch
     ensures counted { IfOk result (λ _. steps.new ≡ counted steps.old (look_ups (without_alg (tree_of content.body)) content.given)) }
     ensures risen { RoseWithin (look_ups (without_alg (tree_of content.body)) content.given) steps.old steps.new }
 {
-    let marked = match process(alloc, &content.body, &content.given, steps) {
-        Ok(marked) => marked,
-        Err(error) => return Err(refusal(error)),
+    let CheckedMarks { marked, hash } = match open_marks(alloc, content, steps) {
+        Ok(checked) => checked,
+        Err(error) => return Err(error),
     };
     let payload = strip(alloc, &marked)?;
     Ok(Checked {
         payload,
         marked,
-        hash: content.hash,
+        hash,
     })
 }
 
@@ -294,8 +335,37 @@ pub fn check_view(
     open_content(alloc, content, steps)
 }
 
-// The same, for the processed payload alone.
-pub(crate) fn checked_payload(
+/// Checks a token as [`check_view`] does, for the marks alone: the payload without them is not built.
+pub fn check_marks(
+    alloc: Global,
+    view: &View<'_>,
+    outer: &TreeMap,
+    keys: &KeySet,
+    algs: &TextList,
+    typ: Option<&TextBox>,
+    steps: &mut Steps,
+) -> Result<CheckedMarks, VerifyError>
+    requires few { length view.now.disclosures < 2 ^ 32 - 1 }
+    ensures checked { IfOk result (λ c. IsChecked (token_of view.now outer.now) (asked keys.now algs.now (option_copied typ.entry)) (marked_of c.marked)) }
+    ensures ranged { IfOk result (λ c. IsRanged (strip_of (marked_of c.marked))) }
+    ensures hash { IfOk result (λ c. HasHash (token_of view.now outer.now) c.hash) }
+    ensures refused { IfErr result (λ e. OnFault e (IsLowest (TokenFails (token_of view.now outer.now) (asked keys.now algs.now (option_copied typ.entry))))) }
+
+    // the look-ups
+    ensures counted { IfOk result (λ _. IsCounted (token_of view.now outer.now) steps.old steps.new) }
+    ensures within { IsCountedWithin (token_of view.now outer.now) steps.old steps.new }
+    ensures uncounted { IfErr result (λ e. OnFault e (IsUncounted steps.old steps.new)) }
+{
+    let content = match view_content(alloc, view, outer, keys, algs, typ) {
+        Ok(content) => content,
+        Err(error) => return Err(error),
+    };
+    open_marks(alloc, content, steps)
+}
+
+/// Checks a token as [`check_view`] does, for the processed payload alone: what the issuer signed is not copied where nothing in it is
+/// hidden.
+pub fn check_processed(
     alloc: Global,
     view: &View<'_>,
     outer: &TreeMap,

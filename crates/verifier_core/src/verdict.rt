@@ -10,10 +10,9 @@ ghost use Rattle.verifier_core.specs.Verdict.{Fails, IsAccepted, IsAcceptedAs};
 ghost use Rattle.compact_form.specs.Lowest.{IsLowest};
 ghost use Rattle.verifier_core.specs.Check.{OnFault, IsCounted, IsCountedWithin, IsReadWithin, IsUncounted};
 
-use crate::check::{CheckedPayload, checked_payload};
 use crate::check_signed::fails;
 use crate::holder::{check_shown, is_binding_missing};
-use crate::{Checked, Policy, VerifyError, check_view};
+use crate::{Checked, CheckedPayload, Policy, VerifyError, check_processed, check_view};
 use claim_tree::Tree;
 use compact_form::BINDING_MISSING;
 use digest_index::Steps;
@@ -101,7 +100,7 @@ fn judge_payload(
         return Err(fails(BINDING_MISSING));
     }
     let typ = policy.typ.as_ref();
-    let CheckedPayload { payload, hash } = match checked_payload(
+    let CheckedPayload { payload, hash } = match check_processed(
         alloc,
         &view,
         outer,

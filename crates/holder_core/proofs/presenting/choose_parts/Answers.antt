@@ -1,7 +1,7 @@
 use Rattle.marked_tree.specs.View.{marked_of}
 use Rattle.holder_core.specs.Present.{rules_of}
 use Rattle.holder_core.proofs.HeldFacts.{checked_unmixed, checked_shallow}
-use Rattle.holder_core.proofs.Steps.{unchosen, other_key, ready}
+use Rattle.holder_core.proofs.Steps.{unchosen, other_key}
 use Rattle.holder_core.proofs.presenting.choose_parts.Goals as goal
 
 pub choose_allowed-requires-clause-depth : goal.choose_allowed-requires-clause-depth

@@ -1,6 +1,5 @@
 use Rattle.std.proofs.Common.{◌≡◌, [], ◌∷◌, ◌++◌, length, length-append, append_assoc, true, false, sym, ap, ◌∙◌, arith}
 use Rattle.marked_tree.specs.Numbers.{has}
-use Rattle.holder_core.specs.Present.{picked}
 use Rattle.holder_core.proofs.Picking.{picked_in, picked_out}
 use Rattle.holder_core.proofs.presenting.pick.Goals as goal
 use Rattle.holder_core.proofs.presenting.pick.Goals.{then-has+in_ok-make+in_ok-push, else-has}

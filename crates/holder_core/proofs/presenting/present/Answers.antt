@@ -1,4 +1,4 @@
-use Rattle.std.proofs.Common.{◌≡◌, inr, None, Err, refl, sym, ap, ◌∙◌}
+use Rattle.std.proofs.Common.{inr, Err, refl, sym, ap, ◌∙◌}
 use Rattle.std.proofs.lemmas.Result.{IfOk-weaker, IfErr-weaker}
 use Rattle.compact_form.specs.declared.parts.Parts.{Parts}
 use Rattle.json_form.specs.declared.token.Token.{Token}

@@ -1,13 +1,24 @@
-use Rattle.std.proofs.Common.{IfOk, Result, Ok, Err}
-use Rattle.std.proofs.lemmas.Result.{IfErr-weaker}
-use Rattle.marked_tree.specs.View.{marked_of}
+use Rattle.std.proofs.lemmas.Result.{IfOk-weaker, IfErr-weaker}
 use Rattle.verifier_core.specs.Check.{IsUncounted}
-use Rattle.holder_core.proofs.Steps.{unchecked_refused, no_token}
+use Rattle.holder_core.proofs.Steps.{unpresented_refused, answered, unfinished_refused, unfinished_unread, no_token}
 use Rattle.holder_core.proofs.presenting.present_token.Goals as goal
 
 pub returns-in-Err-clause-refused : goal.returns-in-Err-clause-refused
 returns-in-Err-clause-refused g c =
-    unchecked_refused g.F.Fn c.args.consent.now c.args.token.now c.args.ask.now (g.S.Signatures.good c.args.signer.now) c.args.now c.in-Err.error c.requires.unbound c.in-Err.ensures.refused
+    unpresented_refused g.F.Fn c.args.consent.now c.args.token.now c.args.ask.now (g.S.Signatures.good c.args.signer.now) c.args.now c.in-Err.error c.requires.unbound c.in-Err.ensures.refused
+
+pub returns-clause-answer : goal.returns-clause-answer
+returns-clause-answer g c =
+    IfOk-weaker c.finish.result _ _
+    (answered g.F.Fn c.args.consent.now c.args.token.now c.args.ask.now (g.S.Signatures.good c.args.signer.now) c.args.now c.in-Ok.ensures.ready.0 c.in-Ok.ready.0 c.in-Ok.ensures.ready.1 c.in-Ok.ready.1 c.in-Ok.ensures.hash)
+    c.finish.ensures.finished
+
+pub returns-clause-refused : goal.returns-clause-refused
+returns-clause-refused g c =
+    IfErr-weaker c.finish.result _ _
+    (unfinished_refused g.F.Fn c.args.consent.now c.args.token.now c.args.ask.now (g.S.Signatures.good c.args.signer.now) c.args.now c.in-Ok.ensures.ready.0 c.in-Ok.ready.0 c.in-Ok.ensures.ready.1 c.in-Ok.ready.1 c.in-Ok.ensures.hash)
+    c.finish.ensures.unfinished
 
 pub returns-clause-uncounted : goal.returns-clause-uncounted
-returns-clause-uncounted g c = IfErr-weaker c.present_checked.result _ _ (λ e none. no_token e (IsUncounted c.args.steps.now c.check_held.new.steps) none) c.present_checked.ensures.unread
+returns-clause-uncounted g c =
+    IfErr-weaker c.finish.result _ _ (λ e is. no_token e (IsUncounted c.args.steps.now c.ready_parts.new.steps) (unfinished_unread c.args.ask.now.binding (g.S.Signatures.good c.args.signer.now) c.in-Ok.ready.1 c.args.now c.in-Ok.ready.0 e is)) c.finish.ensures.unfinished

@@ -1,4 +1,4 @@
-use Rattle.std.proofs.Common.{◌≡◌, ◌≤◌, Some, take, slice_get, ap, ap₂, sym, ◌∙◌, arith, below_more, add-one}
+use Rattle.std.proofs.Common.{◌≡◌, ◌≤◌, Some, take, slice_get, ap, sym, ◌∙◌, arith, below_more, add-one}
 use Rattle.std.specs.Option.{option_copied}
 use Rattle.claim_tree.proofs.Lists.{At-below}
 use Rattle.digest_index.specs.Index.{place_or_end, interned}

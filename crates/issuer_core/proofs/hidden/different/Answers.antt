@@ -1,7 +1,5 @@
-use Rattle.std.proofs.Common.{◌≡◌, map, ap, sym, subst, ◌∙◌, arith}
-use Rattle.claim_tree.specs.Path.{pointer_text}
-use Rattle.digest_index.specs.Index.{place_or_end, interned}
-use Rattle.marked_tree.specs.Places.{Path, is_among}
+use Rattle.std.proofs.Common.{ap, ◌∙◌, arith}
+use Rattle.marked_tree.specs.Places.{is_among}
 use Rattle.issuer_core.proofs.Counts.{keeps_new, skips_old, kept_count, covers_skip, covers_keep, covers_all}
 use Rattle.issuer_core.proofs.hidden.different.Goals.{then-place-len+in_ok-copy+in_ok-push, else-place-len}
 use Rattle.issuer_core.proofs.hidden.different.Goals as goal

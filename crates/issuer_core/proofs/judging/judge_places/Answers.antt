@@ -1,8 +1,7 @@
 use Rattle.std.proofs.Common.{sym, ◌∙◌}
-use Rattle.claim_tree.specs.View.{tree_of}
 use Rattle.issuer_core.specs.Order.{order_of}
 use Rattle.issuer_core.specs.Refusals.{IsRoot, IsNowhere, IsProtected, IsMisplaced}
-use Rattle.issuer_core.specs.Judging.{PassesBelow, is_root, is_nowhere, is_protected, is_misplaced}
+use Rattle.issuer_core.specs.Judging.{is_root, is_nowhere, is_protected, is_misplaced}
 use Rattle.issuer_core.proofs.Firsts.{found_first, found_none}
 use Rattle.issuer_core.proofs.Judged.{root_tells, nowhere_tells, protected_tells, misplaced_tells}
 use Rattle.issuer_core.proofs.Lowest.{one_more, no_54, no_55, no_56, no_57, lowest_54, lowest_55, lowest_56, lowest_57}

@@ -1,10 +1,10 @@
-use Rattle.std.proofs.Common.{◌∷◌, reverse, option_map, Some, decimal, sym, ap, subst, ◌∙◌, arith}
+use Rattle.std.proofs.Common.{◌∷◌, reverse, Some, sym, ap, subst, ◌∙◌, arith}
 use Rattle.std.specs.Prelude.{slice_get}
 use Rattle.std.proofs.Math.ListN.{drop_of_length-le}
 use Rattle.claim_tree.specs.Tree.{Text, elements_len}
 use Rattle.claim_tree.proofs.Views.{elements_len-of}
 use Rattle.issuer_core.specs.GoodOrder.{ElementsHeld}
-use Rattle.claim_tree.specs.View.{tree_of, elements_of, members_of}
+use Rattle.claim_tree.specs.View.{elements_of, members_of}
 use Rattle.claim_tree.proofs.Walks.{Named, into_element, into_member}
 use Rattle.marked_tree.specs.Places.{Path}
 use Rattle.issuer_core.specs.Reserved.{reserved_elements, reserved_members}

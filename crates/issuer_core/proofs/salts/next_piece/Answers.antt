@@ -1,4 +1,4 @@
-use Rattle.std.proofs.Common.{◌≡◌, ℕ, ◌+◌, ◌*◌, ◌<◌, List, ◌++◌, ap, sym, ◌∙◌, arith, refl}
+use Rattle.std.proofs.Common.{◌+◌, ◌*◌, arith, refl}
 use Rattle.issuer_core.specs.Salts.{salt_piece}
 use Rattle.issuer_core.proofs.SaltSteps.{step, four, joined}
 use Rattle.issuer_core.proofs.salts.next_piece.Goals as goal

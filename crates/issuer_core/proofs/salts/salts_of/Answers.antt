@@ -1,7 +1,6 @@
-use Rattle.std.proofs.Common.{◌≡◌, length, ap, subst, ◌∙◌, arith}
+use Rattle.std.proofs.Common.{◌≡◌, length, ap, ◌∙◌, arith}
 use Rattle.b64url_text.specs.Base64url.{b64}
-use Rattle.issuer_core.specs.Salts.{salt_of}
-use Rattle.issuer_core.proofs.SaltSteps.{salts_before, salts_count, each_salt, one_more}
+use Rattle.issuer_core.proofs.SaltSteps.{salts_count, each_salt, one_more}
 use Rattle.issuer_core.proofs.salts.salts_of.Goals as goal
 
 pub loop-preserved : goal.loop-preserved

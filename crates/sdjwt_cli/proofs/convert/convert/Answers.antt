@@ -1,4 +1,4 @@
-use Rattle.std.proofs.Common.{◌≡◌, ◌<◌, Err, length, string_bytes, ap, refl, subst, sym, ◌∙◌, arith}
+use Rattle.std.proofs.Common.{◌≡◌, ◌<◌, Err, length, string_bytes, ap, refl, ◌∙◌, arith}
 use Rattle.compact_form.specs.declared.limits.TheConstants.{FILE_MAX}
 use Rattle.sdjwt_cli.specs.Lines.{line}
 use Rattle.sdjwt_cli.specs.Converting.{written, unread, too_much}

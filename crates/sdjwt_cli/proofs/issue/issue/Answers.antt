@@ -32,6 +32,9 @@ returns-in_ok-as_line-in-Ok-issue_owned-clause-issues c =
       laid = c.in-Ok-issue_owned.ensures.laid;
       passes = c.in-Ok-issue_owned.ensures.passes;
       differ = c.in-Ok-issue_owned.ensures.differ;
+      writable = c.in-Ok-issue_owned.ensures.writable;
+      words = c.in-Ok-issue_owned.ensures.words;
+      few = c.in-Ok-issue_owned.ensures.few;
       short = c.in-Ok-issue_owned.ensures.short;
       line_is = c.in_ok-as_line-in-Ok-issue_owned.ensures ∙ ap line c.in_ok-print-in-Ok-issue_owned.ensures.spelling;
     }

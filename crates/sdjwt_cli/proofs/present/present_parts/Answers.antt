@@ -3,7 +3,7 @@ use Rattle.marked_tree.specs.Places.{Path}
 use Rattle.hmac_sign.specs.Hmac.{IsGood}
 use Rattle.sdjwt_cli.specs.Never.{Judges, never_rule}
 use Rattle.sdjwt_cli.proofs.Issuings.{never}
-use Rattle.sdjwt_cli.proofs.OtherRules.{presented_by, not_presented_by}
+use Rattle.holder_core.proofs.OtherRules.{presented_by, not_presented_by}
 use Rattle.sdjwt_cli.proofs.Presentings.{never_fails}
 use Rattle.sdjwt_cli.proofs.present.present_parts.Goals as goal
 

@@ -1,14 +1,12 @@
-use Rattle.std.proofs.Common.{◌≡◌, inr, false, true, refl, ap, subst, sym}
+use Rattle.std.proofs.Common.{◌≡◌, false, true, refl, ap, subst, sym}
 use Rattle.std.specs.Option.{option_copied}
 use Rattle.claim_tree.specs.Tree.{Tree}
-use Rattle.claim_tree.specs.View.{tree_of}
 use Rattle.marked_tree.specs.View.{marked_of}
 use Rattle.marked_tree.specs.Marked.{strip}
-use Rattle.compact_form.specs.Lowest.{IsLowest, NoneFails, unplaced}
-use Rattle.compact_form.specs.declared.fault.Fault.{Fault}
+use Rattle.compact_form.specs.Lowest.{IsLowest, NoneFails}
 use Rattle.json_form.specs.declared.token.Token.{Token}
 use Rattle.verifier_core.specs.Verdict.{Rules, TokenFails, Fails, IsBindingMissing, IsChecked, rules_of}
-use Rattle.verifier_core.specs.Check.{OnFault, ShownFails, IsCounted, IsCountedWithin, asked, token_of}
+use Rattle.verifier_core.specs.Check.{OnFault, ShownFails, IsCountedWithin, asked, token_of}
 use Rattle.verifier_core.proofs.CheckSteps.{on_fault}
 use Rattle.verifier_core.proofs.Verdicts.{few, whole, is_token, missing_lowest, token_lowest, shown_lowest, accepted}
 use Rattle.verifier_core.proofs.verdict.judge.Goals as goal

@@ -1,13 +1,11 @@
-use Rattle.std.proofs.Common.{◌≡◌, inr, false, true, refl, ap, subst, sym}
+use Rattle.std.proofs.Common.{◌≡◌, false, true, refl, ap, subst, sym}
 use Rattle.std.specs.Option.{option_copied}
 use Rattle.claim_tree.specs.Tree.{Tree}
-use Rattle.claim_tree.specs.View.{tree_of}
 use Rattle.marked_tree.specs.Marked.{strip}
-use Rattle.compact_form.specs.Lowest.{IsLowest, NoneFails, unplaced}
-use Rattle.compact_form.specs.declared.fault.Fault.{Fault}
+use Rattle.compact_form.specs.Lowest.{IsLowest, NoneFails}
 use Rattle.json_form.specs.declared.token.Token.{Token}
 use Rattle.verifier_core.specs.Verdict.{Rules, TokenFails, Fails, IsBindingMissing, IsChecked, rules_of}
-use Rattle.verifier_core.specs.Check.{OnFault, ShownFails, IsCounted, IsCountedWithin, asked, token_of}
+use Rattle.verifier_core.specs.Check.{OnFault, ShownFails, IsCountedWithin, asked, token_of}
 use Rattle.verifier_core.proofs.CheckSteps.{on_fault}
 use Rattle.verifier_core.proofs.Verdicts.{few, whole, is_token, missing_lowest, token_lowest, shown_lowest, accepted}
 use Rattle.verifier_core.proofs.verdict.judge_payload.Goals as goal
@@ -23,8 +21,8 @@ returns-then-is_binding_missing-clause-refused c content read =
     let missing = missing_lowest content c.args.policy.now c.args.now (token_of view outer) there (c.if-is_binding_missing.ensures.0 refl) in
     subst (λ e. OnFault e (IsLowest (Fails content c.args.policy.now c.args.now))) (sym c.fails.ensures) missing
 
-pub checked_payload-requires : goal.checked_payload-requires
-checked_payload-requires c =
+pub check_processed-requires : goal.check_processed-requires
+check_processed-requires c =
     let view = c.view-view.result in
     let outer = c.outer-outer.result.now in
     let read = c.requires.read in
@@ -45,15 +43,15 @@ returns-in-Err-clause-refused c content read =
 
 pub returns-in-Err-clause-within : goal.returns-in-Err-clause-within
 returns-in-Err-clause-within c =
-    subst (λ (t : Token). IsCountedWithin t c.args.steps.now c.checked_payload.new.steps) (whole c.args.token.now c.view-view.result c.outer-outer.result.now c.view-view.ensures c.outer-outer.ensures) c.checked_payload.ensures.within
+    subst (λ (t : Token). IsCountedWithin t c.args.steps.now c.check_processed.new.steps) (whole c.args.token.now c.view-view.result c.outer-outer.result.now c.view-view.ensures c.outer-outer.ensures) c.check_processed.ensures.within
 
 pub returns-in-Err-check_shown-clause-within : goal.returns-in-Err-check_shown-clause-within
 returns-in-Err-check_shown-clause-within c =
-    subst (λ (t : Token). IsCountedWithin t c.args.steps.now c.checked_payload.new.steps) (whole c.args.token.now c.view-view.result c.outer-outer.result.now c.view-view.ensures c.outer-outer.ensures) c.checked_payload.ensures.within
+    subst (λ (t : Token). IsCountedWithin t c.args.steps.now c.check_processed.new.steps) (whole c.args.token.now c.view-view.result c.outer-outer.result.now c.view-view.ensures c.outer-outer.ensures) c.check_processed.ensures.within
 
 pub returns-clause-within : goal.returns-clause-within
 returns-clause-within c =
-    subst (λ (t : Token). IsCountedWithin t c.args.steps.now c.checked_payload.new.steps) (whole c.args.token.now c.view-view.result c.outer-outer.result.now c.view-view.ensures c.outer-outer.ensures) c.checked_payload.ensures.within
+    subst (λ (t : Token). IsCountedWithin t c.args.steps.now c.check_processed.new.steps) (whole c.args.token.now c.view-view.result c.outer-outer.result.now c.view-view.ensures c.outer-outer.ensures) c.check_processed.ensures.within
 
 pub returns-in-Err-check_shown-clause-refused : goal.returns-in-Err-check_shown-clause-refused
 returns-in-Err-check_shown-clause-refused c content read =

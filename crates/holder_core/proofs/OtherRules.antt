@@ -11,7 +11,7 @@ use Rattle.selection_core.specs.Consent.{Answers, Allows, AllAllowed, IsRefusedA
 use Rattle.holder_core.specs.declared.ask.Ask.{Ask}
 use Rattle.holder_core.specs.declared.errors.PresentError.{PresentError}
 use Rattle.holder_core.specs.declared.errors.PresentError.TheVariants.{Memory, Token as OnCondition, HasBinding, NoSuchPlace, ConsentRefused, BindingKeyDiffers, SignFailed, TooLong}
-use Rattle.holder_core.specs.Present.{IsAgreed, IsAnswer, Refuses, IsPresented, IsNotPresented, not_read, refused}
+use Rattle.holder_core.specs.Present.{IsAgreed, IsAnswer, Refuses, IsPresented, IsNotPresented, no_memory, not_read, refused}
 
 module _ {F G : Type 0} {answers : Answers F} {rule : F} (others : Answers G) (other : G) (carries : (at : Path) (b : Bool) → Allows answers rule at b → Allows others other at b) where
   all_allowed : (m : Marked) (s : ℕ → Bool) → AllAllowed answers rule m s → AllAllowed others other m s
@@ -63,6 +63,7 @@ pub not_presented_by : {F G : Type 0} {answers : Answers F} {rule : F} (content 
     → IfErr r (IsNotPresented answers rule content ask good now) → (others : Answers G) (other : G)
     → ((at : Path) (b : Bool) → Allows answers rule at b → Allows others other at b) → IfErr r (IsNotPresented others other content ask good now)
 not_presented_by content ask good now (Ok a) h others other carries = tt
+not_presented_by content ask good now (Err e) (no_memory is) others other carries = no_memory is
 not_presented_by content ask good now (Err e) (not_read fault is r) others other carries = not_read fault is r
 not_presented_by content ask good now (Err e) (refused token is r) others other carries =
     refused token is (refusal others other carries token ask good now e r)

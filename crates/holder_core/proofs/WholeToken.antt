@@ -1,0 +1,143 @@
+-- What follows for a token without disclosures: its payload has no mark, so nothing is chosen and pruning leaves it as it is.
+use Rattle.std.proofs.Common.{◌≡◌, inl, inr, ℕ, List, [], length, Bool, true, false, Option, Some, None, refl, sym, ap, ap₂, subst, ◌∙◌, arith, eq-eqb}
+use Rattle.std.specs.Prelude.{if◌then◌else◌, ltb}
+use Rattle.std.specs.Option.{option_map, is_some}
+use Rattle.std.proofs.lemmas.Bool.Decides.{nat_tests}
+use Rattle.claim_tree.specs.Tree.{Tree}
+use Rattle.claim_tree.specs.Lists.{IsLeast, Nowhere}
+use Rattle.compact_form.specs.declared.parts.Parts.{Parts}
+use Rattle.json_form.specs.declared.token.Token.{Token}
+use Rattle.marked_tree.specs.Choice.{chosen}
+use Rattle.marked_tree.specs.Laws.{HasEachMarkOnce}
+use Rattle.marked_tree.specs.Marked.{Marked, marked_leaf, marked_array, marked_object, MarkedElements, no_marked_elements, marked_element, MarkedMembers, no_marked_members, marked_member, remark_elements, remark_members, kept, prune, strip, weight, elements_weight, members_weight, only}
+use Rattle.marked_tree.specs.Numbers.{has}
+use Rattle.marked_tree.specs.Places.{Path}
+use Rattle.marked_tree.proofs.LeastChoice.{chosen_below}
+use Rattle.rebuild_core.proofs.Presented.{one_node_holds}
+use Rattle.selection_core.specs.Consent.{Answers}
+use Rattle.selection_core.specs.Refusals.{IsMissing}
+use Rattle.verifier_core.specs.Verdict.{Rules, IsChecked, IsCheckedAs}
+use Rattle.verifier_core.proofs.CheckSteps.{zip_length}
+use Rattle.verifier_core.proofs.ContentFacts.{content_sound, content_readable}
+use Rattle.holder_core.specs.declared.ask.Ask.{Ask}
+use Rattle.holder_core.specs.declared.errors.PresentError.{PresentError}
+use Rattle.holder_core.specs.declared.errors.PresentError.TheVariants.{Memory, Token as OnCondition, HasBinding, NoSuchPlace, ConsentRefused, BindingKeyDiffers, SignFailed, TooLong}
+use Rattle.holder_core.specs.Present.{shown, rules_of, IsHeld, NamesKey}
+use Rattle.holder_core.specs.Presenting.{IsChosen, IsOtherKey, IsReady, IsUnready, IsWholeReady, IsWholeUnready, IsMadeWhole, IsMadeReady, IsUncheckedOrUnmade, IsUncheckedOrUnready}
+use Rattle.holder_core.proofs.Steps.{unchosen, other_key, ready}
+
+-- ---- a tree without marks
+
+abbrev pub HasNoMark : Marked → Type 0
+HasNoMark m = (i : ℕ) → weight (only i) m ≡ 0
+
+own_mark : (j : ℕ) → only j j ≡ 1
+own_mark j = ap (λ (b : Bool). if b then 1 else 0) (eq-eqb j j refl)
+
+mutual
+  pub prune_unmarked : (s : ℕ → Bool) (m : Marked) → HasNoMark m → prune m s ≡ m
+  prune_unmarked s (marked_leaf l) none = refl
+  prune_unmarked s (marked_array es) none = ap marked_array (elements_unmarked s es none)
+  prune_unmarked s (marked_object ms) none = ap marked_object (members_unmarked s ms none)
+
+  elements_unmarked : (s : ℕ → Bool) (es : MarkedElements) → ((i : ℕ) → elements_weight (only i) es ≡ 0) → remark_elements (kept s) es ≡ es
+  elements_unmarked s no_marked_elements none = refl
+  elements_unmarked s (marked_element None m es) none =
+      ap₂ (λ (n : Marked) (ns : MarkedElements). marked_element None n ns)
+      (prune_unmarked s m (λ i. (let w = none i in omega (arith, w))))
+      (elements_unmarked s es (λ i. (let w = none i in omega (arith, w))))
+  elements_unmarked s (marked_element (Some j) m es) none = absurd (let w = none j in let o = own_mark j in omega (arith, w, o))
+
+  members_unmarked : (s : ℕ → Bool) (ms : MarkedMembers) → ((i : ℕ) → members_weight (only i) ms ≡ 0) → remark_members (kept s) ms ≡ ms
+  members_unmarked s no_marked_members none = refl
+  members_unmarked s (marked_member k None m ms) none =
+      ap₂ (λ (n : Marked) (ns : MarkedMembers). marked_member k None n ns)
+      (prune_unmarked s m (λ i. (let w = none i in omega (arith, w))))
+      (members_unmarked s ms (λ i. (let w = none i in omega (arith, w))))
+  members_unmarked s (marked_member k (Some j) m ms) none = absurd (let w = none j in let o = own_mark j in omega (arith, w, o))
+
+no_mark : (m : Marked) → HasEachMarkOnce m 0 → HasNoMark m
+no_mark m once i = once i ∙ none i
+  where
+    none : (i : ℕ) → ◌≡◌ {A = ℕ} (if ltb i 0 then 1 else 0) 0
+    none i = grind (arith, nat_tests)
+
+none_chosen : (m : Marked) → HasEachMarkOnce m 0 → (want : List Path) (i : ℕ) → false ≡ chosen m want i
+none_chosen m once want i = go (chosen m want i) refl
+  where
+    go : (b : Bool) → chosen m want i ≡ b → false ≡ b
+    go true is = absurd (let low = chosen_below m 0 once want i is in omega (arith, low))
+    go false is = refl
+
+-- ---- a token without disclosures
+
+checked_once : (token : Token) (rules : Rules) (marked : Marked) → length token.parts.disclosures ≡ 0 → IsChecked token rules marked → HasEachMarkOnce marked 0
+checked_once token rules marked none checked =
+    let p = checked.opens.0 in
+    let g = checked.opens.1 in
+    let has_content = checked.opens.2 in
+    let few : length g ≡ 0 = zip_length has_content.hash token.parts.disclosures g has_content.disclosures ∙ none in
+    subst (λ (m : Marked). HasEachMarkOnce m 0) (sym checked.opens.3)
+    (subst (HasEachMarkOnce _) few (one_node_holds p g (content_readable token p g has_content) (content_sound token rules p g has_content checked.passes)))
+
+module _ {F : Type 0} (answers : Answers F) (rule : F) (token : Token) (ask : Ask) (none : length token.parts.disclosures ≡ 0) (unbound : token.parts.binding ≡ None) (payload : Tree) (is : IsCheckedAs token (rules_of ask.keys) payload) where
+  held : IsHeld token ask is.0
+  held = record { unbound = unbound; checked = is.1 }
+
+  once : HasEachMarkOnce is.0 0
+  once = checked_once token (rules_of ask.keys) is.0 none is.1
+
+  same_shown : payload ≡ shown is.0 (has [])
+  same_shown = is.2 ∙ ap strip (sym (prune_unmarked (has []) is.0 (no_mark is.0 once)))
+
+  nothing : Nowhere (IsMissing payload ask.want) → IsChosen answers rule is.0 ask.want []
+  nothing there = record {
+    same = none_chosen is.0 once ask.want;
+    there = subst (λ (t : Tree). Nowhere (IsMissing t ask.want)) is.2 there;
+    allowed = λ i at yes stands. (let clash : false ≡ true = none_chosen is.0 once ask.want i ∙ yes in absurd (cc clash));
+  }
+
+  pub whole_ready : (parts : Parts) → IsWholeReady token ask payload parts → IsReady answers rule token ask is.0 parts
+  whole_ready parts h =
+      ready answers rule token ask is.0 held [] (nothing h.there) (subst (NamesKey ask.binding) same_shown h.key) parts h.presents.signed h.presents.disclosures h.presents.binding_is
+
+  pub whole_unready : (e : PresentError) → IsWholeUnready ask payload e → IsUnready answers rule token ask e
+  whole_unready Memory h = tt
+  whole_unready (OnCondition fault) h = absurd h
+  whole_unready HasBinding h = absurd h
+  whole_unready (NoSuchPlace k) h = unchosen answers rule token ask is.0 held (NoSuchPlace k) (subst (λ (t : Tree). IsLeast (IsMissing t ask.want) k) is.2 h)
+  whole_unready (ConsentRefused i) h = absurd h
+  whole_unready BindingKeyDiffers h =
+      other_key answers rule token ask is.0 held [] (nothing h.0) BindingKeyDiffers (subst (λ (t : Tree). IsOtherKey ask.binding t BindingKeyDiffers) same_shown h.1)
+  whole_unready SignFailed h = absurd h
+  whole_unready TooLong h = absurd h
+
+module _ {F : Type 0} (answers : Answers F) (rule : F) (token : Token) (ask : Ask) (none : length token.parts.disclosures ≡ 0) (unbound : token.parts.binding ≡ None) where
+  pub made_ready : (parts : Parts) → IsMadeWhole token ask parts → IsMadeReady answers rule token ask parts
+  made_ready parts made = (made.1.0, whole_ready answers rule token ask none unbound made.0 made.1 parts made.2)
+
+  pub unmade_unready : (e : PresentError) → IsUncheckedOrUnmade token ask e → IsUncheckedOrUnready answers rule token ask e
+  unmade_unready e (inl unchecked) = inl unchecked
+  unmade_unready e (inr unmade) = inr (whole_unready answers rule token ask none unbound unmade.0 unmade.1 e unmade.2)
+
+-- ---- the wanted places
+
+pub nothing_found : {X Y : Type 0} (f : X → Y) (o : Option X) (p : Option Y) → option_map f o ≡ p → is_some o ≡ false → false ≡ is_some p
+nothing_found f None p same e = ap is_some same
+nothing_found f (Some x) p same e = absurd (cc e)
+
+pub something_found : {X Y : Type 0} (f : X → Y) (o : Option X) (p : Option Y) → option_map f o ≡ p → is_some o ≡ true → true ≡ is_some p
+something_found f None p same e = absurd (cc e)
+something_found f (Some x) p same e = ap is_some same
+
+-- ---- the key
+
+pub other_named : (ask : Ask) (payload : Tree) → Nowhere (IsMissing payload ask.want) → (e : PresentError) → IsOtherKey ask.binding payload e → IsWholeUnready ask payload e
+other_named ask payload there Memory h = tt
+other_named ask payload there (OnCondition fault) h = absurd h
+other_named ask payload there HasBinding h = absurd h
+other_named ask payload there (NoSuchPlace k) h = absurd h
+other_named ask payload there (ConsentRefused i) h = absurd h
+other_named ask payload there BindingKeyDiffers h = (there, h)
+other_named ask payload there SignFailed h = absurd h
+other_named ask payload there TooLong h = absurd h

@@ -1,0 +1,120 @@
+// What is presented of a token without disclosures: nothing of its payload is marked, so no mark is built or chosen.
+ghost use Rattle.std.specs.Prelude.{◌≡◌, ◌<◌, ◌-◌, ◌^◌, None, length, IfOk, OnOk, IfErr, IfSome};
+ghost use Rattle.claim_tree.specs.Lists.{IsLeast, Nowhere};
+ghost use Rattle.claim_tree.specs.View.{tree_of};
+ghost use Rattle.compact_form.specs.Compact.{AreWords};
+ghost use Rattle.selection_core.specs.Refusals.{IsMissing};
+ghost use Rattle.verifier_core.specs.Verdict.{IsCheckedAs, HasHash};
+ghost use Rattle.verifier_core.specs.Check.{IsCounted, IsCountedWithin, IsUncounted};
+ghost use Rattle.holder_core.specs.Present.{rules_of, NamesKey, OnToken};
+ghost use Rattle.holder_core.specs.Presenting.{IsUnchecked, IsOtherKey, IsWholeReady, IsWholeUnready, IsMadeWhole, IsUncheckedOrUnmade};
+
+use crate::presenting::{check_named, hs256_alone, picked_parts};
+use crate::{Ask, BindingAsk, PresentError};
+use claim_tree::{PathList, Tree, find};
+use compact_form::Parts;
+use digest_index::Steps;
+use disclosure::HashAlg;
+use hmac_sign::KeySet;
+use json_form::TokenText;
+use marked_tree::ChosenSet;
+use std::alloc::Global;
+use verifier_core::{CheckedPayload, VerifyError, check_processed};
+
+// The token, if nothing is refused, and the algorithm of its digests.
+pub(crate) fn whole_parts(
+    alloc: Global,
+    token: &TokenText<'_>,
+    ask: &Ask,
+    steps: &mut Steps,
+) -> Result<(Parts, HashAlg), PresentError>
+    requires few { length token.now.parts.disclosures < 2 ^ 32 - 1 }
+    requires words { AreWords token.now.parts }
+    ensures ready { IfOk result (λ r. IsMadeWhole token.now ask.now r.0) }
+    ensures words { IfOk result (λ r. AreWords r.0) }
+    ensures none { IfOk result (λ r. r.0.binding ≡ None) }
+    ensures hash { IfOk result (λ r. HasHash token.now r.1) }
+    ensures refused { IfErr result (IsUncheckedOrUnmade token.now ask.now) }
+    ensures counted { IfOk result (λ _. IsCounted token.now steps.old steps.new) }
+    ensures within { IsCountedWithin token.now steps.old steps.new }
+    ensures uncounted { IfErr result (λ e. OnToken e (IsUncounted steps.old steps.new)) }
+{
+    let checked = match check_whole(alloc, token, &ask.keys, steps) {
+        Ok(checked) => checked,
+        Err(error) => return Err(error),
+    };
+    match wanted_parts(alloc, token, &checked.payload, ask) {
+        Ok(unbound) => Ok((unbound, checked.hash)),
+        Err(error) => Err(error),
+    }
+}
+
+// The conditions 5 to 21, but 8, for the processed payload alone.
+fn check_whole(
+    alloc: Global,
+    token: &TokenText<'_>,
+    keys: &KeySet,
+    steps: &mut Steps,
+) -> Result<CheckedPayload, PresentError>
+    requires few { length token.now.parts.disclosures < 2 ^ 32 - 1 }
+    ensures checked { IfOk result (λ c. IsCheckedAs token.now (rules_of keys.now) (tree_of c.payload)) }
+    ensures hash { IfOk result (λ c. HasHash token.now c.hash) }
+    ensures refused { IfErr result (IsUnchecked token.now (rules_of keys.now)) }
+    ensures counted { IfOk result (λ _. IsCounted token.now steps.old steps.new) }
+    ensures within { IsCountedWithin token.now steps.old steps.new }
+    ensures uncounted { IfErr result (λ e. OnToken e (IsUncounted steps.old steps.new)) }
+{
+    let algs = hs256_alone(alloc)?;
+    let view = token.view();
+    match check_processed(alloc, &view, token.outer(), keys, &algs, None, steps) {
+        Ok(checked) => Ok(checked),
+        Err(VerifyError::Memory) => Err(PresentError::Memory),
+        Err(VerifyError::Fault(fault)) => Err(PresentError::Token(fault)),
+    }
+}
+
+// The token, if each wanted place is in the payload, and the payload names the key of the ask.
+fn wanted_parts(
+    alloc: Global,
+    token: &TokenText<'_>,
+    payload: &Tree,
+    ask: &Ask,
+) -> Result<Parts, PresentError>
+    requires few { length token.now.parts.disclosures < 2 ^ 32 - 1 }
+    requires words { AreWords token.now.parts }
+    ensures ready { IfOk result (IsWholeReady token.now ask.now (tree_of payload.now)) }
+    ensures words { IfOk result AreWords }
+    ensures refused { IfErr result (IsWholeUnready ask.now (tree_of payload.now)) }
+{
+    if let Some(k) = first_missing(payload, &ask.want) {
+        return Err(PresentError::NoSuchPlace(k));
+    }
+    if let Err(error) = check_binding(&ask.binding, payload) {
+        return Err(error);
+    }
+    Ok(picked_parts(alloc, &token.view(), &ChosenSet::new(alloc))?)
+}
+
+// Whether the payload names the key of the ask, where a key binding token is asked for.
+fn check_binding(binding: &Option<BindingAsk>, payload: &Tree) -> Result<(), PresentError>
+    ensures named { OnOk result (NamesKey binding.now (tree_of payload.now)) }
+    ensures refused { IfErr result (IsOtherKey binding.now (tree_of payload.now)) }
+{
+    match binding {
+        None => Ok(()),
+        Some(binding) => check_named(binding, payload),
+    }
+}
+
+// The number of the first wanted path that leads nowhere.
+fn first_missing(payload: &Tree, want: &PathList) -> Option<usize>
+    ensures least { IfSome result (IsLeast (IsMissing (tree_of payload.now) want.now)) }
+    ensures there { result ≡ None → Nowhere (IsMissing (tree_of payload.now) want.now) }
+{
+    for (k, path) in want.paths().iter().enumerate() {
+        if find(payload, path).is_none() {
+            return Some(k);
+        }
+    }
+    None
+}

@@ -1,0 +1,70 @@
+-- Parts that carry what is issued for an order are checked, and process to what they show.
+use Rattle.std.proofs.Common.{◌≡◌, inl, inr, ℕ, List, Some, codes, refl, sym, subst}
+use Rattle.std.specs.List.{AllZip}
+use Rattle.b64url_text.specs.Base64url.{AreBytes, b64}
+use Rattle.claim_tree.specs.Tree.{Text, Tree, no_members}
+use Rattle.claim_tree.specs.Lists.{In}
+use Rattle.claim_tree.proofs.Lists.{In-At}
+use Rattle.compact_form.specs.declared.parts.Parts.{Parts}
+use Rattle.digest_sites.specs.Given.{Given}
+use Rattle.disclosure.specs.Digest.{payload_hash}
+use Rattle.disclosure.specs.declared.digests.HashAlg.{HashAlg}
+use Rattle.hmac_sign.specs.Hmac.{IsGood, IsGoodText}
+use Rattle.hmac_sign.proofs.Macs.{AreBytes-mac}
+use Rattle.jws_part.specs.Header.{IsHeader}
+use Rattle.jws_part.specs.Part.{IsBody}
+use Rattle.rebuild_core.specs.Conditions.{IsSound}
+use Rattle.rebuild_core.specs.Opening.{processed}
+use Rattle.rebuild_core.specs.Payload.{without_alg}
+use Rattle.verifier_core.specs.Check.{IsSigned}
+use Rattle.verifier_core.specs.Verdict.{Rules, key_for, IsAlgRefused, IsTypeRefused, HasContent, IsChecked}
+use Rattle.verifier_core.proofs.CheckSteps.{signed_passes, payload_passes, given_passes, content_checked}
+use Rattle.issuer_core.specs.Laid.{with_alg}
+use Rattle.issuer_core.specs.Order.{Order}
+use Rattle.issuer_core.specs.Written.{header_of}
+use Rattle.issuer_core.proofs.IssuedContent.{IsTextOf}
+use Rattle.sdjwt_cli.proofs.CompactLines.{alone}
+
+-- the rules take what is signed for the order with the key
+pub record Takes (o : Order) (key : List ℕ) (rules : Rules) : Type 0 where
+  pub alg : In (codes "HS256") rules.algs
+  pub typ : (name : Text) → rules.typ ≡ Some name → o.typ ≡ Some name
+  pub finds : key_for rules.keys o.kid ≡ Some key
+
+-- the parts are signed so, and carry this payload and these disclosures
+pub record CarriesFor (o : Order) (key : List ℕ) (p : Tree) (g : List Given) (parts : Parts) : Type 0 where
+  pub header : IsHeader parts.signed.protected no_members (header_of o)
+  pub signature : List ℕ
+  pub signature_text : parts.signed.signature ≡ b64 signature
+  pub good : IsGood key parts.signed.protected parts.signed.payload signature
+  pub body : IsBody parts.signed.payload (with_alg p)
+  pub hash : payload_hash (with_alg p) ≡ Some HashAlg.Sha256
+  pub bare : without_alg (with_alg p) ≡ p
+  pub texts : AllZip IsTextOf parts.disclosures g
+
+module _ (o : Order) (key : List ℕ) (p : Tree) (g : List Given) (parts : Parts) (carries : CarriesFor o key p g parts) where
+  pub content : HasContent (alone parts) p g
+  content = record { body = with_alg p; is_body = carries.body; payload_is = sym carries.bare; hash = HashAlg.Sha256; hash_is = carries.hash; disclosures = carries.texts }
+
+  pub checked : (rules : Rules) → Takes o key rules → IsSound p g → IsChecked (alone parts) rules (processed p g)
+  checked rules takes sound =
+      let bytes : AreBytes carries.signature = subst AreBytes (sym carries.good) (AreBytes-mac key parts.signed.protected parts.signed.payload) in
+      let good : IsGoodText key parts.signed.protected parts.signed.payload parts.signed.signature = (carries.signature, record { fit = bytes; spelling = carries.signature_text }, carries.good) in
+      let signed : IsSigned parts.signed no_members rules = record {
+        header = header_of o;
+        is_header = carries.header;
+        alg = taken;
+        typ = typed;
+        key = key;
+        key_is = takes.finds;
+        good = λ bad. bad good;
+      } in
+      let at_payload = payload_passes (alone parts) rules (with_alg p) HashAlg.Sha256 (signed_passes (alone parts) rules signed) carries.body carries.hash in
+      content_checked (alone parts) rules p g (processed p g) content (given_passes (alone parts) rules HashAlg.Sha256 g at_payload carries.texts) sound refl
+    where
+      taken : IsAlgRefused rules.algs (codes "HS256") → ⊥
+      taken (inl other) = other refl
+      taken (inr none) = let there = In-At rules.algs (codes "HS256") takes.alg in none there.0 there.1
+
+      typed : IsTypeRefused rules.typ o.typ → ⊥
+      typed (name, asked, other) = other (takes.typ name asked)

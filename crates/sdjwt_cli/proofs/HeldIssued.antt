@@ -1,0 +1,64 @@
+-- A token that is issued is held: it is read, no condition on it fails under the keys of a holder who finds the issuer's, and it
+-- processes to the claims with their marks.
+use Rattle.std.proofs.Common.{◌≡◌, inl, ℕ, ◌≤◌, List, length, Some, refl, subst, ◌∙◌, arith, ap₂}
+use Rattle.compact_form.specs.declared.limits.TheConstants.{ISSUE_MAX, COUNT_MAX}
+use Rattle.compact_form.specs.declared.parts.Parts.{Parts}
+use Rattle.compact_form.specs.Compact.{compact, AreWords}
+use Rattle.hmac_sign.specs.Hmac.{IsGood}
+use Rattle.json_form.specs.Token.{IsToken}
+use Rattle.json_form.specs.declared.token.Token.{Token}
+use Rattle.json_form.proofs.Tokens as tokens
+use Rattle.marked_tree.specs.Marked.{Marked}
+use Rattle.rebuild_core.specs.Opening.{processed}
+use Rattle.verifier_core.specs.Verdict.{HasContent, Opens, IsChecked, key_for}
+use Rattle.verifier_core.proofs.CheckSteps.{one_content}
+use Rattle.issuer_core.specs.Digests.{marked_of}
+use Rattle.issuer_core.specs.Order.{Order}
+use Rattle.issuer_core.proofs.IssuedContent.{HasIssued}
+use Rattle.holder_core.specs.declared.ask.Ask.{Ask}
+use Rattle.holder_core.specs.Present.{rules_of, IsHeld}
+use Rattle.sdjwt_cli.specs.Lines.{line}
+use Rattle.sdjwt_cli.proofs.CompactLines.{alone, line_token}
+use Rattle.sdjwt_cli.proofs.CheckedParts.{CarriesFor, content, checked}
+
+-- what `issue` answers, with its key
+pub record IsIssuedBy (seed : List ℕ) (o : Order) (key : List ℕ) (parts : Parts) : Type 0 where
+  pub has : HasIssued seed o (IsGood key) parts
+  pub words : AreWords parts
+  pub few : length parts.disclosures ≤ COUNT_MAX
+  pub short : length (compact parts) ≤ ISSUE_MAX
+
+pub carries_issued : (seed : List ℕ) (o : Order) (key : List ℕ) (parts : Parts) (has : HasIssued seed o (IsGood key) parts) → CarriesFor o key has.payload has.given parts
+carries_issued seed o key parts has = record {
+  header = has.back.header;
+  signature = has.written.signature;
+  signature_text = has.written.signature_text;
+  good = has.written.signed;
+  body = has.back.body;
+  hash = has.hash;
+  bare = has.bare;
+  texts = has.texts;
+}
+
+module _ (seed : List ℕ) (o : Order) (key : List ℕ) (parts : Parts) (is : IsIssuedBy seed o key parts) where
+  pub issued_token : IsToken (line (compact parts)) (alone parts)
+  issued_token = let short = is.short in line_token parts is.words (omega (arith, short)) is.few
+
+  pub issued_content : HasContent (alone parts) is.has.payload is.has.given
+  issued_content = content o key is.has.payload is.has.given parts (carries_issued seed o key parts is.has)
+
+  pub issued_held : (ask : Ask) → key_for ask.keys o.kid ≡ Some key → IsHeld (alone parts) ask (marked_of o)
+  issued_held ask finds = record {
+    unbound = is.has.written.unbound;
+    checked = subst (IsChecked (alone parts) (rules_of ask.keys)) is.has.issued.opens
+        (checked o key is.has.payload is.has.given parts (carries_issued seed o key parts is.has) (rules_of ask.keys) (record { alg = inl refl; typ = λ name none. cc none; finds = finds }) is.has.sound);
+  }
+
+  -- the line is read as no other token, and processes to nothing else
+  pub one_issued : (token : Token) → IsToken (line (compact parts)) token → token ≡ alone parts
+  one_issued token there = tokens.one (line (compact parts)) token (alone parts) there issued_token
+
+  pub one_marked : (marked : Marked) → Opens (alone parts) marked → marked ≡ marked_of o
+  one_marked marked (p, g, there, e) =
+      let same = one_content (alone parts) p is.has.payload g is.has.given there issued_content in
+      e ∙ (ap₂ processed same.0 same.1 ∙ is.has.issued.opens)

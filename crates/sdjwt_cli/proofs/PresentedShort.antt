@@ -1,0 +1,104 @@
+-- What is presented of an issued token is no longer than a compact text may be.
+use Rattle.std.proofs.Common.{◌≡◌, ℕ, suc, ◌+◌, ◌<◌, ◌≤◌, ◌^◌, List, [], ◌∷◌, ◌++◌, length, Bool, true, false, Option, None, Some, IfSome, codes, sym, ap, subst, arith}
+use Rattle.std.specs.Prelude.{if◌then◌else◌}
+use Rattle.std.specs.List.{AllByRecursion}
+use Rattle.std.proofs.lemmas.List.{length-append}
+use Rattle.b64url_text.specs.Base64url.{IsWord}
+use Rattle.b64url_text.proofs.Codes.{IsWord-b64}
+use Rattle.claim_tree.specs.Tree.{Text}
+use Rattle.compact_form.specs.declared.limits.TheConstants.{COMPACT_MAX, ISSUE_MAX, COUNT_MAX}
+use Rattle.compact_form.specs.declared.parts.JwtParts.{JwtParts}
+use Rattle.compact_form.specs.declared.parts.Parts.{Parts}
+use Rattle.compact_form.specs.Compact.{jwt, spelled, hashed, ending, compact, HasWords, AreWords}
+use Rattle.disclosure.specs.declared.digests.HashAlg.{HashAlg}
+use Rattle.hmac_sign.specs.Hmac.{IsGood}
+use Rattle.hmac_sign.proofs.Macs.{length-mac}
+use Rattle.jws_part.specs.Header.{header_members}
+use Rattle.key_binding.specs.Binding.{IsBinding, binding_header, claim_members, claims_for}
+use Rattle.key_binding.proofs.Bindings.{object_word, binding_short}
+use Rattle.holder_core.specs.declared.ask.BindingAsk.{BindingAsk}
+use Rattle.holder_core.specs.Present.{picked, Presents, IsBoundWith, IsBoundAs}
+use Rattle.holder_core.proofs.Picking.{picked_words}
+
+-- ---- disclosures that are picked
+
+pub picked_few : {X : Type 0} (s : ℕ → Bool) (xs : List X) → length (picked s xs) ≤ length xs
+picked_few s [] = omega arith
+picked_few {X} s (x ∷ xs) = go (s 0) (picked (λ k. s (suc k)) xs) (picked_few (λ k. s (suc k)) xs)
+  where
+    go : (b : Bool) (ys : List X) → length ys ≤ length xs → length (if b then x ∷ ys else ys) ≤ length (x ∷ xs)
+    go true ys ih = omega (arith, ih)
+    go false ys ih = omega (arith, ih)
+
+pub spelled_more : (d : Text) (ds : List Text) → length (spelled (d ∷ ds)) ≡ suc (length d) + length (spelled ds)
+spelled_more d ds = omega (arith, length-append (d ++ codes "~") (spelled ds), length-append d (codes "~"))
+
+picked_short : (s : ℕ → Bool) (ds : List Text) → length (spelled (picked s ds)) ≤ length (spelled ds)
+picked_short s [] = omega arith
+picked_short s (d ∷ ds) = go (s 0) (picked (λ k. s (suc k)) ds) (picked_short (λ k. s (suc k)) ds)
+  where
+    go : (b : Bool) (es : List Text) → length (spelled es) ≤ length (spelled ds) → length (spelled (if b then d ∷ es else es)) ≤ length (spelled (d ∷ ds))
+    go true es ih = omega (arith, ih, spelled_more d es, spelled_more d ds)
+    go false es ih = omega (arith, ih, spelled_more d ds)
+
+pub hashed_length : (parts : Parts) → length (hashed parts) ≡ length (jwt parts.signed) + suc (length (spelled parts.disclosures))
+hashed_length parts = omega (arith, length-append (jwt parts.signed) (codes "~" ++ spelled parts.disclosures), length-append (codes "~") (spelled parts.disclosures))
+
+pub compact_length : (parts : Parts) → length (compact parts) ≡ length (hashed parts) + length (ending parts.binding)
+compact_length parts = length-append (hashed parts) (ending parts.binding)
+
+-- ---- a key binding token
+
+binding_words : (key : List ℕ) (hash : HashAlg) (text aud nonce : Text) (now : ℕ) (token : JwtParts) → IsBinding (IsGood key) hash text aud nonce now token → HasWords token
+binding_words key hash text aud nonce now token is = record {
+  protected = subst IsWord (sym is.protected) (object_word (header_members binding_header));
+  payload = subst IsWord (sym is.payload) (object_word (claim_members (claims_for hash text aud nonce now)));
+  signature = subst IsWord (sym is.signature_text) (IsWord-b64 is.signature (omega (arith, ap length is.signed, length-mac key token.protected token.payload)));
+}
+
+-- an audience and a nonce have as many bytes as they may
+abbrev pub AreShort : Option BindingAsk → Type 0
+AreShort asked = IfSome asked (λ ask. (length ask.aud ≤ 256) × (length ask.nonce ≤ 256))
+
+module _ (key : List ℕ) (hash : HashAlg) (text : Text) (now : ℕ) (in_range : now < 2 ^ 64) where
+  pub ending_words : (asked : Option BindingAsk) (binding : Option JwtParts) → IsBoundWith asked (IsGood key) hash text now binding → IfSome binding HasWords
+  ending_words None binding is = subst (λ b. IfSome b HasWords) (sym is) tt
+  ending_words (Some ask) None is = absurd is
+  ending_words (Some ask) (Some token) is = binding_words key hash text ask.aud ask.nonce now token is.is_binding
+
+  pub ending_short : (asked : Option BindingAsk) (binding : Option JwtParts) → AreShort asked → IsBoundWith asked (IsGood key) hash text now binding → length (ending binding) < 5000
+  ending_short None binding small is = omega (arith, ap (λ b. length (ending b)) is)
+  ending_short (Some ask) None small is = absurd is
+  ending_short (Some ask) (Some token) small is = binding_short key hash text ask.aud ask.nonce now token small.0 small.1 in_range is.is_binding
+
+-- ---- what is presented
+
+module _ (key : List ℕ) (hash : HashAlg) (now : ℕ) (in_range : now < 2 ^ 64) (asked : Option BindingAsk) (small : AreShort asked) (parts answer : Parts) (s : ℕ → Bool)
+    (presents : Presents parts s answer.binding answer) (bound : IsBoundAs asked (IsGood key) hash now answer) where
+  pub answer_words : AreWords parts → AreWords answer
+  answer_words words = record {
+    signed = subst HasWords (sym presents.signed) words.signed;
+    disclosures = subst (AllByRecursion IsWord) (sym presents.disclosures) (picked_words s parts.disclosures words.disclosures);
+    binding = ending_words key hash (hashed answer) now in_range asked answer.binding bound;
+  }
+
+  pub answer_few : length parts.disclosures ≤ COUNT_MAX → length answer.disclosures ≤ COUNT_MAX
+  answer_few few = omega (arith, few, ap length presents.disclosures, picked_few s parts.disclosures)
+
+  pub answer_short : length (compact parts) ≤ ISSUE_MAX → length (compact answer) ≤ COMPACT_MAX
+  answer_short short =
+      let signed = ap (λ j. length (jwt j)) presents.signed in
+      let disclosed = ap (λ ds. length (spelled ds)) presents.disclosures in
+      let bound_short = ending_short key hash (hashed answer) now in_range asked answer.binding small bound in
+      omega (
+        arith,
+        short,
+        signed,
+        disclosed,
+        bound_short,
+        picked_short s parts.disclosures,
+        hashed_length parts,
+        hashed_length answer,
+        compact_length parts,
+        compact_length answer,
+      )

@@ -1,0 +1,153 @@
+-- An order, what a holder is asked, and a policy that suits: the premise of the law of presenting at worked values.
+use Rattle.std.proofs.Common.{◌≡◌, ◌≢◌, inl, inr, ℕ, zero, suc, true, List, [], ◌∷◌, ◌++◌, None, Some, codes, refl, sym, ap, subst, ◌∙◌, arith}
+use Rattle.claim_tree.specs.Tree.{Text, Tree, leaf, text, object, Members, no_members, member, get}
+use Rattle.claim_tree.specs.Lists.{At, In}
+use Rattle.claim_tree.specs.Path.{tree_at}
+use Rattle.compact_form.specs.Lowest.{NoneFails}
+use Rattle.compact_form.specs.Condition as condition
+use Rattle.compact_form.proofs.Lowest.{holds_too, none_fails}
+use Rattle.hmac_sign.specs.Hmac.{key_block}
+use Rattle.jws_part.specs.Times.{IsTimeUnreadable}
+use Rattle.key_binding.specs.declared.policy.BindingPolicy.{BindingPolicy}
+use Rattle.marked_tree.specs.Choice.{chosen}
+use Rattle.marked_tree.specs.Places.{Path, place}
+use Rattle.marked_tree.proofs.LeastChoice.{chosen_below}
+use Rattle.marked_tree.proofs.MarkFacts.{marks_once_holds}
+use Rattle.verifier_core.specs.Verdict.{ClaimFails}
+use Rattle.verifier_core.specs.declared.policy.Policy.{Policy}
+use Rattle.verifier_core.proofs.ClaimSteps.{claim_numbers, before_missing, before_times, before_expiry, before_start}
+use Rattle.issuer_core.specs.Digests.{marked_of}
+use Rattle.issuer_core.specs.Order.{Order}
+use Rattle.holder_core.specs.declared.ask.BindingAsk.{BindingAsk}
+use Rattle.holder_core.specs.declared.present_file.PresentFile.{PresentFile}
+use Rattle.sdjwt_cli.specs.Never.{MayBeShown}
+use Rattle.sdjwt_cli.specs.Suits.{Suits, BindingSuits, shown_for}
+
+abbrev pub named : Text → Tree
+named s = leaf (text s)
+
+-- {"cnf":{"kid":"h"},"family_name":"Bee","given_name":"Ann","iss":"i"}, of which both names are hidden
+abbrev pub claims_members : Members
+claims_members =
+    member (codes "cnf") (object (member (codes "kid") (named (codes "h")) no_members))
+    (member (codes "family_name") (named (codes "Bee")) (member (codes "given_name") (named (codes "Ann")) (member (codes "iss") (named (codes "i")) no_members)))
+
+abbrev pub order : Order
+order = record {
+  claims = object claims_members;
+  hide = (codes "family_name" ∷ []) ∷ (codes "given_name" ∷ []) ∷ [];
+  decoys = [];
+  kid = None;
+  typ = Some (codes "dc+sd-jwt");
+}
+
+-- two keys of 32 bytes
+abbrev pub issuer_bytes : List ℕ
+issuer_bytes = codes "the key of an issuer, 32 bytes.."
+
+abbrev pub holder_bytes : List ℕ
+holder_bytes = codes "the key of a holder, of 32 bytes"
+
+abbrev pub issuer_key : List ℕ
+issuer_key = key_block issuer_bytes
+
+abbrev pub holder_key : List ℕ
+holder_key = key_block holder_bytes
+
+-- the given name is wanted, with a key binding token, and the family name is never shown
+abbrev pub said : PresentFile
+said = record {
+  ask = record {
+    keys = record { kid = None; key = issuer_key } ∷ [];
+    want = (codes "given_name" ∷ []) ∷ [];
+    binding = Some (record { kid = codes "h"; aud = codes "v"; nonce = codes "7" });
+  };
+  never = (codes "family_name" ∷ []) ∷ [];
+  key = Some holder_key;
+}
+
+abbrev pub asked_binding : BindingPolicy
+asked_binding = record { aud = codes "v"; nonce = codes "7"; keys = record { kid = Some (codes "h"); key = holder_key } ∷ []; max_age = 300 }
+
+-- the verifier wants a given name by this issuer, and a key binding token of at most 300 seconds
+abbrev pub policy : Policy
+policy = record {
+  keys = record { kid = None; key = issuer_key } ∷ [];
+  algs = codes "HS256" ∷ [];
+  typ = Some (codes "dc+sd-jwt");
+  iss = Some (codes "i");
+  require = codes "given_name" ∷ [];
+  skew = 5;
+  binding = Some asked_binding;
+}
+
+-- the family name is left out
+shown_are : shown_for order said.ask.want
+    ≡ object (member (codes "cnf") (object (member (codes "kid") (named (codes "h")) no_members)) (member (codes "given_name") (named (codes "Ann")) (member (codes "iss") (named (codes "i")) no_members)))
+shown_are = refl
+
+there : (path : Path) → In path said.ask.want → tree_at order.claims path ≢ None
+there path (inl same) none = let found = ap (λ (p : Path). tree_at order.claims p) same in cc (sym found ∙ none)
+there path (inr other) none = absurd other
+
+claims_hold : NoneFails (ClaimFails (shown_for order said.ask.want) policy 1300)
+claims_hold =
+    let shown = shown_for order said.ask.want in
+    let issuer = before_missing shown policy 1300 (λ iss wanted other. let same : codes "i" ≡ iss = cc wanted in other (ap (λ s. Some (named s)) same)) in
+    let required = before_times shown policy 1300 issuer wanted in
+    let readable = before_expiry shown policy 1300 required unreadable in
+    let fresh = before_start shown policy 1300 readable (λ late. cc late.1) in
+    none_fails (ClaimFails shown policy 1300) 27 (holds_too (ClaimFails shown policy 1300) condition.not_yet fresh (λ place h. cc h.1.1))
+    (λ c place h. let n = claim_numbers shown policy 1300 c place h in n.1)
+  where
+    wanted : (i : ℕ) (name : Text) → At policy.require i name → get (shown_for order said.ask.want) name ≢ None
+    wanted zero name is none = let found = ap (get (shown_for order said.ask.want)) is in cc (sym found ∙ none)
+    wanted (suc i) name is none = absurd is
+
+    unreadable : IsTimeUnreadable (shown_for order said.ask.want) → ⊥
+    unreadable (inl h) = cc h.1
+    unreadable (inr h) = cc h.1
+
+given_name : (at : Path) → place (marked_of order) 1 ≡ Some at → MayBeShown said.never at
+given_name at stands front (inl is) (rest, whole) =
+    let placed : Some (codes "given_name" ∷ []) ≡ Some at = stands in
+    let at_is : codes "given_name" ∷ [] ≡ at = cc placed in
+    let all : codes "given_name" ∷ [] ≡ codes "family_name" ∷ rest = at_is ∙ (whole ∙ ap (λ (p : Path). p ++ rest) is) in
+    let first : codes "given_name" ≡ codes "family_name" = cc all in
+    cc first
+given_name at stands front (inr other) leads = absurd other
+
+-- what is bound is bound as the policy asks for it
+at_work : BindingSuits said asked_binding policy.skew 1000 1300
+at_work = record {
+  ask = record { kid = codes "h"; aud = codes "v"; nonce = codes "7" };
+  asked = refl;
+  aud = refl;
+  nonce = refl;
+  key = holder_key;
+  signs = refl;
+  known = refl;
+  not_stale = omega arith;
+  not_early = omega arith;
+}
+
+pub suits : Suits order issuer_key said policy 1000 1300
+suits = record {
+  holder_finds = refl;
+  verifier_finds = refl;
+  alg = inl refl;
+  typ = λ name asked. asked;
+  there = there;
+  may_be_shown = may_be_shown;
+  named = λ ask asked. let same : record { kid = codes "h"; aud = codes "v"; nonce = codes "7" } ≡ ask = cc asked in ap (λ (a : BindingAsk). Some a.kid) same;
+  bound = bound;
+  claims = claims_hold;
+}
+  where
+    may_be_shown : (i : ℕ) (at : Path) → chosen (marked_of order) said.ask.want i ≡ true → place (marked_of order) i ≡ Some at → MayBeShown said.never at
+    may_be_shown zero at is_chosen stands = cc is_chosen
+    may_be_shown (suc zero) at is_chosen stands = given_name at stands
+    may_be_shown (suc (suc i)) at is_chosen stands = absurd (let low = chosen_below (marked_of order) 2 (marks_once_holds order.claims order.hide) said.ask.want (suc (suc i)) is_chosen in omega (arith, low))
+
+    bound : (binding : BindingPolicy) → policy.binding ≡ Some binding → BindingSuits said binding policy.skew 1000 1300
+    bound binding asked = let same : asked_binding ≡ binding = cc asked in subst (λ (b : BindingPolicy). BindingSuits said b policy.skew 1000 1300) same at_work
