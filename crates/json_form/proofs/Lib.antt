@@ -7,3 +7,4 @@ mod WordLists
 mod EntryLists
 pub mod Tokens
 pub mod Lines
+pub mod AloneForms

@@ -5,7 +5,7 @@ use Rattle.std.specs.List.{AllByRecursion}
 use Rattle.std.proofs.lemmas.List.{take_more}
 use Rattle.std.proofs.lemmas.Option.{slice_get_within, get_or_from_slice_get}
 use Rattle.b64url_text.specs.Base64url.{IsWord}
-use Rattle.claim_tree.specs.Tree.{Text, text, Tree, leaf, array, object, no_elements, element, Members, no_members, member, depth, elements_depth, members_depth, IsRanged, ElementsRanged, MembersRanged, pushed}
+use Rattle.claim_tree.specs.Tree.{Text, text, Tree, leaf, array, object, no_elements, element, Members, no_members, depth, elements_depth, members_depth, IsRanged, ElementsRanged, MembersRanged, pushed}
 use Rattle.claim_tree.specs.Removed.{removed}
 use Rattle.claim_tree.specs.FileForms.{Says, MaySay, SaysOr, text_elements}
 use Rattle.claim_tree.specs.JsonText.{Reads}
@@ -13,13 +13,13 @@ use Rattle.claim_tree.proofs.Datas.{MembersRanged-inserted}
 use Rattle.claim_tree.proofs.FileMembers.{text_elements-push}
 use Rattle.claim_tree.proofs.Inner.{ranged-member_named}
 use Rattle.claim_tree.proofs.OtherMembers.{named_other, named_gone, removed_absent, ranged-removed, depth-removed, depth-member_named, named_inserted, other_inserted, removed_inserted, depth-inserted}
-use Rattle.compact_form.specs.Compact.{jwt, HasWords}
+use Rattle.compact_form.specs.Compact.{jwt, HasWords, AreWords}
 use Rattle.compact_form.specs.PartWords.{word_of}
 use Rattle.compact_form.specs.declared.parts.JwtParts.{JwtParts}
 use Rattle.compact_form.specs.declared.fault.Part.TheVariants.{Payload, Protected, Signature, Signatures, Header, Disclosures, KbJwt}
 use Rattle.json_form.specs.declared.token.Token.{Token}
 use Rattle.json_form.specs.declared.entries.Entries.{Entries}
-use Rattle.json_form.specs.Json.{found, IsWordTree, AreWordTrees, IsJwtTree, IsObject, HeaderSays, IsStray, IsFlat, IsGeneral}
+use Rattle.json_form.specs.Json.{found, IsWordTree, AreWordTrees, IsJwtTree, IsObject, HeaderSays, EntrySays, IsStray, IsFlat, IsGeneral}
 use Rattle.json_form.specs.Reading.{HasEntries, itself, listed, MembersSay}
 use Rattle.json_form.specs.Written.{IsPrintable, with_binding, header_of, flat_members, flat_of, entry_of, general_members, general_of}
 
@@ -163,6 +163,21 @@ jwt_of_says None (Some j) says = absurd says
 jwt_of_says (Some t) None says = absurd says
 jwt_of_says (Some t) (Some j) says = says.words
 
+-- each text of what is said is a word
+pub entry_words : (entry : Members) (token : Token) (payload : Option Tree) → Says IsWordTree payload token.parts.signed.payload → EntrySays entry token → AreWords token.parts
+entry_words entry token payload says entry_says =
+    let parts = token.parts in
+    let h = entry_says.header in
+    record {
+      signed = record {
+        protected = word_of_says (found entry Protected) parts.signed.protected entry_says.protected;
+        payload = word_of_says payload parts.signed.payload says;
+        signature = word_of_says (found entry Signature) parts.signed.signature entry_says.signature;
+      };
+      disclosures = words_of_says (found h Disclosures) parts.disclosures entry_says.says.disclosures;
+      binding = jwt_of_says (found h KbJwt) parts.binding entry_says.says.binding;
+    }
+
 -- the header of an entry is no deeper than the entry allows, and its numbers are in range
 record IsInside (e h : Members) : Type 0 where
   shallow : members_depth h + 1 ≤ max 1 (members_depth e)
@@ -192,19 +207,10 @@ printable ms token says ranged low =
     let h = says.entry.header in
     let in_object = entry_inside ms says.entries says.has ranged in
     let in_entry = inside_of e h says.entry.unprotected in
-    let parts = token.parts in
     let without = removed h (word_of Disclosures) in
     let is = says.entry.says.outer in
     record {
-      words = record {
-        signed = record {
-          protected = word_of_says (found e Protected) parts.signed.protected says.entry.protected;
-          payload = word_of_says (found ms Payload) parts.signed.payload says.payload;
-          signature = word_of_says (found e Signature) parts.signed.signature says.entry.signature;
-        };
-        disclosures = words_of_says (found h Disclosures) parts.disclosures says.entry.says.disclosures;
-        binding = jwt_of_says (found h KbJwt) parts.binding says.entry.says.binding;
-      };
+      words = entry_words e token (found ms Payload) says.payload says.entry;
       no_disclosures = ap (λ (us : Members). found us Disclosures) is ∙ named_other without (word_of KbJwt) (word_of Disclosures) refl ∙ named_gone h (word_of Disclosures);
       no_binding = ap (λ (us : Members). found us KbJwt) is ∙ named_gone without (word_of KbJwt);
       shallow = omega (arith, ap members_depth is, depth-removed without (word_of KbJwt), depth-removed h (word_of Disclosures), in_entry.shallow, in_object.0, low);
