@@ -1,8 +1,5 @@
 -- Two serializations of one token are judged alike.
-use Rattle.std.proofs.Common.{◌≡◌, ℕ, ◌≤◌, false, List, length, refl, subst}
-use Rattle.claim_tree.specs.Tree.{Members, object}
-use Rattle.claim_tree.specs.JsonText.{json_text}
-use Rattle.compact_form.specs.declared.limits.TheConstants.{FILE_MAX}
+use Rattle.std.proofs.Common.{◌≡◌, ℕ, false, List, refl, subst}
 use Rattle.compact_form.specs.declared.conditions.TheConstants.{TOO_MUCH}
 use Rattle.compact_form.specs.declared.fault.Fault.{Fault}
 use Rattle.compact_form.specs.declared.fault.Place.{Place}
@@ -11,10 +8,9 @@ use Rattle.compact_form.specs.Lowest.{IsLowest, unplaced}
 use Rattle.compact_form.specs.Token.{is_too_long}
 use Rattle.compact_form.specs.Trim.{trimmed}
 use Rattle.json_form.specs.declared.token.Token.{Token}
-use Rattle.json_form.specs.Json.{IsJson}
 use Rattle.json_form.specs.Token.{IsToken, Spells, IsTooMuch, too_much}
 use Rattle.json_form.proofs.Tokens as tokens
-use Rattle.json_form.proofs.Lines.{read_spelled, read_json_text}
+use Rattle.json_form.proofs.Lines.{read_spelled}
 use Rattle.marked_tree.specs.Marked.{Marked}
 use Rattle.verifier_core.specs.Verdict.{Fails, of_file, of_missing, of_token, of_claims, of_holder, IsAccepted, HaveOneVerdict}
 use Rattle.verifier_core.specs.declared.policy.Policy.{Policy}
@@ -60,7 +56,3 @@ few text token is much = is.passes (unplaced TOO_MUCH) (too_much token refl is.s
 
 pub spelled : (text other : List ℕ) (token : Token) (policy : Policy) (now : ℕ) → IsToken text token → Spells (trimmed other) token → is_too_long other ≡ false → HaveOneVerdict text other policy now
 spelled text other token policy now here spells short = one_verdict text other token policy now here (read_spelled other token spells short (few text token here))
-
-pub written : (text : List ℕ) (token : Token) (ms : Members) (policy : Policy) (now : ℕ) → IsToken text token → IsJson token (json_text (object ms)) → length (json_text (object ms)) ≤ FILE_MAX
-    → HaveOneVerdict text (json_text (object ms)) policy now
-written text token ms policy now here is short = one_verdict text (json_text (object ms)) token policy now here (read_json_text token ms is short (few text token here))

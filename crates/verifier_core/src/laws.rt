@@ -1,13 +1,13 @@
 //! What the definitions of conditions and policies say together. Each law holds for every value.
-ghost use Rattle.std.specs.Prelude.{◌≡◌, ◌≢◌, ◌≤◌, ℕ, List, length, false};
+ghost use Rattle.std.specs.Prelude.{◌≡◌, ◌≢◌, ℕ, List, false};
 ghost use Rattle.claim_tree.specs.declared.file_fault.FileFault.{FileFault};
 ghost use Rattle.claim_tree.specs.JsonText.{json_text};
+ghost use Rattle.claim_tree.specs.Tree.{no_members};
+ghost use Rattle.compact_form.specs.Compact.{compact};
 ghost use Rattle.compact_form.specs.declared.fault.Fault.{Fault};
-ghost use Rattle.compact_form.specs.declared.limits.TheConstants.{FILE_MAX};
 ghost use Rattle.compact_form.specs.Token.{is_too_long};
 ghost use Rattle.compact_form.specs.Trim.{trimmed};
 ghost use Rattle.json_form.specs.declared.token.Token.{Token};
-ghost use Rattle.json_form.specs.Json.{IsFlat, IsGeneral};
 ghost use Rattle.json_form.specs.Token.{IsToken, Spells};
 ghost use Rattle.json_form.specs.Written.{flat_of, general_of};
 ghost use Rattle.marked_tree.specs.Marked.{Marked};
@@ -41,15 +41,16 @@ pub fn one_verdict()
 {}
 
 /// The serializations of a token have one verdict: where one text is read as a token, every text that spells the token and
-/// is not too long is judged alike. So are the flattened and the general form that `json_form` writes, where they are not
-/// too long; each is read as its token (RFC 9901 section 8).
+/// is not too long is judged alike. Where its unprotected header has nothing but `disclosures` and `kb_jwt`, as that of a
+/// compact text has, so are the compact text of its parts, and the flattened and the general form that `json_form` writes
+/// (RFC 9901 section 8); none of them is too long.
 pub fn same_verdict()
     ensures spelled { (text other : List ℕ) (token : Token) (policy : Policy) (now : ℕ)
         → IsToken text token → Spells (trimmed other) token → is_too_long other ≡ false → HaveOneVerdict text other policy now }
+    ensures compact { (text : List ℕ) (token : Token) (policy : Policy) (now : ℕ)
+        → IsToken text token → token.outer ≡ no_members → HaveOneVerdict text (compact token.parts) policy now }
     ensures flat { (text : List ℕ) (token : Token) (policy : Policy) (now : ℕ)
-        → IsToken text token → IsFlat token (json_text (flat_of token)) → length (json_text (flat_of token)) ≤ FILE_MAX
-        → HaveOneVerdict text (json_text (flat_of token)) policy now }
+        → IsToken text token → token.outer ≡ no_members → HaveOneVerdict text (json_text (flat_of token)) policy now }
     ensures general { (text : List ℕ) (token : Token) (policy : Policy) (now : ℕ)
-        → IsToken text token → IsGeneral token (json_text (general_of token)) → length (json_text (general_of token)) ≤ FILE_MAX
-        → HaveOneVerdict text (json_text (general_of token)) policy now }
+        → IsToken text token → token.outer ≡ no_members → HaveOneVerdict text (json_text (general_of token)) policy now }
 {}

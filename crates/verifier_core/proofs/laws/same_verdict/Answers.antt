@@ -1,12 +1,15 @@
-use Rattle.std.proofs.Common.{inl, inr}
-use Rattle.json_form.specs.Written.{flat_members, general_members}
-use Rattle.verifier_core.proofs.SameVerdict.{spelled, written}
+use Rattle.claim_tree.specs.JsonText.{json_text}
+use Rattle.compact_form.specs.Compact.{compact}
+use Rattle.json_form.specs.Written.{flat_of, general_of}
+use Rattle.json_form.proofs.AloneForms.{compact_read, flat_read, general_read}
+use Rattle.verifier_core.proofs.SameVerdict.{one_verdict, spelled}
 use Rattle.verifier_core.proofs.laws.same_verdict.Goals as goal
 
 pub returns : goal.returns
 returns c =
     record {
       spelled = spelled;
-      flat = λ text token policy now here is short. written text token (flat_members token) policy now here (inl is) short;
-      general = λ text token policy now here is short. written text token (general_members token) policy now here (inr is) short;
+      compact = λ text token policy now here none. one_verdict text (compact token.parts) token policy now here (compact_read text token here none);
+      flat = λ text token policy now here none. one_verdict text (json_text (flat_of token)) token policy now here (flat_read text token here none);
+      general = λ text token policy now here none. one_verdict text (json_text (general_of token)) token policy now here (general_read text token here none);
     }
