@@ -33,7 +33,11 @@ if [ $# -eq 0 ]; then
             said[key, part] = $0
             next
         }
-        FNR == NR { if (key != "" && part != "" && $0 != "") { sub(/^ +/, ""); said[key, part] = said[key, part] " " $0 } next }
+        FNR == NR {
+            sub(/^ +/, "")
+            if (key != "" && part != "" && $0 != "") said[key, part] = said[key, part] " " $0
+            next
+        }
         /^refused [0-9]+ [A-Za-z]+( at .+)?$/ {
             place = "null"
             if (match($0, / at /)) {
@@ -77,21 +81,20 @@ awk -v wanted="$wanted" '
     exit 1
 }
 
-# How to see it happen.
-awk -v wanted="$wanted" -v folder="$here/refusals" '
-    /^[^#].* = / {
-        words = line = $0
+# How to see it happen: the first case of each such line.
+awk -v wanted="$wanted" '
+    /^[^#].* = [1-6] / {
+        words = heading = $0
         sub(/ = .*/, "", words)
-        sub(/^.* = [0-9] ?/, "", line)
-        heading = line
+        sub(/^.* = [1-6] /, "", heading)
+        line = heading
         sub(/ at .*/, "", heading)
         sub(/^unreadable [12]/, "unreadable", heading)
         sub(/^unread .*/, "unread", heading)
-        name = heading
+        name = number = heading
         sub(/^(refused [0-9]+|unreadable) /, "", name)
-        number = $0 ~ / refused / ? heading : ""
         sub(/^refused /, "", number)
         sub(/ .*/, "", number)
-        if (line != "" && (wanted == heading || wanted == name || wanted == number || wanted == number " " name) && !seen[heading]++)
-            printf "\nAn example, in examples/refusals: sdjwt %s\n                               gives: %s\n", words, line
+        if (wanted != heading && wanted != name && wanted != number && wanted != number " " name) next
+        if (!seen[heading]++) printf "\nIn examples/refusals, sdjwt %s gives:\n  %s\n", words, line
     }' "$here/refusals/cases.txt"

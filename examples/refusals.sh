@@ -1,6 +1,6 @@
 #!/bin/sh
-# Runs each case of refusals/cases.txt and compares the status and the line, and compares docs/REFUSALS.md with the cases and with
-# the names in the code. The last line counts; the status is 1 where anything differs.
+# Runs each case of refusals/cases.txt and compares the status and the line, and compares docs/REFUSALS.md with the
+# cases and with the names in the code. The last line counts; the status is 1 where anything differs.
 #
 # The program is $SDJWT, or the one that `sh examples/demo.sh` builds.
 set -u

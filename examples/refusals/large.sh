@@ -1,6 +1,6 @@
 #!/bin/sh
-# Writes the files of this folder that are too large to be kept: sh large.sh FOLDER. `sh large.sh text` prints the text of a
-# disclosure of a megabyte.
+# Writes the files of this folder that are too large to be kept: sh large.sh FOLDER. `sh large.sh text` prints the text
+# of a disclosure of a megabyte.
 set -eu
 
 # A text, so many times.
@@ -8,7 +8,8 @@ repeated() { awk -v text="$1" -v count="$2" 'BEGIN { for (i = 0; i < count; i++)
 
 # A list of numbers from 0 on, each between two texts, with commas between.
 numbers() {
-    awk -v front="$1" -v back="$2" -v count="$3" 'BEGIN { for (i = 0; i < count; i++) printf "%s%s%d%s", (i ? "," : ""), front, i, back }'
+    awk -v front="$1" -v back="$2" -v count="$3" '
+        BEGIN { for (i = 0; i < count; i++) printf "%s%s%d%s", (i ? "," : ""), front, i, back }'
 }
 
 # The letters of ["salt of a large text","large","xx..x"]: each eHh4 is xxx.

@@ -1,6 +1,6 @@
 #!/bin/sh
-# Writes the tokens of this folder from tokens.txt. It needs openssl. Run it after a change of tokens.txt; refusals.sh only reads
-# what it wrote.
+# Writes the tokens of this folder from tokens.txt. It needs openssl. Run it after a change of tokens.txt; refusals.sh
+# only reads what it wrote.
 set -eu
 cd "$(dirname "$0")"
 
