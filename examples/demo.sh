@@ -53,12 +53,14 @@ follow() {
         case $line in
         '== '*)
             [ -z "$crate" ] || tell "$crate" "$how"
-            crate=${line#== } how="was proved before"
+            crate=${line#== } how="is proved"
+            [ "$crate" != summary ] || crate=''
             ;;
         'logic=proved '*)
-            [ -z "$crate" ] || tell "$crate" "is proved"
+            [ -z "$crate" ] || tell "$crate" "$how"
             crate=''
             ;;
+        'rt: '*) ;;
         *) how="is NOT proved" ;;
         esac
     done
@@ -77,14 +79,16 @@ prove() {
     all=$(wc -l <"$made/sizes") all=$((all))
     all_size=$(awk '{ all += $2 } END { print all }' "$made/sizes")
     count=0 done_size=0 start=$(date +%s)
-    echo "Proving the $all crates of sdjwt, at most $jobs side by side. From nothing this takes about half an hour on four"
-    echo "cores; what was proved on this machine before is not proved again. SDJWT=path runs a program that is built already."
+    echo "Proving the $all crates of sdjwt, at most $jobs side by side. From nothing this takes about half an hour"
+    echo "on four cores; what was proved on this machine before is not proved again."
     { (cd "$top" && rt all check --jobs "$jobs") 2>&1 || echo failed >"$made/failed"; } | follow
     if [ -e "$made/failed" ]; then
-        # what rt said of the crates that are not proved, and its last lines
-        awk 'function end() { if (!proved) printf "%s", block; block = ""; proved = 0 }
+        # what rt said of the crates that are not proved, and its summary
+        awk '
+            function end() { if (bad) printf "%s", block; block = ""; bad = 0 }
             /^== / { end() }
-            /^logic=proved / { proved = 1 }
+            !/^(== |rt: )/ || /^== summary/ { bad = 1 }
+            /^logic=proved / { bad = 0 }
             { block = block $0 "\n" }
             END { end() }' "$made/log" >&2
         exit 1

@@ -107,7 +107,7 @@ for it in in_cases on_page in_code; do
 done
 compare() {
     comm -3 "$work/on_page" "$work/$1" >"$work/names"
-    sed "s/^	\(.*\)/\1: $2, and not on the page/; t; s/\$/: on the page, and not $2/" "$work/names"
+    sed -e "s/^[^	].*/&: on the page, and not $2/" -e "s/^	\(.*\)/\1: $2, and not on the page/" "$work/names"
     wrong=$((wrong + $(wc -l <"$work/names")))
 }
 compare in_cases "among the cases"
