@@ -42,7 +42,7 @@ tell() {
     if [ "$done_size" -lt "$all_size" ] && [ "$((done_size * 20))" -ge "$all_size" ]; then
         left=", perhaps $(minutes $((spent * (all_size - done_size) / done_size))) more"
     fi
-    echo "$count of $all: $1 $2 ($(minutes "$spent") minutes$left)"
+    echo "$count of $all: $1 $2 ($(minutes "$spent") min$left)"
 }
 
 # Reads what rt prints, which comes crate by crate, and says of each how it went.
@@ -57,7 +57,7 @@ follow() {
             [ "$crate" != summary ] || crate=''
             ;;
         'logic=proved '*)
-            [ -z "$crate" ] || tell "$crate" "$how"
+            [ -z "$crate" ] || tell "$crate" "is proved"
             crate=''
             ;;
         'rt: '*) ;;
@@ -86,7 +86,7 @@ prove() {
         # what rt said of the crates that are not proved, and its summary
         awk '
             function end() { if (bad) printf "%s", block; block = ""; bad = 0 }
-            /^== / { end() }
+            /^== / { bad = bad && seen++; end() }
             !/^(== |rt: )/ || /^== summary/ { bad = 1 }
             /^logic=proved / { bad = 0 }
             { block = block $0 "\n" }
@@ -98,7 +98,7 @@ prove() {
         cat "$made/log" >&2
         exit 1
     fi
-    echo "Proved and built in $(minutes $(($(date +%s) - start))) minutes: crates/sdjwt/out/sdjwt"
+    echo "Proved and built in $(minutes $(($(date +%s) - start))) min: crates/sdjwt/out/sdjwt"
     echo
 }
 
