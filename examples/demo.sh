@@ -86,7 +86,7 @@ prove() {
         # what rt said of the crates that are not proved, and its summary
         awk '
             function end() { if (bad) printf "%s", block; block = ""; bad = 0 }
-            /^== / { bad = bad && seen++; end() }
+            /^== / { if (!started++) bad = 0; end() }
             !/^(== |rt: )/ || /^== summary/ { bad = 1 }
             /^logic=proved / { bad = 0 }
             { block = block $0 "\n" }
