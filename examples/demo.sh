@@ -169,3 +169,4 @@ show verify policy.json rfc9901_chosen_general.json
 keep shown_flat.json convert flat shown.txt
 show verify policy_binding.json shown_flat.json
 show convert xml rfc9901.txt
+echo "The program is $sdjwt. Its files here are those of examples/."
