@@ -25,7 +25,7 @@ side_by_side() {
 
 # The crates, each with the size of its code, definitions and proofs, by which the time that is left is guessed.
 sizes() {
-    sed -n 's/^\([a-z0-9_]*\).*:.*/\1/p' "$top/crates.txt" | while read -r crate; do
+    sed -n 's/^\([a-z0-9_][a-z0-9_]*\).*:.*/\1/p' "$top/crates.txt" | while read -r crate; do
         echo "$crate $(find "$top/crates/$crate" -name out -prune -o -name '*.*t' -exec cat {} + | wc -c)"
     done
 }
