@@ -23,9 +23,24 @@ side_by_side() {
     [ "$jobs" -ge 1 ] || jobs=1
 }
 
-# The crates, each with the size of its code, definitions and proofs, by which the time that is left is guessed.
+# The crates that the program stands on, and itself; crates.txt lists them lowest first.
+crates() {
+    awk -F: '
+        /^[a-z]/ { split($1, words, " "); name[++count] = words[1]; uses[words[1]] = $2 }
+        END {
+            wanted["sdjwt"] = 1
+            for (i = count; i > 0; i--) {
+                if (!(name[i] in wanted)) continue
+                print name[i]
+                used = split(uses[name[i]], words, " ")
+                for (k = 1; k <= used; k++) wanted[words[k]] = 1
+            }
+        }' "$top/crates.txt"
+}
+
+# Each with the size of its code, definitions and proofs, by which the time that is left is guessed.
 sizes() {
-    sed -n 's/^\([a-z0-9_][a-z0-9_]*\).*:.*/\1/p' "$top/crates.txt" | while read -r crate; do
+    crates | while read -r crate; do
         echo "$crate $(find "$top/crates/$crate" -name out -prune -o -name '*.*t' -exec cat {} + | wc -c)"
     done
 }
@@ -81,7 +96,7 @@ prove() {
     count=0 done_size=0 start=$(date +%s)
     echo "Proving the $all crates of sdjwt, at most $jobs side by side. From nothing this takes about half an hour"
     echo "on four cores; what was proved on this machine before is not proved again."
-    { (cd "$top" && rt all check --jobs "$jobs") 2>&1 || echo failed >"$made/failed"; } | follow
+    { (cd "$top/crates/sdjwt" && rt all check --jobs "$jobs") 2>&1 || echo failed >"$made/failed"; } | follow
     if [ -e "$made/failed" ]; then
         # what rt said of the crates that are not proved, and its summary
         awk '
