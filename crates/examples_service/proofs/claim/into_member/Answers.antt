@@ -9,3 +9,6 @@ use Rattle.examples_service.proofs.claim.into_member.Goals as goal
 ranged : (ms : Members) (name : Text) (r : Option tree.Tree) → option_map tree_of r ≡ member_named ms name → MembersRanged ms → IfSome r (λ t. IsRanged (tree_of t))
 ranged ms name None e all = tt
 ranged ms name (Some t) e all = ranged-member_named ms name (tree_of t) all (sym e)
+
+pub returns-in-Object-clause-ranged : goal.returns-in-Object-clause-ranged
+returns-in-Object-clause-ranged c all = ranged c.in-Object.members c.args.name.now c.remove.result c.remove.ensures.tree (subst (λ t. IsRanged (tree_of t)) c.in-Object.is all)
