@@ -9,12 +9,8 @@ mod issuing;
 mod judging;
 pub mod laws;
 mod laying;
-#[cfg(test)]
-mod laying_tests;
 mod order;
 mod order_file;
-#[cfg(test)]
-mod order_file_tests;
 mod refusal;
 mod reserved;
 mod salts;

@@ -8,8 +8,6 @@
 mod entries;
 mod entry;
 mod json_error;
-#[cfg(test)]
-mod json_tests;
 mod json_text;
 pub mod laws;
 mod printing;

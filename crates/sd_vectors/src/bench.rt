@@ -1,7 +1,7 @@
 //! What the runs of a row work on.
 
 use crate::names::Names;
-use crate::token::{binding, token};
+use crate::token::{binding, flattened, token};
 use crate::trouble::Trouble;
 use sd_outside::{MemCabinet, MemSink};
 use sdjwt_cli::run;
@@ -25,6 +25,8 @@ enum Step<'a> {
     Token { name: &'a str, words: &'a str },
     // A key binding token behind what the file has.
     Binding { name: &'a str, words: &'a str },
+    // The token that the file has in its flattened form, with more members in its header.
+    Header { name: &'a str, members: &'a str },
     // A run of these words, whose answer goes into a file.
     Run { words: &'a str, file: &'a str },
 }
@@ -39,6 +41,9 @@ fn step_of(text: &str) -> Step<'_> {
     }
     if let Some(words) = rest.strip_prefix("+= ") {
         return Step::Binding { name, words };
+    }
+    if let Some(members) = rest.strip_prefix("~= ") {
+        return Step::Header { name, members };
     }
     let (words, file) = text.split_once(" > ").unwrap_or((text, "out"));
     Step::Run { words, file }
@@ -131,10 +136,19 @@ impl Bench {
         }
     }
 
-    fn bind(&mut self, name: &str, words: &str) -> Result<(), Trouble> {
+    // The token that the file of this name holds.
+    fn token_in(&self, name: &str) -> Result<&str, Trouble> {
         let held = self.files.find(name);
-        let held = held.ok_or(Trouble::Unread("there is no token to bind"))?;
-        let mut whole = String::from_str(self.alloc, held)?;
+        held.ok_or(Trouble::Unread("there is no token"))
+    }
+
+    fn flatten(&mut self, name: &str, members: &str) -> Result<(), Trouble> {
+        let text = flattened(self.alloc, self.token_in(name)?, members)?;
+        self.hold(name, text.as_str())
+    }
+
+    fn bind(&mut self, name: &str, words: &str) -> Result<(), Trouble> {
+        let mut whole = String::from_str(self.alloc, self.token_in(name)?)?;
         whole.push_str(binding(self.alloc, &self.files, words)?.as_str())?;
         self.hold(name, whole.as_str())
     }
@@ -165,6 +179,7 @@ impl Bench {
                 self.hold(name, token.as_str())
             }
             Step::Binding { name, words } => self.bind(name, words),
+            Step::Header { name, members } => self.flatten(name, members),
             Step::Run { words, file } => self.run(words, file),
         }
     }

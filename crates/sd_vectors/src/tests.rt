@@ -21,6 +21,7 @@ split <T = 0|
 u := AQEB {} {}; split u = 0|
 u := <32*AQEB> {} {"_sd":["$0"]}; split u = 0|
 u += <32*AQEB> {} {}; split u = 0|
+u: a.b; u ~= {}; split u = 0|
 now: x; split t = 0|"#;
 
 const WRONG: &str = r#"t.rows:7: came 0 protected a|payload b|signature c|
@@ -38,8 +39,9 @@ t.rows:14: can't be read: no text has this name
 t.rows:15: can't be read: a < has no > behind it
 t.rows:16: can't be read: a key is short
 t.rows:17: can't be read: a $ names a disclosure that does not stand before it
-t.rows:18: can't be read: there is no token to bind
-t.rows:19: can't be read: now is no number
+t.rows:18: can't be read: there is no token
+t.rows:19: can't be read: it is no compact token
+t.rows:20: can't be read: now is no number
 "#;
 
 #[test]
@@ -49,7 +51,7 @@ fn rows_that_leave_something_else_are_told(rt: HostRuntime) -> Result<(), Fail> 
     let mut names = Names::new(alloc);
     let report = report(alloc, &mut names, "t.rows", TABLE, &mut count)?;
     assert_eq!(rt; report.as_str(), WRONG);
-    assert_eq!(rt; count.rows, 15);
-    assert_eq!(rt; count.differing, 12);
+    assert_eq!(rt; count.rows, 16);
+    assert_eq!(rt; count.differing, 13);
     Ok(())
 }

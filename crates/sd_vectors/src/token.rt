@@ -116,3 +116,55 @@ pub(crate) fn binding(alloc: Global, files: &Names, words: &str) -> Result<Strin
     let claims = filled(alloc, &TextList::new(alloc), files, claims)?;
     signed(alloc, &key, header, claims.as_str())
 }
+
+// What stands before the first of these characters, and what stands behind it.
+fn cut(text: &str, c: char) -> Result<(&str, &str), Trouble> {
+    text.split_once(c)
+        .ok_or(Trouble::Unread("it is no compact token"))
+}
+
+// The disclosures of a list with a tilde behind each, as JSON texts with commas between.
+fn listed(alloc: Global, disclosures: &str) -> Result<String, Trouble> {
+    let mut list = String::new(alloc);
+    for text in disclosures.split('~').filter(|text| !text.is_empty()) {
+        if !list.is_empty() {
+            list.push(',')?;
+        }
+        list.push_str(format!(in alloc; "\"{text}\"")?.as_str())?;
+    }
+    Ok(list)
+}
+
+// The header of a flattened token: the disclosures, the key binding token where there is one, and the members of this object.
+fn header_of(
+    alloc: Global,
+    disclosures: &str,
+    binding: &str,
+    object: &str,
+) -> Result<String, Trouble> {
+    let mut header = String::from_str(alloc, "{\"disclosures\":[")?;
+    header.push_str(listed(alloc, disclosures)?.as_str())?;
+    header.push(']')?;
+    if !binding.is_empty() {
+        header.push_str(format!(in alloc; ",\"kb_jwt\":\"{binding}\"")?.as_str())?;
+    }
+    let (_, members) = cut(object, '{')?;
+    if members != "}" {
+        header.push(',')?;
+    }
+    header.push_str(members)?;
+    Ok(header)
+}
+
+/// The flattened form of a compact token, with the members of this JSON object in its header.
+pub(crate) fn flattened(alloc: Global, token: &str, object: &str) -> Result<String, Trouble> {
+    let (jwt, rest) = cut(token, '~')?;
+    let (protected, body) = cut(jwt, '.')?;
+    let (payload, signature) = cut(body, '.')?;
+    let (disclosures, binding) = rest.rsplit_once('~').unwrap_or(("", rest));
+    let header = header_of(alloc, disclosures, binding, object)?;
+    let header = header.as_str();
+    Ok(format!(in alloc;
+        "{{\"payload\":\"{payload}\",\"protected\":\"{protected}\",\"signature\":\"{signature}\",\"header\":{header}}}"
+    )?)
+}
