@@ -87,5 +87,5 @@ fn main(rt: HostRuntime) -> ExitCode {
             ending.status()
         }
     };
-    ExitCode::from(status as u8)
+    ExitCode::from(status.number())
 }
