@@ -25,7 +25,7 @@ convert xml t = 2 usage|
 convert flat = 2 usage|
 convert flat t u = 2 usage|
 convert t = 2 usage|
-convert flat t = 3 unread 1|
+convert flat t = 3 unread 2|
 t: a.b.c~; room: 9; convert flat t = 4 {"header"unwritten|"#;
 
 #[test]

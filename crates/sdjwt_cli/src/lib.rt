@@ -8,6 +8,8 @@ mod command;
 mod convert;
 #[cfg(test)]
 mod convert_tests;
+#[cfg(test)]
+mod fetch_tests;
 mod form;
 mod issue;
 #[cfg(test)]

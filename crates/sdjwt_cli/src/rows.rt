@@ -89,7 +89,7 @@ fn put(bench: &mut Bench, name: &str, text: &str) -> Result<(), Fail> {
     Ok(())
 }
 
-pub(crate) fn words_of(alloc: Global, words: &str) -> Result<Vec<String>, Fail> {
+fn words_of(alloc: Global, words: &str) -> Result<Vec<String>, Fail> {
     let mut list = Vec::new(alloc);
     for word in words.split_whitespace() {
         list.push(String::from_str(alloc, word)?)?;
@@ -111,7 +111,7 @@ fn ran(alloc: Global, bench: &mut Bench, words: &str, file: &str) -> Result<Stri
         &mut err,
     );
     bench.cabinet.add(file, out.written())?;
-    let status = status as u8;
+    let status = status.number();
     let out = std::str::from_utf8(out.written()).map_err(|_| "not UTF-8")?;
     let err = std::str::from_utf8(err.written()).map_err(|_| "not UTF-8")?;
     Ok(format!(in alloc; "{status} {out}{err}")?)
