@@ -6,7 +6,7 @@ use Rattle.compact_form.specs.Compact.{compact, hashed}
 use Rattle.compact_form.specs.Lowest.{IsLowest}
 use Rattle.json_form.specs.Token as file
 use Rattle.compact_form.specs.declared.fault.Fault.{Fault}
-use Rattle.compact_form.specs.declared.limits.TheConstants.{COMPACT_MAX}
+use Rattle.sd_outside.specs.Limits.{compact_max}
 use Rattle.compact_form.specs.declared.parts.JwtParts.{JwtParts}
 use Rattle.compact_form.specs.declared.parts.Parts.{Parts}
 use Rattle.disclosure.specs.declared.digests.HashAlg.{HashAlg}
@@ -135,7 +135,7 @@ pub record IsToBeSigned {F : Type 0} (answers : Answers F) (rule : F) (token : T
 pub record IsTooLong {F : Type 0} (answers : Answers F) (rule : F) (token : Token) (ask : Ask) (good : Meaning) (now : ℕ) : Type 0 where
   pub answer : Parts
   pub is_answer : IsAnswer answers rule token ask good now answer
-  pub long : COMPACT_MAX < length (compact answer)
+  pub long : compact_max < length (compact answer)
 
 -- what each refusal of a token says: that it applies, and no earlier one; want of memory says nothing
 abbrev pub Refuses : {F : Type 0} → Answers F → F → Token → Ask → Meaning → ℕ → PresentError → Type 0

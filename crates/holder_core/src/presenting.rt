@@ -5,7 +5,7 @@ ghost use Rattle.claim_tree.specs.Tree.{depth as depth_of};
 ghost use Rattle.claim_tree.specs.View.{tree_of};
 ghost use Rattle.compact_form.specs.Compact.{AreWords, compact as compact_text};
 ghost use Rattle.compact_form.specs.Lowest.{IsLowest};
-ghost use Rattle.compact_form.specs.declared.limits.TheConstants.{COMPACT_MAX};
+ghost use Rattle.sd_outside.specs.Limits.{compact_max};
 ghost use Rattle.disclosure.specs.declared.digests.HashAlg.{HashAlg as SeenHash};
 ghost use Rattle.hmac_sign.specs.Signatures.{Agree};
 ghost use Rattle.hmac_sign.specs.declared.sign.Alg.{Alg};
@@ -56,7 +56,7 @@ pub fn present<S: Signer, F: Fn(&Path) -> bool>(
     requires callable { F.IsAlwaysCallable consent.now }
     ensures presented { IfOk result (IsPresented F.Fn consent.now text.now ask.now (S.good signer.old) now) }
     ensures words { IfOk result AreWords }
-    ensures short { IfOk result (λ answer. length (compact_text answer) ≤ COMPACT_MAX) }
+    ensures short { IfOk result (λ answer. length (compact_text answer) ≤ compact_max) }
     ensures refused { IfErr result (IsNotPresented F.Fn consent.now text.now ask.now (S.good signer.old) now) }
     ensures failed { IsErrOf result PresentError.SignFailed → Rose (S.faults signer.old) (S.faults signer.new) }
 
@@ -100,7 +100,7 @@ fn present_token<S: Signer, F: Fn(&Path) -> bool>(
     requires callable { F.IsAlwaysCallable consent.now }
     ensures answer { IfOk result (IsAnswer F.Fn consent.now token.now ask.now (S.good signer.old) now) }
     ensures words { IfOk result AreWords }
-    ensures short { IfOk result (λ answer. length (compact_text answer) ≤ COMPACT_MAX) }
+    ensures short { IfOk result (λ answer. length (compact_text answer) ≤ compact_max) }
     ensures refused { IfErr result (Refuses F.Fn consent.now token.now ask.now (S.good signer.old) now) }
     ensures failed { IsErrOf result PresentError.SignFailed → Rose (S.faults signer.old) (S.faults signer.new) }
     ensures unasked { ask.now.binding ≡ None → signer.new ≡ signer.old }
@@ -192,7 +192,7 @@ fn finish<S: Signer>(
     requires none { unbound.binding ≡ None }
     ensures finished { IfOk result (IsFinished binding.now (S.good signer.old) hash now unbound) }
     ensures words { IfOk result AreWords }
-    ensures short { IfOk result (λ answer. length (compact_text answer) ≤ COMPACT_MAX) }
+    ensures short { IfOk result (λ answer. length (compact_text answer) ≤ compact_max) }
     ensures unfinished { IfErr result (IsUnfinished binding.now (S.good signer.old) hash now unbound) }
     ensures failed { IsErrOf result PresentError.SignFailed → Rose (S.faults signer.old) (S.faults signer.new) }
     ensures unasked { binding.now ≡ None → signer.new ≡ signer.old }
@@ -378,7 +378,7 @@ fn bound_parts<S: Signer>(
 
 fn is_too_long(alloc: Global, parts: &Parts) -> Result<bool, NoMemory>
     requires { AreWords parts.now }
-    ensures { IfOk result (λ answer. IsTrue answer ↔ (COMPACT_MAX < length (compact_text parts.now))) }
+    ensures { IfOk result (λ answer. IsTrue answer ↔ (compact_max < length (compact_text parts.now))) }
 {
     let text = print(alloc, parts)?;
     Ok(text.as_str().len() > COMPACT_MAX)

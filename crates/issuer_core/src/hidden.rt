@@ -1,6 +1,7 @@
 // The places that an order hides.
 ghost use Rattle.std.specs.Prelude.{◌≡◌, ◌≤◌, length, IfOk};
 ghost use Rattle.std.specs.Set.{distinct_count};
+ghost use Rattle.sd_outside.specs.Limits.{count_max};
 ghost use Rattle.claim_tree.specs.Tree.{depth as depth_of};
 ghost use Rattle.claim_tree.specs.View.{tree_of};
 ghost use Rattle.marked_tree.specs.Marked.{strip};
@@ -39,11 +40,11 @@ pub(crate) fn mark_hidden(
     hide: &PathList,
 ) -> Result<(Marked, u32), NoMemory>
     requires depth { depth_of (tree_of payload.now) ≤ 127 }
-    requires few { distinct_count same_path hide.now ≤ COUNT_MAX }
+    requires few { distinct_count same_path hide.now ≤ count_max }
     ensures marked { IfOk result (λ marked. marked_of marked.0 ≡ mark_of (tree_of payload.now) hide.now) }
     ensures strips { IfOk result (λ marked. strip (marked_of marked.0) ≡ tree_of payload.now) }
     ensures count { IfOk result (λ marked. marked.1 ≡ hidden_count (tree_of payload.now) hide.now) }
-    ensures few { IfOk result (λ marked. marked.1 ≤ COUNT_MAX) }
+    ensures few { IfOk result (λ marked. marked.1 ≤ count_max) }
 {
     if hide.len() <= COUNT_MAX {
         return mark_counted(alloc, payload, hide);

@@ -1,7 +1,7 @@
 -- A token that is issued is held: it is read, no condition on it fails under the keys of a holder who finds the issuer's, and it
 -- processes to the claims with their marks.
 use Rattle.std.proofs.Common.{◌≡◌, inl, ℕ, ◌≤◌, List, length, Some, refl, subst, ◌∙◌, arith, ap₂}
-use Rattle.compact_form.specs.declared.limits.TheConstants.{ISSUE_MAX, COUNT_MAX}
+use Rattle.sd_outside.specs.Limits.{issue_max, count_max}
 use Rattle.compact_form.specs.declared.parts.Parts.{Parts}
 use Rattle.compact_form.specs.Compact.{compact, AreWords}
 use Rattle.hmac_sign.specs.Hmac.{IsGood}
@@ -25,8 +25,8 @@ use Rattle.sdjwt_cli.proofs.CheckedParts.{CarriesFor, content, checked}
 pub record IsIssuedBy (seed : List ℕ) (o : Order) (key : List ℕ) (parts : Parts) : Type 0 where
   pub has : HasIssued seed o (IsGood key) parts
   pub words : AreWords parts
-  pub few : length parts.disclosures ≤ COUNT_MAX
-  pub short : length (compact parts) ≤ ISSUE_MAX
+  pub few : length parts.disclosures ≤ count_max
+  pub short : length (compact parts) ≤ issue_max
 
 pub carries_issued : (seed : List ℕ) (o : Order) (key : List ℕ) (parts : Parts) (has : HasIssued seed o (IsGood key) parts) → CarriesFor o key has.payload has.given parts
 carries_issued seed o key parts has = record {

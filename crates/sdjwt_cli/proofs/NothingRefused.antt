@@ -2,7 +2,7 @@
 use Rattle.std.proofs.Common.{◌≡◌, ◌≢◌, ℕ, ◌<◌, ◌^◌, true, false, List, length, Option, Some, refl, sym, ap, subst, ◌∙◌, arith}
 use Rattle.claim_tree.specs.Path.{tree_at}
 use Rattle.claim_tree.proofs.Lists.{At-In}
-use Rattle.compact_form.specs.declared.limits.TheConstants.{COMPACT_MAX}
+use Rattle.sd_outside.specs.Limits.{compact_max}
 use Rattle.compact_form.specs.declared.parts.Parts.{Parts}
 use Rattle.compact_form.specs.Compact.{compact}
 use Rattle.disclosure.specs.declared.digests.HashAlg.{HashAlg}
@@ -90,7 +90,7 @@ module _ (seed : List ℕ) (o : Order) (key : List ℕ) (parts : Parts) (passes 
         let kept : holder_kid (shown_for o said.ask.want) ≡ Some ask.kid = holder_kept o passes said.ask.want ∙ suits.named ask is_asked in
         differs (ap (λ (m : Marked). holder_kid (strip (prune m (chosen m said.ask.want)))) same ∙ kept)
 
-    too_long : (answer : Parts) → IsAnswer never_rule said.never (alone parts) said.ask (IsGood (signing_key said.key)) now answer → COMPACT_MAX < length (compact answer) → ⊥
+    too_long : (answer : Parts) → IsAnswer never_rule said.never (alone parts) said.ask (IsGood (signing_key said.key)) now answer → compact_max < length (compact answer) → ⊥
     too_long answer a long =
         let of = answer_presented answer a in
         let short = answer_short (signing_key said.key) HashAlg.Sha256 now in_range said.ask.binding small parts answer (chosen (marked_of o) said.ask.want) of.presents of.bound is.short in

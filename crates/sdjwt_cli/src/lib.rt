@@ -6,8 +6,6 @@
 
 mod command;
 mod convert;
-#[cfg(test)]
-mod fetch_tests;
 mod form;
 mod issue;
 pub mod laws;

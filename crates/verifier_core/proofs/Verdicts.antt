@@ -1,8 +1,7 @@
 -- The verdict on a file, from the verdicts on its form, its token and its claims.
 use Rattle.std.proofs.Common.{◌≡◌, ℕ, ◌<◌, ◌≤◌, ◌-◌, ◌^◌, ◌⊎◌, inl, inr, List, length, Some, refl, sym, ap, ap₂, subst, ◌∙◌, arith}
 use Rattle.claim_tree.specs.Tree.{Tree, Members}
-use Rattle.compact_form.specs.declared.limits.TheConstants.{COUNT_MAX}
-use Rattle.compact_form.specs.declared.conditions.TheConstants.{TOO_MUCH}
+use Rattle.sd_outside.specs.Limits.{count_max}
 use Rattle.compact_form.specs.declared.fault.Fault.{Fault}
 use Rattle.compact_form.specs.declared.fault.Place.{Place}
 use Rattle.compact_form.specs.declared.fault.Place.TheVariants.{Nowhere, At, Json}
@@ -44,11 +43,11 @@ is_token content token parts outer same others is = subst (IsToken content) (sym
 pub few : (content : List ℕ) (token : Token) → IsToken content token → length token.parts.disclosures < 2 ^ 32 - 1
 few content token is = go (either (length token.parts.disclosures))
   where
-    either : (n : ℕ) → (COUNT_MAX < n) ⊎ (n ≤ COUNT_MAX)
+    either : (n : ℕ) → (count_max < n) ⊎ (n ≤ count_max)
     either n = grind arith
 
-    go : (COUNT_MAX < length token.parts.disclosures) ⊎ (length token.parts.disclosures ≤ COUNT_MAX) → length token.parts.disclosures < 2 ^ 32 - 1
-    go (inl many) = absurd (is.passes (record { number = TOO_MUCH; place = Nowhere }) (file.too_much token refl is.spells (inl many)))
+    go : (count_max < length token.parts.disclosures) ⊎ (length token.parts.disclosures ≤ count_max) → length token.parts.disclosures < 2 ^ 32 - 1
+    go (inl many) = absurd (is.passes (record { number = number_of condition.too_much; place = Nowhere }) (file.too_much token refl is.spells (inl many)))
     go (inr low) = omega (arith, low)
 
 no_later : (place : Place) → IsNoLater place place
