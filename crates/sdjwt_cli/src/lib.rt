@@ -12,6 +12,8 @@ mod form;
 mod issue;
 #[cfg(test)]
 mod issue_tests;
+#[cfg(test)]
+mod issued_tests;
 pub mod laws;
 mod lines;
 mod never;
