@@ -18,7 +18,7 @@ ghost use Rattle.marked_tree.specs.Numbers.{has};
 ghost use Rattle.marked_tree.specs.View.{marked_of};
 ghost use Rattle.verifier_core.specs.Verdict.{TokenFails, IsChecked, HasHash};
 ghost use Rattle.verifier_core.specs.Check.{IsCounted, IsCountedWithin, IsReadWithin, IsUncounted};
-ghost use Rattle.holder_core.specs.Present.{rules_of, picked, shown, IsHeld, IsAnswer, Refuses, IsPresented, IsNotPresented, NamesKey, OnToken};
+ghost use Rattle.holder_core.specs.Present.{rules_of, picked, shown, IsHeld, IsAnswer, Refuses, IsPresented, IsNotPresented, PresentFails, NamesKey};
 ghost use Rattle.holder_core.specs.Presenting.{IsUnchecked, IsUnchosen, IsChosen, IsOtherKey, IsReady, IsUnready, IsUnsigned, IsFinished, IsUnfinished, IsMadeReady, IsUncheckedOrUnready};
 ghost use Rattle.holder_core.specs.declared.errors.PresentError.{PresentError};
 
@@ -69,7 +69,7 @@ pub fn present<S: Signer, F: Fn(&Path) -> bool>(
     // the look-ups
     ensures counted { IfOk result (λ _. (token : SeenToken) × IsToken text.now token × IsCounted token steps.old steps.new) }
     ensures within { IsReadWithin text.now steps.old steps.new }
-    ensures uncounted { IfErr result (λ e. OnToken e (IsUncounted steps.old steps.new)) }
+    ensures uncounted { IsUncounted (PresentFails text.now ask.now) steps.old steps.new }
     ensures unopened { (token : SeenToken) → IsToken text.now token → token.parts.binding ≢ None → steps.new ≡ steps.old }
 {
     let token = match TokenText::read(alloc, text) {
@@ -109,7 +109,7 @@ fn present_token<S: Signer, F: Fn(&Path) -> bool>(
     ensures later { S.faults signer.old ≤ S.faults signer.new }
     ensures counted { IfOk result (λ _. IsCounted token.now steps.old steps.new) }
     ensures within { IsCountedWithin token.now steps.old steps.new }
-    ensures uncounted { IfErr result (λ e. OnToken e (IsUncounted steps.old steps.new)) }
+    ensures uncounted { IsUncounted (TokenFails token.now (rules_of ask.now.keys)) steps.old steps.new }
 {
     let (unbound, hash) = match ready_parts(alloc, token, ask, consent, steps) {
         Ok(ready) => ready,
@@ -137,7 +137,7 @@ fn ready_parts<F: Fn(&Path) -> bool>(
     ensures refused { IfErr result (IsUncheckedOrUnready F.Fn consent.now token.now ask.now) }
     ensures counted { IfOk result (λ _. IsCounted token.now steps.old steps.new) }
     ensures within { IsCountedWithin token.now steps.old steps.new }
-    ensures uncounted { IfErr result (λ e. OnToken e (IsUncounted steps.old steps.new)) }
+    ensures uncounted { IsUncounted (TokenFails token.now (rules_of ask.now.keys)) steps.old steps.new }
 {
     if token.view().count() == 0 {
         return whole_parts(alloc, token, ask, steps);
@@ -232,7 +232,7 @@ fn check_held(
     ensures refused { IfErr result (IsUnchecked token.now (rules_of keys.now)) }
     ensures counted { IfOk result (λ _. IsCounted token.now steps.old steps.new) }
     ensures within { IsCountedWithin token.now steps.old steps.new }
-    ensures uncounted { IfErr result (λ e. OnToken e (IsUncounted steps.old steps.new)) }
+    ensures uncounted { IsUncounted (TokenFails token.now (rules_of keys.now)) steps.old steps.new }
 {
     let algs = hs256_alone(alloc)?;
     let view = token.view();

@@ -17,14 +17,13 @@ ghost use Rattle.issuer_core.specs.Laying.{digest as digest_by, digest_at, salte
 ghost use Rattle.issuer_core.specs.Closing.{one, IsNumbered, ClosesFrom, ElementsClose, MembersClose};
 
 use crate::decoys::{Decoys, sort_decoys};
-use crate::hidden::mark_hidden;
 use crate::salts::salts_of;
 use crate::{DecoyList, Order};
 use claim_tree::{Tree, TreeList, TreeMap};
 use compact_form::COUNT_MAX;
 use disclosure::{HashAlg, digest, make_owned};
 use itoa::Buffer;
-use marked_tree::{Marked, MarkedList, MarkedMap};
+use marked_tree::{Marked, MarkedList, MarkedMap, mark_counted};
 use sd_outside::{NoMemory, TextBox, TextList};
 use std::alloc::Global;
 
@@ -340,7 +339,7 @@ pub(crate) fn lay_order(alloc: Global, order: &Order, seed: &[u8; 32]) -> Result
     ensures laid { IfOk result (λ laid. IsLaidFor (maker_of seed.now) (order_of order.now) (tree_of laid.payload) laid.texts laid.digests) }
     ensures few { IfOk result (λ laid. length laid.texts ≤ count_max) }
 {
-    let (claims, hidden) = mark_hidden(alloc, &order.payload, &order.hide)?;
+    let (claims, hidden) = mark_counted(alloc, &order.payload, &order.hide)?;
     let hidden = hidden as usize;
     let salts = salts_of(alloc, seed, hidden + count_decoys(&order.decoys))?;
     let of_decoys = decoy_digests(alloc, &salts, hidden)?;

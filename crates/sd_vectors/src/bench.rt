@@ -166,7 +166,7 @@ impl Bench {
             &mut err,
         );
         let answer = text_of(out.written())?;
-        self.left = outcome(self.alloc, status as u8, answer, text_of(err.written())?)?;
+        self.left = outcome(self.alloc, status.number(), answer, text_of(err.written())?)?;
         self.hold(file, answer)
     }
 

@@ -5,6 +5,8 @@
 #![tactic(auto)]
 
 mod bench;
+#[cfg(test)]
+mod fetch_tests;
 mod names;
 mod spelling;
 mod table;

@@ -1,6 +1,6 @@
 // What each command asks of its cabinet, and in how many pieces it answers.
-use crate::run;
 use sd_outside::{ByteBox, Cabinet, Failed, FetchError, MemCabinet, NoMemory, Sink};
+use sdjwt_cli::run;
 use std::alloc::Global;
 use std::test::Fail;
 
