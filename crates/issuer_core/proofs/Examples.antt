@@ -4,7 +4,7 @@ use Rattle.std.specs.Fmt.{digits}
 use Rattle.issuer_core.specs.declared.order.Decoy.{Decoy}
 use Rattle.claim_tree.specs.Lists.{In}
 use Rattle.claim_tree.specs.Path.{tree_at}
-use Rattle.claim_tree.specs.Tree.{Text, Tree, array, element, leaf, member, no_elements, no_members, object, text, whole}
+use Rattle.claim_tree.specs.Tree.{IsRanged, Text, Tree, array, element, leaf, member, no_elements, no_members, object, text, whole}
 use Rattle.digest_sites.specs.Given.{Given}
 use Rattle.digest_sites.specs.Reserved.{dots_name, sd_name}
 use Rattle.marked_tree.specs.Marked.{marked_array, marked_element, marked_leaf, marked_member, marked_object, no_marked_elements, no_marked_members}
@@ -13,13 +13,12 @@ use Rattle.rebuild_core.specs.Conditions.{IsSound}
 use Rattle.rebuild_core.specs.Payload.{alg_name}
 use Rattle.issuer_core.specs.Decoys.{decoys_of}
 use Rattle.issuer_core.specs.Digests.{AllDiffer, Maker, hidden_of, marked_of}
-use Rattle.issuer_core.specs.GoodOrder.{HoldsOthers, IsGoodOrder}
+use Rattle.issuer_core.specs.GoodOrder.{HasShortLists, HoldsOthers, IsGoodOrder}
 use Rattle.issuer_core.specs.Issued.{IsIssuedFor}
 use Rattle.issuer_core.specs.Laid.{IsLaid, laid_items, lay, order_decoys}
 use Rattle.issuer_core.specs.Order.{Order}
 use Rattle.issuer_core.proofs.IssuedSound.{issued_is_sound_holds}
 use Rattle.issuer_core.proofs.LaidDecoys.{laid_is_issued_holds}
-use Rattle.issuer_core.proofs.LaidOrdered.{laid_is_readable_holds}
 
 abbrev number : ℕ → Tree
 number n = leaf (whole (pos n))
@@ -91,7 +90,6 @@ good = record {
   shallow = omega arith;
   decoys_held = λ entry m. held entry m;
   ordered = ((refl, (refl, tt)), tt, ((refl, tt), ((refl, tt), tt, (tt, tt, tt)), (tt, (tt, (tt, tt)), tt)));
-  short = (tt, ((tt, (tt, tt)), ((omega arith, (tt, (tt, tt))), tt)));
 }
   where
     held : (entry : Decoy) → In entry order.decoys → HoldsOthers (tree_at order.claims entry.at)
@@ -100,6 +98,12 @@ good = record {
     held entry (inr (inr (inl e))) = subst (λ (z : Decoy). HoldsOthers (tree_at order.claims z.at)) (sym e) tt
     held entry (inr (inr (inr m))) = elim m [ ]
 
+ranged : IsRanged order.claims
+ranged = (omega arith, ((omega arith, (omega arith, tt)), ((omega arith, (omega arith, tt)), tt)))
+
+short : HasShortLists order.claims
+short = (tt, ((tt, (tt, tt)), ((omega arith, (tt, (tt, tt))), tt)))
+
 laid : IsLaid maker order payload given digests
 laid = record { payload_laid = refl; given_laid = refl; disclosures = λ k x a. refl; decoys = λ d l. refl }
 
@@ -107,8 +111,8 @@ differ : (n : ℕ) → AllDiffer digests n
 differ n i j l b e = let same : i ≡ j = cc in omega (arith, l, same)
 
 issued : IsIssuedFor maker order payload given
-issued = laid_is_issued_holds maker order payload given digests good laid (differ (hidden_of order + length (decoys_of order)))
+issued = laid_is_issued_holds maker order payload given digests good ranged short laid (differ (hidden_of order + length (decoys_of order)))
 
 -- the premises of the laws can be met
 sound : IsSound payload given
-sound = issued_is_sound_holds maker order payload given good issued (laid_is_readable_holds maker order payload given digests good laid)
+sound = issued_is_sound_holds maker order payload given good issued

@@ -19,18 +19,21 @@ use Rattle.issuer_core.specs.declared.errors.IssueError.{IssueError}
 use Rattle.issuer_core.specs.declared.errors.IssueError.TheVariants.{Memory, SignFailed, PayloadNotObject, ReservedName, TooDeep, RootMarked, NoSuchPlace, ProtectedClaim, DecoyPlace, TooManyHidden, TooManyDecoys, DigestClash, TooLong}
 use Rattle.issuer_core.specs.Order.{Order}
 use Rattle.issuer_core.specs.Decoys.{decoys_of}
-use Rattle.issuer_core.specs.GoodOrder.{IsGoodOrder, IsObject}
+use Rattle.issuer_core.specs.GoodOrder.{HasShortLists, IsGoodOrder, IsHeld, IsObject}
 use Rattle.issuer_core.specs.Digests.{Maker, hidden_of, AllDiffer, made_texts}
 use Rattle.issuer_core.specs.Laying.{IsLaidFor}
 use Rattle.issuer_core.specs.Laid.{IsLaid, with_alg}
 use Rattle.issuer_core.specs.Clash.{IsFirstClash}
+use Rattle.issuer_core.specs.Laws.{PartsAreIssued}
 use Rattle.issuer_core.specs.Refusals.{Refuses, IsRefused, IsLowest, NoneApplies, number_of, place_of}
 use Rattle.issuer_core.specs.Salts.{salt_of}
 use Rattle.issuer_core.specs.Seed.{maker_of}
 use Rattle.issuer_core.specs.Written.{header_of, IsWritten, IsIssued, IsLaidOut}
-use Rattle.issuer_core.specs.Issue.{first_digests, laid_digests, ClashesAt, IsTooLong, Applies, IsNotIssued, AreSigned, IsUnsigned, HasClash, IsFinished, IsOverlong, IsUnfinished}
+use Rattle.issuer_core.specs.Issue.{first_digests, laid_digests, ClashesAt, IsTooLong, IsToBeSigned, Applies, IsNotIssued, AreSigned, IsUnsigned, HasClash, IsFinished, IsOverlong, IsUnfinished}
 use Rattle.issuer_core.proofs.LaidDecoys.{laid_is_issued_holds}
+use Rattle.issuer_core.proofs.Judged.{good_order}
 use Rattle.issuer_core.proofs.OneLaid.{one_digest}
+use Rattle.issuer_core.proofs.ReservedPlaces.{held_short}
 use Rattle.issuer_core.proofs.WithAlg.{payload_object}
 use Rattle.issuer_core.proofs.LaidBounds.{payload_ranged}
 
@@ -135,7 +138,7 @@ module _ (maker : Maker) (o : Order) (good : Meaning) where
 
   pub order_refused : (error : IssueError) → IsRefused o error → IsNotIssued maker o good error
   order_refused Memory r = tt
-  order_refused SignFailed r = tt
+  order_refused SignFailed r = absurd r.applies
   order_refused PayloadNotObject r = raised PayloadNotObject (omega arith) (λ h. h) r
   order_refused (ReservedName path) r = raised (ReservedName path) (omega arith) (λ h. h) r
   order_refused TooDeep r = raised TooDeep (omega arith) (λ h. h) r
@@ -148,22 +151,36 @@ module _ (maker : Maker) (o : Order) (good : Meaning) where
   order_refused (DigestClash i j) r = absurd r.applies
   order_refused TooLong r = absurd r.applies
 
-  pub unsigned_refused : (error : IssueError) → IsUnsigned error → IsNotIssued maker o good error
-  unsigned_refused Memory h = tt
-  unsigned_refused SignFailed h = tt
-  unsigned_refused PayloadNotObject h = absurd h
-  unsigned_refused (ReservedName path) h = absurd h
-  unsigned_refused TooDeep h = absurd h
-  unsigned_refused (RootMarked k) h = absurd h
-  unsigned_refused (NoSuchPlace k) h = absurd h
-  unsigned_refused (ProtectedClaim k) h = absurd h
-  unsigned_refused (DecoyPlace k) h = absurd h
-  unsigned_refused TooManyHidden h = absurd h
-  unsigned_refused TooManyDecoys h = absurd h
-  unsigned_refused (DigestClash i j) h = absurd h
-  unsigned_refused TooLong h = absurd h
+  pub unsigned_refused : IsToBeSigned maker o → (error : IssueError) → IsUnsigned error → IsNotIssued maker o good error
+  unsigned_refused ready Memory h = tt
+  unsigned_refused ready SignFailed h = ready
+  unsigned_refused ready PayloadNotObject h = absurd h
+  unsigned_refused ready (ReservedName path) h = absurd h
+  unsigned_refused ready TooDeep h = absurd h
+  unsigned_refused ready (RootMarked k) h = absurd h
+  unsigned_refused ready (NoSuchPlace k) h = absurd h
+  unsigned_refused ready (ProtectedClaim k) h = absurd h
+  unsigned_refused ready (DecoyPlace k) h = absurd h
+  unsigned_refused ready TooManyHidden h = absurd h
+  unsigned_refused ready TooManyDecoys h = absurd h
+  unsigned_refused ready (DigestClash i j) h = absurd h
+  unsigned_refused ready TooLong h = absurd h
 
 -- ---- what is laid and signed
+
+-- what is laid out for a good order, with digests that differ, is issued
+laid_out_issued : (maker : Maker) (o : Order) (good : Meaning) (parts : Parts) → IsGoodOrder o → IsRanged o.claims → HasShortLists o.claims
+    → (out : IsLaidOut maker o good parts) → AllDiffer out.digests (hidden_of o + length (decoys_of o)) → IsIssued maker o good parts
+laid_out_issued maker o good parts is_good ranged short out differ = record {
+  payload = out.payload;
+  given = out.given;
+  issued = laid_is_issued_holds maker o out.payload out.given out.digests is_good ranged short out.laid differ;
+  written = out.written;
+}
+
+pub parts_are_issued_holds : (good : Meaning) → PartsAreIssued good
+parts_are_issued_holds good maker o parts none ordered ranged short out differ =
+    laid_out_issued maker o good parts (good_order o (λ error h. absurd (none error h)) ordered) ranged short out differ
 
 list_is : (ds : List Text) (dg : ℕ → Text) (n : ℕ) → length ds ≡ n → ((k : ℕ) (d : Text) → At ds k d → d ≡ dg k) → ds ≡ first_digests dg n
 list_is [] dg zero e each = refl
@@ -187,7 +204,7 @@ module _ (seed : List ℕ) (o : Order) (body : Tree) (texts digests : List Text)
   pub clash_refused : (good : Meaning) → NoneApplies (Refuses o) → (error : IssueError) → HasClash digests error → IsNotIssued (maker_of seed) o good error
   clash_refused good none Memory h = tt
   clash_refused good none (DigestClash i j) h = clash_lowest (maker_of seed) o good none i j (clash_at i j h)
-  clash_refused good none SignFailed h = tt
+  clash_refused good none SignFailed h = absurd h
   clash_refused good none PayloadNotObject h = absurd h
   clash_refused good none (ReservedName path) h = absurd h
   clash_refused good none TooDeep h = absurd h
@@ -219,14 +236,11 @@ module _ (seed : List ℕ) (o : Order) (body : Tree) (texts digests : List Text)
     pub laid_out : IsLaidOut (maker_of seed) o good parts
     laid_out = record { payload = laid.laid; given = laid.given; digests = laid.dg; laid = laid.is_laid; written = written }
 
-    pub issued : IsGoodOrder o → Nowhere (Repeats digests) → IsIssued (maker_of seed) o good parts
-    issued is_good none = record {
-      payload = laid.laid;
-      given = laid.given;
-      issued = laid_is_issued_holds (maker_of seed) o laid.laid laid.given laid.dg is_good laid.is_laid
-          (all_differ laid.dg (hidden_of o + length (decoys_of o)) (subst (λ (ds : List Text). Nowhere (Repeats ds)) (digests_are seed o body texts digests laid) none));
-      written = written;
-    }
+    pub issued : IsGoodOrder o → IsRanged o.claims → HasShortLists o.claims → Nowhere (Repeats digests) → IsIssued (maker_of seed) o good parts
+    unfolding laid_out
+    issued is_good ranged short none =
+        laid_out_issued (maker_of seed) o good parts is_good ranged short laid_out
+        (all_differ laid.dg (hidden_of o + length (decoys_of o)) (subst (λ (ds : List Text). Nowhere (Repeats ds)) (digests_are seed o body texts digests laid) none))
 
 -- ---- what is finished, or not
 
@@ -237,8 +251,8 @@ module _ (seed : List ℕ) (o : Order) (body : Tree) (texts digests : List Text)
   pub finished_laid : (parts : Parts) → IsFinished header good body texts digests parts → IsLaidOut (maker_of seed) o good parts
   finished_laid parts done = laid_out seed o body texts digests laid good parts (named parts done.signed)
 
-  pub finished_issued : IsGoodOrder o → (parts : Parts) → IsFinished header good body texts digests parts → IsIssued (maker_of seed) o good parts
-  finished_issued is_good parts done = issued seed o body texts digests laid good parts (named parts done.signed) is_good done.differ
+  pub finished_issued : IsGoodOrder o → IsRanged o.claims → IsHeld o.claims → (parts : Parts) → IsFinished header good body texts digests parts → IsIssued (maker_of seed) o good parts
+  finished_issued is_good ranged held parts done = issued seed o body texts digests laid good parts (named parts done.signed) is_good ranged (held_short o.claims held) done.differ
 
   long_refused : NoneApplies (Refuses o) → (error : IssueError) → IsOverlong header good body texts digests error → IsNotIssued (maker_of seed) o good error
   long_refused none error over =
@@ -249,7 +263,7 @@ module _ (seed : List ℕ) (o : Order) (body : Tree) (texts digests : List Text)
   pub unfinished_refused : NoneApplies (Refuses o) → (error : IssueError) → IsUnfinished header good body texts digests error → IsNotIssued (maker_of seed) o good error
   unfinished_refused none error h =
       ⊎_elim (clash_refused seed o body texts digests laid good none error)
-      (λ k. ⊎_elim (unsigned_refused (maker_of seed) o good error) (long_refused none error) k) h
+      (λ k. ⊎_elim (λ u. unsigned_refused (maker_of seed) o good (record { passes = none; differ = no_clash seed o body texts digests laid u.0 }) error u.1) (long_refused none error) k) h
 
 -- ---- words
 

@@ -10,11 +10,10 @@ use Rattle.disclosure.specs.Disclosure.{IsDisclosure}
 use Rattle.disclosure.specs.declared.digests.HashAlg.{HashAlg}
 use Rattle.hmac_sign.specs.Signatures.{Meaning}
 use Rattle.rebuild_core.specs.Conditions.{IsSound}
-use Rattle.rebuild_core.specs.Laws.{IsReadable}
 use Rattle.rebuild_core.specs.Payload.{alg_name, without_alg}
 use Rattle.issuer_core.specs.Decoys.{decoys_of}
 use Rattle.issuer_core.specs.Digests.{hidden_of, made_texts}
-use Rattle.issuer_core.specs.GoodOrder.{IsObject, IsGoodOrder, IsWritable}
+use Rattle.issuer_core.specs.GoodOrder.{IsObject, IsWritable}
 use Rattle.issuer_core.specs.Issue.{HasNoClash, laid_digests}
 use Rattle.issuer_core.specs.Issued.{IsIssuedFor}
 use Rattle.issuer_core.specs.Laid.{IsLaid, with_alg}
@@ -25,8 +24,8 @@ use Rattle.issuer_core.proofs.Clashes.{no_repeats}
 use Rattle.issuer_core.proofs.FromLaid.{all_differ}
 use Rattle.issuer_core.proofs.IssuedSound.{issued_is_sound_holds}
 use Rattle.issuer_core.proofs.LaidDecoys.{laid_is_issued_holds}
-use Rattle.issuer_core.proofs.LaidOrdered.{laid_is_readable_holds}
 use Rattle.issuer_core.proofs.ReadBack.{IsReadBack, written_back}
+use Rattle.issuer_core.proofs.ReservedPlaces.{held_short}
 use Rattle.issuer_core.proofs.WithAlg.{alg_named, payload_object, without_with_alg}
 
 -- the text is a disclosure of this name and value, with this digest
@@ -40,7 +39,6 @@ pub record HasIssued (seed : List ℕ) (o : Order) (good : Meaning) (parts : Par
   pub issued : IsIssuedFor (maker_of seed) o payload given
   pub written : IsWritten (maker_of seed) o good payload given parts
   pub back : IsReadBack o payload given parts
-  pub readable : IsReadable payload given
   pub sound : IsSound payload given
   pub hash : payload_hash (with_alg payload) ≡ Some HashAlg.Sha256
   pub bare : without_alg (with_alg payload) ≡ payload
@@ -73,17 +71,16 @@ names_hash : (t : Tree) → IsObject t → payload_hash (with_alg t) ≡ Some Ha
 unfolding alg_name
 names_hash t is = ap hash_of_name (alg_named t is)
 
-pub laid_digests_differ : (seed : List ℕ) (o : Order) (p : Tree) (g : List Given) (dg : ℕ → Text) → IsLaid (maker_of seed) o p g dg → HasNoClash (maker_of seed) o → IsGoodOrder o → IsIssuedFor (maker_of seed) o p g
-laid_digests_differ seed o p g dg laid differ good =
-    laid_is_issued_holds (maker_of seed) o p g dg good laid
+pub laid_digests_differ : (seed : List ℕ) (o : Order) (p : Tree) (g : List Given) (dg : ℕ → Text) → IsLaid (maker_of seed) o p g dg → HasNoClash (maker_of seed) o → IsWritable o → IsIssuedFor (maker_of seed) o p g
+laid_digests_differ seed o p g dg laid differ writable =
+    laid_is_issued_holds (maker_of seed) o p g dg writable.good writable.ranged (held_short o.claims writable.held) laid
     (all_differ dg (hidden_of o + length (decoys_of o)) (no_repeats (laid_digests o dg) (λ i j clash. differ i j (record { payload = p; given = g; digests = dg; laid = laid; clash = clash }))))
 
 pub has_issued : (seed : List ℕ) (o : Order) (good : Meaning) (parts : Parts) → IsWritable o → HasNoClash (maker_of seed) o → IsLaidOut (maker_of seed) o good parts → HasIssued seed o good parts
 has_issued seed o good parts writable differ out =
     let p = out.payload in
     let g = out.given in
-    let issued = laid_digests_differ seed o p g out.digests out.laid differ writable.good in
-    let readable = laid_is_readable_holds (maker_of seed) o p g out.digests writable.good out.laid in
+    let issued = laid_digests_differ seed o p g out.digests out.laid differ writable in
     let back = written_back seed o p g out.digests writable out.laid good parts out.written in
     record {
       payload = p;
@@ -91,8 +88,7 @@ has_issued seed o good parts writable differ out =
       issued = issued;
       written = out.written;
       back = back;
-      readable = readable;
-      sound = issued_is_sound_holds (maker_of seed) o p g writable.good issued readable;
+      sound = issued_is_sound_holds (maker_of seed) o p g writable.good issued;
       hash = names_hash p (payload_object (maker_of seed) o p g out.digests writable.good out.laid);
       bare = without_with_alg (maker_of seed) o p g out.digests writable.good out.laid;
       texts = texts_zip parts.disclosures g

@@ -10,7 +10,6 @@ use Rattle.rebuild_core.specs.AllShown.{AreAllShown, ElementsTextLists, HasTextL
 use Rattle.rebuild_core.specs.Conditions.{IsSound}
 use Rattle.rebuild_core.specs.Free.{HasNoReserved}
 use Rattle.rebuild_core.specs.Given.{given_digests}
-use Rattle.rebuild_core.specs.Laws.{IsReadable}
 use Rattle.rebuild_core.specs.Opening.{processed}
 use Rattle.issuer_core.specs.Digests.{Maker, decoy_digests, issued_digests}
 use Rattle.issuer_core.specs.GoodOrder.{IsGoodOrder}
@@ -77,7 +76,7 @@ mutual
   members_text_lists no_members h = tt
   members_text_lists (member name t ms) h = ((λ e. let w = h.0 e in ap is_some w.2), text_lists t h.1, members_text_lists ms h.2)
 
-module _ (mk : Maker) (o : Order) (p : Tree) (g : List Given) (good : IsGoodOrder o) (issued : IsIssuedFor mk o p g) (readable : IsReadable p g) where
+module _ (mk : Maker) (o : Order) (p : Tree) (g : List Given) (good : IsGoodOrder o) (issued : IsIssuedFor mk o p g) where
   once : HasEachMarkOnce (processed p g) (length g)
   once i =
       ap (weight (only i)) issued.opens ∙ marks_once_holds o.claims o.hide i
@@ -98,7 +97,7 @@ module _ (mk : Maker) (o : Order) (p : Tree) (g : List Given) (good : IsGoodOrde
   }
 
   sound : IsSound p g
-  sound = shown_is_sound_holds p g readable shown
+  sound = shown_is_sound_holds p g issued.readable shown
 
 pub issued_is_sound_holds : IssuedIsSound
-issued_is_sound_holds mk o p g good issued readable = sound mk o p g good issued readable
+issued_is_sound_holds mk o p g good issued = sound mk o p g good issued

@@ -11,7 +11,7 @@ use Rattle.issuer_core.specs.declared.order.Decoy.{Decoy}
 use Rattle.issuer_core.specs.declared.errors.IssueError.TheVariants.{PayloadNotObject, ReservedName, TooDeep, DecoyPlace}
 use Rattle.issuer_core.specs.Order.{Order}
 use Rattle.issuer_core.specs.Reserved.{reserved_places}
-use Rattle.issuer_core.specs.GoodOrder.{IsObject, HoldsOthers, HasShortLists, IsGoodOrder}
+use Rattle.issuer_core.specs.GoodOrder.{IsObject, HoldsOthers, IsGoodOrder}
 use Rattle.issuer_core.specs.Refusals.{IsRoot, IsNowhere, IsProtected, IsMisplaced, protected_names}
 use Rattle.issuer_core.specs.Judging.{is_root, is_nowhere, is_protected, is_no_holder, is_misplaced, PassesBelow}
 use Rattle.issuer_core.proofs.Firsts.{Tells}
@@ -95,8 +95,8 @@ none_there (Some path) h = absurd (h path refl)
 not_over : (a b : ℕ) → (a < b → ⊥) → b ≤ a
 not_over a b h = grind arith
 
-pub good_order : (o : Order) → PassesBelow 58 o → IsOrdered o.claims → HasShortLists o.claims → IsGoodOrder o
-good_order o below ordered short = record {
+pub good_order : (o : Order) → PassesBelow 58 o → IsOrdered o.claims → IsGoodOrder o
+good_order o below ordered = record {
   is_object = object_there o.claims (λ h. let over = below PayloadNotObject h in omega (arith, over));
   no_reserved = no_reserved o.claims (none_there (slice_get (reserved_places o.claims) 0) (λ path e. let over = below (ReservedName path) e in omega (arith, over)));
   shallow = not_over 100 (depth o.claims) (λ h. let over = below TooDeep h in omega (arith, over));
@@ -104,5 +104,4 @@ good_order o below ordered short = record {
       let w = In-At o.decoys entry stands in
       holder_there (tree_at o.claims entry.at) (λ m. let over = below (DecoyPlace w.0) (entry, w.1, m) in omega (arith, over));
   ordered = ordered;
-  short = short;
 }

@@ -233,4 +233,4 @@ decoys_stand mk o p g dg good laid d q a =
     (w.0, w.1, w.2 ∙ laid.decoys d (At-below (decoys_of o) d q a), subst (λ t. IsDecoySite (marked_of o) w.0 q (earlier d q (decoys_of o)) (tree_at t q)) same w.3)
 
 pub laid_is_issued_holds : LaidIsIssued
-laid_is_issued_holds mk o p g dg good laid differ = issued mk o p g dg good laid differ (decoys_stand mk o p g dg good laid)
+laid_is_issued_holds mk o p g dg good ranged short laid differ = issued mk o p g dg good ranged short laid differ (decoys_stand mk o p g dg good laid)

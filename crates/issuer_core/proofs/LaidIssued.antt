@@ -2,7 +2,7 @@
 use Rattle.std.proofs.Common.{◌≡◌, ℕ, suc, ◌+◌, ◌<◌, List, [], ◌∷◌, ap, ap₂, arith, cond, length, refl, subst, sym, ◌∙◌}
 use Rattle.std.specs.Prelude.{bytes_eq}
 use Rattle.claim_tree.specs.Lists.{At, In, Nowhere, Repeats}
-use Rattle.claim_tree.specs.Tree.{Text, Tree}
+use Rattle.claim_tree.specs.Tree.{Text, Tree, IsRanged}
 use Rattle.digest_sites.specs.Given.{Given}
 use Rattle.digest_sites.specs.Sites.{sites}
 use Rattle.marked_tree.specs.Places.{Path, is_among}
@@ -10,7 +10,7 @@ use Rattle.rebuild_core.specs.AllShown.{all_digests}
 use Rattle.rebuild_core.specs.Given.{given_digests}
 use Rattle.issuer_core.specs.Decoys.{decoys_at, decoys_of}
 use Rattle.issuer_core.specs.Digests.{AllDiffer, Maker, decoy_digests, digests_from, hidden_of, issued_digests, marked_of}
-use Rattle.issuer_core.specs.GoodOrder.{IsGoodOrder}
+use Rattle.issuer_core.specs.GoodOrder.{IsGoodOrder, HasShortLists}
 use Rattle.issuer_core.specs.Issued.{DecoysStand, HasDigestLists, IsIssuedFor}
 use Rattle.issuer_core.specs.Laid.{IsLaid}
 use Rattle.issuer_core.specs.Order.{Order}
@@ -21,6 +21,8 @@ use Rattle.issuer_core.proofs.DecoyPlaces.{held_at}
 use Rattle.issuer_core.proofs.DecoySums.{decoy_sum, decoys_sum}
 use Rattle.issuer_core.proofs.LaidItems.{laid_count, laid_differ, laid_made, laid_processed}
 use Rattle.issuer_core.proofs.LaidLists.{are_decoys, items_listed, lay_lists}
+use Rattle.issuer_core.proofs.LaidBounds.{payload_ranged, value_ranged}
+use Rattle.issuer_core.proofs.LaidOrdered.{laid_is_readable_holds}
 use Rattle.issuer_core.proofs.LaidSums.{all_sum, digest_sum, laid_sum, occurs_is, site_sum, value_sum}
 use Rattle.issuer_core.proofs.Plain.{marked_plain}
 
@@ -37,7 +39,7 @@ numbered_same f h k (q ∷ qs) e =
     ap₂ (λ (a : Text) (b : List Text). a ∷ b) (ap f (let z : k ≡ k + 0 = omega arith in z) ∙ e 0 (omega arith) ∙ ap h (let z : k + 0 ≡ k = omega arith in z))
     (numbered_same f h (suc k) qs (λ d l. let z : suc k + d ≡ k + suc d = omega arith in ap f z ∙ e (suc d) (omega (arith, l)) ∙ ap h (sym z)))
 
-module _ (mk : Maker) (o : Order) (p : Tree) (g : List Given) (dg : ℕ → Text) (good : IsGoodOrder o) (laid : IsLaid mk o p g dg) (differ : AllDiffer dg (hidden_of o + length (decoys_of o))) where
+module _ (mk : Maker) (o : Order) (p : Tree) (g : List Given) (dg : ℕ → Text) (good : IsGoodOrder o) (ranged : IsRanged o.claims) (short : HasShortLists o.claims) (laid : IsLaid mk o p g dg) (differ : AllDiffer dg (hidden_of o + length (decoys_of o))) where
   abbrev dec : Path → List Text
   dec = decoys_at dg (hidden_of o) (decoys_of o)
 
@@ -51,7 +53,7 @@ module _ (mk : Maker) (o : Order) (p : Tree) (g : List Given) (dg : ℕ → Text
         laid_sum f dec dg (marked_of o) (marked_plain (is_among o.hide) 0 o.claims good.ordered good.no_reserved),
         ap (digest_sum f) laid.given_laid,
         ap (decoy_sum f dec) (mark_strips_holds o.claims o.hide),
-        decoys_sum f dg (hidden_of o) (decoys_of o) o.claims good.ordered good.short (held_at o good),
+        decoys_sum f dg (hidden_of o) (decoys_of o) o.claims good.ordered short (held_at o good),
         sum_of-append f (given_digests g) (decoy_digests mk o),
         sum_of-map f (λ (x : Given). x.digest) g,
         ap (sum_of f) (numbered_same dg (λ k. mk.digest (mk.piece k)) (hidden_of o) (decoys_of o) laid.decoys),
@@ -70,4 +72,7 @@ module _ (mk : Maker) (o : Order) (p : Tree) (g : List Given) (dg : ℕ → Text
         payload_rises = subst HasDigestLists (sym laid.payload_laid)
             (lay_lists dg (hidden_of o) (length (decoys_of o)) differ dec d (is_among o.hide) 0 o.claims good.no_reserved (omega arith));
         values_rise = λ x m. items_listed dg (hidden_of o) (length (decoys_of o)) differ dec d (is_among o.hide) 0 o.claims good.no_reserved (omega arith) x (subst (λ (xs : List Given). In x xs) laid.given_laid m);
+        readable = laid_is_readable_holds mk o p g dg good laid;
+        payload_ranged = payload_ranged mk o p g dg laid ranged;
+        values_ranged = value_ranged mk o p g dg laid ranged;
       }

@@ -19,7 +19,7 @@ HoldsOthers (Some (object ms)) = Unit {0}
 HoldsOthers (Some (array es)) = Unit {0}
 HoldsOthers _ = ⊥
 
--- each list has fewer than 2 ^ 64 elements
+-- each list has fewer than 2 ^ 64 elements: as far a step of a path, `decimal`, is that of one position
 abbrev mutual
   pub HasShortLists : Tree → Type 0
   HasShortLists (leaf l) = Unit {0}
@@ -44,7 +44,6 @@ pub record IsGoodOrder (o : Order) : Type 0 where
   -- 57
   pub decoys_held : (entry : Decoy) → In entry o.decoys → HoldsOthers (tree_at o.claims entry.at)
   pub ordered : IsOrdered o.claims
-  pub short : HasShortLists o.claims
 
 abbrev pub LeafHeld : Leaf → Type 0
 LeafHeld (text s) = IsUtf8 s

@@ -19,7 +19,7 @@ use Rattle.issuer_core.specs.Decoys.{decoys_of}
 use Rattle.issuer_core.specs.Digests.{Maker, hidden_of}
 use Rattle.issuer_core.specs.Laid.{IsLaid}
 use Rattle.issuer_core.specs.Clash.{IsFirstClash}
-use Rattle.issuer_core.specs.Refusals.{Refuses, IsLowest}
+use Rattle.issuer_core.specs.Refusals.{Refuses, NoneApplies, IsLowest}
 use Rattle.issuer_core.specs.Written.{IsLaidOut}
 
 -- the first n digests
@@ -54,10 +54,16 @@ Applies maker o good (DigestClash i j) = ClashesAt maker o i j
 Applies maker o good TooLong = IsTooLong maker o good
 Applies maker o good error = Refuses o error
 
--- why an order is not issued: by the lowest refusal that applies; want of memory and a signer that fails say nothing of it
+-- nothing is refused before the token is signed
+pub record IsToBeSigned (maker : Maker) (o : Order) : Type 0 where
+  pub passes : NoneApplies (Refuses o)
+  pub differ : HasNoClash maker o
+
+-- why an order is not issued: by the lowest refusal that applies, or a signer failed where none of 51 to 60 does; want of memory
+-- says nothing of it
 abbrev pub IsNotIssued : Maker → Order → Meaning → IssueError → Type 0
 IsNotIssued maker o good Memory = Unit {0}
-IsNotIssued maker o good SignFailed = Unit {0}
+IsNotIssued maker o good SignFailed = IsToBeSigned maker o
 IsNotIssued maker o good error = IsLowest (Applies maker o good) error
 
 -- for conversions: the answer where nothing is signed
@@ -103,6 +109,7 @@ pub record IsOverlong (header : Header) (good : Meaning) (body : Tree) (texts di
   pub differ : Nowhere (Repeats digests)
   pub long : issue_max < length (compact parts)
 
--- for private functions: digests clash, nothing was signed, or what was signed is too long
+-- for private functions: digests clash, or they differ and nothing was signed, or what was signed is too long
 abbrev pub IsUnfinished : Header → Meaning → Tree → List Text → List Text → IssueError → Type 0
-IsUnfinished header good body texts digests error = HasClash digests error ⊎ (IsUnsigned error ⊎ IsOverlong header good body texts digests error)
+IsUnfinished header good body texts digests error =
+    HasClash digests error ⊎ ((Nowhere (Repeats digests) × IsUnsigned error) ⊎ IsOverlong header good body texts digests error)

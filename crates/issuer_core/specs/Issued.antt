@@ -1,6 +1,6 @@
 -- What an issuer hands out for an order: a payload, without its own `_sd_alg`, and disclosures.
 use Rattle.std.specs.Prelude.{◌≡◌, ℕ, ◌+◌, List, [], ◌∷◌, ◌++◌, map, length, true, Option, Some, None, bytes_eq, decimal, if◌then◌else◌}
-use Rattle.claim_tree.specs.Tree.{Text, Tree, leaf, array, object, Elements, no_elements, element, Members, no_members, member, elements_len, IsBeforeAll}
+use Rattle.claim_tree.specs.Tree.{Text, Tree, leaf, array, object, Elements, no_elements, element, Members, no_members, member, elements_len, IsBeforeAll, IsRanged}
 use Rattle.claim_tree.specs.Lists.{At, In, Repeats, Nowhere}
 use Rattle.claim_tree.specs.Path.{tree_at}
 use Rattle.digest_sites.specs.Reserved.{sd_name, text_list}
@@ -11,6 +11,7 @@ use Rattle.marked_tree.specs.Marked.{Marked}
 use Rattle.marked_tree.specs.Places.{Path, place}
 use Rattle.rebuild_core.specs.Given.{Owner, payload, value_of, Item, all_items}
 use Rattle.rebuild_core.specs.AllShown.{all_digests}
+use Rattle.rebuild_core.specs.Laws.{IsReadable}
 use Rattle.rebuild_core.specs.Opening.{processed}
 use Rattle.issuer_core.specs.Order.{Order}
 use Rattle.issuer_core.specs.Decoys.{decoys_of, earlier}
@@ -88,3 +89,7 @@ pub record IsIssuedFor (maker : Maker) (o : Order) (p : Tree) (given : List Give
   pub decoys : DecoysStand maker o p given
   pub payload_rises : HasDigestLists p
   pub values_rise : (x : Given) → In x given → HasDigestLists x.value
+  -- payload and values are JSON values: the names of each object ascend, each once, and numbers are in range
+  pub readable : IsReadable p given
+  pub payload_ranged : IsRanged p
+  pub values_ranged : (x : Given) → In x given → IsRanged x.value

@@ -1,6 +1,6 @@
 -- What the laws say.
 use Rattle.std.specs.Prelude.{◌≡◌, ℕ, ◌+◌, List, length}
-use Rattle.claim_tree.specs.Tree.{Text, Tree}
+use Rattle.claim_tree.specs.Tree.{Text, Tree, IsOrdered, IsRanged}
 use Rattle.digest_sites.specs.Given.{Given}
 use Rattle.marked_tree.specs.Choice.{chosen}
 use Rattle.marked_tree.specs.Marked.{strip, prune}
@@ -10,20 +10,30 @@ use Rattle.rebuild_core.specs.Conditions.{IsSound}
 use Rattle.rebuild_core.specs.Laws.{IsReadable, Enumerates, IsPick}
 use Rattle.rebuild_core.specs.Opening.{processed}
 use Rattle.issuer_core.specs.Order.{Order}
-use Rattle.issuer_core.specs.GoodOrder.{IsGoodOrder}
+use Rattle.issuer_core.specs.GoodOrder.{IsGoodOrder, HasShortLists}
 use Rattle.issuer_core.specs.Decoys.{decoys_of}
 use Rattle.issuer_core.specs.Digests.{Maker, marked_of, hidden_of, AllDiffer}
 use Rattle.issuer_core.specs.Laid.{IsLaid}
 use Rattle.issuer_core.specs.Issued.{IsIssuedFor}
 use Rattle.issuer_core.specs.Seed.{maker_of}
-use Rattle.issuer_core.specs.Written.{IsLaidOut}
+use Rattle.issuer_core.specs.Written.{IsIssued, IsLaidOut}
+use Rattle.issuer_core.specs.Refusals.{Refuses, NoneApplies}
 use Rattle.compact_form.specs.declared.parts.Parts.{Parts}
 use Rattle.hmac_sign.specs.Hmac.{IsGood}
+use Rattle.hmac_sign.specs.Signatures.{Meaning}
 
 abbrev pub LaidIsIssued : Type 0
 LaidIsIssued =
     (maker : Maker) (o : Order) (p : Tree) (given : List Given) (dg : ℕ → Text)
-    → IsGoodOrder o → IsLaid maker o p given dg → AllDiffer dg (hidden_of o + length (decoys_of o)) → IsIssuedFor maker o p given
+    → IsGoodOrder o → IsRanged o.claims → HasShortLists o.claims
+    → IsLaid maker o p given dg → AllDiffer dg (hidden_of o + length (decoys_of o)) → IsIssuedFor maker o p given
+
+-- the same of the parts with a good signature, for an order that nothing of 51 to 59 refuses and whose claims are a JSON value
+abbrev pub PartsAreIssued : Meaning → Type 0
+PartsAreIssued good =
+    (maker : Maker) (o : Order) (parts : Parts)
+    → NoneApplies (Refuses o) → IsOrdered o.claims → IsRanged o.claims → HasShortLists o.claims
+    → (laid : IsLaidOut maker o good parts) → AllDiffer laid.digests (hidden_of o + length (decoys_of o)) → IsIssued maker o good parts
 
 abbrev pub LaidIsReadable : Type 0
 LaidIsReadable =
@@ -33,7 +43,7 @@ LaidIsReadable =
 abbrev pub IssuedIsSound : Type 0
 IssuedIsSound =
     (maker : Maker) (o : Order) (p : Tree) (given : List Given)
-    → IsGoodOrder o → IsIssuedFor maker o p given → IsReadable p given → IsSound p given
+    → IsGoodOrder o → IsIssuedFor maker o p given → IsSound p given
 
 -- the presented disclosures are sound, and show the claims of the order without what is hidden and leads to no wanted path
 pub record IsShownAs (o : Order) (want : List Path) (p : Tree) (picked : List Given) : Type 0 where
@@ -44,7 +54,7 @@ pub record IsShownAs (o : Order) (want : List Path) (p : Tree) (picked : List Gi
 abbrev pub IssuedIsShown : Type 0
 IssuedIsShown =
     (maker : Maker) (o : Order) (p : Tree) (given : List Given)
-    → IsGoodOrder o → IsIssuedFor maker o p given → IsReadable p given
+    → IsGoodOrder o → IsIssuedFor maker o p given
     → (want : List Path) (order : List ℕ) → Enumerates (chosen (marked_of o) want) order → IsRising order
     → (picked : List Given) → IsPick given order picked → IsShownAs o want p picked
 

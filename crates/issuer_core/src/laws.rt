@@ -4,7 +4,9 @@ ghost use Rattle.claim_tree.specs.declared.file_fault.FileFault.{FileFault};
 ghost use Rattle.issuer_core.specs.Order.{order_of};
 ghost use Rattle.issuer_core.specs.OrderFile.{IsOrderFile, IsOrderRefused};
 ghost use Rattle.issuer_core.specs.declared.order_file.IssueFile.{IssueFile};
-ghost use Rattle.issuer_core.specs.Laws.{LaidIsIssued, LaidIsReadable, IssuedIsSound, IssuedIsShown, OneToken};
+ghost use Rattle.issuer_core.specs.Laws.{LaidIsIssued, PartsAreIssued, LaidIsReadable, IssuedIsSound, IssuedIsShown, OneToken};
+
+use hmac_sign::Signer;
 
 /// A file says one order and one key or is refused, and has one fault beside want of memory.
 pub fn one_order()
@@ -18,6 +20,12 @@ pub fn one_order()
 /// Where the digests all differ, what is laid for a good order is issued for it.
 pub fn laid_is_issued()
     ensures { LaidIsIssued }
+{}
+
+/// The same of the parts, with a signature that is good by the meaning of whoever signs: where the digests all differ, the parts of
+/// what is laid for an order that nothing of 51 to 59 refuses are issued for it.
+pub fn parts_are_issued<S: Signer>()
+    ensures { (signer : S) → PartsAreIssued (S.good signer) }
 {}
 
 /// The members of each object that is laid ascend by the bytes of their names.

@@ -18,7 +18,7 @@ pub returns-clause-issued : goal.returns-clause-issued
 returns-clause-issued g c =
     let l = c.in_ok-laid.laid in
     IfOk-weaker c.issue_laid.result _ _
-    (finished_issued c.args.seed.now (order_of c.args.order) (tree_of l.payload) l.texts l.digests c.in_ok-laid.ensures.laid c.in_ok-header.header c.in_ok-header.ensures (g.S.Signatures.good c.args.signer.now) c.in_default.ensures.good)
+    (finished_issued c.args.seed.now (order_of c.args.order) (tree_of l.payload) l.texts l.digests c.in_ok-laid.ensures.laid c.in_ok-header.header c.in_ok-header.ensures (g.S.Signatures.good c.args.signer.now) c.in_default.ensures.good c.requires.ranged c.in_default.ensures.held)
     c.issue_laid.ensures.finished
 
 pub returns-clause-laid : goal.returns-clause-laid
