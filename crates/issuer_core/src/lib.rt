@@ -14,8 +14,6 @@ mod order_file;
 mod refusal;
 mod reserved;
 mod salts;
-#[cfg(test)]
-mod tests;
 
 pub use clash::first_clash;
 pub use errors::IssueError;

@@ -11,8 +11,6 @@ mod json_error;
 mod json_text;
 pub mod laws;
 mod printing;
-#[cfg(test)]
-mod tests;
 mod token;
 mod token_text;
 mod values;

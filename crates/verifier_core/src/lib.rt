@@ -15,8 +15,6 @@ mod holder;
 pub mod laws;
 mod policy;
 mod refusal;
-#[cfg(test)]
-mod tests;
 mod verdict;
 
 pub use binding_file::AGE_MAX;
