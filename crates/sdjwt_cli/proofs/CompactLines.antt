@@ -1,16 +1,12 @@
 -- The line of a compact text is read as its parts.
 use Rattle.std.proofs.Common.{inl, inr, ◌≤◌, length, arith}
-use Rattle.claim_tree.specs.Tree.{no_members}
 use Rattle.sd_outside.specs.Limits.{compact_max, count_max}
 use Rattle.compact_form.specs.declared.parts.Parts.{Parts}
 use Rattle.compact_form.specs.Compact.{compact, AreWords}
 use Rattle.json_form.specs.Token.{IsTooMuch, IsToken}
-use Rattle.json_form.specs.declared.token.Token.{Token}
 use Rattle.json_form.proofs.Lines.{read_compact_line}
 use Rattle.sdjwt_cli.specs.Lines.{line}
-
-abbrev pub alone : Parts → Token
-alone parts = record { parts = parts; outer = no_members }
+use Rattle.sdjwt_cli.specs.Presented.{alone}
 
 pub line_token : (parts : Parts) → AreWords parts → length (compact parts) ≤ compact_max → length parts.disclosures ≤ count_max → IsToken (line (compact parts)) (alone parts)
 line_token parts words small few = read_compact_line parts words go

@@ -6,27 +6,31 @@ use Rattle.compact_form.specs.declared.parts.Parts.{Parts}
 use Rattle.compact_form.specs.Compact.{compact, AreWords}
 use Rattle.hmac_sign.specs.Hmac.{IsGood}
 use Rattle.json_form.specs.Token.{IsToken}
-use Rattle.json_form.specs.declared.token.Token.{Token}
-use Rattle.json_form.proofs.Tokens as tokens
+use Rattle.json_form.proofs.AloneForms.{compact_read}
 use Rattle.marked_tree.specs.Marked.{Marked}
 use Rattle.rebuild_core.specs.Opening.{processed}
 use Rattle.verifier_core.specs.Verdict.{HasContent, Opens, IsChecked, key_for}
 use Rattle.verifier_core.proofs.CheckSteps.{one_content}
 use Rattle.issuer_core.specs.Digests.{marked_of}
 use Rattle.issuer_core.specs.Order.{Order}
-use Rattle.issuer_core.proofs.IssuedContent.{HasIssued}
+use Rattle.issuer_core.proofs.IssuedContent.{HasIssued, has_issued}
 use Rattle.holder_core.specs.declared.ask.Ask.{Ask}
 use Rattle.holder_core.specs.Present.{rules_of, IsHeld}
+use Rattle.sdjwt_cli.specs.Issuing.{IsIssuedBy}
 use Rattle.sdjwt_cli.specs.Lines.{line}
-use Rattle.sdjwt_cli.proofs.CompactLines.{alone, line_token}
+use Rattle.sdjwt_cli.specs.Presented.{alone}
+use Rattle.sdjwt_cli.proofs.CompactLines.{line_token}
 use Rattle.sdjwt_cli.proofs.CheckedParts.{CarriesFor, content, checked}
 
--- what `issue` answers, with its key
-pub record IsIssuedBy (seed : List ℕ) (o : Order) (key : List ℕ) (parts : Parts) : Type 0 where
+-- what is known of a token that is issued
+pub record IsTokenOf (seed : List ℕ) (o : Order) (key : List ℕ) (parts : Parts) : Type 0 where
   pub has : HasIssued seed o (IsGood key) parts
   pub words : AreWords parts
   pub few : length parts.disclosures ≤ count_max
   pub short : length (compact parts) ≤ issue_max
+
+pub token_of : (seed : List ℕ) (o : Order) (key : List ℕ) (parts : Parts) → IsIssuedBy seed o key parts → IsTokenOf seed o key parts
+token_of seed o key parts is = record { has = has_issued seed o (IsGood key) parts is.writable is.differ is.laid; words = is.words; few = is.few; short = is.short }
 
 pub carries_issued : (seed : List ℕ) (o : Order) (key : List ℕ) (parts : Parts) (has : HasIssued seed o (IsGood key) parts) → CarriesFor o key has.payload has.given parts
 carries_issued seed o key parts has = record {
@@ -40,9 +44,12 @@ carries_issued seed o key parts has = record {
   texts = has.texts;
 }
 
-module _ (seed : List ℕ) (o : Order) (key : List ℕ) (parts : Parts) (is : IsIssuedBy seed o key parts) where
-  pub issued_token : IsToken (line (compact parts)) (alone parts)
-  issued_token = let short = is.short in line_token parts is.words (omega (arith, short)) is.few
+module _ (seed : List ℕ) (o : Order) (key : List ℕ) (parts : Parts) (is : IsTokenOf seed o key parts) where
+  pub issued_line : IsToken (line (compact parts)) (alone parts)
+  issued_line = let short = is.short in line_token parts is.words (omega (arith, short)) is.few
+
+  pub issued_text : IsToken (compact parts) (alone parts)
+  issued_text = compact_read (line (compact parts)) (alone parts) issued_line refl
 
   pub issued_content : HasContent (alone parts) is.has.payload is.has.given
   issued_content = content o key is.has.payload is.has.given parts (carries_issued seed o key parts is.has)
@@ -54,10 +61,7 @@ module _ (seed : List ℕ) (o : Order) (key : List ℕ) (parts : Parts) (is : Is
         (checked o key is.has.payload is.has.given parts (carries_issued seed o key parts is.has) (rules_of ask.keys) (record { alg = inl refl; typ = λ name none. cc none; finds = finds }) is.has.sound);
   }
 
-  -- the line is read as no other token, and processes to nothing else
-  pub one_issued : (token : Token) → IsToken (line (compact parts)) token → token ≡ alone parts
-  one_issued token there = tokens.one (line (compact parts)) token (alone parts) there issued_token
-
+  -- it processes to nothing else
   pub one_marked : (marked : Marked) → Opens (alone parts) marked → marked ≡ marked_of o
   one_marked marked (p, g, there, e) =
       let same = one_content (alone parts) p is.has.payload g is.has.given there issued_content in

@@ -35,8 +35,8 @@ module _ (order_file seed_file : List ℕ) (o p : Order) (key other : List ℕ) 
 printed : (order seed : List ℕ) (a b : List ℕ) → Issues order seed a → Issues order seed b → a ≡ b
 printed order seed a b g h =
     let laid : IsLaidOut (maker_of h.seed) h.order (IsGood h.key) g.parts =
-    carried order seed g.order h.order g.key h.key g.seed h.seed g.asked h.asked (λ (o : Order) (k s : List ℕ). IsLaidOut (maker_of s) o (IsGood k) g.parts) g.laid in
-    g.line_is ∙ (ap (λ (parts : Parts). line (compact parts)) (one_token (maker_of h.seed) h.order h.key g.parts h.parts laid h.laid) ∙ sym h.line_is)
+    carried order seed g.order h.order g.key h.key g.seed h.seed g.asked h.asked (λ (o : Order) (k s : List ℕ). IsLaidOut (maker_of s) o (IsGood k) g.parts) g.answered.laid in
+    g.line_is ∙ (ap (λ (parts : Parts). line (compact parts)) (one_token (maker_of h.seed) h.order h.key g.parts h.parts laid h.answered.laid) ∙ sym h.line_is)
 
 refused : (order seed : List ℕ) (a b : List ℕ) → DoesNotIssue order seed a → DoesNotIssue order seed b → a ≡ b
 refused order seed a b g h =
@@ -48,7 +48,7 @@ printed_not_refused : (order seed : List ℕ) (a b : List ℕ) → Issues order 
 printed_not_refused order seed a b g h =
     let lowest : IsLowest (Applies (maker_of g.seed) g.order (IsGood g.key)) h.error =
     carried order seed h.order g.order h.key g.key h.seed g.seed h.asked g.asked (λ (o : Order) (k s : List ℕ). IsLowest (Applies (maker_of s) o (IsGood k)) h.error) h.lowest in
-    issued_not_refused (maker_of g.seed) g.order g.key g.parts g.passes g.differ g.laid g.short h.error lowest.applies
+    issued_not_refused (maker_of g.seed) g.order g.key g.parts g.answered.passes g.answered.differ g.answered.laid g.answered.short h.error lowest.applies
 
 -- what is asked for is of its form
 asked_not_unreadable : (order_file seed_file : List ℕ) (o : Order) (key seed : List ℕ) (text : List ℕ) → IsAsked order_file seed_file o key seed → HasNoOrder order_file seed_file text → ⊥

@@ -192,7 +192,7 @@ ascii s e = IsUtf8-are_ascii s e
 
 writable : IsWritable order
 writable = record {
-  good = record { is_object = tt; no_reserved = free; shallow = omega arith; decoys_held = λ entry none. absurd none; ordered = claims_ordered; short = search rules };
+  good = record { is_object = tt; no_reserved = free; shallow = omega arith; decoys_held = λ entry none. absurd none; ordered = claims_ordered };
   held = (
     ascii (codes "cnf") refl,
     (ascii (codes "kid") refl, ascii (codes "h") refl, tt),
@@ -273,14 +273,16 @@ issues = record {
   seed = seed;
   asked = all_suits.asked;
   parts = parts;
-  issued = record { payload = payload; given = given; issued = laid_digests_differ seed order payload given digests laid differ writable.good; written = written };
-  laid = record { payload = payload; given = given; digests = digests; laid = laid; written = written };
-  passes = passes;
-  differ = differ;
-  writable = writable;
-  words = words;
-  few = omega arith;
-  short = short;
+  answered = record {
+    issued = record { payload = payload; given = given; issued = laid_digests_differ seed order payload given digests laid differ writable; written = written };
+    laid = record { payload = payload; given = given; digests = digests; laid = laid; written = written };
+    passes = passes;
+    differ = differ;
+    writable = writable;
+    words = words;
+    few = omega arith;
+    short = short;
+  };
   line_is = refl;
 }
 

@@ -19,6 +19,7 @@ mod PresentedShort
 mod KeptClaims
 mod PresentedAccepted
 mod NothingRefused
+mod PresentedValues
 mod PresentedVerified
 mod PresentedRuns
 mod SuitsExample

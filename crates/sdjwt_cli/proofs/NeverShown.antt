@@ -5,6 +5,7 @@ use Rattle.std.specs.List.{AllWithin}
 use Rattle.claim_tree.specs.Lists.{In}
 use Rattle.claim_tree.specs.Path.{LeadsTo}
 use Rattle.marked_tree.specs.Places.{Path}
+use Rattle.selection_core.specs.Consent.{Allows}
 use Rattle.holder_core.proofs.OnePresentation.{IsDecided}
 use Rattle.sdjwt_cli.specs.Never.{MayBeShown, Judges, never_rule}
 
@@ -29,10 +30,13 @@ judged never at true h =
     (λ is. let no = is in cc no, λ free. absurd (free some.0 some.1 some.2))
 judged never at false h = (λ _. all_in (λ front. LeadsTo front at → ⊥) never (λ k d less e. h k e (omega arith) less), λ _. refl)
 
--- the rule has one answer for each place
-pub never_decided : (never : List Path) → IsDecided never_rule never
-never_decided never at allows refuses =
-    let shown : MayBeShown never at = subst (MayBeShown never) allows.shows (allows.says.met.0 refl) in
-    let also : MayBeShown never refuses.shown.now = subst (MayBeShown never) (sym refuses.shows) shown in
+-- the rule does not refuse what may be shown
+pub unrefused : (never : List Path) (at : Path) → MayBeShown never at → Allows never_rule never at false → ⊥
+unrefused never at may refuses =
+    let also : MayBeShown never refuses.shown.now = subst (MayBeShown never) (sym refuses.shows) may in
     let wrong : false ≡ true = refuses.says.met.1 also in
     cc wrong
+
+-- it has one answer for each place
+pub never_decided : (never : List Path) → IsDecided never_rule never
+never_decided never at allows refuses = unrefused never at (subst (MayBeShown never) allows.shows (allows.says.met.0 refl)) refuses

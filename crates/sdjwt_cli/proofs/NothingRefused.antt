@@ -1,4 +1,4 @@
--- Presenting refuses nothing on an issued token, where the policy suits.
+-- Presenting refuses nothing on a text that is read as an issued token, where the policy suits.
 use Rattle.std.proofs.Common.{◌≡◌, ◌≢◌, ℕ, ◌<◌, ◌^◌, true, false, List, length, Option, Some, refl, sym, ap, subst, ◌∙◌, arith}
 use Rattle.claim_tree.specs.Path.{tree_at}
 use Rattle.claim_tree.proofs.Lists.{At-In}
@@ -7,108 +7,101 @@ use Rattle.compact_form.specs.declared.parts.Parts.{Parts}
 use Rattle.compact_form.specs.Compact.{compact}
 use Rattle.disclosure.specs.declared.digests.HashAlg.{HashAlg}
 use Rattle.hmac_sign.specs.Hmac.{IsGood}
+use Rattle.json_form.specs.Token.{IsToken}
 use Rattle.json_form.specs.declared.token.Token.{Token}
+use Rattle.json_form.proofs.Tokens as tokens
 use Rattle.key_binding.specs.Judged.{holder_kid}
 use Rattle.marked_tree.specs.Choice.{chosen}
 use Rattle.marked_tree.specs.Marked.{Marked, strip, prune}
 use Rattle.marked_tree.specs.Places.{Path, place}
 use Rattle.marked_tree.proofs.MarkFacts.{mark_strips_holds}
-use Rattle.selection_core.specs.Consent.{Allows, IsRefusedAt}
+use Rattle.selection_core.specs.Consent.{Answers, IsRefusedAt}
 use Rattle.selection_core.specs.Refusals.{IsMissing}
 use Rattle.issuer_core.specs.Digests.{marked_of}
 use Rattle.issuer_core.specs.Order.{Order}
 use Rattle.issuer_core.specs.Refusals.{NoneApplies}
 use Rattle.issuer_core.specs.Refusals as issuing
+use Rattle.holder_core.specs.declared.ask.Ask.{Ask}
 use Rattle.holder_core.specs.declared.ask.BindingAsk.{BindingAsk}
 use Rattle.holder_core.specs.declared.errors.PresentError.{PresentError}
 use Rattle.holder_core.specs.declared.errors.PresentError.TheVariants.{Memory, Token as OnCondition, HasBinding, NoSuchPlace, ConsentRefused, BindingKeyDiffers, SignFailed, TooLong}
-use Rattle.holder_core.specs.declared.present_file.PresentFile.{PresentFile}
-use Rattle.holder_core.specs.Present.{IsHeld, Presents, NamesKey, IsBoundAs, IsAnswer, Refuses, not_read, refused, no_memory}
+use Rattle.holder_core.specs.Present.{IsHeld, Presents, NamesKey, IsBoundAs, IsAnswer, Refuses, IsPresented, IsNotPresented, not_read, refused, no_memory}
 use Rattle.verifier_core.specs.declared.policy.Policy.{Policy}
-use Rattle.sdjwt_cli.specs.Lines.{line}
-use Rattle.sdjwt_cli.specs.Never.{MayBeShown, never_rule}
-use Rattle.sdjwt_cli.specs.Presenting.{signing_key, IsPresentedFor, IsNotPresentedFor}
-use Rattle.sdjwt_cli.specs.Suits.{Suits, shown_for}
-use Rattle.sdjwt_cli.proofs.CompactLines.{alone}
-use Rattle.sdjwt_cli.proofs.HeldIssued.{IsIssuedBy, issued_token, issued_held, one_issued, one_marked}
+use Rattle.sdjwt_cli.specs.Presented.{alone}
+use Rattle.sdjwt_cli.specs.Suits.{Suits, AreShort, shown_for}
+use Rattle.sdjwt_cli.proofs.HeldIssued.{IsTokenOf, issued_held, one_marked}
 use Rattle.sdjwt_cli.proofs.KeptClaims.{holder_kept}
 use Rattle.sdjwt_cli.proofs.PresentedAccepted.{IsPresentedOf}
-use Rattle.sdjwt_cli.proofs.PresentedShort.{AreShort, answer_short}
+use Rattle.sdjwt_cli.proofs.PresentedShort.{answer_short}
 
-module _ (seed : List ℕ) (o : Order) (key : List ℕ) (parts : Parts) (passes : NoneApplies (issuing.Refuses o)) (is : IsIssuedBy seed o key parts)
-    (said : PresentFile) (small : AreShort said.ask.binding) (now : ℕ) (in_range : now < 2 ^ 64) where
-  abbrev pub text : List ℕ
-  text = line (compact parts)
+module _ (seed : List ℕ) (o : Order) (key : List ℕ) (parts : Parts) (passes : NoneApplies (issuing.Refuses o)) (is : IsTokenOf seed o key parts)
+    {F : Type 0} (answers : Answers F) (rule : F) (ask : Ask) (signing : List ℕ) (small : AreShort ask.binding) (now : ℕ) (in_range : now < 2 ^ 64) (text : List ℕ) (is_text : IsToken text (alone parts)) where
+  one_token : (token : Token) → IsToken text token → token ≡ alone parts
+  one_token token there = tokens.one text token (alone parts) there is_text
 
-  marked_is : (marked : Marked) → IsHeld (alone parts) said.ask marked → marked ≡ marked_of o
+  marked_is : (marked : Marked) → IsHeld (alone parts) ask marked → marked ≡ marked_of o
   marked_is marked held = one_marked seed o key parts is marked held.checked.opens
 
   one_hash : (hash : HashAlg) → hash ≡ HashAlg.Sha256
   one_hash HashAlg.Sha256 = refl
 
   -- what meets the definition of an answer is presented of the issued parts
-  pub answer_presented : (answer : Parts) → IsAnswer never_rule said.never (alone parts) said.ask (IsGood (signing_key said.key)) now answer → IsPresentedOf o said parts now answer
+  pub answer_presented : (answer : Parts) → IsAnswer answers rule (alone parts) ask (IsGood signing) now answer → IsPresentedOf o ask signing parts now answer
   answer_presented answer a =
       let same = marked_is a.marked a.agreed.held in
       record {
-        presents = subst (λ (m : Marked). Presents parts (chosen m said.ask.want) answer.binding answer) same a.presents;
-        names = subst (λ (m : Marked). NamesKey said.ask.binding (strip (prune m (chosen m said.ask.want)))) same a.key;
-        bound = subst (λ (h : HashAlg). IsBoundAs said.ask.binding (IsGood (signing_key said.key)) h now answer) (one_hash a.hash) a.bound;
+        presents = subst (λ (m : Marked). Presents parts (chosen m ask.want) answer.binding answer) same a.presents;
+        names = subst (λ (m : Marked). NamesKey ask.binding (strip (prune m (chosen m ask.want)))) same a.key;
+        bound = subst (λ (h : HashAlg). IsBoundAs ask.binding (IsGood signing) h now answer) (one_hash a.hash) a.bound;
       }
 
-  pub is_presented_of : (answer : Parts) → IsPresentedFor said text now answer → IsPresentedOf o said parts now answer
+  pub is_presented_of : (answer : Parts) → IsPresented answers rule text ask (IsGood signing) now answer → IsPresentedOf o ask signing parts now answer
   is_presented_of answer presented =
       answer_presented answer
-      (subst (λ (t : Token). IsAnswer never_rule said.never t said.ask (IsGood (signing_key said.key)) now answer) (one_issued seed o key parts is presented.token presented.is_token) presented.is_answer)
+      (subst (λ (t : Token). IsAnswer answers rule t ask (IsGood signing) now answer) (one_token presented.token presented.is_token) presented.is_answer)
 
-  module _ (policy : Policy) (later : ℕ) (suits : Suits o key said policy now later) where
-    held : IsHeld (alone parts) said.ask (marked_of o)
-    held = issued_held seed o key parts is said.ask suits.holder_finds
+  module _ (policy : Policy) (later : ℕ) (suits : Suits answers rule o key ask signing policy now later) where
+    held : IsHeld (alone parts) ask (marked_of o)
+    held = issued_held seed o key parts is ask suits.holder_finds
 
-    stripped : (marked : Marked) → IsHeld (alone parts) said.ask marked → strip marked ≡ o.claims
+    stripped : (marked : Marked) → IsHeld (alone parts) ask marked → strip marked ≡ o.claims
     stripped marked there = ap strip (marked_is marked there) ∙ mark_strips_holds o.claims o.hide
 
-    not_missing : (marked : Marked) → IsHeld (alone parts) said.ask marked → (k : ℕ) → IsMissing (strip marked) said.ask.want k → ⊥
-    not_missing marked there k (path, at, none) = suits.there path (At-In said.ask.want k path at) (ap (λ t. tree_at t path) (sym (stripped marked there)) ∙ none)
+    not_missing : (marked : Marked) → IsHeld (alone parts) ask marked → (k : ℕ) → IsMissing (strip marked) ask.want k → ⊥
+    not_missing marked there k (path, at, none) = suits.there path (At-In ask.want k path at) (ap (λ t. tree_at t path) (sym (stripped marked there)) ∙ none)
 
-    not_refused_at : (marked : Marked) → IsHeld (alone parts) said.ask marked → (i : ℕ) → IsRefusedAt never_rule said.never marked (chosen marked said.ask.want) i → ⊥
+    not_refused_at : (marked : Marked) → IsHeld (alone parts) ask marked → (i : ℕ) → IsRefusedAt answers rule marked (chosen marked ask.want) i → ⊥
     not_refused_at marked there i r =
         let same = marked_is marked there in
-        let is_chosen = subst (λ (m : Marked). chosen m said.ask.want i ≡ true) same r.chosen in
+        let is_chosen = subst (λ (m : Marked). chosen m ask.want i ≡ true) same r.chosen in
         let stands = subst (λ (m : Marked). place m i ≡ Some r.at) same r.stands in
-        refused_never r.at (suits.may_be_shown i r.at is_chosen stands) r.refused
-      where
-        refused_never : (at : Path) → MayBeShown said.never at → Allows never_rule said.never at false → ⊥
-        refused_never at may refusal =
-            let also : MayBeShown said.never refusal.shown.now = subst (MayBeShown said.never) (sym refusal.shows) may in
-            let wrong : false ≡ true = refusal.says.met.1 also in
-            cc wrong
+        suits.unrefused i r.at is_chosen stands r.refused
 
-    kid_differs : (asked : Option BindingAsk) (ask : BindingAsk) (marked : Marked) → IsHeld (alone parts) said.ask marked → said.ask.binding ≡ Some ask → holder_kid (strip (prune marked (chosen marked said.ask.want))) ≢ Some ask.kid → ⊥
-    kid_differs asked ask marked there is_asked differs =
+    kid_differs : (one : BindingAsk) (marked : Marked) → IsHeld (alone parts) ask marked → ask.binding ≡ Some one → holder_kid (strip (prune marked (chosen marked ask.want))) ≢ Some one.kid → ⊥
+    kid_differs one marked there is_asked differs =
         let same = marked_is marked there in
-        let kept : holder_kid (shown_for o said.ask.want) ≡ Some ask.kid = holder_kept o passes said.ask.want ∙ suits.named ask is_asked in
-        differs (ap (λ (m : Marked). holder_kid (strip (prune m (chosen m said.ask.want)))) same ∙ kept)
+        let kept : holder_kid (shown_for o ask.want) ≡ Some one.kid = holder_kept o passes ask.want ∙ suits.named one is_asked in
+        differs (ap (λ (m : Marked). holder_kid (strip (prune m (chosen m ask.want)))) same ∙ kept)
 
-    too_long : (answer : Parts) → IsAnswer never_rule said.never (alone parts) said.ask (IsGood (signing_key said.key)) now answer → compact_max < length (compact answer) → ⊥
+    too_long : (answer : Parts) → IsAnswer answers rule (alone parts) ask (IsGood signing) now answer → compact_max < length (compact answer) → ⊥
     too_long answer a long =
         let of = answer_presented answer a in
-        let short = answer_short (signing_key said.key) HashAlg.Sha256 now in_range said.ask.binding small parts answer (chosen (marked_of o) said.ask.want) of.presents of.bound is.short in
+        let short = answer_short signing HashAlg.Sha256 now in_range ask.binding small parts answer (chosen (marked_of o) ask.want) of.presents of.bound is.short in
         omega (arith, short, long)
 
-    refuses_nothing : (error : PresentError) → error ≢ Memory → error ≢ SignFailed → Refuses never_rule said.never (alone parts) said.ask (IsGood (signing_key said.key)) now error → ⊥
+    refuses_nothing : (error : PresentError) → error ≢ Memory → error ≢ SignFailed → Refuses answers rule (alone parts) ask (IsGood signing) now error → ⊥
     refuses_nothing Memory memory signed h = memory refl
     refuses_nothing SignFailed memory signed h = signed refl
     refuses_nothing HasBinding memory signed h = h is.has.written.unbound
     refuses_nothing (OnCondition fault) memory signed h = held.checked.passes h.1.failed fault.place h.1.fails
     refuses_nothing (NoSuchPlace k) memory signed h = not_missing h.marked h.held k h.missing.fails
     refuses_nothing (ConsentRefused i) memory signed h = not_refused_at h.marked h.held i h.refused
-    refuses_nothing BindingKeyDiffers memory signed h = kid_differs said.ask.binding h.binding h.marked h.agreed.held h.asked_for h.differs
+    refuses_nothing BindingKeyDiffers memory signed h = kid_differs h.binding h.marked h.agreed.held h.asked_for h.differs
     refuses_nothing TooLong memory signed h = too_long h.answer h.is_answer h.long
 
-    pub nothing_refused : (error : PresentError) → error ≢ Memory → error ≢ SignFailed → IsNotPresentedFor said text now error → ⊥
+    pub nothing_refused : (error : PresentError) → error ≢ Memory → error ≢ SignFailed → IsNotPresented answers rule text ask (IsGood signing) now error → ⊥
     nothing_refused error memory signed (no_memory e) = memory e
-    nothing_refused error memory signed (not_read fault e h) = (issued_token seed o key parts is).passes fault h.fails
+    nothing_refused error memory signed (not_read fault e h) = is_text.passes fault h.fails
     nothing_refused error memory signed (refused token there h) =
         refuses_nothing error memory signed
-        (subst (λ (t : Token). Refuses never_rule said.never t said.ask (IsGood (signing_key said.key)) now error) (one_issued seed o key parts is token there) h)
+        (subst (λ (t : Token). Refuses answers rule t ask (IsGood signing) now error) (one_token token there) h)

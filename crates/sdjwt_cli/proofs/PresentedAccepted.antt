@@ -1,5 +1,5 @@
 -- What is presented of an issued token is accepted, where the policy suits, with what is asked for of the claims.
-use Rattle.std.proofs.Common.{◌≡◌, ℕ, ◌<◌, ◌^◌, Bool, true, List, length, Option, None, Some, sym, ap, ap₂, subst, ◌∙◌, arith}
+use Rattle.std.proofs.Common.{◌≡◌, ℕ, ◌<◌, ◌^◌, Bool, true, List, length, Option, None, Some, refl, sym, ap, ap₂, subst, ◌∙◌, arith}
 use Rattle.std.specs.Prelude.{option_and_then}
 use Rattle.std.specs.List.{AllZip}
 use Rattle.claim_tree.specs.Tree.{Text, Tree, no_members}
@@ -17,6 +17,7 @@ use Rattle.jws_part.specs.Header.{IsHeader}
 use Rattle.jws_part.specs.Part.{IsBody}
 use Rattle.json_form.specs.Token.{IsToken}
 use Rattle.json_form.specs.declared.token.Token.{Token}
+use Rattle.json_form.proofs.AloneForms.{compact_read}
 use Rattle.json_form.proofs.Tokens as tokens
 use Rattle.key_binding.specs.Binding.{IsBinding, IsReadBack}
 use Rattle.key_binding.specs.Judged.{judged, holder_kid, holder_key}
@@ -27,7 +28,8 @@ use Rattle.marked_tree.specs.Laws.{HasEachMarkOnce}
 use Rattle.marked_tree.proofs.LeastChoice.{chosen_below}
 use Rattle.marked_tree.proofs.MarkFacts.{marks_once_holds}
 use Rattle.rebuild_core.specs.Opening.{processed}
-use Rattle.verifier_core.specs.Verdict.{TokenFails, ClaimFails, HolderFails, Fails, of_file, of_missing, of_token, of_claims, of_holder, rules_of, Opens, HasContent, IsChecked, IsAccepted, IsBindingMissing}
+use Rattle.selection_core.specs.Consent.{Answers}
+use Rattle.verifier_core.specs.Verdict.{TokenFails, ClaimFails, HolderFails, Fails, of_file, of_missing, of_token, of_claims, of_holder, rules_of, Opens, HasContent, IsChecked, IsAcceptedAs, IsBindingMissing}
 use Rattle.verifier_core.specs.declared.policy.Policy.{Policy}
 use Rattle.verifier_core.proofs.CheckSteps.{one_content}
 use Rattle.issuer_core.specs.Digests.{marked_of, hidden_of}
@@ -39,28 +41,28 @@ use Rattle.issuer_core.specs.Seed.{maker_of}
 use Rattle.issuer_core.specs.Written.{header_of}
 use Rattle.issuer_core.proofs.IssuedContent.{IsTextOf}
 use Rattle.issuer_core.proofs.IssuedShown.{issued_is_shown_holds}
+use Rattle.holder_core.specs.declared.ask.Ask.{Ask}
 use Rattle.holder_core.specs.declared.ask.BindingAsk.{BindingAsk}
-use Rattle.holder_core.specs.declared.present_file.PresentFile.{PresentFile}
 use Rattle.holder_core.specs.Present.{picked, Presents, NamesKey, IsBoundBy, IsBoundWith, IsBoundAs}
 use Rattle.holder_core.proofs.PickedNumbers.{numbers, rising, enumerates, is_pick, zip_picked}
 use Rattle.sdjwt_cli.specs.Lines.{line}
-use Rattle.sdjwt_cli.specs.Presenting.{signing_key}
-use Rattle.sdjwt_cli.specs.Suits.{Suits, shown_for}
-use Rattle.sdjwt_cli.proofs.CompactLines.{alone, line_token}
+use Rattle.sdjwt_cli.specs.Presented.{alone}
+use Rattle.sdjwt_cli.specs.Suits.{Suits, AreShort, shown_for}
+use Rattle.sdjwt_cli.proofs.CompactLines.{line_token}
 use Rattle.sdjwt_cli.proofs.CheckedParts.{Takes, CarriesFor, content, checked}
-use Rattle.sdjwt_cli.proofs.HeldIssued.{IsIssuedBy, carries_issued}
-use Rattle.sdjwt_cli.proofs.PresentedShort.{AreShort, answer_words, answer_few, answer_short}
+use Rattle.sdjwt_cli.proofs.HeldIssued.{IsTokenOf, carries_issued}
+use Rattle.sdjwt_cli.proofs.PresentedShort.{answer_words, answer_few, answer_short}
 
 -- the parts are what a holder presents of the issued ones, at a moment
-pub record IsPresentedOf (o : Order) (said : PresentFile) (parts : Parts) (now : ℕ) (answer : Parts) : Type 0 where
-  pub presents : Presents parts (chosen (marked_of o) said.ask.want) answer.binding answer
-  pub names : NamesKey said.ask.binding (shown_for o said.ask.want)
-  pub bound : IsBoundAs said.ask.binding (IsGood (signing_key said.key)) HashAlg.Sha256 now answer
+pub record IsPresentedOf (o : Order) (ask : Ask) (signing : List ℕ) (parts : Parts) (now : ℕ) (answer : Parts) : Type 0 where
+  pub presents : Presents parts (chosen (marked_of o) ask.want) answer.binding answer
+  pub names : NamesKey ask.binding (shown_for o ask.want)
+  pub bound : IsBoundAs ask.binding (IsGood signing) HashAlg.Sha256 now answer
 
-module _ (seed : List ℕ) (o : Order) (key : List ℕ) (parts : Parts) (good : IsGoodOrder o) (is : IsIssuedBy seed o key parts)
-    (said : PresentFile) (small : AreShort said.ask.binding) (now : ℕ) (in_range : now < 2 ^ 64) (answer : Parts) (presented : IsPresentedOf o said parts now answer) where
+module _ (seed : List ℕ) (o : Order) (key : List ℕ) (parts : Parts) (good : IsGoodOrder o) (is : IsTokenOf seed o key parts)
+    (ask : Ask) (signing : List ℕ) (small : AreShort ask.binding) (now : ℕ) (in_range : now < 2 ^ 64) (answer : Parts) (presented : IsPresentedOf o ask signing parts now answer) where
   abbrev pub s : ℕ → Bool
-  s = chosen (marked_of o) said.ask.want
+  s = chosen (marked_of o) ask.want
 
   abbrev pub p : Tree
   p = is.has.payload
@@ -71,12 +73,12 @@ module _ (seed : List ℕ) (o : Order) (key : List ℕ) (parts : Parts) (good : 
   few_chosen : (i : ℕ) → s i ≡ true → i < length g
   few_chosen i there =
       let once : HasEachMarkOnce (marked_of o) (hidden_of o) = marks_once_holds o.claims o.hide in
-      let low = chosen_below (marked_of o) (hidden_of o) once said.ask.want i there in
+      let low = chosen_below (marked_of o) (hidden_of o) once ask.want i there in
       omega (arith, low, is.has.issued.count)
 
-  pub what_is_shown : IsShownAs o said.ask.want p (picked s g)
+  pub what_is_shown : IsShownAs o ask.want p (picked s g)
   what_is_shown =
-      issued_is_shown_holds (maker_of seed) o p g good is.has.issued is.has.readable said.ask.want (numbers s 0 (length g)) (enumerates s (length g) few_chosen) (rising s 0 (length g)) (picked s g) (is_pick s g)
+      issued_is_shown_holds (maker_of seed) o p g good is.has.issued ask.want (numbers s 0 (length g)) (enumerates s (length g) few_chosen) (rising s 0 (length g)) (picked s g) (is_pick s g)
 
   pub carries_answer : CarriesFor o key p (picked s g) answer
   carries_answer =
@@ -93,77 +95,79 @@ module _ (seed : List ℕ) (o : Order) (key : List ℕ) (parts : Parts) (good : 
         texts = subst (λ (ds : List Text). AllZip IsTextOf ds (picked s g)) (sym presented.presents.disclosures) (zip_picked IsTextOf s parts.disclosures g carries.texts);
       }
 
-  pub answer_token : IsToken (line (compact answer)) (alone answer)
-  answer_token =
-      let k = signing_key said.key in
+  -- the line of its compact text is read as its parts, and so is the text itself
+  pub answer_line : IsToken (line (compact answer)) (alone answer)
+  answer_line =
       line_token answer
-      (answer_words k HashAlg.Sha256 now in_range said.ask.binding small parts answer s presented.presents presented.bound is.words)
-      (answer_short k HashAlg.Sha256 now in_range said.ask.binding small parts answer s presented.presents presented.bound is.short)
-      (answer_few k HashAlg.Sha256 now in_range said.ask.binding small parts answer s presented.presents presented.bound is.few)
+      (answer_words signing HashAlg.Sha256 now in_range ask.binding small parts answer s presented.presents presented.bound is.words)
+      (answer_short signing HashAlg.Sha256 now in_range ask.binding small parts answer s presented.presents presented.bound is.short)
+      (answer_few signing HashAlg.Sha256 now in_range ask.binding small parts answer s presented.presents presented.bound is.few)
+
+  pub answer_text : IsToken (compact answer) (alone answer)
+  answer_text = compact_read (line (compact answer)) (alone answer) answer_line refl
 
   answer_content : HasContent (alone answer) p (picked s g)
   answer_content = content o key p (picked s g) answer carries_answer
 
-  one_answer : (token : Token) → IsToken (line (compact answer)) token → token ≡ alone answer
-  one_answer token there = tokens.one (line (compact answer)) token (alone answer) there answer_token
-
-  answer_opens : (marked : Marked) → Opens (alone answer) marked → strip marked ≡ shown_for o said.ask.want
+  answer_opens : (marked : Marked) → Opens (alone answer) marked → strip marked ≡ shown_for o ask.want
   answer_opens marked (q, h, there, e) =
       let same = one_content (alone answer) q p h (picked s g) there answer_content in
       ap strip (e ∙ ap₂ processed same.0 same.1) ∙ what_is_shown.shows
 
-  module _ (policy : Policy) (later : ℕ) (suits : Suits o key said policy now later) where
+  -- of each text that is read as its parts no condition fails
+  module _ {F : Type 0} (answers : Answers F) (rule : F) (policy : Policy) (later : ℕ) (suits : Suits answers rule o key ask signing policy now later) (text : List ℕ) (is_text : IsToken text (alone answer)) where
     takes : Takes o key (rules_of policy)
     takes = record { alg = suits.alg; typ = suits.typ; finds = suits.verifier_finds }
 
     answer_checked : IsChecked (alone answer) (rules_of policy) (processed p (picked s g))
     answer_checked = checked o key p (picked s g) answer carries_answer (rules_of policy) takes what_is_shown.sound
 
+    one_answer : (token : Token) → IsToken text token → token ≡ alone answer
+    one_answer token there = tokens.one text token (alone answer) there is_text
+
     -- a key binding token that the policy asks for is there
-    not_missing : (asked : Option BindingAsk) (binding : Option JwtParts) → IsBoundWith asked (IsGood (signing_key said.key)) HashAlg.Sha256 (hashed answer) now binding → (ask : BindingAsk) → asked ≡ Some ask → binding ≡ None → ⊥
-    not_missing None binding bound ask e none = cc e
-    not_missing (Some a) None bound ask e none = bound
-    not_missing (Some a) (Some token) bound ask e none = cc none
+    not_missing : (asked : Option BindingAsk) (binding : Option JwtParts) → IsBoundWith asked (IsGood signing) HashAlg.Sha256 (hashed answer) now binding → (one : BindingAsk) → asked ≡ Some one → binding ≡ None → ⊥
+    not_missing None binding bound one e none = cc e
+    not_missing (Some a) None bound one e none = bound
+    not_missing (Some a) (Some token) bound one e none = cc none
 
     -- and it is the one that the holder made
-    made_binding : (asked : Option BindingAsk) (binding : Option JwtParts) (ask : BindingAsk) (token : JwtParts) → IsBoundWith asked (IsGood (signing_key said.key)) HashAlg.Sha256 (hashed answer) now binding → asked ≡ Some ask → binding ≡ Some token
-        → IsBoundBy ask (IsGood (signing_key said.key)) HashAlg.Sha256 (hashed answer) now token
-    made_binding None binding ask token bound e f = cc e
-    made_binding (Some a) None ask token bound e f = absurd bound
-    made_binding (Some a) (Some t) ask token bound e f =
-        let asks : a ≡ ask = cc e in
+    made_binding : (asked : Option BindingAsk) (binding : Option JwtParts) (one : BindingAsk) (token : JwtParts) → IsBoundWith asked (IsGood signing) HashAlg.Sha256 (hashed answer) now binding → asked ≡ Some one → binding ≡ Some token
+        → IsBoundBy one (IsGood signing) HashAlg.Sha256 (hashed answer) now token
+    made_binding None binding one token bound e f = cc e
+    made_binding (Some a) None one token bound e f = absurd bound
+    made_binding (Some a) (Some t) one token bound e f =
+        let asks : a ≡ one = cc e in
         let tokens_same : t ≡ token = cc f in
-        subst (λ (x : BindingAsk). IsBoundBy x (IsGood (signing_key said.key)) HashAlg.Sha256 (hashed answer) now token) asks
-        (subst (λ (x : JwtParts). IsBoundBy a (IsGood (signing_key said.key)) HashAlg.Sha256 (hashed answer) now x) tokens_same bound)
+        subst (λ (x : BindingAsk). IsBoundBy x (IsGood signing) HashAlg.Sha256 (hashed answer) now token) asks
+        (subst (λ (x : JwtParts). IsBoundBy a (IsGood signing) HashAlg.Sha256 (hashed answer) now x) tokens_same bound)
 
-    names_ask : (asked : Option BindingAsk) (ask : BindingAsk) → NamesKey asked (shown_for o said.ask.want) → asked ≡ Some ask → holder_kid (shown_for o said.ask.want) ≡ Some ask.kid
-    names_ask None ask names e = cc e
-    names_ask (Some a) ask names e = let same : a ≡ ask = cc e in subst (λ (x : BindingAsk). holder_kid (shown_for o said.ask.want) ≡ Some x.kid) same names
+    names_ask : (asked : Option BindingAsk) (one : BindingAsk) → NamesKey asked (shown_for o ask.want) → asked ≡ Some one → holder_kid (shown_for o ask.want) ≡ Some one.kid
+    names_ask None one names e = cc e
+    names_ask (Some a) one names e = let same : a ≡ one = cc e in subst (λ (x : BindingAsk). holder_kid (shown_for o ask.want) ≡ Some x.kid) same names
 
-    binding_passes : (payload : Tree) → payload ≡ shown_for o said.ask.want → (c : Condition) (place : Place) → HolderFails answer payload HashAlg.Sha256 policy later c place → ⊥
+    binding_passes : (payload : Tree) → payload ≡ shown_for o ask.want → (c : Condition) (place : Place) → HolderFails answer payload HashAlg.Sha256 policy later c place → ⊥
     binding_passes payload shown c place fails =
         let b = fails.binding in
         let suit = suits.bound b fails.asked in
-        let made = made_binding said.ask.binding answer.binding suit.ask fails.token presented.bound suit.asked fails.sent in
-        let signs : signing_key said.key ≡ suit.key = ap signing_key suit.signs in
+        let made = made_binding ask.binding answer.binding suit.ask fails.token presented.bound suit.asked_for fails.sent in
         let j = judged fails.token payload b policy.skew HashAlg.Sha256 (hashed answer) later in
-        let is_binding = subst (λ (k : List ℕ). IsBinding (IsGood k) HashAlg.Sha256 (hashed answer) b.aud b.nonce now fails.token) signs
-        (subst (λ (x : Text). IsBinding (IsGood (signing_key said.key)) HashAlg.Sha256 (hashed answer) b.aud x now fails.token) suit.nonce
-        (subst (λ (x : Text). IsBinding (IsGood (signing_key said.key)) HashAlg.Sha256 (hashed answer) x suit.ask.nonce now fails.token) suit.aud made.is_binding)) in
+        let is_binding = subst (λ (x : Text). IsBinding (IsGood signing) HashAlg.Sha256 (hashed answer) b.aud x now fails.token) suit.nonce
+        (subst (λ (x : Text). IsBinding (IsGood signing) HashAlg.Sha256 (hashed answer) x suit.ask.nonce now fails.token) suit.aud made.is_binding) in
         let read_back = subst (λ (x : Text). IsReadBack HashAlg.Sha256 (hashed answer) b.aud x now fails.token) suit.nonce
         (subst (λ (x : Text). IsReadBack HashAlg.Sha256 (hashed answer) x suit.ask.nonce now fails.token) suit.aud made.read_back) in
-        let kid : holder_kid payload ≡ Some suit.ask.kid = ap holder_kid shown ∙ names_ask said.ask.binding suit.ask presented.names suit.asked in
-        let found : holder_key b.keys payload ≡ Some suit.key = ap (option_and_then (key_named b.keys)) kid ∙ suit.known in
-        accepted suit.key now j is_binding read_back found suit.not_stale suit.not_early c place fails.fails
+        let kid : holder_kid payload ≡ Some suit.ask.kid = ap holder_kid shown ∙ names_ask ask.binding suit.ask presented.names suit.asked_for in
+        let found : holder_key b.keys payload ≡ Some signing = ap (option_and_then (key_named b.keys)) kid ∙ suit.known in
+        accepted signing now j is_binding read_back found suit.not_stale suit.not_early c place fails.fails
 
-    hash_passes : (payload : Tree) (hash : HashAlg) → payload ≡ shown_for o said.ask.want → (c : Condition) (place : Place) → HolderFails answer payload hash policy later c place → ⊥
+    hash_passes : (payload : Tree) (hash : HashAlg) → payload ≡ shown_for o ask.want → (c : Condition) (place : Place) → HolderFails answer payload hash policy later c place → ⊥
     hash_passes payload HashAlg.Sha256 shown c place fails = binding_passes payload shown c place fails
 
     missing_passes : IsBindingMissing policy answer → ⊥
-    missing_passes (binding, asked, none) = let suit = suits.bound binding asked in not_missing said.ask.binding answer.binding presented.bound suit.ask suit.asked none
+    missing_passes (binding, asked, none) = let suit = suits.bound binding asked in not_missing ask.binding answer.binding presented.bound suit.ask suit.asked_for none
 
-    none_fails : NoneFails (Fails (line (compact answer)) policy later)
-    none_fails c place (of_file h) = answer_token.passes (record { number = number_of c; place = place }) h
+    none_fails : NoneFails (Fails text policy later)
+    none_fails c place (of_file h) = is_text.passes (record { number = number_of c; place = place }) h
     none_fails c place (of_missing token there h) = missing_passes (subst (λ (t : Token). IsBindingMissing policy t.parts) (one_answer token there) h.1.1)
     none_fails c place (of_token token there h) = answer_checked.passes c place (subst (λ (t : Token). TokenFails t (rules_of policy) c place) (one_answer token there) h)
     none_fails c place (of_claims token marked there opens h) =
@@ -173,5 +177,9 @@ module _ (seed : List ℕ) (o : Order) (key : List ℕ) (parts : Parts) (good : 
         let shown = answer_opens marked (subst (λ (t : Token). Opens t marked) (one_answer token there) opens) in
         hash_passes (strip marked) hash shown c place (subst (λ (t : Token). HolderFails t.parts (strip marked) hash policy later c place) (one_answer token there) h)
 
-    pub presented_accepted : IsAccepted (line (compact answer)) policy later (processed p (picked s g))
-    presented_accepted = record { passes = none_fails; token = alone answer; is_token = answer_token; opens = answer_checked.opens }
+    pub answer_accepted : IsAcceptedAs text policy later (shown_for o ask.want)
+    answer_accepted = (
+      processed p (picked s g),
+      record { passes = none_fails; token = alone answer; is_token = is_text; opens = answer_checked.opens },
+      sym what_is_shown.shows,
+    )

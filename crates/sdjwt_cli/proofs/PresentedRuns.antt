@@ -10,7 +10,9 @@ use Rattle.sdjwt_cli.specs.Answers.{Verdict, gives, refuses, unreadable, Present
 use Rattle.sdjwt_cli.specs.Command.{Command, issue, present, verify, command_of}
 use Rattle.sdjwt_cli.specs.Issuing.{Issues}
 use Rattle.sdjwt_cli.specs.Lines.{line}
+use Rattle.sdjwt_cli.specs.Never.{never_rule}
 use Rattle.sdjwt_cli.specs.Presented.{AllSuits, OnlyGives, GivesAlone, IsShownWell, PresentedOverFiles, IsRun, Wrote, IsNoRefusal, RunsTo, RunsWell, PresentedOverRuns}
+use Rattle.sdjwt_cli.specs.Presenting.{signing_key}
 use Rattle.sdjwt_cli.specs.Run.{Outside, Ends, IsDone, IsRefused, IsUnreadable}
 use Rattle.sdjwt_cli.specs.Suits.{Suits, shown_for}
 use Rattle.sdjwt_cli.proofs.IssueVerdicts.{same_order, carried}
@@ -21,9 +23,9 @@ use Rattle.sdjwt_cli.proofs.VerifyVerdicts.{one_verify}
 -- ---- over files
 
 module _ (order_file seed_file present_file policy_file : List ℕ) (now later : ℕ) (all : AllSuits order_file seed_file present_file policy_file now later) (token : List ℕ) (issues : Issues order_file seed_file token) where
-  suits : Suits issues.order issues.key all.said all.policy now later
+  suits : Suits never_rule all.said.never issues.order issues.key all.said.ask (signing_key all.said.key) all.policy now later
   suits =
-      carried order_file seed_file all.order issues.order all.key issues.key all.seed issues.seed all.asked issues.asked (λ (p : Order) (k s : List ℕ). Suits p k all.said all.policy now later) all.suits
+      carried order_file seed_file all.order issues.order all.key issues.key all.seed issues.seed all.asked issues.asked (λ (p : Order) (k s : List ℕ). Suits never_rule all.said.never p k all.said.ask (signing_key all.said.key) all.policy now later) all.suits
 
   claims_are : shown_for issues.order all.said.ask.want ≡ shown_for all.order all.said.ask.want
   claims_are = ap (λ (p : Order). shown_for p all.said.ask.want) (sym (same_order order_file seed_file all.order issues.order all.key issues.key all.seed issues.seed all.asked issues.asked))

@@ -19,6 +19,7 @@ use Rattle.key_binding.proofs.Bindings.{object_word, binding_short}
 use Rattle.holder_core.specs.declared.ask.BindingAsk.{BindingAsk}
 use Rattle.holder_core.specs.Present.{picked, Presents, IsBoundWith, IsBoundAs}
 use Rattle.holder_core.proofs.Picking.{picked_words}
+use Rattle.sdjwt_cli.specs.Suits.{AreShort}
 
 -- ---- disclosures that are picked
 
@@ -55,10 +56,6 @@ binding_words key hash text aud nonce now token is = record {
   payload = subst IsWord (sym is.payload) (object_word (claim_members (claims_for hash text aud nonce now)));
   signature = subst IsWord (sym is.signature_text) (IsWord-b64 is.signature (omega (arith, ap length is.signed, length-mac key token.protected token.payload)));
 }
-
--- an audience and a nonce have as many bytes as they may
-abbrev pub AreShort : Option BindingAsk → Type 0
-AreShort asked = IfSome asked (λ ask. (length ask.aud ≤ 256) × (length ask.nonce ≤ 256))
 
 module _ (key : List ℕ) (hash : HashAlg) (text : Text) (now : ℕ) (in_range : now < 2 ^ 64) where
   pub ending_words : (asked : Option BindingAsk) (binding : Option JwtParts) → IsBoundWith asked (IsGood key) hash text now binding → IfSome binding HasWords

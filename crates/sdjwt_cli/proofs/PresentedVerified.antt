@@ -6,30 +6,26 @@ use Rattle.claim_tree.specs.FileForms.{Says, MaySay, found}
 use Rattle.claim_tree.specs.declared.file_fault.Field.TheVariants.{Binding}
 use Rattle.compact_form.specs.declared.parts.Parts.{Parts}
 use Rattle.compact_form.specs.Compact.{compact}
-use Rattle.hmac_sign.specs.Hmac.{IsGood}
+use Rattle.json_form.specs.Token.{IsToken}
 use Rattle.key_binding.specs.ShortText.{IsShortText}
-use Rattle.marked_tree.specs.Choice.{chosen}
-use Rattle.marked_tree.specs.Marked.{Marked, strip}
-use Rattle.rebuild_core.specs.Opening.{processed}
 use Rattle.verifier_core.specs.PolicyFile.{IsPolicyFile}
-use Rattle.verifier_core.specs.Verdict.{IsAccepted}
+use Rattle.verifier_core.specs.Verdict.{IsAcceptedAs}
 use Rattle.verifier_core.specs.declared.policy.Policy.{Policy}
-use Rattle.issuer_core.specs.Digests.{marked_of}
-use Rattle.issuer_core.proofs.IssuedContent.{has_issued}
 use Rattle.holder_core.specs.declared.ask.BindingAsk.{BindingAsk}
 use Rattle.holder_core.specs.declared.present_file.PresentFile.{PresentFile}
-use Rattle.holder_core.specs.Present.{picked}
 use Rattle.holder_core.specs.PresentFile.{IsBindingOrder, both, IsPresentFile}
 use Rattle.holder_core.proofs.PresentFiles.{one_present}
 use Rattle.sdjwt_cli.specs.Issuing.{Issues}
 use Rattle.sdjwt_cli.specs.Lines.{line}
-use Rattle.sdjwt_cli.specs.Presenting.{Presents, DoesNotPresent, IsPresentedFor, IsNotPresentedFor}
-use Rattle.sdjwt_cli.specs.Suits.{Suits, shown_for}
+use Rattle.sdjwt_cli.specs.Never.{never_rule}
+use Rattle.sdjwt_cli.specs.Presented.{alone, IsShownAt}
+use Rattle.sdjwt_cli.specs.Presenting.{signing_key, Presents, DoesNotPresent, IsPresentedFor, IsNotPresentedFor}
+use Rattle.sdjwt_cli.specs.Suits.{Suits, AreShort, shown_for}
 use Rattle.sdjwt_cli.specs.Verify.{Verifies}
-use Rattle.sdjwt_cli.proofs.HeldIssued.{IsIssuedBy}
-use Rattle.sdjwt_cli.proofs.NothingRefused.{is_presented_of, nothing_refused}
-use Rattle.sdjwt_cli.proofs.PresentedAccepted.{what_is_shown, presented_accepted}
-use Rattle.sdjwt_cli.proofs.PresentedShort.{AreShort}
+use Rattle.sdjwt_cli.proofs.HeldIssued.{IsTokenOf, token_of, issued_line}
+use Rattle.sdjwt_cli.proofs.NothingRefused.{is_presented_of}
+use Rattle.sdjwt_cli.proofs.PresentedAccepted.{answer_line}
+use Rattle.sdjwt_cli.proofs.PresentedValues.{presented_over_values}
 
 -- ---- a present order asks for a short audience and a short nonce
 
@@ -52,37 +48,35 @@ asks_short bytes said is = short_by (found is.members Binding) said.ask.binding 
 -- ---- the commands
 
 module _ (order_file seed_file token present_file policy_file : List ℕ) (now later : ℕ) (issued : Issues order_file seed_file token) (said : PresentFile) (is_said : IsPresentFile present_file said)
-    (policy : Policy) (is_policy : IsPolicyFile policy_file policy) (in_range : now < 2 ^ 64) (suits : Suits issued.order issued.key said policy now later) where
-  answered : IsIssuedBy issued.seed issued.order issued.key issued.parts
-  answered = record {
-    has = has_issued issued.seed issued.order (IsGood issued.key) issued.parts issued.writable issued.differ issued.laid;
-    words = issued.words;
-    few = issued.few;
-    short = issued.short;
-  }
+    (policy : Policy) (is_policy : IsPolicyFile policy_file policy) (in_range : now < 2 ^ 64) (suits : Suits never_rule said.never issued.order issued.key said.ask (signing_key said.key) policy now later) where
+  is : IsTokenOf issued.seed issued.order issued.key issued.parts
+  is = token_of issued.seed issued.order issued.key issued.parts issued.answered
+
+  there : IsToken token (alone issued.parts)
+  there = subst (λ (x : List ℕ). IsToken x (alone issued.parts)) (sym issued.line_is) (issued_line issued.seed issued.order issued.key issued.parts is)
+
+  -- what the law over values says of it
+  shown : IsShownAt never_rule said.never token said.ask (signing_key said.key) policy now later (shown_for issued.order said.ask.want)
+  shown =
+      let over_values = presented_over_values never_rule said.never issued.seed issued.order issued.key issued.parts issued.answered said.ask (signing_key said.key) policy now later suits (asks_short present_file said is_said) in_range in
+      over_values.shown token there
 
   pub not_refused : (text : List ℕ) → DoesNotPresent present_file token now text → ⊥
   not_refused text d =
       let same : d.said ≡ said = one_present present_file d.said said d.is_order is_said in
-      let refused = subst (λ (x : List ℕ). IsNotPresentedFor said x now d.error) issued.line_is (subst (λ (x : PresentFile). IsNotPresentedFor x token now d.error) same d.refused) in
-      nothing_refused issued.seed issued.order issued.key issued.parts issued.passes answered said (asks_short present_file said is_said) now in_range policy later suits d.error d.memory d.signed refused
+      shown.presents d.error d.memory d.signed (subst (λ (x : PresentFile). IsNotPresentedFor x token now d.error) same d.refused)
 
   pub verifies : (answer : List ℕ) → Presents present_file token now answer → Verifies policy_file answer later (line (json_text (shown_for issued.order said.ask.want)))
   verifies answer p =
       let same : p.said ≡ said = one_present present_file p.said said p.is_order is_said in
-      let small = asks_short present_file said is_said in
-      let presented = subst (λ (x : List ℕ). IsPresentedFor said x now p.parts) issued.line_is (subst (λ (x : PresentFile). IsPresentedFor x token now p.parts) same p.presented) in
-      let of = is_presented_of issued.seed issued.order issued.key issued.parts issued.passes answered said small now in_range p.parts presented in
-      let accepted = presented_accepted issued.seed issued.order issued.key issued.parts issued.writable.good answered said small now in_range p.parts of policy later suits in
-      let shown = what_is_shown issued.seed issued.order issued.key issued.parts issued.writable.good answered said small now in_range p.parts of in
-      verified p.parts p.line_is (processed answered.has.payload (picked (chosen (marked_of issued.order) said.ask.want) answered.has.given)) accepted shown.shows
+      let presented = subst (λ (x : PresentFile). IsPresentedFor x token now p.parts) same p.presented in
+      verified ((shown.verifies p.parts presented).accepted answer (subst (λ (x : List ℕ). IsToken x (alone p.parts)) (sym p.line_is) (line_read p.parts presented)))
     where
-      verified : (parts : Parts) → answer ≡ line (compact parts) → (marked : Marked) → IsAccepted (line (compact parts)) policy later marked → strip marked ≡ shown_for issued.order said.ask.want
-          → Verifies policy_file answer later (line (json_text (shown_for issued.order said.ask.want)))
-      verified parts is marked accepted shown = record {
-        policy = policy;
-        is_policy = is_policy;
-        marked = marked;
-        accepted = subst (λ (x : List ℕ). IsAccepted x policy later marked) (sym is) accepted;
-        line_is = ap (λ t. line (json_text t)) (sym shown);
-      }
+      line_read : (parts : Parts) → IsPresentedFor said token now parts → IsToken (line (compact parts)) (alone parts)
+      line_read parts presented =
+          let small = asks_short present_file said is_said in
+          answer_line issued.seed issued.order issued.key issued.parts issued.answered.writable.good is said.ask (signing_key said.key) small now in_range parts
+          (is_presented_of issued.seed issued.order issued.key issued.parts issued.answered.passes is never_rule said.never said.ask (signing_key said.key) small now in_range token there parts presented)
+
+      verified : IsAcceptedAs answer policy later (shown_for issued.order said.ask.want) → Verifies policy_file answer later (line (json_text (shown_for issued.order said.ask.want)))
+      verified (marked, accepted, is) = record { policy = policy; is_policy = is_policy; marked = marked; accepted = accepted; line_is = ap (λ t. line (json_text t)) is }

@@ -20,8 +20,9 @@ use Rattle.issuer_core.specs.Digests.{marked_of}
 use Rattle.issuer_core.specs.Order.{Order}
 use Rattle.holder_core.specs.declared.ask.BindingAsk.{BindingAsk}
 use Rattle.holder_core.specs.declared.present_file.PresentFile.{PresentFile}
-use Rattle.sdjwt_cli.specs.Never.{MayBeShown}
+use Rattle.sdjwt_cli.specs.Never.{MayBeShown, never_rule}
 use Rattle.sdjwt_cli.specs.Suits.{Suits, BindingSuits, shown_for}
+use Rattle.sdjwt_cli.proofs.NeverShown.{unrefused}
 
 abbrev pub named : Text → Tree
 named s = leaf (text s)
@@ -118,27 +119,25 @@ given_name at stands front (inl is) (rest, whole) =
 given_name at stands front (inr other) leads = absurd other
 
 -- what is bound is bound as the policy asks for it
-at_work : BindingSuits said asked_binding policy.skew 1000 1300
+at_work : BindingSuits said.ask.binding holder_key asked_binding policy.skew 1000 1300
 at_work = record {
   ask = record { kid = codes "h"; aud = codes "v"; nonce = codes "7" };
-  asked = refl;
+  asked_for = refl;
   aud = refl;
   nonce = refl;
-  key = holder_key;
-  signs = refl;
   known = refl;
   not_stale = omega arith;
   not_early = omega arith;
 }
 
-pub suits : Suits order issuer_key said policy 1000 1300
+pub suits : Suits never_rule said.never order issuer_key said.ask holder_key policy 1000 1300
 suits = record {
   holder_finds = refl;
   verifier_finds = refl;
   alg = inl refl;
   typ = λ name asked. asked;
   there = there;
-  may_be_shown = may_be_shown;
+  unrefused = λ i at is_chosen stands. unrefused said.never at (may_be_shown i at is_chosen stands);
   named = λ ask asked. let same : record { kid = codes "h"; aud = codes "v"; nonce = codes "7" } ≡ ask = cc asked in ap (λ (a : BindingAsk). Some a.kid) same;
   bound = bound;
   claims = claims_hold;
@@ -149,5 +148,5 @@ suits = record {
     may_be_shown (suc zero) at is_chosen stands = given_name at stands
     may_be_shown (suc (suc i)) at is_chosen stands = absurd (let low = chosen_below (marked_of order) 2 (marks_once_holds order.claims order.hide) said.ask.want (suc (suc i)) is_chosen in omega (arith, low))
 
-    bound : (binding : BindingPolicy) → policy.binding ≡ Some binding → BindingSuits said binding policy.skew 1000 1300
-    bound binding asked = let same : asked_binding ≡ binding = cc asked in subst (λ (b : BindingPolicy). BindingSuits said b policy.skew 1000 1300) same at_work
+    bound : (binding : BindingPolicy) → policy.binding ≡ Some binding → BindingSuits said.ask.binding holder_key binding policy.skew 1000 1300
+    bound binding asked = let same : asked_binding ≡ binding = cc asked in subst (λ (b : BindingPolicy). BindingSuits said.ask.binding holder_key b policy.skew 1000 1300) same at_work

@@ -26,13 +26,8 @@ pub record IsAsked (order_file seed_file : List ℕ) (order : Order) (key seed :
   pub enough : seed_len ≤ length seed_file
   pub seed_is : seed ≡ take seed_len seed_file
 
--- the token is issued, none of the refusals applies, and this is the line of its compact text
-pub record Issues (order_file seed_file answer : List ℕ) : Type 0 where
-  pub order : Order
-  pub key : List ℕ
-  pub seed : List ℕ
-  pub asked : IsAsked order_file seed_file order key seed
-  pub parts : Parts
+-- what an issuer with this key answers for an order and a seed: the parts are issued, and none of the refusals applies
+pub record IsIssuedBy (seed : List ℕ) (order : Order) (key : List ℕ) (parts : Parts) : Type 0 where
   pub issued : IsIssued (maker_of seed) order (IsGood key) parts
   pub laid : IsLaidOut (maker_of seed) order (IsGood key) parts
   pub passes : NoneApplies (Refuses order)
@@ -41,6 +36,15 @@ pub record Issues (order_file seed_file answer : List ℕ) : Type 0 where
   pub words : AreWords parts
   pub few : length parts.disclosures ≤ count_max
   pub short : length (compact parts) ≤ issue_max
+
+-- the token is issued, and this is the line of its compact text
+pub record Issues (order_file seed_file answer : List ℕ) : Type 0 where
+  pub order : Order
+  pub key : List ℕ
+  pub seed : List ℕ
+  pub asked : IsAsked order_file seed_file order key seed
+  pub parts : Parts
+  pub answered : IsIssuedBy seed order key parts
   pub line_is : answer ≡ line (compact parts)
 
 -- the lowest refusal that applies, with its line

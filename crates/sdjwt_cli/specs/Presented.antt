@@ -1,20 +1,34 @@
--- What the law of presenting says: `present` and `verify` over what `issue` gives, and over what the one before them gives.
+-- What the laws of presenting say: what a holder presents of an issued token, and what a verifier finds of it; over values, over files,
+-- and over runs.
 use Rattle.std.specs.Prelude.{◌≡◌, ◌≢◌, ℕ, ◌<◌, ◌^◌, List, [], ◌∷◌, ◌++◌, Some}
 use Rattle.std.specs.Io.KnownBytes.{Appends}
 use Rattle.sd_outside.specs.declared.status.Status.{Status}
 use Rattle.claim_tree.specs.JsonText.{json_text}
-use Rattle.claim_tree.specs.Tree.{Tree}
+use Rattle.claim_tree.specs.Tree.{Tree, no_members}
+use Rattle.compact_form.specs.declared.parts.Parts.{Parts}
+use Rattle.compact_form.specs.Compact.{compact}
+use Rattle.hmac_sign.specs.Hmac.{IsGood}
+use Rattle.json_form.specs.Token.{IsToken}
+use Rattle.json_form.specs.declared.token.Token.{Token}
+use Rattle.selection_core.specs.Consent.{Answers}
 use Rattle.verifier_core.specs.PolicyFile.{IsPolicyFile}
+use Rattle.verifier_core.specs.Verdict.{IsAcceptedAs}
 use Rattle.verifier_core.specs.declared.policy.Policy.{Policy}
 use Rattle.issuer_core.specs.Order.{Order}
+use Rattle.holder_core.specs.Present.{IsPresented, IsNotPresented}
 use Rattle.holder_core.specs.PresentFile.{IsPresentFile}
+use Rattle.holder_core.specs.declared.ask.Ask.{Ask}
+use Rattle.holder_core.specs.declared.errors.PresentError.{PresentError}
+use Rattle.holder_core.specs.declared.errors.PresentError.TheVariants.{Memory, SignFailed}
 use Rattle.holder_core.specs.declared.present_file.PresentFile.{PresentFile}
 use Rattle.sdjwt_cli.specs.Answers.{Verdict, gives, IssueAnswers, PresentAnswers, VerifyAnswers, AreTold}
 use Rattle.sdjwt_cli.specs.Command.{Command, issue, present, verify, command_of}
-use Rattle.sdjwt_cli.specs.Issuing.{IsAsked}
+use Rattle.sdjwt_cli.specs.Issuing.{IsAsked, IsIssuedBy}
 use Rattle.sdjwt_cli.specs.Lines.{line}
+use Rattle.sdjwt_cli.specs.Never.{never_rule}
+use Rattle.sdjwt_cli.specs.Presenting.{signing_key}
 use Rattle.sdjwt_cli.specs.Run.{Outside, Ends}
-use Rattle.sdjwt_cli.specs.Suits.{Suits, shown_for}
+use Rattle.sdjwt_cli.specs.Suits.{Suits, AreShort, shown_for}
 
 -- the files of `issue` say an order and its key, the others a present order and a policy, which suits; a moment has 64 bits
 pub record AllSuits (order_file seed_file present_file policy_file : List ℕ) (presented verified : ℕ) : Type 0 where
@@ -27,7 +41,36 @@ pub record AllSuits (order_file seed_file present_file policy_file : List ℕ) (
   pub policy : Policy
   pub is_policy : IsPolicyFile policy_file policy
   pub moment : presented < 2 ^ 64
-  pub suits : Suits order key said policy presented verified
+  pub suits : Suits never_rule said.never order key said.ask (signing_key said.key) policy presented verified
+
+-- ---- over values
+
+-- the token of these parts, with no unprotected header beside them
+abbrev pub alone : Parts → Token
+alone parts = record { parts = parts; outer = no_members }
+
+-- the compact text of what is presented is read as its parts, and each text that is read as them is accepted with these claims
+pub record IsAcceptedWith (answer : Parts) (policy : Policy) (verified : ℕ) (claims : Tree) : Type 0 where
+  pub reads : IsToken (compact answer) (alone answer)
+  pub accepted : (text : List ℕ) → IsToken text (alone answer) → IsAcceptedAs text policy verified claims
+
+-- of a text that is read as the token nothing is refused that is asked for, and whatever is presented is accepted with these claims
+pub record IsShownAt {F : Type 0} (answers : Answers F) (rule : F) (token : List ℕ) (ask : Ask) (signing : List ℕ) (policy : Policy) (presented verified : ℕ) (claims : Tree) : Type 0 where
+  pub presents : (error : PresentError) → error ≢ Memory → error ≢ SignFailed → IsNotPresented answers rule token ask (IsGood signing) presented error → ⊥
+  pub verifies : (answer : Parts) → IsPresented answers rule token ask (IsGood signing) presented answer → IsAcceptedWith answer policy verified claims
+
+-- the compact text of the parts is read as them, and so it is of each text that is
+pub record IsShownOf {F : Type 0} (answers : Answers F) (rule : F) (parts : Parts) (ask : Ask) (signing : List ℕ) (policy : Policy) (presented verified : ℕ) (claims : Tree) : Type 0 where
+  pub reads : IsToken (compact parts) (alone parts)
+  pub shown : (token : List ℕ) → IsToken token (alone parts) → IsShownAt answers rule token ask signing policy presented verified claims
+
+-- with this rule of consent; a moment has 64 bits
+abbrev pub PresentedOverValues : {F : Type 0} → Answers F → F → Type 0
+PresentedOverValues answers rule =
+    (seed : List ℕ) (o : Order) (key : List ℕ) (parts : Parts) → IsIssuedBy seed o key parts
+    → (ask : Ask) (signing : List ℕ) (policy : Policy) (presented verified : ℕ)
+    → Suits answers rule o key ask signing policy presented verified → AreShort ask.binding → presented < 2 ^ 64
+    → IsShownOf answers rule parts ask signing policy presented verified (shown_for o ask.want)
 
 -- ---- over files
 

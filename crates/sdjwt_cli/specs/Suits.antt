@@ -1,5 +1,5 @@
 -- When a policy suits what a holder is asked to present of a token that is issued for an order.
-use Rattle.std.specs.Prelude.{◌≡◌, ◌≢◌, ◌≤◌, ℕ, ◌+◌, true, List, None, Some, codes}
+use Rattle.std.specs.Prelude.{◌≡◌, ◌≢◌, ◌≤◌, ℕ, ◌+◌, true, false, List, length, Option, None, Some, IfSome, codes}
 use Rattle.claim_tree.specs.Tree.{Text, Tree}
 use Rattle.claim_tree.specs.Lists.{In}
 use Rattle.claim_tree.specs.Path.{tree_at}
@@ -10,45 +10,48 @@ use Rattle.key_binding.specs.declared.policy.BindingPolicy.{BindingPolicy}
 use Rattle.marked_tree.specs.Choice.{chosen}
 use Rattle.marked_tree.specs.Marked.{strip, prune}
 use Rattle.marked_tree.specs.Places.{Path, place}
+use Rattle.selection_core.specs.Consent.{Answers, Allows}
 use Rattle.verifier_core.specs.Verdict.{key_for, ClaimFails}
 use Rattle.verifier_core.specs.declared.policy.Policy.{Policy}
 use Rattle.issuer_core.specs.Digests.{marked_of}
 use Rattle.issuer_core.specs.Order.{Order}
+use Rattle.holder_core.specs.declared.ask.Ask.{Ask}
 use Rattle.holder_core.specs.declared.ask.BindingAsk.{BindingAsk}
-use Rattle.holder_core.specs.declared.present_file.PresentFile.{PresentFile}
-use Rattle.sdjwt_cli.specs.Never.{MayBeShown}
 
 -- the claims of the order without the hidden places that lead to none of the wanted ones
 abbrev pub shown_for : Order → List Path → Tree
 shown_for o want = strip (prune (marked_of o) (chosen (marked_of o) want))
 
+-- an audience and a nonce have as many bytes as they may
+abbrev pub AreShort : Option BindingAsk → Type 0
+AreShort asked = IfSome asked (λ ask. (length ask.aud ≤ 256) × (length ask.nonce ≤ 256))
+
 -- the holder is asked for a key binding token for the audience and with the nonce of the policy, signs it with a key that the
 -- policy knows by the same name, and both moments lie within its age, as far as clocks may differ
-pub record BindingSuits (said : PresentFile) (binding : BindingPolicy) (skew presented verified : ℕ) : Type 0 where
+pub record BindingSuits (asked : Option BindingAsk) (signing : List ℕ) (binding : BindingPolicy) (skew presented verified : ℕ) : Type 0 where
   pub ask : BindingAsk
-  pub asked : said.ask.binding ≡ Some ask
+  pub asked_for : asked ≡ Some ask
   pub aud : ask.aud ≡ binding.aud
   pub nonce : ask.nonce ≡ binding.nonce
-  pub key : List ℕ
-  pub signs : said.key ≡ Some key
-  pub known : key_named binding.keys ask.kid ≡ Some key
+  pub known : key_named binding.keys ask.kid ≡ Some signing
   pub not_stale : verified ≤ presented + binding.max_age + skew
   pub not_early : presented ≤ verified + skew
 
--- with the key of the issuer, and the moments of presenting and of verifying, in seconds since 1970
-pub record Suits (o : Order) (key : List ℕ) (said : PresentFile) (policy : Policy) (presented verified : ℕ) : Type 0 where
+-- with a rule of consent, the key of the issuer, that with which the holder signs, and the moments of presenting and of verifying, in
+-- seconds since 1970
+pub record Suits {F : Type 0} (answers : Answers F) (rule : F) (o : Order) (key : List ℕ) (ask : Ask) (signing : List ℕ) (policy : Policy) (presented verified : ℕ) : Type 0 where
   -- holder and verifier find the key of the issuer: by the name that the order gives it, else as their first
-  pub holder_finds : key_for said.ask.keys o.kid ≡ Some key
+  pub holder_finds : key_for ask.keys o.kid ≡ Some key
   pub verifier_finds : key_for policy.keys o.kid ≡ Some key
   -- the verifier takes HS256, and the type of the token where it asks for one
   pub alg : In (codes "HS256") policy.algs
   pub typ : (name : Text) → policy.typ ≡ Some name → o.typ ≡ Some name
-  -- each wanted path is in the payload, and the place of each disclosure that leads to one may be shown
-  pub there : (path : Path) → In path said.ask.want → tree_at o.claims path ≢ None
-  pub may_be_shown : (i : ℕ) (at : Path) → chosen (marked_of o) said.ask.want i ≡ true → place (marked_of o) i ≡ Some at → MayBeShown said.never at
+  -- each wanted path is in the payload, and the rule refuses the place of no disclosure that leads to one
+  pub there : (path : Path) → In path ask.want → tree_at o.claims path ≢ None
+  pub unrefused : (i : ℕ) (at : Path) → chosen (marked_of o) ask.want i ≡ true → place (marked_of o) i ≡ Some at → Allows answers rule at false → ⊥
   -- where the holder is asked for a key binding token, the payload names its key (RFC 7800 section 3.4)
-  pub named : (ask : BindingAsk) → said.ask.binding ≡ Some ask → holder_kid o.claims ≡ Some ask.kid
+  pub named : (binding : BindingAsk) → ask.binding ≡ Some binding → holder_kid o.claims ≡ Some binding.kid
   -- where the verifier asks for a key binding token, so is the holder
-  pub bound : (binding : BindingPolicy) → policy.binding ≡ Some binding → BindingSuits said binding policy.skew presented verified
+  pub bound : (binding : BindingPolicy) → policy.binding ≡ Some binding → BindingSuits ask.binding signing binding policy.skew presented verified
   -- what is shown has the claims that the verifier wants, and its times hold
-  pub claims : NoneFails (ClaimFails (shown_for o said.ask.want) policy verified)
+  pub claims : NoneFails (ClaimFails (shown_for o ask.want) policy verified)

@@ -9,7 +9,9 @@ ghost use Rattle.sdjwt_cli.specs.Answers.{Verdict, gives, Answers, AreTold};
 ghost use Rattle.sdjwt_cli.specs.declared.form.Form.{Form};
 ghost use Rattle.sdjwt_cli.specs.Converting.{HasRoom, Converts};
 ghost use Rattle.sdjwt_cli.specs.Run.{Outside, Ends};
-ghost use Rattle.sdjwt_cli.specs.Presented.{PresentedOverFiles, PresentedOverRuns};
+ghost use Rattle.sdjwt_cli.specs.Presented.{PresentedOverValues, PresentedOverFiles, PresentedOverRuns};
+
+use claim_tree::Path;
 
 /// Each file of a command is named by its word, counted behind the command from 0.
 pub fn files_are_words()
@@ -36,9 +38,15 @@ pub fn converted_again()
     ensures { (form : Form) (file answer : List ℕ) (read : Converts form file answer) → HasRoom form read.token → Converts form answer answer }
 {}
 
-/// What is presented of an issued token, where the policy suits, is accepted with what was asked for: over the line that `issue` gives,
-/// `present` refuses nothing, and whatever it gives, `verify` prints the claims without the hidden places that lead to none of
-/// the wanted ones, and does nothing else.
+/// What is presented of an issued token, where the policy suits, is accepted with what was asked for: of each text that is read as
+/// what `issue` gives for an order, a holder with this rule of consent refuses nothing, and each text that is read as what it
+/// presents has the verdict acceptance with the claims without the hidden places that lead to none of the wanted ones.
+pub fn presented_values<F: Fn(&Path) -> bool>()
+    ensures { (rule : F) → PresentedOverValues F.Fn rule }
+{}
+
+/// The same over files and over runs: over the line that `issue` gives, `present` refuses nothing, and whatever it gives, `verify`
+/// prints these claims, and does nothing else.
 pub fn presented()
     ensures over_files { PresentedOverFiles }
     ensures over_runs { PresentedOverRuns }

@@ -28,14 +28,16 @@ returns-in_ok-as_line-in-Ok-issue_owned-clause-issues c =
       seed = c.in-Some.seed.now;
       asked = is_asked c.args.order_file.now c.args.seed_file.now c.in-Some.seed.now said c.in-Ok.ensures.ok c.in-Some.ensures.cases;
       parts = c.in-Ok-issue_owned.parts;
-      issued = c.in-Ok-issue_owned.ensures.issued;
-      laid = c.in-Ok-issue_owned.ensures.laid;
-      passes = c.in-Ok-issue_owned.ensures.passes;
-      differ = c.in-Ok-issue_owned.ensures.differ;
-      writable = c.in-Ok-issue_owned.ensures.writable;
-      words = c.in-Ok-issue_owned.ensures.words;
-      few = c.in-Ok-issue_owned.ensures.few;
-      short = c.in-Ok-issue_owned.ensures.short;
+      answered = record {
+        issued = c.in-Ok-issue_owned.ensures.issued;
+        laid = c.in-Ok-issue_owned.ensures.laid;
+        passes = c.in-Ok-issue_owned.ensures.passes;
+        differ = c.in-Ok-issue_owned.ensures.differ;
+        writable = c.in-Ok-issue_owned.ensures.writable;
+        words = c.in-Ok-issue_owned.ensures.words;
+        few = c.in-Ok-issue_owned.ensures.few;
+        short = c.in-Ok-issue_owned.ensures.short;
+      };
       line_is = c.in_ok-as_line-in-Ok-issue_owned.ensures ∙ ap line c.in_ok-print-in-Ok-issue_owned.ensures.spelling;
     }
 
