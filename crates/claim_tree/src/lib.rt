@@ -14,13 +14,9 @@ mod inside;
 pub mod laws;
 mod path;
 mod pointer;
-#[cfg(test)]
-mod pointer_tests;
 mod text;
 mod tokens;
 mod tree;
-#[cfg(test)]
-mod tree_tests;
 
 pub use copies::{copy, copy_members};
 pub use depths::depth;

@@ -6,7 +6,7 @@ use Rattle.std.proofs.lemmas.Bool.{le-ltb}
 use Rattle.std.proofs.lemmas.List.{take_more}
 use Rattle.std.proofs.lemmas.Option.{slice_get_within, get_or_from_slice_get}
 use Rattle.b64url_text.specs.Base64url.{letters, is_letter}
-use Rattle.compact_form.specs.declared.limits.TheConstants.{FILE_MAX, COMPACT_MAX, COUNT_MAX}
+use Rattle.sd_outside.specs.Limits.{file_max, compact_max, count_max}
 use Rattle.compact_form.specs.declared.parts.Parts.{Parts}
 use Rattle.compact_form.specs.Compact.{jwt, spelled, hashed, ending, compact, AreWords, IsCompact, IsRefusedAt, IsUpToLastTilde}
 use Rattle.compact_form.specs.Trim.{is_blank, trimmed}
@@ -75,13 +75,13 @@ no_blank b h = rw (other_byte b 32 h refl, other_byte b 9 h refl, other_byte b 1
 neither : (a b c : Bool) → a ≡ false → c ≡ false → (a || (b && c)) ≡ false
 neither a b c h k = rw (h, k) (and-false b)
 
-short : (text : List ℕ) → trimmed text ≡ text → length text ≤ COMPACT_MAX → is_too_long text ≡ false
+short : (text : List ℕ) → trimmed text ≡ text → length text ≤ compact_max → is_too_long text ≡ false
 short text bare small =
-    neither (nat_lt FILE_MAX (length text)) (not (is_json (trimmed text))) (nat_lt COMPACT_MAX (length (trimmed text)))
-    (le-ltb FILE_MAX (length text) (omega arith))
-    (le-ltb COMPACT_MAX (length (trimmed text)) (omega (arith, ap length bare)))
+    neither (nat_lt file_max (length text)) (not (is_json (trimmed text))) (nat_lt compact_max (length (trimmed text)))
+    (le-ltb file_max (length text) (omega arith))
+    (le-ltb compact_max (length (trimmed text)) (omega (arith, ap length bare)))
 
-pub reads_printed : (parts : Parts) → AreWords parts → length (compact parts) ≤ COMPACT_MAX → length parts.disclosures ≤ COUNT_MAX → Reads (compact parts) parts
+pub reads_printed : (parts : Parts) → AreWords parts → length (compact parts) ≤ compact_max → length parts.disclosures ≤ count_max → Reads (compact parts) parts
 reads_printed parts words small few =
     let text = compact parts in
     let bare : trimmed text ≡ text = trimmed_bare text (none_in_compact is_blank no_blank refl refl parts words) in

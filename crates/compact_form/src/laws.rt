@@ -1,7 +1,7 @@
 //! What the definitions of the compact form say together. Each law holds for every value.
 ghost use Rattle.std.specs.Prelude.{◌≡◌, ◌≤◌, ℕ, List, Some, length};
 ghost use Rattle.compact_form.specs.declared.fault.Fault.{Fault};
-ghost use Rattle.compact_form.specs.declared.limits.TheConstants.{COMPACT_MAX, COUNT_MAX};
+ghost use Rattle.sd_outside.specs.Limits.{compact_max, count_max};
 ghost use Rattle.compact_form.specs.declared.parts.Parts.{Parts};
 ghost use Rattle.compact_form.specs.Compact.{compact, hashed, AreWords, IsCompact, IsRefusedAt, IsStop, IsUpToLastTilde};
 ghost use Rattle.compact_form.specs.Condition.{Condition, number_of, condition_of};
@@ -21,8 +21,8 @@ pub fn printed_is_parsed()
 
 /// What is printed of parts, within the limits, is read from a file as the same parts.
 pub fn printed_is_read()
-    ensures { (parts : Parts) → AreWords parts → length (compact parts) ≤ COMPACT_MAX
-        → length parts.disclosures ≤ COUNT_MAX → Reads (compact parts) parts }
+    ensures { (parts : Parts) → AreWords parts → length (compact parts) ≤ compact_max
+        → length parts.disclosures ≤ count_max → Reads (compact parts) parts }
 {}
 
 /// What a key binding token hashes is the compact text up to and with its last tilde.

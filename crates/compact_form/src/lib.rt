@@ -18,8 +18,6 @@ mod limits;
 mod parts;
 mod reader;
 mod spelling;
-#[cfg(test)]
-mod tests;
 mod token;
 mod view;
 

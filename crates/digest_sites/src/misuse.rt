@@ -1,6 +1,5 @@
 // Whether a tree misuses a reserved name.
-ghost use Rattle.std.specs.Prelude.{◌≡◌, ◌≤◌};
-ghost use Rattle.claim_tree.specs.Tree.{depth, elements_depth, members_depth};
+ghost use Rattle.std.specs.Prelude.{◌≡◌};
 ghost use Rattle.claim_tree.specs.View.{tree_of};
 ghost use Rattle.digest_sites.specs.Reserved.{misuses, elements_misuse, members_misuse};
 
@@ -11,7 +10,6 @@ use claim_tree::{Tree, TreeList, TreeMap};
 /// with a digest. It takes no memory.
 #[cycle(misuse)]
 pub fn is_misused(tree: &Tree) -> bool
-    requires { depth (tree_of tree.now) ≤ 127 }
     ensures { result ≡ misuses (tree_of tree.now) }
 {
     match tree {
@@ -23,7 +21,6 @@ pub fn is_misused(tree: &Tree) -> bool
 
 #[cycle(misuse)]
 fn has_misused_element(trees: &TreeList) -> bool
-    requires { elements_depth trees.now ≤ 126 }
     ensures { result ≡ elements_misuse trees.now }
 {
     for tree in trees.trees() {
@@ -36,7 +33,6 @@ fn has_misused_element(trees: &TreeList) -> bool
 
 #[cycle(misuse)]
 fn has_misused_member(trees: &TreeMap) -> bool
-    requires { members_depth trees.now ≤ 126 }
     ensures { result ≡ members_misuse trees.now }
 {
     for (name, tree) in trees.members() {

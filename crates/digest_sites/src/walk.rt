@@ -1,7 +1,6 @@
 // The sites of a tree, in their order.
-ghost use Rattle.std.specs.Prelude.{◌≡◌, ◌≤◌, [], ◌∷◌, ◌++◌, map, false, Some, IsSome, IfOk, IfErr, OnOk};
+ghost use Rattle.std.specs.Prelude.{◌≡◌, [], ◌∷◌, ◌++◌, map, false, Some, IsSome, IfOk, IfErr, OnOk};
 ghost use Rattle.std.specs.Fmt.{decimal};
-ghost use Rattle.claim_tree.specs.Tree.{depth, elements_depth, members_depth};
 ghost use Rattle.claim_tree.specs.View.{tree_of};
 ghost use Rattle.digest_sites.specs.Reserved.{misuses, texts_of, texts_or_none, element_digest as digest_in};
 ghost use Rattle.digest_sites.specs.Sites.{sites as sites_of, listed, IsSiteRefusal};
@@ -38,7 +37,6 @@ impl From<NoMemory> for SiteError {
 /// order; of an array those of its elements in order, where an element with a digest is one site.
 #[tactic(auto, using(crate::proofs::Moved::listed_sites))]
 pub fn sites(alloc: Global, tree: &Tree) -> Result<SiteList, SiteError>
-    requires { depth (tree_of tree.now) ≤ 127 }
     ensures ok { IfOk result (λ list. list ≡ map listed (sites_of (tree_of tree.now))) }
     ensures well { IfOk result (λ _. misuses (tree_of tree.now) ≡ false) }
     ensures refused { IfErr result (IsSiteRefusal (tree_of tree.now)) }
@@ -53,7 +51,6 @@ pub fn sites(alloc: Global, tree: &Tree) -> Result<SiteList, SiteError>
 
 #[cycle(walk)]
 fn walk(alloc: Global, tree: &Tree, at: &mut Path, found: &mut SiteList) -> Result<(), NoMemory>
-    requires { depth (tree_of tree.now) ≤ 127 }
     ensures found { OnOk result (found.new ≡ found.old ++ sites_at at.old (tree_of tree.now)) }
     ensures at { OnOk result (at.new ≡ at.old) }
 {
@@ -74,7 +71,6 @@ fn walk_elements(
     at: &mut Path,
     found: &mut SiteList,
 ) -> Result<(), NoMemory>
-    requires { elements_depth trees.now ≤ 126 }
     ensures found { OnOk result (found.new ≡ found.old ++ elements_sites at.old 0 trees.now) }
     ensures at { OnOk result (at.new ≡ at.old) }
 {
@@ -94,7 +90,6 @@ fn walk_element(
     at: &mut Path,
     found: &mut SiteList,
 ) -> Result<(), NoMemory>
-    requires { depth (tree_of tree.now) ≤ 127 }
     ensures found { OnOk result (found.new ≡ found.old ++ element_sites (at.old ++ step ∷ []) (digest_in (tree_of tree.now)) (sites_at (at.old ++ step ∷ []) (tree_of tree.now))) }
     ensures at { OnOk result (at.new ≡ at.old) }
 {
@@ -111,7 +106,6 @@ fn walk_members(
     at: &mut Path,
     found: &mut SiteList,
 ) -> Result<(), NoMemory>
-    requires { members_depth trees.now ≤ 126 }
     ensures found { OnOk result (found.new ≡ found.old ++ members_sites at.old trees.now) }
     ensures at { OnOk result (at.new ≡ at.old) }
 {
@@ -133,7 +127,6 @@ fn walk_inside(
     at: &mut Path,
     found: &mut SiteList,
 ) -> Result<(), NoMemory>
-    requires { depth (tree_of tree.now) ≤ 127 }
     ensures found { OnOk result (found.new ≡ found.old ++ sites_at (at.old ++ step ∷ []) (tree_of tree.now)) }
     ensures at { OnOk result (at.new ≡ at.old) }
 {

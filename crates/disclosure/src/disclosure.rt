@@ -70,6 +70,12 @@ pub fn read_disclosure(alloc: Global, text: &str) -> Result<Disclosure, Disclosu
     ensures ranged { IfOk result (λ d. IsRanged (tree_of d.value)) }
     ensures ordered { IfOk result (λ d. IsOrdered (tree_of d.value)) }
     ensures depth { IfOk result (λ d. depth (tree_of d.value) ≤ 126) }
+
+    // the salt
+    ensures salt_ranged { IfOk result (λ d. IsRanged (tree_of d.salt)) }
+    ensures salt_ordered { IfOk result (λ d. IsOrdered (tree_of d.salt)) }
+    ensures salt_depth { IfOk result (λ d. depth (tree_of d.salt) ≤ 126) }
+
     ensures refused { IfErr result (IsRefused text.now) }
 {
     let json = decode(alloc, text.as_bytes())?;

@@ -8,8 +8,6 @@ mod digests;
 mod disclosure;
 mod errors;
 pub mod laws;
-#[cfg(test)]
-mod tests;
 
 pub use digests::{HashAlg, digest, hash_named, payload_hash};
 pub use disclosure::{Disclosure, make, make_owned, read_disclosure};

@@ -1,5 +1,6 @@
 -- Key sets (RFC 7517 section 5): an object whose `keys` is an array of keys.
 use Rattle.std.specs.Prelude.{◌≡◌, ℕ, ◌<◌, ◌≤◌, List, [], ◌∷◌, ◌++◌, Option, Some, None, Bool, true, false, ◌&&◌, length, codes, is_some, option_and_then, if◌then◌else◌}
+use Rattle.sd_outside.specs.Limits.{key_min}
 use Rattle.b64url_text.specs.Base64url.{Decodes, IsNoCode}
 use Rattle.claim_tree.specs.Tree.{Text, Tree, array, Elements, no_elements, element, element_at, get, text_of, has_text}
 use Rattle.hmac_sign.specs.Hmac.{key_block}
@@ -56,7 +57,7 @@ pub record HasNoCode (t : Tree) : Type 0 where
 pub record IsShort (t : Tree) : Type 0 where
   pub bytes : List ℕ
   pub is : IsOct t bytes
-  pub short : length bytes < 32
+  pub short : length bytes < key_min
 
 -- none of the first elements is such
 abbrev pub NoneBefore : (Tree → Type 0) → Elements → ℕ → Type 0
@@ -73,12 +74,12 @@ pub record IsFirst (P : Tree → Type 0) (es : Elements) (place : ℕ) : Type 0 
 pub data KeysOf : Elements → List NamedKey → Type 0 where
   no_keys : KeysOf no_elements []
   other : (t : Tree) (es : Elements) (keys : List NamedKey) → oct_code t ≡ None → KeysOf es keys → KeysOf (element t es) keys
-  key : (t : Tree) (es : Elements) (named : NamedKey) (keys : List NamedKey) (bytes : List ℕ) → IsOct t bytes → 32 ≤ length bytes → named.key ≡ key_block bytes → named.kid ≡ text_under t (codes "kid") → KeysOf es keys → KeysOf (element t es) (named ∷ keys)
+  key : (t : Tree) (es : Elements) (named : NamedKey) (keys : List NamedKey) (bytes : List ℕ) → IsOct t bytes → key_min ≤ length bytes → named.key ≡ key_block bytes → named.kid ≡ text_under t (codes "kid") → KeysOf es keys → KeysOf (element t es) (named ∷ keys)
 
 -- what one element adds to the keys; only private functions cite this
 pub data IsAdded (t : Tree) (old new : List NamedKey) : Type 0 where
   added_none : oct_code t ≡ None → new ≡ old → IsAdded t old new
-  added_key : (named : NamedKey) (bytes : List ℕ) → IsOct t bytes → 32 ≤ length bytes → named.key ≡ key_block bytes → named.kid ≡ text_under t (codes "kid") → new ≡ old ++ named ∷ [] → IsAdded t old new
+  added_key : (named : NamedKey) (bytes : List ℕ) → IsOct t bytes → key_min ≤ length bytes → named.key ≡ key_block bytes → named.kid ≡ text_under t (codes "kid") → new ≡ old ++ named ∷ [] → IsAdded t old new
 
 -- the refusals of the codes alone, and of the lengths alone; only private functions cite these
 abbrev pub IsOfCodes : KeySetError → Type 0

@@ -1,4 +1,5 @@
 ghost use Rattle.std.specs.Prelude.{◌≡◌, ◌<◌, ◌≤◌, ◌↔◌, length, IfOk, IfErr, IsTrue};
+ghost use Rattle.sd_outside.specs.Limits.{key_min};
 ghost use Rattle.hmac_sign.specs.Hmac.{key_block as block_of, mac as mac_of, IsGood, IsGoodText};
 
 use crate::hmac::{BLOCK, are_equal, inner_hash, key_block, outer_hash};
@@ -34,8 +35,8 @@ impl Hs256Key {
     /// The key of these bytes.
     pub fn new(key: &[u8]) -> Result<Hs256Key, KeyShort>
         ensures ok { IfOk result (λ made. made ≡ block_of key.now) }
-        ensures enough { IfOk result (λ _. 32 ≤ length key.now) }
-        ensures short { IfErr result (λ _. length key.now < 32) }
+        ensures enough { IfOk result (λ _. key_min ≤ length key.now) }
+        ensures short { IfErr result (λ _. length key.now < key_min) }
     {
         if key.len() < KEY_MIN {
             return Err(KeyShort);

@@ -1,5 +1,6 @@
 // The elements of a key set.
 ghost use Rattle.std.specs.Prelude.{◌≡◌, None, length, codes, IfOk, IfErr, OnOk, IsErrOf, IfSome, ℕ, ◌≤◌, ◌<◌, option_map};
+ghost use Rattle.sd_outside.specs.Limits.{key_min};
 ghost use Rattle.claim_tree.specs.Tree.{get as get_of};
 ghost use Rattle.claim_tree.specs.View.{tree_of, elements_of};
 ghost use Rattle.hmac_sign.specs.Keys as spec;
@@ -121,8 +122,8 @@ fn named_key(
 ) -> Result<NamedKey, KeySetError>
     ensures key { IfOk result (λ named. named.key ≡ key_block bytes.now) }
     ensures kid { IfOk result (λ named. named.kid ≡ spec.text_under (tree_of tree.now) (codes "kid")) }
-    ensures enough { IfOk result (λ _. 32 ≤ length bytes.now) }
-    ensures short { (at : ℕ) → IsErrOf result (KeySetError.KeyShort at) → (at ≡ place) × (length bytes.now < 32) }
+    ensures enough { IfOk result (λ _. key_min ≤ length bytes.now) }
+    ensures short { (at : ℕ) → IsErrOf result (KeySetError.KeyShort at) → (at ≡ place) × (length bytes.now < key_min) }
     ensures no_other { IfErr result IsOfLengths }
 {
     let Ok(key) = Hs256Key::new(bytes) else {

@@ -6,7 +6,7 @@ use Rattle.claim_tree.specs.Lists.{IsLeast, Nowhere}
 use Rattle.compact_form.specs.Compact.{compact, hashed}
 use Rattle.compact_form.specs.Lowest.{IsLowest}
 use Rattle.compact_form.specs.declared.fault.Fault.{Fault}
-use Rattle.compact_form.specs.declared.limits.TheConstants.{COMPACT_MAX}
+use Rattle.sd_outside.specs.Limits.{compact_max}
 use Rattle.compact_form.specs.declared.parts.JwtParts.{JwtParts}
 use Rattle.compact_form.specs.declared.parts.Parts.{Parts}
 use Rattle.disclosure.specs.declared.digests.HashAlg.{HashAlg}
@@ -121,7 +121,7 @@ module _ {F : Type 0} (answers : Answers F) (rule : F) (decided : IsDecided answ
       h.differs (subst (λ (b : Option BindingAsk). NamesKey b (shown h.marked (chosen h.marked ask.want))) h.asked_for there)
 
   -- a token that is presented is not refused
-  pub answered_not_refused : (a : Parts) (e : PresentError) → IsAnswer answers rule token ask good now a → length (compact a) ≤ COMPACT_MAX → Refuses answers rule token ask good now e → (e ≡ Memory) ⊎ (e ≡ SignFailed)
+  pub answered_not_refused : (a : Parts) (e : PresentError) → IsAnswer answers rule token ask good now a → length (compact a) ≤ compact_max → Refuses answers rule token ask good now e → (e ≡ Memory) ⊎ (e ≡ SignFailed)
   answered_not_refused a Memory h short r = inl refl
   answered_not_refused a SignFailed h short r = inr refl
   answered_not_refused a HasBinding h short r = absurd (r h.agreed.held.unbound)
@@ -131,7 +131,7 @@ module _ {F : Type 0} (answers : Answers F) (rule : F) (decided : IsDecided answ
   answered_not_refused a BindingKeyDiffers h short r = absurd (no_other h.marked r h.agreed.held h.key)
   answered_not_refused a TooLong h short r =
       let same : r.answer ≡ a = one_answer r.answer a r.is_answer h in
-      let long = subst (λ (x : Parts). COMPACT_MAX < length (compact x)) same r.long in
+      let long = subst (λ (x : Parts). compact_max < length (compact x)) same r.long in
       absurd (omega (arith, short, long))
 
   -- a token is refused for one cause, beside want of memory and a signer that fails
@@ -199,7 +199,7 @@ module _ {F : Type 0} (answers : Answers F) (rule : F) (decided : IsDecided answ
       (subst (λ (t : Token). IsAnswer answers rule t ask good now a) (tokens.one content h.token k.token h.is_token k.is_token) h.is_answer)
       k.is_answer
 
-  pub presented_not_refused : (a : Parts) (e : PresentError) → IsPresented answers rule content ask good now a → length (compact a) ≤ COMPACT_MAX → IsNotPresented answers rule content ask good now e → (e ≡ Memory) ⊎ (e ≡ SignFailed)
+  pub presented_not_refused : (a : Parts) (e : PresentError) → IsPresented answers rule content ask good now a → length (compact a) ≤ compact_max → IsNotPresented answers rule content ask good now e → (e ≡ Memory) ⊎ (e ≡ SignFailed)
   presented_not_refused a e h short (no_memory is) = inl is
   presented_not_refused a e h short (not_read fault is r) = absurd (tokens.not_both content h.token fault h.is_token r)
   presented_not_refused a e h short (refused token is r) =

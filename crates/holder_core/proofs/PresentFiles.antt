@@ -1,7 +1,7 @@
 -- A file says one present order, or is refused.
 use Rattle.std.proofs.Common.{◌≡◌, ◌≢◌, ℕ, List, [], Option, Some, None, refl, sym, ap, subst, ◌∙◌, codes}
 use Rattle.std.specs.Prelude.{is_some}
-use Rattle.compact_form.specs.declared.limits.TheConstants.{FILE_MAX}
+use Rattle.sd_outside.specs.Limits.{file_max}
 use Rattle.claim_tree.specs.Tree.{Text, object, member_named}
 use Rattle.claim_tree.specs.FileForms.{IsText, Says, MaySay, SaysOr, found}
 use Rattle.claim_tree.specs.declared.file_fault.Field.TheVariants.{Keys, Want, Never, Binding}
@@ -63,7 +63,7 @@ made keys want binding never key = record { ask = record { keys = keys; want = w
 pub one_present : (bytes : Text) (p q : PresentFile) → IsPresentFile bytes p → IsPresentFile bytes q → p ≡ q
 unfolding made
 one_present bytes p q h k =
-    let same : h.members ≡ k.members = verdicts.one_object FILE_MAX bytes h.members k.members h.file.object k.file.object in
+    let same : h.members ≡ k.members = verdicts.one_object file_max bytes h.members k.members h.file.object k.file.object in
     let ms = k.members in
     let keys : p.ask.keys ≡ q.ask.keys = verdicts.says_one IsKeySet (found ms Keys) p.ask.keys q.ask.keys one_key_set (subst (λ ns. Says IsKeySet (found ns Keys) p.ask.keys) same h.keys) k.keys in
     let want : p.ask.want ≡ q.ask.want = verdicts.says_or_one (IsListOf IsPointer) [] (found ms Want) p.ask.want q.ask.want (one_list IsPointer one_pointer) (subst (λ ns. SaysOr (IsListOf IsPointer) [] (found ns Want) p.ask.want) same h.want) k.want in
@@ -85,7 +85,7 @@ not_both bytes said fault says refused =
     let want = says_or_meets (IsListOf IsPointer) [] Want ms said.ask.want says.want in
     let never = says_or_meets (IsListOf IsPointer) [] Never ms said.never says.never in
     let binding = may_say_meets IsBindingOrder Binding ms (both said.ask.binding said.key) says.binding in
-    verdicts.not_refused FILE_MAX present_table bytes ms fault says.file (keys, (want, (never, (binding, tt)))) refused
+    verdicts.not_refused file_max present_table bytes ms fault says.file (keys, (want, (never, (binding, tt)))) refused
 
 pub one_fault : (bytes : Text) (fault other : FileFault) → IsPresentRefused bytes fault → IsPresentRefused bytes other → fault ≢ FileFault.Memory → other ≢ FileFault.Memory → fault ≡ other
-one_fault bytes fault other h k = verdicts.one_fault FILE_MAX present_table bytes fault other h k
+one_fault bytes fault other h k = verdicts.one_fault file_max present_table bytes fault other h k

@@ -3,28 +3,31 @@ use Rattle.std.proofs.Common.{◌≡◌, ◌≢◌, inl, inr, ℕ, Bool, true, f
 use Rattle.std.specs.List.{AllByRecursion}
 use Rattle.std.specs.Option.{option_map, is_some}
 use Rattle.b64url_text.specs.Base64url.{IsWord}
-use Rattle.claim_tree.specs.Tree.{Tree}
+use Rattle.claim_tree.specs.Tree.{Text, Tree}
 use Rattle.compact_form.specs.Compact.{AreWords}
 use Rattle.compact_form.specs.Compact as form
-use Rattle.compact_form.specs.declared.fault.Fault.{Fault}
+use Rattle.compact_form.specs.Condition.{number_of}
 use Rattle.compact_form.specs.Views.{jwt_of}
 use Rattle.compact_form.specs.declared.parts.JwtParts.{JwtParts}
 use Rattle.compact_form.specs.declared.parts.Parts.{Parts}
 use Rattle.compact_form.specs.declared.view.JwtView.{JwtView}
 use Rattle.disclosure.specs.declared.digests.HashAlg.{HashAlg}
 use Rattle.hmac_sign.specs.Signatures.{Meaning}
+use Rattle.json_form.specs.Token.{IsToken}
 use Rattle.json_form.specs.declared.token.Token.{Token}
+use Rattle.json_form.proofs.Tokens as tokens
 use Rattle.key_binding.specs.Judged.{holder_kid}
 use Rattle.marked_tree.specs.Choice.{chosen}
 use Rattle.marked_tree.specs.Marked.{Marked, strip}
 use Rattle.marked_tree.specs.Numbers.{has}
 use Rattle.selection_core.specs.Consent.{Answers, AllAllowed, IsRefusedAt}
-use Rattle.verifier_core.specs.Verdict.{HasHash}
+use Rattle.verifier_core.specs.Check.{IsUncounted}
+use Rattle.verifier_core.specs.Verdict.{TokenFails, HasHash}
 use Rattle.holder_core.specs.declared.ask.Ask.{Ask}
 use Rattle.holder_core.specs.declared.ask.BindingAsk.{BindingAsk}
 use Rattle.holder_core.specs.declared.errors.PresentError.{PresentError}
 use Rattle.holder_core.specs.declared.errors.PresentError.TheVariants.{Memory, Token as OnCondition, HasBinding, NoSuchPlace, ConsentRefused, BindingKeyDiffers, SignFailed, TooLong}
-use Rattle.holder_core.specs.Present.{picked, shown, rules_of, IsHeld, IsAgreed, NamesKey, IsAnswer, Refuses, OnToken}
+use Rattle.holder_core.specs.Present.{picked, shown, rules_of, IsHeld, IsAgreed, NamesKey, IsAnswer, Refuses, PresentFails, of_file, of_token}
 use Rattle.holder_core.specs.Presenting.{IsUnchecked, IsUnchosen, IsChosen, IsOtherKey, IsReady, IsUnready, IsUncheckedOrUnready, IsFinished, IsUnfinished}
 use Rattle.marked_tree.proofs.PrunedSame.{Same, prune_same}
 use Rattle.holder_core.proofs.Picking.{picked_same, picked_words}
@@ -152,35 +155,13 @@ module _ {F : Type 0} (answers : Answers F) (rule : F) (token : Token) (ask : As
       }
       unfinished_refused TooLong h = record { answer = h.answer; is_answer = answered h.answer h.finished; long = h.long }
 
-pub unready_unread : {F : Type 0} (answers : Answers F) (rule : F) (token : Token) (ask : Ask) (e : PresentError) → IsUnready answers rule token ask e → OnToken e (λ fault. ⊥)
-unready_unread answers rule token ask Memory h = tt
-unready_unread answers rule token ask (OnCondition fault) h = h
-unready_unread answers rule token ask HasBinding h = tt
-unready_unread answers rule token ask (NoSuchPlace k) h = tt
-unready_unread answers rule token ask (ConsentRefused i) h = tt
-unready_unread answers rule token ask BindingKeyDiffers h = tt
-unready_unread answers rule token ask SignFailed h = tt
-unready_unread answers rule token ask TooLong h = tt
+-- ---- what is looked up
 
-pub unfinished_unread : (binding : Option BindingAsk) (good : Meaning) (hash : HashAlg) (now : ℕ) (unbound : Parts) (e : PresentError) → IsUnfinished binding good hash now unbound e → OnToken e (λ fault. ⊥)
-unfinished_unread binding good hash now unbound Memory h = tt
-unfinished_unread binding good hash now unbound (OnCondition fault) h = h
-unfinished_unread binding good hash now unbound HasBinding h = tt
-unfinished_unread binding good hash now unbound (NoSuchPlace k) h = tt
-unfinished_unread binding good hash now unbound (ConsentRefused i) h = tt
-unfinished_unread binding good hash now unbound BindingKeyDiffers h = tt
-unfinished_unread binding good hash now unbound SignFailed h = tt
-unfinished_unread binding good hash now unbound TooLong h = tt
-
-pub no_token : (e : PresentError) (P : Fault → Type 0) → OnToken e (λ fault. ⊥) → OnToken e P
-no_token Memory P h = tt
-no_token (OnCondition fault) P h = absurd h
-no_token HasBinding P h = tt
-no_token (NoSuchPlace k) P h = tt
-no_token (ConsentRefused i) P h = tt
-no_token BindingKeyDiffers P h = tt
-no_token SignFailed P h = tt
-no_token TooLong P h = tt
+-- nothing for the text where nothing is for the token
+pub text_uncounted : (content : Text) (ask : Ask) (token : Token) → IsToken content token → (old new : ℕ) → IsUncounted (TokenFails token (rules_of ask.keys)) old new → IsUncounted (PresentFails content ask) old new
+text_uncounted content ask token is old new same c place (of_file h) low = absurd (is.passes (record { number = number_of c; place = place }) h)
+text_uncounted content ask token is old new same c place (of_token t there h) low =
+    same c place (subst (λ (x : Token). TokenFails x (rules_of ask.keys) c place) (tokens.one content t token there is) h) low
 
 -- ---- whether there is a key binding token
 

@@ -3,10 +3,12 @@ use Rattle.std.specs.Prelude.{◌≡◌, ◌≢◌, ◌<◌, ℕ, suc, Bool, Lis
 use Rattle.claim_tree.specs.Tree.{Text, Tree}
 use Rattle.claim_tree.specs.Lists.{IsLeast, Nowhere}
 use Rattle.compact_form.specs.Compact.{compact, hashed}
+use Rattle.compact_form.specs.Condition.{Condition}
 use Rattle.compact_form.specs.Lowest.{IsLowest}
 use Rattle.json_form.specs.Token as file
 use Rattle.compact_form.specs.declared.fault.Fault.{Fault}
-use Rattle.compact_form.specs.declared.limits.TheConstants.{COMPACT_MAX}
+use Rattle.sd_outside.specs.Limits.{compact_max}
+use Rattle.compact_form.specs.declared.fault.Place.{Place}
 use Rattle.compact_form.specs.declared.parts.JwtParts.{JwtParts}
 use Rattle.compact_form.specs.declared.parts.Parts.{Parts}
 use Rattle.disclosure.specs.declared.digests.HashAlg.{HashAlg}
@@ -21,7 +23,7 @@ use Rattle.marked_tree.specs.Marked.{Marked, strip, prune}
 use Rattle.selection_core.specs.Consent.{Answers, AllAllowed, IsRefusedAt}
 use Rattle.selection_core.specs.Refusals.{IsMissing}
 use Rattle.verifier_core.specs.Check.{asked}
-use Rattle.verifier_core.specs.Verdict.{Rules, TokenFails, IsChecked, HasHash}
+use Rattle.verifier_core.specs.Verdict.{Rules, TokenFails, FileFails, IsChecked, HasHash}
 use Rattle.holder_core.specs.declared.ask.Ask.{Ask}
 use Rattle.holder_core.specs.declared.ask.BindingAsk.{BindingAsk}
 use Rattle.holder_core.specs.declared.errors.PresentError.{PresentError}
@@ -135,7 +137,7 @@ pub record IsToBeSigned {F : Type 0} (answers : Answers F) (rule : F) (token : T
 pub record IsTooLong {F : Type 0} (answers : Answers F) (rule : F) (token : Token) (ask : Ask) (good : Meaning) (now : ℕ) : Type 0 where
   pub answer : Parts
   pub is_answer : IsAnswer answers rule token ask good now answer
-  pub long : COMPACT_MAX < length (compact answer)
+  pub long : compact_max < length (compact answer)
 
 -- what each refusal of a token says: that it applies, and no earlier one; want of memory says nothing
 abbrev pub Refuses : {F : Type 0} → Answers F → F → Token → Ask → Meaning → ℕ → PresentError → Type 0
@@ -155,7 +157,7 @@ pub data IsNotPresented {F : Type 0} (answers : Answers F) (rule : F) (content :
   not_read : (fault : Fault) → error ≡ OnCondition fault → file.IsRefused content fault → IsNotPresented answers rule content ask good now error
   refused : (token : Token) → IsToken content token → Refuses answers rule token ask good now error → IsNotPresented answers rule content ask good now error
 
--- the condition that is answered
-abbrev pub OnToken : PresentError → (Fault → Type 0) → Type 0
-OnToken (OnCondition fault) P = P fault
-OnToken _ P = Unit {0}
+-- what fails each condition on a text that is to be presented: on the file, or on the token that it is read as
+pub data PresentFails (content : Text) (ask : Ask) (c : Condition) (place : Place) : Type 0 where
+  of_file : FileFails content c place → PresentFails content ask c place
+  of_token : (token : Token) → IsToken content token → TokenFails token (rules_of ask.keys) c place → PresentFails content ask c place

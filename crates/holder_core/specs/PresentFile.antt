@@ -1,6 +1,6 @@
 -- The file that says what is asked of a holder.
 use Rattle.std.specs.Prelude.{◌≡◌, ℕ, List, [], ◌∷◌, Option, Some, None, is_some, codes}
-use Rattle.compact_form.specs.declared.limits.TheConstants.{FILE_MAX}
+use Rattle.sd_outside.specs.Limits.{file_max}
 use Rattle.claim_tree.specs.Tree.{Text, Tree, object, Members, members_len, member_named}
 use Rattle.claim_tree.specs.FileForms.{IsText, Says, MaySay, SaysOr, Entry, required, optional, fields_of, found, HasMembers, IsFileRefused}
 use Rattle.claim_tree.specs.declared.file_fault.Field.TheVariants.{Keys, Want, Never, Binding}
@@ -38,7 +38,7 @@ present_table = required Keys IsKeySet ∷ optional Want (IsListOf IsPointer) �
 -- the file says this
 pub record IsPresentFile (bytes : Text) (said : PresentFile) : Type 0 where
   pub members : Members
-  pub file : HasMembers FILE_MAX (fields_of present_table) bytes members
+  pub file : HasMembers file_max (fields_of present_table) bytes members
   pub keys : Says IsKeySet (found members Keys) said.ask.keys
   pub want : SaysOr (IsListOf IsPointer) [] (found members Want) said.ask.want
   pub never : SaysOr (IsListOf IsPointer) [] (found members Never) said.never
@@ -47,4 +47,4 @@ pub record IsPresentFile (bytes : Text) (said : PresentFile) : Type 0 where
 
 -- why the file says no present order; want of memory says nothing
 abbrev pub IsPresentRefused : Text → FileFault → Type 0
-IsPresentRefused bytes fault = IsFileRefused FILE_MAX present_table bytes fault
+IsPresentRefused bytes fault = IsFileRefused file_max present_table bytes fault

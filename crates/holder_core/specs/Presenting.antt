@@ -4,7 +4,7 @@ use Rattle.claim_tree.specs.Tree.{Tree}
 use Rattle.claim_tree.specs.Lists.{IsLeast, Nowhere}
 use Rattle.compact_form.specs.Compact.{compact}
 use Rattle.compact_form.specs.Lowest.{IsLowest}
-use Rattle.compact_form.specs.declared.limits.TheConstants.{COMPACT_MAX}
+use Rattle.sd_outside.specs.Limits.{compact_max}
 use Rattle.compact_form.specs.declared.parts.Parts.{Parts}
 use Rattle.disclosure.specs.declared.digests.HashAlg.{HashAlg}
 use Rattle.hmac_sign.specs.Signatures.{Meaning}
@@ -62,7 +62,7 @@ pub record IsFinished (binding : Option BindingAsk) (good : Meaning) (hash : Has
 pub record IsOverlong (binding : Option BindingAsk) (good : Meaning) (hash : HashAlg) (now : ℕ) (unbound : Parts) : Type 0 where
   pub answer : Parts
   pub finished : IsFinished binding good hash now unbound answer
-  pub long : COMPACT_MAX < length (compact answer)
+  pub long : compact_max < length (compact answer)
 
 -- a key binding token that is asked for was not signed, or the parts are too long
 abbrev pub IsUnfinished : Option BindingAsk → Meaning → HashAlg → ℕ → Parts → PresentError → Type 0

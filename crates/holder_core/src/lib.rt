@@ -10,8 +10,6 @@ mod errors;
 pub mod laws;
 mod present_file;
 mod presenting;
-#[cfg(test)]
-mod tests;
 mod whole;
 
 pub use ask::{Ask, BindingAsk};

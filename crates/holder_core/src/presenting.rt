@@ -5,7 +5,7 @@ ghost use Rattle.claim_tree.specs.Tree.{depth as depth_of};
 ghost use Rattle.claim_tree.specs.View.{tree_of};
 ghost use Rattle.compact_form.specs.Compact.{AreWords, compact as compact_text};
 ghost use Rattle.compact_form.specs.Lowest.{IsLowest};
-ghost use Rattle.compact_form.specs.declared.limits.TheConstants.{COMPACT_MAX};
+ghost use Rattle.sd_outside.specs.Limits.{compact_max};
 ghost use Rattle.disclosure.specs.declared.digests.HashAlg.{HashAlg as SeenHash};
 ghost use Rattle.hmac_sign.specs.Signatures.{Agree};
 ghost use Rattle.hmac_sign.specs.declared.sign.Alg.{Alg};
@@ -18,7 +18,7 @@ ghost use Rattle.marked_tree.specs.Numbers.{has};
 ghost use Rattle.marked_tree.specs.View.{marked_of};
 ghost use Rattle.verifier_core.specs.Verdict.{TokenFails, IsChecked, HasHash};
 ghost use Rattle.verifier_core.specs.Check.{IsCounted, IsCountedWithin, IsReadWithin, IsUncounted};
-ghost use Rattle.holder_core.specs.Present.{rules_of, picked, shown, IsHeld, IsAnswer, Refuses, IsPresented, IsNotPresented, NamesKey, OnToken};
+ghost use Rattle.holder_core.specs.Present.{rules_of, picked, shown, IsHeld, IsAnswer, Refuses, IsPresented, IsNotPresented, PresentFails, NamesKey};
 ghost use Rattle.holder_core.specs.Presenting.{IsUnchecked, IsUnchosen, IsChosen, IsOtherKey, IsReady, IsUnready, IsUnsigned, IsFinished, IsUnfinished, IsMadeReady, IsUncheckedOrUnready};
 ghost use Rattle.holder_core.specs.declared.errors.PresentError.{PresentError};
 
@@ -56,7 +56,7 @@ pub fn present<S: Signer, F: Fn(&Path) -> bool>(
     requires callable { F.IsAlwaysCallable consent.now }
     ensures presented { IfOk result (IsPresented F.Fn consent.now text.now ask.now (S.good signer.old) now) }
     ensures words { IfOk result AreWords }
-    ensures short { IfOk result (λ answer. length (compact_text answer) ≤ COMPACT_MAX) }
+    ensures short { IfOk result (λ answer. length (compact_text answer) ≤ compact_max) }
     ensures refused { IfErr result (IsNotPresented F.Fn consent.now text.now ask.now (S.good signer.old) now) }
     ensures failed { IsErrOf result PresentError.SignFailed → Rose (S.faults signer.old) (S.faults signer.new) }
 
@@ -69,7 +69,7 @@ pub fn present<S: Signer, F: Fn(&Path) -> bool>(
     // the look-ups
     ensures counted { IfOk result (λ _. (token : SeenToken) × IsToken text.now token × IsCounted token steps.old steps.new) }
     ensures within { IsReadWithin text.now steps.old steps.new }
-    ensures uncounted { IfErr result (λ e. OnToken e (IsUncounted steps.old steps.new)) }
+    ensures uncounted { IsUncounted (PresentFails text.now ask.now) steps.old steps.new }
     ensures unopened { (token : SeenToken) → IsToken text.now token → token.parts.binding ≢ None → steps.new ≡ steps.old }
 {
     let token = match TokenText::read(alloc, text) {
@@ -100,7 +100,7 @@ fn present_token<S: Signer, F: Fn(&Path) -> bool>(
     requires callable { F.IsAlwaysCallable consent.now }
     ensures answer { IfOk result (IsAnswer F.Fn consent.now token.now ask.now (S.good signer.old) now) }
     ensures words { IfOk result AreWords }
-    ensures short { IfOk result (λ answer. length (compact_text answer) ≤ COMPACT_MAX) }
+    ensures short { IfOk result (λ answer. length (compact_text answer) ≤ compact_max) }
     ensures refused { IfErr result (Refuses F.Fn consent.now token.now ask.now (S.good signer.old) now) }
     ensures failed { IsErrOf result PresentError.SignFailed → Rose (S.faults signer.old) (S.faults signer.new) }
     ensures unasked { ask.now.binding ≡ None → signer.new ≡ signer.old }
@@ -109,7 +109,7 @@ fn present_token<S: Signer, F: Fn(&Path) -> bool>(
     ensures later { S.faults signer.old ≤ S.faults signer.new }
     ensures counted { IfOk result (λ _. IsCounted token.now steps.old steps.new) }
     ensures within { IsCountedWithin token.now steps.old steps.new }
-    ensures uncounted { IfErr result (λ e. OnToken e (IsUncounted steps.old steps.new)) }
+    ensures uncounted { IsUncounted (TokenFails token.now (rules_of ask.now.keys)) steps.old steps.new }
 {
     let (unbound, hash) = match ready_parts(alloc, token, ask, consent, steps) {
         Ok(ready) => ready,
@@ -137,7 +137,7 @@ fn ready_parts<F: Fn(&Path) -> bool>(
     ensures refused { IfErr result (IsUncheckedOrUnready F.Fn consent.now token.now ask.now) }
     ensures counted { IfOk result (λ _. IsCounted token.now steps.old steps.new) }
     ensures within { IsCountedWithin token.now steps.old steps.new }
-    ensures uncounted { IfErr result (λ e. OnToken e (IsUncounted steps.old steps.new)) }
+    ensures uncounted { IsUncounted (TokenFails token.now (rules_of ask.now.keys)) steps.old steps.new }
 {
     if token.view().count() == 0 {
         return whole_parts(alloc, token, ask, steps);
@@ -192,7 +192,7 @@ fn finish<S: Signer>(
     requires none { unbound.binding ≡ None }
     ensures finished { IfOk result (IsFinished binding.now (S.good signer.old) hash now unbound) }
     ensures words { IfOk result AreWords }
-    ensures short { IfOk result (λ answer. length (compact_text answer) ≤ COMPACT_MAX) }
+    ensures short { IfOk result (λ answer. length (compact_text answer) ≤ compact_max) }
     ensures unfinished { IfErr result (IsUnfinished binding.now (S.good signer.old) hash now unbound) }
     ensures failed { IsErrOf result PresentError.SignFailed → Rose (S.faults signer.old) (S.faults signer.new) }
     ensures unasked { binding.now ≡ None → signer.new ≡ signer.old }
@@ -232,7 +232,7 @@ fn check_held(
     ensures refused { IfErr result (IsUnchecked token.now (rules_of keys.now)) }
     ensures counted { IfOk result (λ _. IsCounted token.now steps.old steps.new) }
     ensures within { IsCountedWithin token.now steps.old steps.new }
-    ensures uncounted { IfErr result (λ e. OnToken e (IsUncounted steps.old steps.new)) }
+    ensures uncounted { IsUncounted (TokenFails token.now (rules_of keys.now)) steps.old steps.new }
 {
     let algs = hs256_alone(alloc)?;
     let view = token.view();
@@ -378,7 +378,7 @@ fn bound_parts<S: Signer>(
 
 fn is_too_long(alloc: Global, parts: &Parts) -> Result<bool, NoMemory>
     requires { AreWords parts.now }
-    ensures { IfOk result (λ answer. IsTrue answer ↔ (COMPACT_MAX < length (compact_text parts.now))) }
+    ensures { IfOk result (λ answer. IsTrue answer ↔ (compact_max < length (compact_text parts.now))) }
 {
     let text = print(alloc, parts)?;
     Ok(text.as_str().len() > COMPACT_MAX)

@@ -4,9 +4,9 @@ ghost use Rattle.claim_tree.specs.Lists.{IsLeast, Nowhere};
 ghost use Rattle.claim_tree.specs.View.{tree_of};
 ghost use Rattle.compact_form.specs.Compact.{AreWords};
 ghost use Rattle.selection_core.specs.Refusals.{IsMissing};
-ghost use Rattle.verifier_core.specs.Verdict.{IsCheckedAs, HasHash};
+ghost use Rattle.verifier_core.specs.Verdict.{TokenFails, IsCheckedAs, HasHash};
 ghost use Rattle.verifier_core.specs.Check.{IsCounted, IsCountedWithin, IsUncounted};
-ghost use Rattle.holder_core.specs.Present.{rules_of, NamesKey, OnToken};
+ghost use Rattle.holder_core.specs.Present.{rules_of, NamesKey};
 ghost use Rattle.holder_core.specs.Presenting.{IsUnchecked, IsOtherKey, IsWholeReady, IsWholeUnready, IsMadeWhole, IsUncheckedOrUnmade};
 
 use crate::presenting::{check_named, hs256_alone, picked_parts};
@@ -37,7 +37,7 @@ pub(crate) fn whole_parts(
     ensures refused { IfErr result (IsUncheckedOrUnmade token.now ask.now) }
     ensures counted { IfOk result (λ _. IsCounted token.now steps.old steps.new) }
     ensures within { IsCountedWithin token.now steps.old steps.new }
-    ensures uncounted { IfErr result (λ e. OnToken e (IsUncounted steps.old steps.new)) }
+    ensures uncounted { IsUncounted (TokenFails token.now (rules_of ask.now.keys)) steps.old steps.new }
 {
     let checked = match check_whole(alloc, token, &ask.keys, steps) {
         Ok(checked) => checked,
@@ -62,7 +62,7 @@ fn check_whole(
     ensures refused { IfErr result (IsUnchecked token.now (rules_of keys.now)) }
     ensures counted { IfOk result (λ _. IsCounted token.now steps.old steps.new) }
     ensures within { IsCountedWithin token.now steps.old steps.new }
-    ensures uncounted { IfErr result (λ e. OnToken e (IsUncounted steps.old steps.new)) }
+    ensures uncounted { IsUncounted (TokenFails token.now (rules_of keys.now)) steps.old steps.new }
 {
     let algs = hs256_alone(alloc)?;
     let view = token.view();

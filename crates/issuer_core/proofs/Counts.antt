@@ -1,9 +1,7 @@
 -- How many different paths there are, and how many decoys.
 use Rattle.std.proofs.Common.{◌≡◌, ◌≤◌, ◌<◌, ℕ, ◌+◌, List, [], ◌∷◌, ◌++◌, map, length, drop, get_or, Bool, true, false, ◌||◌, inl, inr, bytes_eq, replicate, refl, sym, ap, ap₂, subst, ◌∙◌, arith}
-use Rattle.std.specs.Cmp.{IsEquivalence}
 use Rattle.std.specs.List.{IsDistinct, AllByRecursion}
 use Rattle.std.specs.Set.{distinct_count}
-use Rattle.std.specs.Cmp.Lexicographic.{nat_list_eq_equiv}
 use Rattle.std.proofs.Math.ListN.{drop_of_length-le}
 use Rattle.std.proofs.lemmas.List.{drop_more, map-append, length-map, length-append, length-replicate}
 use Rattle.std.proofs.lemmas.List.Folds.{list_any-append}
@@ -12,31 +10,18 @@ use Rattle.std.proofs.lemmas.Map.Made.{length-from_keys}
 use Rattle.claim_tree.specs.Tree.{Text}
 use Rattle.claim_tree.specs.Lists.{In}
 use Rattle.claim_tree.specs.Path.{pointer_text}
-use Rattle.claim_tree.proofs.Lists.{bytes_same, bytes_refl, and_split, and_join, or_left, or_right, At-In, In-of_map}
+use Rattle.claim_tree.proofs.Lists.{bytes_same, bytes_refl, or_left, or_right, At-In, In-of_map}
 use Rattle.claim_tree.proofs.PointerTexts.{pointer_text-injective}
 use Rattle.digest_index.specs.Index.{place_or_end, interned}
 use Rattle.digest_index.proofs.Places.{place_or_end-within}
 use Rattle.digest_index.proofs.Interned.{interned-new, interned-there}
 use Rattle.marked_tree.specs.Places.{Path, same_path, is_among}
+use Rattle.marked_tree.proofs.DifferentPaths.{path_same, path_refl, path_laws}
 use Rattle.rebuild_core.proofs.Repeated.{place_there}
 use Rattle.issuer_core.specs.declared.order.Decoy.{Decoy}
 use Rattle.issuer_core.specs.Decoys.{places}
 
 -- ---- paths
-
-pub path_same : (p q : Path) → same_path p q ≡ true → p ≡ q
-path_same [] [] h = refl
-path_same [] (l ∷ q) h = cc h
-path_same (k ∷ p) [] h = cc h
-path_same (k ∷ p) (l ∷ q) h =
-    let both = and_split (bytes_eq k l) (same_path p q) h in
-    ap₂ (λ (step : Text) (rest : Path). step ∷ rest) (bytes_same k l both.0) (path_same p q both.1)
-
-pub path_refl : (p q : Path) → p ≡ q → same_path p q ≡ true
-path_refl [] [] h = refl
-path_refl [] (l ∷ q) h = cc h
-path_refl (k ∷ p) [] h = cc h
-path_refl (k ∷ p) (l ∷ q) h = let first : k ≡ l = cc h in let rest : p ≡ q = cc h in and_join (bytes_eq k l) (same_path p q) (bytes_refl k l first) (path_refl p q rest)
 
 -- paths are told apart by their pointers
 by_pointers : (p q : Path) → bytes_eq (pointer_text p) (pointer_text q) ≡ same_path p q
@@ -49,16 +34,6 @@ by_pointers p q = go (bytes_eq (pointer_text p) (pointer_text q)) (same_path p q
     go false true e f = let clash : false ≡ true = sym e ∙ bytes_refl (pointer_text p) (pointer_text q) (ap pointer_text (path_same p q f)) in cc clash
 
 -- ---- paths that are kept, each once
-
-path_equal : (p q : Path) → same_path p q ≡ true → (other : Path) → same_path p other ≡ same_path q other
-path_equal p q h other = ap (λ (r : Path). same_path r other) (path_same p q h)
-
-pub path_laws : IsEquivalence same_path
-path_laws = record {
-  refl = λ p. path_refl p p refl;
-  symm = λ p q. sym (by_pointers p q) ∙ ((nat_list_eq_equiv).symm (pointer_text p) (pointer_text q) ∙ by_pointers q p);
-  congr = λ p q other h. path_equal p q h other;
-}
 
 apart_too : (p : Path) (ps : List Path) → AllByRecursion (λ y. bytes_eq (pointer_text p) y ≡ false) (map pointer_text ps) → AllByRecursion (λ q. same_path p q ≡ false) ps
 apart_too p [] all = tt

@@ -1,15 +1,16 @@
 -- Where decoys are put.
 use Rattle.std.proofs.Common.{◌≡◌, ℕ, zero, suc, ◌+◌, ◌<◌, List, [], ◌∷◌, ◌++◌, Bool, ap, arith, cond, false, inl, inr, length, refl, subst, sym, true, ⊎_elim, ◌∙◌}
-use Rattle.std.specs.Prelude.{bytes_eq, replicate}
+use Rattle.std.specs.Prelude.{replicate}
 use Rattle.issuer_core.specs.declared.order.Decoy.{Decoy}
 use Rattle.claim_tree.specs.Lists.{At, In}
 use Rattle.claim_tree.specs.Path.{tree_at}
 use Rattle.claim_tree.specs.Tree.{Text}
 use Rattle.marked_tree.specs.Places.{Path, same_path}
+use Rattle.marked_tree.proofs.DifferentPaths.{path_refl}
 use Rattle.issuer_core.specs.Decoys.{decoys_at, decoys_of, earlier, places}
 use Rattle.issuer_core.specs.GoodOrder.{HoldsOthers, IsGoodOrder}
 use Rattle.issuer_core.specs.Order.{Order}
-use Rattle.claim_tree.proofs.Lists.{In-append, and_join, bytes_refl}
+use Rattle.claim_tree.proofs.Lists.{In-append}
 
 In-replicate : (n : ℕ) (x q : Path) → In q (replicate n x) → q ≡ x
 In-replicate zero x q h = elim h [ ]
@@ -40,13 +41,9 @@ in_decoys dg k (r ∷ ps) q d h =
     here true (inr m) = elim m [ ]
     here false m = elim m [ ]
 
-same_path_refl : (q : Path) → same_path q q ≡ true
-same_path_refl [] = refl
-same_path_refl (k ∷ q) = and_join (bytes_eq k k) (same_path q q) (bytes_refl k k refl) (same_path_refl q)
-
 pub earlier_at : (dg : ℕ → Text) (k : ℕ) (ps : List Path) (d : ℕ) (q : Path) → At ps d q → At (decoys_at dg k ps q) (earlier d q ps) (dg (k + d))
 earlier_at dg k (r ∷ ps) zero q a =
-    let same : same_path r q ≡ true = ap (λ z. same_path z q) (sym a) ∙ same_path_refl q in
+    let same : same_path r q ≡ true = ap (λ z. same_path z q) (sym a) ∙ path_refl q q refl in
     let x : k + 0 ≡ k = omega arith in
     rw same (ap dg x)
 earlier_at dg k (r ∷ ps) (suc d) q a = go (same_path r q) (earlier_at dg (suc k) ps d q a)

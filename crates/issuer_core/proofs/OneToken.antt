@@ -3,7 +3,7 @@ use Rattle.std.proofs.Common.{◌≡◌, ℕ, ◌≤◌, List, Option, ap, ap₂
 use Rattle.b64url_text.specs.Base64url.{b64}
 use Rattle.claim_tree.specs.Tree.{Text, Tree}
 use Rattle.claim_tree.specs.JsonText.{json_text}
-use Rattle.compact_form.specs.declared.limits.TheConstants.{ISSUE_MAX}
+use Rattle.sd_outside.specs.Limits.{issue_max}
 use Rattle.compact_form.specs.declared.parts.Parts.{Parts}
 use Rattle.compact_form.specs.declared.parts.JwtParts.{JwtParts}
 use Rattle.compact_form.specs.Compact.{compact}
@@ -47,7 +47,7 @@ module _ (maker : Maker) (o : Order) (key : List ℕ) where
       this.written that.written
 
   -- what is issued is not refused
-  pub issued_not_refused : (parts : Parts) → NoneApplies (Refuses o) → HasNoClash maker o → IsLaidOut maker o (IsGood key) parts → length (compact parts) ≤ ISSUE_MAX
+  pub issued_not_refused : (parts : Parts) → NoneApplies (Refuses o) → HasNoClash maker o → IsLaidOut maker o (IsGood key) parts → length (compact parts) ≤ issue_max
       → NoneApplies (Applies maker o (IsGood key))
   issued_not_refused parts none differ laid short error h = go error h
     where

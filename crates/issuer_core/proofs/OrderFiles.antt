@@ -1,7 +1,7 @@
 -- A file says one order, or is refused.
 use Rattle.std.proofs.Common.{◌≡◌, ◌≢◌, ℕ, ◌≤◌, List, [], ◌∷◌, Bool, true, false, cond, inl, inr, Option, Some, None, sym, ap, subst, ◌∙◌, arith, codes}
 use Rattle.std.specs.Prelude.{bytes_eq}
-use Rattle.compact_form.specs.declared.limits.TheConstants.{COUNT_MAX, FILE_MAX}
+use Rattle.sd_outside.specs.Limits.{count_max, file_max}
 use Rattle.claim_tree.specs.Tree as spec
 use Rattle.claim_tree.specs.Tree.{Text, leaf, array, object, Elements, no_elements, element, Members, no_members, member, members_len, member_named, depth, members_depth, IsOrdered, MembersOrdered, IsRanged, MembersRanged}
 use Rattle.claim_tree.specs.Lists.{In}
@@ -65,20 +65,20 @@ odd_at t ms u is there odd h = says_odd IsPointer (member_named ms (codes "at"))
 
 pub no_count : (t : tree.Tree) (ms : Members) → t ≡ tree.Tree.Object ms → member_named ms (codes "count") ≡ None → HasValue IsDecoy (tree_of t) → ⊥
 no_count t ms is none h =
-    says_none (IsWholeUpTo COUNT_MAX) (member_named ms (codes "count")) h.0.count none (subst (λ ns. Says (IsWholeUpTo COUNT_MAX) (member_named ns (codes "count")) h.0.count) (same_members t ms is h) h.1.count)
+    says_none (IsWholeUpTo count_max) (member_named ms (codes "count")) h.0.count none (subst (λ ns. Says (IsWholeUpTo count_max) (member_named ns (codes "count")) h.0.count) (same_members t ms is h) h.1.count)
 
-pub odd_count : (t : tree.Tree) (ms : Members) (u : spec.Tree) → t ≡ tree.Tree.Object ms → member_named ms (codes "count") ≡ Some u → (HasValue (IsWholeUpTo COUNT_MAX) u → ⊥) → HasValue IsDecoy (tree_of t) → ⊥
+pub odd_count : (t : tree.Tree) (ms : Members) (u : spec.Tree) → t ≡ tree.Tree.Object ms → member_named ms (codes "count") ≡ Some u → (HasValue (IsWholeUpTo count_max) u → ⊥) → HasValue IsDecoy (tree_of t) → ⊥
 odd_count t ms u is there odd h =
-    says_odd (IsWholeUpTo COUNT_MAX) (member_named ms (codes "count")) u h.0.count there odd (subst (λ ns. Says (IsWholeUpTo COUNT_MAX) (member_named ns (codes "count")) h.0.count) (same_members t ms is h) h.1.count)
+    says_odd (IsWholeUpTo count_max) (member_named ms (codes "count")) u h.0.count there odd (subst (λ ns. Says (IsWholeUpTo count_max) (member_named ns (codes "count")) h.0.count) (same_members t ms is h) h.1.count)
 
 pub is_decoy : (t : tree.Tree) (ms : Members) (u v : spec.Tree) (entry : Decoy) → t ≡ tree.Tree.Object ms → members_len ms ≡ 2 → member_named ms (codes "at") ≡ Some u → IsPointer u entry.at
-    → member_named ms (codes "count") ≡ Some v → IsWholeUpTo COUNT_MAX v entry.count → IsDecoy (tree_of t) entry
+    → member_named ms (codes "count") ≡ Some v → IsWholeUpTo count_max v entry.count → IsDecoy (tree_of t) entry
 is_decoy t ms u v entry is two there at stands count = record {
   members = ms;
   is = ap tree_of is;
   two = two;
   at = says_it IsPointer (member_named ms (codes "at")) u entry.at there at;
-  count = says_it (IsWholeUpTo COUNT_MAX) (member_named ms (codes "count")) v entry.count stands count;
+  count = says_it (IsWholeUpTo count_max) (member_named ms (codes "count")) v entry.count stands count;
 }
 
 entry_of : List Text → ℕ → Decoy
@@ -90,22 +90,22 @@ one_decoy t d e h k =
     let both : object h.members ≡ object k.members = sym h.is ∙ k.is in
     let same : h.members ≡ k.members = cc both in
     let at : d.at ≡ e.at = verdicts.says_one IsPointer (member_named k.members (codes "at")) d.at e.at one_pointer (subst (λ ns. Says IsPointer (member_named ns (codes "at")) d.at) same h.at) k.at in
-    let count : d.count ≡ e.count = verdicts.says_one (IsWholeUpTo COUNT_MAX) (member_named k.members (codes "count")) d.count e.count (verdicts.one_whole COUNT_MAX) (subst (λ ns. Says (IsWholeUpTo COUNT_MAX) (member_named ns (codes "count")) d.count) same h.count) k.count in
+    let count : d.count ≡ e.count = verdicts.says_one (IsWholeUpTo count_max) (member_named k.members (codes "count")) d.count e.count (verdicts.one_whole count_max) (subst (λ ns. Says (IsWholeUpTo count_max) (member_named ns (codes "count")) d.count) same h.count) k.count in
     ap (λ x. entry_of x d.count) at ∙ ap (λ n. entry_of e.at n) count
 
 -- no entry asks for more than an order may have
-count_within : (o : Option spec.Tree) (n : ℕ) → Says (IsWholeUpTo COUNT_MAX) o n → n ≤ COUNT_MAX
+count_within : (o : Option spec.Tree) (n : ℕ) → Says (IsWholeUpTo count_max) o n → n ≤ count_max
 count_within None n h = absurd h
 count_within (Some t) n h = h.within
 
-each_within : (es : Elements) (ds : List Decoy) (entry : Decoy) → EachSays IsDecoy es ds → In entry ds → entry.count ≤ COUNT_MAX
+each_within : (es : Elements) (ds : List Decoy) (entry : Decoy) → EachSays IsDecoy es ds → In entry ds → entry.count ≤ count_max
 each_within no_elements [] entry h m = elim m [ ]
 each_within no_elements (d ∷ ds) entry h m = absurd h
 each_within (element t es) [] entry h m = absurd h
-each_within (element t es) (d ∷ ds) entry h (inl e) = subst (λ (x : Decoy). x.count ≤ COUNT_MAX) (sym e) (count_within (member_named h.0.members (codes "count")) d.count h.0.count)
+each_within (element t es) (d ∷ ds) entry h (inl e) = subst (λ (x : Decoy). x.count ≤ count_max) (sym e) (count_within (member_named h.0.members (codes "count")) d.count h.0.count)
 each_within (element t es) (d ∷ ds) entry h (inr m) = each_within es ds entry h.1 m
 
-pub counts_within : (o : Option spec.Tree) (ds : List Decoy) (entry : Decoy) → SaysOr (IsListOf IsDecoy) [] o ds → In entry ds → entry.count ≤ COUNT_MAX
+pub counts_within : (o : Option spec.Tree) (ds : List Decoy) (entry : Decoy) → SaysOr (IsListOf IsDecoy) [] o ds → In entry ds → entry.count ≤ count_max
 counts_within None ds entry h m = let none : In entry [] = subst (λ xs. In entry xs) h m in elim none [ ]
 counts_within (Some t) ds entry h m = each_within h.elements ds entry h.each m
 
@@ -143,7 +143,7 @@ made claims hide decoys kid typ = record { claims = claims; hide = hide; decoys 
 -- what the members say is one
 module _ (bytes : Text) (f g : IssueFile) (h : IsOrderFile bytes f) (k : IsOrderFile bytes g) where
   same : h.members ≡ k.members
-  same = verdicts.one_object FILE_MAX bytes h.members k.members h.file.object k.file.object
+  same = verdicts.one_object file_max bytes h.members k.members h.file.object k.file.object
 
   claims_one : tree_of f.order.payload ≡ tree_of g.order.payload
   claims_one = verdicts.says_one IsValue (found k.members Payload) (tree_of f.order.payload) (tree_of g.order.payload) one_value (subst (λ ns. Says IsValue (found ns Payload) (tree_of f.order.payload)) same h.payload) k.payload
@@ -184,7 +184,7 @@ not_both bytes said fault says refused =
     let key = says_meets IsKeyText Key ms said.key says.key in
     let kid = may_say_meets IsText Kid ms said.order.kid says.kid in
     let typ = may_say_meets IsText Typ ms said.order.typ says.typ in
-    verdicts.not_refused FILE_MAX order_table bytes ms fault says.file (payload, (hide, (decoys, (key, (kid, (typ, tt)))))) refused
+    verdicts.not_refused file_max order_table bytes ms fault says.file (payload, (hide, (decoys, (key, (kid, (typ, tt)))))) refused
 
 pub one_fault : (bytes : Text) (fault other : FileFault) → IsOrderRefused bytes fault → IsOrderRefused bytes other → fault ≢ FileFault.Memory → other ≢ FileFault.Memory → fault ≡ other
-one_fault bytes fault other h k = verdicts.one_fault FILE_MAX order_table bytes fault other h k
+one_fault bytes fault other h k = verdicts.one_fault file_max order_table bytes fault other h k

@@ -15,7 +15,7 @@ use Rattle.marked_tree.specs.Rests.{path_order, AreSorted}
 use Rattle.marked_tree.proofs.PathOrder.{paths_total, are_sorted}
 use Rattle.issuer_core.specs.Decoys.{decoys_at}
 use Rattle.issuer_core.specs.Laying.{nth, placed, paths_in, digests_in}
-use Rattle.issuer_core.proofs.Counts.{path_same, path_refl}
+use Rattle.marked_tree.proofs.DifferentPaths.{path_same, path_refl}
 
 abbrev pub Entry : Type 0
 Entry = Path × Text

@@ -1,6 +1,7 @@
 -- What refusals 51, 52, 53 and 57 ask of an order, and what is so of every payload that a machine holds.
 use Rattle.std.specs.Prelude.{◌<◌, ◌≤◌, ◌^◌, Option, Some, IfSome}
 use Rattle.std.specs.Str.{IsUtf8}
+use Rattle.sd_outside.specs.Limits.{depth_max}
 use Rattle.claim_tree.specs.Tree.{Leaf, text, Tree, leaf, array, object, Elements, no_elements, element, Members, no_members, member, depth, elements_len, IsOrdered, IsRanged}
 use Rattle.claim_tree.specs.Lists.{In}
 use Rattle.claim_tree.specs.Path.{tree_at}
@@ -39,7 +40,7 @@ pub record IsGoodOrder (o : Order) : Type 0 where
   -- 52
   pub no_reserved : HasNoReserved o.claims
   -- 53
-  pub shallow : depth o.claims ≤ 100
+  pub shallow : depth o.claims ≤ depth_max
   -- 57
   pub decoys_held : (entry : Decoy) → In entry o.decoys → HoldsOthers (tree_at o.claims entry.at)
   pub ordered : IsOrdered o.claims

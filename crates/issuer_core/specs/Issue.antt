@@ -6,7 +6,7 @@ use Rattle.claim_tree.specs.JsonText.{json_text}
 use Rattle.claim_tree.specs.Lists.{Repeats, Nowhere}
 use Rattle.jws_part.specs.declared.header.Header.{Header}
 use Rattle.jws_part.specs.Header.{header_members}
-use Rattle.compact_form.specs.declared.limits.TheConstants.{ISSUE_MAX}
+use Rattle.sd_outside.specs.Limits.{issue_max}
 use Rattle.compact_form.specs.declared.parts.Parts.{Parts}
 use Rattle.compact_form.specs.Compact.{compact, AreWords}
 use Rattle.hmac_sign.specs.Signatures.{Meaning}
@@ -46,7 +46,7 @@ HasNoClash maker o = (i j : ℕ) → ClashesAt maker o i j → ⊥
 pub record IsTooLong (maker : Maker) (o : Order) (good : Meaning) : Type 0 where
   pub parts : Parts
   pub laid : IsLaidOut maker o good parts
-  pub long : ISSUE_MAX < length (compact parts)
+  pub long : issue_max < length (compact parts)
 
 -- what each refusal says, where none with a lower number applies
 abbrev pub Applies : Maker → Order → Meaning → IssueError → Type 0
@@ -99,7 +99,7 @@ pub record IsFinished (header : Header) (good : Meaning) (body : Tree) (texts di
   pub signed : AreSigned header good body texts parts
   pub differ : Nowhere (Repeats digests)
   pub words : AreWords parts
-  pub short : length (compact parts) ≤ ISSUE_MAX
+  pub short : length (compact parts) ≤ issue_max
 
 -- for private functions: the parts that are signed are longer
 pub record IsOverlong (header : Header) (good : Meaning) (body : Tree) (texts digests : List Text) (error : IssueError) : Type 0 where
@@ -107,7 +107,7 @@ pub record IsOverlong (header : Header) (good : Meaning) (body : Tree) (texts di
   pub parts : Parts
   pub signed : AreSigned header good body texts parts
   pub differ : Nowhere (Repeats digests)
-  pub long : ISSUE_MAX < length (compact parts)
+  pub long : issue_max < length (compact parts)
 
 -- for private functions: digests clash, or they differ and nothing was signed, or what was signed is too long
 abbrev pub IsUnfinished : Header → Meaning → Tree → List Text → List Text → IssueError → Type 0

@@ -1,6 +1,6 @@
 -- What an issuer is asked for, and the file that says it.
 use Rattle.std.specs.Prelude.{◌≡◌, List, [], ◌∷◌, codes}
-use Rattle.compact_form.specs.declared.limits.TheConstants.{COUNT_MAX, FILE_MAX}
+use Rattle.sd_outside.specs.Limits.{count_max, file_max}
 use Rattle.claim_tree.specs.Tree.{Text, Tree, object, Members, members_len, member_named}
 use Rattle.claim_tree.specs.View.{tree_of}
 use Rattle.claim_tree.specs.FileForms.{IsText, IsWholeUpTo, Says, MaySay, SaysOr, Entry, required, optional, fields_of, found, HasMembers, IsFileRefused}
@@ -21,7 +21,7 @@ pub record IsDecoy (t : Tree) (entry : Decoy) : Type 0 where
   pub is : t ≡ object members
   pub two : members_len members ≡ 2
   pub at : Says IsPointer (member_named members (codes "at")) entry.at
-  pub count : Says (IsWholeUpTo COUNT_MAX) (member_named members (codes "count")) entry.count
+  pub count : Says (IsWholeUpTo count_max) (member_named members (codes "count")) entry.count
 
 -- the members of an order file
 abbrev pub order_table : List Entry
@@ -37,7 +37,7 @@ order_table =
 -- the file says this order and this key
 pub record IsOrderFile (bytes : Text) (said : IssueFile) : Type 0 where
   pub members : Members
-  pub file : HasMembers FILE_MAX (fields_of order_table) bytes members
+  pub file : HasMembers file_max (fields_of order_table) bytes members
   pub payload : Says IsValue (found members Payload) (tree_of said.order.payload)
   pub hide : SaysOr (IsListOf IsPointer) [] (found members Hide) said.order.hide
   pub decoys : SaysOr (IsListOf IsDecoy) [] (found members Decoys) said.order.decoys
@@ -47,4 +47,4 @@ pub record IsOrderFile (bytes : Text) (said : IssueFile) : Type 0 where
 
 -- why the file says no order; want of memory says nothing
 abbrev pub IsOrderRefused : Text → FileFault → Type 0
-IsOrderRefused bytes fault = IsFileRefused FILE_MAX order_table bytes fault
+IsOrderRefused bytes fault = IsFileRefused file_max order_table bytes fault

@@ -4,12 +4,11 @@ use Rattle.std.specs.Set.{distinct_count}
 use Rattle.claim_tree.specs.Tree.{Text, Tree, depth}
 use Rattle.claim_tree.specs.Lists.{At, In}
 use Rattle.claim_tree.specs.Path.{tree_at}
-use Rattle.compact_form.specs.declared.limits.TheConstants.{COUNT_MAX}
+use Rattle.sd_outside.specs.Limits.{count_max, depth_max}
 use Rattle.marked_tree.specs.Places.{Path, same_path}
 use Rattle.issuer_core.specs.declared.order.Decoy.{Decoy}
 use Rattle.issuer_core.specs.declared.errors.IssueError.{IssueError}
 use Rattle.issuer_core.specs.declared.errors.IssueError.TheVariants.{Memory, SignFailed, PayloadNotObject, ReservedName, TooDeep, RootMarked, NoSuchPlace, ProtectedClaim, DecoyPlace, TooManyHidden, TooManyDecoys, DigestClash, TooLong}
-use Rattle.issuer_core.specs.declared.judging.TheConstants.{DEPTH_MAX}
 use Rattle.issuer_core.specs.Order.{Order}
 use Rattle.issuer_core.specs.Decoys.{decoys_of}
 use Rattle.issuer_core.specs.GoodOrder.{IsObject, HoldsOthers}
@@ -43,13 +42,13 @@ IsMisplaced claims entry = HoldsOthers (tree_at claims entry.at) → ⊥
 abbrev pub Refuses : Order → IssueError → Type 0
 Refuses o PayloadNotObject = IsObject o.claims → ⊥
 Refuses o (ReservedName path) = slice_get (reserved_places o.claims) 0 ≡ Some path
-Refuses o TooDeep = DEPTH_MAX < depth o.claims
+Refuses o TooDeep = depth_max < depth o.claims
 Refuses o (RootMarked k) = IsSuchAt IsRoot o.hide k
 Refuses o (NoSuchPlace k) = IsSuchAt (IsNowhere o.claims) o.hide k
 Refuses o (ProtectedClaim k) = IsSuchAt IsProtected o.hide k
 Refuses o (DecoyPlace k) = IsSuchAt (IsMisplaced o.claims) o.decoys k
-Refuses o TooManyHidden = COUNT_MAX < distinct_count same_path o.hide
-Refuses o TooManyDecoys = COUNT_MAX < length (decoys_of o)
+Refuses o TooManyHidden = count_max < distinct_count same_path o.hide
+Refuses o TooManyDecoys = count_max < length (decoys_of o)
 Refuses o _ = ⊥
 
 -- the printed number; what is no refusal has none

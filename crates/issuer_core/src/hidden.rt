@@ -1,16 +1,10 @@
 // The places that an order hides.
-ghost use Rattle.std.specs.Prelude.{◌≡◌, ◌≤◌, length, IfOk};
+ghost use Rattle.std.specs.Prelude.{◌≡◌, length, IfOk};
 ghost use Rattle.std.specs.Set.{distinct_count};
-ghost use Rattle.claim_tree.specs.Tree.{depth as depth_of};
-ghost use Rattle.claim_tree.specs.View.{tree_of};
-ghost use Rattle.marked_tree.specs.Marked.{strip};
-ghost use Rattle.marked_tree.specs.Places.{Path as Steps, same_path, is_among, mark as mark_of, hidden_count};
-ghost use Rattle.marked_tree.specs.View.{marked_of};
+ghost use Rattle.marked_tree.specs.Places.{Path as Steps, same_path, is_among};
 
-use claim_tree::{PathList, Tree, print_path};
-use compact_form::COUNT_MAX;
+use claim_tree::{PathList, print_path};
 use digest_index::{DigestIndex, Steps as LookUps};
-use marked_tree::{Marked, mark_counted};
 use sd_outside::NoMemory;
 use std::alloc::Global;
 
@@ -30,24 +24,4 @@ pub(crate) fn different(alloc: Global, paths: &PathList) -> Result<PathList, NoM
         }
     }
     Ok(kept)
-}
-
-// The payload with a mark at each place that is hidden, and how many these are.
-pub(crate) fn mark_hidden(
-    alloc: Global,
-    payload: &Tree,
-    hide: &PathList,
-) -> Result<(Marked, u32), NoMemory>
-    requires depth { depth_of (tree_of payload.now) ≤ 127 }
-    requires few { distinct_count same_path hide.now ≤ COUNT_MAX }
-    ensures marked { IfOk result (λ marked. marked_of marked.0 ≡ mark_of (tree_of payload.now) hide.now) }
-    ensures strips { IfOk result (λ marked. strip (marked_of marked.0) ≡ tree_of payload.now) }
-    ensures count { IfOk result (λ marked. marked.1 ≡ hidden_count (tree_of payload.now) hide.now) }
-    ensures few { IfOk result (λ marked. marked.1 ≤ COUNT_MAX) }
-{
-    if hide.len() <= COUNT_MAX {
-        return mark_counted(alloc, payload, hide);
-    }
-    let kept = different(alloc, hide)?;
-    mark_counted(alloc, payload, &kept)
 }

@@ -4,7 +4,7 @@ ghost use Rattle.std.specs.List.{AllByRecursion};
 ghost use Rattle.sd_outside.specs.Causes.{Rose};
 ghost use Rattle.claim_tree.specs.Tree.{depth as depth_of, IsRanged};
 ghost use Rattle.claim_tree.specs.View.{tree_of};
-ghost use Rattle.compact_form.specs.declared.limits.TheConstants.{COUNT_MAX, ISSUE_MAX};
+ghost use Rattle.sd_outside.specs.Limits.{count_max, issue_max};
 ghost use Rattle.compact_form.specs.Compact.{compact, AreWords};
 ghost use Rattle.hmac_sign.specs.Signatures.{Agree};
 ghost use Rattle.issuer_core.specs.declared.errors.IssueError.{IssueError};
@@ -44,8 +44,8 @@ pub fn issue<S: Signer>(
     ensures writable { IfOk result (λ _. IsWritable (order_of order.now)) }
     ensures differ { IfOk result (λ _. HasNoClash (maker_of seed.now) (order_of order.now)) }
     ensures words { IfOk result AreWords }
-    ensures few { IfOk result (λ parts. length parts.disclosures ≤ COUNT_MAX) }
-    ensures short { IfOk result (λ parts. length (compact parts) ≤ ISSUE_MAX) }
+    ensures few { IfOk result (λ parts. length parts.disclosures ≤ count_max) }
+    ensures short { IfOk result (λ parts. length (compact parts) ≤ issue_max) }
     ensures refused { IfErr result (IsNotIssued (maker_of seed.now) (order_of order.now) (S.good signer.old)) }
     ensures failed { IsErrOf result IssueError.SignFailed → Rose (S.faults signer.old) (S.faults signer.new) }
 
@@ -77,8 +77,8 @@ pub fn issue_owned<S: Signer>(
     ensures writable { IfOk result (λ _. IsWritable (order_of order)) }
     ensures differ { IfOk result (λ _. HasNoClash (maker_of seed.now) (order_of order)) }
     ensures words { IfOk result AreWords }
-    ensures few { IfOk result (λ parts. length parts.disclosures ≤ COUNT_MAX) }
-    ensures short { IfOk result (λ parts. length (compact parts) ≤ ISSUE_MAX) }
+    ensures few { IfOk result (λ parts. length parts.disclosures ≤ count_max) }
+    ensures short { IfOk result (λ parts. length (compact parts) ≤ issue_max) }
     ensures refused { IfErr result (IsNotIssued (maker_of seed.now) (order_of order) (S.good signer.old)) }
     ensures failed { IsErrOf result IssueError.SignFailed → Rose (S.faults signer.old) (S.faults signer.new) }
 
@@ -159,7 +159,7 @@ fn judge_digests(alloc: Global, digests: &TextList) -> Result<(), IssueError>
 // 61.
 fn is_too_long(alloc: Global, parts: &Parts) -> Result<bool, NoMemory>
     requires { AreWords parts.now }
-    ensures { IfOk result (λ answer. IsTrue answer ↔ (ISSUE_MAX < length (compact parts.now))) }
+    ensures { IfOk result (λ answer. IsTrue answer ↔ (issue_max < length (compact parts.now))) }
 {
     let text = print(alloc, parts)?;
     Ok(text.as_str().len() > ISSUE_MAX)

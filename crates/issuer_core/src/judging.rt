@@ -3,6 +3,7 @@ ghost use Rattle.std.specs.Prelude.{◌≡◌, ◌≤◌, ◌<◌, ◌↔◌, le
 ghost use Rattle.std.specs.Str.{IsUtf8};
 ghost use Rattle.std.specs.List.{position_from, list_any};
 ghost use Rattle.std.specs.Set.{distinct_count};
+ghost use Rattle.sd_outside.specs.Limits.{count_max};
 ghost use Rattle.claim_tree.specs.Tree.{depth as depth_of, IsOrdered};
 ghost use Rattle.claim_tree.specs.Path.{tree_at};
 ghost use Rattle.claim_tree.specs.View.{tree_of};
@@ -106,7 +107,7 @@ fn first_misplaced(payload: &Tree, decoys: &DecoyList) -> Option<usize>
 
 // They are told apart only where there are so many paths.
 fn hides_too_many(alloc: Global, hide: &PathList) -> Result<bool, NoMemory>
-    ensures { IfOk result (λ answer. IsTrue answer ↔ (COUNT_MAX < distinct_count same_path hide.now)) }
+    ensures { IfOk result (λ answer. IsTrue answer ↔ (count_max < distinct_count same_path hide.now)) }
 {
     if hide.len() <= COUNT_MAX {
         return Ok(false);
@@ -115,7 +116,7 @@ fn hides_too_many(alloc: Global, hide: &PathList) -> Result<bool, NoMemory>
 }
 
 fn are_too_many(decoys: &DecoyList) -> bool
-    ensures { IsTrue result ↔ (COUNT_MAX < length (places decoys.now)) }
+    ensures { IsTrue result ↔ (count_max < length (places decoys.now)) }
 {
     let mut total = 0;
     for entry in decoys.items() {

@@ -1,6 +1,7 @@
 // The walk that hides, RFC 9901 section 4.2.4.
 ghost use Rattle.std.specs.Prelude.{◌≡◌, ◌+◌, ◌≤◌, ◌<◌, List, ℕ, [], ◌∷◌, ◌++◌, length, map, drop, option_map, IfOk, OnOk, IsTrue};
 ghost use Rattle.std.specs.Set.{distinct_count};
+ghost use Rattle.sd_outside.specs.Limits.{count_max, depth_max};
 ghost use Rattle.claim_tree.specs.Tree.{Text, IsRanged, leaf, text as text_leaf, depth, elements_depth, members_depth, ElementsRanged, MembersRanged};
 ghost use Rattle.claim_tree.specs.View.{tree_of};
 ghost use Rattle.marked_tree.specs.Marked.{strip, strip_elements, strip_members, weight, elements_weight, members_weight, mark_weight};
@@ -16,14 +17,13 @@ ghost use Rattle.issuer_core.specs.Laying.{digest as digest_by, digest_at, salte
 ghost use Rattle.issuer_core.specs.Closing.{one, IsNumbered, ClosesFrom, ElementsClose, MembersClose};
 
 use crate::decoys::{Decoys, sort_decoys};
-use crate::hidden::mark_hidden;
 use crate::salts::salts_of;
 use crate::{DecoyList, Order};
 use claim_tree::{Tree, TreeList, TreeMap};
 use compact_form::COUNT_MAX;
 use disclosure::{HashAlg, digest, make_owned};
 use itoa::Buffer;
-use marked_tree::{Marked, MarkedList, MarkedMap};
+use marked_tree::{Marked, MarkedList, MarkedMap, mark_counted};
 use sd_outside::{NoMemory, TextBox, TextList};
 use std::alloc::Global;
 
@@ -279,7 +279,7 @@ fn lay_part(
 
 // How many decoys there are.
 fn count_decoys(decoys: &DecoyList) -> usize
-    requires { length (places decoys.now) ≤ COUNT_MAX }
+    requires { length (places decoys.now) ≤ count_max }
     ensures { result ≡ length (places decoys.now) }
 {
     let mut count = 0;
@@ -332,14 +332,14 @@ fn joined(alloc: Global, mut texts: TextList, others: &TextList) -> Result<TextL
 
 // Lays an order, with the salts of a seed.
 pub(crate) fn lay_order(alloc: Global, order: &Order, seed: &[u8; 32]) -> Result<Laid, NoMemory>
-    requires shallow { depth (order_of order.now).claims ≤ 100 }
+    requires shallow { depth (order_of order.now).claims ≤ depth_max }
     requires ranged { IsRanged (order_of order.now).claims }
-    requires few { distinct_count same_path order.now.hide ≤ COUNT_MAX }
-    requires decoys { length (places order.now.decoys) ≤ COUNT_MAX }
+    requires few { distinct_count same_path order.now.hide ≤ count_max }
+    requires decoys { length (places order.now.decoys) ≤ count_max }
     ensures laid { IfOk result (λ laid. IsLaidFor (maker_of seed.now) (order_of order.now) (tree_of laid.payload) laid.texts laid.digests) }
-    ensures few { IfOk result (λ laid. length laid.texts ≤ COUNT_MAX) }
+    ensures few { IfOk result (λ laid. length laid.texts ≤ count_max) }
 {
-    let (claims, hidden) = mark_hidden(alloc, &order.payload, &order.hide)?;
+    let (claims, hidden) = mark_counted(alloc, &order.payload, &order.hide)?;
     let hidden = hidden as usize;
     let salts = salts_of(alloc, seed, hidden + count_decoys(&order.decoys))?;
     let of_decoys = decoy_digests(alloc, &salts, hidden)?;
@@ -358,12 +358,12 @@ pub(crate) fn lay_order(alloc: Global, order: &Order, seed: &[u8; 32]) -> Result
 
 // The same of an order that is given away: where it hides nothing and has no decoys, its payload is moved.
 pub(crate) fn lay_owned(alloc: Global, order: Order, seed: &[u8; 32]) -> Result<Laid, NoMemory>
-    requires shallow { depth (order_of order).claims ≤ 100 }
+    requires shallow { depth (order_of order).claims ≤ depth_max }
     requires ranged { IsRanged (order_of order).claims }
-    requires few { distinct_count same_path order.hide ≤ COUNT_MAX }
-    requires decoys { length (places order.decoys) ≤ COUNT_MAX }
+    requires few { distinct_count same_path order.hide ≤ count_max }
+    requires decoys { length (places order.decoys) ≤ count_max }
     ensures laid { IfOk result (λ laid. IsLaidFor (maker_of seed.now) (order_of order) (tree_of laid.payload) laid.texts laid.digests) }
-    ensures few { IfOk result (λ laid. length laid.texts ≤ COUNT_MAX) }
+    ensures few { IfOk result (λ laid. length laid.texts ≤ count_max) }
 {
     if !hides_nothing(&order) {
         return lay_order(alloc, &order, seed);

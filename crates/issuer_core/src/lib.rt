@@ -9,17 +9,11 @@ mod issuing;
 mod judging;
 pub mod laws;
 mod laying;
-#[cfg(test)]
-mod laying_tests;
 mod order;
 mod order_file;
-#[cfg(test)]
-mod order_file_tests;
 mod refusal;
 mod reserved;
 mod salts;
-#[cfg(test)]
-mod tests;
 
 pub use clash::first_clash;
 pub use errors::IssueError;

@@ -1,6 +1,6 @@
 // The file that says an order.
 ghost use Rattle.std.specs.Prelude.{◌≡◌, ◌≤◌, List, [], OnOk, IfOk, IfErr, IfSome, IfNone};
-ghost use Rattle.compact_form.specs.declared.limits.TheConstants.{COUNT_MAX};
+ghost use Rattle.sd_outside.specs.Limits.{count_max};
 ghost use Rattle.claim_tree.specs.Tree.{IsRanged, IsOrdered, depth as depth_of};
 ghost use Rattle.claim_tree.specs.Lists.{In};
 ghost use Rattle.claim_tree.specs.View.{tree_of, elements_of};
@@ -126,7 +126,7 @@ pub fn read_order(alloc: Global, bytes: &[u8]) -> Result<IssueFile, FileFault>
     ensures ranged { IfOk result (λ said. IsRanged (tree_of said.order.payload)) }
     ensures ordered { IfOk result (λ said. IsOrdered (tree_of said.order.payload)) }
     ensures depth { IfOk result (λ said. depth_of (tree_of said.order.payload) ≤ 126) }
-    ensures counts { IfOk result (λ said. (entry : Seen) → In entry said.order.decoys → entry.count ≤ COUNT_MAX) }
+    ensures counts { IfOk result (λ said. (entry : Seen) → In entry said.order.decoys → entry.count ≤ count_max) }
     ensures refused { IfErr result (IsOrderRefused bytes.now) }
 {
     let members = read_members(alloc, bytes, FILE_MAX, &FIELDS)?;

@@ -14,9 +14,10 @@ use Rattle.claim_tree.specs.Tree.{Text, text, Tree, leaf, array, object, no_elem
 use Rattle.claim_tree.specs.FileForms.{text_elements}
 use Rattle.claim_tree.specs.JsonText.{elements_data, members_data, json_text}
 use Rattle.claim_tree.proofs.RoundTrip.{read_of_text}
-use Rattle.compact_form.specs.declared.conditions.TheConstants.{TOO_MUCH}
+use Rattle.compact_form.specs.Condition as condition
+use Rattle.compact_form.specs.Condition.{number_of}
 use Rattle.compact_form.specs.declared.fault.Place.TheVariants.{Nowhere}
-use Rattle.compact_form.specs.declared.limits.TheConstants.{COMPACT_MAX, COUNT_MAX}
+use Rattle.sd_outside.specs.Limits.{compact_max, count_max}
 use Rattle.compact_form.specs.Compact.{jwt, spelled, hashed, ending, compact, HasWords, AreWords}
 use Rattle.compact_form.specs.PartWords.{word_of}
 use Rattle.compact_form.specs.declared.fault.Part.TheVariants.{Payload, Protected, Signature, Signatures, Header, Disclosures, KbJwt}
@@ -303,13 +304,13 @@ general_is parts words =
 
 -- the parts are no more than a token may have
 record AreFew (parts : Parts) : Type 0 where
-  count : length parts.disclosures ≤ COUNT_MAX
-  short : length (compact parts) ≤ COMPACT_MAX
+  count : length parts.disclosures ≤ count_max
+  short : length (compact parts) ≤ compact_max
 
 few_of : (parts : Parts) → (IsTooMuch parts → ⊥) → AreFew parts
 few_of parts few =
-    let count : COUNT_MAX < length parts.disclosures → ⊥ = λ many. few (inl many) in
-    let short : COMPACT_MAX < length (compact parts) → ⊥ = λ long. few (inr long) in
+    let count : count_max < length parts.disclosures → ⊥ = λ many. few (inl many) in
+    let short : compact_max < length (compact parts) → ⊥ = λ long. few (inr long) in
     record { count = omega (arith, count); short = omega (arith, short) }
 
 module _ (parts : Parts) (words : AreWords parts) (few : IsTooMuch parts → ⊥) where
@@ -336,7 +337,7 @@ words_spelled content token (spells_json json (inr general)) = entry_words gener
 
 module _ (content : Text) (token : Token) (is : IsToken content token) (none : token.outer ≡ no_members) where
   few_read : IsTooMuch token.parts → ⊥
-  few_read much = is.passes (record { number = TOO_MUCH; place = Nowhere }) (too_much token refl is.spells much)
+  few_read much = is.passes (record { number = number_of condition.too_much; place = Nowhere }) (too_much token refl is.spells much)
 
   whole : alone token.parts ≡ token
   whole = ap (λ (ms : Members). let t : Token = record { parts = token.parts; outer = ms } in t) (sym none)

@@ -11,7 +11,7 @@ use Rattle.serde_json.specs.Written.{members_text, compact_text, comma_if}
 use Rattle.json.specs.Print.{quoted}
 use Rattle.claim_tree.specs.Tree.{Text, object, Members, no_members}
 use Rattle.claim_tree.specs.JsonText.{members_data, json_text}
-use Rattle.compact_form.specs.declared.limits.TheConstants.{FILE_MAX, COMPACT_MAX}
+use Rattle.sd_outside.specs.Limits.{file_max, compact_max}
 use Rattle.compact_form.specs.declared.fault.Fault.{Fault}
 use Rattle.compact_form.specs.declared.parts.Parts.{Parts}
 use Rattle.compact_form.specs.Compact.{compact, AreWords}
@@ -74,7 +74,7 @@ read_spelled text token spelled short few = record { spells = spelled; passes = 
     go other (too_much t e h i) = few (subst (λ (u : Token). IsTooMuch u.parts) (one_spelled (trimmed text) t token h spelled) i)
 
 -- a JSON serialization
-pub read_json_line : (token : Token) (ms : Members) → IsJson token (json_text (object ms)) → length (json_text (object ms) ++ 10 ∷ []) ≤ FILE_MAX → (IsTooMuch token.parts → ⊥)
+pub read_json_line : (token : Token) (ms : Members) → IsJson token (json_text (object ms)) → length (json_text (object ms) ++ 10 ∷ []) ≤ file_max → (IsTooMuch token.parts → ⊥)
     → IsToken (json_text (object ms) ++ 10 ∷ []) token
 read_json_line token ms is small few =
     let whole = json_text (object ms) ++ 10 ∷ [] in
@@ -83,7 +83,7 @@ read_json_line token ms is small few =
     read_spelled whole token (subst (λ (x : Text). Spells x token) (sym bare) (spells_json refl is)) (short_text whole json small) few
 
 -- the same without a line end
-pub read_json_text : (token : Token) (ms : Members) → IsJson token (json_text (object ms)) → length (json_text (object ms)) ≤ FILE_MAX → (IsTooMuch token.parts → ⊥) → IsToken (json_text (object ms)) token
+pub read_json_text : (token : Token) (ms : Members) → IsJson token (json_text (object ms)) → length (json_text (object ms)) ≤ file_max → (IsTooMuch token.parts → ⊥) → IsToken (json_text (object ms)) token
 read_json_text token ms is small few =
     let whole = json_text (object ms) in
     let same : trimmed whole ≡ whole = json_bare ms in
@@ -95,11 +95,11 @@ pub read_compact_line : (parts : Parts) → AreWords parts → (IsTooMuch parts 
 read_compact_line parts words few =
     let whole = compact parts ++ 10 ∷ [] in
     let bare : trimmed whole ≡ compact parts = printed_line parts words in
-    let no_longer : COMPACT_MAX < length (compact parts) → ⊥ = λ long. few (inr long) in
-    let small : length (compact parts) ≤ COMPACT_MAX = omega (arith, no_longer) in
+    let no_longer : compact_max < length (compact parts) → ⊥ = λ long. few (inr long) in
+    let small : length (compact parts) ≤ compact_max = omega (arith, no_longer) in
     let longer : length whole ≡ length (compact parts) + 1 = length-append (compact parts) (10 ∷ []) in
     let short : is_too_long whole ≡ false = rw (
-      le-ltb FILE_MAX (length whole) (omega (arith, small, longer)),
-      le-ltb COMPACT_MAX (length (trimmed whole)) (omega (arith, small, ap length bare)),
+      le-ltb file_max (length whole) (omega (arith, small, longer)),
+      le-ltb compact_max (length (trimmed whole)) (omega (arith, small, ap length bare)),
     ) (and-false (not (is_json (trimmed whole)))) in
     read_spelled whole (record { parts = parts; outer = no_members }) (subst (λ (x : Text). Spells x (record { parts = parts; outer = no_members })) (sym bare) (spells_compact (printed_plainly parts words) (is_compact parts words) refl)) short few

@@ -3,8 +3,9 @@ use Rattle.std.proofs.Common.{◌≡◌, ℕ, ◌<◌, ◌≤◌, Bool, true, fa
 use Rattle.std.specs.Prelude.{◌&&◌, ◌||◌, not, nat_lt}
 use Rattle.std.proofs.lemmas.Bool.{lt-ltb, le-ltb}
 use Rattle.claim_tree.specs.Tree.{Members, no_members}
-use Rattle.compact_form.specs.declared.limits.TheConstants.{FILE_MAX, COMPACT_MAX}
-use Rattle.compact_form.specs.declared.conditions.TheConstants.{TOO_LONG, FORM, TOO_MUCH}
+use Rattle.sd_outside.specs.Limits.{file_max, compact_max}
+use Rattle.compact_form.specs.Condition as condition
+use Rattle.compact_form.specs.Condition.{number_of}
 use Rattle.compact_form.specs.declared.fault.Fault.{Fault}
 use Rattle.compact_form.specs.declared.fault.Place.{Place}
 use Rattle.compact_form.specs.declared.fault.Place.TheVariants.{Nowhere, At, Json}
@@ -63,17 +64,17 @@ one_place text p q (no_json there json fault named) (no_compact stop plainly ref
 one_place text p q (no_json there json fault named) (no_json here again found was) = named ∙ ap Json (one_fault text there here fault found) ∙ sym was
 
 abbrev at_place : Place → Fault
-at_place place = record { number = FORM; place = place }
+at_place place = record { number = number_of condition.form; place = place }
 
 same_number : (text : List ℕ) (f g : Fault) → Fails text f → Fails text g → f.number ≡ g.number → f ≡ g
 same_number text f g (too_long e h) (too_long d k) n = e ∙ sym d
-same_number text f g (too_long e h) (form q d k) n = absurd (omega (arith, n, number f TOO_LONG Nowhere e, number g FORM q d))
-same_number text f g (too_long e h) (too_much u d k l) n = absurd (omega (arith, n, number f TOO_LONG Nowhere e, number g TOO_MUCH Nowhere d))
-same_number text f g (form p e h) (too_long d k) n = absurd (omega (arith, n, number f FORM p e, number g TOO_LONG Nowhere d))
+same_number text f g (too_long e h) (form q d k) n = absurd (omega (arith, n, number f (number_of condition.too_long) Nowhere e, number g (number_of condition.form) q d))
+same_number text f g (too_long e h) (too_much u d k l) n = absurd (omega (arith, n, number f (number_of condition.too_long) Nowhere e, number g (number_of condition.too_much) Nowhere d))
+same_number text f g (form p e h) (too_long d k) n = absurd (omega (arith, n, number f (number_of condition.form) p e, number g (number_of condition.too_long) Nowhere d))
 same_number text f g (form p e h) (form q d k) n = e ∙ ap at_place (one_place (trimmed text) p q h k) ∙ sym d
-same_number text f g (form p e h) (too_much u d k l) n = absurd (omega (arith, n, number f FORM p e, number g TOO_MUCH Nowhere d))
-same_number text f g (too_much t e h i) (too_long d k) n = absurd (omega (arith, n, number f TOO_MUCH Nowhere e, number g TOO_LONG Nowhere d))
-same_number text f g (too_much t e h i) (form q d k) n = absurd (omega (arith, n, number f TOO_MUCH Nowhere e, number g FORM q d))
+same_number text f g (form p e h) (too_much u d k l) n = absurd (omega (arith, n, number f (number_of condition.form) p e, number g (number_of condition.too_much) Nowhere d))
+same_number text f g (too_much t e h i) (too_long d k) n = absurd (omega (arith, n, number f (number_of condition.too_much) Nowhere e, number g (number_of condition.too_long) Nowhere d))
+same_number text f g (too_much t e h i) (form q d k) n = absurd (omega (arith, n, number f (number_of condition.too_much) Nowhere e, number g (number_of condition.form) q d))
 same_number text f g (too_much t e h i) (too_much u d k l) n = e ∙ sym d
 
 pub one_refusal : (text : List ℕ) (f g : Fault) → IsRefused text f → IsRefused text g → f ≡ g
@@ -99,23 +100,23 @@ or_true : (a b c : Bool) → b ≡ false → c ≡ true → (a || (not b && c)) 
 or_true true b c p q = refl
 or_true false b c p q = rw (p, q) refl
 
-long_text : (text : List ℕ) (parts : Parts) → is_json (trimmed text) ≡ false → IsCompact parts (trimmed text) → COMPACT_MAX < length (compact parts) → is_too_long text ≡ true
+long_text : (text : List ℕ) (parts : Parts) → is_json (trimmed text) ≡ false → IsCompact parts (trimmed text) → compact_max < length (compact parts) → is_too_long text ≡ true
 long_text text parts plainly spelled long =
-    let over : COMPACT_MAX < length (trimmed text) = omega (arith, long, ap length spelled.spelling) in
-    or_true (nat_lt FILE_MAX (length text)) (is_json (trimmed text)) (nat_lt COMPACT_MAX (length (trimmed text))) plainly (lt-ltb COMPACT_MAX (length (trimmed text)) over)
+    let over : compact_max < length (trimmed text) = omega (arith, long, ap length spelled.spelling) in
+    or_true (nat_lt file_max (length text)) (is_json (trimmed text)) (nat_lt compact_max (length (trimmed text))) plainly (lt-ltb compact_max (length (trimmed text)) over)
 
 from_either : (text : List ℕ) (fault : Fault) → is_json (trimmed text) ≡ false → Fails text fault → FailsPlainly text fault
 from_either text fault plainly (too_long is long) = record { plain_fault = fault; fails = plain.too_long is long; lower = omega arith }
 from_either text fault plainly (form place is (no_compact stop again refused at)) =
-    record { plain_fault = record { number = FORM; place = At stop }; fails = plain.form stop refl refused; lower = omega (arith, number fault FORM place is) }
+    record { plain_fault = record { number = number_of condition.form; place = At stop }; fails = plain.form stop refl refused; lower = omega (arith, number fault (number_of condition.form) place is) }
 from_either text fault plainly (form place is (no_json at json refused named)) = absurd (clash (is_json (trimmed text)) json plainly)
 from_either text fault plainly (too_much t is (spells_compact again spelled none) (inl many)) =
     record { plain_fault = fault; fails = plain.too_much t.parts is spelled many; lower = omega arith }
 from_either text fault plainly (too_much t is (spells_compact again spelled none) (inr long)) =
     record {
-      plain_fault = record { number = TOO_LONG; place = Nowhere };
+      plain_fault = record { number = number_of condition.too_long; place = Nowhere };
       fails = plain.too_long refl (long_text text t.parts plainly spelled long);
-      lower = omega (arith, number fault TOO_MUCH Nowhere is);
+      lower = omega (arith, number fault (number_of condition.too_much) Nowhere is);
     }
 from_either text fault plainly (too_much t is (spells_json json spelled) much) = absurd (clash (is_json (trimmed text)) json plainly)
 
@@ -145,38 +146,38 @@ printable_plainly text token reads none =
 
 -- ---- a JSON text
 
-pub short_text : (text : List ℕ) → is_json (trimmed text) ≡ true → length text ≤ FILE_MAX → is_too_long text ≡ false
-short_text text json short = rw (json, le-ltb FILE_MAX (length text) short) refl
+pub short_text : (text : List ℕ) → is_json (trimmed text) ≡ true → length text ≤ file_max → is_too_long text ≡ false
+short_text text json short = rw (json, le-ltb file_max (length text) short) refl
 
-long_json : (text : List ℕ) → FILE_MAX < length text → is_too_long text ≡ true
-long_json text long = rw (lt-ltb FILE_MAX (length text) long) refl
+long_json : (text : List ℕ) → file_max < length text → is_too_long text ≡ true
+long_json text long = rw (lt-ltb file_max (length text) long) refl
 
-pub refused_long : (text : List ℕ) (fault : Fault) → fault ≡ record { number = TOO_LONG; place = Nowhere } → FILE_MAX < length text → IsRefused text fault
+pub refused_long : (text : List ℕ) (fault : Fault) → fault ≡ record { number = number_of condition.too_long; place = Nowhere } → file_max < length text → IsRefused text fault
 refused_long text fault is long = record { fails = too_long is (long_json text long); lowest = go }
   where
     go : (other : Fault) → Fails text other → fault.number ≤ other.number
-    go other (too_long e h) = omega (arith, number fault TOO_LONG Nowhere is, number other TOO_LONG Nowhere e)
-    go other (form p e h) = omega (arith, number fault TOO_LONG Nowhere is, number other FORM p e)
-    go other (too_much t e h i) = omega (arith, number fault TOO_LONG Nowhere is, number other TOO_MUCH Nowhere e)
+    go other (too_long e h) = omega (arith, number fault (number_of condition.too_long) Nowhere is, number other (number_of condition.too_long) Nowhere e)
+    go other (form p e h) = omega (arith, number fault (number_of condition.too_long) Nowhere is, number other (number_of condition.form) p e)
+    go other (too_much t e h i) = omega (arith, number fault (number_of condition.too_long) Nowhere is, number other (number_of condition.too_much) Nowhere e)
 
-pub refused_form : (text : List ℕ) (fault : Fault) (place : JsonPlace) → fault ≡ record { number = FORM; place = Json place } → is_json (trimmed text) ≡ true → length text ≤ FILE_MAX → IsJsonFault (trimmed text) place → IsRefused text fault
+pub refused_form : (text : List ℕ) (fault : Fault) (place : JsonPlace) → fault ≡ record { number = number_of condition.form; place = Json place } → is_json (trimmed text) ≡ true → length text ≤ file_max → IsJsonFault (trimmed text) place → IsRefused text fault
 refused_form text fault place is json short misformed = record { fails = form (Json place) is (no_json place json misformed refl); lowest = go }
   where
     go : (other : Fault) → Fails text other → fault.number ≤ other.number
     go other (too_long e h) = absurd (clash (is_too_long text) h (short_text text json short))
-    go other (form p e h) = omega (arith, number fault FORM (Json place) is, number other FORM p e)
-    go other (too_much t e h i) = omega (arith, number fault FORM (Json place) is, number other TOO_MUCH Nowhere e)
+    go other (form p e h) = omega (arith, number fault (number_of condition.form) (Json place) is, number other (number_of condition.form) p e)
+    go other (too_much t e h i) = omega (arith, number fault (number_of condition.form) (Json place) is, number other (number_of condition.too_much) Nowhere e)
 
-pub refused_much : (text : List ℕ) (fault : Fault) (token : Token) → fault ≡ record { number = TOO_MUCH; place = Nowhere } → is_json (trimmed text) ≡ true → length text ≤ FILE_MAX → IsJson token (trimmed text) → IsTooMuch token.parts
+pub refused_much : (text : List ℕ) (fault : Fault) (token : Token) → fault ≡ record { number = number_of condition.too_much; place = Nowhere } → is_json (trimmed text) ≡ true → length text ≤ file_max → IsJson token (trimmed text) → IsTooMuch token.parts
     → IsRefused text fault
 refused_much text fault token is json short said much = record { fails = too_much token is (spells_json json said) much; lowest = go }
   where
     go : (other : Fault) → Fails text other → fault.number ≤ other.number
     go other (too_long e h) = absurd (clash (is_too_long text) h (short_text text json short))
     go other (form p e h) = absurd (spelled_well (trimmed text) token p (spells_json json said) h)
-    go other (too_much t e h i) = omega (arith, number fault TOO_MUCH Nowhere is, number other TOO_MUCH Nowhere e)
+    go other (too_much t e h i) = omega (arith, number fault (number_of condition.too_much) Nowhere is, number other (number_of condition.too_much) Nowhere e)
 
-pub read_json : (text : List ℕ) (token : Token) → is_json (trimmed text) ≡ true → length text ≤ FILE_MAX → IsJson token (trimmed text) → (IsTooMuch token.parts → ⊥) → IsToken text token
+pub read_json : (text : List ℕ) (token : Token) → is_json (trimmed text) ≡ true → length text ≤ file_max → IsJson token (trimmed text) → (IsTooMuch token.parts → ⊥) → IsToken text token
 read_json text token json short said few = record { spells = spells_json json said; passes = go }
   where
     go : (other : Fault) → Fails text other → ⊥
@@ -190,7 +191,7 @@ pub same_fault : (fault named : Fault) → TokenError.Fault named ≡ TokenError
 same_fault fault named is = cc is
 
 -- an error of a JSON text that is handed on
-pub refused_misformed : (text : List ℕ) (fault : Fault) (error : JsonFormError) → misformed error ≡ TokenError.Fault fault → is_json (trimmed text) ≡ true → length text ≤ FILE_MAX
+pub refused_misformed : (text : List ℕ) (fault : Fault) (error : JsonFormError) → misformed error ≡ TokenError.Fault fault → is_json (trimmed text) ≡ true → length text ≤ file_max
     → ((place : JsonPlace) → error ≡ JsonFormError.Fault place → IsJsonFault (trimmed text) place) → IsRefused text fault
 refused_misformed text fault JsonFormError.Memory is json short why = cc is
-refused_misformed text fault (JsonFormError.Fault place) is json short why = refused_form text fault place (same_fault fault (record { number = FORM; place = Json place }) is) json short (why place refl)
+refused_misformed text fault (JsonFormError.Fault place) is json short why = refused_form text fault place (same_fault fault (record { number = number_of condition.form; place = Json place }) is) json short (why place refl)

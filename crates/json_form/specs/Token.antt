@@ -1,8 +1,9 @@
 -- A token as it comes from a file, in any of its serializations (RFC 9901 sections 4 and 8), or the lowest condition of 1 to 3 that fails.
 use Rattle.std.specs.Prelude.{◌≡◌, ◌<◌, ◌≤◌, ◌⊎◌, ℕ, true, false, List, length}
 use Rattle.claim_tree.specs.Tree.{no_members}
-use Rattle.compact_form.specs.declared.limits.TheConstants.{COMPACT_MAX, COUNT_MAX}
-use Rattle.compact_form.specs.declared.conditions.TheConstants.{TOO_LONG, FORM, TOO_MUCH}
+use Rattle.sd_outside.specs.Limits.{compact_max, count_max}
+use Rattle.compact_form.specs.Condition as condition
+use Rattle.compact_form.specs.Condition.{number_of}
 use Rattle.compact_form.specs.declared.fault.Fault.{Fault}
 use Rattle.compact_form.specs.declared.fault.Place.{Place}
 use Rattle.compact_form.specs.declared.fault.Place.TheVariants.{Nowhere, At, Json}
@@ -27,13 +28,13 @@ pub data IsMisformed (text : List ℕ) (place : Place) : Type 0 where
 
 -- there are too many disclosures, or the compact text of the parts is too long
 abbrev pub IsTooMuch : Parts → Type 0
-IsTooMuch parts = (COUNT_MAX < length parts.disclosures) ⊎ (COMPACT_MAX < length (compact parts))
+IsTooMuch parts = (count_max < length parts.disclosures) ⊎ (compact_max < length (compact parts))
 
 -- each condition that fails, with its number and its place
 pub data Fails (text : List ℕ) (fault : Fault) : Type 0 where
-  too_long : fault ≡ record { number = TOO_LONG; place = Nowhere } → is_too_long text ≡ true → Fails text fault
-  form : (place : Place) → fault ≡ record { number = FORM; place = place } → IsMisformed (trimmed text) place → Fails text fault
-  too_much : (token : Token) → fault ≡ record { number = TOO_MUCH; place = Nowhere } → Spells (trimmed text) token → IsTooMuch token.parts → Fails text fault
+  too_long : fault ≡ record { number = number_of condition.too_long; place = Nowhere } → is_too_long text ≡ true → Fails text fault
+  form : (place : Place) → fault ≡ record { number = number_of condition.form; place = place } → IsMisformed (trimmed text) place → Fails text fault
+  too_much : (token : Token) → fault ≡ record { number = number_of condition.too_much; place = Nowhere } → Spells (trimmed text) token → IsTooMuch token.parts → Fails text fault
 
 -- the lowest condition that fails
 pub record IsRefused (text : List ℕ) (fault : Fault) : Type 0 where

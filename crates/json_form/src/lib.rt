@@ -8,13 +8,9 @@
 mod entries;
 mod entry;
 mod json_error;
-#[cfg(test)]
-mod json_tests;
 mod json_text;
 pub mod laws;
 mod printing;
-#[cfg(test)]
-mod tests;
 mod token;
 mod token_text;
 mod values;

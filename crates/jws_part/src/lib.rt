@@ -8,8 +8,6 @@ mod body;
 mod header;
 pub mod laws;
 mod members;
-#[cfg(test)]
-mod tests;
 mod times;
 
 pub use body::{BodyError, read_body, write_body};

@@ -2,9 +2,9 @@
 use Rattle.std.specs.Prelude.{◌≤◌, length}
 use Rattle.claim_tree.specs.Tree.{Text, Tree}
 use Rattle.claim_tree.specs.FileForms.{IsText}
-use Rattle.key_binding.specs.declared.short_text.TheConstants.{BINDING_TEXT_MAX}
+use Rattle.sd_outside.specs.Limits.{binding_text_max}
 
 -- the tree is this text, of no more bytes than it may have
 pub record IsShortText (t : Tree) (s : Text) : Type 0 where
   pub is : IsText t s
-  pub short : length s ≤ BINDING_TEXT_MAX
+  pub short : length s ≤ binding_text_max

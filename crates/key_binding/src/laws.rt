@@ -8,7 +8,7 @@ ghost use Rattle.hmac_sign.specs.Hmac.{IsGood};
 ghost use Rattle.key_binding.specs.Binding.{IsBinding, IsReadBack};
 ghost use Rattle.key_binding.specs.BindingConditions.{BindingFails};
 ghost use Rattle.key_binding.specs.Judged.{Judged, holder_key};
-ghost use Rattle.key_binding.specs.declared.short_text.TheConstants.{BINDING_TEXT_MAX};
+ghost use Rattle.sd_outside.specs.Limits.{binding_text_max};
 
 /// What is bound is accepted: by the holder's key, for this audience and nonce, and over this text, as long as it is fresh. It is
 /// so at the very second of each limit.
@@ -25,7 +25,7 @@ pub fn bound_is_accepted()
 /// A key binding token is short: an audience and a nonce of at most 256 bytes each make fewer than 5,000 bytes.
 pub fn bound_is_short()
     ensures { (key : List ℕ) (hash : HashAlg) (hashed aud nonce : List ℕ) (iat : ℕ) (token : JwtParts)
-        → length aud ≤ BINDING_TEXT_MAX → length nonce ≤ BINDING_TEXT_MAX → iat < 2 ^ 64
+        → length aud ≤ binding_text_max → length nonce ≤ binding_text_max → iat < 2 ^ 64
         → IsBinding (IsGood key) hash hashed aud nonce iat token
         → length (jwt token) < 5000 }
 {}

@@ -11,8 +11,6 @@ pub mod laws;
 mod policy;
 mod reading;
 mod short_text;
-#[cfg(test)]
-mod tests;
 mod writing;
 
 pub use errors::{BindError, BindingError};

@@ -14,6 +14,7 @@ pub mod Remarks
 pub mod PrunedSame
 pub mod MarkSame
 pub mod PathOrder
+pub mod DifferentPaths
 pub mod HeadCounts
 mod Examples
 pub mod StepFacts

@@ -20,7 +20,7 @@ use Rattle.marked_tree.proofs.Lookups.{apart, apart_back}
 pub paths_total : IsTotalOrder path_order
 paths_total = lists_total order
 
-not_greater : (o : Ordering) → (o ≡ Less) → o ≢ Greater
+pub not_greater : (o : Ordering) → (o ≡ Less) → o ≢ Greater
 not_greater Less e g = cc
 not_greater Equal e g = cc
 not_greater Greater e g = cc

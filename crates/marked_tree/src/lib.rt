@@ -12,8 +12,6 @@ mod marking;
 mod places;
 mod prunes;
 mod strips;
-#[cfg(test)]
-mod tests;
 
 pub use chosen::ChosenSet;
 pub use inside::stepped;

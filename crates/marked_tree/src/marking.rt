@@ -1,10 +1,10 @@
 // The marking of a plain tree.
 ghost use Rattle.std.specs.Prelude.{◌≡◌, ◌≤◌, ◌<◌, ◌+◌, ◌-◌, ◌^◌, List, ◌∷◌, [], length, IfOk, OnOk, drop};
-ghost use Rattle.std.specs.List.Sorted.{IsPermutation};
+ghost use Rattle.std.specs.Set.{distinct_count};
 ghost use Rattle.claim_tree.specs.Tree.{depth as depth_of, elements_depth, members_depth};
 ghost use Rattle.claim_tree.specs.View.{tree_of};
 ghost use Rattle.marked_tree.specs.Marked.{strip};
-ghost use Rattle.marked_tree.specs.Places.{Path as Steps, mark as mark_of, hidden_count, is_among, below as test_below, one_if, hidden_in, hidden_elements, hidden_members, mark_from, mark_elements, mark_members, mark_if};
+ghost use Rattle.marked_tree.specs.Places.{Path as Steps, same_path, mark as mark_of, hidden_count, is_among, below as test_below, one_if, hidden_in, hidden_elements, hidden_members, mark_from, mark_elements, mark_members, mark_if};
 ghost use Rattle.marked_tree.specs.Rests.{rests, step_order, path_order, AreSorted, IsRun, headed, inner};
 ghost use Rattle.marked_tree.specs.View.{marked_of};
 
@@ -20,10 +20,10 @@ use std::cmp::Ordering;
 /// inside it. The paths are sorted once, and each step down searches those below by halves.
 pub fn mark(alloc: Global, tree: &Tree, paths: &PathList) -> Result<Marked, NoMemory>
     requires depth { depth_of (tree_of tree.now) ≤ 127 }
-    requires few { length paths.now < 2 ^ 32 - 1 }
+    requires few { distinct_count same_path paths.now < 2 ^ 32 - 1 }
     ensures marked { IfOk result (λ marked. marked_of marked ≡ mark_of (tree_of tree.now) paths.now) }
     ensures strips { IfOk result (λ marked. strip (marked_of marked) ≡ tree_of tree.now) }
-    ensures count { IfOk result (λ _. hidden_count (tree_of tree.now) paths.now ≤ length paths.now) }
+    ensures count { IfOk result (λ _. hidden_count (tree_of tree.now) paths.now ≤ distinct_count same_path paths.now) }
 {
     let (marked, _) = mark_counted(alloc, tree, paths)?;
     Ok(marked)
@@ -32,11 +32,11 @@ pub fn mark(alloc: Global, tree: &Tree, paths: &PathList) -> Result<Marked, NoMe
 /// The same, and how many marks there are.
 pub fn mark_counted(alloc: Global, tree: &Tree, paths: &PathList) -> Result<(Marked, u32), NoMemory>
     requires depth { depth_of (tree_of tree.now) ≤ 127 }
-    requires few { length paths.now < 2 ^ 32 - 1 }
+    requires few { distinct_count same_path paths.now < 2 ^ 32 - 1 }
     ensures marked { IfOk result (λ marked. marked_of marked.0 ≡ mark_of (tree_of tree.now) paths.now) }
     ensures strips { IfOk result (λ marked. strip (marked_of marked.0) ≡ tree_of tree.now) }
     ensures count { IfOk result (λ marked. marked.1 ≡ hidden_count (tree_of tree.now) paths.now) }
-    ensures few { IfOk result (λ marked. marked.1 ≤ length paths.now) }
+    ensures few { IfOk result (λ marked. marked.1 ≤ distinct_count same_path paths.now) }
 {
     let sorted = sorted_paths(alloc, paths)?;
     let mut next = 0;
@@ -44,12 +44,15 @@ pub fn mark_counted(alloc: Global, tree: &Tree, paths: &PathList) -> Result<(Mar
     Ok((marked, next))
 }
 
+// The paths in their order, each once.
 fn sorted_paths(alloc: Global, paths: &PathList) -> Result<Vec<Path>, NoMemory>
-    ensures same { IfOk result (λ sorted. IsPermutation paths.now sorted.items) }
+    ensures same { IfOk result (λ sorted. (path : Steps) → is_among sorted.items path ≡ is_among paths.now path) }
     ensures sorted { IfOk result (λ sorted. AreSorted sorted.items) }
+    ensures count { IfOk result (λ sorted. length sorted.items ≡ distinct_count same_path paths.now) }
 {
     let mut sorted = copies(alloc, paths)?;
     sorted.sort_by(|one, other| ordered(one, other))?;
+    sorted.dedup_by(|one, other| is_same(one, other));
     Ok(sorted)
 }
 
@@ -68,6 +71,12 @@ fn ordered(one: &Path, other: &Path) -> Ordering
     ensures { result ≡ path_order one.now other.now }
 {
     one.steps().cmp(other.steps())
+}
+
+fn is_same(one: &Path, other: &Path) -> bool
+    ensures { result ≡ same_path one.now other.now }
+{
+    ordered(one, other) == Ordering::Equal
 }
 
 // Marks a tree that the paths come to by their first `depth` steps, from the mark `next` on.

@@ -39,7 +39,6 @@ pub mod ShownDepths
 pub mod ListOpening
 pub mod MapOpening
 pub mod Opened
-pub mod PlainOpening
 pub mod Ranged
 pub mod ShownPuts
 pub mod ShownAt

@@ -1,5 +1,6 @@
 -- The converse of `OneNode`: where each disclosure is shown and each digest stands once, the conditions hold.
 use Rattle.std.specs.Prelude.{◌≡◌, ◌<◌, ◌≤◌, ℕ, List, length, true, is_some, bytes_eq}
+use Rattle.sd_outside.specs.Limits.{depth_max}
 use Rattle.claim_tree.specs.Tree.{Text, Tree, leaf, array, object, Elements, no_elements, element, Members, no_members, member, depth}
 use Rattle.claim_tree.specs.Lists.{In, Repeats, Nowhere}
 use Rattle.digest_sites.specs.Reserved.{sd_name, text_list}
@@ -40,7 +41,7 @@ pub record AreAllShown (p : Tree) (given : List Given) : Type 0 where
   pub no_repeated_digest : Nowhere (Repeats (all_digests p given))
   pub each_shown : (i : ℕ) → i < length given → IsMarkOf i p given
   pub free : HasNoReserved (strip (processed p given))
-  pub shallow : depth (strip (processed p given)) ≤ 100
+  pub shallow : depth (strip (processed p given)) ≤ depth_max
   pub payload_lists : HasTextLists p
   pub value_lists : (x : Given) → In x given → HasTextLists x.value
 

@@ -1,6 +1,7 @@
 -- The conditions on a payload, without its own `_sd_alg`, and its given disclosures (RFC 9901 section 7.1): each as what fails
 -- it at a place.
 use Rattle.std.specs.Prelude.{◌≡◌, ℕ, zero, suc, ◌<◌, ◌≤◌, List, [], true, false, Option, Some, None, ◌⊎◌}
+use Rattle.sd_outside.specs.Limits.{depth_max}
 use Rattle.claim_tree.specs.Tree.{Text, Tree, depth}
 use Rattle.claim_tree.specs.Lists.{At, In, Repeats, Nowhere}
 use Rattle.digest_sites.specs.Reserved.{misuses, sd_name, dots_name}
@@ -74,7 +75,7 @@ NameClash p given place =
 
 -- 21: the processed payload nests too deep
 abbrev pub IsTooDeep : Tree → List Given → Type 0
-IsTooDeep p given = 100 < depth (strip (processed p given))
+IsTooDeep p given = depth_max < depth (strip (processed p given))
 
 -- 14 to 17: each disclosure stands at one place
 pub record IsReferencedOnce (p : Tree) (given : List Given) : Type 0 where
@@ -93,4 +94,4 @@ pub record IsWellNamed (p : Tree) (given : List Given) : Type 0 where
 pub record IsSound (p : Tree) (given : List Given) : Type 0 where
   pub referenced : IsReferencedOnce p given
   pub named : IsWellNamed p given
-  pub shallow : depth (strip (processed p given)) ≤ 100
+  pub shallow : depth (strip (processed p given)) ≤ depth_max

@@ -10,15 +10,11 @@ pub mod laws;
 mod names;
 mod numbers;
 mod opening;
-#[cfg(test)]
-mod plain;
 mod processing;
 mod readable;
 mod references;
 mod rows;
 mod shown;
-#[cfg(test)]
-mod tests;
 mod unhidden;
 
 pub use errors::ProcessError;

@@ -41,9 +41,7 @@ fn is_ordered(payload: &Tree)
 
 // The first tree that misuses a reserved name: 0 is the payload, and i + 1 value i.
 fn first_misused(payload: &Tree, given: &GivenList) -> Option<usize>
-    requires object { IsPayload (tree_of payload.now) }
-    requires payload { depth (tree_of payload.now) ≤ 127 }
-    requires values { ValuesShallow given.now }
+    requires { IsPayload (tree_of payload.now) }
     ensures { MatchOption result (Nowhere (Misused (without_alg (tree_of payload.now)) given.now)) (λ i. IsLeast (Misused (without_alg (tree_of payload.now)) given.now) i) }
 {
     is_ordered(payload);

@@ -1,5 +1,6 @@
 // A payload with nothing hidden.
 ghost use Rattle.std.specs.Prelude.{◌≡◌, ◌≤◌, ◌<◌, true, MatchResult};
+ghost use Rattle.sd_outside.specs.Limits.{depth_max};
 ghost use Rattle.claim_tree.specs.Tree.{depth as depth_of, elements_depth, members_depth};
 ghost use Rattle.claim_tree.specs.View.{tree_of};
 ghost use Rattle.rebuild_core.specs.Answer.{IsPayload};
@@ -75,7 +76,7 @@ fn without_alg(payload: Tree) -> Tree
 // The same, where it nests no deeper than 100.
 pub(crate) fn move_out(payload: Tree) -> Result<Tree, ProcessError>
     requires { depth_of (tree_of payload) ≤ 127 }
-    ensures { MatchResult result (λ tree. (tree_of tree ≡ without_alg_of (tree_of payload)) × (depth_of (tree_of tree) ≤ 100)) (λ e. (e ≡ Refusal.TooDeep) × (100 < depth_of (without_alg_of (tree_of payload)))) }
+    ensures { MatchResult result (λ tree. (tree_of tree ≡ without_alg_of (tree_of payload)) × (depth_of (tree_of tree) ≤ depth_max)) (λ e. (e ≡ Refusal.TooDeep) × (depth_max < depth_of (without_alg_of (tree_of payload)))) }
 {
     let tree = without_alg(payload);
     if depth(&tree) > 100 {

@@ -1,2 +1,4 @@
 pub mod Causes
+pub mod Limits
 pub mod Memory
+pub mod Status

@@ -1,9 +1,8 @@
 ghost use Rattle.std.specs.Prelude.{◌≡◌, ◌≤◌, None, length, IfOk};
 
-use crate::{ByteBox, Cabinet, FetchError, NoMemory, TextBox};
+use crate::{ByteBox, Cabinet, FetchError, TextBox};
 use std::alloc::Global;
 use std::fs;
-use std::fs::OpenFile;
 use std::io::Read;
 use std::rt::Files;
 
@@ -32,16 +31,12 @@ impl<R: Files> HostCabinet<R> {
 // The most bytes that one read asks for.
 const BLOCK: usize = 32_768;
 
-// At most `most` bytes of a file, with memory for `size` at first. Each turn but the last takes a byte or more.
-fn read_front<F: Read>(
-    alloc: Global,
-    file: &mut F,
-    size: usize,
-    most: usize,
-) -> Result<ByteBox, FetchError>
+// At most `most` bytes of a file. Each turn but the last takes a byte or more. The file is not asked for its size, since the
+// memory grows by doubling.
+fn read_front<F: Read>(alloc: Global, file: &mut F, most: usize) -> Result<ByteBox, FetchError>
     ensures { IfOk result (λ bytes. length bytes ≤ most) }
 {
-    let mut bytes = Vec::with_capacity(alloc, size.min(most)).map_err(NoMemory::from)?;
+    let mut bytes = ByteBox::new(alloc);
     let mut block = [0u8; BLOCK];
     let mut left = most;
     while left > 0 {
@@ -49,20 +44,13 @@ fn read_front<F: Read>(
         match file.read(&mut block[..wanted]) {
             Ok(0) => break,
             Ok(count) => {
-                bytes
-                    .extend_from_slice(&block[..count])
-                    .map_err(NoMemory::from)?;
+                bytes.append(&block[..count])?;
                 left -= count;
             }
             Err(_) => return Err(FetchError::Failed),
         }
     }
-    Ok(ByteBox::from_vec(bytes))
-}
-
-// The size that a file tells, in bytes, or 0. It is a hint alone.
-fn size_of<F: OpenFile>(file: &F) -> usize {
-    file.metadata().map_or(0, |told| told.len() as usize)
+    Ok(bytes)
 }
 
 fn read_file<R: Files>(
@@ -74,10 +62,7 @@ fn read_file<R: Files>(
     ensures { IfOk result (λ bytes. length bytes ≤ most) }
 {
     match fs::open(rt, name) {
-        Ok(mut file) => {
-            let size = size_of(&file);
-            read_front(alloc, &mut file, size, most)
-        }
+        Ok(mut file) => read_front(alloc, &mut file, most),
         Err(_) => Err(FetchError::Failed),
     }
 }

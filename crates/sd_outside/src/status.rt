@@ -1,18 +1,38 @@
-/// How a run of the program ended. The number of a variant is the exit status.
+ghost use Rattle.std.specs.Prelude.{◌≡◌};
+ghost use Rattle.sd_outside.specs.Status.{number_of};
+
+/// How a run of the program ended.
 #[derive(Clone, Copy, Debug, PartialEq, Eq)]
 pub enum Status {
     /// The whole answer was written.
-    Done = 0,
+    Done,
     /// The definition of the command refuses what it was given.
-    Refused = 1,
+    Refused,
     /// The words are no command.
-    Usage = 2,
+    Usage,
     /// A file could not be read.
-    Unread = 3,
+    Unread,
     /// The answer could not be written.
-    Unwritten = 4,
+    Unwritten,
     /// There was no memory.
-    Memory = 5,
+    Memory,
     /// A policy, an order or a seed is not of its form.
-    Unreadable = 6,
+    Unreadable,
+}
+
+impl Status {
+    /// The exit status of the program.
+    pub fn number(self) -> u8
+        ensures { result ≡ number_of self }
+    {
+        match self {
+            Status::Done => 0,
+            Status::Refused => 1,
+            Status::Usage => 2,
+            Status::Unread => 3,
+            Status::Unwritten => 4,
+            Status::Memory => 5,
+            Status::Unreadable => 6,
+        }
+    }
 }

@@ -38,16 +38,17 @@ impl Ending {
     }
 }
 
-// The words behind the program's name.
+// The words behind the program's name. Each is pushed, since `collect` first asks for room for all, and passes over a refusal.
 fn words(rt: &(impl Env + AllocGlobal)) -> Result<Vec<String>, Ending> {
-    match env::args(rt) {
-        Ok(words) => words
-            .skip(1)
-            .collect(rt.alloc())
-            .map_err(|_| Ending::Memory),
-        Err(fault) if fault.kind() == io::ErrorKind::InvalidData => Err(Ending::Words),
-        Err(_) => Err(Ending::Memory),
+    let args = env::args(rt).map_err(|fault| match fault.kind() {
+        io::ErrorKind::InvalidData => Ending::Words,
+        _ => Ending::Memory,
+    })?;
+    let mut words = Vec::new(rt.alloc());
+    for word in args.skip(1) {
+        words.push(word).map_err(|_| Ending::Memory)?;
     }
+    Ok(words)
 }
 
 // Whole seconds since 1970, and 0 before: std tells a clock that stands before 1970 by `InvalidData`.
@@ -87,5 +88,5 @@ fn main(rt: HostRuntime) -> ExitCode {
             ending.status()
         }
     };
-    ExitCode::from(status as u8)
+    ExitCode::from(status.number())
 }

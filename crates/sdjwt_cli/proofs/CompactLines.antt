@@ -1,6 +1,6 @@
 -- The line of a compact text is read as its parts.
 use Rattle.std.proofs.Common.{inl, inr, ◌≤◌, length, arith}
-use Rattle.compact_form.specs.declared.limits.TheConstants.{COMPACT_MAX, COUNT_MAX}
+use Rattle.sd_outside.specs.Limits.{compact_max, count_max}
 use Rattle.compact_form.specs.declared.parts.Parts.{Parts}
 use Rattle.compact_form.specs.Compact.{compact, AreWords}
 use Rattle.json_form.specs.Token.{IsTooMuch, IsToken}
@@ -8,7 +8,7 @@ use Rattle.json_form.proofs.Lines.{read_compact_line}
 use Rattle.sdjwt_cli.specs.Lines.{line}
 use Rattle.sdjwt_cli.specs.Presented.{alone}
 
-pub line_token : (parts : Parts) → AreWords parts → length (compact parts) ≤ COMPACT_MAX → length parts.disclosures ≤ COUNT_MAX → IsToken (line (compact parts)) (alone parts)
+pub line_token : (parts : Parts) → AreWords parts → length (compact parts) ≤ compact_max → length parts.disclosures ≤ count_max → IsToken (line (compact parts)) (alone parts)
 line_token parts words small few = read_compact_line parts words go
   where
     go : IsTooMuch parts → ⊥

@@ -1,7 +1,7 @@
 -- The command `convert` has one verdict over a file.
 use Rattle.std.proofs.Common.{◌≡◌, ◌<◌, ℕ, List, length, ap, ◌∙◌, sym, subst, arith}
 use Rattle.compact_form.specs.declared.fault.Fault.{Fault}
-use Rattle.compact_form.specs.declared.limits.TheConstants.{FILE_MAX}
+use Rattle.sd_outside.specs.Limits.{file_max}
 use Rattle.json_form.specs.declared.token.Token.{Token}
 use Rattle.json_form.proofs.Tokens as tokens
 use Rattle.sdjwt_cli.specs.declared.form.Form.{Form}
@@ -15,7 +15,7 @@ one_line form file a b g h = g.line_is ∙ (ap (λ (t : Token). line (written fo
 no_refusal : (form : Form) (file a : List ℕ) (f : Fault) → Converts form file a → IsConvertRefused form file f → ⊥
 no_refusal form file a f g (unread r) = tokens.not_both file g.token f g.reads r
 no_refusal form file a f g (too_much t r long e) =
-    let over : FILE_MAX < length (line (written form g.token)) = subst (λ (x : Token). FILE_MAX < length (line (written form x))) (tokens.one file t g.token r g.reads) long in
+    let over : file_max < length (line (written form g.token)) = subst (λ (x : Token). file_max < length (line (written form x))) (tokens.one file t g.token r g.reads) long in
     omega (arith, over, g.short, ap length g.line_is)
 
 one_fault : (form : Form) (file : List ℕ) (f g : Fault) → IsConvertRefused form file f → IsConvertRefused form file g → f ≡ g

@@ -1,8 +1,9 @@
 -- What `convert` writes is read as what it keeps of a token.
 use Rattle.std.proofs.Common.{◌≡◌, ◌≤◌, ℕ, List, length, refl, sym, ap, subst, ◌∙◌}
 use Rattle.claim_tree.specs.Tree.{Tree, object, Members, no_members}
-use Rattle.compact_form.specs.declared.limits.TheConstants.{FILE_MAX}
-use Rattle.compact_form.specs.declared.conditions.TheConstants.{TOO_MUCH}
+use Rattle.sd_outside.specs.Limits.{file_max}
+use Rattle.compact_form.specs.Condition as condition
+use Rattle.compact_form.specs.Condition.{number_of}
 use Rattle.compact_form.specs.declared.fault.Place.TheVariants.{Nowhere}
 use Rattle.json_form.specs.declared.token.Token.{Token}
 use Rattle.json_form.specs.Token.{IsToken, IsTooMuch, too_much}
@@ -18,16 +19,16 @@ members_of (object ms) = ms
 members_of _ = no_members
 
 not_much : (file : List ℕ) (token : Token) → IsToken file token → IsTooMuch token.parts → ⊥
-not_much file token reads much = reads.passes (record { number = TOO_MUCH; place = Nowhere }) (too_much token refl reads.spells much)
+not_much file token reads much = reads.passes (record { number = number_of condition.too_much; place = Nowhere }) (too_much token refl reads.spells much)
 
-read_back : (form : Form) (file : List ℕ) (token : Token) → IsToken file token → IsPrintable token → IsWritten form token (written form token) → length (line (written form token)) ≤ FILE_MAX
+read_back : (form : Form) (file : List ℕ) (token : Token) → IsToken file token → IsPrintable token → IsWritten form token (written form token) → length (line (written form token)) ≤ file_max
     → IsToken (line (written form token)) (kept form token)
 read_back Compact file token reads good is short = read_compact_line token.parts good.words (not_much file token reads)
 read_back Flat file token reads good is short = read_json_line token (members_of (flat_of token)) is short (not_much file token reads)
 read_back General file token reads good is short = read_json_line token (members_of (general_of token)) is short (not_much file token reads)
 
 pub converts : (form : Form) (file : List ℕ) (token : Token) (text answer : List ℕ) → IsToken file token → IsPrintable token → text ≡ written form token → (HasRoom form token → IsWritten form token text)
-    → answer ≡ line text → length answer ≤ FILE_MAX → Converts form file answer
+    → answer ≡ line text → length answer ≤ file_max → Converts form file answer
 converts form file token text answer reads good is back line_is short =
     let whole : answer ≡ line (written form token) = line_is ∙ ap line is in
     record {
@@ -36,7 +37,7 @@ converts form file token text answer reads good is back line_is short =
       line_is = whole;
       short = short;
       back = λ room. subst (λ (x : List ℕ). IsToken x (kept form token)) (sym whole)
-          (read_back form file token reads good (subst (IsWritten form token) is (back room)) (subst (λ (x : List ℕ). length x ≤ FILE_MAX) whole short));
+          (read_back form file token reads good (subst (IsWritten form token) is (back room)) (subst (λ (x : List ℕ). length x ≤ file_max) whole short));
     }
 
 -- ---- the same form again

@@ -5,7 +5,8 @@ use Rattle.json.specs.Print.{escape_byte}
 use Rattle.b64url_text.specs.Base64url.{letters, is_letter}
 use Rattle.claim_tree.specs.Tree.{Text, Tree, leaf, text, object, no_members, member}
 use Rattle.compact_form.specs.declared.fault.Place.TheVariants.{Nowhere, At}
-use Rattle.compact_form.specs.declared.conditions.TheConstants.{TOO_LONG, FORM}
+use Rattle.compact_form.specs.Condition as condition
+use Rattle.compact_form.specs.Condition.{number_of}
 use Rattle.compact_form.specs.declared.parts.Parts.{Parts}
 use Rattle.compact_form.specs.Compact.{IsCompact}
 use Rattle.compact_form.proofs.Examples.{bound, presented, no_tilde}
@@ -60,11 +61,11 @@ one_word_more = refl
 
 -- ---- lines of standard error
 
-at_a_byte : refusal (record { number = FORM; place = At 5 }) ≡ codes "refused 2 form at 5\n"
+at_a_byte : refusal (record { number = number_of condition.form; place = At 5 }) ≡ codes "refused 2 form at 5\n"
 unfolding digits
 at_a_byte = refl
 
-nowhere : refusal (record { number = TOO_LONG; place = Nowhere }) ≡ codes "refused 1 tooLong\n"
+nowhere : refusal (record { number = number_of condition.too_long; place = Nowhere }) ≡ codes "refused 1 tooLong\n"
 unfolding digits
 nowhere = refl
 
@@ -125,8 +126,8 @@ of_a_presentation = record { token = token_of bound no_members; reads = is_read;
 of_a_jwt : Refuses (codes "a.b.c") (codes "refused 2 form at 5\n")
 unfolding digits
 of_a_jwt = record {
-  fault = record { number = FORM; place = At 5 };
-  refused = refused_plainly (codes "a.b.c") (record { number = FORM; place = At 5 }) refl (refused_form (codes "a.b.c") (record { number = FORM; place = At 5 }) 5 refl refl no_tilde);
+  fault = record { number = number_of condition.form; place = At 5 };
+  refused = refused_plainly (codes "a.b.c") (record { number = number_of condition.form; place = At 5 }) refl (refused_form (codes "a.b.c") (record { number = number_of condition.form; place = At 5 }) 5 refl refl no_tilde);
   line_is = refl;
 }
 

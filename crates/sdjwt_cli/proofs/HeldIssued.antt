@@ -1,7 +1,7 @@
 -- A token that is issued is held: it is read, no condition on it fails under the keys of a holder who finds the issuer's, and it
 -- processes to the claims with their marks.
 use Rattle.std.proofs.Common.{◌≡◌, inl, ℕ, ◌≤◌, List, length, Some, refl, subst, ◌∙◌, arith, ap₂}
-use Rattle.compact_form.specs.declared.limits.TheConstants.{ISSUE_MAX, COUNT_MAX}
+use Rattle.sd_outside.specs.Limits.{issue_max, count_max}
 use Rattle.compact_form.specs.declared.parts.Parts.{Parts}
 use Rattle.compact_form.specs.Compact.{compact, AreWords}
 use Rattle.hmac_sign.specs.Hmac.{IsGood}
@@ -26,8 +26,8 @@ use Rattle.sdjwt_cli.proofs.CheckedParts.{CarriesFor, content, checked}
 pub record IsTokenOf (seed : List ℕ) (o : Order) (key : List ℕ) (parts : Parts) : Type 0 where
   pub has : HasIssued seed o (IsGood key) parts
   pub words : AreWords parts
-  pub few : length parts.disclosures ≤ COUNT_MAX
-  pub short : length (compact parts) ≤ ISSUE_MAX
+  pub few : length parts.disclosures ≤ count_max
+  pub short : length (compact parts) ≤ issue_max
 
 pub token_of : (seed : List ℕ) (o : Order) (key : List ℕ) (parts : Parts) → IsIssuedBy seed o key parts → IsTokenOf seed o key parts
 token_of seed o key parts is = record { has = has_issued seed o (IsGood key) parts is.writable is.differ is.laid; words = is.words; few = is.few; short = is.short }

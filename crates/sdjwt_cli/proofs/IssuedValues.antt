@@ -20,7 +20,7 @@ use Rattle.rebuild_core.specs.Payload.{alg_name}
 use Rattle.rebuild_core.specs.Free.{HasNoReserved}
 use Rattle.marked_tree.specs.Places.{Path}
 use Rattle.claim_tree.specs.JsonText.{json_text}
-use Rattle.compact_form.specs.declared.limits.TheConstants.{ISSUE_MAX}
+use Rattle.sd_outside.specs.Limits.{issue_max}
 use Rattle.compact_form.specs.declared.parts.JwtParts.{JwtParts}
 use Rattle.compact_form.specs.declared.parts.Parts.{Parts}
 use Rattle.compact_form.specs.Compact.{jwt, compact, AreWords}
@@ -240,7 +240,7 @@ body_length : length (json_text (with_alg payload)) ≤ 1000
 unfolding escape_byte alg_name sd_name
 body_length = omega arith
 
-short : length (compact parts) ≤ ISSUE_MAX
+short : length (compact parts) ≤ issue_max
 short =
     let first = ap length first_made in
     let second = ap length second_made in

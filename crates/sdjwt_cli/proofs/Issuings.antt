@@ -12,10 +12,10 @@ use Rattle.issuer_core.specs.Digests.{Maker}
 use Rattle.issuer_core.specs.Refusals.{IsLowest}
 use Rattle.issuer_core.specs.RefusalLine.{refusal_text, IsRefusalLine}
 use Rattle.issuer_core.specs.Issue.{Applies, IsNotIssued}
-use Rattle.sdjwt_cli.specs.declared.issue.TheConstants.{SEED_LEN}
+use Rattle.sd_outside.specs.Limits.{seed_len}
 use Rattle.sdjwt_cli.specs.Issuing.{IsAsked}
 
-pub is_asked : (order_file seed_file seed : List ℕ) (said : IssueFile) → IsOrderFile order_file said → IsFirstChunk seed_file seed SEED_LEN → IsAsked order_file seed_file (order_of said.order) said.key seed
+pub is_asked : (order_file seed_file seed : List ℕ) (said : IssueFile) → IsOrderFile order_file said → IsFirstChunk seed_file seed seed_len → IsAsked order_file seed_file (order_of said.order) said.key seed
 is_asked order_file seed_file seed said is_order chunk = record { said = said; is_order = is_order; order_is = refl; key_is = refl; enough = chunk.enough; seed_is = chunk.same }
 
 -- a count that is always 0 does not rise

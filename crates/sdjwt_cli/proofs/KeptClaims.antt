@@ -13,7 +13,7 @@ use Rattle.issuer_core.specs.Digests.{marked_of}
 use Rattle.issuer_core.specs.Order.{Order}
 use Rattle.issuer_core.specs.Refusals.{Refuses, NoneApplies, IsProtected, protected_names}
 use Rattle.issuer_core.specs.declared.errors.IssueError.TheVariants.{ProtectedClaim}
-use Rattle.issuer_core.proofs.Counts.{path_same}
+use Rattle.marked_tree.proofs.DifferentPaths.{path_same}
 use Rattle.sdjwt_cli.specs.Suits.{shown_for}
 
 -- no path passes

@@ -1,5 +1,6 @@
 mod Lifts
 mod Issuings
+mod FileWords
 mod Verdicts
 mod Shown
 mod ShowVerdicts

@@ -1,8 +1,8 @@
 -- Presenting refuses nothing on a text that is read as an issued token, where the policy suits.
-use Rattle.std.proofs.Common.{◌≡◌, ◌≢◌, ℕ, ◌<◌, ◌^◌, true, false, List, length, Option, Some, refl, sym, ap, subst, ◌∙◌, arith}
+use Rattle.std.proofs.Common.{◌≡◌, ◌≢◌, ℕ, ◌<◌, ◌^◌, true, List, length, Some, refl, sym, ap, subst, ◌∙◌, arith}
 use Rattle.claim_tree.specs.Path.{tree_at}
 use Rattle.claim_tree.proofs.Lists.{At-In}
-use Rattle.compact_form.specs.declared.limits.TheConstants.{COMPACT_MAX}
+use Rattle.sd_outside.specs.Limits.{compact_max}
 use Rattle.compact_form.specs.declared.parts.Parts.{Parts}
 use Rattle.compact_form.specs.Compact.{compact}
 use Rattle.disclosure.specs.declared.digests.HashAlg.{HashAlg}
@@ -13,7 +13,7 @@ use Rattle.json_form.proofs.Tokens as tokens
 use Rattle.key_binding.specs.Judged.{holder_kid}
 use Rattle.marked_tree.specs.Choice.{chosen}
 use Rattle.marked_tree.specs.Marked.{Marked, strip, prune}
-use Rattle.marked_tree.specs.Places.{Path, place}
+use Rattle.marked_tree.specs.Places.{place}
 use Rattle.marked_tree.proofs.MarkFacts.{mark_strips_holds}
 use Rattle.selection_core.specs.Consent.{Answers, IsRefusedAt}
 use Rattle.selection_core.specs.Refusals.{IsMissing}
@@ -83,7 +83,7 @@ module _ (seed : List ℕ) (o : Order) (key : List ℕ) (parts : Parts) (passes 
         let kept : holder_kid (shown_for o ask.want) ≡ Some one.kid = holder_kept o passes ask.want ∙ suits.named one is_asked in
         differs (ap (λ (m : Marked). holder_kid (strip (prune m (chosen m ask.want)))) same ∙ kept)
 
-    too_long : (answer : Parts) → IsAnswer answers rule (alone parts) ask (IsGood signing) now answer → COMPACT_MAX < length (compact answer) → ⊥
+    too_long : (answer : Parts) → IsAnswer answers rule (alone parts) ask (IsGood signing) now answer → compact_max < length (compact answer) → ⊥
     too_long answer a long =
         let of = answer_presented answer a in
         let short = answer_short signing HashAlg.Sha256 now in_range ask.binding small parts answer (chosen (marked_of o) ask.want) of.presents of.bound is.short in

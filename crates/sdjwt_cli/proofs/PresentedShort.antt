@@ -6,7 +6,7 @@ use Rattle.std.proofs.lemmas.List.{length-append}
 use Rattle.b64url_text.specs.Base64url.{IsWord}
 use Rattle.b64url_text.proofs.Codes.{IsWord-b64}
 use Rattle.claim_tree.specs.Tree.{Text}
-use Rattle.compact_form.specs.declared.limits.TheConstants.{COMPACT_MAX, ISSUE_MAX, COUNT_MAX}
+use Rattle.sd_outside.specs.Limits.{compact_max, issue_max, count_max}
 use Rattle.compact_form.specs.declared.parts.JwtParts.{JwtParts}
 use Rattle.compact_form.specs.declared.parts.Parts.{Parts}
 use Rattle.compact_form.specs.Compact.{jwt, spelled, hashed, ending, compact, HasWords, AreWords}
@@ -79,10 +79,10 @@ module _ (key : List ℕ) (hash : HashAlg) (now : ℕ) (in_range : now < 2 ^ 64)
     binding = ending_words key hash (hashed answer) now in_range asked answer.binding bound;
   }
 
-  pub answer_few : length parts.disclosures ≤ COUNT_MAX → length answer.disclosures ≤ COUNT_MAX
+  pub answer_few : length parts.disclosures ≤ count_max → length answer.disclosures ≤ count_max
   answer_few few = omega (arith, few, ap length presents.disclosures, picked_few s parts.disclosures)
 
-  pub answer_short : length (compact parts) ≤ ISSUE_MAX → length (compact answer) ≤ COMPACT_MAX
+  pub answer_short : length (compact parts) ≤ issue_max → length (compact answer) ≤ compact_max
   answer_short short =
       let signed = ap (λ j. length (jwt j)) presents.signed in
       let disclosed = ap (λ ds. length (spelled ds)) presents.disclosures in

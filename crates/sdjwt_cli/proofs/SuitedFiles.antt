@@ -8,7 +8,7 @@ use Rattle.b64url_text.proofs.Texts.{AreBytes-text}
 use Rattle.claim_tree.specs.declared.tree.Tree as code
 use Rattle.claim_tree.specs.Tree.{Text, Leaf, Tree, leaf, null, flag, text, whole, array, object, Elements, no_elements, element, Members, no_members, member, depth, IsOrdered, MembersOrdered, IsRanged, ElementsRanged, MembersRanged}
 use Rattle.claim_tree.specs.JsonText.{json_text, Reads}
-use Rattle.compact_form.specs.declared.limits.TheConstants.{FILE_MAX}
+use Rattle.sd_outside.specs.Limits.{file_max}
 use Rattle.hmac_sign.specs.Keys.{IsKeySet, key, no_keys}
 use Rattle.hmac_sign.specs.KeyText.{IsKeyText}
 use Rattle.verifier_core.specs.PolicyFile.{IsPolicyFile}
@@ -133,7 +133,7 @@ policy_members =
 abbrev pub policy_file : Text
 policy_file = json_text (object policy_members)
 
-policy_short : length policy_file ≤ FILE_MAX
+policy_short : length policy_file ≤ file_max
 unfolding escape_byte digits
 policy_short = omega arith
 
@@ -170,7 +170,7 @@ present_members =
 abbrev pub present_file : Text
 present_file = json_text (object present_members)
 
-present_short : length present_file ≤ FILE_MAX
+present_short : length present_file ≤ file_max
 unfolding escape_byte digits
 present_short = omega arith
 
@@ -206,7 +206,7 @@ order_members =
 abbrev pub order_file : Text
 order_file = json_text (object order_members)
 
-order_short : length order_file ≤ FILE_MAX
+order_short : length order_file ≤ file_max
 unfolding escape_byte digits
 order_short = omega arith
 

@@ -1,9 +1,8 @@
 -- The commands of the program, and the files that each reads.
 use Rattle.std.specs.Prelude.{◌+◌, ℕ, List, [], ◌∷◌, Option, None, Some, codes, bytes_eq, if◌then◌else◌}
 use Rattle.std.specs.Option.{option_map}
-use Rattle.compact_form.specs.declared.limits.TheConstants.{FILE_MAX}
+use Rattle.sd_outside.specs.Limits.{file_max, seed_len}
 use Rattle.sdjwt_cli.specs.declared.form.Form.{Form}
-use Rattle.sdjwt_cli.specs.declared.issue.TheConstants.{SEED_LEN}
 use Rattle.sdjwt_cli.specs.Forms.{form_of}
 
 -- a command, with the names of its files, and of `convert` the form
@@ -23,17 +22,18 @@ command_of (word ∷ token ∷ []) = if bytes_eq word (codes "split") then Some 
 command_of (word ∷ first ∷ second ∷ []) = if bytes_eq word (codes "verify") then Some (verify first second) else if bytes_eq word (codes "issue") then Some (issue first second) else if bytes_eq word (codes "present") then Some (present first second) else if bytes_eq word (codes "convert") then option_map (λ form. convert form second) (form_of first) else None
 command_of (word ∷ first ∷ second ∷ more ∷ rest) = None
 
--- the name of a file, and the most bytes that are read of it
+-- a file: the word that names it, counted behind the command from 0, its name, and the most bytes that are read of it
 pub record Wanted : Type 0 where
+  pub word : ℕ
   pub name : List ℕ
   pub most : ℕ
 
 -- the files of a command, in the order in which they are read: one byte more than the limit tells a file that is too long, and of a
 -- seed no more is read than is used
 abbrev pub wanted_by : Command → List Wanted
-wanted_by (split token) = record { name = token; most = FILE_MAX + 1 } ∷ []
-wanted_by (show token) = record { name = token; most = FILE_MAX + 1 } ∷ []
-wanted_by (verify policy token) = record { name = policy; most = FILE_MAX + 1 } ∷ record { name = token; most = FILE_MAX + 1 } ∷ []
-wanted_by (issue order seed) = record { name = order; most = FILE_MAX + 1 } ∷ record { name = seed; most = SEED_LEN } ∷ []
-wanted_by (present order token) = record { name = order; most = FILE_MAX + 1 } ∷ record { name = token; most = FILE_MAX + 1 } ∷ []
-wanted_by (convert form token) = record { name = token; most = FILE_MAX + 1 } ∷ []
+wanted_by (split token) = record { word = 0; name = token; most = file_max + 1 } ∷ []
+wanted_by (show token) = record { word = 0; name = token; most = file_max + 1 } ∷ []
+wanted_by (verify policy token) = record { word = 0; name = policy; most = file_max + 1 } ∷ record { word = 1; name = token; most = file_max + 1 } ∷ []
+wanted_by (issue order seed) = record { word = 0; name = order; most = file_max + 1 } ∷ record { word = 1; name = seed; most = seed_len } ∷ []
+wanted_by (present order token) = record { word = 0; name = order; most = file_max + 1 } ∷ record { word = 1; name = token; most = file_max + 1 } ∷ []
+wanted_by (convert form token) = record { word = 1; name = token; most = file_max + 1 } ∷ []

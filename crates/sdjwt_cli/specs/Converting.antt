@@ -2,8 +2,9 @@
 use Rattle.std.specs.Prelude.{◌≡◌, ◌<◌, ◌≤◌, ℕ, List, length}
 use Rattle.claim_tree.specs.Tree.{no_members, members_depth}
 use Rattle.claim_tree.specs.JsonText.{json_text}
-use Rattle.compact_form.specs.declared.limits.TheConstants.{FILE_MAX}
-use Rattle.compact_form.specs.declared.conditions.TheConstants.{TOO_MUCH}
+use Rattle.sd_outside.specs.Limits.{file_max}
+use Rattle.compact_form.specs.Condition as condition
+use Rattle.compact_form.specs.Condition.{number_of}
 use Rattle.compact_form.specs.declared.fault.Fault.{Fault}
 use Rattle.compact_form.specs.declared.fault.Place.TheVariants.{Nowhere}
 use Rattle.compact_form.specs.Compact.{compact}
@@ -38,13 +39,13 @@ pub record Converts (form : Form) (file answer : List ℕ) : Type 0 where
   pub token : Token
   pub reads : IsToken file token
   pub line_is : answer ≡ line (written form token)
-  pub short : length answer ≤ FILE_MAX
+  pub short : length answer ≤ file_max
   pub back : HasRoom form token → IsToken answer (kept form token)
 
 -- the lowest condition that fails: of the file, or that what would be written is longer than a file may be
 pub data IsConvertRefused (form : Form) (file : List ℕ) (fault : Fault) : Type 0 where
   unread : IsRefused file fault → IsConvertRefused form file fault
-  too_much : (token : Token) → IsToken file token → FILE_MAX < length (line (written form token)) → fault ≡ record { number = TOO_MUCH; place = Nowhere } → IsConvertRefused form file fault
+  too_much : (token : Token) → IsToken file token → file_max < length (line (written form token)) → fault ≡ record { number = number_of condition.too_much; place = Nowhere } → IsConvertRefused form file fault
 
 -- the file is refused, with this line
 pub record DoesNotConvert (form : Form) (file text : List ℕ) : Type 0 where

@@ -1,7 +1,7 @@
 -- The command `issue`: what it prints for an order file and a seed file, and when it refuses the order.
 use Rattle.std.specs.Prelude.{◌≡◌, ◌≢◌, ℕ, ◌<◌, ◌≤◌, List, length, take}
 use Rattle.claim_tree.specs.declared.file_fault.FileFault.{FileFault}
-use Rattle.compact_form.specs.declared.limits.TheConstants.{ISSUE_MAX, COUNT_MAX}
+use Rattle.sd_outside.specs.Limits.{count_max, issue_max, seed_len}
 use Rattle.compact_form.specs.declared.parts.Parts.{Parts}
 use Rattle.compact_form.specs.Compact.{compact, AreWords}
 use Rattle.hmac_sign.specs.Hmac.{IsGood}
@@ -15,7 +15,6 @@ use Rattle.issuer_core.specs.RefusalLine.{refusal_text}
 use Rattle.issuer_core.specs.Seed.{maker_of}
 use Rattle.issuer_core.specs.Written.{IsIssued, IsLaidOut}
 use Rattle.issuer_core.specs.Issue.{Applies, HasNoClash}
-use Rattle.sdjwt_cli.specs.declared.issue.TheConstants.{SEED_LEN}
 use Rattle.sdjwt_cli.specs.Lines.{line, unreadable_line, short_seed}
 
 -- what one file asks for with its order and its key, and the seed with which the other begins
@@ -24,8 +23,8 @@ pub record IsAsked (order_file seed_file : List ℕ) (order : Order) (key seed :
   pub is_order : IsOrderFile order_file said
   pub order_is : order ≡ order_of said.order
   pub key_is : key ≡ said.key
-  pub enough : SEED_LEN ≤ length seed_file
-  pub seed_is : seed ≡ take SEED_LEN seed_file
+  pub enough : seed_len ≤ length seed_file
+  pub seed_is : seed ≡ take seed_len seed_file
 
 -- what an issuer with this key answers for an order and a seed: the parts are issued, and none of the refusals applies
 pub record IsIssuedBy (seed : List ℕ) (order : Order) (key : List ℕ) (parts : Parts) : Type 0 where
@@ -35,8 +34,8 @@ pub record IsIssuedBy (seed : List ℕ) (order : Order) (key : List ℕ) (parts 
   pub differ : HasNoClash (maker_of seed) order
   pub writable : IsWritable order
   pub words : AreWords parts
-  pub few : length parts.disclosures ≤ COUNT_MAX
-  pub short : length (compact parts) ≤ ISSUE_MAX
+  pub few : length parts.disclosures ≤ count_max
+  pub short : length (compact parts) ≤ issue_max
 
 -- the token is issued, and this is the line of its compact text
 pub record Issues (order_file seed_file answer : List ℕ) : Type 0 where
@@ -61,4 +60,4 @@ pub record DoesNotIssue (order_file seed_file text : List ℕ) : Type 0 where
 -- a file is not of its form, with this line: the order is judged first, where want of memory is no cause, and then the seed
 pub data HasNoOrder (order_file seed_file text : List ℕ) : Type 0 where
   no_order : (fault : FileFault) → IsOrderRefused order_file fault → fault ≢ FileFault.Memory → text ≡ unreadable_line 1 fault → HasNoOrder order_file seed_file text
-  no_seed : (said : IssueFile) → IsOrderFile order_file said → length seed_file < SEED_LEN → text ≡ short_seed → HasNoOrder order_file seed_file text
+  no_seed : (said : IssueFile) → IsOrderFile order_file said → length seed_file < seed_len → text ≡ short_seed → HasNoOrder order_file seed_file text

@@ -2,7 +2,7 @@
 use Rattle.std.specs.Prelude.{◌≡◌, ◌≢◌, ◌≤◌, ℕ, List, [], ◌++◌, length, replicate, Option, None, Some, codes}
 use Rattle.std.specs.Fmt.{decimal}
 use Rattle.claim_tree.specs.declared.file_fault.FileFault.{FileFault}
-use Rattle.compact_form.specs.declared.limits.TheConstants.{COMPACT_MAX}
+use Rattle.sd_outside.specs.Limits.{compact_max}
 use Rattle.compact_form.specs.declared.parts.Parts.{Parts}
 use Rattle.compact_form.specs.Compact.{compact}
 use Rattle.compact_form.specs.Condition.{Condition, number_of}
@@ -50,7 +50,7 @@ pub record Presents (order_file token_file : List ℕ) (now : ℕ) (answer : Lis
   pub is_order : IsPresentFile order_file said
   pub parts : Parts
   pub presented : IsPresentedFor said token_file now parts
-  pub short : length (compact parts) ≤ COMPACT_MAX
+  pub short : length (compact parts) ≤ compact_max
   pub line_is : answer ≡ line (compact parts)
 
 -- the first refusal that applies, with its line

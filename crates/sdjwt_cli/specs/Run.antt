@@ -1,5 +1,5 @@
 -- What a run of the program does to the outside, by the status with which it ends.
-use Rattle.std.specs.Prelude.{zero, suc, ◌≡◌, ◌⊎◌, ◌≤◌, ℕ, List, [], ◌∷◌, Option, None, Some, codes}
+use Rattle.std.specs.Prelude.{◌≡◌, ◌==◌, ◌⊎◌, ◌≤◌, ℕ, List, [], ◌∷◌, Option, None, Some, IsSomeAnd, codes, if◌then◌else◌}
 use Rattle.std.specs.Io.KnownBytes.{Appends}
 use Rattle.sd_outside.specs.Causes.{Rose, AppendsPrefix}
 use Rattle.sd_outside.specs.declared.status.Status.{Status}
@@ -31,14 +31,14 @@ outside holds missed faults out err = record { holds = holds; missed = missed; f
 abbrev pub Tells : Stream → Stream → List ℕ → Type 0
 Tells before after text = Appends before.written after.written text ⊎ (Rose before.faults after.faults × AppendsPrefix before.written after.written text)
 
--- the name that was missed is that of the file of this word
-abbrev pub MissesIn : List Wanted → ℕ → Option (List ℕ) → Type 0
-MissesIn [] word missed = ⊥
-MissesIn (wanted ∷ more) zero missed = missed ≡ Some wanted.name
-MissesIn (wanted ∷ more) (suc word) missed = MissesIn more word missed
+-- the name of the file of this word, where there is one
+abbrev pub name_of : List Wanted → ℕ → Option (List ℕ)
+name_of [] word = None
+name_of (wanted ∷ more) word = if wanted.word == word then Some wanted.name else name_of more word
 
+-- the name that was missed is that of the file of this word
 abbrev pub Misses : Command → ℕ → Option (List ℕ) → Type 0
-Misses command word missed = MissesIn (wanted_by command) word missed
+Misses command word missed = IsSomeAnd (name_of (wanted_by command) word) (λ name. missed ≡ Some name)
 
 -- the whole answer was written
 pub record IsDone (words : List (List ℕ)) (before after : Outside) (now : ℕ) : Type 0 where

@@ -11,7 +11,8 @@ use Rattle.disclosure.specs.Disclosure.{IsDisclosure}
 use Rattle.disclosure.specs.Refusals as reasons
 use Rattle.disclosure.specs.declared.digests.HashAlg.{HashAlg}
 use Rattle.disclosure.specs.declared.errors.DisclosureError.{DisclosureError}
-use Rattle.compact_form.specs.declared.conditions.TheConstants.{HEADER_UNREADABLE, PAYLOAD_UNREADABLE, HASH_UNKNOWN, DISCLOSURE_UNREADABLE}
+use Rattle.compact_form.specs.Condition as condition
+use Rattle.compact_form.specs.Condition.{number_of}
 use Rattle.compact_form.specs.declared.fault.Fault.{Fault}
 use Rattle.compact_form.specs.declared.fault.Place.TheVariants.{Nowhere, At}
 use Rattle.compact_form.specs.declared.parts.JwtParts.{JwtParts}
@@ -106,7 +107,7 @@ pub record IsUnreadAt (disclosures : List Text) (fault : Fault) : Type 0 where
   pub stand : disclosures ≡ front ++ text ∷ rest
   pub read : AllZip IsShown front shown
   pub unread : IsUnread text
-  pub fault_is : fault ≡ record { number = DISCLOSURE_UNREADABLE; place = At (length front) }
+  pub fault_is : fault ≡ record { number = number_of condition.disclosure_unreadable; place = At (length front) }
 
 abbrev pub OnFails : Unshown → (Fault → Type 0) → Type 0
 OnFails Memory P = Unit {0}
@@ -118,9 +119,9 @@ fault_of number = record { number = number; place = Nowhere }
 -- the lowest condition that fails: of the form, then of the headers, of the payload, of its hash, and of the disclosures the first
 pub data IsShowRefused (file : List ℕ) (fault : Fault) : Type 0 where
   form : IsRefused file fault → IsShowRefused file fault
-  header : (t : Token) → IsToken file t → IsUnreadable t.parts.signed.protected t.outer → fault ≡ fault_of HEADER_UNREADABLE → IsShowRefused file fault
-  payload : (t : Token) (head : Tree) → IsToken file t → IsHead t.parts.signed.protected t.outer head → IsNoObject t.parts.signed.payload → fault ≡ fault_of PAYLOAD_UNREADABLE → IsShowRefused file fault
-  hash : (t : Token) (head body : Tree) → IsToken file t → IsHead t.parts.signed.protected t.outer head → IsBody t.parts.signed.payload body → has_known_hash body ≡ false → fault ≡ fault_of HASH_UNKNOWN → IsShowRefused file fault
+  header : (t : Token) → IsToken file t → IsUnreadable t.parts.signed.protected t.outer → fault ≡ fault_of (number_of condition.header_unreadable) → IsShowRefused file fault
+  payload : (t : Token) (head : Tree) → IsToken file t → IsHead t.parts.signed.protected t.outer head → IsNoObject t.parts.signed.payload → fault ≡ fault_of (number_of condition.payload_unreadable) → IsShowRefused file fault
+  hash : (t : Token) (head body : Tree) → IsToken file t → IsHead t.parts.signed.protected t.outer head → IsBody t.parts.signed.payload body → has_known_hash body ≡ false → fault ≡ fault_of (number_of condition.hash_unknown) → IsShowRefused file fault
   disclosure : (t : Token) (head body : Tree) → IsToken file t → IsHead t.parts.signed.protected t.outer head → IsPayload t.parts.signed.payload body → IsUnreadAt t.parts.disclosures fault → IsShowRefused file fault
 
 -- the file is refused, with this line

@@ -1,9 +1,10 @@
 //! What the definitions of a run say together. Each law holds for every value.
-ghost use Rattle.std.specs.Prelude.{◌≡◌, ◌⊎◌, ℕ, List, Option, Some};
+ghost use Rattle.std.specs.Prelude.{◌≡◌, ◌⊎◌, ◌+◌, ℕ, List, Option, Some};
 ghost use Rattle.std.specs.Io.KnownBytes.{Appends};
 ghost use Rattle.sd_outside.specs.Causes.{Rose};
 ghost use Rattle.sd_outside.specs.declared.status.Status.{Status};
-ghost use Rattle.sdjwt_cli.specs.Command.{Command, command_of};
+ghost use Rattle.claim_tree.specs.Lists.{At, In};
+ghost use Rattle.sdjwt_cli.specs.Command.{Command, command_of, Wanted, wanted_by};
 ghost use Rattle.sdjwt_cli.specs.Answers.{Verdict, gives, Answers, AreTold};
 ghost use Rattle.sdjwt_cli.specs.declared.form.Form.{Form};
 ghost use Rattle.sdjwt_cli.specs.Converting.{HasRoom, Converts};
@@ -11,6 +12,12 @@ ghost use Rattle.sdjwt_cli.specs.Run.{Outside, Ends};
 ghost use Rattle.sdjwt_cli.specs.Presented.{PresentedOverValues, PresentedOverFiles, PresentedOverRuns};
 
 use claim_tree::Path;
+
+/// Each file of a command is named by its word, counted behind the command from 0.
+pub fn files_are_words()
+    ensures { (words : List (List ℕ)) (command : Command) → command_of words ≡ Some command
+        → (wanted : Wanted) → In wanted (wanted_by command) → At words (wanted.word + 1) wanted.name }
+{}
 
 /// The definition of a command has at most one verdict over its files.
 pub fn one_answer()

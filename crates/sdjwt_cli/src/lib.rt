@@ -6,29 +6,17 @@
 
 mod command;
 mod convert;
-#[cfg(test)]
-mod convert_tests;
 mod form;
 mod issue;
-#[cfg(test)]
-mod issue_tests;
 pub mod laws;
 mod lines;
 mod never;
 mod present;
-#[cfg(test)]
-mod present_tests;
-#[cfg(test)]
-mod rows;
 mod show;
 mod split;
 mod stop;
-#[cfg(test)]
-mod tests;
 mod top;
 mod verify;
-#[cfg(test)]
-mod verify_tests;
 
 pub use sd_outside::Status;
 pub use top::run;

@@ -1,7 +1,7 @@
 // The command `present`: the compact text of what a holder shows of a token.
 ghost use Rattle.std.specs.Prelude.{◌≡◌, ◌≢◌, ◌≤◌, length, IfOk, IfErr, string_bytes};
 ghost use Rattle.compact_form.specs.Compact.{AreWords, compact};
-ghost use Rattle.compact_form.specs.declared.limits.TheConstants.{COMPACT_MAX};
+ghost use Rattle.sd_outside.specs.Limits.{compact_max};
 ghost use Rattle.hmac_sign.specs.Hmac.{IsGood};
 ghost use Rattle.holder_core.specs.Present.{IsPresented, IsNotPresented};
 ghost use Rattle.holder_core.specs.declared.errors.PresentError.{PresentError};
@@ -46,7 +46,7 @@ fn present_parts(
 ) -> Result<Parts, PresentError>
     ensures presented { IfOk result (IsPresented never_rule never.now token_file.now ask.now (IsGood key.old) now) }
     ensures words { IfOk result AreWords }
-    ensures short { IfOk result (λ parts. length (compact parts) ≤ COMPACT_MAX) }
+    ensures short { IfOk result (λ parts. length (compact parts) ≤ compact_max) }
     ensures refused { IfErr result (IsNotPresented never_rule never.now token_file.now ask.now (IsGood key.old) now) }
     ensures signed { IfErr result (λ error. error ≢ PresentError.SignFailed) }
 {

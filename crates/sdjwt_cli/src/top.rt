@@ -1,6 +1,6 @@
 ghost use Rattle.std.specs.Prelude.{◌≡◌, ◌≤◌, ◌+◌, ℕ, List, Some, map, take, IfOk, IfErr, IfSome, string_bytes};
 ghost use Rattle.sd_outside.specs.Causes.{Rose};
-ghost use Rattle.compact_form.specs.declared.limits.TheConstants.{FILE_MAX};
+ghost use Rattle.sd_outside.specs.Limits.{file_max};
 ghost use Rattle.sdjwt_cli.specs.Names.{meant_by};
 ghost use Rattle.sdjwt_cli.specs.Answers.{gives, refuses, unreadable, IsAnswered};
 ghost use Rattle.sdjwt_cli.specs.Stops.{OnRefused, OnUnread, OnUnreadable};
@@ -86,7 +86,7 @@ fn answer<C: Cabinet>(
             present(alloc, order.bytes(), token.bytes(), now)
         }
         Command::Convert { form, token } => {
-            let file = fetch_file(alloc, cab, token, FETCH_MAX, 0)?;
+            let file = fetch_file(alloc, cab, token, FETCH_MAX, 1)?;
             convert(alloc, form, file.bytes())
         }
     }

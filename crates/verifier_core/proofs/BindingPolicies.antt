@@ -12,7 +12,7 @@ use Rattle.hmac_sign.proofs.KeySetVerdicts.{one_key_set}
 use Rattle.key_binding.specs.ShortText.{IsShortText}
 use Rattle.key_binding.specs.declared.policy.BindingPolicy.{BindingPolicy}
 use Rattle.verifier_core.specs.PolicyFile.{IsBindingPolicy}
-use Rattle.verifier_core.specs.declared.binding_file.TheConstants.{AGE_MAX}
+use Rattle.sd_outside.specs.Limits.{age_max}
 
 one_short_text : SaysOne IsShortText
 one_short_text t x y h k = verdicts.one_text t x y h.is k.is
@@ -29,7 +29,7 @@ one_binding t b d h k =
     let aud : b.aud ≡ d.aud = verdicts.says_one IsShortText (member_named ms (codes "aud")) b.aud d.aud one_short_text (subst (λ ns. Says IsShortText (member_named ns (codes "aud")) b.aud) same h.aud) k.aud in
     let nonce : b.nonce ≡ d.nonce = verdicts.says_one IsShortText (member_named ms (codes "nonce")) b.nonce d.nonce one_short_text (subst (λ ns. Says IsShortText (member_named ns (codes "nonce")) b.nonce) same h.nonce) k.nonce in
     let keys : b.keys ≡ d.keys = verdicts.says_one IsKeySet (member_named ms (codes "keys")) b.keys d.keys one_key_set (subst (λ ns. Says IsKeySet (member_named ns (codes "keys")) b.keys) same h.keys) k.keys in
-    let max_age : b.max_age ≡ d.max_age = verdicts.says_one (IsWholeUpTo AGE_MAX) (member_named ms (codes "max_age")) b.max_age d.max_age (verdicts.one_whole AGE_MAX) (subst (λ ns. Says (IsWholeUpTo AGE_MAX) (member_named ns (codes "max_age")) b.max_age) same h.max_age) k.max_age in
+    let max_age : b.max_age ≡ d.max_age = verdicts.says_one (IsWholeUpTo age_max) (member_named ms (codes "max_age")) b.max_age d.max_age (verdicts.one_whole age_max) (subst (λ ns. Says (IsWholeUpTo age_max) (member_named ns (codes "max_age")) b.max_age) same h.max_age) k.max_age in
     ap (λ x. binding_made x b.nonce b.keys b.max_age) aud ∙ (ap (λ x. binding_made d.aud x b.keys b.max_age) nonce ∙ (ap (λ x. binding_made d.aud d.nonce x b.max_age) keys ∙ ap (λ x. binding_made d.aud d.nonce d.keys x) max_age))
 
 -- ---- a tree that says none
@@ -60,10 +60,10 @@ no_nonce t ms is none h = none h.0.nonce (subst (λ ns. Says IsShortText (member
 pub no_keys : (t : tree.Tree) (ms : Members) → t ≡ tree.Tree.Object ms → ((set : List NamedKey) → Says IsKeySet (member_named ms (codes "keys")) set → ⊥) → HasValue IsBindingPolicy (tree_of t) → ⊥
 no_keys t ms is none h = none h.0.keys (subst (λ ns. Says IsKeySet (member_named ns (codes "keys")) h.0.keys) (same_members t ms is h) h.1.keys)
 
-pub no_age : (t : tree.Tree) (ms : Members) → t ≡ tree.Tree.Object ms → ((age : ℕ) → Says (IsWholeUpTo AGE_MAX) (member_named ms (codes "max_age")) age → ⊥) → HasValue IsBindingPolicy (tree_of t) → ⊥
-no_age t ms is none h = none h.0.max_age (subst (λ ns. Says (IsWholeUpTo AGE_MAX) (member_named ns (codes "max_age")) h.0.max_age) (same_members t ms is h) h.1.max_age)
+pub no_age : (t : tree.Tree) (ms : Members) → t ≡ tree.Tree.Object ms → ((age : ℕ) → Says (IsWholeUpTo age_max) (member_named ms (codes "max_age")) age → ⊥) → HasValue IsBindingPolicy (tree_of t) → ⊥
+no_age t ms is none h = none h.0.max_age (subst (λ ns. Says (IsWholeUpTo age_max) (member_named ns (codes "max_age")) h.0.max_age) (same_members t ms is h) h.1.max_age)
 
 pub is_binding : (t : tree.Tree) (ms : Members) (binding : BindingPolicy) → t ≡ tree.Tree.Object ms → members_len ms ≡ 4 → Says IsShortText (member_named ms (codes "aud")) binding.aud
-    → Says IsShortText (member_named ms (codes "nonce")) binding.nonce → Says IsKeySet (member_named ms (codes "keys")) binding.keys → Says (IsWholeUpTo AGE_MAX) (member_named ms (codes "max_age")) binding.max_age
+    → Says IsShortText (member_named ms (codes "nonce")) binding.nonce → Says IsKeySet (member_named ms (codes "keys")) binding.keys → Says (IsWholeUpTo age_max) (member_named ms (codes "max_age")) binding.max_age
     → IsBindingPolicy (tree_of t) binding
 is_binding t ms binding is four aud nonce keys max_age = record { members = ms; is = ap tree_of is; four = four; aud = aud; nonce = nonce; keys = keys; max_age = max_age }

@@ -22,7 +22,7 @@ use Rattle.rebuild_core.specs.Conditions as opening
 use Rattle.rebuild_core.specs.declared.errors.ProcessError.{ProcessError}
 use Rattle.compact_form.specs.Condition as condition
 use Rattle.verifier_core.specs.Verdict.{Rules, key_for, HasHeader, HasPayload, IsAlgRefused, IsTypeRefused, IsBadSignature, IsUnread, Gives, HasContent, OfContent, TokenFails, IsChecked}
-use Rattle.verifier_core.specs.Check.{OnFault, IsUnopened, refusal_of, IsSigned, IsSignedFault, bad_header, critical, bad_alg, bad_type, no_key, not_signed, IsPayloadFault, no_body, no_hash, IsUnreadAt}
+use Rattle.verifier_core.specs.Check.{OnFault, IsUncounted, IsUnopened, refusal_of, IsSigned, IsSignedFault, bad_header, critical, bad_alg, bad_type, no_key, not_signed, IsPayloadFault, no_body, no_hash, IsUnreadAt}
 use Rattle.verifier_core.specs.declared.check.VerifyError.{VerifyError}
 use Rattle.verifier_core.proofs.TokenConditions.{finish, start}
 use Rattle.compact_form.specs.Lowest.{Unplaced, Numbered, IsLowest, Passes, unplaced}
@@ -294,3 +294,9 @@ content_checked token rules p g marked has passes sound is = record {
   passes = finish token rules (content_passes token rules p g has passes sound);
   opens = (p, g, has, is);
 }
+
+-- ---- what is looked up
+
+-- only where the conditions 1 to 13 are passed
+pub passed_uncounted : (FailsSo : condition.Condition → Place → Type 0) (old new : ℕ) → Passes 14 FailsSo → IsUncounted FailsSo old new
+passed_uncounted FailsSo old new passes c place h low = let high = passes c place h in absurd (omega (arith, high, low))

@@ -1,6 +1,6 @@
 -- A file says one policy, or is refused.
 use Rattle.std.proofs.Common.{◌≡◌, ◌≢◌, ℕ, List, [], ◌∷◌, Option, codes, ap, subst, ◌∙◌}
-use Rattle.compact_form.specs.declared.limits.TheConstants.{FILE_MAX}
+use Rattle.sd_outside.specs.Limits.{file_max, skew_max}
 use Rattle.claim_tree.specs.Tree.{Text}
 use Rattle.claim_tree.specs.FileForms.{IsText, IsTexts, IsWholeUpTo, Says, MaySay, SaysOr, found}
 use Rattle.claim_tree.specs.declared.file_fault.Field.TheVariants.{Keys, Algs, Typ, Iss, Require, Skew, Binding}
@@ -13,7 +13,6 @@ use Rattle.hmac_sign.proofs.KeySetVerdicts.{one_key_set}
 use Rattle.verifier_core.specs.PolicyFile.{IsBindingPolicy, policy_table, IsPolicyFile, IsPolicyRefused}
 use Rattle.key_binding.specs.declared.policy.BindingPolicy.{BindingPolicy}
 use Rattle.verifier_core.specs.declared.policy.Policy.{Policy}
-use Rattle.verifier_core.specs.declared.policy.TheConstants.{SKEW_MAX}
 use Rattle.verifier_core.proofs.BindingPolicies.{one_binding}
 
 made : List NamedKey → List Text → Option Text → Option Text → List Text → ℕ → Option BindingPolicy → Policy
@@ -22,14 +21,14 @@ made keys algs typ iss require skew binding = record { keys = keys; algs = algs;
 pub one_policy : (bytes : Text) (p q : Policy) → IsPolicyFile bytes p → IsPolicyFile bytes q → p ≡ q
 unfolding made
 one_policy bytes p q h k =
-    let same : h.members ≡ k.members = verdicts.one_object FILE_MAX bytes h.members k.members h.file.object k.file.object in
+    let same : h.members ≡ k.members = verdicts.one_object file_max bytes h.members k.members h.file.object k.file.object in
     let ms = k.members in
     let keys : p.keys ≡ q.keys = verdicts.says_one IsKeySet (found ms Keys) p.keys q.keys one_key_set (subst (λ ns. Says IsKeySet (found ns Keys) p.keys) same h.keys) k.keys in
     let algs : p.algs ≡ q.algs = verdicts.says_or_one IsTexts (codes "HS256" ∷ []) (found ms Algs) p.algs q.algs verdicts.one_texts (subst (λ ns. SaysOr IsTexts (codes "HS256" ∷ []) (found ns Algs) p.algs) same h.algs) k.algs in
     let typ : p.typ ≡ q.typ = verdicts.may_say_one IsText (found ms Typ) p.typ q.typ verdicts.one_text (subst (λ ns. MaySay IsText (found ns Typ) p.typ) same h.typ) k.typ in
     let iss : p.iss ≡ q.iss = verdicts.may_say_one IsText (found ms Iss) p.iss q.iss verdicts.one_text (subst (λ ns. MaySay IsText (found ns Iss) p.iss) same h.iss) k.iss in
     let require : p.require ≡ q.require = verdicts.says_or_one IsTexts [] (found ms Require) p.require q.require verdicts.one_texts (subst (λ ns. SaysOr IsTexts [] (found ns Require) p.require) same h.require) k.require in
-    let skew : p.skew ≡ q.skew = verdicts.says_or_one (IsWholeUpTo SKEW_MAX) 0 (found ms Skew) p.skew q.skew (verdicts.one_whole SKEW_MAX) (subst (λ ns. SaysOr (IsWholeUpTo SKEW_MAX) 0 (found ns Skew) p.skew) same h.skew) k.skew in
+    let skew : p.skew ≡ q.skew = verdicts.says_or_one (IsWholeUpTo skew_max) 0 (found ms Skew) p.skew q.skew (verdicts.one_whole skew_max) (subst (λ ns. SaysOr (IsWholeUpTo skew_max) 0 (found ns Skew) p.skew) same h.skew) k.skew in
     let binding : p.binding ≡ q.binding = verdicts.may_say_one IsBindingPolicy (found ms Binding) p.binding q.binding one_binding (subst (λ ns. MaySay IsBindingPolicy (found ns Binding) p.binding) same h.binding) k.binding in
     ap (λ x. made x p.algs p.typ p.iss p.require p.skew p.binding) keys
     ∙ (ap (λ x. made q.keys x p.typ p.iss p.require p.skew p.binding) algs
@@ -47,9 +46,9 @@ not_both bytes policy fault says refused =
     let typ = may_say_meets IsText Typ ms policy.typ says.typ in
     let iss = may_say_meets IsText Iss ms policy.iss says.iss in
     let require = says_or_meets IsTexts [] Require ms policy.require says.require in
-    let skew = says_or_meets (IsWholeUpTo SKEW_MAX) 0 Skew ms policy.skew says.skew in
+    let skew = says_or_meets (IsWholeUpTo skew_max) 0 Skew ms policy.skew says.skew in
     let binding = may_say_meets IsBindingPolicy Binding ms policy.binding says.binding in
-    verdicts.not_refused FILE_MAX policy_table bytes ms fault says.file (keys, (algs, (typ, (iss, (require, (skew, (binding, tt))))))) refused
+    verdicts.not_refused file_max policy_table bytes ms fault says.file (keys, (algs, (typ, (iss, (require, (skew, (binding, tt))))))) refused
 
 pub one_fault : (bytes : Text) (fault other : FileFault) → IsPolicyRefused bytes fault → IsPolicyRefused bytes other → fault ≢ FileFault.Memory → other ≢ FileFault.Memory → fault ≡ other
-one_fault bytes fault other h k = verdicts.one_fault FILE_MAX policy_table bytes fault other h k
+one_fault bytes fault other h k = verdicts.one_fault file_max policy_table bytes fault other h k

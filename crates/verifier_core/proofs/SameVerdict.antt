@@ -1,6 +1,6 @@
 -- Two serializations of one token are judged alike.
 use Rattle.std.proofs.Common.{◌≡◌, ℕ, false, List, refl, subst}
-use Rattle.compact_form.specs.declared.conditions.TheConstants.{TOO_MUCH}
+use Rattle.compact_form.specs.Condition as condition
 use Rattle.compact_form.specs.declared.fault.Fault.{Fault}
 use Rattle.compact_form.specs.declared.fault.Place.{Place}
 use Rattle.compact_form.specs.Condition.{Condition, number_of}
@@ -52,7 +52,7 @@ one_verdict text other token policy now here there =
 
 -- what is read has no more parts than it may have
 few : (text : List ℕ) (token : Token) → IsToken text token → IsTooMuch token.parts → ⊥
-few text token is much = is.passes (unplaced TOO_MUCH) (too_much token refl is.spells much)
+few text token is much = is.passes (unplaced (number_of condition.too_much)) (too_much token refl is.spells much)
 
 pub spelled : (text other : List ℕ) (token : Token) (policy : Policy) (now : ℕ) → IsToken text token → Spells (trimmed other) token → is_too_long other ≡ false → HaveOneVerdict text other policy now
 spelled text other token policy now here spells short = one_verdict text other token policy now here (read_spelled other token spells short (few text token here))

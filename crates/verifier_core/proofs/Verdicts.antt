@@ -1,8 +1,7 @@
 -- The verdict on a file, from the verdicts on its form, its token and its claims.
 use Rattle.std.proofs.Common.{◌≡◌, ℕ, ◌<◌, ◌≤◌, ◌-◌, ◌^◌, ◌⊎◌, inl, inr, List, length, Some, refl, sym, ap, ap₂, subst, ◌∙◌, arith}
 use Rattle.claim_tree.specs.Tree.{Tree, Members}
-use Rattle.compact_form.specs.declared.limits.TheConstants.{COUNT_MAX}
-use Rattle.compact_form.specs.declared.conditions.TheConstants.{TOO_MUCH}
+use Rattle.sd_outside.specs.Limits.{count_max}
 use Rattle.compact_form.specs.declared.fault.Fault.{Fault}
 use Rattle.compact_form.specs.declared.fault.Place.{Place}
 use Rattle.compact_form.specs.declared.fault.Place.TheVariants.{Nowhere, At, Json}
@@ -26,7 +25,7 @@ use Rattle.rebuild_core.specs.Opening.{processed}
 use Rattle.compact_form.specs.Condition as condition
 use Rattle.compact_form.specs.Condition.{Condition, number_of}
 use Rattle.verifier_core.specs.Verdict.{TokenFails, ClaimFails, MissingFails, HolderFails, IsBindingMissing, HasHash, Fails, of_file, of_missing, of_token, of_claims, of_holder, rules_of, Opens, IsChecked, IsAccepted}
-use Rattle.verifier_core.specs.Check.{token_of, ShownFails}
+use Rattle.verifier_core.specs.Check.{IsUncounted, token_of, ShownFails}
 use Rattle.verifier_core.specs.declared.policy.Policy.{Policy}
 use Rattle.compact_form.specs.Lowest.{IsNoLater, IsLowest, NoneFails, unplaced}
 use Rattle.compact_form.proofs.Numbers.{one_condition}
@@ -44,11 +43,11 @@ is_token content token parts outer same others is = subst (IsToken content) (sym
 pub few : (content : List ℕ) (token : Token) → IsToken content token → length token.parts.disclosures < 2 ^ 32 - 1
 few content token is = go (either (length token.parts.disclosures))
   where
-    either : (n : ℕ) → (COUNT_MAX < n) ⊎ (n ≤ COUNT_MAX)
+    either : (n : ℕ) → (count_max < n) ⊎ (n ≤ count_max)
     either n = grind arith
 
-    go : (COUNT_MAX < length token.parts.disclosures) ⊎ (length token.parts.disclosures ≤ COUNT_MAX) → length token.parts.disclosures < 2 ^ 32 - 1
-    go (inl many) = absurd (is.passes (record { number = TOO_MUCH; place = Nowhere }) (file.too_much token refl is.spells (inl many)))
+    go : (count_max < length token.parts.disclosures) ⊎ (length token.parts.disclosures ≤ count_max) → length token.parts.disclosures < 2 ^ 32 - 1
+    go (inl many) = absurd (is.passes (record { number = number_of condition.too_much; place = Nowhere }) (file.too_much token refl is.spells (inl many)))
     go (inr low) = omega (arith, low)
 
 no_later : (place : Place) → IsNoLater place place
@@ -171,6 +170,16 @@ module _ (content : List ℕ) (policy : Policy) (now : ℕ) (token : Token) (is 
   module _ (sent : IsBindingMissing policy token.parts → ⊥) where
     not_missing : (t : Token) → IsToken content t → (c : Condition) (place : Place) → MissingFails policy t.parts c place → ⊥
     not_missing t there c place h = sent (subst (λ (x : Token). IsBindingMissing policy x.parts) (tokens.one content t token there is) h.1.1)
+
+    -- nothing is looked up for the text where nothing is for the token
+    pub text_uncounted : (old new : ℕ) → IsUncounted (TokenFails token (rules_of policy)) old new → IsUncounted (Fails content policy now) old new
+    text_uncounted old new same c place (of_file h) low = absurd (is.passes (fault_at c place) h)
+    text_uncounted old new same c place (of_missing t there h) low = absurd (not_missing t there c place h)
+    text_uncounted old new same c place (of_token t there h) low = same c place (subst (λ (x : Token). TokenFails x (rules_of policy) c place) (tokens.one content t token there is) h) low
+    text_uncounted old new same c place (of_claims t marked there opens h) low = let high = claim_numbers (strip marked) policy now c place h in absurd (omega (arith, high.0, low))
+    text_uncounted old new same c place (of_holder t marked hash there opens has h) low =
+        let high = holder_numbers t.parts (strip marked) hash policy now c place h in
+        absurd (omega (arith, high, low))
 
     -- a token that is refused
     pub token_lowest : (fault : Fault) → IsLowest (TokenFails token (rules_of policy)) fault → IsLowest (Fails content policy now) fault

@@ -20,7 +20,7 @@ use Rattle.json_form.specs.Token.{IsToken}
 use Rattle.rebuild_core.specs.Given.{look_ups, counted, RoseWithin}
 use Rattle.rebuild_core.specs.Answer.{IsRefusal}
 use Rattle.rebuild_core.specs.declared.errors.ProcessError.{ProcessError}
-use Rattle.compact_form.specs.Condition.{Condition}
+use Rattle.compact_form.specs.Condition.{Condition, number_of}
 use Rattle.compact_form.specs.Lowest.{unplaced}
 use Rattle.verifier_core.specs.Verdict.{Rules, key_for, HasContent, ClaimFails, HolderFails, IsAlgRefused, IsTypeRefused, IsBadSignature, IsUnread, Gives}
 use Rattle.verifier_core.specs.declared.check.VerifyError.{VerifyError}
@@ -51,9 +51,9 @@ IsCountedWithin token old new = (new ≡ old) ⊎ ((payload : Tree) × (given : 
 abbrev pub IsReadWithin : List ℕ → ℕ → ℕ → Type 0
 IsReadWithin content old new = (new ≡ old) ⊎ ((token : Token) × IsToken content token × IsCountedWithin token old new)
 
--- where one of the conditions 1 to 13 fails, nothing is looked up
-abbrev pub IsUncounted : ℕ → ℕ → Fault → Type 0
-IsUncounted old new fault = fault.number ≤ 13 → new ≡ old
+-- where one of the conditions 1 to 13 fails, nothing is looked up, whatever is answered
+abbrev pub IsUncounted : (Condition → Place → Type 0) → ℕ → ℕ → Type 0
+IsUncounted FailsSo old new = (c : Condition) (place : Place) → FailsSo c place → number_of c ≤ 13 → new ≡ old
 
 -- ---- for private functions
 

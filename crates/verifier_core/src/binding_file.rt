@@ -1,5 +1,6 @@
 // What a policy file says of key binding.
 ghost use Rattle.std.specs.Prelude.{List, ℕ, codes, IfOk, IfErr, IfSome, IfNone};
+ghost use Rattle.sd_outside.specs.Limits.{age_max};
 ghost use Rattle.claim_tree.specs.FileForms.{IsWholeUpTo, HasValue, Says, MaySay, IsMemberRefused, optional, found};
 ghost use Rattle.claim_tree.specs.Tree.{member_named};
 ghost use Rattle.claim_tree.specs.View.{tree_of};
@@ -37,8 +38,8 @@ fn keys_in(alloc: Global, members: &TreeMap) -> Result<Option<KeySet>, NoMemory>
 }
 
 fn max_age_in(members: &TreeMap) -> Option<u32>
-    ensures age { IfSome result (Says (IsWholeUpTo AGE_MAX) (member_named members.now (codes "max_age"))) }
-    ensures none { IfNone result ((age : ℕ) → Says (IsWholeUpTo AGE_MAX) (member_named members.now (codes "max_age")) age → ⊥) }
+    ensures age { IfSome result (Says (IsWholeUpTo age_max) (member_named members.now (codes "max_age"))) }
+    ensures none { IfNone result ((age : ℕ) → Says (IsWholeUpTo age_max) (member_named members.now (codes "max_age")) age → ⊥) }
 {
     whole_up_to(members.get("max_age")?, AGE_MAX)
 }

@@ -296,7 +296,7 @@ pub fn check_token(
     // the look-ups
     ensures counted { IfOk result (λ _. IsCounted token.now steps.old steps.new) }
     ensures within { IsCountedWithin token.now steps.old steps.new }
-    ensures uncounted { IfErr result (λ e. OnFault e (IsUncounted steps.old steps.new)) }
+    ensures uncounted { IsUncounted (TokenFails token.now (asked keys.now algs.now (option_copied typ.entry))) steps.old steps.new }
 {
     let content = match read_content(alloc, token, keys, algs, typ) {
         Ok(content) => content,
@@ -326,7 +326,7 @@ pub fn check_view(
     // the look-ups
     ensures counted { IfOk result (λ _. IsCounted (token_of view.now outer.now) steps.old steps.new) }
     ensures within { IsCountedWithin (token_of view.now outer.now) steps.old steps.new }
-    ensures uncounted { IfErr result (λ e. OnFault e (IsUncounted steps.old steps.new)) }
+    ensures uncounted { IsUncounted (TokenFails (token_of view.now outer.now) (asked keys.now algs.now (option_copied typ.entry))) steps.old steps.new }
 {
     let content = match view_content(alloc, view, outer, keys, algs, typ) {
         Ok(content) => content,
@@ -354,7 +354,7 @@ pub fn check_marks(
     // the look-ups
     ensures counted { IfOk result (λ _. IsCounted (token_of view.now outer.now) steps.old steps.new) }
     ensures within { IsCountedWithin (token_of view.now outer.now) steps.old steps.new }
-    ensures uncounted { IfErr result (λ e. OnFault e (IsUncounted steps.old steps.new)) }
+    ensures uncounted { IsUncounted (TokenFails (token_of view.now outer.now) (asked keys.now algs.now (option_copied typ.entry))) steps.old steps.new }
 {
     let content = match view_content(alloc, view, outer, keys, algs, typ) {
         Ok(content) => content,
@@ -381,7 +381,7 @@ pub fn check_processed(
     ensures refused { IfErr result (λ e. OnFault e (IsLowest (TokenFails (token_of view.now outer.now) (asked keys.now algs.now (option_copied typ.entry))))) }
     ensures counted { IfOk result (λ _. IsCounted (token_of view.now outer.now) steps.old steps.new) }
     ensures within { IsCountedWithin (token_of view.now outer.now) steps.old steps.new }
-    ensures uncounted { IfErr result (λ e. OnFault e (IsUncounted steps.old steps.new)) }
+    ensures uncounted { IsUncounted (TokenFails (token_of view.now outer.now) (asked keys.now algs.now (option_copied typ.entry))) steps.old steps.new }
 {
     let content = match view_content(alloc, view, outer, keys, algs, typ) {
         Ok(content) => content,

@@ -6,30 +6,16 @@
 #![tactic(auto)]
 
 mod binding_file;
-#[cfg(test)]
-mod binding_tests;
 mod check;
 mod check_given;
 mod check_payload;
 mod check_signed;
-#[cfg(test)]
-mod check_tests;
 mod claims;
-#[cfg(test)]
-mod condition_tests;
 mod holder;
 pub mod laws;
 mod policy;
 mod refusal;
-#[cfg(test)]
-mod rows;
-#[cfg(test)]
-mod test_tokens;
-#[cfg(test)]
-mod tests;
 mod verdict;
-#[cfg(test)]
-mod verify_tests;
 
 pub use binding_file::AGE_MAX;
 pub use check::{

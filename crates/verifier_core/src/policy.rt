@@ -1,5 +1,6 @@
 // The policy of a verifier, and the file that says it.
 ghost use Rattle.std.specs.Prelude.{◌≡◌, [], ◌∷◌, codes, IfOk, IfErr};
+ghost use Rattle.sd_outside.specs.Limits.{skew_max};
 ghost use Rattle.claim_tree.specs.FileForms.{IsText, IsTexts, IsWholeUpTo, Says, SaysOr, IsMemberRefused, required, optional, found};
 ghost use Rattle.claim_tree.specs.declared.file_fault.Field.TheVariants.{Algs, Require, Skew};
 ghost use Rattle.hmac_sign.specs.Keys.{IsKeySet};
@@ -87,8 +88,8 @@ fn require_member(alloc: Global, members: &TreeMap) -> Result<TextList, FileFaul
 }
 
 fn skew_member(members: &TreeMap) -> Result<u32, FileFault>
-    ensures ok { IfOk result (SaysOr (IsWholeUpTo SKEW_MAX) 0 (found members.now Skew)) }
-    ensures refused { IfErr result (IsMemberRefused (optional Skew (IsWholeUpTo SKEW_MAX)) members.now) }
+    ensures ok { IfOk result (SaysOr (IsWholeUpTo skew_max) 0 (found members.now Skew)) }
+    ensures refused { IfErr result (IsMemberRefused (optional Skew (IsWholeUpTo skew_max)) members.now) }
 {
     match whole_member(members, Field::Skew, SKEW_MAX)? {
         Some(skew) => Ok(skew),

@@ -56,7 +56,7 @@ fn judge(
     ensures refused { (content : List ℕ) → IsToken content token.now → IfErr result (λ e. OnFault e (IsLowest (Fails content policy.now now))) }
     ensures counted { IfOk result (λ _. IsCounted token.now steps.old steps.new) }
     ensures within { IsCountedWithin token.now steps.old steps.new }
-    ensures uncounted { IfErr result (λ e. OnFault e (IsUncounted steps.old steps.new)) }
+    ensures uncounted { (content : List ℕ) → IsToken content token.now → IsUncounted (Fails content policy.now now) steps.old steps.new }
 {
     let view = token.view();
     let outer = token.outer();
@@ -92,7 +92,7 @@ fn judge_payload(
     ensures refused { (content : List ℕ) → IsToken content token.now → IfErr result (λ e. OnFault e (IsLowest (Fails content policy.now now))) }
     ensures counted { IfOk result (λ _. IsCounted token.now steps.old steps.new) }
     ensures within { IsCountedWithin token.now steps.old steps.new }
-    ensures uncounted { IfErr result (λ e. OnFault e (IsUncounted steps.old steps.new)) }
+    ensures uncounted { (content : List ℕ) → IsToken content token.now → IsUncounted (Fails content policy.now now) steps.old steps.new }
 {
     let view = token.view();
     let outer = token.outer();
@@ -139,7 +139,7 @@ pub fn verify(
     // the look-ups
     ensures counted { IfOk result (λ _. (token : SeenToken) × IsToken text.now token × IsCounted token steps.old steps.new) }
     ensures within { IsReadWithin text.now steps.old steps.new }
-    ensures uncounted { IfErr result (λ e. OnFault e (IsUncounted steps.old steps.new)) }
+    ensures uncounted { IsUncounted (Fails text.now policy.now now) steps.old steps.new }
 {
     match read_text(alloc, text) {
         Ok(token) => judge(alloc, &token, policy, now, steps),
@@ -162,7 +162,7 @@ pub fn verify_payload(
     // the look-ups
     ensures counted { IfOk result (λ _. (token : SeenToken) × IsToken text.now token × IsCounted token steps.old steps.new) }
     ensures within { IsReadWithin text.now steps.old steps.new }
-    ensures uncounted { IfErr result (λ e. OnFault e (IsUncounted steps.old steps.new)) }
+    ensures uncounted { IsUncounted (Fails text.now policy.now now) steps.old steps.new }
 {
     match read_text(alloc, text) {
         Ok(token) => judge_payload(alloc, &token, policy, now, steps),

@@ -1,6 +1,6 @@
 use Rattle.std.proofs.Common.{[], ◌∷◌}
 use Rattle.std.proofs.lemmas.Result.{err_from_is_err_and}
-use Rattle.compact_form.specs.declared.limits.TheConstants.{FILE_MAX}
+use Rattle.sd_outside.specs.Limits.{file_max}
 use Rattle.claim_tree.specs.FileForms.{Entry, required, optional}
 use Rattle.claim_tree.specs.declared.file_fault.Field.TheVariants.{Keys, Want, Never, Binding}
 use Rattle.claim_tree.proofs.FileMembers.{says_meets, says_or_meets, member_refused}
@@ -24,14 +24,14 @@ binding = optional Binding IsBindingOrder
 pub returns-in_err-keys-clause-refused : goal.returns-in_err-keys-clause-refused
 returns-in_err-keys-clause-refused c =
     let handed = err_from_is_err_and c.from_residual-in_err-keys.result c.from_residual-in_err-keys.ensures.1 in
-    rw (handed.1, handed.2) (member_refused FILE_MAX [] keys (want ∷ never ∷ binding ∷ []) c.args.bytes.now c.in_ok-members.members c.in_err-keys.field-0.0 c.in_ok-members.ensures.ok tt c.in_err-keys.ensures.refused)
+    rw (handed.1, handed.2) (member_refused file_max [] keys (want ∷ never ∷ binding ∷ []) c.args.bytes.now c.in_ok-members.members c.in_err-keys.field-0.0 c.in_ok-members.ensures.ok tt c.in_err-keys.ensures.refused)
 
 pub returns-in_err-want-clause-refused : goal.returns-in_err-want-clause-refused
 returns-in_err-want-clause-refused c =
     let handed = err_from_is_err_and c.from_residual-in_err-want.result c.from_residual-in_err-want.ensures.1 in
     let ms = c.in_ok-members.members in
     let keys_meet = says_meets IsKeySet Keys ms c.in_ok-keys.keys c.in_ok-keys.ensures.ok in
-    rw (handed.1, handed.2) (member_refused FILE_MAX (keys ∷ []) want (never ∷ binding ∷ []) c.args.bytes.now ms c.in_err-want.field-0.0 c.in_ok-members.ensures.ok (keys_meet, tt) c.in_err-want.ensures.refused)
+    rw (handed.1, handed.2) (member_refused file_max (keys ∷ []) want (never ∷ binding ∷ []) c.args.bytes.now ms c.in_err-want.field-0.0 c.in_ok-members.ensures.ok (keys_meet, tt) c.in_err-want.ensures.refused)
 
 pub returns-in_err-never-clause-refused : goal.returns-in_err-never-clause-refused
 returns-in_err-never-clause-refused c =
@@ -39,7 +39,7 @@ returns-in_err-never-clause-refused c =
     let ms = c.in_ok-members.members in
     let keys_meet = says_meets IsKeySet Keys ms c.in_ok-keys.keys c.in_ok-keys.ensures.ok in
     let want_meets = says_or_meets (IsListOf IsPointer) [] Want ms c.in_ok-want.want c.in_ok-want.ensures.ok in
-    rw (handed.1, handed.2) (member_refused FILE_MAX (keys ∷ want ∷ []) never (binding ∷ []) c.args.bytes.now ms c.in_err-never.field-0.0 c.in_ok-members.ensures.ok (keys_meet, (want_meets, tt)) c.in_err-never.ensures.refused)
+    rw (handed.1, handed.2) (member_refused file_max (keys ∷ want ∷ []) never (binding ∷ []) c.args.bytes.now ms c.in_err-never.field-0.0 c.in_ok-members.ensures.ok (keys_meet, (want_meets, tt)) c.in_err-never.ensures.refused)
 
 pub returns-in_err-ask-clause-refused : goal.returns-in_err-ask-clause-refused
 returns-in_err-ask-clause-refused c =
@@ -48,4 +48,4 @@ returns-in_err-ask-clause-refused c =
     let keys_meet = says_meets IsKeySet Keys ms c.in_ok-keys.keys c.in_ok-keys.ensures.ok in
     let want_meets = says_or_meets (IsListOf IsPointer) [] Want ms c.in_ok-want.want c.in_ok-want.ensures.ok in
     let never_meets = says_or_meets (IsListOf IsPointer) [] Never ms c.in_ok-never.never c.in_ok-never.ensures.ok in
-    rw (handed.1, handed.2) (member_refused FILE_MAX (keys ∷ want ∷ never ∷ []) binding [] c.args.bytes.now ms c.in_err-ask.field-0.0 c.in_ok-members.ensures.ok (keys_meet, (want_meets, (never_meets, tt))) c.in_err-ask.ensures.refused)
+    rw (handed.1, handed.2) (member_refused file_max (keys ∷ want ∷ never ∷ []) binding [] c.args.bytes.now ms c.in_err-ask.field-0.0 c.in_ok-members.ensures.ok (keys_meet, (want_meets, (never_meets, tt))) c.in_err-ask.ensures.refused)

@@ -5,7 +5,7 @@ use Rattle.json_form.specs.declared.token.Token.{Token}
 use Rattle.json_form.proofs.Tokens as tokens
 use Rattle.verifier_core.proofs.Verdicts.{few}
 use Rattle.holder_core.specs.Present.{no_memory, not_read, refused}
-use Rattle.holder_core.proofs.Steps.{is_bound, is_unbound}
+use Rattle.holder_core.proofs.Steps.{is_bound, is_unbound, text_uncounted}
 use Rattle.holder_core.proofs.presenting.present.Goals as goal
 
 pub returns-in-Err-Memory-clause-refused : goal.returns-in-Err-Memory-clause-refused
@@ -42,3 +42,9 @@ returns-clause-unopened g c token is bound =
     let none = is_unbound c.binding.result c.in-Ok.token.parts.binding (c.binding.ensures ∙ ap (λ (p : Parts). p.binding) c.view.ensures) (sym c.is_some.ensures ∙ c.if-is_some.false) in
     let same = tokens.one c.args.text.now token c.in-Ok.token is c.in-Ok.ensures.ok in
     absurd (bound (ap (λ (t : Token). t.parts.binding) same ∙ none))
+
+pub returns-then-is_some-clause-uncounted : goal.returns-then-is_some-clause-uncounted
+returns-then-is_some-clause-uncounted g c condition place fails low = refl
+
+pub returns-clause-uncounted : goal.returns-clause-uncounted
+returns-clause-uncounted g c = text_uncounted c.args.text.now c.args.ask.now c.in-Ok.token c.in-Ok.ensures.ok c.args.steps.now c.present_token.new.steps c.present_token.ensures.uncounted

@@ -1,6 +1,5 @@
 use Rattle.std.proofs.lemmas.Result.{IfOk-weaker, IfErr-weaker}
-use Rattle.verifier_core.specs.Check.{IsUncounted}
-use Rattle.holder_core.proofs.Steps.{unpresented_refused, answered, unfinished_refused, unfinished_unread, no_token}
+use Rattle.holder_core.proofs.Steps.{unpresented_refused, answered, unfinished_refused}
 use Rattle.holder_core.proofs.presenting.present_token.Goals as goal
 
 pub returns-in-Err-clause-refused : goal.returns-in-Err-clause-refused
@@ -18,7 +17,3 @@ returns-clause-refused g c =
     IfErr-weaker c.finish.result _ _
     (unfinished_refused g.F.Fn c.args.consent.now c.args.token.now c.args.ask.now (g.S.Signatures.good c.args.signer.now) c.args.now c.in-Ok.ensures.ready.0 c.in-Ok.ready.0 c.in-Ok.ensures.ready.1 c.in-Ok.ready.1 c.in-Ok.ensures.hash)
     c.finish.ensures.unfinished
-
-pub returns-clause-uncounted : goal.returns-clause-uncounted
-returns-clause-uncounted g c =
-    IfErr-weaker c.finish.result _ _ (λ e is. no_token e (IsUncounted c.args.steps.now c.ready_parts.new.steps) (unfinished_unread c.args.ask.now.binding (g.S.Signatures.good c.args.signer.now) c.in-Ok.ready.1 c.args.now c.in-Ok.ready.0 e is)) c.finish.ensures.unfinished

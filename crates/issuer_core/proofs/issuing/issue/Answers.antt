@@ -1,7 +1,7 @@
 use Rattle.std.proofs.Common.{length, ap, arith}
 use Rattle.std.proofs.lemmas.Result.{IfOk-weaker, IfErr-weaker}
 use Rattle.std.specs.Set.{distinct_count}
-use Rattle.compact_form.specs.declared.limits.TheConstants.{COUNT_MAX}
+use Rattle.sd_outside.specs.Limits.{count_max}
 use Rattle.marked_tree.specs.Places.{same_path}
 use Rattle.claim_tree.specs.View.{tree_of}
 use Rattle.issuer_core.specs.Decoys.{places}
@@ -54,10 +54,10 @@ returns-clause-refused g c =
     c.issue_laid.ensures.unfinished
 
 pub lay_order-requires-clause-few : goal.lay_order-requires-clause-few
-lay_order-requires-clause-few g c = not_more COUNT_MAX (distinct_count same_path c.args.order.now.hide) (c.in_default.ensures.passes TooManyHidden)
+lay_order-requires-clause-few g c = not_more count_max (distinct_count same_path c.args.order.now.hide) (c.in_default.ensures.passes TooManyHidden)
 
 pub lay_order-requires-clause-decoys : goal.lay_order-requires-clause-decoys
-lay_order-requires-clause-decoys g c = not_more COUNT_MAX (length (places c.args.order.now.decoys)) (c.in_default.ensures.passes TooManyDecoys)
+lay_order-requires-clause-decoys g c = not_more count_max (length (places c.args.order.now.decoys)) (c.in_default.ensures.passes TooManyDecoys)
 
 pub issue_laid-requires : goal.issue_laid-requires
 issue_laid-requires g c =

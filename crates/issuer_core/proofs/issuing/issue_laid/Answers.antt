@@ -1,6 +1,6 @@
 use Rattle.std.proofs.Common.{length}
 use Rattle.claim_tree.specs.View.{tree_of}
-use Rattle.compact_form.specs.declared.limits.TheConstants.{ISSUE_MAX}
+use Rattle.sd_outside.specs.Limits.{issue_max}
 use Rattle.compact_form.specs.Compact.{compact}
 use Rattle.issuer_core.proofs.FromLaid.{words, not_more}
 use Rattle.issuer_core.proofs.issuing.issue_laid.Goals as goal
@@ -14,5 +14,5 @@ returns-clause-finished g c = record {
   signed = c.in-Ok.ensures.signed;
   differ = c.in_default.ensures.differ;
   words = words c.args.header (g.S.Signatures.good c.args.signer.now) (tree_of c.args.laid.payload) c.args.laid.texts c.in-Ok.parts c.requires.object c.requires.words c.in-Ok.ensures.signed;
-  short = not_more ISSUE_MAX (length (compact c.in-Ok.parts)) (λ over. let yes = c.in_ok-is_too_long.ensures.1 over in let no = c.if-branch.false in cc);
+  short = not_more issue_max (length (compact c.in-Ok.parts)) (λ over. let yes = c.in_ok-is_too_long.ensures.1 over in let no = c.if-branch.false in cc);
 }

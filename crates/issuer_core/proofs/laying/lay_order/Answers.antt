@@ -76,6 +76,7 @@ returns-clause-few c =
     let none = ap length c.new-layer.ensures.texts in
     let marks = ap (weight one) c.in_ok-claims.ensures.marked ∙ order_marks (order_of c.args.order.now) in
     let hidden = c.in_ok-claims.ensures.count in
-    let few = c.in_ok-claims.ensures.few in
+    let different = c.in_ok-claims.ensures.few in
+    let few = c.requires.few in
     let all = c.in_ok-payload.ensures.count in
-    omega (arith, none, marks, hidden, few, all)
+    omega (arith, none, marks, hidden, different, few, all)

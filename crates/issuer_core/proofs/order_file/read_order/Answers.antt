@@ -1,6 +1,6 @@
 use Rattle.std.proofs.Common.{[], ◌∷◌, arith}
 use Rattle.std.proofs.lemmas.Result.{err_from_is_err_and}
-use Rattle.compact_form.specs.declared.limits.TheConstants.{FILE_MAX}
+use Rattle.sd_outside.specs.Limits.{file_max}
 use Rattle.claim_tree.specs.View.{tree_of}
 use Rattle.claim_tree.specs.FileForms.{IsText, Entry, required, optional, found}
 use Rattle.claim_tree.specs.FileWords.{word_of}
@@ -38,7 +38,7 @@ returns-in_err-hide-clause-refused c =
     let handed = err_from_is_err_and c.from_residual-in_err-hide.result c.from_residual-in_err-hide.ensures.1 in
     let ms = c.in_ok-members.members in
     let payload_meets = c.in_ok-need_payload.ensures.there in
-    rw (handed.1, handed.2) (member_refused FILE_MAX (payload ∷ []) hide (decoys ∷ key ∷ kid ∷ typ ∷ []) c.args.bytes.now ms c.in_err-hide.field-0.0 c.in_ok-members.ensures.ok (payload_meets, tt) c.in_err-hide.ensures.refused)
+    rw (handed.1, handed.2) (member_refused file_max (payload ∷ []) hide (decoys ∷ key ∷ kid ∷ typ ∷ []) c.args.bytes.now ms c.in_err-hide.field-0.0 c.in_ok-members.ensures.ok (payload_meets, tt) c.in_err-hide.ensures.refused)
 
 pub returns-in_err-decoys-clause-refused : goal.returns-in_err-decoys-clause-refused
 returns-in_err-decoys-clause-refused c =
@@ -46,7 +46,7 @@ returns-in_err-decoys-clause-refused c =
     let ms = c.in_ok-members.members in
     let payload_meets = c.in_ok-need_payload.ensures.there in
     let hide_meets = says_or_meets (IsListOf IsPointer) [] Hide ms c.in_ok-hide.hide c.in_ok-hide.ensures.ok in
-    rw (handed.1, handed.2) (member_refused FILE_MAX (payload ∷ hide ∷ []) decoys (key ∷ kid ∷ typ ∷ []) c.args.bytes.now ms c.in_err-decoys.field-0.0 c.in_ok-members.ensures.ok (payload_meets, (hide_meets, tt)) c.in_err-decoys.ensures.refused)
+    rw (handed.1, handed.2) (member_refused file_max (payload ∷ hide ∷ []) decoys (key ∷ kid ∷ typ ∷ []) c.args.bytes.now ms c.in_err-decoys.field-0.0 c.in_ok-members.ensures.ok (payload_meets, (hide_meets, tt)) c.in_err-decoys.ensures.refused)
 
 pub returns-in_err-key-clause-refused : goal.returns-in_err-key-clause-refused
 returns-in_err-key-clause-refused c =
@@ -55,7 +55,7 @@ returns-in_err-key-clause-refused c =
     let payload_meets = c.in_ok-need_payload.ensures.there in
     let hide_meets = says_or_meets (IsListOf IsPointer) [] Hide ms c.in_ok-hide.hide c.in_ok-hide.ensures.ok in
     let decoys_meet = says_or_meets (IsListOf IsDecoy) [] Decoys ms c.in_ok-decoys.decoys c.in_ok-decoys.ensures.ok in
-    rw (handed.1, handed.2) (member_refused FILE_MAX (payload ∷ hide ∷ decoys ∷ []) key (kid ∷ typ ∷ []) c.args.bytes.now ms c.in_err-key.field-0.0 c.in_ok-members.ensures.ok (payload_meets, (hide_meets, (decoys_meet, tt))) c.in_err-key.ensures.refused)
+    rw (handed.1, handed.2) (member_refused file_max (payload ∷ hide ∷ decoys ∷ []) key (kid ∷ typ ∷ []) c.args.bytes.now ms c.in_err-key.field-0.0 c.in_ok-members.ensures.ok (payload_meets, (hide_meets, (decoys_meet, tt))) c.in_err-key.ensures.refused)
 
 pub returns-in_err-kid-clause-refused : goal.returns-in_err-kid-clause-refused
 returns-in_err-kid-clause-refused c =
@@ -65,7 +65,7 @@ returns-in_err-kid-clause-refused c =
     let hide_meets = says_or_meets (IsListOf IsPointer) [] Hide ms c.in_ok-hide.hide c.in_ok-hide.ensures.ok in
     let decoys_meet = says_or_meets (IsListOf IsDecoy) [] Decoys ms c.in_ok-decoys.decoys c.in_ok-decoys.ensures.ok in
     let key_meets = says_meets IsKeyText Key ms c.in_ok-key.key c.in_ok-key.ensures.ok in
-    rw (handed.1, handed.2) (member_refused FILE_MAX (payload ∷ hide ∷ decoys ∷ key ∷ []) kid (typ ∷ []) c.args.bytes.now ms c.in_err-kid.field-0.0 c.in_ok-members.ensures.ok (payload_meets, (hide_meets, (decoys_meet, (key_meets, tt)))) c.in_err-kid.ensures.refused)
+    rw (handed.1, handed.2) (member_refused file_max (payload ∷ hide ∷ decoys ∷ key ∷ []) kid (typ ∷ []) c.args.bytes.now ms c.in_err-kid.field-0.0 c.in_ok-members.ensures.ok (payload_meets, (hide_meets, (decoys_meet, (key_meets, tt)))) c.in_err-kid.ensures.refused)
 
 pub returns-in_err-typ-clause-refused : goal.returns-in_err-typ-clause-refused
 returns-in_err-typ-clause-refused c =
@@ -76,7 +76,7 @@ returns-in_err-typ-clause-refused c =
     let decoys_meet = says_or_meets (IsListOf IsDecoy) [] Decoys ms c.in_ok-decoys.decoys c.in_ok-decoys.ensures.ok in
     let key_meets = says_meets IsKeyText Key ms c.in_ok-key.key c.in_ok-key.ensures.ok in
     let kid_meets = may_say_meets IsText Kid ms c.in_ok-kid.kid c.in_ok-kid.ensures.ok in
-    rw (handed.1, handed.2) (member_refused FILE_MAX (payload ∷ hide ∷ decoys ∷ key ∷ kid ∷ []) typ [] c.args.bytes.now ms c.in_err-typ.field-0.0 c.in_ok-members.ensures.ok (payload_meets, (hide_meets, (decoys_meet, (key_meets, (kid_meets, tt))))) c.in_err-typ.ensures.refused)
+    rw (handed.1, handed.2) (member_refused file_max (payload ∷ hide ∷ decoys ∷ key ∷ kid ∷ []) typ [] c.args.bytes.now ms c.in_err-typ.field-0.0 c.in_ok-members.ensures.ok (payload_meets, (hide_meets, (decoys_meet, (key_meets, (kid_meets, tt))))) c.in_err-typ.ensures.refused)
 
 pub returns-clause-ranged : goal.returns-clause-ranged
 returns-clause-ranged c = value_ranged c.in_ok-members.members (word_of Payload) (tree_of c.into_payload.result) c.in_ok-members.ensures.ranged c.into_payload.ensures

@@ -1,8 +1,9 @@
 use Rattle.std.proofs.Common.{◌≡◌, ◌≤◌, true, length, Err, IfSome, sym, ap, subst, ◌∙◌, arith}
 use Rattle.std.specs.Prelude.{IfNone}
 use Rattle.std.proofs.lemmas.Result.{err_from_is_err_and}
-use Rattle.compact_form.specs.declared.limits.TheConstants.{FILE_MAX}
-use Rattle.compact_form.specs.declared.conditions.TheConstants.{TOO_MUCH}
+use Rattle.sd_outside.specs.Limits.{file_max}
+use Rattle.compact_form.specs.Condition as condition
+use Rattle.compact_form.specs.Condition.{number_of}
 use Rattle.compact_form.specs.declared.fault.Place.TheVariants.{Nowhere}
 use Rattle.compact_form.specs.Token.{is_json}
 use Rattle.compact_form.specs.Trim.{trimmed}
@@ -17,7 +18,7 @@ pub returns-in_err-token-clause-refused : goal.returns-in_err-token-clause-refus
 returns-in_err-token-clause-refused c fault is =
     let text = c.args.text.now in
     let json : is_json (trimmed text) ≡ true = ap is_json (sym c.requires.between) ∙ c.requires.json in
-    let short : length text ≤ FILE_MAX = omega (arith, c.if-text-gt-FILE_MAX.false) in
+    let short : length text ≤ file_max = omega (arith, c.if-text-gt-FILE_MAX.false) in
     let handed = err_from_is_err_and c.from_residual.result c.from_residual.ensures.1 in
     let both : Err handed.0 ≡ Err (TokenError.Fault fault) = sym handed.1 ∙ is in
     let error : handed.0 ≡ TokenError.Fault fault = cc both in
@@ -28,7 +29,7 @@ returns-in-Some-clause-ok c =
     let text = c.args.text.now in
     let token = c.in_ok-token.token in
     let json : is_json (trimmed text) ≡ true = ap is_json (sym c.requires.between) ∙ c.requires.json in
-    let short : length text ≤ FILE_MAX = omega (arith, c.if-text-gt-FILE_MAX.false) in
+    let short : length text ≤ file_max = omega (arith, c.if-text-gt-FILE_MAX.false) in
     let few : IsTooMuch token.parts → ⊥ = subst (λ compact. IfSome compact (λ _. IsTooMuch token.parts → ⊥)) c.in-Some.is c.in_ok-compact.ensures.few in
     read_json text token json short (subst (IsJson token) c.requires.between c.in_ok-token.ensures.ok) few
 
@@ -37,7 +38,7 @@ returns-clause-refused c fault is =
     let text = c.args.text.now in
     let token = c.in_ok-token.token in
     let json : is_json (trimmed text) ≡ true = ap is_json (sym c.requires.between) ∙ c.requires.json in
-    let short : length text ≤ FILE_MAX = omega (arith, c.if-text-gt-FILE_MAX.false) in
-    let named = same_fault fault (record { number = TOO_MUCH; place = Nowhere }) (cc is) in
+    let short : length text ≤ file_max = omega (arith, c.if-text-gt-FILE_MAX.false) in
+    let named = same_fault fault (record { number = number_of condition.too_much; place = Nowhere }) (cc is) in
     let much : IsTooMuch token.parts = subst (λ compact. IfNone compact (IsTooMuch token.parts)) c.in-None.is c.in_ok-compact.ensures.much in
     refused_much text fault token named json short (subst (IsJson token) c.requires.between c.in_ok-token.ensures.ok) much

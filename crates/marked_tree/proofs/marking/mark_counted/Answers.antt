@@ -1,9 +1,8 @@
 use Rattle.std.proofs.Common.{drop, length, sym, ap, subst, ◌∙◌, arith, List}
 use Rattle.std.proofs.lemmas.List.{length-map}
-use Rattle.std.proofs.lemmas.List.Sorted.{length_permutation, list_any-IsPermutation}
 use Rattle.claim_tree.specs.View.{tree_of}
 use Rattle.marked_tree.specs.Marked.{strip}
-use Rattle.marked_tree.specs.Places.{Path, same_path, is_among}
+use Rattle.marked_tree.specs.Places.{Path, is_among}
 use Rattle.marked_tree.specs.Rests.{rests, AreSorted}
 use Rattle.marked_tree.proofs.MarkFacts.{strips}
 use Rattle.marked_tree.proofs.MarkSame.{Alike, mark_same, hidden_same}
@@ -17,14 +16,14 @@ mark_tree-requires-clause-sorted c = subst AreSorted (sym (rests_zero c.as_slice
 pub mark_tree-requires-clause-few : goal.mark_tree-requires-clause-few
 mark_tree-requires-clause-few c =
     let xs = c.as_slice.result.now in
-    let same = length_permutation c.args.paths.now c.in_ok-sorted.sorted.items c.in_ok-sorted.ensures.same in
+    let count = c.in_ok-sorted.ensures.count in
     let shown = ap (λ (ys : List Path). length ys) c.as_slice.ensures.value in
     let few = c.requires.few in
-    omega (arith, inner_le (rests 0 xs), length-map xs (drop 0), same, shown, few)
+    omega (arith, inner_le (rests 0 xs), length-map xs (drop 0), count, shown, few)
 
 pub alike : (c : goal.After-drop-sorted-2) → Alike (is_among (rests 0 c.as_slice.result.now)) (is_among c.args.paths.now)
 alike c p =
-    ap (λ ys. is_among ys p) (rests_zero c.as_slice.result.now ∙ c.as_slice.ensures.value) ∙ sym (list_any-IsPermutation (same_path p) c.args.paths.now c.in_ok-sorted.sorted.items c.in_ok-sorted.ensures.same)
+    ap (λ ys. is_among ys p) (rests_zero c.as_slice.result.now ∙ c.as_slice.ensures.value) ∙ c.in_ok-sorted.ensures.same p
 
 pub returns-clause-marked : goal.returns-clause-marked
 returns-clause-marked c =
@@ -42,7 +41,7 @@ returns-clause-count c =
 pub returns-clause-few : goal.returns-clause-few
 returns-clause-few c =
     let xs = c.as_slice.result.now in
-    let same = length_permutation c.args.paths.now c.in_ok-sorted.sorted.items c.in_ok-sorted.ensures.same in
+    let count = c.in_ok-sorted.ensures.count in
     let shown = ap (λ (ys : List Path). length ys) c.as_slice.ensures.value in
     let few = c.in_ok-marked.ensures.few in
-    omega (arith, few, inner_le (rests 0 xs), length-map xs (drop 0), same, shown)
+    omega (arith, few, inner_le (rests 0 xs), length-map xs (drop 0), count, shown)

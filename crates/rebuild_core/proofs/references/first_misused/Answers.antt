@@ -3,23 +3,19 @@ use Rattle.claim_tree.specs.View.{tree_of}
 use Rattle.digest_sites.specs.Given.{given_of}
 use Rattle.rebuild_core.specs.Payload.{without_alg}
 use Rattle.rebuild_core.proofs.AlgFacts.{misuses_without}
-use Rattle.rebuild_core.proofs.GivenFacts.{item_at, item_shallow}
+use Rattle.rebuild_core.proofs.GivenFacts.{item_at}
 use Rattle.rebuild_core.proofs.Misuses.{payload_misuses, payload_is_well, value_misuses, value_is_well, all_well}
 use Rattle.rebuild_core.proofs.references.first_misused.Goals as goal
 
 pub returns-then-is_misused : goal.returns-then-is_misused
 returns-then-is_misused c =
     let t = tree_of c.args.payload.now in
-    payload_misuses (without_alg t) c.args.given.now (misuses_without t c.is_ordered.ensures c.requires.object ∙ (sym c.is_misused.ensures ∙ c.if-is_misused.true))
+    payload_misuses (without_alg t) c.args.given.now (misuses_without t c.is_ordered.ensures c.requires ∙ (sym c.is_misused.ensures ∙ c.if-is_misused.true))
 
 pub loop-i-init : goal.loop-i-init
 loop-i-init c =
     let t = tree_of c.args.payload.now in
-    payload_is_well (without_alg t) c.args.given.now (misuses_without t c.is_ordered.ensures c.requires.object ∙ (sym c.is_misused.ensures ∙ c.if-is_misused.false))
-
-pub is_misused-requires-in-loop-i : goal.is_misused-requires-in-loop-i
-is_misused-requires-in-loop-i c =
-    item_shallow c.items-item-items.result.now c.args.given.now c.loop-i.i c.item-item.result c.items-item-items.ensures c.loop-i-test.true c.item-item.is c.requires.values
+    payload_is_well (without_alg t) c.args.given.now (misuses_without t c.is_ordered.ensures c.requires ∙ (sym c.is_misused.ensures ∙ c.if-is_misused.false))
 
 pub returns-then-is_misused-2 : goal.returns-then-is_misused-2
 returns-then-is_misused-2 c =

@@ -1,5 +1,5 @@
 use Rattle.std.proofs.Common.{◌≡◌, ◌<◌, Err, length, string_bytes, ap, refl, ◌∙◌, arith}
-use Rattle.compact_form.specs.declared.limits.TheConstants.{FILE_MAX}
+use Rattle.sd_outside.specs.Limits.{file_max}
 use Rattle.sdjwt_cli.specs.Lines.{line}
 use Rattle.sdjwt_cli.specs.Converting.{written, unread, too_much}
 use Rattle.sdjwt_cli.proofs.Refusals.{convert_condition, line_of_seen}
@@ -18,7 +18,7 @@ returns-then-len-gt-FILE_MAX-clause-refuses c =
     let token = c.in-Ok.token in
     let form = c.args.form in
     let whole : string_bytes c.in_ok-text.text ≡ line (written form token) = c.in_ok-text.ensures ∙ ap line c.in_ok-write_as.ensures.text in
-    let long : FILE_MAX < length (line (written form token)) = omega (arith, c.len.ensures, c.if-len-gt-FILE_MAX.true, ap length whole) in
+    let long : file_max < length (line (written form token)) = omega (arith, c.len.ensures, c.if-len-gt-FILE_MAX.true, ap length whole) in
     let refused = too_much token c.in-Ok.ensures.ok long refl in
     let numbered = convert_condition form c.args.file.now _ refused in
     record { fault = _; refused = refused; line_is = c.in_ok-refusal_line.ensures numbered.0 numbered.1 }

@@ -1,7 +1,6 @@
 use Rattle.std.proofs.Common.{[], ◌∷◌, ◌+◌, refl}
-use Rattle.compact_form.specs.declared.limits.TheConstants.{FILE_MAX}
+use Rattle.sd_outside.specs.Limits.{file_max, seed_len}
 use Rattle.sdjwt_cli.specs.Command.{split, show, verify, issue, present, convert}
-use Rattle.sdjwt_cli.specs.declared.issue.TheConstants.{SEED_LEN}
 use Rattle.sdjwt_cli.specs.Answers.{AreFetched}
 use Rattle.sdjwt_cli.proofs.Lifts.{fetched_as, lift_gives, lift_refuses, lift_unreadable}
 use Rattle.sdjwt_cli.proofs.top.answer.Given as given
@@ -11,7 +10,7 @@ pub returns-in_ok-file-in-Split-clause-gives : goal.returns-in_ok-file-in-Split-
 returns-in_ok-file-in-Split-clause-gives g c =
     let held = g.C.Cabinet.holds c.args.cab.now in
     let name = c.in-Split.token.now in
-    let file = fetched_as (held name) (held name) (FILE_MAX + 1) c.in_ok-file-in-Split.file c.bytes.result.now refl c.bytes.ensures c.in_ok-file-in-Split.ensures.content in
+    let file = fetched_as (held name) (held name) (file_max + 1) c.in_ok-file-in-Split.file c.bytes.result.now refl c.bytes.ensures c.in_ok-file-in-Split.ensures.content in
     rw c.in-Split.is (lift_gives held (split name) (c.bytes.result.now ∷ []) (file, tt) c.args.now c.split.result c.split.ensures.gives)
 
 pub returns-in_ok-file-in-Split-clause-refuses :
@@ -19,14 +18,14 @@ pub returns-in_ok-file-in-Split-clause-refuses :
 returns-in_ok-file-in-Split-clause-refuses g c =
     let held = g.C.Cabinet.holds c.args.cab.now in
     let name = c.in-Split.token.now in
-    let file = fetched_as (held name) (held name) (FILE_MAX + 1) c.in_ok-file-in-Split.file c.bytes.result.now refl c.bytes.ensures c.in_ok-file-in-Split.ensures.content in
+    let file = fetched_as (held name) (held name) (file_max + 1) c.in_ok-file-in-Split.file c.bytes.result.now refl c.bytes.ensures c.in_ok-file-in-Split.ensures.content in
     rw c.in-Split.is (lift_refuses held (split name) (c.bytes.result.now ∷ []) (file, tt) c.args.now c.split.result c.split.ensures.refuses)
 
 pub returns-in_ok-file-in-Show-clause-gives : goal.returns-in_ok-file-in-Show-clause-gives
 returns-in_ok-file-in-Show-clause-gives g c =
     let held = g.C.Cabinet.holds c.args.cab.now in
     let name = c.in-Show.token.now in
-    let file = fetched_as (held name) (held name) (FILE_MAX + 1) c.in_ok-file-in-Show.file c.bytes-in-Show.result.now refl c.bytes-in-Show.ensures c.in_ok-file-in-Show.ensures.content in
+    let file = fetched_as (held name) (held name) (file_max + 1) c.in_ok-file-in-Show.file c.bytes-in-Show.result.now refl c.bytes-in-Show.ensures c.in_ok-file-in-Show.ensures.content in
     rw c.in-Show.is (lift_gives held (show name) (c.bytes-in-Show.result.now ∷ []) (file, tt) c.args.now c.show.result c.show.ensures.shows)
 
 pub returns-in_ok-file-in-Show-clause-refuses :
@@ -34,7 +33,7 @@ pub returns-in_ok-file-in-Show-clause-refuses :
 returns-in_ok-file-in-Show-clause-refuses g c =
     let held = g.C.Cabinet.holds c.args.cab.now in
     let name = c.in-Show.token.now in
-    let file = fetched_as (held name) (held name) (FILE_MAX + 1) c.in_ok-file-in-Show.file c.bytes-in-Show.result.now refl c.bytes-in-Show.ensures c.in_ok-file-in-Show.ensures.content in
+    let file = fetched_as (held name) (held name) (file_max + 1) c.in_ok-file-in-Show.file c.bytes-in-Show.result.now refl c.bytes-in-Show.ensures c.in_ok-file-in-Show.ensures.content in
     rw c.in-Show.is (lift_refuses held (show name) (c.bytes-in-Show.result.now ∷ []) (file, tt) c.args.now c.show.result c.show.ensures.refuses)
 
 -- both files, each by what the cabinet held before the first was fetched
@@ -45,8 +44,8 @@ both_fetched g c =
     let later = g.C.Cabinet.holds c.fetch_file-in-Verify.new.cab in
     let policy = c.in-Verify.policy.now in
     let token = c.in-Verify.token.now in
-    let first = fetched_as (held policy) (held policy) (FILE_MAX + 1) c.in_ok-policy-in-Verify.policy c.bytes-in-Verify.result.now refl c.bytes-in-Verify.ensures c.in_ok-policy-in-Verify.ensures.content in
-    let second = fetched_as (held token) (later token) (FILE_MAX + 1) c.in_ok-token-in-Verify.token c.bytes-in-Verify-2.result.now (c.in_ok-policy-in-Verify.ensures.held token) c.bytes-in-Verify-2.ensures c.in_ok-token-in-Verify.ensures.content in
+    let first = fetched_as (held policy) (held policy) (file_max + 1) c.in_ok-policy-in-Verify.policy c.bytes-in-Verify.result.now refl c.bytes-in-Verify.ensures c.in_ok-policy-in-Verify.ensures.content in
+    let second = fetched_as (held token) (later token) (file_max + 1) c.in_ok-token-in-Verify.token c.bytes-in-Verify-2.result.now (c.in_ok-policy-in-Verify.ensures.held token) c.bytes-in-Verify-2.ensures c.in_ok-token-in-Verify.ensures.content in
     (first, (second, tt))
 
 pub returns-in_ok-token-in-Verify-clause-gives : goal.returns-in_ok-token-in-Verify-clause-gives
@@ -71,8 +70,8 @@ both_read g c =
     let later = g.C.Cabinet.holds c.fetch_file-in-Issue.new.cab in
     let order = c.in-Issue.order.now in
     let seed = c.in-Issue.seed.now in
-    let first = fetched_as (held order) (held order) (FILE_MAX + 1) c.in_ok-order-in-Issue.order c.bytes-in-Issue.result.now refl c.bytes-in-Issue.ensures c.in_ok-order-in-Issue.ensures.content in
-    let second = fetched_as (held seed) (later seed) SEED_LEN c.in_ok-seed-in-Issue.seed c.bytes-in-Issue-2.result.now (c.in_ok-order-in-Issue.ensures.held seed) c.bytes-in-Issue-2.ensures c.in_ok-seed-in-Issue.ensures.content in
+    let first = fetched_as (held order) (held order) (file_max + 1) c.in_ok-order-in-Issue.order c.bytes-in-Issue.result.now refl c.bytes-in-Issue.ensures c.in_ok-order-in-Issue.ensures.content in
+    let second = fetched_as (held seed) (later seed) seed_len c.in_ok-seed-in-Issue.seed c.bytes-in-Issue-2.result.now (c.in_ok-order-in-Issue.ensures.held seed) c.bytes-in-Issue-2.ensures c.in_ok-seed-in-Issue.ensures.content in
     (first, (second, tt))
 
 pub returns-in_ok-seed-in-Issue-clause-gives : goal.returns-in_ok-seed-in-Issue-clause-gives
@@ -97,8 +96,8 @@ both_told g c =
     let later = g.C.Cabinet.holds c.fetch_file-in-Present.new.cab in
     let order = c.in-Present.order.now in
     let token = c.in-Present.token.now in
-    let first = fetched_as (held order) (held order) (FILE_MAX + 1) c.in_ok-order-in-Present.order c.bytes-in-Present.result.now refl c.bytes-in-Present.ensures c.in_ok-order-in-Present.ensures.content in
-    let second = fetched_as (held token) (later token) (FILE_MAX + 1) c.in_ok-token-in-Present.token c.bytes-in-Present-2.result.now (c.in_ok-order-in-Present.ensures.held token) c.bytes-in-Present-2.ensures c.in_ok-token-in-Present.ensures.content in
+    let first = fetched_as (held order) (held order) (file_max + 1) c.in_ok-order-in-Present.order c.bytes-in-Present.result.now refl c.bytes-in-Present.ensures c.in_ok-order-in-Present.ensures.content in
+    let second = fetched_as (held token) (later token) (file_max + 1) c.in_ok-token-in-Present.token c.bytes-in-Present-2.result.now (c.in_ok-order-in-Present.ensures.held token) c.bytes-in-Present-2.ensures c.in_ok-token-in-Present.ensures.content in
     (first, (second, tt))
 
 pub returns-in_ok-token-in-Present-clause-gives : goal.returns-in_ok-token-in-Present-clause-gives
@@ -119,7 +118,7 @@ pub returns-in_ok-file-in-Convert-clause-gives : goal.returns-in_ok-file-in-Conv
 returns-in_ok-file-in-Convert-clause-gives g c =
     let held = g.C.Cabinet.holds c.args.cab.now in
     let name = c.in-Convert.token.now in
-    let file = fetched_as (held name) (held name) (FILE_MAX + 1) c.in_ok-file-in-Convert.file c.bytes-in-Convert.result.now refl c.bytes-in-Convert.ensures c.in_ok-file-in-Convert.ensures.content in
+    let file = fetched_as (held name) (held name) (file_max + 1) c.in_ok-file-in-Convert.file c.bytes-in-Convert.result.now refl c.bytes-in-Convert.ensures c.in_ok-file-in-Convert.ensures.content in
     rw c.in-Convert.is (lift_gives held (convert c.in-Convert.form name) (c.bytes-in-Convert.result.now ∷ []) (file, tt) c.args.now c.convert.result c.convert.ensures.converts)
 
 pub returns-in_ok-file-in-Convert-clause-refuses :
@@ -127,5 +126,5 @@ pub returns-in_ok-file-in-Convert-clause-refuses :
 returns-in_ok-file-in-Convert-clause-refuses g c =
     let held = g.C.Cabinet.holds c.args.cab.now in
     let name = c.in-Convert.token.now in
-    let file = fetched_as (held name) (held name) (FILE_MAX + 1) c.in_ok-file-in-Convert.file c.bytes-in-Convert.result.now refl c.bytes-in-Convert.ensures c.in_ok-file-in-Convert.ensures.content in
+    let file = fetched_as (held name) (held name) (file_max + 1) c.in_ok-file-in-Convert.file c.bytes-in-Convert.result.now refl c.bytes-in-Convert.ensures c.in_ok-file-in-Convert.ensures.content in
     rw c.in-Convert.is (lift_refuses held (convert c.in-Convert.form name) (c.bytes-in-Convert.result.now ∷ []) (file, tt) c.args.now c.convert.result c.convert.ensures.refuses)

@@ -4,7 +4,7 @@ use Rattle.marked_tree.specs.View.{marked_of}
 use Rattle.rebuild_core.specs.Payload.{without_alg}
 use Rattle.verifier_core.specs.Check.{asked}
 use Rattle.verifier_core.proofs.CheckTests.{ok_both, err_more}
-use Rattle.verifier_core.proofs.CheckSteps.{unopened_fault, content_checked}
+use Rattle.verifier_core.proofs.CheckSteps.{unopened_fault, content_checked, passed_uncounted}
 use Rattle.verifier_core.proofs.check.check_token.Goals as goal
 
 pub returns-clause-checked : goal.returns-clause-checked
@@ -20,3 +20,6 @@ returns-clause-refused c =
     let rules = asked c.args.keys.now c.args.algs.now (option_copied c.args.typ) in
     let payload = without_alg (tree_of c.in-Ok.content.body) in
     err_more c.open_content.result _ _ (λ e w. unopened_fault c.args.token.now rules payload c.in-Ok.content.given e c.in-Ok.ensures.content c.in-Ok.ensures.passes w) c.open_content.ensures.refused
+
+pub returns-clause-uncounted : goal.returns-clause-uncounted
+returns-clause-uncounted c = passed_uncounted _ c.args.steps.now c.open_content.new.steps c.in-Ok.ensures.passes

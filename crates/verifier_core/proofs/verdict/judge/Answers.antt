@@ -6,9 +6,9 @@ use Rattle.marked_tree.specs.Marked.{strip}
 use Rattle.compact_form.specs.Lowest.{IsLowest, NoneFails}
 use Rattle.json_form.specs.declared.token.Token.{Token}
 use Rattle.verifier_core.specs.Verdict.{Rules, TokenFails, Fails, IsBindingMissing, IsChecked, rules_of}
-use Rattle.verifier_core.specs.Check.{OnFault, ShownFails, IsCountedWithin, asked, token_of}
+use Rattle.verifier_core.specs.Check.{OnFault, ShownFails, IsCountedWithin, IsUncounted, asked, token_of}
 use Rattle.verifier_core.proofs.CheckSteps.{on_fault}
-use Rattle.verifier_core.proofs.Verdicts.{few, whole, is_token, missing_lowest, token_lowest, shown_lowest, accepted}
+use Rattle.verifier_core.proofs.Verdicts.{few, whole, is_token, missing_lowest, text_uncounted, token_lowest, shown_lowest, accepted}
 use Rattle.verifier_core.proofs.verdict.judge.Goals as goal
 
 no_truth : false ≡ true → ⊥
@@ -87,3 +87,36 @@ returns-clause-accepted c content read =
     let checked = subst (λ (r : Rules). IsChecked token r marked) same c.in-Ok.ensures.checked in
     let none = subst (λ (t : Tree). NoneFails (ShownFails view t hash c.args.policy.now c.args.now)) c.in-Ok.ensures.payload c.in_default.ensures.passes in
     accepted content c.args.policy.now c.args.now token there sent marked checked hash has none
+
+pub returns-in-Err-clause-uncounted : goal.returns-in-Err-clause-uncounted
+returns-in-Err-clause-uncounted c content read =
+    let rules = asked c.args.policy.now.keys c.args.policy.now.algs (option_copied c.as_ref-typ.result) in
+    let same : rules ≡ rules_of c.args.policy.now = ap (asked c.args.policy.now.keys c.args.policy.now.algs) c.as_ref-typ.ensures.value in
+    let view = c.view-view.result in
+    let outer = c.outer-outer.result.now in
+    let there = is_token content c.args.token.now view outer c.view-view.ensures c.outer-outer.ensures read in
+    let sent : IsBindingMissing c.args.policy.now view → ⊥ = λ missing. no_truth (c.if-is_binding_missing.ensures.1 missing) in
+    text_uncounted content c.args.policy.now c.args.now (token_of view outer) there sent c.args.steps.now c.check_view.new.steps
+    (subst (λ (r : Rules). IsUncounted (TokenFails (token_of view outer) r) c.args.steps.now c.check_view.new.steps) same c.check_view.ensures.uncounted)
+
+pub returns-in-Err-check_shown-clause-uncounted : goal.returns-in-Err-check_shown-clause-uncounted
+returns-in-Err-check_shown-clause-uncounted c content read =
+    let rules = asked c.args.policy.now.keys c.args.policy.now.algs (option_copied c.as_ref-typ.result) in
+    let same : rules ≡ rules_of c.args.policy.now = ap (asked c.args.policy.now.keys c.args.policy.now.algs) c.as_ref-typ.ensures.value in
+    let view = c.view-view.result in
+    let outer = c.outer-outer.result.now in
+    let there = is_token content c.args.token.now view outer c.view-view.ensures c.outer-outer.ensures read in
+    let sent : IsBindingMissing c.args.policy.now view → ⊥ = λ missing. no_truth (c.if-is_binding_missing.ensures.1 missing) in
+    text_uncounted content c.args.policy.now c.args.now (token_of view outer) there sent c.args.steps.now c.check_view.new.steps
+    (subst (λ (r : Rules). IsUncounted (TokenFails (token_of view outer) r) c.args.steps.now c.check_view.new.steps) same c.check_view.ensures.uncounted)
+
+pub returns-clause-uncounted : goal.returns-clause-uncounted
+returns-clause-uncounted c content read =
+    let rules = asked c.args.policy.now.keys c.args.policy.now.algs (option_copied c.as_ref-typ.result) in
+    let same : rules ≡ rules_of c.args.policy.now = ap (asked c.args.policy.now.keys c.args.policy.now.algs) c.as_ref-typ.ensures.value in
+    let view = c.view-view.result in
+    let outer = c.outer-outer.result.now in
+    let there = is_token content c.args.token.now view outer c.view-view.ensures c.outer-outer.ensures read in
+    let sent : IsBindingMissing c.args.policy.now view → ⊥ = λ missing. no_truth (c.if-is_binding_missing.ensures.1 missing) in
+    text_uncounted content c.args.policy.now c.args.now (token_of view outer) there sent c.args.steps.now c.check_view.new.steps
+    (subst (λ (r : Rules). IsUncounted (TokenFails (token_of view outer) r) c.args.steps.now c.check_view.new.steps) same c.check_view.ensures.uncounted)

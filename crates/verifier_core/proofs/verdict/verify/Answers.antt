@@ -12,3 +12,6 @@ returns-in-Ok-clause-counted c = IfOk-weaker c.judge.result _ _ (λ _ counted. (
 pub returns-in-Err-clause-refused : goal.returns-in-Err-clause-refused
 returns-in-Err-clause-refused c =
     on_fault c.in-Err.error (IsRefused c.args.text.now) (IsLowest (Fails c.args.text.now c.args.policy.now c.args.now)) (λ fault refused. file_lowest c.args.text.now c.args.policy.now c.args.now fault refused) c.in-Err.ensures.refused
+
+pub returns-in-Ok-clause-uncounted : goal.returns-in-Ok-clause-uncounted
+returns-in-Ok-clause-uncounted c = c.judge.ensures.uncounted c.args.text.now c.in-Ok.ensures.ok

@@ -1,0 +1,20 @@
+-- What the service issues.
+use Rattle.std.specs.Prelude.{List, [], None}
+use Rattle.claim_tree.specs.Tree.{Text, Tree}
+use Rattle.compact_form.specs.declared.parts.Parts.{Parts}
+use Rattle.compact_form.specs.Compact.{IsCompact}
+use Rattle.hmac_sign.specs.Signatures.{Meaning}
+use Rattle.issuer_core.specs.Order.{Order}
+use Rattle.issuer_core.specs.Digests.{Maker}
+use Rattle.issuer_core.specs.Written.{IsIssued, IsLaidOut}
+
+-- the order that hides these places of a payload, and asks for nothing else
+abbrev pub order_for : Tree → List (List Text) → Order
+order_for payload hide = record { claims = payload; hide = hide; decoys = []; kid = None; typ = None }
+
+-- the text is the compact text of parts that are laid out and issued for the order
+pub record IsTokenFor (maker : Maker) (o : Order) (good : Meaning) (text : Text) : Type 0 where
+  pub parts : Parts
+  pub issued : IsIssued maker o good parts
+  pub laid : IsLaidOut maker o good parts
+  pub text_is : IsCompact parts text

@@ -1,0 +1,43 @@
+// One claim of a presentation that is accepted.
+ghost use Rattle.std.specs.Prelude.{◌≡◌, IfOk, IfErr, IfSome, option_map};
+ghost use Rattle.claim_tree.specs.Tree.{get, IsRanged};
+ghost use Rattle.claim_tree.specs.View.{tree_of};
+ghost use Rattle.compact_form.specs.Lowest.{IsLowest};
+ghost use Rattle.verifier_core.specs.Verdict.{Fails};
+ghost use Rattle.verifier_core.specs.Check.{OnFault};
+ghost use Rattle.examples_service.specs.Claim.{IsClaim};
+
+use claim_tree::Tree;
+use digest_index::Steps;
+use std::alloc::Global;
+use verifier_core::{Policy, VerifyError, verify_payload};
+
+/// The claim of this name in the processed payload of a presentation, which is verified under a policy at a moment in
+/// seconds since 1970. None where the presentation is accepted and has no such claim.
+pub fn claim_of(
+    alloc: Global,
+    policy: &Policy,
+    presentation: &str,
+    now: u64,
+    name: &str,
+) -> Result<Option<Tree>, VerifyError>
+    ensures claim { IfOk result (λ claim.
+        IsClaim presentation.now policy.now now name.now (option_map tree_of claim)) }
+    ensures ranged { IfOk result (λ claim. IfSome claim (λ tree. IsRanged (tree_of tree))) }
+    ensures refused { IfErr result (λ e. OnFault e (IsLowest (Fails presentation.now policy.now now))) }
+{
+    let text = presentation.as_bytes();
+    let payload = verify_payload(alloc, text, policy, now, &mut Steps::new())?;
+    Ok(into_member(payload, name))
+}
+
+// The member of an object, taken out of it with no copy.
+fn into_member(tree: Tree, name: &str) -> Option<Tree>
+    ensures member { option_map tree_of result ≡ get (tree_of tree) name.now }
+    ensures ranged { IsRanged (tree_of tree) → IfSome result (λ member. IsRanged (tree_of member)) }
+{
+    match tree {
+        Tree::Object(mut members) => members.remove(name),
+        _ => None,
+    }
+}

@@ -1,0 +1,13 @@
+//! How another program uses the libraries: two calls of a small service.
+//!
+//! [`claim_of`] verifies a presentation and answers one of its claims, and [`token_for`] issues a token.
+//! `docs/LIBRARY.md` goes through both.
+#![tactic(auto)]
+
+mod claim;
+#[cfg(test)]
+mod tests;
+mod token;
+
+pub use claim::claim_of;
+pub use token::token_for;

@@ -1,0 +1,52 @@
+// The token of a payload, some places of which are hidden.
+ghost use Rattle.std.specs.Prelude.{◌≡◌, ◌≤◌, IfOk, IfErr, IsErrOf};
+ghost use Rattle.sd_outside.specs.Causes.{Rose};
+ghost use Rattle.claim_tree.specs.Tree.{depth, IsRanged};
+ghost use Rattle.claim_tree.specs.View.{tree_of};
+ghost use Rattle.hmac_sign.specs.Signatures.{Agree};
+ghost use Rattle.issuer_core.specs.declared.errors.IssueError.{IssueError};
+ghost use Rattle.issuer_core.specs.Issue.{IsNotIssued};
+ghost use Rattle.issuer_core.specs.Seed.{maker_of};
+ghost use Rattle.examples_service.specs.Token.{order_for, IsTokenFor};
+
+use claim_tree::{PathList, Tree};
+use compact_form::print;
+use hmac_sign::Signer;
+use issuer_core::{DecoyList, IssueError, Order, issue_owned};
+use sd_outside::TextBox;
+use std::alloc::Global;
+
+/// The compact text of a new token for a payload, with each of these places hidden behind the digest of its disclosure.
+///
+/// The seed makes the salts, so take a new one for each token. The signer is asked once, when all else is there.
+pub fn token_for<S: Signer>(
+    alloc: Global,
+    payload: Tree,
+    hide: PathList,
+    seed: &[u8; 32],
+    signer: &mut S,
+) -> Result<TextBox, IssueError>
+    requires depth { depth (tree_of payload) ≤ 127 }
+    requires ranged { IsRanged (tree_of payload) }
+    ensures token { IfOk result
+        (IsTokenFor (maker_of seed.now) (order_for (tree_of payload) hide) (S.good signer.old)) }
+    ensures refused { IfErr result
+        (IsNotIssued (maker_of seed.now) (order_for (tree_of payload) hide) (S.good signer.old)) }
+    ensures failed { IsErrOf result IssueError.SignFailed
+        → Rose (S.faults signer.old) (S.faults signer.new) }
+
+    // what stays
+    ensures same_good { Agree (S.good signer.new) (S.good signer.old) }
+    ensures same_alg { S.alg_of signer.new ≡ S.alg_of signer.old }
+    ensures later { S.faults signer.old ≤ S.faults signer.new }
+{
+    let order = Order {
+        payload,
+        hide,
+        decoys: DecoyList::new(alloc),
+        kid: None,
+        typ: None,
+    };
+    let parts = issue_owned(alloc, order, seed, signer)?;
+    Ok(print(alloc, &parts)?)
+}

@@ -1,0 +1,11 @@
+-- For private functions: what a digest shows, as the slow opening has it.
+use Rattle.std.specs.Prelude.{ℕ, Option, Some, None}
+use Rattle.claim_tree.specs.Tree.{Text}
+use Rattle.marked_tree.specs.View.{marked_of}
+use Rattle.marked_tree.specs.declared.marked.Marked.{Marked}
+use Rattle.rebuild_core.specs.Opening.{Shown, hidden, shown}
+
+-- a disclosure by its number, its name or none, and its opened value
+abbrev pub shown_of : Option (ℕ × Option Text × Marked) → Shown
+shown_of None = hidden
+shown_of (Some r) = shown r.0 r.1 (marked_of r.2)

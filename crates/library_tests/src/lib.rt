@@ -1,0 +1,27 @@
+//! Tests of the libraries, of what no run of the program shows. They stand apart from the code because a crate with tests is proved twice.
+#![tactic(auto)]
+
+#[cfg(test)]
+mod binding_tests;
+#[cfg(test)]
+mod compact_tests;
+#[cfg(test)]
+mod disclosure_tests;
+#[cfg(test)]
+mod holder_tests;
+#[cfg(test)]
+mod issuer_tests;
+#[cfg(test)]
+mod json_form_tests;
+#[cfg(test)]
+mod marked_tests;
+#[cfg(test)]
+mod plain;
+#[cfg(test)]
+mod pointer_tests;
+#[cfg(test)]
+mod rebuild_tests;
+#[cfg(test)]
+mod tree_tests;
+#[cfg(test)]
+mod verifier_tests;

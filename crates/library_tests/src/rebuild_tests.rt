@@ -1,0 +1,268 @@
+ghost use Rattle.std.specs.Prelude.{◌≡◌, ◌≤◌, ◌<◌, ◌-◌, ◌^◌, length, IfOk, IsTrue};
+ghost use Rattle.claim_tree.specs.Tree.{depth, IsRanged};
+ghost use Rattle.claim_tree.specs.View.{tree_of};
+ghost use Rattle.marked_tree.specs.Marked.{strip as strip_of};
+ghost use Rattle.marked_tree.specs.View.{marked_of};
+ghost use Rattle.rebuild_core.specs.Answer.{IsPayload, ValuesShallow, ValuesRanged};
+ghost use Rattle.rebuild_core.specs.Payload.{without_alg};
+
+use crate::plain::plain_opening;
+use claim_tree::{Tree, print_path, read, write};
+use digest_index::Steps;
+use digest_sites::{Given, GivenList};
+use marked_tree::{Marked, place_of, strip};
+use rebuild_core::{ProcessError, process};
+use sd_outside::TextBox;
+use std::alloc::Global;
+use std::test::Fail;
+
+fn value(alloc: Global, text: &str) -> Result<Tree, Fail>
+    ensures depth { IfOk result (λ t. depth (tree_of t) ≤ 127) }
+    ensures range { IfOk result (λ t. IsRanged (tree_of t)) }
+{
+    Ok(read(alloc, text.as_bytes()).map_err(|_| "not read")?)
+}
+
+fn is_payload(tree: &Tree) -> bool
+    ensures { IsTrue result → IsPayload (tree_of tree.now) }
+{
+    let Tree::Object(members) = tree else {
+        return false;
+    };
+    match members.get("_sd_alg") {
+        Some(alg) => alg.as_text().is_some(),
+        None => true,
+    }
+}
+
+fn payload(alloc: Global, text: &str) -> Result<Tree, Fail>
+    ensures object { IfOk result (λ t. IsPayload (tree_of t)) }
+    ensures depth { IfOk result (λ t. depth (tree_of t) ≤ 127) }
+    ensures range { IfOk result (λ t. IsRanged (tree_of t)) }
+{
+    let tree = value(alloc, text)?;
+    if !is_payload(&tree) {
+        return Err("no payload")?;
+    }
+    Ok(tree)
+}
+
+// Adds a disclosure, for an element where the name is `-`.
+fn add(
+    alloc: Global,
+    list: &mut GivenList,
+    digest: &str,
+    name: &str,
+    text: &str,
+) -> Result<(), Fail>
+    requires depths { ValuesShallow list.old }
+    requires ranges { ValuesRanged list.old }
+    requires few { length list.old < 2 ^ 32 - 1 }
+    ensures depths { ValuesShallow list.new }
+    ensures ranges { ValuesRanged list.new }
+    ensures few { length list.new < 2 ^ 32 - 1 }
+{
+    if list.len() >= 5000 {
+        return Err("too many")?;
+    }
+    let digest = TextBox::make(alloc, digest)?;
+    let name = if name == "-" {
+        None
+    } else {
+        Some(TextBox::make(alloc, name)?)
+    };
+    let value = value(alloc, text)?;
+    list.push(Given {
+        digest,
+        name,
+        value,
+    })?;
+    Ok(())
+}
+
+// The disclosures of a text, with `|` between them: of each its digest, its name or `-`, and its value.
+fn given(alloc: Global, text: &str) -> Result<GivenList, Fail>
+    ensures depths { IfOk result ValuesShallow }
+    ensures ranges { IfOk result ValuesRanged }
+    ensures few { IfOk result (λ list. length list < 2 ^ 32 - 1) }
+{
+    let mut list = GivenList::new(alloc);
+    for item in text.split('|') {
+        if let Some((digest, rest)) = item.split_once(' ') {
+            let (name, value) = rest.split_once(' ').ok_or("no value")?;
+            add(alloc, &mut list, digest, name, value)?;
+        }
+    }
+    Ok(list)
+}
+
+// The JSON text without marks, and the pointers to the places of the marks below a number.
+fn shown(alloc: Global, marks: u32, marked: &Marked) -> Result<String, Fail>
+    requires depth { depth (strip_of (marked_of marked.now)) ≤ 127 }
+    requires range { IsRanged (strip_of (marked_of marked.now)) }
+{
+    let tree = strip(alloc, marked)?;
+    let mut text = String::from_str(alloc, write(alloc, &tree)?.as_str())?;
+    for mark in 0..marks {
+        if let Some(path) = place_of(alloc, marked, mark)? {
+            text.push(' ')?;
+            text.push_str(print_path(alloc, &path)?.as_str())?;
+        }
+    }
+    Ok(text)
+}
+
+// The condition that fails, and its place, 0 where it has none.
+fn refusal(alloc: Global, error: ProcessError) -> Result<String, Fail> {
+    let (condition, place) = match error {
+        ProcessError::Memory => return Err("no memory")?,
+        ProcessError::RepeatedDisclosure(i) => (14, i),
+        ProcessError::ReservedMisused(i) => (15, i),
+        ProcessError::RepeatedDigest(place) => (16, place),
+        ProcessError::Unreferenced(i) => (17, i),
+        ProcessError::WrongShape(i) => (18, i),
+        ProcessError::ReservedName(i) => (19, i),
+        ProcessError::NameClash(place) => (20, place),
+        ProcessError::TooDeep => (21, 0),
+    };
+    Ok(format!(in alloc; "{condition} at {place}")?)
+}
+
+fn has_no_alg(payload: &Tree) -> bool
+    ensures { IsTrue result → without_alg (tree_of payload.now) ≡ tree_of payload.now }
+{
+    match payload {
+        Tree::Object(members) => members.get("_sd_alg").is_none(),
+        _ => true,
+    }
+}
+
+// The answer in words. Where the payload has no `_sd_alg`, opening by search gives the same.
+fn answer(
+    alloc: Global,
+    payload: &Tree,
+    given: &GivenList,
+    steps: &mut Steps,
+) -> Result<String, Fail>
+    requires object { IsPayload (tree_of payload.now) }
+    requires payload_depth { depth (tree_of payload.now) ≤ 127 }
+    requires values_depth { ValuesShallow given.now }
+    requires payload_range { IsRanged (tree_of payload.now) }
+    requires values_range { ValuesRanged given.now }
+    requires few { length given.now < 2 ^ 32 - 1 }
+{
+    let marked = match process(alloc, payload, given, steps) {
+        Ok(marked) => marked,
+        Err(error) => return refusal(alloc, error),
+    };
+    let text = shown(alloc, given.len() as u32, &marked)?;
+    if has_no_alg(payload) {
+        let plain = plain_opening(alloc, given.len() + 1, given, payload)?;
+        let searched = shown(alloc, given.len() as u32, &plain)?;
+        if searched.as_str() != text.as_str() {
+            return Err("opened otherwise")?;
+        }
+    }
+    Ok(text)
+}
+
+// The answer on a payload and disclosures in words.
+fn answer_on(
+    alloc: Global,
+    text: &str,
+    disclosures: &str,
+    steps: &mut Steps,
+) -> Result<String, Fail> {
+    let payload = payload(alloc, text)?;
+    let given = given(alloc, disclosures)?;
+    answer(alloc, &payload, &given, steps)
+}
+
+// Digests that no text has, and disclosures that lead in a circle. Of what is opened the places are shown, too.
+#[test]
+fn digests_may_lead_in_a_circle(rt: HostRuntime) -> Result<(), Fail> {
+    let alloc = rt.alloc();
+    for (payload, disclosures, look_ups, expected) in [
+        ("{}", "", 0, "{}"),
+        (
+            r#"{"_sd":["Y","A","Z"],"a":[{"...":"X"},1,{"...":"B"}]}"#,
+            "A x {}|B - 2",
+            7,
+            r#"{"a":[1,2],"x":{}} /x /a/1"#,
+        ),
+        (
+            r#"{"a":[{"...":"B"},0,{"...":"A"},[{"...":"C"}]]}"#,
+            r#"A - 1|B - {"_sd":["D"]}|C - [2,null]|D b 3"#,
+            8,
+            r#"{"a":[{"b":3},0,1,[[2,null]]]} /a/2 /a/0 /a/3/0 /a/0/b"#,
+        ),
+        (
+            r#"{"_sd":["A"],"_sd_alg":"sha-256"}"#,
+            r#"A x {"_sd":["B"]}|B x 1"#,
+            4,
+            r#"{"x":{"x":1}} /x /x/x"#,
+        ),
+        ("{}", "B y 1|A x 1|A x 2|B y 2", 4, "14 at 2"),
+        (
+            r#"{"_sd":["A"]}"#,
+            r#"A x {"_sd":["B"]}|B y {"_sd":["A"]}"#,
+            5,
+            "16 at 2",
+        ),
+        (r#"{"_sd":["A"]}"#, r#"A x {"_sd":["A"]}"#, 3, "16 at 1"),
+        ("{}", r#"A x {"_sd":["B"]}|B y {"_sd":["A"]}"#, 4, "17 at 0"),
+        ("{}", r#"A x {"_sd":["A"]}"#, 2, "17 at 0"),
+    ] {
+        let mut steps = Steps::new();
+        let answer = answer_on(alloc, payload, disclosures, &mut steps)?;
+        assert_eq!(rt; answer.as_str(), expected, "{payload} {disclosures}");
+        assert!(rt; steps.count() <= look_ups, "{payload} {disclosures}");
+    }
+    Ok(())
+}
+
+// So many disclosures, the digest of each in the value of the one before, from the digest 1 on.
+fn chain(alloc: Global, count: usize, last: &str) -> Result<GivenList, Fail>
+    ensures depths { IfOk result ValuesShallow }
+    ensures ranges { IfOk result ValuesRanged }
+    ensures few { IfOk result (λ list. length list < 2 ^ 32 - 1) }
+{
+    let mut list = GivenList::new(alloc);
+    for i in 1..count {
+        let digest = format!(in alloc; "{i}")?;
+        let value = format!(in alloc; "{{\"_sd\":[\"{}\"]}}", i + 1)?;
+        add(alloc, &mut list, digest.as_str(), "n", value.as_str())?;
+    }
+    let digest = format!(in alloc; "{count}")?;
+    add(alloc, &mut list, digest.as_str(), "n", last)?;
+    Ok(list)
+}
+
+// The answer on a payload and a chain.
+fn chain_answer(
+    alloc: Global,
+    text: &str,
+    count: usize,
+    last: &str,
+    steps: &mut Steps,
+) -> Result<String, Fail> {
+    let payload = payload(alloc, text)?;
+    let given = chain(alloc, count, last)?;
+    answer(alloc, &payload, &given, steps)
+}
+
+#[test]
+fn chains_are_opened_down_to_the_bound(rt: HostRuntime) -> Result<(), Fail> {
+    let text = r#"{"_sd":["1"]}"#;
+    for (text, count, last, look_ups, expected) in [
+        (text, 100, "{}", 200, "21 at 0"),
+        (text, 4096, text, 8193, "16 at 4096"),
+        ("{}", 4096, text, 8192, "17 at 0"),
+    ] {
+        let mut steps = Steps::new();
+        let answer = chain_answer(rt.alloc(), text, count, last, &mut steps)?;
+        assert_eq!(rt; answer.as_str(), expected, "{text} {count} {last}");
+        assert_eq!(rt; steps.count(), look_ups, "{text} {count} {last}");
+    }
+    Ok(())
+}

@@ -1,0 +1,116 @@
+-- Paths that are equal, and a sorted list with each of its paths once.
+use Rattle.std.proofs.Common.{◌≡◌, List, [], ◌∷◌, length, Bool, true, false, cond, ◌&&◌, ◌||◌, bytes_eq, Ordering, Less, Equal, Greater, refl, sym, ap, ap₂, ◌∙◌, arith}
+use Rattle.std.specs.Cmp.{IsEquivalence}
+use Rattle.std.specs.Cmp.Lexicographic.{nat_list_eq_equiv}
+use Rattle.std.specs.List.{IsDistinct, AllByRecursion, dedup, dedup_from}
+use Rattle.std.specs.List.Sorted.{IsPermutation, IsSortedBy, IsStrictlySortedBy}
+use Rattle.std.specs.Ordering.{eq_by_cmp, is_eq, ordering_then}
+use Rattle.std.specs.Set.{distinct_count}
+use Rattle.std.proofs.lemmas.List.Kept.{IsStrictlySortedBy-dedup}
+use Rattle.std.proofs.lemmas.List.Sorted.{list_any-IsPermutation}
+use Rattle.std.proofs.lemmas.Map.Keys.{sorted_head, sorted_tail, IsDistinct-from_sorted, IsDistinct-head, IsDistinct-tail, IsDistinct-cons, IsDistinct-from_apart}
+use Rattle.std.proofs.lemmas.Map.Made.{length-from_keys}
+use Rattle.std.proofs.lemmas.Map.Text.{is_eq-slice_cmp}
+use Rattle.claim_tree.specs.Tree.{Text}
+use Rattle.claim_tree.proofs.Lists.{bytes_same, bytes_refl, and_split, and_join}
+use Rattle.claim_tree.proofs.MapPlaces.{cmp}
+use Rattle.marked_tree.specs.Places.{Path, same_path, is_among}
+use Rattle.marked_tree.specs.Rests.{path_order, AfterNone, AreSorted}
+use Rattle.marked_tree.proofs.PathOrder.{paths_total, lower_path, not_greater}
+
+-- ---- equal paths
+
+pub path_same : (p q : Path) → same_path p q ≡ true → p ≡ q
+path_same [] [] h = refl
+path_same [] (l ∷ q) h = cc h
+path_same (k ∷ p) [] h = cc h
+path_same (k ∷ p) (l ∷ q) h =
+    let both = and_split (bytes_eq k l) (same_path p q) h in
+    ap₂ (λ (step : Text) (rest : Path). step ∷ rest) (bytes_same k l both.0) (path_same p q both.1)
+
+pub path_refl : (p q : Path) → p ≡ q → same_path p q ≡ true
+path_refl [] [] h = refl
+path_refl [] (l ∷ q) h = cc h
+path_refl (k ∷ p) [] h = cc h
+path_refl (k ∷ p) (l ∷ q) h = let first : k ≡ l = cc h in let rest : p ≡ q = cc h in and_join (bytes_eq k l) (same_path p q) (bytes_refl k l first) (path_refl p q rest)
+
+path_turned : (p q : Path) → same_path p q ≡ same_path q p
+path_turned [] [] = refl
+path_turned [] (l ∷ q) = refl
+path_turned (k ∷ p) [] = refl
+path_turned (k ∷ p) (l ∷ q) = ap₂ (λ b c. b && c) ((nat_list_eq_equiv).symm k l) (path_turned p q)
+
+pub path_laws : IsEquivalence same_path
+path_laws = record {
+  refl = λ p. path_refl p p refl;
+  symm = path_turned;
+  congr = λ p q other h. ap (λ (r : Path). same_path r other) (path_same p q h);
+}
+
+pub path_ties : (p q : Path) → same_path p q ≡ eq_by_cmp path_order p q
+path_ties [] [] = refl
+path_ties [] (l ∷ q) = refl
+path_ties (k ∷ p) [] = refl
+path_ties (k ∷ p) (l ∷ q) = ap (λ b. b && same_path p q) (sym (is_eq-slice_cmp k l)) ∙ go (cmp k l) (path_ties p q)
+  where
+    go : (o : Ordering) → same_path p q ≡ is_eq (path_order p q) → (is_eq o && same_path p q) ≡ is_eq (ordering_then o (path_order p q))
+    go Less tie = refl
+    go Equal tie = tie
+    go Greater tie = refl
+
+-- ---- each once
+
+twice : (a b : Bool) → (a || b) ≡ (a || (a || b))
+twice true b = refl
+twice false b = refl
+
+among_from : (p k : Path) (xs : List Path) → is_among (dedup_from same_path k xs) p ≡ (same_path p k || is_among xs p)
+among_from p k [] = refl
+among_from p k (x ∷ xs) = go (same_path x k) refl (among_from p k xs) (among_from p x xs)
+  where
+    go : (b : Bool) → same_path x k ≡ b
+        → is_among (dedup_from same_path k xs) p ≡ (same_path p k || is_among xs p)
+        → is_among (dedup_from same_path x xs) p ≡ (same_path p x || is_among xs p)
+        → is_among (cond b (dedup_from same_path k xs) (k ∷ dedup_from same_path x xs)) p ≡ (same_path p k || (same_path p x || is_among xs p))
+    go true e skip keep =
+        skip ∙ twice (same_path p k) (is_among xs p)
+        ∙ ap (λ (q : Path). same_path p k || (same_path p q || is_among xs p)) (sym (path_same x k e))
+    go false e skip keep = ap (λ b. same_path p k || b) keep
+
+among_dedup : (p : Path) (xs : List Path) → is_among (dedup same_path xs) p ≡ is_among xs p
+among_dedup p [] = refl
+among_dedup p (x ∷ xs) = among_from p x xs
+
+after_all : (p : Path) (xs : List Path) → AllByRecursion (λ q. path_order p q ≡ Less) xs → AfterNone p xs
+after_all p [] all = tt
+after_all p (q ∷ xs) all = (not_greater (path_order p q) all.0, after_all p xs all.1)
+
+strictly_sorted : (xs : List Path) → IsStrictlySortedBy path_order xs → AreSorted xs
+strictly_sorted [] s = tt
+strictly_sorted (x ∷ xs) s = (after_all x xs (sorted_head path_order x xs s), strictly_sorted xs (sorted_tail path_order x xs s))
+
+untied : (p : Path) (xs : List Path) → AllByRecursion (λ q. eq_by_cmp path_order p q ≡ false) xs → AllByRecursion (λ q. same_path p q ≡ false) xs
+untied p [] all = tt
+untied p (q ∷ xs) all = (path_ties p q ∙ all.0, untied p xs all.1)
+
+all_distinct : (xs : List Path) → IsDistinct (eq_by_cmp path_order) xs → IsDistinct same_path xs
+all_distinct [] d = IsDistinct-from_apart same_path [] (λ i j path l h. absurd (omega (arith, h)))
+all_distinct (x ∷ xs) d =
+    IsDistinct-cons same_path x xs (untied x xs (IsDistinct-head (eq_by_cmp path_order) x xs d)) (all_distinct xs (IsDistinct-tail (eq_by_cmp path_order) x xs d))
+
+-- the same paths in their order, each once
+pub record IsEachOnce (paths kept : List Path) : Type 0 where
+  pub same : (path : Path) → is_among kept path ≡ is_among paths path
+  pub sorted : AreSorted kept
+  pub count : length kept ≡ distinct_count same_path paths
+
+pub each_once : (paths sorted kept : List Path) → IsPermutation paths sorted → IsSortedBy lower_path sorted → kept ≡ dedup same_path sorted → IsEachOnce paths kept
+each_once paths sorted kept moved up is =
+    let strict : IsStrictlySortedBy path_order kept = rw is (IsStrictlySortedBy-dedup paths_total path_ties sorted up) in
+    let same : (path : Path) → is_among kept path ≡ is_among paths path
+    = λ path. ap (λ ps. is_among ps path) is ∙ among_dedup path sorted ∙ sym (list_any-IsPermutation (same_path path) paths sorted moved) in
+    record {
+      same = same;
+      sorted = strictly_sorted kept strict;
+      count = length-from_keys path_laws kept paths (all_distinct kept (IsDistinct-from_sorted path_order kept strict)) same;
+    }

@@ -1,0 +1,62 @@
+#!/bin/sh
+# Copies the built program, its manual page and its completions below a folder, and says what it did.
+#
+#   sh install.sh [--prefix DIR] [--dry-run]
+#
+# The folder is /usr/local where none is given. With --dry-run it only says what it would do.
+set -eu
+
+usage() {
+    echo 'usage: sh install.sh [--prefix DIR] [--dry-run]' >&2
+    exit 2
+}
+
+refuse() {
+    echo "install.sh: $1" >&2
+    exit 1
+}
+
+prefix=/usr/local
+dry=no
+while [ $# -gt 0 ]; do
+    case $1 in
+        --prefix) [ $# -ge 2 ] || usage; prefix=$2; shift ;;
+        --prefix=*) prefix=${1#--prefix=} ;;
+        --dry-run) dry=yes ;;
+        *) usage ;;
+    esac
+    shift
+done
+case $prefix in
+    '') usage ;;
+    /*) ;;
+    *) prefix=$(pwd)/$prefix ;;
+esac
+
+cd "$(dirname "$0")"
+program=crates/sdjwt/out/sdjwt
+[ -x "$program" ] || refuse "the program is not built yet ($program): run 'sh examples/demo.sh' first"
+
+# put MODE FILE TARGET
+put() {
+    target=$prefix/$3
+    if [ "$dry" = yes ]; then
+        echo "would copy $2 to $target"
+        return
+    fi
+    mkdir -p "$(dirname "$target")" || refuse "cannot make the folder of $target"
+    cp "$2" "$target.new" || refuse "cannot write $target"
+    chmod "$1" "$target.new"
+    mv -f "$target.new" "$target"
+    echo "copied $2 to $target"
+}
+
+put 755 "$program" bin/sdjwt
+put 644 docs/sdjwt.1 share/man/man1/sdjwt.1
+put 644 completions/sdjwt.bash share/bash-completion/completions/sdjwt
+put 644 completions/_sdjwt share/zsh/site-functions/_sdjwt
+
+case :${PATH:-}: in
+    *:"$prefix/bin":*) ;;
+    *) echo "$prefix/bin is not on the path: add it, as by PATH=$prefix/bin:\$PATH" ;;
+esac
