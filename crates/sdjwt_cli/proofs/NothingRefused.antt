@@ -1,5 +1,5 @@
 -- Presenting refuses nothing on a text that is read as an issued token, where the policy suits.
-use Rattle.std.proofs.Common.{◌≡◌, ◌≢◌, ℕ, ◌<◌, ◌^◌, true, false, List, length, Option, Some, refl, sym, ap, subst, ◌∙◌, arith}
+use Rattle.std.proofs.Common.{◌≡◌, ◌≢◌, ℕ, ◌<◌, ◌^◌, true, List, length, Some, refl, sym, ap, subst, ◌∙◌, arith}
 use Rattle.claim_tree.specs.Path.{tree_at}
 use Rattle.claim_tree.proofs.Lists.{At-In}
 use Rattle.sd_outside.specs.Limits.{compact_max}
@@ -13,7 +13,7 @@ use Rattle.json_form.proofs.Tokens as tokens
 use Rattle.key_binding.specs.Judged.{holder_kid}
 use Rattle.marked_tree.specs.Choice.{chosen}
 use Rattle.marked_tree.specs.Marked.{Marked, strip, prune}
-use Rattle.marked_tree.specs.Places.{Path, place}
+use Rattle.marked_tree.specs.Places.{place}
 use Rattle.marked_tree.proofs.MarkFacts.{mark_strips_holds}
 use Rattle.selection_core.specs.Consent.{Answers, IsRefusedAt}
 use Rattle.selection_core.specs.Refusals.{IsMissing}

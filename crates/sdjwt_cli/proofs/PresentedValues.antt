@@ -1,12 +1,10 @@
 -- The law of presenting, over values.
-use Rattle.std.proofs.Common.{◌≡◌, ◌≢◌, ℕ, ◌<◌, ◌^◌, List}
+use Rattle.std.proofs.Common.{ℕ, ◌<◌, ◌^◌, List}
 use Rattle.compact_form.specs.declared.parts.Parts.{Parts}
-use Rattle.hmac_sign.specs.Hmac.{IsGood}
 use Rattle.json_form.specs.Token.{IsToken}
 use Rattle.selection_core.specs.Consent.{Answers}
 use Rattle.issuer_core.specs.Order.{Order}
 use Rattle.verifier_core.specs.declared.policy.Policy.{Policy}
-use Rattle.holder_core.specs.Present.{IsPresented}
 use Rattle.holder_core.specs.declared.ask.Ask.{Ask}
 use Rattle.sdjwt_cli.specs.Issuing.{IsIssuedBy}
 use Rattle.sdjwt_cli.specs.Presented.{alone, IsAcceptedWith, IsShownAt, PresentedOverValues}

@@ -1,5 +1,6 @@
 -- When a policy suits what a holder is asked to present of a token that is issued for an order.
 use Rattle.std.specs.Prelude.{◌≡◌, ◌≢◌, ◌≤◌, ℕ, ◌+◌, true, false, List, length, Option, None, Some, IfSome, codes}
+use Rattle.sd_outside.specs.Limits.{binding_text_max}
 use Rattle.claim_tree.specs.Tree.{Text, Tree}
 use Rattle.claim_tree.specs.Lists.{In}
 use Rattle.claim_tree.specs.Path.{tree_at}
@@ -24,7 +25,7 @@ shown_for o want = strip (prune (marked_of o) (chosen (marked_of o) want))
 
 -- an audience and a nonce have as many bytes as they may
 abbrev pub AreShort : Option BindingAsk → Type 0
-AreShort asked = IfSome asked (λ ask. (length ask.aud ≤ 256) × (length ask.nonce ≤ 256))
+AreShort asked = IfSome asked (λ ask. (length ask.aud ≤ binding_text_max) × (length ask.nonce ≤ binding_text_max))
 
 -- the holder is asked for a key binding token for the audience and with the nonce of the policy, signs it with a key that the
 -- policy knows by the same name, and both moments lie within its age, as far as clocks may differ
