@@ -1,4 +1,4 @@
-ghost use Rattle.std.specs.Prelude.{◌≤◌, IfOk};
+ghost use Rattle.std.specs.Prelude.{◌≤◌, length, IfOk};
 ghost use Rattle.claim_tree.specs.Tree.{depth, IsRanged};
 ghost use Rattle.marked_tree.specs.Marked.{strip as strip_of};
 ghost use Rattle.marked_tree.specs.View.{marked_of};
@@ -11,12 +11,9 @@ use std::test::Fail;
 
 const TREE: &str = r#"{"a":{"b":1,"c":2},"d":[1,2,3],"e":null}"#;
 
-// The tree with marks at `/a/b`, `/a`, `/d/0` and `/d/2`, in closing order.
-fn marked(alloc: Global) -> Result<Marked, Fail>
-    ensures shallow { IfOk result (λ marked. depth (strip_of (marked_of marked)) ≤ 127) }
-    ensures ranged { IfOk result (λ marked. IsRanged (strip_of (marked_of marked))) }
+fn paths(alloc: Global) -> Result<PathList, Fail>
+    ensures { IfOk result (λ paths. length paths ≤ 100) }
 {
-    let tree = read(alloc, TREE.as_bytes()).map_err(|_| "not read")?;
     let mut paths = PathList::new(alloc);
     for pointer in ["/a", "/a/b", "/d/2", "/d/0"] {
         paths.push(read_pointer(alloc, pointer).map_err(|_| "no pointer")?)?;
@@ -24,6 +21,16 @@ fn marked(alloc: Global) -> Result<Marked, Fail>
     if paths.len() > 100 {
         return Err("too many paths")?;
     }
+    Ok(paths)
+}
+
+// The tree with marks at `/a/b`, `/a`, `/d/0` and `/d/2`, in closing order.
+fn marked(alloc: Global) -> Result<Marked, Fail>
+    ensures shallow { IfOk result (λ marked. depth (strip_of (marked_of marked)) ≤ 127) }
+    ensures ranged { IfOk result (λ marked. IsRanged (strip_of (marked_of marked))) }
+{
+    let tree = read(alloc, TREE.as_bytes()).map_err(|_| "not read")?;
+    let paths = paths(alloc)?;
     Ok(mark(alloc, &tree, &paths)?)
 }
 
