@@ -45,20 +45,26 @@ fn copy_name(alloc: Global, item: &Given) -> Result<Option<TextBox>, NoMemory>
 fn push_shown(out: &mut MarkedList, shown: Option<Revealed>) -> Result<(), NoMemory>
     ensures { OnOk result ((es : MarkedElements) → joined out.new es ≡ joined out.old (show_element (shown_of shown) es)) }
 {
-    match shown {
-        Some((mark, None, tree)) => out.push(Some(mark), tree),
-        _ => Ok(()),
+    let Some((mark, name, tree)) = shown else {
+        return Ok(());
+    };
+    if name.is_some() {
+        return Ok(());
     }
+    out.push(Some(mark), tree)
 }
 
 // Among the members of an object.
 fn put_shown(out: &mut MarkedMap, shown: Option<Revealed>) -> Result<(), NoMemory>
     ensures { OnOk result (out.new ≡ show_member (shown_of shown) out.old) }
 {
-    match shown {
-        Some((mark, Some(name), tree)) => out.put(name, Some(mark), tree),
-        _ => Ok(()),
-    }
+    let Some((mark, name, tree)) = shown else {
+        return Ok(());
+    };
+    let Some(name) = name else {
+        return Ok(());
+    };
+    out.put(name, Some(mark), tree)
 }
 
 // What a digest shows with this fuel.

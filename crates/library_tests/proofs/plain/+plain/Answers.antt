@@ -11,7 +11,7 @@ use Rattle.rebuild_core.specs.Opening.{reveal, open_elements, open_members}
 use Rattle.rebuild_core.specs.Whole.{joined}
 use Rattle.library_tests.specs.Shown.{shown_of}
 use Rattle.library_tests.proofs.plain.+plain.Goals as goal
-use Rattle.library_tests.proofs.plain.+plain.Goals.{open_list-in-None+in_ok-plain-in-None+in_ok-push-in-None, open_list-in-Some+in_ok-shown-in-Some+in_ok-push_element-in-Some, open_map-then-not-is_sd+in_ok-plain+in_ok-make+in_ok-put, open_map-else-not-is_sd}
+use Rattle.library_tests.proofs.plain.+plain.Goals.{open_list-in-None+in_ok-plain-in-None+in_ok-push-in-None, open_list-in-Some+in_ok-shown-in-Some+in_ok-push_shown-in-Some, open_map-then-not-is_sd+in_ok-plain+in_ok-make+in_ok-put, open_map-else-not-is_sd}
 
 pub open_list-plain_opening-requires : goal.open_list-plain_opening-requires
 open_list-plain_opening-requires t c =
@@ -26,8 +26,8 @@ open_list-loop-tree-preserved t c =
     elim c.match-element_digest.branch [
       | open_list-in-None+in_ok-plain-in-None+in_ok-push-in-None w ↦
           rw w.out-is (plain_element _ _ _ _ _ s (marked_of w.in_ok-plain-in-None.plain) w.push.new.self w.in-None.ensures w.in_ok-plain-in-None.ensures w.in_ok-push-in-None.ensures.ok)
-      | open_list-in-Some+in_ok-shown-in-Some+in_ok-push_element-in-Some w ↦
-          rw w.out-is (shown_element _ _ _ _ _ s w.in-Some.digest.now (shown_of w.in_ok-shown-in-Some.shown) w.push_element.new.out w.in-Some.ensures w.in_ok-shown-in-Some.ensures w.in_ok-push_element-in-Some.ensures)
+      | open_list-in-Some+in_ok-shown-in-Some+in_ok-push_shown-in-Some w ↦
+          rw w.out-is (shown_element _ _ _ _ _ s w.in-Some.digest.now (shown_of w.in_ok-shown-in-Some.shown) w.push_shown.new.out w.in-Some.ensures w.in_ok-shown-in-Some.ensures w.in_ok-push_shown-in-Some.ensures)
     ]
 
 pub open_list-returns : goal.open_list-returns
