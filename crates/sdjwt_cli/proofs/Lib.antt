@@ -12,6 +12,7 @@ mod PresentVerdicts
 mod ConvertVerdicts
 mod Converted
 mod Refusals
+mod Stopped
 mod CompactLines
 mod CheckedParts
 mod HeldIssued

@@ -1,7 +1,16 @@
-ghost use Rattle.std.specs.Prelude.{◌≡◌};
+// Why a command has no answer.
+ghost use Rattle.std.specs.Prelude.{◌≡◌, ◌≢◌};
+ghost use Rattle.claim_tree.specs.declared.file_fault.FileFault.{FileFault};
+ghost use Rattle.compact_form.specs.Condition.{Condition, number_of};
+ghost use Rattle.sdjwt_cli.specs.Lines.{refusal, unreadable_line as line_of};
+ghost use Rattle.sdjwt_cli.specs.Stops.{OnRefused, OnUnread, OnUnreadable};
 ghost use Rattle.sdjwt_cli.specs.declared.stop.Stop.TheVariants.{Memory};
 
+use crate::lines::{refusal_line, unreadable_line};
+use claim_tree::FileFault;
+use compact_form::Fault;
 use sd_outside::NoMemory;
+use std::alloc::Global;
 
 // Why a command has no answer.
 #[derive(Debug, Drop)]
@@ -20,5 +29,33 @@ impl From<NoMemory> for Stop {
 
     fn from(_: NoMemory) -> Self {
         Stop::Memory
+    }
+}
+
+// A condition fails: its line, where there is memory for it.
+pub(crate) fn refused(alloc: Global, fault: &Fault) -> Stop
+    ensures line { (condition : Condition) → fault.now.number ≡ number_of condition → OnRefused result (λ text. text ≡ refusal fault.now) }
+    ensures read { OnUnread result (λ _. ⊥) }
+    ensures readable { OnUnreadable result (λ _. ⊥) }
+{
+    match refusal_line(alloc, fault) {
+        Ok(text) => Stop::Refused(text),
+        Err(NoMemory) => Stop::Memory,
+    }
+}
+
+// The first file of a command is not of its form: its line, where there is memory for it.
+pub(crate) fn unreadable(alloc: Global, fault: FileFault) -> Stop
+    ensures cause { OnUnreadable result (λ _. fault ≢ FileFault.Memory) }
+    ensures line { OnUnreadable result (λ text. text ≡ line_of 1 fault) }
+    ensures fit { OnRefused result (λ _. ⊥) }
+    ensures read { OnUnread result (λ _. ⊥) }
+{
+    if let FileFault::Memory = fault {
+        return Stop::Memory;
+    }
+    match unreadable_line(alloc, 1, fault) {
+        Ok(text) => Stop::Unreadable(text),
+        Err(NoMemory) => Stop::Memory,
     }
 }

@@ -1,19 +1,20 @@
 // The command `verify`: the processed payload of a token that is accepted under a policy.
-ghost use Rattle.std.specs.Prelude.{◌≡◌, IfOk, IfErr, string_bytes};
+ghost use Rattle.std.specs.Prelude.{◌≡◌, ℕ, List, IfOk, IfErr, string_bytes};
 ghost use Rattle.claim_tree.specs.Tree.{IsRanged};
 ghost use Rattle.claim_tree.specs.JsonText.{json_text};
 ghost use Rattle.claim_tree.specs.View.{tree_of};
+ghost use Rattle.verifier_core.specs.PolicyFile.{IsPolicyFile};
 ghost use Rattle.sdjwt_cli.specs.Lines.{line};
 ghost use Rattle.sdjwt_cli.specs.Verify.{Verifies, DoesNotVerify, HasNoPolicy};
 ghost use Rattle.sdjwt_cli.specs.Stops.{OnRefused, OnUnread, OnUnreadable};
 
-use crate::lines::{as_line, refusal_line, unreadable_line};
-use crate::stop::Stop;
-use claim_tree::{FileFault, Tree, write};
+use crate::lines::as_line;
+use crate::stop::{Stop, refused, unreadable};
+use claim_tree::{Tree, write};
 use digest_index::Steps;
 use sd_outside::NoMemory;
 use std::alloc::Global;
-use verifier_core::{VerifyError, read_policy, verify_payload};
+use verifier_core::{Policy, VerifyError, read_policy, verify_payload};
 
 // The JSON of a tree, as a line.
 fn json_line(alloc: Global, tree: &Tree) -> Result<String, NoMemory>
@@ -21,6 +22,33 @@ fn json_line(alloc: Global, tree: &Tree) -> Result<String, NoMemory>
     ensures { IfOk result (λ text. string_bytes text ≡ line (json_text (tree_of tree.now))) }
 {
     as_line(write(alloc, tree)?)
+}
+
+// The policy of a file.
+fn policy_of(alloc: Global, file: &[u8]) -> Result<Policy, Stop>
+    ensures policy { IfOk result (IsPolicyFile file.now) }
+    ensures unreadable { IfErr result (λ stop. OnUnreadable stop (HasNoPolicy file.now)) }
+    ensures fit { IfErr result (λ stop. OnRefused stop (λ _. ⊥)) }
+    ensures read { IfErr result (λ stop. OnUnread stop (λ _. ⊥)) }
+{
+    match read_policy(alloc, file) {
+        Ok(policy) => Ok(policy),
+        Err(fault) => Err(unreadable(alloc, fault)),
+    }
+}
+
+// The answer under a policy, of whatever file.
+fn verify_under(alloc: Global, policy: &Policy, token_file: &[u8], now: u64) -> Result<String, Stop>
+    ensures verifies { (file : List ℕ) → IsPolicyFile file policy.now → IfOk result (λ text. Verifies file token_file.now now (string_bytes text)) }
+    ensures refuses { (file : List ℕ) → IsPolicyFile file policy.now → IfErr result (λ stop. OnRefused stop (DoesNotVerify file token_file.now now)) }
+    ensures readable { IfErr result (λ stop. OnUnreadable stop (λ _. ⊥)) }
+    ensures read { IfErr result (λ stop. OnUnread stop (λ _. ⊥)) }
+{
+    match verify_payload(alloc, token_file, policy, now, &mut Steps::new()) {
+        Ok(payload) => Ok(json_line(alloc, &payload)?),
+        Err(VerifyError::Fault(fault)) => Err(refused(alloc, &fault)),
+        Err(VerifyError::Memory) => Err(Stop::Memory),
+    }
 }
 
 /// The answer to a policy file and a token file, at a moment.
@@ -35,14 +63,6 @@ pub(crate) fn verify(
     ensures unreadable { IfErr result (λ stop. OnUnreadable stop (HasNoPolicy policy_file.now)) }
     ensures read { IfErr result (λ stop. OnUnread stop (λ _. ⊥)) }
 {
-    let policy = match read_policy(alloc, policy_file) {
-        Ok(policy) => policy,
-        Err(FileFault::Memory) => return Err(Stop::Memory),
-        Err(fault) => return Err(Stop::Unreadable(unreadable_line(alloc, 1, fault)?)),
-    };
-    match verify_payload(alloc, token_file, &policy, now, &mut Steps::new()) {
-        Ok(payload) => Ok(json_line(alloc, &payload)?),
-        Err(VerifyError::Fault(fault)) => Err(Stop::Refused(refusal_line(alloc, &fault)?)),
-        Err(VerifyError::Memory) => Err(Stop::Memory),
-    }
+    let policy = policy_of(alloc, policy_file)?;
+    verify_under(alloc, &policy, token_file, now)
 }

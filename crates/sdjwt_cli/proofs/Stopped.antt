@@ -1,0 +1,22 @@
+-- What holds of the line of a stop, by the fault that it tells.
+use Rattle.std.proofs.Common.{◌≡◌, ◌≢◌, ℕ, List, sym, subst}
+use Rattle.claim_tree.specs.declared.file_fault.FileFault.{FileFault}
+use Rattle.compact_form.specs.declared.fault.Fault.{Fault}
+use Rattle.sdjwt_cli.specs.Lines.{refusal, unreadable_line}
+use Rattle.sdjwt_cli.specs.Stops.{OnRefused, OnUnreadable}
+use Rattle.sdjwt_cli.specs.declared.stop.Stop.{Stop}
+use Rattle.sdjwt_cli.specs.declared.stop.Stop.TheVariants.{Memory, Unread, Unreadable, Refused}
+
+module _ (Holds : List ℕ → Type 0) where
+  pub of_refusal : (fault : Fault) → Holds (refusal fault) → (stop : Stop) → OnRefused stop (λ text. text ≡ refusal fault) → OnRefused stop Holds
+  of_refusal fault holds Memory told = tt
+  of_refusal fault holds (Unread word) told = tt
+  of_refusal fault holds (Unreadable text) told = tt
+  of_refusal fault holds (Refused text) told = subst Holds (sym told) holds
+
+  pub of_unreadable : (fault : FileFault) → (fault ≢ FileFault.Memory → Holds (unreadable_line 1 fault)) → (stop : Stop)
+      → OnUnreadable stop (λ _. fault ≢ FileFault.Memory) → OnUnreadable stop (λ text. text ≡ unreadable_line 1 fault) → OnUnreadable stop Holds
+  of_unreadable fault holds Memory cause told = tt
+  of_unreadable fault holds (Unread word) cause told = tt
+  of_unreadable fault holds (Unreadable text) cause told = subst Holds (sym told) (holds cause)
+  of_unreadable fault holds (Refused text) cause told = tt
