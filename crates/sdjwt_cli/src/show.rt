@@ -15,9 +15,8 @@ ghost use Rattle.json_form.specs.Token.{IsToken};
 ghost use Rattle.sdjwt_cli.specs.declared.show.Unshown.TheVariants.{Fails};
 ghost use Rattle.sdjwt_cli.specs.Stops.{OnRefused, OnUnread, OnUnreadable};
 
-use crate::lines::refusal_line;
 use crate::split::push_binding;
-use crate::stop::Stop;
+use crate::stop::{Stop, refused};
 use claim_tree::{Tree, TreeMap, write};
 use compact_form::{
     DISCLOSURE_UNREADABLE, Fault, HASH_UNKNOWN, HEADER_UNREADABLE, JwtView, PAYLOAD_UNREADABLE,
@@ -193,6 +192,19 @@ fn show_view(
     Ok(text)
 }
 
+// The lines of a token file.
+fn show_file(alloc: Global, file: &[u8]) -> Result<String, Unshown>
+    ensures shows { IfOk result (λ text. Shows file.now (string_bytes text)) }
+    ensures fails { IfErr result (λ e. OnFails e (IsShowRefused file.now)) }
+{
+    let token = match TokenText::read(alloc, file) {
+        Ok(token) => token,
+        Err(TokenError::Memory) => return Err(Unshown::Memory),
+        Err(TokenError::Fault(fault)) => return Err(Unshown::Fails(fault)),
+    };
+    show_view(alloc, file, &token.view(), token.outer())
+}
+
 /// The answer to a token file.
 pub(crate) fn show(alloc: Global, file: &[u8]) -> Result<String, Stop>
     ensures shows { IfOk result (λ text. Shows file.now (string_bytes text)) }
@@ -200,14 +212,9 @@ pub(crate) fn show(alloc: Global, file: &[u8]) -> Result<String, Stop>
     ensures read { IfErr result (λ stop. OnUnread stop (λ _. ⊥)) }
     ensures readable { IfErr result (λ stop. OnUnreadable stop (λ _. ⊥)) }
 {
-    let token = match TokenText::read(alloc, file) {
-        Ok(token) => token,
-        Err(TokenError::Memory) => return Err(Stop::Memory),
-        Err(TokenError::Fault(fault)) => return Err(Stop::Refused(refusal_line(alloc, &fault)?)),
-    };
-    match show_view(alloc, file, &token.view(), token.outer()) {
+    match show_file(alloc, file) {
         Ok(text) => Ok(text),
         Err(Unshown::Memory) => Err(Stop::Memory),
-        Err(Unshown::Fails(fault)) => Err(Stop::Refused(refusal_line(alloc, &fault)?)),
+        Err(Unshown::Fails(fault)) => Err(refused(alloc, &fault)),
     }
 }
