@@ -1,4 +1,8 @@
-use claim_tree::{Path, PathList, read, read_pointer};
+ghost use Rattle.std.specs.Prelude.{◌≤◌, IfOk};
+ghost use Rattle.claim_tree.specs.Tree.{depth, IsRanged};
+ghost use Rattle.claim_tree.specs.View.{tree_of};
+
+use claim_tree::{Path, PathList, Tree, read, read_pointer};
 use hmac_sign::{FailSigner, Hs256Key};
 use issuer_core::{Decoy, DecoyList, IssueError, Order, first_clash, issue, judge};
 use sd_outside::{TextBox, TextList};
@@ -33,24 +37,43 @@ fn the_first_clash_is_named_by_its_places(rt: HostRuntime) -> Result<(), Fail> {
     Ok(())
 }
 
+fn payload(alloc: Global) -> Result<Tree, Fail>
+    ensures shallow { IfOk result (λ tree. depth (tree_of tree) ≤ 127) }
+    ensures ranged { IfOk result (λ tree. IsRanged (tree_of tree)) }
+{
+    Ok(read(alloc, br#"{"a":1,"b":2}"#).map_err(|_| "not read")?)
+}
+
+fn hidden(alloc: Global) -> Result<PathList, Fail> {
+    let mut hide = PathList::new(alloc);
+    hide.push(read_pointer(alloc, "/a").map_err(|_| "no pointer")?)?;
+    Ok(hide)
+}
+
+// Two entries at the root, each of so many decoys.
+fn decoys(alloc: Global, count: u32) -> Result<DecoyList, Fail> {
+    let mut decoys = DecoyList::new(alloc);
+    for _ in 0..2 {
+        let at = Path::new(alloc);
+        decoys.push(Decoy { at, count })?;
+    }
+    Ok(decoys)
+}
+
 // An order that hides `/a`, with two entries of decoys at the root.
-fn order(alloc: Global, decoys: u32) -> Result<Order, Fail> {
-    let mut order = Order {
-        payload: read(alloc, br#"{"a":1,"b":2}"#).map_err(|_| "not read")?,
-        hide: PathList::new(alloc),
-        decoys: DecoyList::new(alloc),
+fn order(alloc: Global, count: u32) -> Result<Order, Fail>
+    ensures shallow { IfOk result (λ order. depth (tree_of order.payload) ≤ 127) }
+    ensures ranged { IfOk result (λ order. IsRanged (tree_of order.payload)) }
+{
+    let hide = hidden(alloc)?;
+    let decoys = decoys(alloc, count)?;
+    Ok(Order {
+        payload: payload(alloc)?,
+        hide,
+        decoys,
         kid: None,
         typ: None,
-    };
-    let path = read_pointer(alloc, "/a").map_err(|_| "no pointer")?;
-    order.hide.push(path)?;
-    for _ in 0..2 {
-        order.decoys.push(Decoy {
-            at: Path::new(alloc),
-            count: decoys,
-        })?;
-    }
-    Ok(order)
+    })
 }
 
 // More than the file of an order can say.
