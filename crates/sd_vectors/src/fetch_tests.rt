@@ -1,4 +1,6 @@
 // What each command asks of its cabinet, and in how many pieces it answers.
+ghost use Rattle.std.specs.Prelude.{◌≡◌};
+
 use sd_outside::{ByteBox, Cabinet, Failed, FetchError, MemCabinet, NoMemory, Sink};
 use sdjwt_cli::run;
 use std::alloc::Global;
