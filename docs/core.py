@@ -193,11 +193,14 @@ class Core:
 
     def root(self, word):
         """What the clauses of a function cite, with the traits in which it is generic; or a definition."""
-        crate, module, *rest = word.split("::")
-        if module == "specs":
-            return [self.specs(crate, rest[0]).defined[rest[1]]]
-        file = File(TOP / "crates" / crate / "src" / (module + ".rt"))
-        head = re.search(r"^(?:pub(?:\(crate\))? )?fn %s\b(.*?)^\{" % rest[0], file.text, re.M | re.S).group(1)
+        try:
+            crate, module, *rest = word.split("::")
+            if module == "specs":
+                return [self.specs(crate, rest[0]).defined[rest[1]]]
+            file = File(TOP / "crates" / crate / "src" / (module + ".rt"))
+            head = re.search(r"^(?:pub(?:\(crate\))? )?fn %s\b(.*?)^\{" % rest[0], file.text, re.M | re.S).group(1)
+        except (OSError, ValueError, LookupError, AttributeError):
+            sys.exit(f"core.py: there is no {word}")
         traits = re.findall(r"\w+: (\w+)", head.split("(")[0])
         found = [self.meaning(file, name) for name in sorted(set(WORD.findall(head))) if name in file.imports]
         return found + [self.type_named(crate, file, name) for name in traits]
