@@ -1,11 +1,13 @@
 #!/usr/bin/env python3
-"""Checks that the picture and the table of crates in docs/ARCHITECTURE.md agree with crates.txt.
+"""Checks that docs/ARCHITECTURE.md agrees with what is there: its picture and its tables with crates.txt and specs/.
 
     python3 docs/picture.py        prints what differs; status 1 where something does
 
 The picture has each crate but those that the text below it says are left out, and no other. A crate that another stands
 on is further down, or beside it. The table has each crate once, behind those that it stands on. What a row names is in
-the line of crates.txt, and what that line has besides, one of the crates named stands on.
+the line of crates.txt, and what that line has besides, one of the crates named stands on. The table of definitions has
+each module of specs/ but those that say in their first line that they are for private functions, the models or
+conversions; and each word in it stands in one of the modules of its row.
 """
 import re
 import sys
@@ -69,14 +71,33 @@ def check_table(text, stands_on):
             yield f"the table has no row of {name}"
 
 
+def check_definitions(text, stands_on):
+    table = re.search(r"^## Where a definition lives\n(.*?)^## ", text, re.M | re.S).group(1)
+    named = {}
+    for modules, words, crate in re.findall(r"^\| (.*?) \| (.*) \| `(\w+)` \|$", table, re.M):
+        paths = [TOP / "crates" / crate / "specs" / (module + ".antt") for module in re.findall(r"`(\w+)`", modules)]
+        named.setdefault(crate, set()).update(paths)
+        yield from (f"{crate} has no module {path.stem}" for path in paths if not path.exists())
+        specs = "\n".join(path.read_text(encoding="utf-8") for path in paths if path.exists())
+        for word in re.findall(r"`(\w+)`", words):
+            if not re.search(r"\b%s\b" % word, specs):
+                yield f"{word} stands in none of the modules {modules} of {crate}"
+    for crate in stands_on:
+        for path in sorted((TOP / "crates" / crate / "specs").glob("*.antt")):
+            first = path.read_text(encoding="utf-8").split("\n")[0]
+            if path.stem != "Lib" and path not in named.get(crate, ()) and not first.startswith("-- For "):
+                yield f"the table of definitions lacks {path.stem} of {crate}"
+
+
 def main():
     stands_on = read_crates()
     text = (TOP / "docs/ARCHITECTURE.md").read_text(encoding="utf-8")
-    wrong = [*check_picture(text, stands_on), *check_table(text, stands_on)]
+    wrong = [check(text, stands_on) for check in (check_picture, check_table, check_definitions)]
+    wrong = [line for lines in wrong for line in lines]
     for line in wrong:
         print(line)
     if not wrong:
-        print(f"the picture and the table agree with crates.txt: {len(stands_on)} crates")
+        print(f"docs/ARCHITECTURE.md agrees with crates.txt and specs/: {len(stands_on)} crates")
     sys.exit(bool(wrong))
 
 
