@@ -1,5 +1,5 @@
 // The call that issues.
-ghost use Rattle.std.specs.Prelude.{◌≡◌, ◌≤◌, ◌<◌, ◌↔◌, length, IfOk, OnOk, IfErr, IsErrOf, IsTrue};
+ghost use Rattle.std.specs.Prelude.{◌≡◌, ◌≤◌, ◌<◌, length, IfOk, OnOk, IfErr, IsErrOf};
 ghost use Rattle.std.specs.List.{AllByRecursion};
 ghost use Rattle.sd_outside.specs.Causes.{Rose};
 ghost use Rattle.claim_tree.specs.Tree.{depth as depth_of, IsRanged};
@@ -21,7 +21,7 @@ ghost use Rattle.claim_tree.specs.Lists.{Repeats, Nowhere};
 use crate::laying::{Laid, lay_order, lay_owned};
 use crate::{IssueError, Order, first_clash, judge};
 use b64url_text::encode;
-use compact_form::{ISSUE_MAX, JwtParts, Parts, print};
+use compact_form::{ISSUE_MAX, JwtParts, Parts, is_longer_than};
 use hmac_sign::{SignError, Signer};
 use jws_part::{Header, write_body, write_header};
 use sd_outside::{NoMemory, TextBox, TextList};
@@ -138,7 +138,7 @@ fn issue_laid<S: Signer>(
         Ok(parts) => parts,
         Err(error) => return Err(error),
     };
-    if is_too_long(alloc, &parts)? {
+    if is_longer_than(&parts, ISSUE_MAX) {
         return Err(IssueError::TooLong);
     }
     Ok(parts)
@@ -154,15 +154,6 @@ fn judge_digests(alloc: Global, digests: &TextList) -> Result<(), IssueError>
         Ok(Some((i, j))) => Err(IssueError::DigestClash(i, j)),
         Err(NoMemory) => Err(IssueError::Memory),
     }
-}
-
-// 61.
-fn is_too_long(alloc: Global, parts: &Parts) -> Result<bool, NoMemory>
-    requires { AreWords parts.now }
-    ensures { IfOk result (λ answer. IsTrue answer ↔ (issue_max < length (compact parts.now))) }
-{
-    let text = print(alloc, parts)?;
-    Ok(text.as_str().len() > ISSUE_MAX)
 }
 
 fn sign_laid<S: Signer>(

@@ -5,14 +5,10 @@ use Rattle.compact_form.specs.Compact.{compact}
 use Rattle.issuer_core.proofs.FromLaid.{words, not_more}
 use Rattle.issuer_core.proofs.issuing.issue_laid.Goals as goal
 
-pub is_too_long-requires : goal.is_too_long-requires
-is_too_long-requires g c =
-    words c.args.header (g.S.Signatures.good c.args.signer.now) (tree_of c.args.laid.payload) c.args.laid.texts c.in-Ok.parts c.requires.object c.requires.words c.in-Ok.ensures.signed
-
 pub returns-clause-finished : goal.returns-clause-finished
 returns-clause-finished g c = record {
   signed = c.in-Ok.ensures.signed;
   differ = c.in_default.ensures.differ;
   words = words c.args.header (g.S.Signatures.good c.args.signer.now) (tree_of c.args.laid.payload) c.args.laid.texts c.in-Ok.parts c.requires.object c.requires.words c.in-Ok.ensures.signed;
-  short = not_more issue_max (length (compact c.in-Ok.parts)) (λ over. let yes = c.in_ok-is_too_long.ensures.1 over in let no = c.if-branch.false in cc);
+  short = not_more issue_max (length (compact c.in-Ok.parts)) (λ over. let yes = c.is_longer_than.ensures.1 over in let no = c.if-is_longer_than.false in cc);
 }
