@@ -3,8 +3,8 @@
 //! [`View::scan`] reads a text once and borrows its parts; [`parse`] copies them. Both refuse a text at
 //! the first byte at which it stops being the front of a token. [`read_view`] judges a token as it comes
 //! from a file: its limits, its blanks and its form. [`print`] writes parts as the text that [`parse`]
-//! reads, and [`hashed_text`] as much of it as a key binding token hashes. [`read_jwt`] and [`print_jwt`] are for a
-//! JWT that stands alone.
+//! reads, [`hashed_text`] as much of it as a key binding token hashes, and [`is_longer_than`] says without it how long it
+//! is. [`read_jwt`] and [`print_jwt`] are for a JWT that stands alone.
 #![tactic(auto)]
 
 mod blanks;
@@ -14,6 +14,7 @@ mod field;
 mod form;
 mod jwt_view;
 pub mod laws;
+mod lengths;
 mod limits;
 mod parts;
 mod reader;
@@ -34,6 +35,7 @@ pub use conditions::{
 pub use fault::{Fault, JsonPlace, Part, Place};
 pub use form::{FormError, check, parse};
 pub use jwt_view::read_jwt;
+pub use lengths::is_longer_than;
 pub use limits::{COMPACT_MAX, COUNT_MAX, FILE_MAX, ISSUE_MAX};
 pub use parts::{JwtParts, Parts};
 pub use reader::At;

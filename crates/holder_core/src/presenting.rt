@@ -1,5 +1,5 @@
 // The call that presents.
-ghost use Rattle.std.specs.Prelude.{◌≡◌, ◌≢◌, ◌≤◌, ◌<◌, ◌-◌, ◌^◌, ◌↔◌, [], ◌∷◌, None, Some, codes, length, IfOk, OnOk, IfErr, IsErrOf, IsTrue};
+ghost use Rattle.std.specs.Prelude.{◌≡◌, ◌≢◌, ◌≤◌, ◌<◌, ◌-◌, ◌^◌, [], ◌∷◌, None, Some, codes, length, IfOk, OnOk, IfErr, IsErrOf};
 ghost use Rattle.sd_outside.specs.Causes.{Rose};
 ghost use Rattle.claim_tree.specs.Tree.{depth as depth_of};
 ghost use Rattle.claim_tree.specs.View.{tree_of};
@@ -25,7 +25,7 @@ ghost use Rattle.holder_core.specs.declared.errors.PresentError.{PresentError};
 use crate::whole::whole_parts;
 use crate::{Ask, BindingAsk, PresentError};
 use claim_tree::{Path, PathList, Tree};
-use compact_form::{COMPACT_MAX, Parts, Pieces, View, hashed_text, print};
+use compact_form::{COMPACT_MAX, Parts, Pieces, View, hashed_text, is_longer_than};
 use digest_index::Steps;
 use disclosure::HashAlg;
 use hmac_sign::{KeySet, Signer};
@@ -204,7 +204,7 @@ fn finish<S: Signer>(
         Ok(parts) => parts,
         Err(error) => return Err(error),
     };
-    if is_too_long(alloc, &parts)? {
+    if is_longer_than(&parts, COMPACT_MAX) {
         return Err(PresentError::TooLong);
     }
     Ok(parts)
@@ -374,12 +374,4 @@ fn bound_parts<S: Signer>(
         Err(BindError::Memory) => Err(PresentError::Memory),
         Err(BindError::SignFailed) => Err(PresentError::SignFailed),
     }
-}
-
-fn is_too_long(alloc: Global, parts: &Parts) -> Result<bool, NoMemory>
-    requires { AreWords parts.now }
-    ensures { IfOk result (λ answer. IsTrue answer ↔ (compact_max < length (compact_text parts.now))) }
-{
-    let text = print(alloc, parts)?;
-    Ok(text.as_str().len() > COMPACT_MAX)
 }

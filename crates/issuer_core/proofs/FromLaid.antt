@@ -224,11 +224,11 @@ module _ (seed : List ℕ) (o : Order) (body : Tree) (texts digests : List Text)
   module _ (good : Meaning) (parts : Parts) (signed : AreSigned (header_of o) good body texts parts) where
     written : IsWritten (maker_of seed) o good laid.laid laid.given parts
     written = record {
-      protected = signed.protected;
-      body = subst (λ t. parts.signed.payload ≡ b64 (json_text t)) laid.payload_is signed.payload;
-      signature = signed.signature;
-      signature_text = signed.signature_text;
-      signed = signed.signed;
+      protected = signed.jwt.protected;
+      body = subst (λ t. parts.signed.payload ≡ b64 (json_text t)) laid.payload_is signed.jwt.payload;
+      signature = signed.jwt.signature;
+      signature_text = signed.jwt.signature_text;
+      signed = signed.jwt.signed;
       disclosures = signed.disclosures ∙ laid.texts_are;
       unbound = signed.unbound;
     }
@@ -296,9 +296,9 @@ laid_words seed o body texts digests laid = subst (λ (ds : List Text). AllByRec
 pub words : (header : Header) (good : Meaning) (body : Tree) (texts : List Text) (parts : Parts) → IsObject body → AllByRecursion IsWord texts → AreSigned header good body texts parts → AreWords parts
 words header good body texts parts is_object are_words signed = record {
   signed = record {
-    protected = subst IsWord (sym signed.protected) (object_word (object (header_members header)) tt);
-    payload = subst IsWord (sym signed.payload) (object_word body is_object);
-    signature = subst IsWord (sym signed.signature_text) (IsWord-b64 signed.signature signed.some);
+    protected = subst IsWord (sym signed.jwt.protected) (object_word (object (header_members header)) tt);
+    payload = subst IsWord (sym signed.jwt.payload) (object_word body is_object);
+    signature = subst IsWord (sym signed.jwt.signature_text) (IsWord-b64 signed.jwt.signature signed.jwt.some);
   };
   disclosures = subst (λ (ds : List Text). AllByRecursion IsWord ds) (sym signed.disclosures) are_words;
   binding = subst (λ b. IfSome b HasWords) (sym signed.unbound) tt;

@@ -1,5 +1,5 @@
 -- An order that is laid with the salts of a seed.
-use Rattle.std.proofs.Common.{◌≡◌, ℕ, zero, suc, ◌+◌, ◌<◌, ◌≤◌, List, [], ◌∷◌, ◌++◌, length, map, drop, Option, Some, refl, sym, ap, ap₂, ◌∙◌, arith}
+use Rattle.std.proofs.Common.{◌≡◌, ℕ, zero, suc, ◌+◌, ◌<◌, ◌≤◌, List, [], ◌∷◌, ◌++◌, length, map, drop, Option, Some, refl, sym, ap, ap₂, subst, ◌∙◌, arith}
 use Rattle.std.specs.List.{slice_get}
 use Rattle.std.proofs.lemmas.List.{length-append, length-map, length-drop}
 use Rattle.claim_tree.specs.Tree.{Text, Tree, leaf, text}
@@ -10,10 +10,10 @@ use Rattle.marked_tree.specs.Places.{Path}
 use Rattle.issuer_core.specs.Order.{Order}
 use Rattle.issuer_core.specs.Decoys.{decoys_of}
 use Rattle.issuer_core.specs.Digests.{hidden_of, marked_of, made_texts}
-use Rattle.issuer_core.specs.Laid.{lay, laid_items, with_alg, order_decoys}
+use Rattle.issuer_core.specs.Laid.{lay, laid_items, order_decoys}
 use Rattle.issuer_core.specs.Salts.{salt_of}
 use Rattle.issuer_core.specs.Seed.{maker_of}
-use Rattle.issuer_core.specs.Laying.{nth, digest, digest_at, salted, placed, IsLaidFor}
+use Rattle.issuer_core.specs.Laying.{nth, digest, digest_at, salted, placed, IsLaidWith, IsLaidFor}
 use Rattle.issuer_core.proofs.LayingSteps.{Made, nth_got, made_length}
 use Rattle.issuer_core.proofs.SortedEntries.{placed_numbered}
 
@@ -55,13 +55,10 @@ digests_at [] (u ∷ us) (suc k) d a = digests_at [] us k d a
 digests_at (t ∷ ts) us zero d a = a
 digests_at (t ∷ ts) us (suc k) d a = digests_at ts us k d a
 
-module _ (seed : List ℕ) (o : Order) (salts texts : List Text) (p : Tree)
+module _ (seed : List ℕ) (o : Order) (salts texts digests : List Text) (body : Tree)
     (many : length salts ≡ hidden_of o + length (decoys_of o))
     (each : (k : ℕ) → k < length salts → Some (salt_of seed k) ≡ slice_get salts k)
-    (count : length texts ≡ hidden_of o)
-    (laid : (dec : Path → List Text) → ((q : Path) → placed (decoys_of o) (map digest (drop (hidden_of o) salts)) q ≡ dec q) → (more : List Text) → p ≡ lay dec (digest_at (texts ++ more)) (marked_of o))
-    (made : (dec : Path → List Text) → ((q : Path) → placed (decoys_of o) (map digest (drop (hidden_of o) salts)) q ≡ dec q) → (more : List Text)
-    → texts ≡ made_texts (salted salts) 0 (laid_items dec (digest_at (texts ++ more)) (marked_of o)))
+    (h : IsLaidWith salts (hidden_of o) (decoys_of o) (marked_of o) body texts digests)
   where
     abbrev pieces : List Text
     pieces = drop (hidden_of o) salts
@@ -76,7 +73,7 @@ module _ (seed : List ℕ) (o : Order) (salts texts : List Text) (p : Tree)
     pieces_many = let d = length-drop (hidden_of o) salts in omega (arith, d, many)
 
     piece_at : (k : ℕ) → nth (texts ++ pieces) (hidden_of o + k) ≡ nth pieces k
-    piece_at k = ap (λ n. nth (texts ++ pieces) (n + k)) (sym count) ∙ nth_behind texts pieces k
+    piece_at k = ap (λ n. nth (texts ++ pieces) (n + k)) (sym h.count) ∙ nth_behind texts pieces k
 
     tells : (q : Path) → placed (decoys_of o) (map digest pieces) q ≡ order_decoys o dg q
     tells q =
@@ -88,7 +85,8 @@ module _ (seed : List ℕ) (o : Order) (salts texts : List Text) (p : Tree)
 
     texts_are : texts ≡ made_texts (maker_of seed).disclosure 0 given
     texts_are =
-        let first = made (order_decoys o dg) tells pieces in
+        let first = h.made (order_decoys o dg) tells pieces in
+        let count = h.count in
         let long : length given ≡ length texts = sym (ap length first ∙ made_length (salted salts) 0 given) in
         first ∙ made_same (salted salts) (maker_of seed).disclosure 0 (length salts) given (omega (arith, long, count, many)) (λ j l name value. ap (λ s. disclosure_text (leaf (text s)) name value) (salt_is j l))
 
@@ -99,19 +97,26 @@ module _ (seed : List ℕ) (o : Order) (salts texts : List Text) (p : Tree)
         let within : k < length texts = let long = ap length texts_are ∙ made_length (maker_of seed).disclosure 0 given in let low = there.0 in omega (arith, long, low) in
         ap digest (nth_before texts pieces k within ∙ (ap (λ ts. nth ts k) texts_are ∙ (there.1 ∙ ap (λ j. (maker_of seed).disclosure j x.name x.value) none)))
 
-    pub order_laid : IsLaidFor (maker_of seed) o (with_alg p) texts (map digest texts ++ map digest pieces)
+    pub order_laid : IsLaidFor (maker_of seed) o body texts digests
     order_laid = record {
-      laid = p;
+      laid = lay (order_decoys o dg) dg (marked_of o);
       given = given;
       dg = dg;
       is_laid = record {
-        payload_laid = laid (order_decoys o dg) tells pieces;
+        payload_laid = refl;
         given_laid = refl;
         disclosures = disclosed;
         decoys = λ d l. ap digest (piece_at d ∙ (nth_drop salts (hidden_of o) d ∙ salt_is (hidden_of o + d) (omega (arith, l, many))));
       };
-      payload_is = refl;
+      payload_is = h.laid (order_decoys o dg) tells pieces;
       texts_are = texts_are;
-      count = let a = length-append (map digest texts) (map digest pieces) in let b = length-map texts digest in let c = length-map pieces digest in let m = pieces_many in omega (arith, a, b, c, m, count);
-      each = digests_at texts pieces;
+      count =
+          let all = ap length h.digests_are in
+          let a = length-append (map digest texts) (map digest pieces) in
+          let b = length-map texts digest in
+          let c = length-map pieces digest in
+          let m = pieces_many in
+          let count = h.count in
+          omega (arith, all, a, b, c, m, count);
+      each = λ k d at. digests_at texts pieces k d (subst (λ (ds : List Text). At ds k d) h.digests_are at);
     }

@@ -7,6 +7,7 @@ use Rattle.claim_tree.specs.Lists.{Repeats, Nowhere}
 use Rattle.jws_part.specs.declared.header.Header.{Header}
 use Rattle.jws_part.specs.Header.{header_members}
 use Rattle.sd_outside.specs.Limits.{issue_max}
+use Rattle.compact_form.specs.declared.parts.JwtParts.{JwtParts}
 use Rattle.compact_form.specs.declared.parts.Parts.{Parts}
 use Rattle.compact_form.specs.Compact.{compact, AreWords}
 use Rattle.hmac_sign.specs.Signatures.{Meaning}
@@ -71,14 +72,18 @@ abbrev pub unsigned : SignError → IssueError
 unsigned SignError.Memory = Memory
 unsigned SignError.Failed = SignFailed
 
--- for private functions: the parts are written with this header, this payload and these disclosures, and signed
-pub record AreSigned (header : Header) (good : Meaning) (body : Tree) (texts : List Text) (parts : Parts) : Type 0 where
-  pub protected : parts.signed.protected ≡ b64 (json_text (object (header_members header)))
-  pub payload : parts.signed.payload ≡ b64 (json_text body)
+-- for private functions: the JWT is written with this header and this payload, and signed
+pub record IsSigned (header : Header) (good : Meaning) (body : Tree) (jwt : JwtParts) : Type 0 where
+  pub protected : jwt.protected ≡ b64 (json_text (object (header_members header)))
+  pub payload : jwt.payload ≡ b64 (json_text body)
   pub signature : List ℕ
-  pub signature_text : parts.signed.signature ≡ b64 signature
+  pub signature_text : jwt.signature ≡ b64 signature
   pub some : 0 < length signature
-  pub signed : good parts.signed.protected parts.signed.payload signature
+  pub signed : good jwt.protected jwt.payload signature
+
+-- for private functions: the parts are such a JWT and these disclosures
+pub record AreSigned (header : Header) (good : Meaning) (body : Tree) (texts : List Text) (parts : Parts) : Type 0 where
+  pub jwt : IsSigned header good body parts.signed
   pub disclosures : parts.disclosures ≡ texts
   pub unbound : parts.binding ≡ None
 

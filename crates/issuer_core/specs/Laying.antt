@@ -1,5 +1,5 @@
 -- For private functions: what the walk that hides has and makes.
-use Rattle.std.specs.Prelude.{◌≡◌, ℕ, zero, suc, ◌+◌, List, [], ◌∷◌, ◌++◌, length, map, Option, Some, None, if◌then◌else◌}
+use Rattle.std.specs.Prelude.{◌≡◌, ℕ, zero, suc, ◌+◌, List, [], ◌∷◌, ◌++◌, length, map, drop, Option, Some, None, if◌then◌else◌}
 use Rattle.claim_tree.specs.Tree.{Text, text, Tree, leaf, Elements, no_elements, element}
 use Rattle.claim_tree.specs.View.{tree_of}
 use Rattle.digest_sites.specs.Given.{Given}
@@ -13,7 +13,7 @@ use Rattle.claim_tree.specs.Lists.{At}
 use Rattle.issuer_core.specs.Order.{Order}
 use Rattle.issuer_core.specs.Decoys.{decoys_of}
 use Rattle.issuer_core.specs.Digests.{Maker, hidden_of, made_texts}
-use Rattle.issuer_core.specs.Laid.{lay, with_alg, IsLaid}
+use Rattle.issuer_core.specs.Laid.{lay, laid_items, with_alg, IsLaid}
 use Rattle.issuer_core.specs.declared.decoys.Decoys.{Decoys}
 use Rattle.issuer_core.specs.declared.laying.Part.{Part}
 
@@ -75,6 +75,15 @@ abbrev pub IsPart : (Path → List Text) → (ℕ → Text) → Option ℕ → M
 IsPart dec dg None m (Part.Shown t) = tree_of t ≡ lay dec dg m
 IsPart dec dg (Some k) m (Part.Hidden d) = d ≡ dg k
 IsPart dec dg k m part = ⊥
+
+-- ---- marked claims
+
+-- laid with salts, of which the first `hidden` are those of the disclosures, and the others those of decoys with these places
+pub record IsLaidWith (salts : List Text) (hidden : ℕ) (decoys : List Path) (m : Marked) (payload : Tree) (texts digests : List Text) : Type 0 where
+  pub laid : (dec : Path → List Text) → ((at : Path) → placed decoys (map digest (drop hidden salts)) at ≡ dec at) → (more : List Text) → payload ≡ with_alg (lay dec (digest_at (texts ++ more)) m)
+  pub made : (dec : Path → List Text) → ((at : Path) → placed decoys (map digest (drop hidden salts)) at ≡ dec at) → (more : List Text) → texts ≡ made_texts (salted salts) 0 (laid_items dec (digest_at (texts ++ more)) m)
+  pub count : length texts ≡ hidden
+  pub digests_are : digests ≡ map digest texts ++ map digest (drop hidden salts)
 
 -- ---- an order
 

@@ -1,5 +1,5 @@
 // The call that issues.
-ghost use Rattle.std.specs.Prelude.{◌≡◌, ◌≤◌, ◌<◌, ◌↔◌, length, IfOk, OnOk, IfErr, IsErrOf, IsTrue};
+ghost use Rattle.std.specs.Prelude.{◌≡◌, ◌≤◌, ◌<◌, ◌⊎◌, length, IfOk, OnOk, IfErr, IsErrOf};
 ghost use Rattle.std.specs.List.{AllByRecursion};
 ghost use Rattle.sd_outside.specs.Causes.{Rose};
 ghost use Rattle.claim_tree.specs.Tree.{depth as depth_of, IsRanged};
@@ -14,20 +14,22 @@ ghost use Rattle.issuer_core.specs.Written.{IsIssued, IsLaidOut};
 ghost use Rattle.b64url_text.specs.Base64url.{IsWord};
 ghost use Rattle.issuer_core.specs.Written.{header_of};
 ghost use Rattle.issuer_core.specs.GoodOrder.{IsObject, IsWritable};
-ghost use Rattle.issuer_core.specs.Issue.{IsNotIssued, HasNoClash, AreSigned, IsUnsigned, HasClash, IsFinished, IsUnfinished};
+ghost use Rattle.issuer_core.specs.Issue.{IsNotIssued, HasNoClash, IsSigned, IsUnsigned, HasClash, IsFinished, IsUnfinished};
 ghost use Rattle.issuer_core.specs.Refusals.{Refuses, NoneApplies};
 ghost use Rattle.claim_tree.specs.Lists.{Repeats, Nowhere};
 
-use crate::laying::{Laid, lay_order, lay_owned};
+use crate::laying::{Laid, lay_order};
+use crate::order::copy_of;
 use crate::{IssueError, Order, first_clash, judge};
 use b64url_text::encode;
-use compact_form::{ISSUE_MAX, JwtParts, Parts, print};
+use claim_tree::Tree;
+use compact_form::{ISSUE_MAX, JwtParts, Parts, is_longer_than};
 use hmac_sign::{SignError, Signer};
 use jws_part::{Header, write_body, write_header};
 use sd_outside::{NoMemory, TextBox, TextList};
 use std::alloc::Global;
 
-/// Issues a token for an order: the compact parts of an SD-JWT, RFC 9901 section 4, without a key binding token.
+/// Issues a token for a copy of an order: the compact parts of an SD-JWT, RFC 9901 section 4, without a key binding token.
 ///
 /// The seed makes the salts, so that one order and one seed make one token. The signer is asked once, when all else is there.
 pub fn issue<S: Signer>(
@@ -54,15 +56,11 @@ pub fn issue<S: Signer>(
     ensures same_alg { S.alg_of signer.new ≡ S.alg_of signer.old }
     ensures later { S.faults signer.old ≤ S.faults signer.new }
 {
-    if let Err(error) = judge(alloc, order) {
-        return Err(error);
-    }
-    let header = order_header(alloc, order)?;
-    let laid = lay_order(alloc, order, seed)?;
-    issue_laid(alloc, header, laid, signer)
+    let order = order.copy(alloc)?;
+    issue_owned(alloc, order, seed, signer)
 }
 
-/// The same of an order that is given away: where it hides nothing and has no decoys, its payload is moved and not copied.
+/// The same of an order that is given away: it is not copied, and where it hides nothing and has no decoys, its payload is moved.
 pub fn issue_owned<S: Signer>(
     alloc: Global,
     order: Order,
@@ -91,8 +89,8 @@ pub fn issue_owned<S: Signer>(
         return Err(error);
     }
     let header = order_header(alloc, &order)?;
-    let laid = lay_owned(alloc, order, seed)?;
-    issue_laid(alloc, header, laid, signer)
+    let laid = lay_order(alloc, order, seed)?;
+    issue_laid(alloc, &header, laid, signer)
 }
 
 fn order_header(alloc: Global, order: &Order) -> Result<Header, NoMemory>
@@ -105,27 +103,45 @@ fn order_header(alloc: Global, order: &Order) -> Result<Header, NoMemory>
     })
 }
 
-fn copy_of(alloc: Global, text: &Option<TextBox>) -> Result<Option<TextBox>, NoMemory>
-    ensures { IfOk result (λ copy. copy ≡ text.now) }
-{
-    match text {
-        Some(text) => Ok(Some(TextBox::make(alloc, text.as_str())?)),
-        None => Ok(None),
-    }
-}
-
 // Issues what is laid, unless digests clash or the token is too long.
 fn issue_laid<S: Signer>(
     alloc: Global,
-    header: Header,
+    header: &Header,
     laid: Laid,
     signer: &mut S,
 ) -> Result<Parts, IssueError>
     requires ranged { IsRanged (tree_of laid.payload) }
     requires object { IsObject (tree_of laid.payload) }
     requires words { AllByRecursion IsWord laid.texts }
-    ensures finished { IfOk result (IsFinished header (S.good signer.old) (tree_of laid.payload) laid.texts laid.digests) }
-    ensures unfinished { IfErr result (IsUnfinished header (S.good signer.old) (tree_of laid.payload) laid.texts laid.digests) }
+    ensures finished { IfOk result (IsFinished header.now (S.good signer.old) (tree_of laid.payload) laid.texts laid.digests) }
+    ensures unfinished { IfErr result (IsUnfinished header.now (S.good signer.old) (tree_of laid.payload) laid.texts laid.digests) }
+    ensures failed { IsErrOf result IssueError.SignFailed → Rose (S.faults signer.old) (S.faults signer.new) }
+    ensures same_good { Agree (S.good signer.new) (S.good signer.old) }
+    ensures same_alg { S.alg_of signer.new ≡ S.alg_of signer.old }
+    ensures later { S.faults signer.old ≤ S.faults signer.new }
+{
+    let signed = match sign_laid(alloc, header, &laid, signer) {
+        Ok(signed) => signed,
+        Err(error) => return Err(error),
+    };
+    within_limit(Parts {
+        signed,
+        disclosures: laid.texts,
+        binding: None,
+    })
+}
+
+// Signs what is laid, unless digests clash.
+fn sign_laid<S: Signer>(
+    alloc: Global,
+    header: &Header,
+    laid: &Laid,
+    signer: &mut S,
+) -> Result<JwtParts, IssueError>
+    requires ranged { IsRanged (tree_of laid.now.payload) }
+    ensures signed { IfOk result (IsSigned header.now (S.good signer.old) (tree_of laid.now.payload)) }
+    ensures differ { OnOk result (Nowhere (Repeats laid.now.digests)) }
+    ensures unsigned { IfErr result (λ e. HasClash laid.now.digests e ⊎ (Nowhere (Repeats laid.now.digests) × IsUnsigned e)) }
     ensures failed { IsErrOf result IssueError.SignFailed → Rose (S.faults signer.old) (S.faults signer.new) }
     ensures same_good { Agree (S.good signer.new) (S.good signer.old) }
     ensures same_alg { S.alg_of signer.new ≡ S.alg_of signer.old }
@@ -134,14 +150,7 @@ fn issue_laid<S: Signer>(
     if let Err(error) = judge_digests(alloc, &laid.digests) {
         return Err(error);
     }
-    let parts = match sign_laid(alloc, &header, laid, signer) {
-        Ok(parts) => parts,
-        Err(error) => return Err(error),
-    };
-    if is_too_long(alloc, &parts)? {
-        return Err(IssueError::TooLong);
-    }
-    Ok(parts)
+    sign_body(alloc, header, &laid.payload, signer)
 }
 
 // 60.
@@ -156,23 +165,14 @@ fn judge_digests(alloc: Global, digests: &TextList) -> Result<(), IssueError>
     }
 }
 
-// 61.
-fn is_too_long(alloc: Global, parts: &Parts) -> Result<bool, NoMemory>
-    requires { AreWords parts.now }
-    ensures { IfOk result (λ answer. IsTrue answer ↔ (issue_max < length (compact parts.now))) }
-{
-    let text = print(alloc, parts)?;
-    Ok(text.as_str().len() > ISSUE_MAX)
-}
-
-fn sign_laid<S: Signer>(
+fn sign_body<S: Signer>(
     alloc: Global,
     header: &Header,
-    laid: Laid,
+    body: &Tree,
     signer: &mut S,
-) -> Result<Parts, IssueError>
-    requires ranged { IsRanged (tree_of laid.payload) }
-    ensures signed { IfOk result (AreSigned header.now (S.good signer.old) (tree_of laid.payload) laid.texts) }
+) -> Result<JwtParts, IssueError>
+    requires ranged { IsRanged (tree_of body.now) }
+    ensures signed { IfOk result (IsSigned header.now (S.good signer.old) (tree_of body.now)) }
     ensures unsigned { IfErr result (IsUnsigned) }
     ensures failed { IsErrOf result IssueError.SignFailed → Rose (S.faults signer.old) (S.faults signer.new) }
     ensures same_good { Agree (S.good signer.new) (S.good signer.old) }
@@ -180,16 +180,23 @@ fn sign_laid<S: Signer>(
     ensures later { S.faults signer.old ≤ S.faults signer.new }
 {
     let protected = write_header(alloc, header)?;
-    let payload = write_body(alloc, &laid.payload)?;
+    let payload = write_body(alloc, body)?;
     let signature = signer.sign(alloc, protected.as_str(), payload.as_str())?;
     let signature = encode(alloc, signature.bytes())?;
-    Ok(Parts {
-        signed: JwtParts {
-            protected,
-            payload,
-            signature,
-        },
-        disclosures: laid.texts,
-        binding: None,
+    Ok(JwtParts {
+        protected,
+        payload,
+        signature,
     })
+}
+
+// 61.
+fn within_limit(parts: Parts) -> Result<Parts, IssueError>
+    ensures short { IfOk result (λ same. (same ≡ parts) × (length (compact parts) ≤ issue_max)) }
+    ensures long { IfErr result (λ error. (error ≡ IssueError.TooLong) × (issue_max < length (compact parts))) }
+{
+    if is_longer_than(&parts, ISSUE_MAX) {
+        return Err(IssueError::TooLong);
+    }
+    Ok(parts)
 }

@@ -4,6 +4,7 @@ ghost use Rattle.std.specs.Set.{distinct_count};
 ghost use Rattle.sd_outside.specs.Limits.{count_max, depth_max};
 ghost use Rattle.claim_tree.specs.Tree.{Text, IsRanged, leaf, text as text_leaf, depth, elements_depth, members_depth, ElementsRanged, MembersRanged};
 ghost use Rattle.claim_tree.specs.View.{tree_of};
+ghost use Rattle.disclosure.specs.Disclosure.{disclosure_text};
 ghost use Rattle.marked_tree.specs.Marked.{strip, strip_elements, strip_members, weight, elements_weight, members_weight, mark_weight};
 ghost use Rattle.marked_tree.specs.Places.{Path as Steps, same_path};
 ghost use Rattle.marked_tree.specs.View.{marked_of};
@@ -13,7 +14,7 @@ ghost use Rattle.issuer_core.specs.Seed.{maker_of};
 ghost use Rattle.issuer_core.specs.Laid as spec;
 ghost use Rattle.issuer_core.specs.Laid.{sorted, texts_array, with_sd, digest_elements, hidden_digests, laid_items, laid_elements, laid_members, own_item, lay_elements, lay_members};
 ghost use Rattle.issuer_core.specs.Digests.{made_texts};
-ghost use Rattle.issuer_core.specs.Laying.{digest as digest_by, digest_at, salted, elements_joined, placed_at, ArePlaced, Tells, IsPart, IsLaidFor};
+ghost use Rattle.issuer_core.specs.Laying.{digest as digest_by, digest_at, salted, elements_joined, placed_at, ArePlaced, Tells, IsPart, IsLaidWith, IsLaidFor};
 ghost use Rattle.issuer_core.specs.Closing.{one, IsNumbered, ClosesFrom, ElementsClose, MembersClose};
 
 use crate::decoys::{Decoys, sort_decoys};
@@ -82,12 +83,27 @@ impl Layer {
         let Some(salt) = salts.at(self.texts.len()) else {
             unreachable!();
         };
-        let disclosure = make_owned(alloc, salt.as_str(), name, value)?;
-        let digest = disclosure.digest(alloc, HashAlg::Sha256)?;
-        self.texts.push(disclosure.text)?;
-        self.digests.push(TextBox::make(alloc, digest.as_str())?)?;
-        Ok(digest)
+        let text = made_text(alloc, salt.as_str(), name, value)?;
+        let made = digest(alloc, HashAlg::Sha256, text.as_str())?;
+        self.texts.push(text)?;
+        self.digests.push(TextBox::make(alloc, made.as_str())?)?;
+        Ok(made)
     }
+}
+
+// The text of a disclosure.
+fn made_text(
+    alloc: Global,
+    salt: &str,
+    name: Option<&str>,
+    value: Tree,
+) -> Result<TextBox, NoMemory>
+    requires ranged { IsRanged (tree_of value) }
+    requires depth { depth (tree_of value) ≤ 126 }
+    ensures { IfOk result (λ text. text ≡ disclosure_text (leaf (text_leaf salt.now)) (option_map (λ n. n.now) name.entry) (tree_of value)) }
+{
+    let disclosure = make_owned(alloc, salt, name, value)?;
+    Ok(disclosure.text)
 }
 
 // What stands for a hidden element, section 4.2.4.2.
@@ -318,8 +334,8 @@ fn with_alg(alloc: Global, payload: Tree) -> Result<Tree, NoMemory>
     }
 }
 
-fn joined(alloc: Global, mut texts: TextList, others: &TextList) -> Result<TextList, NoMemory>
-    ensures { IfOk result (λ joined. joined ≡ texts ++ others.now) }
+fn push_texts(alloc: Global, texts: &mut TextList, others: &TextList) -> Result<(), NoMemory>
+    ensures { OnOk result (texts.new ≡ texts.old ++ others.now) }
 {
     for k in 0..others.len() {
         let Some(text) = others.at(k) else {
@@ -327,11 +343,46 @@ fn joined(alloc: Global, mut texts: TextList, others: &TextList) -> Result<TextL
         };
         texts.push(TextBox::make(alloc, text.as_str())?)?;
     }
-    Ok(texts)
+    Ok(())
 }
 
-// Lays an order, with the salts of a seed.
-pub(crate) fn lay_order(alloc: Global, order: &Order, seed: &[u8; 32]) -> Result<Laid, NoMemory>
+// Lays an order, with the salts of a seed. Where it hides nothing and has no decoys, its payload is moved.
+pub(crate) fn lay_order(alloc: Global, order: Order, seed: &[u8; 32]) -> Result<Laid, NoMemory>
+    requires shallow { depth (order_of order).claims ≤ depth_max }
+    requires ranged { IsRanged (order_of order).claims }
+    requires few { distinct_count same_path order.hide ≤ count_max }
+    requires decoys { length (places order.decoys) ≤ count_max }
+    ensures laid { IfOk result (λ laid. IsLaidFor (maker_of seed.now) (order_of order) (tree_of laid.payload) laid.texts laid.digests) }
+    ensures few { IfOk result (λ laid. length laid.texts ≤ count_max) }
+{
+    if hides_nothing(&order) {
+        return lay_shown(alloc, order.payload);
+    }
+    lay_hidden(alloc, &order, seed)
+}
+
+// Whether it hides nothing and has no decoys.
+fn hides_nothing(order: &Order) -> bool
+    ensures hide { IsTrue result → order.now.hide ≡ [] }
+    ensures decoys { IsTrue result → order.now.decoys ≡ [] }
+{
+    order.hide.paths().is_empty() && order.decoys.items().is_empty()
+}
+
+// A payload of which nothing is hidden.
+fn lay_shown(alloc: Global, payload: Tree) -> Result<Laid, NoMemory>
+    ensures { IfOk result (λ laid. (tree_of laid.payload ≡ spec.with_alg (tree_of payload)) × (laid.texts ≡ []) × (laid.digests ≡ [])) }
+{
+    let payload = with_alg(alloc, payload)?;
+    Ok(Laid {
+        payload,
+        texts: TextList::new(alloc),
+        digests: TextList::new(alloc),
+    })
+}
+
+// An order with what it hides and its decoys, by the salts of a seed.
+fn lay_hidden(alloc: Global, order: &Order, seed: &[u8; 32]) -> Result<Laid, NoMemory>
     requires shallow { depth (order_of order.now).claims ≤ depth_max }
     requires ranged { IsRanged (order_of order.now).claims }
     requires few { distinct_count same_path order.now.hide ≤ count_max }
@@ -342,44 +393,55 @@ pub(crate) fn lay_order(alloc: Global, order: &Order, seed: &[u8; 32]) -> Result
     let (claims, hidden) = mark_counted(alloc, &order.payload, &order.hide)?;
     let hidden = hidden as usize;
     let salts = salts_of(alloc, seed, hidden + count_decoys(&order.decoys))?;
-    let of_decoys = decoy_digests(alloc, &salts, hidden)?;
-    let decoys = sort_decoys(alloc, &order.decoys, &of_decoys)?;
+    lay_salted(alloc, claims, &order.decoys, &salts, hidden)
+}
+
+// Marked claims and decoys by salts: the first `hidden` are those of the disclosures.
+fn lay_salted(
+    alloc: Global,
+    claims: Marked,
+    decoys: &DecoyList,
+    salts: &TextList,
+    hidden: usize,
+) -> Result<Laid, NoMemory>
+    requires depth { depth (strip (marked_of claims)) ≤ 125 }
+    requires ranged { IsRanged (strip (marked_of claims)) }
+    requires closes { ClosesFrom 0 (marked_of claims) }
+    requires hidden { weight one (marked_of claims) ≡ hidden }
+    requires salts { length salts.now ≡ hidden + length (places decoys.now) }
+    ensures { IfOk result (λ laid. IsLaidWith salts.now hidden (places decoys.now) (marked_of claims) (tree_of laid.payload) laid.texts laid.digests) }
+{
+    let of_decoys = decoy_digests(alloc, salts, hidden)?;
+    let sorted = sort_decoys(alloc, decoys, &of_decoys)?;
+    let mut laid = lay_claims(alloc, claims, sorted.all(), salts)?;
+    push_texts(alloc, &mut laid.digests, &of_decoys)?;
+    Ok(laid)
+}
+
+// Marked claims with their decoys. Of the digests, those of the disclosures alone are answered.
+fn lay_claims(
+    alloc: Global,
+    claims: Marked,
+    decoys: Decoys<'_>,
+    salts: &TextList,
+) -> Result<Laid, NoMemory>
+    requires depth { decoys.depth + depth (strip (marked_of claims)) ≤ 125 }
+    requires ranged { IsRanged (strip (marked_of claims)) }
+    requires decoys { ArePlaced decoys }
+    requires closes { ClosesFrom 0 (marked_of claims) }
+    requires salts { weight one (marked_of claims) ≤ length salts.now }
+    ensures laid { IfOk result (λ laid. (dec : Steps → List Text) → Tells decoys.entry dec → (more : List Text) → tree_of laid.payload ≡ spec.with_alg (spec.lay dec (digest_at (laid.texts ++ more)) (marked_of claims))) }
+    ensures texts { IfOk result (λ laid. (dec : Steps → List Text) → Tells decoys.entry dec → (more : List Text) → laid.texts ≡ made_texts (salted salts.now) 0 (laid_items dec (digest_at (laid.texts ++ more)) (marked_of claims))) }
+    ensures count { IfOk result (λ laid. length laid.texts ≡ weight one (marked_of claims)) }
+    ensures digests { IfOk result (λ laid. laid.digests ≡ map digest_by laid.texts) }
+{
     let mut layer = Layer::new(alloc);
-    let payload = lay(alloc, claims, decoys.all(), &salts, &mut layer)?;
+    let payload = lay(alloc, claims, decoys, salts, &mut layer)?;
     let payload = with_alg(alloc, payload)?;
     let Layer { texts, digests } = layer;
-    let digests = joined(alloc, digests, &of_decoys)?;
     Ok(Laid {
         payload,
         texts,
         digests,
     })
-}
-
-// The same of an order that is given away: where it hides nothing and has no decoys, its payload is moved.
-pub(crate) fn lay_owned(alloc: Global, order: Order, seed: &[u8; 32]) -> Result<Laid, NoMemory>
-    requires shallow { depth (order_of order).claims ≤ depth_max }
-    requires ranged { IsRanged (order_of order).claims }
-    requires few { distinct_count same_path order.hide ≤ count_max }
-    requires decoys { length (places order.decoys) ≤ count_max }
-    ensures laid { IfOk result (λ laid. IsLaidFor (maker_of seed.now) (order_of order) (tree_of laid.payload) laid.texts laid.digests) }
-    ensures few { IfOk result (λ laid. length laid.texts ≤ count_max) }
-{
-    if !hides_nothing(&order) {
-        return lay_order(alloc, &order, seed);
-    }
-    let payload = with_alg(alloc, order.payload)?;
-    Ok(Laid {
-        payload,
-        texts: TextList::new(alloc),
-        digests: TextList::new(alloc),
-    })
-}
-
-// Whether it hides nothing and has no decoys.
-fn hides_nothing(order: &Order) -> bool
-    ensures hide { IsTrue result → order.now.hide ≡ [] }
-    ensures decoys { IsTrue result → order.now.decoys ≡ [] }
-{
-    order.hide.paths().is_empty() && order.decoys.items().is_empty()
 }

@@ -1,7 +1,10 @@
 // What an issuer is asked for.
-ghost use Rattle.std.specs.Prelude.{◌≡◌, [], ◌∷◌, ◌++◌, length, OnOk, OnErr, option_copied, slice_get};
+ghost use Rattle.std.specs.Prelude.{◌≡◌, ◌≤◌, [], ◌∷◌, ◌++◌, length, IfOk, OnOk, OnErr, option_copied, slice_get};
+ghost use Rattle.claim_tree.specs.Tree.{depth};
+ghost use Rattle.claim_tree.specs.View.{tree_of};
+ghost use Rattle.issuer_core.specs.Order.{order_of};
 
-use claim_tree::{Path, PathList, Tree};
+use claim_tree::{Path, PathList, Tree, copy};
 use sd_outside::{NoMemory, TextBox};
 use std::alloc::Global;
 use std::marker::Model;
@@ -72,6 +75,20 @@ impl DecoyList {
     {
         self.items().get(i)
     }
+
+    /// A copy of the entries.
+    pub fn copy(&self, alloc: Global) -> Result<DecoyList, NoMemory>
+        ensures { IfOk result (λ copy. copy ≡ self.now) }
+    {
+        let mut copy = DecoyList::new(alloc);
+        for entry in self.items() {
+            copy.push(Decoy {
+                at: entry.at.copy(alloc)?,
+                count: entry.count,
+            })?;
+        }
+        Ok(copy)
+    }
 }
 
 /// What an issuer is asked for: a payload, and what is hidden of it.
@@ -89,4 +106,44 @@ pub struct Order {
     pub kid: Option<TextBox>,
     /// The type, for the header (RFC 7515 section 4.1.9).
     pub typ: Option<TextBox>,
+}
+
+impl Order {
+    /// A copy of the order.
+    pub fn copy(&self, alloc: Global) -> Result<Order, NoMemory>
+        requires { depth (tree_of self.now.payload) ≤ 127 }
+        ensures { IfOk result (λ copy. order_of copy ≡ order_of self.now) }
+    {
+        let kid = copy_of(alloc, &self.kid)?;
+        let typ = copy_of(alloc, &self.typ)?;
+        let decoys = self.decoys.copy(alloc)?;
+        let hide = copies(alloc, &self.hide)?;
+        Ok(Order {
+            payload: copy(alloc, &self.payload)?,
+            hide,
+            decoys,
+            kid,
+            typ,
+        })
+    }
+}
+
+fn copies(alloc: Global, paths: &PathList) -> Result<PathList, NoMemory>
+    ensures { IfOk result (λ copies. copies ≡ paths.now) }
+{
+    let mut copies = PathList::new(alloc);
+    for path in paths.paths() {
+        copies.push(path.copy(alloc)?)?;
+    }
+    Ok(copies)
+}
+
+// The same text, or none.
+pub(crate) fn copy_of(alloc: Global, text: &Option<TextBox>) -> Result<Option<TextBox>, NoMemory>
+    ensures { IfOk result (λ copy. copy ≡ text.now) }
+{
+    match text {
+        Some(text) => Ok(Some(TextBox::make(alloc, text.as_str())?)),
+        None => Ok(None),
+    }
 }

@@ -1,71 +1,34 @@
-use Rattle.std.proofs.Common.{length, ap, arith}
-use Rattle.std.proofs.lemmas.Result.{IfOk-weaker, IfErr-weaker}
-use Rattle.std.specs.Set.{distinct_count}
-use Rattle.sd_outside.specs.Limits.{count_max}
-use Rattle.marked_tree.specs.Places.{same_path}
-use Rattle.claim_tree.specs.View.{tree_of}
-use Rattle.issuer_core.specs.Decoys.{places}
-use Rattle.issuer_core.specs.declared.errors.IssueError.TheVariants.{TooManyHidden, TooManyDecoys}
-use Rattle.issuer_core.specs.Order.{order_of}
-use Rattle.issuer_core.proofs.FromLaid.{finished_issued, finished_laid, unfinished_refused, no_clash, laid_words, body_object, body_ranged, not_more}
+use Rattle.std.proofs.Common.{sym, subst}
+use Rattle.std.specs.Prelude.{IfOk, IfErr, ◌≤◌}
+use Rattle.claim_tree.specs.Tree.{depth, IsRanged}
+use Rattle.issuer_core.specs.Order.{Order}
+use Rattle.issuer_core.specs.Seed.{maker_of}
+use Rattle.issuer_core.specs.Written.{IsIssued, IsLaidOut}
+use Rattle.issuer_core.specs.GoodOrder.{IsWritable}
+use Rattle.issuer_core.specs.Issue.{IsNotIssued, HasNoClash}
+use Rattle.issuer_core.specs.Refusals.{Refuses, NoneApplies}
 use Rattle.issuer_core.proofs.issuing.issue.Goals as goal
 
+pub issue_owned-requires-clause-depth : goal.issue_owned-requires-clause-depth
+issue_owned-requires-clause-depth g c = subst (λ (o : Order). depth o.claims ≤ 127) (sym c.in_ok-order.ensures) c.requires.depth
+
+pub issue_owned-requires-clause-ranged : goal.issue_owned-requires-clause-ranged
+issue_owned-requires-clause-ranged g c = subst (λ (o : Order). IsRanged o.claims) (sym c.in_ok-order.ensures) c.requires.ranged
+
 pub returns-clause-issued : goal.returns-clause-issued
-returns-clause-issued g c =
-    let l = c.in_ok-laid.laid in
-    IfOk-weaker c.issue_laid.result _ _
-    (finished_issued c.args.seed.now (order_of c.args.order.now) (tree_of l.payload) l.texts l.digests c.in_ok-laid.ensures.laid c.in_ok-header.header c.in_ok-header.ensures (g.S.Signatures.good c.args.signer.now) c.in_default.ensures.good c.requires.ranged c.in_default.ensures.held)
-    c.issue_laid.ensures.finished
+returns-clause-issued g c = subst (λ o. IfOk c.issue_owned.result (IsIssued (maker_of c.args.seed.now) o (g.S.Signatures.good c.args.signer.now))) c.in_ok-order.ensures c.issue_owned.ensures.issued
 
 pub returns-clause-laid : goal.returns-clause-laid
-returns-clause-laid g c =
-    let l = c.in_ok-laid.laid in
-    IfOk-weaker c.issue_laid.result _ _
-    (finished_laid c.args.seed.now (order_of c.args.order.now) (tree_of l.payload) l.texts l.digests c.in_ok-laid.ensures.laid c.in_ok-header.header c.in_ok-header.ensures (g.S.Signatures.good c.args.signer.now))
-    c.issue_laid.ensures.finished
+returns-clause-laid g c = subst (λ o. IfOk c.issue_owned.result (IsLaidOut (maker_of c.args.seed.now) o (g.S.Signatures.good c.args.signer.now))) c.in_ok-order.ensures c.issue_owned.ensures.laid
 
 pub returns-clause-passes : goal.returns-clause-passes
-returns-clause-passes g c = IfOk-weaker c.issue_laid.result _ _ (λ parts done. c.in_default.ensures.passes) c.issue_laid.ensures.finished
+returns-clause-passes g c = subst (λ o. IfOk c.issue_owned.result (λ _. NoneApplies (Refuses o))) c.in_ok-order.ensures c.issue_owned.ensures.passes
 
 pub returns-clause-writable : goal.returns-clause-writable
-returns-clause-writable g c =
-    let judged = c.in_default.ensures in
-    IfOk-weaker c.issue_laid.result _ _ (λ parts done. record { good = judged.good; held = judged.held; ranged = c.requires.ranged; kid = judged.kid; typ = judged.typ }) c.issue_laid.ensures.finished
+returns-clause-writable g c = subst (λ o. IfOk c.issue_owned.result (λ _. IsWritable o)) c.in_ok-order.ensures c.issue_owned.ensures.writable
 
 pub returns-clause-differ : goal.returns-clause-differ
-returns-clause-differ g c =
-    let l = c.in_ok-laid.laid in
-    IfOk-weaker c.issue_laid.result _ _ (λ parts done. no_clash c.args.seed.now (order_of c.args.order.now) (tree_of l.payload) l.texts l.digests c.in_ok-laid.ensures.laid done.differ) c.issue_laid.ensures.finished
-
-pub returns-clause-words : goal.returns-clause-words
-returns-clause-words g c = IfOk-weaker c.issue_laid.result _ _ (λ parts done. done.words) c.issue_laid.ensures.finished
-
-pub returns-clause-few : goal.returns-clause-few
-returns-clause-few g c = IfOk-weaker c.issue_laid.result _ _ (λ parts done. let few = c.in_ok-laid.ensures.few in omega (arith, few, ap length done.signed.disclosures)) c.issue_laid.ensures.finished
-
-pub returns-clause-short : goal.returns-clause-short
-returns-clause-short g c = IfOk-weaker c.issue_laid.result _ _ (λ parts done. done.short) c.issue_laid.ensures.finished
+returns-clause-differ g c = subst (λ o. IfOk c.issue_owned.result (λ _. HasNoClash (maker_of c.args.seed.now) o)) c.in_ok-order.ensures c.issue_owned.ensures.differ
 
 pub returns-clause-refused : goal.returns-clause-refused
-returns-clause-refused g c =
-    let l = c.in_ok-laid.laid in
-    IfErr-weaker c.issue_laid.result _ _
-    (unfinished_refused c.args.seed.now (order_of c.args.order.now) (tree_of l.payload) l.texts l.digests c.in_ok-laid.ensures.laid c.in_ok-header.header c.in_ok-header.ensures (g.S.Signatures.good c.args.signer.now) c.in_default.ensures.passes)
-    c.issue_laid.ensures.unfinished
-
-pub lay_order-requires-clause-few : goal.lay_order-requires-clause-few
-lay_order-requires-clause-few g c = not_more count_max (distinct_count same_path c.args.order.now.hide) (c.in_default.ensures.passes TooManyHidden)
-
-pub lay_order-requires-clause-decoys : goal.lay_order-requires-clause-decoys
-lay_order-requires-clause-decoys g c = not_more count_max (length (places c.args.order.now.decoys)) (c.in_default.ensures.passes TooManyDecoys)
-
-pub issue_laid-requires : goal.issue_laid-requires
-issue_laid-requires g c =
-    let o = order_of c.args.order.now in
-    let l = c.in_ok-laid.laid in
-    let t = tree_of l.payload in
-    record {
-      ranged = body_ranged c.args.seed.now o t l.texts l.digests c.in_ok-laid.ensures.laid c.requires.ranged;
-      object = body_object c.args.seed.now o t l.texts l.digests c.in_default.ensures.good c.in_ok-laid.ensures.laid;
-      words = laid_words c.args.seed.now o t l.texts l.digests c.in_ok-laid.ensures.laid;
-    }
+returns-clause-refused g c = subst (λ o. IfErr c.issue_owned.result (IsNotIssued (maker_of c.args.seed.now) o (g.S.Signatures.good c.args.signer.now))) c.in_ok-order.ensures c.issue_owned.ensures.refused

@@ -1,18 +1,33 @@
-use Rattle.std.proofs.Common.{length}
+use Rattle.std.proofs.Common.{None, inl, inr, ⊎_elim, refl, sym, subst}
+use Rattle.std.proofs.lemmas.Result.{IfOk-weaker, IfErr-weaker}
 use Rattle.claim_tree.specs.View.{tree_of}
-use Rattle.sd_outside.specs.Limits.{issue_max}
-use Rattle.compact_form.specs.Compact.{compact}
-use Rattle.issuer_core.proofs.FromLaid.{words, not_more}
+use Rattle.compact_form.specs.declared.parts.Parts.{Parts}
+use Rattle.issuer_core.specs.Issue.{AreSigned, IsFinished}
+use Rattle.issuer_core.proofs.FromLaid.{words}
 use Rattle.issuer_core.proofs.issuing.issue_laid.Goals as goal
 
-pub is_too_long-requires : goal.is_too_long-requires
-is_too_long-requires g c =
-    words c.args.header (g.S.Signatures.good c.args.signer.now) (tree_of c.args.laid.payload) c.args.laid.texts c.in-Ok.parts c.requires.object c.requires.words c.in-Ok.ensures.signed
+pub returns-in-Err-clause-unfinished : goal.returns-in-Err-clause-unfinished
+returns-in-Err-clause-unfinished g c = ⊎_elim inl (λ u. inr (inl u)) c.in-Err.ensures.unsigned
 
 pub returns-clause-finished : goal.returns-clause-finished
-returns-clause-finished g c = record {
-  signed = c.in-Ok.ensures.signed;
-  differ = c.in_default.ensures.differ;
-  words = words c.args.header (g.S.Signatures.good c.args.signer.now) (tree_of c.args.laid.payload) c.args.laid.texts c.in-Ok.parts c.requires.object c.requires.words c.in-Ok.ensures.signed;
-  short = not_more issue_max (length (compact c.in-Ok.parts)) (λ over. let yes = c.in_ok-is_too_long.ensures.1 over in let no = c.if-branch.false in cc);
-}
+returns-clause-finished g c =
+    let header = c.args.header.now in
+    let good = g.S.Signatures.good c.args.signer.now in
+    let body = tree_of c.args.laid.payload in
+    let texts = c.args.laid.texts in
+    let parts : Parts = record { signed = c.in-Ok.signed; disclosures = texts; binding = None } in
+    let signed : AreSigned header good body texts parts = record { jwt = c.in-Ok.ensures.signed; disclosures = refl; unbound = refl } in
+    IfOk-weaker c.within_limit.result _ _
+    (λ same h. subst (IsFinished header good body texts c.args.laid.digests) (sym h.0)
+    (record { signed = signed; differ = c.in-Ok.ensures.differ; words = words header good body texts parts c.requires.object c.requires.words signed; short = h.1 }))
+    c.within_limit.ensures.short
+
+pub returns-clause-unfinished : goal.returns-clause-unfinished
+returns-clause-unfinished g c =
+    let header = c.args.header.now in
+    let good = g.S.Signatures.good c.args.signer.now in
+    let body = tree_of c.args.laid.payload in
+    let texts = c.args.laid.texts in
+    let parts : Parts = record { signed = c.in-Ok.signed; disclosures = texts; binding = None } in
+    let signed : AreSigned header good body texts parts = record { jwt = c.in-Ok.ensures.signed; disclosures = refl; unbound = refl } in
+    IfErr-weaker c.within_limit.result _ _ (λ e h. inr (inr (record { is = h.0; parts = parts; signed = signed; differ = c.in-Ok.ensures.differ; long = h.1 }))) c.within_limit.ensures.long

@@ -57,11 +57,11 @@ returns-clause-refused g c =
     (unfinished_refused c.args.seed.now (order_of c.args.order) (tree_of l.payload) l.texts l.digests c.in_ok-laid.ensures.laid c.in_ok-header.header c.in_ok-header.ensures (g.S.Signatures.good c.args.signer.now) c.in_default.ensures.passes)
     c.issue_laid.ensures.unfinished
 
-pub lay_owned-requires-clause-few : goal.lay_owned-requires-clause-few
-lay_owned-requires-clause-few g c = not_more count_max (distinct_count same_path c.args.order.hide) (c.in_default.ensures.passes TooManyHidden)
+pub lay_order-requires-clause-few : goal.lay_order-requires-clause-few
+lay_order-requires-clause-few g c = not_more count_max (distinct_count same_path c.args.order.hide) (c.in_default.ensures.passes TooManyHidden)
 
-pub lay_owned-requires-clause-decoys : goal.lay_owned-requires-clause-decoys
-lay_owned-requires-clause-decoys g c = not_more count_max (length (places c.args.order.decoys)) (c.in_default.ensures.passes TooManyDecoys)
+pub lay_order-requires-clause-decoys : goal.lay_order-requires-clause-decoys
+lay_order-requires-clause-decoys g c = not_more count_max (length (places c.args.order.decoys)) (c.in_default.ensures.passes TooManyDecoys)
 
 pub issue_laid-requires : goal.issue_laid-requires
 issue_laid-requires g c =

@@ -1,24 +1,26 @@
-use Rattle.std.proofs.Common.{◌≡◌, ◌∷◌, [], ◌++◌, length, sym, ap, ◌∙◌, option_map}
-use Rattle.claim_tree.specs.Tree.{Text, leaf, text}
+use Rattle.std.proofs.Common.{◌≡◌, ℕ, ◌∷◌, [], ◌++◌, List, Option, Some, length, sym, ap, ◌∙◌, option_map}
+use Rattle.std.specs.List.{slice_get}
+use Rattle.claim_tree.specs.Tree.{Text, Tree, leaf, text}
 use Rattle.claim_tree.specs.View.{tree_of}
 use Rattle.disclosure.specs.Disclosure.{disclosure_text}
 use Rattle.issuer_core.specs.Laying.{nth, digest, salted}
 use Rattle.issuer_core.proofs.LayingSteps.{nth_got}
 use Rattle.issuer_core.proofs.laying.Layer.disclose.Goals as goal
 
-pub made : (c : goal.Joined-disclosure-15) → c.in_ok-disclosure.disclosure.text ≡ salted c.args.salts.now (length c.args.self.now.texts) (option_map (λ n. n.now) c.args.name) (tree_of c.args.value)
-made c =
-    let e = c.in_ok-disclosure.ensures in
-    let name = option_map (λ n. n.now) c.args.name in
-    let got : nth c.args.salts.now c.len.result ≡ c.in-Some.salt.now = nth_got c.args.salts.now c.len.result c.in-Some.salt.now c.in-Some.ensures in
-    let salt : c.as_str.result.now ≡ nth c.args.salts.now (length c.args.self.now.texts) = c.as_str.ensures ∙ (sym got ∙ ap (nth c.args.salts.now) c.len.ensures) in
-    e.text
-    ∙ (ap (λ t. disclosure_text t c.in_ok-disclosure.disclosure.name (tree_of c.in_ok-disclosure.disclosure.value)) (e.salt ∙ ap (λ s. leaf (text s)) salt)
-    ∙ (ap (λ n. disclosure_text (leaf (text (nth c.args.salts.now (length c.args.self.now.texts)))) n (tree_of c.in_ok-disclosure.disclosure.value)) e.name
-    ∙ ap (λ v. disclosure_text (leaf (text (nth c.args.salts.now (length c.args.self.now.texts)))) name v) e.value))
+by_salt : (salts texts : List Text) (k : ℕ) (salt got made : Text) (name : Option Text) (value : Tree) → k ≡ length texts → Some got ≡ slice_get salts k → salt ≡ got
+    → made ≡ disclosure_text (leaf (text salt)) name value → made ≡ salted salts (length texts) name value
+by_salt salts texts k salt got made name value long there same is =
+    let found : nth salts k ≡ got = nth_got salts k got there in
+    is ∙ ap (λ s. disclosure_text (leaf (text s)) name value) (same ∙ (sym found ∙ ap (nth salts) long))
 
 pub returns-clause-text : goal.returns-clause-text
-returns-clause-text c = c.in_ok-push.ensures.ok ∙ ap (λ (t : Text). c.args.self.now.texts ++ t ∷ []) (made c)
+returns-clause-text c =
+    let made = by_salt c.args.salts.now c.args.self.now.texts c.len.result c.as_str.result.now c.in-Some.salt.now c.in_ok-text.text (option_map (λ n. n.now) c.args.name) (tree_of c.args.value)
+    c.len.ensures c.in-Some.ensures c.as_str.ensures c.in_ok-text.ensures in
+    c.in_ok-push.ensures.ok ∙ ap (λ (t : Text). c.args.self.now.texts ++ t ∷ []) made
 
 pub returns-clause-digest : goal.returns-clause-digest
-returns-clause-digest c = c.in_ok-digest.ensures ∙ ap digest (made c)
+returns-clause-digest c =
+    let made = by_salt c.args.salts.now c.args.self.now.texts c.len.result c.as_str.result.now c.in-Some.salt.now c.in_ok-text.text (option_map (λ n. n.now) c.args.name) (tree_of c.args.value)
+    c.len.ensures c.in-Some.ensures c.as_str.ensures c.in_ok-text.ensures in
+    c.in_ok-made.ensures ∙ ap digest (c.as_str-2.ensures ∙ made)

@@ -1,6 +1,6 @@
 use Rattle.std.proofs.Common.{◌+◌, ◌∷◌, [], ◌++◌, drop, ap, ◌∙◌}
 use Rattle.issuer_core.proofs.LayingSteps.{got_further}
-use Rattle.issuer_core.proofs.laying.joined.Goals as goal
+use Rattle.issuer_core.proofs.laying.push_texts.Goals as goal
 
 pub loop-k-preserved : goal.loop-k-preserved
 loop-k-preserved c =

@@ -1,0 +1,33 @@
+use Rattle.std.proofs.Common.{◌≡◌, List, ◌++◌, length, map, drop, sym, ap, ap₂, subst, ◌∙◌}
+use Rattle.claim_tree.specs.Tree.{Text}
+use Rattle.marked_tree.specs.Places.{Path}
+use Rattle.marked_tree.specs.Rests.{rests, AreSorted}
+use Rattle.marked_tree.proofs.PathOrder.{rests_zero}
+use Rattle.issuer_core.specs.Decoys.{places}
+use Rattle.issuer_core.specs.Laying.{digest, placed, placed_at}
+use Rattle.issuer_core.proofs.laying.lay_salted.Goals as goal
+
+pub lay_claims-requires-clause-decoys : goal.lay_claims-requires-clause-decoys
+lay_claims-requires-clause-decoys c =
+    let d = c.all.result in
+    let sorted = c.in_ok-sorted.ensures.sorted in
+    record {
+      sorted = subst (λ n. AreSorted (rests n d.paths.now)) (sym c.all.ensures.depth) (subst AreSorted (sym (rests_zero d.paths.now ∙ c.all.ensures.paths)) sorted);
+      each = ap length c.all.ensures.digests ∙ (c.in_ok-sorted.ensures.each ∙ sym (ap length c.all.ensures.paths));
+    }
+
+pub returns : goal.returns
+returns c =
+    let d = c.all.result in
+    let ps = places c.args.decoys.now in
+    let seen : (q : Path) → placed_at d q ≡ placed ps (map digest (drop c.args.hidden c.args.salts.now)) q =
+    λ q. ap (λ n. placed (rests n d.paths.now) d.digests.now q) c.all.ensures.depth
+    ∙ (ap₂ (λ (xs : List Path) (ds : List Text). placed xs ds q) (rests_zero d.paths.now ∙ c.all.ensures.paths) c.all.ensures.digests
+    ∙ (c.in_ok-sorted.ensures.placed q ∙ ap (λ ds. placed ps ds q) c.in_ok-of_decoys.ensures)) in
+    let told = c.in_ok-laid.ensures in
+    record {
+      laid = λ dec tells more. told.laid dec (λ q. seen q ∙ tells q) more;
+      made = λ dec tells more. told.texts dec (λ q. seen q ∙ tells q) more;
+      count = told.count ∙ c.requires.hidden;
+      digests_are = c.in_ok-push_texts.ensures ∙ ap₂ (λ (xs ys : List Text). xs ++ ys) told.digests c.in_ok-of_decoys.ensures;
+    }
