@@ -94,7 +94,7 @@ prove() {
     all=$(wc -l <"$made/sizes") all=$((all))
     all_size=$(awk '{ all += $2 } END { print all }' "$made/sizes")
     count=0 done_size=0 start=$(date +%s)
-    echo "Proving the $all crates of sdjwt, at most $jobs side by side. From nothing this takes about half an hour"
+    echo "Proving the $all crates of sdjwt, at most $jobs side by side. From nothing this takes about 25 minutes"
     echo "on four cores; what was proved on this machine before is not proved again."
     { (cd "$top/crates/sdjwt" && rt all check --jobs "$jobs") 2>&1 || echo failed >"$made/failed"; } | follow
     if [ -e "$made/failed" ]; then

@@ -1,4 +1,4 @@
--- Decoy digests, RFC 9901 section 4.2.7: where they stand.
+-- Decoy digests, RFC 9901 section 4.2.5: where they stand.
 use Rattle.std.specs.Prelude.{ℕ, zero, suc, ◌+◌, List, [], ◌∷◌, ◌++◌, replicate, if◌then◌else◌}
 use Rattle.claim_tree.specs.Tree.{Text}
 use Rattle.marked_tree.specs.Places.{Path, same_path}

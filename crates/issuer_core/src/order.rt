@@ -6,7 +6,7 @@ use sd_outside::{NoMemory, TextBox};
 use std::alloc::Global;
 use std::marker::Model;
 
-/// Decoy digests at a place, RFC 9901 section 4.2.7.
+/// Decoy digests at a place, RFC 9901 section 4.2.5.
 #[derive(Debug, Drop)]
 pub struct Decoy {
     /// An object or a list of the payload.

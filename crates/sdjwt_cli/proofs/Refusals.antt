@@ -9,7 +9,9 @@ use Rattle.compact_form.proofs.Numbers.{numbered}
 use Rattle.verifier_core.proofs.Verdicts.{file_condition}
 use Rattle.sdjwt_cli.specs.Lines.{line, refusal_of, refusal}
 use Rattle.sdjwt_cli.specs.Show.{IsShowRefused, form, header, payload, hash, disclosure}
+use Rattle.sdjwt_cli.specs.Stops.{OnRefused}
 use Rattle.sdjwt_cli.specs.declared.form.Form.{Form}
+use Rattle.sdjwt_cli.specs.declared.stop.Stop.{Stop}
 use Rattle.sdjwt_cli.specs.Converting.{IsConvertRefused, unread, too_much}
 
 pub refusal_is : (fault : Fault) (c : Condition) → fault.number ≡ number_of c → refusal fault ≡ line (refusal_text c fault.place)
@@ -31,5 +33,6 @@ convert_condition f file fault (unread r) = form_condition file fault r
 convert_condition f file fault (too_much t r long e) = (condition.too_much, ap (λ (x : Fault). x.number) e)
 
 -- the line of the fault that was seen
-pub line_of_seen : (seen fault : Fault) (text : List ℕ) → seen ≡ fault → ((c : Condition) → seen.number ≡ number_of c → text ≡ refusal seen) → (c : Condition) → fault.number ≡ number_of c → text ≡ refusal fault
-line_of_seen seen fault text same told = subst (λ (f : Fault). (c : Condition) → f.number ≡ number_of c → text ≡ refusal f) same told
+pub line_of_seen : (seen fault : Fault) (stop : Stop) → seen ≡ fault → ((c : Condition) → seen.number ≡ number_of c → OnRefused stop (λ text. text ≡ refusal seen))
+    → (c : Condition) → fault.number ≡ number_of c → OnRefused stop (λ text. text ≡ refusal fault)
+line_of_seen seen fault stop same told = subst (λ (f : Fault). (c : Condition) → f.number ≡ number_of c → OnRefused stop (λ text. text ≡ refusal f)) same told

@@ -1,5 +1,5 @@
 -- The command `present`: what it prints of a token file for an order file, and when it refuses.
-use Rattle.std.specs.Prelude.{◌≡◌, ◌≢◌, ◌≤◌, ℕ, List, [], ◌++◌, length, replicate, Option, None, Some, codes}
+use Rattle.std.specs.Prelude.{◌≡◌, ◌≢◌, ◌≤◌, ℕ, List, [], ◌++◌, length, replicate, Option, None, Some, Result, Ok, Err, codes}
 use Rattle.std.specs.Fmt.{decimal}
 use Rattle.claim_tree.specs.declared.file_fault.FileFault.{FileFault}
 use Rattle.sd_outside.specs.Limits.{compact_max}
@@ -43,6 +43,16 @@ present_refusal TooLong = line (codes "refused 75 presentTooLong")
 abbrev pub HasLine : PresentError → List ℕ → Type 0
 HasLine (OnCondition fault) text = (condition : Condition) → fault.number ≡ number_of condition → text ≡ refusal fault
 HasLine error text = text ≡ present_refusal error
+
+-- for private functions: the line of what is presented
+abbrev pub IsLineOf : Result Parts PresentError → List ℕ → Type 0
+IsLineOf (Ok parts) text = text ≡ line (compact parts)
+IsLineOf (Err error) text = ⊥
+
+-- for private functions: the line of the refusal that is answered, where memory did not end
+abbrev pub IsRefusalOf : Result Parts PresentError → List ℕ → Type 0
+IsRefusalOf (Ok parts) text = ⊥
+IsRefusalOf (Err error) text = (error ≢ Memory) × HasLine error text
 
 -- the token is presented for the order, and this is the line of its compact text
 pub record Presents (order_file token_file : List ℕ) (now : ℕ) (answer : List ℕ) : Type 0 where

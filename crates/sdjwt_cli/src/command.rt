@@ -1,5 +1,7 @@
-ghost use Rattle.std.specs.Prelude.{◌≡◌, map, string_bytes};
+ghost use Rattle.std.specs.Prelude.{◌≡◌, [], ◌∷◌, map, string_bytes};
 ghost use Rattle.std.specs.Option.{option_map};
+ghost use Rattle.sdjwt_cli.specs.Command.{command_of};
+ghost use Rattle.sdjwt_cli.specs.Names.{meant_by};
 
 use crate::form::Form;
 
@@ -14,42 +16,50 @@ pub(crate) enum Command<'a> {
     Convert { form: Form, token: &'a str },
 }
 
-impl<'a> Command<'a> {
-    ghost use Rattle.sdjwt_cli.specs.Command.{command_of};
-    ghost use Rattle.sdjwt_cli.specs.Names.{meant_by};
+// The command of this name over one file.
+fn over_one<'a>(name: &str, token: &'a str) -> Option<Command<'a>>
+    ensures { option_map meant_by result ≡ command_of (name.now ∷ token.now ∷ []) }
+{
+    match name {
+        "split" => Some(Command::Split { token }),
+        "show" => Some(Command::Show { token }),
+        _ => None,
+    }
+}
 
+// The command of this name over two files, or over a form and a file.
+fn over_two<'a>(name: &str, first: &'a str, second: &'a str) -> Option<Command<'a>>
+    ensures { option_map meant_by result ≡ command_of (name.now ∷ first.now ∷ second.now ∷ []) }
+{
+    match name {
+        "verify" => Some(Command::Verify {
+            policy: first,
+            token: second,
+        }),
+        "issue" => Some(Command::Issue {
+            order: first,
+            seed: second,
+        }),
+        "present" => Some(Command::Present {
+            order: first,
+            token: second,
+        }),
+        "convert" => Some(Command::Convert {
+            form: Form::of(first)?,
+            token: second,
+        }),
+        _ => None,
+    }
+}
+
+impl<'a> Command<'a> {
     // The command that the words are. Words are compared byte by byte, and none is an option.
     pub(crate) fn of(words: &'a [String]) -> Option<Command<'a>>
         ensures { option_map meant_by result ≡ command_of (map string_bytes words.now) }
     {
         match words {
-            [command, token] if command.as_str() == "split" => Some(Command::Split {
-                token: token.as_str(),
-            }),
-            [command, token] if command.as_str() == "show" => Some(Command::Show {
-                token: token.as_str(),
-            }),
-            [command, policy, token] if command.as_str() == "verify" => Some(Command::Verify {
-                policy: policy.as_str(),
-                token: token.as_str(),
-            }),
-            [command, order, seed] if command.as_str() == "issue" => Some(Command::Issue {
-                order: order.as_str(),
-                seed: seed.as_str(),
-            }),
-            [command, order, token] if command.as_str() == "present" => Some(Command::Present {
-                order: order.as_str(),
-                token: token.as_str(),
-            }),
-            [command, form, token] if command.as_str() == "convert" => match Form::of(
-                form.as_str(),
-            ) {
-                Some(form) => Some(Command::Convert {
-                    form,
-                    token: token.as_str(),
-                }),
-                None => None,
-            },
+            [name, token] => over_one(name.as_str(), token.as_str()),
+            [name, first, second] => over_two(name.as_str(), first.as_str(), second.as_str()),
             _ => None,
         }
     }

@@ -1,12 +1,13 @@
 // The command `convert`: a token in another serialization.
-ghost use Rattle.std.specs.Prelude.{◌≡◌, IfOk, IfErr, string_bytes};
+ghost use Rattle.std.specs.Prelude.{◌≡◌, ℕ, List, IfOk, IfErr, string_bytes};
+ghost use Rattle.json_form.specs.Token.{IsToken};
 ghost use Rattle.json_form.specs.Written.{IsPrintable};
 ghost use Rattle.sdjwt_cli.specs.Converting.{written, HasRoom, IsWritten, Converts, DoesNotConvert};
 ghost use Rattle.sdjwt_cli.specs.Stops.{OnRefused, OnUnread, OnUnreadable};
 
 use crate::form::Form;
-use crate::lines::{as_line, refusal_line};
-use crate::stop::Stop;
+use crate::lines::as_line;
+use crate::stop::{Stop, refused};
 use compact_form::{FILE_MAX, Fault, Place, TOO_MUCH, print};
 use json_form::{Token, TokenError, print_flat, print_general, read_token};
 use sd_outside::{NoMemory, TextBox};
@@ -25,6 +26,25 @@ fn write_as(alloc: Global, form: Form, token: &Token) -> Result<TextBox, NoMemor
     }
 }
 
+// The answer for a token that is read, of whatever file.
+fn convert_token(alloc: Global, form: Form, token: &Token) -> Result<String, Stop>
+    requires printable { IsPrintable token.now }
+    ensures converts { (file : List ℕ) → IsToken file token.now → IfOk result (λ text. Converts form file (string_bytes text)) }
+    ensures refuses { (file : List ℕ) → IsToken file token.now → IfErr result (λ stop. OnRefused stop (DoesNotConvert form file)) }
+    ensures read { IfErr result (λ stop. OnUnread stop (λ _. ⊥)) }
+    ensures readable { IfErr result (λ stop. OnUnreadable stop (λ _. ⊥)) }
+{
+    let text = as_line(write_as(alloc, form, token)?)?;
+    if text.len() <= FILE_MAX {
+        return Ok(text);
+    }
+    let fault = Fault {
+        number: TOO_MUCH,
+        place: Place::Nowhere,
+    };
+    Err(refused(alloc, &fault))
+}
+
 /// The answer to a token file: its token in a form, as a line.
 pub(crate) fn convert(alloc: Global, form: Form, file: &[u8]) -> Result<String, Stop>
     ensures converts { IfOk result (λ text. Converts form file.now (string_bytes text)) }
@@ -32,18 +52,9 @@ pub(crate) fn convert(alloc: Global, form: Form, file: &[u8]) -> Result<String, 
     ensures read { IfErr result (λ stop. OnUnread stop (λ _. ⊥)) }
     ensures readable { IfErr result (λ stop. OnUnreadable stop (λ _. ⊥)) }
 {
-    let token = match read_token(alloc, file) {
-        Ok(token) => token,
-        Err(TokenError::Memory) => return Err(Stop::Memory),
-        Err(TokenError::Fault(fault)) => return Err(Stop::Refused(refusal_line(alloc, &fault)?)),
-    };
-    let text = as_line(write_as(alloc, form, &token)?)?;
-    if text.len() > FILE_MAX {
-        let fault = Fault {
-            number: TOO_MUCH,
-            place: Place::Nowhere,
-        };
-        return Err(Stop::Refused(refusal_line(alloc, &fault)?));
+    match read_token(alloc, file) {
+        Ok(token) => convert_token(alloc, form, &token),
+        Err(TokenError::Memory) => Err(Stop::Memory),
+        Err(TokenError::Fault(fault)) => Err(refused(alloc, &fault)),
     }
-    Ok(text)
 }

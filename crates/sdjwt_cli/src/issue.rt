@@ -1,17 +1,55 @@
 // The command `issue`: the compact text of a new token.
-ghost use Rattle.std.specs.Prelude.{◌≡◌, IfOk, IfErr, string_bytes};
+ghost use Rattle.std.specs.Prelude.{◌≡◌, ◌≤◌, ℕ, List, IfOk, IfErr, string_bytes};
+ghost use Rattle.std.specs.Array.{IsFirstChunk};
+ghost use Rattle.sd_outside.specs.Limits.{seed_len};
+ghost use Rattle.claim_tree.specs.Tree.{IsRanged, depth};
+ghost use Rattle.claim_tree.specs.View.{tree_of};
+ghost use Rattle.issuer_core.specs.OrderFile.{IsOrderFile};
 ghost use Rattle.sdjwt_cli.specs.Issuing.{Issues, DoesNotIssue, HasNoOrder};
 ghost use Rattle.sdjwt_cli.specs.Stops.{OnRefused, OnUnread, OnUnreadable};
 
-use crate::lines::{as_line, short_seed_line, unreadable_line};
-use crate::stop::Stop;
-use claim_tree::FileFault;
+use crate::lines::{as_line, short_seed_line};
+use crate::stop::{Stop, unreadable};
 use compact_form::print;
 use issuer_core::{IssueError, IssueFile, issue_owned, read_order, refusal_line};
 use std::alloc::Global;
 
 // The bytes of a seed.
 pub(crate) const SEED_LEN: usize = 32;
+
+// What an order file asks for.
+fn order_of(alloc: Global, file: &[u8]) -> Result<IssueFile, Stop>
+    ensures order { IfOk result (IsOrderFile file.now) }
+    ensures depth { IfOk result (λ asked. depth (tree_of asked.order.payload) ≤ 127) }
+    ensures ranged { IfOk result (λ asked. IsRanged (tree_of asked.order.payload)) }
+    ensures unreadable { (seed_file : List ℕ) → IfErr result (λ stop. OnUnreadable stop (HasNoOrder file.now seed_file)) }
+    ensures fit { IfErr result (λ stop. OnRefused stop (λ _. ⊥)) }
+    ensures read { IfErr result (λ stop. OnUnread stop (λ _. ⊥)) }
+{
+    match read_order(alloc, file) {
+        Ok(asked) => Ok(asked),
+        Err(fault) => Err(unreadable(alloc, fault)),
+    }
+}
+
+// The answer for what an order file asks for, with the seed of a file.
+fn issue_for(alloc: Global, asked: IssueFile, seed: &[u8; SEED_LEN]) -> Result<String, Stop>
+    requires depth { depth (tree_of asked.order.payload) ≤ 127 }
+    requires ranged { IsRanged (tree_of asked.order.payload) }
+    ensures issues { (order_file seed_file : List ℕ) → IsOrderFile order_file asked → IsFirstChunk seed_file seed.now seed_len
+        → IfOk result (λ text. Issues order_file seed_file (string_bytes text)) }
+    ensures refuses { (order_file seed_file : List ℕ) → IsOrderFile order_file asked → IsFirstChunk seed_file seed.now seed_len
+        → IfErr result (λ stop. OnRefused stop (DoesNotIssue order_file seed_file)) }
+    ensures readable { IfErr result (λ stop. OnUnreadable stop (λ _. ⊥)) }
+    ensures read { IfErr result (λ stop. OnUnread stop (λ _. ⊥)) }
+{
+    let IssueFile { order, mut key } = asked;
+    match issue_owned(alloc, order, seed, &mut key) {
+        Ok(parts) => Ok(as_line(print(alloc, &parts)?)?),
+        Err(IssueError::Memory) => Err(Stop::Memory),
+        Err(error) => Err(Stop::Refused(as_line(refusal_line(alloc, &error)?)?)),
+    }
+}
 
 /// The answer to an order file and a seed file.
 pub(crate) fn issue(alloc: Global, order_file: &[u8], seed_file: &[u8]) -> Result<String, Stop>
@@ -20,17 +58,12 @@ pub(crate) fn issue(alloc: Global, order_file: &[u8], seed_file: &[u8]) -> Resul
     ensures unreadable { IfErr result (λ stop. OnUnreadable stop (HasNoOrder order_file.now seed_file.now)) }
     ensures read { IfErr result (λ stop. OnUnread stop (λ _. ⊥)) }
 {
-    let IssueFile { order, mut key } = match read_order(alloc, order_file) {
+    let asked = match order_of(alloc, order_file) {
         Ok(asked) => asked,
-        Err(FileFault::Memory) => return Err(Stop::Memory),
-        Err(fault) => return Err(Stop::Unreadable(unreadable_line(alloc, 1, fault)?)),
+        Err(stop) => return Err(stop),
     };
-    let Some(seed) = seed_file.first_chunk::<SEED_LEN>() else {
-        return Err(Stop::Unreadable(short_seed_line(alloc)?));
-    };
-    match issue_owned(alloc, order, seed, &mut key) {
-        Ok(parts) => Ok(as_line(print(alloc, &parts)?)?),
-        Err(IssueError::Memory) => Err(Stop::Memory),
-        Err(error) => Err(Stop::Refused(as_line(refusal_line(alloc, &error)?)?)),
+    match seed_file.first_chunk::<SEED_LEN>() {
+        Some(seed) => issue_for(alloc, asked, seed),
+        None => Err(Stop::Unreadable(short_seed_line(alloc)?)),
     }
 }

@@ -1,19 +1,20 @@
 // The command `present`: the compact text of what a holder shows of a token.
-ghost use Rattle.std.specs.Prelude.{◌≡◌, ◌≢◌, ◌≤◌, length, IfOk, IfErr, string_bytes};
+ghost use Rattle.std.specs.Prelude.{◌≡◌, ◌≢◌, ◌≤◌, ℕ, List, length, IfOk, IfErr, string_bytes};
 ghost use Rattle.compact_form.specs.Compact.{AreWords, compact};
 ghost use Rattle.sd_outside.specs.Limits.{compact_max};
 ghost use Rattle.hmac_sign.specs.Hmac.{IsGood};
 ghost use Rattle.holder_core.specs.Present.{IsPresented, IsNotPresented};
+ghost use Rattle.holder_core.specs.PresentFile.{IsPresentFile};
 ghost use Rattle.holder_core.specs.declared.errors.PresentError.{PresentError};
 ghost use Rattle.sdjwt_cli.specs.Never.{Judges, never_rule};
-ghost use Rattle.sdjwt_cli.specs.Presenting.{signing_key, HasLine, Presents, DoesNotPresent, HasNoPresentOrder};
+ghost use Rattle.sdjwt_cli.specs.Presenting.{signing_key, HasLine, IsLineOf, IsRefusalOf, Presents, DoesNotPresent, HasNoPresentOrder};
 ghost use Rattle.sdjwt_cli.specs.Stops.{OnRefused, OnUnread, OnUnreadable};
 ghost use Rattle.sdjwt_cli.specs.Lines.{line};
 
-use crate::lines::{as_line, refusal_line, unreadable_line};
+use crate::lines::{as_line, refusal_line};
 use crate::never::may_be_shown;
-use crate::stop::Stop;
-use claim_tree::{FileFault, Path, PathList};
+use crate::stop::{Stop, unreadable};
+use claim_tree::{Path, PathList};
 use compact_form::{Parts, print};
 use digest_index::Steps;
 use hmac_sign::{Hs256Key, KeyShort};
@@ -80,6 +81,52 @@ fn present_line(alloc: Global, error: &PresentError) -> Result<String, NoMemory>
     }
 }
 
+// What a present order says.
+fn order_of(alloc: Global, file: &[u8]) -> Result<PresentFile, Stop>
+    ensures order { IfOk result (IsPresentFile file.now) }
+    ensures unreadable { IfErr result (λ stop. OnUnreadable stop (HasNoPresentOrder file.now)) }
+    ensures fit { IfErr result (λ stop. OnRefused stop (λ _. ⊥)) }
+    ensures read { IfErr result (λ stop. OnUnread stop (λ _. ⊥)) }
+{
+    match read_present(alloc, file) {
+        Ok(said) => Ok(said),
+        Err(fault) => Err(unreadable(alloc, fault)),
+    }
+}
+
+// The line of what is presented, or of the refusal.
+fn told(alloc: Global, presented: Result<Parts, PresentError>) -> Result<String, Stop>
+    requires words { IfOk presented AreWords }
+    ensures presents { IfOk result (λ text. IsLineOf presented (string_bytes text)) }
+    ensures refuses { IfErr result (λ stop. OnRefused stop (IsRefusalOf presented)) }
+    ensures readable { IfErr result (λ stop. OnUnreadable stop (λ _. ⊥)) }
+    ensures read { IfErr result (λ stop. OnUnread stop (λ _. ⊥)) }
+{
+    match presented {
+        Ok(parts) => Ok(as_line(print(alloc, &parts)?)?),
+        Err(PresentError::Memory) => Err(Stop::Memory),
+        Err(error) => Err(Stop::Refused(present_line(alloc, &error)?)),
+    }
+}
+
+// The answer for what a present order says, of whatever file.
+fn present_for(
+    alloc: Global,
+    said: PresentFile,
+    token_file: &[u8],
+    now: u64,
+) -> Result<String, Stop>
+    ensures presents { (file : List ℕ) → IsPresentFile file said → IfOk result (λ text. Presents file token_file.now now (string_bytes text)) }
+    ensures refuses { (file : List ℕ) → IsPresentFile file said → IfErr result (λ stop. OnRefused stop (DoesNotPresent file token_file.now now)) }
+    ensures readable { IfErr result (λ stop. OnUnreadable stop (λ _. ⊥)) }
+    ensures read { IfErr result (λ stop. OnUnread stop (λ _. ⊥)) }
+{
+    let PresentFile { ask, never, key } = said;
+    let mut key = signer(key);
+    let presented = present_parts(alloc, token_file, &ask, &never, &mut key, now);
+    told(alloc, presented)
+}
+
 /// The answer to an order file and a token file, at a moment.
 pub(crate) fn present(
     alloc: Global,
@@ -92,15 +139,8 @@ pub(crate) fn present(
     ensures unreadable { IfErr result (λ stop. OnUnreadable stop (HasNoPresentOrder order_file.now)) }
     ensures read { IfErr result (λ stop. OnUnread stop (λ _. ⊥)) }
 {
-    let PresentFile { ask, never, key } = match read_present(alloc, order_file) {
-        Ok(said) => said,
-        Err(FileFault::Memory) => return Err(Stop::Memory),
-        Err(fault) => return Err(Stop::Unreadable(unreadable_line(alloc, 1, fault)?)),
-    };
-    let mut key = signer(key);
-    match present_parts(alloc, token_file, &ask, &never, &mut key, now) {
-        Ok(parts) => Ok(as_line(print(alloc, &parts)?)?),
-        Err(PresentError::Memory) => Err(Stop::Memory),
-        Err(error) => Err(Stop::Refused(present_line(alloc, &error)?)),
+    match order_of(alloc, order_file) {
+        Ok(said) => present_for(alloc, said, token_file, now),
+        Err(stop) => Err(stop),
     }
 }

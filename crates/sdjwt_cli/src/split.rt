@@ -7,8 +7,7 @@ ghost use Rattle.sdjwt_cli.specs.Lines.{line};
 ghost use Rattle.sdjwt_cli.specs.Split.{numbered, binding_line, signed_lines, split_lines, Gives, Refuses};
 ghost use Rattle.sdjwt_cli.specs.Stops.{OnRefused, OnUnread, OnUnreadable};
 
-use crate::lines::refusal_line;
-use crate::stop::Stop;
+use crate::stop::{Stop, refused};
 use compact_form::{JwtView, Pieces, View};
 use json_form::{TokenError, TokenText};
 use sd_outside::NoMemory;
@@ -86,11 +85,12 @@ pub(crate) fn split(alloc: Global, file: &[u8]) -> Result<String, Stop>
     ensures read { IfErr result (λ stop. OnUnread stop (λ _. ⊥)) }
     ensures readable { IfErr result (λ stop. OnUnreadable stop (λ _. ⊥)) }
 {
-    let token = match TokenText::read(alloc, file) {
-        Ok(token) => token,
-        Err(TokenError::Memory) => return Err(Stop::Memory),
-        Err(TokenError::Fault(fault)) => return Err(Stop::Refused(refusal_line(alloc, &fault)?)),
-    };
-    let view = token.view();
-    Ok(split_text(alloc, &view, room_for(file, view.count()))?)
+    match TokenText::read(alloc, file) {
+        Ok(token) => {
+            let view = token.view();
+            Ok(split_text(alloc, &view, room_for(file, view.count()))?)
+        }
+        Err(TokenError::Memory) => Err(Stop::Memory),
+        Err(TokenError::Fault(fault)) => Err(refused(alloc, &fault)),
+    }
 }

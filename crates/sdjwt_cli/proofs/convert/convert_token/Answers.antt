@@ -1,0 +1,28 @@
+use Rattle.std.proofs.Common.{◌≡◌, ◌<◌, length, string_bytes, ap, refl, ◌∙◌, arith}
+use Rattle.sd_outside.specs.Limits.{file_max}
+use Rattle.compact_form.specs.Condition as condition
+use Rattle.compact_form.specs.Condition.{number_of}
+use Rattle.compact_form.specs.declared.fault.Fault.{Fault}
+use Rattle.compact_form.specs.declared.fault.Place.TheVariants.{Nowhere}
+use Rattle.sdjwt_cli.specs.Lines.{line}
+use Rattle.sdjwt_cli.specs.Converting.{written, too_much, DoesNotConvert}
+use Rattle.sdjwt_cli.proofs.Refusals.{convert_condition}
+use Rattle.sdjwt_cli.proofs.Stopped.{of_refusal}
+use Rattle.sdjwt_cli.proofs.Converted.{converts}
+use Rattle.sdjwt_cli.proofs.convert.convert_token.Goals as goal
+
+pub returns-clause-refuses : goal.returns-clause-refuses
+returns-clause-refuses c file reads =
+    let token = c.args.token.now in
+    let form = c.args.form in
+    let whole : string_bytes c.in_ok-text.text ≡ line (written form token) = c.in_ok-text.ensures ∙ ap line c.in_ok-write_as.ensures.text in
+    let long : file_max < length (line (written form token)) = omega (arith, c.len.ensures, c.if-len-le-FILE_MAX.false, ap length whole) in
+    let fault : Fault = record { number = number_of condition.too_much; place = Nowhere } in
+    let refused = too_much token reads long refl in
+    let numbered = convert_condition form file fault refused in
+    of_refusal (DoesNotConvert form file) fault (record { fault = fault; refused = refused; line_is = refl }) c.refused.result (c.refused.ensures.line numbered.0 numbered.1)
+
+pub returns-then-len-le-FILE_MAX-clause-converts : goal.returns-then-len-le-FILE_MAX-clause-converts
+returns-then-len-le-FILE_MAX-clause-converts c file reads =
+    converts c.args.form file c.args.token.now c.in_ok-write_as.field-0 (string_bytes c.in_ok-text.text) reads c.requires.printable c.in_ok-write_as.ensures.text c.in_ok-write_as.ensures.back
+    c.in_ok-text.ensures (omega (arith, c.len.ensures, c.if-len-le-FILE_MAX.true))

@@ -1,0 +1,26 @@
+use Rattle.std.proofs.Common.{ℕ, List, IfOk, IfErr, subst}
+use Rattle.hmac_sign.specs.Hmac.{IsGood}
+use Rattle.holder_core.specs.Present.{IsPresented, IsNotPresented}
+use Rattle.sdjwt_cli.specs.Never.{never_rule}
+use Rattle.sdjwt_cli.specs.Presenting.{IsLineOf, IsRefusalOf, Presents, DoesNotPresent}
+use Rattle.sdjwt_cli.proofs.Presentings.{presents, refuses}
+use Rattle.sdjwt_cli.proofs.Stopped.{of_text, of_refused}
+use Rattle.sdjwt_cli.proofs.present.present_for.Goals as goal
+
+pub returns-clause-presents : goal.returns-clause-presents
+returns-clause-presents c file is_order =
+    let said = c.args.said in
+    let presented = c.present_parts-presented.result in
+    let token = c.args.token_file.now in
+    let now = c.args.now in
+    let shown = subst (λ (key : List ℕ). IfOk presented (IsPresented never_rule said.never token said.ask (IsGood key) now)) c.signer-key.ensures c.present_parts-presented.ensures.presented in
+    of_text (IsLineOf presented) (Presents file token now) (presents said token now presented file is_order shown c.present_parts-presented.ensures.short) c.told.result c.told.ensures.presents
+
+pub returns-clause-refuses : goal.returns-clause-refuses
+returns-clause-refuses c file is_order =
+    let said = c.args.said in
+    let presented = c.present_parts-presented.result in
+    let token = c.args.token_file.now in
+    let now = c.args.now in
+    let refused = subst (λ (key : List ℕ). IfErr presented (IsNotPresented never_rule said.never token said.ask (IsGood key) now)) c.signer-key.ensures c.present_parts-presented.ensures.refused in
+    of_refused (IsRefusalOf presented) (DoesNotPresent file token now) (refuses said token now presented file is_order refused c.present_parts-presented.ensures.signed) c.told.result c.told.ensures.refuses
