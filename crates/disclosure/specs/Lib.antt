@@ -1,3 +1,4 @@
 pub mod Digest
 pub mod Disclosure
 pub mod Refusals
+pub mod Front

@@ -1,8 +1,9 @@
-ghost use Rattle.std.specs.Prelude.{◌≡◌, ◌≤◌, IfOk, IfErr, IfSome, IfNone, Option, option_map};
-ghost use Rattle.claim_tree.specs.Tree.{IsRanged, IsOrdered, depth, leaf, text as text_leaf};
+ghost use Rattle.std.specs.Prelude.{◌≡◌, ◌≤◌, OnOk, IfOk, IfErr, IfSome, IfNone, IsTrue, Option, option_map};
+ghost use Rattle.claim_tree.specs.Tree.{IsRanged, IsOrdered, depth, leaf, text as text_leaf, pushed};
 ghost use Rattle.claim_tree.specs.View.{tree_of};
 ghost use Rattle.disclosure.specs.Digest.{digest_of};
 ghost use Rattle.disclosure.specs.Disclosure.{IsDisclosure, IsNoArray, array_of, disclosure_text};
+ghost use Rattle.disclosure.specs.Front.{front, member_list};
 ghost use Rattle.disclosure.specs.Refusals.{IsRefused};
 
 use crate::{DisclosureError, HashAlg, digest};
@@ -32,6 +33,30 @@ impl Disclosure {
     }
 }
 
+// The disclosure of a member, where its name is a text and no element follows the value.
+fn of_member(
+    text: TextBox,
+    salt: Tree,
+    name: Tree,
+    value: Tree,
+    is_last: bool,
+) -> Option<Disclosure>
+    ensures text { IfSome result (λ d. d.text ≡ text) }
+    ensures parts { IfSome result (λ d. member_list (tree_of salt) (tree_of name) (tree_of value) ≡ array_of (tree_of d.salt) d.name (tree_of d.value)) }
+    ensures last { IfSome result (λ _. IsTrue is_last) }
+    ensures other { IfNone result (IsTrue is_last → IsNoArray (member_list (tree_of salt) (tree_of name) (tree_of value))) }
+{
+    match name {
+        Tree::Text(name) if is_last => Some(Disclosure {
+            text,
+            salt,
+            name: Some(name),
+            value,
+        }),
+        _ => None,
+    }
+}
+
 // The disclosure of a text whose JSON is this tree.
 fn of_tree(text: TextBox, tree: Tree) -> Option<Disclosure>
     ensures text { IfSome result (λ d. d.text ≡ text) }
@@ -44,22 +69,14 @@ fn of_tree(text: TextBox, tree: Tree) -> Option<Disclosure>
     let mut trees = list.into_trees().into_iter();
     let salt = trees.next()?;
     let second = trees.next()?;
-    let Some(value) = trees.next() else {
-        return Some(Disclosure {
+    match trees.next() {
+        None => Some(Disclosure {
             text,
             salt,
             name: None,
             value: second,
-        });
-    };
-    match second {
-        Tree::Text(name) if trees.next().is_none() => Some(Disclosure {
-            text,
-            salt,
-            name: Some(name),
-            value,
         }),
-        _ => None,
+        Some(value) => of_member(text, salt, second, value, trees.next().is_none()),
     }
 }
 
@@ -83,15 +100,30 @@ pub fn read_disclosure(alloc: Global, text: &str) -> Result<Disclosure, Disclosu
     of_tree(TextBox::make(alloc, text)?, tree).ok_or(DisclosureError::NotDisclosure)
 }
 
+fn push_text(alloc: Global, list: &mut TreeList, text: &str) -> Result<(), NoMemory>
+    ensures { OnOk result (list.new ≡ pushed list.old (leaf (text_leaf text.now))) }
+{
+    let text = TextBox::make(alloc, text)?;
+    list.push(Tree::Text(text))
+}
+
+// The list of a salt and a name.
+fn front_of(alloc: Global, salt: &str, name: Option<&str>) -> Result<TreeList, NoMemory>
+    ensures { IfOk result (λ list. list ≡ front (leaf (text_leaf salt.now)) (option_map (λ n. n.now) name.entry)) }
+{
+    let mut list = TreeList::new(alloc);
+    push_text(alloc, &mut list, salt)?;
+    if let Some(name) = name {
+        push_text(alloc, &mut list, name)?;
+    }
+    Ok(list)
+}
+
 // The list of a salt, a name and a value.
 fn list_of(alloc: Global, salt: &str, name: Option<&str>, value: Tree) -> Result<Tree, NoMemory>
     ensures { IfOk result (λ t. tree_of t ≡ array_of (leaf (text_leaf salt.now)) (option_map (λ n. n.now) name.entry) (tree_of value)) }
 {
-    let mut list = TreeList::new(alloc);
-    list.push(Tree::Text(TextBox::make(alloc, salt)?))?;
-    if let Some(name) = name {
-        list.push(Tree::Text(TextBox::make(alloc, name)?))?;
-    }
+    let mut list = front_of(alloc, salt, name)?;
     list.push(value)?;
     Ok(Tree::List(list))
 }

@@ -1,5 +1,6 @@
 // Headers, RFC 7515 section 4.
 ghost use Rattle.std.specs.Prelude.{◌≡◌, IfOk, IsErrOf};
+ghost use Rattle.std.specs.Option.{option_copied};
 ghost use Rattle.b64url_text.specs.Base64url.{b64};
 ghost use Rattle.claim_tree.specs.Tree.{object, no_members};
 ghost use Rattle.claim_tree.specs.JsonText.{json_text};
@@ -47,6 +48,24 @@ impl From<BodyError> for HeaderError {
     }
 }
 
+// A header with copies of these texts.
+fn copied_header(
+    alloc: Global,
+    alg: &TextBox,
+    kid: Option<&TextBox>,
+    typ: Option<&TextBox>,
+) -> Result<Header, NoMemory>
+    ensures alg { IfOk result (λ header. header.alg ≡ alg.now) }
+    ensures kid { IfOk result (λ header. header.kid ≡ option_copied kid.entry) }
+    ensures typ { IfOk result (λ header. header.typ ≡ option_copied typ.entry) }
+{
+    Ok(Header {
+        alg: TextBox::make(alloc, alg.as_str())?,
+        kid: copied(alloc, kid)?,
+        typ: copied(alloc, typ)?,
+    })
+}
+
 // What the protected members say, with the outer ones beside them.
 fn said(alloc: Global, members: &TreeMap, outer: &TreeMap) -> Result<Header, BodyError>
     ensures ok { IfOk result (Says members.now outer.now) }
@@ -61,11 +80,10 @@ fn said(alloc: Global, members: &TreeMap, outer: &TreeMap) -> Result<Header, Bod
     let typ = text_named(members, "typ")?;
     let own_kid = text_named(members, "kid")?;
     let outer_kid = text_named(outer, "kid")?;
-    Ok(Header {
-        alg: TextBox::make(alloc, alg.as_str())?,
-        kid: copied(alloc, own_kid.or(outer_kid))?,
-        typ: copied(alloc, typ)?,
-    })
+    match copied_header(alloc, alg, own_kid.or(outer_kid), typ) {
+        Ok(header) => Ok(header),
+        Err(_) => Err(BodyError::Memory),
+    }
 }
 
 /// The header that a protected one carries, base64url of its JSON text, with the members of an outer one beside it

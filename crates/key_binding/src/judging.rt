@@ -1,10 +1,13 @@
 // The conditions 27 to 38, in their order.
-ghost use Rattle.std.specs.Prelude.{◌≡◌, ◌≢◌, ◌↔◌, ◌⊎◌, Some, codes, IsTrue, OnOk, IfErr};
+ghost use Rattle.std.specs.Prelude.{◌≡◌, ◌≢◌, ◌↔◌, ◌⊎◌, Some, codes, IsTrue, OnOk, IfOk, IfErr, IsErrOf};
 ghost use Rattle.std.specs.Option.{option_copied};
-ghost use Rattle.claim_tree.specs.Tree.{InRange, IsRanged};
+ghost use Rattle.claim_tree.specs.Tree.{InRange, IsRanged, no_members};
 ghost use Rattle.claim_tree.specs.View.{tree_of};
 ghost use Rattle.compact_form.specs.Lowest.{IsLowest, NoneFails, Passes, unplaced};
-ghost use Rattle.key_binding.specs.Judged.{Judged, judged, judged_of, holder_key as holder_key_of, HasClaims};
+ghost use Rattle.disclosure.specs.Digest.{digest_of};
+ghost use Rattle.jws_part.specs.Header.{IsHeader, IsUnreadable, IsCritical};
+ghost use Rattle.jws_part.specs.Part.{IsBody};
+ghost use Rattle.key_binding.specs.Judged.{Judged, judged, judged_of, holder_key as holder_key_of, HasHeader, HasClaims};
 ghost use Rattle.key_binding.specs.BindingConditions.{BindingFails, OnFault, IsStale, IsEarly, IsTimeRefused};
 ghost use Rattle.key_binding.specs.Read.{claims_of};
 
@@ -20,9 +23,10 @@ use compact_form::{
 use disclosure::{HashAlg, digest};
 use hmac_sign::Hs256Key;
 use jws_part::{
-    BodyError, HeaderError, is_expired, is_not_yet, is_time_unreadable, read_body, read_header,
+    BodyError, Header, HeaderError, is_expired, is_not_yet, is_time_unreadable, read_body,
+    read_header,
 };
-use sd_outside::TextBox;
+use sd_outside::{NoMemory, TextBox};
 use std::alloc::Global;
 
 /// A key binding token, and what it is judged by.
@@ -97,27 +101,54 @@ fn is_binding_type(typ: Option<&TextBox>) -> bool
     }
 }
 
+// The header of the token. There is no unprotected one.
+fn header_of(alloc: Global, protected: &str) -> Result<Header, HeaderError>
+    ensures ok { IfOk result (IsHeader protected.now no_members) }
+    ensures unreadable { IsErrOf result HeaderError.Unreadable → IsUnreadable protected.now no_members }
+    ensures critical { IsErrOf result HeaderError.Critical → IsCritical protected.now no_members }
+{
+    read_header(alloc, protected, &TreeMap::new(alloc))
+}
+
 // 28 to 31.
 fn check_signed(alloc: Global, bound: Bound<'_>, key: &Hs256Key) -> Result<(), BindingError>
     requires key { holder_key_of bound.policy.now.keys (tree_of bound.payload.now) ≡ Some key.now }
     ensures ok { OnOk result (Passes 32 (BindingFails (judged_of bound.entry))) }
     ensures refused { IfErr result (λ e. OnFault e (λ number. IsLowest (BindingFails (judged_of bound.entry)) (unplaced number))) }
 {
+    match header_of(alloc, bound.token.protected) {
+        Ok(header) => check_header(alloc, bound, key, &header),
+        Err(HeaderError::Memory) => Err(BindingError::Memory),
+        Err(HeaderError::Unreadable) => Err(BindingError::Fault(BINDING_HEADER)),
+        Err(HeaderError::Critical) => Err(BindingError::Fault(BINDING_HEADER)),
+    }
+}
+
+// 29 to 31.
+fn check_header(
+    alloc: Global,
+    bound: Bound<'_>,
+    key: &Hs256Key,
+    header: &Header,
+) -> Result<(), BindingError>
+    requires key { holder_key_of bound.policy.now.keys (tree_of bound.payload.now) ≡ Some key.now }
+    requires read { HasHeader (judged_of bound).token header.now }
+    ensures ok { OnOk result (Passes 32 (BindingFails (judged_of bound.entry))) }
+    ensures refused { IfErr result (λ e. OnFault e (λ number. IsLowest (BindingFails (judged_of bound.entry)) (unplaced number))) }
+{
+    if header.alg.as_str() != "HS256" {
+        return Err(BindingError::Fault(BINDING_ALG));
+    }
     let JwtView {
         protected,
         payload,
         signature,
     } = bound.token;
-    let header = match read_header(alloc, protected, &TreeMap::new(alloc)) {
-        Ok(header) => header,
-        Err(HeaderError::Memory) => return Err(BindingError::Memory),
-        Err(HeaderError::Unreadable) => return Err(BindingError::Fault(BINDING_HEADER)),
-        Err(HeaderError::Critical) => return Err(BindingError::Fault(BINDING_HEADER)),
+    let good = match key.check_text(alloc, protected, payload, signature) {
+        Ok(good) => good,
+        Err(_) => return Err(BindingError::Memory),
     };
-    if header.alg.as_str() != "HS256" {
-        return Err(BindingError::Fault(BINDING_ALG));
-    }
-    if !key.check_text(alloc, protected, payload, signature)? {
+    if !good {
         return Err(BindingError::Fault(BINDING_SIGNATURE));
     }
     if !is_binding_type(header.typ.as_ref()) {
@@ -132,25 +163,46 @@ fn check_payload(alloc: Global, bound: Bound<'_>) -> Result<(), BindingError>
     ensures passes { OnOk result (NoneFails (BindingFails (judged_of bound.entry))) }
     ensures refused { IfErr result (λ e. OnFault e (λ number. IsLowest (BindingFails (judged_of bound.entry)) (unplaced number))) }
 {
-    let body = match read_body(alloc, bound.token.payload) {
-        Ok(body) => body,
-        Err(BodyError::Memory) => return Err(BindingError::Memory),
-        Err(BodyError::Unreadable) => return Err(BindingError::Fault(BINDING_PAYLOAD)),
-    };
-    let Some(claims) = read_claims(&body) else {
+    match read_body(alloc, bound.token.payload) {
+        Ok(body) => check_body(alloc, bound, &body),
+        Err(BodyError::Memory) => Err(BindingError::Memory),
+        Err(BodyError::Unreadable) => Err(BindingError::Fault(BINDING_PAYLOAD)),
+    }
+}
+
+// 32 to 38, of a payload that is read.
+fn check_body(alloc: Global, bound: Bound<'_>, body: &Tree) -> Result<(), BindingError>
+    requires below { Passes 32 (BindingFails (judged_of bound)) }
+    requires read { IsBody (judged_of bound).token.payload (tree_of body.now) }
+    requires ranged { IsRanged (tree_of body.now) }
+    ensures passes { OnOk result (NoneFails (BindingFails (judged_of bound.entry))) }
+    ensures refused { IfErr result (λ e. OnFault e (λ number. IsLowest (BindingFails (judged_of bound.entry)) (unplaced number))) }
+{
+    let Some(claims) = read_claims(body) else {
         return Err(BindingError::Fault(BINDING_PAYLOAD));
     };
     if let Err(number) = check_claims(bound, claims) {
         return Err(BindingError::Fault(number));
     }
-    let digest = digest(alloc, bound.hash, bound.hashed)?;
-    if claims.sd_hash != digest.as_str() {
+    let same = match is_digest_of(alloc, claims.sd_hash, bound.hash, bound.hashed) {
+        Ok(same) => same,
+        Err(_) => return Err(BindingError::Memory),
+    };
+    if !same {
         return Err(BindingError::Fault(HASH_DIFFERS));
     }
-    if is_time_refused(&body, bound.skew, bound.now) {
+    if is_time_refused(body, bound.skew, bound.now) {
         return Err(BindingError::Fault(BINDING_TIME));
     }
     Ok(())
+}
+
+// Whether a text is the digest of another.
+fn is_digest_of(alloc: Global, text: &str, hash: HashAlg, hashed: &str) -> Result<bool, NoMemory>
+    ensures { IfOk result (λ same. IsTrue same ↔ (text.now ≡ digest_of hash hashed.now)) }
+{
+    let digest = digest(alloc, hash, hashed)?;
+    Ok(text == digest.as_str())
 }
 
 // 33 to 36.

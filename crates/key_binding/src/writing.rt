@@ -1,12 +1,16 @@
 // The call that writes a key binding token.
 ghost use Rattle.std.specs.Prelude.{◌≡◌, ◌≤◌, IfOk, OnOk, IsErrOf};
 ghost use Rattle.sd_outside.specs.Causes.{Rose};
-ghost use Rattle.claim_tree.specs.Tree.{inserted};
+ghost use Rattle.b64url_text.specs.Base64url.{b64};
+ghost use Rattle.claim_tree.specs.Tree.{object, no_members, inserted};
+ghost use Rattle.claim_tree.specs.JsonText.{json_text};
 ghost use Rattle.claim_tree.specs.View.{tree_of};
-ghost use Rattle.jws_part.specs.Header.{text_tree};
+ghost use Rattle.jws_part.specs.Header.{IsHeader, header_members, text_tree};
+ghost use Rattle.jws_part.specs.Part.{IsBody};
 ghost use Rattle.compact_form.specs.Compact.{HasWords};
 ghost use Rattle.hmac_sign.specs.Signatures.{Agree};
 ghost use Rattle.hmac_sign.specs.declared.sign.Alg.{Alg};
+ghost use Rattle.key_binding.specs.SignatureText.{IsSignatureText};
 ghost use Rattle.key_binding.specs.Binding.{IsBinding, IsReadBack, claims_for, claim_members, binding_header};
 ghost use Rattle.key_binding.specs.declared.errors.BindError.{BindError};
 
@@ -36,10 +40,11 @@ fn put(alloc: Global, members: &mut TreeMap, name: &str, claim: Tree) -> Result<
     members.insert(TextBox::make(alloc, name)?, claim)
 }
 
-fn text(alloc: Global, text: &str) -> Result<Tree, NoMemory>
-    ensures { IfOk result (λ tree. tree_of tree ≡ text_tree text.now) }
+fn put_text(alloc: Global, members: &mut TreeMap, name: &str, text: &str) -> Result<(), NoMemory>
+    ensures { OnOk result (members.new ≡ inserted members.old name.now (text_tree text.now)) }
 {
-    Ok(Tree::Text(TextBox::make(alloc, text)?))
+    let text = Tree::Text(TextBox::make(alloc, text)?);
+    put(alloc, members, name, text)
 }
 
 // The claims, in the order of their names.
@@ -54,16 +59,62 @@ fn claims(
     ensures { IfOk result (λ members. members ≡ claim_members (claims_for hash hashed.now aud.now nonce.now iat)) }
 {
     let mut members = TreeMap::new(alloc);
-    put(alloc, &mut members, "aud", text(alloc, aud)?)?;
+    put_text(alloc, &mut members, "aud", aud)?;
     put(alloc, &mut members, "iat", Tree::Whole(i128::from(iat)))?;
-    put(alloc, &mut members, "nonce", text(alloc, nonce)?)?;
-    put(
-        alloc,
-        &mut members,
-        "sd_hash",
-        Tree::Text(digest(alloc, hash, hashed)?),
-    )?;
+    put_text(alloc, &mut members, "nonce", nonce)?;
+    let sd_hash = Tree::Text(digest(alloc, hash, hashed)?);
+    put(alloc, &mut members, "sd_hash", sd_hash)?;
     Ok(members)
+}
+
+// The protected header, written.
+fn header_part(alloc: Global) -> Result<TextBox, NoMemory>
+    ensures text { IfOk result (λ part. part ≡ b64 (json_text (object (header_members binding_header)))) }
+    ensures back { IfOk result (λ part. IsHeader part no_members binding_header) }
+{
+    let header = header(alloc)?;
+    write_header(alloc, &header)
+}
+
+// The payload, written.
+fn payload_part(
+    alloc: Global,
+    hash: HashAlg,
+    hashed: &str,
+    aud: &str,
+    nonce: &str,
+    iat: u64,
+) -> Result<TextBox, NoMemory>
+    ensures text { IfOk result (λ part. part ≡ b64 (json_text (object (claim_members (claims_for hash hashed.now aud.now nonce.now iat))))) }
+    ensures back { IfOk result (λ part. IsBody part (object (claim_members (claims_for hash hashed.now aud.now nonce.now iat)))) }
+{
+    let claims = Tree::Object(claims(alloc, hash, hashed, aud, nonce, iat)?);
+    write_body(alloc, &claims)
+}
+
+// The signature of the two, written.
+fn signature_part<S: Signer>(
+    alloc: Global,
+    signer: &mut S,
+    protected: &str,
+    payload: &str,
+) -> Result<TextBox, BindError>
+    ensures good { IfOk result (IsSignatureText (S.good signer.old protected.now payload.now)) }
+    ensures failed { IsErrOf result BindError.SignFailed → Rose (S.faults signer.old) (S.faults signer.new) }
+
+    // what stays
+    ensures same_good { Agree (S.good signer.new) (S.good signer.old) }
+    ensures same_alg { S.alg_of signer.new ≡ S.alg_of signer.old }
+    ensures later { S.faults signer.old ≤ S.faults signer.new }
+{
+    let signature = match signer.sign(alloc, protected, payload) {
+        Ok(signature) => signature,
+        Err(error) => return Err(BindError::from(error)),
+    };
+    match encode(alloc, signature.bytes()) {
+        Ok(text) => Ok(text),
+        Err(_) => Err(BindError::Memory),
+    }
 }
 
 /// Writes a key binding token, RFC 9901 section 4.3, for an audience, with its nonce, at a moment in seconds since 1970.
@@ -90,11 +141,18 @@ pub fn bind<S: Signer>(
     ensures same_alg { S.alg_of signer.new ≡ S.alg_of signer.old }
     ensures later { S.faults signer.old ≤ S.faults signer.new }
 {
-    let protected = write_header(alloc, &header(alloc)?)?;
-    let claims = Tree::Object(claims(alloc, hash, hashed, aud, nonce, iat)?);
-    let payload = write_body(alloc, &claims)?;
-    let signature = signer.sign(alloc, protected.as_str(), payload.as_str())?;
-    let signature = encode(alloc, signature.bytes())?;
+    let protected = match header_part(alloc) {
+        Ok(protected) => protected,
+        Err(_) => return Err(BindError::Memory),
+    };
+    let payload = match payload_part(alloc, hash, hashed, aud, nonce, iat) {
+        Ok(payload) => payload,
+        Err(_) => return Err(BindError::Memory),
+    };
+    let signature = match signature_part(alloc, signer, protected.as_str(), payload.as_str()) {
+        Ok(signature) => signature,
+        Err(error) => return Err(error),
+    };
     Ok(JwtParts {
         protected,
         payload,
