@@ -32,6 +32,11 @@ flat_made t g o is rows listed ix jx ks ends none a b l c d e =
       cuts = e;
     }
 
+-- the same of what is found with rows that are moved
+pub flat_found : (t : Tree) (g : List Given) → IsOrdered t → IsPayload t → (rows : List Row) (ix jx : List Text) (ks es : List ℕ) {ends : List ℕ} → Nowhere (RepeatedDisclosure g) → ix ≡ given_digests g
+    → map seen rows ≡ all_rows t g → ks ≡ numbers ix (row_texts rows) → jx ≡ all_interned ix (row_texts rows) → es ≡ ends → ends ≡ row_ends t g → IsFlat t g jx ks es
+flat_found t g o is rows ix jx ks es none a b c d e f = flat_made t g o is rows rows ix jx ks es none a b refl c d (e ∙ f)
+
 -- where each disclosure is reached, the met list has the digests of all values
 reached_items : (passes : Given → Bool) (i : ℕ) (g : List Given) → ((x : Given) → In x g → passes x ≡ true) → value_items passes i g ≡ value_items (λ _. true) i g
 reached_items passes i [] h = refl

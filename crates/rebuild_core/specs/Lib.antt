@@ -8,6 +8,7 @@ pub mod Rows
 pub mod RowNames
 pub mod Disclosed
 pub mod Graph
+pub mod Met
 pub mod Numbers
 pub mod Cursor
 pub mod Whole

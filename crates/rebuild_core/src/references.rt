@@ -1,14 +1,15 @@
 // Whether each disclosure stands at one place.
-ghost use Rattle.std.specs.Prelude.{◌≡◌, ◌≤◌, ℕ, map, length, IfOk, IfErr, MatchOption};
-ghost use Rattle.claim_tree.specs.Lists.{Nowhere, IsLeast};
+ghost use Rattle.std.specs.Prelude.{◌≡◌, ◌<◌, ◌≤◌, ℕ, suc, map, length, IfOk, OnOk, IfErr, MatchOption};
+ghost use Rattle.claim_tree.specs.Lists.{In, Nowhere, IsLeast};
 ghost use Rattle.claim_tree.specs.Tree.{IsOrdered, depth};
 ghost use Rattle.claim_tree.specs.View.{tree_of};
 ghost use Rattle.rebuild_core.specs.Answer.{IsPayload, ValuesShallow, IsRefusal};
 ghost use Rattle.rebuild_core.specs.Conditions.{RepeatedDisclosure, Misused, IsReferencedOnce};
-ghost use Rattle.rebuild_core.specs.Given.{look_ups};
-ghost use Rattle.rebuild_core.specs.Given.{counted, RoseWithin};
+ghost use Rattle.rebuild_core.specs.Given.{given_digests, look_ups, counted, RoseWithin};
+ghost use Rattle.rebuild_core.specs.Graph.{Ascends, Recurs};
 ghost use Rattle.rebuild_core.specs.Cursor.{AreTold};
-ghost use Rattle.rebuild_core.specs.Numbers.{IsFlat, IsNumbered};
+ghost use Rattle.rebuild_core.specs.Met.{met_in, IsGivenRefusal};
+ghost use Rattle.rebuild_core.specs.Numbers.{numbers, all_interned, row_texts, IsFlat, IsNumbered};
 ghost use Rattle.rebuild_core.specs.Payload.{without_alg};
 ghost use Rattle.rebuild_core.specs.Rows.{seen, all_rows as rows_of};
 
@@ -19,6 +20,7 @@ use crate::rows::{Row, RowList, all_rows};
 use claim_tree::Tree;
 use digest_index::{DigestIndex, Steps};
 use digest_sites::{GivenList, is_misused};
+use sd_outside::NoMemory;
 use std::alloc::Global;
 
 // The digests of a payload and of all values, where each disclosure stands at one of them.
@@ -64,8 +66,51 @@ struct Numbered<'a> {
     index: DigestIndex,
 }
 
+// The digests of the disclosures by number, where none is given twice.
+fn index_given(
+    alloc: Global,
+    given: &GivenList,
+    steps: &mut Steps,
+) -> Result<DigestIndex, ProcessError>
+    ensures repeated { IfOk result (λ _. Nowhere (RepeatedDisclosure given.now)) }
+    ensures index { IfOk result (λ index. index ≡ given_digests given.now) }
+    ensures refused { IfErr result (IsGivenRefusal given.now) }
+    ensures counted { IfOk result (λ _. steps.new ≡ counted steps.old (length given.now)) }
+    ensures risen { RoseWithin (length given.now) steps.old steps.new }
+{
+    let mut index = DigestIndex::new(alloc);
+    match number_given(given, &mut index, steps) {
+        Ok(None) => Ok(index),
+        Ok(Some(i)) => Err(ProcessError::RepeatedDisclosure(i)),
+        Err(_) => Err(ProcessError::Memory),
+    }
+}
+
+// The digests of rows by number, after those of the disclosures.
+fn number_list<'a>(
+    alloc: Global,
+    list: RowList<'a>,
+    index: DigestIndex,
+    steps: &mut Steps,
+) -> Result<Numbered<'a>, NoMemory>
+    ensures rows { IfOk result (λ found. found.rows.items ≡ list.entry.rows.items) }
+    ensures ends { IfOk result (λ found. found.graph.ends.items ≡ list.entry.ends.items) }
+    ensures numbers { IfOk result (λ found. found.graph.numbers.items ≡ numbers index (row_texts list.entry.rows.items)) }
+    ensures index { IfOk result (λ found. found.index ≡ all_interned index (row_texts list.entry.rows.items)) }
+    ensures counted { IfOk result (λ _. steps.new ≡ counted steps.old (length list.entry.rows.items)) }
+    ensures risen { RoseWithin (length list.entry.rows.items) steps.old steps.new }
+{
+    let mut index = index;
+    let numbers = number_rows(alloc, list.rows.as_slice(), &mut index, steps)?;
+    let RowList { rows, ends } = list;
+    Ok(Numbered {
+        rows,
+        graph: Graph { numbers, ends },
+        index,
+    })
+}
+
 // Judges that no disclosure is given twice and no reserved name is misused, and numbers the digests.
-#[tactic(auto, using(crate::proofs::Judged::risen_both, crate::proofs::Judged::counted_both))]
 fn number_all<'a>(
     alloc: Global,
     payload: &'a Tree,
@@ -84,20 +129,68 @@ fn number_all<'a>(
     ensures risen { RoseWithin (look_ups (without_alg (tree_of payload.now)) given.now) steps.old steps.new }
 {
     is_ordered(payload);
-    let mut index = DigestIndex::new(alloc);
-    if let Some(i) = number_given(given, &mut index, steps)? {
-        return Err(ProcessError::RepeatedDisclosure(i));
-    }
+    let index = match index_given(alloc, given, steps) {
+        Ok(index) => index,
+        Err(error) => return Err(error),
+    };
     if let Some(i) = first_misused(payload, given) {
         return Err(ProcessError::ReservedMisused(i));
     }
-    let RowList { rows, ends } = all_rows(alloc, payload, given)?;
-    let numbers = number_rows(alloc, rows.as_slice(), &mut index, steps)?;
-    Ok(Numbered {
-        rows,
-        graph: Graph { numbers, ends },
-        index,
-    })
+    let list = match all_rows(alloc, payload, given) {
+        Ok(list) => list,
+        Err(_) => return Err(ProcessError::Memory),
+    };
+    match number_list(alloc, list, index, steps) {
+        Ok(found) => Ok(found),
+        Err(_) => Err(ProcessError::Memory),
+    }
+}
+
+// The first number of the met list that equals an earlier one.
+fn first_met_twice(
+    alloc: Global,
+    graph: &Graph,
+    flags: &[bool],
+    count: usize,
+) -> Result<Option<usize>, NoMemory>
+    requires ascends { Ascends 0 graph.now.ends.items (length graph.now.numbers.items) }
+    requires flags { length graph.now.ends.items ≡ suc (length flags.now) }
+    requires below { (k : ℕ) → In k (met_in graph.now flags.now) → k < count }
+    ensures { IfOk result (λ r. MatchOption r (Nowhere (Recurs (met_in graph.now flags.now))) (λ place. IsLeast (Recurs (met_in graph.now flags.now)) place)) }
+{
+    let met = met_numbers(alloc, graph, flags)?;
+    first_recurring(alloc, count, met.as_slice())
+}
+
+// Judges that no digest of the met list repeats, and each disclosure is reached.
+fn check_met(
+    alloc: Global,
+    payload: &Tree,
+    given: &GivenList,
+    numbered: &Numbered<'_>,
+) -> Result<(), ProcessError>
+    requires object { IsPayload (tree_of payload.now) }
+    requires flat { IsFlat (tree_of payload.now) given.now numbered.now.index numbered.now.graph.numbers.items numbered.now.graph.ends.items }
+    requires repeated { Nowhere (RepeatedDisclosure given.now) }
+    requires misused { Nowhere (Misused (without_alg (tree_of payload.now)) given.now) }
+    ensures referenced { OnOk result (IsReferencedOnce (without_alg (tree_of payload.now)) given.now) }
+    ensures refused { IfErr result (IsRefusal (without_alg (tree_of payload.now)) given.now) }
+{
+    is_ordered(payload);
+    let flags = match reach(alloc, given.len(), &numbered.graph) {
+        Ok(flags) => flags,
+        Err(_) => return Err(ProcessError::Memory),
+    };
+    let flags = flags.as_slice();
+    match first_met_twice(alloc, &numbered.graph, flags, numbered.index.len()) {
+        Ok(None) => (),
+        Ok(Some(place)) => return Err(ProcessError::RepeatedDigest(place)),
+        Err(_) => return Err(ProcessError::Memory),
+    }
+    if let Some(i) = first_clear(flags) {
+        return Err(ProcessError::Unreferenced(i));
+    }
+    Ok(())
 }
 
 // Judges that no disclosure is given twice, no reserved name is misused, no digest of the met list repeats, and each
@@ -120,18 +213,15 @@ pub(crate) fn check_references<'a>(
     ensures risen { RoseWithin (look_ups (without_alg (tree_of payload.now)) given.now) steps.old steps.new }
 {
     is_ordered(payload);
-    let Numbered { rows, graph, index } = match number_all(alloc, payload, given, steps) {
+    let found = match number_all(alloc, payload, given, steps) {
         Ok(found) => found,
-        Err(e) => return Err(e),
+        Err(error) => return Err(error),
     };
-    let flags = reach(alloc, given.len(), &graph)?;
-    let flags = flags.as_slice();
-    let met = met_numbers(alloc, &graph, flags)?;
-    if let Some(place) = first_recurring(alloc, index.len(), met.as_slice())? {
-        return Err(ProcessError::RepeatedDigest(place));
+    match check_met(alloc, payload, given, &found) {
+        Ok(()) => Ok(References {
+            rows: found.rows,
+            graph: found.graph,
+        }),
+        Err(error) => Err(error),
     }
-    if let Some(i) = first_clear(flags) {
-        return Err(ProcessError::Unreferenced(i));
-    }
-    Ok(References { rows, graph })
 }
