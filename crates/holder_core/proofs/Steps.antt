@@ -7,6 +7,7 @@ use Rattle.claim_tree.specs.Tree.{Text, Tree}
 use Rattle.compact_form.specs.Compact.{AreWords}
 use Rattle.compact_form.specs.Compact as form
 use Rattle.compact_form.specs.Condition.{number_of}
+use Rattle.compact_form.specs.Lowest.{IsLowest}
 use Rattle.compact_form.specs.Views.{jwt_of}
 use Rattle.compact_form.specs.declared.parts.JwtParts.{JwtParts}
 use Rattle.compact_form.specs.declared.parts.Parts.{Parts}
@@ -21,16 +22,23 @@ use Rattle.marked_tree.specs.Choice.{chosen}
 use Rattle.marked_tree.specs.Marked.{Marked, strip}
 use Rattle.marked_tree.specs.Numbers.{has}
 use Rattle.selection_core.specs.Consent.{Answers, AllAllowed, IsRefusedAt}
-use Rattle.verifier_core.specs.Check.{IsUncounted}
-use Rattle.verifier_core.specs.Verdict.{TokenFails, HasHash}
+use Rattle.verifier_core.specs.Check.{OnFault, IsUncounted}
+use Rattle.verifier_core.specs.Verdict.{Rules, TokenFails, HasHash}
+use Rattle.verifier_core.specs.declared.check.VerifyError.{VerifyError}
 use Rattle.holder_core.specs.declared.ask.Ask.{Ask}
 use Rattle.holder_core.specs.declared.ask.BindingAsk.{BindingAsk}
 use Rattle.holder_core.specs.declared.errors.PresentError.{PresentError}
 use Rattle.holder_core.specs.declared.errors.PresentError.TheVariants.{Memory, Token as OnCondition, HasBinding, NoSuchPlace, ConsentRefused, BindingKeyDiffers, SignFailed, TooLong}
+use Rattle.holder_core.specs.Unchecked.{unchecked}
 use Rattle.holder_core.specs.Present.{picked, shown, rules_of, IsHeld, IsAgreed, NamesKey, IsAnswer, Refuses, PresentFails, of_file, of_token}
 use Rattle.holder_core.specs.Presenting.{IsUnchecked, IsUnchosen, IsChosen, IsOtherKey, IsReady, IsUnready, IsUncheckedOrUnready, IsFinished, IsUnfinished}
 use Rattle.marked_tree.proofs.PrunedSame.{Same, prune_same}
 use Rattle.holder_core.proofs.Picking.{picked_same, picked_words}
+
+-- a token that is not checked
+pub unchecked_told : (token : Token) (rules : Rules) (e : VerifyError) → OnFault e (IsLowest (TokenFails token rules)) → IsUnchecked token rules (unchecked e)
+unchecked_told token rules VerifyError.Memory h = tt
+unchecked_told token rules (VerifyError.Fault fault) h = h
 
 module _ {F : Type 0} (answers : Answers F) (rule : F) (m : Marked) (s t : ℕ → Bool) (same : Same s t) where
   pub allowed_same : AllAllowed answers rule m s → AllAllowed answers rule m t

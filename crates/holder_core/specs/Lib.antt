@@ -1,3 +1,4 @@
+pub mod Unchecked
 pub mod Present
 pub mod PresentFile
 pub mod Presenting

@@ -1,5 +1,6 @@
 use compact_form::Fault;
 use sd_outside::NoMemory;
+use verifier_core::VerifyError;
 
 /// Why nothing is presented.
 ///
@@ -33,5 +34,19 @@ impl From<NoMemory> for PresentError {
 
     fn from(_: NoMemory) -> Self {
         PresentError::Memory
+    }
+}
+
+impl From<VerifyError> for PresentError {
+    ghost use Rattle.std.specs.Prelude.{◌≡◌};
+    ghost use Rattle.holder_core.specs.Unchecked.{unchecked};
+
+    ghost from_gives = { λ error e. e ≡ unchecked error };
+
+    fn from(error: VerifyError) -> Self {
+        match error {
+            VerifyError::Memory => PresentError::Memory,
+            VerifyError::Fault(fault) => PresentError::Token(fault),
+        }
     }
 }

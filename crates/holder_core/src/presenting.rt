@@ -16,8 +16,8 @@ ghost use Rattle.marked_tree.specs.Choice.{IsUnmixed};
 ghost use Rattle.marked_tree.specs.Marked.{strip};
 ghost use Rattle.marked_tree.specs.Numbers.{has};
 ghost use Rattle.marked_tree.specs.View.{marked_of};
-ghost use Rattle.verifier_core.specs.Verdict.{TokenFails, IsChecked, HasHash};
-ghost use Rattle.verifier_core.specs.Check.{IsCounted, IsCountedWithin, IsReadWithin, IsUncounted};
+ghost use Rattle.verifier_core.specs.Verdict.{TokenFails, HasHash};
+ghost use Rattle.verifier_core.specs.Check.{OnFault, IsContent, IsCounted, IsCountedWithin, IsReadWithin, IsUncounted, asked};
 ghost use Rattle.holder_core.specs.Present.{rules_of, picked, shown, IsHeld, IsAnswer, Refuses, IsPresented, IsNotPresented, PresentFails, NamesKey};
 ghost use Rattle.holder_core.specs.Presenting.{IsUnchecked, IsUnchosen, IsChosen, IsOtherKey, IsReady, IsUnready, IsUnsigned, IsFinished, IsUnfinished, IsMadeReady, IsUncheckedOrUnready};
 ghost use Rattle.holder_core.specs.declared.errors.PresentError.{PresentError};
@@ -25,17 +25,17 @@ ghost use Rattle.holder_core.specs.declared.errors.PresentError.{PresentError};
 use crate::whole::whole_parts;
 use crate::{Ask, BindingAsk, PresentError};
 use claim_tree::{Path, PathList, Tree};
-use compact_form::{COMPACT_MAX, Parts, Pieces, View, hashed_text, is_longer_than};
+use compact_form::{COMPACT_MAX, Parts, hashed_text, is_longer_than};
 use digest_index::Steps;
 use disclosure::HashAlg;
 use hmac_sign::{KeySet, Signer};
-use json_form::{TokenError, TokenText};
+use json_form::{Disclosures, TokenError, TokenText, TokenView};
 use key_binding::{BindError, bind, holder_kid};
 use marked_tree::{ChosenSet, Marked, into_tree, prune};
 use sd_outside::{NoMemory, TextBox, TextList};
 use selection_core::{AllowError, ChooseError, Consent, allow, choose};
 use std::alloc::Global;
-use verifier_core::{CheckedMarks, VerifyError, check_marks};
+use verifier_core::{Content, Rules, VerifyError};
 
 /// Presents a token as it comes from a file, RFC 9901 section 7.2: the issuer's JWT, the disclosures that lead to the wanted places in
 /// their order, and a key binding token of a moment in seconds since 1970 where one is asked for.
@@ -77,16 +77,17 @@ pub fn present<S: Signer, F: Fn(&Path) -> bool>(
         Err(TokenError::Memory) => return Err(PresentError::Memory),
         Err(TokenError::Fault(fault)) => return Err(PresentError::Token(fault)),
     };
-    if token.view().binding().is_some() {
+    let view = token.view();
+    if view.binding().is_some() {
         return Err(PresentError::HasBinding);
     }
-    present_token(alloc, &token, ask, consent, signer, now, steps)
+    present_token(alloc, &view, ask, consent, signer, now, steps)
 }
 
 // Presents a token that has no key binding token.
 fn present_token<S: Signer, F: Fn(&Path) -> bool>(
     alloc: Global,
-    token: &TokenText<'_>,
+    token: &TokenView<'_>,
     ask: &Ask,
     consent: &Consent<F>,
     signer: &mut S,
@@ -121,7 +122,7 @@ fn present_token<S: Signer, F: Fn(&Path) -> bool>(
 // The token with the disclosures that are asked for, if nothing is refused, and the algorithm of its digests.
 fn ready_parts<F: Fn(&Path) -> bool>(
     alloc: Global,
-    token: &TokenText<'_>,
+    token: &TokenView<'_>,
     ask: &Ask,
     consent: &Consent<F>,
     steps: &mut Steps,
@@ -139,15 +140,13 @@ fn ready_parts<F: Fn(&Path) -> bool>(
     ensures within { IsCountedWithin token.now steps.old steps.new }
     ensures uncounted { IsUncounted (TokenFails token.now (rules_of ask.now.keys)) steps.old steps.new }
 {
-    if token.view().count() == 0 {
-        return whole_parts(alloc, token, ask, steps);
+    let content = check_held(alloc, token, &ask.keys)?;
+    if token.count() == 0 {
+        return whole_parts(alloc, token, content, ask, steps);
     }
-    let checked = match check_held(alloc, token, &ask.keys, steps) {
-        Ok(checked) => checked,
-        Err(error) => return Err(error),
-    };
-    match choose_parts(alloc, token, &checked.marked, ask, consent) {
-        Ok(unbound) => Ok((unbound, checked.hash)),
+    let opened = content.open(alloc, steps)?;
+    match choose_parts(alloc, token, &opened.marked, ask, consent) {
+        Ok(unbound) => Ok((unbound, opened.hash)),
         Err(error) => Err(error),
     }
 }
@@ -155,7 +154,7 @@ fn ready_parts<F: Fn(&Path) -> bool>(
 // The token with the disclosures that are asked for, if nothing is refused.
 fn choose_parts<F: Fn(&Path) -> bool>(
     alloc: Global,
-    token: &TokenText<'_>,
+    token: &TokenView<'_>,
     marked: &Marked,
     ask: &Ask,
     consent: &Consent<F>,
@@ -175,7 +174,7 @@ fn choose_parts<F: Fn(&Path) -> bool>(
     if let Err(error) = check_key(alloc, &ask.binding, marked, &chosen) {
         return Err(error);
     }
-    Ok(picked_parts(alloc, &token.view(), &chosen)?)
+    Ok(picked_parts(alloc, token, &chosen)?)
 }
 
 // The parts with the key binding token that is asked for, unless they are too long.
@@ -211,7 +210,7 @@ fn finish<S: Signer>(
 }
 
 // The algorithms that are allowed.
-pub(crate) fn hs256_alone(alloc: Global) -> Result<TextList, NoMemory>
+fn hs256_alone(alloc: Global) -> Result<TextList, NoMemory>
     ensures { IfOk result (λ algs. algs ≡ codes "HS256" ∷ []) }
 {
     let mut algs = TextList::new(alloc);
@@ -219,28 +218,33 @@ pub(crate) fn hs256_alone(alloc: Global) -> Result<TextList, NoMemory>
     Ok(algs)
 }
 
-// The conditions 5 to 21, but 8.
-fn check_held(
+// The conditions 5 to 13, but 8, where the token may be signed with these algorithms.
+fn read_signed<'a>(
     alloc: Global,
-    token: &TokenText<'_>,
-    keys: &KeySet,
-    steps: &mut Steps,
-) -> Result<CheckedMarks, PresentError>
+    token: &TokenView<'_>,
+    keys: &'a KeySet,
+    algs: &'a TextList,
+) -> Result<Content, VerifyError>
     requires few { length token.now.parts.disclosures < 2 ^ 32 - 1 }
-    ensures checked { IfOk result (λ c. IsChecked token.now (rules_of keys.now) (marked_of c.marked)) }
-    ensures hash { IfOk result (λ c. HasHash token.now c.hash) }
+    ensures content { IfOk result (IsContent token.now (asked keys.now algs.now None)) }
+    ensures refused { IfErr result (λ e. OnFault e (IsLowest (TokenFails token.now (asked keys.now algs.now None)))) }
+{
+    let rules = Rules {
+        keys,
+        algs,
+        typ: None,
+    };
+    Content::read(alloc, token, &rules)
+}
+
+// The conditions 5 to 13, but 8, where it may be signed with HS256 alone.
+fn check_held(alloc: Global, token: &TokenView<'_>, keys: &KeySet) -> Result<Content, PresentError>
+    requires few { length token.now.parts.disclosures < 2 ^ 32 - 1 }
+    ensures content { IfOk result (IsContent token.now (rules_of keys.now)) }
     ensures refused { IfErr result (IsUnchecked token.now (rules_of keys.now)) }
-    ensures counted { IfOk result (λ _. IsCounted token.now steps.old steps.new) }
-    ensures within { IsCountedWithin token.now steps.old steps.new }
-    ensures uncounted { IsUncounted (TokenFails token.now (rules_of keys.now)) steps.old steps.new }
 {
     let algs = hs256_alone(alloc)?;
-    let view = token.view();
-    match check_marks(alloc, &view, token.outer(), keys, &algs, None, steps) {
-        Ok(checked) => Ok(checked),
-        Err(VerifyError::Memory) => Err(PresentError::Memory),
-        Err(VerifyError::Fault(fault)) => Err(PresentError::Token(fault)),
-    }
+    Ok(read_signed(alloc, token, keys, &algs)?)
 }
 
 // The disclosures that lead to the wanted places, if each place is there and the rule allows all that is chosen.
@@ -304,17 +308,17 @@ pub(crate) fn check_named(binding: &BindingAsk, payload: &Tree) -> Result<(), Pr
 // The token with the chosen disclosures alone.
 pub(crate) fn picked_parts(
     alloc: Global,
-    view: &View<'_>,
+    token: &TokenView<'_>,
     chosen: &ChosenSet,
 ) -> Result<Parts, NoMemory>
-    requires few { length view.now.disclosures < 2 ^ 32 - 1 }
-    ensures signed { IfOk result (λ parts. parts.signed ≡ view.now.signed) }
-    ensures disclosures { IfOk result (λ parts. parts.disclosures ≡ picked (has chosen.now) view.now.disclosures) }
+    requires few { length token.now.parts.disclosures < 2 ^ 32 - 1 }
+    ensures signed { IfOk result (λ parts. parts.signed ≡ token.now.parts.signed) }
+    ensures disclosures { IfOk result (λ parts. parts.disclosures ≡ picked (has chosen.now) token.now.parts.disclosures) }
     ensures unbound { IfOk result (λ parts. parts.binding ≡ None) }
-    ensures words { AreWords view.now → IfOk result AreWords }
+    ensures words { AreWords token.now.parts → IfOk result AreWords }
 {
-    let signed = view.signed().to_parts(alloc)?;
-    let disclosures = pick(alloc, view.pieces(), chosen)?;
+    let signed = token.signed().to_parts(alloc)?;
+    let disclosures = pick(alloc, token.disclosures(), chosen)?;
     Ok(Parts {
         signed,
         disclosures,
@@ -323,7 +327,11 @@ pub(crate) fn picked_parts(
 }
 
 // The chosen disclosures, in their order.
-fn pick(alloc: Global, disclosures: Pieces<'_>, chosen: &ChosenSet) -> Result<TextList, NoMemory>
+fn pick(
+    alloc: Global,
+    disclosures: Disclosures<'_>,
+    chosen: &ChosenSet,
+) -> Result<TextList, NoMemory>
     requires few { length disclosures < 2 ^ 32 - 1 }
     ensures { IfOk result (λ texts. texts ≡ picked (has chosen.now) disclosures.entry) }
 {

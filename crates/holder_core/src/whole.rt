@@ -4,32 +4,33 @@ ghost use Rattle.claim_tree.specs.Lists.{IsLeast, Nowhere};
 ghost use Rattle.claim_tree.specs.View.{tree_of};
 ghost use Rattle.compact_form.specs.Compact.{AreWords};
 ghost use Rattle.selection_core.specs.Refusals.{IsMissing};
-ghost use Rattle.verifier_core.specs.Verdict.{TokenFails, IsCheckedAs, HasHash};
-ghost use Rattle.verifier_core.specs.Check.{IsCounted, IsCountedWithin, IsUncounted};
+ghost use Rattle.verifier_core.specs.Verdict.{HasHash};
+ghost use Rattle.verifier_core.specs.Check.{IsContent, IsCounted, IsCountedWithin};
 ghost use Rattle.holder_core.specs.Present.{rules_of, NamesKey};
 ghost use Rattle.holder_core.specs.Presenting.{IsUnchecked, IsOtherKey, IsWholeReady, IsWholeUnready, IsMadeWhole, IsUncheckedOrUnmade};
 
-use crate::presenting::{check_named, hs256_alone, picked_parts};
+use crate::presenting::{check_named, picked_parts};
 use crate::{Ask, BindingAsk, PresentError};
 use claim_tree::{PathList, Tree, find};
 use compact_form::Parts;
 use digest_index::Steps;
 use disclosure::HashAlg;
-use hmac_sign::KeySet;
-use json_form::TokenText;
+use json_form::TokenView;
 use marked_tree::ChosenSet;
 use std::alloc::Global;
-use verifier_core::{CheckedPayload, VerifyError, check_processed};
+use verifier_core::Content;
 
-// The token, if nothing is refused, and the algorithm of its digests.
+// The token, if nothing is refused, and the algorithm of its digests. This is read of it.
 pub(crate) fn whole_parts(
     alloc: Global,
-    token: &TokenText<'_>,
+    token: &TokenView<'_>,
+    content: Content,
     ask: &Ask,
     steps: &mut Steps,
 ) -> Result<(Parts, HashAlg), PresentError>
     requires few { length token.now.parts.disclosures < 2 ^ 32 - 1 }
     requires words { AreWords token.now.parts }
+    requires content { IsContent token.now (rules_of ask.now.keys) content }
     ensures ready { IfOk result (λ r. IsMadeWhole token.now ask.now r.0) }
     ensures words { IfOk result (λ r. AreWords r.0) }
     ensures none { IfOk result (λ r. r.0.binding ≡ None) }
@@ -37,46 +38,18 @@ pub(crate) fn whole_parts(
     ensures refused { IfErr result (IsUncheckedOrUnmade token.now ask.now) }
     ensures counted { IfOk result (λ _. IsCounted token.now steps.old steps.new) }
     ensures within { IsCountedWithin token.now steps.old steps.new }
-    ensures uncounted { IsUncounted (TokenFails token.now (rules_of ask.now.keys)) steps.old steps.new }
 {
-    let checked = match check_whole(alloc, token, &ask.keys, steps) {
-        Ok(checked) => checked,
-        Err(error) => return Err(error),
-    };
-    match wanted_parts(alloc, token, &checked.payload, ask) {
-        Ok(unbound) => Ok((unbound, checked.hash)),
+    let opened = content.open_payload(alloc, steps)?;
+    match wanted_parts(alloc, token, &opened.payload, ask) {
+        Ok(unbound) => Ok((unbound, opened.hash)),
         Err(error) => Err(error),
-    }
-}
-
-// The conditions 5 to 21, but 8, for the processed payload alone.
-fn check_whole(
-    alloc: Global,
-    token: &TokenText<'_>,
-    keys: &KeySet,
-    steps: &mut Steps,
-) -> Result<CheckedPayload, PresentError>
-    requires few { length token.now.parts.disclosures < 2 ^ 32 - 1 }
-    ensures checked { IfOk result (λ c. IsCheckedAs token.now (rules_of keys.now) (tree_of c.payload)) }
-    ensures hash { IfOk result (λ c. HasHash token.now c.hash) }
-    ensures refused { IfErr result (IsUnchecked token.now (rules_of keys.now)) }
-    ensures counted { IfOk result (λ _. IsCounted token.now steps.old steps.new) }
-    ensures within { IsCountedWithin token.now steps.old steps.new }
-    ensures uncounted { IsUncounted (TokenFails token.now (rules_of keys.now)) steps.old steps.new }
-{
-    let algs = hs256_alone(alloc)?;
-    let view = token.view();
-    match check_processed(alloc, &view, token.outer(), keys, &algs, None, steps) {
-        Ok(checked) => Ok(checked),
-        Err(VerifyError::Memory) => Err(PresentError::Memory),
-        Err(VerifyError::Fault(fault)) => Err(PresentError::Token(fault)),
     }
 }
 
 // The token, if each wanted place is in the payload, and the payload names the key of the ask.
 fn wanted_parts(
     alloc: Global,
-    token: &TokenText<'_>,
+    token: &TokenView<'_>,
     payload: &Tree,
     ask: &Ask,
 ) -> Result<Parts, PresentError>
@@ -92,7 +65,7 @@ fn wanted_parts(
     if let Err(error) = check_binding(&ask.binding, payload) {
         return Err(error);
     }
-    Ok(picked_parts(alloc, &token.view(), &ChosenSet::new(alloc))?)
+    Ok(picked_parts(alloc, token, &ChosenSet::new(alloc))?)
 }
 
 // Whether the payload names the key of the ask, where a key binding token is asked for.

@@ -1,4 +1,5 @@
 mod Members
+mod Lists
 mod SayOrFail
 mod Objects
 mod WrittenForms

@@ -1,8 +1,15 @@
--- For private functions: the parts of a token that is borrowed from.
+-- For private functions: the parts and the disclosures of a token that is borrowed from.
+use Rattle.std.specs.Prelude.{List, drop}
+use Rattle.claim_tree.specs.Tree.{Text}
 use Rattle.compact_form.specs.declared.parts.Parts.{Parts}
 use Rattle.compact_form.specs.Compact.{IsCompact}
 use Rattle.json_form.specs.declared.token_text.Source.{Source}
 use Rattle.json_form.specs.declared.token_text.Source.TheVariants.{Borrowed, Owned}
+use Rattle.json_form.specs.declared.token_view.Lent.{Lent}
+use Rattle.json_form.specs.declared.token_view.Lent.TheVariants.{Text as InText, Apart}
+use Rattle.json_form.specs.declared.disclosures.Rest.{Rest}
+use Rattle.json_form.specs.declared.disclosures.Stand.{Stand}
+use Rattle.json_form.specs.declared.disclosures.Stand.TheVariants.{Text as OfText, List as OfList}
 
 abbrev pub parts_of : Source → Parts
 parts_of (Borrowed parts) = parts
@@ -12,3 +19,15 @@ parts_of (Owned parts text) = parts
 abbrev pub IsSpelled : Source → Type 0
 IsSpelled (Borrowed parts) = Unit {0}
 IsSpelled (Owned parts text) = IsCompact parts text
+
+abbrev pub lent_parts : Lent → Parts
+lent_parts (InText parts) = parts
+lent_parts (Apart parts) = parts.now
+
+-- the texts of a list that are still to come
+abbrev pub rest_of : Rest → List Text
+rest_of rest = drop rest.at rest.texts.now
+
+abbrev pub to_come : Stand → List Text
+to_come (OfText pieces) = pieces
+to_come (OfList rest) = rest_of rest

@@ -1,10 +1,11 @@
 //! Tokens as they come from a file, in the serializations of RFC 9901.
 //!
 //! [`read_token`] reads the compact serialization (section 4) and, where a text begins with `{`, the JSON ones, flattened
-//! and general (section 8). [`TokenText`] does the same without a copy of a compact text. [`parse_json`] reads the JSON ones
-//! alone; [`print_flat`] and [`print_general`] write them.
+//! and general (section 8). [`TokenText`] does the same without a copy of a compact text. A [`TokenView`] borrows a token,
+//! wherever its parts stand. [`parse_json`] reads the JSON ones alone; [`print_flat`] and [`print_general`] write them.
 #![tactic(auto)]
 
+mod disclosures;
 mod entries;
 mod entry;
 mod json_error;
@@ -13,10 +14,13 @@ pub mod laws;
 mod printing;
 mod token;
 mod token_text;
+mod token_view;
 mod values;
 
+pub use disclosures::Disclosures;
 pub use json_error::JsonFormError;
 pub use json_text::parse_json;
 pub use printing::{print_flat, print_general};
 pub use token::{Token, TokenError, read_token};
 pub use token_text::TokenText;
+pub use token_view::TokenView;

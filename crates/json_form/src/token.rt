@@ -3,7 +3,7 @@ ghost use Rattle.compact_form.specs.declared.fault.Fault.{Fault as TheFault};
 ghost use Rattle.json_form.specs.Token.{IsToken, IsRefused};
 ghost use Rattle.json_form.specs.Written.{IsPrintable};
 
-use crate::{JsonFormError, TokenText};
+use crate::{JsonFormError, TokenText, TokenView};
 use claim_tree::TreeMap;
 use compact_form::{FORM, Fault, Parts, Place};
 use sd_outside::NoMemory;
@@ -17,6 +17,15 @@ pub struct Token {
     /// The members of the unprotected header other than `disclosures` and `kb_jwt` (RFC 9901 section 8). A compact
     /// token has none.
     pub outer: TreeMap,
+}
+
+impl Token {
+    /// The token, borrowed.
+    pub fn view(&self) -> TokenView<'_>
+        ensures { result ≡ self.now }
+    {
+        TokenView::apart(&self.parts, &self.outer)
+    }
 }
 
 /// Why a text has no token to show.

@@ -1,6 +1,6 @@
 // A token with its parts in one compact text, in whichever serialization it comes.
 ghost use Rattle.std.specs.Prelude.{◌≡◌, true, false, IfOk, IfSome, IfNone, IsErrOf};
-ghost use Rattle.compact_form.specs.Compact.{AreWords, IsCompact};
+ghost use Rattle.compact_form.specs.Compact.{hashed as hashed_of, AreWords, IsCompact};
 ghost use Rattle.compact_form.specs.Token.{is_json as is_json_test};
 ghost use Rattle.compact_form.specs.Trim.{trimmed};
 ghost use Rattle.compact_form.specs.declared.fault.Fault.{Fault as TheFault};
@@ -9,7 +9,7 @@ ghost use Rattle.json_form.specs.Token.{IsToken, IsRefused, IsTooMuch};
 ghost use Rattle.json_form.specs.Reading.{much_fault};
 ghost use Rattle.json_form.specs.Written.{IsPrintable};
 
-use crate::{Token, TokenError, parse_json};
+use crate::{Token, TokenError, TokenView, parse_json};
 use claim_tree::TreeMap;
 use compact_form::{
     COMPACT_MAX, COUNT_MAX, FILE_MAX, Fault, Parts, Place, TOO_LONG, TOO_MUCH, View, is_json,
@@ -159,22 +159,24 @@ impl<'a> TokenText<'a> {
         }
     }
 
-    /// The parts, borrowed.
-    pub fn view(&self) -> View<'_>
-        ensures { result ≡ self.now.parts }
+    /// The token, borrowed.
+    pub fn view(&self) -> TokenView<'_>
+        ensures { result ≡ self.now }
     {
         match &self.source {
-            Source::Borrowed(view) => view.copy(),
-            Source::Owned(_, compact) => return view_of(compact),
+            Source::Borrowed(view) => TokenView::in_text(view.copy(), &self.outer),
+            Source::Owned(parts, _) => TokenView::apart(parts, &self.outer),
         }
     }
 
-    /// The members of the unprotected header other than `disclosures` and `kb_jwt` (RFC 9901 section 8). A compact
-    /// token has none.
-    pub fn outer(&self) -> &TreeMap
-        ensures { result.now ≡ self.now.outer }
+    /// Its compact text up to and with the last tilde, which a key binding token hashes (RFC 9901 section 4.3.1).
+    pub fn hashed(&self) -> &str
+        ensures { result.now ≡ hashed_of self.now.parts }
     {
-        &self.outer
+        match &self.source {
+            Source::Borrowed(view) => view.hashed(),
+            Source::Owned(_, compact) => view_of(compact).hashed(),
+        }
     }
 
     /// The token, with texts of its own.

@@ -1,15 +1,15 @@
-// The look-ups of digests, which no run of the program shows, of `verify`, and of `check_token` and `check_view`, which none calls.
+// The look-ups of digests, which no run of the program shows, of `verify`, and of `check_token` and a borrowed token,
+// which none calls.
 use claim_tree::write;
 use compact_form::print;
 use digest_index::Steps;
 use issuer_core::{IssueFile, issue_owned, read_order};
-use json_form::{TokenText, read_token};
+use json_form::{TokenText, TokenView, read_token};
 use sd_outside::TextBox;
 use std::alloc::Global;
 use std::test::Fail;
 use verifier_core::{
-    Accepted, Checked, Policy, VerifyError, check_token, check_view, fault_line, read_policy,
-    verify,
+    Accepted, Checked, Content, Policy, VerifyError, check_token, fault_line, read_policy, verify,
 };
 
 const ORDER: &str =
@@ -100,16 +100,15 @@ fn issued(alloc: Global) -> Result<TextBox, Fail> {
 }
 
 // The look-ups that the check of a view takes, and its claims.
-fn told_of_view(alloc: Global, token: &TokenText<'_>, policy: &Policy) -> Result<String, Fail> {
-    let view = token.view();
-    if view.count() > 2 {
+fn told_of_view(alloc: Global, token: &TokenView<'_>, policy: &Policy) -> Result<String, Fail> {
+    if token.count() > 2 {
         return Err("too many".into());
     }
     let mut steps = Steps::new();
-    let Policy { keys, algs, .. } = policy;
-    let checked = check_view(alloc, &view, token.outer(), keys, algs, None, &mut steps).map_err(
-        |_| "refused",
-    )?;
+    let content = Content::read(alloc, token, &policy.rules()).map_err(|_| "refused")?;
+    let checked = content
+        .open_payload(alloc, &mut steps)
+        .map_err(|_| "refused")?;
     told(alloc, &steps, write(alloc, &checked.payload)?.as_str())
 }
 
@@ -119,7 +118,7 @@ fn a_view_of_an_issued_token_is_checked(rt: HostRuntime) -> Result<(), Fail> {
     let alloc = rt.alloc();
     let text = issued(alloc)?;
     let token = TokenText::read(alloc, text.as_str().as_bytes()).map_err(|_| "no token")?;
-    let found = told_of_view(alloc, &token, &policy(alloc)?)?;
+    let found = told_of_view(alloc, &token.view(), &policy(alloc)?)?;
     assert_eq!(rt; found.as_str(), r#"4 {"age":40,"given":"Ann","iss":"i"}"#);
     Ok(())
 }

@@ -3,7 +3,7 @@ use Rattle.std.proofs.Common.{◌≡◌, [], ◌∷◌, Option, Some, None, true
 use Rattle.std.specs.Fmt.{digits}
 use Rattle.json.specs.Print.{escape_byte}
 use Rattle.b64url_text.specs.Base64url.{letters, is_letter}
-use Rattle.claim_tree.specs.Tree.{Text, Tree, leaf, text, object, no_members, member}
+use Rattle.claim_tree.specs.Tree.{Text, Tree, leaf, text, object, Members, no_members, member}
 use Rattle.compact_form.specs.declared.fault.Place.TheVariants.{Nowhere, At}
 use Rattle.compact_form.specs.Condition as condition
 use Rattle.compact_form.specs.Condition.{number_of}
@@ -12,6 +12,7 @@ use Rattle.compact_form.specs.Compact.{IsCompact}
 use Rattle.compact_form.proofs.Examples.{bound, presented, no_tilde}
 use Rattle.compact_form.proofs.Verdicts.{reads, refused_form}
 use Rattle.json_form.specs.Token.{IsToken}
+use Rattle.json_form.specs.declared.token.Token.{Token}
 use Rattle.json_form.proofs.Tokens.{refused_plainly, read_plainly}
 use Rattle.disclosure.proofs.Examples.{salt, value, a_disclosure, its_digest}
 use Rattle.jws_part.proofs.Examples.{alg_alone, a_head, a_header, sd_alg_alone, a_body}
@@ -27,7 +28,7 @@ use Rattle.sdjwt_cli.specs.Lines.{line, refusal, unread, unreadable_line, short_
 use Rattle.sdjwt_cli.specs.Never.{MayBeShown}
 use Rattle.sdjwt_cli.specs.Presenting.{present_refusal}
 use Rattle.sdjwt_cli.specs.Split.{Gives, Refuses}
-use Rattle.sdjwt_cli.specs.Show.{Shown, show_lines, token_of, Shows, has_known_hash}
+use Rattle.sdjwt_cli.specs.Show.{Shown, show_lines, Shows, has_known_hash}
 use Rattle.sdjwt_cli.specs.Converting.{written}
 
 -- ---- the words
@@ -115,6 +116,9 @@ all_are_shown : MayBeShown [] (codes "a" ∷ [])
 all_are_shown front is = absurd is
 
 -- ---- split
+
+abbrev token_of : Parts → Members → Token
+token_of parts outer = record { parts = parts; outer = outer }
 
 is_read : IsToken (codes "a.b.c~d~e.f.g") (token_of bound no_members)
 is_read = read_plainly (codes "a.b.c~d~e.f.g") (token_of bound no_members) refl (reads (codes "a.b.c~d~e.f.g") bound refl presented (omega arith)) refl

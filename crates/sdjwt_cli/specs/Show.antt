@@ -16,7 +16,6 @@ use Rattle.compact_form.specs.Condition.{number_of}
 use Rattle.compact_form.specs.declared.fault.Fault.{Fault}
 use Rattle.compact_form.specs.declared.fault.Place.TheVariants.{Nowhere, At}
 use Rattle.compact_form.specs.declared.parts.JwtParts.{JwtParts}
-use Rattle.compact_form.specs.declared.parts.Parts.{Parts}
 use Rattle.json_form.specs.declared.token.Token.{Token}
 use Rattle.json_form.specs.Token.{IsRefused, IsToken}
 use Rattle.sdjwt_cli.specs.declared.show.Unshown.{Unshown}
@@ -93,10 +92,6 @@ pub record AddsLines (disclosures : List Text) (old new : Text) : Type 0 where
   pub shown : List Shown
   pub are : AllZip IsShown disclosures shown
   pub more : new ≡ old ++ shown_lines 0 shown
-
--- for private functions: the token of these parts and this unprotected header
-abbrev pub token_of : Parts → Members → Token
-token_of parts outer = record { parts = parts; outer = outer }
 
 -- the first disclosure that is not read
 pub record IsUnreadAt (disclosures : List Text) (fault : Fault) : Type 0 where

@@ -10,7 +10,7 @@ ghost use Rattle.jws_part.specs.Header.{IsUnreadable};
 ghost use Rattle.disclosure.specs.Refusals.{IsRefused};
 ghost use Rattle.compact_form.specs.Views.{jwt_of};
 ghost use Rattle.sdjwt_cli.specs.Lines.{line};
-ghost use Rattle.sdjwt_cli.specs.Show.{has_known_hash as has_known_hash_of, IsHead, IsShown, IsUnread, kind_text, AddsLine, AddsLines, token_of, IsUnreadAt, OnFails, Shows, IsShowRefused, DoesNotShow, fault_of};
+ghost use Rattle.sdjwt_cli.specs.Show.{has_known_hash as has_known_hash_of, IsHead, IsShown, IsUnread, kind_text, AddsLine, AddsLines, IsUnreadAt, OnFails, Shows, IsShowRefused, DoesNotShow, fault_of};
 ghost use Rattle.json_form.specs.Token.{IsToken};
 ghost use Rattle.sdjwt_cli.specs.declared.show.Unshown.TheVariants.{Fails};
 ghost use Rattle.sdjwt_cli.specs.Stops.{OnRefused, OnUnread, OnUnreadable};
@@ -20,10 +20,10 @@ use crate::stop::{Stop, refused};
 use claim_tree::{Tree, TreeMap, write};
 use compact_form::{
     DISCLOSURE_UNREADABLE, Fault, HASH_UNKNOWN, HEADER_UNREADABLE, JwtView, PAYLOAD_UNREADABLE,
-    Pieces, Place, View,
+    Place,
 };
 use disclosure::{Disclosure, DisclosureError, HashAlg, payload_hash, read_disclosure};
-use json_form::{TokenError, TokenText};
+use json_form::{Disclosures, TokenError, TokenText, TokenView};
 use jws_part::{BodyError, HeaderError, read_body, read_header};
 use sd_outside::{NoMemory, TextBox};
 use std::alloc::Global;
@@ -109,7 +109,11 @@ impl From<NoMemory> for Unshown {
 }
 
 // The lines of the disclosures, up to the first that is not read.
-fn push_all_shown(alloc: Global, text: &mut String, disclosures: Pieces<'_>) -> Result<(), Unshown>
+fn push_all_shown(
+    alloc: Global,
+    text: &mut String,
+    disclosures: Disclosures<'_>,
+) -> Result<(), Unshown>
     requires { length disclosures < 2 ^ 64 }
     ensures ok { OnOk result (AddsLines disclosures.entry (string_bytes text.old) (string_bytes text.new)) }
     ensures unread { IfErr result (λ e. OnFails e (IsUnreadAt disclosures.entry)) }
@@ -157,14 +161,9 @@ fn start(alloc: Global, head: &Tree, payload: &Tree, room: usize) -> Result<Stri
     Ok(text)
 }
 
-// The lines of a token that is read, of its parts and its unprotected header.
-fn show_view(
-    alloc: Global,
-    file: &[u8],
-    view: &View<'_>,
-    outer: &TreeMap,
-) -> Result<String, Unshown>
-    requires { IsToken file.now (token_of view.now outer.now) }
+// The lines of a token that is read.
+fn show_view(alloc: Global, file: &[u8], token: &TokenView<'_>) -> Result<String, Unshown>
+    requires { IsToken file.now token.now }
     ensures shows { IfOk result (λ text. Shows file.now (string_bytes text)) }
     ensures fails { IfErr result (λ e. OnFails e (IsShowRefused file.now)) }
 {
@@ -172,8 +171,8 @@ fn show_view(
         protected,
         payload,
         ..
-    } = view.signed();
-    let head = match read_head(alloc, protected, outer) {
+    } = token.signed();
+    let head = match read_head(alloc, protected, token.outer()) {
         Ok(head) => head,
         Err(BodyError::Unreadable) => return Err(fails(HEADER_UNREADABLE)),
         Err(BodyError::Memory) => return Err(Unshown::Memory),
@@ -187,8 +186,8 @@ fn show_view(
         return Err(fails(HASH_UNKNOWN));
     }
     let mut text = start(alloc, &head, &payload, file.len())?;
-    push_all_shown(alloc, &mut text, view.pieces())?;
-    push_binding(&mut text, view.binding())?;
+    push_all_shown(alloc, &mut text, token.disclosures())?;
+    push_binding(&mut text, token.binding())?;
     Ok(text)
 }
 
@@ -202,7 +201,7 @@ fn show_file(alloc: Global, file: &[u8]) -> Result<String, Unshown>
         Err(TokenError::Memory) => return Err(Unshown::Memory),
         Err(TokenError::Fault(fault)) => return Err(Unshown::Fails(fault)),
     };
-    show_view(alloc, file, &token.view(), token.outer())
+    show_view(alloc, file, &token.view())
 }
 
 /// The answer to a token file.

@@ -8,8 +8,8 @@ ghost use Rattle.sdjwt_cli.specs.Split.{numbered, binding_line, signed_lines, sp
 ghost use Rattle.sdjwt_cli.specs.Stops.{OnRefused, OnUnread, OnUnreadable};
 
 use crate::stop::{Stop, refused};
-use compact_form::{JwtView, Pieces, View};
-use json_form::{TokenError, TokenText};
+use compact_form::JwtView;
+use json_form::{Disclosures, TokenError, TokenText, TokenView};
 use sd_outside::NoMemory;
 use std::alloc::Global;
 
@@ -34,7 +34,7 @@ fn push_disclosure(text: &mut String, i: usize, disclosure: &str) -> Result<(), 
     Ok(())
 }
 
-fn push_disclosures(text: &mut String, disclosures: Pieces<'_>) -> Result<(), NoMemory>
+fn push_disclosures(text: &mut String, disclosures: Disclosures<'_>) -> Result<(), NoMemory>
     requires { length disclosures < 2 ^ 64 }
     ensures { OnOk result (string_bytes text.new ≡ string_bytes text.old ++ numbered 0 disclosures.entry) }
 {
@@ -59,13 +59,13 @@ pub(crate) fn push_binding(text: &mut String, binding: Option<JwtView<'_>>) -> R
 }
 
 // The lines of the parts. The text takes memory for `room` bytes at first.
-fn split_text(alloc: Global, view: &View<'_>, room: usize) -> Result<String, NoMemory>
-    ensures { IfOk result (λ text. string_bytes text ≡ split_lines view.now) }
+fn split_text(alloc: Global, token: &TokenView<'_>, room: usize) -> Result<String, NoMemory>
+    ensures { IfOk result (λ text. string_bytes text ≡ split_lines token.now.parts) }
 {
     let mut text = String::with_capacity(alloc, room)?;
-    push_signed(&mut text, view.signed())?;
-    push_disclosures(&mut text, view.pieces())?;
-    push_binding(&mut text, view.binding())?;
+    push_signed(&mut text, token.signed())?;
+    push_disclosures(&mut text, token.disclosures())?;
+    push_binding(&mut text, token.binding())?;
     Ok(text)
 }
 

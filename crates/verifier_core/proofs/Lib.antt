@@ -6,6 +6,7 @@ pub mod TokenConditions
 pub mod CheckSteps
 pub mod CheckTests
 pub mod Verdicts
+pub mod Contents
 pub mod OneVerdict
 pub mod SameVerdict
 pub mod ContentFacts

@@ -1,6 +1,6 @@
 -- The verdict on a file, from the verdicts on its form, its token and its claims.
 use Rattle.std.proofs.Common.{◌≡◌, ℕ, ◌<◌, ◌≤◌, ◌-◌, ◌^◌, ◌⊎◌, inl, inr, List, length, Some, refl, sym, ap, ap₂, subst, ◌∙◌, arith}
-use Rattle.claim_tree.specs.Tree.{Tree, Members}
+use Rattle.claim_tree.specs.Tree.{Tree}
 use Rattle.sd_outside.specs.Limits.{count_max}
 use Rattle.compact_form.specs.declared.fault.Fault.{Fault}
 use Rattle.compact_form.specs.declared.fault.Place.{Place}
@@ -25,20 +25,13 @@ use Rattle.rebuild_core.specs.Opening.{processed}
 use Rattle.compact_form.specs.Condition as condition
 use Rattle.compact_form.specs.Condition.{Condition, number_of}
 use Rattle.verifier_core.specs.Verdict.{TokenFails, ClaimFails, MissingFails, HolderFails, IsBindingMissing, HasHash, Fails, of_file, of_missing, of_token, of_claims, of_holder, rules_of, Opens, IsChecked, IsAccepted}
-use Rattle.verifier_core.specs.Check.{IsUncounted, token_of, ShownFails}
+use Rattle.verifier_core.specs.Check.{IsUncounted, ShownFails}
 use Rattle.verifier_core.specs.declared.policy.Policy.{Policy}
 use Rattle.compact_form.specs.Lowest.{IsNoLater, IsLowest, NoneFails, unplaced}
 use Rattle.compact_form.proofs.Numbers.{one_condition}
 use Rattle.verifier_core.proofs.TokenConditions.{token_numbers}
 use Rattle.verifier_core.proofs.ClaimSteps.{claim_numbers}
 use Rattle.verifier_core.proofs.CheckSteps.{one_content}
-
--- a token by its parts and its unprotected header
-pub whole : (token : Token) (parts : Parts) (outer : Members) → parts ≡ token.parts → outer ≡ token.outer → token_of parts outer ≡ token
-whole token parts outer same others = ap₂ token_of same others
-
-pub is_token : (content : List ℕ) (token : Token) (parts : Parts) (outer : Members) → parts ≡ token.parts → outer ≡ token.outer → IsToken content token → IsToken content (token_of parts outer)
-is_token content token parts outer same others is = subst (IsToken content) (sym (whole token parts outer same others)) is
 
 pub few : (content : List ℕ) (token : Token) → IsToken content token → length token.parts.disclosures < 2 ^ 32 - 1
 few content token is = go (either (length token.parts.disclosures))

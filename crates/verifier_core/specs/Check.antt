@@ -17,12 +17,15 @@ use Rattle.disclosure.specs.declared.digests.HashAlg.{HashAlg}
 use Rattle.digest_sites.specs.Given.{Given}
 use Rattle.json_form.specs.declared.token.Token.{Token}
 use Rattle.json_form.specs.Token.{IsToken}
+use Rattle.marked_tree.specs.Marked.{Marked}
 use Rattle.rebuild_core.specs.Given.{look_ups, counted, RoseWithin}
+use Rattle.rebuild_core.specs.Payload.{without_alg}
 use Rattle.rebuild_core.specs.Answer.{IsRefusal}
 use Rattle.rebuild_core.specs.declared.errors.ProcessError.{ProcessError}
 use Rattle.compact_form.specs.Condition.{Condition, number_of}
-use Rattle.compact_form.specs.Lowest.{unplaced}
-use Rattle.verifier_core.specs.Verdict.{Rules, key_for, HasContent, ClaimFails, HolderFails, IsAlgRefused, IsTypeRefused, IsBadSignature, IsUnread, Gives}
+use Rattle.compact_form.specs.Lowest.{Passes, unplaced}
+use Rattle.verifier_core.specs.Content.{Content}
+use Rattle.verifier_core.specs.Verdict.{Rules, TokenFails, key_for, HasContent, HasHash, IsChecked, IsBindingMissing, rules_of, ClaimFails, HolderFails, IsAlgRefused, IsTypeRefused, IsBadSignature, IsUnread, Gives}
 use Rattle.verifier_core.specs.declared.check.VerifyError.{VerifyError}
 use Rattle.verifier_core.specs.declared.policy.Policy.{Policy}
 
@@ -35,9 +38,15 @@ OnFault (VerifyError.Fault fault) P = P fault
 abbrev pub asked : List NamedKey → List Text → Option Text → Rules
 asked keys algs typ = record { keys = keys; algs = algs; typ = typ }
 
--- the token of these parts, with these members of the unprotected header
-abbrev pub token_of : Parts → Members → Token
-token_of parts outer = record { parts = parts; outer = outer }
+-- the token passes the conditions 5 to 13 under the rules, and this is read of it
+pub record IsContent (token : Token) (rules : Rules) (content : Content) : Type 0 where
+  pub passes : Passes 14 (TokenFails token rules)
+  pub has : HasContent token (without_alg content.body) content.given
+  pub hash : HasHash token content.hash
+
+-- what is so for each token of which this is read
+abbrev pub OfToken : Content → (Token → Rules → Type 0) → Type 0
+OfToken content IsSo = (token : Token) (rules : Rules) → IsContent token rules content → IsSo token rules
 
 -- the look-ups of a token that is checked
 abbrev pub IsCounted : Token → ℕ → ℕ → Type 0
@@ -60,6 +69,13 @@ IsUncounted FailsSo old new = (c : Condition) (place : Place) → FailsSo c plac
 -- what fails each condition on what the disclosures show: on the claims, and on the key binding token
 abbrev pub ShownFails : Parts → Tree → HashAlg → Policy → ℕ → Condition → Place → Type 0
 ShownFails parts payload hash policy now c place = ClaimFails payload policy now c place ⊎ HolderFails parts payload hash policy now c place
+
+-- the text is this token, which passes the conditions 4 to 21 under the policy, with this processed payload and this hash
+pub record IsOpened (text : List ℕ) (policy : Policy) (token : Token) (marked : Marked) (hash : HashAlg) : Type 0 where
+  pub is_token : IsToken text token
+  pub sent : IsBindingMissing policy token.parts → ⊥
+  pub checked : IsChecked token (rules_of policy) marked
+  pub hash_is : HasHash token hash
 
 -- the fault of a condition that fails at a number
 abbrev pub placed : ℕ → ℕ → Fault

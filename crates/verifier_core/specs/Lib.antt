@@ -2,4 +2,5 @@ pub mod FaultLine
 pub mod Named
 pub mod PolicyFile
 pub mod Verdict
+pub mod Content
 pub mod Check

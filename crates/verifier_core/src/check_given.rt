@@ -7,10 +7,10 @@ ghost use Rattle.verifier_core.specs.Verdict.{Gives};
 ghost use Rattle.verifier_core.specs.Check.{OnFault, Adds, IsUnreadAt, unread_at};
 
 use crate::check::{VerifyError, fails_at};
-use compact_form::{DISCLOSURE_UNREADABLE, Pieces};
+use compact_form::DISCLOSURE_UNREADABLE;
 use digest_sites::{Given, GivenList};
 use disclosure::{DisclosureError, HashAlg, read_disclosure};
-use sd_outside::TextList;
+use json_form::Disclosures;
 use std::alloc::Global;
 
 // Reads one more disclosure.
@@ -46,30 +46,7 @@ fn unread(i: usize, error: DisclosureError) -> VerifyError
 pub(crate) fn read_given(
     alloc: Global,
     hash: HashAlg,
-    disclosures: &TextList,
-) -> Result<GivenList, VerifyError>
-    ensures ok { IfOk result (AllZip (Gives hash) disclosures.now) }
-    ensures shallow { IfOk result ValuesShallow }
-    ensures ranged { IfOk result ValuesRanged }
-    ensures refused { IfErr result (λ e. OnFault e (IsUnreadAt hash disclosures.now)) }
-{
-    let mut given = GivenList::new(alloc);
-    for i in 0..disclosures.len() {
-        let Some(text) = disclosures.at(i) else {
-            unreachable!();
-        };
-        if let Err(error) = push_given(alloc, hash, &mut given, text.as_str()) {
-            return Err(unread(i, error));
-        }
-    }
-    Ok(given)
-}
-
-// Condition 13 of disclosures that are borrowed.
-pub(crate) fn read_pieces(
-    alloc: Global,
-    hash: HashAlg,
-    disclosures: Pieces<'_>,
+    disclosures: Disclosures<'_>,
 ) -> Result<GivenList, VerifyError>
     requires { length disclosures < 2 ^ 64 }
     ensures ok { IfOk result (AllZip (Gives hash) disclosures.entry) }

@@ -5,11 +5,11 @@ ghost use Rattle.claim_tree.specs.Lists.{At as StandsAt};
 ghost use Rattle.compact_form.specs.Views.{jwt_of};
 ghost use Rattle.jws_part.specs.Header.{IsHeader};
 ghost use Rattle.verifier_core.specs.Verdict.{key_for as key_for_of, IsAlgRefused, IsTypeRefused};
-ghost use Rattle.verifier_core.specs.Check.{OnFault, asked, Tells, IsSigned, IsSignedFault};
+ghost use Rattle.verifier_core.specs.Check.{OnFault, Tells, IsSigned, IsSignedFault};
 ghost use Rattle.compact_form.specs.Lowest.{unplaced};
 ghost use Rattle.verifier_core.specs.declared.check.VerifyError as error;
 
-use crate::check::VerifyError;
+use crate::{Rules, VerifyError};
 use claim_tree::TreeMap;
 use compact_form::{
     ALG_REFUSED, BAD_SIGNATURE, Fault, HEADER_CRITICAL, HEADER_UNREADABLE, ISSUER_KEY_UNKNOWN,
@@ -86,12 +86,10 @@ pub(crate) fn check_signed(
     alloc: Global,
     signed: JwtView<'_>,
     outer: &TreeMap,
-    keys: &KeySet,
-    algs: &TextList,
-    typ: Option<&TextBox>,
+    rules: &Rules<'_>,
 ) -> Result<(), VerifyError>
-    ensures ok { OnOk result (IsSigned (jwt_of signed.entry) outer.now (asked keys.now algs.now (option_copied typ.entry))) }
-    ensures refused { IfErr result (λ e. OnFault e (IsSignedFault (jwt_of signed.entry) outer.now (asked keys.now algs.now (option_copied typ.entry)))) }
+    ensures ok { OnOk result (IsSigned (jwt_of signed.entry) outer.now rules.now) }
+    ensures refused { IfErr result (λ e. OnFault e (IsSignedFault (jwt_of signed.entry) outer.now rules.now)) }
 {
     let header = match read_header(alloc, signed.protected, outer) {
         Ok(header) => header,
@@ -99,13 +97,13 @@ pub(crate) fn check_signed(
         Err(HeaderError::Unreadable) => return Err(fails(HEADER_UNREADABLE)),
         Err(HeaderError::Critical) => return Err(fails(HEADER_CRITICAL)),
     };
-    if is_alg_refused(algs, header.alg.as_str()) {
+    if is_alg_refused(rules.algs, header.alg.as_str()) {
         return Err(fails(ALG_REFUSED));
     }
-    if is_type_refused(typ, header.typ.as_ref()) {
+    if is_type_refused(rules.typ, header.typ.as_ref()) {
         return Err(fails(TYPE_REFUSED));
     }
-    let Some(key) = key_for(keys, header.kid.as_ref()) else {
+    let Some(key) = key_for(rules.keys, header.kid.as_ref()) else {
         return Err(fails(ISSUER_KEY_UNKNOWN));
     };
     let is_good = key.check_text(alloc, signed.protected, signed.payload, signed.signature)?;

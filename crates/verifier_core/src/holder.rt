@@ -1,52 +1,53 @@
 // What a policy wants of the key binding token.
-ghost use Rattle.std.specs.Prelude.{◌↔◌, IsTrue, OnOk, IfErr};
+ghost use Rattle.std.specs.Prelude.{◌≡◌, ◌↔◌, ℕ, List, IsTrue, OnOk, IfErr};
 ghost use Rattle.claim_tree.specs.Tree.{IsRanged};
 ghost use Rattle.claim_tree.specs.View.{tree_of};
 ghost use Rattle.compact_form.specs.Lowest.{IsLowest, NoneFails};
-ghost use Rattle.verifier_core.specs.Verdict.{IsBindingMissing, HolderFails};
-ghost use Rattle.verifier_core.specs.Check.{OnFault, ShownFails};
+ghost use Rattle.verifier_core.specs.Verdict.{Fails, IsAccepted, IsBindingMissing, HolderFails};
+ghost use Rattle.verifier_core.specs.Check.{OnFault, IsOpened};
+ghost use Rattle.marked_tree.specs.Marked.{Marked, strip};
 
 use crate::check_signed::fails;
 use crate::claims::check_claims;
 use crate::{Policy, VerifyError};
 use claim_tree::Tree;
-use compact_form::View;
 use disclosure::HashAlg;
+use json_form::{TokenText, TokenView};
 use key_binding::{BindingError, Bound, check_bound};
 use std::alloc::Global;
 
 // Whether a key binding token is asked for, and there is none.
-pub(crate) fn is_binding_missing(view: &View<'_>, policy: &Policy) -> bool
-    ensures { IsTrue result ↔ IsBindingMissing policy.now view.now }
+pub(crate) fn is_binding_missing(token: &TokenView<'_>, policy: &Policy) -> bool
+    ensures { IsTrue result ↔ IsBindingMissing policy.now token.now.parts }
 {
-    policy.binding.is_some() && view.binding().is_none()
+    policy.binding.is_some() && token.binding().is_none()
 }
 
 // The conditions 27 to 38, where a key binding token is asked for.
 fn check_holder(
     alloc: Global,
-    view: &View<'_>,
+    token: &TokenText<'_>,
     payload: &Tree,
     hash: HashAlg,
     policy: &Policy,
     now: u64,
 ) -> Result<(), VerifyError>
-    ensures passes { OnOk result (NoneFails (HolderFails view.now (tree_of payload.now) hash policy.now now)) }
-    ensures refused { IfErr result (λ e. OnFault e (IsLowest (HolderFails view.now (tree_of payload.now) hash policy.now now))) }
+    ensures passes { OnOk result (NoneFails (HolderFails token.now.parts (tree_of payload.now) hash policy.now now)) }
+    ensures refused { IfErr result (λ e. OnFault e (IsLowest (HolderFails token.now.parts (tree_of payload.now) hash policy.now now))) }
 {
     let Some(binding) = &policy.binding else {
         return Ok(());
     };
-    let Some(token) = view.binding() else {
+    let Some(sent) = token.view().binding() else {
         return Ok(());
     };
     let bound = Bound {
-        token,
+        token: sent,
         payload,
         policy: binding,
         skew: policy.skew,
         hash,
-        hashed: view.hashed(),
+        hashed: token.hashed(),
         now,
     };
     match check_bound(alloc, bound) {
@@ -56,21 +57,23 @@ fn check_holder(
     }
 }
 
-// The conditions 22 to 38 of a token, over its processed payload and its hash.
+// The conditions 22 to 38 of a token that is opened, over its processed payload and its hash.
 pub(crate) fn check_shown(
     alloc: Global,
-    view: &View<'_>,
+    token: &TokenText<'_>,
     payload: &Tree,
     hash: HashAlg,
     policy: &Policy,
     now: u64,
 ) -> Result<(), VerifyError>
     requires { IsRanged (tree_of payload.now) }
-    ensures passes { OnOk result (NoneFails (ShownFails view.now (tree_of payload.now) hash policy.now now)) }
-    ensures refused { IfErr result (λ e. OnFault e (IsLowest (ShownFails view.now (tree_of payload.now) hash policy.now now))) }
+    ensures accepted { (text : List ℕ) (marked : Marked) → IsOpened text policy.now token.now marked hash → tree_of payload.now ≡ strip marked
+        → OnOk result (IsAccepted text policy.now now marked) }
+    ensures refused { (text : List ℕ) (marked : Marked) → IsOpened text policy.now token.now marked hash → tree_of payload.now ≡ strip marked
+        → IfErr result (λ e. OnFault e (IsLowest (Fails text policy.now now))) }
 {
     if let Err(fault) = check_claims(payload, policy, now) {
         return Err(VerifyError::Fault(fault));
     }
-    check_holder(alloc, view, payload, hash, policy, now)
+    check_holder(alloc, token, payload, hash, policy, now)
 }

@@ -5,7 +5,9 @@ ghost use Rattle.claim_tree.specs.FileForms.{IsText, IsTexts, IsWholeUpTo, Says,
 ghost use Rattle.claim_tree.specs.declared.file_fault.Field.TheVariants.{Algs, Require, Skew};
 ghost use Rattle.hmac_sign.specs.Keys.{IsKeySet};
 ghost use Rattle.verifier_core.specs.PolicyFile.{IsPolicyFile, IsPolicyRefused};
+ghost use Rattle.verifier_core.specs.Verdict.{rules_of};
 
+use crate::Rules;
 use crate::binding_file::binding_member;
 use claim_tree::{
     Field, FileFault, TreeMap, read_members, text_list_member, text_member, whole_member,
@@ -46,6 +48,19 @@ pub struct Policy {
     pub skew: u32,
     /// What is wanted of a key binding token, where one is asked for.
     pub binding: Option<BindingPolicy>,
+}
+
+impl Policy {
+    /// What it asks of a token itself.
+    pub fn rules(&self) -> Rules<'_>
+        ensures { result ≡ rules_of self.now }
+    {
+        Rules {
+            keys: &self.keys,
+            algs: &self.algs,
+            typ: self.typ.as_ref(),
+        }
+    }
 }
 
 /// The key set of a member that a file must have.

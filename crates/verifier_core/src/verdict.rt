@@ -1,23 +1,23 @@
 // The verdict on a token file under a policy.
-ghost use Rattle.std.specs.Prelude.{◌≡◌, ◌≤◌, ℕ, List, IfOk, IfErr};
+ghost use Rattle.std.specs.Prelude.{◌≡◌, ◌<◌, ◌-◌, ◌^◌, ℕ, List, length, OnOk, IfOk, IfErr};
 ghost use Rattle.claim_tree.specs.Tree.{IsRanged};
 ghost use Rattle.claim_tree.specs.View.{tree_of};
 ghost use Rattle.marked_tree.specs.Marked.{strip as strip_of};
 ghost use Rattle.marked_tree.specs.View.{marked_of};
 ghost use Rattle.json_form.specs.declared.token.Token.{Token as SeenToken};
 ghost use Rattle.json_form.specs.Token.{IsToken, IsRefused};
-ghost use Rattle.verifier_core.specs.Verdict.{Fails, IsAccepted, IsAcceptedAs};
+ghost use Rattle.verifier_core.specs.Verdict.{Fails, IsAccepted, IsAcceptedAs, IsBindingMissing, rules_of};
 ghost use Rattle.compact_form.specs.Lowest.{IsLowest};
-ghost use Rattle.verifier_core.specs.Check.{OnFault, IsCounted, IsCountedWithin, IsReadWithin, IsUncounted};
+ghost use Rattle.verifier_core.specs.Check.{OnFault, IsContent, IsCounted, IsReadWithin, IsUncounted};
 
 use crate::check_signed::fails;
 use crate::holder::{check_shown, is_binding_missing};
-use crate::{Checked, CheckedPayload, Policy, VerifyError, check_processed, check_view};
+use crate::{CheckedMarks, CheckedPayload, Content, Policy, VerifyError};
 use claim_tree::Tree;
 use compact_form::BINDING_MISSING;
 use digest_index::Steps;
 use json_form::{TokenError, TokenText};
-use marked_tree::Marked;
+use marked_tree::{Marked, strip};
 use std::alloc::Global;
 
 /// What a token that is accepted says.
@@ -41,81 +41,22 @@ fn read_text<'a>(alloc: Global, text: &'a [u8]) -> Result<TokenText<'a>, VerifyE
     }
 }
 
-// The conditions 4 to 38 of a token that is read.
-fn judge(
+// The conditions 4 to 13 of a token that is read.
+fn read_content(
     alloc: Global,
     token: &TokenText<'_>,
     policy: &Policy,
-    now: u64,
-    steps: &mut Steps,
-) -> Result<Accepted, VerifyError>
-    requires read { (content : List ℕ) × IsToken content token.now }
-    ensures accepted { (content : List ℕ) → IsToken content token.now → IfOk result (λ a. IsAccepted content policy.now now (marked_of a.marked)) }
-    ensures payload { IfOk result (λ a. tree_of a.payload ≡ strip_of (marked_of a.marked)) }
-    ensures ranged { IfOk result (λ a. IsRanged (tree_of a.payload)) }
-    ensures refused { (content : List ℕ) → IsToken content token.now → IfErr result (λ e. OnFault e (IsLowest (Fails content policy.now now))) }
-    ensures counted { IfOk result (λ _. IsCounted token.now steps.old steps.new) }
-    ensures within { IsCountedWithin token.now steps.old steps.new }
-    ensures uncounted { (content : List ℕ) → IsToken content token.now → IsUncounted (Fails content policy.now now) steps.old steps.new }
+) -> Result<Content, VerifyError>
+    requires few { length token.now.parts.disclosures < 2 ^ 32 - 1 }
+    ensures sent { OnOk result (IsBindingMissing policy.now token.now.parts → ⊥) }
+    ensures content { IfOk result (IsContent token.now (rules_of policy.now)) }
+    ensures refused { (text : List ℕ) (now : ℕ) → IsToken text token.now → IfErr result (λ e. OnFault e (IsLowest (Fails text policy.now now))) }
 {
     let view = token.view();
-    let outer = token.outer();
     if is_binding_missing(&view, policy) {
         return Err(fails(BINDING_MISSING));
     }
-    let typ = policy.typ.as_ref();
-    let Checked {
-        payload,
-        marked,
-        hash,
-    } = match check_view(alloc, &view, outer, &policy.keys, &policy.algs, typ, steps) {
-        Ok(checked) => checked,
-        Err(error) => return Err(error),
-    };
-    if let Err(error) = check_shown(alloc, &view, &payload, hash, policy, now) {
-        return Err(error);
-    }
-    Ok(Accepted { payload, marked })
-}
-
-// The same, for the processed payload alone.
-fn judge_payload(
-    alloc: Global,
-    token: &TokenText<'_>,
-    policy: &Policy,
-    now: u64,
-    steps: &mut Steps,
-) -> Result<Tree, VerifyError>
-    requires read { (content : List ℕ) × IsToken content token.now }
-    ensures accepted { (content : List ℕ) → IsToken content token.now → IfOk result (λ payload. IsAcceptedAs content policy.now now (tree_of payload)) }
-    ensures ranged { IfOk result (λ payload. IsRanged (tree_of payload)) }
-    ensures refused { (content : List ℕ) → IsToken content token.now → IfErr result (λ e. OnFault e (IsLowest (Fails content policy.now now))) }
-    ensures counted { IfOk result (λ _. IsCounted token.now steps.old steps.new) }
-    ensures within { IsCountedWithin token.now steps.old steps.new }
-    ensures uncounted { (content : List ℕ) → IsToken content token.now → IsUncounted (Fails content policy.now now) steps.old steps.new }
-{
-    let view = token.view();
-    let outer = token.outer();
-    if is_binding_missing(&view, policy) {
-        return Err(fails(BINDING_MISSING));
-    }
-    let typ = policy.typ.as_ref();
-    let CheckedPayload { payload, hash } = match check_processed(
-        alloc,
-        &view,
-        outer,
-        &policy.keys,
-        &policy.algs,
-        typ,
-        steps,
-    ) {
-        Ok(payload) => payload,
-        Err(error) => return Err(error),
-    };
-    if let Err(error) = check_shown(alloc, &view, &payload, hash, policy, now) {
-        return Err(error);
-    }
-    Ok(payload)
+    Content::read(alloc, &view, &policy.rules())
 }
 
 /// Verifies a token as it comes from a file, RFC 9901 section 7.3, at a moment in seconds since 1970. The token is in the
@@ -141,10 +82,23 @@ pub fn verify(
     ensures within { IsReadWithin text.now steps.old steps.new }
     ensures uncounted { IsUncounted (Fails text.now policy.now now) steps.old steps.new }
 {
-    match read_text(alloc, text) {
-        Ok(token) => judge(alloc, &token, policy, now, steps),
-        Err(error) => Err(error),
+    let token = match read_text(alloc, text) {
+        Ok(token) => token,
+        Err(error) => return Err(error),
+    };
+    let content = match read_content(alloc, &token, policy) {
+        Ok(content) => content,
+        Err(error) => return Err(error),
+    };
+    let CheckedMarks { marked, hash } = match content.open(alloc, steps) {
+        Ok(opened) => opened,
+        Err(error) => return Err(error),
+    };
+    let payload = strip(alloc, &marked)?;
+    if let Err(error) = check_shown(alloc, &token, &payload, hash, policy, now) {
+        return Err(error);
     }
+    Ok(Accepted { payload, marked })
 }
 
 /// The same, for who needs no marks: the processed payload alone, whose texts are moved.
@@ -164,8 +118,20 @@ pub fn verify_payload(
     ensures within { IsReadWithin text.now steps.old steps.new }
     ensures uncounted { IsUncounted (Fails text.now policy.now now) steps.old steps.new }
 {
-    match read_text(alloc, text) {
-        Ok(token) => judge_payload(alloc, &token, policy, now, steps),
-        Err(error) => Err(error),
+    let token = match read_text(alloc, text) {
+        Ok(token) => token,
+        Err(error) => return Err(error),
+    };
+    let content = match read_content(alloc, &token, policy) {
+        Ok(content) => content,
+        Err(error) => return Err(error),
+    };
+    let CheckedPayload { payload, hash } = match content.open_payload(alloc, steps) {
+        Ok(opened) => opened,
+        Err(error) => return Err(error),
+    };
+    if let Err(error) = check_shown(alloc, &token, &payload, hash, policy, now) {
+        return Err(error);
     }
+    Ok(payload)
 }

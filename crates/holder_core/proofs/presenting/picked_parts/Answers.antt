@@ -8,4 +8,4 @@ use Rattle.holder_core.proofs.presenting.picked_parts.Goals as goal
 pub returns-clause-words : goal.returns-clause-words
 returns-clause-words c words =
     let s = has c.args.chosen.now in
-    words_picked c.args.view.now _ s words (c.in_ok-signed.ensures ∙ c.signed.ensures) (c.in_ok-disclosures.ensures ∙ ap (λ (xs : List Text). picked s xs) c.pieces.ensures.value) refl
+    words_picked c.args.token.now.parts _ s words (c.in_ok-signed.ensures ∙ c.signed.ensures) (c.in_ok-disclosures.ensures ∙ ap (λ (xs : List Text). picked s xs) c.disclosures.ensures.value) refl

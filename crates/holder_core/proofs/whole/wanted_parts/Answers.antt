@@ -1,6 +1,5 @@
-use Rattle.std.proofs.Common.{ℕ, List, [], refl, ap, ◌∙◌}
+use Rattle.std.proofs.Common.{ℕ, List, refl, ap, ◌∙◌}
 use Rattle.claim_tree.specs.View.{tree_of}
-use Rattle.compact_form.specs.declared.parts.Parts.{Parts}
 use Rattle.marked_tree.specs.Numbers.{has}
 use Rattle.holder_core.specs.Present.{picked}
 use Rattle.holder_core.proofs.WholeToken.{other_named}
@@ -10,17 +9,12 @@ pub returns-in-Err-clause-refused : goal.returns-in-Err-clause-refused
 returns-in-Err-clause-refused c = other_named c.args.ask.now (tree_of c.args.payload.now) (c.in_default.ensures.there refl) c.in-Err.error c.in-Err.ensures.refused
 
 pub returns-clause-ready : goal.returns-clause-ready
-returns-clause-ready c =
-    let parts = c.view.ensures in
-    record {
-      there = c.in_default.ensures.there refl;
-      key = c.in_default-check_binding.ensures.named;
-      presents = record {
-        signed = c.in_ok-picked_parts.ensures.signed ∙ ap (λ (p : Parts). p.signed) parts;
-        disclosures =
-            c.in_ok-picked_parts.ensures.disclosures
-            ∙ (ap (λ (marks : List ℕ). picked (has marks) c.view.result.disclosures) c.new.ensures
-            ∙ ap (λ (p : Parts). picked (has []) p.disclosures) parts);
-        binding_is = c.in_ok-picked_parts.ensures.unbound;
-      };
-    }
+returns-clause-ready c = record {
+  there = c.in_default.ensures.there refl;
+  key = c.in_default-check_binding.ensures.named;
+  presents = record {
+    signed = c.in_ok-picked_parts.ensures.signed;
+    disclosures = c.in_ok-picked_parts.ensures.disclosures ∙ ap (λ (marks : List ℕ). picked (has marks) c.args.token.now.parts.disclosures) c.new.ensures;
+    binding_is = c.in_ok-picked_parts.ensures.unbound;
+  };
+}

@@ -1,4 +1,6 @@
-use Rattle.std.proofs.Common.{sym, subst}
+use Rattle.std.proofs.Common.{sym, ap, subst, ◌∙◌}
+use Rattle.std.specs.Option.{option_map}
+use Rattle.json_form.specs.declared.token.Token.{Token}
 use Rattle.claim_tree.specs.Tree.{Text}
 use Rattle.claim_tree.specs.View.{tree_of}
 use Rattle.compact_form.specs.Lowest.{IsLowest, unplaced}
@@ -12,12 +14,12 @@ use Rattle.verifier_core.proofs.holder.check_holder.Goals as goal
 
 pub returns-in-Err-Fault-clause-refused : goal.returns-in-Err-Fault-clause-refused
 returns-in-Err-Fault-clause-refused c =
-    let parts = c.args.view.now in
+    let parts = c.args.token.now.parts in
     let payload = tree_of c.args.payload.now in
     let policy = c.args.policy.now in
-    let token = jwt_of c.in-Some-binding.token in
+    let token = jwt_of c.in-Some-binding.sent in
     let fault = unplaced c.in-Err-Fault.number in
     let told = subst (λ e. BindingOnFault e (λ number. IsLowest (BindingFails (judged token payload c.in-Some.binding policy.skew c.args.hash c.hashed.result.now c.args.now)) (unplaced number))) c.in-Err-Fault.field-0-is c.in-Err-Fault.ensures.refused in
     let lowest = subst (λ (text : Text). IsLowest (BindingFails (judged token payload c.in-Some.binding policy.skew c.args.hash text c.args.now)) fault) c.hashed.ensures told in
     subst (λ e. OnFault e (IsLowest (HolderFails parts payload c.args.hash policy c.args.now))) (sym c.fails.ensures)
-    (holder_lowest parts payload c.args.hash policy c.args.now c.in-Some.binding token c.in-Some.is (sym c.in-Some-binding.ensures) fault lowest)
+    (holder_lowest parts payload c.args.hash policy c.args.now c.in-Some.binding token c.in-Some.is (sym (c.binding.ensures ∙ ap (λ (t : Token). t.parts.binding) c.view.ensures) ∙ ap (option_map jwt_of) c.in-Some-binding.is) fault lowest)

@@ -1,0 +1,103 @@
+-- From what is read of a token to what is opened of it, and to the verdict.
+use Rattle.std.proofs.Common.{◌≡◌, ℕ, ◌<◌, ◌≤◌, ◌-◌, ◌^◌, inr, List, length, Some, refl, sym, subst}
+use Rattle.std.specs.List.{AllZip}
+use Rattle.claim_tree.specs.Tree.{Text, Tree, Members, IsRanged, depth}
+use Rattle.compact_form.specs.declared.parts.JwtParts.{JwtParts}
+use Rattle.compact_form.specs.Lowest.{IsLowest, Passes}
+use Rattle.digest_sites.specs.Given.{Given}
+use Rattle.disclosure.specs.Digest.{payload_hash}
+use Rattle.disclosure.specs.declared.digests.HashAlg.{HashAlg}
+use Rattle.json_form.specs.Token.{IsToken}
+use Rattle.json_form.specs.declared.token.Token.{Token}
+use Rattle.jws_part.specs.Part.{IsBody}
+use Rattle.marked_tree.specs.Marked.{Marked}
+use Rattle.rebuild_core.specs.Answer.{ValuesShallow, ValuesRanged}
+use Rattle.rebuild_core.specs.Conditions.{IsSound}
+use Rattle.rebuild_core.specs.Given.{look_ups, counted, RoseWithin}
+use Rattle.rebuild_core.specs.Opening.{processed}
+use Rattle.rebuild_core.specs.Payload.{without_alg}
+use Rattle.verifier_core.specs.Content.{Content, IsOpenable}
+use Rattle.verifier_core.specs.Check.{OnFault, IsContent, IsCounted, IsCountedWithin, IsUncounted, IsUnopened, IsSigned, IsSignedFault, IsPayloadFault, IsUnreadAt}
+use Rattle.verifier_core.specs.Verdict.{Rules, TokenFails, Fails, IsBindingMissing, IsChecked, Gives, rules_of}
+use Rattle.verifier_core.specs.declared.check.VerifyError.{VerifyError}
+use Rattle.verifier_core.specs.declared.policy.Policy.{Policy}
+use Rattle.verifier_core.proofs.CheckSteps.{on_fault, zip_length, is_payload, signed_passes, signed_fault, payload_passes, payload_fault, given_passes, given_fault, unopened_fault, content_checked, passed_uncounted}
+use Rattle.verifier_core.proofs.Verdicts.{text_uncounted, token_lowest}
+
+-- ---- what is read
+
+module _ (token : Token) (rules : Rules) (signed : JwtParts) (outer : Members) (same : signed ≡ token.parts.signed) (others : outer ≡ token.outer) where
+  at_parts : (P : JwtParts → Members → Type 0) → P signed outer → P token.parts.signed token.outer
+  at_parts P h = subst (λ s. P s token.outer) same (subst (λ o. P signed o) others h)
+
+  pub header_refused : (e : VerifyError) → OnFault e (IsSignedFault signed outer rules) → OnFault e (IsLowest (TokenFails token rules))
+  header_refused e = on_fault e _ _ (λ fault h. signed_fault token rules fault (at_parts (λ s o. IsSignedFault s o rules fault) h))
+
+  module _ (good : IsSigned signed outer rules) where
+    header_passes : Passes 11 (TokenFails token rules)
+    header_passes = signed_passes token rules (at_parts (λ s o. IsSigned s o rules) good)
+
+    pub body_refused : (e : VerifyError) → OnFault e (IsPayloadFault signed.payload) → OnFault e (IsLowest (TokenFails token rules))
+    body_refused e = on_fault e _ _ (λ fault h. payload_fault token rules fault header_passes (at_parts (λ s o. IsPayloadFault s.payload fault) h))
+
+    module _ (body : Tree) (hash : HashAlg) (is_body : IsBody signed.payload body) (hash_is : payload_hash body ≡ Some hash) (texts : List Text) (all : texts ≡ token.parts.disclosures) where
+      has_body : IsBody token.parts.signed.payload body
+      has_body = at_parts (λ s o. IsBody s.payload body) is_body
+
+      body_passes : Passes 13 (TokenFails token rules)
+      body_passes = payload_passes token rules body hash header_passes has_body hash_is
+
+      pub given_refused : (e : VerifyError) → OnFault e (IsUnreadAt hash texts) → OnFault e (IsLowest (TokenFails token rules))
+      given_refused e = on_fault e _ _ (λ fault h. given_fault token rules hash fault body_passes (subst (λ ds. IsUnreadAt hash ds fault) all h))
+
+      module _ (given : List Given) (gives : AllZip (Gives hash) texts given) where
+        gives_all : AllZip (Gives hash) token.parts.disclosures given
+        gives_all = subst (λ ds. AllZip (Gives hash) ds given) all gives
+
+        pub is_content : IsContent token rules (record { body = body; hash = hash; given = given })
+        is_content = record {
+          passes = given_passes token rules hash given body_passes gives_all;
+          has = record { body = body; is_body = has_body; payload_is = refl; hash = hash; hash_is = hash_is; disclosures = gives_all };
+          hash = (body, has_body, hash_is);
+        }
+
+        pub is_openable : depth body ≤ 127 → IsRanged body → ValuesShallow given → ValuesRanged given → length token.parts.disclosures < 2 ^ 32 - 1 → IsOpenable body given
+        is_openable low ranged shallow in_range few = record {
+          object = is_payload signed.payload body hash is_body hash_is;
+          body_depth = low;
+          body_range = ranged;
+          values_depth = shallow;
+          values_range = in_range;
+          few = subst (λ n. n < 2 ^ 32 - 1) (sym (zip_length hash token.parts.disclosures given gives_all)) few;
+        }
+
+-- ---- what is opened
+
+module _ (token : Token) (rules : Rules) (content : Content) (is : IsContent token rules content) where
+  pub opened : (marked : Marked) → IsSound (without_alg content.body) content.given → marked ≡ processed (without_alg content.body) content.given → IsChecked token rules marked
+  opened marked sound same = content_checked token rules (without_alg content.body) content.given marked is.has is.passes sound same
+
+  pub unopened : (e : VerifyError) → IsUnopened (without_alg content.body) content.given e → OnFault e (IsLowest (TokenFails token rules))
+  unopened e w = unopened_fault token rules (without_alg content.body) content.given e is.has is.passes w
+
+  pub content_counted : (old new : ℕ) → new ≡ counted old (look_ups (without_alg content.body) content.given) → IsCounted token old new
+  content_counted old new same = (without_alg content.body, content.given, is.has, same)
+
+  pub content_within : (old new : ℕ) → RoseWithin (look_ups (without_alg content.body) content.given) old new → IsCountedWithin token old new
+  content_within old new rose = inr (without_alg content.body, content.given, is.has, rose)
+
+  pub content_uncounted : (old new : ℕ) → IsUncounted (TokenFails token rules) old new
+  content_uncounted old new = passed_uncounted (TokenFails token rules) old new is.passes
+
+-- what a model shows is what is read
+pub content_seen : (token : Token) (rules : Rules) (seen content : Content) → seen ≡ content → IsContent token rules content → IsContent token rules seen
+content_seen token rules seen content same is = subst (IsContent token rules) (sym same) is
+
+-- ---- the verdict
+
+module _ (text : List ℕ) (policy : Policy) (now : ℕ) (token : Token) (is : IsToken text token) (sent : IsBindingMissing policy token.parts → ⊥) where
+  pub token_refused : (e : VerifyError) → OnFault e (IsLowest (TokenFails token (rules_of policy))) → OnFault e (IsLowest (Fails text policy now))
+  token_refused e = on_fault e _ _ (λ fault l. token_lowest text policy now token is sent fault l)
+
+  pub read_uncounted : (content : Content) → IsContent token (rules_of policy) content → (old new : ℕ) → IsUncounted (Fails text policy now) old new
+  read_uncounted content has old new = text_uncounted text policy now token is sent old new (content_uncounted token (rules_of policy) content has old new)

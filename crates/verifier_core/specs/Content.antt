@@ -1,0 +1,50 @@
+-- What is read of a token, before it is opened.
+use Rattle.std.specs.Prelude.{◌≡◌, ◌≤◌, ◌<◌, ◌-◌, ◌^◌, ℕ, List, length, refl}
+use Rattle.std.proofs.Common.{ap}
+use Rattle.std.specs.Coded.{Coded, coded_ℕ, coded×, code_by}
+use Rattle.claim_tree.specs.Code.{elements_code}
+use Rattle.claim_tree.specs.Tree.{Tree, leaf, null, Elements, no_elements, element, IsRanged, depth}
+use Rattle.digest_sites.specs.Code.{given_code}
+use Rattle.digest_sites.specs.Given.{Given}
+use Rattle.disclosure.specs.declared.digests.HashAlg.{HashAlg}
+use Rattle.rebuild_core.specs.Answer.{IsPayload, ValuesShallow, ValuesRanged}
+
+-- its payload, the algorithm of its digests, and what its disclosures give
+pub record Content : Type 0 where
+  pub body : Tree
+  pub hash : HashAlg
+  pub given : List Given
+
+-- ---- for the model
+
+-- what is read can be opened
+pub record IsOpenable (body : Tree) (given : List Given) : Type 0 where
+  pub object : IsPayload body
+  pub body_depth : depth body ≤ 127
+  pub body_range : IsRanged body
+  pub values_depth : ValuesShallow given
+  pub values_range : ValuesRanged given
+  pub few : length given < 2 ^ 32 - 1
+
+-- a code for it, by which a proof tells two of them apart: of its payload, the code of the array that has it alone
+abbrev first : Elements → Tree
+first no_elements = leaf null
+first (element t es) = t
+
+abbrev content_to : Content → Elements × (ℕ × List Given)
+content_to c = (element c.body no_elements, (0, c.given))
+
+abbrev content_from : Elements × (ℕ × List Given) → Content
+content_from p = record { body = first p.0; hash = HashAlg.Sha256; given = p.1.1 }
+
+one_hash : (hash : HashAlg) → HashAlg.Sha256 ≡ hash
+one_hash HashAlg.Sha256 = refl
+
+abbrev content_with : Tree → HashAlg → List Given → Content
+content_with body hash given = record { body = body; hash = hash; given = given }
+
+pub content_back : (c : Content) → content_from (content_to c) ≡ c
+content_back c = ap (λ (hash : HashAlg). content_with c.body hash c.given) (one_hash c.hash)
+
+abbrev pub content_code : Coded Content
+content_code = code_by (Elements × (ℕ × List Given)) (coded× elements_code (coded× coded_ℕ given_code)) content_to content_from content_back

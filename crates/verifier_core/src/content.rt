@@ -1,0 +1,140 @@
+// What is read of a token by the conditions 5 to 13, and what is opened of it by the conditions 14 to 21.
+ghost use Rattle.std.specs.Prelude.{◌≡◌, ◌≤◌, ◌<◌, ◌-◌, ◌^◌, length, IfOk, IfErr};
+ghost use Rattle.claim_tree.specs.Tree.{IsRanged, depth};
+ghost use Rattle.claim_tree.specs.View.{tree_of};
+ghost use Rattle.compact_form.specs.Lowest.{IsLowest};
+ghost use Rattle.marked_tree.specs.Marked.{strip as strip_of};
+ghost use Rattle.marked_tree.specs.View.{marked_of};
+ghost use Rattle.verifier_core.specs.Verdict.{TokenFails, IsChecked, IsCheckedAs, HasHash};
+ghost use Rattle.verifier_core.specs.Check.{OnFault, IsContent, OfToken, IsCounted, IsCountedWithin, refusal_of};
+
+use crate::check::fails_at;
+use crate::check_given::read_given;
+use crate::check_payload::read_payload;
+use crate::check_signed::check_signed;
+use crate::{CheckedMarks, CheckedPayload, Rules, VerifyError};
+use claim_tree::Tree;
+use compact_form::{
+    Fault, NAME_CLASH, Place, REPEATED_DIGEST, REPEATED_DISCLOSURE, RESERVED_MISUSED,
+    RESERVED_NAME, TOO_DEEP, UNREFERENCED_DISCLOSURE, WRONG_SHAPE,
+};
+use digest_index::Steps;
+use digest_sites::GivenList;
+use disclosure::HashAlg;
+use json_form::TokenView;
+use rebuild_core::{ProcessError, process, process_payload};
+use std::alloc::Global;
+use std::marker::Model;
+
+/// What is read of a token that passes the conditions 5 to 13: its payload, the algorithm of its digests, and what its
+/// disclosures give. It is to be opened, by [`Content::open`] or [`Content::open_payload`].
+#[derive(Drop)]
+pub struct Content {
+    body: Tree,
+    hash: HashAlg,
+    given: GivenList,
+}
+
+impl Model for Content {
+    ghost use Rattle.verifier_core.specs.Content.{Content as Seen, content_code};
+
+    ghost Value = { Seen };
+
+    ghost coded = { content_code };
+
+    ghost use Rattle.claim_tree.specs.View.{tree_of};
+    ghost use Rattle.verifier_core.specs.Content.{IsOpenable};
+
+    ghost view = { λ c. record { body = tree_of c.body; hash = c.hash; given = c.given } };
+
+    ghost invariant = { λ c. IsOpenable (tree_of c.body) c.given };
+}
+
+fn refusal(error: ProcessError) -> VerifyError
+    ensures { result ≡ refusal_of error }
+{
+    match error {
+        ProcessError::Memory => VerifyError::Memory,
+        ProcessError::RepeatedDisclosure(i) => fails_at(REPEATED_DISCLOSURE, i),
+        ProcessError::ReservedMisused(i) => fails_at(RESERVED_MISUSED, i),
+        ProcessError::RepeatedDigest(i) => fails_at(REPEATED_DIGEST, i),
+        ProcessError::Unreferenced(i) => fails_at(UNREFERENCED_DISCLOSURE, i),
+        ProcessError::WrongShape(i) => fails_at(WRONG_SHAPE, i),
+        ProcessError::ReservedName(i) => fails_at(RESERVED_NAME, i),
+        ProcessError::NameClash(i) => fails_at(NAME_CLASH, i),
+        ProcessError::TooDeep => VerifyError::Fault(Fault {
+            number: TOO_DEEP,
+            place: Place::Nowhere,
+        }),
+    }
+}
+
+impl Content {
+    /// Judges a token by the conditions 5 to 13, RFC 9901 section 7.3, and reads what it says. The header, the signature, the
+    /// payload and the disclosures are judged in this order, and the first condition that fails is answered.
+    pub fn read(
+        alloc: Global,
+        token: &TokenView<'_>,
+        rules: &Rules<'_>,
+    ) -> Result<Content, VerifyError>
+        requires few { length token.now.parts.disclosures < 2 ^ 32 - 1 }
+        ensures content { IfOk result (IsContent token.now rules.now) }
+        ensures refused { IfErr result (λ e. OnFault e (IsLowest (TokenFails token.now rules.now))) }
+    {
+        let signed = token.signed();
+        if let Err(error) = check_signed(alloc, signed, token.outer(), rules) {
+            return Err(error);
+        }
+        let (body, hash) = match read_payload(alloc, signed.payload) {
+            Ok(read) => read,
+            Err(error) => return Err(error),
+        };
+        let given = match read_given(alloc, hash, token.disclosures()) {
+            Ok(given) => given,
+            Err(error) => return Err(error),
+        };
+        Ok(Content { body, hash, given })
+    }
+
+    /// Judges what was read by the conditions 14 to 21, and answers the processed payload with its marks alone. `steps` counts
+    /// the look-ups of digests.
+    pub fn open(self, alloc: Global, steps: &mut Steps) -> Result<CheckedMarks, VerifyError>
+        ensures checked { OfToken self (λ token rules. IfOk result (λ c. IsChecked token rules (marked_of c.marked))) }
+        ensures shallow { IfOk result (λ c. depth (strip_of (marked_of c.marked)) ≤ 127) }
+        ensures ranged { IfOk result (λ c. IsRanged (strip_of (marked_of c.marked))) }
+        ensures hash { OfToken self (λ token rules. IfOk result (λ c. HasHash token c.hash)) }
+        ensures refused { OfToken self (λ token rules. IfErr result (λ e. OnFault e (IsLowest (TokenFails token rules)))) }
+
+        // the look-ups
+        ensures counted { OfToken self (λ token rules. IfOk result (λ _. IsCounted token steps.old steps.new)) }
+        ensures within { OfToken self (λ token rules. IsCountedWithin token steps.old steps.new) }
+    {
+        let Content { body, hash, given } = self;
+        match process(alloc, &body, &given, steps) {
+            Ok(marked) => Ok(CheckedMarks { marked, hash }),
+            Err(error) => Err(refusal(error)),
+        }
+    }
+
+    /// The same, for the processed payload alone: what the issuer signed is not copied where nothing in it is hidden.
+    pub fn open_payload(
+        self,
+        alloc: Global,
+        steps: &mut Steps,
+    ) -> Result<CheckedPayload, VerifyError>
+        ensures checked { OfToken self (λ token rules. IfOk result (λ c. IsCheckedAs token rules (tree_of c.payload))) }
+        ensures ranged { IfOk result (λ c. IsRanged (tree_of c.payload)) }
+        ensures hash { OfToken self (λ token rules. IfOk result (λ c. HasHash token c.hash)) }
+        ensures refused { OfToken self (λ token rules. IfErr result (λ e. OnFault e (IsLowest (TokenFails token rules)))) }
+
+        // the look-ups
+        ensures counted { OfToken self (λ token rules. IfOk result (λ _. IsCounted token steps.old steps.new)) }
+        ensures within { OfToken self (λ token rules. IsCountedWithin token steps.old steps.new) }
+    {
+        let Content { body, hash, given } = self;
+        match process_payload(alloc, body, &given, steps) {
+            Ok(payload) => Ok(CheckedPayload { payload, hash }),
+            Err(error) => Err(refusal(error)),
+        }
+    }
+}
