@@ -1,12 +1,8 @@
 -- For private functions: the list of a disclosure in the making.
 use Rattle.std.specs.Prelude.{Option, Some, None}
-use Rattle.claim_tree.specs.Tree.{Text, text, Tree, leaf, array, Elements, no_elements, element}
+use Rattle.claim_tree.specs.Tree.{Text, text, Tree, leaf, Elements, no_elements, element}
 
 -- the elements in front of the value
 abbrev pub front : Tree → Option Text → Elements
 front salt (Some name) = element salt (element (leaf (text name)) no_elements)
 front salt None = element salt no_elements
-
--- the list of three, of which the second may be no text
-abbrev pub member_list : Tree → Tree → Tree → Tree
-member_list salt name value = array (element salt (element name (element value no_elements)))

@@ -1,9 +1,9 @@
-ghost use Rattle.std.specs.Prelude.{◌≡◌, ◌≤◌, OnOk, IfOk, IfErr, IfSome, IfNone, IsTrue, Option, option_map};
+ghost use Rattle.std.specs.Prelude.{◌≡◌, ◌≤◌, OnOk, IfOk, IfErr, IfSome, IfNone, Option, option_map};
 ghost use Rattle.claim_tree.specs.Tree.{IsRanged, IsOrdered, depth, leaf, text as text_leaf, pushed};
 ghost use Rattle.claim_tree.specs.View.{tree_of};
 ghost use Rattle.disclosure.specs.Digest.{digest_of};
 ghost use Rattle.disclosure.specs.Disclosure.{IsDisclosure, IsNoArray, array_of, disclosure_text};
-ghost use Rattle.disclosure.specs.Front.{front, member_list};
+ghost use Rattle.disclosure.specs.Front.{front};
 ghost use Rattle.disclosure.specs.Refusals.{IsRefused};
 
 use crate::{DisclosureError, HashAlg, digest};
@@ -33,30 +33,6 @@ impl Disclosure {
     }
 }
 
-// The disclosure of a member, where its name is a text and no element follows the value.
-fn of_member(
-    text: TextBox,
-    salt: Tree,
-    name: Tree,
-    value: Tree,
-    is_last: bool,
-) -> Option<Disclosure>
-    ensures text { IfSome result (λ d. d.text ≡ text) }
-    ensures parts { IfSome result (λ d. member_list (tree_of salt) (tree_of name) (tree_of value) ≡ array_of (tree_of d.salt) d.name (tree_of d.value)) }
-    ensures last { IfSome result (λ _. IsTrue is_last) }
-    ensures other { IfNone result (IsTrue is_last → IsNoArray (member_list (tree_of salt) (tree_of name) (tree_of value))) }
-{
-    match name {
-        Tree::Text(name) if is_last => Some(Disclosure {
-            text,
-            salt,
-            name: Some(name),
-            value,
-        }),
-        _ => None,
-    }
-}
-
 // The disclosure of a text whose JSON is this tree.
 fn of_tree(text: TextBox, tree: Tree) -> Option<Disclosure>
     ensures text { IfSome result (λ d. d.text ≡ text) }
@@ -69,14 +45,22 @@ fn of_tree(text: TextBox, tree: Tree) -> Option<Disclosure>
     let mut trees = list.into_trees().into_iter();
     let salt = trees.next()?;
     let second = trees.next()?;
-    match trees.next() {
-        None => Some(Disclosure {
+    let Some(value) = trees.next() else {
+        return Some(Disclosure {
             text,
             salt,
             name: None,
             value: second,
+        });
+    };
+    match second {
+        Tree::Text(name) if trees.next().is_none() => Some(Disclosure {
+            text,
+            salt,
+            name: Some(name),
+            value,
         }),
-        Some(value) => of_member(text, salt, second, value, trees.next().is_none()),
+        _ => None,
     }
 }
 

@@ -1,5 +1,5 @@
 -- A text has one token, or is refused by one fault.
-use Rattle.std.proofs.Common.{◌≡◌, ℕ, ◌<◌, ◌≤◌, Bool, true, false, List, length, Result, Ok, Err, IfOk, inl, inr, refl, sym, ap, subst, ◌∙◌, arith}
+use Rattle.std.proofs.Common.{◌≡◌, ℕ, ◌<◌, ◌≤◌, Bool, true, false, List, length, inl, inr, refl, sym, ap, subst, ◌∙◌, arith}
 use Rattle.std.specs.Prelude.{◌&&◌, ◌||◌, not, nat_lt}
 use Rattle.std.proofs.lemmas.Bool.{lt-ltb, le-ltb}
 use Rattle.claim_tree.specs.Tree.{Members, no_members}
@@ -184,12 +184,6 @@ read_json text token json short said few = record { spells = spells_json json sa
     go other (too_long e h) = clash (is_too_long text) h (short_text text json short)
     go other (form p e h) = spelled_well (trimmed text) token p (spells_json json said) h
     go other (too_much t e h i) = few (subst (λ (u : Token). IsTooMuch u.parts) (one_spelled (trimmed text) t token h (spells_json json said)) i)
-
--- a token that is read, where its parts are not more than a token may have
-pub ok_short : {E : Type 0} (text : List ℕ) (token : Token) → is_json (trimmed text) ≡ true → length text ≤ file_max → IsJson token (trimmed text) → (r : Result Token E) → IfOk r (λ read. read ≡ token) → IfOk r (λ _. IsTooMuch token.parts → ⊥)
-    → IfOk r (IsToken text)
-ok_short text token json short said (Ok read) same few = subst (IsToken text) (sym same) (read_json text token json short said few)
-ok_short text token json short said (Err e) same few = tt
 
 -- ---- answers
 

@@ -2,13 +2,12 @@
 use Rattle.std.specs.Prelude.{◌≡◌, ℕ, false, Option, Some, None}
 use Rattle.claim_tree.specs.Tree.{Tree, object, Elements, element, Members}
 use Rattle.claim_tree.specs.FileForms.{Says}
-use Rattle.claim_tree.specs.Lists.{IsLeast, Nowhere as IsNowhere}
+use Rattle.claim_tree.specs.Lists.{IsLeast, Nowhere}
 use Rattle.claim_tree.specs.declared.text.ReadError.{ReadError}
 use Rattle.compact_form.specs.declared.fault.Part.TheVariants.{Payload, Signatures}
 use Rattle.compact_form.specs.Condition as condition
 use Rattle.compact_form.specs.Condition.{number_of}
-use Rattle.compact_form.specs.declared.fault.Fault.{Fault}
-use Rattle.compact_form.specs.declared.fault.Place.TheVariants.{Nowhere, Json}
+use Rattle.compact_form.specs.declared.fault.Place.TheVariants.{Json}
 use Rattle.compact_form.specs.declared.fault.JsonPlace.TheVariants.{NotJson, NotWhole}
 use Rattle.json_form.specs.declared.token.Token.{Token}
 use Rattle.json_form.specs.declared.token.TokenError.{TokenError}
@@ -27,13 +26,9 @@ abbrev pub misformed : JsonFormError → TokenError
 misformed JsonFormError.Memory = TokenError.Memory
 misformed (JsonFormError.Fault place) = TokenError.Fault record { number = number_of condition.form; place = Json place }
 
--- the fault of a token of more than a token may have
-abbrev pub much_fault : Fault
-much_fault = record { number = number_of condition.too_much; place = Nowhere }
-
 -- the first entry that is stray, where there is one
 abbrev pub IsFirstStray : Elements → Option ℕ → Type 0
-IsFirstStray entries None = IsNowhere (IsStray entries)
+IsFirstStray entries None = Nowhere (IsStray entries)
 IsFirstStray entries (Some place) = IsLeast (IsStray entries) place
 
 -- the tree is a list of entries, of which this is the first one and this the first stray one

@@ -6,7 +6,6 @@ ghost use Rattle.compact_form.specs.Trim.{trimmed};
 ghost use Rattle.compact_form.specs.declared.fault.Fault.{Fault as TheFault};
 ghost use Rattle.compact_form.specs.declared.parts.Parts.{Parts as SeenParts};
 ghost use Rattle.json_form.specs.Token.{IsToken, IsRefused, IsTooMuch};
-ghost use Rattle.json_form.specs.Reading.{much_fault};
 ghost use Rattle.json_form.specs.Written.{IsPrintable};
 
 use crate::{Token, TokenError, TokenView, parse_json};
@@ -82,36 +81,6 @@ fn short_text(alloc: Global, parts: &Parts) -> Result<Option<TextBox>, NoMemory>
     Ok(Some(text))
 }
 
-// A token with the compact text of its parts.
-fn with_compact<'a>(token: Token, compact: TextBox) -> TokenText<'a>
-    requires compact { IsCompact token.parts compact }
-    ensures { result ≡ token }
-{
-    let Token { parts, outer } = token;
-    TokenText {
-        source: Source::Owned(parts, compact),
-        outer,
-    }
-}
-
-// The token, where its parts are not more than a token may have.
-fn if_short<'a>(alloc: Global, token: Token) -> Result<TokenText<'a>, TokenError>
-    requires words { AreWords token.parts }
-    ensures same { IfOk result (λ read. read ≡ token) }
-    ensures few { IfOk result (λ _. IsTooMuch token.parts → ⊥) }
-    ensures much { (fault : TheFault) → IsErrOf result (TokenError.Fault fault) → IsTooMuch token.parts }
-    ensures fault { (fault : TheFault) → IsErrOf result (TokenError.Fault fault) → fault ≡ much_fault }
-{
-    match short_text(alloc, &token.parts) {
-        Ok(Some(compact)) => Ok(with_compact(token, compact)),
-        Ok(None) => Err(TokenError::Fault(Fault {
-            number: TOO_MUCH,
-            place: Place::Nowhere,
-        })),
-        Err(_) => Err(TokenError::Memory),
-    }
-}
-
 // The token of a JSON text, which stands between the blanks of the whole text.
 fn read_json<'a>(alloc: Global, text: &[u8], json: &[u8]) -> Result<TokenText<'a>, TokenError>
     requires between { json.now ≡ trimmed text.now }
@@ -126,9 +95,17 @@ fn read_json<'a>(alloc: Global, text: &[u8], json: &[u8]) -> Result<TokenText<'a
             place: Place::Nowhere,
         }));
     }
-    match parse_json(alloc, json) {
-        Ok(token) => if_short(alloc, token),
-        Err(error) => Err(TokenError::from(error)),
+    let token = parse_json(alloc, json)?;
+    let Token { parts, outer } = token;
+    match short_text(alloc, &parts)? {
+        Some(compact) => Ok(TokenText {
+            source: Source::Owned(parts, compact),
+            outer,
+        }),
+        None => Err(TokenError::Fault(Fault {
+            number: TOO_MUCH,
+            place: Place::Nowhere,
+        })),
     }
 }
 
