@@ -1,11 +1,13 @@
--- A text of UTF-8 is bytes.
+-- A text of UTF-8 is bytes, and base64url text is UTF-8.
 use Rattle.std.proofs.Common.{◌≡◌, ℕ, zero, suc, ◌+◌, ◌/◌, ◌<◌, Bool, true, false, cond, List, [], ◌∷◌, inl, inr, refl, subst, arith}
 use Rattle.std.specs.Prelude.{nat_lt}
 use Rattle.std.specs.Str.{IsUtf8}
 use Rattle.std.proofs.lemmas.Bool.{and_parts, ltb-true}
+use Rattle.std.proofs.lemmas.Str.{IsUtf8-from_ascii}
 use Rattle.std.proofs.Math.Utf8.{scalar, scalars, scalar_cases, encode, encodes, next}
-use Rattle.b64url_text.specs.Base64url.{AreBytes}
-use Rattle.b64url_text.proofs.Codes.{AreBytes-append}
+use Rattle.b64url_text.specs.Base64url.{AreBytes, b64}
+use Rattle.b64url_text.proofs.Codes.{AreBytes-append, letters-b64}
+use Rattle.b64url_text.proofs.Words.{IsAscii-letters}
 
 AreBytes-nil : AreBytes []
 AreBytes-nil i = omega arith
@@ -48,3 +50,7 @@ AreBytes-chars (c ∷ cs) e = let p = and_parts (scalar c) (scalars cs) e in Are
 
 pub AreBytes-text : (text : List ℕ) → IsUtf8 text → AreBytes text
 AreBytes-text text u = subst AreBytes u.1.1 (AreBytes-chars u.0 u.1.0)
+
+-- and base64url text is UTF-8
+pub b64_utf8 : (bytes : List ℕ) → IsUtf8 (b64 bytes)
+b64_utf8 bytes = IsUtf8-from_ascii (b64 bytes) (IsAscii-letters (b64 bytes) (letters-b64 bytes))

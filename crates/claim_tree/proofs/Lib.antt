@@ -8,6 +8,7 @@ pub mod Walks
 pub mod TreeTokens
 pub mod Datas
 pub mod RoundTrip
+pub mod TreeTexts
 pub mod OneTree
 pub mod ReadOrdered
 pub mod PathFronts

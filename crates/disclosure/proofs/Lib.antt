@@ -1,5 +1,6 @@
 pub mod HashNames
 pub mod Arrays
+pub mod ReadBack
 pub mod Verdicts
 mod Unread
 pub mod Examples

@@ -1,25 +1,25 @@
 -- What is written for an order is read again.
-use Rattle.std.proofs.Common.{◌≡◌, ℕ, suc, ◌+◌, ◌<◌, ◌≤◌, inl, inr, List, [], ◌∷◌, ◌++◌, length, Bool, true, false, None, Option, Some, IfSome, IsUtf8, arith, codes, ltb, ltb-true, refl, subst, sym, ap, ◌∙◌}
+use Rattle.std.proofs.Common.{◌≡◌, ℕ, suc, ◌+◌, ◌<◌, ◌≤◌, inl, inr, List, [], ◌∷◌, ◌++◌, length, Bool, true, false, None, Option, Some, IsUtf8, arith, codes, ltb, ltb-true, refl, subst, sym, ap, ◌∙◌}
 use Rattle.std.specs.Prelude.{if◌then◌else◌}
 use Rattle.std.specs.List.{AllZip}
 use Rattle.std.proofs.lemmas.Bool.{lt-ltb}
 use Rattle.std.proofs.lemmas.Str.{IsUtf8-nil}
 use Rattle.json.proofs.Printed.Utf8.{IsUtf8-are_ascii}
 use Rattle.b64url_text.specs.Base64url.{b64}
-use Rattle.b64url_text.proofs.Texts.{AreBytes-text}
+use Rattle.b64url_text.proofs.Texts.{b64_utf8}
 use Rattle.claim_tree.specs.Tree.{Text, Tree, leaf, text, array, object, no_members, depth, IsOrdered, IsRanged}
 use Rattle.claim_tree.specs.JsonText.{json_text}
 use Rattle.claim_tree.specs.Lists.{At, In}
 use Rattle.claim_tree.proofs.Lists.{At-get, At-In}
-use Rattle.claim_tree.proofs.RoundTrip.{read_of_text}
+use Rattle.claim_tree.proofs.TreeTexts.{HasTexts}
 use Rattle.compact_form.specs.declared.parts.Parts.{Parts}
 use Rattle.digest_sites.specs.Given.{Given}
-use Rattle.disclosure.specs.Disclosure.{array_of, disclosure_text, IsDisclosure}
-use Rattle.disclosure.proofs.Arrays.{depth-array_of}
+use Rattle.disclosure.specs.Disclosure.{IsDisclosure}
+use Rattle.disclosure.proofs.ReadBack.{disclosure_back}
 use Rattle.hmac_sign.specs.Signatures.{Meaning}
-use Rattle.jws_part.specs.declared.header.Header.{Header}
-use Rattle.jws_part.specs.Header.{Says, IsHeader, has_crit, header_members}
+use Rattle.jws_part.specs.Header.{IsHeader}
 use Rattle.jws_part.specs.Part.{Carries, IsBody}
+use Rattle.jws_part.proofs.ReadBack.{carried_back, header_back}
 use Rattle.marked_tree.specs.Marked.{Marked, MarkedElements, MarkedMembers, marked_array, marked_element, marked_leaf, marked_member, marked_object, no_marked_elements, no_marked_members, strip, weight, elements_weight, members_weight, mark_weight}
 use Rattle.marked_tree.specs.Places.{Path, same_path}
 use Rattle.marked_tree.proofs.MarkFacts.{mark_strips_holds}
@@ -41,94 +41,7 @@ use Rattle.issuer_core.proofs.LaidBounds.{inserted_depth, payload_depth, value_d
 use Rattle.issuer_core.proofs.LaidOrdered.{laid_is_readable_holds}
 use Rattle.issuer_core.proofs.FromLaid.{with_alg_ranged}
 use Rattle.issuer_core.proofs.WithAlg.{with_alg_ordered, payload_object}
-use Rattle.issuer_core.proofs.WrittenTexts.{HasTexts, AllTexts, GivenTexts, held_texts, json_utf8, b64_utf8, lay_texts, items_texts, with_alg_texts}
-
--- ---- a tree
-
-pub carried_back : (part : Text) (t : Tree) → part ≡ b64 (json_text t) → HasTexts t → IsRanged t → IsOrdered t → depth t ≤ 127 → Carries part t
-carried_back part t is texts ranged ordered shallow =
-    let utf8 = json_utf8 t texts ranged in
-    record {
-      bytes = json_text t;
-      decodes = record { fit = AreBytes-text (json_text t) utf8; spelling = is };
-      reads = record { utf8 = utf8; value = read_of_text t ranged ordered shallow };
-    }
-
--- ---- a header
-
-made : Text → Option Text → Option Text → Header
-made alg kid typ = record { alg = alg; kid = kid; typ = typ }
-
-says_back : (alg : Text) (kid typ : Option Text) → Says (header_members (made alg kid typ)) no_members (made alg kid typ)
-unfolding made
-says_back alg None None = record { apart = refl; alg = refl; typ = refl; kid = refl }
-says_back alg None (Some typ) = record { apart = refl; alg = refl; typ = refl; kid = refl }
-says_back alg (Some kid) None = record { apart = refl; alg = refl; typ = refl; kid = refl }
-says_back alg (Some kid) (Some typ) = record { apart = refl; alg = refl; typ = refl; kid = refl }
-
-no_crit : (alg : Text) (kid typ : Option Text) → has_crit (header_members (made alg kid typ)) no_members ≡ false
-unfolding made
-no_crit alg None None = refl
-no_crit alg None (Some typ) = refl
-no_crit alg (Some kid) None = refl
-no_crit alg (Some kid) (Some typ) = refl
-
-alg_utf8 : IsUtf8 (codes "alg")
-alg_utf8 = IsUtf8-are_ascii (codes "alg") refl
-
-kid_utf8 : IsUtf8 (codes "kid")
-kid_utf8 = IsUtf8-are_ascii (codes "kid") refl
-
-typ_utf8 : IsUtf8 (codes "typ")
-typ_utf8 = IsUtf8-are_ascii (codes "typ") refl
-
-header_texts : (alg : Text) (kid typ : Option Text) → IsUtf8 alg → IfSome kid IsUtf8 → IfSome typ IsUtf8 → HasTexts (object (header_members (made alg kid typ)))
-unfolding made
-header_texts alg None None a k t = (alg_utf8, a, tt)
-header_texts alg None (Some typ) a k t = (alg_utf8, a, (typ_utf8, t, tt))
-header_texts alg (Some kid) None a k t = (alg_utf8, a, (kid_utf8, k, tt))
-header_texts alg (Some kid) (Some typ) a k t = (alg_utf8, a, (kid_utf8, k, (typ_utf8, t, tt)))
-
-header_carried : (part alg : Text) (kid typ : Option Text) → part ≡ b64 (json_text (object (header_members (made alg kid typ)))) → HasTexts (object (header_members (made alg kid typ))) → Carries part (object (header_members (made alg kid typ)))
-unfolding made
-header_carried part alg None None is h = carried_back part (object (header_members (made alg None None))) is h (tt, tt) (tt, tt, tt) (omega arith)
-header_carried part alg None (Some typ) is h = carried_back part (object (header_members (made alg None (Some typ)))) is h (tt, (tt, tt)) ((refl, tt), tt, (tt, tt, tt)) (omega arith)
-header_carried part alg (Some kid) None is h = carried_back part (object (header_members (made alg (Some kid) None))) is h (tt, (tt, tt)) ((refl, tt), tt, (tt, tt, tt)) (omega arith)
-header_carried part alg (Some kid) (Some typ) is h =
-    carried_back part (object (header_members (made alg (Some kid) (Some typ)))) is h (tt, (tt, (tt, tt))) ((refl, (refl, tt)), tt, ((refl, tt), tt, (tt, tt, tt))) (omega arith)
-
-made_back : (part alg : Text) (kid typ : Option Text) → part ≡ b64 (json_text (object (header_members (made alg kid typ)))) → IsUtf8 alg → IfSome kid IsUtf8 → IfSome typ IsUtf8 → IsHeader part no_members (made alg kid typ)
-made_back part alg kid typ is a k t = record {
-  members = header_members (made alg kid typ);
-  carried = header_carried part alg kid typ is (header_texts alg kid typ a k t);
-  says = says_back alg kid typ;
-  plain = no_crit alg kid typ;
-}
-
-pub header_back : (part : Text) (h : Header) → part ≡ b64 (json_text (object (header_members h))) → IsUtf8 h.alg → IfSome h.kid IsUtf8 → IfSome h.typ IsUtf8 → IsHeader part no_members h
-unfolding made
-header_back part h is a k t = made_back part h.alg h.kid h.typ is a k t
-
--- ---- a disclosure
-
-array_texts : (salt : Text) (name : Option Text) (value : Tree) → IsUtf8 salt → IfSome name IsUtf8 → HasTexts value → HasTexts (array_of (leaf (text salt)) name value)
-array_texts salt None value s n v = (s, (v, tt))
-array_texts salt (Some name) value s n v = (s, (n, (v, tt)))
-
-array_ranged : (salt : Text) (name : Option Text) (value : Tree) → IsRanged value → IsRanged (array_of (leaf (text salt)) name value)
-array_ranged salt None value r = (tt, (r, tt))
-array_ranged salt (Some name) value r = (tt, (tt, (r, tt)))
-
-array_ordered : (salt : Text) (name : Option Text) (value : Tree) → IsOrdered value → IsOrdered (array_of (leaf (text salt)) name value)
-array_ordered salt None value o = (tt, (o, tt))
-array_ordered salt (Some name) value o = (tt, (tt, (o, tt)))
-
-pub disclosure_back : (salt : Text) (name : Option Text) (value : Tree) → IsUtf8 salt → IfSome name IsUtf8 → HasTexts value → IsRanged value → IsOrdered value → depth value ≤ 126
-    → IsDisclosure (disclosure_text (leaf (text salt)) name value) (leaf (text salt)) name value
-disclosure_back salt name value s n v ranged ordered shallow =
-    let t = array_of (leaf (text salt)) name value in
-    let c = carried_back (b64 (json_text t)) t refl (array_texts salt name value s n v) (array_ranged salt name value ranged) (array_ordered salt name value ordered) (depth-array_of salt name value shallow) in
-    record { json = c.bytes; decodes = c.decodes; reads = c.reads }
+use Rattle.issuer_core.proofs.WrittenTexts.{AllTexts, GivenTexts, held_texts, lay_texts, items_texts, with_alg_texts}
 
 -- ---- the digests of the marks
 

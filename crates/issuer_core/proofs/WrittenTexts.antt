@@ -1,19 +1,12 @@
--- The texts of what is laid are UTF-8, and so is its JSON text.
-use Rattle.std.proofs.Common.{ℕ, suc, ◌<◌, ◌^◌, ◌⊎◌, ℤ, pos, negsuc, List, [], ◌∷◌, ◌++◌, Bool, true, false, Equal, Greater, Less, None, Option, Ordering, Some, IfSome, IsUtf8, arith, decimal, codes, inl, inr, refl, subst, sym}
-use Rattle.std.proofs.lemmas.Fmt.{IsAscii-decimal}
-use Rattle.std.proofs.lemmas.Str.{IsUtf8-append, IsUtf8-from_ascii}
+-- The texts of what is laid are UTF-8.
+use Rattle.std.proofs.Common.{ℕ, suc, ◌⊎◌, List, [], ◌∷◌, ◌++◌, Equal, Greater, Less, None, Option, Ordering, Some, IfSome, IsUtf8, decimal, codes, inl, inr, refl, subst, sym}
 use Rattle.std.specs.Cmp.Lexicographic.{slice_cmp}
 use Rattle.std.specs.Ordering.{match_ordering, nat_cmp}
-use Rattle.json.specs.Print.{quoted}
-use Rattle.json.proofs.Printed.Utf8.{IsUtf8-are_ascii, IsUtf8-boolean, IsUtf8-quoted}
-use Rattle.serde_json.specs.Written.{comma_if, items_text, members_text}
-use Rattle.b64url_text.specs.Base64url.{b64}
-use Rattle.b64url_text.proofs.Codes.{letters-b64}
-use Rattle.b64url_text.proofs.Words.{IsAscii-letters}
-use Rattle.claim_tree.specs.Tree.{Text, Leaf, null, flag, whole, text, Tree, leaf, array, object, Elements, no_elements, element, Members, no_members, member, inserted, IsRanged, ElementsRanged, MembersRanged}
-use Rattle.claim_tree.specs.JsonText.{json_text, elements_data, members_data}
+use Rattle.json.proofs.Printed.Utf8.{IsUtf8-are_ascii}
+use Rattle.claim_tree.specs.Tree.{Text, null, flag, whole, text, Tree, leaf, array, object, Elements, no_elements, element, Members, no_members, member, inserted}
 use Rattle.claim_tree.specs.Lists.{In}
 use Rattle.claim_tree.proofs.Lists.{In-append}
+use Rattle.claim_tree.proofs.TreeTexts.{HasTexts, ElementsTexts, MembersTexts}
 use Rattle.digest_sites.specs.Given.{Given}
 use Rattle.digest_sites.specs.Reserved.{sd_name, dots_name}
 use Rattle.marked_tree.specs.Marked.{Marked, MarkedElements, MarkedMembers, marked_array, marked_element, marked_leaf, marked_member, marked_object, no_marked_elements, no_marked_members, strip, strip_elements, strip_members}
@@ -21,27 +14,6 @@ use Rattle.marked_tree.specs.Places.{Path}
 use Rattle.rebuild_core.specs.Payload.{alg_name}
 use Rattle.issuer_core.specs.GoodOrder.{IsHeld, ElementsHeld, MembersHeld}
 use Rattle.issuer_core.specs.Laid.{digest_elements, hidden_digests, laid_elements, laid_items, laid_members, lay, lay_elements, lay_members, own_item, sorted, sorted_with, texts_array, with_sd, with_alg}
-
--- ---- trees whose texts are UTF-8
-
-abbrev pub LeafTexts : Leaf → Type 0
-LeafTexts (text s) = IsUtf8 s
-LeafTexts _ = Unit {0}
-
--- each text and each name is UTF-8
-abbrev mutual
-  pub HasTexts : Tree → Type 0
-  HasTexts (leaf l) = LeafTexts l
-  HasTexts (array es) = ElementsTexts es
-  HasTexts (object ms) = MembersTexts ms
-
-  pub ElementsTexts : Elements → Type 0
-  ElementsTexts no_elements = Unit {0}
-  ElementsTexts (element t es) = HasTexts t × ElementsTexts es
-
-  pub MembersTexts : Members → Type 0
-  MembersTexts no_members = Unit {0}
-  MembersTexts (member name t ms) = IsUtf8 name × HasTexts t × MembersTexts ms
 
 mutual
   pub held_texts : (t : Tree) → IsHeld t → HasTexts t
@@ -60,48 +32,7 @@ mutual
   members_texts no_members h = tt
   members_texts (member name t ms) h = (h.0, held_texts t h.1, members_texts ms h.2)
 
--- ---- their JSON
-
-one_byte : (x : ℕ) (xs : List ℕ) → IsUtf8 (x ∷ []) → IsUtf8 xs → IsUtf8 (x ∷ xs)
-one_byte x xs one u = IsUtf8-append (x ∷ []) xs one u
-
-whole_utf8 : (z : ℤ) → IsRanged (leaf (whole z)) → IsUtf8 (json_text (leaf (whole z)))
-whole_utf8 (pos n) r = IsUtf8-from_ascii (decimal n) (IsAscii-decimal n r)
-whole_utf8 (negsuc n) r = go n r
-  where
-    go : (n : ℕ) → n < 2 ^ 63 → IsUtf8 (json_text (leaf (whole (negsuc n))))
-    go n r = one_byte 45 (decimal (suc n)) (IsUtf8-are_ascii (45 ∷ []) refl) (IsUtf8-from_ascii (decimal (suc n)) (IsAscii-decimal (suc n) (omega (arith, r))))
-
-comma_utf8 : (later : Bool) (xs : List ℕ) → IsUtf8 xs → IsUtf8 (comma_if later ++ xs)
-comma_utf8 true xs u = one_byte 44 xs (IsUtf8-are_ascii (44 ∷ []) refl) u
-comma_utf8 false xs u = u
-
-mutual
-  pub json_utf8 : (t : Tree) → HasTexts t → IsRanged t → IsUtf8 (json_text t)
-  json_utf8 (leaf null) h r = IsUtf8-are_ascii (json_text (leaf null)) refl
-  json_utf8 (leaf (flag b)) h r = IsUtf8-boolean b
-  json_utf8 (leaf (whole z)) h r = whole_utf8 z r
-  json_utf8 (leaf (text s)) h r = IsUtf8-quoted s h
-  json_utf8 (array es) h r = one_byte 91 (items_text false (elements_data es)) (IsUtf8-are_ascii (91 ∷ []) refl) (items_utf8 false es h r)
-  json_utf8 (object ms) h r = one_byte 123 (members_text false (members_data ms)) (IsUtf8-are_ascii (123 ∷ []) refl) (members_utf8 false ms h r)
-
-  items_utf8 : (later : Bool) (es : Elements) → ElementsTexts es → ElementsRanged es → IsUtf8 (items_text later (elements_data es))
-  items_utf8 later no_elements h r = IsUtf8-are_ascii (93 ∷ []) refl
-  items_utf8 later (element t es) h r =
-      comma_utf8 later (json_text t ++ items_text true (elements_data es)) (IsUtf8-append (json_text t) (items_text true (elements_data es)) (json_utf8 t h.0 r.0) (items_utf8 true es h.1 r.1))
-
-  members_utf8 : (later : Bool) (ms : Members) → MembersTexts ms → MembersRanged ms → IsUtf8 (members_text later (members_data ms))
-  members_utf8 later no_members h r = IsUtf8-are_ascii (125 ∷ []) refl
-  members_utf8 later (member name t ms) h r =
-      let rest = json_text t ++ members_text true (members_data ms) in
-      comma_utf8 later (quoted name ++ 58 ∷ rest)
-      (IsUtf8-append (quoted name) (58 ∷ rest) (IsUtf8-quoted name h.0)
-      (one_byte 58 rest (IsUtf8-are_ascii (58 ∷ []) refl) (IsUtf8-append (json_text t) (members_text true (members_data ms)) (json_utf8 t h.1 r.0) (members_utf8 true ms h.2 r.1))))
-
 -- ---- what is laid
-
-pub b64_utf8 : (bytes : List ℕ) → IsUtf8 (b64 bytes)
-b64_utf8 bytes = IsUtf8-from_ascii (b64 bytes) (IsAscii-letters (b64 bytes) (letters-b64 bytes))
 
 abbrev pub AllTexts : List Text → Type 0
 AllTexts ds = (d : Text) → In d ds → IsUtf8 d

@@ -1,3 +1,4 @@
 pub mod Parts
 pub mod Headers
+pub mod ReadBack
 pub mod Examples

@@ -15,8 +15,7 @@ use Rattle.verifier_core.specs.PolicyFile.{IsPolicyFile}
 use Rattle.issuer_core.specs.OrderFile.{IsOrderFile}
 use Rattle.issuer_core.specs.declared.order_file.IssueFile.{IssueFile}
 use Rattle.claim_tree.proofs.Lists.{and_split}
-use Rattle.claim_tree.proofs.RoundTrip.{read_of_text}
-use Rattle.issuer_core.proofs.WrittenTexts.{HasTexts, ElementsTexts, MembersTexts, json_utf8}
+use Rattle.claim_tree.proofs.TreeTexts.{HasTexts, ElementsTexts, MembersTexts, read_back}
 use Rattle.holder_core.specs.PresentFile.{IsPresentFile}
 use Rattle.sdjwt_cli.specs.Presented.{AllSuits}
 use Rattle.sdjwt_cli.proofs.SuitsExample.{issuer_bytes, holder_bytes, issuer_key, holder_key, named, claims_members, order, said, policy, suits}
@@ -121,7 +120,7 @@ mutual
       ((IsUtf8-are_ascii name both.0, here.0, rest.0), (here.1, rest.1))
 
 reads_plain : (t : Tree) → is_plain t ≡ true → IsOrdered t → depth t ≤ 127 → Reads (json_text t) t
-reads_plain t e ordered shallow = let both = plain_texts t e in record { utf8 = json_utf8 t both.0 both.1; value = read_of_text t both.1 ordered shallow }
+reads_plain t e ordered shallow = let both = plain_texts t e in read_back t both.0 both.1 ordered shallow
 
 abbrev policy_members : Members
 policy_members =
