@@ -70,8 +70,8 @@ on_page() {
 # The numbers and the names of a file that gives both to each constructor.
 numbered() {
     awk '
-        $1 == "number_of" && $NF ~ /^[0-9]+$/ { gsub(/[()]/, "", $2); number[$2] = $NF }
-        $1 == "name_of" && $(NF - 1) == "codes" { gsub(/[()]/, "", $2); gsub(/"/, "", $NF); name[$2] = $NF }
+        $1 ~ "^(refusal_)?number(_of)?$" && $NF ~ /^[0-9]+$/ { gsub(/[()]/, "", $2); number[$2] = $NF }
+        $1 ~ "^(refusal_)?name(_of)?$" && $(NF - 1) == "codes" { gsub(/[()]/, "", $2); gsub(/"/, "", $NF); name[$2] = $NF }
         END { for (it in name) print number[it], name[it] }' "$@"
 }
 
@@ -79,7 +79,7 @@ numbered() {
 words_of() {
     tr -c 'A-Za-z:' '\n' | sed -n 's/^Field::\([A-Z][A-Za-z]*\)$/\1/p' | sort -u |
         while read -r field; do
-            sed -n "s/^word_of Field.$field = codes \"\(.*\)\"\$/\1/p" "$top/crates/claim_tree/specs/FileWords.antt"
+            sed -n "s/^field_word Field.$field = codes \"\(.*\)\"\$/\1/p" "$top/crates/claim_tree/specs/FileWords.antt"
         done
 }
 
@@ -92,7 +92,7 @@ readers() {
 in_code() {
     specs=$top/crates
     numbered "$specs/compact_form/specs/Condition.antt"
-    numbered "$specs/issuer_core/specs/Refusals.antt" "$specs/issuer_core/specs/RefusalLine.antt"
+    numbered "$specs/issuer_core/specs/OrderRefusals.antt" "$specs/issuer_core/specs/RefusalLine.antt"
     sed -n 's/.*codes "refused \([0-9]* [A-Za-z]*\).*/\1/p' "$specs/sdjwt_cli/specs/Presenting.antt"
     sed -n 's/^reason [A-Za-z]* = codes "\([A-Za-z]*\)"$/6 \1/p; s/^short_seed .*unreadable 2 \([a-z]*\).*/6 \1/p' \
         "$specs/sdjwt_cli/specs/Lines.antt"

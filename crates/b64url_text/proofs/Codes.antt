@@ -9,7 +9,7 @@ use Rattle.base64.specs.GeneralPurpose.{encode_of, decode_of}
 use Rattle.base64.specs.Engines.{url_safe_no_pad}
 use Rattle.base64.specs.declared.decode.DecodeError.{DecodeError}
 use Rattle.base64.proofs.EngineFacts.{decode_of-encode_of, decode_of_strict}
-use Rattle.b64url_text.specs.Base64url.{letters, is_letter, IsWord, bits, six, sixes, b64, AreBytes, Decodes, IsNoCode}
+use Rattle.b64url_text.specs.Base64url.{letters, is_letter, IsWord, bits, six, sixes, b64, AreBytes, Decodes, IsNotBase64}
 use Rattle.b64url_text.proofs.Sixes.{symbols_of}
 
 -- it is what the engine of the crate `base64` writes
@@ -25,7 +25,7 @@ back : (text bytes : List ℕ) → Decodes text bytes → decode_of url_safe_no_
 back s x d = ap (decode_of url_safe_no_pad) (d.spelling ∙ b64-engine x d.fit) ∙ decode_of-encode_of url_safe_no_pad x refl d.fit
 
 -- what the engine refuses is the text of no bytes
-pub refused : (text : List ℕ) (error : DecodeError) → decode_of url_safe_no_pad text ≡ Err error → IsNoCode text
+pub refused : (text : List ℕ) (error : DecodeError) → decode_of url_safe_no_pad text ≡ Err error → IsNotBase64 text
 refused s f e x d = let both = sym e ∙ back s x d in cc both
 
 -- a text is that of one list of bytes

@@ -2,7 +2,8 @@
 use Rattle.std.proofs.Common.{◌≡◌, [], ◌∷◌, codes, refl}
 use Rattle.base64.specs.Decode.{groups_error, scan_steps}
 use Rattle.base64.specs.declared.decode.DecodeError.TheVariants.{InvalidPadding, InvalidLength, InvalidLastSymbol}
-use Rattle.b64url_text.specs.Base64url.{letters, bits, sixes, b64, IsNoCode, room_for}
+use Rattle.b64url_text.specs.Base64url.{letters, bits, sixes, b64, IsNotBase64}
+use Rattle.b64url_text.specs.Room.{room_for}
 use Rattle.b64url_text.proofs.Codes.{refused}
 
 none : b64 [] ≡ []
@@ -45,19 +46,19 @@ room = refl
 -- ---- texts of no bytes, by what the engine refuses
 
 -- `f` is "Zg": the last four bits are zeros
-last_four_bits : IsNoCode (codes "Zh")
+last_four_bits : IsNotBase64 (codes "Zh")
 unfolding groups_error scan_steps
 last_four_bits = refused (codes "Zh") (InvalidLastSymbol 1 104 33) refl
 
 -- `fo` is "Zm8": the last two bits are zeros
-last_two_bits : IsNoCode (codes "Zm9")
+last_two_bits : IsNotBase64 (codes "Zm9")
 unfolding groups_error scan_steps
 last_two_bits = refused (codes "Zm9") (InvalidLastSymbol 2 57 61) refl
 
-one_letter : IsNoCode (codes "A")
+one_letter : IsNotBase64 (codes "A")
 unfolding groups_error scan_steps
 one_letter = refused (codes "A") (InvalidLength 1) refl
 
-with_padding : IsNoCode (codes "Zg==")
+with_padding : IsNotBase64 (codes "Zg==")
 unfolding groups_error scan_steps
 with_padding = refused (codes "Zg==") InvalidPadding refl

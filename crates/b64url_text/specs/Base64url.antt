@@ -51,9 +51,5 @@ pub record Decodes (text bytes : List ℕ) : Type 0 where
   pub spelling : text ≡ b64 bytes
 
 -- no bytes have this text
-abbrev pub IsNoCode : List ℕ → Type 0
-IsNoCode text = (bytes : List ℕ) → Decodes text bytes → ⊥
-
--- three bytes for each group of four letters, a last group that is not whole counted as one
-abbrev pub room_for : ℕ → ℕ
-room_for len = (len + 3) / 4 * 3
+abbrev pub IsNotBase64 : List ℕ → Type 0
+IsNotBase64 text = (bytes : List ℕ) → Decodes text bytes → ⊥

@@ -1,2 +1,3 @@
 pub mod Base64url
 pub mod Lanes
+pub mod Room

@@ -1,5 +1,6 @@
 ghost use Rattle.std.specs.Prelude.{◌≡◌, ◌≤◌, length, take, drop, IfOk, IfErr, IsErrOf};
-ghost use Rattle.b64url_text.specs.Base64url.{b64, Decodes, IsNoCode, room_for};
+ghost use Rattle.b64url_text.specs.Base64url.{b64, Decodes, IsNotBase64};
+ghost use Rattle.b64url_text.specs.Room.{room_for};
 
 use crate::{DecodeError, NotBase64};
 use base64::DecodeAllocError;
@@ -18,7 +19,7 @@ pub fn encode(alloc: Global, bytes: &[u8]) -> Result<TextBox, NoMemory>
 /// The bytes of the text.
 pub fn decode(alloc: Global, text: &[u8]) -> Result<ByteBox, DecodeError>
     ensures ok { IfOk result (Decodes text.now) }
-    ensures not_base64 { IsErrOf result DecodeError.NotBase64 → IsNoCode text.now }
+    ensures not_base64 { IsErrOf result DecodeError.NotBase64 → IsNotBase64 text.now }
 {
     match URL_SAFE_NO_PAD.decode(alloc, text) {
         Ok(bytes) => Ok(ByteBox::from_vec(bytes)),
@@ -35,7 +36,7 @@ pub fn decode_into(text: &[u8], room: &mut [u8]) -> Result<usize, NotBase64>
     ensures within { IfOk result (λ count. count ≤ length room.new) }
     ensures ok { IfOk result (λ count. Decodes text.now (take count room.new)) }
     ensures rest { IfOk result (λ count. drop count room.new ≡ drop count room.old) }
-    ensures not_base64 { IfErr result (λ _. IsNoCode text.now) }
+    ensures not_base64 { IfErr result (λ _. IsNotBase64 text.now) }
 {
     match URL_SAFE_NO_PAD.decode_slice_unchecked(text, room) {
         Ok(count) => Ok(count),

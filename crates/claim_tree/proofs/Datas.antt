@@ -10,7 +10,8 @@ use Rattle.serde_json.specs.View.{view, items_view, members_view}
 use Rattle.serde_json.specs.Written.{has_float, items_have_float, members_have_float}
 use Rattle.serde_json.specs.Find.{is_float, of_integer}
 use Rattle.serde_json.specs.declared.value.Value.{Value}
-use Rattle.claim_tree.specs.Tree.{Text, null, flag, whole, text, Tree, leaf, array, object, Elements, no_elements, element, Members, no_members, member, depth, elements_depth, members_depth, pushed, inserted, IsRanged, ElementsRanged, MembersRanged}
+use Rattle.claim_tree.specs.Tree.{Text, null, flag, whole, text, Tree, leaf, array, object, Elements, no_elements, element, Members, no_members, member, depth, elements_depth, members_depth, inserted, IsRanged, ElementsRanged, MembersRanged}
+use Rattle.claim_tree.specs.TreeCalls.{pushed}
 use Rattle.claim_tree.specs.JsonText.{data_of, elements_data, members_data}
 
 abbrev pub Entry : Type 0

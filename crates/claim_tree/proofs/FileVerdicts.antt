@@ -3,7 +3,7 @@ use Rattle.std.proofs.Common.{◌≡◌, ◌≢◌, ℕ, ◌<◌, ◌≤◌, pos
 use Rattle.serde_json.specs.Written.{has_float}
 use Rattle.claim_tree.specs.Tree.{Text, leaf, text, whole, array, object, Tree, Members}
 use Rattle.claim_tree.specs.JsonText.{data_of, Reads, IsNotJson, IsNotWhole}
-use Rattle.claim_tree.specs.FileForms.{IsText, IsTexts, text_elements, IsWholeUpTo, Says, MaySay, SaysOr, Entry, fields_of, Meets, present, absent, Fails, missing, wrong, IsFirstFault, has_unknown, IsObjectFile, IsNotObject, HasMembers, HasFirstFault, IsFileRefused}
+use Rattle.claim_tree.specs.FileForms.{IsText, IsTexts, text_elements, IsWholeUpTo, Says, MaySay, SaysOr, Entry, fields_of, MemberMeets, present, absent, MemberFails, missing, wrong, IsFirstFault, has_unknown, IsObjectFile, IsNotObject, HasMembers, HasFirstFault, IsFileRefused}
 use Rattle.claim_tree.specs.declared.file_fault.FileFault.{FileFault}
 use Rattle.claim_tree.specs.declared.file_fault.FileFault.TheVariants.{Memory, TooLong, NotJson, NotWhole, NotObject, Unknown, Missing, Wrong}
 use Rattle.claim_tree.proofs.Datas.{no_float}
@@ -61,7 +61,7 @@ one_whole most t x y h k =
 pub one_object : (most : ℕ) (bytes : Text) (ms ns : Members) → IsObjectFile most bytes ms → IsObjectFile most bytes ns → ms ≡ ns
 one_object most bytes ms ns h k = let same : object ms ≡ object ns = one_tree bytes (object ms) (object ns) h.reads k.reads in cc same
 
-fails_or_meets : (entry : Entry) (ms : Members) (fault : FileFault) → Meets entry ms → Fails entry ms fault → ⊥
+fails_or_meets : (entry : Entry) (ms : Members) (fault : FileFault) → MemberMeets entry ms → MemberFails entry ms fault → ⊥
 fails_or_meets entry ms fault (present t there good) (missing none must is) = let both : Some t ≡ None = sym there ∙ none in cc both
 fails_or_meets entry ms fault (present t there good) (wrong u stands odd is) =
     let both : Some t ≡ Some u = sym there ∙ stands in
@@ -170,7 +170,7 @@ unknown_alone most table bytes ms Unknown file unknown refused cause = refl
 unknown_alone most table bytes ms (Missing field) file unknown refused cause = absurd (all_known most table bytes ms file unknown refused.members refused.file)
 unknown_alone most table bytes ms (Wrong field) file unknown refused cause = absurd (all_known most table bytes ms file unknown refused.members refused.file)
 
-one_fail : (entry : Entry) (ms : Members) (f g : FileFault) → Fails entry ms f → Fails entry ms g → f ≡ g
+one_fail : (entry : Entry) (ms : Members) (f g : FileFault) → MemberFails entry ms f → MemberFails entry ms g → f ≡ g
 one_fail entry ms f g (missing none must is) (missing gone need as_well) = is ∙ sym as_well
 one_fail entry ms f g (missing none must is) (wrong u stands odd as_well) = let both : None ≡ Some u = sym none ∙ stands in cc both
 one_fail entry ms f g (wrong t there bad is) (missing gone need as_well) = let both : Some t ≡ None = sym there ∙ gone in cc both

@@ -1,9 +1,12 @@
 -- Lists in files, element by element.
 use Rattle.std.proofs.Common.{◌≡◌, ◌≢◌, ℕ, zero, suc, ◌+◌, ◌<◌, List, [], ◌∷◌, ◌++◌, length, get_or, take, Option, refl, sym, ap, subst, ◌∙◌, arith}
 use Rattle.claim_tree.specs.Tree as spec
-use Rattle.claim_tree.specs.Tree.{Text, leaf, text, array, Elements, no_elements, element, pushed}
-use Rattle.claim_tree.specs.Path.{pointer_text, IsNoPointer}
-use Rattle.claim_tree.specs.View.{tree_of, elements_of}
+use Rattle.claim_tree.specs.Tree.{Text, leaf, text, array, Elements, no_elements, element}
+use Rattle.claim_tree.specs.TreeCalls.{pushed}
+use Rattle.claim_tree.specs.Path.{pointer_text}
+use Rattle.claim_tree.specs.PointerRefusals.{IsNoPointer}
+use Rattle.claim_tree.specs.View.{tree_of}
+use Rattle.claim_tree.specs.ListViews.{elements_of}
 use Rattle.claim_tree.specs.declared.tree.Tree as tree
 use Rattle.claim_tree.specs.FileForms.{HasValue, IsText}
 use Rattle.claim_tree.proofs.FileMembers.{no_text}

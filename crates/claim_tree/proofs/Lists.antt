@@ -4,7 +4,7 @@ use Rattle.std.specs.Prelude.{bytes_eq}
 use Rattle.std.specs.List.{list_any}
 use Rattle.std.proofs.lemmas.Slice.Eq.{bytes_eq-Decides}
 use Rattle.claim_tree.specs.Tree.{Text}
-use Rattle.claim_tree.specs.Lists.{At, In, Repeats, Nowhere}
+use Rattle.claim_tree.specs.Lists.{StandsAt, In, Repeats, AtNone}
 
 pub bytes_same : (a b : Text) → bytes_eq a b ≡ true → a ≡ b
 bytes_same a b h = (bytes_eq-Decides a b).0 h
@@ -60,54 +60,54 @@ In-of_map f y (z ∷ xs) (inl e) = (z, inl refl, e)
 In-of_map f y (z ∷ xs) (inr h) = let w = In-of_map f y xs h in (w.0, inr w.1, w.2)
 In-of_map f y [] h = elim h [ ]
 
-pub At-In : {X : Type 0} (xs : List X) (i : ℕ) (x : X) → At xs i x → In x xs
+pub At-In : {X : Type 0} (xs : List X) (i : ℕ) (x : X) → StandsAt xs i x → In x xs
 At-In (y ∷ ys) zero x h = inl h
 At-In (y ∷ ys) (suc i) x h = inr (At-In ys i x h)
 At-In [] i x h = elim h [ ]
 
-pub In-At : {X : Type 0} (xs : List X) (x : X) → In x xs → (i : ℕ) × At xs i x
+pub In-At : {X : Type 0} (xs : List X) (x : X) → In x xs → (i : ℕ) × StandsAt xs i x
 In-At (y ∷ ys) x (inl e) = (0, e)
 In-At (y ∷ ys) x (inr h) = let w = In-At ys x h in (suc w.0, w.1)
 In-At [] x h = elim h [ ]
 
-pub At-same : {X : Type 0} (xs : List X) (i : ℕ) (x y : X) → At xs i x → At xs i y → x ≡ y
+pub At-same : {X : Type 0} (xs : List X) (i : ℕ) (x y : X) → StandsAt xs i x → StandsAt xs i y → x ≡ y
 At-same (z ∷ zs) zero x y h k = h ∙ sym k
 At-same (z ∷ zs) (suc i) x y h k = At-same zs i x y h k
 At-same [] i x y h k = elim h [ ]
 
-pub At-map : {X Y : Type 0} (f : X → Y) (xs : List X) (i : ℕ) (x : X) → At xs i x → At (map f xs) i (f x)
+pub At-map : {X Y : Type 0} (f : X → Y) (xs : List X) (i : ℕ) (x : X) → StandsAt xs i x → StandsAt (map f xs) i (f x)
 At-map f (z ∷ zs) zero x h = ap f h
 At-map f (z ∷ zs) (suc i) x h = At-map f zs i x h
 At-map f [] i x h = elim h [ ]
 
-pub At-below : {X : Type 0} (xs : List X) (i : ℕ) (x : X) → At xs i x → i < length xs
+pub At-below : {X : Type 0} (xs : List X) (i : ℕ) (x : X) → StandsAt xs i x → i < length xs
 At-below (z ∷ zs) zero x h = omega arith
 At-below (z ∷ zs) (suc i) x h = omega (arith, At-below zs i x h)
 At-below [] i x h = elim h [ ]
 
-pub At-get : {X : Type 0} (xs : List X) (i : ℕ) → i < length xs → (x : X) × At xs i x
+pub At-get : {X : Type 0} (xs : List X) (i : ℕ) → i < length xs → (x : X) × StandsAt xs i x
 At-get (z ∷ zs) zero h = (z, refl)
 At-get (z ∷ zs) (suc i) h = At-get zs i (omega arith)
 At-get [] i h = absurd (omega arith)
 
-pub At-get_or : {X : Type 0} (xs : List X) (i : ℕ) (d : X) → i < length xs → At xs i (get_or xs i d)
+pub At-get_or : {X : Type 0} (xs : List X) (i : ℕ) (d : X) → i < length xs → StandsAt xs i (get_or xs i d)
 At-get_or (z ∷ zs) zero d h = refl
 At-get_or (z ∷ zs) (suc i) d h = At-get_or zs i d (omega arith)
 At-get_or [] i d h = absurd (omega arith)
 
 -- an element of an image, and of two lists in a row
-pub At-of_map : {X Y : Type 0} (f : X → Y) (xs : List X) (i : ℕ) (y : Y) → At (map f xs) i y → (x : X) × At xs i x × (y ≡ f x)
+pub At-of_map : {X Y : Type 0} (f : X → Y) (xs : List X) (i : ℕ) (y : Y) → StandsAt (map f xs) i y → (x : X) × StandsAt xs i x × (y ≡ f x)
 At-of_map f (z ∷ zs) zero y h = (z, refl, h)
 At-of_map f (z ∷ zs) (suc i) y h = At-of_map f zs i y h
 At-of_map f [] i y h = elim h [ ]
 
-pub At-either : {X : Type 0} (xs ys : List X) (i : ℕ) (x : X) → At (xs ++ ys) i x → At xs i x ⊎ ((j : ℕ) × (i ≡ length xs + j) × At ys j x)
+pub At-either : {X : Type 0} (xs ys : List X) (i : ℕ) (x : X) → StandsAt (xs ++ ys) i x → StandsAt xs i x ⊎ ((j : ℕ) × (i ≡ length xs + j) × StandsAt ys j x)
 At-either [] ys i x h = inr (i, omega arith, h)
 At-either (z ∷ xs) ys zero x h = inl h
 At-either (z ∷ xs) ys (suc i) x h = ⊎_elim (λ a. inl a) (λ b. inr (b.0, omega (arith, b.1), b.2)) (At-either xs ys i x h)
 
 -- where no element equals an earlier one, a value stands at one place
-pub one_place : (ds : List Text) → Nowhere (Repeats ds) → (p q : ℕ) (d : Text) → At ds p d → At ds q d → p ≡ q
+pub one_place : (ds : List Text) → AtNone (Repeats ds) → (p q : ℕ) (d : Text) → StandsAt ds p d → StandsAt ds q d → p ≡ q
 one_place ds none p q d h k = go (compare_lt p q)
   where
     compare_lt : (a b : ℕ) → (a < b) ⊎ ((a ≡ b) ⊎ (b < a))
@@ -119,14 +119,14 @@ one_place ds none p q d h k = go (compare_lt p q)
     go (inr (inr l)) = absurd (none p (d, h, q, l, k))
 
 -- so two elements with one image are the same
-pub same_by_image : {X : Type 0} (f : X → Text) (xs : List X) → Nowhere (Repeats (map f xs)) → (x y : X) → In x xs → In y xs → f x ≡ f y → x ≡ y
+pub same_by_image : {X : Type 0} (f : X → Text) (xs : List X) → AtNone (Repeats (map f xs)) → (x y : X) → In x xs → In y xs → f x ≡ f y → x ≡ y
 same_by_image f xs none x y h k e =
     let a = In-At xs x h in
     let b = In-At xs y k in
     let u = At-map f xs a.0 x a.1 in
     let v = At-map f xs b.0 y b.1 in
-    let s = one_place (map f xs) none a.0 b.0 (f y) (subst (λ d. At (map f xs) a.0 d) e u) v in
-    At-same xs b.0 x y (subst (λ i. At xs i x) s a.1) b.1
+    let s = one_place (map f xs) none a.0 b.0 (f y) (subst (λ d. StandsAt (map f xs) a.0 d) e u) v in
+    At-same xs b.0 x y (subst (λ i. StandsAt xs i x) s a.1) b.1
 
 pub list_any-In : {X : Type 0} (p : X → Bool) (xs : List X) → list_any p xs ≡ true → (x : X) × In x xs × (p x ≡ true)
 list_any-In p [] h = cc

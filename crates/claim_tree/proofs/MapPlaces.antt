@@ -14,8 +14,9 @@ use Rattle.claim_tree.specs.Tree as spec
 use Rattle.claim_tree.specs.Tree.{Text, Members, member, no_members, names, IsBefore, IsBeforeAll, IsOrdered, MembersOrdered, inserted, member_named}
 use Rattle.claim_tree.specs.Removed.{removed}
 use Rattle.claim_tree.specs.declared.tree.Tree.{Tree}
-use Rattle.claim_tree.specs.View.{tree_of, members_of}
-use Rattle.claim_tree.specs.Places.{IsPlace, IsGap}
+use Rattle.claim_tree.specs.View.{tree_of}
+use Rattle.claim_tree.specs.ListViews.{members_of}
+use Rattle.claim_tree.specs.MemberPositions.{IsPosition, IsGap}
 
 abbrev pub cmp : Text → Text → Ordering
 cmp = slice_cmp nat_cmp
@@ -56,7 +57,7 @@ sorted : (ms : List Entry) → MembersOrdered (members_of ms) → IsSortedBy (λ
 sorted ms o k d l h = ap is_lt (after_before (get_or ms k d).0 (get_or ms (k + 1) d).0 (ascends ms k (k + 1) d o (omega arith) h))
 
 -- what a binary search finds
-pub found_place : (ms : List Entry) (name : Text) (r : Result ℕ ℕ) → IsSearchInRange r (length ms) → IsBinarySearchResult (λ (m : Entry). cmp m.0 name) ms r → IfOk r (IsPlace ms name)
+pub found_place : (ms : List Entry) (name : Text) (r : Result ℕ ℕ) → IsSearchInRange r (length ms) → IsBinarySearchResult (λ (m : Entry). cmp m.0 name) ms r → IfOk r (IsPosition ms name)
 found_place ms name (Ok i) within is = record { within = within; named = is }
 found_place ms name (Err i) within is = tt
 
@@ -93,7 +94,7 @@ put_later : (m : Entry) (ms : List Entry) (name : Text) (t : Tree) (rest : Membe
     → member m.0 (tree_of m.1) rest ≡ inserted (members_of (m ∷ ms)) name (tree_of t)
 put_later m ms name t rest e ih = rw e (ap (member m.0 (tree_of m.1)) ih)
 
-pub set_at : (ms : List Entry) (name : Text) (t : Tree) (i : ℕ) → MembersOrdered (members_of ms) → IsPlace ms name i → members_of (set ms i (name, t)) ≡ inserted (members_of ms) name (tree_of t)
+pub set_at : (ms : List Entry) (name : Text) (t : Tree) (i : ℕ) → MembersOrdered (members_of ms) → IsPosition ms name i → members_of (set ms i (name, t)) ≡ inserted (members_of ms) name (tree_of t)
 set_at [] name t i o p = absurd (let w = p.within in omega arith)
 set_at (m ∷ ms) name t zero o p = put_here m ms name t (p.named m)
 set_at (m ∷ ms) name t (suc i) o p =
@@ -145,7 +146,7 @@ ordered-inserted (member other u ms) name t o p = ordered_one (cmp other name) o
 
 -- ---- the look-up
 
-pub named_at : (ms : List Entry) (name : Text) (i : ℕ) (d : Entry) → MembersOrdered (members_of ms) → IsPlace ms name i → member_named (members_of ms) name ≡ Some (tree_of (get_or ms i d).1)
+pub named_at : (ms : List Entry) (name : Text) (i : ℕ) (d : Entry) → MembersOrdered (members_of ms) → IsPosition ms name i → member_named (members_of ms) name ≡ Some (tree_of (get_or ms i d).1)
 named_at [] name i d o p = absurd (let w = p.within in omega arith)
 named_at (m ∷ ms) name zero d o p = let e : bytes_eq m.0 name ≡ true = sym (is_eq-slice_cmp m.0 name) ∙ ap is_eq (p.named m) in rw e refl
 named_at (m ∷ ms) name (suc i) d o p =
@@ -172,7 +173,7 @@ behind_removed : (name : Text) (ms : Members) → IsBeforeAll name (names ms) �
 behind_removed name no_members all = refl
 behind_removed name (member other t ms) all = rw (apart other name Greater (after_before name other all.0) refl) (ap (member other t) (behind_removed name ms all.1))
 
-pub remove_at : (ms : List Entry) (name : Text) (i : ℕ) → MembersOrdered (members_of ms) → IsPlace ms name i → members_of (remove ms i) ≡ removed (members_of ms) name
+pub remove_at : (ms : List Entry) (name : Text) (i : ℕ) → MembersOrdered (members_of ms) → IsPosition ms name i → members_of (remove ms i) ≡ removed (members_of ms) name
 remove_at [] name i o p = absurd (let w = p.within in omega arith)
 remove_at (m ∷ ms) name zero o p =
     let same : m.0 ≡ name = same_name m.0 name (p.named m) in

@@ -2,7 +2,7 @@
 use Rattle.std.proofs.Common.{◌≡◌, Bool, ◌||◌, List, [], ◌∷◌, refl, ap}
 use Rattle.std.specs.List.{list_any}
 use Rattle.claim_tree.specs.Tree.{Text, names}
-use Rattle.claim_tree.specs.View.{members_of}
+use Rattle.claim_tree.specs.ListViews.{members_of}
 use Rattle.claim_tree.specs.declared.tree.Tree as tree
 
 -- a test of the names of a slice

@@ -7,7 +7,8 @@ use Rattle.std.specs.Str.Pattern.{FindsChar, IsSplitAtFirstMatch}
 use Rattle.std.proofs.lemmas.Grind.{flat_map-append}
 use Rattle.std.proofs.lemmas.Str.{len_utf8_ascii}
 use Rattle.std.proofs.lemmas.Str.Pattern.{NoCharPasses-char, drop_at_char}
-use Rattle.claim_tree.specs.Path.{EndsNoEscape, HasLoneTilde, escaped, pointer_text}
+use Rattle.claim_tree.specs.Path.{escaped, pointer_text}
+use Rattle.claim_tree.specs.PointerRefusals.{EndsNoEscape, HasLoneTilde}
 
 -- what is left of a pointer, from the slash in front of its next step on
 abbrev pub left : Bool → List ℕ → List ℕ

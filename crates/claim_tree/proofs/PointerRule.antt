@@ -2,7 +2,8 @@
 use Rattle.std.proofs.Common.{◌≡◌, ◌≢◌, ℕ, Bool, true, false, List, [], ◌∷◌, ◌++◌, refl, sym, ap, ◌↔◌}
 use Rattle.std.specs.Prelude.{◌==◌}
 use Rattle.std.proofs.lemmas.Bool.Decides.{Decides-eqb}
-use Rattle.claim_tree.specs.Path.{EndsNoEscape, HasLoneTilde, IsNoPointer, no_slash, lone_tilde, escaped_byte, escaped, pointer_text}
+use Rattle.claim_tree.specs.Path.{escaped_byte, escaped, pointer_text}
+use Rattle.claim_tree.specs.PointerRefusals.{EndsNoEscape, HasLoneTilde, IsNoPointer, no_slash, lone_tilde}
 use Rattle.claim_tree.proofs.PointerEscapes.{plain_byte}
 use Rattle.claim_tree.proofs.PointerTildes.{begins_not}
 use Rattle.claim_tree.proofs.PointerTexts.{no_path}

@@ -3,7 +3,8 @@ use Rattle.std.proofs.Common.{◌≡◌, ◌≢◌, ℕ, Bool, true, false, cond
 use Rattle.std.specs.Prelude.{nat_eq, ◌==◌}
 use Rattle.std.specs.List.{starts_with}
 use Rattle.std.proofs.lemmas.Bool.Decides.{Decides-eqb}
-use Rattle.claim_tree.specs.Path.{escaped_byte, escaped, pointer_text, IsNoPointer, no_slash, lone_tilde}
+use Rattle.claim_tree.specs.Path.{escaped_byte, escaped, pointer_text}
+use Rattle.claim_tree.specs.PointerRefusals.{IsNoPointer, no_slash, lone_tilde}
 use Rattle.claim_tree.proofs.PointerTildes.{no_lone_tilde}
 
 -- the step whose end is read, and the steps behind it

@@ -4,7 +4,8 @@ use Rattle.std.specs.Prelude.{nat_eq, ◌==◌, ◌||◌}
 use Rattle.std.specs.List.{starts_with}
 use Rattle.std.proofs.lemmas.Bool.{and_parts, ne_eqb}
 use Rattle.std.proofs.lemmas.Bool.Decides.{Decides-eqb}
-use Rattle.claim_tree.specs.Path.{EndsNoEscape, HasLoneTilde, escaped, escaped_byte, pointer_text}
+use Rattle.claim_tree.specs.Path.{escaped, escaped_byte, pointer_text}
+use Rattle.claim_tree.specs.PointerRefusals.{EndsNoEscape, HasLoneTilde}
 
 pub begins_not : (c : ℕ) (bs : List ℕ) → ((rest : List ℕ) → bs ≢ c ∷ rest) → starts_with nat_eq bs (c ∷ []) ≡ false
 begins_not c [] h = refl

@@ -5,7 +5,8 @@ use Rattle.json.specs.Token.{Token, key}
 use Rattle.json.specs.Tree as json
 use Rattle.serde_json.specs.Written.{outline, items_outline, members_outline}
 use Rattle.claim_tree.specs.Tree as spec
-use Rattle.claim_tree.specs.View.{tree_of, elements_of, members_of}
+use Rattle.claim_tree.specs.View.{tree_of}
+use Rattle.claim_tree.specs.ListViews.{elements_of, members_of}
 use Rattle.claim_tree.specs.JsonText.{data_of, elements_data, members_data}
 use Rattle.claim_tree.specs.declared.tree.Tree as tree
 use Rattle.claim_tree.proofs.Walks.{Named}

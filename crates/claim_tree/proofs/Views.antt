@@ -2,9 +2,11 @@
 use Rattle.std.proofs.Common.{◌≡◌, ℕ, zero, suc, ◌<◌, ◌≤◌, List, [], ◌∷◌, ◌++◌, length, Option, Some, None, option_map, get_or, MatchOption, Bor, refl, sym, ap, ◌∙◌, arith}
 use Rattle.std.specs.Prelude.{HoldsAt}
 use Rattle.claim_tree.specs.Tree as spec
-use Rattle.claim_tree.specs.Tree.{Text, Elements, element, no_elements, Members, member, no_members, elements_len, element_at, pushed, members_len, member_at, IsOrdered, ElementsOrdered}
+use Rattle.claim_tree.specs.Tree.{Text, Elements, element, no_elements, Members, member, no_members, elements_len, element_at, members_len, IsOrdered, ElementsOrdered}
+use Rattle.claim_tree.specs.TreeCalls.{pushed, member_at}
 use Rattle.claim_tree.specs.declared.tree.Tree.{Tree}
-use Rattle.claim_tree.specs.View.{tree_of, elements_of, members_of}
+use Rattle.claim_tree.specs.View.{tree_of}
+use Rattle.claim_tree.specs.ListViews.{elements_of, members_of}
 
 -- ---- arrays
 

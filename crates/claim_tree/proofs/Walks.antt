@@ -2,8 +2,11 @@
 use Rattle.std.proofs.Common.{◌≡◌, ℕ, zero, suc, ◌+◌, ◌*◌, ◌<◌, ◌≤◌, List, [], ◌∷◌, ◌++◌, length, get_or, take, add-one, refl, sym, ap, subst, ◌∙◌, arith}
 use Rattle.std.proofs.Math.Seq.{take-suc}
 use Rattle.claim_tree.specs.Tree as spec
-use Rattle.claim_tree.specs.Tree.{Text, nodes, elements_nodes, members_nodes, depth, elements_depth, members_depth, names, pushed, inserted, IsBefore, IsBeforeAll, MembersOrdered, IsRanged, ElementsRanged, MembersRanged}
-use Rattle.claim_tree.specs.View.{tree_of, elements_of, members_of}
+use Rattle.claim_tree.specs.Tree.{Text, depth, elements_depth, members_depth, names, inserted, IsBefore, IsBeforeAll, MembersOrdered, IsRanged, ElementsRanged, MembersRanged}
+use Rattle.claim_tree.specs.TreeCalls.{pushed}
+use Rattle.claim_tree.specs.Nodes.{nodes, elements_nodes, members_nodes}
+use Rattle.claim_tree.specs.View.{tree_of}
+use Rattle.claim_tree.specs.ListViews.{elements_of, members_of}
 use Rattle.claim_tree.specs.declared.tree.Tree as tree
 use Rattle.claim_tree.proofs.Views.{elements_of-push}
 

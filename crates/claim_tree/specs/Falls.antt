@@ -2,12 +2,14 @@
 use Rattle.std.specs.Prelude.{◌≤◌, List, [], ◌∷◌}
 use Rattle.std.proofs.Common.{arith}
 use denote.Param.Weighed.{most}
-use Rattle.claim_tree.specs.Tree.{Text, nodes, elements_nodes, members_nodes}
+use Rattle.claim_tree.specs.Tree.{Text}
+use Rattle.claim_tree.specs.Nodes.{nodes, elements_nodes, members_nodes}
 use Rattle.claim_tree.specs.declared.tree.Tree.{Tree}
 use Rattle.claim_tree.specs.declared.tree.Tree.TheVariants.{the_data}
 use Rattle.claim_tree.specs.declared.tree.TreeList.TheDeep.{deep-Tree}
 use Rattle.claim_tree.specs.declared.tree.TreeList.TheShapes.{weighed-TreeMap-members-at-2}
-use Rattle.claim_tree.specs.View.{tree_of, elements_of, members_of}
+use Rattle.claim_tree.specs.View.{tree_of}
+use Rattle.claim_tree.specs.ListViews.{elements_of, members_of}
 
 deep-le : (t : Tree) → deep-Tree t ≤ nodes (tree_of t)
 deep-le Tree.Null = omega arith

@@ -3,7 +3,7 @@ use Rattle.std.specs.Prelude.{◌≡◌, ◌≢◌, ◌<◌, ◌≤◌, ◌⊎�
 use Rattle.std.specs.List.{list_any}
 use Rattle.claim_tree.specs.Tree.{Text, text, whole, Tree, leaf, array, object, Elements, no_elements, element, Members, names, member_named}
 use Rattle.claim_tree.specs.JsonText.{Reads, IsNotJson, IsNotWhole}
-use Rattle.claim_tree.specs.FileWords.{word_of}
+use Rattle.claim_tree.specs.FileWords.{field_word}
 use Rattle.claim_tree.specs.declared.file_fault.Field.{Field}
 use Rattle.claim_tree.specs.declared.file_fault.FileFault.{FileFault}
 use Rattle.claim_tree.specs.declared.file_fault.FileFault.TheVariants.{Memory, TooLong, NotJson, NotWhole, NotObject, Unknown, Missing, Wrong}
@@ -66,27 +66,27 @@ fields_of [] = []
 fields_of (entry ∷ table) = entry.field ∷ fields_of table
 
 abbrev pub found : Members → Field → Option Tree
-found ms field = member_named ms (word_of field)
+found ms field = member_named ms (field_word field)
 
 -- the member is there and has its form, or is not there and need not be
-pub data Meets (entry : Entry) (ms : Members) : Type 0 where
-  present : (t : Tree) → found ms entry.field ≡ Some t → entry.Form t → Meets entry ms
-  absent : found ms entry.field ≡ None → entry.is_required ≡ false → Meets entry ms
+pub data MemberMeets (entry : Entry) (ms : Members) : Type 0 where
+  present : (t : Tree) → found ms entry.field ≡ Some t → entry.Form t → MemberMeets entry ms
+  absent : found ms entry.field ≡ None → entry.is_required ≡ false → MemberMeets entry ms
 
 -- the member is not there and must be, or is there without its form
-pub data Fails (entry : Entry) (ms : Members) (fault : FileFault) : Type 0 where
-  missing : found ms entry.field ≡ None → entry.is_required ≡ true → fault ≡ Missing entry.field → Fails entry ms fault
-  wrong : (t : Tree) → found ms entry.field ≡ Some t → (entry.Form t → ⊥) → fault ≡ Wrong entry.field → Fails entry ms fault
+pub data MemberFails (entry : Entry) (ms : Members) (fault : FileFault) : Type 0 where
+  missing : found ms entry.field ≡ None → entry.is_required ≡ true → fault ≡ Missing entry.field → MemberFails entry ms fault
+  wrong : (t : Tree) → found ms entry.field ≡ Some t → (entry.Form t → ⊥) → fault ≡ Wrong entry.field → MemberFails entry ms fault
 
 -- the fault of the first member, in the order of the table, that is missing or wrong
 abbrev pub IsFirstFault : List Entry → Members → FileFault → Type 0
 IsFirstFault [] ms fault = ⊥
-IsFirstFault (entry ∷ table) ms fault = Fails entry ms fault ⊎ (Meets entry ms × IsFirstFault table ms fault)
+IsFirstFault (entry ∷ table) ms fault = MemberFails entry ms fault ⊎ (MemberMeets entry ms × IsFirstFault table ms fault)
 
 -- ---- the file
 
 abbrev pub is_known : List Field → Text → Bool
-is_known fields name = list_any (λ field. bytes_eq (word_of field) name) fields
+is_known fields name = list_any (λ field. bytes_eq (field_word field) name) fields
 
 -- a member is there that is none of the fields
 abbrev pub has_unknown : List Field → Members → Bool
@@ -119,11 +119,6 @@ HasNoMembers most fields bytes NotObject = IsNotObject most bytes
 HasNoMembers most fields bytes Unknown = (ms : Members) × IsObjectFile most bytes ms × (has_unknown fields ms ≡ true)
 HasNoMembers most fields bytes (Missing field) = ⊥
 HasNoMembers most fields bytes (Wrong field) = ⊥
-
--- why a member is refused; want of memory says nothing
-abbrev pub IsMemberRefused : Entry → Members → FileFault → Type 0
-IsMemberRefused entry ms Memory = Unit {0}
-IsMemberRefused entry ms fault = Fails entry ms fault
 
 -- the file has known members, and this is the first fault of them
 pub record HasFirstFault (most : ℕ) (table : List Entry) (bytes : Text) (fault : FileFault) : Type 0 where

@@ -47,12 +47,6 @@ pub record IsNotWhole (bytes : Text) : Type 0 where
   pub value : reading.read bytes ≡ Some data_is
   pub float : written.has_float data_is ≡ true
 
--- why a text is not read
-abbrev pub IsUnread : Text → ReadError → Type 0
-IsUnread bytes Memory = Unit {0}
-IsUnread bytes NotJson = IsNotJson bytes
-IsUnread bytes NotWhole = IsNotWhole bytes
-
 -- compact JSON: no blanks, members ascending by the bytes of their names
 abbrev pub json_text : Tree → Text
 json_text t = written.compact_text (data_of t)

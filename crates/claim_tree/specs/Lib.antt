@@ -5,8 +5,14 @@ pub mod View
 pub mod JsonText
 pub mod Code
 pub mod Falls
-pub mod Places
+pub mod MemberPositions
 pub mod Path
 pub mod FileWords
 pub mod FileForms
 pub mod FileLists
+pub mod TreeCalls
+pub mod Nodes
+pub mod JsonRefusals
+pub mod FileRefusals
+pub mod PointerRefusals
+pub mod ListViews

@@ -3,10 +3,10 @@ use Rattle.std.specs.Prelude.{◌≡◌, ℕ, zero, suc, ◌<◌, List, [], ◌�
 use Rattle.claim_tree.specs.Tree.{Text}
 
 -- the element at place i is x
-abbrev pub At : {X : Type 0} → List X → ℕ → X → Type 0
-At [] i x = ⊥
-At (y ∷ ys) zero x = x ≡ y
-At (y ∷ ys) (suc i) x = At ys i x
+abbrev pub StandsAt : {X : Type 0} → List X → ℕ → X → Type 0
+StandsAt [] i x = ⊥
+StandsAt (y ∷ ys) zero x = x ≡ y
+StandsAt (y ∷ ys) (suc i) x = StandsAt ys i x
 
 -- x is an element
 abbrev pub In : {X : Type 0} → X → List X → Type 0
@@ -15,11 +15,11 @@ In x (y ∷ ys) = (x ≡ y) ⊎ In x ys
 
 -- the text at a place equals an earlier one
 abbrev pub Repeats : List Text → ℕ → Type 0
-Repeats texts place = (text : Text) × At texts place text × (earlier : ℕ) × (earlier < place) × At texts earlier text
+Repeats texts place = (text : Text) × StandsAt texts place text × (earlier : ℕ) × (earlier < place) × StandsAt texts earlier text
 
 -- nothing fails, at any place
-abbrev pub Nowhere : (ℕ → Type 0) → Type 0
-Nowhere Fails = (place : ℕ) → Fails place → ⊥
+abbrev pub AtNone : (ℕ → Type 0) → Type 0
+AtNone Fails = (place : ℕ) → Fails place → ⊥
 
 -- it fails at this place, and at no earlier one
 pub record IsLeast (Fails : ℕ → Type 0) (place : ℕ) : Type 0 where

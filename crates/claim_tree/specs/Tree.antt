@@ -43,21 +43,6 @@ abbrev mutual
   members_depth no_members = 0
   members_depth (member name t ms) = max (depth t) (members_depth ms)
 
--- how many nodes there are
-abbrev mutual
-  pub nodes : Tree → ℕ
-  nodes (leaf l) = 1
-  nodes (array es) = suc (elements_nodes es)
-  nodes (object ms) = suc (members_nodes ms)
-
-  pub elements_nodes : Elements → ℕ
-  elements_nodes no_elements = 0
-  elements_nodes (element t es) = nodes t + elements_nodes es
-
-  pub members_nodes : Members → ℕ
-  members_nodes no_members = 0
-  members_nodes (member name t ms) = nodes t + members_nodes ms
-
 abbrev pub names : Members → List Text
 names no_members = []
 names (member name t ms) = name ∷ names ms
@@ -127,11 +112,6 @@ abbrev pub elements_len : Elements → ℕ
 elements_len no_elements = 0
 elements_len (element t es) = suc (elements_len es)
 
--- one element more, at the end
-abbrev pub pushed : Elements → Tree → Elements
-pushed no_elements t = element t no_elements
-pushed (element u es) t = element u (pushed es t)
-
 abbrev pub element_at : Elements → ℕ → Option Tree
 element_at no_elements i = None
 element_at (element t es) zero = Some t
@@ -152,11 +132,6 @@ inserted (member other u ms) name t = match_ordering (slice_cmp nat_cmp other na
 abbrev pub member_named : Members → Text → Option Tree
 member_named no_members name = None
 member_named (member other u ms) name = if bytes_eq other name then Some u else member_named ms name
-
-abbrev pub member_at : Members → ℕ → Option (Text × Tree)
-member_at no_members i = None
-member_at (member name t ms) zero = Some (name, t)
-member_at (member name t ms) (suc i) = member_at ms i
 
 -- the member of an object
 abbrev pub get : Tree → Text → Option Tree

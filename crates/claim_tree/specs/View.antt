@@ -11,11 +11,3 @@ tree_of (Tree.Whole n) = leaf (whole n)
 tree_of (Tree.Text s) = leaf (text s)
 tree_of (Tree.List es) = array es
 tree_of (Tree.Object ms) = object ms
-
-abbrev pub elements_of : List Tree → Elements
-elements_of [] = no_elements
-elements_of (t ∷ ts) = element (tree_of t) (elements_of ts)
-
-abbrev pub members_of : List (Text × Tree) → Members
-members_of [] = no_members
-members_of (m ∷ ms) = member m.0 (tree_of m.1) (members_of ms)

@@ -1,6 +1,6 @@
 // The faults of the files that a command reads.
 ghost use Rattle.std.specs.Prelude.{◌≡◌};
-ghost use Rattle.claim_tree.specs.FileWords.{word_of};
+ghost use Rattle.claim_tree.specs.FileWords.{field_word};
 
 use crate::ReadError;
 use sd_outside::NoMemory;
@@ -31,7 +31,7 @@ pub enum Field {
 impl Field {
     /// Its name in the file, which is the word that is printed.
     pub fn word(self) -> &'static str
-        ensures { result.now ≡ word_of self }
+        ensures { result.now ≡ field_word self }
     {
         match self {
             Field::Keys => "keys",
@@ -88,7 +88,7 @@ impl From<NoMemory> for FileFault {
 }
 
 impl From<ReadError> for FileFault {
-    ghost use Rattle.claim_tree.specs.FileWords.{unread_fault};
+    ghost use Rattle.claim_tree.specs.JsonRefusals.{unread_fault};
 
     ghost from_gives = { λ error fault. fault ≡ unread_fault error };
 

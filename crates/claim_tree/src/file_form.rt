@@ -1,9 +1,11 @@
 // What the files that a command reads have in common.
 ghost use Rattle.std.specs.Prelude.{◌≡◌, ◌≢◌, ◌≤◌, List, IfOk, IfErr, IfSome, IfNone};
 ghost use Rattle.claim_tree.specs.Tree.{Text, object, IsRanged, IsOrdered, depth as depth_of};
-ghost use Rattle.claim_tree.specs.View.{tree_of, elements_of};
+ghost use Rattle.claim_tree.specs.View.{tree_of};
+ghost use Rattle.claim_tree.specs.ListViews.{elements_of};
 ghost use Rattle.claim_tree.specs.FileForms as spec;
-ghost use Rattle.claim_tree.specs.FileForms.{IsText, IsTexts, IsWholeUpTo, HasValue, MaySay, HasMembers, HasNoMembers, IsMemberRefused, optional, found};
+ghost use Rattle.claim_tree.specs.FileForms.{IsText, IsTexts, IsWholeUpTo, HasValue, MaySay, HasMembers, HasNoMembers, optional, found};
+ghost use Rattle.claim_tree.specs.FileRefusals.{IsMemberRefused};
 
 use crate::{Field, FileFault, Tree, TreeMap, read};
 use sd_outside::{NoMemory, TextBox, TextList};

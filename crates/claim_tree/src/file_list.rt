@@ -1,8 +1,10 @@
 // Lists of pointers in the files that a command reads.
 ghost use Rattle.std.specs.Prelude.{◌≡◌, List, [], IfOk, IfErr, IfSome, IfNone};
 ghost use Rattle.claim_tree.specs.Tree.{Text};
-ghost use Rattle.claim_tree.specs.View.{tree_of, elements_of};
-ghost use Rattle.claim_tree.specs.FileForms.{HasValue, SaysOr, IsMemberRefused, optional, found};
+ghost use Rattle.claim_tree.specs.View.{tree_of};
+ghost use Rattle.claim_tree.specs.ListViews.{elements_of};
+ghost use Rattle.claim_tree.specs.FileForms.{HasValue, SaysOr, optional, found};
+ghost use Rattle.claim_tree.specs.FileRefusals.{IsMemberRefused};
 ghost use Rattle.claim_tree.specs.FileLists.{IsPointer, EachSays, IsListOf};
 
 use crate::{Field, FileFault, Path, PathList, PointerError, Tree, TreeMap, read_pointer};

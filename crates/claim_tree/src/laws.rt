@@ -3,7 +3,8 @@ ghost use Rattle.std.specs.Prelude.{◌≡◌, ◌≢◌, ◌≤◌, ◌↔◌, 
 ghost use Rattle.serde_json.specs.Read.{read as value_of_text};
 ghost use Rattle.claim_tree.specs.Tree.{Tree, IsRanged, IsOrdered, depth};
 ghost use Rattle.claim_tree.specs.JsonText.{data_of, json_text, Reads};
-ghost use Rattle.claim_tree.specs.Path.{IsNoPointer, pointer_text};
+ghost use Rattle.claim_tree.specs.Path.{pointer_text};
+ghost use Rattle.claim_tree.specs.PointerRefusals.{IsNoPointer};
 
 /// The compact JSON text of a tree reads to this tree.
 pub fn read_of_written()

@@ -1,5 +1,6 @@
 ghost use Rattle.std.specs.Prelude.{◌≡◌, ◌↔◌, ◌<◌, ◌++◌, length, codes, string_bytes, IfOk, OnOk, IfSome, IfNone, IsTrue};
-ghost use Rattle.claim_tree.specs.Path.{LeadsTo, IsNoPointer, HasLoneTilde, HasNoSlash, EndsNoEscape, escaped, pointer_text};
+ghost use Rattle.claim_tree.specs.Path.{LeadsTo, escaped, pointer_text};
+ghost use Rattle.claim_tree.specs.PointerRefusals.{IsNoPointer, HasLoneTilde, HasNoSlash, EndsNoEscape};
 ghost use Rattle.claim_tree.specs.declared.pointer.PointerError.TheVariants.{Memory};
 
 use crate::Path;

@@ -2,7 +2,8 @@
 ghost use Rattle.std.specs.Prelude.{◌≡◌, ◌≤◌, IfOk, IfErr};
 ghost use Rattle.claim_tree.specs.Tree.{IsRanged, IsOrdered, depth as depth_of};
 ghost use Rattle.claim_tree.specs.View.{tree_of};
-ghost use Rattle.claim_tree.specs.JsonText.{Reads, IsUnread, json_text};
+ghost use Rattle.claim_tree.specs.JsonText.{Reads, json_text};
+ghost use Rattle.claim_tree.specs.JsonRefusals.{IsReadRefused};
 
 use crate::convert::{TakeError, take};
 use crate::tokens::put_tree;
@@ -30,7 +31,7 @@ pub fn read(alloc: Global, bytes: &[u8]) -> Result<Tree, ReadError>
     ensures ranged { IfOk result (λ t. IsRanged (tree_of t)) }
     ensures ordered { IfOk result (λ t. IsOrdered (tree_of t)) }
     ensures depth { IfOk result (λ t. depth_of (tree_of t) ≤ 127) }
-    ensures unread { IfErr result (IsUnread bytes.now) }
+    ensures unread { IfErr result (IsReadRefused bytes.now) }
 {
     let Ok(text) = str::from_utf8(bytes) else {
         return Err(ReadError::NotJson);

@@ -1,10 +1,12 @@
 ghost use Rattle.std.specs.Prelude.{◌≡◌, length, OnOk, OnErr, IfOk, IfErr, IsTrue, option_map};
 ghost use Rattle.std.specs.Ordering.{nat_cmp};
 ghost use Rattle.std.specs.Cmp.Lexicographic.{slice_cmp};
-ghost use Rattle.claim_tree.specs.Tree.{text_of, no_elements, no_members, elements_len, members_len, element_at, member_at, member_named, pushed, inserted, IsOrdered, ElementsOrdered, MembersOrdered};
+ghost use Rattle.claim_tree.specs.Tree.{text_of, no_elements, no_members, elements_len, members_len, element_at, member_named, inserted, IsOrdered, ElementsOrdered, MembersOrdered};
+ghost use Rattle.claim_tree.specs.TreeCalls.{member_at, pushed};
 ghost use Rattle.claim_tree.specs.Removed.{removed};
-ghost use Rattle.claim_tree.specs.View.{tree_of, elements_of, members_of};
-ghost use Rattle.claim_tree.specs.Places.{IsPlace, IsGap};
+ghost use Rattle.claim_tree.specs.View.{tree_of};
+ghost use Rattle.claim_tree.specs.ListViews.{elements_of, members_of};
+ghost use Rattle.claim_tree.specs.MemberPositions.{IsPosition, IsGap};
 
 use sd_outside::{NoMemory, TextBox};
 use std::alloc::Global;
@@ -40,8 +42,9 @@ impl Model for TreeList {
 
     ghost coded = { elements_code };
 
-    ghost use Rattle.claim_tree.specs.Tree.{elements_nodes, ElementsOrdered};
-    ghost use Rattle.claim_tree.specs.View.{elements_of};
+    ghost use Rattle.claim_tree.specs.Tree.{ElementsOrdered};
+    ghost use Rattle.claim_tree.specs.Nodes.{elements_nodes};
+    ghost use Rattle.claim_tree.specs.ListViews.{elements_of};
 
     ghost view = { λ l. elements_of l.trees.items };
 
@@ -71,8 +74,9 @@ impl Model for TreeMap {
 
     ghost coded = { members_code };
 
-    ghost use Rattle.claim_tree.specs.Tree.{members_nodes, MembersOrdered};
-    ghost use Rattle.claim_tree.specs.View.{members_of};
+    ghost use Rattle.claim_tree.specs.Tree.{MembersOrdered};
+    ghost use Rattle.claim_tree.specs.Nodes.{members_nodes};
+    ghost use Rattle.claim_tree.specs.ListViews.{members_of};
 
     ghost view = { λ m. members_of m.members.items };
 
@@ -236,7 +240,7 @@ fn compared(member: &(TextBox, Tree), name: &str) -> Ordering
 // Where the name stands among ascending members, or where it would go.
 fn search(members: &[(TextBox, Tree)], name: &str) -> Result<usize, usize>
     requires { MembersOrdered (members_of members.now) }
-    ensures found { IfOk result (IsPlace members.now name.now) }
+    ensures found { IfOk result (IsPosition members.now name.now) }
     ensures absent { IfErr result (IsGap members.now name.now) }
 {
     members.binary_search_by(|member| compared(member, name))
@@ -256,7 +260,7 @@ fn is_behind(members: &[(TextBox, Tree)], name: &str) -> bool
 // The same as `search`, by one comparison where the name comes after all others.
 fn search_from_end(members: &[(TextBox, Tree)], name: &str) -> Result<usize, usize>
     requires { MembersOrdered (members_of members.now) }
-    ensures found { IfOk result (IsPlace members.now name.now) }
+    ensures found { IfOk result (IsPosition members.now name.now) }
     ensures absent { IfErr result (IsGap members.now name.now) }
 {
     if is_behind(members, name) {

@@ -4,7 +4,7 @@ use Rattle.b64url_text.specs.Base64url.{letters, is_letter, IsWord}
 use Rattle.compact_form.specs.declared.field.Field.TheVariants.{Protected, Signature, Piece, BindingSignature}
 use Rattle.compact_form.specs.declared.parts.JwtParts.{JwtParts}
 use Rattle.compact_form.specs.declared.parts.Parts.{Parts}
-use Rattle.compact_form.specs.Compact.{hashed, compact, IsCompact, IsRefusedAt}
+use Rattle.compact_form.specs.Compact.{hashed, compact, IsCompact, IsMisformedAt}
 use Rattle.compact_form.specs.Trim.{trimmed}
 use Rattle.compact_form.proofs.Stops.{refused_at_byte, refused_at_end}
 
@@ -76,24 +76,24 @@ without_binding = refl
 -- ---- where a text stops
 
 -- a JWT alone: the tilde is missing
-pub no_tilde : IsRefusedAt (codes "a.b.c") 5
+pub no_tilde : IsMisformedAt (codes "a.b.c") 5
 unfolding is_letter letters
 no_tilde = refused_at_end (codes "a.b.c") 5 (Signature, true) refl refl refl
 
 -- an empty disclosure
-empty_disclosure : IsRefusedAt (codes "a.b.c~~") 6
+empty_disclosure : IsMisformedAt (codes "a.b.c~~") 6
 unfolding is_letter letters
 empty_disclosure = refused_at_byte (codes "a.b.c~~") 6 (Piece, false) (omega arith) refl refl
 
-nothing : IsRefusedAt [] 0
+nothing : IsMisformedAt [] 0
 nothing = refused_at_end [] 0 (Protected, false) refl refl refl
 
 -- behind a key binding token nothing stands
-tilde_behind_binding : IsRefusedAt (codes "a.b.c~d.e.f~") 11
+tilde_behind_binding : IsMisformedAt (codes "a.b.c~d.e.f~") 11
 unfolding is_letter letters
 tilde_behind_binding = refused_at_byte (codes "a.b.c~d.e.f~") 11 (BindingSignature, true) (omega arith) refl refl
 
-padded : IsRefusedAt (codes "a.b.c~d=~") 7
+padded : IsMisformedAt (codes "a.b.c~d=~") 7
 unfolding is_letter letters
 padded = refused_at_byte (codes "a.b.c~d=~") 7 (Piece, true) (omega arith) refl refl
 

@@ -15,7 +15,7 @@ use Rattle.compact_form.specs.declared.field.Field.TheVariants.{Piece, BindingPa
 use Rattle.compact_form.specs.declared.parts.JwtParts.{JwtParts}
 use Rattle.compact_form.specs.declared.view.JwtView.{JwtView}
 use Rattle.compact_form.specs.Compact.{jwt, spelled, ending, HasWords, IsCompact}
-use Rattle.compact_form.specs.Reading.{Stands, Gathered, Opens}
+use Rattle.compact_form.specs.Reading.{BringsTo, Gathered, OpensField}
 use Rattle.compact_form.specs.Views.{jwt_of, pieces_of, parts_of, IsSpelled, AreSpelled}
 use Rattle.compact_form.proofs.Cuts.{either}
 use Rattle.compact_form.proofs.Spelled.{pieces_of-spelled, IsSpelled-spelled}
@@ -108,7 +108,7 @@ by_tilde c g e (inr p) = let clash : BindingPayload ≡ Piece = p.1 ∙ e in cc
 regrouped : (a b w : List ℕ) → (((a ++ (126 ∷ b)) ++ w) ++ (126 ∷ [])) ≡ a ++ (126 ∷ (b ++ (w ++ (126 ∷ []))))
 regrouped a b w = simp append_assoc
 
-grown : (x : List ℕ) (from end at next count : ℕ) (j : JwtParts) (w : List ℕ) (g : Field) → (r : Gathered x from end count j) → take at x ≡ take end x ++ w → (o : Opens x at next Piece g) → o.byte ≡ 126
+grown : (x : List ℕ) (from end at next count : ℕ) (j : JwtParts) (w : List ℕ) (g : Field) → (r : Gathered x from end count j) → take at x ≡ take end x ++ w → (o : OpensField x at next Piece g) → o.byte ≡ 126
     → take next x ≡ jwt j ++ (126 ∷ spelled (r.disclosures ++ (w ∷ [])))
 grown x from end at next count j w g r word o tilde =
     o.grows
@@ -117,7 +117,7 @@ grown x from end at next count j w g r word o tilde =
     ∙ regrouped (jwt j) (spelled r.disclosures) w
     ∙ ap (λ (s : List ℕ). jwt j ++ (126 ∷ s)) (sym (spelled-push r.disclosures w))
 
-pub one_more : (x : List ℕ) (from end at next count : ℕ) (j : JwtParts) (w : List ℕ) (g : Field) → Gathered x from end count j → take at x ≡ take end x ++ w → IsWord w → Opens x at next Piece g → g ≡ Piece
+pub one_more : (x : List ℕ) (from end at next count : ℕ) (j : JwtParts) (w : List ℕ) (g : Field) → Gathered x from end count j → take at x ≡ take end x ++ w → IsWord w → OpensField x at next Piece g → g ≡ Piece
     → Gathered x from next (count + 1) j
 one_more x from end at next count j w g r word is o e =
     let tilde = by_tilde o.byte g e (either (o.byte == 126) (o.byte == 46) Piece BindingPayload g o.opens) in
@@ -152,5 +152,5 @@ one_more x from end at next count j w g r word is o e =
       front = grown x from end at next count j w g r word o tilde;
       counted = omega (arith, length-append r.disclosures (w ∷ []));
       few = omega arith;
-      stands = subst (λ (f : Field). Stands x next (f, false)) e o.stands;
+      stands = subst (λ (f : Field). BringsTo x next (f, false)) e o.stands;
     }

@@ -5,7 +5,8 @@ use Rattle.std.proofs.lemmas.Bool.{and_parts}
 use Rattle.std.proofs.lemmas.Str.Pattern.{IsSplitOnceResult, split_after}
 use Rattle.b64url_text.specs.Base64url.{is_letter, IsWord}
 use Rattle.compact_form.specs.declared.parts.JwtParts.{JwtParts}
-use Rattle.compact_form.specs.Compact.{HasWords, IsJwt}
+use Rattle.compact_form.specs.Compact.{HasWords}
+use Rattle.compact_form.specs.JwtCalls.{IsJwt}
 use Rattle.compact_form.proofs.Runs.{dot}
 
 no_dot : (w : List ℕ) → list_all is_letter w ≡ true → (i : ℕ) → i < length w → get_or w i 0 ≢ 46

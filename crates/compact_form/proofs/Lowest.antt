@@ -4,7 +4,8 @@ use Rattle.compact_form.specs.declared.fault.Fault.{Fault}
 use Rattle.compact_form.specs.declared.fault.Place.{Place}
 use Rattle.compact_form.specs.declared.fault.Place.TheVariants.{Nowhere}
 use Rattle.compact_form.specs.Condition.{Condition, number_of}
-use Rattle.compact_form.specs.Lowest.{IsNoLater, IsLowest, NoneFails, Passes, unplaced}
+use Rattle.compact_form.specs.Lowest.{IsNoLater, IsLowest, NoneFails}
+use Rattle.compact_form.specs.Passing.{Passes, unplaced}
 use Rattle.compact_form.proofs.Numbers.{one_condition}
 
 -- the condition fails at no place

@@ -8,9 +8,10 @@ use Rattle.std.proofs.lemmas.Option.{slice_get_within, get_or_from_slice_get}
 use Rattle.b64url_text.specs.Base64url.{letters, is_letter}
 use Rattle.sd_outside.specs.Limits.{file_max, compact_max, count_max}
 use Rattle.compact_form.specs.declared.parts.Parts.{Parts}
-use Rattle.compact_form.specs.Compact.{jwt, spelled, hashed, ending, compact, AreWords, IsCompact, IsRefusedAt, IsUpToLastTilde}
-use Rattle.compact_form.specs.Trim.{is_blank, trimmed}
-use Rattle.compact_form.specs.Token.{is_json, is_too_long, Reads}
+use Rattle.compact_form.specs.Compact.{jwt, spelled, hashed, ending, compact, AreWords, IsCompact, IsMisformedAt}
+use Rattle.compact_form.specs.JwtCalls.{IsUpToLastTilde}
+use Rattle.compact_form.specs.Trim.{is_blank, trimmed, is_json, is_too_long}
+use Rattle.compact_form.specs.CompactToken.{ReadsCompact}
 use Rattle.compact_form.proofs.GatheredParts.{spelled-push}
 use Rattle.compact_form.proofs.Runs.{tilde}
 use Rattle.compact_form.proofs.Spelled.{other_byte}
@@ -42,7 +43,7 @@ is_compact parts words = record { signed = words.signed; disclosures = words.dis
 pub same_parts : (parts other : Parts) → AreWords parts → IsCompact other (compact parts) → other ≡ parts
 same_parts parts other words is = one_spelling other parts (compact parts) is (is_compact parts words)
 
-pub not_refused : (parts : Parts) (stop : ℕ) → AreWords parts → IsRefusedAt (compact parts) stop → ⊥
+pub not_refused : (parts : Parts) (stop : ℕ) → AreWords parts → IsMisformedAt (compact parts) stop → ⊥
 not_refused parts stop words refused = refused.no_parts parts (is_compact parts words)
 
 -- ---- the last tilde
@@ -81,7 +82,7 @@ short text bare small =
     (le-ltb file_max (length text) (omega arith))
     (le-ltb compact_max (length (trimmed text)) (omega (arith, ap length bare)))
 
-pub reads_printed : (parts : Parts) → AreWords parts → length (compact parts) ≤ compact_max → length parts.disclosures ≤ count_max → Reads (compact parts) parts
+pub reads_printed : (parts : Parts) → AreWords parts → length (compact parts) ≤ compact_max → length parts.disclosures ≤ count_max → ReadsCompact (compact parts) parts
 reads_printed parts words small few =
     let text = compact parts in
     let bare : trimmed text ≡ text = trimmed_bare text (none_in_compact is_blank no_blank refl refl parts words) in

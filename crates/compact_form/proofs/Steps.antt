@@ -11,8 +11,8 @@ use Rattle.b64url_text.specs.Base64url.{is_letter, IsWord}
 use Rattle.b64url_text.proofs.Words.{front_letters}
 use Rattle.compact_form.specs.declared.field.Field.{Field}
 use Rattle.compact_form.specs.declared.field.Field.TheVariants.{Protected}
-use Rattle.compact_form.specs.Compact.{IsRefusedAt}
-use Rattle.compact_form.specs.Reading.{State, run, field_after, may_end, Stands, EndsWord, Opens}
+use Rattle.compact_form.specs.Compact.{IsMisformedAt}
+use Rattle.compact_form.specs.Reading.{State, run, field_after, may_end, BringsTo, EndsWord, OpensField}
 use Rattle.compact_form.proofs.Runs.{run-append, run_more, run_whole, step_behind, step_before}
 use Rattle.compact_form.proofs.Stops.{refused_at_byte, refused_at_end}
 
@@ -57,7 +57,7 @@ pub record Word (x : List ℕ) (at n : ℕ) (f : Field) : Type 0 where
   pub grows : take (at + n) x ≡ take at x ++ take n (rest x at)
   pub within : at + n ≤ length x
 
-pub word_at : (x : List ℕ) (at n : ℕ) (f : Field) → Stands x at (f, false) → n ≡ prefix_len is_letter (rest x at) → (n ≡ 0 → ⊥) → Word x at n f
+pub word_at : (x : List ℕ) (at n : ℕ) (f : Field) → BringsTo x at (f, false) → n ≡ prefix_len is_letter (rest x at) → (n ≡ 0 → ⊥) → Word x at n f
 word_at x at n f s counted some =
     let r = run_at x at n s.within counted in
     let w = take n (rest x at) in
@@ -79,15 +79,15 @@ word_at x at n f s counted some =
 pub word_within : (x : List ℕ) (at n : ℕ) → at ≤ length x → n ≡ prefix_len is_letter (rest x at) → at + n ≤ length x
 word_within x at n l counted = (run_at x at n l counted).within
 
-no_word_by : (x : List ℕ) (at : ℕ) (f : Field) → Stands x at (f, false) → (may_end (f, false) ≡ true → at < length x) → (at < length x → is_letter (get_or x at 0) ≡ false)
-    → (at < length x) ⊎ (length x ≤ at) → IsRefusedAt x at
+no_word_by : (x : List ℕ) (at : ℕ) (f : Field) → BringsTo x at (f, false) → (may_end (f, false) ≡ true → at < length x) → (at < length x → is_letter (get_or x at 0) ≡ false)
+    → (at < length x) ⊎ (length x ≤ at) → IsMisformedAt x at
 no_word_by x at f s unended no_letter (inl l) =
     refused_at_byte x at (f, false) l s.so_far (run_more start (f, false) x at (get_or x at 0) l refl s.so_far ∙ step_before f (get_or x at 0) (no_letter l))
 no_word_by x at f s unended no_letter (inr g) =
     let within = s.within in
     refused_at_end x at (f, false) (omega arith) s.so_far (false_from_ne_true (may_end (f, false)) (λ e. let l = unended e in omega arith))
 
-pub no_word : (x : List ℕ) (at n : ℕ) (f : Field) → Stands x at (f, false) → (may_end (f, false) ≡ true → at < length x) → n ≡ prefix_len is_letter (rest x at) → n ≡ 0 → IsRefusedAt x at
+pub no_word : (x : List ℕ) (at n : ℕ) (f : Field) → BringsTo x at (f, false) → (may_end (f, false) ≡ true → at < length x) → n ≡ prefix_len is_letter (rest x at) → n ≡ 0 → IsMisformedAt x at
 no_word x at n f s unended counted none =
     let r = run_at x at n s.within counted in
     let here : at + n ≡ at = omega arith in
@@ -97,14 +97,14 @@ no_word x at n f s unended counted none =
 byte_behind : (x : List ℕ) (at : ℕ) (f : Field) → EndsWord x at f → at < length x → run start (take (at + 1) x) ≡ option_and_then (λ g. Some (g, false)) (field_after f (get_or x at 0))
 byte_behind x at f e l = run_more start (f, true) x at (get_or x at 0) l refl e.stands.so_far ∙ step_behind f (get_or x at 0) (e.no_letter l)
 
-pub refused_behind : (x : List ℕ) (at : ℕ) (f : Field) → EndsWord x at f → at < length x → field_after f (get_or x at 0) ≡ None → IsRefusedAt x at
+pub refused_behind : (x : List ℕ) (at : ℕ) (f : Field) → EndsWord x at f → at < length x → field_after f (get_or x at 0) ≡ None → IsMisformedAt x at
 refused_behind x at f e l none =
     refused_at_byte x at (f, true) l e.stands.so_far (byte_behind x at f e l ∙ ap (option_and_then (λ (g : Field). Some (g, false))) none)
 
-pub refused_open : (x : List ℕ) (at : ℕ) (f : Field) → EndsWord x at f → at ≡ length x → may_end (f, true) ≡ false → IsRefusedAt x at
+pub refused_open : (x : List ℕ) (at : ℕ) (f : Field) → EndsWord x at f → at ≡ length x → may_end (f, true) ≡ false → IsMisformedAt x at
 refused_open x at f e l unended = refused_at_end x at (f, true) l e.stands.so_far unended
 
-pub opens_at : (x : List ℕ) (at : ℕ) (f g : Field) → EndsWord x at f → at < length x → field_after f (get_or x at 0) ≡ Some g → Opens x at (at + 1) f g
+pub opens_at : (x : List ℕ) (at : ℕ) (f g : Field) → EndsWord x at f → at < length x → field_after f (get_or x at 0) ≡ Some g → OpensField x at (at + 1) f g
 opens_at x at f g e l is = record {
   byte = get_or x at 0;
   opens = is;

@@ -5,7 +5,7 @@ use Rattle.std.proofs.lemmas.List.{take-append-drop, take-take, take_all}
 use Rattle.b64url_text.specs.Base64url.{letters, is_letter}
 use Rattle.compact_form.specs.declared.field.Field.TheVariants.{Protected, Payload, Signature, Piece, BindingPayload, BindingSignature}
 use Rattle.compact_form.specs.declared.parts.Parts.{Parts}
-use Rattle.compact_form.specs.Compact.{IsCompact, Begins, IsRefusedAt}
+use Rattle.compact_form.specs.Compact.{IsCompact, Begins, IsMisformedAt}
 use Rattle.compact_form.specs.Reading.{State, run, may_end}
 use Rattle.compact_form.proofs.Runs.{run-append, accepted}
 use Rattle.compact_form.proofs.Cuts.{from_end}
@@ -60,7 +60,7 @@ further x m n le b =
     let begun : Begins (take m (take n x)) = front_begins (take m (take n x)) (drop m (take n x)) (subst Begins (sym cut) b) in
     subst Begins (take-take m n x le) begun
 
-pub refused_at_byte : (x : List ℕ) (i : ℕ) (s : State) → i < length x → run start (take i x) ≡ Some s → run start (take (i + 1) x) ≡ None → IsRefusedAt x i
+pub refused_at_byte : (x : List ℕ) (i : ℕ) (s : State) → i < length x → run start (take i x) ≡ Some s → run start (take (i + 1) x) ≡ None → IsMisformedAt x i
 refused_at_byte x i s l there gone = record {
   no_parts = λ parts is. dead (take (i + 1) x) gone (text_begins x (i + 1) parts is);
   longest = record {
@@ -76,7 +76,7 @@ no_end s t e bare ends = cc
 whole : (x : List ℕ) (end : ℕ) (s : State) → end ≡ length x → run start (take end x) ≡ Some s → run start x ≡ Some s
 whole x end s e h = ap (run start) (sym (take_all end x (omega arith))) ∙ h
 
-pub refused_at_end : (x : List ℕ) (end : ℕ) (s : State) → end ≡ length x → run start (take end x) ≡ Some s → may_end s ≡ false → IsRefusedAt x end
+pub refused_at_end : (x : List ℕ) (end : ℕ) (s : State) → end ≡ length x → run start (take end x) ≡ Some s → may_end s ≡ false → IsMisformedAt x end
 refused_at_end x end s e there open_end = record {
   no_parts = λ parts is. let a = accepted parts x is in no_end s a.0 (sym (whole x end s e there) ∙ a.1.0) open_end a.1.1;
   longest = record {

@@ -9,8 +9,7 @@ use Rattle.std.proofs.Math.Seq.{get_or-append_seam, take-append_seam}
 use Rattle.b64url_text.specs.Base64url.{letters, is_letter, IsWord}
 use Rattle.compact_form.specs.declared.parts.Parts.{Parts}
 use Rattle.compact_form.specs.Compact.{spelled, ending, compact, AreWords}
-use Rattle.compact_form.specs.Token.{is_json}
-use Rattle.compact_form.specs.Trim.{is_blank, without_back, trimmed}
+use Rattle.compact_form.specs.Trim.{is_blank, without_back, trimmed, is_json}
 use Rattle.compact_form.proofs.Absent.{none_in_compact}
 use Rattle.compact_form.proofs.Printed.{no_blank}
 use Rattle.compact_form.proofs.Spelled.{other_byte}

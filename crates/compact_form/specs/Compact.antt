@@ -30,11 +30,6 @@ pub record HasWords (j : JwtParts) : Type 0 where
   pub payload : IsWord j.payload
   pub signature : IsWord j.signature
 
--- the text is the spelling of a jwt that stands alone
-pub record IsJwt (j : JwtParts) (text : List ℕ) : Type 0 where
-  pub words : HasWords j
-  pub spelling : text ≡ jwt j
-
 -- each text of the parts is a word
 pub record AreWords (parts : Parts) : Type 0 where
   pub signed : HasWords parts.signed
@@ -59,14 +54,6 @@ pub record IsStop (text : List ℕ) (stop : ℕ) : Type 0 where
   pub longest : (more : ℕ) → stop < more → more ≤ length text → Begins (take more text) → ⊥
 
 -- the text is no compact text, and its longest front that begins one has this length
-pub record IsRefusedAt (text : List ℕ) (stop : ℕ) : Type 0 where
+pub record IsMisformedAt (text : List ℕ) (stop : ℕ) : Type 0 where
   pub no_parts : (parts : Parts) → IsCompact parts text → ⊥
   pub longest : IsStop text stop
-
--- the front of a text up to and with its last tilde
-pub record IsUpToLastTilde (text front : List ℕ) : Type 0 where
-  pub before : List ℕ
-  pub behind : List ℕ
-  pub tilde : front ≡ before ++ codes "~"
-  pub cut : text ≡ front ++ behind
-  pub last : list_any (λ byte. byte == 126) behind ≡ false

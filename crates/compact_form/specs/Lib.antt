@@ -1,8 +1,10 @@
 pub mod Compact
 pub mod Trim
-pub mod Token
+pub mod CompactToken
 pub mod Views
 pub mod Reading
 pub mod Condition
 pub mod Lowest
 pub mod PartWords
+pub mod Passing
+pub mod JwtCalls

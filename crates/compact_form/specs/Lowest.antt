@@ -13,10 +13,6 @@ Unplaced IsFailed place = (place ≡ Nowhere) × IsFailed
 abbrev pub Numbered : (ℕ → Type 0) → Place → Type 0
 Numbered FailsAt place = (i : ℕ) × (place ≡ At i) × FailsAt i
 
--- the fault of a condition that names no place
-abbrev pub unplaced : ℕ → Fault
-unplaced number = record { number = number; place = Nowhere }
-
 -- places of one condition, in their order
 abbrev pub IsNoLater : Place → Place → Type 0
 IsNoLater (At i) (At j) = i ≤ j
@@ -31,9 +27,3 @@ pub record IsLowest (FailsSo : Condition → Place → Type 0) (fault : Fault) :
 
 abbrev pub NoneFails : (Condition → Place → Type 0) → Type 0
 NoneFails FailsSo = (c : Condition) (place : Place) → FailsSo c place → ⊥
-
--- ---- for private functions
-
--- none with a lower number fails
-abbrev pub Passes : ℕ → (Condition → Place → Type 0) → Type 0
-Passes k FailsSo = (c : Condition) (place : Place) → FailsSo c place → k ≤ number_of c

@@ -2,11 +2,11 @@
 use Rattle.std.specs.Prelude.{ℕ, List, codes}
 use Rattle.compact_form.specs.declared.fault.Part.{Part}
 
-abbrev pub word_of : Part → List ℕ
-word_of Part.Payload = codes "payload"
-word_of Part.Protected = codes "protected"
-word_of Part.Signature = codes "signature"
-word_of Part.Signatures = codes "signatures"
-word_of Part.Header = codes "header"
-word_of Part.Disclosures = codes "disclosures"
-word_of Part.KbJwt = codes "kb_jwt"
+abbrev pub part_word : Part → List ℕ
+part_word Part.Payload = codes "payload"
+part_word Part.Protected = codes "protected"
+part_word Part.Signature = codes "signature"
+part_word Part.Signatures = codes "signatures"
+part_word Part.Header = codes "header"
+part_word Part.Disclosures = codes "disclosures"
+part_word Part.KbJwt = codes "kb_jwt"

@@ -22,8 +22,8 @@ abbrev pub State : Type 0
 State = Field × Bool
 
 -- the field that a byte opens behind a word, or behind no letter
-abbrev pub opened : State → ℕ → Option Field
-opened state byte = if state.1 then field_after state.0 byte else None
+abbrev pub field_opened : State → ℕ → Option Field
+field_opened state byte = if state.1 then field_after state.0 byte else None
 
 abbrev pub step : State → ℕ → Option State
 step state byte =
@@ -43,27 +43,27 @@ may_end (BindingPayload, begun) = false
 may_end (BindingSignature, begun) = begun
 
 -- so many bytes of the text bring the scanner to this state
-pub record Stands (text : List ℕ) (at : ℕ) (state : State) : Type 0 where
+pub record BringsTo (text : List ℕ) (at : ℕ) (state : State) : Type 0 where
   pub within : at ≤ length text
   pub so_far : run (Protected, false) (take at text) ≡ Some state
 
 -- a word of this field ends there
 pub record EndsWord (text : List ℕ) (at : ℕ) (field : Field) : Type 0 where
-  pub stands : Stands text at (field, true)
+  pub stands : BringsTo text at (field, true)
   pub no_letter : at < length text → is_letter (get_or text at 0) ≡ false
 
 -- the byte behind a word of a field opens the next
-pub record Opens (text : List ℕ) (from to : ℕ) (field next : Field) : Type 0 where
+pub record OpensField (text : List ℕ) (from to : ℕ) (field next : Field) : Type 0 where
   pub byte : ℕ
   pub opens : field_after field byte ≡ Some next
   pub grows : take to text ≡ take from text ++ (byte ∷ [])
-  pub stands : Stands text to (next, false)
+  pub stands : BringsTo text to (next, false)
 
 -- the front of the text is the spelling of this jwt, of words, and a tilde
 pub record Signed (text : List ℕ) (at : ℕ) (j : JwtParts) : Type 0 where
   pub words : HasWords j
   pub front : take at text ≡ jwt j ++ codes "~"
-  pub stands : Stands text at (Piece, false)
+  pub stands : BringsTo text at (Piece, false)
 
 -- the text from a place on is this jwt, without its first word and dot
 pub record Bound (text : List ℕ) (at : ℕ) (word : List ℕ) (j : JwtParts) : Type 0 where
@@ -81,4 +81,4 @@ pub record Gathered (text : List ℕ) (from at count : ℕ) (j : JwtParts) : Typ
   pub front : take at text ≡ jwt j ++ (codes "~" ++ spelled disclosures)
   pub counted : count ≡ length disclosures
   pub few : count ≤ at
-  pub stands : Stands text at (Piece, false)
+  pub stands : BringsTo text at (Piece, false)

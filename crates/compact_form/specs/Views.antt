@@ -1,4 +1,4 @@
--- The parts that a view shows, and the texts that it keeps of them.
+-- Not needed to believe the program's promises: the parts that a view shows, and the texts that it keeps of them.
 use Rattle.std.specs.Prelude.{◌≡◌, ℕ, ◌==◌, List, [], ◌∷◌, ◌++◌, length, Option, codes, if◌then◌else◌}
 use Rattle.std.specs.List.{AllByRecursion}
 use Rattle.std.specs.Option.{option_map}

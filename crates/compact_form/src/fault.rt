@@ -1,5 +1,5 @@
 ghost use Rattle.std.specs.Prelude.{◌≡◌};
-ghost use Rattle.compact_form.specs.PartWords.{word_of};
+ghost use Rattle.compact_form.specs.PartWords.{part_word};
 
 /// A condition of a verifier that fails: its number, and the place that its failure names.
 #[derive(Clone, Copy, Debug, PartialEq, Eq)]
@@ -34,7 +34,7 @@ pub enum Part {
 impl Part {
     /// Its name in the serialization.
     pub fn word(self) -> &'static str
-        ensures { result.now ≡ word_of self }
+        ensures { result.now ≡ part_word self }
     {
         match self {
             Part::Payload => "payload",

@@ -1,6 +1,6 @@
 ghost use Rattle.std.specs.Prelude.{◌≡◌, ℕ, length, IfOk, IfErr};
 ghost use Rattle.compact_form.specs.declared.parts.Parts.{Parts as TheParts};
-ghost use Rattle.compact_form.specs.Compact.{IsCompact, IsRefusedAt};
+ghost use Rattle.compact_form.specs.Compact.{IsCompact, IsMisformedAt};
 ghost use Rattle.compact_form.specs.declared.form.FormError.TheVariants.{Memory, At as StopsAt};
 
 use crate::{At, Parts, View};
@@ -35,7 +35,7 @@ impl From<At> for FormError {
 /// The parts that a compact text spells, copied.
 pub fn parse(alloc: Global, text: &[u8]) -> Result<Parts, FormError>
     ensures ok { IfOk result (λ parts. IsCompact parts text.now) }
-    ensures at { (stop : ℕ) → result ≡ Err (FormError.At stop) → IsRefusedAt text.now stop }
+    ensures at { (stop : ℕ) → result ≡ Err (FormError.At stop) → IsMisformedAt text.now stop }
 {
     let view = View::scan(text)?;
     Ok(view.to_parts(alloc)?)
@@ -44,7 +44,7 @@ pub fn parse(alloc: Global, text: &[u8]) -> Result<Parts, FormError>
 /// The number of disclosures of a compact text. It takes no memory.
 pub fn check(text: &[u8]) -> Result<usize, At>
     ensures ok { IfOk result (λ count. (parts : TheParts) × (IsCompact parts text.now × (length parts.disclosures ≡ count))) }
-    ensures err { IfErr result (λ at. IsRefusedAt text.now at.0) }
+    ensures err { IfErr result (λ at. IsMisformedAt text.now at.0) }
 {
     Ok(View::scan(text)?.count())
 }

@@ -1,6 +1,6 @@
 ghost use Rattle.std.specs.Prelude.{IfSome, IfNone};
 ghost use Rattle.compact_form.specs.declared.parts.JwtParts.{JwtParts as TheParts};
-ghost use Rattle.compact_form.specs.Compact.{IsJwt};
+ghost use Rattle.compact_form.specs.JwtCalls.{IsJwt};
 ghost use Rattle.compact_form.specs.Views.{jwt_of};
 
 use crate::JwtView;

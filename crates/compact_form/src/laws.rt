@@ -3,9 +3,10 @@ ghost use Rattle.std.specs.Prelude.{◌≡◌, ◌≤◌, ℕ, List, Some, lengt
 ghost use Rattle.compact_form.specs.declared.fault.Fault.{Fault};
 ghost use Rattle.sd_outside.specs.Limits.{compact_max, count_max};
 ghost use Rattle.compact_form.specs.declared.parts.Parts.{Parts};
-ghost use Rattle.compact_form.specs.Compact.{compact, hashed, AreWords, IsCompact, IsRefusedAt, IsStop, IsUpToLastTilde};
+ghost use Rattle.compact_form.specs.Compact.{compact, hashed, AreWords, IsCompact, IsMisformedAt, IsStop};
+ghost use Rattle.compact_form.specs.JwtCalls.{IsUpToLastTilde};
 ghost use Rattle.compact_form.specs.Condition.{Condition, number_of, condition_of};
-ghost use Rattle.compact_form.specs.Token.{IsRefused, Reads};
+ghost use Rattle.compact_form.specs.CompactToken.{IsCompactRefused, ReadsCompact};
 
 /// A text is the spelling of at most one value of parts.
 pub fn one_spelling()
@@ -16,13 +17,13 @@ pub fn one_spelling()
 pub fn printed_is_parsed()
     ensures parsed { (parts : Parts) → AreWords parts → IsCompact parts (compact parts) }
     ensures same { (parts other : Parts) → AreWords parts → IsCompact other (compact parts) → other ≡ parts }
-    ensures not_refused { (parts : Parts) (stop : ℕ) → AreWords parts → IsRefusedAt (compact parts) stop → ⊥ }
+    ensures not_refused { (parts : Parts) (stop : ℕ) → AreWords parts → IsMisformedAt (compact parts) stop → ⊥ }
 {}
 
 /// What is printed of parts, within the limits, is read from a file as the same parts.
 pub fn printed_is_read()
     ensures { (parts : Parts) → AreWords parts → length (compact parts) ≤ compact_max
-        → length parts.disclosures ≤ count_max → Reads (compact parts) parts }
+        → length parts.disclosures ≤ count_max → ReadsCompact (compact parts) parts }
 {}
 
 /// What a key binding token hashes is the compact text up to and with its last tilde.
@@ -37,9 +38,9 @@ pub fn one_stop()
 
 /// A text that is read is not refused, and one that is refused has one fault.
 pub fn one_verdict()
-    ensures not_both { (text : List ℕ) (parts : Parts) (fault : Fault) → Reads text parts → IsRefused text fault → ⊥ }
-    ensures one_fault { (text : List ℕ) (f g : Fault) → IsRefused text f → IsRefused text g → f ≡ g }
-    ensures one_value { (text : List ℕ) (p q : Parts) → Reads text p → Reads text q → p ≡ q }
+    ensures not_both { (text : List ℕ) (parts : Parts) (fault : Fault) → ReadsCompact text parts → IsCompactRefused text fault → ⊥ }
+    ensures one_fault { (text : List ℕ) (f g : Fault) → IsCompactRefused text f → IsCompactRefused text g → f ≡ g }
+    ensures one_value { (text : List ℕ) (p q : Parts) → ReadsCompact text p → ReadsCompact text q → p ≡ q }
 {}
 
 /// A condition has a number of its own, under which it is found.

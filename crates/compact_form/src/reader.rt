@@ -2,8 +2,8 @@
 ghost use Rattle.std.specs.Prelude.{◌≡◌, ◌<◌, ◌++◌, true, false, length, take, IfOk, IfErr, OnOk};
 ghost use Rattle.std.specs.Str.{IsAscii};
 ghost use Rattle.b64url_text.specs.Base64url.{IsWord};
-ghost use Rattle.compact_form.specs.Compact.{IsRefusedAt};
-ghost use Rattle.compact_form.specs.Reading.{may_end, Stands, EndsWord, Opens, Signed, Bound};
+ghost use Rattle.compact_form.specs.Compact.{IsMisformedAt};
+ghost use Rattle.compact_form.specs.Reading.{may_end, BringsTo, EndsWord, OpensField, Signed, Bound};
 ghost use Rattle.compact_form.specs.Views.{jwt_of};
 ghost use Rattle.compact_form.specs.declared.field.Field.TheVariants.{BindingPayload};
 
@@ -39,13 +39,13 @@ pub(crate) struct Reader<'a> {
 impl<'a> Reader<'a> {
     // The word of this field that stands here.
     pub(crate) fn word(&mut self, field: Field) -> Result<&'a [u8], At>
-        requires stands { Stands self.old.text.now self.old.at (field, false) }
+        requires stands { BringsTo self.old.text.now self.old.at (field, false) }
         requires unended { may_end (field, false) ≡ true → self.old.at < length self.old.text.now }
         ensures same { self.new.text ≡ self.old.text }
         ensures word { IfOk result (λ word. IsWord word.now) }
         ensures grows { IfOk result (λ word. take self.new.at self.new.text.now ≡ take self.old.at self.new.text.now ++ word.now) }
         ensures ends { OnOk result (EndsWord self.new.text.now self.new.at field) }
-        ensures err { IfErr result (λ at. IsRefusedAt self.new.text.now at.0) }
+        ensures err { IfErr result (λ at. IsMisformedAt self.new.text.now at.0) }
     {
         let rest = &self.text[self.at..];
         let len = word_len(rest);
@@ -61,8 +61,8 @@ impl<'a> Reader<'a> {
         requires ends { EndsWord self.old.text.now self.old.at field }
         requires unended { may_end (field, true) ≡ false }
         ensures same { self.new.text ≡ self.old.text }
-        ensures opens { IfOk result (λ next. Opens self.new.text.now self.old.at self.new.at field next) }
-        ensures err { IfErr result (λ at. IsRefusedAt self.new.text.now at.0) }
+        ensures opens { IfOk result (λ next. OpensField self.new.text.now self.old.at self.new.at field next) }
+        ensures err { IfErr result (λ at. IsMisformedAt self.new.text.now at.0) }
     {
         if self.at == self.text.len() {
             return Err(At(self.at));
@@ -81,7 +81,7 @@ impl<'a> Reader<'a> {
         requires { self.old.at ≡ 0 }
         ensures same { self.new.text ≡ self.old.text }
         ensures ok { IfOk result (λ jwt. Signed self.new.text.now self.new.at (jwt_of jwt)) }
-        ensures err { IfErr result (λ at. IsRefusedAt self.new.text.now at.0) }
+        ensures err { IfErr result (λ at. IsMisformedAt self.new.text.now at.0) }
     {
         let protected = self.word(Field::Protected)?;
         self.next(Field::Protected)?;
@@ -99,10 +99,10 @@ impl<'a> Reader<'a> {
     // The JWT at the end, whose first word and dot are read.
     pub(crate) fn bound(&mut self, protected: &'a [u8]) -> Result<JwtView<'a>, At>
         requires word { IsWord protected.now }
-        requires stands { Stands self.old.text.now self.old.at (BindingPayload, false) }
+        requires stands { BringsTo self.old.text.now self.old.at (BindingPayload, false) }
         ensures same { self.new.text ≡ self.old.text }
         ensures ok { IfOk result (λ jwt. Bound self.new.text.now self.old.at protected.now (jwt_of jwt)) }
-        ensures err { IfErr result (λ at. IsRefusedAt self.new.text.now at.0) }
+        ensures err { IfErr result (λ at. IsMisformedAt self.new.text.now at.0) }
     {
         let payload = self.word(Field::BindingPayload)?;
         self.next(Field::BindingPayload)?;

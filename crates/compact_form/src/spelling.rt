@@ -1,6 +1,7 @@
 // The text that spells parts.
 ghost use Rattle.std.specs.Prelude.{◌≡◌, ◌++◌, OnOk, IfOk, string_bytes};
-ghost use Rattle.compact_form.specs.Compact.{jwt as jwt_text, spelled, hashed, compact, AreWords, HasWords, IsCompact, IsJwt, IsUpToLastTilde};
+ghost use Rattle.compact_form.specs.Compact.{jwt as jwt_text, spelled, hashed, compact, AreWords, HasWords, IsCompact};
+ghost use Rattle.compact_form.specs.JwtCalls.{IsJwt, IsUpToLastTilde};
 
 use crate::{JwtParts, Parts};
 use sd_outside::{NoMemory, TextBox, TextList};

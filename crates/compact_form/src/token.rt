@@ -1,6 +1,6 @@
 ghost use Rattle.std.specs.Prelude.{◌≡◌, IfOk, IfErr};
-ghost use Rattle.compact_form.specs.Trim.{trimmed};
-ghost use Rattle.compact_form.specs.Token.{is_json as json_test, is_too_long as too_long_test, IsRefused, Reads};
+ghost use Rattle.compact_form.specs.Trim.{trimmed, is_json as json_test, is_too_long as too_long_test};
+ghost use Rattle.compact_form.specs.CompactToken.{IsCompactRefused, ReadsCompact};
 
 use crate::{
     At, COMPACT_MAX, COUNT_MAX, FILE_MAX, FORM, Fault, Place, TOO_LONG, TOO_MUCH, View, trim,
@@ -25,8 +25,8 @@ fn is_too_long(text: &[u8], token: &[u8]) -> bool
 /// The blanks at both ends are cut off first. It takes no memory. A text that begins with `{` is a JSON
 /// serialization (RFC 9901 section 8), which is not read here: it is refused at byte 0.
 pub fn read_view(text: &[u8]) -> Result<View<'_>, Fault>
-    ensures ok { IfOk result (Reads text.now) }
-    ensures err { IfErr result (IsRefused text.now) }
+    ensures ok { IfOk result (ReadsCompact text.now) }
+    ensures err { IfErr result (IsCompactRefused text.now) }
 {
     let token = trim(text);
     if is_too_long(text, token) {

@@ -1,7 +1,7 @@
 ghost use Rattle.std.specs.Prelude.{◌≡◌, ◌↔◌, ◌^◌, ◌<◌, ◌++◌, length, take, IfOk, IfErr, IfSome, IsTrue};
 ghost use Rattle.std.specs.Option.{option_map};
 ghost use Rattle.std.specs.Iterator.{YieldsFirstBy, item_count};
-ghost use Rattle.compact_form.specs.Compact.{hashed as hashed_of, ending, HasWords, IsCompact, IsRefusedAt};
+ghost use Rattle.compact_form.specs.Compact.{hashed as hashed_of, ending, HasWords, IsCompact, IsMisformedAt};
 ghost use Rattle.compact_form.specs.Views.{jwt_of};
 ghost use Rattle.compact_form.specs.Reading.{Gathered};
 
@@ -113,7 +113,7 @@ impl<'a> View<'a> {
     /// The parts that a compact text spells. It takes no memory, and reads the text once.
     pub fn scan(text: &'a [u8]) -> Result<View<'a>, At>
         ensures ok { IfOk result (λ view. IsCompact view text.now) }
-        ensures err { IfErr result (λ at. IsRefusedAt text.now at.0) }
+        ensures err { IfErr result (λ at. IsMisformedAt text.now at.0) }
     {
         let mut reader = Reader { text, at: 0 };
         let signed = reader.signed()?;

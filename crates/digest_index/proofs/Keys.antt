@@ -5,7 +5,7 @@ use Rattle.std.specs.List.{position_or_len, list_any, IsDistinct}
 use Rattle.std.specs.String.{string_eq}
 use Rattle.std.proofs.lemmas.Bool.{cases_lt, lt-ltb, le-ltb}
 use Rattle.indexmap.specs.IndexSet.{insert_key}
-use Rattle.digest_index.specs.Index.{Text, place_of, place_or_end, interned}
+use Rattle.digest_index.specs.Index.{Text, position_of, position_or_end, interned}
 use Rattle.digest_index.proofs.Places.{place_or_end-within, place_of-there, place_of-new}
 use Rattle.digest_index.proofs.Interned.{IsDistinct-interned}
 
@@ -23,21 +23,21 @@ length-texts : (ks : List Key) → length (texts ks) ≡ length ks
 length-texts [] = refl
 length-texts (k ∷ ks) = ap suc (length-texts ks)
 
-pub place_or_end-texts : (t : Text) (ks : List Key) → position_or_len (holds t) ks ≡ place_or_end t (texts ks)
+pub place_or_end-texts : (t : Text) (ks : List Key) → position_or_len (holds t) ks ≡ position_or_end t (texts ks)
 place_or_end-texts t [] = refl
 place_or_end-texts t (k ∷ ks) = go (holds t k) (place_or_end-texts t ks)
   where
-    go : (b : Bool) → position_or_len (holds t) ks ≡ place_or_end t (texts ks) → cond (not b) (1 + position_or_len (holds t) ks) 0 ≡ cond b 0 (suc (place_or_end t (texts ks)))
+    go : (b : Bool) → position_or_len (holds t) ks ≡ position_or_end t (texts ks) → cond (not b) (1 + position_or_len (holds t) ks) 0 ≡ cond b 0 (suc (position_or_end t (texts ks)))
     go true ih = refl
     go false ih = omega (arith, ih)
 
-pub place_of-texts : (t : Text) (ks : List Key) → position (holds t) ks ≡ place_of t (texts ks)
-place_of-texts t ks = rw (place_or_end-texts t ks, ← length-texts ks) (go (cases_lt (place_or_end t (texts ks)) (length (texts ks))))
+pub place_of-texts : (t : Text) (ks : List Key) → position (holds t) ks ≡ position_of t (texts ks)
+place_of-texts t ks = rw (place_or_end-texts t ks, ← length-texts ks) (go (cases_lt (position_or_end t (texts ks)) (length (texts ks))))
   where
-    go : (place_or_end t (texts ks) < length (texts ks)) ⊎ (length (texts ks) ≤ place_or_end t (texts ks))
-        → cond (nat_lt (place_or_end t (texts ks)) (length (texts ks))) (Some (place_or_end t (texts ks))) None ≡ place_of t (texts ks)
-    go (inl w) = rw (lt-ltb (place_or_end t (texts ks)) (length (texts ks)) w) (sym (place_of-there t (texts ks) w))
-    go (inr w) = rw (le-ltb (place_or_end t (texts ks)) (length (texts ks)) w) (sym (place_of-new t (texts ks) (omega (arith, w, place_or_end-within t (texts ks)))))
+    go : (position_or_end t (texts ks) < length (texts ks)) ⊎ (length (texts ks) ≤ position_or_end t (texts ks))
+        → cond (nat_lt (position_or_end t (texts ks)) (length (texts ks))) (Some (position_or_end t (texts ks))) None ≡ position_of t (texts ks)
+    go (inl w) = rw (lt-ltb (position_or_end t (texts ks)) (length (texts ks)) w) (sym (place_of-there t (texts ks) w))
+    go (inr w) = rw (le-ltb (position_or_end t (texts ks)) (length (texts ks)) w) (sym (place_of-new t (texts ks) (omega (arith, w, place_or_end-within t (texts ks)))))
 
 pub interned-texts : (key : Key) (ks : List Key) → texts (if list_any (string_eq key) ks then ks else ks ++ key ∷ []) ≡ interned (string_bytes key) (texts ks)
 interned-texts key [] = refl
@@ -53,8 +53,8 @@ interned-texts key (k ∷ ks) = go (holds (string_bytes key) k) (list_any (strin
 pub inserted-texts : (key : Key) (t : Text) (ks new : List Key) → string_bytes key ≡ t → new ≡ insert_key string_eq ks key → texts new ≡ interned t (texts ks)
 inserted-texts key t ks new is inserts = ap texts inserts ∙ interned-texts key ks ∙ ap (λ (u : Text). interned u (texts ks)) is
 
-pub inserted-place : (key : Key) (t : Text) (ks : List Key) → string_bytes key ≡ t → position_or_len (string_eq key) ks ≡ place_or_end t (texts ks)
-inserted-place key t ks is = place_or_end-texts (string_bytes key) ks ∙ ap (λ (u : Text). place_or_end u (texts ks)) is
+pub inserted-place : (key : Key) (t : Text) (ks : List Key) → string_bytes key ≡ t → position_or_len (string_eq key) ks ≡ position_or_end t (texts ks)
+inserted-place key t ks is = place_or_end-texts (string_bytes key) ks ∙ ap (λ (u : Text). position_or_end u (texts ks)) is
 
 pub distinct-none : (ks : List Key) → ks ≡ [] → IsDistinct bytes_eq (texts ks)
 unfolding IsDistinct

@@ -7,7 +7,7 @@ use Rattle.std.proofs.lemmas.Bool.{cases_lt}
 use Rattle.std.proofs.lemmas.Option.{slice_get-get_or, get_or_from_slice_get, slice_get_within}
 use Rattle.std.proofs.lemmas.Slice.Eq.{bytes_eq-Decides}
 use Rattle.std.proofs.lemmas.Map.Keys.{IsDistinct-head, IsDistinct-tail}
-use Rattle.digest_index.specs.Index.{Text, place_of, place_or_end}
+use Rattle.digest_index.specs.Index.{Text, position_of, position_or_end}
 
 -- texts are compared the same both ways
 pub bytes_eq-flip : (t u : Text) → bytes_eq t u ≡ bytes_eq u t
@@ -15,97 +15,97 @@ bytes_eq-flip t u = (nat_list_eq_equiv).symm t u
 
 -- ---- the position, or the length
 
-pub place_or_end-within : (t : Text) (xs : List Text) → place_or_end t xs ≤ length xs
+pub place_or_end-within : (t : Text) (xs : List Text) → position_or_end t xs ≤ length xs
 place_or_end-within t [] = omega arith
 place_or_end-within t (x ∷ xs) = go (bytes_eq t x) (place_or_end-within t xs)
   where
-    go : (b : Bool) → place_or_end t xs ≤ length xs → cond b 0 (suc (place_or_end t xs)) ≤ length (x ∷ xs)
+    go : (b : Bool) → position_or_end t xs ≤ length xs → cond b 0 (suc (position_or_end t xs)) ≤ length (x ∷ xs)
     go true ih = omega arith
     go false ih = omega (arith, ih)
 
 -- a text that is there stands at its position
-pub slice_get-place_or_end : (t : Text) (xs : List Text) → place_or_end t xs < length xs → slice_get xs (place_or_end t xs) ≡ Some t
+pub slice_get-place_or_end : (t : Text) (xs : List Text) → position_or_end t xs < length xs → slice_get xs (position_or_end t xs) ≡ Some t
 slice_get-place_or_end t [] h = absurd (omega (arith, h))
 slice_get-place_or_end t (x ∷ xs) h = go (bytes_eq t x) refl h (slice_get-place_or_end t xs)
   where
-    go : (b : Bool) → bytes_eq t x ≡ b → cond b 0 (suc (place_or_end t xs)) < length (x ∷ xs) → (place_or_end t xs < length xs → slice_get xs (place_or_end t xs) ≡ Some t)
-        → slice_get (x ∷ xs) (cond b 0 (suc (place_or_end t xs))) ≡ Some t
+    go : (b : Bool) → bytes_eq t x ≡ b → cond b 0 (suc (position_or_end t xs)) < length (x ∷ xs) → (position_or_end t xs < length xs → slice_get xs (position_or_end t xs) ≡ Some t)
+        → slice_get (x ∷ xs) (cond b 0 (suc (position_or_end t xs))) ≡ Some t
     go true e h ih = ap Some (sym ((bytes_eq-Decides t x).0 e))
     go false e h ih = ih (omega (arith, h))
 
 -- and nowhere before it
-pub place_or_end-first : (t : Text) (xs : List Text) (i : ℕ) → slice_get xs i ≡ Some t → place_or_end t xs ≤ i
+pub place_or_end-first : (t : Text) (xs : List Text) (i : ℕ) → slice_get xs i ≡ Some t → position_or_end t xs ≤ i
 place_or_end-first t [] i h = cc
 place_or_end-first t (x ∷ xs) i h = go (bytes_eq t x) refl i h (place_or_end-first t xs)
   where
-    go : (b : Bool) → bytes_eq t x ≡ b → (i : ℕ) → slice_get (x ∷ xs) i ≡ Some t → ((i : ℕ) → slice_get xs i ≡ Some t → place_or_end t xs ≤ i)
-        → cond b 0 (suc (place_or_end t xs)) ≤ i
+    go : (b : Bool) → bytes_eq t x ≡ b → (i : ℕ) → slice_get (x ∷ xs) i ≡ Some t → ((i : ℕ) → slice_get xs i ≡ Some t → position_or_end t xs ≤ i)
+        → cond b 0 (suc (position_or_end t xs)) ≤ i
     go true e i h ih = omega arith
     go false e zero h ih = let same : t ≡ x = cc in let f : bytes_eq t x ≡ true = (bytes_eq-Decides t x).1 same in cc
     go false e (suc i) h ih = omega (arith, ih i h)
 
 -- the position is below the length exactly where the text is there
-pub is_there : (t : Text) (xs : List Text) → (place_or_end t xs < length xs) ↔ Contains xs t
+pub is_there : (t : Text) (xs : List Text) → (position_or_end t xs < length xs) ↔ Contains xs t
 is_there t xs = (
-  λ h. (place_or_end t xs, h, get_or_from_slice_get xs (place_or_end t xs) t t (slice_get-place_or_end t xs h)),
+  λ h. (position_or_end t xs, h, get_or_from_slice_get xs (position_or_end t xs) t t (slice_get-place_or_end t xs h)),
   λ c. let stands : slice_get xs c.0 ≡ Some t = slice_get-get_or xs c.0 t c.1 ∙ ap Some c.2 in omega (arith, place_or_end-first t xs c.0 stands, c.1),
 )
 
 -- texts that are there and have one position are one
-pub one_text : (t u : Text) (xs : List Text) → place_or_end t xs < length xs → place_or_end t xs ≡ place_or_end u xs → t ≡ u
+pub one_text : (t u : Text) (xs : List Text) → position_or_end t xs < length xs → position_or_end t xs ≡ position_or_end u xs → t ≡ u
 one_text t u xs h e =
-    let first : slice_get xs (place_or_end t xs) ≡ Some t = slice_get-place_or_end t xs h in
-    let second : slice_get xs (place_or_end u xs) ≡ Some u = slice_get-place_or_end u xs (omega (arith, h, e)) in
+    let first : slice_get xs (position_or_end t xs) ≡ Some t = slice_get-place_or_end t xs h in
+    let second : slice_get xs (position_or_end u xs) ≡ Some u = slice_get-place_or_end u xs (omega (arith, h, e)) in
     let same : Some t ≡ Some u = sym first ∙ ap (slice_get xs) e ∙ second in
     cc
 
 -- ---- the position, where there is one
 
-pub place_of-there : (t : Text) (xs : List Text) → place_or_end t xs < length xs → place_of t xs ≡ Some (place_or_end t xs)
+pub place_of-there : (t : Text) (xs : List Text) → position_or_end t xs < length xs → position_of t xs ≡ Some (position_or_end t xs)
 place_of-there t [] h = absurd (omega (arith, h))
 place_of-there t (x ∷ xs) h = go (bytes_eq t x) h (place_of-there t xs)
   where
-    go : (b : Bool) → cond b 0 (suc (place_or_end t xs)) < length (x ∷ xs) → (place_or_end t xs < length xs → place_of t xs ≡ Some (place_or_end t xs))
-        → cond b (Some 0) (option_map suc (place_of t xs)) ≡ Some (cond b 0 (suc (place_or_end t xs)))
+    go : (b : Bool) → cond b 0 (suc (position_or_end t xs)) < length (x ∷ xs) → (position_or_end t xs < length xs → position_of t xs ≡ Some (position_or_end t xs))
+        → cond b (Some 0) (option_map suc (position_of t xs)) ≡ Some (cond b 0 (suc (position_or_end t xs)))
     go true h ih = refl
     go false h ih = ap (option_map suc) (ih (omega (arith, h)))
 
-pub place_of-new : (t : Text) (xs : List Text) → place_or_end t xs ≡ length xs → place_of t xs ≡ None
+pub place_of-new : (t : Text) (xs : List Text) → position_or_end t xs ≡ length xs → position_of t xs ≡ None
 place_of-new t [] h = refl
 place_of-new t (x ∷ xs) h = go (bytes_eq t x) h (place_of-new t xs)
   where
-    go : (b : Bool) → cond b 0 (suc (place_or_end t xs)) ≡ length (x ∷ xs) → (place_or_end t xs ≡ length xs → place_of t xs ≡ None)
-        → cond b (Some 0) (option_map suc (place_of t xs)) ≡ None
+    go : (b : Bool) → cond b 0 (suc (position_or_end t xs)) ≡ length (x ∷ xs) → (position_or_end t xs ≡ length xs → position_of t xs ≡ None)
+        → cond b (Some 0) (option_map suc (position_of t xs)) ≡ None
     go true h ih = absurd (omega (arith, h))
     go false h ih = ap (option_map suc) (ih (omega (arith, h)))
 
-pub place_of-Some : (t : Text) (xs : List Text) (i : ℕ) → place_of t xs ≡ Some i → place_or_end t xs ≡ i
-place_of-Some t xs i h = go (cases_lt (place_or_end t xs) (length xs))
+pub place_of-Some : (t : Text) (xs : List Text) (i : ℕ) → position_of t xs ≡ Some i → position_or_end t xs ≡ i
+place_of-Some t xs i h = go (cases_lt (position_or_end t xs) (length xs))
   where
-    go : (place_or_end t xs < length xs) ⊎ (length xs ≤ place_or_end t xs) → place_or_end t xs ≡ i
-    go (inl w) = let e : Some (place_or_end t xs) ≡ Some i = sym (place_of-there t xs w) ∙ h in cc
+    go : (position_or_end t xs < length xs) ⊎ (length xs ≤ position_or_end t xs) → position_or_end t xs ≡ i
+    go (inl w) = let e : Some (position_or_end t xs) ≡ Some i = sym (place_of-there t xs w) ∙ h in cc
     go (inr w) = let e : None ≡ Some i = sym (place_of-new t xs (omega (arith, w, place_or_end-within t xs))) ∙ h in cc
 
-pub place_of-None : (t : Text) (xs : List Text) → place_of t xs ≡ None → place_or_end t xs ≡ length xs
-place_of-None t xs h = go (cases_lt (place_or_end t xs) (length xs))
+pub place_of-None : (t : Text) (xs : List Text) → position_of t xs ≡ None → position_or_end t xs ≡ length xs
+place_of-None t xs h = go (cases_lt (position_or_end t xs) (length xs))
   where
-    go : (place_or_end t xs < length xs) ⊎ (length xs ≤ place_or_end t xs) → place_or_end t xs ≡ length xs
-    go (inl w) = let e : Some (place_or_end t xs) ≡ None = sym (place_of-there t xs w) ∙ h in cc
+    go : (position_or_end t xs < length xs) ⊎ (length xs ≤ position_or_end t xs) → position_or_end t xs ≡ length xs
+    go (inl w) = let e : Some (position_or_end t xs) ≡ None = sym (place_of-there t xs w) ∙ h in cc
     go (inr w) = omega (arith, w, place_or_end-within t xs)
 
 -- the text stands at its position
-pub slice_get-place_of : (t : Text) (xs : List Text) (i : ℕ) → place_of t xs ≡ Some i → slice_get xs i ≡ Some t
-slice_get-place_of t xs i h = go (cases_lt (place_or_end t xs) (length xs))
+pub slice_get-place_of : (t : Text) (xs : List Text) (i : ℕ) → position_of t xs ≡ Some i → slice_get xs i ≡ Some t
+slice_get-place_of t xs i h = go (cases_lt (position_or_end t xs) (length xs))
   where
-    go : (place_or_end t xs < length xs) ⊎ (length xs ≤ place_or_end t xs) → slice_get xs i ≡ Some t
+    go : (position_or_end t xs < length xs) ⊎ (length xs ≤ position_or_end t xs) → slice_get xs i ≡ Some t
     go (inl w) = ap (slice_get xs) (sym (place_of-Some t xs i h)) ∙ slice_get-place_or_end t xs w
     go (inr w) = let e : None ≡ Some i = sym (place_of-new t xs (omega (arith, w, place_or_end-within t xs))) ∙ h in cc
 
 -- there is none exactly where the text is not there
-pub no_place : (t : Text) (xs : List Text) → (place_of t xs ≡ None) ↔ ¬ (Contains xs t)
-no_place t xs = (λ h c. omega (arith, place_of-None t xs h, (is_there t xs).1 c), λ n. go n (cases_lt (place_or_end t xs) (length xs)))
+pub no_place : (t : Text) (xs : List Text) → (position_of t xs ≡ None) ↔ ¬ (Contains xs t)
+no_place t xs = (λ h c. omega (arith, place_of-None t xs h, (is_there t xs).1 c), λ n. go n (cases_lt (position_or_end t xs) (length xs)))
   where
-    go : ¬ (Contains xs t) → (place_or_end t xs < length xs) ⊎ (length xs ≤ place_or_end t xs) → place_of t xs ≡ None
+    go : ¬ (Contains xs t) → (position_or_end t xs < length xs) ⊎ (length xs ≤ position_or_end t xs) → position_of t xs ≡ None
     go n (inl w) = absurd (n ((is_there t xs).0 w))
     go n (inr w) = place_of-new t xs (omega (arith, w, place_or_end-within t xs))
 
@@ -117,16 +117,16 @@ each_at P (x ∷ xs) zero u all h = let same : x ≡ u = cc in subst P same all.
 each_at P (x ∷ xs) (suc i) u all h = each_at P xs i u all.1 h
 
 -- a text that stands at i has this position
-pub place_or_end-at : (t : Text) (xs : List Text) (i : ℕ) → IsDistinct bytes_eq xs → slice_get xs i ≡ Some t → place_or_end t xs ≡ i
+pub place_or_end-at : (t : Text) (xs : List Text) (i : ℕ) → IsDistinct bytes_eq xs → slice_get xs i ≡ Some t → position_or_end t xs ≡ i
 place_or_end-at t [] i d h = cc
 place_or_end-at t (x ∷ xs) zero d h = let same : t ≡ x = cc in rw ((bytes_eq-Decides t x).1 same) refl
 place_or_end-at t (x ∷ xs) (suc i) d h =
     let apart : bytes_eq t x ≡ false = bytes_eq-flip t x ∙ each_at (λ y. bytes_eq x y ≡ false) xs i t (IsDistinct-head bytes_eq x xs d) h in
     rw apart (ap suc (place_or_end-at t xs i (IsDistinct-tail bytes_eq x xs d) h))
 
-pub place_of-at : (t : Text) (xs : List Text) (i : ℕ) → IsDistinct bytes_eq xs → slice_get xs i ≡ Some t → place_of t xs ≡ Some i
+pub place_of-at : (t : Text) (xs : List Text) (i : ℕ) → IsDistinct bytes_eq xs → slice_get xs i ≡ Some t → position_of t xs ≡ Some i
 place_of-at t xs i d h =
-    let at : place_or_end t xs ≡ i = place_or_end-at t xs i d h in
+    let at : position_or_end t xs ≡ i = place_or_end-at t xs i d h in
     place_of-there t xs (omega (arith, at, slice_get_within xs i t h)) ∙ ap Some at
 
 -- and stands nowhere else

@@ -1,18 +1,18 @@
--- Distinct texts in the order in which they were first seen, and a count of look-ups.
+-- Not needed to believe the program's promises: distinct texts in the order in which they were first seen, and a count of look-ups.
 use Rattle.std.specs.Prelude.{ℕ, suc, ◌+◌, ◌-◌, ◌^◌, min, List, [], ◌∷◌, bytes_eq, Option, None, Some, option_map, if◌then◌else◌}
 
 abbrev pub Text : Type 0
 Text = List ℕ
 
 -- the position of a text, where it is there
-abbrev pub place_of : Text → List Text → Option ℕ
-place_of t [] = None
-place_of t (x ∷ xs) = if bytes_eq t x then Some 0 else option_map suc (place_of t xs)
+abbrev pub position_of : Text → List Text → Option ℕ
+position_of t [] = None
+position_of t (x ∷ xs) = if bytes_eq t x then Some 0 else option_map suc (position_of t xs)
 
 -- its position, or the length where it is not there
-abbrev pub place_or_end : Text → List Text → ℕ
-place_or_end t [] = 0
-place_or_end t (x ∷ xs) = if bytes_eq t x then 0 else suc (place_or_end t xs)
+abbrev pub position_or_end : Text → List Text → ℕ
+position_or_end t [] = 0
+position_or_end t (x ∷ xs) = if bytes_eq t x then 0 else suc (position_or_end t xs)
 
 -- the texts, with this one put at the end where it is new
 abbrev pub interned : Text → List Text → List Text

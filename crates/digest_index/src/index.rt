@@ -1,6 +1,6 @@
 ghost use Rattle.std.specs.Prelude.{◌≡◌, [], length, None, bytes_eq, IfOk, OnErr, OnOk};
 ghost use Rattle.std.specs.List.{IsDistinct};
-ghost use Rattle.digest_index.specs.Index.{interned, place_of, place_or_end, ticked};
+ghost use Rattle.digest_index.specs.Index.{interned, position_of, position_or_end, ticked};
 
 use crate::Steps;
 use indexmap::IndexSet;
@@ -52,10 +52,10 @@ impl DigestIndex {
     ///
     /// Only a text that is new is copied, so one that is there takes no memory.
     pub fn intern(&mut self, text: &str, steps: &mut Steps) -> Result<usize, NoMemory>
-        ensures place { IfOk result (λ place. place ≡ place_or_end text.now self.old) }
+        ensures place { IfOk result (λ place. place ≡ position_or_end text.now self.old) }
         ensures ok { OnOk result (self.new ≡ interned text.now self.old) }
         ensures err { OnErr result (self.new ≡ self.old) }
-        ensures only_new { OnErr result (place_of text.now self.old ≡ None) }
+        ensures only_new { OnErr result (position_of text.now self.old ≡ None) }
         ensures distinct { IsDistinct bytes_eq self.new }
         ensures ticked { steps.new ≡ ticked steps.old }
     {
@@ -69,7 +69,7 @@ impl DigestIndex {
 
     /// The position of a text, counted from 0, where it is there. It takes no memory.
     pub fn find(&self, text: &str, steps: &mut Steps) -> Option<usize>
-        ensures place { result ≡ place_of text.now self.now }
+        ensures place { result ≡ position_of text.now self.now }
         ensures distinct { IsDistinct bytes_eq self.now }
         ensures ticked { steps.new ≡ ticked steps.old }
     {

@@ -4,9 +4,10 @@ use Rattle.std.specs.Prelude.{if◌then◌else◌}
 use Rattle.std.proofs.lemmas.List.{map-append}
 use Rattle.claim_tree.specs.Tree.{Text, Tree, leaf, array, object, Elements, no_elements, element, Members, no_members, member, names}
 use Rattle.digest_sites.specs.Reserved.{sd_name, sd_texts, element_digest}
-use Rattle.digest_sites.specs.Sites.{Site, Step, to_member, to_element, step_text, sites, listed, under, own_site, sites_on, element_sites, member_sites}
+use Rattle.digest_sites.specs.Sites.{Site, Step, to_member, to_element, step_text, sites, under, own_site, sites_on, element_sites, member_sites}
+use Rattle.digest_sites.specs.SiteCalls.{listed}
 use Rattle.digest_sites.specs.Walk.{site, sites_at, elements_sites, members_sites}
-use Rattle.digest_sites.specs.Walk.{element_sites as sites_of_element}
+use Rattle.digest_sites.specs.Walk.{element_sites_on as sites_of_element}
 use Rattle.digest_sites.specs.declared.site.Site as code
 use Rattle.digest_sites.specs.declared.site.SiteKind.TheVariants.{Member}
 

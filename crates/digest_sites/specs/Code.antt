@@ -8,14 +8,14 @@ use Rattle.digest_sites.specs.Given.{Given}
 abbrev text_code : Coded Text
 text_code = coded_list coded_ℕ
 
-pub tree_inj : (x y : Tree) → elements_code.code (element x no_elements) ≡ elements_code.code (element y no_elements) → x ≡ y
-tree_inj x y e =
+pub lone_tree_inj : (x y : Tree) → elements_code.code (element x no_elements) ≡ elements_code.code (element y no_elements) → x ≡ y
+lone_tree_inj x y e =
     let same = elements_code.inj (element x no_elements) (element y no_elements) e in
     cc same
 
 -- as the array that has it alone
 abbrev tree_code : Coded Tree
-tree_code = record { code = λ t. elements_code.code (element t no_elements); inj = tree_inj }
+tree_code = record { code = λ t. elements_code.code (element t no_elements); inj = lone_tree_inj }
 
 abbrev pub given_code : Coded (List Given)
 given_code =

@@ -8,6 +8,3 @@ pub record Given : Type 0 where
   pub digest : Text
   pub name : Option Text
   pub value : Tree
-
-abbrev pub given_of : code.Given → Given
-given_of g = record { digest = g.digest; name = g.name; value = tree_of g.value }

@@ -3,3 +3,5 @@ pub mod Sites
 pub mod Walk
 pub mod Given
 pub mod Code
+pub mod GivenView
+pub mod SiteCalls

@@ -51,19 +51,7 @@ abbrev mutual
   member_sites no_members = []
   member_sites (member name t ms) = (if bytes_eq name sd_name then [] else map (under (to_member name)) (sites t)) ++ member_sites ms
 
-abbrev pub digests : List Site → List Text
-digests ss = map (λ s. s.digest) ss
-
 -- a step as one of a JSON Pointer (RFC 6901 section 4)
 abbrev pub step_text : Step → Text
 step_text (to_member name) = name
 step_text (to_element i) = decimal i
-
--- a site as it is listed
-abbrev pub listed : Site → code.Site
-listed s = record { at = map step_text s.at; kind = s.kind; digest = s.digest }
-
--- why a tree has no list of sites
-abbrev pub IsSiteRefusal : Tree → SiteError → Type 0
-IsSiteRefusal t SiteError.Memory = Unit {0}
-IsSiteRefusal t SiteError.Misused = misuses t ≡ true

@@ -12,9 +12,9 @@ site at kind digest = record { at = at; kind = kind; digest = digest }
 abbrev pub own_sites : List Text → Members → List Site
 own_sites at ms = map (site at Member) (sd_texts ms)
 
-abbrev pub element_sites : List Text → Option Text → List Site → List Site
-element_sites at (Some digest) inside = site at Element digest ∷ []
-element_sites at None inside = inside
+abbrev pub element_sites_on : List Text → Option Text → List Site → List Site
+element_sites_on at (Some digest) inside = site at Element digest ∷ []
+element_sites_on at None inside = inside
 
 abbrev mutual
   pub sites_at : List Text → Tree → List Site
@@ -25,7 +25,7 @@ abbrev mutual
   pub elements_sites : List Text → ℕ → Elements → List Site
   elements_sites at i no_elements = []
   elements_sites at i (element t es) =
-      element_sites (at ++ decimal i ∷ []) (element_digest t) (sites_at (at ++ decimal i ∷ []) t) ++ elements_sites at (suc i) es
+      element_sites_on (at ++ decimal i ∷ []) (element_digest t) (sites_at (at ++ decimal i ∷ []) t) ++ elements_sites at (suc i) es
 
   pub members_sites : List Text → Members → List Site
   members_sites at no_members = []

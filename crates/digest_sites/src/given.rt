@@ -1,5 +1,5 @@
 ghost use Rattle.std.specs.Prelude.{◌≡◌, [], ◌∷◌, ◌++◌, map, length, OnOk, OnErr, option_map, slice_get};
-ghost use Rattle.digest_sites.specs.Given.{given_of};
+ghost use Rattle.digest_sites.specs.GivenView.{given_of};
 
 use claim_tree::Tree;
 use sd_outside::{NoMemory, TextBox};
@@ -32,7 +32,7 @@ impl Model for GivenList {
 
     ghost coded = { given_code };
 
-    ghost use Rattle.digest_sites.specs.Given.{given_of};
+    ghost use Rattle.digest_sites.specs.GivenView.{given_of};
 
     ghost view = { λ l. map given_of l.items.items };
 }

@@ -3,8 +3,9 @@ ghost use Rattle.std.specs.Prelude.{◌≡◌, [], ◌∷◌, ◌++◌, map, fal
 ghost use Rattle.std.specs.Fmt.{decimal};
 ghost use Rattle.claim_tree.specs.View.{tree_of};
 ghost use Rattle.digest_sites.specs.Reserved.{misuses, texts_of, texts_or_none, element_digest as digest_in};
-ghost use Rattle.digest_sites.specs.Sites.{sites as sites_of, listed, IsSiteRefusal};
-ghost use Rattle.digest_sites.specs.Walk.{site, sites_at, own_sites as own_sites_at, element_sites, elements_sites, members_sites};
+ghost use Rattle.digest_sites.specs.Sites.{sites as sites_of};
+ghost use Rattle.digest_sites.specs.SiteCalls.{listed, IsSitesRefused};
+ghost use Rattle.digest_sites.specs.Walk.{site, sites_at, own_sites as own_sites_at, element_sites_on, elements_sites, members_sites};
 ghost use Rattle.digest_sites.specs.declared.site.SiteKind.TheVariants.{Member};
 
 use crate::misuse::is_misused;
@@ -39,7 +40,7 @@ impl From<NoMemory> for SiteError {
 pub fn sites(alloc: Global, tree: &Tree) -> Result<SiteList, SiteError>
     ensures ok { IfOk result (λ list. list ≡ map listed (sites_of (tree_of tree.now))) }
     ensures well { IfOk result (λ _. misuses (tree_of tree.now) ≡ false) }
-    ensures refused { IfErr result (IsSiteRefusal (tree_of tree.now)) }
+    ensures refused { IfErr result (IsSitesRefused (tree_of tree.now)) }
 {
     if is_misused(tree) {
         return Err(SiteError::Misused);
@@ -90,7 +91,7 @@ fn walk_element(
     at: &mut Path,
     found: &mut SiteList,
 ) -> Result<(), NoMemory>
-    ensures found { OnOk result (found.new ≡ found.old ++ element_sites (at.old ++ step ∷ []) (digest_in (tree_of tree.now)) (sites_at (at.old ++ step ∷ []) (tree_of tree.now))) }
+    ensures found { OnOk result (found.new ≡ found.old ++ element_sites_on (at.old ++ step ∷ []) (digest_in (tree_of tree.now)) (sites_at (at.old ++ step ∷ []) (tree_of tree.now))) }
     ensures at { OnOk result (at.new ≡ at.old) }
 {
     match element_digest(tree) {
@@ -150,7 +151,7 @@ fn add_element_site(
     at: &Path,
     found: &mut SiteList,
 ) -> Result<(), NoMemory>
-    ensures { OnOk result (found.new ≡ found.old ++ element_sites (at.now ++ step ∷ []) (Some digest.now) []) }
+    ensures { OnOk result (found.new ≡ found.old ++ element_sites_on (at.now ++ step ∷ []) (Some digest.now) []) }
 {
     let mut at = at.copy(alloc)?;
     at.push(step)?;

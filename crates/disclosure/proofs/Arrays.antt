@@ -1,6 +1,7 @@
 -- The list of a salt, a name and a value.
 use Rattle.std.proofs.Common.{◌≡◌, ◌≤◌, Option, Some, None, refl, sym, ap, arith}
-use Rattle.claim_tree.specs.Tree.{Text, text, Tree, leaf, array, Elements, element, no_elements, pushed, depth}
+use Rattle.claim_tree.specs.Tree.{Text, text, Tree, leaf, array, Elements, element, no_elements, depth}
+use Rattle.claim_tree.specs.TreeCalls.{pushed}
 use Rattle.disclosure.specs.Disclosure.{array_of}
 use Rattle.disclosure.specs.Front.{front}
 

@@ -10,7 +10,7 @@ use Rattle.claim_tree.specs.JsonText.{Reads, IsNotJson, IsNotWhole, data_of}
 use Rattle.claim_tree.proofs.OneTree.{one_tree}
 use Rattle.claim_tree.proofs.FileVerdicts.{is_whole}
 use Rattle.disclosure.specs.Disclosure.{array_of, IsDisclosure}
-use Rattle.disclosure.specs.Refusals.{DecodesTo, IsRefused}
+use Rattle.disclosure.specs.DisclosureRefusals.{DecodesTo, IsDisclosureRefused}
 use Rattle.disclosure.proofs.Arrays.{array_of-injective}
 use Rattle.disclosure.specs.declared.errors.DisclosureError.{DisclosureError}
 
@@ -34,7 +34,7 @@ whole_read text json t d r h = is_whole json t r (subst IsNotWhole (one_code tex
 json_whole : (text : Text) → DecodesTo IsNotJson text → DecodesTo IsNotWhole text → ⊥
 json_whole text h n = has_value n.json n.so.data_is n.so.utf8 n.so.value (subst IsNotJson (one_code text h.json n.json h.decodes n.decodes) h.so)
 
-pub not_both : (text : Text) (salt : Tree) (name : Option Text) (value : Tree) (error : DisclosureError) → IsDisclosure text salt name value → IsRefused text error → error ≡ DisclosureError.Memory
+pub not_both : (text : Text) (salt : Tree) (name : Option Text) (value : Tree) (error : DisclosureError) → IsDisclosure text salt name value → IsDisclosureRefused text error → error ≡ DisclosureError.Memory
 not_both text salt name value DisclosureError.Memory d h = refl
 not_both text salt name value DisclosureError.NotBase64 d h = absurd (h d.json d.decodes)
 not_both text salt name value DisclosureError.NotJson d h = absurd (json_read text d.json (array_of salt name value) d.decodes d.reads h)
@@ -42,7 +42,7 @@ not_both text salt name value DisclosureError.NotWhole d h = absurd (whole_read 
 not_both text salt name value DisclosureError.NotDisclosure d h =
     absurd (h.other salt name value (same_tree text h.json d.json h.tree (array_of salt name value) h.decodes d.decodes h.reads d.reads))
 
-pub one_cause : (text : Text) (error other : DisclosureError) → IsRefused text error → IsRefused text other → error ≢ DisclosureError.Memory → other ≢ DisclosureError.Memory → error ≡ other
+pub one_cause : (text : Text) (error other : DisclosureError) → IsDisclosureRefused text error → IsDisclosureRefused text other → error ≢ DisclosureError.Memory → other ≢ DisclosureError.Memory → error ≡ other
 one_cause text DisclosureError.Memory other g h m n = absurd (m refl)
 one_cause text error DisclosureError.Memory g h m n = absurd (n refl)
 one_cause text DisclosureError.NotBase64 DisclosureError.NotBase64 g h m n = refl

@@ -6,8 +6,8 @@ use Rattle.claim_tree.specs.Tree.{Text, Tree, get, text_of}
 use Rattle.disclosure.specs.declared.digests.HashAlg.{HashAlg}
 
 -- the name of an algorithm
-abbrev pub name_of : HashAlg → List ℕ
-name_of HashAlg.Sha256 = codes "sha-256"
+abbrev pub hash_name : HashAlg → List ℕ
+hash_name HashAlg.Sha256 = codes "sha-256"
 
 abbrev pub hash_of : HashAlg → List ℕ → List ℕ
 hash_of HashAlg.Sha256 text = sha256 text
@@ -18,7 +18,7 @@ digest_of alg text = b64 (hash_of alg text)
 
 -- the algorithm of this name
 abbrev pub hash_of_text : Text → Option HashAlg
-hash_of_text name = if bytes_eq name (name_of HashAlg.Sha256) then Some HashAlg.Sha256 else None
+hash_of_text name = if bytes_eq name (hash_name HashAlg.Sha256) then Some HashAlg.Sha256 else None
 
 abbrev pub hash_of_claim : Option Text → Option HashAlg
 hash_of_claim None = None

@@ -1,4 +1,5 @@
 pub mod Digest
 pub mod Disclosure
-pub mod Refusals
+pub mod DisclosureRefusals
 pub mod Front
+pub mod ReadSteps

@@ -1,6 +1,6 @@
 ghost use Rattle.std.specs.Prelude.{◌≡◌, ◌≢◌, IfOk, Some, IfSome, IfNone};
 ghost use Rattle.claim_tree.specs.View.{tree_of};
-ghost use Rattle.disclosure.specs.Digest.{digest_of, name_of, hash_of_text as hash_of_text_by, hash_of_name as hash_of_name_by, payload_hash as payload_hash_by};
+ghost use Rattle.disclosure.specs.Digest.{digest_of, hash_name, hash_of_text as hash_of_text_by, hash_of_name as hash_of_name_by, payload_hash as payload_hash_by};
 ghost use Rattle.disclosure.specs.declared.digests.HashAlg.{HashAlg};
 
 use b64url_text::encode;
@@ -18,8 +18,8 @@ pub enum HashAlg {
 
 /// The algorithm of a name.
 pub fn hash_named(name: &str) -> Option<HashAlg>
-    ensures named { IfSome result (λ alg. name.now ≡ name_of alg) }
-    ensures other { IfNone result ((alg : HashAlg) → name.now ≢ name_of alg) }
+    ensures named { IfSome result (λ alg. name.now ≡ hash_name alg) }
+    ensures other { IfNone result ((alg : HashAlg) → name.now ≢ hash_name alg) }
 {
     match name {
         "sha-256" => Some(HashAlg::Sha256),

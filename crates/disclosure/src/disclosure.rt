@@ -1,10 +1,11 @@
 ghost use Rattle.std.specs.Prelude.{◌≡◌, ◌≤◌, OnOk, IfOk, IfErr, IfSome, IfNone, Option, option_map};
-ghost use Rattle.claim_tree.specs.Tree.{IsRanged, IsOrdered, depth, leaf, text as text_leaf, pushed};
+ghost use Rattle.claim_tree.specs.Tree.{IsRanged, IsOrdered, depth, leaf, text as text_leaf};
+ghost use Rattle.claim_tree.specs.TreeCalls.{pushed};
 ghost use Rattle.claim_tree.specs.View.{tree_of};
 ghost use Rattle.disclosure.specs.Digest.{digest_of};
 ghost use Rattle.disclosure.specs.Disclosure.{IsDisclosure, IsNoArray, array_of, disclosure_text};
 ghost use Rattle.disclosure.specs.Front.{front};
-ghost use Rattle.disclosure.specs.Refusals.{IsRefused};
+ghost use Rattle.disclosure.specs.DisclosureRefusals.{IsDisclosureRefused};
 
 use crate::{DisclosureError, HashAlg, digest};
 use b64url_text::{decode, encode};
@@ -77,7 +78,7 @@ pub fn read_disclosure(alloc: Global, text: &str) -> Result<Disclosure, Disclosu
     ensures salt_ordered { IfOk result (λ d. IsOrdered (tree_of d.salt)) }
     ensures salt_depth { IfOk result (λ d. depth (tree_of d.salt) ≤ 126) }
 
-    ensures refused { IfErr result (IsRefused text.now) }
+    ensures refused { IfErr result (IsDisclosureRefused text.now) }
 {
     let json = decode(alloc, text.as_bytes())?;
     let tree = read(alloc, json.bytes())?;

@@ -30,7 +30,7 @@ impl From<NoMemory> for DisclosureError {
 
 impl From<DecodeError> for DisclosureError {
     ghost use Rattle.std.specs.Prelude.{◌≡◌};
-    ghost use Rattle.disclosure.specs.Refusals.{of_decode};
+    ghost use Rattle.disclosure.specs.ReadSteps.{of_decode};
 
     ghost from_gives = { λ e f. f ≡ of_decode e };
 
@@ -44,7 +44,7 @@ impl From<DecodeError> for DisclosureError {
 
 impl From<ReadError> for DisclosureError {
     ghost use Rattle.std.specs.Prelude.{◌≡◌};
-    ghost use Rattle.disclosure.specs.Refusals.{of_read};
+    ghost use Rattle.disclosure.specs.ReadSteps.{of_read};
 
     ghost from_gives = { λ e f. f ≡ of_read e };
 

@@ -2,7 +2,7 @@
 ghost use Rattle.std.specs.Prelude.{◌≡◌, ◌≢◌, ℕ, List, Option};
 ghost use Rattle.claim_tree.specs.Tree.{Tree};
 ghost use Rattle.disclosure.specs.Disclosure.{IsDisclosure};
-ghost use Rattle.disclosure.specs.Refusals.{IsRefused};
+ghost use Rattle.disclosure.specs.DisclosureRefusals.{IsDisclosureRefused};
 ghost use Rattle.disclosure.specs.declared.errors.DisclosureError.{DisclosureError};
 ghost use Rattle.disclosure.specs.declared.errors.DisclosureError.TheVariants.{Memory};
 
@@ -15,7 +15,7 @@ pub fn one_disclosure()
 /// A disclosure is not refused, and a text that is refused has one cause, want of memory aside.
 pub fn one_verdict()
     ensures not_both { (text : List ℕ) (salt : Tree) (name : Option (List ℕ)) (value : Tree) (error : DisclosureError) →
-        IsDisclosure text salt name value → IsRefused text error → error ≡ Memory }
+        IsDisclosure text salt name value → IsDisclosureRefused text error → error ≡ Memory }
     ensures one_cause { (text : List ℕ) (error other : DisclosureError) →
-        IsRefused text error → IsRefused text other → error ≢ Memory → other ≢ Memory → error ≡ other }
+        IsDisclosureRefused text error → IsDisclosureRefused text other → error ≢ Memory → other ≢ Memory → error ≡ other }
 {}

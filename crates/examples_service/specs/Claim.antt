@@ -1,7 +1,7 @@
--- What the service answers of a presentation.
+-- Not needed to believe the program's promises: what the service answers of a presentation.
 use Rattle.std.specs.Prelude.{◌≡◌, ℕ, Option}
 use Rattle.claim_tree.specs.Tree.{Text, Tree, get}
-use Rattle.verifier_core.specs.Verdict.{IsAcceptedAs}
+use Rattle.verifier_core.specs.Verdicts.{IsAcceptedAs}
 use Rattle.verifier_core.specs.declared.policy.Policy.{Policy}
 
 -- the text is accepted under the policy at the moment, and the claim is the member of its processed payload under the

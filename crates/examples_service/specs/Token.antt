@@ -1,4 +1,4 @@
--- What the service issues.
+-- Not needed to believe the program's promises: what the service issues.
 use Rattle.std.specs.Prelude.{List, [], None}
 use Rattle.claim_tree.specs.Tree.{Text, Tree}
 use Rattle.compact_form.specs.declared.parts.Parts.{Parts}

@@ -3,9 +3,9 @@ ghost use Rattle.std.specs.Prelude.{◌≡◌, ◌≤◌, IfOk, IfErr, IsErrOf};
 ghost use Rattle.sd_outside.specs.Causes.{Rose};
 ghost use Rattle.claim_tree.specs.Tree.{depth, IsRanged};
 ghost use Rattle.claim_tree.specs.View.{tree_of};
-ghost use Rattle.hmac_sign.specs.Signatures.{Agree};
+ghost use Rattle.hmac_sign.specs.Agreement.{Agree};
 ghost use Rattle.issuer_core.specs.declared.errors.IssueError.{IssueError};
-ghost use Rattle.issuer_core.specs.Issue.{IsNotIssued};
+ghost use Rattle.issuer_core.specs.IssueCalls.{IsNotIssued};
 ghost use Rattle.issuer_core.specs.Seed.{maker_of};
 ghost use Rattle.examples_service.specs.Token.{order_for, IsTokenFor};
 

@@ -5,7 +5,8 @@ use Rattle.sha2.specs.Sha256.{compress, digest_bytes, first_words, hash_after, r
 use Rattle.b64url_text.specs.Base64url.{letters, bits, sixes, b64, AreBytes}
 use Rattle.claim_tree.specs.Tree.{Text, Tree, leaf, text, array, object, Elements, no_elements, element, element_at, no_members, member}
 use Rattle.hmac_sign.specs.Hmac.{key_block, xored, hmac, mac}
-use Rattle.hmac_sign.specs.Keys.{key_named, IsKeySet, no_keys, other, key, IsOct, HasNoCode, ShortAt, IsNoKeySet, no_key, no_array}
+use Rattle.hmac_sign.specs.Keys.{key_named, IsKeySet, no_keys, other, key, IsOct}
+use Rattle.hmac_sign.specs.KeyRefusals.{IsKeyNotBase64, KeyShortAt, IsNoKeySet, no_key, no_array}
 use Rattle.hmac_sign.specs.declared.key_set.NamedKey.{NamedKey}
 use Rattle.hmac_sign.proofs.KeySets.{has_code}
 
@@ -123,11 +124,11 @@ is_one_byte : IsOct one_byte (0 ∷ [])
 unfolding b64 sixes bits letters
 is_one_byte = record { code = codes "AA"; is = refl; decodes = record { fit = bytes_fit 1 0 (omega arith); spelling = refl } }
 
-it_decodes : (i : ℕ) (t : Tree) → element_at (element one_byte no_elements) i ≡ Some t → HasNoCode t → ⊥
+it_decodes : (i : ℕ) (t : Tree) → element_at (element one_byte no_elements) i ≡ Some t → IsKeyNotBase64 t → ⊥
 it_decodes zero t at none = let same : one_byte ≡ t = cc at in has_code t (0 ∷ []) (subst (λ u. IsOct u (0 ∷ [])) same is_one_byte) none
 it_decodes (suc i) t at none = absurd (cc at)
 
-too_short : ShortAt (set_of (element one_byte no_elements)) 0
+too_short : KeyShortAt (set_of (element one_byte no_elements)) 0
 too_short = record {
   elements = element one_byte no_elements;
   stand = refl;

@@ -4,7 +4,8 @@ use Rattle.b64url_text.specs.Base64url.{Decodes}
 use Rattle.b64url_text.proofs.Codes.{one_code}
 use Rattle.claim_tree.specs.Tree.{Text, Tree, Elements, element_at}
 use Rattle.hmac_sign.specs.Hmac.{key_block}
-use Rattle.hmac_sign.specs.Keys.{oct_code, keys_under, are_keys, IsOct, HasNoCode, IsShort, KeysOf, no_keys, other, key, IsKeySet, IsNoKeySet, no_array, no_key, NoCodeAt, ShortAt}
+use Rattle.hmac_sign.specs.Keys.{oct_text, keys_under, are_keys, IsOct, KeysOf, no_keys, other, key, IsKeySet}
+use Rattle.hmac_sign.specs.KeyRefusals.{IsKeyNotBase64, IsKeyShort, IsNoKeySet, no_array, no_key, KeyNotBase64At, KeyShortAt}
 use Rattle.hmac_sign.specs.declared.key_set.NamedKey.{NamedKey}
 use Rattle.hmac_sign.specs.declared.key_set.KeySetError.{KeySetError}
 use Rattle.hmac_sign.specs.declared.key_set.KeySetError.TheVariants.{Memory, NotASet, KeyNotBase64, KeyShort}
@@ -12,7 +13,7 @@ use Rattle.hmac_sign.proofs.KeySets.{has_code, of_other_kind, not_short, no_shor
 
 -- ---- no element of a set has a fault
 
-no_such : (P : Tree → Type 0) → ((t : Tree) → oct_code t ≡ None → P t → ⊥) → ((t : Tree) (bytes : List ℕ) → IsOct t bytes → 32 ≤ length bytes → P t → ⊥)
+no_such : (P : Tree → Type 0) → ((t : Tree) → oct_text t ≡ None → P t → ⊥) → ((t : Tree) (bytes : List ℕ) → IsOct t bytes → 32 ≤ length bytes → P t → ⊥)
     → (es : Elements) (keys : List NamedKey) → KeysOf es keys → (i : ℕ) (u : Tree) → element_at es i ≡ Some u → P u → ⊥
 no_such P not_other not_oct _ _ no_keys i u at p = absurd (cc at)
 no_such P not_other not_oct _ _ (other t es keys e more) zero u at p = let same : t ≡ u = cc at in not_other t e (subst P (sym same) p)
@@ -30,15 +31,15 @@ not_no_set t keys set (no_key es stand bad) =
     let both : true ≡ false = sym set.good ∙ (sym (ap are_keys same) ∙ bad) in
     cc both
 
-pub not_no_code : (t : Tree) (keys : List NamedKey) (place : ℕ) → IsKeySet t keys → NoCodeAt t place → ⊥
+pub not_no_code : (t : Tree) (keys : List NamedKey) (place : ℕ) → IsKeySet t keys → KeyNotBase64At t place → ⊥
 not_no_code t keys place set no_code =
     let same : no_code.elements ≡ set.elements = same_elements (keys_under t) no_code.elements set.elements no_code.stand set.stand in
-    no_such HasNoCode of_other_kind (λ u bytes o enough. has_code u bytes o) set.elements keys set.keys_are place no_code.first.key (ap (λ es. element_at es place) (sym same) ∙ no_code.first.at) no_code.first.is
+    no_such IsKeyNotBase64 of_other_kind (λ u bytes o enough. has_code u bytes o) set.elements keys set.keys_are place no_code.first.key (ap (λ es. element_at es place) (sym same) ∙ no_code.first.at) no_code.first.is
 
-pub not_too_short : (t : Tree) (keys : List NamedKey) (place : ℕ) → IsKeySet t keys → ShortAt t place → ⊥
+pub not_too_short : (t : Tree) (keys : List NamedKey) (place : ℕ) → IsKeySet t keys → KeyShortAt t place → ⊥
 not_too_short t keys place set short =
     let same : short.elements ≡ set.elements = same_elements (keys_under t) short.elements set.elements short.stand set.stand in
-    no_such IsShort no_short not_short set.elements keys set.keys_are place short.first.key (ap (λ es. element_at es place) (sym same) ∙ short.first.at) short.first.is
+    no_such IsKeyShort no_short not_short set.elements keys set.keys_are place short.first.key (ap (λ es. element_at es place) (sym same) ∙ short.first.at) short.first.is
 
 -- ---- a tree is one set
 
@@ -68,7 +69,7 @@ one_key_set t keys others set more =
     one_keys more.elements keys others (subst (λ es. KeysOf es keys) same set.keys_are) more.keys_are
 
 -- a tree that is refused for another cause than want of memory is no set
-pub not_read : (t : Tree) (error : KeySetError) → (error ≡ NotASet → IsNoKeySet t) → ((place : ℕ) → error ≡ KeyNotBase64 place → NoCodeAt t place) → ((place : ℕ) → error ≡ KeyShort place → ShortAt t place) → error ≢ Memory
+pub not_read : (t : Tree) (error : KeySetError) → (error ≡ NotASet → IsNoKeySet t) → ((place : ℕ) → error ≡ KeyNotBase64 place → KeyNotBase64At t place) → ((place : ℕ) → error ≡ KeyShort place → KeyShortAt t place) → error ≢ Memory
     → (keys : List NamedKey) → IsKeySet t keys → ⊥
 not_read t Memory no_set no_code short cause keys set = cause refl
 not_read t NotASet no_set no_code short cause keys set = not_no_set t keys set (no_set refl)

@@ -4,12 +4,15 @@ use Rattle.std.proofs.lemmas.Bool.{cases_lt}
 use Rattle.b64url_text.specs.Base64url.{Decodes}
 use Rattle.b64url_text.proofs.Codes.{one_code}
 use Rattle.claim_tree.specs.Tree as spec
-use Rattle.claim_tree.specs.Tree.{Elements, no_elements, element, element_at, pushed}
-use Rattle.claim_tree.specs.View.{tree_of, elements_of}
+use Rattle.claim_tree.specs.Tree.{Elements, no_elements, element, element_at}
+use Rattle.claim_tree.specs.TreeCalls.{pushed}
+use Rattle.claim_tree.specs.View.{tree_of}
+use Rattle.claim_tree.specs.ListViews.{elements_of}
 use Rattle.claim_tree.specs.declared.tree.Tree.{Tree}
 use Rattle.claim_tree.proofs.Views.{element_at-there, element_at-past}
 use Rattle.hmac_sign.specs.Hmac.{key_block}
-use Rattle.hmac_sign.specs.Keys.{text_under, oct_code, IsOct, HasNoCode, IsShort, NoneBefore, IsFirst, KeysOf, no_keys, other, key, IsAdded, added_none, added_key}
+use Rattle.hmac_sign.specs.Keys.{text_under, oct_text, IsOct, KeysOf, no_keys, other, key}
+use Rattle.hmac_sign.specs.KeyRefusals.{IsKeyNotBase64, IsKeyShort, NoneBefore, IsFirstKey, IsAdded, added_none, added_key}
 use Rattle.hmac_sign.specs.declared.key_set.NamedKey.{NamedKey}
 
 -- the element that stands there
@@ -27,7 +30,7 @@ none_more P ts i t within is before here j u below at p = by_place (cases_lt j i
         let one : u ≡ tree_of t = cc found in
         here (subst P one p)
 
-pub first_at : (P : spec.Tree → Type 0) (ts : List Tree) (i : ℕ) (t : Tree) → i < length ts → t ≡ get_or ts i t → NoneBefore P (elements_of ts) i → P (tree_of t) → IsFirst P (elements_of ts) i
+pub first_at : (P : spec.Tree → Type 0) (ts : List Tree) (i : ℕ) (t : Tree) → i < length ts → t ≡ get_or ts i t → NoneBefore P (elements_of ts) i → P (tree_of t) → IsFirstKey P (elements_of ts) i
 first_at P ts i t within is before p = record { key = tree_of t; at = at_is ts i t within is; is = p; first = before }
 
 pub none_at_all : (P : spec.Tree → Type 0) (ts : List Tree) → NoneBefore P (elements_of ts) (length ts) → (i : ℕ) (u : spec.Tree) → element_at (elements_of ts) i ≡ Some u → P u → ⊥
@@ -39,16 +42,16 @@ none_at_all P ts before i u at p = by_place (cases_lt i (length ts))
 
 -- ---- what a key is not
 
-pub has_code : (t : spec.Tree) (bytes : List ℕ) → IsOct t bytes → HasNoCode t → ⊥
+pub has_code : (t : spec.Tree) (bytes : List ℕ) → IsOct t bytes → IsKeyNotBase64 t → ⊥
 has_code t bytes o n =
     let same : Some o.code ≡ Some n.code = sym o.is ∙ n.is in
     let one : o.code ≡ n.code = cc same in
     n.none bytes (subst (λ code. Decodes code bytes) one o.decodes)
 
-pub of_other_kind : (t : spec.Tree) → oct_code t ≡ None → HasNoCode t → ⊥
+pub of_other_kind : (t : spec.Tree) → oct_text t ≡ None → IsKeyNotBase64 t → ⊥
 of_other_kind t none n = let same : None ≡ Some n.code = sym none ∙ n.is in absurd (cc same)
 
-pub not_short : (t : spec.Tree) (bytes : List ℕ) → IsOct t bytes → 32 ≤ length bytes → IsShort t → ⊥
+pub not_short : (t : spec.Tree) (bytes : List ℕ) → IsOct t bytes → 32 ≤ length bytes → IsKeyShort t → ⊥
 not_short t bytes o enough s =
     let same : Some o.code ≡ Some s.is.code = sym o.is ∙ s.is.is in
     let one : o.code ≡ s.is.code = cc same in
@@ -56,16 +59,16 @@ not_short t bytes o enough s =
     let long : 32 ≤ length s.bytes = subst (λ bs. 32 ≤ length bs) equal enough in
     absurd (omega (arith, long, s.short))
 
-pub no_short : (t : spec.Tree) → oct_code t ≡ None → IsShort t → ⊥
+pub no_short : (t : spec.Tree) → oct_text t ≡ None → IsKeyShort t → ⊥
 no_short t none s = let same : None ≡ Some s.is.code = sym none ∙ s.is.is in absurd (cc same)
 
-pub decoded : (t : spec.Tree) (o : Option (List ℕ)) → (o ≡ None → oct_code t ≡ None) → IfSome o (IsOct t) → HasNoCode t → ⊥
+pub decoded : (t : spec.Tree) (o : Option (List ℕ)) → (o ≡ None → oct_text t ≡ None) → IfSome o (IsOct t) → IsKeyNotBase64 t → ⊥
 decoded t None none oct = of_other_kind t (none refl)
 decoded t (Some bytes) none oct = has_code t bytes oct
 
 -- ---- one element more
 
-pub other_more : (es : Elements) (keys : List NamedKey) (t : spec.Tree) → KeysOf es keys → oct_code t ≡ None → KeysOf (pushed es t) keys
+pub other_more : (es : Elements) (keys : List NamedKey) (t : spec.Tree) → KeysOf es keys → oct_text t ≡ None → KeysOf (pushed es t) keys
 other_more _ _ t no_keys none = other t no_elements [] none no_keys
 other_more _ _ t (other u es keys e more) none = other u (pushed es t) keys e (other_more es keys t more none)
 other_more _ _ t (key u es n keys bytes o enough block name more) none = key u (pushed es t) n keys bytes o enough block name (other_more es keys t more none)
@@ -79,6 +82,6 @@ pub added : (es : Elements) (t : spec.Tree) (old new : List NamedKey) → KeysOf
 added es t old new before (added_none none same) = rw same (other_more es old t before none)
 added es t old new before (added_key named bytes o enough block name more) = rw more (key_more es old t named bytes before o enough block name)
 
-pub added_long : (t : spec.Tree) (old new : List NamedKey) → IsAdded t old new → IsShort t → ⊥
+pub added_long : (t : spec.Tree) (old new : List NamedKey) → IsAdded t old new → IsKeyShort t → ⊥
 added_long t old new (added_none none same) = no_short t none
 added_long t old new (added_key named bytes o enough block name more) = not_short t bytes o enough

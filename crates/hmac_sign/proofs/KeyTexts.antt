@@ -1,7 +1,7 @@
 -- The text of a key says one key.
 use Rattle.std.specs.Result.{result_ok}
 use Rattle.std.proofs.Common.{◌≡◌, ◌≢◌, ℕ, ◌<◌, ◌≤◌, List, length, Option, Result, Ok, Err, IfErr, IfNone, refl, sym, ap, subst, ◌∙◌, arith}
-use Rattle.b64url_text.specs.Base64url.{Decodes, IsNoCode}
+use Rattle.b64url_text.specs.Base64url.{Decodes, IsNotBase64}
 use Rattle.b64url_text.proofs.Codes.{one_code}
 use Rattle.claim_tree.specs.Tree.{Text, leaf, text}
 use Rattle.claim_tree.specs.View.{tree_of}
@@ -28,7 +28,7 @@ same_code t s is h = let both : leaf (text h.1.code) ≡ leaf (text s) = sym h.1
 pub is_key : (t : tree.Tree) (s : Text) (bytes key : List ℕ) → t ≡ tree.Tree.Text s → Decodes s bytes → 32 ≤ length bytes → key ≡ key_block bytes → IsKeyText (tree_of t) key
 is_key t s bytes key is decodes enough key_is = record { code = s; is = ap tree_of is; bytes = bytes; decodes = decodes; enough = enough; key_is = key_is }
 
-pub odd_key : (t : tree.Tree) (s : Text) → t ≡ tree.Tree.Text s → IsNoCode s → HasValue IsKeyText (tree_of t) → ⊥
+pub odd_key : (t : tree.Tree) (s : Text) → t ≡ tree.Tree.Text s → IsNotBase64 s → HasValue IsKeyText (tree_of t) → ⊥
 odd_key t s is none h = none h.1.bytes (subst (λ code. Decodes code h.1.bytes) (same_code t s is h) h.1.decodes)
 
 pub short_key : (t : tree.Tree) (s : Text) (bytes : List ℕ) → t ≡ tree.Tree.Text s → Decodes s bytes → length bytes < 32 → HasValue IsKeyText (tree_of t) → ⊥

@@ -1,7 +1,7 @@
 -- Key sets (RFC 7517 section 5): an object whose `keys` is an array of keys.
 use Rattle.std.specs.Prelude.{◌≡◌, ℕ, ◌<◌, ◌≤◌, List, [], ◌∷◌, ◌++◌, Option, Some, None, Bool, true, false, ◌&&◌, length, codes, is_some, option_and_then, if◌then◌else◌}
 use Rattle.sd_outside.specs.Limits.{key_min}
-use Rattle.b64url_text.specs.Base64url.{Decodes, IsNoCode}
+use Rattle.b64url_text.specs.Base64url.{Decodes, IsNotBase64}
 use Rattle.claim_tree.specs.Tree.{Text, Tree, array, Elements, no_elements, element, element_at, get, text_of, has_text}
 use Rattle.hmac_sign.specs.Hmac.{key_block}
 use Rattle.hmac_sign.specs.declared.key_set.NamedKey.{NamedKey}
@@ -38,61 +38,20 @@ are_keys no_elements = true
 are_keys (element t es) = is_key t && are_keys es
 
 -- the `k` of a key of the kind `oct`
-abbrev pub oct_code : Tree → Option Text
-oct_code t = if is_oct t then text_under t (codes "k") else None
+abbrev pub oct_text : Tree → Option Text
+oct_text t = if is_oct t then text_under t (codes "k") else None
 
 -- a key of the kind `oct`, whose `k` is the code of these bytes
 pub record IsOct (t : Tree) (bytes : List ℕ) : Type 0 where
   pub code : Text
-  pub is : oct_code t ≡ Some code
+  pub is : oct_text t ≡ Some code
   pub decodes : Decodes code bytes
-
--- its `k` is the code of no bytes
-pub record HasNoCode (t : Tree) : Type 0 where
-  pub code : Text
-  pub is : oct_code t ≡ Some code
-  pub none : IsNoCode code
-
--- its `k` is the code of fewer bytes than a key has
-pub record IsShort (t : Tree) : Type 0 where
-  pub bytes : List ℕ
-  pub is : IsOct t bytes
-  pub short : length bytes < key_min
-
--- none of the first elements is such
-abbrev pub NoneBefore : (Tree → Type 0) → Elements → ℕ → Type 0
-NoneBefore P es place = (i : ℕ) (t : Tree) → i < place → element_at es i ≡ Some t → P t → ⊥
-
--- the first element that is such
-pub record IsFirst (P : Tree → Type 0) (es : Elements) (place : ℕ) : Type 0 where
-  pub key : Tree
-  pub at : element_at es place ≡ Some key
-  pub is : P key
-  pub first : NoneBefore P es place
 
 -- the keys of the kind `oct`, in their order, each with its `kid` where there is one
 pub data KeysOf : Elements → List NamedKey → Type 0 where
   no_keys : KeysOf no_elements []
-  other : (t : Tree) (es : Elements) (keys : List NamedKey) → oct_code t ≡ None → KeysOf es keys → KeysOf (element t es) keys
+  other : (t : Tree) (es : Elements) (keys : List NamedKey) → oct_text t ≡ None → KeysOf es keys → KeysOf (element t es) keys
   key : (t : Tree) (es : Elements) (named : NamedKey) (keys : List NamedKey) (bytes : List ℕ) → IsOct t bytes → key_min ≤ length bytes → named.key ≡ key_block bytes → named.kid ≡ text_under t (codes "kid") → KeysOf es keys → KeysOf (element t es) (named ∷ keys)
-
--- what one element adds to the keys; only private functions cite this
-pub data IsAdded (t : Tree) (old new : List NamedKey) : Type 0 where
-  added_none : oct_code t ≡ None → new ≡ old → IsAdded t old new
-  added_key : (named : NamedKey) (bytes : List ℕ) → IsOct t bytes → key_min ≤ length bytes → named.key ≡ key_block bytes → named.kid ≡ text_under t (codes "kid") → new ≡ old ++ named ∷ [] → IsAdded t old new
-
--- the refusals of the codes alone, and of the lengths alone; only private functions cite these
-abbrev pub IsOfCodes : KeySetError → Type 0
-IsOfCodes Memory = Unit {0}
-IsOfCodes NotASet = ⊥
-IsOfCodes (KeyNotBase64 place) = Unit {0}
-IsOfCodes (KeyShort place) = ⊥
-
-abbrev pub IsOfLengths : KeySetError → Type 0
-IsOfLengths Memory = Unit {0}
-IsOfLengths NotASet = ⊥
-IsOfLengths (KeyNotBase64 place) = ⊥
-IsOfLengths (KeyShort place) = Unit {0}
 
 -- ---- what a reading answers
 
@@ -101,26 +60,6 @@ pub record IsKeySet (t : Tree) (keys : List NamedKey) : Type 0 where
   pub stand : keys_under t ≡ Some elements
   pub good : are_keys elements ≡ true
   pub keys_are : KeysOf elements keys
-
--- there is no array `keys`, or an element of it is no key
-pub data IsNoKeySet (t : Tree) : Type 0 where
-  no_array : keys_under t ≡ None → IsNoKeySet t
-  no_key : (es : Elements) → keys_under t ≡ Some es → are_keys es ≡ false → IsNoKeySet t
-
--- the key at the place is the first whose `k` is no code
-pub record NoCodeAt (t : Tree) (place : ℕ) : Type 0 where
-  pub elements : Elements
-  pub stand : keys_under t ≡ Some elements
-  pub good : are_keys elements ≡ true
-  pub first : IsFirst HasNoCode elements place
-
--- each `k` is a code, and the key at the place is the first that is too short
-pub record ShortAt (t : Tree) (place : ℕ) : Type 0 where
-  pub elements : Elements
-  pub stand : keys_under t ≡ Some elements
-  pub good : are_keys elements ≡ true
-  pub codes_are : (i : ℕ) (u : Tree) → element_at elements i ≡ Some u → HasNoCode u → ⊥
-  pub first : IsFirst IsShort elements place
 
 -- the first key of this name
 abbrev pub key_named : List NamedKey → Text → Option (List ℕ)

@@ -3,7 +3,3 @@ use Rattle.std.specs.Prelude.{◌↔◌, ℕ, List}
 
 abbrev pub Meaning : Type 1
 Meaning = List ℕ → List ℕ → List ℕ → Type 0
-
--- the same signatures are good
-abbrev pub Agree : Meaning → Meaning → Type 0
-Agree good other = (head body signature : List ℕ) → good head body signature ↔ other head body signature

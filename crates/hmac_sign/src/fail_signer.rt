@@ -2,7 +2,7 @@ ghost use Rattle.std.specs.Prelude.{◌≡◌, ◌<◌, ◌≤◌, ◌↔◌, le
 ghost use Rattle.sd_outside.specs.Causes.{Rose};
 ghost use Rattle.hmac_sign.specs.FailState.{after_call};
 ghost use Rattle.hmac_sign.specs.Hmac.{IsGood};
-ghost use Rattle.hmac_sign.specs.Signatures.{Agree};
+ghost use Rattle.hmac_sign.specs.Agreement.{Agree};
 
 use crate::{Alg, Hs256Key, SignError, Signatures, Signer};
 use sd_outside::ByteBox;

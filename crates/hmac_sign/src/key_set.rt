@@ -1,6 +1,7 @@
 // Sets of keys.
 ghost use Rattle.std.specs.Prelude.{◌≡◌, ℕ, IfOk, IsErrOf, option_map, slice_get};
-ghost use Rattle.hmac_sign.specs.Keys.{IsKeySet, IsNoKeySet, NoCodeAt, ShortAt, key_named};
+ghost use Rattle.hmac_sign.specs.Keys.{IsKeySet, key_named};
+ghost use Rattle.hmac_sign.specs.KeyRefusals.{IsNoKeySet, KeyNotBase64At, KeyShortAt};
 ghost use Rattle.claim_tree.specs.Tree.{has_text};
 ghost use Rattle.hmac_sign.specs.declared.key_set.KeySetError.{KeySetError};
 ghost use Rattle.claim_tree.specs.View.{tree_of};
@@ -72,8 +73,8 @@ impl KeySet {
     pub fn read(alloc: Global, tree: &Tree) -> Result<KeySet, KeySetError>
         ensures ok { IfOk result (IsKeySet (tree_of tree.now)) }
         ensures not_a_set { IsErrOf result KeySetError.NotASet → IsNoKeySet (tree_of tree.now) }
-        ensures not_base64 { (place : ℕ) → IsErrOf result (KeySetError.KeyNotBase64 place) → NoCodeAt (tree_of tree.now) place }
-        ensures short { (place : ℕ) → IsErrOf result (KeySetError.KeyShort place) → ShortAt (tree_of tree.now) place }
+        ensures not_base64 { (place : ℕ) → IsErrOf result (KeySetError.KeyNotBase64 place) → KeyNotBase64At (tree_of tree.now) place }
+        ensures short { (place : ℕ) → IsErrOf result (KeySetError.KeyShort place) → KeyShortAt (tree_of tree.now) place }
     {
         let Some(Tree::List(list)) = get(tree, "keys") else {
             return Err(KeySetError::NotASet);

@@ -1,7 +1,8 @@
 // The text of a key, as the files that a command reads have it.
 ghost use Rattle.std.specs.Prelude.{◌≡◌, ◌≤◌, ◌<◌, length, IfOk, IfErr, IfSome, IfNone};
 ghost use Rattle.claim_tree.specs.View.{tree_of};
-ghost use Rattle.claim_tree.specs.FileForms.{HasValue, Says, IsMemberRefused, required, found};
+ghost use Rattle.claim_tree.specs.FileForms.{HasValue, Says, required, found};
+ghost use Rattle.claim_tree.specs.FileRefusals.{IsMemberRefused};
 ghost use Rattle.hmac_sign.specs.KeyText.{IsKeyText};
 
 use crate::Hs256Key;

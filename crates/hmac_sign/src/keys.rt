@@ -2,9 +2,11 @@
 ghost use Rattle.std.specs.Prelude.{◌≡◌, None, length, codes, IfOk, IfErr, OnOk, IsErrOf, IfSome, ℕ, ◌≤◌, ◌<◌, option_map};
 ghost use Rattle.sd_outside.specs.Limits.{key_min};
 ghost use Rattle.claim_tree.specs.Tree.{get as get_of};
-ghost use Rattle.claim_tree.specs.View.{tree_of, elements_of};
+ghost use Rattle.claim_tree.specs.View.{tree_of};
+ghost use Rattle.claim_tree.specs.ListViews.{elements_of};
 ghost use Rattle.hmac_sign.specs.Keys as spec;
-ghost use Rattle.hmac_sign.specs.Keys.{KeysOf, NoneBefore, IsFirst, IsOct, HasNoCode, IsShort, IsAdded, IsOfCodes, IsOfLengths};
+ghost use Rattle.hmac_sign.specs.Keys.{KeysOf, IsOct};
+ghost use Rattle.hmac_sign.specs.KeyRefusals.{NoneBefore, IsFirstKey, IsKeyNotBase64, IsKeyShort, IsAdded, IsOfCodes, IsOfLengths};
 ghost use Rattle.hmac_sign.specs.Hmac.{key_block};
 ghost use Rattle.hmac_sign.specs.declared.key_set.KeySetError.{KeySetError};
 
@@ -66,7 +68,7 @@ pub(crate) fn are_keys(trees: &[Tree]) -> bool
 
 // The `k` of a key of the kind `oct`.
 fn oct_code(tree: &Tree) -> Option<&str>
-    ensures { option_map (λ text. text.now) result ≡ spec.oct_code (tree_of tree.now) }
+    ensures { option_map (λ text. text.now) result ≡ spec.oct_text (tree_of tree.now) }
 {
     if is_oct(tree) {
         text_under(tree, "k")
@@ -77,9 +79,9 @@ fn oct_code(tree: &Tree) -> Option<&str>
 
 // The bytes of a key of the kind `oct`, and None of another.
 fn oct_bytes(alloc: Global, tree: &Tree) -> Result<Option<ByteBox>, DecodeError>
-    ensures other { IfOk result (λ bytes. bytes ≡ None → spec.oct_code (tree_of tree.now) ≡ None) }
+    ensures other { IfOk result (λ bytes. bytes ≡ None → spec.oct_text (tree_of tree.now) ≡ None) }
     ensures oct { IfOk result (λ bytes. IfSome bytes (IsOct (tree_of tree.now))) }
-    ensures not_base64 { IsErrOf result DecodeError.NotBase64 → HasNoCode (tree_of tree.now) }
+    ensures not_base64 { IsErrOf result DecodeError.NotBase64 → IsKeyNotBase64 (tree_of tree.now) }
 {
     match oct_code(tree) {
         Some(code) => Ok(Some(decode(alloc, code.as_bytes())?)),
@@ -99,8 +101,8 @@ fn kid_of(alloc: Global, tree: &Tree) -> Result<Option<TextBox>, NoMemory>
 
 // Finds the first key whose `k` is no code.
 pub(crate) fn all_decode(alloc: Global, trees: &[Tree]) -> Result<(), KeySetError>
-    ensures codes { OnOk result (NoneBefore HasNoCode (elements_of trees.now) (length trees.now)) }
-    ensures no_code { (place : ℕ) → IsErrOf result (KeySetError.KeyNotBase64 place) → IsFirst HasNoCode (elements_of trees.now) place }
+    ensures codes { OnOk result (NoneBefore IsKeyNotBase64 (elements_of trees.now) (length trees.now)) }
+    ensures no_code { (place : ℕ) → IsErrOf result (KeySetError.KeyNotBase64 place) → IsFirstKey IsKeyNotBase64 (elements_of trees.now) place }
     ensures no_other { IfErr result IsOfCodes }
 {
     for (place, tree) in trees.iter().enumerate() {
@@ -140,9 +142,9 @@ fn add_key(
     place: usize,
     keys: &mut Vec<NamedKey>,
 ) -> Result<(), KeySetError>
-    requires { HasNoCode (tree_of tree.now) → ⊥ }
+    requires { IsKeyNotBase64 (tree_of tree.now) → ⊥ }
     ensures ok { OnOk result (IsAdded (tree_of tree.now) keys.old.items keys.new.items) }
-    ensures short { (at : ℕ) → IsErrOf result (KeySetError.KeyShort at) → (at ≡ place) × IsShort (tree_of tree.now) }
+    ensures short { (at : ℕ) → IsErrOf result (KeySetError.KeyShort at) → (at ≡ place) × IsKeyShort (tree_of tree.now) }
     ensures no_other { IfErr result IsOfLengths }
 {
     match oct_bytes(alloc, tree) {
@@ -158,9 +160,9 @@ fn add_key(
 
 // The keys of the kind `oct`.
 pub(crate) fn make_keys(alloc: Global, trees: &[Tree]) -> Result<Vec<NamedKey>, KeySetError>
-    requires { NoneBefore HasNoCode (elements_of trees.now) (length trees.now) }
+    requires { NoneBefore IsKeyNotBase64 (elements_of trees.now) (length trees.now) }
     ensures ok { IfOk result (λ keys. KeysOf (elements_of trees.now) keys.items) }
-    ensures short { (place : ℕ) → IsErrOf result (KeySetError.KeyShort place) → IsFirst IsShort (elements_of trees.now) place }
+    ensures short { (place : ℕ) → IsErrOf result (KeySetError.KeyShort place) → IsFirstKey IsKeyShort (elements_of trees.now) place }
     ensures no_other { IfErr result IsOfLengths }
 {
     let mut keys = Vec::new(alloc);

@@ -1,6 +1,7 @@
 ghost use Rattle.std.specs.Prelude.{◌≡◌, ◌<◌, ◌≤◌, ◌↔◌, ℕ, length, IfOk, IsTrue, IsErrOf};
 ghost use Rattle.sd_outside.specs.Causes.{Rose};
-ghost use Rattle.hmac_sign.specs.Signatures.{Agree, Meaning};
+ghost use Rattle.hmac_sign.specs.Signatures.{Meaning};
+ghost use Rattle.hmac_sign.specs.Agreement.{Agree};
 ghost use Rattle.hmac_sign.specs.declared.sign.Alg.{Alg};
 ghost use Rattle.hmac_sign.specs.declared.sign.SignError.TheVariants.{Memory};
 

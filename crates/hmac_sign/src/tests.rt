@@ -1,5 +1,5 @@
 ghost use Rattle.std.specs.Prelude.{IfOk, IsTrue};
-ghost use Rattle.hmac_sign.specs.Signatures.{Agree};
+ghost use Rattle.hmac_sign.specs.Agreement.{Agree};
 
 use crate::{Checker, FailSigner, Hs256Key, KeyShort, SignError, Signer, hmac_sha256};
 use b64url_text::{decode, encode};

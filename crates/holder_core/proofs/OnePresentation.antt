@@ -2,7 +2,7 @@
 use Rattle.std.proofs.Common.{◌≡◌, ◌≢◌, ◌⊎◌, inl, inr, ℕ, ◌<◌, ◌≤◌, Bool, true, false, List, length, Option, None, Some, refl, sym, ap, ap₂, subst, ◌∙◌, arith}
 use Rattle.b64url_text.specs.Base64url.{b64}
 use Rattle.claim_tree.specs.Tree.{Text}
-use Rattle.claim_tree.specs.Lists.{IsLeast, Nowhere}
+use Rattle.claim_tree.specs.Lists.{IsLeast, AtNone}
 use Rattle.compact_form.specs.Compact.{compact, hashed}
 use Rattle.compact_form.specs.Lowest.{IsLowest}
 use Rattle.compact_form.specs.declared.fault.Fault.{Fault}
@@ -15,11 +15,10 @@ use Rattle.json_form.proofs.Tokens as tokens
 use Rattle.json_form.specs.Token.{IsToken}
 use Rattle.json_form.specs.declared.token.Token.{Token}
 use Rattle.key_binding.specs.Binding.{IsBinding}
-use Rattle.marked_tree.specs.Choice.{chosen}
 use Rattle.marked_tree.specs.Marked.{Marked, strip}
-use Rattle.marked_tree.specs.Places.{Path}
-use Rattle.selection_core.specs.Consent.{Answers, Allows, AllAllowed, IsRefusedAt}
-use Rattle.selection_core.specs.Refusals.{IsMissing}
+use Rattle.marked_tree.specs.Paths.{Path, chosen}
+use Rattle.selection_core.specs.Consent.{RuleAnswers, Allows, AllAllowed, IsRefusedAt}
+use Rattle.selection_core.specs.ChoiceRefusals.{IsMissing}
 use Rattle.verifier_core.specs.Verdict.{TokenFails}
 use Rattle.verifier_core.proofs.Verdicts.{one_opening, one_hash}
 use Rattle.verifier_core.proofs.OneVerdict.{one_token_fault}
@@ -27,10 +26,10 @@ use Rattle.holder_core.specs.declared.ask.Ask.{Ask}
 use Rattle.holder_core.specs.declared.ask.BindingAsk.{BindingAsk}
 use Rattle.holder_core.specs.declared.errors.PresentError.{PresentError}
 use Rattle.holder_core.specs.declared.errors.PresentError.TheVariants.{Memory, Token as OnCondition, HasBinding, NoSuchPlace, ConsentRefused, BindingKeyDiffers, SignFailed, TooLong}
-use Rattle.holder_core.specs.Present.{picked, shown, rules_of, IsHeld, NamesKey, IsBoundWith, IsAnswer, IsNotThere, IsDenied, IsKeyOther, Refuses, IsPresented, IsNotPresented, no_memory, not_read, refused}
+use Rattle.holder_core.specs.Present.{picked, shown, held_rules, IsHeld, NamesKey, IsBoundWith, IsAnswer, IsWantedNotThere, IsConsentRefused, IsBindingKeyOther, IsNoAnswer, IsPresented, IsNotPresented, no_memory, not_read, refused}
 
 -- the rule does not both allow and refuse a place
-abbrev pub IsDecided : {F : Type 0} → Answers F → F → Type 0
+abbrev pub IsDecided : {F : Type 0} → RuleAnswers F → F → Type 0
 IsDecided answers rule = (at : Path) → Allows answers rule at true → Allows answers rule at false → ⊥
 
 -- no two signatures of a text are good
@@ -71,7 +70,7 @@ least_one P i j h k = go (either i j)
     go (inr (inl more)) = absurd (h.first j more k.fails)
     go (inr (inr same)) = same
 
-refused_one : {F : Type 0} (answers : Answers F) (rule : F) → IsDecided answers rule → (m : Marked) (s : ℕ → Bool) (i j : ℕ) → IsRefusedAt answers rule m s i → IsRefusedAt answers rule m s j → i ≡ j
+refused_one : {F : Type 0} (answers : RuleAnswers F) (rule : F) → IsDecided answers rule → (m : Marked) (s : ℕ → Bool) (i j : ℕ) → IsRefusedAt answers rule m s i → IsRefusedAt answers rule m s j → i ≡ j
 refused_one answers rule decided m s i j h k = go (either i j)
   where
     either : (a b : ℕ) → (a < b) ⊎ ((b < a) ⊎ (a ≡ b))
@@ -82,12 +81,12 @@ refused_one answers rule decided m s i j h k = go (either i j)
     go (inr (inl more)) = absurd (decided k.at (h.smaller j k.at more k.chosen k.stands) k.refused)
     go (inr (inr same)) = same
 
-module _ {F : Type 0} (answers : Answers F) (rule : F) (decided : IsDecided answers rule) (content : Text) (token : Token) (is : IsToken content token) (ask : Ask) (good : Meaning) (once : HasOneSignature good) (now : ℕ) where
+module _ {F : Type 0} (answers : RuleAnswers F) (rule : F) (decided : IsDecided answers rule) (content : Text) (token : Token) (is : IsToken content token) (ask : Ask) (good : Meaning) (once : HasOneSignature good) (now : ℕ) where
   one_marked : (m n : Marked) → IsHeld token ask m → IsHeld token ask n → m ≡ n
   one_marked m n h k = one_opening token m n h.checked.opens k.checked.opens
 
-  one_fault : (f g : Fault) → IsLowest (TokenFails token (rules_of ask.keys)) f → IsLowest (TokenFails token (rules_of ask.keys)) g → f ≡ g
-  one_fault f g h k = one_token_fault token (rules_of ask.keys) f g h k
+  one_fault : (f g : Fault) → IsLowest (TokenFails token (held_rules ask.keys)) f → IsLowest (TokenFails token (held_rules ask.keys)) g → f ≡ g
+  one_fault f g h k = one_token_fault token (held_rules ask.keys) f g h k
 
   -- the answer is one
   pub one_answer : (a b : Parts) → IsAnswer answers rule token ask good now a → IsAnswer answers rule token ask good now b → a ≡ b
@@ -104,24 +103,24 @@ module _ {F : Type 0} (answers : Answers F) (rule : F) (decided : IsDecided answ
 
   -- ---- what a step rules out
 
-  no_fault : (f : Fault) (m : Marked) → IsLowest (TokenFails token (rules_of ask.keys)) f → IsHeld token ask m → ⊥
+  no_fault : (f : Fault) (m : Marked) → IsLowest (TokenFails token (held_rules ask.keys)) f → IsHeld token ask m → ⊥
   no_fault f m l h = h.checked.passes l.failed f.place l.fails
 
-  no_missing : (k : ℕ) (m : Marked) → IsNotThere token ask k → IsHeld token ask m → Nowhere (IsMissing (strip m) ask.want) → ⊥
-  no_missing k m h held there = subst (λ (x : Marked). Nowhere (IsMissing (strip x) ask.want)) (one_marked m h.marked held h.held) there k h.missing.fails
+  no_missing : (k : ℕ) (m : Marked) → IsWantedNotThere token ask k → IsHeld token ask m → AtNone (IsMissing (strip m) ask.want) → ⊥
+  no_missing k m h held there = subst (λ (x : Marked). AtNone (IsMissing (strip x) ask.want)) (one_marked m h.marked held h.held) there k h.missing.fails
 
-  no_denied : (i : ℕ) (m : Marked) → IsDenied answers rule token ask i → IsHeld token ask m → AllAllowed answers rule m (chosen m ask.want) → ⊥
+  no_denied : (i : ℕ) (m : Marked) → IsConsentRefused answers rule token ask i → IsHeld token ask m → AllAllowed answers rule m (chosen m ask.want) → ⊥
   no_denied i m h held allowed =
       let all = subst (λ (x : Marked). AllAllowed answers rule x (chosen x ask.want)) (one_marked m h.marked held h.held) allowed in
       decided h.refused.at (all i h.refused.at h.refused.chosen h.refused.stands) h.refused.refused
 
-  no_other : (m : Marked) → IsKeyOther answers rule token ask → IsHeld token ask m → NamesKey ask.binding (shown m (chosen m ask.want)) → ⊥
+  no_other : (m : Marked) → IsBindingKeyOther answers rule token ask → IsHeld token ask m → NamesKey ask.binding (shown m (chosen m ask.want)) → ⊥
   no_other m h held key =
       let there = subst (λ (x : Marked). NamesKey ask.binding (shown x (chosen x ask.want))) (one_marked m h.marked held h.agreed.held) key in
       h.differs (subst (λ (b : Option BindingAsk). NamesKey b (shown h.marked (chosen h.marked ask.want))) h.asked_for there)
 
   -- a token that is presented is not refused
-  pub answered_not_refused : (a : Parts) (e : PresentError) → IsAnswer answers rule token ask good now a → length (compact a) ≤ compact_max → Refuses answers rule token ask good now e → (e ≡ Memory) ⊎ (e ≡ SignFailed)
+  pub answered_not_refused : (a : Parts) (e : PresentError) → IsAnswer answers rule token ask good now a → length (compact a) ≤ compact_max → IsNoAnswer answers rule token ask good now e → (e ≡ Memory) ⊎ (e ≡ SignFailed)
   answered_not_refused a Memory h short r = inl refl
   answered_not_refused a SignFailed h short r = inr refl
   answered_not_refused a HasBinding h short r = absurd (r h.agreed.held.unbound)
@@ -136,7 +135,7 @@ module _ {F : Type 0} (answers : Answers F) (rule : F) (decided : IsDecided answ
 
   -- a token is refused for one cause, beside want of memory and a signer that fails
   abbrev IsRefusal : PresentError → Type 0
-  IsRefusal e = Refuses answers rule token ask good now e
+  IsRefusal e = IsNoAnswer answers rule token ask good now e
 
   pub one_refusal : (e o : PresentError) → e ≢ Memory → e ≢ SignFailed → o ≢ Memory → o ≢ SignFailed → IsRefusal e → IsRefusal o → e ≡ o
   one_refusal Memory o a b c d x y = absurd (a refl)
@@ -192,7 +191,7 @@ module _ {F : Type 0} (answers : Answers F) (rule : F) (decided : IsDecided answ
 
 -- ---- the same of a text
 
-module _ {F : Type 0} (answers : Answers F) (rule : F) (decided : IsDecided answers rule) (content : Text) (ask : Ask) (good : Meaning) (once : HasOneSignature good) (now : ℕ) where
+module _ {F : Type 0} (answers : RuleAnswers F) (rule : F) (decided : IsDecided answers rule) (content : Text) (ask : Ask) (good : Meaning) (once : HasOneSignature good) (now : ℕ) where
   pub one_presented : (a b : Parts) → IsPresented answers rule content ask good now a → IsPresented answers rule content ask good now b → a ≡ b
   one_presented a b h k =
       one_answer answers rule decided content k.token k.is_token ask good once now a b
@@ -213,4 +212,4 @@ module _ {F : Type 0} (answers : Answers F) (rule : F) (decided : IsDecided answ
   one_cause e o a b c d (not_read f is r) (refused token there q) = absurd (tokens.not_both content token f there r)
   one_cause e o a b c d (refused token there r) (not_read g is q) = absurd (tokens.not_both content token g there q)
   one_cause e o a b c d (refused token there r) (refused other here q) =
-      one_refusal answers rule decided content other here ask good once now e o a b c d (subst (λ (t : Token). Refuses answers rule t ask good now e) (tokens.one content token other there here) r) q
+      one_refusal answers rule decided content other here ask good once now e o a b c d (subst (λ (t : Token). IsNoAnswer answers rule t ask good now e) (tokens.one content token other there here) r) q

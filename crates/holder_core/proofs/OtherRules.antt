@@ -4,16 +4,15 @@ use Rattle.claim_tree.specs.Tree.{Text}
 use Rattle.compact_form.specs.declared.parts.Parts.{Parts}
 use Rattle.hmac_sign.specs.Signatures.{Meaning}
 use Rattle.json_form.specs.declared.token.Token.{Token}
-use Rattle.marked_tree.specs.Choice.{chosen}
 use Rattle.marked_tree.specs.Marked.{Marked}
-use Rattle.marked_tree.specs.Places.{Path}
-use Rattle.selection_core.specs.Consent.{Answers, Allows, AllAllowed, IsRefusedAt}
+use Rattle.marked_tree.specs.Paths.{Path, chosen}
+use Rattle.selection_core.specs.Consent.{RuleAnswers, Allows, AllAllowed, IsRefusedAt}
 use Rattle.holder_core.specs.declared.ask.Ask.{Ask}
 use Rattle.holder_core.specs.declared.errors.PresentError.{PresentError}
 use Rattle.holder_core.specs.declared.errors.PresentError.TheVariants.{Memory, Token as OnCondition, HasBinding, NoSuchPlace, ConsentRefused, BindingKeyDiffers, SignFailed, TooLong}
-use Rattle.holder_core.specs.Present.{IsAgreed, IsAnswer, Refuses, IsPresented, IsNotPresented, no_memory, not_read, refused}
+use Rattle.holder_core.specs.Present.{IsAgreed, IsAnswer, IsNoAnswer, IsPresented, IsNotPresented, no_memory, not_read, refused}
 
-module _ {F G : Type 0} {answers : Answers F} {rule : F} (others : Answers G) (other : G) (carries : (at : Path) (b : Bool) → Allows answers rule at b → Allows others other at b) where
+module _ {F G : Type 0} {answers : RuleAnswers F} {rule : F} (others : RuleAnswers G) (other : G) (carries : (at : Path) (b : Bool) → Allows answers rule at b → Allows others other at b) where
   all_allowed : (m : Marked) (s : ℕ → Bool) → AllAllowed answers rule m s → AllAllowed others other m s
   all_allowed m s h i at kept stands = carries at true (h i at kept stands)
 
@@ -41,7 +40,7 @@ module _ {F G : Type 0} {answers : Answers F} {rule : F} (others : Answers G) (o
       bound = h.bound;
     }
 
-    refusal : (e : PresentError) → Refuses answers rule token ask good now e → Refuses others other token ask good now e
+    refusal : (e : PresentError) → IsNoAnswer answers rule token ask good now e → IsNoAnswer others other token ask good now e
     refusal Memory h = h
     refusal HasBinding h = h
     refusal (OnCondition fault) h = h
@@ -52,15 +51,15 @@ module _ {F G : Type 0} {answers : Answers F} {rule : F} (others : Answers G) (o
     refusal TooLong h = record { answer = h.answer; is_answer = answer h.answer h.is_answer; long = h.long }
 
 -- the fact comes first, and tells the rule
-pub presented_by : {F G : Type 0} {answers : Answers F} {rule : F} (content : Text) (ask : Ask) (good : Meaning) (now : ℕ) (r : Result Parts PresentError)
-    → IfOk r (IsPresented answers rule content ask good now) → (others : Answers G) (other : G)
+pub presented_by : {F G : Type 0} {answers : RuleAnswers F} {rule : F} (content : Text) (ask : Ask) (good : Meaning) (now : ℕ) (r : Result Parts PresentError)
+    → IfOk r (IsPresented answers rule content ask good now) → (others : RuleAnswers G) (other : G)
     → ((at : Path) (b : Bool) → Allows answers rule at b → Allows others other at b) → IfOk r (IsPresented others other content ask good now)
 presented_by content ask good now (Ok a) h others other carries =
     record { token = h.token; is_token = h.is_token; is_answer = answer others other carries h.token ask good now a h.is_answer }
 presented_by content ask good now (Err e) h others other carries = tt
 
-pub not_presented_by : {F G : Type 0} {answers : Answers F} {rule : F} (content : Text) (ask : Ask) (good : Meaning) (now : ℕ) (r : Result Parts PresentError)
-    → IfErr r (IsNotPresented answers rule content ask good now) → (others : Answers G) (other : G)
+pub not_presented_by : {F G : Type 0} {answers : RuleAnswers F} {rule : F} (content : Text) (ask : Ask) (good : Meaning) (now : ℕ) (r : Result Parts PresentError)
+    → IfErr r (IsNotPresented answers rule content ask good now) → (others : RuleAnswers G) (other : G)
     → ((at : Path) (b : Bool) → Allows answers rule at b → Allows others other at b) → IfErr r (IsNotPresented others other content ask good now)
 not_presented_by content ask good now (Ok a) h others other carries = tt
 not_presented_by content ask good now (Err e) (no_memory is) others other carries = no_memory is

@@ -3,7 +3,7 @@ use Rattle.std.proofs.Common.{◌≡◌, ◌⊎◌, inl, inr, ℕ, zero, suc, �
 use Rattle.std.specs.Prelude.{if◌then◌else◌}
 use Rattle.std.specs.List.{AllZip}
 use Rattle.claim_tree.specs.Tree.{Text}
-use Rattle.claim_tree.specs.Lists.{At, In}
+use Rattle.claim_tree.specs.Lists.{StandsAt, In}
 use Rattle.digest_sites.specs.Given.{Given}
 use Rattle.marked_tree.specs.Numbers.{AllAbove, IsRising}
 use Rattle.marked_tree.proofs.NumberSets.{rising_distinct}
@@ -67,7 +67,7 @@ enumerates s n below = record {
 
 -- the element at a place of the rest is that at a later place of the whole
 abbrev Behind : List Given → ℕ → List Given → Type 0
-Behind g first rest = (k : ℕ) (x : Given) → At rest k x → At g (first + k) x
+Behind g first rest = (k : ℕ) (x : Given) → StandsAt rest k x → StandsAt g (first + k) x
 
 pick_from : (s : ℕ → Bool) (g : List Given) (first : ℕ) (rest : List Given) → Behind g first rest → IsPick g (numbers s first (length rest)) (picked (λ k. s (first + k)) rest)
 pick_from s g first [] behind = tt
@@ -77,13 +77,13 @@ pick_from s g first (x ∷ rest) behind = go (s first) (s (first + 0)) (ap s zer
     zero_right = omega arith
 
     later : Behind g (suc first) rest
-    later k y there = subst (λ n. At g n y) (omega arith) (behind (suc k) y there)
+    later k y there = subst (λ n. StandsAt g n y) (omega arith) (behind (suc k) y there)
 
     more : picked (λ k. s (suc first + k)) rest ≡ picked (λ k. s (first + suc k)) rest
     more = picked_same (λ k. s (suc first + k)) (λ k. s (first + suc k)) (λ k. ap s (omega arith)) rest
 
-    here : At g first x
-    here = subst (λ n. At g n x) (sym zero_right) (behind 0 x refl)
+    here : StandsAt g first x
+    here = subst (λ n. StandsAt g n x) (sym zero_right) (behind 0 x refl)
 
     go : (b c : Bool) → b ≡ c → IsPick g (numbers s (suc first) (length rest)) (picked (λ k. s (first + suc k)) rest)
         → IsPick g (if b then first ∷ numbers s (suc first) (length rest) else numbers s (suc first) (length rest)) (if c then x ∷ picked (λ k. s (first + suc k)) rest else picked (λ k. s (first + suc k)) rest)
@@ -95,7 +95,7 @@ pick_from s g first (x ∷ rest) behind = go (s first) (s (first + 0)) (ap s zer
 pub is_pick : (s : ℕ → Bool) (g : List Given) → IsPick g (numbers s 0 (length g)) (picked s g)
 is_pick s g =
     subst (IsPick g (numbers s 0 (length g))) (picked_same (λ k. s (0 + k)) s (λ k. ap s (zero_left k)) g)
-    (pick_from s g 0 g (λ k x there. subst (λ n. At g n x) (sym (zero_left k)) there))
+    (pick_from s g 0 g (λ k x there. subst (λ n. StandsAt g n x) (sym (zero_left k)) there))
   where
     zero_left : (k : ℕ) → 0 + k ≡ k
     zero_left k = omega arith

@@ -15,7 +15,7 @@ use Rattle.hmac_sign.proofs.KeySetVerdicts.{one_key_set}
 use Rattle.key_binding.specs.ShortText.{IsShortText}
 use Rattle.claim_tree.specs.FileLists.{IsListOf, IsPointer}
 use Rattle.hmac_sign.specs.KeyText.{IsKeyText}
-use Rattle.holder_core.specs.PresentFile.{BindingSaid, IsBindingOrder, both, present_table, IsPresentFile, IsPresentRefused}
+use Rattle.holder_core.specs.PresentFile.{BindingSaid, IsBindingOrder, both, present_table, IsPresentFile, IsPresentFileRefused}
 use Rattle.holder_core.specs.declared.ask.BindingAsk.{BindingAsk}
 use Rattle.holder_core.specs.declared.present_file.PresentFile.{PresentFile}
 use Rattle.claim_tree.proofs.ListForms.{one_list, one_pointer}
@@ -78,7 +78,7 @@ one_present bytes p q h k =
     ∙ (ap (λ x. made q.ask.keys q.ask.want x p.never p.key) parts.0
     ∙ (ap (λ x. made q.ask.keys q.ask.want q.ask.binding x p.key) never ∙ ap (λ x. made q.ask.keys q.ask.want q.ask.binding q.never x) parts.1)))
 
-pub not_both : (bytes : Text) (said : PresentFile) (fault : FileFault) → IsPresentFile bytes said → IsPresentRefused bytes fault → fault ≡ FileFault.Memory
+pub not_both : (bytes : Text) (said : PresentFile) (fault : FileFault) → IsPresentFile bytes said → IsPresentFileRefused bytes fault → fault ≡ FileFault.Memory
 not_both bytes said fault says refused =
     let ms = says.members in
     let keys = says_meets IsKeySet Keys ms said.ask.keys says.keys in
@@ -87,5 +87,5 @@ not_both bytes said fault says refused =
     let binding = may_say_meets IsBindingOrder Binding ms (both said.ask.binding said.key) says.binding in
     verdicts.not_refused file_max present_table bytes ms fault says.file (keys, (want, (never, (binding, tt)))) refused
 
-pub one_fault : (bytes : Text) (fault other : FileFault) → IsPresentRefused bytes fault → IsPresentRefused bytes other → fault ≢ FileFault.Memory → other ≢ FileFault.Memory → fault ≡ other
+pub one_fault : (bytes : Text) (fault other : FileFault) → IsPresentFileRefused bytes fault → IsPresentFileRefused bytes other → fault ≢ FileFault.Memory → other ≢ FileFault.Memory → fault ≡ other
 one_fault bytes fault other h k = verdicts.one_fault file_max present_table bytes fault other h k

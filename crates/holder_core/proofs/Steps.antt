@@ -18,10 +18,10 @@ use Rattle.json_form.specs.Token.{IsToken}
 use Rattle.json_form.specs.declared.token.Token.{Token}
 use Rattle.json_form.proofs.Tokens as tokens
 use Rattle.key_binding.specs.Judged.{holder_kid}
-use Rattle.marked_tree.specs.Choice.{chosen}
+use Rattle.marked_tree.specs.Paths.{chosen}
 use Rattle.marked_tree.specs.Marked.{Marked, strip}
 use Rattle.marked_tree.specs.Numbers.{has}
-use Rattle.selection_core.specs.Consent.{Answers, AllAllowed, IsRefusedAt}
+use Rattle.selection_core.specs.Consent.{RuleAnswers, AllAllowed, IsRefusedAt}
 use Rattle.verifier_core.specs.Check.{OnFault, IsUncounted}
 use Rattle.verifier_core.specs.Verdict.{Rules, TokenFails, HasHash}
 use Rattle.verifier_core.specs.declared.check.VerifyError.{VerifyError}
@@ -30,8 +30,9 @@ use Rattle.holder_core.specs.declared.ask.BindingAsk.{BindingAsk}
 use Rattle.holder_core.specs.declared.errors.PresentError.{PresentError}
 use Rattle.holder_core.specs.declared.errors.PresentError.TheVariants.{Memory, Token as OnCondition, HasBinding, NoSuchPlace, ConsentRefused, BindingKeyDiffers, SignFailed, TooLong}
 use Rattle.holder_core.specs.Unchecked.{unchecked}
-use Rattle.holder_core.specs.Present.{picked, shown, rules_of, IsHeld, IsAgreed, NamesKey, IsAnswer, Refuses, PresentFails, of_file, of_token}
-use Rattle.holder_core.specs.Presenting.{IsUnchecked, IsUnchosen, IsChosen, IsOtherKey, IsReady, IsUnready, IsUncheckedOrUnready, IsFinished, IsUnfinished}
+use Rattle.holder_core.specs.Present.{picked, shown, held_rules, IsHeld, IsAgreed, NamesKey, IsAnswer, IsNoAnswer}
+use Rattle.holder_core.specs.PresentCalls.{PresentFails, of_file, of_token}
+use Rattle.holder_core.specs.PresentSteps.{IsUnchecked, IsUnchosen, IsChosen, IsOtherKey, IsReady, IsUnready, IsUncheckedOrUnready, IsPresentFinished, IsPresentUnfinished}
 use Rattle.marked_tree.proofs.PrunedSame.{Same, prune_same}
 use Rattle.holder_core.proofs.Picking.{picked_same, picked_words}
 
@@ -40,7 +41,7 @@ pub unchecked_told : (token : Token) (rules : Rules) (e : VerifyError) → OnFau
 unchecked_told token rules VerifyError.Memory h = tt
 unchecked_told token rules (VerifyError.Fault fault) h = h
 
-module _ {F : Type 0} (answers : Answers F) (rule : F) (m : Marked) (s t : ℕ → Bool) (same : Same s t) where
+module _ {F : Type 0} (answers : RuleAnswers F) (rule : F) (m : Marked) (s t : ℕ → Bool) (same : Same s t) where
   pub allowed_same : AllAllowed answers rule m s → AllAllowed answers rule m t
   allowed_same all i at is stands = all i at (same i ∙ is) stands
 
@@ -63,7 +64,7 @@ words_picked parts answer s words signed disclosures none = record {
   binding = subst (λ o. IfSome o form.HasWords) (sym none) tt;
 }
 
-module _ {F : Type 0} (answers : Answers F) (rule : F) (token : Token) (ask : Ask) where
+module _ {F : Type 0} (answers : RuleAnswers F) (rule : F) (token : Token) (ask : Ask) where
   module _ (marked : Marked) (held : IsHeld token ask marked) where
     pub unchosen : (e : PresentError) → IsUnchosen answers rule marked ask.want e → IsUnready answers rule token ask e
     unchosen Memory h = tt
@@ -111,7 +112,7 @@ module _ {F : Type 0} (answers : Answers F) (rule : F) (token : Token) (ask : As
       }
 
   module _ (good : Meaning) (now : ℕ) where
-    pub unchecked_refused : (e : PresentError) → token.parts.binding ≡ None → IsUnchecked token (rules_of ask.keys) e → Refuses answers rule token ask good now e
+    pub unchecked_refused : (e : PresentError) → token.parts.binding ≡ None → IsUnchecked token (held_rules ask.keys) e → IsNoAnswer answers rule token ask good now e
     unchecked_refused Memory none h = tt
     unchecked_refused (OnCondition fault) none h = (none, h)
     unchecked_refused HasBinding none h = absurd h
@@ -121,7 +122,7 @@ module _ {F : Type 0} (answers : Answers F) (rule : F) (token : Token) (ask : As
     unchecked_refused SignFailed none h = absurd h
     unchecked_refused TooLong none h = absurd h
 
-    pub unready_refused : (e : PresentError) → IsUnready answers rule token ask e → Refuses answers rule token ask good now e
+    pub unready_refused : (e : PresentError) → IsUnready answers rule token ask e → IsNoAnswer answers rule token ask good now e
     unready_refused Memory h = tt
     unready_refused (OnCondition fault) h = absurd h
     unready_refused HasBinding h = absurd h
@@ -131,12 +132,12 @@ module _ {F : Type 0} (answers : Answers F) (rule : F) (token : Token) (ask : As
     unready_refused SignFailed h = absurd h
     unready_refused TooLong h = absurd h
 
-    pub unpresented_refused : (e : PresentError) → token.parts.binding ≡ None → IsUncheckedOrUnready answers rule token ask e → Refuses answers rule token ask good now e
+    pub unpresented_refused : (e : PresentError) → token.parts.binding ≡ None → IsUncheckedOrUnready answers rule token ask e → IsNoAnswer answers rule token ask good now e
     unpresented_refused e none (inl h) = unchecked_refused e none h
     unpresented_refused e none (inr h) = unready_refused e h
 
     module _ (marked : Marked) (unbound : Parts) (is : IsReady answers rule token ask marked unbound) (hash : HashAlg) (has_hash : HasHash token hash) where
-      pub answered : (answer : Parts) → IsFinished ask.binding good hash now unbound answer → IsAnswer answers rule token ask good now answer
+      pub answered : (answer : Parts) → IsPresentFinished ask.binding good hash now unbound answer → IsAnswer answers rule token ask good now answer
       answered answer done = record {
         marked = marked;
         agreed = is.agreed;
@@ -147,7 +148,7 @@ module _ {F : Type 0} (answers : Answers F) (rule : F) (token : Token) (ask : As
         bound = done.bound;
       }
 
-      pub unfinished_refused : (e : PresentError) → IsUnfinished ask.binding good hash now unbound e → Refuses answers rule token ask good now e
+      pub unfinished_refused : (e : PresentError) → IsPresentUnfinished ask.binding good hash now unbound e → IsNoAnswer answers rule token ask good now e
       unfinished_refused Memory h = tt
       unfinished_refused (OnCondition fault) h = absurd h
       unfinished_refused HasBinding h = absurd h
@@ -166,10 +167,10 @@ module _ {F : Type 0} (answers : Answers F) (rule : F) (token : Token) (ask : As
 -- ---- what is looked up
 
 -- nothing for the text where nothing is for the token
-pub text_uncounted : (content : Text) (ask : Ask) (token : Token) → IsToken content token → (old new : ℕ) → IsUncounted (TokenFails token (rules_of ask.keys)) old new → IsUncounted (PresentFails content ask) old new
+pub text_uncounted : (content : Text) (ask : Ask) (token : Token) → IsToken content token → (old new : ℕ) → IsUncounted (TokenFails token (held_rules ask.keys)) old new → IsUncounted (PresentFails content ask) old new
 text_uncounted content ask token is old new same c place (of_file h) low = absurd (is.passes (record { number = number_of c; place = place }) h)
 text_uncounted content ask token is old new same c place (of_token t there h) low =
-    same c place (subst (λ (x : Token). TokenFails x (rules_of ask.keys) c place) (tokens.one content t token there is) h) low
+    same c place (subst (λ (x : Token). TokenFails x (held_rules ask.keys) c place) (tokens.one content t token there is) h) low
 
 -- ---- whether there is a key binding token
 

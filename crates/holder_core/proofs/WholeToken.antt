@@ -4,26 +4,27 @@ use Rattle.std.specs.Prelude.{if◌then◌else◌, ltb}
 use Rattle.std.specs.Option.{option_map, is_some}
 use Rattle.std.proofs.lemmas.Bool.Decides.{nat_tests}
 use Rattle.claim_tree.specs.Tree.{Tree}
-use Rattle.claim_tree.specs.Lists.{IsLeast, Nowhere}
+use Rattle.claim_tree.specs.Lists.{IsLeast, AtNone}
 use Rattle.compact_form.specs.declared.parts.Parts.{Parts}
 use Rattle.json_form.specs.declared.token.Token.{Token}
-use Rattle.marked_tree.specs.Choice.{chosen}
 use Rattle.marked_tree.specs.Laws.{HasEachMarkOnce}
-use Rattle.marked_tree.specs.Marked.{Marked, marked_leaf, marked_array, marked_object, MarkedElements, no_marked_elements, marked_element, MarkedMembers, no_marked_members, marked_member, remark_elements, remark_members, kept, prune, strip, weight, elements_weight, members_weight, only}
+use Rattle.marked_tree.specs.Marked.{Marked, marked_leaf, marked_array, marked_object, MarkedElements, no_marked_elements, marked_element, MarkedMembers, no_marked_members, marked_member, remark_elements, remark_members, kept, prune, strip}
+use Rattle.marked_tree.specs.Ways.{weight, elements_weight, members_weight, only}
 use Rattle.marked_tree.specs.Numbers.{has}
-use Rattle.marked_tree.specs.Places.{Path}
+use Rattle.marked_tree.specs.Paths.{Path, chosen}
 use Rattle.marked_tree.proofs.LeastChoice.{chosen_below}
 use Rattle.rebuild_core.proofs.Presented.{one_node_holds}
-use Rattle.selection_core.specs.Consent.{Answers}
-use Rattle.selection_core.specs.Refusals.{IsMissing}
-use Rattle.verifier_core.specs.Verdict.{Rules, IsChecked, IsCheckedAs}
+use Rattle.selection_core.specs.Consent.{RuleAnswers}
+use Rattle.selection_core.specs.ChoiceRefusals.{IsMissing}
+use Rattle.verifier_core.specs.Verdict.{Rules, IsChecked}
+use Rattle.verifier_core.specs.Verdicts.{IsCheckedAs}
 use Rattle.verifier_core.proofs.CheckSteps.{zip_length}
 use Rattle.verifier_core.proofs.ContentFacts.{content_sound, content_readable}
 use Rattle.holder_core.specs.declared.ask.Ask.{Ask}
 use Rattle.holder_core.specs.declared.errors.PresentError.{PresentError}
 use Rattle.holder_core.specs.declared.errors.PresentError.TheVariants.{Memory, Token as OnCondition, HasBinding, NoSuchPlace, ConsentRefused, BindingKeyDiffers, SignFailed, TooLong}
-use Rattle.holder_core.specs.Present.{shown, rules_of, IsHeld, NamesKey}
-use Rattle.holder_core.specs.Presenting.{IsChosen, IsOtherKey, IsReady, IsUnready, IsWholeReady, IsWholeUnready, IsMadeWhole, IsMadeReady, IsUncheckedOrUnmade, IsUncheckedOrUnready}
+use Rattle.holder_core.specs.Present.{shown, held_rules, IsHeld, NamesKey}
+use Rattle.holder_core.specs.PresentSteps.{IsChosen, IsOtherKey, IsReady, IsUnready, IsWholeReady, IsWholeUnready, IsMadeWhole, IsMadeReady, IsUncheckedOrUnmade, IsUncheckedOrUnready}
 use Rattle.holder_core.proofs.Steps.{unchosen, other_key, ready}
 
 -- ---- a tree without marks
@@ -80,20 +81,20 @@ checked_once token rules marked none checked =
     subst (λ (m : Marked). HasEachMarkOnce m 0) (sym checked.opens.3)
     (subst (HasEachMarkOnce _) few (one_node_holds p g (content_readable token p g has_content) (content_sound token rules p g has_content checked.passes)))
 
-module _ {F : Type 0} (answers : Answers F) (rule : F) (token : Token) (ask : Ask) (none : length token.parts.disclosures ≡ 0) (unbound : token.parts.binding ≡ None) (payload : Tree) (is : IsCheckedAs token (rules_of ask.keys) payload) where
+module _ {F : Type 0} (answers : RuleAnswers F) (rule : F) (token : Token) (ask : Ask) (none : length token.parts.disclosures ≡ 0) (unbound : token.parts.binding ≡ None) (payload : Tree) (is : IsCheckedAs token (held_rules ask.keys) payload) where
   held : IsHeld token ask is.0
   held = record { unbound = unbound; checked = is.1 }
 
   once : HasEachMarkOnce is.0 0
-  once = checked_once token (rules_of ask.keys) is.0 none is.1
+  once = checked_once token (held_rules ask.keys) is.0 none is.1
 
   same_shown : payload ≡ shown is.0 (has [])
   same_shown = is.2 ∙ ap strip (sym (prune_unmarked (has []) is.0 (no_mark is.0 once)))
 
-  nothing : Nowhere (IsMissing payload ask.want) → IsChosen answers rule is.0 ask.want []
+  nothing : AtNone (IsMissing payload ask.want) → IsChosen answers rule is.0 ask.want []
   nothing there = record {
     same = none_chosen is.0 once ask.want;
-    there = subst (λ (t : Tree). Nowhere (IsMissing t ask.want)) is.2 there;
+    there = subst (λ (t : Tree). AtNone (IsMissing t ask.want)) is.2 there;
     allowed = λ i at yes stands. (let clash : false ≡ true = none_chosen is.0 once ask.want i ∙ yes in absurd (cc clash));
   }
 
@@ -112,7 +113,7 @@ module _ {F : Type 0} (answers : Answers F) (rule : F) (token : Token) (ask : As
   whole_unready SignFailed h = absurd h
   whole_unready TooLong h = absurd h
 
-module _ {F : Type 0} (answers : Answers F) (rule : F) (token : Token) (ask : Ask) (none : length token.parts.disclosures ≡ 0) (unbound : token.parts.binding ≡ None) where
+module _ {F : Type 0} (answers : RuleAnswers F) (rule : F) (token : Token) (ask : Ask) (none : length token.parts.disclosures ≡ 0) (unbound : token.parts.binding ≡ None) where
   pub made_ready : (parts : Parts) → IsMadeWhole token ask parts → IsMadeReady answers rule token ask parts
   made_ready parts made = (made.1.0, whole_ready answers rule token ask none unbound made.0 made.1 parts made.2)
 
@@ -132,7 +133,7 @@ something_found f (Some x) p same e = ap is_some same
 
 -- ---- the key
 
-pub other_named : (ask : Ask) (payload : Tree) → Nowhere (IsMissing payload ask.want) → (e : PresentError) → IsOtherKey ask.binding payload e → IsWholeUnready ask payload e
+pub other_named : (ask : Ask) (payload : Tree) → AtNone (IsMissing payload ask.want) → (e : PresentError) → IsOtherKey ask.binding payload e → IsWholeUnready ask payload e
 other_named ask payload there Memory h = tt
 other_named ask payload there (OnCondition fault) h = absurd h
 other_named ask payload there HasBinding h = absurd h

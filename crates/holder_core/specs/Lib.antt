@@ -1,4 +1,5 @@
 pub mod Unchecked
 pub mod Present
 pub mod PresentFile
-pub mod Presenting
+pub mod PresentSteps
+pub mod PresentCalls

@@ -1,7 +1,7 @@
 -- What a holder presents of a token as it is asked, and why it presents nothing (RFC 9901 section 7.2).
 use Rattle.std.specs.Prelude.{◌≡◌, ◌≢◌, ◌<◌, ℕ, suc, Bool, List, [], ◌∷◌, length, Option, None, Some, codes, if◌then◌else◌}
 use Rattle.claim_tree.specs.Tree.{Text, Tree}
-use Rattle.claim_tree.specs.Lists.{IsLeast, Nowhere}
+use Rattle.claim_tree.specs.Lists.{IsLeast, AtNone}
 use Rattle.compact_form.specs.Compact.{compact, hashed}
 use Rattle.compact_form.specs.Condition.{Condition}
 use Rattle.compact_form.specs.Lowest.{IsLowest}
@@ -18,12 +18,11 @@ use Rattle.json_form.specs.Token.{IsToken}
 use Rattle.json_form.specs.declared.token.Token.{Token}
 use Rattle.key_binding.specs.Binding.{IsBinding, IsReadBack}
 use Rattle.key_binding.specs.Judged.{holder_kid}
-use Rattle.marked_tree.specs.Choice.{chosen}
+use Rattle.marked_tree.specs.Paths.{chosen}
 use Rattle.marked_tree.specs.Marked.{Marked, strip, prune}
-use Rattle.selection_core.specs.Consent.{Answers, AllAllowed, IsRefusedAt}
-use Rattle.selection_core.specs.Refusals.{IsMissing}
-use Rattle.verifier_core.specs.Check.{asked}
-use Rattle.verifier_core.specs.Verdict.{Rules, TokenFails, FileFails, IsChecked, HasHash}
+use Rattle.selection_core.specs.Consent.{RuleAnswers, AllAllowed, IsRefusedAt}
+use Rattle.selection_core.specs.ChoiceRefusals.{IsMissing}
+use Rattle.verifier_core.specs.Verdict.{Rules, TokenFails, FileFails, IsChecked, HasHash, asked}
 use Rattle.holder_core.specs.declared.ask.Ask.{Ask}
 use Rattle.holder_core.specs.declared.ask.BindingAsk.{BindingAsk}
 use Rattle.holder_core.specs.declared.errors.PresentError.{PresentError}
@@ -37,7 +36,7 @@ picked s [] = []
 picked s (x ∷ xs) = if s 0 then x ∷ picked (λ k. s (suc k)) xs else picked (λ k. s (suc k)) xs
 
 -- the token of the issuer, its disclosures whose numbers are in the set, in their order, and this key binding token or none
-pub record Presents (parts : Parts) (s : ℕ → Bool) (binding : Option JwtParts) (answer : Parts) : Type 0 where
+pub record PicksParts (parts : Parts) (s : ℕ → Bool) (binding : Option JwtParts) (answer : Parts) : Type 0 where
   pub signed : answer.signed ≡ parts.signed
   pub disclosures : answer.disclosures ≡ picked s parts.disclosures
   pub binding_is : answer.binding ≡ binding
@@ -49,18 +48,18 @@ shown marked s = strip (prune marked s)
 -- ---- what is asked of the token
 
 -- it may be signed by these keys, with HS256 alone, and its type is not judged
-abbrev pub rules_of : List NamedKey → Rules
-rules_of keys = asked keys (codes "HS256" ∷ []) None
+abbrev pub held_rules : List NamedKey → Rules
+held_rules keys = asked keys (codes "HS256" ∷ []) None
 
 -- it has no key binding token, no condition from 5 to 21 fails, and it processes to this payload
 pub record IsHeld (token : Token) (ask : Ask) (marked : Marked) : Type 0 where
   pub unbound : token.parts.binding ≡ None
-  pub checked : IsChecked token (rules_of ask.keys) marked
+  pub checked : IsChecked token (held_rules ask.keys) marked
 
 -- besides, each wanted place is there, and the rule may allow the place of each disclosure that leads to one
-pub record IsAgreed {F : Type 0} (answers : Answers F) (rule : F) (token : Token) (ask : Ask) (marked : Marked) : Type 0 where
+pub record IsAgreed {F : Type 0} (answers : RuleAnswers F) (rule : F) (token : Token) (ask : Ask) (marked : Marked) : Type 0 where
   pub held : IsHeld token ask marked
-  pub there : Nowhere (IsMissing (strip marked) ask.want)
+  pub there : AtNone (IsMissing (strip marked) ask.want)
   pub allowed : AllAllowed answers rule marked (chosen marked ask.want)
 
 -- ---- key binding
@@ -87,17 +86,17 @@ IsBoundAs ask good hash now answer = IsBoundWith ask good hash (hashed answer) n
 -- ---- the answer
 
 -- the chosen disclosures of the token are presented as is asked, by a signer with these good signatures, at a moment in seconds since 1970
-pub record IsAnswer {F : Type 0} (answers : Answers F) (rule : F) (token : Token) (ask : Ask) (good : Meaning) (now : ℕ) (answer : Parts) : Type 0 where
+pub record IsAnswer {F : Type 0} (answers : RuleAnswers F) (rule : F) (token : Token) (ask : Ask) (good : Meaning) (now : ℕ) (answer : Parts) : Type 0 where
   pub marked : Marked
   pub agreed : IsAgreed answers rule token ask marked
   pub key : NamesKey ask.binding (shown marked (chosen marked ask.want))
-  pub presents : Presents token.parts (chosen marked ask.want) answer.binding answer
+  pub presents : PicksParts token.parts (chosen marked ask.want) answer.binding answer
   pub hash : HashAlg
   pub has_hash : HasHash token hash
   pub bound : IsBoundAs ask.binding good hash now answer
 
 -- the same of a text
-pub record IsPresented {F : Type 0} (answers : Answers F) (rule : F) (content : Text) (ask : Ask) (good : Meaning) (now : ℕ) (answer : Parts) : Type 0 where
+pub record IsPresented {F : Type 0} (answers : RuleAnswers F) (rule : F) (content : Text) (ask : Ask) (good : Meaning) (now : ℕ) (answer : Parts) : Type 0 where
   pub token : Token
   pub is_token : IsToken content token
   pub is_answer : IsAnswer answers rule token ask good now answer
@@ -105,20 +104,20 @@ pub record IsPresented {F : Type 0} (answers : Answers F) (rule : F) (content : 
 -- ---- the refusals
 
 -- the first wanted path that leads nowhere
-pub record IsNotThere (token : Token) (ask : Ask) (k : ℕ) : Type 0 where
+pub record IsWantedNotThere (token : Token) (ask : Ask) (k : ℕ) : Type 0 where
   pub marked : Marked
   pub held : IsHeld token ask marked
   pub missing : IsLeast (IsMissing (strip marked) ask.want) k
 
 -- each wanted place is there, and this is the least chosen disclosure whose place the rule may refuse
-pub record IsDenied {F : Type 0} (answers : Answers F) (rule : F) (token : Token) (ask : Ask) (i : ℕ) : Type 0 where
+pub record IsConsentRefused {F : Type 0} (answers : RuleAnswers F) (rule : F) (token : Token) (ask : Ask) (i : ℕ) : Type 0 where
   pub marked : Marked
   pub held : IsHeld token ask marked
-  pub there : Nowhere (IsMissing (strip marked) ask.want)
+  pub there : AtNone (IsMissing (strip marked) ask.want)
   pub refused : IsRefusedAt answers rule marked (chosen marked ask.want) i
 
 -- a key binding token is asked for, and what is to be shown does not name its key
-pub record IsKeyOther {F : Type 0} (answers : Answers F) (rule : F) (token : Token) (ask : Ask) : Type 0 where
+pub record IsBindingKeyOther {F : Type 0} (answers : RuleAnswers F) (rule : F) (token : Token) (ask : Ask) : Type 0 where
   pub marked : Marked
   pub agreed : IsAgreed answers rule token ask marked
   pub binding : BindingAsk
@@ -126,7 +125,7 @@ pub record IsKeyOther {F : Type 0} (answers : Answers F) (rule : F) (token : Tok
   pub differs : holder_kid (shown marked (chosen marked ask.want)) ≢ Some binding.kid
 
 -- nothing is refused before a key binding token that is asked for is signed
-pub record IsToBeSigned {F : Type 0} (answers : Answers F) (rule : F) (token : Token) (ask : Ask) : Type 0 where
+pub record IsPresentToBeSigned {F : Type 0} (answers : RuleAnswers F) (rule : F) (token : Token) (ask : Ask) : Type 0 where
   pub marked : Marked
   pub agreed : IsAgreed answers rule token ask marked
   pub binding : BindingAsk
@@ -134,30 +133,25 @@ pub record IsToBeSigned {F : Type 0} (answers : Answers F) (rule : F) (token : T
   pub key : holder_kid (shown marked (chosen marked ask.want)) ≡ Some binding.kid
 
 -- what is presented is too long, with some good signature
-pub record IsTooLong {F : Type 0} (answers : Answers F) (rule : F) (token : Token) (ask : Ask) (good : Meaning) (now : ℕ) : Type 0 where
+pub record IsPresentTooLong {F : Type 0} (answers : RuleAnswers F) (rule : F) (token : Token) (ask : Ask) (good : Meaning) (now : ℕ) : Type 0 where
   pub answer : Parts
   pub is_answer : IsAnswer answers rule token ask good now answer
   pub long : compact_max < length (compact answer)
 
 -- what each refusal of a token says: that it applies, and no earlier one; want of memory says nothing
-abbrev pub Refuses : {F : Type 0} → Answers F → F → Token → Ask → Meaning → ℕ → PresentError → Type 0
-Refuses answers rule token ask good now Memory = Unit {0}
-Refuses answers rule token ask good now HasBinding = token.parts.binding ≢ None
-Refuses answers rule token ask good now (OnCondition fault) = (token.parts.binding ≡ None) × IsLowest (TokenFails token (rules_of ask.keys)) fault
-Refuses answers rule token ask good now (NoSuchPlace k) = IsNotThere token ask k
-Refuses answers rule token ask good now (ConsentRefused i) = IsDenied answers rule token ask i
-Refuses answers rule token ask good now BindingKeyDiffers = IsKeyOther answers rule token ask
-Refuses answers rule token ask good now SignFailed = IsToBeSigned answers rule token ask
-Refuses answers rule token ask good now TooLong = IsTooLong answers rule token ask good now
+abbrev pub IsNoAnswer : {F : Type 0} → RuleAnswers F → F → Token → Ask → Meaning → ℕ → PresentError → Type 0
+IsNoAnswer answers rule token ask good now Memory = Unit {0}
+IsNoAnswer answers rule token ask good now HasBinding = token.parts.binding ≢ None
+IsNoAnswer answers rule token ask good now (OnCondition fault) = (token.parts.binding ≡ None) × IsLowest (TokenFails token (held_rules ask.keys)) fault
+IsNoAnswer answers rule token ask good now (NoSuchPlace k) = IsWantedNotThere token ask k
+IsNoAnswer answers rule token ask good now (ConsentRefused i) = IsConsentRefused answers rule token ask i
+IsNoAnswer answers rule token ask good now BindingKeyDiffers = IsBindingKeyOther answers rule token ask
+IsNoAnswer answers rule token ask good now SignFailed = IsPresentToBeSigned answers rule token ask
+IsNoAnswer answers rule token ask good now TooLong = IsPresentTooLong answers rule token ask good now
 
 -- why nothing is presented of a text: it is no token, by the lowest of the conditions 1 to 3, or its token is refused; want of memory says
 -- nothing
-pub data IsNotPresented {F : Type 0} (answers : Answers F) (rule : F) (content : Text) (ask : Ask) (good : Meaning) (now : ℕ) (error : PresentError) : Type 0 where
+pub data IsNotPresented {F : Type 0} (answers : RuleAnswers F) (rule : F) (content : Text) (ask : Ask) (good : Meaning) (now : ℕ) (error : PresentError) : Type 0 where
   no_memory : error ≡ Memory → IsNotPresented answers rule content ask good now error
-  not_read : (fault : Fault) → error ≡ OnCondition fault → file.IsRefused content fault → IsNotPresented answers rule content ask good now error
-  refused : (token : Token) → IsToken content token → Refuses answers rule token ask good now error → IsNotPresented answers rule content ask good now error
-
--- what fails each condition on a text that is to be presented: on the file, or on the token that it is read as
-pub data PresentFails (content : Text) (ask : Ask) (c : Condition) (place : Place) : Type 0 where
-  of_file : FileFails content c place → PresentFails content ask c place
-  of_token : (token : Token) → IsToken content token → TokenFails token (rules_of ask.keys) c place → PresentFails content ask c place
+  not_read : (fault : Fault) → error ≡ OnCondition fault → file.IsTextRefused content fault → IsNotPresented answers rule content ask good now error
+  refused : (token : Token) → IsToken content token → IsNoAnswer answers rule token ask good now error → IsNotPresented answers rule content ask good now error

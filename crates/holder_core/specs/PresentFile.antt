@@ -46,5 +46,5 @@ pub record IsPresentFile (bytes : Text) (said : PresentFile) : Type 0 where
   pub together : is_some said.key ≡ is_some said.ask.binding
 
 -- why the file says no present order; want of memory says nothing
-abbrev pub IsPresentRefused : Text → FileFault → Type 0
-IsPresentRefused bytes fault = IsFileRefused file_max present_table bytes fault
+abbrev pub IsPresentFileRefused : Text → FileFault → Type 0
+IsPresentFileRefused bytes fault = IsFileRefused file_max present_table bytes fault

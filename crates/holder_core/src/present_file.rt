@@ -2,10 +2,11 @@
 ghost use Rattle.std.specs.Prelude.{◌≡◌, [], List, ℕ, codes, option_map, IfOk, IfErr, IfSome, IfNone};
 ghost use Rattle.claim_tree.specs.Tree.{Text, member_named};
 ghost use Rattle.claim_tree.specs.View.{tree_of};
-ghost use Rattle.claim_tree.specs.FileForms.{HasValue, IsText, Says, MaySay, IsMemberRefused, optional, found};
+ghost use Rattle.claim_tree.specs.FileForms.{HasValue, IsText, Says, MaySay, optional, found};
+ghost use Rattle.claim_tree.specs.FileRefusals.{IsMemberRefused};
 ghost use Rattle.claim_tree.specs.declared.file_fault.Field.TheVariants.{Binding};
 ghost use Rattle.hmac_sign.specs.KeyText.{IsKeyText};
-ghost use Rattle.holder_core.specs.PresentFile.{IsBindingOrder, IsPresentFile, IsPresentRefused};
+ghost use Rattle.holder_core.specs.PresentFile.{IsBindingOrder, IsPresentFile, IsPresentFileRefused};
 
 use crate::{Ask, BindingAsk};
 use claim_tree::{Field, FileFault, PathList, Tree, TreeMap, pointer_list_member, read_members};
@@ -105,7 +106,7 @@ fn binding_member(alloc: Global, members: &TreeMap) -> Result<Option<BindingOrde
 /// binding token is asked for. Another member is a fault.
 pub fn read_present(alloc: Global, bytes: &[u8]) -> Result<PresentFile, FileFault>
     ensures ok { IfOk result (IsPresentFile bytes.now) }
-    ensures refused { IfErr result (IsPresentRefused bytes.now) }
+    ensures refused { IfErr result (IsPresentFileRefused bytes.now) }
 {
     let members = read_members(alloc, bytes, FILE_MAX, &FIELDS)?;
     let keys = keys_member(alloc, &members, Field::Keys)?;

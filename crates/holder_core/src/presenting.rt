@@ -7,7 +7,7 @@ ghost use Rattle.compact_form.specs.Compact.{AreWords, compact as compact_text};
 ghost use Rattle.compact_form.specs.Lowest.{IsLowest};
 ghost use Rattle.sd_outside.specs.Limits.{compact_max};
 ghost use Rattle.disclosure.specs.declared.digests.HashAlg.{HashAlg as SeenHash};
-ghost use Rattle.hmac_sign.specs.Signatures.{Agree};
+ghost use Rattle.hmac_sign.specs.Agreement.{Agree};
 ghost use Rattle.hmac_sign.specs.declared.sign.Alg.{Alg};
 ghost use Rattle.json_form.specs.Token.{IsToken};
 ghost use Rattle.json_form.specs.declared.token.Token.{Token as SeenToken};
@@ -16,10 +16,11 @@ ghost use Rattle.marked_tree.specs.Choice.{IsUnmixed};
 ghost use Rattle.marked_tree.specs.Marked.{strip};
 ghost use Rattle.marked_tree.specs.Numbers.{has};
 ghost use Rattle.marked_tree.specs.View.{marked_of};
-ghost use Rattle.verifier_core.specs.Verdict.{TokenFails, HasHash};
-ghost use Rattle.verifier_core.specs.Check.{OnFault, IsContent, IsCounted, IsCountedWithin, IsReadWithin, IsUncounted, asked};
-ghost use Rattle.holder_core.specs.Present.{rules_of, picked, shown, IsHeld, IsAnswer, Refuses, IsPresented, IsNotPresented, PresentFails, NamesKey};
-ghost use Rattle.holder_core.specs.Presenting.{IsUnchecked, IsUnchosen, IsChosen, IsOtherKey, IsReady, IsUnready, IsUnsigned, IsFinished, IsUnfinished, IsMadeReady, IsUncheckedOrUnready};
+ghost use Rattle.verifier_core.specs.Verdict.{TokenFails, HasHash, asked};
+ghost use Rattle.verifier_core.specs.Check.{OnFault, IsContent, IsCounted, IsCountedWithin, IsReadWithin, IsUncounted};
+ghost use Rattle.holder_core.specs.Present.{held_rules, picked, shown, IsHeld, IsAnswer, IsNoAnswer, IsPresented, IsNotPresented, NamesKey};
+ghost use Rattle.holder_core.specs.PresentCalls.{PresentFails};
+ghost use Rattle.holder_core.specs.PresentSteps.{IsUnchecked, IsUnchosen, IsChosen, IsOtherKey, IsReady, IsUnready, IsPresentUnsigned, IsPresentFinished, IsPresentUnfinished, IsMadeReady, IsUncheckedOrUnready};
 ghost use Rattle.holder_core.specs.declared.errors.PresentError.{PresentError};
 
 use crate::whole::whole_parts;
@@ -102,7 +103,7 @@ fn present_token<S: Signer, F: Fn(&Path) -> bool>(
     ensures answer { IfOk result (IsAnswer F.Fn consent.now token.now ask.now (S.good signer.old) now) }
     ensures words { IfOk result AreWords }
     ensures short { IfOk result (λ answer. length (compact_text answer) ≤ compact_max) }
-    ensures refused { IfErr result (Refuses F.Fn consent.now token.now ask.now (S.good signer.old) now) }
+    ensures refused { IfErr result (IsNoAnswer F.Fn consent.now token.now ask.now (S.good signer.old) now) }
     ensures failed { IsErrOf result PresentError.SignFailed → Rose (S.faults signer.old) (S.faults signer.new) }
     ensures unasked { ask.now.binding ≡ None → signer.new ≡ signer.old }
     ensures same_good { Agree (S.good signer.new) (S.good signer.old) }
@@ -110,7 +111,7 @@ fn present_token<S: Signer, F: Fn(&Path) -> bool>(
     ensures later { S.faults signer.old ≤ S.faults signer.new }
     ensures counted { IfOk result (λ _. IsCounted token.now steps.old steps.new) }
     ensures within { IsCountedWithin token.now steps.old steps.new }
-    ensures uncounted { IsUncounted (TokenFails token.now (rules_of ask.now.keys)) steps.old steps.new }
+    ensures uncounted { IsUncounted (TokenFails token.now (held_rules ask.now.keys)) steps.old steps.new }
 {
     let (unbound, hash) = match ready_parts(alloc, token, ask, consent, steps) {
         Ok(ready) => ready,
@@ -138,7 +139,7 @@ fn ready_parts<F: Fn(&Path) -> bool>(
     ensures refused { IfErr result (IsUncheckedOrUnready F.Fn consent.now token.now ask.now) }
     ensures counted { IfOk result (λ _. IsCounted token.now steps.old steps.new) }
     ensures within { IsCountedWithin token.now steps.old steps.new }
-    ensures uncounted { IsUncounted (TokenFails token.now (rules_of ask.now.keys)) steps.old steps.new }
+    ensures uncounted { IsUncounted (TokenFails token.now (held_rules ask.now.keys)) steps.old steps.new }
 {
     let content = check_held(alloc, token, &ask.keys)?;
     if token.count() == 0 {
@@ -189,10 +190,10 @@ fn finish<S: Signer>(
     requires hs256 { S.alg_of signer.old ≡ Alg.Hs256 }
     requires words { AreWords unbound }
     requires none { unbound.binding ≡ None }
-    ensures finished { IfOk result (IsFinished binding.now (S.good signer.old) hash now unbound) }
+    ensures finished { IfOk result (IsPresentFinished binding.now (S.good signer.old) hash now unbound) }
     ensures words { IfOk result AreWords }
     ensures short { IfOk result (λ answer. length (compact_text answer) ≤ compact_max) }
-    ensures unfinished { IfErr result (IsUnfinished binding.now (S.good signer.old) hash now unbound) }
+    ensures unfinished { IfErr result (IsPresentUnfinished binding.now (S.good signer.old) hash now unbound) }
     ensures failed { IsErrOf result PresentError.SignFailed → Rose (S.faults signer.old) (S.faults signer.new) }
     ensures unasked { binding.now ≡ None → signer.new ≡ signer.old }
     ensures same_good { Agree (S.good signer.new) (S.good signer.old) }
@@ -240,8 +241,8 @@ fn read_signed<'a>(
 // The conditions 5 to 13, but 8, where it may be signed with HS256 alone.
 fn check_held(alloc: Global, token: &TokenView<'_>, keys: &KeySet) -> Result<Content, PresentError>
     requires few { length token.now.parts.disclosures < 2 ^ 32 - 1 }
-    ensures content { IfOk result (IsContent token.now (rules_of keys.now)) }
-    ensures refused { IfErr result (IsUnchecked token.now (rules_of keys.now)) }
+    ensures content { IfOk result (IsContent token.now (held_rules keys.now)) }
+    ensures refused { IfErr result (IsUnchecked token.now (held_rules keys.now)) }
 {
     let algs = hs256_alone(alloc)?;
     Ok(read_signed(alloc, token, keys, &algs)?)
@@ -358,9 +359,9 @@ fn bound_parts<S: Signer>(
     requires hs256 { S.alg_of signer.old ≡ Alg.Hs256 }
     requires words { AreWords unbound }
     requires none { unbound.binding ≡ None }
-    ensures finished { IfOk result (IsFinished binding.now (S.good signer.old) hash now unbound) }
+    ensures finished { IfOk result (IsPresentFinished binding.now (S.good signer.old) hash now unbound) }
     ensures words { IfOk result AreWords }
-    ensures unsigned { IfErr result (IsUnsigned binding.now) }
+    ensures unsigned { IfErr result (IsPresentUnsigned binding.now) }
     ensures failed { IsErrOf result PresentError.SignFailed → Rose (S.faults signer.old) (S.faults signer.new) }
     ensures unasked { binding.now ≡ None → signer.new ≡ signer.old }
     ensures same_good { Agree (S.good signer.new) (S.good signer.old) }

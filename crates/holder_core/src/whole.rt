@@ -1,13 +1,13 @@
 // What is presented of a token without disclosures: nothing of its payload is marked, so no mark is built or chosen.
 ghost use Rattle.std.specs.Prelude.{◌≡◌, ◌<◌, ◌-◌, ◌^◌, None, length, IfOk, OnOk, IfErr, IfSome};
-ghost use Rattle.claim_tree.specs.Lists.{IsLeast, Nowhere};
+ghost use Rattle.claim_tree.specs.Lists.{IsLeast, AtNone};
 ghost use Rattle.claim_tree.specs.View.{tree_of};
 ghost use Rattle.compact_form.specs.Compact.{AreWords};
-ghost use Rattle.selection_core.specs.Refusals.{IsMissing};
+ghost use Rattle.selection_core.specs.ChoiceRefusals.{IsMissing};
 ghost use Rattle.verifier_core.specs.Verdict.{HasHash};
 ghost use Rattle.verifier_core.specs.Check.{IsContent, IsCounted, IsCountedWithin};
-ghost use Rattle.holder_core.specs.Present.{rules_of, NamesKey};
-ghost use Rattle.holder_core.specs.Presenting.{IsUnchecked, IsOtherKey, IsWholeReady, IsWholeUnready, IsMadeWhole, IsUncheckedOrUnmade};
+ghost use Rattle.holder_core.specs.Present.{held_rules, NamesKey};
+ghost use Rattle.holder_core.specs.PresentSteps.{IsUnchecked, IsOtherKey, IsWholeReady, IsWholeUnready, IsMadeWhole, IsUncheckedOrUnmade};
 
 use crate::presenting::{check_named, picked_parts};
 use crate::{Ask, BindingAsk, PresentError};
@@ -30,7 +30,7 @@ pub(crate) fn whole_parts(
 ) -> Result<(Parts, HashAlg), PresentError>
     requires few { length token.now.parts.disclosures < 2 ^ 32 - 1 }
     requires words { AreWords token.now.parts }
-    requires content { IsContent token.now (rules_of ask.now.keys) content }
+    requires content { IsContent token.now (held_rules ask.now.keys) content }
     ensures ready { IfOk result (λ r. IsMadeWhole token.now ask.now r.0) }
     ensures words { IfOk result (λ r. AreWords r.0) }
     ensures none { IfOk result (λ r. r.0.binding ≡ None) }
@@ -82,7 +82,7 @@ fn check_binding(binding: &Option<BindingAsk>, payload: &Tree) -> Result<(), Pre
 // The number of the first wanted path that leads nowhere.
 fn first_missing(payload: &Tree, want: &PathList) -> Option<usize>
     ensures least { IfSome result (IsLeast (IsMissing (tree_of payload.now) want.now)) }
-    ensures there { result ≡ None → Nowhere (IsMissing (tree_of payload.now) want.now) }
+    ensures there { result ≡ None → AtNone (IsMissing (tree_of payload.now) want.now) }
 {
     for (k, path) in want.paths().iter().enumerate() {
         if find(payload, path).is_none() {

@@ -3,8 +3,8 @@ use Rattle.std.proofs.Common.{◌≡◌, ℕ, suc, List, [], ◌∷◌, ◌++◌
 use Rattle.claim_tree.specs.Tree.{Elements, Members, Text, Tree, array, element, member, object}
 use Rattle.digest_sites.specs.Given.{Given}
 use Rattle.marked_tree.specs.Marked.{Marked, MarkedElements, MarkedMembers, marked_array, marked_element, marked_leaf, marked_member, marked_object, no_marked_elements, no_marked_members}
-use Rattle.marked_tree.specs.Places.{Path}
-use Rattle.issuer_core.specs.Laid.{digest_elements, digest_object, hidden_digests, laid_elements, laid_items, laid_members, lay, lay_elements, lay_members, own_item, sorted, with_sd}
+use Rattle.marked_tree.specs.Paths.{Path}
+use Rattle.issuer_core.specs.Laid.{digest_elements, digest_object, hidden_digests, laid_elements, laid_given, laid_members, lay, lay_elements, lay_members, own_given, sorted, with_sd}
 
 abbrev pub MarkAgrees : (ℕ → Text) → (ℕ → Text) → Option ℕ → Type 0
 MarkAgrees dg dh None = Unit {0}
@@ -58,7 +58,7 @@ module _ (dg dh : ℕ → Text) where
         ap₂ (member name) (lay_agrees (λ q. dec (name ∷ q)) (λ q. ded (name ∷ q)) (below_agrees dec ded name e) t a.1) (members_agree dec ded e ms a.2)
     members_agree dec ded e (marked_member name (Some k) t ms) a = members_agree dec ded e ms a.2
 
-  own_agrees : (name : Option Text) (k : Option ℕ) (v u : Tree) → MarkAgrees dg dh k → v ≡ u → own_item dg name k v ≡ own_item dh name k u
+  own_agrees : (name : Option Text) (k : Option ℕ) (v u : Tree) → MarkAgrees dg dh k → v ≡ u → own_given dg name k v ≡ own_given dh name k u
   own_agrees name None v u a e = refl
   own_agrees name (Some k) v u a e = ap₂ (λ (d : Text) (t : Tree). own d t) a e
     where
@@ -66,12 +66,12 @@ module _ (dg dh : ℕ → Text) where
       own d t = record { digest = d; name = name; value = t } ∷ []
 
   item_agrees : (xs us : List Given) (name : Option Text) (k : Option ℕ) (v u : Tree) (ys ws : List Given) → xs ≡ us → MarkAgrees dg dh k → v ≡ u → ys ≡ ws
-      → (xs ++ own_item dg name k v) ++ ys ≡ (us ++ own_item dh name k u) ++ ws
+      → (xs ++ own_given dg name k v) ++ ys ≡ (us ++ own_given dh name k u) ++ ws
   item_agrees xs us name k v u ys ws x a e y =
       ap₂ (λ (ps qs : List Given). ps ++ qs) (ap₂ (λ (ps qs : List Given). ps ++ qs) x (own_agrees name k v u a e)) y
 
   mutual
-    pub items_agree : (dec ded : Path → List Text) → DecoysAgree dec ded → (m : Marked) → MarksAgree dg dh m → laid_items dec dg m ≡ laid_items ded dh m
+    pub items_agree : (dec ded : Path → List Text) → DecoysAgree dec ded → (m : Marked) → MarksAgree dg dh m → laid_given dec dg m ≡ laid_given ded dh m
     items_agree dec ded e (marked_leaf l) a = refl
     items_agree dec ded e (marked_array es) a = element_items_agree dec ded e 0 es a
     items_agree dec ded e (marked_object ms) a = member_items_agree dec ded e ms a
@@ -82,7 +82,7 @@ module _ (dg dh : ℕ → Text) where
         let x : Path → List Text = λ q. dec (decimal i ∷ q) in
         let y : Path → List Text = λ q. ded (decimal i ∷ q) in
         let b = below_agrees dec ded (decimal i) e in
-        item_agrees (laid_items x dg t) (laid_items y dh t) None k (lay x dg t) (lay y dh t) (laid_elements dec dg (suc i) es) (laid_elements ded dh (suc i) es)
+        item_agrees (laid_given x dg t) (laid_given y dh t) None k (lay x dg t) (lay y dh t) (laid_elements dec dg (suc i) es) (laid_elements ded dh (suc i) es)
         (items_agree x y b t a.1) a.0 (lay_agrees x y b t a.1) (element_items_agree dec ded e (suc i) es a.2)
 
     pub member_items_agree : (dec ded : Path → List Text) → DecoysAgree dec ded → (ms : MarkedMembers) → MembersAgree dg dh ms → laid_members dec dg ms ≡ laid_members ded dh ms
@@ -91,5 +91,5 @@ module _ (dg dh : ℕ → Text) where
         let x : Path → List Text = λ q. dec (name ∷ q) in
         let y : Path → List Text = λ q. ded (name ∷ q) in
         let b = below_agrees dec ded name e in
-        item_agrees (laid_items x dg t) (laid_items y dh t) (Some name) k (lay x dg t) (lay y dh t) (laid_members dec dg ms) (laid_members ded dh ms)
+        item_agrees (laid_given x dg t) (laid_given y dh t) (Some name) k (lay x dg t) (lay y dh t) (laid_members dec dg ms) (laid_members ded dh ms)
         (items_agree x y b t a.1) a.0 (lay_agrees x y b t a.1) (member_items_agree dec ded e ms a.2)

@@ -3,24 +3,24 @@ use Rattle.std.proofs.Common.{◌≡◌, ℕ, zero, suc, ◌<◌, ◌≤◌, ◌
 use Rattle.std.specs.Prelude.{slice_get}
 use Rattle.std.proofs.lemmas.List.{length-take-le}
 use Rattle.claim_tree.specs.Tree.{Text}
-use Rattle.claim_tree.specs.Lists.{At, Repeats, Nowhere}
+use Rattle.claim_tree.specs.Lists.{StandsAt, Repeats, AtNone}
 use Rattle.claim_tree.proofs.Lists.{bytes_refl, At-below, At-get, At-same}
-use Rattle.digest_index.specs.Index.{place_or_end}
+use Rattle.digest_index.specs.Index.{position_or_end}
 use Rattle.rebuild_core.proofs.Repeated.{place_there, repeats_there}
 use Rattle.issuer_core.specs.Clash.{IsFirstClash}
 
-pub stands : {X : Type 0} (xs : List X) (i : ℕ) (x : X) → slice_get xs i ≡ Some x → At xs i x
+pub stands : {X : Type 0} (xs : List X) (i : ℕ) (x : X) → slice_get xs i ≡ Some x → StandsAt xs i x
 stands [] i x h = cc h
 stands (y ∷ ys) zero x h = let same : y ≡ x = cc h in sym same
 stands (y ∷ ys) (suc i) x h = stands ys i x h
 
-At-taken : {X : Type 0} (xs : List X) (j i : ℕ) (x : X) → At xs i x → i < j → At (take j xs) i x
+At-taken : {X : Type 0} (xs : List X) (j i : ℕ) (x : X) → StandsAt xs i x → i < j → StandsAt (take j xs) i x
 At-taken (y ∷ ys) (suc j) zero x h l = h
 At-taken (y ∷ ys) (suc j) (suc i) x h l = At-taken ys j i x h (omega arith)
 At-taken (y ∷ ys) zero i x h l = absurd (omega arith)
 At-taken [] j i x h l = elim h [ ]
 
-At-whole : {X : Type 0} (xs : List X) (j i : ℕ) (x : X) → At (take j xs) i x → At xs i x
+At-whole : {X : Type 0} (xs : List X) (j i : ℕ) (x : X) → StandsAt (take j xs) i x → StandsAt xs i x
 At-whole (y ∷ ys) (suc j) zero x h = h
 At-whole (y ∷ ys) (suc j) (suc i) x h = At-whole ys j i x h
 At-whole (y ∷ ys) zero i x h = elim h [ ]
@@ -28,42 +28,42 @@ At-whole [] zero i x h = elim h [ ]
 At-whole [] (suc j) i x h = elim h [ ]
 
 -- no text stands before its place
-place_least : (xs : List Text) (i : ℕ) (d : Text) → At xs i d → place_or_end d xs ≤ i
+place_least : (xs : List Text) (i : ℕ) (d : Text) → StandsAt xs i d → position_or_end d xs ≤ i
 place_least [] i d h = elim h [ ]
 place_least (x ∷ xs) i d h = go (bytes_eq d x) refl i h (place_least xs)
   where
-    go : (b : Bool) → bytes_eq d x ≡ b → (i : ℕ) → At (x ∷ xs) i d → ((i : ℕ) (d : Text) → At xs i d → place_or_end d xs ≤ i) → cond b 0 (suc (place_or_end d xs)) ≤ i
+    go : (b : Bool) → bytes_eq d x ≡ b → (i : ℕ) → StandsAt (x ∷ xs) i d → ((i : ℕ) (d : Text) → StandsAt xs i d → position_or_end d xs ≤ i) → cond b 0 (suc (position_or_end d xs)) ≤ i
     go true e i h ih = omega arith
     go false e zero h ih = let clash : false ≡ true = sym e ∙ bytes_refl d x h in cc clash
     go false e (suc i) h ih = omega (arith, ih i d h)
 
 -- text j has a place among those before it, which is the first at which it stands
-pub clash_at : (ds : List Text) (j i : ℕ) (d : Text) → At ds j d → i ≡ place_or_end d (take j ds) → i < j → ((q : ℕ) → q < j → Repeats ds q → ⊥) → IsFirstClash ds i j
+pub clash_at : (ds : List Text) (j i : ℕ) (d : Text) → StandsAt ds j d → i ≡ position_or_end d (take j ds) → i < j → ((q : ℕ) → q < j → Repeats ds q → ⊥) → IsFirstClash ds i j
 clash_at ds j i d at is less none =
     let count : length (take j ds) ≡ j = length-take-le j ds (omega (arith, At-below ds j d at)) in
-    let there : At (take j ds) (place_or_end d (take j ds)) d = place_there (take j ds) d (omega (arith, is, less, count)) in
-    let here : At ds i d = subst (λ q. At ds q d) (sym is) (At-whole ds j (place_or_end d (take j ds)) d there) in
+    let there : StandsAt (take j ds) (position_or_end d (take j ds)) d = place_there (take j ds) d (omega (arith, is, less, count)) in
+    let here : StandsAt ds i d = subst (λ q. StandsAt ds q d) (sym is) (At-whole ds j (position_or_end d (take j ds)) d there) in
     record {
       later = record { fails = repeats_there ds j d at (omega (arith, is, less)); first = none };
       earlier = record {
         fails = record { before = less; text = d; here = here; again = at };
         first = λ q before equal.
             let same : equal.text ≡ d = At-same ds j equal.text d equal.again at in
-            let stands_too : At ds q d = subst (λ t. At ds q t) same equal.here in
+            let stands_too : StandsAt ds q d = subst (λ t. StandsAt ds q t) same equal.here in
             omega (arith, is, before, place_least (take j ds) q d (At-taken ds j q d stands_too (omega (arith, before, less))));
       };
     }
 
 -- ---- where none is the first
 
-not_below : (ds : List Text) (n : ℕ) (d : Text) → At ds n d → n ≤ place_or_end d (take n ds) → Repeats ds n → ⊥
+not_below : (ds : List Text) (n : ℕ) (d : Text) → StandsAt ds n d → n ≤ position_or_end d (take n ds) → Repeats ds n → ⊥
 not_below ds n d at more (text, here, earlier, before, there) =
     let same : text ≡ d = At-same ds n text d here at in
-    let stands_too : At ds earlier d = subst (λ t. At ds earlier t) same there in
+    let stands_too : StandsAt ds earlier d = subst (λ t. StandsAt ds earlier t) same there in
     omega (arith, more, before, place_least (take n ds) earlier d (At-taken ds n earlier d stands_too before))
 
-one_further : (ds : List Text) → ((i j : ℕ) → IsFirstClash ds i j → ⊥) → (n : ℕ) (d : Text) → At ds n d → ((p : ℕ) → p < n → Repeats ds p → ⊥) → (q : ℕ) → q < suc n → Repeats ds q → ⊥
-one_further ds none n d at before q less r = go (either (place_or_end d (take n ds)) n) (sooner q n less)
+one_further : (ds : List Text) → ((i j : ℕ) → IsFirstClash ds i j → ⊥) → (n : ℕ) (d : Text) → StandsAt ds n d → ((p : ℕ) → p < n → Repeats ds p → ⊥) → (q : ℕ) → q < suc n → Repeats ds q → ⊥
+one_further ds none n d at before q less r = go (either (position_or_end d (take n ds)) n) (sooner q n less)
   where
     either : (a b : ℕ) → (a < b) ⊎ (b ≤ a)
     either a b = grind arith
@@ -71,8 +71,8 @@ one_further ds none n d at before q less r = go (either (place_or_end d (take n 
     sooner : (a b : ℕ) → a < suc b → (a < b) ⊎ (a ≡ b)
     sooner a b l = grind arith
 
-    go : (place_or_end d (take n ds) < n) ⊎ (n ≤ place_or_end d (take n ds)) → (q < n) ⊎ (q ≡ n) → ⊥
-    go (inl below) s = none (place_or_end d (take n ds)) n (clash_at ds n (place_or_end d (take n ds)) d at refl below before)
+    go : (position_or_end d (take n ds) < n) ⊎ (n ≤ position_or_end d (take n ds)) → (q < n) ⊎ (q ≡ n) → ⊥
+    go (inl below) s = none (position_or_end d (take n ds)) n (clash_at ds n (position_or_end d (take n ds)) d at refl below before)
     go (inr more) (inl s) = before q s r
     go (inr more) (inr e) = not_below ds n d at more (subst (Repeats ds) e r)
 
@@ -83,5 +83,5 @@ first_repeats ds none (suc n) l q less r =
     one_further ds none n there.0 there.1 (first_repeats ds none n (omega (arith, l))) q less r
 
 -- where no text is the first that repeats an earlier one, none does
-pub no_repeats : (ds : List Text) → ((i j : ℕ) → IsFirstClash ds i j → ⊥) → Nowhere (Repeats ds)
+pub no_repeats : (ds : List Text) → ((i j : ℕ) → IsFirstClash ds i j → ⊥) → AtNone (Repeats ds)
 no_repeats ds none q r = first_repeats ds none (length ds) (omega arith) q (At-below ds q r.0 r.1) r

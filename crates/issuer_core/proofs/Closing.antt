@@ -1,11 +1,12 @@
 -- Marking numbers in closing order, so of what is laid on the way only the digests of earlier numbers count.
 use Rattle.std.proofs.Common.{◌≡◌, ℕ, zero, suc, ◌+◌, ◌<◌, ◌≤◌, List, [], ◌∷◌, ◌++◌, Bool, None, Option, Some, arith, decimal, false, length, length-append, refl, subst, true, ◌∙◌}
 use Rattle.claim_tree.specs.Tree.{Elements, Members, Text, Tree, array, element, leaf, member, no_elements, no_members, object}
-use Rattle.marked_tree.specs.Marked.{Marked, MarkedElements, MarkedMembers, elements_weight, mark_weight, marked_array, marked_element, marked_leaf, marked_member, marked_object, members_weight, no_marked_elements, no_marked_members, weight}
-use Rattle.marked_tree.specs.Places.{Path, below, hidden_in, is_among, mark_elements, mark_from, mark_if, mark_members, one_if}
-use Rattle.issuer_core.specs.Closing.{ClosesFrom, ElementsClose, IsNumbered, MembersClose, one}
-use Rattle.issuer_core.specs.Digests.{hidden_of, marked_of}
-use Rattle.issuer_core.specs.Laid.{laid_elements, laid_items, laid_members, lay, own_item}
+use Rattle.marked_tree.specs.Marked.{Marked, MarkedElements, MarkedMembers, marked_array, marked_element, marked_leaf, marked_member, marked_object, no_marked_elements, no_marked_members}
+use Rattle.marked_tree.specs.Ways.{elements_weight, mark_weight, members_weight, weight}
+use Rattle.marked_tree.specs.Paths.{Path, below, hidden_in, is_among, mark_elements, mark_from, mark_if, mark_members, one_if}
+use Rattle.issuer_core.specs.Closing.{ClosesFrom, ElementsClose, HasNumber, MembersClose, one}
+use Rattle.issuer_core.specs.Digests.{hidden_of, marked_claims}
+use Rattle.issuer_core.specs.Laid.{laid_elements, laid_given, laid_members, lay, own_given}
 use Rattle.issuer_core.specs.Order.{Order}
 use Rattle.marked_tree.proofs.MarkFacts.{range_sum, weighs}
 use Rattle.issuer_core.proofs.Agrees.{ElementsAgree, MarkAgrees, MarksAgree, MembersAgree}
@@ -21,7 +22,7 @@ own_marked : (b : Bool) (k : ℕ) → mark_weight one (mark_if b k) ≡ one_if b
 own_marked true k = refl
 own_marked false k = refl
 
-is_mark : (b : Bool) (n a c : ℕ) → c ≡ a → IsNumbered (mark_if b (n + a)) (n + c)
+is_mark : (b : Bool) (n a c : ℕ) → c ≡ a → HasNumber (mark_if b (n + a)) (n + c)
 is_mark true n a c e = omega (arith, e)
 is_mark false n a c e = tt
 
@@ -54,20 +55,20 @@ mutual
       let rest = mark_members h (n + (a + one_if b)) ms in
       (marked_closes (below k h) n t, is_mark b n a c e, subst (λ z. MembersClose z rest) (next b n a c e) (members_close h (n + (a + one_if b)) ms))
 
-pub order_closes : (o : Order) → ClosesFrom 0 (marked_of o)
+pub order_closes : (o : Order) → ClosesFrom 0 (marked_claims o)
 order_closes o = marked_closes (is_among o.hide) 0 o.claims
 
-pub order_marks : (o : Order) → weight one (marked_of o) ≡ hidden_of o
+pub order_marks : (o : Order) → weight one (marked_claims o) ≡ hidden_of o
 order_marks o = marks_marked (is_among o.hide) 0 o.claims
 
 -- ---- so many disclosures there are
 
-pub own_items_length : (dg : ℕ → Text) (name : Option Text) (k : Option ℕ) (v : Tree) → length (own_item dg name k v) ≡ mark_weight one k
+pub own_items_length : (dg : ℕ → Text) (name : Option Text) (k : Option ℕ) (v : Tree) → length (own_given dg name k v) ≡ mark_weight one k
 own_items_length dg name None v = refl
 own_items_length dg name (Some k) v = refl
 
 mutual
-  pub items_length : (dec : Path → List Text) (dg : ℕ → Text) (m : Marked) → length (laid_items dec dg m) ≡ weight one m
+  pub items_length : (dec : Path → List Text) (dg : ℕ → Text) (m : Marked) → length (laid_given dec dg m) ≡ weight one m
   items_length dec dg (marked_leaf l) = refl
   items_length dec dg (marked_array es) = elements_length dec dg 0 es
   items_length dec dg (marked_object ms) = members_length dec dg ms
@@ -76,8 +77,8 @@ mutual
   elements_length dec dg i no_marked_elements = refl
   elements_length dec dg i (marked_element k t es) =
       let s : Path → List Text = λ q. dec (decimal i ∷ q) in
-      let xs = laid_items s dg t in
-      let own = own_item dg None k (lay s dg t) in
+      let xs = laid_given s dg t in
+      let own = own_given dg None k (lay s dg t) in
       let ys = laid_elements dec dg (suc i) es in
       omega (arith, length-append (xs ++ own) ys, length-append xs own, items_length s dg t, own_items_length dg None k (lay s dg t), elements_length dec dg (suc i) es)
 
@@ -85,8 +86,8 @@ mutual
   members_length dec dg no_marked_members = refl
   members_length dec dg (marked_member name k t ms) =
       let s : Path → List Text = λ q. dec (name ∷ q) in
-      let xs = laid_items s dg t in
-      let own = own_item dg (Some name) k (lay s dg t) in
+      let xs = laid_given s dg t in
+      let own = own_given dg (Some name) k (lay s dg t) in
       let ys = laid_members dec dg ms in
       omega (arith, length-append (xs ++ own) ys, length-append xs own, items_length s dg t, own_items_length dg (Some name) k (lay s dg t), members_length dec dg ms)
 
@@ -97,7 +98,7 @@ abbrev pub RangeAgrees : (ℕ → Text) → (ℕ → Text) → ℕ → ℕ → T
 RangeAgrees dg dh n c = (k : ℕ) → n ≤ k → k < n + c → dg k ≡ dh k
 
 module _ (dg dh : ℕ → Text) where
-  own_in_range : (k : Option ℕ) (n a c : ℕ) → IsNumbered k (n + a) → RangeAgrees dg dh n ((mark_weight one k + a) + c) → MarkAgrees dg dh k
+  own_in_range : (k : Option ℕ) (n a c : ℕ) → HasNumber k (n + a) → RangeAgrees dg dh n ((mark_weight one k + a) + c) → MarkAgrees dg dh k
   own_in_range None n a c is r = tt
   own_in_range (Some k) n a c is r = r k (omega (arith, is)) (omega (arith, is))
 

@@ -12,14 +12,14 @@ use Rattle.claim_tree.specs.Lists.{In}
 use Rattle.claim_tree.specs.Path.{pointer_text}
 use Rattle.claim_tree.proofs.Lists.{bytes_same, bytes_refl, or_left, or_right, At-In, In-of_map}
 use Rattle.claim_tree.proofs.PointerTexts.{pointer_text-injective}
-use Rattle.digest_index.specs.Index.{place_or_end, interned}
+use Rattle.digest_index.specs.Index.{position_or_end, interned}
 use Rattle.digest_index.proofs.Places.{place_or_end-within}
 use Rattle.digest_index.proofs.Interned.{interned-new, interned-there}
-use Rattle.marked_tree.specs.Places.{Path, same_path, is_among}
+use Rattle.marked_tree.specs.Paths.{Path, same_path, is_among}
 use Rattle.marked_tree.proofs.DifferentPaths.{path_same, path_refl, path_laws}
 use Rattle.rebuild_core.proofs.Repeated.{place_there}
 use Rattle.issuer_core.specs.declared.order.Decoy.{Decoy}
-use Rattle.issuer_core.specs.Decoys.{places}
+use Rattle.issuer_core.specs.Decoys.{decoy_paths}
 
 -- ---- paths
 
@@ -54,17 +54,17 @@ among (q ∷ ps) p (inl e) = or_left (same_path p q) (is_among ps p) (path_refl 
 among (q ∷ ps) p (inr h) = or_right (same_path p q) (is_among ps p) (among ps p h)
 
 -- a pointer with a place is that of a path that is kept
-pub is_kept : (kept : List Path) (path : Path) → place_or_end (pointer_text path) (map pointer_text kept) < length (map pointer_text kept) → is_among kept path ≡ true
+pub is_kept : (kept : List Path) (path : Path) → position_or_end (pointer_text path) (map pointer_text kept) < length (map pointer_text kept) → is_among kept path ≡ true
 is_kept kept path within =
-    let found = At-In (map pointer_text kept) (place_or_end (pointer_text path) (map pointer_text kept)) (pointer_text path) (place_there (map pointer_text kept) (pointer_text path) within) in
+    let found = At-In (map pointer_text kept) (position_or_end (pointer_text path) (map pointer_text kept)) (pointer_text path) (place_there (map pointer_text kept) (pointer_text path) within) in
     let w = In-of_map pointer_text (pointer_text path) kept found in
     among kept path (subst (λ p. In p kept) (sym (pointer_text-injective path w.0 w.2)) w.1)
 
 -- a path with the place behind all others is new, and another is kept already
-pub keeps_new : (kept : List Path) (path copy : Path) (index : List Text) (text : Text) (place n : ℕ) → index ≡ map pointer_text kept → text ≡ pointer_text path → place ≡ place_or_end text index → n ≡ length kept → place ≡ n → copy ≡ path
+pub keeps_new : (kept : List Path) (path copy : Path) (index : List Text) (text : Text) (place n : ℕ) → index ≡ map pointer_text kept → text ≡ pointer_text path → place ≡ position_or_end text index → n ≡ length kept → place ≡ n → copy ≡ path
     → interned text index ≡ map pointer_text (kept ++ copy ∷ [])
 keeps_new kept path copy index text place n is says at many same copied =
-    let end : place_or_end text index ≡ length index = omega (arith, at, same, many, ap length is, length-map kept pointer_text) in
+    let end : position_or_end text index ≡ length index = omega (arith, at, same, many, ap length is, length-map kept pointer_text) in
     interned-new text index end
     ∙ ap₂ (λ (texts : List Text) (t : Text). texts ++ t ∷ []) is (says ∙ sym (ap pointer_text copied))
     ∙ sym (map-append pointer_text kept (copy ∷ []))
@@ -73,12 +73,12 @@ pub record IsOld (kept : List Path) (path : Path) (index : List Text) (text : Te
   pub stays : interned text index ≡ map pointer_text kept
   pub there : is_among kept path ≡ true
 
-pub skips_old : (kept : List Path) (path : Path) (index : List Text) (text : Text) (place n : ℕ) → index ≡ map pointer_text kept → text ≡ pointer_text path → place ≡ place_or_end text index → n ≡ length kept → (place ≡ n → ⊥)
+pub skips_old : (kept : List Path) (path : Path) (index : List Text) (text : Text) (place n : ℕ) → index ≡ map pointer_text kept → text ≡ pointer_text path → place ≡ position_or_end text index → n ≡ length kept → (place ≡ n → ⊥)
     → IsOld kept path index text
 skips_old kept path index text place n is says at many differs =
     let before : place < n = below place n (omega (arith, at, many, place_or_end-within text index, ap length is, length-map kept pointer_text)) differs in
-    let within : place_or_end text index < length index = omega (arith, at, many, before, ap length is, length-map kept pointer_text) in
-    let inside : place_or_end (pointer_text path) (map pointer_text kept) < length (map pointer_text kept) = subst (λ xs. place_or_end (pointer_text path) xs < length xs) is (subst (λ t. place_or_end t index < length index) says within) in
+    let within : position_or_end text index < length index = omega (arith, at, many, before, ap length is, length-map kept pointer_text) in
+    let inside : position_or_end (pointer_text path) (map pointer_text kept) < length (map pointer_text kept) = subst (λ xs. position_or_end (pointer_text path) xs < length xs) is (subst (λ t. position_or_end t index < length index) says within) in
     record { stays = interned-there text index within ∙ is; there = is_kept kept path inside }
   where
     below : (a b : ℕ) → a ≤ b → (a ≡ b → ⊥) → a < b
@@ -122,10 +122,10 @@ covers_all kept paths n past covers p =
 
 -- ---- decoys
 
-pub length-places : (entry : Decoy) (entries : List Decoy) → length (places (entry ∷ entries)) ≡ entry.count + length (places entries)
-length-places entry entries = omega (arith, length-append (replicate entry.count entry.at) (places entries), length-replicate entry.count entry.at)
+pub length-places : (entry : Decoy) (entries : List Decoy) → length (decoy_paths (entry ∷ entries)) ≡ entry.count + length (decoy_paths entries)
+length-places entry entries = omega (arith, length-append (replicate entry.count entry.at) (decoy_paths entries), length-replicate entry.count entry.at)
 
-pub entries_left : (entries : List Decoy) (i : ℕ) (entry : Decoy) → i < length entries → entry ≡ get_or entries i entry → length (places (drop i entries)) ≡ entry.count + length (places (drop (i + 1) entries))
+pub entries_left : (entries : List Decoy) (i : ℕ) (entry : Decoy) → i < length entries → entry ≡ get_or entries i entry → length (decoy_paths (drop i entries)) ≡ entry.count + length (decoy_paths (drop (i + 1) entries))
 entries_left entries i entry within is =
     let there : drop i entries ≡ entry ∷ drop (i + 1) entries = drop_more entries i entry within ∙ ap (λ (d : Decoy). d ∷ drop (i + 1) entries) (sym is) in
-    ap (λ es. length (places es)) there ∙ length-places entry (drop (i + 1) entries)
+    ap (λ es. length (decoy_paths es)) there ∙ length-places entry (drop (i + 1) entries)

@@ -2,12 +2,12 @@
 use Rattle.std.proofs.Common.{◌≡◌, ℕ, zero, suc, ◌+◌, ◌<◌, List, [], ◌∷◌, ◌++◌, Bool, ap, arith, cond, false, inl, inr, length, refl, subst, sym, true, ⊎_elim, ◌∙◌}
 use Rattle.std.specs.Prelude.{replicate}
 use Rattle.issuer_core.specs.declared.order.Decoy.{Decoy}
-use Rattle.claim_tree.specs.Lists.{At, In}
+use Rattle.claim_tree.specs.Lists.{StandsAt, In}
 use Rattle.claim_tree.specs.Path.{tree_at}
 use Rattle.claim_tree.specs.Tree.{Text}
-use Rattle.marked_tree.specs.Places.{Path, same_path}
+use Rattle.marked_tree.specs.Paths.{Path, same_path}
 use Rattle.marked_tree.proofs.DifferentPaths.{path_refl}
-use Rattle.issuer_core.specs.Decoys.{decoys_at, decoys_of, earlier, places}
+use Rattle.issuer_core.specs.Decoys.{decoys_at, decoys_of, earlier, decoy_paths}
 use Rattle.issuer_core.specs.GoodOrder.{HoldsOthers, IsGoodOrder}
 use Rattle.issuer_core.specs.Order.{Order}
 use Rattle.claim_tree.proofs.Lists.{In-append}
@@ -18,11 +18,11 @@ In-replicate (suc n) x q (inl e) = e
 In-replicate (suc n) x q (inr h) = In-replicate n x q h
 
 -- each place is that of an entry
-place_entry : (entries : List Decoy) (q : Path) → In q (places entries) → (e : Decoy) × In e entries × (q ≡ e.at)
+place_entry : (entries : List Decoy) (q : Path) → In q (decoy_paths entries) → (e : Decoy) × In e entries × (q ≡ e.at)
 place_entry [] q h = elim h [ ]
 place_entry (e ∷ entries) q h =
     ⊎_elim (λ a. (e, inl refl, In-replicate e.count e.at q a)) (λ b. let w = place_entry entries q b in (w.0, inr w.1, w.2))
-    (In-append q (replicate e.count e.at) (places entries) h)
+    (In-append q (replicate e.count e.at) (decoy_paths entries) h)
 
 pub held_at : (o : Order) → IsGoodOrder o → (q : Path) → In q (decoys_of o) → HoldsOthers (tree_at o.claims q)
 held_at o good q h =
@@ -41,20 +41,20 @@ in_decoys dg k (r ∷ ps) q d h =
     here true (inr m) = elim m [ ]
     here false m = elim m [ ]
 
-pub earlier_at : (dg : ℕ → Text) (k : ℕ) (ps : List Path) (d : ℕ) (q : Path) → At ps d q → At (decoys_at dg k ps q) (earlier d q ps) (dg (k + d))
+pub earlier_at : (dg : ℕ → Text) (k : ℕ) (ps : List Path) (d : ℕ) (q : Path) → StandsAt ps d q → StandsAt (decoys_at dg k ps q) (earlier d q ps) (dg (k + d))
 earlier_at dg k (r ∷ ps) zero q a =
     let same : same_path r q ≡ true = ap (λ z. same_path z q) (sym a) ∙ path_refl q q refl in
     let x : k + 0 ≡ k = omega arith in
     rw same (ap dg x)
 earlier_at dg k (r ∷ ps) (suc d) q a = go (same_path r q) (earlier_at dg (suc k) ps d q a)
   where
-    go : (b : Bool) → At (decoys_at dg (suc k) ps q) (earlier d q ps) (dg (suc k + d)) → At (cond b (dg k ∷ []) [] ++ decoys_at dg (suc k) ps q) (cond b 1 0 + earlier d q ps) (dg (k + suc d))
+    go : (b : Bool) → StandsAt (decoys_at dg (suc k) ps q) (earlier d q ps) (dg (suc k + d)) → StandsAt (cond b (dg k ∷ []) [] ++ decoys_at dg (suc k) ps q) (cond b 1 0 + earlier d q ps) (dg (k + suc d))
     go true ih =
         let x : suc (earlier d q ps) ≡ 1 + earlier d q ps = omega arith in
         let y : suc k + d ≡ k + suc d = omega arith in
-        subst (λ i. At (dg k ∷ decoys_at dg (suc k) ps q) i (dg (k + suc d))) x (subst (λ i. At (decoys_at dg (suc k) ps q) (earlier d q ps) (dg i)) y ih)
+        subst (λ i. StandsAt (dg k ∷ decoys_at dg (suc k) ps q) i (dg (k + suc d))) x (subst (λ i. StandsAt (decoys_at dg (suc k) ps q) (earlier d q ps) (dg i)) y ih)
     go false ih =
         let x : earlier d q ps ≡ 0 + earlier d q ps = omega arith in
         let y : suc k + d ≡ k + suc d = omega arith in
-        subst (λ i. At (decoys_at dg (suc k) ps q) i (dg (k + suc d))) x (subst (λ i. At (decoys_at dg (suc k) ps q) (earlier d q ps) (dg i)) y ih)
+        subst (λ i. StandsAt (decoys_at dg (suc k) ps q) i (dg (k + suc d))) x (subst (λ i. StandsAt (decoys_at dg (suc k) ps q) (earlier d q ps) (dg i)) y ih)
 earlier_at dg k [] d q a = elim a [ ]

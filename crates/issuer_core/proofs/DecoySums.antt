@@ -5,10 +5,11 @@ use Rattle.std.specs.Prelude.{bytes_eq, option_and_then}
 use Rattle.claim_tree.specs.Lists.{In}
 use Rattle.claim_tree.specs.Path.{element_on, tree_at}
 use Rattle.claim_tree.specs.Tree.{Elements, ElementsOrdered, IsOrdered, Members, MembersOrdered, Text, Tree, array, element, elements_len, leaf, member, member_named, names, no_elements, no_members, object}
-use Rattle.marked_tree.specs.Places.{Path, same_path}
+use Rattle.marked_tree.specs.Paths.{Path, same_path}
 use Rattle.issuer_core.specs.Decoys.{decoys_at}
 use Rattle.issuer_core.specs.Digests.{digests_from}
-use Rattle.issuer_core.specs.GoodOrder.{ElementsShort, HasShortLists, HoldsOthers, MembersShort}
+use Rattle.issuer_core.specs.GoodOrder.{HoldsOthers}
+use Rattle.issuer_core.specs.ShortLists.{ElementsShort, HasShortLists, MembersShort}
 use Rattle.claim_tree.proofs.Lists.{bytes_refl, bytes_same}
 use Rattle.marked_tree.proofs.Puts.{IsBeforeAll-not_in}
 use Rattle.marked_tree.proofs.Sums.{sum_of, sum_of-append}

@@ -8,14 +8,16 @@ use Rattle.claim_tree.specs.Tree.{IsRanged, Text, Tree, array, element, leaf, me
 use Rattle.digest_sites.specs.Given.{Given}
 use Rattle.digest_sites.specs.Reserved.{dots_name, sd_name}
 use Rattle.marked_tree.specs.Marked.{marked_array, marked_element, marked_leaf, marked_member, marked_object, no_marked_elements, no_marked_members}
-use Rattle.marked_tree.specs.Places.{place}
-use Rattle.rebuild_core.specs.Conditions.{IsSound}
+use Rattle.marked_tree.specs.Paths.{mark_path}
+use Rattle.rebuild_core.specs.Soundness.{IsSound}
 use Rattle.rebuild_core.specs.Payload.{alg_name}
 use Rattle.issuer_core.specs.Decoys.{decoys_of}
-use Rattle.issuer_core.specs.Digests.{AllDiffer, Maker, hidden_of, marked_of}
-use Rattle.issuer_core.specs.GoodOrder.{HasShortLists, HoldsOthers, IsGoodOrder}
+use Rattle.issuer_core.specs.Digests.{Maker, hidden_of, marked_claims}
+use Rattle.issuer_core.specs.IssueCalls.{AllDiffer}
+use Rattle.issuer_core.specs.GoodOrder.{HoldsOthers, IsGoodOrder}
+use Rattle.issuer_core.specs.ShortLists.{HasShortLists}
 use Rattle.issuer_core.specs.Issued.{IsIssuedFor}
-use Rattle.issuer_core.specs.Laid.{IsLaid, laid_items, lay, order_decoys}
+use Rattle.issuer_core.specs.Laid.{IsLaid, laid_given, lay, order_decoys}
 use Rattle.issuer_core.specs.Order.{Order}
 use Rattle.issuer_core.proofs.IssuedSound.{issued_is_sound_holds}
 use Rattle.issuer_core.proofs.LaidDecoys.{laid_is_issued_holds}
@@ -42,7 +44,7 @@ digests k = 68 ∷ k ∷ []
 abbrev maker : Maker
 maker = record { disclosure = λ k name v. digests k; piece = digests; digest = λ t. t }
 
-marks_are : marked_of order
+marks_are : marked_claims order
     ≡ marked_object (marked_member (codes "a") (Some 0) (marked_leaf (whole (pos 1)))
     (marked_member (codes "b") (Some 2) (marked_object (marked_member (codes "c") (Some 1) (marked_leaf (whole (pos 2))) (marked_member (codes "d") None (marked_leaf (whole (pos 3))) no_marked_members)))
     (marked_member (codes "l") None (marked_array (marked_element (Some 3) (marked_leaf (whole (pos 4))) (marked_element None (marked_leaf (whole (pos 5))) no_marked_elements))) no_marked_members)))
@@ -53,15 +55,15 @@ hidden_are : hidden_of order ≡ 4
 unfolding digits
 hidden_are = refl
 
-place_is : place (marked_of order) 1 ≡ Some (codes "b" ∷ codes "c" ∷ [])
+place_is : mark_path (marked_claims order) 1 ≡ Some (codes "b" ∷ codes "c" ∷ [])
 unfolding digits
 place_is = refl
 
 abbrev payload : Tree
-payload = lay (order_decoys order digests) digests (marked_of order)
+payload = lay (order_decoys order digests) digests (marked_claims order)
 
 abbrev given : List Given
-given = laid_items (order_decoys order digests) digests (marked_of order)
+given = laid_given (order_decoys order digests) digests (marked_claims order)
 
 abbrev word : ℕ → Tree
 word k = leaf (text (digests k))

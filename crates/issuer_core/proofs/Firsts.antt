@@ -2,8 +2,8 @@
 use Rattle.std.proofs.Common.{◌≡◌, ℕ, zero, suc, ◌+◌, ◌<◌, List, [], ◌∷◌, ◌++◌, map, Bool, true, false, cond, Some, None, option_map, refl, sym, subst, ◌∙◌, arith}
 use Rattle.std.specs.Prelude.{slice_get}
 use Rattle.std.specs.List.{position_from}
-use Rattle.claim_tree.specs.Lists.{IsLeast, Nowhere}
-use Rattle.issuer_core.specs.Refusals.{IsSuchAt}
+use Rattle.claim_tree.specs.Lists.{IsLeast, AtNone}
+use Rattle.issuer_core.specs.OrderRefusals.{IsSuchAt}
 
 -- ---- the first element
 
@@ -61,20 +61,20 @@ module _ {X : Type 0} (IsSuch : X → Type 0) (test : X → Bool) (tells : Tells
           let w = ih f in
           (suc w.0, omega (arith, w.1), record { fails = w.2.fails; first = none_earlier x xs w.0 e w.2 })
 
-  none_from : (i : ℕ) (xs : List X) → position_from test i xs ≡ None → Nowhere (IsSuchAt IsSuch xs)
+  none_from : (i : ℕ) (xs : List X) → position_from test i xs ≡ None → AtNone (IsSuchAt IsSuch xs)
   none_from i [] h = λ q s. elim s.1 [ ]
   none_from i (x ∷ xs) h = go (test x) refl h (none_from (i + 1) xs)
     where
-      more : test x ≡ false → Nowhere (IsSuchAt IsSuch xs) → (q : ℕ) → IsSuchAt IsSuch (x ∷ xs) q → ⊥
+      more : test x ≡ false → AtNone (IsSuchAt IsSuch xs) → (q : ℕ) → IsSuchAt IsSuch (x ∷ xs) q → ⊥
       more e rest zero s = passed x e (subst IsSuch s.1 s.2)
       more e rest (suc q) s = rest q s
 
-      go : (b : Bool) → test x ≡ b → cond b (Some i) (position_from test (i + 1) xs) ≡ None → (position_from test (i + 1) xs ≡ None → Nowhere (IsSuchAt IsSuch xs)) → Nowhere (IsSuchAt IsSuch (x ∷ xs))
+      go : (b : Bool) → test x ≡ b → cond b (Some i) (position_from test (i + 1) xs) ≡ None → (position_from test (i + 1) xs ≡ None → AtNone (IsSuchAt IsSuch xs)) → AtNone (IsSuchAt IsSuch (x ∷ xs))
       go true e f ih = cc f
       go false e f ih = more e (ih f)
 
   pub found_first : (xs : List X) (k : ℕ) → position_from test 0 xs ≡ Some k → IsLeast (IsSuchAt IsSuch xs) k
   found_first xs k h = let w = found_from 0 xs k h in subst (IsLeast (IsSuchAt IsSuch xs)) (let same : w.0 ≡ k = omega (arith, w.1) in same) w.2
 
-  pub found_none : (xs : List X) → position_from test 0 xs ≡ None → Nowhere (IsSuchAt IsSuch xs)
+  pub found_none : (xs : List X) → position_from test 0 xs ≡ None → AtNone (IsSuchAt IsSuch xs)
   found_none xs h = none_from 0 xs h

@@ -3,7 +3,7 @@ use Rattle.std.proofs.Common.{◌≡◌, ℕ, zero, suc, ◌+◌, ◌<◌, ◌�
 use Rattle.std.specs.List.{AllByRecursion}
 use Rattle.b64url_text.specs.Base64url.{IsWord, b64}
 use Rattle.b64url_text.proofs.Codes.{IsWord-b64}
-use Rattle.claim_tree.specs.Lists.{At, Repeats, Nowhere}
+use Rattle.claim_tree.specs.Lists.{StandsAt, Repeats, AtNone}
 use Rattle.claim_tree.specs.Tree.{Text, Tree, leaf, text, array, object, IsRanged}
 use Rattle.claim_tree.proofs.Datas.{MembersRanged-inserted}
 use Rattle.rebuild_core.specs.Payload.{alg_name}
@@ -19,17 +19,21 @@ use Rattle.issuer_core.specs.declared.errors.IssueError.{IssueError}
 use Rattle.issuer_core.specs.declared.errors.IssueError.TheVariants.{Memory, SignFailed, PayloadNotObject, ReservedName, TooDeep, RootMarked, NoSuchPlace, ProtectedClaim, DecoyPlace, TooManyHidden, TooManyDecoys, DigestClash, TooLong}
 use Rattle.issuer_core.specs.Order.{Order}
 use Rattle.issuer_core.specs.Decoys.{decoys_of}
-use Rattle.issuer_core.specs.GoodOrder.{HasShortLists, IsGoodOrder, IsHeld, IsObject}
-use Rattle.issuer_core.specs.Digests.{Maker, hidden_of, AllDiffer, made_texts}
+use Rattle.issuer_core.specs.GoodOrder.{IsGoodOrder, FitsMachine, IsObject}
+use Rattle.issuer_core.specs.ShortLists.{HasShortLists}
+use Rattle.issuer_core.specs.Digests.{Maker, hidden_of, made_texts}
+use Rattle.issuer_core.specs.IssueCalls.{AllDiffer, IsToBeSigned, IsNotIssued}
 use Rattle.issuer_core.specs.Laying.{IsLaidFor}
 use Rattle.issuer_core.specs.Laid.{IsLaid, with_alg}
 use Rattle.issuer_core.specs.Clash.{IsFirstClash}
 use Rattle.issuer_core.specs.Laws.{PartsAreIssued}
-use Rattle.issuer_core.specs.Refusals.{Refuses, IsRefused, IsLowest, NoneApplies, number_of, place_of}
+use Rattle.issuer_core.specs.OrderRefusals.{AppliesToOrder, IsLowestRefusal, NoneApplies, refusal_number, refusal_place}
+use Rattle.issuer_core.specs.JudgeCalls.{IsOrderRefused}
 use Rattle.issuer_core.specs.Salts.{salt_of}
 use Rattle.issuer_core.specs.Seed.{maker_of}
 use Rattle.issuer_core.specs.Written.{header_of, IsWritten, IsIssued, IsLaidOut}
-use Rattle.issuer_core.specs.Issue.{first_digests, laid_digests, ClashesAt, IsTooLong, IsToBeSigned, Applies, IsNotIssued, AreSigned, IsUnsigned, HasClash, IsFinished, IsOverlong, IsUnfinished}
+use Rattle.issuer_core.specs.Issue.{first_digests, laid_digests, ClashesAt, IsIssueTooLong, AppliesToIssue}
+use Rattle.issuer_core.specs.IssueSteps.{AreSigned, IsUnsigned, HasClash, IsFinished, IsOverlong, IsUnfinished}
 use Rattle.issuer_core.proofs.LaidDecoys.{laid_is_issued_holds}
 use Rattle.issuer_core.proofs.Judged.{good_order}
 use Rattle.issuer_core.proofs.OneLaid.{one_digest}
@@ -39,14 +43,14 @@ use Rattle.issuer_core.proofs.LaidBounds.{payload_ranged}
 
 -- ---- the digests as a list
 
-first_at : (dg : ℕ → Text) (n i : ℕ) → i < n → At (first_digests dg n) i (dg i)
+first_at : (dg : ℕ → Text) (n i : ℕ) → i < n → StandsAt (first_digests dg n) i (dg i)
 first_at dg zero i l = absurd (omega (arith, l))
 first_at dg (suc n) zero l = refl
 first_at dg (suc n) (suc i) l = first_at (λ k. dg (suc k)) n i (omega (arith, l))
 
-pub all_differ : (dg : ℕ → Text) (n : ℕ) → Nowhere (Repeats (first_digests dg n)) → AllDiffer dg n
+pub all_differ : (dg : ℕ → Text) (n : ℕ) → AtNone (Repeats (first_digests dg n)) → AllDiffer dg n
 all_differ dg n none i j less low same =
-    none j (dg i, subst (λ d. At (first_digests dg n) j d) (sym same) (first_at dg n j low), i, less, first_at dg n i (omega (arith, less, low)))
+    none j (dg i, subst (λ d. StandsAt (first_digests dg n) j d) (sym same) (first_at dg n j low), i, less, first_at dg n i (omega (arith, less, low)))
 
 first_same : (dg dh : ℕ → Text) (n : ℕ) → ((k : ℕ) → k < n → dg k ≡ dh k) → first_digests dg n ≡ first_digests dh n
 first_same dg dh zero e = refl
@@ -63,7 +67,7 @@ module _ (maker : Maker) (o : Order) (good : Meaning) where
   above n l = (omega (arith, l), omega (arith, l))
 
   -- what applies is a refusal of the order alone, or one of the last two
-  pub applies_or : (error : IssueError) → Applies maker o good error → (NoneApplies (Refuses o) → 60 ≤ number_of error)
+  pub applies_or : (error : IssueError) → AppliesToIssue maker o good error → (NoneApplies (AppliesToOrder o) → 60 ≤ refusal_number error)
   applies_or Memory h none = absurd h
   applies_or SignFailed h none = absurd h
   applies_or PayloadNotObject h none = absurd (none PayloadNotObject h)
@@ -78,13 +82,13 @@ module _ (maker : Maker) (o : Order) (good : Meaning) where
   applies_or (DigestClash i j) h none = omega arith
   applies_or TooLong h none = omega arith
 
-  pub clash_lowest : NoneApplies (Refuses o) → (i j : ℕ) → ClashesAt maker o i j → IsLowest (Applies maker o good) (DigestClash i j)
+  pub clash_lowest : NoneApplies (AppliesToOrder o) → (i j : ℕ) → ClashesAt maker o i j → IsLowestRefusal (AppliesToIssue maker o good) (DigestClash i j)
   clash_lowest none i j clash = record { applies = clash; lowest = λ other h. applies_or other h none; first = λ other h e. omega arith }
 
-  pub long_lowest : NoneApplies (Refuses o) → ((i j : ℕ) → ClashesAt maker o i j → ⊥) → IsTooLong maker o good → IsLowest (Applies maker o good) TooLong
+  pub long_lowest : NoneApplies (AppliesToOrder o) → ((i j : ℕ) → ClashesAt maker o i j → ⊥) → IsIssueTooLong maker o good → IsLowestRefusal (AppliesToIssue maker o good) TooLong
   long_lowest none differ long = record { applies = long; lowest = λ other h. go other h (applies_or other h none); first = λ other h e. omega arith }
     where
-      go : (other : IssueError) → Applies maker o good other → 60 ≤ number_of other → 61 ≤ number_of other
+      go : (other : IssueError) → AppliesToIssue maker o good other → 60 ≤ refusal_number other → 61 ≤ refusal_number other
       go (DigestClash i j) h l = absurd (differ i j h)
       go TooLong h l = omega arith
       go Memory h l = absurd (omega (arith, l))
@@ -99,14 +103,14 @@ module _ (maker : Maker) (o : Order) (good : Meaning) where
       go TooManyHidden h l = absurd (omega (arith, l))
       go TooManyDecoys h l = absurd (omega (arith, l))
 
-  raised : (error : IssueError) → number_of error ≤ 59 → (Refuses o error → Applies maker o good error) → IsLowest (Refuses o) error → IsLowest (Applies maker o good) error
+  raised : (error : IssueError) → refusal_number error ≤ 59 → (AppliesToOrder o error → AppliesToIssue maker o good error) → IsLowestRefusal (AppliesToOrder o) error → IsLowestRefusal (AppliesToIssue maker o good) error
   raised error low same l = record {
     applies = same l.applies;
     lowest = λ other h. lower other h;
     first = λ other h e. earlier other h e;
   }
     where
-      lower : (other : IssueError) → Applies maker o good other → number_of error ≤ number_of other
+      lower : (other : IssueError) → AppliesToIssue maker o good other → refusal_number error ≤ refusal_number other
       lower Memory h = l.lowest Memory h
       lower SignFailed h = l.lowest SignFailed h
       lower PayloadNotObject h = l.lowest PayloadNotObject h
@@ -121,7 +125,7 @@ module _ (maker : Maker) (o : Order) (good : Meaning) where
       lower (DigestClash i j) h = omega (arith, low)
       lower TooLong h = omega (arith, low)
 
-      earlier : (other : IssueError) → Applies maker o good other → number_of other ≡ number_of error → place_of error ≤ place_of other
+      earlier : (other : IssueError) → AppliesToIssue maker o good other → refusal_number other ≡ refusal_number error → refusal_place error ≤ refusal_place other
       earlier Memory h e = l.first Memory h e
       earlier SignFailed h e = l.first SignFailed h e
       earlier PayloadNotObject h e = l.first PayloadNotObject h e
@@ -136,7 +140,7 @@ module _ (maker : Maker) (o : Order) (good : Meaning) where
       earlier (DigestClash i j) h e = absurd (omega (arith, low, e))
       earlier TooLong h e = absurd (omega (arith, low, e))
 
-  pub order_refused : (error : IssueError) → IsRefused o error → IsNotIssued maker o good error
+  pub order_refused : (error : IssueError) → IsOrderRefused o error → IsNotIssued maker o good error
   order_refused Memory r = tt
   order_refused SignFailed r = absurd r.applies
   order_refused PayloadNotObject r = raised PayloadNotObject (omega arith) (λ h. h) r
@@ -182,7 +186,7 @@ pub parts_are_issued_holds : (good : Meaning) → PartsAreIssued good
 parts_are_issued_holds good maker o parts none ordered ranged short out differ =
     laid_out_issued maker o good parts (good_order o (λ error h. absurd (none error h)) ordered) ranged short out differ
 
-list_is : (ds : List Text) (dg : ℕ → Text) (n : ℕ) → length ds ≡ n → ((k : ℕ) (d : Text) → At ds k d → d ≡ dg k) → ds ≡ first_digests dg n
+list_is : (ds : List Text) (dg : ℕ → Text) (n : ℕ) → length ds ≡ n → ((k : ℕ) (d : Text) → StandsAt ds k d → d ≡ dg k) → ds ≡ first_digests dg n
 list_is [] dg zero e each = refl
 list_is [] dg (suc n) e each = absurd (omega (arith, e))
 list_is (d ∷ ds) dg zero e each = absurd (omega (arith, e))
@@ -201,7 +205,7 @@ module _ (seed : List ℕ) (o : Order) (body : Tree) (texts digests : List Text)
     clash = subst (λ (ds : List Text). IsFirstClash ds i j) (digests_are seed o body texts digests laid) clash;
   }
 
-  pub clash_refused : (good : Meaning) → NoneApplies (Refuses o) → (error : IssueError) → HasClash digests error → IsNotIssued (maker_of seed) o good error
+  pub clash_refused : (good : Meaning) → NoneApplies (AppliesToOrder o) → (error : IssueError) → HasClash digests error → IsNotIssued (maker_of seed) o good error
   clash_refused good none Memory h = tt
   clash_refused good none (DigestClash i j) h = clash_lowest (maker_of seed) o good none i j (clash_at i j h)
   clash_refused good none SignFailed h = absurd h
@@ -216,7 +220,7 @@ module _ (seed : List ℕ) (o : Order) (body : Tree) (texts digests : List Text)
   clash_refused good none TooManyDecoys h = absurd h
   clash_refused good none TooLong h = absurd h
 
-  pub no_clash : Nowhere (Repeats digests) → (i j : ℕ) → ClashesAt (maker_of seed) o i j → ⊥
+  pub no_clash : AtNone (Repeats digests) → (i j : ℕ) → ClashesAt (maker_of seed) o i j → ⊥
   no_clash none i j clash =
       let same = one_list (maker_of seed) o clash.payload laid.laid clash.given laid.given clash.digests laid.dg clash.laid laid.is_laid in
       none j (subst (λ (ds : List Text). Repeats ds j) (same ∙ sym (digests_are seed o body texts digests laid)) clash.clash.later.fails)
@@ -236,11 +240,11 @@ module _ (seed : List ℕ) (o : Order) (body : Tree) (texts digests : List Text)
     pub laid_out : IsLaidOut (maker_of seed) o good parts
     laid_out = record { payload = laid.laid; given = laid.given; digests = laid.dg; laid = laid.is_laid; written = written }
 
-    pub issued : IsGoodOrder o → IsRanged o.claims → HasShortLists o.claims → Nowhere (Repeats digests) → IsIssued (maker_of seed) o good parts
+    pub issued : IsGoodOrder o → IsRanged o.claims → HasShortLists o.claims → AtNone (Repeats digests) → IsIssued (maker_of seed) o good parts
     unfolding laid_out
     issued is_good ranged short none =
         laid_out_issued (maker_of seed) o good parts is_good ranged short laid_out
-        (all_differ laid.dg (hidden_of o + length (decoys_of o)) (subst (λ (ds : List Text). Nowhere (Repeats ds)) (digests_are seed o body texts digests laid) none))
+        (all_differ laid.dg (hidden_of o + length (decoys_of o)) (subst (λ (ds : List Text). AtNone (Repeats ds)) (digests_are seed o body texts digests laid) none))
 
 -- ---- what is finished, or not
 
@@ -251,16 +255,16 @@ module _ (seed : List ℕ) (o : Order) (body : Tree) (texts digests : List Text)
   pub finished_laid : (parts : Parts) → IsFinished header good body texts digests parts → IsLaidOut (maker_of seed) o good parts
   finished_laid parts done = laid_out seed o body texts digests laid good parts (named parts done.signed)
 
-  pub finished_issued : IsGoodOrder o → IsRanged o.claims → IsHeld o.claims → (parts : Parts) → IsFinished header good body texts digests parts → IsIssued (maker_of seed) o good parts
+  pub finished_issued : IsGoodOrder o → IsRanged o.claims → FitsMachine o.claims → (parts : Parts) → IsFinished header good body texts digests parts → IsIssued (maker_of seed) o good parts
   finished_issued is_good ranged held parts done = issued seed o body texts digests laid good parts (named parts done.signed) is_good ranged (held_short o.claims held) done.differ
 
-  long_refused : NoneApplies (Refuses o) → (error : IssueError) → IsOverlong header good body texts digests error → IsNotIssued (maker_of seed) o good error
+  long_refused : NoneApplies (AppliesToOrder o) → (error : IssueError) → IsOverlong header good body texts digests error → IsNotIssued (maker_of seed) o good error
   long_refused none error over =
       subst (IsNotIssued (maker_of seed) o good) (sym over.is)
       (long_lowest (maker_of seed) o good none (no_clash seed o body texts digests laid over.differ)
       (record { parts = over.parts; laid = laid_out seed o body texts digests laid good over.parts (named over.parts over.signed); long = over.long }))
 
-  pub unfinished_refused : NoneApplies (Refuses o) → (error : IssueError) → IsUnfinished header good body texts digests error → IsNotIssued (maker_of seed) o good error
+  pub unfinished_refused : NoneApplies (AppliesToOrder o) → (error : IssueError) → IsUnfinished header good body texts digests error → IsNotIssued (maker_of seed) o good error
   unfinished_refused none error h =
       ⊎_elim (clash_refused seed o body texts digests laid good none error)
       (λ k. ⊎_elim (λ u. unsigned_refused (maker_of seed) o good (record { passes = none; differ = no_clash seed o body texts digests laid u.0 }) error u.1) (long_refused none error) k) h

@@ -2,14 +2,14 @@
 use Rattle.std.proofs.Common.{◌≡◌, ℕ, suc, ◌+◌, List, [], ◌∷◌, length, Some, refl, sym, ap, subst, arith}
 use Rattle.std.specs.List.{AllZip}
 use Rattle.claim_tree.specs.Tree.{Text, Tree}
-use Rattle.claim_tree.specs.Lists.{At}
+use Rattle.claim_tree.specs.Lists.{StandsAt}
 use Rattle.compact_form.specs.declared.parts.Parts.{Parts}
 use Rattle.digest_sites.specs.Given.{Given}
 use Rattle.disclosure.specs.Digest.{digest_of, hash_of_name, payload_hash}
 use Rattle.disclosure.specs.Disclosure.{IsDisclosure}
 use Rattle.disclosure.specs.declared.digests.HashAlg.{HashAlg}
 use Rattle.hmac_sign.specs.Signatures.{Meaning}
-use Rattle.rebuild_core.specs.Conditions.{IsSound}
+use Rattle.rebuild_core.specs.Soundness.{IsSound}
 use Rattle.rebuild_core.specs.Payload.{alg_name, without_alg}
 use Rattle.issuer_core.specs.Decoys.{decoys_of}
 use Rattle.issuer_core.specs.Digests.{hidden_of, made_texts}
@@ -44,7 +44,7 @@ pub record HasIssued (seed : List ℕ) (o : Order) (good : Meaning) (parts : Par
   pub bare : without_alg (with_alg payload) ≡ payload
   pub texts : AllZip IsTextOf parts.disclosures given
 
-digests_zip : (seed : List ℕ) (k : ℕ) (given : List Given) → ((i : ℕ) (x : Given) → At given i x → x.digest ≡ digest_of HashAlg.Sha256 ((maker_of seed).disclosure (k + i) x.name x.value))
+digests_zip : (seed : List ℕ) (k : ℕ) (given : List Given) → ((i : ℕ) (x : Given) → StandsAt given i x → x.digest ≡ digest_of HashAlg.Sha256 ((maker_of seed).disclosure (k + i) x.name x.value))
     → AllZip (λ (d : Text) (x : Given). x.digest ≡ digest_of HashAlg.Sha256 d) (made_texts (maker_of seed).disclosure k given) given
 digests_zip seed k [] each = tt
 digests_zip seed k (x ∷ given) each = (

@@ -1,6 +1,6 @@
 -- What is presented of an issued token.
 use Rattle.std.proofs.Common.{sym, subst, ap, ◌∙◌}
-use Rattle.marked_tree.specs.Choice.{chosen}
+use Rattle.marked_tree.specs.Paths.{chosen}
 use Rattle.marked_tree.specs.Marked.{Marked, strip, prune}
 use Rattle.rebuild_core.specs.Laws.{Enumerates}
 use Rattle.rebuild_core.proofs.ChosenShown.{choice_shown_holds}

@@ -1,15 +1,16 @@
 -- An issued token is sound.
 use Rattle.std.proofs.Common.{◌≡◌, ℕ, zero, suc, ◌+◌, ◌<◌, ◌≤◌, List, [], ◌∷◌, ◌++◌, Bool, ap, arith, cond, false, inl, inr, is_some, length, refl, subst, sym, true, ◌∙◌, ltb}
 use Rattle.std.specs.Prelude.{bytes_eq}
-use Rattle.claim_tree.specs.Lists.{At, In, Nowhere, Repeats}
+use Rattle.claim_tree.specs.Lists.{StandsAt, In, AtNone, Repeats}
 use Rattle.claim_tree.specs.Tree.{Elements, Members, Text, Tree, array, depth, element, leaf, member, no_elements, no_members, object}
 use Rattle.digest_sites.specs.Given.{Given}
 use Rattle.marked_tree.specs.Laws.{HasEachMarkOnce}
-use Rattle.marked_tree.specs.Marked.{only, strip, weight}
-use Rattle.rebuild_core.specs.AllShown.{AreAllShown, ElementsTextLists, HasTextLists, MembersTextLists, all_digests}
-use Rattle.rebuild_core.specs.Conditions.{IsSound}
+use Rattle.marked_tree.specs.Marked.{strip}
+use Rattle.marked_tree.specs.Ways.{only, weight}
+use Rattle.rebuild_core.specs.AllShown.{AreAllShown, ElementsTextLists, HasTextLists, MembersTextLists}
+use Rattle.rebuild_core.specs.Soundness.{IsSound}
 use Rattle.rebuild_core.specs.Free.{HasNoReserved}
-use Rattle.rebuild_core.specs.Given.{given_digests}
+use Rattle.rebuild_core.specs.Reached.{given_digests, all_digests}
 use Rattle.rebuild_core.specs.Opening.{processed}
 use Rattle.issuer_core.specs.Digests.{Maker, decoy_digests, issued_digests}
 use Rattle.issuer_core.specs.GoodOrder.{IsGoodOrder}
@@ -24,7 +25,7 @@ use Rattle.issuer_core.proofs.LaidIssued.{issued}
 
 -- ---- lists that have each text as often
 
-once_at_most : (d : Text) (ds : List Text) → Nowhere (Repeats ds) → occurs d ds ≤ 1
+once_at_most : (d : Text) (ds : List Text) → AtNone (Repeats ds) → occurs d ds ≤ 1
 once_at_most d [] h = omega arith
 once_at_most d (e ∷ ds) h = go (bytes_eq e d) refl (once_at_most d ds (λ q r. h (suc q) (r.0, r.1, suc r.2, omega (arith, r.3), r.4)))
   where
@@ -42,22 +43,22 @@ once_at_most d (e ∷ ds) h = go (bytes_eq e d) refl (once_at_most d ds (λ q r.
         omega (arith, z)
     go false q ih = omega (arith, ih)
 
-pub there_once : (d : Text) (ds : List Text) (i : ℕ) → At ds i d → 1 ≤ occurs d ds
+pub there_once : (d : Text) (ds : List Text) (i : ℕ) → StandsAt ds i d → 1 ≤ occurs d ds
 there_once d (e ∷ ds) zero a = let q : bytes_eq e d ≡ true = bytes_refl e d (sym a) in rw q (omega arith)
 there_once d (e ∷ ds) (suc i) a = omega (arith, there_once d ds i a)
 there_once d [] i a = elim a [ ]
 
-there_twice : (d : Text) (ds : List Text) (i j : ℕ) → i < j → At ds i d → At ds j d → 2 ≤ occurs d ds
+there_twice : (d : Text) (ds : List Text) (i j : ℕ) → i < j → StandsAt ds i d → StandsAt ds j d → 2 ≤ occurs d ds
 there_twice d (e ∷ ds) zero zero l a b = absurd (omega arith)
 there_twice d (e ∷ ds) zero (suc j) l a b = let q : bytes_eq e d ≡ true = bytes_refl e d (sym a) in let z = there_once d ds j b in rw q (omega (arith, z))
 there_twice d (e ∷ ds) (suc i) zero l a b = absurd (omega arith)
 there_twice d (e ∷ ds) (suc i) (suc j) l a b = omega (arith, there_twice d ds i j (omega arith) a b)
 there_twice d [] i j l a b = elim a [ ]
 
-same_occurrences : (xs ys : List Text) → ((d : Text) → occurs d xs ≡ occurs d ys) → Nowhere (Repeats ys) → Nowhere (Repeats xs)
+same_occurrences : (xs ys : List Text) → ((d : Text) → occurs d xs ≡ occurs d ys) → AtNone (Repeats ys) → AtNone (Repeats xs)
 same_occurrences xs ys same none q (d, a, j, l, b) = absurd (omega (arith, there_twice d xs j q l b a, same d, once_at_most d ys none))
 
-first_part : (xs ys : List Text) → Nowhere (Repeats (xs ++ ys)) → Nowhere (Repeats xs)
+first_part : (xs ys : List Text) → AtNone (Repeats (xs ++ ys)) → AtNone (Repeats xs)
 first_part xs ys h q (d, a, j, l, b) = h q (d, At-left xs ys q d a, j, l, At-left xs ys j d b)
 
 -- ---- an issued token

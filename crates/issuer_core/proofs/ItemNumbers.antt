@@ -1,13 +1,14 @@
 -- The disclosures of what is laid: each has its number, and each mark finds its own.
 use Rattle.std.proofs.Common.{◌≡◌, ℕ, zero, suc, ◌+◌, ◌≤◌, List, [], ◌∷◌, ◌++◌, None, Option, Some, ap, arith, decimal, length, length-append, refl, subst, sym, ⊎_elim, ◌∙◌}
-use Rattle.claim_tree.specs.Lists.{At, Nowhere, Repeats}
+use Rattle.claim_tree.specs.Lists.{StandsAt, AtNone, Repeats}
 use Rattle.claim_tree.specs.Tree.{Text, Tree}
 use Rattle.digest_sites.specs.Given.{Given}
-use Rattle.marked_tree.specs.Marked.{Marked, MarkedElements, MarkedMembers, elements_weight, mark_weight, marked_array, marked_element, marked_leaf, marked_member, marked_object, members_weight, no_marked_elements, no_marked_members, weight}
-use Rattle.marked_tree.specs.Places.{Path}
-use Rattle.rebuild_core.specs.Given.{given_digests}
-use Rattle.issuer_core.specs.Closing.{ClosesFrom, ElementsClose, IsNumbered, MembersClose, one}
-use Rattle.issuer_core.specs.Laid.{laid_elements, laid_items, laid_members, lay, own_item}
+use Rattle.marked_tree.specs.Marked.{Marked, MarkedElements, MarkedMembers, marked_array, marked_element, marked_leaf, marked_member, marked_object, no_marked_elements, no_marked_members}
+use Rattle.marked_tree.specs.Ways.{elements_weight, mark_weight, members_weight, weight}
+use Rattle.marked_tree.specs.Paths.{Path}
+use Rattle.rebuild_core.specs.Reached.{given_digests}
+use Rattle.issuer_core.specs.Closing.{ClosesFrom, ElementsClose, HasNumber, MembersClose, one}
+use Rattle.issuer_core.specs.Laid.{laid_elements, laid_given, laid_members, lay, own_given}
 use Rattle.claim_tree.proofs.Lists.{At-either}
 use Rattle.rebuild_core.proofs.AllShown.{At-left, At-right}
 use Rattle.rebuild_core.proofs.Fixed.{find_at}
@@ -16,37 +17,37 @@ use Rattle.issuer_core.proofs.LaidOpens.{ElementsHaveItems, HasItems, MarkItem, 
 
 -- g has the elements of xs, from place n on
 abbrev pub Holds : List Given → ℕ → List Given → Type 0
-Holds g n xs = (q : ℕ) (x : Given) → At xs q x → At g (n + q) x
+Holds g n xs = (q : ℕ) (x : Given) → StandsAt xs q x → StandsAt g (n + q) x
 
 pub holds_first : (g : List Given) (n : ℕ) (xs ys : List Given) → Holds g n (xs ++ ys) → Holds g n xs
 holds_first g n xs ys h q x a = h q x (At-left xs ys q x a)
 
 pub holds_last : (g : List Given) (n k : ℕ) (xs ys : List Given) → k ≡ length xs → Holds g n (xs ++ ys) → Holds g (n + k) ys
-holds_last g n k xs ys e h q x a = subst (λ z. At g z x) (let c : n + (length xs + q) ≡ n + k + q = omega (arith, e) in c) (h (length xs + q) x (At-right xs ys q x a))
+holds_last g n k xs ys e h q x a = subst (λ z. StandsAt g z x) (let c : n + (length xs + q) ≡ n + k + q = omega (arith, e) in c) (h (length xs + q) x (At-right xs ys q x a))
 
 -- each item has the digest of its number
 abbrev pub Numbered : (ℕ → Text) → ℕ → List Given → Type 0
-Numbered dg n xs = (q : ℕ) (x : Given) → At xs q x → x.digest ≡ dg (n + q)
+Numbered dg n xs = (q : ℕ) (x : Given) → StandsAt xs q x → x.digest ≡ dg (n + q)
 
 numbered_join : (dg : ℕ → Text) (n : ℕ) (xs ys : List Given) → Numbered dg n xs → Numbered dg (n + length xs) ys → Numbered dg n (xs ++ ys)
 numbered_join dg n xs ys a b q x h =
     ⊎_elim (λ c. a q x c) (λ c. b c.0 x c.2 ∙ ap dg (let e : n + length xs + c.0 ≡ n + q = omega (arith, c.1) in e)) (At-either xs ys q x h)
 
-numbered_own : (dg : ℕ → Text) (name : Option Text) (k : Option ℕ) (n : ℕ) (v : Tree) → IsNumbered k n → Numbered dg n (own_item dg name k v)
+numbered_own : (dg : ℕ → Text) (name : Option Text) (k : Option ℕ) (n : ℕ) (v : Tree) → HasNumber k n → Numbered dg n (own_given dg name k v)
 numbered_own dg name None n v is q x h = elim h [ ]
 numbered_own dg name (Some k) n v is zero x h = ap (λ (z : Given). z.digest) h ∙ ap dg (let e : k ≡ n + 0 = omega (arith, is) in e)
 numbered_own dg name (Some k) n v is (suc q) x h = elim h [ ]
 
-numbered_step : (dg : ℕ → Text) (n a : ℕ) (k : Option ℕ) (name : Option Text) (v : Tree) (xs ys : List Given) → length xs ≡ a → IsNumbered k (n + a)
-    → Numbered dg n xs → Numbered dg (n + (mark_weight one k + a)) ys → Numbered dg n ((xs ++ own_item dg name k v) ++ ys)
+numbered_step : (dg : ℕ → Text) (n a : ℕ) (k : Option ℕ) (name : Option Text) (v : Tree) (xs ys : List Given) → length xs ≡ a → HasNumber k (n + a)
+    → Numbered dg n xs → Numbered dg (n + (mark_weight one k + a)) ys → Numbered dg n ((xs ++ own_given dg name k v) ++ ys)
 numbered_step dg n a k name v xs ys l is x y =
-    let own = own_item dg name k v in
+    let own = own_given dg name k v in
     numbered_join dg n (xs ++ own) ys
     (numbered_join dg n xs own x (subst (λ z. Numbered dg z own) (let e : n + a ≡ n + length xs = omega (arith, l) in e) (numbered_own dg name k (n + a) v is)))
     (subst (λ z. Numbered dg z ys) (let e : n + (mark_weight one k + a) ≡ n + length (xs ++ own) = omega (arith, l, length-append xs own, own_items_length dg name k v) in e) y)
 
 mutual
-  pub items_numbered : (dec : Path → List Text) (dg : ℕ → Text) (n : ℕ) (m : Marked) → ClosesFrom n m → Numbered dg n (laid_items dec dg m)
+  pub items_numbered : (dec : Path → List Text) (dg : ℕ → Text) (n : ℕ) (m : Marked) → ClosesFrom n m → Numbered dg n (laid_given dec dg m)
   items_numbered dec dg n (marked_leaf l) is = λ q x a. elim a [ ]
   items_numbered dec dg n (marked_array es) is = elements_numbered dec dg n 0 es is
   items_numbered dec dg n (marked_object ms) is = members_numbered dec dg n ms is
@@ -55,26 +56,26 @@ mutual
   elements_numbered dec dg n i no_marked_elements is = λ q x a. elim a [ ]
   elements_numbered dec dg n i (marked_element k t es) is =
       let s : Path → List Text = λ q. dec (decimal i ∷ q) in
-      numbered_step dg n (weight one t) k None (lay s dg t) (laid_items s dg t) (laid_elements dec dg (suc i) es) (items_length s dg t) is.1
+      numbered_step dg n (weight one t) k None (lay s dg t) (laid_given s dg t) (laid_elements dec dg (suc i) es) (items_length s dg t) is.1
       (items_numbered s dg n t is.0) (elements_numbered dec dg (n + (mark_weight one k + weight one t)) (suc i) es is.2)
 
   members_numbered : (dec : Path → List Text) (dg : ℕ → Text) (n : ℕ) (ms : MarkedMembers) → MembersClose n ms → Numbered dg n (laid_members dec dg ms)
   members_numbered dec dg n no_marked_members is = λ q x a. elim a [ ]
   members_numbered dec dg n (marked_member name k t ms) is =
       let s : Path → List Text = λ q. dec (name ∷ q) in
-      numbered_step dg n (weight one t) k (Some name) (lay s dg t) (laid_items s dg t) (laid_members dec dg ms) (items_length s dg t) is.1
+      numbered_step dg n (weight one t) k (Some name) (lay s dg t) (laid_given s dg t) (laid_members dec dg ms) (items_length s dg t) is.1
       (items_numbered s dg n t is.0) (members_numbered dec dg (n + (mark_weight one k + weight one t)) ms is.2)
 
 -- what a list holds of a node's items, and of those that follow
 pub record Parts (dg : ℕ → Text) (g : List Given) (n a : ℕ) (k : Option ℕ) (name : Option Text) (v : Tree) (xs ys : List Given) : Type 0 where
   pub inner : Holds g n xs
-  pub own : Holds g (n + a) (own_item dg name k v)
+  pub own : Holds g (n + a) (own_given dg name k v)
   pub rest : Holds g (n + (mark_weight one k + a)) ys
 
 pub parts : (dg : ℕ → Text) (g : List Given) (n a : ℕ) (k : Option ℕ) (name : Option Text) (v : Tree) (xs ys : List Given) → length xs ≡ a
-    → Holds g n ((xs ++ own_item dg name k v) ++ ys) → Parts dg g n a k name v xs ys
+    → Holds g n ((xs ++ own_given dg name k v) ++ ys) → Parts dg g n a k name v xs ys
 parts dg g n a k name v xs ys l h =
-    let o = own_item dg name k v in
+    let o = own_given dg name k v in
     let first = holds_first g n (xs ++ o) ys h in
     record {
       inner = holds_first g n xs o first;
@@ -84,15 +85,15 @@ parts dg g n a k name v xs ys l h =
 
 -- ---- each mark has its item
 
-module _ (g : List Given) (dg : ℕ → Text) (once : Nowhere (Repeats (given_digests g))) where
-  mark_item : (name : Option Text) (k : Option ℕ) (n : ℕ) (v : Tree) → IsNumbered k n → Holds g n (own_item dg name k v) → MarkItem g dg k name v
+module _ (g : List Given) (dg : ℕ → Text) (once : AtNone (Repeats (given_digests g))) where
+  mark_item : (name : Option Text) (k : Option ℕ) (n : ℕ) (v : Tree) → HasNumber k n → Holds g n (own_given dg name k v) → MarkItem g dg k name v
   mark_item name None n v is h = tt
   mark_item name (Some k) n v is h =
       let x : Given = record { digest = dg k; name = name; value = v } in
-      find_at g k x once (subst (λ z. At g z x) (let e : n + 0 ≡ k = omega (arith, is) in e) (h 0 x refl))
+      find_at g k x once (subst (λ z. StandsAt g z x) (let e : n + 0 ≡ k = omega (arith, is) in e) (h 0 x refl))
 
   mutual
-    pub has_items : (dec : Path → List Text) (n : ℕ) (m : Marked) → ClosesFrom n m → ((q : Path) → NoneFound g (dec q)) → Holds g n (laid_items dec dg m) → HasItems g dec dg m
+    pub has_items : (dec : Path → List Text) (n : ℕ) (m : Marked) → ClosesFrom n m → ((q : Path) → NoneFound g (dec q)) → Holds g n (laid_given dec dg m) → HasItems g dec dg m
     has_items dec n (marked_leaf l) is none all = tt
     has_items dec n (marked_array es) is none all = (none [], elements_have_items dec n 0 es is none all)
     has_items dec n (marked_object ms) is none all = (none [], members_have_items dec n ms is none all)
@@ -102,7 +103,7 @@ module _ (g : List Given) (dg : ℕ → Text) (once : Nowhere (Repeats (given_di
     elements_have_items dec n i no_marked_elements is none all = tt
     elements_have_items dec n i (marked_element k t es) is none all =
         let s : Path → List Text = λ q. dec (decimal i ∷ q) in
-        let w = parts dg g n (weight one t) k None (lay s dg t) (laid_items s dg t) (laid_elements dec dg (suc i) es) (items_length s dg t) all in (
+        let w = parts dg g n (weight one t) k None (lay s dg t) (laid_given s dg t) (laid_elements dec dg (suc i) es) (items_length s dg t) all in (
           mark_item None k (n + weight one t) (lay s dg t) is.1 w.own,
           has_items s n t is.0 (λ q. none (decimal i ∷ q)) w.inner,
           elements_have_items dec (n + (mark_weight one k + weight one t)) (suc i) es is.2 none w.rest,
@@ -113,7 +114,7 @@ module _ (g : List Given) (dg : ℕ → Text) (once : Nowhere (Repeats (given_di
     members_have_items dec n no_marked_members is none all = tt
     members_have_items dec n (marked_member name k t ms) is none all =
         let s : Path → List Text = λ q. dec (name ∷ q) in
-        let w = parts dg g n (weight one t) k (Some name) (lay s dg t) (laid_items s dg t) (laid_members dec dg ms) (items_length s dg t) all in (
+        let w = parts dg g n (weight one t) k (Some name) (lay s dg t) (laid_given s dg t) (laid_members dec dg ms) (items_length s dg t) all in (
           mark_item (Some name) k (n + weight one t) (lay s dg t) is.1 w.own,
           has_items s n t is.0 (λ q. none (name ∷ q)) w.inner,
           members_have_items dec (n + (mark_weight one k + weight one t)) ms is.2 none w.rest,

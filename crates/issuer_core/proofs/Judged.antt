@@ -6,13 +6,13 @@ use Rattle.claim_tree.specs.Tree.{Text, Tree, leaf, array, object, depth, IsOrde
 use Rattle.claim_tree.specs.Path.{tree_at}
 use Rattle.claim_tree.specs.Lists.{In}
 use Rattle.claim_tree.proofs.Lists.{bytes_same, bytes_refl, or_left, or_right, list_any-In, In-At}
-use Rattle.marked_tree.specs.Places.{Path}
+use Rattle.marked_tree.specs.Paths.{Path}
 use Rattle.issuer_core.specs.declared.order.Decoy.{Decoy}
 use Rattle.issuer_core.specs.declared.errors.IssueError.TheVariants.{PayloadNotObject, ReservedName, TooDeep, DecoyPlace}
 use Rattle.issuer_core.specs.Order.{Order}
-use Rattle.issuer_core.specs.Reserved.{reserved_places}
+use Rattle.issuer_core.specs.ReservedPaths.{reserved_paths}
 use Rattle.issuer_core.specs.GoodOrder.{IsObject, HoldsOthers, IsGoodOrder}
-use Rattle.issuer_core.specs.Refusals.{IsRoot, IsNowhere, IsProtected, IsMisplaced, protected_names}
+use Rattle.issuer_core.specs.OrderRefusals.{IsRoot, IsNowhere, IsProtected, IsMisplaced, protected_names}
 use Rattle.issuer_core.specs.Judging.{is_root, is_nowhere, is_protected, is_no_holder, is_misplaced, PassesBelow}
 use Rattle.issuer_core.proofs.Firsts.{Tells}
 use Rattle.issuer_core.proofs.ReservedPlaces.{no_reserved}
@@ -98,7 +98,7 @@ not_over a b h = grind arith
 pub good_order : (o : Order) → PassesBelow 58 o → IsOrdered o.claims → IsGoodOrder o
 good_order o below ordered = record {
   is_object = object_there o.claims (λ h. let over = below PayloadNotObject h in omega (arith, over));
-  no_reserved = no_reserved o.claims (none_there (slice_get (reserved_places o.claims) 0) (λ path e. let over = below (ReservedName path) e in omega (arith, over)));
+  no_reserved = no_reserved o.claims (none_there (slice_get (reserved_paths o.claims) 0) (λ path e. let over = below (ReservedName path) e in omega (arith, over)));
   shallow = not_over 100 (depth o.claims) (λ h. let over = below TooDeep h in omega (arith, over));
   decoys_held = λ entry stands.
       let w = In-At o.decoys entry stands in

@@ -7,9 +7,9 @@ use Rattle.claim_tree.specs.Tree.{ElementsRanged, IsRanged, Members, MembersRang
 use Rattle.digest_sites.specs.Given.{Given}
 use Rattle.digest_sites.specs.Reserved.{sd_name}
 use Rattle.marked_tree.specs.Marked.{Marked, MarkedElements, MarkedMembers, marked_array, marked_element, marked_leaf, marked_member, marked_object, no_marked_elements, no_marked_members, strip, strip_elements, strip_members}
-use Rattle.marked_tree.specs.Places.{Path}
-use Rattle.issuer_core.specs.Digests.{Maker, marked_of}
-use Rattle.issuer_core.specs.Laid.{IsLaid, digest_elements, hidden_digests, laid_elements, laid_items, laid_members, lay, lay_elements, lay_members, order_decoys, own_item, sorted, texts_array, with_sd}
+use Rattle.marked_tree.specs.Paths.{Path}
+use Rattle.issuer_core.specs.Digests.{Maker, marked_claims}
+use Rattle.issuer_core.specs.Laid.{IsLaid, digest_elements, hidden_digests, laid_elements, laid_given, laid_members, lay, lay_elements, lay_members, order_decoys, own_given, sorted, texts_array, with_sd}
 use Rattle.issuer_core.specs.Order.{Order}
 use Rattle.claim_tree.proofs.Datas.{MembersRanged-inserted}
 use Rattle.claim_tree.proofs.Lists.{In-append}
@@ -94,7 +94,7 @@ AllValues P xs = (x : Given) → In x xs → P x.value
 values_joined : (P : Tree → Type 0) (xs ys : List Given) → AllValues P xs → AllValues P ys → AllValues P (xs ++ ys)
 values_joined P xs ys a b x m = ⊎_elim (λ z. a x z) (λ z. b x z) (In-append x xs ys m)
 
-own_value : (P : Tree → Type 0) (dg : ℕ → Text) (name : Option Text) (k : Option ℕ) (v : Tree) → P v → AllValues P (own_item dg name k v)
+own_value : (P : Tree → Type 0) (dg : ℕ → Text) (name : Option Text) (k : Option ℕ) (v : Tree) → P v → AllValues P (own_given dg name k v)
 own_value P dg name None v h x m = elim m [ ]
 own_value P dg name (Some k) v h x (inl e) = subst (λ (z : Given). P z.value) (sym e) h
 own_value P dg name (Some k) v h x (inr m) = elim m [ ]
@@ -105,7 +105,7 @@ deeper a b xs l h x m = omega (arith, l, h x m)
 module _ (dg : ℕ → Text) where
   mutual
     -- the value of a disclosure is no deeper than the claims
-    pub items_depth : (dec : Path → List Text) (m : Marked) → AllValues (λ t. depth t ≤ depth (strip m)) (laid_items dec dg m)
+    pub items_depth : (dec : Path → List Text) (m : Marked) → AllValues (λ t. depth t ≤ depth (strip m)) (laid_given dec dg m)
     items_depth dec (marked_leaf l) = λ x m. elim m [ ]
     items_depth dec (marked_array es) = elements_items_depth dec 0 es
     items_depth dec (marked_object ms) = members_items_depth dec ms
@@ -115,8 +115,8 @@ module _ (dg : ℕ → Text) where
     elements_items_depth dec i (marked_element k t es) =
         let s : Path → List Text = λ q. dec (decimal i ∷ q) in
         let c = suc (elements_depth (strip_elements (marked_element k t es))) in
-        let xs = laid_items s dg t in
-        let own = own_item dg None k (lay s dg t) in
+        let xs = laid_given s dg t in
+        let own = own_given dg None k (lay s dg t) in
         let ys = laid_elements dec dg (suc i) es in
         values_joined (λ z. depth z ≤ c) (xs ++ own) ys
         (values_joined (λ z. depth z ≤ c) xs own (deeper (depth (strip t)) c xs (omega arith) (items_depth s t))
@@ -128,8 +128,8 @@ module _ (dg : ℕ → Text) where
     members_items_depth dec (marked_member name k t ms) =
         let s : Path → List Text = λ q. dec (name ∷ q) in
         let c = suc (members_depth (strip_members (marked_member name k t ms))) in
-        let xs = laid_items s dg t in
-        let own = own_item dg (Some name) k (lay s dg t) in
+        let xs = laid_given s dg t in
+        let own = own_given dg (Some name) k (lay s dg t) in
         let ys = laid_members dec dg ms in
         values_joined (λ z. depth z ≤ c) (xs ++ own) ys
         (values_joined (λ z. depth z ≤ c) xs own (deeper (depth (strip t)) c xs (omega arith) (items_depth s t))
@@ -137,7 +137,7 @@ module _ (dg : ℕ → Text) where
         (deeper (suc (members_depth (strip_members ms))) c ys (omega arith) (members_items_depth dec ms))
 
   mutual
-    pub items_ranged : (dec : Path → List Text) (m : Marked) → IsRanged (strip m) → AllValues IsRanged (laid_items dec dg m)
+    pub items_ranged : (dec : Path → List Text) (m : Marked) → IsRanged (strip m) → AllValues IsRanged (laid_given dec dg m)
     items_ranged dec (marked_leaf l) r = λ x m. elim m [ ]
     items_ranged dec (marked_array es) r = elements_items_ranged dec 0 es r
     items_ranged dec (marked_object ms) r = members_items_ranged dec ms r
@@ -146,16 +146,16 @@ module _ (dg : ℕ → Text) where
     elements_items_ranged dec i no_marked_elements r = λ x m. elim m [ ]
     elements_items_ranged dec i (marked_element k t es) r =
         let s : Path → List Text = λ q. dec (decimal i ∷ q) in
-        values_joined IsRanged (laid_items s dg t ++ own_item dg None k (lay s dg t)) (laid_elements dec dg (suc i) es)
-        (values_joined IsRanged (laid_items s dg t) (own_item dg None k (lay s dg t)) (items_ranged s t r.0) (own_value IsRanged dg None k (lay s dg t) (lay_ranged s dg t r.0)))
+        values_joined IsRanged (laid_given s dg t ++ own_given dg None k (lay s dg t)) (laid_elements dec dg (suc i) es)
+        (values_joined IsRanged (laid_given s dg t) (own_given dg None k (lay s dg t)) (items_ranged s t r.0) (own_value IsRanged dg None k (lay s dg t) (lay_ranged s dg t r.0)))
         (elements_items_ranged dec (suc i) es r.1)
 
     members_items_ranged : (dec : Path → List Text) (ms : MarkedMembers) → MembersRanged (strip_members ms) → AllValues IsRanged (laid_members dec dg ms)
     members_items_ranged dec no_marked_members r = λ x m. elim m [ ]
     members_items_ranged dec (marked_member name k t ms) r =
         let s : Path → List Text = λ q. dec (name ∷ q) in
-        values_joined IsRanged (laid_items s dg t ++ own_item dg (Some name) k (lay s dg t)) (laid_members dec dg ms)
-        (values_joined IsRanged (laid_items s dg t) (own_item dg (Some name) k (lay s dg t)) (items_ranged s t r.0)
+        values_joined IsRanged (laid_given s dg t ++ own_given dg (Some name) k (lay s dg t)) (laid_members dec dg ms)
+        (values_joined IsRanged (laid_given s dg t) (own_given dg (Some name) k (lay s dg t)) (items_ranged s t r.0)
         (own_value IsRanged dg (Some name) k (lay s dg t) (lay_ranged s dg t r.0)))
         (members_items_ranged dec ms r.1)
 
@@ -165,16 +165,16 @@ module _ (mk : Maker) (o : Order) (p : Tree) (g : List Given) (dg : ℕ → Text
   pub payload_depth : depth p ≤ suc (depth o.claims)
   payload_depth =
       subst (λ t. depth t ≤ suc (depth o.claims)) (sym laid.payload_laid)
-      (subst (λ t. depth (lay (order_decoys o dg) dg (marked_of o)) ≤ suc (depth t)) (mark_strips_holds o.claims o.hide) (lay_depth (order_decoys o dg) dg (marked_of o)))
+      (subst (λ t. depth (lay (order_decoys o dg) dg (marked_claims o)) ≤ suc (depth t)) (mark_strips_holds o.claims o.hide) (lay_depth (order_decoys o dg) dg (marked_claims o)))
 
   pub value_depth : (x : Given) → In x g → depth x.value ≤ depth o.claims
   value_depth x m =
       subst (λ t. depth x.value ≤ depth t) (mark_strips_holds o.claims o.hide)
-      (items_depth dg (order_decoys o dg) (marked_of o) x (subst (λ (xs : List Given). In x xs) laid.given_laid m))
+      (items_depth dg (order_decoys o dg) (marked_claims o) x (subst (λ (xs : List Given). In x xs) laid.given_laid m))
 
   pub payload_ranged : IsRanged o.claims → IsRanged p
-  payload_ranged r = subst IsRanged (sym laid.payload_laid) (lay_ranged (order_decoys o dg) dg (marked_of o) (subst IsRanged (sym (mark_strips_holds o.claims o.hide)) r))
+  payload_ranged r = subst IsRanged (sym laid.payload_laid) (lay_ranged (order_decoys o dg) dg (marked_claims o) (subst IsRanged (sym (mark_strips_holds o.claims o.hide)) r))
 
   pub value_ranged : IsRanged o.claims → (x : Given) → In x g → IsRanged x.value
   value_ranged r x m =
-      items_ranged dg (order_decoys o dg) (marked_of o) (subst IsRanged (sym (mark_strips_holds o.claims o.hide)) r) x (subst (λ (xs : List Given). In x xs) laid.given_laid m)
+      items_ranged dg (order_decoys o dg) (marked_claims o) (subst IsRanged (sym (mark_strips_holds o.claims o.hide)) r) x (subst (λ (xs : List Given). In x xs) laid.given_laid m)

@@ -3,21 +3,22 @@ use Rattle.std.proofs.Common.{◌≡◌, ℕ, zero, suc, ◌+◌, List, [], ◌�
 use Rattle.std.specs.Cmp.Lexicographic.{slice_cmp}
 use Rattle.std.specs.Ordering.{match_ordering, nat_cmp}
 use Rattle.std.specs.Prelude.{bytes_eq, option_and_then}
-use Rattle.claim_tree.specs.Lists.{At, In}
+use Rattle.claim_tree.specs.Lists.{StandsAt, In}
 use Rattle.claim_tree.specs.Path.{element_on, tree_at}
 use Rattle.claim_tree.specs.Tree.{Text, Tree, elements_len, member_named, names}
 use Rattle.digest_sites.specs.Given.{Given}
 use Rattle.digest_sites.specs.Reserved.{element_digest, sd_name, sd_texts}
 use Rattle.digest_sites.specs.Sites.{Site, Step, element_site, element_sites, member_sites, own_site, sites, sites_on, step_text, to_element, to_member, under}
-use Rattle.marked_tree.specs.Marked.{Marked, MarkedElements, MarkedMembers, mark_weight, marked_array, marked_element, marked_leaf, marked_member, marked_object, no_marked_elements, no_marked_members, only, strip, strip_elements, strip_members, weight}
-use Rattle.marked_tree.specs.Places.{Path, Spot, elements_spots, inside, is_among, members_spots, own_spot, place, spots}
-use Rattle.rebuild_core.specs.Given.{Item, all_items, item, payload, value_items, value_of}
-use Rattle.issuer_core.specs.Closing.{ClosesFrom, ElementsClose, IsNumbered, MembersClose, one}
+use Rattle.marked_tree.specs.Marked.{Marked, MarkedElements, MarkedMembers, marked_array, marked_element, marked_leaf, marked_member, marked_object, no_marked_elements, no_marked_members, strip, strip_elements, strip_members}
+use Rattle.marked_tree.specs.Ways.{mark_weight, only, weight}
+use Rattle.marked_tree.specs.Paths.{Path, Spot, elements_spots, inside, is_among, members_spots, own_spot, mark_path, spots}
+use Rattle.rebuild_core.specs.Reached.{OwnedSite, all_sites, owned_site, payload, value_sites, value_of}
+use Rattle.issuer_core.specs.Closing.{ClosesFrom, ElementsClose, HasNumber, MembersClose, one}
 use Rattle.issuer_core.specs.Decoys.{decoys_of, earlier}
-use Rattle.issuer_core.specs.Digests.{Maker, hidden_of, marked_of}
+use Rattle.issuer_core.specs.Digests.{Maker, hidden_of, marked_claims}
 use Rattle.issuer_core.specs.GoodOrder.{HoldsOthers, IsGoodOrder}
 use Rattle.issuer_core.specs.Issued.{DecoysStand, IsDecoySite, or_root, origin}
-use Rattle.issuer_core.specs.Laid.{IsLaid, digest_elements, digest_object, hidden_digests, laid_elements, laid_items, laid_members, lay, lay_elements, lay_members, order_decoys, own_item, sorted, sorted_with, with_sd}
+use Rattle.issuer_core.specs.Laid.{IsLaid, digest_elements, digest_object, hidden_digests, laid_elements, laid_given, laid_members, lay, lay_elements, lay_members, order_decoys, own_given, sorted, sorted_with, with_sd}
 use Rattle.issuer_core.specs.Laws.{LaidIsIssued}
 use Rattle.issuer_core.specs.Order.{Order}
 use Rattle.claim_tree.proofs.Lists.{At-In, At-below, In-left, In-map, In-right, bytes_same}
@@ -52,18 +53,18 @@ sort_has (d ∷ ds) e m = insert_has d (sorted ds) e (⊎_elim (λ q. inl q) (λ
 module _ (p : Tree) (g : List Given) (dg : ℕ → Text) (M : Marked) where
   -- each of the sites is an item whose origin lies below pre
   abbrev Embeds : Path → List Site → Type 0
-  Embeds pre ss = (s : Site) → In s ss → (z : Item) × In z (all_items p g) × (z.site.digest ≡ s.digest) × (z.site.kind ≡ s.kind) × (origin M z ≡ pre ++ map step_text s.at)
+  Embeds pre ss = (s : Site) → In s ss → (z : OwnedSite) × In z (all_sites p g) × (z.site.digest ≡ s.digest) × (z.site.kind ≡ s.kind) × (origin M z ≡ pre ++ map step_text s.at)
 
   abbrev Spotted : Path → List Spot → Type 0
-  Spotted pre xs = (s : Spot) → In s xs → place M s.mark ≡ Some (pre ++ s.at)
+  Spotted pre xs = (s : Spot) → In s xs → mark_path M s.mark ≡ Some (pre ++ s.at)
 
   record Below (pre : Path) (step : Step) (u : Marked) (v : Tree) : Type 0 where
     embeds : Embeds (pre ++ (step_text step ∷ [])) (sites v)
     spotted : Spotted (pre ++ (step_text step ∷ [])) (spots u)
 
   -- a hidden node is no site above, but its value is that of a disclosure
-  descend : (step : Step) (pre : Path) (k : Option ℕ) (n : ℕ) (name : Option Text) (u : Marked) (v : Tree) → IsNumbered k n → (k ≡ None → Embeds pre (map (under step) (sites v)))
-      → Spotted pre (own_spot (step_text step) k ++ map (inside (step_text step) k) (spots u)) → Holds g n (own_item dg name k v) → Below pre step u v
+  descend : (step : Step) (pre : Path) (k : Option ℕ) (n : ℕ) (name : Option Text) (u : Marked) (v : Tree) → HasNumber k n → (k ≡ None → Embeds pre (map (under step) (sites v)))
+      → Spotted pre (own_spot (step_text step) k ++ map (inside (step_text step) k) (spots u)) → Holds g n (own_given dg name k v) → Below pre step u v
   descend step pre k n name u v is emb sp own = record {
     embeds = go k is emb sp own;
     spotted = λ s m.
@@ -71,15 +72,15 @@ module _ (p : Tree) (g : List Given) (dg : ℕ → Text) (M : Marked) where
         ∙ ap Some (sym (append_assoc pre (step_text step ∷ []) s.at));
   }
     where
-      go : (k : Option ℕ) → IsNumbered k n → (k ≡ None → Embeds pre (map (under step) (sites v))) → Spotted pre (own_spot (step_text step) k ++ map (inside (step_text step) k) (spots u)) → Holds g n (own_item dg name k v)
+      go : (k : Option ℕ) → HasNumber k n → (k ≡ None → Embeds pre (map (under step) (sites v))) → Spotted pre (own_spot (step_text step) k ++ map (inside (step_text step) k) (spots u)) → Holds g n (own_given dg name k v)
           → Embeds (pre ++ (step_text step ∷ [])) (sites v)
       go None is emb sp own s m = let w = emb refl (under step s) (In-map (under step) s (sites v) m) in (w.0, w.1, w.2, w.3, w.4 ∙ sym (append_assoc pre (step_text step ∷ []) (map step_text s.at)))
       go (Some j) is emb sp own s m =
           let x : Given = record { digest = dg j; name = name; value = v } in
-          let a : At g j x = subst (λ z. At g z x) (let e : n + 0 ≡ j = omega (arith, is) in e) (own 0 x refl) in
+          let a : StandsAt g j x = subst (λ z. StandsAt g z x) (let e : n + 0 ≡ j = omega (arith, is) in e) (own 0 x refl) in
           let at_place = sp (record { mark = j; at = step_text step ∷ []; above = [] }) (inl refl) in (
-            item (value_of j) s,
-            In-right (item (value_of j) s) (map (item payload) (sites p)) (value_items (λ x. true) 0 g) (item_of_value (λ x. true) g 0 j j x s (omega arith) a refl m),
+            owned_site (value_of j) s,
+            In-right (owned_site (value_of j) s) (map (owned_site payload) (sites p)) (value_sites (λ x. true) 0 g) (item_of_value (λ x. true) g 0 j j x s (omega arith) a refl m),
             refl,
             refl,
             ap (λ o. or_root o ++ map step_text s.at) at_place,
@@ -109,7 +110,7 @@ module _ (p : Tree) (g : List Given) (dg : ℕ → Text) (M : Marked) where
       )
 
   -- the decoys of a list come after its elements
-  at_decoys : (ds : List Text) (i e : ℕ) (d : Text) → At ds e d → In (element_site (to_element (i + e)) d) (element_sites i (digest_elements ds))
+  at_decoys : (ds : List Text) (i e : ℕ) (d : Text) → StandsAt ds e d → In (element_site (to_element (i + e)) d) (element_sites i (digest_elements ds))
   at_decoys (c ∷ ds) i zero d a =
       let x : i + 0 ≡ i = omega arith in
       In-left (element_site (to_element (i + 0)) d) (sites_on (to_element i) (element_digest (digest_object c)) (sites (digest_object c))) (element_sites (suc i) (digest_elements ds))
@@ -126,7 +127,7 @@ module _ (p : Tree) (g : List Given) (dg : ℕ → Text) (M : Marked) where
       let v = lay (λ q. dec (decimal i ∷ q)) dg u in
       In-right s (sites_on (to_element i) (element_digest v) (sites v)) (element_sites (suc i) (lay_elements dec dg (suc i) es)) m
 
-  after_all : (dec : Path → List Text) (i : ℕ) (es : MarkedElements) (e : ℕ) (d : Text) → At (dec []) e d
+  after_all : (dec : Path → List Text) (i : ℕ) (es : MarkedElements) (e : ℕ) (d : Text) → StandsAt (dec []) e d
       → In (element_site (to_element (i + (elements_len (strip_elements es) + e))) d) (element_sites i (lay_elements dec dg i es))
   after_all dec i no_marked_elements e d a =
       let x : i + e ≡ i + (0 + e) = omega arith in
@@ -138,15 +139,15 @@ module _ (p : Tree) (g : List Given) (dg : ℕ → Text) (M : Marked) where
       (one_right k dec i t es (element_site (to_element (suc i + (len + e))) d) (after_all dec (suc i) es e d a))
 
   abbrev Standing : Text → Path → ℕ → Option Tree → Type 0
-  Standing d q e o = (z : Item) × In z (all_items p g) × (z.site.digest ≡ d) × IsDecoySite M z q e o
+  Standing d q e o = (z : OwnedSite) × In z (all_sites p g) × (z.site.digest ≡ d) × IsDecoySite M z q e o
 
   restep : (d : Text) (pre : Path) (k l : Text) (r : Path) (e : ℕ) (o : Option Tree) → bytes_eq l k ≡ true → Standing d ((pre ++ (l ∷ [])) ++ r) e o → Standing d (pre ++ (k ∷ r)) e o
   restep d pre k l r e o h s = subst (λ q. Standing d q e o) (append_assoc pre (l ∷ []) r ∙ ap (λ c. pre ++ (c ∷ r)) (bytes_same l k h)) s
 
   mutual
     pub decoy_there : (r : Path) (m : Marked) (dec : Path → List Text) (n : ℕ) (pre : Path) → IsPlain m → ClosesFrom n m → HoldsOthers (tree_at (strip m) r)
-        → Embeds pre (sites (lay dec dg m)) → Spotted pre (spots m) → Holds g n (laid_items dec dg m)
-        → (e : ℕ) (d : Text) → At (dec r) e d → Standing d (pre ++ r) e (tree_at (strip m) r)
+        → Embeds pre (sites (lay dec dg m)) → Spotted pre (spots m) → Holds g n (laid_given dec dg m)
+        → (e : ℕ) (d : Text) → StandsAt (dec r) e d → Standing d (pre ++ r) e (tree_at (strip m) r)
     decoy_there [] (marked_leaf l) dec n pre plain is holds emb sp all e d a = absurd holds
     decoy_there [] (marked_array es) dec n pre plain is holds emb sp all e d a =
         let len = elements_len (strip_elements es) in
@@ -173,13 +174,13 @@ module _ (p : Tree) (g : List Given) (dg : ℕ → Text) (M : Marked) where
     element_there : (k : Text) (r : Path) (i : ℕ) (es : MarkedElements) (dec : Path → List Text) (n : ℕ) (pre : Path) → ElementsPlain es → ElementsClose n es
         → HoldsOthers (option_and_then (λ z. tree_at z r) (element_on (strip_elements es) i k))
         → Embeds pre (element_sites i (lay_elements dec dg i es)) → Spotted pre (elements_spots i es) → Holds g n (laid_elements dec dg i es)
-        → (e : ℕ) (d : Text) → At (dec (k ∷ r)) e d → Standing d (pre ++ (k ∷ r)) e (option_and_then (λ z. tree_at z r) (element_on (strip_elements es) i k))
+        → (e : ℕ) (d : Text) → StandsAt (dec (k ∷ r)) e d → Standing d (pre ++ (k ∷ r)) e (option_and_then (λ z. tree_at z r) (element_on (strip_elements es) i k))
     element_there k r i no_marked_elements dec n pre plain is holds emb sp all e d a = absurd holds
     element_there k r i (marked_element j t es) dec n pre plain is holds emb sp all e d a =
         let s : Path → List Text = λ q. dec (decimal i ∷ q) in
         let v = lay s dg t in
         let own = own_spot (decimal i) j ++ map (inside (decimal i) j) (spots t) in
-        let w = parts dg g n (weight one t) j None v (laid_items s dg t) (laid_elements dec dg (suc i) es) (items_length s dg t) all in
+        let w = parts dg g n (weight one t) j None v (laid_given s dg t) (laid_elements dec dg (suc i) es) (items_length s dg t) all in
         let embs = embeds_element j pre dec i t es plain.0 emb in
         let down = descend (to_element i) pre j (n + weight one t) None t v is.1 embs.0 (λ c m. sp c (In-left c own (elements_spots (suc i) es) m)) w.own in
         go (bytes_eq (decimal i) k) refl holds
@@ -187,22 +188,22 @@ module _ (p : Tree) (g : List Given) (dg : ℕ → Text) (M : Marked) where
         (λ x. element_there k r (suc i) es dec (n + (mark_weight one j + weight one t)) pre plain.1 is.2 x embs.1 (λ c m. sp c (In-right c own (elements_spots (suc i) es) m)) w.rest e d a)
       where
         go : (c : Bool) → bytes_eq (decimal i) k ≡ c → HoldsOthers (option_and_then (λ z. tree_at z r) (cond c (Some (strip t)) (element_on (strip_elements es) (suc i) k)))
-            → (HoldsOthers (tree_at (strip t) r) → At (dec (decimal i ∷ r)) e d → Standing d ((pre ++ (decimal i ∷ [])) ++ r) e (tree_at (strip t) r))
+            → (HoldsOthers (tree_at (strip t) r) → StandsAt (dec (decimal i ∷ r)) e d → Standing d ((pre ++ (decimal i ∷ [])) ++ r) e (tree_at (strip t) r))
             → (HoldsOthers (option_and_then (λ z. tree_at z r) (element_on (strip_elements es) (suc i) k)) → Standing d (pre ++ (k ∷ r)) e (option_and_then (λ z. tree_at z r) (element_on (strip_elements es) (suc i) k)))
             → Standing d (pre ++ (k ∷ r)) e (option_and_then (λ z. tree_at z r) (cond c (Some (strip t)) (element_on (strip_elements es) (suc i) k)))
-        go true q x here rest = restep d pre k (decimal i) r e (tree_at (strip t) r) q (here x (subst (λ l. At (dec (l ∷ r)) e d) (sym (bytes_same (decimal i) k q)) a))
+        go true q x here rest = restep d pre k (decimal i) r e (tree_at (strip t) r) q (here x (subst (λ l. StandsAt (dec (l ∷ r)) e d) (sym (bytes_same (decimal i) k q)) a))
         go false q x here rest = rest x
 
     member_there : (k : Text) (r : Path) (ms : MarkedMembers) (dec : Path → List Text) (n : ℕ) (pre : Path) → MembersPlain ms → MembersClose n ms
         → HoldsOthers (option_and_then (λ z. tree_at z r) (member_named (strip_members ms) k))
         → Embeds pre (member_sites (lay_members dec dg ms)) → Spotted pre (members_spots ms) → Holds g n (laid_members dec dg ms)
-        → (e : ℕ) (d : Text) → At (dec (k ∷ r)) e d → Standing d (pre ++ (k ∷ r)) e (option_and_then (λ z. tree_at z r) (member_named (strip_members ms) k))
+        → (e : ℕ) (d : Text) → StandsAt (dec (k ∷ r)) e d → Standing d (pre ++ (k ∷ r)) e (option_and_then (λ z. tree_at z r) (member_named (strip_members ms) k))
     member_there k r no_marked_members dec n pre plain is holds emb sp all e d a = absurd holds
     member_there k r (marked_member l j t ms) dec n pre plain is holds emb sp all e d a =
         let s : Path → List Text = λ q. dec (l ∷ q) in
         let v = lay s dg t in
         let own = own_spot l j ++ map (inside l j) (spots t) in
-        let w = parts dg g n (weight one t) j (Some l) v (laid_items s dg t) (laid_members dec dg ms) (items_length s dg t) all in
+        let w = parts dg g n (weight one t) j (Some l) v (laid_given s dg t) (laid_members dec dg ms) (items_length s dg t) all in
         let embs = embeds_member j pre dec l t ms plain.0 emb in
         let down = descend (to_member l) pre j (n + weight one t) (Some l) t v is.1 embs.0 (λ c m. sp c (In-left c own (members_spots ms) m)) w.own in
         go (bytes_eq l k) refl holds
@@ -210,27 +211,27 @@ module _ (p : Tree) (g : List Given) (dg : ℕ → Text) (M : Marked) where
         (λ x. member_there k r ms dec (n + (mark_weight one j + weight one t)) pre plain.4 is.2 x embs.1 (λ c m. sp c (In-right c own (members_spots ms) m)) w.rest e d a)
       where
         go : (c : Bool) → bytes_eq l k ≡ c → HoldsOthers (option_and_then (λ z. tree_at z r) (cond c (Some (strip t)) (member_named (strip_members ms) k)))
-            → (HoldsOthers (tree_at (strip t) r) → At (dec (l ∷ r)) e d → Standing d ((pre ++ (l ∷ [])) ++ r) e (tree_at (strip t) r))
+            → (HoldsOthers (tree_at (strip t) r) → StandsAt (dec (l ∷ r)) e d → Standing d ((pre ++ (l ∷ [])) ++ r) e (tree_at (strip t) r))
             → (HoldsOthers (option_and_then (λ z. tree_at z r) (member_named (strip_members ms) k)) → Standing d (pre ++ (k ∷ r)) e (option_and_then (λ z. tree_at z r) (member_named (strip_members ms) k)))
             → Standing d (pre ++ (k ∷ r)) e (option_and_then (λ z. tree_at z r) (cond c (Some (strip t)) (member_named (strip_members ms) k)))
-        go true q x here rest = restep d pre k l r e (tree_at (strip t) r) q (here x (subst (λ c. At (dec (c ∷ r)) e d) (sym (bytes_same l k q)) a))
+        go true q x here rest = restep d pre k l r e (tree_at (strip t) r) q (here x (subst (λ c. StandsAt (dec (c ∷ r)) e d) (sym (bytes_same l k q)) a))
         go false q x here rest = rest x
 
 -- ---- the order's decoys
 
 pub decoys_stand : (mk : Maker) (o : Order) (p : Tree) (g : List Given) (dg : ℕ → Text) → IsGoodOrder o → IsLaid mk o p g dg → DecoysStand mk o p g
 decoys_stand mk o p g dg good laid d q a =
-    let same : strip (marked_of o) ≡ o.claims = mark_strips_holds o.claims o.hide in
-    let w = decoy_there p g dg (marked_of o) q (marked_of o) (order_decoys o dg) 0 [] (marked_plain (is_among o.hide) 0 o.claims good.ordered good.no_reserved) (order_closes o)
+    let same : strip (marked_claims o) ≡ o.claims = mark_strips_holds o.claims o.hide in
+    let w = decoy_there p g dg (marked_claims o) q (marked_claims o) (order_decoys o dg) 0 [] (marked_plain (is_among o.hide) 0 o.claims good.ordered good.no_reserved) (order_closes o)
     (subst (λ t. HoldsOthers (tree_at t q)) (sym same) (held_at o good q (At-In (decoys_of o) d q a)))
     (λ s m.
     let i : In s (sites p) = subst (λ (t : Tree). In s (sites t)) (sym laid.payload_laid) m in
-    (item payload s, In-left (item payload s) (map (item payload) (sites p)) (value_items (λ x. true) 0 g) (In-map (item payload) s (sites p) i), refl, refl, refl))
-    (λ s m. first_is s.mark (spots (marked_of o)) s
-    (omega (arith, spots_weigh (only s.mark) (marked_of o), marks_once_holds o.claims o.hide s.mark, up_to_le s.mark (hidden_of o))) m refl)
-    (λ i x b. subst (λ n. At g n x) (let e : i ≡ 0 + i = omega arith in e) (subst (λ (xs : List Given). At xs i x) (sym laid.given_laid) b))
+    (owned_site payload s, In-left (owned_site payload s) (map (owned_site payload) (sites p)) (value_sites (λ x. true) 0 g) (In-map (owned_site payload) s (sites p) i), refl, refl, refl))
+    (λ s m. first_is s.mark (spots (marked_claims o)) s
+    (omega (arith, spots_weigh (only s.mark) (marked_claims o), marks_once_holds o.claims o.hide s.mark, up_to_le s.mark (hidden_of o))) m refl)
+    (λ i x b. subst (λ n. StandsAt g n x) (let e : i ≡ 0 + i = omega arith in e) (subst (λ (xs : List Given). StandsAt xs i x) (sym laid.given_laid) b))
     (earlier d q (decoys_of o)) (dg (hidden_of o + d)) (earlier_at dg (hidden_of o) (decoys_of o) d q a) in
-    (w.0, w.1, w.2 ∙ laid.decoys d (At-below (decoys_of o) d q a), subst (λ t. IsDecoySite (marked_of o) w.0 q (earlier d q (decoys_of o)) (tree_at t q)) same w.3)
+    (w.0, w.1, w.2 ∙ laid.decoys d (At-below (decoys_of o) d q a), subst (λ t. IsDecoySite (marked_claims o) w.0 q (earlier d q (decoys_of o)) (tree_at t q)) same w.3)
 
 pub laid_is_issued_holds : LaidIsIssued
 laid_is_issued_holds mk o p g dg good ranged short laid differ = issued mk o p g dg good ranged short laid differ (decoys_stand mk o p g dg good laid)

@@ -1,16 +1,17 @@
 -- What is laid, with digests that all differ, is issued.
 use Rattle.std.proofs.Common.{◌≡◌, ℕ, suc, ◌+◌, ◌<◌, List, [], ◌∷◌, ap, ap₂, arith, cond, length, refl, subst, sym, ◌∙◌}
 use Rattle.std.specs.Prelude.{bytes_eq}
-use Rattle.claim_tree.specs.Lists.{At, In, Nowhere, Repeats}
+use Rattle.claim_tree.specs.Lists.{StandsAt, In, AtNone, Repeats}
 use Rattle.claim_tree.specs.Tree.{Text, Tree, IsRanged}
 use Rattle.digest_sites.specs.Given.{Given}
 use Rattle.digest_sites.specs.Sites.{sites}
-use Rattle.marked_tree.specs.Places.{Path, is_among}
-use Rattle.rebuild_core.specs.AllShown.{all_digests}
-use Rattle.rebuild_core.specs.Given.{given_digests}
+use Rattle.marked_tree.specs.Paths.{Path, is_among}
+use Rattle.rebuild_core.specs.Reached.{given_digests, all_digests}
 use Rattle.issuer_core.specs.Decoys.{decoys_at, decoys_of}
-use Rattle.issuer_core.specs.Digests.{AllDiffer, Maker, decoy_digests, digests_from, hidden_of, issued_digests, marked_of}
-use Rattle.issuer_core.specs.GoodOrder.{IsGoodOrder, HasShortLists}
+use Rattle.issuer_core.specs.Digests.{Maker, decoy_digests, digests_from, hidden_of, issued_digests, marked_claims}
+use Rattle.issuer_core.specs.IssueCalls.{AllDiffer}
+use Rattle.issuer_core.specs.GoodOrder.{IsGoodOrder}
+use Rattle.issuer_core.specs.ShortLists.{HasShortLists}
 use Rattle.issuer_core.specs.Issued.{DecoysStand, HasDigestLists, IsIssuedFor}
 use Rattle.issuer_core.specs.Laid.{IsLaid}
 use Rattle.issuer_core.specs.Order.{Order}
@@ -27,11 +28,11 @@ use Rattle.issuer_core.proofs.LaidSums.{all_sum, digest_sum, laid_sum, occurs_is
 use Rattle.issuer_core.proofs.Plain.{marked_plain}
 
 -- the digests of a list in which none repeats
-pub all_differ : (dg : ℕ → Text) (ds : List Text) → ((k : ℕ) (d : Text) → At ds k d → d ≡ dg k) → Nowhere (Repeats ds) → AllDiffer dg (length ds)
+pub all_differ : (dg : ℕ → Text) (ds : List Text) → ((k : ℕ) (d : Text) → StandsAt ds k d → d ≡ dg k) → AtNone (Repeats ds) → AllDiffer dg (length ds)
 all_differ dg ds same none i j l b e =
     let x = At-get ds i (omega (arith, l, b)) in
     let y = At-get ds j b in
-    none j (y.0, y.1, i, l, subst (λ z. At ds i z) (same i x.0 x.1 ∙ e ∙ sym (same j y.0 y.1)) x.1)
+    none j (y.0, y.1, i, l, subst (λ z. StandsAt ds i z) (same i x.0 x.1 ∙ e ∙ sym (same j y.0 y.1)) x.1)
 
 numbered_same : (f h : ℕ → Text) (k : ℕ) (qs : List Path) → ((d : ℕ) → d < length qs → f (k + d) ≡ h (k + d)) → digests_from f k qs ≡ digests_from h k qs
 numbered_same f h k [] e = refl
@@ -50,7 +51,7 @@ module _ (mk : Maker) (o : Order) (p : Tree) (g : List Given) (dg : ℕ → Text
         all_sum f p g,
         ap (λ t. site_sum f (sites t)) laid.payload_laid,
         ap (value_sum f) laid.given_laid,
-        laid_sum f dec dg (marked_of o) (marked_plain (is_among o.hide) 0 o.claims good.ordered good.no_reserved),
+        laid_sum f dec dg (marked_claims o) (marked_plain (is_among o.hide) 0 o.claims good.ordered good.no_reserved),
         ap (digest_sum f) laid.given_laid,
         ap (decoy_sum f dec) (mark_strips_holds o.claims o.hide),
         decoys_sum f dg (hidden_of o) (decoys_of o) o.claims good.ordered short (held_at o good),

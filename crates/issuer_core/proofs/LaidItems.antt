@@ -1,13 +1,14 @@
 -- What is laid for an order opens to its marked claims.
 use Rattle.std.proofs.Common.{◌≡◌, ℕ, zero, suc, ◌+◌, ◌<◌, List, [], ◌∷◌, None, Option, Some, ap, arith, length, refl, subst, sym, ⊎_elim, ◌∙◌}
-use Rattle.claim_tree.specs.Lists.{At, Nowhere, Repeats}
+use Rattle.claim_tree.specs.Lists.{StandsAt, AtNone, Repeats}
 use Rattle.claim_tree.specs.Tree.{Text, Tree}
 use Rattle.digest_sites.specs.Given.{Given}
-use Rattle.marked_tree.specs.Places.{Path, is_among}
-use Rattle.rebuild_core.specs.Given.{find, given_digests}
+use Rattle.marked_tree.specs.Paths.{Path, is_among}
+use Rattle.rebuild_core.specs.Reached.{find, given_digests}
 use Rattle.rebuild_core.specs.Opening.{opened, processed}
 use Rattle.issuer_core.specs.Decoys.{decoys_at, decoys_of}
-use Rattle.issuer_core.specs.Digests.{AllDiffer, Maker, decoy_digests, digests_from, hidden_of, issued_digests, marked_of}
+use Rattle.issuer_core.specs.Digests.{Maker, decoy_digests, digests_from, hidden_of, issued_digests, marked_claims}
+use Rattle.issuer_core.specs.IssueCalls.{AllDiffer}
 use Rattle.issuer_core.specs.GoodOrder.{IsGoodOrder}
 use Rattle.issuer_core.specs.Laid.{IsLaid}
 use Rattle.issuer_core.specs.Order.{Order}
@@ -28,17 +29,17 @@ module _ (mk : Maker) (o : Order) (p : Tree) (g : List Given) (dg : ℕ → Text
   dec = decoys_at dg n (decoys_of o)
 
   pub laid_count : length g ≡ hidden_of o
-  laid_count = ap length laid.given_laid ∙ items_length dec dg (marked_of o) ∙ order_marks o
+  laid_count = ap length laid.given_laid ∙ items_length dec dg (marked_claims o) ∙ order_marks o
 
-  pub digest_is : (k : ℕ) (x : Given) → At g k x → x.digest ≡ dg k
+  pub digest_is : (k : ℕ) (x : Given) → StandsAt g k x → x.digest ≡ dg k
   digest_is k x a =
-      items_numbered dec dg 0 (marked_of o) (order_closes o) k x (subst (λ (xs : List Given). At xs k x) laid.given_laid a)
+      items_numbered dec dg 0 (marked_claims o) (order_closes o) k x (subst (λ (xs : List Given). StandsAt xs k x) laid.given_laid a)
       ∙ ap dg (let e : 0 + k ≡ k = omega arith in e)
 
-  pub laid_made : (k : ℕ) (x : Given) → At g k x → x.digest ≡ mk.digest (mk.disclosure k x.name x.value)
+  pub laid_made : (k : ℕ) (x : Given) → StandsAt g k x → x.digest ≡ mk.digest (mk.disclosure k x.name x.value)
   laid_made k x a = digest_is k x a ∙ laid.disclosures k x a
 
-  numbered_at : (f : ℕ → Text) (k : ℕ) (qs : List Path) (i : ℕ) (d : Text) → At (digests_from f k qs) i d → (i < length qs) × (d ≡ f (k + i))
+  numbered_at : (f : ℕ → Text) (k : ℕ) (qs : List Path) (i : ℕ) (d : Text) → StandsAt (digests_from f k qs) i d → (i < length qs) × (d ≡ f (k + i))
   numbered_at f k (q ∷ qs) zero d h = (omega arith, h ∙ ap f (let e : k ≡ k + 0 = omega arith in e))
   numbered_at f k (q ∷ qs) (suc i) d h = let w = numbered_at f (suc k) qs i d h in (omega (arith, w.0), w.1 ∙ ap f (let e : suc k + i ≡ k + suc i = omega arith in e))
   numbered_at f k [] i d h = elim h [ ]
@@ -48,7 +49,7 @@ module _ (mk : Maker) (o : Order) (p : Tree) (g : List Given) (dg : ℕ → Text
   given_length (x ∷ g) = omega (arith, given_length g)
 
   -- the digest at each place is that of its number
-  issued_at : (q : ℕ) (d : Text) → At (issued_digests mk o g) q d → (q < n + length (decoys_of o)) × (d ≡ dg q)
+  issued_at : (q : ℕ) (d : Text) → StandsAt (issued_digests mk o g) q d → (q < n + length (decoys_of o)) × (d ≡ dg q)
   issued_at q d h =
       ⊎_elim
       (λ a. let w = At-of_map (λ (x : Given). x.digest) g q d a in (omega (arith, At-below g q w.0 w.1, laid_count), w.2 ∙ digest_is q w.0 w.1))
@@ -58,13 +59,13 @@ module _ (mk : Maker) (o : Order) (p : Tree) (g : List Given) (dg : ℕ → Text
       (omega (arith, w.0, e), w.1 ∙ sym (laid.decoys b.0 w.0) ∙ ap dg e))
       (At-either (given_digests g) (decoy_digests mk o) q d h)
 
-  pub laid_differ : Nowhere (Repeats (issued_digests mk o g))
+  pub laid_differ : AtNone (Repeats (issued_digests mk o g))
   laid_differ q (d, a, j, l, b) =
       let x = issued_at q d a in
       let y = issued_at j d b in
       differ j q l x.0 (sym y.1 ∙ x.1)
 
-  pub given_differ : Nowhere (Repeats (given_digests g))
+  pub given_differ : AtNone (Repeats (given_digests g))
   given_differ q (d, a, j, l, b) = laid_differ q (d, At-left (given_digests g) (decoy_digests mk o) q d a, j, l, At-left (given_digests g) (decoy_digests mk o) j d b)
 
   pub none_found : (q : Path) → NoneFound g (decoys_at dg (hidden_of o) (decoys_of o) q)
@@ -77,11 +78,11 @@ module _ (mk : Maker) (o : Order) (p : Tree) (g : List Given) (dg : ℕ → Text
           let w = in_decoys dg n (decoys_of o) q d m in
           absurd (differ f.0 (n + w.0) (omega (arith, At-below g f.0 x f.1, laid_count)) (omega (arith, w.1)) (sym (digest_is f.0 x f.1) ∙ f.2 ∙ w.2))
 
-  pub laid_processed : processed p g ≡ marked_of o
+  pub laid_processed : processed p g ≡ marked_claims o
   laid_processed =
       ap (opened (suc (length g)) g) laid.payload_laid
-      ∙ laid_opens g dg (suc (length g)) dec (marked_of o)
-      (omega (arith, depth_within (marked_of o), order_marks o, laid_count))
+      ∙ laid_opens g dg (suc (length g)) dec (marked_claims o)
+      (omega (arith, depth_within (marked_claims o), order_marks o, laid_count))
       (marked_plain (is_among o.hide) 0 o.claims good.ordered good.no_reserved)
-      (has_items g dg given_differ dec 0 (marked_of o) (order_closes o) none_found
-      (λ q x a. subst (λ z. At g z x) (let e : q ≡ 0 + q = omega arith in e) (subst (λ (xs : List Given). At xs q x) (sym laid.given_laid) a)))
+      (has_items g dg given_differ dec 0 (marked_claims o) (order_closes o) none_found
+      (λ q x a. subst (λ z. StandsAt g z x) (let e : q ≡ 0 + q = omega arith in e) (subst (λ (xs : List Given). StandsAt xs q x) (sym laid.given_laid) a)))

@@ -9,12 +9,12 @@ use Rattle.claim_tree.specs.Tree.{Elements, IsBefore, IsBeforeAll, Members, Text
 use Rattle.digest_sites.specs.Given.{Given}
 use Rattle.digest_sites.specs.Reserved.{dots_name, sd_name}
 use Rattle.marked_tree.specs.Marked.{Marked, MarkedElements, MarkedMembers, marked_element, marked_member}
-use Rattle.marked_tree.specs.Places.{Path, below, hidden_elements, hidden_in, hidden_members, mark_elements, mark_from, mark_if, mark_members, one_if, same_path}
+use Rattle.marked_tree.specs.Paths.{Path, below, hidden_elements, hidden_in, hidden_members, mark_elements, mark_from, mark_if, mark_members, one_if, same_path}
 use Rattle.rebuild_core.specs.Free.{ElementsNoReserved, HasNoReserved, MembersNoReserved}
 use Rattle.issuer_core.specs.Decoys.{decoys_at}
-use Rattle.issuer_core.specs.Digests.{AllDiffer}
+use Rattle.issuer_core.specs.IssueCalls.{AllDiffer}
 use Rattle.issuer_core.specs.Issued.{ElementsDigestLists, HasDigestLists, IsDigestList, MembersDigestLists, Rises}
-use Rattle.issuer_core.specs.Laid.{digest_elements, digest_object, hidden_digests, laid_elements, laid_items, laid_members, lay, lay_elements, lay_members, own_item, sorted, sorted_with, texts_array, with_sd}
+use Rattle.issuer_core.specs.Laid.{digest_elements, digest_object, hidden_digests, laid_elements, laid_given, laid_members, lay, lay_elements, lay_members, own_given, sorted, sorted_with, texts_array, with_sd}
 use Rattle.claim_tree.proofs.Lists.{In-append}
 use Rattle.marked_tree.proofs.Puts.{IsBeforeAll-weaker, after_turned}
 use Rattle.rebuild_core.proofs.Sums.{Apart}
@@ -178,13 +178,13 @@ module _ (dg : ℕ → Text) (n c : ℕ) (differ : AllDiffer dg (n + c)) where
   listed_join : (xs ys : List Given) → ValuesListed xs → ValuesListed ys → ValuesListed (xs ++ ys)
   listed_join xs ys a b x m = ⊎_elim (λ z. a x z) (λ z. b x z) (In-append x xs ys m)
 
-  listed_own : (name : Option Text) (b : Bool) (j : ℕ) (v : Tree) → HasDigestLists v → ValuesListed (own_item dg name (mark_if b j) v)
+  listed_own : (name : Option Text) (b : Bool) (j : ℕ) (v : Tree) → HasDigestLists v → ValuesListed (own_given dg name (mark_if b j) v)
   listed_own name true j v h x (inl e) = subst (λ (z : Given). HasDigestLists z.value) (sym e) h
   listed_own name true j v h x (inr m) = elim m [ ]
   listed_own name false j v h x m = elim m [ ]
 
   mutual
-    pub items_listed : (dec : Path → List Text) → AreDecoys dec → (h : Path → Bool) (k : ℕ) (t : Tree) → HasNoReserved t → k + hidden_in h t ≤ n → ValuesListed (laid_items dec dg (mark_from h k t))
+    pub items_listed : (dec : Path → List Text) → AreDecoys dec → (h : Path → Bool) (k : ℕ) (t : Tree) → HasNoReserved t → k + hidden_in h t ≤ n → ValuesListed (laid_given dec dg (mark_from h k t))
     items_listed dec d h k (leaf l) f le = λ x m. elim m [ ]
     items_listed dec d h k (array es) f le = elements_listed dec d h k 0 es f le
     items_listed dec d h k (object ms) f le = members_listed dec d h k ms f le
@@ -197,8 +197,8 @@ module _ (dg : ℕ → Text) (n c : ℕ) (differ : AllDiffer dg (n + c)) where
         let b = h (decimal i ∷ []) in
         let u = mark_from (below (decimal i) h) k t in
         let dd = under_decoys (decimal i) dec d in
-        listed_join (laid_items s dg u ++ own_item dg None (mark_if b (k + a)) (lay s dg u)) (laid_elements dec dg (suc i) (mark_elements h (k + (a + one_if b)) (suc i) es))
-        (listed_join (laid_items s dg u) (own_item dg None (mark_if b (k + a)) (lay s dg u)) (items_listed s dd (below (decimal i) h) k t f.0 (omega (arith, le)))
+        listed_join (laid_given s dg u ++ own_given dg None (mark_if b (k + a)) (lay s dg u)) (laid_elements dec dg (suc i) (mark_elements h (k + (a + one_if b)) (suc i) es))
+        (listed_join (laid_given s dg u) (own_given dg None (mark_if b (k + a)) (lay s dg u)) (items_listed s dd (below (decimal i) h) k t f.0 (omega (arith, le)))
         (listed_own None b (k + a) (lay s dg u) (lay_lists s dd (below (decimal i) h) k t f.0 (omega (arith, le)))))
         (elements_listed dec d h (k + (a + one_if b)) (suc i) es f.1 (omega (arith, le)))
 
@@ -210,8 +210,8 @@ module _ (dg : ℕ → Text) (n c : ℕ) (differ : AllDiffer dg (n + c)) where
         let b = h (l ∷ []) in
         let u = mark_from (below l h) k t in
         let dd = under_decoys l dec d in
-        listed_join (laid_items s dg u ++ own_item dg (Some l) (mark_if b (k + a)) (lay s dg u)) (laid_members dec dg (mark_members h (k + (a + one_if b)) ms))
-        (listed_join (laid_items s dg u) (own_item dg (Some l) (mark_if b (k + a)) (lay s dg u)) (items_listed s dd (below l h) k t f.1 (omega (arith, le)))
+        listed_join (laid_given s dg u ++ own_given dg (Some l) (mark_if b (k + a)) (lay s dg u)) (laid_members dec dg (mark_members h (k + (a + one_if b)) ms))
+        (listed_join (laid_given s dg u) (own_given dg (Some l) (mark_if b (k + a)) (lay s dg u)) (items_listed s dd (below l h) k t f.1 (omega (arith, le)))
         (listed_own (Some l) b (k + a) (lay s dg u) (lay_lists s dd (below l h) k t f.1 (omega (arith, le)))))
         (members_listed dec d h (k + (a + one_if b)) ms f.2 (omega (arith, le)))
 

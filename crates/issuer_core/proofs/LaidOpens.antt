@@ -4,9 +4,10 @@ use Rattle.claim_tree.specs.Lists.{In}
 use Rattle.claim_tree.specs.Tree.{IsBefore, IsBeforeAll, Text, Tree}
 use Rattle.digest_sites.specs.Given.{Given}
 use Rattle.digest_sites.specs.Reserved.{sd_name}
-use Rattle.marked_tree.specs.Marked.{Marked, MarkedElements, MarkedMembers, marked_array, marked_element, marked_leaf, marked_member, marked_names, marked_object, no_marked_elements, no_marked_members}
-use Rattle.rebuild_core.specs.Given.{find}
-use Rattle.rebuild_core.specs.Opening.{Shown, hidden, open_element, open_elements, open_members, open_tree, reveal, show_element, show_member, show_members, shown, shown_by}
+use Rattle.marked_tree.specs.Marked.{Marked, MarkedElements, MarkedMembers, marked_array, marked_element, marked_leaf, marked_member, marked_object, no_marked_elements, no_marked_members}
+use Rattle.marked_tree.specs.MarkedCalls.{marked_names}
+use Rattle.rebuild_core.specs.Reached.{find}
+use Rattle.rebuild_core.specs.Opening.{Shown, nothing_shown, open_element, open_elements, open_members, open_tree, reveal, show_element, show_member, show_members, shown, shown_by}
 use Rattle.issuer_core.specs.Laid.{digest_object, hidden_digests, lay, lay_elements, lay_members, sorted, with_sd}
 use Rattle.claim_tree.proofs.Lists.{In-append}
 use Rattle.marked_tree.proofs.Puts.{never_itself, put_first, put_later}
@@ -61,7 +62,7 @@ abbrev mutual
 -- ---- names shown after k
 
 abbrev ShowsAfter : Text → Shown → Type 0
-ShowsAfter k hidden = Unit {0}
+ShowsAfter k nothing_shown = Unit {0}
 ShowsAfter k (shown i None t) = Unit {0}
 ShowsAfter k (shown i (Some l) t) = IsBefore k l
 
@@ -71,17 +72,17 @@ show_after r k i t [] ms h = refl
 show_after r k i t (d ∷ ds) ms h = ap (show_members r ds) (one (r d) (h d (inl refl))) ∙ show_after r k i t ds (show_member (r d) ms) (λ e m. h e (inr m))
   where
     one : (x : Shown) → ShowsAfter k x → show_member x (marked_member k i t ms) ≡ marked_member k i t (show_member x ms)
-    one hidden a = refl
+    one nothing_shown a = refl
     one (shown j None u) a = refl
     one (shown j (Some l) u) a = put_later l (Some j) u k i t ms a
 
 apart_after : (k : Text) (i : ℕ) (t : Marked) (x y : Shown) → x ≡ shown i (Some k) t → ShowsAfter k y → ShowApart x y
-apart_after k i t x hidden e a = subst (λ z. ShowApart z hidden) (sym e) tt
+apart_after k i t x nothing_shown e a = subst (λ z. ShowApart z nothing_shown) (sym e) tt
 apart_after k i t x (shown j None u) e a = subst (λ z. ShowApart z (shown j None u)) (sym e) tt
 apart_after k i t x (shown j (Some l) u) e a = subst (λ z. ShowApart z (shown j (Some l) u)) (sym e) (λ q. never_itself k (subst (λ z. IsBefore k z) (sym q) a))
 
-apart_hidden : (x y : Shown) → y ≡ hidden → ShowApart x y
-apart_hidden hidden y e = tt
+apart_hidden : (x y : Shown) → y ≡ nothing_shown → ShowApart x y
+apart_hidden nothing_shown y e = tt
 apart_hidden (shown i None t) y e = tt
 apart_hidden (shown i (Some a) t) y e = subst (λ z. ShowApart (shown i (Some a) t) z) (sym e) tt
 

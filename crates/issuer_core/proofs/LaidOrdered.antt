@@ -4,11 +4,12 @@ use Rattle.claim_tree.specs.Lists.{In}
 use Rattle.claim_tree.specs.Tree.{ElementsOrdered, IsBeforeAll, IsOrdered, Members, MembersOrdered, Text, Tree, array, names}
 use Rattle.digest_sites.specs.Given.{Given}
 use Rattle.digest_sites.specs.Reserved.{sd_name}
-use Rattle.marked_tree.specs.Marked.{Marked, MarkedElements, MarkedMembers, marked_array, marked_element, marked_leaf, marked_member, marked_names, marked_object, no_marked_elements, no_marked_members}
-use Rattle.marked_tree.specs.Places.{Path, is_among}
+use Rattle.marked_tree.specs.Marked.{Marked, MarkedElements, MarkedMembers, marked_array, marked_element, marked_leaf, marked_member, marked_object, no_marked_elements, no_marked_members}
+use Rattle.marked_tree.specs.MarkedCalls.{marked_names}
+use Rattle.marked_tree.specs.Paths.{Path, is_among}
 use Rattle.issuer_core.specs.Decoys.{decoys_at, decoys_of}
-use Rattle.issuer_core.specs.Digests.{hidden_of, marked_of}
-use Rattle.issuer_core.specs.Laid.{digest_elements, hidden_digests, laid_elements, laid_items, laid_members, lay, lay_elements, lay_members, own_item, sorted, texts_array, with_sd}
+use Rattle.issuer_core.specs.Digests.{hidden_of, marked_claims}
+use Rattle.issuer_core.specs.Laid.{digest_elements, hidden_digests, laid_elements, laid_given, laid_members, lay, lay_elements, lay_members, own_given, sorted, texts_array, with_sd}
 use Rattle.issuer_core.specs.Laws.{LaidIsReadable}
 use Rattle.claim_tree.proofs.Lists.{In-append}
 use Rattle.claim_tree.proofs.MapPlaces.{ordered-inserted}
@@ -54,13 +55,13 @@ module _ (dg : ℕ → Text) where
   join : (xs ys : List Given) → ValuesOrdered xs → ValuesOrdered ys → ValuesOrdered (xs ++ ys)
   join xs ys a b x m = ⊎_elim (λ z. a x z) (λ z. b x z) (In-append x xs ys m)
 
-  own : (name : Option Text) (i : Option ℕ) (v : Tree) → IsOrdered v → ValuesOrdered (own_item dg name i v)
+  own : (name : Option Text) (i : Option ℕ) (v : Tree) → IsOrdered v → ValuesOrdered (own_given dg name i v)
   own name None v h x m = elim m [ ]
   own name (Some k) v h x (inl e) = subst (λ (z : Given). IsOrdered z.value) (sym e) h
   own name (Some k) v h x (inr m) = elim m [ ]
 
   mutual
-    items_ordered : (dec : Path → List Text) (m : Marked) → IsPlain m → ValuesOrdered (laid_items dec dg m)
+    items_ordered : (dec : Path → List Text) (m : Marked) → IsPlain m → ValuesOrdered (laid_given dec dg m)
     items_ordered dec (marked_leaf l) p = λ x m. elim m [ ]
     items_ordered dec (marked_array es) p = elements_items_ordered dec 0 es p
     items_ordered dec (marked_object ms) p = members_items_ordered dec ms p
@@ -69,21 +70,21 @@ module _ (dg : ℕ → Text) where
     elements_items_ordered dec i no_marked_elements p = λ x m. elim m [ ]
     elements_items_ordered dec i (marked_element k t es) p =
         let s : Path → List Text = λ q. dec (decimal i ∷ q) in
-        join (laid_items s dg t ++ own_item dg None k (lay s dg t)) (laid_elements dec dg (suc i) es)
-        (join (laid_items s dg t) (own_item dg None k (lay s dg t)) (items_ordered s t p.0) (own None k (lay s dg t) (lay_ordered s t p.0))) (elements_items_ordered dec (suc i) es p.1)
+        join (laid_given s dg t ++ own_given dg None k (lay s dg t)) (laid_elements dec dg (suc i) es)
+        (join (laid_given s dg t) (own_given dg None k (lay s dg t)) (items_ordered s t p.0) (own None k (lay s dg t) (lay_ordered s t p.0))) (elements_items_ordered dec (suc i) es p.1)
 
     members_items_ordered : (dec : Path → List Text) (ms : MarkedMembers) → MembersPlain ms → ValuesOrdered (laid_members dec dg ms)
     members_items_ordered dec no_marked_members p = λ x m. elim m [ ]
     members_items_ordered dec (marked_member k i t ms) p =
         let s : Path → List Text = λ q. dec (k ∷ q) in
-        join (laid_items s dg t ++ own_item dg (Some k) i (lay s dg t)) (laid_members dec dg ms)
-        (join (laid_items s dg t) (own_item dg (Some k) i (lay s dg t)) (items_ordered s t p.3) (own (Some k) i (lay s dg t) (lay_ordered s t p.3))) (members_items_ordered dec ms p.4)
+        join (laid_given s dg t ++ own_given dg (Some k) i (lay s dg t)) (laid_members dec dg ms)
+        (join (laid_given s dg t) (own_given dg (Some k) i (lay s dg t)) (items_ordered s t p.3) (own (Some k) i (lay s dg t) (lay_ordered s t p.3))) (members_items_ordered dec ms p.4)
 
 pub laid_is_readable_holds : LaidIsReadable
 laid_is_readable_holds mk o p g dg good laid =
     let dec = decoys_at dg (hidden_of o) (decoys_of o) in
     let plain = marked_plain (is_among o.hide) 0 o.claims good.ordered good.no_reserved in
     record {
-      in_payload = subst IsOrdered (sym laid.payload_laid) (lay_ordered dg dec (marked_of o) plain);
-      in_values = λ x m. items_ordered dg dec (marked_of o) plain x (subst (λ (xs : List Given). In x xs) laid.given_laid m);
+      in_payload = subst IsOrdered (sym laid.payload_laid) (lay_ordered dg dec (marked_claims o) plain);
+      in_values = λ x m. items_ordered dg dec (marked_claims o) plain x (subst (λ (xs : List Given). In x xs) laid.given_laid m);
     }

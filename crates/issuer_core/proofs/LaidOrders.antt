@@ -3,17 +3,17 @@ use Rattle.std.proofs.Common.{◌≡◌, ℕ, zero, suc, ◌+◌, ◌<◌, ◌�
 use Rattle.std.specs.List.{slice_get}
 use Rattle.std.proofs.lemmas.List.{length-append, length-map, length-drop}
 use Rattle.claim_tree.specs.Tree.{Text, Tree, leaf, text}
-use Rattle.claim_tree.specs.Lists.{At}
+use Rattle.claim_tree.specs.Lists.{StandsAt}
 use Rattle.digest_sites.specs.Given.{Given}
 use Rattle.disclosure.specs.Disclosure.{disclosure_text}
-use Rattle.marked_tree.specs.Places.{Path}
+use Rattle.marked_tree.specs.Paths.{Path}
 use Rattle.issuer_core.specs.Order.{Order}
 use Rattle.issuer_core.specs.Decoys.{decoys_of}
-use Rattle.issuer_core.specs.Digests.{hidden_of, marked_of, made_texts}
-use Rattle.issuer_core.specs.Laid.{lay, laid_items, order_decoys}
+use Rattle.issuer_core.specs.Digests.{hidden_of, marked_claims, made_texts}
+use Rattle.issuer_core.specs.Laid.{lay, laid_given, order_decoys}
 use Rattle.issuer_core.specs.Salts.{salt_of}
 use Rattle.issuer_core.specs.Seed.{maker_of}
-use Rattle.issuer_core.specs.Laying.{nth, digest, digest_at, salted, placed, IsLaidWith, IsLaidFor}
+use Rattle.issuer_core.specs.Laying.{nth, digest, digest_at, salted, digests_on_path, IsLaidWith, IsLaidFor}
 use Rattle.issuer_core.proofs.LayingSteps.{Made, nth_got, made_length}
 use Rattle.issuer_core.proofs.SortedEntries.{placed_numbered}
 
@@ -40,7 +40,7 @@ made_same : (f g : Made) (k n : ℕ) (xs : List Given) → k + length xs ≤ n �
 made_same f g k n [] l same = refl
 made_same f g k n (x ∷ xs) l same = ap₂ (λ (t : Text) (ts : List Text). t ∷ ts) (same k (omega (arith, l)) x.name x.value) (made_same f g (suc k) n xs (omega (arith, l)) same)
 
-made_at : (f : Made) (n : ℕ) (xs : List Given) (k : ℕ) (x : Given) → At xs k x → (k < length xs) × (nth (made_texts f n xs) k ≡ f (n + k) x.name x.value)
+made_at : (f : Made) (n : ℕ) (xs : List Given) (k : ℕ) (x : Given) → StandsAt xs k x → (k < length xs) × (nth (made_texts f n xs) k ≡ f (n + k) x.name x.value)
 made_at f n [] k x a = elim a [ ]
 made_at f n (y ∷ xs) zero x a = let none : n + 0 ≡ n = omega arith in (omega arith, rw (none, a) refl)
 made_at f n (y ∷ xs) (suc k) x a =
@@ -48,7 +48,7 @@ made_at f n (y ∷ xs) (suc k) x a =
     let more : suc n + k ≡ n + suc k = omega arith in
     (omega (arith, rest.0), rest.1 ∙ ap (λ j. f j x.name x.value) more)
 
-digests_at : (ts us : List Text) (k : ℕ) (d : Text) → At (map digest ts ++ map digest us) k d → d ≡ digest_at (ts ++ us) k
+digests_at : (ts us : List Text) (k : ℕ) (d : Text) → StandsAt (map digest ts ++ map digest us) k d → d ≡ digest_at (ts ++ us) k
 digests_at [] [] k d a = elim a [ ]
 digests_at [] (u ∷ us) zero d a = a
 digests_at [] (u ∷ us) (suc k) d a = digests_at [] us k d a
@@ -58,7 +58,7 @@ digests_at (t ∷ ts) us (suc k) d a = digests_at ts us k d a
 module _ (seed : List ℕ) (o : Order) (salts texts digests : List Text) (body : Tree)
     (many : length salts ≡ hidden_of o + length (decoys_of o))
     (each : (k : ℕ) → k < length salts → Some (salt_of seed k) ≡ slice_get salts k)
-    (h : IsLaidWith salts (hidden_of o) (decoys_of o) (marked_of o) body texts digests)
+    (h : IsLaidWith salts (hidden_of o) (decoys_of o) (marked_claims o) body texts digests)
   where
     abbrev pieces : List Text
     pieces = drop (hidden_of o) salts
@@ -75,13 +75,13 @@ module _ (seed : List ℕ) (o : Order) (salts texts digests : List Text) (body :
     piece_at : (k : ℕ) → nth (texts ++ pieces) (hidden_of o + k) ≡ nth pieces k
     piece_at k = ap (λ n. nth (texts ++ pieces) (n + k)) (sym h.count) ∙ nth_behind texts pieces k
 
-    tells : (q : Path) → placed (decoys_of o) (map digest pieces) q ≡ order_decoys o dg q
+    tells : (q : Path) → digests_on_path (decoys_of o) (map digest pieces) q ≡ order_decoys o dg q
     tells q =
         placed_numbered (decoys_of o) (map digest pieces) dg (hidden_of o) (length-map pieces digest ∙ pieces_many)
         (λ k l. nth_map pieces k (let m = pieces_many in omega (arith, m, l)) ∙ ap digest (sym (piece_at k))) q
 
     abbrev given : List Given
-    given = laid_items (order_decoys o dg) dg (marked_of o)
+    given = laid_given (order_decoys o dg) dg (marked_claims o)
 
     texts_are : texts ≡ made_texts (maker_of seed).disclosure 0 given
     texts_are =
@@ -90,7 +90,7 @@ module _ (seed : List ℕ) (o : Order) (salts texts digests : List Text) (body :
         let long : length given ≡ length texts = sym (ap length first ∙ made_length (salted salts) 0 given) in
         first ∙ made_same (salted salts) (maker_of seed).disclosure 0 (length salts) given (omega (arith, long, count, many)) (λ j l name value. ap (λ s. disclosure_text (leaf (text s)) name value) (salt_is j l))
 
-    disclosed : (k : ℕ) (x : Given) → At given k x → dg k ≡ digest ((maker_of seed).disclosure k x.name x.value)
+    disclosed : (k : ℕ) (x : Given) → StandsAt given k x → dg k ≡ digest ((maker_of seed).disclosure k x.name x.value)
     disclosed k x a =
         let none : 0 + k ≡ k = omega arith in
         let there = made_at (maker_of seed).disclosure 0 given k x a in
@@ -99,7 +99,7 @@ module _ (seed : List ℕ) (o : Order) (salts texts digests : List Text) (body :
 
     pub order_laid : IsLaidFor (maker_of seed) o body texts digests
     order_laid = record {
-      laid = lay (order_decoys o dg) dg (marked_of o);
+      laid = lay (order_decoys o dg) dg (marked_claims o);
       given = given;
       dg = dg;
       is_laid = record {
@@ -118,5 +118,5 @@ module _ (seed : List ℕ) (o : Order) (salts texts digests : List Text) (body :
           let m = pieces_many in
           let count = h.count in
           omega (arith, all, a, b, c, m, count);
-      each = λ k d at. digests_at texts pieces k d (subst (λ (ds : List Text). At ds k d) h.digests_are at);
+      each = λ k d at. digests_at texts pieces k d (subst (λ (ds : List Text). StandsAt ds k d) h.digests_are at);
     }

@@ -8,11 +8,10 @@ use Rattle.digest_sites.specs.Given.{Given}
 use Rattle.digest_sites.specs.Reserved.{element_digest, sd_name, sd_texts}
 use Rattle.digest_sites.specs.Sites.{Site, Step, element_sites, member_sites, own_site, sites, sites_on, to_element, to_member, under}
 use Rattle.marked_tree.specs.Marked.{Marked, MarkedElements, MarkedMembers, marked_array, marked_element, marked_leaf, marked_member, marked_object, no_marked_elements, no_marked_members, strip, strip_elements, strip_members}
-use Rattle.marked_tree.specs.Places.{Path}
-use Rattle.rebuild_core.specs.AllShown.{all_digests}
-use Rattle.rebuild_core.specs.Given.{Item, item, payload, value_items, value_of, all_items}
+use Rattle.marked_tree.specs.Paths.{Path}
+use Rattle.rebuild_core.specs.Reached.{OwnedSite, owned_site, payload, value_sites, value_of, all_sites, all_digests}
 use Rattle.issuer_core.specs.Issued.{occurs}
-use Rattle.issuer_core.specs.Laid.{digest_elements, digest_object, hidden_digests, laid_elements, laid_items, laid_members, lay, lay_elements, lay_members, sorted, sorted_with, with_sd}
+use Rattle.issuer_core.specs.Laid.{digest_elements, digest_object, hidden_digests, laid_elements, laid_given, laid_members, lay, lay_elements, lay_members, sorted, sorted_with, with_sd}
 use Rattle.marked_tree.proofs.Sums.{sum_of, sum_of-append, sum_of-map}
 use Rattle.issuer_core.proofs.DecoySums.{decoy_sum, elements_decoy_sum, members_decoy_sum}
 use Rattle.issuer_core.proofs.Plain.{ElementsPlain, IsPlain, MembersPlain}
@@ -63,7 +62,7 @@ decoy_sites f i (d ∷ ds) =
 
 mutual
   pub laid_sum : (f : Text → ℕ) (dec : Path → List Text) (dg : ℕ → Text) (m : Marked) → IsPlain m
-      → site_sum f (sites (lay dec dg m)) + value_sum f (laid_items dec dg m) ≡ digest_sum f (laid_items dec dg m) + decoy_sum f dec (strip m)
+      → site_sum f (sites (lay dec dg m)) + value_sum f (laid_given dec dg m) ≡ digest_sum f (laid_given dec dg m) + decoy_sum f dec (strip m)
   laid_sum f dec dg (marked_leaf l) p = refl
   laid_sum f dec dg (marked_array es) p = omega (arith, elements_laid f dec dg 0 es p)
   laid_sum f dec dg (marked_object ms) p =
@@ -87,7 +86,7 @@ mutual
   elements_laid f dec dg i (marked_element None t es) p =
       let d : Path → List Text = λ q. dec (decimal i ∷ q) in
       let v = lay d dg t in
-      let xs = laid_items d dg t in
+      let xs = laid_given d dg t in
       let ys = laid_elements dec dg (suc i) es in
       omega (
         arith,
@@ -104,7 +103,7 @@ mutual
   elements_laid f dec dg i (marked_element (Some k) t es) p =
       let d : Path → List Text = λ q. dec (decimal i ∷ q) in
       let v = lay d dg t in
-      let xs = laid_items d dg t in
+      let xs = laid_given d dg t in
       let own : List Given = record { digest = dg k; name = None; value = v } ∷ [] in
       let ys = laid_elements dec dg (suc i) es in
       omega (
@@ -125,7 +124,7 @@ mutual
   members_laid f dec dg (marked_member k None t ms) p =
       let d : Path → List Text = λ q. dec (k ∷ q) in
       let v = lay d dg t in
-      let xs = laid_items d dg t in
+      let xs = laid_given d dg t in
       let ys = laid_members dec dg ms in
       omega (
         arith,
@@ -142,7 +141,7 @@ mutual
   members_laid f dec dg (marked_member k (Some i) t ms) p =
       let d : Path → List Text = λ q. dec (k ∷ q) in
       let v = lay d dg t in
-      let xs = laid_items d dg t in
+      let xs = laid_given d dg t in
       let own : List Given = record { digest = dg i; name = Some k; value = v } ∷ [] in
       let ys = laid_members dec dg ms in
       omega (
@@ -157,13 +156,13 @@ mutual
 
 -- ---- all digests
 
-values_all : (f : Text → ℕ) (i : ℕ) (g : List Given) → sum_of (λ (m : Item). f m.site.digest) (value_items (λ x. true) i g) ≡ value_sum f g
+values_all : (f : Text → ℕ) (i : ℕ) (g : List Given) → sum_of (λ (m : OwnedSite). f m.site.digest) (value_sites (λ x. true) i g) ≡ value_sum f g
 values_all f i [] = refl
 values_all f i (x ∷ g) =
     omega (
       arith,
-      sum_of-append (λ (m : Item). f m.site.digest) (map (item (value_of i)) (sites x.value)) (value_items (λ x. true) (suc i) g),
-      sum_of-map (λ (m : Item). f m.site.digest) (item (value_of i)) (sites x.value),
+      sum_of-append (λ (m : OwnedSite). f m.site.digest) (map (owned_site (value_of i)) (sites x.value)) (value_sites (λ x. true) (suc i) g),
+      sum_of-map (λ (m : OwnedSite). f m.site.digest) (owned_site (value_of i)) (sites x.value),
       values_all f (suc i) g,
     )
 
@@ -171,9 +170,9 @@ pub all_sum : (f : Text → ℕ) (p : Tree) (g : List Given) → sum_of f (all_d
 all_sum f p g =
     omega (
       arith,
-      sum_of-map f (λ (m : Item). m.site.digest) (all_items p g),
-      sum_of-append (λ (m : Item). f m.site.digest) (map (item payload) (sites p)) (value_items (λ x. true) 0 g),
-      sum_of-map (λ (m : Item). f m.site.digest) (item payload) (sites p),
+      sum_of-map f (λ (m : OwnedSite). m.site.digest) (all_sites p g),
+      sum_of-append (λ (m : OwnedSite). f m.site.digest) (map (owned_site payload) (sites p)) (value_sites (λ x. true) 0 g),
+      sum_of-map (λ (m : OwnedSite). f m.site.digest) (owned_site payload) (sites p),
       values_all f 0 g,
     )
 

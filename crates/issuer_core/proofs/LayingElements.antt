@@ -1,15 +1,18 @@
 -- One element more of a list that is laid.
 use Rattle.std.proofs.Common.{◌≡◌, ℕ, suc, ◌+◌, ◌≤◌, List, [], ◌∷◌, ◌++◌, length, map, drop, get_or, ◌<◌, append-nil, Option, None, Some, decimal, refl, sym, ap, subst, ◌∙◌, arith}
 use Rattle.std.proofs.lemmas.List.{drop_more}
-use Rattle.claim_tree.specs.Tree.{Text, text, leaf, Tree, Elements, no_elements, element, pushed, elements_len, elements_depth, elements_nodes, ElementsRanged}
+use Rattle.claim_tree.specs.Tree.{Text, text, leaf, Tree, Elements, no_elements, element, elements_len, elements_depth, ElementsRanged}
+use Rattle.claim_tree.specs.TreeCalls.{pushed}
+use Rattle.claim_tree.specs.Nodes.{elements_nodes}
 use Rattle.claim_tree.specs.View.{tree_of}
 use Rattle.claim_tree.specs.declared.tree.Tree as code
 use Rattle.digest_sites.specs.Given.{Given}
-use Rattle.marked_tree.specs.Marked.{Marked, MarkedElements, marked_element, no_marked_elements, strip_elements, weight, elements_weight, mark_weight}
-use Rattle.marked_tree.specs.Places.{Path}
-use Rattle.issuer_core.specs.Laid.{texts_array, digest_object, digest_elements, laid_items, laid_elements, own_item, lay, lay_elements}
+use Rattle.marked_tree.specs.Marked.{Marked, MarkedElements, marked_element, no_marked_elements, strip_elements}
+use Rattle.marked_tree.specs.Ways.{weight, elements_weight, mark_weight}
+use Rattle.marked_tree.specs.Paths.{Path}
+use Rattle.issuer_core.specs.Laid.{texts_array, digest_object, digest_elements, laid_given, laid_elements, own_given, lay, lay_elements}
 use Rattle.issuer_core.specs.Digests.{made_texts}
-use Rattle.issuer_core.specs.Laying.{digest, digest_at, salted, elements_joined, placed_at, Tells, IsPart}
+use Rattle.issuer_core.specs.Laying.{digest, digest_at, salted, elements_joined, placed_at, DecoysTell, IsPart}
 use Rattle.issuer_core.specs.Closing.{one, ElementsClose}
 use Rattle.issuer_core.specs.declared.decoys.Decoys.{Decoys}
 use Rattle.issuer_core.specs.declared.laying.Part.{Part}
@@ -47,9 +50,9 @@ element_laid dec dg i (Some k) m es u e = ap (λ (t : Tree). element t (lay_elem
 
 -- what is known where a list is laid up to some of its elements
 pub record LaysElements (decoys : Decoys) (salts : List Text) (first : List Text) (all : MarkedElements) (laid : Elements) (texts digests : List Text) (left : MarkedElements) : Type 0 where
-  pub so_far : (dec : Path → List Text) → Tells decoys dec → (more : List Text)
+  pub so_far : (dec : Path → List Text) → DecoysTell decoys dec → (more : List Text)
       → elements_joined laid (lay_elements dec (digest_at (texts ++ more)) (elements_len laid) left) ≡ lay_elements dec (digest_at (texts ++ more)) 0 all
-  pub made : (dec : Path → List Text) → Tells decoys dec → (more : List Text)
+  pub made : (dec : Path → List Text) → DecoysTell decoys dec → (more : List Text)
       → texts ++ made_texts (salted salts) (length texts) (laid_elements dec (digest_at (texts ++ more)) (elements_len laid) left) ≡ first ++ made_texts (salted salts) (length first) (laid_elements dec (digest_at (texts ++ more)) 0 all)
   pub closes : ElementsClose (length texts) left
   pub count : length texts + elements_weight one left ≡ length first + elements_weight one all
@@ -62,23 +65,23 @@ module _ (decoys : Decoys) (salts first : List Text) (all : MarkedElements) (lai
     (so : LaysElements decoys salts first all laid texts digests (marked_element k m left))
     (below : Decoys) (step : (at : Path) → placed_at below at ≡ placed_at decoys (decimal (elements_len laid) ∷ at))
     (u : Tree) (texts2 digests2 : List Text)
-    (is : (dec : Path → List Text) → Tells below dec → (more : List Text) → IsElement dec (digest_at (texts2 ++ more)) k m u)
+    (is : (dec : Path → List Text) → DecoysTell below dec → (more : List Text) → IsElement dec (digest_at (texts2 ++ more)) k m u)
     (made : IsMade below salts None k m texts texts2)
     (count : length texts2 ≡ length texts + (mark_weight one k + weight one m))
     (digested : digests2 ≡ map digest texts2)
   where
-    module _ (dec : Path → List Text) (tells : Tells decoys dec) (more : List Text) where
+    module _ (dec : Path → List Text) (tells : DecoysTell decoys dec) (more : List Text) where
       abbrev inner : Path → List Text
       inner = λ at. dec (decimal (elements_len laid) ∷ at)
 
-      tells_below : Tells below inner
+      tells_below : DecoysTell below inner
       tells_below at = step at ∙ tells (decimal (elements_len laid) ∷ at)
 
       abbrev dg : ℕ → Text
       dg = digest_at (texts2 ++ more)
 
       abbrev parts : List Given
-      parts = laid_items inner dg m ++ own_item dg None k (lay inner dg m)
+      parts = laid_given inner dg m ++ own_given dg None k (lay inner dg m)
 
       abbrev added : List Text
       added = made_texts (salted salts) (length texts) parts
@@ -130,11 +133,11 @@ elements_start decoys salts first digests all closes digested ranged = record {
 }
 
 pub elements_end : (decoys : Decoys) (salts first texts digests : List Text) (all : MarkedElements) (laid : Elements) → LaysElements decoys salts first all laid texts digests no_marked_elements
-    → (here : List Text) → here ≡ placed_at decoys [] → (dec : Path → List Text) → Tells decoys dec → (more : List Text) → elements_joined laid (digest_elements here) ≡ lay_elements dec (digest_at (texts ++ more)) 0 all
+    → (here : List Text) → here ≡ placed_at decoys [] → (dec : Path → List Text) → DecoysTell decoys dec → (more : List Text) → elements_joined laid (digest_elements here) ≡ lay_elements dec (digest_at (texts ++ more)) 0 all
 elements_end decoys salts first texts digests all laid so here e dec tells more = ap (λ (ds : List Text). elements_joined laid (digest_elements ds)) (e ∙ tells []) ∙ so.so_far dec tells more
 
 pub elements_made : (decoys : Decoys) (salts first texts digests : List Text) (all : MarkedElements) (laid : Elements) → LaysElements decoys salts first all laid texts digests no_marked_elements
-    → (dec : Path → List Text) → Tells decoys dec → (more : List Text) → texts ≡ first ++ made_texts (salted salts) (length first) (laid_elements dec (digest_at (texts ++ more)) 0 all)
+    → (dec : Path → List Text) → DecoysTell decoys dec → (more : List Text) → texts ≡ first ++ made_texts (salted salts) (length first) (laid_elements dec (digest_at (texts ++ more)) 0 all)
 elements_made decoys salts first texts digests all laid so dec tells more = sym (append-nil texts) ∙ so.made dec tells more
 
 -- ---- digests and texts as elements

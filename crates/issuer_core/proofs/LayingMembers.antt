@@ -1,15 +1,18 @@
 -- One member more of an object that is laid.
 use Rattle.std.proofs.Common.{◌≡◌, ℕ, ◌+◌, ◌≤◌, List, [], ◌∷◌, ◌++◌, length, map, append_assoc, append-nil, Option, None, Some, refl, sym, ap, ap₂, subst, ◌∙◌, arith}
-use Rattle.claim_tree.specs.Tree.{Text, Tree, Members, no_members, member, inserted, names, IsBefore, IsBeforeAll, MembersOrdered, members_depth, members_nodes, MembersRanged}
+use Rattle.claim_tree.specs.Tree.{Text, Tree, Members, no_members, member, inserted, names, IsBefore, IsBeforeAll, MembersOrdered, members_depth, MembersRanged}
+use Rattle.claim_tree.specs.Nodes.{members_nodes}
 use Rattle.claim_tree.specs.View.{tree_of}
 use Rattle.claim_tree.specs.declared.tree.Tree as code
 use Rattle.digest_sites.specs.Given.{Given}
-use Rattle.marked_tree.specs.Marked.{Marked, MarkedMembers, marked_member, no_marked_members, marked_names, strip_members, weight, members_weight, mark_weight}
-use Rattle.marked_tree.specs.Places.{Path}
+use Rattle.marked_tree.specs.Marked.{Marked, MarkedMembers, marked_member, no_marked_members, strip_members}
+use Rattle.marked_tree.specs.Ways.{weight, members_weight, mark_weight}
+use Rattle.marked_tree.specs.MarkedCalls.{marked_names}
+use Rattle.marked_tree.specs.Paths.{Path}
 use Rattle.marked_tree.proofs.Names.{Ascend, ascend}
-use Rattle.issuer_core.specs.Laid.{with_sd, sorted, hidden_digests, laid_items, laid_members, own_item, lay, lay_members}
+use Rattle.issuer_core.specs.Laid.{with_sd, sorted, hidden_digests, laid_given, laid_members, own_given, lay, lay_members}
 use Rattle.issuer_core.specs.Digests.{made_texts}
-use Rattle.issuer_core.specs.Laying.{digest, digest_at, salted, placed_at, Tells, IsPart}
+use Rattle.issuer_core.specs.Laying.{digest, digest_at, salted, placed_at, DecoysTell, IsPart}
 use Rattle.issuer_core.specs.Closing.{one, MembersClose}
 use Rattle.issuer_core.specs.declared.decoys.Decoys.{Decoys}
 use Rattle.issuer_core.specs.declared.laying.Part.{Part}
@@ -40,9 +43,9 @@ module _ (dec : Path → List Text) (dg : ℕ → Text) where
 
 -- what is known where an object is laid up to some of its members
 pub record LaysMembers (decoys : Decoys) (salts : List Text) (first : List Text) (all : MarkedMembers) (laid : Members) (hidden texts digests : List Text) (left : MarkedMembers) : Type 0 where
-  pub so_far : (dec : Path → List Text) → Tells decoys dec → (more : List Text) → members_joined laid (lay_members dec (digest_at (texts ++ more)) left) ≡ lay_members dec (digest_at (texts ++ more)) all
+  pub so_far : (dec : Path → List Text) → DecoysTell decoys dec → (more : List Text) → members_joined laid (lay_members dec (digest_at (texts ++ more)) left) ≡ lay_members dec (digest_at (texts ++ more)) all
   pub hidden_so_far : (more : List Text) → hidden ++ hidden_digests (digest_at (texts ++ more)) left ≡ hidden_digests (digest_at (texts ++ more)) all
-  pub made : (dec : Path → List Text) → Tells decoys dec → (more : List Text)
+  pub made : (dec : Path → List Text) → DecoysTell decoys dec → (more : List Text)
       → texts ++ made_texts (salted salts) (length texts) (laid_members dec (digest_at (texts ++ more)) left) ≡ first ++ made_texts (salted salts) (length first) (laid_members dec (digest_at (texts ++ more)) all)
   pub ordered : MembersOrdered (strip_members all)
   pub closes : MembersClose (length texts) left
@@ -76,7 +79,7 @@ module _ (decoys : Decoys) (salts first : List Text) (all : MarkedMembers) (laid
     (so : LaysMembers decoys salts first all laid hidden texts digests (marked_member name k m left))
     (below : Decoys) (step : (at : Path) → placed_at below at ≡ placed_at decoys (name ∷ at))
     (part : Part) (texts2 digests2 : List Text)
-    (is : (dec : Path → List Text) → Tells below dec → (more : List Text) → IsPart dec (digest_at (texts2 ++ more)) k m part)
+    (is : (dec : Path → List Text) → DecoysTell below dec → (more : List Text) → IsPart dec (digest_at (texts2 ++ more)) k m part)
     (made : IsMade below salts (Some name) k m texts texts2)
     (count : length texts2 ≡ length texts + (mark_weight one k + weight one m))
     (digested : digests2 ≡ map digest texts2)
@@ -86,7 +89,7 @@ module _ (decoys : Decoys) (salts first : List Text) (all : MarkedMembers) (laid
       dg = digest_at (texts2 ++ more)
 
       abbrev own : List Given
-      own = laid_items (placed_at below) dg m ++ own_item dg (Some name) k (lay (placed_at below) dg m)
+      own = laid_given (placed_at below) dg m ++ own_given dg (Some name) k (lay (placed_at below) dg m)
 
       abbrev added : List Text
       added = made_texts (salted salts) (length texts) own
@@ -97,15 +100,15 @@ module _ (decoys : Decoys) (salts first : List Text) (all : MarkedMembers) (laid
       hidden_before : hidden ++ hidden_digests dg (marked_member name k m left) ≡ hidden_digests dg all
       hidden_before = subst (λ (ts : List Text). hidden ++ hidden_digests (digest_at ts) (marked_member name k m left) ≡ hidden_digests (digest_at ts) all) same (so.hidden_so_far (added ++ more))
 
-      module _ (dec : Path → List Text) (tells : Tells decoys dec) where
+      module _ (dec : Path → List Text) (tells : DecoysTell decoys dec) where
         abbrev inner : Path → List Text
         inner = λ at. dec (name ∷ at)
 
-        tells_below : Tells below inner
+        tells_below : DecoysTell below inner
         tells_below at = step at ∙ tells (name ∷ at)
 
         abbrev parts : List Given
-        parts = laid_items inner dg m ++ own_item dg (Some name) k (lay inner dg m)
+        parts = laid_given inner dg m ++ own_given dg (Some name) k (lay inner dg m)
 
         before : members_joined laid (lay_members dec dg (marked_member name k m left)) ≡ lay_members dec dg all
         before = subst (λ (ts : List Text). members_joined laid (lay_members dec (digest_at ts) (marked_member name k m left)) ≡ lay_members dec (digest_at ts) all) same (so.so_far dec tells (added ++ more))
@@ -118,7 +121,7 @@ module _ (decoys : Decoys) (salts first : List Text) (all : MarkedMembers) (laid
     -- what the next one needs besides
     abbrev Rest : (Members → List Text → Type 0)
     Rest laid2 hidden2 =
-        ((dec : Path → List Text) → Tells decoys dec → (more : List Text) → members_joined laid2 (lay_members dec (digest_at (texts2 ++ more)) left) ≡ lay_members dec (digest_at (texts2 ++ more)) all)
+        ((dec : Path → List Text) → DecoysTell decoys dec → (more : List Text) → members_joined laid2 (lay_members dec (digest_at (texts2 ++ more)) left) ≡ lay_members dec (digest_at (texts2 ++ more)) all)
         × ((more : List Text) → hidden2 ++ hidden_digests (digest_at (texts2 ++ more)) left ≡ hidden_digests (digest_at (texts2 ++ more)) all)
 
     next : (laid2 : Members) (hidden2 : List Text) → Rest laid2 hidden2 → LaysMembers decoys salts first all laid2 hidden2 texts2 digests2 left
@@ -138,10 +141,10 @@ module _ (decoys : Decoys) (salts first : List Text) (all : MarkedMembers) (laid
     pub member_more_shown : (t : code.Tree) → part ≡ Part.Shown t → LaysMembers decoys salts first all (inserted laid name (tree_of t)) hidden texts2 digests2 left
     member_more_shown t e = next (inserted laid name (tree_of t)) hidden (so_far, hidden_so_far)
       where
-        told : (dec : Path → List Text) → Tells below dec → (more : List Text) → IsPart dec (digest_at (texts2 ++ more)) k m (Part.Shown t)
+        told : (dec : Path → List Text) → DecoysTell below dec → (more : List Text) → IsPart dec (digest_at (texts2 ++ more)) k m (Part.Shown t)
         told dec tells more = subst (λ p. IsPart dec (digest_at (texts2 ++ more)) k m p) e (is dec tells more)
 
-        so_far : (dec : Path → List Text) → Tells decoys dec → (more : List Text)
+        so_far : (dec : Path → List Text) → DecoysTell decoys dec → (more : List Text)
             → members_joined (inserted laid name (tree_of t)) (lay_members dec (digest_at (texts2 ++ more)) left) ≡ lay_members dec (digest_at (texts2 ++ more)) all
         so_far dec tells more =
             let whole = ap (members_joined laid) (member_laid dec (dg more) name k m left t (told (inner more dec tells) (tells_below more dec tells) more)) ∙ before more dec tells in
@@ -157,7 +160,7 @@ module _ (decoys : Decoys) (salts first : List Text) (all : MarkedMembers) (laid
         told : (more : List Text) → IsPart (placed_at below) (digest_at (texts2 ++ more)) k m (Part.Hidden d)
         told more = subst (λ p. IsPart (placed_at below) (digest_at (texts2 ++ more)) k m p) e (is (placed_at below) (λ at. refl) more)
 
-        so_far : (dec : Path → List Text) → Tells decoys dec → (more : List Text) → members_joined laid (lay_members dec (digest_at (texts2 ++ more)) left) ≡ lay_members dec (digest_at (texts2 ++ more)) all
+        so_far : (dec : Path → List Text) → DecoysTell decoys dec → (more : List Text) → members_joined laid (lay_members dec (digest_at (texts2 ++ more)) left) ≡ lay_members dec (digest_at (texts2 ++ more)) all
         so_far dec tells more = ap (members_joined laid) (member_left_out dec (dg more) (placed_at below) name k m left d (told more)) ∙ before more dec tells
 
         hidden_so_far : (more : List Text) → (hidden ++ d ∷ []) ++ hidden_digests (digest_at (texts2 ++ more)) left ≡ hidden_digests (digest_at (texts2 ++ more)) all
@@ -183,7 +186,7 @@ members_start decoys salts first digests all closes digested ranged ordered = re
 }
 
 pub members_end : (decoys : Decoys) (salts first texts digests hidden : List Text) (all : MarkedMembers) (laid : Members) → LaysMembers decoys salts first all laid hidden texts digests no_marked_members
-    → (here : List Text) → here ≡ placed_at decoys [] → (dec : Path → List Text) → Tells decoys dec → (more : List Text)
+    → (here : List Text) → here ≡ placed_at decoys [] → (dec : Path → List Text) → DecoysTell decoys dec → (more : List Text)
     → with_sd (sorted (hidden ++ here)) laid ≡ with_sd (sorted (hidden_digests (digest_at (texts ++ more)) all ++ dec [])) (lay_members dec (digest_at (texts ++ more)) all)
 members_end decoys salts first texts digests hidden all laid so here e dec tells more =
     ap₂ (λ (ds : List Text) (ms : Members). with_sd (sorted ds) ms)
@@ -191,5 +194,5 @@ members_end decoys salts first texts digests hidden all laid so here e dec tells
     (sym (joined_no_members laid) ∙ so.so_far dec tells more)
 
 pub members_made : (decoys : Decoys) (salts first texts digests hidden : List Text) (all : MarkedMembers) (laid : Members) → LaysMembers decoys salts first all laid hidden texts digests no_marked_members
-    → (dec : Path → List Text) → Tells decoys dec → (more : List Text) → texts ≡ first ++ made_texts (salted salts) (length first) (laid_members dec (digest_at (texts ++ more)) all)
+    → (dec : Path → List Text) → DecoysTell decoys dec → (more : List Text) → texts ≡ first ++ made_texts (salted salts) (length first) (laid_members dec (digest_at (texts ++ more)) all)
 members_made decoys salts first texts digests hidden all laid so dec tells more = sym (append-nil texts) ∙ so.made dec tells more

@@ -1,11 +1,11 @@
 -- The lowest refusal that applies, sought step by step.
 use Rattle.std.proofs.Common.{◌≡◌, ◌<◌, ◌≤◌, ℕ, suc, arith}
-use Rattle.claim_tree.specs.Lists.{IsLeast, Nowhere}
-use Rattle.marked_tree.specs.Places.{Path}
+use Rattle.claim_tree.specs.Lists.{IsLeast, AtNone}
+use Rattle.marked_tree.specs.Paths.{Path}
 use Rattle.issuer_core.specs.declared.errors.IssueError.{IssueError}
 use Rattle.issuer_core.specs.declared.errors.IssueError.TheVariants.{Memory, SignFailed, PayloadNotObject, ReservedName, TooDeep, RootMarked, NoSuchPlace, ProtectedClaim, DecoyPlace, TooManyHidden, TooManyDecoys, DigestClash, TooLong}
 use Rattle.issuer_core.specs.Order.{Order}
-use Rattle.issuer_core.specs.Refusals.{IsSuchAt, IsRoot, IsNowhere, IsProtected, IsMisplaced, Refuses, number_of, place_of, IsLowest, NoneApplies}
+use Rattle.issuer_core.specs.OrderRefusals.{IsSuchAt, IsRoot, IsNowhere, IsProtected, IsMisplaced, AppliesToOrder, refusal_number, refusal_place, IsLowestRefusal, NoneApplies}
 use Rattle.issuer_core.specs.Judging.{PassesBelow}
 
 -- ---- none below a number
@@ -27,51 +27,51 @@ from_51 o TooLong h = absurd h
 
 -- no refusal with this number applies
 abbrev pub NoneWith : ℕ → Order → Type 0
-NoneWith number o = (error : IssueError) → Refuses o error → number_of error ≡ number → ⊥
+NoneWith number o = (error : IssueError) → AppliesToOrder o error → refusal_number error ≡ number → ⊥
 
 pub one_more : (o : Order) (number : ℕ) → PassesBelow number o → NoneWith number o → PassesBelow (suc number) o
-one_more o number below none error h = at_or_above number (number_of error) (below error h) (none error h)
+one_more o number below none error h = at_or_above number (refusal_number error) (below error h) (none error h)
   where
     at_or_above : (a b : ℕ) → a ≤ b → (b ≡ a → ⊥) → suc a ≤ b
     at_or_above a b l differs = grind arith
 
-pub no_51 : (o : Order) → (Refuses o PayloadNotObject → ⊥) → NoneWith 51 o
+pub no_51 : (o : Order) → (AppliesToOrder o PayloadNotObject → ⊥) → NoneWith 51 o
 no_51 o none PayloadNotObject h same = none h
 no_51 o none error h same = omega (arith, same)
 
-pub no_52 : (o : Order) → ((path : Path) → Refuses o (ReservedName path) → ⊥) → NoneWith 52 o
+pub no_52 : (o : Order) → ((path : Path) → AppliesToOrder o (ReservedName path) → ⊥) → NoneWith 52 o
 no_52 o none (ReservedName path) h same = none path h
 no_52 o none error h same = omega (arith, same)
 
-pub no_53 : (o : Order) → (Refuses o TooDeep → ⊥) → NoneWith 53 o
+pub no_53 : (o : Order) → (AppliesToOrder o TooDeep → ⊥) → NoneWith 53 o
 no_53 o none TooDeep h same = none h
 no_53 o none error h same = omega (arith, same)
 
-pub no_54 : (o : Order) → Nowhere (IsSuchAt IsRoot o.hide) → NoneWith 54 o
+pub no_54 : (o : Order) → AtNone (IsSuchAt IsRoot o.hide) → NoneWith 54 o
 no_54 o none (RootMarked k) h same = none k h
 no_54 o none error h same = omega (arith, same)
 
-pub no_55 : (o : Order) → Nowhere (IsSuchAt (IsNowhere o.claims) o.hide) → NoneWith 55 o
+pub no_55 : (o : Order) → AtNone (IsSuchAt (IsNowhere o.claims) o.hide) → NoneWith 55 o
 no_55 o none (NoSuchPlace k) h same = none k h
 no_55 o none error h same = omega (arith, same)
 
-pub no_56 : (o : Order) → Nowhere (IsSuchAt IsProtected o.hide) → NoneWith 56 o
+pub no_56 : (o : Order) → AtNone (IsSuchAt IsProtected o.hide) → NoneWith 56 o
 no_56 o none (ProtectedClaim k) h same = none k h
 no_56 o none error h same = omega (arith, same)
 
-pub no_57 : (o : Order) → Nowhere (IsSuchAt (IsMisplaced o.claims) o.decoys) → NoneWith 57 o
+pub no_57 : (o : Order) → AtNone (IsSuchAt (IsMisplaced o.claims) o.decoys) → NoneWith 57 o
 no_57 o none (DecoyPlace k) h same = none k h
 no_57 o none error h same = omega (arith, same)
 
-pub no_58 : (o : Order) → (Refuses o TooManyHidden → ⊥) → NoneWith 58 o
+pub no_58 : (o : Order) → (AppliesToOrder o TooManyHidden → ⊥) → NoneWith 58 o
 no_58 o none TooManyHidden h same = none h
 no_58 o none error h same = omega (arith, same)
 
-pub no_59 : (o : Order) → (Refuses o TooManyDecoys → ⊥) → NoneWith 59 o
+pub no_59 : (o : Order) → (AppliesToOrder o TooManyDecoys → ⊥) → NoneWith 59 o
 no_59 o none TooManyDecoys h same = none h
 no_59 o none error h same = omega (arith, same)
 
-pub none_left : (o : Order) → PassesBelow 60 o → NoneApplies (Refuses o)
+pub none_left : (o : Order) → PassesBelow 60 o → NoneApplies (AppliesToOrder o)
 none_left o below Memory h = h
 none_left o below SignFailed h = h
 none_left o below (DigestClash i j) h = h
@@ -80,41 +80,41 @@ none_left o below error h = let over = below error h in omega (arith, over)
 
 -- ---- the lowest, at its least place
 
-pub lowest_at : (o : Order) (error : IssueError) → PassesBelow (number_of error) o → Refuses o error
-    → ((other : IssueError) → Refuses o other → number_of other ≡ number_of error → place_of error ≤ place_of other) → IsLowest (Refuses o) error
+pub lowest_at : (o : Order) (error : IssueError) → PassesBelow (refusal_number error) o → AppliesToOrder o error
+    → ((other : IssueError) → AppliesToOrder o other → refusal_number other ≡ refusal_number error → refusal_place error ≤ refusal_place other) → IsLowestRefusal (AppliesToOrder o) error
 lowest_at o error below applies first = record { applies = applies; lowest = below; first = first }
 
 -- a refusal with no place
-pub lowest : (o : Order) (error : IssueError) → place_of error ≡ 0 → PassesBelow (number_of error) o → Refuses o error → IsLowest (Refuses o) error
+pub lowest : (o : Order) (error : IssueError) → refusal_place error ≡ 0 → PassesBelow (refusal_number error) o → AppliesToOrder o error → IsLowestRefusal (AppliesToOrder o) error
 lowest o error nought below applies = lowest_at o error below applies (λ other h same. omega (arith, nought))
 
 not_below : (a b : ℕ) → (b < a → ⊥) → a ≤ b
 not_below a b h = grind arith
 
-least_54 : (o : Order) (k : ℕ) → IsLeast (IsSuchAt IsRoot o.hide) k → (other : IssueError) → Refuses o other → number_of other ≡ 54 → k ≤ place_of other
+least_54 : (o : Order) (k : ℕ) → IsLeast (IsSuchAt IsRoot o.hide) k → (other : IssueError) → AppliesToOrder o other → refusal_number other ≡ 54 → k ≤ refusal_place other
 least_54 o k least (RootMarked j) h same = not_below k j (λ less. least.first j less h)
 least_54 o k least other h same = absurd (omega (arith, same))
 
-least_55 : (o : Order) (k : ℕ) → IsLeast (IsSuchAt (IsNowhere o.claims) o.hide) k → (other : IssueError) → Refuses o other → number_of other ≡ 55 → k ≤ place_of other
+least_55 : (o : Order) (k : ℕ) → IsLeast (IsSuchAt (IsNowhere o.claims) o.hide) k → (other : IssueError) → AppliesToOrder o other → refusal_number other ≡ 55 → k ≤ refusal_place other
 least_55 o k least (NoSuchPlace j) h same = not_below k j (λ less. least.first j less h)
 least_55 o k least other h same = absurd (omega (arith, same))
 
-least_56 : (o : Order) (k : ℕ) → IsLeast (IsSuchAt IsProtected o.hide) k → (other : IssueError) → Refuses o other → number_of other ≡ 56 → k ≤ place_of other
+least_56 : (o : Order) (k : ℕ) → IsLeast (IsSuchAt IsProtected o.hide) k → (other : IssueError) → AppliesToOrder o other → refusal_number other ≡ 56 → k ≤ refusal_place other
 least_56 o k least (ProtectedClaim j) h same = not_below k j (λ less. least.first j less h)
 least_56 o k least other h same = absurd (omega (arith, same))
 
-least_57 : (o : Order) (k : ℕ) → IsLeast (IsSuchAt (IsMisplaced o.claims) o.decoys) k → (other : IssueError) → Refuses o other → number_of other ≡ 57 → k ≤ place_of other
+least_57 : (o : Order) (k : ℕ) → IsLeast (IsSuchAt (IsMisplaced o.claims) o.decoys) k → (other : IssueError) → AppliesToOrder o other → refusal_number other ≡ 57 → k ≤ refusal_place other
 least_57 o k least (DecoyPlace j) h same = not_below k j (λ less. least.first j less h)
 least_57 o k least other h same = absurd (omega (arith, same))
 
-pub lowest_54 : (o : Order) (k : ℕ) → PassesBelow 54 o → IsLeast (IsSuchAt IsRoot o.hide) k → IsLowest (Refuses o) (RootMarked k)
+pub lowest_54 : (o : Order) (k : ℕ) → PassesBelow 54 o → IsLeast (IsSuchAt IsRoot o.hide) k → IsLowestRefusal (AppliesToOrder o) (RootMarked k)
 lowest_54 o k below least = lowest_at o (RootMarked k) below least.fails (least_54 o k least)
 
-pub lowest_55 : (o : Order) (k : ℕ) → PassesBelow 55 o → IsLeast (IsSuchAt (IsNowhere o.claims) o.hide) k → IsLowest (Refuses o) (NoSuchPlace k)
+pub lowest_55 : (o : Order) (k : ℕ) → PassesBelow 55 o → IsLeast (IsSuchAt (IsNowhere o.claims) o.hide) k → IsLowestRefusal (AppliesToOrder o) (NoSuchPlace k)
 lowest_55 o k below least = lowest_at o (NoSuchPlace k) below least.fails (least_55 o k least)
 
-pub lowest_56 : (o : Order) (k : ℕ) → PassesBelow 56 o → IsLeast (IsSuchAt IsProtected o.hide) k → IsLowest (Refuses o) (ProtectedClaim k)
+pub lowest_56 : (o : Order) (k : ℕ) → PassesBelow 56 o → IsLeast (IsSuchAt IsProtected o.hide) k → IsLowestRefusal (AppliesToOrder o) (ProtectedClaim k)
 lowest_56 o k below least = lowest_at o (ProtectedClaim k) below least.fails (least_56 o k least)
 
-pub lowest_57 : (o : Order) (k : ℕ) → PassesBelow 57 o → IsLeast (IsSuchAt (IsMisplaced o.claims) o.decoys) k → IsLowest (Refuses o) (DecoyPlace k)
+pub lowest_57 : (o : Order) (k : ℕ) → PassesBelow 57 o → IsLeast (IsSuchAt (IsMisplaced o.claims) o.decoys) k → IsLowestRefusal (AppliesToOrder o) (DecoyPlace k)
 lowest_57 o k below least = lowest_at o (DecoyPlace k) below least.fails (least_57 o k least)

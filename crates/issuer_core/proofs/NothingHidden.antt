@@ -3,11 +3,11 @@ use Rattle.std.proofs.Common.{◌≡◌, ℕ, suc, ◌+◌, List, [], ◌∷◌,
 use Rattle.std.proofs.lemmas.List.{nil_from_length}
 use Rattle.claim_tree.specs.Tree.{Text, Tree, leaf, array, object, Elements, no_elements, element, Members, no_members, member}
 use Rattle.marked_tree.specs.Marked.{Marked, MarkedElements, marked_element, MarkedMembers, marked_member}
-use Rattle.marked_tree.specs.Places.{Path, below, hidden_in, hidden_elements, hidden_members, is_among, mark_if, mark_from, mark_elements, mark_members, one_if}
+use Rattle.marked_tree.specs.Paths.{Path, below, hidden_in, hidden_elements, hidden_members, is_among, mark_if, mark_from, mark_elements, mark_members, one_if}
 use Rattle.issuer_core.specs.Order.{Order}
-use Rattle.issuer_core.specs.Decoys.{decoys_at, decoys_of, places}
-use Rattle.issuer_core.specs.Digests.{Maker, hidden_of, marked_of}
-use Rattle.issuer_core.specs.Laid.{lay, lay_elements, lay_members, hidden_digests, laid_items, digest_elements, sorted, with_sd, with_alg, order_decoys}
+use Rattle.issuer_core.specs.Decoys.{decoys_at, decoys_of, decoy_paths}
+use Rattle.issuer_core.specs.Digests.{Maker, hidden_of, marked_claims}
+use Rattle.issuer_core.specs.Laid.{lay, lay_elements, lay_members, hidden_digests, laid_given, digest_elements, sorted, with_sd, with_alg, order_decoys}
 use Rattle.issuer_core.specs.Laying.{IsLaidFor}
 use Rattle.issuer_core.proofs.Closing.{items_length, order_marks}
 
@@ -95,13 +95,13 @@ module _ (mk : Maker) (o : Order) (shown : o.hide ≡ []) (bare : o.decoys ≡ [
   no_hidden = none_hidden (is_among o.hide) hides_none o.claims
 
   no_decoys : decoys_of o ≡ []
-  no_decoys = ap places bare
+  no_decoys = ap decoy_paths bare
 
   none_placed : HasNone (order_decoys o dg)
   none_placed p = ap (λ ds. decoys_at dg (hidden_of o) ds p) no_decoys
 
-  no_items : laid_items (order_decoys o dg) dg (marked_of o) ≡ []
-  no_items = nil_from_length (laid_items (order_decoys o dg) dg (marked_of o)) (items_length (order_decoys o dg) dg (marked_of o) ∙ order_marks o ∙ no_hidden)
+  no_items : laid_given (order_decoys o dg) dg (marked_claims o) ≡ []
+  no_items = nil_from_length (laid_given (order_decoys o dg) dg (marked_claims o)) (items_length (order_decoys o dg) dg (marked_claims o) ∙ order_marks o ∙ no_hidden)
 
   -- the payload alone, with the name of the hash
   pub nothing_laid : IsLaidFor mk o (with_alg o.claims) [] []

@@ -1,16 +1,16 @@
 -- An order is laid in one way: the digests, the disclosures and the payload are determined by how texts are made.
 use Rattle.std.proofs.Common.{◌≡◌, ℕ, suc, ◌+◌, ◌-◌, ◌<◌, ◌≤◌, ◌⊎◌, inl, inr, List, [], ◌∷◌, ◌++◌, None, Option, Some, ap, arith, decimal, length, length-append, refl, subst, sym, ◌∙◌, if◌then◌else◌}
-use Rattle.claim_tree.specs.Lists.{At}
+use Rattle.claim_tree.specs.Lists.{StandsAt}
 use Rattle.claim_tree.specs.Tree.{Text, Tree}
 use Rattle.digest_sites.specs.Given.{Given}
 use Rattle.marked_tree.specs.Marked.{Marked, MarkedElements, MarkedMembers, marked_array, marked_element, marked_leaf, marked_member, marked_object, no_marked_elements, no_marked_members}
-use Rattle.marked_tree.specs.Places.{Path, same_path}
+use Rattle.marked_tree.specs.Paths.{Path, same_path}
 use Rattle.issuer_core.specs.Order.{Order}
 use Rattle.issuer_core.specs.Decoys.{decoys_of, decoys_at}
-use Rattle.issuer_core.specs.Digests.{Maker, hidden_of, marked_of}
-use Rattle.issuer_core.specs.Laid.{laid_elements, laid_items, laid_members, lay, own_item, order_decoys, IsLaid}
-use Rattle.marked_tree.specs.Marked.{weight, mark_weight}
-use Rattle.issuer_core.specs.Closing.{one, IsNumbered, ClosesFrom, ElementsClose, MembersClose}
+use Rattle.issuer_core.specs.Digests.{Maker, hidden_of, marked_claims}
+use Rattle.issuer_core.specs.Laid.{laid_elements, laid_given, laid_members, lay, own_given, order_decoys, IsLaid}
+use Rattle.marked_tree.specs.Ways.{weight, mark_weight}
+use Rattle.issuer_core.specs.Closing.{one, HasNumber, ClosesFrom, ElementsClose, MembersClose}
 use Rattle.claim_tree.proofs.Lists.{At-get}
 use Rattle.rebuild_core.proofs.AllShown.{At-left, At-right}
 use Rattle.issuer_core.proofs.Agrees.{MarkAgrees, MarksAgree, ElementsAgree, MembersAgree, DecoysAgree, lay_agrees, items_agree}
@@ -19,7 +19,7 @@ use Rattle.issuer_core.proofs.Closing.{own_items_length, items_length, order_clo
 module _ (maker : Maker) where
   -- the digest of each of the disclosures, from the number n on, is that of its text
   abbrev Made : (ℕ → Text) → ℕ → List Given → Type 0
-  Made dg n xs = (q : ℕ) (x : Given) → At xs q x → dg (n + q) ≡ maker.digest (maker.disclosure (n + q) x.name x.value)
+  Made dg n xs = (q : ℕ) (x : Given) → StandsAt xs q x → dg (n + q) ≡ maker.digest (maker.disclosure (n + q) x.name x.value)
 
   made_first : (dg : ℕ → Text) (n : ℕ) (xs ys : List Given) → Made dg n (xs ++ ys) → Made dg n xs
   made_first dg n xs ys h q x a = h q x (At-left xs ys q x a)
@@ -32,12 +32,12 @@ module _ (maker : Maker) where
   -- what is made of a node: its inside, its own disclosure, and what follows
   record Cut (dg : ℕ → Text) (n a : ℕ) (k : Option ℕ) (name : Option Text) (v : Tree) (xs ys : List Given) : Type 0 where
     inner : Made dg n xs
-    own : Made dg (n + a) (own_item dg name k v)
+    own : Made dg (n + a) (own_given dg name k v)
     rest : Made dg (n + (mark_weight one k + a)) ys
 
-  cut : (dg : ℕ → Text) (n a : ℕ) (k : Option ℕ) (name : Option Text) (v : Tree) (xs ys : List Given) → length xs ≡ a → Made dg n ((xs ++ own_item dg name k v) ++ ys) → Cut dg n a k name v xs ys
+  cut : (dg : ℕ → Text) (n a : ℕ) (k : Option ℕ) (name : Option Text) (v : Tree) (xs ys : List Given) → length xs ≡ a → Made dg n ((xs ++ own_given dg name k v) ++ ys) → Cut dg n a k name v xs ys
   cut dg n a k name v xs ys l h =
-      let o = own_item dg name k v in
+      let o = own_given dg name k v in
       let first = made_first dg n (xs ++ o) ys h in
       record {
         inner = made_first dg n xs o first;
@@ -46,7 +46,7 @@ module _ (maker : Maker) where
       }
 
   module _ (dg dh : ℕ → Text) where
-    own_agrees : (name : Option Text) (k : Option ℕ) (n : ℕ) (v u : Tree) → IsNumbered k n → v ≡ u → Made dg n (own_item dg name k v) → Made dh n (own_item dh name k u) → MarkAgrees dg dh k
+    own_agrees : (name : Option Text) (k : Option ℕ) (n : ℕ) (v u : Tree) → HasNumber k n → v ≡ u → Made dg n (own_given dg name k v) → Made dh n (own_given dh name k u) → MarkAgrees dg dh k
     own_agrees name None n v u is e a b = tt
     own_agrees name (Some k) n v u is e a b =
         let c : n + 0 ≡ k = omega (arith, is) in
@@ -55,7 +55,7 @@ module _ (maker : Maker) where
         here ∙ (ap (λ t. maker.digest (maker.disclosure k name t)) e ∙ sym other)
 
     mutual
-      pub marks_agree : (dec ded : Path → List Text) → DecoysAgree dec ded → (n : ℕ) (m : Marked) → ClosesFrom n m → Made dg n (laid_items dec dg m) → Made dh n (laid_items ded dh m) → MarksAgree dg dh m
+      pub marks_agree : (dec ded : Path → List Text) → DecoysAgree dec ded → (n : ℕ) (m : Marked) → ClosesFrom n m → Made dg n (laid_given dec dg m) → Made dh n (laid_given ded dh m) → MarksAgree dg dh m
       marks_agree dec ded e n (marked_leaf l) is a b = tt
       marks_agree dec ded e n (marked_array es) is a b = elements_agree dec ded e n 0 es is a b
       marks_agree dec ded e n (marked_object ms) is a b = members_agree dec ded e n ms is a b
@@ -66,8 +66,8 @@ module _ (maker : Maker) where
           let x : Path → List Text = λ q. dec (decimal i ∷ q) in
           let y : Path → List Text = λ q. ded (decimal i ∷ q) in
           let s : DecoysAgree x y = λ q. e (decimal i ∷ q) in
-          let v = cut dg n (weight one t) k None (lay x dg t) (laid_items x dg t) (laid_elements dec dg (suc i) es) (items_length x dg t) a in
-          let w = cut dh n (weight one t) k None (lay y dh t) (laid_items y dh t) (laid_elements ded dh (suc i) es) (items_length y dh t) b in
+          let v = cut dg n (weight one t) k None (lay x dg t) (laid_given x dg t) (laid_elements dec dg (suc i) es) (items_length x dg t) a in
+          let w = cut dh n (weight one t) k None (lay y dh t) (laid_given y dh t) (laid_elements ded dh (suc i) es) (items_length y dh t) b in
           let inside = marks_agree x y s n t is.0 v.inner w.inner in (
             own_agrees None k (n + weight one t) (lay x dg t) (lay y dh t) is.1 (lay_agrees dg dh x y s t inside) v.own w.own,
             inside,
@@ -80,8 +80,8 @@ module _ (maker : Maker) where
           let x : Path → List Text = λ q. dec (name ∷ q) in
           let y : Path → List Text = λ q. ded (name ∷ q) in
           let s : DecoysAgree x y = λ q. e (name ∷ q) in
-          let v = cut dg n (weight one t) k (Some name) (lay x dg t) (laid_items x dg t) (laid_members dec dg ms) (items_length x dg t) a in
-          let w = cut dh n (weight one t) k (Some name) (lay y dh t) (laid_items y dh t) (laid_members ded dh ms) (items_length y dh t) b in
+          let v = cut dg n (weight one t) k (Some name) (lay x dg t) (laid_given x dg t) (laid_members dec dg ms) (items_length x dg t) a in
+          let w = cut dh n (weight one t) k (Some name) (lay y dh t) (laid_given y dh t) (laid_members ded dh ms) (items_length y dh t) b in
           let inside = marks_agree x y s n t is.0 v.inner w.inner in (
             own_agrees (Some name) k (n + weight one t) (lay x dg t) (lay y dh t) is.1 (lay_agrees dg dh x y s t inside) v.own w.own,
             inside,
@@ -103,22 +103,22 @@ module _ (maker : Maker) (o : Order) (p q : Tree) (g h : List Given) (dg dh : �
   decoys_same : DecoysAgree (order_decoys o dg) (order_decoys o dh)
   decoys_same = decoys_agree maker dg dh (hidden_of o) (decoys_of o) same_decoys
 
-  made_of : (dk : ℕ → Text) (r : Tree) (k : List Given) → IsLaid maker o r k dk → Made maker dk 0 (laid_items (order_decoys o dk) dk (marked_of o))
+  made_of : (dk : ℕ → Text) (r : Tree) (k : List Given) → IsLaid maker o r k dk → Made maker dk 0 (laid_given (order_decoys o dk) dk (marked_claims o))
   made_of dk r k laid i x a =
       let c : i ≡ 0 + i = omega arith in
-      subst (λ z. dk z ≡ maker.digest (maker.disclosure z x.name x.value)) c (laid.disclosures i x (subst (λ (xs : List Given). At xs i x) (sym laid.given_laid) a))
+      subst (λ z. dk z ≡ maker.digest (maker.disclosure z x.name x.value)) c (laid.disclosures i x (subst (λ (xs : List Given). StandsAt xs i x) (sym laid.given_laid) a))
 
-  marks_same : MarksAgree dg dh (marked_of o)
-  marks_same = marks_agree maker dg dh (order_decoys o dg) (order_decoys o dh) decoys_same 0 (marked_of o) (order_closes o) (made_of dg p g this) (made_of dh q h other)
+  marks_same : MarksAgree dg dh (marked_claims o)
+  marks_same = marks_agree maker dg dh (order_decoys o dg) (order_decoys o dh) decoys_same 0 (marked_claims o) (order_closes o) (made_of dg p g this) (made_of dh q h other)
 
   pub one_payload : p ≡ q
-  one_payload = this.payload_laid ∙ (lay_agrees dg dh (order_decoys o dg) (order_decoys o dh) decoys_same (marked_of o) marks_same ∙ sym other.payload_laid)
+  one_payload = this.payload_laid ∙ (lay_agrees dg dh (order_decoys o dg) (order_decoys o dh) decoys_same (marked_claims o) marks_same ∙ sym other.payload_laid)
 
   pub one_given : g ≡ h
-  one_given = this.given_laid ∙ (items_agree dg dh (order_decoys o dg) (order_decoys o dh) decoys_same (marked_of o) marks_same ∙ sym other.given_laid)
+  one_given = this.given_laid ∙ (items_agree dg dh (order_decoys o dg) (order_decoys o dh) decoys_same (marked_claims o) marks_same ∙ sym other.given_laid)
 
   count : length g ≡ hidden_of o
-  count = ap (λ (xs : List Given). length xs) this.given_laid ∙ (items_length (order_decoys o dg) dg (marked_of o) ∙ order_marks o)
+  count = ap (λ (xs : List Given). length xs) this.given_laid ∙ (items_length (order_decoys o dg) dg (marked_claims o) ∙ order_marks o)
 
   below : (k n c : ℕ) → k < n + c → (k < n) ⊎ ((d : ℕ) × (d < c) × (k ≡ n + d))
   below k n c l = go (either k n)
@@ -138,4 +138,4 @@ module _ (maker : Maker) (o : Order) (p q : Tree) (g h : List Given) (dg dh : �
       go (inl less) =
           let there = At-get g k (omega (arith, less, count)) in
           let x = there.0 in
-          this.disclosures k x there.1 ∙ sym (other.disclosures k x (subst (λ (xs : List Given). At xs k x) one_given there.1))
+          this.disclosures k x there.1 ∙ sym (other.disclosures k x (subst (λ (xs : List Given). StandsAt xs k x) one_given there.1))

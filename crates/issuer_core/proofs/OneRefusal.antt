@@ -3,14 +3,14 @@ use Rattle.std.proofs.Common.{◌≡◌, ℕ, ◌<◌, ◌⊎◌, inl, inr, List
 use Rattle.claim_tree.specs.Tree.{Text}
 use Rattle.claim_tree.specs.Lists.{IsLeast}
 use Rattle.hmac_sign.specs.Signatures.{Meaning}
-use Rattle.marked_tree.specs.Places.{Path}
+use Rattle.marked_tree.specs.Paths.{Path}
 use Rattle.issuer_core.specs.declared.errors.IssueError.{IssueError}
 use Rattle.issuer_core.specs.declared.errors.IssueError.TheVariants.{Memory, SignFailed, PayloadNotObject, ReservedName, TooDeep, RootMarked, NoSuchPlace, ProtectedClaim, DecoyPlace, TooManyHidden, TooManyDecoys, DigestClash, TooLong}
 use Rattle.issuer_core.specs.Order.{Order}
 use Rattle.issuer_core.specs.Digests.{Maker}
 use Rattle.issuer_core.specs.Clash.{IsEqualAt, IsFirstClash}
-use Rattle.issuer_core.specs.Refusals.{number_of, place_of, IsLowest}
-use Rattle.issuer_core.specs.Issue.{laid_digests, ClashesAt, Applies}
+use Rattle.issuer_core.specs.OrderRefusals.{refusal_number, refusal_place, IsLowestRefusal}
+use Rattle.issuer_core.specs.Issue.{laid_digests, ClashesAt, AppliesToIssue}
 use Rattle.issuer_core.proofs.FromLaid.{one_list}
 
 one_least : (Fails : ℕ → Type 0) (i j : ℕ) → IsLeast Fails i → IsLeast Fails j → i ≡ j
@@ -41,7 +41,7 @@ module _ (maker : Maker) (o : Order) where
 
   module _ (good : Meaning) where
     -- the number and the place tell what applies
-    by_number : (e f : IssueError) → Applies maker o good e → Applies maker o good f → number_of e ≡ number_of f → place_of e ≡ place_of f → e ≡ f
+    by_number : (e f : IssueError) → AppliesToIssue maker o good e → AppliesToIssue maker o good f → refusal_number e ≡ refusal_number f → refusal_place e ≡ refusal_place f → e ≡ f
     by_number Memory f a b n p = absurd a
     by_number SignFailed f a b n p = absurd a
     by_number PayloadNotObject PayloadNotObject a b n p = refl
@@ -67,11 +67,11 @@ module _ (maker : Maker) (o : Order) where
     by_number TooLong TooLong a b n p = refl
     by_number TooLong f a b n p = absurd (omega (arith, n))
 
-    pub one_refusal : (e f : IssueError) → IsLowest (Applies maker o good) e → IsLowest (Applies maker o good) f → e ≡ f
+    pub one_refusal : (e f : IssueError) → IsLowestRefusal (AppliesToIssue maker o good) e → IsLowestRefusal (AppliesToIssue maker o good) f → e ≡ f
     one_refusal e f this other =
         let up = this.lowest f other.applies in
         let down = other.lowest e this.applies in
-        let numbers : number_of e ≡ number_of f = omega (arith, up, down) in
+        let numbers : refusal_number e ≡ refusal_number f = omega (arith, up, down) in
         let before = this.first f other.applies (sym numbers) in
         let behind = other.first e this.applies numbers in
         by_number e f this.applies other.applies numbers (omega (arith, before, behind))

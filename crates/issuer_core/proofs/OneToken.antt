@@ -14,9 +14,9 @@ use Rattle.issuer_core.specs.declared.errors.IssueError.TheVariants.{DigestClash
 use Rattle.issuer_core.specs.Order.{Order}
 use Rattle.issuer_core.specs.Digests.{Maker, made_texts}
 use Rattle.issuer_core.specs.Laid.{with_alg}
-use Rattle.issuer_core.specs.Refusals.{Refuses, NoneApplies}
+use Rattle.issuer_core.specs.OrderRefusals.{AppliesToOrder, NoneApplies}
 use Rattle.issuer_core.specs.Written.{IsWritten, IsLaidOut}
-use Rattle.issuer_core.specs.Issue.{Applies, HasNoClash, IsTooLong}
+use Rattle.issuer_core.specs.Issue.{AppliesToIssue, HasNoClash, IsIssueTooLong}
 use Rattle.issuer_core.proofs.OneLaid.{one_payload, one_given}
 
 abbrev made : Text → Text → Text → List Text → Option JwtParts → Parts
@@ -47,17 +47,17 @@ module _ (maker : Maker) (o : Order) (key : List ℕ) where
       this.written that.written
 
   -- what is issued is not refused
-  pub issued_not_refused : (parts : Parts) → NoneApplies (Refuses o) → HasNoClash maker o → IsLaidOut maker o (IsGood key) parts → length (compact parts) ≤ issue_max
-      → NoneApplies (Applies maker o (IsGood key))
+  pub issued_not_refused : (parts : Parts) → NoneApplies (AppliesToOrder o) → HasNoClash maker o → IsLaidOut maker o (IsGood key) parts → length (compact parts) ≤ issue_max
+      → NoneApplies (AppliesToIssue maker o (IsGood key))
   issued_not_refused parts none differ laid short error h = go error h
     where
-      long : IsTooLong maker o (IsGood key) → ⊥
+      long : IsIssueTooLong maker o (IsGood key) → ⊥
       long h =
           let same = one_token h.parts parts h.laid laid in
           let more = h.long in
           omega (arith, short, more, ap (λ x. length (compact x)) same)
 
-      go : (error : IssueError) → Applies maker o (IsGood key) error → ⊥
+      go : (error : IssueError) → AppliesToIssue maker o (IsGood key) error → ⊥
       go (DigestClash i j) h = differ i j h
       go TooLong h = long h
       go error h = none error h

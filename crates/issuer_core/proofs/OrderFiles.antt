@@ -16,7 +16,7 @@ use Rattle.claim_tree.proofs.FileVerdicts.{SaysOne}
 use Rattle.claim_tree.specs.FileLists.{IsListOf, EachSays, IsPointer}
 use Rattle.hmac_sign.specs.KeyText.{IsKeyText}
 use Rattle.issuer_core.specs.Order.{Order, order_of}
-use Rattle.issuer_core.specs.OrderFile.{IsValue, IsDecoy, order_table, IsOrderFile, IsOrderRefused}
+use Rattle.issuer_core.specs.OrderFile.{IsValue, IsDecoy, order_table, IsOrderFile, IsOrderFileRefused}
 use Rattle.issuer_core.specs.declared.order.Decoy.{Decoy}
 use Rattle.issuer_core.specs.declared.order_file.IssueFile.{IssueFile}
 use Rattle.claim_tree.proofs.ListForms.{one_list, one_pointer}
@@ -175,7 +175,7 @@ module _ (bytes : Text) (f g : IssueFile) (h : IsOrderFile bytes f) (k : IsOrder
 pub one_order : (bytes : Text) (f g : IssueFile) → IsOrderFile bytes f → IsOrderFile bytes g → (order_of f.order ≡ order_of g.order) × (f.key ≡ g.key)
 one_order bytes f g h k = (order_one bytes f g h k, key_one bytes f g h k)
 
-pub not_both : (bytes : Text) (said : IssueFile) (fault : FileFault) → IsOrderFile bytes said → IsOrderRefused bytes fault → fault ≡ FileFault.Memory
+pub not_both : (bytes : Text) (said : IssueFile) (fault : FileFault) → IsOrderFile bytes said → IsOrderFileRefused bytes fault → fault ≡ FileFault.Memory
 not_both bytes said fault says refused =
     let ms = says.members in
     let payload = says_meets IsValue Payload ms (tree_of said.order.payload) says.payload in
@@ -186,5 +186,5 @@ not_both bytes said fault says refused =
     let typ = may_say_meets IsText Typ ms said.order.typ says.typ in
     verdicts.not_refused file_max order_table bytes ms fault says.file (payload, (hide, (decoys, (key, (kid, (typ, tt)))))) refused
 
-pub one_fault : (bytes : Text) (fault other : FileFault) → IsOrderRefused bytes fault → IsOrderRefused bytes other → fault ≢ FileFault.Memory → other ≢ FileFault.Memory → fault ≡ other
+pub one_fault : (bytes : Text) (fault other : FileFault) → IsOrderFileRefused bytes fault → IsOrderFileRefused bytes other → fault ≢ FileFault.Memory → other ≢ FileFault.Memory → fault ≡ other
 one_fault bytes fault other h k = verdicts.one_fault file_max order_table bytes fault other h k

@@ -8,12 +8,12 @@ use Rattle.std.specs.List.Sorted.{IsPartitionedBy}
 use Rattle.claim_tree.specs.Tree.{Text}
 use Rattle.claim_tree.proofs.Lists.{bytes_refl}
 use Rattle.claim_tree.proofs.MapPlaces.{same_name}
-use Rattle.marked_tree.specs.Places.{Path, same_path}
-use Rattle.marked_tree.specs.Rests.{rests, step_order, path_order, AreSorted, Every, Compares, IsRun}
+use Rattle.marked_tree.specs.Paths.{Path, same_path}
+use Rattle.marked_tree.specs.Rests.{rests, step_order, path_order, AreSorted, Every, Compares, IsRunOfPaths}
 use Rattle.marked_tree.proofs.Names.{turned}
 use Rattle.marked_tree.proofs.Lookups.{apart, apart_back}
 use Rattle.marked_tree.proofs.PathOrder.{at_end, goes_on, sorted_pair, rest_whole}
-use Rattle.issuer_core.specs.Laying.{placed}
+use Rattle.issuer_core.specs.Laying.{digests_on_path}
 
 -- ---- one step down
 
@@ -27,23 +27,23 @@ module _ (depth : ℕ) (step : Text) (q : Path) where
   back_differs (k ∷ t) e = rw (apart_back step k (turned k step e)) refl
 
   skip_front : (n : ℕ) (xs : List Path) (ds : List Text) → Every (Compares Less depth step) (take n xs)
-      → placed (rests depth xs) ds (step ∷ q) ≡ placed (rests depth (drop n xs)) (drop n ds) (step ∷ q)
+      → digests_on_path (rests depth xs) ds (step ∷ q) ≡ digests_on_path (rests depth (drop n xs)) (drop n ds) (step ∷ q)
   skip_front zero xs ds all = refl
   skip_front (suc n) [] ds all = refl
   skip_front (suc n) (x ∷ xs) [] all = go (drop n xs)
     where
-      go : (ys : List Path) → [] ≡ placed (rests depth ys) [] (step ∷ q)
+      go : (ys : List Path) → [] ≡ digests_on_path (rests depth ys) [] (step ∷ q)
       go [] = refl
       go (y ∷ ys) = refl
   skip_front (suc n) (x ∷ xs) (d ∷ ds) all = rw (front_differs (drop depth x) all.0) (skip_front n xs ds all.1)
 
-  skip_all : (xs : List Path) (ds : List Text) → Every (Compares Greater depth step) xs → placed (rests depth xs) ds (step ∷ q) ≡ []
+  skip_all : (xs : List Path) (ds : List Text) → Every (Compares Greater depth step) xs → digests_on_path (rests depth xs) ds (step ∷ q) ≡ []
   skip_all [] ds all = refl
   skip_all (x ∷ xs) [] all = refl
   skip_all (x ∷ xs) (d ∷ ds) all = rw (back_differs (drop depth x) all.0) (skip_all xs ds all.1)
 
   skip_back : (n : ℕ) (xs : List Path) (ds : List Text) → Every (Compares Greater depth step) (drop n xs)
-      → placed (rests depth xs) ds (step ∷ q) ≡ placed (rests depth (take n xs)) (take n ds) (step ∷ q)
+      → digests_on_path (rests depth xs) ds (step ∷ q) ≡ digests_on_path (rests depth (take n xs)) (take n ds) (step ∷ q)
   skip_back zero xs ds all = skip_all xs ds all
   skip_back (suc n) [] ds all = refl
   skip_back (suc n) (x ∷ xs) [] all = refl
@@ -55,13 +55,13 @@ goes_further zero (k ∷ t) step q e = rw (bytes_refl k step (same_name k step e
 goes_further (suc depth) [] step q e = cc
 goes_further (suc depth) (k ∷ t) step q e = let more : suc depth + 1 ≡ suc (depth + 1) = omega arith in rw more (goes_further depth t step q e)
 
-go_on : (depth : ℕ) (step : Text) (q : Path) (xs : List Path) (ds : List Text) → Every (Compares Equal depth step) xs → placed (rests depth xs) ds (step ∷ q) ≡ placed (rests (depth + 1) xs) ds q
+go_on : (depth : ℕ) (step : Text) (q : Path) (xs : List Path) (ds : List Text) → Every (Compares Equal depth step) xs → digests_on_path (rests depth xs) ds (step ∷ q) ≡ digests_on_path (rests (depth + 1) xs) ds q
 go_on depth step q [] ds all = refl
 go_on depth step q (x ∷ xs) [] all = refl
 go_on depth step q (x ∷ xs) (d ∷ ds) all = rw (goes_further depth x step q all.0) (ap (λ (rest : List Text). cond (same_path (drop (depth + 1) x) q) (d ∷ []) [] ++ rest) (go_on depth step q xs ds all.1))
 
-pub placed_below : (depth : ℕ) (step : Text) (xs : List Path) (ds : List Text) (start count : ℕ) → IsRun depth step xs start count
-    → (q : Path) → placed (rests (depth + 1) (take count (drop start xs))) (take count (drop start ds)) q ≡ placed (rests depth xs) ds (step ∷ q)
+pub placed_below : (depth : ℕ) (step : Text) (xs : List Path) (ds : List Text) (start count : ℕ) → IsRunOfPaths depth step xs start count
+    → (q : Path) → digests_on_path (rests (depth + 1) (take count (drop start xs))) (take count (drop start ds)) q ≡ digests_on_path (rests depth xs) ds (step ∷ q)
 placed_below depth step xs ds start count run q =
     sym (skip_front depth step q start xs ds run.before ∙ skip_back depth step q count (drop start xs) (drop start ds) run.behind ∙ go_on depth step q (take count (drop start xs)) (take count (drop start ds)) run.run)
 
@@ -90,7 +90,7 @@ is_short depth p = nat_le (length p) depth
 pub parted_short : (depth : ℕ) (xs : List Path) → AreSorted (rests depth xs) → IsPartitionedBy (is_short depth) xs
 parted_short depth xs s i j d l h t = le-leb (length (get_or xs i d)) depth (ends_before depth xs i j d s l h (leb-true (length (get_or xs j d)) depth t))
 
-none_here : (depth : ℕ) (xs : List Path) (ds : List Text) → ((k : ℕ) (d : Path) → k < length xs → depth < length (get_or xs k d)) → placed (rests depth xs) ds [] ≡ []
+none_here : (depth : ℕ) (xs : List Path) (ds : List Text) → ((k : ℕ) (d : Path) → k < length xs → depth < length (get_or xs k d)) → digests_on_path (rests depth xs) ds [] ≡ []
 none_here depth [] ds all = refl
 none_here depth (x ∷ xs) [] all = refl
 none_here depth (x ∷ xs) (d ∷ ds) all =
@@ -98,7 +98,7 @@ none_here depth (x ∷ xs) (d ∷ ds) all =
     rw w.2 (none_here depth xs ds (λ k e l. all (suc k) e (omega (arith, l))))
 
 pub placed_here : (depth : ℕ) (xs : List Path) (ds : List Text) (count : ℕ) → ((k : ℕ) (d : Path) → k < count → k < length xs → length (get_or xs k d) ≤ depth)
-    → ((k : ℕ) (d : Path) → count ≤ k → k < length xs → depth < length (get_or xs k d)) → length ds ≡ length xs → take count ds ≡ placed (rests depth xs) ds []
+    → ((k : ℕ) (d : Path) → count ≤ k → k < length xs → depth < length (get_or xs k d)) → length ds ≡ length xs → take count ds ≡ digests_on_path (rests depth xs) ds []
 placed_here depth xs ds zero short long same = sym (none_here depth xs ds (λ k d l. long k d (omega arith) l))
 placed_here depth [] [] (suc count) short long same = refl
 placed_here depth [] (d ∷ ds) (suc count) short long same = absurd (omega (arith, same))

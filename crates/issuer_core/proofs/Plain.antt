@@ -3,8 +3,9 @@ use Rattle.std.proofs.Common.{◌≡◌, ℕ, suc, ◌+◌, [], ◌∷◌, Bool,
 use Rattle.std.specs.Prelude.{bytes_eq}
 use Rattle.claim_tree.specs.Tree.{Elements, ElementsOrdered, IsBeforeAll, IsOrdered, Members, MembersOrdered, Tree, array, element, leaf, member, names, no_elements, no_members, object}
 use Rattle.digest_sites.specs.Reserved.{dots_name, sd_name}
-use Rattle.marked_tree.specs.Marked.{Marked, MarkedElements, MarkedMembers, marked_array, marked_element, marked_leaf, marked_member, marked_names, marked_object, no_marked_elements, no_marked_members}
-use Rattle.marked_tree.specs.Places.{Path, below, hidden_in, mark_elements, mark_from, mark_members, one_if}
+use Rattle.marked_tree.specs.Marked.{Marked, MarkedElements, MarkedMembers, marked_array, marked_element, marked_leaf, marked_member, marked_object, no_marked_elements, no_marked_members}
+use Rattle.marked_tree.specs.MarkedCalls.{marked_names}
+use Rattle.marked_tree.specs.Paths.{Path, below, hidden_in, mark_elements, mark_from, mark_members, one_if}
 use Rattle.rebuild_core.specs.Free.{ElementsNoReserved, HasNoReserved, MembersNoReserved}
 
 -- names ascend, and none is reserved

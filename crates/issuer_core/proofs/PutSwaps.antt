@@ -6,7 +6,7 @@ use Rattle.std.specs.Ordering.{match_ordering, nat_cmp}
 use Rattle.claim_tree.specs.Lists.{In}
 use Rattle.claim_tree.specs.Tree.{IsBefore, Text}
 use Rattle.marked_tree.specs.Marked.{Marked, MarkedMembers, marked_member, no_marked_members, put}
-use Rattle.rebuild_core.specs.Opening.{Shown, hidden, show_member, show_members, shown}
+use Rattle.rebuild_core.specs.Opening.{Shown, nothing_shown, show_member, show_members, shown}
 use Rattle.issuer_core.specs.Laid.{sorted, sorted_with}
 use Rattle.marked_tree.proofs.Puts.{after_turned, before_trans, put_later}
 
@@ -74,16 +74,16 @@ put_swap a b i j t u (marked_member l n v ms) differ =
 -- ---- the sorted digests show what the unsorted do
 
 abbrev pub ShowApart : Shown → Shown → Type 0
-ShowApart hidden y = Unit {0}
+ShowApart nothing_shown y = Unit {0}
 ShowApart (shown i None t) y = Unit {0}
-ShowApart (shown i (Some a) t) hidden = Unit {0}
+ShowApart (shown i (Some a) t) nothing_shown = Unit {0}
 ShowApart (shown i (Some a) t) (shown j None u) = Unit {0}
 ShowApart (shown i (Some a) t) (shown j (Some b) u) = a ≡ b → ⊥
 
 show_swap : (x y : Shown) (ms : MarkedMembers) → ShowApart x y → show_member x (show_member y ms) ≡ show_member y (show_member x ms)
-show_swap hidden y ms h = refl
+show_swap nothing_shown y ms h = refl
 show_swap (shown i None t) y ms h = refl
-show_swap (shown i (Some a) t) hidden ms h = refl
+show_swap (shown i (Some a) t) nothing_shown ms h = refl
 show_swap (shown i (Some a) t) (shown j None u) ms h = refl
 show_swap (shown i (Some a) t) (shown j (Some b) u) ms h = put_swap a b (Some i) (Some j) t u ms h
 
@@ -124,6 +124,6 @@ pub show_append : (r : Text → Shown) (ds es : List Text) (ms : MarkedMembers) 
 show_append r [] es ms = refl
 show_append r (d ∷ ds) es ms = show_append r ds es (show_member (r d) ms)
 
-pub show_none : (r : Text → Shown) (ds : List Text) (ms : MarkedMembers) → ((d : Text) → In d ds → r d ≡ hidden) → show_members r ds ms ≡ ms
+pub show_none : (r : Text → Shown) (ds : List Text) (ms : MarkedMembers) → ((d : Text) → In d ds → r d ≡ nothing_shown) → show_members r ds ms ≡ ms
 show_none r [] ms h = refl
 show_none r (d ∷ ds) ms h = ap (λ x. show_members r ds (show_member x ms)) (h d (inl refl)) ∙ show_none r ds ms (λ e m. h e (inr m))

@@ -9,7 +9,7 @@ use Rattle.b64url_text.specs.Base64url.{b64}
 use Rattle.b64url_text.proofs.Texts.{b64_utf8}
 use Rattle.claim_tree.specs.Tree.{Text, Tree, leaf, text, array, object, no_members, depth, IsOrdered, IsRanged}
 use Rattle.claim_tree.specs.JsonText.{json_text}
-use Rattle.claim_tree.specs.Lists.{At, In}
+use Rattle.claim_tree.specs.Lists.{StandsAt, In}
 use Rattle.claim_tree.proofs.Lists.{At-get, At-In}
 use Rattle.claim_tree.proofs.TreeTexts.{HasTexts}
 use Rattle.compact_form.specs.declared.parts.Parts.{Parts}
@@ -20,12 +20,13 @@ use Rattle.hmac_sign.specs.Signatures.{Meaning}
 use Rattle.jws_part.specs.Header.{IsHeader}
 use Rattle.jws_part.specs.Part.{Carries, IsBody}
 use Rattle.jws_part.proofs.ReadBack.{carried_back, header_back}
-use Rattle.marked_tree.specs.Marked.{Marked, MarkedElements, MarkedMembers, marked_array, marked_element, marked_leaf, marked_member, marked_object, no_marked_elements, no_marked_members, strip, weight, elements_weight, members_weight, mark_weight}
-use Rattle.marked_tree.specs.Places.{Path, same_path}
+use Rattle.marked_tree.specs.Marked.{Marked, MarkedElements, MarkedMembers, marked_array, marked_element, marked_leaf, marked_member, marked_object, no_marked_elements, no_marked_members, strip}
+use Rattle.marked_tree.specs.Ways.{weight, elements_weight, members_weight, mark_weight}
+use Rattle.marked_tree.specs.Paths.{Path, same_path}
 use Rattle.marked_tree.proofs.MarkFacts.{mark_strips_holds}
-use Rattle.issuer_core.specs.Closing.{one, IsNumbered, ClosesFrom, ElementsClose, MembersClose}
+use Rattle.issuer_core.specs.Closing.{one, HasNumber, ClosesFrom, ElementsClose, MembersClose}
 use Rattle.issuer_core.specs.Decoys.{decoys_of, decoys_at}
-use Rattle.issuer_core.specs.Digests.{marked_of, hidden_of, made_texts}
+use Rattle.issuer_core.specs.Digests.{marked_claims, hidden_of, made_texts}
 use Rattle.issuer_core.specs.GoodOrder.{IsObject, IsWritable}
 use Rattle.issuer_core.specs.Laid.{IsLaid, with_alg, order_decoys}
 use Rattle.issuer_core.specs.Order.{Order}
@@ -46,7 +47,7 @@ use Rattle.issuer_core.proofs.WrittenTexts.{AllTexts, GivenTexts, held_texts, la
 -- ---- the digests of the marks
 
 module _ (dg dh : ℕ → Text) (most : ℕ) (same : (k : ℕ) → k < most → dg k ≡ dh k) where
-  mark_agrees : (k : Option ℕ) (n w : ℕ) → IsNumbered k (n + w) → n + (mark_weight one k + w) ≤ most → MarkAgrees dg dh k
+  mark_agrees : (k : Option ℕ) (n w : ℕ) → HasNumber k (n + w) → n + (mark_weight one k + w) ≤ most → MarkAgrees dg dh k
   mark_agrees None n w is low = tt
   mark_agrees (Some k) n w is low = same k (omega (arith, is, low))
 
@@ -114,7 +115,7 @@ first_utf8 dg most each k = go (ltb k most) refl
     go true e = each k (ltb-true k most e)
     go false e = IsUtf8-nil
 
-salts_back : (seed : List ℕ) (k : ℕ) (given : List Given) → ((i : ℕ) (x : Given) → At given i x → GivenTexts x × IsRanged x.value × IsOrdered x.value × (depth x.value ≤ 126))
+salts_back : (seed : List ℕ) (k : ℕ) (given : List Given) → ((i : ℕ) (x : Given) → StandsAt given i x → GivenTexts x × IsRanged x.value × IsOrdered x.value × (depth x.value ≤ 126))
     → AllZip (λ (d : Text) (x : Given). (salt : Tree) × IsDisclosure d salt x.name x.value) (made_texts (maker_of seed).disclosure k given) given
 salts_back seed k [] each = tt
 salts_back seed k (x ∷ given) each =
@@ -123,7 +124,7 @@ salts_back seed k (x ∷ given) each =
 
 module _ (seed : List ℕ) (o : Order) (p : Tree) (g : List Given) (dg : ℕ → Text) (writable : IsWritable o) (laid : IsLaid (maker_of seed) o p g dg) where
   count : length g ≡ hidden_of o
-  count = ap (λ (xs : List Given). length xs) laid.given_laid ∙ (items_length (order_decoys o dg) dg (marked_of o) ∙ order_marks o)
+  count = ap (λ (xs : List Given). length xs) laid.given_laid ∙ (items_length (order_decoys o dg) dg (marked_claims o) ∙ order_marks o)
 
   mark_utf8 : (k : ℕ) → k < hidden_of o → IsUtf8 (dg k)
   mark_utf8 k l =
@@ -137,11 +138,11 @@ module _ (seed : List ℕ) (o : Order) (p : Tree) (g : List Given) (dg : ℕ →
   dh : ℕ → Text
   dh = first_texts dg (hidden_of o)
 
-  agree : MarksAgree dg dh (marked_of o)
+  agree : MarksAgree dg dh (marked_claims o)
   unfolding dh
-  agree = marks_agree dg dh (hidden_of o) (first_same dg (hidden_of o)) 0 (marked_of o) (order_closes o) (omega (arith, order_marks o))
+  agree = marks_agree dg dh (hidden_of o) (first_same dg (hidden_of o)) 0 (marked_claims o) (order_closes o) (omega (arith, order_marks o))
 
-  claims_texts : HasTexts (strip (marked_of o))
+  claims_texts : HasTexts (strip (marked_claims o))
   claims_texts = subst HasTexts (sym (mark_strips_holds o.claims o.hide)) (held_texts o.claims writable.held)
 
   decoys_are : (q : Path) → AllTexts (order_decoys o dg q)
@@ -151,15 +152,15 @@ module _ (seed : List ℕ) (o : Order) (p : Tree) (g : List Given) (dg : ℕ →
   unfolding dh
   payload_texts =
       let dec = order_decoys o dg in
-      let same = laid.payload_laid ∙ lay_agrees dg dh dec dec (λ q. refl) (marked_of o) agree in
-      subst HasTexts (sym same) (lay_texts dh (first_utf8 dg (hidden_of o) mark_utf8) dec decoys_are (marked_of o) claims_texts)
+      let same = laid.payload_laid ∙ lay_agrees dg dh dec dec (λ q. refl) (marked_claims o) agree in
+      subst HasTexts (sym same) (lay_texts dh (first_utf8 dg (hidden_of o) mark_utf8) dec decoys_are (marked_claims o) claims_texts)
 
   given_texts : (x : Given) → In x g → GivenTexts x
   unfolding dh
   given_texts x m =
       let dec = order_decoys o dg in
-      let same = laid.given_laid ∙ items_agree dg dh dec dec (λ q. refl) (marked_of o) agree in
-      items_texts dh (first_utf8 dg (hidden_of o) mark_utf8) dec decoys_are (marked_of o) claims_texts x (subst (λ (xs : List Given). In x xs) same m)
+      let same = laid.given_laid ∙ items_agree dg dh dec dec (λ q. refl) (marked_claims o) agree in
+      items_texts dh (first_utf8 dg (hidden_of o) mark_utf8) dec decoys_are (marked_claims o) claims_texts x (subst (λ (xs : List Given). In x xs) same m)
 
   pub body_back : (part : Text) → part ≡ b64 (json_text (with_alg p)) → IsBody part (with_alg p)
   body_back part is =
@@ -184,7 +185,7 @@ module _ (seed : List ℕ) (o : Order) (p : Tree) (g : List Given) (dg : ℕ →
   written_back good parts written =
       let readable = laid_is_readable_holds (maker_of seed) o p g dg writable.good laid in
       let shallow = writable.good.shallow in
-      let each : (i : ℕ) (x : Given) → At g i x → GivenTexts x × IsRanged x.value × IsOrdered x.value × (depth x.value ≤ 126) = λ i x a.
+      let each : (i : ℕ) (x : Given) → StandsAt g i x → GivenTexts x × IsRanged x.value × IsOrdered x.value × (depth x.value ≤ 126) = λ i x a.
       let m = At-In g i x a in
       let low = value_depth (maker_of seed) o p g dg laid x m in
       (given_texts x m, value_ranged (maker_of seed) o p g dg laid writable.ranged x m, readable.in_values x m, omega (arith, low, shallow)) in

@@ -9,7 +9,7 @@ use Rattle.claim_tree.specs.Tree.{Members, Text, Tree, array, inserted, member, 
 use Rattle.digest_sites.specs.Reserved.{dots_name, element_digest, sd_name, sd_texts, texts_of}
 use Rattle.digest_sites.specs.Sites.{Site, member_sites, sites, to_member, under}
 use Rattle.marked_tree.specs.Marked.{Marked, MarkedMembers, marked_array, marked_leaf, marked_member, marked_object, no_marked_elements, no_marked_members}
-use Rattle.rebuild_core.specs.Opening.{Shown, hidden, open_elements, open_members, open_tree}
+use Rattle.rebuild_core.specs.Opening.{Shown, nothing_shown, open_elements, open_members, open_tree}
 use Rattle.issuer_core.specs.Laid.{digest_elements, digest_object, hidden_digests, lay, lay_members, sorted, texts_array, with_sd}
 use Rattle.claim_tree.proofs.Lists.{bytes_refl}
 use Rattle.issuer_core.proofs.Plain.{IsPlain, MembersPlain}
@@ -125,6 +125,6 @@ laid_no_digest dec dg (marked_object ms) h =
 pub digest_read : (d : Text) → element_digest (digest_object d) ≡ Some d
 digest_read d = rw (bytes_refl dots_name dots_name refl)
 
-pub decoys_left_out : (r : Text → Shown) (ds : List Text) → ((d : Text) → In d ds → r d ≡ hidden) → open_elements r (digest_elements ds) ≡ no_marked_elements
+pub decoys_left_out : (r : Text → Shown) (ds : List Text) → ((d : Text) → In d ds → r d ≡ nothing_shown) → open_elements r (digest_elements ds) ≡ no_marked_elements
 decoys_left_out r [] h = refl
 decoys_left_out r (d ∷ ds) h = rw (digest_read d, h d (inl refl)) (decoys_left_out r ds (λ e m. h e (inr m)))

@@ -10,11 +10,11 @@ use Rattle.std.proofs.Math.Seq.{take-length}
 use Rattle.std.specs.List.{slice_get}
 use Rattle.claim_tree.specs.Tree.{Text}
 use Rattle.claim_tree.proofs.MapPlaces.{cmp, same_name}
-use Rattle.marked_tree.specs.Places.{Path, same_path}
+use Rattle.marked_tree.specs.Paths.{Path, same_path}
 use Rattle.marked_tree.specs.Rests.{path_order, AreSorted}
 use Rattle.marked_tree.proofs.PathOrder.{paths_total, are_sorted}
 use Rattle.issuer_core.specs.Decoys.{decoys_at}
-use Rattle.issuer_core.specs.Laying.{nth, placed, paths_in, digests_in}
+use Rattle.issuer_core.specs.Laying.{nth, digests_on_path, paths_in, digests_in}
 use Rattle.marked_tree.proofs.DifferentPaths.{path_same, path_refl}
 
 abbrev pub Entry : Type 0
@@ -58,16 +58,16 @@ tie_is q e = go (path_order q e.0) refl
 
 -- ---- a stable sort
 
-placed_filtered : (q : Path) (es : List Entry) → placed (paths_in es) (digests_in es) q ≡ digests_in (filter (ties lower (q, [])) es)
+placed_filtered : (q : Path) (es : List Entry) → digests_on_path (paths_in es) (digests_in es) q ≡ digests_in (filter (ties lower (q, [])) es)
 placed_filtered q [] = refl
 placed_filtered q (e ∷ es) = rw (tie_is q e) (go (same_path e.0 q) (placed_filtered q es))
   where
-    go : (b : Bool) → placed (paths_in es) (digests_in es) q ≡ digests_in (filter (ties lower (q, [])) es)
-        → cond b (e.1 ∷ []) [] ++ placed (paths_in es) (digests_in es) q ≡ digests_in (cond b (e ∷ filter (ties lower (q, [])) es) (filter (ties lower (q, [])) es))
+    go : (b : Bool) → digests_on_path (paths_in es) (digests_in es) q ≡ digests_in (filter (ties lower (q, [])) es)
+        → cond b (e.1 ∷ []) [] ++ digests_on_path (paths_in es) (digests_in es) q ≡ digests_in (cond b (e ∷ filter (ties lower (q, [])) es) (filter (ties lower (q, [])) es))
     go true ih = ap (λ (ds : List Text). e.1 ∷ ds) ih
     go false ih = ih
 
-pub placed_sorted : (xs ys : List Entry) → IsStableBy lower xs ys → (q : Path) → placed (paths_in ys) (digests_in ys) q ≡ placed (paths_in xs) (digests_in xs) q
+pub placed_sorted : (xs ys : List Entry) → IsStableBy lower xs ys → (q : Path) → digests_on_path (paths_in ys) (digests_in ys) q ≡ digests_on_path (paths_in xs) (digests_in xs) q
 placed_sorted xs ys stable q = placed_filtered q ys ∙ (ap digests_in (stable (q, [])) ∙ sym (placed_filtered q xs))
 
 path_at : (es : List Entry) (k : ℕ) (d : Path) (e : Entry) → k < length es → get_or (paths_in es) k d ≡ (get_or es k e).0
@@ -119,7 +119,7 @@ all_entries es digests ps paths taken same =
 -- ---- numbered
 
 pub placed_numbered : (paths : List Path) (digests : List Text) (dg : ℕ → Text) (n : ℕ) → length digests ≡ length paths → ((k : ℕ) → k < length paths → nth digests k ≡ dg (n + k)) → (at : Path)
-    → placed paths digests at ≡ decoys_at dg n paths at
+    → digests_on_path paths digests at ≡ decoys_at dg n paths at
 placed_numbered [] digests dg n same each at = refl
 placed_numbered (p ∷ ps) [] dg n same each at = absurd (omega (arith, same))
 placed_numbered (p ∷ ps) (d ∷ ds) dg n same each at =

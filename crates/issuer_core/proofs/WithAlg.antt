@@ -9,10 +9,10 @@ use Rattle.claim_tree.specs.Removed.{removed}
 use Rattle.digest_sites.specs.Given.{Given}
 use Rattle.digest_sites.specs.Reserved.{sd_name}
 use Rattle.marked_tree.specs.Marked.{Marked, MarkedMembers, marked_array, marked_leaf, marked_member, marked_object, no_marked_members, strip, strip_members}
-use Rattle.marked_tree.specs.Places.{Path}
+use Rattle.marked_tree.specs.Paths.{Path}
 use Rattle.rebuild_core.specs.Free.{HasNoReserved, MembersNoReserved}
 use Rattle.rebuild_core.specs.Payload.{alg_name, without_alg}
-use Rattle.issuer_core.specs.Digests.{Maker, marked_of}
+use Rattle.issuer_core.specs.Digests.{Maker, marked_claims}
 use Rattle.issuer_core.specs.GoodOrder.{IsGoodOrder, IsObject}
 use Rattle.issuer_core.specs.Laid.{IsLaid, hidden_digests, lay, lay_members, order_decoys, sorted, texts_array, with_alg, with_sd}
 use Rattle.issuer_core.specs.Order.{Order}
@@ -69,8 +69,8 @@ laid_without_alg dec dg (marked_object ms) f =
 -- the payload that is handed out, without its `_sd_alg`, is what was laid
 pub without_with_alg : (mk : Maker) (o : Order) (p : Tree) (g : List Given) (dg : ℕ → Text) → IsGoodOrder o → IsLaid mk o p g dg → without_alg (with_alg p) ≡ p
 without_with_alg mk o p g dg good laid =
-    let free : HasNoReserved (strip (marked_of o)) = subst HasNoReserved (sym (mark_strips_holds o.claims o.hide)) good.no_reserved in
-    subst (λ t. without_alg (with_alg t) ≡ t) (sym laid.payload_laid) (laid_without_alg (order_decoys o dg) dg (marked_of o) free)
+    let free : HasNoReserved (strip (marked_claims o)) = subst HasNoReserved (sym (mark_strips_holds o.claims o.hide)) good.no_reserved in
+    subst (λ t. without_alg (with_alg t) ≡ t) (sym laid.payload_laid) (laid_without_alg (order_decoys o dg) dg (marked_claims o) free)
 
 pub with_alg_ordered : (t : Tree) → IsOrdered t → IsOrdered (with_alg t)
 with_alg_ordered (leaf l) o = o
@@ -91,4 +91,4 @@ laid_object dec dg (marked_array es) h = absurd h
 
 pub payload_object : (mk : Maker) (o : Order) (p : Tree) (g : List Given) (dg : ℕ → Text) → IsGoodOrder o → IsLaid mk o p g dg → IsObject p
 payload_object mk o p g dg good laid =
-    subst IsObject (sym laid.payload_laid) (laid_object (order_decoys o dg) dg (marked_of o) (subst IsObject (sym (mark_strips_holds o.claims o.hide)) good.is_object))
+    subst IsObject (sym laid.payload_laid) (laid_object (order_decoys o dg) dg (marked_claims o) (subst IsObject (sym (mark_strips_holds o.claims o.hide)) good.is_object))

@@ -10,13 +10,13 @@ use Rattle.claim_tree.proofs.TreeTexts.{HasTexts, ElementsTexts, MembersTexts}
 use Rattle.digest_sites.specs.Given.{Given}
 use Rattle.digest_sites.specs.Reserved.{sd_name, dots_name}
 use Rattle.marked_tree.specs.Marked.{Marked, MarkedElements, MarkedMembers, marked_array, marked_element, marked_leaf, marked_member, marked_object, no_marked_elements, no_marked_members, strip, strip_elements, strip_members}
-use Rattle.marked_tree.specs.Places.{Path}
+use Rattle.marked_tree.specs.Paths.{Path}
 use Rattle.rebuild_core.specs.Payload.{alg_name}
-use Rattle.issuer_core.specs.GoodOrder.{IsHeld, ElementsHeld, MembersHeld}
-use Rattle.issuer_core.specs.Laid.{digest_elements, hidden_digests, laid_elements, laid_items, laid_members, lay, lay_elements, lay_members, own_item, sorted, sorted_with, texts_array, with_sd, with_alg}
+use Rattle.issuer_core.specs.GoodOrder.{FitsMachine, ElementsFit, MembersFit}
+use Rattle.issuer_core.specs.Laid.{digest_elements, hidden_digests, laid_elements, laid_given, laid_members, lay, lay_elements, lay_members, own_given, sorted, sorted_with, texts_array, with_sd, with_alg}
 
 mutual
-  pub held_texts : (t : Tree) → IsHeld t → HasTexts t
+  pub held_texts : (t : Tree) → FitsMachine t → HasTexts t
   held_texts (leaf null) h = tt
   held_texts (leaf (flag b)) h = tt
   held_texts (leaf (whole z)) h = tt
@@ -24,11 +24,11 @@ mutual
   held_texts (array es) h = elements_texts es h.1
   held_texts (object ms) h = members_texts ms h
 
-  elements_texts : (es : Elements) → ElementsHeld es → ElementsTexts es
+  elements_texts : (es : Elements) → ElementsFit es → ElementsTexts es
   elements_texts no_elements h = tt
   elements_texts (element t es) h = (held_texts t h.0, elements_texts es h.1)
 
-  members_texts : (ms : Members) → MembersHeld ms → MembersTexts ms
+  members_texts : (ms : Members) → MembersFit ms → MembersTexts ms
   members_texts no_members h = tt
   members_texts (member name t ms) h = (h.0, held_texts t h.1, members_texts ms h.2)
 
@@ -119,7 +119,7 @@ module _ (dg : ℕ → Text) (each : (k : ℕ) → IsUtf8 (dg k)) where
   hidden_texts (marked_member name (Some i) t ms) d (inl e) = subst IsUtf8 (sym e) (each i)
   hidden_texts (marked_member name (Some i) t ms) d (inr m) = hidden_texts ms d m
 
-  own_texts : (name : Option Text) (k : Option ℕ) (v : Tree) → IfSome name IsUtf8 → HasTexts v → AllValues GivenTexts (own_item dg name k v)
+  own_texts : (name : Option Text) (k : Option ℕ) (v : Tree) → IfSome name IsUtf8 → HasTexts v → AllValues GivenTexts (own_given dg name k v)
   own_texts name None v n h x m = elim m [ ]
   own_texts name (Some k) v n h x (inl e) = subst GivenTexts (sym e) (n, h)
   own_texts name (Some k) v n h x (inr m) = elim m [ ]
@@ -142,7 +142,7 @@ module _ (dg : ℕ → Text) (each : (k : ℕ) → IsUtf8 (dg k)) where
     members_lay_texts dec all (marked_member name (Some i) t ms) h = members_lay_texts dec all ms h.2
 
   mutual
-    pub items_texts : (dec : Path → List Text) → ((q : Path) → AllTexts (dec q)) → (m : Marked) → HasTexts (strip m) → AllValues GivenTexts (laid_items dec dg m)
+    pub items_texts : (dec : Path → List Text) → ((q : Path) → AllTexts (dec q)) → (m : Marked) → HasTexts (strip m) → AllValues GivenTexts (laid_given dec dg m)
     items_texts dec all (marked_leaf l) h = λ x m. elim m [ ]
     items_texts dec all (marked_array es) h = elements_items_texts dec all 0 es h
     items_texts dec all (marked_object ms) h = members_items_texts dec all ms h
@@ -152,8 +152,8 @@ module _ (dg : ℕ → Text) (each : (k : ℕ) → IsUtf8 (dg k)) where
     elements_items_texts dec all i (marked_element k t es) h =
         let s : Path → List Text = λ q. dec (decimal i ∷ q) in
         let a : (q : Path) → AllTexts (s q) = λ q. all (decimal i ∷ q) in
-        values_joined GivenTexts (laid_items s dg t ++ own_item dg None k (lay s dg t)) (laid_elements dec dg (suc i) es)
-        (values_joined GivenTexts (laid_items s dg t) (own_item dg None k (lay s dg t)) (items_texts s a t h.0) (own_texts None k (lay s dg t) tt (lay_texts s a t h.0)))
+        values_joined GivenTexts (laid_given s dg t ++ own_given dg None k (lay s dg t)) (laid_elements dec dg (suc i) es)
+        (values_joined GivenTexts (laid_given s dg t) (own_given dg None k (lay s dg t)) (items_texts s a t h.0) (own_texts None k (lay s dg t) tt (lay_texts s a t h.0)))
         (elements_items_texts dec all (suc i) es h.1)
 
     members_items_texts : (dec : Path → List Text) → ((q : Path) → AllTexts (dec q)) → (ms : MarkedMembers) → MembersTexts (strip_members ms) → AllValues GivenTexts (laid_members dec dg ms)
@@ -161,8 +161,8 @@ module _ (dg : ℕ → Text) (each : (k : ℕ) → IsUtf8 (dg k)) where
     members_items_texts dec all (marked_member name k t ms) h =
         let s : Path → List Text = λ q. dec (name ∷ q) in
         let a : (q : Path) → AllTexts (s q) = λ q. all (name ∷ q) in
-        values_joined GivenTexts (laid_items s dg t ++ own_item dg (Some name) k (lay s dg t)) (laid_members dec dg ms)
-        (values_joined GivenTexts (laid_items s dg t) (own_item dg (Some name) k (lay s dg t)) (items_texts s a t h.1) (own_texts (Some name) k (lay s dg t) h.0 (lay_texts s a t h.1)))
+        values_joined GivenTexts (laid_given s dg t ++ own_given dg (Some name) k (lay s dg t)) (laid_members dec dg ms)
+        (values_joined GivenTexts (laid_given s dg t) (own_given dg (Some name) k (lay s dg t)) (items_texts s a t h.1) (own_texts (Some name) k (lay s dg t) h.0 (lay_texts s a t h.1)))
         (members_items_texts dec all ms h.2)
 
 -- the payload with its hash

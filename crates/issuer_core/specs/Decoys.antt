@@ -1,17 +1,17 @@
 -- Decoy digests, RFC 9901 section 4.2.5: where they stand.
 use Rattle.std.specs.Prelude.{ℕ, zero, suc, ◌+◌, List, [], ◌∷◌, ◌++◌, replicate, if◌then◌else◌}
 use Rattle.claim_tree.specs.Tree.{Text}
-use Rattle.marked_tree.specs.Places.{Path, same_path}
+use Rattle.marked_tree.specs.Paths.{Path, same_path}
 use Rattle.issuer_core.specs.declared.order.Decoy.{Decoy}
 use Rattle.issuer_core.specs.Order.{Order}
 
 -- the place of each decoy: those of the entries in their order, each as often as its count
-abbrev pub places : List Decoy → List Path
-places [] = []
-places (entry ∷ entries) = replicate entry.count entry.at ++ places entries
+abbrev pub decoy_paths : List Decoy → List Path
+decoy_paths [] = []
+decoy_paths (entry ∷ entries) = replicate entry.count entry.at ++ decoy_paths entries
 
 abbrev pub decoys_of : Order → List Path
-decoys_of o = places o.decoys
+decoys_of o = decoy_paths o.decoys
 
 -- how many of the first `many` decoys have this place
 abbrev pub earlier : ℕ → Path → List Path → ℕ

@@ -3,8 +3,8 @@ use Rattle.std.specs.Prelude.{◌≡◌, ℕ, suc, ◌<◌, List, [], ◌∷◌,
 use Rattle.claim_tree.specs.Tree.{Text, Tree}
 use Rattle.digest_sites.specs.Given.{Given}
 use Rattle.marked_tree.specs.Marked.{Marked}
-use Rattle.marked_tree.specs.Places.{Path, mark, hidden_count}
-use Rattle.rebuild_core.specs.Given.{given_digests}
+use Rattle.marked_tree.specs.Paths.{Path, mark, hidden_count}
+use Rattle.rebuild_core.specs.Reached.{given_digests}
 use Rattle.issuer_core.specs.Order.{Order}
 use Rattle.issuer_core.specs.Decoys.{decoys_of}
 
@@ -21,8 +21,8 @@ made_texts made k [] = []
 made_texts made k (x ∷ xs) = made k x.name x.value ∷ made_texts made (suc k) xs
 
 -- the claims, the hidden places numbered
-abbrev pub marked_of : Order → Marked
-marked_of o = mark o.claims o.hide
+abbrev pub marked_claims : Order → Marked
+marked_claims o = mark o.claims o.hide
 
 -- how many places are hidden: so many disclosures there are
 abbrev pub hidden_of : Order → ℕ
@@ -38,7 +38,3 @@ decoy_digests maker o = digests_from (λ k. maker.digest (maker.piece k)) (hidde
 
 abbrev pub issued_digests : Maker → Order → List Given → List Text
 issued_digests maker o given = given_digests given ++ decoy_digests maker o
-
--- the first n differ from each other
-abbrev pub AllDiffer : (ℕ → Text) → ℕ → Type 0
-AllDiffer dg n = (i j : ℕ) → i < j → j < n → dg i ≡ dg j → ⊥

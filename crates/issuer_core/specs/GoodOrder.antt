@@ -19,21 +19,6 @@ HoldsOthers (Some (object ms)) = Unit {0}
 HoldsOthers (Some (array es)) = Unit {0}
 HoldsOthers _ = ⊥
 
--- each list has fewer than 2 ^ 64 elements: as far a step of a path, `decimal`, is that of one position
-abbrev mutual
-  pub HasShortLists : Tree → Type 0
-  HasShortLists (leaf l) = Unit {0}
-  HasShortLists (array es) = (elements_len es < 2 ^ 64) × ElementsShort es
-  HasShortLists (object ms) = MembersShort ms
-
-  pub ElementsShort : Elements → Type 0
-  ElementsShort no_elements = Unit {0}
-  ElementsShort (element t es) = HasShortLists t × ElementsShort es
-
-  pub MembersShort : Members → Type 0
-  MembersShort no_members = Unit {0}
-  MembersShort (member name t ms) = HasShortLists t × MembersShort ms
-
 pub record IsGoodOrder (o : Order) : Type 0 where
   -- 51
   pub is_object : IsObject o.claims
@@ -45,29 +30,29 @@ pub record IsGoodOrder (o : Order) : Type 0 where
   pub decoys_held : (entry : Decoy) → In entry o.decoys → HoldsOthers (tree_at o.claims entry.at)
   pub ordered : IsOrdered o.claims
 
-abbrev pub LeafHeld : Leaf → Type 0
-LeafHeld (text s) = IsUtf8 s
-LeafHeld _ = Unit {0}
+abbrev pub LeafFits : Leaf → Type 0
+LeafFits (text s) = IsUtf8 s
+LeafFits _ = Unit {0}
 
 -- what is so of every tree that a machine holds: each list has fewer than 2 ^ 64 elements, and each text and each name is UTF-8
 abbrev mutual
-  pub IsHeld : Tree → Type 0
-  IsHeld (leaf l) = LeafHeld l
-  IsHeld (array es) = (elements_len es < 2 ^ 64) × ElementsHeld es
-  IsHeld (object ms) = MembersHeld ms
+  pub FitsMachine : Tree → Type 0
+  FitsMachine (leaf l) = LeafFits l
+  FitsMachine (array es) = (elements_len es < 2 ^ 64) × ElementsFit es
+  FitsMachine (object ms) = MembersFit ms
 
-  pub ElementsHeld : Elements → Type 0
-  ElementsHeld no_elements = Unit {0}
-  ElementsHeld (element t es) = IsHeld t × ElementsHeld es
+  pub ElementsFit : Elements → Type 0
+  ElementsFit no_elements = Unit {0}
+  ElementsFit (element t es) = FitsMachine t × ElementsFit es
 
-  pub MembersHeld : Members → Type 0
-  MembersHeld no_members = Unit {0}
-  MembersHeld (member name t ms) = IsUtf8 name × IsHeld t × MembersHeld ms
+  pub MembersFit : Members → Type 0
+  MembersFit no_members = Unit {0}
+  MembersFit (member name t ms) = IsUtf8 name × FitsMachine t × MembersFit ms
 
 -- a good order as a machine holds it, with numbers of 64 bits: what is written for it is read again
 pub record IsWritable (o : Order) : Type 0 where
   pub good : IsGoodOrder o
-  pub held : IsHeld o.claims
+  pub held : FitsMachine o.claims
   pub ranged : IsRanged o.claims
   pub kid : IfSome o.kid IsUtf8
   pub typ : IfSome o.typ IsUtf8

@@ -1,21 +1,20 @@
 -- What an issuer hands out for an order: a payload, without its own `_sd_alg`, and disclosures.
 use Rattle.std.specs.Prelude.{◌≡◌, ℕ, ◌+◌, List, [], ◌∷◌, ◌++◌, map, length, true, Option, Some, None, bytes_eq, decimal, if◌then◌else◌}
 use Rattle.claim_tree.specs.Tree.{Text, Tree, leaf, array, object, Elements, no_elements, element, Members, no_members, member, elements_len, IsBeforeAll, IsRanged}
-use Rattle.claim_tree.specs.Lists.{At, In, Repeats, Nowhere}
+use Rattle.claim_tree.specs.Lists.{StandsAt, In, Repeats, AtNone}
 use Rattle.claim_tree.specs.Path.{tree_at}
 use Rattle.digest_sites.specs.Reserved.{sd_name, text_list}
 use Rattle.digest_sites.specs.Sites.{step_text}
 use Rattle.digest_sites.specs.Given.{Given}
 use Rattle.digest_sites.specs.declared.site.SiteKind.TheVariants.{Member, Element}
 use Rattle.marked_tree.specs.Marked.{Marked}
-use Rattle.marked_tree.specs.Places.{Path, place}
-use Rattle.rebuild_core.specs.Given.{Owner, payload, value_of, Item, all_items}
-use Rattle.rebuild_core.specs.AllShown.{all_digests}
-use Rattle.rebuild_core.specs.Laws.{IsReadable}
+use Rattle.marked_tree.specs.Paths.{Path, mark_path}
+use Rattle.rebuild_core.specs.Reached.{Owner, payload, value_of, OwnedSite, all_sites, all_digests}
+use Rattle.rebuild_core.specs.Readable.{IsReadable}
 use Rattle.rebuild_core.specs.Opening.{processed}
 use Rattle.issuer_core.specs.Order.{Order}
 use Rattle.issuer_core.specs.Decoys.{decoys_of, earlier}
-use Rattle.issuer_core.specs.Digests.{Maker, marked_of, hidden_of, issued_digests}
+use Rattle.issuer_core.specs.Digests.{Maker, marked_claims, hidden_of, issued_digests}
 
 -- how often the digest is in the list
 abbrev pub occurs : Text → List Text → ℕ
@@ -31,14 +30,14 @@ or_root (Some at) = at
 -- where the tree of an owner stands in the claims
 abbrev pub root_of : Marked → Owner → Path
 root_of m payload = []
-root_of m (value_of k) = or_root (place m k)
+root_of m (value_of k) = or_root (mark_path m k)
 
 -- where a site stands in the claims
-abbrev pub origin : Marked → Item → Path
+abbrev pub origin : Marked → OwnedSite → Path
 origin m x = root_of m x.owner ++ map step_text x.site.at
 
 -- the place of a decoy with so many earlier ones: an object has it among its `_sd`, a list has the decoys behind its own elements
-abbrev pub IsDecoySite : Marked → Item → Path → ℕ → Option Tree → Type 0
+abbrev pub IsDecoySite : Marked → OwnedSite → Path → ℕ → Option Tree → Type 0
 IsDecoySite m x at many (Some (object ms)) = (x.site.kind ≡ Member) × (origin m x ≡ at)
 IsDecoySite m x at many (Some (array es)) = (x.site.kind ≡ Element) × (origin m x ≡ at ++ decimal (elements_len es + many) ∷ [])
 IsDecoySite m x at many _ = Unit {0}
@@ -46,9 +45,9 @@ IsDecoySite m x at many _ = Unit {0}
 -- each decoy has its digest at its place
 abbrev pub DecoysStand : Maker → Order → Tree → List Given → Type 0
 DecoysStand maker o p given =
-    (d : ℕ) (at : Path) → At (decoys_of o) d at
-    → (x : Item) × In x (all_items p given) × (x.site.digest ≡ maker.digest (maker.piece (hidden_of o + d)))
-    × IsDecoySite (marked_of o) x at (earlier d at (decoys_of o)) (tree_at o.claims at)
+    (d : ℕ) (at : Path) → StandsAt (decoys_of o) d at
+    → (x : OwnedSite) × In x (all_sites p given) × (x.site.digest ≡ maker.digest (maker.piece (hidden_of o + d)))
+    × IsDecoySite (marked_claims o) x at (earlier d at (decoys_of o)) (tree_at o.claims at)
 
 -- ---- the lists `_sd`
 
@@ -80,12 +79,12 @@ abbrev mutual
 pub record IsIssuedFor (maker : Maker) (o : Order) (p : Tree) (given : List Given) : Type 0 where
   -- a disclosure for each hidden place
   pub count : length given ≡ hidden_of o
-  pub made : (k : ℕ) (x : Given) → At given k x → x.digest ≡ maker.digest (maker.disclosure k x.name x.value)
+  pub made : (k : ℕ) (x : Given) → StandsAt given k x → x.digest ≡ maker.digest (maker.disclosure k x.name x.value)
   -- together they show the claims, each disclosure at its place
-  pub opens : processed p given ≡ marked_of o
+  pub opens : processed p given ≡ marked_claims o
   -- the digests that stand in the payload and in the values are those of the disclosures and of the decoys
   pub each_once : (digest : Text) → occurs digest (all_digests p given) ≡ occurs digest (issued_digests maker o given)
-  pub differ : Nowhere (Repeats (issued_digests maker o given))
+  pub differ : AtNone (Repeats (issued_digests maker o given))
   pub decoys : DecoysStand maker o p given
   pub payload_rises : HasDigestLists p
   pub values_rise : (x : Given) → In x given → HasDigestLists x.value

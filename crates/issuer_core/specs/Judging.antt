@@ -3,11 +3,11 @@ use Rattle.std.specs.Prelude.{◌≤◌, ℕ, [], ◌∷◌, Bool, true, false, 
 use Rattle.std.specs.List.{list_any}
 use Rattle.claim_tree.specs.Tree.{Tree, array, object}
 use Rattle.claim_tree.specs.Path.{tree_at}
-use Rattle.marked_tree.specs.Places.{Path}
+use Rattle.marked_tree.specs.Paths.{Path}
 use Rattle.issuer_core.specs.declared.order.Decoy.{Decoy}
 use Rattle.issuer_core.specs.declared.errors.IssueError.{IssueError}
 use Rattle.issuer_core.specs.Order.{Order}
-use Rattle.issuer_core.specs.Refusals.{Refuses, protected_names, number_of}
+use Rattle.issuer_core.specs.OrderRefusals.{AppliesToOrder, protected_names, refusal_number}
 
 abbrev pub is_root : Path → Bool
 is_root [] = true
@@ -30,4 +30,4 @@ is_misplaced claims entry = is_no_holder (tree_at claims entry.at)
 
 -- no refusal below the number applies
 abbrev pub PassesBelow : ℕ → Order → Type 0
-PassesBelow number o = (error : IssueError) → Refuses o error → number ≤ number_of error
+PassesBelow number o = (error : IssueError) → AppliesToOrder o error → number ≤ refusal_number error

@@ -3,17 +3,17 @@ use Rattle.std.specs.Prelude.{◌≡◌, ℕ, suc, ◌+◌, ◌<◌, List, [], �
 use Rattle.std.specs.Ordering.{match_ordering, nat_cmp}
 use Rattle.std.specs.Cmp.Lexicographic.{slice_cmp}
 use Rattle.claim_tree.specs.Tree.{Text, text, Tree, leaf, array, object, Elements, no_elements, element, Members, no_members, member, inserted}
-use Rattle.claim_tree.specs.Lists.{At}
+use Rattle.claim_tree.specs.Lists.{StandsAt}
 use Rattle.digest_sites.specs.Reserved.{sd_name, dots_name}
 use Rattle.digest_sites.specs.Given.{Given}
 use Rattle.marked_tree.specs.Marked.{Marked, marked_leaf, marked_array, marked_object, MarkedElements, no_marked_elements, marked_element, MarkedMembers, no_marked_members, marked_member}
-use Rattle.marked_tree.specs.Places.{Path}
+use Rattle.marked_tree.specs.Paths.{Path}
 use Rattle.rebuild_core.specs.Payload.{alg_name}
-use Rattle.disclosure.specs.Digest.{name_of}
+use Rattle.disclosure.specs.Digest.{hash_name}
 use Rattle.disclosure.specs.declared.digests.HashAlg.{HashAlg}
 use Rattle.issuer_core.specs.Order.{Order}
 use Rattle.issuer_core.specs.Decoys.{decoys_of, decoys_at}
-use Rattle.issuer_core.specs.Digests.{Maker, marked_of, hidden_of}
+use Rattle.issuer_core.specs.Digests.{Maker, marked_claims, hidden_of}
 
 -- ---- digests in their places
 
@@ -49,7 +49,7 @@ digest_elements (digest ∷ digests) = element (digest_object digest) (digest_el
 
 -- section 4.1.1: the hash is named, always
 abbrev pub with_alg : Tree → Tree
-with_alg (object ms) = object (inserted ms alg_name (leaf (text (name_of HashAlg.Sha256))))
+with_alg (object ms) = object (inserted ms alg_name (leaf (text (hash_name HashAlg.Sha256))))
 with_alg t = t
 
 -- ---- hiding
@@ -79,27 +79,27 @@ abbrev mutual
   lay_members decoys dg (marked_member name (Some k) t ms) = lay_members decoys dg ms
 
 -- the disclosure of what has the mark, if any
-abbrev pub own_item : (ℕ → Text) → Option Text → Option ℕ → Tree → List Given
-own_item dg name None value = []
-own_item dg name (Some k) value = record { digest = dg k; name = name; value = value } ∷ []
+abbrev pub own_given : (ℕ → Text) → Option Text → Option ℕ → Tree → List Given
+own_given dg name None value = []
+own_given dg name (Some k) value = record { digest = dg k; name = name; value = value } ∷ []
 
 -- the disclosures of what is marked, each behind those inside it; their values are laid too
 abbrev mutual
-  pub laid_items : (Path → List Text) → (ℕ → Text) → Marked → List Given
-  laid_items decoys dg (marked_leaf l) = []
-  laid_items decoys dg (marked_array es) = laid_elements decoys dg 0 es
-  laid_items decoys dg (marked_object ms) = laid_members decoys dg ms
+  pub laid_given : (Path → List Text) → (ℕ → Text) → Marked → List Given
+  laid_given decoys dg (marked_leaf l) = []
+  laid_given decoys dg (marked_array es) = laid_elements decoys dg 0 es
+  laid_given decoys dg (marked_object ms) = laid_members decoys dg ms
 
   -- the first element has the position i
   pub laid_elements : (Path → List Text) → (ℕ → Text) → ℕ → MarkedElements → List Given
   laid_elements decoys dg i no_marked_elements = []
   laid_elements decoys dg i (marked_element k t es) =
-      (laid_items (λ at. decoys (decimal i ∷ at)) dg t ++ own_item dg None k (lay (λ at. decoys (decimal i ∷ at)) dg t)) ++ laid_elements decoys dg (suc i) es
+      (laid_given (λ at. decoys (decimal i ∷ at)) dg t ++ own_given dg None k (lay (λ at. decoys (decimal i ∷ at)) dg t)) ++ laid_elements decoys dg (suc i) es
 
   pub laid_members : (Path → List Text) → (ℕ → Text) → MarkedMembers → List Given
   laid_members decoys dg no_marked_members = []
   laid_members decoys dg (marked_member name k t ms) =
-      (laid_items (λ at. decoys (name ∷ at)) dg t ++ own_item dg (Some name) k (lay (λ at. decoys (name ∷ at)) dg t)) ++ laid_members decoys dg ms
+      (laid_given (λ at. decoys (name ∷ at)) dg t ++ own_given dg (Some name) k (lay (λ at. decoys (name ∷ at)) dg t)) ++ laid_members decoys dg ms
 
 -- ---- an order
 
@@ -110,7 +110,7 @@ order_decoys o dg = decoys_at dg (hidden_of o) (decoys_of o)
 -- the payload, without `_sd_alg`, and the disclosures are laid from the order's marked claims, where dg has the digest of each
 -- disclosure, and then of each decoy
 pub record IsLaid (maker : Maker) (o : Order) (payload : Tree) (given : List Given) (dg : ℕ → Text) : Type 0 where
-  pub payload_laid : payload ≡ lay (order_decoys o dg) dg (marked_of o)
-  pub given_laid : given ≡ laid_items (order_decoys o dg) dg (marked_of o)
-  pub disclosures : (k : ℕ) (x : Given) → At given k x → dg k ≡ maker.digest (maker.disclosure k x.name x.value)
+  pub payload_laid : payload ≡ lay (order_decoys o dg) dg (marked_claims o)
+  pub given_laid : given ≡ laid_given (order_decoys o dg) dg (marked_claims o)
+  pub disclosures : (k : ℕ) (x : Given) → StandsAt given k x → dg k ≡ maker.digest (maker.disclosure k x.name x.value)
   pub decoys : (d : ℕ) → d < length (decoys_of o) → dg (hidden_of o + d) ≡ maker.digest (maker.piece (hidden_of o + d))

@@ -1,23 +1,25 @@
--- What the laws say.
+-- Not needed to believe the program's promises: what the laws say.
 use Rattle.std.specs.Prelude.{◌≡◌, ℕ, ◌+◌, List, length}
 use Rattle.claim_tree.specs.Tree.{Text, Tree, IsOrdered, IsRanged}
 use Rattle.digest_sites.specs.Given.{Given}
-use Rattle.marked_tree.specs.Choice.{chosen}
 use Rattle.marked_tree.specs.Marked.{strip, prune}
 use Rattle.marked_tree.specs.Numbers.{IsRising}
-use Rattle.marked_tree.specs.Places.{Path}
-use Rattle.rebuild_core.specs.Conditions.{IsSound}
-use Rattle.rebuild_core.specs.Laws.{IsReadable, Enumerates, IsPick}
+use Rattle.marked_tree.specs.Paths.{Path, chosen}
+use Rattle.rebuild_core.specs.Soundness.{IsSound}
+use Rattle.rebuild_core.specs.Laws.{Enumerates, IsPick}
+use Rattle.rebuild_core.specs.Readable.{IsReadable}
 use Rattle.rebuild_core.specs.Opening.{processed}
 use Rattle.issuer_core.specs.Order.{Order}
-use Rattle.issuer_core.specs.GoodOrder.{IsGoodOrder, HasShortLists}
+use Rattle.issuer_core.specs.GoodOrder.{IsGoodOrder}
+use Rattle.issuer_core.specs.ShortLists.{HasShortLists}
 use Rattle.issuer_core.specs.Decoys.{decoys_of}
-use Rattle.issuer_core.specs.Digests.{Maker, marked_of, hidden_of, AllDiffer}
+use Rattle.issuer_core.specs.Digests.{Maker, marked_claims, hidden_of}
+use Rattle.issuer_core.specs.IssueCalls.{AllDiffer}
 use Rattle.issuer_core.specs.Laid.{IsLaid}
 use Rattle.issuer_core.specs.Issued.{IsIssuedFor}
 use Rattle.issuer_core.specs.Seed.{maker_of}
 use Rattle.issuer_core.specs.Written.{IsIssued, IsLaidOut}
-use Rattle.issuer_core.specs.Refusals.{Refuses, NoneApplies}
+use Rattle.issuer_core.specs.OrderRefusals.{AppliesToOrder, NoneApplies}
 use Rattle.compact_form.specs.declared.parts.Parts.{Parts}
 use Rattle.hmac_sign.specs.Hmac.{IsGood}
 use Rattle.hmac_sign.specs.Signatures.{Meaning}
@@ -32,7 +34,7 @@ LaidIsIssued =
 abbrev pub PartsAreIssued : Meaning → Type 0
 PartsAreIssued good =
     (maker : Maker) (o : Order) (parts : Parts)
-    → NoneApplies (Refuses o) → IsOrdered o.claims → IsRanged o.claims → HasShortLists o.claims
+    → NoneApplies (AppliesToOrder o) → IsOrdered o.claims → IsRanged o.claims → HasShortLists o.claims
     → (laid : IsLaidOut maker o good parts) → AllDiffer laid.digests (hidden_of o + length (decoys_of o)) → IsIssued maker o good parts
 
 abbrev pub LaidIsReadable : Type 0
@@ -48,14 +50,14 @@ IssuedIsSound =
 -- the presented disclosures are sound, and show the claims of the order without what is hidden and leads to no wanted path
 pub record IsShownAs (o : Order) (want : List Path) (p : Tree) (picked : List Given) : Type 0 where
   pub sound : IsSound p picked
-  pub shows : strip (processed p picked) ≡ strip (prune (marked_of o) (chosen (marked_of o) want))
+  pub shows : strip (processed p picked) ≡ strip (prune (marked_claims o) (chosen (marked_claims o) want))
 
 -- those on the way to the wanted paths, in their order
 abbrev pub IssuedIsShown : Type 0
 IssuedIsShown =
     (maker : Maker) (o : Order) (p : Tree) (given : List Given)
     → IsGoodOrder o → IsIssuedFor maker o p given
-    → (want : List Path) (order : List ℕ) → Enumerates (chosen (marked_of o) want) order → IsRising order
+    → (want : List Path) (order : List ℕ) → Enumerates (chosen (marked_claims o) want) order → IsRising order
     → (picked : List Given) → IsPick given order picked → IsShownAs o want p picked
 
 abbrev pub OneToken : Type 0

@@ -4,16 +4,16 @@ use Rattle.claim_tree.specs.Tree.{Text, text, Tree, leaf, Elements, no_elements,
 use Rattle.claim_tree.specs.View.{tree_of}
 use Rattle.digest_sites.specs.Given.{Given}
 use Rattle.marked_tree.specs.Marked.{Marked}
-use Rattle.marked_tree.specs.Places.{Path, same_path}
+use Rattle.marked_tree.specs.Paths.{Path, same_path}
 use Rattle.marked_tree.specs.Rests.{rests, AreSorted}
 use Rattle.disclosure.specs.Digest.{digest_of}
 use Rattle.disclosure.specs.Disclosure.{disclosure_text}
 use Rattle.disclosure.specs.declared.digests.HashAlg.{HashAlg}
-use Rattle.claim_tree.specs.Lists.{At}
+use Rattle.claim_tree.specs.Lists.{StandsAt}
 use Rattle.issuer_core.specs.Order.{Order}
 use Rattle.issuer_core.specs.Decoys.{decoys_of}
 use Rattle.issuer_core.specs.Digests.{Maker, hidden_of, made_texts}
-use Rattle.issuer_core.specs.Laid.{lay, laid_items, with_alg, IsLaid}
+use Rattle.issuer_core.specs.Laid.{lay, laid_given, with_alg, IsLaid}
 use Rattle.issuer_core.specs.declared.decoys.Decoys.{Decoys}
 use Rattle.issuer_core.specs.declared.laying.Part.{Part}
 
@@ -44,10 +44,10 @@ elements_joined (element t es) others = element t (elements_joined es others)
 -- ---- decoys at their places
 
 -- the digests whose path is this one
-abbrev pub placed : List Path → List Text → Path → List Text
-placed [] digests at = []
-placed (path ∷ paths) [] at = []
-placed (path ∷ paths) (digest ∷ digests) at = (if same_path path at then digest ∷ [] else []) ++ placed paths digests at
+abbrev pub digests_on_path : List Path → List Text → Path → List Text
+digests_on_path [] digests at = []
+digests_on_path (path ∷ paths) [] at = []
+digests_on_path (path ∷ paths) (digest ∷ digests) at = (if same_path path at then digest ∷ [] else []) ++ digests_on_path paths digests at
 
 -- entries: a digest beside its path
 abbrev pub paths_in : List (Path × Text) → List Path
@@ -58,15 +58,15 @@ digests_in entries = map (λ e. e.1) entries
 
 -- seen from their place
 abbrev pub placed_at : Decoys → Path → List Text
-placed_at d at = placed (rests d.depth d.paths.now) d.digests.now at
+placed_at d at = digests_on_path (rests d.depth d.paths.now) d.digests.now at
 
 pub record ArePlaced (d : Decoys) : Type 0 where
   pub sorted : AreSorted (rests d.depth d.paths.now)
   pub each : length d.digests.now ≡ length d.paths.now
 
 -- dec has the digests at each place
-abbrev pub Tells : Decoys → (Path → List Text) → Type 0
-Tells d dec = (at : Path) → placed_at d at ≡ dec at
+abbrev pub DecoysTell : Decoys → (Path → List Text) → Type 0
+DecoysTell d dec = (at : Path) → placed_at d at ≡ dec at
 
 -- ---- a part
 
@@ -80,8 +80,8 @@ IsPart dec dg k m part = ⊥
 
 -- laid with salts, of which the first `hidden` are those of the disclosures, and the others those of decoys with these places
 pub record IsLaidWith (salts : List Text) (hidden : ℕ) (decoys : List Path) (m : Marked) (payload : Tree) (texts digests : List Text) : Type 0 where
-  pub laid : (dec : Path → List Text) → ((at : Path) → placed decoys (map digest (drop hidden salts)) at ≡ dec at) → (more : List Text) → payload ≡ with_alg (lay dec (digest_at (texts ++ more)) m)
-  pub made : (dec : Path → List Text) → ((at : Path) → placed decoys (map digest (drop hidden salts)) at ≡ dec at) → (more : List Text) → texts ≡ made_texts (salted salts) 0 (laid_items dec (digest_at (texts ++ more)) m)
+  pub laid : (dec : Path → List Text) → ((at : Path) → digests_on_path decoys (map digest (drop hidden salts)) at ≡ dec at) → (more : List Text) → payload ≡ with_alg (lay dec (digest_at (texts ++ more)) m)
+  pub made : (dec : Path → List Text) → ((at : Path) → digests_on_path decoys (map digest (drop hidden salts)) at ≡ dec at) → (more : List Text) → texts ≡ made_texts (salted salts) 0 (laid_given dec (digest_at (texts ++ more)) m)
   pub count : length texts ≡ hidden
   pub digests_are : digests ≡ map digest texts ++ map digest (drop hidden salts)
 
@@ -96,4 +96,4 @@ pub record IsLaidFor (maker : Maker) (o : Order) (payload : Tree) (texts digests
   pub payload_is : payload ≡ with_alg laid
   pub texts_are : texts ≡ made_texts maker.disclosure 0 given
   pub count : length digests ≡ hidden_of o + length (decoys_of o)
-  pub each : (k : ℕ) (d : Text) → At digests k d → d ≡ dg k
+  pub each : (k : ℕ) (d : Text) → StandsAt digests k d → d ≡ dg k

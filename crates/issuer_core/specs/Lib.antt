@@ -6,8 +6,8 @@ pub mod Digests
 pub mod Laid
 pub mod Issued
 pub mod Laws
-pub mod Reserved
-pub mod Refusals
+pub mod ReservedPaths
+pub mod OrderRefusals
 pub mod RefusalLine
 pub mod Judging
 pub mod Salts
@@ -18,3 +18,9 @@ pub mod Closing
 pub mod OrderFile
 pub mod Seed
 pub mod Laying
+pub mod IssueCalls
+pub mod IssueSteps
+pub mod JudgeCalls
+pub mod RefusalCalls
+pub mod SaltSteps
+pub mod ShortLists

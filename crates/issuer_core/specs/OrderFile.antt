@@ -46,5 +46,5 @@ pub record IsOrderFile (bytes : Text) (said : IssueFile) : Type 0 where
   pub typ : MaySay IsText (found members Typ) said.order.typ
 
 -- why the file says no order; want of memory says nothing
-abbrev pub IsOrderRefused : Text → FileFault → Type 0
-IsOrderRefused bytes fault = IsFileRefused file_max order_table bytes fault
+abbrev pub IsOrderFileRefused : Text → FileFault → Type 0
+IsOrderFileRefused bytes fault = IsFileRefused file_max order_table bytes fault

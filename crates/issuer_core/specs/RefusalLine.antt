@@ -6,40 +6,34 @@ use Rattle.claim_tree.specs.JsonText.{json_text}
 use Rattle.claim_tree.specs.Path.{pointer_text}
 use Rattle.issuer_core.specs.declared.errors.IssueError.{IssueError}
 use Rattle.issuer_core.specs.declared.errors.IssueError.TheVariants.{Memory, SignFailed, PayloadNotObject, ReservedName, TooDeep, RootMarked, NoSuchPlace, ProtectedClaim, DecoyPlace, TooManyHidden, TooManyDecoys, DigestClash, TooLong}
-use Rattle.issuer_core.specs.Refusals.{number_of}
+use Rattle.issuer_core.specs.OrderRefusals.{refusal_number}
 
 -- the printed name; what is no refusal has none
-abbrev pub name_of : IssueError → Text
-name_of Memory = []
-name_of SignFailed = []
-name_of PayloadNotObject = codes "payloadNotObject"
-name_of (ReservedName path) = codes "reservedInPayload"
-name_of TooDeep = codes "payloadTooDeep"
-name_of (RootMarked k) = codes "rootMarked"
-name_of (NoSuchPlace k) = codes "noSuchPlace"
-name_of (ProtectedClaim k) = codes "protectedClaim"
-name_of (DecoyPlace k) = codes "decoyPlace"
-name_of TooManyHidden = codes "tooManyHidden"
-name_of TooManyDecoys = codes "tooManyDecoys"
-name_of (DigestClash i j) = codes "digestClash"
-name_of TooLong = codes "issueTooLong"
+abbrev pub refusal_name : IssueError → Text
+refusal_name Memory = []
+refusal_name SignFailed = []
+refusal_name PayloadNotObject = codes "payloadNotObject"
+refusal_name (ReservedName path) = codes "reservedInPayload"
+refusal_name TooDeep = codes "payloadTooDeep"
+refusal_name (RootMarked k) = codes "rootMarked"
+refusal_name (NoSuchPlace k) = codes "noSuchPlace"
+refusal_name (ProtectedClaim k) = codes "protectedClaim"
+refusal_name (DecoyPlace k) = codes "decoyPlace"
+refusal_name TooManyHidden = codes "tooManyHidden"
+refusal_name TooManyDecoys = codes "tooManyDecoys"
+refusal_name (DigestClash i j) = codes "digestClash"
+refusal_name TooLong = codes "issueTooLong"
 
 -- where there is a place: a pointer is a JSON text
-abbrev pub place_text : IssueError → Text
-place_text (ReservedName path) = codes " at " ++ json_text (leaf (text (pointer_text path)))
-place_text (RootMarked k) = codes " at " ++ decimal k
-place_text (NoSuchPlace k) = codes " at " ++ decimal k
-place_text (ProtectedClaim k) = codes " at " ++ decimal k
-place_text (DecoyPlace k) = codes " at " ++ decimal k
-place_text (DigestClash i j) = codes " at " ++ (decimal i ++ (codes " " ++ decimal j))
-place_text _ = []
+abbrev pub refusal_place_text : IssueError → Text
+refusal_place_text (ReservedName path) = codes " at " ++ json_text (leaf (text (pointer_text path)))
+refusal_place_text (RootMarked k) = codes " at " ++ decimal k
+refusal_place_text (NoSuchPlace k) = codes " at " ++ decimal k
+refusal_place_text (ProtectedClaim k) = codes " at " ++ decimal k
+refusal_place_text (DecoyPlace k) = codes " at " ++ decimal k
+refusal_place_text (DigestClash i j) = codes " at " ++ (decimal i ++ (codes " " ++ decimal j))
+refusal_place_text _ = []
 
 -- the line of a refusal, without its line end
-abbrev pub refusal_text : IssueError → Text
-refusal_text error = codes "refused " ++ (decimal (number_of error) ++ (codes " " ++ (name_of error ++ place_text error)))
-
--- the text is the line of the error, where this is a refusal
-abbrev pub IsRefusalLine : IssueError → Text → Type 0
-IsRefusalLine Memory line = Unit {0}
-IsRefusalLine SignFailed line = Unit {0}
-IsRefusalLine error line = line ≡ refusal_text error
+abbrev pub issue_refusal_text : IssueError → Text
+issue_refusal_text error = codes "refused " ++ (decimal (refusal_number error) ++ (codes " " ++ (refusal_name error ++ refusal_place_text error)))

@@ -16,7 +16,3 @@ salt_piece seed k = word_bytes seed (4 * k) ++ (word_bytes seed (4 * k + 1) ++ (
 -- the salt of disclosure k; behind those of the disclosures come those of the decoys
 abbrev pub salt_of : List ℕ → ℕ → Text
 salt_of seed k = b64 (salt_piece seed k)
-
--- for private functions: the generator stands before piece k of the seed's stream
-abbrev pub IsAt : ChaCha → List ℕ → ℕ → Type 0
-IsAt rng seed k = rng ≡ record { key = key_of seed; stream = 0; word_pos = 4 * k }

@@ -1,6 +1,6 @@
 // Digests that are equal.
 ghost use Rattle.std.specs.Prelude.{ℕ, IfOk, IfSome, IfNone};
-ghost use Rattle.claim_tree.specs.Lists.{Repeats, Nowhere};
+ghost use Rattle.claim_tree.specs.Lists.{Repeats, AtNone};
 ghost use Rattle.issuer_core.specs.Clash.{IsFirstClash};
 
 use digest_index::{DigestIndex, Steps};
@@ -11,7 +11,7 @@ use std::alloc::Global;
 /// place first. Each text costs one look-up.
 pub fn first_clash(alloc: Global, digests: &TextList) -> Result<Option<(usize, usize)>, NoMemory>
     ensures clash { IfOk result (λ clash. IfSome clash (λ places. IsFirstClash digests.now places.0 places.1)) }
-    ensures none { IfOk result (λ clash. IfNone clash (Nowhere (Repeats digests.now))) }
+    ensures none { IfOk result (λ clash. IfNone clash (AtNone (Repeats digests.now))) }
 {
     let mut index = DigestIndex::new(alloc);
     let mut steps = Steps::new();

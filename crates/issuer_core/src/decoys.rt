@@ -1,9 +1,9 @@
 // Decoys' digests at their places, for the walk that hides.
 ghost use Rattle.std.specs.Prelude.{◌≡◌, ◌+◌, ◌≤◌, [], ◌∷◌, ◌++◌, length, take, replicate, IfOk, OnOk};
-ghost use Rattle.marked_tree.specs.Places.{Path as Steps};
+ghost use Rattle.marked_tree.specs.Paths.{Path as Steps};
 ghost use Rattle.marked_tree.specs.Rests.{path_order, AreSorted};
-ghost use Rattle.issuer_core.specs.Decoys.{places};
-ghost use Rattle.issuer_core.specs.Laying.{placed, placed_at, paths_in, digests_in, ArePlaced};
+ghost use Rattle.issuer_core.specs.Decoys.{decoy_paths};
+ghost use Rattle.issuer_core.specs.Laying.{digests_on_path, placed_at, paths_in, digests_in, ArePlaced};
 
 use crate::DecoyList;
 use claim_tree::Path;
@@ -54,8 +54,8 @@ impl<'a> Decoys<'a> {
     // Those at and below the place that is one step further.
     pub(crate) fn below(&self, step: &str) -> Decoys<'a>
         requires fits { self.now.depth ≤ 126 }
-        requires placed { ArePlaced self.now }
-        ensures placed { ArePlaced result }
+        requires digests_on_path { ArePlaced self.now }
+        ensures digests_on_path { ArePlaced result }
         ensures below { (at : Steps) → placed_at result at ≡ placed_at self.now (step.now ∷ at) }
         ensures depth { result.depth ≡ self.now.depth + 1 }
     {
@@ -73,10 +73,10 @@ pub(crate) fn sort_decoys(
     decoys: &DecoyList,
     digests: &TextList,
 ) -> Result<SortedDecoys, NoMemory>
-    requires { length digests.now ≡ length (places decoys.now) }
+    requires { length digests.now ≡ length (decoy_paths decoys.now) }
     ensures sorted { IfOk result (λ sorted. AreSorted sorted.paths.items) }
     ensures each { IfOk result (λ sorted. length sorted.digests.items ≡ length sorted.paths.items) }
-    ensures placed { IfOk result (λ sorted. (at : Steps) → placed sorted.paths.items sorted.digests.items at ≡ placed (places decoys.now) digests.now at) }
+    ensures digests_on_path { IfOk result (λ sorted. (at : Steps) → digests_on_path sorted.paths.items sorted.digests.items at ≡ digests_on_path (decoy_paths decoys.now) digests.now at) }
 {
     let mut entries = Vec::new(alloc);
     for decoy in decoys.items() {

@@ -49,9 +49,9 @@ impl From<NoMemory> for IssueError {
 
 impl From<SignError> for IssueError {
     ghost use Rattle.std.specs.Prelude.{◌≡◌};
-    ghost use Rattle.issuer_core.specs.Issue.{unsigned};
+    ghost use Rattle.issuer_core.specs.IssueCalls.{issue_unsigned};
 
-    ghost from_gives = { λ error e. e ≡ unsigned error };
+    ghost from_gives = { λ error e. e ≡ issue_unsigned error };
 
     fn from(error: SignError) -> Self {
         match error {

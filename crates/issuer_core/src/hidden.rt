@@ -1,7 +1,7 @@
 // The places that an order hides.
 ghost use Rattle.std.specs.Prelude.{◌≡◌, length, IfOk};
 ghost use Rattle.std.specs.Set.{distinct_count};
-ghost use Rattle.marked_tree.specs.Places.{Path as Steps, same_path, is_among};
+ghost use Rattle.marked_tree.specs.Paths.{Path as Steps, same_path, is_among};
 
 use claim_tree::{PathList, print_path};
 use digest_index::{DigestIndex, Steps as LookUps};

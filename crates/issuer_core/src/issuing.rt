@@ -6,7 +6,7 @@ ghost use Rattle.claim_tree.specs.Tree.{depth as depth_of, IsRanged};
 ghost use Rattle.claim_tree.specs.View.{tree_of};
 ghost use Rattle.sd_outside.specs.Limits.{count_max, issue_max};
 ghost use Rattle.compact_form.specs.Compact.{compact, AreWords};
-ghost use Rattle.hmac_sign.specs.Signatures.{Agree};
+ghost use Rattle.hmac_sign.specs.Agreement.{Agree};
 ghost use Rattle.issuer_core.specs.declared.errors.IssueError.{IssueError};
 ghost use Rattle.issuer_core.specs.Order.{order_of};
 ghost use Rattle.issuer_core.specs.Seed.{maker_of};
@@ -14,9 +14,11 @@ ghost use Rattle.issuer_core.specs.Written.{IsIssued, IsLaidOut};
 ghost use Rattle.b64url_text.specs.Base64url.{IsWord};
 ghost use Rattle.issuer_core.specs.Written.{header_of};
 ghost use Rattle.issuer_core.specs.GoodOrder.{IsObject, IsWritable};
-ghost use Rattle.issuer_core.specs.Issue.{IsNotIssued, HasNoClash, IsSigned, IsUnsigned, HasClash, IsFinished, IsUnfinished};
-ghost use Rattle.issuer_core.specs.Refusals.{Refuses, NoneApplies};
-ghost use Rattle.claim_tree.specs.Lists.{Repeats, Nowhere};
+ghost use Rattle.issuer_core.specs.Issue.{HasNoClash};
+ghost use Rattle.issuer_core.specs.IssueSteps.{IsUnsigned, HasClash, IsFinished, IsUnfinished, IsSigned};
+ghost use Rattle.issuer_core.specs.IssueCalls.{IsNotIssued};
+ghost use Rattle.issuer_core.specs.OrderRefusals.{AppliesToOrder, NoneApplies};
+ghost use Rattle.claim_tree.specs.Lists.{Repeats, AtNone};
 
 use crate::laying::{Laid, lay_order};
 use crate::order::copy_of;
@@ -42,7 +44,7 @@ pub fn issue<S: Signer>(
     requires ranged { IsRanged (tree_of order.now.payload) }
     ensures issued { IfOk result (IsIssued (maker_of seed.now) (order_of order.now) (S.good signer.old)) }
     ensures laid { IfOk result (IsLaidOut (maker_of seed.now) (order_of order.now) (S.good signer.old)) }
-    ensures passes { IfOk result (λ _. NoneApplies (Refuses (order_of order.now))) }
+    ensures passes { IfOk result (λ _. NoneApplies (AppliesToOrder (order_of order.now))) }
     ensures writable { IfOk result (λ _. IsWritable (order_of order.now)) }
     ensures differ { IfOk result (λ _. HasNoClash (maker_of seed.now) (order_of order.now)) }
     ensures words { IfOk result AreWords }
@@ -71,7 +73,7 @@ pub fn issue_owned<S: Signer>(
     requires ranged { IsRanged (tree_of order.payload) }
     ensures issued { IfOk result (IsIssued (maker_of seed.now) (order_of order) (S.good signer.old)) }
     ensures laid { IfOk result (IsLaidOut (maker_of seed.now) (order_of order) (S.good signer.old)) }
-    ensures passes { IfOk result (λ _. NoneApplies (Refuses (order_of order))) }
+    ensures passes { IfOk result (λ _. NoneApplies (AppliesToOrder (order_of order))) }
     ensures writable { IfOk result (λ _. IsWritable (order_of order)) }
     ensures differ { IfOk result (λ _. HasNoClash (maker_of seed.now) (order_of order)) }
     ensures words { IfOk result AreWords }
@@ -140,8 +142,8 @@ fn sign_laid<S: Signer>(
 ) -> Result<JwtParts, IssueError>
     requires ranged { IsRanged (tree_of laid.now.payload) }
     ensures signed { IfOk result (IsSigned header.now (S.good signer.old) (tree_of laid.now.payload)) }
-    ensures differ { OnOk result (Nowhere (Repeats laid.now.digests)) }
-    ensures unsigned { IfErr result (λ e. HasClash laid.now.digests e ⊎ (Nowhere (Repeats laid.now.digests) × IsUnsigned e)) }
+    ensures differ { OnOk result (AtNone (Repeats laid.now.digests)) }
+    ensures unsigned { IfErr result (λ e. HasClash laid.now.digests e ⊎ (AtNone (Repeats laid.now.digests) × IsUnsigned e)) }
     ensures failed { IsErrOf result IssueError.SignFailed → Rose (S.faults signer.old) (S.faults signer.new) }
     ensures same_good { Agree (S.good signer.new) (S.good signer.old) }
     ensures same_alg { S.alg_of signer.new ≡ S.alg_of signer.old }
@@ -155,7 +157,7 @@ fn sign_laid<S: Signer>(
 
 // 60.
 fn judge_digests(alloc: Global, digests: &TextList) -> Result<(), IssueError>
-    ensures differ { OnOk result (Nowhere (Repeats digests.now)) }
+    ensures differ { OnOk result (AtNone (Repeats digests.now)) }
     ensures clash { IfErr result (HasClash digests.now) }
 {
     match first_clash(alloc, digests) {

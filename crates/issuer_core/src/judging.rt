@@ -7,12 +7,13 @@ ghost use Rattle.sd_outside.specs.Limits.{count_max};
 ghost use Rattle.claim_tree.specs.Tree.{depth as depth_of, IsOrdered};
 ghost use Rattle.claim_tree.specs.Path.{tree_at};
 ghost use Rattle.claim_tree.specs.View.{tree_of};
-ghost use Rattle.marked_tree.specs.Places.{same_path};
+ghost use Rattle.marked_tree.specs.Paths.{same_path};
 ghost use Rattle.issuer_core.specs.Order.{order_of};
-ghost use Rattle.issuer_core.specs.Decoys.{places};
+ghost use Rattle.issuer_core.specs.Decoys.{decoy_paths};
 ghost use Rattle.issuer_core.specs.GoodOrder as good;
 ghost use Rattle.issuer_core.specs.GoodOrder.{IsGoodOrder};
-ghost use Rattle.issuer_core.specs.Refusals.{Refuses, NoneApplies, IsRefused, protected_names};
+ghost use Rattle.issuer_core.specs.OrderRefusals.{AppliesToOrder, NoneApplies, protected_names};
+ghost use Rattle.issuer_core.specs.JudgeCalls.{IsOrderRefused};
 ghost use Rattle.issuer_core.specs.Judging as spec;
 ghost use Rattle.issuer_core.specs.Judging.{PassesBelow};
 
@@ -116,7 +117,7 @@ fn hides_too_many(alloc: Global, hide: &PathList) -> Result<bool, NoMemory>
 }
 
 fn are_too_many(decoys: &DecoyList) -> bool
-    ensures { IsTrue result ↔ (count_max < length (places decoys.now)) }
+    ensures { IsTrue result ↔ (count_max < length (decoy_paths decoys.now)) }
 {
     let mut total = 0;
     for entry in decoys.items() {
@@ -133,8 +134,8 @@ fn judge_payload(alloc: Global, order: &Order) -> Result<(), IssueError>
     requires { depth_of (tree_of order.now.payload) ≤ 127 }
     ensures passes { OnOk result (PassesBelow 54 (order_of order.now)) }
     ensures ordered { OnOk result (IsOrdered (tree_of order.now.payload)) }
-    ensures held { OnOk result (good.IsHeld (tree_of order.now.payload)) }
-    ensures refused { IfErr result (IsRefused (order_of order.now)) }
+    ensures held { OnOk result (good.FitsMachine (tree_of order.now.payload)) }
+    ensures refused { IfErr result (IsOrderRefused (order_of order.now)) }
 {
     if !is_object(&order.payload) {
         return Err(IssueError::PayloadNotObject);
@@ -152,7 +153,7 @@ fn judge_payload(alloc: Global, order: &Order) -> Result<(), IssueError>
 fn judge_places(order: &Order) -> Result<(), IssueError>
     requires { PassesBelow 54 (order_of order.now) }
     ensures passes { OnOk result (PassesBelow 58 (order_of order.now)) }
-    ensures refused { IfErr result (IsRefused (order_of order.now)) }
+    ensures refused { IfErr result (IsOrderRefused (order_of order.now)) }
 {
     if let Some(k) = first_root(&order.hide) {
         return Err(IssueError::RootMarked(k));
@@ -182,12 +183,12 @@ fn spells_some(text: &Option<TextBox>)
 /// It searches the paths one by one, and costs no more than that and one walk of the payload.
 pub fn judge(alloc: Global, order: &Order) -> Result<(), IssueError>
     requires { depth_of (tree_of order.now.payload) ≤ 127 }
-    ensures passes { OnOk result (NoneApplies (Refuses (order_of order.now))) }
+    ensures passes { OnOk result (NoneApplies (AppliesToOrder (order_of order.now))) }
     ensures good { OnOk result (IsGoodOrder (order_of order.now)) }
-    ensures held { OnOk result (good.IsHeld (tree_of order.now.payload)) }
+    ensures held { OnOk result (good.FitsMachine (tree_of order.now.payload)) }
     ensures kid { OnOk result (IfSome order.now.kid IsUtf8) }
     ensures typ { OnOk result (IfSome order.now.typ IsUtf8) }
-    ensures refused { IfErr result (IsRefused (order_of order.now)) }
+    ensures refused { IfErr result (IsOrderRefused (order_of order.now)) }
 {
     judge_payload(alloc, order)?;
     judge_places(order)?;

@@ -2,7 +2,7 @@
 ghost use Rattle.std.specs.Prelude.{◌≡◌, ◌≢◌, ℕ, List};
 ghost use Rattle.claim_tree.specs.declared.file_fault.FileFault.{FileFault};
 ghost use Rattle.issuer_core.specs.Order.{order_of};
-ghost use Rattle.issuer_core.specs.OrderFile.{IsOrderFile, IsOrderRefused};
+ghost use Rattle.issuer_core.specs.OrderFile.{IsOrderFile, IsOrderFileRefused};
 ghost use Rattle.issuer_core.specs.declared.order_file.IssueFile.{IssueFile};
 ghost use Rattle.issuer_core.specs.Laws.{LaidIsIssued, PartsAreIssued, LaidIsReadable, IssuedIsSound, IssuedIsShown, OneToken};
 
@@ -12,8 +12,8 @@ use hmac_sign::Signer;
 pub fn one_order()
     ensures one { (bytes : List ℕ) (said other : IssueFile) → IsOrderFile bytes said → IsOrderFile bytes other
         → (order_of said.order ≡ order_of other.order) × (said.key ≡ other.key) }
-    ensures not_both { (bytes : List ℕ) (said : IssueFile) (fault : FileFault) → IsOrderFile bytes said → IsOrderRefused bytes fault → fault ≡ FileFault.Memory }
-    ensures one_fault { (bytes : List ℕ) (fault other : FileFault) → IsOrderRefused bytes fault → IsOrderRefused bytes other
+    ensures not_both { (bytes : List ℕ) (said : IssueFile) (fault : FileFault) → IsOrderFile bytes said → IsOrderFileRefused bytes fault → fault ≡ FileFault.Memory }
+    ensures one_fault { (bytes : List ℕ) (fault other : FileFault) → IsOrderFileRefused bytes fault → IsOrderFileRefused bytes other
         → fault ≢ FileFault.Memory → other ≢ FileFault.Memory → fault ≡ other }
 {}
 

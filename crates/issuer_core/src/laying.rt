@@ -5,17 +5,18 @@ ghost use Rattle.sd_outside.specs.Limits.{count_max, depth_max};
 ghost use Rattle.claim_tree.specs.Tree.{Text, IsRanged, leaf, text as text_leaf, depth, elements_depth, members_depth, ElementsRanged, MembersRanged};
 ghost use Rattle.claim_tree.specs.View.{tree_of};
 ghost use Rattle.disclosure.specs.Disclosure.{disclosure_text};
-ghost use Rattle.marked_tree.specs.Marked.{strip, strip_elements, strip_members, weight, elements_weight, members_weight, mark_weight};
-ghost use Rattle.marked_tree.specs.Places.{Path as Steps, same_path};
+ghost use Rattle.marked_tree.specs.Marked.{strip, strip_elements, strip_members};
+ghost use Rattle.marked_tree.specs.Ways.{weight, elements_weight, members_weight, mark_weight};
+ghost use Rattle.marked_tree.specs.Paths.{Path as Steps, same_path};
 ghost use Rattle.marked_tree.specs.View.{marked_of};
 ghost use Rattle.issuer_core.specs.Order.{order_of};
-ghost use Rattle.issuer_core.specs.Decoys.{places};
+ghost use Rattle.issuer_core.specs.Decoys.{decoy_paths};
 ghost use Rattle.issuer_core.specs.Seed.{maker_of};
 ghost use Rattle.issuer_core.specs.Laid as spec;
-ghost use Rattle.issuer_core.specs.Laid.{sorted, texts_array, with_sd, digest_elements, hidden_digests, laid_items, laid_elements, laid_members, own_item, lay_elements, lay_members};
+ghost use Rattle.issuer_core.specs.Laid.{sorted, texts_array, with_sd, digest_elements, hidden_digests, laid_given, laid_elements, laid_members, own_given, lay_elements, lay_members};
 ghost use Rattle.issuer_core.specs.Digests.{made_texts};
-ghost use Rattle.issuer_core.specs.Laying.{digest as digest_by, digest_at, salted, elements_joined, placed_at, ArePlaced, Tells, IsPart, IsLaidWith, IsLaidFor};
-ghost use Rattle.issuer_core.specs.Closing.{one, IsNumbered, ClosesFrom, ElementsClose, MembersClose};
+ghost use Rattle.issuer_core.specs.Laying.{digest as digest_by, digest_at, salted, elements_joined, placed_at, ArePlaced, DecoysTell, IsPart, IsLaidWith, IsLaidFor};
+ghost use Rattle.issuer_core.specs.Closing.{one, HasNumber, ClosesFrom, ElementsClose, MembersClose};
 
 use crate::decoys::{Decoys, sort_decoys};
 use crate::salts::salts_of;
@@ -182,8 +183,8 @@ fn lay(
     requires closes { ClosesFrom (length layer.old.texts) (marked_of tree) }
     requires salts { length layer.old.texts + weight one (marked_of tree) ≤ length salts.now }
     requires digests { layer.old.digests ≡ map digest_by layer.old.texts }
-    ensures laid { IfOk result (λ laid. (dec : Steps → List Text) → Tells decoys.entry dec → (more : List Text) → tree_of laid ≡ spec.lay dec (digest_at (layer.new.texts ++ more)) (marked_of tree)) }
-    ensures texts { OnOk result ((dec : Steps → List Text) → Tells decoys.entry dec → (more : List Text) → layer.new.texts ≡ layer.old.texts ++ made_texts (salted salts.now) (length layer.old.texts) (laid_items dec (digest_at (layer.new.texts ++ more)) (marked_of tree))) }
+    ensures laid { IfOk result (λ laid. (dec : Steps → List Text) → DecoysTell decoys.entry dec → (more : List Text) → tree_of laid ≡ spec.lay dec (digest_at (layer.new.texts ++ more)) (marked_of tree)) }
+    ensures texts { OnOk result ((dec : Steps → List Text) → DecoysTell decoys.entry dec → (more : List Text) → layer.new.texts ≡ layer.old.texts ++ made_texts (salted salts.now) (length layer.old.texts) (laid_given dec (digest_at (layer.new.texts ++ more)) (marked_of tree))) }
     ensures count { OnOk result (length layer.new.texts ≡ length layer.old.texts + weight one (marked_of tree)) }
     ensures digests { OnOk result (layer.new.digests ≡ map digest_by layer.new.texts) }
 {
@@ -211,8 +212,8 @@ fn lay_list(
     requires closes { ElementsClose (length layer.old.texts) list }
     requires salts { length layer.old.texts + elements_weight one list ≤ length salts.now }
     requires digests { layer.old.digests ≡ map digest_by layer.old.texts }
-    ensures laid { IfOk result (λ laid. (dec : Steps → List Text) → Tells decoys.entry dec → (more : List Text) → laid ≡ lay_elements dec (digest_at (layer.new.texts ++ more)) 0 list) }
-    ensures texts { OnOk result ((dec : Steps → List Text) → Tells decoys.entry dec → (more : List Text) → layer.new.texts ≡ layer.old.texts ++ made_texts (salted salts.now) (length layer.old.texts) (laid_elements dec (digest_at (layer.new.texts ++ more)) 0 list)) }
+    ensures laid { IfOk result (λ laid. (dec : Steps → List Text) → DecoysTell decoys.entry dec → (more : List Text) → laid ≡ lay_elements dec (digest_at (layer.new.texts ++ more)) 0 list) }
+    ensures texts { OnOk result ((dec : Steps → List Text) → DecoysTell decoys.entry dec → (more : List Text) → layer.new.texts ≡ layer.old.texts ++ made_texts (salted salts.now) (length layer.old.texts) (laid_elements dec (digest_at (layer.new.texts ++ more)) 0 list)) }
     ensures count { OnOk result (length layer.new.texts ≡ length layer.old.texts + elements_weight one list) }
     ensures digests { OnOk result (layer.new.digests ≡ map digest_by layer.new.texts) }
 {
@@ -244,8 +245,8 @@ fn lay_map(
     requires closes { MembersClose (length layer.old.texts) members }
     requires salts { length layer.old.texts + members_weight one members ≤ length salts.now }
     requires digests { layer.old.digests ≡ map digest_by layer.old.texts }
-    ensures laid { IfOk result (λ laid. (dec : Steps → List Text) → Tells decoys.entry dec → (more : List Text) → laid ≡ with_sd (sorted (hidden_digests (digest_at (layer.new.texts ++ more)) members ++ dec [])) (lay_members dec (digest_at (layer.new.texts ++ more)) members)) }
-    ensures texts { OnOk result ((dec : Steps → List Text) → Tells decoys.entry dec → (more : List Text) → layer.new.texts ≡ layer.old.texts ++ made_texts (salted salts.now) (length layer.old.texts) (laid_members dec (digest_at (layer.new.texts ++ more)) members)) }
+    ensures laid { IfOk result (λ laid. (dec : Steps → List Text) → DecoysTell decoys.entry dec → (more : List Text) → laid ≡ with_sd (sorted (hidden_digests (digest_at (layer.new.texts ++ more)) members ++ dec [])) (lay_members dec (digest_at (layer.new.texts ++ more)) members)) }
+    ensures texts { OnOk result ((dec : Steps → List Text) → DecoysTell decoys.entry dec → (more : List Text) → layer.new.texts ≡ layer.old.texts ++ made_texts (salted salts.now) (length layer.old.texts) (laid_members dec (digest_at (layer.new.texts ++ more)) members)) }
     ensures count { OnOk result (length layer.new.texts ≡ length layer.old.texts + members_weight one members) }
     ensures digests { OnOk result (layer.new.digests ≡ map digest_by layer.new.texts) }
 {
@@ -278,11 +279,11 @@ fn lay_part(
     requires ranged { IsRanged (strip (marked_of tree)) }
     requires decoys { ArePlaced decoys }
     requires closes { ClosesFrom (length layer.old.texts) (marked_of tree) }
-    requires numbered { IsNumbered mark (length layer.old.texts + weight one (marked_of tree)) }
+    requires numbered { HasNumber mark (length layer.old.texts + weight one (marked_of tree)) }
     requires salts { length layer.old.texts + (mark_weight one mark + weight one (marked_of tree)) ≤ length salts.now }
     requires digests { layer.old.digests ≡ map digest_by layer.old.texts }
-    ensures part { IfOk result (λ part. (dec : Steps → List Text) → Tells decoys.entry dec → (more : List Text) → IsPart dec (digest_at (layer.new.texts ++ more)) mark (marked_of tree) part) }
-    ensures texts { OnOk result ((dec : Steps → List Text) → Tells decoys.entry dec → (more : List Text) → layer.new.texts ≡ layer.old.texts ++ made_texts (salted salts.now) (length layer.old.texts) (laid_items dec (digest_at (layer.new.texts ++ more)) (marked_of tree) ++ own_item (digest_at (layer.new.texts ++ more)) (option_map (λ n. n.now) name.entry) mark (spec.lay dec (digest_at (layer.new.texts ++ more)) (marked_of tree)))) }
+    ensures part { IfOk result (λ part. (dec : Steps → List Text) → DecoysTell decoys.entry dec → (more : List Text) → IsPart dec (digest_at (layer.new.texts ++ more)) mark (marked_of tree) part) }
+    ensures texts { OnOk result ((dec : Steps → List Text) → DecoysTell decoys.entry dec → (more : List Text) → layer.new.texts ≡ layer.old.texts ++ made_texts (salted salts.now) (length layer.old.texts) (laid_given dec (digest_at (layer.new.texts ++ more)) (marked_of tree) ++ own_given (digest_at (layer.new.texts ++ more)) (option_map (λ n. n.now) name.entry) mark (spec.lay dec (digest_at (layer.new.texts ++ more)) (marked_of tree)))) }
     ensures count { OnOk result (length layer.new.texts ≡ length layer.old.texts + (mark_weight one mark + weight one (marked_of tree))) }
     ensures digests { OnOk result (layer.new.digests ≡ map digest_by layer.new.texts) }
 {
@@ -295,8 +296,8 @@ fn lay_part(
 
 // How many decoys there are.
 fn count_decoys(decoys: &DecoyList) -> usize
-    requires { length (places decoys.now) ≤ count_max }
-    ensures { result ≡ length (places decoys.now) }
+    requires { length (decoy_paths decoys.now) ≤ count_max }
+    ensures { result ≡ length (decoy_paths decoys.now) }
 {
     let mut count = 0;
     for entry in decoys.items() {
@@ -351,7 +352,7 @@ pub(crate) fn lay_order(alloc: Global, order: Order, seed: &[u8; 32]) -> Result<
     requires shallow { depth (order_of order).claims ≤ depth_max }
     requires ranged { IsRanged (order_of order).claims }
     requires few { distinct_count same_path order.hide ≤ count_max }
-    requires decoys { length (places order.decoys) ≤ count_max }
+    requires decoys { length (decoy_paths order.decoys) ≤ count_max }
     ensures laid { IfOk result (λ laid. IsLaidFor (maker_of seed.now) (order_of order) (tree_of laid.payload) laid.texts laid.digests) }
     ensures few { IfOk result (λ laid. length laid.texts ≤ count_max) }
 {
@@ -386,7 +387,7 @@ fn lay_hidden(alloc: Global, order: &Order, seed: &[u8; 32]) -> Result<Laid, NoM
     requires shallow { depth (order_of order.now).claims ≤ depth_max }
     requires ranged { IsRanged (order_of order.now).claims }
     requires few { distinct_count same_path order.now.hide ≤ count_max }
-    requires decoys { length (places order.now.decoys) ≤ count_max }
+    requires decoys { length (decoy_paths order.now.decoys) ≤ count_max }
     ensures laid { IfOk result (λ laid. IsLaidFor (maker_of seed.now) (order_of order.now) (tree_of laid.payload) laid.texts laid.digests) }
     ensures few { IfOk result (λ laid. length laid.texts ≤ count_max) }
 {
@@ -408,8 +409,8 @@ fn lay_salted(
     requires ranged { IsRanged (strip (marked_of claims)) }
     requires closes { ClosesFrom 0 (marked_of claims) }
     requires hidden { weight one (marked_of claims) ≡ hidden }
-    requires salts { length salts.now ≡ hidden + length (places decoys.now) }
-    ensures { IfOk result (λ laid. IsLaidWith salts.now hidden (places decoys.now) (marked_of claims) (tree_of laid.payload) laid.texts laid.digests) }
+    requires salts { length salts.now ≡ hidden + length (decoy_paths decoys.now) }
+    ensures { IfOk result (λ laid. IsLaidWith salts.now hidden (decoy_paths decoys.now) (marked_of claims) (tree_of laid.payload) laid.texts laid.digests) }
 {
     let of_decoys = decoy_digests(alloc, salts, hidden)?;
     let sorted = sort_decoys(alloc, decoys, &of_decoys)?;
@@ -430,8 +431,8 @@ fn lay_claims(
     requires decoys { ArePlaced decoys }
     requires closes { ClosesFrom 0 (marked_of claims) }
     requires salts { weight one (marked_of claims) ≤ length salts.now }
-    ensures laid { IfOk result (λ laid. (dec : Steps → List Text) → Tells decoys.entry dec → (more : List Text) → tree_of laid.payload ≡ spec.with_alg (spec.lay dec (digest_at (laid.texts ++ more)) (marked_of claims))) }
-    ensures texts { IfOk result (λ laid. (dec : Steps → List Text) → Tells decoys.entry dec → (more : List Text) → laid.texts ≡ made_texts (salted salts.now) 0 (laid_items dec (digest_at (laid.texts ++ more)) (marked_of claims))) }
+    ensures laid { IfOk result (λ laid. (dec : Steps → List Text) → DecoysTell decoys.entry dec → (more : List Text) → tree_of laid.payload ≡ spec.with_alg (spec.lay dec (digest_at (laid.texts ++ more)) (marked_of claims))) }
+    ensures texts { IfOk result (λ laid. (dec : Steps → List Text) → DecoysTell decoys.entry dec → (more : List Text) → laid.texts ≡ made_texts (salted salts.now) 0 (laid_given dec (digest_at (laid.texts ++ more)) (marked_of claims))) }
     ensures count { IfOk result (λ laid. length laid.texts ≡ weight one (marked_of claims)) }
     ensures digests { IfOk result (λ laid. laid.digests ≡ map digest_by laid.texts) }
 {

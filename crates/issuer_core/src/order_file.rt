@@ -3,12 +3,14 @@ ghost use Rattle.std.specs.Prelude.{◌≡◌, ◌≤◌, List, [], OnOk, IfOk, 
 ghost use Rattle.sd_outside.specs.Limits.{count_max};
 ghost use Rattle.claim_tree.specs.Tree.{IsRanged, IsOrdered, depth as depth_of};
 ghost use Rattle.claim_tree.specs.Lists.{In};
-ghost use Rattle.claim_tree.specs.View.{tree_of, elements_of};
-ghost use Rattle.claim_tree.specs.FileForms.{HasValue, Says, SaysOr, Meets, IsMemberRefused, required, optional, found};
+ghost use Rattle.claim_tree.specs.View.{tree_of};
+ghost use Rattle.claim_tree.specs.ListViews.{elements_of};
+ghost use Rattle.claim_tree.specs.FileForms.{HasValue, Says, SaysOr, MemberMeets, required, optional, found};
+ghost use Rattle.claim_tree.specs.FileRefusals.{IsMemberRefused};
 ghost use Rattle.claim_tree.specs.declared.file_fault.Field.TheVariants.{Payload, Decoys};
 ghost use Rattle.claim_tree.specs.FileLists.{IsListOf, EachSays};
 ghost use Rattle.issuer_core.specs.declared.order.Decoy.{Decoy as Seen};
-ghost use Rattle.issuer_core.specs.OrderFile.{IsValue, IsDecoy, IsOrderFile, IsOrderRefused};
+ghost use Rattle.issuer_core.specs.OrderFile.{IsValue, IsDecoy, IsOrderFile, IsOrderFileRefused};
 
 use crate::{Decoy, DecoyList, Order};
 use claim_tree::{
@@ -40,7 +42,7 @@ pub struct IssueFile {
 }
 
 fn need_payload(members: &TreeMap) -> Result<(), FileFault>
-    ensures there { OnOk result (Meets (required Payload IsValue) members.now) }
+    ensures there { OnOk result (MemberMeets (required Payload IsValue) members.now) }
     ensures refused { IfErr result (IsMemberRefused (required Payload IsValue) members.now) }
 {
     match members.get(Field::Payload.word()) {
@@ -51,7 +53,7 @@ fn need_payload(members: &TreeMap) -> Result<(), FileFault>
 
 // The payload of a file that has one, with no copy.
 fn into_payload(mut members: TreeMap) -> Tree
-    requires { Meets (required Payload IsValue) members }
+    requires { MemberMeets (required Payload IsValue) members }
     ensures { Says IsValue (found members Payload) (tree_of result) }
 {
     let Some(payload) = members.remove(Field::Payload.word()) else {
@@ -127,7 +129,7 @@ pub fn read_order(alloc: Global, bytes: &[u8]) -> Result<IssueFile, FileFault>
     ensures ordered { IfOk result (λ said. IsOrdered (tree_of said.order.payload)) }
     ensures depth { IfOk result (λ said. depth_of (tree_of said.order.payload) ≤ 126) }
     ensures counts { IfOk result (λ said. (entry : Seen) → In entry said.order.decoys → entry.count ≤ count_max) }
-    ensures refused { IfErr result (IsOrderRefused bytes.now) }
+    ensures refused { IfErr result (IsOrderFileRefused bytes.now) }
 {
     let members = read_members(alloc, bytes, FILE_MAX, &FIELDS)?;
     need_payload(&members)?;

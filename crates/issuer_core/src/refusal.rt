@@ -3,8 +3,9 @@ ghost use Rattle.std.specs.Prelude.{◌≡◌, IfOk, string_bytes};
 ghost use Rattle.claim_tree.specs.Tree.{leaf, text as text_leaf};
 ghost use Rattle.claim_tree.specs.JsonText.{json_text};
 ghost use Rattle.claim_tree.specs.Path.{pointer_text};
-ghost use Rattle.issuer_core.specs.Refusals.{number_of};
-ghost use Rattle.issuer_core.specs.RefusalLine.{name_of, place_text, IsRefusalLine};
+ghost use Rattle.issuer_core.specs.OrderRefusals.{refusal_number};
+ghost use Rattle.issuer_core.specs.RefusalLine.{refusal_name, refusal_place_text};
+ghost use Rattle.issuer_core.specs.RefusalCalls.{IsRefusalLine};
 
 use crate::IssueError;
 use claim_tree::{Path, Tree, print_path, write};
@@ -12,7 +13,7 @@ use sd_outside::{NoMemory, TextBox};
 use std::alloc::Global;
 
 fn number(error: &IssueError) -> u8
-    ensures { result ≡ number_of error.now }
+    ensures { result ≡ refusal_number error.now }
 {
     match error {
         IssueError::Memory | IssueError::SignFailed => 0,
@@ -31,7 +32,7 @@ fn number(error: &IssueError) -> u8
 }
 
 fn name(error: &IssueError) -> &'static str
-    ensures { result.now ≡ name_of error.now }
+    ensures { result.now ≡ refusal_name error.now }
 {
     match error {
         IssueError::Memory | IssueError::SignFailed => "",
@@ -58,7 +59,7 @@ fn pointer_json(alloc: Global, path: &Path) -> Result<TextBox, NoMemory>
 }
 
 fn place(alloc: Global, error: &IssueError) -> Result<String, NoMemory>
-    ensures { IfOk result (λ text. string_bytes text ≡ place_text error.now) }
+    ensures { IfOk result (λ text. string_bytes text ≡ refusal_place_text error.now) }
 {
     match error {
         IssueError::ReservedName(path) => {

@@ -5,9 +5,9 @@ ghost use Rattle.claim_tree.specs.View.{tree_of};
 ghost use Rattle.digest_sites.specs.Reserved.{sd_name};
 ghost use Rattle.rebuild_core.specs.Payload.{alg_name};
 ghost use Rattle.std.specs.Str.{IsUtf8};
-ghost use Rattle.issuer_core.specs.GoodOrder.{IsHeld};
-ghost use Rattle.issuer_core.specs.Reserved as spec;
-ghost use Rattle.issuer_core.specs.Reserved.{own_place, reserved_places, reserved_elements};
+ghost use Rattle.issuer_core.specs.GoodOrder.{FitsMachine};
+ghost use Rattle.issuer_core.specs.ReservedPaths as spec;
+ghost use Rattle.issuer_core.specs.ReservedPaths.{own_reserved_path, reserved_paths, reserved_elements};
 
 use claim_tree::{Path, Tree, TreeList, TreeMap};
 use digest_sites::{is_dots, is_sd};
@@ -37,8 +37,8 @@ pub(crate) fn spells(text: &TextBox)
 // The path of the first member with a reserved name. Where there is none, the whole tree was walked.
 pub(crate) fn first_reserved(alloc: Global, tree: &Tree) -> Result<Option<Path>, NoMemory>
     requires { depth (tree_of tree.now) ≤ 127 }
-    ensures first { IfOk result (λ path. path ≡ slice_get (reserved_places (tree_of tree.now)) 0) }
-    ensures held { IfOk result (λ path. IfNone path (IsHeld (tree_of tree.now))) }
+    ensures first { IfOk result (λ path. path ≡ slice_get (reserved_paths (tree_of tree.now)) 0) }
+    ensures held { IfOk result (λ path. IfNone path (FitsMachine (tree_of tree.now))) }
 {
     match find(alloc, tree)? {
         Some(steps) => Ok(Some(path_back(alloc, steps)?)),
@@ -63,8 +63,8 @@ fn path_back(alloc: Global, steps: Vec<TextBox>) -> Result<Path, NoMemory>
 #[cycle(reserved)]
 fn find(alloc: Global, tree: &Tree) -> Result<Option<Vec<TextBox>>, NoMemory>
     requires { depth (tree_of tree.now) ≤ 127 }
-    ensures first { IfOk result (λ steps. option_map (λ s. reverse s.items) steps ≡ slice_get (reserved_places (tree_of tree.now)) 0) }
-    ensures held { IfOk result (λ steps. IfNone steps (IsHeld (tree_of tree.now))) }
+    ensures first { IfOk result (λ steps. option_map (λ s. reverse s.items) steps ≡ slice_get (reserved_paths (tree_of tree.now)) 0) }
+    ensures held { IfOk result (λ steps. IfNone steps (FitsMachine (tree_of tree.now))) }
 {
     match tree {
         Tree::List(trees) => find_in_list(alloc, trees),
@@ -81,7 +81,7 @@ fn find(alloc: Global, tree: &Tree) -> Result<Option<Vec<TextBox>>, NoMemory>
 fn find_in_list(alloc: Global, trees: &TreeList) -> Result<Option<Vec<TextBox>>, NoMemory>
     requires { elements_depth trees.now ≤ 126 }
     ensures first { IfOk result (λ steps. option_map (λ s. reverse s.items) steps ≡ slice_get (reserved_elements 0 trees.now) 0) }
-    ensures held { IfOk result (λ steps. IfNone steps (IsHeld (array trees.now))) }
+    ensures held { IfOk result (λ steps. IfNone steps (FitsMachine (array trees.now))) }
 {
     for (i, tree) in trees.trees().iter().enumerate() {
         if let Some(mut steps) = find(alloc, tree)? {
@@ -96,8 +96,8 @@ fn find_in_list(alloc: Global, trees: &TreeList) -> Result<Option<Vec<TextBox>>,
 #[cycle(reserved)]
 fn find_in_object(alloc: Global, trees: &TreeMap) -> Result<Option<Vec<TextBox>>, NoMemory>
     requires { members_depth trees.now ≤ 126 }
-    ensures first { IfOk result (λ steps. option_map (λ s. reverse s.items) steps ≡ slice_get (reserved_places (object trees.now)) 0) }
-    ensures held { IfOk result (λ steps. IfNone steps (IsHeld (object trees.now))) }
+    ensures first { IfOk result (λ steps. option_map (λ s. reverse s.items) steps ≡ slice_get (reserved_paths (object trees.now)) 0) }
+    ensures held { IfOk result (λ steps. IfNone steps (FitsMachine (object trees.now))) }
 {
     if trees.get("_sd").is_some() {
         return Ok(Some(one_step(alloc, "_sd")?));
@@ -109,8 +109,8 @@ fn find_in_object(alloc: Global, trees: &TreeMap) -> Result<Option<Vec<TextBox>>
 fn find_in_members(alloc: Global, trees: &TreeMap) -> Result<Option<Vec<TextBox>>, NoMemory>
     requires depth { members_depth trees.now ≤ 126 }
     requires no_sd { member_named trees.now sd_name ≡ None }
-    ensures first { IfOk result (λ steps. option_map (λ s. reverse s.items) steps ≡ slice_get (reserved_places (object trees.now)) 0) }
-    ensures held { IfOk result (λ steps. IfNone steps (IsHeld (object trees.now))) }
+    ensures first { IfOk result (λ steps. option_map (λ s. reverse s.items) steps ≡ slice_get (reserved_paths (object trees.now)) 0) }
+    ensures held { IfOk result (λ steps. IfNone steps (FitsMachine (object trees.now))) }
 {
     for (name, tree) in trees.members() {
         if let Some(mut steps) = find_at(alloc, name, tree)? {
@@ -125,9 +125,9 @@ fn find_in_members(alloc: Global, trees: &TreeMap) -> Result<Option<Vec<TextBox>
 #[cycle(reserved)]
 fn find_at(alloc: Global, name: &TextBox, tree: &Tree) -> Result<Option<Vec<TextBox>>, NoMemory>
     requires { depth (tree_of tree.now) ≤ 127 }
-    ensures first { IfOk result (λ steps. option_map (λ s. name.now ∷ reverse s.items) steps ≡ slice_get (own_place name.now ++ map (λ p. name.now ∷ p) (reserved_places (tree_of tree.now))) 0) }
+    ensures first { IfOk result (λ steps. option_map (λ s. name.now ∷ reverse s.items) steps ≡ slice_get (own_reserved_path name.now ++ map (λ p. name.now ∷ p) (reserved_paths (tree_of tree.now))) 0) }
     ensures name { IfOk result (λ steps. IfNone steps (IsUtf8 name.now)) }
-    ensures held { IfOk result (λ steps. IfNone steps (IsHeld (tree_of tree.now))) }
+    ensures held { IfOk result (λ steps. IfNone steps (FitsMachine (tree_of tree.now))) }
 {
     if is_reserved(name) {
         return Ok(Some(Vec::new(alloc)));

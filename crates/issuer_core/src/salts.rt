@@ -1,6 +1,7 @@
 // Salts from a seed, RFC 9901 section 4.2.1: the words of a ChaCha20 stream, four at a time.
 ghost use Rattle.std.specs.Prelude.{◌≡◌, ◌+◌, ◌<◌, ◌^◌, ℕ, List, Some, length, IfOk, slice_get};
-ghost use Rattle.issuer_core.specs.Salts.{salt_piece, salt_of, IsAt};
+ghost use Rattle.issuer_core.specs.Salts.{salt_piece, salt_of};
+ghost use Rattle.issuer_core.specs.SaltSteps.{IsBeforePiece};
 
 use b64url_text::encode;
 use rand_chacha::ChaCha20Rng;
@@ -11,8 +12,8 @@ use std::alloc::Global;
 
 // The next four words, each as four bytes with the lowest first.
 fn next_piece(rng: &mut ChaCha20Rng) -> [u8; 16]
-    ensures { (seed : List ℕ) → (k : ℕ) → k < 2 ^ 64 → IsAt rng.old seed k
-        → (result ≡ salt_piece seed k) × IsAt rng.new seed (k + 1) }
+    ensures { (seed : List ℕ) → (k : ℕ) → k < 2 ^ 64 → IsBeforePiece rng.old seed k
+        → (result ≡ salt_piece seed k) × IsBeforePiece rng.new seed (k + 1) }
 {
     let [a0, a1, a2, a3] = rng.next_word().to_le_bytes();
     let [b0, b1, b2, b3] = rng.next_word().to_le_bytes();

@@ -19,18 +19,18 @@ use Rattle.compact_form.specs.Condition.{number_of}
 use Rattle.compact_form.specs.declared.fault.Place.TheVariants.{Nowhere}
 use Rattle.sd_outside.specs.Limits.{compact_max, count_max}
 use Rattle.compact_form.specs.Compact.{jwt, spelled, hashed, ending, compact, HasWords, AreWords}
-use Rattle.compact_form.specs.PartWords.{word_of}
+use Rattle.compact_form.specs.PartWords.{part_word}
 use Rattle.compact_form.specs.declared.fault.Part.TheVariants.{Payload, Protected, Signature, Signatures, Header, Disclosures, KbJwt}
 use Rattle.compact_form.specs.declared.parts.JwtParts.{JwtParts}
 use Rattle.compact_form.specs.declared.parts.Parts.{Parts}
 use Rattle.json_form.specs.declared.token.Token.{Token}
-use Rattle.compact_form.specs.Token.{is_json}
-use Rattle.compact_form.specs.Trim.{trimmed}
+use Rattle.compact_form.specs.Trim.{trimmed, is_json}
 use Rattle.compact_form.proofs.Printed.{reads_printed}
 use Rattle.compact_form.proofs.Trimmed.{printed_plainly}
-use Rattle.json_form.specs.Json.{found, IsFlat, IsGeneral}
+use Rattle.json_form.specs.Json.{found_part, IsFlat, IsGeneral}
 use Rattle.json_form.specs.Token.{Spells, spells_compact, spells_json, IsTooMuch, too_much, IsToken}
-use Rattle.json_form.specs.Written.{IsPrintable, with_binding, header_of, flat_members, flat_of, entry_of, general_members, general_of}
+use Rattle.json_form.specs.Written.{with_binding, written_header, flat_members, flat_of, entry_of, general_members, general_of}
+use Rattle.json_form.specs.Printable.{IsPrintable}
 use Rattle.json_form.proofs.Lines.{read_json_text}
 use Rattle.json_form.proofs.Tokens.{read_plainly}
 use Rattle.json_form.proofs.WrittenForms.{entry_words, flat_ranged, flat_depth, flat_says, general_ranged, general_depth, general_says}
@@ -156,60 +156,60 @@ within_object ms n a = within_byte 123 (members_after false ms) n (IsUtf8-are_as
 
 -- ---- the names of the members
 
-bare_header : IsBare (word_of Header)
+bare_header : IsBare (part_word Header)
 unfolding is_letter letters
-bare_header = bare_word (word_of Header) (record { some = omega arith; letters = refl })
+bare_header = bare_word (part_word Header) (record { some = omega arith; letters = refl })
 
-bare_payload : IsBare (word_of Payload)
+bare_payload : IsBare (part_word Payload)
 unfolding is_letter letters
-bare_payload = bare_word (word_of Payload) (record { some = omega arith; letters = refl })
+bare_payload = bare_word (part_word Payload) (record { some = omega arith; letters = refl })
 
-bare_protected : IsBare (word_of Protected)
+bare_protected : IsBare (part_word Protected)
 unfolding is_letter letters
-bare_protected = bare_word (word_of Protected) (record { some = omega arith; letters = refl })
+bare_protected = bare_word (part_word Protected) (record { some = omega arith; letters = refl })
 
-bare_signature : IsBare (word_of Signature)
+bare_signature : IsBare (part_word Signature)
 unfolding is_letter letters
-bare_signature = bare_word (word_of Signature) (record { some = omega arith; letters = refl })
+bare_signature = bare_word (part_word Signature) (record { some = omega arith; letters = refl })
 
-bare_signatures : IsBare (word_of Signatures)
+bare_signatures : IsBare (part_word Signatures)
 unfolding is_letter letters
-bare_signatures = bare_word (word_of Signatures) (record { some = omega arith; letters = refl })
+bare_signatures = bare_word (part_word Signatures) (record { some = omega arith; letters = refl })
 
-bare_disclosures : IsBare (word_of Disclosures)
+bare_disclosures : IsBare (part_word Disclosures)
 unfolding is_letter letters
-bare_disclosures = bare_word (word_of Disclosures) (record { some = omega arith; letters = refl })
+bare_disclosures = bare_word (part_word Disclosures) (record { some = omega arith; letters = refl })
 
-bare_binding : IsBare (word_of KbJwt)
+bare_binding : IsBare (part_word KbJwt)
 unfolding is_letter letters
-bare_binding = bare_word (word_of KbJwt) (record { some = omega arith; letters = refl })
+bare_binding = bare_word (part_word KbJwt) (record { some = omega arith; letters = refl })
 
 -- ---- the header
 
 abbrev alone : Parts → Token
 alone parts = record { parts = parts; outer = no_members }
 
-header_is : (b : Option JwtParts) (list : Tree) → inserted (with_binding b no_members) (word_of Disclosures) list ≡ member (word_of Disclosures) list (with_binding b no_members)
+header_is : (b : Option JwtParts) (list : Tree) → inserted (with_binding b no_members) (part_word Disclosures) list ≡ member (part_word Disclosures) list (with_binding b no_members)
 header_is None list = refl
 header_is (Some j) list = refl
 
 within_binding : (b : Option JwtParts) → IfSome b HasWords → IsWithin (members_after true (with_binding b no_members)) (length (ending b) + 13)
 within_binding None words = record { utf8 = within_none.utf8; short = omega arith }
 within_binding (Some j) words =
-    let all = within_word true (word_of KbJwt) (jwt j) no_members 1 bare_binding (bare_jwt j words) within_none in
+    let all = within_word true (part_word KbJwt) (jwt j) no_members 1 bare_binding (bare_jwt j words) within_none in
     record { utf8 = all.utf8; short = omega (arith, all.short) }
 
 abbrev header_limit : Parts → ℕ
 header_limit parts = length (spelled parts.disclosures) + 2 * length parts.disclosures + length (ending parts.binding) + 31
 
-within_header : (parts : Parts) → AreWords parts → IsWithin (json_text (object (header_of (alone parts)))) (header_limit parts)
+within_header : (parts : Parts) → AreWords parts → IsWithin (json_text (object (written_header (alone parts)))) (header_limit parts)
 within_header parts words =
     let ds = parts.disclosures in
     let es = text_elements ds in
     let more = with_binding parts.binding no_members in
     let list = within_byte 91 (items_text false (elements_data es)) (length (spelled ds) + 2 * length ds + 1) (IsUtf8-are_ascii (91 ∷ []) refl) (within_items false ds words.disclosures) in
-    let all = within_member false (word_of Disclosures) (array es) more _ _ bare_disclosures list (within_binding parts.binding words.binding) in
-    let whole = within_object (member (word_of Disclosures) (array es) more) _ all in
+    let all = within_member false (part_word Disclosures) (array es) more _ _ bare_disclosures list (within_binding parts.binding words.binding) in
+    let whole = within_object (member (part_word Disclosures) (array es) more) _ all in
     subst (λ (ms : Members). IsWithin (json_text (object ms)) (header_limit parts)) (sym (header_is parts.binding (array es))) (record { utf8 = whole.utf8; short = omega (arith, whole.short) })
 
 -- ---- the forms
@@ -232,23 +232,23 @@ compact_length parts =
 
 -- the members that are words
 abbrev signature_members : Parts → Members
-signature_members parts = member (word_of Signature) (leaf (text parts.signed.signature)) no_members
+signature_members parts = member (part_word Signature) (leaf (text parts.signed.signature)) no_members
 
 abbrev protected_members : Parts → Members
-protected_members parts = member (word_of Protected) (leaf (text parts.signed.protected)) (signature_members parts)
+protected_members parts = member (part_word Protected) (leaf (text parts.signed.protected)) (signature_members parts)
 
 within_protected : (parts : Parts) → AreWords parts → IsWithin (members_after true (protected_members parts)) (length parts.signed.protected + length parts.signed.signature + 31)
 within_protected parts words =
     let j = parts.signed in
-    let signature = within_word true (word_of Signature) j.signature no_members 1 bare_signature (bare_word j.signature words.signed.signature) within_none in
-    let all = within_word true (word_of Protected) j.protected (signature_members parts) _ bare_protected (bare_word j.protected words.signed.protected) signature in
+    let signature = within_word true (part_word Signature) j.signature no_members 1 bare_signature (bare_word j.signature words.signed.signature) within_none in
+    let all = within_word true (part_word Protected) j.protected (signature_members parts) _ bare_protected (bare_word j.protected words.signed.protected) signature in
     record { utf8 = all.utf8; short = omega (arith, all.short) }
 
 within_flat : (parts : Parts) → AreWords parts → IsWithin (json_text (flat_of (alone parts))) (limit parts)
 within_flat parts words =
     let j = parts.signed in
-    let payload = within_word true (word_of Payload) j.payload (protected_members parts) _ bare_payload (bare_word j.payload words.signed.payload) (within_protected parts words) in
-    let all = within_member false (word_of Header) (object (header_of (alone parts))) (member (word_of Payload) (leaf (text j.payload)) (protected_members parts)) _ _ bare_header (within_header parts words) payload in
+    let payload = within_word true (part_word Payload) j.payload (protected_members parts) _ bare_payload (bare_word j.payload words.signed.payload) (within_protected parts words) in
+    let all = within_member false (part_word Header) (object (written_header (alone parts))) (member (part_word Payload) (leaf (text j.payload)) (protected_members parts)) _ _ bare_header (within_header parts words) payload in
     let whole = within_object (flat_members (alone parts)) _ all in
     record { utf8 = whole.utf8; short = omega (arith, whole.short, compact_length parts) }
 
@@ -257,11 +257,11 @@ within_general parts words =
     let j = parts.signed in
     let entry = object (entry_of (alone parts)) in
     let list = array (element entry no_elements) in
-    let all = within_member false (word_of Header) (object (header_of (alone parts))) (protected_members parts) _ _ bare_header (within_header parts words) (within_protected parts words) in
+    let all = within_member false (part_word Header) (object (written_header (alone parts))) (protected_members parts) _ _ bare_header (within_header parts words) (within_protected parts words) in
     let end : IsWithin (93 ∷ []) 1 = record { utf8 = IsUtf8-are_ascii (93 ∷ []) refl; short = omega arith } in
     let entries = within_byte 91 (json_text entry ++ 93 ∷ []) _ (IsUtf8-are_ascii (91 ∷ []) refl) (within_both (json_text entry) (93 ∷ []) _ 1 (within_object (entry_of (alone parts)) _ all) end) in
-    let signatures = within_member true (word_of Signatures) list no_members _ 1 bare_signatures entries within_none in
-    let whole = within_object (general_members (alone parts)) _ (within_word false (word_of Payload) j.payload (member (word_of Signatures) list no_members) _ bare_payload (bare_word j.payload words.signed.payload) signatures) in
+    let signatures = within_member true (part_word Signatures) list no_members _ 1 bare_signatures entries within_none in
+    let whole = within_object (general_members (alone parts)) _ (within_word false (part_word Payload) j.payload (member (part_word Signatures) list no_members) _ bare_payload (bare_word j.payload words.signed.payload) signatures) in
     record { utf8 = whole.utf8; short = omega (arith, whole.short, compact_length parts) }
 
 -- ---- they are read
@@ -270,10 +270,10 @@ texts_ordered : (texts : List Text) → ElementsOrdered (text_elements texts)
 texts_ordered [] = tt
 texts_ordered (s ∷ texts) = (tt, texts_ordered texts)
 
-header_ordered : (parts : Parts) → MembersOrdered (header_of (alone parts))
+header_ordered : (parts : Parts) → MembersOrdered (written_header (alone parts))
 header_ordered parts = go parts.binding
   where
-    go : (b : Option JwtParts) → MembersOrdered (inserted (with_binding b no_members) (word_of Disclosures) (array (text_elements parts.disclosures)))
+    go : (b : Option JwtParts) → MembersOrdered (inserted (with_binding b no_members) (part_word Disclosures) (array (text_elements parts.disclosures)))
     go None = (tt, texts_ordered parts.disclosures, tt)
     go (Some j) = ((refl, tt), texts_ordered parts.disclosures, (tt, tt, tt))
 
@@ -332,8 +332,8 @@ module _ (parts : Parts) (words : AreWords parts) (few : IsTooMuch parts → ⊥
 
 words_spelled : (content : Text) (token : Token) → Spells content token → AreWords token.parts
 words_spelled content token (spells_compact plainly is none) = record { signed = is.signed; disclosures = is.disclosures; binding = is.binding }
-words_spelled content token (spells_json json (inl flat)) = entry_words flat.members token (found flat.members Payload) flat.payload flat.entry
-words_spelled content token (spells_json json (inr general)) = entry_words general.first token (found general.members Payload) general.payload general.entry
+words_spelled content token (spells_json json (inl flat)) = entry_words flat.members token (found_part flat.members Payload) flat.payload flat.entry
+words_spelled content token (spells_json json (inr general)) = entry_words general.first token (found_part general.members Payload) general.payload general.entry
 
 module _ (content : Text) (token : Token) (is : IsToken content token) (none : token.outer ≡ no_members) where
   few_read : IsTooMuch token.parts → ⊥

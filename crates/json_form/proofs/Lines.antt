@@ -15,14 +15,13 @@ use Rattle.sd_outside.specs.Limits.{file_max, compact_max}
 use Rattle.compact_form.specs.declared.fault.Fault.{Fault}
 use Rattle.compact_form.specs.declared.parts.Parts.{Parts}
 use Rattle.compact_form.specs.Compact.{compact, AreWords}
-use Rattle.compact_form.specs.Trim.{is_blank, without_back, trimmed}
-use Rattle.compact_form.specs.Token.{is_json, is_too_long}
+use Rattle.compact_form.specs.Trim.{is_blank, without_back, trimmed, is_json, is_too_long}
 use Rattle.compact_form.proofs.Printed.{is_compact}
 use Rattle.compact_form.proofs.Trimmed.{trimmed_line, printed_line, printed_plainly}
 use Rattle.compact_form.proofs.Verdicts.{clash}
 use Rattle.json_form.specs.declared.token.Token.{Token}
 use Rattle.json_form.specs.Json.{IsJson}
-use Rattle.json_form.specs.Token.{Spells, spells_compact, spells_json, IsTooMuch, Fails, too_long, form, too_much, IsToken}
+use Rattle.json_form.specs.Token.{Spells, spells_compact, spells_json, IsTooMuch, TextFails, too_long, form, too_much, IsToken}
 use Rattle.json_form.proofs.Tokens.{spelled_well, one_spelled, short_text}
 
 -- ---- the text of an object
@@ -68,7 +67,7 @@ json_bare ms = let end = members_end false (members_data ms) in bare 123 (member
 pub read_spelled : (text : List ℕ) (token : Token) → Spells (trimmed text) token → is_too_long text ≡ false → (IsTooMuch token.parts → ⊥) → IsToken text token
 read_spelled text token spelled short few = record { spells = spelled; passes = go }
   where
-    go : (other : Fault) → Fails text other → ⊥
+    go : (other : Fault) → TextFails text other → ⊥
     go other (too_long e h) = clash (is_too_long text) h short
     go other (form p e h) = spelled_well (trimmed text) token p spelled h
     go other (too_much t e h i) = few (subst (λ (u : Token). IsTooMuch u.parts) (one_spelled (trimmed text) t token h spelled) i)

@@ -7,32 +7,32 @@ use Rattle.claim_tree.specs.Removed.{removed}
 use Rattle.claim_tree.specs.View.{tree_of}
 use Rattle.claim_tree.specs.declared.tree.Tree as tree
 use Rattle.claim_tree.proofs.OtherMembers.{named_other, removed_absent}
-use Rattle.compact_form.specs.PartWords.{word_of}
+use Rattle.compact_form.specs.PartWords.{part_word}
 use Rattle.compact_form.specs.declared.fault.Part.{Part}
 use Rattle.compact_form.specs.declared.fault.Part.TheVariants.{Protected, Signature, Header}
-use Rattle.json_form.specs.Json.{found, has, has_beside}
+use Rattle.json_form.specs.Json.{found_part, has_part, has_beside}
 
-pub found_here : (ms : Members) (part : Part) (word : Text) (t : spec.Tree) → word ≡ word_of part → Some t ≡ member_named ms word → found ms part ≡ Some t
+pub found_here : (ms : Members) (part : Part) (word : Text) (t : spec.Tree) → word ≡ part_word part → Some t ≡ member_named ms word → found_part ms part ≡ Some t
 found_here ms part word t is stands = ap (member_named ms) (sym is) ∙ sym stands
 
-pub absent_here : (ms : Members) (part : Part) (word : Text) → word ≡ word_of part → None ≡ member_named ms word → found ms part ≡ None
+pub absent_here : (ms : Members) (part : Part) (word : Text) → word ≡ part_word part → None ≡ member_named ms word → found_part ms part ≡ None
 absent_here ms part word is none = ap (member_named ms) (sym is) ∙ sym none
 
 -- the others are found as before
-pub found_other : (ms : Members) (gone part : Part) → bytes_eq (word_of gone) (word_of part) ≡ false → found (removed ms (word_of gone)) part ≡ found ms part
-found_other ms gone part apart = named_other ms (word_of gone) (word_of part) apart
+pub found_other : (ms : Members) (gone part : Part) → bytes_eq (part_word gone) (part_word part) ≡ false → found_part (removed ms (part_word gone)) part ≡ found_part ms part
+found_other ms gone part apart = named_other ms (part_word gone) (part_word part) apart
 
 -- where nothing is taken out, nothing changes
-pub same_members : (ms new : Members) (part : Part) (word : Text) → word ≡ word_of part → None ≡ member_named ms word → new ≡ removed ms word → new ≡ ms
+pub same_members : (ms new : Members) (part : Part) (word : Text) → word ≡ part_word part → None ≡ member_named ms word → new ≡ removed ms word → new ≡ ms
 same_members ms new part word is none gone = gone ∙ removed_absent ms word (sym none)
 
 either_of : (a b c d e f : Bool) → a ≡ d → b ≡ e → c ≡ f → (a || b || c) ≡ (d || e || f)
 either_of a b c d e f p q r = cc
 
-pub beside_kept : (ms : Members) (gone : Part) → bytes_eq (word_of gone) (word_of Protected) ≡ false → bytes_eq (word_of gone) (word_of Signature) ≡ false → bytes_eq (word_of gone) (word_of Header) ≡ false
-    → has_beside (removed ms (word_of gone)) ≡ has_beside ms
+pub beside_kept : (ms : Members) (gone : Part) → bytes_eq (part_word gone) (part_word Protected) ≡ false → bytes_eq (part_word gone) (part_word Signature) ≡ false → bytes_eq (part_word gone) (part_word Header) ≡ false
+    → has_beside (removed ms (part_word gone)) ≡ has_beside ms
 beside_kept ms gone p s h =
-    either_of _ _ _ (has ms Protected) (has ms Signature) (has ms Header) (ap is_some (found_other ms gone Protected p)) (ap is_some (found_other ms gone Signature s)) (ap is_some (found_other ms gone Header h))
+    either_of _ _ _ (has_part ms Protected) (has_part ms Signature) (has_part ms Header) (ap is_some (found_other ms gone Protected p)) (ap is_some (found_other ms gone Signature s)) (ap is_some (found_other ms gone Header h))
 
 object_inside : (t : tree.Tree) (ms : Members) → tree_of t ≡ object ms → t ≡ tree.Tree.Object ms
 object_inside tree.Tree.Null ms e = cc e

@@ -6,7 +6,7 @@ use Rattle.claim_tree.specs.FileForms.{MaySay, SaysOr}
 use Rattle.claim_tree.proofs.FileVerdicts.{SaysOne, says_one, may_say_one, says_or_one, one_texts, is_json, is_whole, one_cause}
 use Rattle.claim_tree.proofs.OneTree.{one_tree}
 use Rattle.compact_form.specs.Compact.{jwt, HasWords, compact, IsCompact}
-use Rattle.compact_form.specs.PartWords.{word_of}
+use Rattle.compact_form.specs.PartWords.{part_word}
 use Rattle.compact_form.specs.declared.parts.JwtParts.{JwtParts}
 use Rattle.compact_form.specs.declared.parts.Parts.{Parts}
 use Rattle.compact_form.specs.declared.fault.Part.{Part}
@@ -15,9 +15,9 @@ use Rattle.compact_form.specs.declared.fault.JsonPlace.{JsonPlace}
 use Rattle.compact_form.specs.declared.fault.JsonPlace.TheVariants.{Missing, Wrong, Stray}
 use Rattle.compact_form.proofs.Unique.{one_spelling}
 use Rattle.json_form.specs.declared.token.Token.{Token}
-use Rattle.json_form.specs.Json.{found, IsWordTree, AreWordTrees, IsJwtTree, IsObject, EntrySays, IsJson}
-use Rattle.json_form.specs.PlaceTable.{row_of, IsNoWord, missing, other, IsEntry, flat, first, EntryApplies, protected, signature, header, disclosures, kb_jwt, MembersApply, payload, signatures, entry, stray, Applies, not_json, not_whole, not_object, members, IsJsonFault}
-use Rattle.json_form.specs.Reading.{MembersSay}
+use Rattle.json_form.specs.Json.{found_part, IsWordTree, AreWordTrees, IsJwtTree, IsObjectOf, EntrySays, IsJson}
+use Rattle.json_form.specs.JsonPlaces.{row_of, IsNoWord, missing, other, IsEntry, flat, first, EntryFails, protected, signature, header, disclosures, kb_jwt, ObjectFails, payload, signatures, entry, stray, JsonFails, not_json, not_whole, not_object, members, IsJsonPlace}
+use Rattle.json_form.specs.MembersRead.{MembersSay}
 use Rattle.json_form.proofs.SayOrFail.{row_no_word, row_wrong, lower, upper}
 use Rattle.json_form.proofs.Objects.{one_entry, is_entry, one_object, of_json, says_nothing_wrong}
 
@@ -42,7 +42,7 @@ one_jwt t x y h k =
     let spelled : compact (alone x) ≡ compact (alone y) = rw same refl in
     ap (λ (p : Parts). p.signed) (one_spelling (alone x) (alone y) (compact (alone x)) (alone_is x (compact (alone x)) h.words refl) (alone_is y (compact (alone x)) k.words spelled))
 
-one_header : SaysOne IsObject
+one_header : SaysOne IsObjectOf
 one_header t x y h k = let both : object x ≡ object y = sym h ∙ k in cc both
 
 -- ---- one token
@@ -70,24 +70,24 @@ same_token t u same =
 
 one_said : (e : Members) (t u : Token) → EntrySays e t → EntrySays e u → t.parts.signed.payload ≡ u.parts.signed.payload → t ≡ u
 one_said e t u h k same =
-    let headers : h.header ≡ k.header = says_or_one IsObject no_members (found e Header) h.header k.header one_header h.unprotected k.unprotected in
+    let headers : h.header ≡ k.header = says_or_one IsObjectOf no_members (found_part e Header) h.header k.header one_header h.unprotected k.unprotected in
     let a = h.says in
-    let b = subst (λ (ms : Members). SaysOr AreWordTrees [] (found ms Disclosures) u.parts.disclosures) (sym headers) k.says.disclosures in
+    let b = subst (λ (ms : Members). SaysOr AreWordTrees [] (found_part ms Disclosures) u.parts.disclosures) (sym headers) k.says.disclosures in
     same_token t u (
     record {
       payload = same;
-      protected = says_one IsWordTree (found e Protected) t.parts.signed.protected u.parts.signed.protected one_word h.protected k.protected;
-      signature = says_one IsWordTree (found e Signature) t.parts.signed.signature u.parts.signed.signature one_word h.signature k.signature;
-      disclosures = says_or_one AreWordTrees [] (found h.header Disclosures) t.parts.disclosures u.parts.disclosures one_list a.disclosures b;
-      binding = may_say_one IsJwtTree (found h.header KbJwt) t.parts.binding u.parts.binding one_jwt a.binding (subst (λ (ms : Members). MaySay IsJwtTree (found ms KbJwt) u.parts.binding) (sym headers) k.says.binding);
-      outer = a.outer ∙ ap (λ (ms : Members). removed (removed ms (word_of Disclosures)) (word_of KbJwt)) headers ∙ sym k.says.outer;
+      protected = says_one IsWordTree (found_part e Protected) t.parts.signed.protected u.parts.signed.protected one_word h.protected k.protected;
+      signature = says_one IsWordTree (found_part e Signature) t.parts.signed.signature u.parts.signed.signature one_word h.signature k.signature;
+      disclosures = says_or_one AreWordTrees [] (found_part h.header Disclosures) t.parts.disclosures u.parts.disclosures one_list a.disclosures b;
+      binding = may_say_one IsJwtTree (found_part h.header KbJwt) t.parts.binding u.parts.binding one_jwt a.binding (subst (λ (ms : Members). MaySay IsJwtTree (found_part ms KbJwt) u.parts.binding) (sym headers) k.says.binding);
+      outer = a.outer ∙ ap (λ (ms : Members). removed (removed ms (part_word Disclosures)) (part_word KbJwt)) headers ∙ sym k.says.outer;
     }
     )
 
 one_of_members : (ms : Members) (t u : Token) → MembersSay ms t → MembersSay ms u → t ≡ u
 one_of_members ms t u h k =
     let same : k.entries.first ≡ h.entries.first = one_entry ms h.entries k.entries.first h.has (is_entry ms k.entries k.has) in
-    one_said h.entries.first t u h.entry (subst (λ (e : Members). EntrySays e u) same k.entry) (says_one IsWordTree (found ms Payload) t.parts.signed.payload u.parts.signed.payload one_word h.payload k.payload)
+    one_said h.entries.first t u h.entry (subst (λ (e : Members). EntrySays e u) same k.entry) (says_one IsWordTree (found_part ms Payload) t.parts.signed.payload u.parts.signed.payload one_word h.payload k.payload)
 
 pub one_json : (bytes : Text) (t u : Token) → IsJson t bytes → IsJson u bytes → t ≡ u
 one_json bytes t u h k =
@@ -95,7 +95,7 @@ one_json bytes t u h k =
     let b = of_json u bytes k in
     one_of_members a.members t u a.says (subst (λ (ms : Members). MembersSay ms u) (one_object bytes b.members a.members b.reads a.reads) b.says)
 
-pub no_fault : (bytes : Text) (t : Token) (p : JsonPlace) → IsJson t bytes → Applies bytes p → ⊥
+pub no_fault : (bytes : Text) (t : Token) (p : JsonPlace) → IsJson t bytes → JsonFails bytes p → ⊥
 no_fault bytes t p h = let a = of_json t bytes h in says_nothing_wrong bytes a.members t p a.reads a.says
 
 -- ---- one fault
@@ -111,21 +111,21 @@ abbrev word_place : Option Tree → Part → JsonPlace
 word_place None part = Missing part
 word_place (Some t) part = Wrong part
 
-word_place_is : (ms : Members) (part : Part) (o : JsonPlace) → IsNoWord ms part o → o ≡ word_place (found ms part) part
+word_place_is : (ms : Members) (part : Part) (o : JsonPlace) → IsNoWord ms part o → o ≡ word_place (found_part ms part) part
 word_place_is ms part o (missing is none) = is ∙ ap (λ t. word_place t part) (sym none)
 word_place_is ms part o (other t is stands odd) = is ∙ ap (λ t. word_place t part) (sym stands)
 
 abbrev named : Members → ℕ → JsonPlace
-named e row = if row == 5 then word_place (found e Protected) Protected else if row == 6 then word_place (found e Signature) Signature else if row == 7 then Wrong Header else if row == 8 then Wrong Disclosures else Wrong KbJwt
+named e row = if row == 5 then word_place (found_part e Protected) Protected else if row == 6 then word_place (found_part e Signature) Signature else if row == 7 then Wrong Header else if row == 8 then Wrong Disclosures else Wrong KbJwt
 
-named_is : (e : Members) (o : JsonPlace) → EntryApplies e o → o ≡ named e (row_of o)
+named_is : (e : Members) (o : JsonPlace) → EntryFails e o → o ≡ named e (row_of o)
 named_is e o (protected v) = word_place_is e Protected o v ∙ sym (ap (named e) (row_no_word e Protected o v))
 named_is e o (signature v) = word_place_is e Signature o v ∙ sym (ap (named e) (row_no_word e Signature o v))
-named_is e o (header v) = v.named ∙ sym (ap (named e) (row_wrong IsObject e Header o v))
+named_is e o (header v) = v.named ∙ sym (ap (named e) (row_wrong IsObjectOf e Header o v))
 named_is e o (disclosures h at v) = v.named ∙ sym (ap (named e) (row_wrong AreWordTrees h Disclosures o v))
 named_is e o (kb_jwt h at v) = v.named ∙ sym (ap (named e) (row_wrong IsJwtTree h KbJwt o v))
 
-entry_one : (e : Members) (f g : JsonPlace) → EntryApplies e f → EntryApplies e g → row_of f ≡ row_of g → f ≡ g
+entry_one : (e : Members) (f g : JsonPlace) → EntryFails e f → EntryFails e g → row_of f ≡ row_of g → f ≡ g
 entry_one e f g h k same = named_is e f h ∙ ap (named e) same ∙ sym (named_is e g k)
 
 same_entry : (ms m n : Members) → IsEntry ms m → IsEntry ms n → m ≡ n
@@ -137,7 +137,7 @@ same_entry ms m n (first later at) (first others there) =
     cc both
 
 -- the rows of an object, by what it fails by
-members_one : (ms : Members) (f g : JsonPlace) → MembersApply ms f → MembersApply ms g → row_of f ≡ row_of g → f ≡ g
+members_one : (ms : Members) (f g : JsonPlace) → ObjectFails ms f → ObjectFails ms g → row_of f ≡ row_of g → f ≡ g
 members_one ms f g (payload v) (payload w) same = no_word_one ms Payload f g v w
 members_one ms f g (payload v) (signatures was w) same = absurd (omega (arith, same, row_no_word ms Payload f v, ap row_of was))
 members_one ms f g (payload v) (entry n at w) same = absurd (omega (arith, same, row_no_word ms Payload f v, lower n g w))
@@ -148,14 +148,14 @@ members_one ms f g (signatures is v) (entry n at w) same = absurd (omega (arith,
 members_one ms f g (signatures is v) (stray es e was at w) same = absurd (omega (arith, same, ap row_of is, ap row_of was))
 members_one ms f g (entry m here v) (payload w) same = absurd (omega (arith, same, lower m f v, row_no_word ms Payload g w))
 members_one ms f g (entry m here v) (signatures was w) same = absurd (omega (arith, same, lower m f v, ap row_of was))
-members_one ms f g (entry m here v) (entry n at w) same = entry_one m f g v (subst (λ (us : Members). EntryApplies us g) (same_entry ms n m at here) w) same
+members_one ms f g (entry m here v) (entry n at w) same = entry_one m f g v (subst (λ (us : Members). EntryFails us g) (same_entry ms n m at here) w) same
 members_one ms f g (entry m here v) (stray es e was at w) same = absurd (omega (arith, same, upper m f v, ap row_of was))
 members_one ms f g (stray us d is here v) (payload w) same = absurd (omega (arith, same, ap row_of is, row_no_word ms Payload g w))
 members_one ms f g (stray us d is here v) (signatures was w) same = absurd (omega (arith, same, ap row_of is, ap row_of was))
 members_one ms f g (stray us d is here v) (entry n at w) same = absurd (omega (arith, same, ap row_of is, upper n g w))
 members_one ms f g (stray us d is here v) (stray es e was at w) same = let places : d ≡ e = omega (arith, same, ap row_of is, ap row_of was) in is ∙ ap Stray places ∙ sym was
 
-row_one : (bytes : Text) (f g : JsonPlace) → Applies bytes f → Applies bytes g → row_of f ≡ row_of g → f ≡ g
+row_one : (bytes : Text) (f g : JsonPlace) → JsonFails bytes f → JsonFails bytes g → row_of f ≡ row_of g → f ≡ g
 row_one bytes f g (not_json is v) (not_json was w) same = is ∙ sym was
 row_one bytes f g (not_json is v) (not_whole was w) same = absurd (one_cause bytes v w)
 row_one bytes f g (not_json is v) (not_object t was r w) same = absurd (is_json bytes t r v)
@@ -171,7 +171,7 @@ row_one bytes f g (not_object u is q v) (members ms r w) same = absurd (v ms (on
 row_one bytes f g (members ns q v) (not_json was w) same = absurd (is_json bytes (object ns) q w)
 row_one bytes f g (members ns q v) (not_whole was w) same = absurd (is_whole bytes (object ns) q w)
 row_one bytes f g (members ns q v) (not_object t was r w) same = absurd (w ns (one_tree bytes t (object ns) r q))
-row_one bytes f g (members ns q v) (members ms r w) same = members_one ns f g v (subst (λ (us : Members). MembersApply us g) (one_object bytes ms ns r q) w) same
+row_one bytes f g (members ns q v) (members ms r w) same = members_one ns f g v (subst (λ (us : Members). ObjectFails us g) (one_object bytes ms ns r q) w) same
 
-pub one_fault : (bytes : Text) (f g : JsonPlace) → IsJsonFault bytes f → IsJsonFault bytes g → f ≡ g
+pub one_fault : (bytes : Text) (f g : JsonPlace) → IsJsonPlace bytes f → IsJsonPlace bytes g → f ≡ g
 one_fault bytes f g h k = row_one bytes f g h.applies k.applies (let a = h.lowest g k.applies in let b = k.lowest f h.applies in omega (arith, a, b))

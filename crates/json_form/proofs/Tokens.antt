@@ -12,19 +12,18 @@ use Rattle.compact_form.specs.declared.fault.Place.TheVariants.{Nowhere, At, Jso
 use Rattle.compact_form.specs.declared.fault.JsonPlace.{JsonPlace}
 use Rattle.compact_form.specs.declared.parts.Parts.{Parts}
 use Rattle.compact_form.specs.Compact.{compact, IsCompact}
-use Rattle.compact_form.specs.Trim.{trimmed}
-use Rattle.compact_form.specs.Token as plain
-use Rattle.compact_form.specs.Token.{is_json, is_too_long}
+use Rattle.compact_form.specs.Trim.{trimmed, is_json, is_too_long}
+use Rattle.compact_form.specs.CompactToken as plain
 use Rattle.compact_form.proofs.Unique.{one_spelling, one_stop}
 use Rattle.compact_form.proofs.Verdicts.{clash}
 use Rattle.json_form.specs.declared.token.Token.{Token}
 use Rattle.json_form.specs.declared.token.TokenError.{TokenError}
 use Rattle.json_form.specs.declared.json_error.JsonFormError.{JsonFormError}
-use Rattle.json_form.specs.Reading.{misformed}
+use Rattle.json_form.specs.MembersRead.{misformed}
 use Rattle.json_form.specs.Json.{IsJson}
-use Rattle.json_form.specs.PlaceTable.{IsJsonFault}
-use Rattle.json_form.specs.Token.{Spells, spells_compact, spells_json, IsMisformed, no_compact, no_json, IsTooMuch, Fails, too_long, form, too_much, IsRefused, IsToken}
-use Rattle.json_form.specs.Written.{IsPrintable}
+use Rattle.json_form.specs.JsonPlaces.{IsJsonPlace}
+use Rattle.json_form.specs.Token.{Spells, spells_compact, spells_json, IsMisformed, no_compact, no_json, IsTooMuch, TextFails, too_long, form, too_much, IsTextRefused, IsToken}
+use Rattle.json_form.specs.Printable.{IsPrintable}
 use Rattle.json_form.proofs.OneForm.{one_json, no_fault, one_fault}
 
 number : (fault : Fault) (n : ℕ) (place : Place) → fault ≡ record { number = n; place = place } → fault.number ≡ n
@@ -46,7 +45,7 @@ one_spelled text t u (spells_json json is) (spells_json again was) = one_json te
 pub one : (text : List ℕ) (token other : Token) → IsToken text token → IsToken text other → token ≡ other
 one text token other h k = one_spelled (trimmed text) token other h.spells k.spells
 
-pub not_both : (text : List ℕ) (token : Token) (fault : Fault) → IsToken text token → IsRefused text fault → ⊥
+pub not_both : (text : List ℕ) (token : Token) (fault : Fault) → IsToken text token → IsTextRefused text fault → ⊥
 not_both text token fault h refused = h.passes fault refused.fails
 
 -- ---- one fault
@@ -66,7 +65,7 @@ one_place text p q (no_json there json fault named) (no_json here again found wa
 abbrev at_place : Place → Fault
 at_place place = record { number = number_of condition.form; place = place }
 
-same_number : (text : List ℕ) (f g : Fault) → Fails text f → Fails text g → f.number ≡ g.number → f ≡ g
+same_number : (text : List ℕ) (f g : Fault) → TextFails text f → TextFails text g → f.number ≡ g.number → f ≡ g
 same_number text f g (too_long e h) (too_long d k) n = e ∙ sym d
 same_number text f g (too_long e h) (form q d k) n = absurd (omega (arith, n, number f (number_of condition.too_long) Nowhere e, number g (number_of condition.form) q d))
 same_number text f g (too_long e h) (too_much u d k l) n = absurd (omega (arith, n, number f (number_of condition.too_long) Nowhere e, number g (number_of condition.too_much) Nowhere d))
@@ -77,7 +76,7 @@ same_number text f g (too_much t e h i) (too_long d k) n = absurd (omega (arith,
 same_number text f g (too_much t e h i) (form q d k) n = absurd (omega (arith, n, number f (number_of condition.too_much) Nowhere e, number g (number_of condition.form) q d))
 same_number text f g (too_much t e h i) (too_much u d k l) n = e ∙ sym d
 
-pub one_refusal : (text : List ℕ) (f g : Fault) → IsRefused text f → IsRefused text g → f ≡ g
+pub one_refusal : (text : List ℕ) (f g : Fault) → IsTextRefused text f → IsTextRefused text g → f ≡ g
 one_refusal text f g h k = same_number text f g h.fails k.fails (let a = h.lowest g k.fails in let b = k.lowest f h.fails in omega (arith, a, b))
 
 -- ---- a compact text is refused as ever
@@ -85,7 +84,7 @@ one_refusal text f g h k = same_number text f g h.fails k.fails (let a = h.lowes
 abbrev alone : Parts → Token
 alone parts = record { parts = parts; outer = no_members }
 
-to_either : (text : List ℕ) (fault : Fault) → is_json (trimmed text) ≡ false → plain.Fails text fault → Fails text fault
+to_either : (text : List ℕ) (fault : Fault) → is_json (trimmed text) ≡ false → plain.CompactFails text fault → TextFails text fault
 to_either text fault plainly (plain.too_long is long) = too_long is long
 to_either text fault plainly (plain.form stop is refused) = form (At stop) is (no_compact stop plainly refused refl)
 to_either text fault plainly (plain.too_much parts is spelled many) = too_much (alone parts) is (spells_compact plainly spelled refl) (inl many)
@@ -93,7 +92,7 @@ to_either text fault plainly (plain.too_much parts is spelled many) = too_much (
 -- a condition that fails as it did, with no greater number
 record FailsPlainly (text : List ℕ) (fault : Fault) : Type 0 where
   plain_fault : Fault
-  fails : plain.Fails text plain_fault
+  fails : plain.CompactFails text plain_fault
   lower : plain_fault.number ≤ fault.number
 
 or_true : (a b c : Bool) → b ≡ false → c ≡ true → (a || (not b && c)) ≡ true
@@ -105,7 +104,7 @@ long_text text parts plainly spelled long =
     let over : compact_max < length (trimmed text) = omega (arith, long, ap length spelled.spelling) in
     or_true (nat_lt file_max (length text)) (is_json (trimmed text)) (nat_lt compact_max (length (trimmed text))) plainly (lt-ltb compact_max (length (trimmed text)) over)
 
-from_either : (text : List ℕ) (fault : Fault) → is_json (trimmed text) ≡ false → Fails text fault → FailsPlainly text fault
+from_either : (text : List ℕ) (fault : Fault) → is_json (trimmed text) ≡ false → TextFails text fault → FailsPlainly text fault
 from_either text fault plainly (too_long is long) = record { plain_fault = fault; fails = plain.too_long is long; lower = omega arith }
 from_either text fault plainly (form place is (no_compact stop again refused at)) =
     record { plain_fault = record { number = number_of condition.form; place = At stop }; fails = plain.form stop refl refused; lower = omega (arith, number fault (number_of condition.form) place is) }
@@ -120,21 +119,21 @@ from_either text fault plainly (too_much t is (spells_compact again spelled none
     }
 from_either text fault plainly (too_much t is (spells_json json spelled) much) = absurd (clash (is_json (trimmed text)) json plainly)
 
-pub refused_plainly : (text : List ℕ) (fault : Fault) → is_json (trimmed text) ≡ false → plain.IsRefused text fault → IsRefused text fault
+pub refused_plainly : (text : List ℕ) (fault : Fault) → is_json (trimmed text) ≡ false → plain.IsCompactRefused text fault → IsTextRefused text fault
 refused_plainly text fault plainly refused =
     record {
       fails = to_either text fault plainly refused.fails;
       lowest = λ other fails. let p = from_either text other plainly fails in let low = refused.lowest p.plain_fault p.fails in omega (arith, low, p.lower);
     }
 
-pub read_plainly : (text : List ℕ) (token : Token) → is_json (trimmed text) ≡ false → plain.Reads text token.parts → token.outer ≡ no_members → IsToken text token
+pub read_plainly : (text : List ℕ) (token : Token) → is_json (trimmed text) ≡ false → plain.ReadsCompact text token.parts → token.outer ≡ no_members → IsToken text token
 read_plainly text token plainly reads none =
     record {
       spells = spells_compact plainly reads.spelling none;
       passes = λ fault fails. let p = from_either text fault plainly fails in reads.passes p.plain_fault p.fails;
     }
 
-pub printable_plainly : (text : List ℕ) (token : Token) → plain.Reads text token.parts → token.outer ≡ no_members → IsPrintable token
+pub printable_plainly : (text : List ℕ) (token : Token) → plain.ReadsCompact text token.parts → token.outer ≡ no_members → IsPrintable token
 printable_plainly text token reads none =
     record {
       words = record { signed = reads.spelling.signed; disclosures = reads.spelling.disclosures; binding = reads.spelling.binding };
@@ -152,27 +151,27 @@ short_text text json short = rw (json, le-ltb file_max (length text) short) refl
 long_json : (text : List ℕ) → file_max < length text → is_too_long text ≡ true
 long_json text long = rw (lt-ltb file_max (length text) long) refl
 
-pub refused_long : (text : List ℕ) (fault : Fault) → fault ≡ record { number = number_of condition.too_long; place = Nowhere } → file_max < length text → IsRefused text fault
+pub refused_long : (text : List ℕ) (fault : Fault) → fault ≡ record { number = number_of condition.too_long; place = Nowhere } → file_max < length text → IsTextRefused text fault
 refused_long text fault is long = record { fails = too_long is (long_json text long); lowest = go }
   where
-    go : (other : Fault) → Fails text other → fault.number ≤ other.number
+    go : (other : Fault) → TextFails text other → fault.number ≤ other.number
     go other (too_long e h) = omega (arith, number fault (number_of condition.too_long) Nowhere is, number other (number_of condition.too_long) Nowhere e)
     go other (form p e h) = omega (arith, number fault (number_of condition.too_long) Nowhere is, number other (number_of condition.form) p e)
     go other (too_much t e h i) = omega (arith, number fault (number_of condition.too_long) Nowhere is, number other (number_of condition.too_much) Nowhere e)
 
-pub refused_form : (text : List ℕ) (fault : Fault) (place : JsonPlace) → fault ≡ record { number = number_of condition.form; place = Json place } → is_json (trimmed text) ≡ true → length text ≤ file_max → IsJsonFault (trimmed text) place → IsRefused text fault
+pub refused_form : (text : List ℕ) (fault : Fault) (place : JsonPlace) → fault ≡ record { number = number_of condition.form; place = Json place } → is_json (trimmed text) ≡ true → length text ≤ file_max → IsJsonPlace (trimmed text) place → IsTextRefused text fault
 refused_form text fault place is json short misformed = record { fails = form (Json place) is (no_json place json misformed refl); lowest = go }
   where
-    go : (other : Fault) → Fails text other → fault.number ≤ other.number
+    go : (other : Fault) → TextFails text other → fault.number ≤ other.number
     go other (too_long e h) = absurd (clash (is_too_long text) h (short_text text json short))
     go other (form p e h) = omega (arith, number fault (number_of condition.form) (Json place) is, number other (number_of condition.form) p e)
     go other (too_much t e h i) = omega (arith, number fault (number_of condition.form) (Json place) is, number other (number_of condition.too_much) Nowhere e)
 
 pub refused_much : (text : List ℕ) (fault : Fault) (token : Token) → fault ≡ record { number = number_of condition.too_much; place = Nowhere } → is_json (trimmed text) ≡ true → length text ≤ file_max → IsJson token (trimmed text) → IsTooMuch token.parts
-    → IsRefused text fault
+    → IsTextRefused text fault
 refused_much text fault token is json short said much = record { fails = too_much token is (spells_json json said) much; lowest = go }
   where
-    go : (other : Fault) → Fails text other → fault.number ≤ other.number
+    go : (other : Fault) → TextFails text other → fault.number ≤ other.number
     go other (too_long e h) = absurd (clash (is_too_long text) h (short_text text json short))
     go other (form p e h) = absurd (spelled_well (trimmed text) token p (spells_json json said) h)
     go other (too_much t e h i) = omega (arith, number fault (number_of condition.too_much) Nowhere is, number other (number_of condition.too_much) Nowhere e)
@@ -180,7 +179,7 @@ refused_much text fault token is json short said much = record { fails = too_muc
 pub read_json : (text : List ℕ) (token : Token) → is_json (trimmed text) ≡ true → length text ≤ file_max → IsJson token (trimmed text) → (IsTooMuch token.parts → ⊥) → IsToken text token
 read_json text token json short said few = record { spells = spells_json json said; passes = go }
   where
-    go : (other : Fault) → Fails text other → ⊥
+    go : (other : Fault) → TextFails text other → ⊥
     go other (too_long e h) = clash (is_too_long text) h (short_text text json short)
     go other (form p e h) = spelled_well (trimmed text) token p (spells_json json said) h
     go other (too_much t e h i) = few (subst (λ (u : Token). IsTooMuch u.parts) (one_spelled (trimmed text) t token h (spells_json json said)) i)
@@ -192,6 +191,6 @@ same_fault fault named is = cc is
 
 -- an error of a JSON text that is handed on
 pub refused_misformed : (text : List ℕ) (fault : Fault) (error : JsonFormError) → misformed error ≡ TokenError.Fault fault → is_json (trimmed text) ≡ true → length text ≤ file_max
-    → ((place : JsonPlace) → error ≡ JsonFormError.Fault place → IsJsonFault (trimmed text) place) → IsRefused text fault
+    → ((place : JsonPlace) → error ≡ JsonFormError.Fault place → IsJsonPlace (trimmed text) place) → IsTextRefused text fault
 refused_misformed text fault JsonFormError.Memory is json short why = cc is
 refused_misformed text fault (JsonFormError.Fault place) is json short why = refused_form text fault place (same_fault fault (record { number = number_of condition.form; place = Json place }) is) json short (why place refl)

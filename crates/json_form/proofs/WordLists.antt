@@ -3,9 +3,11 @@ use Rattle.std.proofs.Common.{◌≡◌, List, [], ◌∷◌, ◌++◌, sym, ap,
 use Rattle.std.specs.List.{AllByRecursion}
 use Rattle.b64url_text.specs.Base64url.{IsWord}
 use Rattle.claim_tree.specs.Tree as spec
-use Rattle.claim_tree.specs.Tree.{Text, leaf, text, array, element, pushed}
+use Rattle.claim_tree.specs.Tree.{Text, leaf, text, array, element}
+use Rattle.claim_tree.specs.TreeCalls.{pushed}
 use Rattle.claim_tree.specs.FileForms.{text_elements, HasValue}
-use Rattle.claim_tree.specs.View.{tree_of, elements_of}
+use Rattle.claim_tree.specs.View.{tree_of}
+use Rattle.claim_tree.specs.ListViews.{elements_of}
 use Rattle.claim_tree.specs.declared.tree.Tree as tree
 use Rattle.claim_tree.proofs.Views.{elements_of-push}
 use Rattle.claim_tree.proofs.FileMembers.{text_elements-push}

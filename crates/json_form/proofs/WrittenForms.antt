@@ -5,7 +5,8 @@ use Rattle.std.specs.List.{AllByRecursion}
 use Rattle.std.proofs.lemmas.List.{take_more}
 use Rattle.std.proofs.lemmas.Option.{slice_get_within, get_or_from_slice_get}
 use Rattle.b64url_text.specs.Base64url.{IsWord}
-use Rattle.claim_tree.specs.Tree.{Text, text, Tree, leaf, array, object, no_elements, element, Members, no_members, depth, elements_depth, members_depth, IsRanged, ElementsRanged, MembersRanged, pushed}
+use Rattle.claim_tree.specs.Tree.{Text, text, Tree, leaf, array, object, no_elements, element, Members, no_members, depth, elements_depth, members_depth, IsRanged, ElementsRanged, MembersRanged}
+use Rattle.claim_tree.specs.TreeCalls.{pushed}
 use Rattle.claim_tree.specs.Removed.{removed}
 use Rattle.claim_tree.specs.FileForms.{Says, MaySay, SaysOr, text_elements}
 use Rattle.claim_tree.specs.JsonText.{Reads}
@@ -14,14 +15,15 @@ use Rattle.claim_tree.proofs.FileMembers.{text_elements-push}
 use Rattle.claim_tree.proofs.Inner.{ranged-member_named}
 use Rattle.claim_tree.proofs.OtherMembers.{named_other, named_gone, removed_absent, ranged-removed, depth-removed, depth-member_named, named_inserted, other_inserted, removed_inserted, depth-inserted}
 use Rattle.compact_form.specs.Compact.{jwt, HasWords, AreWords}
-use Rattle.compact_form.specs.PartWords.{word_of}
+use Rattle.compact_form.specs.PartWords.{part_word}
 use Rattle.compact_form.specs.declared.parts.JwtParts.{JwtParts}
 use Rattle.compact_form.specs.declared.fault.Part.TheVariants.{Payload, Protected, Signature, Signatures, Header, Disclosures, KbJwt}
 use Rattle.json_form.specs.declared.token.Token.{Token}
 use Rattle.json_form.specs.declared.entries.Entries.{Entries}
-use Rattle.json_form.specs.Json.{found, IsWordTree, AreWordTrees, IsJwtTree, IsObject, HeaderSays, EntrySays, IsStray, IsFlat, IsGeneral}
-use Rattle.json_form.specs.Reading.{HasEntries, itself, listed, MembersSay}
-use Rattle.json_form.specs.Written.{IsPrintable, with_binding, header_of, flat_members, flat_of, entry_of, general_members, general_of}
+use Rattle.json_form.specs.Json.{found_part, IsWordTree, AreWordTrees, IsJwtTree, IsObjectOf, HeaderSays, EntrySays, IsStray, IsFlat, IsGeneral}
+use Rattle.json_form.specs.MembersRead.{HasEntries, itself, listed, MembersSay}
+use Rattle.json_form.specs.Written.{with_binding, written_header, flat_members, flat_of, entry_of, general_members, general_of}
+use Rattle.json_form.specs.Printable.{IsPrintable}
 
 -- ---- lists of texts
 
@@ -41,53 +43,53 @@ texts_turn texts i s at =
 
 -- ---- the header that is written
 
-binding_disclosures : (b : Option JwtParts) (ms : Members) → found ms Disclosures ≡ None → found (with_binding b ms) Disclosures ≡ None
+binding_disclosures : (b : Option JwtParts) (ms : Members) → found_part ms Disclosures ≡ None → found_part (with_binding b ms) Disclosures ≡ None
 binding_disclosures None ms none = none
-binding_disclosures (Some j) ms none = other_inserted ms (word_of KbJwt) (leaf (text (jwt j))) (word_of Disclosures) refl ∙ none
+binding_disclosures (Some j) ms none = other_inserted ms (part_word KbJwt) (leaf (text (jwt j))) (part_word Disclosures) refl ∙ none
 
-binding_said : (b : Option JwtParts) (ms : Members) → found ms KbJwt ≡ None → IfSome b HasWords → MaySay IsJwtTree (found (with_binding b ms) KbJwt) b
+binding_said : (b : Option JwtParts) (ms : Members) → found_part ms KbJwt ≡ None → IfSome b HasWords → MaySay IsJwtTree (found_part (with_binding b ms) KbJwt) b
 binding_said None ms none words = subst (λ t. MaySay IsJwtTree t None) (sym none) tt
-binding_said (Some j) ms none words = subst (λ t. MaySay IsJwtTree t (Some j)) (sym (named_inserted ms (word_of KbJwt) (leaf (text (jwt j))))) (record { is = refl; words = words })
+binding_said (Some j) ms none words = subst (λ t. MaySay IsJwtTree t (Some j)) (sym (named_inserted ms (part_word KbJwt) (leaf (text (jwt j))))) (record { is = refl; words = words })
 
-binding_out : (b : Option JwtParts) (ms : Members) → found ms KbJwt ≡ None → removed (with_binding b ms) (word_of KbJwt) ≡ ms
-binding_out None ms none = removed_absent ms (word_of KbJwt) none
-binding_out (Some j) ms none = removed_inserted ms (word_of KbJwt) (leaf (text (jwt j))) none
+binding_out : (b : Option JwtParts) (ms : Members) → found_part ms KbJwt ≡ None → removed (with_binding b ms) (part_word KbJwt) ≡ ms
+binding_out None ms none = removed_absent ms (part_word KbJwt) none
+binding_out (Some j) ms none = removed_inserted ms (part_word KbJwt) (leaf (text (jwt j))) none
 
-header_says : (token : Token) → IsPrintable token → HeaderSays (header_of token) token
+header_says : (token : Token) → IsPrintable token → HeaderSays (written_header token) token
 header_says token good =
     let more = with_binding token.parts.binding token.outer in
     let list = array (text_elements token.parts.disclosures) in
-    let kept : found (header_of token) KbJwt ≡ found more KbJwt = other_inserted more (word_of Disclosures) list (word_of KbJwt) refl in
+    let kept : found_part (written_header token) KbJwt ≡ found_part more KbJwt = other_inserted more (part_word Disclosures) list (part_word KbJwt) refl in
     record {
-      disclosures = subst (λ t. SaysOr AreWordTrees [] t token.parts.disclosures) (sym (named_inserted more (word_of Disclosures) list)) (record { are = refl; words = good.words.disclosures });
+      disclosures = subst (λ t. SaysOr AreWordTrees [] t token.parts.disclosures) (sym (named_inserted more (part_word Disclosures) list)) (record { are = refl; words = good.words.disclosures });
       binding = subst (λ t. MaySay IsJwtTree t token.parts.binding) (sym kept) (binding_said token.parts.binding token.outer good.no_binding good.words.binding);
       outer = sym (
-          ap (λ (ms : Members). removed ms (word_of KbJwt)) (removed_inserted more (word_of Disclosures) list (binding_disclosures token.parts.binding token.outer good.no_disclosures))
+          ap (λ (ms : Members). removed ms (part_word KbJwt)) (removed_inserted more (part_word Disclosures) list (binding_disclosures token.parts.binding token.outer good.no_disclosures))
           ∙ binding_out token.parts.binding token.outer good.no_binding
           );
     }
 
 binding_depth : (b : Option JwtParts) (ms : Members) → members_depth (with_binding b ms) ≤ members_depth ms
 binding_depth None ms = omega arith
-binding_depth (Some j) ms = omega (arith, depth-inserted ms (word_of KbJwt) (leaf (text (jwt j))))
+binding_depth (Some j) ms = omega (arith, depth-inserted ms (part_word KbJwt) (leaf (text (jwt j))))
 
-header_depth : (token : Token) → members_depth (header_of token) ≤ max 1 (members_depth token.outer)
+header_depth : (token : Token) → members_depth (written_header token) ≤ max 1 (members_depth token.outer)
 header_depth token =
     let more = with_binding token.parts.binding token.outer in
     omega (
       arith,
-      depth-inserted more (word_of Disclosures) (array (text_elements token.parts.disclosures)),
+      depth-inserted more (part_word Disclosures) (array (text_elements token.parts.disclosures)),
       texts_depth token.parts.disclosures,
       binding_depth token.parts.binding token.outer,
     )
 
 binding_ranged : (b : Option JwtParts) (ms : Members) → MembersRanged ms → MembersRanged (with_binding b ms)
 binding_ranged None ms ranged = ranged
-binding_ranged (Some j) ms ranged = MembersRanged-inserted ms (word_of KbJwt) (leaf (text (jwt j))) ranged tt
+binding_ranged (Some j) ms ranged = MembersRanged-inserted ms (part_word KbJwt) (leaf (text (jwt j))) ranged tt
 
-header_ranged : (token : Token) → IsPrintable token → MembersRanged (header_of token)
+header_ranged : (token : Token) → IsPrintable token → MembersRanged (written_header token)
 header_ranged token good =
-    MembersRanged-inserted (with_binding token.parts.binding token.outer) (word_of Disclosures) (array (text_elements token.parts.disclosures)) (binding_ranged token.parts.binding token.outer good.ranged) (texts_ranged token.parts.disclosures)
+    MembersRanged-inserted (with_binding token.parts.binding token.outer) (part_word Disclosures) (array (text_elements token.parts.disclosures)) (binding_ranged token.parts.binding token.outer good.ranged) (texts_ranged token.parts.disclosures)
 
 -- ---- the flattened form
 
@@ -107,7 +109,7 @@ flat_says token bytes good reads =
       entry = record {
         protected = record { is = refl; word = good.words.signed.protected };
         signature = record { is = refl; word = good.words.signed.signature };
-        header = header_of token;
+        header = written_header token;
         unprotected = refl;
         says = header_says token good;
       };
@@ -140,7 +142,7 @@ general_says token bytes good reads =
       entry = record {
         protected = record { is = refl; word = good.words.signed.protected };
         signature = record { is = refl; word = good.words.signed.signature };
-        header = header_of token;
+        header = written_header token;
         unprotected = refl;
         says = header_says token good;
       };
@@ -170,12 +172,12 @@ entry_words entry token payload says entry_says =
     let h = entry_says.header in
     record {
       signed = record {
-        protected = word_of_says (found entry Protected) parts.signed.protected entry_says.protected;
+        protected = word_of_says (found_part entry Protected) parts.signed.protected entry_says.protected;
         payload = word_of_says payload parts.signed.payload says;
-        signature = word_of_says (found entry Signature) parts.signed.signature entry_says.signature;
+        signature = word_of_says (found_part entry Signature) parts.signed.signature entry_says.signature;
       };
-      disclosures = words_of_says (found h Disclosures) parts.disclosures entry_says.says.disclosures;
-      binding = jwt_of_says (found h KbJwt) parts.binding entry_says.says.binding;
+      disclosures = words_of_says (found_part h Disclosures) parts.disclosures entry_says.says.disclosures;
+      binding = jwt_of_says (found_part h KbJwt) parts.binding entry_says.says.binding;
     }
 
 -- the header of an entry is no deeper than the entry allows, and its numbers are in range
@@ -183,23 +185,23 @@ record IsInside (e h : Members) : Type 0 where
   shallow : members_depth h + 1 ≤ max 1 (members_depth e)
   ranged : MembersRanged e → MembersRanged h
 
-inside_of : (e h : Members) → SaysOr IsObject no_members (found e Header) h → IsInside e h
-inside_of e h says = go (found e Header) refl says
+inside_of : (e h : Members) → SaysOr IsObjectOf no_members (found_part e Header) h → IsInside e h
+inside_of e h says = go (found_part e Header) refl says
   where
-    go : (o : Option Tree) → found e Header ≡ o → SaysOr IsObject no_members o h → IsInside e h
+    go : (o : Option Tree) → found_part e Header ≡ o → SaysOr IsObjectOf no_members o h → IsInside e h
     go None at is = record { shallow = omega (arith, ap members_depth is); ranged = λ ranged. subst MembersRanged (sym is) tt }
     go (Some t) at is =
-        let stands : found e Header ≡ Some (object h) = at ∙ ap Some is in
-        let low : suc (members_depth h) ≤ members_depth e = depth-member_named e (word_of Header) (object h) stands in
-        record { shallow = omega (arith, low); ranged = λ ranged. ranged-member_named e (word_of Header) (object h) ranged stands }
+        let stands : found_part e Header ≡ Some (object h) = at ∙ ap Some is in
+        let low : suc (members_depth h) ≤ members_depth e = depth-member_named e (part_word Header) (object h) stands in
+        record { shallow = omega (arith, low); ranged = λ ranged. ranged-member_named e (part_word Header) (object h) ranged stands }
 
 -- the entry of an object is no deeper than the object allows
 entry_inside : (ms : Members) (entries : Entries) → HasEntries ms entries → MembersRanged ms → (members_depth entries.first ≤ members_depth ms) × MembersRanged entries.first
 entry_inside ms entries (itself none is unstray) ranged = (omega (arith, ap members_depth is), subst MembersRanged (sym is) ranged)
 entry_inside ms entries (listed list at has alone) ranged =
-    let stands : found ms Signatures ≡ Some (array (element (object entries.first) has.later)) = at ∙ ap Some has.are.are in
-    let low : suc (max (suc (members_depth entries.first)) (elements_depth has.later)) ≤ members_depth ms = depth-member_named ms (word_of Signatures) (array (element (object entries.first) has.later)) stands in
-    (omega (arith, low), (ranged-member_named ms (word_of Signatures) (array (element (object entries.first) has.later)) ranged stands).0)
+    let stands : found_part ms Signatures ≡ Some (array (element (object entries.first) has.later)) = at ∙ ap Some has.are.are in
+    let low : suc (max (suc (members_depth entries.first)) (elements_depth has.later)) ≤ members_depth ms = depth-member_named ms (part_word Signatures) (array (element (object entries.first) has.later)) stands in
+    (omega (arith, low), (ranged-member_named ms (part_word Signatures) (array (element (object entries.first) has.later)) ranged stands).0)
 
 pub printable : (ms : Members) (token : Token) → MembersSay ms token → IsRanged (object ms) → depth (object ms) ≤ 127 → IsPrintable token
 printable ms token says ranged low =
@@ -207,12 +209,12 @@ printable ms token says ranged low =
     let h = says.entry.header in
     let in_object = entry_inside ms says.entries says.has ranged in
     let in_entry = inside_of e h says.entry.unprotected in
-    let without = removed h (word_of Disclosures) in
+    let without = removed h (part_word Disclosures) in
     let is = says.entry.says.outer in
     record {
-      words = entry_words e token (found ms Payload) says.payload says.entry;
-      no_disclosures = ap (λ (us : Members). found us Disclosures) is ∙ named_other without (word_of KbJwt) (word_of Disclosures) refl ∙ named_gone h (word_of Disclosures);
-      no_binding = ap (λ (us : Members). found us KbJwt) is ∙ named_gone without (word_of KbJwt);
-      shallow = omega (arith, ap members_depth is, depth-removed without (word_of KbJwt), depth-removed h (word_of Disclosures), in_entry.shallow, in_object.0, low);
-      ranged = subst MembersRanged (sym is) (ranged-removed without (word_of KbJwt) (ranged-removed h (word_of Disclosures) (in_entry.ranged in_object.1)));
+      words = entry_words e token (found_part ms Payload) says.payload says.entry;
+      no_disclosures = ap (λ (us : Members). found_part us Disclosures) is ∙ named_other without (part_word KbJwt) (part_word Disclosures) refl ∙ named_gone h (part_word Disclosures);
+      no_binding = ap (λ (us : Members). found_part us KbJwt) is ∙ named_gone without (part_word KbJwt);
+      shallow = omega (arith, ap members_depth is, depth-removed without (part_word KbJwt), depth-removed h (part_word Disclosures), in_entry.shallow, in_object.0, low);
+      ranged = subst MembersRanged (sym is) (ranged-removed without (part_word KbJwt) (ranged-removed h (part_word Disclosures) (in_entry.ranged in_object.1)));
     }

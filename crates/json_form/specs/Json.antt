@@ -8,17 +8,17 @@ use Rattle.claim_tree.specs.Removed.{removed}
 use Rattle.claim_tree.specs.FileForms.{IsTexts, Says, MaySay, SaysOr}
 use Rattle.claim_tree.specs.JsonText.{Reads}
 use Rattle.compact_form.specs.Compact.{jwt, HasWords}
-use Rattle.compact_form.specs.PartWords.{word_of}
+use Rattle.compact_form.specs.PartWords.{part_word}
 use Rattle.compact_form.specs.declared.parts.JwtParts.{JwtParts}
 use Rattle.compact_form.specs.declared.fault.Part.TheVariants.{Payload, Protected, Signature, Signatures, Header, Disclosures, KbJwt}
 use Rattle.compact_form.specs.declared.fault.Part.{Part}
 use Rattle.json_form.specs.declared.token.Token.{Token}
 
-abbrev pub found : Members → Part → Option Tree
-found ms part = member_named ms (word_of part)
+abbrev pub found_part : Members → Part → Option Tree
+found_part ms part = member_named ms (part_word part)
 
-abbrev pub has : Members → Part → Bool
-has ms part = is_some (found ms part)
+abbrev pub has_part : Members → Part → Bool
+has_part ms part = is_some (found_part ms part)
 
 -- ---- what a member says
 
@@ -38,22 +38,22 @@ pub record IsJwtTree (t : Tree) (j : JwtParts) : Type 0 where
   pub words : HasWords j
 
 -- the tree is the object of these members
-abbrev pub IsObject : Tree → Members → Type 0
-IsObject t ms = t ≡ object ms
+abbrev pub IsObjectOf : Tree → Members → Type 0
+IsObjectOf t ms = t ≡ object ms
 
 -- ---- an entry: a signature with what belongs to it
 
 -- the unprotected header: the disclosures, the key binding token, and its other members. What is not there is said to be none
 pub record HeaderSays (header : Members) (token : Token) : Type 0 where
-  pub disclosures : SaysOr AreWordTrees [] (found header Disclosures) token.parts.disclosures
-  pub binding : MaySay IsJwtTree (found header KbJwt) token.parts.binding
-  pub outer : token.outer ≡ removed (removed header (word_of Disclosures)) (word_of KbJwt)
+  pub disclosures : SaysOr AreWordTrees [] (found_part header Disclosures) token.parts.disclosures
+  pub binding : MaySay IsJwtTree (found_part header KbJwt) token.parts.binding
+  pub outer : token.outer ≡ removed (removed header (part_word Disclosures)) (part_word KbJwt)
 
 pub record EntrySays (entry : Members) (token : Token) : Type 0 where
-  pub protected : Says IsWordTree (found entry Protected) token.parts.signed.protected
-  pub signature : Says IsWordTree (found entry Signature) token.parts.signed.signature
+  pub protected : Says IsWordTree (found_part entry Protected) token.parts.signed.protected
+  pub signature : Says IsWordTree (found_part entry Signature) token.parts.signed.signature
   pub header : Members
-  pub unprotected : SaysOr IsObject no_members (found entry Header) header
+  pub unprotected : SaysOr IsObjectOf no_members (found_part entry Header) header
   pub says : HeaderSays header token
 
 -- ---- the entries of the general serialization
@@ -73,19 +73,19 @@ pub record AreEntries (t : Tree) (first : Members) (later : Elements) : Type 0 w
 
 -- a member that belongs into an entry stands beside the list of them
 abbrev pub has_beside : Members → Bool
-has_beside ms = has ms Protected || has ms Signature || has ms Header
+has_beside ms = has_part ms Protected || has_part ms Signature || has_part ms Header
 
 -- the header has a member that only that of the first entry may have (RFC 9901 section 8.1)
 abbrev pub has_first_only : Option Tree → Bool
 has_first_only None = false
-has_first_only (Some header) = is_some (get header (word_of Disclosures)) || is_some (get header (word_of KbJwt))
+has_first_only (Some header) = is_some (get header (part_word Disclosures)) || is_some (get header (part_word KbJwt))
 
 -- the entry at this place is not the first, and has such a header
 pub record IsStray (entries : Elements) (place : ℕ) : Type 0 where
   pub later : 0 < place
   pub entry : Tree
   pub stands : element_at entries place ≡ Some entry
-  pub odd : has_first_only (get entry (word_of Header)) ≡ true
+  pub odd : has_first_only (get entry (part_word Header)) ≡ true
 
 -- ---- the texts
 
@@ -93,8 +93,8 @@ pub record IsStray (entries : Elements) (place : ℕ) : Type 0 where
 pub record IsFlat (token : Token) (bytes : Text) : Type 0 where
   pub members : Members
   pub reads : Reads bytes (object members)
-  pub flat : found members Signatures ≡ None
-  pub payload : Says IsWordTree (found members Payload) token.parts.signed.payload
+  pub flat : found_part members Signatures ≡ None
+  pub payload : Says IsWordTree (found_part members Payload) token.parts.signed.payload
   pub entry : EntrySays members token
 
 -- the general one (section 7.2.1 of RFC 7515), of which the first entry is read
@@ -104,10 +104,10 @@ pub record IsGeneral (token : Token) (bytes : Text) : Type 0 where
   pub first : Members
   pub later : Elements
   pub list : Tree
-  pub general : found members Signatures ≡ Some list
+  pub general : found_part members Signatures ≡ Some list
   pub entries : AreEntries list first later
   pub alone : has_beside members ≡ false
-  pub payload : Says IsWordTree (found members Payload) token.parts.signed.payload
+  pub payload : Says IsWordTree (found_part members Payload) token.parts.signed.payload
   pub entry : EntrySays first token
   pub no_stray : (place : ℕ) → IsStray (element (object first) later) place → ⊥
 

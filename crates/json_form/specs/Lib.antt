@@ -1,7 +1,8 @@
 pub mod Token
 pub mod Json
-pub mod PlaceTable
+pub mod JsonPlaces
 pub mod Written
-pub mod Reading
+pub mod MembersRead
 pub mod Source
 pub mod Code
+pub mod Printable

@@ -11,14 +11,14 @@ use Rattle.json_form.specs.declared.disclosures.Rest.{Rest}
 use Rattle.json_form.specs.declared.disclosures.Stand.{Stand}
 use Rattle.json_form.specs.declared.disclosures.Stand.TheVariants.{Text as OfText, List as OfList}
 
-abbrev pub parts_of : Source → Parts
-parts_of (Borrowed parts) = parts
-parts_of (Owned parts text) = parts
+abbrev pub source_parts : Source → Parts
+source_parts (Borrowed parts) = parts
+source_parts (Owned parts text) = parts
 
 -- a text that is kept beside the parts is theirs
-abbrev pub IsSpelled : Source → Type 0
-IsSpelled (Borrowed parts) = Unit {0}
-IsSpelled (Owned parts text) = IsCompact parts text
+abbrev pub IsSourceSpelled : Source → Type 0
+IsSourceSpelled (Borrowed parts) = Unit {0}
+IsSourceSpelled (Owned parts text) = IsCompact parts text
 
 abbrev pub lent_parts : Lent → Parts
 lent_parts (InText parts) = parts

@@ -9,12 +9,11 @@ use Rattle.compact_form.specs.declared.fault.Place.{Place}
 use Rattle.compact_form.specs.declared.fault.Place.TheVariants.{Nowhere, At, Json}
 use Rattle.compact_form.specs.declared.fault.JsonPlace.{JsonPlace}
 use Rattle.compact_form.specs.declared.parts.Parts.{Parts}
-use Rattle.compact_form.specs.Compact.{compact, IsCompact, IsRefusedAt}
-use Rattle.compact_form.specs.Token.{is_json, is_too_long}
-use Rattle.compact_form.specs.Trim.{trimmed}
+use Rattle.compact_form.specs.Compact.{compact, IsCompact, IsMisformedAt}
+use Rattle.compact_form.specs.Trim.{trimmed, is_json, is_too_long}
 use Rattle.json_form.specs.declared.token.Token.{Token}
 use Rattle.json_form.specs.Json.{IsJson}
-use Rattle.json_form.specs.PlaceTable.{IsJsonFault}
+use Rattle.json_form.specs.JsonPlaces.{IsJsonPlace}
 
 -- the text is a serialization of the token: a JSON one where it begins with `{`, else the compact one, which has no unprotected header
 pub data Spells (text : List ℕ) (token : Token) : Type 0 where
@@ -23,25 +22,25 @@ pub data Spells (text : List ℕ) (token : Token) : Type 0 where
 
 -- the text is none, and this is the place that is named
 pub data IsMisformed (text : List ℕ) (place : Place) : Type 0 where
-  no_compact : (stop : ℕ) → is_json text ≡ false → IsRefusedAt text stop → place ≡ At stop → IsMisformed text place
-  no_json : (at : JsonPlace) → is_json text ≡ true → IsJsonFault text at → place ≡ Json at → IsMisformed text place
+  no_compact : (stop : ℕ) → is_json text ≡ false → IsMisformedAt text stop → place ≡ At stop → IsMisformed text place
+  no_json : (at : JsonPlace) → is_json text ≡ true → IsJsonPlace text at → place ≡ Json at → IsMisformed text place
 
 -- there are too many disclosures, or the compact text of the parts is too long
 abbrev pub IsTooMuch : Parts → Type 0
 IsTooMuch parts = (count_max < length parts.disclosures) ⊎ (compact_max < length (compact parts))
 
 -- each condition that fails, with its number and its place
-pub data Fails (text : List ℕ) (fault : Fault) : Type 0 where
-  too_long : fault ≡ record { number = number_of condition.too_long; place = Nowhere } → is_too_long text ≡ true → Fails text fault
-  form : (place : Place) → fault ≡ record { number = number_of condition.form; place = place } → IsMisformed (trimmed text) place → Fails text fault
-  too_much : (token : Token) → fault ≡ record { number = number_of condition.too_much; place = Nowhere } → Spells (trimmed text) token → IsTooMuch token.parts → Fails text fault
+pub data TextFails (text : List ℕ) (fault : Fault) : Type 0 where
+  too_long : fault ≡ record { number = number_of condition.too_long; place = Nowhere } → is_too_long text ≡ true → TextFails text fault
+  form : (place : Place) → fault ≡ record { number = number_of condition.form; place = place } → IsMisformed (trimmed text) place → TextFails text fault
+  too_much : (token : Token) → fault ≡ record { number = number_of condition.too_much; place = Nowhere } → Spells (trimmed text) token → IsTooMuch token.parts → TextFails text fault
 
 -- the lowest condition that fails
-pub record IsRefused (text : List ℕ) (fault : Fault) : Type 0 where
-  pub fails : Fails text fault
-  pub lowest : (other : Fault) → Fails text other → fault.number ≤ other.number
+pub record IsTextRefused (text : List ℕ) (fault : Fault) : Type 0 where
+  pub fails : TextFails text fault
+  pub lowest : (other : Fault) → TextFails text other → fault.number ≤ other.number
 
 -- no condition fails, and the text between its blanks is a serialization of the token
 pub record IsToken (text : List ℕ) (token : Token) : Type 0 where
   pub spells : Spells (trimmed text) token
-  pub passes : (fault : Fault) → Fails text fault → ⊥
+  pub passes : (fault : Fault) → TextFails text fault → ⊥

@@ -3,34 +3,26 @@ use Rattle.std.specs.Prelude.{◌≡◌, ◌≤◌, Option, Some, None}
 use Rattle.claim_tree.specs.Tree.{text, Tree, leaf, array, object, no_elements, element, Members, no_members, member, members_depth, inserted, IsRanged}
 use Rattle.claim_tree.specs.FileForms.{text_elements}
 use Rattle.compact_form.specs.Compact.{jwt, AreWords}
-use Rattle.compact_form.specs.PartWords.{word_of}
+use Rattle.compact_form.specs.PartWords.{part_word}
 use Rattle.compact_form.specs.declared.parts.JwtParts.{JwtParts}
 use Rattle.compact_form.specs.declared.fault.Part.TheVariants.{Payload, Protected, Signature, Signatures, Header, Disclosures, KbJwt}
 use Rattle.json_form.specs.declared.token.Token.{Token}
-use Rattle.json_form.specs.Json.{found}
-
--- what a token must be to be written, which each one is that was read
-pub record IsPrintable (token : Token) : Type 0 where
-  pub words : AreWords token.parts
-  pub no_disclosures : found token.outer Disclosures ≡ None
-  pub no_binding : found token.outer KbJwt ≡ None
-  pub shallow : members_depth token.outer ≤ 125
-  pub ranged : IsRanged (object token.outer)
+use Rattle.json_form.specs.Json.{found_part}
 
 -- the members, with the key binding token where there is one
 abbrev pub with_binding : Option JwtParts → Members → Members
 with_binding None ms = ms
-with_binding (Some j) ms = inserted ms (word_of KbJwt) (leaf (text (jwt j)))
+with_binding (Some j) ms = inserted ms (part_word KbJwt) (leaf (text (jwt j)))
 
 -- the unprotected header: always the disclosures, the key binding token where there is one, and the other members
-abbrev pub header_of : Token → Members
-header_of token = inserted (with_binding token.parts.binding token.outer) (word_of Disclosures) (array (text_elements token.parts.disclosures))
+abbrev pub written_header : Token → Members
+written_header token = inserted (with_binding token.parts.binding token.outer) (part_word Disclosures) (array (text_elements token.parts.disclosures))
 
 abbrev pub flat_members : Token → Members
 flat_members token =
-    member (word_of Header) (object (header_of token)) (
-    member (word_of Payload) (leaf (text token.parts.signed.payload)) (
-    member (word_of Protected) (leaf (text token.parts.signed.protected)) (member (word_of Signature) (leaf (text token.parts.signed.signature)) no_members)
+    member (part_word Header) (object (written_header token)) (
+    member (part_word Payload) (leaf (text token.parts.signed.payload)) (
+    member (part_word Protected) (leaf (text token.parts.signed.protected)) (member (part_word Signature) (leaf (text token.parts.signed.signature)) no_members)
     )
     )
 
@@ -40,12 +32,12 @@ flat_of token = object (flat_members token)
 -- what belongs to the one signature
 abbrev pub entry_of : Token → Members
 entry_of token =
-    member (word_of Header) (object (header_of token)) (
-    member (word_of Protected) (leaf (text token.parts.signed.protected)) (member (word_of Signature) (leaf (text token.parts.signed.signature)) no_members)
+    member (part_word Header) (object (written_header token)) (
+    member (part_word Protected) (leaf (text token.parts.signed.protected)) (member (part_word Signature) (leaf (text token.parts.signed.signature)) no_members)
     )
 
 abbrev pub general_members : Token → Members
-general_members token = member (word_of Payload) (leaf (text token.parts.signed.payload)) (member (word_of Signatures) (array (element (object (entry_of token)) no_elements)) no_members)
+general_members token = member (part_word Payload) (leaf (text token.parts.signed.payload)) (member (part_word Signatures) (array (element (object (entry_of token)) no_elements)) no_members)
 
 abbrev pub general_of : Token → Tree
 general_of token = object (general_members token)

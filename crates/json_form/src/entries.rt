@@ -1,14 +1,15 @@
 // The entries of a JSON serialization: one in the flattened form, a list of them in the general one.
 ghost use Rattle.std.specs.Prelude.{◌≡◌, IfOk, IfErr, IfSome, IfNone};
 ghost use Rattle.claim_tree.specs.Tree.{Elements, Members, get as get_of};
-ghost use Rattle.claim_tree.specs.View.{tree_of, elements_of};
-ghost use Rattle.compact_form.specs.PartWords.{word_of};
+ghost use Rattle.claim_tree.specs.View.{tree_of};
+ghost use Rattle.claim_tree.specs.ListViews.{elements_of};
+ghost use Rattle.compact_form.specs.PartWords.{part_word};
 ghost use Rattle.compact_form.specs.declared.fault.JsonPlace.TheVariants.{Wrong};
 ghost use Rattle.compact_form.specs.declared.fault.Part.TheVariants.{Header, Signatures};
 ghost use Rattle.json_form.specs.Json as spec;
 ghost use Rattle.json_form.specs.Json.{AreEntries};
-ghost use Rattle.json_form.specs.PlaceTable.{AreNoEntries};
-ghost use Rattle.json_form.specs.Reading.{IsFirstStray, ListHas, HasEntries};
+ghost use Rattle.json_form.specs.JsonPlaces.{AreNoEntries};
+ghost use Rattle.json_form.specs.MembersRead.{IsFirstStray, ListHas, HasEntries};
 
 use claim_tree::{Tree, TreeMap, get};
 use compact_form::{JsonPlace, Part};
@@ -36,7 +37,7 @@ fn are_objects(trees: &[Tree]) -> bool
 }
 
 fn has(members: &TreeMap, part: Part) -> bool
-    ensures { result ≡ spec.has members.now part }
+    ensures { result ≡ spec.has_part members.now part }
 {
     members.get(part.word()).is_some()
 }
@@ -50,7 +51,7 @@ fn has_beside(members: &TreeMap) -> bool
 
 // Whether the header of an entry has a member that only that of the first entry may have.
 fn is_odd(entry: &Tree) -> bool
-    ensures { result ≡ spec.has_first_only (get_of (tree_of entry.now) (word_of Header)) }
+    ensures { result ≡ spec.has_first_only (get_of (tree_of entry.now) (part_word Header)) }
 {
     let Some(header) = get(entry, Part::Header.word()) else {
         return false;

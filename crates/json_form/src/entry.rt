@@ -3,11 +3,11 @@ ghost use Rattle.std.specs.Prelude.{◌≡◌, [], IfOk, IfErr, IsErrOf};
 ghost use Rattle.claim_tree.specs.Tree.{no_members};
 ghost use Rattle.claim_tree.specs.Removed.{removed};
 ghost use Rattle.claim_tree.specs.FileForms.{Says, MaySay, SaysOr};
-ghost use Rattle.compact_form.specs.PartWords.{word_of};
+ghost use Rattle.compact_form.specs.PartWords.{part_word};
 ghost use Rattle.compact_form.specs.declared.fault.JsonPlace.{JsonPlace as ThePlace};
 ghost use Rattle.compact_form.specs.declared.fault.Part.TheVariants.{Header, Disclosures, KbJwt};
-ghost use Rattle.json_form.specs.Json.{found, IsWordTree, AreWordTrees, IsJwtTree, IsObject, EntrySays};
-ghost use Rattle.json_form.specs.PlaceTable.{IsNoWord, IsWrong, EntryApplies, IsFirst};
+ghost use Rattle.json_form.specs.Json.{found_part, IsWordTree, AreWordTrees, IsJwtTree, IsObjectOf, EntrySays};
+ghost use Rattle.json_form.specs.JsonPlaces.{IsNoWord, IsWrongMember, EntryFails, IsFirstPlace};
 
 use crate::values::{jwt_in, word_in, words_in};
 use crate::{JsonFormError, Token};
@@ -18,9 +18,9 @@ use std::alloc::Global;
 
 // Takes out a base64url word that must be there.
 pub(crate) fn take_word(members: &mut TreeMap, part: Part) -> Result<TextBox, JsonPlace>
-    ensures ok { IfOk result (λ word. Says IsWordTree (found members.old part) word) }
+    ensures ok { IfOk result (λ word. Says IsWordTree (found_part members.old part) word) }
     ensures refused { IfErr result (IsNoWord members.old part) }
-    ensures others { members.new ≡ removed members.old (word_of part) }
+    ensures others { members.new ≡ removed members.old (part_word part) }
 {
     let Some(tree) = members.remove(part.word()) else {
         return Err(JsonPlace::Missing(part));
@@ -33,8 +33,8 @@ pub(crate) fn take_word(members: &mut TreeMap, part: Part) -> Result<TextBox, Js
 
 // Takes out the unprotected header.
 fn take_header(alloc: Global, entry: &mut TreeMap) -> Result<TreeMap, JsonPlace>
-    ensures ok { IfOk result (SaysOr IsObject no_members (found entry.old Header)) }
-    ensures refused { IfErr result (IsWrong IsObject entry.old Header) }
+    ensures ok { IfOk result (SaysOr IsObjectOf no_members (found_part entry.old Header)) }
+    ensures refused { IfErr result (IsWrongMember IsObjectOf entry.old Header) }
 {
     let Some(tree) = entry.remove(Part::Header.word()) else {
         return Ok(TreeMap::new(alloc));
@@ -47,9 +47,9 @@ fn take_header(alloc: Global, entry: &mut TreeMap) -> Result<TreeMap, JsonPlace>
 
 // Takes the disclosures out of the unprotected header.
 fn take_disclosures(alloc: Global, header: &mut TreeMap) -> Result<TextList, JsonFormError>
-    ensures ok { IfOk result (SaysOr AreWordTrees [] (found header.old Disclosures)) }
-    ensures refused { (place : ThePlace) → IsErrOf result (JsonFormError.Fault place) → IsWrong AreWordTrees header.old Disclosures place }
-    ensures others { header.new ≡ removed header.old (word_of Disclosures) }
+    ensures ok { IfOk result (SaysOr AreWordTrees [] (found_part header.old Disclosures)) }
+    ensures refused { (place : ThePlace) → IsErrOf result (JsonFormError.Fault place) → IsWrongMember AreWordTrees header.old Disclosures place }
+    ensures others { header.new ≡ removed header.old (part_word Disclosures) }
 {
     let Some(tree) = header.remove(Part::Disclosures.word()) else {
         return Ok(TextList::new(alloc));
@@ -62,9 +62,9 @@ fn take_disclosures(alloc: Global, header: &mut TreeMap) -> Result<TextList, Jso
 
 // Takes the key binding token out of the unprotected header.
 fn take_binding(alloc: Global, header: &mut TreeMap) -> Result<Option<JwtParts>, JsonFormError>
-    ensures ok { IfOk result (MaySay IsJwtTree (found header.old KbJwt)) }
-    ensures refused { (place : ThePlace) → IsErrOf result (JsonFormError.Fault place) → IsWrong IsJwtTree header.old KbJwt place }
-    ensures others { header.new ≡ removed header.old (word_of KbJwt) }
+    ensures ok { IfOk result (MaySay IsJwtTree (found_part header.old KbJwt)) }
+    ensures refused { (place : ThePlace) → IsErrOf result (JsonFormError.Fault place) → IsWrongMember IsJwtTree header.old KbJwt place }
+    ensures others { header.new ≡ removed header.old (part_word KbJwt) }
 {
     let Some(tree) = header.remove(Part::KbJwt.word()) else {
         return Ok(None);
@@ -83,7 +83,7 @@ pub(crate) fn read_entry(
 ) -> Result<Token, JsonFormError>
     ensures ok { IfOk result (EntrySays entry) }
     ensures payload { IfOk result (λ token. token.parts.signed.payload ≡ payload) }
-    ensures refused { (place : ThePlace) → IsErrOf result (JsonFormError.Fault place) → IsFirst (EntryApplies entry) place }
+    ensures refused { (place : ThePlace) → IsErrOf result (JsonFormError.Fault place) → IsFirstPlace (EntryFails entry) place }
 {
     let mut entry = entry;
     let protected = take_word(&mut entry, Part::Protected)?;

@@ -34,7 +34,7 @@ impl From<JsonPlace> for JsonFormError {
 }
 
 impl From<ReadError> for JsonFormError {
-    ghost use Rattle.json_form.specs.Reading.{unread_place};
+    ghost use Rattle.json_form.specs.MembersRead.{unread_place};
 
     ghost from_gives = { λ error e. e ≡ unread_place error };
 

@@ -1,9 +1,9 @@
 ghost use Rattle.std.specs.Prelude.{◌≡◌, IfOk, IsErrOf};
 ghost use Rattle.compact_form.specs.declared.fault.JsonPlace.{JsonPlace as ThePlace};
 ghost use Rattle.json_form.specs.Json.{IsJson};
-ghost use Rattle.json_form.specs.PlaceTable.{MembersApply, IsFirst, IsJsonFault};
-ghost use Rattle.json_form.specs.Reading.{MembersSay};
-ghost use Rattle.json_form.specs.Written.{IsPrintable};
+ghost use Rattle.json_form.specs.JsonPlaces.{ObjectFails, IsFirstPlace, IsJsonPlace};
+ghost use Rattle.json_form.specs.MembersRead.{MembersSay};
+ghost use Rattle.json_form.specs.Printable.{IsPrintable};
 
 use crate::entries::entries_of;
 use crate::entry::{read_entry, take_word};
@@ -15,7 +15,7 @@ use std::alloc::Global;
 // The token that the members of an object say.
 fn token_of(alloc: Global, members: TreeMap) -> Result<Token, JsonFormError>
     ensures ok { IfOk result (MembersSay members) }
-    ensures refused { (place : ThePlace) → IsErrOf result (JsonFormError.Fault place) → IsFirst (MembersApply members) place }
+    ensures refused { (place : ThePlace) → IsErrOf result (JsonFormError.Fault place) → IsFirstPlace (ObjectFails members) place }
 {
     let mut members = members;
     let payload = take_word(&mut members, Part::Payload)?;
@@ -38,7 +38,7 @@ fn token_of(alloc: Global, members: TreeMap) -> Result<Token, JsonFormError>
 pub fn parse_json(alloc: Global, text: &[u8]) -> Result<Token, JsonFormError>
     ensures ok { IfOk result (λ token. IsJson token text.now) }
     ensures printable { IfOk result IsPrintable }
-    ensures fault { (place : ThePlace) → IsErrOf result (JsonFormError.Fault place) → IsJsonFault text.now place }
+    ensures fault { (place : ThePlace) → IsErrOf result (JsonFormError.Fault place) → IsJsonPlace text.now place }
 {
     let Tree::Object(members) = read(alloc, text)? else {
         return Err(JsonFormError::Fault(JsonPlace::NotObject));

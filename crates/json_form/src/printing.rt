@@ -4,10 +4,11 @@ ghost use Rattle.claim_tree.specs.Tree.{leaf, text as text_leaf, inserted, membe
 ghost use Rattle.claim_tree.specs.FileForms.{text_elements};
 ghost use Rattle.claim_tree.specs.JsonText.{json_text};
 ghost use Rattle.claim_tree.specs.View.{tree_of};
-ghost use Rattle.compact_form.specs.PartWords.{word_of};
+ghost use Rattle.compact_form.specs.PartWords.{part_word};
 ghost use Rattle.json_form.specs.Json.{IsFlat, IsGeneral};
 ghost use Rattle.json_form.specs.Written as spec;
-ghost use Rattle.json_form.specs.Written.{IsPrintable, flat_of, general_of};
+ghost use Rattle.json_form.specs.Written.{flat_of, general_of};
+ghost use Rattle.json_form.specs.Printable.{IsPrintable};
 
 use crate::Token;
 use claim_tree::{Tree, TreeList, TreeMap, copy_members, write};
@@ -16,7 +17,7 @@ use sd_outside::{NoMemory, TextBox, TextList};
 use std::alloc::Global;
 
 fn put(alloc: Global, members: &mut TreeMap, part: Part, tree: Tree) -> Result<(), NoMemory>
-    ensures { OnOk result (members.new ≡ inserted members.old (word_of part) (tree_of tree)) }
+    ensures { OnOk result (members.new ≡ inserted members.old (part_word part) (tree_of tree)) }
 {
     let name = TextBox::make(alloc, part.word())?;
     members.insert(name, tree)
@@ -28,7 +29,7 @@ fn put_text(
     part: Part,
     text: &TextBox,
 ) -> Result<(), NoMemory>
-    ensures { OnOk result (members.new ≡ inserted members.old (word_of part) (leaf (text_leaf text.now))) }
+    ensures { OnOk result (members.new ≡ inserted members.old (part_word part) (leaf (text_leaf text.now))) }
 {
     let text = TextBox::make(alloc, text.as_str())?;
     put(alloc, members, part, Tree::Text(text))
@@ -48,7 +49,7 @@ fn list_of(alloc: Global, texts: &TextList) -> Result<TreeList, NoMemory>
 
 fn header_of(alloc: Global, token: &Token) -> Result<TreeMap, NoMemory>
     requires printable { IsPrintable token.now }
-    ensures { IfOk result (λ header. header ≡ spec.header_of token.now) }
+    ensures { IfOk result (λ header. header ≡ spec.written_header token.now) }
 {
     let mut header = copy_members(alloc, &token.outer)?;
     if let Some(binding) = &token.parts.binding {

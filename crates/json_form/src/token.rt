@@ -1,7 +1,7 @@
 ghost use Rattle.std.specs.Prelude.{◌≡◌, IfOk, IsErrOf};
 ghost use Rattle.compact_form.specs.declared.fault.Fault.{Fault as TheFault};
-ghost use Rattle.json_form.specs.Token.{IsToken, IsRefused};
-ghost use Rattle.json_form.specs.Written.{IsPrintable};
+ghost use Rattle.json_form.specs.Token.{IsToken, IsTextRefused};
+ghost use Rattle.json_form.specs.Printable.{IsPrintable};
 
 use crate::{JsonFormError, TokenText, TokenView};
 use claim_tree::TreeMap;
@@ -58,7 +58,7 @@ impl From<Fault> for TokenError {
 }
 
 impl From<JsonFormError> for TokenError {
-    ghost use Rattle.json_form.specs.Reading.{misformed};
+    ghost use Rattle.json_form.specs.MembersRead.{misformed};
 
     ghost from_gives = { λ error e. e ≡ misformed error };
 
@@ -80,7 +80,7 @@ impl From<JsonFormError> for TokenError {
 pub fn read_token(alloc: Global, text: &[u8]) -> Result<Token, TokenError>
     ensures ok { IfOk result (IsToken text.now) }
     ensures printable { IfOk result IsPrintable }
-    ensures refused { (fault : TheFault) → IsErrOf result (TokenError.Fault fault) → IsRefused text.now fault }
+    ensures refused { (fault : TheFault) → IsErrOf result (TokenError.Fault fault) → IsTextRefused text.now fault }
 {
     let token = match TokenText::read(alloc, text) {
         Ok(token) => token,

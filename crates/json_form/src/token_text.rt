@@ -1,12 +1,11 @@
 // A token with its parts in one compact text, in whichever serialization it comes.
 ghost use Rattle.std.specs.Prelude.{◌≡◌, true, false, IfOk, IfSome, IfNone, IsErrOf};
 ghost use Rattle.compact_form.specs.Compact.{hashed as hashed_of, AreWords, IsCompact};
-ghost use Rattle.compact_form.specs.Token.{is_json as is_json_test};
-ghost use Rattle.compact_form.specs.Trim.{trimmed};
+ghost use Rattle.compact_form.specs.Trim.{trimmed, is_json as is_json_test};
 ghost use Rattle.compact_form.specs.declared.fault.Fault.{Fault as TheFault};
 ghost use Rattle.compact_form.specs.declared.parts.Parts.{Parts as SeenParts};
-ghost use Rattle.json_form.specs.Token.{IsToken, IsRefused, IsTooMuch};
-ghost use Rattle.json_form.specs.Written.{IsPrintable};
+ghost use Rattle.json_form.specs.Token.{IsToken, IsTextRefused, IsTooMuch};
+ghost use Rattle.json_form.specs.Printable.{IsPrintable};
 
 use crate::{Token, TokenError, TokenView, parse_json};
 use claim_tree::TreeMap;
@@ -43,11 +42,11 @@ impl<'a> Model for TokenText<'a> {
 
     ghost coded = { token_code };
 
-    ghost use Rattle.json_form.specs.Source.{parts_of, IsSpelled};
+    ghost use Rattle.json_form.specs.Source.{source_parts, IsSourceSpelled};
 
-    ghost view = { λ t. record { parts = parts_of t.source; outer = t.outer } };
+    ghost view = { λ t. record { parts = source_parts t.source; outer = t.outer } };
 
-    ghost invariant = { λ t. IsSpelled t.source };
+    ghost invariant = { λ t. IsSourceSpelled t.source };
 }
 
 // The token of a compact text, with the blanks around it.
@@ -55,7 +54,7 @@ fn read_compact<'a>(alloc: Global, text: &'a [u8]) -> Result<TokenText<'a>, Toke
     requires plain { is_json_test (trimmed text.now) ≡ false }
     ensures ok { IfOk result (IsToken text.now) }
     ensures printable { IfOk result IsPrintable }
-    ensures refused { (fault : TheFault) → IsErrOf result (TokenError.Fault fault) → IsRefused text.now fault }
+    ensures refused { (fault : TheFault) → IsErrOf result (TokenError.Fault fault) → IsTextRefused text.now fault }
 {
     let view = read_view(text)?;
     Ok(TokenText {
@@ -87,7 +86,7 @@ fn read_json<'a>(alloc: Global, text: &[u8], json: &[u8]) -> Result<TokenText<'a
     requires json { is_json_test json.now ≡ true }
     ensures ok { IfOk result (IsToken text.now) }
     ensures printable { IfOk result IsPrintable }
-    ensures refused { (fault : TheFault) → IsErrOf result (TokenError.Fault fault) → IsRefused text.now fault }
+    ensures refused { (fault : TheFault) → IsErrOf result (TokenError.Fault fault) → IsTextRefused text.now fault }
 {
     if text.len() > FILE_MAX {
         return Err(TokenError::Fault(Fault {
@@ -126,7 +125,7 @@ impl<'a> TokenText<'a> {
     pub fn read(alloc: Global, text: &'a [u8]) -> Result<TokenText<'a>, TokenError>
         ensures ok { IfOk result (IsToken text.now) }
         ensures printable { IfOk result IsPrintable }
-        ensures refused { (fault : TheFault) → IsErrOf result (TokenError.Fault fault) → IsRefused text.now fault }
+        ensures refused { (fault : TheFault) → IsErrOf result (TokenError.Fault fault) → IsTextRefused text.now fault }
     {
         let token = trim(text);
         if is_json(token) {

@@ -5,7 +5,8 @@ use Rattle.std.specs.Option.{is_some, option_or}
 use Rattle.std.proofs.lemmas.Slice.Eq.{bytes_eq-Decides}
 use Rattle.claim_tree.specs.Tree.{Text, Tree, object, Members, no_members, member, names, member_named, text_of}
 use Rattle.jws_part.specs.Part.{Carries}
-use Rattle.jws_part.specs.Header.{text_tree, has_name, shares_name, has_crit, Says, IsHeader, IsCritical, IsNoText, SayNothing, shared_name, no_alg, odd_alg, odd_typ, odd_kid, odd_outer_kid, IsUnreadable, no_object, nothing_said, unread_header}
+use Rattle.jws_part.specs.Header.{text_tree, has_name, shares_name, has_crit, HeadersSay, IsHeader, IsHeaderCritical, IsNoText, SayNothing, shared_name, no_alg, odd_alg, odd_typ, odd_kid, odd_outer_kid, IsHeaderUnreadable, no_object, nothing_said}
+use Rattle.jws_part.specs.HeaderSteps.{unread_header}
 use Rattle.jws_part.specs.declared.header.Header.{Header}
 use Rattle.jws_part.specs.declared.header.HeaderError.{HeaderError}
 use Rattle.jws_part.specs.declared.body.BodyError.{BodyError}
@@ -26,7 +27,7 @@ texts_back None (Some s') e = cc e
 texts_back (Some s) None e = cc e
 
 -- headers say one thing
-pub one_saying : (ms outer : Members) (h h' : Header) → Says ms outer h → Says ms outer h' → h ≡ h'
+pub one_saying : (ms outer : Members) (h h' : Header) → HeadersSay ms outer h → HeadersSay ms outer h' → h ≡ h'
 one_saying ms outer h h' s s' =
     let alg : h.alg ≡ h'.alg = text_back _ _ (sym s.alg ∙ s'.alg) in
     let kid : h.kid ≡ h'.kid = texts_back _ _ (sym s.kid ∙ s'.kid) in
@@ -67,7 +68,7 @@ odd_outer ms outer name s apart n e =
     odd outer name s n (ap (λ o. option_or o (member_named outer name)) (sym here) ∙ e)
 
 -- a cause is there only where nothing is said
-pub nothing : (ms outer : Members) (h : Header) → SayNothing ms outer → Says ms outer h → ⊥
+pub nothing : (ms outer : Members) (h : Header) → SayNothing ms outer → HeadersSay ms outer h → ⊥
 nothing ms outer h (shared_name e) s = let both = sym e ∙ s.apart in cc both
 nothing ms outer h (no_alg e) s = let both = sym e ∙ s.alg in cc both
 nothing ms outer h (odd_alg n) s = odd ms (codes "alg") (Some h.alg) n s.alg
@@ -75,23 +76,23 @@ nothing ms outer h (odd_typ n) s = odd ms (codes "typ") h.typ n s.typ
 nothing ms outer h (odd_kid n) s = odd_own ms outer (codes "kid") h.kid n s.kid
 nothing ms outer h (odd_outer_kid n) s = odd_outer ms outer (codes "kid") h.kid s.apart n s.kid
 
-says_at : (protected : Text) (ms ns outer : Members) (h : Header) → Carries protected (object ms) → Carries protected (object ns) → Says ns outer h → Says ms outer h
-says_at protected ms ns outer h c d s = subst (λ us. Says us outer h) (one_object protected ns ms d c) s
+says_at : (protected : Text) (ms ns outer : Members) (h : Header) → Carries protected (object ms) → Carries protected (object ns) → HeadersSay ns outer h → HeadersSay ms outer h
+says_at protected ms ns outer h c d s = subst (λ us. HeadersSay us outer h) (one_object protected ns ms d c) s
 
 pub one_header : (protected : Text) (outer : Members) (h h' : Header) → IsHeader protected outer h → IsHeader protected outer h' → h ≡ h'
 one_header protected outer h h' a b = one_saying a.members outer h h' a.says (says_at protected a.members b.members outer h' a.carried b.carried b.says)
 
-unsaid : (protected : Text) (outer ms : Members) (h : Header) → IsUnreadable protected outer → Carries protected (object ms) → Says ms outer h → ⊥
+unsaid : (protected : Text) (outer ms : Members) (h : Header) → IsHeaderUnreadable protected outer → Carries protected (object ms) → HeadersSay ms outer h → ⊥
 unsaid protected outer ms h (no_object none) c s = none ms c
 unsaid protected outer ms h (nothing_said ns d cause) c s = nothing ns outer h cause (says_at protected ns ms outer h d c s)
 
-pub read_not_unreadable : (protected : Text) (outer : Members) (h : Header) → IsHeader protected outer h → IsUnreadable protected outer → ⊥
+pub read_not_unreadable : (protected : Text) (outer : Members) (h : Header) → IsHeader protected outer h → IsHeaderUnreadable protected outer → ⊥
 read_not_unreadable protected outer h a u = unsaid protected outer a.members h u a.carried a.says
 
-pub critical_not_unreadable : (protected : Text) (outer : Members) → IsCritical protected outer → IsUnreadable protected outer → ⊥
+pub critical_not_unreadable : (protected : Text) (outer : Members) → IsHeaderCritical protected outer → IsHeaderUnreadable protected outer → ⊥
 critical_not_unreadable protected outer a u = unsaid protected outer a.members a.header u a.carried a.says
 
-pub read_not_critical : (protected : Text) (outer : Members) (h : Header) → IsHeader protected outer h → IsCritical protected outer → ⊥
+pub read_not_critical : (protected : Text) (outer : Members) (h : Header) → IsHeader protected outer h → IsHeaderCritical protected outer → ⊥
 read_not_critical protected outer h a b =
     let same : a.members ≡ b.members = one_object protected a.members b.members a.carried b.carried in
     let clash : true ≡ false = sym b.crit ∙ (ap (λ us. has_crit us outer) (sym same) ∙ a.plain) in

@@ -1,10 +1,11 @@
 -- What a base64url text of JSON carries.
 use Rattle.std.proofs.Common.{◌≡◌, inl, inr, true, false, refl, sym, ap, subst, ◌∙◌}
 use Rattle.serde_json.specs.Written.{has_float}
-use Rattle.b64url_text.specs.Base64url.{Decodes, IsNoCode}
+use Rattle.b64url_text.specs.Base64url.{Decodes, IsNotBase64}
 use Rattle.b64url_text.proofs.Codes.{one_code}
 use Rattle.claim_tree.specs.Tree.{Text, Tree, leaf, null, flag, whole, text, array, object, Members}
-use Rattle.claim_tree.specs.JsonText.{Reads, IsNotJson, IsNotWhole, IsUnread, data_of}
+use Rattle.claim_tree.specs.JsonText.{Reads, IsNotJson, IsNotWhole, data_of}
+use Rattle.claim_tree.specs.JsonRefusals.{IsReadRefused}
 use Rattle.claim_tree.specs.declared.text.ReadError.{ReadError}
 use Rattle.claim_tree.specs.View.{tree_of}
 use Rattle.claim_tree.specs.declared.tree.Tree as tree
@@ -13,7 +14,7 @@ use Rattle.claim_tree.proofs.Datas.{no_float}
 use Rattle.claim_tree.proofs.OneTree.{one_tree}
 use Rattle.jws_part.specs.Part.{Carries, IsBody, IsNoObject}
 
-pub no_code : (part : Text) → IsNoCode part → IsNoObject part
+pub no_code : (part : Text) → IsNotBase64 part → IsNoObject part
 no_code part refused ms c = refused c.bytes c.decodes
 
 not_json : (bytes : Text) (t : Tree) → IsNotJson bytes → Reads bytes t → ⊥
@@ -31,7 +32,7 @@ not_whole bytes t n r =
 pub nothing_inside : (part bytes : Text) → Decodes part bytes → ((ms : Members) → Reads bytes (object ms) → ⊥) → IsNoObject part
 nothing_inside part bytes d none ms c = none ms (subst (λ x. Reads x (object ms)) (one_code part c.bytes bytes c.decodes d) c.reads)
 
-pub no_text : (part bytes : Text) (error : ReadError) → Decodes part bytes → IsUnread bytes error → (error ≡ ReadError.Memory → ⊥) → IsNoObject part
+pub no_text : (part bytes : Text) (error : ReadError) → Decodes part bytes → IsReadRefused bytes error → (error ≡ ReadError.Memory → ⊥) → IsNoObject part
 no_text part bytes ReadError.Memory d u some = absurd (some refl)
 no_text part bytes ReadError.NotJson d u some = nothing_inside part bytes d (λ ms. not_json bytes (object ms) u)
 no_text part bytes ReadError.NotWhole d u some = nothing_inside part bytes d (λ ms. not_whole bytes (object ms) u)

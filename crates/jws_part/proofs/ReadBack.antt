@@ -7,7 +7,7 @@ use Rattle.claim_tree.specs.Tree.{Text, Tree, object, no_members, depth, IsOrder
 use Rattle.claim_tree.specs.JsonText.{json_text}
 use Rattle.claim_tree.proofs.TreeTexts.{HasTexts, read_back}
 use Rattle.jws_part.specs.declared.header.Header.{Header}
-use Rattle.jws_part.specs.Header.{Says, IsHeader, has_crit, header_members}
+use Rattle.jws_part.specs.Header.{HeadersSay, IsHeader, has_crit, header_members}
 use Rattle.jws_part.specs.Part.{Carries}
 
 pub carried_back : (part : Text) (t : Tree) → part ≡ b64 (json_text t) → HasTexts t → IsRanged t → IsOrdered t → depth t ≤ 127 → Carries part t
@@ -20,7 +20,7 @@ carried_back part t is texts ranged ordered shallow =
 made : Text → Option Text → Option Text → Header
 made alg kid typ = record { alg = alg; kid = kid; typ = typ }
 
-says_back : (alg : Text) (kid typ : Option Text) → Says (header_members (made alg kid typ)) no_members (made alg kid typ)
+says_back : (alg : Text) (kid typ : Option Text) → HeadersSay (header_members (made alg kid typ)) no_members (made alg kid typ)
 unfolding made
 says_back alg None None = record { apart = refl; alg = refl; typ = refl; kid = refl }
 says_back alg None (Some typ) = record { apart = refl; alg = refl; typ = refl; kid = refl }

@@ -24,7 +24,7 @@ abbrev pub has_crit : Members → Members → Bool
 has_crit ms outer = has_name ms (codes "crit") || has_name outer (codes "crit")
 
 -- what the two headers say together: a text under each name that is there, the key in either of them
-pub record Says (ms outer : Members) (header : Header) : Type 0 where
+pub record HeadersSay (ms outer : Members) (header : Header) : Type 0 where
   pub apart : shares_name ms outer ≡ false
   pub alg : member_named ms (codes "alg") ≡ Some (text_tree header.alg)
   pub typ : member_named ms (codes "typ") ≡ option_map text_tree header.typ
@@ -34,15 +34,15 @@ pub record Says (ms outer : Members) (header : Header) : Type 0 where
 pub record IsHeader (protected : Text) (outer : Members) (header : Header) : Type 0 where
   pub members : Members
   pub carried : Carries protected (object members)
-  pub says : Says members outer header
+  pub says : HeadersSay members outer header
   pub plain : has_crit members outer ≡ false
 
 -- the headers are read, and want an extension to be understood
-pub record IsCritical (protected : Text) (outer : Members) : Type 0 where
+pub record IsHeaderCritical (protected : Text) (outer : Members) : Type 0 where
   pub members : Members
   pub header : Header
   pub carried : Carries protected (object members)
-  pub says : Says members outer header
+  pub says : HeadersSay members outer header
   pub crit : has_crit members outer ≡ true
 
 -- what stands under the name is no text
@@ -61,9 +61,9 @@ pub data SayNothing (ms outer : Members) : Type 0 where
   odd_outer_kid : IsNoText outer (codes "kid") → SayNothing ms outer
 
 -- why the headers are not read
-pub data IsUnreadable (protected : Text) (outer : Members) : Type 0 where
-  no_object : IsNoObject protected → IsUnreadable protected outer
-  nothing_said : (ms : Members) → Carries protected (object ms) → SayNothing ms outer → IsUnreadable protected outer
+pub data IsHeaderUnreadable (protected : Text) (outer : Members) : Type 0 where
+  no_object : IsNoObject protected → IsHeaderUnreadable protected outer
+  nothing_said : (ms : Members) → Carries protected (object ms) → SayNothing ms outer → IsHeaderUnreadable protected outer
 
 -- the text as a member, where it is some, and then these
 abbrev pub given : Text → Option Text → Members → Members
@@ -73,13 +73,3 @@ given name (Some s) ms = member name (text_tree s) ms
 -- the members that are written of a header
 abbrev pub header_members : Header → Members
 header_members h = member (codes "alg") (text_tree h.alg) (given (codes "kid") h.kid (given (codes "typ") h.typ no_members))
-
--- for private functions: the members, with the text put under the name, where it is some
-abbrev pub with_text : Members → Text → Option Text → Members
-with_text ms name None = ms
-with_text ms name (Some s) = inserted ms name (text_tree s)
-
--- for conversions: the answer for a header that is not read
-abbrev pub unread_header : BodyError → HeaderError
-unread_header BodyError.Memory = HeaderError.Memory
-unread_header BodyError.Unreadable = HeaderError.Unreadable

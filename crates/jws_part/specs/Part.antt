@@ -22,12 +22,3 @@ pub record IsBody (part : Text) (t : Tree) : Type 0 where
 -- the text carries no object
 abbrev pub IsNoObject : Text → Type 0
 IsNoObject part = (ms : Members) → Carries part (object ms) → ⊥
-
--- the answer for a text that is not decoded, or not read
-abbrev pub undecoded : DecodeError → BodyError
-undecoded DecodeError.Memory = BodyError.Memory
-undecoded DecodeError.NotBase64 = BodyError.Unreadable
-
-abbrev pub unread : ReadError → BodyError
-unread ReadError.Memory = BodyError.Memory
-unread _ = BodyError.Unreadable

@@ -31,9 +31,9 @@ impl From<NoMemory> for BodyError {
 }
 
 impl From<DecodeError> for BodyError {
-    ghost use Rattle.jws_part.specs.Part.{undecoded};
+    ghost use Rattle.jws_part.specs.BodySteps.{body_undecoded};
 
-    ghost from_gives = { λ error e. e ≡ undecoded error };
+    ghost from_gives = { λ error e. e ≡ body_undecoded error };
 
     fn from(error: DecodeError) -> Self {
         match error {
@@ -44,9 +44,9 @@ impl From<DecodeError> for BodyError {
 }
 
 impl From<ReadError> for BodyError {
-    ghost use Rattle.jws_part.specs.Part.{unread};
+    ghost use Rattle.jws_part.specs.BodySteps.{body_unread};
 
-    ghost from_gives = { λ error e. e ≡ unread error };
+    ghost from_gives = { λ error e. e ≡ body_unread error };
 
     fn from(error: ReadError) -> Self {
         match error {

@@ -4,7 +4,7 @@ ghost use Rattle.std.specs.Option.{option_copied};
 ghost use Rattle.b64url_text.specs.Base64url.{b64};
 ghost use Rattle.claim_tree.specs.Tree.{object, no_members};
 ghost use Rattle.claim_tree.specs.JsonText.{json_text};
-ghost use Rattle.jws_part.specs.Header.{Says, SayNothing, IsHeader, IsCritical, IsUnreadable, header_members};
+ghost use Rattle.jws_part.specs.Header.{HeadersSay, SayNothing, IsHeader, IsHeaderCritical, IsHeaderUnreadable, header_members};
 
 use crate::BodyError;
 use crate::body::{read_object, write_body};
@@ -36,7 +36,7 @@ pub enum HeaderError {
 }
 
 impl From<BodyError> for HeaderError {
-    ghost use Rattle.jws_part.specs.Header.{unread_header};
+    ghost use Rattle.jws_part.specs.HeaderSteps.{unread_header};
 
     ghost from_gives = { λ error e. e ≡ unread_header error };
 
@@ -68,7 +68,7 @@ fn copied_header(
 
 // What the protected members say, with the outer ones beside them.
 fn said(alloc: Global, members: &TreeMap, outer: &TreeMap) -> Result<Header, BodyError>
-    ensures ok { IfOk result (Says members.now outer.now) }
+    ensures ok { IfOk result (HeadersSay members.now outer.now) }
     ensures unreadable { IsErrOf result BodyError.Unreadable → SayNothing members.now outer.now }
 {
     if shares_name(members, outer) {
@@ -92,8 +92,8 @@ fn said(alloc: Global, members: &TreeMap, outer: &TreeMap) -> Result<Header, Bod
 /// `alg` and `typ` are those of the protected header, and `kid` is that of the protected or of the outer one.
 pub fn read_header(alloc: Global, protected: &str, outer: &TreeMap) -> Result<Header, HeaderError>
     ensures ok { IfOk result (IsHeader protected.now outer.now) }
-    ensures unreadable { IsErrOf result HeaderError.Unreadable → IsUnreadable protected.now outer.now }
-    ensures critical { IsErrOf result HeaderError.Critical → IsCritical protected.now outer.now }
+    ensures unreadable { IsErrOf result HeaderError.Unreadable → IsHeaderUnreadable protected.now outer.now }
+    ensures critical { IsErrOf result HeaderError.Critical → IsHeaderCritical protected.now outer.now }
 {
     let members = read_object(alloc, protected)?;
     let header = said(alloc, &members, outer)?;

@@ -3,18 +3,18 @@ ghost use Rattle.std.specs.Prelude.{◌≡◌, ℕ, List};
 ghost use Rattle.claim_tree.specs.Tree.{Tree, Members};
 ghost use Rattle.jws_part.specs.declared.header.Header.{Header};
 ghost use Rattle.jws_part.specs.Part.{IsBody, IsNoObject};
-ghost use Rattle.jws_part.specs.Header.{IsHeader, IsCritical, IsUnreadable};
+ghost use Rattle.jws_part.specs.Header.{IsHeader, IsHeaderCritical, IsHeaderUnreadable};
 
 /// A protected header, with an outer one, is read as one header, is critical or is unreadable, and never two of these.
 pub fn one_header()
     ensures one { (protected : List ℕ) (outer : Members) (header other : Header) →
         IsHeader protected outer header → IsHeader protected outer other → header ≡ other }
     ensures readable { (protected : List ℕ) (outer : Members) (header : Header) →
-        IsHeader protected outer header → IsUnreadable protected outer → ⊥ }
+        IsHeader protected outer header → IsHeaderUnreadable protected outer → ⊥ }
     ensures plain { (protected : List ℕ) (outer : Members) (header : Header) →
-        IsHeader protected outer header → IsCritical protected outer → ⊥ }
+        IsHeader protected outer header → IsHeaderCritical protected outer → ⊥ }
     ensures critical { (protected : List ℕ) (outer : Members) →
-        IsCritical protected outer → IsUnreadable protected outer → ⊥ }
+        IsHeaderCritical protected outer → IsHeaderUnreadable protected outer → ⊥ }
 {}
 
 /// A payload carries one object, or none.

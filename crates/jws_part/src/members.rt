@@ -2,7 +2,8 @@
 ghost use Rattle.std.specs.Prelude.{◌≡◌, IfOk, IfErr, OnOk, option_map};
 ghost use Rattle.std.specs.Option.{option_copied};
 ghost use Rattle.claim_tree.specs.Tree.{member_named};
-ghost use Rattle.jws_part.specs.Header.{text_tree, has_name as name_test, has_crit as crit_test, shares_name as sharing, IsNoText, with_text};
+ghost use Rattle.jws_part.specs.Header.{text_tree, has_name as name_test, has_crit as crit_test, shares_name as sharing, IsNoText};
+ghost use Rattle.jws_part.specs.HeaderSteps.{with_text};
 
 use crate::BodyError;
 use claim_tree::{Tree, TreeMap};

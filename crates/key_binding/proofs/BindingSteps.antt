@@ -4,7 +4,8 @@ use Rattle.claim_tree.specs.Tree.{Text, Tree, leaf, whole, no_members}
 use Rattle.compact_form.specs.declared.fault.Place.{Place}
 use Rattle.compact_form.specs.declared.fault.Place.TheVariants.{Nowhere}
 use Rattle.compact_form.specs.Condition.{Condition, number_of, too_long, form, too_much, binding_missing, header_unreadable, header_critical, alg_refused, type_refused, issuer_key_unknown, bad_signature, payload_unreadable, hash_unknown, disclosure_unreadable, repeated_disclosure, reserved_misused, repeated_digest, unreferenced_disclosure, wrong_shape, reserved_name, name_clash, too_deep, issuer_refused, claim_missing, time_unreadable, expired, not_yet, holder_key_unknown, binding_header, binding_alg, binding_signature, binding_type, binding_payload, binding_stale, binding_early, nonce_differs, audience_differs, hash_differs, binding_time}
-use Rattle.compact_form.specs.Lowest.{unplaced, IsLowest, NoneFails, Passes}
+use Rattle.compact_form.specs.Lowest.{IsLowest, NoneFails}
+use Rattle.compact_form.specs.Passing.{unplaced, Passes}
 use Rattle.compact_form.proofs.Lowest.{holds_too, none_fails, refuse_unplaced}
 use Rattle.disclosure.specs.Digest.{digest_of}
 use Rattle.hmac_sign.specs.Hmac.{IsGoodText}
@@ -14,7 +15,7 @@ use Rattle.jws_part.specs.Part.{IsBody, IsNoObject}
 use Rattle.jws_part.proofs.Headers as headers
 use Rattle.jws_part.proofs.Parts as bodies
 use Rattle.key_binding.specs.Binding.{Claims}
-use Rattle.key_binding.specs.Judged.{Judged, holder_key, HasHeader, HasClaims, Says}
+use Rattle.key_binding.specs.Judged.{Judged, holder_key, HasBindingHeader, HasClaims, PayloadSays}
 use Rattle.key_binding.specs.BindingConditions.{BindingFails, OfClaims, IsStale, IsEarly, IsTimeRefused}
 
 -- each has a number from 27 to 38
@@ -107,7 +108,7 @@ same_text found a b e f = let both : Some (text_tree a) ≡ Some (text_tree b) =
 abbrev said : Text → ℤ → Text → Text → Claims
 said aud iat nonce sd_hash = record { aud = aud; iat = iat; nonce = nonce; sd_hash = sd_hash }
 
-same_claims : (body : Tree) (a b : Claims) → Says body a → Says body b → a ≡ b
+same_claims : (body : Tree) (a b : Claims) → PayloadSays body a → PayloadSays body b → a ≡ b
 same_claims body a b s t =
     let auds : a.aud ≡ b.aud = same_text _ a.aud b.aud s.aud t.aud in
     let moments : Some (leaf (whole a.iat)) ≡ Some (leaf (whole b.iat)) = sym s.iat ∙ t.iat in
@@ -121,11 +122,11 @@ module _ (j : Judged) where
   one_body : (a b : Tree) → IsBody j.token.payload a → IsBody j.token.payload b → a ≡ b
   one_body a b = bodies.one_body j.token.payload a b
 
-  one_header : (a b : Header) → HasHeader j.token a → HasHeader j.token b → a ≡ b
+  one_header : (a b : Header) → HasBindingHeader j.token a → HasBindingHeader j.token b → a ≡ b
   one_header a b = headers.one_header j.token.protected no_members a b
 
   one_claims : (a b : Claims) → HasClaims j.token a → HasClaims j.token b → a ≡ b
-  one_claims a b s t = same_claims t.body a b (subst (λ body. Says body a) (one_body s.body t.body s.is_body t.is_body) s.says) t.says
+  one_claims a b s t = same_claims t.body a b (subst (λ body. PayloadSays body a) (one_body s.body t.body s.is_body t.is_body) s.says) t.says
 
   -- a condition without a place is the lowest that fails
   pub refuse : (d : Condition) → Passes (number_of d) (BindingFails j) → BindingFails j d Nowhere → IsLowest (BindingFails j) (unplaced (number_of d))
@@ -139,14 +140,14 @@ module _ (j : Judged) where
   pub at28 : (key : List ℕ) → holder_key j.policy.keys j.payload ≡ Some key → Passes 28 (BindingFails j)
   at28 key is = holds_too (BindingFails j) holder_key_unknown start (λ place w. let both : Some key ≡ None = sym is ∙ w.1 in cc both)
 
-  no_refusal : (h : Header) → HasHeader j.token h → (place : Place) → BindingFails j binding_header place → ⊥
+  no_refusal : (h : Header) → HasBindingHeader j.token h → (place : Place) → BindingFails j binding_header place → ⊥
   no_refusal h has place (is, inl w) = headers.read_not_unreadable j.token.protected no_members h has w
   no_refusal h has place (is, inr w) = headers.read_not_critical j.token.protected no_members h has w
 
-  pub at29 : Passes 28 (BindingFails j) → (h : Header) → HasHeader j.token h → Passes 29 (BindingFails j)
+  pub at29 : Passes 28 (BindingFails j) → (h : Header) → HasBindingHeader j.token h → Passes 29 (BindingFails j)
   at29 passes h has = holds_too (BindingFails j) binding_header passes (no_refusal h has)
 
-  pub at30 : Passes 29 (BindingFails j) → (h : Header) → HasHeader j.token h → h.alg ≡ codes "HS256" → Passes 30 (BindingFails j)
+  pub at30 : Passes 29 (BindingFails j) → (h : Header) → HasBindingHeader j.token h → h.alg ≡ codes "HS256" → Passes 30 (BindingFails j)
   at30 passes h has alg = holds_too (BindingFails j) binding_alg passes (λ place (is, (k, other, differs)). differs (subst (λ (x : Header). x.alg ≡ codes "HS256") (one_header h k has other) alg))
 
   pub at31 : Passes 30 (BindingFails j) → (key : List ℕ) → holder_key j.policy.keys j.payload ≡ Some key → IsGoodText key j.token.protected j.token.payload j.token.signature → Passes 31 (BindingFails j)
@@ -158,7 +159,7 @@ module _ (j : Judged) where
           let same : other ≡ key = cc both in
           bad (subst (λ x. IsGoodText x j.token.protected j.token.payload j.token.signature) (sym same) good)
 
-  pub at32 : Passes 31 (BindingFails j) → (h : Header) → HasHeader j.token h → h.typ ≡ Some (codes "kb+jwt") → Passes 32 (BindingFails j)
+  pub at32 : Passes 31 (BindingFails j) → (h : Header) → HasBindingHeader j.token h → h.typ ≡ Some (codes "kb+jwt") → Passes 32 (BindingFails j)
   at32 passes h has typ = holds_too (BindingFails j) binding_type passes (λ place (is, (k, other, differs)). differs (subst (λ (x : Header). x.typ ≡ Some (codes "kb+jwt")) (one_header h k has other) typ))
 
   pub at33 : Passes 32 (BindingFails j) → (claims : Claims) → HasClaims j.token claims → Passes 33 (BindingFails j)
@@ -194,5 +195,5 @@ module _ (j : Judged) where
   pub refuse_unread : Passes 32 (BindingFails j) → IsNoObject j.token.payload → IsLowest (BindingFails j) (unplaced 32)
   refuse_unread passes none = refuse binding_payload passes (refl, λ claims has. bodies.not_both j.token.payload has.body has.is_body none)
 
-  pub refuse_unsaid : Passes 32 (BindingFails j) → (body : Tree) → IsBody j.token.payload body → ((claims : Claims) → Says body claims → ⊥) → IsLowest (BindingFails j) (unplaced 32)
-  refuse_unsaid passes body is_body none = refuse binding_payload passes (refl, λ claims has. none claims (subst (λ b. Says b claims) (one_body has.body body has.is_body is_body) has.says))
+  pub refuse_unsaid : Passes 32 (BindingFails j) → (body : Tree) → IsBody j.token.payload body → ((claims : Claims) → PayloadSays body claims → ⊥) → IsLowest (BindingFails j) (unplaced 32)
+  refuse_unsaid passes body is_body none = refuse binding_payload passes (refl, λ claims has. none claims (subst (λ b. PayloadSays b claims) (one_body has.body body has.is_body is_body) has.says))

@@ -8,28 +8,28 @@ use Rattle.compact_form.specs.declared.fault.Place.{Place}
 use Rattle.disclosure.specs.Digest.{digest_of}
 use Rattle.hmac_sign.specs.Hmac.{IsGoodText}
 use Rattle.jws_part.specs.declared.header.Header.{Header}
-use Rattle.jws_part.specs.Header.{IsUnreadable, IsCritical}
+use Rattle.jws_part.specs.Header.{IsHeaderUnreadable, IsHeaderCritical}
 use Rattle.jws_part.specs.Part.{IsBody}
 use Rattle.jws_part.specs.Times.{IsTimeUnreadable, IsExpired, IsNotYet}
 use Rattle.key_binding.specs.Binding.{Claims}
-use Rattle.key_binding.specs.Judged.{Judged, holder_key, HasHeader, HasClaims}
+use Rattle.key_binding.specs.Judged.{Judged, holder_key, HasBindingHeader, HasClaims}
 use Rattle.key_binding.specs.declared.errors.BindingError.{BindingError}
 
 -- the header is not read, or wants an extension to be understood
 abbrev pub IsHeaderRefused : Judged → Type 0
-IsHeaderRefused j = IsUnreadable j.token.protected no_members ⊎ IsCritical j.token.protected no_members
+IsHeaderRefused j = IsHeaderUnreadable j.token.protected no_members ⊎ IsHeaderCritical j.token.protected no_members
 
 -- the header is read, and this is not so of it
 abbrev pub OfHeader : Judged → (Header → Type 0) → Type 0
-OfHeader j P = (header : Header) × HasHeader j.token header × P header
+OfHeader j P = (header : Header) × HasBindingHeader j.token header × P header
 
 -- the claims are read, and this is so of them
 abbrev pub OfClaims : Judged → (Claims → Type 0) → Type 0
 OfClaims j P = (claims : Claims) × HasClaims j.token claims × P claims
 
 -- the signature is not good under the holder's key
-abbrev pub IsBadSignature : Judged → Type 0
-IsBadSignature j = (key : List ℕ) × (holder_key j.policy.keys j.payload ≡ Some key) × (IsGoodText key j.token.protected j.token.payload j.token.signature → ⊥)
+abbrev pub IsBadBindingSignature : Judged → Type 0
+IsBadBindingSignature j = (key : List ℕ) × (holder_key j.policy.keys j.payload ≡ Some key) × (IsGoodText key j.token.protected j.token.payload j.token.signature → ⊥)
 
 -- it was made too long ago; sums have no limit
 abbrev pub IsStale : ℤ → ℕ → ℕ → ℕ → Type 0
@@ -48,7 +48,7 @@ abbrev pub BindingFails : Judged → Condition → Place → Type 0
 BindingFails j condition.holder_key_unknown place = Unplaced (holder_key j.policy.keys j.payload ≡ None) place
 BindingFails j condition.binding_header place = Unplaced (IsHeaderRefused j) place
 BindingFails j condition.binding_alg place = Unplaced (OfHeader j (λ header. header.alg ≢ codes "HS256")) place
-BindingFails j condition.binding_signature place = Unplaced (IsBadSignature j) place
+BindingFails j condition.binding_signature place = Unplaced (IsBadBindingSignature j) place
 BindingFails j condition.binding_type place = Unplaced (OfHeader j (λ header. header.typ ≢ Some (codes "kb+jwt"))) place
 BindingFails j condition.binding_payload place = Unplaced ((claims : Claims) → HasClaims j.token claims → ⊥) place
 BindingFails j condition.binding_stale place = Unplaced (OfClaims j (λ claims. IsStale claims.iat j.policy.max_age j.skew j.now)) place
@@ -58,8 +58,3 @@ BindingFails j condition.audience_differs place = Unplaced (OfClaims j (λ claim
 BindingFails j condition.hash_differs place = Unplaced (OfClaims j (λ claims. claims.sd_hash ≢ digest_of j.hash j.hashed)) place
 BindingFails j condition.binding_time place = Unplaced ((body : Tree) × IsBody j.token.payload body × IsTimeRefused body j.skew j.now) place
 BindingFails j _ place = ⊥
-
--- the fault that is answered, where memory did not end
-abbrev pub OnFault : BindingError → (ℕ → Type 0) → Type 0
-OnFault BindingError.Memory P = Unit {0}
-OnFault (BindingError.Fault number) P = P number

@@ -32,9 +32,6 @@ pub record Judged : Type 0 where
 abbrev pub judged : JwtParts → Tree → BindingPolicy → ℕ → HashAlg → Text → ℕ → Judged
 judged token payload policy skew hash hashed now = record { token = token; payload = payload; policy = policy; skew = skew; hash = hash; hashed = hashed; now = now }
 
-abbrev pub judged_of : Bound → Judged
-judged_of b = judged (jwt_of b.token) (tree_of b.payload.now) b.policy.now b.skew b.hash b.hashed.now b.now
-
 -- the name of the holder's key: the text `kid` of the object `cnf` (RFC 7800 section 3.4)
 abbrev pub holder_kid : Tree → Option Text
 holder_kid payload = option_and_then (λ cnf. text_under cnf (codes "kid")) (get payload (codes "cnf"))
@@ -44,11 +41,11 @@ abbrev pub holder_key : List NamedKey → Tree → Option (List ℕ)
 holder_key keys payload = option_and_then (key_named keys) (holder_kid payload)
 
 -- the header is read, and says this; there is no unprotected one
-abbrev pub HasHeader : JwtParts → Header → Type 0
-HasHeader token header = IsHeader token.protected no_members header
+abbrev pub HasBindingHeader : JwtParts → Header → Type 0
+HasBindingHeader token header = IsHeader token.protected no_members header
 
 -- the payload says this, whatever else it says
-pub record Says (body : Tree) (claims : Claims) : Type 0 where
+pub record PayloadSays (body : Tree) (claims : Claims) : Type 0 where
   pub aud : get body (codes "aud") ≡ Some (text_tree claims.aud)
   pub iat : IsMoment body (codes "iat") claims.iat
   pub nonce : get body (codes "nonce") ≡ Some (text_tree claims.nonce)
@@ -58,4 +55,4 @@ pub record Says (body : Tree) (claims : Claims) : Type 0 where
 pub record HasClaims (token : JwtParts) (claims : Claims) : Type 0 where
   pub body : Tree
   pub is_body : IsBody token.payload body
-  pub says : Says body claims
+  pub says : PayloadSays body claims

@@ -5,3 +5,5 @@ pub mod Unsigned
 pub mod SignatureText
 pub mod Read
 pub mod ShortText
+pub mod JudgedSteps
+pub mod BindingCalls

@@ -2,6 +2,6 @@
 use Rattle.hmac_sign.specs.declared.sign.SignError.{SignError}
 use Rattle.key_binding.specs.declared.errors.BindError.{BindError}
 
-abbrev pub unsigned : SignError → BindError
-unsigned SignError.Memory = BindError.Memory
-unsigned SignError.Failed = BindError.SignFailed
+abbrev pub bind_unsigned : SignError → BindError
+bind_unsigned SignError.Memory = BindError.Memory
+bind_unsigned SignError.Failed = BindError.SignFailed

@@ -23,9 +23,9 @@ impl From<NoMemory> for BindError {
 }
 
 impl From<SignError> for BindError {
-    ghost use Rattle.key_binding.specs.Unsigned.{unsigned};
+    ghost use Rattle.key_binding.specs.Unsigned.{bind_unsigned};
 
-    ghost from_gives = { λ error e. e ≡ unsigned error };
+    ghost from_gives = { λ error e. e ≡ bind_unsigned error };
 
     fn from(error: SignError) -> Self {
         match error {

@@ -3,12 +3,15 @@ ghost use Rattle.std.specs.Prelude.{◌≡◌, ◌≢◌, ◌↔◌, ◌⊎◌, 
 ghost use Rattle.std.specs.Option.{option_copied};
 ghost use Rattle.claim_tree.specs.Tree.{InRange, IsRanged, no_members};
 ghost use Rattle.claim_tree.specs.View.{tree_of};
-ghost use Rattle.compact_form.specs.Lowest.{IsLowest, NoneFails, Passes, unplaced};
+ghost use Rattle.compact_form.specs.Lowest.{IsLowest, NoneFails};
+ghost use Rattle.compact_form.specs.Passing.{Passes, unplaced};
 ghost use Rattle.disclosure.specs.Digest.{digest_of};
-ghost use Rattle.jws_part.specs.Header.{IsHeader, IsUnreadable, IsCritical};
+ghost use Rattle.jws_part.specs.Header.{IsHeader, IsHeaderUnreadable, IsHeaderCritical};
 ghost use Rattle.jws_part.specs.Part.{IsBody};
-ghost use Rattle.key_binding.specs.Judged.{Judged, judged, judged_of, holder_key as holder_key_of, HasHeader, HasClaims};
-ghost use Rattle.key_binding.specs.BindingConditions.{BindingFails, OnFault, IsStale, IsEarly, IsTimeRefused};
+ghost use Rattle.key_binding.specs.Judged.{Judged, judged, holder_key as holder_key_of, HasBindingHeader, HasClaims};
+ghost use Rattle.key_binding.specs.JudgedSteps.{judged_of};
+ghost use Rattle.key_binding.specs.BindingConditions.{BindingFails, IsStale, IsEarly, IsTimeRefused};
+ghost use Rattle.key_binding.specs.BindingCalls.{OnBindingFault};
 ghost use Rattle.key_binding.specs.Read.{claims_of};
 
 use crate::holder::holder_key;
@@ -64,7 +67,7 @@ pub fn check_binding(
     now: u64,
 ) -> Result<(), BindingError>
     ensures passes { OnOk result (NoneFails (BindingFails (judged token.now (tree_of payload.now) policy.now skew hash hashed.now now))) }
-    ensures refused { IfErr result (λ e. OnFault e (λ number. IsLowest (BindingFails (judged token.now (tree_of payload.now) policy.now skew hash hashed.now now)) (unplaced number))) }
+    ensures refused { IfErr result (λ e. OnBindingFault e (λ number. IsLowest (BindingFails (judged token.now (tree_of payload.now) policy.now skew hash hashed.now now)) (unplaced number))) }
 {
     let bound = Bound {
         token: token.view(),
@@ -81,7 +84,7 @@ pub fn check_binding(
 /// The same of borrowed texts, with no copy.
 pub fn check_bound(alloc: Global, bound: Bound<'_>) -> Result<(), BindingError>
     ensures passes { OnOk result (NoneFails (BindingFails (judged_of bound.entry))) }
-    ensures refused { IfErr result (λ e. OnFault e (λ number. IsLowest (BindingFails (judged_of bound.entry)) (unplaced number))) }
+    ensures refused { IfErr result (λ e. OnBindingFault e (λ number. IsLowest (BindingFails (judged_of bound.entry)) (unplaced number))) }
 {
     let Some(key) = holder_key(&bound.policy.keys, bound.payload) else {
         return Err(BindingError::Fault(HOLDER_KEY_UNKNOWN));
@@ -104,8 +107,8 @@ fn is_binding_type(typ: Option<&TextBox>) -> bool
 // The header of the token. There is no unprotected one.
 fn header_of(alloc: Global, protected: &str) -> Result<Header, HeaderError>
     ensures ok { IfOk result (IsHeader protected.now no_members) }
-    ensures unreadable { IsErrOf result HeaderError.Unreadable → IsUnreadable protected.now no_members }
-    ensures critical { IsErrOf result HeaderError.Critical → IsCritical protected.now no_members }
+    ensures unreadable { IsErrOf result HeaderError.Unreadable → IsHeaderUnreadable protected.now no_members }
+    ensures critical { IsErrOf result HeaderError.Critical → IsHeaderCritical protected.now no_members }
 {
     read_header(alloc, protected, &TreeMap::new(alloc))
 }
@@ -114,7 +117,7 @@ fn header_of(alloc: Global, protected: &str) -> Result<Header, HeaderError>
 fn check_signed(alloc: Global, bound: Bound<'_>, key: &Hs256Key) -> Result<(), BindingError>
     requires key { holder_key_of bound.policy.now.keys (tree_of bound.payload.now) ≡ Some key.now }
     ensures ok { OnOk result (Passes 32 (BindingFails (judged_of bound.entry))) }
-    ensures refused { IfErr result (λ e. OnFault e (λ number. IsLowest (BindingFails (judged_of bound.entry)) (unplaced number))) }
+    ensures refused { IfErr result (λ e. OnBindingFault e (λ number. IsLowest (BindingFails (judged_of bound.entry)) (unplaced number))) }
 {
     match header_of(alloc, bound.token.protected) {
         Ok(header) => check_header(alloc, bound, key, &header),
@@ -132,9 +135,9 @@ fn check_header(
     header: &Header,
 ) -> Result<(), BindingError>
     requires key { holder_key_of bound.policy.now.keys (tree_of bound.payload.now) ≡ Some key.now }
-    requires read { HasHeader (judged_of bound).token header.now }
+    requires read { HasBindingHeader (judged_of bound).token header.now }
     ensures ok { OnOk result (Passes 32 (BindingFails (judged_of bound.entry))) }
-    ensures refused { IfErr result (λ e. OnFault e (λ number. IsLowest (BindingFails (judged_of bound.entry)) (unplaced number))) }
+    ensures refused { IfErr result (λ e. OnBindingFault e (λ number. IsLowest (BindingFails (judged_of bound.entry)) (unplaced number))) }
 {
     if header.alg.as_str() != "HS256" {
         return Err(BindingError::Fault(BINDING_ALG));
@@ -161,7 +164,7 @@ fn check_header(
 fn check_payload(alloc: Global, bound: Bound<'_>) -> Result<(), BindingError>
     requires below { Passes 32 (BindingFails (judged_of bound)) }
     ensures passes { OnOk result (NoneFails (BindingFails (judged_of bound.entry))) }
-    ensures refused { IfErr result (λ e. OnFault e (λ number. IsLowest (BindingFails (judged_of bound.entry)) (unplaced number))) }
+    ensures refused { IfErr result (λ e. OnBindingFault e (λ number. IsLowest (BindingFails (judged_of bound.entry)) (unplaced number))) }
 {
     match read_body(alloc, bound.token.payload) {
         Ok(body) => check_body(alloc, bound, &body),
@@ -176,7 +179,7 @@ fn check_body(alloc: Global, bound: Bound<'_>, body: &Tree) -> Result<(), Bindin
     requires read { IsBody (judged_of bound).token.payload (tree_of body.now) }
     requires ranged { IsRanged (tree_of body.now) }
     ensures passes { OnOk result (NoneFails (BindingFails (judged_of bound.entry))) }
-    ensures refused { IfErr result (λ e. OnFault e (λ number. IsLowest (BindingFails (judged_of bound.entry)) (unplaced number))) }
+    ensures refused { IfErr result (λ e. OnBindingFault e (λ number. IsLowest (BindingFails (judged_of bound.entry)) (unplaced number))) }
 {
     let Some(claims) = read_claims(body) else {
         return Err(BindingError::Fault(BINDING_PAYLOAD));

@@ -1,7 +1,8 @@
 //! What the definitions of both ends say together. Each law holds for every value.
 ghost use Rattle.std.specs.Prelude.{◌≡◌, ◌<◌, ◌≤◌, ◌^◌, ◌+◌, ℕ, List, Some, length};
 ghost use Rattle.compact_form.specs.Compact.{jwt};
-ghost use Rattle.compact_form.specs.Lowest.{IsLowest, NoneFails, unplaced};
+ghost use Rattle.compact_form.specs.Lowest.{IsLowest, NoneFails};
+ghost use Rattle.compact_form.specs.Passing.{unplaced};
 ghost use Rattle.compact_form.specs.declared.parts.JwtParts.{JwtParts};
 ghost use Rattle.disclosure.specs.declared.digests.HashAlg.{HashAlg};
 ghost use Rattle.hmac_sign.specs.Hmac.{IsGood};

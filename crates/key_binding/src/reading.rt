@@ -4,7 +4,7 @@ ghost use Rattle.claim_tree.specs.Tree.{Text, InRange, IsRanged, get as get_of};
 ghost use Rattle.claim_tree.specs.View.{tree_of};
 ghost use Rattle.jws_part.specs.Header.{text_tree};
 ghost use Rattle.key_binding.specs.Binding.{Claims as SaidClaims};
-ghost use Rattle.key_binding.specs.Judged.{Says};
+ghost use Rattle.key_binding.specs.Judged.{PayloadSays};
 ghost use Rattle.key_binding.specs.Read.{claims_of};
 
 use claim_tree::{Tree, get};
@@ -33,9 +33,9 @@ fn text_claim<'a>(body: &'a Tree, name: &str) -> Option<&'a str>
 // The claims of a payload, where each is there and of its kind.
 pub(crate) fn read_claims(body: &Tree) -> Option<Claims<'_>>
     requires { IsRanged (tree_of body.now) }
-    ensures some { IfSome result (λ claims. Says (tree_of body.now) (claims_of claims)) }
+    ensures some { IfSome result (λ claims. PayloadSays (tree_of body.now) (claims_of claims)) }
     ensures ranged { IfSome result (λ claims. InRange claims.iat) }
-    ensures none { IfNone result ((claims : SaidClaims) → Says (tree_of body.now) claims → ⊥) }
+    ensures none { IfNone result ((claims : SaidClaims) → PayloadSays (tree_of body.now) claims → ⊥) }
 {
     Some(Claims {
         aud: text_claim(body, "aud")?,

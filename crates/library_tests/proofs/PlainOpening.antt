@@ -2,14 +2,17 @@
 use Rattle.std.proofs.Common.{◌≡◌, ℕ, zero, suc, ◌+◌, ◌-◌, ◌*◌, ◌<◌, ◌≤◌, List, [], ◌∷◌, map, length, get_or, drop, true, false, cond, Option, Some, None, IsSome, sym, ap, ap₂, ◌∙◌, subst, arith}
 use Rattle.std.specs.Prelude.{bytes_eq}
 use Rattle.std.proofs.lemmas.List.{at_drop_more}
-use Rattle.claim_tree.specs.Tree.{Text, Tree, Elements, no_elements, element, Members, no_members, member, names, nodes, MembersOrdered}
-use Rattle.claim_tree.specs.Lists.{At}
+use Rattle.claim_tree.specs.Tree.{Text, Tree, Elements, no_elements, element, Members, no_members, member, names, MembersOrdered}
+use Rattle.claim_tree.specs.Nodes.{nodes}
+use Rattle.claim_tree.specs.Lists.{StandsAt}
 use Rattle.claim_tree.proofs.Lists.{At-below}
 use Rattle.digest_sites.specs.Reserved.{sd_name, element_digest, texts_of, texts_or_none}
-use Rattle.digest_sites.specs.Given.{Given, given_of}
+use Rattle.digest_sites.specs.Given.{Given}
+use Rattle.digest_sites.specs.GivenView.{given_of}
 use Rattle.digest_sites.specs.declared.given.Given.{Given as GivenCode}
-use Rattle.marked_tree.specs.Marked.{Marked, MarkedElements, marked_element, marked_pushed, MarkedMembers, marked_member, put}
-use Rattle.rebuild_core.specs.Given.{find_from, find}
+use Rattle.marked_tree.specs.Marked.{Marked, MarkedElements, marked_element, MarkedMembers, marked_member, put}
+use Rattle.marked_tree.specs.MarkedCalls.{marked_pushed}
+use Rattle.rebuild_core.specs.Reached.{find_from, find}
 use Rattle.rebuild_core.specs.Opening.{Shown, shown, reveal, opened, open_tree, open_element, open_elements, open_members, show_element, show_members}
 use Rattle.rebuild_core.specs.Whole.{joined, members_joined}
 use Rattle.rebuild_core.proofs.Found.{found}
@@ -23,7 +26,7 @@ use Rattle.rebuild_core.proofs.MapOpening.{AllBefore, put_last, before_put, befo
 abbrev pub worth : List Given → ℕ
 worth g = suc (2 * sum_of (λ x. nodes x.value) g)
 
-value_nodes : (g : List Given) (k : ℕ) (x : Given) → At g k x → nodes x.value ≤ sum_of (λ y. nodes y.value) g
+value_nodes : (g : List Given) (k : ℕ) (x : Given) → StandsAt g k x → nodes x.value ≤ sum_of (λ y. nodes y.value) g
 value_nodes (y ∷ g) zero x a = omega (arith, ap (λ (z : Given). nodes z.value) a)
 value_nodes (y ∷ g) (suc k) x a = omega (arith, value_nodes g k x a)
 value_nodes [] k x a = elim a [ ]

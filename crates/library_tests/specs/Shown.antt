@@ -3,9 +3,9 @@ use Rattle.std.specs.Prelude.{ℕ, Option, Some, None}
 use Rattle.claim_tree.specs.Tree.{Text}
 use Rattle.marked_tree.specs.View.{marked_of}
 use Rattle.marked_tree.specs.declared.marked.Marked.{Marked}
-use Rattle.rebuild_core.specs.Opening.{Shown, hidden, shown}
+use Rattle.rebuild_core.specs.Opening.{Shown, nothing_shown, shown}
 
 -- a disclosure by its number, its name or none, and its opened value
 abbrev pub shown_of : Option (ℕ × Option Text × Marked) → Shown
-shown_of None = hidden
+shown_of None = nothing_shown
 shown_of (Some r) = shown r.0 r.1 (marked_of r.2)

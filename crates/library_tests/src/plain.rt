@@ -2,10 +2,10 @@
 ghost use Rattle.std.specs.Prelude.{◌≡◌, ◌^◌, ◌<◌, length, IfOk, OnOk, option_map};
 ghost use Rattle.claim_tree.specs.View.{tree_of};
 ghost use Rattle.digest_sites.specs.Reserved.{sd_texts};
-ghost use Rattle.digest_sites.specs.Given.{given_of};
+ghost use Rattle.digest_sites.specs.GivenView.{given_of};
 ghost use Rattle.marked_tree.specs.Marked.{MarkedElements};
 ghost use Rattle.marked_tree.specs.View.{marked_of};
-ghost use Rattle.rebuild_core.specs.Given.{find as find_in};
+ghost use Rattle.rebuild_core.specs.Reached.{find as find_in};
 ghost use Rattle.rebuild_core.specs.Opening.{reveal as reveal_by, opened, open_elements, open_members, show_element, show_member, show_members};
 ghost use Rattle.rebuild_core.specs.Whole.{joined};
 ghost use Rattle.library_tests.specs.Shown.{shown_of};

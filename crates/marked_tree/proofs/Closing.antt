@@ -2,9 +2,10 @@
 use Rattle.std.proofs.Common.{◌≡◌, ℕ, zero, suc, ◌+◌, List, [], ◌∷◌, ◌++◌, map, length, Bool, true, false, inl, ⊎_elim, Some, refl, sym, ap, ◌∙◌, arith, decimal}
 use Rattle.std.proofs.lemmas.List.{length-append, length-map}
 use Rattle.claim_tree.specs.Tree.{Text, Tree, leaf, array, object, Elements, no_elements, element, Members, no_members, member}
-use Rattle.marked_tree.specs.Marked.{Marked, only}
-use Rattle.claim_tree.specs.Lists.{At, In}
-use Rattle.marked_tree.specs.Places.{Path, Spot, inside, own_spot, spots, elements_spots, members_spots, below, one_if, hidden_in, hidden_elements, hidden_members, mark_if, mark_from, mark_elements, mark_members, is_among, mark, hidden_count, own_path, closing, closing_elements, closing_members}
+use Rattle.marked_tree.specs.Marked.{Marked}
+use Rattle.marked_tree.specs.Ways.{only, own_path, closing, closing_elements, closing_members}
+use Rattle.claim_tree.specs.Lists.{StandsAt, In}
+use Rattle.marked_tree.specs.Paths.{Path, Spot, inside, own_spot, spots, elements_spots, members_spots, below, one_if, hidden_in, hidden_elements, hidden_members, mark_if, mark_from, mark_elements, mark_members, is_among, mark, hidden_count}
 use Rattle.marked_tree.specs.Laws.{MarksClose}
 use Rattle.claim_tree.proofs.Lists.{In-left, In-right, In-map, At-of_map, At-either}
 use Rattle.marked_tree.proofs.MarkFacts.{marks_once_holds, up_to_le}
@@ -51,7 +52,7 @@ mutual
       )
 
 abbrev Closes : ℕ → List Path → List Spot → Type 0
-Closes n cs ss = (j : ℕ) (q : Path) → At cs j q → (s : Spot) × In s ss × (s.mark ≡ n + j) × (s.at ≡ q)
+Closes n cs ss = (j : ℕ) (q : Path) → StandsAt cs j q → (s : Spot) × In s ss × (s.mark ≡ n + j) × (s.at ≡ q)
 
 own_closes : (b : Bool) (k : Text) (n : ℕ) (rest : List Spot) → Closes n (own_path b k) (own_spot k (mark_if b n) ++ rest)
 own_closes true k n rest zero q a = (record { mark = n; at = k ∷ []; above = [] }, inl refl, omega arith, sym a)

@@ -14,7 +14,7 @@ use Rattle.std.proofs.lemmas.Map.Text.{is_eq-slice_cmp}
 use Rattle.claim_tree.specs.Tree.{Text}
 use Rattle.claim_tree.proofs.Lists.{bytes_same, bytes_refl, and_split, and_join}
 use Rattle.claim_tree.proofs.MapPlaces.{cmp}
-use Rattle.marked_tree.specs.Places.{Path, same_path, is_among}
+use Rattle.marked_tree.specs.Paths.{Path, same_path, is_among}
 use Rattle.marked_tree.specs.Rests.{path_order, AfterNone, AreSorted}
 use Rattle.marked_tree.proofs.PathOrder.{paths_total, lower_path, not_greater}
 

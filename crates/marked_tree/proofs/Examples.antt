@@ -2,9 +2,10 @@
 use Rattle.std.proofs.Common.{◌≡◌, List, [], ◌∷◌, Some, None, true, false, codes, pos, refl}
 use Rattle.std.specs.Fmt.{digits}
 use Rattle.claim_tree.specs.Tree.{Leaf, Tree, leaf, whole, array, object, no_elements, element, no_members, member}
-use Rattle.marked_tree.specs.Marked.{Marked, MarkedMembers, marked_leaf, marked_array, marked_object, no_marked_elements, marked_element, no_marked_members, marked_member, put, marked_inserted, prune, ranked, ways}
-use Rattle.marked_tree.specs.Places.{Path, mark, hidden_count, closing, is_among, place}
-use Rattle.marked_tree.specs.Choice.{chosen}
+use Rattle.marked_tree.specs.Marked.{Marked, MarkedMembers, marked_leaf, marked_array, marked_object, no_marked_elements, marked_element, no_marked_members, marked_member, put, prune}
+use Rattle.marked_tree.specs.Ways.{ranked, ways, closing}
+use Rattle.marked_tree.specs.MarkedCalls.{marked_inserted}
+use Rattle.marked_tree.specs.Paths.{Path, mark, hidden_count, is_among, mark_path, chosen}
 use Rattle.marked_tree.specs.Numbers.{has}
 
 abbrev one : Leaf
@@ -36,11 +37,11 @@ in_order : closing (is_among hide) claims ≡ (codes "a" ∷ codes "b" ∷ []) �
 unfolding digits
 in_order = refl
 
-inside_first : place hidden 1 ≡ Some (codes "c" ∷ codes "1" ∷ [])
+inside_first : mark_path hidden 1 ≡ Some (codes "c" ∷ codes "1" ∷ [])
 unfolding digits
 inside_first = refl
 
-nowhere : place hidden 3 ≡ None
+nowhere : mark_path hidden 3 ≡ None
 unfolding digits
 nowhere = refl
 

@@ -4,7 +4,7 @@ use Rattle.std.specs.Option.{option_eq}
 use Rattle.std.proofs.lemmas.List.{drop_more, reverse-append}
 use Rattle.claim_tree.specs.Tree.{Text}
 use Rattle.marked_tree.specs.Marked as spec
-use Rattle.marked_tree.specs.Places.{Path, Spot, inside, own_spot, spots, elements_spots, members_spots, first_with}
+use Rattle.marked_tree.specs.Paths.{Path, Spot, inside, own_spot, spots, elements_spots, members_spots, first_with}
 use Rattle.marked_tree.specs.View.{marked_of, marked_elements_of, marked_members_of}
 use Rattle.marked_tree.proofs.MarkedViews.{Element, Entry}
 

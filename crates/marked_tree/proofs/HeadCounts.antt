@@ -3,10 +3,10 @@ use Rattle.std.proofs.Common.{◌≡◌, ℕ, zero, suc, ◌+◌, ◌<◌, ◌�
 use Rattle.std.specs.Prelude.{bytes_eq}
 use Rattle.std.proofs.lemmas.Fmt.{decimal_injective}
 use Rattle.claim_tree.specs.Tree.{Text, Members, no_members, member, names, IsBeforeAll, MembersOrdered}
-use Rattle.claim_tree.specs.View.{members_of}
+use Rattle.claim_tree.specs.ListViews.{members_of}
 use Rattle.claim_tree.proofs.Lists.{bytes_same}
 use Rattle.claim_tree.proofs.Walks.{Named}
-use Rattle.marked_tree.specs.Places.{Path, one_if, is_among}
+use Rattle.marked_tree.specs.Paths.{Path, one_if, is_among}
 use Rattle.marked_tree.specs.Rests.{headed, inner}
 use Rattle.marked_tree.proofs.Names.{Ascend}
 use Rattle.marked_tree.proofs.Lookups.{apart}

@@ -5,24 +5,25 @@ use Rattle.std.proofs.lemmas.Bool.Decides.{nat_tests}
 use Rattle.claim_tree.specs.Tree.{Tree}
 use Rattle.claim_tree.specs.Lists.{In}
 use Rattle.claim_tree.proofs.Lists.{and_split, and_join, In-of_map, list_any-In}
-use Rattle.marked_tree.specs.Choice.{IsClosed, chosen, is_on_way, KeepsTheWay, IsUnmixed, IsLeastChoice}
+use Rattle.marked_tree.specs.Choice.{IsClosed, is_on_way, KeepsTheWay, IsUnmixed, IsLeastChoice}
 use Rattle.marked_tree.specs.Laws.{Choice, HasEachMarkOnce}
-use Rattle.marked_tree.specs.Marked.{Marked, only}
-use Rattle.marked_tree.specs.Places.{Path, leads, Spot, spots, mark, hidden_count}
+use Rattle.marked_tree.specs.Marked.{Marked}
+use Rattle.marked_tree.specs.Ways.{only}
+use Rattle.marked_tree.specs.Paths.{Path, is_front, Spot, spots, mark, hidden_count, chosen}
 use Rattle.marked_tree.proofs.MarkFacts.{up_to, up_to_le, marks_once_holds}
 use Rattle.marked_tree.proofs.Spots.{at_least_one, Way, way, any-from, ways_of_spots, spots_weigh, same_spot, leads_through, spots_above}
 
 module _ (m : Marked) (want : List Path) where
-  choose : (s : Spot) → In s (spots m) → (p : Path) → In p want → leads s.at p ≡ true → chosen m want s.mark ≡ true
+  choose : (s : Spot) → In s (spots m) → (p : Path) → In p want → is_front s.at p ≡ true → chosen m want s.mark ≡ true
   choose s n p o l =
-      any-from (λ z. eqb z.mark s.mark && list_any (leads z.at) want) (spots m) s n
-      (and_join (eqb s.mark s.mark) (list_any (leads s.at) want) (eq-eqb s.mark s.mark refl) (any-from (leads s.at) want p o l))
+      any-from (λ z. eqb z.mark s.mark && list_any (is_front z.at) want) (spots m) s n
+      (and_join (eqb s.mark s.mark) (list_any (is_front s.at) want) (eq-eqb s.mark s.mark refl) (any-from (is_front s.at) want p o l))
 
-  is_wanted : (i : ℕ) → chosen m want i ≡ true → (s : Spot) × In s (spots m) × (s.mark ≡ i) × (p : Path) × In p want × (leads s.at p ≡ true)
+  is_wanted : (i : ℕ) → chosen m want i ≡ true → (s : Spot) × In s (spots m) × (s.mark ≡ i) × (p : Path) × In p want × (is_front s.at p ≡ true)
   is_wanted i h =
-      let a = list_any-In (λ z. eqb z.mark i && list_any (leads z.at) want) (spots m) h in
-      let b = and_split (eqb a.0.mark i) (list_any (leads a.0.at) want) a.2 in
-      let c = list_any-In (leads a.0.at) want b.1 in
+      let a = list_any-In (λ z. eqb z.mark i && list_any (is_front z.at) want) (spots m) h in
+      let b = and_split (eqb a.0.mark i) (list_any (is_front a.0.at) want) a.2 in
+      let c = list_any-In (is_front a.0.at) want b.1 in
       (a.0, a.1, eqb-true a.0.mark i b.0, c.0, c.1, c.2)
 
   keeps_way : KeepsTheWay m want (chosen m want)
@@ -78,12 +79,12 @@ spread true false false x y = refl
 spread false b c x y = refl
 
 both_ways : (i : ℕ) (p : Path) (want : List Path) (ss : List Spot)
-    → list_any (λ s. eqb s.mark i && (leads s.at p || list_any (leads s.at) want)) ss
-    ≡ (list_any (λ s. eqb s.mark i && leads s.at p) ss || list_any (λ s. eqb s.mark i && list_any (leads s.at) want) ss)
+    → list_any (λ s. eqb s.mark i && (is_front s.at p || list_any (is_front s.at) want)) ss
+    ≡ (list_any (λ s. eqb s.mark i && is_front s.at p) ss || list_any (λ s. eqb s.mark i && list_any (is_front s.at) want) ss)
 both_ways i p want [] = refl
 both_ways i p want (s ∷ ss) =
-    ap (λ b. (eqb s.mark i && (leads s.at p || list_any (leads s.at) want)) || b) (both_ways i p want ss)
-    ∙ spread (eqb s.mark i) (leads s.at p) (list_any (leads s.at) want) (list_any (λ s. eqb s.mark i && leads s.at p) ss) (list_any (λ s. eqb s.mark i && list_any (leads s.at) want) ss)
+    ap (λ b. (eqb s.mark i && (is_front s.at p || list_any (is_front s.at) want)) || b) (both_ways i p want ss)
+    ∙ spread (eqb s.mark i) (is_front s.at p) (list_any (is_front s.at) want) (list_any (λ s. eqb s.mark i && is_front s.at p) ss) (list_any (λ s. eqb s.mark i && list_any (is_front s.at) want) ss)
 
 pub chosen_by_ways : (m : Marked) (want : List Path) (i : ℕ) → chosen m want i ≡ list_any (λ p. is_on_way m p i) want
 chosen_by_ways m [] i = and_none i (spots m)
@@ -100,8 +101,8 @@ unmixed_mark t hide = unmixed_once (mark t hide) (hidden_count t hide) (marks_on
 -- what is chosen is one of these numbers
 pub chosen_below : (m : Marked) (n : ℕ) → HasEachMarkOnce m n → (want : List Path) (i : ℕ) → chosen m want i ≡ true → i < n
 chosen_below m n once want i h =
-    let a = list_any-In (λ z. eqb z.mark i && list_any (leads z.at) want) (spots m) h in
-    let b = and_split (eqb a.0.mark i) (list_any (leads a.0.at) want) a.2 in
+    let a = list_any-In (λ z. eqb z.mark i && list_any (is_front z.at) want) (spots m) h in
+    let b = and_split (eqb a.0.mark i) (list_any (is_front a.0.at) want) a.2 in
     below_if i n (omega (arith, once i, spots_weigh (only i) m, at_least_one i (spots m) a.0 a.1 (eqb-true a.0.mark i b.0)))
   where
     below_if : (i n : ℕ) → 1 ≤ up_to i n → i < n

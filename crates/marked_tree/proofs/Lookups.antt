@@ -8,7 +8,8 @@ use Rattle.std.proofs.lemmas.Map.Text.{is_eq-slice_cmp}
 use Rattle.claim_tree.specs.Tree.{Text, IsBefore, IsBeforeAll}
 use Rattle.claim_tree.proofs.Lists.{bytes_same, bytes_refl, pair_same}
 use Rattle.marked_tree.specs.Marked as spec
-use Rattle.marked_tree.specs.Marked.{MarkedMembers, marked_member, no_marked_members, marked_names, put, put_all}
+use Rattle.marked_tree.specs.Marked.{MarkedMembers, marked_member, no_marked_members, put}
+use Rattle.marked_tree.specs.MarkedCalls.{marked_names, put_all}
 use Rattle.marked_tree.specs.Steps.{marked_member_named}
 use Rattle.marked_tree.specs.declared.marked.Marked.{Marked}
 use Rattle.marked_tree.specs.View.{marked_of, marked_members_of}

@@ -2,8 +2,9 @@
 use Rattle.std.proofs.Common.{◌≡◌, ℕ, zero, suc, ◌+◌, ◌<◌, ◌≤◌, [], ◌∷◌, Bool, true, false, cond, ltb, ◌⊎◌, inl, inr, refl, sym, ap, ap₂, ◌∙◌, arith, decimal}
 use Rattle.std.proofs.lemmas.Bool.Decides.{nat_tests}
 use Rattle.claim_tree.specs.Tree.{Tree, leaf, array, object, Elements, no_elements, element, Members, no_members, member}
-use Rattle.marked_tree.specs.Marked.{strip, strip_elements, strip_members, mark_weight, weight, elements_weight, members_weight, only}
-use Rattle.marked_tree.specs.Places.{Path, below, one_if, hidden_in, hidden_elements, hidden_members, mark_if, mark_from, mark_elements, mark_members, is_among}
+use Rattle.marked_tree.specs.Marked.{strip, strip_elements, strip_members}
+use Rattle.marked_tree.specs.Ways.{mark_weight, weight, elements_weight, members_weight, only}
+use Rattle.marked_tree.specs.Paths.{Path, below, one_if, hidden_in, hidden_elements, hidden_members, mark_if, mark_from, mark_elements, mark_members, is_among}
 use Rattle.marked_tree.specs.Laws.{MarkStrips, MarksOnce}
 
 mutual

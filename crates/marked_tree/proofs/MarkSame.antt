@@ -3,10 +3,12 @@ use Rattle.std.proofs.Common.{◌≡◌, ℕ, suc, ◌+◌, ◌<◌, List, [], �
 use Rattle.std.proofs.lemmas.List.{drop_more}
 use Rattle.claim_tree.specs.Tree.{Text, Tree, leaf, array, object, Elements, no_elements, element, Members, no_members, member, IsBefore, IsBeforeAll, MembersOrdered}
 use Rattle.claim_tree.specs.declared.tree.Tree as tree
-use Rattle.claim_tree.specs.View.{tree_of, elements_of, members_of}
+use Rattle.claim_tree.specs.View.{tree_of}
+use Rattle.claim_tree.specs.ListViews.{elements_of, members_of}
 use Rattle.claim_tree.proofs.Walks.{Named}
-use Rattle.marked_tree.specs.Marked.{Marked, marked_array, marked_object, MarkedElements, no_marked_elements, marked_element, MarkedMembers, no_marked_members, marked_member, marked_names, marked_pushed, put}
-use Rattle.marked_tree.specs.Places.{Path, below, one_if, hidden_in, hidden_elements, hidden_members, mark_if, mark_from, mark_elements, mark_members}
+use Rattle.marked_tree.specs.Marked.{Marked, marked_array, marked_object, MarkedElements, no_marked_elements, marked_element, MarkedMembers, no_marked_members, marked_member, put}
+use Rattle.marked_tree.specs.MarkedCalls.{marked_names, marked_pushed}
+use Rattle.marked_tree.specs.Paths.{Path, below, one_if, hidden_in, hidden_elements, hidden_members, mark_if, mark_from, mark_elements, mark_members}
 use Rattle.marked_tree.proofs.Names.{Ascend, ascend, turned_back}
 use Rattle.marked_tree.proofs.MarkFacts.{strips_members}
 

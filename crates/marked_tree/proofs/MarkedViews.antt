@@ -1,10 +1,12 @@
 -- What the calls of a list and of a map do, seen as elements and as members.
 use Rattle.std.proofs.Common.{◌≡◌, ℕ, zero, suc, ◌<◌, ◌≤◌, List, [], ◌∷◌, ◌++◌, length, Option, Some, None, option_map, get_or, MatchOption, Bor, refl, sym, ap, ◌∙◌, subst, arith}
 use Rattle.std.specs.Prelude.{HoldsAt}
-use Rattle.claim_tree.specs.Tree.{Text, pushed, element, IsOrdered, ElementsOrdered}
+use Rattle.claim_tree.specs.Tree.{Text, element, IsOrdered, ElementsOrdered}
+use Rattle.claim_tree.specs.TreeCalls.{pushed}
 use Rattle.claim_tree.proofs.Views.{ordered-pushed}
 use Rattle.marked_tree.specs.Marked as spec
-use Rattle.marked_tree.specs.Marked.{MarkedElements, marked_element, no_marked_elements, marked_elements_len, marked_element_at, marked_pushed, marked_members_len, marked_member_at, strip, strip_elements}
+use Rattle.marked_tree.specs.Marked.{MarkedElements, marked_element, no_marked_elements, strip, strip_elements}
+use Rattle.marked_tree.specs.MarkedCalls.{marked_elements_len, marked_element_at, marked_pushed, marked_members_len, marked_member_at}
 use Rattle.marked_tree.specs.declared.marked.Marked.{Marked}
 use Rattle.marked_tree.specs.View.{marked_of, marked_elements_of, marked_members_of}
 

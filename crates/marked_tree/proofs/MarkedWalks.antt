@@ -1,8 +1,11 @@
 -- The elements and members of a slice, one by one.
 use Rattle.std.proofs.Common.{◌≡◌, ℕ, zero, suc, ◌+◌, ◌<◌, ◌≤◌, List, [], ◌∷◌, ◌++◌, length, get_or, take, Bool, true, false, cond, Option, Some, None, is_some, option_map, add-one, refl, sym, ap, subst, ◌∙◌, arith}
-use Rattle.claim_tree.specs.Tree.{Text, element, member, nodes, elements_nodes, members_nodes, depth, elements_depth, members_depth, pushed, inserted, IsBefore, IsBeforeAll, MembersOrdered}
+use Rattle.claim_tree.specs.Tree.{Text, element, member, depth, elements_depth, members_depth, inserted, IsBefore, IsBeforeAll, MembersOrdered}
+use Rattle.claim_tree.specs.TreeCalls.{pushed}
+use Rattle.claim_tree.specs.Nodes.{nodes, elements_nodes, members_nodes}
 use Rattle.marked_tree.specs.Marked as spec
-use Rattle.marked_tree.specs.Marked.{MarkedElements, marked_element, MarkedMembers, marked_member, no_marked_members, marked_names, strip, strip_elements, strip_members, marked_pushed, put, remark, remark_elements, remark_members, new_mark, kept, keep_element, keep_member}
+use Rattle.marked_tree.specs.Marked.{MarkedElements, marked_element, MarkedMembers, marked_member, no_marked_members, strip, strip_elements, strip_members, put, remark, remark_elements, remark_members, new_mark, kept, keep_element, keep_member}
+use Rattle.marked_tree.specs.MarkedCalls.{marked_names, marked_pushed}
 use Rattle.marked_tree.specs.View.{marked_of, marked_elements_of, marked_members_of}
 use Rattle.marked_tree.proofs.MarkedViews.{Element, Entry, strip-pushed}
 use Rattle.marked_tree.proofs.Names.{Ascend, names_of, ascend, turned_back}

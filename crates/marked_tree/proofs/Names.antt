@@ -7,12 +7,13 @@ use Rattle.std.specs.Ordering.{match_ordering, is_lt, ordering_reverse, ordering
 use Rattle.std.proofs.lemmas.Cmp.{is_lt_index, tied_itself}
 use Rattle.std.proofs.lemmas.List.Sorted.{searchable_from_sorted}
 use Rattle.claim_tree.specs.Tree.{Text, member, names, inserted, IsBefore, IsBeforeAll, IsOrdered, MembersOrdered}
-use Rattle.claim_tree.specs.Lists.{At}
+use Rattle.claim_tree.specs.Lists.{StandsAt}
 use Rattle.claim_tree.proofs.Lists.{At-below, At-same}
 use Rattle.claim_tree.proofs.MapPlaces.{cmp, order, same_name, before_through, ordered-inserted}
 use Rattle.marked_tree.specs.Marked as spec
-use Rattle.marked_tree.specs.Marked.{MarkedMembers, marked_member, no_marked_members, marked_names, marked_inserted, put, strip, strip_members}
-use Rattle.marked_tree.specs.NamePlaces.{IsGap}
+use Rattle.marked_tree.specs.Marked.{MarkedMembers, marked_member, no_marked_members, put, strip, strip_members}
+use Rattle.marked_tree.specs.MarkedCalls.{marked_names, marked_inserted}
+use Rattle.marked_tree.specs.NamePositions.{IsNameGap}
 use Rattle.marked_tree.specs.declared.marked.Marked.{Marked}
 use Rattle.marked_tree.specs.View.{marked_of, marked_members_of}
 use Rattle.marked_tree.proofs.MarkedViews.{Entry}
@@ -47,23 +48,23 @@ pub length-names : (ms : List Entry) → length (names_of ms) ≡ length ms
 length-names [] = refl
 length-names (m ∷ ms) = ap suc (length-names ms)
 
-name_there : (ms : List Entry) (k : ℕ) (other : Text) (d : Entry) → At (names_of ms) k other → (get_or ms k d).0 ≡ other
+name_there : (ms : List Entry) (k : ℕ) (other : Text) (d : Entry) → StandsAt (names_of ms) k other → (get_or ms k d).0 ≡ other
 name_there (m ∷ ms) zero other d h = sym h
 name_there (m ∷ ms) (suc k) other d h = name_there ms k other d h
 name_there [] k other d h = elim h [ ]
 
-before_at : (name : Text) (ns : List Text) (k : ℕ) (other : Text) → IsBeforeAll name ns → At ns k other → IsBefore name other
+before_at : (name : Text) (ns : List Text) (k : ℕ) (other : Text) → IsBeforeAll name ns → StandsAt ns k other → IsBefore name other
 before_at name (n ∷ ns) zero other all h = subst (IsBefore name) (sym h) all.0
 before_at name (n ∷ ns) (suc k) other all h = before_at name ns k other all.1 h
 before_at name [] k other all h = elim h [ ]
 
-ascends : (ns : List Text) (k l : ℕ) (a b : Text) → Ascend ns → k < l → At ns k a → At ns l b → IsBefore a b
+ascends : (ns : List Text) (k l : ℕ) (a b : Text) → Ascend ns → k < l → StandsAt ns k a → StandsAt ns l b → IsBefore a b
 ascends (n ∷ ns) k zero a b o l p q = absurd (omega arith)
 ascends (n ∷ ns) zero (suc j) a b o l p q = subst (λ c. IsBefore c b) (sym p) (before_at n ns j b o.0 q)
 ascends (n ∷ ns) (suc k) (suc j) a b o l p q = ascends ns k j a b o.1 (omega arith) p q
 ascends [] k l a b o h p q = elim p [ ]
 
-at_name : (ms : List Entry) (k : ℕ) (d : Entry) → k < length ms → At (names_of ms) k (get_or ms k d).0
+at_name : (ms : List Entry) (k : ℕ) (d : Entry) → k < length ms → StandsAt (names_of ms) k (get_or ms k d).0
 at_name (m ∷ ms) zero d l = refl
 at_name (m ∷ ms) (suc k) d l = at_name ms k d (omega arith)
 at_name [] k d l = absurd (omega arith)
@@ -75,21 +76,21 @@ sorted ms o k d l h =
 
 -- ---- what a search finds
 
-at_found : (ms : List Entry) (name : Text) (i : ℕ) → i < length ms → ((d : Entry) → cmp (get_or ms i d).0 name ≡ Equal) → At (names_of ms) i name
+at_found : (ms : List Entry) (name : Text) (i : ℕ) → i < length ms → ((d : Entry) → cmp (get_or ms i d).0 name ≡ Equal) → StandsAt (names_of ms) i name
 at_found (m ∷ ms) name zero l is = sym (same_name m.0 name (is m))
 at_found (m ∷ ms) name (suc i) l is = at_found ms name i (omega arith) is
 at_found [] name i l is = absurd (omega arith)
 
-pub found_name : (ms : List Entry) (name : Text) (r : Result ℕ ℕ) → IsSearchInRange r (length ms) → IsBinarySearchResult (λ (m : Entry). cmp m.0 name) ms r → IfOk r (λ i. At (names_of ms) i name)
+pub found_name : (ms : List Entry) (name : Text) (r : Result ℕ ℕ) → IsSearchInRange r (length ms) → IsBinarySearchResult (λ (m : Entry). cmp m.0 name) ms r → IfOk r (λ i. StandsAt (names_of ms) i name)
 found_name ms name (Ok i) within is = at_found ms name i within is
 found_name ms name (Err i) within is = tt
 
 -- a member to read at, where there is one
-some_entry : (ms : List Entry) (k : ℕ) (other : Text) → At (names_of ms) k other → Entry
+some_entry : (ms : List Entry) (k : ℕ) (other : Text) → StandsAt (names_of ms) k other → Entry
 some_entry (m ∷ ms) k other h = m
 some_entry [] k other h = elim h [ ]
 
-pub found_gap : (ms : List Entry) (name : Text) (r : Result ℕ ℕ) → Ascend (names_of ms) → IsSearchInRange r (length ms) → IsBinarySearchResult (λ (m : Entry). cmp m.0 name) ms r → IfErr r (IsGap (names_of ms) name)
+pub found_gap : (ms : List Entry) (name : Text) (r : Result ℕ ℕ) → Ascend (names_of ms) → IsSearchInRange r (length ms) → IsBinarySearchResult (λ (m : Entry). cmp m.0 name) ms r → IfErr r (IsNameGap (names_of ms) name)
 found_gap ms name (Ok i) o within is = tt
 found_gap ms name (Err i) o within is =
     let parted = is (searchable_from_sorted order (λ (m : Entry). m.0) ms name (sorted ms o)) in
@@ -113,7 +114,7 @@ less_is Greater e = cc
 pub behind_last : (o : Ordering) → (ordering_index o == 0) ≡ true → o ≡ Less
 behind_last o e = less_is o (is_lt_index o ∙ e)
 
-name_got : (ms : List Entry) (k : ℕ) (e : Entry) → slice_get ms k ≡ Some e → At (names_of ms) k e.0
+name_got : (ms : List Entry) (k : ℕ) (e : Entry) → slice_get ms k ≡ Some e → StandsAt (names_of ms) k e.0
 name_got [] k e h = cc
 name_got (m ∷ ms) zero e h = let same : m ≡ e = cc in ap (λ (x : Entry). x.0) (sym same)
 name_got (m ∷ ms) (suc k) e h = name_got ms k e h
@@ -121,20 +122,20 @@ name_got (m ∷ ms) (suc k) e h = name_got ms k e h
 below_or_last : (k n : ℕ) → k < n → (k < n - 1) ⊎ (k ≡ n - 1)
 below_or_last k n l = grind arith
 
-pub behind_all : (ms : List Entry) (name : Text) (last : Entry) → Ascend (names_of ms) → slice_get ms (length ms - 1) ≡ Some last → IsBefore last.0 name → IsGap (names_of ms) name (length ms)
+pub behind_all : (ms : List Entry) (name : Text) (last : Entry) → Ascend (names_of ms) → slice_get ms (length ms - 1) ≡ Some last → IsBefore last.0 name → IsNameGap (names_of ms) name (length ms)
 behind_all ms name last o is before = record {
   within = let e = length-names ms in omega (arith, e);
   before = λ k other at low. go k other at (below_or_last k (length ms) low);
   after = λ k other at high. let b = At-below (names_of ms) k other at in let e = length-names ms in absurd (omega (arith, b, e));
 }
   where
-    end : At (names_of ms) (length ms - 1) last.0
+    end : StandsAt (names_of ms) (length ms - 1) last.0
     end = name_got ms (length ms - 1) last is
 
-    go : (k : ℕ) (other : Text) → At (names_of ms) k other → (k < length ms - 1) ⊎ (k ≡ length ms - 1) → IsBefore other name
+    go : (k : ℕ) (other : Text) → StandsAt (names_of ms) k other → (k < length ms - 1) ⊎ (k ≡ length ms - 1) → IsBefore other name
     go k other at (inl l) = (order).trans other last.0 name (ascends (names_of ms) k (length ms - 1) other last.0 o l at end) before
     go k other at (inr e) =
-        let same : other ≡ last.0 = At-same (names_of ms) (length ms - 1) other last.0 (subst (λ n. At (names_of ms) n other) e at) end in
+        let same : other ≡ last.0 = At-same (names_of ms) (length ms - 1) other last.0 (subst (λ n. StandsAt (names_of ms) n other) e at) end in
         subst (λ a. IsBefore a name) (sym same) before
 
 -- ---- what is put at a place
@@ -151,21 +152,21 @@ set_later : (m : Entry) (ms : List Entry) (name : Text) (i : Option ℕ) (t : Ma
     → marked_member m.0 m.1 (marked_of m.2) rest ≡ marked_inserted (marked_members_of (m ∷ ms)) name i (marked_of t)
 set_later m ms name i t rest e ih = rw e (ap (marked_member m.0 m.1 (marked_of m.2)) ih)
 
-pub set_at : (ms : List Entry) (name : Text) (i : Option ℕ) (t : Marked) (n : ℕ) → Ascend (names_of ms) → At (names_of ms) n name
+pub set_at : (ms : List Entry) (name : Text) (i : Option ℕ) (t : Marked) (n : ℕ) → Ascend (names_of ms) → StandsAt (names_of ms) n name
     → marked_members_of (set ms n (name, i, t)) ≡ marked_inserted (marked_members_of ms) name i (marked_of t)
 set_at (m ∷ ms) name i t zero o h = set_here m ms name i t (subst (λ a. cmp m.0 a ≡ Equal) (sym h) (tied_itself order m.0))
 set_at (m ∷ ms) name i t (suc n) o h =
     set_later m ms name i t (marked_members_of (set ms n (name, i, t))) (before_at m.0 (names_of ms) n name o.0 h) (set_at ms name i t n o.1 h)
 set_at [] name i t n o h = elim h [ ]
 
-gap_inside : (m : Entry) (ms : List Entry) (name : Text) (n : ℕ) → IsGap (names_of (m ∷ ms)) name (suc n) → IsGap (names_of ms) name n
+gap_inside : (m : Entry) (ms : List Entry) (name : Text) (n : ℕ) → IsNameGap (names_of (m ∷ ms)) name (suc n) → IsNameGap (names_of ms) name n
 gap_inside m ms name n g = record {
   within = let w = g.within in omega (arith, w);
   before = λ k other at l. g.before (suc k) other at (omega arith);
   after = λ k other at l. g.after (suc k) other at (omega arith);
 }
 
-pub insert_at : (ms : List Entry) (name : Text) (i : Option ℕ) (t : Marked) (n : ℕ) → IsGap (names_of ms) name n
+pub insert_at : (ms : List Entry) (name : Text) (i : Option ℕ) (t : Marked) (n : ℕ) → IsNameGap (names_of ms) name n
     → marked_members_of (insert ms n (name, i, t)) ≡ marked_inserted (marked_members_of ms) name i (marked_of t)
 insert_at [] name i t zero g = refl
 insert_at [] name i t (suc n) g = absurd (let w = g.within in omega arith)
@@ -187,14 +188,14 @@ put_later : (m : Entry) (ms : List Entry) (name : Text) (i : Option ℕ) (t : Ma
     → marked_member m.0 m.1 (marked_of m.2) rest ≡ put name i (marked_of t) (marked_members_of (m ∷ ms))
 put_later m ms name i t rest e ih = rw e (ap (marked_member m.0 m.1 (marked_of m.2)) ih)
 
-pub put_there : (ms : List Entry) (name : Text) (i : Option ℕ) (t : Marked) (n : ℕ) → Ascend (names_of ms) → At (names_of ms) n name
+pub put_there : (ms : List Entry) (name : Text) (i : Option ℕ) (t : Marked) (n : ℕ) → Ascend (names_of ms) → StandsAt (names_of ms) n name
     → put name i (marked_of t) (marked_members_of ms) ≡ marked_members_of ms
 put_there (m ∷ ms) name i t zero o h = put_here m ms name i t (subst (λ a. cmp a m.0 ≡ Equal) (sym h) (tied_itself order m.0))
 put_there (m ∷ ms) name i t (suc n) o h =
     sym (put_later m ms name i t (marked_members_of ms) (turned_back m.0 name (before_at m.0 (names_of ms) n name o.0 h)) (sym (put_there ms name i t n o.1 h)))
 put_there [] name i t n o h = elim h [ ]
 
-pub put_gap : (ms : List Entry) (name : Text) (i : Option ℕ) (t : Marked) (n : ℕ) → IsGap (names_of ms) name n
+pub put_gap : (ms : List Entry) (name : Text) (i : Option ℕ) (t : Marked) (n : ℕ) → IsNameGap (names_of ms) name n
     → marked_members_of (insert ms n (name, i, t)) ≡ put name i (marked_of t) (marked_members_of ms)
 put_gap [] name i t zero g = refl
 put_gap [] name i t (suc n) g = absurd (let w = g.within in omega arith)

@@ -11,8 +11,8 @@ use Rattle.std.proofs.Math.Seq.{take-length}
 use Rattle.std.proofs.lemmas.List.Sorted.{sorted_far, ranks_by}
 use Rattle.claim_tree.specs.Tree.{Text}
 use Rattle.claim_tree.proofs.Lists.{bytes_refl}
-use Rattle.marked_tree.specs.Places.{Path, same_path, is_among}
-use Rattle.marked_tree.specs.Rests.{rests, step_order, path_order, AfterNone, AreSorted, Every, Compares, IsRun, one_head, headed}
+use Rattle.marked_tree.specs.Paths.{Path, same_path, is_among}
+use Rattle.marked_tree.specs.Rests.{rests, step_order, path_order, AfterNone, AreSorted, Every, Compares, IsRunOfPaths, one_head, headed}
 use Rattle.claim_tree.proofs.MapPlaces.{cmp, order, same_name}
 use Rattle.marked_tree.proofs.Names.{behind_last, turned}
 use Rattle.marked_tree.proofs.Lookups.{apart, apart_back}
@@ -252,7 +252,7 @@ module _ (depth : ℕ) (step : Text) where
     pub run : (k : ℕ) (d : Path) → k < end → k < length (drop start xs) → is_tied depth step (get_or (drop start xs) k d) ≡ true
     pub back : (k : ℕ) (d : Path) → end ≤ k → k < length (drop start xs) → is_tied depth step (get_or (drop start xs) k d) ≡ false
 
-  pub cut_run : (xs : List Path) (start count : ℕ) → IsCut xs start count → start + count ≤ length xs → IsRun depth step xs start count
+  pub cut_run : (xs : List Path) (start count : ℕ) → IsCut xs start count → start + count ≤ length xs → IsRunOfPaths depth step xs start count
   cut_run xs start count cut within = record {
     within = within;
     before = every_taken Before start xs (λ k d l h. behind_last (step_order (drop depth (get_or xs k d)) step) (cut.front k d l h));
@@ -260,7 +260,7 @@ module _ (depth : ℕ) (step : Text) where
     behind = every_dropped Behind count (drop start xs) (λ k d l h. index_greater (step_order (drop depth (get_or (drop start xs) k d)) step) (cut.none k d h) (cut.back k d l h));
   }
 
-  module _ (xs : List Path) (start count : ℕ) (run : IsRun depth step xs start count) where
+  module _ (xs : List Path) (start count : ℕ) (run : IsRunOfPaths depth step xs start count) where
     pub run_sorted : AreSorted (rests depth xs) → AreSorted (rests (depth + 1) (take count (drop start xs)))
     run_sorted s = sorted_tails (take count (drop start xs)) run.run (sorted_take depth count (drop start xs) (sorted_drop depth start xs s))
 

@@ -1,8 +1,9 @@
 -- Where each number below a count marks one node, it has a way.
 use Rattle.std.proofs.Common.{◌≡◌, ℕ, ◌<◌, ◌≤◌, List, [], ◌∷◌, Bool, true, false, eqb, inl, inr, refl, sym, subst, arith, eqb-true}
 use Rattle.claim_tree.specs.Lists.{In}
-use Rattle.marked_tree.specs.Marked.{Marked, only, ways}
-use Rattle.marked_tree.specs.Places.{Spot, spots}
+use Rattle.marked_tree.specs.Marked.{Marked}
+use Rattle.marked_tree.specs.Ways.{only, ways}
+use Rattle.marked_tree.specs.Paths.{Spot, spots}
 use Rattle.marked_tree.specs.Laws.{HasEachMarkOnce}
 use Rattle.claim_tree.proofs.Lists.{In-map}
 use Rattle.marked_tree.proofs.Sums.{sum_of}

@@ -5,9 +5,10 @@ use Rattle.std.specs.List.{list_any}
 use Rattle.std.proofs.lemmas.Bool.Decides.{nat_tests}
 use Rattle.std.proofs.lemmas.List.{map-append}
 use Rattle.claim_tree.specs.Tree.{Text}
-use Rattle.marked_tree.specs.Marked.{Marked, marked_leaf, marked_array, marked_object, MarkedElements, no_marked_elements, marked_element, MarkedMembers, no_marked_members, marked_member, ways, elements_ways, members_ways, way_of, mark_weight, weight, elements_weight, members_weight, only}
+use Rattle.marked_tree.specs.Marked.{Marked, marked_leaf, marked_array, marked_object, MarkedElements, no_marked_elements, marked_element, MarkedMembers, no_marked_members, marked_member}
+use Rattle.marked_tree.specs.Ways.{ways, elements_ways, members_ways, way_of, mark_weight, weight, elements_weight, members_weight, only}
 use Rattle.claim_tree.specs.Lists.{In}
-use Rattle.marked_tree.specs.Places.{Path, leads, Spot, inside, own_spot, spots, elements_spots, members_spots, first_with}
+use Rattle.marked_tree.specs.Paths.{Path, is_front, Spot, inside, own_spot, spots, elements_spots, members_spots, first_with}
 use Rattle.claim_tree.proofs.Lists.{or_left, or_right, and_split, and_join, bytes_refl, bytes_same, In-left, In-right, In-append, In-map, In-of_map}
 use Rattle.marked_tree.proofs.Sums.{sum_of, sum_of-append, sum_of-map}
 
@@ -106,17 +107,17 @@ same_spot i [] s z le m n q r = elim m [ ]
 
 -- ---- each mark above a spot stands on its way
 
-leads_step : (k : Text) (p q : Path) → leads p q ≡ true → leads (k ∷ p) (k ∷ q) ≡ true
-leads_step k p q h = and_join (bytes_eq k k) (leads p q) (bytes_refl k k refl) h
+leads_step : (k : Text) (p q : Path) → is_front p q ≡ true → is_front (k ∷ p) (k ∷ q) ≡ true
+leads_step k p q h = and_join (bytes_eq k k) (is_front p q) (bytes_refl k k refl) h
 
-pub leads_through : (p q w : Path) → leads p q ≡ true → leads q w ≡ true → leads p w ≡ true
+pub leads_through : (p q w : Path) → is_front p q ≡ true → is_front q w ≡ true → is_front p w ≡ true
 leads_through [] q w h k = refl
 leads_through (a ∷ p) [] w h k = cc
 leads_through (a ∷ p) (b ∷ q) [] h k = cc
 leads_through (a ∷ p) (b ∷ q) (c ∷ w) h k =
-    let x = and_split (bytes_eq a b) (leads p q) h in
-    let y = and_split (bytes_eq b c) (leads q w) k in
-    and_join (bytes_eq a c) (leads p w) (same_both a b c x.0 y.0) (leads_through p q w x.1 y.1)
+    let x = and_split (bytes_eq a b) (is_front p q) h in
+    let y = and_split (bytes_eq b c) (is_front q w) k in
+    and_join (bytes_eq a c) (is_front p w) (same_both a b c x.0 y.0) (leads_through p q w x.1 y.1)
   where
     same_both : (a b c : Text) → bytes_eq a b ≡ true → bytes_eq b c ≡ true → bytes_eq a c ≡ true
     same_both a b c x y = bytes_refl a c (bytes_same a b x ∙ bytes_same b c y)
@@ -126,7 +127,7 @@ pub record Stands (ss : List Spot) (s : Spot) (j : ℕ) : Type 0 where
   pub spot : Spot
   pub there : In spot ss
   pub is : spot.mark ≡ j
-  pub before : leads spot.at s.at ≡ true
+  pub before : is_front spot.at s.at ≡ true
 
 abbrev pub Above : List Spot → Type 0
 Above ss = (s : Spot) → In s ss → (j : ℕ) → In j s.above → Stands ss s j
@@ -146,7 +147,7 @@ above_inside k None ss a s m j h =
       spot = inside k None v.spot;
       there = In-map (inside k None) v.spot ss v.there;
       is = v.is;
-      before = subst (λ (z : Spot). leads (k ∷ v.spot.at) z.at ≡ true) (sym w.2) (leads_step k v.spot.at w.0.at v.before);
+      before = subst (λ (z : Spot). is_front (k ∷ v.spot.at) z.at ≡ true) (sym w.2) (leads_step k v.spot.at w.0.at v.before);
     }
 above_inside k (Some i) ss a s (inl e) j h = elim (subst (λ (z : Spot). In j z.above) e h) [ ]
 above_inside k (Some i) ss a s (inr m) j h =
@@ -157,7 +158,7 @@ above_inside k (Some i) ss a s (inr m) j h =
       spot = own;
       there = inl refl;
       is = sym q;
-      before = subst (λ (z : Spot). leads (k ∷ []) z.at ≡ true) (sym w.2) (leads_step k [] w.0.at refl);
+      before = subst (λ (z : Spot). is_front (k ∷ []) z.at ≡ true) (sym w.2) (leads_step k [] w.0.at refl);
     })
     (λ n.
     let v = a w.0 w.1 j n in
@@ -165,7 +166,7 @@ above_inside k (Some i) ss a s (inr m) j h =
       spot = inside k (Some i) v.spot;
       there = inr (In-map (inside k (Some i)) v.spot ss v.there);
       is = v.is;
-      before = subst (λ (z : Spot). leads (k ∷ v.spot.at) z.at ≡ true) (sym w.2) (leads_step k v.spot.at w.0.at v.before);
+      before = subst (λ (z : Spot). is_front (k ∷ v.spot.at) z.at ≡ true) (sym w.2) (leads_step k v.spot.at w.0.at v.before);
     })
     (let n : In j (i ∷ w.0.above) = subst (λ (z : Spot). In j z.above) w.2 h in n)
 

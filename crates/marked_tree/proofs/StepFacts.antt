@@ -5,16 +5,17 @@ use Rattle.std.proofs.lemmas.Fmt.{decimal_injective}
 use Rattle.std.proofs.lemmas.List.Folds.{list_any-append}
 use Rattle.std.proofs.lemmas.Slice.Eq.{bytes_eq-Decides}
 use Rattle.claim_tree.specs.Tree.{Text, Tree, IsBeforeAll, IsOrdered, member_named}
-use Rattle.claim_tree.specs.Lists.{At}
+use Rattle.claim_tree.specs.Lists.{StandsAt}
 use Rattle.claim_tree.specs.Path.{stepped, element_on}
 use Rattle.claim_tree.proofs.Lists.{bytes_same, bytes_refl}
 use Rattle.claim_tree.proofs.Positions.{unequal}
 use Rattle.marked_tree.specs.Marked as spec
-use Rattle.marked_tree.specs.Marked.{marked_leaf, marked_array, marked_object, MarkedElements, no_marked_elements, marked_element, MarkedMembers, no_marked_members, marked_member, marked_names, marked_elements_len, marked_element_at, strip, strip_elements, strip_members}
-use Rattle.marked_tree.specs.Places.{Path, leads, Spot, inside, own_spot, spots, elements_spots, members_spots}
+use Rattle.marked_tree.specs.Marked.{marked_leaf, marked_array, marked_object, MarkedElements, no_marked_elements, marked_element, MarkedMembers, no_marked_members, marked_member, strip, strip_elements, strip_members}
+use Rattle.marked_tree.specs.MarkedCalls.{marked_names, marked_elements_len, marked_element_at}
+use Rattle.marked_tree.specs.Paths.{Path, is_front, Spot, inside, own_spot, spots, elements_spots, members_spots}
 use Rattle.marked_tree.specs.Choice.{is_on_way, has_mark}
-use Rattle.marked_tree.specs.Steps.{marked_element_on, marked_member_named, marked_stepped, IsShort}
-use Rattle.marked_tree.specs.NamePlaces.{IsGap}
+use Rattle.marked_tree.specs.Steps.{marked_element_on, marked_member_named, marked_stepped, IsShortList}
+use Rattle.marked_tree.specs.NamePositions.{IsNameGap}
 use Rattle.marked_tree.specs.declared.marked.Marked.{Marked}
 use Rattle.marked_tree.specs.View.{marked_of, marked_members_of}
 use Rattle.marked_tree.proofs.MarkedViews.{Entry}
@@ -48,28 +49,28 @@ stepped_strip (marked_object ms) step = bare_member ms step
 
 -- ---- where a name or a position stands
 
-pub named_at : (ms : List Entry) (name : Text) (i : ℕ) (d : Entry) → Ascend (names_of ms) → At (names_of ms) i name
+pub named_at : (ms : List Entry) (name : Text) (i : ℕ) (d : Entry) → Ascend (names_of ms) → StandsAt (names_of ms) i name
     → marked_member_named (marked_members_of ms) name ≡ Some ((get_or ms i d).1, marked_of (get_or ms i d).2)
 named_at (m ∷ ms) name zero d o h = rw (bytes_refl m.0 name (sym h)) refl
 named_at (m ∷ ms) name (suc i) d o h = rw (before m.0 name (names_of ms) i o.0 h) (named_at ms name i d o.1 h)
   where
-    before : (k name : Text) (ns : List Text) (i : ℕ) → IsBeforeAll k ns → At ns i name → bytes_eq k name ≡ false
+    before : (k name : Text) (ns : List Text) (i : ℕ) → IsBeforeAll k ns → StandsAt ns i name → bytes_eq k name ≡ false
     before k name (n ∷ ns) zero all h = subst (λ x. bytes_eq k x ≡ false) (sym h) (apart k n all.0)
     before k name (n ∷ ns) (suc i) all h = before k name ns i all.1 h
     before k name [] i all h = elim h [ ]
 named_at [] name i d o h = elim h [ ]
 
-pub named_gap : (ms : List Entry) (name : Text) (i : ℕ) → IsGap (names_of ms) name i → marked_member_named (marked_members_of ms) name ≡ None
+pub named_gap : (ms : List Entry) (name : Text) (i : ℕ) → IsNameGap (names_of ms) name i → marked_member_named (marked_members_of ms) name ≡ None
 named_gap ms name i gap = none ms (λ k other at. go k other at (below_or_not k i))
   where
     below_or_not : (k i : ℕ) → (k < i) ⊎ (i ≤ k)
     below_or_not k i = grind arith
 
-    go : (k : ℕ) (other : Text) → At (names_of ms) k other → (k < i) ⊎ (i ≤ k) → bytes_eq other name ≡ false
+    go : (k : ℕ) (other : Text) → StandsAt (names_of ms) k other → (k < i) ⊎ (i ≤ k) → bytes_eq other name ≡ false
     go k other at (inl l) = apart other name (gap.before k other at l)
     go k other at (inr l) = apart_back name other (gap.after k other at l)
 
-    none : (ms : List Entry) → ((k : ℕ) (other : Text) → At (names_of ms) k other → bytes_eq other name ≡ false) → marked_member_named (marked_members_of ms) name ≡ None
+    none : (ms : List Entry) → ((k : ℕ) (other : Text) → StandsAt (names_of ms) k other → bytes_eq other name ≡ false) → marked_member_named (marked_members_of ms) name ≡ None
     none [] h = refl
     none (m ∷ ms) h = rw (h 0 m.0 refl) (none ms (λ k. h (suc k)))
 
@@ -92,7 +93,7 @@ element_there (marked_element k t es) i (suc j) step fits e =
 
 -- the spot has mark i and leads to p
 abbrev on : Path → ℕ → Spot → Bool
-on p i s = eqb s.mark i && leads s.at p
+on p i s = eqb s.mark i && is_front s.at p
 
 abbrev node_spots : Text → Option ℕ → spec.Marked → List Spot
 node_spots k own t = own_spot k own ++ map (inside k own) (spots t)
@@ -186,7 +187,7 @@ elements_way n (marked_element own t es) step e fits h p i =
         ∙ or_no (has_mark own i || is_on_way t p i) ∙ ap (λ (e : Node). has_mark e.0 i || is_on_way e.1 p i) same
     go false q s ih = ap₂ (λ a b. a || b) (node_other (decimal n) step own t p i q) (ih s)
 
-pub way_stepped : (m : spec.Marked) (step : Text) (e : Node) → IsOrdered (strip m) → IsShort m → marked_stepped m step ≡ Some e
+pub way_stepped : (m : spec.Marked) (step : Text) (e : Node) → IsOrdered (strip m) → IsShortList m → marked_stepped m step ≡ Some e
     → (p : Path) (i : ℕ) → is_on_way m (step ∷ p) i ≡ (has_mark e.0 i || is_on_way e.1 p i)
 way_stepped (marked_leaf l) step e o short h p i = cc
 way_stepped (marked_array es) step e o short h p i = elements_way 0 es step e (omega (arith, short)) h p i
@@ -235,7 +236,7 @@ found_strip m step r h = twice r ∙ ap bare h ∙ stepped_strip m step
     twice None = refl
     twice (Some e) = refl
 
-pub found_way : (m : spec.Marked) (step : Text) (r : Found) → IsOrdered (strip m) → IsShort m → option_map node_of r ≡ marked_stepped m step
+pub found_way : (m : spec.Marked) (step : Text) (r : Found) → IsOrdered (strip m) → IsShortList m → option_map node_of r ≡ marked_stepped m step
     → IfSome r (λ e. (p : Path) (i : ℕ) → is_on_way m (step ∷ p) i ≡ (has_mark e.0 i || is_on_way (marked_of e.1.now) p i))
 found_way m step None o short h = tt
 found_way m step (Some e) o short h = way_stepped m step (node_of e) o short (sym h)

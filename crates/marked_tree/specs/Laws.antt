@@ -1,10 +1,11 @@
--- What the laws of marking and choosing say.
+-- Not needed to believe the program's promises: what the laws of marking and choosing say.
 use Rattle.std.specs.Prelude.{◌≡◌, ℕ, List, length, ltb, Some, if◌then◌else◌}
 use Rattle.claim_tree.specs.Tree.{Tree}
-use Rattle.claim_tree.specs.Lists.{At}
-use Rattle.marked_tree.specs.Marked.{Marked, strip, weight, only}
-use Rattle.marked_tree.specs.Places.{Path, mark, hidden_count, closing, is_among, place}
-use Rattle.marked_tree.specs.Choice.{chosen, IsUnmixed, IsLeastChoice}
+use Rattle.claim_tree.specs.Lists.{StandsAt}
+use Rattle.marked_tree.specs.Marked.{Marked, strip}
+use Rattle.marked_tree.specs.Ways.{weight, only, closing}
+use Rattle.marked_tree.specs.Paths.{Path, mark, hidden_count, is_among, mark_path, chosen}
+use Rattle.marked_tree.specs.Choice.{IsUnmixed, IsLeastChoice}
 
 abbrev pub MarkStrips : Type 0
 MarkStrips = (t : Tree) (hide : List Path) → strip (mark t hide) ≡ t
@@ -17,12 +18,12 @@ abbrev pub MarksOnce : Type 0
 MarksOnce = (t : Tree) (hide : List Path) → HasEachMarkOnce (mark t hide) (hidden_count t hide)
 
 -- mark k stands at the hidden place that has k others before it in closing order
-pub record IsNumbered (t : Tree) (hide : List Path) : Type 0 where
+pub record IsClosing (t : Tree) (hide : List Path) : Type 0 where
   pub count : length (closing (is_among hide) t) ≡ hidden_count t hide
-  pub places : (k : ℕ) (q : Path) → At (closing (is_among hide) t) k q → place (mark t hide) k ≡ Some q
+  pub places : (k : ℕ) (q : Path) → StandsAt (closing (is_among hide) t) k q → mark_path (mark t hide) k ≡ Some q
 
 abbrev pub MarksClose : Type 0
-MarksClose = (t : Tree) (hide : List Path) → IsNumbered t hide
+MarksClose = (t : Tree) (hide : List Path) → IsClosing t hide
 
 -- the chosen marks are closed, and the least that keep the way to each wanted path
 abbrev pub Choice : Type 0

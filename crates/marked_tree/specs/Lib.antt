@@ -2,10 +2,12 @@ pub mod Marked
 pub mod View
 pub mod Code
 pub mod Falls
-pub mod Places
+pub mod Paths
 pub mod Steps
 pub mod Choice
 pub mod Numbers
-pub mod NamePlaces
+pub mod NamePositions
 pub mod Rests
 pub mod Laws
+pub mod MarkedCalls
+pub mod Ways

@@ -1,4 +1,4 @@
--- Sets of numbers, as their members in rising order.
+-- Not needed to believe the program's promises: sets of numbers, as their members in rising order.
 use Rattle.std.specs.Prelude.{ℕ, ◌<◌, List, [], ◌∷◌, eqb, Bool}
 use Rattle.std.specs.List.{list_any}
 

@@ -1,11 +1,11 @@
--- Sorted paths, seen from a depth. What counts steps is for private functions.
+-- Not needed to believe the program's promises: sorted paths, seen from a depth. What counts steps is for private functions.
 use Rattle.std.specs.Prelude.{◌≡◌, ◌≢◌, ℕ, ◌+◌, ◌≤◌, List, [], ◌∷◌, length, map, take, drop, bytes_eq, if◌then◌else◌}
 use Rattle.std.specs.Ordering.{nat_cmp}
 use Rattle.std.specs.Cmp.Lexicographic.{slice_cmp}
 use Rattle.std.specs.declared.cmp.Ordering.{Ordering}
 use Rattle.std.specs.declared.cmp.Ordering.TheVariants.{Less, Equal, Greater}
 use Rattle.claim_tree.specs.Tree.{Text}
-use Rattle.marked_tree.specs.Places.{Path}
+use Rattle.marked_tree.specs.Paths.{Path}
 
 -- what is left of each path behind its first steps
 abbrev pub rests : ℕ → List Path → List Path
@@ -39,7 +39,7 @@ abbrev pub Compares : Ordering → ℕ → Text → Path → Type 0
 Compares o depth step p = step_order (drop depth p) step ≡ o
 
 -- the paths with this step at the depth: so many, from the place `start` on
-pub record IsRun (depth : ℕ) (step : Text) (paths : List Path) (start count : ℕ) : Type 0 where
+pub record IsRunOfPaths (depth : ℕ) (step : Text) (paths : List Path) (start count : ℕ) : Type 0 where
   pub within : start + count ≤ length paths
   pub before : Every (Compares Less depth step) (take start paths)
   pub run : Every (Compares Equal depth step) (take count (drop start paths))

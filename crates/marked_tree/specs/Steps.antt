@@ -1,7 +1,8 @@
--- One step into a marked tree.
+-- Not needed to believe the program's promises: one step into a marked tree.
 use Rattle.std.specs.Prelude.{ℕ, suc, ◌<◌, ◌^◌, Option, Some, None, bytes_eq, decimal, if◌then◌else◌}
 use Rattle.claim_tree.specs.Tree.{Text}
-use Rattle.marked_tree.specs.Marked.{Marked, marked_leaf, marked_array, marked_object, MarkedElements, no_marked_elements, marked_element, MarkedMembers, no_marked_members, marked_member, marked_elements_len}
+use Rattle.marked_tree.specs.Marked.{Marked, marked_leaf, marked_array, marked_object, MarkedElements, no_marked_elements, marked_element, MarkedMembers, no_marked_members, marked_member}
+use Rattle.marked_tree.specs.MarkedCalls.{marked_elements_len}
 
 -- the mark and the tree of the element whose position, counted from the given one, has the step as its decimal digits
 abbrev pub marked_element_on : MarkedElements → ℕ → Text → Option (Option ℕ × Marked)
@@ -20,6 +21,6 @@ marked_stepped (marked_array es) step = marked_element_on es 0 step
 marked_stepped (marked_object ms) step = marked_member_named ms step
 
 -- for private functions: a list at the root is no longer than a machine holds
-abbrev pub IsShort : Marked → Type 0
-IsShort (marked_array es) = marked_elements_len es < 2 ^ 64
-IsShort _ = Unit {0}
+abbrev pub IsShortList : Marked → Type 0
+IsShortList (marked_array es) = marked_elements_len es < 2 ^ 64
+IsShortList _ = Unit {0}

@@ -1,4 +1,4 @@
--- The marked tree that a value of the code is.
+-- Not needed to believe the program's promises: the marked tree that a value of the code is.
 use Rattle.std.specs.Prelude.{ℕ, List, [], ◌∷◌, Option}
 use Rattle.claim_tree.specs.Tree.{Text, null, flag, whole, text}
 use Rattle.marked_tree.specs.Marked as spec

@@ -3,8 +3,8 @@ ghost use Rattle.std.specs.Prelude.{◌≡◌, ◌||◌, ℕ, ◌∷◌, IfSome,
 ghost use Rattle.claim_tree.specs.Path.{stepped as stepped_of};
 ghost use Rattle.marked_tree.specs.Choice.{is_on_way, has_mark};
 ghost use Rattle.marked_tree.specs.Marked.{strip};
-ghost use Rattle.marked_tree.specs.Places.{Path};
-ghost use Rattle.marked_tree.specs.Steps.{marked_stepped, IsShort};
+ghost use Rattle.marked_tree.specs.Paths.{Path};
+ghost use Rattle.marked_tree.specs.Steps.{marked_stepped, IsShortList};
 ghost use Rattle.marked_tree.specs.View.{marked_of};
 
 use crate::Marked;
@@ -23,7 +23,7 @@ pub fn stepped<'a>(tree: &'a Marked, step: &str) -> Option<(Option<u32>, &'a Mar
 
 fn found<'a>(tree: &'a Marked, step: &str) -> Option<(Option<u32>, &'a Marked)>
     ensures value { option_map (λ e. (e.0, marked_of e.1.now)) result ≡ marked_stepped (marked_of tree.now) step.now }
-    ensures short { IsShort (marked_of tree.now) }
+    ensures short { IsShortList (marked_of tree.now) }
 {
     match tree {
         Marked::List(list) => list.at(position(step, list.len())?),

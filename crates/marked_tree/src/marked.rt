@@ -2,9 +2,10 @@ ghost use Rattle.std.specs.Prelude.{◌≡◌, OnOk, OnErr, IfOk, IfErr, option_
 ghost use Rattle.std.specs.Ordering.{nat_cmp};
 ghost use Rattle.std.specs.Cmp.Lexicographic.{slice_cmp};
 ghost use Rattle.claim_tree.specs.Tree.{IsOrdered, ElementsOrdered, MembersOrdered};
-ghost use Rattle.claim_tree.specs.Lists.{At};
-ghost use Rattle.marked_tree.specs.Marked.{strip, strip_elements, strip_members, no_marked_elements, no_marked_members, marked_elements_len, marked_members_len, marked_element_at, marked_member_at, marked_names, marked_pushed, marked_inserted, put, put_all};
-ghost use Rattle.marked_tree.specs.NamePlaces.{IsGap};
+ghost use Rattle.claim_tree.specs.Lists.{StandsAt};
+ghost use Rattle.marked_tree.specs.Marked.{strip, strip_elements, strip_members, no_marked_elements, no_marked_members, put};
+ghost use Rattle.marked_tree.specs.MarkedCalls.{marked_elements_len, marked_members_len, marked_element_at, marked_member_at, marked_names, marked_pushed, marked_inserted, put_all};
+ghost use Rattle.marked_tree.specs.NamePositions.{IsNameGap};
 ghost use Rattle.marked_tree.specs.Steps.{marked_member_named};
 ghost use Rattle.marked_tree.specs.View.{marked_of, marked_elements_of, marked_members_of};
 
@@ -42,7 +43,8 @@ impl Model for MarkedList {
 
     ghost coded = { marked_elements_code };
 
-    ghost use Rattle.claim_tree.specs.Tree.{elements_nodes, ElementsOrdered};
+    ghost use Rattle.claim_tree.specs.Tree.{ElementsOrdered};
+    ghost use Rattle.claim_tree.specs.Nodes.{elements_nodes};
     ghost use Rattle.marked_tree.specs.Marked.{strip_elements};
     ghost use Rattle.marked_tree.specs.View.{marked_elements_of};
 
@@ -75,7 +77,8 @@ impl Model for MarkedMap {
 
     ghost coded = { marked_members_code };
 
-    ghost use Rattle.claim_tree.specs.Tree.{members_nodes, MembersOrdered};
+    ghost use Rattle.claim_tree.specs.Tree.{MembersOrdered};
+    ghost use Rattle.claim_tree.specs.Nodes.{members_nodes};
     ghost use Rattle.marked_tree.specs.Marked.{strip_members};
     ghost use Rattle.marked_tree.specs.View.{marked_members_of};
 
@@ -283,8 +286,8 @@ fn sort_by_name(members: &mut Vec<(TextBox, Option<u32>, Marked)>) -> Result<(),
 // Where the name stands among ascending members, or where it would go.
 fn search(members: &[(TextBox, Option<u32>, Marked)], name: &str) -> Result<usize, usize>
     requires { MembersOrdered (strip_members (marked_members_of members.now)) }
-    ensures found { IfOk result (λ i. At (marked_names (marked_members_of members.now)) i name.now) }
-    ensures absent { IfErr result (IsGap (marked_names (marked_members_of members.now)) name.now) }
+    ensures found { IfOk result (λ i. StandsAt (marked_names (marked_members_of members.now)) i name.now) }
+    ensures absent { IfErr result (IsNameGap (marked_names (marked_members_of members.now)) name.now) }
 {
     match members.last() {
         Some(last) if compared(last, name) == Ordering::Less => Err(members.len()),

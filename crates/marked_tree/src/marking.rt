@@ -4,8 +4,8 @@ ghost use Rattle.std.specs.Set.{distinct_count};
 ghost use Rattle.claim_tree.specs.Tree.{depth as depth_of, elements_depth, members_depth};
 ghost use Rattle.claim_tree.specs.View.{tree_of};
 ghost use Rattle.marked_tree.specs.Marked.{strip};
-ghost use Rattle.marked_tree.specs.Places.{Path as Steps, same_path, mark as mark_of, hidden_count, is_among, below as test_below, one_if, hidden_in, hidden_elements, hidden_members, mark_from, mark_elements, mark_members, mark_if};
-ghost use Rattle.marked_tree.specs.Rests.{rests, step_order, path_order, AreSorted, IsRun, headed, inner};
+ghost use Rattle.marked_tree.specs.Paths.{Path as Steps, same_path, mark as mark_of, hidden_count, is_among, below as test_below, one_if, hidden_in, hidden_elements, hidden_members, mark_from, mark_elements, mark_members, mark_if};
+ghost use Rattle.marked_tree.specs.Rests.{rests, step_order, path_order, AreSorted, IsRunOfPaths, headed, inner};
 ghost use Rattle.marked_tree.specs.View.{marked_of};
 
 use crate::{Marked, MarkedList, MarkedMap};
@@ -192,7 +192,7 @@ fn paths_below<'a>(paths: &'a [Path], depth: usize, step: &str) -> &'a [Path]
 pub fn run_below(paths: &[Path], depth: usize, step: &str) -> (usize, usize)
     requires fits { depth ≤ 126 }
     requires sorted { AreSorted (rests depth paths.now) }
-    ensures { IsRun depth step.now paths.now result.0 result.1 }
+    ensures { IsRunOfPaths depth step.now paths.now result.0 result.1 }
 {
     let start = paths.partition_point(|path| compared(path, depth, step) == Ordering::Less);
     let rest = &paths[start..];

@@ -2,7 +2,7 @@
 ghost use Rattle.std.specs.Prelude.{◌≡◌, ◌≤◌, ℕ, List, [], ◌∷◌, ◌++◌, map, reverse, IfOk, IfSome, option_map, decimal};
 ghost use Rattle.claim_tree.specs.Tree.{depth, elements_depth, members_depth};
 ghost use Rattle.marked_tree.specs.Marked.{strip, strip_elements, strip_members};
-ghost use Rattle.marked_tree.specs.Places.{place, own_spot, inside, spots, elements_spots, members_spots, first_with};
+ghost use Rattle.marked_tree.specs.Paths.{mark_path, own_spot, inside, spots, elements_spots, members_spots, first_with};
 ghost use Rattle.marked_tree.specs.View.{marked_of};
 
 use crate::{Marked, MarkedList, MarkedMap};
@@ -15,7 +15,7 @@ use std::alloc::Global;
 /// members come by the bytes of their names. None where no node has the mark.
 pub fn place_of(alloc: Global, tree: &Marked, mark: u32) -> Result<Option<Path>, NoMemory>
     requires { depth (strip (marked_of tree.now)) ≤ 127 }
-    ensures { IfOk result (λ path. path ≡ place (marked_of tree.now) mark) }
+    ensures { IfOk result (λ path. path ≡ mark_path (marked_of tree.now) mark) }
 {
     match find(alloc, tree, mark)? {
         Some(steps) => Ok(Some(path_back(alloc, steps)?)),

@@ -3,35 +3,36 @@ use Rattle.std.proofs.Common.{◌≡◌, ℕ, zero, suc, ◌+◌, ◌<◌, ◌�
 use Rattle.std.specs.List.{list_any, IsDistinct, AllByRecursion}
 use Rattle.std.proofs.lemmas.Map.Steps.{length-le_from_distinct_below}
 use Rattle.claim_tree.specs.Tree.{Tree}
-use Rattle.claim_tree.specs.Lists.{At, In, Nowhere}
+use Rattle.claim_tree.specs.Lists.{StandsAt, In, AtNone}
 use Rattle.digest_sites.specs.Sites.{Site, sites}
 use Rattle.digest_sites.specs.Given.{Given}
-use Rattle.rebuild_core.specs.Given.{stands, is_in_round, is_reached, Owner, payload, value_of, Item, item, value_items, met}
-use Rattle.rebuild_core.specs.Conditions.{IsReferencedOnce, RepeatedDigest}
+use Rattle.rebuild_core.specs.Reached.{stands, is_in_round, is_reached, Owner, payload, value_of, OwnedSite, owned_site, value_sites, met}
+use Rattle.rebuild_core.specs.Conditions.{RepeatedDigest}
+use Rattle.rebuild_core.specs.Soundness.{IsReferencedOnce}
 use Rattle.rebuild_core.specs.Laws.{StandsIn, LeadsUp}
 use Rattle.claim_tree.proofs.Lists.{or_split, and_split, true_unless_false, In-left, In-right, In-map, In-At, At-same, At-below, same_by_image, list_any-In}
 use Rattle.rebuild_core.proofs.Found.{stands-In}
 
 -- a site of a value that passes is an item
-pub item_of_value : (p : Given → Bool) (g : List Given) (i k n : ℕ) (x : Given) (s : Site) → n ≡ i + k → At g k x → p x ≡ true → In s (sites x.value) → In (item (value_of n) s) (value_items p i g)
+pub item_of_value : (p : Given → Bool) (g : List Given) (i k n : ℕ) (x : Given) (s : Site) → n ≡ i + k → StandsAt g k x → p x ≡ true → In s (sites x.value) → In (owned_site (value_of n) s) (value_sites p i g)
 item_of_value p (y ∷ g) i zero n x s e a t m =
     let b : n ≡ i = omega arith in
     let z : x ≡ y = a in
-    In-left _ (cond (p y) (map (item (value_of i)) (sites y.value)) []) (value_items p (suc i) g)
-    (rw (← z, t, b) (In-map (item (value_of i)) s (sites x.value) m))
+    In-left _ (cond (p y) (map (owned_site (value_of i)) (sites y.value)) []) (value_sites p (suc i) g)
+    (rw (← z, t, b) (In-map (owned_site (value_of i)) s (sites x.value) m))
 item_of_value p (y ∷ g) i (suc k) n x s e a t m =
-    In-right _ (cond (p y) (map (item (value_of i)) (sites y.value)) []) (value_items p (suc i) g)
+    In-right _ (cond (p y) (map (owned_site (value_of i)) (sites y.value)) []) (value_sites p (suc i) g)
     (item_of_value p g (suc i) k n x s (omega arith) a t m)
 item_of_value p [] i k n x s e a t m = elim a [ ]
 
-module _ (p : Tree) (g : List Given) (once : Nowhere (RepeatedDigest p g)) where
+module _ (p : Tree) (g : List Given) (once : AtNone (RepeatedDigest p g)) where
   -- two items with one digest are the same
-  pub same_item : (a b : Item) → In a (met p g) → In b (met p g) → a.site.digest ≡ b.site.digest → a ≡ b
+  pub same_item : (a b : OwnedSite) → In a (met p g) → In b (met p g) → a.site.digest ≡ b.site.digest → a ≡ b
   same_item a b h k e = same_by_image (λ m. m.site.digest) (met p g) once a b h k e
 
   pub same_owner : (i : ℕ) (o u : Owner) → StandsIn p g i o → StandsIn p g i u → o ≡ u
   same_owner i o u (x, a, s, m, e) (y, b, t, n, f) =
-      ap (λ (z : Item). z.owner) (same_item (item o s) (item u t) m n (e ∙ ap (λ (z : Given). z.digest) (At-same g i x y a b) ∙ sym f))
+      ap (λ (z : OwnedSite). z.owner) (same_item (owned_site o s) (owned_site u t) m n (e ∙ ap (λ (z : Given). z.digest) (At-same g i x y a b) ∙ sym f))
 
   value_of_same : (i j : ℕ) → value_of i ≡ value_of j → i ≡ j
   value_of_same i j e = cc
@@ -76,22 +77,22 @@ module _ (p : Tree) (g : List Given) (once : Nowhere (RepeatedDigest p g)) where
   short u is h = length-le_from_distinct_below is (length g) (distinct u is h) (below u is h)
 
 module _ (p : Tree) (g : List Given) (ok : IsReferencedOnce p g) where
-  pub reached_all : (i : ℕ) (x : Given) → At g i x → is_reached p g x ≡ true
+  pub reached_all : (i : ℕ) (x : Given) → StandsAt g i x → is_reached p g x ≡ true
   reached_all i x a = true_unless_false _ (λ e. ok.no_unreferenced i (x, a, e))
 
-  pub in_payload : (s : Site) → In s (sites p) → In (item payload s) (met p g)
-  in_payload s m = In-left _ (map (item payload) (sites p)) (value_items (is_reached p g) 0 g) (In-map (item payload) s (sites p) m)
+  pub in_payload : (s : Site) → In s (sites p) → In (owned_site payload s) (met p g)
+  in_payload s m = In-left _ (map (owned_site payload) (sites p)) (value_sites (is_reached p g) 0 g) (In-map (owned_site payload) s (sites p) m)
 
-  pub in_value : (i : ℕ) (x : Given) (s : Site) → At g i x → In s (sites x.value) → In (item (value_of i) s) (met p g)
+  pub in_value : (i : ℕ) (x : Given) (s : Site) → StandsAt g i x → In s (sites x.value) → In (owned_site (value_of i) s) (met p g)
   in_value i x s a m =
-      In-right _ (map (item payload) (sites p)) (value_items (is_reached p g) 0 g)
+      In-right _ (map (owned_site payload) (sites p)) (value_sites (is_reached p g) 0 g)
       (item_of_value (is_reached p g) g 0 i i x s (omega arith) a (reached_all i x a) m)
 
   pub short_chain : (u : Owner) (is : List ℕ) → LeadsUp p g u is → length is ≤ length g
   short_chain u is h = short p g ok.no_repeated_digest u is h
 
   -- a disclosure of a round leads up to the payload
-  chain : (r i : ℕ) (x : Given) → At g i x → is_in_round p g r x.digest ≡ true → (is : List ℕ) × LeadsUp p g (value_of i) is
+  chain : (r i : ℕ) (x : Given) → StandsAt g i x → is_in_round p g r x.digest ≡ true → (is : List ℕ) × LeadsUp p g (value_of i) is
   chain zero i x a h =
       let w = stands-In x.digest (sites p) h in
       (i ∷ [], (refl, payload, (x, a, w.0, in_payload w.0 w.1, w.2), refl))
@@ -106,5 +107,5 @@ module _ (p : Tree) (g : List Given) (ok : IsReferencedOnce p g) where
       (i ∷ up.0, (refl, value_of b.0, (x, a, s.0, in_value b.0 y s.0 b.1 s.1, s.2), up.1)))
       (or_split (is_in_round p g r x.digest) _ h)
 
-  pub leads_up : (i : ℕ) (x : Given) → At g i x → (is : List ℕ) × LeadsUp p g (value_of i) is
+  pub leads_up : (i : ℕ) (x : Given) → StandsAt g i x → (is : List ℕ) × LeadsUp p g (value_of i) is
   leads_up i x a = chain (length g) i x a (reached_all i x a)

@@ -12,7 +12,7 @@ use Rattle.std.proofs.lemmas.Map.Text.{is_eq-slice_cmp}
 use Rattle.claim_tree.specs.Tree.{Text}
 use Rattle.rebuild_core.specs.declared.names.Disclosed.{Disclosed}
 use Rattle.rebuild_core.specs.contracts.names.DisclosedOrd.TheImpl.{cmp-value}
-use Rattle.rebuild_core.specs.Disclosed.{is_disclosed, has_name}
+use Rattle.rebuild_core.specs.Disclosed.{is_disclosed, is_name_disclosed}
 
 abbrev pub key : ℕ → Text → Disclosed
 key object name = record { object = object; name = name }
@@ -32,14 +32,14 @@ any_same : (object : ℕ) (name : Text) (ds : List Disclosed) → list_any (is_a
 any_same object name [] = refl
 any_same object name (d ∷ ds) = ap₂ (λ (a b : Bool). a || b) (same object name d) (any_same object name ds)
 
-contained : (object : ℕ) (name : Text) (s : BTreeSet Disclosed) → contains cmp-value.it s (key object name) ≡ has_name s object name
+contained : (object : ℕ) (name : Text) (s : BTreeSet Disclosed) → contains cmp-value.it s (key object name) ≡ is_name_disclosed s object name
 contained object name s = any_same object name s.keys
 
-pub added_new : (s : BTreeSet Disclosed) (object : ℕ) (name : Text) (new : Bool) → new ≡ not (contains cmp-value.it s (key object name)) → new ≡ not (has_name s object name)
+pub added_new : (s : BTreeSet Disclosed) (object : ℕ) (name : Text) (new : Bool) → new ≡ not (contains cmp-value.it s (key object name)) → new ≡ not (is_name_disclosed s object name)
 added_new s object name new e = e ∙ ap not (contained object name s)
 
 pub added_noted : (s t : BTreeSet Disclosed) (object : ℕ) (name : Text)
     → ((d : Disclosed) → contains cmp-value.it t d ≡ cond (is_at (cmp-value.it (key object name)) d) true (contains cmp-value.it s d))
-    → (o : ℕ) (n : Text) → has_name t o n ≡ (if eqb object o && bytes_eq name n then true else has_name s o n)
+    → (o : ℕ) (n : Text) → is_name_disclosed t o n ≡ (if eqb object o && bytes_eq name n then true else is_name_disclosed s o n)
 added_noted s t object name h o n =
     sym (contained o n t) ∙ h (key o n) ∙ ap₂ (λ (a b : Bool). cond a true b) (same object name (key o n)) (contained o n s)

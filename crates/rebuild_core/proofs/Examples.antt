@@ -3,13 +3,14 @@ use Rattle.std.proofs.Common.{◌≡◌, ℕ, zero, suc, List, [], ◌∷◌, ma
 use Rattle.claim_tree.specs.Tree.{Text, Tree, whole, text, leaf, array, object, no_elements, element, no_members, member}
 use Rattle.digest_sites.specs.Reserved.{sd_name, dots_name, misuses}
 use Rattle.digest_sites.specs.Given.{Given}
-use Rattle.marked_tree.specs.Marked.{marked_leaf, marked_array, marked_object, no_marked_elements, marked_element, no_marked_members, marked_member, prune, ways}
+use Rattle.marked_tree.specs.Marked.{marked_leaf, marked_array, marked_object, no_marked_elements, marked_element, no_marked_members, marked_member, prune}
+use Rattle.marked_tree.specs.Ways.{ways}
 use Rattle.rebuild_core.specs.Payload.{alg_name}
-use Rattle.rebuild_core.specs.Given.{met, item_digests, is_in_round, given_digests}
+use Rattle.rebuild_core.specs.Reached.{met, owned_digests, is_in_round, given_digests}
 use Rattle.rebuild_core.specs.Opening.{processed}
-use Rattle.rebuild_core.specs.Laws.{numbered}
-use Rattle.rebuild_core.specs.Rows.{Seen, all_rows, row_ends}
-use Rattle.rebuild_core.specs.Numbers.{numbers}
+use Rattle.rebuild_core.specs.Laws.{renumbered}
+use Rattle.rebuild_core.specs.Rows.{SeenRow, all_rows, row_ends}
+use Rattle.rebuild_core.specs.DigestNumbers.{numbers}
 use Rattle.rebuild_core.specs.Graph.{cut, is_in}
 
 abbrev number : ℕ → Tree
@@ -39,7 +40,7 @@ opens : processed payload given
 unfolding sd_name dots_name alg_name
 opens = refl
 
-meets : item_digests (met payload given) ≡ codes "A" ∷ codes "B" ∷ codes "C" ∷ []
+meets : owned_digests (met payload given) ≡ codes "A" ∷ codes "B" ∷ codes "C" ∷ []
 unfolding sd_name dots_name alg_name
 meets = refl
 
@@ -56,7 +57,7 @@ unfolding sd_name dots_name alg_name
 not_reached = refl
 
 -- without disclosure 2 and 1, disclosure 0 first and only
-prunes : numbered (0 ∷ []) (prune (processed payload given) (λ i. elim i [ zero ↦ true | suc j ↦ false ]))
+prunes : renumbered (0 ∷ []) (prune (processed payload given) (λ i. elim i [ zero ↦ true | suc j ↦ false ]))
     ≡ marked_object (marked_member (codes "b") None (marked_array (marked_element None (marked_leaf (whole (pos 5))) no_marked_elements)) (marked_member (codes "x") (Some 0) (marked_object no_marked_members) no_marked_members))
 unfolding sd_name dots_name alg_name
 prunes = refl
@@ -66,11 +67,11 @@ unfolding sd_name dots_name alg_name
 ways_are = refl
 
 -- the same, flat and by numbers
-digests_are : map (λ (r : Seen). r.digest) (all_rows payload given) ≡ codes "A" ∷ codes "B" ∷ codes "C" ∷ []
+digests_are : map (λ (r : SeenRow). r.digest) (all_rows payload given) ≡ codes "A" ∷ codes "B" ∷ codes "C" ∷ []
 unfolding sd_name dots_name alg_name
 digests_are = refl
 
-objects_are : map (λ (r : Seen). r.object) (all_rows payload given) ≡ 0 ∷ 1 ∷ 2 ∷ []
+objects_are : map (λ (r : SeenRow). r.object) (all_rows payload given) ≡ 0 ∷ 1 ∷ 2 ∷ []
 unfolding sd_name dots_name alg_name
 objects_are = refl
 

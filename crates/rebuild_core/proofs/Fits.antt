@@ -7,8 +7,9 @@ use Rattle.digest_sites.specs.Reserved.{sd_name, sd_texts, element_digest}
 use Rattle.digest_sites.specs.Sites.{Step, to_member, to_element, Site, sites, element_sites, member_sites, sites_on, own_site, element_site, under}
 use Rattle.digest_sites.specs.declared.site.SiteKind.{SiteKind}
 use Rattle.digest_sites.specs.declared.site.SiteKind.TheVariants.{Member}
-use Rattle.marked_tree.specs.Marked.{Marked, MarkedElements, MarkedMembers, marked_member, marked_element, marked_array, marked_object, marked_names, remark, remark_elements, remark_members, keep_element}
-use Rattle.rebuild_core.specs.Opening.{Shown, hidden, shown, open_tree, open_elements, open_members, open_element, show_members, show_element, show_member}
+use Rattle.marked_tree.specs.Marked.{Marked, MarkedElements, MarkedMembers, marked_member, marked_element, marked_array, marked_object, remark, remark_elements, remark_members, keep_element}
+use Rattle.marked_tree.specs.MarkedCalls.{marked_names}
+use Rattle.rebuild_core.specs.Opening.{Shown, nothing_shown, shown, open_tree, open_elements, open_members, open_element, show_members, show_element, show_member}
 use Rattle.rebuild_core.specs.Conditions.{IsWrong}
 use Rattle.rebuild_core.specs.Whole.{IsNew, AllNew}
 use Rattle.claim_tree.proofs.Lists.{In-left, In-right, In-append, In-map, In-of_map}
@@ -48,11 +49,11 @@ Pairwise-of_map R Q f h [] k = tt
 Pairwise-of_map R Q f h (x ∷ xs) k = ((λ y m. h x y (k.0 (f y) (In-map f y xs m))), Pairwise-of_map R Q f h xs k.1)
 
 abbrev pub Suits : SiteKind → Shown → Type 0
-Suits k hidden = Unit {0}
+Suits k nothing_shown = Unit {0}
 Suits k (shown i n t) = IsWrong k n → ⊥
 
 abbrev pub Names : Shown → Text → Type 0
-Names hidden k = ⊥
+Names nothing_shown k = ⊥
 Names (shown i n t) k = n ≡ Some k
 
 -- two member sites of one object do not disclose one name
@@ -86,12 +87,12 @@ fit_under r k ss h = record {
 }
 
 show_names : (x : Shown) (ms : MarkedMembers) (k : Text) → In k (marked_names (show_member x ms)) → Names x k ⊎ In k (marked_names ms)
-show_names hidden ms k m = inr m
+show_names nothing_shown ms k m = inr m
 show_names (shown i None t) ms k m = inr m
 show_names (shown i (Some l) t) ms k m = ⊎_elim (λ e. inl (ap Some (sym e))) (λ z. inr z) (put_names l (Some i) t ms k m)
 
 is_new : (x : Shown) (ms : MarkedMembers) → Suits Member x → ((k : Text) → Names x k → In k (marked_names ms) → ⊥) → IsNew x ms
-is_new hidden ms s h = tt
+is_new nothing_shown ms s h = tt
 is_new (shown i None t) ms s h = s tt
 is_new (shown i (Some k) t) ms s h = h k refl
 
@@ -142,21 +143,21 @@ open_ascending r (member l t ms) a = go (bytes_eq l sd_name) (open_ascending r m
 -- ---- leaving out marks
 
 abbrev pub reshown_as : Option ℕ → Option Text → Marked → Shown
-reshown_as None n t = hidden
+reshown_as None n t = nothing_shown
 reshown_as (Some i) n t = shown i n t
 
 abbrev pub reshown : (ℕ → Option ℕ) → Shown → Shown
-reshown f hidden = hidden
+reshown f nothing_shown = nothing_shown
 reshown f (shown i n t) = reshown_as (f i) n (remark f t)
 
 show_ascending : (x : Shown) (ms : MarkedMembers) → IsAscending (marked_names ms) → IsAscending (marked_names (show_member x ms))
-show_ascending hidden ms a = a
+show_ascending nothing_shown ms a = a
 show_ascending (shown i None t) ms a = a
 show_ascending (shown i (Some k) t) ms a = put_ascending k (Some i) t ms a
 
 remark_show : (f : ℕ → Option ℕ) (x : Shown) (ms : MarkedMembers) → IsAscending (marked_names ms) → IsNew x ms
     → remark_members f (show_member x ms) ≡ show_member (reshown f x) (remark_members f ms)
-remark_show f hidden ms a new = refl
+remark_show f nothing_shown ms a new = refl
 remark_show f (shown i None t) ms a new = absurd new
 remark_show f (shown i (Some k) t) ms a new = remark_put f k (Some i) t ms a new ∙ go (f i)
   where
@@ -173,7 +174,7 @@ remark_shows f r q ks (d ∷ ds) ms a new h =
     ∙ ap (show_members q ds) (remark_show f (r d) ms a new.0 ∙ ap (λ x. show_member x (remark_members f ms)) (sym (Each-own (λ d. q d ≡ reshown f (r d)) ks d ds h)))
 
 remark_show_element : (f : ℕ → Option ℕ) (x : Shown) (es : MarkedElements) → remark_elements f (show_element x es) ≡ show_element (reshown f x) (remark_elements f es)
-remark_show_element f hidden es = refl
+remark_show_element f nothing_shown es = refl
 remark_show_element f (shown i None t) es = go (f i)
   where
     go : (o : Option ℕ) → keep_element (option_map Some o) (remark f t) (remark_elements f es) ≡ show_element (reshown_as o None (remark f t)) (remark_elements f es)

@@ -2,12 +2,12 @@
 use Rattle.std.proofs.Common.{◌≡◌, ℕ, zero, suc, ◌+◌, ◌≤◌, List, [], ◌∷◌, map, length, Bool, true, false, cond, ◌⊎◌, inl, inr, Option, Some, None, refl, sym, ap, ap₂, ◌∙◌, subst, arith}
 use Rattle.std.specs.Prelude.{bytes_eq}
 use Rattle.claim_tree.specs.Tree.{Text, Tree}
-use Rattle.claim_tree.specs.Lists.{At, In, Repeats, Nowhere}
+use Rattle.claim_tree.specs.Lists.{StandsAt, In, Repeats, AtNone}
 use Rattle.digest_sites.specs.Sites.{sites}
 use Rattle.digest_sites.specs.Given.{Given}
-use Rattle.rebuild_core.specs.Given.{find_from, find, is_reached, payload, value_of, Item, item, value_items, met, item_digests, given_digests}
-use Rattle.rebuild_core.specs.Opening.{Shown, hidden, shown, reveal, opened}
-use Rattle.rebuild_core.specs.Conditions.{IsReferencedOnce}
+use Rattle.rebuild_core.specs.Reached.{find_from, find, is_reached, payload, value_of, OwnedSite, owned_site, value_sites, met, owned_digests, given_digests}
+use Rattle.rebuild_core.specs.Opening.{Shown, nothing_shown, shown, reveal, opened}
+use Rattle.rebuild_core.specs.Soundness.{IsReferencedOnce}
 use Rattle.rebuild_core.specs.Laws.{LeadsUp}
 use Rattle.claim_tree.proofs.Lists.{bytes_same, bytes_refl, In-At, At-In, At-map, At-below, In-map, In-of_map}
 use Rattle.rebuild_core.proofs.Found.{found}
@@ -18,7 +18,7 @@ use Rattle.rebuild_core.proofs.Sums.{same_sum, Apart-from}
 use Rattle.rebuild_core.proofs.OneSite.{one_site_holds}
 
 -- the item with a digest is found, where the digests differ
-find_from_at : (i : ℕ) (g : List Given) (k j : ℕ) (x : Given) → Nowhere (Repeats (given_digests g)) → At g k x → j ≡ i + k → find_from i g x.digest ≡ Some (j, x)
+find_from_at : (i : ℕ) (g : List Given) (k j : ℕ) (x : Given) → AtNone (Repeats (given_digests g)) → StandsAt g k x → j ≡ i + k → find_from i g x.digest ≡ Some (j, x)
 find_from_at i (y ∷ g) zero j x none a e =
     let h : bytes_eq y.digest x.digest ≡ true = bytes_refl y.digest x.digest (ap (λ (z : Given). z.digest) (sym a)) in
     let n : j ≡ i = omega arith in
@@ -31,13 +31,13 @@ find_from_at i (y ∷ g) (suc k) j x none a e = go (bytes_eq y.digest x.digest) 
     go false h ih = ih
 find_from_at i [] k j x none a e = elim a [ ]
 
-pub find_at : (g : List Given) (k : ℕ) (x : Given) → Nowhere (Repeats (given_digests g)) → At g k x → find g x.digest ≡ Some (k, x)
+pub find_at : (g : List Given) (k : ℕ) (x : Given) → AtNone (Repeats (given_digests g)) → StandsAt g k x → find g x.digest ≡ Some (k, x)
 find_at g k x none a = find_from_at 0 g k k x none a (omega arith)
 
 shown_known : (f j : ℕ) (g : List Given) (x : Given) → find g x.digest ≡ Some (j, x) → reveal (suc f) g x.digest ≡ shown j x.name (opened f g x.value)
 shown_known f j g x h = rw h
 
-pub unknown : (f : ℕ) (g : List Given) (d : Text) → find g d ≡ None → reveal f g d ≡ hidden
+pub unknown : (f : ℕ) (g : List Given) (d : Text) → find g d ≡ None → reveal f g d ≡ nothing_shown
 unknown zero g d h = refl
 unknown (suc f) g d h = rw h
 
@@ -45,7 +45,7 @@ module _ (p : Tree) (g : List Given) (ok : IsReferencedOnce p g) where
   pub full : Text → Shown
   full = reveal (length g) g
 
-  pub value_settles : (j : ℕ) (x : Given) → At g j x → (f : ℕ) → length g ≤ suc f → opened f g x.value ≡ opened (length g) g x.value
+  pub value_settles : (j : ℕ) (x : Given) → StandsAt g j x → (f : ℕ) → length g ≤ suc f → opened f g x.value ≡ opened (length g) g x.value
   value_settles j x a f l = go (leads_up p g ok j x a)
     where
       go : ((is : List ℕ) × LeadsUp p g (value_of j) is) → opened f g x.value ≡ opened (length g) g x.value
@@ -56,7 +56,7 @@ module _ (p : Tree) (g : List Given) (ok : IsReferencedOnce p g) where
           settled_value p g ok v.0 f (length g) j x (i ∷ is) a up (omega arith) (omega arith) (omega arith)
 
   -- the opening equation without fuel
-  pub fixed : (j : ℕ) (x : Given) → At g j x → reveal (length g) g x.digest ≡ shown j x.name (opened (length g) g x.value)
+  pub fixed : (j : ℕ) (x : Given) → StandsAt g j x → reveal (length g) g x.digest ≡ shown j x.name (opened (length g) g x.value)
   fixed j x a = go (length g) refl
     where
       go : (n : ℕ) → length g ≡ n → reveal n g x.digest ≡ shown j x.name (opened (length g) g x.value)
@@ -66,22 +66,22 @@ module _ (p : Tree) (g : List Given) (ok : IsReferencedOnce p g) where
   pub processed_settles : opened (suc (length g)) g p ≡ opened (length g) g p
   processed_settles = (one_site_holds p g ok).settled (suc (length g)) (omega arith)
 
-  abbrev items_sum : (Text → ℕ) → List Item → ℕ
+  abbrev items_sum : (Text → ℕ) → List OwnedSite → ℕ
   items_sum f ms = sum_of (λ m. f m.site.digest) ms
 
   values_sum : (f : Text → ℕ) (i : ℕ) (xs : List Given) → ((x : Given) → In x xs → is_reached p g x ≡ true)
-      → sum_of (λ m. f m.site.digest) (value_items (is_reached p g) i xs) ≡ sum_of (λ x. sum_of (λ s. f s.digest) (sites x.value)) xs
+      → sum_of (λ m. f m.site.digest) (value_sites (is_reached p g) i xs) ≡ sum_of (λ x. sum_of (λ s. f s.digest) (sites x.value)) xs
   values_sum f i [] all = refl
   values_sum f i (x ∷ xs) all =
       let t : is_reached p g x ≡ true = all x (inl refl) in
-      rw t (sum_of-append (λ m. f m.site.digest) (map (item (value_of i)) (sites x.value)) (value_items (is_reached p g) (suc i) xs)
-      ∙ ap₂ (λ (a b : ℕ). a + b) (sum_of-map (λ m. f m.site.digest) (item (value_of i)) (sites x.value)) (values_sum f (suc i) xs (λ y m. all y (inr m))))
+      rw t (sum_of-append (λ m. f m.site.digest) (map (owned_site (value_of i)) (sites x.value)) (value_sites (is_reached p g) (suc i) xs)
+      ∙ ap₂ (λ (a b : ℕ). a + b) (sum_of-map (λ m. f m.site.digest) (owned_site (value_of i)) (sites x.value)) (values_sum f (suc i) xs (λ y m. all y (inr m))))
 
-  met_sum : (f : Text → ℕ) → sum_of f (item_digests (met p g)) ≡ sum_of (λ s. f s.digest) (sites p) + sum_of (λ x. sum_of (λ s. f s.digest) (sites x.value)) g
+  met_sum : (f : Text → ℕ) → sum_of f (owned_digests (met p g)) ≡ sum_of (λ s. f s.digest) (sites p) + sum_of (λ x. sum_of (λ s. f s.digest) (sites x.value)) g
   met_sum f =
       sum_of-map f (λ m. m.site.digest) (met p g)
-      ∙ sum_of-append (λ m. f m.site.digest) (map (item payload) (sites p)) (value_items (is_reached p g) 0 g)
-      ∙ ap₂ (λ (a b : ℕ). a + b) (sum_of-map (λ m. f m.site.digest) (item payload) (sites p))
+      ∙ sum_of-append (λ m. f m.site.digest) (map (owned_site payload) (sites p)) (value_sites (is_reached p g) 0 g)
+      ∙ ap₂ (λ (a b : ℕ). a + b) (sum_of-map (λ m. f m.site.digest) (owned_site payload) (sites p))
       (values_sum f 0 g (λ x m. let w = In-At g x m in reached_all p g ok w.0 x w.1))
 
   -- a sum over the met list is one over the disclosures
@@ -89,17 +89,17 @@ module _ (p : Tree) (g : List Given) (ok : IsReferencedOnce p g) where
       → sum_of (λ s. f s.digest) (sites p) + sum_of (λ x. sum_of (λ s. f s.digest) (sites x.value)) g ≡ sum_of (λ x. f x.digest) g
   disclosures_sum f none =
       sym (met_sum f)
-      ∙ same_sum f (given_digests g) (item_digests (met p g)) (Apart-from (item_digests (met p g)) ok.no_repeated_digest) (Apart-from (given_digests g) ok.no_repeated_disclosure) stands counted
+      ∙ same_sum f (given_digests g) (owned_digests (met p g)) (Apart-from (owned_digests (met p g)) ok.no_repeated_digest) (Apart-from (given_digests g) ok.no_repeated_disclosure) stands counted
       ∙ sum_of-map f (λ (x : Given). x.digest) g
     where
-      stands : (e : Text) → In e (given_digests g) → In e (item_digests (met p g))
+      stands : (e : Text) → In e (given_digests g) → In e (owned_digests (met p g))
       stands e m =
           let w = In-of_map (λ (x : Given). x.digest) e g m in
           let a = In-At g w.0 w.1 in
           let q = (one_site_holds p g ok).once a.0 w.0 a.1 in
-          subst (λ z. In z (item_digests (met p g))) (sym w.2) (At-In (item_digests (met p g)) q.0 w.0.digest q.1)
+          subst (λ z. In z (owned_digests (met p g))) (sym w.2) (At-In (owned_digests (met p g)) q.0 w.0.digest q.1)
 
-      counted : (d : Text) → In d (item_digests (met p g)) → (f d ≡ 0) ⊎ In d (given_digests g)
+      counted : (d : Text) → In d (owned_digests (met p g)) → (f d ≡ 0) ⊎ In d (given_digests g)
       counted d m = go (find g d) refl
         where
           go : (o : Option (ℕ × Given)) → find g d ≡ o → (f d ≡ 0) ⊎ In d (given_digests g)

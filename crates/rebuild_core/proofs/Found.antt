@@ -2,10 +2,10 @@
 use Rattle.std.proofs.Common.{◌≡◌, ℕ, suc, ◌+◌, List, [], ◌∷◌, Bool, true, false, Some, sym, ap, ◌∙◌, refl, arith}
 use Rattle.std.specs.Prelude.{bytes_eq}
 use Rattle.claim_tree.specs.Tree.{Text}
-use Rattle.claim_tree.specs.Lists.{At, In}
+use Rattle.claim_tree.specs.Lists.{StandsAt, In}
 use Rattle.digest_sites.specs.Sites.{Site}
 use Rattle.digest_sites.specs.Given.{Given}
-use Rattle.rebuild_core.specs.Given.{find_from, stands}
+use Rattle.rebuild_core.specs.Reached.{find_from, stands}
 use Rattle.claim_tree.proofs.Lists.{bytes_same, list_any-In, pair_same}
 
 pub stands-In : (d : Text) (ss : List Site) → stands d ss ≡ true → (s : Site) × In s ss × (s.digest ≡ d)
@@ -13,7 +13,7 @@ stands-In d ss h = let w = list_any-In (λ s. bytes_eq s.digest d) ss h in (w.0,
 
 -- what `find_from` finds
 abbrev pub Found : ℕ → List Given → Text → ℕ → Given → Type 0
-Found i g d j x = (k : ℕ) × At g k x × (x.digest ≡ d) × (j ≡ i + k)
+Found i g d j x = (k : ℕ) × StandsAt g k x × (x.digest ≡ d) × (j ≡ i + k)
 
 pub found : (i : ℕ) (g : List Given) (d : Text) (j : ℕ) (x : Given) → find_from i g d ≡ Some (j, x) → Found i g d j x
 found i [] d j x h = cc

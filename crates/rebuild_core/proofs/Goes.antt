@@ -4,9 +4,10 @@ use Rattle.std.specs.Prelude.{bytes_eq, slice_index}
 use Rattle.std.proofs.lemmas.List.{map-append}
 use Rattle.claim_tree.specs.Tree.{Text, Tree, leaf, array, object, Elements, no_elements, element, Members, no_members, member, names}
 use Rattle.digest_sites.specs.Reserved.{sd_name, sd_texts, element_digest}
-use Rattle.digest_sites.specs.Sites.{Step, to_member, to_element, Site, sites, element_sites, member_sites, sites_on, own_site, under, digests}
+use Rattle.digest_sites.specs.Sites.{Step, to_member, to_element, Site, sites, element_sites, member_sites, sites_on, own_site, under}
+use Rattle.digest_sites.specs.SiteCalls.{digests}
 use Rattle.digest_sites.specs.Given.{Given}
-use Rattle.rebuild_core.specs.Cursor.{digests_on, tree_digests, elements_digests, members_digests, Tells, TellFirst}
+use Rattle.rebuild_core.specs.Cursor.{digests_on, tree_digests, elements_digests, members_digests, NumberTells, TellFirst}
 
 -- ---- the digests of the sites are those of the tree
 
@@ -82,7 +83,7 @@ goes_past g ks ds es at next end h q =
 -- the number at the cursor
 pub record IsTold (g : List Given) (ks : List ℕ) (at : ℕ) (d : Text) : Type 0 where
   pub within : at < length ks
-  pub tells : Tells g (slice_index ks at) d
+  pub tells : NumberTells g (slice_index ks at) d
 
 pub told_here : (g : List Given) (d : Text) (ds : List Text) (at : ℕ) (ks : List ℕ) → TellFirst g (drop at ks) (d ∷ ds) → IsTold g ks at d
 told_here g d ds zero (k ∷ ks) h = record { within = omega arith; tells = h.0 }

@@ -1,16 +1,17 @@
 -- The first four conditions, by numbers.
 use Rattle.std.proofs.Common.{◌≡◌, ℕ, suc, ◌<◌, List, [], ◌∷◌, ◌++◌, map, length, get_or, Bool, true, false, inl, inr, refl, sym, ap, ◌∙◌, subst, arith}
 use Rattle.claim_tree.specs.Tree.{Text, Tree, IsOrdered}
-use Rattle.claim_tree.specs.Lists.{At, In, Nowhere, IsLeast}
+use Rattle.claim_tree.specs.Lists.{StandsAt, In, AtNone, IsLeast}
 use Rattle.digest_sites.specs.Sites.{sites}
 use Rattle.digest_sites.specs.Given.{Given}
 use Rattle.rebuild_core.specs.Payload.{without_alg}
-use Rattle.rebuild_core.specs.Given.{Item, item, payload, value_of, value_items, is_reached, met, item_digests, given_digests, look_ups, all_items}
-use Rattle.rebuild_core.specs.Rows.{Seen, seen, all_rows, row_ends}
-use Rattle.rebuild_core.specs.Conditions.{RepeatedDisclosure, Misused, RepeatedDigest, Unreferenced, IsReferencedOnce}
+use Rattle.rebuild_core.specs.Reached.{OwnedSite, owned_site, payload, value_of, value_sites, is_reached, met, owned_digests, given_digests, all_sites}
+use Rattle.rebuild_core.specs.LookUps.{look_ups, counted, RoseWithin}
+use Rattle.rebuild_core.specs.Rows.{SeenRow, seen, all_rows, row_ends}
+use Rattle.rebuild_core.specs.Conditions.{RepeatedDisclosure, Misused, RepeatedDigest, Unreferenced}
+use Rattle.rebuild_core.specs.Soundness.{IsReferencedOnce}
 use Rattle.claim_tree.proofs.Lists.{At-same, At-map, In-At, one_place}
-use Rattle.rebuild_core.specs.Given.{counted, RoseWithin}
-use Rattle.rebuild_core.specs.Numbers.{numbers, all_interned, row_texts, AllAt, IsFlat, IsNumbered}
+use Rattle.rebuild_core.specs.DigestNumbers.{numbers, all_interned, row_texts, AllAt, IsFlatList, IsNumbered}
 use Rattle.rebuild_core.specs.Answer.{IsPayload}
 use Rattle.rebuild_core.specs.declared.rows.Row.{Row}
 use Rattle.rebuild_core.specs.Graph.{roots_in, rows_in, is_in, flagged_rows, Recurs, IsClear}
@@ -19,45 +20,45 @@ use Rattle.rebuild_core.proofs.RowFacts.{row_is_item, all_row_texts, rows_looked
 use Rattle.rebuild_core.proofs.Transfer.{length-all_at, graph_of_flat, IsGraph, Grows, grows_texts, numbers_stand, all_at, all_below, Apart, Reaches, met_stand, digest_recurs, recurs_digest, unreferenced_clear, clear_unreferenced}
 
 -- the numbers of the digests, in turn after those of the disclosures
-pub flat_made : (t : Tree) (g : List Given) → IsOrdered t → IsPayload t → (rows listed : List Row) (ix jx : List Text) (ks ends : List ℕ) → Nowhere (RepeatedDisclosure g) → ix ≡ given_digests g
-    → map seen rows ≡ all_rows t g → listed ≡ rows → ks ≡ numbers ix (row_texts listed) → jx ≡ all_interned ix (row_texts listed) → ends ≡ row_ends t g → IsFlat t g jx ks ends
+pub flat_made : (t : Tree) (g : List Given) → IsOrdered t → IsPayload t → (rows listed : List Row) (ix jx : List Text) (ks ends : List ℕ) → AtNone (RepeatedDisclosure g) → ix ≡ given_digests g
+    → map seen rows ≡ all_rows t g → listed ≡ rows → ks ≡ numbers ix (row_texts listed) → jx ≡ all_interned ix (row_texts listed) → ends ≡ row_ends t g → IsFlatList t g jx ks ends
 flat_made t g o is rows listed ix jx ks ends none a b l c d e =
     let ts = row_texts listed in
-    let are : ts ≡ item_digests (all_items (without_alg t) g) = ap row_texts l ∙ all_row_texts t g rows o is b in
+    let are : ts ≡ owned_digests (all_sites (without_alg t) g) = ap row_texts l ∙ all_row_texts t g rows o is b in
     let w : Grows ix jx = subst (λ z. Grows ix z) (sym d) (grows_texts ix ts) in
     record {
       apart = w.apart (subst Apart (sym a) none);
-      given_first = λ i x h. w.keeps i x.digest (subst (λ z. At z i x.digest) (sym a) (At-map (λ (z : Given). z.digest) g i x h));
+      given_first = λ i x h. w.keeps i x.digest (subst (λ z. StandsAt z i x.digest) (sym a) (At-map (λ (z : Given). z.digest) g i x h));
       all = subst (λ z. AllAt jx ks z) are (subst (λ z. AllAt jx z ts) (sym c) (subst (λ z. AllAt z (numbers ix ts) ts) (sym d) (numbers_stand ix ts)));
       cuts = e;
     }
 
 -- the same of what is found with rows that are moved
-pub flat_found : (t : Tree) (g : List Given) → IsOrdered t → IsPayload t → (rows : List Row) (ix jx : List Text) (ks es : List ℕ) {ends : List ℕ} → Nowhere (RepeatedDisclosure g) → ix ≡ given_digests g
-    → map seen rows ≡ all_rows t g → ks ≡ numbers ix (row_texts rows) → jx ≡ all_interned ix (row_texts rows) → es ≡ ends → ends ≡ row_ends t g → IsFlat t g jx ks es
+pub flat_found : (t : Tree) (g : List Given) → IsOrdered t → IsPayload t → (rows : List Row) (ix jx : List Text) (ks es : List ℕ) {ends : List ℕ} → AtNone (RepeatedDisclosure g) → ix ≡ given_digests g
+    → map seen rows ≡ all_rows t g → ks ≡ numbers ix (row_texts rows) → jx ≡ all_interned ix (row_texts rows) → es ≡ ends → ends ≡ row_ends t g → IsFlatList t g jx ks es
 flat_found t g o is rows ix jx ks es none a b c d e f = flat_made t g o is rows rows ix jx ks es none a b refl c d (e ∙ f)
 
 -- where each disclosure is reached, the met list has the digests of all values
-reached_items : (passes : Given → Bool) (i : ℕ) (g : List Given) → ((x : Given) → In x g → passes x ≡ true) → value_items passes i g ≡ value_items (λ _. true) i g
+reached_items : (passes : Given → Bool) (i : ℕ) (g : List Given) → ((x : Given) → In x g → passes x ≡ true) → value_sites passes i g ≡ value_sites (λ _. true) i g
 reached_items passes i [] h = refl
 reached_items passes i (x ∷ g) h =
     let e : passes x ≡ true = h x (inl refl) in
-    rw e (ap (λ (z : List Item). map (item (value_of i)) (sites x.value) ++ z) (reached_items passes (suc i) g (λ y m. h y (inr m))))
+    rw e (ap (λ (z : List OwnedSite). map (owned_site (value_of i)) (sites x.value) ++ z) (reached_items passes (suc i) g (λ y m. h y (inr m))))
 
-pub met_all : (p : Tree) (g : List Given) → IsReferencedOnce p g → all_items p g ≡ met p g
+pub met_all : (p : Tree) (g : List Given) → IsReferencedOnce p g → all_sites p g ≡ met p g
 met_all p g ok =
-    ap (λ (z : List Item). map (item payload) (sites p) ++ z) (sym (reached_items (is_reached p g) 0 g (λ x m. let w = In-At g x m in reached_all p g ok w.0 x w.1)))
+    ap (λ (z : List OwnedSite). map (owned_site payload) (sites p) ++ z) (sym (reached_items (is_reached p g) 0 g (λ x m. let w = In-At g x m in reached_all p g ok w.0 x w.1)))
 
-length-items : (ms : List Item) → length (item_digests ms) ≡ length ms
+length-items : (ms : List OwnedSite) → length (owned_digests ms) ≡ length ms
 length-items [] = refl
 length-items (m ∷ ms) = ap suc (length-items ms)
 
 module _ (p : Tree) (g : List Given) (ix : List Text) (roots : List ℕ) (rows : List (List ℕ)) (w : IsGraph p g ix roots rows) (fs : List Bool) (few : length fs ≡ length g) (reaches : Reaches (length g) roots rows fs) (ks : List ℕ) (made : ks ≡ roots ++ flagged_rows fs rows) where
-  stand : AllAt ix ks (item_digests (met p g))
+  stand : AllAt ix ks (owned_digests (met p g))
   stand = rw made (met_stand p g ix roots rows w fs few reaches)
 
   pub below : (k : ℕ) → In k ks → k < length ix
-  below = all_below ix ks (item_digests (met p g)) stand
+  below = all_below ix ks (owned_digests (met p g)) stand
 
   pub least_digest : (q : ℕ) → IsLeast (Recurs ks) q → IsLeast (RepeatedDigest p g) q
   least_digest q l = record {
@@ -65,7 +66,7 @@ module _ (p : Tree) (g : List Given) (ix : List Text) (roots : List ℕ) (rows :
     first = λ r lt d. l.first r lt (subst (λ z. Recurs z r) (sym made) (digest_recurs p g ix roots rows w fs few reaches r d));
   }
 
-  pub no_digest : Nowhere (Recurs ks) → Nowhere (RepeatedDigest p g)
+  pub no_digest : AtNone (Recurs ks) → AtNone (RepeatedDigest p g)
   no_digest n = λ q d. n q (subst (λ z. Recurs z q) (sym made) (digest_recurs p g ix roots rows w fs few reaches q d))
 
   clear_there : (k : ℕ) → Unreferenced p g k → IsClear fs k
@@ -77,7 +78,7 @@ module _ (p : Tree) (g : List Given) (ix : List Text) (roots : List ℕ) (rows :
     first = λ r lt u. l.first r lt (clear_there r u);
   }
 
-  pub no_unreferenced : Nowhere (IsClear fs) → Nowhere (Unreferenced p g)
+  pub no_unreferenced : AtNone (IsClear fs) → AtNone (Unreferenced p g)
   no_unreferenced n = λ r u. n r (clear_there r u)
 
 -- ---- all of it
@@ -86,11 +87,11 @@ module _ (p : Tree) (g : List Given) (ix : List Text) (roots : List ℕ) (rows :
 pub record IsJudged (p : Tree) (g : List Given) (ix : List Text) (fs : List Bool) (ks : List ℕ) : Type 0 where
   pub below : (k : ℕ) → In k ks → k < length ix
   pub repeated : (q : ℕ) → IsLeast (Recurs ks) q → IsLeast (RepeatedDigest p g) q
-  pub apart : Nowhere (Recurs ks) → Nowhere (RepeatedDigest p g)
+  pub apart : AtNone (Recurs ks) → AtNone (RepeatedDigest p g)
   pub unreferenced : (i : ℕ) → IsLeast (IsClear fs) i → IsLeast (Unreferenced p g) i
-  pub referenced : Nowhere (IsClear fs) → Nowhere (Unreferenced p g)
+  pub referenced : AtNone (IsClear fs) → AtNone (Unreferenced p g)
 
-pub judged : (t : Tree) (g : List Given) → IsOrdered t → IsPayload t → (ix : List Text) (ks ends : List ℕ) → IsFlat t g ix ks ends → (n : ℕ) → n ≡ length g
+pub judged : (t : Tree) (g : List Given) → IsOrdered t → IsPayload t → (ix : List Text) (ks ends : List ℕ) → IsFlatList t g ix ks ends → (n : ℕ) → n ≡ length g
     → (flags fs : List Bool) → length flags ≡ n → ((k : ℕ) → k < n → get_or flags k false ≡ is_in (roots_in ends ks) (rows_in ends ks) n k) → fs ≡ flags
     → (met ms : List ℕ) → met ≡ roots_in ends ks ++ flagged_rows fs (rows_in ends ks) → ms ≡ met → IsJudged (without_alg t) g ix fs ms
 judged t g o is ix ks ends w n many flags fs few reaches same met ms made also =
@@ -108,8 +109,8 @@ judged t g o is ix ks ends w n many flags fs few reaches same met ms made also =
       referenced = no_unreferenced p g ix roots rows v fs few reaches ms (also ∙ made);
     }
 
-pub referenced_once : (p : Tree) (g : List Given) (ix : List Text) (fs : List Bool) (ks : List ℕ) → IsJudged p g ix fs ks → Nowhere (RepeatedDisclosure g) → Nowhere (Misused p g)
-    → Nowhere (Recurs ks) → Nowhere (IsClear fs) → IsReferencedOnce p g
+pub referenced_once : (p : Tree) (g : List Given) (ix : List Text) (fs : List Bool) (ks : List ℕ) → IsJudged p g ix fs ks → AtNone (RepeatedDisclosure g) → AtNone (Misused p g)
+    → AtNone (Recurs ks) → AtNone (IsClear fs) → IsReferencedOnce p g
 referenced_once p g ix fs ks j a b c d = record { no_repeated_disclosure = a; no_misuse = b; no_repeated_digest = j.apart c; no_unreferenced = j.referenced d }
 
 -- the look-ups for the disclosures and those for the rows
@@ -122,22 +123,22 @@ pub counted_both : (t : Tree) (g : List Given) (rows : List Row) (a b c : ℕ) �
 counted_both t g rows a b c o is same h k = let n = rows_looked_up t g rows o is same in omega (arith, n, h, k)
 
 -- the flat list is the met list, by numbers
-pub numbered : (t : Tree) (g : List Given) (ix : List Text) (ks ends : List ℕ) → IsFlat t g ix ks ends → IsReferencedOnce (without_alg t) g → IsNumbered (without_alg t) g ks
+pub numbered : (t : Tree) (g : List Given) (ix : List Text) (ks ends : List ℕ) → IsFlatList t g ix ks ends → IsReferencedOnce (without_alg t) g → IsNumbered (without_alg t) g ks
 numbered t g ix ks ends w ok =
     let p = without_alg t in
-    let stand : AllAt ix ks (item_digests (met p g)) = subst (λ (z : List Item). AllAt ix ks (item_digests z)) (met_all p g ok) w.all in
+    let stand : AllAt ix ks (owned_digests (met p g)) = subst (λ (z : List OwnedSite). AllAt ix ks (owned_digests z)) (met_all p g ok) w.all in
     record {
-      length = length-all_at ix ks (item_digests (met p g)) stand ∙ length-items (met p g);
+      length = length-all_at ix ks (owned_digests (met p g)) stand ∙ length-items (met p g);
       same = λ q k m x a b c.
-          let v = all_at ix ks (item_digests (met p g)) q k stand a in
-          At-same (item_digests (met p g)) q m.site.digest v.0 (At-map (λ (z : Item). z.site.digest) (met p g) q m b) v.1 ∙ At-same ix k v.0 x.digest v.2 (w.given_first k x c);
+          let v = all_at ix ks (owned_digests (met p g)) q k stand a in
+          At-same (owned_digests (met p g)) q m.site.digest v.0 (At-map (λ (z : OwnedSite). z.site.digest) (met p g) q m b) v.1 ∙ At-same ix k v.0 x.digest v.2 (w.given_first k x c);
       back = λ q k i m x a b c d.
-          let v = all_at ix ks (item_digests (met p g)) q k stand a in
-          let s : v.0 ≡ x.digest = At-same (item_digests (met p g)) q v.0 m.site.digest v.1 (At-map (λ (z : Item). z.site.digest) (met p g) q m b) ∙ d in
-          one_place ix w.apart k i x.digest (subst (λ z. At ix k z) s v.2) (w.given_first i x c);
+          let v = all_at ix ks (owned_digests (met p g)) q k stand a in
+          let s : v.0 ≡ x.digest = At-same (owned_digests (met p g)) q v.0 m.site.digest v.1 (At-map (λ (z : OwnedSite). z.site.digest) (met p g) q m b) ∙ d in
+          one_place ix w.apart k i x.digest (subst (λ z. StandsAt ix k z) s v.2) (w.given_first i x c);
     }
 
 -- the rows are the met list, one by one
-pub row_is_met : (t : Tree) (g : List Given) → IsOrdered t → IsPayload t → IsReferencedOnce (without_alg t) g → (place : ℕ) (r : Seen) (m : Item)
-    → At (all_rows t g) place r → At (met (without_alg t) g) place m → (r.kind ≡ m.site.kind) × (r.digest ≡ m.site.digest) × (r.beside ≡ m.site.beside)
-row_is_met t g o is ok place r m a b = row_is_item t g o is place r m a (subst (λ (ms : List Item). At ms place m) (sym (met_all (without_alg t) g ok)) b)
+pub row_is_met : (t : Tree) (g : List Given) → IsOrdered t → IsPayload t → IsReferencedOnce (without_alg t) g → (place : ℕ) (r : SeenRow) (m : OwnedSite)
+    → StandsAt (all_rows t g) place r → StandsAt (met (without_alg t) g) place m → (r.kind ≡ m.site.kind) × (r.digest ≡ m.site.digest) × (r.beside ≡ m.site.beside)
+row_is_met t g o is ok place r m a b = row_is_item t g o is place r m a (subst (λ (ms : List OwnedSite). StandsAt ms place m) (sym (met_all (without_alg t) g ok)) b)

@@ -1,24 +1,24 @@
 -- The least disclosure that is ill placed, found in one pass.
 use Rattle.std.proofs.Common.{◌≡◌, ℕ, zero, suc, ◌+◌, ◌<◌, ◌≤◌, List, [], ◌∷◌, length, get_or, ◌⊎◌, ⊎_elim, subst, arith}
-use Rattle.claim_tree.specs.Lists.{At, Nowhere, IsLeast}
+use Rattle.claim_tree.specs.Lists.{StandsAt, AtNone, IsLeast}
 use Rattle.claim_tree.proofs.Lists.{At-same, At-below}
 use Rattle.digest_sites.specs.Given.{Given}
-use Rattle.rebuild_core.specs.Rows.{Seen}
-use Rattle.rebuild_core.specs.RowNames.{StandsAt}
+use Rattle.rebuild_core.specs.Rows.{SeenRow}
+use Rattle.rebuild_core.specs.RowNames.{StandsAtRow}
 
 -- what an index reads stands there
-pub At-read : {X : Type 0} (xs : List X) (i : ℕ) (x other : X) → i < length xs → x ≡ get_or xs i other → At xs i x
+pub At-read : {X : Type 0} (xs : List X) (i : ℕ) (x other : X) → i < length xs → x ≡ get_or xs i other → StandsAt xs i x
 At-read (y ∷ xs) zero x other l e = e
 At-read (y ∷ xs) (suc i) x other l e = At-read xs i x other (omega arith) e
 At-read [] i x other l e = absurd (omega arith)
 
 -- least is the least ill placed disclosure in the first q rows, or how many there are
-pub record IsLow (IsIll : Seen → Given → Type 0) (rows : List Seen) (numbers : List ℕ) (g : List Given) (q least : ℕ) : Type 0 where
+pub record IsLow (IsIll : SeenRow → Given → Type 0) (rows : List SeenRow) (numbers : List ℕ) (g : List Given) (q least : ℕ) : Type 0 where
   pub within : least ≤ length g
-  pub holds : least < length g → StandsAt IsIll rows numbers g least
-  pub none : (r i : ℕ) (m : Seen) (x : Given) → r < q → At numbers r i → At rows r m → At g i x → IsIll m x → least ≤ i
+  pub holds : least < length g → StandsAtRow IsIll rows numbers g least
+  pub none : (r i : ℕ) (m : SeenRow) (x : Given) → r < q → StandsAt numbers r i → StandsAt rows r m → StandsAt g i x → IsIll m x → least ≤ i
 
-pub low_start : (IsIll : Seen → Given → Type 0) (rows : List Seen) (numbers : List ℕ) (g : List Given) (least : ℕ) → least ≡ length g → IsLow IsIll rows numbers g 0 least
+pub low_start : (IsIll : SeenRow → Given → Type 0) (rows : List SeenRow) (numbers : List ℕ) (g : List Given) (least : ℕ) → least ≡ length g → IsLow IsIll rows numbers g 0 least
 low_start IsIll rows numbers g least e = record {
   within = omega (arith, e);
   holds = λ l. absurd (omega (arith, l, e));
@@ -28,37 +28,37 @@ low_start IsIll rows numbers g least e = record {
 pub split : (x y : ℕ) → x < y + 1 → (x < y) ⊎ (x ≡ y)
 split x y l = grind arith
 
-pub low_take : (IsIll : Seen → Given → Type 0) (rows : List Seen) (numbers : List ℕ) (g : List Given) (q k least : ℕ) (m : Seen) (x : Given)
-    → IsLow IsIll rows numbers g q least → At numbers q k → At rows q m → At g k x → k < least → IsIll m x → IsLow IsIll rows numbers g (q + 1) k
+pub low_take : (IsIll : SeenRow → Given → Type 0) (rows : List SeenRow) (numbers : List ℕ) (g : List Given) (q k least : ℕ) (m : SeenRow) (x : Given)
+    → IsLow IsIll rows numbers g q least → StandsAt numbers q k → StandsAt rows q m → StandsAt g k x → k < least → IsIll m x → IsLow IsIll rows numbers g (q + 1) k
 low_take IsIll rows numbers g q k least m x s a b c l h = record {
   within = omega (arith, l, s.within);
   holds = λ _. (q, a, m, b, x, c, h);
-  none = λ r i n y lt d e f z. ⊎_elim (λ o. omega (arith, s.none r i n y o d e f z, l)) (λ o. let w : i ≡ k = At-same numbers q i k (subst (λ v. At numbers v i) o d) a in omega (arith, w)) (split r q lt);
+  none = λ r i n y lt d e f z. ⊎_elim (λ o. omega (arith, s.none r i n y o d e f z, l)) (λ o. let w : i ≡ k = At-same numbers q i k (subst (λ v. StandsAt numbers v i) o d) a in omega (arith, w)) (split r q lt);
 }
 
-pub low_pass : (IsIll : Seen → Given → Type 0) (rows : List Seen) (numbers : List ℕ) (g : List Given) (q k least : ℕ) (m : Seen)
-    → IsLow IsIll rows numbers g q least → At numbers q k → At rows q m → ((x : Given) → At g k x → k < least → IsIll m x → ⊥) → IsLow IsIll rows numbers g (q + 1) least
+pub low_pass : (IsIll : SeenRow → Given → Type 0) (rows : List SeenRow) (numbers : List ℕ) (g : List Given) (q k least : ℕ) (m : SeenRow)
+    → IsLow IsIll rows numbers g q least → StandsAt numbers q k → StandsAt rows q m → ((x : Given) → StandsAt g k x → k < least → IsIll m x → ⊥) → IsLow IsIll rows numbers g (q + 1) least
 low_pass IsIll rows numbers g q k least m s a b h = record {
   within = s.within;
   holds = s.holds;
-  none = λ r i n y lt d e f z. ⊎_elim (λ o. s.none r i n y o d e f z) (λ o. here i n y (subst (λ v. At numbers v i) o d) (subst (λ v. At rows v n) o e) f z) (split r q lt);
+  none = λ r i n y lt d e f z. ⊎_elim (λ o. s.none r i n y o d e f z) (λ o. here i n y (subst (λ v. StandsAt numbers v i) o d) (subst (λ v. StandsAt rows v n) o e) f z) (split r q lt);
 }
   where
     order : (i j : ℕ) → (i < j → ⊥) → j ≤ i
     order i j w = grind arith
 
-    here : (i : ℕ) (n : Seen) (y : Given) → At numbers q i → At rows q n → At g i y → IsIll n y → least ≤ i
+    here : (i : ℕ) (n : SeenRow) (y : Given) → StandsAt numbers q i → StandsAt rows q n → StandsAt g i y → IsIll n y → least ≤ i
     here i n y d e f z =
         let w : i ≡ k = At-same numbers q i k d a in
         let v : n ≡ m = At-same rows q n m e b in
-        order i least (λ l. h y (subst (λ u. At g u y) w f) (omega (arith, w, l)) (subst (λ u. IsIll u y) v z))
+        order i least (λ l. h y (subst (λ u. StandsAt g u y) w f) (omega (arith, w, l)) (subst (λ u. IsIll u y) v z))
 
-pub low_found : (IsIll : Seen → Given → Type 0) (rows : List Seen) (numbers : List ℕ) (g : List Given) (q least : ℕ) → IsLow IsIll rows numbers g q least → length numbers ≤ q → least < length g → IsLeast (StandsAt IsIll rows numbers g) least
+pub low_found : (IsIll : SeenRow → Given → Type 0) (rows : List SeenRow) (numbers : List ℕ) (g : List Given) (q least : ℕ) → IsLow IsIll rows numbers g q least → length numbers ≤ q → least < length g → IsLeast (StandsAtRow IsIll rows numbers g) least
 low_found IsIll rows numbers g q least s l lt = record {
   fails = s.holds lt;
   first = λ r below b. omega (arith, below, s.none b.0 r b.2 b.4 (omega (arith, l, At-below numbers b.0 r b.1)) b.1 b.3 b.5 b.6);
 }
 
-pub low_none : (IsIll : Seen → Given → Type 0) (rows : List Seen) (numbers : List ℕ) (g : List Given) (q least : ℕ) → IsLow IsIll rows numbers g q least → length numbers ≤ q → length g ≤ least → Nowhere (StandsAt IsIll rows numbers g)
+pub low_none : (IsIll : SeenRow → Given → Type 0) (rows : List SeenRow) (numbers : List ℕ) (g : List Given) (q least : ℕ) → IsLow IsIll rows numbers g q least → length numbers ≤ q → length g ≤ least → AtNone (StandsAtRow IsIll rows numbers g)
 low_none IsIll rows numbers g q least s l lt i b =
     omega (arith, lt, At-below g i b.4 b.5, s.none b.0 i b.2 b.4 (omega (arith, l, At-below numbers b.0 i b.1)) b.1 b.3 b.5 b.6)

@@ -5,16 +5,19 @@ use Rattle.std.proofs.lemmas.List.{at_drop_more}
 use Rattle.std.proofs.lemmas.Grind.{get_or_default_zero}
 use Rattle.std.proofs.Math.ListN.{drop_of_length-le}
 use Rattle.claim_tree.specs.Tree.{Text, Tree, Elements, no_elements, element, depth}
-use Rattle.claim_tree.specs.Lists.{At}
-use Rattle.claim_tree.specs.View.{tree_of, elements_of}
+use Rattle.claim_tree.specs.Lists.{StandsAt}
+use Rattle.claim_tree.specs.View.{tree_of}
+use Rattle.claim_tree.specs.ListViews.{elements_of}
 use Rattle.claim_tree.specs.declared.tree.Tree.{Tree as Code}
 use Rattle.claim_tree.proofs.Lists.{At-below}
 use Rattle.digest_sites.specs.Reserved.{element_digest}
-use Rattle.digest_sites.specs.Given.{Given, given_of}
+use Rattle.digest_sites.specs.Given.{Given}
+use Rattle.digest_sites.specs.GivenView.{given_of}
 use Rattle.digest_sites.specs.declared.given.Given.{Given as GivenCode}
-use Rattle.marked_tree.specs.Marked.{Marked, MarkedElements, marked_element, marked_pushed, strip}
+use Rattle.marked_tree.specs.Marked.{Marked, MarkedElements, marked_element, strip}
+use Rattle.marked_tree.specs.MarkedCalls.{marked_pushed}
 use Rattle.rebuild_core.specs.Opening.{Shown, shown, show_element, open_tree, open_element, open_elements}
-use Rattle.rebuild_core.specs.Cursor.{digests_on, tree_digests, elements_digests, Tells, TellFirst}
+use Rattle.rebuild_core.specs.Cursor.{digests_on, tree_digests, elements_digests, NumberTells, TellFirst}
 use Rattle.rebuild_core.specs.Whole.{settled, joined, shown_depth, IfTooDeep, IsElement, WholeOn, OpensWhole, ElementsWhole, IsOpenable}
 use Rattle.rebuild_core.specs.declared.errors.ProcessError.{ProcessError}
 use Rattle.rebuild_core.proofs.Goes.{Goes, goes_past, first_part, IsTold, told_here}
@@ -35,7 +38,7 @@ still_deep (ProcessError.NameClash i) f h = h
 
 -- ---- a disclosure by its number
 
-at_slice_get : (g : List Given) (i : ℕ) (x : Given) → Some x ≡ slice_get g i → At g i x
+at_slice_get : (g : List Given) (i : ℕ) (x : Given) → Some x ≡ slice_get g i → StandsAt g i x
 at_slice_get [] i x h = cc
 at_slice_get (y ∷ g) zero x h = cc
 at_slice_get (y ∷ g) (suc i) x h = at_slice_get g i x h
@@ -45,17 +48,17 @@ past_slice_get [] i h = omega arith
 past_slice_get (y ∷ g) zero h = cc
 past_slice_get (y ∷ g) (suc i) h = omega (arith, past_slice_get g i h)
 
-pub disclosure_found : (g : List Given) (i : ℕ) (r : Option (Bor GivenCode)) → option_map (λ x. given_of x.now) r ≡ slice_get g i → MatchOption r (length g ≤ i) (λ x. At g i (given_of x.now))
+pub disclosure_found : (g : List Given) (i : ℕ) (r : Option (Bor GivenCode)) → option_map (λ x. given_of x.now) r ≡ slice_get g i → MatchOption r (length g ≤ i) (λ x. StandsAt g i (given_of x.now))
 disclosure_found g i None h = past_slice_get g i h
 disclosure_found g i (Some x) h = at_slice_get g i (given_of x.now) h
 
-read_at : (ks : List ℕ) (i k d : ℕ) → At ks i k → get_or ks i d ≡ k
+read_at : (ks : List ℕ) (i k d : ℕ) → StandsAt ks i k → get_or ks i d ≡ k
 read_at (j ∷ ks) zero k d h = sym h
 read_at (j ∷ ks) (suc i) k d h = read_at ks i k d h
 read_at [] i k d h = elim h [ ]
 
 -- the number that is read at the cursor, and where the numbers of its disclosure begin
-module _ (g : List Given) (ks ends : List ℕ) (ready : IsOpenable g ks ends) (j : ℕ) (x : Given) (there : At g j x) where
+module _ (g : List Given) (ks ends : List ℕ) (ready : IsOpenable g ks ends) (j : ℕ) (x : Given) (there : StandsAt g j x) where
   pub few_numbers : j < 2 ^ 32
   few_numbers = omega (arith, ready.few, At-below g j x there)
 
@@ -68,10 +71,10 @@ module _ (g : List Given) (ks ends : List ℕ) (ready : IsOpenable g ks ends) (j
       let e : start ≡ w.0 = read ∙ read_at ends j w.0 start w.1 in
       (subst (λ n. TellFirst g (drop n ks) (tree_digests x.value)) (sym e) w.2, ready.whole j x there)
 
-  pub shows : (at : ℕ) (d : Text) → at < length ks → j ≡ get_or ks at j → Tells g (slice_index ks at) d → settled g d ≡ shown j x.name (open_tree (settled g) x.value)
+  pub shows : (at : ℕ) (d : Text) → at < length ks → j ≡ get_or ks at j → NumberTells g (slice_index ks at) d → settled g d ≡ shown j x.name (open_tree (settled g) x.value)
   shows at d within read tells =
       let e : j ≡ slice_index ks at = read ∙ get_or_default_zero ks at j within in
-      let w : At g (slice_index ks at) x = subst (λ i. At g i x) e there in
+      let w : StandsAt g (slice_index ks at) x = subst (λ i. StandsAt g i x) e there in
       tells.known x w ∙ ap (λ i. shown i x.name (open_tree (settled g) x.value)) (sym e)
 
 -- ---- the elements

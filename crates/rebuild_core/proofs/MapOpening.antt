@@ -7,12 +7,14 @@ use Rattle.std.proofs.lemmas.Cmp.{nat_list_cmp_total}
 use Rattle.std.proofs.lemmas.List.{at_drop_more}
 use Rattle.std.proofs.Math.ListN.{drop_of_length-le}
 use Rattle.claim_tree.specs.Tree.{Text, Tree, Members, no_members, member, object, names, depth, IsBefore, IsBeforeAll, MembersOrdered}
-use Rattle.claim_tree.specs.View.{tree_of, members_of}
+use Rattle.claim_tree.specs.View.{tree_of}
+use Rattle.claim_tree.specs.ListViews.{members_of}
 use Rattle.claim_tree.specs.Removed.{removed}
 use Rattle.claim_tree.proofs.Walks.{Named}
 use Rattle.digest_sites.specs.Reserved.{sd_name, sd_texts}
 use Rattle.digest_sites.specs.Given.{Given}
-use Rattle.marked_tree.specs.Marked.{Marked, MarkedMembers, no_marked_members, marked_member, put, put_all, strip}
+use Rattle.marked_tree.specs.Marked.{Marked, MarkedMembers, no_marked_members, marked_member, put, strip}
+use Rattle.marked_tree.specs.MarkedCalls.{put_all}
 use Rattle.rebuild_core.specs.Payload.{alg_name}
 use Rattle.rebuild_core.specs.Opening.{Shown, open_tree, open_members, show_members}
 use Rattle.rebuild_core.specs.Cursor.{tree_digests, members_digests, TellFirst}

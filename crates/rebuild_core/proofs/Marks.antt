@@ -6,8 +6,9 @@ use Rattle.claim_tree.specs.Lists.{In}
 use Rattle.digest_sites.specs.Reserved.{sd_name, sd_texts, element_digest}
 use Rattle.digest_sites.specs.Sites.{Step, to_member, to_element, Site, sites, element_sites, member_sites, sites_on, own_site, element_site, under}
 use Rattle.digest_sites.specs.declared.site.SiteKind.TheVariants.{Element}
-use Rattle.marked_tree.specs.Marked.{Marked, MarkedElements, MarkedMembers, marked_member, weight, elements_weight, members_weight, ways, elements_ways, members_ways, way_of}
-use Rattle.rebuild_core.specs.Opening.{Shown, hidden, shown, open_tree, open_elements, open_members, open_element, show_members, show_element, show_member}
+use Rattle.marked_tree.specs.Marked.{Marked, MarkedElements, MarkedMembers, marked_member}
+use Rattle.marked_tree.specs.Ways.{weight, elements_weight, members_weight, ways, elements_ways, members_ways, way_of}
+use Rattle.rebuild_core.specs.Opening.{Shown, nothing_shown, shown, open_tree, open_elements, open_members, open_element, show_members, show_element, show_member}
 use Rattle.claim_tree.proofs.Lists.{In-left, In-right, In-append, In-of_map}
 use Rattle.marked_tree.proofs.Sums.{sum_of, sum_of-append, sum_of-map}
 use Rattle.marked_tree.proofs.Puts.{put_weight, put_way, put_way_other}
@@ -15,14 +16,14 @@ use Rattle.rebuild_core.specs.Whole.{IsNew, AllNew}
 use Rattle.rebuild_core.proofs.Fits.{AreFit, Suits, object_new, fit_left, fit_right, fit_under}
 
 abbrev pub shown_weight : (ℕ → ℕ) → Shown → ℕ
-shown_weight w hidden = 0
+shown_weight w nothing_shown = 0
 shown_weight w (shown i n t) = w i + weight w t
 
 abbrev pub sites_weight : (ℕ → ℕ) → (Text → Shown) → List Site → ℕ
 sites_weight w r ss = sum_of (λ s. shown_weight w (r s.digest)) ss
 
 show_member_weight : (w : ℕ → ℕ) (x : Shown) (ms : MarkedMembers) → IsNew x ms → members_weight w (show_member x ms) ≡ shown_weight w x + members_weight w ms
-show_member_weight w hidden ms new = omega arith
+show_member_weight w nothing_shown ms new = omega arith
 show_member_weight w (shown i None t) ms new = absurd new
 show_member_weight w (shown i (Some k) t) ms new = put_weight w k (Some i) t ms new
 
@@ -32,7 +33,7 @@ show_members_weight w r ks [] ms new = omega arith
 show_members_weight w r ks (d ∷ ds) ms new = omega (arith, show_members_weight w r ks ds (show_member (r d) ms) new.1, show_member_weight w (r d) ms new.0)
 
 show_element_weight : (w : ℕ → ℕ) (x : Shown) (es : MarkedElements) → Suits Element x → elements_weight w (show_element x es) ≡ shown_weight w x + elements_weight w es
-show_element_weight w hidden es s = omega arith
+show_element_weight w nothing_shown es s = omega arith
 show_element_weight w (shown i None t) es s = refl
 show_element_weight w (shown i (Some k) t) es s = absurd (s tt)
 
@@ -91,7 +92,7 @@ abbrev pub Way : Type 0
 Way = ℕ × List ℕ
 
 abbrev pub shown_ways : Shown → List Way
-shown_ways hidden = []
+shown_ways nothing_shown = []
 shown_ways (shown i n t) = way_of (Some i) (ways t)
 
 -- v is a way of what some site shows
@@ -99,12 +100,12 @@ abbrev pub Leads : (Text → Shown) → List Site → Way → Type 0
 Leads r ss v = (s : Site) × In s ss × In v (shown_ways (r s.digest))
 
 show_member_way : (x : Shown) (ms : MarkedMembers) (v : Way) → IsNew x ms → In v (shown_ways x) → In v (members_ways (show_member x ms))
-show_member_way hidden ms v new h = elim h [ ]
+show_member_way nothing_shown ms v new h = elim h [ ]
 show_member_way (shown i None t) ms v new h = absurd new
 show_member_way (shown i (Some k) t) ms v new h = put_way k (Some i) t ms v new h
 
 show_member_other : (x : Shown) (ms : MarkedMembers) (v : Way) → In v (members_ways ms) → In v (members_ways (show_member x ms))
-show_member_other hidden ms v h = h
+show_member_other nothing_shown ms v h = h
 show_member_other (shown i None t) ms v h = h
 show_member_other (shown i (Some k) t) ms v h = put_way_other k (Some i) t ms v h
 
@@ -119,12 +120,12 @@ show_members_way r (e ∷ ds) ms v new d (inl q) h =
 show_members_way r (e ∷ ds) ms v new d (inr m) h = show_members_way r ds (show_member (r e) ms) v new.1 d m h
 
 show_element_way : (x : Shown) (es : MarkedElements) (v : Way) → Suits Element x → In v (shown_ways x) → In v (elements_ways (show_element x es))
-show_element_way hidden es v s h = elim h [ ]
+show_element_way nothing_shown es v s h = elim h [ ]
 show_element_way (shown i None t) es v s h = In-left v (way_of (Some i) (ways t)) (elements_ways es) h
 show_element_way (shown i (Some k) t) es v s h = absurd (s tt)
 
 show_element_other : (x : Shown) (es : MarkedElements) (v : Way) → In v (elements_ways es) → In v (elements_ways (show_element x es))
-show_element_other hidden es v h = h
+show_element_other nothing_shown es v h = h
 show_element_other (shown i None t) es v h = In-right v (way_of (Some i) (ways t)) (elements_ways es) h
 show_element_other (shown i (Some k) t) es v h = h
 

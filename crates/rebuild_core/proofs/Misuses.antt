@@ -1,9 +1,10 @@
 -- Which trees misuse a reserved name.
 use Rattle.std.proofs.Common.{◌≡◌, ℕ, zero, suc, ◌+◌, ◌≤◌, List, map, length, true, false, ◌⊎◌, inl, inr, sym, ap, ◌∙◌, subst, arith}
 use Rattle.claim_tree.specs.Tree.{Tree}
-use Rattle.claim_tree.specs.Lists.{At, IsLeast}
+use Rattle.claim_tree.specs.Lists.{StandsAt, IsLeast}
 use Rattle.digest_sites.specs.Reserved.{misuses}
-use Rattle.digest_sites.specs.Given.{Given, given_of}
+use Rattle.digest_sites.specs.Given.{Given}
+use Rattle.digest_sites.specs.GivenView.{given_of}
 use Rattle.rebuild_core.specs.Conditions.{Misused}
 use Rattle.claim_tree.proofs.Lists.{At-same}
 use Rattle.digest_sites.specs.declared.given.Given as code
@@ -16,10 +17,10 @@ pub payload_is_well : (p : Tree) (g : List Given) → misuses p ≡ false → (q
 payload_is_well p g h zero l m = let z = sym h ∙ m in cc
 payload_is_well p g h (suc q) l m = omega (arith, l)
 
-pub value_misuses : (p : Tree) (g : List Given) (i : ℕ) (x : Given) → At g i x → misuses x.value ≡ true → Misused p g (i + 1)
+pub value_misuses : (p : Tree) (g : List Given) (i : ℕ) (x : Given) → StandsAt g i x → misuses x.value ≡ true → Misused p g (i + 1)
 value_misuses p g i x a h = let n : i + 1 ≡ suc i = omega arith in rw n (x, a, h)
 
-pub value_is_well : (p : Tree) (g : List Given) (i : ℕ) (x : Given) → At g i x → misuses x.value ≡ false
+pub value_is_well : (p : Tree) (g : List Given) (i : ℕ) (x : Given) → StandsAt g i x → misuses x.value ≡ false
     → ((q : ℕ) → q ≤ i → Misused p g q → ⊥) → (q : ℕ) → q ≤ i + 1 → Misused p g q → ⊥
 value_is_well p g i x a h none q l m = go (split q i l)
   where

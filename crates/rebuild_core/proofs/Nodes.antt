@@ -3,11 +3,12 @@ use Rattle.std.proofs.Common.{◌≡◌, ℕ, suc, ◌+◌, ◌≤◌, List, [],
 use Rattle.std.specs.Prelude.{bytes_eq}
 use Rattle.std.specs.Ordering.{match_ordering, nat_cmp}
 use Rattle.std.specs.Cmp.Lexicographic.{slice_cmp}
-use Rattle.claim_tree.specs.Tree.{Text, Tree, leaf, array, object, Elements, no_elements, element, Members, no_members, member, names, nodes, elements_nodes, members_nodes}
+use Rattle.claim_tree.specs.Tree.{Text, Tree, leaf, array, object, Elements, no_elements, element, Members, no_members, member, names}
+use Rattle.claim_tree.specs.Nodes.{nodes, elements_nodes, members_nodes}
 use Rattle.digest_sites.specs.Reserved.{sd_name, sd_texts, element_digest}
 use Rattle.digest_sites.specs.Sites.{Step, to_member, to_element, Site, sites, element_sites, member_sites, sites_on, own_site, under}
 use Rattle.marked_tree.specs.Marked.{Marked, MarkedElements, MarkedMembers, no_marked_members, marked_member, put, strip, strip_elements, strip_members}
-use Rattle.rebuild_core.specs.Opening.{Shown, hidden, shown, open_tree, open_elements, open_members, open_element, show_members, show_element, show_member}
+use Rattle.rebuild_core.specs.Opening.{Shown, nothing_shown, shown, open_tree, open_elements, open_members, open_element, show_members, show_element, show_member}
 use Rattle.marked_tree.proofs.Sums.{sum_of, sum_of-append, sum_of-map}
 
 abbrev pub size : Marked → ℕ
@@ -20,7 +21,7 @@ abbrev members_size : MarkedMembers → ℕ
 members_size ms = members_nodes (strip_members ms)
 
 abbrev pub shown_size : Shown → ℕ
-shown_size hidden = 0
+shown_size nothing_shown = 0
 shown_size (shown i k m) = size m
 
 -- what the sites show, together
@@ -39,7 +40,7 @@ put_size k i t no_marked_members = omega arith
 put_size k i t (marked_member l j u ms) = put_cases (slice_cmp nat_cmp k l) k i t l j u ms (put k i t ms) (put_size k i t ms)
 
 show_member_size : (x : Shown) (ms : MarkedMembers) → members_size (show_member x ms) ≤ shown_size x + members_size ms
-show_member_size hidden ms = omega arith
+show_member_size nothing_shown ms = omega arith
 show_member_size (shown i None t) ms = omega arith
 show_member_size (shown i (Some k) t) ms = put_size k (Some i) t ms
 
@@ -48,7 +49,7 @@ show_members_size r ks [] ms = omega arith
 show_members_size r ks (d ∷ ds) ms = omega (arith, show_members_size r ks ds (show_member (r d) ms), show_member_size (r d) ms)
 
 show_element_size : (x : Shown) (es : MarkedElements) → elements_size (show_element x es) ≤ shown_size x + elements_size es
-show_element_size hidden es = omega arith
+show_element_size nothing_shown es = omega arith
 show_element_size (shown i None t) es = omega arith
 show_element_size (shown i (Some k) t) es = omega arith
 

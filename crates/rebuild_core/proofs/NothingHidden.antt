@@ -5,19 +5,21 @@ use Rattle.claim_tree.specs.Tree.{Text, Tree, leaf, array, object, Elements, no_
 use Rattle.claim_tree.specs.View.{tree_of}
 use Rattle.claim_tree.specs.declared.tree.Tree as code
 use Rattle.claim_tree.specs.Removed.{removed}
-use Rattle.claim_tree.specs.Lists.{At, Repeats}
+use Rattle.claim_tree.specs.Lists.{StandsAt, Repeats}
 use Rattle.claim_tree.proofs.Lists.{and_split}
 use Rattle.digest_sites.specs.Reserved.{sd_name, dots_name, sd_texts, element_digest, misuses, elements_misuse, members_misuse}
 use Rattle.digest_sites.specs.Sites.{sites, element_sites, member_sites}
 use Rattle.marked_tree.specs.Marked.{strip, strip_elements, strip_members}
 use Rattle.rebuild_core.specs.Payload.{alg_name, without_alg}
-use Rattle.rebuild_core.specs.Given.{Item, met, item_digests, look_ups, counted}
+use Rattle.rebuild_core.specs.Reached.{OwnedSite, met, owned_digests}
+use Rattle.rebuild_core.specs.LookUps.{look_ups, counted}
 use Rattle.rebuild_core.specs.Opening.{Shown, reveal, open_tree, open_elements, open_members, processed}
-use Rattle.rebuild_core.specs.Answer.{IsRefusal}
+use Rattle.rebuild_core.specs.Answer.{IsProcessRefused}
 use Rattle.rebuild_core.specs.declared.errors.ProcessError.{ProcessError}
 use Rattle.rebuild_core.specs.declared.errors.ProcessError.TheVariants.{TooDeep}
 use Rattle.rebuild_core.proofs.Ranged.{payload_ranged}
-use Rattle.rebuild_core.specs.Conditions.{IsSound, IsReferencedOnce, IsWellNamed, IsTooDeep, Misused}
+use Rattle.rebuild_core.specs.Conditions.{IsTooDeep, Misused}
+use Rattle.rebuild_core.specs.Soundness.{IsSound, IsReferencedOnce, IsWellNamed}
 use Rattle.rebuild_core.specs.Unhidden.{is_unhidden_name, is_unhidden, elements_unhidden, members_unhidden}
 
 not_true : (b : Bool) → not b ≡ true → b ≡ false
@@ -153,7 +155,7 @@ module _ (p : Tree) (h : is_unhidden p ≡ true) where
   unhidden_referenced = record {
     no_repeated_disclosure = λ i d. d.1;
     no_misuse = none_misused;
-    no_repeated_digest = λ place d. (subst (λ (ms : List Item). Repeats (item_digests ms) place) none_met d).1;
+    no_repeated_digest = λ place d. (subst (λ (ms : List OwnedSite). Repeats (owned_digests ms) place) none_met d).1;
     no_unreferenced = λ i u. u.1;
   }
 
@@ -161,7 +163,7 @@ module _ (p : Tree) (h : is_unhidden p ≡ true) where
   unhidden_named = record {
     no_wrong_shape = λ i s. s.1;
     no_reserved_name = λ i s. s.1;
-    no_name_clash = λ place c. subst (λ (ms : List Item). At ms place c.0) none_met c.1;
+    no_name_clash = λ place c. subst (λ (ms : List OwnedSite). StandsAt ms place c.0) none_met c.1;
   }
 
   pub unhidden_sound : depth p ≤ 100 → IsSound p []
@@ -198,11 +200,11 @@ module _ (p : Tree) (h : is_unhidden p ≡ true) (answer : Result code.Tree Proc
       go (Ok t) w = subst IsRanged (sym w.0) (payload_ranged p ranged)
       go (Err e) w = tt
 
-  pub answer_refused : IfErr answer (IsRefusal (without_alg p) [])
+  pub answer_refused : IfErr answer (IsProcessRefused (without_alg p) [])
   answer_refused = go answer is
     where
       go : (r : Result code.Tree ProcessError) → MatchResult r (λ t. (tree_of t ≡ without_alg p) × (depth (tree_of t) ≤ 100)) (λ e. (e ≡ TooDeep) × (100 < depth (without_alg p)))
-          → IfErr r (IsRefusal (without_alg p) [])
+          → IfErr r (IsProcessRefused (without_alg p) [])
       go (Ok t) w = tt
       go (Err e) w =
           let free = without_alg_unhidden p h in

@@ -9,16 +9,16 @@ use Rattle.digest_sites.specs.Reserved.{sd_name, sd_texts, element_digest}
 use Rattle.digest_sites.specs.Sites.{Site, Step, to_member, to_element, sites, element_sites, member_sites, sites_on, element_site, under, own_site}
 use Rattle.digest_sites.specs.declared.site.SiteKind.{SiteKind}
 use Rattle.digest_sites.specs.declared.site.SiteKind.TheVariants.{Member, Element}
-use Rattle.rebuild_core.specs.Rows.{Seen, own_row, rows_on, tree_rows, element_rows, member_rows}
+use Rattle.rebuild_core.specs.Rows.{SeenRow, own_row, rows_on, tree_rows, element_rows, member_rows}
 use Rattle.marked_tree.proofs.Puts.{IsBeforeAll-not_in}
 use Rattle.rebuild_core.proofs.SideBySide.{Both, both_left, both_right, both_append, both_map}
 
 -- these rows have numbers of objects from low to below high, and members have one number where their keys are one
-pub record IsLaid {X K : Type 0} (kind : X → SiteKind) (key : X → K) (xs : List X) (rs : List Seen) (low high : ℕ) : Type 0 where
+pub record IsLaid {X K : Type 0} (kind : X → SiteKind) (key : X → K) (xs : List X) (rs : List SeenRow) (low high : ℕ) : Type 0 where
   pub length : length xs ≡ length rs
-  pub within : (r : Seen) → In r rs → (low ≤ r.object) × (r.object < high)
-  pub joins : (x y : X) (r v : Seen) → Both xs rs x r → Both xs rs y v → kind x ≡ Member → kind y ≡ Member → key x ≡ key y → r.object ≡ v.object
-  pub parts : (x y : X) (r v : Seen) → Both xs rs x r → Both xs rs y v → kind x ≡ Member → kind y ≡ Member → r.object ≡ v.object → key x ≡ key y
+  pub within : (r : SeenRow) → In r rs → (low ≤ r.object) × (r.object < high)
+  pub joins : (x y : X) (r v : SeenRow) → Both xs rs x r → Both xs rs y v → kind x ≡ Member → kind y ≡ Member → key x ≡ key y → r.object ≡ v.object
+  pub parts : (x y : X) (r v : SeenRow) → Both xs rs x r → Both xs rs y v → kind x ≡ Member → kind y ≡ Member → r.object ≡ v.object → key x ≡ key y
 
 pub laid_none : {X K : Type 0} (kind : X → SiteKind) (key : X → K) (low high : ℕ) → IsLaid kind key [] [] low high
 laid_none kind key low high = record {
@@ -28,7 +28,7 @@ laid_none kind key low high = record {
   parts = λ x y r v h. elim h [ ];
 }
 
-pub laid_wider : {X K : Type 0} (kind : X → SiteKind) (key : X → K) (xs : List X) (rs : List Seen) (low high more : ℕ) → high ≤ more → IsLaid kind key xs rs low high → IsLaid kind key xs rs low more
+pub laid_wider : {X K : Type 0} (kind : X → SiteKind) (key : X → K) (xs : List X) (rs : List SeenRow) (low high more : ℕ) → high ≤ more → IsLaid kind key xs rs low high → IsLaid kind key xs rs low more
 laid_wider kind key xs rs low high more l h = record {
   length = h.length;
   within = λ r i. let w = h.within r i in (w.0, omega (arith, w.1, l));
@@ -36,7 +36,7 @@ laid_wider kind key xs rs low high more l h = record {
   parts = h.parts;
 }
 
-pub laid_append : {X K : Type 0} (kind : X → SiteKind) (key : X → K) (xs us : List X) (rs vs : List Seen) (low mid high : ℕ) → low ≤ mid → mid ≤ high
+pub laid_append : {X K : Type 0} (kind : X → SiteKind) (key : X → K) (xs us : List X) (rs vs : List SeenRow) (low mid high : ℕ) → low ≤ mid → mid ≤ high
     → IsLaid kind key xs rs low mid → IsLaid kind key us vs mid high → ((x y : X) → In x xs → In y us → key x ≡ key y → ⊥) → IsLaid kind key (xs ++ us) (rs ++ vs) low high
 laid_append {X} kind key xs us rs vs low mid high a b g h apart = record {
   length = length-append xs us ∙ (ap₂ (λ (n m : ℕ). n + m) g.length h.length ∙ sym (length-append rs vs));
@@ -53,7 +53,7 @@ laid_append {X} kind key xs us rs vs low mid high a b g h apart = record {
 
 pub laid_map : {X Z K L : Type 0} (kind : X → SiteKind) (key : X → K) (kind' : Z → SiteKind) (key' : Z → L) (f : X → Z)
     → ((x : X) → kind' (f x) ≡ kind x) → ((x y : X) → key' (f x) ≡ key' (f y) → key x ≡ key y) → ((x y : X) → key x ≡ key y → key' (f x) ≡ key' (f y))
-    → (xs : List X) (rs : List Seen) (low high : ℕ) → IsLaid kind key xs rs low high → IsLaid kind' key' (map f xs) rs low high
+    → (xs : List X) (rs : List SeenRow) (low high : ℕ) → IsLaid kind key xs rs low high → IsLaid kind' key' (map f xs) rs low high
 laid_map kind key kind' key' f kinds back forth xs rs low high h = record {
   length = length-map xs f ∙ h.length;
   within = h.within;
@@ -88,23 +88,23 @@ own_laid top n beside others ds = record {
   parts = λ x y r v i j m l e. place x (both_left _ _ x r i) ∙ sym (place y (both_left _ _ y v j));
 }
   where
-    number : (r : Seen) → In r (map (own_row top n others) ds) → r.object ≡ n
-    number r i = let w = In-of_map (own_row top n others) r ds i in ap (λ (z : Seen). z.object) w.2
+    number : (r : SeenRow) → In r (map (own_row top n others) ds) → r.object ≡ n
+    number r i = let w = In-of_map (own_row top n others) r ds i in ap (λ (z : SeenRow). z.object) w.2
 
     place : (s : Site) → In s (map (own_site beside) ds) → s.at ≡ []
     place s i = let w = In-of_map (own_site beside) s ds i in ap (λ (z : Site). z.at) w.2
 
-under_laid : (step : Step) (ss : List Site) (rs : List Seen) (low high : ℕ) → IsLaid site_kind site_at ss rs low high → IsLaid site_kind site_at (map (under step) ss) rs low high
+under_laid : (step : Step) (ss : List Site) (rs : List SeenRow) (low high : ℕ) → IsLaid site_kind site_at ss rs low high → IsLaid site_kind site_at (map (under step) ss) rs low high
 under_laid step ss rs low high h = laid_map site_kind site_at site_kind site_at (under step) (λ x. refl) (λ x y e. let z : x.at ≡ y.at = cc in z) (λ x y e. ap (λ (z : List Step). step ∷ z) e) ss rs low high h
 
-abbrev element_row : ℕ → Text → Seen
+abbrev element_row : ℕ → Text → SeenRow
 element_row n d = record { kind = Element; digest = d; beside = []; top = false; object = n }
 
 -- one for an element with a digest stands for no member
 element_laid : (step : Step) (n : ℕ) (d : Text) → IsLaid site_kind site_at (element_site step d ∷ []) (element_row n d ∷ []) n (n + 1)
 element_laid step n d = record {
   length = refl;
-  within = λ r i. ⊎_elim (λ e. let o : r.object ≡ n = ap (λ (z : Seen). z.object) e in (omega (arith, o), omega (arith, o))) (λ z. elim z [ ]) i;
+  within = λ r i. ⊎_elim (λ e. let o : r.object ≡ n = ap (λ (z : SeenRow). z.object) e in (omega (arith, o), omega (arith, o))) (λ z. elim z [ ]) i;
   joins = λ x y r v i j m. absurd (no_member x (both_left (element_site step d ∷ []) (element_row n d ∷ []) x r i) m);
   parts = λ x y r v i j m. absurd (no_member x (both_left (element_site step d ∷ []) (element_row n d ∷ []) x r i) m);
 }
@@ -113,12 +113,12 @@ element_laid step n d = record {
     no_member s (inl e) m = let z : Element ≡ Member = ap (λ (z : Site). z.kind) (sym e) ∙ m in cc
     no_member s (inr h) m = elim h [ ]
 
-on_laid : (i n : ℕ) (digest : Option Text) (ss : List Site) (rs : List Seen) → IsLaid site_kind site_at ss rs n (n + length rs)
+on_laid : (i n : ℕ) (digest : Option Text) (ss : List Site) (rs : List SeenRow) → IsLaid site_kind site_at ss rs n (n + length rs)
     → IsLaid site_kind site_at (sites_on (to_element i) digest ss) (rows_on n digest rs) n (n + length (rows_on n digest rs))
 on_laid i n None ss rs h = under_laid (to_element i) ss rs n (n + length rs) h
 on_laid i n (Some d) ss rs h = element_laid (to_element i) n d
 
-in_laid : (own : Bool) (name : Text) (n : ℕ) (ss : List Site) (rs : List Seen) → IsLaid site_kind site_at ss rs n (n + length rs)
+in_laid : (own : Bool) (name : Text) (n : ℕ) (ss : List Site) (rs : List SeenRow) → IsLaid site_kind site_at ss rs n (n + length rs)
     → IsLaid site_kind site_at (if own then [] else map (under (to_member name)) ss) (if own then [] else rs) n (n + length (if own then [] else rs))
 in_laid true name n ss rs h = laid_none site_kind site_at n (n + 0)
 in_laid false name n ss rs h = under_laid (to_member name) ss rs n (n + length rs) h
@@ -162,7 +162,7 @@ same_step step other s u a b e = let z : (step ∷ a.0) ≡ (other ∷ b.0) = sy
 own_place : (beside ds : List Text) (s : Site) → In s (map (own_site beside) ds) → s.at ≡ []
 own_place beside ds s h = let w = In-of_map (own_site beside) s ds h in ap (λ (z : Site). z.at) w.2
 
-pub object_laid : (top : Bool) (n : ℕ) (beside others ds : List Text) (ms : Members) (rs : List Seen) → IsLaid site_kind site_at (member_sites ms) rs (n + length ds) ((n + length ds) + length rs)
+pub object_laid : (top : Bool) (n : ℕ) (beside others ds : List Text) (ms : Members) (rs : List SeenRow) → IsLaid site_kind site_at (member_sites ms) rs (n + length ds) ((n + length ds) + length rs)
     → IsLaid site_kind site_at (map (own_site beside) ds ++ member_sites ms) (map (own_row top n others) ds ++ rs) n (n + length (map (own_row top n others) ds ++ rs))
 object_laid top n beside others ds ms rs h =
     let whole = length-append (map (own_row top n others) ds) rs in

@@ -13,10 +13,10 @@ use Rattle.claim_tree.specs.declared.tree.Tree.{Tree as TreeCode}
 use Rattle.claim_tree.specs.declared.tree.TreeMap.{TreeMap}
 use Rattle.claim_tree.specs.View.{tree_of}
 use Rattle.rebuild_core.specs.Payload.{without_alg}
-use Rattle.rebuild_core.specs.Answer.{IsRefusal}
-use Rattle.rebuild_core.specs.Opening.{Shown, hidden, shown, open_tree, processed}
-use Rattle.rebuild_core.specs.Conditions.{IsReferencedOnce, IsWellNamed, IsSound}
-use Rattle.rebuild_core.specs.Cursor.{tree_digests, TellFirst, AreTold}
+use Rattle.rebuild_core.specs.Answer.{IsProcessRefused}
+use Rattle.rebuild_core.specs.Opening.{Shown, nothing_shown, shown, open_tree, processed}
+use Rattle.rebuild_core.specs.Soundness.{IsReferencedOnce, IsWellNamed, IsSound}
+use Rattle.rebuild_core.specs.Cursor.{tree_digests, TellFirst, NumbersTell}
 use Rattle.rebuild_core.specs.Whole.{settled, IfTooDeep, IsElement, WholeOn, WholeUnless, OpensWhole, ElementsWhole, MembersWhole, IsOpenable}
 use Rattle.rebuild_core.specs.declared.errors.ProcessError.{ProcessError}
 use Rattle.rebuild_core.proofs.Fits.{AreFit, Suits, fit_left, fit_right, fit_under, object_new}
@@ -27,7 +27,7 @@ use Rattle.rebuild_core.proofs.Goes.{digests-sites}
 -- ---- where all disclosures fit, nothing is left out
 
 is_element : (s : Shown) → Suits Element s → IsElement s
-is_element hidden h = tt
+is_element nothing_shown h = tt
 is_element (shown i None t) h = tt
 is_element (shown i (Some k) t) h = h tt
 
@@ -62,14 +62,14 @@ mutual
 -- ---- the payload
 
 module _ (p : Tree) (g : List Given) (ok : IsReferencedOnce p g) (named : IsWellNamed p g) where
-  pub openable : (numbers ends : List ℕ) → length g < 2 ^ 32 → AreTold p g numbers ends → IsOpenable g numbers ends
+  pub openable : (numbers ends : List ℕ) → length g < 2 ^ 32 → NumbersTell p g numbers ends → IsOpenable g numbers ends
   openable numbers ends few told = record {
     few = few;
     told = λ j x a. let w = told.values j x a in (w.0, w.1, subst (λ ds. TellFirst g (drop w.0 numbers) ds) (digests-sites x.value) w.2);
     whole = λ j x a. opens_whole (settled g) x.value (value_fits p g ok named (length g) j x a);
   }
 
-  pub payload_told : (q : Tree) → p ≡ q → (numbers ends : List ℕ) → AreTold p g numbers ends → TellFirst g numbers (tree_digests q)
+  pub payload_told : (q : Tree) → p ≡ q → (numbers ends : List ℕ) → NumbersTell p g numbers ends → TellFirst g numbers (tree_digests q)
   payload_told q e numbers ends told = subst (λ ds. TellFirst g numbers ds) (digests-sites p ∙ ap tree_digests e) told.payload
 
   pub payload_whole : (q : Tree) → p ≡ q → OpensWhole (settled g) q
@@ -80,7 +80,7 @@ module _ (p : Tree) (g : List Given) (ok : IsReferencedOnce p g) (named : IsWell
       let e : m ≡ processed p g = is ∙ sym (processed_settles p g ok) in
       (record { referenced = ok; named = named; shallow = subst (λ (z : Marked). depth (strip z) ≤ 100) e low }, e)
 
-  is_refused : (e : ProcessError) → IfTooDeep e (100 < depth (strip (open_tree (settled g) p))) → IsRefusal p g e
+  is_refused : (e : ProcessError) → IfTooDeep e (100 < depth (strip (open_tree (settled g) p))) → IsProcessRefused p g e
   is_refused ProcessError.Memory h = tt
   is_refused ProcessError.TooDeep h = (ok, named, subst (λ (z : Marked). 100 < depth (strip z)) (sym (processed_settles p g ok)) h)
   is_refused (ProcessError.RepeatedDisclosure i) h = elim h [ ]
@@ -93,7 +93,7 @@ module _ (p : Tree) (g : List Given) (ok : IsReferencedOnce p g) (named : IsWell
 
   pub answered : (q : Tree) → p ≡ q → (r : Result Code ProcessError)
       → MatchResult r (λ m. (marked_of m ≡ open_tree (settled g) q) × (depth (strip (marked_of m)) ≤ 100)) (λ e. IfTooDeep e (100 < depth (strip (open_tree (settled g) q))))
-      → MatchResult r (λ m. IsSound p g × (marked_of m ≡ processed p g)) (IsRefusal p g)
+      → MatchResult r (λ m. IsSound p g × (marked_of m ≡ processed p g)) (IsProcessRefused p g)
   answered q same (Ok m) h = is_processed (marked_of m) (h.0 ∙ ap (open_tree (settled g)) (sym same)) h.1
   answered q same (Err e) h = is_refused e (subst (λ t. IfTooDeep e (100 < depth (strip (open_tree (settled g) t)))) (sym same) h)
 

@@ -2,18 +2,20 @@
 use Rattle.std.proofs.Common.{◌≡◌, ℕ, zero, suc, ◌<◌, ◌≤◌, List, [], ◌∷◌, true, false, ◌⊎◌, inl, inr, Option, Some, pos, codes, refl, sym, subst, ◌∙◌, ap, arith}
 use Rattle.std.specs.Prelude.{bytes_eq}
 use Rattle.claim_tree.specs.Tree.{Text, Tree, whole, text, leaf, array, object, no_elements, element, no_members, member, IsOrdered, depth}
-use Rattle.claim_tree.specs.Lists.{At, In, Repeats, Nowhere}
+use Rattle.claim_tree.specs.Lists.{StandsAt, In, Repeats, AtNone}
 use Rattle.digest_sites.specs.Reserved.{sd_name, dots_name, misuses}
 use Rattle.digest_sites.specs.Given.{Given}
 use Rattle.digest_sites.specs.declared.site.SiteKind.TheVariants.{Member}
 use Rattle.marked_tree.specs.Marked.{Marked, strip, marked_leaf, marked_object, no_marked_members, marked_member}
 use Rattle.marked_tree.specs.Laws.{HasEachMarkOnce}
 use Rattle.rebuild_core.specs.Payload.{alg_name}
-use Rattle.rebuild_core.specs.Given.{payload as payload_owner}
-use Rattle.rebuild_core.specs.Given.{value_of, Item, met, item_digests, is_reached}
+use Rattle.rebuild_core.specs.Reached.{payload as payload_owner}
+use Rattle.rebuild_core.specs.Reached.{value_of, OwnedSite, met, owned_digests, is_reached}
 use Rattle.rebuild_core.specs.Opening.{processed}
-use Rattle.rebuild_core.specs.Conditions.{Misused, Unreferenced, IsWrong, WrongShape, IsReserved, ReservedName, NameClash, Discloses, IsReferencedOnce, IsSound}
-use Rattle.rebuild_core.specs.Laws.{HasOneSite, IsReadable}
+use Rattle.rebuild_core.specs.Conditions.{Misused, Unreferenced, IsWrong, WrongShape, IsReserved, ReservedName, NameClash, Discloses}
+use Rattle.rebuild_core.specs.Soundness.{IsReferencedOnce, IsSound}
+use Rattle.rebuild_core.specs.Laws.{HasOneSite}
+use Rattle.rebuild_core.specs.Readable.{IsReadable}
 use Rattle.claim_tree.proofs.Lists.{bytes_refl, In-At, At-In}
 use Rattle.rebuild_core.proofs.OneSite.{one_site_holds}
 use Rattle.rebuild_core.proofs.Presented.{one_node_holds}
@@ -46,46 +48,46 @@ opens = refl
 differ : codes "A" ≡ codes "B" → ⊥
 differ e = let same : false ≡ true = bytes_refl (codes "A") (codes "B") e in cc
 
-two_texts : Nowhere (Repeats (codes "A" ∷ codes "B" ∷ []))
+two_texts : AtNone (Repeats (codes "A" ∷ codes "B" ∷ []))
 two_texts zero (t, there, earlier, below, before) = absurd (omega arith)
 two_texts (suc zero) (t, there, zero, below, before) = differ (sym before ∙ there)
 two_texts (suc zero) (t, there, suc earlier, below, before) = absurd (omega arith)
 two_texts (suc (suc place)) (t, there, earlier, below, before) = elim there [ ]
 
 -- A in the payload, and B in the value of disclosure 0
-meets : item_digests (met payload given) ≡ codes "A" ∷ codes "B" ∷ []
+meets : owned_digests (met payload given) ≡ codes "A" ∷ codes "B" ∷ []
 unfolding sd_name dots_name alg_name
 meets = refl
 
-well_used : Nowhere (Misused payload given)
+well_used : AtNone (Misused payload given)
 unfolding sd_name dots_name alg_name
 well_used zero misused = cc
 well_used (suc zero) (x, there, misused) = let same : misuses outer.value ≡ true = subst (λ (y : Given). misuses y.value ≡ true) there misused in cc
 well_used (suc (suc zero)) (x, there, misused) = let same : misuses inner.value ≡ true = subst (λ (y : Given). misuses y.value ≡ true) there misused in cc
 well_used (suc (suc (suc i))) (x, there, misused) = elim there [ ]
 
-all_reached : Nowhere (Unreferenced payload given)
+all_reached : AtNone (Unreferenced payload given)
 unfolding sd_name dots_name alg_name
 all_reached zero (x, there, missed) = let same : is_reached payload given outer ≡ false = subst (λ (y : Given). is_reached payload given y ≡ false) there missed in cc
 all_reached (suc zero) (x, there, missed) = let same : is_reached payload given inner ≡ false = subst (λ (y : Given). is_reached payload given y ≡ false) there missed in cc
 all_reached (suc (suc i)) (x, there, missed) = elim there [ ]
 
 -- each stands at a member site, and has a name that is not reserved
-abbrev IsMember : Item → Type 0
+abbrev IsMember : OwnedSite → Type 0
 IsMember m = m.site.kind ≡ Member
 
-members : (m : Item) → In m (met payload given) → IsMember m
+members : (m : OwnedSite) → In m (met payload given) → IsMember m
 unfolding sd_name dots_name alg_name
-members m (inl e) = ap (λ (n : Item). n.site.kind) e
-members m (inr (inl e)) = ap (λ (n : Item). n.site.kind) e
+members m (inl e) = ap (λ (n : OwnedSite). n.site.kind) e
+members m (inr (inl e)) = ap (λ (n : OwnedSite). n.site.kind) e
 members m (inr (inr h)) = elim h [ ]
 
-named : (i : ℕ) (x : Given) → At given i x → (name : Text) × (x.name ≡ Some name) × (name ≡ codes "x" ⊎ name ≡ codes "y")
+named : (i : ℕ) (x : Given) → StandsAt given i x → (name : Text) × (x.name ≡ Some name) × (name ≡ codes "x" ⊎ name ≡ codes "y")
 named zero x there = (codes "x", ap (λ (y : Given). y.name) there, inl refl)
 named (suc zero) x there = (codes "y", ap (λ (y : Given). y.name) there, inr refl)
 named (suc (suc i)) x there = elim there [ ]
 
-right_shapes : Nowhere (WrongShape payload given)
+right_shapes : AtNone (WrongShape payload given)
 right_shapes i (x, there, m, met_there, same, wrong) =
     let n = named i x there in
     subst (λ (o : Option Text). IsWrong Member o) n.1 (subst (λ k. IsWrong k x.name) (members m met_there) wrong)
@@ -94,33 +96,33 @@ free : (name : Text) → (name ≡ codes "x" ⊎ name ≡ codes "y") → (reserv
 free name (inl e) reserved x y same = let z : bytes_eq (codes "x") reserved ≡ true = bytes_refl (codes "x") reserved (sym e ∙ same) in let clash : false ≡ true = sym x ∙ z in cc
 free name (inr e) reserved x y same = let z : bytes_eq (codes "y") reserved ≡ true = bytes_refl (codes "y") reserved (sym e ∙ same) in let clash : false ≡ true = sym y ∙ z in cc
 
-none_reserved : (name : Text) → (name ≡ codes "x" ⊎ name ≡ codes "y") → (m : Item) → IsReserved m name → ⊥
+none_reserved : (name : Text) → (name ≡ codes "x" ⊎ name ≡ codes "y") → (m : OwnedSite) → IsReserved m name → ⊥
 unfolding sd_name dots_name alg_name
 none_reserved name is m (inl e) = free name is sd_name refl refl e
 none_reserved name is m (inr (inl e)) = free name is dots_name refl refl e
 none_reserved name is m (inr (inr e)) = free name is alg_name refl refl e.0
 
-free_names : Nowhere (ReservedName payload given)
+free_names : AtNone (ReservedName payload given)
 free_names i (x, there, m, met_there, same, (kind, name, is, reserved)) =
     let n = named i x there in
     let e : name ≡ n.0 = let z : Some name ≡ Some n.0 = sym is ∙ n.1 in cc in
     none_reserved name (subst (λ z. z ≡ codes "x" ⊎ z ≡ codes "y") (sym e) n.2) m reserved
 
 -- the name of what stands at a place, and what stands beside it
-disclosed : (m : Item) (name : Text) → Discloses given m name → (name ≡ codes "x" ⊎ name ≡ codes "y")
+disclosed : (m : OwnedSite) (name : Text) → Discloses given m name → (name ≡ codes "x" ⊎ name ≡ codes "y")
 disclosed m name (kind, x, there, same, is) =
     let at = In-At given x there in
     let n = named at.0 x at.1 in
     let e : name ≡ n.0 = let z : Some name ≡ Some n.0 = sym is ∙ n.1 in cc in
     subst (λ z. z ≡ codes "x" ⊎ z ≡ codes "y") (sym e) n.2
 
-beside_is : (m : Item) → In m (met payload given) → m.site.beside ≡ sd_name ∷ []
+beside_is : (m : OwnedSite) → In m (met payload given) → m.site.beside ≡ sd_name ∷ []
 unfolding sd_name dots_name alg_name
-beside_is m (inl e) = ap (λ (n : Item). n.site.beside) e
-beside_is m (inr (inl e)) = ap (λ (n : Item). n.site.beside) e
+beside_is m (inl e) = ap (λ (n : OwnedSite). n.site.beside) e
+beside_is m (inr (inl e)) = ap (λ (n : OwnedSite). n.site.beside) e
 beside_is m (inr (inr h)) = elim h [ ]
 
-not_beside : (m : Item) (name : Text) → In m (met payload given) → Discloses given m name → In name m.site.beside → ⊥
+not_beside : (m : OwnedSite) (name : Text) → In m (met payload given) → Discloses given m name → In name m.site.beside → ⊥
 unfolding sd_name dots_name alg_name
 not_beside m name there discloses beside = go (subst (λ (names : List Text). In name names) (beside_is m there) beside)
   where
@@ -129,15 +131,15 @@ not_beside m name there discloses beside = go (subst (λ (names : List Text). In
     go (inr h) = elim h [ ]
 
 -- the two stand in objects of two owners
-owners_differ : (place earlier : ℕ) (m e : Item) → earlier < place → At (met payload given) place m → At (met payload given) earlier e → e.owner ≡ m.owner → ⊥
+owners_differ : (place earlier : ℕ) (m e : OwnedSite) → earlier < place → StandsAt (met payload given) place m → StandsAt (met payload given) earlier e → e.owner ≡ m.owner → ⊥
 unfolding sd_name dots_name alg_name
 owners_differ zero earlier m e below there before same = absurd (omega arith)
 owners_differ (suc zero) zero m e below there before same =
-    let clash : payload_owner ≡ value_of 0 = sym (ap (λ (n : Item). n.owner) before) ∙ (same ∙ ap (λ (n : Item). n.owner) there) in cc
+    let clash : payload_owner ≡ value_of 0 = sym (ap (λ (n : OwnedSite). n.owner) before) ∙ (same ∙ ap (λ (n : OwnedSite). n.owner) there) in cc
 owners_differ (suc zero) (suc earlier) m e below there before same = absurd (omega arith)
 owners_differ (suc (suc place)) earlier m e below there before same = elim there [ ]
 
-no_clash : Nowhere (NameClash payload given)
+no_clash : AtNone (NameClash payload given)
 no_clash place (m, there, name, discloses, inl beside) = not_beside m name (At-In (met payload given) place m there) discloses beside
 no_clash place (m, there, name, discloses, inr (earlier, below, e, before, owner, at, again)) = owners_differ place earlier m e below there before owner
 
@@ -145,7 +147,7 @@ referenced : IsReferencedOnce payload given
 referenced = record {
   no_repeated_disclosure = two_texts;
   no_misuse = well_used;
-  no_repeated_digest = subst (λ (ds : List Text). Nowhere (Repeats ds)) (sym meets) two_texts;
+  no_repeated_digest = subst (λ (ds : List Text). AtNone (Repeats ds)) (sym meets) two_texts;
   no_unreferenced = all_reached;
 }
 

@@ -2,14 +2,16 @@
 use Rattle.std.proofs.Common.{◌≡◌, ℕ, suc, ◌+◌, ◌<◌, ◌≤◌, max, List, [], ◌∷◌, length, Bool, true, false, cond, ltb, ◌⊎◌, inl, inr, ⊎_elim, Option, Some, None, refl, sym, ap, ap₂, ◌∙◌, arith}
 use Rattle.std.proofs.lemmas.Bool.Decides.{nat_tests}
 use Rattle.claim_tree.specs.Tree.{Text, Tree, depth, elements_depth, members_depth}
-use Rattle.claim_tree.specs.Lists.{At, In}
+use Rattle.claim_tree.specs.Lists.{StandsAt, In}
 use Rattle.digest_sites.specs.Sites.{sites}
 use Rattle.digest_sites.specs.Given.{Given}
-use Rattle.marked_tree.specs.Marked.{Marked, MarkedElements, MarkedMembers, marked_leaf, marked_array, marked_object, no_marked_elements, marked_element, no_marked_members, marked_member, strip, strip_elements, strip_members, new_mark, keep_element, keep_member, remark, remark_elements, remark_members, kept, weight, only}
+use Rattle.marked_tree.specs.Marked.{Marked, MarkedElements, MarkedMembers, marked_leaf, marked_array, marked_object, no_marked_elements, marked_element, no_marked_members, marked_member, strip, strip_elements, strip_members, new_mark, keep_element, keep_member, remark, remark_elements, remark_members, kept}
+use Rattle.marked_tree.specs.Ways.{weight, only}
 use Rattle.marked_tree.specs.Choice.{IsClosed}
 use Rattle.rebuild_core.specs.Opening.{Shown, reveal, opened, processed}
-use Rattle.rebuild_core.specs.Conditions.{IsReferencedOnce, IsSound}
-use Rattle.rebuild_core.specs.Laws.{IsReadable, IsPick, Enumerates, IsPresented, Presentation, place_from, OneNode}
+use Rattle.rebuild_core.specs.Soundness.{IsReferencedOnce, IsSound}
+use Rattle.rebuild_core.specs.Laws.{IsPick, Enumerates, IsPresentation, Presentation, position_from, OneNode}
+use Rattle.rebuild_core.specs.Readable.{IsReadable}
 use Rattle.claim_tree.proofs.Lists.{At-In}
 use Rattle.rebuild_core.proofs.OneSite.{one_site_holds}
 use Rattle.marked_tree.proofs.MarkFacts.{one_if_same, none_if_less, none_if_more}
@@ -73,10 +75,10 @@ mutual
   remark_members_twice e f stays no_marked_members = refl
   remark_members_twice e f stays (marked_member k i t ms) = members_twice e f stays k i (remark e t) (remark f t) (remark_members e ms) (remark_members f ms) (remark_twice e f stays t) (remark_members_twice e f stays ms)
 
-kept_stays : (s : ℕ → Bool) (h : List ℕ) → ((i : ℕ) → In i h → s i ≡ true) → Stays (kept s) (place_from 0 h)
+kept_stays : (s : ℕ → Bool) (h : List ℕ) → ((i : ℕ) → In i h → s i ≡ true) → Stays (kept s) (position_from 0 h)
 kept_stays s h within i = go (s i) refl
   where
-    go : (b : Bool) → s i ≡ b → (cond b (Some i) None ≡ Some i) ⊎ ((cond b (Some i) None ≡ None) × (place_from 0 h i ≡ None))
+    go : (b : Bool) → s i ≡ b → (cond b (Some i) None ≡ Some i) ⊎ ((cond b (Some i) None ≡ None) × (position_from 0 h i ≡ None))
     go true e = inl refl
     go false e = inr (refl, place_none 0 h i (λ m. let t : s i ≡ true = within i m in cc))
 
@@ -91,28 +93,28 @@ module _ (p : Tree) (g : List Given) (readable : IsReadable p g) (sound : IsSoun
         (c16_holds p g sound.referenced sound.named h (distinct_pairs h all.distinct) gs pick);
   }
 
-  with_fuel : (f : ℕ) → opened f gs p ≡ remark (place_from 0 h) (opened f g p)
+  with_fuel : (f : ℕ) → opened f gs p ≡ remark (position_from 0 h) (opened f g p)
   with_fuel f =
-      sym (remark_open (place_from 0 h) (reveal f g) (reveal f gs) p readable.in_payload
+      sym (remark_open (position_from 0 h) (reveal f g) (reveal f gs) p readable.in_payload
       (payload_fits p g sound.referenced sound.named f)
       (λ e m. reveal_picked p g sound.referenced sound.named h (distinct_pairs h all.distinct) gs pick (λ i x a. readable.in_values x (At-In g i x a)) f e.digest))
 
-  same_tree : processed p gs ≡ remark (place_from 0 h) (processed p g)
+  same_tree : processed p gs ≡ remark (position_from 0 h) (processed p g)
   same_tree =
       let a = (one_site_holds p gs referenced).settled in
       let b = (one_site_holds p g sound.referenced).settled in
       let f = length g + length gs in
       a (suc (length gs)) (omega arith) ∙ sym (a f (omega arith)) ∙ with_fuel f
-      ∙ ap (remark (place_from 0 h)) (b f (omega arith) ∙ sym (b (suc (length g)) (omega arith)))
+      ∙ ap (remark (position_from 0 h)) (b f (omega arith) ∙ sym (b (suc (length g)) (omega arith)))
 
-  pub presented : IsPresented p g gs s h
+  pub presented : IsPresentation p g gs s h
   presented = record {
     sound = record {
       referenced = referenced;
       named = named_holds p g sound.referenced sound.named h (distinct_pairs h all.distinct) gs pick;
-      shallow = omega (arith, sound.shallow, remark_depth (place_from 0 h) (processed p g), ap (λ m. depth (strip m)) same_tree);
+      shallow = omega (arith, sound.shallow, remark_depth (position_from 0 h) (processed p g), ap (λ m. depth (strip m)) same_tree);
     };
-    pruned = same_tree ∙ sym (remark_twice (kept s) (place_from 0 h) (kept_stays s h all.within) (processed p g));
+    pruned = same_tree ∙ sym (remark_twice (kept s) (position_from 0 h) (kept_stays s h all.within) (processed p g));
   }
 
 pub presentation_holds : Presentation
@@ -124,7 +126,7 @@ abbrev numbers_sum : (ℕ → ℕ) → ℕ → List Given → ℕ
 numbers_sum w i [] = 0
 numbers_sum w i (x ∷ g) = w i + numbers_sum w (suc i) g
 
-sum_with_numbers : (f h : Given → ℕ) (w : ℕ → ℕ) (i : ℕ) (g : List Given) → ((k n : ℕ) (x : Given) → n ≡ i + k → At g k x → f x ≡ w n + h x)
+sum_with_numbers : (f h : Given → ℕ) (w : ℕ → ℕ) (i : ℕ) (g : List Given) → ((k n : ℕ) (x : Given) → n ≡ i + k → StandsAt g k x → f x ≡ w n + h x)
     → sum_of f g ≡ numbers_sum w i g + sum_of h g
 sum_with_numbers f h w i [] e = refl
 sum_with_numbers f h w i (x ∷ g) e =

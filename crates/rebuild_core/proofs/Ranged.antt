@@ -11,17 +11,17 @@ use Rattle.digest_sites.specs.Reserved.{sd_name, sd_texts, element_digest}
 use Rattle.digest_sites.specs.Given.{Given}
 use Rattle.marked_tree.specs.Marked.{Marked, MarkedElements, MarkedMembers, no_marked_members, marked_member, put, strip, strip_elements, strip_members}
 use Rattle.rebuild_core.specs.Payload.{alg_name, without_alg}
-use Rattle.rebuild_core.specs.Given.{find}
-use Rattle.rebuild_core.specs.Opening.{Shown, hidden, shown, show_element, show_member, show_members, open_element, open_tree, open_elements, open_members, shown_by, reveal, processed}
+use Rattle.rebuild_core.specs.Reached.{find}
+use Rattle.rebuild_core.specs.Opening.{Shown, nothing_shown, shown, show_element, show_member, show_members, open_element, open_tree, open_elements, open_members, shown_by, reveal, processed}
 use Rattle.marked_tree.specs.View.{marked_of}
 use Rattle.marked_tree.specs.declared.marked.Marked as code
-use Rattle.rebuild_core.specs.Conditions.{IsSound}
-use Rattle.rebuild_core.specs.Answer.{ValuesRanged, IsRefusal}
+use Rattle.rebuild_core.specs.Soundness.{IsSound}
+use Rattle.rebuild_core.specs.Answer.{ValuesRanged, IsProcessRefused}
 use Rattle.rebuild_core.specs.declared.errors.ProcessError.{ProcessError}
 use Rattle.rebuild_core.proofs.Found.{found}
 
 abbrev ShownRanged : Shown → Type 0
-ShownRanged hidden = Unit {0}
+ShownRanged nothing_shown = Unit {0}
 ShownRanged (shown i name t) = IsRanged (strip t)
 
 put_ranged : (name : Text) (i : Option ℕ) (t : Marked) (ms : MarkedMembers) → IsRanged (strip t) → MembersRanged (strip_members ms) → MembersRanged (strip_members (put name i t ms))
@@ -35,7 +35,7 @@ put_ranged name i t (marked_member other j u ms) h rest = go (slice_cmp nat_cmp 
     go Greater ih = (rest.0, ih)
 
 member_ranged : (s : Shown) (ms : MarkedMembers) → ShownRanged s → MembersRanged (strip_members ms) → MembersRanged (strip_members (show_member s ms))
-member_ranged hidden ms h rest = rest
+member_ranged nothing_shown ms h rest = rest
 member_ranged (shown i None t) ms h rest = rest
 member_ranged (shown i (Some name) t) ms h rest = put_ranged name (Some i) t ms h rest
 
@@ -44,7 +44,7 @@ members_ranged r h [] ms rest = rest
 members_ranged r h (d ∷ ds) ms rest = members_ranged r h ds (show_member (r d) ms) (member_ranged (r d) ms (h d) rest)
 
 element_ranged : (s : Shown) (es : MarkedElements) → ShownRanged s → ElementsRanged (strip_elements es) → ElementsRanged (strip_elements (show_element s es))
-element_ranged hidden es h rest = rest
+element_ranged nothing_shown es h rest = rest
 element_ranged (shown i None t) es h rest = (h, rest)
 element_ranged (shown i (Some name) t) es h rest = rest
 
@@ -97,6 +97,6 @@ pub processed_ranged : (p : Tree) (g : List Given) → IsRanged p → ValuesRang
 processed_ranged p g h values = open_ranged (reveal (suc (length g)) g) (reveal_ranged g values (suc (length g))) (without_alg p) (payload_ranged p h)
 
 pub answer_ranged : (p : Tree) (g : List Given) → IsRanged p → ValuesRanged g → (answer : Result code.Marked ProcessError)
-    → MatchResult answer (λ m. IsSound (without_alg p) g × (marked_of m ≡ processed (without_alg p) g)) (IsRefusal (without_alg p) g) → IfOk answer (λ m. IsRanged (strip (marked_of m)))
+    → MatchResult answer (λ m. IsSound (without_alg p) g × (marked_of m ≡ processed (without_alg p) g)) (IsProcessRefused (without_alg p) g) → IfOk answer (λ m. IsRanged (strip (marked_of m)))
 answer_ranged p g h values (Ok m) is = subst (λ (t : Marked). IsRanged (strip t)) (sym is.1) (processed_ranged p g h values)
 answer_ranged p g h values (Err e) is = tt

@@ -3,10 +3,11 @@ use Rattle.std.proofs.Common.{◌≡◌, ℕ, zero, suc, ◌<◌, ◌≤◌, Lis
 use Rattle.std.proofs.lemmas.Bool.Decides.{nat_tests}
 use Rattle.claim_tree.specs.Tree.{Text}
 use Rattle.claim_tree.specs.Lists.{In}
-use Rattle.marked_tree.specs.Marked.{Marked, MarkedElements, MarkedMembers, marked_leaf, marked_array, marked_object, no_marked_elements, marked_element, no_marked_members, marked_member, remark, remark_elements, remark_members, new_mark, keep_element, keep_member, kept, count_below}
+use Rattle.marked_tree.specs.Marked.{Marked, MarkedElements, MarkedMembers, marked_leaf, marked_array, marked_object, no_marked_elements, marked_element, no_marked_members, marked_member, remark, remark_elements, remark_members, new_mark, keep_element, keep_member, kept}
+use Rattle.marked_tree.specs.Ways.{count_below}
 use Rattle.marked_tree.specs.Numbers.{AllAbove, IsRising}
 use Rattle.marked_tree.proofs.NumberSets.{above_in}
-use Rattle.rebuild_core.specs.Laws.{place_from, Ranks}
+use Rattle.rebuild_core.specs.Laws.{position_from, Ranks}
 
 abbrev SameOn : (ℕ → Bool) → (ℕ → Option ℕ) → (ℕ → Option ℕ) → Type 0
 SameOn s f e = (i : ℕ) → s i ≡ true → f i ≡ e i
@@ -67,7 +68,7 @@ differ : (i j : ℕ) → j < i → eqb j i ≡ false
 differ i j l = grind (arith, nat_tests)
 
 placed : (s : ℕ → Bool) (h : List ℕ) (b m : ℕ) → IsRising h → ((j : ℕ) → In j h → (b ≤ j) × (s j ≡ true)) → ((j : ℕ) → b ≤ j → s j ≡ true → In j h)
-    → count_below s b ≡ m → (i : ℕ) → In i h → place_from m h i ≡ Some (count_below s i)
+    → count_below s b ≡ m → (i : ℕ) → In i h → position_from m h i ≡ Some (count_below s i)
 placed s [] b m r inside whole e i n = elim n [ ]
 placed s (j ∷ h) b m r inside whole e i (inl q) =
     let t : eqb j i ≡ true = eq-eqb j i (sym q) in
@@ -87,5 +88,5 @@ placed s (j ∷ h) b m r inside whole e i (inr a) =
 
 pub ranks_hold : Ranks
 ranks_hold m s h all rising =
-    same_marks s (place_from 0 h) (λ i. Some (count_below s i))
+    same_marks s (position_from 0 h) (λ i. Some (count_below s i))
     (λ i e. placed s h 0 0 rising (λ j n. (omega arith, all.within j n)) (λ j l p. all.whole j p) refl i (all.whole i e)) m

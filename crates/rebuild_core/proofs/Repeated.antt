@@ -1,32 +1,33 @@
 -- Texts numbered in turn, and the first that repeats an earlier one.
 use Rattle.std.proofs.Common.{◌≡◌, ℕ, zero, suc, ◌<◌, ◌≤◌, List, [], ◌∷◌, ◌++◌, map, length, get_or, take, Bool, true, false, cond, bytes_eq, inl, inr, refl, sym, ap, ◌∙◌, subst, arith}
 use Rattle.claim_tree.specs.Tree.{Text}
-use Rattle.claim_tree.specs.Lists.{At, In, Repeats}
+use Rattle.claim_tree.specs.Lists.{StandsAt, In, Repeats}
 use Rattle.claim_tree.proofs.Lists.{bytes_same, bytes_refl, At-In, At-below, At-same, At-map}
-use Rattle.digest_index.specs.Index.{place_or_end, interned}
+use Rattle.digest_index.specs.Index.{position_or_end, interned}
 use Rattle.digest_index.proofs.Places.{place_or_end-within}
 use Rattle.digest_index.proofs.Interned.{interned-new}
-use Rattle.digest_sites.specs.Given.{Given, given_of}
+use Rattle.digest_sites.specs.Given.{Given}
+use Rattle.digest_sites.specs.GivenView.{given_of}
 use Rattle.digest_sites.specs.declared.given.Given as code
-use Rattle.rebuild_core.specs.Given.{given_digests}
+use Rattle.rebuild_core.specs.Reached.{given_digests}
 use Rattle.rebuild_core.proofs.GivenFacts.{item_at}
 use Rattle.std.proofs.lemmas.List.{length-map, length-take-le}
 
 -- ---- places of texts
 
-pub place_there : (xs : List Text) (d : Text) → place_or_end d xs < length xs → At xs (place_or_end d xs) d
+pub place_there : (xs : List Text) (d : Text) → position_or_end d xs < length xs → StandsAt xs (position_or_end d xs) d
 place_there [] d h = absurd (omega (arith, h))
 place_there (x ∷ xs) d h = go (bytes_eq d x) refl h (place_there xs d)
   where
-    go : (b : Bool) → bytes_eq d x ≡ b → cond b 0 (suc (place_or_end d xs)) < length (x ∷ xs) → (place_or_end d xs < length xs → At xs (place_or_end d xs) d)
-        → At (x ∷ xs) (cond b 0 (suc (place_or_end d xs))) d
+    go : (b : Bool) → bytes_eq d x ≡ b → cond b 0 (suc (position_or_end d xs)) < length (x ∷ xs) → (position_or_end d xs < length xs → StandsAt xs (position_or_end d xs) d)
+        → StandsAt (x ∷ xs) (cond b 0 (suc (position_or_end d xs))) d
     go true e h ih = bytes_same d x e
     go false e h ih = ih (omega (arith, h))
 
-pub place_absent : (xs : List Text) (d : Text) → length xs ≤ place_or_end d xs → In d xs → ⊥
+pub place_absent : (xs : List Text) (d : Text) → length xs ≤ position_or_end d xs → In d xs → ⊥
 place_absent (x ∷ xs) d h m = go (bytes_eq d x) refl h m (place_absent xs d)
   where
-    go : (b : Bool) → bytes_eq d x ≡ b → length (x ∷ xs) ≤ cond b 0 (suc (place_or_end d xs)) → In d (x ∷ xs) → (length xs ≤ place_or_end d xs → In d xs → ⊥) → ⊥
+    go : (b : Bool) → bytes_eq d x ≡ b → length (x ∷ xs) ≤ cond b 0 (suc (position_or_end d xs)) → In d (x ∷ xs) → (length xs ≤ position_or_end d xs → In d xs → ⊥) → ⊥
     go true e h m ih = omega (arith, h)
     go false e h (inl s) ih = let t = bytes_refl d x s in cc
     go false e h (inr m) ih = ih (omega (arith, h)) m
@@ -34,55 +35,55 @@ place_absent [] d h m = elim m [ ]
 
 -- ---- the first texts
 
-At-take : {X : Type 0} (xs : List X) (i j : ℕ) (x : X) → At (take i xs) j x → At xs j x × (j < i)
+At-take : {X : Type 0} (xs : List X) (i j : ℕ) (x : X) → StandsAt (take i xs) j x → StandsAt xs j x × (j < i)
 At-take (y ∷ ys) (suc i) zero x h = (h, omega arith)
 At-take (y ∷ ys) (suc i) (suc j) x h = let w = At-take ys i j x h in (w.0, omega (arith, w.1))
 At-take (y ∷ ys) zero j x h = elim h [ ]
 At-take [] zero j x h = elim h [ ]
 At-take [] (suc i) j x h = elim h [ ]
 
-take-At : {X : Type 0} (xs : List X) (i j : ℕ) (x : X) → At xs j x → j < i → At (take i xs) j x
+take-At : {X : Type 0} (xs : List X) (i j : ℕ) (x : X) → StandsAt xs j x → j < i → StandsAt (take i xs) j x
 take-At (y ∷ ys) (suc i) zero x h l = h
 take-At (y ∷ ys) (suc i) (suc j) x h l = take-At ys i j x h (omega arith)
 take-At (y ∷ ys) zero j x h l = absurd (omega arith)
 take-At [] i j x h l = elim h [ ]
 
-take-one : {X : Type 0} (xs : List X) (i : ℕ) (x : X) → At xs i x → take (suc i) xs ≡ take i xs ++ x ∷ []
+take-one : {X : Type 0} (xs : List X) (i : ℕ) (x : X) → StandsAt xs i x → take (suc i) xs ≡ take i xs ++ x ∷ []
 take-one (y ∷ ys) zero x h = ap (λ z. z ∷ []) (sym h)
 take-one (y ∷ ys) (suc i) x h = ap (λ zs. y ∷ zs) (take-one ys i x h)
 take-one [] i x h = elim h [ ]
 
 -- text i has an earlier place, so it repeats
-pub repeats_there : (ds : List Text) (i : ℕ) (d : Text) → At ds i d → place_or_end d (take i ds) < i → Repeats ds i
+pub repeats_there : (ds : List Text) (i : ℕ) (d : Text) → StandsAt ds i d → position_or_end d (take i ds) < i → Repeats ds i
 repeats_there ds i d a h =
     let n : length (take i ds) ≡ i = length-take-le i ds (omega (arith, At-below ds i d a)) in
-    let b = At-take ds i (place_or_end d (take i ds)) d (place_there (take i ds) d (omega (arith, h, n))) in
-    (d, a, place_or_end d (take i ds), b.1, b.0)
+    let b = At-take ds i (position_or_end d (take i ds)) d (place_there (take i ds) d (omega (arith, h, n))) in
+    (d, a, position_or_end d (take i ds), b.1, b.0)
 
 -- it has none, so it is new
-pub repeats_new : (ds : List Text) (i : ℕ) (d : Text) → At ds i d → i ≤ place_or_end d (take i ds) → Repeats ds i → ⊥
+pub repeats_new : (ds : List Text) (i : ℕ) (d : Text) → StandsAt ds i d → i ≤ position_or_end d (take i ds) → Repeats ds i → ⊥
 repeats_new ds i d a h r =
     let n : length (take i ds) ≡ i = length-take-le i ds (omega (arith, At-below ds i d a)) in
     let same : r.0 ≡ d = At-same ds i r.0 d r.1 a in
-    let b = take-At ds i r.2 d (subst (λ z. At ds r.2 z) same r.4) r.3 in
+    let b = take-At ds i r.2 d (subst (λ z. StandsAt ds r.2 z) same r.4) r.3 in
     place_absent (take i ds) d (omega (arith, h, n)) (At-In (take i ds) r.2 d b)
 
-pub grows_new : (ds : List Text) (i : ℕ) (d : Text) → At ds i d → i ≤ place_or_end d (take i ds) → interned d (take i ds) ≡ take (suc i) ds
+pub grows_new : (ds : List Text) (i : ℕ) (d : Text) → StandsAt ds i d → i ≤ position_or_end d (take i ds) → interned d (take i ds) ≡ take (suc i) ds
 grows_new ds i d a h =
     let n : length (take i ds) ≡ i = length-take-le i ds (omega (arith, At-below ds i d a)) in
-    let e : place_or_end d (take i ds) ≡ length (take i ds) = omega (arith, h, n, place_or_end-within d (take i ds)) in
+    let e : position_or_end d (take i ds) ≡ length (take i ds) = omega (arith, h, n, place_or_end-within d (take i ds)) in
     interned-new d (take i ds) e ∙ sym (take-one ds i d a)
 
 -- ---- the digests of disclosures
 
-pub at_given : (items : List code.Given) (given : List Given) (i : ℕ) (x : code.Given) → map given_of items ≡ given → i < length items → x ≡ get_or items i x → At (given_digests given) i x.digest
+pub at_given : (items : List code.Given) (given : List Given) (i : ℕ) (x : code.Given) → map given_of items ≡ given → i < length items → x ≡ get_or items i x → StandsAt (given_digests given) i x.digest
 at_given items given i x e h s = At-map (λ (y : Given). y.digest) given i (given_of x) (item_at items given i x e h s)
 
 length-digests : (given : List Given) → length (given_digests given) ≡ length given
 length-digests [] = refl
 length-digests (x ∷ given) = ap suc (length-digests given)
 
-pub digests_past : (items : List code.Given) (given : List Given) (i : ℕ) (d : Text) → map given_of items ≡ given → At (given_digests given) i d → i < length items
+pub digests_past : (items : List code.Given) (given : List Given) (i : ℕ) (d : Text) → map given_of items ≡ given → StandsAt (given_digests given) i d → i < length items
 digests_past items given i d e h =
     let few : length (map given_of items) ≡ length items = length-map items given_of in
     let all : length (map given_of items) ≡ length given = ap length e in

@@ -4,19 +4,21 @@ use Rattle.std.specs.Prelude.{if◌then◌else◌, sum_by}
 use Rattle.std.proofs.lemmas.List.{map-append, length-map, length-append}
 use Rattle.std.proofs.lemmas.List.Sums.{sum_by-cons}
 use Rattle.claim_tree.specs.Tree.{Text, Tree, leaf, array, object, Elements, no_elements, element, Members, no_members, member, names, IsOrdered}
-use Rattle.claim_tree.specs.Lists.{At}
+use Rattle.claim_tree.specs.Lists.{StandsAt}
 use Rattle.claim_tree.specs.Removed.{removed}
 use Rattle.claim_tree.proofs.Lists.{At-map, At-same}
 use Rattle.digest_sites.specs.Reserved.{sd_name, sd_texts, element_digest}
-use Rattle.digest_sites.specs.Sites.{Site, Step, to_member, to_element, sites, element_sites, member_sites, sites_on, under, own_site, digests}
+use Rattle.digest_sites.specs.Sites.{Site, Step, to_member, to_element, sites, element_sites, member_sites, sites_on, under, own_site}
+use Rattle.digest_sites.specs.SiteCalls.{digests}
 use Rattle.digest_sites.specs.Given.{Given}
 use Rattle.digest_sites.specs.declared.site.SiteKind.{SiteKind}
 use Rattle.rebuild_core.specs.Payload.{alg_name, without_alg}
-use Rattle.rebuild_core.specs.Given.{Owner, payload, value_of, Item, item, value_items, item_digests, look_ups, all_items}
+use Rattle.rebuild_core.specs.Reached.{Owner, payload, value_of, OwnedSite, owned_site, value_sites, owned_digests, all_sites}
+use Rattle.rebuild_core.specs.LookUps.{look_ups}
 use Rattle.rebuild_core.specs.Answer.{IsPayload}
-use Rattle.rebuild_core.specs.Numbers.{row_texts}
+use Rattle.rebuild_core.specs.DigestNumbers.{row_texts}
 use Rattle.rebuild_core.specs.declared.rows.Row.{Row}
-use Rattle.rebuild_core.specs.Rows.{Seen, seen, own_row, rows_on, tree_rows, element_rows, member_rows, value_rows, all_rows}
+use Rattle.rebuild_core.specs.Rows.{SeenRow, seen, own_row, rows_on, tree_rows, element_rows, member_rows, value_rows, all_rows}
 use Rattle.rebuild_core.proofs.AlgFacts.{HasTextAlg, has_text_alg, alg_is_not_sd, sd_texts_without}
 
 -- what a row and a site both have
@@ -25,13 +27,13 @@ pub record Look : Type 0 where
   pub digest : Text
   pub beside : List Text
 
-abbrev pub row_look : Seen → Look
+abbrev pub row_look : SeenRow → Look
 row_look r = record { kind = r.kind; digest = r.digest; beside = r.beside }
 
 abbrev pub site_look : Site → Look
 site_look s = record { kind = s.kind; digest = s.digest; beside = s.beside }
 
-abbrev pub item_look : Item → Look
+abbrev pub item_look : OwnedSite → Look
 item_look m = site_look m.site
 
 under_looks : (step : Step) (ss : List Site) → map site_look (map (under step) ss) ≡ map site_look ss
@@ -42,17 +44,17 @@ own_looks : (top : Bool) (n : ℕ) (beside ds : List Text) → map row_look (map
 own_looks top n beside [] = refl
 own_looks top n beside (d ∷ ds) = ap (λ ls. site_look (own_site beside d) ∷ ls) (own_looks top n beside ds)
 
-on_looks : (n i : ℕ) (digest : Option Text) (rs : List Seen) (ss : List Site) → map row_look rs ≡ map site_look ss
+on_looks : (n i : ℕ) (digest : Option Text) (rs : List SeenRow) (ss : List Site) → map row_look rs ≡ map site_look ss
     → map row_look (rows_on n digest rs) ≡ map site_look (sites_on (to_element i) digest ss)
 on_looks n i None rs ss h = h ∙ sym (under_looks (to_element i) ss)
 on_looks n i (Some d) rs ss h = refl
 
-in_looks : (own : Bool) (name : Text) (rs : List Seen) (ss : List Site) → map row_look rs ≡ map site_look ss
+in_looks : (own : Bool) (name : Text) (rs : List SeenRow) (ss : List Site) → map row_look rs ≡ map site_look ss
     → map row_look (if own then [] else rs) ≡ map site_look (if own then [] else map (under (to_member name)) ss)
 in_looks true name rs ss h = refl
 in_looks false name rs ss h = h ∙ sym (under_looks (to_member name) ss)
 
-joined : (rs qs : List Seen) (ss us : List Site) → map row_look rs ≡ map site_look ss → map row_look qs ≡ map site_look us
+joined : (rs qs : List SeenRow) (ss us : List Site) → map row_look rs ≡ map site_look ss → map row_look qs ≡ map site_look us
     → map row_look (rs ++ qs) ≡ map site_look (ss ++ us)
 joined rs qs ss us g h = map-append row_look rs qs ∙ (ap₂ (λ (a b : List Look). a ++ b) g h ∙ sym (map-append site_look ss us))
 
@@ -93,33 +95,33 @@ top_looks (array es) o h = elim h [ ]
 
 -- ---- all of them
 
-item_looks : (o : Owner) (ss : List Site) → map item_look (map (item o) ss) ≡ map site_look ss
+item_looks : (o : Owner) (ss : List Site) → map item_look (map (owned_site o) ss) ≡ map site_look ss
 item_looks o [] = refl
 item_looks o (s ∷ ss) = ap (λ ls. site_look s ∷ ls) (item_looks o ss)
 
-both_look : (rs qs : List Seen) (ms us : List Item) → map row_look rs ≡ map item_look ms → map row_look qs ≡ map item_look us → map row_look (rs ++ qs) ≡ map item_look (ms ++ us)
+both_look : (rs qs : List SeenRow) (ms us : List OwnedSite) → map row_look rs ≡ map item_look ms → map row_look qs ≡ map item_look us → map row_look (rs ++ qs) ≡ map item_look (ms ++ us)
 both_look rs qs ms us g h = map-append row_look rs qs ∙ (ap₂ (λ (a b : List Look). a ++ b) g h ∙ sym (map-append item_look ms us))
 
-value_looks : (n i : ℕ) (given : List Given) → map row_look (value_rows n given) ≡ map item_look (value_items (λ _. true) i given)
+value_looks : (n i : ℕ) (given : List Given) → map row_look (value_rows n given) ≡ map item_look (value_sites (λ _. true) i given)
 value_looks n i [] = refl
 value_looks n i (x ∷ given) =
     both_look _ _ _ _ (tree_looks n x.value ∙ sym (item_looks (value_of i) (sites x.value))) (value_looks (n + length (tree_rows false n x.value)) (suc i) given)
 
-pub all_look : (t : Tree) (given : List Given) → IsOrdered t → IsPayload t → map row_look (all_rows t given) ≡ map item_look (all_items (without_alg t) given)
+pub all_look : (t : Tree) (given : List Given) → IsOrdered t → IsPayload t → map row_look (all_rows t given) ≡ map item_look (all_sites (without_alg t) given)
 all_look t given o h =
     both_look _ _ _ _ (top_looks t o h ∙ sym (item_looks payload (sites (without_alg t)))) (value_looks (length (tree_rows true 0 t)) 0 given)
 
 -- row by row
-pub row_is_item : (t : Tree) (given : List Given) → IsOrdered t → IsPayload t → (place : ℕ) (r : Seen) (m : Item) → At (all_rows t given) place r → At (all_items (without_alg t) given) place m
+pub row_is_item : (t : Tree) (given : List Given) → IsOrdered t → IsPayload t → (place : ℕ) (r : SeenRow) (m : OwnedSite) → StandsAt (all_rows t given) place r → StandsAt (all_sites (without_alg t) given) place m
     → (r.kind ≡ m.site.kind) × (r.digest ≡ m.site.digest) × (r.beside ≡ m.site.beside)
 row_is_item t given o h place r m a b =
-    let there = subst (λ (ls : List Look). At ls place (row_look r)) (all_look t given o h) (At-map row_look (all_rows t given) place r a) in
-    let same : row_look r ≡ item_look m = At-same (map item_look (all_items (without_alg t) given)) place (row_look r) (item_look m) there (At-map item_look (all_items (without_alg t) given) place m b) in
+    let there = subst (λ (ls : List Look). StandsAt ls place (row_look r)) (all_look t given o h) (At-map row_look (all_rows t given) place r a) in
+    let same : row_look r ≡ item_look m = At-same (map item_look (all_sites (without_alg t) given)) place (row_look r) (item_look m) there (At-map item_look (all_sites (without_alg t) given) place m b) in
     (ap (λ (l : Look). l.kind) same, ap (λ (l : Look). l.digest) same, ap (λ (l : Look). l.beside) same)
 
 -- ---- how many
 
-row_digests : (rs : List Seen) → map (λ (l : Look). l.digest) (map row_look rs) ≡ map (λ (r : Seen). r.digest) rs
+row_digests : (rs : List SeenRow) → map (λ (l : Look). l.digest) (map row_look rs) ≡ map (λ (r : SeenRow). r.digest) rs
 row_digests [] = refl
 row_digests (r ∷ rs) = ap (λ ds. r.digest ∷ ds) (row_digests rs)
 
@@ -128,10 +130,10 @@ site_digests [] = refl
 site_digests (s ∷ ss) = ap (λ ds. s.digest ∷ ds) (site_digests ss)
 
 -- rows that look like sites have their digests
-pub digests_look : (rs : List Seen) (ss : List Site) → map row_look rs ≡ map site_look ss → map (λ (r : Seen). r.digest) rs ≡ digests ss
+pub digests_look : (rs : List SeenRow) (ss : List Site) → map row_look rs ≡ map site_look ss → map (λ (r : SeenRow). r.digest) rs ≡ digests ss
 digests_look rs ss h = sym (row_digests rs) ∙ (ap (map (λ (l : Look). l.digest)) h ∙ site_digests ss)
 
-pub length_look : (rs : List Seen) (ss : List Site) → map row_look rs ≡ map site_look ss → length rs ≡ length ss
+pub length_look : (rs : List SeenRow) (ss : List Site) → map row_look rs ≡ map site_look ss → length rs ≡ length ss
 length_look rs ss h = sym (length-map rs row_look) ∙ (ap length h ∙ length-map ss site_look)
 
 pub length_tree_rows : (n : ℕ) (t : Tree) → length (tree_rows false n t) ≡ length (sites t)
@@ -140,19 +142,19 @@ length_tree_rows n t = length_look (tree_rows false n t) (sites t) (tree_looks n
 pub length_top_rows : (t : Tree) → IsOrdered t → IsPayload t → length (tree_rows true 0 t) ≡ length (sites (without_alg t))
 length_top_rows t o h = length_look (tree_rows true 0 t) (sites (without_alg t)) (top_looks t o h)
 
-item_texts : (ms : List Item) → map (λ (l : Look). l.digest) (map item_look ms) ≡ item_digests ms
+item_texts : (ms : List OwnedSite) → map (λ (l : Look). l.digest) (map item_look ms) ≡ owned_digests ms
 item_texts [] = refl
 item_texts (m ∷ ms) = ap (λ ds. m.site.digest ∷ ds) (item_texts ms)
 
-seen_texts : (rows : List Row) → row_texts rows ≡ map (λ (r : Seen). r.digest) (map seen rows)
+seen_texts : (rows : List Row) → row_texts rows ≡ map (λ (r : SeenRow). r.digest) (map seen rows)
 seen_texts [] = refl
 seen_texts (r ∷ rows) = ap (λ ds. (seen r).digest ∷ ds) (seen_texts rows)
 
 -- the digests of all rows are those of all items
 pub all_row_texts : (t : Tree) (given : List Given) (rows : List Row) → IsOrdered t → IsPayload t → map seen rows ≡ all_rows t given
-    → row_texts rows ≡ item_digests (all_items (without_alg t) given)
+    → row_texts rows ≡ owned_digests (all_sites (without_alg t) given)
 all_row_texts t given rows o h same =
-    seen_texts rows ∙ (ap (map (λ (r : Seen). r.digest)) same ∙ (sym (row_digests (all_rows t given)) ∙ (ap (map (λ (l : Look). l.digest)) (all_look t given o h) ∙ item_texts (all_items (without_alg t) given))))
+    seen_texts rows ∙ (ap (map (λ (r : SeenRow). r.digest)) same ∙ (sym (row_digests (all_rows t given)) ∙ (ap (map (λ (l : Look). l.digest)) (all_look t given o h) ∙ item_texts (all_sites (without_alg t) given))))
 
 length_value_rows : (n : ℕ) (given : List Given) → length (value_rows n given) ≡ sum_by (λ (x : Given). length (sites x.value)) given
 length_value_rows n [] = refl

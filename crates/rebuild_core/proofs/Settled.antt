@@ -1,12 +1,12 @@
 -- Fuel beyond the number of disclosures changes nothing.
 use Rattle.std.proofs.Common.{◌≡◌, ℕ, zero, suc, ◌+◌, ◌≤◌, List, [], ◌∷◌, length, Option, Some, None, refl, sym, ap, ◌∙◌, arith}
 use Rattle.claim_tree.specs.Tree.{Text, Tree}
-use Rattle.claim_tree.specs.Lists.{At, In}
+use Rattle.claim_tree.specs.Lists.{StandsAt, In}
 use Rattle.digest_sites.specs.Sites.{Site, sites}
 use Rattle.digest_sites.specs.Given.{Given}
-use Rattle.rebuild_core.specs.Given.{find, payload, value_of}
-use Rattle.rebuild_core.specs.Opening.{hidden, shown, shown_by, reveal, opened, open_tree}
-use Rattle.rebuild_core.specs.Conditions.{IsReferencedOnce}
+use Rattle.rebuild_core.specs.Reached.{find, payload, value_of}
+use Rattle.rebuild_core.specs.Opening.{nothing_shown, shown, shown_by, reveal, opened, open_tree}
+use Rattle.rebuild_core.specs.Soundness.{IsReferencedOnce}
 use Rattle.rebuild_core.specs.Laws.{LeadsUp}
 use Rattle.rebuild_core.proofs.Found.{found}
 use Rattle.rebuild_core.proofs.Agree.{agree}
@@ -20,12 +20,12 @@ pub record IsAlike (g : List Given) (f e : ℕ) (x : Given) : Type 0 where
   pub is_e : e ≡ suc b
   pub same : opened a g x.value ≡ opened b g x.value
 
-nothing : (g : List Given) (f : ℕ) (d : Text) → find g d ≡ None → reveal f g d ≡ hidden
+nothing : (g : List Given) (f : ℕ) (d : Text) → find g d ≡ None → reveal f g d ≡ nothing_shown
 nothing g zero d h = refl
 nothing g (suc f) d h = ap (shown_by (open_tree (reveal f g))) h
 
 pub reveal_alike : (g : List Given) (f e : ℕ) (d : Text)
-    → ((j : ℕ) (x : Given) → At g j x → x.digest ≡ d → IsAlike g f e x) → reveal f g d ≡ reveal e g d
+    → ((j : ℕ) (x : Given) → StandsAt g j x → x.digest ≡ d → IsAlike g f e x) → reveal f g d ≡ reveal e g d
 reveal_alike g f e d alike = go (find g d) refl
   where
     go : (o : Option (ℕ × Given)) → find g d ≡ o → reveal f g d ≡ reveal e g d
@@ -41,7 +41,7 @@ before n (suc k) h = (k, refl)
 
 module _ (p : Tree) (g : List Given) (ok : IsReferencedOnce p g) where
   -- the value of a disclosure that `is` leads from needs no more fuel than the disclosures outside that chain
-  pub settled_value : (k f e i : ℕ) (x : Given) (is : List ℕ) → At g i x → LeadsUp p g (value_of i) is
+  pub settled_value : (k f e i : ℕ) (x : Given) (is : List ℕ) → StandsAt g i x → LeadsUp p g (value_of i) is
       → length g ≤ k + length is → k ≤ f → k ≤ e → opened f g x.value ≡ opened e g x.value
   settled_value zero f e i x is a up b l m =
       agree (reveal f g) (reveal e g) x.value

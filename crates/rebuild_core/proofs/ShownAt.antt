@@ -6,9 +6,11 @@ use Rattle.claim_tree.specs.Lists.{In}
 use Rattle.claim_tree.specs.Tree.{Elements, ElementsOrdered, IsOrdered, Members, MembersOrdered, Text, Tree, array, element, leaf, member, names, no_elements, no_members, object}
 use Rattle.digest_sites.specs.Reserved.{element_digest, sd_name, sd_texts}
 use Rattle.digest_sites.specs.Sites.{Step, to_member, to_element, Site, element_site, element_sites, member_sites, own_site, sites, sites_on, under}
-use Rattle.marked_tree.specs.Marked.{Marked, MarkedElements, MarkedMembers, elements_ways, marked_member, marked_names, members_ways, put, strip, strip_elements, strip_members, way_of, ways}
+use Rattle.marked_tree.specs.Marked.{Marked, MarkedElements, MarkedMembers, marked_member, put, strip, strip_elements, strip_members}
+use Rattle.marked_tree.specs.Ways.{elements_ways, members_ways, way_of, ways}
+use Rattle.marked_tree.specs.MarkedCalls.{marked_names}
 use Rattle.rebuild_core.specs.Free.{ElementsNoReserved, HasNoReserved, IsFree, MembersNoReserved}
-use Rattle.rebuild_core.specs.Opening.{Shown, hidden, open_element, open_elements, open_members, open_tree, show_element, show_member, show_members, shown}
+use Rattle.rebuild_core.specs.Opening.{Shown, nothing_shown, open_element, open_elements, open_members, open_tree, show_element, show_member, show_members, shown}
 use Rattle.claim_tree.proofs.Lists.{In-append, In-of_map, In-right, bytes_same}
 use Rattle.marked_tree.proofs.Puts.{IsAscending, IsBeforeAll-not_in, put_ascending}
 use Rattle.rebuild_core.proofs.Fits.{Names, NamesApart, Suits, open_ascending}
@@ -19,7 +21,7 @@ use Rattle.digest_sites.specs.declared.site.SiteKind.TheVariants.{Member, Elemen
 
 -- what is shown has no reserved name
 abbrev pub ShownFree : Shown → Type 0
-ShownFree hidden = Unit {0}
+ShownFree nothing_shown = Unit {0}
 ShownFree (shown i None u) = HasNoReserved (strip u)
 ShownFree (shown i (Some k) u) = IsFree k × HasNoReserved (strip u)
 
@@ -86,12 +88,12 @@ Shown_at r ss v = (s : Site) × Shows r ss s × In v (shown_ways (r s.digest))
 -- ---- the texts of `_sd`
 
 show_ascending : (x : Shown) (ms : MarkedMembers) → IsAscending (marked_names ms) → IsAscending (marked_names (show_member x ms))
-show_ascending hidden ms a = a
+show_ascending nothing_shown ms a = a
 show_ascending (shown i None t) ms a = a
 show_ascending (shown i (Some k) t) ms a = put_ascending k (Some i) t ms a
 
 show_free : (x : Shown) (ms : MarkedMembers) → MembersNoReserved (strip_members (show_member x ms)) → MembersNoReserved (strip_members ms)
-show_free hidden ms f = f
+show_free nothing_shown ms f = f
 show_free (shown i None t) ms f = f
 show_free (shown i (Some k) t) ms f = put_free k (Some i) t ms f
 
@@ -100,17 +102,17 @@ shows_free r [] ms f = f
 shows_free r (d ∷ ds) ms f = show_free (r d) ms (shows_free r ds (show_member (r d) ms) f)
 
 show_keeps : (x : Shown) (ms : MarkedMembers) (l : Text) → In l (marked_names ms) → In l (marked_names (show_member x ms))
-show_keeps hidden ms l m = m
+show_keeps nothing_shown ms l m = m
 show_keeps (shown i None t) ms l m = m
 show_keeps (shown i (Some k) t) ms l m = put_keeps k (Some i) t ms l m
 
 show_has : (x : Shown) (ms : MarkedMembers) (l : Text) → Suits Member x → Names x l → In l (marked_names (show_member x ms))
-show_has hidden ms l s n = absurd n
+show_has nothing_shown ms l s n = absurd n
 show_has (shown i None t) ms l s n = absurd (s tt)
 show_has (shown i (Some k) t) ms l s n = let e : k ≡ l = cc in subst (λ z. In z (marked_names (put k (Some i) t ms))) e (put_has k (Some i) t ms)
 
 show_has_name : (x : Shown) (ms : MarkedMembers) (l : Text) → Names x l → In l (marked_names (show_member x ms))
-show_has_name hidden ms l n = absurd n
+show_has_name nothing_shown ms l n = absurd n
 show_has_name (shown i None t) ms l n = cc
 show_has_name (shown i (Some k) t) ms l n = let e : k ≡ l = cc in subst (λ z. In z (marked_names (put k (Some i) t ms))) e (put_has k (Some i) t ms)
 
@@ -128,7 +130,7 @@ record Added (r : Text → Shown) (ds : List Text) (ms : MarkedMembers) (v : Way
 
 one_added : (x : Shown) (ms : MarkedMembers) (v : Way) → IsAscending (marked_names ms) → MembersNoReserved (strip_members (show_member x ms)) → In v (members_ways (show_member x ms))
     → (Suits Member x × ((k : Text) → Names x k → In k (marked_names ms) → ⊥) × ShownFree x × In v (shown_ways x)) ⊎ In v (members_ways ms)
-one_added hidden ms v a f h = inr h
+one_added nothing_shown ms v a f h = inr h
 one_added (shown i None t) ms v a f h = inr h
 one_added (shown i (Some k) t) ms v a f h =
     ⊎_elim
@@ -188,7 +190,7 @@ element_shown r k None inside t es v ih f h =
 element_shown r k (Some d) inside t es v ih f h = go (r d) refl f h
   where
     go : (x : Shown) → r d ≡ x → ElementsNoReserved (strip_elements (show_element x es)) → In v (elements_ways (show_element x es)) → Shown_at r (element_site k d ∷ []) v ⊎ In v (elements_ways es)
-    go hidden e f h = inr h
+    go nothing_shown e f h = inr h
     go (shown i None u) e f h =
         ⊎_elim
         (λ a. inl (
@@ -212,7 +214,7 @@ element_rest r None t es f = f.1
 element_rest r (Some d) t es f = go (r d) f
   where
     go : (x : Shown) → ElementsNoReserved (strip_elements (show_element x es)) → ElementsNoReserved (strip_elements es)
-    go hidden f = f
+    go nothing_shown f = f
     go (shown i None u) f = f.1
     go (shown i (Some l) u) f = f
 

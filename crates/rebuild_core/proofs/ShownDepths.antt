@@ -7,10 +7,11 @@ use Rattle.std.specs.Prelude.{option_map, option_and_then}
 use Rattle.digest_sites.specs.Reserved.{texts_of}
 use Rattle.claim_tree.specs.Tree.{Text, Elements, no_elements, element, elements_len, depth, elements_depth, members_depth, text_of}
 use Rattle.claim_tree.specs.Lists.{In}
-use Rattle.marked_tree.specs.Marked.{Marked, MarkedElements, no_marked_elements, marked_element, marked_pushed, MarkedMembers, no_marked_members, marked_member, marked_names, put, put_all, strip, strip_elements, strip_members}
+use Rattle.marked_tree.specs.Marked.{Marked, MarkedElements, no_marked_elements, marked_element, MarkedMembers, no_marked_members, marked_member, put, strip, strip_elements, strip_members}
+use Rattle.marked_tree.specs.MarkedCalls.{marked_pushed, marked_names, put_all}
 use Rattle.marked_tree.specs.View.{marked_of, marked_members_of}
 use Rattle.marked_tree.specs.declared.marked.Marked.{Marked as Code}
-use Rattle.rebuild_core.specs.Opening.{Shown, hidden, shown, show_element, show_member, show_members}
+use Rattle.rebuild_core.specs.Opening.{Shown, nothing_shown, shown, show_element, show_member, show_members}
 use Rattle.rebuild_core.specs.Whole.{joined, members_joined, shown_member, shown_members, shown_depth, shown_depths, IsNew, AllNew, IsElement}
 
 abbrev pub list_depth : MarkedElements → ℕ
@@ -40,7 +41,7 @@ pushed_depth xs ys t h =
     omega (arith, ap list_depth e, joined_depth xs (marked_element None t no_marked_elements))
 
 shown_element_depth : (s : Shown) (es : MarkedElements) → list_depth (show_element s es) ≤ max (shown_depth s) (list_depth es)
-shown_element_depth hidden es = omega arith
+shown_element_depth nothing_shown es = omega arith
 shown_element_depth (shown i None t) es = omega arith
 shown_element_depth (shown i (Some k) t) es = omega arith
 
@@ -51,7 +52,7 @@ pushed_shown_depth xs ys s h =
 
 -- an element that is shown is there
 pub element_keeps : (s : Shown) (es : MarkedElements) → IsElement s → shown_depth s ≤ list_depth (show_element s es)
-element_keeps hidden es h = omega arith
+element_keeps nothing_shown es h = omega arith
 element_keeps (shown i None t) es h = omega arith
 element_keeps (shown i (Some k) t) es h = absurd h
 
@@ -76,7 +77,7 @@ put_shown r [] ms = refl
 put_shown r (d ∷ ds) ms = go (r d) (put_shown r ds)
   where
     go : (s : Shown) → ((ns : MarkedMembers) → put_all (shown_members r ds) ns ≡ show_members r ds ns) → put_all (shown_member s (shown_members r ds)) ms ≡ show_members r ds (show_member s ms)
-    go hidden ih = ih ms
+    go nothing_shown ih = ih ms
     go (shown i None t) ih = ih ms
     go (shown i (Some k) t) ih = ih (put k (Some i) t ms)
 
@@ -112,17 +113,17 @@ put_new k i t (marked_member l j u ms) h = go (slice_cmp nat_cmp k l) refl (put_
     go Greater e ih = omega (arith, ih)
 
 show_most : (s : Shown) (ms : MarkedMembers) → map_depth (show_member s ms) ≤ max (shown_depth s) (map_depth ms)
-show_most hidden ms = omega arith
+show_most nothing_shown ms = omega arith
 show_most (shown i None t) ms = omega arith
 show_most (shown i (Some k) t) ms = put_depth_most k (Some i) t ms
 
 show_keeps : (s : Shown) (ms : MarkedMembers) → map_depth ms ≤ map_depth (show_member s ms)
-show_keeps hidden ms = omega arith
+show_keeps nothing_shown ms = omega arith
 show_keeps (shown i None t) ms = omega arith
 show_keeps (shown i (Some k) t) ms = put_keeps k (Some i) t ms
 
 show_new : (s : Shown) (ms : MarkedMembers) → IsNew s ms → shown_depth s ≤ map_depth (show_member s ms)
-show_new hidden ms h = omega arith
+show_new nothing_shown ms h = omega arith
 show_new (shown i None t) ms h = absurd h
 show_new (shown i (Some k) t) ms h = put_new k (Some i) t ms h
 

@@ -1,6 +1,6 @@
 -- Two lists side by side: what stands at one place of both.
 use Rattle.std.proofs.Common.{◌≡◌, ℕ, zero, suc, List, [], ◌∷◌, ◌++◌, map, length, ◌⊎◌, inl, inr, ⊎_elim, refl, arith}
-use Rattle.claim_tree.specs.Lists.{At, In}
+use Rattle.claim_tree.specs.Lists.{StandsAt, In}
 
 -- at one place stand x and y
 abbrev pub Both : {X Y : Type 0} → List X → List Y → X → Y → Type 0
@@ -8,7 +8,7 @@ Both [] ys x y = ⊥
 Both (a ∷ xs) [] x y = ⊥
 Both (a ∷ xs) (b ∷ ys) x y = ((x ≡ a) × (y ≡ b)) ⊎ Both xs ys x y
 
-pub both_at : {X Y : Type 0} (xs : List X) (ys : List Y) (i : ℕ) (x : X) (y : Y) → At xs i x → At ys i y → Both xs ys x y
+pub both_at : {X Y : Type 0} (xs : List X) (ys : List Y) (i : ℕ) (x : X) (y : Y) → StandsAt xs i x → StandsAt ys i y → Both xs ys x y
 both_at (a ∷ xs) (b ∷ ys) zero x y h k = inl (h, k)
 both_at (a ∷ xs) (b ∷ ys) (suc i) x y h k = inr (both_at xs ys i x y h k)
 both_at [] ys i x y h k = elim h [ ]

@@ -1,7 +1,8 @@
 -- The processed payload has no more nodes than the payload and the values together.
 use Rattle.std.proofs.Common.{◌≡◌, ℕ, ◌+◌, List, [], ◌∷◌, length, refl, ap, ◌∙◌, arith, sum_by}
 use Rattle.std.proofs.lemmas.List.Sums.{sum_by-cons}
-use Rattle.claim_tree.specs.Tree.{Text, nodes}
+use Rattle.claim_tree.specs.Tree.{Text}
+use Rattle.claim_tree.specs.Nodes.{nodes}
 use Rattle.digest_sites.specs.Sites.{sites}
 use Rattle.digest_sites.specs.Given.{Given}
 use Rattle.rebuild_core.specs.Opening.{Shown, reveal}

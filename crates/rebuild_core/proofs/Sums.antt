@@ -2,7 +2,7 @@
 use Rattle.std.proofs.Common.{◌≡◌, ℕ, suc, ◌+◌, ◌≤◌, List, [], ◌∷◌, Bool, true, false, cond, ◌⊎◌, inl, inr, ⊎_elim, refl, sym, ap, ap₂, subst, arith}
 use Rattle.std.specs.Prelude.{bytes_eq}
 use Rattle.claim_tree.specs.Tree.{Text}
-use Rattle.claim_tree.specs.Lists.{In, Repeats, Nowhere}
+use Rattle.claim_tree.specs.Lists.{In, Repeats, AtNone}
 use Rattle.claim_tree.proofs.Lists.{bytes_same, bytes_refl, In-At}
 use Rattle.marked_tree.proofs.Sums.{sum_of}
 
@@ -19,7 +19,7 @@ abbrev pub Apart : List Text → Type 0
 Apart [] = Unit {0}
 Apart (d ∷ ds) = (In d ds → ⊥) × Apart ds
 
-pub Apart-from : (ds : List Text) → Nowhere (Repeats ds) → Apart ds
+pub Apart-from : (ds : List Text) → AtNone (Repeats ds) → Apart ds
 Apart-from [] h = tt
 Apart-from (d ∷ ds) h = (
   (λ m. let w = In-At ds d m in h (suc w.0) (d, w.1, 0, omega arith, refl)),

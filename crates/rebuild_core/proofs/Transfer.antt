@@ -4,15 +4,16 @@ use Rattle.std.specs.Prelude.{bytes_eq}
 use Rattle.std.specs.List.{list_any}
 use Rattle.std.proofs.lemmas.List.{length-map, drop-drop}
 use Rattle.claim_tree.specs.Tree.{Text, Tree, IsOrdered}
-use Rattle.claim_tree.specs.Lists.{At, In, Repeats, Nowhere}
-use Rattle.digest_sites.specs.Sites.{Site, sites, digests}
+use Rattle.claim_tree.specs.Lists.{StandsAt, In, Repeats, AtNone}
+use Rattle.digest_sites.specs.Sites.{Site, sites}
+use Rattle.digest_sites.specs.SiteCalls.{digests}
 use Rattle.digest_sites.specs.Given.{Given}
-use Rattle.rebuild_core.specs.Given.{stands, is_in_round, is_reached, Item, item, Owner, payload, value_of, value_items, met, item_digests, all_items}
+use Rattle.rebuild_core.specs.Reached.{stands, is_in_round, is_reached, OwnedSite, owned_site, Owner, payload, value_of, value_sites, met, owned_digests, all_sites}
 use Rattle.rebuild_core.specs.Conditions.{RepeatedDigest, Unreferenced}
 use Rattle.claim_tree.proofs.Lists.{bytes_same, bytes_refl, At-same, At-below, At-In, At-get, one_place}
-use Rattle.digest_index.specs.Index.{place_or_end, interned}
-use Rattle.rebuild_core.specs.Numbers.{numbers, all_interned, AllAt, IsFlat}
-use Rattle.rebuild_core.specs.Graph.{cut, Ascends, roots_in, rows_in, has, any_row, is_in, flagged_rows, Recurs}
+use Rattle.digest_index.specs.Index.{position_or_end, interned}
+use Rattle.rebuild_core.specs.DigestNumbers.{numbers, all_interned, AllAt, IsFlatList}
+use Rattle.rebuild_core.specs.Graph.{cut, Ascends, roots_in, rows_in, has_number, any_row, is_in, flagged_rows, Recurs}
 use Rattle.digest_index.proofs.Places.{place_or_end-within}
 use Rattle.digest_index.proofs.Interned.{interned-new, interned-there}
 use Rattle.rebuild_core.specs.Payload.{without_alg}
@@ -24,36 +25,36 @@ use Rattle.rebuild_core.proofs.Worklist.{eqb_same, eqb_refl}
 
 -- ---- the index grows
 
-more_at : {X : Type 0} (xs ys : List X) (i : ℕ) (x : X) → At xs i x → At (xs ++ ys) i x
+more_at : {X : Type 0} (xs ys : List X) (i : ℕ) (x : X) → StandsAt xs i x → StandsAt (xs ++ ys) i x
 more_at (z ∷ zs) ys zero x h = h
 more_at (z ∷ zs) ys (suc i) x h = more_at zs ys i x h
 more_at [] ys i x h = elim h [ ]
 
-last_at : {X : Type 0} (xs : List X) (x : X) → At (xs ++ x ∷ []) (length xs) x
+last_at : {X : Type 0} (xs : List X) (x : X) → StandsAt (xs ++ x ∷ []) (length xs) x
 last_at [] x = refl
 last_at (z ∷ zs) x = last_at zs x
 
-at_end : {X : Type 0} (xs : List X) (y : X) (i : ℕ) (x : X) → At (xs ++ y ∷ []) i x → At xs i x ⊎ ((x ≡ y) × (i ≡ length xs))
+at_end : {X : Type 0} (xs : List X) (y : X) (i : ℕ) (x : X) → StandsAt (xs ++ y ∷ []) i x → StandsAt xs i x ⊎ ((x ≡ y) × (i ≡ length xs))
 at_end [] y zero x h = inr (h, refl)
 at_end [] y (suc i) x h = elim h [ ]
 at_end (z ∷ zs) y zero x h = inl h
 at_end (z ∷ zs) y (suc i) x h = ⊎_elim (λ l. inl l) (λ r. inr (r.0, ap suc r.1)) (at_end zs y i x h)
 
 abbrev pub Apart : List Text → Type 0
-Apart xs = Nowhere (Repeats xs)
+Apart xs = AtNone (Repeats xs)
 
-apart_last : (xs : List Text) (d : Text) → Apart xs → length xs ≤ place_or_end d xs → Apart (xs ++ d ∷ [])
+apart_last : (xs : List Text) (d : Text) → Apart xs → length xs ≤ position_or_end d xs → Apart (xs ++ d ∷ [])
 apart_last xs d a h q r = go (at_end xs d q r.0 r.1) (at_end xs d r.2 r.0 r.4)
   where
-    go : (At xs q r.0 ⊎ ((r.0 ≡ d) × (q ≡ length xs))) → (At xs r.2 r.0 ⊎ ((r.0 ≡ d) × (r.2 ≡ length xs))) → ⊥
+    go : (StandsAt xs q r.0 ⊎ ((r.0 ≡ d) × (q ≡ length xs))) → (StandsAt xs r.2 r.0 ⊎ ((r.0 ≡ d) × (r.2 ≡ length xs))) → ⊥
     go (inl l) (inl m) = a q (r.0, l, r.2, r.3, m)
-    go (inr l) (inl m) = place_absent xs d h (At-In xs r.2 d (subst (λ z. At xs r.2 z) l.0 m))
+    go (inr l) (inl m) = place_absent xs d h (At-In xs r.2 d (subst (λ z. StandsAt xs r.2 z) l.0 m))
     go (inl l) (inr m) = omega (arith, At-below xs q r.0 l, r.3, m.1)
     go (inr l) (inr m) = omega (arith, l.1, m.1, r.3)
 
 -- every text keeps its place
 pub record Grows (ix jx : List Text) : Type 0 where
-  pub keeps : (k : ℕ) (d : Text) → At ix k d → At jx k d
+  pub keeps : (k : ℕ) (d : Text) → StandsAt ix k d → StandsAt jx k d
   pub apart : Apart ix → Apart jx
 
 grows_refl : (ix : List Text) → Grows ix ix
@@ -62,17 +63,17 @@ grows_refl ix = record { keeps = λ k d h. h; apart = λ a. a }
 grows_join : (ix jx kx : List Text) → Grows ix jx → Grows jx kx → Grows ix kx
 grows_join ix jx kx a b = record { keeps = λ k d h. b.keeps k d (a.keeps k d h); apart = λ h. b.apart (a.apart h) }
 
-pub grows_text : (ix : List Text) (d : Text) → Grows ix (interned d ix) × At (interned d ix) (place_or_end d ix) d
-grows_text ix d = go (split (place_or_end d ix) (length ix))
+pub grows_text : (ix : List Text) (d : Text) → Grows ix (interned d ix) × StandsAt (interned d ix) (position_or_end d ix) d
+grows_text ix d = go (split (position_or_end d ix) (length ix))
   where
     split : (a b : ℕ) → (a < b) ⊎ (b ≤ a)
     split a b = grind arith
 
-    go : (place_or_end d ix < length ix) ⊎ (length ix ≤ place_or_end d ix) → Grows ix (interned d ix) × At (interned d ix) (place_or_end d ix) d
+    go : (position_or_end d ix < length ix) ⊎ (length ix ≤ position_or_end d ix) → Grows ix (interned d ix) × StandsAt (interned d ix) (position_or_end d ix) d
     go (inl l) = rw (interned-there d ix l) (grows_refl ix, place_there ix d l)
     go (inr l) =
-        let e : place_or_end d ix ≡ length ix = omega (arith, l, place_or_end-within d ix) in
-        subst (λ z. Grows ix z × At z (place_or_end d ix) d) (sym (interned-new d ix e))
+        let e : position_or_end d ix ≡ length ix = omega (arith, l, place_or_end-within d ix) in
+        subst (λ z. Grows ix z × StandsAt z (position_or_end d ix) d) (sym (interned-new d ix e))
         (record { keeps = λ k c h. more_at ix (d ∷ []) k c h; apart = λ a. apart_last ix d a l }, rw e (last_at ix d))
 
 pub grows_texts : (ix ds : List Text) → Grows ix (all_interned ix ds)
@@ -89,7 +90,7 @@ all_grow ix jx (k ∷ ks) [] w h = elim h [ ]
 
 pub numbers_stand : (ix ds : List Text) → AllAt (all_interned ix ds) (numbers ix ds) ds
 numbers_stand ix [] = tt
-numbers_stand ix (d ∷ ds) = ((grows_texts (interned d ix) ds).keeps (place_or_end d ix) d (grows_text ix d).1, numbers_stand (interned d ix) ds)
+numbers_stand ix (d ∷ ds) = ((grows_texts (interned d ix) ds).keeps (position_or_end d ix) d (grows_text ix d).1, numbers_stand (interned d ix) ds)
 
 pub all_join : (ix : List Text) (ks ls : List ℕ) (ds es : List Text) → AllAt ix ks ds → AllAt ix ls es → AllAt ix (ks ++ ls) (ds ++ es)
 all_join ix [] ls [] es a b = b
@@ -103,14 +104,14 @@ Rows ix [] (x ∷ g) = ⊥
 Rows ix (r ∷ rows) [] = ⊥
 Rows ix (r ∷ rows) (x ∷ g) = AllAt ix r (digests (sites x.value)) × Rows ix rows g
 
-pub all_at : (ix : List Text) (ks : List ℕ) (ds : List Text) (q k : ℕ) → AllAt ix ks ds → At ks q k → (d : Text) × At ds q d × At ix k d
-all_at ix (k ∷ ks) (d ∷ ds) zero j a h = (d, refl, subst (λ z. At ix z d) (sym h) a.0)
+pub all_at : (ix : List Text) (ks : List ℕ) (ds : List Text) (q k : ℕ) → AllAt ix ks ds → StandsAt ks q k → (d : Text) × StandsAt ds q d × StandsAt ix k d
+all_at ix (k ∷ ks) (d ∷ ds) zero j a h = (d, refl, subst (λ z. StandsAt ix z d) (sym h) a.0)
 all_at ix (k ∷ ks) (d ∷ ds) (suc q) j a h = all_at ix ks ds q j a.1 h
 all_at ix [] ds q j a h = elim h [ ]
 all_at ix (k ∷ ks) [] q j a h = elim a [ ]
 
-pub all_of : (ix : List Text) (ks : List ℕ) (ds : List Text) (q : ℕ) (d : Text) → AllAt ix ks ds → At ds q d → (k : ℕ) × At ks q k × At ix k d
-all_of ix (k ∷ ks) (e ∷ ds) zero d a h = (k, refl, subst (λ z. At ix k z) (sym h) a.0)
+pub all_of : (ix : List Text) (ks : List ℕ) (ds : List Text) (q : ℕ) (d : Text) → AllAt ix ks ds → StandsAt ds q d → (k : ℕ) × StandsAt ks q k × StandsAt ix k d
+all_of ix (k ∷ ks) (e ∷ ds) zero d a h = (k, refl, subst (λ z. StandsAt ix k z) (sym h) a.0)
 all_of ix (k ∷ ks) (e ∷ ds) (suc q) d a h = all_of ix ks ds q d a.1 h
 all_of ix ks [] q d a h = elim h [ ]
 all_of ix [] (e ∷ ds) q d a h = elim a [ ]
@@ -126,13 +127,13 @@ pub recurs_repeats : (ix : List Text) (ks : List ℕ) (ds : List Text) → AllAt
 recurs_repeats ix ks ds a q r =
     let w = all_at ix ks ds q r.0 a r.1 in
     let v = all_at ix ks ds r.2 r.0 a r.4 in
-    (w.0, w.1, r.2, r.3, subst (λ z. At ds r.2 z) (At-same ix r.0 v.0 w.0 v.2 w.2) v.1)
+    (w.0, w.1, r.2, r.3, subst (λ z. StandsAt ds r.2 z) (At-same ix r.0 v.0 w.0 v.2 w.2) v.1)
 
 pub repeats_recurs : (ix : List Text) (ks : List ℕ) (ds : List Text) → Apart ix → AllAt ix ks ds → (q : ℕ) → Repeats ds q → Recurs ks q
 repeats_recurs ix ks ds ok a q r =
     let w = all_of ix ks ds q r.0 a r.1 in
     let v = all_of ix ks ds r.2 r.0 a r.4 in
-    (w.0, w.1, r.2, r.3, subst (λ z. At ks r.2 z) (one_place ix ok v.0 w.0 r.0 v.2 w.2) v.1)
+    (w.0, w.1, r.2, r.3, subst (λ z. StandsAt ks r.2 z) (one_place ix ok v.0 w.0 r.0 v.2 w.2) v.1)
 
 -- ---- rounds
 
@@ -143,20 +144,20 @@ same_bool true false f g = let z = f refl in cc
 same_bool false true f g = let z = g refl in cc
 
 module _ (ix : List Text) (ok : Apart ix) where
-  same_test : (j k : ℕ) (c d : Text) → At ix j c → At ix k d → eqb j k ≡ bytes_eq c d
+  same_test : (j k : ℕ) (c d : Text) → StandsAt ix j c → StandsAt ix k d → eqb j k ≡ bytes_eq c d
   same_test j k c d a b =
       same_bool (eqb j k) (bytes_eq c d)
-      (λ h. let e : j ≡ k = eqb_same j k h in bytes_refl c d (At-same ix k c d (subst (λ z. At ix z c) e a) b))
-      (λ h. let e : c ≡ d = bytes_same c d h in eqb_refl j k (one_place ix ok j k d (subst (λ z. At ix j z) e a) b))
+      (λ h. let e : j ≡ k = eqb_same j k h in bytes_refl c d (At-same ix k c d (subst (λ z. StandsAt ix z c) e a) b))
+      (λ h. let e : c ≡ d = bytes_same c d h in eqb_refl j k (one_place ix ok j k d (subst (λ z. StandsAt ix j z) e a) b))
 
-  has_stands : (ks : List ℕ) (ss : List Site) (k : ℕ) (d : Text) → AllAt ix ks (digests ss) → At ix k d → has k ks ≡ stands d ss
+  has_stands : (ks : List ℕ) (ss : List Site) (k : ℕ) (d : Text) → AllAt ix ks (digests ss) → StandsAt ix k d → has_number k ks ≡ stands d ss
   has_stands [] [] k d a b = refl
   has_stands (j ∷ ks) (s ∷ ss) k d a b = ap₂ (λ (x y : Bool). x || y) (same_test j k s.digest d a.0 b) (has_stands ks ss k d a.1 b)
   has_stands [] (s ∷ ss) k d a b = elim a [ ]
   has_stands (j ∷ ks) [] k d a b = elim a [ ]
 
-  any_stands : (p : ℕ → Bool) (q : Text → Bool) (i : ℕ) (rows : List (List ℕ)) (xs : List Given) (k : ℕ) (d : Text) → Rows ix rows xs → At ix k d
-      → ((j : ℕ) (x : Given) → At xs j x → p (i + j) ≡ q x.digest) → any_row p k i rows ≡ list_any (λ x. q x.digest && stands d (sites x.value)) xs
+  any_stands : (p : ℕ → Bool) (q : Text → Bool) (i : ℕ) (rows : List (List ℕ)) (xs : List Given) (k : ℕ) (d : Text) → Rows ix rows xs → StandsAt ix k d
+      → ((j : ℕ) (x : Given) → StandsAt xs j x → p (i + j) ≡ q x.digest) → any_row p k i rows ≡ list_any (λ x. q x.digest && stands d (sites x.value)) xs
   any_stands p q i [] [] k d r b h = refl
   any_stands p q i (row ∷ rows) (x ∷ xs) k d r b h =
       let z : i + 0 ≡ i = omega arith in
@@ -167,7 +168,7 @@ module _ (ix : List Text) (ok : Apart ix) where
   any_stands p q i (row ∷ rows) [] k d r b h = elim r [ ]
 
   pub rounds_same : (p : Tree) (g : List Given) (roots : List ℕ) (rows : List (List ℕ)) → AllAt ix roots (digests (sites p)) → Rows ix rows g
-      → ((i : ℕ) (x : Given) → At g i x → At ix i x.digest) → (r k : ℕ) (d : Text) → At ix k d → is_in roots rows r k ≡ is_in_round p g r d
+      → ((i : ℕ) (x : Given) → StandsAt g i x → StandsAt ix i x.digest) → (r k : ℕ) (d : Text) → StandsAt ix k d → is_in roots rows r k ≡ is_in_round p g r d
   rounds_same p g roots rows a b h zero k d c = has_stands roots (sites p) k d a c
   rounds_same p g roots rows a b h (suc r) k d c =
       ap₂ (λ (x y : Bool). x || y) (rounds_same p g roots rows a b h r k d c)
@@ -176,11 +177,11 @@ module _ (ix : List Text) (ok : Apart ix) where
 
 -- ---- the met list
 
-pub digests_payload : (o : Owner) (ss : List Site) → item_digests (map (item o) ss) ≡ digests ss
+pub digests_payload : (o : Owner) (ss : List Site) → owned_digests (map (owned_site o) ss) ≡ digests ss
 digests_payload o [] = refl
 digests_payload o (s ∷ ss) = ap (λ ds. s.digest ∷ ds) (digests_payload o ss)
 
-pub digests_join : (xs ys : List Item) → item_digests (xs ++ ys) ≡ item_digests xs ++ item_digests ys
+pub digests_join : (xs ys : List OwnedSite) → owned_digests (xs ++ ys) ≡ owned_digests xs ++ owned_digests ys
 digests_join [] ys = refl
 digests_join (x ∷ xs) ys = ap (λ ds. x.site.digest ∷ ds) (digests_join xs ys)
 
@@ -190,28 +191,28 @@ FlagsSay q [] (x ∷ g) = ⊥
 FlagsSay q (f ∷ fs) [] = ⊥
 FlagsSay q (f ∷ fs) (x ∷ g) = (f ≡ q x) × FlagsSay q fs g
 
-pub flags_say : (q : Given → Bool) (fs : List Bool) (g : List Given) → length fs ≡ length g → ((k : ℕ) (x : Given) → At g k x → get_or fs k false ≡ q x) → FlagsSay q fs g
+pub flags_say : (q : Given → Bool) (fs : List Bool) (g : List Given) → length fs ≡ length g → ((k : ℕ) (x : Given) → StandsAt g k x → get_or fs k false ≡ q x) → FlagsSay q fs g
 flags_say q [] [] e h = tt
 flags_say q (f ∷ fs) (x ∷ g) e h = (h 0 x refl, flags_say q fs g (omega (arith, e)) (λ k y a. h (suc k) y a))
 flags_say q [] (x ∷ g) e h = absurd (omega (arith, e))
 flags_say q (f ∷ fs) [] e h = absurd (omega (arith, e))
 
 pub rows_met : (ix : List Text) (q : Given → Bool) (i : ℕ) (fs : List Bool) (rows : List (List ℕ)) (g : List Given) → Rows ix rows g → FlagsSay q fs g
-    → AllAt ix (flagged_rows fs rows) (item_digests (value_items q i g))
+    → AllAt ix (flagged_rows fs rows) (owned_digests (value_sites q i g))
 rows_met ix q i [] [] [] r f = tt
 rows_met ix q i (b ∷ fs) (row ∷ rows) (x ∷ g) r f =
-    subst (λ z. AllAt ix (cond b row [] ++ flagged_rows fs rows) z) (sym (digests_join (cond (q x) (map (item (value_of i)) (sites x.value)) []) (value_items q (suc i) g)))
-    (all_join ix (cond b row []) (flagged_rows fs rows) (item_digests (cond (q x) (map (item (value_of i)) (sites x.value)) [])) (item_digests (value_items q (suc i) g))
+    subst (λ z. AllAt ix (cond b row [] ++ flagged_rows fs rows) z) (sym (digests_join (cond (q x) (map (owned_site (value_of i)) (sites x.value)) []) (value_sites q (suc i) g)))
+    (all_join ix (cond b row []) (flagged_rows fs rows) (owned_digests (cond (q x) (map (owned_site (value_of i)) (sites x.value)) [])) (owned_digests (value_sites q (suc i) g))
     (one b (q x) f.0) (rows_met ix q (suc i) fs rows g r.1 f.1))
   where
-    one : (b c : Bool) → b ≡ c → AllAt ix (cond b row []) (item_digests (cond c (map (item (value_of i)) (sites x.value)) []))
+    one : (b c : Bool) → b ≡ c → AllAt ix (cond b row []) (owned_digests (cond c (map (owned_site (value_of i)) (sites x.value)) []))
     one true true e = subst (λ z. AllAt ix row z) (sym (digests_payload (value_of i) (sites x.value))) r.0
     one false false e = tt
     one true false e = cc
     one false true e = cc
 rows_met ix q i [] (row ∷ rows) g r f = hole_fs row rows g r f
   where
-    hole_fs : (row : List ℕ) (rows : List (List ℕ)) (g : List Given) → Rows ix (row ∷ rows) g → FlagsSay q [] g → AllAt ix [] (item_digests (value_items q i g))
+    hole_fs : (row : List ℕ) (rows : List (List ℕ)) (g : List Given) → Rows ix (row ∷ rows) g → FlagsSay q [] g → AllAt ix [] (owned_digests (value_sites q i g))
     hole_fs row rows [] r f = elim r [ ]
     hole_fs row rows (x ∷ g) r f = elim f [ ]
 rows_met ix q i [] [] (x ∷ g) r f = elim r [ ]
@@ -226,15 +227,15 @@ abbrev pub value_digests : List Given → List Text
 value_digests [] = []
 value_digests (x ∷ g) = digests (sites x.value) ++ value_digests g
 
-value_items_digests : (i : ℕ) (g : List Given) → item_digests (value_items (λ _. true) i g) ≡ value_digests g
+value_items_digests : (i : ℕ) (g : List Given) → owned_digests (value_sites (λ _. true) i g) ≡ value_digests g
 value_items_digests i [] = refl
 value_items_digests i (x ∷ g) =
-    digests_join (map (item (value_of i)) (sites x.value)) (value_items (λ _. true) (suc i) g)
+    digests_join (map (owned_site (value_of i)) (sites x.value)) (value_sites (λ _. true) (suc i) g)
     ∙ ap₂ (λ (ds es : List Text). ds ++ es) (digests_payload (value_of i) (sites x.value)) (value_items_digests (suc i) g)
 
-pub all_digests : (p : Tree) (g : List Given) → item_digests (all_items p g) ≡ digests (sites p) ++ value_digests g
+pub all_digests : (p : Tree) (g : List Given) → owned_digests (all_sites p g) ≡ digests (sites p) ++ value_digests g
 all_digests p g =
-    digests_join (map (item payload) (sites p)) (value_items (λ _. true) 0 g)
+    digests_join (map (owned_site payload) (sites p)) (value_sites (λ _. true) 0 g)
     ∙ ap₂ (λ (ds es : List Text). ds ++ es) (digests_payload payload (sites p)) (value_items_digests 0 g)
 
 all_split : (ix : List Text) (ks : List ℕ) (ds es : List Text) → AllAt ix ks (ds ++ es) → AllAt ix (take (length ds) ks) ds × AllAt ix (drop (length ds) ks) es
@@ -262,8 +263,8 @@ cut_rows ix [] ks n h = tt
 cut_rows ix (x ∷ g) ks n h = let w = first_cut ix x g ks n h in (w.0, cut_rows ix g ks (n + length (tree_rows false n x.value)) w.1)
 
 -- the numbers of value j start at place j of the ends
-cut_start : (ix : List Text) (g : List Given) (ks : List ℕ) (n : ℕ) → AllAt ix (drop n ks) (value_digests g) → (j : ℕ) (x : Given) → At g j x
-    → (start : ℕ) × At (n ∷ value_ends n g) j start × (m : ℕ) × AllAt ix (take m (drop start ks)) (digests (sites x.value))
+cut_start : (ix : List Text) (g : List Given) (ks : List ℕ) (n : ℕ) → AllAt ix (drop n ks) (value_digests g) → (j : ℕ) (x : Given) → StandsAt g j x
+    → (start : ℕ) × StandsAt (n ∷ value_ends n g) j start × (m : ℕ) × AllAt ix (take m (drop start ks)) (digests (sites x.value))
 cut_start ix (y ∷ g) ks n h zero x a =
     let w = first_cut ix y g ks n h in
     (n, refl, n + length (tree_rows false n y.value) - n, subst (λ (z : Given). AllAt ix (take (n + length (tree_rows false n y.value) - n) (drop n ks)) (digests (sites z.value))) (sym a) w.0)
@@ -294,12 +295,12 @@ value_ends_ascend n (x ∷ g) m h =
 -- the index, with the roots and the rows of numbers
 pub record IsGraph (p : Tree) (g : List Given) (ix : List Text) (roots : List ℕ) (rows : List (List ℕ)) : Type 0 where
   pub apart : Apart ix
-  pub given : (i : ℕ) (x : Given) → At g i x → At ix i x.digest
+  pub given : (i : ℕ) (x : Given) → StandsAt g i x → StandsAt ix i x.digest
   pub roots_stand : AllAt ix roots (digests (sites p))
   pub table : Rows ix rows g
   pub length : length rows ≡ length g
 
-module _ (t : Tree) (g : List Given) (o : IsOrdered t) (is : IsPayload t) (ix : List Text) (ks ends : List ℕ) (w : IsFlat t g ix ks ends) where
+module _ (t : Tree) (g : List Given) (o : IsOrdered t) (is : IsPayload t) (ix : List Text) (ks ends : List ℕ) (w : IsFlatList t g ix ks ends) where
   abbrev pub first_end : ℕ
   first_end = length (tree_rows true 0 t)
 
@@ -324,8 +325,8 @@ module _ (t : Tree) (g : List Given) (o : IsOrdered t) (is : IsPayload t) (ix : 
   pub ends_ascend : Ascends 0 ends (length ks)
   ends_ascend =
       let same : length (digests (sites (without_alg t))) ≡ first_end = length-digests_of (sites (without_alg t)) ∙ sym (length_top_rows t o is) in
-      let many : length ks ≡ length (item_digests (all_items (without_alg t) g)) = length-all_at ix ks (item_digests (all_items (without_alg t) g)) w.all in
-      let sum : length (item_digests (all_items (without_alg t) g)) ≡ length (digests (sites (without_alg t))) + length (value_digests g) =
+      let many : length ks ≡ length (owned_digests (all_sites (without_alg t) g)) = length-all_at ix ks (owned_digests (all_sites (without_alg t) g)) w.all in
+      let sum : length (owned_digests (all_sites (without_alg t) g)) ≡ length (digests (sites (without_alg t))) + length (value_digests g) =
       ap length (all_digests (without_alg t) g) ∙ length-append (digests (sites (without_alg t))) (value_digests g)
       in
       subst (λ es. Ascends 0 es (length ks)) (sym w.cuts) (omega arith, value_ends_ascend first_end g (length ks) (omega (arith, same, many, sum)))
@@ -333,31 +334,31 @@ module _ (t : Tree) (g : List Given) (o : IsOrdered t) (is : IsPayload t) (ix : 
   pub many_ends : length ends ≡ suc (length g)
   many_ends = ap length w.cuts ∙ ap suc (length-value_ends first_end g)
 
-  pub starts : (j : ℕ) (x : Given) → At g j x → (start : ℕ) × At ends j start × (m : ℕ) × AllAt ix (take m (drop start ks)) (digests (sites x.value))
+  pub starts : (j : ℕ) (x : Given) → StandsAt g j x → (start : ℕ) × StandsAt ends j start × (m : ℕ) × AllAt ix (take m (drop start ks)) (digests (sites x.value))
   starts j x a =
       let v = cut_start ix g ks first_end two_parts.1 j x a in
-      (v.0, subst (λ es. At es j v.0) (sym w.cuts) v.1, v.2, v.3)
+      (v.0, subst (λ es. StandsAt es j v.0) (sym w.cuts) v.1, v.2, v.3)
 
 -- flags that say which numbers are reached
 abbrev pub Reaches : ℕ → List ℕ → List (List ℕ) → List Bool → Type 0
 Reaches n roots rows fs = (k : ℕ) → k < n → get_or fs k false ≡ is_in roots rows n k
 
 module _ (p : Tree) (g : List Given) (ix : List Text) (roots : List ℕ) (rows : List (List ℕ)) (w : IsGraph p g ix roots rows) (fs : List Bool) (e : length fs ≡ length g) (h : Reaches (length g) roots rows fs) where
-  pub flag_is : (k : ℕ) (x : Given) → At g k x → get_or fs k false ≡ is_reached p g x
+  pub flag_is : (k : ℕ) (x : Given) → StandsAt g k x → get_or fs k false ≡ is_reached p g x
   flag_is k x a = h k (At-below g k x a) ∙ rounds_same ix w.apart p g roots rows w.roots_stand w.table w.given (length g) k x.digest (w.given k x a)
 
-  pub met_stand : AllAt ix (roots ++ flagged_rows fs rows) (item_digests (met p g))
+  pub met_stand : AllAt ix (roots ++ flagged_rows fs rows) (owned_digests (met p g))
   met_stand =
-      subst (λ z. AllAt ix (roots ++ flagged_rows fs rows) z) (sym (digests_join (map (item payload) (sites p)) (value_items (is_reached p g) 0 g)))
-      (all_join ix roots (flagged_rows fs rows) (item_digests (map (item payload) (sites p))) (item_digests (value_items (is_reached p g) 0 g))
+      subst (λ z. AllAt ix (roots ++ flagged_rows fs rows) z) (sym (digests_join (map (owned_site payload) (sites p)) (value_sites (is_reached p g) 0 g)))
+      (all_join ix roots (flagged_rows fs rows) (owned_digests (map (owned_site payload) (sites p))) (owned_digests (value_sites (is_reached p g) 0 g))
       (subst (λ z. AllAt ix roots z) (sym (digests_payload payload (sites p))) w.roots_stand)
       (rows_met ix (is_reached p g) 0 fs rows g w.table (flags_say (is_reached p g) fs g e flag_is)))
 
   pub digest_recurs : (q : ℕ) → RepeatedDigest p g q → Recurs (roots ++ flagged_rows fs rows) q
-  digest_recurs q r = repeats_recurs ix (roots ++ flagged_rows fs rows) (item_digests (met p g)) w.apart met_stand q r
+  digest_recurs q r = repeats_recurs ix (roots ++ flagged_rows fs rows) (owned_digests (met p g)) w.apart met_stand q r
 
   pub recurs_digest : (q : ℕ) → Recurs (roots ++ flagged_rows fs rows) q → RepeatedDigest p g q
-  recurs_digest q r = recurs_repeats ix (roots ++ flagged_rows fs rows) (item_digests (met p g)) met_stand q r
+  recurs_digest q r = recurs_repeats ix (roots ++ flagged_rows fs rows) (owned_digests (met p g)) met_stand q r
 
   pub unreferenced_clear : (k : ℕ) → Unreferenced p g k → (k < length g) × (get_or fs k false ≡ false)
   unreferenced_clear k u = (At-below g k u.0 u.1, flag_is k u.0 u.1 ∙ u.2)

@@ -1,8 +1,8 @@
 -- The worklist reaches what the rounds reach.
 use Rattle.std.proofs.Common.{◌≡◌, ℕ, zero, suc, ◌+◌, ◌-◌, ◌<◌, ◌≤◌, List, [], ◌∷◌, ◌++◌, length, get_or, set, replicate, Bool, true, false, cond, ◌&&◌, eqb, ◌⊎◌, inl, inr, ⊎_elim, refl, sym, ap, ◌∙◌, subst, arith, length-set}
-use Rattle.claim_tree.specs.Lists.{At, In}
+use Rattle.claim_tree.specs.Lists.{StandsAt, In}
 use Rattle.claim_tree.proofs.Lists.{At-below, At-same, or_left, or_right, or_split, and_split, and_join}
-use Rattle.rebuild_core.specs.Graph.{has, any_row, is_in, Marks, mark_one, mark_all, trues, IsClear}
+use Rattle.rebuild_core.specs.Graph.{has_number, any_row, is_in, Marks, mark_one, mark_all, trues, IsClear}
 
 pub eqb_same : (a b : ℕ) → eqb a b ≡ true → a ≡ b
 eqb_same a b h = grind arith
@@ -87,21 +87,21 @@ length-cleared (suc n) = ap suc (length-cleared n)
 
 -- ---- the order
 
-At-last : (xs : List ℕ) (k : ℕ) → At (xs ++ k ∷ []) (length xs) k
+At-last : (xs : List ℕ) (k : ℕ) → StandsAt (xs ++ k ∷ []) (length xs) k
 At-last [] k = refl
 At-last (x ∷ xs) k = At-last xs k
 
-At-more : (xs ys : List ℕ) (i k : ℕ) → At xs i k → At (xs ++ ys) i k
+At-more : (xs ys : List ℕ) (i k : ℕ) → StandsAt xs i k → StandsAt (xs ++ ys) i k
 At-more (x ∷ xs) ys zero k h = h
 At-more (x ∷ xs) ys (suc i) k h = At-more xs ys i k h
 At-more [] ys i k h = elim h [ ]
 
-At-less : (xs ys : List ℕ) (i k : ℕ) → At (xs ++ ys) i k → i < length xs → At xs i k
+At-less : (xs ys : List ℕ) (i k : ℕ) → StandsAt (xs ++ ys) i k → i < length xs → StandsAt xs i k
 At-less (x ∷ xs) ys zero k h l = h
 At-less (x ∷ xs) ys (suc i) k h l = At-less xs ys i k h (omega arith)
 At-less [] ys i k h l = absurd (omega arith)
 
-At-one : (xs : List ℕ) (i j k : ℕ) → At (xs ++ k ∷ []) i j → At xs i j ⊎ (j ≡ k)
+At-one : (xs : List ℕ) (i j k : ℕ) → StandsAt (xs ++ k ∷ []) i j → StandsAt xs i j ⊎ (j ≡ k)
 At-one (x ∷ xs) zero j k h = inl h
 At-one (x ∷ xs) (suc i) j k h = At-one xs i j k h
 At-one [] zero j k h = inr h
@@ -114,16 +114,16 @@ length-last (x ∷ xs) k = ap suc (length-last xs k)
 -- the order has the marked numbers, each once
 pub record Well (s : Marks) : Type 0 where
   pub count : trues s.0 ≡ length s.1
-  pub listed : (k : ℕ) → get_or s.0 k false ≡ true → (i : ℕ) × At s.1 i k
-  pub flagged : (i k : ℕ) → At s.1 i k → get_or s.0 k false ≡ true
+  pub listed : (k : ℕ) → get_or s.0 k false ≡ true → (i : ℕ) × StandsAt s.1 i k
+  pub flagged : (i k : ℕ) → StandsAt s.1 i k → get_or s.0 k false ≡ true
 
 pub record Spread (row : List ℕ) (s t : Marks) : Type 0 where
   pub len : length t.0 ≡ length s.0
   pub keeps : (k : ℕ) → get_or s.0 k false ≡ true → get_or t.0 k false ≡ true
   pub from : (k : ℕ) → get_or t.0 k false ≡ true → (get_or s.0 k false ≡ true) ⊎ (In k row × (length s.1 < length t.1))
   pub all : (k : ℕ) → In k row → k < length s.0 → get_or t.0 k false ≡ true
-  pub prefix : (i k : ℕ) → At s.1 i k → At t.1 i k
-  pub before : (i k : ℕ) → At t.1 i k → i < length s.1 → At s.1 i k
+  pub prefix : (i k : ℕ) → StandsAt s.1 i k → StandsAt t.1 i k
+  pub before : (i k : ℕ) → StandsAt t.1 i k → i < length s.1 → StandsAt s.1 i k
   pub longer : length s.1 ≤ length t.1
   pub well : Well s → Well t
 
@@ -167,7 +167,7 @@ spread_one k s = go (get_or s.0 k true) refl
       longer = omega (arith, length-last s.1 k);
       well = λ w. record {
         count = omega (arith, count_set s.0 k e, length-last s.1 k, w.count);
-        listed = λ j h. ⊎_elim (λ l. let v = w.listed j l in (v.0, At-more s.1 (k ∷ []) v.0 j v.1)) (λ r. (length s.1, subst (λ z. At (s.1 ++ k ∷ []) (length s.1) z) (sym r) (At-last s.1 k))) (set_from s.0 k j h);
+        listed = λ j h. ⊎_elim (λ l. let v = w.listed j l in (v.0, At-more s.1 (k ∷ []) v.0 j v.1)) (λ r. (length s.1, subst (λ z. StandsAt (s.1 ++ k ∷ []) (length s.1) z) (sym r) (At-last s.1 k))) (set_from s.0 k j h);
         flagged = λ i j h. ⊎_elim (λ l. set_keeps s.0 k j (w.flagged i j l)) (λ r. rw r (set_here s.0 k (in_range s.0 k e))) (At-one s.1 i j k h);
       };
     }
@@ -202,33 +202,33 @@ spread (k ∷ ks) s = spread_join k ks s (mark_one k s) (mark_all ks (mark_one k
 
 -- ---- rounds
 
-has-In : (k : ℕ) (xs : List ℕ) → has k xs ≡ true → In k xs
+has-In : (k : ℕ) (xs : List ℕ) → has_number k xs ≡ true → In k xs
 has-In k [] h = cc
-has-In k (x ∷ xs) h = ⊎_elim (λ l. inl (sym (eqb_same x k l))) (λ r. inr (has-In k xs r)) (or_split (eqb x k) (has k xs) h)
+has-In k (x ∷ xs) h = ⊎_elim (λ l. inl (sym (eqb_same x k l))) (λ r. inr (has-In k xs r)) (or_split (eqb x k) (has_number k xs) h)
 
-In-has : (k : ℕ) (xs : List ℕ) → In k xs → has k xs ≡ true
-In-has k (x ∷ xs) (inl e) = or_left (eqb x k) (has k xs) (eqb_refl x k (sym e))
-In-has k (x ∷ xs) (inr m) = or_right (eqb x k) (has k xs) (In-has k xs m)
+In-has : (k : ℕ) (xs : List ℕ) → In k xs → has_number k xs ≡ true
+In-has k (x ∷ xs) (inl e) = or_left (eqb x k) (has_number k xs) (eqb_refl x k (sym e))
+In-has k (x ∷ xs) (inr m) = or_right (eqb x k) (has_number k xs) (In-has k xs m)
 In-has k [] m = elim m [ ]
 
 any_row-At : (p : ℕ → Bool) (k i : ℕ) (rows : List (List ℕ)) → any_row p k i rows ≡ true
-    → (j : ℕ) × (row : List ℕ) × At rows j row × (p (i + j) ≡ true) × In k row
+    → (j : ℕ) × (row : List ℕ) × StandsAt rows j row × (p (i + j) ≡ true) × In k row
 any_row-At p k i [] h = cc
-any_row-At p k i (row ∷ rows) h = go (any_row-At p k (suc i) rows) (or_split (p i && has k row) (any_row p k (suc i) rows) h)
+any_row-At p k i (row ∷ rows) h = go (any_row-At p k (suc i) rows) (or_split (p i && has_number k row) (any_row p k (suc i) rows) h)
   where
-    go : (any_row p k (suc i) rows ≡ true → (j : ℕ) × (r : List ℕ) × At rows j r × (p (suc i + j) ≡ true) × In k r)
-        → ((p i && has k row) ≡ true) ⊎ (any_row p k (suc i) rows ≡ true) → (j : ℕ) × (r : List ℕ) × At (row ∷ rows) j r × (p (i + j) ≡ true) × In k r
-    go ih (inl l) = let w = and_split (p i) (has k row) l in let e : i + 0 ≡ i = omega arith in (0, row, refl, rw e w.0, has-In k row w.1)
+    go : (any_row p k (suc i) rows ≡ true → (j : ℕ) × (r : List ℕ) × StandsAt rows j r × (p (suc i + j) ≡ true) × In k r)
+        → ((p i && has_number k row) ≡ true) ⊎ (any_row p k (suc i) rows ≡ true) → (j : ℕ) × (r : List ℕ) × StandsAt (row ∷ rows) j r × (p (i + j) ≡ true) × In k r
+    go ih (inl l) = let w = and_split (p i) (has_number k row) l in let e : i + 0 ≡ i = omega arith in (0, row, refl, rw e w.0, has-In k row w.1)
     go ih (inr r) = let w = ih r in let e : i + suc w.0 ≡ suc i + w.0 = omega arith in (suc w.0, w.1, w.2, rw e w.3, w.4)
 
-At-any_row : (p : ℕ → Bool) (k i j : ℕ) (rows : List (List ℕ)) (row : List ℕ) → At rows j row → p (i + j) ≡ true → In k row → any_row p k i rows ≡ true
+At-any_row : (p : ℕ → Bool) (k i j : ℕ) (rows : List (List ℕ)) (row : List ℕ) → StandsAt rows j row → p (i + j) ≡ true → In k row → any_row p k i rows ≡ true
 At-any_row p k i zero (row ∷ rows) r a h m =
     let e : i + 0 ≡ i = omega arith in
     let q : p i ≡ true = ap p (sym e) ∙ h in
-    or_left (p i && has k row) (any_row p k (suc i) rows) (and_join (p i) (has k row) q (In-has k row (subst (λ z. In k z) a m)))
+    or_left (p i && has_number k row) (any_row p k (suc i) rows) (and_join (p i) (has_number k row) q (In-has k row (subst (λ z. In k z) a m)))
 At-any_row p k i (suc j) (row ∷ rows) r a h m =
     let e : suc i + j ≡ i + suc j = omega arith in
-    or_right (p i && has k row) (any_row p k (suc i) rows) (At-any_row p k (suc i) j rows r a (ap p e ∙ h) m)
+    or_right (p i && has_number k row) (any_row p k (suc i) rows) (At-any_row p k (suc i) j rows r a (ap p e ∙ h) m)
 At-any_row p k i j [] r a h m = elim a [ ]
 
 later_round : (roots : List ℕ) (rows : List (List ℕ)) (a r k : ℕ) → is_in roots rows r k ≡ true → is_in roots rows (a + r) k ≡ true
@@ -247,7 +247,7 @@ pub record Fits (n : ℕ) (roots : List ℕ) (rows : List (List ℕ)) (h : ℕ) 
   pub well : Well s
   pub sound : (k : ℕ) → get_or s.0 k false ≡ true → is_in roots rows (length s.1) k ≡ true
   pub rooted : (k : ℕ) → In k roots → k < n → get_or s.0 k false ≡ true
-  pub closed : (i j k : ℕ) (row : List ℕ) → i < h → At s.1 i j → At rows j row → In k row → k < n → get_or s.0 k false ≡ true
+  pub closed : (i j k : ℕ) (row : List ℕ) → i < h → StandsAt s.1 i j → StandsAt rows j row → In k row → k < n → get_or s.0 k false ≡ true
 
 pub fits_start : (n : ℕ) (roots : List ℕ) (rows : List (List ℕ)) → Fits n roots rows 0 (mark_all roots (replicate n false, []))
 fits_start n roots rows =
@@ -264,7 +264,7 @@ fits_start n roots rows =
     }
 
 pub fits_step : (n : ℕ) (roots : List ℕ) (rows : List (List ℕ)) (h j : ℕ) (row : List ℕ) (s : Marks)
-    → Fits n roots rows h s → At s.1 h j → At rows j row → Fits n roots rows (suc h) (mark_all row s)
+    → Fits n roots rows h s → StandsAt s.1 h j → StandsAt rows j row → Fits n roots rows (suc h) (mark_all row s)
 fits_step n roots rows h j row s f a b =
     let t : Marks = mark_all row s in
     let w = spread row s in
@@ -279,7 +279,7 @@ fits_step n roots rows h j row s f a b =
       closed = λ i j' k row' l a' b' m lt. done i j' k row' l a' b' m lt;
     }
   where
-    done : (i j' k : ℕ) (row' : List ℕ) → i < suc h → At (mark_all row s).1 i j' → At rows j' row' → In k row' → k < n → get_or (mark_all row s).0 k false ≡ true
+    done : (i j' k : ℕ) (row' : List ℕ) → i < suc h → StandsAt (mark_all row s).1 i j' → StandsAt rows j' row' → In k row' → k < n → get_or (mark_all row s).0 k false ≡ true
     done i j' k row' l a' b' m lt = pick (split i h l)
       where
         split : (x y : ℕ) → x < suc y → (x < y) ⊎ (x ≡ y)
@@ -290,9 +290,9 @@ fits_step n roots rows h j row s f a b =
             let q = (spread row s).before i j' a' (omega (arith, less, At-below s.1 h j a)) in
             (spread row s).keeps k (f.closed i j' k row' less q b' m lt)
         pick (inr e) =
-            let q = (spread row s).before h j' (subst (λ z. At (mark_all row s).1 z j') e a') (At-below s.1 h j a) in
+            let q = (spread row s).before h j' (subst (λ z. StandsAt (mark_all row s).1 z j') e a') (At-below s.1 h j a) in
             let same : j' ≡ j = At-same s.1 h j' j q a in
-            let r : row' ≡ row = At-same rows j row' row (subst (λ z. At rows z row') same b') b in
+            let r : row' ≡ row = At-same rows j row' row (subst (λ z. StandsAt rows z row') same b') b in
             (spread row s).all k (subst (λ z. In k z) r m) (omega (arith, lt, f.len))
 
 pub short_order : (n : ℕ) (roots : List ℕ) (rows : List (List ℕ)) (h : ℕ) (s : Marks) → Fits n roots rows h s → length s.1 ≤ n
@@ -322,12 +322,12 @@ exact n roots rows h s f l e k lt = go (get_or s.0 k false) refl (is_in roots ro
 
 -- ---- steps of the loops
 
-pub At-index : (xs : List ℕ) (i k d : ℕ) → i < length xs → k ≡ get_or xs i d → At xs i k
+pub At-index : (xs : List ℕ) (i k d : ℕ) → i < length xs → k ≡ get_or xs i d → StandsAt xs i k
 At-index (x ∷ xs) zero k d l e = e
 At-index (x ∷ xs) (suc i) k d l e = At-index xs i k d (omega arith) e
 At-index [] i k d l e = absurd (omega arith)
 
-pub At-row : (rows : List (List ℕ)) (j : ℕ) (row : List ℕ) → j < length rows → row ≡ get_or rows j [] → At rows j row
+pub At-row : (rows : List (List ℕ)) (j : ℕ) (row : List ℕ) → j < length rows → row ≡ get_or rows j [] → StandsAt rows j row
 At-row (x ∷ xs) zero k l e = e
 At-row (x ∷ xs) (suc i) k l e = At-row xs i k (omega arith) e
 At-row [] i k l e = absurd (omega arith)

@@ -1,20 +1,18 @@
--- The converse of `OneNode`: where each disclosure is shown and each digest stands once, the conditions hold.
+-- Not needed to believe the program's promises: the converse of `OneNode`: where each disclosure is shown and each digest stands once, the conditions hold.
 use Rattle.std.specs.Prelude.{◌≡◌, ◌<◌, ◌≤◌, ℕ, List, length, true, is_some, bytes_eq}
 use Rattle.sd_outside.specs.Limits.{depth_max}
 use Rattle.claim_tree.specs.Tree.{Text, Tree, leaf, array, object, Elements, no_elements, element, Members, no_members, member, depth}
-use Rattle.claim_tree.specs.Lists.{In, Repeats, Nowhere}
+use Rattle.claim_tree.specs.Lists.{In, Repeats, AtNone}
 use Rattle.digest_sites.specs.Reserved.{sd_name, text_list}
 use Rattle.digest_sites.specs.Given.{Given}
-use Rattle.marked_tree.specs.Marked.{strip, ways}
-use Rattle.rebuild_core.specs.Given.{item_digests, all_items}
+use Rattle.marked_tree.specs.Marked.{strip}
+use Rattle.marked_tree.specs.Ways.{ways}
+use Rattle.rebuild_core.specs.Reached.{owned_digests, all_sites, all_digests}
 use Rattle.rebuild_core.specs.Opening.{processed}
-use Rattle.rebuild_core.specs.Conditions.{RepeatedDisclosure, IsSound}
+use Rattle.rebuild_core.specs.Conditions.{RepeatedDisclosure}
+use Rattle.rebuild_core.specs.Soundness.{IsSound}
 use Rattle.rebuild_core.specs.Free.{HasNoReserved}
-use Rattle.rebuild_core.specs.Laws.{IsReadable}
-
--- the digests of the payload and of all values, reached or not
-abbrev pub all_digests : Tree → List Given → List Text
-all_digests p given = item_digests (all_items p given)
+use Rattle.rebuild_core.specs.Readable.{IsReadable}
 
 -- each member `_sd` is a list of texts
 abbrev mutual
@@ -37,8 +35,8 @@ IsMarkOf i p given = (way : ℕ × List ℕ) × In way (ways (processed p given)
 
 -- each disclosure is shown, each digest stands once, and nothing that is shown has a reserved name
 pub record AreAllShown (p : Tree) (given : List Given) : Type 0 where
-  pub no_repeated_disclosure : Nowhere (RepeatedDisclosure given)
-  pub no_repeated_digest : Nowhere (Repeats (all_digests p given))
+  pub no_repeated_disclosure : AtNone (RepeatedDisclosure given)
+  pub no_repeated_digest : AtNone (Repeats (all_digests p given))
   pub each_shown : (i : ℕ) → i < length given → IsMarkOf i p given
   pub free : HasNoReserved (strip (processed p given))
   pub shallow : depth (strip (processed p given)) ≤ depth_max

@@ -1,11 +1,11 @@
--- What an answer of processing says, over the payload without its own `_sd_alg`.
+-- Not needed to believe the program's promises: what an answer of processing says, over the payload without its own `_sd_alg`.
 use Rattle.std.specs.Prelude.{◌≡◌, ◌≤◌, List, Some}
 use Rattle.claim_tree.specs.Tree.{Text, Tree, object, leaf, text, member_named, depth, IsRanged}
-use Rattle.claim_tree.specs.Lists.{In, Nowhere, IsLeast}
+use Rattle.claim_tree.specs.Lists.{In, AtNone, IsLeast}
 use Rattle.digest_sites.specs.Given.{Given}
 use Rattle.rebuild_core.specs.Payload.{alg_name}
 use Rattle.rebuild_core.specs.Conditions as fails
-use Rattle.rebuild_core.specs.Conditions.{IsReferencedOnce, IsWellNamed}
+use Rattle.rebuild_core.specs.Soundness.{IsReferencedOnce, IsWellNamed}
 use Rattle.rebuild_core.specs.declared.errors.ProcessError.{ProcessError}
 
 -- an object whose `_sd_alg`, where it is there, is a text
@@ -22,17 +22,17 @@ abbrev pub ValuesRanged : List Given → Type 0
 ValuesRanged given = (x : Given) → In x given → IsRanged x.value
 
 -- the lowest condition that fails, at its least place
-abbrev pub IsRefusal : Tree → List Given → ProcessError → Type 0
-IsRefusal p given ProcessError.Memory = Unit {0}
-IsRefusal p given (ProcessError.RepeatedDisclosure i) = IsLeast (fails.RepeatedDisclosure given) i
-IsRefusal p given (ProcessError.ReservedMisused i) = Nowhere (fails.RepeatedDisclosure given) × IsLeast (fails.Misused p given) i
-IsRefusal p given (ProcessError.RepeatedDigest place) =
-    Nowhere (fails.RepeatedDisclosure given) × Nowhere (fails.Misused p given) × IsLeast (fails.RepeatedDigest p given) place
-IsRefusal p given (ProcessError.Unreferenced i) =
-    Nowhere (fails.RepeatedDisclosure given) × Nowhere (fails.Misused p given) × Nowhere (fails.RepeatedDigest p given) × IsLeast (fails.Unreferenced p given) i
-IsRefusal p given (ProcessError.WrongShape i) = IsReferencedOnce p given × IsLeast (fails.WrongShape p given) i
-IsRefusal p given (ProcessError.ReservedName i) =
-    IsReferencedOnce p given × Nowhere (fails.WrongShape p given) × IsLeast (fails.ReservedName p given) i
-IsRefusal p given (ProcessError.NameClash place) =
-    IsReferencedOnce p given × Nowhere (fails.WrongShape p given) × Nowhere (fails.ReservedName p given) × IsLeast (fails.NameClash p given) place
-IsRefusal p given ProcessError.TooDeep = IsReferencedOnce p given × IsWellNamed p given × fails.IsTooDeep p given
+abbrev pub IsProcessRefused : Tree → List Given → ProcessError → Type 0
+IsProcessRefused p given ProcessError.Memory = Unit {0}
+IsProcessRefused p given (ProcessError.RepeatedDisclosure i) = IsLeast (fails.RepeatedDisclosure given) i
+IsProcessRefused p given (ProcessError.ReservedMisused i) = AtNone (fails.RepeatedDisclosure given) × IsLeast (fails.Misused p given) i
+IsProcessRefused p given (ProcessError.RepeatedDigest place) =
+    AtNone (fails.RepeatedDisclosure given) × AtNone (fails.Misused p given) × IsLeast (fails.RepeatedDigest p given) place
+IsProcessRefused p given (ProcessError.Unreferenced i) =
+    AtNone (fails.RepeatedDisclosure given) × AtNone (fails.Misused p given) × AtNone (fails.RepeatedDigest p given) × IsLeast (fails.Unreferenced p given) i
+IsProcessRefused p given (ProcessError.WrongShape i) = IsReferencedOnce p given × IsLeast (fails.WrongShape p given) i
+IsProcessRefused p given (ProcessError.ReservedName i) =
+    IsReferencedOnce p given × AtNone (fails.WrongShape p given) × IsLeast (fails.ReservedName p given) i
+IsProcessRefused p given (ProcessError.NameClash place) =
+    IsReferencedOnce p given × AtNone (fails.WrongShape p given) × AtNone (fails.ReservedName p given) × IsLeast (fails.NameClash p given) place
+IsProcessRefused p given ProcessError.TooDeep = IsReferencedOnce p given × IsWellNamed p given × fails.IsTooDeep p given

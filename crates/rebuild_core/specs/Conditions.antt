@@ -3,14 +3,14 @@
 use Rattle.std.specs.Prelude.{◌≡◌, ℕ, zero, suc, ◌<◌, ◌≤◌, List, [], true, false, Option, Some, None, ◌⊎◌}
 use Rattle.sd_outside.specs.Limits.{depth_max}
 use Rattle.claim_tree.specs.Tree.{Text, Tree, depth}
-use Rattle.claim_tree.specs.Lists.{At, In, Repeats, Nowhere}
+use Rattle.claim_tree.specs.Lists.{StandsAt, In, Repeats, AtNone}
 use Rattle.digest_sites.specs.Reserved.{misuses, sd_name, dots_name}
 use Rattle.digest_sites.specs.Given.{Given}
 use Rattle.digest_sites.specs.declared.site.SiteKind.{SiteKind}
 use Rattle.digest_sites.specs.declared.site.SiteKind.TheVariants.{Member}
 use Rattle.marked_tree.specs.Marked.{strip}
 use Rattle.rebuild_core.specs.Payload.{alg_name}
-use Rattle.rebuild_core.specs.Given.{Item, payload, met, item_digests, given_digests, is_reached}
+use Rattle.rebuild_core.specs.Reached.{OwnedSite, payload, met, owned_digests, given_digests, is_reached}
 use Rattle.rebuild_core.specs.Opening.{processed}
 
 -- 14: the digest of disclosure i equals that of an earlier one
@@ -20,15 +20,15 @@ RepeatedDisclosure given i = Repeats (given_digests given) i
 -- 15: tree 0, the payload, or tree i + 1, the value of disclosure i, misuses a reserved name
 abbrev pub Misused : Tree → List Given → ℕ → Type 0
 Misused p given zero = misuses p ≡ true
-Misused p given (suc i) = (x : Given) × At given i x × (misuses x.value ≡ true)
+Misused p given (suc i) = (x : Given) × StandsAt given i x × (misuses x.value ≡ true)
 
 -- 16: the digest at this place of the met list equals an earlier one
 abbrev pub RepeatedDigest : Tree → List Given → ℕ → Type 0
-RepeatedDigest p given place = Repeats (item_digests (met p given)) place
+RepeatedDigest p given place = Repeats (owned_digests (met p given)) place
 
 -- 17: disclosure i is not reached
 abbrev pub Unreferenced : Tree → List Given → ℕ → Type 0
-Unreferenced p given i = (x : Given) × At given i x × (is_reached p given x ≡ false)
+Unreferenced p given i = (x : Given) × StandsAt given i x × (is_reached p given x ≡ false)
 
 -- a disclosure with this name, or none, does not fit a site of this kind
 abbrev pub IsWrong : SiteKind → Option Text → Type 0
@@ -38,10 +38,10 @@ IsWrong SiteKind.Element None = ⊥
 IsWrong SiteKind.Element (Some name) = Unit {0}
 
 -- disclosure i stands at a site of the met list where it is ill placed
-abbrev pub Stands : (Item → Given → Type 0) → Tree → List Given → ℕ → Type 0
-Stands IsIll p given i = (x : Given) × At given i x × (m : Item) × In m (met p given) × (m.site.digest ≡ x.digest) × IsIll m x
+abbrev pub Stands : (OwnedSite → Given → Type 0) → Tree → List Given → ℕ → Type 0
+Stands IsIll p given i = (x : Given) × StandsAt given i x × (m : OwnedSite) × In m (met p given) × (m.site.digest ≡ x.digest) × IsIll m x
 
-abbrev pub IsWrongAt : Item → Given → Type 0
+abbrev pub IsWrongAt : OwnedSite → Given → Type 0
 IsWrongAt m x = IsWrong m.site.kind x.name
 
 -- 18: disclosure i stands at a member site and has no name, or at an element site and has one
@@ -49,10 +49,10 @@ abbrev pub WrongShape : Tree → List Given → ℕ → Type 0
 WrongShape p given i = Stands IsWrongAt p given i
 
 -- `_sd` and `...` in any object, and `_sd_alg` in the payload itself
-abbrev pub IsReserved : Item → Text → Type 0
+abbrev pub IsReserved : OwnedSite → Text → Type 0
 IsReserved m name = (name ≡ sd_name) ⊎ ((name ≡ dots_name) ⊎ ((name ≡ alg_name) × (m.owner ≡ payload) × (m.site.at ≡ [])))
 
-abbrev pub IsReservedAt : Item → Given → Type 0
+abbrev pub IsReservedAt : OwnedSite → Given → Type 0
 IsReservedAt m x = (m.site.kind ≡ Member) × (name : Text) × (x.name ≡ Some name) × IsReserved m name
 
 -- 19: disclosure i stands at a member site and has a reserved name
@@ -60,38 +60,19 @@ abbrev pub ReservedName : Tree → List Given → ℕ → Type 0
 ReservedName p given i = Stands IsReservedAt p given i
 
 -- the site is a member site, its disclosure is there, and has the name
-abbrev pub Discloses : List Given → Item → Text → Type 0
+abbrev pub Discloses : List Given → OwnedSite → Text → Type 0
 Discloses given m name = (m.site.kind ≡ Member) × (x : Given) × In x given × (x.digest ≡ m.site.digest) × (x.name ≡ Some name)
 
 -- an earlier site of the same object discloses the name
-abbrev pub EarlierName : Tree → List Given → ℕ → Item → Text → Type 0
+abbrev pub EarlierName : Tree → List Given → ℕ → OwnedSite → Text → Type 0
 EarlierName p given place m name =
-    (j : ℕ) × (j < place) × (e : Item) × At (met p given) j e × (e.owner ≡ m.owner) × (e.site.at ≡ m.site.at) × Discloses given e name
+    (j : ℕ) × (j < place) × (e : OwnedSite) × StandsAt (met p given) j e × (e.owner ≡ m.owner) × (e.site.at ≡ m.site.at) × Discloses given e name
 
 -- 20: the name disclosed at this place of the met list is a member of its object, or is disclosed at an earlier site of it
 abbrev pub NameClash : Tree → List Given → ℕ → Type 0
 NameClash p given place =
-    (m : Item) × At (met p given) place m × (name : Text) × Discloses given m name × (In name m.site.beside ⊎ EarlierName p given place m name)
+    (m : OwnedSite) × StandsAt (met p given) place m × (name : Text) × Discloses given m name × (In name m.site.beside ⊎ EarlierName p given place m name)
 
 -- 21: the processed payload nests too deep
 abbrev pub IsTooDeep : Tree → List Given → Type 0
 IsTooDeep p given = depth_max < depth (strip (processed p given))
-
--- 14 to 17: each disclosure stands at one place
-pub record IsReferencedOnce (p : Tree) (given : List Given) : Type 0 where
-  pub no_repeated_disclosure : Nowhere (RepeatedDisclosure given)
-  pub no_misuse : Nowhere (Misused p given)
-  pub no_repeated_digest : Nowhere (RepeatedDigest p given)
-  pub no_unreferenced : Nowhere (Unreferenced p given)
-
--- 18 to 20: each disclosure fits its place
-pub record IsWellNamed (p : Tree) (given : List Given) : Type 0 where
-  pub no_wrong_shape : Nowhere (WrongShape p given)
-  pub no_reserved_name : Nowhere (ReservedName p given)
-  pub no_name_clash : Nowhere (NameClash p given)
-
--- 14 to 21
-pub record IsSound (p : Tree) (given : List Given) : Type 0 where
-  pub referenced : IsReferencedOnce p given
-  pub named : IsWellNamed p given
-  pub shallow : depth (strip (processed p given)) ≤ depth_max

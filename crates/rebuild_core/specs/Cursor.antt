@@ -1,11 +1,12 @@
 -- For private functions: digests read as numbers, in the order of the sites.
 use Rattle.std.specs.Prelude.{◌≡◌, ℕ, ◌≤◌, List, [], ◌∷◌, ◌++◌, length, drop, Option, Some, None, bytes_eq, if◌then◌else◌}
 use Rattle.claim_tree.specs.Tree.{Text, Tree, leaf, array, object, Elements, no_elements, element, Members, no_members, member}
-use Rattle.claim_tree.specs.Lists.{At}
+use Rattle.claim_tree.specs.Lists.{StandsAt}
 use Rattle.digest_sites.specs.Reserved.{sd_name, sd_texts, element_digest}
-use Rattle.digest_sites.specs.Sites.{sites, digests}
+use Rattle.digest_sites.specs.Sites.{sites}
+use Rattle.digest_sites.specs.SiteCalls.{digests}
 use Rattle.digest_sites.specs.Given.{Given}
-use Rattle.rebuild_core.specs.Opening.{hidden, shown, reveal, opened}
+use Rattle.rebuild_core.specs.Opening.{nothing_shown, shown, reveal, opened}
 
 -- that of an element with a digest, else those inside it
 abbrev pub digests_on : Option Text → List Text → List Text
@@ -28,22 +29,22 @@ abbrev mutual
   members_digests (member name t ms) = (if bytes_eq name sd_name then [] else tree_digests t) ++ members_digests ms
 
 -- what number k says of the digest that it stands for
-pub record Tells (given : List Given) (k : ℕ) (digest : Text) : Type 0 where
-  pub known : (x : Given) → At given k x → reveal (length given) given digest ≡ shown k x.name (opened (length given) given x.value)
-  pub unknown : length given ≤ k → reveal (length given) given digest ≡ hidden
+pub record NumberTells (given : List Given) (k : ℕ) (digest : Text) : Type 0 where
+  pub known : (x : Given) → StandsAt given k x → reveal (length given) given digest ≡ shown k x.name (opened (length given) given x.value)
+  pub unknown : length given ≤ k → reveal (length given) given digest ≡ nothing_shown
 
 -- the first numbers tell of the digests
 abbrev pub TellFirst : List Given → List ℕ → List Text → Type 0
 TellFirst given ks [] = Unit {0}
 TellFirst given [] (digest ∷ digests) = ⊥
-TellFirst given (k ∷ ks) (digest ∷ digests) = Tells given k digest × TellFirst given ks digests
+TellFirst given (k ∷ ks) (digest ∷ digests) = NumberTells given k digest × TellFirst given ks digests
 
 -- where the numbers end that come before, those of the value of each disclosure begin
 abbrev pub TellEach : (Tree → List Text) → List Given → List ℕ → List ℕ → Type 0
 TellEach digests_of given numbers ends =
-    (j : ℕ) (x : Given) → At given j x → (start : ℕ) × At ends j start × TellFirst given (drop start numbers) (digests_of x.value)
+    (j : ℕ) (x : Given) → StandsAt given j x → (start : ℕ) × StandsAt ends j start × TellFirst given (drop start numbers) (digests_of x.value)
 
 -- the first numbers tell of the digests of the payload's sites, and others of those of each value
-pub record AreTold (p : Tree) (given : List Given) (numbers ends : List ℕ) : Type 0 where
+pub record NumbersTell (p : Tree) (given : List Given) (numbers ends : List ℕ) : Type 0 where
   pub payload : TellFirst given numbers (digests (sites p))
   pub values : TellEach (λ t. digests (sites t)) given numbers ends

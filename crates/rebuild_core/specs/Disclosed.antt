@@ -9,5 +9,5 @@ abbrev pub is_disclosed : ℕ → Text → Disclosed → Bool
 is_disclosed object name d = eqb object d.object && bytes_eq name d.name
 
 -- the name is disclosed in the object with this number
-abbrev pub has_name : BTreeSet Disclosed → ℕ → Text → Bool
-has_name disclosed object name = list_any (is_disclosed object name) disclosed.keys
+abbrev pub is_name_disclosed : BTreeSet Disclosed → ℕ → Text → Bool
+is_name_disclosed disclosed object name = list_any (is_disclosed object name) disclosed.keys

@@ -1,7 +1,7 @@
 -- For private functions: which disclosures are reached, and the met list, over numbers.
 use Rattle.std.specs.Prelude.{◌≡◌, ℕ, zero, suc, ◌+◌, ◌-◌, ◌<◌, ◌≤◌, List, [], ◌∷◌, ◌++◌, take, drop, length, Bool, true, false, ◌||◌, ◌&&◌, eqb, slice_set, slice_index_or, if◌then◌else◌}
 use Rattle.std.specs.List.{list_any}
-use Rattle.claim_tree.specs.Lists.{At}
+use Rattle.claim_tree.specs.Lists.{StandsAt}
 
 -- a list of numbers cut at these places, the first piece from a start
 abbrev pub cut : ℕ → List ℕ → List ℕ → List (List ℕ)
@@ -23,17 +23,17 @@ abbrev pub rows_in : List ℕ → List ℕ → List (List ℕ)
 rows_in [] ks = []
 rows_in (end ∷ ends) ks = cut end ends ks
 
-abbrev pub has : ℕ → List ℕ → Bool
-has k ks = list_any (λ j. eqb j k) ks
+abbrev pub has_number : ℕ → List ℕ → Bool
+has_number k ks = list_any (λ j. eqb j k) ks
 
 -- some row has k, of those whose number passes, where the first is row i
 abbrev pub any_row : (ℕ → Bool) → ℕ → ℕ → List (List ℕ) → Bool
 any_row passes k i [] = false
-any_row passes k i (row ∷ rows) = (passes i && has k row) || any_row passes k (suc i) rows
+any_row passes k i (row ∷ rows) = (passes i && has_number k row) || any_row passes k (suc i) rows
 
 -- k stands in the roots, or in the row of a number of the round before
 abbrev pub is_in : List ℕ → List (List ℕ) → ℕ → ℕ → Bool
-is_in roots rows zero k = has k roots
+is_in roots rows zero k = has_number k roots
 is_in roots rows (suc round) k = is_in roots rows round k || any_row (is_in roots rows round) k 0 rows
 
 -- which numbers are marked, and in which order
@@ -56,7 +56,7 @@ flagged_rows (f ∷ flags) (row ∷ rows) = (if f then row else []) ++ flagged_r
 
 -- the number at a place equals an earlier one
 abbrev pub Recurs : List ℕ → ℕ → Type 0
-Recurs ks place = (k : ℕ) × At ks place k × (earlier : ℕ) × (earlier < place) × At ks earlier k
+Recurs ks place = (k : ℕ) × StandsAt ks place k × (earlier : ℕ) × (earlier < place) × StandsAt ks earlier k
 
 -- how many are set
 abbrev pub trues : List Bool → ℕ

@@ -1,28 +1,31 @@
--- What the laws say.
+-- Not needed to believe the program's promises: what the laws say.
 use Rattle.std.specs.Prelude.{◌≡◌, ℕ, suc, ◌<◌, ◌≤◌, ◌+◌, List, [], ◌∷◌, length, eqb, Bool, true, Option, Some, None, sum_by, if◌then◌else◌}
 use Rattle.std.specs.List.{IsDistinct}
-use Rattle.claim_tree.specs.Tree.{Text, Tree, nodes, IsOrdered}
-use Rattle.claim_tree.specs.Lists.{At, In}
+use Rattle.claim_tree.specs.Tree.{Text, Tree, IsOrdered}
+use Rattle.claim_tree.specs.Nodes.{nodes}
+use Rattle.claim_tree.specs.Lists.{StandsAt, In}
 use Rattle.digest_sites.specs.Sites.{Site}
 use Rattle.digest_sites.specs.Given.{Given}
-use Rattle.marked_tree.specs.Marked.{Marked, strip, remark, prune, ranked}
-use Rattle.marked_tree.specs.Choice.{IsClosed, chosen}
+use Rattle.marked_tree.specs.Marked.{Marked, strip, remark, prune}
+use Rattle.marked_tree.specs.Ways.{ranked}
+use Rattle.marked_tree.specs.Choice.{IsClosed}
 use Rattle.marked_tree.specs.Numbers.{IsRising}
-use Rattle.marked_tree.specs.Places.{Path}
+use Rattle.marked_tree.specs.Paths.{Path, chosen}
 use Rattle.marked_tree.specs.Laws.{HasEachMarkOnce}
-use Rattle.rebuild_core.specs.Given.{Owner, payload, value_of, item, met, item_digests}
-use Rattle.rebuild_core.specs.Conditions.{IsReferencedOnce, IsSound}
+use Rattle.rebuild_core.specs.Reached.{Owner, payload, value_of, owned_site, met, owned_digests}
+use Rattle.rebuild_core.specs.Soundness.{IsReferencedOnce, IsSound}
 use Rattle.rebuild_core.specs.Opening.{opened, processed}
+use Rattle.rebuild_core.specs.Readable.{IsReadable}
 
 -- ---- one site for each disclosure
 
 -- exactly one item of the met list has the digest
 abbrev pub StandsOnce : Tree → List Given → Text → Type 0
-StandsOnce p given digest = (place : ℕ) × At (item_digests (met p given)) place digest × ((other : ℕ) → At (item_digests (met p given)) other digest → other ≡ place)
+StandsOnce p given digest = (place : ℕ) × StandsAt (owned_digests (met p given)) place digest × ((other : ℕ) → StandsAt (owned_digests (met p given)) other digest → other ≡ place)
 
 -- disclosure i stands at a site of the owner
 abbrev pub StandsIn : Tree → List Given → ℕ → Owner → Type 0
-StandsIn p given i owner = (x : Given) × At given i x × (s : Site) × In (item owner s) (met p given) × (s.digest ≡ x.digest)
+StandsIn p given i owner = (x : Given) × StandsAt given i x × (s : Site) × In (owned_site owner s) (met p given) × (s.digest ≡ x.digest)
 
 -- from this owner, the owner of the site of each disclosure in turn, up to the payload
 abbrev pub LeadsUp : Tree → List Given → Owner → List ℕ → Type 0
@@ -32,8 +35,8 @@ LeadsUp p given owner (i ∷ is) = (owner ≡ value_of i) × (above : Owner) × 
 -- each disclosure stands at one place, from which the owners lead to the payload with none twice, and opening needs no more
 -- fuel than there are disclosures
 pub record HasOneSite (p : Tree) (given : List Given) : Type 0 where
-  pub once : (i : ℕ) (x : Given) → At given i x → StandsOnce p given x.digest
-  pub leads : (i : ℕ) (x : Given) → At given i x → (is : List ℕ) × LeadsUp p given (value_of i) is × (length is ≤ length given) × IsDistinct eqb is
+  pub once : (i : ℕ) (x : Given) → StandsAt given i x → StandsOnce p given x.digest
+  pub leads : (i : ℕ) (x : Given) → StandsAt given i x → (is : List ℕ) × LeadsUp p given (value_of i) is × (length is ≤ length given) × IsDistinct eqb is
   pub settled : (fuel : ℕ) → length given ≤ fuel → opened fuel given p ≡ opened (length given) given p
 
 abbrev pub OneSite : Type 0
@@ -46,11 +49,6 @@ SizeBound = (p : Tree) (given : List Given) → IsReferencedOnce p given → nod
 
 -- ---- presenting a choice
 
--- the names of each object ascend, each once, as they do in every tree that is read
-pub record IsReadable (p : Tree) (given : List Given) : Type 0 where
-  pub in_payload : IsOrdered p
-  pub in_values : (x : Given) → In x given → IsOrdered x.value
-
 -- the list has each number of the choice once, and no other
 pub record Enumerates (choice : ℕ → Bool) (order : List ℕ) : Type 0 where
   pub distinct : IsDistinct eqb order
@@ -62,32 +60,32 @@ abbrev pub IsPick : List Given → List ℕ → List Given → Type 0
 IsPick given [] [] = Unit {0}
 IsPick given [] (x ∷ xs) = ⊥
 IsPick given (i ∷ order) [] = ⊥
-IsPick given (i ∷ order) (x ∷ xs) = At given i x × IsPick given order xs
+IsPick given (i ∷ order) (x ∷ xs) = StandsAt given i x × IsPick given order xs
 
 -- the place of a number in the list, where the first has the place k
-abbrev pub place_from : ℕ → List ℕ → ℕ → Option ℕ
-place_from k [] i = None
-place_from k (j ∷ order) i = if eqb j i then Some k else place_from (suc k) order i
+abbrev pub position_from : ℕ → List ℕ → ℕ → Option ℕ
+position_from k [] i = None
+position_from k (j ∷ order) i = if eqb j i then Some k else position_from (suc k) order i
 
 -- each mark replaced by its place in the list
-abbrev pub numbered : List ℕ → Marked → Marked
-numbered order m = remark (place_from 0 order) m
+abbrev pub renumbered : List ℕ → Marked → Marked
+renumbered order m = remark (position_from 0 order) m
 
 -- what is presented is sound again, and shows what was not left out
-pub record IsPresented (p : Tree) (given picked : List Given) (choice : ℕ → Bool) (order : List ℕ) : Type 0 where
+pub record IsPresentation (p : Tree) (given picked : List Given) (choice : ℕ → Bool) (order : List ℕ) : Type 0 where
   pub sound : IsSound p picked
-  pub pruned : processed p picked ≡ numbered order (prune (processed p given) choice)
+  pub pruned : processed p picked ≡ renumbered order (prune (processed p given) choice)
 
 abbrev pub Presentation : Type 0
 Presentation =
     (p : Tree) (given : List Given) → IsReadable p given → IsSound p given
     → (choice : ℕ → Bool) → ((i : ℕ) → choice i ≡ true → i < length given) → IsClosed (processed p given) choice
     → (order : List ℕ) → Enumerates choice order → (picked : List Given) → IsPick given order picked
-    → IsPresented p given picked choice order
+    → IsPresentation p given picked choice order
 
 -- in rising order the places are the ranks
 abbrev pub Ranks : Type 0
-Ranks = (m : Marked) (choice : ℕ → Bool) (order : List ℕ) → Enumerates choice order → IsRising order → numbered order (prune m choice) ≡ ranked (prune m choice) choice
+Ranks = (m : Marked) (choice : ℕ → Bool) (order : List ℕ) → Enumerates choice order → IsRising order → renumbered order (prune m choice) ≡ ranked (prune m choice) choice
 
 -- of the disclosures on the way to wanted paths: they are sound again, and show the processed payload without what is hidden and
 -- leads to none of these; each mark is its rank among the chosen

@@ -1,5 +1,5 @@
 pub mod Payload
-pub mod Given
+pub mod Reached
 pub mod Opening
 pub mod Conditions
 pub mod Laws
@@ -9,9 +9,12 @@ pub mod RowNames
 pub mod Disclosed
 pub mod Graph
 pub mod Met
-pub mod Numbers
+pub mod DigestNumbers
 pub mod Cursor
 pub mod Whole
 pub mod Unhidden
 pub mod Free
 pub mod AllShown
+pub mod Soundness
+pub mod LookUps
+pub mod Readable

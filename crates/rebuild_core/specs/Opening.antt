@@ -4,22 +4,22 @@ use Rattle.claim_tree.specs.Tree.{Text, Tree, leaf, array, object, Elements, no_
 use Rattle.digest_sites.specs.Reserved.{sd_name, sd_texts, element_digest}
 use Rattle.digest_sites.specs.Given.{Given}
 use Rattle.marked_tree.specs.Marked.{Marked, marked_leaf, marked_array, marked_object, MarkedElements, no_marked_elements, marked_element, MarkedMembers, no_marked_members, marked_member, put}
-use Rattle.rebuild_core.specs.Given.{find}
+use Rattle.rebuild_core.specs.Reached.{find}
 
 -- what a digest shows: nothing, or a disclosure with its number, its name or none, and its opened value
 pub data Shown : Type 0 where
-  hidden : Shown
+  nothing_shown : Shown
   shown : ℕ → Option Text → Marked → Shown
 
 -- in place of an element that stands for a hidden one
 abbrev pub show_element : Shown → MarkedElements → MarkedElements
-show_element hidden es = es
+show_element nothing_shown es = es
 show_element (shown i None t) es = marked_element (Some i) t es
 show_element (shown i (Some name) t) es = es
 
 -- for a text of `_sd`, beside the members that are there
 abbrev pub show_member : Shown → MarkedMembers → MarkedMembers
-show_member hidden ms = ms
+show_member nothing_shown ms = ms
 show_member (shown i None t) ms = ms
 show_member (shown i (Some name) t) ms = put name (Some i) t ms
 
@@ -48,12 +48,12 @@ abbrev mutual
   open_members reveals (member name t ms) = if bytes_eq name sd_name then open_members reveals ms else marked_member name None (open_tree reveals t) (open_members reveals ms)
 
 abbrev pub shown_by : (Tree → Marked) → Option (ℕ × Given) → Shown
-shown_by opens None = hidden
+shown_by opens None = nothing_shown
 shown_by opens (Some found) = shown found.0 found.1.name (opens found.1.value)
 
 -- what a digest shows, down to disclosures that lie so many deep in each other
 abbrev pub reveal : ℕ → List Given → Text → Shown
-reveal zero given digest = hidden
+reveal zero given digest = nothing_shown
 reveal (suc fuel) given digest = shown_by (open_tree (reveal fuel given)) (find given digest)
 
 abbrev pub opened : ℕ → List Given → Tree → Marked

@@ -1,21 +1,22 @@
 -- For private functions: what is shown, and how deep it is.
 use Rattle.std.specs.Prelude.{ℕ, ◌<◌, ◌^◌, max, List, [], ◌∷◌, length, Bool, true, false, Option, Some, None, not, ◌&&◌, bytes_eq, if◌then◌else◌}
 use Rattle.claim_tree.specs.Tree.{Text, Tree, leaf, array, object, Elements, no_elements, element, Members, no_members, member, depth}
-use Rattle.claim_tree.specs.Lists.{At, In}
+use Rattle.claim_tree.specs.Lists.{StandsAt, In}
 use Rattle.claim_tree.specs.Removed.{removed}
 use Rattle.digest_sites.specs.Reserved.{sd_name, sd_texts, element_digest}
 use Rattle.digest_sites.specs.Given.{Given}
-use Rattle.marked_tree.specs.Marked.{strip, MarkedElements, no_marked_elements, marked_element, MarkedMembers, no_marked_members, marked_member, marked_names}
+use Rattle.marked_tree.specs.Marked.{strip, MarkedElements, no_marked_elements, marked_element, MarkedMembers, no_marked_members, marked_member}
+use Rattle.marked_tree.specs.MarkedCalls.{marked_names}
 use Rattle.marked_tree.specs.View.{marked_of}
 use Rattle.rebuild_core.specs.Payload.{alg_name}
-use Rattle.rebuild_core.specs.Opening.{Shown, hidden, shown, show_member, reveal, open_members}
+use Rattle.rebuild_core.specs.Opening.{Shown, nothing_shown, shown, show_member, reveal, open_members}
 use Rattle.rebuild_core.specs.Cursor.{tree_digests, TellEach}
 use Rattle.rebuild_core.specs.declared.errors.ProcessError.{ProcessError}
 use Rattle.rebuild_core.specs.declared.shown.Revealed.{Revealed}
 
 -- what a digest shows, as the code has it
 abbrev pub shown_of : Option Revealed → Shown
-shown_of None = hidden
+shown_of None = nothing_shown
 shown_of (Some r) = shown r.mark r.name (marked_of r.tree)
 
 -- what each digest shows, without fuel
@@ -36,7 +37,7 @@ members_joined (marked_member name i t ms) ns = marked_member name i t (members_
 
 -- what a digest shows, before these members
 abbrev pub shown_member : Shown → MarkedMembers → MarkedMembers
-shown_member hidden ms = ms
+shown_member nothing_shown ms = ms
 shown_member (shown i None t) ms = ms
 shown_member (shown i (Some name) t) ms = marked_member name (Some i) t ms
 
@@ -55,7 +56,7 @@ IfTooDeep _ P = ⊥
 
 -- 0 where nothing is shown
 abbrev pub shown_depth : Shown → ℕ
-shown_depth hidden = 0
+shown_depth nothing_shown = 0
 shown_depth (shown i name t) = depth (strip t)
 
 -- the greatest
@@ -77,7 +78,7 @@ stays top name = not (bytes_eq name sd_name) && not (top && bytes_eq name alg_na
 
 -- a member with a name that is not there, where it is shown
 abbrev pub IsNew : Shown → MarkedMembers → Type 0
-IsNew hidden ms = Unit {0}
+IsNew nothing_shown ms = Unit {0}
 IsNew (shown i None t) ms = ⊥
 IsNew (shown i (Some name) t) ms = In name (marked_names ms) → ⊥
 
@@ -88,7 +89,7 @@ AllNew reveals (digest ∷ digests) ms = IsNew (reveals digest) ms × AllNew rev
 
 -- an element, where it is shown
 abbrev pub IsElement : Shown → Type 0
-IsElement hidden = Unit {0}
+IsElement nothing_shown = Unit {0}
 IsElement (shown i None t) = Unit {0}
 IsElement (shown i (Some name) t) = ⊥
 
@@ -123,4 +124,4 @@ abbrev mutual
 pub record IsOpenable (given : List Given) (numbers ends : List ℕ) : Type 0 where
   pub few : length given < 2 ^ 32
   pub told : TellEach tree_digests given numbers ends
-  pub whole : (j : ℕ) (x : Given) → At given j x → OpensWhole (settled given) x.value
+  pub whole : (j : ℕ) (x : Given) → StandsAt given j x → OpensWhole (settled given) x.value

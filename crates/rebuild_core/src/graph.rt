@@ -1,6 +1,6 @@
 // Which disclosures are reached, and the met list, over numbers.
 ghost use Rattle.std.specs.Prelude.{◌≡◌, ◌<◌, ◌≤◌, ◌++◌, ◌∷◌, [], ℕ, suc, true, false, length, IfOk, OnOk, slice_index_or, slice_set, replicate, MatchOption};
-ghost use Rattle.claim_tree.specs.Lists.{In, Nowhere, IsLeast};
+ghost use Rattle.claim_tree.specs.Lists.{In, AtNone, IsLeast};
 ghost use Rattle.rebuild_core.specs.Graph.{cut, Ascends, roots_in, rows_in, is_in, mark_one, mark_all, flagged_rows, Recurs, IsClear};
 
 use sd_outside::NoMemory;
@@ -126,7 +126,7 @@ pub(crate) fn first_recurring(
     numbers: &[usize],
 ) -> Result<Option<usize>, NoMemory>
     requires { (k : ℕ) → In k numbers.now → k < count }
-    ensures { IfOk result (λ r. MatchOption r (Nowhere (Recurs numbers.now)) (λ place. IsLeast (Recurs numbers.now) place)) }
+    ensures { IfOk result (λ r. MatchOption r (AtNone (Recurs numbers.now)) (λ place. IsLeast (Recurs numbers.now) place)) }
 {
     let mut seen = cleared(alloc, count)?;
     for (place, k) in numbers.iter().enumerate() {
@@ -140,7 +140,7 @@ pub(crate) fn first_recurring(
 
 // The first flag that is not set.
 pub(crate) fn first_clear(flags: &[bool]) -> Option<usize>
-    ensures { MatchOption result (Nowhere (IsClear flags.now)) (λ i. IsLeast (IsClear flags.now) i) }
+    ensures { MatchOption result (AtNone (IsClear flags.now)) (λ i. IsLeast (IsClear flags.now) i) }
 {
     for (i, flag) in flags.iter().enumerate() {
         if !*flag {

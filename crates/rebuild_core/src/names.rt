@@ -1,16 +1,16 @@
 // Whether each disclosure fits its place: its shape, its name, and the names beside it.
 ghost use Rattle.std.specs.Prelude.{◌≡◌, ◌<◌, ◌&&◌, ℕ, true, not, eqb, if◌then◌else◌, ◌↔◌, map, length, IsTrue, IfOk, OnOk, MatchOption, MatchResult, bytes_eq, option_map};
 ghost use Rattle.claim_tree.specs.Tree.{Text};
-ghost use Rattle.claim_tree.specs.Lists.{At, In, Nowhere, IsLeast};
+ghost use Rattle.claim_tree.specs.Lists.{StandsAt, In, AtNone, IsLeast};
 ghost use Rattle.claim_tree.specs.View.{tree_of};
-ghost use Rattle.digest_sites.specs.Given.{given_of};
+ghost use Rattle.digest_sites.specs.GivenView.{given_of};
 ghost use Rattle.rebuild_core.specs.Payload.{alg_name, without_alg};
-ghost use Rattle.rebuild_core.specs.Conditions.{IsReferencedOnce, IsWellNamed};
-ghost use Rattle.rebuild_core.specs.Answer.{IsPayload, IsRefusal};
+ghost use Rattle.rebuild_core.specs.Soundness.{IsReferencedOnce, IsWellNamed};
+ghost use Rattle.rebuild_core.specs.Answer.{IsPayload, IsProcessRefused};
 ghost use Rattle.rebuild_core.specs.Rows.{seen, beside_names, all_rows};
-ghost use Rattle.rebuild_core.specs.Numbers.{IsNumbered};
-ghost use Rattle.rebuild_core.specs.RowNames.{IsWrongRow, IsReservedRow, StandsAt, given_name, Clashes};
-ghost use Rattle.rebuild_core.specs.Disclosed.{has_name};
+ghost use Rattle.rebuild_core.specs.DigestNumbers.{IsNumbered};
+ghost use Rattle.rebuild_core.specs.RowNames.{IsWrongRow, IsReservedRow, StandsAtRow, given_name, Clashes};
+ghost use Rattle.rebuild_core.specs.Disclosed.{is_name_disclosed};
 
 use crate::errors::ProcessError;
 use crate::readable::is_readable;
@@ -24,7 +24,7 @@ use std::collections::BTreeSet;
 // The disclosure with a number.
 fn given_at(given: &GivenList, number: usize) -> &Given
     requires { number < length given.now }
-    ensures { At given.now number (given_of result.now) }
+    ensures { StandsAt given.now number (given_of result.now) }
 {
     &given.items()[number]
 }
@@ -62,7 +62,7 @@ fn is_reserved(row: &Row<'_>, item: &Given) -> bool
 // The first disclosure whose shape is wrong where it stands.
 pub(crate) fn first_wrong(rows: &[Row<'_>], numbers: &[usize], given: &GivenList) -> Option<usize>
     requires { length numbers.now ≡ length rows.now }
-    ensures { MatchOption result (Nowhere (StandsAt IsWrongRow (map seen rows.now) numbers.now given.now)) (λ i. IsLeast (StandsAt IsWrongRow (map seen rows.now) numbers.now given.now) i) }
+    ensures { MatchOption result (AtNone (StandsAtRow IsWrongRow (map seen rows.now) numbers.now given.now)) (λ i. IsLeast (StandsAtRow IsWrongRow (map seen rows.now) numbers.now given.now) i) }
 {
     let mut least = given.len();
     for (place, row) in rows.iter().enumerate() {
@@ -85,7 +85,7 @@ pub(crate) fn first_reserved(
     given: &GivenList,
 ) -> Option<usize>
     requires { length numbers.now ≡ length rows.now }
-    ensures { MatchOption result (Nowhere (StandsAt IsReservedRow (map seen rows.now) numbers.now given.now)) (λ i. IsLeast (StandsAt IsReservedRow (map seen rows.now) numbers.now given.now) i) }
+    ensures { MatchOption result (AtNone (StandsAtRow IsReservedRow (map seen rows.now) numbers.now given.now)) (λ i. IsLeast (StandsAtRow IsReservedRow (map seen rows.now) numbers.now given.now) i) }
 {
     let mut least = given.len();
     for (place, row) in rows.iter().enumerate() {
@@ -142,8 +142,8 @@ fn note(
     object: usize,
     name: &TextBox,
 ) -> Result<bool, NoMemory>
-    ensures new { IfOk result (λ new. new ≡ not (has_name disclosed.old object name.now)) }
-    ensures noted { OnOk result ((o : ℕ) (n : Text) → has_name disclosed.new o n ≡ (if eqb object o && bytes_eq name.now n then true else has_name disclosed.old o n)) }
+    ensures new { IfOk result (λ new. new ≡ not (is_name_disclosed disclosed.old object name.now)) }
+    ensures noted { OnOk result ((o : ℕ) (n : Text) → is_name_disclosed disclosed.new o n ≡ (if eqb object o && bytes_eq name.now n then true else is_name_disclosed disclosed.old o n)) }
 {
     let name = TextBox::make(alloc, name.as_str())?;
     Ok(disclosed.insert(Disclosed { object, name })?)
@@ -157,7 +157,7 @@ pub(crate) fn first_clash(
     given: &GivenList,
 ) -> Result<Option<usize>, NoMemory>
     requires { length numbers.now ≡ length rows.now }
-    ensures { IfOk result (λ r. MatchOption r (Nowhere (Clashes (map seen rows.now) numbers.now given.now)) (λ place. IsLeast (Clashes (map seen rows.now) numbers.now given.now) place)) }
+    ensures { IfOk result (λ r. MatchOption r (AtNone (Clashes (map seen rows.now) numbers.now given.now)) (λ place. IsLeast (Clashes (map seen rows.now) numbers.now given.now) place)) }
 {
     let mut disclosed = BTreeSet::new(alloc);
     for (place, row) in rows.iter().enumerate() {
@@ -182,7 +182,7 @@ pub(crate) fn check_names(
     requires rows { map seen rows.now ≡ all_rows (tree_of payload.now) given.now }
     requires referenced { IsReferencedOnce (without_alg (tree_of payload.now)) given.now }
     requires numbered { IsNumbered (without_alg (tree_of payload.now)) given.now numbers.now }
-    ensures { MatchResult result (λ _. IsWellNamed (without_alg (tree_of payload.now)) given.now) (λ e. IsRefusal (without_alg (tree_of payload.now)) given.now e) }
+    ensures { MatchResult result (λ _. IsWellNamed (without_alg (tree_of payload.now)) given.now) (λ e. IsProcessRefused (without_alg (tree_of payload.now)) given.now e) }
 {
     is_readable(payload, given);
     if let Some(i) = first_wrong(rows, numbers, given) {

@@ -1,10 +1,10 @@
 // Digests as numbers, by the places at which they were first seen.
 ghost use Rattle.std.specs.Prelude.{◌≡◌, ◌≤◌, ◌^◌, ◌-◌, [], length, IfOk, OnOk, MatchOption};
-ghost use Rattle.claim_tree.specs.Lists.{Nowhere, IsLeast};
-ghost use Rattle.rebuild_core.specs.Given.{given_digests};
+ghost use Rattle.claim_tree.specs.Lists.{AtNone, IsLeast};
+ghost use Rattle.rebuild_core.specs.Reached.{given_digests};
 ghost use Rattle.rebuild_core.specs.Conditions.{RepeatedDisclosure};
-ghost use Rattle.rebuild_core.specs.Given.{counted, RoseWithin};
-ghost use Rattle.rebuild_core.specs.Numbers.{numbers, all_interned, row_texts};
+ghost use Rattle.rebuild_core.specs.LookUps.{counted, RoseWithin};
+ghost use Rattle.rebuild_core.specs.DigestNumbers.{numbers, all_interned, row_texts};
 
 use crate::rows::Row;
 use digest_index::{DigestIndex, Steps};
@@ -26,7 +26,7 @@ pub(crate) fn number_given(
     steps: &mut Steps,
 ) -> Result<Option<usize>, NoMemory>
     requires { index.old ≡ [] }
-    ensures repeated { IfOk result (λ r. MatchOption r (Nowhere (RepeatedDisclosure given.now)) (λ i. IsLeast (RepeatedDisclosure given.now) i)) }
+    ensures repeated { IfOk result (λ r. MatchOption r (AtNone (RepeatedDisclosure given.now)) (λ i. IsLeast (RepeatedDisclosure given.now) i)) }
     ensures all { IfOk result (λ r. MatchOption r (index.new ≡ given_digests given.now) (λ i. Unit {0})) }
     ensures counted { IfOk result (λ r. MatchOption r (steps.new ≡ counted steps.old (length given.now)) (λ i. Unit {0})) }
     ensures risen { RoseWithin (length given.now) steps.old steps.new }

@@ -1,17 +1,17 @@
 // A payload opened without search: the digests of its sites are read as numbers, in their order.
 ghost use Rattle.std.specs.Prelude.{◌≡◌, ℕ, ◌+◌, ◌^◌, ◌<◌, ◌≤◌, length, drop, slice_index, OnOk, MatchOption, MatchResult};
 ghost use Rattle.claim_tree.specs.Tree.{Text, object, depth, elements_depth, members_depth};
-ghost use Rattle.claim_tree.specs.Lists.{At};
+ghost use Rattle.claim_tree.specs.Lists.{StandsAt};
 ghost use Rattle.claim_tree.specs.View.{tree_of};
 ghost use Rattle.digest_sites.specs.Reserved.{sd_texts, element_digest as digest_in};
-ghost use Rattle.digest_sites.specs.Given.{given_of};
+ghost use Rattle.digest_sites.specs.GivenView.{given_of};
 ghost use Rattle.marked_tree.specs.Marked.{strip, strip_elements, strip_members};
 ghost use Rattle.marked_tree.specs.View.{marked_of, marked_members_of};
-ghost use Rattle.rebuild_core.specs.Answer.{IsRefusal};
-ghost use Rattle.rebuild_core.specs.Conditions.{IsReferencedOnce, IsWellNamed, IsSound};
+ghost use Rattle.rebuild_core.specs.Answer.{IsProcessRefused};
+ghost use Rattle.rebuild_core.specs.Soundness.{IsReferencedOnce, IsWellNamed, IsSound};
 ghost use Rattle.rebuild_core.specs.Payload.{without_alg};
 ghost use Rattle.rebuild_core.specs.Opening.{open_tree, open_elements, open_members, processed};
-ghost use Rattle.rebuild_core.specs.Cursor.{Tells, TellFirst, AreTold, tree_digests, elements_digests, members_digests};
+ghost use Rattle.rebuild_core.specs.Cursor.{NumberTells, TellFirst, NumbersTell, tree_digests, elements_digests, members_digests};
 ghost use Rattle.rebuild_core.specs.Whole.{IsOpenable, OpensWhole, ElementsWhole, MembersWhole, IfTooDeep, settled, shown_of, shown_depth, shown_depths, shown_members, topped, stays as stays_in};
 
 use crate::ProcessError;
@@ -45,7 +45,7 @@ fn own_count(map: &TreeMap) -> usize
 // The disclosure with a number, if there is one.
 #[tactic(auto, using(crate::proofs::ListOpening::disclosure_found))]
 fn disclosure<'a>(given: &'a GivenList, number: usize) -> Option<&'a Given>
-    ensures { MatchOption result (length given.now ≤ number) (λ item. At given.now number (given_of item.now)) }
+    ensures { MatchOption result (length given.now ≤ number) (λ item. StandsAt given.now number (given_of item.now)) }
 {
     given.at(number)
 }
@@ -62,7 +62,7 @@ fn open_next(
     requires ready { IsOpenable given.now graph.now.numbers.items graph.now.ends.items }
     requires within { at.old < length graph.now.numbers.items }
     ensures moved { OnOk result (at.new ≡ at.old + 1) }
-    ensures shown { (digest : Text) → Tells given.now (slice_index graph.now.numbers.items at.old) digest → MatchResult result (λ r. (shown_of r ≡ settled given.now digest) × (shown_depth (shown_of r) ≤ limit)) (λ e. IfTooDeep e (limit < shown_depth (settled given.now digest))) }
+    ensures shown { (digest : Text) → NumberTells given.now (slice_index graph.now.numbers.items at.old) digest → MatchResult result (λ r. (shown_of r ≡ settled given.now digest) × (shown_depth (shown_of r) ≤ limit)) (λ e. IfTooDeep e (limit < shown_depth (settled given.now digest))) }
 {
     let number = graph.numbers[*at];
     *at += 1;
@@ -225,8 +225,8 @@ pub(crate) fn open_payload(
     requires few { length given.now < 2 ^ 32 }
     requires referenced { IsReferencedOnce (without_alg (tree_of payload.now)) given.now }
     requires named { IsWellNamed (without_alg (tree_of payload.now)) given.now }
-    requires told { AreTold (without_alg (tree_of payload.now)) given.now graph.now.numbers.items graph.now.ends.items }
-    ensures { MatchResult result (λ m. IsSound (without_alg (tree_of payload.now)) given.now × (marked_of m ≡ processed (without_alg (tree_of payload.now)) given.now)) (IsRefusal (without_alg (tree_of payload.now)) given.now) }
+    requires told { NumbersTell (without_alg (tree_of payload.now)) given.now graph.now.numbers.items graph.now.ends.items }
+    ensures { MatchResult result (λ m. IsSound (without_alg (tree_of payload.now)) given.now × (marked_of m ≡ processed (without_alg (tree_of payload.now)) given.now)) (IsProcessRefused (without_alg (tree_of payload.now)) given.now) }
 {
     let mut at = 0;
     match payload {

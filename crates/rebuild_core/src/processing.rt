@@ -4,9 +4,9 @@ ghost use Rattle.claim_tree.specs.Tree.{depth, IsRanged};
 ghost use Rattle.claim_tree.specs.View.{tree_of};
 ghost use Rattle.marked_tree.specs.Marked.{strip};
 ghost use Rattle.marked_tree.specs.View.{marked_of};
-ghost use Rattle.rebuild_core.specs.Answer.{IsPayload, ValuesShallow, ValuesRanged, IsRefusal};
-ghost use Rattle.rebuild_core.specs.Conditions.{IsSound};
-ghost use Rattle.rebuild_core.specs.Given.{look_ups, counted, RoseWithin};
+ghost use Rattle.rebuild_core.specs.Answer.{IsPayload, ValuesShallow, ValuesRanged, IsProcessRefused};
+ghost use Rattle.rebuild_core.specs.Soundness.{IsSound};
+ghost use Rattle.rebuild_core.specs.LookUps.{look_ups, counted, RoseWithin};
 ghost use Rattle.rebuild_core.specs.Opening.{processed};
 ghost use Rattle.rebuild_core.specs.Payload.{without_alg};
 ghost use Rattle.rebuild_core.specs.Unhidden.{is_unhidden as is_unhidden_of};
@@ -47,7 +47,7 @@ pub fn process(
     ensures sound { IfOk result (λ _. IsSound (without_alg (tree_of payload.now)) given.now) }
     ensures processed { IfOk result (λ marked. marked_of marked ≡ processed (without_alg (tree_of payload.now)) given.now) }
     ensures ranged { IfOk result (λ marked. IsRanged (strip (marked_of marked))) }
-    ensures refused { IfErr result (IsRefusal (without_alg (tree_of payload.now)) given.now) }
+    ensures refused { IfErr result (IsProcessRefused (without_alg (tree_of payload.now)) given.now) }
 
     // the look-ups
     ensures counted { IfOk result (λ _. steps.new ≡ counted steps.old (look_ups (without_alg (tree_of payload.now)) given.now)) }
@@ -75,7 +75,7 @@ fn open_nothing(payload: Tree, given: &GivenList, steps: &mut Steps) -> Result<T
     ensures sound { IfOk result (λ _. IsSound (without_alg (tree_of payload)) given.now) }
     ensures processed { IfOk result (λ tree. tree_of tree ≡ strip (processed (without_alg (tree_of payload)) given.now)) }
     ensures ranged { IfOk result (λ tree. IsRanged (tree_of tree)) }
-    ensures refused { IfErr result (IsRefusal (without_alg (tree_of payload)) given.now) }
+    ensures refused { IfErr result (IsProcessRefused (without_alg (tree_of payload)) given.now) }
     ensures counted { steps.new ≡ counted steps.old (look_ups (without_alg (tree_of payload)) given.now) }
     ensures risen { RoseWithin (look_ups (without_alg (tree_of payload)) given.now) steps.old steps.new }
 {
@@ -100,7 +100,7 @@ pub fn process_payload(
     ensures sound { IfOk result (λ _. IsSound (without_alg (tree_of payload)) given.now) }
     ensures processed { IfOk result (λ tree. tree_of tree ≡ strip (processed (without_alg (tree_of payload)) given.now)) }
     ensures ranged { IfOk result (λ tree. IsRanged (tree_of tree)) }
-    ensures refused { IfErr result (IsRefusal (without_alg (tree_of payload)) given.now) }
+    ensures refused { IfErr result (IsProcessRefused (without_alg (tree_of payload)) given.now) }
 
     // the look-ups
     ensures counted { IfOk result (λ _. steps.new ≡ counted steps.old (look_ups (without_alg (tree_of payload)) given.now)) }

@@ -1,7 +1,7 @@
 // Every tree has ascending names, by the invariants of what it holds.
 ghost use Rattle.claim_tree.specs.Tree.{IsOrdered};
 ghost use Rattle.claim_tree.specs.View.{tree_of};
-ghost use Rattle.rebuild_core.specs.Laws.{IsReadable};
+ghost use Rattle.rebuild_core.specs.Readable.{IsReadable};
 
 use claim_tree::Tree;
 use digest_sites::GivenList;

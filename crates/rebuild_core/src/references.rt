@@ -1,15 +1,17 @@
 // Whether each disclosure stands at one place.
 ghost use Rattle.std.specs.Prelude.{◌≡◌, ◌<◌, ◌≤◌, ℕ, suc, map, length, IfOk, OnOk, IfErr, MatchOption};
-ghost use Rattle.claim_tree.specs.Lists.{In, Nowhere, IsLeast};
+ghost use Rattle.claim_tree.specs.Lists.{In, AtNone, IsLeast};
 ghost use Rattle.claim_tree.specs.Tree.{IsOrdered, depth};
 ghost use Rattle.claim_tree.specs.View.{tree_of};
-ghost use Rattle.rebuild_core.specs.Answer.{IsPayload, ValuesShallow, IsRefusal};
-ghost use Rattle.rebuild_core.specs.Conditions.{RepeatedDisclosure, Misused, IsReferencedOnce};
-ghost use Rattle.rebuild_core.specs.Given.{given_digests, look_ups, counted, RoseWithin};
+ghost use Rattle.rebuild_core.specs.Answer.{IsPayload, ValuesShallow, IsProcessRefused};
+ghost use Rattle.rebuild_core.specs.Conditions.{RepeatedDisclosure, Misused};
+ghost use Rattle.rebuild_core.specs.Soundness.{IsReferencedOnce};
+ghost use Rattle.rebuild_core.specs.Reached.{given_digests};
+ghost use Rattle.rebuild_core.specs.LookUps.{look_ups, counted, RoseWithin};
 ghost use Rattle.rebuild_core.specs.Graph.{Ascends, Recurs};
-ghost use Rattle.rebuild_core.specs.Cursor.{AreTold};
+ghost use Rattle.rebuild_core.specs.Cursor.{NumbersTell};
 ghost use Rattle.rebuild_core.specs.Met.{met_in, IsGivenRefusal};
-ghost use Rattle.rebuild_core.specs.Numbers.{numbers, all_interned, row_texts, IsFlat, IsNumbered};
+ghost use Rattle.rebuild_core.specs.DigestNumbers.{numbers, all_interned, row_texts, IsFlatList, IsNumbered};
 ghost use Rattle.rebuild_core.specs.Payload.{without_alg};
 ghost use Rattle.rebuild_core.specs.Rows.{seen, all_rows as rows_of};
 
@@ -44,7 +46,7 @@ fn is_ordered(payload: &Tree)
 // The first tree that misuses a reserved name: 0 is the payload, and i + 1 value i.
 fn first_misused(payload: &Tree, given: &GivenList) -> Option<usize>
     requires { IsPayload (tree_of payload.now) }
-    ensures { MatchOption result (Nowhere (Misused (without_alg (tree_of payload.now)) given.now)) (λ i. IsLeast (Misused (without_alg (tree_of payload.now)) given.now) i) }
+    ensures { MatchOption result (AtNone (Misused (without_alg (tree_of payload.now)) given.now)) (λ i. IsLeast (Misused (without_alg (tree_of payload.now)) given.now) i) }
 {
     is_ordered(payload);
     if is_misused(payload) {
@@ -72,7 +74,7 @@ fn index_given(
     given: &GivenList,
     steps: &mut Steps,
 ) -> Result<DigestIndex, ProcessError>
-    ensures repeated { IfOk result (λ _. Nowhere (RepeatedDisclosure given.now)) }
+    ensures repeated { IfOk result (λ _. AtNone (RepeatedDisclosure given.now)) }
     ensures index { IfOk result (λ index. index ≡ given_digests given.now) }
     ensures refused { IfErr result (IsGivenRefusal given.now) }
     ensures counted { IfOk result (λ _. steps.new ≡ counted steps.old (length given.now)) }
@@ -120,11 +122,11 @@ fn number_all<'a>(
     requires object { IsPayload (tree_of payload.now) }
     requires payload { depth (tree_of payload.now) ≤ 127 }
     requires values { ValuesShallow given.now }
-    ensures repeated { IfOk result (λ _. Nowhere (RepeatedDisclosure given.now)) }
-    ensures misused { IfOk result (λ _. Nowhere (Misused (without_alg (tree_of payload.now)) given.now)) }
+    ensures repeated { IfOk result (λ _. AtNone (RepeatedDisclosure given.now)) }
+    ensures misused { IfOk result (λ _. AtNone (Misused (without_alg (tree_of payload.now)) given.now)) }
     ensures rows { IfOk result (λ found. map seen found.rows.items ≡ rows_of (tree_of payload.now) given.now) }
-    ensures flat { IfOk result (λ found. IsFlat (tree_of payload.now) given.now found.index found.graph.numbers.items found.graph.ends.items) }
-    ensures refused { IfErr result (IsRefusal (without_alg (tree_of payload.now)) given.now) }
+    ensures flat { IfOk result (λ found. IsFlatList (tree_of payload.now) given.now found.index found.graph.numbers.items found.graph.ends.items) }
+    ensures refused { IfErr result (IsProcessRefused (without_alg (tree_of payload.now)) given.now) }
     ensures counted { IfOk result (λ _. steps.new ≡ counted steps.old (look_ups (without_alg (tree_of payload.now)) given.now)) }
     ensures risen { RoseWithin (look_ups (without_alg (tree_of payload.now)) given.now) steps.old steps.new }
 {
@@ -156,7 +158,7 @@ fn first_met_twice(
     requires ascends { Ascends 0 graph.now.ends.items (length graph.now.numbers.items) }
     requires flags { length graph.now.ends.items ≡ suc (length flags.now) }
     requires below { (k : ℕ) → In k (met_in graph.now flags.now) → k < count }
-    ensures { IfOk result (λ r. MatchOption r (Nowhere (Recurs (met_in graph.now flags.now))) (λ place. IsLeast (Recurs (met_in graph.now flags.now)) place)) }
+    ensures { IfOk result (λ r. MatchOption r (AtNone (Recurs (met_in graph.now flags.now))) (λ place. IsLeast (Recurs (met_in graph.now flags.now)) place)) }
 {
     let met = met_numbers(alloc, graph, flags)?;
     first_recurring(alloc, count, met.as_slice())
@@ -170,11 +172,11 @@ fn check_met(
     numbered: &Numbered<'_>,
 ) -> Result<(), ProcessError>
     requires object { IsPayload (tree_of payload.now) }
-    requires flat { IsFlat (tree_of payload.now) given.now numbered.now.index numbered.now.graph.numbers.items numbered.now.graph.ends.items }
-    requires repeated { Nowhere (RepeatedDisclosure given.now) }
-    requires misused { Nowhere (Misused (without_alg (tree_of payload.now)) given.now) }
+    requires flat { IsFlatList (tree_of payload.now) given.now numbered.now.index numbered.now.graph.numbers.items numbered.now.graph.ends.items }
+    requires repeated { AtNone (RepeatedDisclosure given.now) }
+    requires misused { AtNone (Misused (without_alg (tree_of payload.now)) given.now) }
     ensures referenced { OnOk result (IsReferencedOnce (without_alg (tree_of payload.now)) given.now) }
-    ensures refused { IfErr result (IsRefusal (without_alg (tree_of payload.now)) given.now) }
+    ensures refused { IfErr result (IsProcessRefused (without_alg (tree_of payload.now)) given.now) }
 {
     is_ordered(payload);
     let flags = match reach(alloc, given.len(), &numbered.graph) {
@@ -207,8 +209,8 @@ pub(crate) fn check_references<'a>(
     ensures referenced { IfOk result (λ _. IsReferencedOnce (without_alg (tree_of payload.now)) given.now) }
     ensures rows { IfOk result (λ found. map seen found.rows.items ≡ rows_of (tree_of payload.now) given.now) }
     ensures numbers { IfOk result (λ found. IsNumbered (without_alg (tree_of payload.now)) given.now found.graph.numbers.items) }
-    ensures told { IfOk result (λ found. AreTold (without_alg (tree_of payload.now)) given.now found.graph.numbers.items found.graph.ends.items) }
-    ensures refused { IfErr result (IsRefusal (without_alg (tree_of payload.now)) given.now) }
+    ensures told { IfOk result (λ found. NumbersTell (without_alg (tree_of payload.now)) given.now found.graph.numbers.items found.graph.ends.items) }
+    ensures refused { IfErr result (IsProcessRefused (without_alg (tree_of payload.now)) given.now) }
     ensures counted { IfOk result (λ _. steps.new ≡ counted steps.old (look_ups (without_alg (tree_of payload.now)) given.now)) }
     ensures risen { RoseWithin (look_ups (without_alg (tree_of payload.now)) given.now) steps.old steps.new }
 {

@@ -2,7 +2,8 @@
 ghost use Rattle.std.specs.Prelude.{◌≡◌, ◌≤◌, ◌++◌, ◌∷◌, [], Some, map, length, false, OnOk, IfOk, IsSome};
 ghost use Rattle.claim_tree.specs.Lists.{In};
 ghost use Rattle.claim_tree.specs.Tree.{depth, elements_depth, members_depth};
-ghost use Rattle.claim_tree.specs.View.{tree_of, elements_of};
+ghost use Rattle.claim_tree.specs.View.{tree_of};
+ghost use Rattle.claim_tree.specs.ListViews.{elements_of};
 ghost use Rattle.digest_sites.specs.Reserved.{texts_of, texts_or_none, sd_texts, element_digest as digest_in};
 ghost use Rattle.rebuild_core.specs.Answer.{ValuesShallow};
 ghost use Rattle.rebuild_core.specs.Rows.{seen, own_row, beside_names, rows_on, tree_rows, element_rows, member_rows, all_rows as rows_of, row_ends};

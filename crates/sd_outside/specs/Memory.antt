@@ -1,4 +1,4 @@
--- What contracts see of the cabinet and the sink in memory.
+-- Not needed to believe the program's promises: what contracts see of the cabinet and the sink in memory.
 use Rattle.std.specs.Prelude.{◌≡◌, ◌<◌, ◌+◌, ◌-◌, ◌^◌, min, ℕ, length, take, slice_index_or, List, [], ◌∷◌, Option, None, Some, bytes_eq, if◌then◌else◌}
 
 -- names, each with the content under it
@@ -26,7 +26,7 @@ pub record SinkState : Type 0 where
   pub faults : ℕ
 
 -- for private functions: the first file of this name stands at i
-pub record IsPlaceOf (files : Files) (name : List ℕ) (i : ℕ) : Type 0 where
+pub record IsPositionOf (files : Files) (name : List ℕ) (i : ℕ) : Type 0 where
   pub within : i < length files
   pub none_before : content_of (take i files) name ≡ None
   pub named : (d : List ℕ × List ℕ) → (slice_index_or files i d).0 ≡ name

@@ -1,7 +1,7 @@
 ghost use Rattle.std.specs.Prelude.{◌≡◌, ◌≢◌, ◌≤◌, ◌↔◌, List, ℕ, Option, None, Some, [], length, take, OnOk, OnErr, IfOk, IfSome, IsErrOf, IsSomeAnd, MatchOption};
 ghost use Rattle.std.specs.Option.{option_copied};
 ghost use Rattle.sd_outside.specs.Causes.{Rose};
-ghost use Rattle.sd_outside.specs.Memory.{content_of, one_more, IsPlaceOf};
+ghost use Rattle.sd_outside.specs.Memory.{content_of, one_more, IsPositionOf};
 
 use crate::{ByteBox, Cabinet, FetchError, NoMemory, TextBox};
 use std::alloc::Global;
@@ -58,7 +58,7 @@ impl MemCabinet {
 
 // Where the name stands first.
 fn place_of(files: &[(TextBox, ByteBox)], name: &str) -> Option<usize>
-    ensures { MatchOption result (content_of files.now name.now ≡ None) (IsPlaceOf files.now name.now) }
+    ensures { MatchOption result (content_of files.now name.now ≡ None) (IsPositionOf files.now name.now) }
 {
     for (i, file) in files.iter().enumerate() {
         if file.0.as_str() == name {

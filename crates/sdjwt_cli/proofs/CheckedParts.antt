@@ -13,7 +13,7 @@ use Rattle.hmac_sign.specs.Hmac.{IsGood, IsGoodText}
 use Rattle.hmac_sign.proofs.Macs.{AreBytes-mac}
 use Rattle.jws_part.specs.Header.{IsHeader}
 use Rattle.jws_part.specs.Part.{IsBody}
-use Rattle.rebuild_core.specs.Conditions.{IsSound}
+use Rattle.rebuild_core.specs.Soundness.{IsSound}
 use Rattle.rebuild_core.specs.Opening.{processed}
 use Rattle.rebuild_core.specs.Payload.{without_alg}
 use Rattle.verifier_core.specs.Check.{IsSigned}

@@ -7,7 +7,7 @@ use Rattle.json_form.proofs.Tokens as tokens
 use Rattle.sdjwt_cli.specs.declared.form.Form.{Form}
 use Rattle.sdjwt_cli.specs.Lines.{line, refusal}
 use Rattle.sdjwt_cli.specs.Converting.{written, Converts, IsConvertRefused, unread, too_much}
-use Rattle.sdjwt_cli.specs.Answers.{Verdict, gives, refuses, unreadable, ConvertAnswers}
+use Rattle.sdjwt_cli.specs.Answers.{Reply, gives, refuses, unreadable, ConvertAnswers}
 
 one_line : (form : Form) (file a b : List ℕ) → Converts form file a → Converts form file b → a ≡ b
 one_line form file a b g h = g.line_is ∙ (ap (λ (t : Token). line (written form t)) (tokens.one file g.token h.token g.reads h.reads) ∙ sym h.line_is)
@@ -24,7 +24,7 @@ one_fault form file f g (unread r) (too_much u s over d) = absurd (tokens.not_bo
 one_fault form file f g (too_much t r long e) (unread s) = absurd (tokens.not_both file t g r s)
 one_fault form file f g (too_much t r long e) (too_much u s over d) = e ∙ sym d
 
-pub one_convert : (form : Form) (file : List ℕ) (v w : Verdict) → ConvertAnswers form file v → ConvertAnswers form file w → v ≡ w
+pub one_convert : (form : Form) (file : List ℕ) (v w : Reply) → ConvertAnswers form file v → ConvertAnswers form file w → v ≡ w
 one_convert form file (gives a) (gives b) g h = ap gives (one_line form file a b g h)
 one_convert form file (gives a) (refuses t) g h = absurd (no_refusal form file a h.fault g h.refused)
 one_convert form file (gives a) (unreadable t) g h = absurd h

@@ -21,14 +21,14 @@ use Rattle.claim_tree.specs.declared.file_fault.Field.TheVariants.{Keys}
 use Rattle.claim_tree.specs.declared.file_fault.FileFault.TheVariants.{NotJson, Missing}
 use Rattle.holder_core.specs.declared.errors.PresentError.TheVariants.{HasBinding, ConsentRefused}
 use Rattle.issuer_core.specs.declared.errors.IssueError.TheVariants.{ReservedName, DigestClash, TooLong as IssueTooLong}
-use Rattle.issuer_core.specs.RefusalLine.{refusal_text}
+use Rattle.issuer_core.specs.RefusalLine.{issue_refusal_text}
 use Rattle.sdjwt_cli.specs.declared.form.Form.TheVariants.{Compact, Flat, General}
 use Rattle.sdjwt_cli.specs.Command.{split, verify, issue, present, convert, command_of}
-use Rattle.sdjwt_cli.specs.Lines.{line, refusal, unread, unreadable_line, short_seed}
+use Rattle.sdjwt_cli.specs.Lines.{line, refusal, unread_text, unreadable_line, short_seed}
 use Rattle.sdjwt_cli.specs.Never.{MayBeShown}
 use Rattle.sdjwt_cli.specs.Presenting.{present_refusal}
-use Rattle.sdjwt_cli.specs.Split.{Gives, Refuses}
-use Rattle.sdjwt_cli.specs.Show.{Shown, show_lines, Shows, has_known_hash}
+use Rattle.sdjwt_cli.specs.Split.{Splits, DoesNotSplit}
+use Rattle.sdjwt_cli.specs.Show.{ShownDisclosure, show_lines, Shows, has_known_hash}
 use Rattle.sdjwt_cli.specs.Converting.{written}
 
 -- ---- the words
@@ -70,7 +70,7 @@ nowhere : refusal (record { number = number_of condition.too_long; place = Nowhe
 unfolding digits
 nowhere = refl
 
-first_file : unread 0 ≡ codes "unread 1\n"
+first_file : unread_text 0 ≡ codes "unread 1\n"
 first_file = refl
 
 no_json : unreadable_line 1 NotJson ≡ codes "unreadable 1 notJson\n"
@@ -84,15 +84,15 @@ no_keys = refl
 too_short : short_seed ≡ codes "unreadable 2 short\n"
 too_short = refl
 
-at_a_pointer : line (refusal_text (ReservedName (codes "list" ∷ codes "0" ∷ codes "..." ∷ []))) ≡ codes "refused 52 reservedInPayload at \"/list/0/...\"\n"
+at_a_pointer : line (issue_refusal_text (ReservedName (codes "list" ∷ codes "0" ∷ codes "..." ∷ []))) ≡ codes "refused 52 reservedInPayload at \"/list/0/...\"\n"
 unfolding digits escape_byte
 at_a_pointer = refl
 
-at_two_places : line (refusal_text (DigestClash 0 2)) ≡ codes "refused 60 digestClash at 0 2\n"
+at_two_places : line (issue_refusal_text (DigestClash 0 2)) ≡ codes "refused 60 digestClash at 0 2\n"
 unfolding digits
 at_two_places = refl
 
-of_a_long_token : line (refusal_text IssueTooLong) ≡ codes "refused 61 issueTooLong\n"
+of_a_long_token : line (issue_refusal_text IssueTooLong) ≡ codes "refused 61 issueTooLong\n"
 unfolding digits
 of_a_long_token = refl
 
@@ -123,11 +123,11 @@ token_of parts outer = record { parts = parts; outer = outer }
 is_read : IsToken (codes "a.b.c~d~e.f.g") (token_of bound no_members)
 is_read = read_plainly (codes "a.b.c~d~e.f.g") (token_of bound no_members) refl (reads (codes "a.b.c~d~e.f.g") bound refl presented (omega arith)) refl
 
-of_a_presentation : Gives (codes "a.b.c~d~e.f.g") (codes "protected a\npayload b\nsignature c\ndisclosure 0 d\nbinding e.f.g\n")
+of_a_presentation : Splits (codes "a.b.c~d~e.f.g") (codes "protected a\npayload b\nsignature c\ndisclosure 0 d\nbinding e.f.g\n")
 unfolding digits
 of_a_presentation = record { token = token_of bound no_members; reads = is_read; lines = refl }
 
-of_a_jwt : Refuses (codes "a.b.c") (codes "refused 2 form at 5\n")
+of_a_jwt : DoesNotSplit (codes "a.b.c") (codes "refused 2 form at 5\n")
 unfolding digits
 of_a_jwt = record {
   fault = record { number = number_of condition.form; place = At 5 };
@@ -167,7 +167,7 @@ header = object alg_alone
 abbrev payload : Tree
 payload = object sd_alg_alone
 
-abbrev shown : Option Text → Shown
+abbrev shown : Option Text → ShownDisclosure
 shown name = record { digest = codes "qswwxPH-MjwEMOgKBBv2x2CF7lufmWFrWvVq7pj7YJE"; name = name; value = value }
 
 of_a_token : Shows token (codes "header {\"alg\":\"HS256\"}\npayload {\"_sd_alg\":\"sha-256\"}\ndisclosure 0 qswwxPH-MjwEMOgKBBv2x2CF7lufmWFrWvVq7pj7YJE element \"FR\"\n")

@@ -2,22 +2,22 @@
 use Rattle.std.proofs.Common.{◌≡◌, ◌⊎◌, inl, inr, ℕ, ◌+◌, List, [], ◌∷◌, Bool, true, false, cond, Option, None, Some, refl, sym, subst}
 use Rattle.std.specs.Prelude.{bytes_eq, codes}
 use Rattle.std.specs.Option.{option_map}
-use Rattle.claim_tree.specs.Lists.{At, In}
-use Rattle.sdjwt_cli.specs.Command.{Command, split, show, verify, issue, present, convert, command_of, Wanted, wanted_by}
+use Rattle.claim_tree.specs.Lists.{StandsAt, In}
+use Rattle.sdjwt_cli.specs.Command.{Command, split, show, verify, issue, present, convert, command_of, NamedFile, files_of}
 use Rattle.sdjwt_cli.specs.Forms.{form_of}
 use Rattle.sdjwt_cli.specs.declared.form.Form.{Form}
 
 abbrev AreWords : List (List ℕ) → Command → Type 0
-AreWords words command = (wanted : Wanted) → In wanted (wanted_by command) → At words (wanted.word + 1) wanted.name
+AreWords words command = (wanted : NamedFile) → In wanted (files_of command) → StandsAt words (wanted.word + 1) wanted.name
 
-abbrev IsWordOf : List (List ℕ) → Wanted → Type 0
-IsWordOf words wanted = At words (wanted.word + 1) wanted.name
+abbrev IsWordOf : List (List ℕ) → NamedFile → Type 0
+IsWordOf words wanted = StandsAt words (wanted.word + 1) wanted.name
 
-one_file : (words : List (List ℕ)) (file wanted : Wanted) → IsWordOf words file → (wanted ≡ file) ⊎ ⊥ → IsWordOf words wanted
+one_file : (words : List (List ℕ)) (file wanted : NamedFile) → IsWordOf words file → (wanted ≡ file) ⊎ ⊥ → IsWordOf words wanted
 one_file words file wanted is (inl same) = subst (IsWordOf words) (sym same) is
 one_file words file wanted is (inr none) = absurd none
 
-two_files : (words : List (List ℕ)) (file other wanted : Wanted) → IsWordOf words file → IsWordOf words other → (wanted ≡ file) ⊎ ((wanted ≡ other) ⊎ ⊥) → IsWordOf words wanted
+two_files : (words : List (List ℕ)) (file other wanted : NamedFile) → IsWordOf words file → IsWordOf words other → (wanted ≡ file) ⊎ ((wanted ≡ other) ⊎ ⊥) → IsWordOf words wanted
 two_files words file other wanted is next (inl same) = subst (IsWordOf words) (sym same) is
 two_files words file other wanted is next (inr more) = one_file words other wanted next more
 

@@ -11,11 +11,11 @@ use Rattle.marked_tree.specs.Marked.{Marked}
 use Rattle.rebuild_core.specs.Opening.{processed}
 use Rattle.verifier_core.specs.Verdict.{HasContent, Opens, IsChecked, key_for}
 use Rattle.verifier_core.proofs.CheckSteps.{one_content}
-use Rattle.issuer_core.specs.Digests.{marked_of}
+use Rattle.issuer_core.specs.Digests.{marked_claims}
 use Rattle.issuer_core.specs.Order.{Order}
 use Rattle.issuer_core.proofs.IssuedContent.{HasIssued, has_issued}
 use Rattle.holder_core.specs.declared.ask.Ask.{Ask}
-use Rattle.holder_core.specs.Present.{rules_of, IsHeld}
+use Rattle.holder_core.specs.Present.{held_rules, IsHeld}
 use Rattle.sdjwt_cli.specs.Issuing.{IsIssuedBy}
 use Rattle.sdjwt_cli.specs.Lines.{line}
 use Rattle.sdjwt_cli.specs.Presented.{alone}
@@ -54,15 +54,15 @@ module _ (seed : List ℕ) (o : Order) (key : List ℕ) (parts : Parts) (is : Is
   pub issued_content : HasContent (alone parts) is.has.payload is.has.given
   issued_content = content o key is.has.payload is.has.given parts (carries_issued seed o key parts is.has)
 
-  pub issued_held : (ask : Ask) → key_for ask.keys o.kid ≡ Some key → IsHeld (alone parts) ask (marked_of o)
+  pub issued_held : (ask : Ask) → key_for ask.keys o.kid ≡ Some key → IsHeld (alone parts) ask (marked_claims o)
   issued_held ask finds = record {
     unbound = is.has.written.unbound;
-    checked = subst (IsChecked (alone parts) (rules_of ask.keys)) is.has.issued.opens
-        (checked o key is.has.payload is.has.given parts (carries_issued seed o key parts is.has) (rules_of ask.keys) (record { alg = inl refl; typ = λ name none. cc none; finds = finds }) is.has.sound);
+    checked = subst (IsChecked (alone parts) (held_rules ask.keys)) is.has.issued.opens
+        (checked o key is.has.payload is.has.given parts (carries_issued seed o key parts is.has) (held_rules ask.keys) (record { alg = inl refl; typ = λ name none. cc none; finds = finds }) is.has.sound);
   }
 
   -- it processes to nothing else
-  pub one_marked : (marked : Marked) → Opens (alone parts) marked → marked ≡ marked_of o
+  pub one_marked : (marked : Marked) → Opens (alone parts) marked → marked ≡ marked_claims o
   one_marked marked (p, g, there, e) =
       let same = one_content (alone parts) p is.has.payload g is.has.given there issued_content in
       e ∙ (ap₂ processed same.0 same.1 ∙ is.has.issued.opens)

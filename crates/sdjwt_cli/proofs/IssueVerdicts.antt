@@ -5,17 +5,17 @@ use Rattle.compact_form.specs.Compact.{compact}
 use Rattle.hmac_sign.specs.Hmac.{IsGood}
 use Rattle.issuer_core.specs.declared.errors.IssueError.{IssueError}
 use Rattle.issuer_core.specs.Order.{Order}
-use Rattle.issuer_core.specs.Refusals.{IsLowest}
-use Rattle.issuer_core.specs.RefusalLine.{refusal_text}
+use Rattle.issuer_core.specs.OrderRefusals.{IsLowestRefusal}
+use Rattle.issuer_core.specs.RefusalLine.{issue_refusal_text}
 use Rattle.issuer_core.specs.Seed.{maker_of}
 use Rattle.issuer_core.specs.Written.{IsLaidOut}
-use Rattle.issuer_core.specs.Issue.{Applies}
+use Rattle.issuer_core.specs.Issue.{AppliesToIssue}
 use Rattle.issuer_core.proofs.OrderFiles as orders
 use Rattle.issuer_core.proofs.OneToken.{one_token, issued_not_refused}
 use Rattle.issuer_core.proofs.OneRefusal.{one_refusal}
 use Rattle.sdjwt_cli.specs.Lines.{line, unreadable_line}
 use Rattle.sdjwt_cli.specs.Issuing.{IsAsked, Issues, DoesNotIssue, HasNoOrder, no_order, no_seed}
-use Rattle.sdjwt_cli.specs.Answers.{Verdict, gives, refuses, unreadable, IssueAnswers}
+use Rattle.sdjwt_cli.specs.Answers.{Reply, gives, refuses, unreadable, IssueAnswers}
 
 -- what the files ask for is one
 module _ (order_file seed_file : List ℕ) (o p : Order) (key other : List ℕ) (seed grain : List ℕ) (this : IsAsked order_file seed_file o key seed) (that : IsAsked order_file seed_file p other grain) where
@@ -40,14 +40,14 @@ printed order seed a b g h =
 
 refused : (order seed : List ℕ) (a b : List ℕ) → DoesNotIssue order seed a → DoesNotIssue order seed b → a ≡ b
 refused order seed a b g h =
-    let lowest : IsLowest (Applies (maker_of h.seed) h.order (IsGood h.key)) g.error =
-    carried order seed g.order h.order g.key h.key g.seed h.seed g.asked h.asked (λ (o : Order) (k s : List ℕ). IsLowest (Applies (maker_of s) o (IsGood k)) g.error) g.lowest in
-    g.line_is ∙ (ap (λ (error : IssueError). line (refusal_text error)) (one_refusal (maker_of h.seed) h.order (IsGood h.key) g.error h.error lowest h.lowest) ∙ sym h.line_is)
+    let lowest : IsLowestRefusal (AppliesToIssue (maker_of h.seed) h.order (IsGood h.key)) g.error =
+    carried order seed g.order h.order g.key h.key g.seed h.seed g.asked h.asked (λ (o : Order) (k s : List ℕ). IsLowestRefusal (AppliesToIssue (maker_of s) o (IsGood k)) g.error) g.lowest in
+    g.line_is ∙ (ap (λ (error : IssueError). line (issue_refusal_text error)) (one_refusal (maker_of h.seed) h.order (IsGood h.key) g.error h.error lowest h.lowest) ∙ sym h.line_is)
 
 printed_not_refused : (order seed : List ℕ) (a b : List ℕ) → Issues order seed a → DoesNotIssue order seed b → ⊥
 printed_not_refused order seed a b g h =
-    let lowest : IsLowest (Applies (maker_of g.seed) g.order (IsGood g.key)) h.error =
-    carried order seed h.order g.order h.key g.key h.seed g.seed h.asked g.asked (λ (o : Order) (k s : List ℕ). IsLowest (Applies (maker_of s) o (IsGood k)) h.error) h.lowest in
+    let lowest : IsLowestRefusal (AppliesToIssue (maker_of g.seed) g.order (IsGood g.key)) h.error =
+    carried order seed h.order g.order h.key g.key h.seed g.seed h.asked g.asked (λ (o : Order) (k s : List ℕ). IsLowestRefusal (AppliesToIssue (maker_of s) o (IsGood k)) h.error) h.lowest in
     issued_not_refused (maker_of g.seed) g.order g.key g.parts g.answered.passes g.answered.differ g.answered.laid g.answered.short h.error lowest.applies
 
 -- what is asked for is of its form
@@ -61,7 +61,7 @@ one_reason order seed a b (no_order f r c is) (no_seed said says short also) = a
 one_reason order seed a b (no_seed said says short is) (no_order g q d also) = absurd (d (orders.not_both order said g says q))
 one_reason order seed a b (no_seed said says short is) (no_seed other also_says also_short also) = is ∙ sym also
 
-pub one_issue : (order seed : List ℕ) (v w : Verdict) → IssueAnswers order seed v → IssueAnswers order seed w → v ≡ w
+pub one_issue : (order seed : List ℕ) (v w : Reply) → IssueAnswers order seed v → IssueAnswers order seed w → v ≡ w
 one_issue order seed (gives a) (gives b) g h = ap gives (printed order seed a b g h)
 one_issue order seed (gives a) (refuses b) g h = absurd (printed_not_refused order seed a b g h)
 one_issue order seed (gives a) (unreadable b) g h = absurd (asked_not_unreadable order seed g.order g.key g.seed b g.asked h)

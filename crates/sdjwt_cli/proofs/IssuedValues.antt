@@ -12,13 +12,13 @@ use Rattle.disclosure.specs.declared.digests.HashAlg.{HashAlg}
 use Rattle.rand_chacha.specs.Block.{block_word, double_rounds, diagonal_round, quarter_round, column_round}
 use Rattle.rand_core.specs.Steps.{u32_at}
 use Rattle.issuer_core.specs.Salts.{salt_of, salt_piece}
-use Rattle.claim_tree.specs.Lists.{At, In, Repeats}
+use Rattle.claim_tree.specs.Lists.{StandsAt, In, Repeats}
 use Rattle.claim_tree.specs.Path.{tree_at}
 use Rattle.digest_sites.specs.Given.{Given}
 use Rattle.digest_sites.specs.Reserved.{sd_name, dots_name}
 use Rattle.rebuild_core.specs.Payload.{alg_name}
 use Rattle.rebuild_core.specs.Free.{HasNoReserved}
-use Rattle.marked_tree.specs.Places.{Path}
+use Rattle.marked_tree.specs.Paths.{Path}
 use Rattle.claim_tree.specs.JsonText.{json_text}
 use Rattle.sd_outside.specs.Limits.{issue_max}
 use Rattle.compact_form.specs.declared.parts.JwtParts.{JwtParts}
@@ -33,8 +33,8 @@ use Rattle.issuer_core.specs.declared.errors.IssueError.{IssueError}
 use Rattle.issuer_core.specs.declared.errors.IssueError.TheVariants.{Memory, SignFailed, PayloadNotObject, ReservedName, TooDeep, RootMarked, NoSuchPlace, ProtectedClaim, DecoyPlace, TooManyHidden, TooManyDecoys, DigestClash, TooLong}
 use Rattle.issuer_core.specs.Issue.{ClashesAt}
 use Rattle.issuer_core.specs.Laid.{IsLaid, with_alg}
-use Rattle.issuer_core.specs.Refusals.{Refuses, IsProtected, protected_names}
-use Rattle.issuer_core.specs.Reserved.{reserved_places}
+use Rattle.issuer_core.specs.OrderRefusals.{AppliesToOrder, IsProtected, protected_names}
+use Rattle.issuer_core.specs.ReservedPaths.{reserved_paths}
 use Rattle.issuer_core.specs.Digests.{made_texts}
 use Rattle.issuer_core.specs.GoodOrder.{IsWritable}
 use Rattle.issuer_core.specs.Written.{header_of, IsWritten}
@@ -107,7 +107,7 @@ payload =
     object (member (codes "_sd") (array (element (named first_digest) (element (named second_digest) no_elements)))
     (member (codes "cnf") (object (member (codes "kid") (named (codes "h")) no_members)) (member (codes "iss") (named (codes "i")) no_members)))
 
-made : (k : ℕ) (x : Given) → At given k x → digests k ≡ digest_of HashAlg.Sha256 ((maker_of seed).disclosure k x.name x.value)
+made : (k : ℕ) (x : Given) → StandsAt given k x → digests k ≡ digest_of HashAlg.Sha256 ((maker_of seed).disclosure k x.name x.value)
 made zero x is =
     subst (λ (y : Given). first_digest ≡ digest_of HashAlg.Sha256 ((maker_of seed).disclosure 0 y.name y.value)) (sym is) (sym (ap (digest_of HashAlg.Sha256) first_made ∙ first_hashed))
 made (suc zero) x is =
@@ -120,7 +120,7 @@ laid = record { payload_laid = refl; given_laid = refl; disclosures = made; deco
 
 -- ---- none of the refusals applies
 
-none_reserved : slice_get (reserved_places order.claims) 0 ≡ None
+none_reserved : slice_get (reserved_paths order.claims) 0 ≡ None
 unfolding sd_name dots_name alg_name
 none_reserved = refl
 
@@ -146,7 +146,7 @@ second_free (inr (inr (inr (inl e)))) = cc e
 second_free (inr (inr (inr (inr (inl e))))) = cc e
 second_free (inr (inr (inr (inr (inr none))))) = none
 
-passes : (error : IssueError) → Refuses order error → ⊥
+passes : (error : IssueError) → AppliesToOrder order error → ⊥
 passes Memory h = h
 passes SignFailed h = h
 passes PayloadNotObject h = h tt

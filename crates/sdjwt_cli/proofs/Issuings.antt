@@ -9,9 +9,11 @@ use Rattle.issuer_core.specs.declared.order_file.IssueFile.{IssueFile}
 use Rattle.issuer_core.specs.Order.{Order, order_of}
 use Rattle.issuer_core.specs.OrderFile.{IsOrderFile}
 use Rattle.issuer_core.specs.Digests.{Maker}
-use Rattle.issuer_core.specs.Refusals.{IsLowest}
-use Rattle.issuer_core.specs.RefusalLine.{refusal_text, IsRefusalLine}
-use Rattle.issuer_core.specs.Issue.{Applies, IsNotIssued}
+use Rattle.issuer_core.specs.OrderRefusals.{IsLowestRefusal}
+use Rattle.issuer_core.specs.RefusalLine.{issue_refusal_text}
+use Rattle.issuer_core.specs.RefusalCalls.{IsRefusalLine}
+use Rattle.issuer_core.specs.Issue.{AppliesToIssue}
+use Rattle.issuer_core.specs.IssueCalls.{IsNotIssued}
 use Rattle.sd_outside.specs.Limits.{seed_len}
 use Rattle.sdjwt_cli.specs.Issuing.{IsAsked}
 
@@ -24,12 +26,12 @@ never h = omega (arith, h)
 
 -- beside want of memory and a signer that fails an error is a refusal
 module _ (maker : Maker) (o : Order) (good : Meaning) where
-  pub lowest : (error : IssueError) → error ≢ Memory → error ≢ SignFailed → IsNotIssued maker o good error → IsLowest (Applies maker o good) error
+  pub lowest : (error : IssueError) → error ≢ Memory → error ≢ SignFailed → IsNotIssued maker o good error → IsLowestRefusal (AppliesToIssue maker o good) error
   lowest Memory memory failed h = absurd (memory refl)
   lowest SignFailed memory failed h = absurd (failed refl)
   lowest error memory failed h = h
 
-pub line_of : (error : IssueError) → error ≢ Memory → error ≢ SignFailed → (text : List ℕ) → IsRefusalLine error text → text ≡ refusal_text error
+pub line_of : (error : IssueError) → error ≢ Memory → error ≢ SignFailed → (text : List ℕ) → IsRefusalLine error text → text ≡ issue_refusal_text error
 line_of Memory memory failed text h = absurd (memory refl)
 line_of SignFailed memory failed text h = absurd (failed refl)
 line_of error memory failed text h = h

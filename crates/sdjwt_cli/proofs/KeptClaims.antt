@@ -5,13 +5,12 @@ use Rattle.claim_tree.specs.Tree.{Text, Tree, leaf, array, object, Elements, no_
 use Rattle.claim_tree.specs.Lists.{In}
 use Rattle.claim_tree.proofs.Lists.{bytes_same, In-At, list_any-In}
 use Rattle.marked_tree.specs.Marked.{Marked, MarkedMembers, strip, strip_elements, strip_members, remark, remark_elements, remark_members, keep_member, new_mark, kept, prune}
-use Rattle.marked_tree.specs.Places.{Path, below, hidden_in, one_if, mark_if, mark_from, mark_elements, mark_members, mark, is_among, same_path}
+use Rattle.marked_tree.specs.Paths.{Path, below, hidden_in, one_if, mark_if, mark_from, mark_elements, mark_members, mark, is_among, same_path, chosen}
 use Rattle.hmac_sign.specs.Keys.{text_under}
 use Rattle.key_binding.specs.Judged.{holder_kid}
-use Rattle.marked_tree.specs.Choice.{chosen}
-use Rattle.issuer_core.specs.Digests.{marked_of}
+use Rattle.issuer_core.specs.Digests.{marked_claims}
 use Rattle.issuer_core.specs.Order.{Order}
-use Rattle.issuer_core.specs.Refusals.{Refuses, NoneApplies, IsProtected, protected_names}
+use Rattle.issuer_core.specs.OrderRefusals.{AppliesToOrder, NoneApplies, IsProtected, protected_names}
 use Rattle.issuer_core.specs.declared.errors.IssueError.TheVariants.{ProtectedClaim}
 use Rattle.marked_tree.proofs.DifferentPaths.{path_same}
 use Rattle.sdjwt_cli.specs.Suits.{shown_for}
@@ -74,7 +73,7 @@ claim_kept (array es) hide name none s = refl
 claim_kept (object ms) hide name none s = member_kept (kept s) (is_among hide) name none 0 ms
 
 -- the claims that a verifier cannot do without are hidden nowhere
-not_hidden : (o : Order) → NoneApplies (Refuses o) → (name : Text) → In name protected_names → NonePasses (below name (is_among o.hide))
+not_hidden : (o : Order) → NoneApplies (AppliesToOrder o) → (name : Text) → In name protected_names → NonePasses (below name (is_among o.hide))
 not_hidden o passes name there path = go (is_among o.hide (name ∷ path)) refl
   where
     go : (b : Bool) → is_among o.hide (name ∷ path) ≡ b → b ≡ false
@@ -85,8 +84,8 @@ not_hidden o passes name there path = go (is_among o.hide (name ∷ path)) refl
         let at = In-At o.hide found.0 found.1 in
         absurd (passes (ProtectedClaim at.0) (found.0, at.1, subst IsProtected same there))
 
-pub holder_kept : (o : Order) → NoneApplies (Refuses o) → (want : List Path) → holder_kid (shown_for o want) ≡ holder_kid o.claims
-holder_kept o passes want = ap named_by (claim_kept o.claims o.hide (codes "cnf") (not_hidden o passes (codes "cnf") (inr (inr (inr (inr (inl refl)))))) (chosen (marked_of o) want))
+pub holder_kept : (o : Order) → NoneApplies (AppliesToOrder o) → (want : List Path) → holder_kid (shown_for o want) ≡ holder_kid o.claims
+holder_kept o passes want = ap named_by (claim_kept o.claims o.hide (codes "cnf") (not_hidden o passes (codes "cnf") (inr (inr (inr (inr (inl refl)))))) (chosen (marked_claims o) want))
   where
     named_by : Option Tree → Option Text
     named_by cnf = option_and_then (λ t. text_under t (codes "kid")) cnf

@@ -3,7 +3,7 @@ use Rattle.std.proofs.Common.{◌≡◌, ℕ, List, Option, Ok, Err, Result, Str
 use Rattle.sdjwt_cli.specs.declared.stop.Stop.{Stop}
 use Rattle.sdjwt_cli.specs.declared.stop.Stop.TheVariants.{Memory, Unread, Unreadable, Refused}
 use Rattle.sdjwt_cli.specs.Command.{Command}
-use Rattle.sdjwt_cli.specs.Answers.{Verdict, gives, refuses, unreadable, Answers, AreFetched, IsAnswered}
+use Rattle.sdjwt_cli.specs.Answers.{Reply, gives, refuses, unreadable, Answers, AreFetched, IsAnswered}
 use Rattle.sdjwt_cli.specs.Stops.{OnRefused, OnUnreadable}
 
 -- the bytes of a file, under what the cabinet holds at another moment
@@ -13,7 +13,7 @@ fetched_as o now_held most file bytes held same fetched =
     subst (λ (x : Option (List ℕ)). IfSome x (λ content. bytes ≡ take most content)) held (subst (λ (x : List ℕ). IfSome now_held (λ content. x ≡ take most content)) (sym same) fetched)
 
 module _ (holds : List ℕ → Option (List ℕ)) (command : Command) (files : List (List ℕ)) (fetched : AreFetched holds command files) (now : ℕ) where
-  answered : (verdict : Verdict) → Answers command files now verdict → IsAnswered holds command now verdict
+  answered : (verdict : Reply) → Answers command files now verdict → IsAnswered holds command now verdict
   answered verdict h = record { files = files; fetched = fetched; answers = h }
 
   pub lift_gives : (r : Result (String Global) Stop) → IfOk r (λ text. Answers command files now (gives (string_bytes text)))

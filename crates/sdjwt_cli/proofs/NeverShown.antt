@@ -4,7 +4,7 @@ use Rattle.std.specs.Prelude.{HoldsAt, MatchBool}
 use Rattle.std.specs.List.{AllWithin}
 use Rattle.claim_tree.specs.Lists.{In}
 use Rattle.claim_tree.specs.Path.{LeadsTo}
-use Rattle.marked_tree.specs.Places.{Path}
+use Rattle.marked_tree.specs.Paths.{Path}
 use Rattle.selection_core.specs.Consent.{Allows}
 use Rattle.holder_core.proofs.OnePresentation.{IsDecided}
 use Rattle.sdjwt_cli.specs.Never.{MayBeShown, Judges, never_rule}

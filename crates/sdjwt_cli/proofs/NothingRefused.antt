@@ -11,35 +11,35 @@ use Rattle.json_form.specs.Token.{IsToken}
 use Rattle.json_form.specs.declared.token.Token.{Token}
 use Rattle.json_form.proofs.Tokens as tokens
 use Rattle.key_binding.specs.Judged.{holder_kid}
-use Rattle.marked_tree.specs.Choice.{chosen}
 use Rattle.marked_tree.specs.Marked.{Marked, strip, prune}
-use Rattle.marked_tree.specs.Places.{place}
+use Rattle.marked_tree.specs.Paths.{mark_path, chosen}
 use Rattle.marked_tree.proofs.MarkFacts.{mark_strips_holds}
-use Rattle.selection_core.specs.Consent.{Answers, IsRefusedAt}
-use Rattle.selection_core.specs.Refusals.{IsMissing}
-use Rattle.issuer_core.specs.Digests.{marked_of}
+use Rattle.selection_core.specs.Consent.{RuleAnswers, IsRefusedAt}
+use Rattle.selection_core.specs.ChoiceRefusals.{IsMissing}
+use Rattle.issuer_core.specs.Digests.{marked_claims}
 use Rattle.issuer_core.specs.Order.{Order}
-use Rattle.issuer_core.specs.Refusals.{NoneApplies}
-use Rattle.issuer_core.specs.Refusals as issuing
+use Rattle.issuer_core.specs.OrderRefusals.{NoneApplies}
+use Rattle.issuer_core.specs.OrderRefusals as issuing
 use Rattle.holder_core.specs.declared.ask.Ask.{Ask}
 use Rattle.holder_core.specs.declared.ask.BindingAsk.{BindingAsk}
 use Rattle.holder_core.specs.declared.errors.PresentError.{PresentError}
 use Rattle.holder_core.specs.declared.errors.PresentError.TheVariants.{Memory, Token as OnCondition, HasBinding, NoSuchPlace, ConsentRefused, BindingKeyDiffers, SignFailed, TooLong}
-use Rattle.holder_core.specs.Present.{IsHeld, Presents, NamesKey, IsBoundAs, IsAnswer, Refuses, IsPresented, IsNotPresented, not_read, refused, no_memory}
+use Rattle.holder_core.specs.Present.{IsHeld, PicksParts, NamesKey, IsBoundAs, IsAnswer, IsNoAnswer, IsPresented, IsNotPresented, not_read, refused, no_memory}
 use Rattle.verifier_core.specs.declared.policy.Policy.{Policy}
 use Rattle.sdjwt_cli.specs.Presented.{alone}
-use Rattle.sdjwt_cli.specs.Suits.{Suits, AreShort, shown_for}
+use Rattle.sdjwt_cli.specs.Suits.{Suits, shown_for}
+use Rattle.sdjwt_cli.specs.PresentedValues.{AreShort}
 use Rattle.sdjwt_cli.proofs.HeldIssued.{IsTokenOf, issued_held, one_marked}
 use Rattle.sdjwt_cli.proofs.KeptClaims.{holder_kept}
 use Rattle.sdjwt_cli.proofs.PresentedAccepted.{IsPresentedOf}
 use Rattle.sdjwt_cli.proofs.PresentedShort.{answer_short}
 
-module _ (seed : List ℕ) (o : Order) (key : List ℕ) (parts : Parts) (passes : NoneApplies (issuing.Refuses o)) (is : IsTokenOf seed o key parts)
-    {F : Type 0} (answers : Answers F) (rule : F) (ask : Ask) (signing : List ℕ) (small : AreShort ask.binding) (now : ℕ) (in_range : now < 2 ^ 64) (text : List ℕ) (is_text : IsToken text (alone parts)) where
+module _ (seed : List ℕ) (o : Order) (key : List ℕ) (parts : Parts) (passes : NoneApplies (issuing.AppliesToOrder o)) (is : IsTokenOf seed o key parts)
+    {F : Type 0} (answers : RuleAnswers F) (rule : F) (ask : Ask) (signing : List ℕ) (small : AreShort ask.binding) (now : ℕ) (in_range : now < 2 ^ 64) (text : List ℕ) (is_text : IsToken text (alone parts)) where
   one_token : (token : Token) → IsToken text token → token ≡ alone parts
   one_token token there = tokens.one text token (alone parts) there is_text
 
-  marked_is : (marked : Marked) → IsHeld (alone parts) ask marked → marked ≡ marked_of o
+  marked_is : (marked : Marked) → IsHeld (alone parts) ask marked → marked ≡ marked_claims o
   marked_is marked held = one_marked seed o key parts is marked held.checked.opens
 
   one_hash : (hash : HashAlg) → hash ≡ HashAlg.Sha256
@@ -50,7 +50,7 @@ module _ (seed : List ℕ) (o : Order) (key : List ℕ) (parts : Parts) (passes 
   answer_presented answer a =
       let same = marked_is a.marked a.agreed.held in
       record {
-        presents = subst (λ (m : Marked). Presents parts (chosen m ask.want) answer.binding answer) same a.presents;
+        presents = subst (λ (m : Marked). PicksParts parts (chosen m ask.want) answer.binding answer) same a.presents;
         names = subst (λ (m : Marked). NamesKey ask.binding (strip (prune m (chosen m ask.want)))) same a.key;
         bound = subst (λ (h : HashAlg). IsBoundAs ask.binding (IsGood signing) h now answer) (one_hash a.hash) a.bound;
       }
@@ -61,7 +61,7 @@ module _ (seed : List ℕ) (o : Order) (key : List ℕ) (parts : Parts) (passes 
       (subst (λ (t : Token). IsAnswer answers rule t ask (IsGood signing) now answer) (one_token presented.token presented.is_token) presented.is_answer)
 
   module _ (policy : Policy) (later : ℕ) (suits : Suits answers rule o key ask signing policy now later) where
-    held : IsHeld (alone parts) ask (marked_of o)
+    held : IsHeld (alone parts) ask (marked_claims o)
     held = issued_held seed o key parts is ask suits.holder_finds
 
     stripped : (marked : Marked) → IsHeld (alone parts) ask marked → strip marked ≡ o.claims
@@ -74,7 +74,7 @@ module _ (seed : List ℕ) (o : Order) (key : List ℕ) (parts : Parts) (passes 
     not_refused_at marked there i r =
         let same = marked_is marked there in
         let is_chosen = subst (λ (m : Marked). chosen m ask.want i ≡ true) same r.chosen in
-        let stands = subst (λ (m : Marked). place m i ≡ Some r.at) same r.stands in
+        let stands = subst (λ (m : Marked). mark_path m i ≡ Some r.at) same r.stands in
         suits.unrefused i r.at is_chosen stands r.refused
 
     kid_differs : (one : BindingAsk) (marked : Marked) → IsHeld (alone parts) ask marked → ask.binding ≡ Some one → holder_kid (strip (prune marked (chosen marked ask.want))) ≢ Some one.kid → ⊥
@@ -86,10 +86,10 @@ module _ (seed : List ℕ) (o : Order) (key : List ℕ) (parts : Parts) (passes 
     too_long : (answer : Parts) → IsAnswer answers rule (alone parts) ask (IsGood signing) now answer → compact_max < length (compact answer) → ⊥
     too_long answer a long =
         let of = answer_presented answer a in
-        let short = answer_short signing HashAlg.Sha256 now in_range ask.binding small parts answer (chosen (marked_of o) ask.want) of.presents of.bound is.short in
+        let short = answer_short signing HashAlg.Sha256 now in_range ask.binding small parts answer (chosen (marked_claims o) ask.want) of.presents of.bound is.short in
         omega (arith, short, long)
 
-    refuses_nothing : (error : PresentError) → error ≢ Memory → error ≢ SignFailed → Refuses answers rule (alone parts) ask (IsGood signing) now error → ⊥
+    refuses_nothing : (error : PresentError) → error ≢ Memory → error ≢ SignFailed → IsNoAnswer answers rule (alone parts) ask (IsGood signing) now error → ⊥
     refuses_nothing Memory memory signed h = memory refl
     refuses_nothing SignFailed memory signed h = signed refl
     refuses_nothing HasBinding memory signed h = h is.has.written.unbound
@@ -104,4 +104,4 @@ module _ (seed : List ℕ) (o : Order) (key : List ℕ) (parts : Parts) (passes 
     nothing_refused error memory signed (not_read fault e h) = is_text.passes fault h.fails
     nothing_refused error memory signed (refused token there h) =
         refuses_nothing error memory signed
-        (subst (λ (t : Token). Refuses answers rule t ask (IsGood signing) now error) (one_token token there) h)
+        (subst (λ (t : Token). IsNoAnswer answers rule t ask (IsGood signing) now error) (one_token token there) h)

@@ -10,7 +10,7 @@ use Rattle.holder_core.proofs.OnePresentation.{HasOneSignature, one_presented, p
 use Rattle.sdjwt_cli.specs.Lines.{line, unreadable_line}
 use Rattle.sdjwt_cli.specs.Never.{never_rule}
 use Rattle.sdjwt_cli.specs.Presenting.{signing_key, IsPresentedFor, IsNotPresentedFor, present_refusal, Presents, DoesNotPresent, HasNoPresentOrder}
-use Rattle.sdjwt_cli.specs.Answers.{Verdict, gives, refuses, unreadable, PresentAnswers}
+use Rattle.sdjwt_cli.specs.Answers.{Reply, gives, refuses, unreadable, PresentAnswers}
 use Rattle.sdjwt_cli.proofs.NeverShown.{never_decided}
 
 one_signature : (key : List ℕ) → HasOneSignature (IsGood key)
@@ -54,7 +54,7 @@ printed_has_order order token now a b g h = h.cause (orders.not_both order g.sai
 refused_has_order : (order token : List ℕ) (now : ℕ) (a b : List ℕ) → DoesNotPresent order token now a → HasNoPresentOrder order b → ⊥
 refused_has_order order token now a b g h = h.cause (orders.not_both order g.said h.fault g.is_order h.refused)
 
-pub one_present : (order token : List ℕ) (now : ℕ) (v w : Verdict) → PresentAnswers order token now v → PresentAnswers order token now w → v ≡ w
+pub one_present : (order token : List ℕ) (now : ℕ) (v w : Reply) → PresentAnswers order token now v → PresentAnswers order token now w → v ≡ w
 one_present order token now (gives a) (gives b) g h = ap gives (printed order token now a b g h)
 one_present order token now (gives a) (refuses b) g h = absurd (printed_not_refused order token now a b g h)
 one_present order token now (gives a) (unreadable b) g h = absurd (printed_has_order order token now a b g h)

@@ -22,17 +22,18 @@ use Rattle.json_form.proofs.Tokens as tokens
 use Rattle.key_binding.specs.Binding.{IsBinding, IsReadBack}
 use Rattle.key_binding.specs.Judged.{judged, holder_kid, holder_key}
 use Rattle.key_binding.proofs.Accepted.{accepted}
-use Rattle.marked_tree.specs.Choice.{chosen}
+use Rattle.marked_tree.specs.Paths.{chosen}
 use Rattle.marked_tree.specs.Marked.{Marked, strip}
 use Rattle.marked_tree.specs.Laws.{HasEachMarkOnce}
 use Rattle.marked_tree.proofs.LeastChoice.{chosen_below}
 use Rattle.marked_tree.proofs.MarkFacts.{marks_once_holds}
 use Rattle.rebuild_core.specs.Opening.{processed}
-use Rattle.selection_core.specs.Consent.{Answers}
-use Rattle.verifier_core.specs.Verdict.{TokenFails, ClaimFails, HolderFails, Fails, of_file, of_missing, of_token, of_claims, of_holder, rules_of, Opens, HasContent, IsChecked, IsAcceptedAs, IsBindingMissing}
+use Rattle.selection_core.specs.Consent.{RuleAnswers}
+use Rattle.verifier_core.specs.Verdict.{TokenFails, ClaimFails, HolderFails, Fails, of_file, of_missing, of_token, of_claims, of_holder, rules_of, Opens, HasContent, IsChecked, IsBindingMissing}
+use Rattle.verifier_core.specs.Verdicts.{IsAcceptedAs}
 use Rattle.verifier_core.specs.declared.policy.Policy.{Policy}
 use Rattle.verifier_core.proofs.CheckSteps.{one_content}
-use Rattle.issuer_core.specs.Digests.{marked_of, hidden_of}
+use Rattle.issuer_core.specs.Digests.{marked_claims, hidden_of}
 use Rattle.issuer_core.specs.GoodOrder.{IsGoodOrder}
 use Rattle.issuer_core.specs.Laid.{with_alg}
 use Rattle.issuer_core.specs.Laws.{IsShownAs}
@@ -43,11 +44,12 @@ use Rattle.issuer_core.proofs.IssuedContent.{IsTextOf}
 use Rattle.issuer_core.proofs.IssuedShown.{issued_is_shown_holds}
 use Rattle.holder_core.specs.declared.ask.Ask.{Ask}
 use Rattle.holder_core.specs.declared.ask.BindingAsk.{BindingAsk}
-use Rattle.holder_core.specs.Present.{picked, Presents, NamesKey, IsBoundBy, IsBoundWith, IsBoundAs}
+use Rattle.holder_core.specs.Present.{picked, PicksParts, NamesKey, IsBoundBy, IsBoundWith, IsBoundAs}
 use Rattle.holder_core.proofs.PickedNumbers.{numbers, rising, enumerates, is_pick, zip_picked}
 use Rattle.sdjwt_cli.specs.Lines.{line}
 use Rattle.sdjwt_cli.specs.Presented.{alone}
-use Rattle.sdjwt_cli.specs.Suits.{Suits, AreShort, shown_for}
+use Rattle.sdjwt_cli.specs.Suits.{Suits, shown_for}
+use Rattle.sdjwt_cli.specs.PresentedValues.{AreShort}
 use Rattle.sdjwt_cli.proofs.CompactLines.{line_token}
 use Rattle.sdjwt_cli.proofs.CheckedParts.{Takes, CarriesFor, content, checked}
 use Rattle.sdjwt_cli.proofs.HeldIssued.{IsTokenOf, carries_issued}
@@ -55,14 +57,14 @@ use Rattle.sdjwt_cli.proofs.PresentedShort.{answer_words, answer_few, answer_sho
 
 -- the parts are what a holder presents of the issued ones, at a moment
 pub record IsPresentedOf (o : Order) (ask : Ask) (signing : List ℕ) (parts : Parts) (now : ℕ) (answer : Parts) : Type 0 where
-  pub presents : Presents parts (chosen (marked_of o) ask.want) answer.binding answer
+  pub presents : PicksParts parts (chosen (marked_claims o) ask.want) answer.binding answer
   pub names : NamesKey ask.binding (shown_for o ask.want)
   pub bound : IsBoundAs ask.binding (IsGood signing) HashAlg.Sha256 now answer
 
 module _ (seed : List ℕ) (o : Order) (key : List ℕ) (parts : Parts) (good : IsGoodOrder o) (is : IsTokenOf seed o key parts)
     (ask : Ask) (signing : List ℕ) (small : AreShort ask.binding) (now : ℕ) (in_range : now < 2 ^ 64) (answer : Parts) (presented : IsPresentedOf o ask signing parts now answer) where
   abbrev pub s : ℕ → Bool
-  s = chosen (marked_of o) ask.want
+  s = chosen (marked_claims o) ask.want
 
   abbrev pub p : Tree
   p = is.has.payload
@@ -72,8 +74,8 @@ module _ (seed : List ℕ) (o : Order) (key : List ℕ) (parts : Parts) (good : 
 
   few_chosen : (i : ℕ) → s i ≡ true → i < length g
   few_chosen i there =
-      let once : HasEachMarkOnce (marked_of o) (hidden_of o) = marks_once_holds o.claims o.hide in
-      let low = chosen_below (marked_of o) (hidden_of o) once ask.want i there in
+      let once : HasEachMarkOnce (marked_claims o) (hidden_of o) = marks_once_holds o.claims o.hide in
+      let low = chosen_below (marked_claims o) (hidden_of o) once ask.want i there in
       omega (arith, low, is.has.issued.count)
 
   pub what_is_shown : IsShownAs o ask.want p (picked s g)
@@ -115,7 +117,7 @@ module _ (seed : List ℕ) (o : Order) (key : List ℕ) (parts : Parts) (good : 
       ap strip (e ∙ ap₂ processed same.0 same.1) ∙ what_is_shown.shows
 
   -- of each text that is read as its parts no condition fails
-  module _ {F : Type 0} (answers : Answers F) (rule : F) (policy : Policy) (later : ℕ) (suits : Suits answers rule o key ask signing policy now later) (text : List ℕ) (is_text : IsToken text (alone answer)) where
+  module _ {F : Type 0} (answers : RuleAnswers F) (rule : F) (policy : Policy) (later : ℕ) (suits : Suits answers rule o key ask signing policy now later) (text : List ℕ) (is_text : IsToken text (alone answer)) where
     takes : Takes o key (rules_of policy)
     takes = record { alg = suits.alg; typ = suits.typ; finds = suits.verifier_finds }
 

@@ -6,14 +6,14 @@ use Rattle.claim_tree.specs.JsonText.{json_text}
 use Rattle.claim_tree.specs.Tree.{Tree}
 use Rattle.issuer_core.specs.Order.{Order}
 use Rattle.holder_core.proofs.PresentFiles as orders
-use Rattle.sdjwt_cli.specs.Answers.{Verdict, gives, refuses, unreadable, PresentAnswers, VerifyAnswers, Answers, IsAnswered}
+use Rattle.sdjwt_cli.specs.Answers.{Reply, gives, refuses, unreadable, PresentAnswers, VerifyAnswers, Answers, IsAnswered}
 use Rattle.sdjwt_cli.specs.Command.{Command, issue, present, verify, command_of}
 use Rattle.sdjwt_cli.specs.Issuing.{Issues}
 use Rattle.sdjwt_cli.specs.Lines.{line}
 use Rattle.sdjwt_cli.specs.Never.{never_rule}
 use Rattle.sdjwt_cli.specs.Presented.{AllSuits, OnlyGives, GivesAlone, IsShownWell, PresentedOverFiles, IsRun, Wrote, IsNoRefusal, RunsTo, RunsWell, PresentedOverRuns}
 use Rattle.sdjwt_cli.specs.Presenting.{signing_key}
-use Rattle.sdjwt_cli.specs.Run.{Outside, Ends, IsDone, IsRefused, IsUnreadable}
+use Rattle.sdjwt_cli.specs.Run.{Outside, Ends, EndsDone, EndsRefused, EndsUnreadable}
 use Rattle.sdjwt_cli.specs.Suits.{Suits, shown_for}
 use Rattle.sdjwt_cli.proofs.IssueVerdicts.{same_order, carried}
 use Rattle.sdjwt_cli.proofs.PresentedVerified.{not_refused, verifies}
@@ -63,10 +63,10 @@ wrote_is (Some xs) (Some ys) before text answer was is more =
 
 -- the verdict of a run that ended with an answer, or with a refusal
 module _ (command : Command) (files : List (List ℕ)) (now : ℕ) (before after : Outside) (status : Status) (run : IsRun command files now before after status) where
-  told_answers : (other : Command) (verdict : Verdict) → command_of run.words ≡ Some other → IsAnswered before.holds other now verdict → Answers command files now verdict
+  told_answers : (other : Command) (verdict : Reply) → command_of run.words ≡ Some other → IsAnswered before.holds other now verdict → Answers command files now verdict
   told_answers other verdict named answered = answers_told before.holds command other files now verdict (same_command (command_of run.words) other command named run.named) run.told answered
 
-  pub done_answers : status ≡ Status.Done → (e : IsDone run.words before after now) × Answers command files now (gives e.answer)
+  pub done_answers : status ≡ Status.Done → (e : EndsDone run.words before after now) × Answers command files now (gives e.answer)
   done_answers is = let e = subst (Ends run.words before after now) is run.ends in (e, told_answers e.command (gives e.answer) e.named e.answered)
 
   pub no_refusal : OnlyGives (Answers command files now) → IsNoRefusal status
@@ -74,13 +74,13 @@ module _ (command : Command) (files : List (List ℕ)) (now : ℕ) (before after
     where
       refused : status ≢ Status.Refused
       refused is =
-          let e : IsRefused run.words before after now = subst (Ends run.words before after now) is run.ends in
+          let e : EndsRefused run.words before after now = subst (Ends run.words before after now) is run.ends in
           let found = only (refuses e.text) (told_answers e.command (refuses e.text) e.named e.answered) in
           cc found.1
 
       odd : status ≢ Status.Unreadable
       odd is =
-          let e : IsUnreadable run.words before after now = subst (Ends run.words before after now) is run.ends in
+          let e : EndsUnreadable run.words before after now = subst (Ends run.words before after now) is run.ends in
           let found = only (unreadable e.text) (told_answers e.command (unreadable e.text) e.named e.answered) in
           cc found.1
 

@@ -17,9 +17,9 @@ use Rattle.jws_part.specs.Header.{header_members}
 use Rattle.key_binding.specs.Binding.{IsBinding, binding_header, claim_members, claims_for}
 use Rattle.key_binding.proofs.Bindings.{object_word, binding_short}
 use Rattle.holder_core.specs.declared.ask.BindingAsk.{BindingAsk}
-use Rattle.holder_core.specs.Present.{picked, Presents, IsBoundWith, IsBoundAs}
+use Rattle.holder_core.specs.Present.{picked, PicksParts, IsBoundWith, IsBoundAs}
 use Rattle.holder_core.proofs.Picking.{picked_words}
-use Rattle.sdjwt_cli.specs.Suits.{AreShort}
+use Rattle.sdjwt_cli.specs.PresentedValues.{AreShort}
 
 -- ---- disclosures that are picked
 
@@ -71,7 +71,7 @@ module _ (key : List ℕ) (hash : HashAlg) (text : Text) (now : ℕ) (in_range :
 -- ---- what is presented
 
 module _ (key : List ℕ) (hash : HashAlg) (now : ℕ) (in_range : now < 2 ^ 64) (asked : Option BindingAsk) (small : AreShort asked) (parts answer : Parts) (s : ℕ → Bool)
-    (presents : Presents parts s answer.binding answer) (bound : IsBoundAs asked (IsGood key) hash now answer) where
+    (presents : PicksParts parts s answer.binding answer) (bound : IsBoundAs asked (IsGood key) hash now answer) where
   pub answer_words : AreWords parts → AreWords answer
   answer_words words = record {
     signed = subst HasWords (sym presents.signed) words.signed;

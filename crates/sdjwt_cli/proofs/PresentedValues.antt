@@ -2,18 +2,19 @@
 use Rattle.std.proofs.Common.{ℕ, ◌<◌, ◌^◌, List}
 use Rattle.compact_form.specs.declared.parts.Parts.{Parts}
 use Rattle.json_form.specs.Token.{IsToken}
-use Rattle.selection_core.specs.Consent.{Answers}
+use Rattle.selection_core.specs.Consent.{RuleAnswers}
 use Rattle.issuer_core.specs.Order.{Order}
 use Rattle.verifier_core.specs.declared.policy.Policy.{Policy}
 use Rattle.holder_core.specs.declared.ask.Ask.{Ask}
 use Rattle.sdjwt_cli.specs.Issuing.{IsIssuedBy}
-use Rattle.sdjwt_cli.specs.Presented.{alone, IsAcceptedWith, IsShownAt, PresentedOverValues}
-use Rattle.sdjwt_cli.specs.Suits.{Suits, AreShort, shown_for}
+use Rattle.sdjwt_cli.specs.Presented.{alone}
+use Rattle.sdjwt_cli.specs.PresentedValues.{IsAcceptedWith, IsShownAt, PresentedOverValues, AreShort}
+use Rattle.sdjwt_cli.specs.Suits.{Suits, shown_for}
 use Rattle.sdjwt_cli.proofs.HeldIssued.{IsTokenOf, token_of, issued_text}
 use Rattle.sdjwt_cli.proofs.NothingRefused.{is_presented_of, nothing_refused}
 use Rattle.sdjwt_cli.proofs.PresentedAccepted.{IsPresentedOf, answer_text, answer_accepted}
 
-module _ {F : Type 0} (answers : Answers F) (rule : F) (seed : List ℕ) (o : Order) (key : List ℕ) (parts : Parts) (issued : IsIssuedBy seed o key parts)
+module _ {F : Type 0} (answers : RuleAnswers F) (rule : F) (seed : List ℕ) (o : Order) (key : List ℕ) (parts : Parts) (issued : IsIssuedBy seed o key parts)
     (ask : Ask) (signing : List ℕ) (policy : Policy) (now later : ℕ) (suits : Suits answers rule o key ask signing policy now later) (small : AreShort ask.binding) (in_range : now < 2 ^ 64) where
   is : IsTokenOf seed o key parts
   is = token_of seed o key parts issued
@@ -30,7 +31,7 @@ module _ {F : Type 0} (answers : Answers F) (rule : F) (seed : List ℕ) (o : Or
     verifies = λ answer presented. accepted_with answer (is_presented_of seed o key parts issued.passes is answers rule ask signing small now in_range token there answer presented);
   }
 
-pub presented_over_values : {F : Type 0} (answers : Answers F) (rule : F) → PresentedOverValues answers rule
+pub presented_over_values : {F : Type 0} (answers : RuleAnswers F) (rule : F) → PresentedOverValues answers rule
 presented_over_values answers rule seed o key parts issued ask signing policy now later suits small in_range = record {
   reads = issued_text seed o key parts (token_of seed o key parts issued);
   shown = shown_at answers rule seed o key parts issued ask signing policy now later suits small in_range;

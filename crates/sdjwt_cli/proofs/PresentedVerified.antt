@@ -9,7 +9,7 @@ use Rattle.compact_form.specs.Compact.{compact}
 use Rattle.json_form.specs.Token.{IsToken}
 use Rattle.key_binding.specs.ShortText.{IsShortText}
 use Rattle.verifier_core.specs.PolicyFile.{IsPolicyFile}
-use Rattle.verifier_core.specs.Verdict.{IsAcceptedAs}
+use Rattle.verifier_core.specs.Verdicts.{IsAcceptedAs}
 use Rattle.verifier_core.specs.declared.policy.Policy.{Policy}
 use Rattle.holder_core.specs.declared.ask.BindingAsk.{BindingAsk}
 use Rattle.holder_core.specs.declared.present_file.PresentFile.{PresentFile}
@@ -18,9 +18,10 @@ use Rattle.holder_core.proofs.PresentFiles.{one_present}
 use Rattle.sdjwt_cli.specs.Issuing.{Issues}
 use Rattle.sdjwt_cli.specs.Lines.{line}
 use Rattle.sdjwt_cli.specs.Never.{never_rule}
-use Rattle.sdjwt_cli.specs.Presented.{alone, IsShownAt}
+use Rattle.sdjwt_cli.specs.Presented.{alone}
+use Rattle.sdjwt_cli.specs.PresentedValues.{IsShownAt, AreShort}
 use Rattle.sdjwt_cli.specs.Presenting.{signing_key, Presents, DoesNotPresent, IsPresentedFor, IsNotPresentedFor}
-use Rattle.sdjwt_cli.specs.Suits.{Suits, AreShort, shown_for}
+use Rattle.sdjwt_cli.specs.Suits.{Suits, shown_for}
 use Rattle.sdjwt_cli.specs.Verify.{Verifies}
 use Rattle.sdjwt_cli.proofs.HeldIssued.{IsTokenOf, token_of, issued_line}
 use Rattle.sdjwt_cli.proofs.NothingRefused.{is_presented_of}

@@ -12,7 +12,8 @@ use Rattle.holder_core.specs.PresentFile.{IsPresentFile}
 use Rattle.sd_outside.specs.Limits.{compact_max}
 use Rattle.compact_form.specs.declared.parts.Parts.{Parts}
 use Rattle.compact_form.specs.Compact.{compact}
-use Rattle.sdjwt_cli.specs.Presenting.{IsPresentedFor, IsNotPresentedFor, present_refusal, HasLine, IsLineOf, IsRefusalOf, Presents, DoesNotPresent}
+use Rattle.sdjwt_cli.specs.Presenting.{IsPresentedFor, IsNotPresentedFor, present_refusal, Presents, DoesNotPresent}
+use Rattle.sdjwt_cli.specs.PresentingSteps.{HasLine, IsLineOf, IsRefusalOf}
 
 -- a signer that never fails
 pub never_fails : {X : Type 0} (r : Result X PresentError) → (IsErrOf r SignFailed → ⊥) → IfErr r (λ error. error ≢ SignFailed)

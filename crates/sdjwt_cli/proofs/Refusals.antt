@@ -1,13 +1,13 @@
 -- The line of a refusal, by the condition that fails.
 use Rattle.std.proofs.Common.{◌≡◌, ℕ, List, Option, ap, sym, subst}
 use Rattle.compact_form.specs.declared.fault.Fault.{Fault}
-use Rattle.json_form.specs.Token.{IsRefused}
+use Rattle.json_form.specs.Token.{IsTextRefused}
 use Rattle.compact_form.specs.Condition as condition
 use Rattle.compact_form.specs.Condition.{Condition, number_of, condition_of}
-use Rattle.verifier_core.specs.FaultLine.{refusal_text}
+use Rattle.verifier_core.specs.RefusalText.{refusal_text}
 use Rattle.compact_form.proofs.Numbers.{numbered}
 use Rattle.verifier_core.proofs.Verdicts.{file_condition}
-use Rattle.sdjwt_cli.specs.Lines.{line, refusal_of, refusal}
+use Rattle.sdjwt_cli.specs.Lines.{line, refusal_line_of, refusal}
 use Rattle.sdjwt_cli.specs.Show.{IsShowRefused, form, header, payload, hash, disclosure}
 use Rattle.sdjwt_cli.specs.Stops.{OnRefused}
 use Rattle.sdjwt_cli.specs.declared.form.Form.{Form}
@@ -15,10 +15,10 @@ use Rattle.sdjwt_cli.specs.declared.stop.Stop.{Stop}
 use Rattle.sdjwt_cli.specs.Converting.{IsConvertRefused, unread, too_much}
 
 pub refusal_is : (fault : Fault) (c : Condition) → fault.number ≡ number_of c → refusal fault ≡ line (refusal_text c fault.place)
-refusal_is fault c is = subst (λ (n : ℕ). refusal_of (condition_of n) fault.place ≡ line (refusal_text c fault.place)) (sym is) (ap (λ (o : Option Condition). refusal_of o fault.place) (numbered c))
+refusal_is fault c is = subst (λ (n : ℕ). refusal_line_of (condition_of n) fault.place ≡ line (refusal_text c fault.place)) (sym is) (ap (λ (o : Option Condition). refusal_line_of o fault.place) (numbered c))
 
 -- a token file is refused by the number of a condition
-pub form_condition : (file : List ℕ) (fault : Fault) → IsRefused file fault → (c : Condition) × (fault.number ≡ number_of c)
+pub form_condition : (file : List ℕ) (fault : Fault) → IsTextRefused file fault → (c : Condition) × (fault.number ≡ number_of c)
 form_condition file fault r = file_condition file fault r.fails
 
 pub show_condition : (file : List ℕ) (fault : Fault) → IsShowRefused file fault → (c : Condition) × (fault.number ≡ number_of c)

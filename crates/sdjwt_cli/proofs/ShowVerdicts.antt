@@ -3,7 +3,7 @@ use Rattle.std.proofs.Common.{◌≡◌, ℕ, List, [], ◌∷◌, ◌++◌, len
 use Rattle.std.specs.List.{AllZip}
 use Rattle.claim_tree.specs.Tree.{Text, Tree}
 use Rattle.jws_part.specs.Part.{IsBody, IsNoObject}
-use Rattle.jws_part.specs.Header.{IsUnreadable}
+use Rattle.jws_part.specs.Header.{IsHeaderUnreadable}
 use Rattle.jws_part.proofs.Parts as bodies
 use Rattle.disclosure.proofs.Verdicts as readings
 use Rattle.compact_form.specs.Condition as condition
@@ -16,12 +16,12 @@ use Rattle.json_form.specs.declared.token.Token.{Token}
 use Rattle.json_form.specs.Token.{IsToken}
 use Rattle.json_form.proofs.Tokens as tokens
 use Rattle.sdjwt_cli.specs.Lines.{refusal}
-use Rattle.sdjwt_cli.specs.Show.{has_known_hash, Shown, IsShown, IsUnread, show_lines, IsHead, IsPayload, Shows, IsUnreadAt, IsShowRefused, form, header, payload, hash, disclosure, DoesNotShow}
+use Rattle.sdjwt_cli.specs.Show.{has_known_hash, ShownDisclosure, IsShown, IsDisclosureUnread, show_lines, IsHead, IsShownPayload, Shows, IsShowUnreadAt, IsShowRefused, form, header, payload, hash, disclosure, DoesNotShow}
 
-abbrev shown_of : Text → Option Text → Tree → Shown
+abbrev shown_of : Text → Option Text → Tree → ShownDisclosure
 shown_of digest name value = record { digest = digest; name = name; value = value }
 
-one_reading : (disclosed : Text) (s t : Shown) → IsShown disclosed s → IsShown disclosed t → s ≡ t
+one_reading : (disclosed : Text) (s t : ShownDisclosure) → IsShown disclosed s → IsShown disclosed t → s ≡ t
 one_reading disclosed s t g h =
     let same = readings.one_disclosure disclosed g.salt h.salt s.name t.name s.value t.value g.is h.is in
     let digests : s.digest ≡ t.digest = g.digest_is ∙ sym h.digest_is in
@@ -29,7 +29,7 @@ one_reading disclosed s t g h =
     let values : s.value ≡ t.value = same.2 in
     ap (λ (x : Text). shown_of x s.name s.value) digests ∙ (ap (λ (x : Option Text). shown_of t.digest x s.value) names ∙ ap (λ (x : Tree). shown_of t.digest t.name x) values)
 
-all_readings : (ds : List Text) (ss ts : List Shown) → AllZip IsShown ds ss → AllZip IsShown ds ts → ss ≡ ts
+all_readings : (ds : List Text) (ss ts : List ShownDisclosure) → AllZip IsShown ds ss → AllZip IsShown ds ts → ss ≡ ts
 all_readings [] [] [] g h = refl
 all_readings [] [] (t ∷ ts) g h = absurd h
 all_readings [] (s ∷ ss) ts g h = absurd g
@@ -41,29 +41,29 @@ all_readings (d ∷ ds) (s ∷ ss) (t ∷ ts) g h =
     cc
 
 -- a disclosure that is read is not one that is not
-read_unread : (disclosed : Text) (s : Shown) → IsShown disclosed s → IsUnread disclosed → ⊥
+read_unread : (disclosed : Text) (s : ShownDisclosure) → IsShown disclosed s → IsDisclosureUnread disclosed → ⊥
 read_unread disclosed s g u = u.cause (readings.not_both disclosed g.salt s.name s.value u.error g.is u.refused)
 
-all_read : (front : List Text) (d : Text) (rest : List Text) (ss : List Shown) → AllZip IsShown (front ++ d ∷ rest) ss → IsUnread d → ⊥
+all_read : (front : List Text) (d : Text) (rest : List Text) (ss : List ShownDisclosure) → AllZip IsShown (front ++ d ∷ rest) ss → IsDisclosureUnread d → ⊥
 all_read [] d rest [] g u = g
 all_read [] d rest (s ∷ ss) g u = read_unread d s g.0 u
 all_read (x ∷ front) d rest [] g u = g
 all_read (x ∷ front) d rest (s ∷ ss) g u = all_read front d rest ss g.1 u
 
 -- of two fronts that are read, each before a text that is not, neither is longer
-one_front : (xs ys : List Text) (d e : Text) (ds es : List Text) (ss ts : List Shown) → xs ++ d ∷ ds ≡ ys ++ e ∷ es
-    → AllZip IsShown xs ss → AllZip IsShown ys ts → IsUnread d → IsUnread e → xs ≡ ys
+one_front : (xs ys : List Text) (d e : Text) (ds es : List Text) (ss ts : List ShownDisclosure) → xs ++ d ∷ ds ≡ ys ++ e ∷ es
+    → AllZip IsShown xs ss → AllZip IsShown ys ts → IsDisclosureUnread d → IsDisclosureUnread e → xs ≡ ys
 one_front [] [] d e ds es ss ts same g h u v = refl
 one_front [] (y ∷ ys) d e ds es ss [] same g h u v = absurd h
 one_front [] (y ∷ ys) d e ds es ss (t ∷ ts) same g h u v =
     let lists : d ∷ ds ≡ y ∷ (ys ++ e ∷ es) = same in
     let first : d ≡ y = cc lists in
-    absurd (read_unread y t h.0 (subst IsUnread first u))
+    absurd (read_unread y t h.0 (subst IsDisclosureUnread first u))
 one_front (x ∷ xs) [] d e ds es [] ts same g h u v = absurd g
 one_front (x ∷ xs) [] d e ds es (s ∷ ss) ts same g h u v =
     let lists : x ∷ (xs ++ d ∷ ds) ≡ e ∷ es = same in
     let first : e ≡ x = cc lists in
-    absurd (read_unread x s g.0 (subst IsUnread first v))
+    absurd (read_unread x s g.0 (subst IsDisclosureUnread first v))
 one_front (x ∷ xs) (y ∷ ys) d e ds es [] ts same g h u v = absurd g
 one_front (x ∷ xs) (y ∷ ys) d e ds es (s ∷ ss) [] same g h u v = absurd h
 one_front (x ∷ xs) (y ∷ ys) d e ds es (s ∷ ss) (t ∷ ts) same g h u v =
@@ -76,14 +76,14 @@ one_front (x ∷ xs) (y ∷ ys) d e ds es (s ∷ ss) (t ∷ ts) same g h u v =
 abbrev at_front : List Text → Fault
 at_front front = record { number = number_of condition.disclosure_unreadable; place = At (length front) }
 
-one_unread : (ds : List Text) (f g : Fault) → IsUnreadAt ds f → IsUnreadAt ds g → f ≡ g
+one_unread : (ds : List Text) (f g : Fault) → IsShowUnreadAt ds f → IsShowUnreadAt ds g → f ≡ g
 one_unread ds f g u v =
     let fronts : u.front ≡ v.front = one_front u.front v.front u.text v.text u.rest v.rest u.shown v.shown (sym u.stand ∙ v.stand) u.read v.read u.unread v.unread in
     u.fault_is ∙ (ap at_front fronts ∙ sym v.fault_is)
 
 -- over the token that one file has
-headless : (file : List ℕ) (p q : Token) (head : Tree) → IsToken file p → IsToken file q → IsUnreadable p.parts.signed.protected p.outer → IsHead q.parts.signed.protected q.outer head → ⊥
-headless file p q head r s u h = h.readable (subst (λ (x : Token). IsUnreadable x.parts.signed.protected x.outer) (tokens.one file p q r s) u)
+headless : (file : List ℕ) (p q : Token) (head : Tree) → IsToken file p → IsToken file q → IsHeaderUnreadable p.parts.signed.protected p.outer → IsHead q.parts.signed.protected q.outer head → ⊥
+headless file p q head r s u h = h.readable (subst (λ (x : Token). IsHeaderUnreadable x.parts.signed.protected x.outer) (tokens.one file p q r s) u)
 
 bodiless : (file : List ℕ) (p q : Token) (body : Tree) → IsToken file p → IsToken file q → IsNoObject p.parts.signed.payload → IsBody q.parts.signed.payload body → ⊥
 bodiless file p q body r s n b = bodies.not_both q.parts.signed.payload body b (subst (λ (x : Token). IsNoObject x.parts.signed.payload) (tokens.one file p q r s) n)
@@ -91,17 +91,17 @@ bodiless file p q body r s n b = bodies.not_both q.parts.signed.payload body b (
 one_payload : (file : List ℕ) (p q : Token) (b c : Tree) → IsToken file p → IsToken file q → IsBody p.parts.signed.payload b → IsBody q.parts.signed.payload c → b ≡ c
 one_payload file p q b c r s g h = bodies.one_body q.parts.signed.payload b c (subst (λ (x : Token). IsBody x.parts.signed.payload b) (tokens.one file p q r s) g) h
 
-hashless : (file : List ℕ) (p q : Token) (b c : Tree) → IsToken file p → IsToken file q → IsBody p.parts.signed.payload b → has_known_hash b ≡ false → IsPayload q.parts.signed.payload c → ⊥
+hashless : (file : List ℕ) (p q : Token) (b c : Tree) → IsToken file p → IsToken file q → IsBody p.parts.signed.payload b → has_known_hash b ≡ false → IsShownPayload q.parts.signed.payload c → ⊥
 hashless file p q b c r s g none h = clash (has_known_hash c) h.hash (subst (λ (x : Tree). has_known_hash x ≡ false) (one_payload file p q b c r s g h.body) none)
 
-same_unread : (file : List ℕ) (p q : Token) (f g : Fault) → IsToken file p → IsToken file q → IsUnreadAt p.parts.disclosures f → IsUnreadAt q.parts.disclosures g → f ≡ g
-same_unread file p q f g r s u v = one_unread q.parts.disclosures f g (subst (λ (x : Token). IsUnreadAt x.parts.disclosures f) (tokens.one file p q r s) u) v
+same_unread : (file : List ℕ) (p q : Token) (f g : Fault) → IsToken file p → IsToken file q → IsShowUnreadAt p.parts.disclosures f → IsShowUnreadAt q.parts.disclosures g → f ≡ g
+same_unread file p q f g r s u v = one_unread q.parts.disclosures f g (subst (λ (x : Token). IsShowUnreadAt x.parts.disclosures f) (tokens.one file p q r s) u) v
 
-same_lines : (h k p q : Tree) (ss ts : List Shown) (b c : Option JwtParts) → h ≡ k → p ≡ q → ss ≡ ts → b ≡ c → show_lines h p ss b ≡ show_lines k q ts c
+same_lines : (h k p q : Tree) (ss ts : List ShownDisclosure) (b c : Option JwtParts) → h ≡ k → p ≡ q → ss ≡ ts → b ≡ c → show_lines h p ss b ≡ show_lines k q ts c
 same_lines h k p q ss ts b c heads payloads all bindings =
     ap (λ (x : Tree). show_lines x p ss b) heads
     ∙ (ap (λ (x : Tree). show_lines k x ss b) payloads
-    ∙ (ap (λ (x : List Shown). show_lines k q x b) all
+    ∙ (ap (λ (x : List ShownDisclosure). show_lines k q x b) all
     ∙ ap (λ (x : Option JwtParts). show_lines k q ts x) bindings))
 
 pub one_shown : (file a b : List ℕ) → Shows file a → Shows file b → a ≡ b

@@ -7,21 +7,22 @@ use Rattle.json_form.specs.declared.token.Token.{Token}
 use Rattle.json_form.specs.Token.{IsToken}
 use Rattle.sdjwt_cli.specs.Lines.{line}
 use Rattle.sdjwt_cli.specs.Split.{binding_line}
-use Rattle.sdjwt_cli.specs.Show.{Shown, IsShown, shown_line, shown_lines, IsHead, IsPayload, Shows, AddsLine, AddsLines}
+use Rattle.sdjwt_cli.specs.Show.{ShownDisclosure, IsShown, shown_line, shown_lines, IsHead, IsShownPayload, Shows}
+use Rattle.sdjwt_cli.specs.ShowSteps.{AddsLine, AddsLines}
 
-pub zip_more : (xs : List Text) (ss : List Shown) (x : Text) (s : Shown) → AllZip IsShown xs ss → IsShown x s → AllZip IsShown (xs ++ x ∷ []) (ss ++ s ∷ [])
+pub zip_more : (xs : List Text) (ss : List ShownDisclosure) (x : Text) (s : ShownDisclosure) → AllZip IsShown xs ss → IsShown x s → AllZip IsShown (xs ++ x ∷ []) (ss ++ s ∷ [])
 zip_more [] [] x s all is = (is, tt)
 zip_more [] (t ∷ ss) x s all is = absurd all
 zip_more (y ∷ xs) [] x s all is = absurd all
 zip_more (y ∷ xs) (t ∷ ss) x s all is = (all.0, zip_more xs ss x s all.1 is)
 
-zip_length : (xs : List Text) (ss : List Shown) → AllZip IsShown xs ss → length xs ≡ length ss
+zip_length : (xs : List Text) (ss : List ShownDisclosure) → AllZip IsShown xs ss → length xs ≡ length ss
 zip_length [] [] all = refl
 zip_length [] (t ∷ ss) all = absurd all
 zip_length (y ∷ xs) [] all = absurd all
 zip_length (y ∷ xs) (t ∷ ss) all = ap suc (zip_length xs ss all.1)
 
-lines_more : (i : ℕ) (ss : List Shown) (s : Shown) → shown_lines i (ss ++ s ∷ []) ≡ shown_lines i ss ++ shown_line (i + length ss) s
+lines_more : (i : ℕ) (ss : List ShownDisclosure) (s : ShownDisclosure) → shown_lines i (ss ++ s ∷ []) ≡ shown_lines i ss ++ shown_line (i + length ss) s
 lines_more i [] s = let same : i + 0 ≡ i = omega arith in rw same (append-nil (shown_line i s))
 lines_more i (t ∷ ss) s =
     let rest = lines_more (i + 1) ss s in
@@ -29,7 +30,7 @@ lines_more i (t ∷ ss) s =
     ap (λ w. shown_line i t ++ w) (rest ∙ ap (λ n. shown_lines (i + 1) ss ++ shown_line n s) same) ∙ sym (append_assoc (shown_line i t) _ _)
 
 -- one line more, at its number
-pub line_more : (old text new : Text) (xs : List Text) (ss : List Shown) (x : Text) (i : ℕ) (adds : AddsLine i x text new) → AllZip IsShown xs ss → i ≡ length xs → text ≡ old ++ shown_lines 0 ss → new ≡ old ++ shown_lines 0 (ss ++ adds.shown ∷ [])
+pub line_more : (old text new : Text) (xs : List Text) (ss : List ShownDisclosure) (x : Text) (i : ℕ) (adds : AddsLine i x text new) → AllZip IsShown xs ss → i ≡ length xs → text ≡ old ++ shown_lines 0 ss → new ≡ old ++ shown_lines 0 (ss ++ adds.shown ∷ [])
 line_more old text new xs ss x i adds all at before =
     let same : i ≡ length ss = at ∙ zip_length xs ss all in
     let place : i ≡ 0 + length ss = omega (arith, same) in
@@ -40,7 +41,7 @@ regrouped : (a b c d : Text) → ((a ++ b) ++ c) ++ d ≡ a ++ (b ++ (c ++ d))
 regrouped a b c d = simp append_assoc
 
 -- the lines of a token, put one behind the other
-pub shows : (file : List ℕ) (token : Token) (header payload : Tree) (start more answer : Text) → IsToken file token → IsHead token.parts.signed.protected token.outer header → IsPayload token.parts.signed.payload payload
+pub shows : (file : List ℕ) (token : Token) (header payload : Tree) (start more answer : Text) → IsToken file token → IsHead token.parts.signed.protected token.outer header → IsShownPayload token.parts.signed.payload payload
     → start ≡ line (codes "header " ++ json_text header) ++ line (codes "payload " ++ json_text payload) → AddsLines token.parts.disclosures start more → answer ≡ more ++ binding_line token.parts.binding → Shows file answer
 shows file token header payload start more answer reads head body begun adds ended =
     let first = line (codes "header " ++ json_text header) in

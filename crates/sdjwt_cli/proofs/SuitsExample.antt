@@ -1,7 +1,7 @@
 -- An order, what a holder is asked, and a policy that suits: the premise of the law of presenting at worked values.
 use Rattle.std.proofs.Common.{◌≡◌, ◌≢◌, inl, inr, ℕ, zero, suc, true, List, [], ◌∷◌, ◌++◌, None, Some, codes, refl, sym, ap, subst, ◌∙◌, arith}
 use Rattle.claim_tree.specs.Tree.{Text, Tree, leaf, text, object, Members, no_members, member, get}
-use Rattle.claim_tree.specs.Lists.{At, In}
+use Rattle.claim_tree.specs.Lists.{StandsAt, In}
 use Rattle.claim_tree.specs.Path.{tree_at}
 use Rattle.compact_form.specs.Lowest.{NoneFails}
 use Rattle.compact_form.specs.Condition as condition
@@ -9,14 +9,13 @@ use Rattle.compact_form.proofs.Lowest.{holds_too, none_fails}
 use Rattle.hmac_sign.specs.Hmac.{key_block}
 use Rattle.jws_part.specs.Times.{IsTimeUnreadable}
 use Rattle.key_binding.specs.declared.policy.BindingPolicy.{BindingPolicy}
-use Rattle.marked_tree.specs.Choice.{chosen}
-use Rattle.marked_tree.specs.Places.{Path, place}
+use Rattle.marked_tree.specs.Paths.{Path, mark_path, chosen}
 use Rattle.marked_tree.proofs.LeastChoice.{chosen_below}
 use Rattle.marked_tree.proofs.MarkFacts.{marks_once_holds}
 use Rattle.verifier_core.specs.Verdict.{ClaimFails}
 use Rattle.verifier_core.specs.declared.policy.Policy.{Policy}
 use Rattle.verifier_core.proofs.ClaimSteps.{claim_numbers, before_missing, before_times, before_expiry, before_start}
-use Rattle.issuer_core.specs.Digests.{marked_of}
+use Rattle.issuer_core.specs.Digests.{marked_claims}
 use Rattle.issuer_core.specs.Order.{Order}
 use Rattle.holder_core.specs.declared.ask.BindingAsk.{BindingAsk}
 use Rattle.holder_core.specs.declared.present_file.PresentFile.{PresentFile}
@@ -98,10 +97,10 @@ claims_hold =
     let required = before_times shown policy 1300 issuer wanted in
     let readable = before_expiry shown policy 1300 required unreadable in
     let fresh = before_start shown policy 1300 readable (λ late. cc late.1) in
-    none_fails (ClaimFails shown policy 1300) 27 (holds_too (ClaimFails shown policy 1300) condition.not_yet fresh (λ place h. cc h.1.1))
-    (λ c place h. let n = claim_numbers shown policy 1300 c place h in n.1)
+    none_fails (ClaimFails shown policy 1300) 27 (holds_too (ClaimFails shown policy 1300) condition.not_yet fresh (λ mark_path h. cc h.1.1))
+    (λ c mark_path h. let n = claim_numbers shown policy 1300 c mark_path h in n.1)
   where
-    wanted : (i : ℕ) (name : Text) → At policy.require i name → get (shown_for order said.ask.want) name ≢ None
+    wanted : (i : ℕ) (name : Text) → StandsAt policy.require i name → get (shown_for order said.ask.want) name ≢ None
     wanted zero name is none = let found = ap (get (shown_for order said.ask.want)) is in cc (sym found ∙ none)
     wanted (suc i) name is none = absurd is
 
@@ -109,7 +108,7 @@ claims_hold =
     unreadable (inl h) = cc h.1
     unreadable (inr h) = cc h.1
 
-given_name : (at : Path) → place (marked_of order) 1 ≡ Some at → MayBeShown said.never at
+given_name : (at : Path) → mark_path (marked_claims order) 1 ≡ Some at → MayBeShown said.never at
 given_name at stands front (inl is) (rest, whole) =
     let placed : Some (codes "given_name" ∷ []) ≡ Some at = stands in
     let at_is : codes "given_name" ∷ [] ≡ at = cc placed in
@@ -143,10 +142,10 @@ suits = record {
   claims = claims_hold;
 }
   where
-    may_be_shown : (i : ℕ) (at : Path) → chosen (marked_of order) said.ask.want i ≡ true → place (marked_of order) i ≡ Some at → MayBeShown said.never at
+    may_be_shown : (i : ℕ) (at : Path) → chosen (marked_claims order) said.ask.want i ≡ true → mark_path (marked_claims order) i ≡ Some at → MayBeShown said.never at
     may_be_shown zero at is_chosen stands = cc is_chosen
     may_be_shown (suc zero) at is_chosen stands = given_name at stands
-    may_be_shown (suc (suc i)) at is_chosen stands = absurd (let low = chosen_below (marked_of order) 2 (marks_once_holds order.claims order.hide) said.ask.want (suc (suc i)) is_chosen in omega (arith, low))
+    may_be_shown (suc (suc i)) at is_chosen stands = absurd (let low = chosen_below (marked_claims order) 2 (marks_once_holds order.claims order.hide) said.ask.want (suc (suc i)) is_chosen in omega (arith, low))
 
     bound : (binding : BindingPolicy) → policy.binding ≡ Some binding → BindingSuits said.ask.binding holder_key binding policy.skew 1000 1300
     bound binding asked = let same : asked_binding ≡ binding = cc asked in subst (λ (b : BindingPolicy). BindingSuits said.ask.binding holder_key b policy.skew 1000 1300) same at_work

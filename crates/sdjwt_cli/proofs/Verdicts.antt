@@ -8,10 +8,10 @@ use Rattle.sd_outside.specs.declared.status.Status.{Status}
 use Rattle.sd_outside.specs.declared.status.Status.TheVariants.{Done, Refused, Usage, Unread, Unwritten, Memory, Unreadable}
 use Rattle.json_form.specs.declared.token.Token.{Token}
 use Rattle.json_form.proofs.Tokens as tokens
-use Rattle.sdjwt_cli.specs.Command.{Command, split, show, verify, issue, present, convert, command_of, Wanted, wanted_by}
+use Rattle.sdjwt_cli.specs.Command.{Command, split, show, verify, issue, present, convert, command_of, NamedFile, files_of}
 use Rattle.sdjwt_cli.specs.Lines.{refusal}
 use Rattle.sdjwt_cli.specs.Split.{split_lines}
-use Rattle.sdjwt_cli.specs.Answers.{Verdict, gives, refuses, unreadable, SplitAnswers, ShowAnswers, Answers, AreFetched, AreTold, IsAnswered}
+use Rattle.sdjwt_cli.specs.Answers.{Reply, gives, refuses, unreadable, SplitAnswers, ShowAnswers, Answers, AreFetched, AreTold, IsAnswered}
 use Rattle.sdjwt_cli.specs.Run.{Outside, Ends}
 use Rattle.sdjwt_cli.proofs.ShowVerdicts.{one_shown, shown_not_refused, one_refusal}
 use Rattle.sdjwt_cli.proofs.VerifyVerdicts.{one_verify}
@@ -19,7 +19,7 @@ use Rattle.sdjwt_cli.proofs.IssueVerdicts.{one_issue}
 use Rattle.sdjwt_cli.proofs.PresentVerdicts.{one_present}
 use Rattle.sdjwt_cli.proofs.ConvertVerdicts.{one_convert}
 
-one_split : (file : List ℕ) (v w : Verdict) → SplitAnswers file v → SplitAnswers file w → v ≡ w
+one_split : (file : List ℕ) (v w : Reply) → SplitAnswers file v → SplitAnswers file w → v ≡ w
 one_split file (gives a) (gives b) g h = ap gives (g.lines ∙ ap (λ (t : Token). split_lines t.parts) (tokens.one file g.token h.token g.reads h.reads) ∙ sym h.lines)
 one_split file (gives a) (refuses t) g h = absurd (tokens.not_both file g.token h.fault g.reads h.refused)
 one_split file (gives a) (unreadable t) g h = absurd h
@@ -28,7 +28,7 @@ one_split file (refuses s) (refuses t) g h = ap refuses (g.line_is ∙ ap refusa
 one_split file (refuses s) (unreadable t) g h = absurd h
 one_split file (unreadable s) w g h = absurd g
 
-one_show : (file : List ℕ) (v w : Verdict) → ShowAnswers file v → ShowAnswers file w → v ≡ w
+one_show : (file : List ℕ) (v w : Reply) → ShowAnswers file v → ShowAnswers file w → v ≡ w
 one_show file (gives a) (gives b) g h = ap gives (one_shown file a b g h)
 one_show file (gives a) (refuses t) g h = absurd (shown_not_refused file a t g h)
 one_show file (gives a) (unreadable t) g h = absurd h
@@ -37,7 +37,7 @@ one_show file (refuses s) (refuses t) g h = ap refuses (one_refusal file s t g h
 one_show file (refuses s) (unreadable t) g h = absurd h
 one_show file (unreadable s) w g h = absurd g
 
-pub one_answer : (command : Command) (files : List (List ℕ)) (now : ℕ) (v w : Verdict) → Answers command files now v → Answers command files now w → v ≡ w
+pub one_answer : (command : Command) (files : List (List ℕ)) (now : ℕ) (v w : Reply) → Answers command files now v → Answers command files now w → v ≡ w
 one_answer (split token) [] now v w g h = absurd g
 one_answer (split token) (file ∷ []) now v w g h = one_split file v w g h
 one_answer (split token) (file ∷ more ∷ files) now v w g h = absurd g
@@ -71,13 +71,13 @@ told : (o : Option (List ℕ)) (n : ℕ) (x y : List ℕ) → IsSomeAnd o (λ co
 told None n x y t f = absurd t
 told (Some content) n x y t f = t ∙ sym f
 
-abbrev IsTold : (List ℕ → Option (List ℕ)) → Wanted → List ℕ → Type 0
+abbrev IsTold : (List ℕ → Option (List ℕ)) → NamedFile → List ℕ → Type 0
 IsTold holds wanted file = IsSomeAnd (holds wanted.name) (λ content. file ≡ take wanted.most content)
 
-abbrev IsFetched : (List ℕ → Option (List ℕ)) → Wanted → List ℕ → Type 0
+abbrev IsFetched : (List ℕ → Option (List ℕ)) → NamedFile → List ℕ → Type 0
 IsFetched holds wanted file = IfSome (holds wanted.name) (λ content. file ≡ take wanted.most content)
 
-all_told : (holds : List ℕ → Option (List ℕ)) (ws : List Wanted) (xs ys : List (List ℕ)) → AllZip (IsTold holds) ws xs → AllZip (IsFetched holds) ws ys → xs ≡ ys
+all_told : (holds : List ℕ → Option (List ℕ)) (ws : List NamedFile) (xs ys : List (List ℕ)) → AllZip (IsTold holds) ws xs → AllZip (IsFetched holds) ws ys → xs ≡ ys
 all_told holds [] [] [] t f = refl
 all_told holds [] [] (y ∷ ys) t f = absurd f
 all_told holds [] (x ∷ xs) ys t f = absurd t
@@ -89,15 +89,15 @@ all_told holds (w ∷ ws) (x ∷ xs) (y ∷ ys) t f =
     cc
 
 -- over files that are told the answer is one over these files
-pub answers_told : (holds : List ℕ → Option (List ℕ)) (command other : Command) (files : List (List ℕ)) (now : ℕ) (w : Verdict) → other ≡ command → AreTold holds command files → IsAnswered holds other now w → Answers command files now w
+pub answers_told : (holds : List ℕ → Option (List ℕ)) (command other : Command) (files : List (List ℕ)) (now : ℕ) (w : Reply) → other ≡ command → AreTold holds command files → IsAnswered holds other now w → Answers command files now w
 answers_told holds command other files now w same told h =
     let fetched : AreFetched holds command h.files = subst (λ (c : Command). AreFetched holds c h.files) same h.fetched in
     let answers : Answers command h.files now w = subst (λ (c : Command). Answers c h.files now w) same h.answers in
-    let files_are = all_told holds (wanted_by command) files h.files told fetched in
+    let files_are = all_told holds (files_of command) files h.files told fetched in
     subst (λ (fs : List (List ℕ)). Answers command fs now w) (sym files_are) answers
 
 -- and there is one verdict
-told_verdict : (holds : List ℕ → Option (List ℕ)) (command other : Command) (files : List (List ℕ)) (now : ℕ) (v w : Verdict)
+told_verdict : (holds : List ℕ → Option (List ℕ)) (command other : Command) (files : List (List ℕ)) (now : ℕ) (v w : Reply)
     → other ≡ command → AreTold holds command files → Answers command files now v → IsAnswered holds other now w → v ≡ w
 told_verdict holds command other files now v w same told g h = one_answer command files now v w g (answers_told holds command other files now w same told h)
 

@@ -9,7 +9,7 @@ use Rattle.verifier_core.proofs.Policies as policies
 use Rattle.verifier_core.proofs.OneVerdict as verdicts
 use Rattle.sdjwt_cli.specs.Lines.{line, refusal, unreadable_line}
 use Rattle.sdjwt_cli.specs.Verify.{Verifies, DoesNotVerify, HasNoPolicy}
-use Rattle.sdjwt_cli.specs.Answers.{Verdict, gives, refuses, unreadable, VerifyAnswers}
+use Rattle.sdjwt_cli.specs.Answers.{Reply, gives, refuses, unreadable, VerifyAnswers}
 
 printed : (policy token : List ℕ) (now : ℕ) (a b : List ℕ) → Verifies policy token now a → Verifies policy token now b → a ≡ b
 printed policy token now a b g h =
@@ -38,7 +38,7 @@ printed_has_policy policy token now a b g h = h.cause (policies.not_both policy 
 refused_has_policy : (policy token : List ℕ) (now : ℕ) (a b : List ℕ) → DoesNotVerify policy token now a → HasNoPolicy policy b → ⊥
 refused_has_policy policy token now a b g h = h.cause (policies.not_both policy g.policy h.fault g.is_policy h.refused)
 
-pub one_verify : (policy token : List ℕ) (now : ℕ) (v w : Verdict) → VerifyAnswers policy token now v → VerifyAnswers policy token now w → v ≡ w
+pub one_verify : (policy token : List ℕ) (now : ℕ) (v w : Reply) → VerifyAnswers policy token now v → VerifyAnswers policy token now w → v ≡ w
 one_verify policy token now (gives a) (gives b) g h = ap gives (printed policy token now a b g h)
 one_verify policy token now (gives a) (refuses b) g h = absurd (printed_not_refused policy token now a b g h)
 one_verify policy token now (gives a) (unreadable b) g h = absurd (printed_has_policy policy token now a b g h)

@@ -1,8 +1,8 @@
 -- What each command answers over its files, by its definition.
 use Rattle.std.specs.Prelude.{◌≡◌, ℕ, List, [], ◌∷◌, Option, IfSome, IsSomeAnd, take}
 use Rattle.std.specs.List.{AllZip}
-use Rattle.sdjwt_cli.specs.Command.{Command, split, show, verify, issue, present, convert, Wanted, wanted_by}
-use Rattle.sdjwt_cli.specs.Split.{Gives, Refuses}
+use Rattle.sdjwt_cli.specs.Command.{Command, split, show, verify, issue, present, convert, NamedFile, files_of}
+use Rattle.sdjwt_cli.specs.Split.{Splits, DoesNotSplit}
 use Rattle.sdjwt_cli.specs.Show.{Shows, DoesNotShow}
 use Rattle.sdjwt_cli.specs.Verify.{Verifies, DoesNotVerify, HasNoPolicy}
 use Rattle.sdjwt_cli.specs.Issuing.{Issues, DoesNotIssue, HasNoOrder}
@@ -11,43 +11,43 @@ use Rattle.sdjwt_cli.specs.declared.form.Form.{Form}
 use Rattle.sdjwt_cli.specs.Converting.{Converts, DoesNotConvert}
 
 -- the bytes for standard output, or the line of a refusal, or that of a file that is not of its form
-pub data Verdict : Type 0 where
-  gives : (answer : List ℕ) → Verdict
-  refuses : (text : List ℕ) → Verdict
-  unreadable : (text : List ℕ) → Verdict
+pub data Reply : Type 0 where
+  gives : (answer : List ℕ) → Reply
+  refuses : (text : List ℕ) → Reply
+  unreadable : (text : List ℕ) → Reply
 
-abbrev pub SplitAnswers : List ℕ → Verdict → Type 0
-SplitAnswers file (gives answer) = Gives file answer
-SplitAnswers file (refuses text) = Refuses file text
+abbrev pub SplitAnswers : List ℕ → Reply → Type 0
+SplitAnswers file (gives answer) = Splits file answer
+SplitAnswers file (refuses text) = DoesNotSplit file text
 SplitAnswers file (unreadable text) = ⊥
 
-abbrev pub ShowAnswers : List ℕ → Verdict → Type 0
+abbrev pub ShowAnswers : List ℕ → Reply → Type 0
 ShowAnswers file (gives answer) = Shows file answer
 ShowAnswers file (refuses text) = DoesNotShow file text
 ShowAnswers file (unreadable text) = ⊥
 
-abbrev pub VerifyAnswers : List ℕ → List ℕ → ℕ → Verdict → Type 0
+abbrev pub VerifyAnswers : List ℕ → List ℕ → ℕ → Reply → Type 0
 VerifyAnswers policy token now (gives answer) = Verifies policy token now answer
 VerifyAnswers policy token now (refuses text) = DoesNotVerify policy token now text
 VerifyAnswers policy token now (unreadable text) = HasNoPolicy policy text
 
-abbrev pub IssueAnswers : List ℕ → List ℕ → Verdict → Type 0
+abbrev pub IssueAnswers : List ℕ → List ℕ → Reply → Type 0
 IssueAnswers order seed (gives answer) = Issues order seed answer
 IssueAnswers order seed (refuses text) = DoesNotIssue order seed text
 IssueAnswers order seed (unreadable text) = HasNoOrder order seed text
 
-abbrev pub PresentAnswers : List ℕ → List ℕ → ℕ → Verdict → Type 0
+abbrev pub PresentAnswers : List ℕ → List ℕ → ℕ → Reply → Type 0
 PresentAnswers order token now (gives answer) = Presents order token now answer
 PresentAnswers order token now (refuses text) = DoesNotPresent order token now text
 PresentAnswers order token now (unreadable text) = HasNoPresentOrder order text
 
-abbrev pub ConvertAnswers : Form → List ℕ → Verdict → Type 0
+abbrev pub ConvertAnswers : Form → List ℕ → Reply → Type 0
 ConvertAnswers form file (gives answer) = Converts form file answer
 ConvertAnswers form file (refuses text) = DoesNotConvert form file text
 ConvertAnswers form file (unreadable text) = ⊥
 
 -- the verdict of a command over its files, at a moment
-abbrev pub Answers : Command → List (List ℕ) → ℕ → Verdict → Type 0
+abbrev pub Answers : Command → List (List ℕ) → ℕ → Reply → Type 0
 Answers (split token) [] now verdict = ⊥
 Answers (split token) (file ∷ []) now verdict = SplitAnswers file verdict
 Answers (split token) (file ∷ more ∷ files) now verdict = ⊥
@@ -72,14 +72,14 @@ Answers (convert form token) (file ∷ more ∷ files) now verdict = ⊥
 
 -- each file is what a fetch answers, where the cabinet tells it
 abbrev pub AreFetched : (List ℕ → Option (List ℕ)) → Command → List (List ℕ) → Type 0
-AreFetched holds command files = AllZip (λ (wanted : Wanted) (file : List ℕ). IfSome (holds wanted.name) (λ content. file ≡ take wanted.most content)) (wanted_by command) files
+AreFetched holds command files = AllZip (λ (wanted : NamedFile) (file : List ℕ). IfSome (holds wanted.name) (λ content. file ≡ take wanted.most content)) (files_of command) files
 
 -- the verdict of a command over what the cabinet holds
-pub record IsAnswered (holds : List ℕ → Option (List ℕ)) (command : Command) (now : ℕ) (verdict : Verdict) : Type 0 where
+pub record IsAnswered (holds : List ℕ → Option (List ℕ)) (command : Command) (now : ℕ) (verdict : Reply) : Type 0 where
   pub files : List (List ℕ)
   pub fetched : AreFetched holds command files
   pub answers : Answers command files now verdict
 
 -- the cabinet tells each file
 abbrev pub AreTold : (List ℕ → Option (List ℕ)) → Command → List (List ℕ) → Type 0
-AreTold holds command files = AllZip (λ (wanted : Wanted) (file : List ℕ). IsSomeAnd (holds wanted.name) (λ content. file ≡ take wanted.most content)) (wanted_by command) files
+AreTold holds command files = AllZip (λ (wanted : NamedFile) (file : List ℕ). IsSomeAnd (holds wanted.name) (λ content. file ≡ take wanted.most content)) (files_of command) files

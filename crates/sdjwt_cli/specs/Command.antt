@@ -23,17 +23,17 @@ command_of (word ∷ first ∷ second ∷ []) = if bytes_eq word (codes "verify"
 command_of (word ∷ first ∷ second ∷ more ∷ rest) = None
 
 -- a file: the word that names it, counted behind the command from 0, its name, and the most bytes that are read of it
-pub record Wanted : Type 0 where
+pub record NamedFile : Type 0 where
   pub word : ℕ
   pub name : List ℕ
   pub most : ℕ
 
 -- the files of a command, in the order in which they are read: one byte more than the limit tells a file that is too long, and of a
 -- seed no more is read than is used
-abbrev pub wanted_by : Command → List Wanted
-wanted_by (split token) = record { word = 0; name = token; most = file_max + 1 } ∷ []
-wanted_by (show token) = record { word = 0; name = token; most = file_max + 1 } ∷ []
-wanted_by (verify policy token) = record { word = 0; name = policy; most = file_max + 1 } ∷ record { word = 1; name = token; most = file_max + 1 } ∷ []
-wanted_by (issue order seed) = record { word = 0; name = order; most = file_max + 1 } ∷ record { word = 1; name = seed; most = seed_len } ∷ []
-wanted_by (present order token) = record { word = 0; name = order; most = file_max + 1 } ∷ record { word = 1; name = token; most = file_max + 1 } ∷ []
-wanted_by (convert form token) = record { word = 1; name = token; most = file_max + 1 } ∷ []
+abbrev pub files_of : Command → List NamedFile
+files_of (split token) = record { word = 0; name = token; most = file_max + 1 } ∷ []
+files_of (show token) = record { word = 0; name = token; most = file_max + 1 } ∷ []
+files_of (verify policy token) = record { word = 0; name = policy; most = file_max + 1 } ∷ record { word = 1; name = token; most = file_max + 1 } ∷ []
+files_of (issue order seed) = record { word = 0; name = order; most = file_max + 1 } ∷ record { word = 1; name = seed; most = seed_len } ∷ []
+files_of (present order token) = record { word = 0; name = order; most = file_max + 1 } ∷ record { word = 1; name = token; most = file_max + 1 } ∷ []
+files_of (convert form token) = record { word = 1; name = token; most = file_max + 1 } ∷ []

@@ -9,7 +9,7 @@ use Rattle.compact_form.specs.declared.fault.Fault.{Fault}
 use Rattle.compact_form.specs.declared.fault.Place.TheVariants.{Nowhere}
 use Rattle.compact_form.specs.Compact.{compact}
 use Rattle.json_form.specs.declared.token.Token.{Token}
-use Rattle.json_form.specs.Token.{IsRefused, IsToken}
+use Rattle.json_form.specs.Token.{IsTextRefused, IsToken}
 use Rattle.json_form.specs.Json.{IsJson}
 use Rattle.json_form.specs.Written.{flat_of, general_of}
 use Rattle.sdjwt_cli.specs.declared.form.Form.{Form}
@@ -23,10 +23,10 @@ written Flat token = json_text (flat_of token)
 written General token = json_text (general_of token)
 
 -- what is written of a token in a form
-abbrev pub kept : Form → Token → Token
-kept Compact token = record { parts = token.parts; outer = no_members }
-kept Flat token = token
-kept General token = token
+abbrev pub kept_in : Form → Token → Token
+kept_in Compact token = record { parts = token.parts; outer = no_members }
+kept_in Flat token = token
+kept_in General token = token
 
 -- the general form has four levels around the other members of the unprotected header, two more than the flattened one, and no more than 127 are read
 abbrev pub HasRoom : Form → Token → Type 0
@@ -40,11 +40,11 @@ pub record Converts (form : Form) (file answer : List ℕ) : Type 0 where
   pub reads : IsToken file token
   pub line_is : answer ≡ line (written form token)
   pub short : length answer ≤ file_max
-  pub back : HasRoom form token → IsToken answer (kept form token)
+  pub back : HasRoom form token → IsToken answer (kept_in form token)
 
 -- the lowest condition that fails: of the file, or that what would be written is longer than a file may be
 pub data IsConvertRefused (form : Form) (file : List ℕ) (fault : Fault) : Type 0 where
-  unread : IsRefused file fault → IsConvertRefused form file fault
+  unread : IsTextRefused file fault → IsConvertRefused form file fault
   too_much : (token : Token) → IsToken file token → file_max < length (line (written form token)) → fault ≡ record { number = number_of condition.too_much; place = Nowhere } → IsConvertRefused form file fault
 
 -- the file is refused, with this line
@@ -52,9 +52,3 @@ pub record DoesNotConvert (form : Form) (file text : List ℕ) : Type 0 where
   pub fault : Fault
   pub refused : IsConvertRefused form file fault
   pub line_is : text ≡ refusal fault
-
--- for private functions: the text of a JSON form is a serialization of the token
-abbrev pub IsWritten : Form → Token → List ℕ → Type 0
-IsWritten Compact token text = Unit {0}
-IsWritten Flat token text = IsJson token text
-IsWritten General token text = IsJson token text

@@ -8,13 +8,13 @@ use Rattle.hmac_sign.specs.Hmac.{IsGood}
 use Rattle.issuer_core.specs.declared.errors.IssueError.{IssueError}
 use Rattle.issuer_core.specs.declared.order_file.IssueFile.{IssueFile}
 use Rattle.issuer_core.specs.Order.{Order, order_of}
-use Rattle.issuer_core.specs.OrderFile.{IsOrderFile, IsOrderRefused}
+use Rattle.issuer_core.specs.OrderFile.{IsOrderFile, IsOrderFileRefused}
 use Rattle.issuer_core.specs.GoodOrder.{IsWritable}
-use Rattle.issuer_core.specs.Refusals.{Refuses, NoneApplies, IsLowest}
-use Rattle.issuer_core.specs.RefusalLine.{refusal_text}
+use Rattle.issuer_core.specs.OrderRefusals.{AppliesToOrder, NoneApplies, IsLowestRefusal}
+use Rattle.issuer_core.specs.RefusalLine.{issue_refusal_text}
 use Rattle.issuer_core.specs.Seed.{maker_of}
 use Rattle.issuer_core.specs.Written.{IsIssued, IsLaidOut}
-use Rattle.issuer_core.specs.Issue.{Applies, HasNoClash}
+use Rattle.issuer_core.specs.Issue.{AppliesToIssue, HasNoClash}
 use Rattle.sdjwt_cli.specs.Lines.{line, unreadable_line, short_seed}
 
 -- what one file asks for with its order and its key, and the seed with which the other begins
@@ -30,7 +30,7 @@ pub record IsAsked (order_file seed_file : List ℕ) (order : Order) (key seed :
 pub record IsIssuedBy (seed : List ℕ) (order : Order) (key : List ℕ) (parts : Parts) : Type 0 where
   pub issued : IsIssued (maker_of seed) order (IsGood key) parts
   pub laid : IsLaidOut (maker_of seed) order (IsGood key) parts
-  pub passes : NoneApplies (Refuses order)
+  pub passes : NoneApplies (AppliesToOrder order)
   pub differ : HasNoClash (maker_of seed) order
   pub writable : IsWritable order
   pub words : AreWords parts
@@ -54,10 +54,10 @@ pub record DoesNotIssue (order_file seed_file text : List ℕ) : Type 0 where
   pub seed : List ℕ
   pub asked : IsAsked order_file seed_file order key seed
   pub error : IssueError
-  pub lowest : IsLowest (Applies (maker_of seed) order (IsGood key)) error
-  pub line_is : text ≡ line (refusal_text error)
+  pub lowest : IsLowestRefusal (AppliesToIssue (maker_of seed) order (IsGood key)) error
+  pub line_is : text ≡ line (issue_refusal_text error)
 
 -- a file is not of its form, with this line: the order is judged first, where want of memory is no cause, and then the seed
 pub data HasNoOrder (order_file seed_file text : List ℕ) : Type 0 where
-  no_order : (fault : FileFault) → IsOrderRefused order_file fault → fault ≢ FileFault.Memory → text ≡ unreadable_line 1 fault → HasNoOrder order_file seed_file text
+  no_order : (fault : FileFault) → IsOrderFileRefused order_file fault → fault ≢ FileFault.Memory → text ≡ unreadable_line 1 fault → HasNoOrder order_file seed_file text
   no_seed : (said : IssueFile) → IsOrderFile order_file said → length seed_file < seed_len → text ≡ short_seed → HasNoOrder order_file seed_file text

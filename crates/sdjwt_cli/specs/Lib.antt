@@ -14,3 +14,7 @@ pub mod Forms
 pub mod Converting
 pub mod Suits
 pub mod Presented
+pub mod PresentingSteps
+pub mod ConvertingSteps
+pub mod ShowSteps
+pub mod PresentedValues

@@ -1,29 +1,29 @@
 -- The lines on standard error.
 use Rattle.std.specs.Prelude.{zero, suc, ℕ, List, [], ◌∷◌, ◌++◌, Option, None, Some, codes}
 use Rattle.std.specs.Fmt.{decimal}
-use Rattle.claim_tree.specs.FileWords.{word_of}
+use Rattle.claim_tree.specs.FileWords.{field_word}
 use Rattle.claim_tree.specs.declared.file_fault.FileFault.{FileFault}
 use Rattle.claim_tree.specs.declared.file_fault.FileFault.TheVariants.{Memory, TooLong, NotJson, NotWhole, NotObject, Unknown, Missing, Wrong}
 use Rattle.compact_form.specs.declared.fault.Fault.{Fault}
 use Rattle.compact_form.specs.declared.fault.Place.{Place}
 use Rattle.compact_form.specs.Condition.{Condition, condition_of}
-use Rattle.verifier_core.specs.FaultLine.{refusal_text}
+use Rattle.verifier_core.specs.RefusalText.{refusal_text}
 
 abbrev pub line : List ℕ → List ℕ
 line text = text ++ (10 ∷ [])
 
-abbrev pub refusal_of : Option Condition → Place → List ℕ
-refusal_of None place = []
-refusal_of (Some condition) place = line (refusal_text condition place)
+abbrev pub refusal_line_of : Option Condition → Place → List ℕ
+refusal_line_of None place = []
+refusal_line_of (Some condition) place = line (refusal_text condition place)
 
 -- the line of a condition that fails
 abbrev pub refusal : Fault → List ℕ
-refusal fault = refusal_of (condition_of fault.number) fault.place
+refusal fault = refusal_line_of (condition_of fault.number) fault.place
 
 -- the line of a file that was not read: its word is counted behind the command, here from 0 and in print from 1
-abbrev pub unread : ℕ → List ℕ
-unread zero = line (codes "unread 1")
-unread (suc word) = line (codes "unread 2")
+abbrev pub unread_text : ℕ → List ℕ
+unread_text zero = line (codes "unread 1")
+unread_text (suc word) = line (codes "unread 2")
 
 -- why a file is not of its form; want of memory is no reason
 abbrev pub reason : FileFault → List ℕ
@@ -33,8 +33,8 @@ reason NotJson = codes "notJson"
 reason NotWhole = codes "notWhole"
 reason NotObject = codes "notObject"
 reason Unknown = codes "unknown"
-reason (Missing field) = codes "missing " ++ word_of field
-reason (Wrong field) = codes "wrong " ++ word_of field
+reason (Missing field) = codes "missing " ++ field_word field
+reason (Wrong field) = codes "wrong " ++ field_word field
 
 -- the line of a file that is not of its form: its word is counted behind the command, from 1
 abbrev pub unreadable_line : ℕ → FileFault → List ℕ

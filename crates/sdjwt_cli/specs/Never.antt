@@ -2,8 +2,8 @@
 use Rattle.std.specs.Prelude.{◌≡◌, ◌↔◌, List, Bool, IsTrue}
 use Rattle.claim_tree.specs.Lists.{In}
 use Rattle.claim_tree.specs.Path.{LeadsTo}
-use Rattle.marked_tree.specs.Places.{Path}
-use Rattle.selection_core.specs.Consent.{Answers}
+use Rattle.marked_tree.specs.Paths.{Path}
+use Rattle.selection_core.specs.Consent.{RuleAnswers}
 
 -- no path of the list leads to the place
 abbrev pub MayBeShown : List Path → Path → Type 0
@@ -14,7 +14,7 @@ abbrev pub Judges : List Path → Path → Bool → Type 0
 Judges never at answer = IsTrue answer ↔ MayBeShown never at
 
 -- the rule that judges so at every place, and stays as it is
-abbrev pub never_rule : Answers (List Path)
+abbrev pub never_rule : RuleAnswers (List Path)
 never_rule = record {
   pre = λ never at. Unit {0};
   post = λ never at answer. Judges never at.0.now answer;

@@ -10,9 +10,9 @@ use Rattle.compact_form.specs.Compact.{compact}
 use Rattle.hmac_sign.specs.Hmac.{IsGood}
 use Rattle.json_form.specs.Token.{IsToken}
 use Rattle.json_form.specs.declared.token.Token.{Token}
-use Rattle.selection_core.specs.Consent.{Answers}
+use Rattle.selection_core.specs.Consent.{RuleAnswers}
 use Rattle.verifier_core.specs.PolicyFile.{IsPolicyFile}
-use Rattle.verifier_core.specs.Verdict.{IsAcceptedAs}
+use Rattle.verifier_core.specs.Verdicts.{IsAcceptedAs}
 use Rattle.verifier_core.specs.declared.policy.Policy.{Policy}
 use Rattle.issuer_core.specs.Order.{Order}
 use Rattle.holder_core.specs.Present.{IsPresented, IsNotPresented}
@@ -21,14 +21,15 @@ use Rattle.holder_core.specs.declared.ask.Ask.{Ask}
 use Rattle.holder_core.specs.declared.errors.PresentError.{PresentError}
 use Rattle.holder_core.specs.declared.errors.PresentError.TheVariants.{Memory, SignFailed}
 use Rattle.holder_core.specs.declared.present_file.PresentFile.{PresentFile}
-use Rattle.sdjwt_cli.specs.Answers.{Verdict, gives, IssueAnswers, PresentAnswers, VerifyAnswers, AreTold}
+use Rattle.sdjwt_cli.specs.Answers.{Reply, gives, IssueAnswers, PresentAnswers, VerifyAnswers, AreTold}
 use Rattle.sdjwt_cli.specs.Command.{Command, issue, present, verify, command_of}
 use Rattle.sdjwt_cli.specs.Issuing.{IsAsked, IsIssuedBy}
 use Rattle.sdjwt_cli.specs.Lines.{line}
 use Rattle.sdjwt_cli.specs.Never.{never_rule}
 use Rattle.sdjwt_cli.specs.Presenting.{signing_key}
 use Rattle.sdjwt_cli.specs.Run.{Outside, Ends}
-use Rattle.sdjwt_cli.specs.Suits.{Suits, AreShort, shown_for}
+use Rattle.sdjwt_cli.specs.Suits.{Suits, shown_for}
+use Rattle.sdjwt_cli.specs.PresentedValues.{AreShort}
 
 -- the files of `issue` say an order and its key, the others a present order and a policy, which suits; a moment has 64 bits
 pub record AllSuits (order_file seed_file present_file policy_file : List ℕ) (presented verified : ℕ) : Type 0 where
@@ -49,39 +50,16 @@ pub record AllSuits (order_file seed_file present_file policy_file : List ℕ) (
 abbrev pub alone : Parts → Token
 alone parts = record { parts = parts; outer = no_members }
 
--- the compact text of what is presented is read as its parts, and each text that is read as them is accepted with these claims
-pub record IsAcceptedWith (answer : Parts) (policy : Policy) (verified : ℕ) (claims : Tree) : Type 0 where
-  pub reads : IsToken (compact answer) (alone answer)
-  pub accepted : (text : List ℕ) → IsToken text (alone answer) → IsAcceptedAs text policy verified claims
-
--- of a text that is read as the token nothing is refused that is asked for, and whatever is presented is accepted with these claims
-pub record IsShownAt {F : Type 0} (answers : Answers F) (rule : F) (token : List ℕ) (ask : Ask) (signing : List ℕ) (policy : Policy) (presented verified : ℕ) (claims : Tree) : Type 0 where
-  pub presents : (error : PresentError) → error ≢ Memory → error ≢ SignFailed → IsNotPresented answers rule token ask (IsGood signing) presented error → ⊥
-  pub verifies : (answer : Parts) → IsPresented answers rule token ask (IsGood signing) presented answer → IsAcceptedWith answer policy verified claims
-
--- the compact text of the parts is read as them, and so it is of each text that is
-pub record IsShownOf {F : Type 0} (answers : Answers F) (rule : F) (parts : Parts) (ask : Ask) (signing : List ℕ) (policy : Policy) (presented verified : ℕ) (claims : Tree) : Type 0 where
-  pub reads : IsToken (compact parts) (alone parts)
-  pub shown : (token : List ℕ) → IsToken token (alone parts) → IsShownAt answers rule token ask signing policy presented verified claims
-
--- with this rule of consent; a moment has 64 bits
-abbrev pub PresentedOverValues : {F : Type 0} → Answers F → F → Type 0
-PresentedOverValues answers rule =
-    (seed : List ℕ) (o : Order) (key : List ℕ) (parts : Parts) → IsIssuedBy seed o key parts
-    → (ask : Ask) (signing : List ℕ) (policy : Policy) (presented verified : ℕ)
-    → Suits answers rule o key ask signing policy presented verified → AreShort ask.binding → presented < 2 ^ 64
-    → IsShownOf answers rule parts ask signing policy presented verified (shown_for o ask.want)
-
 -- ---- over files
 
 -- of these verdicts each is an answer: nothing is refused, and each file is of its form
-abbrev pub OnlyGives : (Verdict → Type 0) → Type 0
-OnlyGives Is = (verdict : Verdict) → Is verdict → (answer : List ℕ) × (verdict ≡ gives answer)
+abbrev pub OnlyGives : (Reply → Type 0) → Type 0
+OnlyGives Is = (verdict : Reply) → Is verdict → (answer : List ℕ) × (verdict ≡ gives answer)
 
 -- this answer is one of them, and there is no other
-pub record GivesAlone (Is : Verdict → Type 0) (answer : List ℕ) : Type 0 where
+pub record GivesAlone (Is : Reply → Type 0) (answer : List ℕ) : Type 0 where
   pub given : Is (gives answer)
-  pub alone : (verdict : Verdict) → Is verdict → verdict ≡ gives answer
+  pub alone : (verdict : Reply) → Is verdict → verdict ≡ gives answer
 
 -- of a token file nothing is refused that is asked for, and whatever is given verifies to these claims
 pub record IsShownWell (token present_file policy_file : List ℕ) (presented verified : ℕ) (claims : Tree) : Type 0 where

@@ -11,7 +11,7 @@ use Rattle.holder_core.specs.declared.errors.PresentError.{PresentError}
 use Rattle.holder_core.specs.declared.errors.PresentError.TheVariants.{Memory, Token as OnCondition, HasBinding, NoSuchPlace, ConsentRefused, BindingKeyDiffers, SignFailed, TooLong}
 use Rattle.holder_core.specs.declared.present_file.PresentFile.{PresentFile}
 use Rattle.holder_core.specs.Present.{IsPresented, IsNotPresented}
-use Rattle.holder_core.specs.PresentFile.{IsPresentFile, IsPresentRefused}
+use Rattle.holder_core.specs.PresentFile.{IsPresentFile, IsPresentFileRefused}
 use Rattle.sdjwt_cli.specs.Lines.{line, refusal, unreadable_line}
 use Rattle.sdjwt_cli.specs.Never.{never_rule}
 
@@ -39,21 +39,6 @@ present_refusal (ConsentRefused i) = line (codes "refused 73 consentRefused at "
 present_refusal BindingKeyDiffers = line (codes "refused 74 bindingKeyDiffers")
 present_refusal TooLong = line (codes "refused 75 presentTooLong")
 
--- for private functions: the text is the line of the refusal, where the number of a condition that fails is that of a condition
-abbrev pub HasLine : PresentError → List ℕ → Type 0
-HasLine (OnCondition fault) text = (condition : Condition) → fault.number ≡ number_of condition → text ≡ refusal fault
-HasLine error text = text ≡ present_refusal error
-
--- for private functions: the line of what is presented
-abbrev pub IsLineOf : Result Parts PresentError → List ℕ → Type 0
-IsLineOf (Ok parts) text = text ≡ line (compact parts)
-IsLineOf (Err error) text = ⊥
-
--- for private functions: the line of the refusal that is answered, where memory did not end
-abbrev pub IsRefusalOf : Result Parts PresentError → List ℕ → Type 0
-IsRefusalOf (Ok parts) text = ⊥
-IsRefusalOf (Err error) text = (error ≢ Memory) × HasLine error text
-
 -- the token is presented for the order, and this is the line of its compact text
 pub record Presents (order_file token_file : List ℕ) (now : ℕ) (answer : List ℕ) : Type 0 where
   pub said : PresentFile
@@ -76,6 +61,6 @@ pub record DoesNotPresent (order_file token_file : List ℕ) (now : ℕ) (text :
 -- the file says no present order, for another cause than want of memory, with this line
 pub record HasNoPresentOrder (order_file text : List ℕ) : Type 0 where
   pub fault : FileFault
-  pub refused : IsPresentRefused order_file fault
+  pub refused : IsPresentFileRefused order_file fault
   pub cause : fault ≢ FileFault.Memory
   pub line_is : text ≡ unreadable_line 1 fault

@@ -4,8 +4,8 @@ use Rattle.std.specs.Io.KnownBytes.{Appends}
 use Rattle.sd_outside.specs.Causes.{Rose, AppendsPrefix}
 use Rattle.sd_outside.specs.declared.status.Status.{Status}
 use Rattle.sd_outside.specs.declared.status.Status.TheVariants.{Done, Refused, Usage, Unread, Unwritten, Memory, Unreadable}
-use Rattle.sdjwt_cli.specs.Command.{Command, command_of, Wanted, wanted_by}
-use Rattle.sdjwt_cli.specs.Lines.{line, unread}
+use Rattle.sdjwt_cli.specs.Command.{Command, command_of, NamedFile, files_of}
+use Rattle.sdjwt_cli.specs.Lines.{line, unread_text}
 use Rattle.sdjwt_cli.specs.Answers.{gives, refuses, unreadable, IsAnswered}
 
 -- a sink at one moment
@@ -32,16 +32,16 @@ abbrev pub Tells : Stream → Stream → List ℕ → Type 0
 Tells before after text = Appends before.written after.written text ⊎ (Rose before.faults after.faults × AppendsPrefix before.written after.written text)
 
 -- the name of the file of this word, where there is one
-abbrev pub name_of : List Wanted → ℕ → Option (List ℕ)
-name_of [] word = None
-name_of (wanted ∷ more) word = if wanted.word == word then Some wanted.name else name_of more word
+abbrev pub name_wanted : List NamedFile → ℕ → Option (List ℕ)
+name_wanted [] word = None
+name_wanted (wanted ∷ more) word = if wanted.word == word then Some wanted.name else name_wanted more word
 
 -- the name that was missed is that of the file of this word
 abbrev pub Misses : Command → ℕ → Option (List ℕ) → Type 0
-Misses command word missed = IsSomeAnd (name_of (wanted_by command) word) (λ name. missed ≡ Some name)
+Misses command word missed = IsSomeAnd (name_wanted (files_of command) word) (λ name. missed ≡ Some name)
 
 -- the whole answer was written
-pub record IsDone (words : List (List ℕ)) (before after : Outside) (now : ℕ) : Type 0 where
+pub record EndsDone (words : List (List ℕ)) (before after : Outside) (now : ℕ) : Type 0 where
   pub command : Command
   pub answer : List ℕ
   pub named : command_of words ≡ Some command
@@ -50,7 +50,7 @@ pub record IsDone (words : List (List ℕ)) (before after : Outside) (now : ℕ)
   pub err : after.err.written ≡ before.err.written
 
 -- the definition of the command refuses
-pub record IsRefused (words : List (List ℕ)) (before after : Outside) (now : ℕ) : Type 0 where
+pub record EndsRefused (words : List (List ℕ)) (before after : Outside) (now : ℕ) : Type 0 where
   pub command : Command
   pub text : List ℕ
   pub named : command_of words ≡ Some command
@@ -59,7 +59,7 @@ pub record IsRefused (words : List (List ℕ)) (before after : Outside) (now : �
   pub err : Tells before.err after.err text
 
 -- a policy, an order or a seed is not of its form
-pub record IsUnreadable (words : List (List ℕ)) (before after : Outside) (now : ℕ) : Type 0 where
+pub record EndsUnreadable (words : List (List ℕ)) (before after : Outside) (now : ℕ) : Type 0 where
   pub command : Command
   pub text : List ℕ
   pub named : command_of words ≡ Some command
@@ -68,23 +68,23 @@ pub record IsUnreadable (words : List (List ℕ)) (before after : Outside) (now 
   pub err : Tells before.err after.err text
 
 -- the words are no command
-pub record IsUsage (words : List (List ℕ)) (before after : Outside) : Type 0 where
+pub record EndsUsage (words : List (List ℕ)) (before after : Outside) : Type 0 where
   pub named : command_of words ≡ None
   pub out : after.out.written ≡ before.out.written
   pub err : Tells before.err after.err (line (codes "usage"))
 
 -- the cabinet failed at the file of this word
-pub record IsUnread (words : List (List ℕ)) (before after : Outside) : Type 0 where
+pub record EndsUnread (words : List (List ℕ)) (before after : Outside) : Type 0 where
   pub command : Command
   pub word : ℕ
   pub named : command_of words ≡ Some command
   pub missed : Misses command word after.missed
   pub rose : Rose before.faults after.faults
   pub out : after.out.written ≡ before.out.written
-  pub err : Tells before.err after.err (unread word)
+  pub err : Tells before.err after.err (unread_text word)
 
 -- `out` failed at an answer that was due
-pub record IsUnwritten (words : List (List ℕ)) (before after : Outside) (now : ℕ) : Type 0 where
+pub record EndsUnwritten (words : List (List ℕ)) (before after : Outside) (now : ℕ) : Type 0 where
   pub command : Command
   pub answer : List ℕ
   pub named : command_of words ≡ Some command
@@ -94,20 +94,20 @@ pub record IsUnwritten (words : List (List ℕ)) (before after : Outside) (now :
   pub err : Tells before.err after.err (line (codes "unwritten"))
 
 -- there was no memory: this may come of any command, and of no other words
-pub record IsMemory (words : List (List ℕ)) (before after : Outside) : Type 0 where
+pub record EndsMemory (words : List (List ℕ)) (before after : Outside) : Type 0 where
   pub command : Command
   pub named : command_of words ≡ Some command
   pub out : after.out.written ≡ before.out.written
   pub err : Tells before.err after.err (line (codes "memory"))
 
 abbrev pub Ends : List (List ℕ) → Outside → Outside → ℕ → Status → Type 0
-Ends words before after now Done = IsDone words before after now
-Ends words before after now Refused = IsRefused words before after now
-Ends words before after now Usage = IsUsage words before after
-Ends words before after now Unread = IsUnread words before after
-Ends words before after now Unwritten = IsUnwritten words before after now
-Ends words before after now Memory = IsMemory words before after
-Ends words before after now Unreadable = IsUnreadable words before after now
+Ends words before after now Done = EndsDone words before after now
+Ends words before after now Refused = EndsRefused words before after now
+Ends words before after now Usage = EndsUsage words before after
+Ends words before after now Unread = EndsUnread words before after
+Ends words before after now Unwritten = EndsUnwritten words before after now
+Ends words before after now Memory = EndsMemory words before after
+Ends words before after now Unreadable = EndsUnreadable words before after now
 
 -- what each run leaves
 pub record Keeps (before after : Outside) : Type 0 where

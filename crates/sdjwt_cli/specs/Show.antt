@@ -5,10 +5,10 @@ use Rattle.std.specs.List.{AllZip}
 use Rattle.claim_tree.specs.Tree.{Text, Tree, Members, leaf, text}
 use Rattle.claim_tree.specs.JsonText.{json_text}
 use Rattle.jws_part.specs.Part.{IsBody, IsNoObject}
-use Rattle.jws_part.specs.Header.{IsUnreadable}
+use Rattle.jws_part.specs.Header.{IsHeaderUnreadable}
 use Rattle.disclosure.specs.Digest.{digest_of, payload_hash}
 use Rattle.disclosure.specs.Disclosure.{IsDisclosure}
-use Rattle.disclosure.specs.Refusals as reasons
+use Rattle.disclosure.specs.DisclosureRefusals as reasons
 use Rattle.disclosure.specs.declared.digests.HashAlg.{HashAlg}
 use Rattle.disclosure.specs.declared.errors.DisclosureError.{DisclosureError}
 use Rattle.compact_form.specs.Condition as condition
@@ -17,7 +17,7 @@ use Rattle.compact_form.specs.declared.fault.Fault.{Fault}
 use Rattle.compact_form.specs.declared.fault.Place.TheVariants.{Nowhere, At}
 use Rattle.compact_form.specs.declared.parts.JwtParts.{JwtParts}
 use Rattle.json_form.specs.declared.token.Token.{Token}
-use Rattle.json_form.specs.Token.{IsRefused, IsToken}
+use Rattle.json_form.specs.Token.{IsTextRefused, IsToken}
 use Rattle.sdjwt_cli.specs.declared.show.Unshown.{Unshown}
 use Rattle.sdjwt_cli.specs.declared.show.Unshown.TheVariants.{Memory, Fails}
 use Rattle.sdjwt_cli.specs.Lines.{line, refusal}
@@ -28,20 +28,20 @@ abbrev pub has_known_hash : Tree → Bool
 has_known_hash payload = is_some (payload_hash payload)
 
 -- what is printed of a disclosure
-pub record Shown : Type 0 where
+pub record ShownDisclosure : Type 0 where
   pub digest : Text
   pub name : Option Text
   pub value : Tree
 
-pub record IsShown (disclosure : Text) (shown : Shown) : Type 0 where
+pub record IsShown (disclosure : Text) (shown : ShownDisclosure) : Type 0 where
   pub salt : Tree
   pub is : IsDisclosure disclosure salt shown.name shown.value
   pub digest_is : shown.digest ≡ digest_of HashAlg.Sha256 disclosure
 
 -- the text is refused, for another cause than want of memory
-pub record IsUnread (disclosure : Text) : Type 0 where
+pub record IsDisclosureUnread (disclosure : Text) : Type 0 where
   pub error : DisclosureError
-  pub refused : reasons.IsRefused disclosure error
+  pub refused : reasons.IsDisclosureRefused disclosure error
   pub cause : error ≢ DisclosureError.Memory
 
 -- the name of a member as JSON, or that it is an element
@@ -49,24 +49,24 @@ abbrev pub kind_text : Option Text → Text
 kind_text None = codes " element "
 kind_text (Some name) = codes " member " ++ (json_text (leaf (text name)) ++ codes " ")
 
-abbrev pub shown_line : ℕ → Shown → Text
+abbrev pub shown_line : ℕ → ShownDisclosure → Text
 shown_line i shown = line (codes "disclosure " ++ (decimal i ++ (codes " " ++ (shown.digest ++ (kind_text shown.name ++ json_text shown.value)))))
 
 -- numbered from i
-abbrev pub shown_lines : ℕ → List Shown → Text
+abbrev pub shown_lines : ℕ → List ShownDisclosure → Text
 shown_lines i [] = []
 shown_lines i (shown ∷ more) = shown_line i shown ++ shown_lines (i + 1) more
 
-abbrev pub show_lines : Tree → Tree → List Shown → Option JwtParts → Text
+abbrev pub show_lines : Tree → Tree → List ShownDisclosure → Option JwtParts → Text
 show_lines header payload shown binding = line (codes "header " ++ json_text header) ++ (line (codes "payload " ++ json_text payload) ++ (shown_lines 0 shown ++ binding_line binding))
 
 -- the protected header is read: the text carries an object, and with the unprotected one beside it is not refused as unreadable
 pub record IsHead (protected : Text) (outer : Members) (header : Tree) : Type 0 where
   pub body : IsBody protected header
-  pub readable : IsUnreadable protected outer → ⊥
+  pub readable : IsHeaderUnreadable protected outer → ⊥
 
 -- the payload is read, and its hash is known
-pub record IsPayload (payload : Text) (tree : Tree) : Type 0 where
+pub record IsShownPayload (payload : Text) (tree : Tree) : Type 0 where
   pub body : IsBody payload tree
   pub hash : has_known_hash tree ≡ true
 
@@ -77,47 +77,32 @@ pub record Shows (file answer : List ℕ) : Type 0 where
   pub header : Tree
   pub head : IsHead token.parts.signed.protected token.outer header
   pub payload : Tree
-  pub body : IsPayload token.parts.signed.payload payload
-  pub shown : List Shown
+  pub body : IsShownPayload token.parts.signed.payload payload
+  pub shown : List ShownDisclosure
   pub disclosures : AllZip IsShown token.parts.disclosures shown
   pub lines : answer ≡ show_lines header payload shown token.parts.binding
 
--- for private functions: a line, or all lines, put behind a text
-pub record AddsLine (i : ℕ) (disclosure : Text) (old new : Text) : Type 0 where
-  pub shown : Shown
-  pub is : IsShown disclosure shown
-  pub more : new ≡ old ++ shown_line i shown
-
-pub record AddsLines (disclosures : List Text) (old new : Text) : Type 0 where
-  pub shown : List Shown
-  pub are : AllZip IsShown disclosures shown
-  pub more : new ≡ old ++ shown_lines 0 shown
-
 -- the first disclosure that is not read
-pub record IsUnreadAt (disclosures : List Text) (fault : Fault) : Type 0 where
+pub record IsShowUnreadAt (disclosures : List Text) (fault : Fault) : Type 0 where
   pub front : List Text
   pub text : Text
   pub rest : List Text
-  pub shown : List Shown
+  pub shown : List ShownDisclosure
   pub stand : disclosures ≡ front ++ text ∷ rest
   pub read : AllZip IsShown front shown
-  pub unread : IsUnread text
+  pub unread : IsDisclosureUnread text
   pub fault_is : fault ≡ record { number = number_of condition.disclosure_unreadable; place = At (length front) }
-
-abbrev pub OnFails : Unshown → (Fault → Type 0) → Type 0
-OnFails Memory P = Unit {0}
-OnFails (Fails fault) P = P fault
 
 abbrev pub fault_of : ℕ → Fault
 fault_of number = record { number = number; place = Nowhere }
 
 -- the lowest condition that fails: of the form, then of the headers, of the payload, of its hash, and of the disclosures the first
 pub data IsShowRefused (file : List ℕ) (fault : Fault) : Type 0 where
-  form : IsRefused file fault → IsShowRefused file fault
-  header : (t : Token) → IsToken file t → IsUnreadable t.parts.signed.protected t.outer → fault ≡ fault_of (number_of condition.header_unreadable) → IsShowRefused file fault
+  form : IsTextRefused file fault → IsShowRefused file fault
+  header : (t : Token) → IsToken file t → IsHeaderUnreadable t.parts.signed.protected t.outer → fault ≡ fault_of (number_of condition.header_unreadable) → IsShowRefused file fault
   payload : (t : Token) (head : Tree) → IsToken file t → IsHead t.parts.signed.protected t.outer head → IsNoObject t.parts.signed.payload → fault ≡ fault_of (number_of condition.payload_unreadable) → IsShowRefused file fault
   hash : (t : Token) (head body : Tree) → IsToken file t → IsHead t.parts.signed.protected t.outer head → IsBody t.parts.signed.payload body → has_known_hash body ≡ false → fault ≡ fault_of (number_of condition.hash_unknown) → IsShowRefused file fault
-  disclosure : (t : Token) (head body : Tree) → IsToken file t → IsHead t.parts.signed.protected t.outer head → IsPayload t.parts.signed.payload body → IsUnreadAt t.parts.disclosures fault → IsShowRefused file fault
+  disclosure : (t : Token) (head body : Tree) → IsToken file t → IsHead t.parts.signed.protected t.outer head → IsShownPayload t.parts.signed.payload body → IsShowUnreadAt t.parts.disclosures fault → IsShowRefused file fault
 
 -- the file is refused, with this line
 pub record DoesNotShow (file text : List ℕ) : Type 0 where

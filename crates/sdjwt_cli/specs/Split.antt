@@ -6,16 +6,16 @@ use Rattle.compact_form.specs.declared.parts.JwtParts.{JwtParts}
 use Rattle.compact_form.specs.declared.parts.Parts.{Parts}
 use Rattle.compact_form.specs.Compact.{jwt}
 use Rattle.json_form.specs.declared.token.Token.{Token}
-use Rattle.json_form.specs.Token.{IsRefused, IsToken}
+use Rattle.json_form.specs.Token.{IsTextRefused, IsToken}
 use Rattle.sdjwt_cli.specs.Lines.{line, refusal}
 
 abbrev pub signed_lines : JwtParts → List ℕ
 signed_lines j = line (codes "protected " ++ j.protected) ++ (line (codes "payload " ++ j.payload) ++ line (codes "signature " ++ j.signature))
 
 -- the disclosures, numbered from i
-abbrev pub numbered : ℕ → List (List ℕ) → List ℕ
-numbered i [] = []
-numbered i (disclosure ∷ disclosures) = line (codes "disclosure " ++ (decimal i ++ (codes " " ++ disclosure))) ++ numbered (i + 1) disclosures
+abbrev pub disclosure_lines : ℕ → List (List ℕ) → List ℕ
+disclosure_lines i [] = []
+disclosure_lines i (disclosure ∷ disclosures) = line (codes "disclosure " ++ (decimal i ++ (codes " " ++ disclosure))) ++ disclosure_lines (i + 1) disclosures
 
 abbrev pub binding_line : Option JwtParts → List ℕ
 binding_line None = []
@@ -23,16 +23,16 @@ binding_line (Some j) = line (codes "binding " ++ jwt j)
 
 -- a line for each part
 abbrev pub split_lines : Parts → List ℕ
-split_lines parts = signed_lines parts.signed ++ numbered 0 parts.disclosures ++ binding_line parts.binding
+split_lines parts = signed_lines parts.signed ++ disclosure_lines 0 parts.disclosures ++ binding_line parts.binding
 
 -- the file is a token in one of its serializations, and these are the lines of its parts
-pub record Gives (file answer : List ℕ) : Type 0 where
+pub record Splits (file answer : List ℕ) : Type 0 where
   pub token : Token
   pub reads : IsToken file token
   pub lines : answer ≡ split_lines token.parts
 
 -- the file is refused, with this line
-pub record Refuses (file text : List ℕ) : Type 0 where
+pub record DoesNotSplit (file text : List ℕ) : Type 0 where
   pub fault : Fault
-  pub refused : IsRefused file fault
+  pub refused : IsTextRefused file fault
   pub line_is : text ≡ refusal fault

@@ -8,24 +8,19 @@ use Rattle.compact_form.specs.Lowest.{NoneFails}
 use Rattle.hmac_sign.specs.Keys.{key_named}
 use Rattle.key_binding.specs.Judged.{holder_kid}
 use Rattle.key_binding.specs.declared.policy.BindingPolicy.{BindingPolicy}
-use Rattle.marked_tree.specs.Choice.{chosen}
 use Rattle.marked_tree.specs.Marked.{strip, prune}
-use Rattle.marked_tree.specs.Places.{Path, place}
-use Rattle.selection_core.specs.Consent.{Answers, Allows}
+use Rattle.marked_tree.specs.Paths.{Path, mark_path, chosen}
+use Rattle.selection_core.specs.Consent.{RuleAnswers, Allows}
 use Rattle.verifier_core.specs.Verdict.{key_for, ClaimFails}
 use Rattle.verifier_core.specs.declared.policy.Policy.{Policy}
-use Rattle.issuer_core.specs.Digests.{marked_of}
+use Rattle.issuer_core.specs.Digests.{marked_claims}
 use Rattle.issuer_core.specs.Order.{Order}
 use Rattle.holder_core.specs.declared.ask.Ask.{Ask}
 use Rattle.holder_core.specs.declared.ask.BindingAsk.{BindingAsk}
 
 -- the claims of the order without the hidden places that lead to none of the wanted ones
 abbrev pub shown_for : Order → List Path → Tree
-shown_for o want = strip (prune (marked_of o) (chosen (marked_of o) want))
-
--- an audience and a nonce have as many bytes as they may
-abbrev pub AreShort : Option BindingAsk → Type 0
-AreShort asked = IfSome asked (λ ask. (length ask.aud ≤ binding_text_max) × (length ask.nonce ≤ binding_text_max))
+shown_for o want = strip (prune (marked_claims o) (chosen (marked_claims o) want))
 
 -- the holder is asked for a key binding token for the audience and with the nonce of the policy, signs it with a key that the
 -- policy knows by the same name, and both moments lie within its age, as far as clocks may differ
@@ -40,7 +35,7 @@ pub record BindingSuits (asked : Option BindingAsk) (signing : List ℕ) (bindin
 
 -- with a rule of consent, the key of the issuer, that with which the holder signs, and the moments of presenting and of verifying, in
 -- seconds since 1970
-pub record Suits {F : Type 0} (answers : Answers F) (rule : F) (o : Order) (key : List ℕ) (ask : Ask) (signing : List ℕ) (policy : Policy) (presented verified : ℕ) : Type 0 where
+pub record Suits {F : Type 0} (answers : RuleAnswers F) (rule : F) (o : Order) (key : List ℕ) (ask : Ask) (signing : List ℕ) (policy : Policy) (presented verified : ℕ) : Type 0 where
   -- holder and verifier find the key of the issuer: by the name that the order gives it, else as their first
   pub holder_finds : key_for ask.keys o.kid ≡ Some key
   pub verifier_finds : key_for policy.keys o.kid ≡ Some key
@@ -49,7 +44,7 @@ pub record Suits {F : Type 0} (answers : Answers F) (rule : F) (o : Order) (key 
   pub typ : (name : Text) → policy.typ ≡ Some name → o.typ ≡ Some name
   -- each wanted path is in the payload, and the rule refuses the place of no disclosure that leads to one
   pub there : (path : Path) → In path ask.want → tree_at o.claims path ≢ None
-  pub unrefused : (i : ℕ) (at : Path) → chosen (marked_of o) ask.want i ≡ true → place (marked_of o) i ≡ Some at → Allows answers rule at false → ⊥
+  pub unrefused : (i : ℕ) (at : Path) → chosen (marked_claims o) ask.want i ≡ true → mark_path (marked_claims o) i ≡ Some at → Allows answers rule at false → ⊥
   -- where the holder is asked for a key binding token, the payload names its key (RFC 7800 section 3.4)
   pub named : (binding : BindingAsk) → ask.binding ≡ Some binding → holder_kid o.claims ≡ Some binding.kid
   -- where the verifier asks for a key binding token, so is the holder

@@ -4,7 +4,7 @@ use Rattle.claim_tree.specs.JsonText.{json_text}
 use Rattle.claim_tree.specs.declared.file_fault.FileFault.{FileFault}
 use Rattle.compact_form.specs.declared.fault.Fault.{Fault}
 use Rattle.marked_tree.specs.Marked.{Marked, strip}
-use Rattle.verifier_core.specs.PolicyFile.{IsPolicyFile, IsPolicyRefused}
+use Rattle.verifier_core.specs.PolicyFile.{IsPolicyFile, IsPolicyFileRefused}
 use Rattle.verifier_core.specs.Verdict.{Fails, IsAccepted}
 use Rattle.compact_form.specs.Lowest.{IsLowest}
 use Rattle.verifier_core.specs.declared.policy.Policy.{Policy}
@@ -29,6 +29,6 @@ pub record DoesNotVerify (policy_file token_file : List ℕ) (now : ℕ) (text :
 -- the file says no policy, for another cause than want of memory, with this line
 pub record HasNoPolicy (policy_file text : List ℕ) : Type 0 where
   pub fault : FileFault
-  pub refused : IsPolicyRefused policy_file fault
+  pub refused : IsPolicyFileRefused policy_file fault
   pub cause : fault ≢ FileFault.Memory
   pub line_is : text ≡ unreadable_line 1 fault

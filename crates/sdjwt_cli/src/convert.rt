@@ -1,8 +1,9 @@
 // The command `convert`: a token in another serialization.
 ghost use Rattle.std.specs.Prelude.{◌≡◌, ℕ, List, IfOk, IfErr, string_bytes};
 ghost use Rattle.json_form.specs.Token.{IsToken};
-ghost use Rattle.json_form.specs.Written.{IsPrintable};
-ghost use Rattle.sdjwt_cli.specs.Converting.{written, HasRoom, IsWritten, Converts, DoesNotConvert};
+ghost use Rattle.json_form.specs.Printable.{IsPrintable};
+ghost use Rattle.sdjwt_cli.specs.Converting.{written, HasRoom, Converts, DoesNotConvert};
+ghost use Rattle.sdjwt_cli.specs.ConvertingSteps.{IsJsonOf};
 ghost use Rattle.sdjwt_cli.specs.Stops.{OnRefused, OnUnread, OnUnreadable};
 
 use crate::form::Form;
@@ -17,7 +18,7 @@ use std::alloc::Global;
 fn write_as(alloc: Global, form: Form, token: &Token) -> Result<TextBox, NoMemory>
     requires printable { IsPrintable token.now }
     ensures text { IfOk result (λ text. text ≡ written form token.now) }
-    ensures back { HasRoom form token.now → IfOk result (IsWritten form token.now) }
+    ensures back { HasRoom form token.now → IfOk result (IsJsonOf form token.now) }
 {
     match form {
         Form::Compact => print(alloc, &token.parts),

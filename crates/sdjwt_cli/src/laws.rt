@@ -3,25 +3,26 @@ ghost use Rattle.std.specs.Prelude.{◌≡◌, ◌⊎◌, ◌+◌, ℕ, List, Op
 ghost use Rattle.std.specs.Io.KnownBytes.{Appends};
 ghost use Rattle.sd_outside.specs.Causes.{Rose};
 ghost use Rattle.sd_outside.specs.declared.status.Status.{Status};
-ghost use Rattle.claim_tree.specs.Lists.{At, In};
-ghost use Rattle.sdjwt_cli.specs.Command.{Command, command_of, Wanted, wanted_by};
-ghost use Rattle.sdjwt_cli.specs.Answers.{Verdict, gives, Answers, AreTold};
+ghost use Rattle.claim_tree.specs.Lists.{StandsAt, In};
+ghost use Rattle.sdjwt_cli.specs.Command.{Command, command_of, NamedFile, files_of};
+ghost use Rattle.sdjwt_cli.specs.Answers.{Reply, gives, Answers, AreTold};
 ghost use Rattle.sdjwt_cli.specs.declared.form.Form.{Form};
 ghost use Rattle.sdjwt_cli.specs.Converting.{HasRoom, Converts};
 ghost use Rattle.sdjwt_cli.specs.Run.{Outside, Ends};
-ghost use Rattle.sdjwt_cli.specs.Presented.{PresentedOverValues, PresentedOverFiles, PresentedOverRuns};
+ghost use Rattle.sdjwt_cli.specs.Presented.{PresentedOverFiles, PresentedOverRuns};
+ghost use Rattle.sdjwt_cli.specs.PresentedValues.{PresentedOverValues};
 
 use claim_tree::Path;
 
 /// Each file of a command is named by its word, counted behind the command from 0.
 pub fn files_are_words()
     ensures { (words : List (List ℕ)) (command : Command) → command_of words ≡ Some command
-        → (wanted : Wanted) → In wanted (wanted_by command) → At words (wanted.word + 1) wanted.name }
+        → (wanted : NamedFile) → In wanted (files_of command) → StandsAt words (wanted.word + 1) wanted.name }
 {}
 
 /// The definition of a command has at most one verdict over its files.
 pub fn one_answer()
-    ensures { (command : Command) (files : List (List ℕ)) (now : ℕ) (v w : Verdict) → Answers command files now v → Answers command files now w → v ≡ w }
+    ensures { (command : Command) (files : List (List ℕ)) (now : ℕ) (v w : Reply) → Answers command files now v → Answers command files now w → v ≡ w }
 {}
 
 /// Where the cabinet tells the files of a command, its definition gives an answer, and neither the cabinet

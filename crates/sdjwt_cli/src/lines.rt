@@ -1,6 +1,6 @@
 // The lines that the program writes to standard error.
 ghost use Rattle.std.specs.Prelude.{◌≡◌, IfOk, string_bytes};
-ghost use Rattle.sdjwt_cli.specs.Lines.{line, reason as reason_of, refusal, short_seed, unread, unreadable_line as line_of};
+ghost use Rattle.sdjwt_cli.specs.Lines.{line, reason as reason_of, refusal, short_seed, unread_text, unreadable_line as line_of};
 ghost use Rattle.compact_form.specs.Condition.{Condition, number_of};
 
 use claim_tree::FileFault;
@@ -27,7 +27,7 @@ pub(crate) fn refusal_line(alloc: Global, fault: &Fault) -> Result<String, NoMem
 
 // No command has more than two files.
 pub(crate) fn unread_line(word: usize) -> &'static str
-    ensures { result.now ≡ unread word }
+    ensures { result.now ≡ unread_text word }
 {
     match word {
         0 => "unread 1\n",

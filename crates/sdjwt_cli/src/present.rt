@@ -7,7 +7,8 @@ ghost use Rattle.holder_core.specs.Present.{IsPresented, IsNotPresented};
 ghost use Rattle.holder_core.specs.PresentFile.{IsPresentFile};
 ghost use Rattle.holder_core.specs.declared.errors.PresentError.{PresentError};
 ghost use Rattle.sdjwt_cli.specs.Never.{Judges, never_rule};
-ghost use Rattle.sdjwt_cli.specs.Presenting.{signing_key, HasLine, IsLineOf, IsRefusalOf, Presents, DoesNotPresent, HasNoPresentOrder};
+ghost use Rattle.sdjwt_cli.specs.Presenting.{signing_key, Presents, DoesNotPresent, HasNoPresentOrder};
+ghost use Rattle.sdjwt_cli.specs.PresentingSteps.{HasLine, IsLineOf, IsRefusalOf};
 ghost use Rattle.sdjwt_cli.specs.Stops.{OnRefused, OnUnread, OnUnreadable};
 ghost use Rattle.sdjwt_cli.specs.Lines.{line};
 

@@ -6,11 +6,12 @@ ghost use Rattle.claim_tree.specs.Tree.{IsRanged};
 ghost use Rattle.claim_tree.specs.JsonText.{json_text};
 ghost use Rattle.claim_tree.specs.View.{tree_of};
 ghost use Rattle.jws_part.specs.Part.{IsBody, IsNoObject};
-ghost use Rattle.jws_part.specs.Header.{IsUnreadable};
-ghost use Rattle.disclosure.specs.Refusals.{IsRefused};
+ghost use Rattle.jws_part.specs.Header.{IsHeaderUnreadable};
+ghost use Rattle.disclosure.specs.DisclosureRefusals.{IsDisclosureRefused};
 ghost use Rattle.compact_form.specs.Views.{jwt_of};
 ghost use Rattle.sdjwt_cli.specs.Lines.{line};
-ghost use Rattle.sdjwt_cli.specs.Show.{has_known_hash as has_known_hash_of, IsHead, IsShown, IsUnread, kind_text, AddsLine, AddsLines, IsUnreadAt, OnFails, Shows, IsShowRefused, DoesNotShow, fault_of};
+ghost use Rattle.sdjwt_cli.specs.Show.{has_known_hash as has_known_hash_of, IsHead, IsShown, IsDisclosureUnread, kind_text, IsShowUnreadAt, Shows, IsShowRefused, DoesNotShow, fault_of};
+ghost use Rattle.sdjwt_cli.specs.ShowSteps.{AddsLine, AddsLines, OnFails};
 ghost use Rattle.json_form.specs.Token.{IsToken};
 ghost use Rattle.sdjwt_cli.specs.declared.show.Unshown.TheVariants.{Fails};
 ghost use Rattle.sdjwt_cli.specs.Stops.{OnRefused, OnUnread, OnUnreadable};
@@ -32,7 +33,7 @@ use std::alloc::Global;
 fn read_head(alloc: Global, protected: &str, outer: &TreeMap) -> Result<Tree, BodyError>
     ensures head { IfOk result (λ t. IsHead protected.now outer.now (tree_of t)) }
     ensures ranged { IfOk result (λ t. IsRanged (tree_of t)) }
-    ensures unreadable { IsErrOf result BodyError.Unreadable → IsUnreadable protected.now outer.now }
+    ensures unreadable { IsErrOf result BodyError.Unreadable → IsHeaderUnreadable protected.now outer.now }
 {
     let tree = read_body(alloc, protected)?;
     match read_header(alloc, protected, outer) {
@@ -81,7 +82,7 @@ fn push_line(
 // The line of a disclosure.
 fn push_shown(alloc: Global, text: &mut String, i: usize, part: &str) -> Result<(), DisclosureError>
     ensures ok { OnOk result (AddsLine i part.now (string_bytes text.old) (string_bytes text.new)) }
-    ensures refused { IfErr result (IsRefused part.now) }
+    ensures refused { IfErr result (IsDisclosureRefused part.now) }
 {
     let disclosure = read_disclosure(alloc, part)?;
     let digest = disclosure.digest(alloc, HashAlg::Sha256)?;
@@ -116,7 +117,7 @@ fn push_all_shown(
 ) -> Result<(), Unshown>
     requires { length disclosures < 2 ^ 64 }
     ensures ok { OnOk result (AddsLines disclosures.entry (string_bytes text.old) (string_bytes text.new)) }
-    ensures unread { IfErr result (λ e. OnFails e (IsUnreadAt disclosures.entry)) }
+    ensures unread { IfErr result (λ e. OnFails e (IsShowUnreadAt disclosures.entry)) }
 {
     for (i, part) in disclosures.enumerate() {
         match push_shown(alloc, text, i, part) {

@@ -4,7 +4,7 @@ ghost use Rattle.std.specs.Fmt.{decimal};
 ghost use Rattle.std.specs.Option.{option_map};
 ghost use Rattle.compact_form.specs.Views.{jwt_of};
 ghost use Rattle.sdjwt_cli.specs.Lines.{line};
-ghost use Rattle.sdjwt_cli.specs.Split.{numbered, binding_line, signed_lines, split_lines, Gives, Refuses};
+ghost use Rattle.sdjwt_cli.specs.Split.{disclosure_lines, binding_line, signed_lines, split_lines, Splits, DoesNotSplit};
 ghost use Rattle.sdjwt_cli.specs.Stops.{OnRefused, OnUnread, OnUnreadable};
 
 use crate::stop::{Stop, refused};
@@ -36,7 +36,7 @@ fn push_disclosure(text: &mut String, i: usize, disclosure: &str) -> Result<(), 
 
 fn push_disclosures(text: &mut String, disclosures: Disclosures<'_>) -> Result<(), NoMemory>
     requires { length disclosures < 2 ^ 64 }
-    ensures { OnOk result (string_bytes text.new ≡ string_bytes text.old ++ numbered 0 disclosures.entry) }
+    ensures { OnOk result (string_bytes text.new ≡ string_bytes text.old ++ disclosure_lines 0 disclosures.entry) }
 {
     for (i, disclosure) in disclosures.enumerate() {
         push_disclosure(text, i, disclosure)?;
@@ -80,8 +80,8 @@ fn room_for(file: &[u8], disclosures: usize) -> usize {
 
 /// The answer to a token file.
 pub(crate) fn split(alloc: Global, file: &[u8]) -> Result<String, Stop>
-    ensures gives { IfOk result (λ text. Gives file.now (string_bytes text)) }
-    ensures refuses { IfErr result (λ stop. OnRefused stop (Refuses file.now)) }
+    ensures gives { IfOk result (λ text. Splits file.now (string_bytes text)) }
+    ensures refuses { IfErr result (λ stop. OnRefused stop (DoesNotSplit file.now)) }
     ensures read { IfErr result (λ stop. OnUnread stop (λ _. ⊥)) }
     ensures readable { IfErr result (λ stop. OnUnreadable stop (λ _. ⊥)) }
 {

@@ -7,32 +7,32 @@ use Rattle.claim_tree.specs.Tree.{Text}
 use Rattle.claim_tree.specs.Lists.{In}
 use Rattle.claim_tree.proofs.Lists.{In-left, In-right, In-append, In-map, In-of_map}
 use Rattle.marked_tree.specs.Marked as spec
-use Rattle.marked_tree.specs.Marked.{only}
+use Rattle.marked_tree.specs.Ways.{only}
 use Rattle.marked_tree.specs.Choice.{StandOnce}
-use Rattle.marked_tree.specs.Places.{Path, Spot, inside, own_spot, spots, elements_spots, members_spots, first_with, place}
+use Rattle.marked_tree.specs.Paths.{Path, Spot, inside, own_spot, spots, elements_spots, members_spots, first_with, mark_path}
 use Rattle.marked_tree.specs.View.{marked_of, marked_elements_of, marked_members_of}
 use Rattle.marked_tree.proofs.Finds.{node_spots}
 use Rattle.marked_tree.proofs.MarkedViews.{Element, Entry}
 use Rattle.marked_tree.proofs.Spots.{first_is, spots_weigh}
-use Rattle.selection_core.specs.Asked.{Seen, own_seen, seen_from, is_below, IsAsked}
-use Rattle.selection_core.specs.Consent.{Answers, Allows, AllAllowed, IsRefusedAt}
+use Rattle.selection_core.specs.Asked.{SeenMark, own_seen, seen_from, is_below, IsAskedOnWalk}
+use Rattle.selection_core.specs.Consent.{RuleAnswers, Allows, AllAllowed, IsRefusedAt}
 
-module _ {F : Type 0} (answers : Answers F) (rule : F) (s : ℕ → Bool) where
+module _ {F : Type 0} (answers : RuleAnswers F) (rule : F) (s : ℕ → Bool) where
   -- what is asked of the rest from here on is asked of all from the beginning
-  abbrev pub IsAskedThrough : List Seen → List Seen → Option ℕ → Option ℕ → Type 0
-  IsAskedThrough rest all before now = (after : Option ℕ) → IsAsked answers rule s rest now after → IsAsked answers rule s all before after
+  abbrev pub IsAskedThrough : List SeenMark → List SeenMark → Option ℕ → Option ℕ → Type 0
+  IsAskedThrough rest all before now = (after : Option ℕ) → IsAskedOnWalk answers rule s rest now after → IsAskedOnWalk answers rule s all before after
 
-  pub asked_none : (now : Option ℕ) → IsAsked answers rule s [] now now
+  pub asked_none : (now : Option ℕ) → IsAskedOnWalk answers rule s [] now now
   asked_none now = record { allowed = λ x m. elim m [ ]; falls = λ i b. b; refused = inl refl }
 
   -- nothing of the set was seen
-  pub asked_unkept : (seen : List Seen) (now : Option ℕ) → ((x : Seen) → In x seen → s x.0 ≡ false) → IsAsked answers rule s seen now now
+  pub asked_unkept : (seen : List SeenMark) (now : Option ℕ) → ((x : SeenMark) → In x seen → s x.0 ≡ false) → IsAskedOnWalk answers rule s seen now now
   asked_unkept seen now none = record { allowed = λ x m k. absurd (clash x m k); falls = λ i b. b; refused = inl refl }
     where
-      clash : (x : Seen) → In x seen → s x.0 ≡ true → ⊥
+      clash : (x : SeenMark) → In x seen → s x.0 ≡ true → ⊥
       clash x m k = let e : false ≡ true = sym (none x m) ∙ k in cc e
 
-  pub asked_append : (xs ys : List Seen) (a b c : Option ℕ) → IsAsked answers rule s xs a b → IsAsked answers rule s ys b c → IsAsked answers rule s (xs ++ ys) a c
+  pub asked_append : (xs ys : List SeenMark) (a b c : Option ℕ) → IsAskedOnWalk answers rule s xs a b → IsAskedOnWalk answers rule s ys b c → IsAskedOnWalk answers rule s (xs ++ ys) a c
   asked_append xs ys a b c first second = record {
     allowed = λ x m k l. ⊎_elim (λ n. first.allowed x n k (second.falls x.0 l)) (λ n. second.allowed x n k l) (In-append x xs ys m);
     falls = λ i l. first.falls i (second.falls i l);
@@ -42,51 +42,51 @@ module _ {F : Type 0} (answers : Answers F) (rule : F) (s : ℕ → Bool) where
         (λ w. inr (w.0, In-right w.0 xs ys w.1, w.2, w.3, w.4)) second.refused;
   }
 
-  pub through_next : (xs rest all : List Seen) (before now next : Option ℕ) → IsAskedThrough (xs ++ rest) all before now → IsAsked answers rule s xs now next → IsAskedThrough rest all before next
+  pub through_next : (xs rest all : List SeenMark) (before now next : Option ℕ) → IsAskedThrough (xs ++ rest) all before now → IsAskedOnWalk answers rule s xs now next → IsAskedThrough rest all before next
   through_next xs rest all before now next through asked after then = through after (asked_append xs rest now next after asked then)
 
   -- a node of a list, of which this is what was seen before
-  pub through_node : (seen xs rest all : List Seen) (before now next : Option ℕ) → seen ≡ xs ++ rest → IsAskedThrough seen all before now → IsAsked answers rule s xs now next → IsAskedThrough rest all before next
+  pub through_node : (seen xs rest all : List SeenMark) (before now next : Option ℕ) → seen ≡ xs ++ rest → IsAskedThrough seen all before now → IsAskedOnWalk answers rule s xs now next → IsAskedThrough rest all before next
   through_node seen xs rest all before now next e through asked =
-      through_next xs rest all before now next (subst (λ (ys : List Seen). IsAskedThrough ys all before now) e through) asked
+      through_next xs rest all before now next (subst (λ (ys : List SeenMark). IsAskedThrough ys all before now) e through) asked
 
   -- one with nothing of the set
-  pub asked_skipped : (own : Option ℕ) (at : Path) (ss : List Spot) (now : Option ℕ) → ((i : ℕ) → own ≡ Some i → s i ≡ false) → ss ≡ [] → IsAsked answers rule s (own_seen own at ++ seen_from at ss) now now
+  pub asked_skipped : (own : Option ℕ) (at : Path) (ss : List Spot) (now : Option ℕ) → ((i : ℕ) → own ≡ Some i → s i ≡ false) → ss ≡ [] → IsAskedOnWalk answers rule s (own_seen own at ++ seen_from at ss) now now
   asked_skipped own at ss now none e = asked_unkept (own_seen own at ++ seen_from at ss) now (λ x m. go x (In-append x (own_seen own at) (seen_from at ss) m))
     where
-      own_none : (o : Option ℕ) → own ≡ o → (x : Seen) → In x (own_seen o at) → s x.0 ≡ false
+      own_none : (o : Option ℕ) → own ≡ o → (x : SeenMark) → In x (own_seen o at) → s x.0 ≡ false
       own_none None q x m = elim m [ ]
-      own_none (Some i) q x (inl f) = subst (λ (z : Seen). s z.0 ≡ false) (sym f) (none i q)
+      own_none (Some i) q x (inl f) = subst (λ (z : SeenMark). s z.0 ≡ false) (sym f) (none i q)
       own_none (Some i) q x (inr m) = elim m [ ]
 
-      go : (x : Seen) → In x (own_seen own at) ⊎ In x (seen_from at ss) → s x.0 ≡ false
+      go : (x : SeenMark) → In x (own_seen own at) ⊎ In x (seen_from at ss) → s x.0 ≡ false
       go x (inl m) = own_none own refl x m
       go x (inr m) = let n : In x [] = subst (λ (zs : List Spot). In x (seen_from at zs)) e m in elim n [ ]
 
   -- one mark
-  pub asked_allowed : (i : ℕ) (at : Path) (now : Option ℕ) → Allows answers rule at true → IsAsked answers rule s (own_seen (Some i) at) now now
+  pub asked_allowed : (i : ℕ) (at : Path) (now : Option ℕ) → Allows answers rule at true → IsAskedOnWalk answers rule s (own_seen (Some i) at) now now
   asked_allowed i at now shown = record {
     allowed = λ x m k l. one x m;
     falls = λ i b. b;
     refused = inl refl;
   }
     where
-      one : (x : Seen) → In x ((i, at) ∷ []) → Allows answers rule x.1 true
-      one x (inl e) = subst (λ (z : Seen). Allows answers rule z.1 true) (sym e) shown
+      one : (x : SeenMark) → In x ((i, at) ∷ []) → Allows answers rule x.1 true
+      one x (inl e) = subst (λ (z : SeenMark). Allows answers rule z.1 true) (sym e) shown
       one x (inr m) = elim m [ ]
 
-  pub asked_above : (i : ℕ) (at : Path) (now : Option ℕ) → is_below i now ≡ false → IsAsked answers rule s (own_seen (Some i) at) now now
+  pub asked_above : (i : ℕ) (at : Path) (now : Option ℕ) → is_below i now ≡ false → IsAskedOnWalk answers rule s (own_seen (Some i) at) now now
   asked_above i at now above = record {
     allowed = λ x m k l. absurd (one x m l);
     falls = λ i b. b;
     refused = inl refl;
   }
     where
-      one : (x : Seen) → In x ((i, at) ∷ []) → is_below x.0 now ≡ true → ⊥
-      one x (inl e) l = let f : false ≡ true = sym above ∙ subst (λ (z : Seen). is_below z.0 now ≡ true) e l in cc f
+      one : (x : SeenMark) → In x ((i, at) ∷ []) → is_below x.0 now ≡ true → ⊥
+      one x (inl e) l = let f : false ≡ true = sym above ∙ subst (λ (z : SeenMark). is_below z.0 now ≡ true) e l in cc f
       one x (inr m) l = elim m [ ]
 
-  pub asked_refused : (i : ℕ) (at : Path) (now : Option ℕ) → s i ≡ true → is_below i now ≡ true → Allows answers rule at false → IsAsked answers rule s (own_seen (Some i) at) now (Some i)
+  pub asked_refused : (i : ℕ) (at : Path) (now : Option ℕ) → s i ≡ true → is_below i now ≡ true → Allows answers rule at false → IsAskedOnWalk answers rule s (own_seen (Some i) at) now (Some i)
   asked_refused i at now kept below hidden = record {
     allowed = λ x m k l. absurd (one x m l);
     falls = λ j l. through j now below (ltb_less j i l);
@@ -99,8 +99,8 @@ module _ {F : Type 0} (answers : Answers F) (rule : F) (s : ℕ → Bool) where
       less_ltb : (j i : ℕ) → j < i → ltb j i ≡ true
       less_ltb j i l = grind (arith, nat_tests)
 
-      one : (x : Seen) → In x ((i, at) ∷ []) → ltb x.0 i ≡ true → ⊥
-      one x (inl e) l = let f = ltb_less i i (subst (λ (z : Seen). ltb z.0 i ≡ true) e l) in omega (arith, f)
+      one : (x : SeenMark) → In x ((i, at) ∷ []) → ltb x.0 i ≡ true → ⊥
+      one x (inl e) l = let f = ltb_less i i (subst (λ (z : SeenMark). ltb z.0 i ≡ true) e l) in omega (arith, f)
       one x (inr m) l = elim m [ ]
 
       through : (j : ℕ) (o : Option ℕ) → is_below i o ≡ true → j < i → is_below j o ≡ true
@@ -126,7 +126,7 @@ step_in (k ∷ at) p step = ap (λ (q : Path). k ∷ q) (step_in at p step)
 
 seen_inside : (at : Path) (step : Text) (own : Option ℕ) (ss : List Spot) → seen_from at (map (inside step own) ss) ≡ seen_from (at ++ step ∷ []) ss
 seen_inside at step own [] = refl
-seen_inside at step own (s ∷ ss) = ap₂ (λ (x : Path) (xs : List Seen). (s.mark, x) ∷ xs) (step_in at s.at step) (seen_inside at step own ss)
+seen_inside at step own (s ∷ ss) = ap₂ (λ (x : Path) (xs : List SeenMark). (s.mark, x) ∷ xs) (step_in at s.at step) (seen_inside at step own ss)
 
 own_is : (at : Path) (step : Text) (own : Option ℕ) → seen_from at (own_spot step own) ≡ own_seen own (at ++ step ∷ [])
 own_is at step None = refl
@@ -134,7 +134,7 @@ own_is at step (Some i) = refl
 
 pub node_seen : (at : Path) (step : Text) (own : Option ℕ) (t : spec.Marked)
     → seen_from at (node_spots step own t) ≡ own_seen own (at ++ step ∷ []) ++ seen_from (at ++ step ∷ []) (spots t)
-node_seen at step own t = seen_append at (own_spot step own) (map (inside step own) (spots t)) ∙ ap₂ (λ (xs ys : List Seen). xs ++ ys) (own_is at step own) (seen_inside at step own (spots t))
+node_seen at step own t = seen_append at (own_spot step own) (map (inside step own) (spots t)) ∙ ap₂ (λ (xs ys : List SeenMark). xs ++ ys) (own_is at step own) (seen_inside at step own (spots t))
 
 pub element_seen : (at : Path) (n : ℕ) (es : List Element) (e : Element) → n < length es → e ≡ get_or es n e
     → seen_from at (elements_spots n (marked_elements_of (drop n es)))
@@ -144,7 +144,7 @@ element_seen at n es e within is =
     let more : suc n ≡ n + 1 = omega arith in
     ap (λ us. seen_from at (elements_spots n (marked_elements_of us))) there
     ∙ seen_append at (node_spots (decimal n) e.0 (marked_of e.1)) (elements_spots (suc n) (marked_elements_of (drop (n + 1) es)))
-    ∙ ap₂ (λ (xs : List Seen) (m : ℕ). xs ++ seen_from at (elements_spots m (marked_elements_of (drop (n + 1) es)))) (node_seen at (decimal n) e.0 (marked_of e.1)) more
+    ∙ ap₂ (λ (xs : List SeenMark) (m : ℕ). xs ++ seen_from at (elements_spots m (marked_elements_of (drop (n + 1) es)))) (node_seen at (decimal n) e.0 (marked_of e.1)) more
 
 pub member_seen : (at : Path) (n : ℕ) (ms : List Entry) (m : Entry) → n < length ms → m ≡ get_or ms n m
     → seen_from at (members_spots (marked_members_of (drop n ms)))
@@ -153,7 +153,7 @@ member_seen at n ms m within is =
     let there : drop n ms ≡ m ∷ drop (n + 1) ms = drop_more ms n m within ∙ ap (λ (d : Entry). d ∷ drop (n + 1) ms) (sym is) in
     ap (λ us. seen_from at (members_spots (marked_members_of us))) there
     ∙ seen_append at (node_spots m.0 m.1 (marked_of m.2)) (members_spots (marked_members_of (drop (n + 1) ms)))
-    ∙ ap (λ (xs : List Seen). xs ++ seen_from at (members_spots (marked_members_of (drop (n + 1) ms)))) (node_seen at m.0 m.1 (marked_of m.2))
+    ∙ ap (λ (xs : List SeenMark). xs ++ seen_from at (members_spots (marked_members_of (drop (n + 1) ms)))) (node_seen at m.0 m.1 (marked_of m.2))
 
 -- ---- all that was asked
 
@@ -166,11 +166,11 @@ spot_of i (s ∷ ss) at e = go (eqb s.mark i) refl e (spot_of i ss at)
     go true q f ih = let same : s.at ≡ at = cc f in (s, inl refl, eqb-true s.mark i q, same)
     go false q f ih = let w = ih f in (w.0, inr w.1, w.2, w.3)
 
-module _ {F : Type 0} (answers : Answers F) (rule : F) (m : spec.Marked) (s : ℕ → Bool) where
+module _ {F : Type 0} (answers : RuleAnswers F) (rule : F) (m : spec.Marked) (s : ℕ → Bool) where
   abbrev WasAsked : Option ℕ → Type 0
-  WasAsked after = IsAsked answers rule s (seen_from [] (spots m)) None after
+  WasAsked after = IsAskedOnWalk answers rule s (seen_from [] (spots m)) None after
 
-  allowed_at : (after : Option ℕ) → WasAsked after → (i : ℕ) (at : Path) → s i ≡ true → place m i ≡ Some at → is_below i after ≡ true → Allows answers rule at true
+  allowed_at : (after : Option ℕ) → WasAsked after → (i : ℕ) (at : Path) → s i ≡ true → mark_path m i ≡ Some at → is_below i after ≡ true → Allows answers rule at true
   allowed_at after asked i at kept stands below =
       let w = spot_of i (spots m) at stands in
       let seen : In (w.0.mark, w.0.at) (seen_from [] (spots m)) = In-map (λ (z : Spot). (z.mark, z.at)) w.0 (spots m) w.1 in
@@ -186,17 +186,17 @@ module _ {F : Type 0} (answers : Answers F) (rule : F) (m : spec.Marked) (s : �
       less_ltb : (j i : ℕ) → j < i → ltb j i ≡ true
       less_ltb j i l = grind (arith, nat_tests)
 
-      go : (Some i ≡ None) ⊎ ((x : Seen) × In x (seen_from [] (spots m)) × (s x.0 ≡ true) × (Some i ≡ Some x.0) × Allows answers rule x.1 false) → IsRefusedAt answers rule m s i
+      go : (Some i ≡ None) ⊎ ((x : SeenMark) × In x (seen_from [] (spots m)) × (s x.0 ≡ true) × (Some i ≡ Some x.0) × Allows answers rule x.1 false) → IsRefusedAt answers rule m s i
       go (inl e) = cc e
       go (inr w) =
           let same : i ≡ w.0.0 = cc w.3 in
           let kept : s i ≡ true = subst (λ j. s j ≡ true) (sym same) w.2 in
           let v = In-of_map (λ (z : Spot). (z.mark, z.at)) w.0 (spots m) w.1 in
-          let marked : v.0.mark ≡ i = ap (λ (x : Seen). x.0) (sym v.2) ∙ sym same in
+          let marked : v.0.mark ≡ i = ap (λ (x : SeenMark). x.0) (sym v.2) ∙ sym same in
           record {
             chosen = kept;
             at = v.0.at;
             stands = first_is i (spots m) v.0 (omega (arith, once i kept, spots_weigh (only i) m)) v.1 marked;
-            refused = subst (λ (x : Seen). Allows answers rule x.1 false) v.2 w.4;
+            refused = subst (λ (x : SeenMark). Allows answers rule x.1 false) v.2 w.4;
             smaller = λ j there l k stands. allowed_at (Some i) asked j there k stands (less_ltb j i l);
           }

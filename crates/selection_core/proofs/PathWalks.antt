@@ -7,7 +7,7 @@ use Rattle.claim_tree.specs.Path.{tree_at, stepped}
 use Rattle.marked_tree.specs.Choice.{is_on_way, has_mark}
 use Rattle.marked_tree.specs.Marked.{Marked, strip}
 use Rattle.marked_tree.specs.Numbers.{has}
-use Rattle.marked_tree.specs.Places.{Path}
+use Rattle.marked_tree.specs.Paths.{Path}
 use Rattle.marked_tree.proofs.StepFacts.{none_at_root}
 
 -- the rest of the path leads from the tree inside to where the whole one leads

@@ -4,15 +4,15 @@ use Rattle.std.specs.Prelude.{is_some}
 use Rattle.std.specs.List.{list_any}
 use Rattle.std.proofs.lemmas.List.{drop_more, drop_all}
 use Rattle.claim_tree.specs.Tree.{Tree}
-use Rattle.claim_tree.specs.Lists.{At, IsLeast}
+use Rattle.claim_tree.specs.Lists.{StandsAt, IsLeast}
 use Rattle.claim_tree.specs.Path.{tree_at}
 use Rattle.claim_tree.proofs.Lists.{At-same, At-below, At-get_or}
-use Rattle.marked_tree.specs.Choice.{is_on_way, chosen}
+use Rattle.marked_tree.specs.Choice.{is_on_way}
 use Rattle.marked_tree.specs.Marked.{Marked}
 use Rattle.marked_tree.specs.Numbers.{has}
-use Rattle.marked_tree.specs.Places.{Path}
+use Rattle.marked_tree.specs.Paths.{Path, chosen}
 use Rattle.marked_tree.proofs.LeastChoice.{chosen_by_ways}
-use Rattle.selection_core.specs.Refusals.{IsMissing}
+use Rattle.selection_core.specs.ChoiceRefusals.{IsMissing}
 
 abbrev pub ways_to : Marked → List Path → ℕ → Bool
 ways_to m want i = list_any (λ p. is_on_way m p i) want
@@ -58,15 +58,15 @@ none_missing_more t want k p e there none q l missing = go (below_or_last q k l)
     go : (q < k) ⊎ (q ≡ k) → ⊥
     go (inl less) = none q less missing
     go (inr same) =
-        let at : At want k missing.0 = subst (λ n. At want n missing.0) same missing.1 in
-        let is : missing.0 ≡ p = At-same want k missing.0 p at (subst (λ (x : Path). At want k x) (sym e) (At-get_or want k p (At-below want k missing.0 at))) in
+        let at : StandsAt want k missing.0 = subst (λ n. StandsAt want n missing.0) same missing.1 in
+        let is : missing.0 ≡ p = At-same want k missing.0 p at (subst (λ (x : Path). StandsAt want k x) (sym e) (At-get_or want k p (At-below want k missing.0 at))) in
         let clash : true ≡ false = there ∙ ap (λ (x : Path). is_some (tree_at t x)) (sym is) ∙ ap (λ (o : Option Tree). is_some o) missing.2 in
         cc clash
 
 pub first_missing : (t : Tree) (want : List Path) (k : ℕ) (p : Path) → k < length want → p ≡ get_or want k p → false ≡ is_some (tree_at t p)
     → NoneMissing t want k → IsLeast (IsMissing t want) k
 first_missing t want k p l e nowhere none = record {
-  fails = (p, subst (λ (x : Path). At want k x) (sym e) (At-get_or want k p l), is_none (tree_at t p) nowhere);
+  fails = (p, subst (λ (x : Path). StandsAt want k x) (sym e) (At-get_or want k p l), is_none (tree_at t p) nowhere);
   first = none;
 }
   where

@@ -1,3 +1,5 @@
 pub mod Consent
-pub mod Refusals
+pub mod ChoiceRefusals
 pub mod Asked
+pub mod AllowCalls
+pub mod ChooseCalls

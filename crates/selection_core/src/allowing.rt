@@ -4,10 +4,11 @@ ghost use Rattle.claim_tree.specs.Tree.{depth, elements_depth, members_depth};
 ghost use Rattle.marked_tree.specs.Choice.{StandOnce};
 ghost use Rattle.marked_tree.specs.Marked.{strip, strip_elements, strip_members};
 ghost use Rattle.marked_tree.specs.Numbers.{has};
-ghost use Rattle.marked_tree.specs.Places.{spots, elements_spots, members_spots};
+ghost use Rattle.marked_tree.specs.Paths.{spots, elements_spots, members_spots};
 ghost use Rattle.marked_tree.specs.View.{marked_of};
-ghost use Rattle.selection_core.specs.Asked.{own_seen, seen_from, is_below as is_below_of, IsAsked};
-ghost use Rattle.selection_core.specs.Consent.{AllAllowed, IsDenied};
+ghost use Rattle.selection_core.specs.Asked.{own_seen, seen_from, is_below as is_below_of, IsAskedOnWalk};
+ghost use Rattle.selection_core.specs.Consent.{AllAllowed};
+ghost use Rattle.selection_core.specs.AllowCalls.{IsAllowRefused};
 
 use crate::{AllowError, Consent};
 use claim_tree::Path;
@@ -29,7 +30,7 @@ pub fn allow<F: Fn(&Path) -> bool>(
     requires depth { depth (strip (marked_of tree.now)) ≤ 127 }
     requires once { StandOnce (marked_of tree.now) (has chosen.now) }
     ensures allowed { IfOk result (λ _. AllAllowed F.Fn consent.now (marked_of tree.now) (has chosen.now)) }
-    ensures refused { IfErr result (IsDenied F.Fn consent.now (marked_of tree.now) (has chosen.now)) }
+    ensures refused { IfErr result (IsAllowRefused F.Fn consent.now (marked_of tree.now) (has chosen.now)) }
 {
     let mut at = Path::new(alloc);
     let mut refused = None;
@@ -52,7 +53,7 @@ fn ask_inside<F: Fn(&Path) -> bool>(
 ) -> Result<(), NoMemory>
     requires callable { F.IsAlwaysCallable consent.now }
     requires depth { depth (strip (marked_of tree.now)) ≤ 127 }
-    ensures asked { OnOk result (IsAsked F.Fn consent.now (has chosen.now) (seen_from at.old (spots (marked_of tree.now))) refused.old refused.new) }
+    ensures asked { OnOk result (IsAskedOnWalk F.Fn consent.now (has chosen.now) (seen_from at.old (spots (marked_of tree.now))) refused.old refused.new) }
     ensures at { OnOk result (at.new ≡ at.old) }
 {
     match tree {
@@ -73,7 +74,7 @@ fn ask_elements<F: Fn(&Path) -> bool>(
 ) -> Result<(), NoMemory>
     requires callable { F.IsAlwaysCallable consent.now }
     requires depth { elements_depth (strip_elements list.now) ≤ 126 }
-    ensures asked { OnOk result (IsAsked F.Fn consent.now (has chosen.now) (seen_from at.old (elements_spots 0 list.now)) refused.old refused.new) }
+    ensures asked { OnOk result (IsAskedOnWalk F.Fn consent.now (has chosen.now) (seen_from at.old (elements_spots 0 list.now)) refused.old refused.new) }
     ensures at { OnOk result (at.new ≡ at.old) }
 {
     for (i, element) in list.elements().iter().enumerate() {
@@ -98,7 +99,7 @@ fn ask_members<F: Fn(&Path) -> bool>(
 ) -> Result<(), NoMemory>
     requires callable { F.IsAlwaysCallable consent.now }
     requires depth { members_depth (strip_members map.now) ≤ 126 }
-    ensures asked { OnOk result (IsAsked F.Fn consent.now (has chosen.now) (seen_from at.old (members_spots map.now)) refused.old refused.new) }
+    ensures asked { OnOk result (IsAskedOnWalk F.Fn consent.now (has chosen.now) (seen_from at.old (members_spots map.now)) refused.old refused.new) }
     ensures at { OnOk result (at.new ≡ at.old) }
 {
     for (name, mark, tree) in map.members() {
@@ -124,7 +125,7 @@ fn ask_node<F: Fn(&Path) -> bool>(
 ) -> Result<(), NoMemory>
     requires callable { F.IsAlwaysCallable consent.now }
     requires depth { depth (strip (marked_of tree.now)) ≤ 127 }
-    ensures asked { OnOk result (IsAsked F.Fn consent.now (has chosen.now) (own_seen mark at.old ++ seen_from at.old (spots (marked_of tree.now))) refused.old refused.new) }
+    ensures asked { OnOk result (IsAskedOnWalk F.Fn consent.now (has chosen.now) (own_seen mark at.old ++ seen_from at.old (spots (marked_of tree.now))) refused.old refused.new) }
     ensures at { OnOk result (at.new ≡ at.old) }
 {
     ask(consent, mark, chosen, at, refused);
@@ -140,7 +141,7 @@ fn ask<F: Fn(&Path) -> bool>(
     refused: &mut Option<u32>,
 )
     requires callable { F.IsAlwaysCallable consent.now }
-    ensures { IsAsked F.Fn consent.now (has chosen.now) (own_seen mark at.now) refused.old refused.new }
+    ensures { IsAskedOnWalk F.Fn consent.now (has chosen.now) (own_seen mark at.now) refused.old refused.new }
 {
     let Some(mark) = mark else {
         return;

@@ -1,12 +1,14 @@
 // The choice of the marks that lead to wanted places.
 ghost use Rattle.std.specs.Prelude.{◌≡◌, ◌||◌, ℕ, true, is_some, IfOk, IfErr};
-ghost use Rattle.claim_tree.specs.Lists.{Nowhere};
+ghost use Rattle.claim_tree.specs.Lists.{AtNone};
 ghost use Rattle.claim_tree.specs.Path.{tree_at};
-ghost use Rattle.marked_tree.specs.Choice.{chosen, is_on_way, IsUnmixed, IsLeastChoice};
+ghost use Rattle.marked_tree.specs.Choice.{is_on_way, IsUnmixed, IsLeastChoice};
+ghost use Rattle.marked_tree.specs.Paths.{chosen};
 ghost use Rattle.marked_tree.specs.Marked.{strip};
 ghost use Rattle.marked_tree.specs.Numbers.{has};
 ghost use Rattle.marked_tree.specs.View.{marked_of};
-ghost use Rattle.selection_core.specs.Refusals.{IsMissing, IsNotThere};
+ghost use Rattle.selection_core.specs.ChoiceRefusals.{IsMissing};
+ghost use Rattle.selection_core.specs.ChooseCalls.{IsChooseRefused};
 
 use crate::ChooseError;
 use claim_tree::{Path, PathList};
@@ -21,8 +23,8 @@ use std::alloc::Global;
 pub fn choose(alloc: Global, tree: &Marked, wanted: &PathList) -> Result<ChosenSet, ChooseError>
     ensures chosen { IfOk result (λ marks. (i : ℕ) → has marks i ≡ chosen (marked_of tree.now) wanted.now i) }
     ensures least { IsUnmixed (marked_of tree.now) → IfOk result (λ marks. IsLeastChoice (marked_of tree.now) wanted.now (has marks)) }
-    ensures there { IfOk result (λ _. Nowhere (IsMissing (strip (marked_of tree.now)) wanted.now)) }
-    ensures refused { IfErr result (IsNotThere (strip (marked_of tree.now)) wanted.now) }
+    ensures there { IfOk result (λ _. AtNone (IsMissing (strip (marked_of tree.now)) wanted.now)) }
+    ensures refused { IfErr result (IsChooseRefused (strip (marked_of tree.now)) wanted.now) }
 {
     let mut marks = ChosenSet::new(alloc);
     for (k, path) in wanted.paths().iter().enumerate() {

@@ -3,7 +3,7 @@ ghost use Rattle.claim_tree.specs.Tree.{depth};
 ghost use Rattle.marked_tree.specs.Choice.{IsUnmixed, StandOnce};
 ghost use Rattle.marked_tree.specs.Marked.{strip as strip_of};
 ghost use Rattle.marked_tree.specs.Numbers.{has};
-ghost use Rattle.marked_tree.specs.Places.{Path as Steps, place};
+ghost use Rattle.marked_tree.specs.Paths.{Path as Steps, mark_path};
 ghost use Rattle.marked_tree.specs.View.{marked_of};
 ghost use Rattle.selection_core.specs.declared.errors.AllowError.TheVariants.{Refused};
 
@@ -147,8 +147,8 @@ fn each_chosen_place_is_asked_for(rt: HostRuntime) -> Result<(), Fail> {
 fn judge_steps(alloc: Global, marked: &Marked, chosen: &ChosenSet) -> Result<(), AllowError>
     requires depth { depth (strip_of (marked_of marked.now)) ≤ 127 }
     requires once { StandOnce (marked_of marked.now) (has chosen.now) }
-    ensures allowed { IfOk result (λ _. (i : ℕ) (at : Steps) → has chosen.now i ≡ true → place (marked_of marked.now) i ≡ Some at → length at ≤ 1) }
-    ensures refused { (i : ℕ) → result ≡ Err (Refused i) → (at : Steps) × (place (marked_of marked.now) i ≡ Some at) × (1 < length at) }
+    ensures allowed { IfOk result (λ _. (i : ℕ) (at : Steps) → has chosen.now i ≡ true → mark_path (marked_of marked.now) i ≡ Some at → length at ≤ 1) }
+    ensures refused { (i : ℕ) → result ≡ Err (Refused i) → (at : Steps) × (mark_path (marked_of marked.now) i ≡ Some at) × (1 < length at) }
 {
     let consent = Consent::new(|place: &Path| place.len() <= 1);
     allow(alloc, &consent, marked, chosen)

@@ -2,7 +2,7 @@
 use Rattle.std.proofs.Common.{◌≡◌, ℕ, zero, suc, ◌<◌, ◌≤◌, List, [], ◌∷◌, length, take, slice_get, Option, Some, None, refl, sym, ap, subst, ◌∙◌, arith}
 use Rattle.std.specs.List.{AllZip}
 use Rattle.claim_tree.specs.Tree.{Text, Tree, Members, leaf, null, flag, whole, text, array, object, depth}
-use Rattle.claim_tree.specs.Lists.{At as StandsAt, Nowhere as AtNone, IsLeast}
+use Rattle.claim_tree.specs.Lists.{StandsAt, AtNone, IsLeast}
 use Rattle.compact_form.specs.declared.fault.Fault.{Fault}
 use Rattle.compact_form.specs.declared.fault.Place.{Place}
 use Rattle.json_form.specs.declared.token.Token.{Token}
@@ -17,15 +17,17 @@ use Rattle.digest_sites.specs.Given.{Given}
 use Rattle.marked_tree.specs.Marked.{Marked, strip}
 use Rattle.rebuild_core.specs.Payload.{alg_name, without_alg}
 use Rattle.rebuild_core.specs.Opening.{processed}
-use Rattle.rebuild_core.specs.Answer.{IsPayload, IsRefusal}
+use Rattle.rebuild_core.specs.Answer.{IsPayload, IsProcessRefused}
 use Rattle.rebuild_core.specs.Conditions as opening
+use Rattle.rebuild_core.specs.Soundness as opening2
 use Rattle.rebuild_core.specs.declared.errors.ProcessError.{ProcessError}
 use Rattle.compact_form.specs.Condition as condition
-use Rattle.verifier_core.specs.Verdict.{Rules, key_for, HasHeader, HasPayload, IsAlgRefused, IsTypeRefused, IsBadSignature, IsUnread, Gives, HasContent, OfContent, TokenFails, IsChecked}
-use Rattle.verifier_core.specs.Check.{OnFault, IsUncounted, IsUnopened, refusal_of, IsSigned, IsSignedFault, bad_header, critical, bad_alg, bad_type, no_key, not_signed, IsPayloadFault, no_body, no_hash, IsUnreadAt}
+use Rattle.verifier_core.specs.Verdict.{Rules, key_for, HasHeader, HasPayload, IsAlgRefused, IsTypeRefused, IsBadSignature, IsNoDisclosure, Gives, HasContent, OfContent, TokenFails, IsChecked}
+use Rattle.verifier_core.specs.Check.{OnFault, IsUncounted, IsUnopened, process_fault, IsSigned, IsSignedFault, bad_header, critical, bad_alg, bad_type, no_key, not_signed, IsPayloadFault, no_body, no_hash, IsUnreadAt}
 use Rattle.verifier_core.specs.declared.check.VerifyError.{VerifyError}
 use Rattle.verifier_core.proofs.TokenConditions.{finish, start}
-use Rattle.compact_form.specs.Lowest.{Unplaced, Numbered, IsLowest, Passes, unplaced}
+use Rattle.compact_form.specs.Lowest.{Unplaced, Numbered, IsLowest}
+use Rattle.compact_form.specs.Passing.{Passes, unplaced}
 use Rattle.compact_form.proofs.Lowest.{holds_too, refuse_unplaced}
 use Rattle.verifier_core.proofs.LeastPlaces.{refuse_placed}
 
@@ -101,20 +103,20 @@ payload_fault token rules fault passes (no_hash body has w is) = refuse_unplaced
 -- ---- one list of what is given
 
 -- a disclosure that is read is not one that is not
-read_unread : (hash : HashAlg) (d : Text) (x : Given) → Gives hash d x → IsUnread d → ⊥
+read_unread : (hash : HashAlg) (d : Text) (x : Given) → Gives hash d x → IsNoDisclosure d → ⊥
 read_unread hash d x g u = u g.1 x.name x.value g.2
 
-all_read : (hash : HashAlg) (ds : List Text) (xs : List Given) (i : ℕ) (d : Text) → AllZip (Gives hash) ds xs → StandsAt ds i d → IsUnread d → ⊥
+all_read : (hash : HashAlg) (ds : List Text) (xs : List Given) (i : ℕ) (d : Text) → AllZip (Gives hash) ds xs → StandsAt ds i d → IsNoDisclosure d → ⊥
 all_read hash [] xs i d all there u = there
 all_read hash (e ∷ ds) [] i d all there u = all
-all_read hash (e ∷ ds) (x ∷ xs) zero d all there u = read_unread hash e x all.0 (subst IsUnread there u)
+all_read hash (e ∷ ds) (x ∷ xs) zero d all there u = read_unread hash e x all.0 (subst IsNoDisclosure there u)
 all_read hash (e ∷ ds) (x ∷ xs) (suc i) d all there u = all_read hash ds xs i d all.1 there u
 
-front_read : (hash : HashAlg) (ds : List Text) (xs : List Given) (i j : ℕ) (d : Text) → AllZip (Gives hash) (take i ds) xs → j < i → StandsAt ds j d → IsUnread d → ⊥
+front_read : (hash : HashAlg) (ds : List Text) (xs : List Given) (i j : ℕ) (d : Text) → AllZip (Gives hash) (take i ds) xs → j < i → StandsAt ds j d → IsNoDisclosure d → ⊥
 front_read hash [] xs i j d all below there u = there
 front_read hash (e ∷ ds) xs zero j d all below there u = absurd (omega (arith, below))
 front_read hash (e ∷ ds) [] (suc i) j d all below there u = all
-front_read hash (e ∷ ds) (x ∷ xs) (suc i) zero d all below there u = read_unread hash e x all.0 (subst IsUnread there u)
+front_read hash (e ∷ ds) (x ∷ xs) (suc i) zero d all below there u = read_unread hash e x all.0 (subst IsNoDisclosure there u)
 front_read hash (e ∷ ds) (x ∷ xs) (suc i) (suc j) d all below there u = front_read hash ds xs i j d all.1 (omega (arith, below)) there u
 
 pub got_stands : (ds : List Text) (i : ℕ) (d : Text) → slice_get ds i ≡ Some d → StandsAt ds i d
@@ -123,7 +125,7 @@ got_stands (x ∷ ds) zero d e = let same : Some x ≡ Some d = e in sym (cc sam
 got_stands (x ∷ ds) (suc i) d e = got_stands ds i d e
 
 abbrev UnreadAt : Token → ℕ → Type 0
-UnreadAt token i = (disclosure : Text) × StandsAt token.parts.disclosures i disclosure × IsUnread disclosure
+UnreadAt token i = (disclosure : Text) × StandsAt token.parts.disclosures i disclosure × IsNoDisclosure disclosure
 
 pub given_passes : (token : Token) (rules : Rules) (hash : HashAlg) (given : List Given) → Passes 13 (TokenFails token rules) → AllZip (Gives hash) token.parts.disclosures given → Passes 14 (TokenFails token rules)
 given_passes token rules hash given passes read =
@@ -197,7 +199,7 @@ at16 token rules p g has passes none = holds_too (TokenFails token rules) condit
 at17 : (token : Token) (rules : Rules) (p : Tree) (g : List Given) → HasContent token p g → Passes 16 (TokenFails token rules) → AtNone (opening.RepeatedDigest p g) → Passes 17 (TokenFails token rules)
 at17 token rules p g has passes none = holds_too (TokenFails token rules) condition.repeated_digest passes (nowhere opening.RepeatedDigest token p g has none)
 
-at18 : (token : Token) (rules : Rules) (p : Tree) (g : List Given) → HasContent token p g → Passes 14 (TokenFails token rules) → opening.IsReferencedOnce p g → Passes 18 (TokenFails token rules)
+at18 : (token : Token) (rules : Rules) (p : Tree) (g : List Given) → HasContent token p g → Passes 14 (TokenFails token rules) → opening2.IsReferencedOnce p g → Passes 18 (TokenFails token rules)
 at18 token rules p g has passes r =
     holds_too (TokenFails token rules) condition.unreferenced_disclosure
     (at17 token rules p g has (at16 token rules p g has (at15 token rules p g has passes r.no_repeated_disclosure) r.no_misuse) r.no_repeated_digest)
@@ -209,7 +211,7 @@ at19 token rules p g has passes none = holds_too (TokenFails token rules) condit
 at20 : (token : Token) (rules : Rules) (p : Tree) (g : List Given) → HasContent token p g → Passes 19 (TokenFails token rules) → AtNone (opening.ReservedName p g) → Passes 20 (TokenFails token rules)
 at20 token rules p g has passes none = holds_too (TokenFails token rules) condition.reserved_name passes (nowhere opening.ReservedName token p g has none)
 
-at21 : (token : Token) (rules : Rules) (p : Tree) (g : List Given) → HasContent token p g → Passes 14 (TokenFails token rules) → opening.IsReferencedOnce p g → opening.IsWellNamed p g → Passes 21 (TokenFails token rules)
+at21 : (token : Token) (rules : Rules) (p : Tree) (g : List Given) → HasContent token p g → Passes 14 (TokenFails token rules) → opening2.IsReferencedOnce p g → opening2.IsWellNamed p g → Passes 21 (TokenFails token rules)
 at21 token rules p g has passes r n =
     holds_too (TokenFails token rules) condition.name_clash
     (at20 token rules p g has (at19 token rules p g has (at18 token rules p g has passes r) n.no_wrong_shape) n.no_reserved_name)
@@ -221,12 +223,12 @@ shallow token rules p g has low place (is, (q, h, other, deep)) =
     let here_deep : opening.IsTooDeep p g = subst (λ x. opening.IsTooDeep p x) same.1 (subst (λ x. opening.IsTooDeep x h) same.0 deep) in
     absurd (omega (arith, low, here_deep))
 
-pub content_passes : (token : Token) (rules : Rules) (p : Tree) (g : List Given) → HasContent token p g → Passes 14 (TokenFails token rules) → opening.IsSound p g → Passes 22 (TokenFails token rules)
+pub content_passes : (token : Token) (rules : Rules) (p : Tree) (g : List Given) → HasContent token p g → Passes 14 (TokenFails token rules) → opening2.IsSound p g → Passes 22 (TokenFails token rules)
 content_passes token rules p g has passes s = holds_too (TokenFails token rules) condition.too_deep (at21 token rules p g has passes s.referenced s.named) (shallow token rules p g has s.shallow)
 
 -- a refusal to process is the lowest condition that fails
-pub content_fault : (token : Token) (rules : Rules) (p : Tree) (g : List Given) → HasContent token p g → Passes 14 (TokenFails token rules) → (e : ProcessError) → IsRefusal p g e
-    → OnFault (refusal_of e) (IsLowest (TokenFails token rules))
+pub content_fault : (token : Token) (rules : Rules) (p : Tree) (g : List Given) → HasContent token p g → Passes 14 (TokenFails token rules) → (e : ProcessError) → IsProcessRefused p g e
+    → OnFault (process_fault e) (IsLowest (TokenFails token rules))
 content_fault token rules p g has passes ProcessError.Memory r = tt
 content_fault token rules p g has passes (ProcessError.RepeatedDisclosure i) r =
     refuse_placed (TokenFails token rules) condition.repeated_disclosure (OfContent Doubled token) i (λ place h. h) (λ h. (i, refl, h)) passes (least Doubled token p g has i r)
@@ -289,7 +291,7 @@ pub unopened_fault : (token : Token) (rules : Rules) (p : Tree) (g : List Given)
     → OnFault e (IsLowest (TokenFails token rules))
 unopened_fault token rules p g e has passes w = subst (λ x. OnFault x (IsLowest (TokenFails token rules))) (sym w.1) (content_fault token rules p g has passes w.0 w.2)
 
-pub content_checked : (token : Token) (rules : Rules) (p : Tree) (g : List Given) (marked : Marked) → HasContent token p g → Passes 14 (TokenFails token rules) → opening.IsSound p g → marked ≡ processed p g → IsChecked token rules marked
+pub content_checked : (token : Token) (rules : Rules) (p : Tree) (g : List Given) (marked : Marked) → HasContent token p g → Passes 14 (TokenFails token rules) → opening2.IsSound p g → marked ≡ processed p g → IsChecked token rules marked
 content_checked token rules p g marked has passes sound is = record {
   passes = finish token rules (content_passes token rules p g has passes sound);
   opens = (p, g, has, is);

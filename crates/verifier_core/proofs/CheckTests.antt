@@ -2,18 +2,18 @@
 use Rattle.std.proofs.Common.{Result, Ok, Err, IfOk, IfErr, ◌≡◌, ◌⊎◌, inl, inr, ℕ, zero, suc, ◌<◌, List, [], ◌∷◌, ◌++◌, length, take, slice_get, Bool, true, false, not, bytes_eq, Option, Some, None, refl, sym, ap, subst, ◌∙◌, arith}
 use Rattle.std.specs.List.{AllZip}
 use Rattle.claim_tree.specs.Tree.{Text}
-use Rattle.claim_tree.specs.Lists.{At as StandsAt, In}
+use Rattle.claim_tree.specs.Lists.{StandsAt, In}
 use Rattle.claim_tree.proofs.Lists.{At-same, bytes_same, bytes_refl, In-append}
 use Rattle.disclosure.specs.declared.digests.HashAlg.{HashAlg}
 use Rattle.disclosure.specs.declared.errors.DisclosureError.{DisclosureError}
-use Rattle.disclosure.specs.Refusals.{IsRefused}
+use Rattle.disclosure.specs.DisclosureRefusals.{IsDisclosureRefused}
 use Rattle.disclosure.proofs.Verdicts as readings
 use Rattle.digest_sites.specs.Given.{Given}
-use Rattle.verifier_core.specs.Verdict.{IsTypeRefused, Gives, IsUnread}
-use Rattle.verifier_core.specs.Check.{Tells, OnFault, unread_at, IsUnreadAt}
+use Rattle.verifier_core.specs.Verdict.{IsTypeRefused, Gives, IsNoDisclosure}
+use Rattle.verifier_core.specs.Check.{TestTells, OnFault, unread_at, IsUnreadAt}
 use Rattle.verifier_core.proofs.CheckSteps.{got_stands}
 
-pub at_told : (xs : List Text) (i : ℕ) (y x : Text) → slice_get xs i ≡ Some y → (b : Bool) → b ≡ bytes_eq y x → Tells b (StandsAt xs i x)
+pub at_told : (xs : List Text) (i : ℕ) (y x : Text) → slice_get xs i ≡ Some y → (b : Bool) → b ≡ bytes_eq y x → TestTells b (StandsAt xs i x)
 at_told xs i y x there true is = subst (λ z. StandsAt xs i z) (bytes_same y x (sym is)) (got_stands xs i y there)
 at_told xs i y x there false is = λ h.
     let same : y ≡ x = At-same xs i y x (got_stands xs i y there) h in
@@ -25,10 +25,10 @@ none_told [] i x none h = h
 none_told (y ∷ xs) zero x none h = cc none
 none_told (y ∷ xs) (suc i) x none h = none_told xs i x none h
 
-pub type_told : (asked typ : Option Text) (name own : Text) → asked ≡ Some name → typ ≡ Some own → (b : Bool) → b ≡ not (bytes_eq own name) → Tells b (IsTypeRefused asked typ)
-type_told asked typ name own a t b is = subst (λ z. Tells z (IsTypeRefused asked typ)) (sym is) (go (bytes_eq own name) refl)
+pub type_told : (asked typ : Option Text) (name own : Text) → asked ≡ Some name → typ ≡ Some own → (b : Bool) → b ≡ not (bytes_eq own name) → TestTells b (IsTypeRefused asked typ)
+type_told asked typ name own a t b is = subst (λ z. TestTells z (IsTypeRefused asked typ)) (sym is) (go (bytes_eq own name) refl)
   where
-    go : (z : Bool) → bytes_eq own name ≡ z → Tells (not z) (IsTypeRefused asked typ)
+    go : (z : Bool) → bytes_eq own name ≡ z → TestTells (not z) (IsTypeRefused asked typ)
     go true e = λ w.
         let names : Some w.0 ≡ Some name = sym w.1 ∙ a in
         let same : own ≡ name = bytes_same own name e in
@@ -45,7 +45,7 @@ type_told asked typ name own a t b is = subst (λ z. Tells z (IsTypeRefused aske
 
 -- ---- what is given
 
-pub unread_of : (text : Text) (e : DisclosureError) → IsRefused text e → (e ≡ DisclosureError.Memory → ⊥) → IsUnread text
+pub unread_of : (text : Text) (e : DisclosureError) → IsDisclosureRefused text e → (e ≡ DisclosureError.Memory → ⊥) → IsNoDisclosure text
 unread_of text e refused cause = λ salt name value is. cause (readings.not_both text salt name value e is refused)
 
 pub take_more : (hash : HashAlg) (ds : List Text) (xs : List Given) (i : ℕ) (d : Text) (x : Given) → AllZip (Gives hash) (take i ds) xs → slice_get ds i ≡ Some d → Gives hash d x → AllZip (Gives hash) (take (suc i) ds) (xs ++ x ∷ [])
@@ -76,7 +76,7 @@ got_below (d ∷ ds) zero below none = cc none
 got_below (d ∷ ds) (suc i) below none = got_below ds i (omega (arith, below)) none
 
 -- the refusal of a disclosure is that at its place
-pub unread_told : (hash : HashAlg) (ds : List Text) (i : ℕ) (d : Text) (before : List Given) (e : DisclosureError) → slice_get ds i ≡ Some d → AllZip (Gives hash) (take i ds) before → IsRefused d e
+pub unread_told : (hash : HashAlg) (ds : List Text) (i : ℕ) (d : Text) (before : List Given) (e : DisclosureError) → slice_get ds i ≡ Some d → AllZip (Gives hash) (take i ds) before → IsDisclosureRefused d e
     → OnFault (unread_at i e) (IsUnreadAt hash ds)
 unread_told hash ds i d before DisclosureError.Memory there read refused = tt
 unread_told hash ds i d before DisclosureError.NotBase64 there read refused = record { i = i; disclosure = d; there = there; before = before; read = read; unread = unread_of d DisclosureError.NotBase64 refused (λ e. cc e); fault_is = refl }
@@ -101,7 +101,7 @@ got_next [] d rest = refl
 got_next (x ∷ done) d rest = got_next done d rest
 
 -- the next one is not read
-pub next_unread : (hash : HashAlg) (ds done rest : List Text) (i : ℕ) (d : Text) (before : List Given) (e : DisclosureError) → ds ≡ done ++ d ∷ rest → i ≡ length done → AllZip (Gives hash) done before → IsRefused d e
+pub next_unread : (hash : HashAlg) (ds done rest : List Text) (i : ℕ) (d : Text) (before : List Given) (e : DisclosureError) → ds ≡ done ++ d ∷ rest → i ≡ length done → AllZip (Gives hash) done before → IsDisclosureRefused d e
     → OnFault (unread_at i e) (IsUnreadAt hash ds)
 next_unread hash ds done rest i d before e stand at read refused =
     let there : slice_get ds i ≡ Some d = subst (λ k. slice_get ds k ≡ Some d) (sym at) (subst (λ xs. slice_get xs (length done) ≡ Some d) (sym stand) (got_next done d rest)) in

@@ -5,12 +5,12 @@ use Rattle.jws_part.specs.Times.{IsTimeUnreadable, IsExpired}
 use Rattle.claim_tree.specs.Tree.{Text, Tree, leaf, text, get}
 use Rattle.claim_tree.specs.View.{tree_of}
 use Rattle.claim_tree.specs.declared.tree.Tree as tree
-use Rattle.claim_tree.specs.Lists.{At as StandsAt}
+use Rattle.claim_tree.specs.Lists.{StandsAt}
 use Rattle.claim_tree.proofs.Lists.{At-same}
 use Rattle.compact_form.specs.Condition.{Condition, number_of, too_long, form, too_much, binding_missing, header_unreadable, header_critical, alg_refused, type_refused, issuer_key_unknown, bad_signature, payload_unreadable, hash_unknown, disclosure_unreadable, repeated_disclosure, reserved_misused, repeated_digest, unreferenced_disclosure, wrong_shape, reserved_name, name_clash, too_deep, issuer_refused, claim_missing, time_unreadable, expired, not_yet, holder_key_unknown, binding_header, binding_alg, binding_signature, binding_type, binding_payload, binding_stale, binding_early, nonce_differs, audience_differs, hash_differs, binding_time}
 use Rattle.verifier_core.specs.Verdict.{ClaimFails}
 use Rattle.verifier_core.specs.declared.policy.Policy.{Policy}
-use Rattle.compact_form.specs.Lowest.{Passes}
+use Rattle.compact_form.specs.Passing.{Passes}
 use Rattle.compact_form.proofs.Lowest.{holds_too}
 
 -- a condition on the claims has a number from 22 to 26

@@ -13,8 +13,8 @@ use Rattle.digest_sites.specs.Given.{Given}
 use Rattle.disclosure.specs.declared.digests.HashAlg.{HashAlg}
 use Rattle.disclosure.specs.Disclosure.{array_of}
 use Rattle.json_form.specs.declared.token.Token.{Token}
-use Rattle.rebuild_core.specs.Conditions.{IsSound}
-use Rattle.rebuild_core.specs.Laws.{IsReadable}
+use Rattle.rebuild_core.specs.Soundness.{IsSound}
+use Rattle.rebuild_core.specs.Readable.{IsReadable}
 use Rattle.rebuild_core.specs.Payload.{alg_name, without_alg}
 use Rattle.verifier_core.specs.Verdict.{Rules, TokenFails, HasContent, Gives}
 

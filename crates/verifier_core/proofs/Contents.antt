@@ -3,7 +3,8 @@ use Rattle.std.proofs.Common.{◌≡◌, ℕ, ◌<◌, ◌≤◌, ◌-◌, ◌^�
 use Rattle.std.specs.List.{AllZip}
 use Rattle.claim_tree.specs.Tree.{Text, Tree, Members, IsRanged, depth}
 use Rattle.compact_form.specs.declared.parts.JwtParts.{JwtParts}
-use Rattle.compact_form.specs.Lowest.{IsLowest, Passes}
+use Rattle.compact_form.specs.Lowest.{IsLowest}
+use Rattle.compact_form.specs.Passing.{Passes}
 use Rattle.digest_sites.specs.Given.{Given}
 use Rattle.disclosure.specs.Digest.{payload_hash}
 use Rattle.disclosure.specs.declared.digests.HashAlg.{HashAlg}
@@ -12,8 +13,8 @@ use Rattle.json_form.specs.declared.token.Token.{Token}
 use Rattle.jws_part.specs.Part.{IsBody}
 use Rattle.marked_tree.specs.Marked.{Marked}
 use Rattle.rebuild_core.specs.Answer.{ValuesShallow, ValuesRanged}
-use Rattle.rebuild_core.specs.Conditions.{IsSound}
-use Rattle.rebuild_core.specs.Given.{look_ups, counted, RoseWithin}
+use Rattle.rebuild_core.specs.Soundness.{IsSound}
+use Rattle.rebuild_core.specs.LookUps.{look_ups, counted, RoseWithin}
 use Rattle.rebuild_core.specs.Opening.{processed}
 use Rattle.rebuild_core.specs.Payload.{without_alg}
 use Rattle.verifier_core.specs.Content.{Content, IsOpenable}

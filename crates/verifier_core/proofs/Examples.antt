@@ -7,7 +7,7 @@ use Rattle.compact_form.specs.declared.fault.Place.TheVariants.{Nowhere, At, Jso
 use Rattle.compact_form.specs.declared.fault.Part.{Part}
 use Rattle.compact_form.specs.declared.fault.JsonPlace.{JsonPlace}
 use Rattle.compact_form.specs.Condition.{form, claim_missing, expired}
-use Rattle.verifier_core.specs.FaultLine.{refusal_text}
+use Rattle.verifier_core.specs.RefusalText.{refusal_text}
 use Rattle.verifier_core.specs.PolicyFile.{policy_table}
 
 -- ---- lines

@@ -3,9 +3,10 @@ use Rattle.std.proofs.Common.{ℕ, ◌<◌, ◌≤◌, refl, sym, subst, arith}
 use Rattle.compact_form.specs.declared.fault.Place.{Place}
 use Rattle.compact_form.specs.declared.fault.Place.TheVariants.{At}
 use Rattle.compact_form.specs.Condition.{Condition, number_of}
-use Rattle.compact_form.specs.Lowest.{Numbered, IsNoLater, IsLowest, Passes}
+use Rattle.compact_form.specs.Lowest.{Numbered, IsNoLater, IsLowest}
+use Rattle.compact_form.specs.Passing.{Passes}
 use Rattle.compact_form.proofs.Lowest.{lowest_at}
-use Rattle.claim_tree.specs.Lists.{IsLeast, Nowhere as NoPlace}
+use Rattle.claim_tree.specs.Lists.{IsLeast, AtNone as NoPlace}
 use Rattle.verifier_core.specs.Check.{placed}
 
 -- a least number is the least place

@@ -10,7 +10,7 @@ use Rattle.claim_tree.proofs.FileVerdicts as verdicts
 use Rattle.hmac_sign.specs.Keys.{IsKeySet}
 use Rattle.hmac_sign.specs.declared.key_set.NamedKey.{NamedKey}
 use Rattle.hmac_sign.proofs.KeySetVerdicts.{one_key_set}
-use Rattle.verifier_core.specs.PolicyFile.{IsBindingPolicy, policy_table, IsPolicyFile, IsPolicyRefused}
+use Rattle.verifier_core.specs.PolicyFile.{IsBindingPolicy, policy_table, IsPolicyFile, IsPolicyFileRefused}
 use Rattle.key_binding.specs.declared.policy.BindingPolicy.{BindingPolicy}
 use Rattle.verifier_core.specs.declared.policy.Policy.{Policy}
 use Rattle.verifier_core.proofs.BindingPolicies.{one_binding}
@@ -38,7 +38,7 @@ one_policy bytes p q h k =
     ∙ (ap (λ x. made q.keys q.algs q.typ q.iss q.require x p.binding) skew
     ∙ ap (λ x. made q.keys q.algs q.typ q.iss q.require q.skew x) binding)))))
 
-pub not_both : (bytes : Text) (policy : Policy) (fault : FileFault) → IsPolicyFile bytes policy → IsPolicyRefused bytes fault → fault ≡ FileFault.Memory
+pub not_both : (bytes : Text) (policy : Policy) (fault : FileFault) → IsPolicyFile bytes policy → IsPolicyFileRefused bytes fault → fault ≡ FileFault.Memory
 not_both bytes policy fault says refused =
     let ms = says.members in
     let keys = says_meets IsKeySet Keys ms policy.keys says.keys in
@@ -50,5 +50,5 @@ not_both bytes policy fault says refused =
     let binding = may_say_meets IsBindingPolicy Binding ms policy.binding says.binding in
     verdicts.not_refused file_max policy_table bytes ms fault says.file (keys, (algs, (typ, (iss, (require, (skew, (binding, tt))))))) refused
 
-pub one_fault : (bytes : Text) (fault other : FileFault) → IsPolicyRefused bytes fault → IsPolicyRefused bytes other → fault ≢ FileFault.Memory → other ≢ FileFault.Memory → fault ≡ other
+pub one_fault : (bytes : Text) (fault other : FileFault) → IsPolicyFileRefused bytes fault → IsPolicyFileRefused bytes other → fault ≢ FileFault.Memory → other ≢ FileFault.Memory → fault ≡ other
 one_fault bytes fault other h k = verdicts.one_fault file_max policy_table bytes fault other h k

@@ -4,15 +4,16 @@ use Rattle.compact_form.specs.Condition as condition
 use Rattle.compact_form.specs.declared.fault.Fault.{Fault}
 use Rattle.compact_form.specs.declared.fault.Place.{Place}
 use Rattle.compact_form.specs.Condition.{Condition, number_of}
-use Rattle.compact_form.specs.Lowest.{IsLowest, unplaced}
-use Rattle.compact_form.specs.Token.{is_too_long}
-use Rattle.compact_form.specs.Trim.{trimmed}
+use Rattle.compact_form.specs.Lowest.{IsLowest}
+use Rattle.compact_form.specs.Passing.{unplaced}
+use Rattle.compact_form.specs.Trim.{trimmed, is_too_long}
 use Rattle.json_form.specs.declared.token.Token.{Token}
 use Rattle.json_form.specs.Token.{IsToken, Spells, IsTooMuch, too_much}
 use Rattle.json_form.proofs.Tokens as tokens
 use Rattle.json_form.proofs.Lines.{read_spelled}
 use Rattle.marked_tree.specs.Marked.{Marked}
-use Rattle.verifier_core.specs.Verdict.{Fails, of_file, of_missing, of_token, of_claims, of_holder, IsAccepted, HaveOneVerdict}
+use Rattle.verifier_core.specs.Verdict.{Fails, of_file, of_missing, of_token, of_claims, of_holder, IsAccepted}
+use Rattle.verifier_core.specs.Verdicts.{HaveOneVerdict}
 use Rattle.verifier_core.specs.declared.policy.Policy.{Policy}
 
 module _ (text other : List ℕ) (token : Token) (policy : Policy) (now : ℕ) (here : IsToken text token) (there : IsToken other token) where

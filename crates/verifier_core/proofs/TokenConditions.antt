@@ -4,7 +4,8 @@ use Rattle.compact_form.specs.declared.fault.Place.{Place}
 use Rattle.json_form.specs.declared.token.Token.{Token}
 use Rattle.compact_form.specs.Condition.{Condition, number_of, too_long, form, too_much, binding_missing, header_unreadable, header_critical, alg_refused, type_refused, issuer_key_unknown, bad_signature, payload_unreadable, hash_unknown, disclosure_unreadable, repeated_disclosure, reserved_misused, repeated_digest, unreferenced_disclosure, wrong_shape, reserved_name, name_clash, too_deep, issuer_refused, claim_missing, time_unreadable, expired, not_yet, holder_key_unknown, binding_header, binding_alg, binding_signature, binding_type, binding_payload, binding_stale, binding_early, nonce_differs, audience_differs, hash_differs, binding_time}
 use Rattle.verifier_core.specs.Verdict.{Rules, TokenFails}
-use Rattle.compact_form.specs.Lowest.{NoneFails, Passes}
+use Rattle.compact_form.specs.Lowest.{NoneFails}
+use Rattle.compact_form.specs.Passing.{Passes}
 
 -- ---- those of a token
 

@@ -27,7 +27,8 @@ use Rattle.compact_form.specs.Condition.{Condition, number_of}
 use Rattle.verifier_core.specs.Verdict.{TokenFails, ClaimFails, MissingFails, HolderFails, IsBindingMissing, HasHash, Fails, of_file, of_missing, of_token, of_claims, of_holder, rules_of, Opens, IsChecked, IsAccepted}
 use Rattle.verifier_core.specs.Check.{IsUncounted, ShownFails}
 use Rattle.verifier_core.specs.declared.policy.Policy.{Policy}
-use Rattle.compact_form.specs.Lowest.{IsNoLater, IsLowest, NoneFails, unplaced}
+use Rattle.compact_form.specs.Lowest.{IsNoLater, IsLowest, NoneFails}
+use Rattle.compact_form.specs.Passing.{unplaced}
 use Rattle.compact_form.proofs.Numbers.{one_condition}
 use Rattle.verifier_core.proofs.TokenConditions.{token_numbers}
 use Rattle.verifier_core.proofs.ClaimSteps.{claim_numbers}
@@ -51,7 +52,7 @@ no_later (Json j) = tt
 abbrev fault_at : Condition → Place → Fault
 fault_at c place = record { number = number_of c; place = place }
 
-pub file_condition : (content : List ℕ) (fault : Fault) → file.Fails content fault → (c : Condition) × (fault.number ≡ number_of c)
+pub file_condition : (content : List ℕ) (fault : Fault) → file.TextFails content fault → (c : Condition) × (fault.number ≡ number_of c)
 file_condition content fault (file.too_long e h) = (condition.too_long, ap (λ (x : Fault). x.number) e)
 file_condition content fault (file.form place e h) = (condition.form, ap (λ (x : Fault). x.number) e)
 file_condition content fault (file.too_much token e h much) = (condition.too_much, ap (λ (x : Fault). x.number) e)
@@ -60,13 +61,13 @@ less_or_same : (a b : ℕ) → a ≤ b → (a < b) ⊎ (a ≡ b)
 less_or_same a b l = grind arith
 
 -- a file that is no token
-pub file_lowest : (content : List ℕ) (policy : Policy) (now : ℕ) (fault : Fault) → file.IsRefused content fault → IsLowest (Fails content policy now) fault
+pub file_lowest : (content : List ℕ) (policy : Policy) (now : ℕ) (fault : Fault) → file.IsTextRefused content fault → IsLowest (Fails content policy now) fault
 file_lowest content policy now fault refused =
     let c = file_condition content fault refused.fails in
     record {
       failed = c.0;
       number_is = c.1;
-      fails = of_file (subst (λ (n : ℕ). file.Fails content (record { number = n; place = fault.place })) c.1 refused.fails);
+      fails = of_file (subst (λ (n : ℕ). file.TextFails content (record { number = n; place = fault.place })) c.1 refused.fails);
       lowest = λ other place h. go c.0 c.1 other place h;
     }
   where
@@ -81,7 +82,7 @@ file_lowest content policy now fault refused =
         placed : (fault.number < number_of other) ⊎ (fault.number ≡ number_of other) → (number_of c < number_of other) ⊎ ((other ≡ c) × IsNoLater fault.place place)
         placed (inl less) = inl (omega (arith, less, is))
         placed (inr same) =
-            let twin : file.IsRefused content (fault_at other place) = record { fails = h; lowest = λ o k. let l = refused.lowest o k in omega (arith, l, same) } in
+            let twin : file.IsTextRefused content (fault_at other place) = record { fails = h; lowest = λ o k. let l = refused.lowest o k in omega (arith, l, same) } in
             let one : fault ≡ fault_at other place = tokens.one_refusal content fault (fault_at other place) refused twin in
             inr (one_condition other c (sym same ∙ is), subst (λ (x : Fault). IsNoLater fault.place x.place) one (no_later fault.place))
 

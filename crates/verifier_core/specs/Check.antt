@@ -1,4 +1,4 @@
--- What the check of a token answers, and what its steps answer.
+-- Not needed to believe the program's promises: what the check of a token answers, and what its steps answer.
 use Rattle.std.specs.Prelude.{◌≡◌, ◌≤◌, ℕ, Bool, true, false, List, ◌∷◌, [], ◌++◌, take, slice_get, Option, Some, None, ◌⊎◌}
 use Rattle.std.specs.List.{AllZip}
 use Rattle.claim_tree.specs.Tree.{Text, Tree, Members, IsRanged, depth}
@@ -8,7 +8,7 @@ use Rattle.compact_form.specs.declared.fault.Place.TheVariants.{At}
 use Rattle.compact_form.specs.declared.parts.JwtParts.{JwtParts}
 use Rattle.compact_form.specs.declared.parts.Parts.{Parts}
 use Rattle.jws_part.specs.declared.header.Header.{Header}
-use Rattle.jws_part.specs.Header.{IsHeader, IsUnreadable, IsCritical}
+use Rattle.jws_part.specs.Header.{IsHeader, IsHeaderUnreadable, IsHeaderCritical}
 use Rattle.jws_part.specs.Part.{IsBody, IsNoObject}
 use Rattle.hmac_sign.specs.declared.key_set.NamedKey.{NamedKey}
 use Rattle.disclosure.specs.Digest.{payload_hash}
@@ -18,14 +18,14 @@ use Rattle.digest_sites.specs.Given.{Given}
 use Rattle.json_form.specs.declared.token.Token.{Token}
 use Rattle.json_form.specs.Token.{IsToken}
 use Rattle.marked_tree.specs.Marked.{Marked}
-use Rattle.rebuild_core.specs.Given.{look_ups, counted, RoseWithin}
+use Rattle.rebuild_core.specs.LookUps.{look_ups, counted, RoseWithin}
 use Rattle.rebuild_core.specs.Payload.{without_alg}
-use Rattle.rebuild_core.specs.Answer.{IsRefusal}
+use Rattle.rebuild_core.specs.Answer.{IsProcessRefused}
 use Rattle.rebuild_core.specs.declared.errors.ProcessError.{ProcessError}
 use Rattle.compact_form.specs.Condition.{Condition, number_of}
-use Rattle.compact_form.specs.Lowest.{Passes, unplaced}
+use Rattle.compact_form.specs.Passing.{Passes, unplaced}
 use Rattle.verifier_core.specs.Content.{Content}
-use Rattle.verifier_core.specs.Verdict.{Rules, TokenFails, key_for, HasContent, HasHash, IsChecked, IsBindingMissing, rules_of, ClaimFails, HolderFails, IsAlgRefused, IsTypeRefused, IsBadSignature, IsUnread, Gives}
+use Rattle.verifier_core.specs.Verdict.{Rules, TokenFails, key_for, HasContent, HasHash, IsChecked, IsBindingMissing, rules_of, ClaimFails, HolderFails, IsAlgRefused, IsTypeRefused, IsBadSignature, IsNoDisclosure, Gives}
 use Rattle.verifier_core.specs.declared.check.VerifyError.{VerifyError}
 use Rattle.verifier_core.specs.declared.policy.Policy.{Policy}
 
@@ -33,10 +33,6 @@ use Rattle.verifier_core.specs.declared.policy.Policy.{Policy}
 abbrev pub OnFault : VerifyError → (Fault → Type 0) → Type 0
 OnFault VerifyError.Memory P = Unit {0}
 OnFault (VerifyError.Fault fault) P = P fault
-
--- the rules of these keys, algorithms and type
-abbrev pub asked : List NamedKey → List Text → Option Text → Rules
-asked keys algs typ = record { keys = keys; algs = algs; typ = typ }
 
 -- the token passes the conditions 5 to 13 under the rules, and this is read of it
 pub record IsContent (token : Token) (rules : Rules) (content : Content) : Type 0 where
@@ -82,9 +78,9 @@ abbrev pub placed : ℕ → ℕ → Fault
 placed number i = record { number = number; place = At i }
 
 -- the answer of a test
-abbrev pub Tells : Bool → Type 0 → Type 0
-Tells true P = P
-Tells false P = P → ⊥
+abbrev pub TestTells : Bool → Type 0 → Type 0
+TestTells true P = P
+TestTells false P = P → ⊥
 
 -- the header, its algorithm, its type, its key and the signature are good
 pub record IsSigned (signed : JwtParts) (outer : Members) (rules : Rules) : Type 0 where
@@ -98,8 +94,8 @@ pub record IsSigned (signed : JwtParts) (outer : Members) (rules : Rules) : Type
 
 -- the lowest of the conditions 5 to 10 that fails
 pub data IsSignedFault (signed : JwtParts) (outer : Members) (rules : Rules) (fault : Fault) : Type 0 where
-  bad_header : IsUnreadable signed.protected outer → fault ≡ unplaced 5 → IsSignedFault signed outer rules fault
-  critical : IsCritical signed.protected outer → fault ≡ unplaced 6 → IsSignedFault signed outer rules fault
+  bad_header : IsHeaderUnreadable signed.protected outer → fault ≡ unplaced 5 → IsSignedFault signed outer rules fault
+  critical : IsHeaderCritical signed.protected outer → fault ≡ unplaced 6 → IsSignedFault signed outer rules fault
   bad_alg : (header : Header) → IsHeader signed.protected outer header → IsAlgRefused rules.algs header.alg → fault ≡ unplaced 7 → IsSignedFault signed outer rules fault
   bad_type : (header : Header) → IsHeader signed.protected outer header → (IsAlgRefused rules.algs header.alg → ⊥) → IsTypeRefused rules.typ header.typ → fault ≡ unplaced 8 → IsSignedFault signed outer rules fault
   no_key : (header : Header) → IsHeader signed.protected outer header → (IsAlgRefused rules.algs header.alg → ⊥) → (IsTypeRefused rules.typ header.typ → ⊥) → key_for rules.keys header.kid ≡ None → fault ≡ unplaced 9 → IsSignedFault signed outer rules fault
@@ -117,7 +113,7 @@ pub record IsUnreadAt (hash : HashAlg) (disclosures : List Text) (fault : Fault)
   pub there : slice_get disclosures i ≡ Some disclosure
   pub before : List Given
   pub read : AllZip (Gives hash) (take i disclosures) before
-  pub unread : IsUnread disclosure
+  pub unread : IsNoDisclosure disclosure
   pub fault_is : fault ≡ placed 13 i
 
 -- the answer for a disclosure that is not read
@@ -134,17 +130,17 @@ pub record Adds (hash : HashAlg) (disclosure : Text) (old new : List Given) : Ty
   pub more : new ≡ old ++ one ∷ []
 
 -- the fault of a refusal to process
-abbrev pub refusal_of : ProcessError → VerifyError
-refusal_of ProcessError.Memory = VerifyError.Memory
-refusal_of (ProcessError.RepeatedDisclosure i) = VerifyError.Fault (placed 14 i)
-refusal_of (ProcessError.ReservedMisused i) = VerifyError.Fault (placed 15 i)
-refusal_of (ProcessError.RepeatedDigest i) = VerifyError.Fault (placed 16 i)
-refusal_of (ProcessError.Unreferenced i) = VerifyError.Fault (placed 17 i)
-refusal_of (ProcessError.WrongShape i) = VerifyError.Fault (placed 18 i)
-refusal_of (ProcessError.ReservedName i) = VerifyError.Fault (placed 19 i)
-refusal_of (ProcessError.NameClash i) = VerifyError.Fault (placed 20 i)
-refusal_of ProcessError.TooDeep = VerifyError.Fault (unplaced 21)
+abbrev pub process_fault : ProcessError → VerifyError
+process_fault ProcessError.Memory = VerifyError.Memory
+process_fault (ProcessError.RepeatedDisclosure i) = VerifyError.Fault (placed 14 i)
+process_fault (ProcessError.ReservedMisused i) = VerifyError.Fault (placed 15 i)
+process_fault (ProcessError.RepeatedDigest i) = VerifyError.Fault (placed 16 i)
+process_fault (ProcessError.Unreferenced i) = VerifyError.Fault (placed 17 i)
+process_fault (ProcessError.WrongShape i) = VerifyError.Fault (placed 18 i)
+process_fault (ProcessError.ReservedName i) = VerifyError.Fault (placed 19 i)
+process_fault (ProcessError.NameClash i) = VerifyError.Fault (placed 20 i)
+process_fault ProcessError.TooDeep = VerifyError.Fault (unplaced 21)
 
 -- the answer for content that is not processed
 abbrev pub IsUnopened : Tree → List Given → VerifyError → Type 0
-IsUnopened payload given e = (error : ProcessError) × (e ≡ refusal_of error) × IsRefusal payload given error
+IsUnopened payload given e = (error : ProcessError) × (e ≡ process_fault error) × IsProcessRefused payload given error

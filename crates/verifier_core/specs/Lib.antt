@@ -4,3 +4,5 @@ pub mod PolicyFile
 pub mod Verdict
 pub mod Content
 pub mod Check
+pub mod RefusalText
+pub mod Verdicts

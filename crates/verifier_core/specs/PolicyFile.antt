@@ -45,5 +45,5 @@ pub record IsPolicyFile (bytes : Text) (policy : Policy) : Type 0 where
   pub binding : MaySay IsBindingPolicy (found members Binding) policy.binding
 
 -- why the file says no policy; want of memory says nothing
-abbrev pub IsPolicyRefused : Text → FileFault → Type 0
-IsPolicyRefused bytes fault = IsFileRefused file_max policy_table bytes fault
+abbrev pub IsPolicyFileRefused : Text → FileFault → Type 0
+IsPolicyFileRefused bytes fault = IsFileRefused file_max policy_table bytes fault

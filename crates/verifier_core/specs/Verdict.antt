@@ -2,7 +2,7 @@
 use Rattle.std.specs.Prelude.{◌≡◌, ◌≢◌, ◌↔◌, ℕ, ◌⊎◌, List, Option, Some, None, codes, option_map, slice_get}
 use Rattle.std.specs.List.{AllZip}
 use Rattle.claim_tree.specs.Tree.{Text, Tree, leaf, text, get}
-use Rattle.claim_tree.specs.Lists.{At as StandsAt}
+use Rattle.claim_tree.specs.Lists.{StandsAt}
 use Rattle.compact_form.specs.declared.fault.Fault.{Fault}
 use Rattle.compact_form.specs.declared.fault.Place.{Place}
 use Rattle.compact_form.specs.declared.parts.JwtParts.{JwtParts}
@@ -12,7 +12,7 @@ use Rattle.json_form.specs.declared.token.Token.{Token}
 use Rattle.json_form.specs.Token as file
 use Rattle.json_form.specs.Token.{IsToken}
 use Rattle.jws_part.specs.declared.header.Header.{Header}
-use Rattle.jws_part.specs.Header.{IsHeader, IsUnreadable, IsCritical}
+use Rattle.jws_part.specs.Header.{IsHeader, IsHeaderUnreadable, IsHeaderCritical}
 use Rattle.jws_part.specs.Part.{IsBody, IsNoObject}
 use Rattle.jws_part.specs.Times.{IsTimeUnreadable, IsExpired, IsNotYet}
 use Rattle.hmac_sign.specs.declared.key_set.NamedKey.{NamedKey}
@@ -71,8 +71,8 @@ abbrev pub HasHash : Token → HashAlg → Type 0
 HasHash token hash = (body : Tree) × HasPayload token body × (payload_hash body ≡ Some hash)
 
 -- the text is no disclosure
-abbrev pub IsUnread : Text → Type 0
-IsUnread disclosure = (salt : Tree) (name : Option Text) (value : Tree) → IsDisclosure disclosure salt name value → ⊥
+abbrev pub IsNoDisclosure : Text → Type 0
+IsNoDisclosure disclosure = (salt : Tree) (name : Option Text) (value : Tree) → IsDisclosure disclosure salt name value → ⊥
 
 -- the disclosure has this digest, and gives this name and value
 abbrev pub Gives : HashAlg → Text → Given → Type 0
@@ -99,8 +99,8 @@ Opens token marked = (payload : Tree) × (given : List Given) × HasContent toke
 
 -- what fails each condition on a token, where no lower one fails
 abbrev pub TokenFails : Token → Rules → Condition → Place → Type 0
-TokenFails token rules condition.header_unreadable place = Unplaced (IsUnreadable token.parts.signed.protected token.outer) place
-TokenFails token rules condition.header_critical place = Unplaced (IsCritical token.parts.signed.protected token.outer) place
+TokenFails token rules condition.header_unreadable place = Unplaced (IsHeaderUnreadable token.parts.signed.protected token.outer) place
+TokenFails token rules condition.header_critical place = Unplaced (IsHeaderCritical token.parts.signed.protected token.outer) place
 TokenFails token rules condition.alg_refused place = Unplaced ((header : Header) × HasHeader token header × IsAlgRefused rules.algs header.alg) place
 TokenFails token rules condition.type_refused place = Unplaced ((header : Header) × HasHeader token header × IsTypeRefused rules.typ header.typ) place
 TokenFails token rules condition.issuer_key_unknown place = Unplaced ((header : Header) × HasHeader token header × (key_for rules.keys header.kid ≡ None)) place
@@ -108,7 +108,7 @@ TokenFails token rules condition.bad_signature place =
     Unplaced ((header : Header) × HasHeader token header × (key : List ℕ) × (key_for rules.keys header.kid ≡ Some key) × IsBadSignature key token.parts.signed) place
 TokenFails token rules condition.payload_unreadable place = Unplaced (IsNoObject token.parts.signed.payload) place
 TokenFails token rules condition.hash_unknown place = Unplaced ((body : Tree) × HasPayload token body × (payload_hash body ≡ None)) place
-TokenFails token rules condition.disclosure_unreadable place = Numbered (λ i. (disclosure : Text) × StandsAt token.parts.disclosures i disclosure × IsUnread disclosure) place
+TokenFails token rules condition.disclosure_unreadable place = Numbered (λ i. (disclosure : Text) × StandsAt token.parts.disclosures i disclosure × IsNoDisclosure disclosure) place
 TokenFails token rules condition.repeated_disclosure place = Numbered (OfContent (λ payload given i. opening.RepeatedDisclosure given i) token) place
 TokenFails token rules condition.reserved_misused place = Numbered (OfContent opening.Misused token) place
 TokenFails token rules condition.repeated_digest place = Numbered (OfContent opening.RepeatedDigest token) place
@@ -149,7 +149,7 @@ pub record HolderFails (parts : Parts) (payload : Tree) (hash : HashAlg) (policy
 
 -- what fails each condition on a token file under a policy
 abbrev pub FileFails : List ℕ → Condition → Place → Type 0
-FileFails content c place = file.Fails content (record { number = number_of c; place = place })
+FileFails content c place = file.TextFails content (record { number = number_of c; place = place })
 
 pub data Fails (content : List ℕ) (policy : Policy) (now : ℕ) (c : Condition) (place : Place) : Type 0 where
   of_file : FileFails content c place → Fails content policy now c place
@@ -172,16 +172,8 @@ pub record IsAccepted (content : List ℕ) (policy : Policy) (now : ℕ) (marked
   pub is_token : IsToken content token
   pub opens : Opens token marked
 
--- the same of the payload without its marks
-abbrev pub IsCheckedAs : Token → Rules → Tree → Type 0
-IsCheckedAs token rules payload = (marked : Marked) × IsChecked token rules marked × (payload ≡ strip marked)
-
-abbrev pub IsAcceptedAs : List ℕ → Policy → ℕ → Tree → Type 0
-IsAcceptedAs content policy now payload = (marked : Marked) × IsAccepted content policy now marked × (payload ≡ strip marked)
-
 -- ---- two texts
 
--- the texts are accepted with the same payload, or refused with the same fault
-pub record HaveOneVerdict (text other : List ℕ) (policy : Policy) (now : ℕ) : Type 0 where
-  pub accepted : (marked : Marked) → IsAccepted text policy now marked ↔ IsAccepted other policy now marked
-  pub refused : (fault : Fault) → IsLowest (Fails text policy now) fault ↔ IsLowest (Fails other policy now) fault
+-- the rules of these keys, algorithms and type
+abbrev pub asked : List NamedKey → List Text → Option Text → Rules
+asked keys algs typ = record { keys = keys; algs = algs; typ = typ }

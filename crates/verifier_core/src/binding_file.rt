@@ -1,7 +1,8 @@
 // What a policy file says of key binding.
 ghost use Rattle.std.specs.Prelude.{List, ℕ, codes, IfOk, IfErr, IfSome, IfNone};
 ghost use Rattle.sd_outside.specs.Limits.{age_max};
-ghost use Rattle.claim_tree.specs.FileForms.{IsWholeUpTo, HasValue, Says, MaySay, IsMemberRefused, optional, found};
+ghost use Rattle.claim_tree.specs.FileForms.{IsWholeUpTo, HasValue, Says, MaySay, optional, found};
+ghost use Rattle.claim_tree.specs.FileRefusals.{IsMemberRefused};
 ghost use Rattle.claim_tree.specs.Tree.{member_named};
 ghost use Rattle.claim_tree.specs.View.{tree_of};
 ghost use Rattle.claim_tree.specs.declared.file_fault.Field.TheVariants.{Binding};

@@ -5,8 +5,8 @@ ghost use Rattle.claim_tree.specs.Tree.{IsRanged};
 ghost use Rattle.claim_tree.specs.View.{tree_of};
 ghost use Rattle.marked_tree.specs.Marked.{strip as strip_of};
 ghost use Rattle.marked_tree.specs.View.{marked_of};
-ghost use Rattle.verifier_core.specs.Verdict.{TokenFails, IsChecked, HasHash};
-ghost use Rattle.verifier_core.specs.Check.{OnFault, IsCounted, IsCountedWithin, IsUncounted, asked, placed};
+ghost use Rattle.verifier_core.specs.Verdict.{TokenFails, IsChecked, HasHash, asked};
+ghost use Rattle.verifier_core.specs.Check.{OnFault, IsCounted, IsCountedWithin, IsUncounted, placed};
 ghost use Rattle.compact_form.specs.Lowest.{IsLowest};
 ghost use Rattle.verifier_core.specs.declared.check.VerifyError.{VerifyError};
 

@@ -2,7 +2,7 @@
 ghost use Rattle.std.specs.Prelude.{◌≡◌, ◌≤◌, ◌<◌, ◌^◌, length, IfOk, IfErr, OnOk};
 ghost use Rattle.std.specs.List.{AllZip};
 ghost use Rattle.rebuild_core.specs.Answer.{ValuesShallow, ValuesRanged};
-ghost use Rattle.disclosure.specs.Refusals.{IsRefused};
+ghost use Rattle.disclosure.specs.DisclosureRefusals.{IsDisclosureRefused};
 ghost use Rattle.verifier_core.specs.Verdict.{Gives};
 ghost use Rattle.verifier_core.specs.Check.{OnFault, Adds, IsUnreadAt, unread_at};
 
@@ -21,7 +21,7 @@ pub(crate) fn push_given(
     text: &str,
 ) -> Result<(), DisclosureError>
     ensures ok { OnOk result (Adds hash text.now given.old given.new) }
-    ensures refused { IfErr result (IsRefused text.now) }
+    ensures refused { IfErr result (IsDisclosureRefused text.now) }
 {
     let disclosure = read_disclosure(alloc, text)?;
     let digest = disclosure.digest(alloc, hash)?;

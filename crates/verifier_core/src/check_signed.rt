@@ -1,12 +1,12 @@
 // The header of a token, and its signature.
 ghost use Rattle.std.specs.Prelude.{◌≡◌, ℕ, IfErr, OnOk, option_map};
 ghost use Rattle.std.specs.Option.{option_copied};
-ghost use Rattle.claim_tree.specs.Lists.{At as StandsAt};
+ghost use Rattle.claim_tree.specs.Lists.{StandsAt};
 ghost use Rattle.compact_form.specs.Views.{jwt_of};
 ghost use Rattle.jws_part.specs.Header.{IsHeader};
 ghost use Rattle.verifier_core.specs.Verdict.{key_for as key_for_of, IsAlgRefused, IsTypeRefused};
-ghost use Rattle.verifier_core.specs.Check.{OnFault, Tells, IsSigned, IsSignedFault};
-ghost use Rattle.compact_form.specs.Lowest.{unplaced};
+ghost use Rattle.verifier_core.specs.Check.{OnFault, TestTells, IsSigned, IsSignedFault};
+ghost use Rattle.compact_form.specs.Passing.{unplaced};
 ghost use Rattle.verifier_core.specs.declared.check.VerifyError as error;
 
 use crate::{Rules, VerifyError};
@@ -41,7 +41,7 @@ fn key_for<'a>(keys: &'a KeySet, kid: Option<&TextBox>) -> Option<&'a Hs256Key>
 }
 
 fn is_at(algs: &TextList, i: usize, alg: &str) -> bool
-    ensures { Tells result (StandsAt algs.now i alg.now) }
+    ensures { TestTells result (StandsAt algs.now i alg.now) }
 {
     match algs.at(i) {
         Some(other) => other.as_str() == alg,
@@ -50,7 +50,7 @@ fn is_at(algs: &TextList, i: usize, alg: &str) -> bool
 }
 
 fn is_among(algs: &TextList, alg: &str) -> bool
-    ensures { Tells result ((i : ℕ) × StandsAt algs.now i alg.now) }
+    ensures { TestTells result ((i : ℕ) × StandsAt algs.now i alg.now) }
 {
     for i in 0..algs.len() {
         if is_at(algs, i, alg) {
@@ -61,7 +61,7 @@ fn is_among(algs: &TextList, alg: &str) -> bool
 }
 
 fn is_alg_refused(algs: &TextList, alg: &str) -> bool
-    ensures { Tells result (IsAlgRefused algs.now alg.now) }
+    ensures { TestTells result (IsAlgRefused algs.now alg.now) }
 {
     if alg != "HS256" {
         return true;
@@ -70,7 +70,7 @@ fn is_alg_refused(algs: &TextList, alg: &str) -> bool
 }
 
 fn is_type_refused(asked: Option<&TextBox>, typ: Option<&TextBox>) -> bool
-    ensures { Tells result (IsTypeRefused (option_copied asked.entry) (option_copied typ.entry)) }
+    ensures { TestTells result (IsTypeRefused (option_copied asked.entry) (option_copied typ.entry)) }
 {
     let Some(name) = asked else {
         return false;

@@ -1,7 +1,7 @@
 // What a policy wants of the claims of the processed payload.
 ghost use Rattle.std.specs.Prelude.{◌≡◌, ◌≢◌, ◌↔◌, ℕ, Some, None, codes, IsTrue, OnOk, IfErr, IfSome, IfNone};
 ghost use Rattle.claim_tree.specs.Tree.{Text, leaf, text, get as get_of, IsRanged};
-ghost use Rattle.claim_tree.specs.Lists.{At, IsLeast};
+ghost use Rattle.claim_tree.specs.Lists.{StandsAt, IsLeast};
 ghost use Rattle.claim_tree.specs.View.{tree_of};
 ghost use Rattle.compact_form.specs.declared.fault.Place.TheVariants.{Nowhere};
 ghost use Rattle.verifier_core.specs.Verdict.{ClaimFails};
@@ -37,8 +37,8 @@ fn is_issuer_refused(payload: &Tree, policy: &Policy) -> bool
 
 // The first of the names that is not the name of a claim.
 fn first_missing(payload: &Tree, names: &TextList) -> Option<usize>
-    ensures none { IfNone result ((i : ℕ) (name : Text) → At names.now i name → get_of (tree_of payload.now) name ≢ None) }
-    ensures first { IfSome result (IsLeast (λ i. (name : Text) × At names.now i name × (get_of (tree_of payload.now) name ≡ None))) }
+    ensures none { IfNone result ((i : ℕ) (name : Text) → StandsAt names.now i name → get_of (tree_of payload.now) name ≢ None) }
+    ensures first { IfSome result (IsLeast (λ i. (name : Text) × StandsAt names.now i name × (get_of (tree_of payload.now) name ≡ None))) }
 {
     for i in 0..names.len() {
         let name = names.at(i).unwrap();

@@ -5,8 +5,9 @@ ghost use Rattle.claim_tree.specs.View.{tree_of};
 ghost use Rattle.compact_form.specs.Lowest.{IsLowest};
 ghost use Rattle.marked_tree.specs.Marked.{strip as strip_of};
 ghost use Rattle.marked_tree.specs.View.{marked_of};
-ghost use Rattle.verifier_core.specs.Verdict.{TokenFails, IsChecked, IsCheckedAs, HasHash};
-ghost use Rattle.verifier_core.specs.Check.{OnFault, IsContent, OfToken, IsCounted, IsCountedWithin, refusal_of};
+ghost use Rattle.verifier_core.specs.Verdict.{TokenFails, IsChecked, HasHash};
+ghost use Rattle.verifier_core.specs.Verdicts.{IsCheckedAs};
+ghost use Rattle.verifier_core.specs.Check.{OnFault, IsContent, OfToken, IsCounted, IsCountedWithin, process_fault};
 
 use crate::check::fails_at;
 use crate::check_given::read_given;
@@ -51,7 +52,7 @@ impl Model for Content {
 }
 
 fn refusal(error: ProcessError) -> VerifyError
-    ensures { result ≡ refusal_of error }
+    ensures { result ≡ process_fault error }
 {
     match error {
         ProcessError::Memory => VerifyError::Memory,

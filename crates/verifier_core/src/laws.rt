@@ -5,15 +5,15 @@ ghost use Rattle.claim_tree.specs.JsonText.{json_text};
 ghost use Rattle.claim_tree.specs.Tree.{no_members};
 ghost use Rattle.compact_form.specs.Compact.{compact};
 ghost use Rattle.compact_form.specs.declared.fault.Fault.{Fault};
-ghost use Rattle.compact_form.specs.Token.{is_too_long};
-ghost use Rattle.compact_form.specs.Trim.{trimmed};
+ghost use Rattle.compact_form.specs.Trim.{trimmed, is_too_long};
 ghost use Rattle.json_form.specs.declared.token.Token.{Token};
 ghost use Rattle.json_form.specs.Token.{IsToken, Spells};
 ghost use Rattle.json_form.specs.Written.{flat_of, general_of};
 ghost use Rattle.marked_tree.specs.Marked.{Marked};
 ghost use Rattle.verifier_core.specs.FaultLine.{IsFault, IsFaultLine};
-ghost use Rattle.verifier_core.specs.PolicyFile.{IsPolicyFile, IsPolicyRefused};
-ghost use Rattle.verifier_core.specs.Verdict.{Fails, IsAccepted, HaveOneVerdict};
+ghost use Rattle.verifier_core.specs.PolicyFile.{IsPolicyFile, IsPolicyFileRefused};
+ghost use Rattle.verifier_core.specs.Verdict.{Fails, IsAccepted};
+ghost use Rattle.verifier_core.specs.Verdicts.{HaveOneVerdict};
 ghost use Rattle.compact_form.specs.Lowest.{IsLowest};
 ghost use Rattle.verifier_core.specs.declared.policy.Policy.{Policy};
 
@@ -25,8 +25,8 @@ pub fn one_line()
 /// A file says one policy or is refused, and has one fault beside want of memory.
 pub fn one_policy()
     ensures one { (bytes : List ℕ) (policy other : Policy) → IsPolicyFile bytes policy → IsPolicyFile bytes other → policy ≡ other }
-    ensures not_both { (bytes : List ℕ) (policy : Policy) (fault : FileFault) → IsPolicyFile bytes policy → IsPolicyRefused bytes fault → fault ≡ FileFault.Memory }
-    ensures one_fault { (bytes : List ℕ) (fault other : FileFault) → IsPolicyRefused bytes fault → IsPolicyRefused bytes other
+    ensures not_both { (bytes : List ℕ) (policy : Policy) (fault : FileFault) → IsPolicyFile bytes policy → IsPolicyFileRefused bytes fault → fault ≡ FileFault.Memory }
+    ensures one_fault { (bytes : List ℕ) (fault other : FileFault) → IsPolicyFileRefused bytes fault → IsPolicyFileRefused bytes other
         → fault ≢ FileFault.Memory → other ≢ FileFault.Memory → fault ≡ other }
 {}
 

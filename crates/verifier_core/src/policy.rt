@@ -1,10 +1,11 @@
 // The policy of a verifier, and the file that says it.
 ghost use Rattle.std.specs.Prelude.{◌≡◌, [], ◌∷◌, codes, IfOk, IfErr};
 ghost use Rattle.sd_outside.specs.Limits.{skew_max};
-ghost use Rattle.claim_tree.specs.FileForms.{IsText, IsTexts, IsWholeUpTo, Says, SaysOr, IsMemberRefused, required, optional, found};
+ghost use Rattle.claim_tree.specs.FileForms.{IsText, IsTexts, IsWholeUpTo, Says, SaysOr, required, optional, found};
+ghost use Rattle.claim_tree.specs.FileRefusals.{IsMemberRefused};
 ghost use Rattle.claim_tree.specs.declared.file_fault.Field.TheVariants.{Algs, Require, Skew};
 ghost use Rattle.hmac_sign.specs.Keys.{IsKeySet};
-ghost use Rattle.verifier_core.specs.PolicyFile.{IsPolicyFile, IsPolicyRefused};
+ghost use Rattle.verifier_core.specs.PolicyFile.{IsPolicyFile, IsPolicyFileRefused};
 ghost use Rattle.verifier_core.specs.Verdict.{rules_of};
 
 use crate::Rules;
@@ -120,7 +121,7 @@ fn skew_member(members: &TreeMap) -> Result<u32, FileFault>
 /// missing, no key binding token is asked for. Another member is a fault.
 pub fn read_policy(alloc: Global, bytes: &[u8]) -> Result<Policy, FileFault>
     ensures ok { IfOk result (IsPolicyFile bytes.now) }
-    ensures refused { IfErr result (IsPolicyRefused bytes.now) }
+    ensures refused { IfErr result (IsPolicyFileRefused bytes.now) }
 {
     let members = read_members(alloc, bytes, FILE_MAX, &FIELDS)?;
     let keys = keys_member(alloc, &members, Field::Keys)?;

@@ -1,6 +1,7 @@
 // The lines that tell of a refusal.
 ghost use Rattle.std.specs.Prelude.{◌≡◌, IfOk, string_bytes};
-ghost use Rattle.verifier_core.specs.FaultLine.{IsFaultLine, json_place_text, place_text};
+ghost use Rattle.verifier_core.specs.FaultLine.{IsFaultLine};
+ghost use Rattle.verifier_core.specs.RefusalText.{json_place_text, place_text};
 ghost use Rattle.verifier_core.specs.Named.{name_at};
 
 use compact_form::{

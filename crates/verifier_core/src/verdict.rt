@@ -5,8 +5,9 @@ ghost use Rattle.claim_tree.specs.View.{tree_of};
 ghost use Rattle.marked_tree.specs.Marked.{strip as strip_of};
 ghost use Rattle.marked_tree.specs.View.{marked_of};
 ghost use Rattle.json_form.specs.declared.token.Token.{Token as SeenToken};
-ghost use Rattle.json_form.specs.Token.{IsToken, IsRefused};
-ghost use Rattle.verifier_core.specs.Verdict.{Fails, IsAccepted, IsAcceptedAs, IsBindingMissing, rules_of};
+ghost use Rattle.json_form.specs.Token.{IsToken, IsTextRefused};
+ghost use Rattle.verifier_core.specs.Verdict.{Fails, IsAccepted, IsBindingMissing, rules_of};
+ghost use Rattle.verifier_core.specs.Verdicts.{IsAcceptedAs};
 ghost use Rattle.compact_form.specs.Lowest.{IsLowest};
 ghost use Rattle.verifier_core.specs.Check.{OnFault, IsContent, IsCounted, IsReadWithin, IsUncounted};
 
@@ -32,7 +33,7 @@ pub struct Accepted {
 // The conditions 1 to 3.
 fn read_text<'a>(alloc: Global, text: &'a [u8]) -> Result<TokenText<'a>, VerifyError>
     ensures ok { IfOk result (IsToken text.now) }
-    ensures refused { IfErr result (λ e. OnFault e (IsRefused text.now)) }
+    ensures refused { IfErr result (λ e. OnFault e (IsTextRefused text.now)) }
 {
     match TokenText::read(alloc, text) {
         Ok(token) => Ok(token),

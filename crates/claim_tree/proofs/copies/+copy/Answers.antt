@@ -1,6 +1,6 @@
 use Rattle.std.proofs.Common.{◌≡◌, sym, ◌∙◌, arith}
 use Rattle.claim_tree.specs.Tree.{MembersOrdered}
-use Rattle.claim_tree.specs.View.{members_of}
+use Rattle.claim_tree.specs.ListViews.{members_of}
 use Rattle.claim_tree.proofs.Walks.{Named, into_element, into_member, elements_turn, members_turn}
 use Rattle.claim_tree.proofs.copies.+copy.Goals as goal
 

@@ -1,6 +1,8 @@
 use Rattle.std.proofs.Common.{◌≡◌, ◌+◌, ◌*◌, max, drop}
-use Rattle.claim_tree.specs.Tree.{nodes, elements_nodes, members_nodes, elements_depth, members_depth}
-use Rattle.claim_tree.specs.View.{tree_of, elements_of, members_of}
+use Rattle.claim_tree.specs.Tree.{elements_depth, members_depth}
+use Rattle.claim_tree.specs.Nodes.{nodes, elements_nodes, members_nodes}
+use Rattle.claim_tree.specs.View.{tree_of}
+use Rattle.claim_tree.specs.ListViews.{elements_of, members_of}
 use Rattle.claim_tree.proofs.depths.+depth.Given as goal
 
 abbrev pub decreases-depth : goal.decreases-depth

@@ -1,7 +1,8 @@
 use Rattle.std.proofs.Common.{◌≢◌, List, IfNone, subst, sym}
 use Rattle.claim_tree.specs.Tree.{Text, array}
 use Rattle.claim_tree.specs.FileForms.{optional, IsTexts, text_elements, HasValue}
-use Rattle.claim_tree.specs.View.{tree_of, elements_of}
+use Rattle.claim_tree.specs.View.{tree_of}
+use Rattle.claim_tree.specs.ListViews.{elements_of}
 use Rattle.claim_tree.proofs.FileMembers.{no_list, odd_element, wrong_member}
 use Rattle.claim_tree.proofs.file_form.text_list_member.Goals as goal
 

@@ -1,6 +1,8 @@
 use Rattle.std.proofs.Common.{◌≡◌, take, ap, sym, ◌∙◌}
-use Rattle.claim_tree.specs.Tree.{leaf, text, pushed}
-use Rattle.claim_tree.specs.View.{tree_of, elements_of}
+use Rattle.claim_tree.specs.Tree.{leaf, text}
+use Rattle.claim_tree.specs.TreeCalls.{pushed}
+use Rattle.claim_tree.specs.View.{tree_of}
+use Rattle.claim_tree.specs.ListViews.{elements_of}
 use Rattle.claim_tree.proofs.Walks.{elements_turn}
 use Rattle.claim_tree.proofs.FileMembers.{no_texts, text_elements-push}
 use Rattle.claim_tree.proofs.file_form.texts_of.Goals as goal

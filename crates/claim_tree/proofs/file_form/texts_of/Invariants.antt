@@ -1,5 +1,5 @@
 use Rattle.std.proofs.Common.{◌≡◌, take}
-use Rattle.claim_tree.specs.View.{elements_of}
+use Rattle.claim_tree.specs.ListViews.{elements_of}
 use Rattle.claim_tree.specs.FileForms.{text_elements}
 use Rattle.claim_tree.proofs.file_form.texts_of.Given as goal
 

@@ -1,5 +1,5 @@
 use Rattle.std.proofs.Common.{Err, ap, subst}
-use Rattle.claim_tree.specs.Path.{IsNoPointer}
+use Rattle.claim_tree.specs.PointerRefusals.{IsNoPointer}
 use Rattle.claim_tree.proofs.ListForms.{odd_pointer}
 use Rattle.claim_tree.proofs.file_list.pointer_of.Goals as goal
 

@@ -1,5 +1,5 @@
 use Rattle.std.proofs.Common.{take}
-use Rattle.claim_tree.specs.View.{elements_of}
+use Rattle.claim_tree.specs.ListViews.{elements_of}
 use Rattle.claim_tree.specs.FileLists.{EachSays, IsPointer}
 use Rattle.claim_tree.proofs.file_list.pointers_of.Given as goal
 

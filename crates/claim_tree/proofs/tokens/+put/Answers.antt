@@ -1,8 +1,10 @@
 use Rattle.std.proofs.Common.{◌≡◌, ◌≤◌, ◌++◌, ap, sym, ◌∙◌, subst, arith}
 use Rattle.std.proofs.lemmas.List.{drop_all}
 use Rattle.std.proofs.lemmas.Result.{on_ok_weaker}
-use Rattle.claim_tree.specs.Tree.{IsRanged, nodes, elements_nodes, members_nodes}
-use Rattle.claim_tree.specs.View.{tree_of, elements_of, members_of}
+use Rattle.claim_tree.specs.Tree.{IsRanged}
+use Rattle.claim_tree.specs.Nodes.{nodes, elements_nodes, members_nodes}
+use Rattle.claim_tree.specs.View.{tree_of}
+use Rattle.claim_tree.specs.ListViews.{elements_of, members_of}
 use Rattle.claim_tree.proofs.Walks.{ranged_at, nodes_at, ranged_member_at, nodes_member_at}
 use Rattle.claim_tree.proofs.TreeTokens.{elements_tokens, members_tokens, element_written, member_written}
 use Rattle.claim_tree.proofs.tokens.+put.Goals as goal

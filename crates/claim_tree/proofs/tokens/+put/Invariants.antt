@@ -1,6 +1,7 @@
 use Rattle.std.proofs.Common.{◌≡◌, ◌+◌, ◌*◌, ◌++◌, drop}
-use Rattle.claim_tree.specs.Tree.{nodes, elements_nodes, members_nodes}
-use Rattle.claim_tree.specs.View.{tree_of, elements_of, members_of}
+use Rattle.claim_tree.specs.Nodes.{nodes, elements_nodes, members_nodes}
+use Rattle.claim_tree.specs.View.{tree_of}
+use Rattle.claim_tree.specs.ListViews.{elements_of, members_of}
 use Rattle.claim_tree.proofs.TreeTokens.{elements_tokens, members_tokens}
 use Rattle.claim_tree.proofs.tokens.+put.Given as goal
 

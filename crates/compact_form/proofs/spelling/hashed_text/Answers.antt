@@ -1,5 +1,6 @@
 use Rattle.std.proofs.Common.{sym, ◌∙◌, subst}
-use Rattle.compact_form.specs.Compact.{compact, IsUpToLastTilde}
+use Rattle.compact_form.specs.Compact.{compact}
+use Rattle.compact_form.specs.JwtCalls.{IsUpToLastTilde}
 use Rattle.compact_form.proofs.Printed.{is_compact, hashed_is_front}
 use Rattle.compact_form.proofs.spelling.hashed_text.Goals as goal
 

@@ -1,12 +1,12 @@
 use Rattle.std.proofs.Common.{◌∙◌, List, ℕ, refl, sym, subst, arith}
-use Rattle.compact_form.specs.Compact.{IsCompact, IsRefusedAt}
+use Rattle.compact_form.specs.Compact.{IsCompact, IsMisformedAt}
 use Rattle.compact_form.proofs.Verdicts.{refused_form, refused_too_much, reads}
 use Rattle.compact_form.proofs.token.read_view.Goals as goal
 
 pub returns-in-Err-clause-err : goal.returns-in-Err-clause-err
 returns-in-Err-clause-err c =
     let short = sym c.is_too_long.ensures ∙ c.if-is_too_long.false in
-    refused_form c.args.text.now _ c.in-Err.field-0.0 refl short (subst (λ (x : List ℕ). IsRefusedAt x c.in-Err.field-0.0) c.trim-token.ensures c.in-Err.ensures.err)
+    refused_form c.args.text.now _ c.in-Err.field-0.0 refl short (subst (λ (x : List ℕ). IsMisformedAt x c.in-Err.field-0.0) c.trim-token.ensures c.in-Err.ensures.err)
 
 pub returns-then-count-gt-COUNT_MAX-clause-err : goal.returns-then-count-gt-COUNT_MAX-clause-err
 returns-then-count-gt-COUNT_MAX-clause-err c =

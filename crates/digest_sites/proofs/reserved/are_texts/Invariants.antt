@@ -1,5 +1,5 @@
 use Rattle.std.proofs.Common.{◌≡◌, drop, is_some}
-use Rattle.claim_tree.specs.View.{elements_of}
+use Rattle.claim_tree.specs.ListViews.{elements_of}
 use Rattle.digest_sites.specs.Reserved.{texts_of}
 use Rattle.digest_sites.proofs.reserved.are_texts.Given as goal
 

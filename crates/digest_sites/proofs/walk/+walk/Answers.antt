@@ -1,5 +1,5 @@
 use Rattle.std.proofs.Common.{arith, subst, ◌≤◌}
-use Rattle.claim_tree.specs.Tree.{nodes, elements_nodes, members_nodes}
+use Rattle.claim_tree.specs.Nodes.{nodes, elements_nodes, members_nodes}
 use Rattle.claim_tree.specs.View.{tree_of}
 use Rattle.claim_tree.proofs.Walks.{nodes_at, nodes_member_at}
 use Rattle.digest_sites.proofs.walk.+walk.Goals as goal

@@ -1,6 +1,7 @@
 use Rattle.std.proofs.Common.{◌≡◌, ◌+◌, ◌*◌, ◌++◌, drop}
-use Rattle.claim_tree.specs.Tree.{nodes, elements_nodes, members_nodes}
-use Rattle.claim_tree.specs.View.{tree_of, elements_of, members_of}
+use Rattle.claim_tree.specs.Nodes.{nodes, elements_nodes, members_nodes}
+use Rattle.claim_tree.specs.View.{tree_of}
+use Rattle.claim_tree.specs.ListViews.{elements_of, members_of}
 use Rattle.digest_sites.specs.Walk.{elements_sites, members_sites}
 use Rattle.digest_sites.proofs.walk.+walk.Given as goal
 

@@ -1,5 +1,5 @@
 use Rattle.std.proofs.Common.{◌≡◌, ◌++◌, map, drop, IsSome}
-use Rattle.claim_tree.specs.View.{elements_of}
+use Rattle.claim_tree.specs.ListViews.{elements_of}
 use Rattle.digest_sites.specs.Reserved.{texts_of, texts_or_none}
 use Rattle.digest_sites.specs.Walk.{site}
 use Rattle.digest_sites.specs.declared.site.SiteKind.TheVariants.{Member}

@@ -1,5 +1,6 @@
 use Rattle.std.proofs.Common.{ap, ◌∙◌, option_map}
-use Rattle.claim_tree.specs.Tree.{Elements, leaf, text, array, pushed}
+use Rattle.claim_tree.specs.Tree.{Elements, leaf, text, array}
+use Rattle.claim_tree.specs.TreeCalls.{pushed}
 use Rattle.claim_tree.specs.View.{tree_of}
 use Rattle.disclosure.proofs.Arrays.{array_of-pushed}
 use Rattle.disclosure.proofs.disclosure.list_of.Goals as goal

@@ -1,7 +1,8 @@
 use Rattle.std.proofs.Common.{◌≡◌, ◌≤◌, IfSome, length, ap, subst, ◌∙◌}
 use Rattle.claim_tree.specs.View.{tree_of}
 use Rattle.hmac_sign.specs.Hmac.{key_block}
-use Rattle.hmac_sign.specs.Keys.{IsOct, added_key}
+use Rattle.hmac_sign.specs.Keys.{IsOct}
+use Rattle.hmac_sign.specs.KeyRefusals.{added_key}
 use Rattle.hmac_sign.proofs.keys.add_key.Goals as goal
 
 pub returns-in_ok-push-in-Ok-Some-clause-ok : goal.returns-in_ok-push-in-Ok-Some-clause-ok

@@ -1,5 +1,5 @@
 use Rattle.std.proofs.Common.{◌≡◌, drop}
-use Rattle.claim_tree.specs.View.{elements_of}
+use Rattle.claim_tree.specs.ListViews.{elements_of}
 use Rattle.hmac_sign.specs.Keys.{are_keys}
 use Rattle.hmac_sign.proofs.keys.are_keys.Given as goal
 

@@ -1,8 +1,10 @@
 use Rattle.std.proofs.Common.{◌≡◌, Err, ap, subst, sym, arith}
 use Rattle.std.proofs.lemmas.Result.{err_from_is_err_and}
-use Rattle.claim_tree.specs.View.{tree_of, elements_of}
+use Rattle.claim_tree.specs.View.{tree_of}
+use Rattle.claim_tree.specs.ListViews.{elements_of}
 use Rattle.claim_tree.proofs.Walks.{elements_turn}
-use Rattle.hmac_sign.specs.Keys.{IsShort, IsFirst, no_keys}
+use Rattle.hmac_sign.specs.Keys.{no_keys}
+use Rattle.hmac_sign.specs.KeyRefusals.{IsKeyShort, IsFirstKey}
 use Rattle.hmac_sign.specs.declared.key_set.KeySetError.TheVariants.{KeyShort}
 use Rattle.hmac_sign.proofs.KeySets.{at_is, none_more, first_at, added, added_long}
 use Rattle.hmac_sign.proofs.keys.make_keys.Goals as goal
@@ -25,7 +27,7 @@ returns-in_err-add_key-clause-short c =
     rw (from.1, from.2) (λ place e.
     let same : c.in_err-add_key.field-0.0 ≡ KeyShort place = cc e in
     let told = c.in_err-add_key.ensures.short place (ap Err same) in
-    subst (λ j. IsFirst IsShort (elements_of ts) j) (sym told.0) (first_at IsShort ts c.loop-place.place t c.loop-place-test.true c.index-trees-place.is c.loop-place.invariant.1 told.1))
+    subst (λ j. IsFirstKey IsKeyShort (elements_of ts) j) (sym told.0) (first_at IsKeyShort ts c.loop-place.place t c.loop-place-test.true c.index-trees-place.is c.loop-place.invariant.1 told.1))
 
 pub loop-place-preserved : goal.loop-place-preserved
 loop-place-preserved c =
@@ -35,5 +37,5 @@ loop-place-preserved c =
     let turn = elements_turn ts i t c.loop-place-test.true c.index-trees-place.is in
     let more = c.in_ok-add_key.ensures.ok in (
       rw turn (added _ (tree_of t) c.loop-place.keys.items c.add_key.new.keys.items c.loop-place.invariant.0 more),
-      none_more IsShort ts i t c.loop-place-test.true c.index-trees-place.is c.loop-place.invariant.1 (added_long (tree_of t) c.loop-place.keys.items c.add_key.new.keys.items more),
+      none_more IsKeyShort ts i t c.loop-place-test.true c.index-trees-place.is c.loop-place.invariant.1 (added_long (tree_of t) c.loop-place.keys.items c.add_key.new.keys.items more),
     )

@@ -1,8 +1,8 @@
 use Rattle.std.proofs.Common.{List, subst, arith}
-use Rattle.claim_tree.specs.Lists.{IsLeast, Nowhere}
+use Rattle.claim_tree.specs.Lists.{IsLeast, AtNone}
 use Rattle.claim_tree.specs.View.{tree_of}
-use Rattle.marked_tree.specs.Places.{Path}
-use Rattle.selection_core.specs.Refusals.{IsMissing}
+use Rattle.marked_tree.specs.Paths.{Path}
+use Rattle.selection_core.specs.ChoiceRefusals.{IsMissing}
 use Rattle.selection_core.proofs.Wanted.{none_missing_more, none_missing_all, first_missing}
 use Rattle.holder_core.proofs.WholeToken.{nothing_found, something_found}
 use Rattle.holder_core.proofs.whole.first_missing.Goals as goal
@@ -26,5 +26,5 @@ loop-k-preserved c =
 pub returns-clause-there : goal.returns-clause-there
 returns-clause-there c none =
     let t = tree_of c.args.payload.now in
-    subst (λ (ps : List Path). Nowhere (IsMissing t ps)) c.paths-path-items.ensures
+    subst (λ (ps : List Path). AtNone (IsMissing t ps)) c.paths-path-items.ensures
     (none_missing_all t c.paths-path-items.result.now c.loop-k.k c.loop-k-test.false c.loop-k.invariant)

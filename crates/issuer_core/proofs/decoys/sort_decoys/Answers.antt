@@ -3,11 +3,11 @@ use Rattle.std.proofs.Math.ListN.{drop_of_length-le}
 use Rattle.std.proofs.lemmas.Result.{IfOk-weaker}
 use Rattle.std.proofs.lemmas.List.Sorted.{ranks_by, answers_always}
 use Rattle.claim_tree.specs.Tree.{Text}
-use Rattle.marked_tree.specs.Places.{Path}
+use Rattle.marked_tree.specs.Paths.{Path}
 use Rattle.marked_tree.specs.Rests.{AreSorted}
 use Rattle.marked_tree.proofs.PathOrder.{paths_total}
-use Rattle.issuer_core.specs.Decoys.{places}
-use Rattle.issuer_core.specs.Laying.{placed, paths_in}
+use Rattle.issuer_core.specs.Decoys.{decoy_paths}
+use Rattle.issuer_core.specs.Laying.{digests_on_path, paths_in}
 use Rattle.issuer_core.proofs.SortedEntries.{Entry, lower, placed_sorted, paths_sorted, all_entries}
 use Rattle.issuer_core.proofs.decoys.sort_decoys.Goals as goal
 
@@ -27,10 +27,10 @@ returns-clause-placed c =
     let new = c.sort_by.new.self.items in
     let stable = c.in_ok-sort_by.ensures.stable lower (ranks_by paths_total (λ (e : Entry). e.0)) (answers_always _ _ _ (λ f a r g h. search rules)) in
     let none = drop_of_length-le c.items-decoy-items.result.now c.loop-decoy-test.false in
-    let paths : paths_in es ≡ places c.args.decoys.now =
-    sym (append-nil (paths_in es)) ∙ (ap (λ ds. paths_in es ++ places ds) (sym none) ∙ (l.invariant.0 ∙ ap places c.items-decoy-items.ensures)) in
-    let texts = all_entries es c.args.digests.now (places c.args.decoys.now) paths l.invariant.1 c.requires in
+    let paths : paths_in es ≡ decoy_paths c.args.decoys.now =
+    sym (append-nil (paths_in es)) ∙ (ap (λ ds. paths_in es ++ decoy_paths ds) (sym none) ∙ (l.invariant.0 ∙ ap decoy_paths c.items-decoy-items.ensures)) in
+    let texts = all_entries es c.args.digests.now (decoy_paths c.args.decoys.now) paths l.invariant.1 c.requires in
     both c.parted.result _ _ _
     (λ parted e f at.
-    ap₂ (λ (ps : List Path) (ds : List Text). placed ps ds at) e f
-    ∙ (placed_sorted es new stable at ∙ ap₂ (λ (ps : List Path) (ds : List Text). placed ps ds at) paths texts)) c.parted.ensures.paths c.parted.ensures.digests
+    ap₂ (λ (ps : List Path) (ds : List Text). digests_on_path ps ds at) e f
+    ∙ (placed_sorted es new stable at ∙ ap₂ (λ (ps : List Path) (ds : List Text). digests_on_path ps ds at) paths texts)) c.parted.ensures.paths c.parted.ensures.digests

@@ -1,5 +1,5 @@
 use Rattle.std.proofs.Common.{ap, ◌∙◌, arith}
-use Rattle.marked_tree.specs.Places.{is_among}
+use Rattle.marked_tree.specs.Paths.{is_among}
 use Rattle.issuer_core.proofs.Counts.{keeps_new, skips_old, kept_count, covers_skip, covers_keep, covers_all}
 use Rattle.issuer_core.proofs.hidden.different.Goals.{then-place-len+in_ok-copy+in_ok-push, else-place-len}
 use Rattle.issuer_core.proofs.hidden.different.Goals as goal

@@ -5,8 +5,9 @@ use Rattle.issuer_core.specs.Order.{Order}
 use Rattle.issuer_core.specs.Seed.{maker_of}
 use Rattle.issuer_core.specs.Written.{IsIssued, IsLaidOut}
 use Rattle.issuer_core.specs.GoodOrder.{IsWritable}
-use Rattle.issuer_core.specs.Issue.{IsNotIssued, HasNoClash}
-use Rattle.issuer_core.specs.Refusals.{Refuses, NoneApplies}
+use Rattle.issuer_core.specs.Issue.{HasNoClash}
+use Rattle.issuer_core.specs.IssueCalls.{IsNotIssued}
+use Rattle.issuer_core.specs.OrderRefusals.{AppliesToOrder, NoneApplies}
 use Rattle.issuer_core.proofs.issuing.issue.Goals as goal
 
 pub issue_owned-requires-clause-depth : goal.issue_owned-requires-clause-depth
@@ -22,7 +23,7 @@ pub returns-clause-laid : goal.returns-clause-laid
 returns-clause-laid g c = subst (λ o. IfOk c.issue_owned.result (IsLaidOut (maker_of c.args.seed.now) o (g.S.Signatures.good c.args.signer.now))) c.in_ok-order.ensures c.issue_owned.ensures.laid
 
 pub returns-clause-passes : goal.returns-clause-passes
-returns-clause-passes g c = subst (λ o. IfOk c.issue_owned.result (λ _. NoneApplies (Refuses o))) c.in_ok-order.ensures c.issue_owned.ensures.passes
+returns-clause-passes g c = subst (λ o. IfOk c.issue_owned.result (λ _. NoneApplies (AppliesToOrder o))) c.in_ok-order.ensures c.issue_owned.ensures.passes
 
 pub returns-clause-writable : goal.returns-clause-writable
 returns-clause-writable g c = subst (λ o. IfOk c.issue_owned.result (λ _. IsWritable o)) c.in_ok-order.ensures c.issue_owned.ensures.writable

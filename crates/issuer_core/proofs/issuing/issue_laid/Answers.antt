@@ -2,7 +2,7 @@ use Rattle.std.proofs.Common.{None, inl, inr, ⊎_elim, refl, sym, subst}
 use Rattle.std.proofs.lemmas.Result.{IfOk-weaker, IfErr-weaker}
 use Rattle.claim_tree.specs.View.{tree_of}
 use Rattle.compact_form.specs.declared.parts.Parts.{Parts}
-use Rattle.issuer_core.specs.Issue.{AreSigned, IsFinished}
+use Rattle.issuer_core.specs.IssueSteps.{AreSigned, IsFinished}
 use Rattle.issuer_core.proofs.FromLaid.{words}
 use Rattle.issuer_core.proofs.issuing.issue_laid.Goals as goal
 

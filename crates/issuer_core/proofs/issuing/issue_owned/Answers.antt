@@ -2,9 +2,9 @@ use Rattle.std.proofs.Common.{length, ap, arith}
 use Rattle.std.proofs.lemmas.Result.{IfOk-weaker, IfErr-weaker}
 use Rattle.std.specs.Set.{distinct_count}
 use Rattle.sd_outside.specs.Limits.{count_max}
-use Rattle.marked_tree.specs.Places.{same_path}
+use Rattle.marked_tree.specs.Paths.{same_path}
 use Rattle.claim_tree.specs.View.{tree_of}
-use Rattle.issuer_core.specs.Decoys.{places}
+use Rattle.issuer_core.specs.Decoys.{decoy_paths}
 use Rattle.issuer_core.specs.declared.errors.IssueError.TheVariants.{TooManyHidden, TooManyDecoys}
 use Rattle.issuer_core.specs.Order.{order_of}
 use Rattle.issuer_core.specs.Seed.{maker_of}
@@ -61,7 +61,7 @@ pub lay_order-requires-clause-few : goal.lay_order-requires-clause-few
 lay_order-requires-clause-few g c = not_more count_max (distinct_count same_path c.args.order.hide) (c.in_default.ensures.passes TooManyHidden)
 
 pub lay_order-requires-clause-decoys : goal.lay_order-requires-clause-decoys
-lay_order-requires-clause-decoys g c = not_more count_max (length (places c.args.order.decoys)) (c.in_default.ensures.passes TooManyDecoys)
+lay_order-requires-clause-decoys g c = not_more count_max (length (decoy_paths c.args.order.decoys)) (c.in_default.ensures.passes TooManyDecoys)
 
 pub issue_laid-requires : goal.issue_laid-requires
 issue_laid-requires g c =

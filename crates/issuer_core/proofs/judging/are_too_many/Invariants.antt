@@ -1,6 +1,6 @@
 use Rattle.std.proofs.Common.{◌≡◌, ◌+◌, ◌≤◌, length, drop}
-use Rattle.issuer_core.specs.Decoys.{places}
+use Rattle.issuer_core.specs.Decoys.{decoy_paths}
 use Rattle.issuer_core.proofs.judging.are_too_many.Given as goal
 
 abbrev pub invariant-loop-entry : goal.invariant-loop-entry
-invariant-loop-entry l = (l.total + length (places (drop l.entry-index l.entry-items)) ≡ length (places l.entry-items)) × (l.total ≤ 4096)
+invariant-loop-entry l = (l.total + length (decoy_paths (drop l.entry-index l.entry-items)) ≡ length (decoy_paths l.entry-items)) × (l.total ≤ 4096)

@@ -1,6 +1,6 @@
 use Rattle.std.proofs.Common.{arith}
 use Rattle.std.proofs.lemmas.Map.Made.{distinct_count-le}
-use Rattle.marked_tree.specs.Places.{same_path}
+use Rattle.marked_tree.specs.Paths.{same_path}
 use Rattle.issuer_core.proofs.judging.hides_too_many.Goals as goal
 
 pub returns-then-len-le-COUNT_MAX : goal.returns-then-len-le-COUNT_MAX

@@ -1,6 +1,6 @@
 use Rattle.std.proofs.Common.{sym, ◌∙◌}
 use Rattle.issuer_core.specs.Order.{order_of}
-use Rattle.issuer_core.specs.Refusals.{IsRoot, IsNowhere, IsProtected, IsMisplaced}
+use Rattle.issuer_core.specs.OrderRefusals.{IsRoot, IsNowhere, IsProtected, IsMisplaced}
 use Rattle.issuer_core.specs.Judging.{is_root, is_nowhere, is_protected, is_misplaced}
 use Rattle.issuer_core.proofs.Firsts.{found_first, found_none}
 use Rattle.issuer_core.proofs.Judged.{root_tells, nowhere_tells, protected_tells, misplaced_tells}

@@ -2,14 +2,14 @@ use Rattle.std.proofs.Common.{◌≡◌, ℕ, refl, [], ◌∷◌, ◌++◌, Som
 use Rattle.std.specs.Vec.Iter.{into_iter_items}
 use Rattle.std.proofs.lemmas.List.{nil_from_length}
 use Rattle.claim_tree.specs.Tree.{IsRanged, depth, elements_len}
-use Rattle.marked_tree.specs.Places.{Path}
+use Rattle.marked_tree.specs.Paths.{Path}
 use Rattle.claim_tree.specs.View.{tree_of}
 use Rattle.marked_tree.specs.Marked.{no_marked_elements, no_marked_members, marked_element, marked_member}
 use Rattle.marked_tree.specs.View.{marked_of, marked_elements_of, marked_members_of}
 use Rattle.marked_tree.proofs.MarkedViews.{Element, Entry}
 use Rattle.issuer_core.specs.Laid.{sorted, with_sd}
 use Rattle.issuer_core.specs.Laying.{digest_at, placed_at, IsPart}
-use Rattle.issuer_core.specs.Closing.{IsNumbered}
+use Rattle.issuer_core.specs.Closing.{HasNumber}
 use Rattle.issuer_core.proofs.LaidBounds.{lay_ranged, lay_depth}
 use Rattle.issuer_core.proofs.LayingSteps.{IsMade, hidden_part, hidden_made}
 use Rattle.issuer_core.proofs.LayingElements.{LaysElements, elements_start, element_more, elements_end, elements_made, shown_element, hidden_element}
@@ -200,7 +200,7 @@ lay_part-returns-in_ok-disclose-in-Some-clause-part t c dec tells more =
     let a = c.args in
     let inside = c.in_ok-inside.ensures in
     let own = c.in_ok-disclose-in-Some.ensures in
-    let numbered = subst (λ n. IsNumbered a.mark n) (sym inside.count) c.requires.numbered in
+    let numbered = subst (λ n. HasNumber a.mark n) (sym inside.count) c.requires.numbered in
     hidden_part a.decoys a.salts.now (option_map (λ n. n.now) a.name) a.mark (marked_of a.tree) c.in-Some.field-0 (tree_of c.in_ok-inside.inside) a.layer.now.texts c.lay.new.layer.texts c.disclose.new.self.texts
     c.in-Some.is inside.laid inside.texts own.text c.in_ok-disclose-in-Some.field-0 own.digest numbered more dec
 

@@ -1,6 +1,6 @@
 use Rattle.std.proofs.Common.{◌+◌, ◌*◌}
 use Rattle.std.specs.Vec.Iter.{into_iter_items}
-use Rattle.claim_tree.specs.Tree.{nodes, elements_nodes, members_nodes}
+use Rattle.claim_tree.specs.Nodes.{nodes, elements_nodes, members_nodes}
 use Rattle.marked_tree.specs.Marked.{strip, strip_elements, strip_members}
 use Rattle.marked_tree.specs.View.{marked_of, marked_elements_of, marked_members_of}
 use Rattle.issuer_core.proofs.LayingElements.{LaysElements}

@@ -1,7 +1,7 @@
 use Rattle.std.proofs.Common.{◌≡◌, ◌++◌, length, sym, ap, subst, ◌∙◌, arith}
 use Rattle.issuer_core.specs.Closing.{ClosesFrom}
 use Rattle.issuer_core.specs.Digests.{made_texts}
-use Rattle.issuer_core.specs.Laid.{laid_items, with_alg}
+use Rattle.issuer_core.specs.Laid.{laid_given, with_alg}
 use Rattle.issuer_core.specs.Laying.{digest_at, salted}
 use Rattle.marked_tree.specs.View.{marked_of}
 use Rattle.issuer_core.proofs.laying.lay_claims.Goals as goal
@@ -21,7 +21,7 @@ returns-clause-laid c dec tells more = c.in_ok-payload-2.ensures ∙ ap with_alg
 pub returns-clause-texts : goal.returns-clause-texts
 returns-clause-texts c dec tells more =
     let texts = c.lay.new.layer.texts in
-    subst (λ old. texts ≡ old ++ made_texts (salted c.args.salts.now) (length old) (laid_items dec (digest_at (texts ++ more)) (marked_of c.args.claims))) c.new-layer.ensures.texts (c.in_ok-payload.ensures.texts dec tells more)
+    subst (λ old. texts ≡ old ++ made_texts (salted c.args.salts.now) (length old) (laid_given dec (digest_at (texts ++ more)) (marked_of c.args.claims))) c.new-layer.ensures.texts (c.in_ok-payload.ensures.texts dec tells more)
 
 pub returns-clause-count : goal.returns-clause-count
 returns-clause-count c =

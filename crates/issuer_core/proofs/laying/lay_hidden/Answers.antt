@@ -1,7 +1,7 @@
 use Rattle.std.proofs.Common.{◌≡◌, ◌+◌, length, sym, ap, subst, ◌∙◌, arith}
 use Rattle.std.proofs.lemmas.Result.{IfOk-weaker}
 use Rattle.claim_tree.specs.View.{tree_of}
-use Rattle.marked_tree.specs.Marked.{weight}
+use Rattle.marked_tree.specs.Ways.{weight}
 use Rattle.marked_tree.specs.View.{marked_of}
 use Rattle.issuer_core.specs.Order.{order_of}
 use Rattle.issuer_core.specs.Decoys.{decoys_of}
@@ -27,11 +27,11 @@ returns-clause-laid c =
     let hidden : c.in_ok-claims.hidden ≡ hidden_of o = c.in_ok-claims.ensures.count in
     let decoys = c.count_decoys.ensures in
     let many : length salts ≡ hidden_of o + length (decoys_of o) = omega (arith, long, hidden, decoys) in
-    let marked : marked_of c.in_ok-claims.claims ≡ order.marked_of o = c.in_ok-claims.ensures.marked in
+    let marked : marked_of c.in_ok-claims.claims ≡ order.marked_claims o = c.in_ok-claims.ensures.marked in
     IfOk-weaker c.lay_salted.result _ _
     (λ l h. order_laid c.args.seed.now o salts l.texts l.digests (tree_of l.payload) many
     (λ k low. sym (c.in_ok-salts.ensures.each k (omega (arith, low, long))))
-    (subst (λ n. IsLaidWith salts n (decoys_of o) (order.marked_of o) (tree_of l.payload) l.texts l.digests) hidden
+    (subst (λ n. IsLaidWith salts n (decoys_of o) (order.marked_claims o) (tree_of l.payload) l.texts l.digests) hidden
     (subst (λ m. IsLaidWith salts c.in_ok-claims.hidden (decoys_of o) m (tree_of l.payload) l.texts l.digests) marked h)))
     c.lay_salted.ensures
 

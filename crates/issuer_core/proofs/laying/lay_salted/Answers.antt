@@ -1,10 +1,10 @@
 use Rattle.std.proofs.Common.{◌≡◌, List, ◌++◌, length, map, drop, sym, ap, ap₂, subst, ◌∙◌}
 use Rattle.claim_tree.specs.Tree.{Text}
-use Rattle.marked_tree.specs.Places.{Path}
+use Rattle.marked_tree.specs.Paths.{Path}
 use Rattle.marked_tree.specs.Rests.{rests, AreSorted}
 use Rattle.marked_tree.proofs.PathOrder.{rests_zero}
-use Rattle.issuer_core.specs.Decoys.{places}
-use Rattle.issuer_core.specs.Laying.{digest, placed, placed_at}
+use Rattle.issuer_core.specs.Decoys.{decoy_paths}
+use Rattle.issuer_core.specs.Laying.{digest, digests_on_path, placed_at}
 use Rattle.issuer_core.proofs.laying.lay_salted.Goals as goal
 
 pub lay_claims-requires-clause-decoys : goal.lay_claims-requires-clause-decoys
@@ -19,11 +19,11 @@ lay_claims-requires-clause-decoys c =
 pub returns : goal.returns
 returns c =
     let d = c.all.result in
-    let ps = places c.args.decoys.now in
-    let seen : (q : Path) → placed_at d q ≡ placed ps (map digest (drop c.args.hidden c.args.salts.now)) q =
-    λ q. ap (λ n. placed (rests n d.paths.now) d.digests.now q) c.all.ensures.depth
-    ∙ (ap₂ (λ (xs : List Path) (ds : List Text). placed xs ds q) (rests_zero d.paths.now ∙ c.all.ensures.paths) c.all.ensures.digests
-    ∙ (c.in_ok-sorted.ensures.placed q ∙ ap (λ ds. placed ps ds q) c.in_ok-of_decoys.ensures)) in
+    let ps = decoy_paths c.args.decoys.now in
+    let seen : (q : Path) → placed_at d q ≡ digests_on_path ps (map digest (drop c.args.hidden c.args.salts.now)) q =
+    λ q. ap (λ n. digests_on_path (rests n d.paths.now) d.digests.now q) c.all.ensures.depth
+    ∙ (ap₂ (λ (xs : List Path) (ds : List Text). digests_on_path xs ds q) (rests_zero d.paths.now ∙ c.all.ensures.paths) c.all.ensures.digests
+    ∙ (c.in_ok-sorted.ensures.placed q ∙ ap (λ ds. digests_on_path ps ds q) c.in_ok-of_decoys.ensures)) in
     let told = c.in_ok-laid.ensures in
     record {
       laid = λ dec tells more. told.laid dec (λ q. seen q ∙ tells q) more;

@@ -1,6 +1,6 @@
 use Rattle.std.proofs.Common.{◌+◌, drop, sym, ap, ◌∙◌}
 use Rattle.std.proofs.Math.ListN.{drop_of_length-le}
-use Rattle.claim_tree.specs.Tree.{pushed}
+use Rattle.claim_tree.specs.TreeCalls.{pushed}
 use Rattle.issuer_core.specs.Laid.{digest_elements, digest_object}
 use Rattle.issuer_core.specs.Laying.{elements_joined}
 use Rattle.issuer_core.proofs.LayingElements.{decoy_more, joined_none}

@@ -3,7 +3,7 @@ use Rattle.std.proofs.lemmas.Result.{err_from_is_err_and}
 use Rattle.sd_outside.specs.Limits.{file_max}
 use Rattle.claim_tree.specs.View.{tree_of}
 use Rattle.claim_tree.specs.FileForms.{IsText, Entry, required, optional, found}
-use Rattle.claim_tree.specs.FileWords.{word_of}
+use Rattle.claim_tree.specs.FileWords.{field_word}
 use Rattle.claim_tree.specs.declared.file_fault.Field.TheVariants.{Payload, Hide, Decoys, Key, Kid, Typ}
 use Rattle.claim_tree.proofs.FileMembers.{says_meets, may_say_meets, says_or_meets, member_refused}
 use Rattle.claim_tree.specs.FileLists.{IsListOf, IsPointer}
@@ -79,12 +79,12 @@ returns-in_err-typ-clause-refused c =
     rw (handed.1, handed.2) (member_refused file_max (payload ∷ hide ∷ decoys ∷ key ∷ kid ∷ []) typ [] c.args.bytes.now ms c.in_err-typ.field-0.0 c.in_ok-members.ensures.ok (payload_meets, (hide_meets, (decoys_meet, (key_meets, (kid_meets, tt))))) c.in_err-typ.ensures.refused)
 
 pub returns-clause-ranged : goal.returns-clause-ranged
-returns-clause-ranged c = value_ranged c.in_ok-members.members (word_of Payload) (tree_of c.into_payload.result) c.in_ok-members.ensures.ranged c.into_payload.ensures
+returns-clause-ranged c = value_ranged c.in_ok-members.members (field_word Payload) (tree_of c.into_payload.result) c.in_ok-members.ensures.ranged c.into_payload.ensures
 
 pub returns-clause-depth : goal.returns-clause-depth
 returns-clause-depth c =
     let deep = c.in_ok-members.ensures.depth in
-    value_depth c.in_ok-members.members (word_of Payload) (tree_of c.into_payload.result) (omega (arith, deep)) c.into_payload.ensures
+    value_depth c.in_ok-members.members (field_word Payload) (tree_of c.into_payload.result) (omega (arith, deep)) c.into_payload.ensures
 
 pub returns-clause-counts : goal.returns-clause-counts
 returns-clause-counts c entry stands = counts_within (found c.in_ok-members.members Decoys) c.in_ok-decoys.decoys entry c.in_ok-decoys.ensures.ok stands

@@ -3,11 +3,11 @@ use Rattle.std.specs.Prelude.{slice_get}
 use Rattle.std.proofs.Math.ListN.{drop_of_length-le}
 use Rattle.claim_tree.specs.Tree.{Text, elements_len}
 use Rattle.claim_tree.proofs.Views.{elements_len-of}
-use Rattle.issuer_core.specs.GoodOrder.{ElementsHeld}
-use Rattle.claim_tree.specs.View.{elements_of, members_of}
+use Rattle.issuer_core.specs.GoodOrder.{ElementsFit}
+use Rattle.claim_tree.specs.ListViews.{elements_of, members_of}
 use Rattle.claim_tree.proofs.Walks.{Named, into_element, into_member}
-use Rattle.marked_tree.specs.Places.{Path}
-use Rattle.issuer_core.specs.Reserved.{reserved_elements, reserved_members}
+use Rattle.marked_tree.specs.Paths.{Path}
+use Rattle.issuer_core.specs.ReservedPaths.{reserved_elements, reserved_members}
 use Rattle.issuer_core.proofs.ReservedPlaces.{every, element_found, element_passed, member_found, member_passed, step_behind, without_sd, object_with, object_without, held_element, held_member}
 use Rattle.issuer_core.proofs.reserved.+reserved.Goals as goal
 
@@ -84,7 +84,7 @@ pub find_in_list-returns-clause-held : goal.find_in_list-returns-clause-held
 find_in_list-returns-clause-held t c =
     let l = c.loop-i in
     let items = c.trees-tree-items.result.now in
-    let none = subst (λ us. ElementsHeld (elements_of us)) (sym (drop_of_length-le items (omega (arith, c.loop-i-test.false)))) tt in
+    let none = subst (λ us. ElementsFit (elements_of us)) (sym (drop_of_length-le items (omega (arith, c.loop-i-test.false)))) tt in
     let count = elements_len-of items in
     let whole = ap elements_len c.trees-tree-items.ensures.value in
-    (omega (arith, count, whole, c.loop-i.auto.i-end), subst ElementsHeld c.trees-tree-items.ensures.value (l.invariant.1 none))
+    (omega (arith, count, whole, c.loop-i.auto.i-end), subst ElementsFit c.trees-tree-items.ensures.value (l.invariant.1 none))

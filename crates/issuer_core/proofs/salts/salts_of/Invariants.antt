@@ -1,7 +1,7 @@
 use Rattle.std.proofs.Common.{◌≡◌}
-use Rattle.issuer_core.specs.Salts.{IsAt}
+use Rattle.issuer_core.specs.SaltSteps.{IsBeforePiece}
 use Rattle.issuer_core.proofs.SaltSteps.{salts_before}
 use Rattle.issuer_core.proofs.salts.salts_of.Given as goal
 
 abbrev pub invariant-loop : goal.invariant-loop
-invariant-loop l = IsAt l.rng l.seed l.counter × (l.salts ≡ salts_before l.seed l.counter)
+invariant-loop l = IsBeforePiece l.rng l.seed l.counter × (l.salts ≡ salts_before l.seed l.counter)

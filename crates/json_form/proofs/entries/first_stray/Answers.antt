@@ -1,6 +1,6 @@
 use Rattle.std.proofs.Common.{◌≡◌, inl, inr, sym, ◌∙◌, subst, arith}
 use Rattle.std.proofs.lemmas.Bool.{cases_lt}
-use Rattle.claim_tree.specs.View.{elements_of}
+use Rattle.claim_tree.specs.ListViews.{elements_of}
 use Rattle.json_form.specs.Json.{IsStray}
 use Rattle.json_form.proofs.EntryLists.{stray_here, not_here, not_past}
 use Rattle.json_form.proofs.entries.first_stray.Goals as goal

@@ -1,5 +1,5 @@
 use Rattle.std.proofs.Common.{ℕ, ◌<◌}
-use Rattle.claim_tree.specs.View.{elements_of}
+use Rattle.claim_tree.specs.ListViews.{elements_of}
 use Rattle.json_form.specs.Json.{IsStray}
 use Rattle.json_form.proofs.entries.first_stray.Given as goal
 

@@ -3,10 +3,10 @@ use Rattle.std.proofs.lemmas.Result.{err_from_is_err_and}
 use Rattle.claim_tree.specs.Tree.{Members, no_members}
 use Rattle.claim_tree.specs.FileForms.{Says, SaysOr, MaySay}
 use Rattle.claim_tree.specs.Removed.{removed}
-use Rattle.compact_form.specs.PartWords.{word_of}
+use Rattle.compact_form.specs.PartWords.{part_word}
 use Rattle.compact_form.specs.declared.fault.Part.TheVariants.{Protected, Signature, Header, KbJwt}
-use Rattle.json_form.specs.Json.{IsWordTree, IsJwtTree, IsObject}
-use Rattle.json_form.specs.PlaceTable.{IsNoWord, IsWrong}
+use Rattle.json_form.specs.Json.{IsWordTree, IsJwtTree, IsObjectOf}
+use Rattle.json_form.specs.JsonPlaces.{IsNoWord, IsWrongMember}
 use Rattle.json_form.proofs.SayOrFail.{Taken, HasBoth, signature_kept, header_kept, binding_kept, no_word_at, wrong_at, same_place, same_error, first_protected, first_signature, first_header, first_disclosures, first_kb_jwt}
 use Rattle.json_form.proofs.entry.read_entry.Goals as goal
 
@@ -38,8 +38,8 @@ returns-in_err-outer-clause-refused c place is =
     let r = c.from_residual-in_err-outer in
     let handed = err_from_is_err_and r.result r.ensures.1 in
     let same = same_place r.result c.in_err-outer.field-0.0 place handed.0 handed.1 handed.2 is in
-    let wrong = subst (IsWrong IsObject last Header) same c.in_err-outer.ensures.refused in
-    first_header e s u place both (wrong_at IsObject last e Header place (header_kept e after last taken) wrong)
+    let wrong = subst (IsWrongMember IsObjectOf last Header) same c.in_err-outer.ensures.refused in
+    first_header e s u place both (wrong_at IsObjectOf last e Header place (header_kept e after last taken) wrong)
 
 pub returns-in_err-disclosures-clause-refused : goal.returns-in_err-disclosures-clause-refused
 returns-in_err-disclosures-clause-refused c place is =
@@ -51,7 +51,7 @@ returns-in_err-disclosures-clause-refused c place is =
     let u = c.in_ok-signature.signature in
     let both : HasBoth e s u = record { protected = c.in_ok-protected.ensures.ok; signature = subst (λ t. Says IsWordTree t u) (signature_kept e after taken.protected) c.in_ok-signature.ensures.ok } in
     let k = c.in_ok-outer.outer in
-    let says = subst (λ t. SaysOr IsObject no_members t k) (header_kept e after last taken) c.in_ok-outer.ensures.ok in
+    let says = subst (λ t. SaysOr IsObjectOf no_members t k) (header_kept e after last taken) c.in_ok-outer.ensures.ok in
     let r = c.from_residual-in_err-disclosures in
     let handed = err_from_is_err_and r.result r.ensures.1 in
     let same = same_error r.result c.in_err-disclosures.field-0.0 handed.0 place handed.1 handed.2 is in
@@ -68,7 +68,7 @@ returns-in_err-binding-clause-refused c place is =
     let both : HasBoth e s u = record { protected = c.in_ok-protected.ensures.ok; signature = subst (λ t. Says IsWordTree t u) (signature_kept e after taken.protected) c.in_ok-signature.ensures.ok } in
     let k = c.in_ok-outer.outer in
     let rest = c.take_disclosures.new.header in
-    let says = subst (λ t. SaysOr IsObject no_members t k) (header_kept e after last taken) c.in_ok-outer.ensures.ok in
+    let says = subst (λ t. SaysOr IsObjectOf no_members t k) (header_kept e after last taken) c.in_ok-outer.ensures.ok in
     let r = c.from_residual-in_err-binding in
     let handed = err_from_is_err_and r.result r.ensures.1 in
     let same = same_error r.result c.in_err-binding.field-0.0 handed.0 place handed.1 handed.2 is in
@@ -87,10 +87,10 @@ returns-clause-ok c =
       protected = c.in_ok-protected.ensures.ok;
       signature = subst (λ t. Says IsWordTree t c.in_ok-signature.signature) (signature_kept e after taken.protected) c.in_ok-signature.ensures.ok;
       header = k;
-      unprotected = subst (λ t. SaysOr IsObject no_members t k) (header_kept e after last taken) c.in_ok-outer.ensures.ok;
+      unprotected = subst (λ t. SaysOr IsObjectOf no_members t k) (header_kept e after last taken) c.in_ok-outer.ensures.ok;
       says = record {
         disclosures = c.in_ok-disclosures.ensures.ok;
         binding = subst (λ t. MaySay IsJwtTree t c.in_ok-binding.binding) (binding_kept k rest c.in_ok-disclosures.ensures.others) c.in_ok-binding.ensures.ok;
-        outer = c.in_ok-binding.ensures.others ∙ ap (λ (ms : Members). removed ms (word_of KbJwt)) c.in_ok-disclosures.ensures.others;
+        outer = c.in_ok-binding.ensures.others ∙ ap (λ (ms : Members). removed ms (part_word KbJwt)) c.in_ok-disclosures.ensures.others;
       };
     }

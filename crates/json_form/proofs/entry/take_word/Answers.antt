@@ -1,6 +1,6 @@
 use Rattle.std.proofs.Common.{refl}
 use Rattle.claim_tree.specs.View.{tree_of}
-use Rattle.json_form.specs.PlaceTable.{other}
+use Rattle.json_form.specs.JsonPlaces.{other}
 use Rattle.json_form.proofs.Members.{found_here}
 use Rattle.json_form.proofs.entry.take_word.Goals as goal
 

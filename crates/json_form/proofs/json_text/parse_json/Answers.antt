@@ -5,8 +5,8 @@ use Rattle.claim_tree.specs.View.{tree_of}
 use Rattle.claim_tree.specs.JsonText.{Reads}
 use Rattle.compact_form.specs.declared.fault.JsonPlace.TheVariants.{NotObject}
 use Rattle.json_form.specs.Json.{IsJson}
-use Rattle.json_form.specs.Reading.{MembersSay}
-use Rattle.json_form.specs.Written.{IsPrintable}
+use Rattle.json_form.specs.MembersRead.{MembersSay}
+use Rattle.json_form.specs.Printable.{IsPrintable}
 use Rattle.json_form.proofs.WrittenForms.{printable}
 use Rattle.json_form.proofs.Members.{no_object}
 use Rattle.json_form.proofs.Objects.{first_not_object, first_of_members, json_of}

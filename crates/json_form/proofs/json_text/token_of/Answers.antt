@@ -3,8 +3,8 @@ use Rattle.std.proofs.lemmas.Result.{err_from_is_err_and}
 use Rattle.claim_tree.specs.FileForms.{Says}
 use Rattle.compact_form.specs.declared.fault.JsonPlace.TheVariants.{Stray}
 use Rattle.compact_form.specs.declared.fault.Part.TheVariants.{Payload}
-use Rattle.json_form.specs.Json.{found, IsWordTree}
-use Rattle.json_form.specs.PlaceTable.{IsNoWord}
+use Rattle.json_form.specs.Json.{found_part, IsWordTree}
+use Rattle.json_form.specs.JsonPlaces.{IsNoWord}
 use Rattle.json_form.proofs.SayOrFail.{same_place, same_error}
 use Rattle.json_form.proofs.Objects.{first_payload, first_signatures, settled, no_entries_at, first_of_rest, stray_of_rest, token_of_rest}
 use Rattle.json_form.proofs.json_text.token_of.Goals as goal
@@ -38,7 +38,7 @@ pub returns-in-None-clause-ok : goal.returns-in-None-clause-ok
 returns-in-None-clause-ok c =
     let ms = c.args.members in
     let rest = c.take_word.new.members in
-    let says = subst (Says IsWordTree (found ms Payload)) (sym c.in_ok-token.ensures.payload) c.in_ok-payload.ensures.ok in
+    let says = subst (Says IsWordTree (found_part ms Payload)) (sym c.in_ok-token.ensures.payload) c.in_ok-payload.ensures.ok in
     token_of_rest ms c.in_ok-token.token c.in_ok-entries.entries says (settled ms rest c.in_ok-entries.entries c.in_ok-payload.ensures.others c.in_ok-entries.ensures.ok) c.in_ok-token.ensures.ok c.in-None.is
 
 pub returns-in-Some-clause-refused : goal.returns-in-Some-clause-refused
@@ -46,5 +46,5 @@ returns-in-Some-clause-refused c place is =
     let ms = c.args.members in
     let rest = c.take_word.new.members in
     let named : Stray c.in-Some.entry ≡ place = cc is in
-    let says = subst (Says IsWordTree (found ms Payload)) (sym c.in_ok-token.ensures.payload) c.in_ok-payload.ensures.ok in
+    let says = subst (Says IsWordTree (found_part ms Payload)) (sym c.in_ok-token.ensures.payload) c.in_ok-payload.ensures.ok in
     stray_of_rest ms c.in_ok-token.token c.in_ok-entries.entries c.in-Some.entry place says (settled ms rest c.in_ok-entries.entries c.in_ok-payload.ensures.others c.in_ok-entries.ensures.ok) c.in_ok-token.ensures.ok c.in-Some.is (sym named)

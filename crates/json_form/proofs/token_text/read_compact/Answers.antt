@@ -1,6 +1,6 @@
 use Rattle.std.proofs.Common.{◌≡◌, Err, sym, subst, ◌∙◌}
 use Rattle.std.proofs.lemmas.Result.{err_from_is_err_and}
-use Rattle.compact_form.specs.Token as plain
+use Rattle.compact_form.specs.CompactToken as plain
 use Rattle.json_form.specs.declared.token.Token.{Token}
 use Rattle.json_form.specs.declared.token.TokenError.{TokenError}
 use Rattle.json_form.proofs.Tokens.{refused_plainly, read_plainly}
@@ -13,7 +13,7 @@ returns-in_err-view-clause-refused c fault is =
     let error : handed.0 ≡ TokenError.Fault fault = cc both in
     let faults : TokenError.Fault c.in_err-view.field-0.0 ≡ TokenError.Fault fault = sym handed.2 ∙ error in
     let same : c.in_err-view.field-0.0 ≡ fault = cc faults in
-    refused_plainly c.args.text.now fault c.requires.plain (subst (plain.IsRefused c.args.text.now) same c.in_err-view.ensures.err)
+    refused_plainly c.args.text.now fault c.requires.plain (subst (plain.IsCompactRefused c.args.text.now) same c.in_err-view.ensures.err)
 
 pub returns-clause-ok : goal.returns-clause-ok
 returns-clause-ok c =

@@ -5,11 +5,10 @@ use Rattle.sd_outside.specs.Limits.{file_max}
 use Rattle.compact_form.specs.Condition as condition
 use Rattle.compact_form.specs.Condition.{number_of}
 use Rattle.compact_form.specs.declared.fault.Place.TheVariants.{Nowhere}
-use Rattle.compact_form.specs.Token.{is_json}
-use Rattle.compact_form.specs.Trim.{trimmed}
+use Rattle.compact_form.specs.Trim.{trimmed, is_json}
 use Rattle.json_form.specs.declared.token.TokenError.{TokenError}
 use Rattle.json_form.specs.Json.{IsJson}
-use Rattle.json_form.specs.PlaceTable.{IsJsonFault}
+use Rattle.json_form.specs.JsonPlaces.{IsJsonPlace}
 use Rattle.json_form.specs.Token.{IsTooMuch}
 use Rattle.json_form.proofs.Tokens.{refused_misformed, refused_much, read_json, same_fault}
 use Rattle.json_form.proofs.token_text.read_json.Goals as goal
@@ -22,7 +21,7 @@ returns-in_err-token-clause-refused c fault is =
     let handed = err_from_is_err_and c.from_residual.result c.from_residual.ensures.1 in
     let both : Err handed.0 ≡ Err (TokenError.Fault fault) = sym handed.1 ∙ is in
     let error : handed.0 ≡ TokenError.Fault fault = cc both in
-    refused_misformed text fault c.in_err-token.field-0.0 (sym handed.2 ∙ error) json short (λ place named. subst (λ bytes. IsJsonFault bytes place) c.requires.between (c.in_err-token.ensures.fault place (ap Err named)))
+    refused_misformed text fault c.in_err-token.field-0.0 (sym handed.2 ∙ error) json short (λ place named. subst (λ bytes. IsJsonPlace bytes place) c.requires.between (c.in_err-token.ensures.fault place (ap Err named)))
 
 pub returns-in-Some-clause-ok : goal.returns-in-Some-clause-ok
 returns-in-Some-clause-ok c =

@@ -1,7 +1,8 @@
 use Rattle.std.proofs.Common.{◌∷◌, ◌++◌, [], sym, ◌∙◌, ap, append_assoc}
 use Rattle.std.specs.Vec.Iter.{into_iter_items}
 use Rattle.claim_tree.specs.Tree.{array}
-use Rattle.claim_tree.specs.View.{tree_of, elements_of}
+use Rattle.claim_tree.specs.View.{tree_of}
+use Rattle.claim_tree.specs.ListViews.{elements_of}
 use Rattle.json_form.proofs.WordLists.{odd_word, more_words}
 use Rattle.json_form.proofs.values.words_in.Goals as goal
 

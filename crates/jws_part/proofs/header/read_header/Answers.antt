@@ -1,7 +1,8 @@
 use Rattle.std.proofs.Common.{◌≡◌, Err, sym, ap, ◌∙◌}
 use Rattle.std.proofs.lemmas.Result.{err_from_is_err_and}
 use Rattle.jws_part.specs.declared.header.HeaderError.{HeaderError}
-use Rattle.jws_part.specs.Header.{unread_header, no_object, nothing_said}
+use Rattle.jws_part.specs.Header.{no_object, nothing_said}
+use Rattle.jws_part.specs.HeaderSteps.{unread_header}
 use Rattle.jws_part.proofs.Headers.{unread_back}
 use Rattle.jws_part.proofs.header.read_header.Goals as goal
 

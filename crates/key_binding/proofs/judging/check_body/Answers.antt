@@ -1,7 +1,8 @@
 use Rattle.std.proofs.Common.{refl}
 use Rattle.claim_tree.specs.View.{tree_of}
 use Rattle.compact_form.specs.Condition.{hash_differs, binding_time}
-use Rattle.key_binding.specs.Judged.{judged_of, HasClaims}
+use Rattle.key_binding.specs.Judged.{HasClaims}
+use Rattle.key_binding.specs.JudgedSteps.{judged_of}
 use Rattle.key_binding.specs.Read.{claims_of}
 use Rattle.key_binding.proofs.BindingSteps.{refuse, refuse_unsaid, at33, at38, finish}
 use Rattle.key_binding.proofs.BindingTests.{no_truth}

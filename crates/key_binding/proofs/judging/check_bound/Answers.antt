@@ -1,6 +1,6 @@
 use Rattle.std.proofs.Common.{refl, sym}
 use Rattle.compact_form.specs.Condition.{holder_key_unknown}
-use Rattle.key_binding.specs.Judged.{judged_of}
+use Rattle.key_binding.specs.JudgedSteps.{judged_of}
 use Rattle.key_binding.proofs.BindingSteps.{refuse, start}
 use Rattle.key_binding.proofs.judging.check_bound.Goals as goal
 

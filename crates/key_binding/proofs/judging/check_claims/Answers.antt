@@ -1,6 +1,6 @@
 use Rattle.std.proofs.Common.{not, bytes_eq, refl, ap, ◌∙◌}
 use Rattle.compact_form.specs.Condition.{binding_stale, binding_early, nonce_differs, audience_differs}
-use Rattle.key_binding.specs.Judged.{judged_of}
+use Rattle.key_binding.specs.JudgedSteps.{judged_of}
 use Rattle.key_binding.specs.Read.{claims_of}
 use Rattle.key_binding.proofs.BindingSteps.{refuse, at34, at35, at36, at37}
 use Rattle.key_binding.proofs.BindingTests.{told_same, told_other, no_truth}

@@ -1,6 +1,6 @@
 use Rattle.std.proofs.Common.{not, bytes_eq, codes, refl, sym, ap, ◌∙◌}
 use Rattle.compact_form.specs.Condition.{binding_alg, binding_signature, binding_type}
-use Rattle.key_binding.specs.Judged.{judged_of}
+use Rattle.key_binding.specs.JudgedSteps.{judged_of}
 use Rattle.key_binding.proofs.BindingSteps.{refuse, at28, at29, at30, at31, at32}
 use Rattle.key_binding.proofs.BindingTests.{told_same, told_other, no_truth}
 use Rattle.key_binding.proofs.judging.check_header.Goals as goal

@@ -1,5 +1,5 @@
 use Rattle.std.proofs.Common.{Err, ap}
-use Rattle.key_binding.specs.Judged.{judged_of}
+use Rattle.key_binding.specs.JudgedSteps.{judged_of}
 use Rattle.key_binding.proofs.BindingSteps.{refuse_unread}
 use Rattle.key_binding.proofs.judging.check_payload.Goals as goal
 

@@ -1,6 +1,6 @@
 use Rattle.std.proofs.Common.{inl, inr, Err, refl, ap}
 use Rattle.compact_form.specs.Condition.{binding_header}
-use Rattle.key_binding.specs.Judged.{judged_of}
+use Rattle.key_binding.specs.JudgedSteps.{judged_of}
 use Rattle.key_binding.proofs.BindingSteps.{refuse, at28}
 use Rattle.key_binding.proofs.judging.check_signed.Goals as goal
 

@@ -1,5 +1,5 @@
 use Rattle.std.proofs.Common.{arith}
-use Rattle.compact_form.specs.Lowest.{unplaced}
+use Rattle.compact_form.specs.Passing.{unplaced}
 use Rattle.compact_form.proofs.Lowest.{one_number}
 use Rattle.key_binding.specs.BindingConditions.{BindingFails}
 use Rattle.key_binding.proofs.BindingSteps.{binding_numbers}

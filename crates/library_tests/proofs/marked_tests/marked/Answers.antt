@@ -1,6 +1,6 @@
 use Rattle.std.proofs.Common.{arith}
 use Rattle.std.proofs.lemmas.Map.Made.{distinct_count-le}
-use Rattle.marked_tree.specs.Places.{same_path}
+use Rattle.marked_tree.specs.Paths.{same_path}
 use Rattle.library_tests.proofs.marked_tests.marked.Goals as goal
 
 pub mark-requires-clause-few : goal.mark-requires-clause-few

@@ -1,7 +1,7 @@
 use Rattle.std.proofs.Common.{◌≡◌, ◌<◌, None, sym, ap, ◌∙◌, subst, arith}
-use Rattle.claim_tree.specs.Tree.{elements_nodes, members_nodes}
+use Rattle.claim_tree.specs.Nodes.{elements_nodes, members_nodes}
 use Rattle.claim_tree.proofs.Walks.{nodes_at, nodes_member_at}
-use Rattle.digest_sites.specs.Given.{given_of}
+use Rattle.digest_sites.specs.GivenView.{given_of}
 use Rattle.marked_tree.specs.Marked.{put}
 use Rattle.marked_tree.specs.View.{marked_of}
 use Rattle.rebuild_core.proofs.ListOpening.{element_here, elements_end}

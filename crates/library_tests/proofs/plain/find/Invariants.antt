@@ -1,6 +1,6 @@
 use Rattle.std.proofs.Common.{◌≡◌, map, drop}
-use Rattle.digest_sites.specs.Given.{given_of}
-use Rattle.rebuild_core.specs.Given.{find_from, find}
+use Rattle.digest_sites.specs.GivenView.{given_of}
+use Rattle.rebuild_core.specs.Reached.{find_from, find}
 use Rattle.library_tests.proofs.plain.find.Given as goal
 
 abbrev pub invariant-loop-i : goal.invariant-loop-i

@@ -1,6 +1,7 @@
 use Rattle.std.proofs.Common.{◌≡◌}
 use Rattle.std.specs.Vec.Iter.{into_iter_items}
-use Rattle.marked_tree.specs.Marked.{no_marked_members, put_all}
+use Rattle.marked_tree.specs.Marked.{no_marked_members}
+use Rattle.marked_tree.specs.MarkedCalls.{put_all}
 use Rattle.marked_tree.specs.View.{marked_members_of}
 use Rattle.marked_tree.proofs.marked.of_members.Given as goal
 

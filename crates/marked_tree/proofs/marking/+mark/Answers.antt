@@ -1,10 +1,12 @@
 use Rattle.std.proofs.Common.{◌≡◌, ◌+◌, ◌<◌, ◌≤◌, drop, ap, sym, subst, ◌∙◌, arith, rules}
 use Rattle.std.proofs.Math.ListN.{drop_of_length-le}
 use Rattle.std.proofs.lemmas.List.{length-map}
-use Rattle.claim_tree.specs.Tree.{nodes, depth, elements_nodes, elements_depth, members_nodes, members_depth, MembersOrdered}
-use Rattle.claim_tree.specs.View.{tree_of, elements_of, members_of}
+use Rattle.claim_tree.specs.Tree.{depth, elements_depth, members_depth, MembersOrdered}
+use Rattle.claim_tree.specs.Nodes.{nodes, elements_nodes, members_nodes}
+use Rattle.claim_tree.specs.View.{tree_of}
+use Rattle.claim_tree.specs.ListViews.{elements_of, members_of}
 use Rattle.claim_tree.proofs.Walks.{Named, nodes_at, depth_at, nodes_member_at, depth_member_at}
-use Rattle.marked_tree.specs.Places.{is_among, mark_elements, mark_members}
+use Rattle.marked_tree.specs.Paths.{is_among, mark_elements, mark_members}
 use Rattle.marked_tree.specs.Rests.{rests, headed}
 use Rattle.marked_tree.specs.View.{marked_of}
 use Rattle.marked_tree.proofs.MarkSame.{IsMarkedAt, element_marked, element_counted, member_marked, member_counted, joined, joined_members, joined-none, joined_members-none}

@@ -1,7 +1,8 @@
 use Rattle.std.proofs.Common.{◌≡◌, ◌+◌, ◌*◌, ◌≤◌, drop}
-use Rattle.claim_tree.specs.Tree.{nodes, elements_nodes, members_nodes}
-use Rattle.claim_tree.specs.View.{tree_of, elements_of, members_of}
-use Rattle.marked_tree.specs.Places.{is_among, hidden_elements, hidden_members, mark_elements, mark_members}
+use Rattle.claim_tree.specs.Nodes.{nodes, elements_nodes, members_nodes}
+use Rattle.claim_tree.specs.View.{tree_of}
+use Rattle.claim_tree.specs.ListViews.{elements_of, members_of}
+use Rattle.marked_tree.specs.Paths.{is_among, hidden_elements, hidden_members, mark_elements, mark_members}
 use Rattle.marked_tree.specs.Rests.{rests}
 use Rattle.marked_tree.proofs.MarkSame.{joined, joined_members}
 use Rattle.marked_tree.proofs.HeadCounts.{taken, decimals, first_names}

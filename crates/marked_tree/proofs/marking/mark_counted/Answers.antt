@@ -2,7 +2,7 @@ use Rattle.std.proofs.Common.{drop, length, sym, ap, subst, ◌∙◌, arith, Li
 use Rattle.std.proofs.lemmas.List.{length-map}
 use Rattle.claim_tree.specs.View.{tree_of}
 use Rattle.marked_tree.specs.Marked.{strip}
-use Rattle.marked_tree.specs.Places.{Path, is_among}
+use Rattle.marked_tree.specs.Paths.{Path, is_among}
 use Rattle.marked_tree.specs.Rests.{rests, AreSorted}
 use Rattle.marked_tree.proofs.MarkFacts.{strips}
 use Rattle.marked_tree.proofs.MarkSame.{Alike, mark_same, hidden_same}

@@ -1,5 +1,5 @@
 use Rattle.std.proofs.Common.{◌+◌, sym, ap, ◌∙◌, length, subst, take}
-use Rattle.marked_tree.specs.Places.{is_among}
+use Rattle.marked_tree.specs.Paths.{is_among}
 use Rattle.marked_tree.specs.Rests.{rests, AreSorted}
 use Rattle.marked_tree.proofs.PathOrder.{rest_whole, run_sorted, run_below, run_count}
 use Rattle.marked_tree.proofs.marking.paths_below.Goals as goal

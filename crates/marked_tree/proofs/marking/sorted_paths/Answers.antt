@@ -2,7 +2,7 @@ use Rattle.std.proofs.Common.{rules}
 use Rattle.std.specs.List.Sorted.{IsPermutation}
 use Rattle.std.proofs.lemmas.Fn.{dedup_same}
 use Rattle.std.proofs.lemmas.List.Sorted.{ranks_by, answers_always}
-use Rattle.marked_tree.specs.Places.{Path}
+use Rattle.marked_tree.specs.Paths.{Path}
 use Rattle.marked_tree.proofs.DifferentPaths.{IsEachOnce, each_once}
 use Rattle.marked_tree.proofs.PathOrder.{lower_path, paths_total}
 use Rattle.marked_tree.proofs.marking.sorted_paths.Goals as goal

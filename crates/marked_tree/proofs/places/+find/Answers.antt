@@ -1,7 +1,7 @@
 use Rattle.std.proofs.Common.{◌∷◌, option_map, Some, decimal, reverse, sym, ◌∙◌, ap, arith}
 use Rattle.std.proofs.lemmas.Result.{IfOk-weaker}
 use Rattle.claim_tree.specs.Tree.{Text}
-use Rattle.marked_tree.specs.Places.{Path, first_with, elements_spots, members_spots}
+use Rattle.marked_tree.specs.Paths.{Path, first_with, elements_spots, members_spots}
 use Rattle.marked_tree.specs.View.{marked_of}
 use Rattle.marked_tree.proofs.MarkedViews.{Entry}
 use Rattle.marked_tree.proofs.MarkedWalks.{into_element, into_member}

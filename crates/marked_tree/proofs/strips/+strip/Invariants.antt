@@ -1,5 +1,5 @@
 use Rattle.std.proofs.Common.{◌≡◌, ◌+◌, ◌*◌, take}
-use Rattle.claim_tree.specs.Tree.{nodes, elements_nodes, members_nodes}
+use Rattle.claim_tree.specs.Nodes.{nodes, elements_nodes, members_nodes}
 use Rattle.marked_tree.specs.Marked.{strip, strip_elements, strip_members}
 use Rattle.marked_tree.specs.View.{marked_of, marked_elements_of, marked_members_of}
 use Rattle.marked_tree.proofs.strips.+strip.Given as goal

@@ -1,10 +1,10 @@
 use Rattle.std.proofs.Common.{◌≡◌, ◌<◌, Some, map, length, get_or, inl, inr, refl, sym, arith}
 use Rattle.std.proofs.lemmas.List.{length-map}
-use Rattle.claim_tree.specs.Lists.{At}
+use Rattle.claim_tree.specs.Lists.{StandsAt}
 use Rattle.claim_tree.proofs.Lists.{At-map}
 use Rattle.rebuild_core.specs.Rows.{seen}
 use Rattle.rebuild_core.specs.RowNames.{given_name}
-use Rattle.rebuild_core.specs.Disclosed.{has_name}
+use Rattle.rebuild_core.specs.Disclosed.{is_name_disclosed}
 use Rattle.rebuild_core.proofs.LeastIll.{At-read}
 use Rattle.rebuild_core.proofs.ClashFacts.{noted_found, noted_step, noted_skip, noted_end, was_noted, is_new}
 use Rattle.rebuild_core.proofs.names.first_clash.Goals as goal
@@ -19,13 +19,13 @@ returns-then-is_beside c =
     let number = get_or numbers place 0 in
     let row = seen c.index-rows-place.result in
     let few : place < length numbers = omega (arith, c.loop-place-test.true, c.requires) in
-    let a : At numbers place number = At-read numbers place number 0 few refl in
-    let b : At rows place row = At-map seen c.args.rows.now place c.index-rows-place.result (At-read c.args.rows.now place c.index-rows-place.result _ c.loop-place-test.true c.index-rows-place.is) in
+    let a : StandsAt numbers place number = At-read numbers place number 0 few refl in
+    let b : StandsAt rows place row = At-map seen c.args.rows.now place c.index-rows-place.result (At-read c.args.rows.now place c.index-rows-place.result _ c.loop-place-test.true c.index-rows-place.is) in
     let e : given_name row.kind given number ≡ Some c.in-Some.name.now = sym c.in-Some.ensures in
-    noted_found rows numbers given place (has_name c.loop-place.disclosed) c.loop-place.invariant row c.in-Some.name.now (b, number, a, e)
+    noted_found rows numbers given place (is_name_disclosed c.loop-place.disclosed) c.loop-place.invariant row c.in-Some.name.now (b, number, a, e)
     (elim c.then-is_beside.branch [
       | then-is_beside-via-then-is_beside w ↦ inl (w.if-is_beside.ensures.0 refl)
-      | then-is_beside-via-else-is_beside+in_ok-note+then-not-branch w ↦ inr (was_noted w.in_ok-note.field-0 (has_name c.loop-place.disclosed row.object c.in-Some.name.now) w.in_ok-note.ensures.new w.if-not-branch.true)
+      | then-is_beside-via-else-is_beside+in_ok-note+then-not-branch w ↦ inr (was_noted w.in_ok-note.field-0 (is_name_disclosed c.loop-place.disclosed row.object c.in-Some.name.now) w.in_ok-note.ensures.new w.if-not-branch.true)
     ])
 
 pub loop-place-preserved : goal.loop-place-preserved
@@ -37,17 +37,17 @@ loop-place-preserved c =
     let number = get_or numbers place 0 in
     let row = seen c.index-rows-place.result in
     let few : place < length numbers = omega (arith, c.loop-place-test.true, c.requires) in
-    let a : At numbers place number = At-read numbers place number 0 few refl in
-    let b : At rows place row = At-map seen c.args.rows.now place c.index-rows-place.result (At-read c.args.rows.now place c.index-rows-place.result _ c.loop-place-test.true c.index-rows-place.is) in
+    let a : StandsAt numbers place number = At-read numbers place number 0 few refl in
+    let b : StandsAt rows place row = At-map seen c.args.rows.now place c.index-rows-place.result (At-read c.args.rows.now place c.index-rows-place.result _ c.loop-place-test.true c.index-rows-place.is) in
     elim c.match-name_given.branch [
       | in-Some+else-is_beside+in_ok-note+else-not-branch w ↦ rw w.disclosed-is
-          (noted_step rows numbers given place (has_name c.loop-place.disclosed) (has_name w.note.new.disclosed) c.loop-place.invariant row w.in-Some.name.now (b, number, a, sym w.in-Some.ensures)
+          (noted_step rows numbers given place (is_name_disclosed c.loop-place.disclosed) (is_name_disclosed w.note.new.disclosed) c.loop-place.invariant row w.in-Some.name.now (b, number, a, sym w.in-Some.ensures)
           (λ h. let z = w.if-is_beside.ensures.1 h in cc)
-          (is_new w.in_ok-note.field-0 (has_name c.loop-place.disclosed row.object w.in-Some.name.now) w.in_ok-note.ensures.new w.if-not-branch.false) w.in_ok-note.ensures.noted)
-      | in_default w ↦ rw w.disclosed-is (noted_skip rows numbers given place number row (has_name c.loop-place.disclosed) c.loop-place.invariant b a (w.in_default.ensures))
+          (is_new w.in_ok-note.field-0 (is_name_disclosed c.loop-place.disclosed row.object w.in-Some.name.now) w.in_ok-note.ensures.new w.if-not-branch.false) w.in_ok-note.ensures.noted)
+      | in_default w ↦ rw w.disclosed-is (noted_skip rows numbers given place number row (is_name_disclosed c.loop-place.disclosed) c.loop-place.invariant b a (w.in_default.ensures))
     ]
 
 pub returns : goal.returns
 returns c =
-    noted_end (map seen c.args.rows.now) c.args.numbers.now c.args.given.now c.loop-place.place (has_name c.loop-place.disclosed) c.loop-place.invariant
+    noted_end (map seen c.args.rows.now) c.args.numbers.now c.args.given.now c.loop-place.place (is_name_disclosed c.loop-place.disclosed) c.loop-place.invariant
     (omega (arith, c.loop-place-test.false, length-map c.args.rows.now seen))

@@ -1,7 +1,7 @@
 use Rattle.std.proofs.Common.{◌<◌, map, length, get_or, refl, subst, arith}
-use Rattle.claim_tree.specs.Lists.{At}
+use Rattle.claim_tree.specs.Lists.{StandsAt}
 use Rattle.claim_tree.proofs.Lists.{At-map, At-same}
-use Rattle.digest_sites.specs.Given.{given_of}
+use Rattle.digest_sites.specs.GivenView.{given_of}
 use Rattle.rebuild_core.specs.Rows.{seen}
 use Rattle.rebuild_core.specs.RowNames.{IsWrongRow}
 use Rattle.rebuild_core.proofs.LeastIll.{At-read, low_take, low_pass, low_found, low_none}
@@ -17,8 +17,8 @@ loop-place-preserved c =
     let number = get_or numbers place 0 in
     let row = seen c.index-rows-place.result in
     let few : place < length numbers = omega (arith, c.loop-place-test.true, c.requires) in
-    let a : At numbers place number = At-read numbers place number 0 few refl in
-    let b : At rows place row = At-map seen c.args.rows.now place c.index-rows-place.result (At-read c.args.rows.now place c.index-rows-place.result _ c.loop-place-test.true c.index-rows-place.is) in
+    let a : StandsAt numbers place number = At-read numbers place number 0 few refl in
+    let b : StandsAt rows place row = At-map seen c.args.rows.now place c.index-rows-place.result (At-read c.args.rows.now place c.index-rows-place.result _ c.loop-place-test.true c.index-rows-place.is) in
     elim c.if-number-least.branch [
       | then-number-least+then-is_wrong w ↦ rw w.least-is
           (low_take IsWrongRow rows numbers given place number c.loop-place.least row (given_of w.given_at.result.now) c.loop-place.invariant a b w.given_at.ensures w.if-number-least.true (w.if-is_wrong.ensures.0 refl))

@@ -1,4 +1,4 @@
-use Rattle.digest_sites.specs.Given.{given_of}
+use Rattle.digest_sites.specs.GivenView.{given_of}
 use Rattle.rebuild_core.proofs.GivenFacts.{item_at}
 use Rattle.std.proofs.lemmas.List.{length-map}
 use Rattle.std.proofs.Common.{◌<◌, length, ap, arith}

@@ -1,7 +1,7 @@
 use Rattle.std.proofs.Common.{◌≡◌, ℕ, ◌<◌, take}
-use Rattle.rebuild_core.specs.Given.{given_digests}
+use Rattle.rebuild_core.specs.Reached.{given_digests}
 use Rattle.rebuild_core.specs.Conditions.{RepeatedDisclosure}
-use Rattle.rebuild_core.specs.Given.{counted}
+use Rattle.rebuild_core.specs.LookUps.{counted}
 use Rattle.rebuild_core.proofs.numbers.number_given.Given as goal
 
 abbrev pub invariant-loop-i : goal.invariant-loop-i

@@ -1,6 +1,6 @@
 use Rattle.std.proofs.Common.{◌≡◌, ◌++◌, drop}
-use Rattle.rebuild_core.specs.Given.{counted}
-use Rattle.rebuild_core.specs.Numbers.{numbers, all_interned, row_texts}
+use Rattle.rebuild_core.specs.LookUps.{counted}
+use Rattle.rebuild_core.specs.DigestNumbers.{numbers, all_interned, row_texts}
 use Rattle.rebuild_core.proofs.numbers.number_rows.Given as goal
 
 abbrev pub invariant-loop-row : goal.invariant-loop-row

@@ -2,7 +2,7 @@ use Rattle.std.proofs.Common.{◌≡◌, ◌-◌, ◌<◌, ◌≤◌, [], drop, 
 use Rattle.std.proofs.lemmas.Result.{err_from_is_err_and}
 use Rattle.std.proofs.Math.ListN.{drop_of_length-le}
 use Rattle.digest_sites.specs.Reserved.{sd_texts}
-use Rattle.digest_sites.specs.Given.{given_of}
+use Rattle.digest_sites.specs.GivenView.{given_of}
 use Rattle.marked_tree.specs.Marked.{marked_object, put}
 use Rattle.marked_tree.specs.View.{marked_of, marked_members_of}
 use Rattle.rebuild_core.specs.Opening.{open_members}

@@ -1,5 +1,5 @@
 use Rattle.std.proofs.Common.{◌≡◌, ◌+◌, ◌*◌, ◌≤◌, length, drop}
-use Rattle.claim_tree.specs.View.{elements_of, members_of}
+use Rattle.claim_tree.specs.ListViews.{elements_of, members_of}
 use Rattle.digest_sites.specs.Reserved.{sd_texts}
 use Rattle.marked_tree.specs.View.{marked_members_of}
 use Rattle.rebuild_core.specs.Cursor.{elements_digests, members_digests}

@@ -1,8 +1,8 @@
 use Rattle.std.proofs.Common.{ℕ, ◌<◌}
 use Rattle.claim_tree.specs.Tree.{IsOrdered}
-use Rattle.claim_tree.specs.Lists.{At}
+use Rattle.claim_tree.specs.Lists.{StandsAt}
 use Rattle.digest_sites.specs.Given.{Given}
 use Rattle.rebuild_core.proofs.readable.is_readable.Given as goal
 
 abbrev pub invariant-loop-item : goal.invariant-loop-item
-invariant-loop-item l = (i : ℕ) (x : Given) → i < l.item-index → At l.given i x → IsOrdered x.value
+invariant-loop-item l = (i : ℕ) (x : Given) → i < l.item-index → StandsAt l.given i x → IsOrdered x.value

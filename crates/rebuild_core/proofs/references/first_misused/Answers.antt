@@ -1,6 +1,6 @@
 use Rattle.std.proofs.Common.{sym, ◌∙◌, arith}
 use Rattle.claim_tree.specs.View.{tree_of}
-use Rattle.digest_sites.specs.Given.{given_of}
+use Rattle.digest_sites.specs.GivenView.{given_of}
 use Rattle.rebuild_core.specs.Payload.{without_alg}
 use Rattle.rebuild_core.proofs.AlgFacts.{misuses_without}
 use Rattle.rebuild_core.proofs.GivenFacts.{item_at}

@@ -1,6 +1,7 @@
 use Rattle.std.proofs.Common.{◌≡◌, ◌+◌, ◌*◌, ◌++◌, map, length, drop}
-use Rattle.claim_tree.specs.Tree.{nodes, elements_nodes, members_nodes}
-use Rattle.claim_tree.specs.View.{tree_of, elements_of, members_of}
+use Rattle.claim_tree.specs.Nodes.{nodes, elements_nodes, members_nodes}
+use Rattle.claim_tree.specs.View.{tree_of}
+use Rattle.claim_tree.specs.ListViews.{elements_of, members_of}
 use Rattle.rebuild_core.specs.Rows.{seen, element_rows, member_rows}
 use Rattle.rebuild_core.proofs.rows.+rows.Given as goal
 

@@ -1,6 +1,6 @@
 use Rattle.std.proofs.Common.{map, drop}
 use Rattle.claim_tree.specs.View.{tree_of}
-use Rattle.digest_sites.specs.Given.{given_of}
+use Rattle.digest_sites.specs.GivenView.{given_of}
 use Rattle.rebuild_core.specs.Rows.{all_rows, row_ends}
 use Rattle.rebuild_core.proofs.RowSteps.{IsListed}
 use Rattle.rebuild_core.proofs.rows.all_rows.Given as goal

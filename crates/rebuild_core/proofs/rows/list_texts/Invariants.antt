@@ -1,5 +1,5 @@
 use Rattle.std.proofs.Common.{◌≡◌, ◌++◌, map, length, drop, IsSome}
-use Rattle.claim_tree.specs.View.{elements_of}
+use Rattle.claim_tree.specs.ListViews.{elements_of}
 use Rattle.digest_sites.specs.Reserved.{texts_of, texts_or_none}
 use Rattle.rebuild_core.specs.Rows.{seen, own_row, beside_names}
 use Rattle.rebuild_core.proofs.rows.list_texts.Given as goal

@@ -2,7 +2,8 @@ use Rattle.std.proofs.Common.{ℕ, List, IfOk, IfErr, subst}
 use Rattle.hmac_sign.specs.Hmac.{IsGood}
 use Rattle.holder_core.specs.Present.{IsPresented, IsNotPresented}
 use Rattle.sdjwt_cli.specs.Never.{never_rule}
-use Rattle.sdjwt_cli.specs.Presenting.{IsLineOf, IsRefusalOf, Presents, DoesNotPresent}
+use Rattle.sdjwt_cli.specs.Presenting.{Presents, DoesNotPresent}
+use Rattle.sdjwt_cli.specs.PresentingSteps.{IsLineOf, IsRefusalOf}
 use Rattle.sdjwt_cli.proofs.Presentings.{presents, refuses}
 use Rattle.sdjwt_cli.proofs.Stopped.{of_text, of_refused}
 use Rattle.sdjwt_cli.proofs.present.present_for.Goals as goal

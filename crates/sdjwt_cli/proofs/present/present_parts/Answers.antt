@@ -1,5 +1,5 @@
 use Rattle.std.proofs.Common.{List, subst, ap}
-use Rattle.marked_tree.specs.Places.{Path}
+use Rattle.marked_tree.specs.Paths.{Path}
 use Rattle.hmac_sign.specs.Hmac.{IsGood}
 use Rattle.sdjwt_cli.specs.Never.{Judges, never_rule}
 use Rattle.sdjwt_cli.proofs.Issuings.{never}

@@ -1,6 +1,7 @@
 use Rattle.std.proofs.Common.{subst, refl}
 use Rattle.sdjwt_cli.specs.declared.show.Unshown.{Unshown}
-use Rattle.sdjwt_cli.specs.Show.{OnFails, IsShowRefused, DoesNotShow}
+use Rattle.sdjwt_cli.specs.Show.{IsShowRefused, DoesNotShow}
+use Rattle.sdjwt_cli.specs.ShowSteps.{OnFails}
 use Rattle.sdjwt_cli.proofs.Refusals.{show_condition}
 use Rattle.sdjwt_cli.proofs.Stopped.{of_refusal}
 use Rattle.sdjwt_cli.proofs.show.show.Goals as goal

@@ -2,11 +2,11 @@ use Rattle.std.proofs.Common.{◌≡◌, ◌+◌, ◌++◌, ◌∷◌, ℕ, [], 
 use Rattle.std.proofs.lemmas.List.{drop_all}
 use Rattle.claim_tree.specs.Tree.{Text}
 use Rattle.marked_tree.specs.Numbers.{has}
-use Rattle.marked_tree.specs.Places.{Path, spots, elements_spots, members_spots}
+use Rattle.marked_tree.specs.Paths.{Path, spots, elements_spots, members_spots}
 use Rattle.marked_tree.specs.View.{marked_of, marked_elements_of, marked_members_of}
 use Rattle.marked_tree.proofs.MarkedViews.{Element, Entry}
 use Rattle.marked_tree.proofs.MarkedWalks.{into_element, into_member}
-use Rattle.selection_core.specs.Asked.{Seen, own_seen, seen_from, IsAsked}
+use Rattle.selection_core.specs.Asked.{SeenMark, own_seen, seen_from, IsAskedOnWalk}
 use Rattle.selection_core.proofs.Asking.{IsAskedThrough, asked_none, asked_skipped, through_node, element_seen, member_seen, popped}
 use Rattle.selection_core.proofs.allowing.+ask.Goals.{ask_elements-then-may_hold+in_ok-digits+in_ok-push+in_ok-ask_node, ask_elements-else-may_hold, ask_members-then-may_hold+in_ok-make+in_ok-push+in_ok-ask_node, ask_members-else-may_hold}
 use Rattle.selection_core.proofs.allowing.+ask.Goals as goal
@@ -27,15 +27,15 @@ ask_elements-loop-i-preserved g t c =
     let i = c.loop-i.i in
     let now : Option ℕ = c.loop-i.refused in
     let step : Text = decimal i in
-    let node : List Seen = own_seen e.0 (at ++ step ∷ []) ++ seen_from (at ++ step ∷ []) (spots (marked_of e.1)) in
-    let rest : List Seen = seen_from at (elements_spots (i + 1) (marked_elements_of (drop (i + 1) es))) in
-    let through = λ (next : Option ℕ) (asked : IsAsked answers rule s node now next).
+    let node : List SeenMark = own_seen e.0 (at ++ step ∷ []) ++ seen_from (at ++ step ∷ []) (spots (marked_of e.1)) in
+    let rest : List SeenMark = seen_from at (elements_spots (i + 1) (marked_elements_of (drop (i + 1) es))) in
+    let through = λ (next : Option ℕ) (asked : IsAskedOnWalk answers rule s node now next).
     through_node answers rule s (seen_from at (elements_spots i (marked_elements_of (drop i es)))) node rest (seen_from at (elements_spots 0 (marked_elements_of es))) c.args.refused.now now next
     (element_seen at i es e c.loop-i-test.true c.element-item.is) c.loop-i.invariant.1 asked in
     elim c.if-may_hold.branch [
       | ask_elements-then-may_hold+in_ok-digits+in_ok-push+in_ok-ask_node w ↦
           let pushed : w.push.new.self ≡ at ++ step ∷ [] = w.in_ok-push.ensures.ok ∙ ap₂ (λ (p : Path) (k : Text). p ++ k ∷ []) c.loop-i.invariant.0 w.in_ok-digits.ensures in
-          let asked = subst (λ (p : Path). IsAsked answers rule s (own_seen e.0 p ++ seen_from p (spots (marked_of e.1))) now w.ask_node.new.refused) pushed w.in_ok-ask_node.ensures.asked in (
+          let asked = subst (λ (p : Path). IsAskedOnWalk answers rule s (own_seen e.0 p ++ seen_from p (spots (marked_of e.1))) now w.ask_node.new.refused) pushed w.in_ok-ask_node.ensures.asked in (
             w.at-is ∙ popped at w.ask_node.new.at w.pop.new.self step (w.in_ok-ask_node.ensures.at ∙ pushed) w.pop.ensures,
             subst (λ (o : Option ℕ). IsAskedThrough answers rule s rest (seen_from at (elements_spots 0 (marked_elements_of es))) c.args.refused.now o) (sym w.refused-is) (through w.ask_node.new.refused asked),
           )
@@ -51,7 +51,7 @@ ask_elements-returns-clause-asked g t c =
     let es : List Element = c.elements-element-items.result.now in
     let done = subst (λ (us : List Element). IsAskedThrough g.F.Fn c.args.consent.now (has c.args.chosen.now) (seen_from c.args.at.now (elements_spots c.loop-i.i (marked_elements_of us))) (seen_from c.args.at.now (elements_spots 0 (marked_elements_of es))) c.args.refused.now c.loop-i.refused)
     (drop_all c.loop-i.i es c.loop-i-test.false) c.loop-i.invariant.1 in
-    subst (λ us. IsAsked g.F.Fn c.args.consent.now (has c.args.chosen.now) (seen_from c.args.at.now (elements_spots 0 us)) c.args.refused.now c.loop-i.refused) c.elements-element-items.ensures.value
+    subst (λ us. IsAskedOnWalk g.F.Fn c.args.consent.now (has c.args.chosen.now) (seen_from c.args.at.now (elements_spots 0 us)) c.args.refused.now c.loop-i.refused) c.elements-element-items.ensures.value
     (done c.loop-i.refused (asked_none g.F.Fn c.args.consent.now (has c.args.chosen.now) c.loop-i.refused))
 
 pub ask_members-ask_node-requires : goal.ask_members-ask_node-requires
@@ -70,16 +70,16 @@ ask_members-loop-name-preserved g t c =
     let i = c.loop-name.name-index in
     let now : Option ℕ = c.loop-name.refused in
     let step : Text = m.0 in
-    let node : List Seen = own_seen m.1 (at ++ step ∷ []) ++ seen_from (at ++ step ∷ []) (spots (marked_of m.2)) in
-    let rest : List Seen = seen_from at (members_spots (marked_members_of (drop (i + 1) ms))) in
-    let through = λ (next : Option ℕ) (asked : IsAsked answers rule s node now next).
+    let node : List SeenMark = own_seen m.1 (at ++ step ∷ []) ++ seen_from (at ++ step ∷ []) (spots (marked_of m.2)) in
+    let rest : List SeenMark = seen_from at (members_spots (marked_members_of (drop (i + 1) ms))) in
+    let through = λ (next : Option ℕ) (asked : IsAskedOnWalk answers rule s node now next).
     through_node answers rule s (seen_from at (members_spots (marked_members_of (drop i ms)))) node rest (seen_from at (members_spots (marked_members_of ms))) c.args.refused.now now next
     (member_seen at i ms m c.loop-name-test.true c.loop-name-item.is) c.loop-name.invariant.1 asked in
     elim c.if-may_hold.branch [
       | ask_members-then-may_hold+in_ok-make+in_ok-push+in_ok-ask_node w ↦
           let made : w.in_ok-make.field-0 ≡ step = w.in_ok-make.ensures ∙ w.as_str.ensures in
           let pushed : w.push.new.self ≡ at ++ step ∷ [] = w.in_ok-push.ensures.ok ∙ ap₂ (λ (p : Path) (k : Text). p ++ k ∷ []) c.loop-name.invariant.0 made in
-          let asked = subst (λ (p : Path). IsAsked answers rule s (own_seen m.1 p ++ seen_from p (spots (marked_of m.2))) now w.ask_node.new.refused) pushed w.in_ok-ask_node.ensures.asked in (
+          let asked = subst (λ (p : Path). IsAskedOnWalk answers rule s (own_seen m.1 p ++ seen_from p (spots (marked_of m.2))) now w.ask_node.new.refused) pushed w.in_ok-ask_node.ensures.asked in (
             w.at-is ∙ popped at w.ask_node.new.at w.pop.new.self step (w.in_ok-ask_node.ensures.at ∙ pushed) w.pop.ensures,
             subst (λ (o : Option ℕ). IsAskedThrough answers rule s rest (seen_from at (members_spots (marked_members_of ms))) c.args.refused.now o) (sym w.refused-is) (through w.ask_node.new.refused asked),
           )
@@ -95,5 +95,5 @@ ask_members-returns-clause-asked g t c =
     let ms : List Entry = c.members-name-items.result.now in
     let done = subst (λ (us : List Entry). IsAskedThrough g.F.Fn c.args.consent.now (has c.args.chosen.now) (seen_from c.args.at.now (members_spots (marked_members_of us))) (seen_from c.args.at.now (members_spots (marked_members_of ms))) c.args.refused.now c.loop-name.refused)
     (drop_all c.loop-name.name-index ms c.loop-name-test.false) c.loop-name.invariant.1 in
-    subst (λ us. IsAsked g.F.Fn c.args.consent.now (has c.args.chosen.now) (seen_from c.args.at.now (members_spots us)) c.args.refused.now c.loop-name.refused) c.members-name-items.ensures.value
+    subst (λ us. IsAskedOnWalk g.F.Fn c.args.consent.now (has c.args.chosen.now) (seen_from c.args.at.now (members_spots us)) c.args.refused.now c.loop-name.refused) c.members-name-items.ensures.value
     (done c.loop-name.refused (asked_none g.F.Fn c.args.consent.now (has c.args.chosen.now) c.loop-name.refused))

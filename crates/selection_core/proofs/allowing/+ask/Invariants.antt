@@ -1,8 +1,8 @@
 use Rattle.std.proofs.Common.{◌≡◌, ◌+◌, ◌*◌, drop}
-use Rattle.claim_tree.specs.Tree.{nodes, elements_nodes, members_nodes}
+use Rattle.claim_tree.specs.Nodes.{nodes, elements_nodes, members_nodes}
 use Rattle.marked_tree.specs.Marked.{strip, strip_elements, strip_members}
 use Rattle.marked_tree.specs.Numbers.{has}
-use Rattle.marked_tree.specs.Places.{elements_spots, members_spots}
+use Rattle.marked_tree.specs.Paths.{elements_spots, members_spots}
 use Rattle.marked_tree.specs.View.{marked_of, marked_elements_of, marked_members_of}
 use Rattle.selection_core.specs.Asked.{seen_from}
 use Rattle.selection_core.proofs.Asking.{IsAskedThrough}

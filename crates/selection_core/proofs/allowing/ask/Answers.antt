@@ -1,6 +1,6 @@
 use Rattle.std.proofs.Common.{Option, Some, Bool, false, sym, ◌∙◌, subst, ℕ}
 use Rattle.marked_tree.specs.Numbers.{has}
-use Rattle.selection_core.specs.Asked.{own_seen, IsAsked}
+use Rattle.selection_core.specs.Asked.{own_seen, IsAskedOnWalk}
 use Rattle.selection_core.specs.Consent.{Allows}
 use Rattle.selection_core.proofs.Asking.{asked_refused}
 use Rattle.selection_core.proofs.allowing.ask.Goals as goal
@@ -9,5 +9,5 @@ pub returns-then-not-test : goal.returns-then-not-test
 returns-then-not-test g c =
     let s = has c.args.chosen.now in
     let no : Allows g.F.Fn c.args.consent.now c.args.at.now false = subst (λ (b : Bool). Allows g.F.Fn c.args.consent.now c.args.at.now b) c.if-not-test.true c.test.ensures in
-    subst (λ (o : Option ℕ). IsAsked g.F.Fn c.args.consent.now s (own_seen o c.args.at.now) c.args.refused.now (Some c.in-Some.mark)) (sym c.in-Some.is)
+    subst (λ (o : Option ℕ). IsAskedOnWalk g.F.Fn c.args.consent.now s (own_seen o c.args.at.now) c.args.refused.now (Some c.in-Some.mark)) (sym c.in-Some.is)
     (asked_refused g.F.Fn c.args.consent.now s c.in-Some.mark c.args.at.now c.args.refused.now (sym c.has.ensures ∙ c.if-has.true) (sym c.is_below.ensures ∙ c.if-is_below.true) no)

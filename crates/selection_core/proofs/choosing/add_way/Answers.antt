@@ -1,6 +1,6 @@
 use Rattle.std.proofs.Common.{subst, drop, ◌≡◌, []}
 use Rattle.std.proofs.lemmas.List.{drop_all}
-use Rattle.marked_tree.specs.Places.{Path}
+use Rattle.marked_tree.specs.Paths.{Path}
 use Rattle.marked_tree.specs.View.{marked_of}
 use Rattle.selection_core.proofs.PathWalks.{ArePassed, passed_all}
 use Rattle.selection_core.proofs.choosing.add_way.Goals as goal

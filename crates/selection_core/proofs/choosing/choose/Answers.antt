@@ -1,12 +1,11 @@
 use Rattle.std.proofs.Common.{◌≡◌, ℕ, List, subst, sym, ◌∙◌, refl, arith}
-use Rattle.claim_tree.specs.Lists.{IsLeast, Nowhere}
-use Rattle.marked_tree.specs.Choice.{chosen}
+use Rattle.claim_tree.specs.Lists.{IsLeast, AtNone}
 use Rattle.marked_tree.specs.Marked.{strip}
 use Rattle.marked_tree.specs.Numbers.{has}
-use Rattle.marked_tree.specs.Places.{Path}
+use Rattle.marked_tree.specs.Paths.{Path, chosen}
 use Rattle.marked_tree.specs.View.{marked_of}
 use Rattle.marked_tree.proofs.LeastChoice.{least_choice, least_same}
-use Rattle.selection_core.specs.Refusals.{IsMissing}
+use Rattle.selection_core.specs.ChoiceRefusals.{IsMissing}
 use Rattle.selection_core.proofs.Wanted.{gathered_more, gathered_all, none_missing_more, none_missing_all, first_missing}
 use Rattle.selection_core.proofs.choosing.choose.Goals as goal
 
@@ -45,5 +44,5 @@ returns-clause-least c once =
 pub returns-clause-there : goal.returns-clause-there
 returns-clause-there c =
     let t = strip (marked_of c.args.tree.now) in
-    subst (λ (ps : List Path). Nowhere (IsMissing t ps)) c.paths-path-items.ensures
+    subst (λ (ps : List Path). AtNone (IsMissing t ps)) c.paths-path-items.ensures
     (none_missing_all t c.paths-path-items.result.now c.loop-k.k c.loop-k-test.false c.loop-k.invariant.1)

@@ -2,7 +2,7 @@ use Rattle.std.proofs.Common.{arith, subst, sym}
 use Rattle.std.proofs.lemmas.Map.Made.{distinct_count-le}
 use Rattle.claim_tree.specs.View.{tree_of}
 use Rattle.marked_tree.specs.Choice.{IsUnmixed}
-use Rattle.marked_tree.specs.Places.{same_path}
+use Rattle.marked_tree.specs.Paths.{same_path}
 use Rattle.marked_tree.proofs.LeastChoice.{unmixed_mark}
 use Rattle.selection_core.proofs.tests.marked.Goals as goal
 

@@ -3,9 +3,9 @@ use Rattle.std.proofs.lemmas.Result.{err_from_is_err_and}
 use Rattle.std.specs.Option.{option_copied}
 use Rattle.compact_form.specs.Lowest.{IsLowest}
 use Rattle.json_form.specs.declared.token.Token.{Token}
-use Rattle.verifier_core.specs.Check.{OnFault, IsContent, asked}
+use Rattle.verifier_core.specs.Check.{OnFault, IsContent}
 use Rattle.verifier_core.specs.Content.{Content}
-use Rattle.verifier_core.specs.Verdict.{Rules, TokenFails}
+use Rattle.verifier_core.specs.Verdict.{Rules, TokenFails, asked}
 use Rattle.verifier_core.proofs.Contents.{content_uncounted}
 use Rattle.verifier_core.proofs.check.check_token.Goals as goal
 

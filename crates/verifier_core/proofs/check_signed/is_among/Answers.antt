@@ -1,5 +1,5 @@
 use Rattle.std.proofs.Common.{◌≡◌, ◌<◌, ◌+◌, ◌⊎◌, ℕ, ⊎_elim, arith, subst}
-use Rattle.claim_tree.specs.Lists.{At as StandsAt}
+use Rattle.claim_tree.specs.Lists.{StandsAt}
 use Rattle.claim_tree.proofs.Lists.{At-below}
 use Rattle.verifier_core.proofs.check_signed.is_among.Goals as goal
 

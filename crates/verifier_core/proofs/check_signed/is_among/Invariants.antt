@@ -1,5 +1,5 @@
 use Rattle.std.proofs.Common.{ℕ, ◌<◌}
-use Rattle.claim_tree.specs.Lists.{At as StandsAt}
+use Rattle.claim_tree.specs.Lists.{StandsAt}
 use Rattle.verifier_core.proofs.check_signed.is_among.Given as goal
 
 abbrev pub invariant-loop-i : goal.invariant-loop-i

@@ -3,10 +3,12 @@ use Rattle.std.specs.Option.{option_map}
 use Rattle.json_form.specs.declared.token.Token.{Token}
 use Rattle.claim_tree.specs.Tree.{Text}
 use Rattle.claim_tree.specs.View.{tree_of}
-use Rattle.compact_form.specs.Lowest.{IsLowest, unplaced}
+use Rattle.compact_form.specs.Lowest.{IsLowest}
+use Rattle.compact_form.specs.Passing.{unplaced}
 use Rattle.compact_form.specs.Views.{jwt_of}
 use Rattle.key_binding.specs.Judged.{judged}
-use Rattle.key_binding.specs.BindingConditions.{BindingFails, OnFault as BindingOnFault}
+use Rattle.key_binding.specs.BindingConditions.{BindingFails}
+use Rattle.key_binding.specs.BindingCalls.{OnBindingFault as BindingOnFault}
 use Rattle.verifier_core.specs.Verdict.{HolderFails}
 use Rattle.verifier_core.specs.Check.{OnFault}
 use Rattle.verifier_core.proofs.Verdicts.{holder_lowest}

@@ -1,6 +1,6 @@
 use Rattle.std.proofs.Common.{inr}
 use Rattle.compact_form.specs.Lowest.{IsLowest}
-use Rattle.json_form.specs.Token.{IsRefused}
+use Rattle.json_form.specs.Token.{IsTextRefused}
 use Rattle.verifier_core.specs.Verdict.{Fails, rules_of}
 use Rattle.verifier_core.specs.Check.{IsOpened}
 use Rattle.verifier_core.proofs.CheckSteps.{on_fault}
@@ -10,7 +10,7 @@ use Rattle.verifier_core.proofs.verdict.verify_payload.Goals as goal
 
 pub returns-in-Err-clause-refused : goal.returns-in-Err-clause-refused
 returns-in-Err-clause-refused c =
-    on_fault c.in-Err.error (IsRefused c.args.text.now) (IsLowest (Fails c.args.text.now c.args.policy.now c.args.now)) (λ fault refused. file_lowest c.args.text.now c.args.policy.now c.args.now fault refused) c.in-Err.ensures.refused
+    on_fault c.in-Err.error (IsTextRefused c.args.text.now) (IsLowest (Fails c.args.text.now c.args.policy.now c.args.now)) (λ fault refused. file_lowest c.args.text.now c.args.policy.now c.args.now fault refused) c.in-Err.ensures.refused
 
 pub read_content-requires : goal.read_content-requires
 read_content-requires c = record { few = few c.args.text.now c.in-Ok.token c.in-Ok.ensures.ok }

@@ -1,6 +1,8 @@
 use Rattle.std.proofs.Common.{ap, ◌∙◌, sym, subst}
-use Rattle.claim_tree.specs.Tree.{pushed, ElementsOrdered}
-use Rattle.claim_tree.specs.View.{tree_of, elements_of}
+use Rattle.claim_tree.specs.Tree.{ElementsOrdered}
+use Rattle.claim_tree.specs.TreeCalls.{pushed}
+use Rattle.claim_tree.specs.View.{tree_of}
+use Rattle.claim_tree.specs.ListViews.{elements_of}
 use Rattle.claim_tree.proofs.Views.{elements_of-push, ordered-pushed}
 use Rattle.claim_tree.proofs.tree.TreeList.push.Goals as goal
 

@@ -1,5 +1,5 @@
 use Rattle.std.proofs.Common.{option_map, ap, ◌∙◌, sym}
-use Rattle.claim_tree.specs.Tree.{member_at}
+use Rattle.claim_tree.specs.TreeCalls.{member_at}
 use Rattle.claim_tree.specs.View.{tree_of}
 use Rattle.claim_tree.proofs.Views.{member_at-of}
 use Rattle.claim_tree.proofs.tree.TreeMap.entry_at.Goals as goal

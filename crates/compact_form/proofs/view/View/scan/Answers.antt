@@ -1,6 +1,6 @@
 use Rattle.std.proofs.Common.{◌≡◌, ◌++◌, ℕ, List, take, ap, ◌∙◌, subst, refl}
 use Rattle.compact_form.specs.declared.field.Field.TheVariants.{Piece}
-use Rattle.compact_form.specs.Reading.{Opens}
+use Rattle.compact_form.specs.Reading.{OpensField}
 use Rattle.compact_form.specs.Views.{jwt_of}
 use Rattle.compact_form.proofs.GatheredParts.{one_more}
 use Rattle.compact_form.proofs.view.View.scan.Goals as goal
@@ -17,7 +17,7 @@ loop-reader-preserved c =
     subst (λ (y : List ℕ). take at y ≡ take front.end y ++ c.in_ok-word.word.now) word
     (c.in_ok-word.ensures.grows ∙ ap (λ (n : ℕ). take n c.word.new.self.text.now ++ c.in_ok-word.word.now) c.loop-reader.invariant.here)
     in
-    let opens : Opens x at next Piece c.in_ok-next.field-0 = subst (λ (y : List ℕ). Opens y at next Piece c.in_ok-next.field-0) end c.in_ok-next.ensures.opens in
+    let opens : OpensField x at next Piece c.in_ok-next.field-0 = subst (λ (y : List ℕ). OpensField y at next Piece c.in_ok-next.field-0) end c.in_ok-next.ensures.opens in
     record {
       same = end;
       here = refl;

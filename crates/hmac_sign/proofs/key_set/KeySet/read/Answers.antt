@@ -1,8 +1,10 @@
 use Rattle.std.proofs.Common.{◌≡◌, Some, Err, false, true, codes, ap, sym, ◌∙◌}
 use Rattle.std.proofs.lemmas.Result.{err_from_is_err_and}
 use Rattle.claim_tree.specs.Tree.{get}
-use Rattle.claim_tree.specs.View.{tree_of, elements_of}
-use Rattle.hmac_sign.specs.Keys.{array_in, keys_under, are_keys, no_key, HasNoCode}
+use Rattle.claim_tree.specs.View.{tree_of}
+use Rattle.claim_tree.specs.ListViews.{elements_of}
+use Rattle.hmac_sign.specs.Keys.{array_in, keys_under, are_keys}
+use Rattle.hmac_sign.specs.KeyRefusals.{no_key, IsKeyNotBase64}
 use Rattle.hmac_sign.proofs.KeySets.{none_at_all}
 use Rattle.hmac_sign.specs.declared.key_set.KeySetError.TheVariants.{KeyShort}
 use Rattle.hmac_sign.proofs.key_set.KeySet.read.Goals as goal
@@ -28,6 +30,6 @@ returns-in_err-keys-clause-short c =
       elements = elements_of ts;
       stand = stand;
       good = good;
-      codes_are = none_at_all HasNoCode ts c.in_ok-all_decode.ensures.codes;
+      codes_are = none_at_all IsKeyNotBase64 ts c.in_ok-all_decode.ensures.codes;
       first = c.in_err-keys.ensures.short place (ap Err same);
     })

@@ -1,7 +1,7 @@
 use Rattle.std.proofs.Common.{◌+◌, ◌-◌, sym, ap, subst, ◌∙◌, length, take, drop}
-use Rattle.marked_tree.specs.Rests.{rests, AreSorted, IsRun}
+use Rattle.marked_tree.specs.Rests.{rests, AreSorted, IsRunOfPaths}
 use Rattle.marked_tree.proofs.PathOrder.{rest_whole, run_sorted}
-use Rattle.issuer_core.specs.Laying.{placed}
+use Rattle.issuer_core.specs.Laying.{digests_on_path}
 use Rattle.issuer_core.proofs.PlacedDecoys.{placed_below, whole_rest, run_length}
 use Rattle.issuer_core.proofs.decoys.Decoys.below.Goals as goal
 
@@ -12,7 +12,7 @@ returns-clause-placed c =
     let ds = d.digests.now in
     let start = c.run_below-start.result.0 in
     let count = c.run_below-start.result.1 in
-    let run : IsRun d.depth c.args.step.now xs start count = c.run_below-start.ensures in
+    let run : IsRunOfPaths d.depth c.args.step.now xs start count = c.run_below-start.ensures in
     record {
       sorted = subst (λ ys. AreSorted (rests (d.depth + 1) (take count ys))) (sym (rest_whole xs start)) (run_sorted d.depth c.args.step.now xs start count run c.requires.placed.sorted);
       each = run_length xs ds start count c.requires.placed.each run.within;
@@ -25,6 +25,6 @@ returns-clause-below c at =
     let ds = d.digests.now in
     let start = c.run_below-start.result.0 in
     let count = c.run_below-start.result.1 in
-    ap (λ ys. placed (rests (d.depth + 1) (take count ys)) (take count (take (length ds - start) (drop start ds))) at) (rest_whole xs start)
-    ∙ (ap (λ es. placed (rests (d.depth + 1) (take count (drop start xs))) (take count es) at) (whole_rest ds start)
+    ap (λ ys. digests_on_path (rests (d.depth + 1) (take count ys)) (take count (take (length ds - start) (drop start ds))) at) (rest_whole xs start)
+    ∙ (ap (λ es. digests_on_path (rests (d.depth + 1) (take count (drop start xs))) (take count es) at) (whole_rest ds start)
     ∙ placed_below d.depth c.args.step.now xs ds start count c.run_below-start.ensures at)

@@ -1,5 +1,5 @@
 use Rattle.std.proofs.Common.{option_map, ap, ◌∙◌, sym}
-use Rattle.marked_tree.specs.Marked.{marked_element_at}
+use Rattle.marked_tree.specs.MarkedCalls.{marked_element_at}
 use Rattle.marked_tree.specs.View.{marked_of}
 use Rattle.marked_tree.proofs.MarkedViews.{marked_element_at-of}
 use Rattle.marked_tree.proofs.marked.MarkedList.at.Goals as goal

@@ -1,5 +1,5 @@
 use Rattle.std.proofs.Common.{ap, ◌∙◌, sym}
-use Rattle.marked_tree.specs.Marked.{marked_elements_len}
+use Rattle.marked_tree.specs.MarkedCalls.{marked_elements_len}
 use Rattle.marked_tree.proofs.MarkedViews.{marked_elements_len-of}
 use Rattle.marked_tree.proofs.marked.MarkedList.len.Goals as goal
 

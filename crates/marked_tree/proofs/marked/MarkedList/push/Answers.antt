@@ -1,6 +1,7 @@
 use Rattle.std.proofs.Common.{ap, ◌∙◌, sym, subst}
 use Rattle.claim_tree.specs.Tree.{ElementsOrdered}
-use Rattle.marked_tree.specs.Marked.{marked_pushed, strip_elements}
+use Rattle.marked_tree.specs.Marked.{strip_elements}
+use Rattle.marked_tree.specs.MarkedCalls.{marked_pushed}
 use Rattle.marked_tree.specs.View.{marked_of, marked_elements_of}
 use Rattle.marked_tree.proofs.MarkedViews.{marked_elements_of-push, ordered-marked_pushed}
 use Rattle.marked_tree.proofs.marked.MarkedList.push.Goals as goal

@@ -1,5 +1,5 @@
 use Rattle.std.proofs.Common.{option_map, ap, ◌∙◌, sym}
-use Rattle.marked_tree.specs.Marked.{marked_member_at}
+use Rattle.marked_tree.specs.MarkedCalls.{marked_member_at}
 use Rattle.marked_tree.specs.View.{marked_of}
 use Rattle.marked_tree.proofs.MarkedViews.{marked_member_at-of}
 use Rattle.marked_tree.proofs.marked.MarkedMap.entry_at.Goals as goal

@@ -1,5 +1,6 @@
 use Rattle.std.proofs.Common.{◌≡◌, IfOk, ap, ◌∙◌, subst}
-use Rattle.marked_tree.specs.Marked.{put_all, no_marked_members}
+use Rattle.marked_tree.specs.Marked.{no_marked_members}
+use Rattle.marked_tree.specs.MarkedCalls.{put_all}
 use Rattle.marked_tree.specs.View.{marked_members_of}
 use Rattle.marked_tree.proofs.Names.{ascend}
 use Rattle.marked_tree.proofs.Lookups.{joined_puts}

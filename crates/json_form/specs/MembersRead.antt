@@ -2,7 +2,7 @@
 use Rattle.std.specs.Prelude.{◌≡◌, ℕ, false, Option, Some, None}
 use Rattle.claim_tree.specs.Tree.{Tree, object, Elements, element, Members}
 use Rattle.claim_tree.specs.FileForms.{Says}
-use Rattle.claim_tree.specs.Lists.{IsLeast, Nowhere}
+use Rattle.claim_tree.specs.Lists.{IsLeast, AtNone}
 use Rattle.claim_tree.specs.declared.text.ReadError.{ReadError}
 use Rattle.compact_form.specs.declared.fault.Part.TheVariants.{Payload, Signatures}
 use Rattle.compact_form.specs.Condition as condition
@@ -13,7 +13,7 @@ use Rattle.json_form.specs.declared.token.Token.{Token}
 use Rattle.json_form.specs.declared.token.TokenError.{TokenError}
 use Rattle.json_form.specs.declared.entries.Entries.{Entries}
 use Rattle.json_form.specs.declared.json_error.JsonFormError.{JsonFormError}
-use Rattle.json_form.specs.Json.{found, has_beside, AreEntries, IsStray, IsWordTree, EntrySays}
+use Rattle.json_form.specs.Json.{found_part, has_beside, AreEntries, IsStray, IsWordTree, EntrySays}
 
 -- the answer for a text that is not read
 abbrev pub unread_place : ReadError → JsonFormError
@@ -28,7 +28,7 @@ misformed (JsonFormError.Fault place) = TokenError.Fault record { number = numbe
 
 -- the first entry that is stray, where there is one
 abbrev pub IsFirstStray : Elements → Option ℕ → Type 0
-IsFirstStray entries None = Nowhere (IsStray entries)
+IsFirstStray entries None = AtNone (IsStray entries)
 IsFirstStray entries (Some place) = IsLeast (IsStray entries) place
 
 -- the tree is a list of entries, of which this is the first one and this the first stray one
@@ -39,13 +39,13 @@ pub record ListHas (list : Tree) (entries : Entries) : Type 0 where
 
 -- the object is flattened and itself the entry, or is general and has these entries
 pub data HasEntries (ms : Members) (entries : Entries) : Type 0 where
-  itself : found ms Signatures ≡ None → entries.first ≡ ms → entries.stray ≡ None → HasEntries ms entries
-  listed : (list : Tree) → found ms Signatures ≡ Some list → ListHas list entries → has_beside ms ≡ false → HasEntries ms entries
+  itself : found_part ms Signatures ≡ None → entries.first ≡ ms → entries.stray ≡ None → HasEntries ms entries
+  listed : (list : Tree) → found_part ms Signatures ≡ Some list → ListHas list entries → has_beside ms ≡ false → HasEntries ms entries
 
 -- the members of an object say the token
 pub record MembersSay (ms : Members) (token : Token) : Type 0 where
   pub entries : Entries
   pub has : HasEntries ms entries
   pub none_stray : entries.stray ≡ None
-  pub payload : Says IsWordTree (found ms Payload) token.parts.signed.payload
+  pub payload : Says IsWordTree (found_part ms Payload) token.parts.signed.payload
   pub entry : EntrySays entries.first token

@@ -7,7 +7,7 @@ use Rattle.claim_tree.specs.Tree.{Text}
 use Rattle.claim_tree.specs.declared.tree.Tree.{Tree}
 
 -- the member at i has the name
-pub record IsPlace (ms : List (Text × Tree)) (name : Text) (i : ℕ) : Type 0 where
+pub record IsPosition (ms : List (Text × Tree)) (name : Text) (i : ℕ) : Type 0 where
   pub within : i < length ms
   pub named : (d : Text × Tree) → slice_cmp nat_cmp (slice_index_or ms i d).0 name ≡ Equal
 

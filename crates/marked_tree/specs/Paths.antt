@@ -9,10 +9,10 @@ abbrev pub Path : Type 0
 Path = List Text
 
 -- p is a front of q
-abbrev pub leads : Path → Path → Bool
-leads [] q = true
-leads (k ∷ p) [] = false
-leads (k ∷ p) (l ∷ q) = bytes_eq k l && leads p q
+abbrev pub is_front : Path → Path → Bool
+is_front [] q = true
+is_front (k ∷ p) [] = false
+is_front (k ∷ p) (l ∷ q) = bytes_eq k l && is_front p q
 
 -- a node with a mark: its path in the stripped tree, and the marks above it, the outermost first
 pub record Spot : Type 0 where
@@ -53,8 +53,8 @@ first_with i [] = None
 first_with i (s ∷ ss) = if eqb s.mark i then Some s.at else first_with i ss
 
 -- the path of the first node with mark i
-abbrev pub place : Marked → ℕ → Option Path
-place m i = first_with i (spots m)
+abbrev pub mark_path : Marked → ℕ → Option Path
+mark_path m i = first_with i (spots m)
 
 -- ---- marking
 
@@ -120,20 +120,6 @@ mark t hide = mark_from (is_among hide) 0 t
 abbrev pub hidden_count : Tree → List Path → ℕ
 hidden_count t hide = hidden_in (is_among hide) t
 
-abbrev pub own_path : Bool → Text → List Path
-own_path b k = if b then (k ∷ []) ∷ [] else []
-
--- the hidden places in closing order: each after those inside it
-abbrev mutual
-  pub closing : (Path → Bool) → Tree → List Path
-  closing h (leaf l) = []
-  closing h (array es) = closing_elements h 0 es
-  closing h (object ms) = closing_members h ms
-
-  pub closing_elements : (Path → Bool) → ℕ → Elements → List Path
-  closing_elements h i no_elements = []
-  closing_elements h i (element t es) = (map (λ p. decimal i ∷ p) (closing (below (decimal i) h) t) ++ own_path (h (decimal i ∷ [])) (decimal i)) ++ closing_elements h (suc i) es
-
-  pub closing_members : (Path → Bool) → Members → List Path
-  closing_members h no_members = []
-  closing_members h (member k t ms) = (map (λ p. k ∷ p) (closing (below k h) t) ++ own_path (h (k ∷ [])) k) ++ closing_members h ms
+-- some node with mark i has a path that leads to a wanted one
+abbrev pub chosen : Marked → List Path → ℕ → Bool
+chosen m want i = list_any (λ s. eqb s.mark i && list_any (is_front s.at) want) (spots m)

@@ -35,37 +35,29 @@ pub data Owner : Type 0 where
   payload : Owner
   value_of : ℕ → Owner
 
-pub record Item : Type 0 where
+pub record OwnedSite : Type 0 where
   pub owner : Owner
   pub site : Site
 
-abbrev pub item : Owner → Site → Item
-item owner site = record { owner = owner; site = site }
+abbrev pub owned_site : Owner → Site → OwnedSite
+owned_site owner site = record { owner = owner; site = site }
 
 -- the sites of the values of those disclosures that pass, where the first disclosure has the number i
-abbrev pub value_items : (Given → Bool) → ℕ → List Given → List Item
-value_items passes i [] = []
-value_items passes i (x ∷ given) = (if passes x then map (item (value_of i)) (sites x.value) else []) ++ value_items passes (suc i) given
+abbrev pub value_sites : (Given → Bool) → ℕ → List Given → List OwnedSite
+value_sites passes i [] = []
+value_sites passes i (x ∷ given) = (if passes x then map (owned_site (value_of i)) (sites x.value) else []) ++ value_sites passes (suc i) given
 
 -- the met list: the sites of the payload, then those of the values of the reached disclosures
-abbrev pub met : Tree → List Given → List Item
-met p given = map (item payload) (sites p) ++ value_items (is_reached p given) 0 given
+abbrev pub met : Tree → List Given → List OwnedSite
+met p given = map (owned_site payload) (sites p) ++ value_sites (is_reached p given) 0 given
 
 -- the sites of the payload and then of each value, reached or not
-abbrev pub all_items : Tree → List Given → List Item
-all_items p given = map (item payload) (sites p) ++ value_items (λ _. true) 0 given
+abbrev pub all_sites : Tree → List Given → List OwnedSite
+all_sites p given = map (owned_site payload) (sites p) ++ value_sites (λ _. true) 0 given
 
-abbrev pub item_digests : List Item → List Text
-item_digests items = map (λ m. m.site.digest) items
+abbrev pub owned_digests : List OwnedSite → List Text
+owned_digests items = map (λ m. m.site.digest) items
 
--- how often the index of digests is asked: once for each site of the payload and of every value, and once for each disclosure
-abbrev pub look_ups : Tree → List Given → ℕ
-look_ups p given = length (sites p) + (sum_by (λ x. length (sites x.value)) given + length given)
-
--- a count after so many look-ups, short of the last value of a `u64`
-abbrev pub counted : ℕ → ℕ → ℕ
-counted steps many = min (steps + many) (2 ^ 64 - 1)
-
--- a count never falls, and rises by no more than so many
-abbrev pub RoseWithin : ℕ → ℕ → ℕ → Type 0
-RoseWithin many old new = (old ≤ new) × (new ≤ old + many)
+-- the digests of the payload and of all values, reached or not
+abbrev pub all_digests : Tree → List Given → List Text
+all_digests p given = owned_digests (all_sites p given)

@@ -1,0 +1,14 @@
+-- Not needed to believe the program's promises: conditions that keep a token from being presented.
+use Rattle.claim_tree.specs.Tree.{Text}
+use Rattle.compact_form.specs.Condition.{Condition}
+use Rattle.compact_form.specs.declared.fault.Place.{Place}
+use Rattle.json_form.specs.Token.{IsToken}
+use Rattle.json_form.specs.declared.token.Token.{Token}
+use Rattle.verifier_core.specs.Verdict.{TokenFails, FileFails}
+use Rattle.holder_core.specs.declared.ask.Ask.{Ask}
+use Rattle.holder_core.specs.Present.{held_rules}
+
+-- what fails each condition on a text that is to be presented: on the file, or on the token that it is read as
+pub data PresentFails (content : Text) (ask : Ask) (c : Condition) (place : Place) : Type 0 where
+  of_file : FileFails content c place → PresentFails content ask c place
+  of_token : (token : Token) → IsToken content token → TokenFails token (held_rules ask.keys) c place → PresentFails content ask c place

@@ -1,0 +1,47 @@
+-- Not needed to believe the program's promises: the law that what is presented is accepted, over values.
+use Rattle.std.specs.Prelude.{◌≢◌, ℕ, ◌<◌, ◌^◌, List, ◌≤◌, length, Option, IfSome}
+use Rattle.claim_tree.specs.Tree.{Tree}
+use Rattle.compact_form.specs.declared.parts.Parts.{Parts}
+use Rattle.compact_form.specs.Compact.{compact}
+use Rattle.hmac_sign.specs.Hmac.{IsGood}
+use Rattle.json_form.specs.Token.{IsToken}
+use Rattle.selection_core.specs.Consent.{RuleAnswers}
+use Rattle.verifier_core.specs.Verdicts.{IsAcceptedAs}
+use Rattle.verifier_core.specs.declared.policy.Policy.{Policy}
+use Rattle.issuer_core.specs.Order.{Order}
+use Rattle.holder_core.specs.Present.{IsPresented, IsNotPresented}
+use Rattle.holder_core.specs.declared.ask.Ask.{Ask}
+use Rattle.holder_core.specs.declared.errors.PresentError.{PresentError}
+use Rattle.holder_core.specs.declared.errors.PresentError.TheVariants.{Memory, SignFailed}
+use Rattle.sdjwt_cli.specs.Issuing.{IsIssuedBy}
+use Rattle.sdjwt_cli.specs.Suits.{Suits, shown_for}
+use Rattle.sdjwt_cli.specs.Presented.{alone}
+use Rattle.sd_outside.specs.Limits.{binding_text_max}
+use Rattle.holder_core.specs.declared.ask.BindingAsk.{BindingAsk}
+
+-- the compact text of what is presented is read as its parts, and each text that is read as them is accepted with these claims
+pub record IsAcceptedWith (answer : Parts) (policy : Policy) (verified : ℕ) (claims : Tree) : Type 0 where
+  pub reads : IsToken (compact answer) (alone answer)
+  pub accepted : (text : List ℕ) → IsToken text (alone answer) → IsAcceptedAs text policy verified claims
+
+-- of a text that is read as the token nothing is refused that is asked for, and whatever is presented is accepted with these claims
+pub record IsShownAt {F : Type 0} (answers : RuleAnswers F) (rule : F) (token : List ℕ) (ask : Ask) (signing : List ℕ) (policy : Policy) (presented verified : ℕ) (claims : Tree) : Type 0 where
+  pub presents : (error : PresentError) → error ≢ Memory → error ≢ SignFailed → IsNotPresented answers rule token ask (IsGood signing) presented error → ⊥
+  pub verifies : (answer : Parts) → IsPresented answers rule token ask (IsGood signing) presented answer → IsAcceptedWith answer policy verified claims
+
+-- the compact text of the parts is read as them, and so it is of each text that is
+pub record IsShownOf {F : Type 0} (answers : RuleAnswers F) (rule : F) (parts : Parts) (ask : Ask) (signing : List ℕ) (policy : Policy) (presented verified : ℕ) (claims : Tree) : Type 0 where
+  pub reads : IsToken (compact parts) (alone parts)
+  pub shown : (token : List ℕ) → IsToken token (alone parts) → IsShownAt answers rule token ask signing policy presented verified claims
+
+-- with this rule of consent; a moment has 64 bits
+abbrev pub PresentedOverValues : {F : Type 0} → RuleAnswers F → F → Type 0
+PresentedOverValues answers rule =
+    (seed : List ℕ) (o : Order) (key : List ℕ) (parts : Parts) → IsIssuedBy seed o key parts
+    → (ask : Ask) (signing : List ℕ) (policy : Policy) (presented verified : ℕ)
+    → Suits answers rule o key ask signing policy presented verified → AreShort ask.binding → presented < 2 ^ 64
+    → IsShownOf answers rule parts ask signing policy presented verified (shown_for o ask.want)
+
+-- an audience and a nonce have as many bytes as they may
+abbrev pub AreShort : Option BindingAsk → Type 0
+AreShort asked = IfSome asked (λ ask. (length ask.aud ≤ binding_text_max) × (length ask.nonce ≤ binding_text_max))

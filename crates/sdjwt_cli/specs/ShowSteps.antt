@@ -1,0 +1,23 @@
+-- For private functions: what the steps of `show` answer.
+use Rattle.std.specs.Prelude.{◌≡◌, ℕ, ◌+◌, List, ◌++◌}
+use Rattle.std.specs.List.{AllZip}
+use Rattle.claim_tree.specs.Tree.{Text}
+use Rattle.compact_form.specs.declared.fault.Fault.{Fault}
+use Rattle.sdjwt_cli.specs.declared.show.Unshown.{Unshown}
+use Rattle.sdjwt_cli.specs.declared.show.Unshown.TheVariants.{Memory, Fails}
+use Rattle.sdjwt_cli.specs.Show.{IsShown, ShownDisclosure, disclosure, shown_line, shown_lines}
+
+-- for private functions: a line, or all lines, put behind a text
+pub record AddsLine (i : ℕ) (disclosure : Text) (old new : Text) : Type 0 where
+  pub shown : ShownDisclosure
+  pub is : IsShown disclosure shown
+  pub more : new ≡ old ++ shown_line i shown
+
+pub record AddsLines (disclosures : List Text) (old new : Text) : Type 0 where
+  pub shown : List ShownDisclosure
+  pub are : AllZip IsShown disclosures shown
+  pub more : new ≡ old ++ shown_lines 0 shown
+
+abbrev pub OnFails : Unshown → (Fault → Type 0) → Type 0
+OnFails Memory P = Unit {0}
+OnFails (Fails fault) P = P fault
