@@ -2,8 +2,6 @@
 use Rattle.std.specs.Prelude.{codes}
 use Rattle.claim_tree.specs.Tree.{Text}
 use Rattle.claim_tree.specs.declared.file_fault.Field.{Field}
-use Rattle.claim_tree.specs.declared.file_fault.FileFault.{FileFault}
-use Rattle.claim_tree.specs.declared.text.ReadError.{ReadError}
 
 abbrev pub field_word : Field → Text
 field_word Field.Keys = codes "keys"

@@ -7,8 +7,6 @@ use Rattle.serde_json.specs.Read as reading
 use Rattle.serde_json.specs.Written as written
 use Rattle.serde_json.specs.Find.{of_integer}
 use Rattle.claim_tree.specs.Tree.{Text, Leaf, null, flag, whole, text, Tree, leaf, array, object, Elements, no_elements, element, Members, no_members, member}
-use Rattle.claim_tree.specs.declared.text.ReadError.{ReadError}
-use Rattle.claim_tree.specs.declared.text.ReadError.TheVariants.{Memory, NotJson, NotWhole}
 
 -- a tree in the words of `serde_json`
 abbrev pub leaf_data : Leaf → Data

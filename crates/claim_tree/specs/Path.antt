@@ -1,8 +1,7 @@
 -- Paths into a JSON value, and their pointers, RFC 6901.
-use Rattle.std.specs.Prelude.{◌≡◌, ◌≢◌, ℕ, suc, nat_eq, ◌==◌, false, List, [], ◌∷◌, ◌++◌, Option, Some, None, option_and_then, bytes_eq, decimal, codes, if◌then◌else◌}
+use Rattle.std.specs.Prelude.{◌≡◌, ℕ, suc, ◌==◌, List, [], ◌∷◌, ◌++◌, Option, Some, None, option_and_then, bytes_eq, decimal, codes, if◌then◌else◌}
 use Rattle.claim_tree.specs.Tree.{Text, Tree, leaf, array, object, Elements, no_elements, element, member_named}
-use Rattle.std.specs.List.{flat_map, starts_with}
-use Rattle.std.specs.Str.Iter.{LacksByte}
+use Rattle.std.specs.List.{flat_map}
 
 -- the first path is a front of the second
 abbrev pub LeadsTo : List Text → List Text → Type 0

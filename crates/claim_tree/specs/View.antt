@@ -1,7 +1,7 @@
 -- The tree that a value of the code is.
-use Rattle.std.specs.Prelude.{List, [], ◌∷◌}
+use Rattle.std.specs.Prelude.{List}
 use Rattle.claim_tree.specs.Tree as spec
-use Rattle.claim_tree.specs.Tree.{Text, Elements, no_elements, element, Members, no_members, member, leaf, array, object, null, flag, whole, text}
+use Rattle.claim_tree.specs.Tree.{Text, leaf, array, object, null, flag, whole, text}
 use Rattle.claim_tree.specs.declared.tree.Tree.{Tree}
 
 abbrev pub tree_of : Tree → spec.Tree

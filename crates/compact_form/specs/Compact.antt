@@ -1,6 +1,6 @@
 -- The compact serialization, RFC 9901 section 4: parts, and the text that spells them.
-use Rattle.std.specs.Prelude.{◌≡◌, ◌<◌, ◌≤◌, ℕ, ◌==◌, false, List, [], ◌++◌, length, take, Option, None, Some, IfSome, codes}
-use Rattle.std.specs.List.{flat_map, list_any, AllByRecursion}
+use Rattle.std.specs.Prelude.{◌≡◌, ◌<◌, ◌≤◌, ℕ, List, [], ◌++◌, length, take, Option, None, Some, IfSome, codes}
+use Rattle.std.specs.List.{flat_map, AllByRecursion}
 use Rattle.b64url_text.specs.Base64url.{IsWord}
 use Rattle.compact_form.specs.declared.parts.JwtParts.{JwtParts}
 use Rattle.compact_form.specs.declared.parts.Parts.{Parts}

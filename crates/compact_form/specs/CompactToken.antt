@@ -1,6 +1,6 @@
 -- Not needed to believe the program's promises: a compact token as it comes from a file: conditions 1 to 3 of a verifier, and its parts.
-use Rattle.std.specs.Prelude.{◌≡◌, ◌<◌, ◌≤◌, ℕ, Bool, true, false, not, nat_lt, ◌&&◌, ◌||◌, ◌==◌, List, [], ◌∷◌, length}
-use Rattle.sd_outside.specs.Limits.{file_max, compact_max, count_max}
+use Rattle.std.specs.Prelude.{◌≡◌, ◌<◌, ◌≤◌, ℕ, true, List, length}
+use Rattle.sd_outside.specs.Limits.{count_max}
 use Rattle.compact_form.specs.Condition as condition
 use Rattle.compact_form.specs.Condition.{number_of}
 use Rattle.compact_form.specs.declared.fault.Fault.{Fault}

@@ -1,11 +1,10 @@
 -- The digests that are embedded in a JSON value, RFC 9901 section 4.2.4, with their places.
-use Rattle.std.specs.Prelude.{◌≡◌, ℕ, suc, List, [], ◌∷◌, ◌++◌, map, true, Option, Some, None, bytes_eq, decimal, if◌then◌else◌}
+use Rattle.std.specs.Prelude.{ℕ, suc, List, [], ◌∷◌, ◌++◌, map, Option, Some, None, bytes_eq, decimal, if◌then◌else◌}
 use Rattle.claim_tree.specs.Tree.{Text, Tree, leaf, array, object, Elements, no_elements, element, Members, no_members, member, names}
-use Rattle.digest_sites.specs.Reserved.{sd_name, sd_texts, element_digest, misuses}
+use Rattle.digest_sites.specs.Reserved.{sd_name, sd_texts, element_digest}
 use Rattle.digest_sites.specs.declared.site.SiteKind.{SiteKind}
 use Rattle.digest_sites.specs.declared.site.SiteKind.TheVariants.{Member, Element}
 use Rattle.digest_sites.specs.declared.site.Site as code
-use Rattle.digest_sites.specs.declared.walk.SiteError.{SiteError}
 
 -- one step into a tree: to the member with this name, or to the element at this position, counted from 0
 pub data Step : Type 0 where

@@ -1,9 +1,7 @@
 -- Why a text is no disclosure.
 use Rattle.b64url_text.specs.Base64url.{Decodes, IsNotBase64}
-use Rattle.b64url_text.specs.declared.errors.DecodeError.{DecodeError}
 use Rattle.claim_tree.specs.Tree.{Text}
 use Rattle.claim_tree.specs.JsonText.{IsNotJson, IsNotWhole}
-use Rattle.claim_tree.specs.declared.text.ReadError.{ReadError}
 use Rattle.disclosure.specs.Disclosure.{IsNotDisclosure}
 use Rattle.disclosure.specs.declared.errors.DisclosureError.{DisclosureError}
 

@@ -1,12 +1,10 @@
 -- Key sets (RFC 7517 section 5): an object whose `keys` is an array of keys.
-use Rattle.std.specs.Prelude.{◌≡◌, ℕ, ◌<◌, ◌≤◌, List, [], ◌∷◌, ◌++◌, Option, Some, None, Bool, true, false, ◌&&◌, length, codes, is_some, option_and_then, if◌then◌else◌}
+use Rattle.std.specs.Prelude.{◌≡◌, ℕ, ◌≤◌, List, [], ◌∷◌, Option, Some, None, Bool, true, ◌&&◌, length, codes, is_some, option_and_then, if◌then◌else◌}
 use Rattle.sd_outside.specs.Limits.{key_min}
-use Rattle.b64url_text.specs.Base64url.{Decodes, IsNotBase64}
-use Rattle.claim_tree.specs.Tree.{Text, Tree, array, Elements, no_elements, element, element_at, get, text_of, has_text}
+use Rattle.b64url_text.specs.Base64url.{Decodes}
+use Rattle.claim_tree.specs.Tree.{Text, Tree, array, Elements, no_elements, element, get, text_of, has_text}
 use Rattle.hmac_sign.specs.Hmac.{key_block}
 use Rattle.hmac_sign.specs.declared.key_set.NamedKey.{NamedKey}
-use Rattle.hmac_sign.specs.declared.key_set.KeySetError.{KeySetError}
-use Rattle.hmac_sign.specs.declared.key_set.KeySetError.TheVariants.{Memory, NotASet, KeyNotBase64, KeyShort}
 
 -- the text under a name
 abbrev pub text_under : Tree → Text → Option Text

@@ -3,12 +3,10 @@ use Rattle.std.specs.Prelude.{◌≡◌, ◌≢◌, ◌<◌, ℕ, suc, Bool, Lis
 use Rattle.claim_tree.specs.Tree.{Text, Tree}
 use Rattle.claim_tree.specs.Lists.{IsLeast, AtNone}
 use Rattle.compact_form.specs.Compact.{compact, hashed}
-use Rattle.compact_form.specs.Condition.{Condition}
 use Rattle.compact_form.specs.Lowest.{IsLowest}
 use Rattle.json_form.specs.Token as file
 use Rattle.compact_form.specs.declared.fault.Fault.{Fault}
 use Rattle.sd_outside.specs.Limits.{compact_max}
-use Rattle.compact_form.specs.declared.fault.Place.{Place}
 use Rattle.compact_form.specs.declared.parts.JwtParts.{JwtParts}
 use Rattle.compact_form.specs.declared.parts.Parts.{Parts}
 use Rattle.disclosure.specs.declared.digests.HashAlg.{HashAlg}
@@ -22,7 +20,7 @@ use Rattle.marked_tree.specs.Paths.{chosen}
 use Rattle.marked_tree.specs.Marked.{Marked, strip, prune}
 use Rattle.selection_core.specs.Consent.{RuleAnswers, AllAllowed, IsRefusedAt}
 use Rattle.selection_core.specs.ChoiceRefusals.{IsMissing}
-use Rattle.verifier_core.specs.Verdict.{Rules, TokenFails, FileFails, IsChecked, HasHash, asked}
+use Rattle.verifier_core.specs.Verdict.{Rules, TokenFails, IsChecked, HasHash, asked}
 use Rattle.holder_core.specs.declared.ask.Ask.{Ask}
 use Rattle.holder_core.specs.declared.ask.BindingAsk.{BindingAsk}
 use Rattle.holder_core.specs.declared.errors.PresentError.{PresentError}

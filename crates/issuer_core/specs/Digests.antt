@@ -1,5 +1,5 @@
 -- The digests of an issued token, RFC 9901 section 4.2.3: those of its disclosures, then those of its decoys.
-use Rattle.std.specs.Prelude.{◌≡◌, ℕ, suc, ◌<◌, List, [], ◌∷◌, ◌++◌, Option}
+use Rattle.std.specs.Prelude.{ℕ, suc, List, [], ◌∷◌, ◌++◌, Option}
 use Rattle.claim_tree.specs.Tree.{Text, Tree}
 use Rattle.digest_sites.specs.Given.{Given}
 use Rattle.marked_tree.specs.Marked.{Marked}

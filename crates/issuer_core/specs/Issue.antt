@@ -1,26 +1,19 @@
 -- Why an order is not issued.
-use Rattle.std.specs.Prelude.{◌≡◌, ℕ, suc, zero, ◌+◌, ◌<◌, ◌≤◌, ◌⊎◌, List, [], ◌∷◌, length, None}
-use Rattle.b64url_text.specs.Base64url.{b64}
-use Rattle.claim_tree.specs.Tree.{Text, Tree, object}
-use Rattle.claim_tree.specs.JsonText.{json_text}
-use Rattle.claim_tree.specs.Lists.{Repeats, AtNone}
-use Rattle.jws_part.specs.declared.header.Header.{Header}
-use Rattle.jws_part.specs.Header.{header_members}
+use Rattle.std.specs.Prelude.{ℕ, suc, zero, ◌+◌, ◌<◌, List, [], ◌∷◌, length}
+use Rattle.claim_tree.specs.Tree.{Text, Tree}
 use Rattle.sd_outside.specs.Limits.{issue_max}
-use Rattle.compact_form.specs.declared.parts.JwtParts.{JwtParts}
 use Rattle.compact_form.specs.declared.parts.Parts.{Parts}
-use Rattle.compact_form.specs.Compact.{compact, AreWords}
+use Rattle.compact_form.specs.Compact.{compact}
 use Rattle.hmac_sign.specs.Signatures.{Meaning}
-use Rattle.hmac_sign.specs.declared.sign.SignError.{SignError}
 use Rattle.digest_sites.specs.Given.{Given}
 use Rattle.issuer_core.specs.declared.errors.IssueError.{IssueError}
-use Rattle.issuer_core.specs.declared.errors.IssueError.TheVariants.{Memory, SignFailed, DigestClash, TooLong}
+use Rattle.issuer_core.specs.declared.errors.IssueError.TheVariants.{DigestClash, TooLong}
 use Rattle.issuer_core.specs.Order.{Order}
 use Rattle.issuer_core.specs.Decoys.{decoys_of}
 use Rattle.issuer_core.specs.Digests.{Maker, hidden_of}
 use Rattle.issuer_core.specs.Laid.{IsLaid}
 use Rattle.issuer_core.specs.Clash.{IsFirstClash}
-use Rattle.issuer_core.specs.OrderRefusals.{AppliesToOrder, NoneApplies, IsLowestRefusal}
+use Rattle.issuer_core.specs.OrderRefusals.{AppliesToOrder}
 use Rattle.issuer_core.specs.Written.{IsLaidOut}
 
 -- the first n digests

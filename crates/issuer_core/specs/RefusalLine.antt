@@ -1,5 +1,5 @@
 -- The line that tells of a refusal of an order.
-use Rattle.std.specs.Prelude.{◌≡◌, [], ◌++◌, codes}
+use Rattle.std.specs.Prelude.{[], ◌++◌, codes}
 use Rattle.std.specs.Fmt.{decimal}
 use Rattle.claim_tree.specs.Tree.{Text, leaf, text}
 use Rattle.claim_tree.specs.JsonText.{json_text}

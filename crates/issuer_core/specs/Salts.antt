@@ -1,7 +1,7 @@
 -- The salts of a seed: the stream of ChaCha20 (RFC 8439) under the seed as its key, cut into pieces of 16 bytes.
-use Rattle.std.specs.Prelude.{◌≡◌, ℕ, ◌+◌, ◌*◌, List, ◌++◌}
+use Rattle.std.specs.Prelude.{ℕ, ◌+◌, ◌*◌, List, ◌++◌}
 use Rattle.std.specs.Int.{w32, to_le_bytes}
-use Rattle.rand_chacha.specs.ChaCha.{ChaCha, word_at, key_of}
+use Rattle.rand_chacha.specs.ChaCha.{word_at, key_of}
 use Rattle.b64url_text.specs.Base64url.{b64}
 use Rattle.claim_tree.specs.Tree.{Text}
 

@@ -1,13 +1,12 @@
 -- The JSON serializations that are written, RFC 9901 section 8: the object of which the text is the compact JSON.
-use Rattle.std.specs.Prelude.{◌≡◌, ◌≤◌, Option, Some, None}
-use Rattle.claim_tree.specs.Tree.{text, Tree, leaf, array, object, no_elements, element, Members, no_members, member, members_depth, inserted, IsRanged}
+use Rattle.std.specs.Prelude.{Option, Some, None}
+use Rattle.claim_tree.specs.Tree.{text, Tree, leaf, array, object, no_elements, element, Members, no_members, member, inserted}
 use Rattle.claim_tree.specs.FileForms.{text_elements}
-use Rattle.compact_form.specs.Compact.{jwt, AreWords}
+use Rattle.compact_form.specs.Compact.{jwt}
 use Rattle.compact_form.specs.PartWords.{part_word}
 use Rattle.compact_form.specs.declared.parts.JwtParts.{JwtParts}
 use Rattle.compact_form.specs.declared.fault.Part.TheVariants.{Payload, Protected, Signature, Signatures, Header, Disclosures, KbJwt}
 use Rattle.json_form.specs.declared.token.Token.{Token}
-use Rattle.json_form.specs.Json.{found_part}
 
 -- the members, with the key binding token where there is one
 abbrev pub with_binding : Option JwtParts → Members → Members

@@ -2,11 +2,9 @@
 use Rattle.std.specs.Prelude.{◌≡◌, Bool, ◌||◌, true, false, Option, Some, None, codes}
 use Rattle.std.specs.List.{list_any}
 use Rattle.std.specs.Option.{is_some, option_map, option_or}
-use Rattle.claim_tree.specs.Tree.{Text, text, Tree, leaf, object, Members, no_members, member, names, member_named, inserted, text_of}
+use Rattle.claim_tree.specs.Tree.{Text, text, Tree, leaf, object, Members, no_members, member, names, member_named, text_of}
 use Rattle.jws_part.specs.Part.{Carries, IsNoObject}
 use Rattle.jws_part.specs.declared.header.Header.{Header}
-use Rattle.jws_part.specs.declared.body.BodyError.{BodyError}
-use Rattle.jws_part.specs.declared.header.HeaderError.{HeaderError}
 
 -- the tree of a text
 abbrev pub text_tree : Text → Tree

@@ -3,9 +3,6 @@ use Rattle.std.specs.Prelude.{◌≡◌}
 use Rattle.b64url_text.specs.Base64url.{Decodes}
 use Rattle.claim_tree.specs.Tree.{Text, Tree, object, Members}
 use Rattle.claim_tree.specs.JsonText.{Reads}
-use Rattle.b64url_text.specs.declared.errors.DecodeError.{DecodeError}
-use Rattle.claim_tree.specs.declared.text.ReadError.{ReadError}
-use Rattle.jws_part.specs.declared.body.BodyError.{BodyError}
 
 -- the text decodes to a JSON text that reads to the tree, so each of its numbers is whole
 pub record Carries (part : Text) (t : Tree) : Type 0 where

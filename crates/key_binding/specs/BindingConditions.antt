@@ -13,7 +13,6 @@ use Rattle.jws_part.specs.Part.{IsBody}
 use Rattle.jws_part.specs.Times.{IsTimeUnreadable, IsExpired, IsNotYet}
 use Rattle.key_binding.specs.Binding.{Claims}
 use Rattle.key_binding.specs.Judged.{Judged, holder_key, HasBindingHeader, HasClaims}
-use Rattle.key_binding.specs.declared.errors.BindingError.{BindingError}
 
 -- the header is not read, or wants an extension to be understood
 abbrev pub IsHeaderRefused : Judged → Type 0

@@ -1,9 +1,7 @@
 -- What a key binding token is judged by, and what is read of it.
 use Rattle.std.specs.Prelude.{◌≡◌, ℕ, List, Option, Some, codes, option_and_then}
 use Rattle.claim_tree.specs.Tree.{Text, Tree, no_members, get}
-use Rattle.claim_tree.specs.View.{tree_of}
 use Rattle.compact_form.specs.declared.parts.JwtParts.{JwtParts}
-use Rattle.compact_form.specs.Views.{jwt_of}
 use Rattle.disclosure.specs.declared.digests.HashAlg.{HashAlg}
 use Rattle.hmac_sign.specs.declared.key_set.NamedKey.{NamedKey}
 use Rattle.hmac_sign.specs.Keys.{key_named, text_under}
@@ -13,7 +11,6 @@ use Rattle.jws_part.specs.Part.{IsBody}
 use Rattle.jws_part.specs.Times.{IsMoment}
 use Rattle.key_binding.specs.Binding.{Claims}
 use Rattle.key_binding.specs.declared.policy.BindingPolicy.{BindingPolicy}
-use Rattle.key_binding.specs.declared.judging.Bound.{Bound}
 
 -- a key binding token, and what it is judged by
 pub record Judged : Type 0 where

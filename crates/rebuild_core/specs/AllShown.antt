@@ -1,13 +1,13 @@
 -- Not needed to believe the program's promises: the converse of `OneNode`: where each disclosure is shown and each digest stands once, the conditions hold.
 use Rattle.std.specs.Prelude.{◌≡◌, ◌<◌, ◌≤◌, ℕ, List, length, true, is_some, bytes_eq}
 use Rattle.sd_outside.specs.Limits.{depth_max}
-use Rattle.claim_tree.specs.Tree.{Text, Tree, leaf, array, object, Elements, no_elements, element, Members, no_members, member, depth}
+use Rattle.claim_tree.specs.Tree.{Tree, leaf, array, object, Elements, no_elements, element, Members, no_members, member, depth}
 use Rattle.claim_tree.specs.Lists.{In, Repeats, AtNone}
 use Rattle.digest_sites.specs.Reserved.{sd_name, text_list}
 use Rattle.digest_sites.specs.Given.{Given}
 use Rattle.marked_tree.specs.Marked.{strip}
 use Rattle.marked_tree.specs.Ways.{ways}
-use Rattle.rebuild_core.specs.Reached.{owned_digests, all_sites, all_digests}
+use Rattle.rebuild_core.specs.Reached.{all_digests}
 use Rattle.rebuild_core.specs.Opening.{processed}
 use Rattle.rebuild_core.specs.Conditions.{RepeatedDisclosure}
 use Rattle.rebuild_core.specs.Soundness.{IsSound}

@@ -1,9 +1,9 @@
 -- The conditions on a payload, without its own `_sd_alg`, and its given disclosures (RFC 9901 section 7.1): each as what fails
 -- it at a place.
-use Rattle.std.specs.Prelude.{◌≡◌, ℕ, zero, suc, ◌<◌, ◌≤◌, List, [], true, false, Option, Some, None, ◌⊎◌}
+use Rattle.std.specs.Prelude.{◌≡◌, ℕ, zero, suc, ◌<◌, List, [], true, false, Option, Some, None, ◌⊎◌}
 use Rattle.sd_outside.specs.Limits.{depth_max}
 use Rattle.claim_tree.specs.Tree.{Text, Tree, depth}
-use Rattle.claim_tree.specs.Lists.{StandsAt, In, Repeats, AtNone}
+use Rattle.claim_tree.specs.Lists.{StandsAt, In, Repeats}
 use Rattle.digest_sites.specs.Reserved.{misuses, sd_name, dots_name}
 use Rattle.digest_sites.specs.Given.{Given}
 use Rattle.digest_sites.specs.declared.site.SiteKind.{SiteKind}

@@ -1,7 +1,7 @@
 -- Not needed to believe the program's promises: what the laws say.
 use Rattle.std.specs.Prelude.{◌≡◌, ℕ, suc, ◌<◌, ◌≤◌, ◌+◌, List, [], ◌∷◌, length, eqb, Bool, true, Option, Some, None, sum_by, if◌then◌else◌}
 use Rattle.std.specs.List.{IsDistinct}
-use Rattle.claim_tree.specs.Tree.{Text, Tree, IsOrdered}
+use Rattle.claim_tree.specs.Tree.{Text, Tree}
 use Rattle.claim_tree.specs.Nodes.{nodes}
 use Rattle.claim_tree.specs.Lists.{StandsAt, In}
 use Rattle.digest_sites.specs.Sites.{Site}

@@ -10,7 +10,6 @@ use Rattle.compact_form.specs.declared.fault.Place.TheVariants.{Nowhere}
 use Rattle.compact_form.specs.Compact.{compact}
 use Rattle.json_form.specs.declared.token.Token.{Token}
 use Rattle.json_form.specs.Token.{IsTextRefused, IsToken}
-use Rattle.json_form.specs.Json.{IsJson}
 use Rattle.json_form.specs.Written.{flat_of, general_of}
 use Rattle.sdjwt_cli.specs.declared.form.Form.{Form}
 use Rattle.sdjwt_cli.specs.declared.form.Form.TheVariants.{Compact, Flat, General}

@@ -6,30 +6,20 @@ use Rattle.sd_outside.specs.declared.status.Status.{Status}
 use Rattle.claim_tree.specs.JsonText.{json_text}
 use Rattle.claim_tree.specs.Tree.{Tree, no_members}
 use Rattle.compact_form.specs.declared.parts.Parts.{Parts}
-use Rattle.compact_form.specs.Compact.{compact}
-use Rattle.hmac_sign.specs.Hmac.{IsGood}
-use Rattle.json_form.specs.Token.{IsToken}
 use Rattle.json_form.specs.declared.token.Token.{Token}
-use Rattle.selection_core.specs.Consent.{RuleAnswers}
 use Rattle.verifier_core.specs.PolicyFile.{IsPolicyFile}
-use Rattle.verifier_core.specs.Verdicts.{IsAcceptedAs}
 use Rattle.verifier_core.specs.declared.policy.Policy.{Policy}
 use Rattle.issuer_core.specs.Order.{Order}
-use Rattle.holder_core.specs.Present.{IsPresented, IsNotPresented}
 use Rattle.holder_core.specs.PresentFile.{IsPresentFile}
-use Rattle.holder_core.specs.declared.ask.Ask.{Ask}
-use Rattle.holder_core.specs.declared.errors.PresentError.{PresentError}
-use Rattle.holder_core.specs.declared.errors.PresentError.TheVariants.{Memory, SignFailed}
 use Rattle.holder_core.specs.declared.present_file.PresentFile.{PresentFile}
 use Rattle.sdjwt_cli.specs.Answers.{Reply, gives, IssueAnswers, PresentAnswers, VerifyAnswers, AreTold}
 use Rattle.sdjwt_cli.specs.Command.{Command, issue, present, verify, command_of}
-use Rattle.sdjwt_cli.specs.Issuing.{IsAsked, IsIssuedBy}
+use Rattle.sdjwt_cli.specs.Issuing.{IsAsked}
 use Rattle.sdjwt_cli.specs.Lines.{line}
 use Rattle.sdjwt_cli.specs.Never.{never_rule}
 use Rattle.sdjwt_cli.specs.Presenting.{signing_key}
 use Rattle.sdjwt_cli.specs.Run.{Outside, Ends}
 use Rattle.sdjwt_cli.specs.Suits.{Suits, shown_for}
-use Rattle.sdjwt_cli.specs.PresentedValues.{AreShort}
 
 -- the files of `issue` say an order and its key, the others a present order and a policy, which suits; a moment has 64 bits
 pub record AllSuits (order_file seed_file present_file policy_file : List ℕ) (presented verified : ℕ) : Type 0 where

@@ -1,11 +1,10 @@
 -- The command `present`: what it prints of a token file for an order file, and when it refuses.
-use Rattle.std.specs.Prelude.{◌≡◌, ◌≢◌, ◌≤◌, ℕ, List, [], ◌++◌, length, replicate, Option, None, Some, Result, Ok, Err, codes}
+use Rattle.std.specs.Prelude.{◌≡◌, ◌≢◌, ◌≤◌, ℕ, List, [], ◌++◌, length, replicate, Option, None, Some, codes}
 use Rattle.std.specs.Fmt.{decimal}
 use Rattle.claim_tree.specs.declared.file_fault.FileFault.{FileFault}
 use Rattle.sd_outside.specs.Limits.{compact_max}
 use Rattle.compact_form.specs.declared.parts.Parts.{Parts}
 use Rattle.compact_form.specs.Compact.{compact}
-use Rattle.compact_form.specs.Condition.{Condition, number_of}
 use Rattle.hmac_sign.specs.Hmac.{key_block, IsGood}
 use Rattle.holder_core.specs.declared.errors.PresentError.{PresentError}
 use Rattle.holder_core.specs.declared.errors.PresentError.TheVariants.{Memory, Token as OnCondition, HasBinding, NoSuchPlace, ConsentRefused, BindingKeyDiffers, SignFailed, TooLong}

@@ -1,6 +1,5 @@
 -- When a policy suits what a holder is asked to present of a token that is issued for an order.
-use Rattle.std.specs.Prelude.{◌≡◌, ◌≢◌, ◌≤◌, ℕ, ◌+◌, true, false, List, length, Option, None, Some, IfSome, codes}
-use Rattle.sd_outside.specs.Limits.{binding_text_max}
+use Rattle.std.specs.Prelude.{◌≡◌, ◌≢◌, ◌≤◌, ℕ, ◌+◌, true, false, List, Option, None, Some, codes}
 use Rattle.claim_tree.specs.Tree.{Text, Tree}
 use Rattle.claim_tree.specs.Lists.{In}
 use Rattle.claim_tree.specs.Path.{tree_at}

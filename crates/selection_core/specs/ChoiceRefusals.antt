@@ -1,11 +1,9 @@
 -- Why nothing is chosen, and why what is chosen is not shown.
 use Rattle.std.specs.Prelude.{◌≡◌, ℕ, List, None}
 use Rattle.claim_tree.specs.Tree.{Tree}
-use Rattle.claim_tree.specs.Lists.{StandsAt, IsLeast}
+use Rattle.claim_tree.specs.Lists.{StandsAt}
 use Rattle.claim_tree.specs.Path.{tree_at}
 use Rattle.marked_tree.specs.Paths.{Path}
-use Rattle.selection_core.specs.declared.errors.ChooseError.{ChooseError}
-use Rattle.selection_core.specs.declared.errors.ChooseError.TheVariants.{Memory, NoSuchPlace}
 
 -- the wanted path with this number leads nowhere
 abbrev pub IsMissing : Tree → List Path → ℕ → Type 0

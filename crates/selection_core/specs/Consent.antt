@@ -4,8 +4,6 @@ use Rattle.std.specs.Fn.{FnReturnsAt, Shared}
 use denote.Ref.{Bor}
 use Rattle.marked_tree.specs.Marked.{Marked}
 use Rattle.marked_tree.specs.Paths.{Path, mark_path}
-use Rattle.selection_core.specs.declared.errors.AllowError.{AllowError}
-use Rattle.selection_core.specs.declared.errors.AllowError.TheVariants.{Memory, Refused}
 
 -- which answers the calls of a closure over paths may give
 abbrev pub RuleAnswers : Type 0 → Type 1

@@ -1,5 +1,5 @@
 -- Not needed to believe the program's promises: what the check of a token answers, and what its steps answer.
-use Rattle.std.specs.Prelude.{◌≡◌, ◌≤◌, ℕ, Bool, true, false, List, ◌∷◌, [], ◌++◌, take, slice_get, Option, Some, None, ◌⊎◌}
+use Rattle.std.specs.Prelude.{◌≡◌, ◌≤◌, ℕ, Bool, true, false, List, ◌∷◌, [], ◌++◌, take, slice_get, Some, None, ◌⊎◌}
 use Rattle.std.specs.List.{AllZip}
 use Rattle.claim_tree.specs.Tree.{Text, Tree, Members, IsRanged, depth}
 use Rattle.compact_form.specs.declared.fault.Fault.{Fault}
@@ -10,7 +10,6 @@ use Rattle.compact_form.specs.declared.parts.Parts.{Parts}
 use Rattle.jws_part.specs.declared.header.Header.{Header}
 use Rattle.jws_part.specs.Header.{IsHeader, IsHeaderUnreadable, IsHeaderCritical}
 use Rattle.jws_part.specs.Part.{IsBody, IsNoObject}
-use Rattle.hmac_sign.specs.declared.key_set.NamedKey.{NamedKey}
 use Rattle.disclosure.specs.Digest.{payload_hash}
 use Rattle.disclosure.specs.declared.errors.DisclosureError.{DisclosureError}
 use Rattle.disclosure.specs.declared.digests.HashAlg.{HashAlg}

@@ -1,13 +1,10 @@
 -- Not needed to believe the program's promises: the line that tells of a condition that fails.
-use Rattle.std.specs.Prelude.{◌≡◌, ◌++◌, [], codes}
-use Rattle.std.specs.Fmt.{decimal}
+use Rattle.std.specs.Prelude.{◌≡◌}
 use Rattle.claim_tree.specs.Tree.{Text}
 use Rattle.compact_form.specs.declared.fault.Fault.{Fault}
 use Rattle.compact_form.specs.declared.fault.Place.{Place}
 use Rattle.compact_form.specs.declared.fault.Place.TheVariants.{Nowhere, At, Json}
-use Rattle.compact_form.specs.declared.fault.JsonPlace.{JsonPlace}
-use Rattle.compact_form.specs.PartWords.{part_word}
-use Rattle.compact_form.specs.Condition.{Condition, number_of, name_of, form, disclosure_unreadable, repeated_disclosure, reserved_misused, repeated_digest, unreferenced_disclosure, wrong_shape, reserved_name, name_clash, claim_missing}
+use Rattle.compact_form.specs.Condition.{Condition, number_of, form, disclosure_unreadable, repeated_disclosure, reserved_misused, repeated_digest, unreferenced_disclosure, wrong_shape, reserved_name, name_clash, claim_missing}
 use Rattle.verifier_core.specs.RefusalText.{refusal_text}
 
 -- ---- places

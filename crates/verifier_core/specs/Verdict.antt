@@ -1,9 +1,8 @@
 -- The verdict on a token: what fails each condition and at which place, and the lowest that fails (RFC 9901 section 7.3).
-use Rattle.std.specs.Prelude.{◌≡◌, ◌≢◌, ◌↔◌, ℕ, ◌⊎◌, List, Option, Some, None, codes, option_map, slice_get}
+use Rattle.std.specs.Prelude.{◌≡◌, ◌≢◌, ℕ, ◌⊎◌, List, Option, Some, None, codes, option_map, slice_get}
 use Rattle.std.specs.List.{AllZip}
 use Rattle.claim_tree.specs.Tree.{Text, Tree, leaf, text, get}
 use Rattle.claim_tree.specs.Lists.{StandsAt}
-use Rattle.compact_form.specs.declared.fault.Fault.{Fault}
 use Rattle.compact_form.specs.declared.fault.Place.{Place}
 use Rattle.compact_form.specs.declared.parts.JwtParts.{JwtParts}
 use Rattle.compact_form.specs.declared.parts.Parts.{Parts}
@@ -28,7 +27,7 @@ use Rattle.rebuild_core.specs.Opening.{processed}
 use Rattle.rebuild_core.specs.Conditions as opening
 use Rattle.compact_form.specs.Condition as condition
 use Rattle.compact_form.specs.Condition.{Condition, number_of}
-use Rattle.compact_form.specs.Lowest.{Unplaced, Numbered, NoneFails, IsLowest}
+use Rattle.compact_form.specs.Lowest.{Unplaced, Numbered, NoneFails}
 use Rattle.key_binding.specs.Judged.{judged}
 use Rattle.key_binding.specs.BindingConditions.{BindingFails}
 use Rattle.key_binding.specs.declared.policy.BindingPolicy.{BindingPolicy}
