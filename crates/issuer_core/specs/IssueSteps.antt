@@ -15,6 +15,15 @@ use Rattle.claim_tree.specs.JsonText.{json_text}
 use Rattle.jws_part.specs.Header.{header_members}
 use Rattle.compact_form.specs.declared.parts.JwtParts.{JwtParts}
 
+-- for private functions: the JWT is written with this header and this payload, and signed
+pub record IsSigned (header : Header) (good : Meaning) (body : Tree) (jwt : JwtParts) : Type 0 where
+  pub protected : jwt.protected ≡ b64 (json_text (object (header_members header)))
+  pub payload : jwt.payload ≡ b64 (json_text body)
+  pub signature : List ℕ
+  pub signature_text : jwt.signature ≡ b64 signature
+  pub some : 0 < length signature
+  pub signed : good jwt.protected jwt.payload signature
+
 -- for private functions: the parts are such a JWT and these disclosures
 pub record AreSigned (header : Header) (good : Meaning) (body : Tree) (texts : List Text) (parts : Parts) : Type 0 where
   pub jwt : IsSigned header good body parts.signed
@@ -52,12 +61,3 @@ pub record IsOverlong (header : Header) (good : Meaning) (body : Tree) (texts di
 abbrev pub IsUnfinished : Header → Meaning → Tree → List Text → List Text → IssueError → Type 0
 IsUnfinished header good body texts digests error =
     HasClash digests error ⊎ ((AtNone (Repeats digests) × IsUnsigned error) ⊎ IsOverlong header good body texts digests error)
-
--- for private functions: the JWT is written with this header and this payload, and signed
-pub record IsSigned (header : Header) (good : Meaning) (body : Tree) (jwt : JwtParts) : Type 0 where
-  pub protected : jwt.protected ≡ b64 (json_text (object (header_members header)))
-  pub payload : jwt.payload ≡ b64 (json_text body)
-  pub signature : List ℕ
-  pub signature_text : jwt.signature ≡ b64 signature
-  pub some : 0 < length signature
-  pub signed : good jwt.protected jwt.payload signature

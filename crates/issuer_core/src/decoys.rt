@@ -54,8 +54,8 @@ impl<'a> Decoys<'a> {
     // Those at and below the place that is one step further.
     pub(crate) fn below(&self, step: &str) -> Decoys<'a>
         requires fits { self.now.depth ≤ 126 }
-        requires digests_on_path { ArePlaced self.now }
-        ensures digests_on_path { ArePlaced result }
+        requires placed { ArePlaced self.now }
+        ensures placed { ArePlaced result }
         ensures below { (at : Steps) → placed_at result at ≡ placed_at self.now (step.now ∷ at) }
         ensures depth { result.depth ≡ self.now.depth + 1 }
     {
@@ -76,7 +76,7 @@ pub(crate) fn sort_decoys(
     requires { length digests.now ≡ length (decoy_paths decoys.now) }
     ensures sorted { IfOk result (λ sorted. AreSorted sorted.paths.items) }
     ensures each { IfOk result (λ sorted. length sorted.digests.items ≡ length sorted.paths.items) }
-    ensures digests_on_path { IfOk result (λ sorted. (at : Steps) → digests_on_path sorted.paths.items sorted.digests.items at ≡ digests_on_path (decoy_paths decoys.now) digests.now at) }
+    ensures placed { IfOk result (λ sorted. (at : Steps) → digests_on_path sorted.paths.items sorted.digests.items at ≡ digests_on_path (decoy_paths decoys.now) digests.now at) }
 {
     let mut entries = Vec::new(alloc);
     for decoy in decoys.items() {
