@@ -34,6 +34,10 @@ pub record IsShownOf {F : Type 0} (answers : RuleAnswers F) (rule : F) (parts : 
   pub reads : IsToken (compact parts) (alone parts)
   pub shown : (token : List ℕ) → IsToken token (alone parts) → IsShownAt answers rule token ask signing policy presented verified claims
 
+-- an audience and a nonce have as many bytes as they may
+abbrev pub AreShort : Option BindingAsk → Type 0
+AreShort asked = IfSome asked (λ ask. (length ask.aud ≤ binding_text_max) × (length ask.nonce ≤ binding_text_max))
+
 -- with this rule of consent; a moment has 64 bits
 abbrev pub PresentedOverValues : {F : Type 0} → RuleAnswers F → F → Type 0
 PresentedOverValues answers rule =
@@ -41,7 +45,3 @@ PresentedOverValues answers rule =
     → (ask : Ask) (signing : List ℕ) (policy : Policy) (presented verified : ℕ)
     → Suits answers rule o key ask signing policy presented verified → AreShort ask.binding → presented < 2 ^ 64
     → IsShownOf answers rule parts ask signing policy presented verified (shown_for o ask.want)
-
--- an audience and a nonce have as many bytes as they may
-abbrev pub AreShort : Option BindingAsk → Type 0
-AreShort asked = IfSome asked (λ ask. (length ask.aud ≤ binding_text_max) × (length ask.nonce ≤ binding_text_max))
