@@ -3,7 +3,7 @@ ghost use Rattle.std.specs.Prelude.{◌≡◌, ◌≢◌, ◌≤◌, ◌<◌, �
 ghost use Rattle.sd_outside.specs.Causes.{Rose};
 ghost use Rattle.claim_tree.specs.Tree.{depth as depth_of};
 ghost use Rattle.claim_tree.specs.View.{tree_of};
-ghost use Rattle.compact_form.specs.Compact.{AreWords, compact as compact_text};
+ghost use Rattle.compact_form.specs.Compact.{AreWords, HasWords, compact as compact_text, hashed as hashed_of};
 ghost use Rattle.compact_form.specs.Lowest.{IsLowest};
 ghost use Rattle.sd_outside.specs.Limits.{compact_max};
 ghost use Rattle.disclosure.specs.declared.digests.HashAlg.{HashAlg as SeenHash};
@@ -18,15 +18,16 @@ ghost use Rattle.marked_tree.specs.Numbers.{has};
 ghost use Rattle.marked_tree.specs.View.{marked_of};
 ghost use Rattle.verifier_core.specs.Verdict.{TokenFails, HasHash, asked};
 ghost use Rattle.verifier_core.specs.Check.{OnFault, IsContent, IsCounted, IsCountedWithin, IsReadWithin, IsUncounted};
-ghost use Rattle.holder_core.specs.Present.{held_rules, picked, shown, IsHeld, IsAnswer, IsNoAnswer, IsPresented, IsNotPresented, NamesKey};
+ghost use Rattle.holder_core.specs.Present.{held_rules, picked, shown, IsHeld, IsBoundBy, IsAnswer, IsNoAnswer, IsPresented, IsNotPresented, NamesKey};
 ghost use Rattle.holder_core.specs.PresentCalls.{PresentFails};
 ghost use Rattle.holder_core.specs.PresentSteps.{IsUnchecked, IsUnchosen, IsChosen, IsOtherKey, IsReady, IsUnready, IsPresentUnsigned, IsPresentFinished, IsPresentUnfinished, IsMadeReady, IsUncheckedOrUnready};
 ghost use Rattle.holder_core.specs.declared.errors.PresentError.{PresentError};
+ghost use Rattle.key_binding.specs.declared.errors.BindError.{BindError};
 
 use crate::whole::whole_parts;
 use crate::{Ask, BindingAsk, PresentError};
 use claim_tree::{Path, PathList, Tree};
-use compact_form::{COMPACT_MAX, Parts, hashed_text, is_longer_than};
+use compact_form::{COMPACT_MAX, JwtParts, Parts, hashed_text, is_longer_than};
 use digest_index::Steps;
 use disclosure::HashAlg;
 use hmac_sign::{KeySet, Signer};
@@ -347,6 +348,30 @@ fn pick(
     Ok(texts)
 }
 
+// The key binding token that is asked for, over the text of the parts that it is sent with.
+fn binding_of<S: Signer>(
+    alloc: Global,
+    unbound: &Parts,
+    asked: &BindingAsk,
+    hash: HashAlg,
+    signer: &mut S,
+    now: u64,
+) -> Result<JwtParts, BindError>
+    requires hs256 { S.alg_of signer.old ≡ Alg.Hs256 }
+    requires words { AreWords unbound.now }
+    ensures bound { IfOk result (IsBoundBy asked.now (S.good signer.old) hash (hashed_of unbound.now) now) }
+    ensures words { IfOk result HasWords }
+    ensures failed { IsErrOf result BindError.SignFailed → Rose (S.faults signer.old) (S.faults signer.new) }
+    ensures same_good { Agree (S.good signer.new) (S.good signer.old) }
+    ensures same_alg { S.alg_of signer.new ≡ S.alg_of signer.old }
+    ensures later { S.faults signer.old ≤ S.faults signer.new }
+{
+    let hashed = hashed_text(alloc, unbound)?;
+    let aud = asked.aud.as_str();
+    let nonce = asked.nonce.as_str();
+    bind(alloc, signer, hash, hashed.as_str(), aud, nonce, now)
+}
+
 // The parts with the key binding token that is asked for, if any.
 fn bound_parts<S: Signer>(
     alloc: Global,
@@ -368,13 +393,10 @@ fn bound_parts<S: Signer>(
     ensures same_alg { S.alg_of signer.new ≡ S.alg_of signer.old }
     ensures later { S.faults signer.old ≤ S.faults signer.new }
 {
-    let Some(binding) = binding else {
+    let Some(asked) = binding else {
         return Ok(unbound);
     };
-    let hashed = hashed_text(alloc, &unbound)?;
-    let aud = binding.aud.as_str();
-    let nonce = binding.nonce.as_str();
-    match bind(alloc, signer, hash, hashed.as_str(), aud, nonce, now) {
+    match binding_of(alloc, &unbound, asked, hash, signer, now) {
         Ok(token) => Ok(Parts {
             signed: unbound.signed,
             disclosures: unbound.disclosures,

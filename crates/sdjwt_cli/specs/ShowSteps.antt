@@ -3,11 +3,19 @@ use Rattle.std.specs.Prelude.{◌≡◌, ℕ, ◌+◌, List, ◌++◌}
 use Rattle.std.specs.List.{AllZip}
 use Rattle.claim_tree.specs.Tree.{Text}
 use Rattle.compact_form.specs.declared.fault.Fault.{Fault}
+use Rattle.claim_tree.specs.View.{tree_of}
+use Rattle.disclosure.specs.Digest.{digest_of}
+use Rattle.disclosure.specs.declared.digests.HashAlg.{HashAlg}
+use Rattle.disclosure.specs.declared.disclosure.Disclosure.{Disclosure}
 use Rattle.sdjwt_cli.specs.declared.show.Unshown.{Unshown}
 use Rattle.sdjwt_cli.specs.declared.show.Unshown.TheVariants.{Memory, Fails}
-use Rattle.sdjwt_cli.specs.Show.{IsShown, ShownDisclosure, disclosure, shown_line, shown_lines}
+use Rattle.sdjwt_cli.specs.Show.{IsShown, ShownDisclosure, shown_line, shown_lines}
 
--- for private functions: a line, or all lines, put behind a text
+-- what is shown of a disclosure that is read
+abbrev pub disclosure_shown : Disclosure → ShownDisclosure
+disclosure_shown d = record { digest = digest_of HashAlg.Sha256 d.text; name = d.name; value = tree_of d.value }
+
+-- a line, or all lines, put behind a text
 pub record AddsLine (i : ℕ) (disclosure : Text) (old new : Text) : Type 0 where
   pub shown : ShownDisclosure
   pub is : IsShown disclosure shown

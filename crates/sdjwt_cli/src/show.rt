@@ -10,8 +10,8 @@ ghost use Rattle.jws_part.specs.Header.{IsHeaderUnreadable};
 ghost use Rattle.disclosure.specs.DisclosureRefusals.{IsDisclosureRefused};
 ghost use Rattle.compact_form.specs.Views.{jwt_of};
 ghost use Rattle.sdjwt_cli.specs.Lines.{line};
-ghost use Rattle.sdjwt_cli.specs.Show.{has_known_hash as has_known_hash_of, IsHead, IsShown, IsDisclosureUnread, kind_text, IsShowUnreadAt, Shows, IsShowRefused, DoesNotShow, fault_of};
-ghost use Rattle.sdjwt_cli.specs.ShowSteps.{AddsLine, AddsLines, OnFails};
+ghost use Rattle.sdjwt_cli.specs.Show.{has_known_hash as has_known_hash_of, IsHead, IsShown, IsDisclosureUnread, kind_text, shown_line, IsShowUnreadAt, Shows, IsShowRefused, DoesNotShow, fault_of};
+ghost use Rattle.sdjwt_cli.specs.ShowSteps.{disclosure_shown, AddsLine, AddsLines, OnFails};
 ghost use Rattle.json_form.specs.Token.{IsToken};
 ghost use Rattle.sdjwt_cli.specs.declared.show.Unshown.TheVariants.{Fails};
 ghost use Rattle.sdjwt_cli.specs.Stops.{OnRefused, OnUnread, OnUnreadable};
@@ -79,17 +79,35 @@ fn push_line(
     Ok(())
 }
 
+// The line of a disclosure that is read.
+fn push_read(
+    alloc: Global,
+    text: &mut String,
+    i: usize,
+    disclosure: &Disclosure,
+) -> Result<(), NoMemory>
+    requires { IsRanged (tree_of disclosure.now.value) }
+    ensures { OnOk result (string_bytes text.new ≡ string_bytes text.old ++ shown_line i (disclosure_shown disclosure.now)) }
+{
+    let digest = disclosure.digest(alloc, HashAlg::Sha256)?;
+    let kind = kind(alloc, &disclosure.name)?;
+    let value = write(alloc, &disclosure.value)?;
+    push_line(text, i, digest.as_str(), kind.as_str(), value.as_str())
+}
+
 // The line of a disclosure.
 fn push_shown(alloc: Global, text: &mut String, i: usize, part: &str) -> Result<(), DisclosureError>
     ensures ok { OnOk result (AddsLine i part.now (string_bytes text.old) (string_bytes text.new)) }
     ensures refused { IfErr result (IsDisclosureRefused part.now) }
 {
-    let disclosure = read_disclosure(alloc, part)?;
-    let digest = disclosure.digest(alloc, HashAlg::Sha256)?;
-    let kind = kind(alloc, &disclosure.name)?;
-    let value = write(alloc, &disclosure.value)?;
-    push_line(text, i, digest.as_str(), kind.as_str(), value.as_str())?;
-    Ok(())
+    let disclosure = match read_disclosure(alloc, part) {
+        Ok(disclosure) => disclosure,
+        Err(error) => return Err(error),
+    };
+    match push_read(alloc, text, i, &disclosure) {
+        Ok(()) => Ok(()),
+        Err(NoMemory) => Err(DisclosureError::Memory),
+    }
 }
 
 // Why a token is not shown.
