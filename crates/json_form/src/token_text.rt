@@ -10,8 +10,7 @@ ghost use Rattle.json_form.specs.Printable.{IsPrintable};
 use crate::{Token, TokenError, TokenView, parse_json};
 use claim_tree::TreeMap;
 use compact_form::{
-    COMPACT_MAX, COUNT_MAX, FILE_MAX, Fault, Parts, Place, TOO_LONG, TOO_MUCH, View, is_json,
-    print, read_view, trim,
+    COMPACT_MAX, COUNT_MAX, Condition, FILE_MAX, Parts, View, is_json, print, read_view, trim,
 };
 use sd_outside::{NoMemory, TextBox};
 use std::alloc::Global;
@@ -89,10 +88,7 @@ fn read_json<'a>(alloc: Global, text: &[u8], json: &[u8]) -> Result<TokenText<'a
     ensures refused { (fault : TheFault) → IsErrOf result (TokenError.Fault fault) → IsTextRefused text.now fault }
 {
     if text.len() > FILE_MAX {
-        return Err(TokenError::Fault(Fault {
-            number: TOO_LONG,
-            place: Place::Nowhere,
-        }));
+        return Err(TokenError::Fault(Condition::TooLong.fault()));
     }
     let token = parse_json(alloc, json)?;
     let Token { parts, outer } = token;
@@ -101,10 +97,7 @@ fn read_json<'a>(alloc: Global, text: &[u8], json: &[u8]) -> Result<TokenText<'a
             source: Source::Owned(parts, compact),
             outer,
         }),
-        None => Err(TokenError::Fault(Fault {
-            number: TOO_MUCH,
-            place: Place::Nowhere,
-        })),
+        None => Err(TokenError::Fault(Condition::TooMuch.fault())),
     }
 }
 
