@@ -1,5 +1,5 @@
 // A token with its parts in one compact text, in whichever serialization it comes.
-ghost use Rattle.std.specs.Prelude.{◌≡◌, true, false, IfOk, IfSome, IfNone, IsErrOf};
+ghost use Rattle.std.specs.Prelude.{◌≡◌, ◌≢◌, true, false, IfOk, IfSome, IfNone, IsErrOf};
 ghost use Rattle.compact_form.specs.Compact.{hashed as hashed_of, AreWords, IsCompact};
 ghost use Rattle.compact_form.specs.Trim.{trimmed, is_json as is_json_test};
 ghost use Rattle.compact_form.specs.declared.fault.Fault.{Fault as TheFault};
@@ -54,6 +54,7 @@ fn read_compact<'a>(alloc: Global, text: &'a [u8]) -> Result<TokenText<'a>, Toke
     ensures ok { IfOk result (IsToken text.now) }
     ensures printable { IfOk result IsPrintable }
     ensures refused { (fault : TheFault) → IsErrOf result (TokenError.Fault fault) → IsTextRefused text.now fault }
+    ensures frugal { result ≢ Err TokenError.Memory }
 {
     let view = read_view(text)?;
     Ok(TokenText {
@@ -119,6 +120,9 @@ impl<'a> TokenText<'a> {
         ensures ok { IfOk result (IsToken text.now) }
         ensures printable { IfOk result IsPrintable }
         ensures refused { (fault : TheFault) → IsErrOf result (TokenError.Fault fault) → IsTextRefused text.now fault }
+
+        // a compact text is read without memory
+        ensures frugal { is_json_test (trimmed text.now) ≡ false → result ≢ Err TokenError.Memory }
     {
         let token = trim(text);
         if is_json(token) {
