@@ -2,11 +2,12 @@
 """Runs the vectors of this folder over a program with the words of sdjwt, and tells each that left something else.
 
     python3 vectors/run.py sdjwt                    over the program sdjwt on the path
-    python3 vectors/run.py ./mine -- conditions*    only the tables whose names fit
+    python3 vectors/run.py ./mine 'conditions*'     only the tables whose names fit
     python3 vectors/run.py ./mine --at 'faketime @{moment}'
 
-A vector that names a moment is skipped, unless --at says how the program is run at that moment: the words are put
-before the program, with the moment in seconds since 1970 for {moment}. README.md of this folder tells the rest.
+A vector with a run that names its moment is skipped, unless --at says how the program is run at that moment: the
+words are put before the program, with the moment in seconds since 1970 for {moment}. README.md of this folder tells
+the rest.
 """
 import argparse
 import fnmatch
@@ -32,13 +33,15 @@ def program_of(text):
     return [str(Path(found).resolve()), *words[1:]]
 
 
-def left_by(program, vector, folder):
-    """What the last run of a vector leaves: the status, the output and the line; or what went wrong before it."""
+def left_by(program, at, vector, folder):
+    """What the last run of a vector leaves: the status, the output and the line."""
     for name, text in vector["files"].items():
         (folder / name).write_bytes(text.encode())
     done = None
     for run in vector["runs"]:
-        done = subprocess.run(program + run["words"], cwd=folder, capture_output=True, timeout=60, check=False)
+        clock = shlex.split(at.replace("{moment}", str(run["moment"]))) if "moment" in run else []
+        words = clock + program + run["words"]
+        done = subprocess.run(words, cwd=folder, capture_output=True, timeout=60, check=False)
         if "kept_as" in run:
             (folder / run["kept_as"]).write_bytes(done.stdout)
     return done.returncode, done.stdout, done.stderr
@@ -54,11 +57,11 @@ def due_of(vector, folder):
     return vector["status"], output, line
 
 
-def difference(program, vector):
+def difference(program, at, vector):
     """What came and what was due, where they differ."""
     with tempfile.TemporaryDirectory() as made:
         folder = Path(made)
-        came, due = left_by(program, vector, folder), due_of(vector, folder)
+        came, due = left_by(program, at, vector, folder), due_of(vector, folder)
     if came == due:
         return None
     return f"{vector['name']}\n    came {str(came)[:SHOWN]}\n    due  {str(due)[:SHOWN]}"
@@ -74,24 +77,17 @@ def chosen(patterns):
 def main():
     parser = argparse.ArgumentParser(description=__doc__, formatter_class=argparse.RawDescriptionHelpFormatter)
     parser.add_argument("program", help="the program, or a command line that ends in it")
-    parser.add_argument("--at", metavar="WORDS", help="how it is run at a moment")
+    parser.add_argument("--at", metavar="WORDS", default="", help="how it is run at a moment")
     parser.add_argument("tables", nargs="*", help="names of tables, with * and ?")
     asked = parser.parse_args()
     program = program_of(asked.program)
-    vectors, skipped = list(chosen(asked.tables)), 0
-    work = []
-    for vector in vectors:
-        if "moment" not in vector:
-            work.append((program, vector))
-        elif asked.at:
-            work.append((shlex.split(asked.at.replace("{moment}", str(vector["moment"]))) + program, vector))
-        else:
-            skipped += 1
+    vectors = list(chosen(asked.tables))
+    work = [vector for vector in vectors if asked.at or not any("moment" in run for run in vector["runs"])]
     with ThreadPoolExecutor() as pool:
-        told = [text for text in pool.map(lambda pair: difference(*pair), work) if text]
+        told = [text for text in pool.map(lambda vector: difference(program, asked.at, vector), work) if text]
     for text in told:
         print(text)
-    print(f"{len(work)} run, {len(told)} differ, {skipped} skipped for want of their moment")
+    print(f"{len(work)} run, {len(told)} differ, {len(vectors) - len(work)} skipped for want of their moment")
     return 1 if told else 0
 
 

@@ -19,6 +19,7 @@ from pathlib import Path
 HERE = Path(__file__).resolve().parent
 DATA = HERE.parent / "crates" / "sd_vectors" / "data"
 MOST_BYTES = 5_000
+NOW = 1_700_000_000
 CHARACTERS = {"nul": "\0", "tab": "\t", "return": "\r", "blank": " ", "bom": "\ufeff"}
 
 
@@ -109,6 +110,18 @@ def flattened(compact, members):
     return f'{{"payload":"{payload}","protected":"{protected}","signature":"{signature}","header":{header}}}'
 
 
+def speaks_of_time(text):
+    """Whether a file speaks of time: a key binding token that is wanted, or a claim that a moment is held against."""
+    pieces = [text] + re.findall(r"[A-Za-z0-9_-]{8,}", text)
+    decoded = [text.encode()]
+    for piece in pieces[1:]:
+        try:
+            decoded.append(from_b64url(piece))
+        except ValueError:
+            continue
+    return any(word in data for data in decoded for word in (b'"binding"', b'"exp"', b'"nbf"'))
+
+
 def outcome(due):
     """The status, the output and the line of an outcome."""
     shown, _, line = due.partition(" 2> ") if " 2> " in due else (due, "", "")
@@ -145,10 +158,14 @@ def vector_of(row):
             run = {"words": words.split()}
             if kept:
                 run["kept_as"] = kept
+            if moment is not None:
+                run["moment"] = moment
             runs.append(run)
+    if moment is None and any(map(speaks_of_time, files.values())):
+        for run in runs:
+            if run["words"][:1] in (["verify"], ["present"]):
+                run["moment"] = NOW
     vector = {"files": files, "runs": runs}
-    if moment is not None:
-        vector["moment"] = moment
     vector["status"] = status
     if same_as is None:
         vector["output"] = output
