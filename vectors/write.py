@@ -41,9 +41,11 @@ class Unread(Exception):
 
 def meant(names, short):
     """The text for which a bracket stands."""
-    times = re.fullmatch(r"(\d+)([*^])(.*)", short, re.S)
+    times = re.fullmatch(r"(\d+)([*^/])(.*)", short, re.S)
     if times:
         count, kind, piece = int(times[1]), times[2], times[3]
+        if kind == "/":
+            return names[piece][:count]
         if kind == "^":
             return ",".join(f'"{piece * (i + 1)}"' for i in range(count))
         if "#" in piece:
