@@ -6,11 +6,12 @@ use Rattle.compact_form.specs.Condition.{number_of}
 use Rattle.compact_form.specs.declared.fault.Fault.{Fault}
 use Rattle.compact_form.specs.declared.fault.Place.TheVariants.{Nowhere}
 use Rattle.sdjwt_cli.specs.Lines.{line, refusal}
-use Rattle.sdjwt_cli.specs.Converting.{written, too_much, DoesNotConvert}
+use Rattle.sdjwt_cli.specs.Converting.{IsConvertRefused, written, too_much}
 use Rattle.sdjwt_cli.specs.Stops.{OnRefused}
 use Rattle.sdjwt_cli.proofs.Stopped.{of_refusal}
 use Rattle.sdjwt_cli.proofs.Converted.{converts}
 use Rattle.sdjwt_cli.proofs.convert.convert_token.Goals as goal
+use Rattle.sdjwt_cli.specs.Telling.{TellsFault}
 
 pub returns-clause-refuses : goal.returns-clause-refuses
 returns-clause-refuses c file reads =
@@ -20,7 +21,7 @@ returns-clause-refuses c file reads =
     let long : file_max < length (line (written form token)) = omega (arith, c.len.ensures, c.if-len-le-FILE_MAX.false, ap length whole) in
     let fault : Fault = unplaced Condition.TooMuch in
     let refused = too_much token reads long refl in
-    of_refusal (DoesNotConvert form file) fault (record { fault = fault; refused = refused; line_is = refl }) c.refused.result
+    of_refusal (TellsFault (IsConvertRefused form file)) fault (record { fault = fault; refused = refused; line_is = refl }) c.refused.result
     (subst (λ (f : Fault). OnRefused c.refused.result (λ text. text ≡ refusal f)) c.fault.ensures c.refused.ensures.line)
 
 pub returns-then-len-le-FILE_MAX-clause-converts : goal.returns-then-len-le-FILE_MAX-clause-converts
