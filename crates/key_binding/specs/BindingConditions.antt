@@ -13,10 +13,6 @@ use Rattle.jws_part.specs.Times.{IsTimeUnreadable, IsExpired, IsNotYet}
 use Rattle.key_binding.specs.Binding.{Claims}
 use Rattle.key_binding.specs.Judged.{Judged, holder_key, HasBindingHeader, HasClaims}
 
--- the header is not read, or wants an extension to be understood
-abbrev pub IsHeaderRefused : Judged → Type 0
-IsHeaderRefused j = IsHeaderUnreadable j.token.protected no_members ⊎ IsHeaderCritical j.token.protected no_members
-
 -- the header is read, and this is not so of it
 abbrev pub OfHeader : Judged → (Header → Type 0) → Type 0
 OfHeader j P = (header : Header) × HasBindingHeader j.token header × P header
@@ -44,7 +40,7 @@ IsTimeRefused body skew now = IsTimeUnreadable body ⊎ (IsExpired body skew now
 -- what fails each condition, where no lower one fails
 abbrev pub BindingFails : Judged → Condition → Place → Type 0
 BindingFails j Condition.HolderKeyUnknown place = Unplaced (holder_key j.policy.keys j.payload ≡ None) place
-BindingFails j Condition.BindingHeader place = Unplaced (IsHeaderRefused j) place
+BindingFails j Condition.BindingHeader place = Unplaced (IsHeaderUnreadable j.token.protected no_members ⊎ IsHeaderCritical j.token.protected no_members) place
 BindingFails j Condition.BindingAlg place = Unplaced (OfHeader j (λ header. header.alg ≢ codes "HS256")) place
 BindingFails j Condition.BindingSignature place = Unplaced (IsBadBindingSignature j) place
 BindingFails j Condition.BindingType place = Unplaced (OfHeader j (λ header. header.typ ≢ Some (codes "kb+jwt"))) place
