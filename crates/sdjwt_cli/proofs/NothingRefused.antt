@@ -18,7 +18,7 @@ use Rattle.selection_core.specs.Consent.{RuleAnswers, IsRefusedAt}
 use Rattle.selection_core.specs.ChoiceRefusals.{IsMissing}
 use Rattle.issuer_core.specs.Digests.{marked_claims}
 use Rattle.issuer_core.specs.Order.{Order}
-use Rattle.issuer_core.specs.OrderRefusals.{NoneApplies}
+use Rattle.compact_form.specs.Lowest.{NoneApplies}
 use Rattle.issuer_core.specs.OrderRefusals as issuing
 use Rattle.holder_core.specs.declared.ask.Ask.{Ask}
 use Rattle.holder_core.specs.declared.ask.BindingAsk.{BindingAsk}
@@ -100,7 +100,7 @@ module _ (seed : List ℕ) (o : Order) (key : List ℕ) (parts : Parts) (passes 
 
     pub nothing_refused : (error : PresentError) → error ≢ Memory → error ≢ SignFailed → IsNotPresented answers rule text ask (IsGood signing) now error → ⊥
     nothing_refused error memory signed (no_memory e) = memory e
-    nothing_refused error memory signed (not_read fault e h) = is_text.passes fault h.fails
+    nothing_refused error memory signed (not_read fault e h) = is_text.passes fault h.applies
     nothing_refused error memory signed (refused token there h) =
         refuses_nothing error memory signed
         (subst (λ (t : Token). IsNoAnswer answers rule t ask (IsGood signing) now error) (one_token token there) h)
