@@ -1,14 +1,9 @@
-use Rattle.std.proofs.Common.{ℕ, [], ◌∷◌, ◌++◌, length-append, string_bytes, append_assoc, append-nil, sym, ap, ◌∙◌, arith, rules}
-use Rattle.compact_form.specs.Condition as condition
-use Rattle.compact_form.specs.Condition.{number_of}
-use Rattle.compact_form.specs.declared.fault.Fault.{Fault}
-use Rattle.compact_form.specs.declared.fault.Place.TheVariants.{At}
+use Rattle.std.proofs.Common.{[], ◌∷◌, ◌++◌, length-append, string_bytes, append_assoc, append-nil, sym, ap, ◌∙◌, arith, rules}
+use Rattle.compact_form.specs.Faults.{placed}
+use Rattle.compact_form.specs.declared.condition.Condition.{Condition}
 use Rattle.verifier_core.proofs.CheckTests.{unread_of}
 use Rattle.sdjwt_cli.proofs.Shown.{zip_more, line_more}
 use Rattle.sdjwt_cli.proofs.show.push_all_shown.Goals as goal
-
-abbrev at_place : ℕ → Fault
-at_place i = record { number = number_of condition.disclosure_unreadable; place = At i }
 
 pub loop-i-init : goal.loop-i-init
 loop-i-init c = record {
@@ -49,5 +44,5 @@ returns-in-Err-clause-unread c =
       stand = l.stand ∙ ap (λ w. l.done ++ w) c.in-Some.ensures.steps.0;
       read = l.are;
       unread = unread_of c.in-Some.part.now c.in-Err.field-0 c.in-Err.ensures.refused (search rules);
-      fault_is = ap at_place (c.in-Some.ensures.steps.1 ∙ l.counted);
+      fault_is = c.fault_at.ensures ∙ ap (placed Condition.DisclosureUnreadable) (c.in-Some.ensures.steps.1 ∙ l.counted);
     }
