@@ -109,10 +109,10 @@ of_a_refused_place = refl
 
 -- a path leads to itself and to what is inside it
 not_shown : MayBeShown ((codes "a" ∷ []) ∷ []) (codes "a" ∷ codes "b" ∷ []) → ⊥
-not_shown h = h (codes "a" ∷ []) (inl refl) (codes "b" ∷ [], refl)
+not_shown h = h (codes "a" ∷ []) (inl refl) refl
 
 none_is_shown : MayBeShown ([] ∷ []) [] → ⊥
-none_is_shown h = h [] (inl refl) ([], refl)
+none_is_shown h = h [] (inl refl) refl
 
 all_are_shown : MayBeShown [] (codes "a" ∷ [])
 all_are_shown front is = absurd is
