@@ -1,7 +1,7 @@
 -- What each command answers over its files, by its definition.
 use Rattle.std.specs.Prelude.{◌≡◌, ℕ, List, [], ◌∷◌, Option, IfSome, IsSomeAnd, take}
 use Rattle.std.specs.List.{AllZip}
-use Rattle.sdjwt_cli.specs.Command.{Command, split, show, verify, issue, present, convert, NamedFile, files_of}
+use Rattle.sdjwt_cli.specs.Command.{Command, split, show, verify, issue, present, convert, gen, NamedFile, files_of}
 use Rattle.sdjwt_cli.specs.Split.{Splits, DoesNotSplit}
 use Rattle.sdjwt_cli.specs.Show.{Shows, DoesNotShow}
 use Rattle.sdjwt_cli.specs.Verify.{Verifies, DoesNotVerify, HasNoPolicy}
@@ -9,6 +9,7 @@ use Rattle.sdjwt_cli.specs.Issuing.{Issues, DoesNotIssue, HasNoOrder}
 use Rattle.sdjwt_cli.specs.Presenting.{Presents, DoesNotPresent, HasNoPresentOrder}
 use Rattle.sdjwt_cli.specs.declared.form.Form.{Form}
 use Rattle.sdjwt_cli.specs.Converting.{Converts, DoesNotConvert}
+use Rattle.sdjwt_cli.specs.Summary.{Summarizes, DoesNotSummarize}
 
 -- the bytes for standard output, or the line of a refusal, or that of a file that is not of its form
 pub data Reply : Type 0 where
@@ -46,6 +47,11 @@ ConvertAnswers form file (gives answer) = Converts form file answer
 ConvertAnswers form file (refuses text) = DoesNotConvert form file text
 ConvertAnswers form file (unreadable text) = ⊥
 
+abbrev pub GenAnswers : ℕ → Reply → Type 0
+GenAnswers count (gives answer) = Summarizes count answer
+GenAnswers count (refuses text) = DoesNotSummarize count text
+GenAnswers count (unreadable text) = ⊥
+
 -- the verdict of a command over its files, at a moment
 abbrev pub Answers : Command → List (List ℕ) → ℕ → Reply → Type 0
 Answers (split token) [] now verdict = ⊥
@@ -69,6 +75,8 @@ Answers (present order token) (file ∷ other ∷ more ∷ files) now verdict = 
 Answers (convert form token) [] now verdict = ⊥
 Answers (convert form token) (file ∷ []) now verdict = ConvertAnswers form file verdict
 Answers (convert form token) (file ∷ more ∷ files) now verdict = ⊥
+Answers (gen count) [] now verdict = GenAnswers count verdict
+Answers (gen count) (file ∷ files) now verdict = ⊥
 
 -- each file is what a fetch answers, where the cabinet tells it
 abbrev pub AreFetched : (List ℕ → Option (List ℕ)) → Command → List (List ℕ) → Type 0

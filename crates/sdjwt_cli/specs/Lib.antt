@@ -18,3 +18,7 @@ pub mod PresentingSteps
 pub mod ConvertingSteps
 pub mod ShowSteps
 pub mod PresentedValues
+pub mod Generated
+pub mod Summary
+pub mod GeneratedSteps
+pub mod SummarySteps
