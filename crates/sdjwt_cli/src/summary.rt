@@ -1,13 +1,10 @@
 // The command `gen`: an order of a number of members is issued, presented and verified, and what there is of it counted.
-ghost use Rattle.std.specs.Prelude.{◌≡◌, ◌≤◌, ◌++◌, [], ℕ, length, IfOk, IfErr, OnOk, string_bytes};
-ghost use Rattle.claim_tree.specs.Tree.{IsRanged};
-ghost use Rattle.claim_tree.specs.JsonText.{json_text};
-ghost use Rattle.claim_tree.specs.View.{tree_of};
-ghost use Rattle.compact_form.specs.Compact.{compact};
+ghost use Rattle.std.specs.Prelude.{◌≡◌, IfOk, IfErr, string_bytes};
+ghost use Rattle.compact_form.specs.Compact.{AreWords};
 ghost use Rattle.sdjwt_cli.specs.Generated.{generated, generated_seed, generated_key};
 ghost use Rattle.sdjwt_cli.specs.Issuing.{IsIssuedBy};
 ghost use Rattle.sdjwt_cli.specs.Stops.{OnRefused, OnUnread, OnUnreadable};
-ghost use Rattle.sdjwt_cli.specs.Summary.{Summarizes, DoesNotSummarize, count_line, summary_lines};
+ghost use Rattle.sdjwt_cli.specs.Summary.{Summarizes, DoesNotSummarize, summary_lines};
 ghost use Rattle.sdjwt_cli.specs.SummarySteps.{IsPresentedOf, IsAcceptable, IsVerified};
 
 use crate::generated::{ask_of, key, order_of, policy};
@@ -31,7 +28,7 @@ const SEED: [u8; SEED_LEN] = [0; SEED_LEN];
 const NOW: u64 = 0;
 
 // What is issued for the order of a number of members.
-fn issued(alloc: Global, count: u32) -> Result<Parts, Stop>
+fn issue_order(alloc: Global, count: u32) -> Result<Parts, Stop>
     ensures issued { IfOk result (IsIssuedBy generated_seed (generated count) generated_key) }
     ensures refuses { IfErr result (λ stop. OnRefused stop (DoesNotSummarize count)) }
     ensures readable { IfErr result (λ stop. OnUnreadable stop (λ _. ⊥)) }
@@ -46,9 +43,10 @@ fn issued(alloc: Global, count: u32) -> Result<Parts, Stop>
 }
 
 // What is presented of it.
-fn presented(alloc: Global, count: u32, issued: &Parts) -> Result<Parts, NoMemory>
-    requires issued { IsIssuedBy generated_seed (generated count) generated_key issued.now }
-    ensures { IfOk result (IsPresentedOf count issued.now) }
+fn present_issued(alloc: Global, count: u32, issued: &Parts) -> Result<Parts, NoMemory>
+    requires { IsIssuedBy generated_seed (generated count) generated_key issued.now }
+    ensures presented { IfOk result (IsPresentedOf count issued.now) }
+    ensures words { IfOk result AreWords }
 {
     let token = print(alloc, issued)?;
     let ask = ask_of(alloc, count)?;
@@ -62,8 +60,9 @@ fn presented(alloc: Global, count: u32, issued: &Parts) -> Result<Parts, NoMemor
 }
 
 // The claims that are verified, and how many digests were looked up.
-fn verified(alloc: Global, presented: &Parts) -> Result<(Tree, u64), NoMemory>
-    requires { IsAcceptable presented.now }
+fn verify_presented(alloc: Global, presented: &Parts) -> Result<(Tree, u64), NoMemory>
+    requires words { AreWords presented.now }
+    requires acceptable { IsAcceptable presented.now }
     ensures { IfOk result (λ found. IsVerified presented.now found.0 found.1) }
 {
     let token = print(alloc, presented)?;
@@ -76,11 +75,45 @@ fn verified(alloc: Global, presented: &Parts) -> Result<(Tree, u64), NoMemory>
     }
 }
 
-fn push_count(text: &mut String, word: &str, count: u64) -> Result<(), NoMemory>
-    ensures { OnOk result (string_bytes text.new ≡ string_bytes text.old ++ count_line word.now count) }
+// The lines of what is counted.
+fn summary_text(
+    alloc: Global,
+    hidden: u64,
+    presented: u64,
+    digests: u64,
+    bytes: u64,
+) -> Result<String, NoMemory>
+    ensures { IfOk result (λ text. string_bytes text ≡ summary_lines hidden presented digests bytes) }
 {
-    writeln!(text, "{word} {count}")?;
-    Ok(())
+    Ok(format!(in alloc; "hidden {hidden}\npresented {presented}\ndigests {digests}\nbytes {bytes}\n")?)
+}
+
+// The answer for what is issued and presented.
+fn count_presented(
+    alloc: Global,
+    count: u32,
+    issued: &Parts,
+    presented: &Parts,
+) -> Result<String, NoMemory>
+    requires issued { IsIssuedBy generated_seed (generated count) generated_key issued.now }
+    requires presented { IsPresentedOf count issued.now presented.now }
+    requires words { AreWords presented.now }
+    ensures { IfOk result (λ text. Summarizes count (string_bytes text)) }
+{
+    let (claims, look_ups) = verify_presented(alloc, presented)?;
+    let hidden = issued.disclosures.len() as u64;
+    let shown = presented.disclosures.len() as u64;
+    let json = write(alloc, &claims)?;
+    summary_text(alloc, hidden, shown, look_ups - shown, json.as_str().len() as u64)
+}
+
+// The answer for what is issued.
+fn summarize(alloc: Global, count: u32, issued: &Parts) -> Result<String, NoMemory>
+    requires { IsIssuedBy generated_seed (generated count) generated_key issued.now }
+    ensures { IfOk result (λ text. Summarizes count (string_bytes text)) }
+{
+    let presented = present_issued(alloc, count, issued)?;
+    count_presented(alloc, count, issued, &presented)
 }
 
 /// The answer for the order of a number of members.
@@ -90,17 +123,8 @@ pub(crate) fn summary(alloc: Global, count: u32) -> Result<String, Stop>
     ensures readable { IfErr result (λ stop. OnUnreadable stop (λ _. ⊥)) }
     ensures read { IfErr result (λ stop. OnUnread stop (λ _. ⊥)) }
 {
-    let issued = match issued(alloc, count) {
-        Ok(parts) => parts,
-        Err(stop) => return Err(stop),
-    };
-    let presented = presented(alloc, count, &issued)?;
-    let shown = presented.disclosures.len() as u64;
-    let (claims, look_ups) = verified(alloc, &presented)?;
-    let mut text = String::new(alloc);
-    push_count(&mut text, "hidden", issued.disclosures.len() as u64)?;
-    push_count(&mut text, "presented", shown)?;
-    push_count(&mut text, "digests", look_ups - shown)?;
-    push_count(&mut text, "bytes", write(alloc, &claims)?.as_str().len() as u64)?;
-    Ok(text)
+    match issue_order(alloc, count) {
+        Ok(issued) => Ok(summarize(alloc, count, &issued)?),
+        Err(stop) => Err(stop),
+    }
 }
