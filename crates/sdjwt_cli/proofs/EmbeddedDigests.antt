@@ -128,11 +128,11 @@ picked_from {X} s t first same (x ∷ xs) =
     ∙ sym (sum_by-cons (λ k. if t k then 1 else 0) first (range_with_len (first + 1) (length xs)))
   where
     first_counts : (b : Bool) (ys : List X) → length (first_if b x ys) ≡ (if b then 1 else 0) + length ys
-    first_counts true ys = refl
-    first_counts false ys = refl
+    first_counts true ys = omega arith
+    first_counts false ys = omega arith
 
 pub length_picked : {X : Type 0} (s : ℕ → Bool) (xs : List X) → length (picked s xs) ≡ count_by s (range_with_len 0 (length xs))
-length_picked s xs = picked_from s s 0 (λ k. refl) xs
+length_picked s xs = picked_from s s 0 (λ k. ap s (let none : k ≡ 0 + k = omega arith in none)) xs
 
 pub fewer_picked : {X : Type 0} (s : ℕ → Bool) (xs : List X) → length (picked s xs) ≤ length xs
 fewer_picked s [] = omega arith

@@ -29,7 +29,7 @@ shallow zero = omega arith
 shallow (suc n) = let more = depth-inserted (members_below n) (member_name n) (member_value n) in omega (arith, more, shallow n)
 
 value_ranged : (i : ℕ) → i < 2 ^ 32 → IsRanged (member_value i)
-value_ranged i low = (omega (arith, low), (omega (arith, low), omega (arith, low), tt), tt)
+value_ranged i low = (omega (arith, low), ((omega (arith, low), (omega (arith, low), tt)), tt))
 
 pub all_ranged : (n : ℕ) → n ≤ 2 ^ 32 → MembersRanged (members_below n)
 all_ranged zero low = tt
@@ -41,14 +41,15 @@ lower a b l d = grind arith
 -- each has the value of a number
 named : (n i : ℕ) → i < n → (j : ℕ) × (member_named (members_below n) (member_name i) ≡ Some (member_value j))
 named zero i low = absurd (omega (arith, low))
-named (suc n) i low = go (bytes_eq (member_name n) (member_name i)) refl
+named (suc n) i low = go (bytes_eq (member_name n) (member_name i)) refl (named n i)
   where
-    go : (b : Bool) → bytes_eq (member_name n) (member_name i) ≡ b → (j : ℕ) × (member_named (members_below (suc n)) (member_name i) ≡ Some (member_value j))
-    go true e =
+    go : (b : Bool) → bytes_eq (member_name n) (member_name i) ≡ b → (i < n → (j : ℕ) × (member_named (members_below n) (member_name i) ≡ Some (member_value j)))
+        → (j : ℕ) × (member_named (members_below (suc n)) (member_name i) ≡ Some (member_value j))
+    go true e ih =
         let same : member_name n ≡ member_name i = bytes_same (member_name n) (member_name i) e in
         (n, ap (member_named (members_below (suc n))) (sym same) ∙ named_inserted (members_below n) (member_name n) (member_value n))
-    go false e =
-        let rest = named n i (lower i n low (λ same. let clash : false ≡ true = sym e ∙ bytes_refl (member_name n) (member_name i) (ap member_name (sym same)) in cc clash)) in
+    go false e ih =
+        let rest = ih (lower i n low (λ same. let clash : false ≡ true = sym e ∙ bytes_refl (member_name n) (member_name i) (ap member_name (sym same)) in cc clash)) in
         (rest.0, other_inserted (members_below n) (member_name n) (member_value n) (member_name i) e ∙ rest.1)
 
 -- no other name is there
@@ -60,16 +61,17 @@ none_named name other (suc n) = other_inserted (members_below n) (member_name n)
 
 path_in : (k : ℕ) (inside : Path) (n : ℕ) (path : Path) → In path (paths_below k inside n) → (i : ℕ) × (i < n) × (path ≡ member_name i ∷ inside)
 path_in k inside zero path there = absurd there
-path_in k inside (suc n) path there = go (In-append path (paths_below k inside n) (if n % k == 0 then (member_name n ∷ inside) ∷ [] else []) there)
+path_in k inside (suc n) path there = go (path_in k inside n path) (In-append path (paths_below k inside n) (if n % k == 0 then (member_name n ∷ inside) ∷ [] else []) there)
   where
     one : (b : Bool) → In path (if b then (member_name n ∷ inside) ∷ [] else []) → (i : ℕ) × (i < suc n) × (path ≡ member_name i ∷ inside)
     one true (inl same) = (n, omega arith, same)
     one true (inr none) = absurd none
     one false none = absurd none
 
-    go : In path (paths_below k inside n) ⊎ In path (if n % k == 0 then (member_name n ∷ inside) ∷ [] else []) → (i : ℕ) × (i < suc n) × (path ≡ member_name i ∷ inside)
-    go (inl earlier) = let found = path_in k inside n path earlier in let low = found.1 in (found.0, omega (arith, low), found.2)
-    go (inr here) = one (n % k == 0) here
+    go : (In path (paths_below k inside n) → (i : ℕ) × (i < n) × (path ≡ member_name i ∷ inside)) → In path (paths_below k inside n) ⊎ In path (if n % k == 0 then (member_name n ∷ inside) ∷ [] else [])
+        → (i : ℕ) × (i < suc n) × (path ≡ member_name i ∷ inside)
+    go ih (inl earlier) = let found = ih earlier in let low = found.1 in (found.0, omega (arith, low), found.2)
+    go ih (inr here) = one (n % k == 0) here
 
 wanted_there : (n : ℕ) (path : Path) → In path (generated_ask n).want → tree_at (generated n).claims path ≢ None
 wanted_there n path there none =

@@ -86,7 +86,7 @@ from_step k p cs b there = go (In-append p (above k cs) (own_path b k) there)
 -- it begins with the step
 head_is : (k : Text) (p : Path) (cs : List Path) (b : Bool) → FromStep k p cs b → (rest : Path) × (p ≡ k ∷ rest)
 head_is k p cs b (inside q there e) = (q, e)
-head_is k p cs b (itself yes e) = ([], e)
+head_is k p cs b (itself passes e) = ([], e)
 
 first_step : (k l : Text) (p q : Path) → ◌≡◌ {A = Path} (k ∷ p) (l ∷ q) → k ≡ l
 first_step k l p q e = cc e
@@ -96,25 +96,25 @@ other_steps k l p q e = cc e
 
 member_head : (h : Path → Bool) (ms : Members) (p : Path) → In p (closing_members h ms) → (k : Text) × (rest : Path) × In k (names ms) × (p ≡ k ∷ rest)
 member_head h no_members p there = absurd there
-member_head h (member k t ms) p there = go (In-append p (step_paths h k t) (closing_members h ms) there)
+member_head h (member k t ms) p there = go (member_head h ms p) (In-append p (step_paths h k t) (closing_members h ms) there)
   where
-    go : In p (step_paths h k t) ⊎ In p (closing_members h ms) → (l : Text) × (rest : Path) × In l (k ∷ names ms) × (p ≡ l ∷ rest)
-    go (inl here) =
+    go : (In p (closing_members h ms) → (l : Text) × (rest : Path) × In l (names ms) × (p ≡ l ∷ rest)) → In p (step_paths h k t) ⊎ In p (closing_members h ms) → (l : Text) × (rest : Path) × In l (k ∷ names ms) × (p ≡ l ∷ rest)
+    go ih (inl here) =
         let w = head_is k p (closing (below k h) t) (h (k ∷ [])) (from_step k p (closing (below k h) t) (h (k ∷ [])) here) in
         (k, w.0, inl refl, w.1)
-    go (inr later) = let w = member_head h ms p later in (w.0, w.1, inr w.2, w.3)
+    go ih (inr later) = let w = ih later in (w.0, w.1, inr w.2, w.3)
 
 element_head : (h : Path → Bool) (i : ℕ) (es : Elements) (p : Path) → In p (closing_elements h i es) → (j : ℕ) × (rest : Path) × (i ≤ j) × (j < i + elements_len es) × (p ≡ decimal j ∷ rest)
 element_head h i no_elements p there = absurd there
-element_head h i (element t es) p there = go (In-append p (step_paths h (decimal i) t) (closing_elements h (suc i) es) there)
+element_head h i (element t es) p there = go (element_head h (suc i) es p) (In-append p (step_paths h (decimal i) t) (closing_elements h (suc i) es) there)
   where
-    go : In p (step_paths h (decimal i) t) ⊎ In p (closing_elements h (suc i) es)
+    go : (In p (closing_elements h (suc i) es) → (j : ℕ) × (rest : Path) × (suc i ≤ j) × (j < suc i + elements_len es) × (p ≡ decimal j ∷ rest)) → In p (step_paths h (decimal i) t) ⊎ In p (closing_elements h (suc i) es)
         → (j : ℕ) × (rest : Path) × (i ≤ j) × (j < i + elements_len (element t es)) × (p ≡ decimal j ∷ rest)
-    go (inl here) =
+    go ih (inl here) =
         let w = head_is (decimal i) p (closing (below (decimal i) h) t) (h (decimal i ∷ [])) (from_step (decimal i) p (closing (below (decimal i) h) t) (h (decimal i ∷ [])) here) in
         (i, w.0, omega arith, omega arith, w.1)
-    go (inr later) =
-        let w = element_head h (suc i) es p later in
+    go ih (inr later) =
+        let w = ih later in
         let low = w.2 in
         let high = w.3 in
         (w.0, w.1, omega (arith, low), omega (arith, high), w.4)
@@ -170,69 +170,76 @@ mutual
 -- ---- they are the hidden paths
 
 -- each of them passes
+step_passes : (h : Path → Bool) (k : Text) (t : Tree) (p : Path) → ((q : Path) → In q (closing (below k h) t) → h (k ∷ q) ≡ true) → FromStep k p (closing (below k h) t) (h (k ∷ [])) → h p ≡ true
+step_passes h k t p inner (inside q there e) = ap h e ∙ inner q there
+step_passes h k t p inner (itself passes e) = ap h e ∙ passes
+
 mutual
   closing_passes : (h : Path → Bool) (t : Tree) (p : Path) → In p (closing h t) → h p ≡ true
   closing_passes h (leaf l) p there = absurd there
   closing_passes h (array es) p there = elements_pass h 0 es p there
   closing_passes h (object ms) p there = members_pass h ms p there
 
-  step_passes : (h : Path → Bool) (k : Text) (t : Tree) (p : Path) → FromStep k p (closing (below k h) t) (h (k ∷ [])) → h p ≡ true
-  step_passes h k t p (inside q there e) = ap h e ∙ closing_passes (below k h) t q there
-  step_passes h k t p (itself yes e) = ap h e ∙ yes
-
   elements_pass : (h : Path → Bool) (i : ℕ) (es : Elements) (p : Path) → In p (closing_elements h i es) → h p ≡ true
   elements_pass h i no_elements p there = absurd there
-  elements_pass h i (element t es) p there = go (In-append p (step_paths h (decimal i) t) (closing_elements h (suc i) es) there)
+  elements_pass h i (element t es) p there = go (closing_passes (below (decimal i) h) t) (elements_pass h (suc i) es p) (In-append p (step_paths h (decimal i) t) (closing_elements h (suc i) es) there)
     where
-      go : In p (step_paths h (decimal i) t) ⊎ In p (closing_elements h (suc i) es) → h p ≡ true
-      go (inl here) = step_passes h (decimal i) t p (from_step (decimal i) p (closing (below (decimal i) h) t) (h (decimal i ∷ [])) here)
-      go (inr later) = elements_pass h (suc i) es p later
+      go : ((q : Path) → In q (closing (below (decimal i) h) t) → h (decimal i ∷ q) ≡ true) → (In p (closing_elements h (suc i) es) → h p ≡ true) → In p (step_paths h (decimal i) t) ⊎ In p (closing_elements h (suc i) es) → h p ≡ true
+      go inner rest (inl here) = step_passes h (decimal i) t p inner (from_step (decimal i) p (closing (below (decimal i) h) t) (h (decimal i ∷ [])) here)
+      go inner rest (inr later) = rest later
 
   members_pass : (h : Path → Bool) (ms : Members) (p : Path) → In p (closing_members h ms) → h p ≡ true
   members_pass h no_members p there = absurd there
-  members_pass h (member k t ms) p there = go (In-append p (step_paths h k t) (closing_members h ms) there)
+  members_pass h (member k t ms) p there = go (closing_passes (below k h) t) (members_pass h ms p) (In-append p (step_paths h k t) (closing_members h ms) there)
     where
-      go : In p (step_paths h k t) ⊎ In p (closing_members h ms) → h p ≡ true
-      go (inl here) = step_passes h k t p (from_step k p (closing (below k h) t) (h (k ∷ [])) here)
-      go (inr later) = members_pass h ms p later
+      go : ((q : Path) → In q (closing (below k h) t) → h (k ∷ q) ≡ true) → (In p (closing_members h ms) → h p ≡ true) → In p (step_paths h k t) ⊎ In p (closing_members h ms) → h p ≡ true
+      go inner rest (inl here) = step_passes h k t p inner (from_step k p (closing (below k h) t) (h (k ∷ [])) here)
+      go inner rest (inr later) = rest later
 
 own_there : (b : Bool) (k : Text) → b ≡ true → In (k ∷ []) (own_path b k)
 own_there true k e = inl refl
 own_there false k e = cc e
 
 -- each that passes and leads somewhere is one of them
+abbrev AreThere : (Path → Bool) → Tree → Type 0
+AreThere h t = (l : Text) (q : Path) → tree_at t (l ∷ q) ≢ None → h (l ∷ q) ≡ true → In (l ∷ q) (closing h t)
+
+step_there : (h : Path → Bool) (t : Tree) (k : Text) (p : Path) → AreThere (below k h) t → tree_at t p ≢ None → h (k ∷ p) ≡ true → In (k ∷ p) (step_paths h k t)
+step_there h t k [] inner leads passes = In-right (k ∷ []) (above k (closing (below k h) t)) (own_path (h (k ∷ [])) k) (own_there (h (k ∷ [])) k passes)
+step_there h t k (l ∷ p) inner leads passes =
+    In-left (k ∷ l ∷ p) (above k (closing (below k h) t)) (own_path (h (k ∷ [])) k) (In-map (λ (q : Path). k ∷ q) (l ∷ p) (closing (below k h) t) (inner l p leads passes))
+
 mutual
   closing_there : (h : Path → Bool) (t : Tree) (k : Text) (p : Path) → tree_at t (k ∷ p) ≢ None → h (k ∷ p) ≡ true → In (k ∷ p) (closing h t)
   closing_there h (leaf l) k p leads passes = absurd (leads refl)
   closing_there h (array es) k p leads passes = element_there h 0 es k p leads passes
   closing_there h (object ms) k p leads passes = member_there h ms k p leads passes
 
-  step_there : (h : Path → Bool) (t : Tree) (k : Text) (p : Path) → tree_at t p ≢ None → h (k ∷ p) ≡ true → In (k ∷ p) (step_paths h k t)
-  step_there h t k [] leads passes = In-right (k ∷ []) (above k (closing (below k h) t)) (own_path (h (k ∷ [])) k) (own_there (h (k ∷ [])) k passes)
-  step_there h t k (l ∷ p) leads passes =
-      In-left (k ∷ l ∷ p) (above k (closing (below k h) t)) (own_path (h (k ∷ [])) k) (In-map (λ (q : Path). k ∷ q) (l ∷ p) (closing (below k h) t) (closing_there (below k h) t l p leads passes))
-
   element_there : (h : Path → Bool) (i : ℕ) (es : Elements) (k : Text) (p : Path) → option_and_then (λ u. tree_at u p) (element_on es i k) ≢ None → h (k ∷ p) ≡ true → In (k ∷ p) (closing_elements h i es)
   element_there h i no_elements k p leads passes = absurd (leads refl)
-  element_there h i (element t es) k p leads passes = go (bytes_eq (decimal i) k) refl leads
+  element_there h i (element t es) k p leads passes = go (closing_there (below (decimal i) h) t) (element_there h (suc i) es k p) (bytes_eq (decimal i) k) refl leads
     where
-      go : (b : Bool) → bytes_eq (decimal i) k ≡ b → option_and_then (λ u. tree_at u p) (if b then Some t else element_on es (suc i) k) ≢ None → In (k ∷ p) ((step_paths h (decimal i) t) ++ closing_elements h (suc i) es)
-      go true e here =
+      go : AreThere (below (decimal i) h) t
+          → (option_and_then (λ u. tree_at u p) (element_on es (suc i) k) ≢ None → h (k ∷ p) ≡ true → In (k ∷ p) (closing_elements h (suc i) es))
+          → (b : Bool) → bytes_eq (decimal i) k ≡ b → option_and_then (λ u. tree_at u p) (if b then Some t else element_on es (suc i) k) ≢ None → In (k ∷ p) ((step_paths h (decimal i) t) ++ closing_elements h (suc i) es)
+      go inner rest true e here =
           let same : decimal i ≡ k = bytes_same (decimal i) k e in
           In-left (k ∷ p) (step_paths h (decimal i) t) (closing_elements h (suc i) es)
-          (subst (λ (l : Text). In (l ∷ p) (step_paths h (decimal i) t)) same (step_there h t (decimal i) p here (ap (λ (l : Text). h (l ∷ p)) same ∙ passes)))
-      go false e later = In-right (k ∷ p) (step_paths h (decimal i) t) (closing_elements h (suc i) es) (element_there h (suc i) es k p later passes)
+          (subst (λ (l : Text). In (l ∷ p) (step_paths h (decimal i) t)) same (step_there h t (decimal i) p inner here (ap (λ (l : Text). h (l ∷ p)) same ∙ passes)))
+      go inner rest false e later = In-right (k ∷ p) (step_paths h (decimal i) t) (closing_elements h (suc i) es) (rest later passes)
 
   member_there : (h : Path → Bool) (ms : Members) (k : Text) (p : Path) → option_and_then (λ u. tree_at u p) (member_named ms k) ≢ None → h (k ∷ p) ≡ true → In (k ∷ p) (closing_members h ms)
   member_there h no_members k p leads passes = absurd (leads refl)
-  member_there h (member l t ms) k p leads passes = go (bytes_eq l k) refl leads
+  member_there h (member l t ms) k p leads passes = go (closing_there (below l h) t) (member_there h ms k p) (bytes_eq l k) refl leads
     where
-      go : (b : Bool) → bytes_eq l k ≡ b → option_and_then (λ u. tree_at u p) (if b then Some t else member_named ms k) ≢ None → In (k ∷ p) ((step_paths h l t) ++ closing_members h ms)
-      go true e here =
+      go : AreThere (below l h) t
+          → (option_and_then (λ u. tree_at u p) (member_named ms k) ≢ None → h (k ∷ p) ≡ true → In (k ∷ p) (closing_members h ms))
+          → (b : Bool) → bytes_eq l k ≡ b → option_and_then (λ u. tree_at u p) (if b then Some t else member_named ms k) ≢ None → In (k ∷ p) ((step_paths h l t) ++ closing_members h ms)
+      go inner rest true e here =
           let same : l ≡ k = bytes_same l k e in
           In-left (k ∷ p) (step_paths h l t) (closing_members h ms)
-          (subst (λ (m : Text). In (m ∷ p) (step_paths h l t)) same (step_there h t l p here (ap (λ (m : Text). h (m ∷ p)) same ∙ passes)))
-      go false e later = In-right (k ∷ p) (step_paths h l t) (closing_members h ms) (member_there h ms k p later passes)
+          (subst (λ (m : Text). In (m ∷ p) (step_paths h l t)) same (step_there h t l p inner here (ap (λ (m : Text). h (m ∷ p)) same ∙ passes)))
+      go inner rest false e later = In-right (k ∷ p) (step_paths h l t) (closing_members h ms) (rest later passes)
 
 among : (ps : List Path) (p : Path) → In p ps → is_among ps p ≡ true
 among [] p there = absurd there

@@ -47,7 +47,7 @@ use Rattle.holder_core.specs.declared.ask.BindingAsk.{BindingAsk}
 use Rattle.holder_core.specs.Present.{picked, PicksParts, NamesKey, IsBoundBy, IsBoundWith, IsBoundAs}
 use Rattle.holder_core.proofs.PickedNumbers.{numbers, rising, enumerates, is_pick, zip_picked}
 use Rattle.sdjwt_cli.specs.Lines.{line}
-use Rattle.sdjwt_cli.specs.Presented.{alone}
+use Rattle.sdjwt_cli.specs.Tokens.{alone}
 use Rattle.sdjwt_cli.specs.Suits.{Suits, shown_for}
 use Rattle.sdjwt_cli.specs.PresentedValues.{AreShort}
 use Rattle.sdjwt_cli.proofs.CompactLines.{line_token}

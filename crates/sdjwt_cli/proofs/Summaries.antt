@@ -1,17 +1,25 @@
 -- What `gen` counts of a token that is issued, presented and verified.
-use Rattle.std.proofs.Common.{◌≡◌, ◌≢◌, ℕ, suc, ◌+◌, ◌-◌, ◌<◌, ◌≤◌, ◌^◌, Bool, List, [], ◌∷◌, length, refl, sym, ap, ap₂, ◌∙◌, arith}
+use Rattle.std.proofs.Common.{◌≡◌, ◌≢◌, ℕ, suc, ◌+◌, ◌-◌, ◌<◌, ◌≤◌, ◌^◌, Bool, List, [], ◌∷◌, length, refl, sym, ap, ap₂, subst, ◌∙◌, arith}
 use Rattle.std.specs.List.{AllZip, count_by, range_with_len}
-use Rattle.claim_tree.specs.Tree.{Text, Tree}
+use Rattle.claim_tree.specs.Tree.{Tree, IsRanged}
 use Rattle.claim_tree.specs.View.{tree_of}
 use Rattle.claim_tree.specs.JsonText.{json_text}
 use Rattle.claim_tree.specs.declared.tree.Tree as code
 use Rattle.compact_form.specs.declared.parts.Parts.{Parts}
+use Rattle.compact_form.specs.declared.fault.Fault.{Fault}
 use Rattle.compact_form.specs.Compact.{compact}
+use Rattle.compact_form.specs.Lowest.{IsLowest}
 use Rattle.digest_sites.specs.Given.{Given}
 use Rattle.hmac_sign.specs.Hmac.{IsGood}
 use Rattle.marked_tree.specs.Marked.{Marked, strip}
 use Rattle.marked_tree.specs.Paths.{chosen}
-use Rattle.verifier_core.specs.Verdict.{HasContent}
+use Rattle.json_form.specs.Token.{IsToken}
+use Rattle.json_form.specs.declared.token.Token.{Token}
+use Rattle.json_form.proofs.Tokens as tokens
+use Rattle.verifier_core.specs.Check.{IsCounted}
+use Rattle.verifier_core.specs.Verdict.{Fails, HasContent}
+use Rattle.verifier_core.specs.Verdicts.{IsAcceptedAs}
+use Rattle.verifier_core.specs.declared.policy.Policy.{Policy}
 use Rattle.verifier_core.proofs.CheckSteps.{one_content}
 use Rattle.verifier_core.proofs.OneVerdict as verdicts
 use Rattle.rebuild_core.specs.LookUps.{look_ups, counted}
@@ -26,7 +34,7 @@ use Rattle.holder_core.specs.Present.{picked, IsNotPresented}
 use Rattle.sdjwt_cli.specs.Generated.{generated, generated_seed, generated_key, generated_ask, generated_policy}
 use Rattle.sdjwt_cli.specs.Issuing.{IsIssuedBy}
 use Rattle.sdjwt_cli.specs.Never.{never_rule}
-use Rattle.sdjwt_cli.specs.Presented.{alone}
+use Rattle.sdjwt_cli.specs.Tokens.{alone}
 use Rattle.sdjwt_cli.specs.PresentedValues.{IsAcceptedWith, IsShownAt, IsShownOf}
 use Rattle.sdjwt_cli.specs.Suits.{shown_for}
 use Rattle.sdjwt_cli.specs.Summary.{Summarizes, hidden_paths, chosen_places, embedded_digests, shown_length, summary_lines}
@@ -139,21 +147,43 @@ module _ (n : ℕ) (issued : Parts) (is_issued : IsIssuedBy generated_seed (gene
           let b = accepted_with.accepted (compact presented) accepted_with.reads in
           a.2 ∙ (ap strip (verdicts.one_accepted (compact presented) generated_policy 0 a.0 b.0 a.1 b.1) ∙ sym b.2)
 
-      lines_are : summary_lines (length issued.disclosures) (length presented.disclosures) (many - length presented.disclosures) (length (json_text (tree_of found)))
-          ≡ summary_lines (hidden_paths n) (chosen_places n) (embedded_digests is.has.payload given) (shown_length n)
-      lines_are =
-          ap (λ k. summary_lines k (length presented.disclosures) (many - length presented.disclosures) (length (json_text (tree_of found)))) hidden_is
-          ∙ ap (λ k. summary_lines (hidden_paths n) k (many - length presented.disclosures) (length (json_text (tree_of found)))) chosen_is
-          ∙ ap (λ k. summary_lines (hidden_paths n) (chosen_places n) k (length (json_text (tree_of found)))) digests_are
-          ∙ ap (λ (t : Tree). summary_lines (hidden_paths n) (chosen_places n) (embedded_digests is.has.payload given) (length (json_text t))) claims_are
+      lines_are : (hidden shown bytes : ℕ) → hidden ≡ length issued.disclosures → shown ≡ length presented.disclosures → bytes ≡ length (json_text (tree_of found))
+          → summary_lines hidden shown (many - shown) bytes ≡ summary_lines (hidden_paths n) (chosen_places n) (embedded_digests is.has.payload given) (shown_length n)
+      lines_are hidden shown bytes h k b =
+          ap (λ m. summary_lines m shown (many - shown) bytes) (h ∙ hidden_is)
+          ∙ ap (λ m. summary_lines (hidden_paths n) shown m bytes) (ap (λ m. many - m) k ∙ digests_are)
+          ∙ ap (λ m. summary_lines (hidden_paths n) m (embedded_digests is.has.payload given) bytes) (k ∙ chosen_is)
+          ∙ ap (λ m. summary_lines (hidden_paths n) (chosen_places n) (embedded_digests is.has.payload given) m) (b ∙ ap (λ (t : Tree). length (json_text t)) claims_are)
 
-      pub summarizes : (text : List ℕ) → text ≡ summary_lines (length issued.disclosures) (length presented.disclosures) (many - length presented.disclosures) (length (json_text (tree_of found))) → Summarizes n text
-      summarizes text written = record {
+      pub summarizes : (hidden shown bytes : ℕ) → hidden ≡ length issued.disclosures → shown ≡ length presented.disclosures → bytes ≡ length (json_text (tree_of found))
+          → (text : List ℕ) → text ≡ summary_lines hidden shown (many - shown) bytes → Summarizes n text
+      summarizes hidden shown bytes h k b text written = record {
         issued = issued;
         presented = presented;
         shown = record { is_issued = is_issued; is_presented = is_presented; marked = verified.accepted.0; is_accepted = verified.accepted.1 };
         payload = is.has.payload;
         given = given;
         content = has_content;
-        lines = written ∙ lines_are;
+        lines = written ∙ lines_are hidden shown bytes h k b;
       }
+
+-- ---- what the verifier answers
+
+module _ (presented : Parts) (ok : IsAcceptable presented) (text : List ℕ) (text_is : text ≡ compact presented) (policy : Policy) (policy_is : policy ≡ generated_policy) where
+  pub not_refused : (fault : Fault) → IsLowest (Fails text policy 0) fault → ⊥
+  not_refused fault lowest =
+      let here = subst (λ (t : List ℕ). IsLowest (Fails t policy 0) fault) text_is lowest in
+      let under = subst (λ (p : Policy). IsLowest (Fails (compact presented) p 0) fault) policy_is here in
+      let accepted = ok.1.accepted (compact presented) ok.1.reads in
+      verdicts.accepted_not_refused (compact presented) generated_policy 0 accepted.0 fault accepted.1 under
+
+  one_token : (token : Token) → IsToken text token → token ≡ alone presented
+  one_token token there = tokens.one (compact presented) token (alone presented) (subst (λ (t : List ℕ). IsToken t token) text_is there) ok.1.reads
+
+  pub is_verified : (claims : code.Tree) → IsAcceptedAs text policy 0 (tree_of claims) → IsRanged (tree_of claims)
+      → (old new count : ℕ) → old ≡ 0 → count ≡ new → (token : Token) → IsToken text token → IsCounted token old new → IsVerified presented claims count
+  is_verified claims accepted ranged old new count none same token there counted = record {
+    accepted = subst (λ (p : Policy). IsAcceptedAs (compact presented) p 0 (tree_of claims)) policy_is (subst (λ (t : List ℕ). IsAcceptedAs t policy 0 (tree_of claims)) text_is accepted);
+    ranged = ranged;
+    counted = subst (λ (many : ℕ). IsCounted (alone presented) 0 many) (sym same) (subst (λ (first : ℕ). IsCounted (alone presented) first new) none (subst (λ (t : Token). IsCounted t old new) (one_token token there) counted));
+  }

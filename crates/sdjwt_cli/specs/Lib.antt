@@ -13,6 +13,7 @@ pub mod Presenting
 pub mod Forms
 pub mod Converting
 pub mod Suits
+pub mod Tokens
 pub mod Presented
 pub mod PresentingSteps
 pub mod ConvertingSteps

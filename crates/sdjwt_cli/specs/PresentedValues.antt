@@ -15,7 +15,7 @@ use Rattle.holder_core.specs.declared.errors.PresentError.{PresentError}
 use Rattle.holder_core.specs.declared.errors.PresentError.TheVariants.{Memory, SignFailed}
 use Rattle.sdjwt_cli.specs.Issuing.{IsIssuedBy}
 use Rattle.sdjwt_cli.specs.Suits.{Suits, shown_for}
-use Rattle.sdjwt_cli.specs.Presented.{alone}
+use Rattle.sdjwt_cli.specs.Tokens.{alone}
 use Rattle.sd_outside.specs.Limits.{binding_text_max}
 use Rattle.holder_core.specs.declared.ask.BindingAsk.{BindingAsk}
 

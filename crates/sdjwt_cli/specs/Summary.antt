@@ -24,7 +24,7 @@ use Rattle.sdjwt_cli.specs.Generated.{generated, generated_seed, generated_key, 
 use Rattle.sdjwt_cli.specs.Issuing.{IsIssuedBy}
 use Rattle.sdjwt_cli.specs.Lines.{line}
 use Rattle.sdjwt_cli.specs.Never.{never_rule}
-use Rattle.sdjwt_cli.specs.Presented.{alone}
+use Rattle.sdjwt_cli.specs.Tokens.{alone}
 use Rattle.sdjwt_cli.specs.Suits.{shown_for}
 
 -- ---- what is counted

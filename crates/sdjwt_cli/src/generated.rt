@@ -1,8 +1,7 @@
 // What `gen` issues, asks for and verifies, by the number of its members.
-ghost use Rattle.std.specs.Prelude.{◌≡◌, ◌≤◌, ◌<◌, ◌≢◌, ◌∷◌, ◌++◌, IfOk, IfSome, OnOk};
-ghost use Rattle.claim_tree.specs.Tree.{object};
+ghost use Rattle.std.specs.Prelude.{◌≡◌, ◌≢◌, ◌∷◌, ◌++◌, ℕ, List, IfOk, OnOk};
+ghost use Rattle.std.specs.Fmt.{decimal};
 ghost use Rattle.claim_tree.specs.View.{tree_of};
-ghost use Rattle.hmac_sign.specs.Keys.{IsKeySet};
 ghost use Rattle.issuer_core.specs.Order.{order_of as order_in};
 ghost use Rattle.sdjwt_cli.specs.Generated as spec;
 ghost use Rattle.sdjwt_cli.specs.Generated.{members_below, hidden_below, paths_below, generated, generated_key, generated_keys, generated_ask, generated_policy};
@@ -27,7 +26,13 @@ const KEY: [u8; 32] = [1; 32];
 pub(crate) fn count_of(word: &str) -> Option<u32>
     ensures { result ≡ spec.count_of word.now }
 {
-    let count = position(word, MEMBERS_MAX + 1)?;
+    within_limits(position(word, MEMBERS_MAX + 1)?)
+}
+
+// A number of members: from 1 to the most.
+fn within_limits(count: usize) -> Option<u32>
+    ensures { (word : List ℕ) → decimal count ≡ word → result ≡ spec.count_of word }
+{
     if count == 0 || MEMBERS_MAX < count {
         return None;
     }
