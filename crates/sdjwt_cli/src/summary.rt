@@ -1,10 +1,10 @@
 // The command `gen`: an order of a number of members is issued, presented and verified, and what there is of it counted.
-ghost use Rattle.std.specs.Prelude.{◌≡◌, IfOk, IfErr, string_bytes};
+ghost use Rattle.std.specs.Prelude.{◌≡◌, ◌++◌, IfOk, IfErr, OnOk, string_bytes};
 ghost use Rattle.compact_form.specs.Compact.{AreWords};
 ghost use Rattle.sdjwt_cli.specs.Generated.{generated, generated_seed, generated_key};
 ghost use Rattle.sdjwt_cli.specs.Issuing.{IsIssuedBy};
 ghost use Rattle.sdjwt_cli.specs.Stops.{OnRefused, OnUnread, OnUnreadable};
-ghost use Rattle.sdjwt_cli.specs.Summary.{Summarizes, DoesNotSummarize, summary_lines};
+ghost use Rattle.sdjwt_cli.specs.Summary.{Summarizes, DoesNotSummarize, count_line, summary_lines};
 ghost use Rattle.sdjwt_cli.specs.SummarySteps.{IsPresentedOf, IsAcceptable, IsVerified};
 
 use crate::generated::{ask_of, key, order_of, policy};
@@ -75,6 +75,14 @@ fn verify_presented(alloc: Global, presented: &Parts) -> Result<(Tree, u64), NoM
     }
 }
 
+// The line of one count.
+fn push_count(text: &mut String, word: &str, count: u64) -> Result<(), NoMemory>
+    ensures { OnOk result (string_bytes text.new ≡ string_bytes text.old ++ count_line word.now count) }
+{
+    writeln!(text, "{word} {count}")?;
+    Ok(())
+}
+
 // The lines of what is counted.
 fn summary_text(
     alloc: Global,
@@ -85,7 +93,12 @@ fn summary_text(
 ) -> Result<String, NoMemory>
     ensures { IfOk result (λ text. string_bytes text ≡ summary_lines hidden presented digests bytes) }
 {
-    Ok(format!(in alloc; "hidden {hidden}\npresented {presented}\ndigests {digests}\nbytes {bytes}\n")?)
+    let mut text = String::new(alloc);
+    push_count(&mut text, "hidden", hidden)?;
+    push_count(&mut text, "presented", presented)?;
+    push_count(&mut text, "digests", digests)?;
+    push_count(&mut text, "bytes", bytes)?;
+    Ok(text)
 }
 
 // The answer for what is issued and presented.
