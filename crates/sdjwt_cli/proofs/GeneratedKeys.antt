@@ -1,5 +1,5 @@
 -- The key set of `gen`: its JSON is read as the one key.
-use Rattle.std.proofs.Common.{◌≡◌, ◌≢◌, ℕ, List, [], ◌∷◌, None, replicate, refl, subst, arith}
+use Rattle.std.proofs.Common.{◌≡◌, ◌≢◌, ℕ, List, [], None, replicate, refl, subst, arith}
 use Rattle.json.proofs.Printed.Utf8.{IsUtf8-are_ascii}
 use Rattle.sd_outside.specs.Limits.{key_min}
 use Rattle.b64url_text.specs.Base64url.{b64, Decodes}

@@ -1,5 +1,5 @@
 -- How many places of an order are hidden: as many as it has different paths.
-use Rattle.std.proofs.Common.{◌≡◌, ◌≢◌, ◌⊎◌, inl, inr, ℕ, suc, ◌+◌, ◌<◌, ◌≤◌, ◌^◌, List, [], ◌∷◌, ◌++◌, map, length, Bool, true, false, ◌&&◌, bytes_eq, decimal, Option, Some, None, refl, sym, ap, subst, ◌∙◌, arith}
+use Rattle.std.proofs.Common.{◌≡◌, ◌≢◌, ◌⊎◌, inl, inr, ℕ, suc, ◌+◌, ◌<◌, ◌≤◌, ◌^◌, List, [], ◌∷◌, ◌++◌, map, Bool, true, false, ◌&&◌, bytes_eq, decimal, Some, None, refl, sym, ap, subst, ◌∙◌, arith}
 use Rattle.std.specs.Prelude.{option_and_then, if◌then◌else◌}
 use Rattle.std.specs.List.{IsDistinct, AllByRecursion}
 use Rattle.std.specs.Set.{distinct_count}
@@ -7,7 +7,7 @@ use Rattle.std.proofs.lemmas.Fmt.{decimal_injective}
 use Rattle.std.proofs.lemmas.Map.Keys.{IsDistinct-head, IsDistinct-tail, IsDistinct-cons, IsDistinct-from_apart}
 use Rattle.std.proofs.lemmas.Map.Made.{length-from_keys}
 use Rattle.claim_tree.specs.Tree.{Text, Tree, leaf, array, object, Elements, no_elements, element, elements_len, Members, no_members, member, member_named, names, IsOrdered, ElementsOrdered, MembersOrdered}
-use Rattle.claim_tree.specs.Lists.{StandsAt, In}
+use Rattle.claim_tree.specs.Lists.{In}
 use Rattle.claim_tree.specs.Path.{tree_at, element_on}
 use Rattle.claim_tree.proofs.Lists.{bytes_same, bytes_refl, or_left, or_right, In-left, In-right, In-append, In-map, In-of_map, In-At, list_any-In}
 use Rattle.marked_tree.specs.Paths.{Path, below, is_among, same_path}
@@ -148,12 +148,12 @@ mutual
       (step_distinct (decimal i) (closing (below (decimal i) h) t) (h (decimal i ∷ [])) (closing_distinct (below (decimal i) h) t o.0 s.0) (no_root (below (decimal i) h) t))
       (elements_distinct h (suc i) es o.1 s.1 (omega (arith, few)))
       (λ p here later.
-          let w = head_is (decimal i) p (closing (below (decimal i) h) t) (h (decimal i ∷ [])) (from_step (decimal i) p (closing (below (decimal i) h) t) (h (decimal i ∷ [])) here) in
-          let v = element_head h (suc i) es p later in
-          let low = v.2 in
-          let high = v.3 in
-          let same : i ≡ v.0 = decimal_injective i v.0 (omega (arith, low, high, few)) (omega (arith, high, few)) (first_step (decimal i) (decimal v.0) w.0 v.1 (sym w.1 ∙ v.4)) in
-          omega (arith, same, low))
+      let w = head_is (decimal i) p (closing (below (decimal i) h) t) (h (decimal i ∷ [])) (from_step (decimal i) p (closing (below (decimal i) h) t) (h (decimal i ∷ [])) here) in
+      let v = element_head h (suc i) es p later in
+      let low = v.2 in
+      let high = v.3 in
+      let same : i ≡ v.0 = decimal_injective i v.0 (omega (arith, low, high, few)) (omega (arith, high, few)) (first_step (decimal i) (decimal v.0) w.0 v.1 (sym w.1 ∙ v.4)) in
+      omega (arith, same, low))
 
   members_distinct : (h : Path → Bool) (ms : Members) → MembersOrdered ms → MembersShort ms → IsDistinct same_path (closing_members h ms)
   members_distinct h no_members o s = none_distinct
@@ -162,10 +162,10 @@ mutual
       (step_distinct k (closing (below k h) t) (h (k ∷ [])) (closing_distinct (below k h) t o.1 s.0) (no_root (below k h) t))
       (members_distinct h ms o.2 s.1)
       (λ p here later.
-          let w = head_is k p (closing (below k h) t) (h (k ∷ [])) (from_step k p (closing (below k h) t) (h (k ∷ [])) here) in
-          let v = member_head h ms p later in
-          let same : k ≡ v.0 = first_step k v.0 w.0 v.1 (sym w.1 ∙ v.3) in
-          IsBeforeAll-not_in k (names ms) o.0 (subst (λ (l : Text). In l (names ms)) (sym same) v.2))
+      let w = head_is k p (closing (below k h) t) (h (k ∷ [])) (from_step k p (closing (below k h) t) (h (k ∷ [])) here) in
+      let v = member_head h ms p later in
+      let same : k ≡ v.0 = first_step k v.0 w.0 v.1 (sym w.1 ∙ v.3) in
+      IsBeforeAll-not_in k (names ms) o.0 (subst (λ (l : Text). In l (names ms)) (sym same) v.2))
 
 -- ---- they are the hidden paths
 

@@ -11,7 +11,7 @@ use Rattle.compact_form.specs.Compact.{compact}
 use Rattle.compact_form.specs.Lowest.{IsLowest}
 use Rattle.digest_sites.specs.Given.{Given}
 use Rattle.hmac_sign.specs.Hmac.{IsGood}
-use Rattle.marked_tree.specs.Marked.{Marked, strip}
+use Rattle.marked_tree.specs.Marked.{strip}
 use Rattle.marked_tree.specs.Paths.{chosen}
 use Rattle.json_form.specs.Token.{IsToken}
 use Rattle.json_form.specs.declared.token.Token.{Token}

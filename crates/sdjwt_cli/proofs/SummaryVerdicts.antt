@@ -1,5 +1,5 @@
 -- The command `gen` has one verdict.
-use Rattle.std.proofs.Common.{◌≡◌, ℕ, List, [], refl, ap, ap₂, subst, ◌∙◌, sym}
+use Rattle.std.proofs.Common.{◌≡◌, ℕ, List, [], ap, ap₂, subst, ◌∙◌, sym}
 use Rattle.claim_tree.specs.Tree.{Tree}
 use Rattle.compact_form.specs.declared.parts.Parts.{Parts}
 use Rattle.compact_form.specs.Compact.{compact}

@@ -1,5 +1,5 @@
 -- For private functions: the set of the key of what is generated, as JSON.
-use Rattle.std.specs.Prelude.{List, [], ◌∷◌, codes, replicate}
+use Rattle.std.specs.Prelude.{codes, replicate}
 use Rattle.sd_outside.specs.Limits.{key_min}
 use Rattle.b64url_text.specs.Base64url.{b64}
 use Rattle.claim_tree.specs.Tree.{Tree, leaf, text, array, object, no_elements, element, no_members, member}

@@ -18,7 +18,6 @@ use Rattle.compact_form.specs.declared.fault.Place.TheVariants.{Nowhere, At}
 use Rattle.compact_form.specs.declared.parts.JwtParts.{JwtParts}
 use Rattle.json_form.specs.declared.token.Token.{Token}
 use Rattle.json_form.specs.Token.{IsTextRefused, IsToken}
-use Rattle.sdjwt_cli.specs.declared.show.Unshown.TheVariants.{Memory}
 use Rattle.sdjwt_cli.specs.Lines.{line, refusal}
 use Rattle.sdjwt_cli.specs.Split.{binding_line}
 

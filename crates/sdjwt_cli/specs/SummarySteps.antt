@@ -1,5 +1,5 @@
 -- For private functions: what the steps of `gen` answer.
-use Rattle.std.specs.Prelude.{◌≡◌, ℕ, List, []}
+use Rattle.std.specs.Prelude.{ℕ, []}
 use Rattle.claim_tree.specs.Tree.{Tree, IsRanged}
 use Rattle.claim_tree.specs.View.{tree_of}
 use Rattle.claim_tree.specs.declared.tree.Tree as code

@@ -116,8 +116,10 @@ fn count_presented(
     let (claims, look_ups) = verify_presented(alloc, presented)?;
     let hidden = issued.disclosures.len() as u64;
     let shown = presented.disclosures.len() as u64;
+    let digests = look_ups - shown;
     let json = write(alloc, &claims)?;
-    summary_text(alloc, hidden, shown, look_ups - shown, json.as_str().len() as u64)
+    let bytes = json.as_str().len() as u64;
+    summary_text(alloc, hidden, shown, digests, bytes)
 }
 
 // The answer for what is issued.

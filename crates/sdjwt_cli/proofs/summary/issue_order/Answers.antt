@@ -1,4 +1,4 @@
-use Rattle.std.proofs.Common.{◌≡◌, ◌≢◌, List, ℕ, Err, ap, sym, subst, ◌∙◌, rules, arith}
+use Rattle.std.proofs.Common.{◌≢◌, List, ℕ, Err, ap, sym, subst, ◌∙◌, rules, arith}
 use Rattle.claim_tree.specs.Tree.{depth, IsRanged}
 use Rattle.hmac_sign.specs.Hmac.{IsGood}
 use Rattle.issuer_core.specs.declared.errors.IssueError.TheVariants.{Memory, SignFailed}
@@ -6,7 +6,7 @@ use Rattle.issuer_core.specs.Issue.{AppliesToIssue}
 use Rattle.issuer_core.specs.Order.{Order, order_of}
 use Rattle.issuer_core.specs.OrderRefusals.{IsLowestRefusal}
 use Rattle.issuer_core.specs.Seed.{maker_of}
-use Rattle.sdjwt_cli.specs.Generated.{generated, generated_seed, generated_key}
+use Rattle.sdjwt_cli.specs.Generated.{generated_seed, generated_key}
 use Rattle.sdjwt_cli.specs.Issuing.{IsIssuedBy}
 use Rattle.sdjwt_cli.specs.Lines.{line}
 use Rattle.sdjwt_cli.proofs.GeneratedOrder.{shallow, all_ranged}
