@@ -8,10 +8,10 @@ pub mod Walks
 pub mod TreeTokens
 pub mod Datas
 pub mod RoundTrip
+pub mod Everywheres
 pub mod TreeTexts
 pub mod OneTree
 pub mod ReadOrdered
-pub mod PathFronts
 mod PointerEscapes
 mod PointerTildes
 mod PointerPieces
@@ -19,6 +19,7 @@ pub mod PointerTexts
 pub mod PointerRule
 mod Examples
 pub mod MemberNames
+pub mod ObjectTrees
 pub mod FileMembers
 pub mod FileVerdicts
 pub mod ListForms

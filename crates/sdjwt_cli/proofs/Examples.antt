@@ -5,13 +5,14 @@ use Rattle.json.specs.Print.{escape_byte}
 use Rattle.b64url_text.specs.Base64url.{letters, is_letter}
 use Rattle.claim_tree.specs.Tree.{Text, Tree, leaf, text, object, Members, no_members, member}
 use Rattle.compact_form.specs.declared.fault.Place.TheVariants.{Nowhere, At}
-use Rattle.compact_form.specs.Condition as condition
+use Rattle.compact_form.specs.Faults.{placed, unplaced}
+use Rattle.compact_form.specs.declared.condition.Condition.{Condition}
 use Rattle.compact_form.specs.Condition.{number_of}
 use Rattle.compact_form.specs.declared.parts.Parts.{Parts}
 use Rattle.compact_form.specs.Compact.{IsCompact}
 use Rattle.compact_form.proofs.Examples.{bound, presented, no_tilde}
 use Rattle.compact_form.proofs.Verdicts.{reads, refused_form}
-use Rattle.json_form.specs.Token.{IsToken}
+use Rattle.json_form.specs.Token.{IsTextRefused, IsToken}
 use Rattle.json_form.specs.declared.token.Token.{Token}
 use Rattle.json_form.proofs.Tokens.{refused_plainly, read_plainly}
 use Rattle.disclosure.proofs.Examples.{salt, value, a_disclosure, its_digest}
@@ -26,10 +27,12 @@ use Rattle.sdjwt_cli.specs.declared.form.Form.TheVariants.{Compact, Flat, Genera
 use Rattle.sdjwt_cli.specs.Command.{split, verify, issue, present, convert, command_of}
 use Rattle.sdjwt_cli.specs.Lines.{line, refusal, unread_text, unreadable_line, short_seed}
 use Rattle.sdjwt_cli.specs.Never.{MayBeShown}
-use Rattle.sdjwt_cli.specs.Presenting.{present_refusal}
-use Rattle.sdjwt_cli.specs.Split.{Splits, DoesNotSplit}
-use Rattle.sdjwt_cli.specs.Show.{ShownDisclosure, show_lines, Shows, has_known_hash}
+use Rattle.holder_core.specs.PresentRefusal.{present_refusal_text}
+use Rattle.sdjwt_cli.specs.Split.{Splits}
+use Rattle.digest_sites.specs.Given.{Given}
+use Rattle.sdjwt_cli.specs.Show.{show_lines, Shows, has_known_hash}
 use Rattle.sdjwt_cli.specs.Converting.{written}
+use Rattle.sdjwt_cli.specs.Telling.{TellsFault}
 
 -- ---- the words
 
@@ -62,11 +65,11 @@ one_word_more = refl
 
 -- ---- lines of standard error
 
-at_a_byte : refusal (record { number = number_of condition.form; place = At 5 }) ≡ codes "refused 2 form at 5\n"
+at_a_byte : refusal (placed Condition.Form 5) ≡ codes "refused 2 form at 5\n"
 unfolding digits
 at_a_byte = refl
 
-nowhere : refusal (record { number = number_of condition.too_long; place = Nowhere }) ≡ codes "refused 1 tooLong\n"
+nowhere : refusal (unplaced Condition.TooLong) ≡ codes "refused 1 tooLong\n"
 unfolding digits
 nowhere = refl
 
@@ -96,10 +99,11 @@ of_a_long_token : line (issue_refusal_text IssueTooLong) ≡ codes "refused 61 i
 unfolding digits
 of_a_long_token = refl
 
-of_a_bound_token : present_refusal HasBinding ≡ codes "refused 71 hasBinding\n"
+of_a_bound_token : line (present_refusal_text HasBinding) ≡ codes "refused 71 hasBinding\n"
+unfolding digits
 of_a_bound_token = refl
 
-of_a_refused_place : present_refusal (ConsentRefused 1) ≡ codes "refused 73 consentRefused at 1\n"
+of_a_refused_place : line (present_refusal_text (ConsentRefused 1)) ≡ codes "refused 73 consentRefused at 1\n"
 unfolding digits
 of_a_refused_place = refl
 
@@ -127,11 +131,11 @@ of_a_presentation : Splits (codes "a.b.c~d~e.f.g") (codes "protected a\npayload 
 unfolding digits
 of_a_presentation = record { token = token_of bound no_members; reads = is_read; lines = refl }
 
-of_a_jwt : DoesNotSplit (codes "a.b.c") (codes "refused 2 form at 5\n")
+of_a_jwt : TellsFault (IsTextRefused (codes "a.b.c")) (codes "refused 2 form at 5\n")
 unfolding digits
 of_a_jwt = record {
-  fault = record { number = number_of condition.form; place = At 5 };
-  refused = refused_plainly (codes "a.b.c") (record { number = number_of condition.form; place = At 5 }) refl (refused_form (codes "a.b.c") (record { number = number_of condition.form; place = At 5 }) 5 refl refl no_tilde);
+  fault = placed Condition.Form 5;
+  refused = refused_plainly (codes "a.b.c") (placed Condition.Form 5) refl (refused_form (codes "a.b.c") (placed Condition.Form 5) 5 refl refl no_tilde);
   line_is = refl;
 }
 
@@ -167,7 +171,7 @@ header = object alg_alone
 abbrev payload : Tree
 payload = object sd_alg_alone
 
-abbrev shown : Option Text → ShownDisclosure
+abbrev shown : Option Text → Given
 shown name = record { digest = codes "qswwxPH-MjwEMOgKBBv2x2CF7lufmWFrWvVq7pj7YJE"; name = name; value = value }
 
 of_a_token : Shows token (codes "header {\"alg\":\"HS256\"}\npayload {\"_sd_alg\":\"sha-256\"}\ndisclosure 0 qswwxPH-MjwEMOgKBBv2x2CF7lufmWFrWvVq7pj7YJE element \"FR\"\n")
@@ -180,7 +184,7 @@ of_a_token = record {
   payload = payload;
   body = record { body = a_body; hash = refl };
   shown = shown None ∷ [];
-  disclosures = (record { salt = salt; is = a_disclosure; digest_is = sym its_digest }, tt);
+  disclosures = ((sym its_digest, salt, a_disclosure), tt);
   lines = refl;
 }
 

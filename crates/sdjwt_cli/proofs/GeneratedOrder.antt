@@ -18,7 +18,8 @@ use Rattle.verifier_core.proofs.ClaimSteps.{claim_numbers, before_missing, befor
 use Rattle.issuer_core.specs.Digests.{marked_claims}
 use Rattle.sdjwt_cli.specs.Generated.{number, member_name, member_value, members_below, paths_below, hidden_below, to_a, to_second, generated, generated_key, generated_ask, generated_policy}
 use Rattle.sdjwt_cli.specs.Never.{never_rule}
-use Rattle.sdjwt_cli.specs.Suits.{Suits, shown_for}
+use Rattle.holder_core.specs.Present.{shown_for}
+use Rattle.sdjwt_cli.specs.Suits.{Suits}
 use Rattle.sdjwt_cli.proofs.KeptClaims.{NonePasses, claim_kept}
 use Rattle.sdjwt_cli.proofs.NeverShown.{unrefused}
 
@@ -73,7 +74,7 @@ path_in k inside (suc n) path there = go (path_in k inside n path) (In-append pa
     go ih (inl earlier) = let found = ih earlier in let low = found.1 in (found.0, omega (arith, low), found.2)
     go ih (inr here) = one (n % k == 0) here
 
-wanted_there : (n : ℕ) (path : Path) → In path (generated_ask n).want → tree_at (generated n).claims path ≢ None
+wanted_there : (n : ℕ) (path : Path) → In path (generated_ask n).want → tree_at (generated n).payload path ≢ None
 wanted_there n path there none =
     let at = path_in 4 to_a n path there in
     let value = named n at.0 at.1 in
@@ -105,22 +106,22 @@ none_hidden name other n p =
 
 -- ---- the claims that are shown
 
-not_shown : (name : Text) → ((i : ℕ) → bytes_eq name (member_name i) ≡ false) → ((i : ℕ) → bytes_eq (member_name i) name ≡ false) → (n : ℕ) → get (shown_for (generated n) (generated_ask n).want) name ≡ None
+not_shown : (name : Text) → ((i : ℕ) → bytes_eq name (member_name i) ≡ false) → ((i : ℕ) → bytes_eq (member_name i) name ≡ false) → (n : ℕ) → get (shown_for (marked_claims (generated n)) (generated_ask n).want) name ≡ None
 not_shown name other turned n =
     claim_kept (object (members_below n)) (hidden_below n) name (none_hidden name other n) (chosen (marked_claims (generated n)) (generated_ask n).want) ∙ none_named name turned n
 
-no_expiry : (n : ℕ) → get (shown_for (generated n) (generated_ask n).want) (codes "exp") ≡ None
+no_expiry : (n : ℕ) → get (shown_for (marked_claims (generated n)) (generated_ask n).want) (codes "exp") ≡ None
 no_expiry n = not_shown (codes "exp") (λ i. refl) (λ i. refl) n
 
-no_start : (n : ℕ) → get (shown_for (generated n) (generated_ask n).want) (codes "nbf") ≡ None
+no_start : (n : ℕ) → get (shown_for (marked_claims (generated n)) (generated_ask n).want) (codes "nbf") ≡ None
 no_start n = not_shown (codes "nbf") (λ i. refl) (λ i. refl) n
 
 absent : (o : Option Tree) (t : Tree) → o ≡ None → o ≡ Some t → ⊥
 absent o t none some = cc (sym none ∙ some)
 
-claims_hold : (n : ℕ) → NoneFails (ClaimFails (shown_for (generated n) (generated_ask n).want) generated_policy 0)
+claims_hold : (n : ℕ) → NoneFails (ClaimFails (shown_for (marked_claims (generated n)) (generated_ask n).want) generated_policy 0)
 claims_hold n =
-    let shown = shown_for (generated n) (generated_ask n).want in
+    let shown = shown_for (marked_claims (generated n)) (generated_ask n).want in
     let issuer = before_missing shown generated_policy 0 (λ iss wanted other. cc wanted) in
     let required = before_times shown generated_policy 0 issuer (λ i name is. absurd is) in
     let readable = before_expiry shown generated_policy 0 required unreadable in
@@ -129,9 +130,9 @@ claims_hold n =
     (holds_too (ClaimFails shown generated_policy 0) condition.not_yet fresh (λ place h. absent (get shown (codes "nbf")) _ (no_start n) h.1.1))
     (λ c place h. let range = claim_numbers shown generated_policy 0 c place h in range.1)
   where
-    unreadable : IsTimeUnreadable (shown_for (generated n) (generated_ask n).want) → ⊥
-    unreadable (inl h) = absent (get (shown_for (generated n) (generated_ask n).want) (codes "exp")) h.0 (no_expiry n) h.1
-    unreadable (inr h) = absent (get (shown_for (generated n) (generated_ask n).want) (codes "nbf")) h.0 (no_start n) h.1
+    unreadable : IsTimeUnreadable (shown_for (marked_claims (generated n)) (generated_ask n).want) → ⊥
+    unreadable (inl h) = absent (get (shown_for (marked_claims (generated n)) (generated_ask n).want) (codes "exp")) h.0 (no_expiry n) h.1
+    unreadable (inr h) = absent (get (shown_for (marked_claims (generated n)) (generated_ask n).want) (codes "nbf")) h.0 (no_start n) h.1
 
 pub generated_suits : (n : ℕ) → Suits never_rule [] (generated n) generated_key (generated_ask n) generated_key generated_policy 0 0
 generated_suits n = record {

@@ -6,6 +6,7 @@ use Rattle.std.specs.Set.{distinct_count}
 use Rattle.std.proofs.lemmas.Fmt.{decimal_injective}
 use Rattle.std.proofs.lemmas.Map.Keys.{IsDistinct-head, IsDistinct-tail, IsDistinct-cons, IsDistinct-from_apart}
 use Rattle.std.proofs.lemmas.Map.Made.{length-from_keys}
+use Rattle.claim_tree.specs.Everywhere.{InElements, InMembers}
 use Rattle.claim_tree.specs.Tree.{Text, Tree, leaf, array, object, Elements, no_elements, element, elements_len, Members, no_members, member, member_named, names, IsOrdered, ElementsOrdered, MembersOrdered}
 use Rattle.claim_tree.specs.Lists.{In}
 use Rattle.claim_tree.specs.Path.{tree_at, element_on}
@@ -15,10 +16,11 @@ use Rattle.marked_tree.specs.Ways.{closing, closing_elements, closing_members, o
 use Rattle.marked_tree.proofs.Closing.{marks_close_holds}
 use Rattle.marked_tree.proofs.DifferentPaths.{path_same, path_refl, path_laws}
 use Rattle.marked_tree.proofs.Puts.{IsBeforeAll-not_in}
+use Rattle.compact_form.specs.Lowest.{NoneApplies}
 use Rattle.issuer_core.specs.Digests.{hidden_of}
 use Rattle.issuer_core.specs.Order.{Order}
-use Rattle.issuer_core.specs.OrderRefusals.{AppliesToOrder, NoneApplies}
-use Rattle.issuer_core.specs.ShortLists.{HasShortLists, ElementsShort, MembersShort}
+use Rattle.issuer_core.specs.OrderRefusals.{AppliesToOrder}
+use Rattle.issuer_core.specs.ShortLists.{HasShortLists}
 use Rattle.issuer_core.specs.declared.errors.IssueError.TheVariants.{RootMarked, NoSuchPlace}
 
 -- ---- lists with each path once
@@ -135,6 +137,12 @@ step_distinct k cs b d rootless = distinct_append (above k cs) (own_path b k) (d
         let root : w.0 ≡ [] = other_steps k k w.0 [] (sym w.2 ∙ v.1) in
         rootless (subst (λ (q : Path). In q cs) root w.1)
 
+abbrev ElementsShort : Elements → Type 0
+ElementsShort es = InElements (λ _. Unit {0}) (λ us. elements_len us < 2 ^ 64) (λ _ _. Unit {0}) es
+
+abbrev MembersShort : Members → Type 0
+MembersShort ms = InMembers (λ _. Unit {0}) (λ us. elements_len us < 2 ^ 64) (λ _ _. Unit {0}) ms
+
 mutual
   closing_distinct : (h : Path → Bool) (t : Tree) → IsOrdered t → HasShortLists t → IsDistinct same_path (closing h t)
   closing_distinct h (leaf l) o s = none_distinct
@@ -159,8 +167,8 @@ mutual
   members_distinct h no_members o s = none_distinct
   members_distinct h (member k t ms) o s =
       distinct_append (step_paths h k t) (closing_members h ms)
-      (step_distinct k (closing (below k h) t) (h (k ∷ [])) (closing_distinct (below k h) t o.1 s.0) (no_root (below k h) t))
-      (members_distinct h ms o.2 s.1)
+      (step_distinct k (closing (below k h) t) (h (k ∷ [])) (closing_distinct (below k h) t o.1 s.1) (no_root (below k h) t))
+      (members_distinct h ms o.2 s.2)
       (λ p here later.
       let w = head_is k p (closing (below k h) t) (h (k ∷ [])) (from_step k p (closing (below k h) t) (h (k ∷ [])) here) in
       let v = member_head h ms p later in
@@ -256,21 +264,21 @@ both_ways false false f g = refl
 
 -- ---- an order
 
-module _ (o : Order) (passes : NoneApplies (AppliesToOrder o)) (ordered : IsOrdered o.claims) (short : HasShortLists o.claims) where
+module _ (o : Order) (passes : NoneApplies (AppliesToOrder o)) (ordered : IsOrdered o.payload) (short : HasShortLists o.payload) where
   abbrev closed : List Path
-  closed = closing (is_among o.hide) o.claims
+  closed = closing (is_among o.hide) o.payload
 
   hidden_there : (p : Path) → In p o.hide → In p closed
   hidden_there [] there = let at = In-At o.hide [] there in absurd (passes (RootMarked at.0) ([], at.1, refl))
   hidden_there (k ∷ p) there =
       let at = In-At o.hide (k ∷ p) there in
-      closing_there (is_among o.hide) o.claims k p (λ none. passes (NoSuchPlace at.0) (k ∷ p, at.1, none)) (among o.hide (k ∷ p) there)
+      closing_there (is_among o.hide) o.payload k p (λ none. passes (NoSuchPlace at.0) (k ∷ p, at.1, none)) (among o.hide (k ∷ p) there)
 
   same_paths : (p : Path) → is_among closed p ≡ is_among o.hide p
   same_paths p =
-      both_ways (is_among closed p) (is_among o.hide p) (λ is. closing_passes (is_among o.hide) o.claims p (of_among closed p is)) (λ is. among closed p (hidden_there p (of_among o.hide p is)))
+      both_ways (is_among closed p) (is_among o.hide p) (λ is. closing_passes (is_among o.hide) o.payload p (of_among closed p is)) (λ is. among closed p (hidden_there p (of_among o.hide p is)))
 
   pub hidden_count_is : hidden_of o ≡ distinct_count same_path o.hide
   hidden_count_is =
-      let count = (marks_close_holds o.claims o.hide).count in
-      sym count ∙ length-from_keys path_laws closed o.hide (closing_distinct (is_among o.hide) o.claims ordered short) same_paths
+      let count = (marks_close_holds o.payload o.hide).count in
+      sym count ∙ length-from_keys path_laws closed o.hide (closing_distinct (is_among o.hide) o.payload ordered short) same_paths

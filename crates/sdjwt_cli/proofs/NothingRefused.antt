@@ -18,17 +18,17 @@ use Rattle.selection_core.specs.Consent.{RuleAnswers, IsRefusedAt}
 use Rattle.selection_core.specs.ChoiceRefusals.{IsMissing}
 use Rattle.issuer_core.specs.Digests.{marked_claims}
 use Rattle.issuer_core.specs.Order.{Order}
-use Rattle.issuer_core.specs.OrderRefusals.{NoneApplies}
+use Rattle.compact_form.specs.Lowest.{NoneApplies}
 use Rattle.issuer_core.specs.OrderRefusals as issuing
 use Rattle.holder_core.specs.declared.ask.Ask.{Ask}
 use Rattle.holder_core.specs.declared.ask.BindingAsk.{BindingAsk}
 use Rattle.holder_core.specs.declared.errors.PresentError.{PresentError}
 use Rattle.holder_core.specs.declared.errors.PresentError.TheVariants.{Memory, Token as OnCondition, HasBinding, NoSuchPlace, ConsentRefused, BindingKeyDiffers, SignFailed, TooLong}
-use Rattle.holder_core.specs.Present.{IsHeld, PicksParts, NamesKey, IsBoundAs, IsAnswer, IsNoAnswer, IsPresented, IsNotPresented, not_read, refused, no_memory}
+use Rattle.holder_core.specs.Present.{shown_for, IsHeld, PicksParts, NamesKey, IsBoundAs, IsAnswer, IsNoAnswer, IsPresented, IsNotPresented, not_read, refused, no_memory}
 use Rattle.verifier_core.specs.declared.policy.Policy.{Policy}
-use Rattle.sdjwt_cli.specs.Tokens.{alone}
-use Rattle.sdjwt_cli.specs.Suits.{Suits, shown_for}
 use Rattle.sdjwt_cli.specs.PresentedValues.{AreShort}
+use Rattle.sdjwt_cli.specs.Tokens.{alone}
+use Rattle.sdjwt_cli.specs.Suits.{Suits}
 use Rattle.sdjwt_cli.proofs.HeldIssued.{IsTokenOf, issued_held, one_marked}
 use Rattle.sdjwt_cli.proofs.KeptClaims.{holder_kept}
 use Rattle.sdjwt_cli.proofs.PresentedAccepted.{IsPresentedOf}
@@ -64,8 +64,8 @@ module _ (seed : List ℕ) (o : Order) (key : List ℕ) (parts : Parts) (passes 
     held : IsHeld (alone parts) ask (marked_claims o)
     held = issued_held seed o key parts is ask suits.holder_finds
 
-    stripped : (marked : Marked) → IsHeld (alone parts) ask marked → strip marked ≡ o.claims
-    stripped marked there = ap strip (marked_is marked there) ∙ mark_strips_holds o.claims o.hide
+    stripped : (marked : Marked) → IsHeld (alone parts) ask marked → strip marked ≡ o.payload
+    stripped marked there = ap strip (marked_is marked there) ∙ mark_strips_holds o.payload o.hide
 
     not_missing : (marked : Marked) → IsHeld (alone parts) ask marked → (k : ℕ) → IsMissing (strip marked) ask.want k → ⊥
     not_missing marked there k (path, at, none) = suits.there path (At-In ask.want k path at) (ap (λ t. tree_at t path) (sym (stripped marked there)) ∙ none)
@@ -80,7 +80,7 @@ module _ (seed : List ℕ) (o : Order) (key : List ℕ) (parts : Parts) (passes 
     kid_differs : (one : BindingAsk) (marked : Marked) → IsHeld (alone parts) ask marked → ask.binding ≡ Some one → holder_kid (strip (prune marked (chosen marked ask.want))) ≢ Some one.kid → ⊥
     kid_differs one marked there is_asked differs =
         let same = marked_is marked there in
-        let kept : holder_kid (shown_for o ask.want) ≡ Some one.kid = holder_kept o passes ask.want ∙ suits.named one is_asked in
+        let kept : holder_kid (shown_for (marked_claims o) ask.want) ≡ Some one.kid = holder_kept o passes ask.want ∙ suits.named one is_asked in
         differs (ap (λ (m : Marked). holder_kid (strip (prune m (chosen m ask.want)))) same ∙ kept)
 
     too_long : (answer : Parts) → IsAnswer answers rule (alone parts) ask (IsGood signing) now answer → compact_max < length (compact answer) → ⊥
@@ -101,7 +101,7 @@ module _ (seed : List ℕ) (o : Order) (key : List ℕ) (parts : Parts) (passes 
 
     pub nothing_refused : (error : PresentError) → error ≢ Memory → error ≢ SignFailed → IsNotPresented answers rule text ask (IsGood signing) now error → ⊥
     nothing_refused error memory signed (no_memory e) = memory e
-    nothing_refused error memory signed (not_read fault e h) = is_text.passes fault h.fails
+    nothing_refused error memory signed (not_read fault e h) = is_text.passes fault h.applies
     nothing_refused error memory signed (refused token there h) =
         refuses_nothing error memory signed
         (subst (λ (t : Token). IsNoAnswer answers rule t ask (IsGood signing) now error) (one_token token there) h)

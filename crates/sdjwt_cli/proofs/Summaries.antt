@@ -30,13 +30,12 @@ use Rattle.issuer_core.proofs.IssuedContent.{IsTextOf}
 use Rattle.issuer_core.proofs.ReservedPlaces.{held_short}
 use Rattle.holder_core.specs.declared.errors.PresentError.{PresentError}
 use Rattle.holder_core.specs.declared.errors.PresentError.TheVariants.{Memory, SignFailed}
-use Rattle.holder_core.specs.Present.{picked, IsNotPresented}
+use Rattle.holder_core.specs.Present.{shown_for, picked, IsNotPresented}
 use Rattle.sdjwt_cli.specs.Generated.{generated, generated_seed, generated_key, generated_ask, generated_policy}
 use Rattle.sdjwt_cli.specs.Issuing.{IsIssuedBy}
 use Rattle.sdjwt_cli.specs.Never.{never_rule}
 use Rattle.sdjwt_cli.specs.Tokens.{alone}
 use Rattle.sdjwt_cli.specs.PresentedValues.{IsAcceptedWith, IsShownAt, IsShownOf}
-use Rattle.sdjwt_cli.specs.Suits.{shown_for}
 use Rattle.sdjwt_cli.specs.Summary.{Summarizes, hidden_paths, chosen_places, embedded_digests, shown_length, summary_lines}
 use Rattle.sdjwt_cli.specs.SummarySteps.{IsPresentedOf, IsAcceptable, IsVerified}
 use Rattle.sdjwt_cli.proofs.CheckedParts.{content}
@@ -59,7 +58,7 @@ uncapped many low = omega (arith, low)
 
 module _ (n : ℕ) (issued : Parts) (is_issued : IsIssuedBy generated_seed (generated n) generated_key issued) where
   abbrev claims : Tree
-  claims = shown_for (generated n) (generated_ask n).want
+  claims = shown_for (marked_claims (generated n)) (generated_ask n).want
 
   through : IsShownOf never_rule [] issued (generated_ask n) generated_key generated_policy 0 0 claims
   through = presented_over_values never_rule [] generated_seed (generated n) generated_key issued is_issued (generated_ask n) generated_key generated_policy 0 0 (generated_suits n) tt (omega arith)
@@ -83,7 +82,7 @@ module _ (n : ℕ) (issued : Parts) (is_issued : IsIssuedBy generated_seed (gene
   text_count = zip_length IsTextOf issued.disclosures is.has.given is.has.texts ∙ given_count
 
   hidden_is : length issued.disclosures ≡ hidden_paths n
-  hidden_is = text_count ∙ hidden_count_is (generated n) is_issued.passes is_issued.writable.good.ordered (held_short (generated n).claims is_issued.writable.held)
+  hidden_is = text_count ∙ hidden_count_is (generated n) is_issued.passes is_issued.writable.good.ordered (held_short (generated n).payload is_issued.writable.held)
 
   module _ (presented : Parts) (is_presented : IsPresentedOf n issued presented) where
     accepted_with : IsAcceptedWith presented generated_policy 0 claims

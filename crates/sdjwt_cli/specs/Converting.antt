@@ -3,7 +3,8 @@ use Rattle.std.specs.Prelude.{◌≡◌, ◌<◌, ◌≤◌, ℕ, List, length}
 use Rattle.claim_tree.specs.Tree.{no_members, members_depth}
 use Rattle.claim_tree.specs.JsonText.{json_text}
 use Rattle.sd_outside.specs.Limits.{file_max}
-use Rattle.compact_form.specs.Condition as condition
+use Rattle.compact_form.specs.declared.condition.Condition.{Condition}
+use Rattle.compact_form.specs.Faults.{unplaced}
 use Rattle.compact_form.specs.Condition.{number_of}
 use Rattle.compact_form.specs.declared.fault.Fault.{Fault}
 use Rattle.compact_form.specs.declared.fault.Place.TheVariants.{Nowhere}
@@ -13,7 +14,7 @@ use Rattle.json_form.specs.Token.{IsTextRefused, IsToken}
 use Rattle.json_form.specs.Written.{flat_of, general_of}
 use Rattle.sdjwt_cli.specs.declared.form.Form.{Form}
 use Rattle.sdjwt_cli.specs.declared.form.Form.TheVariants.{Compact, Flat, General}
-use Rattle.sdjwt_cli.specs.Lines.{line, refusal}
+use Rattle.sdjwt_cli.specs.Lines.{line}
 
 -- a token in a form: the JSON ones keep the other members of its unprotected header, which the compact one has no place for
 abbrev pub written : Form → Token → List ℕ
@@ -44,10 +45,4 @@ pub record Converts (form : Form) (file answer : List ℕ) : Type 0 where
 -- the lowest condition that fails: of the file, or that what would be written is longer than a file may be
 pub data IsConvertRefused (form : Form) (file : List ℕ) (fault : Fault) : Type 0 where
   unread : IsTextRefused file fault → IsConvertRefused form file fault
-  too_much : (token : Token) → IsToken file token → file_max < length (line (written form token)) → fault ≡ record { number = number_of condition.too_much; place = Nowhere } → IsConvertRefused form file fault
-
--- the file is refused, with this line
-pub record DoesNotConvert (form : Form) (file text : List ℕ) : Type 0 where
-  pub fault : Fault
-  pub refused : IsConvertRefused form file fault
-  pub line_is : text ≡ refusal fault
+  too_much : (token : Token) → IsToken file token → file_max < length (line (written form token)) → fault ≡ unplaced Condition.TooMuch → IsConvertRefused form file fault

@@ -65,7 +65,7 @@ one_decoy = record { at = []; count = 1 } ∷ []
 -- with one decoy at the root
 abbrev pub generated : ℕ → Order
 generated n = record {
-  claims = object (members_below n);
+  payload = object (members_below n);
   hide = hidden_below n;
   decoys = one_decoy;
   kid = None;

@@ -19,13 +19,12 @@ use Rattle.issuer_core.specs.Issue.{AppliesToIssue}
 use Rattle.issuer_core.specs.OrderRefusals.{IsLowestRefusal}
 use Rattle.issuer_core.specs.RefusalLine.{issue_refusal_text}
 use Rattle.issuer_core.specs.Seed.{maker_of}
-use Rattle.holder_core.specs.Present.{IsPresented}
+use Rattle.holder_core.specs.Present.{shown_for, IsPresented}
 use Rattle.sdjwt_cli.specs.Generated.{generated, generated_seed, generated_key, generated_ask, generated_policy}
 use Rattle.sdjwt_cli.specs.Issuing.{IsIssuedBy}
 use Rattle.sdjwt_cli.specs.Lines.{line}
 use Rattle.sdjwt_cli.specs.Never.{never_rule}
 use Rattle.sdjwt_cli.specs.Tokens.{alone}
-use Rattle.sdjwt_cli.specs.Suits.{shown_for}
 
 -- ---- what is counted
 
@@ -43,7 +42,7 @@ embedded_digests payload given = length (sites payload) + sum_by (λ x. length (
 
 -- how long the claims are that are shown for what is wanted, as JSON
 abbrev pub shown_length : ℕ → ℕ
-shown_length n = length (json_text (shown_for (generated n) (generated_ask n).want))
+shown_length n = length (json_text (shown_for (marked_claims (generated n)) (generated_ask n).want))
 
 -- ---- the answer
 

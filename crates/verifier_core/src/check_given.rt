@@ -7,7 +7,7 @@ ghost use Rattle.verifier_core.specs.Verdict.{Gives};
 ghost use Rattle.verifier_core.specs.Check.{OnFault, Adds, IsUnreadAt, unread_at};
 
 use crate::check::{VerifyError, fails_at};
-use compact_form::DISCLOSURE_UNREADABLE;
+use compact_form::Condition;
 use digest_sites::{Given, GivenList};
 use disclosure::{DisclosureError, HashAlg, read_disclosure};
 use json_form::Disclosures;
@@ -38,7 +38,7 @@ fn unread(i: usize, error: DisclosureError) -> VerifyError
 {
     match error {
         DisclosureError::Memory => VerifyError::Memory,
-        _ => fails_at(DISCLOSURE_UNREADABLE, i),
+        _ => fails_at(Condition::DisclosureUnreadable, i),
     }
 }
 

@@ -15,12 +15,12 @@ use Rattle.sdjwt_cli.proofs.summary.issue_order.Goals as goal
 
 pub issue_owned-requires-clause-depth : goal.issue_owned-requires-clause-depth
 issue_owned-requires-clause-depth c =
-    let same = ap (λ (o : Order). depth o.claims) c.in_ok-order.ensures in
+    let same = ap (λ (o : Order). depth o.payload) c.in_ok-order.ensures in
     let low = shallow c.args.count in
     omega (arith, same, low)
 
 pub issue_owned-requires-clause-ranged : goal.issue_owned-requires-clause-ranged
-issue_owned-requires-clause-ranged c = subst (λ (o : Order). IsRanged o.claims) (sym c.in_ok-order.ensures) (all_ranged c.args.count (omega (arith, c.ranges.count.fits)))
+issue_owned-requires-clause-ranged c = subst (λ (o : Order). IsRanged o.payload) (sym c.in_ok-order.ensures) (all_ranged c.args.count (omega (arith, c.ranges.count.fits)))
 
 pub returns-in-Ok-clause-issued : goal.returns-in-Ok-clause-issued
 returns-in-Ok-clause-issued c =
