@@ -48,7 +48,8 @@ use Rattle.holder_core.specs.declared.ask.BindingAsk.{BindingAsk}
 use Rattle.holder_core.specs.Present.{shown_for, picked, PicksParts, NamesKey, IsBoundBy, IsBoundWith, IsBoundAs}
 use Rattle.holder_core.proofs.PickedNumbers.{numbers, rising, enumerates, is_pick, zip_picked}
 use Rattle.sdjwt_cli.specs.Lines.{line}
-use Rattle.sdjwt_cli.specs.PresentedValues.{alone, AreShort}
+use Rattle.sdjwt_cli.specs.PresentedValues.{AreShort}
+use Rattle.sdjwt_cli.specs.Tokens.{alone}
 use Rattle.sdjwt_cli.specs.Suits.{Suits}
 use Rattle.sdjwt_cli.proofs.CompactLines.{line_token}
 use Rattle.sdjwt_cli.proofs.CheckedParts.{Takes, CarriesFor, content, checked}
