@@ -9,7 +9,8 @@ use Rattle.base64.specs.GeneralPurpose.{encode_of, decode_of}
 use Rattle.base64.specs.Engines.{url_safe_no_pad}
 use Rattle.base64.specs.declared.decode.DecodeError.{DecodeError}
 use Rattle.base64.proofs.EngineFacts.{decode_of-encode_of, decode_of_strict}
-use Rattle.b64url_text.specs.Base64url.{letters, is_letter, IsWord, bits, six, sixes, b64, AreBytes, Decodes, IsNotBase64}
+use Rattle.b64url_text.specs.Base64url.{letters, is_letter, IsWord, bits, six, sixes, b64, AreBytes, Decodes}
+use Rattle.b64url_text.specs.NotBase64.{IsNotBase64}
 use Rattle.b64url_text.proofs.Sixes.{symbols_of}
 
 -- it is what the engine of the crate `base64` writes

@@ -2,7 +2,8 @@
 use Rattle.std.proofs.Common.{◌≡◌, [], ◌∷◌, codes, refl}
 use Rattle.base64.specs.Decode.{groups_error, scan_steps}
 use Rattle.base64.specs.declared.decode.DecodeError.TheVariants.{InvalidPadding, InvalidLength, InvalidLastSymbol}
-use Rattle.b64url_text.specs.Base64url.{letters, bits, sixes, b64, IsNotBase64}
+use Rattle.b64url_text.specs.Base64url.{letters, bits, sixes, b64}
+use Rattle.b64url_text.specs.NotBase64.{IsNotBase64}
 use Rattle.b64url_text.specs.Room.{room_for}
 use Rattle.b64url_text.proofs.Codes.{refused}
 

@@ -49,7 +49,3 @@ AreBytes bytes = (i : ℕ) → slice_index bytes i < 256
 pub record Decodes (text bytes : List ℕ) : Type 0 where
   pub fit : AreBytes bytes
   pub spelling : text ≡ b64 bytes
-
--- no bytes have this text
-abbrev pub IsNotBase64 : List ℕ → Type 0
-IsNotBase64 text = (bytes : List ℕ) → Decodes text bytes → ⊥

@@ -1,5 +1,6 @@
 ghost use Rattle.std.specs.Prelude.{◌≡◌, ◌≤◌, length, take, drop, IfOk, IfErr, IsErrOf};
-ghost use Rattle.b64url_text.specs.Base64url.{b64, Decodes, IsNotBase64};
+ghost use Rattle.b64url_text.specs.Base64url.{b64, Decodes};
+ghost use Rattle.b64url_text.specs.NotBase64.{IsNotBase64};
 ghost use Rattle.b64url_text.specs.Room.{room_for};
 
 use crate::{DecodeError, NotBase64};

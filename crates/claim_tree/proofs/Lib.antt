@@ -9,10 +9,10 @@ pub mod TreeTokens
 pub mod Datas
 mod TreeReading
 pub mod RoundTrip
+pub mod Everywheres
 pub mod TreeTexts
 pub mod OneTree
 pub mod ReadOrdered
-pub mod PathFronts
 mod PointerEscapes
 mod PointerTildes
 mod PointerPieces
@@ -20,6 +20,7 @@ pub mod PointerTexts
 pub mod PointerRule
 mod Examples
 pub mod MemberNames
+pub mod ObjectTrees
 pub mod FileMembers
 pub mod FileVerdicts
 pub mod ListForms

@@ -6,27 +6,19 @@ use Rattle.json.specs.Print.{quoted}
 use Rattle.json.proofs.Printed.Utf8.{IsUtf8-are_ascii, IsUtf8-boolean, IsUtf8-quoted}
 use Rattle.serde_json.specs.Written.{comma_if, items_text, members_text}
 use Rattle.claim_tree.specs.Tree.{Leaf, null, flag, whole, text, Tree, leaf, array, object, Elements, no_elements, element, Members, no_members, member, depth, IsOrdered, IsRanged, ElementsRanged, MembersRanged}
+use Rattle.claim_tree.specs.Everywhere.{LeafIsUtf8, Everywhere, InElements, InMembers}
 use Rattle.claim_tree.specs.JsonText.{json_text, elements_data, members_data, Reads}
 use Rattle.claim_tree.proofs.RoundTrip.{read_of_text}
 
-abbrev pub LeafTexts : Leaf → Type 0
-LeafTexts (text s) = IsUtf8 s
-LeafTexts _ = Unit {0}
-
 -- each text and each name is UTF-8
-abbrev mutual
-  pub HasTexts : Tree → Type 0
-  HasTexts (leaf l) = LeafTexts l
-  HasTexts (array es) = ElementsTexts es
-  HasTexts (object ms) = MembersTexts ms
+abbrev pub HasTexts : Tree → Type 0
+HasTexts t = Everywhere LeafIsUtf8 (λ _. Unit {0}) (λ name _. IsUtf8 name) t
 
-  pub ElementsTexts : Elements → Type 0
-  ElementsTexts no_elements = Unit {0}
-  ElementsTexts (element t es) = HasTexts t × ElementsTexts es
+abbrev pub ElementsTexts : Elements → Type 0
+ElementsTexts es = InElements LeafIsUtf8 (λ _. Unit {0}) (λ name _. IsUtf8 name) es
 
-  pub MembersTexts : Members → Type 0
-  MembersTexts no_members = Unit {0}
-  MembersTexts (member name t ms) = IsUtf8 name × HasTexts t × MembersTexts ms
+abbrev pub MembersTexts : Members → Type 0
+MembersTexts ms = InMembers LeafIsUtf8 (λ _. Unit {0}) (λ name _. IsUtf8 name) ms
 
 one_byte : (x : ℕ) (xs : List ℕ) → IsUtf8 (x ∷ []) → IsUtf8 xs → IsUtf8 (x ∷ xs)
 one_byte x xs one u = IsUtf8-append (x ∷ []) xs one u
@@ -48,7 +40,7 @@ mutual
   json_utf8 (leaf (flag b)) h r = IsUtf8-boolean b
   json_utf8 (leaf (whole z)) h r = whole_utf8 z r
   json_utf8 (leaf (text s)) h r = IsUtf8-quoted s h
-  json_utf8 (array es) h r = one_byte 91 (items_text false (elements_data es)) (IsUtf8-are_ascii (91 ∷ []) refl) (items_utf8 false es h r)
+  json_utf8 (array es) h r = one_byte 91 (items_text false (elements_data es)) (IsUtf8-are_ascii (91 ∷ []) refl) (items_utf8 false es h.1 r)
   json_utf8 (object ms) h r = one_byte 123 (members_text false (members_data ms)) (IsUtf8-are_ascii (123 ∷ []) refl) (members_utf8 false ms h r)
 
   items_utf8 : (later : Bool) (es : Elements) → ElementsTexts es → ElementsRanged es → IsUtf8 (items_text later (elements_data es))

@@ -5,10 +5,10 @@ use Rattle.std.specs.Coded.{Coded, coded_ℕ, coded_ℤ, coded_bool, coded_list}
 use base.Stored.{Gv, gnil, gnum, gcons}
 use Rattle.claim_tree.specs.Tree.{Text, Leaf, null, flag, whole, text, Tree, leaf, array, object, Elements, no_elements, element, Members, no_members, member}
 
-abbrev text_code : Coded Text
+abbrev pub text_code : Coded Text
 text_code = coded_list coded_ℕ
 
-abbrev leaf_to : Leaf → Gv
+abbrev pub leaf_to : Leaf → Gv
 leaf_to null = gnil
 leaf_to (flag b) = gcons gnil (coded_bool.code b)
 leaf_to (whole z) = gcons (gnum 0) (coded_ℤ.code z)
@@ -28,10 +28,10 @@ abbrev mutual
   members_to no_members = gnil
   members_to (member k t ms) = gcons (text_code.code k) (gcons (tree_to t) (members_to ms))
 
-gcons_same : (a b c d : Gv) → gcons a b ≡ gcons c d → (a ≡ c) × (b ≡ d)
+pub gcons_same : (a b c d : Gv) → gcons a b ≡ gcons c d → (a ≡ c) × (b ≡ d)
 gcons_same a b c d e = (cc, cc)
 
-leaf_inj : (x y : Leaf) → leaf_to x ≡ leaf_to y → x ≡ y
+pub leaf_inj : (x y : Leaf) → leaf_to x ≡ leaf_to y → x ≡ y
 leaf_inj null null e = refl
 leaf_inj (flag b) (flag c) e = ap flag (coded_bool.inj b c ((gcons_same _ _ _ _ e).1))
 leaf_inj (whole b) (whole c) e = ap whole (coded_ℤ.inj b c ((gcons_same _ _ _ _ e).1))

@@ -1,4 +1,5 @@
 pub mod Tree
+pub mod Everywhere
 pub mod Removed
 pub mod Lists
 pub mod View

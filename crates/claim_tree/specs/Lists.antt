@@ -8,6 +8,10 @@ StandsAt [] i x = ⊥
 StandsAt (y ∷ ys) zero x = x ≡ y
 StandsAt (y ∷ ys) (suc i) x = StandsAt ys i x
 
+-- the element at place i is such
+abbrev pub IsSuchAt : {X : Type 0} → (X → Type 0) → List X → ℕ → Type 0
+IsSuchAt {X} IsSuch xs i = (x : X) × StandsAt xs i x × IsSuch x
+
 -- x is an element
 abbrev pub In : {X : Type 0} → X → List X → Type 0
 In x [] = ⊥

@@ -1,11 +1,11 @@
 -- Paths into a JSON value, and their pointers, RFC 6901.
-use Rattle.std.specs.Prelude.{◌≡◌, ℕ, suc, ◌==◌, List, [], ◌∷◌, ◌++◌, Option, Some, None, option_and_then, bytes_eq, decimal, codes, if◌then◌else◌}
+use Rattle.std.specs.Prelude.{ℕ, Bool, suc, ◌==◌, List, [], ◌∷◌, ◌++◌, Option, Some, None, option_and_then, bytes_eq, decimal, codes, if◌then◌else◌}
 use Rattle.claim_tree.specs.Tree.{Text, Tree, leaf, array, object, Elements, no_elements, element, member_named}
-use Rattle.std.specs.List.{flat_map}
+use Rattle.std.specs.List.{flat_map, starts_with}
 
 -- the first path is a front of the second
-abbrev pub LeadsTo : List Text → List Text → Type 0
-LeadsTo front whole = (rest : List Text) × (whole ≡ front ++ rest)
+abbrev pub is_front : List Text → List Text → Bool
+is_front front whole = starts_with bytes_eq whole front
 
 -- section 3: `~` is written `~0`, and `/` is written `~1`
 abbrev pub escaped_byte : ℕ → List ℕ

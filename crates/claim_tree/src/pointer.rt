@@ -1,5 +1,5 @@
 ghost use Rattle.std.specs.Prelude.{◌≡◌, ◌↔◌, ◌<◌, ◌++◌, length, codes, string_bytes, IfOk, OnOk, IfSome, IfNone, IsTrue};
-ghost use Rattle.claim_tree.specs.Path.{LeadsTo, escaped, pointer_text};
+ghost use Rattle.claim_tree.specs.Path.{is_front, escaped, pointer_text};
 ghost use Rattle.claim_tree.specs.PointerRefusals.{IsNoPointer, HasLoneTilde, HasNoSlash, EndsNoEscape};
 ghost use Rattle.claim_tree.specs.declared.pointer.PointerError.TheVariants.{Memory};
 
@@ -111,7 +111,7 @@ fn push_escaped(text: &mut String, step: &str) -> Result<(), NoMemory>
 
 /// Whether the first path is a front of the second. A path is a front of itself.
 pub fn is_prefix(front: &Path, whole: &Path) -> bool
-    ensures { IsTrue result ↔ LeadsTo front.now whole.now }
+    ensures { result ≡ is_front front.now whole.now }
 {
     whole.steps().starts_with(front.steps())
 }

@@ -1,12 +1,9 @@
 -- For the models: a code for given disclosures, by which a proof tells two lists of them apart.
 use Rattle.std.specs.Prelude.{◌≡◌, refl, List, Option}
-use Rattle.std.specs.Coded.{Coded, coded_ℕ, coded_list, coded×, coded_option, code_by}
+use Rattle.std.specs.Coded.{Coded, coded_list, coded×, coded_option, code_by}
 use Rattle.claim_tree.specs.Tree.{Text, Tree, element, no_elements}
-use Rattle.claim_tree.specs.Code.{elements_code}
+use Rattle.claim_tree.specs.Code.{text_code, elements_code}
 use Rattle.digest_sites.specs.Given.{Given}
-
-abbrev text_code : Coded Text
-text_code = coded_list coded_ℕ
 
 pub lone_tree_inj : (x y : Tree) → elements_code.code (element x no_elements) ≡ elements_code.code (element y no_elements) → x ≡ y
 lone_tree_inj x y e =

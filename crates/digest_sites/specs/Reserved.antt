@@ -1,5 +1,5 @@
 -- The names that SD-JWT reserves in a JSON value, RFC 9901 section 4.2.4.
-use Rattle.std.specs.Prelude.{List, [], ◌∷◌, Bool, false, ◌||◌, ◌&&◌, not, Option, Some, None, is_some, option_map, option_and_then, bytes_eq, codes, if◌then◌else◌}
+use Rattle.std.specs.Prelude.{List, [], ◌∷◌, Bool, false, ◌||◌, ◌&&◌, not, Option, Some, None, is_some, option_map, option_and_then, bytes_eq, codes, if◌then◌else◌, unwrap_or}
 use Rattle.claim_tree.specs.Tree.{Text, Tree, leaf, array, object, Elements, no_elements, element, Members, no_members, member, text_of}
 
 -- section 4.2.4.1: the digests of hidden members
@@ -19,14 +19,10 @@ abbrev pub text_list : Tree → Option (List Text)
 text_list (array es) = texts_of es
 text_list _ = None
 
-abbrev pub texts_or_none : Option (List Text) → List Text
-texts_or_none None = []
-texts_or_none (Some texts) = texts
-
 -- the texts of the member `_sd`, none where it is no list of texts
 abbrev pub sd_texts : Members → List Text
 sd_texts no_members = []
-sd_texts (member name t ms) = if bytes_eq name sd_name then texts_or_none (text_list t) else sd_texts ms
+sd_texts (member name t ms) = if bytes_eq name sd_name then unwrap_or (text_list t) [] else sd_texts ms
 
 -- the digest of an element that stands for a hidden one: an object whose only member is `...`, a text
 abbrev pub element_digest : Tree → Option Text

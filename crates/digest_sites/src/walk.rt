@@ -1,8 +1,8 @@
 // The sites of a tree, in their order.
-ghost use Rattle.std.specs.Prelude.{◌≡◌, [], ◌∷◌, ◌++◌, map, false, Some, IsSome, IfOk, IfErr, OnOk};
+ghost use Rattle.std.specs.Prelude.{◌≡◌, [], ◌∷◌, ◌++◌, map, false, Some, IsSome, IfOk, IfErr, OnOk, unwrap_or};
 ghost use Rattle.std.specs.Fmt.{decimal};
 ghost use Rattle.claim_tree.specs.View.{tree_of};
-ghost use Rattle.digest_sites.specs.Reserved.{misuses, texts_of, texts_or_none, element_digest as digest_in};
+ghost use Rattle.digest_sites.specs.Reserved.{misuses, texts_of, element_digest as digest_in};
 ghost use Rattle.digest_sites.specs.Sites.{sites as sites_of};
 ghost use Rattle.digest_sites.specs.SiteCalls.{listed, IsSitesRefused};
 ghost use Rattle.digest_sites.specs.Walk.{site, sites_at, own_sites as own_sites_at, element_sites_on, elements_sites, members_sites};
@@ -184,7 +184,7 @@ fn add_member_sites(
     found: &mut SiteList,
 ) -> Result<(), NoMemory>
     requires { IsSome (texts_of digests.now) }
-    ensures { OnOk result (found.new ≡ found.old ++ map (site at.now Member) (texts_or_none (texts_of digests.now))) }
+    ensures { OnOk result (found.new ≡ found.old ++ map (site at.now Member) (unwrap_or (texts_of digests.now) [])) }
 {
     for tree in digests.trees() {
         if let Some(digest) = tree.as_text() {

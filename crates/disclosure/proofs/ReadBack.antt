@@ -8,8 +8,8 @@ use Rattle.disclosure.specs.Disclosure.{array_of, disclosure_text, IsDisclosure}
 use Rattle.disclosure.proofs.Arrays.{depth-array_of}
 
 array_texts : (salt : Text) (name : Option Text) (value : Tree) → IsUtf8 salt → IfSome name IsUtf8 → HasTexts value → HasTexts (array_of (leaf (text salt)) name value)
-array_texts salt None value s n v = (s, (v, tt))
-array_texts salt (Some name) value s n v = (s, (n, (v, tt)))
+array_texts salt None value s n v = (tt, (s, (v, tt)))
+array_texts salt (Some name) value s n v = (tt, (s, (n, (v, tt))))
 
 array_ranged : (salt : Text) (name : Option Text) (value : Tree) → IsRanged value → IsRanged (array_of (leaf (text salt)) name value)
 array_ranged salt None value r = (tt, (r, tt))

@@ -1,5 +1,5 @@
 -- The digest of a disclosure, RFC 9901 section 4.2.3.
-use Rattle.std.specs.Prelude.{ℕ, List, Option, None, Some, bytes_eq, codes, if◌then◌else◌}
+use Rattle.std.specs.Prelude.{ℕ, List, Option, None, Some, option_and_then, bytes_eq, codes, if◌then◌else◌}
 use Rattle.sha2.specs.Sha256.{sha256}
 use Rattle.b64url_text.specs.Base64url.{b64}
 use Rattle.claim_tree.specs.Tree.{Text, Tree, get, text_of}
@@ -20,14 +20,10 @@ digest_of alg text = b64 (hash_of alg text)
 abbrev pub hash_of_text : Text → Option HashAlg
 hash_of_text name = if bytes_eq name (hash_name HashAlg.Sha256) then Some HashAlg.Sha256 else None
 
-abbrev pub hash_of_claim : Option Text → Option HashAlg
-hash_of_claim None = None
-hash_of_claim (Some name) = hash_of_text name
-
 -- that of the claim, or SHA-256 where there is none
 abbrev pub hash_of_name : Option Tree → Option HashAlg
 hash_of_name None = Some HashAlg.Sha256
-hash_of_name (Some t) = hash_of_claim (text_of t)
+hash_of_name (Some t) = option_and_then hash_of_text (text_of t)
 
 -- the algorithm of a payload's digests, by its `_sd_alg` (RFC 9901 section 4.1.1)
 abbrev pub payload_hash : Tree → Option HashAlg

@@ -1,5 +1,5 @@
 -- Disclosures, RFC 9901 section 4.2.
-use Rattle.std.specs.Prelude.{◌≢◌, Option, Some, None}
+use Rattle.std.specs.Prelude.{Option, Some, None}
 use Rattle.b64url_text.specs.Base64url.{Decodes, b64}
 use Rattle.claim_tree.specs.Tree.{Text, text, Tree, leaf, array, no_elements, element}
 use Rattle.claim_tree.specs.JsonText.{Reads, json_text}
@@ -14,18 +14,6 @@ pub record IsDisclosure (text : Text) (salt : Tree) (name : Option Text) (value 
   pub json : Text
   pub decodes : Decodes text json
   pub reads : Reads json (array_of salt name value)
-
--- the tree is the list of no salt, name and value
-abbrev pub IsNoArray : Tree → Type 0
-IsNoArray t = (salt : Tree) (name : Option Text) (value : Tree) → t ≢ array_of salt name value
-
--- the text is that of bytes that read to something else
-pub record IsNotDisclosure (text : Text) : Type 0 where
-  pub json : Text
-  pub decodes : Decodes text json
-  pub tree : Tree
-  pub reads : Reads json tree
-  pub other : IsNoArray tree
 
 -- the text over the compact JSON of the list
 abbrev pub disclosure_text : Tree → Option Text → Tree → Text

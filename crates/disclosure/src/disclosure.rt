@@ -3,9 +3,9 @@ ghost use Rattle.claim_tree.specs.Tree.{IsRanged, IsOrdered, depth, leaf, text a
 ghost use Rattle.claim_tree.specs.TreeCalls.{pushed};
 ghost use Rattle.claim_tree.specs.View.{tree_of};
 ghost use Rattle.disclosure.specs.Digest.{digest_of};
-ghost use Rattle.disclosure.specs.Disclosure.{IsDisclosure, IsNoArray, array_of, disclosure_text};
+ghost use Rattle.disclosure.specs.Disclosure.{IsDisclosure, array_of, disclosure_text};
 ghost use Rattle.disclosure.specs.Front.{front};
-ghost use Rattle.disclosure.specs.DisclosureRefusals.{IsDisclosureRefused};
+ghost use Rattle.disclosure.specs.DisclosureRefusals.{IsNoArray, IsDisclosureRefused};
 
 use crate::{DisclosureError, HashAlg, digest};
 use b64url_text::{decode, encode};

@@ -1,7 +1,8 @@
 -- The text of a key says one key.
 use Rattle.std.specs.Result.{result_ok}
 use Rattle.std.proofs.Common.{◌≡◌, ◌≢◌, ℕ, ◌<◌, ◌≤◌, List, length, Option, Result, Ok, Err, IfErr, IfNone, refl, sym, ap, subst, ◌∙◌, arith}
-use Rattle.b64url_text.specs.Base64url.{Decodes, IsNotBase64}
+use Rattle.b64url_text.specs.Base64url.{Decodes}
+use Rattle.b64url_text.specs.NotBase64.{IsNotBase64}
 use Rattle.b64url_text.proofs.Codes.{one_code}
 use Rattle.claim_tree.specs.Tree.{Text, leaf, text}
 use Rattle.claim_tree.specs.View.{tree_of}

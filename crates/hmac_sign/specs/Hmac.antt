@@ -15,12 +15,9 @@ key_block key = filled (if nat_lt 64 (length key) then sha256 key else key)
 abbrev pub xored : List ℕ → ℕ → List ℕ
 xored block pad = map (λ byte. bit_xor byte pad) block
 
--- the HMAC of a text under a key of one block
-abbrev pub block_hmac : List ℕ → List ℕ → List ℕ
-block_hmac block text = sha256 (xored block 0x5c ++ sha256 (xored block 0x36 ++ text))
-
+-- the HMAC of a text under a key
 abbrev pub hmac : List ℕ → List ℕ → List ℕ
-hmac key text = block_hmac (key_block key) text
+hmac key text = sha256 (xored (key_block key) 0x5c ++ sha256 (xored (key_block key) 0x36 ++ text))
 
 -- the HMAC of a head, a full stop and a body
 abbrev pub mac : List ℕ → List ℕ → List ℕ → List ℕ

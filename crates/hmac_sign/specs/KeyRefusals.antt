@@ -1,7 +1,7 @@
 -- Not needed to believe the program's promises: why a tree is no key set.
 use Rattle.std.specs.Prelude.{◌≡◌, ℕ, ◌<◌, ◌≤◌, List, [], ◌∷◌, ◌++◌, Some, None, true, false, length, codes}
 use Rattle.sd_outside.specs.Limits.{key_min}
-use Rattle.b64url_text.specs.Base64url.{IsNotBase64}
+use Rattle.b64url_text.specs.NotBase64.{IsNotBase64}
 use Rattle.claim_tree.specs.Tree.{Text, Tree, Elements, element_at}
 use Rattle.hmac_sign.specs.Hmac.{key_block}
 use Rattle.hmac_sign.specs.declared.key_set.NamedKey.{NamedKey}

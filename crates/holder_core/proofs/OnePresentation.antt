@@ -26,7 +26,7 @@ use Rattle.holder_core.specs.declared.ask.Ask.{Ask}
 use Rattle.holder_core.specs.declared.ask.BindingAsk.{BindingAsk}
 use Rattle.holder_core.specs.declared.errors.PresentError.{PresentError}
 use Rattle.holder_core.specs.declared.errors.PresentError.TheVariants.{Memory, Token as OnCondition, HasBinding, NoSuchPlace, ConsentRefused, BindingKeyDiffers, SignFailed, TooLong}
-use Rattle.holder_core.specs.Present.{picked, shown, held_rules, IsHeld, NamesKey, IsBoundWith, IsAnswer, IsWantedNotThere, IsConsentRefused, IsBindingKeyOther, IsNoAnswer, IsPresented, IsNotPresented, no_memory, not_read, refused}
+use Rattle.holder_core.specs.Present.{picked, shown_for, held_rules, IsHeld, NamesKey, IsBoundWith, IsAnswer, IsWantedNotThere, IsConsentRefused, IsBindingKeyOther, IsNoAnswer, IsPresented, IsNotPresented, no_memory, not_read, refused}
 
 -- the rule does not both allow and refuse a place
 abbrev pub IsDecided : {F : Type 0} → RuleAnswers F → F → Type 0
@@ -114,10 +114,10 @@ module _ {F : Type 0} (answers : RuleAnswers F) (rule : F) (decided : IsDecided 
       let all = subst (λ (x : Marked). AllAllowed answers rule x (chosen x ask.want)) (one_marked m h.marked held h.held) allowed in
       decided h.refused.at (all i h.refused.at h.refused.chosen h.refused.stands) h.refused.refused
 
-  no_other : (m : Marked) → IsBindingKeyOther answers rule token ask → IsHeld token ask m → NamesKey ask.binding (shown m (chosen m ask.want)) → ⊥
+  no_other : (m : Marked) → IsBindingKeyOther answers rule token ask → IsHeld token ask m → NamesKey ask.binding (shown_for m ask.want) → ⊥
   no_other m h held key =
-      let there = subst (λ (x : Marked). NamesKey ask.binding (shown x (chosen x ask.want))) (one_marked m h.marked held h.agreed.held) key in
-      h.differs (subst (λ (b : Option BindingAsk). NamesKey b (shown h.marked (chosen h.marked ask.want))) h.asked_for there)
+      let there = subst (λ (x : Marked). NamesKey ask.binding (shown_for x ask.want)) (one_marked m h.marked held h.agreed.held) key in
+      h.differs (subst (λ (b : Option BindingAsk). NamesKey b (shown_for h.marked ask.want)) h.asked_for there)
 
   -- a token that is presented is not refused
   pub answered_not_refused : (a : Parts) (e : PresentError) → IsAnswer answers rule token ask good now a → length (compact a) ≤ compact_max → IsNoAnswer answers rule token ask good now e → (e ≡ Memory) ⊎ (e ≡ SignFailed)

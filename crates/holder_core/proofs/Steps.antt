@@ -19,7 +19,7 @@ use Rattle.json_form.specs.declared.token.Token.{Token}
 use Rattle.json_form.proofs.Tokens as tokens
 use Rattle.key_binding.specs.Judged.{holder_kid}
 use Rattle.marked_tree.specs.Paths.{chosen}
-use Rattle.marked_tree.specs.Marked.{Marked, strip}
+use Rattle.marked_tree.specs.Marked.{Marked, strip, prune}
 use Rattle.marked_tree.specs.Numbers.{has}
 use Rattle.selection_core.specs.Consent.{RuleAnswers, AllAllowed, IsRefusedAt}
 use Rattle.verifier_core.specs.Check.{OnFault, IsUncounted}
@@ -30,7 +30,7 @@ use Rattle.holder_core.specs.declared.ask.BindingAsk.{BindingAsk}
 use Rattle.holder_core.specs.declared.errors.PresentError.{PresentError}
 use Rattle.holder_core.specs.declared.errors.PresentError.TheVariants.{Memory, Token as OnCondition, HasBinding, NoSuchPlace, ConsentRefused, BindingKeyDiffers, SignFailed, TooLong}
 use Rattle.holder_core.specs.Unchecked.{unchecked}
-use Rattle.holder_core.specs.Present.{picked, shown, held_rules, IsHeld, IsAgreed, NamesKey, IsAnswer, IsNoAnswer}
+use Rattle.holder_core.specs.Present.{picked, shown_for, held_rules, IsHeld, IsAgreed, NamesKey, IsAnswer, IsNoAnswer}
 use Rattle.holder_core.specs.PresentCalls.{PresentFails, of_file, of_token}
 use Rattle.holder_core.specs.PresentSteps.{IsUnchecked, IsUnchosen, IsChosen, IsOtherKey, IsReady, IsUnready, IsUncheckedOrUnready, IsPresentFinished, IsPresentUnfinished}
 use Rattle.marked_tree.proofs.PrunedSame.{Same, prune_same}
@@ -54,7 +54,7 @@ module _ {F : Type 0} (answers : RuleAnswers F) (rule : F) (m : Marked) (s t : �
     smaller = λ j there low is stands. r.smaller j there low (same j ∙ is) stands;
   }
 
-shown_same : (m : Marked) (s t : ℕ → Bool) → Same s t → shown m s ≡ shown m t
+shown_same : (m : Marked) (s t : ℕ → Bool) → Same s t → strip (prune m s) ≡ strip (prune m t)
 shown_same m s t same = ap strip (prune_same s t same m)
 
 pub words_picked : (parts answer : Parts) (s : ℕ → Bool) → AreWords parts → answer.signed ≡ parts.signed → answer.disclosures ≡ picked s parts.disclosures → answer.binding ≡ None → AreWords answer
@@ -80,10 +80,10 @@ module _ {F : Type 0} (answers : RuleAnswers F) (rule : F) (token : Token) (ask 
       agreed : IsAgreed answers rule token ask marked
       agreed = record { held = held; there = is.there; allowed = is.allowed }
 
-      same_shown : shown marked (has marks) ≡ shown marked (chosen marked ask.want)
+      same_shown : strip (prune marked (has marks)) ≡ shown_for marked ask.want
       same_shown = shown_same marked (has marks) (chosen marked ask.want) is.same
 
-      pub other_key : (e : PresentError) → IsOtherKey ask.binding (shown marked (has marks)) e → IsUnready answers rule token ask e
+      pub other_key : (e : PresentError) → IsOtherKey ask.binding (strip (prune marked (has marks))) e → IsUnready answers rule token ask e
       other_key Memory h = tt
       other_key (OnCondition fault) h = absurd h
       other_key HasBinding h = absurd h
@@ -99,7 +99,7 @@ module _ {F : Type 0} (answers : RuleAnswers F) (rule : F) (token : Token) (ask 
       other_key SignFailed h = absurd h
       other_key TooLong h = absurd h
 
-      pub ready : NamesKey ask.binding (shown marked (has marks)) → (unbound : Parts) → unbound.signed ≡ token.parts.signed → unbound.disclosures ≡ picked (has marks) token.parts.disclosures → unbound.binding ≡ None
+      pub ready : NamesKey ask.binding (strip (prune marked (has marks))) → (unbound : Parts) → unbound.signed ≡ token.parts.signed → unbound.disclosures ≡ picked (has marks) token.parts.disclosures → unbound.binding ≡ None
           → IsReady answers rule token ask marked unbound
       ready key unbound signed disclosures none = record {
         agreed = agreed;
@@ -160,7 +160,7 @@ module _ {F : Type 0} (answers : RuleAnswers F) (rule : F) (token : Token) (ask 
         agreed = is.agreed;
         binding = h.0;
         asked_for = h.1;
-        key = subst (λ (b : Option BindingAsk). NamesKey b (shown marked (chosen marked ask.want))) h.1 is.key;
+        key = subst (λ (b : Option BindingAsk). NamesKey b (shown_for marked ask.want)) h.1 is.key;
       }
       unfinished_refused TooLong h = record { answer = h.answer; is_answer = answered h.answer h.finished; long = h.long }
 

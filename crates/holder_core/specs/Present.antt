@@ -16,7 +16,7 @@ use Rattle.json_form.specs.Token.{IsToken}
 use Rattle.json_form.specs.declared.token.Token.{Token}
 use Rattle.key_binding.specs.Binding.{IsBinding, IsReadBack}
 use Rattle.key_binding.specs.Judged.{holder_kid}
-use Rattle.marked_tree.specs.Paths.{chosen}
+use Rattle.marked_tree.specs.Paths.{Path, chosen}
 use Rattle.marked_tree.specs.Marked.{Marked, strip, prune}
 use Rattle.selection_core.specs.Consent.{RuleAnswers, AllAllowed, IsRefusedAt}
 use Rattle.selection_core.specs.ChoiceRefusals.{IsMissing}
@@ -39,9 +39,9 @@ pub record PicksParts (parts : Parts) (s : ℕ → Bool) (binding : Option JwtPa
   pub disclosures : answer.disclosures ≡ picked s parts.disclosures
   pub binding_is : answer.binding ≡ binding
 
--- what is shown of a processed payload by the disclosures of a set
-abbrev pub shown : Marked → (ℕ → Bool) → Tree
-shown marked s = strip (prune marked s)
+-- what is shown of a processed payload, or of marked claims: all but what is hidden and leads to none of the wanted places
+abbrev pub shown_for : Marked → List Path → Tree
+shown_for marked want = strip (prune marked (chosen marked want))
 
 -- ---- what is asked of the token
 
@@ -87,7 +87,7 @@ IsBoundAs ask good hash now answer = IsBoundWith ask good hash (hashed answer) n
 pub record IsAnswer {F : Type 0} (answers : RuleAnswers F) (rule : F) (token : Token) (ask : Ask) (good : Meaning) (now : ℕ) (answer : Parts) : Type 0 where
   pub marked : Marked
   pub agreed : IsAgreed answers rule token ask marked
-  pub key : NamesKey ask.binding (shown marked (chosen marked ask.want))
+  pub key : NamesKey ask.binding (shown_for marked ask.want)
   pub presents : PicksParts token.parts (chosen marked ask.want) answer.binding answer
   pub hash : HashAlg
   pub has_hash : HasHash token hash
@@ -120,7 +120,7 @@ pub record IsBindingKeyOther {F : Type 0} (answers : RuleAnswers F) (rule : F) (
   pub agreed : IsAgreed answers rule token ask marked
   pub binding : BindingAsk
   pub asked_for : ask.binding ≡ Some binding
-  pub differs : holder_kid (shown marked (chosen marked ask.want)) ≢ Some binding.kid
+  pub differs : holder_kid (shown_for marked ask.want) ≢ Some binding.kid
 
 -- nothing is refused before a key binding token that is asked for is signed
 pub record IsPresentToBeSigned {F : Type 0} (answers : RuleAnswers F) (rule : F) (token : Token) (ask : Ask) : Type 0 where
@@ -128,7 +128,7 @@ pub record IsPresentToBeSigned {F : Type 0} (answers : RuleAnswers F) (rule : F)
   pub agreed : IsAgreed answers rule token ask marked
   pub binding : BindingAsk
   pub asked_for : ask.binding ≡ Some binding
-  pub key : holder_kid (shown marked (chosen marked ask.want)) ≡ Some binding.kid
+  pub key : holder_kid (shown_for marked ask.want) ≡ Some binding.kid
 
 -- what is presented is too long, with some good signature
 pub record IsPresentTooLong {F : Type 0} (answers : RuleAnswers F) (rule : F) (token : Token) (ask : Ask) (good : Meaning) (now : ℕ) : Type 0 where

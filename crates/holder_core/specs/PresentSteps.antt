@@ -21,7 +21,7 @@ use Rattle.holder_core.specs.declared.ask.Ask.{Ask}
 use Rattle.holder_core.specs.declared.ask.BindingAsk.{BindingAsk}
 use Rattle.holder_core.specs.declared.errors.PresentError.{PresentError}
 use Rattle.holder_core.specs.declared.errors.PresentError.TheVariants.{Memory, Token as OnCondition, NoSuchPlace, ConsentRefused, BindingKeyDiffers, SignFailed, TooLong}
-use Rattle.holder_core.specs.Present.{held_rules, shown, IsAgreed, NamesKey, IsBoundAs, PicksParts, IsWantedNotThere, IsConsentRefused, IsBindingKeyOther}
+use Rattle.holder_core.specs.Present.{held_rules, shown_for, IsAgreed, NamesKey, IsBoundAs, PicksParts, IsWantedNotThere, IsConsentRefused, IsBindingKeyOther}
 
 abbrev pub IsUnchecked : Token → Rules → PresentError → Type 0
 IsUnchecked token rules Memory = Unit {0}
@@ -74,7 +74,7 @@ IsPresentUnfinished binding good hash now unbound _ = ⊥
 -- the parts are those of the token with the disclosures that are asked for, and nothing is refused before they are signed
 pub record IsReady {F : Type 0} (answers : RuleAnswers F) (rule : F) (token : Token) (ask : Ask) (marked : Marked) (unbound : Parts) : Type 0 where
   pub agreed : IsAgreed answers rule token ask marked
-  pub key : NamesKey ask.binding (shown marked (chosen marked ask.want))
+  pub key : NamesKey ask.binding (shown_for marked ask.want)
   pub presents : PicksParts token.parts (chosen marked ask.want) None unbound
 
 -- what is refused before

@@ -13,12 +13,12 @@ ghost use Rattle.json_form.specs.Token.{IsToken};
 ghost use Rattle.json_form.specs.declared.token.Token.{Token as SeenToken};
 ghost use Rattle.key_binding.specs.Judged.{holder_kid as holder_kid_of};
 ghost use Rattle.marked_tree.specs.Choice.{IsUnmixed};
-ghost use Rattle.marked_tree.specs.Marked.{strip};
+ghost use Rattle.marked_tree.specs.Marked.{strip, prune as pruned_by};
 ghost use Rattle.marked_tree.specs.Numbers.{has};
 ghost use Rattle.marked_tree.specs.View.{marked_of};
 ghost use Rattle.verifier_core.specs.Verdict.{TokenFails, HasHash, asked};
 ghost use Rattle.verifier_core.specs.Check.{OnFault, IsContent, IsCounted, IsCountedWithin, IsReadWithin, IsUncounted};
-ghost use Rattle.holder_core.specs.Present.{held_rules, picked, shown, IsHeld, IsBoundBy, IsAnswer, IsNoAnswer, IsPresented, IsNotPresented, NamesKey};
+ghost use Rattle.holder_core.specs.Present.{held_rules, picked, IsHeld, IsBoundBy, IsAnswer, IsNoAnswer, IsPresented, IsNotPresented, NamesKey};
 ghost use Rattle.holder_core.specs.PresentCalls.{PresentFails};
 ghost use Rattle.holder_core.specs.PresentSteps.{IsUnchecked, IsUnchosen, IsChosen, IsOtherKey, IsReady, IsUnready, IsPresentUnsigned, IsPresentFinished, IsPresentUnfinished, IsMadeReady, IsUncheckedOrUnready};
 ghost use Rattle.holder_core.specs.declared.errors.PresentError.{PresentError};
@@ -282,8 +282,8 @@ fn check_key(
     chosen: &ChosenSet,
 ) -> Result<(), PresentError>
     requires depth { depth_of (strip (marked_of marked.now)) ≤ 127 }
-    ensures named { OnOk result (NamesKey binding.now (shown (marked_of marked.now) (has chosen.now))) }
-    ensures refused { IfErr result (IsOtherKey binding.now (shown (marked_of marked.now) (has chosen.now))) }
+    ensures named { OnOk result (NamesKey binding.now (strip (pruned_by (marked_of marked.now) (has chosen.now)))) }
+    ensures refused { IfErr result (IsOtherKey binding.now (strip (pruned_by (marked_of marked.now) (has chosen.now)))) }
 {
     let Some(binding) = binding else {
         return Ok(());

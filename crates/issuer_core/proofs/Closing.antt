@@ -56,10 +56,10 @@ mutual
       (marked_closes (below k h) n t, is_mark b n a c e, subst (λ z. MembersClose z rest) (next b n a c e) (members_close h (n + (a + one_if b)) ms))
 
 pub order_closes : (o : Order) → ClosesFrom 0 (marked_claims o)
-order_closes o = marked_closes (is_among o.hide) 0 o.claims
+order_closes o = marked_closes (is_among o.hide) 0 o.payload
 
 pub order_marks : (o : Order) → weight one (marked_claims o) ≡ hidden_of o
-order_marks o = marks_marked (is_among o.hide) 0 o.claims
+order_marks o = marks_marked (is_among o.hide) 0 o.payload
 
 -- ---- so many disclosures there are
 

@@ -24,10 +24,10 @@ place_entry (e ∷ entries) q h =
     ⊎_elim (λ a. (e, inl refl, In-replicate e.count e.at q a)) (λ b. let w = place_entry entries q b in (w.0, inr w.1, w.2))
     (In-append q (replicate e.count e.at) (decoy_paths entries) h)
 
-pub held_at : (o : Order) → IsGoodOrder o → (q : Path) → In q (decoys_of o) → HoldsOthers (tree_at o.claims q)
+pub held_at : (o : Order) → IsGoodOrder o → (q : Path) → In q (decoys_of o) → HoldsOthers (tree_at o.payload q)
 held_at o good q h =
     let w = place_entry o.decoys q h in
-    subst (λ z. HoldsOthers (tree_at o.claims z)) (sym w.2) (good.decoys_held w.0 w.1)
+    subst (λ z. HoldsOthers (tree_at o.payload z)) (sym w.2) (good.decoys_held w.0 w.1)
 
 -- the digests of the decoys at a place are among those of decoys
 pub in_decoys : (dg : ℕ → Text) (k : ℕ) (ps : List Path) (q : Path) (d : Text) → In d (decoys_at dg k ps q) → (i : ℕ) × (i < length ps) × (d ≡ dg (k + i))

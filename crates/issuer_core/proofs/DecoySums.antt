@@ -2,6 +2,7 @@
 use Rattle.std.proofs.Common.{◌≡◌, ℕ, suc, ◌+◌, ◌<◌, ◌≤◌, ◌^◌, List, [], ◌∷◌, ◌++◌, Bool, Some, ap, arith, cond, decimal, false, inl, inr, refl, subst, sym, true, ◌&&◌, ◌∙◌}
 use Rattle.std.proofs.lemmas.Fmt.{decimal_injective}
 use Rattle.std.specs.Prelude.{bytes_eq, option_and_then}
+use Rattle.claim_tree.specs.Everywhere.{InElements, InMembers}
 use Rattle.claim_tree.specs.Lists.{In}
 use Rattle.claim_tree.specs.Path.{element_on, tree_at}
 use Rattle.claim_tree.specs.Tree.{Elements, ElementsOrdered, IsOrdered, Members, MembersOrdered, Text, Tree, array, element, elements_len, leaf, member, member_named, names, no_elements, no_members, object}
@@ -9,7 +10,7 @@ use Rattle.marked_tree.specs.Paths.{Path, same_path}
 use Rattle.issuer_core.specs.Decoys.{decoys_at}
 use Rattle.issuer_core.specs.Digests.{digests_from}
 use Rattle.issuer_core.specs.GoodOrder.{HoldsOthers}
-use Rattle.issuer_core.specs.ShortLists.{ElementsShort, HasShortLists, MembersShort}
+use Rattle.issuer_core.specs.ShortLists.{HasShortLists}
 use Rattle.claim_tree.proofs.Lists.{bytes_refl, bytes_same}
 use Rattle.marked_tree.proofs.Puts.{IsBeforeAll-not_in}
 use Rattle.marked_tree.proofs.Sums.{sum_of, sum_of-append}
@@ -56,6 +57,13 @@ mutual
   none_members : (f : Text → ℕ) (ms : Members) → members_decoy_sum f (λ q. []) ms ≡ 0
   none_members f no_members = refl
   none_members f (member k t ms) = omega (arith, none_sum f t, none_members f ms)
+
+-- the elements and the members of a tree with short lists
+abbrev ElementsShort : Elements → Type 0
+ElementsShort es = InElements (λ _. Unit {0}) (λ us. elements_len us < 2 ^ 64) (λ _ _. Unit {0}) es
+
+abbrev MembersShort : Members → Type 0
+MembersShort ms = InMembers (λ _. Unit {0}) (λ us. elements_len us < 2 ^ 64) (λ _ _. Unit {0}) ms
 
 -- one decoy d at r
 abbrev pub one_at : Text → Path → Path → List Text
@@ -133,7 +141,7 @@ mutual
   one_member : (f : Text → ℕ) (d k : Text) (r : Path) (ms : Members) → MembersOrdered ms → MembersShort ms
       → HoldsOthers (option_and_then (λ u. tree_at u r) (member_named ms k)) → members_decoy_sum f (λ q. one_at d (k ∷ r) q) ms ≡ f d
   one_member f d k r no_members o n h = absurd h
-  one_member f d k r (member l t ms) o n h = go (bytes_eq l k) refl h (one_sum f d r t o.1 n.0) (one_member f d k r ms o.2 n.1)
+  one_member f d k r (member l t ms) o n h = go (bytes_eq l k) refl h (one_sum f d r t o.1 n.1) (one_member f d k r ms o.2 n.2)
     where
       go : (c : Bool) → bytes_eq l k ≡ c → HoldsOthers (option_and_then (λ u. tree_at u r) (cond c (Some t) (member_named ms k)))
           → (HoldsOthers (tree_at t r) → decoy_sum f (λ q. one_at d r q) t ≡ f d)

@@ -28,7 +28,7 @@ number n = leaf (whole (pos n))
 -- {"a":1,"b":{"c":2,"d":3},"l":[4,5]}, where /a, /b, /b/c and /l/0 are hidden, /a twice, with a decoy at the top, one at /b and two at /l
 abbrev order : Order
 order = record {
-  claims = object (member (codes "a") (number 1)
+  payload = object (member (codes "a") (number 1)
       (member (codes "b") (object (member (codes "c") (number 2) (member (codes "d") (number 3) no_members)))
       (member (codes "l") (array (element (number 4) (element (number 5) no_elements))) no_members)));
   hide = (codes "b" ∷ []) ∷ (codes "b" ∷ codes "c" ∷ []) ∷ (codes "a" ∷ []) ∷ (codes "l" ∷ codes "0" ∷ []) ∷ (codes "a" ∷ []) ∷ [];
@@ -88,23 +88,23 @@ good : IsGoodOrder order
 unfolding sd_name dots_name alg_name
 good = record {
   is_object = tt;
-  no_reserved = ((refl, refl, refl), tt, ((refl, refl, refl), ((refl, refl, refl), tt, ((refl, refl, refl), tt, tt)), ((refl, refl, refl), (tt, (tt, tt)), tt)));
+  no_reserved = ((refl, refl, refl), tt, ((refl, refl, refl), ((refl, refl, refl), tt, ((refl, refl, refl), tt, tt)), ((refl, refl, refl), (tt, (tt, (tt, tt))), tt)));
   shallow = omega arith;
   decoys_held = λ entry m. held entry m;
   ordered = ((refl, (refl, tt)), tt, ((refl, tt), ((refl, tt), tt, (tt, tt, tt)), (tt, (tt, (tt, tt)), tt)));
 }
   where
-    held : (entry : Decoy) → In entry order.decoys → HoldsOthers (tree_at order.claims entry.at)
-    held entry (inl e) = subst (λ (z : Decoy). HoldsOthers (tree_at order.claims z.at)) (sym e) tt
-    held entry (inr (inl e)) = subst (λ (z : Decoy). HoldsOthers (tree_at order.claims z.at)) (sym e) tt
-    held entry (inr (inr (inl e))) = subst (λ (z : Decoy). HoldsOthers (tree_at order.claims z.at)) (sym e) tt
+    held : (entry : Decoy) → In entry order.decoys → HoldsOthers (tree_at order.payload entry.at)
+    held entry (inl e) = subst (λ (z : Decoy). HoldsOthers (tree_at order.payload z.at)) (sym e) tt
+    held entry (inr (inl e)) = subst (λ (z : Decoy). HoldsOthers (tree_at order.payload z.at)) (sym e) tt
+    held entry (inr (inr (inl e))) = subst (λ (z : Decoy). HoldsOthers (tree_at order.payload z.at)) (sym e) tt
     held entry (inr (inr (inr m))) = elim m [ ]
 
-ranged : IsRanged order.claims
+ranged : IsRanged order.payload
 ranged = (omega arith, ((omega arith, (omega arith, tt)), ((omega arith, (omega arith, tt)), tt)))
 
-short : HasShortLists order.claims
-short = (tt, ((tt, (tt, tt)), ((omega arith, (tt, (tt, tt))), tt)))
+short : HasShortLists order.payload
+short = (tt, tt, (tt, (tt, tt, (tt, tt, tt)), (tt, (omega arith, (tt, (tt, tt))), tt)))
 
 laid : IsLaid maker order payload given digests
 laid = record { payload_laid = refl; given_laid = refl; disclosures = λ k x a. refl; decoys = λ d l. refl }

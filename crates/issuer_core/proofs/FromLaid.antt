@@ -173,7 +173,7 @@ module _ (maker : Maker) (o : Order) (good : Meaning) where
 -- ---- what is laid and signed
 
 -- what is laid out for a good order, with digests that differ, is issued
-laid_out_issued : (maker : Maker) (o : Order) (good : Meaning) (parts : Parts) → IsGoodOrder o → IsRanged o.claims → HasShortLists o.claims
+laid_out_issued : (maker : Maker) (o : Order) (good : Meaning) (parts : Parts) → IsGoodOrder o → IsRanged o.payload → HasShortLists o.payload
     → (out : IsLaidOut maker o good parts) → AllDiffer out.digests (hidden_of o + length (decoys_of o)) → IsIssued maker o good parts
 laid_out_issued maker o good parts is_good ranged short out differ = record {
   payload = out.payload;
@@ -240,7 +240,7 @@ module _ (seed : List ℕ) (o : Order) (body : Tree) (texts digests : List Text)
     pub laid_out : IsLaidOut (maker_of seed) o good parts
     laid_out = record { payload = laid.laid; given = laid.given; digests = laid.dg; laid = laid.is_laid; written = written }
 
-    pub issued : IsGoodOrder o → IsRanged o.claims → HasShortLists o.claims → AtNone (Repeats digests) → IsIssued (maker_of seed) o good parts
+    pub issued : IsGoodOrder o → IsRanged o.payload → HasShortLists o.payload → AtNone (Repeats digests) → IsIssued (maker_of seed) o good parts
     unfolding laid_out
     issued is_good ranged short none =
         laid_out_issued (maker_of seed) o good parts is_good ranged short laid_out
@@ -255,8 +255,8 @@ module _ (seed : List ℕ) (o : Order) (body : Tree) (texts digests : List Text)
   pub finished_laid : (parts : Parts) → IsFinished header good body texts digests parts → IsLaidOut (maker_of seed) o good parts
   finished_laid parts done = laid_out seed o body texts digests laid good parts (named parts done.signed)
 
-  pub finished_issued : IsGoodOrder o → IsRanged o.claims → FitsMachine o.claims → (parts : Parts) → IsFinished header good body texts digests parts → IsIssued (maker_of seed) o good parts
-  finished_issued is_good ranged held parts done = issued seed o body texts digests laid good parts (named parts done.signed) is_good ranged (held_short o.claims held) done.differ
+  pub finished_issued : IsGoodOrder o → IsRanged o.payload → FitsMachine o.payload → (parts : Parts) → IsFinished header good body texts digests parts → IsIssued (maker_of seed) o good parts
+  finished_issued is_good ranged held parts done = issued seed o body texts digests laid good parts (named parts done.signed) is_good ranged (held_short o.payload held) done.differ
 
   long_refused : NoneApplies (AppliesToOrder o) → (error : IssueError) → IsOverlong header good body texts digests error → IsNotIssued (maker_of seed) o good error
   long_refused none error over =
@@ -318,6 +318,6 @@ with_alg_ranged (object ms) r = MembersRanged-inserted ms alg_name (leaf (text (
 with_alg_ranged (leaf l) r = r
 with_alg_ranged (array es) r = r
 
-pub body_ranged : (seed : List ℕ) (o : Order) (body : Tree) (texts digests : List Text) → IsLaidFor (maker_of seed) o body texts digests → IsRanged o.claims → IsRanged body
+pub body_ranged : (seed : List ℕ) (o : Order) (body : Tree) (texts digests : List Text) → IsLaidFor (maker_of seed) o body texts digests → IsRanged o.payload → IsRanged body
 body_ranged seed o body texts digests laid ranged =
     subst IsRanged (sym laid.payload_is) (with_alg_ranged laid.laid (payload_ranged (maker_of seed) o laid.laid laid.given laid.dg laid.is_laid ranged))

@@ -73,7 +73,7 @@ names_hash t is = ap hash_of_name (alg_named t is)
 
 pub laid_digests_differ : (seed : List ℕ) (o : Order) (p : Tree) (g : List Given) (dg : ℕ → Text) → IsLaid (maker_of seed) o p g dg → HasNoClash (maker_of seed) o → IsWritable o → IsIssuedFor (maker_of seed) o p g
 laid_digests_differ seed o p g dg laid differ writable =
-    laid_is_issued_holds (maker_of seed) o p g dg writable.good writable.ranged (held_short o.claims writable.held) laid
+    laid_is_issued_holds (maker_of seed) o p g dg writable.good writable.ranged (held_short o.payload writable.held) laid
     (all_differ dg (hidden_of o + length (decoys_of o)) (no_repeats (laid_digests o dg) (λ i j clash. differ i j (record { payload = p; given = g; digests = dg; laid = laid; clash = clash }))))
 
 pub has_issued : (seed : List ℕ) (o : Order) (good : Meaning) (parts : Parts) → IsWritable o → HasNoClash (maker_of seed) o → IsLaidOut (maker_of seed) o good parts → HasIssued seed o good parts

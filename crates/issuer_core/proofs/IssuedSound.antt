@@ -1,20 +1,21 @@
 -- An issued token is sound.
 use Rattle.std.proofs.Common.{◌≡◌, ℕ, zero, suc, ◌+◌, ◌<◌, ◌≤◌, List, [], ◌∷◌, ◌++◌, Bool, ap, arith, cond, false, inl, inr, is_some, length, refl, subst, sym, true, ◌∙◌, ltb}
 use Rattle.std.specs.Prelude.{bytes_eq}
+use Rattle.claim_tree.proofs.Everywheres.{everywhere_else}
 use Rattle.claim_tree.specs.Lists.{StandsAt, In, AtNone, Repeats}
-use Rattle.claim_tree.specs.Tree.{Elements, Members, Text, Tree, array, depth, element, leaf, member, no_elements, no_members, object}
+use Rattle.claim_tree.specs.Tree.{Text, Tree, depth}
 use Rattle.digest_sites.specs.Given.{Given}
 use Rattle.marked_tree.specs.Laws.{HasEachMarkOnce}
 use Rattle.marked_tree.specs.Marked.{strip}
 use Rattle.marked_tree.specs.Ways.{only, weight}
-use Rattle.rebuild_core.specs.AllShown.{AreAllShown, ElementsTextLists, HasTextLists, MembersTextLists}
+use Rattle.rebuild_core.specs.AllShown.{AreAllShown, HasTextLists}
 use Rattle.rebuild_core.specs.Soundness.{IsSound}
 use Rattle.rebuild_core.specs.Free.{HasNoReserved}
 use Rattle.rebuild_core.specs.Reached.{given_digests, all_digests}
 use Rattle.rebuild_core.specs.Opening.{processed}
 use Rattle.issuer_core.specs.Digests.{Maker, decoy_digests, issued_digests}
 use Rattle.issuer_core.specs.GoodOrder.{IsGoodOrder}
-use Rattle.issuer_core.specs.Issued.{ElementsDigestLists, HasDigestLists, IsIssuedFor, MembersDigestLists, occurs}
+use Rattle.issuer_core.specs.Issued.{HasDigestLists, IsIssuedFor, occurs}
 use Rattle.issuer_core.specs.Laws.{IssuedIsSound}
 use Rattle.issuer_core.specs.Order.{Order}
 use Rattle.claim_tree.proofs.Lists.{In-At, bytes_refl, bytes_same}
@@ -63,28 +64,17 @@ first_part xs ys h q (d, a, j, l, b) = h q (d, At-left xs ys q d a, j, l, At-lef
 
 -- ---- an issued token
 
-mutual
-  text_lists : (t : Tree) → HasDigestLists t → HasTextLists t
-  text_lists (leaf l) h = tt
-  text_lists (array es) h = elements_text_lists es h
-  text_lists (object ms) h = members_text_lists ms h
-
-  elements_text_lists : (es : Elements) → ElementsDigestLists es → ElementsTextLists es
-  elements_text_lists no_elements h = tt
-  elements_text_lists (element t es) h = (text_lists t h.0, elements_text_lists es h.1)
-
-  members_text_lists : (ms : Members) → MembersDigestLists ms → MembersTextLists ms
-  members_text_lists no_members h = tt
-  members_text_lists (member name t ms) h = ((λ e. let w = h.0 e in ap is_some w.2), text_lists t h.1, members_text_lists ms h.2)
+text_lists : (t : Tree) → HasDigestLists t → HasTextLists t
+text_lists t h = everywhere_else (λ l none. none) (λ es none. none) (λ name value is e. let w = is e in ap is_some w.2) t h
 
 module _ (mk : Maker) (o : Order) (p : Tree) (g : List Given) (good : IsGoodOrder o) (issued : IsIssuedFor mk o p g) where
   once : HasEachMarkOnce (processed p g) (length g)
   once i =
-      ap (weight (only i)) issued.opens ∙ marks_once_holds o.claims o.hide i
+      ap (weight (only i)) issued.opens ∙ marks_once_holds o.payload o.hide i
       ∙ ap (λ n. cond (ltb i n) 1 0) (sym issued.count)
 
-  stripped : strip (processed p g) ≡ o.claims
-  stripped = ap strip issued.opens ∙ mark_strips_holds o.claims o.hide
+  stripped : strip (processed p g) ≡ o.payload
+  stripped = ap strip issued.opens ∙ mark_strips_holds o.payload o.hide
 
   shown : AreAllShown p g
   shown = record {

@@ -2,6 +2,7 @@
 use Rattle.std.proofs.Common.{◌≡◌, ℕ, suc, ◌≤◌, List, [], ◌∷◌, ◌++◌, Equal, Greater, Less, None, Option, Ordering, Some, arith, decimal, inl, inr, refl, subst, sym, ⊎_elim}
 use Rattle.std.specs.Cmp.Lexicographic.{slice_cmp}
 use Rattle.std.specs.Ordering.{match_ordering, nat_cmp}
+use Rattle.claim_tree.specs.FileForms.{text_elements}
 use Rattle.claim_tree.specs.Lists.{In}
 use Rattle.claim_tree.specs.Tree.{ElementsRanged, IsRanged, Members, MembersRanged, Text, Tree, array, depth, elements_depth, inserted, member, members_depth, no_members}
 use Rattle.digest_sites.specs.Given.{Given}
@@ -9,7 +10,7 @@ use Rattle.digest_sites.specs.Reserved.{sd_name}
 use Rattle.marked_tree.specs.Marked.{Marked, MarkedElements, MarkedMembers, marked_array, marked_element, marked_leaf, marked_member, marked_object, no_marked_elements, no_marked_members, strip, strip_elements, strip_members}
 use Rattle.marked_tree.specs.Paths.{Path}
 use Rattle.issuer_core.specs.Digests.{Maker, marked_claims}
-use Rattle.issuer_core.specs.Laid.{IsLaid, digest_elements, hidden_digests, laid_elements, laid_given, laid_members, lay, lay_elements, lay_members, order_decoys, own_given, sorted, texts_array, with_sd}
+use Rattle.issuer_core.specs.Laid.{IsLaid, digest_elements, hidden_digests, laid_elements, laid_given, laid_members, lay, lay_elements, lay_members, order_decoys, own_given, sorted, with_sd}
 use Rattle.issuer_core.specs.Order.{Order}
 use Rattle.claim_tree.proofs.Datas.{MembersRanged-inserted}
 use Rattle.claim_tree.proofs.Lists.{In-append}
@@ -26,7 +27,7 @@ inserted_depth (member l u ms) n t c h k = go (slice_cmp nat_cmp l n) (inserted_
     go Equal ih = omega (arith, h, k)
     go Greater ih = omega (arith, h, k)
 
-texts_depth : (ds : List Text) → elements_depth (texts_array ds) ≡ 0
+texts_depth : (ds : List Text) → elements_depth (text_elements ds) ≡ 0
 texts_depth [] = refl
 texts_depth (d ∷ ds) = omega (arith, texts_depth ds)
 
@@ -36,7 +37,7 @@ digests_depth (d ∷ ds) = omega (arith, digests_depth ds)
 
 with_sd_depth : (ds : List Text) (ms : Members) (c : ℕ) → 1 ≤ c → members_depth ms ≤ c → members_depth (with_sd ds ms) ≤ c
 with_sd_depth [] ms c l h = h
-with_sd_depth (d ∷ ds) ms c l h = inserted_depth ms sd_name (array (texts_array (d ∷ ds))) c (omega (arith, texts_depth (d ∷ ds), l)) h
+with_sd_depth (d ∷ ds) ms c l h = inserted_depth ms sd_name (array (text_elements (d ∷ ds))) c (omega (arith, texts_depth (d ∷ ds), l)) h
 
 mutual
   -- by at most one level more than the claims
@@ -60,9 +61,9 @@ mutual
 
 with_sd_ranged : (ds : List Text) (ms : Members) → MembersRanged ms → MembersRanged (with_sd ds ms)
 with_sd_ranged [] ms h = h
-with_sd_ranged (d ∷ ds) ms h = MembersRanged-inserted ms sd_name (array (texts_array (d ∷ ds))) h (texts_ranged (d ∷ ds))
+with_sd_ranged (d ∷ ds) ms h = MembersRanged-inserted ms sd_name (array (text_elements (d ∷ ds))) h (texts_ranged (d ∷ ds))
   where
-    texts_ranged : (ds : List Text) → ElementsRanged (texts_array ds)
+    texts_ranged : (ds : List Text) → ElementsRanged (text_elements ds)
     texts_ranged [] = tt
     texts_ranged (d ∷ ds) = (tt, texts_ranged ds)
 
@@ -162,19 +163,19 @@ module _ (dg : ℕ → Text) where
 -- ---- an order
 
 module _ (mk : Maker) (o : Order) (p : Tree) (g : List Given) (dg : ℕ → Text) (laid : IsLaid mk o p g dg) where
-  pub payload_depth : depth p ≤ suc (depth o.claims)
+  pub payload_depth : depth p ≤ suc (depth o.payload)
   payload_depth =
-      subst (λ t. depth t ≤ suc (depth o.claims)) (sym laid.payload_laid)
-      (subst (λ t. depth (lay (order_decoys o dg) dg (marked_claims o)) ≤ suc (depth t)) (mark_strips_holds o.claims o.hide) (lay_depth (order_decoys o dg) dg (marked_claims o)))
+      subst (λ t. depth t ≤ suc (depth o.payload)) (sym laid.payload_laid)
+      (subst (λ t. depth (lay (order_decoys o dg) dg (marked_claims o)) ≤ suc (depth t)) (mark_strips_holds o.payload o.hide) (lay_depth (order_decoys o dg) dg (marked_claims o)))
 
-  pub value_depth : (x : Given) → In x g → depth x.value ≤ depth o.claims
+  pub value_depth : (x : Given) → In x g → depth x.value ≤ depth o.payload
   value_depth x m =
-      subst (λ t. depth x.value ≤ depth t) (mark_strips_holds o.claims o.hide)
+      subst (λ t. depth x.value ≤ depth t) (mark_strips_holds o.payload o.hide)
       (items_depth dg (order_decoys o dg) (marked_claims o) x (subst (λ (xs : List Given). In x xs) laid.given_laid m))
 
-  pub payload_ranged : IsRanged o.claims → IsRanged p
-  payload_ranged r = subst IsRanged (sym laid.payload_laid) (lay_ranged (order_decoys o dg) dg (marked_claims o) (subst IsRanged (sym (mark_strips_holds o.claims o.hide)) r))
+  pub payload_ranged : IsRanged o.payload → IsRanged p
+  payload_ranged r = subst IsRanged (sym laid.payload_laid) (lay_ranged (order_decoys o dg) dg (marked_claims o) (subst IsRanged (sym (mark_strips_holds o.payload o.hide)) r))
 
-  pub value_ranged : IsRanged o.claims → (x : Given) → In x g → IsRanged x.value
+  pub value_ranged : IsRanged o.payload → (x : Given) → In x g → IsRanged x.value
   value_ranged r x m =
-      items_ranged dg (order_decoys o dg) (marked_claims o) (subst IsRanged (sym (mark_strips_holds o.claims o.hide)) r) x (subst (λ (xs : List Given). In x xs) laid.given_laid m)
+      items_ranged dg (order_decoys o dg) (marked_claims o) (subst IsRanged (sym (mark_strips_holds o.payload o.hide)) r) x (subst (λ (xs : List Given). In x xs) laid.given_laid m)

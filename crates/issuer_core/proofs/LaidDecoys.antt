@@ -2,7 +2,7 @@
 use Rattle.std.proofs.Common.{◌≡◌, ℕ, zero, suc, ◌+◌, List, [], ◌∷◌, ◌++◌, Bool, Equal, Greater, Less, None, Option, Ordering, Some, ap, append-nil, append_assoc, ap₂, arith, cond, decimal, false, inl, inr, map, refl, subst, sym, true, ⊎_elim, ◌∙◌, ◌⊎◌}
 use Rattle.std.specs.Cmp.Lexicographic.{slice_cmp}
 use Rattle.std.specs.Ordering.{match_ordering, nat_cmp}
-use Rattle.std.specs.Prelude.{bytes_eq, option_and_then}
+use Rattle.std.specs.Prelude.{bytes_eq, option_and_then, unwrap_or}
 use Rattle.claim_tree.specs.Lists.{StandsAt, In}
 use Rattle.claim_tree.specs.Path.{element_on, tree_at}
 use Rattle.claim_tree.specs.Tree.{Text, Tree, elements_len, member_named, names}
@@ -17,7 +17,7 @@ use Rattle.issuer_core.specs.Closing.{ClosesFrom, ElementsClose, HasNumber, Memb
 use Rattle.issuer_core.specs.Decoys.{decoys_of, earlier}
 use Rattle.issuer_core.specs.Digests.{Maker, hidden_of, marked_claims}
 use Rattle.issuer_core.specs.GoodOrder.{HoldsOthers, IsGoodOrder}
-use Rattle.issuer_core.specs.Issued.{DecoysStand, IsDecoySite, or_root, origin}
+use Rattle.issuer_core.specs.Issued.{DecoysStand, IsDecoySite, origin}
 use Rattle.issuer_core.specs.Laid.{IsLaid, digest_elements, digest_object, hidden_digests, laid_elements, laid_given, laid_members, lay, lay_elements, lay_members, order_decoys, own_given, sorted, sorted_with, with_sd}
 use Rattle.issuer_core.specs.Laws.{LaidIsIssued}
 use Rattle.issuer_core.specs.Order.{Order}
@@ -83,7 +83,7 @@ module _ (p : Tree) (g : List Given) (dg : ℕ → Text) (M : Marked) where
             In-right (owned_site (value_of j) s) (map (owned_site payload) (sites p)) (value_sites (λ x. true) 0 g) (item_of_value (λ x. true) g 0 j j x s (omega arith) a refl m),
             refl,
             refl,
-            ap (λ o. or_root o ++ map step_text s.at) at_place,
+            ap (λ o. unwrap_or o [] ++ map step_text s.at) at_place,
           )
 
   embeds_element : (k : Option ℕ) (pre : Path) (dec : Path → List Text) (i : ℕ) (u : Marked) (es : MarkedElements) → IsPlain u → Embeds pre (element_sites i (lay_elements dec dg i (marked_element k u es)))
@@ -221,14 +221,14 @@ module _ (p : Tree) (g : List Given) (dg : ℕ → Text) (M : Marked) where
 
 pub decoys_stand : (mk : Maker) (o : Order) (p : Tree) (g : List Given) (dg : ℕ → Text) → IsGoodOrder o → IsLaid mk o p g dg → DecoysStand mk o p g
 decoys_stand mk o p g dg good laid d q a =
-    let same : strip (marked_claims o) ≡ o.claims = mark_strips_holds o.claims o.hide in
-    let w = decoy_there p g dg (marked_claims o) q (marked_claims o) (order_decoys o dg) 0 [] (marked_plain (is_among o.hide) 0 o.claims good.ordered good.no_reserved) (order_closes o)
+    let same : strip (marked_claims o) ≡ o.payload = mark_strips_holds o.payload o.hide in
+    let w = decoy_there p g dg (marked_claims o) q (marked_claims o) (order_decoys o dg) 0 [] (marked_plain (is_among o.hide) 0 o.payload good.ordered good.no_reserved) (order_closes o)
     (subst (λ t. HoldsOthers (tree_at t q)) (sym same) (held_at o good q (At-In (decoys_of o) d q a)))
     (λ s m.
     let i : In s (sites p) = subst (λ (t : Tree). In s (sites t)) (sym laid.payload_laid) m in
     (owned_site payload s, In-left (owned_site payload s) (map (owned_site payload) (sites p)) (value_sites (λ x. true) 0 g) (In-map (owned_site payload) s (sites p) i), refl, refl, refl))
     (λ s m. first_is s.mark (spots (marked_claims o)) s
-    (omega (arith, spots_weigh (only s.mark) (marked_claims o), marks_once_holds o.claims o.hide s.mark, up_to_le s.mark (hidden_of o))) m refl)
+    (omega (arith, spots_weigh (only s.mark) (marked_claims o), marks_once_holds o.payload o.hide s.mark, up_to_le s.mark (hidden_of o))) m refl)
     (λ i x b. subst (λ n. StandsAt g n x) (let e : i ≡ 0 + i = omega arith in e) (subst (λ (xs : List Given). StandsAt xs i x) (sym laid.given_laid) b))
     (earlier d q (decoys_of o)) (dg (hidden_of o + d)) (earlier_at dg (hidden_of o) (decoys_of o) d q a) in
     (w.0, w.1, w.2 ∙ laid.decoys d (At-below (decoys_of o) d q a), subst (λ t. IsDecoySite (marked_claims o) w.0 q (earlier d q (decoys_of o)) (tree_at t q)) same w.3)

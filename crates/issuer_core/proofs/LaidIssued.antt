@@ -40,7 +40,7 @@ numbered_same f h k (q ∷ qs) e =
     ap₂ (λ (a : Text) (b : List Text). a ∷ b) (ap f (let z : k ≡ k + 0 = omega arith in z) ∙ e 0 (omega arith) ∙ ap h (let z : k + 0 ≡ k = omega arith in z))
     (numbered_same f h (suc k) qs (λ d l. let z : suc k + d ≡ k + suc d = omega arith in ap f z ∙ e (suc d) (omega (arith, l)) ∙ ap h (sym z)))
 
-module _ (mk : Maker) (o : Order) (p : Tree) (g : List Given) (dg : ℕ → Text) (good : IsGoodOrder o) (ranged : IsRanged o.claims) (short : HasShortLists o.claims) (laid : IsLaid mk o p g dg) (differ : AllDiffer dg (hidden_of o + length (decoys_of o))) where
+module _ (mk : Maker) (o : Order) (p : Tree) (g : List Given) (dg : ℕ → Text) (good : IsGoodOrder o) (ranged : IsRanged o.payload) (short : HasShortLists o.payload) (laid : IsLaid mk o p g dg) (differ : AllDiffer dg (hidden_of o + length (decoys_of o))) where
   abbrev dec : Path → List Text
   dec = decoys_at dg (hidden_of o) (decoys_of o)
 
@@ -51,10 +51,10 @@ module _ (mk : Maker) (o : Order) (p : Tree) (g : List Given) (dg : ℕ → Text
         all_sum f p g,
         ap (λ t. site_sum f (sites t)) laid.payload_laid,
         ap (value_sum f) laid.given_laid,
-        laid_sum f dec dg (marked_claims o) (marked_plain (is_among o.hide) 0 o.claims good.ordered good.no_reserved),
+        laid_sum f dec dg (marked_claims o) (marked_plain (is_among o.hide) 0 o.payload good.ordered good.no_reserved),
         ap (digest_sum f) laid.given_laid,
-        ap (decoy_sum f dec) (mark_strips_holds o.claims o.hide),
-        decoys_sum f dg (hidden_of o) (decoys_of o) o.claims good.ordered short (held_at o good),
+        ap (decoy_sum f dec) (mark_strips_holds o.payload o.hide),
+        decoys_sum f dg (hidden_of o) (decoys_of o) o.payload good.ordered short (held_at o good),
         sum_of-append f (given_digests g) (decoy_digests mk o),
         sum_of-map f (λ (x : Given). x.digest) g,
         ap (sum_of f) (numbered_same dg (λ k. mk.digest (mk.piece k)) (hidden_of o) (decoys_of o) laid.decoys),
@@ -71,8 +71,8 @@ module _ (mk : Maker) (o : Order) (p : Tree) (g : List Given) (dg : ℕ → Text
         differ = laid_differ mk o p g dg good laid differ;
         decoys = decoys;
         payload_rises = subst HasDigestLists (sym laid.payload_laid)
-            (lay_lists dg (hidden_of o) (length (decoys_of o)) differ dec d (is_among o.hide) 0 o.claims good.no_reserved (omega arith));
-        values_rise = λ x m. items_listed dg (hidden_of o) (length (decoys_of o)) differ dec d (is_among o.hide) 0 o.claims good.no_reserved (omega arith) x (subst (λ (xs : List Given). In x xs) laid.given_laid m);
+            (lay_lists dg (hidden_of o) (length (decoys_of o)) differ dec d (is_among o.hide) 0 o.payload good.no_reserved (omega arith));
+        values_rise = λ x m. items_listed dg (hidden_of o) (length (decoys_of o)) differ dec d (is_among o.hide) 0 o.payload good.no_reserved (omega arith) x (subst (λ (xs : List Given). In x xs) laid.given_laid m);
         readable = laid_is_readable_holds mk o p g dg good laid;
         payload_ranged = payload_ranged mk o p g dg laid ranged;
         values_ranged = value_ranged mk o p g dg laid ranged;

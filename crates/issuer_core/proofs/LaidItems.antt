@@ -83,6 +83,6 @@ module _ (mk : Maker) (o : Order) (p : Tree) (g : List Given) (dg : ℕ → Text
       ap (opened (suc (length g)) g) laid.payload_laid
       ∙ laid_opens g dg (suc (length g)) dec (marked_claims o)
       (omega (arith, depth_within (marked_claims o), order_marks o, laid_count))
-      (marked_plain (is_among o.hide) 0 o.claims good.ordered good.no_reserved)
+      (marked_plain (is_among o.hide) 0 o.payload good.ordered good.no_reserved)
       (has_items g dg given_differ dec 0 (marked_claims o) (order_closes o) none_found
       (λ q x a. subst (λ z. StandsAt g z x) (let e : q ≡ 0 + q = omega arith in e) (subst (λ (xs : List Given). StandsAt xs q x) (sym laid.given_laid) a)))

@@ -4,17 +4,20 @@ use Rattle.std.proofs.lemmas.Map.Lookups.{exact_bytes}
 use Rattle.std.specs.Cmp.Lexicographic.{slice_cmp}
 use Rattle.std.specs.Ordering.{match_ordering, nat_cmp}
 use Rattle.std.specs.Prelude.{bytes_eq}
+use Rattle.claim_tree.proofs.Everywheres.{EachElementIn, EachMemberIn, inserted_everywhere}
+use Rattle.claim_tree.specs.FileForms.{text_elements}
 use Rattle.claim_tree.specs.Lists.{In}
 use Rattle.claim_tree.specs.Tree.{Elements, IsBefore, IsBeforeAll, Members, Text, Tree, array, element, inserted, leaf, member, no_elements, no_members, object}
 use Rattle.digest_sites.specs.Given.{Given}
 use Rattle.digest_sites.specs.Reserved.{dots_name, sd_name}
 use Rattle.marked_tree.specs.Marked.{Marked, MarkedElements, MarkedMembers, marked_element, marked_member}
 use Rattle.marked_tree.specs.Paths.{Path, below, hidden_elements, hidden_in, hidden_members, mark_elements, mark_from, mark_if, mark_members, one_if, same_path}
-use Rattle.rebuild_core.specs.Free.{ElementsNoReserved, HasNoReserved, MembersNoReserved}
+use Rattle.rebuild_core.specs.Free.{HasNoReserved}
+use Rattle.rebuild_core.proofs.FreeMembers.{ElementsNoReserved, MembersNoReserved}
 use Rattle.issuer_core.specs.Decoys.{decoys_at}
 use Rattle.issuer_core.specs.IssueCalls.{AllDiffer}
-use Rattle.issuer_core.specs.Issued.{ElementsDigestLists, HasDigestLists, IsDigestList, MembersDigestLists, Rises}
-use Rattle.issuer_core.specs.Laid.{digest_elements, digest_object, hidden_digests, laid_elements, laid_given, laid_members, lay, lay_elements, lay_members, own_given, sorted, sorted_with, texts_array, with_sd}
+use Rattle.issuer_core.specs.Issued.{HasDigestLists, IsDigestList, Rises}
+use Rattle.issuer_core.specs.Laid.{digest_elements, digest_object, hidden_digests, laid_elements, laid_given, laid_members, lay, lay_elements, lay_members, own_given, sorted, sorted_with, with_sd}
 use Rattle.claim_tree.proofs.Lists.{In-append}
 use Rattle.marked_tree.proofs.Puts.{IsBeforeAll-weaker, after_turned}
 use Rattle.rebuild_core.proofs.Sums.{Apart}
@@ -52,22 +55,26 @@ apart_join (x ∷ xs) ys a b c = ((λ m. ⊎_elim (λ z. a.0 z) (λ z. c x (inl 
 
 -- ---- setting members
 
-set_lists : (k : Text) (t : Tree) (ms : Members) → (bytes_eq k sd_name ≡ true → IsDigestList t) → HasDigestLists t → MembersDigestLists ms → MembersDigestLists (inserted ms k t)
-set_lists k t no_members l h rest = (l, h, tt)
-set_lists k t (member n u ms) l h rest = go (slice_cmp nat_cmp n k) (set_lists k t ms l h rest.2)
-  where
-    go : (o : Ordering) → MembersDigestLists (inserted ms k t) → MembersDigestLists (match_ordering o (member n u (inserted ms k t)) (member k t ms) (member k t (member n u ms)))
-    go Less ih = (rest.0, rest.1, ih)
-    go Equal ih = (l, h, rest.2)
-    go Greater ih = (l, h, rest)
+-- a member `_sd` is a list of digests
+abbrev IsListedSd : Text → Tree → Type 0
+IsListedSd name value = bytes_eq name sd_name ≡ true → IsDigestList value
 
-texts_lists : (ds : List Text) → ElementsDigestLists (texts_array ds)
+abbrev ElementsDigestLists : Elements → Type 0
+ElementsDigestLists es = EachElementIn IsListedSd es
+
+abbrev MembersDigestLists : Members → Type 0
+MembersDigestLists ms = EachMemberIn IsListedSd ms
+
+set_lists : (k : Text) (t : Tree) (ms : Members) → (bytes_eq k sd_name ≡ true → IsDigestList t) → HasDigestLists t → MembersDigestLists ms → MembersDigestLists (inserted ms k t)
+set_lists k t ms l h rest = inserted_everywhere (λ _. Unit {0}) (λ _. Unit {0}) IsListedSd ms k t l h rest
+
+texts_lists : (ds : List Text) → ElementsDigestLists (text_elements ds)
 texts_lists [] = tt
 texts_lists (d ∷ ds) = (tt, texts_lists ds)
 
 with_sd_lists : (ds : List Text) (ms : Members) → Rises ds → MembersDigestLists ms → MembersDigestLists (with_sd ds ms)
 with_sd_lists [] ms r h = h
-with_sd_lists (d ∷ ds) ms r h = set_lists sd_name (array (texts_array (d ∷ ds))) ms (λ e. (d, ds, texts_are (d ∷ ds), r)) (texts_lists (d ∷ ds)) h
+with_sd_lists (d ∷ ds) ms r h = set_lists sd_name (array (text_elements (d ∷ ds))) ms (λ e. (d, ds, texts_are (d ∷ ds), r)) (tt, texts_lists (d ∷ ds)) h
 
 dots_not_sd : bytes_eq dots_name sd_name ≡ false
 unfolding dots_name sd_name
@@ -149,7 +156,7 @@ module _ (dg : ℕ → Text) (n c : ℕ) (differ : AllDiffer dg (n + c)) where
   mutual
     pub lay_lists : (dec : Path → List Text) → AreDecoys dec → (h : Path → Bool) (k : ℕ) (t : Tree) → HasNoReserved t → k + hidden_in h t ≤ n → HasDigestLists (lay dec dg (mark_from h k t))
     lay_lists dec d h k (leaf l) f le = tt
-    lay_lists dec d h k (array es) f le = elements_lists dec d h k 0 es f le
+    lay_lists dec d h k (array es) f le = (tt, elements_lists dec d h k 0 es f.1 le)
     lay_lists dec d h k (object ms) f le =
         with_sd_lists (sorted (hidden_digests dg (mark_members h k ms) ++ dec [])) (lay_members dec dg (mark_members h k ms))
         (sort_rises (hidden_digests dg (mark_members h k ms) ++ dec []) (all_apart dec d h k ms le)) (members_lists dec d h k ms f le)
@@ -186,7 +193,7 @@ module _ (dg : ℕ → Text) (n c : ℕ) (differ : AllDiffer dg (n + c)) where
   mutual
     pub items_listed : (dec : Path → List Text) → AreDecoys dec → (h : Path → Bool) (k : ℕ) (t : Tree) → HasNoReserved t → k + hidden_in h t ≤ n → ValuesListed (laid_given dec dg (mark_from h k t))
     items_listed dec d h k (leaf l) f le = λ x m. elim m [ ]
-    items_listed dec d h k (array es) f le = elements_listed dec d h k 0 es f le
+    items_listed dec d h k (array es) f le = elements_listed dec d h k 0 es f.1 le
     items_listed dec d h k (object ms) f le = members_listed dec d h k ms f le
 
     elements_listed : (dec : Path → List Text) → AreDecoys dec → (h : Path → Bool) (k i : ℕ) (es : Elements) → ElementsNoReserved es → k + hidden_elements h i es ≤ n → ValuesListed (laid_elements dec dg i (mark_elements h k i es))

@@ -1,5 +1,6 @@
 -- What is laid has ascending names.
 use Rattle.std.proofs.Common.{ℕ, suc, List, [], ◌∷◌, ◌++◌, None, Option, Some, decimal, inl, inr, subst, sym, ⊎_elim}
+use Rattle.claim_tree.specs.FileForms.{text_elements}
 use Rattle.claim_tree.specs.Lists.{In}
 use Rattle.claim_tree.specs.Tree.{ElementsOrdered, IsBeforeAll, IsOrdered, Members, MembersOrdered, Text, Tree, array, names}
 use Rattle.digest_sites.specs.Given.{Given}
@@ -9,13 +10,13 @@ use Rattle.marked_tree.specs.MarkedCalls.{marked_names}
 use Rattle.marked_tree.specs.Paths.{Path, is_among}
 use Rattle.issuer_core.specs.Decoys.{decoys_at, decoys_of}
 use Rattle.issuer_core.specs.Digests.{hidden_of, marked_claims}
-use Rattle.issuer_core.specs.Laid.{digest_elements, hidden_digests, laid_elements, laid_given, laid_members, lay, lay_elements, lay_members, own_given, sorted, texts_array, with_sd}
+use Rattle.issuer_core.specs.Laid.{digest_elements, hidden_digests, laid_elements, laid_given, laid_members, lay, lay_elements, lay_members, own_given, sorted, with_sd}
 use Rattle.issuer_core.specs.Laws.{LaidIsReadable}
 use Rattle.claim_tree.proofs.Lists.{In-append}
 use Rattle.claim_tree.proofs.MapPlaces.{ordered-inserted}
 use Rattle.issuer_core.proofs.Plain.{ElementsPlain, IsPlain, MembersPlain, marked_plain}
 
-texts_ordered : (ds : List Text) → ElementsOrdered (texts_array ds)
+texts_ordered : (ds : List Text) → ElementsOrdered (text_elements ds)
 texts_ordered [] = tt
 texts_ordered (d ∷ ds) = (tt, texts_ordered ds)
 
@@ -25,7 +26,7 @@ decoys_ordered (d ∷ ds) = ((tt, tt, tt), decoys_ordered ds)
 
 with_sd_ordered : (ds : List Text) (ms : Members) → MembersOrdered ms → MembersOrdered (with_sd ds ms)
 with_sd_ordered [] ms o = o
-with_sd_ordered (d ∷ ds) ms o = ordered-inserted ms sd_name (array (texts_array (d ∷ ds))) o (texts_ordered (d ∷ ds))
+with_sd_ordered (d ∷ ds) ms o = ordered-inserted ms sd_name (array (text_elements (d ∷ ds))) o (texts_ordered (d ∷ ds))
 
 module _ (dg : ℕ → Text) where
   pub lay_names_after : (dec : Path → List Text) (l : Text) (ms : MarkedMembers) → IsBeforeAll l (marked_names ms) → IsBeforeAll l (names (lay_members dec dg ms))
@@ -83,7 +84,7 @@ module _ (dg : ℕ → Text) where
 pub laid_is_readable_holds : LaidIsReadable
 laid_is_readable_holds mk o p g dg good laid =
     let dec = decoys_at dg (hidden_of o) (decoys_of o) in
-    let plain = marked_plain (is_among o.hide) 0 o.claims good.ordered good.no_reserved in
+    let plain = marked_plain (is_among o.hide) 0 o.payload good.ordered good.no_reserved in
     record {
       in_payload = subst IsOrdered (sym laid.payload_laid) (lay_ordered dg dec (marked_claims o) plain);
       in_values = λ x m. items_ordered dg dec (marked_claims o) plain x (subst (λ (xs : List Given). In x xs) laid.given_laid m);

@@ -1,6 +1,7 @@
 -- One element more of a list that is laid.
 use Rattle.std.proofs.Common.{◌≡◌, ℕ, suc, ◌+◌, ◌≤◌, List, [], ◌∷◌, ◌++◌, length, map, drop, get_or, ◌<◌, append-nil, Option, None, Some, decimal, refl, sym, ap, subst, ◌∙◌, arith}
 use Rattle.std.proofs.lemmas.List.{drop_more}
+use Rattle.claim_tree.specs.FileForms.{text_elements}
 use Rattle.claim_tree.specs.Tree.{Text, text, leaf, Tree, Elements, no_elements, element, elements_len, elements_depth, ElementsRanged}
 use Rattle.claim_tree.specs.TreeCalls.{pushed}
 use Rattle.claim_tree.specs.Nodes.{elements_nodes}
@@ -10,7 +11,7 @@ use Rattle.digest_sites.specs.Given.{Given}
 use Rattle.marked_tree.specs.Marked.{Marked, MarkedElements, marked_element, no_marked_elements, strip_elements}
 use Rattle.marked_tree.specs.Ways.{weight, elements_weight, mark_weight}
 use Rattle.marked_tree.specs.Paths.{Path}
-use Rattle.issuer_core.specs.Laid.{texts_array, digest_object, digest_elements, laid_given, laid_elements, own_given, lay, lay_elements}
+use Rattle.issuer_core.specs.Laid.{digest_object, digest_elements, laid_given, laid_elements, own_given, lay, lay_elements}
 use Rattle.issuer_core.specs.Digests.{made_texts}
 use Rattle.issuer_core.specs.Laying.{digest, digest_at, salted, elements_joined, placed_at, DecoysTell, IsPart}
 use Rattle.issuer_core.specs.Closing.{one, ElementsClose}
@@ -147,5 +148,5 @@ decoy_more laid ds i d within is =
     let there : drop i ds ≡ d ∷ drop (i + 1) ds = drop_more ds i d within ∙ ap (λ (x : Text). x ∷ drop (i + 1) ds) (sym is) in
     joined_pushed laid (digest_object d) (digest_elements (drop (i + 1) ds)) ∙ ap (λ (xs : List Text). elements_joined laid (digest_elements xs)) (sym there)
 
-pub text_more : (list : Elements) (t : Text) (left rest : List Text) → left ≡ t ∷ rest → elements_joined (pushed list (leaf (text t))) (texts_array rest) ≡ elements_joined list (texts_array left)
-text_more list t left rest e = joined_pushed list (leaf (text t)) (texts_array rest) ∙ ap (λ (xs : List Text). elements_joined list (texts_array xs)) (sym e)
+pub text_more : (list : Elements) (t : Text) (left rest : List Text) → left ≡ t ∷ rest → elements_joined (pushed list (leaf (text t))) (text_elements rest) ≡ elements_joined list (text_elements left)
+text_more list t left rest e = joined_pushed list (leaf (text t)) (text_elements rest) ∙ ap (λ (xs : List Text). elements_joined list (text_elements xs)) (sym e)

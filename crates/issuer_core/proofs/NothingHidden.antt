@@ -92,7 +92,7 @@ module _ (mk : Maker) (o : Order) (shown : o.hide ≡ []) (bare : o.decoys ≡ [
   hides_none p = ap (λ ps. is_among ps p) shown
 
   no_hidden : hidden_of o ≡ 0
-  no_hidden = none_hidden (is_among o.hide) hides_none o.claims
+  no_hidden = none_hidden (is_among o.hide) hides_none o.payload
 
   no_decoys : decoys_of o ≡ []
   no_decoys = ap decoy_paths bare
@@ -104,13 +104,13 @@ module _ (mk : Maker) (o : Order) (shown : o.hide ≡ []) (bare : o.decoys ≡ [
   no_items = nil_from_length (laid_given (order_decoys o dg) dg (marked_claims o)) (items_length (order_decoys o dg) dg (marked_claims o) ∙ order_marks o ∙ no_hidden)
 
   -- the payload alone, with the name of the hash
-  pub nothing_laid : IsLaidFor mk o (with_alg o.claims) [] []
+  pub nothing_laid : IsLaidFor mk o (with_alg o.payload) [] []
   nothing_laid = record {
-    laid = o.claims;
+    laid = o.payload;
     given = [];
     dg = dg;
     is_laid = record {
-      payload_laid = sym (lay_same (order_decoys o dg) dg (is_among o.hide) none_placed hides_none 0 o.claims);
+      payload_laid = sym (lay_same (order_decoys o dg) dg (is_among o.hide) none_placed hides_none 0 o.payload);
       given_laid = sym no_items;
       disclosures = λ k x a. elim a [ ];
       decoys = λ d l. let none = ap length no_decoys in absurd (omega (arith, l, none));

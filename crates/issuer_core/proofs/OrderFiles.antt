@@ -22,6 +22,7 @@ use Rattle.issuer_core.specs.declared.order_file.IssueFile.{IssueFile}
 use Rattle.claim_tree.proofs.ListForms.{one_list, one_pointer}
 use Rattle.claim_tree.proofs.Inner.{ranged-member_named}
 use Rattle.claim_tree.proofs.OtherMembers.{depth-member_named}
+use Rattle.claim_tree.proofs.ObjectTrees.{object_inside}
 use Rattle.hmac_sign.proofs.KeyTexts.{one_key_text}
 
 -- ---- what a member says
@@ -39,14 +40,6 @@ says_it Is None t x e h = cc e
 says_it Is (Some u) t x e h = let same : u ≡ t = cc e in subst (λ v. Is v x) (sym same) h
 
 -- ---- entries of decoys
-
-object_inside : (t : tree.Tree) (ms : Members) → tree_of t ≡ object ms → t ≡ tree.Tree.Object ms
-object_inside tree.Tree.Null ms e = cc e
-object_inside (tree.Tree.Flag b) ms e = cc e
-object_inside (tree.Tree.Whole n) ms e = cc e
-object_inside (tree.Tree.Text s) ms e = cc e
-object_inside (tree.Tree.List es) ms e = cc e
-object_inside (tree.Tree.Object other) ms e = let same : other ≡ ms = cc e in ap tree.Tree.Object same
 
 pub no_object : (t : tree.Tree) → ((ms : Members) → t ≢ tree.Tree.Object ms) → HasValue IsDecoy (tree_of t) → ⊥
 no_object t other h = other h.1.members (object_inside t h.1.members h.1.is)
@@ -138,7 +131,7 @@ value_ranged ms name u r says = ranged-member_named ms name u r (value_named (me
 -- ---- the file
 
 made : spec.Tree → List (List Text) → List Decoy → Option Text → Option Text → Order
-made claims hide decoys kid typ = record { claims = claims; hide = hide; decoys = decoys; kid = kid; typ = typ }
+made payload hide decoys kid typ = record { payload = payload; hide = hide; decoys = decoys; kid = kid; typ = typ }
 
 -- what the members say is one
 module _ (bytes : Text) (f g : IssueFile) (h : IsOrderFile bytes f) (k : IsOrderFile bytes g) where

@@ -6,7 +6,8 @@ use Rattle.digest_sites.specs.Reserved.{dots_name, sd_name}
 use Rattle.marked_tree.specs.Marked.{Marked, MarkedElements, MarkedMembers, marked_array, marked_element, marked_leaf, marked_member, marked_object, no_marked_elements, no_marked_members}
 use Rattle.marked_tree.specs.MarkedCalls.{marked_names}
 use Rattle.marked_tree.specs.Paths.{Path, below, hidden_in, mark_elements, mark_from, mark_members, one_if}
-use Rattle.rebuild_core.specs.Free.{ElementsNoReserved, HasNoReserved, MembersNoReserved}
+use Rattle.rebuild_core.specs.Free.{HasNoReserved}
+use Rattle.rebuild_core.proofs.FreeMembers.{ElementsNoReserved, MembersNoReserved}
 
 -- names ascend, and none is reserved
 abbrev mutual
@@ -31,7 +32,7 @@ marked_names_same h n (member k t ms) = ap (λ ks. k ∷ ks) (marked_names_same 
 mutual
   pub marked_plain : (h : Path → Bool) (n : ℕ) (t : Tree) → IsOrdered t → HasNoReserved t → IsPlain (mark_from h n t)
   marked_plain h n (leaf l) o f = tt
-  marked_plain h n (array es) o f = elements_plain h n 0 es o f
+  marked_plain h n (array es) o f = elements_plain h n 0 es o f.1
   marked_plain h n (object ms) o f = members_plain h n ms o f
 
   elements_plain : (h : Path → Bool) (n i : ℕ) (es : Elements) → ElementsOrdered es → ElementsNoReserved es → ElementsPlain (mark_elements h n i es)

@@ -143,7 +143,7 @@ module _ (seed : List ℕ) (o : Order) (p : Tree) (g : List Given) (dg : ℕ →
   agree = marks_agree dg dh (hidden_of o) (first_same dg (hidden_of o)) 0 (marked_claims o) (order_closes o) (omega (arith, order_marks o))
 
   claims_texts : HasTexts (strip (marked_claims o))
-  claims_texts = subst HasTexts (sym (mark_strips_holds o.claims o.hide)) (held_texts o.claims writable.held)
+  claims_texts = subst HasTexts (sym (mark_strips_holds o.payload o.hide)) (held_texts o.payload writable.held)
 
   decoys_are : (q : Path) → AllTexts (order_decoys o dg q)
   decoys_are = decoys_texts dg (hidden_of o) (decoys_of o) decoy_utf8

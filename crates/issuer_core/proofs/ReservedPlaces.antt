@@ -1,9 +1,11 @@
 -- The first member with a reserved name.
 use Rattle.std.proofs.Common.{◌≡◌, ℕ, suc, ◌+◌, ◌<◌, List, [], ◌∷◌, ◌++◌, map, reverse, length, drop, get_or, Bool, true, false, cond, not, ◌||◌, Option, Some, None, option_map, Bor, refl, sym, ap, subst, ◌∙◌, arith, decimal}
-use Rattle.std.specs.Prelude.{bytes_eq, slice_get, is_some, codes}
+use Rattle.std.specs.Prelude.{◌^◌, bytes_eq, slice_get, is_some, codes}
 use Rattle.std.proofs.lemmas.List.{drop_more, reverse-append}
+use Rattle.claim_tree.specs.Everywhere.{LeafIsUtf8, InElements, InMembers}
+use Rattle.claim_tree.proofs.Everywheres.{everywhere_else}
 use Rattle.claim_tree.specs.Tree as spec
-use Rattle.claim_tree.specs.Tree.{Text, leaf, array, object, Elements, no_elements, element, Members, no_members, member, member_named}
+use Rattle.claim_tree.specs.Tree.{Text, leaf, array, object, Elements, no_elements, element, Members, no_members, member, member_named, elements_len}
 use Rattle.claim_tree.specs.declared.tree.Tree.{Tree}
 use Rattle.claim_tree.specs.View.{tree_of}
 use Rattle.claim_tree.specs.ListViews.{elements_of, members_of}
@@ -12,10 +14,11 @@ use Rattle.claim_tree.proofs.Walks.{Named}
 use Rattle.digest_sites.specs.Reserved.{sd_name, dots_name}
 use Rattle.marked_tree.specs.Paths.{Path}
 use Rattle.rebuild_core.specs.Payload.{alg_name}
-use Rattle.rebuild_core.specs.Free.{IsFree, HasNoReserved, ElementsNoReserved, MembersNoReserved}
+use Rattle.rebuild_core.specs.Free.{IsFree, HasNoReserved}
+use Rattle.rebuild_core.proofs.FreeMembers.{ElementsNoReserved, MembersNoReserved}
 use Rattle.std.specs.Str.{IsUtf8}
-use Rattle.issuer_core.specs.GoodOrder.{FitsMachine, ElementsFit, MembersFit}
-use Rattle.issuer_core.specs.ShortLists.{HasShortLists, ElementsShort, MembersShort}
+use Rattle.issuer_core.specs.GoodOrder.{FitsMachine}
+use Rattle.issuer_core.specs.ShortLists.{HasShortLists}
 use Rattle.issuer_core.specs.ReservedPaths.{is_sd, is_reserved, own_reserved_path, reserved_paths, reserved_elements, reserved_members}
 use Rattle.issuer_core.proofs.Firsts.{first_none, first_some, first_map, no_first, both_empty, none_mapped}
 
@@ -151,7 +154,7 @@ none_at name t false h k = k
 mutual
   none_reserved : (t : spec.Tree) → reserved_paths t ≡ [] → HasNoReserved t
   none_reserved (leaf l) h = tt
-  none_reserved (array es) h = none_in_elements 0 es h
+  none_reserved (array es) h = (tt, none_in_elements 0 es h)
   none_reserved (object ms) h = let both = both_empty (reserved_members is_sd ms) (reserved_members no_sd ms) h in none_in_members ms both.0 both.1
 
   none_in_elements : (i : ℕ) (es : Elements) → reserved_elements i es ≡ [] → ElementsNoReserved es
@@ -175,6 +178,12 @@ no_reserved t h = none_reserved t (no_first (reserved_paths t) h)
 
 -- ---- what a machine holds
 
+abbrev pub ElementsFit : Elements → Type 0
+ElementsFit es = InElements LeafIsUtf8 (λ us. elements_len us < 2 ^ 64) (λ name _. IsUtf8 name) es
+
+abbrev pub MembersFit : Members → Type 0
+MembersFit ms = InMembers LeafIsUtf8 (λ us. elements_len us < 2 ^ 64) (λ name _. IsUtf8 name) ms
+
 pub held_element : (n : ℕ) (ts : List Tree) (t : Tree) → n < length ts → t ≡ get_or ts n t → FitsMachine (tree_of t) → ElementsFit (elements_of (drop (n + 1) ts)) → ElementsFit (elements_of (drop n ts))
 held_element n ts t within is here rest =
     let there : drop n ts ≡ t ∷ drop (n + 1) ts = drop_more ts n t within ∙ ap (λ (d : Tree). d ∷ drop (n + 1) ts) (sym is) in
@@ -185,16 +194,5 @@ held_member n ms m within is name here rest =
     let there : drop n ms ≡ m ∷ drop (n + 1) ms = drop_more ms n m within ∙ ap (λ (d : Named). d ∷ drop (n + 1) ms) (sym is) in
     subst (λ us. MembersFit (members_of us)) (sym there) (name, here, rest)
 
-mutual
-  pub held_short : (t : spec.Tree) → FitsMachine t → HasShortLists t
-  held_short (leaf l) h = tt
-  held_short (array es) h = (h.0, elements_short es h.1)
-  held_short (object ms) h = members_short ms h
-
-  elements_short : (es : Elements) → ElementsFit es → ElementsShort es
-  elements_short no_elements h = tt
-  elements_short (element t es) h = (held_short t h.0, elements_short es h.1)
-
-  members_short : (ms : Members) → MembersFit ms → MembersShort ms
-  members_short no_members h = tt
-  members_short (member name t ms) h = (held_short t h.1, members_short ms h.2)
+pub held_short : (t : spec.Tree) → FitsMachine t → HasShortLists t
+held_short t h = everywhere_else (λ l leaf_is. tt) (λ es few. few) (λ name u name_is. tt) t h

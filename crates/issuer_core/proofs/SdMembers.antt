@@ -4,13 +4,14 @@ use Rattle.std.proofs.lemmas.Map.Lookups.{exact_bytes}
 use Rattle.std.specs.Cmp.Lexicographic.{slice_cmp}
 use Rattle.std.specs.Ordering.{match_ordering, nat_cmp}
 use Rattle.std.specs.Prelude.{bytes_eq, option_and_then}
+use Rattle.claim_tree.specs.FileForms.{text_elements}
 use Rattle.claim_tree.specs.Lists.{In}
 use Rattle.claim_tree.specs.Tree.{Members, Text, Tree, array, inserted, member, no_members, object}
 use Rattle.digest_sites.specs.Reserved.{dots_name, element_digest, sd_name, sd_texts, texts_of}
 use Rattle.digest_sites.specs.Sites.{Site, member_sites, sites, to_member, under}
 use Rattle.marked_tree.specs.Marked.{Marked, MarkedMembers, marked_array, marked_leaf, marked_member, marked_object, no_marked_elements, no_marked_members}
 use Rattle.rebuild_core.specs.Opening.{Shown, nothing_shown, open_elements, open_members, open_tree}
-use Rattle.issuer_core.specs.Laid.{digest_elements, digest_object, hidden_digests, lay, lay_members, sorted, texts_array, with_sd}
+use Rattle.issuer_core.specs.Laid.{digest_elements, digest_object, hidden_digests, lay, lay_members, sorted, with_sd}
 use Rattle.claim_tree.proofs.Lists.{bytes_refl}
 use Rattle.issuer_core.proofs.Plain.{IsPlain, MembersPlain}
 
@@ -24,7 +25,7 @@ lay_has_no n f dec dg no_marked_members h = tt
 lay_has_no n f dec dg (marked_member k None t ms) h = (f k h.0 h.1, lay_has_no n f dec dg ms h.4)
 lay_has_no n f dec dg (marked_member k (Some i) t ms) h = lay_has_no n f dec dg ms h.4
 
-pub texts_are : (ds : List Text) → texts_of (texts_array ds) ≡ Some ds
+pub texts_are : (ds : List Text) → texts_of (text_elements ds) ≡ Some ds
 texts_are [] = refl
 texts_are (d ∷ ds) = ap (λ o. option_and_then (λ s. option_map (λ ss. s ∷ ss) o) (Some d)) (texts_are ds)
 
@@ -39,12 +40,12 @@ set_by o n t l u ms rest = match_ordering o (member l u rest) (member n t ms) (m
 not_equal : (l n : Text) → bytes_eq l n ≡ false → slice_cmp nat_cmp l n ≡ Equal → ⊥
 not_equal l n h e = let t : bytes_eq l n ≡ true = bytes_refl l n (exact_bytes l n e) in cc
 
-set_sd_texts : (ds : List Text) (ms : Members) → HasNo sd_name ms → sd_texts (inserted ms sd_name (array (texts_array ds))) ≡ ds
+set_sd_texts : (ds : List Text) (ms : Members) → HasNo sd_name ms → sd_texts (inserted ms sd_name (array (text_elements ds))) ≡ ds
 set_sd_texts ds no_members h = rw (bytes_refl sd_name sd_name refl, texts_are)
 set_sd_texts ds (member l u ms) h = go (slice_cmp nat_cmp l sd_name) refl (set_sd_texts ds ms h.1)
   where
-    go : (o : Ordering) → slice_cmp nat_cmp l sd_name ≡ o → sd_texts (inserted ms sd_name (array (texts_array ds))) ≡ ds
-        → sd_texts (set_by o sd_name (array (texts_array ds)) l u ms (inserted ms sd_name (array (texts_array ds)))) ≡ ds
+    go : (o : Ordering) → slice_cmp nat_cmp l sd_name ≡ o → sd_texts (inserted ms sd_name (array (text_elements ds))) ≡ ds
+        → sd_texts (set_by o sd_name (array (text_elements ds)) l u ms (inserted ms sd_name (array (text_elements ds)))) ≡ ds
     go Less w ih = rw h.0 ih
     go Equal w ih = absurd (not_equal l sd_name h.0 w)
     go Greater w ih = rw (bytes_refl sd_name sd_name refl, texts_are)
@@ -65,7 +66,7 @@ with_sd_texts (d ∷ ds) ms h = set_sd_texts (d ∷ ds) ms h
 
 pub with_sd_open : (r : Text → Shown) (ds : List Text) (ms : Members) → HasNo sd_name ms → open_members r (with_sd ds ms) ≡ open_members r ms
 with_sd_open r [] ms h = refl
-with_sd_open r (d ∷ ds) ms h = set_sd_open r (array (texts_array (d ∷ ds))) ms h
+with_sd_open r (d ∷ ds) ms h = set_sd_open r (array (text_elements (d ∷ ds))) ms h
 
 -- the sites inside the others stay as they are
 set_sites : (t : Tree) (ms : Members) → HasNo sd_name ms → member_sites (inserted ms sd_name t) ≡ member_sites ms
@@ -80,7 +81,7 @@ set_sites t (member l u ms) h = go (slice_cmp nat_cmp l sd_name) refl (set_sites
 
 pub with_sd_sites : (ds : List Text) (ms : Members) → HasNo sd_name ms → member_sites (with_sd ds ms) ≡ member_sites ms
 with_sd_sites [] ms h = refl
-with_sd_sites (d ∷ ds) ms h = set_sites (array (texts_array (d ∷ ds))) ms h
+with_sd_sites (d ∷ ds) ms h = set_sites (array (text_elements (d ∷ ds))) ms h
 
 -- ---- what is laid from an element is no digest element
 
@@ -113,7 +114,7 @@ set_sd_only t (member l u ms) h = go (slice_cmp nat_cmp l sd_name) refl
 
 with_sd_only : (ds : List Text) (ms : Members) → HasNo sd_name ms → HasNo dots_name ms → element_digest (object (with_sd ds ms)) ≡ None
 with_sd_only [] ms h k = no_dots_only ms k
-with_sd_only (d ∷ ds) ms h k = set_sd_only (array (texts_array (d ∷ ds))) ms h
+with_sd_only (d ∷ ds) ms h k = set_sd_only (array (text_elements (d ∷ ds))) ms h
 
 pub laid_no_digest : (dec : List Text → List Text) (dg : ℕ → Text) (t : Marked) → IsPlain t → element_digest (lay dec dg t) ≡ None
 laid_no_digest dec dg (marked_leaf l) h = refl

@@ -5,13 +5,14 @@ use Rattle.std.specs.List.{filter}
 use Rattle.std.specs.List.Sorted.{IsSortedBy, IsStableBy, ties}
 use Rattle.std.specs.Ordering.{is_lt, match_ordering}
 use Rattle.std.proofs.lemmas.List.Sorted.{sorted_far, ranks_by}
+use Rattle.claim_tree.specs.FileForms.{text_elements}
 use Rattle.claim_tree.specs.Tree.{Text, Members, array, inserted}
 use Rattle.digest_sites.specs.Reserved.{sd_name}
 use Rattle.claim_tree.proofs.Lists.{bytes_refl, bytes_same}
 use Rattle.claim_tree.proofs.MapPlaces.{cmp, order, same_name}
 use Rattle.marked_tree.proofs.Names.{turned, tie_turned}
 use Rattle.marked_tree.proofs.Lookups.{apart, apart_back}
-use Rattle.issuer_core.specs.Laid.{sorted, sorted_with, texts_array, with_sd}
+use Rattle.issuer_core.specs.Laid.{sorted, sorted_with, with_sd}
 
 abbrev pub lower : Text → Text → Bool
 lower x y = is_lt (cmp x y)
@@ -167,15 +168,15 @@ pub sort_is : (xs ys : List Text) → IsSortedBy lower ys → IsStableBy lower x
 sort_is xs ys s stable = one_rising ys (sorted xs) (rising ys s) (sorted_rising xs) (λ x. stable x ∙ sym (sorted_same x xs))
 
 -- some digests are a member
-pub with_some : (ds : List Text) (ms : Members) → 0 < length ds → with_sd (sorted ds) ms ≡ inserted ms sd_name (array (texts_array (sorted ds)))
+pub with_some : (ds : List Text) (ms : Members) → 0 < length ds → with_sd (sorted ds) ms ≡ inserted ms sd_name (array (text_elements (sorted ds)))
 with_some [] ms l = absurd (omega (arith, l))
 with_some (d ∷ ds) ms l = go (sorted ds)
   where
-    go : (es : List Text) → with_sd (sorted_with d es) ms ≡ inserted ms sd_name (array (texts_array (sorted_with d es)))
+    go : (es : List Text) → with_sd (sorted_with d es) ms ≡ inserted ms sd_name (array (text_elements (sorted_with d es)))
     go [] = refl
     go (e ∷ es) = by (cmp d e)
       where
-        by : (o : Ordering) → with_sd (match_ordering o (d ∷ e ∷ es) (d ∷ e ∷ es) (e ∷ sorted_with d es)) ms ≡ inserted ms sd_name (array (texts_array (match_ordering o (d ∷ e ∷ es) (d ∷ e ∷ es) (e ∷ sorted_with d es))))
+        by : (o : Ordering) → with_sd (match_ordering o (d ∷ e ∷ es) (d ∷ e ∷ es) (e ∷ sorted_with d es)) ms ≡ inserted ms sd_name (array (text_elements (match_ordering o (d ∷ e ∷ es) (d ∷ e ∷ es) (e ∷ sorted_with d es))))
         by Less = refl
         by Equal = refl
         by Greater = refl

@@ -4,17 +4,19 @@ use Rattle.std.proofs.lemmas.Map.Lookups.{exact_bytes}
 use Rattle.std.specs.Cmp.Lexicographic.{slice_cmp}
 use Rattle.std.specs.Ordering.{match_ordering, nat_cmp}
 use Rattle.std.specs.Prelude.{bytes_eq}
+use Rattle.claim_tree.specs.FileForms.{text_elements}
 use Rattle.claim_tree.specs.Tree.{IsOrdered, Members, Text, Tree, array, get, inserted, leaf, member, no_members, object, text}
 use Rattle.claim_tree.specs.Removed.{removed}
 use Rattle.digest_sites.specs.Given.{Given}
 use Rattle.digest_sites.specs.Reserved.{sd_name}
 use Rattle.marked_tree.specs.Marked.{Marked, MarkedMembers, marked_array, marked_leaf, marked_member, marked_object, no_marked_members, strip, strip_members}
 use Rattle.marked_tree.specs.Paths.{Path}
-use Rattle.rebuild_core.specs.Free.{HasNoReserved, MembersNoReserved}
+use Rattle.rebuild_core.specs.Free.{HasNoReserved}
+use Rattle.rebuild_core.proofs.FreeMembers.{MembersNoReserved}
 use Rattle.rebuild_core.specs.Payload.{alg_name, without_alg}
 use Rattle.issuer_core.specs.Digests.{Maker, marked_claims}
 use Rattle.issuer_core.specs.GoodOrder.{IsGoodOrder, IsObject}
-use Rattle.issuer_core.specs.Laid.{IsLaid, hidden_digests, lay, lay_members, order_decoys, sorted, texts_array, with_alg, with_sd}
+use Rattle.issuer_core.specs.Laid.{IsLaid, hidden_digests, lay, lay_members, order_decoys, sorted, with_alg, with_sd}
 use Rattle.issuer_core.specs.Order.{Order}
 use Rattle.claim_tree.proofs.Lists.{bytes_refl}
 use Rattle.claim_tree.proofs.MapPlaces.{ordered-inserted}
@@ -52,7 +54,7 @@ sd_not_alg = refl
 
 with_sd_no_alg : (ds : List Text) (ms : Members) → HasNo alg_name ms → HasNo alg_name (with_sd ds ms)
 with_sd_no_alg [] ms h = h
-with_sd_no_alg (d ∷ ds) ms h = has_no_inserted alg_name sd_name (array (texts_array (d ∷ ds))) ms sd_not_alg h
+with_sd_no_alg (d ∷ ds) ms h = has_no_inserted alg_name sd_name (array (text_elements (d ∷ ds))) ms sd_not_alg h
 
 lay_no_alg : (dec : Path → List Text) (dg : ℕ → Text) (ms : MarkedMembers) → MembersNoReserved (strip_members ms) → HasNo alg_name (lay_members dec dg ms)
 lay_no_alg dec dg no_marked_members f = tt
@@ -69,7 +71,7 @@ laid_without_alg dec dg (marked_object ms) f =
 -- the payload that is handed out, without its `_sd_alg`, is what was laid
 pub without_with_alg : (mk : Maker) (o : Order) (p : Tree) (g : List Given) (dg : ℕ → Text) → IsGoodOrder o → IsLaid mk o p g dg → without_alg (with_alg p) ≡ p
 without_with_alg mk o p g dg good laid =
-    let free : HasNoReserved (strip (marked_claims o)) = subst HasNoReserved (sym (mark_strips_holds o.claims o.hide)) good.no_reserved in
+    let free : HasNoReserved (strip (marked_claims o)) = subst HasNoReserved (sym (mark_strips_holds o.payload o.hide)) good.no_reserved in
     subst (λ t. without_alg (with_alg t) ≡ t) (sym laid.payload_laid) (laid_without_alg (order_decoys o dg) dg (marked_claims o) free)
 
 pub with_alg_ordered : (t : Tree) → IsOrdered t → IsOrdered (with_alg t)
@@ -91,4 +93,4 @@ laid_object dec dg (marked_array es) h = absurd h
 
 pub payload_object : (mk : Maker) (o : Order) (p : Tree) (g : List Given) (dg : ℕ → Text) → IsGoodOrder o → IsLaid mk o p g dg → IsObject p
 payload_object mk o p g dg good laid =
-    subst IsObject (sym laid.payload_laid) (laid_object (order_decoys o dg) dg (marked_claims o) (subst IsObject (sym (mark_strips_holds o.claims o.hide)) good.is_object))
+    subst IsObject (sym laid.payload_laid) (laid_object (order_decoys o dg) dg (marked_claims o) (subst IsObject (sym (mark_strips_holds o.payload o.hide)) good.is_object))

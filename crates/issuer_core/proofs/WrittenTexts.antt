@@ -2,35 +2,24 @@
 use Rattle.std.proofs.Common.{ℕ, suc, ◌⊎◌, List, [], ◌∷◌, ◌++◌, Equal, Greater, Less, None, Option, Ordering, Some, IfSome, IsUtf8, decimal, codes, inl, inr, refl, subst, sym}
 use Rattle.std.specs.Cmp.Lexicographic.{slice_cmp}
 use Rattle.std.specs.Ordering.{match_ordering, nat_cmp}
+use Rattle.claim_tree.specs.FileForms.{text_elements}
 use Rattle.json.proofs.Printed.Utf8.{IsUtf8-are_ascii}
-use Rattle.claim_tree.specs.Tree.{Text, null, flag, whole, text, Tree, leaf, array, object, Elements, no_elements, element, Members, no_members, member, inserted}
+use Rattle.claim_tree.specs.Tree.{Text, text, Tree, leaf, array, object, Members, inserted}
 use Rattle.claim_tree.specs.Lists.{In}
 use Rattle.claim_tree.proofs.Lists.{In-append}
+use Rattle.claim_tree.specs.Everywhere.{LeafIsUtf8}
+use Rattle.claim_tree.proofs.Everywheres.{everywhere_else, inserted_everywhere}
 use Rattle.claim_tree.proofs.TreeTexts.{HasTexts, ElementsTexts, MembersTexts}
 use Rattle.digest_sites.specs.Given.{Given}
 use Rattle.digest_sites.specs.Reserved.{sd_name, dots_name}
 use Rattle.marked_tree.specs.Marked.{Marked, MarkedElements, MarkedMembers, marked_array, marked_element, marked_leaf, marked_member, marked_object, no_marked_elements, no_marked_members, strip, strip_elements, strip_members}
 use Rattle.marked_tree.specs.Paths.{Path}
 use Rattle.rebuild_core.specs.Payload.{alg_name}
-use Rattle.issuer_core.specs.GoodOrder.{FitsMachine, ElementsFit, MembersFit}
-use Rattle.issuer_core.specs.Laid.{digest_elements, hidden_digests, laid_elements, laid_given, laid_members, lay, lay_elements, lay_members, own_given, sorted, sorted_with, texts_array, with_sd, with_alg}
+use Rattle.issuer_core.specs.GoodOrder.{FitsMachine}
+use Rattle.issuer_core.specs.Laid.{digest_elements, hidden_digests, laid_elements, laid_given, laid_members, lay, lay_elements, lay_members, own_given, sorted, sorted_with, with_sd, with_alg}
 
-mutual
-  pub held_texts : (t : Tree) → FitsMachine t → HasTexts t
-  held_texts (leaf null) h = tt
-  held_texts (leaf (flag b)) h = tt
-  held_texts (leaf (whole z)) h = tt
-  held_texts (leaf (text s)) h = h
-  held_texts (array es) h = elements_texts es h.1
-  held_texts (object ms) h = members_texts ms h
-
-  elements_texts : (es : Elements) → ElementsFit es → ElementsTexts es
-  elements_texts no_elements h = tt
-  elements_texts (element t es) h = (held_texts t h.0, elements_texts es h.1)
-
-  members_texts : (ms : Members) → MembersFit ms → MembersTexts ms
-  members_texts no_members h = tt
-  members_texts (member name t ms) h = (h.0, held_texts t h.1, members_texts ms h.2)
+pub held_texts : (t : Tree) → FitsMachine t → HasTexts t
+held_texts t h = everywhere_else (λ l leaf_is. leaf_is) (λ es few. tt) (λ name u name_is. name_is) t h
 
 -- ---- what is laid
 
@@ -50,13 +39,7 @@ unfolding alg_name
 alg_utf8 = IsUtf8-are_ascii (codes "_sd_alg") refl
 
 inserted_texts : (ms : Members) (name : Text) (t : Tree) → IsUtf8 name → HasTexts t → MembersTexts ms → MembersTexts (inserted ms name t)
-inserted_texts no_members name t n h k = (n, h, tt)
-inserted_texts (member l u ms) name t n h k = go (slice_cmp nat_cmp l name) (inserted_texts ms name t n h k.2)
-  where
-    go : (o : Ordering) → MembersTexts (inserted ms name t) → MembersTexts (match_ordering o (member l u (inserted ms name t)) (member name t ms) (member name t (member l u ms)))
-    go Less ih = (k.0, k.1, ih)
-    go Equal ih = (n, h, k.2)
-    go Greater ih = (n, h, k)
+inserted_texts ms name t n h k = inserted_everywhere LeafIsUtf8 (λ _. Unit {0}) (λ name _. IsUtf8 name) ms name t n h k
 
 sorted_with_in : (P : Text → Type 0) (d : Text) (ds : List Text) → P d → ((x : Text) → In x ds → P x) → (x : Text) → In x (sorted_with d ds) → P x
 sorted_with_in P d [] p all = λ x there. elim there [ inl e ↦ subst P (sym e) p | inr m ↦ absurd m ]
@@ -79,13 +62,13 @@ sorted_texts : (ds : List Text) → AllTexts ds → AllTexts (sorted ds)
 sorted_texts [] all = all
 sorted_texts (d ∷ ds) all = sorted_with_in IsUtf8 d (sorted ds) (all d (inl refl)) (sorted_texts ds (λ x m. all x (inr m)))
 
-array_texts : (ds : List Text) → AllTexts ds → ElementsTexts (texts_array ds)
+array_texts : (ds : List Text) → AllTexts ds → ElementsTexts (text_elements ds)
 array_texts [] all = tt
 array_texts (d ∷ ds) all = (all d (inl refl), array_texts ds (λ x m. all x (inr m)))
 
 with_sd_texts : (ds : List Text) (ms : Members) → AllTexts ds → MembersTexts ms → MembersTexts (with_sd ds ms)
 with_sd_texts [] ms all h = h
-with_sd_texts (d ∷ ds) ms all h = inserted_texts ms sd_name (array (texts_array (d ∷ ds))) sd_utf8 (array_texts (d ∷ ds) all) h
+with_sd_texts (d ∷ ds) ms all h = inserted_texts ms sd_name (array (text_elements (d ∷ ds))) sd_utf8 (tt, array_texts (d ∷ ds) all) h
 
 digest_texts : (ds : List Text) → AllTexts ds → ElementsTexts (digest_elements ds)
 digest_texts [] all = tt
@@ -127,7 +110,7 @@ module _ (dg : ℕ → Text) (each : (k : ℕ) → IsUtf8 (dg k)) where
   mutual
     pub lay_texts : (dec : Path → List Text) → ((q : Path) → AllTexts (dec q)) → (m : Marked) → HasTexts (strip m) → HasTexts (lay dec dg m)
     lay_texts dec all (marked_leaf l) h = h
-    lay_texts dec all (marked_array es) h = elements_lay_texts dec all 0 es h
+    lay_texts dec all (marked_array es) h = (tt, elements_lay_texts dec all 0 es h.1)
     lay_texts dec all (marked_object ms) h =
         with_sd_texts (sorted (hidden_digests dg ms ++ dec [])) (lay_members dec dg ms) (sorted_texts (hidden_digests dg ms ++ dec []) (joined_texts (hidden_digests dg ms) (dec []) (hidden_texts ms) (all []))) (members_lay_texts dec all ms h)
 
@@ -144,7 +127,7 @@ module _ (dg : ℕ → Text) (each : (k : ℕ) → IsUtf8 (dg k)) where
   mutual
     pub items_texts : (dec : Path → List Text) → ((q : Path) → AllTexts (dec q)) → (m : Marked) → HasTexts (strip m) → AllValues GivenTexts (laid_given dec dg m)
     items_texts dec all (marked_leaf l) h = λ x m. elim m [ ]
-    items_texts dec all (marked_array es) h = elements_items_texts dec all 0 es h
+    items_texts dec all (marked_array es) h = elements_items_texts dec all 0 es h.1
     items_texts dec all (marked_object ms) h = members_items_texts dec all ms h
 
     elements_items_texts : (dec : Path → List Text) → ((q : Path) → AllTexts (dec q)) → (i : ℕ) (es : MarkedElements) → ElementsTexts (strip_elements es) → AllValues GivenTexts (laid_elements dec dg i es)

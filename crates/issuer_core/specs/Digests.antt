@@ -22,11 +22,11 @@ made_texts made k (x ∷ xs) = made k x.name x.value ∷ made_texts made (suc k)
 
 -- the claims, the hidden places numbered
 abbrev pub marked_claims : Order → Marked
-marked_claims o = mark o.claims o.hide
+marked_claims o = mark o.payload o.hide
 
 -- how many places are hidden: so many disclosures there are
 abbrev pub hidden_of : Order → ℕ
-hidden_of o = hidden_count o.claims o.hide
+hidden_of o = hidden_count o.payload o.hide
 
 -- the digests of some decoys, where the first has the number k
 abbrev pub digests_from : (ℕ → Text) → ℕ → List Path → List Text

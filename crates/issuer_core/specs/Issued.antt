@@ -1,6 +1,7 @@
 -- What an issuer hands out for an order: a payload, without its own `_sd_alg`, and disclosures.
-use Rattle.std.specs.Prelude.{◌≡◌, ℕ, ◌+◌, List, [], ◌∷◌, ◌++◌, map, length, true, Option, Some, None, bytes_eq, decimal, if◌then◌else◌}
-use Rattle.claim_tree.specs.Tree.{Text, Tree, leaf, array, object, Elements, no_elements, element, Members, no_members, member, elements_len, IsBeforeAll, IsRanged}
+use Rattle.std.specs.Prelude.{◌≡◌, ℕ, ◌+◌, List, [], ◌∷◌, ◌++◌, map, length, true, Option, Some, bytes_eq, decimal, if◌then◌else◌, unwrap_or}
+use Rattle.claim_tree.specs.Everywhere.{EachMember}
+use Rattle.claim_tree.specs.Tree.{Text, Tree, array, object, elements_len, IsBeforeAll, IsRanged}
 use Rattle.claim_tree.specs.Lists.{StandsAt, In, Repeats, AtNone}
 use Rattle.claim_tree.specs.Path.{tree_at}
 use Rattle.digest_sites.specs.Reserved.{sd_name, text_list}
@@ -23,14 +24,10 @@ occurs digest (other ∷ digests) = (if bytes_eq other digest then 1 else 0) + o
 
 -- ---- the places of decoys
 
-abbrev pub or_root : Option Path → Path
-or_root None = []
-or_root (Some at) = at
-
 -- where the tree of an owner stands in the claims
 abbrev pub root_of : Marked → Owner → Path
 root_of m payload = []
-root_of m (value_of k) = or_root (mark_path m k)
+root_of m (value_of k) = unwrap_or (mark_path m k) []
 
 -- where a site stands in the claims
 abbrev pub origin : Marked → OwnedSite → Path
@@ -47,7 +44,7 @@ abbrev pub DecoysStand : Maker → Order → Tree → List Given → Type 0
 DecoysStand maker o p given =
     (d : ℕ) (at : Path) → StandsAt (decoys_of o) d at
     → (x : OwnedSite) × In x (all_sites p given) × (x.site.digest ≡ maker.digest (maker.piece (hidden_of o + d)))
-    × IsDecoySite (marked_claims o) x at (earlier d at (decoys_of o)) (tree_at o.claims at)
+    × IsDecoySite (marked_claims o) x at (earlier d at (decoys_of o)) (tree_at o.payload at)
 
 -- ---- the lists `_sd`
 
@@ -60,19 +57,8 @@ abbrev pub IsDigestList : Tree → Type 0
 IsDigestList t = (digest : Text) × (digests : List Text) × (text_list t ≡ Some (digest ∷ digests)) × Rises (digest ∷ digests)
 
 -- each member `_sd` is one
-abbrev mutual
-  pub HasDigestLists : Tree → Type 0
-  HasDigestLists (leaf l) = Unit {0}
-  HasDigestLists (array es) = ElementsDigestLists es
-  HasDigestLists (object ms) = MembersDigestLists ms
-
-  pub ElementsDigestLists : Elements → Type 0
-  ElementsDigestLists no_elements = Unit {0}
-  ElementsDigestLists (element t es) = HasDigestLists t × ElementsDigestLists es
-
-  pub MembersDigestLists : Members → Type 0
-  MembersDigestLists no_members = Unit {0}
-  MembersDigestLists (member name t ms) = (bytes_eq name sd_name ≡ true → IsDigestList t) × HasDigestLists t × MembersDigestLists ms
+abbrev pub HasDigestLists : Tree → Type 0
+HasDigestLists t = EachMember (λ name value. bytes_eq name sd_name ≡ true → IsDigestList value) t
 
 -- ---- an order
 

@@ -2,6 +2,7 @@
 use Rattle.std.specs.Prelude.{◌≡◌, ℕ, suc, ◌+◌, ◌<◌, List, [], ◌∷◌, ◌++◌, length, Option, Some, None, decimal}
 use Rattle.std.specs.Ordering.{match_ordering, nat_cmp}
 use Rattle.std.specs.Cmp.Lexicographic.{slice_cmp}
+use Rattle.claim_tree.specs.FileForms.{text_elements}
 use Rattle.claim_tree.specs.Tree.{Text, text, Tree, leaf, array, object, Elements, no_elements, element, Members, no_members, member, inserted}
 use Rattle.claim_tree.specs.Lists.{StandsAt}
 use Rattle.digest_sites.specs.Reserved.{sd_name, dots_name}
@@ -30,14 +31,10 @@ abbrev pub sorted : List Text → List Text
 sorted [] = []
 sorted (digest ∷ digests) = sorted_with digest (sorted digests)
 
-abbrev pub texts_array : List Text → Elements
-texts_array [] = no_elements
-texts_array (digest ∷ digests) = element (leaf (text digest)) (texts_array digests)
-
 -- section 4.2.4.1: the member `_sd` is there only where it has a digest
 abbrev pub with_sd : List Text → Members → Members
 with_sd [] ms = ms
-with_sd (digest ∷ digests) ms = inserted ms sd_name (array (texts_array (digest ∷ digests)))
+with_sd (digest ∷ digests) ms = inserted ms sd_name (array (text_elements (digest ∷ digests)))
 
 -- section 4.2.4.2: what stands for a hidden element
 abbrev pub digest_object : Text → Tree

@@ -27,14 +27,14 @@ use Rattle.hmac_sign.specs.Signatures.{Meaning}
 abbrev pub LaidIsIssued : Type 0
 LaidIsIssued =
     (maker : Maker) (o : Order) (p : Tree) (given : List Given) (dg : ℕ → Text)
-    → IsGoodOrder o → IsRanged o.claims → HasShortLists o.claims
+    → IsGoodOrder o → IsRanged o.payload → HasShortLists o.payload
     → IsLaid maker o p given dg → AllDiffer dg (hidden_of o + length (decoys_of o)) → IsIssuedFor maker o p given
 
 -- the same of the parts with a good signature, for an order that nothing of 51 to 59 refuses and whose claims are a JSON value
 abbrev pub PartsAreIssued : Meaning → Type 0
 PartsAreIssued good =
     (maker : Maker) (o : Order) (parts : Parts)
-    → NoneApplies (AppliesToOrder o) → IsOrdered o.claims → IsRanged o.claims → HasShortLists o.claims
+    → NoneApplies (AppliesToOrder o) → IsOrdered o.payload → IsRanged o.payload → HasShortLists o.payload
     → (laid : IsLaidOut maker o good parts) → AllDiffer laid.digests (hidden_of o + length (decoys_of o)) → IsIssued maker o good parts
 
 abbrev pub LaidIsReadable : Type 0

@@ -7,11 +7,11 @@ use Rattle.issuer_core.specs.declared.order.Order as code
 
 -- the payload before anything is hidden, the places to hide, the entries of decoys, and what the header names
 pub record Order : Type 0 where
-  pub claims : Tree
+  pub payload : Tree
   pub hide : List (List Text)
   pub decoys : List Decoy
   pub kid : Option Text
   pub typ : Option Text
 
 abbrev pub order_of : code.Order → Order
-order_of o = record { claims = tree_of o.payload; hide = o.hide; decoys = o.decoys; kid = o.kid; typ = o.typ }
+order_of o = record { payload = tree_of o.payload; hide = o.hide; decoys = o.decoys; kid = o.kid; typ = o.typ }

@@ -2,7 +2,7 @@
 use Rattle.std.specs.Prelude.{◌≡◌, ℕ, ◌<◌, ◌≤◌, List, [], ◌∷◌, length, Some, None, codes, slice_get}
 use Rattle.std.specs.Set.{distinct_count}
 use Rattle.claim_tree.specs.Tree.{Text, Tree, depth}
-use Rattle.claim_tree.specs.Lists.{StandsAt, In}
+use Rattle.claim_tree.specs.Lists.{IsSuchAt, In}
 use Rattle.claim_tree.specs.Path.{tree_at}
 use Rattle.sd_outside.specs.Limits.{count_max, depth_max}
 use Rattle.marked_tree.specs.Paths.{Path, same_path}
@@ -13,10 +13,6 @@ use Rattle.issuer_core.specs.Order.{Order}
 use Rattle.issuer_core.specs.Decoys.{decoys_of}
 use Rattle.issuer_core.specs.GoodOrder.{IsObject, HoldsOthers}
 use Rattle.issuer_core.specs.ReservedPaths.{reserved_paths}
-
--- the element at place k is such
-abbrev pub IsSuchAt : {X : Type 0} → (X → Type 0) → List X → ℕ → Type 0
-IsSuchAt {X} IsSuch xs k = (x : X) × StandsAt xs k x × IsSuch x
 
 abbrev pub IsRoot : Path → Type 0
 IsRoot path = path ≡ []
@@ -40,13 +36,13 @@ IsMisplaced claims entry = HoldsOthers (tree_at claims entry.at) → ⊥
 
 -- what each refusal says of an order, and of a refusal with a place what it says of this place
 abbrev pub AppliesToOrder : Order → IssueError → Type 0
-AppliesToOrder o PayloadNotObject = IsObject o.claims → ⊥
-AppliesToOrder o (ReservedName path) = slice_get (reserved_paths o.claims) 0 ≡ Some path
-AppliesToOrder o TooDeep = depth_max < depth o.claims
+AppliesToOrder o PayloadNotObject = IsObject o.payload → ⊥
+AppliesToOrder o (ReservedName path) = slice_get (reserved_paths o.payload) 0 ≡ Some path
+AppliesToOrder o TooDeep = depth_max < depth o.payload
 AppliesToOrder o (RootMarked k) = IsSuchAt IsRoot o.hide k
-AppliesToOrder o (NoSuchPlace k) = IsSuchAt (IsNowhere o.claims) o.hide k
+AppliesToOrder o (NoSuchPlace k) = IsSuchAt (IsNowhere o.payload) o.hide k
 AppliesToOrder o (ProtectedClaim k) = IsSuchAt IsProtected o.hide k
-AppliesToOrder o (DecoyPlace k) = IsSuchAt (IsMisplaced o.claims) o.decoys k
+AppliesToOrder o (DecoyPlace k) = IsSuchAt (IsMisplaced o.payload) o.decoys k
 AppliesToOrder o TooManyHidden = count_max < distinct_count same_path o.hide
 AppliesToOrder o TooManyDecoys = count_max < length (decoys_of o)
 AppliesToOrder o _ = ⊥

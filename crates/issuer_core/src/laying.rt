@@ -1,6 +1,7 @@
 // The walk that hides, RFC 9901 section 4.2.4.
 ghost use Rattle.std.specs.Prelude.{◌≡◌, ◌+◌, ◌≤◌, ◌<◌, List, ℕ, [], ◌∷◌, ◌++◌, length, map, drop, option_map, IfOk, OnOk, IsTrue};
 ghost use Rattle.std.specs.Set.{distinct_count};
+ghost use Rattle.claim_tree.specs.FileForms.{text_elements};
 ghost use Rattle.sd_outside.specs.Limits.{count_max, depth_max};
 ghost use Rattle.claim_tree.specs.Tree.{Text, IsRanged, leaf, text as text_leaf, depth, elements_depth, members_depth, ElementsRanged, MembersRanged};
 ghost use Rattle.claim_tree.specs.View.{tree_of};
@@ -13,7 +14,7 @@ ghost use Rattle.issuer_core.specs.Order.{order_of};
 ghost use Rattle.issuer_core.specs.Decoys.{decoy_paths};
 ghost use Rattle.issuer_core.specs.Seed.{maker_of};
 ghost use Rattle.issuer_core.specs.Laid as spec;
-ghost use Rattle.issuer_core.specs.Laid.{sorted, texts_array, with_sd, digest_elements, hidden_digests, laid_given, laid_elements, laid_members, own_given, lay_elements, lay_members};
+ghost use Rattle.issuer_core.specs.Laid.{sorted, with_sd, digest_elements, hidden_digests, laid_given, laid_elements, laid_members, own_given, lay_elements, lay_members};
 ghost use Rattle.issuer_core.specs.Digests.{made_texts};
 ghost use Rattle.issuer_core.specs.Laying.{digest as digest_by, digest_at, salted, elements_joined, placed_at, ArePlaced, DecoysTell, IsPart, IsLaidWith, IsLaidFor};
 ghost use Rattle.issuer_core.specs.Closing.{one, HasNumber, ClosesFrom, ElementsClose, MembersClose};
@@ -140,7 +141,7 @@ fn push_copies(
 }
 
 fn texts_list(alloc: Global, texts: Vec<TextBox>) -> Result<TreeList, NoMemory>
-    ensures { IfOk result (λ list. list ≡ texts_array texts.items) }
+    ensures { IfOk result (λ list. list ≡ text_elements texts.items) }
 {
     let mut list = TreeList::new(alloc);
     for text in texts {
@@ -349,8 +350,8 @@ fn push_texts(alloc: Global, texts: &mut TextList, others: &TextList) -> Result<
 
 // Lays an order, with the salts of a seed. Where it hides nothing and has no decoys, its payload is moved.
 pub(crate) fn lay_order(alloc: Global, order: Order, seed: &[u8; 32]) -> Result<Laid, NoMemory>
-    requires shallow { depth (order_of order).claims ≤ depth_max }
-    requires ranged { IsRanged (order_of order).claims }
+    requires shallow { depth (order_of order).payload ≤ depth_max }
+    requires ranged { IsRanged (order_of order).payload }
     requires few { distinct_count same_path order.hide ≤ count_max }
     requires decoys { length (decoy_paths order.decoys) ≤ count_max }
     ensures laid { IfOk result (λ laid. IsLaidFor (maker_of seed.now) (order_of order) (tree_of laid.payload) laid.texts laid.digests) }
@@ -384,8 +385,8 @@ fn lay_shown(alloc: Global, payload: Tree) -> Result<Laid, NoMemory>
 
 // An order with what it hides and its decoys, by the salts of a seed.
 fn lay_hidden(alloc: Global, order: &Order, seed: &[u8; 32]) -> Result<Laid, NoMemory>
-    requires shallow { depth (order_of order.now).claims ≤ depth_max }
-    requires ranged { IsRanged (order_of order.now).claims }
+    requires shallow { depth (order_of order.now).payload ≤ depth_max }
+    requires ranged { IsRanged (order_of order.now).payload }
     requires few { distinct_count same_path order.now.hide ≤ count_max }
     requires decoys { length (decoy_paths order.now.decoys) ≤ count_max }
     ensures laid { IfOk result (λ laid. IsLaidFor (maker_of seed.now) (order_of order.now) (tree_of laid.payload) laid.texts laid.digests) }

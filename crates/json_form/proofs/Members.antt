@@ -7,6 +7,7 @@ use Rattle.claim_tree.specs.Removed.{removed}
 use Rattle.claim_tree.specs.View.{tree_of}
 use Rattle.claim_tree.specs.declared.tree.Tree as tree
 use Rattle.claim_tree.proofs.OtherMembers.{named_other, removed_absent}
+use Rattle.claim_tree.proofs.ObjectTrees.{object_inside}
 use Rattle.compact_form.specs.PartWords.{part_word}
 use Rattle.compact_form.specs.declared.fault.Part.{Part}
 use Rattle.compact_form.specs.declared.fault.Part.TheVariants.{Protected, Signature, Header}
@@ -33,14 +34,6 @@ pub beside_kept : (ms : Members) (gone : Part) → bytes_eq (part_word gone) (pa
     → has_beside (removed ms (part_word gone)) ≡ has_beside ms
 beside_kept ms gone p s h =
     either_of _ _ _ (has_part ms Protected) (has_part ms Signature) (has_part ms Header) (ap is_some (found_other ms gone Protected p)) (ap is_some (found_other ms gone Signature s)) (ap is_some (found_other ms gone Header h))
-
-object_inside : (t : tree.Tree) (ms : Members) → tree_of t ≡ object ms → t ≡ tree.Tree.Object ms
-object_inside tree.Tree.Null ms e = cc e
-object_inside (tree.Tree.Flag b) ms e = cc e
-object_inside (tree.Tree.Whole n) ms e = cc e
-object_inside (tree.Tree.Text s) ms e = cc e
-object_inside (tree.Tree.List es) ms e = cc e
-object_inside (tree.Tree.Object other) ms e = let same : other ≡ ms = cc e in ap tree.Tree.Object same
 
 pub no_object : (t : tree.Tree) → ((ms : Members) → t ≢ tree.Tree.Object ms) → (ms : Members) → tree_of t ≢ object ms
 no_object t other ms e = other ms (object_inside t ms e)

@@ -1,14 +1,11 @@
 -- For the models: a code for tokens, by which a proof tells two of them apart.
 use Rattle.std.specs.Prelude.{List, Option, refl}
-use Rattle.std.specs.Coded.{Coded, coded_ℕ, coded_list, coded×, coded_option, code_by}
+use Rattle.std.specs.Coded.{Coded, coded_list, coded×, coded_option, code_by}
 use Rattle.claim_tree.specs.Tree.{Text, Members}
-use Rattle.claim_tree.specs.Code.{members_code}
+use Rattle.claim_tree.specs.Code.{text_code, members_code}
 use Rattle.compact_form.specs.declared.parts.JwtParts.{JwtParts}
 use Rattle.compact_form.specs.declared.parts.Parts.{Parts}
 use Rattle.json_form.specs.declared.token.Token.{Token}
-
-abbrev text_code : Coded Text
-text_code = coded_list coded_ℕ
 
 abbrev jwt_code : Coded JwtParts
 jwt_code =

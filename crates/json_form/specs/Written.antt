@@ -17,23 +17,18 @@ with_binding (Some j) ms = inserted ms (part_word KbJwt) (leaf (text (jwt j)))
 abbrev pub written_header : Token → Members
 written_header token = inserted (with_binding token.parts.binding token.outer) (part_word Disclosures) (array (text_elements token.parts.disclosures))
 
+abbrev pub signature_members : Token → Members
+signature_members token = member (part_word Protected) (leaf (text token.parts.signed.protected)) (member (part_word Signature) (leaf (text token.parts.signed.signature)) no_members)
+
 abbrev pub flat_members : Token → Members
-flat_members token =
-    member (part_word Header) (object (written_header token)) (
-    member (part_word Payload) (leaf (text token.parts.signed.payload)) (
-    member (part_word Protected) (leaf (text token.parts.signed.protected)) (member (part_word Signature) (leaf (text token.parts.signed.signature)) no_members)
-    )
-    )
+flat_members token = member (part_word Header) (object (written_header token)) (member (part_word Payload) (leaf (text token.parts.signed.payload)) (signature_members token))
 
 abbrev pub flat_of : Token → Tree
 flat_of token = object (flat_members token)
 
 -- what belongs to the one signature
 abbrev pub entry_of : Token → Members
-entry_of token =
-    member (part_word Header) (object (written_header token)) (
-    member (part_word Protected) (leaf (text token.parts.signed.protected)) (member (part_word Signature) (leaf (text token.parts.signed.signature)) no_members)
-    )
+entry_of token = member (part_word Header) (object (written_header token)) (signature_members token)
 
 abbrev pub general_members : Token → Members
 general_members token = member (part_word Payload) (leaf (text token.parts.signed.payload)) (member (part_word Signatures) (array (element (object (entry_of token)) no_elements)) no_members)

@@ -1,7 +1,8 @@
 -- What a base64url text of JSON carries.
 use Rattle.std.proofs.Common.{◌≡◌, inl, inr, true, false, refl, sym, ap, subst, ◌∙◌}
 use Rattle.serde_json.specs.Written.{has_float}
-use Rattle.b64url_text.specs.Base64url.{Decodes, IsNotBase64}
+use Rattle.b64url_text.specs.Base64url.{Decodes}
+use Rattle.b64url_text.specs.NotBase64.{IsNotBase64}
 use Rattle.b64url_text.proofs.Codes.{one_code}
 use Rattle.claim_tree.specs.Tree.{Text, Tree, leaf, null, flag, whole, text, array, object, Members}
 use Rattle.claim_tree.specs.JsonText.{Reads, IsNotJson, IsNotWhole, data_of}

@@ -14,10 +14,6 @@ use Rattle.jws_part.specs.Times.{IsTimeUnreadable, IsExpired, IsNotYet}
 use Rattle.key_binding.specs.Binding.{Claims}
 use Rattle.key_binding.specs.Judged.{Judged, holder_key, HasBindingHeader, HasClaims}
 
--- the header is not read, or wants an extension to be understood
-abbrev pub IsHeaderRefused : Judged → Type 0
-IsHeaderRefused j = IsHeaderUnreadable j.token.protected no_members ⊎ IsHeaderCritical j.token.protected no_members
-
 -- the header is read, and this is not so of it
 abbrev pub OfHeader : Judged → (Header → Type 0) → Type 0
 OfHeader j P = (header : Header) × HasBindingHeader j.token header × P header
@@ -45,7 +41,7 @@ IsTimeRefused body skew now = IsTimeUnreadable body ⊎ (IsExpired body skew now
 -- what fails each condition, where no lower one fails
 abbrev pub BindingFails : Judged → Condition → Place → Type 0
 BindingFails j condition.holder_key_unknown place = Unplaced (holder_key j.policy.keys j.payload ≡ None) place
-BindingFails j condition.binding_header place = Unplaced (IsHeaderRefused j) place
+BindingFails j condition.binding_header place = Unplaced (IsHeaderUnreadable j.token.protected no_members ⊎ IsHeaderCritical j.token.protected no_members) place
 BindingFails j condition.binding_alg place = Unplaced (OfHeader j (λ header. header.alg ≢ codes "HS256")) place
 BindingFails j condition.binding_signature place = Unplaced (IsBadBindingSignature j) place
 BindingFails j condition.binding_type place = Unplaced (OfHeader j (λ header. header.typ ≢ Some (codes "kb+jwt"))) place

@@ -1,12 +1,12 @@
 -- Opening by search, element by element and member by member.
 use Rattle.std.proofs.Common.{◌≡◌, ℕ, zero, suc, ◌+◌, ◌-◌, ◌*◌, ◌<◌, ◌≤◌, List, [], ◌∷◌, map, length, get_or, drop, true, false, cond, Option, Some, None, IsSome, sym, ap, ap₂, ◌∙◌, subst, arith}
-use Rattle.std.specs.Prelude.{bytes_eq}
+use Rattle.std.specs.Prelude.{bytes_eq, unwrap_or}
 use Rattle.std.proofs.lemmas.List.{at_drop_more}
 use Rattle.claim_tree.specs.Tree.{Text, Tree, Elements, no_elements, element, Members, no_members, member, names, MembersOrdered}
 use Rattle.claim_tree.specs.Nodes.{nodes}
 use Rattle.claim_tree.specs.Lists.{StandsAt}
 use Rattle.claim_tree.proofs.Lists.{At-below}
-use Rattle.digest_sites.specs.Reserved.{sd_name, element_digest, texts_of, texts_or_none}
+use Rattle.digest_sites.specs.Reserved.{sd_name, element_digest, texts_of}
 use Rattle.digest_sites.specs.Given.{Given}
 use Rattle.digest_sites.specs.GivenView.{given_of}
 use Rattle.digest_sites.specs.declared.given.Given.{Given as GivenCode}
@@ -111,4 +111,4 @@ module _ (r : Text → Shown) (all : MarkedMembers) (k : Text) (t : Tree) (rest 
 -- ---- the texts of `_sd`
 
 abbrev pub TextState : (Text → Shown) → MarkedMembers → Elements → MarkedMembers → Type 0
-TextState r all rest out = IsSome (texts_of rest) × (show_members r (texts_or_none (texts_of rest)) out ≡ all)
+TextState r all rest out = IsSome (texts_of rest) × (show_members r (unwrap_or (texts_of rest) []) out ≡ all)

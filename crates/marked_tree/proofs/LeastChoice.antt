@@ -5,11 +5,12 @@ use Rattle.std.proofs.lemmas.Bool.Decides.{nat_tests}
 use Rattle.claim_tree.specs.Tree.{Tree}
 use Rattle.claim_tree.specs.Lists.{In}
 use Rattle.claim_tree.proofs.Lists.{and_split, and_join, In-of_map, list_any-In}
+use Rattle.claim_tree.specs.Path.{is_front}
 use Rattle.marked_tree.specs.Choice.{IsClosed, is_on_way, KeepsTheWay, IsUnmixed, IsLeastChoice}
 use Rattle.marked_tree.specs.Laws.{Choice, HasEachMarkOnce}
 use Rattle.marked_tree.specs.Marked.{Marked}
 use Rattle.marked_tree.specs.Ways.{only}
-use Rattle.marked_tree.specs.Paths.{Path, is_front, Spot, spots, mark, hidden_count, chosen}
+use Rattle.marked_tree.specs.Paths.{Path, Spot, spots, mark, hidden_count, chosen}
 use Rattle.marked_tree.proofs.MarkFacts.{up_to, up_to_le, marks_once_holds}
 use Rattle.marked_tree.proofs.Spots.{at_least_one, Way, way, any-from, ways_of_spots, spots_weigh, same_spot, leads_through, spots_above}
 

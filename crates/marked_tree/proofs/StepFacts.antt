@@ -6,13 +6,13 @@ use Rattle.std.proofs.lemmas.List.Folds.{list_any-append}
 use Rattle.std.proofs.lemmas.Slice.Eq.{bytes_eq-Decides}
 use Rattle.claim_tree.specs.Tree.{Text, Tree, IsBeforeAll, IsOrdered, member_named}
 use Rattle.claim_tree.specs.Lists.{StandsAt}
-use Rattle.claim_tree.specs.Path.{stepped, element_on}
+use Rattle.claim_tree.specs.Path.{is_front, stepped, element_on}
 use Rattle.claim_tree.proofs.Lists.{bytes_same, bytes_refl}
 use Rattle.claim_tree.proofs.Positions.{unequal}
 use Rattle.marked_tree.specs.Marked as spec
 use Rattle.marked_tree.specs.Marked.{marked_leaf, marked_array, marked_object, MarkedElements, no_marked_elements, marked_element, MarkedMembers, no_marked_members, marked_member, strip, strip_elements, strip_members}
 use Rattle.marked_tree.specs.MarkedCalls.{marked_names, marked_elements_len, marked_element_at}
-use Rattle.marked_tree.specs.Paths.{Path, is_front, Spot, inside, own_spot, spots, elements_spots, members_spots}
+use Rattle.marked_tree.specs.Paths.{Path, Spot, inside, own_spot, spots, elements_spots, members_spots}
 use Rattle.marked_tree.specs.Choice.{is_on_way, has_mark}
 use Rattle.marked_tree.specs.Steps.{marked_element_on, marked_member_named, marked_stepped, IsShortList}
 use Rattle.marked_tree.specs.NamePositions.{IsNameGap}

@@ -2,9 +2,10 @@
 use Rattle.std.specs.Prelude.{◌≡◌, ℕ, ◌≤◌, List, eqb, Bool, true, ◌&&◌, Option, Some, None, false}
 use Rattle.std.specs.List.{list_any}
 use Rattle.claim_tree.specs.Lists.{In}
+use Rattle.claim_tree.specs.Path.{is_front}
 use Rattle.marked_tree.specs.Marked.{Marked}
 use Rattle.marked_tree.specs.Ways.{ways, weight, only}
-use Rattle.marked_tree.specs.Paths.{Path, is_front, Spot, spots}
+use Rattle.marked_tree.specs.Paths.{Path, Spot, spots}
 
 -- for each node whose mark is in s, so are all marks above it
 abbrev pub IsClosed : Marked → (ℕ → Bool) → Type 0

@@ -1,26 +1,14 @@
 -- For the models: a code for marked trees, by which a proof tells two of them apart.
 use Rattle.std.specs.Prelude.{◌≡◌, ℕ, Option, refl}
 use Rattle.std.proofs.Common.{ap}
-use Rattle.std.specs.Coded.{Coded, coded_ℕ, coded_list, coded_option}
+use Rattle.std.specs.Coded.{Coded, coded_ℕ, coded_option}
 use base.Stored.{Gv, gnil, gnum, gcons}
-use Rattle.claim_tree.specs.Tree.{Text, leaf, Leaf, no_elements, element}
-use Rattle.claim_tree.specs.Code.{elements_code}
+use Rattle.claim_tree.specs.Tree.{Text}
+use Rattle.claim_tree.specs.Code.{text_code, leaf_to, leaf_inj, gcons_same}
 use Rattle.marked_tree.specs.Marked.{Marked, marked_leaf, marked_array, marked_object, MarkedElements, no_marked_elements, marked_element, MarkedMembers, no_marked_members, marked_member}
-
-abbrev text_code : Coded Text
-text_code = coded_list coded_ℕ
 
 abbrev mark_code : Coded (Option ℕ)
 mark_code = coded_option coded_ℕ
-
--- a leaf as the array that has it alone
-abbrev leaf_to : Leaf → Gv
-leaf_to l = elements_code.code (element (leaf l) no_elements)
-
-leaf_inj : (l m : Leaf) → leaf_to l ≡ leaf_to m → l ≡ m
-leaf_inj l m e =
-    let same : element (leaf l) no_elements ≡ element (leaf m) no_elements = elements_code.inj (element (leaf l) no_elements) (element (leaf m) no_elements) e in
-    cc
 
 abbrev mutual
   marked_to : Marked → Gv
@@ -35,9 +23,6 @@ abbrev mutual
   marked_members_to : MarkedMembers → Gv
   marked_members_to no_marked_members = gnil
   marked_members_to (marked_member k i t ms) = gcons (text_code.code k) (gcons (mark_code.code i) (gcons (marked_to t) (marked_members_to ms)))
-
-gcons_same : (a b c d : Gv) → gcons a b ≡ gcons c d → (a ≡ c) × (b ≡ d)
-gcons_same a b c d e = (cc, cc)
 
 mutual
   pub marked_inj : (x y : Marked) → marked_to x ≡ marked_to y → x ≡ y

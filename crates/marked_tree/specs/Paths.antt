@@ -1,18 +1,14 @@
 -- Where marks stand in a marked tree, and the marking of a plain tree.
-use Rattle.std.specs.Prelude.{ℕ, suc, ◌+◌, List, [], ◌∷◌, ◌++◌, map, eqb, Bool, true, false, ◌&&◌, if◌then◌else◌, Option, Some, None, bytes_eq, decimal}
+use Rattle.std.specs.Prelude.{ℕ, suc, ◌+◌, List, [], ◌∷◌, ◌++◌, map, eqb, Bool, ◌&&◌, if◌then◌else◌, Option, Some, None, bytes_eq, decimal}
 use Rattle.std.specs.List.{list_any}
+use Rattle.std.specs.Cmp.Lexicographic.{pointwise}
 use Rattle.claim_tree.specs.Tree.{Text, Tree, leaf, array, object, Elements, no_elements, element, Members, no_members, member}
+use Rattle.claim_tree.specs.Path.{is_front}
 use Rattle.marked_tree.specs.Marked.{Marked, marked_leaf, marked_array, marked_object, MarkedElements, no_marked_elements, marked_element, MarkedMembers, no_marked_members, marked_member}
 
 -- the steps from the root
 abbrev pub Path : Type 0
 Path = List Text
-
--- p is a front of q
-abbrev pub is_front : Path → Path → Bool
-is_front [] q = true
-is_front (k ∷ p) [] = false
-is_front (k ∷ p) (l ∷ q) = bytes_eq k l && is_front p q
 
 -- a node with a mark: its path in the stripped tree, and the marks above it, the outermost first
 pub record Spot : Type 0 where
@@ -103,10 +99,7 @@ abbrev mutual
       (mark_members h (n + (hidden_in (below k h) t + one_if (h (k ∷ [])))) ms)
 
 abbrev pub same_path : Path → Path → Bool
-same_path [] [] = true
-same_path [] (l ∷ q) = false
-same_path (k ∷ p) [] = false
-same_path (k ∷ p) (l ∷ q) = bytes_eq k l && same_path p q
+same_path p q = pointwise bytes_eq p q
 
 -- p is a path of the list
 abbrev pub is_among : List Path → Path → Bool

@@ -1,11 +1,11 @@
 -- A payload without its own `_sd_alg` has the same digests, and misuses a reserved name where the payload does.
 use Rattle.std.proofs.Common.{◌≡◌, Bool, true, false, ◌||◌, Some, bytes_eq, refl, sym, ap, ◌∙◌, subst, inl, inr}
-use Rattle.std.specs.Prelude.{if◌then◌else◌}
+use Rattle.std.specs.Prelude.{[], if◌then◌else◌, unwrap_or}
 use Rattle.claim_tree.specs.Tree.{Text, Tree, leaf, text, array, object, Members, no_members, member, member_named, names, IsBeforeAll, IsOrdered, MembersOrdered}
 use Rattle.claim_tree.specs.Lists.{In}
 use Rattle.claim_tree.specs.Removed.{removed}
 use Rattle.claim_tree.proofs.Lists.{bytes_same}
-use Rattle.digest_sites.specs.Reserved.{sd_name, dots_name, sd_texts, text_list, texts_or_none, misuses, members_misuse, is_ill_named}
+use Rattle.digest_sites.specs.Reserved.{sd_name, dots_name, sd_texts, text_list, misuses, members_misuse, is_ill_named}
 use Rattle.rebuild_core.specs.Payload.{alg_name, without_alg}
 use Rattle.rebuild_core.specs.Answer.{IsPayload}
 use Rattle.marked_tree.proofs.Puts.{IsBeforeAll-not_in}
@@ -46,9 +46,9 @@ sd_texts_without no_members = refl
 sd_texts_without (member name t ms) = go (bytes_eq name alg_name) refl (sd_texts_without ms)
   where
     go : (b : Bool) → bytes_eq name alg_name ≡ b → sd_texts (removed ms alg_name) ≡ sd_texts ms
-        → sd_texts (if b then removed ms alg_name else member name t (removed ms alg_name)) ≡ (if bytes_eq name sd_name then texts_or_none (text_list t) else sd_texts ms)
+        → sd_texts (if b then removed ms alg_name else member name t (removed ms alg_name)) ≡ (if bytes_eq name sd_name then unwrap_or (text_list t) [] else sd_texts ms)
     go true e ih = rw (alg_is_not_sd name e) ih
-    go false e ih = ap (λ ds. if bytes_eq name sd_name then texts_or_none (text_list t) else ds) ih
+    go false e ih = ap (λ ds. if bytes_eq name sd_name then unwrap_or (text_list t) [] else ds) ih
 
 members_misuse_without : (ms : Members) → HasTextAlg ms → members_misuse (removed ms alg_name) ≡ members_misuse ms
 members_misuse_without no_members h = refl

@@ -8,14 +8,16 @@ use Rattle.digest_sites.specs.Reserved.{dots_name, element_digest, elements_misu
 use Rattle.digest_sites.specs.Sites.{Site, sites}
 use Rattle.marked_tree.specs.Marked.{Marked, marked_member, strip, strip_elements, strip_members}
 use Rattle.marked_tree.specs.Ways.{ways}
-use Rattle.rebuild_core.specs.AllShown.{HasTextLists, ElementsTextLists, MembersTextLists, AreAllShown, ShownIsSound}
+use Rattle.rebuild_core.specs.AllShown.{IsTextList, HasTextLists, AreAllShown, ShownIsSound}
 use Rattle.rebuild_core.specs.Readable.{IsReadable}
 use Rattle.rebuild_core.specs.Conditions.{Discloses, EarlierName, IsWrong, Misused, NameClash, RepeatedDigest, ReservedName, Unreferenced, WrongShape}
 use Rattle.rebuild_core.specs.Soundness.{IsReferencedOnce, IsSound, IsWellNamed}
-use Rattle.rebuild_core.specs.Free.{ElementsNoReserved, HasNoReserved, IsFree, MembersNoReserved}
+use Rattle.rebuild_core.specs.Free.{HasNoReserved, IsFree}
+use Rattle.rebuild_core.proofs.FreeMembers.{ElementsNoReserved, MembersNoReserved}
 use Rattle.rebuild_core.specs.Reached.{OwnedSite, Owner, find, is_in_round, is_reached, owned_site, owned_digests, met, payload, stands, value_sites, value_of}
 use Rattle.rebuild_core.specs.Opening.{Shown, nothing_shown, open_element, open_elements, open_members, open_tree, opened, processed, reveal, show_element, shown, shown_by}
 use Rattle.rebuild_core.specs.Payload.{alg_name}
+use Rattle.claim_tree.proofs.Everywheres.{EachElementIn, EachMemberIn}
 use Rattle.claim_tree.proofs.Lists.{At-In, At-below, At-map, At-same, In-At, In-append, In-left, In-map, In-of_map, In-right, and_join, bytes_refl, bytes_same, one_place, or_right, same_by_image}
 use Rattle.rebuild_core.proofs.Chains.{item_of_value}
 use Rattle.rebuild_core.proofs.Fits.{Names, Suits}
@@ -118,16 +120,16 @@ element_free r (Some d) t es f = ((λ e. cc), go (r d) f)
 mutual
   pub clean : (r : Text → Shown) (t : Tree) → HasTextLists t → HasNoReserved (strip (open_tree r t)) → misuses t ≡ false
   clean r (leaf l) d f = refl
-  clean r (array es) d f = clean_elements r es d f
+  clean r (array es) d f = clean_elements r es d.1 f.1
   clean r (object ms) d f = clean_members r ms d (shows_free r (sd_texts ms) (open_members r ms) f)
 
-  clean_elements : (r : Text → Shown) (es : Elements) → ElementsTextLists es → ElementsNoReserved (strip_elements (open_elements r es)) → elements_misuse es ≡ false
+  clean_elements : (r : Text → Shown) (es : Elements) → EachElementIn IsTextList es → ElementsNoReserved (strip_elements (open_elements r es)) → elements_misuse es ≡ false
   clean_elements r no_elements d f = refl
   clean_elements r (element t es) d f =
       let w = element_free r (element_digest t) t es f in
       clean_element (element_digest t) (misuses t) (elements_misuse es) (λ e. clean r t d.0 (w.0 e)) (clean_elements r es d.1 w.1)
 
-  clean_members : (r : Text → Shown) (ms : Members) → MembersTextLists ms → MembersNoReserved (strip_members (open_members r ms)) → members_misuse ms ≡ false
+  clean_members : (r : Text → Shown) (ms : Members) → EachMemberIn IsTextList ms → MembersNoReserved (strip_members (open_members r ms)) → members_misuse ms ≡ false
   clean_members r no_members d f = refl
   clean_members r (member k t ms) d f = go (bytes_eq k sd_name) refl f (λ h. clean r t d.1 h) (λ h. clean_members r ms d.2 h)
     where

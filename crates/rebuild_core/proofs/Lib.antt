@@ -40,6 +40,7 @@ pub mod ListOpening
 pub mod MapOpening
 pub mod Opened
 pub mod Ranged
+pub mod FreeMembers
 pub mod ShownPuts
 pub mod ShownAt
 pub mod AllShown

@@ -9,7 +9,8 @@ use Rattle.digest_sites.specs.Sites.{Step, to_member, to_element, Site, element_
 use Rattle.marked_tree.specs.Marked.{Marked, MarkedElements, MarkedMembers, marked_member, put, strip, strip_elements, strip_members}
 use Rattle.marked_tree.specs.Ways.{elements_ways, members_ways, way_of, ways}
 use Rattle.marked_tree.specs.MarkedCalls.{marked_names}
-use Rattle.rebuild_core.specs.Free.{ElementsNoReserved, HasNoReserved, IsFree, MembersNoReserved}
+use Rattle.rebuild_core.specs.Free.{HasNoReserved, IsFree}
+use Rattle.rebuild_core.proofs.FreeMembers.{ElementsNoReserved, MembersNoReserved}
 use Rattle.rebuild_core.specs.Opening.{Shown, nothing_shown, open_element, open_elements, open_members, open_tree, show_element, show_member, show_members, shown}
 use Rattle.claim_tree.proofs.Lists.{In-append, In-of_map, In-right, bytes_same}
 use Rattle.marked_tree.proofs.Puts.{IsAscending, IsBeforeAll-not_in, put_ascending}
@@ -232,7 +233,7 @@ member_rest k false t ms f = f.2
 mutual
   pub shown_back : (r : Text → Shown) (t : Tree) (v : Way) → IsOrdered t → HasNoReserved (strip (open_tree r t)) → In v (ways (open_tree r t)) → Shown_at r (sites t) v
   shown_back r (leaf l) v o f h = elim h [ ]
-  shown_back r (array es) v o f h = elements_back r 0 es v o f h
+  shown_back r (array es) v o f h = elements_back r 0 es v o f.1 h
   shown_back r (object ms) v o f h =
       let own = map (own_site (names ms)) (sd_texts ms) in
       ⊎_elim

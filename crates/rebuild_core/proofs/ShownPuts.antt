@@ -8,7 +8,8 @@ use Rattle.claim_tree.specs.Tree.{IsBefore, Text}
 use Rattle.marked_tree.specs.Marked.{Marked, MarkedMembers, marked_member, no_marked_members, put, strip, strip_members}
 use Rattle.marked_tree.specs.Ways.{members_ways, way_of, ways}
 use Rattle.marked_tree.specs.MarkedCalls.{marked_names}
-use Rattle.rebuild_core.specs.Free.{HasNoReserved, IsFree, MembersNoReserved}
+use Rattle.rebuild_core.specs.Free.{HasNoReserved, IsFree}
+use Rattle.rebuild_core.proofs.FreeMembers.{MembersNoReserved}
 use Rattle.claim_tree.proofs.Lists.{In-append, In-left, In-right}
 use Rattle.marked_tree.proofs.Puts.{IsAscending, IsBeforeAll-not_in, IsBeforeAll-weaker, after_turned, never_itself}
 use Rattle.rebuild_core.proofs.Marks.{Way}

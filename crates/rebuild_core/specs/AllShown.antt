@@ -1,7 +1,8 @@
 -- Not needed to believe the program's promises: the converse of `OneNode`: where each disclosure is shown and each digest stands once, the conditions hold.
 use Rattle.std.specs.Prelude.{◌≡◌, ◌<◌, ◌≤◌, ℕ, List, length, true, is_some, bytes_eq}
 use Rattle.sd_outside.specs.Limits.{depth_max}
-use Rattle.claim_tree.specs.Tree.{Tree, leaf, array, object, Elements, no_elements, element, Members, no_members, member, depth}
+use Rattle.claim_tree.specs.Tree.{Text, Tree, depth}
+use Rattle.claim_tree.specs.Everywhere.{EachMember}
 use Rattle.claim_tree.specs.Lists.{In, Repeats, AtNone}
 use Rattle.digest_sites.specs.Reserved.{sd_name, text_list}
 use Rattle.digest_sites.specs.Given.{Given}
@@ -15,19 +16,11 @@ use Rattle.rebuild_core.specs.Free.{HasNoReserved}
 use Rattle.rebuild_core.specs.Readable.{IsReadable}
 
 -- each member `_sd` is a list of texts
-abbrev mutual
-  pub HasTextLists : Tree → Type 0
-  HasTextLists (leaf l) = Unit {0}
-  HasTextLists (array es) = ElementsTextLists es
-  HasTextLists (object ms) = MembersTextLists ms
+abbrev pub IsTextList : Text → Tree → Type 0
+IsTextList name value = bytes_eq name sd_name ≡ true → is_some (text_list value) ≡ true
 
-  pub ElementsTextLists : Elements → Type 0
-  ElementsTextLists no_elements = Unit {0}
-  ElementsTextLists (element t es) = HasTextLists t × ElementsTextLists es
-
-  pub MembersTextLists : Members → Type 0
-  MembersTextLists no_members = Unit {0}
-  MembersTextLists (member name t ms) = (bytes_eq name sd_name ≡ true → is_some (text_list t) ≡ true) × HasTextLists t × MembersTextLists ms
+abbrev pub HasTextLists : Tree → Type 0
+HasTextLists t = EachMember IsTextList t
 
 -- the number is the mark of a node
 abbrev pub IsMarkOf : ℕ → Tree → List Given → Type 0

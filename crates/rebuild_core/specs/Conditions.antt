@@ -3,7 +3,7 @@
 use Rattle.std.specs.Prelude.{◌≡◌, ℕ, zero, suc, ◌<◌, List, [], true, false, Option, Some, None, ◌⊎◌}
 use Rattle.sd_outside.specs.Limits.{depth_max}
 use Rattle.claim_tree.specs.Tree.{Text, Tree, depth}
-use Rattle.claim_tree.specs.Lists.{StandsAt, In, Repeats}
+use Rattle.claim_tree.specs.Lists.{StandsAt, IsSuchAt, In, Repeats}
 use Rattle.digest_sites.specs.Reserved.{misuses, sd_name, dots_name}
 use Rattle.digest_sites.specs.Given.{Given}
 use Rattle.digest_sites.specs.declared.site.SiteKind.{SiteKind}
@@ -20,7 +20,7 @@ RepeatedDisclosure given i = Repeats (given_digests given) i
 -- 15: tree 0, the payload, or tree i + 1, the value of disclosure i, misuses a reserved name
 abbrev pub Misused : Tree → List Given → ℕ → Type 0
 Misused p given zero = misuses p ≡ true
-Misused p given (suc i) = (x : Given) × StandsAt given i x × (misuses x.value ≡ true)
+Misused p given (suc i) = IsSuchAt (λ x. misuses x.value ≡ true) given i
 
 -- 16: the digest at this place of the met list equals an earlier one
 abbrev pub RepeatedDigest : Tree → List Given → ℕ → Type 0
@@ -28,7 +28,7 @@ RepeatedDigest p given place = Repeats (owned_digests (met p given)) place
 
 -- 17: disclosure i is not reached
 abbrev pub Unreferenced : Tree → List Given → ℕ → Type 0
-Unreferenced p given i = (x : Given) × StandsAt given i x × (is_reached p given x ≡ false)
+Unreferenced p given i = IsSuchAt (λ x. is_reached p given x ≡ false) given i
 
 -- a disclosure with this name, or none, does not fit a site of this kind
 abbrev pub IsWrong : SiteKind → Option Text → Type 0
@@ -41,23 +41,17 @@ IsWrong SiteKind.Element (Some name) = Unit {0}
 abbrev pub Stands : (OwnedSite → Given → Type 0) → Tree → List Given → ℕ → Type 0
 Stands IsIll p given i = (x : Given) × StandsAt given i x × (m : OwnedSite) × In m (met p given) × (m.site.digest ≡ x.digest) × IsIll m x
 
-abbrev pub IsWrongAt : OwnedSite → Given → Type 0
-IsWrongAt m x = IsWrong m.site.kind x.name
-
 -- 18: disclosure i stands at a member site and has no name, or at an element site and has one
 abbrev pub WrongShape : Tree → List Given → ℕ → Type 0
-WrongShape p given i = Stands IsWrongAt p given i
+WrongShape p given i = Stands (λ m x. IsWrong m.site.kind x.name) p given i
 
 -- `_sd` and `...` in any object, and `_sd_alg` in the payload itself
 abbrev pub IsReserved : OwnedSite → Text → Type 0
 IsReserved m name = (name ≡ sd_name) ⊎ ((name ≡ dots_name) ⊎ ((name ≡ alg_name) × (m.owner ≡ payload) × (m.site.at ≡ [])))
 
-abbrev pub IsReservedAt : OwnedSite → Given → Type 0
-IsReservedAt m x = (m.site.kind ≡ Member) × (name : Text) × (x.name ≡ Some name) × IsReserved m name
-
 -- 19: disclosure i stands at a member site and has a reserved name
 abbrev pub ReservedName : Tree → List Given → ℕ → Type 0
-ReservedName p given i = Stands IsReservedAt p given i
+ReservedName p given i = Stands (λ m x. (m.site.kind ≡ Member) × (name : Text) × (x.name ≡ Some name) × IsReserved m name) p given i
 
 -- the site is a member site, its disclosure is there, and has the name
 abbrev pub Discloses : List Given → OwnedSite → Text → Type 0

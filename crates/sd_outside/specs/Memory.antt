@@ -1,5 +1,6 @@
 -- Not needed to believe the program's promises: what contracts see of the cabinet and the sink in memory.
-use Rattle.std.specs.Prelude.{◌≡◌, ◌<◌, ◌+◌, ◌-◌, ◌^◌, min, ℕ, length, take, slice_index_or, List, [], ◌∷◌, Option, None, Some, bytes_eq, if◌then◌else◌}
+use Rattle.std.specs.Prelude.{◌≡◌, ◌==◌, ◌<◌, ◌+◌, ◌-◌, ◌^◌, ◌++◌, min, ℕ, length, take, slice_index_or, IsTrue, List, [], ◌∷◌, Option, None, Some, bytes_eq, if◌then◌else◌}
+use Rattle.std.specs.List.{list_any}
 
 -- names, each with the content under it
 abbrev pub Files : Type 0
@@ -10,20 +11,41 @@ abbrev pub content_of : Files → List ℕ → Option (List ℕ)
 content_of [] name = None
 content_of (file ∷ files) name = if bytes_eq file.0 name then Some file.1 else content_of files name
 
--- one more fault, short of the last value of a `u64`
+-- one more fault or call, short of the last value of a `u64`
 abbrev pub one_more : ℕ → ℕ
-one_more faults = min (faults + 1) (2 ^ 64 - 1)
+one_more count = min (count + 1) (2 ^ 64 - 1)
+
+-- how many calls an object got, and the numbers of those that are to fail
+pub record Calls : Type 0 where
+  pub made : ℕ
+  pub failing : List ℕ
+
+abbrev pub no_calls : Calls
+no_calls = record { made = 0; failing = [] }
+
+-- the next call is to fail
+abbrev pub IsToFail : Calls → Type 0
+IsToFail calls = IsTrue (list_any (λ call. call == calls.made) calls.failing)
+
+abbrev pub after_call : Calls → Calls
+after_call calls = record { made = one_more calls.made; failing = calls.failing }
+
+-- the call of this number is to fail, too
+abbrev pub failing_at : Calls → ℕ → Calls
+failing_at calls call = record { made = calls.made; failing = calls.failing ++ call ∷ [] }
 
 pub record CabinetState : Type 0 where
   pub files : Files
   pub faults : ℕ
   pub missed : Option (List ℕ)
+  pub calls : Calls
 
--- what was written, the most bytes that the sink takes in all, and its faults
+-- what was written, the most bytes that the sink takes in all, its faults, and its calls
 pub record SinkState : Type 0 where
   pub bytes : List ℕ
   pub room : ℕ
   pub faults : ℕ
+  pub calls : Calls
 
 -- for private functions: the first file of this name stands at i
 pub record IsPositionOf (files : Files) (name : List ℕ) (i : ℕ) : Type 0 where

@@ -7,6 +7,7 @@
 
 mod boxes;
 mod cabinet;
+mod call_plan;
 mod errors;
 mod host_cabinet;
 mod host_sink;

@@ -1,8 +1,9 @@
-ghost use Rattle.std.specs.Prelude.{◌≡◌, ◌≢◌, ◌≤◌, ◌↔◌, List, ℕ, Option, None, Some, [], length, take, OnOk, OnErr, IfOk, IfSome, IsErrOf, IsSomeAnd, MatchOption};
+ghost use Rattle.std.specs.Prelude.{◌≡◌, ◌≢◌, ◌≤◌, ◌↔◌, ◌⊎◌, List, ℕ, Option, None, Some, [], length, take, OnOk, OnErr, IfOk, IfSome, IsErrOf, IsSomeAnd, MatchOption};
 ghost use Rattle.std.specs.Option.{option_copied};
 ghost use Rattle.sd_outside.specs.Causes.{Rose};
-ghost use Rattle.sd_outside.specs.Memory.{content_of, one_more, IsPositionOf};
+ghost use Rattle.sd_outside.specs.Memory.{content_of, one_more, IsPositionOf, IsToFail, after_call, failing_at, no_calls};
 
+use crate::call_plan::CallPlan;
 use crate::{ByteBox, Cabinet, FetchError, NoMemory, TextBox};
 use std::alloc::Global;
 use std::marker::Model;
@@ -14,6 +15,7 @@ pub struct MemCabinet {
     files: Vec<(TextBox, ByteBox)>,
     faults: u64,
     missed: Option<TextBox>,
+    calls: CallPlan,
 }
 
 impl Model for MemCabinet {
@@ -21,19 +23,20 @@ impl Model for MemCabinet {
 
     ghost Value = { CabinetState };
 
-    ghost view = { λ c. record { files = c.files.items; faults = c.faults; missed = c.missed } };
+    ghost view = { λ c. record { files = c.files.items; faults = c.faults; missed = c.missed; calls = c.calls } };
 }
 
 impl MemCabinet {
     /// A cabinet that holds nothing.
     pub fn new(alloc: Global) -> MemCabinet
-        ensures { result ≡ record { files = []; faults = 0; missed = None } }
+        ensures { result ≡ record { files = []; faults = 0; missed = None; calls = no_calls } }
     {
         MemCabinet {
             alloc,
             files: Vec::new(alloc),
             faults: 0,
             missed: None,
+            calls: CallPlan::new(alloc),
         }
     }
 
@@ -44,8 +47,20 @@ impl MemCabinet {
         ensures err { OnErr result (self.new.files ≡ self.old.files) }
         ensures faults { self.new.faults ≡ self.old.faults }
         ensures missed { self.new.missed ≡ self.old.missed }
+        ensures calls { self.new.calls ≡ self.old.calls }
     {
         store(self.alloc, &mut self.files, name, content)
+    }
+
+    /// Lets the fetch of this number fail, counted from 0, whatever is held.
+    pub fn fail_at(&mut self, call: u64) -> Result<(), NoMemory>
+        ensures listed { OnOk result (self.new.calls ≡ failing_at self.old.calls call) }
+        ensures same_files { self.new.files ≡ self.old.files }
+        ensures same_count { self.new.faults ≡ self.old.faults }
+        ensures same_names { self.new.missed ≡ self.old.missed }
+        ensures err { OnErr result (self.new ≡ self.old) }
+    {
+        self.calls.fail_at(call)
     }
 
     /// The number of fetches that failed.
@@ -127,16 +142,19 @@ impl Cabinet for MemCabinet {
         ensures same_holds { (other : List ℕ) → content_of self.new.files other ≡ content_of self.old.files other }
         ensures later { self.old.faults ≤ self.new.faults }
 
-        // it fails only where the name is not held, and just then it counts
+        // it fails exactly at a call that is to fail and where the name is not held, and just then it counts
+        ensures asked { IfOk result (λ _. IsToFail self.old.calls → ⊥) }
         ensures held { IfOk result (λ bytes. IsSomeAnd (content_of self.old.files name.now) (λ file. bytes ≡ take most file)) }
-        ensures absent { IsErrOf result FetchError.Failed → content_of self.old.files name.now ≡ None }
+        ensures cause { IsErrOf result FetchError.Failed → IsToFail self.old.calls ⊎ (content_of self.old.files name.now ≡ None) }
         ensures counts { IsErrOf result FetchError.Failed → self.new.faults ≡ one_more self.old.faults }
         ensures same_count { (result ≢ Err FetchError.Failed) → self.new.faults ≡ self.old.faults }
+        ensures calls { self.new.calls ≡ after_call self.old.calls }
     {
+        let fails = self.calls.next_fails();
         let missing = TextBox::make(alloc, name)?;
         match find(self.files.as_slice(), name) {
-            Some(content) => Ok(front(alloc, content, most)?),
-            None => {
+            Some(content) if !fails => Ok(front(alloc, content, most)?),
+            _ => {
                 self.faults = self.faults.saturating_add(1);
                 self.missed = Some(missing);
                 Err(FetchError::Failed)

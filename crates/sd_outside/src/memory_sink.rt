@@ -1,8 +1,9 @@
-ghost use Rattle.std.specs.Prelude.{◌≡◌, ◌+◌, ◌<◌, ◌≤◌, ℕ, Some, [], ◌++◌, length, take, OnOk, OnErr, IfOk};
+ghost use Rattle.std.specs.Prelude.{◌≡◌, ◌+◌, ◌<◌, ◌≤◌, ◌⊎◌, ℕ, Some, [], ◌++◌, length, take, OnOk, OnErr, IfOk};
 ghost use Rattle.std.specs.Io.KnownBytes.{Appends};
 ghost use Rattle.sd_outside.specs.Causes.{Rose, AppendsPrefix};
-ghost use Rattle.sd_outside.specs.Memory.{one_more};
+ghost use Rattle.sd_outside.specs.Memory.{IsToFail, after_call, failing_at, no_calls, one_more};
 
+use crate::call_plan::CallPlan;
 use crate::{Failed, NoMemory, Sink};
 use std::alloc::Global;
 use std::marker::Model;
@@ -13,6 +14,7 @@ pub struct MemSink {
     bytes: Vec<u8>,
     room: usize,
     faults: u64,
+    calls: CallPlan,
 }
 
 impl Model for MemSink {
@@ -21,7 +23,7 @@ impl Model for MemSink {
 
     ghost Value = { SinkState };
 
-    ghost view = { λ s. record { bytes = s.bytes.items; room = s.room; faults = s.faults } };
+    ghost view = { λ s. record { bytes = s.bytes.items; room = s.room; faults = s.faults; calls = s.calls } };
 
     ghost invariant = { λ s. (vec_len s.bytes ≤ s.room) × (s.room ≤ vec_capacity s.bytes) };
 }
@@ -29,13 +31,25 @@ impl Model for MemSink {
 impl MemSink {
     /// An empty sink. It takes the memory for the whole room, in bytes.
     pub fn new(alloc: Global, room: usize) -> Result<MemSink, NoMemory>
-        ensures { IfOk result (λ s. s ≡ record { bytes = []; room = room; faults = 0 }) }
+        ensures { IfOk result (λ s. s ≡ record { bytes = []; room = room; faults = 0; calls = no_calls }) }
     {
         Ok(MemSink {
             bytes: Vec::with_capacity(alloc, room)?,
             room,
             faults: 0,
+            calls: CallPlan::new(alloc),
         })
+    }
+
+    /// Lets the put of this number fail, counted from 0, and write nothing.
+    pub fn fail_at(&mut self, call: u64) -> Result<(), NoMemory>
+        ensures listed { OnOk result (self.new.calls ≡ failing_at self.old.calls call) }
+        ensures same_bytes { self.new.bytes ≡ self.old.bytes }
+        ensures same_room { self.new.room ≡ self.old.room }
+        ensures same_count { self.new.faults ≡ self.old.faults }
+        ensures err { OnErr result (self.new ≡ self.old) }
+    {
+        self.calls.fail_at(call)
     }
 
     /// The bytes written so far.
@@ -65,14 +79,22 @@ impl Sink for MemSink {
         ensures failed { OnErr result (Rose self.old.faults self.new.faults) }
         ensures later { self.old.faults ≤ self.new.faults }
 
-        // it fails exactly where the piece does not fit, writes what fits, and just then it counts
+        // it fails exactly at a call that is to fail, which writes nothing, and where the piece does not fit; what fits is
+        // written, and just then it counts
+        ensures asked { OnOk result (IsToFail self.old.calls → ⊥) }
         ensures fits { OnOk result (length self.old.bytes + length bytes.now ≤ self.old.room) }
-        ensures full { OnErr result (self.old.room < length self.old.bytes + length bytes.now) }
-        ensures front { self.new.bytes ≡ take self.old.room (self.old.bytes ++ bytes.now) }
+        ensures cause { OnErr result (IsToFail self.old.calls ⊎ (self.old.room < length self.old.bytes + length bytes.now)) }
+        ensures nothing { IsToFail self.old.calls → self.new.bytes ≡ self.old.bytes }
+        ensures front { (IsToFail self.old.calls → ⊥) → self.new.bytes ≡ take self.old.room (self.old.bytes ++ bytes.now) }
         ensures counts { OnErr result (self.new.faults ≡ one_more self.old.faults) }
         ensures same_count { OnOk result (self.new.faults ≡ self.old.faults) }
         ensures same_room { self.new.room ≡ self.old.room }
+        ensures calls { self.new.calls ≡ after_call self.old.calls }
     {
+        if self.calls.next_fails() {
+            self.faults = self.faults.saturating_add(1);
+            return Err(Failed);
+        }
         let left = self.room - self.bytes.len();
         if bytes.len() <= left {
             self.bytes.extend_from_slice(bytes).unwrap();

@@ -62,6 +62,28 @@ fn objects_in_memory_count_their_failures(rt: HostRuntime) -> Result<(), Fail> {
     Ok(())
 }
 
+#[test]
+fn a_call_that_is_to_fail_fails_alone(rt: HostRuntime) -> Result<(), Fail> {
+    let alloc = rt.alloc();
+    let mut cabinet = MemCabinet::new(alloc);
+    cabinet.add("name", b"held")?;
+    cabinet.fail_at(1)?;
+    cabinet.fail_at(3)?;
+    for held in [true, false, true, false, true] {
+        assert_eq!(rt; cabinet.fetch(alloc, "name", 9).is_ok(), held);
+    }
+    assert_eq!(rt; cabinet.failures(), 2);
+
+    let mut sink = MemSink::new(alloc, 9)?;
+    sink.fail_at(1)?;
+    for (piece, answer) in [("a", Ok(())), ("b", Err(Failed)), ("c", Ok(()))] {
+        assert_eq!(rt; sink.put(piece.as_bytes()), answer);
+    }
+    assert_eq!(rt; sink.written(), b"ac".as_slice());
+    assert_eq!(rt; sink.failures(), 1);
+    Ok(())
+}
+
 // Bytes of which neighbouring blocks differ.
 fn long_content(alloc: Global) -> Result<Vec<u8>, Fail> {
     let mut content = Vec::new(alloc);

@@ -6,6 +6,8 @@
 
 mod bench;
 #[cfg(test)]
+mod failing_tests;
+#[cfg(test)]
 mod fetch_tests;
 mod names;
 mod spelling;

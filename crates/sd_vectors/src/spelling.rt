@@ -41,6 +41,17 @@ fn growing(alloc: Global, count: usize, piece: &str) -> Result<String, Trouble> 
     Ok(text)
 }
 
+// So many characters from the front of the text of a name.
+fn front(alloc: Global, names: &Names, count: usize, name: &str) -> Result<String, Trouble> {
+    let whole = names.find(name);
+    let whole = whole.ok_or(Trouble::Unread("no text has this name"))?;
+    let mut text = String::new(alloc);
+    for c in whole.chars().take(count) {
+        text.push(c)?;
+    }
+    Ok(text)
+}
+
 fn byte_named(name: &str) -> Option<&'static str> {
     for (known, text) in BYTES {
         if known == name {
@@ -54,7 +65,7 @@ fn number_of(text: &str) -> Option<usize> {
     text.parse().ok()
 }
 
-// The text for which this stands: so many pieces, growing texts, or the text of a name.
+// The text for which this stands: so many pieces, growing texts, the front of a text, or the text of a name.
 fn meant(alloc: Global, names: &Names, short: &str) -> Result<String, Trouble> {
     if let Some((count, piece)) = short.split_once('*') {
         if let Some(count) = number_of(count) {
@@ -64,6 +75,11 @@ fn meant(alloc: Global, names: &Names, short: &str) -> Result<String, Trouble> {
     if let Some((count, piece)) = short.split_once('^') {
         if let Some(count) = number_of(count) {
             return growing(alloc, count, piece);
+        }
+    }
+    if let Some((count, name)) = short.split_once('/') {
+        if let Some(count) = number_of(count) {
+            return front(alloc, names, count, name);
         }
     }
     let text = names.find(short).or(byte_named(short));

@@ -11,7 +11,7 @@ use Rattle.compact_form.specs.declared.parts.Parts.{Parts}
 use Rattle.compact_form.specs.Compact.{IsCompact}
 use Rattle.compact_form.proofs.Examples.{bound, presented, no_tilde}
 use Rattle.compact_form.proofs.Verdicts.{reads, refused_form}
-use Rattle.json_form.specs.Token.{IsToken}
+use Rattle.json_form.specs.Token.{IsTextRefused, IsToken}
 use Rattle.json_form.specs.declared.token.Token.{Token}
 use Rattle.json_form.proofs.Tokens.{refused_plainly, read_plainly}
 use Rattle.disclosure.proofs.Examples.{salt, value, a_disclosure, its_digest}
@@ -27,9 +27,11 @@ use Rattle.sdjwt_cli.specs.Command.{split, verify, issue, present, convert, comm
 use Rattle.sdjwt_cli.specs.Lines.{line, refusal, unread_text, unreadable_line, short_seed}
 use Rattle.sdjwt_cli.specs.Never.{MayBeShown}
 use Rattle.sdjwt_cli.specs.Presenting.{present_refusal}
-use Rattle.sdjwt_cli.specs.Split.{Splits, DoesNotSplit}
-use Rattle.sdjwt_cli.specs.Show.{ShownDisclosure, show_lines, Shows, has_known_hash}
+use Rattle.sdjwt_cli.specs.Split.{Splits}
+use Rattle.digest_sites.specs.Given.{Given}
+use Rattle.sdjwt_cli.specs.Show.{show_lines, Shows, has_known_hash}
 use Rattle.sdjwt_cli.specs.Converting.{written}
+use Rattle.sdjwt_cli.specs.Telling.{TellsFault}
 
 -- ---- the words
 
@@ -127,7 +129,7 @@ of_a_presentation : Splits (codes "a.b.c~d~e.f.g") (codes "protected a\npayload 
 unfolding digits
 of_a_presentation = record { token = token_of bound no_members; reads = is_read; lines = refl }
 
-of_a_jwt : DoesNotSplit (codes "a.b.c") (codes "refused 2 form at 5\n")
+of_a_jwt : TellsFault (IsTextRefused (codes "a.b.c")) (codes "refused 2 form at 5\n")
 unfolding digits
 of_a_jwt = record {
   fault = record { number = number_of condition.form; place = At 5 };
@@ -167,7 +169,7 @@ header = object alg_alone
 abbrev payload : Tree
 payload = object sd_alg_alone
 
-abbrev shown : Option Text → ShownDisclosure
+abbrev shown : Option Text → Given
 shown name = record { digest = codes "qswwxPH-MjwEMOgKBBv2x2CF7lufmWFrWvVq7pj7YJE"; name = name; value = value }
 
 of_a_token : Shows token (codes "header {\"alg\":\"HS256\"}\npayload {\"_sd_alg\":\"sha-256\"}\ndisclosure 0 qswwxPH-MjwEMOgKBBv2x2CF7lufmWFrWvVq7pj7YJE element \"FR\"\n")
@@ -180,7 +182,7 @@ of_a_token = record {
   payload = payload;
   body = record { body = a_body; hash = refl };
   shown = shown None ∷ [];
-  disclosures = (record { salt = salt; is = a_disclosure; digest_is = sym its_digest }, tt);
+  disclosures = ((sym its_digest, salt, a_disclosure), tt);
   lines = refl;
 }
 

@@ -35,7 +35,7 @@ use Rattle.issuer_core.specs.Issue.{ClashesAt}
 use Rattle.issuer_core.specs.Laid.{IsLaid, with_alg}
 use Rattle.issuer_core.specs.OrderRefusals.{AppliesToOrder, IsProtected, protected_names}
 use Rattle.issuer_core.specs.ReservedPaths.{reserved_paths}
-use Rattle.issuer_core.specs.Digests.{made_texts}
+use Rattle.issuer_core.specs.Digests.{marked_claims, made_texts}
 use Rattle.issuer_core.specs.GoodOrder.{IsWritable}
 use Rattle.issuer_core.specs.Written.{header_of, IsWritten}
 use Rattle.issuer_core.proofs.IssuedContent.{laid_digests_differ}
@@ -45,10 +45,10 @@ use Rattle.sdjwt_cli.proofs.SuitsExample.{issuer_key, named, order}
 use Rattle.sdjwt_cli.specs.Issuing.{Issues}
 use Rattle.sdjwt_cli.specs.Lines.{line}
 use Rattle.sdjwt_cli.specs.Presented.{IsShownWell}
-use Rattle.sdjwt_cli.specs.Suits.{shown_for}
 use Rattle.sdjwt_cli.proofs.PresentedRuns.{presented_over_files}
 use Rattle.sdjwt_cli.proofs.PresentedShort.{spelled_more, hashed_length, compact_length}
 use Rattle.sdjwt_cli.proofs.SuitedFiles.{order_file, seed_file, present_file, policy_file, all_suits}
+use Rattle.holder_core.specs.Present.{shown_for}
 
 abbrev pub seed : List ℕ
 seed = codes "a seed of bytes, no fewer than 3"
@@ -120,7 +120,7 @@ laid = record { payload_laid = refl; given_laid = refl; disclosures = made; deco
 
 -- ---- none of the refusals applies
 
-none_reserved : slice_get (reserved_paths order.claims) 0 ≡ None
+none_reserved : slice_get (reserved_paths order.payload) 0 ≡ None
 unfolding sd_name dots_name alg_name
 none_reserved = refl
 
@@ -155,8 +155,8 @@ passes TooDeep h = omega (arith, h)
 passes (RootMarked zero) h = let is = h.1 in let root = h.2 in cc (sym is ∙ root)
 passes (RootMarked (suc zero)) h = let is = h.1 in let root = h.2 in cc (sym is ∙ root)
 passes (RootMarked (suc (suc k))) h = absurd h.1
-passes (NoSuchPlace zero) h = cc (sym (ap (tree_at order.claims) h.1) ∙ h.2)
-passes (NoSuchPlace (suc zero)) h = cc (sym (ap (tree_at order.claims) h.1) ∙ h.2)
+passes (NoSuchPlace zero) h = cc (sym (ap (tree_at order.payload) h.1) ∙ h.2)
+passes (NoSuchPlace (suc zero)) h = cc (sym (ap (tree_at order.payload) h.1) ∙ h.2)
 passes (NoSuchPlace (suc (suc k))) h = absurd h.1
 passes (ProtectedClaim zero) h = first_free (subst IsProtected h.1 h.2)
 passes (ProtectedClaim (suc zero)) h = second_free (subst IsProtected h.1 h.2)
@@ -180,10 +180,10 @@ differ i j clash =
 
 -- ---- the order as a machine holds it
 
-claims_ordered : IsOrdered order.claims
+claims_ordered : IsOrdered order.payload
 claims_ordered = search rules
 
-free : HasNoReserved order.claims
+free : HasNoReserved order.payload
 unfolding sd_name dots_name alg_name
 free = search rules
 
@@ -287,5 +287,5 @@ issues = record {
 }
 
 -- so the law says of it what it says
-pub shown : IsShownWell (line (compact parts)) present_file policy_file 1000 1300 (shown_for order all_suits.said.ask.want)
+pub shown : IsShownWell (line (compact parts)) present_file policy_file 1000 1300 (shown_for (marked_claims order) all_suits.said.ask.want)
 shown = presented_over_files order_file seed_file present_file policy_file 1000 1300 all_suits (line (compact parts)) issues

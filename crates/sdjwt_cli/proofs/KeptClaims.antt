@@ -13,7 +13,7 @@ use Rattle.issuer_core.specs.Order.{Order}
 use Rattle.issuer_core.specs.OrderRefusals.{AppliesToOrder, NoneApplies, IsProtected, protected_names}
 use Rattle.issuer_core.specs.declared.errors.IssueError.TheVariants.{ProtectedClaim}
 use Rattle.marked_tree.proofs.DifferentPaths.{path_same}
-use Rattle.sdjwt_cli.specs.Suits.{shown_for}
+use Rattle.holder_core.specs.Present.{shown_for}
 
 -- no path passes
 abbrev pub NonePasses : (Path → Bool) → Type 0
@@ -84,8 +84,8 @@ not_hidden o passes name there path = go (is_among o.hide (name ∷ path)) refl
         let at = In-At o.hide found.0 found.1 in
         absurd (passes (ProtectedClaim at.0) (found.0, at.1, subst IsProtected same there))
 
-pub holder_kept : (o : Order) → NoneApplies (AppliesToOrder o) → (want : List Path) → holder_kid (shown_for o want) ≡ holder_kid o.claims
-holder_kept o passes want = ap named_by (claim_kept o.claims o.hide (codes "cnf") (not_hidden o passes (codes "cnf") (inr (inr (inr (inr (inl refl)))))) (chosen (marked_claims o) want))
+pub holder_kept : (o : Order) → NoneApplies (AppliesToOrder o) → (want : List Path) → holder_kid (shown_for (marked_claims o) want) ≡ holder_kid o.payload
+holder_kept o passes want = ap named_by (claim_kept o.payload o.hide (codes "cnf") (not_hidden o passes (codes "cnf") (inr (inr (inr (inr (inl refl)))))) (chosen (marked_claims o) want))
   where
     named_by : Option Tree → Option Text
     named_by cnf = option_and_then (λ t. text_under t (codes "kid")) cnf

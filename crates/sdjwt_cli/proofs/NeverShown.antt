@@ -3,7 +3,7 @@ use Rattle.std.proofs.Common.{◌≡◌, ℕ, zero, suc, ◌<◌, List, [], ◌�
 use Rattle.std.specs.Prelude.{HoldsAt, MatchBool}
 use Rattle.std.specs.List.{AllWithin}
 use Rattle.claim_tree.specs.Lists.{In}
-use Rattle.claim_tree.specs.Path.{LeadsTo}
+use Rattle.claim_tree.specs.Path.{is_front}
 use Rattle.marked_tree.specs.Paths.{Path}
 use Rattle.selection_core.specs.Consent.{Allows}
 use Rattle.holder_core.proofs.OnePresentation.{IsDecided}
@@ -23,12 +23,12 @@ module _ {X : Type 0} (P : X → Type 0) where
   all_in (y ∷ ys) h x (inr more) = all_in ys (λ k d less e. h (suc k) d (omega (arith, less)) e) x more
 
 -- whether a path of the list was found that leads to the place
-pub judged : (never : List Path) (at : Path) (found : Bool) → MatchBool found ((k : ℕ) × (k < length never) × HoldsAt (λ front. LeadsTo front at) never k) (AllWithin (λ front. LeadsTo front at → ⊥) never 0 (length never))
+pub judged : (never : List Path) (at : Path) (found : Bool) → MatchBool found ((k : ℕ) × (k < length never) × HoldsAt (λ front. is_front front at ≡ true) never k) (AllWithin (λ front. is_front front at ≡ true → ⊥) never 0 (length never))
     → Judges never at (not found)
 judged never at true h =
-    let some = some_in (λ front. LeadsTo front at) never h.0 h.1 h.2 in
+    let some = some_in (λ front. is_front front at ≡ true) never h.0 h.1 h.2 in
     (λ is. let no = is in cc no, λ free. absurd (free some.0 some.1 some.2))
-judged never at false h = (λ _. all_in (λ front. LeadsTo front at → ⊥) never (λ k d less e. h k e (omega arith) less), λ _. refl)
+judged never at false h = (λ _. all_in (λ front. is_front front at ≡ true → ⊥) never (λ k d less e. h k e (omega arith) less), λ _. refl)
 
 -- the rule does not refuse what may be shown
 pub unrefused : (never : List Path) (at : Path) → MayBeShown never at → Allows never_rule never at false → ⊥

@@ -24,10 +24,10 @@ use Rattle.holder_core.specs.declared.ask.Ask.{Ask}
 use Rattle.holder_core.specs.declared.ask.BindingAsk.{BindingAsk}
 use Rattle.holder_core.specs.declared.errors.PresentError.{PresentError}
 use Rattle.holder_core.specs.declared.errors.PresentError.TheVariants.{Memory, Token as OnCondition, HasBinding, NoSuchPlace, ConsentRefused, BindingKeyDiffers, SignFailed, TooLong}
-use Rattle.holder_core.specs.Present.{IsHeld, PicksParts, NamesKey, IsBoundAs, IsAnswer, IsNoAnswer, IsPresented, IsNotPresented, not_read, refused, no_memory}
+use Rattle.holder_core.specs.Present.{shown_for, IsHeld, PicksParts, NamesKey, IsBoundAs, IsAnswer, IsNoAnswer, IsPresented, IsNotPresented, not_read, refused, no_memory}
 use Rattle.verifier_core.specs.declared.policy.Policy.{Policy}
 use Rattle.sdjwt_cli.specs.Presented.{alone}
-use Rattle.sdjwt_cli.specs.Suits.{Suits, shown_for}
+use Rattle.sdjwt_cli.specs.Suits.{Suits}
 use Rattle.sdjwt_cli.specs.PresentedValues.{AreShort}
 use Rattle.sdjwt_cli.proofs.HeldIssued.{IsTokenOf, issued_held, one_marked}
 use Rattle.sdjwt_cli.proofs.KeptClaims.{holder_kept}
@@ -64,8 +64,8 @@ module _ (seed : List ℕ) (o : Order) (key : List ℕ) (parts : Parts) (passes 
     held : IsHeld (alone parts) ask (marked_claims o)
     held = issued_held seed o key parts is ask suits.holder_finds
 
-    stripped : (marked : Marked) → IsHeld (alone parts) ask marked → strip marked ≡ o.claims
-    stripped marked there = ap strip (marked_is marked there) ∙ mark_strips_holds o.claims o.hide
+    stripped : (marked : Marked) → IsHeld (alone parts) ask marked → strip marked ≡ o.payload
+    stripped marked there = ap strip (marked_is marked there) ∙ mark_strips_holds o.payload o.hide
 
     not_missing : (marked : Marked) → IsHeld (alone parts) ask marked → (k : ℕ) → IsMissing (strip marked) ask.want k → ⊥
     not_missing marked there k (path, at, none) = suits.there path (At-In ask.want k path at) (ap (λ t. tree_at t path) (sym (stripped marked there)) ∙ none)
@@ -80,7 +80,7 @@ module _ (seed : List ℕ) (o : Order) (key : List ℕ) (parts : Parts) (passes 
     kid_differs : (one : BindingAsk) (marked : Marked) → IsHeld (alone parts) ask marked → ask.binding ≡ Some one → holder_kid (strip (prune marked (chosen marked ask.want))) ≢ Some one.kid → ⊥
     kid_differs one marked there is_asked differs =
         let same = marked_is marked there in
-        let kept : holder_kid (shown_for o ask.want) ≡ Some one.kid = holder_kept o passes ask.want ∙ suits.named one is_asked in
+        let kept : holder_kid (shown_for (marked_claims o) ask.want) ≡ Some one.kid = holder_kept o passes ask.want ∙ suits.named one is_asked in
         differs (ap (λ (m : Marked). holder_kid (strip (prune m (chosen m ask.want)))) same ∙ kept)
 
     too_long : (answer : Parts) → IsAnswer answers rule (alone parts) ask (IsGood signing) now answer → compact_max < length (compact answer) → ⊥

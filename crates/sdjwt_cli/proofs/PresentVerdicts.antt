@@ -9,9 +9,11 @@ use Rattle.holder_core.proofs.PresentFiles as orders
 use Rattle.holder_core.proofs.OnePresentation.{HasOneSignature, one_presented, presented_not_refused, one_cause}
 use Rattle.sdjwt_cli.specs.Lines.{line, unreadable_line}
 use Rattle.sdjwt_cli.specs.Never.{never_rule}
-use Rattle.sdjwt_cli.specs.Presenting.{signing_key, IsPresentedFor, IsNotPresentedFor, present_refusal, Presents, DoesNotPresent, HasNoPresentOrder}
+use Rattle.sdjwt_cli.specs.Presenting.{signing_key, IsPresentedFor, IsNotPresentedFor, present_refusal, Presents, DoesNotPresent}
 use Rattle.sdjwt_cli.specs.Answers.{Reply, gives, refuses, unreadable, PresentAnswers}
 use Rattle.sdjwt_cli.proofs.NeverShown.{never_decided}
+use Rattle.sdjwt_cli.specs.Telling.{TellsFileFault}
+use Rattle.holder_core.specs.PresentFile.{IsPresentFileRefused}
 
 one_signature : (key : List ℕ) → HasOneSignature (IsGood key)
 one_signature key head body one other h k = h ∙ sym k
@@ -32,7 +34,7 @@ refused order token now a b g h =
     let one = one_cause never_rule h.said.never (never_decided h.said.never) token h.said.ask (IsGood key) (one_signature key) now g.error h.error g.memory g.signed h.memory h.signed applies h.refused in
     g.line_is ∙ (ap present_refusal one ∙ sym h.line_is)
 
-no_order : (order : List ℕ) (a b : List ℕ) → HasNoPresentOrder order a → HasNoPresentOrder order b → a ≡ b
+no_order : (order : List ℕ) (a b : List ℕ) → TellsFileFault (IsPresentFileRefused order) a → TellsFileFault (IsPresentFileRefused order) b → a ≡ b
 no_order order a b g h = g.line_is ∙ (ap (unreadable_line 1) (orders.one_fault order g.fault h.fault g.refused h.refused g.cause h.cause) ∙ sym h.line_is)
 
 printed_not_refused : (order token : List ℕ) (now : ℕ) (a b : List ℕ) → Presents order token now a → DoesNotPresent order token now b → ⊥
@@ -48,10 +50,10 @@ printed_not_refused order token now a b g h = neither (presented_not_refused nev
     neither (inl is) = h.memory is
     neither (inr is) = h.signed is
 
-printed_has_order : (order token : List ℕ) (now : ℕ) (a b : List ℕ) → Presents order token now a → HasNoPresentOrder order b → ⊥
+printed_has_order : (order token : List ℕ) (now : ℕ) (a b : List ℕ) → Presents order token now a → TellsFileFault (IsPresentFileRefused order) b → ⊥
 printed_has_order order token now a b g h = h.cause (orders.not_both order g.said h.fault g.is_order h.refused)
 
-refused_has_order : (order token : List ℕ) (now : ℕ) (a b : List ℕ) → DoesNotPresent order token now a → HasNoPresentOrder order b → ⊥
+refused_has_order : (order token : List ℕ) (now : ℕ) (a b : List ℕ) → DoesNotPresent order token now a → TellsFileFault (IsPresentFileRefused order) b → ⊥
 refused_has_order order token now a b g h = h.cause (orders.not_both order g.said h.fault g.is_order h.refused)
 
 pub one_present : (order token : List ℕ) (now : ℕ) (v w : Reply) → PresentAnswers order token now v → PresentAnswers order token now w → v ≡ w

@@ -44,11 +44,11 @@ use Rattle.issuer_core.proofs.IssuedContent.{IsTextOf}
 use Rattle.issuer_core.proofs.IssuedShown.{issued_is_shown_holds}
 use Rattle.holder_core.specs.declared.ask.Ask.{Ask}
 use Rattle.holder_core.specs.declared.ask.BindingAsk.{BindingAsk}
-use Rattle.holder_core.specs.Present.{picked, PicksParts, NamesKey, IsBoundBy, IsBoundWith, IsBoundAs}
+use Rattle.holder_core.specs.Present.{shown_for, picked, PicksParts, NamesKey, IsBoundBy, IsBoundWith, IsBoundAs}
 use Rattle.holder_core.proofs.PickedNumbers.{numbers, rising, enumerates, is_pick, zip_picked}
 use Rattle.sdjwt_cli.specs.Lines.{line}
 use Rattle.sdjwt_cli.specs.Presented.{alone}
-use Rattle.sdjwt_cli.specs.Suits.{Suits, shown_for}
+use Rattle.sdjwt_cli.specs.Suits.{Suits}
 use Rattle.sdjwt_cli.specs.PresentedValues.{AreShort}
 use Rattle.sdjwt_cli.proofs.CompactLines.{line_token}
 use Rattle.sdjwt_cli.proofs.CheckedParts.{Takes, CarriesFor, content, checked}
@@ -58,7 +58,7 @@ use Rattle.sdjwt_cli.proofs.PresentedShort.{answer_words, answer_few, answer_sho
 -- the parts are what a holder presents of the issued ones, at a moment
 pub record IsPresentedOf (o : Order) (ask : Ask) (signing : List ℕ) (parts : Parts) (now : ℕ) (answer : Parts) : Type 0 where
   pub presents : PicksParts parts (chosen (marked_claims o) ask.want) answer.binding answer
-  pub names : NamesKey ask.binding (shown_for o ask.want)
+  pub names : NamesKey ask.binding (shown_for (marked_claims o) ask.want)
   pub bound : IsBoundAs ask.binding (IsGood signing) HashAlg.Sha256 now answer
 
 module _ (seed : List ℕ) (o : Order) (key : List ℕ) (parts : Parts) (good : IsGoodOrder o) (is : IsTokenOf seed o key parts)
@@ -74,7 +74,7 @@ module _ (seed : List ℕ) (o : Order) (key : List ℕ) (parts : Parts) (good : 
 
   few_chosen : (i : ℕ) → s i ≡ true → i < length g
   few_chosen i there =
-      let once : HasEachMarkOnce (marked_claims o) (hidden_of o) = marks_once_holds o.claims o.hide in
+      let once : HasEachMarkOnce (marked_claims o) (hidden_of o) = marks_once_holds o.payload o.hide in
       let low = chosen_below (marked_claims o) (hidden_of o) once ask.want i there in
       omega (arith, low, is.has.issued.count)
 
@@ -111,7 +111,7 @@ module _ (seed : List ℕ) (o : Order) (key : List ℕ) (parts : Parts) (good : 
   answer_content : HasContent (alone answer) p (picked s g)
   answer_content = content o key p (picked s g) answer carries_answer
 
-  answer_opens : (marked : Marked) → Opens (alone answer) marked → strip marked ≡ shown_for o ask.want
+  answer_opens : (marked : Marked) → Opens (alone answer) marked → strip marked ≡ shown_for (marked_claims o) ask.want
   answer_opens marked (q, h, there, e) =
       let same = one_content (alone answer) q p h (picked s g) there answer_content in
       ap strip (e ∙ ap₂ processed same.0 same.1) ∙ what_is_shown.shows
@@ -144,11 +144,11 @@ module _ (seed : List ℕ) (o : Order) (key : List ℕ) (parts : Parts) (good : 
         subst (λ (x : BindingAsk). IsBoundBy x (IsGood signing) HashAlg.Sha256 (hashed answer) now token) asks
         (subst (λ (x : JwtParts). IsBoundBy a (IsGood signing) HashAlg.Sha256 (hashed answer) now x) tokens_same bound)
 
-    names_ask : (asked : Option BindingAsk) (one : BindingAsk) → NamesKey asked (shown_for o ask.want) → asked ≡ Some one → holder_kid (shown_for o ask.want) ≡ Some one.kid
+    names_ask : (asked : Option BindingAsk) (one : BindingAsk) → NamesKey asked (shown_for (marked_claims o) ask.want) → asked ≡ Some one → holder_kid (shown_for (marked_claims o) ask.want) ≡ Some one.kid
     names_ask None one names e = cc e
-    names_ask (Some a) one names e = let same : a ≡ one = cc e in subst (λ (x : BindingAsk). holder_kid (shown_for o ask.want) ≡ Some x.kid) same names
+    names_ask (Some a) one names e = let same : a ≡ one = cc e in subst (λ (x : BindingAsk). holder_kid (shown_for (marked_claims o) ask.want) ≡ Some x.kid) same names
 
-    binding_passes : (payload : Tree) → payload ≡ shown_for o ask.want → (c : Condition) (place : Place) → HolderFails answer payload HashAlg.Sha256 policy later c place → ⊥
+    binding_passes : (payload : Tree) → payload ≡ shown_for (marked_claims o) ask.want → (c : Condition) (place : Place) → HolderFails answer payload HashAlg.Sha256 policy later c place → ⊥
     binding_passes payload shown c place fails =
         let b = fails.binding in
         let suit = suits.bound b fails.asked in
@@ -162,7 +162,7 @@ module _ (seed : List ℕ) (o : Order) (key : List ℕ) (parts : Parts) (good : 
         let found : holder_key b.keys payload ≡ Some signing = ap (option_and_then (key_named b.keys)) kid ∙ suit.known in
         accepted signing now j is_binding read_back found suit.not_stale suit.not_early c place fails.fails
 
-    hash_passes : (payload : Tree) (hash : HashAlg) → payload ≡ shown_for o ask.want → (c : Condition) (place : Place) → HolderFails answer payload hash policy later c place → ⊥
+    hash_passes : (payload : Tree) (hash : HashAlg) → payload ≡ shown_for (marked_claims o) ask.want → (c : Condition) (place : Place) → HolderFails answer payload hash policy later c place → ⊥
     hash_passes payload HashAlg.Sha256 shown c place fails = binding_passes payload shown c place fails
 
     missing_passes : IsBindingMissing policy answer → ⊥
@@ -179,7 +179,7 @@ module _ (seed : List ℕ) (o : Order) (key : List ℕ) (parts : Parts) (good : 
         let shown = answer_opens marked (subst (λ (t : Token). Opens t marked) (one_answer token there) opens) in
         hash_passes (strip marked) hash shown c place (subst (λ (t : Token). HolderFails t.parts (strip marked) hash policy later c place) (one_answer token there) h)
 
-    pub answer_accepted : IsAcceptedAs text policy later (shown_for o ask.want)
+    pub answer_accepted : IsAcceptedAs text policy later (shown_for (marked_claims o) ask.want)
     answer_accepted = (
       processed p (picked s g),
       record { passes = none_fails; token = alone answer; is_token = is_text; opens = answer_checked.opens },

@@ -15,21 +15,25 @@ use Rattle.compact_form.proofs.Verdicts.{clash}
 use Rattle.json_form.specs.declared.token.Token.{Token}
 use Rattle.json_form.specs.Token.{IsToken}
 use Rattle.json_form.proofs.Tokens as tokens
+use Rattle.digest_sites.specs.Given.{Given}
+use Rattle.disclosure.specs.declared.digests.HashAlg.{HashAlg}
+use Rattle.verifier_core.specs.Verdict.{Gives, IsNoDisclosure}
 use Rattle.sdjwt_cli.specs.Lines.{refusal}
-use Rattle.sdjwt_cli.specs.Show.{has_known_hash, ShownDisclosure, IsShown, IsDisclosureUnread, show_lines, IsHead, IsShownPayload, Shows, IsShowUnreadAt, IsShowRefused, form, header, payload, hash, disclosure, DoesNotShow}
+use Rattle.sdjwt_cli.specs.Show.{has_known_hash, show_lines, IsHead, IsShownPayload, Shows, IsShowUnreadAt, IsShowRefused, form, header, payload, hash, disclosure}
+use Rattle.sdjwt_cli.specs.Telling.{TellsFault}
 
-abbrev shown_of : Text → Option Text → Tree → ShownDisclosure
+abbrev shown_of : Text → Option Text → Tree → Given
 shown_of digest name value = record { digest = digest; name = name; value = value }
 
-one_reading : (disclosed : Text) (s t : ShownDisclosure) → IsShown disclosed s → IsShown disclosed t → s ≡ t
+one_reading : (disclosed : Text) (s t : Given) → Gives HashAlg.Sha256 disclosed s → Gives HashAlg.Sha256 disclosed t → s ≡ t
 one_reading disclosed s t g h =
-    let same = readings.one_disclosure disclosed g.salt h.salt s.name t.name s.value t.value g.is h.is in
-    let digests : s.digest ≡ t.digest = g.digest_is ∙ sym h.digest_is in
+    let same = readings.one_disclosure disclosed g.1 h.1 s.name t.name s.value t.value g.2 h.2 in
+    let digests : s.digest ≡ t.digest = g.0 ∙ sym h.0 in
     let names : s.name ≡ t.name = same.1 in
     let values : s.value ≡ t.value = same.2 in
     ap (λ (x : Text). shown_of x s.name s.value) digests ∙ (ap (λ (x : Option Text). shown_of t.digest x s.value) names ∙ ap (λ (x : Tree). shown_of t.digest t.name x) values)
 
-all_readings : (ds : List Text) (ss ts : List ShownDisclosure) → AllZip IsShown ds ss → AllZip IsShown ds ts → ss ≡ ts
+all_readings : (ds : List Text) (ss ts : List Given) → AllZip (Gives HashAlg.Sha256) ds ss → AllZip (Gives HashAlg.Sha256) ds ts → ss ≡ ts
 all_readings [] [] [] g h = refl
 all_readings [] [] (t ∷ ts) g h = absurd h
 all_readings [] (s ∷ ss) ts g h = absurd g
@@ -41,29 +45,29 @@ all_readings (d ∷ ds) (s ∷ ss) (t ∷ ts) g h =
     cc
 
 -- a disclosure that is read is not one that is not
-read_unread : (disclosed : Text) (s : ShownDisclosure) → IsShown disclosed s → IsDisclosureUnread disclosed → ⊥
-read_unread disclosed s g u = u.cause (readings.not_both disclosed g.salt s.name s.value u.error g.is u.refused)
+read_unread : (disclosed : Text) (s : Given) → Gives HashAlg.Sha256 disclosed s → IsNoDisclosure disclosed → ⊥
+read_unread disclosed s g u = u g.1 s.name s.value g.2
 
-all_read : (front : List Text) (d : Text) (rest : List Text) (ss : List ShownDisclosure) → AllZip IsShown (front ++ d ∷ rest) ss → IsDisclosureUnread d → ⊥
+all_read : (front : List Text) (d : Text) (rest : List Text) (ss : List Given) → AllZip (Gives HashAlg.Sha256) (front ++ d ∷ rest) ss → IsNoDisclosure d → ⊥
 all_read [] d rest [] g u = g
 all_read [] d rest (s ∷ ss) g u = read_unread d s g.0 u
 all_read (x ∷ front) d rest [] g u = g
 all_read (x ∷ front) d rest (s ∷ ss) g u = all_read front d rest ss g.1 u
 
 -- of two fronts that are read, each before a text that is not, neither is longer
-one_front : (xs ys : List Text) (d e : Text) (ds es : List Text) (ss ts : List ShownDisclosure) → xs ++ d ∷ ds ≡ ys ++ e ∷ es
-    → AllZip IsShown xs ss → AllZip IsShown ys ts → IsDisclosureUnread d → IsDisclosureUnread e → xs ≡ ys
+one_front : (xs ys : List Text) (d e : Text) (ds es : List Text) (ss ts : List Given) → xs ++ d ∷ ds ≡ ys ++ e ∷ es
+    → AllZip (Gives HashAlg.Sha256) xs ss → AllZip (Gives HashAlg.Sha256) ys ts → IsNoDisclosure d → IsNoDisclosure e → xs ≡ ys
 one_front [] [] d e ds es ss ts same g h u v = refl
 one_front [] (y ∷ ys) d e ds es ss [] same g h u v = absurd h
 one_front [] (y ∷ ys) d e ds es ss (t ∷ ts) same g h u v =
     let lists : d ∷ ds ≡ y ∷ (ys ++ e ∷ es) = same in
     let first : d ≡ y = cc lists in
-    absurd (read_unread y t h.0 (subst IsDisclosureUnread first u))
+    absurd (read_unread y t h.0 (subst IsNoDisclosure first u))
 one_front (x ∷ xs) [] d e ds es [] ts same g h u v = absurd g
 one_front (x ∷ xs) [] d e ds es (s ∷ ss) ts same g h u v =
     let lists : x ∷ (xs ++ d ∷ ds) ≡ e ∷ es = same in
     let first : e ≡ x = cc lists in
-    absurd (read_unread x s g.0 (subst IsDisclosureUnread first v))
+    absurd (read_unread x s g.0 (subst IsNoDisclosure first v))
 one_front (x ∷ xs) (y ∷ ys) d e ds es [] ts same g h u v = absurd g
 one_front (x ∷ xs) (y ∷ ys) d e ds es (s ∷ ss) [] same g h u v = absurd h
 one_front (x ∷ xs) (y ∷ ys) d e ds es (s ∷ ss) (t ∷ ts) same g h u v =
@@ -97,11 +101,11 @@ hashless file p q b c r s g none h = clash (has_known_hash c) h.hash (subst (λ 
 same_unread : (file : List ℕ) (p q : Token) (f g : Fault) → IsToken file p → IsToken file q → IsShowUnreadAt p.parts.disclosures f → IsShowUnreadAt q.parts.disclosures g → f ≡ g
 same_unread file p q f g r s u v = one_unread q.parts.disclosures f g (subst (λ (x : Token). IsShowUnreadAt x.parts.disclosures f) (tokens.one file p q r s) u) v
 
-same_lines : (h k p q : Tree) (ss ts : List ShownDisclosure) (b c : Option JwtParts) → h ≡ k → p ≡ q → ss ≡ ts → b ≡ c → show_lines h p ss b ≡ show_lines k q ts c
+same_lines : (h k p q : Tree) (ss ts : List Given) (b c : Option JwtParts) → h ≡ k → p ≡ q → ss ≡ ts → b ≡ c → show_lines h p ss b ≡ show_lines k q ts c
 same_lines h k p q ss ts b c heads payloads all bindings =
     ap (λ (x : Tree). show_lines x p ss b) heads
     ∙ (ap (λ (x : Tree). show_lines k x ss b) payloads
-    ∙ (ap (λ (x : List ShownDisclosure). show_lines k q x b) all
+    ∙ (ap (λ (x : List Given). show_lines k q x b) all
     ∙ ap (λ (x : Option JwtParts). show_lines k q ts x) bindings))
 
 pub one_shown : (file a b : List ℕ) → Shows file a → Shows file b → a ≡ b
@@ -110,7 +114,7 @@ one_shown file a b g h =
     let head : IsBody h.token.parts.signed.protected g.header = subst (λ (x : Token). IsBody x.parts.signed.protected g.header) same g.head.body in
     let heads : g.header ≡ h.header = bodies.one_body h.token.parts.signed.protected g.header h.header head h.head.body in
     let payloads : g.payload ≡ h.payload = one_payload file g.token h.token g.payload h.payload g.reads h.reads g.body.body h.body.body in
-    let read : AllZip IsShown h.token.parts.disclosures g.shown = subst (λ (x : Token). AllZip IsShown x.parts.disclosures g.shown) same g.disclosures in
+    let read : AllZip (Gives HashAlg.Sha256) h.token.parts.disclosures g.shown = subst (λ (x : Token). AllZip (Gives HashAlg.Sha256) x.parts.disclosures g.shown) same g.disclosures in
     let all : g.shown ≡ h.shown = all_readings h.token.parts.disclosures g.shown h.shown read h.disclosures in
     let bindings : g.token.parts.binding ≡ h.token.parts.binding = ap (λ (x : Token). x.parts.binding) same in
     g.lines ∙ (same_lines g.header h.header g.payload h.payload g.shown h.shown g.token.parts.binding h.token.parts.binding heads payloads all bindings ∙ sym h.lines)
@@ -122,10 +126,10 @@ no_refusal file a f g (payload p h r i n e) = bodiless file p g.token g.payload 
 no_refusal file a f g (hash p h b r i j n e) = hashless file p g.token b g.payload r g.reads j n g.body
 no_refusal file a f g (disclosure p h b r i j u) =
     let same : g.token ≡ p = tokens.one file g.token p g.reads r in
-    let read : AllZip IsShown p.parts.disclosures g.shown = subst (λ (x : Token). AllZip IsShown x.parts.disclosures g.shown) same g.disclosures in
-    all_read u.front u.text u.rest g.shown (subst (λ (ds : List Text). AllZip IsShown ds g.shown) u.stand read) u.unread
+    let read : AllZip (Gives HashAlg.Sha256) p.parts.disclosures g.shown = subst (λ (x : Token). AllZip (Gives HashAlg.Sha256) x.parts.disclosures g.shown) same g.disclosures in
+    all_read u.front u.text u.rest g.shown (subst (λ (ds : List Text). AllZip (Gives HashAlg.Sha256) ds g.shown) u.stand read) u.unread
 
-pub shown_not_refused : (file a t : List ℕ) → Shows file a → DoesNotShow file t → ⊥
+pub shown_not_refused : (file a t : List ℕ) → Shows file a → TellsFault (IsShowRefused file) t → ⊥
 shown_not_refused file a t g h = no_refusal file a h.fault g h.refused
 
 same_fault : (file : List ℕ) (f g : Fault) → IsShowRefused file f → IsShowRefused file g → f ≡ g
@@ -155,5 +159,5 @@ same_fault file f g (disclosure p h b r i j u) (payload q k s l m d) = absurd (b
 same_fault file f g (disclosure p h b r i j u) (hash q k c s l m o d) = absurd (hashless file q p c b s r m o j)
 same_fault file f g (disclosure p h b r i j u) (disclosure q k c s l m v) = same_unread file p q f g r s u v
 
-pub one_refusal : (file s t : List ℕ) → DoesNotShow file s → DoesNotShow file t → s ≡ t
+pub one_refusal : (file s t : List ℕ) → TellsFault (IsShowRefused file) s → TellsFault (IsShowRefused file) t → s ≡ t
 one_refusal file s t g h = g.line_is ∙ (ap refusal (same_fault file g.fault h.fault g.refused h.refused) ∙ sym h.line_is)

@@ -5,24 +5,27 @@ use Rattle.claim_tree.specs.Tree.{Text, Tree}
 use Rattle.claim_tree.specs.JsonText.{json_text}
 use Rattle.json_form.specs.declared.token.Token.{Token}
 use Rattle.json_form.specs.Token.{IsToken}
+use Rattle.digest_sites.specs.Given.{Given}
+use Rattle.disclosure.specs.declared.digests.HashAlg.{HashAlg}
+use Rattle.verifier_core.specs.Verdict.{Gives}
 use Rattle.sdjwt_cli.specs.Lines.{line}
 use Rattle.sdjwt_cli.specs.Split.{binding_line}
-use Rattle.sdjwt_cli.specs.Show.{ShownDisclosure, IsShown, shown_line, shown_lines, IsHead, IsShownPayload, Shows}
+use Rattle.sdjwt_cli.specs.Show.{shown_line, shown_lines, IsHead, IsShownPayload, Shows}
 use Rattle.sdjwt_cli.specs.ShowSteps.{AddsLine, AddsLines}
 
-pub zip_more : (xs : List Text) (ss : List ShownDisclosure) (x : Text) (s : ShownDisclosure) → AllZip IsShown xs ss → IsShown x s → AllZip IsShown (xs ++ x ∷ []) (ss ++ s ∷ [])
+pub zip_more : (xs : List Text) (ss : List Given) (x : Text) (s : Given) → AllZip (Gives HashAlg.Sha256) xs ss → Gives HashAlg.Sha256 x s → AllZip (Gives HashAlg.Sha256) (xs ++ x ∷ []) (ss ++ s ∷ [])
 zip_more [] [] x s all is = (is, tt)
 zip_more [] (t ∷ ss) x s all is = absurd all
 zip_more (y ∷ xs) [] x s all is = absurd all
 zip_more (y ∷ xs) (t ∷ ss) x s all is = (all.0, zip_more xs ss x s all.1 is)
 
-zip_length : (xs : List Text) (ss : List ShownDisclosure) → AllZip IsShown xs ss → length xs ≡ length ss
+zip_length : (xs : List Text) (ss : List Given) → AllZip (Gives HashAlg.Sha256) xs ss → length xs ≡ length ss
 zip_length [] [] all = refl
 zip_length [] (t ∷ ss) all = absurd all
 zip_length (y ∷ xs) [] all = absurd all
 zip_length (y ∷ xs) (t ∷ ss) all = ap suc (zip_length xs ss all.1)
 
-lines_more : (i : ℕ) (ss : List ShownDisclosure) (s : ShownDisclosure) → shown_lines i (ss ++ s ∷ []) ≡ shown_lines i ss ++ shown_line (i + length ss) s
+lines_more : (i : ℕ) (ss : List Given) (s : Given) → shown_lines i (ss ++ s ∷ []) ≡ shown_lines i ss ++ shown_line (i + length ss) s
 lines_more i [] s = let same : i + 0 ≡ i = omega arith in rw same (append-nil (shown_line i s))
 lines_more i (t ∷ ss) s =
     let rest = lines_more (i + 1) ss s in
@@ -30,7 +33,7 @@ lines_more i (t ∷ ss) s =
     ap (λ w. shown_line i t ++ w) (rest ∙ ap (λ n. shown_lines (i + 1) ss ++ shown_line n s) same) ∙ sym (append_assoc (shown_line i t) _ _)
 
 -- one line more, at its number
-pub line_more : (old text new : Text) (xs : List Text) (ss : List ShownDisclosure) (x : Text) (i : ℕ) (adds : AddsLine i x text new) → AllZip IsShown xs ss → i ≡ length xs → text ≡ old ++ shown_lines 0 ss → new ≡ old ++ shown_lines 0 (ss ++ adds.shown ∷ [])
+pub line_more : (old text new : Text) (xs : List Text) (ss : List Given) (x : Text) (i : ℕ) (adds : AddsLine i x text new) → AllZip (Gives HashAlg.Sha256) xs ss → i ≡ length xs → text ≡ old ++ shown_lines 0 ss → new ≡ old ++ shown_lines 0 (ss ++ adds.shown ∷ [])
 line_more old text new xs ss x i adds all at before =
     let same : i ≡ length ss = at ∙ zip_length xs ss all in
     let place : i ≡ 0 + length ss = omega (arith, same) in

@@ -99,7 +99,7 @@ mutual
   plain_texts (leaf (whole (pos n))) e = (tt, ltb-true n (2 ^ 64) e)
   plain_texts (leaf (whole (negsuc n))) e = cc e
   plain_texts (leaf (text s)) e = (IsUtf8-are_ascii s e, tt)
-  plain_texts (array es) e = elements_texts es e
+  plain_texts (array es) e = let both = elements_texts es e in ((tt, both.0), both.1)
   plain_texts (object ms) e = members_texts ms e
 
   elements_texts : (es : Elements) → elements_plain es ≡ true → ElementsTexts es × ElementsRanged es
@@ -200,7 +200,7 @@ is_said = record {
 abbrev order_members : Members
 order_members =
     member (codes "hide") (array (element (named (codes "/family_name")) (element (named (codes "/given_name")) no_elements)))
-    (member (codes "key") (named issuer_code) (member (codes "payload") order.claims (member (codes "typ") (named (codes "dc+sd-jwt")) no_members)))
+    (member (codes "key") (named issuer_code) (member (codes "payload") order.payload (member (codes "typ") (named (codes "dc+sd-jwt")) no_members)))
 
 abbrev pub order_file : Text
 order_file = json_text (object order_members)

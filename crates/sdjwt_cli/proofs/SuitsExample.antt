@@ -20,8 +20,9 @@ use Rattle.issuer_core.specs.Order.{Order}
 use Rattle.holder_core.specs.declared.ask.BindingAsk.{BindingAsk}
 use Rattle.holder_core.specs.declared.present_file.PresentFile.{PresentFile}
 use Rattle.sdjwt_cli.specs.Never.{MayBeShown, never_rule}
-use Rattle.sdjwt_cli.specs.Suits.{Suits, BindingSuits, shown_for}
+use Rattle.sdjwt_cli.specs.Suits.{Suits, BindingSuits}
 use Rattle.sdjwt_cli.proofs.NeverShown.{unrefused}
+use Rattle.holder_core.specs.Present.{shown_for}
 
 abbrev pub named : Text → Tree
 named s = leaf (text s)
@@ -34,7 +35,7 @@ claims_members =
 
 abbrev pub order : Order
 order = record {
-  claims = object claims_members;
+  payload = object claims_members;
   hide = (codes "family_name" ∷ []) ∷ (codes "given_name" ∷ []) ∷ [];
   decoys = [];
   kid = None;
@@ -82,17 +83,17 @@ policy = record {
 }
 
 -- the family name is left out
-shown_are : shown_for order said.ask.want
+shown_are : shown_for (marked_claims order) said.ask.want
     ≡ object (member (codes "cnf") (object (member (codes "kid") (named (codes "h")) no_members)) (member (codes "given_name") (named (codes "Ann")) (member (codes "iss") (named (codes "i")) no_members)))
 shown_are = refl
 
-there : (path : Path) → In path said.ask.want → tree_at order.claims path ≢ None
-there path (inl same) none = let found = ap (λ (p : Path). tree_at order.claims p) same in cc (sym found ∙ none)
+there : (path : Path) → In path said.ask.want → tree_at order.payload path ≢ None
+there path (inl same) none = let found = ap (λ (p : Path). tree_at order.payload p) same in cc (sym found ∙ none)
 there path (inr other) none = absurd other
 
-claims_hold : NoneFails (ClaimFails (shown_for order said.ask.want) policy 1300)
+claims_hold : NoneFails (ClaimFails (shown_for (marked_claims order) said.ask.want) policy 1300)
 claims_hold =
-    let shown = shown_for order said.ask.want in
+    let shown = shown_for (marked_claims order) said.ask.want in
     let issuer = before_missing shown policy 1300 (λ iss wanted other. let same : codes "i" ≡ iss = cc wanted in other (ap (λ s. Some (named s)) same)) in
     let required = before_times shown policy 1300 issuer wanted in
     let readable = before_expiry shown policy 1300 required unreadable in
@@ -100,11 +101,11 @@ claims_hold =
     none_fails (ClaimFails shown policy 1300) 27 (holds_too (ClaimFails shown policy 1300) condition.not_yet fresh (λ mark_path h. cc h.1.1))
     (λ c mark_path h. let n = claim_numbers shown policy 1300 c mark_path h in n.1)
   where
-    wanted : (i : ℕ) (name : Text) → StandsAt policy.require i name → get (shown_for order said.ask.want) name ≢ None
-    wanted zero name is none = let found = ap (get (shown_for order said.ask.want)) is in cc (sym found ∙ none)
+    wanted : (i : ℕ) (name : Text) → StandsAt policy.require i name → get (shown_for (marked_claims order) said.ask.want) name ≢ None
+    wanted zero name is none = let found = ap (get (shown_for (marked_claims order) said.ask.want)) is in cc (sym found ∙ none)
     wanted (suc i) name is none = absurd is
 
-    unreadable : IsTimeUnreadable (shown_for order said.ask.want) → ⊥
+    unreadable : IsTimeUnreadable (shown_for (marked_claims order) said.ask.want) → ⊥
     unreadable (inl h) = cc h.1
     unreadable (inr h) = cc h.1
 
@@ -145,7 +146,7 @@ suits = record {
     may_be_shown : (i : ℕ) (at : Path) → chosen (marked_claims order) said.ask.want i ≡ true → mark_path (marked_claims order) i ≡ Some at → MayBeShown said.never at
     may_be_shown zero at is_chosen stands = cc is_chosen
     may_be_shown (suc zero) at is_chosen stands = given_name at stands
-    may_be_shown (suc (suc i)) at is_chosen stands = absurd (let low = chosen_below (marked_claims order) 2 (marks_once_holds order.claims order.hide) said.ask.want (suc (suc i)) is_chosen in omega (arith, low))
+    may_be_shown (suc (suc i)) at is_chosen stands = absurd (let low = chosen_below (marked_claims order) 2 (marks_once_holds order.payload order.hide) said.ask.want (suc (suc i)) is_chosen in omega (arith, low))
 
     bound : (binding : BindingPolicy) → policy.binding ≡ Some binding → BindingSuits said.ask.binding holder_key binding policy.skew 1000 1300
     bound binding asked = let same : asked_binding ≡ binding = cc asked in subst (λ (b : BindingPolicy). BindingSuits said.ask.binding holder_key b policy.skew 1000 1300) same at_work

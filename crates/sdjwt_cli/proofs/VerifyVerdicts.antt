@@ -8,8 +8,10 @@ use Rattle.verifier_core.specs.declared.policy.Policy.{Policy}
 use Rattle.verifier_core.proofs.Policies as policies
 use Rattle.verifier_core.proofs.OneVerdict as verdicts
 use Rattle.sdjwt_cli.specs.Lines.{line, refusal, unreadable_line}
-use Rattle.sdjwt_cli.specs.Verify.{Verifies, DoesNotVerify, HasNoPolicy}
+use Rattle.sdjwt_cli.specs.Verify.{Verifies, DoesNotVerify}
 use Rattle.sdjwt_cli.specs.Answers.{Reply, gives, refuses, unreadable, VerifyAnswers}
+use Rattle.sdjwt_cli.specs.Telling.{TellsFileFault}
+use Rattle.verifier_core.specs.PolicyFile.{IsPolicyFileRefused}
 
 printed : (policy token : List ℕ) (now : ℕ) (a b : List ℕ) → Verifies policy token now a → Verifies policy token now b → a ≡ b
 printed policy token now a b g h =
@@ -23,7 +25,7 @@ refused policy token now a b g h =
     let lowest : IsLowest (Fails token h.policy now) g.fault = subst (λ (p : Policy). IsLowest (Fails token p now) g.fault) same g.lowest in
     g.line_is ∙ (ap refusal (verdicts.one_lowest token h.policy now g.fault h.fault lowest h.lowest) ∙ sym h.line_is)
 
-no_policy : (policy : List ℕ) (a b : List ℕ) → HasNoPolicy policy a → HasNoPolicy policy b → a ≡ b
+no_policy : (policy : List ℕ) (a b : List ℕ) → TellsFileFault (IsPolicyFileRefused policy) a → TellsFileFault (IsPolicyFileRefused policy) b → a ≡ b
 no_policy policy a b g h = g.line_is ∙ (ap (unreadable_line 1) (policies.one_fault policy g.fault h.fault g.refused h.refused g.cause h.cause) ∙ sym h.line_is)
 
 printed_not_refused : (policy token : List ℕ) (now : ℕ) (a b : List ℕ) → Verifies policy token now a → DoesNotVerify policy token now b → ⊥
@@ -32,10 +34,10 @@ printed_not_refused policy token now a b g h =
     let accepted : IsAccepted token h.policy now g.marked = subst (λ (p : Policy). IsAccepted token p now g.marked) same g.accepted in
     verdicts.accepted_not_refused token h.policy now g.marked h.fault accepted h.lowest
 
-printed_has_policy : (policy token : List ℕ) (now : ℕ) (a b : List ℕ) → Verifies policy token now a → HasNoPolicy policy b → ⊥
+printed_has_policy : (policy token : List ℕ) (now : ℕ) (a b : List ℕ) → Verifies policy token now a → TellsFileFault (IsPolicyFileRefused policy) b → ⊥
 printed_has_policy policy token now a b g h = h.cause (policies.not_both policy g.policy h.fault g.is_policy h.refused)
 
-refused_has_policy : (policy token : List ℕ) (now : ℕ) (a b : List ℕ) → DoesNotVerify policy token now a → HasNoPolicy policy b → ⊥
+refused_has_policy : (policy token : List ℕ) (now : ℕ) (a b : List ℕ) → DoesNotVerify policy token now a → TellsFileFault (IsPolicyFileRefused policy) b → ⊥
 refused_has_policy policy token now a b g h = h.cause (policies.not_both policy g.policy h.fault g.is_policy h.refused)
 
 pub one_verify : (policy token : List ℕ) (now : ℕ) (v w : Reply) → VerifyAnswers policy token now v → VerifyAnswers policy token now w → v ≡ w

@@ -2,13 +2,17 @@
 use Rattle.std.specs.Prelude.{◌≡◌, ℕ, List, [], ◌∷◌, Option, IfSome, IsSomeAnd, take}
 use Rattle.std.specs.List.{AllZip}
 use Rattle.sdjwt_cli.specs.Command.{Command, split, show, verify, issue, present, convert, NamedFile, files_of}
-use Rattle.sdjwt_cli.specs.Split.{Splits, DoesNotSplit}
-use Rattle.sdjwt_cli.specs.Show.{Shows, DoesNotShow}
-use Rattle.sdjwt_cli.specs.Verify.{Verifies, DoesNotVerify, HasNoPolicy}
+use Rattle.sdjwt_cli.specs.Split.{Splits}
+use Rattle.sdjwt_cli.specs.Show.{IsShowRefused, Shows}
+use Rattle.sdjwt_cli.specs.Verify.{Verifies, DoesNotVerify}
 use Rattle.sdjwt_cli.specs.Issuing.{Issues, DoesNotIssue, HasNoOrder}
-use Rattle.sdjwt_cli.specs.Presenting.{Presents, DoesNotPresent, HasNoPresentOrder}
+use Rattle.sdjwt_cli.specs.Presenting.{Presents, DoesNotPresent}
 use Rattle.sdjwt_cli.specs.declared.form.Form.{Form}
-use Rattle.sdjwt_cli.specs.Converting.{Converts, DoesNotConvert}
+use Rattle.sdjwt_cli.specs.Converting.{IsConvertRefused, Converts}
+use Rattle.sdjwt_cli.specs.Telling.{TellsFileFault, TellsFault}
+use Rattle.json_form.specs.Token.{IsTextRefused}
+use Rattle.verifier_core.specs.PolicyFile.{IsPolicyFileRefused}
+use Rattle.holder_core.specs.PresentFile.{IsPresentFileRefused}
 
 -- the bytes for standard output, or the line of a refusal, or that of a file that is not of its form
 pub data Reply : Type 0 where
@@ -16,59 +20,47 @@ pub data Reply : Type 0 where
   refuses : (text : List ℕ) → Reply
   unreadable : (text : List ℕ) → Reply
 
+-- what is so of each kind of reply
+abbrev pub Replies : (List ℕ → Type 0) → (List ℕ → Type 0) → (List ℕ → Type 0) → Reply → Type 0
+Replies Gives Refuses Unreadable (gives answer) = Gives answer
+Replies Gives Refuses Unreadable (refuses text) = Refuses text
+Replies Gives Refuses Unreadable (unreadable text) = Unreadable text
+
 abbrev pub SplitAnswers : List ℕ → Reply → Type 0
-SplitAnswers file (gives answer) = Splits file answer
-SplitAnswers file (refuses text) = DoesNotSplit file text
-SplitAnswers file (unreadable text) = ⊥
+SplitAnswers file reply = Replies (Splits file) (TellsFault (IsTextRefused file)) (λ _. ⊥) reply
 
 abbrev pub ShowAnswers : List ℕ → Reply → Type 0
-ShowAnswers file (gives answer) = Shows file answer
-ShowAnswers file (refuses text) = DoesNotShow file text
-ShowAnswers file (unreadable text) = ⊥
+ShowAnswers file reply = Replies (Shows file) (TellsFault (IsShowRefused file)) (λ _. ⊥) reply
 
 abbrev pub VerifyAnswers : List ℕ → List ℕ → ℕ → Reply → Type 0
-VerifyAnswers policy token now (gives answer) = Verifies policy token now answer
-VerifyAnswers policy token now (refuses text) = DoesNotVerify policy token now text
-VerifyAnswers policy token now (unreadable text) = HasNoPolicy policy text
+VerifyAnswers policy token now reply = Replies (Verifies policy token now) (DoesNotVerify policy token now) (TellsFileFault (IsPolicyFileRefused policy)) reply
 
 abbrev pub IssueAnswers : List ℕ → List ℕ → Reply → Type 0
-IssueAnswers order seed (gives answer) = Issues order seed answer
-IssueAnswers order seed (refuses text) = DoesNotIssue order seed text
-IssueAnswers order seed (unreadable text) = HasNoOrder order seed text
+IssueAnswers order seed reply = Replies (Issues order seed) (DoesNotIssue order seed) (HasNoOrder order seed) reply
 
 abbrev pub PresentAnswers : List ℕ → List ℕ → ℕ → Reply → Type 0
-PresentAnswers order token now (gives answer) = Presents order token now answer
-PresentAnswers order token now (refuses text) = DoesNotPresent order token now text
-PresentAnswers order token now (unreadable text) = HasNoPresentOrder order text
+PresentAnswers order token now reply = Replies (Presents order token now) (DoesNotPresent order token now) (TellsFileFault (IsPresentFileRefused order)) reply
 
 abbrev pub ConvertAnswers : Form → List ℕ → Reply → Type 0
-ConvertAnswers form file (gives answer) = Converts form file answer
-ConvertAnswers form file (refuses text) = DoesNotConvert form file text
-ConvertAnswers form file (unreadable text) = ⊥
+ConvertAnswers form file reply = Replies (Converts form file) (TellsFault (IsConvertRefused form file)) (λ _. ⊥) reply
+
+-- of a list of one file, or of two, and of no other
+abbrev pub OfOne : (List ℕ → Type 0) → List (List ℕ) → Type 0
+OfOne Is (file ∷ []) = Is file
+OfOne Is _ = ⊥
+
+abbrev pub OfTwo : (List ℕ → List ℕ → Type 0) → List (List ℕ) → Type 0
+OfTwo Is (file ∷ other ∷ []) = Is file other
+OfTwo Is _ = ⊥
 
 -- the verdict of a command over its files, at a moment
 abbrev pub Answers : Command → List (List ℕ) → ℕ → Reply → Type 0
-Answers (split token) [] now verdict = ⊥
-Answers (split token) (file ∷ []) now verdict = SplitAnswers file verdict
-Answers (split token) (file ∷ more ∷ files) now verdict = ⊥
-Answers (show token) [] now verdict = ⊥
-Answers (show token) (file ∷ []) now verdict = ShowAnswers file verdict
-Answers (show token) (file ∷ more ∷ files) now verdict = ⊥
-Answers (verify policy token) [] now verdict = ⊥
-Answers (verify policy token) (file ∷ []) now verdict = ⊥
-Answers (verify policy token) (file ∷ other ∷ []) now verdict = VerifyAnswers file other now verdict
-Answers (verify policy token) (file ∷ other ∷ more ∷ files) now verdict = ⊥
-Answers (issue order seed) [] now verdict = ⊥
-Answers (issue order seed) (file ∷ []) now verdict = ⊥
-Answers (issue order seed) (file ∷ other ∷ []) now verdict = IssueAnswers file other verdict
-Answers (issue order seed) (file ∷ other ∷ more ∷ files) now verdict = ⊥
-Answers (present order token) [] now verdict = ⊥
-Answers (present order token) (file ∷ []) now verdict = ⊥
-Answers (present order token) (file ∷ other ∷ []) now verdict = PresentAnswers file other now verdict
-Answers (present order token) (file ∷ other ∷ more ∷ files) now verdict = ⊥
-Answers (convert form token) [] now verdict = ⊥
-Answers (convert form token) (file ∷ []) now verdict = ConvertAnswers form file verdict
-Answers (convert form token) (file ∷ more ∷ files) now verdict = ⊥
+Answers (split token) files now verdict = OfOne (λ file. SplitAnswers file verdict) files
+Answers (show token) files now verdict = OfOne (λ file. ShowAnswers file verdict) files
+Answers (verify policy token) files now verdict = OfTwo (λ file other. VerifyAnswers file other now verdict) files
+Answers (issue order seed) files now verdict = OfTwo (λ file other. IssueAnswers file other verdict) files
+Answers (present order token) files now verdict = OfTwo (λ file other. PresentAnswers file other now verdict) files
+Answers (convert form token) files now verdict = OfOne (λ file. ConvertAnswers form file verdict) files
 
 -- each file is what a fetch answers, where the cabinet tells it
 abbrev pub AreFetched : (List ℕ → Option (List ℕ)) → Command → List (List ℕ) → Type 0

@@ -13,7 +13,7 @@ use Rattle.json_form.specs.Token.{IsTextRefused, IsToken}
 use Rattle.json_form.specs.Written.{flat_of, general_of}
 use Rattle.sdjwt_cli.specs.declared.form.Form.{Form}
 use Rattle.sdjwt_cli.specs.declared.form.Form.TheVariants.{Compact, Flat, General}
-use Rattle.sdjwt_cli.specs.Lines.{line, refusal}
+use Rattle.sdjwt_cli.specs.Lines.{line}
 
 -- a token in a form: the JSON ones keep the other members of its unprotected header, which the compact one has no place for
 abbrev pub written : Form → Token → List ℕ
@@ -45,9 +45,3 @@ pub record Converts (form : Form) (file answer : List ℕ) : Type 0 where
 pub data IsConvertRefused (form : Form) (file : List ℕ) (fault : Fault) : Type 0 where
   unread : IsTextRefused file fault → IsConvertRefused form file fault
   too_much : (token : Token) → IsToken file token → file_max < length (line (written form token)) → fault ≡ record { number = number_of condition.too_much; place = Nowhere } → IsConvertRefused form file fault
-
--- the file is refused, with this line
-pub record DoesNotConvert (form : Form) (file text : List ℕ) : Type 0 where
-  pub fault : Fault
-  pub refused : IsConvertRefused form file fault
-  pub line_is : text ≡ refusal fault

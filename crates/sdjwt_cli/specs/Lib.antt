@@ -1,5 +1,6 @@
 pub mod Command
 pub mod Lines
+pub mod Telling
 pub mod Split
 pub mod Answers
 pub mod Run

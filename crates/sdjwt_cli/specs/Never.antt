@@ -1,13 +1,13 @@
 -- The rule of consent that a present order says by its list of places that are never shown.
-use Rattle.std.specs.Prelude.{◌≡◌, ◌↔◌, List, Bool, IsTrue}
+use Rattle.std.specs.Prelude.{◌≡◌, ◌↔◌, List, Bool, true, IsTrue}
 use Rattle.claim_tree.specs.Lists.{In}
-use Rattle.claim_tree.specs.Path.{LeadsTo}
+use Rattle.claim_tree.specs.Path.{is_front}
 use Rattle.marked_tree.specs.Paths.{Path}
 use Rattle.selection_core.specs.Consent.{RuleAnswers}
 
 -- no path of the list leads to the place
 abbrev pub MayBeShown : List Path → Path → Type 0
-MayBeShown never at = (front : Path) → In front never → LeadsTo front at → ⊥
+MayBeShown never at = (front : Path) → In front never → is_front front at ≡ true → ⊥
 
 -- the answer allows exactly what may be shown
 abbrev pub Judges : List Path → Path → Bool → Type 0

@@ -1,7 +1,6 @@
 -- The command `present`: what it prints of a token file for an order file, and when it refuses.
 use Rattle.std.specs.Prelude.{◌≡◌, ◌≢◌, ◌≤◌, ℕ, List, [], ◌++◌, length, replicate, Option, None, Some, codes}
 use Rattle.std.specs.Fmt.{decimal}
-use Rattle.claim_tree.specs.declared.file_fault.FileFault.{FileFault}
 use Rattle.sd_outside.specs.Limits.{compact_max}
 use Rattle.compact_form.specs.declared.parts.Parts.{Parts}
 use Rattle.compact_form.specs.Compact.{compact}
@@ -10,8 +9,8 @@ use Rattle.holder_core.specs.declared.errors.PresentError.{PresentError}
 use Rattle.holder_core.specs.declared.errors.PresentError.TheVariants.{Memory, Token as OnCondition, HasBinding, NoSuchPlace, ConsentRefused, BindingKeyDiffers, SignFailed, TooLong}
 use Rattle.holder_core.specs.declared.present_file.PresentFile.{PresentFile}
 use Rattle.holder_core.specs.Present.{IsPresented, IsNotPresented}
-use Rattle.holder_core.specs.PresentFile.{IsPresentFile, IsPresentFileRefused}
-use Rattle.sdjwt_cli.specs.Lines.{line, refusal, unreadable_line}
+use Rattle.holder_core.specs.PresentFile.{IsPresentFile}
+use Rattle.sdjwt_cli.specs.Lines.{line, refusal}
 use Rattle.sdjwt_cli.specs.Never.{never_rule}
 
 -- the key that signs: that of the order, or one of zeros, which signs nothing, where no key binding token is asked for
@@ -56,10 +55,3 @@ pub record DoesNotPresent (order_file token_file : List ℕ) (now : ℕ) (text :
   pub memory : error ≢ Memory
   pub signed : error ≢ SignFailed
   pub line_is : text ≡ present_refusal error
-
--- the file says no present order, for another cause than want of memory, with this line
-pub record HasNoPresentOrder (order_file text : List ℕ) : Type 0 where
-  pub fault : FileFault
-  pub refused : IsPresentFileRefused order_file fault
-  pub cause : fault ≢ FileFault.Memory
-  pub line_is : text ≡ unreadable_line 1 fault

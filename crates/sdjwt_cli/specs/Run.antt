@@ -6,7 +6,7 @@ use Rattle.sd_outside.specs.declared.status.Status.{Status}
 use Rattle.sd_outside.specs.declared.status.Status.TheVariants.{Done, Refused, Usage, Unread, Unwritten, Memory, Unreadable}
 use Rattle.sdjwt_cli.specs.Command.{Command, command_of, NamedFile, files_of}
 use Rattle.sdjwt_cli.specs.Lines.{line, unread_text}
-use Rattle.sdjwt_cli.specs.Answers.{gives, refuses, unreadable, IsAnswered}
+use Rattle.sdjwt_cli.specs.Answers.{Reply, gives, refuses, unreadable, IsAnswered}
 
 -- a sink at one moment
 pub record Stream : Type 0 where
@@ -49,21 +49,12 @@ pub record EndsDone (words : List (List ℕ)) (before after : Outside) (now : �
   pub out : Appends before.out.written after.out.written answer
   pub err : after.err.written ≡ before.err.written
 
--- the definition of the command refuses
-pub record EndsRefused (words : List (List ℕ)) (before after : Outside) (now : ℕ) : Type 0 where
+-- the definition of the command refuses, or a policy, an order or a seed is not of its form, with this line
+pub record EndsTelling (reply : List ℕ → Reply) (words : List (List ℕ)) (before after : Outside) (now : ℕ) : Type 0 where
   pub command : Command
   pub text : List ℕ
   pub named : command_of words ≡ Some command
-  pub answered : IsAnswered before.holds command now (refuses text)
-  pub out : after.out.written ≡ before.out.written
-  pub err : Tells before.err after.err text
-
--- a policy, an order or a seed is not of its form
-pub record EndsUnreadable (words : List (List ℕ)) (before after : Outside) (now : ℕ) : Type 0 where
-  pub command : Command
-  pub text : List ℕ
-  pub named : command_of words ≡ Some command
-  pub answered : IsAnswered before.holds command now (unreadable text)
+  pub answered : IsAnswered before.holds command now (reply text)
   pub out : after.out.written ≡ before.out.written
   pub err : Tells before.err after.err text
 
@@ -102,12 +93,12 @@ pub record EndsMemory (words : List (List ℕ)) (before after : Outside) : Type 
 
 abbrev pub Ends : List (List ℕ) → Outside → Outside → ℕ → Status → Type 0
 Ends words before after now Done = EndsDone words before after now
-Ends words before after now Refused = EndsRefused words before after now
+Ends words before after now Refused = EndsTelling refuses words before after now
 Ends words before after now Usage = EndsUsage words before after
 Ends words before after now Unread = EndsUnread words before after
 Ends words before after now Unwritten = EndsUnwritten words before after now
 Ends words before after now Memory = EndsMemory words before after
-Ends words before after now Unreadable = EndsUnreadable words before after now
+Ends words before after now Unreadable = EndsTelling unreadable words before after now
 
 -- what each run leaves
 pub record Keeps (before after : Outside) : Type 0 where

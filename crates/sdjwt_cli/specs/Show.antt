@@ -1,16 +1,14 @@
 -- The command `show`: what it prints of a token file, unchecked, and when it refuses one.
-use Rattle.std.specs.Prelude.{◌≡◌, ◌≢◌, ℕ, ◌+◌, length, List, [], ◌∷◌, ◌++◌, Bool, true, false, Option, None, Some, is_some, codes}
+use Rattle.std.specs.Prelude.{◌≡◌, ℕ, ◌+◌, length, List, [], ◌∷◌, ◌++◌, Bool, true, false, Option, None, Some, is_some, codes}
 use Rattle.std.specs.Fmt.{decimal}
 use Rattle.std.specs.List.{AllZip}
 use Rattle.claim_tree.specs.Tree.{Text, Tree, Members, leaf, text}
 use Rattle.claim_tree.specs.JsonText.{json_text}
 use Rattle.jws_part.specs.Part.{IsBody, IsNoObject}
 use Rattle.jws_part.specs.Header.{IsHeaderUnreadable}
-use Rattle.disclosure.specs.Digest.{digest_of, payload_hash}
-use Rattle.disclosure.specs.Disclosure.{IsDisclosure}
-use Rattle.disclosure.specs.DisclosureRefusals as reasons
+use Rattle.disclosure.specs.Digest.{payload_hash}
 use Rattle.disclosure.specs.declared.digests.HashAlg.{HashAlg}
-use Rattle.disclosure.specs.declared.errors.DisclosureError.{DisclosureError}
+use Rattle.digest_sites.specs.Given.{Given}
 use Rattle.compact_form.specs.Condition as condition
 use Rattle.compact_form.specs.Condition.{number_of}
 use Rattle.compact_form.specs.declared.fault.Fault.{Fault}
@@ -18,45 +16,28 @@ use Rattle.compact_form.specs.declared.fault.Place.TheVariants.{Nowhere, At}
 use Rattle.compact_form.specs.declared.parts.JwtParts.{JwtParts}
 use Rattle.json_form.specs.declared.token.Token.{Token}
 use Rattle.json_form.specs.Token.{IsTextRefused, IsToken}
-use Rattle.sdjwt_cli.specs.declared.show.Unshown.TheVariants.{Memory}
-use Rattle.sdjwt_cli.specs.Lines.{line, refusal}
+use Rattle.verifier_core.specs.Verdict.{Gives, IsNoDisclosure}
+use Rattle.sdjwt_cli.specs.Lines.{line}
 use Rattle.sdjwt_cli.specs.Split.{binding_line}
 
 -- `_sd_alg` is not there, or names a hash that is known
 abbrev pub has_known_hash : Tree → Bool
 has_known_hash payload = is_some (payload_hash payload)
 
--- what is printed of a disclosure
-pub record ShownDisclosure : Type 0 where
-  pub digest : Text
-  pub name : Option Text
-  pub value : Tree
-
-pub record IsShown (disclosure : Text) (shown : ShownDisclosure) : Type 0 where
-  pub salt : Tree
-  pub is : IsDisclosure disclosure salt shown.name shown.value
-  pub digest_is : shown.digest ≡ digest_of HashAlg.Sha256 disclosure
-
--- the text is refused, for another cause than want of memory
-pub record IsDisclosureUnread (disclosure : Text) : Type 0 where
-  pub error : DisclosureError
-  pub refused : reasons.IsDisclosureRefused disclosure error
-  pub cause : error ≢ DisclosureError.Memory
-
 -- the name of a member as JSON, or that it is an element
 abbrev pub kind_text : Option Text → Text
 kind_text None = codes " element "
 kind_text (Some name) = codes " member " ++ (json_text (leaf (text name)) ++ codes " ")
 
-abbrev pub shown_line : ℕ → ShownDisclosure → Text
+abbrev pub shown_line : ℕ → Given → Text
 shown_line i shown = line (codes "disclosure " ++ (decimal i ++ (codes " " ++ (shown.digest ++ (kind_text shown.name ++ json_text shown.value)))))
 
 -- numbered from i
-abbrev pub shown_lines : ℕ → List ShownDisclosure → Text
+abbrev pub shown_lines : ℕ → List Given → Text
 shown_lines i [] = []
 shown_lines i (shown ∷ more) = shown_line i shown ++ shown_lines (i + 1) more
 
-abbrev pub show_lines : Tree → Tree → List ShownDisclosure → Option JwtParts → Text
+abbrev pub show_lines : Tree → Tree → List Given → Option JwtParts → Text
 show_lines header payload shown binding = line (codes "header " ++ json_text header) ++ (line (codes "payload " ++ json_text payload) ++ (shown_lines 0 shown ++ binding_line binding))
 
 -- the protected header is read: the text carries an object, and with the unprotected one beside it is not refused as unreadable
@@ -77,8 +58,8 @@ pub record Shows (file answer : List ℕ) : Type 0 where
   pub head : IsHead token.parts.signed.protected token.outer header
   pub payload : Tree
   pub body : IsShownPayload token.parts.signed.payload payload
-  pub shown : List ShownDisclosure
-  pub disclosures : AllZip IsShown token.parts.disclosures shown
+  pub shown : List Given
+  pub disclosures : AllZip (Gives HashAlg.Sha256) token.parts.disclosures shown
   pub lines : answer ≡ show_lines header payload shown token.parts.binding
 
 -- the first disclosure that is not read
@@ -86,10 +67,10 @@ pub record IsShowUnreadAt (disclosures : List Text) (fault : Fault) : Type 0 whe
   pub front : List Text
   pub text : Text
   pub rest : List Text
-  pub shown : List ShownDisclosure
+  pub shown : List Given
   pub stand : disclosures ≡ front ++ text ∷ rest
-  pub read : AllZip IsShown front shown
-  pub unread : IsDisclosureUnread text
+  pub read : AllZip (Gives HashAlg.Sha256) front shown
+  pub unread : IsNoDisclosure text
   pub fault_is : fault ≡ record { number = number_of condition.disclosure_unreadable; place = At (length front) }
 
 abbrev pub fault_of : ℕ → Fault
@@ -102,9 +83,3 @@ pub data IsShowRefused (file : List ℕ) (fault : Fault) : Type 0 where
   payload : (t : Token) (head : Tree) → IsToken file t → IsHead t.parts.signed.protected t.outer head → IsNoObject t.parts.signed.payload → fault ≡ fault_of (number_of condition.payload_unreadable) → IsShowRefused file fault
   hash : (t : Token) (head body : Tree) → IsToken file t → IsHead t.parts.signed.protected t.outer head → IsBody t.parts.signed.payload body → has_known_hash body ≡ false → fault ≡ fault_of (number_of condition.hash_unknown) → IsShowRefused file fault
   disclosure : (t : Token) (head body : Tree) → IsToken file t → IsHead t.parts.signed.protected t.outer head → IsShownPayload t.parts.signed.payload body → IsShowUnreadAt t.parts.disclosures fault → IsShowRefused file fault
-
--- the file is refused, with this line
-pub record DoesNotShow (file text : List ℕ) : Type 0 where
-  pub fault : Fault
-  pub refused : IsShowRefused file fault
-  pub line_is : text ≡ refusal fault

@@ -9,21 +9,23 @@ use Rattle.disclosure.specs.declared.digests.HashAlg.{HashAlg}
 use Rattle.disclosure.specs.declared.disclosure.Disclosure.{Disclosure}
 use Rattle.sdjwt_cli.specs.declared.show.Unshown.{Unshown}
 use Rattle.sdjwt_cli.specs.declared.show.Unshown.TheVariants.{Memory, Fails}
-use Rattle.sdjwt_cli.specs.Show.{IsShown, ShownDisclosure, shown_line, shown_lines}
+use Rattle.digest_sites.specs.Given.{Given}
+use Rattle.verifier_core.specs.Verdict.{Gives}
+use Rattle.sdjwt_cli.specs.Show.{shown_line, shown_lines}
 
 -- what is shown of a disclosure that is read
-abbrev pub disclosure_shown : Disclosure → ShownDisclosure
+abbrev pub disclosure_shown : Disclosure → Given
 disclosure_shown d = record { digest = digest_of HashAlg.Sha256 d.text; name = d.name; value = tree_of d.value }
 
 -- a line, or all lines, put behind a text
 pub record AddsLine (i : ℕ) (disclosure : Text) (old new : Text) : Type 0 where
-  pub shown : ShownDisclosure
-  pub is : IsShown disclosure shown
+  pub shown : Given
+  pub is : Gives HashAlg.Sha256 disclosure shown
   pub more : new ≡ old ++ shown_line i shown
 
 pub record AddsLines (disclosures : List Text) (old new : Text) : Type 0 where
-  pub shown : List ShownDisclosure
-  pub are : AllZip IsShown disclosures shown
+  pub shown : List Given
+  pub are : AllZip (Gives HashAlg.Sha256) disclosures shown
   pub more : new ≡ old ++ shown_lines 0 shown
 
 abbrev pub OnFails : Unshown → (Fault → Type 0) → Type 0

@@ -1,13 +1,12 @@
 -- The command `split`: what it prints of a token file, and when it refuses one.
 use Rattle.std.specs.Prelude.{◌≡◌, ℕ, ◌+◌, List, [], ◌∷◌, ◌++◌, Option, None, Some, codes}
 use Rattle.std.specs.Fmt.{decimal}
-use Rattle.compact_form.specs.declared.fault.Fault.{Fault}
 use Rattle.compact_form.specs.declared.parts.JwtParts.{JwtParts}
 use Rattle.compact_form.specs.declared.parts.Parts.{Parts}
 use Rattle.compact_form.specs.Compact.{jwt}
 use Rattle.json_form.specs.declared.token.Token.{Token}
-use Rattle.json_form.specs.Token.{IsTextRefused, IsToken}
-use Rattle.sdjwt_cli.specs.Lines.{line, refusal}
+use Rattle.json_form.specs.Token.{IsToken}
+use Rattle.sdjwt_cli.specs.Lines.{line}
 
 abbrev pub signed_lines : JwtParts → List ℕ
 signed_lines j = line (codes "protected " ++ j.protected) ++ (line (codes "payload " ++ j.payload) ++ line (codes "signature " ++ j.signature))
@@ -30,9 +29,3 @@ pub record Splits (file answer : List ℕ) : Type 0 where
   pub token : Token
   pub reads : IsToken file token
   pub lines : answer ≡ split_lines token.parts
-
--- the file is refused, with this line
-pub record DoesNotSplit (file text : List ℕ) : Type 0 where
-  pub fault : Fault
-  pub refused : IsTextRefused file fault
-  pub line_is : text ≡ refusal fault

@@ -1,13 +1,12 @@
 -- When a policy suits what a holder is asked to present of a token that is issued for an order.
 use Rattle.std.specs.Prelude.{◌≡◌, ◌≢◌, ◌≤◌, ℕ, ◌+◌, true, false, List, Option, None, Some, codes}
-use Rattle.claim_tree.specs.Tree.{Text, Tree}
+use Rattle.claim_tree.specs.Tree.{Text}
 use Rattle.claim_tree.specs.Lists.{In}
 use Rattle.claim_tree.specs.Path.{tree_at}
 use Rattle.compact_form.specs.Lowest.{NoneFails}
 use Rattle.hmac_sign.specs.Keys.{key_named}
 use Rattle.key_binding.specs.Judged.{holder_kid}
 use Rattle.key_binding.specs.declared.policy.BindingPolicy.{BindingPolicy}
-use Rattle.marked_tree.specs.Marked.{strip, prune}
 use Rattle.marked_tree.specs.Paths.{Path, mark_path, chosen}
 use Rattle.selection_core.specs.Consent.{RuleAnswers, Allows}
 use Rattle.verifier_core.specs.Verdict.{key_for, ClaimFails}
@@ -16,10 +15,7 @@ use Rattle.issuer_core.specs.Digests.{marked_claims}
 use Rattle.issuer_core.specs.Order.{Order}
 use Rattle.holder_core.specs.declared.ask.Ask.{Ask}
 use Rattle.holder_core.specs.declared.ask.BindingAsk.{BindingAsk}
-
--- the claims of the order without the hidden places that lead to none of the wanted ones
-abbrev pub shown_for : Order → List Path → Tree
-shown_for o want = strip (prune (marked_claims o) (chosen (marked_claims o) want))
+use Rattle.holder_core.specs.Present.{shown_for}
 
 -- the holder is asked for a key binding token for the audience and with the nonce of the policy, signs it with a key that the
 -- policy knows by the same name, and both moments lie within its age, as far as clocks may differ
@@ -42,11 +38,11 @@ pub record Suits {F : Type 0} (answers : RuleAnswers F) (rule : F) (o : Order) (
   pub alg : In (codes "HS256") policy.algs
   pub typ : (name : Text) → policy.typ ≡ Some name → o.typ ≡ Some name
   -- each wanted path is in the payload, and the rule refuses the place of no disclosure that leads to one
-  pub there : (path : Path) → In path ask.want → tree_at o.claims path ≢ None
+  pub there : (path : Path) → In path ask.want → tree_at o.payload path ≢ None
   pub unrefused : (i : ℕ) (at : Path) → chosen (marked_claims o) ask.want i ≡ true → mark_path (marked_claims o) i ≡ Some at → Allows answers rule at false → ⊥
   -- where the holder is asked for a key binding token, the payload names its key (RFC 7800 section 3.4)
-  pub named : (binding : BindingAsk) → ask.binding ≡ Some binding → holder_kid o.claims ≡ Some binding.kid
+  pub named : (binding : BindingAsk) → ask.binding ≡ Some binding → holder_kid o.payload ≡ Some binding.kid
   -- where the verifier asks for a key binding token, so is the holder
   pub bound : (binding : BindingPolicy) → policy.binding ≡ Some binding → BindingSuits ask.binding signing binding policy.skew presented verified
   -- what is shown has the claims that the verifier wants, and its times hold
-  pub claims : NoneFails (ClaimFails (shown_for o ask.want) policy verified)
+  pub claims : NoneFails (ClaimFails (shown_for (marked_claims o) ask.want) policy verified)

@@ -1,14 +1,13 @@
 -- The command `verify`: what it prints of a token file under a policy file, and when it refuses one.
 use Rattle.std.specs.Prelude.{◌≡◌, ◌≢◌, ℕ, List}
 use Rattle.claim_tree.specs.JsonText.{json_text}
-use Rattle.claim_tree.specs.declared.file_fault.FileFault.{FileFault}
 use Rattle.compact_form.specs.declared.fault.Fault.{Fault}
 use Rattle.marked_tree.specs.Marked.{Marked, strip}
-use Rattle.verifier_core.specs.PolicyFile.{IsPolicyFile, IsPolicyFileRefused}
+use Rattle.verifier_core.specs.PolicyFile.{IsPolicyFile}
 use Rattle.verifier_core.specs.Verdict.{Fails, IsAccepted}
 use Rattle.compact_form.specs.Lowest.{IsLowest}
 use Rattle.verifier_core.specs.declared.policy.Policy.{Policy}
-use Rattle.sdjwt_cli.specs.Lines.{line, refusal, unreadable_line}
+use Rattle.sdjwt_cli.specs.Lines.{line, refusal}
 
 -- the token is accepted under the policy, and this is the line of its processed payload
 pub record Verifies (policy_file token_file : List ℕ) (now : ℕ) (answer : List ℕ) : Type 0 where
@@ -25,10 +24,3 @@ pub record DoesNotVerify (policy_file token_file : List ℕ) (now : ℕ) (text :
   pub fault : Fault
   pub lowest : IsLowest (Fails token_file policy now) fault
   pub line_is : text ≡ refusal fault
-
--- the file says no policy, for another cause than want of memory, with this line
-pub record HasNoPolicy (policy_file text : List ℕ) : Type 0 where
-  pub fault : FileFault
-  pub refused : IsPolicyFileRefused policy_file fault
-  pub cause : fault ≢ FileFault.Memory
-  pub line_is : text ≡ unreadable_line 1 fault

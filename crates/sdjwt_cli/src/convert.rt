@@ -2,9 +2,10 @@
 ghost use Rattle.std.specs.Prelude.{◌≡◌, ℕ, List, IfOk, IfErr, string_bytes};
 ghost use Rattle.json_form.specs.Token.{IsToken};
 ghost use Rattle.json_form.specs.Printable.{IsPrintable};
-ghost use Rattle.sdjwt_cli.specs.Converting.{written, HasRoom, Converts, DoesNotConvert};
+ghost use Rattle.sdjwt_cli.specs.Converting.{IsConvertRefused, written, HasRoom, Converts};
 ghost use Rattle.sdjwt_cli.specs.ConvertingSteps.{IsJsonOf};
 ghost use Rattle.sdjwt_cli.specs.Stops.{OnRefused, OnUnread, OnUnreadable};
+ghost use Rattle.sdjwt_cli.specs.Telling.{TellsFault};
 
 use crate::form::Form;
 use crate::lines::as_line;
@@ -31,7 +32,7 @@ fn write_as(alloc: Global, form: Form, token: &Token) -> Result<TextBox, NoMemor
 fn convert_token(alloc: Global, form: Form, token: &Token) -> Result<String, Stop>
     requires printable { IsPrintable token.now }
     ensures converts { (file : List ℕ) → IsToken file token.now → IfOk result (λ text. Converts form file (string_bytes text)) }
-    ensures refuses { (file : List ℕ) → IsToken file token.now → IfErr result (λ stop. OnRefused stop (DoesNotConvert form file)) }
+    ensures refuses { (file : List ℕ) → IsToken file token.now → IfErr result (λ stop. OnRefused stop (TellsFault (IsConvertRefused form file))) }
     ensures read { IfErr result (λ stop. OnUnread stop (λ _. ⊥)) }
     ensures readable { IfErr result (λ stop. OnUnreadable stop (λ _. ⊥)) }
 {
@@ -49,7 +50,7 @@ fn convert_token(alloc: Global, form: Form, token: &Token) -> Result<String, Sto
 /// The answer to a token file: its token in a form, as a line.
 pub(crate) fn convert(alloc: Global, form: Form, file: &[u8]) -> Result<String, Stop>
     ensures converts { IfOk result (λ text. Converts form file.now (string_bytes text)) }
-    ensures refuses { IfErr result (λ stop. OnRefused stop (DoesNotConvert form file.now)) }
+    ensures refuses { IfErr result (λ stop. OnRefused stop (TellsFault (IsConvertRefused form file.now))) }
     ensures read { IfErr result (λ stop. OnUnread stop (λ _. ⊥)) }
     ensures readable { IfErr result (λ stop. OnUnreadable stop (λ _. ⊥)) }
 {

@@ -4,13 +4,14 @@ ghost use Rattle.compact_form.specs.Compact.{AreWords, compact};
 ghost use Rattle.sd_outside.specs.Limits.{compact_max};
 ghost use Rattle.hmac_sign.specs.Hmac.{IsGood};
 ghost use Rattle.holder_core.specs.Present.{IsPresented, IsNotPresented};
-ghost use Rattle.holder_core.specs.PresentFile.{IsPresentFile};
+ghost use Rattle.holder_core.specs.PresentFile.{IsPresentFileRefused, IsPresentFile};
 ghost use Rattle.holder_core.specs.declared.errors.PresentError.{PresentError};
 ghost use Rattle.sdjwt_cli.specs.Never.{Judges, never_rule};
-ghost use Rattle.sdjwt_cli.specs.Presenting.{signing_key, Presents, DoesNotPresent, HasNoPresentOrder};
+ghost use Rattle.sdjwt_cli.specs.Presenting.{signing_key, Presents, DoesNotPresent};
 ghost use Rattle.sdjwt_cli.specs.PresentingSteps.{HasLine, IsLineOf, IsRefusalOf};
 ghost use Rattle.sdjwt_cli.specs.Stops.{OnRefused, OnUnread, OnUnreadable};
 ghost use Rattle.sdjwt_cli.specs.Lines.{line};
+ghost use Rattle.sdjwt_cli.specs.Telling.{TellsFileFault};
 
 use crate::lines::{as_line, refusal_line};
 use crate::never::may_be_shown;
@@ -85,7 +86,7 @@ fn present_line(alloc: Global, error: &PresentError) -> Result<String, NoMemory>
 // What a present order says.
 fn order_of(alloc: Global, file: &[u8]) -> Result<PresentFile, Stop>
     ensures order { IfOk result (IsPresentFile file.now) }
-    ensures unreadable { IfErr result (λ stop. OnUnreadable stop (HasNoPresentOrder file.now)) }
+    ensures unreadable { IfErr result (λ stop. OnUnreadable stop (TellsFileFault (IsPresentFileRefused file.now))) }
     ensures fit { IfErr result (λ stop. OnRefused stop (λ _. ⊥)) }
     ensures read { IfErr result (λ stop. OnUnread stop (λ _. ⊥)) }
 {
@@ -137,7 +138,7 @@ pub(crate) fn present(
 ) -> Result<String, Stop>
     ensures presents { IfOk result (λ text. Presents order_file.now token_file.now now (string_bytes text)) }
     ensures refuses { IfErr result (λ stop. OnRefused stop (DoesNotPresent order_file.now token_file.now now)) }
-    ensures unreadable { IfErr result (λ stop. OnUnreadable stop (HasNoPresentOrder order_file.now)) }
+    ensures unreadable { IfErr result (λ stop. OnUnreadable stop (TellsFileFault (IsPresentFileRefused order_file.now))) }
     ensures read { IfErr result (λ stop. OnUnread stop (λ _. ⊥)) }
 {
     match order_of(alloc, order_file) {

@@ -10,11 +10,12 @@ ghost use Rattle.jws_part.specs.Header.{IsHeaderUnreadable};
 ghost use Rattle.disclosure.specs.DisclosureRefusals.{IsDisclosureRefused};
 ghost use Rattle.compact_form.specs.Views.{jwt_of};
 ghost use Rattle.sdjwt_cli.specs.Lines.{line};
-ghost use Rattle.sdjwt_cli.specs.Show.{has_known_hash as has_known_hash_of, IsHead, IsShown, IsDisclosureUnread, kind_text, shown_line, IsShowUnreadAt, Shows, IsShowRefused, DoesNotShow, fault_of};
+ghost use Rattle.sdjwt_cli.specs.Show.{has_known_hash as has_known_hash_of, IsHead, kind_text, shown_line, IsShowUnreadAt, Shows, IsShowRefused, fault_of};
 ghost use Rattle.sdjwt_cli.specs.ShowSteps.{disclosure_shown, AddsLine, AddsLines, OnFails};
 ghost use Rattle.json_form.specs.Token.{IsToken};
 ghost use Rattle.sdjwt_cli.specs.declared.show.Unshown.TheVariants.{Fails};
 ghost use Rattle.sdjwt_cli.specs.Stops.{OnRefused, OnUnread, OnUnreadable};
+ghost use Rattle.sdjwt_cli.specs.Telling.{TellsFault};
 
 use crate::split::push_binding;
 use crate::stop::{Stop, refused};
@@ -233,7 +234,7 @@ fn show_file(alloc: Global, file: &[u8]) -> Result<String, Unshown>
 /// The answer to a token file.
 pub(crate) fn show(alloc: Global, file: &[u8]) -> Result<String, Stop>
     ensures shows { IfOk result (λ text. Shows file.now (string_bytes text)) }
-    ensures refuses { IfErr result (λ stop. OnRefused stop (DoesNotShow file.now)) }
+    ensures refuses { IfErr result (λ stop. OnRefused stop (TellsFault (IsShowRefused file.now))) }
     ensures read { IfErr result (λ stop. OnUnread stop (λ _. ⊥)) }
     ensures readable { IfErr result (λ stop. OnUnreadable stop (λ _. ⊥)) }
 {

@@ -4,8 +4,10 @@ ghost use Rattle.std.specs.Fmt.{decimal};
 ghost use Rattle.std.specs.Option.{option_map};
 ghost use Rattle.compact_form.specs.Views.{jwt_of};
 ghost use Rattle.sdjwt_cli.specs.Lines.{line};
-ghost use Rattle.sdjwt_cli.specs.Split.{disclosure_lines, binding_line, signed_lines, split_lines, Splits, DoesNotSplit};
+ghost use Rattle.sdjwt_cli.specs.Split.{disclosure_lines, binding_line, signed_lines, split_lines, Splits};
 ghost use Rattle.sdjwt_cli.specs.Stops.{OnRefused, OnUnread, OnUnreadable};
+ghost use Rattle.sdjwt_cli.specs.Telling.{TellsFault};
+ghost use Rattle.json_form.specs.Token.{IsTextRefused};
 
 use crate::stop::{Stop, refused};
 use compact_form::JwtView;
@@ -81,7 +83,7 @@ fn room_for(file: &[u8], disclosures: usize) -> usize {
 /// The answer to a token file.
 pub(crate) fn split(alloc: Global, file: &[u8]) -> Result<String, Stop>
     ensures gives { IfOk result (λ text. Splits file.now (string_bytes text)) }
-    ensures refuses { IfErr result (λ stop. OnRefused stop (DoesNotSplit file.now)) }
+    ensures refuses { IfErr result (λ stop. OnRefused stop (TellsFault (IsTextRefused file.now))) }
     ensures read { IfErr result (λ stop. OnUnread stop (λ _. ⊥)) }
     ensures readable { IfErr result (λ stop. OnUnreadable stop (λ _. ⊥)) }
 {

@@ -3,10 +3,11 @@ ghost use Rattle.std.specs.Prelude.{◌≡◌, ℕ, List, IfOk, IfErr, string_by
 ghost use Rattle.claim_tree.specs.Tree.{IsRanged};
 ghost use Rattle.claim_tree.specs.JsonText.{json_text};
 ghost use Rattle.claim_tree.specs.View.{tree_of};
-ghost use Rattle.verifier_core.specs.PolicyFile.{IsPolicyFile};
+ghost use Rattle.verifier_core.specs.PolicyFile.{IsPolicyFileRefused, IsPolicyFile};
 ghost use Rattle.sdjwt_cli.specs.Lines.{line};
-ghost use Rattle.sdjwt_cli.specs.Verify.{Verifies, DoesNotVerify, HasNoPolicy};
+ghost use Rattle.sdjwt_cli.specs.Verify.{Verifies, DoesNotVerify};
 ghost use Rattle.sdjwt_cli.specs.Stops.{OnRefused, OnUnread, OnUnreadable};
+ghost use Rattle.sdjwt_cli.specs.Telling.{TellsFileFault};
 
 use crate::lines::as_line;
 use crate::stop::{Stop, refused, unreadable};
@@ -27,7 +28,7 @@ fn json_line(alloc: Global, tree: &Tree) -> Result<String, NoMemory>
 // The policy of a file.
 fn policy_of(alloc: Global, file: &[u8]) -> Result<Policy, Stop>
     ensures policy { IfOk result (IsPolicyFile file.now) }
-    ensures unreadable { IfErr result (λ stop. OnUnreadable stop (HasNoPolicy file.now)) }
+    ensures unreadable { IfErr result (λ stop. OnUnreadable stop (TellsFileFault (IsPolicyFileRefused file.now))) }
     ensures fit { IfErr result (λ stop. OnRefused stop (λ _. ⊥)) }
     ensures read { IfErr result (λ stop. OnUnread stop (λ _. ⊥)) }
 {
@@ -60,7 +61,7 @@ pub(crate) fn verify(
 ) -> Result<String, Stop>
     ensures verifies { IfOk result (λ text. Verifies policy_file.now token_file.now now (string_bytes text)) }
     ensures refuses { IfErr result (λ stop. OnRefused stop (DoesNotVerify policy_file.now token_file.now now)) }
-    ensures unreadable { IfErr result (λ stop. OnUnreadable stop (HasNoPolicy policy_file.now)) }
+    ensures unreadable { IfErr result (λ stop. OnUnreadable stop (TellsFileFault (IsPolicyFileRefused policy_file.now))) }
     ensures read { IfErr result (λ stop. OnUnread stop (λ _. ⊥)) }
 {
     let policy = policy_of(alloc, policy_file)?;

@@ -6,6 +6,7 @@ use Rattle.claim_tree.specs.declared.tree.Tree as tree
 use Rattle.claim_tree.specs.FileForms.{IsWholeUpTo, Says, HasValue}
 use Rattle.claim_tree.proofs.FileVerdicts as verdicts
 use Rattle.claim_tree.proofs.FileVerdicts.{SaysOne}
+use Rattle.claim_tree.proofs.ObjectTrees.{object_inside}
 use Rattle.hmac_sign.specs.Keys.{IsKeySet}
 use Rattle.hmac_sign.specs.declared.key_set.NamedKey.{NamedKey}
 use Rattle.hmac_sign.proofs.KeySetVerdicts.{one_key_set}
@@ -33,14 +34,6 @@ one_binding t b d h k =
     ap (λ x. binding_made x b.nonce b.keys b.max_age) aud ∙ (ap (λ x. binding_made d.aud x b.keys b.max_age) nonce ∙ (ap (λ x. binding_made d.aud d.nonce x b.max_age) keys ∙ ap (λ x. binding_made d.aud d.nonce d.keys x) max_age))
 
 -- ---- a tree that says none
-
-object_inside : (t : tree.Tree) (ms : Members) → tree_of t ≡ object ms → t ≡ tree.Tree.Object ms
-object_inside tree.Tree.Null ms e = cc e
-object_inside (tree.Tree.Flag b) ms e = cc e
-object_inside (tree.Tree.Whole n) ms e = cc e
-object_inside (tree.Tree.Text s) ms e = cc e
-object_inside (tree.Tree.List es) ms e = cc e
-object_inside (tree.Tree.Object other) ms e = let same : other ≡ ms = cc e in ap tree.Tree.Object same
 
 pub no_object : (t : tree.Tree) → ((ms : Members) → t ≢ tree.Tree.Object ms) → HasValue IsBindingPolicy (tree_of t) → ⊥
 no_object t other h = other h.1.members (object_inside t h.1.members h.1.is)

@@ -2,7 +2,7 @@
 use Rattle.std.specs.Prelude.{◌≡◌, ◌≢◌, ℕ, ◌⊎◌, List, Option, Some, None, codes, option_map, slice_get}
 use Rattle.std.specs.List.{AllZip}
 use Rattle.claim_tree.specs.Tree.{Text, Tree, leaf, text, get}
-use Rattle.claim_tree.specs.Lists.{StandsAt}
+use Rattle.claim_tree.specs.Lists.{StandsAt, IsSuchAt}
 use Rattle.compact_form.specs.declared.fault.Place.{Place}
 use Rattle.compact_form.specs.declared.parts.JwtParts.{JwtParts}
 use Rattle.compact_form.specs.declared.parts.Parts.{Parts}
@@ -107,7 +107,7 @@ TokenFails token rules condition.bad_signature place =
     Unplaced ((header : Header) × HasHeader token header × (key : List ℕ) × (key_for rules.keys header.kid ≡ Some key) × IsBadSignature key token.parts.signed) place
 TokenFails token rules condition.payload_unreadable place = Unplaced (IsNoObject token.parts.signed.payload) place
 TokenFails token rules condition.hash_unknown place = Unplaced ((body : Tree) × HasPayload token body × (payload_hash body ≡ None)) place
-TokenFails token rules condition.disclosure_unreadable place = Numbered (λ i. (disclosure : Text) × StandsAt token.parts.disclosures i disclosure × IsNoDisclosure disclosure) place
+TokenFails token rules condition.disclosure_unreadable place = Numbered (IsSuchAt IsNoDisclosure token.parts.disclosures) place
 TokenFails token rules condition.repeated_disclosure place = Numbered (OfContent (λ payload given i. opening.RepeatedDisclosure given i) token) place
 TokenFails token rules condition.reserved_misused place = Numbered (OfContent opening.Misused token) place
 TokenFails token rules condition.repeated_digest place = Numbered (OfContent opening.RepeatedDigest token) place
@@ -122,7 +122,7 @@ TokenFails token rules _ place = ⊥
 abbrev pub ClaimFails : Tree → Policy → ℕ → Condition → Place → Type 0
 ClaimFails payload policy now condition.issuer_refused place =
     Unplaced ((iss : Text) × (policy.iss ≡ Some iss) × (get payload (codes "iss") ≢ Some (leaf (text iss)))) place
-ClaimFails payload policy now condition.claim_missing place = Numbered (λ i. (name : Text) × StandsAt policy.require i name × (get payload name ≡ None)) place
+ClaimFails payload policy now condition.claim_missing place = Numbered (IsSuchAt (λ name. get payload name ≡ None) policy.require) place
 ClaimFails payload policy now condition.time_unreadable place = Unplaced (IsTimeUnreadable payload) place
 ClaimFails payload policy now condition.expired place = Unplaced (IsExpired payload policy.skew now) place
 ClaimFails payload policy now condition.not_yet place = Unplaced (IsNotYet payload policy.skew now) place

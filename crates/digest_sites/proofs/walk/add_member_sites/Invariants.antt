@@ -1,6 +1,7 @@
 use Rattle.std.proofs.Common.{◌≡◌, ◌++◌, map, drop, IsSome}
+use Rattle.std.specs.Prelude.{[], unwrap_or}
 use Rattle.claim_tree.specs.ListViews.{elements_of}
-use Rattle.digest_sites.specs.Reserved.{texts_of, texts_or_none}
+use Rattle.digest_sites.specs.Reserved.{texts_of}
 use Rattle.digest_sites.specs.Walk.{site}
 use Rattle.digest_sites.specs.declared.site.SiteKind.TheVariants.{Member}
 use Rattle.digest_sites.proofs.walk.add_member_sites.Given as goal
@@ -9,4 +10,4 @@ abbrev pub invariant-loop-tree : goal.invariant-loop-tree
 invariant-loop-tree l =
     let left = texts_of (elements_of (drop l.tree-index l.tree-items)) in
     IsSome left
-    × (l.found ++ map (site l.at Member) (texts_or_none left) ≡ l.fn.found ++ map (site l.at Member) (texts_or_none (texts_of (elements_of l.tree-items))))
+    × (l.found ++ map (site l.at Member) (unwrap_or left []) ≡ l.fn.found ++ map (site l.at Member) (unwrap_or (texts_of (elements_of l.tree-items)) []))

@@ -11,10 +11,10 @@ use Rattle.issuer_core.specs.OrderRefusals.{AppliesToOrder, NoneApplies}
 use Rattle.issuer_core.proofs.issuing.issue.Goals as goal
 
 pub issue_owned-requires-clause-depth : goal.issue_owned-requires-clause-depth
-issue_owned-requires-clause-depth g c = subst (λ (o : Order). depth o.claims ≤ 127) (sym c.in_ok-order.ensures) c.requires.depth
+issue_owned-requires-clause-depth g c = subst (λ (o : Order). depth o.payload ≤ 127) (sym c.in_ok-order.ensures) c.requires.depth
 
 pub issue_owned-requires-clause-ranged : goal.issue_owned-requires-clause-ranged
-issue_owned-requires-clause-ranged g c = subst (λ (o : Order). IsRanged o.claims) (sym c.in_ok-order.ensures) c.requires.ranged
+issue_owned-requires-clause-ranged g c = subst (λ (o : Order). IsRanged o.payload) (sym c.in_ok-order.ensures) c.requires.ranged
 
 pub returns-clause-issued : goal.returns-clause-issued
 returns-clause-issued g c = subst (λ o. IfOk c.issue_owned.result (IsIssued (maker_of c.args.seed.now) o (g.S.Signatures.good c.args.signer.now))) c.in_ok-order.ensures c.issue_owned.ensures.issued

@@ -17,13 +17,13 @@ returns-in-Some-first_nowhere-clause-refused c =
     let o = order_of c.args.order.now in
     let below = one_more o 54 c.requires (no_54 o (found_none IsRoot is_root root_tells o.hide (sym c.first_root.ensures ∙ c.in_default.is))) in
     let k = c.in-Some-first_nowhere.k in
-    lowest_55 o k below (found_first (IsNowhere o.claims) (is_nowhere o.claims) (nowhere_tells o.claims) o.hide k (sym c.first_nowhere.ensures ∙ c.in-Some-first_nowhere.is))
+    lowest_55 o k below (found_first (IsNowhere o.payload) (is_nowhere o.payload) (nowhere_tells o.payload) o.hide k (sym c.first_nowhere.ensures ∙ c.in-Some-first_nowhere.is))
 
 pub returns-in-Some-first_protected-clause-refused : goal.returns-in-Some-first_protected-clause-refused
 returns-in-Some-first_protected-clause-refused c =
     let o = order_of c.args.order.now in
     let below = one_more o 54 c.requires (no_54 o (found_none IsRoot is_root root_tells o.hide (sym c.first_root.ensures ∙ c.in_default.is))) in
-    let more = one_more o 55 below (no_55 o (found_none (IsNowhere o.claims) (is_nowhere o.claims) (nowhere_tells o.claims) o.hide (sym c.first_nowhere.ensures ∙ c.in_default-first_nowhere.is))) in
+    let more = one_more o 55 below (no_55 o (found_none (IsNowhere o.payload) (is_nowhere o.payload) (nowhere_tells o.payload) o.hide (sym c.first_nowhere.ensures ∙ c.in_default-first_nowhere.is))) in
     let k = c.in-Some-first_protected.k in
     lowest_56 o k more (found_first IsProtected is_protected protected_tells o.hide k (sym c.first_protected.ensures ∙ c.in-Some-first_protected.is))
 
@@ -31,15 +31,15 @@ pub returns-in-Some-first_misplaced-clause-refused : goal.returns-in-Some-first_
 returns-in-Some-first_misplaced-clause-refused c =
     let o = order_of c.args.order.now in
     let below = one_more o 54 c.requires (no_54 o (found_none IsRoot is_root root_tells o.hide (sym c.first_root.ensures ∙ c.in_default.is))) in
-    let more = one_more o 55 below (no_55 o (found_none (IsNowhere o.claims) (is_nowhere o.claims) (nowhere_tells o.claims) o.hide (sym c.first_nowhere.ensures ∙ c.in_default-first_nowhere.is))) in
+    let more = one_more o 55 below (no_55 o (found_none (IsNowhere o.payload) (is_nowhere o.payload) (nowhere_tells o.payload) o.hide (sym c.first_nowhere.ensures ∙ c.in_default-first_nowhere.is))) in
     let most = one_more o 56 more (no_56 o (found_none IsProtected is_protected protected_tells o.hide (sym c.first_protected.ensures ∙ c.in_default-first_protected.is))) in
     let k = c.in-Some-first_misplaced.k in
-    lowest_57 o k most (found_first (IsMisplaced o.claims) (is_misplaced o.claims) (misplaced_tells o.claims) o.decoys k (sym c.first_misplaced.ensures ∙ c.in-Some-first_misplaced.is))
+    lowest_57 o k most (found_first (IsMisplaced o.payload) (is_misplaced o.payload) (misplaced_tells o.payload) o.decoys k (sym c.first_misplaced.ensures ∙ c.in-Some-first_misplaced.is))
 
 pub returns-clause-passes : goal.returns-clause-passes
 returns-clause-passes c =
     let o = order_of c.args.order.now in
     let below = one_more o 54 c.requires (no_54 o (found_none IsRoot is_root root_tells o.hide (sym c.first_root.ensures ∙ c.in_default.is))) in
-    let more = one_more o 55 below (no_55 o (found_none (IsNowhere o.claims) (is_nowhere o.claims) (nowhere_tells o.claims) o.hide (sym c.first_nowhere.ensures ∙ c.in_default-first_nowhere.is))) in
+    let more = one_more o 55 below (no_55 o (found_none (IsNowhere o.payload) (is_nowhere o.payload) (nowhere_tells o.payload) o.hide (sym c.first_nowhere.ensures ∙ c.in_default-first_nowhere.is))) in
     let most = one_more o 56 more (no_56 o (found_none IsProtected is_protected protected_tells o.hide (sym c.first_protected.ensures ∙ c.in_default-first_protected.is))) in
-    one_more o 57 most (no_57 o (found_none (IsMisplaced o.claims) (is_misplaced o.claims) (misplaced_tells o.claims) o.decoys (sym c.first_misplaced.ensures ∙ c.in_default-first_misplaced.is)))
+    one_more o 57 most (no_57 o (found_none (IsMisplaced o.payload) (is_misplaced o.payload) (misplaced_tells o.payload) o.decoys (sym c.first_misplaced.ensures ∙ c.in_default-first_misplaced.is)))

@@ -3,7 +3,7 @@ use Rattle.std.specs.Prelude.{slice_get}
 use Rattle.std.proofs.Math.ListN.{drop_of_length-le}
 use Rattle.claim_tree.specs.Tree.{Text, elements_len}
 use Rattle.claim_tree.proofs.Views.{elements_len-of}
-use Rattle.issuer_core.specs.GoodOrder.{ElementsFit}
+use Rattle.issuer_core.proofs.ReservedPlaces.{ElementsFit}
 use Rattle.claim_tree.specs.ListViews.{elements_of, members_of}
 use Rattle.claim_tree.proofs.Walks.{Named, into_element, into_member}
 use Rattle.marked_tree.specs.Paths.{Path}

@@ -5,11 +5,12 @@ use Rattle.compact_form.specs.Condition.{number_of}
 use Rattle.compact_form.specs.declared.fault.Fault.{Fault}
 use Rattle.compact_form.specs.declared.fault.Place.TheVariants.{Nowhere}
 use Rattle.sdjwt_cli.specs.Lines.{line}
-use Rattle.sdjwt_cli.specs.Converting.{written, too_much, DoesNotConvert}
+use Rattle.sdjwt_cli.specs.Converting.{IsConvertRefused, written, too_much}
 use Rattle.sdjwt_cli.proofs.Refusals.{convert_condition}
 use Rattle.sdjwt_cli.proofs.Stopped.{of_refusal}
 use Rattle.sdjwt_cli.proofs.Converted.{converts}
 use Rattle.sdjwt_cli.proofs.convert.convert_token.Goals as goal
+use Rattle.sdjwt_cli.specs.Telling.{TellsFault}
 
 pub returns-clause-refuses : goal.returns-clause-refuses
 returns-clause-refuses c file reads =
@@ -20,7 +21,7 @@ returns-clause-refuses c file reads =
     let fault : Fault = record { number = number_of condition.too_much; place = Nowhere } in
     let refused = too_much token reads long refl in
     let numbered = convert_condition form file fault refused in
-    of_refusal (DoesNotConvert form file) fault (record { fault = fault; refused = refused; line_is = refl }) c.refused.result (c.refused.ensures.line numbered.0 numbered.1)
+    of_refusal (TellsFault (IsConvertRefused form file)) fault (record { fault = fault; refused = refused; line_is = refl }) c.refused.result (c.refused.ensures.line numbered.0 numbered.1)
 
 pub returns-then-len-le-FILE_MAX-clause-converts : goal.returns-then-len-le-FILE_MAX-clause-converts
 returns-then-len-le-FILE_MAX-clause-converts c file reads =

@@ -1,11 +1,11 @@
-use Rattle.std.proofs.Common.{rules, tests}
+use Rattle.std.proofs.Common.{◌≡◌, true, rules, tests}
 use Rattle.std.proofs.lemmas.Iterator.{YieldsList-from_slice, cases_from_any}
-use Rattle.claim_tree.specs.Path.{LeadsTo}
+use Rattle.claim_tree.specs.Path.{is_front}
 use Rattle.sdjwt_cli.proofs.NeverShown.{judged}
 use Rattle.sdjwt_cli.proofs.never.may_be_shown.Goals as goal
 
 pub returns : goal.returns
 returns c =
     let at = c.args.place.now in
-    let cases = cases_from_any _ _ _ (λ front. LeadsTo front at) (λ front. LeadsTo front at → ⊥) c.any.ensures.ran (YieldsList-from_slice c.paths.result.now c.iter.ensures.rest) (λ x q k. search (rules, tests)) (λ x q k. search (rules, tests)) in
+    let cases = cases_from_any _ _ _ (λ front. is_front front at ≡ true) (λ front. is_front front at ≡ true → ⊥) c.any.ensures.ran (YieldsList-from_slice c.paths.result.now c.iter.ensures.rest) (λ x q k. search (rules, tests)) (λ x q k. search (rules, tests)) in
     judged c.args.never.now at c.any.result (rw (c.paths.ensures) at cases)

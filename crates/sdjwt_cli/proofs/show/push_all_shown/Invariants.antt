@@ -1,7 +1,10 @@
 use Rattle.std.proofs.Common.{◌≡◌, ◌++◌, List, length, string_bytes}
 use Rattle.std.specs.List.{AllZip}
 use Rattle.claim_tree.specs.Tree.{Text}
-use Rattle.sdjwt_cli.specs.Show.{ShownDisclosure, IsShown, shown_lines}
+use Rattle.digest_sites.specs.Given.{Given}
+use Rattle.disclosure.specs.declared.digests.HashAlg.{HashAlg}
+use Rattle.verifier_core.specs.Verdict.{Gives}
+use Rattle.sdjwt_cli.specs.Show.{shown_lines}
 use Rattle.sdjwt_cli.proofs.show.push_all_shown.Given as goal
 
 abbrev pub invariant-loop-i : goal.invariant-loop-i
@@ -9,8 +12,8 @@ invariant-loop-i l = record {
   ready : (goal.iterator-loop-i).can_next l.i-iterator;
   finite : (goal.iterator-loop-i).is_finite l.i-iterator;
   done : List Text;
-  shown : List ShownDisclosure;
-  are : AllZip IsShown done shown;
+  shown : List Given;
+  are : AllZip (Gives HashAlg.Sha256) done shown;
   stand : l.fn.disclosures ≡ done ++ l.i-iterator.iter;
   counted : l.i-iterator.count ≡ length done;
   so_far : string_bytes l.text ≡ string_bytes l.initial.text ++ shown_lines 0 shown;

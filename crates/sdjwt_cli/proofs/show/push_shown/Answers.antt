@@ -10,6 +10,6 @@ returns-in-Ok-push_read-clause-ok c =
     let d = c.in-Ok.disclosure in
     record {
       shown = disclosure_shown d;
-      is = record { salt = tree_of d.salt; is = c.in-Ok.ensures.ok; digest_is = ap (digest_of HashAlg.Sha256) c.in-Ok.ensures.text };
+      is = (ap (digest_of HashAlg.Sha256) c.in-Ok.ensures.text, tree_of d.salt, c.in-Ok.ensures.ok);
       more = c.in-Ok-push_read.ensures;
     }

@@ -1,0 +1,131 @@
+// What a run leaves where a file or a stream fails, and that the same objects serve the same run again.
+use sd_outside::{MemCabinet, MemSink, NoMemory};
+use sdjwt_cli::run;
+use std::alloc::Global;
+use std::test::Fail;
+
+// The token was signed by another program, under the key of the policy.
+const FILES: [(&str, &str); 3] = [
+    (
+        "policy",
+        r#"{"keys":{"keys":[{"kty":"oct","k":"AQEBAQEBAQEBAQEBAQEBAQEBAQEBAQEBAQEBAQEBAQE"}]}}"#,
+    ),
+    (
+        "token",
+        "eyJhbGciOiJIUzI1NiJ9.e30.cm8Irw3f5_Kg9Gj_dx0Va_pr7uQ1ksaSioUH4DpAh2w~",
+    ),
+    ("bad", "a.b.c"),
+];
+
+// The call that is to fail, by its number among those of one object.
+#[derive(Clone, Copy)]
+enum Failing {
+    Fetch(u64),
+    Output(u64),
+    Line(u64),
+}
+
+// The objects of a run.
+#[derive(Drop)]
+struct Bench {
+    cabinet: MemCabinet,
+    out: MemSink,
+    err: MemSink,
+}
+
+impl Bench {
+    fn new(alloc: Global) -> Result<Bench, NoMemory> {
+        let mut cabinet = MemCabinet::new(alloc);
+        for (name, text) in FILES {
+            cabinet.add(name, text.as_bytes())?;
+        }
+        Ok(Bench {
+            cabinet,
+            out: MemSink::new(alloc, 100)?,
+            err: MemSink::new(alloc, 100)?,
+        })
+    }
+
+    fn fail(&mut self, failing: Failing) -> Result<(), NoMemory> {
+        match failing {
+            Failing::Fetch(call) => self.cabinet.fail_at(call),
+            Failing::Output(call) => self.out.fail_at(call),
+            Failing::Line(call) => self.err.fail_at(call),
+        }
+    }
+
+    // What stands on both streams behind a run of these words, and behind the status; and how many calls have failed.
+    fn left_by(&mut self, alloc: Global, words: &str) -> Result<String, Fail> {
+        let mut list = Vec::new(alloc);
+        for word in words.split_whitespace() {
+            list.push(String::from_str(alloc, word)?)?;
+        }
+        let (out, err) = (&mut self.out, &mut self.err);
+        let status = run(alloc, list.as_slice(), &mut self.cabinet, 0, out, err).number();
+        let out = std::str::from_utf8(self.out.written()).map_err(|_| "no text")?;
+        let err = std::str::from_utf8(self.err.written()).map_err(|_| "no text")?;
+        let failed = [
+            self.cabinet.failures(),
+            self.out.failures(),
+            self.err.failures(),
+        ];
+        Ok(format!(in alloc; "{status} {out}{err}{failed:?}")?)
+    }
+}
+
+const VERIFY: &str = "verify policy token";
+
+#[test]
+fn a_failure_has_its_status_and_the_objects_serve_again(rt: HostRuntime) -> Result<(), Fail> {
+    for (failing, words, first, again) in [
+        (
+            Failing::Fetch(0),
+            VERIFY,
+            "3 unread 1\n[1, 0, 0]",
+            "0 {}\nunread 1\n[1, 0, 0]",
+        ),
+        (
+            Failing::Fetch(1),
+            VERIFY,
+            "3 unread 2\n[1, 0, 0]",
+            "0 {}\nunread 2\n[1, 0, 0]",
+        ),
+        (
+            Failing::Output(0),
+            VERIFY,
+            "4 unwritten\n[0, 1, 0]",
+            "0 {}\nunwritten\n[0, 1, 0]",
+        ),
+        (
+            Failing::Line(0),
+            "split bad",
+            "1 [0, 0, 1]",
+            "1 refused 2 form at 5\n[0, 0, 1]",
+        ),
+        // calls that the first run does not make
+        (
+            Failing::Fetch(2),
+            VERIFY,
+            "0 {}\n[0, 0, 0]",
+            "3 {}\nunread 1\n[1, 0, 0]",
+        ),
+        (
+            Failing::Output(1),
+            VERIFY,
+            "0 {}\n[0, 0, 0]",
+            "4 {}\nunwritten\n[0, 1, 0]",
+        ),
+        (
+            Failing::Line(0),
+            VERIFY,
+            "0 {}\n[0, 0, 0]",
+            "0 {}\n{}\n[0, 0, 0]",
+        ),
+    ] {
+        let mut bench = Bench::new(rt.alloc())?;
+        bench.fail(failing)?;
+        assert_eq!(rt; bench.left_by(rt.alloc(), words)?.as_str(), first);
+        assert_eq!(rt; bench.left_by(rt.alloc(), words)?.as_str(), again);
+    }
+    Ok(())
+}
