@@ -3,9 +3,11 @@ use Rattle.std.proofs.Common.{◌≡◌, ℕ, suc, ◌<◌, ◌≤◌, ◌⊎◌
 use Rattle.compact_form.specs.declared.fault.Fault.{Fault}
 use Rattle.compact_form.specs.declared.fault.Place.{Place}
 use Rattle.compact_form.specs.declared.fault.Place.TheVariants.{Nowhere}
-use Rattle.compact_form.specs.Condition.{Condition, number_of}
+use Rattle.compact_form.specs.declared.condition.Condition.{Condition}
+use Rattle.compact_form.specs.Condition.{number_of}
 use Rattle.compact_form.specs.Lowest.{IsNoLater, IsLowest, NoneFails}
-use Rattle.compact_form.specs.Passing.{Passes, unplaced}
+use Rattle.compact_form.specs.Faults.{unplaced}
+use Rattle.compact_form.specs.Passing.{Passes}
 use Rattle.compact_form.proofs.Numbers.{one_condition}
 
 -- the condition fails at no place
@@ -49,9 +51,9 @@ pub lowest_unplaced : (FailsSo : Condition → Place → Type 0) (failed : Condi
 lowest_unplaced FailsSo failed fault number_is place_is below fails = lowest_at FailsSo failed fault number_is below (subst (FailsSo failed) (sym place_is) fails) (λ place _. nowhere_first fault place_is place)
 
 -- a condition without a place
-pub refuse_unplaced : (FailsSo : Condition → Place → Type 0) (d : Condition) (fault : Fault) → fault ≡ unplaced (number_of d) → Passes (number_of d) FailsSo → FailsSo d Nowhere → IsLowest FailsSo fault
+pub refuse_unplaced : (FailsSo : Condition → Place → Type 0) (d : Condition) (fault : Fault) → fault ≡ unplaced d → Passes (number_of d) FailsSo → FailsSo d Nowhere → IsLowest FailsSo fault
 refuse_unplaced FailsSo d fault is passes fails =
-    subst (IsLowest FailsSo) (sym is) (lowest_at FailsSo d (unplaced (number_of d)) refl passes fails (λ place h. tt))
+    subst (IsLowest FailsSo) (sym is) (lowest_at FailsSo d (unplaced d) refl passes fails (λ place h. tt))
 
 -- two lowest conditions are one, and neither place is later
 pub one_failed : (FailsSo : Condition → Place → Type 0) (f g : Fault) (l : IsLowest FailsSo f) (m : IsLowest FailsSo g)

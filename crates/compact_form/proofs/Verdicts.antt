@@ -1,10 +1,10 @@
 -- A text is read or refused, in one way.
 use Rattle.std.proofs.Common.{◌≡◌, ℕ, ◌<◌, ◌≤◌, Bool, true, false, List, length, ap, ◌∙◌, sym, arith}
 use Rattle.sd_outside.specs.Limits.{count_max}
-use Rattle.compact_form.specs.Condition as condition
+use Rattle.compact_form.specs.declared.condition.Condition.{Condition}
 use Rattle.compact_form.specs.Condition.{number_of}
+use Rattle.compact_form.specs.Faults.{fault_number, unplaced, placed}
 use Rattle.compact_form.specs.declared.fault.Fault.{Fault}
-use Rattle.compact_form.specs.declared.fault.Place.TheVariants.{Nowhere, At}
 use Rattle.compact_form.specs.declared.parts.Parts.{Parts}
 use Rattle.compact_form.specs.Compact.{IsCompact, IsMisformedAt}
 use Rattle.compact_form.specs.Trim.{trimmed, is_too_long}
@@ -12,67 +12,64 @@ use Rattle.compact_form.specs.CompactToken.{CompactFails, too_long, form, too_mu
 use Rattle.compact_form.proofs.Unique.{one_spelling, one_stop}
 
 pub not_both : (text : List ℕ) (parts : Parts) (fault : Fault) → ReadsCompact text parts → IsCompactRefused text fault → ⊥
-not_both text parts fault reads refused = reads.passes fault refused.fails
+not_both text parts fault reads refused = reads.passes fault refused.applies
 
 pub one_value : (text : List ℕ) (p q : Parts) → ReadsCompact text p → ReadsCompact text q → p ≡ q
 one_value text p q r s = one_spelling p q (trimmed text) r.spelling s.spelling
 
-abbrev at_stop : ℕ → Fault
-at_stop stop = record { number = number_of condition.form; place = At stop }
-
 -- two faults of one number are one
 same_number : (text : List ℕ) (f g : Fault) → CompactFails text f → CompactFails text g → f.number ≡ g.number → f ≡ g
 same_number text f g (too_long e h) (too_long d k) n = e ∙ sym d
-same_number text f g (too_long e h) (form s d k) n = absurd (omega (arith, ap (λ (x : Fault). x.number) e, ap (λ (x : Fault). x.number) d))
-same_number text f g (too_long e h) (too_much p d k l) n = absurd (omega (arith, ap (λ (x : Fault). x.number) e, ap (λ (x : Fault). x.number) d))
-same_number text f g (form s e h) (too_long d k) n = absurd (omega (arith, ap (λ (x : Fault). x.number) e, ap (λ (x : Fault). x.number) d))
-same_number text f g (form s e h) (form t d k) n = e ∙ ap at_stop (one_stop (trimmed text) s t h.longest k.longest) ∙ sym d
-same_number text f g (form s e h) (too_much p d k l) n = absurd (omega (arith, ap (λ (x : Fault). x.number) e, ap (λ (x : Fault). x.number) d))
-same_number text f g (too_much p e h i) (too_long d k) n = absurd (omega (arith, ap (λ (x : Fault). x.number) e, ap (λ (x : Fault). x.number) d))
-same_number text f g (too_much p e h i) (form s d k) n = absurd (omega (arith, ap (λ (x : Fault). x.number) e, ap (λ (x : Fault). x.number) d))
+same_number text f g (too_long e h) (form s d k) n = absurd (omega (arith, ap fault_number e, ap fault_number d))
+same_number text f g (too_long e h) (too_much p d k l) n = absurd (omega (arith, ap fault_number e, ap fault_number d))
+same_number text f g (form s e h) (too_long d k) n = absurd (omega (arith, ap fault_number e, ap fault_number d))
+same_number text f g (form s e h) (form t d k) n = e ∙ ap (placed Condition.Form) (one_stop (trimmed text) s t h.longest k.longest) ∙ sym d
+same_number text f g (form s e h) (too_much p d k l) n = absurd (omega (arith, ap fault_number e, ap fault_number d))
+same_number text f g (too_much p e h i) (too_long d k) n = absurd (omega (arith, ap fault_number e, ap fault_number d))
+same_number text f g (too_much p e h i) (form s d k) n = absurd (omega (arith, ap fault_number e, ap fault_number d))
 same_number text f g (too_much p e h i) (too_much q d k l) n = e ∙ sym d
 
 pub one_fault : (text : List ℕ) (f g : Fault) → IsCompactRefused text f → IsCompactRefused text g → f ≡ g
-one_fault text f g r s = same_number text f g r.fails s.fails (let a = r.lowest g s.fails in let b = s.lowest f r.fails in omega arith)
+one_fault text f g r s = same_number text f g r.applies s.applies (let a = r.lowest g s.applies in let b = s.lowest f r.applies in omega arith)
 
 pub clash : (b : Bool) → b ≡ true → b ≡ false → ⊥
 clash b h k = cc
 
 -- condition 1 is the lowest
-lowest_too_long : (text : List ℕ) (fault other : Fault) → fault.number ≡ number_of condition.too_long → CompactFails text other → fault.number ≤ other.number
-lowest_too_long text fault other n (too_long e h) = omega (arith, ap (λ (x : Fault). x.number) e)
-lowest_too_long text fault other n (form s e h) = omega (arith, ap (λ (x : Fault). x.number) e)
-lowest_too_long text fault other n (too_much p e h l) = omega (arith, ap (λ (x : Fault). x.number) e)
+lowest_too_long : (text : List ℕ) (fault other : Fault) → fault.number ≡ number_of Condition.TooLong → CompactFails text other → fault.number ≤ other.number
+lowest_too_long text fault other n (too_long e h) = omega (arith, ap fault_number e)
+lowest_too_long text fault other n (form s e h) = omega (arith, ap fault_number e)
+lowest_too_long text fault other n (too_much p e h l) = omega (arith, ap fault_number e)
 
-pub refused_too_long : (text : List ℕ) (fault : Fault) → fault ≡ record { number = number_of condition.too_long; place = Nowhere } → is_too_long text ≡ true → IsCompactRefused text fault
+pub refused_too_long : (text : List ℕ) (fault : Fault) → fault ≡ unplaced Condition.TooLong → is_too_long text ≡ true → IsCompactRefused text fault
 refused_too_long text fault is long = record {
-  fails = too_long is long;
-  lowest = λ other fails. lowest_too_long text fault other (ap (λ (x : Fault). x.number) is) fails;
+  applies = too_long is long;
+  lowest = λ other fails. lowest_too_long text fault other (ap fault_number is) fails;
 }
 
 -- condition 2 is the lowest where condition 1 holds
-lowest_form : (text : List ℕ) (fault other : Fault) → fault.number ≡ number_of condition.form → is_too_long text ≡ false → CompactFails text other → fault.number ≤ other.number
+lowest_form : (text : List ℕ) (fault other : Fault) → fault.number ≡ number_of Condition.Form → is_too_long text ≡ false → CompactFails text other → fault.number ≤ other.number
 lowest_form text fault other n short (too_long e h) = absurd (clash (is_too_long text) h short)
-lowest_form text fault other n short (form s e h) = omega (arith, ap (λ (x : Fault). x.number) e)
-lowest_form text fault other n short (too_much p e h l) = omega (arith, ap (λ (x : Fault). x.number) e)
+lowest_form text fault other n short (form s e h) = omega (arith, ap fault_number e)
+lowest_form text fault other n short (too_much p e h l) = omega (arith, ap fault_number e)
 
-pub refused_form : (text : List ℕ) (fault : Fault) (stop : ℕ) → fault ≡ record { number = number_of condition.form; place = At stop } → is_too_long text ≡ false → IsMisformedAt (trimmed text) stop → IsCompactRefused text fault
+pub refused_form : (text : List ℕ) (fault : Fault) (stop : ℕ) → fault ≡ placed Condition.Form stop → is_too_long text ≡ false → IsMisformedAt (trimmed text) stop → IsCompactRefused text fault
 refused_form text fault stop is short refused = record {
-  fails = form stop is refused;
-  lowest = λ other fails. lowest_form text fault other (ap (λ (x : Fault). x.number) is) short fails;
+  applies = form stop is refused;
+  lowest = λ other fails. lowest_form text fault other (ap fault_number is) short fails;
 }
 
 -- condition 3 is the lowest where the text is short enough and has parts
-lowest_too_much : (text : List ℕ) (parts : Parts) (fault other : Fault) → fault.number ≡ number_of condition.too_much → is_too_long text ≡ false → IsCompact parts (trimmed text) → CompactFails text other → fault.number ≤ other.number
+lowest_too_much : (text : List ℕ) (parts : Parts) (fault other : Fault) → fault.number ≡ number_of Condition.TooMuch → is_too_long text ≡ false → IsCompact parts (trimmed text) → CompactFails text other → fault.number ≤ other.number
 lowest_too_much text parts fault other n short spelled (too_long e h) = absurd (clash (is_too_long text) h short)
 lowest_too_much text parts fault other n short spelled (form s e h) = absurd (h.no_parts parts spelled)
-lowest_too_much text parts fault other n short spelled (too_much p e h l) = omega (arith, ap (λ (x : Fault). x.number) e)
+lowest_too_much text parts fault other n short spelled (too_much p e h l) = omega (arith, ap fault_number e)
 
-pub refused_too_much : (text : List ℕ) (fault : Fault) (parts : Parts) → fault ≡ record { number = number_of condition.too_much; place = Nowhere } → is_too_long text ≡ false → IsCompact parts (trimmed text) → count_max < length parts.disclosures
+pub refused_too_much : (text : List ℕ) (fault : Fault) (parts : Parts) → fault ≡ unplaced Condition.TooMuch → is_too_long text ≡ false → IsCompact parts (trimmed text) → count_max < length parts.disclosures
     → IsCompactRefused text fault
 refused_too_much text fault parts is short spelled many = record {
-  fails = too_much parts is spelled many;
-  lowest = λ other fails. lowest_too_much text parts fault other (ap (λ (x : Fault). x.number) is) short spelled fails;
+  applies = too_much parts is spelled many;
+  lowest = λ other fails. lowest_too_much text parts fault other (ap fault_number is) short spelled fails;
 }
 
 no_fault : (text : List ℕ) (parts : Parts) (fault : Fault) → is_too_long text ≡ false → IsCompact parts (trimmed text) → length parts.disclosures ≤ count_max → CompactFails text fault → ⊥

@@ -4,7 +4,9 @@ pub mod CompactToken
 pub mod Views
 pub mod Reading
 pub mod Condition
+pub mod Faults
 pub mod Lowest
 pub mod PartWords
+pub mod RefusedText
 pub mod Passing
 pub mod JwtCalls

@@ -1,9 +1,20 @@
--- What fails a condition, at which place, and the lowest condition that fails.
+-- The lowest of what applies; what fails a condition, at which place, and the lowest condition that fails.
 use Rattle.std.specs.Prelude.{◌≡◌, ℕ, ◌<◌, ◌≤◌, ◌⊎◌}
 use Rattle.compact_form.specs.declared.fault.Fault.{Fault}
 use Rattle.compact_form.specs.declared.fault.Place.{Place}
 use Rattle.compact_form.specs.declared.fault.Place.TheVariants.{Nowhere, At}
-use Rattle.compact_form.specs.Condition.{Condition, number_of}
+use Rattle.compact_form.specs.declared.condition.Condition.{Condition}
+use Rattle.compact_form.specs.Condition.{number_of}
+
+-- it applies, and none that applies has a lower rank
+pub record IsLowestBy {X : Type 0} (rank : X → ℕ) (Applies : X → Type 0) (x : X) : Type 0 where
+  pub applies : Applies x
+  pub lowest : (other : X) → Applies other → rank x ≤ rank other
+
+abbrev pub NoneApplies : {X : Type 0} → (X → Type 0) → Type 0
+NoneApplies {X} Applies = (x : X) → Applies x → ⊥
+
+-- ---- conditions
 
 -- the condition names no place
 abbrev pub Unplaced : Type 0 → Place → Type 0

@@ -1,11 +1,66 @@
-ghost use Rattle.std.specs.Prelude.{◌≡◌};
-ghost use Rattle.compact_form.specs.PartWords.{part_word};
+ghost use Rattle.std.specs.Prelude.{◌≡◌, IsSome};
+ghost use Rattle.compact_form.specs.Condition.{condition_of};
+
+use crate::Condition;
 
 /// A condition of a verifier that fails: its number, and the place that its failure names.
 #[derive(Clone, Copy, Debug, PartialEq, Eq)]
 pub struct Fault {
+    /// The number of a [`Condition`](crate::Condition), from 1 to 38.
     pub number: u8,
     pub place: Place,
+    pub ghost of_condition: { IsSome (condition_of number) },
+}
+
+impl Fault {
+    ghost use Rattle.compact_form.specs.Faults.{failed_of};
+
+    /// The condition that fails.
+    pub fn condition(&self) -> Condition
+        ensures { result ≡ failed_of self.now }
+    {
+        match self.number {
+            1 => Condition::TooLong,
+            2 => Condition::Form,
+            3 => Condition::TooMuch,
+            4 => Condition::BindingMissing,
+            5 => Condition::HeaderUnreadable,
+            6 => Condition::HeaderCritical,
+            7 => Condition::AlgRefused,
+            8 => Condition::TypeRefused,
+            9 => Condition::IssuerKeyUnknown,
+            10 => Condition::BadSignature,
+            11 => Condition::PayloadUnreadable,
+            12 => Condition::HashUnknown,
+            13 => Condition::DisclosureUnreadable,
+            14 => Condition::RepeatedDisclosure,
+            15 => Condition::ReservedMisused,
+            16 => Condition::RepeatedDigest,
+            17 => Condition::UnreferencedDisclosure,
+            18 => Condition::WrongShape,
+            19 => Condition::ReservedName,
+            20 => Condition::NameClash,
+            21 => Condition::TooDeep,
+            22 => Condition::IssuerRefused,
+            23 => Condition::ClaimMissing,
+            24 => Condition::TimeUnreadable,
+            25 => Condition::Expired,
+            26 => Condition::NotYet,
+            27 => Condition::HolderKeyUnknown,
+            28 => Condition::BindingHeader,
+            29 => Condition::BindingAlg,
+            30 => Condition::BindingSignature,
+            31 => Condition::BindingType,
+            32 => Condition::BindingPayload,
+            33 => Condition::BindingStale,
+            34 => Condition::BindingEarly,
+            35 => Condition::NonceDiffers,
+            36 => Condition::AudienceDiffers,
+            37 => Condition::HashDiffers,
+            38 => Condition::BindingTime,
+            _ => unreachable!(),
+        }
+    }
 }
 
 /// Where a condition fails, in its own terms.
@@ -32,6 +87,8 @@ pub enum Part {
 }
 
 impl Part {
+    ghost use Rattle.compact_form.specs.PartWords.{part_word};
+
     /// Its name in the serialization.
     pub fn word(self) -> &'static str
         ensures { result.now ≡ part_word self }

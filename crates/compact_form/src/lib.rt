@@ -8,7 +8,7 @@
 #![tactic(auto)]
 
 mod blanks;
-mod conditions;
+mod condition;
 mod fault;
 mod field;
 mod form;
@@ -18,20 +18,13 @@ mod lengths;
 mod limits;
 mod parts;
 mod reader;
+mod refusal;
 mod spelling;
 mod token;
 mod view;
 
 pub use blanks::trim;
-pub use conditions::{
-    ALG_REFUSED, AUDIENCE_DIFFERS, BAD_SIGNATURE, BINDING_ALG, BINDING_EARLY, BINDING_HEADER,
-    BINDING_MISSING, BINDING_PAYLOAD, BINDING_SIGNATURE, BINDING_STALE, BINDING_TIME, BINDING_TYPE,
-    CLAIM_MISSING, DISCLOSURE_UNREADABLE, EXPIRED, FORM, HASH_DIFFERS, HASH_UNKNOWN,
-    HEADER_CRITICAL, HEADER_UNREADABLE, HOLDER_KEY_UNKNOWN, ISSUER_KEY_UNKNOWN, ISSUER_REFUSED,
-    NAME_CLASH, NONCE_DIFFERS, NOT_YET, PAYLOAD_UNREADABLE, REPEATED_DIGEST, REPEATED_DISCLOSURE,
-    RESERVED_MISUSED, RESERVED_NAME, TIME_UNREADABLE, TOO_DEEP, TOO_LONG, TOO_MUCH, TYPE_REFUSED,
-    UNREFERENCED_DISCLOSURE, WRONG_SHAPE,
-};
+pub use condition::Condition;
 pub use fault::{Fault, JsonPlace, Part, Place};
 pub use form::{FormError, check, parse};
 pub use jwt_view::read_jwt;
@@ -39,6 +32,7 @@ pub use lengths::is_longer_than;
 pub use limits::{COMPACT_MAX, COUNT_MAX, FILE_MAX, ISSUE_MAX};
 pub use parts::{JwtParts, Parts};
 pub use reader::At;
+pub use refusal::refused_line;
 pub use spelling::{hashed_text, print, print_jwt};
 pub use token::{is_json, read_view};
 pub use view::{JwtView, Pieces, View};

@@ -2,9 +2,7 @@ ghost use Rattle.std.specs.Prelude.{◌≡◌, IfOk, IfErr};
 ghost use Rattle.compact_form.specs.Trim.{trimmed, is_json as json_test, is_too_long as too_long_test};
 ghost use Rattle.compact_form.specs.CompactToken.{IsCompactRefused, ReadsCompact};
 
-use crate::{
-    At, COMPACT_MAX, COUNT_MAX, FILE_MAX, FORM, Fault, Place, TOO_LONG, TOO_MUCH, View, trim,
-};
+use crate::{At, COMPACT_MAX, COUNT_MAX, Condition, FILE_MAX, Fault, Place, View, trim};
 
 /// Whether a text begins with `{`, and so is to be a JSON serialization (RFC 9901 section 8).
 pub fn is_json(text: &[u8]) -> bool
@@ -30,25 +28,14 @@ pub fn read_view(text: &[u8]) -> Result<View<'_>, Fault>
 {
     let token = trim(text);
     if is_too_long(text, token) {
-        return Err(Fault {
-            number: TOO_LONG,
-            place: Place::Nowhere,
-        });
+        return Err(Condition::TooLong.fault());
     }
     let view = match View::scan(token) {
         Ok(view) => view,
-        Err(At(stop)) => {
-            return Err(Fault {
-                number: FORM,
-                place: Place::At(stop),
-            });
-        }
+        Err(At(stop)) => return Err(Condition::Form.fault_at(Place::At(stop))),
     };
     if view.count() > COUNT_MAX {
-        return Err(Fault {
-            number: TOO_MUCH,
-            place: Place::Nowhere,
-        });
+        return Err(Condition::TooMuch.fault());
     }
     Ok(view)
 }

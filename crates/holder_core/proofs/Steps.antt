@@ -5,6 +5,7 @@ use Rattle.std.specs.Option.{option_map, is_some}
 use Rattle.b64url_text.specs.Base64url.{IsWord}
 use Rattle.claim_tree.specs.Tree.{Text, Tree}
 use Rattle.compact_form.specs.Compact.{AreWords}
+use Rattle.compact_form.specs.Faults.{fault_at}
 use Rattle.compact_form.specs.Compact as form
 use Rattle.compact_form.specs.Condition.{number_of}
 use Rattle.compact_form.specs.Lowest.{IsLowest}
@@ -168,7 +169,7 @@ module _ {F : Type 0} (answers : RuleAnswers F) (rule : F) (token : Token) (ask 
 
 -- nothing for the text where nothing is for the token
 pub text_uncounted : (content : Text) (ask : Ask) (token : Token) → IsToken content token → (old new : ℕ) → IsUncounted (TokenFails token (held_rules ask.keys)) old new → IsUncounted (PresentFails content ask) old new
-text_uncounted content ask token is old new same c place (of_file h) low = absurd (is.passes (record { number = number_of c; place = place }) h)
+text_uncounted content ask token is old new same c place (of_file h) low = absurd (is.passes (fault_at c place) h)
 text_uncounted content ask token is old new same c place (of_token t there h) low =
     same c place (subst (λ (x : Token). TokenFails x (held_rules ask.keys) c place) (tokens.one content t token there is) h) low
 

@@ -23,7 +23,7 @@ use Rattle.verifier_core.proofs.ContentFacts.{content_sound, content_readable}
 use Rattle.holder_core.specs.declared.ask.Ask.{Ask}
 use Rattle.holder_core.specs.declared.errors.PresentError.{PresentError}
 use Rattle.holder_core.specs.declared.errors.PresentError.TheVariants.{Memory, Token as OnCondition, HasBinding, NoSuchPlace, ConsentRefused, BindingKeyDiffers, SignFailed, TooLong}
-use Rattle.holder_core.specs.Present.{shown, held_rules, IsHeld, NamesKey}
+use Rattle.holder_core.specs.Present.{held_rules, IsHeld, NamesKey}
 use Rattle.holder_core.specs.PresentSteps.{IsChosen, IsOtherKey, IsReady, IsUnready, IsWholeReady, IsWholeUnready, IsMadeWhole, IsMadeReady, IsUncheckedOrUnmade, IsUncheckedOrUnready}
 use Rattle.holder_core.proofs.Steps.{unchosen, other_key, ready}
 
@@ -88,7 +88,7 @@ module _ {F : Type 0} (answers : RuleAnswers F) (rule : F) (token : Token) (ask 
   once : HasEachMarkOnce is.0 0
   once = checked_once token (held_rules ask.keys) is.0 none is.1
 
-  same_shown : payload ≡ shown is.0 (has [])
+  same_shown : payload ≡ strip (prune is.0 (has []))
   same_shown = is.2 ∙ ap strip (sym (prune_unmarked (has []) is.0 (no_mark is.0 once)))
 
   nothing : AtNone (IsMissing payload ask.want) → IsChosen answers rule is.0 ask.want []

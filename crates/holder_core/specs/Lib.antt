@@ -3,3 +3,4 @@ pub mod Present
 pub mod PresentFile
 pub mod PresentSteps
 pub mod PresentCalls
+pub mod PresentRefusal

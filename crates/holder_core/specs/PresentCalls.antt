@@ -1,6 +1,6 @@
 -- Not needed to believe the program's promises: conditions that keep a token from being presented.
 use Rattle.claim_tree.specs.Tree.{Text}
-use Rattle.compact_form.specs.Condition.{Condition}
+use Rattle.compact_form.specs.declared.condition.Condition.{Condition}
 use Rattle.compact_form.specs.declared.fault.Place.{Place}
 use Rattle.json_form.specs.Token.{IsToken}
 use Rattle.json_form.specs.declared.token.Token.{Token}

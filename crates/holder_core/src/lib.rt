@@ -2,7 +2,7 @@
 //!
 //! [`read_present`] reads an [`Ask`] from its file, with the places that are never shown and the key of the holder. [`present`]
 //! answers it: the disclosures that lead to the wanted places, where the holder consents, with a key binding token where one is
-//! asked for.
+//! asked for. [`refusal_line`] is the line that tells why it does not.
 #![tactic(auto)]
 
 mod ask;
@@ -10,9 +10,11 @@ mod errors;
 pub mod laws;
 mod present_file;
 mod presenting;
+mod refusal;
 mod whole;
 
 pub use ask::{Ask, BindingAsk};
 pub use errors::PresentError;
 pub use present_file::{PresentFile, read_present};
 pub use presenting::present;
+pub use refusal::refusal_line;

@@ -27,7 +27,8 @@ use Rattle.issuer_core.specs.Laying.{IsLaidFor}
 use Rattle.issuer_core.specs.Laid.{IsLaid, with_alg}
 use Rattle.issuer_core.specs.Clash.{IsFirstClash}
 use Rattle.issuer_core.specs.Laws.{PartsAreIssued}
-use Rattle.issuer_core.specs.OrderRefusals.{AppliesToOrder, IsLowestRefusal, NoneApplies, refusal_number, refusal_place}
+use Rattle.compact_form.specs.Lowest.{NoneApplies}
+use Rattle.issuer_core.specs.OrderRefusals.{AppliesToOrder, IsLowestRefusal, refusal_number, refusal_place}
 use Rattle.issuer_core.specs.JudgeCalls.{IsOrderRefused}
 use Rattle.issuer_core.specs.Salts.{salt_of}
 use Rattle.issuer_core.specs.Seed.{maker_of}

@@ -5,7 +5,8 @@ use Rattle.marked_tree.specs.Paths.{Path}
 use Rattle.issuer_core.specs.declared.errors.IssueError.{IssueError}
 use Rattle.issuer_core.specs.declared.errors.IssueError.TheVariants.{Memory, SignFailed, PayloadNotObject, ReservedName, TooDeep, RootMarked, NoSuchPlace, ProtectedClaim, DecoyPlace, TooManyHidden, TooManyDecoys, DigestClash, TooLong}
 use Rattle.issuer_core.specs.Order.{Order}
-use Rattle.issuer_core.specs.OrderRefusals.{IsRoot, IsNowhere, IsProtected, IsMisplaced, AppliesToOrder, refusal_number, refusal_place, IsLowestRefusal, NoneApplies}
+use Rattle.compact_form.specs.Lowest.{NoneApplies}
+use Rattle.issuer_core.specs.OrderRefusals.{IsRoot, IsNowhere, IsProtected, IsMisplaced, AppliesToOrder, refusal_number, refusal_place, IsLowestRefusal}
 use Rattle.issuer_core.specs.Judging.{PassesBelow}
 
 -- ---- none below a number

@@ -19,7 +19,8 @@ use Rattle.issuer_core.specs.Laid.{IsLaid}
 use Rattle.issuer_core.specs.Issued.{IsIssuedFor}
 use Rattle.issuer_core.specs.Seed.{maker_of}
 use Rattle.issuer_core.specs.Written.{IsIssued, IsLaidOut}
-use Rattle.issuer_core.specs.OrderRefusals.{AppliesToOrder, NoneApplies}
+use Rattle.compact_form.specs.Lowest.{NoneApplies}
+use Rattle.issuer_core.specs.OrderRefusals.{AppliesToOrder}
 use Rattle.compact_form.specs.declared.parts.Parts.{Parts}
 use Rattle.hmac_sign.specs.Hmac.{IsGood}
 use Rattle.hmac_sign.specs.Signatures.{Meaning}

@@ -76,6 +76,3 @@ pub record IsLowestRefusal (Applies : IssueError → Type 0) (error : IssueError
   pub applies : Applies error
   pub lowest : (other : IssueError) → Applies other → refusal_number error ≤ refusal_number other
   pub first : (other : IssueError) → Applies other → refusal_number other ≡ refusal_number error → refusal_place error ≤ refusal_place other
-
-abbrev pub NoneApplies : (IssueError → Type 0) → Type 0
-NoneApplies Applies = (error : IssueError) → Applies error → ⊥

@@ -17,7 +17,8 @@ ghost use Rattle.issuer_core.specs.GoodOrder.{IsObject, IsWritable};
 ghost use Rattle.issuer_core.specs.Issue.{HasNoClash};
 ghost use Rattle.issuer_core.specs.IssueSteps.{IsUnsigned, HasClash, IsFinished, IsUnfinished, IsSigned};
 ghost use Rattle.issuer_core.specs.IssueCalls.{IsNotIssued};
-ghost use Rattle.issuer_core.specs.OrderRefusals.{AppliesToOrder, NoneApplies};
+ghost use Rattle.compact_form.specs.Lowest.{NoneApplies};
+ghost use Rattle.issuer_core.specs.OrderRefusals.{AppliesToOrder};
 ghost use Rattle.claim_tree.specs.Lists.{Repeats, AtNone};
 
 use crate::laying::{Laid, lay_order};

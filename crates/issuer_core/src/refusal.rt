@@ -1,5 +1,5 @@
 // The lines that tell of a refusal.
-ghost use Rattle.std.specs.Prelude.{◌≡◌, IfOk, string_bytes};
+ghost use Rattle.std.specs.Prelude.{◌≡◌, IfOk};
 ghost use Rattle.claim_tree.specs.Tree.{leaf, text as text_leaf};
 ghost use Rattle.claim_tree.specs.JsonText.{json_text};
 ghost use Rattle.claim_tree.specs.Path.{pointer_text};
@@ -9,6 +9,7 @@ ghost use Rattle.issuer_core.specs.RefusalCalls.{IsRefusalLine};
 
 use crate::IssueError;
 use claim_tree::{Path, Tree, print_path, write};
+use compact_form::refused_line;
 use sd_outside::{NoMemory, TextBox};
 use std::alloc::Global;
 
@@ -58,22 +59,19 @@ fn pointer_json(alloc: Global, path: &Path) -> Result<TextBox, NoMemory>
     write(alloc, &pointer)
 }
 
-fn place(alloc: Global, error: &IssueError) -> Result<String, NoMemory>
-    ensures { IfOk result (λ text. string_bytes text ≡ refusal_place_text error.now) }
+fn place(alloc: Global, error: &IssueError) -> Result<Option<TextBox>, NoMemory>
+    ensures { IfOk result (λ text. text ≡ refusal_place_text error.now) }
 {
-    match error {
-        IssueError::ReservedName(path) => {
-            let json = pointer_json(alloc, path)?;
-            let json = json.as_str();
-            Ok(format!(in alloc; " at {json}")?)
-        }
+    let words = match error {
+        IssueError::ReservedName(path) => return Ok(Some(pointer_json(alloc, path)?)),
         IssueError::RootMarked(k)
         | IssueError::NoSuchPlace(k)
         | IssueError::ProtectedClaim(k)
-        | IssueError::DecoyPlace(k) => Ok(format!(in alloc; " at {k}")?),
-        IssueError::DigestClash(i, j) => Ok(format!(in alloc; " at {i} {j}")?),
-        _ => Ok(String::new(alloc)),
-    }
+        | IssueError::DecoyPlace(k) => format!(in alloc; "{k}")?,
+        IssueError::DigestClash(i, j) => format!(in alloc; "{i} {j}")?,
+        _ => return Ok(None),
+    };
+    Ok(Some(TextBox::from_string(words)))
 }
 
 /// The line that tells of a refusal of 51 to 61, without its line end: `refused`, the number, the name of the refusal, and the
@@ -81,9 +79,6 @@ fn place(alloc: Global, error: &IssueError) -> Result<String, NoMemory>
 pub fn refusal_line(alloc: Global, error: &IssueError) -> Result<TextBox, NoMemory>
     ensures { IfOk result (IsRefusalLine error.now) }
 {
-    let number = number(error);
-    let name = name(error);
     let place = place(alloc, error)?;
-    let line = format!(in alloc; "refused {number} {name}{place}")?;
-    Ok(TextBox::from_string(line))
+    refused_line(alloc, number(error), name(error), place.as_ref())
 }

@@ -14,9 +14,8 @@ use Rattle.claim_tree.specs.Tree.{Text, text, Tree, leaf, array, object, no_elem
 use Rattle.claim_tree.specs.FileForms.{text_elements}
 use Rattle.claim_tree.specs.JsonText.{elements_data, members_data, json_text}
 use Rattle.claim_tree.proofs.RoundTrip.{read_of_text}
-use Rattle.compact_form.specs.Condition as condition
-use Rattle.compact_form.specs.Condition.{number_of}
-use Rattle.compact_form.specs.declared.fault.Place.TheVariants.{Nowhere}
+use Rattle.compact_form.specs.declared.condition.Condition.{Condition}
+use Rattle.compact_form.specs.Faults.{unplaced}
 use Rattle.sd_outside.specs.Limits.{compact_max, count_max}
 use Rattle.compact_form.specs.Compact.{jwt, spelled, hashed, ending, compact, HasWords, AreWords}
 use Rattle.compact_form.specs.PartWords.{part_word}
@@ -337,7 +336,7 @@ words_spelled content token (spells_json json (inr general)) = entry_words gener
 
 module _ (content : Text) (token : Token) (is : IsToken content token) (none : token.outer ≡ no_members) where
   few_read : IsTooMuch token.parts → ⊥
-  few_read much = is.passes (record { number = number_of condition.too_much; place = Nowhere }) (too_much token refl is.spells much)
+  few_read much = is.passes (unplaced Condition.TooMuch) (too_much token refl is.spells much)
 
   whole : alone token.parts ≡ token
   whole = ap (λ (ms : Members). let t : Token = record { parts = token.parts; outer = ms } in t) (sym none)

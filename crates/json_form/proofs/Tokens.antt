@@ -4,7 +4,8 @@ use Rattle.std.specs.Prelude.{◌&&◌, ◌||◌, not, nat_lt}
 use Rattle.std.proofs.lemmas.Bool.{lt-ltb, le-ltb}
 use Rattle.claim_tree.specs.Tree.{Members, no_members}
 use Rattle.sd_outside.specs.Limits.{file_max, compact_max}
-use Rattle.compact_form.specs.Condition as condition
+use Rattle.compact_form.specs.declared.condition.Condition.{Condition}
+use Rattle.compact_form.specs.Faults.{fault_number, fault_at, placed, unplaced}
 use Rattle.compact_form.specs.Condition.{number_of}
 use Rattle.compact_form.specs.declared.fault.Fault.{Fault}
 use Rattle.compact_form.specs.declared.fault.Place.{Place}
@@ -26,8 +27,8 @@ use Rattle.json_form.specs.Token.{Spells, spells_compact, spells_json, IsMisform
 use Rattle.json_form.specs.Printable.{IsPrintable}
 use Rattle.json_form.proofs.OneForm.{one_json, no_fault, one_fault}
 
-number : (fault : Fault) (n : ℕ) (place : Place) → fault ≡ record { number = n; place = place } → fault.number ≡ n
-number fault n place is = ap (λ (f : Fault). f.number) is
+number : (fault : Fault) (c : Condition) (place : Place) → fault ≡ fault_at c place → fault.number ≡ number_of c
+number fault c place is = ap fault_number is
 
 -- ---- one token
 
@@ -46,7 +47,7 @@ pub one : (text : List ℕ) (token other : Token) → IsToken text token → IsT
 one text token other h k = one_spelled (trimmed text) token other h.spells k.spells
 
 pub not_both : (text : List ℕ) (token : Token) (fault : Fault) → IsToken text token → IsTextRefused text fault → ⊥
-not_both text token fault h refused = h.passes fault refused.fails
+not_both text token fault h refused = h.passes fault refused.applies
 
 -- ---- one fault
 
@@ -62,22 +63,19 @@ one_place text p q (no_compact stop plainly refused at) (no_json there json faul
 one_place text p q (no_json there json fault named) (no_compact stop plainly refused at) = absurd (clash (is_json text) json plainly)
 one_place text p q (no_json there json fault named) (no_json here again found was) = named ∙ ap Json (one_fault text there here fault found) ∙ sym was
 
-abbrev at_place : Place → Fault
-at_place place = record { number = number_of condition.form; place = place }
-
 same_number : (text : List ℕ) (f g : Fault) → TextFails text f → TextFails text g → f.number ≡ g.number → f ≡ g
 same_number text f g (too_long e h) (too_long d k) n = e ∙ sym d
-same_number text f g (too_long e h) (form q d k) n = absurd (omega (arith, n, number f (number_of condition.too_long) Nowhere e, number g (number_of condition.form) q d))
-same_number text f g (too_long e h) (too_much u d k l) n = absurd (omega (arith, n, number f (number_of condition.too_long) Nowhere e, number g (number_of condition.too_much) Nowhere d))
-same_number text f g (form p e h) (too_long d k) n = absurd (omega (arith, n, number f (number_of condition.form) p e, number g (number_of condition.too_long) Nowhere d))
-same_number text f g (form p e h) (form q d k) n = e ∙ ap at_place (one_place (trimmed text) p q h k) ∙ sym d
-same_number text f g (form p e h) (too_much u d k l) n = absurd (omega (arith, n, number f (number_of condition.form) p e, number g (number_of condition.too_much) Nowhere d))
-same_number text f g (too_much t e h i) (too_long d k) n = absurd (omega (arith, n, number f (number_of condition.too_much) Nowhere e, number g (number_of condition.too_long) Nowhere d))
-same_number text f g (too_much t e h i) (form q d k) n = absurd (omega (arith, n, number f (number_of condition.too_much) Nowhere e, number g (number_of condition.form) q d))
+same_number text f g (too_long e h) (form q d k) n = absurd (omega (arith, n, number f Condition.TooLong Nowhere e, number g Condition.Form q d))
+same_number text f g (too_long e h) (too_much u d k l) n = absurd (omega (arith, n, number f Condition.TooLong Nowhere e, number g Condition.TooMuch Nowhere d))
+same_number text f g (form p e h) (too_long d k) n = absurd (omega (arith, n, number f Condition.Form p e, number g Condition.TooLong Nowhere d))
+same_number text f g (form p e h) (form q d k) n = e ∙ ap (fault_at Condition.Form) (one_place (trimmed text) p q h k) ∙ sym d
+same_number text f g (form p e h) (too_much u d k l) n = absurd (omega (arith, n, number f Condition.Form p e, number g Condition.TooMuch Nowhere d))
+same_number text f g (too_much t e h i) (too_long d k) n = absurd (omega (arith, n, number f Condition.TooMuch Nowhere e, number g Condition.TooLong Nowhere d))
+same_number text f g (too_much t e h i) (form q d k) n = absurd (omega (arith, n, number f Condition.TooMuch Nowhere e, number g Condition.Form q d))
 same_number text f g (too_much t e h i) (too_much u d k l) n = e ∙ sym d
 
 pub one_refusal : (text : List ℕ) (f g : Fault) → IsTextRefused text f → IsTextRefused text g → f ≡ g
-one_refusal text f g h k = same_number text f g h.fails k.fails (let a = h.lowest g k.fails in let b = k.lowest f h.fails in omega (arith, a, b))
+one_refusal text f g h k = same_number text f g h.applies k.applies (let a = h.lowest g k.applies in let b = k.lowest f h.applies in omega (arith, a, b))
 
 -- ---- a compact text is refused as ever
 
@@ -107,22 +105,22 @@ long_text text parts plainly spelled long =
 from_either : (text : List ℕ) (fault : Fault) → is_json (trimmed text) ≡ false → TextFails text fault → FailsPlainly text fault
 from_either text fault plainly (too_long is long) = record { plain_fault = fault; fails = plain.too_long is long; lower = omega arith }
 from_either text fault plainly (form place is (no_compact stop again refused at)) =
-    record { plain_fault = record { number = number_of condition.form; place = At stop }; fails = plain.form stop refl refused; lower = omega (arith, number fault (number_of condition.form) place is) }
+    record { plain_fault = placed Condition.Form stop; fails = plain.form stop refl refused; lower = omega (arith, number fault Condition.Form place is) }
 from_either text fault plainly (form place is (no_json at json refused named)) = absurd (clash (is_json (trimmed text)) json plainly)
 from_either text fault plainly (too_much t is (spells_compact again spelled none) (inl many)) =
     record { plain_fault = fault; fails = plain.too_much t.parts is spelled many; lower = omega arith }
 from_either text fault plainly (too_much t is (spells_compact again spelled none) (inr long)) =
     record {
-      plain_fault = record { number = number_of condition.too_long; place = Nowhere };
+      plain_fault = unplaced Condition.TooLong;
       fails = plain.too_long refl (long_text text t.parts plainly spelled long);
-      lower = omega (arith, number fault (number_of condition.too_much) Nowhere is);
+      lower = omega (arith, number fault Condition.TooMuch Nowhere is);
     }
 from_either text fault plainly (too_much t is (spells_json json spelled) much) = absurd (clash (is_json (trimmed text)) json plainly)
 
 pub refused_plainly : (text : List ℕ) (fault : Fault) → is_json (trimmed text) ≡ false → plain.IsCompactRefused text fault → IsTextRefused text fault
 refused_plainly text fault plainly refused =
     record {
-      fails = to_either text fault plainly refused.fails;
+      applies = to_either text fault plainly refused.applies;
       lowest = λ other fails. let p = from_either text other plainly fails in let low = refused.lowest p.plain_fault p.fails in omega (arith, low, p.lower);
     }
 
@@ -151,30 +149,30 @@ short_text text json short = rw (json, le-ltb file_max (length text) short) refl
 long_json : (text : List ℕ) → file_max < length text → is_too_long text ≡ true
 long_json text long = rw (lt-ltb file_max (length text) long) refl
 
-pub refused_long : (text : List ℕ) (fault : Fault) → fault ≡ record { number = number_of condition.too_long; place = Nowhere } → file_max < length text → IsTextRefused text fault
-refused_long text fault is long = record { fails = too_long is (long_json text long); lowest = go }
+pub refused_long : (text : List ℕ) (fault : Fault) → fault ≡ unplaced Condition.TooLong → file_max < length text → IsTextRefused text fault
+refused_long text fault is long = record { applies = too_long is (long_json text long); lowest = go }
   where
     go : (other : Fault) → TextFails text other → fault.number ≤ other.number
-    go other (too_long e h) = omega (arith, number fault (number_of condition.too_long) Nowhere is, number other (number_of condition.too_long) Nowhere e)
-    go other (form p e h) = omega (arith, number fault (number_of condition.too_long) Nowhere is, number other (number_of condition.form) p e)
-    go other (too_much t e h i) = omega (arith, number fault (number_of condition.too_long) Nowhere is, number other (number_of condition.too_much) Nowhere e)
+    go other (too_long e h) = omega (arith, number fault Condition.TooLong Nowhere is, number other Condition.TooLong Nowhere e)
+    go other (form p e h) = omega (arith, number fault Condition.TooLong Nowhere is, number other Condition.Form p e)
+    go other (too_much t e h i) = omega (arith, number fault Condition.TooLong Nowhere is, number other Condition.TooMuch Nowhere e)
 
-pub refused_form : (text : List ℕ) (fault : Fault) (place : JsonPlace) → fault ≡ record { number = number_of condition.form; place = Json place } → is_json (trimmed text) ≡ true → length text ≤ file_max → IsJsonPlace (trimmed text) place → IsTextRefused text fault
-refused_form text fault place is json short misformed = record { fails = form (Json place) is (no_json place json misformed refl); lowest = go }
+pub refused_form : (text : List ℕ) (fault : Fault) (place : JsonPlace) → fault ≡ fault_at Condition.Form (Json place) → is_json (trimmed text) ≡ true → length text ≤ file_max → IsJsonPlace (trimmed text) place → IsTextRefused text fault
+refused_form text fault place is json short misformed = record { applies = form (Json place) is (no_json place json misformed refl); lowest = go }
   where
     go : (other : Fault) → TextFails text other → fault.number ≤ other.number
     go other (too_long e h) = absurd (clash (is_too_long text) h (short_text text json short))
-    go other (form p e h) = omega (arith, number fault (number_of condition.form) (Json place) is, number other (number_of condition.form) p e)
-    go other (too_much t e h i) = omega (arith, number fault (number_of condition.form) (Json place) is, number other (number_of condition.too_much) Nowhere e)
+    go other (form p e h) = omega (arith, number fault Condition.Form (Json place) is, number other Condition.Form p e)
+    go other (too_much t e h i) = omega (arith, number fault Condition.Form (Json place) is, number other Condition.TooMuch Nowhere e)
 
-pub refused_much : (text : List ℕ) (fault : Fault) (token : Token) → fault ≡ record { number = number_of condition.too_much; place = Nowhere } → is_json (trimmed text) ≡ true → length text ≤ file_max → IsJson token (trimmed text) → IsTooMuch token.parts
+pub refused_much : (text : List ℕ) (fault : Fault) (token : Token) → fault ≡ unplaced Condition.TooMuch → is_json (trimmed text) ≡ true → length text ≤ file_max → IsJson token (trimmed text) → IsTooMuch token.parts
     → IsTextRefused text fault
-refused_much text fault token is json short said much = record { fails = too_much token is (spells_json json said) much; lowest = go }
+refused_much text fault token is json short said much = record { applies = too_much token is (spells_json json said) much; lowest = go }
   where
     go : (other : Fault) → TextFails text other → fault.number ≤ other.number
     go other (too_long e h) = absurd (clash (is_too_long text) h (short_text text json short))
     go other (form p e h) = absurd (spelled_well (trimmed text) token p (spells_json json said) h)
-    go other (too_much t e h i) = omega (arith, number fault (number_of condition.too_much) Nowhere is, number other (number_of condition.too_much) Nowhere e)
+    go other (too_much t e h i) = omega (arith, number fault Condition.TooMuch Nowhere is, number other Condition.TooMuch Nowhere e)
 
 pub read_json : (text : List ℕ) (token : Token) → is_json (trimmed text) ≡ true → length text ≤ file_max → IsJson token (trimmed text) → (IsTooMuch token.parts → ⊥) → IsToken text token
 read_json text token json short said few = record { spells = spells_json json said; passes = go }
@@ -193,4 +191,4 @@ same_fault fault named is = cc is
 pub refused_misformed : (text : List ℕ) (fault : Fault) (error : JsonFormError) → misformed error ≡ TokenError.Fault fault → is_json (trimmed text) ≡ true → length text ≤ file_max
     → ((place : JsonPlace) → error ≡ JsonFormError.Fault place → IsJsonPlace (trimmed text) place) → IsTextRefused text fault
 refused_misformed text fault JsonFormError.Memory is json short why = cc is
-refused_misformed text fault (JsonFormError.Fault place) is json short why = refused_form text fault place (same_fault fault (record { number = number_of condition.form; place = Json place }) is) json short (why place refl)
+refused_misformed text fault (JsonFormError.Fault place) is json short why = refused_form text fault place (same_fault fault (fault_at Condition.Form (Json place)) is) json short (why place refl)

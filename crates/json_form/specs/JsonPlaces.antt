@@ -1,5 +1,5 @@
 -- The places at which a text fails to be a JSON serialization, in the order in which they are judged.
-use Rattle.std.specs.Prelude.{◌≡◌, ◌≢◌, ◌≤◌, ◌+◌, ℕ, true, Some, None}
+use Rattle.std.specs.Prelude.{◌≡◌, ◌≢◌, ◌+◌, ℕ, true, Some, None}
 use Rattle.claim_tree.specs.Tree.{Text, Tree, array, object, Elements, element, Members}
 use Rattle.claim_tree.specs.FileForms.{HasValue}
 use Rattle.claim_tree.specs.JsonText.{Reads, IsNotJson, IsNotWhole}
@@ -7,6 +7,7 @@ use Rattle.compact_form.specs.declared.fault.Part.TheVariants.{Payload, Protecte
 use Rattle.compact_form.specs.declared.fault.Part.{Part}
 use Rattle.compact_form.specs.declared.fault.JsonPlace.{JsonPlace}
 use Rattle.compact_form.specs.declared.fault.JsonPlace.TheVariants.{NotJson, NotWhole, NotObject, Missing, Wrong, Stray}
+use Rattle.compact_form.specs.Lowest.{IsLowestBy}
 use Rattle.json_form.specs.Json.{found_part, has_beside, IsWordTree, AreWordTrees, IsJwtTree, IsObjectOf, AreEntries, IsStray}
 
 -- ---- the order
@@ -77,9 +78,8 @@ pub data JsonFails (bytes : Text) (place : JsonPlace) : Type 0 where
 
 -- ---- the first that applies
 
-pub record IsFirstPlace (Row : JsonPlace → Type 0) (place : JsonPlace) : Type 0 where
-  pub applies : Row place
-  pub lowest : (other : JsonPlace) → Row other → row_of place ≤ row_of other
+abbrev pub IsFirstPlace : (JsonPlace → Type 0) → JsonPlace → Type 0
+IsFirstPlace Row place = IsLowestBy row_of Row place
 
 -- the place of the first row that applies to the text
 abbrev pub IsJsonPlace : Text → JsonPlace → Type 0

@@ -5,8 +5,8 @@ use Rattle.claim_tree.specs.FileForms.{Says}
 use Rattle.claim_tree.specs.Lists.{IsLeast, AtNone}
 use Rattle.claim_tree.specs.declared.text.ReadError.{ReadError}
 use Rattle.compact_form.specs.declared.fault.Part.TheVariants.{Payload, Signatures}
-use Rattle.compact_form.specs.Condition as condition
-use Rattle.compact_form.specs.Condition.{number_of}
+use Rattle.compact_form.specs.Faults.{fault_at}
+use Rattle.compact_form.specs.declared.condition.Condition.{Condition}
 use Rattle.compact_form.specs.declared.fault.Place.TheVariants.{Json}
 use Rattle.compact_form.specs.declared.fault.JsonPlace.TheVariants.{NotJson, NotWhole}
 use Rattle.json_form.specs.declared.token.Token.{Token}
@@ -24,7 +24,7 @@ unread_place ReadError.NotWhole = JsonFormError.Fault NotWhole
 -- the answer for a text that is no JSON serialization
 abbrev pub misformed : JsonFormError → TokenError
 misformed JsonFormError.Memory = TokenError.Memory
-misformed (JsonFormError.Fault place) = TokenError.Fault record { number = number_of condition.form; place = Json place }
+misformed (JsonFormError.Fault place) = TokenError.Fault (fault_at Condition.Form (Json place))
 
 -- the first entry that is stray, where there is one
 abbrev pub IsFirstStray : Elements → Option ℕ → Type 0

@@ -1,14 +1,15 @@
 -- A token as it comes from a file, in any of its serializations (RFC 9901 sections 4 and 8), or the lowest condition of 1 to 3 that fails.
-use Rattle.std.specs.Prelude.{◌≡◌, ◌<◌, ◌≤◌, ◌⊎◌, ℕ, true, false, List, length}
+use Rattle.std.specs.Prelude.{◌≡◌, ◌<◌, ◌⊎◌, ℕ, true, false, List, length}
 use Rattle.claim_tree.specs.Tree.{no_members}
 use Rattle.sd_outside.specs.Limits.{compact_max, count_max}
-use Rattle.compact_form.specs.Condition as condition
-use Rattle.compact_form.specs.Condition.{number_of}
+use Rattle.compact_form.specs.declared.condition.Condition.{Condition}
+use Rattle.compact_form.specs.Faults.{fault_number, fault_at, unplaced}
 use Rattle.compact_form.specs.declared.fault.Fault.{Fault}
 use Rattle.compact_form.specs.declared.fault.Place.{Place}
-use Rattle.compact_form.specs.declared.fault.Place.TheVariants.{Nowhere, At, Json}
+use Rattle.compact_form.specs.declared.fault.Place.TheVariants.{At, Json}
 use Rattle.compact_form.specs.declared.fault.JsonPlace.{JsonPlace}
 use Rattle.compact_form.specs.declared.parts.Parts.{Parts}
+use Rattle.compact_form.specs.Lowest.{IsLowestBy, NoneApplies}
 use Rattle.compact_form.specs.Compact.{compact, IsCompact, IsMisformedAt}
 use Rattle.compact_form.specs.Trim.{trimmed, is_json, is_too_long}
 use Rattle.json_form.specs.declared.token.Token.{Token}
@@ -29,18 +30,17 @@ pub data IsMisformed (text : List ℕ) (place : Place) : Type 0 where
 abbrev pub IsTooMuch : Parts → Type 0
 IsTooMuch parts = (count_max < length parts.disclosures) ⊎ (compact_max < length (compact parts))
 
--- each condition that fails, with its number and its place
+-- each condition that fails, with its place
 pub data TextFails (text : List ℕ) (fault : Fault) : Type 0 where
-  too_long : fault ≡ record { number = number_of condition.too_long; place = Nowhere } → is_too_long text ≡ true → TextFails text fault
-  form : (place : Place) → fault ≡ record { number = number_of condition.form; place = place } → IsMisformed (trimmed text) place → TextFails text fault
-  too_much : (token : Token) → fault ≡ record { number = number_of condition.too_much; place = Nowhere } → Spells (trimmed text) token → IsTooMuch token.parts → TextFails text fault
+  too_long : fault ≡ unplaced Condition.TooLong → is_too_long text ≡ true → TextFails text fault
+  form : (place : Place) → fault ≡ fault_at Condition.Form place → IsMisformed (trimmed text) place → TextFails text fault
+  too_much : (token : Token) → fault ≡ unplaced Condition.TooMuch → Spells (trimmed text) token → IsTooMuch token.parts → TextFails text fault
 
 -- the lowest condition that fails
-pub record IsTextRefused (text : List ℕ) (fault : Fault) : Type 0 where
-  pub fails : TextFails text fault
-  pub lowest : (other : Fault) → TextFails text other → fault.number ≤ other.number
+abbrev pub IsTextRefused : List ℕ → Fault → Type 0
+IsTextRefused text fault = IsLowestBy fault_number (TextFails text) fault
 
 -- no condition fails, and the text between its blanks is a serialization of the token
 pub record IsToken (text : List ℕ) (token : Token) : Type 0 where
   pub spells : Spells (trimmed text) token
-  pub passes : (fault : Fault) → TextFails text fault → ⊥
+  pub passes : NoneApplies (TextFails text)

@@ -5,7 +5,7 @@ ghost use Rattle.json_form.specs.Printable.{IsPrintable};
 
 use crate::{JsonFormError, TokenText, TokenView};
 use claim_tree::TreeMap;
-use compact_form::{FORM, Fault, Parts, Place};
+use compact_form::{Condition, Fault, Parts, Place};
 use sd_outside::NoMemory;
 use std::alloc::Global;
 
@@ -65,10 +65,9 @@ impl From<JsonFormError> for TokenError {
     fn from(error: JsonFormError) -> Self {
         match error {
             JsonFormError::Memory => TokenError::Memory,
-            JsonFormError::Fault(place) => TokenError::Fault(Fault {
-                number: FORM,
-                place: Place::Json(place),
-            }),
+            JsonFormError::Fault(place) => {
+                TokenError::Fault(Condition::Form.fault_at(Place::Json(place)))
+            }
         }
     }
 }

@@ -1,5 +1,5 @@
 // A token with its parts in one compact text, in whichever serialization it comes.
-ghost use Rattle.std.specs.Prelude.{◌≡◌, true, false, IfOk, IfSome, IfNone, IsErrOf};
+ghost use Rattle.std.specs.Prelude.{◌≡◌, ◌≢◌, true, false, IfOk, IfSome, IfNone, IsErrOf};
 ghost use Rattle.compact_form.specs.Compact.{hashed as hashed_of, AreWords, IsCompact};
 ghost use Rattle.compact_form.specs.Trim.{trimmed, is_json as is_json_test};
 ghost use Rattle.compact_form.specs.declared.fault.Fault.{Fault as TheFault};
@@ -10,8 +10,7 @@ ghost use Rattle.json_form.specs.Printable.{IsPrintable};
 use crate::{Token, TokenError, TokenView, parse_json};
 use claim_tree::TreeMap;
 use compact_form::{
-    COMPACT_MAX, COUNT_MAX, FILE_MAX, Fault, Parts, Place, TOO_LONG, TOO_MUCH, View, is_json,
-    print, read_view, trim,
+    COMPACT_MAX, COUNT_MAX, Condition, FILE_MAX, Parts, View, is_json, print, read_view, trim,
 };
 use sd_outside::{NoMemory, TextBox};
 use std::alloc::Global;
@@ -55,6 +54,7 @@ fn read_compact<'a>(alloc: Global, text: &'a [u8]) -> Result<TokenText<'a>, Toke
     ensures ok { IfOk result (IsToken text.now) }
     ensures printable { IfOk result IsPrintable }
     ensures refused { (fault : TheFault) → IsErrOf result (TokenError.Fault fault) → IsTextRefused text.now fault }
+    ensures frugal { result ≢ Err TokenError.Memory }
 {
     let view = read_view(text)?;
     Ok(TokenText {
@@ -89,10 +89,7 @@ fn read_json<'a>(alloc: Global, text: &[u8], json: &[u8]) -> Result<TokenText<'a
     ensures refused { (fault : TheFault) → IsErrOf result (TokenError.Fault fault) → IsTextRefused text.now fault }
 {
     if text.len() > FILE_MAX {
-        return Err(TokenError::Fault(Fault {
-            number: TOO_LONG,
-            place: Place::Nowhere,
-        }));
+        return Err(TokenError::Fault(Condition::TooLong.fault()));
     }
     let token = parse_json(alloc, json)?;
     let Token { parts, outer } = token;
@@ -101,10 +98,7 @@ fn read_json<'a>(alloc: Global, text: &[u8], json: &[u8]) -> Result<TokenText<'a
             source: Source::Owned(parts, compact),
             outer,
         }),
-        None => Err(TokenError::Fault(Fault {
-            number: TOO_MUCH,
-            place: Place::Nowhere,
-        })),
+        None => Err(TokenError::Fault(Condition::TooMuch.fault())),
     }
 }
 
@@ -126,6 +120,9 @@ impl<'a> TokenText<'a> {
         ensures ok { IfOk result (IsToken text.now) }
         ensures printable { IfOk result IsPrintable }
         ensures refused { (fault : TheFault) → IsErrOf result (TokenError.Fault fault) → IsTextRefused text.now fault }
+
+        // a compact text is read without memory
+        ensures frugal { is_json_test (trimmed text.now) ≡ false → result ≢ Err TokenError.Memory }
     {
         let token = trim(text);
         if is_json(token) {

@@ -39,8 +39,8 @@ impl<'a> Model for TokenView<'a> {
 }
 
 impl<'a> TokenView<'a> {
-    // The token whose parts stand in a compact text.
-    pub(crate) fn in_text(parts: View<'a>, outer: &'a TreeMap) -> TokenView<'a>
+    /// The token whose parts stand in a compact text, with these members of an unprotected header.
+    pub fn in_text(parts: View<'a>, outer: &'a TreeMap) -> TokenView<'a>
         ensures { result ≡ record { parts = parts.entry; outer = outer.now } }
     {
         TokenView {

@@ -3,9 +3,11 @@ use Rattle.std.proofs.Common.{◌≡◌, ◌≢◌, ℕ, ℤ, ◌<◌, inl, inr,
 use Rattle.claim_tree.specs.Tree.{Text, Tree, leaf, whole, no_members}
 use Rattle.compact_form.specs.declared.fault.Place.{Place}
 use Rattle.compact_form.specs.declared.fault.Place.TheVariants.{Nowhere}
-use Rattle.compact_form.specs.Condition.{Condition, number_of, too_long, form, too_much, binding_missing, header_unreadable, header_critical, alg_refused, type_refused, issuer_key_unknown, bad_signature, payload_unreadable, hash_unknown, disclosure_unreadable, repeated_disclosure, reserved_misused, repeated_digest, unreferenced_disclosure, wrong_shape, reserved_name, name_clash, too_deep, issuer_refused, claim_missing, time_unreadable, expired, not_yet, holder_key_unknown, binding_header, binding_alg, binding_signature, binding_type, binding_payload, binding_stale, binding_early, nonce_differs, audience_differs, hash_differs, binding_time}
+use Rattle.compact_form.specs.declared.condition.Condition.{Condition}
+use Rattle.compact_form.specs.Condition.{number_of}
 use Rattle.compact_form.specs.Lowest.{IsLowest, NoneFails}
-use Rattle.compact_form.specs.Passing.{unplaced, Passes}
+use Rattle.compact_form.specs.Faults.{unplaced}
+use Rattle.compact_form.specs.Passing.{Passes}
 use Rattle.compact_form.proofs.Lowest.{holds_too, none_fails, refuse_unplaced}
 use Rattle.disclosure.specs.Digest.{digest_of}
 use Rattle.hmac_sign.specs.Hmac.{IsGoodText}
@@ -20,85 +22,85 @@ use Rattle.key_binding.specs.BindingConditions.{BindingFails, OfClaims, IsStale,
 
 -- each has a number from 27 to 38
 pub binding_numbers : (j : Judged) (c : Condition) (place : Place) → BindingFails j c place → (26 < number_of c) × (number_of c < 39)
-binding_numbers j too_long place h = absurd h
-binding_numbers j form place h = absurd h
-binding_numbers j too_much place h = absurd h
-binding_numbers j binding_missing place h = absurd h
-binding_numbers j header_unreadable place h = absurd h
-binding_numbers j header_critical place h = absurd h
-binding_numbers j alg_refused place h = absurd h
-binding_numbers j type_refused place h = absurd h
-binding_numbers j issuer_key_unknown place h = absurd h
-binding_numbers j bad_signature place h = absurd h
-binding_numbers j payload_unreadable place h = absurd h
-binding_numbers j hash_unknown place h = absurd h
-binding_numbers j disclosure_unreadable place h = absurd h
-binding_numbers j repeated_disclosure place h = absurd h
-binding_numbers j reserved_misused place h = absurd h
-binding_numbers j repeated_digest place h = absurd h
-binding_numbers j unreferenced_disclosure place h = absurd h
-binding_numbers j wrong_shape place h = absurd h
-binding_numbers j reserved_name place h = absurd h
-binding_numbers j name_clash place h = absurd h
-binding_numbers j too_deep place h = absurd h
-binding_numbers j issuer_refused place h = absurd h
-binding_numbers j claim_missing place h = absurd h
-binding_numbers j time_unreadable place h = absurd h
-binding_numbers j expired place h = absurd h
-binding_numbers j not_yet place h = absurd h
-binding_numbers j holder_key_unknown place h = (omega arith, omega arith)
-binding_numbers j binding_header place h = (omega arith, omega arith)
-binding_numbers j binding_alg place h = (omega arith, omega arith)
-binding_numbers j binding_signature place h = (omega arith, omega arith)
-binding_numbers j binding_type place h = (omega arith, omega arith)
-binding_numbers j binding_payload place h = (omega arith, omega arith)
-binding_numbers j binding_stale place h = (omega arith, omega arith)
-binding_numbers j binding_early place h = (omega arith, omega arith)
-binding_numbers j nonce_differs place h = (omega arith, omega arith)
-binding_numbers j audience_differs place h = (omega arith, omega arith)
-binding_numbers j hash_differs place h = (omega arith, omega arith)
-binding_numbers j binding_time place h = (omega arith, omega arith)
+binding_numbers j Condition.TooLong place h = absurd h
+binding_numbers j Condition.Form place h = absurd h
+binding_numbers j Condition.TooMuch place h = absurd h
+binding_numbers j Condition.BindingMissing place h = absurd h
+binding_numbers j Condition.HeaderUnreadable place h = absurd h
+binding_numbers j Condition.HeaderCritical place h = absurd h
+binding_numbers j Condition.AlgRefused place h = absurd h
+binding_numbers j Condition.TypeRefused place h = absurd h
+binding_numbers j Condition.IssuerKeyUnknown place h = absurd h
+binding_numbers j Condition.BadSignature place h = absurd h
+binding_numbers j Condition.PayloadUnreadable place h = absurd h
+binding_numbers j Condition.HashUnknown place h = absurd h
+binding_numbers j Condition.DisclosureUnreadable place h = absurd h
+binding_numbers j Condition.RepeatedDisclosure place h = absurd h
+binding_numbers j Condition.ReservedMisused place h = absurd h
+binding_numbers j Condition.RepeatedDigest place h = absurd h
+binding_numbers j Condition.UnreferencedDisclosure place h = absurd h
+binding_numbers j Condition.WrongShape place h = absurd h
+binding_numbers j Condition.ReservedName place h = absurd h
+binding_numbers j Condition.NameClash place h = absurd h
+binding_numbers j Condition.TooDeep place h = absurd h
+binding_numbers j Condition.IssuerRefused place h = absurd h
+binding_numbers j Condition.ClaimMissing place h = absurd h
+binding_numbers j Condition.TimeUnreadable place h = absurd h
+binding_numbers j Condition.Expired place h = absurd h
+binding_numbers j Condition.NotYet place h = absurd h
+binding_numbers j Condition.HolderKeyUnknown place h = (omega arith, omega arith)
+binding_numbers j Condition.BindingHeader place h = (omega arith, omega arith)
+binding_numbers j Condition.BindingAlg place h = (omega arith, omega arith)
+binding_numbers j Condition.BindingSignature place h = (omega arith, omega arith)
+binding_numbers j Condition.BindingType place h = (omega arith, omega arith)
+binding_numbers j Condition.BindingPayload place h = (omega arith, omega arith)
+binding_numbers j Condition.BindingStale place h = (omega arith, omega arith)
+binding_numbers j Condition.BindingEarly place h = (omega arith, omega arith)
+binding_numbers j Condition.NonceDiffers place h = (omega arith, omega arith)
+binding_numbers j Condition.AudienceDiffers place h = (omega arith, omega arith)
+binding_numbers j Condition.HashDiffers place h = (omega arith, omega arith)
+binding_numbers j Condition.BindingTime place h = (omega arith, omega arith)
 
 -- none names a place
 pub no_place : (j : Judged) (c : Condition) (place : Place) → BindingFails j c place → place ≡ Nowhere
-no_place j too_long place h = absurd h
-no_place j form place h = absurd h
-no_place j too_much place h = absurd h
-no_place j binding_missing place h = absurd h
-no_place j header_unreadable place h = absurd h
-no_place j header_critical place h = absurd h
-no_place j alg_refused place h = absurd h
-no_place j type_refused place h = absurd h
-no_place j issuer_key_unknown place h = absurd h
-no_place j bad_signature place h = absurd h
-no_place j payload_unreadable place h = absurd h
-no_place j hash_unknown place h = absurd h
-no_place j disclosure_unreadable place h = absurd h
-no_place j repeated_disclosure place h = absurd h
-no_place j reserved_misused place h = absurd h
-no_place j repeated_digest place h = absurd h
-no_place j unreferenced_disclosure place h = absurd h
-no_place j wrong_shape place h = absurd h
-no_place j reserved_name place h = absurd h
-no_place j name_clash place h = absurd h
-no_place j too_deep place h = absurd h
-no_place j issuer_refused place h = absurd h
-no_place j claim_missing place h = absurd h
-no_place j time_unreadable place h = absurd h
-no_place j expired place h = absurd h
-no_place j not_yet place h = absurd h
-no_place j holder_key_unknown place h = h.0
-no_place j binding_header place h = h.0
-no_place j binding_alg place h = h.0
-no_place j binding_signature place h = h.0
-no_place j binding_type place h = h.0
-no_place j binding_payload place h = h.0
-no_place j binding_stale place h = h.0
-no_place j binding_early place h = h.0
-no_place j nonce_differs place h = h.0
-no_place j audience_differs place h = h.0
-no_place j hash_differs place h = h.0
-no_place j binding_time place h = h.0
+no_place j Condition.TooLong place h = absurd h
+no_place j Condition.Form place h = absurd h
+no_place j Condition.TooMuch place h = absurd h
+no_place j Condition.BindingMissing place h = absurd h
+no_place j Condition.HeaderUnreadable place h = absurd h
+no_place j Condition.HeaderCritical place h = absurd h
+no_place j Condition.AlgRefused place h = absurd h
+no_place j Condition.TypeRefused place h = absurd h
+no_place j Condition.IssuerKeyUnknown place h = absurd h
+no_place j Condition.BadSignature place h = absurd h
+no_place j Condition.PayloadUnreadable place h = absurd h
+no_place j Condition.HashUnknown place h = absurd h
+no_place j Condition.DisclosureUnreadable place h = absurd h
+no_place j Condition.RepeatedDisclosure place h = absurd h
+no_place j Condition.ReservedMisused place h = absurd h
+no_place j Condition.RepeatedDigest place h = absurd h
+no_place j Condition.UnreferencedDisclosure place h = absurd h
+no_place j Condition.WrongShape place h = absurd h
+no_place j Condition.ReservedName place h = absurd h
+no_place j Condition.NameClash place h = absurd h
+no_place j Condition.TooDeep place h = absurd h
+no_place j Condition.IssuerRefused place h = absurd h
+no_place j Condition.ClaimMissing place h = absurd h
+no_place j Condition.TimeUnreadable place h = absurd h
+no_place j Condition.Expired place h = absurd h
+no_place j Condition.NotYet place h = absurd h
+no_place j Condition.HolderKeyUnknown place h = h.0
+no_place j Condition.BindingHeader place h = h.0
+no_place j Condition.BindingAlg place h = h.0
+no_place j Condition.BindingSignature place h = h.0
+no_place j Condition.BindingType place h = h.0
+no_place j Condition.BindingPayload place h = h.0
+no_place j Condition.BindingStale place h = h.0
+no_place j Condition.BindingEarly place h = h.0
+no_place j Condition.NonceDiffers place h = h.0
+no_place j Condition.AudienceDiffers place h = h.0
+no_place j Condition.HashDiffers place h = h.0
+no_place j Condition.BindingTime place h = h.0
 
 -- ---- what is read is one
 
@@ -129,8 +131,8 @@ module _ (j : Judged) where
   one_claims a b s t = same_claims t.body a b (subst (λ body. PayloadSays body a) (one_body s.body t.body s.is_body t.is_body) s.says) t.says
 
   -- a condition without a place is the lowest that fails
-  pub refuse : (d : Condition) → Passes (number_of d) (BindingFails j) → BindingFails j d Nowhere → IsLowest (BindingFails j) (unplaced (number_of d))
-  refuse d passes fails = refuse_unplaced (BindingFails j) d (unplaced (number_of d)) refl passes fails
+  pub refuse : (d : Condition) → Passes (number_of d) (BindingFails j) → BindingFails j d Nowhere → IsLowest (BindingFails j) (unplaced d)
+  refuse d passes fails = refuse_unplaced (BindingFails j) d (unplaced d) refl passes fails
 
   -- ---- one after another
 
@@ -138,62 +140,62 @@ module _ (j : Judged) where
   start c place h = let n = binding_numbers j c place h in omega (arith, n.0)
 
   pub at28 : (key : List ℕ) → holder_key j.policy.keys j.payload ≡ Some key → Passes 28 (BindingFails j)
-  at28 key is = holds_too (BindingFails j) holder_key_unknown start (λ place w. let both : Some key ≡ None = sym is ∙ w.1 in cc both)
+  at28 key is = holds_too (BindingFails j) Condition.HolderKeyUnknown start (λ place w. let both : Some key ≡ None = sym is ∙ w.1 in cc both)
 
-  no_refusal : (h : Header) → HasBindingHeader j.token h → (place : Place) → BindingFails j binding_header place → ⊥
+  no_refusal : (h : Header) → HasBindingHeader j.token h → (place : Place) → BindingFails j Condition.BindingHeader place → ⊥
   no_refusal h has place (is, inl w) = headers.read_not_unreadable j.token.protected no_members h has w
   no_refusal h has place (is, inr w) = headers.read_not_critical j.token.protected no_members h has w
 
   pub at29 : Passes 28 (BindingFails j) → (h : Header) → HasBindingHeader j.token h → Passes 29 (BindingFails j)
-  at29 passes h has = holds_too (BindingFails j) binding_header passes (no_refusal h has)
+  at29 passes h has = holds_too (BindingFails j) Condition.BindingHeader passes (no_refusal h has)
 
   pub at30 : Passes 29 (BindingFails j) → (h : Header) → HasBindingHeader j.token h → h.alg ≡ codes "HS256" → Passes 30 (BindingFails j)
-  at30 passes h has alg = holds_too (BindingFails j) binding_alg passes (λ place (is, (k, other, differs)). differs (subst (λ (x : Header). x.alg ≡ codes "HS256") (one_header h k has other) alg))
+  at30 passes h has alg = holds_too (BindingFails j) Condition.BindingAlg passes (λ place (is, (k, other, differs)). differs (subst (λ (x : Header). x.alg ≡ codes "HS256") (one_header h k has other) alg))
 
   pub at31 : Passes 30 (BindingFails j) → (key : List ℕ) → holder_key j.policy.keys j.payload ≡ Some key → IsGoodText key j.token.protected j.token.payload j.token.signature → Passes 31 (BindingFails j)
-  at31 passes key is good = holds_too (BindingFails j) binding_signature passes go
+  at31 passes key is good = holds_too (BindingFails j) Condition.BindingSignature passes go
     where
-      go : (place : Place) → BindingFails j binding_signature place → ⊥
+      go : (place : Place) → BindingFails j Condition.BindingSignature place → ⊥
       go place (at, (other, other_is, bad)) =
           let both : Some other ≡ Some key = sym other_is ∙ is in
           let same : other ≡ key = cc both in
           bad (subst (λ x. IsGoodText x j.token.protected j.token.payload j.token.signature) (sym same) good)
 
   pub at32 : Passes 31 (BindingFails j) → (h : Header) → HasBindingHeader j.token h → h.typ ≡ Some (codes "kb+jwt") → Passes 32 (BindingFails j)
-  at32 passes h has typ = holds_too (BindingFails j) binding_type passes (λ place (is, (k, other, differs)). differs (subst (λ (x : Header). x.typ ≡ Some (codes "kb+jwt")) (one_header h k has other) typ))
+  at32 passes h has typ = holds_too (BindingFails j) Condition.BindingType passes (λ place (is, (k, other, differs)). differs (subst (λ (x : Header). x.typ ≡ Some (codes "kb+jwt")) (one_header h k has other) typ))
 
   pub at33 : Passes 32 (BindingFails j) → (claims : Claims) → HasClaims j.token claims → Passes 33 (BindingFails j)
-  at33 passes claims has = holds_too (BindingFails j) binding_payload passes (λ place w. w.1 claims has)
+  at33 passes claims has = holds_too (BindingFails j) Condition.BindingPayload passes (λ place w. w.1 claims has)
 
   -- what is not so of these claims is so of none
   no_claims : (P : Claims → Type 0) (claims : Claims) → HasClaims j.token claims → (P claims → ⊥) → (place : Place) → (place ≡ Nowhere) × OfClaims j P → ⊥
   no_claims P claims has none place (is, (other, other_has, p)) = none (subst P (one_claims other claims other_has has) p)
 
   pub at34 : Passes 33 (BindingFails j) → (claims : Claims) → HasClaims j.token claims → (IsStale claims.iat j.policy.max_age j.skew j.now → ⊥) → Passes 34 (BindingFails j)
-  at34 passes claims has fresh = holds_too (BindingFails j) binding_stale passes (no_claims (λ x. IsStale x.iat j.policy.max_age j.skew j.now) claims has fresh)
+  at34 passes claims has fresh = holds_too (BindingFails j) Condition.BindingStale passes (no_claims (λ x. IsStale x.iat j.policy.max_age j.skew j.now) claims has fresh)
 
   pub at35 : Passes 34 (BindingFails j) → (claims : Claims) → HasClaims j.token claims → (IsEarly claims.iat j.skew j.now → ⊥) → Passes 35 (BindingFails j)
-  at35 passes claims has made = holds_too (BindingFails j) binding_early passes (no_claims (λ x. IsEarly x.iat j.skew j.now) claims has made)
+  at35 passes claims has made = holds_too (BindingFails j) Condition.BindingEarly passes (no_claims (λ x. IsEarly x.iat j.skew j.now) claims has made)
 
   pub at36 : Passes 35 (BindingFails j) → (claims : Claims) → HasClaims j.token claims → claims.nonce ≡ j.policy.nonce → Passes 36 (BindingFails j)
-  at36 passes claims has same = holds_too (BindingFails j) nonce_differs passes (no_claims (λ x. x.nonce ≢ j.policy.nonce) claims has (λ differs. differs same))
+  at36 passes claims has same = holds_too (BindingFails j) Condition.NonceDiffers passes (no_claims (λ x. x.nonce ≢ j.policy.nonce) claims has (λ differs. differs same))
 
   pub at37 : Passes 36 (BindingFails j) → (claims : Claims) → HasClaims j.token claims → claims.aud ≡ j.policy.aud → Passes 37 (BindingFails j)
-  at37 passes claims has same = holds_too (BindingFails j) audience_differs passes (no_claims (λ x. x.aud ≢ j.policy.aud) claims has (λ differs. differs same))
+  at37 passes claims has same = holds_too (BindingFails j) Condition.AudienceDiffers passes (no_claims (λ x. x.aud ≢ j.policy.aud) claims has (λ differs. differs same))
 
   pub at38 : Passes 37 (BindingFails j) → (claims : Claims) → HasClaims j.token claims → claims.sd_hash ≡ digest_of j.hash j.hashed → Passes 38 (BindingFails j)
-  at38 passes claims has same = holds_too (BindingFails j) hash_differs passes (no_claims (λ x. x.sd_hash ≢ digest_of j.hash j.hashed) claims has (λ differs. differs same))
+  at38 passes claims has same = holds_too (BindingFails j) Condition.HashDiffers passes (no_claims (λ x. x.sd_hash ≢ digest_of j.hash j.hashed) claims has (λ differs. differs same))
 
   pub finish : Passes 38 (BindingFails j) → (body : Tree) → IsBody j.token.payload body → (IsTimeRefused body j.skew j.now → ⊥) → NoneFails (BindingFails j)
-  finish passes body has held = none_fails (BindingFails j) 39 (holds_too (BindingFails j) binding_time passes go) (λ c place h. (binding_numbers j c place h).1)
+  finish passes body has held = none_fails (BindingFails j) 39 (holds_too (BindingFails j) Condition.BindingTime passes go) (λ c place h. (binding_numbers j c place h).1)
     where
-      go : (place : Place) → BindingFails j binding_time place → ⊥
+      go : (place : Place) → BindingFails j Condition.BindingTime place → ⊥
       go place (at, (other, other_has, refused)) = held (subst (λ x. IsTimeRefused x j.skew j.now) (one_body other body other_has has) refused)
 
   -- ---- no claims
 
-  pub refuse_unread : Passes 32 (BindingFails j) → IsNoObject j.token.payload → IsLowest (BindingFails j) (unplaced 32)
-  refuse_unread passes none = refuse binding_payload passes (refl, λ claims has. bodies.not_both j.token.payload has.body has.is_body none)
+  pub refuse_unread : Passes 32 (BindingFails j) → IsNoObject j.token.payload → IsLowest (BindingFails j) (unplaced Condition.BindingPayload)
+  refuse_unread passes none = refuse Condition.BindingPayload passes (refl, λ claims has. bodies.not_both j.token.payload has.body has.is_body none)
 
-  pub refuse_unsaid : Passes 32 (BindingFails j) → (body : Tree) → IsBody j.token.payload body → ((claims : Claims) → PayloadSays body claims → ⊥) → IsLowest (BindingFails j) (unplaced 32)
-  refuse_unsaid passes body is_body none = refuse binding_payload passes (refl, λ claims has. none claims (subst (λ b. PayloadSays b claims) (one_body has.body body has.is_body is_body) has.says))
+  pub refuse_unsaid : Passes 32 (BindingFails j) → (body : Tree) → IsBody j.token.payload body → ((claims : Claims) → PayloadSays body claims → ⊥) → IsLowest (BindingFails j) (unplaced Condition.BindingPayload)
+  refuse_unsaid passes body is_body none = refuse Condition.BindingPayload passes (refl, λ claims has. none claims (subst (λ b. PayloadSays b claims) (one_body has.body body has.is_body is_body) has.says))

@@ -1,8 +1,7 @@
 -- What fails each condition on a key binding token, RFC 9901 section 7.3.
 use Rattle.std.specs.Prelude.{◌≡◌, ◌≢◌, ℕ, ◌⊎◌, ℤ, pos, ◌+ℤ◌, ◌<ℤ◌, List, Some, None, codes}
 use Rattle.claim_tree.specs.Tree.{Tree, no_members}
-use Rattle.compact_form.specs.Condition as condition
-use Rattle.compact_form.specs.Condition.{Condition}
+use Rattle.compact_form.specs.declared.condition.Condition.{Condition}
 use Rattle.compact_form.specs.Lowest.{Unplaced}
 use Rattle.compact_form.specs.declared.fault.Place.{Place}
 use Rattle.disclosure.specs.Digest.{digest_of}
@@ -40,16 +39,16 @@ IsTimeRefused body skew now = IsTimeUnreadable body ⊎ (IsExpired body skew now
 
 -- what fails each condition, where no lower one fails
 abbrev pub BindingFails : Judged → Condition → Place → Type 0
-BindingFails j condition.holder_key_unknown place = Unplaced (holder_key j.policy.keys j.payload ≡ None) place
-BindingFails j condition.binding_header place = Unplaced (IsHeaderUnreadable j.token.protected no_members ⊎ IsHeaderCritical j.token.protected no_members) place
-BindingFails j condition.binding_alg place = Unplaced (OfHeader j (λ header. header.alg ≢ codes "HS256")) place
-BindingFails j condition.binding_signature place = Unplaced (IsBadBindingSignature j) place
-BindingFails j condition.binding_type place = Unplaced (OfHeader j (λ header. header.typ ≢ Some (codes "kb+jwt"))) place
-BindingFails j condition.binding_payload place = Unplaced ((claims : Claims) → HasClaims j.token claims → ⊥) place
-BindingFails j condition.binding_stale place = Unplaced (OfClaims j (λ claims. IsStale claims.iat j.policy.max_age j.skew j.now)) place
-BindingFails j condition.binding_early place = Unplaced (OfClaims j (λ claims. IsEarly claims.iat j.skew j.now)) place
-BindingFails j condition.nonce_differs place = Unplaced (OfClaims j (λ claims. claims.nonce ≢ j.policy.nonce)) place
-BindingFails j condition.audience_differs place = Unplaced (OfClaims j (λ claims. claims.aud ≢ j.policy.aud)) place
-BindingFails j condition.hash_differs place = Unplaced (OfClaims j (λ claims. claims.sd_hash ≢ digest_of j.hash j.hashed)) place
-BindingFails j condition.binding_time place = Unplaced ((body : Tree) × IsBody j.token.payload body × IsTimeRefused body j.skew j.now) place
+BindingFails j Condition.HolderKeyUnknown place = Unplaced (holder_key j.policy.keys j.payload ≡ None) place
+BindingFails j Condition.BindingHeader place = Unplaced (IsHeaderUnreadable j.token.protected no_members ⊎ IsHeaderCritical j.token.protected no_members) place
+BindingFails j Condition.BindingAlg place = Unplaced (OfHeader j (λ header. header.alg ≢ codes "HS256")) place
+BindingFails j Condition.BindingSignature place = Unplaced (IsBadBindingSignature j) place
+BindingFails j Condition.BindingType place = Unplaced (OfHeader j (λ header. header.typ ≢ Some (codes "kb+jwt"))) place
+BindingFails j Condition.BindingPayload place = Unplaced ((claims : Claims) → HasClaims j.token claims → ⊥) place
+BindingFails j Condition.BindingStale place = Unplaced (OfClaims j (λ claims. IsStale claims.iat j.policy.max_age j.skew j.now)) place
+BindingFails j Condition.BindingEarly place = Unplaced (OfClaims j (λ claims. IsEarly claims.iat j.skew j.now)) place
+BindingFails j Condition.NonceDiffers place = Unplaced (OfClaims j (λ claims. claims.nonce ≢ j.policy.nonce)) place
+BindingFails j Condition.AudienceDiffers place = Unplaced (OfClaims j (λ claims. claims.aud ≢ j.policy.aud)) place
+BindingFails j Condition.HashDiffers place = Unplaced (OfClaims j (λ claims. claims.sd_hash ≢ digest_of j.hash j.hashed)) place
+BindingFails j Condition.BindingTime place = Unplaced ((body : Tree) × IsBody j.token.payload body × IsTimeRefused body j.skew j.now) place
 BindingFails j _ place = ⊥

@@ -1,5 +1,6 @@
 ghost use Rattle.std.specs.Prelude.{◌≡◌};
 
+use compact_form::Condition;
 use hmac_sign::SignError;
 use sd_outside::NoMemory;
 
@@ -33,6 +34,15 @@ impl From<SignError> for BindError {
             SignError::Failed => BindError::SignFailed,
         }
     }
+}
+
+/// Why a key binding token whose texts are borrowed is not accepted.
+#[derive(Clone, Copy, Debug, PartialEq, Eq)]
+pub enum BoundError {
+    /// There was no memory to judge it.
+    Memory,
+    /// The lowest condition that fails, one of 27 to 38.
+    Fails(Condition),
 }
 
 /// Why a key binding token is not accepted.

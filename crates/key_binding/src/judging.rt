@@ -3,26 +3,22 @@ ghost use Rattle.std.specs.Prelude.{◌≡◌, ◌≢◌, ◌↔◌, ◌⊎◌, 
 ghost use Rattle.std.specs.Option.{option_copied};
 ghost use Rattle.claim_tree.specs.Tree.{InRange, IsRanged, no_members};
 ghost use Rattle.claim_tree.specs.View.{tree_of};
-ghost use Rattle.compact_form.specs.Lowest.{IsLowest, NoneFails};
-ghost use Rattle.compact_form.specs.Passing.{Passes, unplaced};
+ghost use Rattle.compact_form.specs.Lowest.{NoneFails};
+ghost use Rattle.compact_form.specs.Passing.{Passes};
 ghost use Rattle.disclosure.specs.Digest.{digest_of};
 ghost use Rattle.jws_part.specs.Header.{IsHeader, IsHeaderUnreadable, IsHeaderCritical};
 ghost use Rattle.jws_part.specs.Part.{IsBody};
 ghost use Rattle.key_binding.specs.Judged.{Judged, judged, holder_key as holder_key_of, HasBindingHeader, HasClaims};
 ghost use Rattle.key_binding.specs.JudgedSteps.{judged_of};
 ghost use Rattle.key_binding.specs.BindingConditions.{BindingFails, IsStale, IsEarly, IsTimeRefused};
-ghost use Rattle.key_binding.specs.BindingCalls.{OnBindingFault};
+ghost use Rattle.key_binding.specs.BindingCalls.{IsLowestBinding, IsNumberOf, OnBindingFault, OnBoundFails};
 ghost use Rattle.key_binding.specs.Read.{claims_of};
 
 use crate::holder::holder_key;
 use crate::reading::{Claims, read_claims};
-use crate::{BindingError, BindingPolicy};
+use crate::{BindingError, BindingPolicy, BoundError};
 use claim_tree::{Tree, TreeMap};
-use compact_form::{
-    AUDIENCE_DIFFERS, BINDING_ALG, BINDING_EARLY, BINDING_HEADER, BINDING_PAYLOAD,
-    BINDING_SIGNATURE, BINDING_STALE, BINDING_TIME, BINDING_TYPE, HASH_DIFFERS, HOLDER_KEY_UNKNOWN,
-    JwtParts, JwtView, NONCE_DIFFERS,
-};
+use compact_form::{Condition, JwtParts, JwtView};
 use disclosure::{HashAlg, digest};
 use hmac_sign::Hs256Key;
 use jws_part::{
@@ -67,7 +63,7 @@ pub fn check_binding(
     now: u64,
 ) -> Result<(), BindingError>
     ensures passes { OnOk result (NoneFails (BindingFails (judged token.now (tree_of payload.now) policy.now skew hash hashed.now now))) }
-    ensures refused { IfErr result (λ e. OnBindingFault e (λ number. IsLowest (BindingFails (judged token.now (tree_of payload.now) policy.now skew hash hashed.now now)) (unplaced number))) }
+    ensures refused { IfErr result (λ e. OnBindingFault e (IsNumberOf (IsLowestBinding (judged token.now (tree_of payload.now) policy.now skew hash hashed.now now)))) }
 {
     let bound = Bound {
         token: token.view(),
@@ -78,16 +74,20 @@ pub fn check_binding(
         hashed,
         now,
     };
-    check_bound(alloc, bound)
+    match check_bound(alloc, bound) {
+        Ok(()) => Ok(()),
+        Err(BoundError::Memory) => Err(BindingError::Memory),
+        Err(BoundError::Fails(condition)) => Err(BindingError::Fault(condition.number())),
+    }
 }
 
 /// The same of borrowed texts, with no copy.
-pub fn check_bound(alloc: Global, bound: Bound<'_>) -> Result<(), BindingError>
+pub fn check_bound(alloc: Global, bound: Bound<'_>) -> Result<(), BoundError>
     ensures passes { OnOk result (NoneFails (BindingFails (judged_of bound.entry))) }
-    ensures refused { IfErr result (λ e. OnBindingFault e (λ number. IsLowest (BindingFails (judged_of bound.entry)) (unplaced number))) }
+    ensures refused { IfErr result (λ e. OnBoundFails e (IsLowestBinding (judged_of bound.entry))) }
 {
     let Some(key) = holder_key(&bound.policy.keys, bound.payload) else {
-        return Err(BindingError::Fault(HOLDER_KEY_UNKNOWN));
+        return Err(BoundError::Fails(Condition::HolderKeyUnknown));
     };
     if let Err(error) = check_signed(alloc, bound, key) {
         return Err(error);
@@ -114,16 +114,16 @@ fn header_of(alloc: Global, protected: &str) -> Result<Header, HeaderError>
 }
 
 // 28 to 31.
-fn check_signed(alloc: Global, bound: Bound<'_>, key: &Hs256Key) -> Result<(), BindingError>
+fn check_signed(alloc: Global, bound: Bound<'_>, key: &Hs256Key) -> Result<(), BoundError>
     requires key { holder_key_of bound.policy.now.keys (tree_of bound.payload.now) ≡ Some key.now }
     ensures ok { OnOk result (Passes 32 (BindingFails (judged_of bound.entry))) }
-    ensures refused { IfErr result (λ e. OnBindingFault e (λ number. IsLowest (BindingFails (judged_of bound.entry)) (unplaced number))) }
+    ensures refused { IfErr result (λ e. OnBoundFails e (IsLowestBinding (judged_of bound.entry))) }
 {
     match header_of(alloc, bound.token.protected) {
         Ok(header) => check_header(alloc, bound, key, &header),
-        Err(HeaderError::Memory) => Err(BindingError::Memory),
-        Err(HeaderError::Unreadable) => Err(BindingError::Fault(BINDING_HEADER)),
-        Err(HeaderError::Critical) => Err(BindingError::Fault(BINDING_HEADER)),
+        Err(HeaderError::Memory) => Err(BoundError::Memory),
+        Err(HeaderError::Unreadable) => Err(BoundError::Fails(Condition::BindingHeader)),
+        Err(HeaderError::Critical) => Err(BoundError::Fails(Condition::BindingHeader)),
     }
 }
 
@@ -133,14 +133,14 @@ fn check_header(
     bound: Bound<'_>,
     key: &Hs256Key,
     header: &Header,
-) -> Result<(), BindingError>
+) -> Result<(), BoundError>
     requires key { holder_key_of bound.policy.now.keys (tree_of bound.payload.now) ≡ Some key.now }
     requires read { HasBindingHeader (judged_of bound).token header.now }
     ensures ok { OnOk result (Passes 32 (BindingFails (judged_of bound.entry))) }
-    ensures refused { IfErr result (λ e. OnBindingFault e (λ number. IsLowest (BindingFails (judged_of bound.entry)) (unplaced number))) }
+    ensures refused { IfErr result (λ e. OnBoundFails e (IsLowestBinding (judged_of bound.entry))) }
 {
     if header.alg.as_str() != "HS256" {
-        return Err(BindingError::Fault(BINDING_ALG));
+        return Err(BoundError::Fails(Condition::BindingAlg));
     }
     let JwtView {
         protected,
@@ -149,53 +149,53 @@ fn check_header(
     } = bound.token;
     let good = match key.check_text(alloc, protected, payload, signature) {
         Ok(good) => good,
-        Err(_) => return Err(BindingError::Memory),
+        Err(_) => return Err(BoundError::Memory),
     };
     if !good {
-        return Err(BindingError::Fault(BINDING_SIGNATURE));
+        return Err(BoundError::Fails(Condition::BindingSignature));
     }
     if !is_binding_type(header.typ.as_ref()) {
-        return Err(BindingError::Fault(BINDING_TYPE));
+        return Err(BoundError::Fails(Condition::BindingType));
     }
     Ok(())
 }
 
 // 32 to 38.
-fn check_payload(alloc: Global, bound: Bound<'_>) -> Result<(), BindingError>
+fn check_payload(alloc: Global, bound: Bound<'_>) -> Result<(), BoundError>
     requires below { Passes 32 (BindingFails (judged_of bound)) }
     ensures passes { OnOk result (NoneFails (BindingFails (judged_of bound.entry))) }
-    ensures refused { IfErr result (λ e. OnBindingFault e (λ number. IsLowest (BindingFails (judged_of bound.entry)) (unplaced number))) }
+    ensures refused { IfErr result (λ e. OnBoundFails e (IsLowestBinding (judged_of bound.entry))) }
 {
     match read_body(alloc, bound.token.payload) {
         Ok(body) => check_body(alloc, bound, &body),
-        Err(BodyError::Memory) => Err(BindingError::Memory),
-        Err(BodyError::Unreadable) => Err(BindingError::Fault(BINDING_PAYLOAD)),
+        Err(BodyError::Memory) => Err(BoundError::Memory),
+        Err(BodyError::Unreadable) => Err(BoundError::Fails(Condition::BindingPayload)),
     }
 }
 
 // 32 to 38, of a payload that is read.
-fn check_body(alloc: Global, bound: Bound<'_>, body: &Tree) -> Result<(), BindingError>
+fn check_body(alloc: Global, bound: Bound<'_>, body: &Tree) -> Result<(), BoundError>
     requires below { Passes 32 (BindingFails (judged_of bound)) }
     requires read { IsBody (judged_of bound).token.payload (tree_of body.now) }
     requires ranged { IsRanged (tree_of body.now) }
     ensures passes { OnOk result (NoneFails (BindingFails (judged_of bound.entry))) }
-    ensures refused { IfErr result (λ e. OnBindingFault e (λ number. IsLowest (BindingFails (judged_of bound.entry)) (unplaced number))) }
+    ensures refused { IfErr result (λ e. OnBoundFails e (IsLowestBinding (judged_of bound.entry))) }
 {
     let Some(claims) = read_claims(body) else {
-        return Err(BindingError::Fault(BINDING_PAYLOAD));
+        return Err(BoundError::Fails(Condition::BindingPayload));
     };
-    if let Err(number) = check_claims(bound, claims) {
-        return Err(BindingError::Fault(number));
+    if let Err(condition) = check_claims(bound, claims) {
+        return Err(BoundError::Fails(condition));
     }
     let same = match is_digest_of(alloc, claims.sd_hash, bound.hash, bound.hashed) {
         Ok(same) => same,
-        Err(_) => return Err(BindingError::Memory),
+        Err(_) => return Err(BoundError::Memory),
     };
     if !same {
-        return Err(BindingError::Fault(HASH_DIFFERS));
+        return Err(BoundError::Fails(Condition::HashDiffers));
     }
     if is_time_refused(body, bound.skew, bound.now) {
-        return Err(BindingError::Fault(BINDING_TIME));
+        return Err(BoundError::Fails(Condition::BindingTime));
     }
     Ok(())
 }
@@ -209,24 +209,24 @@ fn is_digest_of(alloc: Global, text: &str, hash: HashAlg, hashed: &str) -> Resul
 }
 
 // 33 to 36.
-fn check_claims(bound: Bound<'_>, claims: Claims<'_>) -> Result<(), u8>
+fn check_claims(bound: Bound<'_>, claims: Claims<'_>) -> Result<(), Condition>
     requires below { Passes 33 (BindingFails (judged_of bound)) }
     requires read { HasClaims (judged_of bound).token (claims_of claims) }
     requires ranged { InRange claims.iat }
     ensures ok { OnOk result (Passes 37 (BindingFails (judged_of bound.entry))) }
-    ensures refused { IfErr result (λ number. IsLowest (BindingFails (judged_of bound.entry)) (unplaced number)) }
+    ensures refused { IfErr result (IsLowestBinding (judged_of bound.entry)) }
 {
     if is_stale(&claims, bound.policy.max_age, bound.skew, bound.now) {
-        return Err(BINDING_STALE);
+        return Err(Condition::BindingStale);
     }
     if is_early(&claims, bound.skew, bound.now) {
-        return Err(BINDING_EARLY);
+        return Err(Condition::BindingEarly);
     }
     if claims.nonce != bound.policy.nonce.as_str() {
-        return Err(NONCE_DIFFERS);
+        return Err(Condition::NonceDiffers);
     }
     if claims.aud != bound.policy.aud.as_str() {
-        return Err(AUDIENCE_DIFFERS);
+        return Err(Condition::AudienceDiffers);
     }
     Ok(())
 }

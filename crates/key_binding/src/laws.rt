@@ -1,12 +1,14 @@
 //! What the definitions of both ends say together. Each law holds for every value.
 ghost use Rattle.std.specs.Prelude.{◌≡◌, ◌<◌, ◌≤◌, ◌^◌, ◌+◌, ℕ, List, Some, length};
 ghost use Rattle.compact_form.specs.Compact.{jwt};
-ghost use Rattle.compact_form.specs.Lowest.{IsLowest, NoneFails};
-ghost use Rattle.compact_form.specs.Passing.{unplaced};
+ghost use Rattle.compact_form.specs.declared.condition.Condition.{Condition};
+ghost use Rattle.compact_form.specs.Condition.{number_of};
+ghost use Rattle.compact_form.specs.Lowest.{NoneFails};
 ghost use Rattle.compact_form.specs.declared.parts.JwtParts.{JwtParts};
 ghost use Rattle.disclosure.specs.declared.digests.HashAlg.{HashAlg};
 ghost use Rattle.hmac_sign.specs.Hmac.{IsGood};
 ghost use Rattle.key_binding.specs.Binding.{IsBinding, IsReadBack};
+ghost use Rattle.key_binding.specs.BindingCalls.{IsLowestBinding};
 ghost use Rattle.key_binding.specs.BindingConditions.{BindingFails};
 ghost use Rattle.key_binding.specs.Judged.{Judged, holder_key};
 ghost use Rattle.sd_outside.specs.Limits.{binding_text_max};
@@ -31,9 +33,9 @@ pub fn bound_is_short()
         → length (jwt token) < 5000 }
 {}
 
-/// A key binding token is accepted, or refused by one number from 27 to 38.
+/// A key binding token is accepted, or refused by one condition, with a number from 27 to 38.
 pub fn one_binding_verdict()
-    ensures not_both { (j : Judged) (number : ℕ) → NoneFails (BindingFails j) → IsLowest (BindingFails j) (unplaced number) → ⊥ }
-    ensures one_fault { (j : Judged) (number other : ℕ) → IsLowest (BindingFails j) (unplaced number) → IsLowest (BindingFails j) (unplaced other) → number ≡ other }
-    ensures from_27 { (j : Judged) (number : ℕ) → IsLowest (BindingFails j) (unplaced number) → (27 ≤ number) × (number ≤ 38) }
+    ensures not_both { (j : Judged) (condition : Condition) → NoneFails (BindingFails j) → IsLowestBinding j condition → ⊥ }
+    ensures one_fault { (j : Judged) (condition other : Condition) → IsLowestBinding j condition → IsLowestBinding j other → condition ≡ other }
+    ensures from_27 { (j : Judged) (condition : Condition) → IsLowestBinding j condition → (27 ≤ number_of condition) × (number_of condition ≤ 38) }
 {}

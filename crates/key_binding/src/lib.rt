@@ -13,7 +13,7 @@ mod reading;
 mod short_text;
 mod writing;
 
-pub use errors::{BindError, BindingError};
+pub use errors::{BindError, BindingError, BoundError};
 pub use holder::holder_kid;
 pub use judging::{Bound, check_binding, check_bound};
 pub use policy::BindingPolicy;

@@ -2,7 +2,8 @@
 use Rattle.std.proofs.Common.{◌≡◌, ◌≤◌, ℕ, List, length, refl, sym, ap, subst, ◌∙◌}
 use Rattle.claim_tree.specs.Tree.{Tree, object, Members, no_members}
 use Rattle.sd_outside.specs.Limits.{file_max}
-use Rattle.compact_form.specs.Condition as condition
+use Rattle.compact_form.specs.declared.condition.Condition.{Condition}
+use Rattle.compact_form.specs.Faults.{unplaced}
 use Rattle.compact_form.specs.Condition.{number_of}
 use Rattle.compact_form.specs.declared.fault.Place.TheVariants.{Nowhere}
 use Rattle.json_form.specs.declared.token.Token.{Token}
@@ -21,7 +22,7 @@ members_of (object ms) = ms
 members_of _ = no_members
 
 not_much : (file : List ℕ) (token : Token) → IsToken file token → IsTooMuch token.parts → ⊥
-not_much file token reads much = reads.passes (record { number = number_of condition.too_much; place = Nowhere }) (too_much token refl reads.spells much)
+not_much file token reads much = reads.passes (unplaced Condition.TooMuch) (too_much token refl reads.spells much)
 
 read_back : (form : Form) (file : List ℕ) (token : Token) → IsToken file token → IsPrintable token → IsJsonOf form token (written form token) → length (line (written form token)) ≤ file_max
     → IsToken (line (written form token)) (kept_in form token)

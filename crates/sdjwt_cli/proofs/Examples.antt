@@ -5,7 +5,8 @@ use Rattle.json.specs.Print.{escape_byte}
 use Rattle.b64url_text.specs.Base64url.{letters, is_letter}
 use Rattle.claim_tree.specs.Tree.{Text, Tree, leaf, text, object, Members, no_members, member}
 use Rattle.compact_form.specs.declared.fault.Place.TheVariants.{Nowhere, At}
-use Rattle.compact_form.specs.Condition as condition
+use Rattle.compact_form.specs.Faults.{placed, unplaced}
+use Rattle.compact_form.specs.declared.condition.Condition.{Condition}
 use Rattle.compact_form.specs.Condition.{number_of}
 use Rattle.compact_form.specs.declared.parts.Parts.{Parts}
 use Rattle.compact_form.specs.Compact.{IsCompact}
@@ -26,7 +27,7 @@ use Rattle.sdjwt_cli.specs.declared.form.Form.TheVariants.{Compact, Flat, Genera
 use Rattle.sdjwt_cli.specs.Command.{split, verify, issue, present, convert, command_of}
 use Rattle.sdjwt_cli.specs.Lines.{line, refusal, unread_text, unreadable_line, short_seed}
 use Rattle.sdjwt_cli.specs.Never.{MayBeShown}
-use Rattle.sdjwt_cli.specs.Presenting.{present_refusal}
+use Rattle.holder_core.specs.PresentRefusal.{present_refusal_text}
 use Rattle.sdjwt_cli.specs.Split.{Splits}
 use Rattle.digest_sites.specs.Given.{Given}
 use Rattle.sdjwt_cli.specs.Show.{show_lines, Shows, has_known_hash}
@@ -64,11 +65,11 @@ one_word_more = refl
 
 -- ---- lines of standard error
 
-at_a_byte : refusal (record { number = number_of condition.form; place = At 5 }) ≡ codes "refused 2 form at 5\n"
+at_a_byte : refusal (placed Condition.Form 5) ≡ codes "refused 2 form at 5\n"
 unfolding digits
 at_a_byte = refl
 
-nowhere : refusal (record { number = number_of condition.too_long; place = Nowhere }) ≡ codes "refused 1 tooLong\n"
+nowhere : refusal (unplaced Condition.TooLong) ≡ codes "refused 1 tooLong\n"
 unfolding digits
 nowhere = refl
 
@@ -98,10 +99,11 @@ of_a_long_token : line (issue_refusal_text IssueTooLong) ≡ codes "refused 61 i
 unfolding digits
 of_a_long_token = refl
 
-of_a_bound_token : present_refusal HasBinding ≡ codes "refused 71 hasBinding\n"
+of_a_bound_token : line (present_refusal_text HasBinding) ≡ codes "refused 71 hasBinding\n"
+unfolding digits
 of_a_bound_token = refl
 
-of_a_refused_place : present_refusal (ConsentRefused 1) ≡ codes "refused 73 consentRefused at 1\n"
+of_a_refused_place : line (present_refusal_text (ConsentRefused 1)) ≡ codes "refused 73 consentRefused at 1\n"
 unfolding digits
 of_a_refused_place = refl
 
@@ -132,8 +134,8 @@ of_a_presentation = record { token = token_of bound no_members; reads = is_read;
 of_a_jwt : TellsFault (IsTextRefused (codes "a.b.c")) (codes "refused 2 form at 5\n")
 unfolding digits
 of_a_jwt = record {
-  fault = record { number = number_of condition.form; place = At 5 };
-  refused = refused_plainly (codes "a.b.c") (record { number = number_of condition.form; place = At 5 }) refl (refused_form (codes "a.b.c") (record { number = number_of condition.form; place = At 5 }) 5 refl refl no_tilde);
+  fault = placed Condition.Form 5;
+  refused = refused_plainly (codes "a.b.c") (placed Condition.Form 5) refl (refused_form (codes "a.b.c") (placed Condition.Form 5) 5 refl refl no_tilde);
   line_is = refl;
 }
 

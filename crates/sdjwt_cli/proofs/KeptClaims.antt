@@ -10,7 +10,8 @@ use Rattle.hmac_sign.specs.Keys.{text_under}
 use Rattle.key_binding.specs.Judged.{holder_kid}
 use Rattle.issuer_core.specs.Digests.{marked_claims}
 use Rattle.issuer_core.specs.Order.{Order}
-use Rattle.issuer_core.specs.OrderRefusals.{AppliesToOrder, NoneApplies, IsProtected, protected_names}
+use Rattle.compact_form.specs.Lowest.{NoneApplies}
+use Rattle.issuer_core.specs.OrderRefusals.{AppliesToOrder, IsProtected, protected_names}
 use Rattle.issuer_core.specs.declared.errors.IssueError.TheVariants.{ProtectedClaim}
 use Rattle.marked_tree.proofs.DifferentPaths.{path_same}
 use Rattle.holder_core.specs.Present.{shown_for}

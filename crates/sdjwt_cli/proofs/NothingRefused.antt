@@ -18,7 +18,7 @@ use Rattle.selection_core.specs.Consent.{RuleAnswers, IsRefusedAt}
 use Rattle.selection_core.specs.ChoiceRefusals.{IsMissing}
 use Rattle.issuer_core.specs.Digests.{marked_claims}
 use Rattle.issuer_core.specs.Order.{Order}
-use Rattle.issuer_core.specs.OrderRefusals.{NoneApplies}
+use Rattle.compact_form.specs.Lowest.{NoneApplies}
 use Rattle.issuer_core.specs.OrderRefusals as issuing
 use Rattle.holder_core.specs.declared.ask.Ask.{Ask}
 use Rattle.holder_core.specs.declared.ask.BindingAsk.{BindingAsk}
@@ -26,9 +26,8 @@ use Rattle.holder_core.specs.declared.errors.PresentError.{PresentError}
 use Rattle.holder_core.specs.declared.errors.PresentError.TheVariants.{Memory, Token as OnCondition, HasBinding, NoSuchPlace, ConsentRefused, BindingKeyDiffers, SignFailed, TooLong}
 use Rattle.holder_core.specs.Present.{shown_for, IsHeld, PicksParts, NamesKey, IsBoundAs, IsAnswer, IsNoAnswer, IsPresented, IsNotPresented, not_read, refused, no_memory}
 use Rattle.verifier_core.specs.declared.policy.Policy.{Policy}
-use Rattle.sdjwt_cli.specs.Presented.{alone}
+use Rattle.sdjwt_cli.specs.PresentedValues.{alone, AreShort}
 use Rattle.sdjwt_cli.specs.Suits.{Suits}
-use Rattle.sdjwt_cli.specs.PresentedValues.{AreShort}
 use Rattle.sdjwt_cli.proofs.HeldIssued.{IsTokenOf, issued_held, one_marked}
 use Rattle.sdjwt_cli.proofs.KeptClaims.{holder_kept}
 use Rattle.sdjwt_cli.proofs.PresentedAccepted.{IsPresentedOf}
@@ -101,7 +100,7 @@ module _ (seed : List ℕ) (o : Order) (key : List ℕ) (parts : Parts) (passes 
 
     pub nothing_refused : (error : PresentError) → error ≢ Memory → error ≢ SignFailed → IsNotPresented answers rule text ask (IsGood signing) now error → ⊥
     nothing_refused error memory signed (no_memory e) = memory e
-    nothing_refused error memory signed (not_read fault e h) = is_text.passes fault h.fails
+    nothing_refused error memory signed (not_read fault e h) = is_text.passes fault h.applies
     nothing_refused error memory signed (refused token there h) =
         refuses_nothing error memory signed
         (subst (λ (t : Token). IsNoAnswer answers rule t ask (IsGood signing) now error) (one_token token there) h)

@@ -3,13 +3,15 @@ use Rattle.std.proofs.Common.{◌≡◌, ℕ, List, ap, ◌∙◌, sym, subst, i
 use Rattle.compact_form.specs.declared.parts.Parts.{Parts}
 use Rattle.compact_form.specs.Compact.{compact}
 use Rattle.hmac_sign.specs.Hmac.{IsGood}
+use Rattle.holder_core.specs.declared.errors.PresentError.{PresentError}
 use Rattle.holder_core.specs.declared.errors.PresentError.TheVariants.{Memory, SignFailed}
+use Rattle.holder_core.specs.PresentRefusal.{present_refusal_text}
 use Rattle.holder_core.specs.declared.present_file.PresentFile.{PresentFile}
 use Rattle.holder_core.proofs.PresentFiles as orders
 use Rattle.holder_core.proofs.OnePresentation.{HasOneSignature, one_presented, presented_not_refused, one_cause}
 use Rattle.sdjwt_cli.specs.Lines.{line, unreadable_line}
 use Rattle.sdjwt_cli.specs.Never.{never_rule}
-use Rattle.sdjwt_cli.specs.Presenting.{signing_key, IsPresentedFor, IsNotPresentedFor, present_refusal, Presents, DoesNotPresent}
+use Rattle.sdjwt_cli.specs.Presenting.{signing_key, IsPresentedFor, IsNotPresentedFor, Presents, DoesNotPresent}
 use Rattle.sdjwt_cli.specs.Answers.{Reply, gives, refuses, unreadable, PresentAnswers}
 use Rattle.sdjwt_cli.proofs.NeverShown.{never_decided}
 use Rattle.sdjwt_cli.specs.Telling.{TellsFileFault}
@@ -32,7 +34,7 @@ refused order token now a b g h =
     let applies : IsNotPresentedFor h.said token now g.error = subst (λ (said : PresentFile). IsNotPresentedFor said token now g.error) same g.refused in
     let key = signing_key h.said.key in
     let one = one_cause never_rule h.said.never (never_decided h.said.never) token h.said.ask (IsGood key) (one_signature key) now g.error h.error g.memory g.signed h.memory h.signed applies h.refused in
-    g.line_is ∙ (ap present_refusal one ∙ sym h.line_is)
+    g.line_is ∙ (ap (λ (e : PresentError). line (present_refusal_text e)) one ∙ sym h.line_is)
 
 no_order : (order : List ℕ) (a b : List ℕ) → TellsFileFault (IsPresentFileRefused order) a → TellsFileFault (IsPresentFileRefused order) b → a ≡ b
 no_order order a b g h = g.line_is ∙ (ap (unreadable_line 1) (orders.one_fault order g.fault h.fault g.refused h.refused g.cause h.cause) ∙ sym h.line_is)

@@ -4,10 +4,12 @@ use Rattle.std.specs.Prelude.{option_and_then}
 use Rattle.std.specs.List.{AllZip}
 use Rattle.claim_tree.specs.Tree.{Text, Tree, no_members}
 use Rattle.compact_form.specs.declared.fault.Place.{Place}
+use Rattle.compact_form.specs.Faults.{fault_at}
 use Rattle.compact_form.specs.declared.parts.JwtParts.{JwtParts}
 use Rattle.compact_form.specs.declared.parts.Parts.{Parts}
 use Rattle.compact_form.specs.Compact.{hashed, compact}
-use Rattle.compact_form.specs.Condition.{Condition, number_of}
+use Rattle.compact_form.specs.declared.condition.Condition.{Condition}
+use Rattle.compact_form.specs.Condition.{number_of}
 use Rattle.compact_form.specs.Lowest.{NoneFails}
 use Rattle.digest_sites.specs.Given.{Given}
 use Rattle.disclosure.specs.declared.digests.HashAlg.{HashAlg}
@@ -47,9 +49,8 @@ use Rattle.holder_core.specs.declared.ask.BindingAsk.{BindingAsk}
 use Rattle.holder_core.specs.Present.{shown_for, picked, PicksParts, NamesKey, IsBoundBy, IsBoundWith, IsBoundAs}
 use Rattle.holder_core.proofs.PickedNumbers.{numbers, rising, enumerates, is_pick, zip_picked}
 use Rattle.sdjwt_cli.specs.Lines.{line}
-use Rattle.sdjwt_cli.specs.Presented.{alone}
+use Rattle.sdjwt_cli.specs.PresentedValues.{alone, AreShort}
 use Rattle.sdjwt_cli.specs.Suits.{Suits}
-use Rattle.sdjwt_cli.specs.PresentedValues.{AreShort}
 use Rattle.sdjwt_cli.proofs.CompactLines.{line_token}
 use Rattle.sdjwt_cli.proofs.CheckedParts.{Takes, CarriesFor, content, checked}
 use Rattle.sdjwt_cli.proofs.HeldIssued.{IsTokenOf, carries_issued}
@@ -169,7 +170,7 @@ module _ (seed : List ℕ) (o : Order) (key : List ℕ) (parts : Parts) (good : 
     missing_passes (binding, asked, none) = let suit = suits.bound binding asked in not_missing ask.binding answer.binding presented.bound suit.ask suit.asked_for none
 
     none_fails : NoneFails (Fails text policy later)
-    none_fails c place (of_file h) = is_text.passes (record { number = number_of c; place = place }) h
+    none_fails c place (of_file h) = is_text.passes (fault_at c place) h
     none_fails c place (of_missing token there h) = missing_passes (subst (λ (t : Token). IsBindingMissing policy t.parts) (one_answer token there) h.1.1)
     none_fails c place (of_token token there h) = answer_checked.passes c place (subst (λ (t : Token). TokenFails t (rules_of policy) c place) (one_answer token there) h)
     none_fails c place (of_claims token marked there opens h) =

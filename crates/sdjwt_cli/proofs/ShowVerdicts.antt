@@ -6,7 +6,8 @@ use Rattle.jws_part.specs.Part.{IsBody, IsNoObject}
 use Rattle.jws_part.specs.Header.{IsHeaderUnreadable}
 use Rattle.jws_part.proofs.Parts as bodies
 use Rattle.disclosure.proofs.Verdicts as readings
-use Rattle.compact_form.specs.Condition as condition
+use Rattle.compact_form.specs.declared.condition.Condition.{Condition}
+use Rattle.compact_form.specs.Faults.{placed}
 use Rattle.compact_form.specs.Condition.{number_of}
 use Rattle.compact_form.specs.declared.fault.Fault.{Fault}
 use Rattle.compact_form.specs.declared.fault.Place.TheVariants.{At}
@@ -78,7 +79,7 @@ one_front (x ∷ xs) (y ∷ ys) d e ds es (s ∷ ss) (t ∷ ts) same g h u v =
     cc
 
 abbrev at_front : List Text → Fault
-at_front front = record { number = number_of condition.disclosure_unreadable; place = At (length front) }
+at_front front = placed Condition.DisclosureUnreadable (length front)
 
 one_unread : (ds : List Text) (f g : Fault) → IsShowUnreadAt ds f → IsShowUnreadAt ds g → f ≡ g
 one_unread ds f g u v =

@@ -4,7 +4,7 @@ use Rattle.claim_tree.specs.Tree.{Text, Tree, leaf, text, object, Members, no_me
 use Rattle.claim_tree.specs.Lists.{StandsAt, In}
 use Rattle.claim_tree.specs.Path.{tree_at}
 use Rattle.compact_form.specs.Lowest.{NoneFails}
-use Rattle.compact_form.specs.Condition as condition
+use Rattle.compact_form.specs.declared.condition.Condition.{Condition}
 use Rattle.compact_form.proofs.Lowest.{holds_too, none_fails}
 use Rattle.hmac_sign.specs.Hmac.{key_block}
 use Rattle.jws_part.specs.Times.{IsTimeUnreadable}
@@ -98,7 +98,7 @@ claims_hold =
     let required = before_times shown policy 1300 issuer wanted in
     let readable = before_expiry shown policy 1300 required unreadable in
     let fresh = before_start shown policy 1300 readable (λ late. cc late.1) in
-    none_fails (ClaimFails shown policy 1300) 27 (holds_too (ClaimFails shown policy 1300) condition.not_yet fresh (λ mark_path h. cc h.1.1))
+    none_fails (ClaimFails shown policy 1300) 27 (holds_too (ClaimFails shown policy 1300) Condition.NotYet fresh (λ mark_path h. cc h.1.1))
     (λ c mark_path h. let n = claim_numbers shown policy 1300 c mark_path h in n.1)
   where
     wanted : (i : ℕ) (name : Text) → StandsAt policy.require i name → get (shown_for (marked_claims order) said.ask.want) name ≢ None

@@ -3,7 +3,8 @@ use Rattle.std.specs.Prelude.{◌≡◌, ◌<◌, ◌≤◌, ℕ, List, length}
 use Rattle.claim_tree.specs.Tree.{no_members, members_depth}
 use Rattle.claim_tree.specs.JsonText.{json_text}
 use Rattle.sd_outside.specs.Limits.{file_max}
-use Rattle.compact_form.specs.Condition as condition
+use Rattle.compact_form.specs.declared.condition.Condition.{Condition}
+use Rattle.compact_form.specs.Faults.{unplaced}
 use Rattle.compact_form.specs.Condition.{number_of}
 use Rattle.compact_form.specs.declared.fault.Fault.{Fault}
 use Rattle.compact_form.specs.declared.fault.Place.TheVariants.{Nowhere}
@@ -44,4 +45,4 @@ pub record Converts (form : Form) (file answer : List ℕ) : Type 0 where
 -- the lowest condition that fails: of the file, or that what would be written is longer than a file may be
 pub data IsConvertRefused (form : Form) (file : List ℕ) (fault : Fault) : Type 0 where
   unread : IsTextRefused file fault → IsConvertRefused form file fault
-  too_much : (token : Token) → IsToken file token → file_max < length (line (written form token)) → fault ≡ record { number = number_of condition.too_much; place = Nowhere } → IsConvertRefused form file fault
+  too_much : (token : Token) → IsToken file token → file_max < length (line (written form token)) → fault ≡ unplaced Condition.TooMuch → IsConvertRefused form file fault

@@ -10,7 +10,8 @@ use Rattle.issuer_core.specs.declared.order_file.IssueFile.{IssueFile}
 use Rattle.issuer_core.specs.Order.{Order, order_of}
 use Rattle.issuer_core.specs.OrderFile.{IsOrderFile, IsOrderFileRefused}
 use Rattle.issuer_core.specs.GoodOrder.{IsWritable}
-use Rattle.issuer_core.specs.OrderRefusals.{AppliesToOrder, NoneApplies, IsLowestRefusal}
+use Rattle.compact_form.specs.Lowest.{NoneApplies}
+use Rattle.issuer_core.specs.OrderRefusals.{AppliesToOrder, IsLowestRefusal}
 use Rattle.issuer_core.specs.RefusalLine.{issue_refusal_text}
 use Rattle.issuer_core.specs.Seed.{maker_of}
 use Rattle.issuer_core.specs.Written.{IsIssued, IsLaidOut}

@@ -1,24 +1,18 @@
 -- The lines on standard error.
-use Rattle.std.specs.Prelude.{zero, suc, ℕ, List, [], ◌∷◌, ◌++◌, Option, None, Some, codes}
+use Rattle.std.specs.Prelude.{zero, suc, ℕ, List, [], ◌∷◌, ◌++◌, codes}
 use Rattle.std.specs.Fmt.{decimal}
 use Rattle.claim_tree.specs.FileWords.{field_word}
 use Rattle.claim_tree.specs.declared.file_fault.FileFault.{FileFault}
 use Rattle.claim_tree.specs.declared.file_fault.FileFault.TheVariants.{Memory, TooLong, NotJson, NotWhole, NotObject, Unknown, Missing, Wrong}
 use Rattle.compact_form.specs.declared.fault.Fault.{Fault}
-use Rattle.compact_form.specs.declared.fault.Place.{Place}
-use Rattle.compact_form.specs.Condition.{Condition, condition_of}
-use Rattle.verifier_core.specs.RefusalText.{refusal_text}
+use Rattle.verifier_core.specs.RefusalText.{fault_text}
 
 abbrev pub line : List ℕ → List ℕ
 line text = text ++ (10 ∷ [])
 
-abbrev pub refusal_line_of : Option Condition → Place → List ℕ
-refusal_line_of None place = []
-refusal_line_of (Some condition) place = line (refusal_text condition place)
-
 -- the line of a condition that fails
 abbrev pub refusal : Fault → List ℕ
-refusal fault = refusal_line_of (condition_of fault.number) fault.place
+refusal fault = line (fault_text fault)
 
 -- the line of a file that was not read: its word is counted behind the command, here from 0 and in print from 1
 abbrev pub unread_text : ℕ → List ℕ

@@ -4,9 +4,7 @@ use Rattle.std.specs.Prelude.{◌≡◌, ◌≢◌, ℕ, ◌<◌, ◌^◌, List,
 use Rattle.std.specs.Io.KnownBytes.{Appends}
 use Rattle.sd_outside.specs.declared.status.Status.{Status}
 use Rattle.claim_tree.specs.JsonText.{json_text}
-use Rattle.claim_tree.specs.Tree.{Tree, no_members}
-use Rattle.compact_form.specs.declared.parts.Parts.{Parts}
-use Rattle.json_form.specs.declared.token.Token.{Token}
+use Rattle.claim_tree.specs.Tree.{Tree}
 use Rattle.verifier_core.specs.PolicyFile.{IsPolicyFile}
 use Rattle.verifier_core.specs.declared.policy.Policy.{Policy}
 use Rattle.issuer_core.specs.Order.{Order}
@@ -35,12 +33,6 @@ pub record AllSuits (order_file seed_file present_file policy_file : List ℕ) (
   pub is_policy : IsPolicyFile policy_file policy
   pub moment : presented < 2 ^ 64
   pub suits : Suits never_rule said.never order key said.ask (signing_key said.key) policy presented verified
-
--- ---- over values
-
--- the token of these parts, with no unprotected header beside them
-abbrev pub alone : Parts → Token
-alone parts = record { parts = parts; outer = no_members }
 
 -- ---- over files
 

@@ -1,9 +1,10 @@
 -- Not needed to believe the program's promises: the law that what is presented is accepted, over values.
 use Rattle.std.specs.Prelude.{◌≢◌, ℕ, ◌<◌, ◌^◌, List, ◌≤◌, length, Option, IfSome}
-use Rattle.claim_tree.specs.Tree.{Tree}
+use Rattle.claim_tree.specs.Tree.{Tree, no_members}
 use Rattle.compact_form.specs.declared.parts.Parts.{Parts}
 use Rattle.compact_form.specs.Compact.{compact}
 use Rattle.hmac_sign.specs.Hmac.{IsGood}
+use Rattle.json_form.specs.declared.token.Token.{Token}
 use Rattle.json_form.specs.Token.{IsToken}
 use Rattle.selection_core.specs.Consent.{RuleAnswers}
 use Rattle.verifier_core.specs.Verdicts.{IsAcceptedAs}
@@ -15,10 +16,13 @@ use Rattle.holder_core.specs.declared.errors.PresentError.{PresentError}
 use Rattle.holder_core.specs.declared.errors.PresentError.TheVariants.{Memory, SignFailed}
 use Rattle.sdjwt_cli.specs.Issuing.{IsIssuedBy}
 use Rattle.sdjwt_cli.specs.Suits.{Suits}
-use Rattle.sdjwt_cli.specs.Presented.{alone}
 use Rattle.sd_outside.specs.Limits.{binding_text_max}
 use Rattle.holder_core.specs.declared.ask.BindingAsk.{BindingAsk}
 use Rattle.issuer_core.specs.Digests.{marked_claims}
+
+-- the token of these parts, with no unprotected header beside them
+abbrev pub alone : Parts → Token
+alone parts = record { parts = parts; outer = no_members }
 
 -- the compact text of what is presented is read as its parts, and each text that is read as them is accepted with these claims
 pub record IsAcceptedWith (answer : Parts) (policy : Policy) (verified : ℕ) (claims : Tree) : Type 0 where

@@ -1,16 +1,16 @@
 -- The command `present`: what it prints of a token file for an order file, and when it refuses.
-use Rattle.std.specs.Prelude.{◌≡◌, ◌≢◌, ◌≤◌, ℕ, List, [], ◌++◌, length, replicate, Option, None, Some, codes}
-use Rattle.std.specs.Fmt.{decimal}
+use Rattle.std.specs.Prelude.{◌≡◌, ◌≢◌, ◌≤◌, ℕ, List, length, replicate, Option, None, Some}
 use Rattle.sd_outside.specs.Limits.{compact_max}
 use Rattle.compact_form.specs.declared.parts.Parts.{Parts}
 use Rattle.compact_form.specs.Compact.{compact}
 use Rattle.hmac_sign.specs.Hmac.{key_block, IsGood}
 use Rattle.holder_core.specs.declared.errors.PresentError.{PresentError}
-use Rattle.holder_core.specs.declared.errors.PresentError.TheVariants.{Memory, Token as OnCondition, HasBinding, NoSuchPlace, ConsentRefused, BindingKeyDiffers, SignFailed, TooLong}
+use Rattle.holder_core.specs.declared.errors.PresentError.TheVariants.{Memory, SignFailed}
 use Rattle.holder_core.specs.declared.present_file.PresentFile.{PresentFile}
 use Rattle.holder_core.specs.Present.{IsPresented, IsNotPresented}
+use Rattle.holder_core.specs.PresentRefusal.{present_refusal_text}
 use Rattle.holder_core.specs.PresentFile.{IsPresentFile}
-use Rattle.sdjwt_cli.specs.Lines.{line, refusal}
+use Rattle.sdjwt_cli.specs.Lines.{line}
 use Rattle.sdjwt_cli.specs.Never.{never_rule}
 
 -- the key that signs: that of the order, or one of zeros, which signs nothing, where no key binding token is asked for
@@ -25,17 +25,6 @@ IsPresentedFor said token_file now parts = IsPresented never_rule said.never tok
 -- why nothing is presented
 abbrev pub IsNotPresentedFor : PresentFile → List ℕ → ℕ → PresentError → Type 0
 IsNotPresentedFor said token_file now error = IsNotPresented never_rule said.never token_file said.ask (IsGood (signing_key said.key)) now error
-
--- the line of a refusal; want of memory and a signer that fails are none
-abbrev pub present_refusal : PresentError → List ℕ
-present_refusal Memory = []
-present_refusal SignFailed = []
-present_refusal (OnCondition fault) = refusal fault
-present_refusal HasBinding = line (codes "refused 71 hasBinding")
-present_refusal (NoSuchPlace k) = line (codes "refused 72 wantedNotThere at " ++ decimal k)
-present_refusal (ConsentRefused i) = line (codes "refused 73 consentRefused at " ++ decimal i)
-present_refusal BindingKeyDiffers = line (codes "refused 74 bindingKeyDiffers")
-present_refusal TooLong = line (codes "refused 75 presentTooLong")
 
 -- the token is presented for the order, and this is the line of its compact text
 pub record Presents (order_file token_file : List ℕ) (now : ℕ) (answer : List ℕ) : Type 0 where
@@ -54,4 +43,4 @@ pub record DoesNotPresent (order_file token_file : List ℕ) (now : ℕ) (text :
   pub refused : IsNotPresentedFor said token_file now error
   pub memory : error ≢ Memory
   pub signed : error ≢ SignFailed
-  pub line_is : text ≡ present_refusal error
+  pub line_is : text ≡ line (present_refusal_text error)

@@ -9,7 +9,8 @@ use Rattle.jws_part.specs.Header.{IsHeaderUnreadable}
 use Rattle.disclosure.specs.Digest.{payload_hash}
 use Rattle.disclosure.specs.declared.digests.HashAlg.{HashAlg}
 use Rattle.digest_sites.specs.Given.{Given}
-use Rattle.compact_form.specs.Condition as condition
+use Rattle.compact_form.specs.declared.condition.Condition.{Condition}
+use Rattle.compact_form.specs.Faults.{unplaced, placed}
 use Rattle.compact_form.specs.Condition.{number_of}
 use Rattle.compact_form.specs.declared.fault.Fault.{Fault}
 use Rattle.compact_form.specs.declared.fault.Place.TheVariants.{Nowhere, At}
@@ -71,15 +72,12 @@ pub record IsShowUnreadAt (disclosures : List Text) (fault : Fault) : Type 0 whe
   pub stand : disclosures ≡ front ++ text ∷ rest
   pub read : AllZip (Gives HashAlg.Sha256) front shown
   pub unread : IsNoDisclosure text
-  pub fault_is : fault ≡ record { number = number_of condition.disclosure_unreadable; place = At (length front) }
-
-abbrev pub fault_of : ℕ → Fault
-fault_of number = record { number = number; place = Nowhere }
+  pub fault_is : fault ≡ placed Condition.DisclosureUnreadable (length front)
 
 -- the lowest condition that fails: of the form, then of the headers, of the payload, of its hash, and of the disclosures the first
 pub data IsShowRefused (file : List ℕ) (fault : Fault) : Type 0 where
   form : IsTextRefused file fault → IsShowRefused file fault
-  header : (t : Token) → IsToken file t → IsHeaderUnreadable t.parts.signed.protected t.outer → fault ≡ fault_of (number_of condition.header_unreadable) → IsShowRefused file fault
-  payload : (t : Token) (head : Tree) → IsToken file t → IsHead t.parts.signed.protected t.outer head → IsNoObject t.parts.signed.payload → fault ≡ fault_of (number_of condition.payload_unreadable) → IsShowRefused file fault
-  hash : (t : Token) (head body : Tree) → IsToken file t → IsHead t.parts.signed.protected t.outer head → IsBody t.parts.signed.payload body → has_known_hash body ≡ false → fault ≡ fault_of (number_of condition.hash_unknown) → IsShowRefused file fault
+  header : (t : Token) → IsToken file t → IsHeaderUnreadable t.parts.signed.protected t.outer → fault ≡ unplaced Condition.HeaderUnreadable → IsShowRefused file fault
+  payload : (t : Token) (head : Tree) → IsToken file t → IsHead t.parts.signed.protected t.outer head → IsNoObject t.parts.signed.payload → fault ≡ unplaced Condition.PayloadUnreadable → IsShowRefused file fault
+  hash : (t : Token) (head body : Tree) → IsToken file t → IsHead t.parts.signed.protected t.outer head → IsBody t.parts.signed.payload body → has_known_hash body ≡ false → fault ≡ unplaced Condition.HashUnknown → IsShowRefused file fault
   disclosure : (t : Token) (head body : Tree) → IsToken file t → IsHead t.parts.signed.protected t.outer head → IsShownPayload t.parts.signed.payload body → IsShowUnreadAt t.parts.disclosures fault → IsShowRefused file fault

@@ -10,7 +10,7 @@ ghost use Rattle.sdjwt_cli.specs.Telling.{TellsFault};
 use crate::form::Form;
 use crate::lines::as_line;
 use crate::stop::{Stop, refused};
-use compact_form::{FILE_MAX, Fault, Place, TOO_MUCH, print};
+use compact_form::{Condition, FILE_MAX, print};
 use json_form::{Token, TokenError, print_flat, print_general, read_token};
 use sd_outside::{NoMemory, TextBox};
 use std::alloc::Global;
@@ -40,11 +40,7 @@ fn convert_token(alloc: Global, form: Form, token: &Token) -> Result<String, Sto
     if text.len() <= FILE_MAX {
         return Ok(text);
     }
-    let fault = Fault {
-        number: TOO_MUCH,
-        place: Place::Nowhere,
-    };
-    Err(refused(alloc, &fault))
+    Err(refused(alloc, &Condition::TooMuch.fault()))
 }
 
 /// The answer to a token file: its token in a form, as a line.

@@ -1,7 +1,6 @@
 // The lines that the program writes to standard error.
 ghost use Rattle.std.specs.Prelude.{◌≡◌, IfOk, string_bytes};
 ghost use Rattle.sdjwt_cli.specs.Lines.{line, reason as reason_of, refusal, short_seed, unread_text, unreadable_line as line_of};
-ghost use Rattle.compact_form.specs.Condition.{Condition, number_of};
 
 use claim_tree::FileFault;
 use compact_form::Fault;
@@ -20,7 +19,7 @@ pub(crate) fn as_line(text: TextBox) -> Result<String, NoMemory>
 
 // The line of a condition that fails.
 pub(crate) fn refusal_line(alloc: Global, fault: &Fault) -> Result<String, NoMemory>
-    ensures { (condition : Condition) → fault.now.number ≡ number_of condition → IfOk result (λ text. string_bytes text ≡ refusal fault.now) }
+    ensures { IfOk result (λ text. string_bytes text ≡ refusal fault.now) }
 {
     as_line(fault_line(alloc, fault)?)
 }

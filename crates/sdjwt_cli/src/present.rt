@@ -8,20 +8,19 @@ ghost use Rattle.holder_core.specs.PresentFile.{IsPresentFileRefused, IsPresentF
 ghost use Rattle.holder_core.specs.declared.errors.PresentError.{PresentError};
 ghost use Rattle.sdjwt_cli.specs.Never.{Judges, never_rule};
 ghost use Rattle.sdjwt_cli.specs.Presenting.{signing_key, Presents, DoesNotPresent};
-ghost use Rattle.sdjwt_cli.specs.PresentingSteps.{HasLine, IsLineOf, IsRefusalOf};
+ghost use Rattle.sdjwt_cli.specs.PresentingSteps.{IsLineOf, IsRefusalOf};
 ghost use Rattle.sdjwt_cli.specs.Stops.{OnRefused, OnUnread, OnUnreadable};
 ghost use Rattle.sdjwt_cli.specs.Lines.{line};
 ghost use Rattle.sdjwt_cli.specs.Telling.{TellsFileFault};
 
-use crate::lines::{as_line, refusal_line};
+use crate::lines::as_line;
 use crate::never::may_be_shown;
 use crate::stop::{Stop, unreadable};
 use claim_tree::{Path, PathList};
 use compact_form::{Parts, print};
 use digest_index::Steps;
 use hmac_sign::{Hs256Key, KeyShort};
-use holder_core::{Ask, PresentError, PresentFile, read_present};
-use sd_outside::NoMemory;
+use holder_core::{Ask, PresentError, PresentFile, read_present, refusal_line};
 use selection_core::Consent;
 use std::alloc::Global;
 
@@ -62,27 +61,6 @@ fn present_parts(
     holder_core::present(alloc, token_file, ask, &consent, key, now, &mut steps)
 }
 
-// The line of a refusal of a token.
-fn present_line(alloc: Global, error: &PresentError) -> Result<String, NoMemory>
-    ensures { IfOk result (λ text. HasLine error.now (string_bytes text)) }
-{
-    match error {
-        PresentError::Memory | PresentError::SignFailed => Ok(String::new(alloc)),
-        PresentError::Token(fault) => refusal_line(alloc, fault),
-        PresentError::HasBinding => Ok(String::from_str(alloc, "refused 71 hasBinding\n")?),
-        PresentError::NoSuchPlace(k) => {
-            Ok(format!(in alloc; "refused 72 wantedNotThere at {k}\n")?)
-        }
-        PresentError::ConsentRefused(i) => {
-            Ok(format!(in alloc; "refused 73 consentRefused at {i}\n")?)
-        }
-        PresentError::BindingKeyDiffers => {
-            Ok(String::from_str(alloc, "refused 74 bindingKeyDiffers\n")?)
-        }
-        PresentError::TooLong => Ok(String::from_str(alloc, "refused 75 presentTooLong\n")?),
-    }
-}
-
 // What a present order says.
 fn order_of(alloc: Global, file: &[u8]) -> Result<PresentFile, Stop>
     ensures order { IfOk result (IsPresentFile file.now) }
@@ -107,7 +85,7 @@ fn told(alloc: Global, presented: Result<Parts, PresentError>) -> Result<String,
     match presented {
         Ok(parts) => Ok(as_line(print(alloc, &parts)?)?),
         Err(PresentError::Memory) => Err(Stop::Memory),
-        Err(error) => Err(Stop::Refused(present_line(alloc, &error)?)),
+        Err(error) => Err(Stop::Refused(as_line(refusal_line(alloc, &error)?)?)),
     }
 }
 

@@ -10,7 +10,8 @@ ghost use Rattle.jws_part.specs.Header.{IsHeaderUnreadable};
 ghost use Rattle.disclosure.specs.DisclosureRefusals.{IsDisclosureRefused};
 ghost use Rattle.compact_form.specs.Views.{jwt_of};
 ghost use Rattle.sdjwt_cli.specs.Lines.{line};
-ghost use Rattle.sdjwt_cli.specs.Show.{has_known_hash as has_known_hash_of, IsHead, kind_text, shown_line, IsShowUnreadAt, Shows, IsShowRefused, fault_of};
+ghost use Rattle.sdjwt_cli.specs.Show.{has_known_hash as has_known_hash_of, IsHead, kind_text, shown_line, IsShowUnreadAt, Shows, IsShowRefused};
+ghost use Rattle.compact_form.specs.Faults.{unplaced};
 ghost use Rattle.sdjwt_cli.specs.ShowSteps.{disclosure_shown, AddsLine, AddsLines, OnFails};
 ghost use Rattle.json_form.specs.Token.{IsToken};
 ghost use Rattle.sdjwt_cli.specs.declared.show.Unshown.TheVariants.{Fails};
@@ -20,10 +21,7 @@ ghost use Rattle.sdjwt_cli.specs.Telling.{TellsFault};
 use crate::split::push_binding;
 use crate::stop::{Stop, refused};
 use claim_tree::{JsonReader, Tree, TreeMap, write};
-use compact_form::{
-    DISCLOSURE_UNREADABLE, Fault, HASH_UNKNOWN, HEADER_UNREADABLE, JwtView, PAYLOAD_UNREADABLE,
-    Place,
-};
+use compact_form::{Condition, Fault, JwtView, Place};
 use disclosure::{Disclosure, DisclosureError, HashAlg, payload_hash, read_disclosure};
 use json_form::{Disclosures, TokenError, TokenText, TokenView};
 use jws_part::{BodyError, HeaderError, read_body, read_header};
@@ -150,23 +148,18 @@ fn push_all_shown(
             Ok(()) => (),
             Err(DisclosureError::Memory) => return Err(Unshown::Memory),
             Err(_) => {
-                return Err(Unshown::Fails(Fault {
-                    number: DISCLOSURE_UNREADABLE,
-                    place: Place::At(i),
-                }));
+                let unread = Condition::DisclosureUnreadable;
+                return Err(Unshown::Fails(unread.fault_at(Place::At(i))));
             }
         }
     }
     Ok(())
 }
 
-fn fails(number: u8) -> Unshown
-    ensures { result ≡ Fails (fault_of number) }
+fn fails(condition: Condition) -> Unshown
+    ensures { result ≡ Fails (unplaced condition) }
 {
-    Unshown::Fails(Fault {
-        number,
-        place: Place::Nowhere,
-    })
+    Unshown::Fails(condition.fault())
 }
 
 fn push_json(text: &mut String, word: &str, json: &str) -> Result<(), NoMemory>
@@ -201,16 +194,16 @@ fn show_view(alloc: Global, file: &[u8], token: &TokenView<'_>) -> Result<String
     } = token.signed();
     let head = match read_head(alloc, protected, token.outer()) {
         Ok(head) => head,
-        Err(BodyError::Unreadable) => return Err(fails(HEADER_UNREADABLE)),
+        Err(BodyError::Unreadable) => return Err(fails(Condition::HeaderUnreadable)),
         Err(BodyError::Memory) => return Err(Unshown::Memory),
     };
     let payload = match read_body(alloc, payload) {
         Ok(payload) => payload,
-        Err(BodyError::Unreadable) => return Err(fails(PAYLOAD_UNREADABLE)),
+        Err(BodyError::Unreadable) => return Err(fails(Condition::PayloadUnreadable)),
         Err(BodyError::Memory) => return Err(Unshown::Memory),
     };
     if !has_known_hash(&payload) {
-        return Err(fails(HASH_UNKNOWN));
+        return Err(fails(Condition::HashUnknown));
     }
     let mut text = start(alloc, &head, &payload, file.len())?;
     push_all_shown(alloc, &mut text, token.disclosures())?;

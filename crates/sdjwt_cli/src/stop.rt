@@ -1,7 +1,6 @@
 // Why a command has no answer.
 ghost use Rattle.std.specs.Prelude.{◌≡◌, ◌≢◌};
 ghost use Rattle.claim_tree.specs.declared.file_fault.FileFault.{FileFault};
-ghost use Rattle.compact_form.specs.Condition.{Condition, number_of};
 ghost use Rattle.sdjwt_cli.specs.Lines.{refusal, unreadable_line as line_of};
 ghost use Rattle.sdjwt_cli.specs.Stops.{OnRefused, OnUnread, OnUnreadable};
 ghost use Rattle.sdjwt_cli.specs.declared.stop.Stop.TheVariants.{Memory};
@@ -34,7 +33,7 @@ impl From<NoMemory> for Stop {
 
 // A condition fails: its line, where there is memory for it.
 pub(crate) fn refused(alloc: Global, fault: &Fault) -> Stop
-    ensures line { (condition : Condition) → fault.now.number ≡ number_of condition → OnRefused result (λ text. text ≡ refusal fault.now) }
+    ensures line { OnRefused result (λ text. text ≡ refusal fault.now) }
     ensures read { OnUnread result (λ _. ⊥) }
     ensures readable { OnUnreadable result (λ _. ⊥) }
 {

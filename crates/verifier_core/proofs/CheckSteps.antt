@@ -21,13 +21,14 @@ use Rattle.rebuild_core.specs.Answer.{IsPayload, IsProcessRefused}
 use Rattle.rebuild_core.specs.Conditions as opening
 use Rattle.rebuild_core.specs.Soundness as opening2
 use Rattle.rebuild_core.specs.declared.errors.ProcessError.{ProcessError}
-use Rattle.compact_form.specs.Condition as condition
+use Rattle.compact_form.specs.declared.condition.Condition.{Condition}
 use Rattle.verifier_core.specs.Verdict.{Rules, key_for, HasHeader, HasPayload, IsAlgRefused, IsTypeRefused, IsBadSignature, IsNoDisclosure, Gives, HasContent, OfContent, TokenFails, IsChecked}
 use Rattle.verifier_core.specs.Check.{OnFault, IsUncounted, IsUnopened, process_fault, IsSigned, IsSignedFault, bad_header, critical, bad_alg, bad_type, no_key, not_signed, IsPayloadFault, no_body, no_hash, IsUnreadAt}
 use Rattle.verifier_core.specs.declared.check.VerifyError.{VerifyError}
 use Rattle.verifier_core.proofs.TokenConditions.{finish, start}
 use Rattle.compact_form.specs.Lowest.{Unplaced, Numbered, IsLowest}
-use Rattle.compact_form.specs.Passing.{Passes, unplaced}
+use Rattle.compact_form.specs.Faults.{unplaced}
+use Rattle.compact_form.specs.Passing.{Passes}
 use Rattle.compact_form.proofs.Lowest.{holds_too, refuse_unplaced}
 use Rattle.verifier_core.proofs.LeastPlaces.{refuse_placed}
 
@@ -40,7 +41,7 @@ none_of : (P : Header → Type 0) (token : Token) (h : Header) → HasHeader tok
 none_of P token h has none place (is, (k, other, p)) = none (subst P (same_header token k h other has) p)
 
 good_signature : (token : Token) (rules : Rules) (h : Header) (key : List ℕ) → HasHeader token h → key_for rules.keys h.kid ≡ Some key → (IsBadSignature key token.parts.signed → ⊥)
-    → (place : Place) → TokenFails token rules condition.bad_signature place → ⊥
+    → (place : Place) → TokenFails token rules Condition.BadSignature place → ⊥
 good_signature token rules h key has key_is good place (is, (k, other, found, found_is, bad)) =
     let heads : k ≡ h = same_header token k h other has in
     let keys : Some found ≡ Some key = sym found_is ∙ (ap (λ (x : Header). key_for rules.keys x.kid) heads ∙ key_is) in
@@ -49,56 +50,56 @@ good_signature token rules h key has key_is good place (is, (k, other, found, fo
 
 at7 : (token : Token) (rules : Rules) (h : Header) → HasHeader token h → Passes 7 (TokenFails token rules)
 at7 token rules h has =
-    holds_too (TokenFails token rules) condition.header_critical
-    (holds_too (TokenFails token rules) condition.header_unreadable (start token rules) (λ place w. headers.read_not_unreadable token.parts.signed.protected token.outer h has w.1))
+    holds_too (TokenFails token rules) Condition.HeaderCritical
+    (holds_too (TokenFails token rules) Condition.HeaderUnreadable (start token rules) (λ place w. headers.read_not_unreadable token.parts.signed.protected token.outer h has w.1))
     (λ place w. headers.read_not_critical token.parts.signed.protected token.outer h has w.1)
 
 at8 : (token : Token) (rules : Rules) (h : Header) → HasHeader token h → (IsAlgRefused rules.algs h.alg → ⊥) → Passes 8 (TokenFails token rules)
-at8 token rules h has alg = holds_too (TokenFails token rules) condition.alg_refused (at7 token rules h has) (none_of (λ x. IsAlgRefused rules.algs x.alg) token h has alg)
+at8 token rules h has alg = holds_too (TokenFails token rules) Condition.AlgRefused (at7 token rules h has) (none_of (λ x. IsAlgRefused rules.algs x.alg) token h has alg)
 
 at9 : (token : Token) (rules : Rules) (h : Header) → HasHeader token h → (IsAlgRefused rules.algs h.alg → ⊥) → (IsTypeRefused rules.typ h.typ → ⊥) → Passes 9 (TokenFails token rules)
-at9 token rules h has alg typ = holds_too (TokenFails token rules) condition.type_refused (at8 token rules h has alg) (none_of (λ x. IsTypeRefused rules.typ x.typ) token h has typ)
+at9 token rules h has alg typ = holds_too (TokenFails token rules) Condition.TypeRefused (at8 token rules h has alg) (none_of (λ x. IsTypeRefused rules.typ x.typ) token h has typ)
 
 at10 : (token : Token) (rules : Rules) (h : Header) (key : List ℕ) → HasHeader token h → (IsAlgRefused rules.algs h.alg → ⊥) → (IsTypeRefused rules.typ h.typ → ⊥) → key_for rules.keys h.kid ≡ Some key
     → Passes 10 (TokenFails token rules)
 at10 token rules h key has alg typ key_is =
-    holds_too (TokenFails token rules) condition.issuer_key_unknown (at9 token rules h has alg typ)
+    holds_too (TokenFails token rules) Condition.IssuerKeyUnknown (at9 token rules h has alg typ)
     (none_of (λ x. key_for rules.keys x.kid ≡ None) token h has (λ none. let both : Some key ≡ None = sym key_is ∙ none in absurd (cc both)))
 
 pub signed_passes : (token : Token) (rules : Rules) → IsSigned token.parts.signed token.outer rules → Passes 11 (TokenFails token rules)
 signed_passes token rules s =
-    holds_too (TokenFails token rules) condition.bad_signature (at10 token rules s.header s.key s.is_header s.alg s.typ s.key_is)
+    holds_too (TokenFails token rules) Condition.BadSignature (at10 token rules s.header s.key s.is_header s.alg s.typ s.key_is)
     (good_signature token rules s.header s.key s.is_header s.key_is s.good)
 
 pub signed_fault : (token : Token) (rules : Rules) (fault : Fault) → IsSignedFault token.parts.signed token.outer rules fault → IsLowest (TokenFails token rules) fault
-signed_fault token rules fault (bad_header w is) = refuse_unplaced (TokenFails token rules) condition.header_unreadable fault is (start token rules) (refl, w)
+signed_fault token rules fault (bad_header w is) = refuse_unplaced (TokenFails token rules) Condition.HeaderUnreadable fault is (start token rules) (refl, w)
 signed_fault token rules fault (critical w is) =
-    refuse_unplaced (TokenFails token rules) condition.header_critical fault is
-    (holds_too (TokenFails token rules) condition.header_unreadable (start token rules) (λ place u. headers.critical_not_unreadable token.parts.signed.protected token.outer w u.1))
+    refuse_unplaced (TokenFails token rules) Condition.HeaderCritical fault is
+    (holds_too (TokenFails token rules) Condition.HeaderUnreadable (start token rules) (λ place u. headers.critical_not_unreadable token.parts.signed.protected token.outer w u.1))
     (refl, w)
-signed_fault token rules fault (bad_alg h has w is) = refuse_unplaced (TokenFails token rules) condition.alg_refused fault is (at7 token rules h has) (refl, (h, has, w))
-signed_fault token rules fault (bad_type h has alg w is) = refuse_unplaced (TokenFails token rules) condition.type_refused fault is (at8 token rules h has alg) (refl, (h, has, w))
-signed_fault token rules fault (no_key h has alg typ w is) = refuse_unplaced (TokenFails token rules) condition.issuer_key_unknown fault is (at9 token rules h has alg typ) (refl, (h, has, w))
+signed_fault token rules fault (bad_alg h has w is) = refuse_unplaced (TokenFails token rules) Condition.AlgRefused fault is (at7 token rules h has) (refl, (h, has, w))
+signed_fault token rules fault (bad_type h has alg w is) = refuse_unplaced (TokenFails token rules) Condition.TypeRefused fault is (at8 token rules h has alg) (refl, (h, has, w))
+signed_fault token rules fault (no_key h has alg typ w is) = refuse_unplaced (TokenFails token rules) Condition.IssuerKeyUnknown fault is (at9 token rules h has alg typ) (refl, (h, has, w))
 signed_fault token rules fault (not_signed h has alg typ key key_is w is) =
-    refuse_unplaced (TokenFails token rules) condition.bad_signature fault is (at10 token rules h key has alg typ key_is) (refl, (h, has, key, key_is, w))
+    refuse_unplaced (TokenFails token rules) Condition.BadSignature fault is (at10 token rules h key has alg typ key_is) (refl, (h, has, key, key_is, w))
 
 -- ---- one payload
 
 at12 : (token : Token) (rules : Rules) (body : Tree) → Passes 11 (TokenFails token rules) → HasPayload token body → Passes 12 (TokenFails token rules)
-at12 token rules body passes has = holds_too (TokenFails token rules) condition.payload_unreadable passes (λ place w. bodies.not_both token.parts.signed.payload body has w.1)
+at12 token rules body passes has = holds_too (TokenFails token rules) Condition.PayloadUnreadable passes (λ place w. bodies.not_both token.parts.signed.payload body has w.1)
 
 pub payload_passes : (token : Token) (rules : Rules) (body : Tree) (hash : HashAlg) → Passes 11 (TokenFails token rules) → HasPayload token body → payload_hash body ≡ Some hash → Passes 13 (TokenFails token rules)
-payload_passes token rules body hash passes has hash_is = holds_too (TokenFails token rules) condition.hash_unknown (at12 token rules body passes has) go
+payload_passes token rules body hash passes has hash_is = holds_too (TokenFails token rules) Condition.HashUnknown (at12 token rules body passes has) go
   where
-    go : (place : Place) → TokenFails token rules condition.hash_unknown place → ⊥
+    go : (place : Place) → TokenFails token rules Condition.HashUnknown place → ⊥
     go place (is, (other, other_has, none)) =
         let same : other ≡ body = bodies.one_body token.parts.signed.payload other body other_has has in
         let both : Some hash ≡ None = sym hash_is ∙ (ap payload_hash (sym same) ∙ none) in
         absurd (cc both)
 
 pub payload_fault : (token : Token) (rules : Rules) (fault : Fault) → Passes 11 (TokenFails token rules) → IsPayloadFault token.parts.signed.payload fault → IsLowest (TokenFails token rules) fault
-payload_fault token rules fault passes (no_body w is) = refuse_unplaced (TokenFails token rules) condition.payload_unreadable fault is passes (refl, w)
-payload_fault token rules fault passes (no_hash body has w is) = refuse_unplaced (TokenFails token rules) condition.hash_unknown fault is (at12 token rules body passes has) (refl, (body, has, w))
+payload_fault token rules fault passes (no_body w is) = refuse_unplaced (TokenFails token rules) Condition.PayloadUnreadable fault is passes (refl, w)
+payload_fault token rules fault passes (no_hash body has w is) = refuse_unplaced (TokenFails token rules) Condition.HashUnknown fault is (at12 token rules body passes has) (refl, (body, has, w))
 
 -- ---- one list of what is given
 
@@ -129,12 +130,12 @@ UnreadAt token i = (disclosure : Text) × StandsAt token.parts.disclosures i dis
 
 pub given_passes : (token : Token) (rules : Rules) (hash : HashAlg) (given : List Given) → Passes 13 (TokenFails token rules) → AllZip (Gives hash) token.parts.disclosures given → Passes 14 (TokenFails token rules)
 given_passes token rules hash given passes read =
-    holds_too (TokenFails token rules) condition.disclosure_unreadable passes (λ place w. all_read hash token.parts.disclosures given w.0 w.2.0 read w.2.1 w.2.2)
+    holds_too (TokenFails token rules) Condition.DisclosureUnreadable passes (λ place w. all_read hash token.parts.disclosures given w.0 w.2.0 read w.2.1 w.2.2)
 
 pub given_fault : (token : Token) (rules : Rules) (hash : HashAlg) (fault : Fault) → Passes 13 (TokenFails token rules) → IsUnreadAt hash token.parts.disclosures fault → IsLowest (TokenFails token rules) fault
 given_fault token rules hash fault passes u =
     subst (IsLowest (TokenFails token rules)) (sym u.fault_is)
-    (refuse_placed (TokenFails token rules) condition.disclosure_unreadable (UnreadAt token) u.i (λ place h. h) (λ h. (u.i, refl, h)) passes
+    (refuse_placed (TokenFails token rules) Condition.DisclosureUnreadable (UnreadAt token) u.i (λ place h. h) (λ h. (u.i, refl, h)) passes
     (record {
       fails = (u.disclosure, got_stands token.parts.disclosures u.i u.disclosure u.there, u.unread);
       first = λ j below w. front_read hash token.parts.disclosures u.before u.i j w.0 u.read below w.1 w.2;
@@ -191,73 +192,73 @@ abbrev Doubled : Tree → List Given → ℕ → Type 0
 Doubled p g i = opening.RepeatedDisclosure g i
 
 at15 : (token : Token) (rules : Rules) (p : Tree) (g : List Given) → HasContent token p g → Passes 14 (TokenFails token rules) → AtNone (opening.RepeatedDisclosure g) → Passes 15 (TokenFails token rules)
-at15 token rules p g has passes none = holds_too (TokenFails token rules) condition.repeated_disclosure passes (nowhere Doubled token p g has none)
+at15 token rules p g has passes none = holds_too (TokenFails token rules) Condition.RepeatedDisclosure passes (nowhere Doubled token p g has none)
 
 at16 : (token : Token) (rules : Rules) (p : Tree) (g : List Given) → HasContent token p g → Passes 15 (TokenFails token rules) → AtNone (opening.Misused p g) → Passes 16 (TokenFails token rules)
-at16 token rules p g has passes none = holds_too (TokenFails token rules) condition.reserved_misused passes (nowhere opening.Misused token p g has none)
+at16 token rules p g has passes none = holds_too (TokenFails token rules) Condition.ReservedMisused passes (nowhere opening.Misused token p g has none)
 
 at17 : (token : Token) (rules : Rules) (p : Tree) (g : List Given) → HasContent token p g → Passes 16 (TokenFails token rules) → AtNone (opening.RepeatedDigest p g) → Passes 17 (TokenFails token rules)
-at17 token rules p g has passes none = holds_too (TokenFails token rules) condition.repeated_digest passes (nowhere opening.RepeatedDigest token p g has none)
+at17 token rules p g has passes none = holds_too (TokenFails token rules) Condition.RepeatedDigest passes (nowhere opening.RepeatedDigest token p g has none)
 
 at18 : (token : Token) (rules : Rules) (p : Tree) (g : List Given) → HasContent token p g → Passes 14 (TokenFails token rules) → opening2.IsReferencedOnce p g → Passes 18 (TokenFails token rules)
 at18 token rules p g has passes r =
-    holds_too (TokenFails token rules) condition.unreferenced_disclosure
+    holds_too (TokenFails token rules) Condition.UnreferencedDisclosure
     (at17 token rules p g has (at16 token rules p g has (at15 token rules p g has passes r.no_repeated_disclosure) r.no_misuse) r.no_repeated_digest)
     (nowhere opening.Unreferenced token p g has r.no_unreferenced)
 
 at19 : (token : Token) (rules : Rules) (p : Tree) (g : List Given) → HasContent token p g → Passes 18 (TokenFails token rules) → AtNone (opening.WrongShape p g) → Passes 19 (TokenFails token rules)
-at19 token rules p g has passes none = holds_too (TokenFails token rules) condition.wrong_shape passes (nowhere opening.WrongShape token p g has none)
+at19 token rules p g has passes none = holds_too (TokenFails token rules) Condition.WrongShape passes (nowhere opening.WrongShape token p g has none)
 
 at20 : (token : Token) (rules : Rules) (p : Tree) (g : List Given) → HasContent token p g → Passes 19 (TokenFails token rules) → AtNone (opening.ReservedName p g) → Passes 20 (TokenFails token rules)
-at20 token rules p g has passes none = holds_too (TokenFails token rules) condition.reserved_name passes (nowhere opening.ReservedName token p g has none)
+at20 token rules p g has passes none = holds_too (TokenFails token rules) Condition.ReservedName passes (nowhere opening.ReservedName token p g has none)
 
 at21 : (token : Token) (rules : Rules) (p : Tree) (g : List Given) → HasContent token p g → Passes 14 (TokenFails token rules) → opening2.IsReferencedOnce p g → opening2.IsWellNamed p g → Passes 21 (TokenFails token rules)
 at21 token rules p g has passes r n =
-    holds_too (TokenFails token rules) condition.name_clash
+    holds_too (TokenFails token rules) Condition.NameClash
     (at20 token rules p g has (at19 token rules p g has (at18 token rules p g has passes r) n.no_wrong_shape) n.no_reserved_name)
     (nowhere opening.NameClash token p g has n.no_name_clash)
 
-shallow : (token : Token) (rules : Rules) (p : Tree) (g : List Given) → HasContent token p g → depth (strip (processed p g)) ≤ 100 → (place : Place) → TokenFails token rules condition.too_deep place → ⊥
+shallow : (token : Token) (rules : Rules) (p : Tree) (g : List Given) → HasContent token p g → depth (strip (processed p g)) ≤ 100 → (place : Place) → TokenFails token rules Condition.TooDeep place → ⊥
 shallow token rules p g has low place (is, (q, h, other, deep)) =
     let same = one_content token q p h g other has in
     let here_deep : opening.IsTooDeep p g = subst (λ x. opening.IsTooDeep p x) same.1 (subst (λ x. opening.IsTooDeep x h) same.0 deep) in
     absurd (omega (arith, low, here_deep))
 
 pub content_passes : (token : Token) (rules : Rules) (p : Tree) (g : List Given) → HasContent token p g → Passes 14 (TokenFails token rules) → opening2.IsSound p g → Passes 22 (TokenFails token rules)
-content_passes token rules p g has passes s = holds_too (TokenFails token rules) condition.too_deep (at21 token rules p g has passes s.referenced s.named) (shallow token rules p g has s.shallow)
+content_passes token rules p g has passes s = holds_too (TokenFails token rules) Condition.TooDeep (at21 token rules p g has passes s.referenced s.named) (shallow token rules p g has s.shallow)
 
 -- a refusal to process is the lowest condition that fails
 pub content_fault : (token : Token) (rules : Rules) (p : Tree) (g : List Given) → HasContent token p g → Passes 14 (TokenFails token rules) → (e : ProcessError) → IsProcessRefused p g e
     → OnFault (process_fault e) (IsLowest (TokenFails token rules))
 content_fault token rules p g has passes ProcessError.Memory r = tt
 content_fault token rules p g has passes (ProcessError.RepeatedDisclosure i) r =
-    refuse_placed (TokenFails token rules) condition.repeated_disclosure (OfContent Doubled token) i (λ place h. h) (λ h. (i, refl, h)) passes (least Doubled token p g has i r)
+    refuse_placed (TokenFails token rules) Condition.RepeatedDisclosure (OfContent Doubled token) i (λ place h. h) (λ h. (i, refl, h)) passes (least Doubled token p g has i r)
 content_fault token rules p g has passes (ProcessError.ReservedMisused i) r =
-    refuse_placed (TokenFails token rules) condition.reserved_misused (OfContent opening.Misused token) i (λ place h. h) (λ h. (i, refl, h))
+    refuse_placed (TokenFails token rules) Condition.ReservedMisused (OfContent opening.Misused token) i (λ place h. h) (λ h. (i, refl, h))
     (at15 token rules p g has passes r.0)
     (least opening.Misused token p g has i r.1)
 content_fault token rules p g has passes (ProcessError.RepeatedDigest i) r =
-    refuse_placed (TokenFails token rules) condition.repeated_digest (OfContent opening.RepeatedDigest token) i (λ place h. h) (λ h. (i, refl, h))
+    refuse_placed (TokenFails token rules) Condition.RepeatedDigest (OfContent opening.RepeatedDigest token) i (λ place h. h) (λ h. (i, refl, h))
     (at16 token rules p g has (at15 token rules p g has passes r.0) r.1)
     (least opening.RepeatedDigest token p g has i r.2)
 content_fault token rules p g has passes (ProcessError.Unreferenced i) r =
-    refuse_placed (TokenFails token rules) condition.unreferenced_disclosure (OfContent opening.Unreferenced token) i (λ place h. h) (λ h. (i, refl, h))
+    refuse_placed (TokenFails token rules) Condition.UnreferencedDisclosure (OfContent opening.Unreferenced token) i (λ place h. h) (λ h. (i, refl, h))
     (at17 token rules p g has (at16 token rules p g has (at15 token rules p g has passes r.0) r.1) r.2)
     (least opening.Unreferenced token p g has i r.3)
 content_fault token rules p g has passes (ProcessError.WrongShape i) r =
-    refuse_placed (TokenFails token rules) condition.wrong_shape (OfContent opening.WrongShape token) i (λ place h. h) (λ h. (i, refl, h))
+    refuse_placed (TokenFails token rules) Condition.WrongShape (OfContent opening.WrongShape token) i (λ place h. h) (λ h. (i, refl, h))
     (at18 token rules p g has passes r.0)
     (least opening.WrongShape token p g has i r.1)
 content_fault token rules p g has passes (ProcessError.ReservedName i) r =
-    refuse_placed (TokenFails token rules) condition.reserved_name (OfContent opening.ReservedName token) i (λ place h. h) (λ h. (i, refl, h))
+    refuse_placed (TokenFails token rules) Condition.ReservedName (OfContent opening.ReservedName token) i (λ place h. h) (λ h. (i, refl, h))
     (at19 token rules p g has (at18 token rules p g has passes r.0) r.1)
     (least opening.ReservedName token p g has i r.2)
 content_fault token rules p g has passes (ProcessError.NameClash i) r =
-    refuse_placed (TokenFails token rules) condition.name_clash (OfContent opening.NameClash token) i (λ place h. h) (λ h. (i, refl, h))
+    refuse_placed (TokenFails token rules) Condition.NameClash (OfContent opening.NameClash token) i (λ place h. h) (λ h. (i, refl, h))
     (at20 token rules p g has (at19 token rules p g has (at18 token rules p g has passes r.0) r.1) r.2)
     (least opening.NameClash token p g has i r.3)
 content_fault token rules p g has passes ProcessError.TooDeep r =
-    refuse_unplaced (TokenFails token rules) condition.too_deep (unplaced 21) refl (at21 token rules p g has passes r.0 r.1) (refl, (p, g, has, r.2))
+    refuse_unplaced (TokenFails token rules) Condition.TooDeep (unplaced Condition.TooDeep) refl (at21 token rules p g has passes r.0 r.1) (refl, (p, g, has, r.2))
 
 -- ---- from step to step
 
@@ -300,5 +301,5 @@ content_checked token rules p g marked has passes sound is = record {
 -- ---- what is looked up
 
 -- only where the conditions 1 to 13 are passed
-pub passed_uncounted : (FailsSo : condition.Condition → Place → Type 0) (old new : ℕ) → Passes 14 FailsSo → IsUncounted FailsSo old new
+pub passed_uncounted : (FailsSo : Condition → Place → Type 0) (old new : ℕ) → Passes 14 FailsSo → IsUncounted FailsSo old new
 passed_uncounted FailsSo old new passes c place h low = let high = passes c place h in absurd (omega (arith, high, low))

@@ -7,7 +7,8 @@ use Rattle.claim_tree.specs.View.{tree_of}
 use Rattle.claim_tree.specs.declared.tree.Tree as tree
 use Rattle.claim_tree.specs.Lists.{StandsAt}
 use Rattle.claim_tree.proofs.Lists.{At-same}
-use Rattle.compact_form.specs.Condition.{Condition, number_of, too_long, form, too_much, binding_missing, header_unreadable, header_critical, alg_refused, type_refused, issuer_key_unknown, bad_signature, payload_unreadable, hash_unknown, disclosure_unreadable, repeated_disclosure, reserved_misused, repeated_digest, unreferenced_disclosure, wrong_shape, reserved_name, name_clash, too_deep, issuer_refused, claim_missing, time_unreadable, expired, not_yet, holder_key_unknown, binding_header, binding_alg, binding_signature, binding_type, binding_payload, binding_stale, binding_early, nonce_differs, audience_differs, hash_differs, binding_time}
+use Rattle.compact_form.specs.declared.condition.Condition.{Condition}
+use Rattle.compact_form.specs.Condition.{number_of}
 use Rattle.verifier_core.specs.Verdict.{ClaimFails}
 use Rattle.verifier_core.specs.declared.policy.Policy.{Policy}
 use Rattle.compact_form.specs.Passing.{Passes}
@@ -15,44 +16,44 @@ use Rattle.compact_form.proofs.Lowest.{holds_too}
 
 -- a condition on the claims has a number from 22 to 26
 pub claim_numbers : (payload : Tree) (policy : Policy) (now : ℕ) (c : Condition) (place : Place) → ClaimFails payload policy now c place → (21 < number_of c) × (number_of c < 27)
-claim_numbers payload policy now issuer_refused place h = (omega arith, omega arith)
-claim_numbers payload policy now claim_missing place h = (omega arith, omega arith)
-claim_numbers payload policy now time_unreadable place h = (omega arith, omega arith)
-claim_numbers payload policy now expired place h = (omega arith, omega arith)
-claim_numbers payload policy now not_yet place h = (omega arith, omega arith)
-claim_numbers payload policy now too_long place h = absurd h
-claim_numbers payload policy now form place h = absurd h
-claim_numbers payload policy now too_much place h = absurd h
-claim_numbers payload policy now binding_missing place h = absurd h
-claim_numbers payload policy now header_unreadable place h = absurd h
-claim_numbers payload policy now header_critical place h = absurd h
-claim_numbers payload policy now alg_refused place h = absurd h
-claim_numbers payload policy now type_refused place h = absurd h
-claim_numbers payload policy now issuer_key_unknown place h = absurd h
-claim_numbers payload policy now bad_signature place h = absurd h
-claim_numbers payload policy now payload_unreadable place h = absurd h
-claim_numbers payload policy now hash_unknown place h = absurd h
-claim_numbers payload policy now disclosure_unreadable place h = absurd h
-claim_numbers payload policy now repeated_disclosure place h = absurd h
-claim_numbers payload policy now reserved_misused place h = absurd h
-claim_numbers payload policy now repeated_digest place h = absurd h
-claim_numbers payload policy now unreferenced_disclosure place h = absurd h
-claim_numbers payload policy now wrong_shape place h = absurd h
-claim_numbers payload policy now reserved_name place h = absurd h
-claim_numbers payload policy now name_clash place h = absurd h
-claim_numbers payload policy now too_deep place h = absurd h
-claim_numbers payload policy now holder_key_unknown place h = absurd h
-claim_numbers payload policy now binding_header place h = absurd h
-claim_numbers payload policy now binding_alg place h = absurd h
-claim_numbers payload policy now binding_signature place h = absurd h
-claim_numbers payload policy now binding_type place h = absurd h
-claim_numbers payload policy now binding_payload place h = absurd h
-claim_numbers payload policy now binding_stale place h = absurd h
-claim_numbers payload policy now binding_early place h = absurd h
-claim_numbers payload policy now nonce_differs place h = absurd h
-claim_numbers payload policy now audience_differs place h = absurd h
-claim_numbers payload policy now hash_differs place h = absurd h
-claim_numbers payload policy now binding_time place h = absurd h
+claim_numbers payload policy now Condition.IssuerRefused place h = (omega arith, omega arith)
+claim_numbers payload policy now Condition.ClaimMissing place h = (omega arith, omega arith)
+claim_numbers payload policy now Condition.TimeUnreadable place h = (omega arith, omega arith)
+claim_numbers payload policy now Condition.Expired place h = (omega arith, omega arith)
+claim_numbers payload policy now Condition.NotYet place h = (omega arith, omega arith)
+claim_numbers payload policy now Condition.TooLong place h = absurd h
+claim_numbers payload policy now Condition.Form place h = absurd h
+claim_numbers payload policy now Condition.TooMuch place h = absurd h
+claim_numbers payload policy now Condition.BindingMissing place h = absurd h
+claim_numbers payload policy now Condition.HeaderUnreadable place h = absurd h
+claim_numbers payload policy now Condition.HeaderCritical place h = absurd h
+claim_numbers payload policy now Condition.AlgRefused place h = absurd h
+claim_numbers payload policy now Condition.TypeRefused place h = absurd h
+claim_numbers payload policy now Condition.IssuerKeyUnknown place h = absurd h
+claim_numbers payload policy now Condition.BadSignature place h = absurd h
+claim_numbers payload policy now Condition.PayloadUnreadable place h = absurd h
+claim_numbers payload policy now Condition.HashUnknown place h = absurd h
+claim_numbers payload policy now Condition.DisclosureUnreadable place h = absurd h
+claim_numbers payload policy now Condition.RepeatedDisclosure place h = absurd h
+claim_numbers payload policy now Condition.ReservedMisused place h = absurd h
+claim_numbers payload policy now Condition.RepeatedDigest place h = absurd h
+claim_numbers payload policy now Condition.UnreferencedDisclosure place h = absurd h
+claim_numbers payload policy now Condition.WrongShape place h = absurd h
+claim_numbers payload policy now Condition.ReservedName place h = absurd h
+claim_numbers payload policy now Condition.NameClash place h = absurd h
+claim_numbers payload policy now Condition.TooDeep place h = absurd h
+claim_numbers payload policy now Condition.HolderKeyUnknown place h = absurd h
+claim_numbers payload policy now Condition.BindingHeader place h = absurd h
+claim_numbers payload policy now Condition.BindingAlg place h = absurd h
+claim_numbers payload policy now Condition.BindingSignature place h = absurd h
+claim_numbers payload policy now Condition.BindingType place h = absurd h
+claim_numbers payload policy now Condition.BindingPayload place h = absurd h
+claim_numbers payload policy now Condition.BindingStale place h = absurd h
+claim_numbers payload policy now Condition.BindingEarly place h = absurd h
+claim_numbers payload policy now Condition.NonceDiffers place h = absurd h
+claim_numbers payload policy now Condition.AudienceDiffers place h = absurd h
+claim_numbers payload policy now Condition.HashDiffers place h = absurd h
+claim_numbers payload policy now Condition.BindingTime place h = absurd h
 
 -- ---- one condition after another
 
@@ -61,16 +62,16 @@ module _ (payload : Tree) (policy : Policy) (now : ℕ) where
   before_issuer c place h = let n = claim_numbers payload policy now c place h in omega (arith, n.0)
 
   pub before_missing : ((iss : Text) → policy.iss ≡ Some iss → get payload (codes "iss") ≢ Some (leaf (text iss)) → ⊥) → Passes 23 (ClaimFails payload policy now)
-  before_missing holds = holds_too (ClaimFails payload policy now) issuer_refused before_issuer (λ place h. holds h.1.0 h.1.1 h.1.2)
+  before_missing holds = holds_too (ClaimFails payload policy now) Condition.IssuerRefused before_issuer (λ place h. holds h.1.0 h.1.1 h.1.2)
 
   pub before_times : Passes 23 (ClaimFails payload policy now) → ((i : ℕ) (name : Text) → StandsAt policy.require i name → get payload name ≢ None) → Passes 24 (ClaimFails payload policy now)
-  before_times below holds = holds_too (ClaimFails payload policy now) claim_missing below (λ place h. holds h.0 h.2.0 h.2.1 h.2.2)
+  before_times below holds = holds_too (ClaimFails payload policy now) Condition.ClaimMissing below (λ place h. holds h.0 h.2.0 h.2.1 h.2.2)
 
   pub before_expiry : Passes 24 (ClaimFails payload policy now) → (IsTimeUnreadable payload → ⊥) → Passes 25 (ClaimFails payload policy now)
-  before_expiry below holds = holds_too (ClaimFails payload policy now) time_unreadable below (λ place h. holds h.1)
+  before_expiry below holds = holds_too (ClaimFails payload policy now) Condition.TimeUnreadable below (λ place h. holds h.1)
 
   pub before_start : Passes 25 (ClaimFails payload policy now) → (IsExpired payload policy.skew now → ⊥) → Passes 26 (ClaimFails payload policy now)
-  before_start below holds = holds_too (ClaimFails payload policy now) expired below (λ place h. holds h.1)
+  before_start below holds = holds_too (ClaimFails payload policy now) Condition.Expired below (λ place h. holds h.1)
 
 -- the first so many names are names of claims
 abbrev pub HasFirst : Tree → List Text → ℕ → Type 0

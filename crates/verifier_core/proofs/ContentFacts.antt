@@ -7,7 +7,7 @@ use Rattle.claim_tree.specs.Lists.{In}
 use Rattle.claim_tree.proofs.MapPlaces.{ordered-removed}
 use Rattle.claim_tree.proofs.ReadOrdered.{reads_ordered}
 use Rattle.compact_form.specs.declared.fault.Place.TheVariants.{Nowhere, At}
-use Rattle.compact_form.specs.Condition as condition
+use Rattle.compact_form.specs.declared.condition.Condition.{Condition}
 use Rattle.compact_form.specs.Lowest.{NoneFails}
 use Rattle.digest_sites.specs.Given.{Given}
 use Rattle.disclosure.specs.declared.digests.HashAlg.{HashAlg}
@@ -49,15 +49,15 @@ content_readable token p g has = record {
 pub content_sound : (token : Token) (rules : Rules) (p : Tree) (g : List Given) → HasContent token p g → NoneFails (TokenFails token rules) → IsSound p g
 content_sound token rules p g has none = record {
   referenced = record {
-    no_repeated_disclosure = λ i h. none condition.repeated_disclosure (At i) (i, refl, (p, g, has, h));
-    no_misuse = λ i h. none condition.reserved_misused (At i) (i, refl, (p, g, has, h));
-    no_repeated_digest = λ i h. none condition.repeated_digest (At i) (i, refl, (p, g, has, h));
-    no_unreferenced = λ i h. none condition.unreferenced_disclosure (At i) (i, refl, (p, g, has, h));
+    no_repeated_disclosure = λ i h. none Condition.RepeatedDisclosure (At i) (i, refl, (p, g, has, h));
+    no_misuse = λ i h. none Condition.ReservedMisused (At i) (i, refl, (p, g, has, h));
+    no_repeated_digest = λ i h. none Condition.RepeatedDigest (At i) (i, refl, (p, g, has, h));
+    no_unreferenced = λ i h. none Condition.UnreferencedDisclosure (At i) (i, refl, (p, g, has, h));
   };
   named = record {
-    no_wrong_shape = λ i h. none condition.wrong_shape (At i) (i, refl, (p, g, has, h));
-    no_reserved_name = λ i h. none condition.reserved_name (At i) (i, refl, (p, g, has, h));
-    no_name_clash = λ i h. none condition.name_clash (At i) (i, refl, (p, g, has, h));
+    no_wrong_shape = λ i h. none Condition.WrongShape (At i) (i, refl, (p, g, has, h));
+    no_reserved_name = λ i h. none Condition.ReservedName (At i) (i, refl, (p, g, has, h));
+    no_name_clash = λ i h. none Condition.NameClash (At i) (i, refl, (p, g, has, h));
   };
-  shallow = (let low = lt_of_not-le (λ more. none condition.too_deep Nowhere (refl, (p, g, has, more))) in omega (arith, low));
+  shallow = (let low = lt_of_not-le (λ more. none Condition.TooDeep Nowhere (refl, (p, g, has, more))) in omega (arith, low));
 }

@@ -2,12 +2,13 @@
 use Rattle.std.proofs.Common.{ℕ, ◌<◌, ◌≤◌, refl, sym, subst, arith}
 use Rattle.compact_form.specs.declared.fault.Place.{Place}
 use Rattle.compact_form.specs.declared.fault.Place.TheVariants.{At}
-use Rattle.compact_form.specs.Condition.{Condition, number_of}
+use Rattle.compact_form.specs.declared.condition.Condition.{Condition}
+use Rattle.compact_form.specs.Condition.{number_of}
 use Rattle.compact_form.specs.Lowest.{Numbered, IsNoLater, IsLowest}
+use Rattle.compact_form.specs.Faults.{placed}
 use Rattle.compact_form.specs.Passing.{Passes}
 use Rattle.compact_form.proofs.Lowest.{lowest_at}
 use Rattle.claim_tree.specs.Lists.{IsLeast, AtNone as NoPlace}
-use Rattle.verifier_core.specs.Check.{placed}
 
 -- a least number is the least place
 pub first_numbered : (FailsAt : ℕ → Type 0) (i : ℕ) → IsLeast FailsAt i → (place : Place) → Numbered FailsAt place → IsNoLater (At i) place
@@ -22,6 +23,6 @@ none_numbered FailsAt none place h = none h.0 h.2
 
 -- a condition at its least place
 pub refuse_placed : (FailsSo : Condition → Place → Type 0) (d : Condition) (FailsAt : ℕ → Type 0) (i : ℕ)
-    → ((place : Place) → FailsSo d place → Numbered FailsAt place) → (FailsAt i → FailsSo d (At i)) → Passes (number_of d) FailsSo → IsLeast FailsAt i → IsLowest FailsSo (placed (number_of d) i)
+    → ((place : Place) → FailsSo d place → Numbered FailsAt place) → (FailsAt i → FailsSo d (At i)) → Passes (number_of d) FailsSo → IsLeast FailsAt i → IsLowest FailsSo (placed d i)
 refuse_placed FailsSo d FailsAt i into back passes least =
-    lowest_at FailsSo d (placed (number_of d) i) refl passes (back least.fails) (λ place h. first_numbered FailsAt i least place (into place h))
+    lowest_at FailsSo d (placed d i) refl passes (back least.fails) (λ place h. first_numbered FailsAt i least place (into place h))

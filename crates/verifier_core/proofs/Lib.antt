@@ -1,4 +1,3 @@
-pub mod Numbers
 pub mod LeastPlaces
 pub mod ClaimSteps
 pub mod Policies

@@ -1,5 +1,5 @@
 -- A text is accepted or refused, in one way.
-use Rattle.std.proofs.Common.{◌≡◌, ℕ, List, [], sym, ap, ap₂, subst, ◌∙◌, arith}
+use Rattle.std.proofs.Common.{◌≡◌, ℕ, List, [], sym, ap, subst, ◌∙◌, arith}
 use Rattle.compact_form.specs.declared.fault.Fault.{Fault}
 use Rattle.compact_form.specs.declared.fault.Place.{Place}
 use Rattle.compact_form.specs.declared.fault.Place.TheVariants.{Nowhere, At}
@@ -15,11 +15,11 @@ use Rattle.json_form.specs.Token.{IsMisformed}
 use Rattle.json_form.proofs.Tokens as tokens
 use Rattle.claim_tree.specs.Tree.{Tree}
 use Rattle.marked_tree.specs.Marked.{Marked, strip}
-use Rattle.compact_form.specs.Condition.{Condition, too_long, form, too_much, binding_missing, header_unreadable, header_critical, alg_refused, type_refused, issuer_key_unknown, bad_signature, payload_unreadable, hash_unknown, disclosure_unreadable, repeated_disclosure, reserved_misused, repeated_digest, unreferenced_disclosure, wrong_shape, reserved_name, name_clash, too_deep, issuer_refused, claim_missing, time_unreadable, expired, not_yet, holder_key_unknown, binding_header, binding_alg, binding_signature, binding_type, binding_payload, binding_stale, binding_early, nonce_differs, audience_differs, hash_differs, binding_time}
+use Rattle.compact_form.specs.declared.condition.Condition.{Condition}
 use Rattle.verifier_core.specs.Verdict.{Rules, TokenFails, ClaimFails, MissingFails, HolderFails, FileFails, Fails, of_file, of_missing, of_token, of_claims, of_holder, rules_of, Opens, IsAccepted}
 use Rattle.verifier_core.specs.declared.policy.Policy.{Policy}
 use Rattle.compact_form.specs.Lowest.{IsNoLater, IsLowest}
-use Rattle.compact_form.proofs.Numbers.{one_condition}
+use Rattle.compact_form.proofs.Numbers.{one_condition, same_fault}
 use Rattle.compact_form.proofs.Lowest.{one_failed, one_number}
 use Rattle.verifier_core.proofs.Verdicts.{one_opening}
 
@@ -32,16 +32,16 @@ data Kind : Type 0 where
   in_text : Kind
 
 abbrev kind_of : Condition → Kind
-kind_of form = in_text
-kind_of disclosure_unreadable = at_number
-kind_of repeated_disclosure = at_number
-kind_of reserved_misused = at_number
-kind_of repeated_digest = at_number
-kind_of unreferenced_disclosure = at_number
-kind_of wrong_shape = at_number
-kind_of reserved_name = at_number
-kind_of name_clash = at_number
-kind_of claim_missing = at_number
+kind_of Condition.Form = in_text
+kind_of Condition.DisclosureUnreadable = at_number
+kind_of Condition.RepeatedDisclosure = at_number
+kind_of Condition.ReservedMisused = at_number
+kind_of Condition.RepeatedDigest = at_number
+kind_of Condition.UnreferencedDisclosure = at_number
+kind_of Condition.WrongShape = at_number
+kind_of Condition.ReservedName = at_number
+kind_of Condition.NameClash = at_number
+kind_of Condition.ClaimMissing = at_number
 kind_of _ = no_place
 
 abbrev Suits : List ℕ → Kind → Place → Type 0
@@ -51,9 +51,6 @@ Suits content in_text place = IsMisformed (trimmed content) place
 
 abbrev at : ℕ → Place
 at i = At i
-
-abbrev fault_of : ℕ → Place → Fault
-fault_of number place = record { number = number; place = place }
 
 -- two places of one condition, neither of which is later, are one
 one_place : (content : List ℕ) (kind : Kind) (p q : Place) → Suits content kind p → Suits content kind q → IsNoLater p q → IsNoLater q p → p ≡ q
@@ -67,94 +64,94 @@ one_place content in_text p q h k l m = tokens.one_place (trimmed content) p q h
 
 module _ (content : List ℕ) where
   token_place : (token : Token) (rules : Rules) (c : Condition) (place : Place) → TokenFails token rules c place → Suits content (kind_of c) place
-  token_place token rules too_long place h = absurd h
-  token_place token rules form place h = absurd h
-  token_place token rules too_much place h = absurd h
-  token_place token rules binding_missing place h = absurd h
-  token_place token rules header_unreadable place h = h.0
-  token_place token rules header_critical place h = h.0
-  token_place token rules alg_refused place h = h.0
-  token_place token rules type_refused place h = h.0
-  token_place token rules issuer_key_unknown place h = h.0
-  token_place token rules bad_signature place h = h.0
-  token_place token rules payload_unreadable place h = h.0
-  token_place token rules hash_unknown place h = h.0
-  token_place token rules disclosure_unreadable place h = (h.0, h.1)
-  token_place token rules repeated_disclosure place h = (h.0, h.1)
-  token_place token rules reserved_misused place h = (h.0, h.1)
-  token_place token rules repeated_digest place h = (h.0, h.1)
-  token_place token rules unreferenced_disclosure place h = (h.0, h.1)
-  token_place token rules wrong_shape place h = (h.0, h.1)
-  token_place token rules reserved_name place h = (h.0, h.1)
-  token_place token rules name_clash place h = (h.0, h.1)
-  token_place token rules too_deep place h = h.0
-  token_place token rules issuer_refused place h = absurd h
-  token_place token rules claim_missing place h = absurd h
-  token_place token rules time_unreadable place h = absurd h
-  token_place token rules expired place h = absurd h
-  token_place token rules not_yet place h = absurd h
-  token_place token rules holder_key_unknown place h = absurd h
-  token_place token rules binding_header place h = absurd h
-  token_place token rules binding_alg place h = absurd h
-  token_place token rules binding_signature place h = absurd h
-  token_place token rules binding_type place h = absurd h
-  token_place token rules binding_payload place h = absurd h
-  token_place token rules binding_stale place h = absurd h
-  token_place token rules binding_early place h = absurd h
-  token_place token rules nonce_differs place h = absurd h
-  token_place token rules audience_differs place h = absurd h
-  token_place token rules hash_differs place h = absurd h
-  token_place token rules binding_time place h = absurd h
+  token_place token rules Condition.TooLong place h = absurd h
+  token_place token rules Condition.Form place h = absurd h
+  token_place token rules Condition.TooMuch place h = absurd h
+  token_place token rules Condition.BindingMissing place h = absurd h
+  token_place token rules Condition.HeaderUnreadable place h = h.0
+  token_place token rules Condition.HeaderCritical place h = h.0
+  token_place token rules Condition.AlgRefused place h = h.0
+  token_place token rules Condition.TypeRefused place h = h.0
+  token_place token rules Condition.IssuerKeyUnknown place h = h.0
+  token_place token rules Condition.BadSignature place h = h.0
+  token_place token rules Condition.PayloadUnreadable place h = h.0
+  token_place token rules Condition.HashUnknown place h = h.0
+  token_place token rules Condition.DisclosureUnreadable place h = (h.0, h.1)
+  token_place token rules Condition.RepeatedDisclosure place h = (h.0, h.1)
+  token_place token rules Condition.ReservedMisused place h = (h.0, h.1)
+  token_place token rules Condition.RepeatedDigest place h = (h.0, h.1)
+  token_place token rules Condition.UnreferencedDisclosure place h = (h.0, h.1)
+  token_place token rules Condition.WrongShape place h = (h.0, h.1)
+  token_place token rules Condition.ReservedName place h = (h.0, h.1)
+  token_place token rules Condition.NameClash place h = (h.0, h.1)
+  token_place token rules Condition.TooDeep place h = h.0
+  token_place token rules Condition.IssuerRefused place h = absurd h
+  token_place token rules Condition.ClaimMissing place h = absurd h
+  token_place token rules Condition.TimeUnreadable place h = absurd h
+  token_place token rules Condition.Expired place h = absurd h
+  token_place token rules Condition.NotYet place h = absurd h
+  token_place token rules Condition.HolderKeyUnknown place h = absurd h
+  token_place token rules Condition.BindingHeader place h = absurd h
+  token_place token rules Condition.BindingAlg place h = absurd h
+  token_place token rules Condition.BindingSignature place h = absurd h
+  token_place token rules Condition.BindingType place h = absurd h
+  token_place token rules Condition.BindingPayload place h = absurd h
+  token_place token rules Condition.BindingStale place h = absurd h
+  token_place token rules Condition.BindingEarly place h = absurd h
+  token_place token rules Condition.NonceDiffers place h = absurd h
+  token_place token rules Condition.AudienceDiffers place h = absurd h
+  token_place token rules Condition.HashDiffers place h = absurd h
+  token_place token rules Condition.BindingTime place h = absurd h
 
   claim_place : (payload : Tree) (policy : Policy) (now : ℕ) (c : Condition) (place : Place) → ClaimFails payload policy now c place → Suits content (kind_of c) place
-  claim_place payload policy now too_long place h = absurd h
-  claim_place payload policy now form place h = absurd h
-  claim_place payload policy now too_much place h = absurd h
-  claim_place payload policy now binding_missing place h = absurd h
-  claim_place payload policy now header_unreadable place h = absurd h
-  claim_place payload policy now header_critical place h = absurd h
-  claim_place payload policy now alg_refused place h = absurd h
-  claim_place payload policy now type_refused place h = absurd h
-  claim_place payload policy now issuer_key_unknown place h = absurd h
-  claim_place payload policy now bad_signature place h = absurd h
-  claim_place payload policy now payload_unreadable place h = absurd h
-  claim_place payload policy now hash_unknown place h = absurd h
-  claim_place payload policy now disclosure_unreadable place h = absurd h
-  claim_place payload policy now repeated_disclosure place h = absurd h
-  claim_place payload policy now reserved_misused place h = absurd h
-  claim_place payload policy now repeated_digest place h = absurd h
-  claim_place payload policy now unreferenced_disclosure place h = absurd h
-  claim_place payload policy now wrong_shape place h = absurd h
-  claim_place payload policy now reserved_name place h = absurd h
-  claim_place payload policy now name_clash place h = absurd h
-  claim_place payload policy now too_deep place h = absurd h
-  claim_place payload policy now issuer_refused place h = h.0
-  claim_place payload policy now claim_missing place h = (h.0, h.1)
-  claim_place payload policy now time_unreadable place h = h.0
-  claim_place payload policy now expired place h = h.0
-  claim_place payload policy now not_yet place h = h.0
-  claim_place payload policy now holder_key_unknown place h = absurd h
-  claim_place payload policy now binding_header place h = absurd h
-  claim_place payload policy now binding_alg place h = absurd h
-  claim_place payload policy now binding_signature place h = absurd h
-  claim_place payload policy now binding_type place h = absurd h
-  claim_place payload policy now binding_payload place h = absurd h
-  claim_place payload policy now binding_stale place h = absurd h
-  claim_place payload policy now binding_early place h = absurd h
-  claim_place payload policy now nonce_differs place h = absurd h
-  claim_place payload policy now audience_differs place h = absurd h
-  claim_place payload policy now hash_differs place h = absurd h
-  claim_place payload policy now binding_time place h = absurd h
+  claim_place payload policy now Condition.TooLong place h = absurd h
+  claim_place payload policy now Condition.Form place h = absurd h
+  claim_place payload policy now Condition.TooMuch place h = absurd h
+  claim_place payload policy now Condition.BindingMissing place h = absurd h
+  claim_place payload policy now Condition.HeaderUnreadable place h = absurd h
+  claim_place payload policy now Condition.HeaderCritical place h = absurd h
+  claim_place payload policy now Condition.AlgRefused place h = absurd h
+  claim_place payload policy now Condition.TypeRefused place h = absurd h
+  claim_place payload policy now Condition.IssuerKeyUnknown place h = absurd h
+  claim_place payload policy now Condition.BadSignature place h = absurd h
+  claim_place payload policy now Condition.PayloadUnreadable place h = absurd h
+  claim_place payload policy now Condition.HashUnknown place h = absurd h
+  claim_place payload policy now Condition.DisclosureUnreadable place h = absurd h
+  claim_place payload policy now Condition.RepeatedDisclosure place h = absurd h
+  claim_place payload policy now Condition.ReservedMisused place h = absurd h
+  claim_place payload policy now Condition.RepeatedDigest place h = absurd h
+  claim_place payload policy now Condition.UnreferencedDisclosure place h = absurd h
+  claim_place payload policy now Condition.WrongShape place h = absurd h
+  claim_place payload policy now Condition.ReservedName place h = absurd h
+  claim_place payload policy now Condition.NameClash place h = absurd h
+  claim_place payload policy now Condition.TooDeep place h = absurd h
+  claim_place payload policy now Condition.IssuerRefused place h = h.0
+  claim_place payload policy now Condition.ClaimMissing place h = (h.0, h.1)
+  claim_place payload policy now Condition.TimeUnreadable place h = h.0
+  claim_place payload policy now Condition.Expired place h = h.0
+  claim_place payload policy now Condition.NotYet place h = h.0
+  claim_place payload policy now Condition.HolderKeyUnknown place h = absurd h
+  claim_place payload policy now Condition.BindingHeader place h = absurd h
+  claim_place payload policy now Condition.BindingAlg place h = absurd h
+  claim_place payload policy now Condition.BindingSignature place h = absurd h
+  claim_place payload policy now Condition.BindingType place h = absurd h
+  claim_place payload policy now Condition.BindingPayload place h = absurd h
+  claim_place payload policy now Condition.BindingStale place h = absurd h
+  claim_place payload policy now Condition.BindingEarly place h = absurd h
+  claim_place payload policy now Condition.NonceDiffers place h = absurd h
+  claim_place payload policy now Condition.AudienceDiffers place h = absurd h
+  claim_place payload policy now Condition.HashDiffers place h = absurd h
+  claim_place payload policy now Condition.BindingTime place h = absurd h
 
   file_place : (c : Condition) (place : Place) → FileFails content c place → Suits content (kind_of c) place
   file_place c place (file.too_long e h) =
-      let is : c ≡ too_long = one_condition c too_long (ap (λ (x : Fault). x.number) e) in
+      let is : c ≡ Condition.TooLong = one_condition c Condition.TooLong (ap (λ (x : Fault). x.number) e) in
       subst (λ (d : Condition). Suits content (kind_of d) place) (sym is) (ap (λ (x : Fault). x.place) e)
   file_place c place (file.form at e h) =
-      let is : c ≡ form = one_condition c form (ap (λ (x : Fault). x.number) e) in
+      let is : c ≡ Condition.Form = one_condition c Condition.Form (ap (λ (x : Fault). x.number) e) in
       subst (λ (d : Condition). Suits content (kind_of d) place) (sym is) (subst (IsMisformed (trimmed content)) (sym (ap (λ (x : Fault). x.place) e)) h)
   file_place c place (file.too_much token e h much) =
-      let is : c ≡ too_much = one_condition c too_much (ap (λ (x : Fault). x.number) e) in
+      let is : c ≡ Condition.TooMuch = one_condition c Condition.TooMuch (ap (λ (x : Fault). x.number) e) in
       subst (λ (d : Condition). Suits content (kind_of d) place) (sym is) (ap (λ (x : Fault). x.place) e)
 
   missing_place : (policy : Policy) (parts : Parts) (c : Condition) (place : Place) → MissingFails policy parts c place → Suits content (kind_of c) place
@@ -162,44 +159,44 @@ module _ (content : List ℕ) where
 
   -- a condition on the key binding token fails at no number
   no_number : (j : Judged) (c : Condition) (place : Place) → BindingFails j c place → Suits content (kind_of c) place
-  no_number j too_long place h = absurd h
-  no_number j form place h = absurd h
-  no_number j too_much place h = absurd h
-  no_number j binding_missing place h = absurd h
-  no_number j header_unreadable place h = absurd h
-  no_number j header_critical place h = absurd h
-  no_number j alg_refused place h = absurd h
-  no_number j type_refused place h = absurd h
-  no_number j issuer_key_unknown place h = absurd h
-  no_number j bad_signature place h = absurd h
-  no_number j payload_unreadable place h = absurd h
-  no_number j hash_unknown place h = absurd h
-  no_number j disclosure_unreadable place h = absurd h
-  no_number j repeated_disclosure place h = absurd h
-  no_number j reserved_misused place h = absurd h
-  no_number j repeated_digest place h = absurd h
-  no_number j unreferenced_disclosure place h = absurd h
-  no_number j wrong_shape place h = absurd h
-  no_number j reserved_name place h = absurd h
-  no_number j name_clash place h = absurd h
-  no_number j too_deep place h = absurd h
-  no_number j issuer_refused place h = absurd h
-  no_number j claim_missing place h = absurd h
-  no_number j time_unreadable place h = absurd h
-  no_number j expired place h = absurd h
-  no_number j not_yet place h = absurd h
-  no_number j holder_key_unknown place h = h.0
-  no_number j binding_header place h = h.0
-  no_number j binding_alg place h = h.0
-  no_number j binding_signature place h = h.0
-  no_number j binding_type place h = h.0
-  no_number j binding_payload place h = h.0
-  no_number j binding_stale place h = h.0
-  no_number j binding_early place h = h.0
-  no_number j nonce_differs place h = h.0
-  no_number j audience_differs place h = h.0
-  no_number j hash_differs place h = h.0
-  no_number j binding_time place h = h.0
+  no_number j Condition.TooLong place h = absurd h
+  no_number j Condition.Form place h = absurd h
+  no_number j Condition.TooMuch place h = absurd h
+  no_number j Condition.BindingMissing place h = absurd h
+  no_number j Condition.HeaderUnreadable place h = absurd h
+  no_number j Condition.HeaderCritical place h = absurd h
+  no_number j Condition.AlgRefused place h = absurd h
+  no_number j Condition.TypeRefused place h = absurd h
+  no_number j Condition.IssuerKeyUnknown place h = absurd h
+  no_number j Condition.BadSignature place h = absurd h
+  no_number j Condition.PayloadUnreadable place h = absurd h
+  no_number j Condition.HashUnknown place h = absurd h
+  no_number j Condition.DisclosureUnreadable place h = absurd h
+  no_number j Condition.RepeatedDisclosure place h = absurd h
+  no_number j Condition.ReservedMisused place h = absurd h
+  no_number j Condition.RepeatedDigest place h = absurd h
+  no_number j Condition.UnreferencedDisclosure place h = absurd h
+  no_number j Condition.WrongShape place h = absurd h
+  no_number j Condition.ReservedName place h = absurd h
+  no_number j Condition.NameClash place h = absurd h
+  no_number j Condition.TooDeep place h = absurd h
+  no_number j Condition.IssuerRefused place h = absurd h
+  no_number j Condition.ClaimMissing place h = absurd h
+  no_number j Condition.TimeUnreadable place h = absurd h
+  no_number j Condition.Expired place h = absurd h
+  no_number j Condition.NotYet place h = absurd h
+  no_number j Condition.HolderKeyUnknown place h = h.0
+  no_number j Condition.BindingHeader place h = h.0
+  no_number j Condition.BindingAlg place h = h.0
+  no_number j Condition.BindingSignature place h = h.0
+  no_number j Condition.BindingType place h = h.0
+  no_number j Condition.BindingPayload place h = h.0
+  no_number j Condition.BindingStale place h = h.0
+  no_number j Condition.BindingEarly place h = h.0
+  no_number j Condition.NonceDiffers place h = h.0
+  no_number j Condition.AudienceDiffers place h = h.0
+  no_number j Condition.HashDiffers place h = h.0
+  no_number j Condition.BindingTime place h = h.0
 
   holder_place : (parts : Parts) (payload : Tree) (hash : HashAlg) (policy : Policy) (now : ℕ) (c : Condition) (place : Place) → HolderFails parts payload hash policy now c place → Suits content (kind_of c) place
   holder_place parts payload hash policy now c place h = no_number (judged h.token payload h.binding policy.skew hash (hashed parts) now) c place h.fails
@@ -212,7 +209,7 @@ one_token_fault token rules f g l m =
     let one = one_failed (TokenFails token rules) f g l m in
     let at_g = subst (λ (c : Condition). Suits [] (kind_of c) g.place) one.0 (token_place [] token rules m.failed g.place m.fails) in
     let places : f.place ≡ g.place = one_place [] (kind_of l.failed) f.place g.place (token_place [] token rules l.failed f.place l.fails) at_g one.1.0 one.1.1 in
-    ap₂ fault_of (one_number (TokenFails token rules) f g l m) places
+    same_fault f g (one_number (TokenFails token rules) f g l m) places
 
 module _ (content : List ℕ) (policy : Policy) (now : ℕ) where
   place_of : (c : Condition) (place : Place) → Fails content policy now c place → Suits content (kind_of c) place
@@ -230,7 +227,7 @@ module _ (content : List ℕ) (policy : Policy) (now : ℕ) where
       let one = one_failed (Fails content policy now) f g l m in
       let at_g = subst (λ (c : Condition). Suits content (kind_of c) g.place) one.0 (place_of m.failed g.place m.fails) in
       let places : f.place ≡ g.place = one_place content (kind_of l.failed) f.place g.place (place_of l.failed f.place l.fails) at_g one.1.0 one.1.1 in
-      ap₂ fault_of (one_number (Fails content policy now) f g l m) places
+      same_fault f g (one_number (Fails content policy now) f g l m) places
 
   pub one_accepted : (m n : Marked) → IsAccepted content policy now m → IsAccepted content policy now n → m ≡ n
   one_accepted m n a b =

@@ -1,11 +1,10 @@
 -- Two serializations of one token are judged alike.
 use Rattle.std.proofs.Common.{◌≡◌, ℕ, false, List, refl, subst}
-use Rattle.compact_form.specs.Condition as condition
+use Rattle.compact_form.specs.declared.condition.Condition.{Condition}
+use Rattle.compact_form.specs.Faults.{fault_at, unplaced}
 use Rattle.compact_form.specs.declared.fault.Fault.{Fault}
 use Rattle.compact_form.specs.declared.fault.Place.{Place}
-use Rattle.compact_form.specs.Condition.{Condition, number_of}
 use Rattle.compact_form.specs.Lowest.{IsLowest}
-use Rattle.compact_form.specs.Passing.{unplaced}
 use Rattle.compact_form.specs.Trim.{trimmed, is_too_long}
 use Rattle.json_form.specs.declared.token.Token.{Token}
 use Rattle.json_form.specs.Token.{IsToken, Spells, IsTooMuch, too_much}
@@ -21,7 +20,7 @@ module _ (text other : List ℕ) (token : Token) (policy : Policy) (now : ℕ) (
   moved t is = subst (IsToken other) (tokens.one text token t here is) there
 
   fails : (c : Condition) (place : Place) → Fails text policy now c place → Fails other policy now c place
-  fails c place (of_file h) = absurd (here.passes (record { number = number_of c; place = place }) h)
+  fails c place (of_file h) = absurd (here.passes (fault_at c place) h)
   fails c place (of_missing t is h) = of_missing t (moved t is) h
   fails c place (of_token t is h) = of_token t (moved t is) h
   fails c place (of_claims t marked is opens h) = of_claims t marked (moved t is) opens h
@@ -53,7 +52,7 @@ one_verdict text other token policy now here there =
 
 -- what is read has no more parts than it may have
 few : (text : List ℕ) (token : Token) → IsToken text token → IsTooMuch token.parts → ⊥
-few text token is much = is.passes (unplaced (number_of condition.too_much)) (too_much token refl is.spells much)
+few text token is much = is.passes (unplaced Condition.TooMuch) (too_much token refl is.spells much)
 
 pub spelled : (text other : List ℕ) (token : Token) (policy : Policy) (now : ℕ) → IsToken text token → Spells (trimmed other) token → is_too_long other ≡ false → HaveOneVerdict text other policy now
 spelled text other token policy now here spells short = one_verdict text other token policy now here (read_spelled other token spells short (few text token here))

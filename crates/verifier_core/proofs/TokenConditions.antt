@@ -2,7 +2,8 @@
 use Rattle.std.proofs.Common.{◌<◌, arith}
 use Rattle.compact_form.specs.declared.fault.Place.{Place}
 use Rattle.json_form.specs.declared.token.Token.{Token}
-use Rattle.compact_form.specs.Condition.{Condition, number_of, too_long, form, too_much, binding_missing, header_unreadable, header_critical, alg_refused, type_refused, issuer_key_unknown, bad_signature, payload_unreadable, hash_unknown, disclosure_unreadable, repeated_disclosure, reserved_misused, repeated_digest, unreferenced_disclosure, wrong_shape, reserved_name, name_clash, too_deep, issuer_refused, claim_missing, time_unreadable, expired, not_yet, holder_key_unknown, binding_header, binding_alg, binding_signature, binding_type, binding_payload, binding_stale, binding_early, nonce_differs, audience_differs, hash_differs, binding_time}
+use Rattle.compact_form.specs.declared.condition.Condition.{Condition}
+use Rattle.compact_form.specs.Condition.{number_of}
 use Rattle.verifier_core.specs.Verdict.{Rules, TokenFails}
 use Rattle.compact_form.specs.Lowest.{NoneFails}
 use Rattle.compact_form.specs.Passing.{Passes}
@@ -11,44 +12,44 @@ use Rattle.compact_form.specs.Passing.{Passes}
 
 -- a condition on a token has a number from 5 to 21
 pub token_numbers : (token : Token) (rules : Rules) (c : Condition) (place : Place) → TokenFails token rules c place → (4 < number_of c) × (number_of c < 22)
-token_numbers token rules too_long place h = absurd h
-token_numbers token rules form place h = absurd h
-token_numbers token rules too_much place h = absurd h
-token_numbers token rules binding_missing place h = absurd h
-token_numbers token rules header_unreadable place h = (omega arith, omega arith)
-token_numbers token rules header_critical place h = (omega arith, omega arith)
-token_numbers token rules alg_refused place h = (omega arith, omega arith)
-token_numbers token rules type_refused place h = (omega arith, omega arith)
-token_numbers token rules issuer_key_unknown place h = (omega arith, omega arith)
-token_numbers token rules bad_signature place h = (omega arith, omega arith)
-token_numbers token rules payload_unreadable place h = (omega arith, omega arith)
-token_numbers token rules hash_unknown place h = (omega arith, omega arith)
-token_numbers token rules disclosure_unreadable place h = (omega arith, omega arith)
-token_numbers token rules repeated_disclosure place h = (omega arith, omega arith)
-token_numbers token rules reserved_misused place h = (omega arith, omega arith)
-token_numbers token rules repeated_digest place h = (omega arith, omega arith)
-token_numbers token rules unreferenced_disclosure place h = (omega arith, omega arith)
-token_numbers token rules wrong_shape place h = (omega arith, omega arith)
-token_numbers token rules reserved_name place h = (omega arith, omega arith)
-token_numbers token rules name_clash place h = (omega arith, omega arith)
-token_numbers token rules too_deep place h = (omega arith, omega arith)
-token_numbers token rules issuer_refused place h = absurd h
-token_numbers token rules claim_missing place h = absurd h
-token_numbers token rules time_unreadable place h = absurd h
-token_numbers token rules expired place h = absurd h
-token_numbers token rules not_yet place h = absurd h
-token_numbers token rules holder_key_unknown place h = absurd h
-token_numbers token rules binding_header place h = absurd h
-token_numbers token rules binding_alg place h = absurd h
-token_numbers token rules binding_signature place h = absurd h
-token_numbers token rules binding_type place h = absurd h
-token_numbers token rules binding_payload place h = absurd h
-token_numbers token rules binding_stale place h = absurd h
-token_numbers token rules binding_early place h = absurd h
-token_numbers token rules nonce_differs place h = absurd h
-token_numbers token rules audience_differs place h = absurd h
-token_numbers token rules hash_differs place h = absurd h
-token_numbers token rules binding_time place h = absurd h
+token_numbers token rules Condition.TooLong place h = absurd h
+token_numbers token rules Condition.Form place h = absurd h
+token_numbers token rules Condition.TooMuch place h = absurd h
+token_numbers token rules Condition.BindingMissing place h = absurd h
+token_numbers token rules Condition.HeaderUnreadable place h = (omega arith, omega arith)
+token_numbers token rules Condition.HeaderCritical place h = (omega arith, omega arith)
+token_numbers token rules Condition.AlgRefused place h = (omega arith, omega arith)
+token_numbers token rules Condition.TypeRefused place h = (omega arith, omega arith)
+token_numbers token rules Condition.IssuerKeyUnknown place h = (omega arith, omega arith)
+token_numbers token rules Condition.BadSignature place h = (omega arith, omega arith)
+token_numbers token rules Condition.PayloadUnreadable place h = (omega arith, omega arith)
+token_numbers token rules Condition.HashUnknown place h = (omega arith, omega arith)
+token_numbers token rules Condition.DisclosureUnreadable place h = (omega arith, omega arith)
+token_numbers token rules Condition.RepeatedDisclosure place h = (omega arith, omega arith)
+token_numbers token rules Condition.ReservedMisused place h = (omega arith, omega arith)
+token_numbers token rules Condition.RepeatedDigest place h = (omega arith, omega arith)
+token_numbers token rules Condition.UnreferencedDisclosure place h = (omega arith, omega arith)
+token_numbers token rules Condition.WrongShape place h = (omega arith, omega arith)
+token_numbers token rules Condition.ReservedName place h = (omega arith, omega arith)
+token_numbers token rules Condition.NameClash place h = (omega arith, omega arith)
+token_numbers token rules Condition.TooDeep place h = (omega arith, omega arith)
+token_numbers token rules Condition.IssuerRefused place h = absurd h
+token_numbers token rules Condition.ClaimMissing place h = absurd h
+token_numbers token rules Condition.TimeUnreadable place h = absurd h
+token_numbers token rules Condition.Expired place h = absurd h
+token_numbers token rules Condition.NotYet place h = absurd h
+token_numbers token rules Condition.HolderKeyUnknown place h = absurd h
+token_numbers token rules Condition.BindingHeader place h = absurd h
+token_numbers token rules Condition.BindingAlg place h = absurd h
+token_numbers token rules Condition.BindingSignature place h = absurd h
+token_numbers token rules Condition.BindingType place h = absurd h
+token_numbers token rules Condition.BindingPayload place h = absurd h
+token_numbers token rules Condition.BindingStale place h = absurd h
+token_numbers token rules Condition.BindingEarly place h = absurd h
+token_numbers token rules Condition.NonceDiffers place h = absurd h
+token_numbers token rules Condition.AudienceDiffers place h = absurd h
+token_numbers token rules Condition.HashDiffers place h = absurd h
+token_numbers token rules Condition.BindingTime place h = absurd h
 
 pub start : (token : Token) (rules : Rules) → Passes 5 (TokenFails token rules)
 start token rules c place h = let n = token_numbers token rules c place h in omega (arith, n.0)

@@ -3,6 +3,7 @@ use Rattle.std.proofs.Common.{◌≡◌, ℕ, ◌<◌, ◌≤◌, ◌-◌, ◌^�
 use Rattle.claim_tree.specs.Tree.{Tree}
 use Rattle.sd_outside.specs.Limits.{count_max}
 use Rattle.compact_form.specs.declared.fault.Fault.{Fault}
+use Rattle.compact_form.specs.Faults.{fault_at, unplaced}
 use Rattle.compact_form.specs.declared.fault.Place.{Place}
 use Rattle.compact_form.specs.declared.fault.Place.TheVariants.{Nowhere, At, Json}
 use Rattle.compact_form.specs.declared.parts.JwtParts.{JwtParts}
@@ -22,14 +23,13 @@ use Rattle.key_binding.specs.declared.policy.BindingPolicy.{BindingPolicy}
 use Rattle.key_binding.proofs.BindingSteps.{binding_numbers}
 use Rattle.marked_tree.specs.Marked.{Marked, strip}
 use Rattle.rebuild_core.specs.Opening.{processed}
-use Rattle.compact_form.specs.Condition as condition
-use Rattle.compact_form.specs.Condition.{Condition, number_of}
+use Rattle.compact_form.specs.declared.condition.Condition.{Condition}
+use Rattle.compact_form.specs.Condition.{number_of}
 use Rattle.verifier_core.specs.Verdict.{TokenFails, ClaimFails, MissingFails, HolderFails, IsBindingMissing, HasHash, Fails, of_file, of_missing, of_token, of_claims, of_holder, rules_of, Opens, IsChecked, IsAccepted}
 use Rattle.verifier_core.specs.Check.{IsUncounted, ShownFails}
 use Rattle.verifier_core.specs.declared.policy.Policy.{Policy}
 use Rattle.compact_form.specs.Lowest.{IsNoLater, IsLowest, NoneFails}
-use Rattle.compact_form.specs.Passing.{unplaced}
-use Rattle.compact_form.proofs.Numbers.{one_condition}
+use Rattle.compact_form.proofs.Numbers.{one_condition, same_fault}
 use Rattle.verifier_core.proofs.TokenConditions.{token_numbers}
 use Rattle.verifier_core.proofs.ClaimSteps.{claim_numbers}
 use Rattle.verifier_core.proofs.CheckSteps.{one_content}
@@ -41,7 +41,7 @@ few content token is = go (either (length token.parts.disclosures))
     either n = grind arith
 
     go : (count_max < length token.parts.disclosures) ⊎ (length token.parts.disclosures ≤ count_max) → length token.parts.disclosures < 2 ^ 32 - 1
-    go (inl many) = absurd (is.passes (record { number = number_of condition.too_much; place = Nowhere }) (file.too_much token refl is.spells (inl many)))
+    go (inl many) = absurd (is.passes (unplaced Condition.TooMuch) (file.too_much token refl is.spells (inl many)))
     go (inr low) = omega (arith, low)
 
 no_later : (place : Place) → IsNoLater place place
@@ -49,13 +49,10 @@ no_later Nowhere = tt
 no_later (At i) = omega arith
 no_later (Json j) = tt
 
-abbrev fault_at : Condition → Place → Fault
-fault_at c place = record { number = number_of c; place = place }
-
 pub file_condition : (content : List ℕ) (fault : Fault) → file.TextFails content fault → (c : Condition) × (fault.number ≡ number_of c)
-file_condition content fault (file.too_long e h) = (condition.too_long, ap (λ (x : Fault). x.number) e)
-file_condition content fault (file.form place e h) = (condition.form, ap (λ (x : Fault). x.number) e)
-file_condition content fault (file.too_much token e h much) = (condition.too_much, ap (λ (x : Fault). x.number) e)
+file_condition content fault (file.too_long e h) = (Condition.TooLong, ap (λ (x : Fault). x.number) e)
+file_condition content fault (file.form place e h) = (Condition.Form, ap (λ (x : Fault). x.number) e)
+file_condition content fault (file.too_much token e h much) = (Condition.TooMuch, ap (λ (x : Fault). x.number) e)
 
 less_or_same : (a b : ℕ) → a ≤ b → (a < b) ⊎ (a ≡ b)
 less_or_same a b l = grind arith
@@ -63,11 +60,11 @@ less_or_same a b l = grind arith
 -- a file that is no token
 pub file_lowest : (content : List ℕ) (policy : Policy) (now : ℕ) (fault : Fault) → file.IsTextRefused content fault → IsLowest (Fails content policy now) fault
 file_lowest content policy now fault refused =
-    let c = file_condition content fault refused.fails in
+    let c = file_condition content fault refused.applies in
     record {
       failed = c.0;
       number_is = c.1;
-      fails = of_file (subst (λ (n : ℕ). file.TextFails content (record { number = n; place = fault.place })) c.1 refused.fails);
+      fails = of_file (subst (file.TextFails content) (same_fault fault (fault_at c.0 fault.place) c.1 refl) refused.applies);
       lowest = λ other place h. go c.0 c.1 other place h;
     }
   where
@@ -82,7 +79,7 @@ file_lowest content policy now fault refused =
         placed : (fault.number < number_of other) ⊎ (fault.number ≡ number_of other) → (number_of c < number_of other) ⊎ ((other ≡ c) × IsNoLater fault.place place)
         placed (inl less) = inl (omega (arith, less, is))
         placed (inr same) =
-            let twin : file.IsTextRefused content (fault_at other place) = record { fails = h; lowest = λ o k. let l = refused.lowest o k in omega (arith, l, same) } in
+            let twin : file.IsTextRefused content (fault_at other place) = record { applies = h; lowest = λ o k. let l = refused.lowest o k in omega (arith, l, same) } in
             let one : fault ≡ fault_at other place = tokens.one_refusal content fault (fault_at other place) refused twin in
             inr (one_condition other c (sym same ∙ is), subst (λ (x : Fault). IsNoLater fault.place x.place) one (no_later fault.place))
 
@@ -151,10 +148,10 @@ one_hash token a b (body, is_body, named) (other, is_other, also) =
 
 module _ (content : List ℕ) (policy : Policy) (now : ℕ) (token : Token) (is : IsToken content token) where
   -- a key binding token that is asked for and missing
-  pub missing_lowest : IsBindingMissing policy token.parts → IsLowest (Fails content policy now) (unplaced 4)
-  missing_lowest missing = record { failed = condition.binding_missing; number_is = refl; fails = of_missing token is (refl, (refl, missing)); lowest = λ other place h. go other place h }
+  pub missing_lowest : IsBindingMissing policy token.parts → IsLowest (Fails content policy now) (unplaced Condition.BindingMissing)
+  missing_lowest missing = record { failed = Condition.BindingMissing; number_is = refl; fails = of_missing token is (refl, (refl, missing)); lowest = λ other place h. go other place h }
     where
-      go : (other : Condition) (place : Place) → Fails content policy now other place → (4 < number_of other) ⊎ ((other ≡ condition.binding_missing) × Unit {0})
+      go : (other : Condition) (place : Place) → Fails content policy now other place → (4 < number_of other) ⊎ ((other ≡ Condition.BindingMissing) × Unit {0})
       go other place (of_file h) = absurd (is.passes (fault_at other place) h)
       go other place (of_missing t there h) = inr (h.0, tt)
       go other place (of_token t there h) = let numbers = token_numbers t (rules_of policy) other place h in inl numbers.0

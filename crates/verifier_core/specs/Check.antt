@@ -4,7 +4,6 @@ use Rattle.std.specs.List.{AllZip}
 use Rattle.claim_tree.specs.Tree.{Text, Tree, Members, IsRanged, depth}
 use Rattle.compact_form.specs.declared.fault.Fault.{Fault}
 use Rattle.compact_form.specs.declared.fault.Place.{Place}
-use Rattle.compact_form.specs.declared.fault.Place.TheVariants.{At}
 use Rattle.compact_form.specs.declared.parts.JwtParts.{JwtParts}
 use Rattle.compact_form.specs.declared.parts.Parts.{Parts}
 use Rattle.jws_part.specs.declared.header.Header.{Header}
@@ -21,8 +20,10 @@ use Rattle.rebuild_core.specs.LookUps.{look_ups, counted, RoseWithin}
 use Rattle.rebuild_core.specs.Payload.{without_alg}
 use Rattle.rebuild_core.specs.Answer.{IsProcessRefused}
 use Rattle.rebuild_core.specs.declared.errors.ProcessError.{ProcessError}
-use Rattle.compact_form.specs.Condition.{Condition, number_of}
-use Rattle.compact_form.specs.Passing.{Passes, unplaced}
+use Rattle.compact_form.specs.declared.condition.Condition.{Condition}
+use Rattle.compact_form.specs.Condition.{number_of}
+use Rattle.compact_form.specs.Faults.{unplaced, placed}
+use Rattle.compact_form.specs.Passing.{Passes}
 use Rattle.verifier_core.specs.Content.{Content}
 use Rattle.verifier_core.specs.Verdict.{Rules, TokenFails, key_for, HasContent, HasHash, IsChecked, IsBindingMissing, rules_of, ClaimFails, HolderFails, IsAlgRefused, IsTypeRefused, IsBadSignature, IsNoDisclosure, Gives}
 use Rattle.verifier_core.specs.declared.check.VerifyError.{VerifyError}
@@ -72,10 +73,6 @@ pub record IsOpened (text : List ℕ) (policy : Policy) (token : Token) (marked 
   pub checked : IsChecked token (rules_of policy) marked
   pub hash_is : HasHash token hash
 
--- the fault of a condition that fails at a number
-abbrev pub placed : ℕ → ℕ → Fault
-placed number i = record { number = number; place = At i }
-
 -- the answer of a test
 abbrev pub TestTells : Bool → Type 0 → Type 0
 TestTells true P = P
@@ -93,17 +90,17 @@ pub record IsSigned (signed : JwtParts) (outer : Members) (rules : Rules) : Type
 
 -- the lowest of the conditions 5 to 10 that fails
 pub data IsSignedFault (signed : JwtParts) (outer : Members) (rules : Rules) (fault : Fault) : Type 0 where
-  bad_header : IsHeaderUnreadable signed.protected outer → fault ≡ unplaced 5 → IsSignedFault signed outer rules fault
-  critical : IsHeaderCritical signed.protected outer → fault ≡ unplaced 6 → IsSignedFault signed outer rules fault
-  bad_alg : (header : Header) → IsHeader signed.protected outer header → IsAlgRefused rules.algs header.alg → fault ≡ unplaced 7 → IsSignedFault signed outer rules fault
-  bad_type : (header : Header) → IsHeader signed.protected outer header → (IsAlgRefused rules.algs header.alg → ⊥) → IsTypeRefused rules.typ header.typ → fault ≡ unplaced 8 → IsSignedFault signed outer rules fault
-  no_key : (header : Header) → IsHeader signed.protected outer header → (IsAlgRefused rules.algs header.alg → ⊥) → (IsTypeRefused rules.typ header.typ → ⊥) → key_for rules.keys header.kid ≡ None → fault ≡ unplaced 9 → IsSignedFault signed outer rules fault
-  not_signed : (header : Header) → IsHeader signed.protected outer header → (IsAlgRefused rules.algs header.alg → ⊥) → (IsTypeRefused rules.typ header.typ → ⊥) → (key : List ℕ) → key_for rules.keys header.kid ≡ Some key → IsBadSignature key signed → fault ≡ unplaced 10 → IsSignedFault signed outer rules fault
+  bad_header : IsHeaderUnreadable signed.protected outer → fault ≡ unplaced Condition.HeaderUnreadable → IsSignedFault signed outer rules fault
+  critical : IsHeaderCritical signed.protected outer → fault ≡ unplaced Condition.HeaderCritical → IsSignedFault signed outer rules fault
+  bad_alg : (header : Header) → IsHeader signed.protected outer header → IsAlgRefused rules.algs header.alg → fault ≡ unplaced Condition.AlgRefused → IsSignedFault signed outer rules fault
+  bad_type : (header : Header) → IsHeader signed.protected outer header → (IsAlgRefused rules.algs header.alg → ⊥) → IsTypeRefused rules.typ header.typ → fault ≡ unplaced Condition.TypeRefused → IsSignedFault signed outer rules fault
+  no_key : (header : Header) → IsHeader signed.protected outer header → (IsAlgRefused rules.algs header.alg → ⊥) → (IsTypeRefused rules.typ header.typ → ⊥) → key_for rules.keys header.kid ≡ None → fault ≡ unplaced Condition.IssuerKeyUnknown → IsSignedFault signed outer rules fault
+  not_signed : (header : Header) → IsHeader signed.protected outer header → (IsAlgRefused rules.algs header.alg → ⊥) → (IsTypeRefused rules.typ header.typ → ⊥) → (key : List ℕ) → key_for rules.keys header.kid ≡ Some key → IsBadSignature key signed → fault ≡ unplaced Condition.BadSignature → IsSignedFault signed outer rules fault
 
 -- the lowest of the conditions 11 and 12 that fails
 pub data IsPayloadFault (payload : Text) (fault : Fault) : Type 0 where
-  no_body : IsNoObject payload → fault ≡ unplaced 11 → IsPayloadFault payload fault
-  no_hash : (body : Tree) → IsBody payload body → payload_hash body ≡ None → fault ≡ unplaced 12 → IsPayloadFault payload fault
+  no_body : IsNoObject payload → fault ≡ unplaced Condition.PayloadUnreadable → IsPayloadFault payload fault
+  no_hash : (body : Tree) → IsBody payload body → payload_hash body ≡ None → fault ≡ unplaced Condition.HashUnknown → IsPayloadFault payload fault
 
 -- the first disclosure that is not read
 pub record IsUnreadAt (hash : HashAlg) (disclosures : List Text) (fault : Fault) : Type 0 where
@@ -113,12 +110,12 @@ pub record IsUnreadAt (hash : HashAlg) (disclosures : List Text) (fault : Fault)
   pub before : List Given
   pub read : AllZip (Gives hash) (take i disclosures) before
   pub unread : IsNoDisclosure disclosure
-  pub fault_is : fault ≡ placed 13 i
+  pub fault_is : fault ≡ placed Condition.DisclosureUnreadable i
 
 -- the answer for a disclosure that is not read
 abbrev pub unread_at : ℕ → DisclosureError → VerifyError
 unread_at i DisclosureError.Memory = VerifyError.Memory
-unread_at i _ = VerifyError.Fault (placed 13 i)
+unread_at i _ = VerifyError.Fault (placed Condition.DisclosureUnreadable i)
 
 -- one more is given
 pub record Adds (hash : HashAlg) (disclosure : Text) (old new : List Given) : Type 0 where
@@ -131,14 +128,14 @@ pub record Adds (hash : HashAlg) (disclosure : Text) (old new : List Given) : Ty
 -- the fault of a refusal to process
 abbrev pub process_fault : ProcessError → VerifyError
 process_fault ProcessError.Memory = VerifyError.Memory
-process_fault (ProcessError.RepeatedDisclosure i) = VerifyError.Fault (placed 14 i)
-process_fault (ProcessError.ReservedMisused i) = VerifyError.Fault (placed 15 i)
-process_fault (ProcessError.RepeatedDigest i) = VerifyError.Fault (placed 16 i)
-process_fault (ProcessError.Unreferenced i) = VerifyError.Fault (placed 17 i)
-process_fault (ProcessError.WrongShape i) = VerifyError.Fault (placed 18 i)
-process_fault (ProcessError.ReservedName i) = VerifyError.Fault (placed 19 i)
-process_fault (ProcessError.NameClash i) = VerifyError.Fault (placed 20 i)
-process_fault ProcessError.TooDeep = VerifyError.Fault (unplaced 21)
+process_fault (ProcessError.RepeatedDisclosure i) = VerifyError.Fault (placed Condition.RepeatedDisclosure i)
+process_fault (ProcessError.ReservedMisused i) = VerifyError.Fault (placed Condition.ReservedMisused i)
+process_fault (ProcessError.RepeatedDigest i) = VerifyError.Fault (placed Condition.RepeatedDigest i)
+process_fault (ProcessError.Unreferenced i) = VerifyError.Fault (placed Condition.UnreferencedDisclosure i)
+process_fault (ProcessError.WrongShape i) = VerifyError.Fault (placed Condition.WrongShape i)
+process_fault (ProcessError.ReservedName i) = VerifyError.Fault (placed Condition.ReservedName i)
+process_fault (ProcessError.NameClash i) = VerifyError.Fault (placed Condition.NameClash i)
+process_fault ProcessError.TooDeep = VerifyError.Fault (unplaced Condition.TooDeep)
 
 -- the answer for content that is not processed
 abbrev pub IsUnopened : Tree → List Given → VerifyError → Type 0

@@ -1,5 +1,3 @@
-pub mod FaultLine
-pub mod Named
 pub mod PolicyFile
 pub mod Verdict
 pub mod Content

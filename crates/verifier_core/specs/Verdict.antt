@@ -4,6 +4,7 @@ use Rattle.std.specs.List.{AllZip}
 use Rattle.claim_tree.specs.Tree.{Text, Tree, leaf, text, get}
 use Rattle.claim_tree.specs.Lists.{StandsAt, IsSuchAt}
 use Rattle.compact_form.specs.declared.fault.Place.{Place}
+use Rattle.compact_form.specs.Faults.{fault_at}
 use Rattle.compact_form.specs.declared.parts.JwtParts.{JwtParts}
 use Rattle.compact_form.specs.declared.parts.Parts.{Parts}
 use Rattle.compact_form.specs.Compact.{hashed}
@@ -25,8 +26,7 @@ use Rattle.marked_tree.specs.Marked.{Marked, strip}
 use Rattle.rebuild_core.specs.Payload.{without_alg}
 use Rattle.rebuild_core.specs.Opening.{processed}
 use Rattle.rebuild_core.specs.Conditions as opening
-use Rattle.compact_form.specs.Condition as condition
-use Rattle.compact_form.specs.Condition.{Condition, number_of}
+use Rattle.compact_form.specs.declared.condition.Condition.{Condition}
 use Rattle.compact_form.specs.Lowest.{Unplaced, Numbered, NoneFails}
 use Rattle.key_binding.specs.Judged.{judged}
 use Rattle.key_binding.specs.BindingConditions.{BindingFails}
@@ -98,34 +98,34 @@ Opens token marked = (payload : Tree) × (given : List Given) × HasContent toke
 
 -- what fails each condition on a token, where no lower one fails
 abbrev pub TokenFails : Token → Rules → Condition → Place → Type 0
-TokenFails token rules condition.header_unreadable place = Unplaced (IsHeaderUnreadable token.parts.signed.protected token.outer) place
-TokenFails token rules condition.header_critical place = Unplaced (IsHeaderCritical token.parts.signed.protected token.outer) place
-TokenFails token rules condition.alg_refused place = Unplaced ((header : Header) × HasHeader token header × IsAlgRefused rules.algs header.alg) place
-TokenFails token rules condition.type_refused place = Unplaced ((header : Header) × HasHeader token header × IsTypeRefused rules.typ header.typ) place
-TokenFails token rules condition.issuer_key_unknown place = Unplaced ((header : Header) × HasHeader token header × (key_for rules.keys header.kid ≡ None)) place
-TokenFails token rules condition.bad_signature place =
+TokenFails token rules Condition.HeaderUnreadable place = Unplaced (IsHeaderUnreadable token.parts.signed.protected token.outer) place
+TokenFails token rules Condition.HeaderCritical place = Unplaced (IsHeaderCritical token.parts.signed.protected token.outer) place
+TokenFails token rules Condition.AlgRefused place = Unplaced ((header : Header) × HasHeader token header × IsAlgRefused rules.algs header.alg) place
+TokenFails token rules Condition.TypeRefused place = Unplaced ((header : Header) × HasHeader token header × IsTypeRefused rules.typ header.typ) place
+TokenFails token rules Condition.IssuerKeyUnknown place = Unplaced ((header : Header) × HasHeader token header × (key_for rules.keys header.kid ≡ None)) place
+TokenFails token rules Condition.BadSignature place =
     Unplaced ((header : Header) × HasHeader token header × (key : List ℕ) × (key_for rules.keys header.kid ≡ Some key) × IsBadSignature key token.parts.signed) place
-TokenFails token rules condition.payload_unreadable place = Unplaced (IsNoObject token.parts.signed.payload) place
-TokenFails token rules condition.hash_unknown place = Unplaced ((body : Tree) × HasPayload token body × (payload_hash body ≡ None)) place
-TokenFails token rules condition.disclosure_unreadable place = Numbered (IsSuchAt IsNoDisclosure token.parts.disclosures) place
-TokenFails token rules condition.repeated_disclosure place = Numbered (OfContent (λ payload given i. opening.RepeatedDisclosure given i) token) place
-TokenFails token rules condition.reserved_misused place = Numbered (OfContent opening.Misused token) place
-TokenFails token rules condition.repeated_digest place = Numbered (OfContent opening.RepeatedDigest token) place
-TokenFails token rules condition.unreferenced_disclosure place = Numbered (OfContent opening.Unreferenced token) place
-TokenFails token rules condition.wrong_shape place = Numbered (OfContent opening.WrongShape token) place
-TokenFails token rules condition.reserved_name place = Numbered (OfContent opening.ReservedName token) place
-TokenFails token rules condition.name_clash place = Numbered (OfContent opening.NameClash token) place
-TokenFails token rules condition.too_deep place = Unplaced ((payload : Tree) × (given : List Given) × HasContent token payload given × opening.IsTooDeep payload given) place
+TokenFails token rules Condition.PayloadUnreadable place = Unplaced (IsNoObject token.parts.signed.payload) place
+TokenFails token rules Condition.HashUnknown place = Unplaced ((body : Tree) × HasPayload token body × (payload_hash body ≡ None)) place
+TokenFails token rules Condition.DisclosureUnreadable place = Numbered (IsSuchAt IsNoDisclosure token.parts.disclosures) place
+TokenFails token rules Condition.RepeatedDisclosure place = Numbered (OfContent (λ payload given i. opening.RepeatedDisclosure given i) token) place
+TokenFails token rules Condition.ReservedMisused place = Numbered (OfContent opening.Misused token) place
+TokenFails token rules Condition.RepeatedDigest place = Numbered (OfContent opening.RepeatedDigest token) place
+TokenFails token rules Condition.UnreferencedDisclosure place = Numbered (OfContent opening.Unreferenced token) place
+TokenFails token rules Condition.WrongShape place = Numbered (OfContent opening.WrongShape token) place
+TokenFails token rules Condition.ReservedName place = Numbered (OfContent opening.ReservedName token) place
+TokenFails token rules Condition.NameClash place = Numbered (OfContent opening.NameClash token) place
+TokenFails token rules Condition.TooDeep place = Unplaced ((payload : Tree) × (given : List Given) × HasContent token payload given × opening.IsTooDeep payload given) place
 TokenFails token rules _ place = ⊥
 
 -- what fails each condition on the processed payload, at a moment in seconds since 1970
 abbrev pub ClaimFails : Tree → Policy → ℕ → Condition → Place → Type 0
-ClaimFails payload policy now condition.issuer_refused place =
+ClaimFails payload policy now Condition.IssuerRefused place =
     Unplaced ((iss : Text) × (policy.iss ≡ Some iss) × (get payload (codes "iss") ≢ Some (leaf (text iss)))) place
-ClaimFails payload policy now condition.claim_missing place = Numbered (IsSuchAt (λ name. get payload name ≡ None) policy.require) place
-ClaimFails payload policy now condition.time_unreadable place = Unplaced (IsTimeUnreadable payload) place
-ClaimFails payload policy now condition.expired place = Unplaced (IsExpired payload policy.skew now) place
-ClaimFails payload policy now condition.not_yet place = Unplaced (IsNotYet payload policy.skew now) place
+ClaimFails payload policy now Condition.ClaimMissing place = Numbered (IsSuchAt (λ name. get payload name ≡ None) policy.require) place
+ClaimFails payload policy now Condition.TimeUnreadable place = Unplaced (IsTimeUnreadable payload) place
+ClaimFails payload policy now Condition.Expired place = Unplaced (IsExpired payload policy.skew now) place
+ClaimFails payload policy now Condition.NotYet place = Unplaced (IsNotYet payload policy.skew now) place
 ClaimFails payload policy now _ place = ⊥
 
 abbrev pub rules_of : Policy → Rules
@@ -136,7 +136,7 @@ abbrev pub IsBindingMissing : Policy → Parts → Type 0
 IsBindingMissing policy parts = (binding : BindingPolicy) × (policy.binding ≡ Some binding) × (parts.binding ≡ None)
 
 abbrev pub MissingFails : Policy → Parts → Condition → Place → Type 0
-MissingFails policy parts c place = (c ≡ condition.binding_missing) × Unplaced (IsBindingMissing policy parts) place
+MissingFails policy parts c place = (c ≡ Condition.BindingMissing) × Unplaced (IsBindingMissing policy parts) place
 
 -- what fails each condition on the key binding token that is asked for, over the processed payload and the hash of the token that it is sent with
 pub record HolderFails (parts : Parts) (payload : Tree) (hash : HashAlg) (policy : Policy) (now : ℕ) (c : Condition) (place : Place) : Type 0 where
@@ -148,7 +148,7 @@ pub record HolderFails (parts : Parts) (payload : Tree) (hash : HashAlg) (policy
 
 -- what fails each condition on a token file under a policy
 abbrev pub FileFails : List ℕ → Condition → Place → Type 0
-FileFails content c place = file.TextFails content (record { number = number_of c; place = place })
+FileFails content c place = file.TextFails content (fault_at c place)
 
 pub data Fails (content : List ℕ) (policy : Policy) (now : ℕ) (c : Condition) (place : Place) : Type 0 where
   of_file : FileFails content c place → Fails content policy now c place

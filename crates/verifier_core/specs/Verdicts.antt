@@ -1,6 +1,6 @@
 -- Not needed to believe the program's promises: verdicts without marks, and of two texts.
 use Rattle.std.specs.Prelude.{◌≡◌, ◌↔◌, ℕ, List}
-use Rattle.claim_tree.specs.Tree.{Tree, text}
+use Rattle.claim_tree.specs.Tree.{Tree}
 use Rattle.compact_form.specs.declared.fault.Fault.{Fault}
 use Rattle.json_form.specs.declared.token.Token.{Token}
 use Rattle.marked_tree.specs.Marked.{Marked, strip}

@@ -6,13 +6,14 @@ ghost use Rattle.claim_tree.specs.View.{tree_of};
 ghost use Rattle.marked_tree.specs.Marked.{strip as strip_of};
 ghost use Rattle.marked_tree.specs.View.{marked_of};
 ghost use Rattle.verifier_core.specs.Verdict.{TokenFails, IsChecked, HasHash, asked};
-ghost use Rattle.verifier_core.specs.Check.{OnFault, IsCounted, IsCountedWithin, IsUncounted, placed};
+ghost use Rattle.verifier_core.specs.Check.{OnFault, IsCounted, IsCountedWithin, IsUncounted};
+ghost use Rattle.compact_form.specs.Faults.{placed};
 ghost use Rattle.compact_form.specs.Lowest.{IsLowest};
 ghost use Rattle.verifier_core.specs.declared.check.VerifyError.{VerifyError};
 
 use crate::{Content, Rules};
 use claim_tree::Tree;
-use compact_form::{Fault, Place};
+use compact_form::{Condition, Fault, Place};
 use digest_index::Steps;
 use disclosure::HashAlg;
 use hmac_sign::KeySet;
@@ -69,13 +70,11 @@ impl From<NoMemory> for VerifyError {
     }
 }
 
-pub(crate) fn fails_at(number: u8, place: usize) -> VerifyError
-    ensures { result ≡ VerifyError.Fault (placed number place) }
+// A condition that fails at a number.
+pub(crate) fn fails_at(condition: Condition, place: usize) -> VerifyError
+    ensures { result ≡ VerifyError.Fault (placed condition place) }
 {
-    VerifyError::Fault(Fault {
-        number,
-        place: Place::At(place),
-    })
+    VerifyError::Fault(condition.fault_at(Place::At(place)))
 }
 
 /// Checks a token itself: the conditions 5 to 21, RFC 9901 section 7.3, without its key binding token.

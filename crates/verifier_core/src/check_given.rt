@@ -8,7 +8,7 @@ ghost use Rattle.verifier_core.specs.Check.{OnFault, Adds, IsUnreadAt, unread_at
 
 use crate::check::{VerifyError, fails_at};
 use claim_tree::JsonReader;
-use compact_form::DISCLOSURE_UNREADABLE;
+use compact_form::Condition;
 use digest_sites::{Given, GivenList};
 use disclosure::{DisclosureError, HashAlg, read_disclosure};
 use json_form::Disclosures;
@@ -40,7 +40,7 @@ fn unread(i: usize, error: DisclosureError) -> VerifyError
 {
     match error {
         DisclosureError::Memory => VerifyError::Memory,
-        _ => fails_at(DISCLOSURE_UNREADABLE, i),
+        _ => fails_at(Condition::DisclosureUnreadable, i),
     }
 }
 

@@ -9,7 +9,7 @@ ghost use Rattle.verifier_core.specs.Check.{OnFault, IsPayloadFault};
 use crate::check::VerifyError;
 use crate::check_signed::fails;
 use claim_tree::Tree;
-use compact_form::{HASH_UNKNOWN, PAYLOAD_UNREADABLE};
+use compact_form::Condition;
 use disclosure::{HashAlg, payload_hash};
 use jws_part::{BodyError, read_body};
 use std::alloc::Global;
@@ -25,10 +25,10 @@ pub(crate) fn read_payload(alloc: Global, payload: &str) -> Result<(Tree, HashAl
     let body = match read_body(alloc, payload) {
         Ok(body) => body,
         Err(BodyError::Memory) => return Err(VerifyError::Memory),
-        Err(BodyError::Unreadable) => return Err(fails(PAYLOAD_UNREADABLE)),
+        Err(BodyError::Unreadable) => return Err(fails(Condition::PayloadUnreadable)),
     };
     match payload_hash(&body) {
         Some(hash) => Ok((body, hash)),
-        None => Err(fails(HASH_UNKNOWN)),
+        None => Err(fails(Condition::HashUnknown)),
     }
 }

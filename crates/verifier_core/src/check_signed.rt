@@ -6,28 +6,22 @@ ghost use Rattle.compact_form.specs.Views.{jwt_of};
 ghost use Rattle.jws_part.specs.Header.{IsHeader};
 ghost use Rattle.verifier_core.specs.Verdict.{key_for as key_for_of, IsAlgRefused, IsTypeRefused};
 ghost use Rattle.verifier_core.specs.Check.{OnFault, TestTells, IsSigned, IsSignedFault};
-ghost use Rattle.compact_form.specs.Passing.{unplaced};
+ghost use Rattle.compact_form.specs.Faults.{unplaced};
 ghost use Rattle.verifier_core.specs.declared.check.VerifyError as error;
 
 use crate::{Rules, VerifyError};
 use claim_tree::TreeMap;
-use compact_form::{
-    ALG_REFUSED, BAD_SIGNATURE, Fault, HEADER_CRITICAL, HEADER_UNREADABLE, ISSUER_KEY_UNKNOWN,
-    JwtView, Place, TYPE_REFUSED,
-};
+use compact_form::{Condition, JwtView};
 use hmac_sign::{Hs256Key, KeySet};
 use jws_part::{HeaderError, read_header};
 use sd_outside::{TextBox, TextList};
 use std::alloc::Global;
 
 // A condition that names no place.
-pub(crate) fn fails(number: u8) -> VerifyError
-    ensures { result ≡ error.VerifyError.Fault (unplaced number) }
+pub(crate) fn fails(condition: Condition) -> VerifyError
+    ensures { result ≡ error.VerifyError.Fault (unplaced condition) }
 {
-    VerifyError::Fault(Fault {
-        number,
-        place: Place::Nowhere,
-    })
+    VerifyError::Fault(condition.fault())
 }
 
 // The key that a header asks for.
@@ -94,21 +88,21 @@ pub(crate) fn check_signed(
     let header = match read_header(alloc, signed.protected, outer) {
         Ok(header) => header,
         Err(HeaderError::Memory) => return Err(VerifyError::Memory),
-        Err(HeaderError::Unreadable) => return Err(fails(HEADER_UNREADABLE)),
-        Err(HeaderError::Critical) => return Err(fails(HEADER_CRITICAL)),
+        Err(HeaderError::Unreadable) => return Err(fails(Condition::HeaderUnreadable)),
+        Err(HeaderError::Critical) => return Err(fails(Condition::HeaderCritical)),
     };
     if is_alg_refused(rules.algs, header.alg.as_str()) {
-        return Err(fails(ALG_REFUSED));
+        return Err(fails(Condition::AlgRefused));
     }
     if is_type_refused(rules.typ, header.typ.as_ref()) {
-        return Err(fails(TYPE_REFUSED));
+        return Err(fails(Condition::TypeRefused));
     }
     let Some(key) = key_for(rules.keys, header.kid.as_ref()) else {
-        return Err(fails(ISSUER_KEY_UNKNOWN));
+        return Err(fails(Condition::IssuerKeyUnknown));
     };
     let is_good = key.check_text(alloc, signed.protected, signed.payload, signed.signature)?;
     if !is_good {
-        return Err(fails(BAD_SIGNATURE));
+        return Err(fails(Condition::BadSignature));
     }
     Ok(())
 }

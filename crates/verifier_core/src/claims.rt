@@ -3,15 +3,12 @@ ghost use Rattle.std.specs.Prelude.{◌≡◌, ◌≢◌, ◌↔◌, ℕ, Some, 
 ghost use Rattle.claim_tree.specs.Tree.{Text, leaf, text, get as get_of, IsRanged};
 ghost use Rattle.claim_tree.specs.Lists.{StandsAt, IsLeast};
 ghost use Rattle.claim_tree.specs.View.{tree_of};
-ghost use Rattle.compact_form.specs.declared.fault.Place.TheVariants.{Nowhere};
 ghost use Rattle.verifier_core.specs.Verdict.{ClaimFails};
 ghost use Rattle.compact_form.specs.Lowest.{IsLowest, NoneFails};
 
 use crate::Policy;
 use claim_tree::{Tree, get};
-use compact_form::{
-    CLAIM_MISSING, EXPIRED, Fault, ISSUER_REFUSED, NOT_YET, Place, TIME_UNREADABLE,
-};
+use compact_form::{Condition, Fault, Place};
 use jws_part::{is_expired, is_not_yet, is_time_unreadable};
 use sd_outside::{TextBox, TextList};
 
@@ -49,16 +46,6 @@ fn first_missing(payload: &Tree, names: &TextList) -> Option<usize>
     None
 }
 
-fn unplaced(number: u8) -> Fault
-    ensures number { result.number ≡ number }
-    ensures place { result.place ≡ Nowhere }
-{
-    Fault {
-        number,
-        place: Place::Nowhere,
-    }
-}
-
 // Whether the policy accepts the claims of a processed payload, at a moment in seconds since 1970. The fault is that of the
 // lowest condition that fails.
 pub(crate) fn check_claims(payload: &Tree, policy: &Policy, now: u64) -> Result<(), Fault>
@@ -67,22 +54,19 @@ pub(crate) fn check_claims(payload: &Tree, policy: &Policy, now: u64) -> Result<
     ensures lowest { IfErr result (IsLowest (ClaimFails (tree_of payload.now) policy.now now)) }
 {
     if is_issuer_refused(payload, policy) {
-        return Err(unplaced(ISSUER_REFUSED));
+        return Err(Condition::IssuerRefused.fault());
     }
     if let Some(i) = first_missing(payload, &policy.require) {
-        return Err(Fault {
-            number: CLAIM_MISSING,
-            place: Place::At(i),
-        });
+        return Err(Condition::ClaimMissing.fault_at(Place::At(i)));
     }
     if is_time_unreadable(payload) {
-        return Err(unplaced(TIME_UNREADABLE));
+        return Err(Condition::TimeUnreadable.fault());
     }
     if is_expired(payload, policy.skew, now) {
-        return Err(unplaced(EXPIRED));
+        return Err(Condition::Expired.fault());
     }
     if is_not_yet(payload, policy.skew, now) {
-        return Err(unplaced(NOT_YET));
+        return Err(Condition::NotYet.fault());
     }
     Ok(())
 }

@@ -12,13 +12,10 @@ ghost use Rattle.verifier_core.specs.Check.{OnFault, IsContent, OfToken, IsCount
 use crate::check::fails_at;
 use crate::check_given::read_given;
 use crate::check_payload::read_payload;
-use crate::check_signed::check_signed;
+use crate::check_signed::{check_signed, fails};
 use crate::{CheckedMarks, CheckedPayload, Rules, VerifyError};
 use claim_tree::Tree;
-use compact_form::{
-    Fault, NAME_CLASH, Place, REPEATED_DIGEST, REPEATED_DISCLOSURE, RESERVED_MISUSED,
-    RESERVED_NAME, TOO_DEEP, UNREFERENCED_DISCLOSURE, WRONG_SHAPE,
-};
+use compact_form::Condition;
 use digest_index::Steps;
 use digest_sites::GivenList;
 use disclosure::HashAlg;
@@ -56,17 +53,14 @@ fn refusal(error: ProcessError) -> VerifyError
 {
     match error {
         ProcessError::Memory => VerifyError::Memory,
-        ProcessError::RepeatedDisclosure(i) => fails_at(REPEATED_DISCLOSURE, i),
-        ProcessError::ReservedMisused(i) => fails_at(RESERVED_MISUSED, i),
-        ProcessError::RepeatedDigest(i) => fails_at(REPEATED_DIGEST, i),
-        ProcessError::Unreferenced(i) => fails_at(UNREFERENCED_DISCLOSURE, i),
-        ProcessError::WrongShape(i) => fails_at(WRONG_SHAPE, i),
-        ProcessError::ReservedName(i) => fails_at(RESERVED_NAME, i),
-        ProcessError::NameClash(i) => fails_at(NAME_CLASH, i),
-        ProcessError::TooDeep => VerifyError::Fault(Fault {
-            number: TOO_DEEP,
-            place: Place::Nowhere,
-        }),
+        ProcessError::RepeatedDisclosure(i) => fails_at(Condition::RepeatedDisclosure, i),
+        ProcessError::ReservedMisused(i) => fails_at(Condition::ReservedMisused, i),
+        ProcessError::RepeatedDigest(i) => fails_at(Condition::RepeatedDigest, i),
+        ProcessError::Unreferenced(i) => fails_at(Condition::UnreferencedDisclosure, i),
+        ProcessError::WrongShape(i) => fails_at(Condition::WrongShape, i),
+        ProcessError::ReservedName(i) => fails_at(Condition::ReservedName, i),
+        ProcessError::NameClash(i) => fails_at(Condition::NameClash, i),
+        ProcessError::TooDeep => fails(Condition::TooDeep),
     }
 }
 

@@ -13,7 +13,7 @@ use crate::{Policy, VerifyError};
 use claim_tree::Tree;
 use disclosure::HashAlg;
 use json_form::{TokenText, TokenView};
-use key_binding::{BindingError, Bound, check_bound};
+use key_binding::{Bound, BoundError, check_bound};
 use std::alloc::Global;
 
 // Whether a key binding token is asked for, and there is none.
@@ -52,8 +52,8 @@ fn check_holder(
     };
     match check_bound(alloc, bound) {
         Ok(()) => Ok(()),
-        Err(BindingError::Memory) => Err(VerifyError::Memory),
-        Err(BindingError::Fault(number)) => Err(fails(number)),
+        Err(BoundError::Memory) => Err(VerifyError::Memory),
+        Err(BoundError::Fails(condition)) => Err(fails(condition)),
     }
 }
 

@@ -10,17 +10,11 @@ ghost use Rattle.json_form.specs.declared.token.Token.{Token};
 ghost use Rattle.json_form.specs.Token.{IsToken, Spells};
 ghost use Rattle.json_form.specs.Written.{flat_of, general_of};
 ghost use Rattle.marked_tree.specs.Marked.{Marked};
-ghost use Rattle.verifier_core.specs.FaultLine.{IsFault, IsFaultLine};
 ghost use Rattle.verifier_core.specs.PolicyFile.{IsPolicyFile, IsPolicyFileRefused};
 ghost use Rattle.verifier_core.specs.Verdict.{Fails, IsAccepted};
 ghost use Rattle.verifier_core.specs.Verdicts.{HaveOneVerdict};
 ghost use Rattle.compact_form.specs.Lowest.{IsLowest};
 ghost use Rattle.verifier_core.specs.declared.policy.Policy.{Policy};
-
-/// A fault of a condition has one line.
-pub fn one_line()
-    ensures { (fault : Fault) (line other : List ℕ) → IsFault fault → IsFaultLine fault line → IsFaultLine fault other → line ≡ other }
-{}
 
 /// A file says one policy or is refused, and has one fault beside want of memory.
 pub fn one_policy()

@@ -15,7 +15,7 @@ use crate::check_signed::fails;
 use crate::holder::{check_shown, is_binding_missing};
 use crate::{CheckedMarks, CheckedPayload, Content, Policy, VerifyError};
 use claim_tree::Tree;
-use compact_form::BINDING_MISSING;
+use compact_form::Condition;
 use digest_index::Steps;
 use json_form::{TokenError, TokenText};
 use marked_tree::{Marked, strip};
@@ -55,7 +55,7 @@ fn read_content(
 {
     let view = token.view();
     if is_binding_missing(&view, policy) {
-        return Err(fails(BINDING_MISSING));
+        return Err(fails(Condition::BindingMissing));
     }
     Content::read(alloc, &view, &policy.rules())
 }

@@ -1,5 +1,6 @@
-use Rattle.compact_form.proofs.Numbers as numbers
+use Rattle.compact_form.proofs.Numbers.{one_condition, fault_is}
+use Rattle.compact_form.specs.Condition.{numbered}
 use Rattle.compact_form.proofs.laws.one_condition.Goals as goal
 
 pub returns : goal.returns
-returns c = record { one = numbers.one_condition; found = numbers.numbered }
+returns c = record { one = one_condition; found = numbered; fault = fault_is }

@@ -3,9 +3,8 @@ use Rattle.std.specs.Prelude.{slice_get}
 use Rattle.claim_tree.specs.Nodes.{nodes, elements_nodes, members_nodes}
 use Rattle.claim_tree.specs.View.{tree_of}
 use Rattle.claim_tree.specs.ListViews.{elements_of, members_of}
-use Rattle.issuer_core.proofs.ReservedPlaces.{ElementsFit, MembersFit}
+use Rattle.issuer_core.proofs.ReservedPlaces.{ElementsFit, MembersFit, left_elements, left_members, every}
 use Rattle.issuer_core.specs.ReservedPaths.{reserved_elements, reserved_members}
-use Rattle.issuer_core.proofs.ReservedPlaces.{left_elements, left_members, every}
 use Rattle.issuer_core.proofs.reserved.+reserved.Given as goal
 
 abbrev pub decreases-find : goal.decreases-find

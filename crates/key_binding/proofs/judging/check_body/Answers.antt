@@ -1,6 +1,6 @@
 use Rattle.std.proofs.Common.{refl}
 use Rattle.claim_tree.specs.View.{tree_of}
-use Rattle.compact_form.specs.Condition.{hash_differs, binding_time}
+use Rattle.compact_form.specs.declared.condition.Condition.{Condition}
 use Rattle.key_binding.specs.Judged.{HasClaims}
 use Rattle.key_binding.specs.JudgedSteps.{judged_of}
 use Rattle.key_binding.specs.Read.{claims_of}
@@ -20,14 +20,14 @@ returns-then-not-same-clause-refused c =
     let j = judged_of c.args.bound in
     let claims = claims_of c.in-Some.claims in
     let read : HasClaims j.token claims = record { body = tree_of c.args.body.now; is_body = c.requires.read; says = c.in-Some.ensures.some } in
-    refuse j hash_differs c.in_default-check_claims.ensures.ok (refl, (claims, read, λ same. no_truth _ c.if-not-same.true (c.in-Ok.ensures.1 same)))
+    refuse j Condition.HashDiffers c.in_default-check_claims.ensures.ok (refl, (claims, read, λ same. no_truth _ c.if-not-same.true (c.in-Ok.ensures.1 same)))
 
 pub returns-then-is_time_refused-clause-refused : goal.returns-then-is_time_refused-clause-refused
 returns-then-is_time_refused-clause-refused c =
     let j = judged_of c.args.bound in
     let claims = claims_of c.in-Some.claims in
     let read : HasClaims j.token claims = record { body = tree_of c.args.body.now; is_body = c.requires.read; says = c.in-Some.ensures.some } in
-    refuse j binding_time (at38 j c.in_default-check_claims.ensures.ok claims read (c.in-Ok.ensures.0 c.if-not-same.false)) (refl, (tree_of c.args.body.now, c.requires.read, c.is_time_refused.ensures.0 c.if-is_time_refused.true))
+    refuse j Condition.BindingTime (at38 j c.in_default-check_claims.ensures.ok claims read (c.in-Ok.ensures.0 c.if-not-same.false)) (refl, (tree_of c.args.body.now, c.requires.read, c.is_time_refused.ensures.0 c.if-is_time_refused.true))
 
 pub returns-clause-passes : goal.returns-clause-passes
 returns-clause-passes c =

@@ -1,5 +1,5 @@
 use Rattle.std.proofs.Common.{not, bytes_eq, refl, ap, ◌∙◌}
-use Rattle.compact_form.specs.Condition.{binding_stale, binding_early, nonce_differs, audience_differs}
+use Rattle.compact_form.specs.declared.condition.Condition.{Condition}
 use Rattle.key_binding.specs.JudgedSteps.{judged_of}
 use Rattle.key_binding.specs.Read.{claims_of}
 use Rattle.key_binding.proofs.BindingSteps.{refuse, at34, at35, at36, at37}
@@ -9,7 +9,7 @@ use Rattle.key_binding.proofs.judging.check_claims.Goals as goal
 pub returns-then-is_stale-clause-refused : goal.returns-then-is_stale-clause-refused
 returns-then-is_stale-clause-refused c =
     let j = judged_of c.args.bound in
-    refuse j binding_stale c.requires.below (refl, (claims_of c.args.claims, c.requires.read, c.is_stale.ensures.0 c.if-is_stale.true))
+    refuse j Condition.BindingStale c.requires.below (refl, (claims_of c.args.claims, c.requires.read, c.is_stale.ensures.0 c.if-is_stale.true))
 
 pub returns-then-is_early-clause-refused : goal.returns-then-is_early-clause-refused
 returns-then-is_early-clause-refused c =
@@ -17,7 +17,7 @@ returns-then-is_early-clause-refused c =
     let claims = claims_of c.args.claims in
     let read = c.requires.read in
     let fresh = at34 j c.requires.below claims read (λ stale. no_truth _ c.if-is_stale.false (c.is_stale.ensures.1 stale)) in
-    refuse j binding_early fresh (refl, (claims, read, c.is_early.ensures.0 c.if-is_early.true))
+    refuse j Condition.BindingEarly fresh (refl, (claims, read, c.is_early.ensures.0 c.if-is_early.true))
 
 pub returns-then-ne-clause-refused : goal.returns-then-ne-clause-refused
 returns-then-ne-clause-refused c =
@@ -26,7 +26,7 @@ returns-then-ne-clause-refused c =
     let read = c.requires.read in
     let fresh = at34 j c.requires.below claims read (λ stale. no_truth _ c.if-is_stale.false (c.is_stale.ensures.1 stale)) in
     let made = at35 j fresh claims read (λ early. no_truth _ c.if-is_early.false (c.is_early.ensures.1 early)) in
-    refuse j nonce_differs made
+    refuse j Condition.NonceDiffers made
     (refl, (claims, read, told_other claims.nonce j.policy.nonce c.ne.result (c.ne.ensures ∙ ap (λ t. not (bytes_eq claims.nonce t)) c.as_str.ensures) c.if-ne.true))
 
 pub returns-then-ne-2-clause-refused : goal.returns-then-ne-2-clause-refused
@@ -37,7 +37,7 @@ returns-then-ne-2-clause-refused c =
     let fresh = at34 j c.requires.below claims read (λ stale. no_truth _ c.if-is_stale.false (c.is_stale.ensures.1 stale)) in
     let made = at35 j fresh claims read (λ early. no_truth _ c.if-is_early.false (c.is_early.ensures.1 early)) in
     let nonces = told_same claims.nonce j.policy.nonce c.ne.result (c.ne.ensures ∙ ap (λ t. not (bytes_eq claims.nonce t)) c.as_str.ensures) c.if-ne.false in
-    refuse j audience_differs (at36 j made claims read nonces)
+    refuse j Condition.AudienceDiffers (at36 j made claims read nonces)
     (refl, (claims, read, told_other claims.aud j.policy.aud c.ne-2.result (c.ne-2.ensures ∙ ap (λ t. not (bytes_eq claims.aud t)) c.as_str-2.ensures) c.if-ne-2.true))
 
 pub returns-clause-ok : goal.returns-clause-ok

@@ -1,5 +1,5 @@
 use Rattle.std.proofs.Common.{not, bytes_eq, codes, refl, sym, ap, ◌∙◌}
-use Rattle.compact_form.specs.Condition.{binding_alg, binding_signature, binding_type}
+use Rattle.compact_form.specs.declared.condition.Condition.{Condition}
 use Rattle.key_binding.specs.JudgedSteps.{judged_of}
 use Rattle.key_binding.proofs.BindingSteps.{refuse, at28, at29, at30, at31, at32}
 use Rattle.key_binding.proofs.BindingTests.{told_same, told_other, no_truth}
@@ -9,7 +9,7 @@ pub returns-then-ne-clause-refused : goal.returns-then-ne-clause-refused
 returns-then-ne-clause-refused c =
     let j = judged_of c.args.bound in
     let h = c.args.header.now in
-    refuse j binding_alg (at29 j (at28 j c.args.key.now c.requires.key) h c.requires.read)
+    refuse j Condition.BindingAlg (at29 j (at28 j c.args.key.now c.requires.key) h c.requires.read)
     (refl, (h, c.requires.read, told_other h.alg (codes "HS256") c.ne.result (c.ne.ensures ∙ ap (λ t. not (bytes_eq t (codes "HS256"))) c.as_str.ensures) c.if-ne.true))
 
 pub returns-then-not-good-clause-refused : goal.returns-then-not-good-clause-refused
@@ -19,7 +19,7 @@ returns-then-not-good-clause-refused c =
     let has = c.requires.read in
     let key = c.args.key.now in
     let alg = told_same h.alg (codes "HS256") c.ne.result (c.ne.ensures ∙ ap (λ t. not (bytes_eq t (codes "HS256"))) c.as_str.ensures) c.if-ne.false in
-    refuse j binding_signature (at30 j (at29 j (at28 j key c.requires.key) h has) h has alg) (refl, (key, c.requires.key, λ good. no_truth _ c.if-not-good.true (c.in-Ok.ensures.1 good)))
+    refuse j Condition.BindingSignature (at30 j (at29 j (at28 j key c.requires.key) h has) h has alg) (refl, (key, c.requires.key, λ good. no_truth _ c.if-not-good.true (c.in-Ok.ensures.1 good)))
 
 pub returns-then-not-is_binding_type-clause-refused : goal.returns-then-not-is_binding_type-clause-refused
 returns-then-not-is_binding_type-clause-refused c =
@@ -29,7 +29,7 @@ returns-then-not-is_binding_type-clause-refused c =
     let key = c.args.key.now in
     let alg = told_same h.alg (codes "HS256") c.ne.result (c.ne.ensures ∙ ap (λ t. not (bytes_eq t (codes "HS256"))) c.as_str.ensures) c.if-ne.false in
     let passes = at31 j (at30 j (at29 j (at28 j key c.requires.key) h has) h has alg) key c.requires.key (c.in-Ok.ensures.0 c.if-not-good.false) in
-    refuse j binding_type passes (refl, (h, has, λ typ. no_truth _ c.if-not-is_binding_type.true (c.is_binding_type.ensures.1 (c.as_ref.ensures.value ∙ typ))))
+    refuse j Condition.BindingType passes (refl, (h, has, λ typ. no_truth _ c.if-not-is_binding_type.true (c.is_binding_type.ensures.1 (c.as_ref.ensures.value ∙ typ))))
 
 pub returns-clause-ok : goal.returns-clause-ok
 returns-clause-ok c =

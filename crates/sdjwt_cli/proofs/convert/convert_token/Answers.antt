@@ -1,12 +1,13 @@
-use Rattle.std.proofs.Common.{◌≡◌, ◌<◌, length, string_bytes, ap, refl, ◌∙◌, arith}
+use Rattle.std.proofs.Common.{◌≡◌, ◌<◌, length, string_bytes, ap, refl, subst, ◌∙◌, arith}
 use Rattle.sd_outside.specs.Limits.{file_max}
-use Rattle.compact_form.specs.Condition as condition
+use Rattle.compact_form.specs.declared.condition.Condition.{Condition}
+use Rattle.compact_form.specs.Faults.{unplaced}
 use Rattle.compact_form.specs.Condition.{number_of}
 use Rattle.compact_form.specs.declared.fault.Fault.{Fault}
 use Rattle.compact_form.specs.declared.fault.Place.TheVariants.{Nowhere}
-use Rattle.sdjwt_cli.specs.Lines.{line}
+use Rattle.sdjwt_cli.specs.Lines.{line, refusal}
 use Rattle.sdjwt_cli.specs.Converting.{IsConvertRefused, written, too_much}
-use Rattle.sdjwt_cli.proofs.Refusals.{convert_condition}
+use Rattle.sdjwt_cli.specs.Stops.{OnRefused}
 use Rattle.sdjwt_cli.proofs.Stopped.{of_refusal}
 use Rattle.sdjwt_cli.proofs.Converted.{converts}
 use Rattle.sdjwt_cli.proofs.convert.convert_token.Goals as goal
@@ -18,10 +19,10 @@ returns-clause-refuses c file reads =
     let form = c.args.form in
     let whole : string_bytes c.in_ok-text.text ≡ line (written form token) = c.in_ok-text.ensures ∙ ap line c.in_ok-write_as.ensures.text in
     let long : file_max < length (line (written form token)) = omega (arith, c.len.ensures, c.if-len-le-FILE_MAX.false, ap length whole) in
-    let fault : Fault = record { number = number_of condition.too_much; place = Nowhere } in
+    let fault : Fault = unplaced Condition.TooMuch in
     let refused = too_much token reads long refl in
-    let numbered = convert_condition form file fault refused in
-    of_refusal (TellsFault (IsConvertRefused form file)) fault (record { fault = fault; refused = refused; line_is = refl }) c.refused.result (c.refused.ensures.line numbered.0 numbered.1)
+    of_refusal (TellsFault (IsConvertRefused form file)) fault (record { fault = fault; refused = refused; line_is = refl }) c.refused.result
+    (subst (λ (f : Fault). OnRefused c.refused.result (λ text. text ≡ refusal f)) c.fault.ensures c.refused.ensures.line)
 
 pub returns-then-len-le-FILE_MAX-clause-converts : goal.returns-then-len-le-FILE_MAX-clause-converts
 returns-then-len-le-FILE_MAX-clause-converts c file reads =

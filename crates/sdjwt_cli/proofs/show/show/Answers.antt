@@ -2,7 +2,6 @@ use Rattle.std.proofs.Common.{subst, refl}
 use Rattle.sdjwt_cli.specs.declared.show.Unshown.{Unshown}
 use Rattle.sdjwt_cli.specs.Show.{IsShowRefused}
 use Rattle.sdjwt_cli.specs.ShowSteps.{OnFails}
-use Rattle.sdjwt_cli.proofs.Refusals.{show_condition}
 use Rattle.sdjwt_cli.proofs.Stopped.{of_refusal}
 use Rattle.sdjwt_cli.proofs.show.show.Goals as goal
 use Rattle.sdjwt_cli.specs.Telling.{TellsFault}
@@ -11,5 +10,4 @@ pub returns-in-Err-Fails-clause-refuses : goal.returns-in-Err-Fails-clause-refus
 returns-in-Err-Fails-clause-refuses c =
     let fault = c.in-Err-Fails.fault in
     let failed = subst (λ (e : Unshown). OnFails e (IsShowRefused c.args.file.now)) c.in-Err-Fails.field-0-is c.in-Err-Fails.ensures.fails in
-    let numbered = show_condition c.args.file.now fault failed in
-    of_refusal (TellsFault (IsShowRefused c.args.file.now)) fault (record { fault = fault; refused = failed; line_is = refl }) c.refused.result (c.refused.ensures.line numbered.0 numbered.1)
+    of_refusal (TellsFault (IsShowRefused c.args.file.now)) fault (record { fault = fault; refused = failed; line_is = refl }) c.refused.result c.refused.ensures.line

@@ -1,5 +1,4 @@
 use Rattle.std.proofs.Common.{Err, ap, refl}
-use Rattle.sdjwt_cli.proofs.Refusals.{form_condition}
 use Rattle.sdjwt_cli.proofs.Stopped.{of_refusal}
 use Rattle.sdjwt_cli.proofs.split.split.Goals as goal
 use Rattle.sdjwt_cli.specs.Telling.{TellsFault}
@@ -9,5 +8,4 @@ pub returns-in-Err-Fault-clause-refuses : goal.returns-in-Err-Fault-clause-refus
 returns-in-Err-Fault-clause-refuses c =
     let fault = c.in-Err-Fault.fault in
     let refused = c.in-Err-Fault.ensures.refused fault (ap Err c.in-Err-Fault.field-0-is) in
-    let numbered = form_condition c.args.file.now fault refused in
-    of_refusal (TellsFault (IsTextRefused c.args.file.now)) fault (record { fault = fault; refused = refused; line_is = refl }) c.refused.result (c.refused.ensures.line numbered.0 numbered.1)
+    of_refusal (TellsFault (IsTextRefused c.args.file.now)) fault (record { fault = fault; refused = refused; line_is = refl }) c.refused.result c.refused.ensures.line

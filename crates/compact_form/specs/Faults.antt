@@ -1,0 +1,33 @@
+-- The fault that names a condition and its place, and the condition that a fault names.
+use Rattle.std.specs.Prelude.{ℕ, Option, Some, None, IsSome, is_some}
+use Rattle.std.proofs.Common.{ap}
+use Rattle.std.proofs.lemmas.Bool.{false≢true}
+use Rattle.compact_form.specs.declared.condition.Condition.{Condition}
+use Rattle.compact_form.specs.declared.fault.Fault.{Fault}
+use Rattle.compact_form.specs.declared.fault.Place.{Place}
+use Rattle.compact_form.specs.declared.fault.Place.TheVariants.{Nowhere, At}
+use Rattle.compact_form.specs.Condition.{number_of, condition_of, numbered}
+
+abbrev pub fault_number : Fault → ℕ
+fault_number fault = fault.number
+
+-- the condition fails at this place
+abbrev pub fault_at : Condition → Place → Fault
+fault_at condition place = record { number = number_of condition; place = place; of_condition = ap is_some (numbered condition) }
+
+-- it names no place
+abbrev pub unplaced : Condition → Fault
+unplaced condition = fault_at condition Nowhere
+
+-- it fails at a number
+abbrev pub placed : Condition → ℕ → Fault
+placed condition i = fault_at condition (At i)
+
+-- the condition that is found
+abbrev pub found_condition : (found : Option Condition) → IsSome found → Condition
+found_condition (Some condition) is = condition
+found_condition None is = absurd (false≢true is)
+
+-- the condition that the fault names
+abbrev pub failed_of : Fault → Condition
+failed_of fault = found_condition (condition_of fault.number) fault.of_condition
