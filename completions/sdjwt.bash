@@ -13,7 +13,7 @@ _sdjwt() {
     COMPREPLY=()
     case $COMP_CWORD,${COMP_WORDS[1]} in
         1,*)
-            COMPREPLY=($(compgen -W 'issue present verify show split convert' -- "$word"))
+            COMPREPLY=($(compgen -W 'issue present verify show split convert gen' -- "$word"))
             ;;
         2,convert)
             COMPREPLY=($(compgen -W 'compact flat general' -- "$word"))

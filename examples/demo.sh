@@ -184,4 +184,7 @@ show verify policy.json rfc9901_chosen_general.json
 keep shown_flat.json convert flat shown.txt
 show verify policy_binding.json shown_flat.json
 show convert xml rfc9901.txt
+
+# All three ends at work in one run, with no file: how much there is of a token with 30 members.
+show gen 30
 echo "The program is $sdjwt. Its files here are those of examples/."

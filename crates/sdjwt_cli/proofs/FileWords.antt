@@ -3,8 +3,9 @@ use Rattle.std.proofs.Common.{◌≡◌, ◌⊎◌, inl, inr, ℕ, ◌+◌, List
 use Rattle.std.specs.Prelude.{bytes_eq, codes}
 use Rattle.std.specs.Option.{option_map}
 use Rattle.claim_tree.specs.Lists.{StandsAt, In}
-use Rattle.sdjwt_cli.specs.Command.{Command, split, show, verify, issue, present, convert, command_of, NamedFile, files_of}
+use Rattle.sdjwt_cli.specs.Command.{Command, split, show, verify, issue, present, convert, gen, command_of, NamedFile, files_of}
 use Rattle.sdjwt_cli.specs.Forms.{form_of}
+use Rattle.sdjwt_cli.specs.Generated.{count_of}
 use Rattle.sdjwt_cli.specs.declared.form.Form.{Form}
 
 abbrev AreWords : List (List ℕ) → Command → Type 0
@@ -40,6 +41,10 @@ of_form : (words : List (List ℕ)) (command : Command) (token : List ℕ) (o : 
 of_form words command token None are e = none words command e
 of_form words command token (Some form) are e = found words (convert form token) command (are form) e
 
+of_count : (words : List (List ℕ)) (command : Command) (o : Option ℕ) → option_map gen o ≡ Some command → AreWords words command
+of_count words command None e = none words command e
+of_count words command (Some count) e = found words (gen count) command (λ wanted there. absurd there) e
+
 pub files_are_words : (words : List (List ℕ)) (command : Command) → command_of words ≡ Some command → AreWords words command
 files_are_words [] command e = none [] command e
 files_are_words (word ∷ []) command e = none (word ∷ []) command e
@@ -48,7 +53,8 @@ files_are_words (word ∷ token ∷ []) command e =
     let showing : AreWords words (show token) = λ wanted. one_file words _ wanted refl in
     let splitting : AreWords words (split token) = λ wanted. one_file words _ wanted refl in
     either words command (bytes_eq word (codes "split")) _ _ (found words (split token) command splitting)
-    (either words command (bytes_eq word (codes "show")) _ _ (found words (show token) command showing) (none words command)) e
+    (either words command (bytes_eq word (codes "show")) _ _ (found words (show token) command showing)
+    (either words command (bytes_eq word (codes "gen")) _ _ (of_count words command (count_of token)) (none words command))) e
 files_are_words (word ∷ first ∷ second ∷ []) command e =
     let words = word ∷ first ∷ second ∷ [] in
     let verifying : AreWords words (verify first second) = λ wanted. two_files words _ _ wanted refl refl in

@@ -26,3 +26,10 @@ mod SuitsExample
 mod SuitedFiles
 mod IssuedValues
 mod Examples
+mod HiddenPaths
+mod GeneratedWords
+mod GeneratedOrder
+mod EmbeddedDigests
+mod SummaryVerdicts
+mod Summaries
+mod GeneratedKeys

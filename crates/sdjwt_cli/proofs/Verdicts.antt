@@ -8,7 +8,7 @@ use Rattle.sd_outside.specs.declared.status.Status.{Status}
 use Rattle.sd_outside.specs.declared.status.Status.TheVariants.{Done, Refused, Usage, Unread, Unwritten, Memory, Unreadable}
 use Rattle.json_form.specs.declared.token.Token.{Token}
 use Rattle.json_form.proofs.Tokens as tokens
-use Rattle.sdjwt_cli.specs.Command.{Command, split, show, verify, issue, present, convert, command_of, NamedFile, files_of}
+use Rattle.sdjwt_cli.specs.Command.{Command, split, show, verify, issue, present, convert, gen, command_of, NamedFile, files_of}
 use Rattle.sdjwt_cli.specs.Lines.{refusal}
 use Rattle.sdjwt_cli.specs.Split.{split_lines}
 use Rattle.sdjwt_cli.specs.Answers.{Reply, gives, refuses, unreadable, SplitAnswers, ShowAnswers, Answers, AreFetched, AreTold, IsAnswered}
@@ -18,6 +18,7 @@ use Rattle.sdjwt_cli.proofs.VerifyVerdicts.{one_verify}
 use Rattle.sdjwt_cli.proofs.IssueVerdicts.{one_issue}
 use Rattle.sdjwt_cli.proofs.PresentVerdicts.{one_present}
 use Rattle.sdjwt_cli.proofs.ConvertVerdicts.{one_convert}
+use Rattle.sdjwt_cli.proofs.SummaryVerdicts.{one_gen}
 
 one_split : (file : List ℕ) (v w : Reply) → SplitAnswers file v → SplitAnswers file w → v ≡ w
 one_split file (gives a) (gives b) g h = ap gives (g.lines ∙ ap (λ (t : Token). split_lines t.parts) (tokens.one file g.token h.token g.reads h.reads) ∙ sym h.lines)
@@ -59,6 +60,8 @@ one_answer (present order token) (file ∷ other ∷ more ∷ files) now v w g h
 one_answer (convert form token) [] now v w g h = absurd g
 one_answer (convert form token) (file ∷ []) now v w g h = one_convert form file v w g h
 one_answer (convert form token) (file ∷ more ∷ files) now v w g h = absurd g
+one_answer (gen count) [] now v w g h = one_gen count v w g h
+one_answer (gen count) (file ∷ files) now v w g h = absurd g
 
 none_some : (o : Option Command) (k : Command) → o ≡ None → o ≡ Some k → ⊥
 none_some o k e f = cc

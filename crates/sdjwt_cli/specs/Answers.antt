@@ -1,7 +1,7 @@
 -- What each command answers over its files, by its definition.
 use Rattle.std.specs.Prelude.{◌≡◌, ℕ, List, [], ◌∷◌, Option, IfSome, IsSomeAnd, take}
 use Rattle.std.specs.List.{AllZip}
-use Rattle.sdjwt_cli.specs.Command.{Command, split, show, verify, issue, present, convert, NamedFile, files_of}
+use Rattle.sdjwt_cli.specs.Command.{Command, split, show, verify, issue, present, convert, gen, NamedFile, files_of}
 use Rattle.sdjwt_cli.specs.Split.{Splits}
 use Rattle.sdjwt_cli.specs.Show.{IsShowRefused, Shows}
 use Rattle.sdjwt_cli.specs.Verify.{Verifies, DoesNotVerify}
@@ -9,6 +9,7 @@ use Rattle.sdjwt_cli.specs.Issuing.{Issues, DoesNotIssue, HasNoOrder}
 use Rattle.sdjwt_cli.specs.Presenting.{Presents, DoesNotPresent}
 use Rattle.sdjwt_cli.specs.declared.form.Form.{Form}
 use Rattle.sdjwt_cli.specs.Converting.{IsConvertRefused, Converts}
+use Rattle.sdjwt_cli.specs.Summary.{Summarizes, DoesNotSummarize}
 use Rattle.sdjwt_cli.specs.Telling.{TellsFileFault, TellsFault}
 use Rattle.json_form.specs.Token.{IsTextRefused}
 use Rattle.verifier_core.specs.PolicyFile.{IsPolicyFileRefused}
@@ -44,7 +45,14 @@ PresentAnswers order token now reply = Replies (Presents order token now) (DoesN
 abbrev pub ConvertAnswers : Form → List ℕ → Reply → Type 0
 ConvertAnswers form file reply = Replies (Converts form file) (TellsFault (IsConvertRefused form file)) (λ _. ⊥) reply
 
--- of a list of one file, or of two, and of no other
+abbrev pub GenAnswers : ℕ → Reply → Type 0
+GenAnswers count reply = Replies (Summarizes count) (DoesNotSummarize count) (λ _. ⊥) reply
+
+-- of no file, of a list of one, or of two, and of no other
+abbrev pub OfNone : Type 0 → List (List ℕ) → Type 0
+OfNone Is [] = Is
+OfNone Is _ = ⊥
+
 abbrev pub OfOne : (List ℕ → Type 0) → List (List ℕ) → Type 0
 OfOne Is (file ∷ []) = Is file
 OfOne Is _ = ⊥
@@ -61,6 +69,7 @@ Answers (verify policy token) files now verdict = OfTwo (λ file other. VerifyAn
 Answers (issue order seed) files now verdict = OfTwo (λ file other. IssueAnswers file other verdict) files
 Answers (present order token) files now verdict = OfTwo (λ file other. PresentAnswers file other now verdict) files
 Answers (convert form token) files now verdict = OfOne (λ file. ConvertAnswers form file verdict) files
+Answers (gen count) files now verdict = OfNone (GenAnswers count verdict) files
 
 -- each file is what a fetch answers, where the cabinet tells it
 abbrev pub AreFetched : (List ℕ → Option (List ℕ)) → Command → List (List ℕ) → Type 0

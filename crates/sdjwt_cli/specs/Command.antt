@@ -4,8 +4,9 @@ use Rattle.std.specs.Option.{option_map}
 use Rattle.sd_outside.specs.Limits.{file_max, seed_len}
 use Rattle.sdjwt_cli.specs.declared.form.Form.{Form}
 use Rattle.sdjwt_cli.specs.Forms.{form_of}
+use Rattle.sdjwt_cli.specs.Generated.{count_of}
 
--- a command, with the names of its files, and of `convert` the form
+-- a command, with the names of its files, of `convert` the form, and of `gen` the number
 pub data Command : Type 0 where
   split : (token : List ℕ) → Command
   show : (token : List ℕ) → Command
@@ -13,12 +14,13 @@ pub data Command : Type 0 where
   issue : (order seed : List ℕ) → Command
   present : (order token : List ℕ) → Command
   convert : (form : Form) (token : List ℕ) → Command
+  gen : (count : ℕ) → Command
 
 -- the command that the words behind the program's name are
 abbrev pub command_of : List (List ℕ) → Option Command
 command_of [] = None
 command_of (word ∷ []) = None
-command_of (word ∷ token ∷ []) = if bytes_eq word (codes "split") then Some (split token) else if bytes_eq word (codes "show") then Some (show token) else None
+command_of (word ∷ token ∷ []) = if bytes_eq word (codes "split") then Some (split token) else if bytes_eq word (codes "show") then Some (show token) else if bytes_eq word (codes "gen") then option_map gen (count_of token) else None
 command_of (word ∷ first ∷ second ∷ []) = if bytes_eq word (codes "verify") then Some (verify first second) else if bytes_eq word (codes "issue") then Some (issue first second) else if bytes_eq word (codes "present") then Some (present first second) else if bytes_eq word (codes "convert") then option_map (λ form. convert form second) (form_of first) else None
 command_of (word ∷ first ∷ second ∷ more ∷ rest) = None
 
@@ -37,3 +39,4 @@ files_of (verify policy token) = record { word = 0; name = policy; most = file_m
 files_of (issue order seed) = record { word = 0; name = order; most = file_max + 1 } ∷ record { word = 1; name = seed; most = seed_len } ∷ []
 files_of (present order token) = record { word = 0; name = order; most = file_max + 1 } ∷ record { word = 1; name = token; most = file_max + 1 } ∷ []
 files_of (convert form token) = record { word = 1; name = token; most = file_max + 1 } ∷ []
+files_of (gen count) = []

@@ -14,8 +14,13 @@ pub mod Presenting
 pub mod Forms
 pub mod Converting
 pub mod Suits
+pub mod Tokens
 pub mod Presented
 pub mod PresentingSteps
 pub mod ConvertingSteps
 pub mod ShowSteps
 pub mod PresentedValues
+pub mod Generated
+pub mod Summary
+pub mod GeneratedSteps
+pub mod SummarySteps

@@ -1,5 +1,5 @@
--- What the laws of presenting say: what a holder presents of an issued token, and what a verifier finds of it; over values, over files,
--- and over runs.
+-- What the laws of presenting say: what a holder presents of an issued token, and what a verifier finds of it; over files, and
+-- over runs.
 use Rattle.std.specs.Prelude.{◌≡◌, ◌≢◌, ℕ, ◌<◌, ◌^◌, List, [], ◌∷◌, ◌++◌, Some}
 use Rattle.std.specs.Io.KnownBytes.{Appends}
 use Rattle.sd_outside.specs.declared.status.Status.{Status}

@@ -4,7 +4,6 @@ use Rattle.claim_tree.specs.Tree.{Tree}
 use Rattle.compact_form.specs.declared.parts.Parts.{Parts}
 use Rattle.compact_form.specs.Compact.{compact}
 use Rattle.hmac_sign.specs.Hmac.{IsGood}
-use Rattle.json_form.specs.Alone.{alone}
 use Rattle.json_form.specs.Token.{IsToken}
 use Rattle.selection_core.specs.Consent.{RuleAnswers}
 use Rattle.verifier_core.specs.Verdicts.{IsAcceptedAs}
@@ -16,6 +15,7 @@ use Rattle.holder_core.specs.declared.errors.PresentError.{PresentError}
 use Rattle.holder_core.specs.declared.errors.PresentError.TheVariants.{Memory, SignFailed}
 use Rattle.sdjwt_cli.specs.Issuing.{IsIssuedBy}
 use Rattle.sdjwt_cli.specs.Suits.{Suits}
+use Rattle.sdjwt_cli.specs.Tokens.{alone}
 use Rattle.sd_outside.specs.Limits.{binding_text_max}
 use Rattle.holder_core.specs.declared.ask.BindingAsk.{BindingAsk}
 use Rattle.issuer_core.specs.Digests.{marked_claims}

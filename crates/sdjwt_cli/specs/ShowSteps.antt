@@ -1,5 +1,5 @@
 -- For private functions: what the steps of `show` answer.
-use Rattle.std.specs.Prelude.{◌≡◌, ℕ, ◌+◌, List, ◌++◌}
+use Rattle.std.specs.Prelude.{◌≡◌, ℕ, List, ◌++◌}
 use Rattle.std.specs.List.{AllZip}
 use Rattle.claim_tree.specs.Tree.{Text}
 use Rattle.compact_form.specs.declared.fault.Fault.{Fault}

@@ -4,8 +4,9 @@ ghost use Rattle.sdjwt_cli.specs.Command.{command_of};
 ghost use Rattle.sdjwt_cli.specs.Names.{meant_by};
 
 use crate::form::Form;
+use crate::generated::count_of;
 
-// A command, with the names of its files, and of `convert` the form.
+// A command, with the names of its files, of `convert` the form, and of `gen` the number.
 #[derive(Clone, Copy, Debug)]
 pub(crate) enum Command<'a> {
     Split { token: &'a str },
@@ -14,15 +15,19 @@ pub(crate) enum Command<'a> {
     Issue { order: &'a str, seed: &'a str },
     Present { order: &'a str, token: &'a str },
     Convert { form: Form, token: &'a str },
+    Gen { count: u32 },
 }
 
-// The command of this name over one file.
-fn over_one<'a>(name: &str, token: &'a str) -> Option<Command<'a>>
-    ensures { option_map meant_by result ≡ command_of (name.now ∷ token.now ∷ []) }
+// The command of this name over one file, or of one number.
+fn over_one<'a>(name: &str, word: &'a str) -> Option<Command<'a>>
+    ensures { option_map meant_by result ≡ command_of (name.now ∷ word.now ∷ []) }
 {
     match name {
-        "split" => Some(Command::Split { token }),
-        "show" => Some(Command::Show { token }),
+        "split" => Some(Command::Split { token: word }),
+        "show" => Some(Command::Show { token: word }),
+        "gen" => Some(Command::Gen {
+            count: count_of(word)?,
+        }),
         _ => None,
     }
 }
@@ -58,7 +63,7 @@ impl<'a> Command<'a> {
         ensures { option_map meant_by result ≡ command_of (map string_bytes words.now) }
     {
         match words {
-            [name, token] => over_one(name.as_str(), token.as_str()),
+            [name, word] => over_one(name.as_str(), word.as_str()),
             [name, first, second] => over_two(name.as_str(), first.as_str(), second.as_str()),
             _ => None,
         }

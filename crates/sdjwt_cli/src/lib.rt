@@ -7,6 +7,7 @@
 mod command;
 mod convert;
 mod form;
+mod generated;
 mod issue;
 pub mod laws;
 mod lines;
@@ -15,6 +16,7 @@ mod present;
 mod show;
 mod split;
 mod stop;
+mod summary;
 mod top;
 mod verify;
 

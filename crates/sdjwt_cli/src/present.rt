@@ -38,7 +38,7 @@ fn signer(key: Option<Hs256Key>) -> Hs256Key
 }
 
 // What is presented of a token where no place is shown to which a path of `never` leads.
-fn present_parts(
+pub(crate) fn present_parts(
     alloc: Global,
     token_file: &[u8],
     ask: &Ask,

@@ -14,6 +14,7 @@ use crate::present::present;
 use crate::show::show;
 use crate::split::split;
 use crate::stop::Stop;
+use crate::summary::summary;
 use crate::verify::verify;
 use compact_form::FILE_MAX;
 use sd_outside::{ByteBox, Cabinet, Failed, FetchError, Sink, Status};
@@ -89,6 +90,7 @@ fn answer<C: Cabinet>(
             let file = fetch_file(alloc, cab, token, FETCH_MAX, 1)?;
             convert(alloc, form, file.bytes())
         }
+        Command::Gen { count } => summary(alloc, count),
     }
 }
 

@@ -1,6 +1,6 @@
 use Rattle.std.proofs.Common.{[], ◌∷◌, ◌+◌, refl}
 use Rattle.sd_outside.specs.Limits.{file_max, seed_len}
-use Rattle.sdjwt_cli.specs.Command.{split, show, verify, issue, present, convert}
+use Rattle.sdjwt_cli.specs.Command.{split, show, verify, issue, present, convert, gen}
 use Rattle.sdjwt_cli.specs.Answers.{AreFetched}
 use Rattle.sdjwt_cli.proofs.Lifts.{fetched_as, lift_gives, lift_refuses, lift_unreadable}
 use Rattle.sdjwt_cli.proofs.top.answer.Given as given
@@ -128,3 +128,9 @@ returns-in_ok-file-in-Convert-clause-refuses g c =
     let name = c.in-Convert.token.now in
     let file = fetched_as (held name) (held name) (file_max + 1) c.in_ok-file-in-Convert.file c.bytes-in-Convert.result.now refl c.bytes-in-Convert.ensures c.in_ok-file-in-Convert.ensures.content in
     rw c.in-Convert.is (lift_refuses held (convert c.in-Convert.form name) (c.bytes-in-Convert.result.now ∷ []) (file, tt) c.args.now c.convert.result c.convert.ensures.refuses)
+
+pub returns-in-Gen-clause-gives : goal.returns-in-Gen-clause-gives
+returns-in-Gen-clause-gives g c = rw c.in-Gen.is (lift_gives (g.C.Cabinet.holds c.args.cab.now) (gen c.in-Gen.count) [] tt c.args.now c.summary.result c.summary.ensures.summarizes)
+
+pub returns-in-Gen-clause-refuses : goal.returns-in-Gen-clause-refuses
+returns-in-Gen-clause-refuses g c = rw c.in-Gen.is (lift_refuses (g.C.Cabinet.holds c.args.cab.now) (gen c.in-Gen.count) [] tt c.args.now c.summary.result c.summary.ensures.refuses)

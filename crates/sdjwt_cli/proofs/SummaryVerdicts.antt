@@ -1,0 +1,57 @@
+-- The command `gen` has one verdict.
+use Rattle.std.proofs.Common.{◌≡◌, ℕ, List, [], ap, ap₂, subst, ◌∙◌, sym}
+use Rattle.claim_tree.specs.Tree.{Tree}
+use Rattle.compact_form.specs.declared.parts.Parts.{Parts}
+use Rattle.compact_form.specs.Compact.{compact}
+use Rattle.digest_sites.specs.Given.{Given}
+use Rattle.hmac_sign.specs.Hmac.{IsGood}
+use Rattle.verifier_core.specs.Verdict.{HasContent}
+use Rattle.verifier_core.proofs.CheckSteps.{one_content}
+use Rattle.issuer_core.specs.declared.errors.IssueError.{IssueError}
+use Rattle.issuer_core.specs.RefusalLine.{issue_refusal_text}
+use Rattle.issuer_core.specs.Seed.{maker_of}
+use Rattle.issuer_core.proofs.OneToken.{one_token, issued_not_refused}
+use Rattle.issuer_core.proofs.OneRefusal.{one_refusal}
+use Rattle.holder_core.specs.Present.{IsPresented}
+use Rattle.holder_core.proofs.OnePresentation.{HasOneSignature, one_presented}
+use Rattle.sdjwt_cli.specs.Answers.{Reply, gives, refuses, unreadable, GenAnswers}
+use Rattle.sdjwt_cli.specs.Generated.{generated, generated_seed, generated_key, generated_ask}
+use Rattle.sdjwt_cli.specs.Lines.{line}
+use Rattle.sdjwt_cli.specs.Never.{never_rule}
+use Rattle.sdjwt_cli.specs.Tokens.{alone}
+use Rattle.sdjwt_cli.specs.Summary.{Summarizes, DoesNotSummarize, hidden_paths, chosen_places, embedded_digests, shown_length, summary_lines}
+use Rattle.sdjwt_cli.proofs.NeverShown.{never_decided}
+
+one_signature : (key : List ℕ) → HasOneSignature (IsGood key)
+one_signature key head body one other h k = h ∙ sym k
+
+module _ (n : ℕ) where
+  same_presented : (a b : List ℕ) (g : Summarizes n a) (h : Summarizes n b) → g.presented ≡ h.presented
+  same_presented a b g h =
+      let issued : g.issued ≡ h.issued = one_token (maker_of generated_seed) (generated n) generated_key g.issued h.issued g.shown.is_issued.laid h.shown.is_issued.laid in
+      let presented = subst (λ (parts : Parts). IsPresented never_rule [] (compact parts) (generated_ask n) (IsGood generated_key) 0 g.presented) issued g.shown.is_presented in
+      one_presented never_rule [] (never_decided []) (compact h.issued) (generated_ask n) (IsGood generated_key) (one_signature generated_key) 0 g.presented h.presented presented h.shown.is_presented
+
+  summarized : (a b : List ℕ) → Summarizes n a → Summarizes n b → a ≡ b
+  summarized a b g h =
+      let content = subst (λ (parts : Parts). HasContent (alone parts) g.payload g.given) (same_presented a b g h) g.content in
+      let same = one_content (alone h.presented) g.payload h.payload g.given h.given content h.content in
+      g.lines ∙ (ap₂ (λ (p : Tree) (given : List Given). summary_lines (hidden_paths n) (chosen_places n) (embedded_digests p given) (shown_length n)) same.0 same.1 ∙ sym h.lines)
+
+  refused : (a b : List ℕ) → DoesNotSummarize n a → DoesNotSummarize n b → a ≡ b
+  refused a b g h =
+      g.line_is ∙ (ap (λ (error : IssueError). line (issue_refusal_text error)) (one_refusal (maker_of generated_seed) (generated n) (IsGood generated_key) g.error h.error g.lowest h.lowest) ∙ sym h.line_is)
+
+  not_both : (a b : List ℕ) → Summarizes n a → DoesNotSummarize n b → ⊥
+  not_both a b g h =
+      let is = g.shown.is_issued in
+      issued_not_refused (maker_of generated_seed) (generated n) generated_key g.issued is.passes is.differ is.laid is.short h.error h.lowest.applies
+
+  pub one_gen : (v w : Reply) → GenAnswers n v → GenAnswers n w → v ≡ w
+  one_gen (gives a) (gives b) g h = ap gives (summarized a b g h)
+  one_gen (gives a) (refuses b) g h = absurd (not_both a b g h)
+  one_gen (gives a) (unreadable b) g h = absurd h
+  one_gen (refuses a) (gives b) g h = absurd (not_both b a h g)
+  one_gen (refuses a) (refuses b) g h = ap refuses (refused a b g h)
+  one_gen (refuses a) (unreadable b) g h = absurd h
+  one_gen (unreadable a) w g h = absurd g
