@@ -1,4 +1,4 @@
--- Not needed to believe the program's promises: a token without members of an unprotected header.
+-- A token without members of an unprotected header.
 use Rattle.claim_tree.specs.Tree.{no_members}
 use Rattle.compact_form.specs.declared.parts.Parts.{Parts}
 use Rattle.json_form.specs.declared.token.Token.{Token}
