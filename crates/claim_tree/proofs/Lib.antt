@@ -7,6 +7,7 @@ pub mod Positions
 pub mod Walks
 pub mod TreeTokens
 pub mod Datas
+mod TreeReading
 pub mod RoundTrip
 pub mod Everywheres
 pub mod TreeTexts

@@ -4,6 +4,7 @@
 //! steps, each a text; its JSON Pointer (RFC 6901) is read by [`read_pointer`] and printed by [`print_path`].
 #![tactic(auto)]
 
+mod build;
 mod convert;
 mod copies;
 mod depths;
@@ -17,6 +18,7 @@ mod pointer;
 mod text;
 mod tokens;
 mod tree;
+mod whole_number;
 
 pub use copies::{copy, copy_members};
 pub use depths::depth;
@@ -28,5 +30,5 @@ pub use file_list::{pointer_list_member, pointer_of};
 pub use inside::{find, get, position};
 pub use path::{Path, PathList};
 pub use pointer::{PointerError, is_prefix, print_path, read_pointer};
-pub use text::{ReadError, read, write};
+pub use text::{JsonReader, ReadError, read, write};
 pub use tree::{Tree, TreeList, TreeMap};

@@ -1,14 +1,16 @@
 // JSON texts, read and written.
-ghost use Rattle.std.specs.Prelude.{◌≡◌, ◌≤◌, IfOk, IfErr};
+ghost use Rattle.std.specs.Prelude.{◌≡◌, ◌≤◌, Some, IfOk, IfErr, IsUtf8};
+ghost use Rattle.serde_json.specs.Read.{read as value_of_text};
 ghost use Rattle.claim_tree.specs.Tree.{IsRanged, IsOrdered, depth as depth_of};
 ghost use Rattle.claim_tree.specs.View.{tree_of};
-ghost use Rattle.claim_tree.specs.JsonText.{Reads, json_text};
+ghost use Rattle.claim_tree.specs.JsonText.{Reads, data_of, json_text};
 ghost use Rattle.claim_tree.specs.JsonRefusals.{IsReadRefused};
 
+use crate::build::{BuildError, build_text};
 use crate::convert::{TakeError, take};
 use crate::tokens::put_tree;
 use crate::tree::{Tree, is_ordered};
-use json::Writer;
+use json::{Scratch, Writer};
 use sd_outside::{NoMemory, TextBox};
 use serde_json::Value;
 use std::alloc::Global;
@@ -25,7 +27,41 @@ pub enum ReadError {
     NotWhole,
 }
 
-/// The tree of a JSON text (RFC 8259). Of two members of one name the last is kept.
+/// What reads JSON texts. One that is kept reads many texts in the same memory.
+#[derive(Drop)]
+pub struct JsonReader {
+    scratch: Scratch,
+}
+
+impl JsonReader {
+    pub fn new(alloc: Global) -> JsonReader {
+        JsonReader {
+            scratch: Scratch::new(alloc),
+        }
+    }
+
+    /// The tree of a JSON text (RFC 8259). Of two members of one name the last is kept.
+    pub fn read(&mut self, alloc: Global, bytes: &[u8]) -> Result<Tree, ReadError>
+        ensures ok { IfOk result (λ t. Reads bytes.now (tree_of t)) }
+        ensures ranged { IfOk result (λ t. IsRanged (tree_of t)) }
+        ensures ordered { IfOk result (λ t. IsOrdered (tree_of t)) }
+        ensures depth { IfOk result (λ t. depth_of (tree_of t) ≤ 127) }
+        ensures unread { IfErr result (IsReadRefused bytes.now) }
+    {
+        let Ok(text) = str::from_utf8(bytes) else {
+            return Err(ReadError::NotJson);
+        };
+        let tree = match build_text(alloc, &mut self.scratch, text) {
+            Ok(tree) => tree,
+            Err(BuildError::Memory) => return Err(ReadError::Memory),
+            Err(BuildError::NoTree) => read_value(alloc, text)?,
+        };
+        is_ordered(&tree);
+        Ok(tree)
+    }
+}
+
+/// The same, of one text.
 pub fn read(alloc: Global, bytes: &[u8]) -> Result<Tree, ReadError>
     ensures ok { IfOk result (λ t. Reads bytes.now (tree_of t)) }
     ensures ranged { IfOk result (λ t. IsRanged (tree_of t)) }
@@ -33,19 +69,22 @@ pub fn read(alloc: Global, bytes: &[u8]) -> Result<Tree, ReadError>
     ensures depth { IfOk result (λ t. depth_of (tree_of t) ≤ 127) }
     ensures unread { IfErr result (IsReadRefused bytes.now) }
 {
-    let Ok(text) = str::from_utf8(bytes) else {
-        return Err(ReadError::NotJson);
-    };
+    JsonReader::new(alloc).read(alloc, bytes)
+}
+
+// The tree of the value that `serde_json` reads of a text, or why it has none.
+fn read_value(alloc: Global, text: &str) -> Result<Tree, ReadError>
+    ensures ok { IfOk result (λ t. value_of_text text.now ≡ Some (data_of (tree_of t))) }
+    ensures ranged { IfOk result (λ t. IsRanged (tree_of t)) }
+    ensures unread { IsUtf8 text.now → IfErr result (IsReadRefused text.now) }
+{
     let value = match Value::from_str(alloc, text) {
         Ok(value) => value,
         Err(e) if e.is_memory() => return Err(ReadError::Memory),
         Err(_) => return Err(ReadError::NotJson),
     };
     match take(alloc, value) {
-        Ok(tree) => {
-            is_ordered(&tree);
-            Ok(tree)
-        }
+        Ok(tree) => Ok(tree),
         Err(TakeError::Memory) => Err(ReadError::Memory),
         Err(TakeError::NotWhole) => Err(ReadError::NotWhole),
     }

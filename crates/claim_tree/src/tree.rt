@@ -247,7 +247,7 @@ fn search(members: &[(TextBox, Tree)], name: &str) -> Result<usize, usize>
 }
 
 // Whether the name comes after all others.
-fn is_behind(members: &[(TextBox, Tree)], name: &str) -> bool
+pub(crate) fn is_behind(members: &[(TextBox, Tree)], name: &str) -> bool
     requires { MembersOrdered (members_of members.now) }
     ensures { IsTrue result → IsGap members.now name.now (length members.now) }
 {

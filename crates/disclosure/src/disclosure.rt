@@ -9,7 +9,7 @@ ghost use Rattle.disclosure.specs.DisclosureRefusals.{IsNoArray, IsDisclosureRef
 
 use crate::{DisclosureError, HashAlg, digest};
 use b64url_text::{decode, encode};
-use claim_tree::{Tree, TreeList, copy, read, write};
+use claim_tree::{JsonReader, Tree, TreeList, copy, write};
 use sd_outside::{NoMemory, TextBox};
 use std::alloc::Global;
 
@@ -65,8 +65,12 @@ fn of_tree(text: TextBox, tree: Tree) -> Option<Disclosure>
     }
 }
 
-/// Reads a disclosure. Whole numbers alone are taken, as everywhere.
-pub fn read_disclosure(alloc: Global, text: &str) -> Result<Disclosure, DisclosureError>
+/// Reads a disclosure. Whole numbers alone are taken, as everywhere. One reader reads many of them.
+pub fn read_disclosure(
+    alloc: Global,
+    reader: &mut JsonReader,
+    text: &str,
+) -> Result<Disclosure, DisclosureError>
     ensures text { IfOk result (λ d. d.text ≡ text.now) }
     ensures ok { IfOk result (λ d. IsDisclosure text.now (tree_of d.salt) d.name (tree_of d.value)) }
     ensures ranged { IfOk result (λ d. IsRanged (tree_of d.value)) }
@@ -81,7 +85,7 @@ pub fn read_disclosure(alloc: Global, text: &str) -> Result<Disclosure, Disclosu
     ensures refused { IfErr result (IsDisclosureRefused text.now) }
 {
     let json = decode(alloc, text.as_bytes())?;
-    let tree = read(alloc, json.bytes())?;
+    let tree = reader.read(alloc, json.bytes())?;
     of_tree(TextBox::make(alloc, text)?, tree).ok_or(DisclosureError::NotDisclosure)
 }
 

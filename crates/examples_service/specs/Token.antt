@@ -10,7 +10,7 @@ use Rattle.issuer_core.specs.Written.{IsIssued, IsLaidOut}
 
 -- the order that hides these places of a payload, and asks for nothing else
 abbrev pub order_for : Tree → List (List Text) → Order
-order_for payload hide = record { claims = payload; hide = hide; decoys = []; kid = None; typ = None }
+order_for payload hide = record { payload = payload; hide = hide; decoys = []; kid = None; typ = None }
 
 -- the text is the compact text of parts that are laid out and issued for the order
 pub record IsTokenFor (maker : Maker) (o : Order) (good : Meaning) (text : Text) : Type 0 where

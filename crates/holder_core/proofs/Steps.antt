@@ -7,7 +7,6 @@ use Rattle.claim_tree.specs.Tree.{Text, Tree}
 use Rattle.compact_form.specs.Compact.{AreWords}
 use Rattle.compact_form.specs.Faults.{fault_at}
 use Rattle.compact_form.specs.Compact as form
-use Rattle.compact_form.specs.Condition.{number_of}
 use Rattle.compact_form.specs.Lowest.{IsLowest}
 use Rattle.compact_form.specs.Views.{jwt_of}
 use Rattle.compact_form.specs.declared.parts.JwtParts.{JwtParts}

@@ -5,7 +5,7 @@ use Rattle.claim_tree.specs.Tree.{Text}
 use Rattle.compact_form.specs.RefusedText.{refused_text}
 use Rattle.verifier_core.specs.RefusalText.{fault_text}
 use Rattle.holder_core.specs.declared.errors.PresentError.{PresentError}
-use Rattle.holder_core.specs.declared.errors.PresentError.TheVariants.{Memory, Token as OnCondition, HasBinding, NoSuchPlace, ConsentRefused, BindingKeyDiffers, SignFailed, TooLong}
+use Rattle.holder_core.specs.declared.errors.PresentError.TheVariants.{Token as OnCondition, HasBinding, NoSuchPlace, ConsentRefused, BindingKeyDiffers, TooLong}
 
 -- the printed number; a condition has its own, and what is no refusal has none
 abbrev pub present_number : PresentError → ℕ

@@ -4,8 +4,6 @@ use Rattle.claim_tree.specs.Tree.{Tree, object, Members, no_members}
 use Rattle.sd_outside.specs.Limits.{file_max}
 use Rattle.compact_form.specs.declared.condition.Condition.{Condition}
 use Rattle.compact_form.specs.Faults.{unplaced}
-use Rattle.compact_form.specs.Condition.{number_of}
-use Rattle.compact_form.specs.declared.fault.Place.TheVariants.{Nowhere}
 use Rattle.json_form.specs.declared.token.Token.{Token}
 use Rattle.json_form.specs.Token.{IsToken, IsTooMuch, too_much}
 use Rattle.json_form.specs.Written.{flat_of, general_of}

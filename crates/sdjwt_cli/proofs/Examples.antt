@@ -4,10 +4,8 @@ use Rattle.std.specs.Fmt.{digits}
 use Rattle.json.specs.Print.{escape_byte}
 use Rattle.b64url_text.specs.Base64url.{letters, is_letter}
 use Rattle.claim_tree.specs.Tree.{Text, Tree, leaf, text, object, Members, no_members, member}
-use Rattle.compact_form.specs.declared.fault.Place.TheVariants.{Nowhere, At}
 use Rattle.compact_form.specs.Faults.{placed, unplaced}
 use Rattle.compact_form.specs.declared.condition.Condition.{Condition}
-use Rattle.compact_form.specs.Condition.{number_of}
 use Rattle.compact_form.specs.declared.parts.Parts.{Parts}
 use Rattle.compact_form.specs.Compact.{IsCompact}
 use Rattle.compact_form.proofs.Examples.{bound, presented, no_tilde}
@@ -111,10 +109,10 @@ of_a_refused_place = refl
 
 -- a path leads to itself and to what is inside it
 not_shown : MayBeShown ((codes "a" ∷ []) ∷ []) (codes "a" ∷ codes "b" ∷ []) → ⊥
-not_shown h = h (codes "a" ∷ []) (inl refl) (codes "b" ∷ [], refl)
+not_shown h = h (codes "a" ∷ []) (inl refl) refl
 
 none_is_shown : MayBeShown ([] ∷ []) [] → ⊥
-none_is_shown h = h [] (inl refl) ([], refl)
+none_is_shown h = h [] (inl refl) refl
 
 all_are_shown : MayBeShown [] (codes "a" ∷ [])
 all_are_shown front is = absurd is

@@ -1,8 +1,8 @@
 -- An order, what a holder is asked, and a policy that suits: the premise of the law of presenting at worked values.
-use Rattle.std.proofs.Common.{◌≡◌, ◌≢◌, inl, inr, ℕ, zero, suc, true, List, [], ◌∷◌, ◌++◌, None, Some, codes, refl, sym, ap, subst, ◌∙◌, arith}
+use Rattle.std.proofs.Common.{◌≡◌, ◌≢◌, inl, inr, ℕ, zero, suc, true, false, List, [], ◌∷◌, ◌++◌, None, Some, codes, refl, sym, ap, subst, ◌∙◌, arith}
 use Rattle.claim_tree.specs.Tree.{Text, Tree, leaf, text, object, Members, no_members, member, get}
 use Rattle.claim_tree.specs.Lists.{StandsAt, In}
-use Rattle.claim_tree.specs.Path.{tree_at}
+use Rattle.claim_tree.specs.Path.{is_front, tree_at}
 use Rattle.compact_form.specs.Lowest.{NoneFails}
 use Rattle.compact_form.specs.declared.condition.Condition.{Condition}
 use Rattle.compact_form.proofs.Lowest.{holds_too, none_fails}
@@ -110,12 +110,11 @@ claims_hold =
     unreadable (inr h) = cc h.1
 
 given_name : (at : Path) → mark_path (marked_claims order) 1 ≡ Some at → MayBeShown said.never at
-given_name at stands front (inl is) (rest, whole) =
+given_name at stands front (inl is) leads =
     let placed : Some (codes "given_name" ∷ []) ≡ Some at = stands in
     let at_is : codes "given_name" ∷ [] ≡ at = cc placed in
-    let all : codes "given_name" ∷ [] ≡ codes "family_name" ∷ rest = at_is ∙ (whole ∙ ap (λ (p : Path). p ++ rest) is) in
-    let first : codes "given_name" ≡ codes "family_name" = cc all in
-    cc first
+    let other : false ≡ true = subst (λ (p : Path). is_front p (codes "given_name" ∷ []) ≡ true) is (subst (λ (p : Path). is_front front p ≡ true) (sym at_is) leads) in
+    cc other
 given_name at stands front (inr other) leads = absurd other
 
 -- what is bound is bound as the policy asks for it

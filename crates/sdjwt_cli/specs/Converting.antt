@@ -5,9 +5,7 @@ use Rattle.claim_tree.specs.JsonText.{json_text}
 use Rattle.sd_outside.specs.Limits.{file_max}
 use Rattle.compact_form.specs.declared.condition.Condition.{Condition}
 use Rattle.compact_form.specs.Faults.{unplaced}
-use Rattle.compact_form.specs.Condition.{number_of}
 use Rattle.compact_form.specs.declared.fault.Fault.{Fault}
-use Rattle.compact_form.specs.declared.fault.Place.TheVariants.{Nowhere}
 use Rattle.compact_form.specs.Compact.{compact}
 use Rattle.json_form.specs.declared.token.Token.{Token}
 use Rattle.json_form.specs.Token.{IsTextRefused, IsToken}

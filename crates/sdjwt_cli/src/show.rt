@@ -20,7 +20,7 @@ ghost use Rattle.sdjwt_cli.specs.Telling.{TellsFault};
 
 use crate::split::push_binding;
 use crate::stop::{Stop, refused};
-use claim_tree::{Tree, TreeMap, write};
+use claim_tree::{JsonReader, Tree, TreeMap, write};
 use compact_form::{Condition, Fault, JwtView, Place};
 use disclosure::{Disclosure, DisclosureError, HashAlg, payload_hash, read_disclosure};
 use json_form::{Disclosures, TokenError, TokenText, TokenView};
@@ -95,11 +95,17 @@ fn push_read(
 }
 
 // The line of a disclosure.
-fn push_shown(alloc: Global, text: &mut String, i: usize, part: &str) -> Result<(), DisclosureError>
+fn push_shown(
+    alloc: Global,
+    reader: &mut JsonReader,
+    text: &mut String,
+    i: usize,
+    part: &str,
+) -> Result<(), DisclosureError>
     ensures ok { OnOk result (AddsLine i part.now (string_bytes text.old) (string_bytes text.new)) }
     ensures refused { IfErr result (IsDisclosureRefused part.now) }
 {
-    let disclosure = match read_disclosure(alloc, part) {
+    let disclosure = match read_disclosure(alloc, reader, part) {
         Ok(disclosure) => disclosure,
         Err(error) => return Err(error),
     };
@@ -136,8 +142,9 @@ fn push_all_shown(
     ensures ok { OnOk result (AddsLines disclosures.entry (string_bytes text.old) (string_bytes text.new)) }
     ensures unread { IfErr result (λ e. OnFails e (IsShowUnreadAt disclosures.entry)) }
 {
+    let mut reader = JsonReader::new(alloc);
     for (i, part) in disclosures.enumerate() {
-        match push_shown(alloc, text, i, part) {
+        match push_shown(alloc, &mut reader, text, i, part) {
             Ok(()) => (),
             Err(DisclosureError::Memory) => return Err(Unshown::Memory),
             Err(_) => {

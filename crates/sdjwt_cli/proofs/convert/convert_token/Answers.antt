@@ -2,9 +2,7 @@ use Rattle.std.proofs.Common.{◌≡◌, ◌<◌, length, string_bytes, ap, refl
 use Rattle.sd_outside.specs.Limits.{file_max}
 use Rattle.compact_form.specs.declared.condition.Condition.{Condition}
 use Rattle.compact_form.specs.Faults.{unplaced}
-use Rattle.compact_form.specs.Condition.{number_of}
 use Rattle.compact_form.specs.declared.fault.Fault.{Fault}
-use Rattle.compact_form.specs.declared.fault.Place.TheVariants.{Nowhere}
 use Rattle.sdjwt_cli.specs.Lines.{line, refusal}
 use Rattle.sdjwt_cli.specs.Converting.{IsConvertRefused, written, too_much}
 use Rattle.sdjwt_cli.specs.Stops.{OnRefused}

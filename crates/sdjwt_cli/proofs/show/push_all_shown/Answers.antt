@@ -1,4 +1,7 @@
 use Rattle.std.proofs.Common.{[], ◌∷◌, ◌++◌, length-append, string_bytes, append_assoc, append-nil, sym, ap, ◌∙◌, arith, rules}
+use Rattle.compact_form.specs.Faults.{placed}
+use Rattle.compact_form.specs.declared.condition.Condition.{Condition}
+use Rattle.verifier_core.proofs.CheckTests.{unread_of}
 use Rattle.sdjwt_cli.proofs.Shown.{zip_more, line_more}
 use Rattle.sdjwt_cli.proofs.show.push_all_shown.Goals as goal
 
@@ -28,4 +31,18 @@ loop-i-preserved c =
       stand = l.stand ∙ (ap (λ w. l.done ++ w) c.in-Some.ensures.steps.0 ∙ sym (append_assoc l.done (part ∷ []) c.next.new.self.iter));
       counted = (let more = length-append l.done (part ∷ []) in omega (arith, more, l.counted, c.in-Some.ensures.steps.2));
       so_far = line_more (string_bytes c.args.text.now) (string_bytes c.loop-i.text) (string_bytes c.push_shown.new.text) l.done l.shown part c.in-Some.i adds l.are (c.in-Some.ensures.steps.1 ∙ l.counted) l.so_far;
+    }
+
+pub returns-in-Err-clause-unread : goal.returns-in-Err-clause-unread
+returns-in-Err-clause-unread c =
+    let l = c.loop-i.invariant in
+    record {
+      front = l.done;
+      text = c.in-Some.part.now;
+      rest = c.next.new.self.iter;
+      shown = l.shown;
+      stand = l.stand ∙ ap (λ w. l.done ++ w) c.in-Some.ensures.steps.0;
+      read = l.are;
+      unread = unread_of c.in-Some.part.now c.in-Err.field-0 c.in-Err.ensures.refused (search rules);
+      fault_is = c.fault_at.ensures ∙ ap (placed Condition.DisclosureUnreadable) (c.in-Some.ensures.steps.1 ∙ l.counted);
     }

@@ -1,0 +1,44 @@
+// The whole numbers that the texts of numbers are.
+ghost use Rattle.std.specs.Prelude.{◌≡◌, ◌<◌, Some, true, false, length, slice_index, ◌==◌, IfSome, IsTrue};
+ghost use Rattle.serde_json.specs.Find.{of_integer};
+ghost use Rattle.serde_json.specs.Read.{number_of, number_from};
+ghost use Rattle.claim_tree.specs.Tree.{InRange};
+
+use fast_float::Numeral;
+
+// The whole number that is kept of a number's text. None where it has a fraction or an exponent, is `-0`, or is out of
+// the range of 64 bits.
+pub(crate) fn whole_number(text: &str) -> Option<i128>
+    ensures value { IfSome result (λ n. number_of text.now ≡ Some (of_integer n)) }
+    ensures ranged { IfSome result InRange }
+{
+    let bytes = text.as_bytes();
+    if has_minus(bytes) {
+        negative(&Numeral::scan(&bytes[1..]))
+    } else {
+        positive(&Numeral::scan(bytes))
+    }
+}
+
+fn has_minus(bytes: &[u8]) -> bool
+    ensures value { result ≡ (slice_index bytes.now 0 == 45) }
+    ensures some { IsTrue result → 0 < length bytes.now }
+{
+    !bytes.is_empty() && bytes[0] == b'-'
+}
+
+fn positive(numeral: &Numeral<'_>) -> Option<i128>
+    ensures value { IfSome result (λ n. number_from false numeral.now ≡ Some (of_integer n)) }
+    ensures ranged { IfSome result InRange }
+{
+    let n = numeral.to_u64()?;
+    Some(n as i128)
+}
+
+fn negative(numeral: &Numeral<'_>) -> Option<i128>
+    ensures value { IfSome result (λ n. number_from true numeral.now ≡ Some (of_integer n)) }
+    ensures ranged { IfSome result InRange }
+{
+    let n = numeral.to_i64(true)?;
+    if n < 0 { Some(n as i128) } else { None }
+}
