@@ -12,8 +12,8 @@ ghost use Rattle.compact_form.specs.Lowest.{IsLowest};
 ghost use Rattle.compact_form.specs.Trim.{trimmed, is_json as is_json_test};
 ghost use Rattle.verifier_core.specs.Check.{OnFault, FailsAsCompact, IsContent, IsCounted, IsReadWithin, IsUncounted};
 
+use crate::check_shown::{check_shown, is_binding_missing};
 use crate::check_signed::fails;
-use crate::holder::{check_shown, is_binding_missing};
 use crate::{CheckedMarks, CheckedPayload, Content, Policy, VerifyError};
 use claim_tree::Tree;
 use compact_form::Condition;
