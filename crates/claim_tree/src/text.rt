@@ -34,6 +34,7 @@ pub struct JsonReader {
 }
 
 impl JsonReader {
+    /// A reader that has read nothing yet.
     pub fn new(alloc: Global) -> JsonReader {
         JsonReader {
             scratch: Scratch::new(alloc),

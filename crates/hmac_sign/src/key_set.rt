@@ -7,7 +7,7 @@ ghost use Rattle.hmac_sign.specs.declared.key_set.KeySetError.{KeySetError};
 ghost use Rattle.claim_tree.specs.View.{tree_of};
 
 use crate::Hs256Key;
-use crate::keys::{all_decode, are_keys, make_keys};
+use crate::key_set_elements::{all_decode, are_keys, make_keys};
 use claim_tree::{Tree, get};
 use sd_outside::{NoMemory, TextBox};
 use std::alloc::{AllocFailed, Global};

@@ -7,11 +7,11 @@
 mod fail_signer;
 mod hmac;
 mod hs256_key;
+mod key_member;
 mod key_set;
+mod key_set_elements;
 #[cfg(test)]
 mod key_set_tests;
-mod key_text;
-mod keys;
 pub mod laws;
 mod sign;
 #[cfg(test)]
@@ -20,6 +20,6 @@ mod tests;
 pub use fail_signer::FailSigner;
 pub use hmac::hmac_sha256;
 pub use hs256_key::{Hs256Key, KeyShort};
+pub use key_member::{key_member, key_of};
 pub use key_set::{KeySet, KeySetError, NamedKey};
-pub use key_text::{key_member, key_of};
 pub use sign::{Alg, Checker, SignError, Signatures, Signer};

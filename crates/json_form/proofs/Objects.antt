@@ -13,7 +13,7 @@ use Rattle.compact_form.specs.declared.fault.Part.TheVariants.{Payload, Protecte
 use Rattle.compact_form.specs.declared.fault.JsonPlace.{JsonPlace}
 use Rattle.compact_form.specs.declared.fault.JsonPlace.TheVariants.{NotJson, NotWhole, NotObject, Wrong, Stray}
 use Rattle.json_form.specs.declared.token.Token.{Token}
-use Rattle.json_form.specs.declared.entries.Entries.{Entries}
+use Rattle.json_form.specs.declared.signatures.Entries.{Entries}
 use Rattle.json_form.specs.Json.{found_part, has_beside, IsWordTree, AreEntries, IsStray, EntrySays, IsJson}
 use Rattle.json_form.specs.JsonPlaces.{row_of, IsNoWord, IsEntry, flat, first, AreNoEntries, no_list, beside, EntryFails, ObjectFails, payload, signatures, entry, stray, JsonFails, not_json, not_whole, not_object, members, IsFirstPlace, IsJsonPlace}
 use Rattle.json_form.specs.MembersRead.{IsFirstStray, ListHas, HasEntries, itself, listed, MembersSay}

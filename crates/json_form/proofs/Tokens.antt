@@ -18,6 +18,7 @@ use Rattle.compact_form.specs.CompactToken as plain
 use Rattle.compact_form.proofs.Unique.{one_spelling, one_stop}
 use Rattle.compact_form.proofs.Verdicts.{clash}
 use Rattle.json_form.specs.declared.token.Token.{Token}
+use Rattle.json_form.specs.Alone.{alone}
 use Rattle.json_form.specs.declared.token.TokenError.{TokenError}
 use Rattle.json_form.specs.declared.json_error.JsonFormError.{JsonFormError}
 use Rattle.json_form.specs.MembersRead.{misformed}
@@ -78,9 +79,6 @@ pub one_refusal : (text : List ℕ) (f g : Fault) → IsTextRefused text f → I
 one_refusal text f g h k = same_number text f g h.applies k.applies (let a = h.lowest g k.applies in let b = k.lowest f h.applies in omega (arith, a, b))
 
 -- ---- a compact text is refused as ever
-
-abbrev alone : Parts → Token
-alone parts = record { parts = parts; outer = no_members }
 
 to_either : (text : List ℕ) (fault : Fault) → is_json (trimmed text) ≡ false → plain.CompactFails text fault → TextFails text fault
 to_either text fault plainly (plain.too_long is long) = too_long is long

@@ -19,7 +19,7 @@ use Rattle.compact_form.specs.PartWords.{part_word}
 use Rattle.compact_form.specs.declared.parts.JwtParts.{JwtParts}
 use Rattle.compact_form.specs.declared.fault.Part.TheVariants.{Payload, Protected, Signature, Signatures, Header, Disclosures, KbJwt}
 use Rattle.json_form.specs.declared.token.Token.{Token}
-use Rattle.json_form.specs.declared.entries.Entries.{Entries}
+use Rattle.json_form.specs.declared.signatures.Entries.{Entries}
 use Rattle.json_form.specs.Json.{found_part, IsWordTree, AreWordTrees, IsJwtTree, IsObjectOf, HeaderSays, EntrySays, IsStray, IsFlat, IsGeneral}
 use Rattle.json_form.specs.MembersRead.{HasEntries, itself, listed, MembersSay}
 use Rattle.json_form.specs.Written.{with_binding, written_header, flat_members, flat_of, entry_of, general_members, general_of}

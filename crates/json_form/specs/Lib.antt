@@ -6,3 +6,4 @@ pub mod MembersRead
 pub mod Source
 pub mod Code
 pub mod Printable
+pub mod Alone

@@ -11,7 +11,7 @@ use Rattle.compact_form.specs.declared.fault.Place.TheVariants.{Json}
 use Rattle.compact_form.specs.declared.fault.JsonPlace.TheVariants.{NotJson, NotWhole}
 use Rattle.json_form.specs.declared.token.Token.{Token}
 use Rattle.json_form.specs.declared.token.TokenError.{TokenError}
-use Rattle.json_form.specs.declared.entries.Entries.{Entries}
+use Rattle.json_form.specs.declared.signatures.Entries.{Entries}
 use Rattle.json_form.specs.declared.json_error.JsonFormError.{JsonFormError}
 use Rattle.json_form.specs.Json.{found_part, has_beside, AreEntries, IsStray, IsWordTree, EntrySays}
 

@@ -6,20 +6,20 @@
 #![tactic(auto)]
 
 mod disclosures;
-mod entries;
-mod entry;
 mod json_error;
-mod json_text;
 pub mod laws;
+mod member_values;
+mod parsing;
 mod printing;
+mod signature_entry;
+mod signatures;
 mod token;
 mod token_text;
 mod token_view;
-mod values;
 
 pub use disclosures::Disclosures;
 pub use json_error::JsonFormError;
-pub use json_text::parse_json;
+pub use parsing::parse_json;
 pub use printing::{print_flat, print_general};
 pub use token::{Token, TokenError, read_token};
 pub use token_text::TokenText;

@@ -54,7 +54,7 @@ fn read_compact<'a>(alloc: Global, text: &'a [u8]) -> Result<TokenText<'a>, Toke
     ensures ok { IfOk result (IsToken text.now) }
     ensures printable { IfOk result IsPrintable }
     ensures refused { (fault : TheFault) → IsErrOf result (TokenError.Fault fault) → IsTextRefused text.now fault }
-    ensures frugal { result ≢ Err TokenError.Memory }
+    ensures no_memory { result ≢ Err TokenError.Memory }
 {
     let view = read_view(text)?;
     Ok(TokenText {
@@ -122,7 +122,7 @@ impl<'a> TokenText<'a> {
         ensures refused { (fault : TheFault) → IsErrOf result (TokenError.Fault fault) → IsTextRefused text.now fault }
 
         // a compact text is read without memory
-        ensures frugal { is_json_test (trimmed text.now) ≡ false → result ≢ Err TokenError.Memory }
+        ensures no_memory { is_json_test (trimmed text.now) ≡ false → result ≢ Err TokenError.Memory }
     {
         let token = trim(text);
         if is_json(token) {

@@ -23,7 +23,7 @@ use Rattle.issuer_core.specs.Laid.{with_alg}
 use Rattle.issuer_core.specs.Order.{Order}
 use Rattle.issuer_core.specs.Written.{header_of}
 use Rattle.issuer_core.proofs.IssuedContent.{IsTextOf}
-use Rattle.sdjwt_cli.specs.Tokens.{alone}
+use Rattle.json_form.specs.Alone.{alone}
 
 -- the rules take what is signed for the order with the key
 pub record Takes (o : Order) (key : List ℕ) (rules : Rules) : Type 0 where

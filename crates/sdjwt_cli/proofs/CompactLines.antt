@@ -6,7 +6,7 @@ use Rattle.compact_form.specs.Compact.{compact, AreWords}
 use Rattle.json_form.specs.Token.{IsTooMuch, IsToken}
 use Rattle.json_form.proofs.Lines.{read_compact_line}
 use Rattle.sdjwt_cli.specs.Lines.{line}
-use Rattle.sdjwt_cli.specs.Tokens.{alone}
+use Rattle.json_form.specs.Alone.{alone}
 
 pub line_token : (parts : Parts) → AreWords parts → length (compact parts) ≤ compact_max → length parts.disclosures ≤ count_max → IsToken (line (compact parts)) (alone parts)
 line_token parts words small few = read_compact_line parts words go

@@ -8,7 +8,7 @@ use Rattle.claim_tree.specs.Path.{tree_at}
 use Rattle.claim_tree.proofs.Datas.{MembersRanged-inserted}
 use Rattle.claim_tree.proofs.Lists.{bytes_same, bytes_refl, In-append}
 use Rattle.claim_tree.proofs.OtherMembers.{named_inserted, other_inserted, depth-inserted}
-use Rattle.compact_form.specs.Condition as condition
+use Rattle.compact_form.specs.declared.condition.Condition.{Condition}
 use Rattle.compact_form.specs.Lowest.{NoneFails}
 use Rattle.compact_form.proofs.Lowest.{holds_too, none_fails}
 use Rattle.jws_part.specs.Times.{IsTimeUnreadable}
@@ -127,7 +127,7 @@ claims_hold n =
     let readable = before_expiry shown generated_policy 0 required unreadable in
     let fresh = before_start shown generated_policy 0 readable (λ late. absent (get shown (codes "exp")) _ (no_expiry n) late.1) in
     none_fails (ClaimFails shown generated_policy 0) 27
-    (holds_too (ClaimFails shown generated_policy 0) condition.not_yet fresh (λ place h. absent (get shown (codes "nbf")) _ (no_start n) h.1.1))
+    (holds_too (ClaimFails shown generated_policy 0) Condition.NotYet fresh (λ place h. absent (get shown (codes "nbf")) _ (no_start n) h.1.1))
     (λ c place h. let range = claim_numbers shown generated_policy 0 c place h in range.1)
   where
     unreadable : IsTimeUnreadable (shown_for (marked_claims (generated n)) (generated_ask n).want) → ⊥

@@ -27,7 +27,7 @@ use Rattle.holder_core.specs.declared.errors.PresentError.TheVariants.{Memory, T
 use Rattle.holder_core.specs.Present.{shown_for, IsHeld, PicksParts, NamesKey, IsBoundAs, IsAnswer, IsNoAnswer, IsPresented, IsNotPresented, not_read, refused, no_memory}
 use Rattle.verifier_core.specs.declared.policy.Policy.{Policy}
 use Rattle.sdjwt_cli.specs.PresentedValues.{AreShort}
-use Rattle.sdjwt_cli.specs.Tokens.{alone}
+use Rattle.json_form.specs.Alone.{alone}
 use Rattle.sdjwt_cli.specs.Suits.{Suits}
 use Rattle.sdjwt_cli.proofs.HeldIssued.{IsTokenOf, issued_held, one_marked}
 use Rattle.sdjwt_cli.proofs.KeptClaims.{holder_kept}

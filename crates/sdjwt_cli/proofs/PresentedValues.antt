@@ -8,7 +8,7 @@ use Rattle.verifier_core.specs.declared.policy.Policy.{Policy}
 use Rattle.holder_core.specs.declared.ask.Ask.{Ask}
 use Rattle.sdjwt_cli.specs.Issuing.{IsIssuedBy}
 use Rattle.sdjwt_cli.specs.PresentedValues.{IsAcceptedWith, IsShownAt, PresentedOverValues, AreShort}
-use Rattle.sdjwt_cli.specs.Tokens.{alone}
+use Rattle.json_form.specs.Alone.{alone}
 use Rattle.sdjwt_cli.specs.Suits.{Suits}
 use Rattle.sdjwt_cli.proofs.HeldIssued.{IsTokenOf, token_of, issued_text}
 use Rattle.sdjwt_cli.proofs.NothingRefused.{is_presented_of, nothing_refused}

@@ -19,7 +19,7 @@ use Rattle.sdjwt_cli.specs.Issuing.{Issues}
 use Rattle.sdjwt_cli.specs.Lines.{line}
 use Rattle.sdjwt_cli.specs.Never.{never_rule}
 use Rattle.sdjwt_cli.specs.PresentedValues.{IsShownAt, AreShort}
-use Rattle.sdjwt_cli.specs.Tokens.{alone}
+use Rattle.json_form.specs.Alone.{alone}
 use Rattle.sdjwt_cli.specs.Presenting.{signing_key, Presents, DoesNotPresent, IsPresentedFor, IsNotPresentedFor}
 use Rattle.sdjwt_cli.specs.Suits.{Suits}
 use Rattle.sdjwt_cli.specs.Verify.{Verifies}

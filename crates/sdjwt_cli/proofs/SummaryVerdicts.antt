@@ -18,7 +18,7 @@ use Rattle.sdjwt_cli.specs.Answers.{Reply, gives, refuses, unreadable, GenAnswer
 use Rattle.sdjwt_cli.specs.Generated.{generated, generated_seed, generated_key, generated_ask}
 use Rattle.sdjwt_cli.specs.Lines.{line}
 use Rattle.sdjwt_cli.specs.Never.{never_rule}
-use Rattle.sdjwt_cli.specs.Tokens.{alone}
+use Rattle.json_form.specs.Alone.{alone}
 use Rattle.sdjwt_cli.specs.Summary.{Summarizes, DoesNotSummarize, hidden_paths, chosen_places, embedded_digests, shown_length, summary_lines}
 use Rattle.sdjwt_cli.proofs.NeverShown.{never_decided}
 

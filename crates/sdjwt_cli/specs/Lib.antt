@@ -14,7 +14,6 @@ pub mod Presenting
 pub mod Forms
 pub mod Converting
 pub mod Suits
-pub mod Tokens
 pub mod Presented
 pub mod PresentingSteps
 pub mod ConvertingSteps

@@ -24,7 +24,7 @@ use Rattle.sdjwt_cli.specs.Generated.{generated, generated_seed, generated_key, 
 use Rattle.sdjwt_cli.specs.Issuing.{IsIssuedBy}
 use Rattle.sdjwt_cli.specs.Lines.{line}
 use Rattle.sdjwt_cli.specs.Never.{never_rule}
-use Rattle.sdjwt_cli.specs.Tokens.{alone}
+use Rattle.json_form.specs.Alone.{alone}
 
 -- ---- what is counted
 

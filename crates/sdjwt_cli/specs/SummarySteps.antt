@@ -11,7 +11,7 @@ use Rattle.verifier_core.specs.Check.{IsCounted}
 use Rattle.verifier_core.specs.Verdicts.{IsAcceptedAs}
 use Rattle.sdjwt_cli.specs.Generated.{generated_key, generated_ask, generated_policy}
 use Rattle.sdjwt_cli.specs.Never.{never_rule}
-use Rattle.sdjwt_cli.specs.Tokens.{alone}
+use Rattle.json_form.specs.Alone.{alone}
 use Rattle.sdjwt_cli.specs.PresentedValues.{IsAcceptedWith}
 
 -- what is presented of the issued parts

@@ -14,7 +14,8 @@ use Rattle.disclosure.specs.declared.errors.DisclosureError.{DisclosureError}
 use Rattle.disclosure.specs.declared.digests.HashAlg.{HashAlg}
 use Rattle.digest_sites.specs.Given.{Given}
 use Rattle.json_form.specs.declared.token.Token.{Token}
-use Rattle.json_form.specs.Token.{IsToken}
+use Rattle.json_form.specs.Token.{IsToken, TextFails}
+use Rattle.compact_form.specs.Trim.{trimmed, is_json}
 use Rattle.marked_tree.specs.Marked.{Marked}
 use Rattle.rebuild_core.specs.LookUps.{look_ups, counted, RoseWithin}
 use Rattle.rebuild_core.specs.Payload.{without_alg}
@@ -33,6 +34,12 @@ use Rattle.verifier_core.specs.declared.policy.Policy.{Policy}
 abbrev pub OnFault : VerifyError → (Fault → Type 0) → Type 0
 OnFault VerifyError.Memory P = Unit {0}
 OnFault (VerifyError.Fault fault) P = P fault
+
+-- a text that is no JSON serialization fails one of the conditions 1 to 3
+pub record FailsAsCompact (text : List ℕ) : Type 0 where
+  pub plain : is_json (trimmed text) ≡ false
+  pub fault : Fault
+  pub fails : TextFails text fault
 
 -- the token passes the conditions 5 to 13 under the rules, and this is read of it
 pub record IsContent (token : Token) (rules : Rules) (content : Content) : Type 0 where

@@ -1,8 +1,9 @@
 //! What a verifier wants of a token, and the conditions by which it refuses one (RFC 9901 section 7.3).
 //!
 //! [`read_policy`] reads a [`Policy`] from its file, and [`verify`] and [`verify_payload`] judge a token file under it, by the
-//! conditions 1 to 38. [`check_token`] judges a token itself. It takes two steps, which a caller may take apart: [`Content::read`]
-//! reads a token by the conditions 5 to 13, under [`Rules`], and [`Content::open`] and [`Content::open_payload`] judge the others.
+//! conditions 1 to 38. [`check_token`] judges a token itself, [`check_view`] one that is borrowed. They take two steps, which a
+//! caller may take apart: [`Content::read`] reads a token by the conditions 5 to 13, under [`Rules`], and [`Content::open`] and
+//! [`Content::open_payload`] judge the others.
 //! [`fault_line`] is the line that tells of a condition that fails.
 #![tactic(auto)]
 
@@ -10,10 +11,10 @@ mod binding_file;
 mod check;
 mod check_given;
 mod check_payload;
+mod check_shown;
 mod check_signed;
 mod claims;
 mod content;
-mod holder;
 pub mod laws;
 mod policy;
 mod refusal;
@@ -21,7 +22,7 @@ mod rules;
 mod verdict;
 
 pub use binding_file::AGE_MAX;
-pub use check::{Checked, CheckedMarks, CheckedPayload, VerifyError, check_token};
+pub use check::{Checked, CheckedMarks, CheckedPayload, VerifyError, check_token, check_view};
 pub use content::Content;
 pub use policy::{Policy, SKEW_MAX, keys_member, read_policy};
 pub use refusal::fault_line;

@@ -1,5 +1,5 @@
 // The verdict on a token file under a policy.
-ghost use Rattle.std.specs.Prelude.{◌≡◌, ◌<◌, ◌-◌, ◌^◌, ℕ, List, length, OnOk, IfOk, IfErr};
+ghost use Rattle.std.specs.Prelude.{◌≡◌, ◌≢◌, ◌<◌, ◌-◌, ◌^◌, ℕ, false, List, length, OnOk, IfOk, IfErr};
 ghost use Rattle.claim_tree.specs.Tree.{IsRanged};
 ghost use Rattle.claim_tree.specs.View.{tree_of};
 ghost use Rattle.marked_tree.specs.Marked.{strip as strip_of};
@@ -9,10 +9,11 @@ ghost use Rattle.json_form.specs.Token.{IsToken, IsTextRefused};
 ghost use Rattle.verifier_core.specs.Verdict.{Fails, IsAccepted, IsBindingMissing, rules_of};
 ghost use Rattle.verifier_core.specs.Verdicts.{IsAcceptedAs};
 ghost use Rattle.compact_form.specs.Lowest.{IsLowest};
-ghost use Rattle.verifier_core.specs.Check.{OnFault, IsContent, IsCounted, IsReadWithin, IsUncounted};
+ghost use Rattle.compact_form.specs.Trim.{trimmed, is_json as is_json_test};
+ghost use Rattle.verifier_core.specs.Check.{OnFault, FailsAsCompact, IsContent, IsCounted, IsReadWithin, IsUncounted};
 
+use crate::check_shown::{check_shown, is_binding_missing};
 use crate::check_signed::fails;
-use crate::holder::{check_shown, is_binding_missing};
 use crate::{CheckedMarks, CheckedPayload, Content, Policy, VerifyError};
 use claim_tree::Tree;
 use compact_form::Condition;
@@ -34,6 +35,7 @@ pub struct Accepted {
 fn read_text<'a>(alloc: Global, text: &'a [u8]) -> Result<TokenText<'a>, VerifyError>
     ensures ok { IfOk result (IsToken text.now) }
     ensures refused { IfErr result (λ e. OnFault e (IsTextRefused text.now)) }
+    ensures no_memory { is_json_test (trimmed text.now) ≡ false → result ≢ Err VerifyError.Memory }
 {
     match TokenText::read(alloc, text) {
         Ok(token) => Ok(token),
@@ -78,6 +80,9 @@ pub fn verify(
     ensures ranged { IfOk result (λ a. IsRanged (tree_of a.payload)) }
     ensures refused { IfErr result (λ e. OnFault e (IsLowest (Fails text.now policy.now now))) }
 
+    // a compact text is judged by the conditions 1 to 3 without memory
+    ensures no_memory { FailsAsCompact text.now → result ≢ Err VerifyError.Memory }
+
     // the look-ups
     ensures counted { IfOk result (λ _. (token : SeenToken) × IsToken text.now token × IsCounted token steps.old steps.new) }
     ensures within { IsReadWithin text.now steps.old steps.new }
@@ -113,6 +118,9 @@ pub fn verify_payload(
     ensures accepted { IfOk result (λ payload. IsAcceptedAs text.now policy.now now (tree_of payload)) }
     ensures ranged { IfOk result (λ payload. IsRanged (tree_of payload)) }
     ensures refused { IfErr result (λ e. OnFault e (IsLowest (Fails text.now policy.now now))) }
+
+    // a compact text is judged by the conditions 1 to 3 without memory
+    ensures no_memory { FailsAsCompact text.now → result ≢ Err VerifyError.Memory }
 
     // the look-ups
     ensures counted { IfOk result (λ _. (token : SeenToken) × IsToken text.now token × IsCounted token steps.old steps.new) }

@@ -1,6 +1,0 @@
-use Rattle.claim_tree.specs.ListViews.{elements_of}
-use Rattle.hmac_sign.specs.KeyRefusals.{NoneBefore, IsKeyNotBase64}
-use Rattle.hmac_sign.proofs.keys.all_decode.Given as goal
-
-abbrev pub invariant-loop-place : goal.invariant-loop-place
-invariant-loop-place l = NoneBefore IsKeyNotBase64 (elements_of l.trees) l.place

@@ -1,0 +1,27 @@
+use Rattle.std.proofs.Common.{sym, ap, subst, ◌∙◌}
+use Rattle.std.specs.Option.{option_map}
+use Rattle.json_form.specs.declared.token.Token.{Token}
+use Rattle.claim_tree.specs.Tree.{Text}
+use Rattle.claim_tree.specs.View.{tree_of}
+use Rattle.compact_form.specs.Lowest.{IsLowest}
+use Rattle.compact_form.specs.Faults.{unplaced}
+use Rattle.compact_form.specs.Views.{jwt_of}
+use Rattle.key_binding.specs.Judged.{judged}
+use Rattle.key_binding.specs.BindingConditions.{BindingFails}
+use Rattle.key_binding.specs.BindingCalls.{IsLowestBinding, OnBoundFails}
+use Rattle.verifier_core.specs.Verdict.{HolderFails}
+use Rattle.verifier_core.specs.Check.{OnFault}
+use Rattle.verifier_core.proofs.Verdicts.{holder_lowest}
+use Rattle.verifier_core.proofs.check_shown.check_holder.Goals as goal
+
+pub returns-in-Err-Fails-clause-refused : goal.returns-in-Err-Fails-clause-refused
+returns-in-Err-Fails-clause-refused c =
+    let parts = c.args.token.now.parts in
+    let payload = tree_of c.args.payload.now in
+    let policy = c.args.policy.now in
+    let token = jwt_of c.in-Some-binding.sent in
+    let fault = unplaced c.in-Err-Fails.condition in
+    let told = subst (λ e. OnBoundFails e (IsLowestBinding (judged token payload c.in-Some.binding policy.skew c.args.hash c.hashed.result.now c.args.now))) c.in-Err-Fails.field-0-is c.in-Err-Fails.ensures.refused in
+    let lowest = subst (λ (text : Text). IsLowest (BindingFails (judged token payload c.in-Some.binding policy.skew c.args.hash text c.args.now)) fault) c.hashed.ensures told in
+    subst (λ e. OnFault e (IsLowest (HolderFails parts payload c.args.hash policy c.args.now))) (sym c.fails.ensures)
+    (holder_lowest parts payload c.args.hash policy c.args.now c.in-Some.binding token c.in-Some.is (sym (c.binding.ensures ∙ ap (λ (t : Token). t.parts.binding) c.view.ensures) ∙ ap (option_map jwt_of) c.in-Some-binding.is) fault lowest)
