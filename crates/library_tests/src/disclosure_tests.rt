@@ -1,4 +1,4 @@
-use claim_tree::{JsonReader, Tree};
+use claim_tree::Tree;
 use disclosure::{DisclosureError, make, read_disclosure};
 use sd_outside::TextBox;
 use std::test::Fail;
@@ -7,8 +7,7 @@ use std::test::Fail;
 fn a_disclosure_has_a_salt(rt: HostRuntime) -> Result<(), Fail> {
     // RFC 9901 section 4.2.3
     let text = "WyJfMjZiYzRMVC1hYzZxMktJNmNCVzVlcyIsICJmYW1pbHlfbmFtZSIsICJNw7ZiaXVzIl0";
-    let mut reader = JsonReader::new(rt.alloc());
-    let read = read_disclosure(rt.alloc(), &mut reader, text).map_err(|_| "not read")?;
+    let read = read_disclosure(rt.alloc(), text).map_err(|_| "not read")?;
     assert_eq!(rt;
         read.salt.as_text().map(|salt| salt.as_str()),
         Some("_26bc4LT-ac6q2KI6cBW5es")
@@ -19,7 +18,6 @@ fn a_disclosure_has_a_salt(rt: HostRuntime) -> Result<(), Fail> {
 // Each text, behind the cause that is named, has no earlier one.
 #[test]
 fn what_is_no_disclosure_has_its_cause(rt: HostRuntime) {
-    let mut reader = JsonReader::new(rt.alloc());
     for (cause, texts) in [
         (DisclosureError::NotBase64, "WyJzIl WyJzIl0="),
         // the second is no UTF-8
@@ -33,14 +31,13 @@ fn what_is_no_disclosure_has_its_cause(rt: HostRuntime) {
         ),
     ] {
         for text in texts.split(' ') {
-            let refusal = read_disclosure(rt.alloc(), &mut reader, text);
-            let refused = matches!(refusal, Err(error) if error == cause);
+            let refused = matches!(read_disclosure(rt.alloc(), text), Err(error) if error == cause);
             assert!(rt; refused, "{text}");
         }
     }
     assert!(rt;
         matches!(
-            read_disclosure(rt.alloc(), &mut reader, ""),
+            read_disclosure(rt.alloc(), ""),
             Err(DisclosureError::NotJson)
         )
     );

@@ -20,9 +20,9 @@ ghost use Rattle.sdjwt_cli.specs.Telling.{TellsFault};
 
 use crate::split::push_binding;
 use crate::stop::{Stop, refused};
-use claim_tree::{JsonReader, Tree, TreeMap, write};
+use claim_tree::{Tree, TreeMap, write};
 use compact_form::{Condition, Fault, JwtView, Place};
-use disclosure::{Disclosure, DisclosureError, HashAlg, payload_hash, read_disclosure};
+use disclosure::{Disclosure, DisclosureError, DisclosureReader, HashAlg, payload_hash};
 use json_form::{Disclosures, TokenError, TokenText, TokenView};
 use jws_part::{BodyError, HeaderError, read_body, read_header};
 use sd_outside::{NoMemory, TextBox};
@@ -97,7 +97,7 @@ fn push_read(
 // The line of a disclosure.
 fn push_shown(
     alloc: Global,
-    reader: &mut JsonReader,
+    reader: &mut DisclosureReader,
     text: &mut String,
     i: usize,
     part: &str,
@@ -105,7 +105,7 @@ fn push_shown(
     ensures ok { OnOk result (AddsLine i part.now (string_bytes text.old) (string_bytes text.new)) }
     ensures refused { IfErr result (IsDisclosureRefused part.now) }
 {
-    let disclosure = match read_disclosure(alloc, reader, part) {
+    let disclosure = match reader.read(alloc, part) {
         Ok(disclosure) => disclosure,
         Err(error) => return Err(error),
     };
@@ -142,7 +142,7 @@ fn push_all_shown(
     ensures ok { OnOk result (AddsLines disclosures.entry (string_bytes text.old) (string_bytes text.new)) }
     ensures unread { IfErr result (λ e. OnFails e (IsShowUnreadAt disclosures.entry)) }
 {
-    let mut reader = JsonReader::new(alloc);
+    let mut reader = DisclosureReader::new(alloc);
     for (i, part) in disclosures.enumerate() {
         match push_shown(alloc, &mut reader, text, i, part) {
             Ok(()) => (),

@@ -7,10 +7,9 @@ ghost use Rattle.verifier_core.specs.Verdict.{Gives};
 ghost use Rattle.verifier_core.specs.Check.{OnFault, Adds, IsUnreadAt, unread_at};
 
 use crate::check::{VerifyError, fails_at};
-use claim_tree::JsonReader;
 use compact_form::Condition;
 use digest_sites::{Given, GivenList};
-use disclosure::{DisclosureError, HashAlg, read_disclosure};
+use disclosure::{DisclosureError, DisclosureReader, HashAlg};
 use json_form::Disclosures;
 use std::alloc::Global;
 
@@ -18,14 +17,14 @@ use std::alloc::Global;
 pub(crate) fn push_given(
     alloc: Global,
     hash: HashAlg,
-    reader: &mut JsonReader,
+    reader: &mut DisclosureReader,
     given: &mut GivenList,
     text: &str,
 ) -> Result<(), DisclosureError>
     ensures ok { OnOk result (Adds hash text.now given.old given.new) }
     ensures refused { IfErr result (IsDisclosureRefused text.now) }
 {
-    let disclosure = read_disclosure(alloc, reader, text)?;
+    let disclosure = reader.read(alloc, text)?;
     let digest = disclosure.digest(alloc, hash)?;
     given.push(Given {
         digest,
@@ -56,7 +55,7 @@ pub(crate) fn read_given(
     ensures ranged { IfOk result ValuesRanged }
     ensures refused { IfErr result (λ e. OnFault e (IsUnreadAt hash disclosures.entry)) }
 {
-    let mut reader = JsonReader::new(alloc);
+    let mut reader = DisclosureReader::new(alloc);
     let mut given = GivenList::new(alloc);
     for (i, text) in disclosures.enumerate() {
         if let Err(error) = push_given(alloc, hash, &mut reader, &mut given, text) {
