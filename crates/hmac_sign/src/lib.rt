@@ -5,9 +5,9 @@
 #![tactic(auto)]
 
 mod fail_signer;
+mod file_keys;
 mod hmac;
 mod hs256_key;
-mod key_member;
 mod key_set;
 mod key_set_elements;
 #[cfg(test)]
@@ -18,8 +18,8 @@ mod sign;
 mod tests;
 
 pub use fail_signer::FailSigner;
+pub use file_keys::{key_member, key_of};
 pub use hmac::hmac_sha256;
 pub use hs256_key::{Hs256Key, KeyShort};
-pub use key_member::{key_member, key_of};
 pub use key_set::{KeySet, KeySetError, NamedKey};
 pub use sign::{Alg, Checker, SignError, Signatures, Signer};

@@ -2,7 +2,7 @@ use Rattle.claim_tree.specs.View.{tree_of}
 use Rattle.claim_tree.specs.FileForms.{required}
 use Rattle.claim_tree.proofs.FileMembers.{wrong_member}
 use Rattle.hmac_sign.specs.KeyText.{IsKeyText}
-use Rattle.hmac_sign.proofs.key_member.key_member.Goals as goal
+use Rattle.hmac_sign.proofs.file_keys.key_member.Goals as goal
 
 pub returns-in-None-clause-refused : goal.returns-in-None-clause-refused
 returns-in-None-clause-refused c =

@@ -1,7 +1,7 @@
 use Rattle.std.proofs.Common.{subst, sym, ap, ◌∙◌}
 use Rattle.b64url_text.specs.Base64url.{Decodes}
 use Rattle.hmac_sign.proofs.KeyTexts.{key_none}
-use Rattle.hmac_sign.proofs.key_member.key_of.Goals as goal
+use Rattle.hmac_sign.proofs.file_keys.key_of.Goals as goal
 
 pub returns-in-Ok-clause-none : goal.returns-in-Ok-clause-none
 returns-in-Ok-clause-none c =
