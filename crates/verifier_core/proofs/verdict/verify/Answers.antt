@@ -84,3 +84,18 @@ pub returns-clause-uncounted : goal.returns-clause-uncounted
 returns-clause-uncounted c =
     read_uncounted c.args.text.now c.args.policy.now c.args.now c.in-Ok.token c.in-Ok.ensures.ok c.in-Ok-read_content.ensures.sent c.in-Ok-read_content.content c.in-Ok-read_content.ensures.content c.args.steps.now
     c.open.new.steps
+
+pub returns-in-Err-clause-no_memory : goal.returns-in-Err-clause-no_memory
+returns-in-Err-clause-no_memory c = λ failed. c.in-Err.ensures.no_memory failed.plain
+
+pub returns-in-Err-read_content-clause-no_memory : goal.returns-in-Err-read_content-clause-no_memory
+returns-in-Err-read_content-clause-no_memory c = λ failed is. c.in-Ok.ensures.ok.passes failed.fault failed.fails
+
+pub returns-in-Err-open-clause-no_memory : goal.returns-in-Err-open-clause-no_memory
+returns-in-Err-open-clause-no_memory c = λ failed is. c.in-Ok.ensures.ok.passes failed.fault failed.fails
+
+pub returns-in_err-payload-clause-no_memory : goal.returns-in_err-payload-clause-no_memory
+returns-in_err-payload-clause-no_memory c = λ failed is. c.in-Ok.ensures.ok.passes failed.fault failed.fails
+
+pub returns-in-Err-check_shown-clause-no_memory : goal.returns-in-Err-check_shown-clause-no_memory
+returns-in-Err-check_shown-clause-no_memory c = λ failed is. c.in-Ok.ensures.ok.passes failed.fault failed.fails
