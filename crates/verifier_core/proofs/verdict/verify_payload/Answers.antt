@@ -1,4 +1,5 @@
-use Rattle.std.proofs.Common.{inr}
+use Rattle.std.proofs.Common.{inr, ◌≡◌, Err, ap}
+use Rattle.verifier_core.specs.declared.check.VerifyError.{VerifyError}
 use Rattle.compact_form.specs.Lowest.{IsLowest}
 use Rattle.json_form.specs.Token.{IsTextRefused}
 use Rattle.verifier_core.specs.Verdict.{Fails, rules_of}
@@ -73,7 +74,9 @@ returns-clause-uncounted c =
     c.open_payload.new.steps
 
 pub returns-in-Err-clause-no_memory : goal.returns-in-Err-clause-no_memory
-returns-in-Err-clause-no_memory c = λ failed. c.in-Err.ensures.no_memory failed.plain
+returns-in-Err-clause-no_memory c = λ failed is.
+    let same : c.in-Err.error ≡ VerifyError.Memory = cc is in
+    c.in-Err.ensures.no_memory failed.plain (ap Err same)
 
 pub returns-in-Err-read_content-clause-no_memory : goal.returns-in-Err-read_content-clause-no_memory
 returns-in-Err-read_content-clause-no_memory c = λ failed is. c.in-Ok.ensures.ok.passes failed.fault failed.fails
