@@ -3,11 +3,11 @@
 
     python3 vectors/run.py sdjwt                    over the program sdjwt on the path
     python3 vectors/run.py ./mine 'conditions*'     only the tables whose names fit
-    python3 vectors/run.py ./mine --at 'faketime @{moment}'
+    python3 vectors/run.py ./mine --at 'env NOW={moment}'
 
 A vector with a run that names its moment is skipped, unless --at says how the program is run at that moment: the
-words are put before the program, with the moment in seconds since 1970 for {moment}. README.md of this folder tells
-the rest.
+words are put before the program, with the moment in seconds since 1970 for {moment}. README.md of this folder has the
+words for a program that asks the system for the time.
 """
 import argparse
 import fnmatch
@@ -22,6 +22,8 @@ from pathlib import Path
 
 HERE = Path(__file__).resolve().parent
 SHOWN = 300
+# the latest moment that the clock of a system can show
+LATEST = 2**62
 
 
 def program_of(text):
@@ -82,7 +84,8 @@ def main():
     asked = parser.parse_args()
     program = program_of(asked.program)
     vectors = list(chosen(asked.tables))
-    work = [vector for vector in vectors if asked.at or not any("moment" in run for run in vector["runs"])]
+    latest = LATEST if asked.at else -1
+    work = [vector for vector in vectors if all(run.get("moment", -1) <= latest for run in vector["runs"])]
     with ThreadPoolExecutor() as pool:
         told = [text for text in pool.map(lambda vector: difference(program, asked.at, vector), work) if text]
     for text in told:
