@@ -12,7 +12,7 @@
 It takes the words of the clauses of each root, finds by the `use` lines where each word is defined, and goes on with
 the words of those definitions: so it follows definitions, and not whole modules. A module under `declared` is the
 view of a type of src/; the type is counted where it stands, and so is a trait in which a root is generic. What the kit
-defines is named at the end, and not followed.
+defines is named at the end, and not followed; nor is a module of proofs, which begins with "For the prover".
 
 A definition has the lines from its comment to its end, without blank ones. A word that a definition binds anywhere
 counts as bound in all of it; --names tells where such a word is the name of a definition too.
@@ -150,7 +150,8 @@ class Core:
             return module, name
         if parts[2] == "declared":
             return self.source(parts[0], parts[4])
-        return self.specs(parts[0], ".".join(parts[2:])).defined.get(name)
+        file = self.specs(parts[0], ".".join(parts[2:]))
+        return None if file.text.startswith("-- For the prover") else file.defined.get(name)
 
     def meaning(self, file, word):
         """What a word of specs/ or of a clause is: its own definition, an import, or one behind an alias."""

@@ -5,7 +5,8 @@ use Rattle.std.proofs.Math.Bool.{Bool-set}
 use Rattle.compact_form.specs.declared.condition.Condition.{Condition}
 use Rattle.compact_form.specs.declared.fault.Fault.{Fault}
 use Rattle.compact_form.specs.declared.fault.Place.{Place}
-use Rattle.compact_form.specs.Condition.{number_of, conditions, condition_of, numbered}
+use Rattle.compact_form.specs.Condition.{number_of, conditions, condition_of}
+use Rattle.compact_form.specs.Numbered.{numbered}
 use Rattle.compact_form.specs.Faults.{fault_at, found_condition, failed_of}
 
 -- two conditions of one number are one

@@ -1,5 +1,5 @@
 -- The conditions of a verifier, in the order in which they are judged: their numbers and their printed names.
-use Rattle.std.specs.Prelude.{◌≡◌, ℕ, ◌==◌, List, [], ◌∷◌, Option, Some, codes, find, refl}
+use Rattle.std.specs.Prelude.{ℕ, ◌==◌, List, [], ◌∷◌, Option, codes, find}
 use Rattle.compact_form.specs.declared.condition.Condition.{Condition}
 
 abbrev pub number_of : Condition → ℕ
@@ -127,44 +127,3 @@ conditions =
 -- the condition of a number, where there is one
 abbrev pub condition_of : ℕ → Option Condition
 condition_of number = find (λ condition. number_of condition == number) conditions
-
--- each condition is found under its number
-pub numbered : (condition : Condition) → condition_of (number_of condition) ≡ Some condition
-numbered Condition.TooLong = refl
-numbered Condition.Form = refl
-numbered Condition.TooMuch = refl
-numbered Condition.BindingMissing = refl
-numbered Condition.HeaderUnreadable = refl
-numbered Condition.HeaderCritical = refl
-numbered Condition.AlgRefused = refl
-numbered Condition.TypeRefused = refl
-numbered Condition.IssuerKeyUnknown = refl
-numbered Condition.BadSignature = refl
-numbered Condition.PayloadUnreadable = refl
-numbered Condition.HashUnknown = refl
-numbered Condition.DisclosureUnreadable = refl
-numbered Condition.RepeatedDisclosure = refl
-numbered Condition.ReservedMisused = refl
-numbered Condition.RepeatedDigest = refl
-numbered Condition.UnreferencedDisclosure = refl
-numbered Condition.WrongShape = refl
-numbered Condition.ReservedName = refl
-numbered Condition.NameClash = refl
-numbered Condition.TooDeep = refl
-numbered Condition.IssuerRefused = refl
-numbered Condition.ClaimMissing = refl
-numbered Condition.TimeUnreadable = refl
-numbered Condition.Expired = refl
-numbered Condition.NotYet = refl
-numbered Condition.HolderKeyUnknown = refl
-numbered Condition.BindingHeader = refl
-numbered Condition.BindingAlg = refl
-numbered Condition.BindingSignature = refl
-numbered Condition.BindingType = refl
-numbered Condition.BindingPayload = refl
-numbered Condition.BindingStale = refl
-numbered Condition.BindingEarly = refl
-numbered Condition.NonceDiffers = refl
-numbered Condition.AudienceDiffers = refl
-numbered Condition.HashDiffers = refl
-numbered Condition.BindingTime = refl

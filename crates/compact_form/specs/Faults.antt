@@ -6,7 +6,8 @@ use Rattle.compact_form.specs.declared.condition.Condition.{Condition}
 use Rattle.compact_form.specs.declared.fault.Fault.{Fault}
 use Rattle.compact_form.specs.declared.fault.Place.{Place}
 use Rattle.compact_form.specs.declared.fault.Place.TheVariants.{Nowhere, At}
-use Rattle.compact_form.specs.Condition.{number_of, condition_of, numbered}
+use Rattle.compact_form.specs.Condition.{number_of, condition_of}
+use Rattle.compact_form.specs.Numbered.{numbered}
 
 abbrev pub fault_number : Fault → ℕ
 fault_number fault = fault.number

@@ -4,6 +4,7 @@ pub mod CompactToken
 pub mod Views
 pub mod Reading
 pub mod Condition
+pub mod Numbered
 pub mod Faults
 pub mod Lowest
 pub mod PartWords

@@ -1,5 +1,5 @@
 use Rattle.compact_form.proofs.Numbers.{one_condition, fault_is}
-use Rattle.compact_form.specs.Condition.{numbered}
+use Rattle.compact_form.specs.Numbered.{numbered}
 use Rattle.compact_form.proofs.laws.one_condition.Goals as goal
 
 pub returns : goal.returns
