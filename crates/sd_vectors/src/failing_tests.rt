@@ -1,21 +1,9 @@
 // What a run leaves where a file or a stream fails, and that the same objects serve the same run again.
+use crate::fetch_tests::{FILES, words_of};
 use sd_outside::{MemCabinet, MemSink, NoMemory};
 use sdjwt_cli::run;
 use std::alloc::Global;
 use std::test::Fail;
-
-// The token was signed by another program, under the key of the policy.
-const FILES: [(&str, &str); 3] = [
-    (
-        "policy",
-        r#"{"keys":{"keys":[{"kty":"oct","k":"AQEBAQEBAQEBAQEBAQEBAQEBAQEBAQEBAQEBAQEBAQE"}]}}"#,
-    ),
-    (
-        "token",
-        "eyJhbGciOiJIUzI1NiJ9.e30.cm8Irw3f5_Kg9Gj_dx0Va_pr7uQ1ksaSioUH4DpAh2w~",
-    ),
-    ("bad", "a.b.c"),
-];
 
 // The call that is to fail, by its number among those of one object.
 #[derive(Clone, Copy)]
@@ -56,12 +44,9 @@ impl Bench {
 
     // What stands on both streams behind a run of these words, and behind the status; and how many calls have failed.
     fn left_by(&mut self, alloc: Global, words: &str) -> Result<String, Fail> {
-        let mut list = Vec::new(alloc);
-        for word in words.split_whitespace() {
-            list.push(String::from_str(alloc, word)?)?;
-        }
+        let words = words_of(alloc, words)?;
         let (out, err) = (&mut self.out, &mut self.err);
-        let status = run(alloc, list.as_slice(), &mut self.cabinet, 0, out, err).number();
+        let status = run(alloc, words.as_slice(), &mut self.cabinet, 0, out, err).number();
         let out = std::str::from_utf8(self.out.written()).map_err(|_| "no text")?;
         let err = std::str::from_utf8(self.err.written()).map_err(|_| "no text")?;
         let failed = [
@@ -100,7 +85,7 @@ fn a_failure_has_its_status_and_the_objects_serve_again(rt: HostRuntime) -> Resu
             Failing::Line(0),
             "split bad",
             "1 [0, 0, 1]",
-            "1 refused 2 form at 5\n[0, 0, 1]",
+            "1 refused 2 form at 0\n[0, 0, 1]",
         ),
         // calls that the first run does not make
         (

@@ -56,7 +56,7 @@ impl Sink for Pieces {
 }
 
 // The token was signed by another program, under the key of the policy.
-const FILES: [(&str, &str); 5] = [
+pub(crate) const FILES: [(&str, &str); 5] = [
     (
         "policy",
         r#"{"keys":{"keys":[{"kty":"oct","k":"AQEBAQEBAQEBAQEBAQEBAQEBAQEBAQEBAQEBAQEBAQE"}]}}"#,
@@ -73,7 +73,7 @@ const FILES: [(&str, &str); 5] = [
     ("bad", "?"),
 ];
 
-fn words_of(alloc: Global, words: &str) -> Result<Vec<String>, Fail> {
+pub(crate) fn words_of(alloc: Global, words: &str) -> Result<Vec<String>, Fail> {
     let mut list = Vec::new(alloc);
     for word in words.split_whitespace() {
         list.push(String::from_str(alloc, word)?)?;

@@ -40,15 +40,15 @@ printed order seed a b g h =
 
 refused : (order seed : List ℕ) (a b : List ℕ) → DoesNotIssue order seed a → DoesNotIssue order seed b → a ≡ b
 refused order seed a b g h =
-    let lowest : IsLowestRefusal (AppliesToIssue (maker_of h.seed) h.order (IsGood h.key)) g.error =
-    carried order seed g.order h.order g.key h.key g.seed h.seed g.asked h.asked (λ (o : Order) (k s : List ℕ). IsLowestRefusal (AppliesToIssue (maker_of s) o (IsGood k)) g.error) g.lowest in
-    g.line_is ∙ (ap (λ (error : IssueError). line (issue_refusal_text error)) (one_refusal (maker_of h.seed) h.order (IsGood h.key) g.error h.error lowest h.lowest) ∙ sym h.line_is)
+    let lowest : IsLowestRefusal (AppliesToIssue (maker_of h.seed) h.order (IsGood h.key)) g.refused.error =
+    carried order seed g.order h.order g.key h.key g.seed h.seed g.asked h.asked (λ (o : Order) (k s : List ℕ). IsLowestRefusal (AppliesToIssue (maker_of s) o (IsGood k)) g.refused.error) g.refused.lowest in
+    g.refused.line_is ∙ (ap (λ (error : IssueError). line (issue_refusal_text error)) (one_refusal (maker_of h.seed) h.order (IsGood h.key) g.refused.error h.refused.error lowest h.refused.lowest) ∙ sym h.refused.line_is)
 
 printed_not_refused : (order seed : List ℕ) (a b : List ℕ) → Issues order seed a → DoesNotIssue order seed b → ⊥
 printed_not_refused order seed a b g h =
-    let lowest : IsLowestRefusal (AppliesToIssue (maker_of g.seed) g.order (IsGood g.key)) h.error =
-    carried order seed h.order g.order h.key g.key h.seed g.seed h.asked g.asked (λ (o : Order) (k s : List ℕ). IsLowestRefusal (AppliesToIssue (maker_of s) o (IsGood k)) h.error) h.lowest in
-    issued_not_refused (maker_of g.seed) g.order g.key g.parts g.answered.passes g.answered.differ g.answered.laid g.answered.short h.error lowest.applies
+    let lowest : IsLowestRefusal (AppliesToIssue (maker_of g.seed) g.order (IsGood g.key)) h.refused.error =
+    carried order seed h.order g.order h.key g.key h.seed g.seed h.asked g.asked (λ (o : Order) (k s : List ℕ). IsLowestRefusal (AppliesToIssue (maker_of s) o (IsGood k)) h.refused.error) h.refused.lowest in
+    issued_not_refused (maker_of g.seed) g.order g.key g.parts g.answered.passes g.answered.differ g.answered.laid g.answered.short h.refused.error lowest.applies
 
 -- what is asked for is of its form
 asked_not_unreadable : (order_file seed_file : List ℕ) (o : Order) (key seed : List ℕ) (text : List ℕ) → IsAsked order_file seed_file o key seed → HasNoOrder order_file seed_file text → ⊥

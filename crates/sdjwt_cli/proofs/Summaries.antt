@@ -30,13 +30,13 @@ use Rattle.issuer_core.proofs.IssuedContent.{IsTextOf}
 use Rattle.issuer_core.proofs.ReservedPlaces.{held_short}
 use Rattle.holder_core.specs.declared.errors.PresentError.{PresentError}
 use Rattle.holder_core.specs.declared.errors.PresentError.TheVariants.{Memory, SignFailed}
-use Rattle.holder_core.specs.Present.{shown_for, picked, IsNotPresented}
+use Rattle.holder_core.specs.Present.{picked, IsNotPresented}
 use Rattle.sdjwt_cli.specs.Generated.{generated, generated_seed, generated_key, generated_ask, generated_policy}
 use Rattle.sdjwt_cli.specs.Issuing.{IsIssuedBy}
 use Rattle.sdjwt_cli.specs.Never.{never_rule}
 use Rattle.json_form.specs.Alone.{alone}
 use Rattle.sdjwt_cli.specs.PresentedValues.{IsAcceptedWith, IsShownAt, IsShownOf}
-use Rattle.sdjwt_cli.specs.Summary.{Summarizes, hidden_paths, chosen_places, embedded_digests, shown_length, summary_lines}
+use Rattle.sdjwt_cli.specs.Summary.{Summarizes, hidden_paths, chosen_places, embedded_digests, shown_claims, shown_length, summary_lines}
 use Rattle.sdjwt_cli.specs.SummarySteps.{IsPresentedOf, IsAcceptable, IsVerified}
 use Rattle.sdjwt_cli.proofs.CheckedParts.{content}
 use Rattle.sdjwt_cli.proofs.EmbeddedDigests.{issued_count, fewer_embedded, length_picked, fewer_picked}
@@ -58,7 +58,7 @@ uncapped many low = omega (arith, low)
 
 module _ (n : ℕ) (issued : Parts) (is_issued : IsIssuedBy generated_seed (generated n) generated_key issued) where
   abbrev claims : Tree
-  claims = shown_for (marked_claims (generated n)) (generated_ask n).want
+  claims = shown_claims n
 
   through : IsShownOf never_rule [] issued (generated_ask n) generated_key generated_policy 0 0 claims
   through = presented_over_values never_rule [] generated_seed (generated n) generated_key issued is_issued (generated_ask n) generated_key generated_policy 0 0 (generated_suits n) tt (omega arith)
@@ -159,7 +159,7 @@ module _ (n : ℕ) (issued : Parts) (is_issued : IsIssuedBy generated_seed (gene
       summarizes hidden shown bytes h k b text written = record {
         issued = issued;
         presented = presented;
-        shown = record { is_issued = is_issued; is_presented = is_presented; marked = verified.accepted.0; is_accepted = verified.accepted.1 };
+        shown = record { is_issued = is_issued; is_presented = is_presented; marked = verified.accepted.0; is_accepted = verified.accepted.1; claims_are = sym verified.accepted.2 ∙ claims_are };
         payload = is.has.payload;
         given = given;
         content = has_content;

@@ -48,15 +48,19 @@ pub record Issues (order_file seed_file answer : List ℕ) : Type 0 where
   pub answered : IsIssuedBy seed order key parts
   pub line_is : answer ≡ line (compact parts)
 
--- the lowest refusal that applies, with its line
+-- the lowest refusal that applies to the order, with its line
+pub record TellsRefusal (seed : List ℕ) (order : Order) (key text : List ℕ) : Type 0 where
+  pub error : IssueError
+  pub lowest : IsLowestRefusal (AppliesToIssue (maker_of seed) order (IsGood key)) error
+  pub line_is : text ≡ line (issue_refusal_text error)
+
+-- what is asked for is refused
 pub record DoesNotIssue (order_file seed_file text : List ℕ) : Type 0 where
   pub order : Order
   pub key : List ℕ
   pub seed : List ℕ
   pub asked : IsAsked order_file seed_file order key seed
-  pub error : IssueError
-  pub lowest : IsLowestRefusal (AppliesToIssue (maker_of seed) order (IsGood key)) error
-  pub line_is : text ≡ line (issue_refusal_text error)
+  pub refused : TellsRefusal seed order key text
 
 -- a file is not of its form, with this line: the order is judged first, where want of memory is no cause, and then the seed
 pub data HasNoOrder (order_file seed_file text : List ℕ) : Type 0 where

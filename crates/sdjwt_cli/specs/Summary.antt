@@ -10,18 +10,13 @@ use Rattle.compact_form.specs.Compact.{compact}
 use Rattle.digest_sites.specs.Given.{Given}
 use Rattle.digest_sites.specs.Sites.{sites}
 use Rattle.hmac_sign.specs.Hmac.{IsGood}
-use Rattle.marked_tree.specs.Marked.{Marked}
+use Rattle.marked_tree.specs.Marked.{Marked, strip}
 use Rattle.marked_tree.specs.Paths.{same_path, chosen}
 use Rattle.verifier_core.specs.Verdict.{HasContent, IsAccepted}
-use Rattle.issuer_core.specs.declared.errors.IssueError.{IssueError}
 use Rattle.issuer_core.specs.Digests.{marked_claims, hidden_of}
-use Rattle.issuer_core.specs.Issue.{AppliesToIssue}
-use Rattle.issuer_core.specs.OrderRefusals.{IsLowestRefusal}
-use Rattle.issuer_core.specs.RefusalLine.{issue_refusal_text}
-use Rattle.issuer_core.specs.Seed.{maker_of}
 use Rattle.holder_core.specs.Present.{shown_for, IsPresented}
 use Rattle.sdjwt_cli.specs.Generated.{generated, generated_seed, generated_key, generated_ask, generated_policy}
-use Rattle.sdjwt_cli.specs.Issuing.{IsIssuedBy}
+use Rattle.sdjwt_cli.specs.Issuing.{IsIssuedBy, TellsRefusal}
 use Rattle.sdjwt_cli.specs.Lines.{line}
 use Rattle.sdjwt_cli.specs.Never.{never_rule}
 use Rattle.json_form.specs.Alone.{alone}
@@ -40,9 +35,13 @@ chosen_places n = count_by (chosen (marked_claims (generated n)) (generated_ask 
 abbrev pub embedded_digests : Tree → List Given → ℕ
 embedded_digests payload given = length (sites payload) + sum_by (λ x. length (sites x.value)) given
 
--- how long the claims are that are shown for what is wanted, as JSON
+-- the claims that are shown for what is wanted
+abbrev pub shown_claims : ℕ → Tree
+shown_claims n = shown_for (marked_claims (generated n)) (generated_ask n).want
+
+-- how long they are, as JSON
 abbrev pub shown_length : ℕ → ℕ
-shown_length n = length (json_text (shown_for (marked_claims (generated n)) (generated_ask n).want))
+shown_length n = length (json_text (shown_claims n))
 
 -- ---- the answer
 
@@ -54,12 +53,13 @@ summary_lines hidden presented digests bytes =
     count_line (codes "hidden") hidden ++ (count_line (codes "presented") presented ++ (count_line (codes "digests") digests ++ count_line (codes "bytes") bytes))
 
 -- a token is issued for the order, this is presented of it as it is asked, and it is accepted under the policy with the claims that
--- are wanted; nothing of this depends on the moment
+-- are wanted, all of it at the moment 0
 pub record IsShownThrough (n : ℕ) (issued presented : Parts) : Type 0 where
   pub is_issued : IsIssuedBy generated_seed (generated n) generated_key issued
   pub is_presented : IsPresented never_rule [] (compact issued) (generated_ask n) (IsGood generated_key) 0 presented
   pub marked : Marked
   pub is_accepted : IsAccepted (compact presented) generated_policy 0 marked
+  pub claims_are : strip marked ≡ shown_claims n
 
 -- and these are the lines of it
 pub record Summarizes (n : ℕ) (answer : List ℕ) : Type 0 where
@@ -71,8 +71,6 @@ pub record Summarizes (n : ℕ) (answer : List ℕ) : Type 0 where
   pub content : HasContent (alone presented) payload given
   pub lines : answer ≡ summary_lines (hidden_paths n) (chosen_places n) (embedded_digests payload given) (shown_length n)
 
--- the lowest refusal that applies to the order, with its line
-pub record DoesNotSummarize (n : ℕ) (text : List ℕ) : Type 0 where
-  pub error : IssueError
-  pub lowest : IsLowestRefusal (AppliesToIssue (maker_of generated_seed) (generated n) (IsGood generated_key)) error
-  pub line_is : text ≡ line (issue_refusal_text error)
+-- the order is refused, as `issue` would refuse it
+abbrev pub DoesNotSummarize : ℕ → List ℕ → Type 0
+DoesNotSummarize n text = TellsRefusal generated_seed (generated n) generated_key text

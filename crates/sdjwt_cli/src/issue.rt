@@ -5,13 +5,15 @@ ghost use Rattle.sd_outside.specs.Limits.{seed_len};
 ghost use Rattle.claim_tree.specs.Tree.{IsRanged, depth};
 ghost use Rattle.claim_tree.specs.View.{tree_of};
 ghost use Rattle.issuer_core.specs.OrderFile.{IsOrderFile};
-ghost use Rattle.sdjwt_cli.specs.Issuing.{Issues, DoesNotIssue, HasNoOrder};
+ghost use Rattle.issuer_core.specs.Order.{order_of as order_said};
+ghost use Rattle.sdjwt_cli.specs.Issuing.{IsIssuedBy, TellsRefusal, Issues, DoesNotIssue, HasNoOrder};
 ghost use Rattle.sdjwt_cli.specs.Stops.{OnRefused, OnUnread, OnUnreadable};
 
 use crate::lines::{as_line, short_seed_line};
 use crate::stop::{Stop, unreadable};
-use compact_form::print;
-use issuer_core::{IssueError, IssueFile, issue_owned, read_order, refusal_line};
+use compact_form::{Parts, print};
+use hmac_sign::Hs256Key;
+use issuer_core::{IssueError, IssueFile, Order, issue_owned, read_order, refusal_line};
 use std::alloc::Global;
 
 // The bytes of a seed.
@@ -32,6 +34,27 @@ fn order_of(alloc: Global, file: &[u8]) -> Result<IssueFile, Stop>
     }
 }
 
+/// What is issued for an order with a seed and a key.
+pub(crate) fn issue_parts(
+    alloc: Global,
+    order: Order,
+    seed: &[u8; SEED_LEN],
+    mut key: Hs256Key,
+) -> Result<Parts, Stop>
+    requires depth { depth (tree_of order.payload) ≤ 127 }
+    requires ranged { IsRanged (tree_of order.payload) }
+    ensures issued { IfOk result (IsIssuedBy seed.now (order_said order) key) }
+    ensures refuses { IfErr result (λ stop. OnRefused stop (TellsRefusal seed.now (order_said order) key)) }
+    ensures readable { IfErr result (λ stop. OnUnreadable stop (λ _. ⊥)) }
+    ensures read { IfErr result (λ stop. OnUnread stop (λ _. ⊥)) }
+{
+    match issue_owned(alloc, order, seed, &mut key) {
+        Ok(parts) => Ok(parts),
+        Err(IssueError::Memory) => Err(Stop::Memory),
+        Err(error) => Err(Stop::Refused(as_line(refusal_line(alloc, &error)?)?)),
+    }
+}
+
 // The answer for what an order file asks for, with the seed of a file.
 fn issue_for(alloc: Global, asked: IssueFile, seed: &[u8; SEED_LEN]) -> Result<String, Stop>
     requires depth { depth (tree_of asked.order.payload) ≤ 127 }
@@ -43,11 +66,10 @@ fn issue_for(alloc: Global, asked: IssueFile, seed: &[u8; SEED_LEN]) -> Result<S
     ensures readable { IfErr result (λ stop. OnUnreadable stop (λ _. ⊥)) }
     ensures read { IfErr result (λ stop. OnUnread stop (λ _. ⊥)) }
 {
-    let IssueFile { order, mut key } = asked;
-    match issue_owned(alloc, order, seed, &mut key) {
+    let IssueFile { order, key } = asked;
+    match issue_parts(alloc, order, seed, key) {
         Ok(parts) => Ok(as_line(print(alloc, &parts)?)?),
-        Err(IssueError::Memory) => Err(Stop::Memory),
-        Err(error) => Err(Stop::Refused(as_line(refusal_line(alloc, &error)?)?)),
+        Err(stop) => Err(stop),
     }
 }
 

@@ -8,15 +8,13 @@ ghost use Rattle.sdjwt_cli.specs.Summary.{Summarizes, DoesNotSummarize, count_li
 ghost use Rattle.sdjwt_cli.specs.SummarySteps.{IsPresentedOf, IsAcceptable, IsVerified};
 
 use crate::generated::{ask_of, key, order_of, policy};
-use crate::issue::SEED_LEN;
-use crate::lines::as_line;
+use crate::issue::{SEED_LEN, issue_parts};
 use crate::present::present_parts;
 use crate::stop::Stop;
 use claim_tree::{PathList, Tree, write};
 use compact_form::{Parts, print};
 use digest_index::Steps;
 use holder_core::PresentError;
-use issuer_core::{IssueError, issue_owned, refusal_line};
 use sd_outside::NoMemory;
 use std::alloc::Global;
 use verifier_core::{VerifyError, verify_payload};
@@ -35,11 +33,7 @@ fn issue_order(alloc: Global, count: u32) -> Result<Parts, Stop>
     ensures read { IfErr result (λ stop. OnUnread stop (λ _. ⊥)) }
 {
     let order = order_of(alloc, count)?;
-    match issue_owned(alloc, order, &SEED, &mut key()) {
-        Ok(parts) => Ok(parts),
-        Err(IssueError::Memory) => Err(Stop::Memory),
-        Err(error) => Err(Stop::Refused(as_line(refusal_line(alloc, &error)?)?)),
-    }
+    issue_parts(alloc, order, &SEED, key())
 }
 
 // What is presented of it.

@@ -1,10 +1,9 @@
-use Rattle.std.proofs.Common.{◌≢◌, Err, ap, ◌∙◌, rules}
-use Rattle.issuer_core.specs.declared.errors.IssueError.TheVariants.{Memory, SignFailed}
+use Rattle.std.proofs.Common.{ap, ◌∙◌}
+use Rattle.std.proofs.lemmas.Result.{IfOk-weaker}
 use Rattle.issuer_core.specs.Order.{order_of}
-use Rattle.hmac_sign.specs.Hmac.{IsGood}
-use Rattle.issuer_core.specs.Seed.{maker_of}
 use Rattle.sdjwt_cli.specs.Lines.{line}
-use Rattle.sdjwt_cli.proofs.Issuings.{is_asked, never, lowest, line_of}
+use Rattle.sdjwt_cli.specs.Issuing.{DoesNotIssue, TellsRefusal}
+use Rattle.sdjwt_cli.proofs.Issuings.{is_asked}
 use Rattle.sdjwt_cli.proofs.issue.issue_for.Goals as goal
 
 pub returns-in_ok-as_line-in-Ok-clause-issues : goal.returns-in_ok-as_line-in-Ok-clause-issues
@@ -16,31 +15,6 @@ returns-in_ok-as_line-in-Ok-clause-issues c order_file seed_file is_order chunk 
       seed = c.args.seed.now;
       asked = is_asked order_file seed_file c.args.seed.now said is_order chunk;
       parts = c.in-Ok.parts;
-      answered = record {
-        issued = c.in-Ok.ensures.issued;
-        laid = c.in-Ok.ensures.laid;
-        passes = c.in-Ok.ensures.passes;
-        differ = c.in-Ok.ensures.differ;
-        writable = c.in-Ok.ensures.writable;
-        words = c.in-Ok.ensures.words;
-        few = c.in-Ok.ensures.few;
-        short = c.in-Ok.ensures.short;
-      };
+      answered = c.in-Ok.ensures.issued;
       line_is = c.in_ok-as_line-in-Ok.ensures ∙ ap line c.in_ok-print-in-Ok.ensures.spelling;
-    }
-
-pub returns-in_ok-as_line-in-Err-clause-refuses : goal.returns-in_ok-as_line-in-Err-clause-refuses
-returns-in_ok-as_line-in-Err-clause-refuses c order_file seed_file is_order chunk =
-    let said = c.args.asked in
-    let error = c.in-Err.error in
-    let memory : error ≢ Memory = search rules in
-    let failed : error ≢ SignFailed = λ is. never (c.in-Err.ensures.failed (ap Err is)) in
-    record {
-      order = order_of said.order;
-      key = said.key;
-      seed = c.args.seed.now;
-      asked = is_asked order_file seed_file c.args.seed.now said is_order chunk;
-      error = error;
-      lowest = lowest (maker_of c.args.seed.now) (order_of said.order) (IsGood said.key) error memory failed c.in-Err.ensures.refused;
-      line_is = c.in_ok-as_line-in-Err.ensures ∙ ap line (line_of error memory failed c.in_ok-refusal_line-in-Err.field-0 c.in_ok-refusal_line-in-Err.ensures);
     }
