@@ -211,7 +211,7 @@ protected = b64 (json_text (object (header_members (header_of order))))
 abbrev body : Text
 body = b64 (json_text (with_alg payload))
 
-abbrev parts : Parts
+abbrev pub parts : Parts
 parts = record {
   signed = record { protected = protected; payload = body; signature = b64 (mac issuer_key protected body) };
   disclosures = made_texts (maker_of seed).disclosure 0 given;
@@ -266,7 +266,7 @@ short =
 
 -- ---- `issue` gives this line
 
-issues : Issues order_file seed_file (line (compact parts))
+pub issues : Issues order_file seed_file (line (compact parts))
 issues = record {
   order = order;
   key = issuer_key;
