@@ -12,18 +12,14 @@ use Rattle.verifier_core.specs.declared.policy.Policy.{Policy}
 use Rattle.issuer_core.specs.Digests.{marked_claims}
 use Rattle.holder_core.specs.declared.ask.Ask.{Ask}
 use Rattle.holder_core.specs.Present.{shown_for, picked}
-use Rattle.sdjwt_cli.specs.Issuing.{IsIssuedBy}
 use Rattle.sdjwt_cli.specs.Never.{never_rule}
 use Rattle.sdjwt_cli.specs.NoForgery.{NoneCollides, IsChoiceOf}
 use Rattle.sdjwt_cli.specs.Suits.{Suits}
 use Rattle.sdjwt_cli.proofs.HeldIssued.{IsTokenOf, token_of}
-use Rattle.sdjwt_cli.proofs.IssuedValues.{seed, parts, issues}
+use Rattle.sdjwt_cli.proofs.IssuedValues.{seed, parts, issued}
 use Rattle.sdjwt_cli.proofs.NoForgery.{no_forgery_holds}
 use Rattle.sdjwt_cli.proofs.PresentedAccepted.{IsPresentedOf, answer_text, answer_accepted}
 use Rattle.sdjwt_cli.proofs.SuitsExample.{order, issuer_key, said, policy_with, suits, claims_hold}
-
-issued : IsIssuedBy seed order issuer_key parts
-issued = issues.answered
 
 -- the given name, with no key binding token
 abbrev ask : Ask

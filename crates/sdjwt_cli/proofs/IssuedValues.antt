@@ -42,7 +42,7 @@ use Rattle.issuer_core.proofs.IssuedContent.{laid_digests_differ}
 use Rattle.issuer_core.specs.Seed.{maker_of}
 use Rattle.issuer_core.proofs.FromLaid.{one_list}
 use Rattle.sdjwt_cli.proofs.SuitsExample.{issuer_key, named, order}
-use Rattle.sdjwt_cli.specs.Issuing.{Issues}
+use Rattle.sdjwt_cli.specs.Issuing.{IsIssuedBy, Issues}
 use Rattle.sdjwt_cli.specs.Lines.{line}
 use Rattle.sdjwt_cli.specs.Presented.{IsShownWell}
 use Rattle.sdjwt_cli.proofs.PresentedRuns.{presented_over_files}
@@ -266,23 +266,26 @@ short =
 
 -- ---- `issue` gives this line
 
-pub issues : Issues order_file seed_file (line (compact parts))
+pub issued : IsIssuedBy seed order issuer_key parts
+issued = record {
+  issued = record { payload = payload; given = given; issued = laid_digests_differ seed order payload given digests laid differ writable; written = written };
+  laid = record { payload = payload; given = given; digests = digests; laid = laid; written = written };
+  passes = passes;
+  differ = differ;
+  writable = writable;
+  words = words;
+  few = omega arith;
+  short = short;
+}
+
+issues : Issues order_file seed_file (line (compact parts))
 issues = record {
   order = order;
   key = issuer_key;
   seed = seed;
   asked = all_suits.asked;
   parts = parts;
-  answered = record {
-    issued = record { payload = payload; given = given; issued = laid_digests_differ seed order payload given digests laid differ writable; written = written };
-    laid = record { payload = payload; given = given; digests = digests; laid = laid; written = written };
-    passes = passes;
-    differ = differ;
-    writable = writable;
-    words = words;
-    few = omega arith;
-    short = short;
-  };
+  answered = issued;
   line_is = refl;
 }
 

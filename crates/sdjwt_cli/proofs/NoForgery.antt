@@ -18,7 +18,6 @@ use Rattle.json_form.proofs.Tokens as tokens
 use Rattle.jws_part.specs.Part.{IsBody}
 use Rattle.jws_part.proofs.Parts.{one_body}
 use Rattle.marked_tree.specs.Marked.{Marked, strip}
-use Rattle.marked_tree.specs.Numbers.{has}
 use Rattle.marked_tree.specs.Paths.{spots}
 use Rattle.marked_tree.proofs.NumberSets.{has-In, In-has}
 use Rattle.marked_tree.proofs.Spots.{Way, way, ways_of_spots}
