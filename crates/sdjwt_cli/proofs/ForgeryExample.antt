@@ -10,6 +10,7 @@ use Rattle.marked_tree.specs.Paths.{chosen}
 use Rattle.verifier_core.specs.Verdicts.{IsAcceptedAs}
 use Rattle.verifier_core.specs.declared.policy.Policy.{Policy}
 use Rattle.issuer_core.specs.Digests.{marked_claims}
+use Rattle.issuer_core.specs.Seed.{maker_of}
 use Rattle.holder_core.specs.declared.ask.Ask.{Ask}
 use Rattle.holder_core.specs.Present.{shown_for, picked}
 use Rattle.sdjwt_cli.specs.Never.{never_rule}
@@ -61,7 +62,7 @@ sent_issued : (disclosure : Text) → In disclosure sent.disclosures → In disc
 sent_issued disclosure (inl same) = inr (inl same)
 sent_issued disclosure (inr none) = absurd none
 
-none_collides : NoneCollides seed order parts sent.disclosures
+none_collides : NoneCollides (maker_of seed) order parts.disclosures sent.disclosures
 none_collides disclosure there out stands = out (sent_issued disclosure there)
 
 -- so the law says of it what it says

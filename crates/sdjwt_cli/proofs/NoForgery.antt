@@ -8,9 +8,8 @@ use Rattle.claim_tree.proofs.Lists.{At-In, In-At, At-map, In-left, In-map, one_p
 use Rattle.compact_form.specs.declared.parts.JwtParts.{JwtParts}
 use Rattle.compact_form.specs.declared.parts.Parts.{Parts}
 use Rattle.digest_sites.specs.Given.{Given}
-use Rattle.disclosure.specs.Digest.{digest_of, payload_hash}
+use Rattle.disclosure.specs.Digest.{digest_of}
 use Rattle.disclosure.specs.declared.digests.HashAlg.{HashAlg}
-use Rattle.hmac_sign.specs.Hmac.{IsGood}
 use Rattle.json_form.specs.Alone.{alone}
 use Rattle.json_form.specs.Token.{IsToken}
 use Rattle.json_form.specs.declared.token.Token.{Token}
@@ -31,14 +30,15 @@ use Rattle.verifier_core.specs.Verdict.{Gives, HasContent, Opens, IsAccepted, of
 use Rattle.verifier_core.specs.declared.policy.Policy.{Policy}
 use Rattle.verifier_core.proofs.CheckSteps.{one_content}
 use Rattle.verifier_core.proofs.ContentFacts.{content_sound}
-use Rattle.issuer_core.specs.Digests.{marked_claims, issued_digests, decoy_digests}
-use Rattle.issuer_core.specs.Laid.{with_alg}
+use Rattle.issuer_core.specs.Digests.{Maker, marked_claims, issued_digests, decoy_digests}
+use Rattle.issuer_core.specs.GoodOrder.{IsGoodOrder}
+use Rattle.issuer_core.specs.Issued.{IsIssuedFor}
 use Rattle.issuer_core.specs.Order.{Order}
 use Rattle.issuer_core.specs.Seed.{maker_of}
-use Rattle.issuer_core.proofs.IssuedContent.{HasIssued, has_issued}
 use Rattle.issuer_core.proofs.IssuedForgery.{issued_not_forged}
-use Rattle.sdjwt_cli.specs.Issuing.{IsIssuedBy}
-use Rattle.sdjwt_cli.specs.NoForgery.{NoForgery, NoneCollides, HasAllAbove, IsChoiceOf, token_digests}
+use Rattle.issuer_core.proofs.IssuedSound.{issued_is_sound_holds}
+use Rattle.sdjwt_cli.specs.NoForgery.{NoForgery, NoForgeryOfRead, NoneCollides, HasAllAbove, IsChoiceOf, token_digests}
+use Rattle.sdjwt_cli.proofs.HeldIssued.{token_of, issued_content}
 
 abbrev Given256 : Text → Given → Type 0
 Given256 d x = Gives HashAlg.Sha256 d x
@@ -73,18 +73,13 @@ is_in d (e ∷ ds) = go (bytes_eq d e) refl (is_in d ds)
     go false q (inl there) = inl (inr there)
     go false q (inr out) = inr (λ m. ⊎_elim (λ same. let clash : false ≡ true = sym q ∙ bytes_refl d e same in cc clash) (λ there. out there) m)
 
-module _ (seed : List ℕ) (o : Order) (key : List ℕ) (parts : Parts) (issued : IsIssuedBy seed o key parts)
+-- there is one algorithm
+one_hash : (hash : HashAlg) → hash ≡ HashAlg.Sha256
+one_hash HashAlg.Sha256 = refl
+
+module _ (maker : Maker) (o : Order) (parts : Parts) (p : Tree) (g : List Given) (good : IsGoodOrder o) (issued : IsIssuedFor maker o p g) (content : HasContent (alone parts) p g)
     (text : List ℕ) (token : Token) (is_token : IsToken text token) (same_signed : token.parts.signed ≡ parts.signed)
-    (policy : Policy) (now : ℕ) (marked : Marked) (accepted : IsAccepted text policy now marked) (none : NoneCollides seed o parts token.parts.disclosures) where
-  has_parts : HasIssued seed o (IsGood key) parts
-  has_parts = has_issued seed o (IsGood key) parts issued.writable issued.differ issued.laid
-
-  abbrev p : Tree
-  p = has_parts.payload
-
-  abbrev g : List Given
-  g = has_parts.given
-
+    (policy : Policy) (now : ℕ) (marked : Marked) (accepted : IsAccepted text policy now marked) (none : NoneCollides maker o parts.disclosures token.parts.disclosures) where
   abbrev Sent : List Given → Type 0
   Sent h = AllZip Given256 token.parts.disclosures h
 
@@ -99,17 +94,14 @@ module _ (seed : List ℕ) (o : Order) (key : List ℕ) (parts : Parts) (issued 
   sent_content : HasContent token opens.0 h
   sent_content = opens.2
 
-  same_body : sent_content.body ≡ with_alg p
-  same_body = one_body parts.signed.payload sent_content.body (with_alg p) (subst (λ (j : JwtParts). IsBody j.payload sent_content.body) same_signed sent_content.is_body) has_parts.back.body
+  same_body : sent_content.body ≡ content.body
+  same_body = one_body parts.signed.payload sent_content.body content.body (subst (λ (j : JwtParts). IsBody j.payload sent_content.body) same_signed sent_content.is_body) content.is_body
 
   same_payload : opens.0 ≡ p
-  same_payload = sent_content.payload_is ∙ (ap without_alg same_body ∙ has_parts.bare)
-
-  same_hash : sent_content.hash ≡ HashAlg.Sha256
-  same_hash = let hashes : Some sent_content.hash ≡ Some HashAlg.Sha256 = sym sent_content.hash_is ∙ (ap payload_hash same_body ∙ has_parts.hash) in cc hashes
+  same_payload = sent_content.payload_is ∙ (ap without_alg same_body ∙ sym content.payload_is)
 
   sent : Sent h
-  sent = subst (λ (a : HashAlg). AllZip (Gives a) token.parts.disclosures h) same_hash sent_content.disclosures
+  sent = subst (λ (a : HashAlg). AllZip (Gives a) token.parts.disclosures h) (one_hash sent_content.hash) sent_content.disclosures
 
   sound : IsSound p h
   sound = subst (λ (t : Tree). IsSound t h) same_payload (content_sound token (rules_of policy) opens.0 h sent_content (λ c place fails. accepted.passes c place (of_token token is_token fails)))
@@ -117,14 +109,14 @@ module _ (seed : List ℕ) (o : Order) (key : List ℕ) (parts : Parts) (issued 
   -- ---- each disclosure is an issued one
 
   issued_texts : AllZip Given256 parts.disclosures g
-  issued_texts = has_parts.texts
+  issued_texts = subst (λ (a : HashAlg). AllZip (Gives a) parts.disclosures g) (one_hash content.hash) content.disclosures
 
-  digests_same : issued_digests (maker_of seed) o g ≡ token_digests seed o parts
-  digests_same = ap (λ (ds : List Text). ds ++ decoy_digests (maker_of seed) o) (zip_digests parts.disclosures g issued_texts)
+  digests_same : issued_digests maker o g ≡ token_digests maker o parts.disclosures
+  digests_same = ap (λ (ds : List Text). ds ++ decoy_digests maker o) (zip_digests parts.disclosures g issued_texts)
 
   -- the content of the issued token with this disclosure alone
   content_with : (d : Text) (x : Given) → Given256 d x → HasContent (alone (record { signed = parts.signed; disclosures = d ∷ []; binding = None })) p (x ∷ [])
-  content_with d x gives = record { body = with_alg p; is_body = has_parts.back.body; payload_is = sym has_parts.bare; hash = HashAlg.Sha256; hash_is = has_parts.hash; disclosures = (gives, tt) }
+  content_with d x gives = record { body = content.body; is_body = content.is_body; payload_is = content.payload_is; hash = HashAlg.Sha256; hash_is = content.hash_is ∙ ap Some (one_hash content.hash); disclosures = (gives, tt) }
 
   -- so a disclosure gives one thing
   one_given : (d : Text) (x y : Given) → Given256 d x → Given256 d y → x ≡ y
@@ -133,7 +125,7 @@ module _ (seed : List ℕ) (o : Order) (key : List ℕ) (parts : Parts) (issued 
       let ones : x ∷ [] ≡ y ∷ [] = same.1 in
       cc ones
 
-  known : (x : Given) → In x h → In x g ⊎ (In x.digest (issued_digests (maker_of seed) o g) → ⊥)
+  known : (x : Given) → In x h → In x g ⊎ (In x.digest (issued_digests maker o g) → ⊥)
   known x m =
       let a = In-At h x m in
       let d = text_of token.parts.disclosures h sent a.0 x a.1 in
@@ -142,11 +134,11 @@ module _ (seed : List ℕ) (o : Order) (key : List ℕ) (parts : Parts) (issued 
       let b = In-At parts.disclosures d.0 there in
       let y = given_of parts.disclosures g issued_texts b.0 d.0 b.1 in
       inl (subst (λ (z : Given). In z g) (one_given d.0 y.0 x y.2 d.2) (At-In g b.0 y.0 y.1)))
-      (λ out. inr (λ stands. none d.0 (At-In token.parts.disclosures a.0 d.0 d.1) out (subst (λ e. In e (token_digests seed o parts)) d.2.0 (subst (λ ds. In x.digest ds) digests_same stands))))
+      (λ out. inr (λ stands. none d.0 (At-In token.parts.disclosures a.0 d.0 d.1) out (subst (λ e. In e (token_digests maker o parts.disclosures)) d.2.0 (subst (λ ds. In x.digest ds) digests_same stands))))
       (is_in d.0 parts.disclosures)
 
   honest : IsHonest (marked_claims o) p g h
-  honest = issued_not_forged (maker_of seed) o p g issued.writable.good has_parts.issued h sound known
+  honest = issued_not_forged maker o p g good issued h sound known
 
   -- the text of an issued disclosure stands at its number
   text_at : (i k : ℕ) (x : Given) (d : Text) → StandsAt g i x → StandsAt token.parts.disclosures k d → Given256 d x → StandsAt parts.disclosures i d
@@ -156,12 +148,12 @@ module _ (seed : List ℕ) (o : Order) (key : List ℕ) (parts : Parts) (issued 
       let c = In-At parts.disclosures d there in
       let y = given_of parts.disclosures g issued_texts c.0 d c.1 in
       let same : y.0.digest ≡ x.digest = y.2.0 ∙ sym gives.0 in
-      let place : c.0 ≡ i = one_place (given_digests g) has_parts.sound.referenced.no_repeated_disclosure c.0 i x.digest
+      let place : c.0 ≡ i = one_place (given_digests g) (issued_is_sound_holds maker o p g good issued).referenced.no_repeated_disclosure c.0 i x.digest
       (subst (λ e. StandsAt (given_digests g) c.0 e) same (At-map (λ (z : Given). z.digest) g c.0 y.0 y.1)) (At-map (λ (z : Given). z.digest) g i x a) in
       subst (λ n. StandsAt parts.disclosures n d) place c.1)
       (λ out.
-      let stands : In x.digest (issued_digests (maker_of seed) o g) = In-left x.digest (given_digests g) (decoy_digests (maker_of seed) o) (In-map (λ (z : Given). z.digest) x g (At-In g i x a)) in
-      absurd (none d (At-In token.parts.disclosures k d b) out (subst (λ e. In e (token_digests seed o parts)) gives.0 (subst (λ ds. In x.digest ds) digests_same stands))))
+      let stands : In x.digest (issued_digests maker o g) = In-left x.digest (given_digests g) (decoy_digests maker o) (In-map (λ (z : Given). z.digest) x g (At-In g i x a)) in
+      absurd (none d (At-In token.parts.disclosures k d b) out (subst (λ e. In e (token_digests maker o parts.disclosures)) gives.0 (subst (λ ds. In x.digest ds) digests_same stands))))
       (is_in d parts.disclosures)
 
   texts_at : (order : List ℕ) (hs : List Given) (ds : List Text) → IsPick g order hs → AllZip Given256 ds hs → ((k : ℕ) (d : Text) → StandsAt ds k d → In d token.parts.disclosures) → AllZip (StandsAt parts.disclosures) order ds
@@ -188,5 +180,11 @@ module _ (seed : List ℕ) (o : Order) (key : List ℕ) (parts : Parts) (issued 
     shows = ap strip (opens.3 ∙ ap (λ t. processed t h) same_payload) ∙ honest.shows;
   }
 
+pub no_forgery_of_read : NoForgeryOfRead
+no_forgery_of_read maker o parts p g good issued content text token is_token same_signed policy now marked accepted none =
+    choice_of maker o parts p g good issued content text token is_token same_signed policy now marked accepted none
+
 pub no_forgery_holds : NoForgery
-no_forgery_holds seed o key parts issued text token is_token same_signed policy now marked accepted none = choice_of seed o key parts issued text token is_token same_signed policy now marked accepted none
+no_forgery_holds seed o key parts issued =
+    let is = token_of seed o key parts issued in
+    no_forgery_of_read (maker_of seed) o parts is.has.payload is.has.given issued.writable.good is.has.issued (issued_content seed o key parts is)
