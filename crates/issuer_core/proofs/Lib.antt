@@ -15,6 +15,7 @@ pub mod LaidIssued
 pub mod LaidDecoys
 pub mod IssuedSound
 pub mod IssuedShown
+pub mod IssuedForgery
 pub mod WithAlg
 pub mod LaidBounds
 pub mod OneLaid

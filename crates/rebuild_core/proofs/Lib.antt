@@ -46,5 +46,6 @@ pub mod ShownAt
 pub mod AllShown
 pub mod Ranked
 pub mod ChosenShown
+pub mod Forgery
 mod Examples
 mod Premises

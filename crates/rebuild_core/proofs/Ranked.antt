@@ -9,7 +9,7 @@ use Rattle.marked_tree.specs.Numbers.{AllAbove, IsRising}
 use Rattle.marked_tree.proofs.NumberSets.{above_in}
 use Rattle.rebuild_core.specs.Laws.{position_from, Ranks}
 
-abbrev SameOn : (ℕ → Bool) → (ℕ → Option ℕ) → (ℕ → Option ℕ) → Type 0
+abbrev pub SameOn : (ℕ → Bool) → (ℕ → Option ℕ) → (ℕ → Option ℕ) → Type 0
 SameOn s f e = (i : ℕ) → s i ≡ true → f i ≡ e i
 
 same_element : (s : ℕ → Bool) (f e : ℕ → Option ℕ) → SameOn s f e → (i : Option ℕ) (t : Marked) (es : MarkedElements) → remark f t ≡ remark e t → remark_elements f es ≡ remark_elements e es
@@ -31,7 +31,7 @@ same_member s f e same k (Some i) t ms a b = go (s i) refl
     go false q = rw q b
 
 mutual
-  same_marks : (s : ℕ → Bool) (f e : ℕ → Option ℕ) → SameOn s f e → (m : Marked) → remark f (remark (kept s) m) ≡ remark e (remark (kept s) m)
+  pub same_marks : (s : ℕ → Bool) (f e : ℕ → Option ℕ) → SameOn s f e → (m : Marked) → remark f (remark (kept s) m) ≡ remark e (remark (kept s) m)
   same_marks s f e same (marked_leaf l) = refl
   same_marks s f e same (marked_array es) = ap marked_array (same_elements s f e same es)
   same_marks s f e same (marked_object ms) = ap marked_object (same_members s f e same ms)

@@ -42,7 +42,7 @@ use Rattle.issuer_core.proofs.IssuedContent.{laid_digests_differ}
 use Rattle.issuer_core.specs.Seed.{maker_of}
 use Rattle.issuer_core.proofs.FromLaid.{one_list}
 use Rattle.sdjwt_cli.proofs.SuitsExample.{issuer_key, named, order}
-use Rattle.sdjwt_cli.specs.Issuing.{Issues}
+use Rattle.sdjwt_cli.specs.Issuing.{IsIssuedBy, Issues}
 use Rattle.sdjwt_cli.specs.Lines.{line}
 use Rattle.sdjwt_cli.specs.Presented.{IsShownWell}
 use Rattle.sdjwt_cli.proofs.PresentedRuns.{presented_over_files}
@@ -211,7 +211,7 @@ protected = b64 (json_text (object (header_members (header_of order))))
 abbrev body : Text
 body = b64 (json_text (with_alg payload))
 
-abbrev parts : Parts
+abbrev pub parts : Parts
 parts = record {
   signed = record { protected = protected; payload = body; signature = b64 (mac issuer_key protected body) };
   disclosures = made_texts (maker_of seed).disclosure 0 given;
@@ -266,6 +266,18 @@ short =
 
 -- ---- `issue` gives this line
 
+pub issued : IsIssuedBy seed order issuer_key parts
+issued = record {
+  issued = record { payload = payload; given = given; issued = laid_digests_differ seed order payload given digests laid differ writable; written = written };
+  laid = record { payload = payload; given = given; digests = digests; laid = laid; written = written };
+  passes = passes;
+  differ = differ;
+  writable = writable;
+  words = words;
+  few = omega arith;
+  short = short;
+}
+
 issues : Issues order_file seed_file (line (compact parts))
 issues = record {
   order = order;
@@ -273,16 +285,7 @@ issues = record {
   seed = seed;
   asked = all_suits.asked;
   parts = parts;
-  answered = record {
-    issued = record { payload = payload; given = given; issued = laid_digests_differ seed order payload given digests laid differ writable; written = written };
-    laid = record { payload = payload; given = given; digests = digests; laid = laid; written = written };
-    passes = passes;
-    differ = differ;
-    writable = writable;
-    words = words;
-    few = omega arith;
-    short = short;
-  };
+  answered = issued;
   line_is = refl;
 }
 

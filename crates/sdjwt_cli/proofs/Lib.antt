@@ -22,9 +22,11 @@ mod NothingRefused
 mod PresentedValues
 mod PresentedVerified
 mod PresentedRuns
+mod NoForgery
 mod SuitsExample
 mod SuitedFiles
 mod IssuedValues
+mod ForgeryExample
 mod Examples
 mod HiddenPaths
 mod GeneratedWords

@@ -1,5 +1,5 @@
 -- An order, what a holder is asked, and a policy that suits: the premise of the law of presenting at worked values.
-use Rattle.std.proofs.Common.{◌≡◌, ◌≢◌, inl, inr, ℕ, zero, suc, true, false, List, [], ◌∷◌, ◌++◌, None, Some, codes, refl, sym, ap, subst, ◌∙◌, arith}
+use Rattle.std.proofs.Common.{◌≡◌, ◌≢◌, inl, inr, ℕ, zero, suc, true, false, List, [], ◌∷◌, Option, None, Some, codes, refl, sym, ap, subst, ◌∙◌, arith}
 use Rattle.claim_tree.specs.Tree.{Text, Tree, leaf, text, object, Members, no_members, member, get}
 use Rattle.claim_tree.specs.Lists.{StandsAt, In}
 use Rattle.claim_tree.specs.Path.{is_front, tree_at}
@@ -70,17 +70,21 @@ said = record {
 abbrev pub asked_binding : BindingPolicy
 asked_binding = record { aud = codes "v"; nonce = codes "7"; keys = record { kid = Some (codes "h"); key = holder_key } ∷ []; max_age = 300 }
 
--- the verifier wants a given name by this issuer, and a key binding token of at most 300 seconds
-abbrev pub policy : Policy
-policy = record {
+-- the verifier wants a given name by this issuer, and a key binding token where it says so
+abbrev pub policy_with : Option BindingPolicy → Policy
+policy_with binding = record {
   keys = record { kid = None; key = issuer_key } ∷ [];
   algs = codes "HS256" ∷ [];
   typ = Some (codes "dc+sd-jwt");
   iss = Some (codes "i");
   require = codes "given_name" ∷ [];
   skew = 5;
-  binding = Some asked_binding;
+  binding = binding;
 }
+
+-- of at most 300 seconds
+abbrev pub policy : Policy
+policy = policy_with (Some asked_binding)
 
 -- the family name is left out
 shown_are : shown_for (marked_claims order) said.ask.want
@@ -91,17 +95,18 @@ there : (path : Path) → In path said.ask.want → tree_at order.payload path �
 there path (inl same) none = let found = ap (λ (p : Path). tree_at order.payload p) same in cc (sym found ∙ none)
 there path (inr other) none = absurd other
 
-claims_hold : NoneFails (ClaimFails (shown_for (marked_claims order) said.ask.want) policy 1300)
-claims_hold =
+pub claims_hold : (binding : Option BindingPolicy) → NoneFails (ClaimFails (shown_for (marked_claims order) said.ask.want) (policy_with binding) 1300)
+claims_hold binding =
     let shown = shown_for (marked_claims order) said.ask.want in
-    let issuer = before_missing shown policy 1300 (λ iss wanted other. let same : codes "i" ≡ iss = cc wanted in other (ap (λ s. Some (named s)) same)) in
-    let required = before_times shown policy 1300 issuer wanted in
-    let readable = before_expiry shown policy 1300 required unreadable in
-    let fresh = before_start shown policy 1300 readable (λ late. cc late.1) in
-    none_fails (ClaimFails shown policy 1300) 27 (holds_too (ClaimFails shown policy 1300) Condition.NotYet fresh (λ mark_path h. cc h.1.1))
-    (λ c mark_path h. let n = claim_numbers shown policy 1300 c mark_path h in n.1)
+    let asks = policy_with binding in
+    let issuer = before_missing shown asks 1300 (λ iss wanted other. let same : codes "i" ≡ iss = cc wanted in other (ap (λ s. Some (named s)) same)) in
+    let required = before_times shown asks 1300 issuer wanted in
+    let readable = before_expiry shown asks 1300 required unreadable in
+    let fresh = before_start shown asks 1300 readable (λ late. cc late.1) in
+    none_fails (ClaimFails shown asks 1300) 27 (holds_too (ClaimFails shown asks 1300) Condition.NotYet fresh (λ mark_path h. cc h.1.1))
+    (λ c mark_path h. let n = claim_numbers shown asks 1300 c mark_path h in n.1)
   where
-    wanted : (i : ℕ) (name : Text) → StandsAt policy.require i name → get (shown_for (marked_claims order) said.ask.want) name ≢ None
+    wanted : (i : ℕ) (name : Text) → StandsAt (policy_with binding).require i name → get (shown_for (marked_claims order) said.ask.want) name ≢ None
     wanted zero name is none = let found = ap (get (shown_for (marked_claims order) said.ask.want)) is in cc (sym found ∙ none)
     wanted (suc i) name is none = absurd is
 
@@ -139,7 +144,7 @@ suits = record {
   unrefused = λ i at is_chosen stands. unrefused said.never at (may_be_shown i at is_chosen stands);
   named = λ ask asked. let same : record { kid = codes "h"; aud = codes "v"; nonce = codes "7" } ≡ ask = cc asked in ap (λ (a : BindingAsk). Some a.kid) same;
   bound = bound;
-  claims = claims_hold;
+  claims = claims_hold (Some asked_binding);
 }
   where
     may_be_shown : (i : ℕ) (at : Path) → chosen (marked_claims order) said.ask.want i ≡ true → mark_path (marked_claims order) i ≡ Some at → MayBeShown said.never at

@@ -19,6 +19,7 @@ pub mod PresentingSteps
 pub mod ConvertingSteps
 pub mod ShowSteps
 pub mod PresentedValues
+pub mod NoForgery
 pub mod Generated
 pub mod Summary
 pub mod GeneratedSteps

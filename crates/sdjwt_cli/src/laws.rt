@@ -11,6 +11,7 @@ ghost use Rattle.sdjwt_cli.specs.Converting.{HasRoom, Converts};
 ghost use Rattle.sdjwt_cli.specs.Run.{Outside, Ends};
 ghost use Rattle.sdjwt_cli.specs.Presented.{PresentedOverFiles, PresentedOverRuns};
 ghost use Rattle.sdjwt_cli.specs.PresentedValues.{PresentedOverValues};
+ghost use Rattle.sdjwt_cli.specs.NoForgery.{NoForgery, NoForgeryOfRead};
 
 use claim_tree::Path;
 
@@ -51,4 +52,13 @@ pub fn presented_values<F: Fn(&Path) -> bool>()
 pub fn presented()
     ensures over_files { PresentedOverFiles }
     ensures over_runs { PresentedOverRuns }
+{}
+
+/// What is accepted was issued: a text that is accepted with the signed part of an issued token, under any policy and at any moment, has
+/// some of the disclosures that were issued with it, in any order, with those of all hidden places above, and shows the claims
+/// without the places of the others. The premise is that no disclosure that was not issued has the digest of one that was, or of a decoy.
+/// So it is of what `issue` answers, and of every token that is read as what is issued for an order, whoever made it.
+pub fn no_forgery()
+    ensures issued { NoForgery }
+    ensures read { NoForgeryOfRead }
 {}

@@ -1,0 +1,190 @@
+-- The law against forgery: what is accepted with the signed part of an issued token is a closed choice of what was issued.
+use Rattle.std.proofs.Common.{◌≡◌, ℕ, zero, suc, List, [], ◌∷◌, ◌++◌, map, Bool, true, false, ◌⊎◌, inl, inr, ⊎_elim, None, Some, refl, sym, ap, ap₂, ◌∙◌, subst}
+use Rattle.std.specs.Prelude.{bytes_eq}
+use Rattle.std.specs.List.{AllZip}
+use Rattle.claim_tree.specs.Lists.{StandsAt, In}
+use Rattle.claim_tree.specs.Tree.{Text, Tree}
+use Rattle.claim_tree.proofs.Lists.{At-In, In-At, At-map, In-left, In-map, one_place, bytes_same, bytes_refl}
+use Rattle.compact_form.specs.declared.parts.JwtParts.{JwtParts}
+use Rattle.compact_form.specs.declared.parts.Parts.{Parts}
+use Rattle.digest_sites.specs.Given.{Given}
+use Rattle.disclosure.specs.Digest.{digest_of}
+use Rattle.disclosure.specs.declared.digests.HashAlg.{HashAlg}
+use Rattle.json_form.specs.Alone.{alone}
+use Rattle.json_form.specs.Token.{IsToken}
+use Rattle.json_form.specs.declared.token.Token.{Token}
+use Rattle.json_form.proofs.Tokens as tokens
+use Rattle.jws_part.specs.Part.{IsBody}
+use Rattle.jws_part.proofs.Parts.{one_body}
+use Rattle.marked_tree.specs.Marked.{Marked, strip}
+use Rattle.marked_tree.specs.Paths.{spots}
+use Rattle.marked_tree.proofs.NumberSets.{has-In, In-has}
+use Rattle.marked_tree.proofs.Spots.{Way, way, ways_of_spots}
+use Rattle.rebuild_core.specs.Laws.{IsPick}
+use Rattle.rebuild_core.specs.Opening.{processed}
+use Rattle.rebuild_core.specs.Payload.{without_alg}
+use Rattle.rebuild_core.specs.Reached.{given_digests}
+use Rattle.rebuild_core.specs.Soundness.{IsSound}
+use Rattle.rebuild_core.proofs.Forgery.{IsHonest}
+use Rattle.verifier_core.specs.Verdict.{Gives, HasContent, Opens, IsAccepted, of_token, rules_of}
+use Rattle.verifier_core.specs.declared.policy.Policy.{Policy}
+use Rattle.verifier_core.proofs.CheckSteps.{one_content}
+use Rattle.verifier_core.proofs.ContentFacts.{content_sound}
+use Rattle.issuer_core.specs.Digests.{Maker, marked_claims, issued_digests, decoy_digests}
+use Rattle.issuer_core.specs.GoodOrder.{IsGoodOrder}
+use Rattle.issuer_core.specs.Issued.{IsIssuedFor}
+use Rattle.issuer_core.specs.Order.{Order}
+use Rattle.issuer_core.specs.Seed.{maker_of}
+use Rattle.issuer_core.proofs.IssuedForgery.{issued_not_forged}
+use Rattle.issuer_core.proofs.IssuedSound.{issued_is_sound_holds}
+use Rattle.sdjwt_cli.specs.NoForgery.{NoForgery, NoForgeryOfRead, NoneCollides, HasAllAbove, IsChoiceOf, token_digests}
+use Rattle.sdjwt_cli.proofs.HeldIssued.{token_of, issued_content}
+
+abbrev Given256 : Text → Given → Type 0
+Given256 d x = Gives HashAlg.Sha256 d x
+
+-- ---- what stands beside each other in two lists
+
+text_of : (ds : List Text) (g : List Given) → AllZip Given256 ds g → (k : ℕ) (x : Given) → StandsAt g k x → (d : Text) × StandsAt ds k d × Given256 d x
+text_of (d ∷ ds) (y ∷ g) all zero x a = (d, refl, subst (Given256 d) (sym a) all.0)
+text_of (d ∷ ds) (y ∷ g) all (suc k) x a = text_of ds g all.1 k x a
+text_of [] (y ∷ g) all k x a = absurd all
+text_of ds [] all k x a = elim a [ ]
+
+given_of : (ds : List Text) (g : List Given) → AllZip Given256 ds g → (k : ℕ) (d : Text) → StandsAt ds k d → (x : Given) × StandsAt g k x × Given256 d x
+given_of (e ∷ ds) (y ∷ g) all zero d a = (y, refl, subst (λ z. Given256 z y) (sym a) all.0)
+given_of (e ∷ ds) (y ∷ g) all (suc k) d a = given_of ds g all.1 k d a
+given_of (e ∷ ds) [] all k d a = absurd all
+given_of [] g all k d a = elim a [ ]
+
+zip_digests : (ds : List Text) (g : List Given) → AllZip Given256 ds g → given_digests g ≡ map (digest_of HashAlg.Sha256) ds
+zip_digests [] [] all = refl
+zip_digests [] (y ∷ g) all = absurd all
+zip_digests (d ∷ ds) [] all = absurd all
+zip_digests (d ∷ ds) (y ∷ g) all = ap₂ (λ (a : Text) (b : List Text). a ∷ b) all.0.0 (zip_digests ds g all.1)
+
+-- a text is in a list or it is not
+is_in : (d : Text) (ds : List Text) → In d ds ⊎ (In d ds → ⊥)
+is_in d [] = inr (λ m. m)
+is_in d (e ∷ ds) = go (bytes_eq d e) refl (is_in d ds)
+  where
+    go : (b : Bool) → bytes_eq d e ≡ b → In d ds ⊎ (In d ds → ⊥) → In d (e ∷ ds) ⊎ (In d (e ∷ ds) → ⊥)
+    go true q rest = inl (inl (bytes_same d e q))
+    go false q (inl there) = inl (inr there)
+    go false q (inr out) = inr (λ m. ⊎_elim (λ same. let clash : false ≡ true = sym q ∙ bytes_refl d e same in cc clash) (λ there. out there) m)
+
+-- there is one algorithm
+one_hash : (hash : HashAlg) → hash ≡ HashAlg.Sha256
+one_hash HashAlg.Sha256 = refl
+
+module _ (maker : Maker) (o : Order) (parts : Parts) (p : Tree) (g : List Given) (good : IsGoodOrder o) (issued : IsIssuedFor maker o p g) (content : HasContent (alone parts) p g)
+    (text : List ℕ) (token : Token) (is_token : IsToken text token) (same_signed : token.parts.signed ≡ parts.signed)
+    (policy : Policy) (now : ℕ) (marked : Marked) (accepted : IsAccepted text policy now marked) (none : NoneCollides maker o parts.disclosures token.parts.disclosures) where
+  abbrev Sent : List Given → Type 0
+  Sent h = AllZip Given256 token.parts.disclosures h
+
+  -- ---- what is sent is opened over the issued payload
+
+  opens : Opens token marked
+  opens = subst (λ (t : Token). Opens t marked) (tokens.one text accepted.token token accepted.is_token is_token) accepted.opens
+
+  abbrev h : List Given
+  h = opens.1
+
+  sent_content : HasContent token opens.0 h
+  sent_content = opens.2
+
+  same_body : sent_content.body ≡ content.body
+  same_body = one_body parts.signed.payload sent_content.body content.body (subst (λ (j : JwtParts). IsBody j.payload sent_content.body) same_signed sent_content.is_body) content.is_body
+
+  same_payload : opens.0 ≡ p
+  same_payload = sent_content.payload_is ∙ (ap without_alg same_body ∙ sym content.payload_is)
+
+  sent : Sent h
+  sent = subst (λ (a : HashAlg). AllZip (Gives a) token.parts.disclosures h) (one_hash sent_content.hash) sent_content.disclosures
+
+  sound : IsSound p h
+  sound = subst (λ (t : Tree). IsSound t h) same_payload (content_sound token (rules_of policy) opens.0 h sent_content (λ c place fails. accepted.passes c place (of_token token is_token fails)))
+
+  -- ---- each disclosure is an issued one
+
+  issued_texts : AllZip Given256 parts.disclosures g
+  issued_texts = subst (λ (a : HashAlg). AllZip (Gives a) parts.disclosures g) (one_hash content.hash) content.disclosures
+
+  digests_same : issued_digests maker o g ≡ token_digests maker o parts.disclosures
+  digests_same = ap (λ (ds : List Text). ds ++ decoy_digests maker o) (zip_digests parts.disclosures g issued_texts)
+
+  -- the content of the issued token with this disclosure alone
+  content_with : (d : Text) (x : Given) → Given256 d x → HasContent (alone (record { signed = parts.signed; disclosures = d ∷ []; binding = None })) p (x ∷ [])
+  content_with d x gives = record { body = content.body; is_body = content.is_body; payload_is = content.payload_is; hash = HashAlg.Sha256; hash_is = content.hash_is ∙ ap Some (one_hash content.hash); disclosures = (gives, tt) }
+
+  -- so a disclosure gives one thing
+  one_given : (d : Text) (x y : Given) → Given256 d x → Given256 d y → x ≡ y
+  one_given d x y a b =
+      let same = one_content (alone (record { signed = parts.signed; disclosures = d ∷ []; binding = None })) p p (x ∷ []) (y ∷ []) (content_with d x a) (content_with d y b) in
+      let ones : x ∷ [] ≡ y ∷ [] = same.1 in
+      cc ones
+
+  known : (x : Given) → In x h → In x g ⊎ (In x.digest (issued_digests maker o g) → ⊥)
+  known x m =
+      let a = In-At h x m in
+      let d = text_of token.parts.disclosures h sent a.0 x a.1 in
+      ⊎_elim
+      (λ there.
+      let b = In-At parts.disclosures d.0 there in
+      let y = given_of parts.disclosures g issued_texts b.0 d.0 b.1 in
+      inl (subst (λ (z : Given). In z g) (one_given d.0 y.0 x y.2 d.2) (At-In g b.0 y.0 y.1)))
+      (λ out. inr (λ stands. none d.0 (At-In token.parts.disclosures a.0 d.0 d.1) out (subst (λ e. In e (token_digests maker o parts.disclosures)) d.2.0 (subst (λ ds. In x.digest ds) digests_same stands))))
+      (is_in d.0 parts.disclosures)
+
+  honest : IsHonest (marked_claims o) p g h
+  honest = issued_not_forged maker o p g good issued h sound known
+
+  -- the text of an issued disclosure stands at its number
+  text_at : (i k : ℕ) (x : Given) (d : Text) → StandsAt g i x → StandsAt token.parts.disclosures k d → Given256 d x → StandsAt parts.disclosures i d
+  text_at i k x d a b gives =
+      ⊎_elim
+      (λ there.
+      let c = In-At parts.disclosures d there in
+      let y = given_of parts.disclosures g issued_texts c.0 d c.1 in
+      let same : y.0.digest ≡ x.digest = y.2.0 ∙ sym gives.0 in
+      let place : c.0 ≡ i = one_place (given_digests g) (issued_is_sound_holds maker o p g good issued).referenced.no_repeated_disclosure c.0 i x.digest
+      (subst (λ e. StandsAt (given_digests g) c.0 e) same (At-map (λ (z : Given). z.digest) g c.0 y.0 y.1)) (At-map (λ (z : Given). z.digest) g i x a) in
+      subst (λ n. StandsAt parts.disclosures n d) place c.1)
+      (λ out.
+      let stands : In x.digest (issued_digests maker o g) = In-left x.digest (given_digests g) (decoy_digests maker o) (In-map (λ (z : Given). z.digest) x g (At-In g i x a)) in
+      absurd (none d (At-In token.parts.disclosures k d b) out (subst (λ e. In e (token_digests maker o parts.disclosures)) gives.0 (subst (λ ds. In x.digest ds) digests_same stands))))
+      (is_in d parts.disclosures)
+
+  texts_at : (order : List ℕ) (hs : List Given) (ds : List Text) → IsPick g order hs → AllZip Given256 ds hs → ((k : ℕ) (d : Text) → StandsAt ds k d → In d token.parts.disclosures) → AllZip (StandsAt parts.disclosures) order ds
+  texts_at [] [] [] pick all inside = tt
+  texts_at [] [] (d ∷ ds) pick all inside = absurd all
+  texts_at [] (x ∷ hs) ds pick all inside = absurd pick
+  texts_at (i ∷ order) [] ds pick all inside = absurd pick
+  texts_at (i ∷ order) (x ∷ hs) [] pick all inside = absurd all
+  texts_at (i ∷ order) (x ∷ hs) (d ∷ ds) pick all inside =
+      let there = In-At token.parts.disclosures d (inside 0 d refl) in
+      (text_at i there.0 x d pick.0 there.1 all.0, texts_at order hs ds pick.1 all.1 (λ k e a. inside (suc k) e a))
+
+  all_above : HasAllAbove (marked_claims o) honest.order
+  all_above spot there chosen above m =
+      has-In honest.order above
+      (honest.closed (way spot) (subst (λ (vs : List Way). In (way spot) vs) (ways_of_spots (marked_claims o)) (In-map way spot (spots (marked_claims o)) there)) (In-has honest.order spot.mark chosen) above m)
+
+  choice_of : IsChoiceOf (marked_claims o) parts.disclosures token.parts.disclosures marked
+  choice_of = record {
+    numbers = honest.order;
+    none_twice = honest.once;
+    disclosures = texts_at honest.order h token.parts.disclosures honest.pick sent (λ k d a. At-In token.parts.disclosures k d a);
+    all_above = all_above;
+    shows = ap strip (opens.3 ∙ ap (λ t. processed t h) same_payload) ∙ honest.shows;
+  }
+
+pub no_forgery_of_read : NoForgeryOfRead
+no_forgery_of_read maker o parts p g good issued content text token is_token same_signed policy now marked accepted none =
+    choice_of maker o parts p g good issued content text token is_token same_signed policy now marked accepted none
+
+pub no_forgery_holds : NoForgery
+no_forgery_holds seed o key parts issued =
+    let is = token_of seed o key parts issued in
+    no_forgery_of_read (maker_of seed) o parts is.has.payload is.has.given issued.writable.good is.has.issued (issued_content seed o key parts is)
