@@ -1,5 +1,5 @@
 -- The names of the hashes that are known.
-use Rattle.std.proofs.Common.{◌≡◌, ◌≢◌, Option, Some, None, IfSome, refl}
+use Rattle.std.proofs.Common.{◌≡◌, ◌≢◌, false, Option, Some, None, IfSome, refl, sym, subst}
 use Rattle.std.specs.Prelude.{IfNone, bytes_eq}
 use Rattle.std.proofs.lemmas.Bool.{false_from_ne_true}
 use Rattle.std.proofs.lemmas.Slice.Eq.{bytes_eq-Decides}
@@ -7,6 +7,13 @@ use Rattle.claim_tree.specs.Tree.{Text}
 use Rattle.disclosure.specs.Digest.{hash_name, hash_of_text}
 use Rattle.disclosure.specs.declared.digests.HashAlg.{HashAlg}
 
+of_its_name : (alg : HashAlg) → Some alg ≡ hash_of_text (hash_name alg)
+of_its_name HashAlg.Sha256 = refl
+of_its_name HashAlg.Sha384 = refl
+of_its_name HashAlg.Sha512 = refl
+
 pub named_is : (name : Text) (found : Option HashAlg) → IfSome found (λ alg. name ≡ hash_name alg) → IfNone found ((alg : HashAlg) → name ≢ hash_name alg) → found ≡ hash_of_text name
-named_is name (Some HashAlg.Sha256) named other = rw ((bytes_eq-Decides name (hash_name HashAlg.Sha256)).1 named) refl
-named_is name None named other = rw (false_from_ne_true (bytes_eq name (hash_name HashAlg.Sha256)) (λ e. other HashAlg.Sha256 ((bytes_eq-Decides name (hash_name HashAlg.Sha256)).0 e))) refl
+named_is name (Some alg) named other = subst (λ (text : Text). Some alg ≡ hash_of_text text) (sym named) (of_its_name alg)
+named_is name None named other =
+    let differs : (alg : HashAlg) → bytes_eq name (hash_name alg) ≡ false = λ alg. false_from_ne_true (bytes_eq name (hash_name alg)) (λ e. other alg ((bytes_eq-Decides name (hash_name alg)).0 e)) in
+    rw (differs HashAlg.Sha256) (rw (differs HashAlg.Sha384) (rw (differs HashAlg.Sha512) refl))

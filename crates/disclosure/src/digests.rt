@@ -6,14 +6,18 @@ ghost use Rattle.disclosure.specs.declared.digests.HashAlg.{HashAlg};
 use b64url_text::encode;
 use claim_tree::{Tree, get};
 use sd_outside::{NoMemory, TextBox};
-use sha2::{Digest, Sha256};
+use sha2::{Digest, Sha256, Sha384, Sha512};
 use std::alloc::Global;
 
-/// A hash algorithm, by its name in the registry of RFC 6920.
+/// A hash algorithm, by its name in the registry of named hashes (RFC 6920, RFC 9901 section 4.1.1).
 #[derive(Clone, Copy, Debug, PartialEq, Eq)]
 pub enum HashAlg {
     /// `sha-256`.
     Sha256,
+    /// `sha-384`.
+    Sha384,
+    /// `sha-512`.
+    Sha512,
 }
 
 /// The algorithm of a name.
@@ -23,6 +27,8 @@ pub fn hash_named(name: &str) -> Option<HashAlg>
 {
     match name {
         "sha-256" => Some(HashAlg::Sha256),
+        "sha-384" => Some(HashAlg::Sha384),
+        "sha-512" => Some(HashAlg::Sha512),
         _ => None,
     }
 }
@@ -61,5 +67,7 @@ pub fn digest(alloc: Global, alg: HashAlg, text: &str) -> Result<TextBox, NoMemo
 {
     match alg {
         HashAlg::Sha256 => encode(alloc, &Sha256::digest(text)),
+        HashAlg::Sha384 => encode(alloc, &Sha384::digest(text)),
+        HashAlg::Sha512 => encode(alloc, &Sha512::digest(text)),
     }
 }

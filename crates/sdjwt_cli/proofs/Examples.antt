@@ -13,6 +13,8 @@ use Rattle.compact_form.proofs.Verdicts.{reads, refused_form}
 use Rattle.json_form.specs.Token.{IsTextRefused, IsToken}
 use Rattle.json_form.specs.declared.token.Token.{Token}
 use Rattle.json_form.proofs.Tokens.{refused_plainly, read_plainly}
+use Rattle.disclosure.specs.Digest.{payload_hash}
+use Rattle.disclosure.specs.declared.digests.HashAlg.{HashAlg}
 use Rattle.disclosure.proofs.Examples.{salt, value, a_disclosure, its_digest}
 use Rattle.jws_part.proofs.Examples.{alg_alone, a_head, a_header, sd_alg_alone, a_body}
 use Rattle.jws_part.proofs.Headers.{read_not_unreadable}
@@ -28,7 +30,7 @@ use Rattle.sdjwt_cli.specs.Never.{MayBeShown}
 use Rattle.holder_core.specs.PresentRefusal.{present_refusal_text}
 use Rattle.sdjwt_cli.specs.Split.{Splits}
 use Rattle.digest_sites.specs.Given.{Given}
-use Rattle.sdjwt_cli.specs.Show.{show_lines, Shows, has_known_hash}
+use Rattle.sdjwt_cli.specs.Show.{show_lines, Shows}
 use Rattle.sdjwt_cli.specs.Converting.{written}
 use Rattle.sdjwt_cli.specs.Telling.{TellsFault}
 
@@ -180,7 +182,8 @@ of_a_token = record {
   header = header;
   head = record { body = a_head; readable = read_not_unreadable (codes "eyJhbGciOiJIUzI1NiJ9") no_members (record { alg = codes "HS256"; kid = None; typ = None }) a_header };
   payload = payload;
-  body = record { body = a_body; hash = refl };
+  hash = HashAlg.Sha256;
+  body = record { body = a_body; hash_is = refl };
   shown = shown None ∷ [];
   disclosures = ((sym its_digest, salt, a_disclosure), tt);
   lines = refl;
@@ -190,13 +193,13 @@ of_a_member : show_lines header payload (shown (Some (codes "country")) ∷ []) 
 unfolding digits escape_byte
 of_a_member = refl
 
-known_hash : has_known_hash payload ≡ true
-known_hash = refl
-
-no_hash : has_known_hash header ≡ true
+no_hash : payload_hash header ≡ Some HashAlg.Sha256
 no_hash = refl
 
-other_hash : has_known_hash (object (member (codes "_sd_alg") (leaf (text (codes "sha-512"))) no_members)) ≡ false
+longer_hash : payload_hash (object (member (codes "_sd_alg") (leaf (text (codes "sha-512"))) no_members)) ≡ Some HashAlg.Sha512
+longer_hash = refl
+
+other_hash : payload_hash (object (member (codes "_sd_alg") (leaf (text (codes "sha-1"))) no_members)) ≡ None
 other_hash = refl
 
 -- ---- convert

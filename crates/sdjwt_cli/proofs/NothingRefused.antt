@@ -17,6 +17,7 @@ use Rattle.marked_tree.proofs.MarkFacts.{mark_strips_holds}
 use Rattle.selection_core.specs.Consent.{RuleAnswers, IsRefusedAt}
 use Rattle.selection_core.specs.ChoiceRefusals.{IsMissing}
 use Rattle.issuer_core.specs.Digests.{marked_claims}
+use Rattle.issuer_core.specs.Laid.{with_alg}
 use Rattle.issuer_core.specs.Order.{Order}
 use Rattle.compact_form.specs.Lowest.{NoneApplies}
 use Rattle.issuer_core.specs.OrderRefusals as issuing
@@ -25,7 +26,9 @@ use Rattle.holder_core.specs.declared.ask.BindingAsk.{BindingAsk}
 use Rattle.holder_core.specs.declared.errors.PresentError.{PresentError}
 use Rattle.holder_core.specs.declared.errors.PresentError.TheVariants.{Memory, Token as OnCondition, HasBinding, NoSuchPlace, ConsentRefused, BindingKeyDiffers, SignFailed, TooLong}
 use Rattle.holder_core.specs.Present.{shown_for, IsHeld, PicksParts, NamesKey, IsBoundAs, IsAnswer, IsNoAnswer, IsPresented, IsNotPresented, not_read, refused, no_memory}
+use Rattle.verifier_core.specs.Verdict.{HasHash}
 use Rattle.verifier_core.specs.declared.policy.Policy.{Policy}
+use Rattle.verifier_core.proofs.Verdicts.{one_hash}
 use Rattle.sdjwt_cli.specs.PresentedValues.{AreShort}
 use Rattle.json_form.specs.Alone.{alone}
 use Rattle.sdjwt_cli.specs.Suits.{Suits}
@@ -42,8 +45,8 @@ module _ (seed : List ℕ) (o : Order) (key : List ℕ) (parts : Parts) (passes 
   marked_is : (marked : Marked) → IsHeld (alone parts) ask marked → marked ≡ marked_claims o
   marked_is marked held = one_marked seed o key parts is marked held.checked.opens
 
-  one_hash : (hash : HashAlg) → hash ≡ HashAlg.Sha256
-  one_hash HashAlg.Sha256 = refl
+  hash_is : (hash : HashAlg) → HasHash (alone parts) hash → hash ≡ HashAlg.Sha256
+  hash_is hash has = one_hash (alone parts) hash HashAlg.Sha256 has (with_alg is.has.payload, is.has.back.body, is.has.hash)
 
   -- what meets the definition of an answer is presented of the issued parts
   pub answer_presented : (answer : Parts) → IsAnswer answers rule (alone parts) ask (IsGood signing) now answer → IsPresentedOf o ask signing parts now answer
@@ -52,7 +55,7 @@ module _ (seed : List ℕ) (o : Order) (key : List ℕ) (parts : Parts) (passes 
       record {
         presents = subst (λ (m : Marked). PicksParts parts (chosen m ask.want) answer.binding answer) same a.presents;
         names = subst (λ (m : Marked). NamesKey ask.binding (strip (prune m (chosen m ask.want)))) same a.key;
-        bound = subst (λ (h : HashAlg). IsBoundAs ask.binding (IsGood signing) h now answer) (one_hash a.hash) a.bound;
+        bound = subst (λ (h : HashAlg). IsBoundAs ask.binding (IsGood signing) h now answer) (hash_is a.hash a.has_hash) a.bound;
       }
 
   pub is_presented_of : (answer : Parts) → IsPresented answers rule text ask (IsGood signing) now answer → IsPresentedOf o ask signing parts now answer

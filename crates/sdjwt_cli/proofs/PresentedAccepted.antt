@@ -30,10 +30,11 @@ use Rattle.marked_tree.proofs.LeastChoice.{chosen_below}
 use Rattle.marked_tree.proofs.MarkFacts.{marks_once_holds}
 use Rattle.rebuild_core.specs.Opening.{processed}
 use Rattle.selection_core.specs.Consent.{RuleAnswers}
-use Rattle.verifier_core.specs.Verdict.{TokenFails, ClaimFails, HolderFails, Fails, of_file, of_missing, of_token, of_claims, of_holder, rules_of, Opens, HasContent, IsChecked, IsBindingMissing}
+use Rattle.verifier_core.specs.Verdict.{TokenFails, ClaimFails, HolderFails, Fails, of_file, of_missing, of_token, of_claims, of_holder, rules_of, Opens, HasContent, HasHash, IsChecked, IsBindingMissing}
 use Rattle.verifier_core.specs.Verdicts.{IsAcceptedAs}
 use Rattle.verifier_core.specs.declared.policy.Policy.{Policy}
 use Rattle.verifier_core.proofs.CheckSteps.{one_content}
+use Rattle.verifier_core.proofs.Verdicts.{one_hash}
 use Rattle.issuer_core.specs.Digests.{marked_claims, hidden_of}
 use Rattle.issuer_core.specs.GoodOrder.{IsGoodOrder}
 use Rattle.issuer_core.specs.Laid.{with_alg}
@@ -163,8 +164,10 @@ module _ (seed : List ℕ) (o : Order) (key : List ℕ) (parts : Parts) (good : 
         let found : holder_key b.keys payload ≡ Some signing = ap (option_and_then (key_named b.keys)) kid ∙ suit.known in
         accepted signing now j is_binding read_back found suit.not_stale suit.not_early c place fails.fails
 
-    hash_passes : (payload : Tree) (hash : HashAlg) → payload ≡ shown_for (marked_claims o) ask.want → (c : Condition) (place : Place) → HolderFails answer payload hash policy later c place → ⊥
-    hash_passes payload HashAlg.Sha256 shown c place fails = binding_passes payload shown c place fails
+    hash_passes : (payload : Tree) (hash : HashAlg) → HasHash (alone answer) hash → payload ≡ shown_for (marked_claims o) ask.want → (c : Condition) (place : Place) → HolderFails answer payload hash policy later c place → ⊥
+    hash_passes payload hash has shown c place fails =
+        let same = one_hash (alone answer) hash HashAlg.Sha256 has (with_alg p, carries_answer.body, carries_answer.hash) in
+        binding_passes payload shown c place (subst (λ (h : HashAlg). HolderFails answer payload h policy later c place) same fails)
 
     missing_passes : IsBindingMissing policy answer → ⊥
     missing_passes (binding, asked, none) = let suit = suits.bound binding asked in not_missing ask.binding answer.binding presented.bound suit.ask suit.asked_for none
@@ -178,7 +181,7 @@ module _ (seed : List ℕ) (o : Order) (key : List ℕ) (parts : Parts) (good : 
         suits.claims c place (subst (λ (t : Tree). ClaimFails t policy later c place) shown h)
     none_fails c place (of_holder token marked hash there opens has h) =
         let shown = answer_opens marked (subst (λ (t : Token). Opens t marked) (one_answer token there) opens) in
-        hash_passes (strip marked) hash shown c place (subst (λ (t : Token). HolderFails t.parts (strip marked) hash policy later c place) (one_answer token there) h)
+        hash_passes (strip marked) hash (subst (λ (t : Token). HasHash t hash) (one_answer token there) has) shown c place (subst (λ (t : Token). HolderFails t.parts (strip marked) hash policy later c place) (one_answer token there) h)
 
     pub answer_accepted : IsAcceptedAs text policy later (shown_for (marked_claims o) ask.want)
     answer_accepted = (

@@ -1,16 +1,16 @@
 -- The command `show` has one verdict over a file.
-use Rattle.std.proofs.Common.{◌≡◌, ℕ, List, [], ◌∷◌, ◌++◌, length, false, Option, refl, ap, ◌∙◌, sym, subst}
+use Rattle.std.proofs.Common.{◌≡◌, ℕ, List, [], ◌∷◌, ◌++◌, length, Option, None, Some, refl, ap, ◌∙◌, sym, subst}
 use Rattle.std.specs.List.{AllZip}
 use Rattle.claim_tree.specs.Tree.{Text, Tree}
 use Rattle.jws_part.specs.Part.{IsBody, IsNoObject}
 use Rattle.jws_part.specs.Header.{IsHeaderUnreadable}
 use Rattle.jws_part.proofs.Parts as bodies
+use Rattle.disclosure.specs.Digest.{payload_hash}
 use Rattle.disclosure.proofs.Verdicts as readings
 use Rattle.compact_form.specs.declared.condition.Condition.{Condition}
 use Rattle.compact_form.specs.Faults.{placed}
 use Rattle.compact_form.specs.declared.fault.Fault.{Fault}
 use Rattle.compact_form.specs.declared.parts.JwtParts.{JwtParts}
-use Rattle.compact_form.proofs.Verdicts.{clash}
 use Rattle.json_form.specs.declared.token.Token.{Token}
 use Rattle.json_form.specs.Token.{IsToken}
 use Rattle.json_form.proofs.Tokens as tokens
@@ -18,70 +18,70 @@ use Rattle.digest_sites.specs.Given.{Given}
 use Rattle.disclosure.specs.declared.digests.HashAlg.{HashAlg}
 use Rattle.verifier_core.specs.Verdict.{Gives, IsNoDisclosure}
 use Rattle.sdjwt_cli.specs.Lines.{refusal}
-use Rattle.sdjwt_cli.specs.Show.{has_known_hash, show_lines, IsHead, IsShownPayload, Shows, IsShowUnreadAt, IsShowRefused, form, header, payload, hash, disclosure}
+use Rattle.sdjwt_cli.specs.Show.{show_lines, IsHead, IsShownPayload, Shows, IsShowUnreadAt, IsShowRefused, form, header, payload, hash, disclosure}
 use Rattle.sdjwt_cli.specs.Telling.{TellsFault}
 
 abbrev shown_of : Text → Option Text → Tree → Given
 shown_of digest name value = record { digest = digest; name = name; value = value }
 
-one_reading : (disclosed : Text) (s t : Given) → Gives HashAlg.Sha256 disclosed s → Gives HashAlg.Sha256 disclosed t → s ≡ t
-one_reading disclosed s t g h =
+one_reading : (alg : HashAlg) (disclosed : Text) (s t : Given) → Gives alg disclosed s → Gives alg disclosed t → s ≡ t
+one_reading alg disclosed s t g h =
     let same = readings.one_disclosure disclosed g.1 h.1 s.name t.name s.value t.value g.2 h.2 in
     let digests : s.digest ≡ t.digest = g.0 ∙ sym h.0 in
     let names : s.name ≡ t.name = same.1 in
     let values : s.value ≡ t.value = same.2 in
     ap (λ (x : Text). shown_of x s.name s.value) digests ∙ (ap (λ (x : Option Text). shown_of t.digest x s.value) names ∙ ap (λ (x : Tree). shown_of t.digest t.name x) values)
 
-all_readings : (ds : List Text) (ss ts : List Given) → AllZip (Gives HashAlg.Sha256) ds ss → AllZip (Gives HashAlg.Sha256) ds ts → ss ≡ ts
-all_readings [] [] [] g h = refl
-all_readings [] [] (t ∷ ts) g h = absurd h
-all_readings [] (s ∷ ss) ts g h = absurd g
-all_readings (d ∷ ds) [] ts g h = absurd g
-all_readings (d ∷ ds) (s ∷ ss) [] g h = absurd h
-all_readings (d ∷ ds) (s ∷ ss) (t ∷ ts) g h =
-    let first : s ≡ t = one_reading d s t g.0 h.0 in
-    let others : ss ≡ ts = all_readings ds ss ts g.1 h.1 in
+all_readings : (alg : HashAlg) (ds : List Text) (ss ts : List Given) → AllZip (Gives alg) ds ss → AllZip (Gives alg) ds ts → ss ≡ ts
+all_readings alg [] [] [] g h = refl
+all_readings alg [] [] (t ∷ ts) g h = absurd h
+all_readings alg [] (s ∷ ss) ts g h = absurd g
+all_readings alg (d ∷ ds) [] ts g h = absurd g
+all_readings alg (d ∷ ds) (s ∷ ss) [] g h = absurd h
+all_readings alg (d ∷ ds) (s ∷ ss) (t ∷ ts) g h =
+    let first : s ≡ t = one_reading alg d s t g.0 h.0 in
+    let others : ss ≡ ts = all_readings alg ds ss ts g.1 h.1 in
     cc
 
 -- a disclosure that is read is not one that is not
-read_unread : (disclosed : Text) (s : Given) → Gives HashAlg.Sha256 disclosed s → IsNoDisclosure disclosed → ⊥
-read_unread disclosed s g u = u g.1 s.name s.value g.2
+read_unread : (alg : HashAlg) (disclosed : Text) (s : Given) → Gives alg disclosed s → IsNoDisclosure disclosed → ⊥
+read_unread alg disclosed s g u = u g.1 s.name s.value g.2
 
-all_read : (front : List Text) (d : Text) (rest : List Text) (ss : List Given) → AllZip (Gives HashAlg.Sha256) (front ++ d ∷ rest) ss → IsNoDisclosure d → ⊥
-all_read [] d rest [] g u = g
-all_read [] d rest (s ∷ ss) g u = read_unread d s g.0 u
-all_read (x ∷ front) d rest [] g u = g
-all_read (x ∷ front) d rest (s ∷ ss) g u = all_read front d rest ss g.1 u
+all_read : (alg : HashAlg) (front : List Text) (d : Text) (rest : List Text) (ss : List Given) → AllZip (Gives alg) (front ++ d ∷ rest) ss → IsNoDisclosure d → ⊥
+all_read alg [] d rest [] g u = g
+all_read alg [] d rest (s ∷ ss) g u = read_unread alg d s g.0 u
+all_read alg (x ∷ front) d rest [] g u = g
+all_read alg (x ∷ front) d rest (s ∷ ss) g u = all_read alg front d rest ss g.1 u
 
 -- of two fronts that are read, each before a text that is not, neither is longer
-one_front : (xs ys : List Text) (d e : Text) (ds es : List Text) (ss ts : List Given) → xs ++ d ∷ ds ≡ ys ++ e ∷ es
-    → AllZip (Gives HashAlg.Sha256) xs ss → AllZip (Gives HashAlg.Sha256) ys ts → IsNoDisclosure d → IsNoDisclosure e → xs ≡ ys
-one_front [] [] d e ds es ss ts same g h u v = refl
-one_front [] (y ∷ ys) d e ds es ss [] same g h u v = absurd h
-one_front [] (y ∷ ys) d e ds es ss (t ∷ ts) same g h u v =
+one_front : (alg other : HashAlg) (xs ys : List Text) (d e : Text) (ds es : List Text) (ss ts : List Given) → xs ++ d ∷ ds ≡ ys ++ e ∷ es
+    → AllZip (Gives alg) xs ss → AllZip (Gives other) ys ts → IsNoDisclosure d → IsNoDisclosure e → xs ≡ ys
+one_front alg other [] [] d e ds es ss ts same g h u v = refl
+one_front alg other [] (y ∷ ys) d e ds es ss [] same g h u v = absurd h
+one_front alg other [] (y ∷ ys) d e ds es ss (t ∷ ts) same g h u v =
     let lists : d ∷ ds ≡ y ∷ (ys ++ e ∷ es) = same in
     let first : d ≡ y = cc lists in
-    absurd (read_unread y t h.0 (subst IsNoDisclosure first u))
-one_front (x ∷ xs) [] d e ds es [] ts same g h u v = absurd g
-one_front (x ∷ xs) [] d e ds es (s ∷ ss) ts same g h u v =
+    absurd (read_unread other y t h.0 (subst IsNoDisclosure first u))
+one_front alg other (x ∷ xs) [] d e ds es [] ts same g h u v = absurd g
+one_front alg other (x ∷ xs) [] d e ds es (s ∷ ss) ts same g h u v =
     let lists : x ∷ (xs ++ d ∷ ds) ≡ e ∷ es = same in
     let first : e ≡ x = cc lists in
-    absurd (read_unread x s g.0 (subst IsNoDisclosure first v))
-one_front (x ∷ xs) (y ∷ ys) d e ds es [] ts same g h u v = absurd g
-one_front (x ∷ xs) (y ∷ ys) d e ds es (s ∷ ss) [] same g h u v = absurd h
-one_front (x ∷ xs) (y ∷ ys) d e ds es (s ∷ ss) (t ∷ ts) same g h u v =
+    absurd (read_unread alg x s g.0 (subst IsNoDisclosure first v))
+one_front alg other (x ∷ xs) (y ∷ ys) d e ds es [] ts same g h u v = absurd g
+one_front alg other (x ∷ xs) (y ∷ ys) d e ds es (s ∷ ss) [] same g h u v = absurd h
+one_front alg other (x ∷ xs) (y ∷ ys) d e ds es (s ∷ ss) (t ∷ ts) same g h u v =
     let lists : x ∷ (xs ++ d ∷ ds) ≡ y ∷ (ys ++ e ∷ es) = same in
     let first : x ≡ y = cc lists in
     let tails : xs ++ d ∷ ds ≡ ys ++ e ∷ es = cc lists in
-    let others : xs ≡ ys = one_front xs ys d e ds es ss ts tails g.1 h.1 u v in
+    let others : xs ≡ ys = one_front alg other xs ys d e ds es ss ts tails g.1 h.1 u v in
     cc
 
 abbrev at_front : List Text → Fault
 at_front front = placed Condition.DisclosureUnreadable (length front)
 
-one_unread : (ds : List Text) (f g : Fault) → IsShowUnreadAt ds f → IsShowUnreadAt ds g → f ≡ g
-one_unread ds f g u v =
-    let fronts : u.front ≡ v.front = one_front u.front v.front u.text v.text u.rest v.rest u.shown v.shown (sym u.stand ∙ v.stand) u.read v.read u.unread v.unread in
+one_unread : (alg other : HashAlg) (ds : List Text) (f g : Fault) → IsShowUnreadAt alg ds f → IsShowUnreadAt other ds g → f ≡ g
+one_unread alg other ds f g u v =
+    let fronts : u.front ≡ v.front = one_front alg other u.front v.front u.text v.text u.rest v.rest u.shown v.shown (sym u.stand ∙ v.stand) u.read v.read u.unread v.unread in
     u.fault_is ∙ (ap at_front fronts ∙ sym v.fault_is)
 
 -- over the token that one file has
@@ -94,11 +94,13 @@ bodiless file p q body r s n b = bodies.not_both q.parts.signed.payload body b (
 one_payload : (file : List ℕ) (p q : Token) (b c : Tree) → IsToken file p → IsToken file q → IsBody p.parts.signed.payload b → IsBody q.parts.signed.payload c → b ≡ c
 one_payload file p q b c r s g h = bodies.one_body q.parts.signed.payload b c (subst (λ (x : Token). IsBody x.parts.signed.payload b) (tokens.one file p q r s) g) h
 
-hashless : (file : List ℕ) (p q : Token) (b c : Tree) → IsToken file p → IsToken file q → IsBody p.parts.signed.payload b → has_known_hash b ≡ false → IsShownPayload q.parts.signed.payload c → ⊥
-hashless file p q b c r s g none h = clash (has_known_hash c) h.hash (subst (λ (x : Tree). has_known_hash x ≡ false) (one_payload file p q b c r s g h.body) none)
+hashless : (file : List ℕ) (p q : Token) (b c : Tree) (alg : HashAlg) → IsToken file p → IsToken file q → IsBody p.parts.signed.payload b → payload_hash b ≡ None → IsShownPayload q.parts.signed.payload c alg → ⊥
+hashless file p q b c alg r s g none h =
+    let same : Some alg ≡ None = sym h.hash_is ∙ (ap payload_hash (sym (one_payload file p q b c r s g h.body)) ∙ none) in
+    cc same
 
-same_unread : (file : List ℕ) (p q : Token) (f g : Fault) → IsToken file p → IsToken file q → IsShowUnreadAt p.parts.disclosures f → IsShowUnreadAt q.parts.disclosures g → f ≡ g
-same_unread file p q f g r s u v = one_unread q.parts.disclosures f g (subst (λ (x : Token). IsShowUnreadAt x.parts.disclosures f) (tokens.one file p q r s) u) v
+same_unread : (file : List ℕ) (p q : Token) (alg other : HashAlg) (f g : Fault) → IsToken file p → IsToken file q → IsShowUnreadAt alg p.parts.disclosures f → IsShowUnreadAt other q.parts.disclosures g → f ≡ g
+same_unread file p q alg other f g r s u v = one_unread alg other q.parts.disclosures f g (subst (λ (x : Token). IsShowUnreadAt alg x.parts.disclosures f) (tokens.one file p q r s) u) v
 
 same_lines : (h k p q : Tree) (ss ts : List Given) (b c : Option JwtParts) → h ≡ k → p ≡ q → ss ≡ ts → b ≡ c → show_lines h p ss b ≡ show_lines k q ts c
 same_lines h k p q ss ts b c heads payloads all bindings =
@@ -113,8 +115,10 @@ one_shown file a b g h =
     let head : IsBody h.token.parts.signed.protected g.header = subst (λ (x : Token). IsBody x.parts.signed.protected g.header) same g.head.body in
     let heads : g.header ≡ h.header = bodies.one_body h.token.parts.signed.protected g.header h.header head h.head.body in
     let payloads : g.payload ≡ h.payload = one_payload file g.token h.token g.payload h.payload g.reads h.reads g.body.body h.body.body in
-    let read : AllZip (Gives HashAlg.Sha256) h.token.parts.disclosures g.shown = subst (λ (x : Token). AllZip (Gives HashAlg.Sha256) x.parts.disclosures g.shown) same g.disclosures in
-    let all : g.shown ≡ h.shown = all_readings h.token.parts.disclosures g.shown h.shown read h.disclosures in
+    let hashes : g.hash ≡ h.hash = (let known : Some g.hash ≡ Some h.hash = sym g.body.hash_is ∙ (ap payload_hash payloads ∙ h.body.hash_is) in cc known) in
+    let there : AllZip (Gives g.hash) h.token.parts.disclosures g.shown = subst (λ (x : Token). AllZip (Gives g.hash) x.parts.disclosures g.shown) same g.disclosures in
+    let read : AllZip (Gives h.hash) h.token.parts.disclosures g.shown = subst (λ (alg : HashAlg). AllZip (Gives alg) h.token.parts.disclosures g.shown) hashes there in
+    let all : g.shown ≡ h.shown = all_readings h.hash h.token.parts.disclosures g.shown h.shown read h.disclosures in
     let bindings : g.token.parts.binding ≡ h.token.parts.binding = ap (λ (x : Token). x.parts.binding) same in
     g.lines ∙ (same_lines g.header h.header g.payload h.payload g.shown h.shown g.token.parts.binding h.token.parts.binding heads payloads all bindings ∙ sym h.lines)
 
@@ -122,11 +126,11 @@ no_refusal : (file a : List ℕ) (f : Fault) → Shows file a → IsShowRefused 
 no_refusal file a f g (form r) = tokens.not_both file g.token f g.reads r
 no_refusal file a f g (header p r u e) = headless file p g.token g.header r g.reads u g.head
 no_refusal file a f g (payload p h r i n e) = bodiless file p g.token g.payload r g.reads n g.body.body
-no_refusal file a f g (hash p h b r i j n e) = hashless file p g.token b g.payload r g.reads j n g.body
-no_refusal file a f g (disclosure p h b r i j u) =
+no_refusal file a f g (hash p h b r i j n e) = hashless file p g.token b g.payload g.hash r g.reads j n g.body
+no_refusal file a f g (disclosure p h b alg r i j u) =
     let same : g.token ≡ p = tokens.one file g.token p g.reads r in
-    let read : AllZip (Gives HashAlg.Sha256) p.parts.disclosures g.shown = subst (λ (x : Token). AllZip (Gives HashAlg.Sha256) x.parts.disclosures g.shown) same g.disclosures in
-    all_read u.front u.text u.rest g.shown (subst (λ (ds : List Text). AllZip (Gives HashAlg.Sha256) ds g.shown) u.stand read) u.unread
+    let read : AllZip (Gives g.hash) p.parts.disclosures g.shown = subst (λ (x : Token). AllZip (Gives g.hash) x.parts.disclosures g.shown) same g.disclosures in
+    all_read g.hash u.front u.text u.rest g.shown (subst (λ (ds : List Text). AllZip (Gives g.hash) ds g.shown) u.stand read) u.unread
 
 pub shown_not_refused : (file a t : List ℕ) → Shows file a → TellsFault (IsShowRefused file) t → ⊥
 shown_not_refused file a t g h = no_refusal file a h.fault g h.refused
@@ -136,27 +140,27 @@ same_fault file f g (form r) (form s) = tokens.one_refusal file f g r s
 same_fault file f g (form r) (header q s v d) = absurd (tokens.not_both file q f s r)
 same_fault file f g (form r) (payload q k s l m d) = absurd (tokens.not_both file q f s r)
 same_fault file f g (form r) (hash q k c s l m o d) = absurd (tokens.not_both file q f s r)
-same_fault file f g (form r) (disclosure q k c s l m v) = absurd (tokens.not_both file q f s r)
+same_fault file f g (form r) (disclosure q k c other s l m v) = absurd (tokens.not_both file q f s r)
 same_fault file f g (header p r u e) (form s) = absurd (tokens.not_both file p g r s)
 same_fault file f g (header p r u e) (header q s v d) = e ∙ sym d
 same_fault file f g (header p r u e) (payload q k s l m d) = absurd (headless file p q k r s u l)
 same_fault file f g (header p r u e) (hash q k c s l m o d) = absurd (headless file p q k r s u l)
-same_fault file f g (header p r u e) (disclosure q k c s l m v) = absurd (headless file p q k r s u l)
+same_fault file f g (header p r u e) (disclosure q k c other s l m v) = absurd (headless file p q k r s u l)
 same_fault file f g (payload p h r i n e) (form s) = absurd (tokens.not_both file p g r s)
 same_fault file f g (payload p h r i n e) (header q s v d) = absurd (headless file q p h s r v i)
 same_fault file f g (payload p h r i n e) (payload q k s l m d) = e ∙ sym d
 same_fault file f g (payload p h r i n e) (hash q k c s l m o d) = absurd (bodiless file p q c r s n m)
-same_fault file f g (payload p h r i n e) (disclosure q k c s l m v) = absurd (bodiless file p q c r s n m.body)
+same_fault file f g (payload p h r i n e) (disclosure q k c other s l m v) = absurd (bodiless file p q c r s n m.body)
 same_fault file f g (hash p h b r i j n e) (form s) = absurd (tokens.not_both file p g r s)
 same_fault file f g (hash p h b r i j n e) (header q s v d) = absurd (headless file q p h s r v i)
 same_fault file f g (hash p h b r i j n e) (payload q k s l m d) = absurd (bodiless file q p b s r m j)
 same_fault file f g (hash p h b r i j n e) (hash q k c s l m o d) = e ∙ sym d
-same_fault file f g (hash p h b r i j n e) (disclosure q k c s l m v) = absurd (hashless file p q b c r s j n m)
-same_fault file f g (disclosure p h b r i j u) (form s) = absurd (tokens.not_both file p g r s)
-same_fault file f g (disclosure p h b r i j u) (header q s v d) = absurd (headless file q p h s r v i)
-same_fault file f g (disclosure p h b r i j u) (payload q k s l m d) = absurd (bodiless file q p b s r m j.body)
-same_fault file f g (disclosure p h b r i j u) (hash q k c s l m o d) = absurd (hashless file q p c b s r m o j)
-same_fault file f g (disclosure p h b r i j u) (disclosure q k c s l m v) = same_unread file p q f g r s u v
+same_fault file f g (hash p h b r i j n e) (disclosure q k c other s l m v) = absurd (hashless file p q b c other r s j n m)
+same_fault file f g (disclosure p h b alg r i j u) (form s) = absurd (tokens.not_both file p g r s)
+same_fault file f g (disclosure p h b alg r i j u) (header q s v d) = absurd (headless file q p h s r v i)
+same_fault file f g (disclosure p h b alg r i j u) (payload q k s l m d) = absurd (bodiless file q p b s r m j.body)
+same_fault file f g (disclosure p h b alg r i j u) (hash q k c s l m o d) = absurd (hashless file q p c b alg s r m o j)
+same_fault file f g (disclosure p h b alg r i j u) (disclosure q k c other s l m v) = same_unread file p q alg other f g r s u v
 
 pub one_refusal : (file s t : List ℕ) → TellsFault (IsShowRefused file) s → TellsFault (IsShowRefused file) t → s ≡ t
 one_refusal file s t g h = g.line_is ∙ (ap refusal (same_fault file g.fault h.fault g.refused h.refused) ∙ sym h.line_is)

@@ -13,17 +13,17 @@ use Rattle.sdjwt_cli.specs.Split.{binding_line}
 use Rattle.sdjwt_cli.specs.Show.{shown_line, shown_lines, IsHead, IsShownPayload, Shows}
 use Rattle.sdjwt_cli.specs.ShowSteps.{AddsLine, AddsLines}
 
-pub zip_more : (xs : List Text) (ss : List Given) (x : Text) (s : Given) → AllZip (Gives HashAlg.Sha256) xs ss → Gives HashAlg.Sha256 x s → AllZip (Gives HashAlg.Sha256) (xs ++ x ∷ []) (ss ++ s ∷ [])
-zip_more [] [] x s all is = (is, tt)
-zip_more [] (t ∷ ss) x s all is = absurd all
-zip_more (y ∷ xs) [] x s all is = absurd all
-zip_more (y ∷ xs) (t ∷ ss) x s all is = (all.0, zip_more xs ss x s all.1 is)
+pub zip_more : (hash : HashAlg) (xs : List Text) (ss : List Given) (x : Text) (s : Given) → AllZip (Gives hash) xs ss → Gives hash x s → AllZip (Gives hash) (xs ++ x ∷ []) (ss ++ s ∷ [])
+zip_more hash [] [] x s all is = (is, tt)
+zip_more hash [] (t ∷ ss) x s all is = absurd all
+zip_more hash (y ∷ xs) [] x s all is = absurd all
+zip_more hash (y ∷ xs) (t ∷ ss) x s all is = (all.0, zip_more hash xs ss x s all.1 is)
 
-zip_length : (xs : List Text) (ss : List Given) → AllZip (Gives HashAlg.Sha256) xs ss → length xs ≡ length ss
-zip_length [] [] all = refl
-zip_length [] (t ∷ ss) all = absurd all
-zip_length (y ∷ xs) [] all = absurd all
-zip_length (y ∷ xs) (t ∷ ss) all = ap suc (zip_length xs ss all.1)
+zip_length : (hash : HashAlg) (xs : List Text) (ss : List Given) → AllZip (Gives hash) xs ss → length xs ≡ length ss
+zip_length hash [] [] all = refl
+zip_length hash [] (t ∷ ss) all = absurd all
+zip_length hash (y ∷ xs) [] all = absurd all
+zip_length hash (y ∷ xs) (t ∷ ss) all = ap suc (zip_length hash xs ss all.1)
 
 lines_more : (i : ℕ) (ss : List Given) (s : Given) → shown_lines i (ss ++ s ∷ []) ≡ shown_lines i ss ++ shown_line (i + length ss) s
 lines_more i [] s = let same : i + 0 ≡ i = omega arith in rw same (append-nil (shown_line i s))
@@ -33,9 +33,9 @@ lines_more i (t ∷ ss) s =
     ap (λ w. shown_line i t ++ w) (rest ∙ ap (λ n. shown_lines (i + 1) ss ++ shown_line n s) same) ∙ sym (append_assoc (shown_line i t) _ _)
 
 -- one line more, at its number
-pub line_more : (old text new : Text) (xs : List Text) (ss : List Given) (x : Text) (i : ℕ) (adds : AddsLine i x text new) → AllZip (Gives HashAlg.Sha256) xs ss → i ≡ length xs → text ≡ old ++ shown_lines 0 ss → new ≡ old ++ shown_lines 0 (ss ++ adds.shown ∷ [])
-line_more old text new xs ss x i adds all at before =
-    let same : i ≡ length ss = at ∙ zip_length xs ss all in
+pub line_more : (hash : HashAlg) (old text new : Text) (xs : List Text) (ss : List Given) (x : Text) (i : ℕ) (adds : AddsLine hash i x text new) → AllZip (Gives hash) xs ss → i ≡ length xs → text ≡ old ++ shown_lines 0 ss → new ≡ old ++ shown_lines 0 (ss ++ adds.shown ∷ [])
+line_more hash old text new xs ss x i adds all at before =
+    let same : i ≡ length ss = at ∙ zip_length hash xs ss all in
     let place : i ≡ 0 + length ss = omega (arith, same) in
     let more : shown_lines 0 (ss ++ adds.shown ∷ []) ≡ shown_lines 0 ss ++ shown_line i adds.shown = lines_more 0 ss adds.shown ∙ ap (λ n. shown_lines 0 ss ++ shown_line n adds.shown) (sym place) in
     adds.more ∙ (ap (λ t. t ++ shown_line i adds.shown) before ∙ (append_assoc old (shown_lines 0 ss) (shown_line i adds.shown) ∙ ap (λ t. old ++ t) (sym more)))
@@ -44,9 +44,9 @@ regrouped : (a b c d : Text) → ((a ++ b) ++ c) ++ d ≡ a ++ (b ++ (c ++ d))
 regrouped a b c d = simp append_assoc
 
 -- the lines of a token, put one behind the other
-pub shows : (file : List ℕ) (token : Token) (header payload : Tree) (start more answer : Text) → IsToken file token → IsHead token.parts.signed.protected token.outer header → IsShownPayload token.parts.signed.payload payload
-    → start ≡ line (codes "header " ++ json_text header) ++ line (codes "payload " ++ json_text payload) → AddsLines token.parts.disclosures start more → answer ≡ more ++ binding_line token.parts.binding → Shows file answer
-shows file token header payload start more answer reads head body begun adds ended =
+pub shows : (hash : HashAlg) (file : List ℕ) (token : Token) (header payload : Tree) (start more answer : Text) → IsToken file token → IsHead token.parts.signed.protected token.outer header → IsShownPayload token.parts.signed.payload payload hash
+    → start ≡ line (codes "header " ++ json_text header) ++ line (codes "payload " ++ json_text payload) → AddsLines hash token.parts.disclosures start more → answer ≡ more ++ binding_line token.parts.binding → Shows file answer
+shows hash file token header payload start more answer reads head body begun adds ended =
     let first = line (codes "header " ++ json_text header) in
     let second = line (codes "payload " ++ json_text payload) in
     let middle : more ≡ (first ++ second) ++ shown_lines 0 adds.shown = adds.more ∙ ap (λ (t : Text). t ++ shown_lines 0 adds.shown) begun in
@@ -56,6 +56,7 @@ shows file token header payload start more answer reads head body begun adds end
       header = header;
       head = head;
       payload = payload;
+      hash = hash;
       body = body;
       shown = adds.shown;
       disclosures = adds.are;

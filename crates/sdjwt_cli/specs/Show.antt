@@ -1,5 +1,5 @@
 -- The command `show`: what it prints of a token file, unchecked, and when it refuses one.
-use Rattle.std.specs.Prelude.{◌≡◌, ℕ, ◌+◌, length, List, [], ◌∷◌, ◌++◌, Bool, true, false, Option, None, Some, is_some, codes}
+use Rattle.std.specs.Prelude.{◌≡◌, ℕ, ◌+◌, length, List, [], ◌∷◌, ◌++◌, Option, None, Some, codes}
 use Rattle.std.specs.Fmt.{decimal}
 use Rattle.std.specs.List.{AllZip}
 use Rattle.claim_tree.specs.Tree.{Text, Tree, Members, leaf, text}
@@ -18,10 +18,6 @@ use Rattle.json_form.specs.Token.{IsTextRefused, IsToken}
 use Rattle.verifier_core.specs.Verdict.{Gives, IsNoDisclosure}
 use Rattle.sdjwt_cli.specs.Lines.{line}
 use Rattle.sdjwt_cli.specs.Split.{binding_line}
-
--- `_sd_alg` is not there, or names a hash that is known
-abbrev pub has_known_hash : Tree → Bool
-has_known_hash payload = is_some (payload_hash payload)
 
 -- the name of a member as JSON, or that it is an element
 abbrev pub kind_text : Option Text → Text
@@ -44,10 +40,10 @@ pub record IsHead (protected : Text) (outer : Members) (header : Tree) : Type 0 
   pub body : IsBody protected header
   pub readable : IsHeaderUnreadable protected outer → ⊥
 
--- the payload is read, and its hash is known
-pub record IsShownPayload (payload : Text) (tree : Tree) : Type 0 where
+-- the payload is read, and the hash of its digests is known
+pub record IsShownPayload (payload : Text) (tree : Tree) (hash : HashAlg) : Type 0 where
   pub body : IsBody payload tree
-  pub hash : has_known_hash tree ≡ true
+  pub hash_is : payload_hash tree ≡ Some hash
 
 -- the file is a token in one of its serializations, and these are its lines. Of the headers the protected one is printed
 pub record Shows (file answer : List ℕ) : Type 0 where
@@ -56,19 +52,20 @@ pub record Shows (file answer : List ℕ) : Type 0 where
   pub header : Tree
   pub head : IsHead token.parts.signed.protected token.outer header
   pub payload : Tree
-  pub body : IsShownPayload token.parts.signed.payload payload
+  pub hash : HashAlg
+  pub body : IsShownPayload token.parts.signed.payload payload hash
   pub shown : List Given
-  pub disclosures : AllZip (Gives HashAlg.Sha256) token.parts.disclosures shown
+  pub disclosures : AllZip (Gives hash) token.parts.disclosures shown
   pub lines : answer ≡ show_lines header payload shown token.parts.binding
 
 -- the first disclosure that is not read
-pub record IsShowUnreadAt (disclosures : List Text) (fault : Fault) : Type 0 where
+pub record IsShowUnreadAt (hash : HashAlg) (disclosures : List Text) (fault : Fault) : Type 0 where
   pub front : List Text
   pub text : Text
   pub rest : List Text
   pub shown : List Given
   pub stand : disclosures ≡ front ++ text ∷ rest
-  pub read : AllZip (Gives HashAlg.Sha256) front shown
+  pub read : AllZip (Gives hash) front shown
   pub unread : IsNoDisclosure text
   pub fault_is : fault ≡ placed Condition.DisclosureUnreadable (length front)
 
@@ -77,5 +74,5 @@ pub data IsShowRefused (file : List ℕ) (fault : Fault) : Type 0 where
   form : IsTextRefused file fault → IsShowRefused file fault
   header : (t : Token) → IsToken file t → IsHeaderUnreadable t.parts.signed.protected t.outer → fault ≡ unplaced Condition.HeaderUnreadable → IsShowRefused file fault
   payload : (t : Token) (head : Tree) → IsToken file t → IsHead t.parts.signed.protected t.outer head → IsNoObject t.parts.signed.payload → fault ≡ unplaced Condition.PayloadUnreadable → IsShowRefused file fault
-  hash : (t : Token) (head body : Tree) → IsToken file t → IsHead t.parts.signed.protected t.outer head → IsBody t.parts.signed.payload body → has_known_hash body ≡ false → fault ≡ unplaced Condition.HashUnknown → IsShowRefused file fault
-  disclosure : (t : Token) (head body : Tree) → IsToken file t → IsHead t.parts.signed.protected t.outer head → IsShownPayload t.parts.signed.payload body → IsShowUnreadAt t.parts.disclosures fault → IsShowRefused file fault
+  hash : (t : Token) (head body : Tree) → IsToken file t → IsHead t.parts.signed.protected t.outer head → IsBody t.parts.signed.payload body → payload_hash body ≡ None → fault ≡ unplaced Condition.HashUnknown → IsShowRefused file fault
+  disclosure : (t : Token) (head body : Tree) (alg : HashAlg) → IsToken file t → IsHead t.parts.signed.protected t.outer head → IsShownPayload t.parts.signed.payload body alg → IsShowUnreadAt alg t.parts.disclosures fault → IsShowRefused file fault

@@ -14,18 +14,18 @@ use Rattle.verifier_core.specs.Verdict.{Gives}
 use Rattle.sdjwt_cli.specs.Show.{shown_line, shown_lines}
 
 -- what is shown of a disclosure that is read
-abbrev pub disclosure_shown : Disclosure → Given
-disclosure_shown d = record { digest = digest_of HashAlg.Sha256 d.text; name = d.name; value = tree_of d.value }
+abbrev pub disclosure_shown : HashAlg → Disclosure → Given
+disclosure_shown hash d = record { digest = digest_of hash d.text; name = d.name; value = tree_of d.value }
 
 -- a line, or all lines, put behind a text
-pub record AddsLine (i : ℕ) (disclosure : Text) (old new : Text) : Type 0 where
+pub record AddsLine (hash : HashAlg) (i : ℕ) (disclosure : Text) (old new : Text) : Type 0 where
   pub shown : Given
-  pub is : Gives HashAlg.Sha256 disclosure shown
+  pub is : Gives hash disclosure shown
   pub more : new ≡ old ++ shown_line i shown
 
-pub record AddsLines (disclosures : List Text) (old new : Text) : Type 0 where
+pub record AddsLines (hash : HashAlg) (disclosures : List Text) (old new : Text) : Type 0 where
   pub shown : List Given
-  pub are : AllZip (Gives HashAlg.Sha256) disclosures shown
+  pub are : AllZip (Gives hash) disclosures shown
   pub more : new ≡ old ++ shown_lines 0 shown
 
 abbrev pub OnFails : Unshown → (Fault → Type 0) → Type 0

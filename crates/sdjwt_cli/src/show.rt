@@ -10,7 +10,7 @@ ghost use Rattle.jws_part.specs.Header.{IsHeaderUnreadable};
 ghost use Rattle.disclosure.specs.DisclosureRefusals.{IsDisclosureRefused};
 ghost use Rattle.compact_form.specs.Views.{jwt_of};
 ghost use Rattle.sdjwt_cli.specs.Lines.{line};
-ghost use Rattle.sdjwt_cli.specs.Show.{has_known_hash as has_known_hash_of, IsHead, kind_text, shown_line, IsShowUnreadAt, Shows, IsShowRefused};
+ghost use Rattle.sdjwt_cli.specs.Show.{IsHead, kind_text, shown_line, IsShowUnreadAt, Shows, IsShowRefused};
 ghost use Rattle.compact_form.specs.Faults.{unplaced};
 ghost use Rattle.sdjwt_cli.specs.ShowSteps.{disclosure_shown, AddsLine, AddsLines, OnFails};
 ghost use Rattle.json_form.specs.Token.{IsToken};
@@ -41,13 +41,6 @@ fn read_head(alloc: Global, protected: &str, outer: &TreeMap) -> Result<Tree, Bo
         Err(HeaderError::Unreadable) => Err(BodyError::Unreadable),
         Err(HeaderError::Memory) => Err(BodyError::Memory),
     }
-}
-
-// Whether the payload asks for no hash, or for one that is known.
-fn has_known_hash(payload: &Tree) -> bool
-    ensures { result ≡ has_known_hash_of (tree_of payload.now) }
-{
-    payload_hash(payload).is_some()
 }
 
 // The word of a disclosure's kind, with blanks around it, and the name of a member.
@@ -83,12 +76,13 @@ fn push_read(
     alloc: Global,
     text: &mut String,
     i: usize,
+    hash: HashAlg,
     disclosure: &Disclosure,
 ) -> Result<(), NoMemory>
     requires { IsRanged (tree_of disclosure.now.value) }
-    ensures { OnOk result (string_bytes text.new ≡ string_bytes text.old ++ shown_line i (disclosure_shown disclosure.now)) }
+    ensures { OnOk result (string_bytes text.new ≡ string_bytes text.old ++ shown_line i (disclosure_shown hash disclosure.now)) }
 {
-    let digest = disclosure.digest(alloc, HashAlg::Sha256)?;
+    let digest = disclosure.digest(alloc, hash)?;
     let kind = kind(alloc, &disclosure.name)?;
     let value = write(alloc, &disclosure.value)?;
     push_line(text, i, digest.as_str(), kind.as_str(), value.as_str())
@@ -100,16 +94,17 @@ fn push_shown(
     reader: &mut DisclosureReader,
     text: &mut String,
     i: usize,
+    hash: HashAlg,
     part: &str,
 ) -> Result<(), DisclosureError>
-    ensures ok { OnOk result (AddsLine i part.now (string_bytes text.old) (string_bytes text.new)) }
+    ensures ok { OnOk result (AddsLine hash i part.now (string_bytes text.old) (string_bytes text.new)) }
     ensures refused { IfErr result (IsDisclosureRefused part.now) }
 {
     let disclosure = match reader.read(alloc, part) {
         Ok(disclosure) => disclosure,
         Err(error) => return Err(error),
     };
-    match push_read(alloc, text, i, &disclosure) {
+    match push_read(alloc, text, i, hash, &disclosure) {
         Ok(()) => Ok(()),
         Err(NoMemory) => Err(DisclosureError::Memory),
     }
@@ -136,15 +131,16 @@ impl From<NoMemory> for Unshown {
 fn push_all_shown(
     alloc: Global,
     text: &mut String,
+    hash: HashAlg,
     disclosures: Disclosures<'_>,
 ) -> Result<(), Unshown>
     requires { length disclosures < 2 ^ 64 }
-    ensures ok { OnOk result (AddsLines disclosures.entry (string_bytes text.old) (string_bytes text.new)) }
-    ensures unread { IfErr result (λ e. OnFails e (IsShowUnreadAt disclosures.entry)) }
+    ensures ok { OnOk result (AddsLines hash disclosures.entry (string_bytes text.old) (string_bytes text.new)) }
+    ensures unread { IfErr result (λ e. OnFails e (IsShowUnreadAt hash disclosures.entry)) }
 {
     let mut reader = DisclosureReader::new(alloc);
     for (i, part) in disclosures.enumerate() {
-        match push_shown(alloc, &mut reader, text, i, part) {
+        match push_shown(alloc, &mut reader, text, i, hash, part) {
             Ok(()) => (),
             Err(DisclosureError::Memory) => return Err(Unshown::Memory),
             Err(_) => {
@@ -202,11 +198,11 @@ fn show_view(alloc: Global, file: &[u8], token: &TokenView<'_>) -> Result<String
         Err(BodyError::Unreadable) => return Err(fails(Condition::PayloadUnreadable)),
         Err(BodyError::Memory) => return Err(Unshown::Memory),
     };
-    if !has_known_hash(&payload) {
+    let Some(hash) = payload_hash(&payload) else {
         return Err(fails(Condition::HashUnknown));
-    }
+    };
     let mut text = start(alloc, &head, &payload, file.len())?;
-    push_all_shown(alloc, &mut text, token.disclosures())?;
+    push_all_shown(alloc, &mut text, hash, token.disclosures())?;
     push_binding(&mut text, token.binding())?;
     Ok(text)
 }

@@ -31,20 +31,32 @@ abbrev first : Elements → Tree
 first no_elements = leaf null
 first (element t es) = t
 
+abbrev hash_to : HashAlg → ℕ
+hash_to HashAlg.Sha256 = 0
+hash_to HashAlg.Sha384 = 1
+hash_to HashAlg.Sha512 = 2
+
+abbrev hash_from : ℕ → HashAlg
+hash_from 0 = HashAlg.Sha256
+hash_from 1 = HashAlg.Sha384
+hash_from _ = HashAlg.Sha512
+
+hash_back : (hash : HashAlg) → hash_from (hash_to hash) ≡ hash
+hash_back HashAlg.Sha256 = refl
+hash_back HashAlg.Sha384 = refl
+hash_back HashAlg.Sha512 = refl
+
 abbrev content_to : Content → Elements × (ℕ × List Given)
-content_to c = (element c.body no_elements, (0, c.given))
+content_to c = (element c.body no_elements, (hash_to c.hash, c.given))
 
 abbrev content_from : Elements × (ℕ × List Given) → Content
-content_from p = record { body = first p.0; hash = HashAlg.Sha256; given = p.1.1 }
-
-one_hash : (hash : HashAlg) → HashAlg.Sha256 ≡ hash
-one_hash HashAlg.Sha256 = refl
+content_from p = record { body = first p.0; hash = hash_from p.1.0; given = p.1.1 }
 
 abbrev content_with : Tree → HashAlg → List Given → Content
 content_with body hash given = record { body = body; hash = hash; given = given }
 
 pub content_back : (c : Content) → content_from (content_to c) ≡ c
-content_back c = ap (λ (hash : HashAlg). content_with c.body hash c.given) (one_hash c.hash)
+content_back c = ap (λ (hash : HashAlg). content_with c.body hash c.given) (hash_back c.hash)
 
 abbrev pub content_code : Coded Content
 content_code = code_by (Elements × (ℕ × List Given)) (coded× elements_code (coded× coded_ℕ given_code)) content_to content_from content_back

@@ -27,10 +27,10 @@ loop-i-preserved c =
       finite = search rules;
       done = l.done ++ part ∷ [];
       shown = l.shown ++ adds.shown ∷ [];
-      are = zip_more l.done l.shown part adds.shown l.are adds.is;
+      are = zip_more c.args.hash l.done l.shown part adds.shown l.are adds.is;
       stand = l.stand ∙ (ap (λ w. l.done ++ w) c.in-Some.ensures.steps.0 ∙ sym (append_assoc l.done (part ∷ []) c.next.new.self.iter));
       counted = (let more = length-append l.done (part ∷ []) in omega (arith, more, l.counted, c.in-Some.ensures.steps.2));
-      so_far = line_more (string_bytes c.args.text.now) (string_bytes c.loop-i.text) (string_bytes c.push_shown.new.text) l.done l.shown part c.in-Some.i adds l.are (c.in-Some.ensures.steps.1 ∙ l.counted) l.so_far;
+      so_far = line_more c.args.hash (string_bytes c.args.text.now) (string_bytes c.loop-i.text) (string_bytes c.push_shown.new.text) l.done l.shown part c.in-Some.i adds l.are (c.in-Some.ensures.steps.1 ∙ l.counted) l.so_far;
     }
 
 pub returns-in-Err-clause-unread : goal.returns-in-Err-clause-unread
