@@ -53,13 +53,3 @@ pub enum BindingError {
     /// The number of the lowest condition that fails, from 27 to 38.
     Fault(u8),
 }
-
-impl From<NoMemory> for BindingError {
-    ghost use Rattle.key_binding.specs.declared.errors.BindingError.TheVariants.{Memory};
-
-    ghost from_gives = { λ _ e. e ≡ Memory };
-
-    fn from(_: NoMemory) -> Self {
-        BindingError::Memory
-    }
-}
