@@ -1,6 +1,7 @@
 pub mod Lists
 pub mod Views
 pub mod MapPlaces
+pub mod Insertions
 pub mod OtherMembers
 pub mod Inner
 pub mod Positions

@@ -31,10 +31,10 @@ order = nat_list_cmp_total
 pub same_name : (a b : Text) → cmp a b ≡ Equal → a ≡ b
 same_name a b e = (bytes_eq-Decides a b).0 (sym (is_eq-slice_cmp a b) ∙ ap is_eq e)
 
-before_after : (a b : Text) → cmp a b ≡ Greater → IsBefore b a
+pub before_after : (a b : Text) → cmp a b ≡ Greater → IsBefore b a
 before_after a b e = (order).antisymm b a ∙ ap ordering_reverse e
 
-after_before : (a b : Text) → cmp a b ≡ Less → cmp b a ≡ Greater
+pub after_before : (a b : Text) → cmp a b ≡ Less → cmp b a ≡ Greater
 after_before a b e = (order).antisymm b a ∙ ap ordering_reverse e
 
 apart : (a b : Text) (o : Ordering) → cmp a b ≡ o → is_eq o ≡ false → bytes_eq a b ≡ false

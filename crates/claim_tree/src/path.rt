@@ -119,6 +119,14 @@ impl PathList {
         self.paths.as_slice()
     }
 
+    /// The paths, in their order, with no copy.
+    pub fn into_paths(self) -> Vec<Path>
+        ensures { result.items ≡ self }
+    {
+        let PathList { paths } = self;
+        paths
+    }
+
     /// The number of paths.
     pub fn len(&self) -> usize
         ensures { result ≡ length self.now }

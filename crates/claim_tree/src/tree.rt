@@ -186,6 +186,15 @@ impl TreeMap {
         self.members.as_slice()
     }
 
+    /// The members, ascending by the bytes of their names, with no copy.
+    pub fn into_members(self) -> Vec<(TextBox, Tree)>
+        ensures value { members_of result.items ≡ self }
+        ensures ordered { MembersOrdered self }
+    {
+        let TreeMap { members } = self;
+        members
+    }
+
     /// The number of members.
     pub fn len(&self) -> usize
         ensures { result ≡ members_len self.now }
