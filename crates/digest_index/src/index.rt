@@ -3,6 +3,7 @@ ghost use Rattle.std.specs.List.{IsDistinct};
 ghost use Rattle.digest_index.specs.Index.{interned, position_of, position_or_end, ticked};
 
 use crate::Steps;
+use crate::seeded::Seeded;
 use indexmap::IndexSet;
 use sd_outside::NoMemory;
 use std::alloc::Global;
@@ -10,12 +11,12 @@ use std::marker::Model;
 
 /// Distinct texts, in the order in which they were first seen. Contracts see the list of them.
 ///
-/// A position never changes, and a look-up costs one hash of the text. The hash has no secret, so someone who picks
-/// the texts can pick ones that collide.
+/// A position never changes, and a look-up costs one hash of the text, which begins with a seed. Someone who picks the
+/// texts and knows the seed can pick ones that collide.
 #[derive(Debug, Drop)]
 pub struct DigestIndex {
     alloc: Global,
-    texts: IndexSet<String>,
+    texts: IndexSet<String, Seeded>,
 }
 
 impl Model for DigestIndex {
@@ -30,13 +31,22 @@ impl Model for DigestIndex {
 }
 
 impl DigestIndex {
-    /// No texts. It takes no memory.
+    /// No texts, for who trusts those that are to come: the seed is 0. It takes no memory.
     pub fn new(alloc: Global) -> DigestIndex
+        ensures { result ≡ [] }
+    {
+        DigestIndex::with_seed(alloc, 0)
+    }
+
+    /// No texts, whose hashes are to begin with this seed. It takes no memory.
+    ///
+    /// No contract speaks of the seed: it changes no answer, but which texts are slow to look up together.
+    pub fn with_seed(alloc: Global, seed: u64) -> DigestIndex
         ensures { result ≡ [] }
     {
         DigestIndex {
             alloc,
-            texts: IndexSet::new(alloc),
+            texts: IndexSet::with_hasher(alloc, Seeded::new(seed)),
         }
     }
 

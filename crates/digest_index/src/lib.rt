@@ -5,6 +5,7 @@
 #![tactic(auto)]
 
 mod index;
+mod seeded;
 mod steps;
 #[cfg(test)]
 mod tests;

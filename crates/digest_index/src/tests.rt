@@ -48,6 +48,23 @@ fn many_texts_keep_their_places(rt: HostRuntime) -> Result<(), Fail> {
 }
 
 #[test]
+fn a_seed_changes_no_place(rt: HostRuntime) -> Result<(), Fail> {
+    let alloc = rt.alloc();
+    for seed in [0, 1, 0x8000_0000_0000_0000, 0xffff_ffff_ffff_ffff] {
+        let mut index = DigestIndex::with_seed(alloc, seed);
+        let mut steps = Steps::new();
+        for i in 0..100usize {
+            let text = format!(in alloc; "{i}")?;
+            assert_eq!(rt; index.intern(text.as_str(), &mut steps)?, i);
+            assert_eq!(rt; index.find(text.as_str(), &mut steps), Some(i));
+        }
+        assert_eq!(rt; index.find("100", &mut steps), None);
+        assert_eq!(rt; index.len(), 100);
+    }
+    Ok(())
+}
+
+#[test]
 fn an_empty_index_holds_nothing(rt: HostRuntime) {
     let index = DigestIndex::new(rt.alloc());
     let mut steps = Steps::new();

@@ -6,7 +6,7 @@ use Rattle.claim_tree.specs.Tree.{Text}
 use Rattle.rebuild_core.specs.declared.names.Disclosed.{Disclosed}
 
 abbrev pub is_disclosed : ℕ → Text → Disclosed → Bool
-is_disclosed object name d = eqb object d.object && bytes_eq name d.name
+is_disclosed object name d = eqb object d.object && bytes_eq name d.name.now
 
 -- the name is disclosed in the object with this number
 abbrev pub is_name_disclosed : BTreeSet Disclosed → ℕ → Text → Bool

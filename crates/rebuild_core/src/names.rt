@@ -103,9 +103,9 @@ pub(crate) fn first_reserved(
 
 // A name that is disclosed, and the number of its object.
 #[derive(Debug, PartialEq, Eq, PartialOrd, Ord, Drop)]
-struct Disclosed {
+struct Disclosed<'a> {
     object: usize,
-    name: TextBox,
+    name: &'a str,
 }
 
 // Whether an object has the name, where the payload's own `_sd_alg` is passed over.
@@ -136,16 +136,15 @@ fn name_given<'a>(row: &Row<'_>, given: &'a GivenList, number: usize) -> Option<
 }
 
 // Notes a name, and answers whether it is new in its object.
-fn note(
-    alloc: Global,
-    disclosed: &mut BTreeSet<Disclosed>,
+fn note<'a>(
+    disclosed: &mut BTreeSet<Disclosed<'a>>,
     object: usize,
-    name: &TextBox,
+    name: &'a TextBox,
 ) -> Result<bool, NoMemory>
     ensures new { IfOk result (λ new. new ≡ not (is_name_disclosed disclosed.old object name.now)) }
     ensures noted { OnOk result ((o : ℕ) (n : Text) → is_name_disclosed disclosed.new o n ≡ (if eqb object o && bytes_eq name.now n then true else is_name_disclosed disclosed.old o n)) }
 {
-    let name = TextBox::make(alloc, name.as_str())?;
+    let name = name.as_str();
     Ok(disclosed.insert(Disclosed { object, name })?)
 }
 
@@ -162,7 +161,7 @@ pub(crate) fn first_clash(
     let mut disclosed = BTreeSet::new(alloc);
     for (place, row) in rows.iter().enumerate() {
         if let Some(name) = name_given(row, given, numbers[place]) {
-            if is_beside(row, name) || !note(alloc, &mut disclosed, row.object, name)? {
+            if is_beside(row, name) || !note(&mut disclosed, row.object, name)? {
                 return Ok(Some(place));
             }
         }

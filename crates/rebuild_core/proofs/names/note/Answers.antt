@@ -1,4 +1,4 @@
-use Rattle.std.proofs.Common.{◌≡◌, not, cond, true, ◌∙◌, subst}
+use Rattle.std.proofs.Common.{◌≡◌, not, cond, true, subst}
 use Rattle.std.specs.BTreeMap.{is_at}
 use Rattle.std.specs.BTreeSet.{contains}
 use Rattle.rebuild_core.specs.declared.names.Disclosed.{Disclosed}
@@ -8,11 +8,11 @@ use Rattle.rebuild_core.proofs.names.note.Goals as goal
 
 pub returns-clause-new : goal.returns-clause-new
 returns-clause-new c =
-    added_new c.args.disclosed.now c.args.object c.args.name.now c.in_ok-insert.field-0
-    (subst (λ z. c.in_ok-insert.field-0 ≡ not (contains cmp-value.it c.args.disclosed.now (key c.args.object z))) (c.in_ok-name.ensures ∙ c.as_str.ensures) c.in_ok-insert.ensures.added)
+    added_new c.args.disclosed.now c.args.object c.as_str-name.result c.args.name.now c.in_ok-insert.field-0
+    (subst (λ z. c.in_ok-insert.field-0 ≡ not (contains cmp-value.it c.args.disclosed.now (key c.args.object c.as_str-name.result z))) c.as_str-name.ensures c.in_ok-insert.ensures.added)
 
 pub returns-clause-noted : goal.returns-clause-noted
 returns-clause-noted c =
-    added_noted c.args.disclosed.now c.insert.new.self c.args.object c.args.name.now
-    (subst (λ z. (d : Disclosed) → contains cmp-value.it c.insert.new.self d ≡ cond (is_at (cmp-value.it (key c.args.object z)) d) true (contains cmp-value.it c.args.disclosed.now d))
-    (c.in_ok-name.ensures ∙ c.as_str.ensures) c.in_ok-insert.ensures.updates.0)
+    added_noted c.args.disclosed.now c.insert.new.self c.args.object c.as_str-name.result c.args.name.now
+    (subst (λ z. (d : Disclosed) → contains cmp-value.it c.insert.new.self d ≡ cond (is_at (cmp-value.it (key c.args.object c.as_str-name.result z)) d) true (contains cmp-value.it c.args.disclosed.now d))
+    c.as_str-name.ensures c.in_ok-insert.ensures.updates.0)
