@@ -18,4 +18,4 @@ mod shown;
 mod unhidden;
 
 pub use errors::ProcessError;
-pub use processing::{process, process_payload};
+pub use processing::{process, process_payload, process_seeded};

@@ -53,7 +53,34 @@ pub fn process(
     ensures counted { IfOk result (λ _. steps.new ≡ counted steps.old (look_ups (without_alg (tree_of payload.now)) given.now)) }
     ensures risen { RoseWithin (look_ups (without_alg (tree_of payload.now)) given.now) steps.old steps.new }
 {
-    let found = match check_references(alloc, payload, given, steps) {
+    process_seeded(alloc, payload, given, 0, steps)
+}
+
+/// The same, where the digests are hashed with a seed. No answer depends on it, but who knows it can choose digests that are
+/// slow to look up together: who reads what others wrote gives one that they couldn't know when they chose the digests.
+pub fn process_seeded(
+    alloc: Global,
+    payload: &Tree,
+    given: &GivenList,
+    seed: u64,
+    steps: &mut Steps,
+) -> Result<Marked, ProcessError>
+    requires object { IsPayload (tree_of payload.now) }
+    requires payload_depth { depth (tree_of payload.now) ≤ 127 }
+    requires values_depth { ValuesShallow given.now }
+    requires payload_range { IsRanged (tree_of payload.now) }
+    requires values_range { ValuesRanged given.now }
+    requires few { length given.now < 2 ^ 32 - 1 }
+    ensures sound { IfOk result (λ _. IsSound (without_alg (tree_of payload.now)) given.now) }
+    ensures processed { IfOk result (λ marked. marked_of marked ≡ processed (without_alg (tree_of payload.now)) given.now) }
+    ensures ranged { IfOk result (λ marked. IsRanged (strip (marked_of marked))) }
+    ensures refused { IfErr result (IsProcessRefused (without_alg (tree_of payload.now)) given.now) }
+
+    // the look-ups
+    ensures counted { IfOk result (λ _. steps.new ≡ counted steps.old (look_ups (without_alg (tree_of payload.now)) given.now)) }
+    ensures risen { RoseWithin (look_ups (without_alg (tree_of payload.now)) given.now) steps.old steps.new }
+{
+    let found = match check_references(alloc, payload, given, seed, steps) {
         Ok(found) => found,
         Err(e) => return Err(e),
     };
@@ -83,12 +110,13 @@ fn open_nothing(payload: Tree, given: &GivenList, steps: &mut Steps) -> Result<T
     move_out(payload)
 }
 
-/// The same, for who needs no marks: the processed payload alone, whose texts are moved. A payload in which nothing is hidden is
-/// handed back without its own `_sd_alg`, and no part of it is copied.
+/// What [`process_seeded`] answers, for who needs no marks: the processed payload alone, whose texts are moved. A payload in
+/// which nothing is hidden is handed back without its own `_sd_alg`, and no part of it is copied.
 pub fn process_payload(
     alloc: Global,
     payload: Tree,
     given: &GivenList,
+    seed: u64,
     steps: &mut Steps,
 ) -> Result<Tree, ProcessError>
     requires object { IsPayload (tree_of payload) }
@@ -109,7 +137,7 @@ pub fn process_payload(
     if given.len() == 0 && is_unhidden(&payload) {
         return open_nothing(payload, given, steps);
     }
-    let marked = match process(alloc, &payload, given, steps) {
+    let marked = match process_seeded(alloc, &payload, given, seed, steps) {
         Ok(marked) => marked,
         Err(e) => return Err(e),
     };

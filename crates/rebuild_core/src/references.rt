@@ -72,6 +72,7 @@ struct Numbered<'a> {
 fn index_given(
     alloc: Global,
     given: &GivenList,
+    seed: u64,
     steps: &mut Steps,
 ) -> Result<DigestIndex, ProcessError>
     ensures repeated { IfOk result (λ _. AtNone (RepeatedDisclosure given.now)) }
@@ -80,7 +81,7 @@ fn index_given(
     ensures counted { IfOk result (λ _. steps.new ≡ counted steps.old (length given.now)) }
     ensures risen { RoseWithin (length given.now) steps.old steps.new }
 {
-    let mut index = DigestIndex::new(alloc);
+    let mut index = DigestIndex::with_seed(alloc, seed);
     match number_given(given, &mut index, steps) {
         Ok(None) => Ok(index),
         Ok(Some(i)) => Err(ProcessError::RepeatedDisclosure(i)),
@@ -117,6 +118,7 @@ fn number_all<'a>(
     alloc: Global,
     payload: &'a Tree,
     given: &'a GivenList,
+    seed: u64,
     steps: &mut Steps,
 ) -> Result<Numbered<'a>, ProcessError>
     requires object { IsPayload (tree_of payload.now) }
@@ -131,7 +133,7 @@ fn number_all<'a>(
     ensures risen { RoseWithin (look_ups (without_alg (tree_of payload.now)) given.now) steps.old steps.new }
 {
     is_ordered(payload);
-    let index = match index_given(alloc, given, steps) {
+    let index = match index_given(alloc, given, seed, steps) {
         Ok(index) => index,
         Err(error) => return Err(error),
     };
@@ -201,6 +203,7 @@ pub(crate) fn check_references<'a>(
     alloc: Global,
     payload: &'a Tree,
     given: &'a GivenList,
+    seed: u64,
     steps: &mut Steps,
 ) -> Result<References<'a>, ProcessError>
     requires object { IsPayload (tree_of payload.now) }
@@ -215,7 +218,7 @@ pub(crate) fn check_references<'a>(
     ensures risen { RoseWithin (look_ups (without_alg (tree_of payload.now)) given.now) steps.old steps.new }
 {
     is_ordered(payload);
-    let found = match number_all(alloc, payload, given, steps) {
+    let found = match number_all(alloc, payload, given, seed, steps) {
         Ok(found) => found,
         Err(error) => return Err(error),
     };
