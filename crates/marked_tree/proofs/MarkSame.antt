@@ -1,14 +1,12 @@
 -- Marking by tests that answer alike, and marking step by step.
-use Rattle.std.proofs.Common.{◌≡◌, ℕ, suc, ◌+◌, ◌<◌, List, [], ◌∷◌, length, drop, get_or, Bool, Option, refl, sym, ap, ◌∙◌, subst, arith, decimal}
-use Rattle.std.proofs.lemmas.List.{drop_more}
-use Rattle.claim_tree.specs.Tree.{Text, Tree, leaf, array, object, Elements, no_elements, element, Members, no_members, member, IsBefore, IsBeforeAll, MembersOrdered}
-use Rattle.claim_tree.specs.declared.tree.Tree as tree
-use Rattle.claim_tree.specs.View.{tree_of}
-use Rattle.claim_tree.specs.ListViews.{elements_of, members_of}
-use Rattle.claim_tree.proofs.Walks.{Named}
+use Rattle.std.proofs.Common.{◌≡◌, ℕ, suc, ◌+◌, ◌<◌, ◌≤◌, ◌^◌, List, [], ◌∷◌, Bool, Option, refl, sym, ap, ◌∙◌, subst, arith, decimal}
+use Rattle.claim_tree.specs.Tree.{Text, Tree, leaf, array, object, Elements, no_elements, element, Members, no_members, member, elements_depth, members_depth, names, IsBefore, IsBeforeAll, MembersOrdered}
+use Rattle.claim_tree.specs.Nodes.{elements_nodes, members_nodes}
 use Rattle.marked_tree.specs.Marked.{Marked, marked_array, marked_object, MarkedElements, no_marked_elements, marked_element, MarkedMembers, no_marked_members, marked_member, put}
-use Rattle.marked_tree.specs.MarkedCalls.{marked_names, marked_pushed}
-use Rattle.marked_tree.specs.Paths.{Path, below, one_if, hidden_in, hidden_elements, hidden_members, mark_if, mark_from, mark_elements, mark_members}
+use Rattle.marked_tree.specs.MarkedCalls.{marked_elements_len, marked_names, marked_pushed}
+use Rattle.marked_tree.specs.Paths.{Path, below, one_if, is_among, hidden_in, hidden_elements, hidden_members, mark_if, mark_from, mark_elements, mark_members}
+use Rattle.marked_tree.specs.Rests.{headed}
+use Rattle.marked_tree.proofs.HeadCounts.{taken, taken_more, decimals, decimals_more}
 use Rattle.marked_tree.proofs.Names.{Ascend, ascend, turned_back}
 use Rattle.marked_tree.proofs.MarkFacts.{strips_members}
 
@@ -104,48 +102,80 @@ pub record IsMarkedAt (h : Path → Bool) (n : ℕ) (step : Text) (t : Tree) (ow
   pub inside_is : inside ≡ mark_from (below step h) n t
   pub next_is : next ≡ n + (hidden_in (below step h) t + one_if (h (step ∷ [])))
 
-pub element_marked : (h : Path → Bool) (n i : ℕ) (ts : List tree.Tree) (t : tree.Tree) → i < length ts → t ≡ get_or ts i t → (done : MarkedElements) (own : Option ℕ) (inside : Marked) (next : ℕ)
-    → IsMarkedAt h n (decimal i) (tree_of t) own inside next
-    → joined (marked_pushed done own inside) (mark_elements h next (i + 1) (elements_of (drop (i + 1) ts))) ≡ joined done (mark_elements h n i (elements_of (drop i ts)))
-element_marked h n i ts t within is done own inside next m =
-    let there : drop i ts ≡ t ∷ drop (i + 1) ts = drop_more ts i t within ∙ ap (λ (d : tree.Tree). d ∷ drop (i + 1) ts) (sym is) in
-    let more : i + 1 ≡ suc i = omega arith in
-    joined-pushed done own inside (mark_elements h next (i + 1) (elements_of (drop (i + 1) ts)))
-    ∙ ap (joined done)
-    (rw (m.own_is, m.inside_is, m.next_is)
-    (ap (λ j. marked_element (mark_if (h (decimal i ∷ [])) (n + hidden_in (below (decimal i) h) (tree_of t))) (mark_from (below (decimal i) h) n (tree_of t))
-    (mark_elements h (n + (hidden_in (below (decimal i) h) (tree_of t) + one_if (h (decimal i ∷ [])))) j (elements_of (drop (i + 1) ts)))) more
-    ∙ ap (λ us. mark_elements h n i (elements_of us)) (sym there)))
+element_marked : (h : Path → Bool) (n i : ℕ) (t : Tree) (left : Elements) (done : MarkedElements) (own : Option ℕ) (inside : Marked) (next : ℕ) → IsMarkedAt h n (decimal i) t own inside next
+    → joined (marked_pushed done own inside) (mark_elements h next (suc i) left) ≡ joined done (mark_elements h n i (element t left))
+element_marked h n i t left done own inside next m =
+    joined-pushed done own inside (mark_elements h next (suc i) left) ∙ ap (joined done) (rw (m.own_is, m.inside_is, m.next_is) refl)
 
-pub element_counted : (h : Path → Bool) (n i : ℕ) (ts : List tree.Tree) (t : tree.Tree) → i < length ts → t ≡ get_or ts i t → (own : Option ℕ) (inside : Marked) (next : ℕ)
-    → IsMarkedAt h n (decimal i) (tree_of t) own inside next
-    → next + hidden_elements h (i + 1) (elements_of (drop (i + 1) ts)) ≡ n + hidden_elements h i (elements_of (drop i ts))
-element_counted h n i ts t within is own inside next m =
-    let there : drop i ts ≡ t ∷ drop (i + 1) ts = drop_more ts i t within ∙ ap (λ (d : tree.Tree). d ∷ drop (i + 1) ts) (sym is) in
-    let more : i + 1 ≡ suc i = omega arith in
-    let shown = ap (λ us. hidden_elements h i (elements_of us)) there in
-    let further = ap (λ j. hidden_elements h j (elements_of (drop (i + 1) ts))) more in
-    let begun = m.next_is in
-    omega (arith, shown, further, begun)
+element_counted : (h : Path → Bool) (n i : ℕ) (t : Tree) (left : Elements) (own : Option ℕ) (inside : Marked) (next : ℕ) → IsMarkedAt h n (decimal i) t own inside next
+    → next + hidden_elements h (suc i) left ≡ n + hidden_elements h i (element t left)
+element_counted h n i t left own inside next m = let begun = m.next_is in omega (arith, begun)
+
+pushed_len : (es : MarkedElements) (i : Option ℕ) (t : Marked) → marked_elements_len (marked_pushed es i t) ≡ suc (marked_elements_len es)
+pushed_len no_marked_elements i t = refl
+pushed_len (marked_element j u es) i t = ap suc (pushed_len es i t)
+
+-- the elements that are marked already, and those that are left
+pub record MarksElements (ps : List Path) (first : ℕ) (all : Elements) (done : MarkedElements) (next : ℕ) (left : Elements) : Type 0 where
+  pub marked : joined done (mark_elements (is_among ps) next (marked_elements_len done) left) ≡ mark_elements (is_among ps) first 0 all
+  pub counted : next + hidden_elements (is_among ps) (marked_elements_len done) left ≡ first + hidden_elements (is_among ps) 0 all
+  pub few : next ≤ first + taken (decimals (marked_elements_len done)) ps
+  pub low : elements_depth left ≤ elements_depth all
+  pub small : elements_nodes left ≤ elements_nodes all
+  pub fits : marked_elements_len done ≤ 2 ^ 64
+
+pub elements_begin : (ps : List Path) (first : ℕ) (all : Elements) → MarksElements ps first all no_marked_elements first all
+elements_begin ps first all = record { marked = refl; counted = refl; few = omega arith; low = omega arith; small = omega arith; fits = omega arith }
+
+pub elements_more : (ps : List Path) (first : ℕ) (all : Elements) (done : MarkedElements) (n : ℕ) (t : Tree) (left : Elements) → MarksElements ps first all done n (element t left) → marked_elements_len done < 2 ^ 64
+    → (own : Option ℕ) (inside : Marked) (next : ℕ) → IsMarkedAt (is_among ps) n (decimal (marked_elements_len done)) t own inside next → next ≤ n + headed (decimal (marked_elements_len done)) ps
+    → MarksElements ps first all (marked_pushed done own inside) next left
+elements_more ps first all done n t left so fits own inside next m few =
+    let i = marked_elements_len done in
+    let more = pushed_len done own inside in
+    let counted = so.counted in
+    let so_far = so.few in
+    let low = so.low in
+    let small = so.small in
+    record {
+      marked = rw more (element_marked (is_among ps) n i t left done own inside next m ∙ so.marked);
+      counted = rw more (element_counted (is_among ps) n i t left own inside next m ∙ counted);
+      few = rw more (omega (arith, few, so_far, decimals_more i ps));
+      low = omega (arith, low);
+      small = omega (arith, small);
+      fits = omega (arith, more, fits);
+    }
 
 -- ---- one member more
 
-pub member_marked : (h : Path → Bool) (n : ℕ) (ts : List Named) (i : ℕ) (m : Named) → i < length ts → m ≡ get_or ts i m → MembersOrdered (members_of ts)
-    → (first : ℕ) (done : MarkedMembers) (own : Option ℕ) (inside : Marked) (next : ℕ) → IsMarkedAt h n m.0 (tree_of m.1) own inside next
-    → joined_members done (mark_members h n (members_of (drop i ts))) ≡ mark_members h first (members_of ts)
-    → joined_members (put m.0 own inside done) (mark_members h next (members_of (drop (i + 1) ts))) ≡ mark_members h first (members_of ts)
-member_marked h n ts i m within is ordered first done own inside next k all =
-    let there : drop i ts ≡ m ∷ drop (i + 1) ts = drop_more ts i m within ∙ ap (λ (d : Named). d ∷ drop (i + 1) ts) (sym is) in
-    let rest = mark_members h next (members_of (drop (i + 1) ts)) in
-    let here : marked_member m.0 own inside rest ≡ mark_members h n (members_of (drop i ts)) = rw (k.own_is, k.inside_is, k.next_is) (ap (λ us. mark_members h n (members_of us)) (sym there)) in
-    let whole : joined_members done (marked_member m.0 own inside rest) ≡ mark_members h first (members_of ts) = ap (joined_members done) here ∙ all in
-    joined-put_marked h first (members_of ts) ordered m.0 own inside done rest whole ∙ whole
+-- the members that are marked already, and those that are left
+pub record MarksMembers (ps : List Path) (first : ℕ) (all : Members) (done : MarkedMembers) (next : ℕ) (left : Members) : Type 0 where
+  pub marked : joined_members done (mark_members (is_among ps) next left) ≡ mark_members (is_among ps) first all
+  pub counted : next + hidden_members (is_among ps) left ≡ first + hidden_members (is_among ps) all
+  pub few : next + taken (names left) ps ≤ first + taken (names all) ps
+  pub low : members_depth left ≤ members_depth all
+  pub small : members_nodes left ≤ members_nodes all
 
-pub member_counted : (h : Path → Bool) (n : ℕ) (ts : List Named) (i : ℕ) (m : Named) → i < length ts → m ≡ get_or ts i m → (own : Option ℕ) (inside : Marked) (next : ℕ)
-    → IsMarkedAt h n m.0 (tree_of m.1) own inside next
-    → next + hidden_members h (members_of (drop (i + 1) ts)) ≡ n + hidden_members h (members_of (drop i ts))
-member_counted h n ts i m within is own inside next k =
-    let there : drop i ts ≡ m ∷ drop (i + 1) ts = drop_more ts i m within ∙ ap (λ (d : Named). d ∷ drop (i + 1) ts) (sym is) in
-    let shown = ap (λ us. hidden_members h (members_of us)) there in
-    let begun = k.next_is in
-    omega (arith, shown, begun)
+pub members_begin : (ps : List Path) (first : ℕ) (all : Members) → MarksMembers ps first all no_marked_members first all
+members_begin ps first all = record { marked = refl; counted = refl; few = omega arith; low = omega arith; small = omega arith }
+
+pub members_more : (ps : List Path) (first : ℕ) (all : Members) → MembersOrdered all → (done : MarkedMembers) (n : ℕ) (k : Text) (t : Tree) (left : Members) → MarksMembers ps first all done n (member k t left)
+    → (own : Option ℕ) (inside : Marked) (next : ℕ) → IsMarkedAt (is_among ps) n k t own inside next → next ≤ n + headed k ps
+    → MarksMembers ps first all (put k own inside done) next left
+members_more ps first all ordered done n k t left so own inside next m few =
+    let h = is_among ps in
+    let rest = mark_members h next left in
+    let here : marked_member k own inside rest ≡ mark_members h n (member k t left) = rw (m.own_is, m.inside_is, m.next_is) refl in
+    let whole : joined_members done (marked_member k own inside rest) ≡ mark_members h first all = ap (joined_members done) here ∙ so.marked in
+    let begun = m.next_is in
+    let counted = so.counted in
+    let so_far = so.few in
+    let low = so.low in
+    let small = so.small in
+    record {
+      marked = joined-put_marked h first all ordered k own inside done rest whole ∙ whole;
+      counted = omega (arith, begun, counted);
+      few = omega (arith, few, so_far, taken_more k (names left) ps);
+      low = omega (arith, low);
+      small = omega (arith, small);
+    }

@@ -9,9 +9,9 @@ ghost use Rattle.marked_tree.specs.Rests.{rests, step_order, path_order, AreSort
 ghost use Rattle.marked_tree.specs.View.{marked_of};
 
 use crate::{Marked, MarkedList, MarkedMap};
-use claim_tree::{Path, PathList, Tree, TreeList, TreeMap};
+use claim_tree::{Path, PathList, Tree, TreeList, TreeMap, copy};
 use itoa::Buffer;
-use sd_outside::{NoMemory, TextBox};
+use sd_outside::NoMemory;
 use std::alloc::Global;
 use std::cmp::Ordering;
 
@@ -25,45 +25,47 @@ pub fn mark(alloc: Global, tree: &Tree, paths: &PathList) -> Result<Marked, NoMe
     ensures strips { IfOk result (λ marked. strip (marked_of marked) ≡ tree_of tree.now) }
     ensures count { IfOk result (λ _. hidden_count (tree_of tree.now) paths.now ≤ distinct_count same_path paths.now) }
 {
+    let paths = copies(alloc, paths)?;
+    let tree = copy(alloc, tree)?;
     let (marked, _) = mark_counted(alloc, tree, paths)?;
     Ok(marked)
 }
 
-/// The same, and how many marks there are.
-pub fn mark_counted(alloc: Global, tree: &Tree, paths: &PathList) -> Result<(Marked, u32), NoMemory>
-    requires depth { depth_of (tree_of tree.now) ≤ 127 }
-    requires few { distinct_count same_path paths.now < 2 ^ 32 - 1 }
-    ensures marked { IfOk result (λ marked. marked_of marked.0 ≡ mark_of (tree_of tree.now) paths.now) }
-    ensures strips { IfOk result (λ marked. strip (marked_of marked.0) ≡ tree_of tree.now) }
-    ensures count { IfOk result (λ marked. marked.1 ≡ hidden_count (tree_of tree.now) paths.now) }
-    ensures few { IfOk result (λ marked. marked.1 ≤ distinct_count same_path paths.now) }
+/// The same of a tree and paths that are given away: nothing is copied. It answers how many marks there are as well.
+pub fn mark_counted(alloc: Global, tree: Tree, paths: PathList) -> Result<(Marked, u32), NoMemory>
+    requires depth { depth_of (tree_of tree) ≤ 127 }
+    requires few { distinct_count same_path paths < 2 ^ 32 - 1 }
+    ensures marked { IfOk result (λ marked. marked_of marked.0 ≡ mark_of (tree_of tree) paths) }
+    ensures strips { IfOk result (λ marked. strip (marked_of marked.0) ≡ tree_of tree) }
+    ensures count { IfOk result (λ marked. marked.1 ≡ hidden_count (tree_of tree) paths) }
+    ensures few { IfOk result (λ marked. marked.1 ≤ distinct_count same_path paths) }
 {
-    let sorted = sorted_paths(alloc, paths)?;
+    let sorted = sorted_paths(paths)?;
     let mut next = 0;
     let marked = mark_tree(alloc, tree, sorted.as_slice(), 0, &mut next)?;
     Ok((marked, next))
 }
 
-// The paths in their order, each once.
-fn sorted_paths(alloc: Global, paths: &PathList) -> Result<Vec<Path>, NoMemory>
-    ensures same { IfOk result (λ sorted. (path : Steps) → is_among sorted.items path ≡ is_among paths.now path) }
-    ensures sorted { IfOk result (λ sorted. AreSorted sorted.items) }
-    ensures count { IfOk result (λ sorted. length sorted.items ≡ distinct_count same_path paths.now) }
+fn copies(alloc: Global, paths: &PathList) -> Result<PathList, NoMemory>
+    ensures { IfOk result (λ copies. copies ≡ paths.now) }
 {
-    let mut sorted = copies(alloc, paths)?;
-    sorted.sort_by(|one, other| ordered(one, other))?;
-    sorted.dedup_by(|one, other| is_same(one, other));
-    Ok(sorted)
-}
-
-fn copies(alloc: Global, paths: &PathList) -> Result<Vec<Path>, NoMemory>
-    ensures { IfOk result (λ copies. copies.items ≡ paths.now) }
-{
-    let mut copies = Vec::new(alloc);
+    let mut copies = PathList::new(alloc);
     for path in paths.paths() {
         copies.push(path.copy(alloc)?)?;
     }
     Ok(copies)
+}
+
+// The paths in their order, each once.
+fn sorted_paths(paths: PathList) -> Result<Vec<Path>, NoMemory>
+    ensures same { IfOk result (λ sorted. (path : Steps) → is_among sorted.items path ≡ is_among paths path) }
+    ensures sorted { IfOk result (λ sorted. AreSorted sorted.items) }
+    ensures count { IfOk result (λ sorted. length sorted.items ≡ distinct_count same_path paths) }
+{
+    let mut sorted = paths.into_paths();
+    sorted.sort_by(|one, other| ordered(one, other))?;
+    sorted.dedup_by(|one, other| is_same(one, other));
+    Ok(sorted)
 }
 
 // By the bytes of their steps, a front first.
@@ -83,23 +85,23 @@ fn is_same(one: &Path, other: &Path) -> bool
 #[cycle(mark)]
 fn mark_tree(
     alloc: Global,
-    tree: &Tree,
+    tree: Tree,
     paths: &[Path],
     depth: usize,
     next: &mut u32,
 ) -> Result<Marked, NoMemory>
-    requires depth { depth + depth_of (tree_of tree.now) ≤ 127 }
+    requires depth { depth + depth_of (tree_of tree) ≤ 127 }
     requires sorted { AreSorted (rests depth paths.now) }
     requires few { next.old + inner (rests depth paths.now) < 2 ^ 32 }
-    ensures marked { IfOk result (λ marked. marked_of marked ≡ mark_from (is_among (rests depth paths.now)) next.old (tree_of tree.now)) }
-    ensures next { OnOk result (next.new ≡ next.old + hidden_in (is_among (rests depth paths.now)) (tree_of tree.now)) }
+    ensures marked { IfOk result (λ marked. marked_of marked ≡ mark_from (is_among (rests depth paths.now)) next.old (tree_of tree)) }
+    ensures next { OnOk result (next.new ≡ next.old + hidden_in (is_among (rests depth paths.now)) (tree_of tree)) }
     ensures few { OnOk result (next.new ≤ next.old + inner (rests depth paths.now)) }
 {
     match tree {
         Tree::Null => Ok(Marked::Null),
-        Tree::Flag(flag) => Ok(Marked::Flag(*flag)),
-        Tree::Whole(n) => Ok(Marked::Whole(*n)),
-        Tree::Text(text) => Ok(Marked::Text(TextBox::make(alloc, text.as_str())?)),
+        Tree::Flag(flag) => Ok(Marked::Flag(flag)),
+        Tree::Whole(n) => Ok(Marked::Whole(n)),
+        Tree::Text(text) => Ok(Marked::Text(text)),
         Tree::List(trees) => Ok(Marked::List(mark_list(alloc, trees, paths, depth, next)?)),
         Tree::Object(trees) => Ok(Marked::Object(mark_map(alloc, trees, paths, depth, next)?)),
     }
@@ -108,22 +110,23 @@ fn mark_tree(
 #[cycle(mark)]
 fn mark_list(
     alloc: Global,
-    trees: &TreeList,
+    trees: TreeList,
     paths: &[Path],
     depth: usize,
     next: &mut u32,
 ) -> Result<MarkedList, NoMemory>
-    requires depth { depth + elements_depth trees.now ≤ 126 }
+    requires depth { depth + elements_depth trees ≤ 126 }
     requires sorted { AreSorted (rests depth paths.now) }
     requires few { next.old + inner (rests depth paths.now) < 2 ^ 32 }
-    ensures marked { IfOk result (λ marked. marked ≡ mark_elements (is_among (rests depth paths.now)) next.old 0 trees.now) }
-    ensures next { OnOk result (next.new ≡ next.old + hidden_elements (is_among (rests depth paths.now)) 0 trees.now) }
+    ensures marked { IfOk result (λ marked. marked ≡ mark_elements (is_among (rests depth paths.now)) next.old 0 trees) }
+    ensures next { OnOk result (next.new ≡ next.old + hidden_elements (is_among (rests depth paths.now)) 0 trees) }
     ensures few { OnOk result (next.new ≤ next.old + inner (rests depth paths.now)) }
 {
     let mut marked = MarkedList::new(alloc);
-    for (i, tree) in trees.trees().iter().enumerate() {
+    for tree in trees.into_trees() {
         let mut digits = Buffer::new();
-        let (mark, inside) = mark_at(alloc, digits.format(i), tree, paths, depth, next)?;
+        let step = digits.format(marked.len());
+        let (mark, inside) = mark_at(alloc, step, tree, paths, depth, next)?;
         marked.push(mark, inside)?;
     }
     Ok(marked)
@@ -132,22 +135,22 @@ fn mark_list(
 #[cycle(mark)]
 fn mark_map(
     alloc: Global,
-    trees: &TreeMap,
+    trees: TreeMap,
     paths: &[Path],
     depth: usize,
     next: &mut u32,
 ) -> Result<MarkedMap, NoMemory>
-    requires depth { depth + members_depth trees.now ≤ 126 }
+    requires depth { depth + members_depth trees ≤ 126 }
     requires sorted { AreSorted (rests depth paths.now) }
     requires few { next.old + inner (rests depth paths.now) < 2 ^ 32 }
-    ensures marked { IfOk result (λ marked. marked ≡ mark_members (is_among (rests depth paths.now)) next.old trees.now) }
-    ensures next { OnOk result (next.new ≡ next.old + hidden_members (is_among (rests depth paths.now)) trees.now) }
+    ensures marked { IfOk result (λ marked. marked ≡ mark_members (is_among (rests depth paths.now)) next.old trees) }
+    ensures next { OnOk result (next.new ≡ next.old + hidden_members (is_among (rests depth paths.now)) trees) }
     ensures few { OnOk result (next.new ≤ next.old + inner (rests depth paths.now)) }
 {
     let mut marked = MarkedMap::new(alloc);
-    for (name, tree) in trees.members() {
+    for (name, tree) in trees.into_members() {
         let (mark, inside) = mark_at(alloc, name.as_str(), tree, paths, depth, next)?;
-        marked.put(TextBox::make(alloc, name.as_str())?, mark, inside)?;
+        marked.put(name, mark, inside)?;
     }
     Ok(marked)
 }
@@ -157,17 +160,17 @@ fn mark_map(
 fn mark_at(
     alloc: Global,
     step: &str,
-    tree: &Tree,
+    tree: Tree,
     paths: &[Path],
     depth: usize,
     next: &mut u32,
 ) -> Result<(Option<u32>, Marked), NoMemory>
-    requires depth { depth + depth_of (tree_of tree.now) ≤ 126 }
+    requires depth { depth + depth_of (tree_of tree) ≤ 126 }
     requires sorted { AreSorted (rests depth paths.now) }
     requires few { next.old + headed step.now (rests depth paths.now) < 2 ^ 32 }
-    ensures own { IfOk result (λ marked. marked.0 ≡ mark_if (is_among (rests depth paths.now) (step.now ∷ [])) (next.old + hidden_in (test_below step.now (is_among (rests depth paths.now))) (tree_of tree.now))) }
-    ensures inside { IfOk result (λ marked. marked_of marked.1 ≡ mark_from (test_below step.now (is_among (rests depth paths.now))) next.old (tree_of tree.now)) }
-    ensures next { OnOk result (next.new ≡ next.old + (hidden_in (test_below step.now (is_among (rests depth paths.now))) (tree_of tree.now) + one_if (is_among (rests depth paths.now) (step.now ∷ [])))) }
+    ensures own { IfOk result (λ marked. marked.0 ≡ mark_if (is_among (rests depth paths.now) (step.now ∷ [])) (next.old + hidden_in (test_below step.now (is_among (rests depth paths.now))) (tree_of tree))) }
+    ensures inside { IfOk result (λ marked. marked_of marked.1 ≡ mark_from (test_below step.now (is_among (rests depth paths.now))) next.old (tree_of tree)) }
+    ensures next { OnOk result (next.new ≡ next.old + (hidden_in (test_below step.now (is_among (rests depth paths.now))) (tree_of tree) + one_if (is_among (rests depth paths.now) (step.now ∷ [])))) }
     ensures few { OnOk result (next.new ≤ next.old + headed step.now (rests depth paths.now)) }
 {
     let below = paths_below(paths, depth, step);

@@ -21,20 +21,20 @@ mark_tree-requires-clause-few c =
     let few = c.requires.few in
     omega (arith, inner_le (rests 0 xs), length-map xs (drop 0), count, shown, few)
 
-pub alike : (c : goal.After-drop-sorted-2) → Alike (is_among (rests 0 c.as_slice.result.now)) (is_among c.args.paths.now)
+pub alike : (c : goal.After-drop-sorted-2) → Alike (is_among (rests 0 c.as_slice.result.now)) (is_among c.args.paths)
 alike c p =
     ap (λ ys. is_among ys p) (rests_zero c.as_slice.result.now ∙ c.as_slice.ensures.value) ∙ c.in_ok-sorted.ensures.same p
 
 pub returns-clause-marked : goal.returns-clause-marked
 returns-clause-marked c =
-    c.in_ok-marked.ensures.marked ∙ mark_same (is_among (rests 0 c.as_slice.result.now)) (is_among c.args.paths.now) (alike c) 0 (tree_of c.args.tree.now)
+    c.in_ok-marked.ensures.marked ∙ mark_same (is_among (rests 0 c.as_slice.result.now)) (is_among c.args.paths) (alike c) 0 (tree_of c.args.tree)
 
 pub returns-clause-strips : goal.returns-clause-strips
-returns-clause-strips c = ap strip c.in_ok-marked.ensures.marked ∙ strips (is_among (rests 0 c.as_slice.result.now)) 0 (tree_of c.args.tree.now)
+returns-clause-strips c = ap strip c.in_ok-marked.ensures.marked ∙ strips (is_among (rests 0 c.as_slice.result.now)) 0 (tree_of c.args.tree)
 
 pub returns-clause-count : goal.returns-clause-count
 returns-clause-count c =
-    let counted = hidden_same (is_among (rests 0 c.as_slice.result.now)) (is_among c.args.paths.now) (alike c) (tree_of c.args.tree.now) in
+    let counted = hidden_same (is_among (rests 0 c.as_slice.result.now)) (is_among c.args.paths) (alike c) (tree_of c.args.tree) in
     let next = c.in_ok-marked.ensures.next in
     omega (arith, next, counted)
 

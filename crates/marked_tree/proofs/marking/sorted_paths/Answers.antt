@@ -7,10 +7,10 @@ use Rattle.marked_tree.proofs.DifferentPaths.{IsEachOnce, each_once}
 use Rattle.marked_tree.proofs.PathOrder.{lower_path, paths_total}
 use Rattle.marked_tree.proofs.marking.sorted_paths.Goals as goal
 
-once : (c : goal.After-dedup_by) → IsEachOnce c.args.paths.now c.dedup_by.new.self.items
+once : (c : goal.After-dedup_by) → IsEachOnce c.args.paths c.dedup_by.new.self.items
 once c =
-    let moved : IsPermutation c.args.paths.now c.sort_by.new.self.items = search rules in
-    each_once c.args.paths.now c.sort_by.new.self.items c.dedup_by.new.self.items moved
+    let moved : IsPermutation c.args.paths c.sort_by.new.self.items = search rules in
+    each_once c.args.paths c.sort_by.new.self.items c.dedup_by.new.self.items moved
     (c.in_ok-sort_by.ensures.sorted lower_path (ranks_by paths_total (λ (p : Path). p)) (answers_always _ _ _ (λ f a r g h. search rules)))
     (dedup_same _ _ _ (λ x y b f g h k. search rules) _ _ c.dedup_by.ensures.filtered)
 
