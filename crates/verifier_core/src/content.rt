@@ -20,8 +20,9 @@ use digest_index::Steps;
 use digest_sites::GivenList;
 use disclosure::HashAlg;
 use json_form::TokenView;
-use rebuild_core::{ProcessError, process, process_payload};
+use rebuild_core::{ProcessError, process_payload, process_seeded};
 use std::alloc::Global;
+use std::hash::{DefaultHasher, Hasher};
 use std::marker::Model;
 
 /// What is read of a token that passes the conditions 5 to 13: its payload, the algorithm of its digests, and what its
@@ -31,6 +32,8 @@ pub struct Content {
     body: Tree,
     hash: HashAlg,
     given: GivenList,
+    // By which digests are hashed, so that it costs no more to look up some of them than others.
+    seed: u64,
 }
 
 impl Model for Content {
@@ -64,6 +67,13 @@ fn refusal(error: ProcessError) -> VerifyError
     }
 }
 
+// What the author of a token can't know while choosing its digests: the signature is over them, and it was checked.
+fn seed_of(signature: &str) -> u64 {
+    let mut hasher = DefaultHasher::new();
+    hasher.write(signature.as_bytes());
+    hasher.finish()
+}
+
 impl Content {
     /// Judges a token by the conditions 5 to 13, RFC 9901 section 7.3, and reads what it says. The header, the signature, the
     /// payload and the disclosures are judged in this order, and the first condition that fails is answered.
@@ -88,7 +98,13 @@ impl Content {
             Ok(given) => given,
             Err(error) => return Err(error),
         };
-        Ok(Content { body, hash, given })
+        let seed = seed_of(signed.signature);
+        Ok(Content {
+            body,
+            hash,
+            given,
+            seed,
+        })
     }
 
     /// Judges what was read by the conditions 14 to 21, and answers the processed payload with its marks alone. `steps` counts
@@ -104,8 +120,13 @@ impl Content {
         ensures counted { OfToken self (λ token rules. IfOk result (λ _. IsCounted token steps.old steps.new)) }
         ensures within { OfToken self (λ token rules. IsCountedWithin token steps.old steps.new) }
     {
-        let Content { body, hash, given } = self;
-        match process(alloc, &body, &given, steps) {
+        let Content {
+            body,
+            hash,
+            given,
+            seed,
+        } = self;
+        match process_seeded(alloc, &body, &given, seed, steps) {
             Ok(marked) => Ok(CheckedMarks { marked, hash }),
             Err(error) => Err(refusal(error)),
         }
@@ -126,8 +147,13 @@ impl Content {
         ensures counted { OfToken self (λ token rules. IfOk result (λ _. IsCounted token steps.old steps.new)) }
         ensures within { OfToken self (λ token rules. IsCountedWithin token steps.old steps.new) }
     {
-        let Content { body, hash, given } = self;
-        match process_payload(alloc, body, &given, steps) {
+        let Content {
+            body,
+            hash,
+            given,
+            seed,
+        } = self;
+        match process_payload(alloc, body, &given, seed, steps) {
             Ok(payload) => Ok(CheckedPayload { payload, hash }),
             Err(error) => Err(refusal(error)),
         }
