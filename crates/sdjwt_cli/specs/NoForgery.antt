@@ -1,5 +1,5 @@
--- What the law against forgery says: a text that is accepted with the signed part of an issued token shows some of the disclosures that
--- were issued with it, and nothing else.
+-- What the law against forgery says: a text that is accepted with the signed part of an issued token shows some of the
+-- disclosures that were issued with it, and nothing else.
 use Rattle.std.specs.Prelude.{◌≡◌, ℕ, List, ◌++◌, map, eqb}
 use Rattle.std.specs.List.{AllZip, IsDistinct, list_any}
 use Rattle.claim_tree.specs.Lists.{StandsAt, In}
@@ -35,8 +35,8 @@ NoneCollides maker o issued sent =
 abbrev pub HasAllAbove : Marked → List ℕ → Type 0
 HasAllAbove marked numbers = (spot : Spot) → In spot (spots marked) → In spot.mark numbers → (above : ℕ) → In above spot.above → In above numbers
 
--- the disclosures that are sent are issued ones in some order, none twice, with those of all hidden places above; and the payload
--- shows the marked claims without the places of the others
+-- the disclosures that are sent are issued ones in some order, none twice, with those of all hidden places above; and the
+-- payload shows the marked claims without the places of the others
 pub record IsChoiceOf (claims : Marked) (issued sent : List Text) (payload : Marked) : Type 0 where
   pub numbers : List ℕ
   pub none_twice : IsDistinct eqb numbers
@@ -52,8 +52,8 @@ ShowsIssued maker o parts =
     → NoneCollides maker o parts.disclosures token.parts.disclosures
     → IsChoiceOf (marked_claims o) parts.disclosures token.parts.disclosures marked
 
--- the parts are issued, by whoever has these good signatures, for an order that nothing of 51 to 59 refuses and whose claims are a JSON value as
--- a machine holds it
+-- the parts are issued, by whoever makes these good signatures, for an order that nothing of 51 to 59 refuses, and whose
+-- claims are a JSON value as a machine holds it
 abbrev pub NoForgery : Meaning → Type 0
 NoForgery good =
     (seed : List ℕ) (o : Order) (parts : Parts)
