@@ -28,7 +28,7 @@ is_there d (e ∷ ds) l = go (bytes_eq e d) refl l (is_there d ds)
 
 module _ (maker : Maker) (o : Order) (p : Tree) (g : List Given) (good : IsGoodOrder o) (issued : IsIssuedFor maker o p g) where
   -- a digest that stands in the payload or in a value is one of the issued
-  digest_issued : (d : Text) → In d (all_digests p g) → In d (issued_digests maker o g)
+  pub digest_issued : (d : Text) → In d (all_digests p g) → In d (issued_digests maker o g)
   digest_issued d m =
       let a = In-At (all_digests p g) d m in
       is_there d (issued_digests maker o g) (omega (arith, there_once d (all_digests p g) a.0 a.1, issued.each_once d))

@@ -22,6 +22,9 @@ pub mod OneLaid
 pub mod WrittenTexts
 pub mod ReadBack
 pub mod IssuedContent
+pub mod ShownTexts
+pub mod OwnReading
+pub mod IssuedRead
 pub mod FromLaid
 pub mod OneToken
 pub mod OneRefusal

@@ -45,12 +45,12 @@ NoneForged p g gs = (x : Given) → In x gs → In x g ⊎ (In x.digest (all_dig
 
 -- ---- digests that stand in the payload and in the values
 
-payload_digest : (p : Tree) (g : List Given) (s : Site) → In s (sites p) → In s.digest (all_digests p g)
+pub payload_digest : (p : Tree) (g : List Given) (s : Site) → In s (sites p) → In s.digest (all_digests p g)
 payload_digest p g s m =
     In-map (λ (z : OwnedSite). z.site.digest) (owned_site payload s) (all_sites p g)
     (In-left (owned_site payload s) (map (owned_site payload) (sites p)) (value_sites (λ x. true) 0 g) (In-map (owned_site payload) s (sites p) m))
 
-value_digest : (p : Tree) (g : List Given) (x : Given) (s : Site) → In x g → In s (sites x.value) → In s.digest (all_digests p g)
+pub value_digest : (p : Tree) (g : List Given) (x : Given) (s : Site) → In x g → In s (sites x.value) → In s.digest (all_digests p g)
 value_digest p g x s there m =
     let w = In-At g x there in
     In-map (λ (z : OwnedSite). z.site.digest) (owned_site (value_of w.0) s) (all_sites p g)

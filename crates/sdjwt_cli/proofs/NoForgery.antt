@@ -1,5 +1,5 @@
 -- The law against forgery: what is accepted with the signed part of an issued token is a closed choice of what was issued.
-use Rattle.std.proofs.Common.{◌≡◌, ℕ, zero, suc, List, [], ◌∷◌, ◌++◌, map, Bool, true, false, ◌⊎◌, inl, inr, ⊎_elim, None, Some, refl, sym, ap, ap₂, ◌∙◌, subst}
+use Rattle.std.proofs.Common.{◌≡◌, ℕ, zero, suc, List, [], ◌∷◌, ◌++◌, Bool, true, false, ◌⊎◌, inl, inr, ⊎_elim, refl, sym, ap, ◌∙◌, subst}
 use Rattle.std.specs.Prelude.{bytes_eq}
 use Rattle.std.specs.List.{AllZip}
 use Rattle.claim_tree.specs.Lists.{StandsAt, In}
@@ -8,27 +8,23 @@ use Rattle.claim_tree.proofs.Lists.{At-In, In-At, At-map, In-left, In-map, one_p
 use Rattle.compact_form.specs.declared.parts.JwtParts.{JwtParts}
 use Rattle.compact_form.specs.declared.parts.Parts.{Parts}
 use Rattle.digest_sites.specs.Given.{Given}
-use Rattle.disclosure.specs.Digest.{digest_of}
 use Rattle.disclosure.specs.declared.digests.HashAlg.{HashAlg}
-use Rattle.json_form.specs.Alone.{alone}
+use Rattle.hmac_sign.specs.Signatures.{Meaning}
 use Rattle.json_form.specs.Token.{IsToken}
 use Rattle.json_form.specs.declared.token.Token.{Token}
 use Rattle.json_form.proofs.Tokens as tokens
 use Rattle.jws_part.specs.Part.{IsBody}
-use Rattle.jws_part.proofs.Parts.{one_body}
 use Rattle.marked_tree.specs.Marked.{Marked, strip}
 use Rattle.marked_tree.specs.Paths.{spots}
 use Rattle.marked_tree.proofs.NumberSets.{has-In, In-has}
 use Rattle.marked_tree.proofs.Spots.{Way, way, ways_of_spots}
 use Rattle.rebuild_core.specs.Laws.{IsPick}
 use Rattle.rebuild_core.specs.Opening.{processed}
-use Rattle.rebuild_core.specs.Payload.{without_alg}
 use Rattle.rebuild_core.specs.Reached.{given_digests}
 use Rattle.rebuild_core.specs.Soundness.{IsSound}
 use Rattle.rebuild_core.proofs.Forgery.{IsHonest}
 use Rattle.verifier_core.specs.Verdict.{Gives, HasContent, Opens, IsAccepted, of_token, rules_of}
 use Rattle.verifier_core.specs.declared.policy.Policy.{Policy}
-use Rattle.verifier_core.proofs.CheckSteps.{one_content}
 use Rattle.verifier_core.proofs.ContentFacts.{content_sound}
 use Rattle.issuer_core.specs.Digests.{Maker, marked_claims, issued_digests, decoy_digests}
 use Rattle.issuer_core.specs.GoodOrder.{IsGoodOrder}
@@ -36,9 +32,10 @@ use Rattle.issuer_core.specs.Issued.{IsIssuedFor}
 use Rattle.issuer_core.specs.Order.{Order}
 use Rattle.issuer_core.specs.Seed.{maker_of}
 use Rattle.issuer_core.proofs.IssuedForgery.{issued_not_forged}
+use Rattle.issuer_core.proofs.IssuedRead.{IsReadOnlyAs, read_only_as}
 use Rattle.issuer_core.proofs.IssuedSound.{issued_is_sound_holds}
-use Rattle.sdjwt_cli.specs.NoForgery.{NoForgery, NoForgeryOfRead, NoneCollides, HasAllAbove, IsChoiceOf, token_digests}
-use Rattle.sdjwt_cli.proofs.HeldIssued.{token_of, issued_content}
+use Rattle.issuer_core.proofs.Judged.{good_order}
+use Rattle.sdjwt_cli.specs.NoForgery.{NoForgery, NoneCollides, HasAllAbove, IsChoiceOf, token_digests}
 
 abbrev Given256 : Text → Given → Type 0
 Given256 d x = Gives HashAlg.Sha256 d x
@@ -50,18 +47,6 @@ text_of (d ∷ ds) (y ∷ g) all zero x a = (d, refl, subst (Given256 d) (sym a)
 text_of (d ∷ ds) (y ∷ g) all (suc k) x a = text_of ds g all.1 k x a
 text_of [] (y ∷ g) all k x a = absurd all
 text_of ds [] all k x a = elim a [ ]
-
-given_of : (ds : List Text) (g : List Given) → AllZip Given256 ds g → (k : ℕ) (d : Text) → StandsAt ds k d → (x : Given) × StandsAt g k x × Given256 d x
-given_of (e ∷ ds) (y ∷ g) all zero d a = (y, refl, subst (λ z. Given256 z y) (sym a) all.0)
-given_of (e ∷ ds) (y ∷ g) all (suc k) d a = given_of ds g all.1 k d a
-given_of (e ∷ ds) [] all k d a = absurd all
-given_of [] g all k d a = elim a [ ]
-
-zip_digests : (ds : List Text) (g : List Given) → AllZip Given256 ds g → given_digests g ≡ map (digest_of HashAlg.Sha256) ds
-zip_digests [] [] all = refl
-zip_digests [] (y ∷ g) all = absurd all
-zip_digests (d ∷ ds) [] all = absurd all
-zip_digests (d ∷ ds) (y ∷ g) all = ap₂ (λ (a : Text) (b : List Text). a ∷ b) all.0.0 (zip_digests ds g all.1)
 
 -- a text is in a list or it is not
 is_in : (d : Text) (ds : List Text) → In d ds ⊎ (In d ds → ⊥)
@@ -77,7 +62,7 @@ is_in d (e ∷ ds) = go (bytes_eq d e) refl (is_in d ds)
 one_hash : (hash : HashAlg) → hash ≡ HashAlg.Sha256
 one_hash HashAlg.Sha256 = refl
 
-module _ (maker : Maker) (o : Order) (parts : Parts) (p : Tree) (g : List Given) (good : IsGoodOrder o) (issued : IsIssuedFor maker o p g) (content : HasContent (alone parts) p g)
+module _ (maker : Maker) (o : Order) (parts : Parts) (p : Tree) (g : List Given) (good : IsGoodOrder o) (issued : IsIssuedFor maker o p g) (only : IsReadOnlyAs parts p g)
     (text : List ℕ) (token : Token) (is_token : IsToken text token) (same_signed : token.parts.signed ≡ parts.signed)
     (policy : Policy) (now : ℕ) (marked : Marked) (accepted : IsAccepted text policy now marked) (none : NoneCollides maker o parts.disclosures token.parts.disclosures) where
   abbrev Sent : List Given → Type 0
@@ -94,11 +79,8 @@ module _ (maker : Maker) (o : Order) (parts : Parts) (p : Tree) (g : List Given)
   sent_content : HasContent token opens.0 h
   sent_content = opens.2
 
-  same_body : sent_content.body ≡ content.body
-  same_body = one_body parts.signed.payload sent_content.body content.body (subst (λ (j : JwtParts). IsBody j.payload sent_content.body) same_signed sent_content.is_body) content.is_body
-
   same_payload : opens.0 ≡ p
-  same_payload = sent_content.payload_is ∙ (ap without_alg same_body ∙ sym content.payload_is)
+  same_payload = sent_content.payload_is ∙ only.payload sent_content.body (subst (λ (j : JwtParts). IsBody j.payload sent_content.body) same_signed sent_content.is_body)
 
   sent : Sent h
   sent = subst (λ (a : HashAlg). AllZip (Gives a) token.parts.disclosures h) (one_hash sent_content.hash) sent_content.disclosures
@@ -108,32 +90,15 @@ module _ (maker : Maker) (o : Order) (parts : Parts) (p : Tree) (g : List Given)
 
   -- ---- each disclosure is an issued one
 
-  issued_texts : AllZip Given256 parts.disclosures g
-  issued_texts = subst (λ (a : HashAlg). AllZip (Gives a) parts.disclosures g) (one_hash content.hash) content.disclosures
-
   digests_same : issued_digests maker o g ≡ token_digests maker o parts.disclosures
-  digests_same = ap (λ (ds : List Text). ds ++ decoy_digests maker o) (zip_digests parts.disclosures g issued_texts)
-
-  -- the content of the issued token with this disclosure alone
-  content_with : (d : Text) (x : Given) → Given256 d x → HasContent (alone (record { signed = parts.signed; disclosures = d ∷ []; binding = None })) p (x ∷ [])
-  content_with d x gives = record { body = content.body; is_body = content.is_body; payload_is = content.payload_is; hash = HashAlg.Sha256; hash_is = content.hash_is ∙ ap Some (one_hash content.hash); disclosures = (gives, tt) }
-
-  -- so a disclosure gives one thing
-  one_given : (d : Text) (x y : Given) → Given256 d x → Given256 d y → x ≡ y
-  one_given d x y a b =
-      let same = one_content (alone (record { signed = parts.signed; disclosures = d ∷ []; binding = None })) p p (x ∷ []) (y ∷ []) (content_with d x a) (content_with d y b) in
-      let ones : x ∷ [] ≡ y ∷ [] = same.1 in
-      cc ones
+  digests_same = ap (λ (ds : List Text). ds ++ decoy_digests maker o) only.digests
 
   known : (x : Given) → In x h → In x g ⊎ (In x.digest (issued_digests maker o g) → ⊥)
   known x m =
       let a = In-At h x m in
       let d = text_of token.parts.disclosures h sent a.0 x a.1 in
       ⊎_elim
-      (λ there.
-      let b = In-At parts.disclosures d.0 there in
-      let y = given_of parts.disclosures g issued_texts b.0 d.0 b.1 in
-      inl (subst (λ (z : Given). In z g) (one_given d.0 y.0 x y.2 d.2) (At-In g b.0 y.0 y.1)))
+      (λ there. let b = In-At parts.disclosures d.0 there in inl (At-In g b.0 x (only.disclosures b.0 d.0 x b.1 d.2)))
       (λ out. inr (λ stands. none d.0 (At-In token.parts.disclosures a.0 d.0 d.1) out (subst (λ e. In e (token_digests maker o parts.disclosures)) d.2.0 (subst (λ ds. In x.digest ds) digests_same stands))))
       (is_in d.0 parts.disclosures)
 
@@ -146,10 +111,8 @@ module _ (maker : Maker) (o : Order) (parts : Parts) (p : Tree) (g : List Given)
       ⊎_elim
       (λ there.
       let c = In-At parts.disclosures d there in
-      let y = given_of parts.disclosures g issued_texts c.0 d c.1 in
-      let same : y.0.digest ≡ x.digest = y.2.0 ∙ sym gives.0 in
       let place : c.0 ≡ i = one_place (given_digests g) (issued_is_sound_holds maker o p g good issued).referenced.no_repeated_disclosure c.0 i x.digest
-      (subst (λ e. StandsAt (given_digests g) c.0 e) same (At-map (λ (z : Given). z.digest) g c.0 y.0 y.1)) (At-map (λ (z : Given). z.digest) g i x a) in
+      (At-map (λ (z : Given). z.digest) g c.0 x (only.disclosures c.0 d x c.1 gives)) (At-map (λ (z : Given). z.digest) g i x a) in
       subst (λ n. StandsAt parts.disclosures n d) place c.1)
       (λ out.
       let stands : In x.digest (issued_digests maker o g) = In-left x.digest (given_digests g) (decoy_digests maker o) (In-map (λ (z : Given). z.digest) x g (At-In g i x a)) in
@@ -180,11 +143,8 @@ module _ (maker : Maker) (o : Order) (parts : Parts) (p : Tree) (g : List Given)
     shows = ap strip (opens.3 ∙ ap (λ t. processed t h) same_payload) ∙ honest.shows;
   }
 
-pub no_forgery_of_read : NoForgeryOfRead
-no_forgery_of_read maker o parts p g good issued content text token is_token same_signed policy now marked accepted none =
-    choice_of maker o parts p g good issued content text token is_token same_signed policy now marked accepted none
-
-pub no_forgery_holds : NoForgery
-no_forgery_holds seed o key parts issued =
-    let is = token_of seed o key parts issued in
-    no_forgery_of_read (maker_of seed) o parts is.has.payload is.has.given issued.writable.good is.has.issued (issued_content seed o key parts is)
+pub no_forgery_holds : (good : Meaning) → NoForgery good
+no_forgery_holds good seed o parts none ordered held is text token is_token same_signed policy now marked accepted collides =
+    let fine = good_order o (λ error h. absurd (none error h)) ordered in
+    choice_of (maker_of seed) o parts is.payload is.given fine is.issued (read_only_as seed o good is.payload is.given parts fine held is.issued is.written)
+    text token is_token same_signed policy now marked accepted collides

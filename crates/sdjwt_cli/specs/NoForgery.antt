@@ -1,26 +1,26 @@
--- What the law against forgery says: a text that is accepted with the signed part of an issued token shows some of the disclosures that
--- were issued with it, and nothing else.
+-- What the law against forgery says: a text that is accepted with the signed part of an issued token shows some of the
+-- disclosures that were issued with it, and nothing else.
 use Rattle.std.specs.Prelude.{◌≡◌, ℕ, List, ◌++◌, map, eqb}
 use Rattle.std.specs.List.{AllZip, IsDistinct, list_any}
 use Rattle.claim_tree.specs.Lists.{StandsAt, In}
-use Rattle.claim_tree.specs.Tree.{Text, Tree}
+use Rattle.claim_tree.specs.Tree.{Text, IsOrdered}
 use Rattle.compact_form.specs.declared.parts.Parts.{Parts}
-use Rattle.digest_sites.specs.Given.{Given}
+use Rattle.compact_form.specs.Lowest.{NoneApplies}
 use Rattle.disclosure.specs.Digest.{digest_of}
 use Rattle.disclosure.specs.declared.digests.HashAlg.{HashAlg}
-use Rattle.json_form.specs.Alone.{alone}
+use Rattle.hmac_sign.specs.Signatures.{Meaning}
 use Rattle.json_form.specs.Token.{IsToken}
 use Rattle.json_form.specs.declared.token.Token.{Token}
 use Rattle.marked_tree.specs.Marked.{Marked, strip, prune}
 use Rattle.marked_tree.specs.Paths.{Spot, spots}
-use Rattle.verifier_core.specs.Verdict.{HasContent, IsAccepted}
+use Rattle.verifier_core.specs.Verdict.{IsAccepted}
 use Rattle.verifier_core.specs.declared.policy.Policy.{Policy}
 use Rattle.issuer_core.specs.Digests.{Maker, marked_claims, decoy_digests}
-use Rattle.issuer_core.specs.GoodOrder.{IsGoodOrder}
-use Rattle.issuer_core.specs.Issued.{IsIssuedFor}
+use Rattle.issuer_core.specs.GoodOrder.{FitsMachine}
 use Rattle.issuer_core.specs.Order.{Order}
+use Rattle.issuer_core.specs.OrderRefusals.{AppliesToOrder}
 use Rattle.issuer_core.specs.Seed.{maker_of}
-use Rattle.sdjwt_cli.specs.Issuing.{IsIssuedBy}
+use Rattle.issuer_core.specs.Written.{IsIssued}
 
 -- the digests of a token: those of the disclosures that were issued with it, then those of its decoys
 abbrev pub token_digests : Maker → Order → List Text → List Text
@@ -35,8 +35,8 @@ NoneCollides maker o issued sent =
 abbrev pub HasAllAbove : Marked → List ℕ → Type 0
 HasAllAbove marked numbers = (spot : Spot) → In spot (spots marked) → In spot.mark numbers → (above : ℕ) → In above spot.above → In above numbers
 
--- the disclosures that are sent are issued ones in some order, none twice, with those of all hidden places above; and the payload
--- shows the marked claims without the places of the others
+-- the disclosures that are sent are issued ones in some order, none twice, with those of all hidden places above; and the
+-- payload shows the marked claims without the places of the others
 pub record IsChoiceOf (claims : Marked) (issued sent : List Text) (payload : Marked) : Type 0 where
   pub numbers : List ℕ
   pub none_twice : IsDistinct eqb numbers
@@ -52,12 +52,9 @@ ShowsIssued maker o parts =
     → NoneCollides maker o parts.disclosures token.parts.disclosures
     → IsChoiceOf (marked_claims o) parts.disclosures token.parts.disclosures marked
 
--- what an issuer answers
-abbrev pub NoForgery : Type 0
-NoForgery = (seed : List ℕ) (o : Order) (key : List ℕ) (parts : Parts) → IsIssuedBy seed o key parts → ShowsIssued (maker_of seed) o parts
-
--- parts that are read as what is issued for an order, with whatever salts and however they are written and signed
-abbrev pub NoForgeryOfRead : Type 0
-NoForgeryOfRead =
-    (maker : Maker) (o : Order) (parts : Parts) (payload : Tree) (given : List Given)
-    → IsGoodOrder o → IsIssuedFor maker o payload given → HasContent (alone parts) payload given → ShowsIssued maker o parts
+-- the parts are issued, by whoever makes these good signatures, for an order that nothing of 51 to 59 refuses, and whose
+-- claims are a JSON value as a machine holds it
+abbrev pub NoForgery : Meaning → Type 0
+NoForgery good =
+    (seed : List ℕ) (o : Order) (parts : Parts)
+    → NoneApplies (AppliesToOrder o) → IsOrdered o.payload → FitsMachine o.payload → IsIssued (maker_of seed) o good parts → ShowsIssued (maker_of seed) o parts

@@ -11,9 +11,10 @@ ghost use Rattle.sdjwt_cli.specs.Converting.{HasRoom, Converts};
 ghost use Rattle.sdjwt_cli.specs.Run.{Outside, Ends};
 ghost use Rattle.sdjwt_cli.specs.Presented.{PresentedOverFiles, PresentedOverRuns};
 ghost use Rattle.sdjwt_cli.specs.PresentedValues.{PresentedOverValues};
-ghost use Rattle.sdjwt_cli.specs.NoForgery.{NoForgery, NoForgeryOfRead};
+ghost use Rattle.sdjwt_cli.specs.NoForgery.{NoForgery};
 
 use claim_tree::Path;
+use hmac_sign::Signer;
 
 /// Each file of a command is named by its word, counted behind the command from 0.
 pub fn files_are_words()
@@ -57,8 +58,6 @@ pub fn presented()
 /// What is accepted was issued: a text that is accepted with the signed part of an issued token, under any policy and at any moment, has
 /// some of the disclosures that were issued with it, in any order, with those of all hidden places above, and shows the claims
 /// without the places of the others. The premise is that no disclosure that was not issued has the digest of one that was, or of a decoy.
-/// So it is of what `issue` answers, and of every token that is read as what is issued for an order, whoever made it.
-pub fn no_forgery()
-    ensures issued { NoForgery }
-    ensures read { NoForgeryOfRead }
+pub fn no_forgery<S: Signer>()
+    ensures { (signer : S) → NoForgery (S.good signer) }
 {}
