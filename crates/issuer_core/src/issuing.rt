@@ -63,7 +63,7 @@ pub fn issue<S: Signer>(
     issue_owned(alloc, order, seed, signer)
 }
 
-/// The same of an order that is given away: it is not copied, and where it hides nothing and has no decoys, its payload is moved.
+/// The same of an order that is given away: it is not copied.
 pub fn issue_owned<S: Signer>(
     alloc: Global,
     order: Order,

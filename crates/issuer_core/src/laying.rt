@@ -348,7 +348,7 @@ fn push_texts(alloc: Global, texts: &mut TextList, others: &TextList) -> Result<
     Ok(())
 }
 
-// Lays an order, with the salts of a seed. Where it hides nothing and has no decoys, its payload is moved.
+// Lays an order, with the salts of a seed. Its texts are moved.
 pub(crate) fn lay_order(alloc: Global, order: Order, seed: &[u8; 32]) -> Result<Laid, NoMemory>
     requires shallow { depth (order_of order).payload ≤ depth_max }
     requires ranged { IsRanged (order_of order).payload }
@@ -360,7 +360,7 @@ pub(crate) fn lay_order(alloc: Global, order: Order, seed: &[u8; 32]) -> Result<
     if hides_nothing(&order) {
         return lay_shown(alloc, order.payload);
     }
-    lay_hidden(alloc, &order, seed)
+    lay_hidden(alloc, order, seed)
 }
 
 // Whether it hides nothing and has no decoys.
@@ -384,18 +384,24 @@ fn lay_shown(alloc: Global, payload: Tree) -> Result<Laid, NoMemory>
 }
 
 // An order with what it hides and its decoys, by the salts of a seed.
-fn lay_hidden(alloc: Global, order: &Order, seed: &[u8; 32]) -> Result<Laid, NoMemory>
-    requires shallow { depth (order_of order.now).payload ≤ depth_max }
-    requires ranged { IsRanged (order_of order.now).payload }
-    requires few { distinct_count same_path order.now.hide ≤ count_max }
-    requires decoys { length (decoy_paths order.now.decoys) ≤ count_max }
-    ensures laid { IfOk result (λ laid. IsLaidFor (maker_of seed.now) (order_of order.now) (tree_of laid.payload) laid.texts laid.digests) }
+fn lay_hidden(alloc: Global, order: Order, seed: &[u8; 32]) -> Result<Laid, NoMemory>
+    requires shallow { depth (order_of order).payload ≤ depth_max }
+    requires ranged { IsRanged (order_of order).payload }
+    requires few { distinct_count same_path order.hide ≤ count_max }
+    requires decoys { length (decoy_paths order.decoys) ≤ count_max }
+    ensures laid { IfOk result (λ laid. IsLaidFor (maker_of seed.now) (order_of order) (tree_of laid.payload) laid.texts laid.digests) }
     ensures few { IfOk result (λ laid. length laid.texts ≤ count_max) }
 {
-    let (claims, hidden) = mark_counted(alloc, &order.payload, &order.hide)?;
+    let Order {
+        payload,
+        hide,
+        decoys,
+        ..
+    } = order;
+    let (claims, hidden) = mark_counted(alloc, payload, hide)?;
     let hidden = hidden as usize;
-    let salts = salts_of(alloc, seed, hidden + count_decoys(&order.decoys))?;
-    lay_salted(alloc, claims, &order.decoys, &salts, hidden)
+    let salts = salts_of(alloc, seed, hidden + count_decoys(&decoys))?;
+    lay_salted(alloc, claims, &decoys, &salts, hidden)
 }
 
 // Marked claims and decoys by salts: the first `hidden` are those of the disclosures.

@@ -14,14 +14,14 @@ use Rattle.issuer_core.proofs.LaidOrders.{order_laid}
 use Rattle.issuer_core.proofs.laying.lay_hidden.Goals as goal
 
 pub lay_salted-requires-clause-closes : goal.lay_salted-requires-clause-closes
-lay_salted-requires-clause-closes c = subst (λ m. ClosesFrom 0 m) (sym c.in_ok-claims.ensures.marked) (order_closes (order_of c.args.order.now))
+lay_salted-requires-clause-closes c = subst (λ m. ClosesFrom 0 m) (sym c.in_ok-claims.ensures.marked) (order_closes (order_of c.args.order))
 
 pub lay_salted-requires-clause-hidden : goal.lay_salted-requires-clause-hidden
-lay_salted-requires-clause-hidden c = ap (weight one) c.in_ok-claims.ensures.marked ∙ (order_marks (order_of c.args.order.now) ∙ sym c.in_ok-claims.ensures.count)
+lay_salted-requires-clause-hidden c = ap (weight one) c.in_ok-claims.ensures.marked ∙ (order_marks (order_of c.args.order) ∙ sym c.in_ok-claims.ensures.count)
 
 pub returns-clause-laid : goal.returns-clause-laid
 returns-clause-laid c =
-    let o = order_of c.args.order.now in
+    let o = order_of c.args.order in
     let salts = c.in_ok-salts.salts in
     let long = c.in_ok-salts.ensures.count in
     let hidden : c.in_ok-claims.hidden ≡ hidden_of o = c.in_ok-claims.ensures.count in
