@@ -1,7 +1,7 @@
 #!/usr/bin/env python3
 """Prints the trusted core: the definitions that a reader has to believe for what stands at the top.
 
-    python3 docs/core.py            for the clauses of `run`, and for the law `presented`
+    python3 docs/core.py            for the clauses of `run`, and for the laws `presented` and `no_forgery`
     python3 docs/core.py WORD ..    for other roots: a function, as verifier_core::verdict::verify, or a definition,
                                     as sdjwt_cli::specs::Answers::VerifyAnswers
     python3 docs/core.py --names    besides, the definitions of each module with their lines
@@ -23,7 +23,7 @@ from pathlib import Path
 
 TOP = Path(__file__).resolve().parent.parent
 CRATES = re.findall(r"^(\w+):", (TOP / "crates.txt").read_text(encoding="utf-8"), re.M)
-ROOTS = ["sdjwt_cli::top::run", "sdjwt_cli::laws::presented"]
+ROOTS = ["sdjwt_cli::top::run", "sdjwt_cli::laws::presented", "sdjwt_cli::laws::no_forgery"]
 
 WORD = re.compile(r"[^\W\d][\w'-]*(?:\.[^\W\d][\w'-]*)*")
 USE = re.compile(r"^\s*(?:ghost )?use ([A-Za-z_][\w.]*?)(?:\.\{(.*?)\}| as (\w+))?;?\s*$", re.M)
