@@ -29,6 +29,7 @@ mod Examples
 mod HiddenPaths
 mod GeneratedWords
 mod GeneratedOrder
+mod GeneratedMembers
 mod EmbeddedDigests
 mod SummaryVerdicts
 mod Summaries
