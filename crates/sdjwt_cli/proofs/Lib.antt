@@ -31,6 +31,7 @@ mod Examples
 mod HiddenPaths
 mod GeneratedWords
 mod GeneratedOrder
+mod GeneratedMembers
 mod EmbeddedDigests
 mod SummaryVerdicts
 mod Summaries

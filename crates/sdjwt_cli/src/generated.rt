@@ -1,11 +1,11 @@
 // What `gen` issues, asks for and verifies, by the number of its members.
-ghost use Rattle.std.specs.Prelude.{◌≡◌, ◌≢◌, ◌∷◌, ◌++◌, ℕ, List, IfOk, OnOk};
+ghost use Rattle.std.specs.Prelude.{◌≡◌, ◌≢◌, ◌<◌, ◌≤◌, ◌∷◌, ◌++◌, ℕ, List, IfOk, OnOk};
 ghost use Rattle.std.specs.Fmt.{decimal};
 ghost use Rattle.claim_tree.specs.View.{tree_of};
 ghost use Rattle.issuer_core.specs.Order.{order_of as order_in};
 ghost use Rattle.sdjwt_cli.specs.Generated as spec;
 ghost use Rattle.sdjwt_cli.specs.Generated.{members_below, hidden_below, paths_below, generated, generated_key, generated_keys, generated_ask, generated_policy};
-ghost use Rattle.sdjwt_cli.specs.GeneratedSteps.{set_tree as set_in};
+ghost use Rattle.sdjwt_cli.specs.GeneratedSteps.{with_member, HasMember, HasNoOther, BeginsWith, set_tree as set_in};
 
 use b64url_text::encode;
 use claim_tree::{Path, PathList, Tree, TreeList, TreeMap, position};
@@ -66,12 +66,42 @@ fn member_value(alloc: Global, i: u32) -> Result<Tree, NoMemory>
     Ok(Tree::Object(members))
 }
 
+fn put_member(alloc: Global, members: &mut TreeMap, i: u32) -> Result<(), NoMemory>
+    ensures { OnOk result (members.new ≡ with_member i members.old) }
+{
+    members.insert(member_name(alloc, i)?, member_value(alloc, i)?)
+}
+
+// Puts the member of a number, where it is below the count, and then those of the numbers that have more digits behind
+// it. So they come in the order of their names, each behind all others.
+#[cycle(put)]
+fn put_from(alloc: Global, members: &mut TreeMap, first: u64, count: u32) -> Result<(), NoMemory>
+    requires positive { 1 ≤ first }
+    requires no_other { HasNoOther count members.old }
+    ensures no_other { OnOk result (HasNoOther count members.new) }
+    ensures kept { OnOk result ((i : ℕ) → i < count → HasMember members.old i → HasMember members.new i) }
+    ensures put { OnOk result ((i : ℕ) → i < count → BeginsWith first i → HasMember members.new i) }
+{
+    if first >= u64::from(count) {
+        return Ok(());
+    }
+    put_member(alloc, members, first as u32)?;
+    for digit in 0..10 {
+        put_from(alloc, members, 10 * first + digit, count)?;
+    }
+    Ok(())
+}
+
 fn members(alloc: Global, count: u32) -> Result<TreeMap, NoMemory>
     ensures { IfOk result (λ members. members ≡ members_below count) }
 {
     let mut members = TreeMap::new(alloc);
-    for i in 0..count {
-        members.insert(member_name(alloc, i)?, member_value(alloc, i)?)?;
+    if count == 0 {
+        return Ok(members);
+    }
+    put_member(alloc, &mut members, 0)?;
+    for digit in 1..10 {
+        put_from(alloc, &mut members, digit, count)?;
     }
     Ok(members)
 }

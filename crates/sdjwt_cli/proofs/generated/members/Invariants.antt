@@ -1,6 +1,5 @@
-use Rattle.std.proofs.Common.{◌≡◌}
-use Rattle.sdjwt_cli.specs.Generated.{members_below}
+use Rattle.sdjwt_cli.proofs.GeneratedMembers.{PutsDigits}
 use Rattle.sdjwt_cli.proofs.generated.members.Given as goal
 
-abbrev pub invariant-loop-i : goal.invariant-loop-i
-invariant-loop-i l = l.members ≡ members_below l.i
+abbrev pub invariant-loop-digit : goal.invariant-loop-digit
+invariant-loop-digit l = PutsDigits l.fn.count l.digit l.members
