@@ -1,5 +1,5 @@
 -- What is read of a token, before it is opened.
-use Rattle.std.specs.Prelude.{◌≡◌, ◌≤◌, ◌<◌, ◌-◌, ◌^◌, ℕ, List, length, refl}
+use Rattle.std.specs.Prelude.{◌≡◌, ◌≤◌, ◌<◌, ◌-◌, ◌^◌, ℕ, zero, suc, List, length, refl}
 use Rattle.std.proofs.Common.{ap}
 use Rattle.std.specs.Coded.{Coded, coded_ℕ, coded×, code_by}
 use Rattle.claim_tree.specs.Code.{elements_code}
@@ -37,9 +37,9 @@ hash_to HashAlg.Sha384 = 1
 hash_to HashAlg.Sha512 = 2
 
 abbrev hash_from : ℕ → HashAlg
-hash_from 0 = HashAlg.Sha256
-hash_from 1 = HashAlg.Sha384
-hash_from _ = HashAlg.Sha512
+hash_from zero = HashAlg.Sha256
+hash_from (suc zero) = HashAlg.Sha384
+hash_from (suc (suc _)) = HashAlg.Sha512
 
 hash_back : (hash : HashAlg) → hash_from (hash_to hash) ≡ hash
 hash_back HashAlg.Sha256 = refl
