@@ -31,28 +31,28 @@ returns-in-Err-Unreadable-read_body-clause-fails c =
     let none = subst IsNoObject (ap (λ j. j.payload) c.signed.ensures) (c.in-Err-Unreadable-read_body.ensures.unreadable (ap Err c.in-Err-Unreadable-read_body.field-0-is)) in
     rw c.fails-in-Err-Unreadable-read_body.ensures (payload c.args.token.now (tree_of c.in-Ok.head) c.requires head none refl)
 
-pub returns-in_else-hash-clause-fails :
-    goal.returns-in_else-hash-clause-fails
-returns-in_else-hash-clause-fails c =
+pub returns-in-None-clause-fails :
+    goal.returns-in-None-clause-fails
+returns-in-None-clause-fails c =
     let head = subst (λ (o : Members). IsHead c.args.token.now.parts.signed.protected o (tree_of c.in-Ok.head)) c.outer.ensures (subst (λ (p : Text). IsHead p c.outer.result.now (tree_of c.in-Ok.head)) (ap (λ j. j.protected) c.signed.ensures) c.in-Ok.ensures.head) in
     let body = subst (λ (p : Text). IsBody p (tree_of c.in-Ok-read_body.payload)) (ap (λ j. j.payload) c.signed.ensures) c.in-Ok-read_body.ensures.ok in
-    rw c.fails-in_else-hash.ensures (hash c.args.token.now (tree_of c.in-Ok.head) (tree_of c.in-Ok-read_body.payload) c.requires head body (sym c.payload_hash.ensures) refl)
+    rw c.fails-in-None.ensures (hash c.args.token.now (tree_of c.in-Ok.head) (tree_of c.in-Ok-read_body.payload) c.requires head body (sym c.in-None.ensures) refl)
 
 pub returns-in_err-push_all_shown-clause-fails : goal.returns-in_err-push_all_shown-clause-fails
 returns-in_err-push_all_shown-clause-fails c =
     let from = err_from_is_err_and c.from_residual-in_err-push_all_shown.result c.from_residual-in_err-push_all_shown.ensures.1 in
     let head = subst (λ (o : Members). IsHead c.args.token.now.parts.signed.protected o (tree_of c.in-Ok.head)) c.outer.ensures (subst (λ (p : Text). IsHead p c.outer.result.now (tree_of c.in-Ok.head)) (ap (λ j. j.protected) c.signed.ensures) c.in-Ok.ensures.head) in
     let body = subst (λ (p : Text). IsBody p (tree_of c.in-Ok-read_body.payload)) (ap (λ j. j.payload) c.signed.ensures) c.in-Ok-read_body.ensures.ok in
-    let known : IsShownPayload c.args.token.now.parts.signed.payload (tree_of c.in-Ok-read_body.payload) c.in_some-hash.hash = record { body = body; hash_is = sym c.payload_hash.ensures } in
-    rw (from.1, from.2) (on_fails c.in_err-push_all_shown.field-0.0 _ _ (λ fault h. disclosure c.args.token.now (tree_of c.in-Ok.head) (tree_of c.in-Ok-read_body.payload) c.in_some-hash.hash c.requires head known (subst (λ (ds : List Text). IsShowUnreadAt c.in_some-hash.hash ds fault) c.disclosures.ensures.value h)) c.in_err-push_all_shown.ensures.unread)
+    let known : IsShownPayload c.args.token.now.parts.signed.payload (tree_of c.in-Ok-read_body.payload) c.in-Some.hash = record { body = body; hash_is = sym c.in-Some.ensures } in
+    rw (from.1, from.2) (on_fails c.in_err-push_all_shown.field-0.0 _ _ (λ fault h. disclosure c.args.token.now (tree_of c.in-Ok.head) (tree_of c.in-Ok-read_body.payload) c.in-Some.hash c.requires head known (subst (λ (ds : List Text). IsShowUnreadAt c.in-Some.hash ds fault) c.disclosures.ensures.value h)) c.in_err-push_all_shown.ensures.unread)
 
 pub returns-clause-shows : goal.returns-clause-shows
 returns-clause-shows c =
     let head = subst (λ (o : Members). IsHead c.args.token.now.parts.signed.protected o (tree_of c.in-Ok.head)) c.outer.ensures (subst (λ (p : Text). IsHead p c.outer.result.now (tree_of c.in-Ok.head)) (ap (λ j. j.protected) c.signed.ensures) c.in-Ok.ensures.head) in
     let body = subst (λ (p : Text). IsBody p (tree_of c.in-Ok-read_body.payload)) (ap (λ j. j.payload) c.signed.ensures) c.in-Ok-read_body.ensures.ok in
-    let known : IsShownPayload c.args.token.now.parts.signed.payload (tree_of c.in-Ok-read_body.payload) c.in_some-hash.hash = record { body = body; hash_is = sym c.payload_hash.ensures } in
+    let known : IsShownPayload c.args.token.now.parts.signed.payload (tree_of c.in-Ok-read_body.payload) c.in-Some.hash = record { body = body; hash_is = sym c.in-Some.ensures } in
     let start = string_bytes c.in_ok-text.text in
     let more = string_bytes c.push_all_shown.new.text in
-    shows c.in_some-hash.hash c.args.file.now c.args.token.now (tree_of c.in-Ok.head) (tree_of c.in-Ok-read_body.payload) start more (string_bytes c.push_binding.new.text) c.requires head known c.in_ok-text.ensures
-    (subst (λ (ds : List Text). AddsLines c.in_some-hash.hash ds start more) c.disclosures.ensures.value c.in_ok-push_all_shown.ensures.ok)
+    shows c.in-Some.hash c.args.file.now c.args.token.now (tree_of c.in-Ok.head) (tree_of c.in-Ok-read_body.payload) start more (string_bytes c.push_binding.new.text) c.requires head known c.in_ok-text.ensures
+    (subst (λ (ds : List Text). AddsLines c.in-Some.hash ds start more) c.disclosures.ensures.value c.in_ok-push_all_shown.ensures.ok)
     (c.in_ok-push_binding.ensures ∙ ap (λ (b : Option JwtParts). more ++ binding_line b) c.binding.ensures)
