@@ -67,7 +67,7 @@ texts_zip [] (x ∷ given) h k = absurd h
 texts_zip (d ∷ ds) [] h k = absurd h
 texts_zip (d ∷ ds) (x ∷ given) h k = ((h.0, k.0.0, k.0.1), texts_zip ds given h.1 k.1)
 
-names_hash : (t : Tree) → IsObject t → payload_hash (with_alg t) ≡ Some HashAlg.Sha256
+pub names_hash : (t : Tree) → IsObject t → payload_hash (with_alg t) ≡ Some HashAlg.Sha256
 unfolding alg_name
 names_hash t is = ap hash_of_name (alg_named t is)
 

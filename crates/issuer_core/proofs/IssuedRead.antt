@@ -13,7 +13,7 @@ use Rattle.claim_tree.proofs.TreeTexts.{HasTexts, json_utf8}
 use Rattle.compact_form.specs.declared.parts.Parts.{Parts}
 use Rattle.digest_sites.specs.Given.{Given}
 use Rattle.digest_sites.specs.Reserved.{sd_name, sd_texts}
-use Rattle.disclosure.specs.Digest.{digest_of, hash_of}
+use Rattle.disclosure.specs.Digest.{digest_of, hash_of, payload_hash}
 use Rattle.disclosure.specs.Disclosure.{array_of}
 use Rattle.disclosure.specs.declared.digests.HashAlg.{HashAlg}
 use Rattle.disclosure.proofs.Arrays.{array_of-injective}
@@ -43,7 +43,7 @@ use Rattle.issuer_core.specs.Salts.{salt_of, salt_piece}
 use Rattle.issuer_core.specs.Seed.{maker_of}
 use Rattle.issuer_core.specs.Written.{IsWritten}
 use Rattle.issuer_core.proofs.FromLaid.{with_alg_ranged}
-use Rattle.issuer_core.proofs.IssuedContent.{IsTextOf}
+use Rattle.issuer_core.proofs.IssuedContent.{IsTextOf, names_hash}
 use Rattle.issuer_core.proofs.IssuedForgery.{digest_issued}
 use Rattle.issuer_core.proofs.IssuedSound.{issued_is_sound_holds}
 use Rattle.issuer_core.proofs.WithAlg.{with_alg_ordered}
@@ -110,6 +110,7 @@ one_given x y d n v =
 -- the parts are read as this payload and these disclosures, or not at all
 pub record IsReadOnlyAs (parts : Parts) (p : Tree) (g : List Given) : Type 0 where
   pub payload : (body : Tree) → IsBody parts.signed.payload body → without_alg body ≡ p
+  pub hash : (body : Tree) → IsBody parts.signed.payload body → payload_hash body ≡ Some HashAlg.Sha256
   pub disclosures : (i : ℕ) (d : Text) (x : Given) → StandsAt parts.disclosures i d → IsTextOf d x → StandsAt g i x
   pub digests : given_digests g ≡ map (digest_of HashAlg.Sha256) parts.disclosures
 
@@ -165,16 +166,25 @@ module _ (seed : List ℕ) (o : Order) (good : Meaning) (p : Tree) (g : List Giv
   object_of (leaf l) ms e = cc e
   object_of (array es) ms e = cc e
 
-  payload_read : (body : Tree) → IsBody parts.signed.payload body → without_alg body ≡ p
-  payload_read body is =
+  written_body : (body : Tree) → IsBody parts.signed.payload body → body ≡ with_alg p
+  written_body body is =
       let t = with_alg p in
       let ranged = with_alg_ranged p issued.payload_ranged in
       let utf8 = json_utf8 t (with_alg_texts p payload_texts) ranged in
       let own : Decodes parts.signed.payload (json_text t) = record { fit = AreBytes-text (json_text t) utf8; spelling = written.body } in
       let bytes = one_code parts.signed.payload is.carried.bytes (json_text t) is.carried.decodes own in
-      let same : body ≡ t = read_as_itself t body ranged (with_alg_ordered p issued.readable.in_payload) (subst (λ (b : Text). Reads b body) bytes is.carried.reads) in
+      read_as_itself t body ranged (with_alg_ordered p issued.readable.in_payload) (subst (λ (b : Text). Reads b body) bytes is.carried.reads)
+
+  an_object : (body : Tree) → IsBody parts.signed.payload body → IsObject p
+  an_object body is = object_of p is.members (sym is.is_object ∙ written_body body is)
+
+  payload_read : (body : Tree) → IsBody parts.signed.payload body → without_alg body ≡ p
+  payload_read body is =
       let free : HasNoReserved (strip (opened (length g) g p)) = subst (λ (m : Marked). HasNoReserved (strip m)) (sym opens) (subst HasNoReserved (sym (mark_strips_holds o.payload o.hide)) good_order.no_reserved) in
-      ap without_alg same ∙ bare p (object_of p is.members (sym is.is_object ∙ same)) free
+      ap without_alg (written_body body is) ∙ bare p (an_object body is) free
+
+  hash_read : (body : Tree) → IsBody parts.signed.payload body → payload_hash body ≡ Some HashAlg.Sha256
+  hash_read body is = ap payload_hash (written_body body is) ∙ names_hash p (an_object body is)
 
   disclosure_read : (i : ℕ) (d : Text) (x : Given) → StandsAt parts.disclosures i d → IsTextOf d x → StandsAt g i x
   disclosure_read i d x a gives =
@@ -197,6 +207,7 @@ module _ (seed : List ℕ) (o : Order) (good : Meaning) (p : Tree) (g : List Giv
   pub read_only_as : IsReadOnlyAs parts p g
   read_only_as = record {
     payload = payload_read;
+    hash = hash_read;
     disclosures = disclosure_read;
     digests = made_digests (maker_of seed).disclosure (digest_of HashAlg.Sha256) 0 g (λ i x a. let e : i ≡ 0 + i = omega arith in issued.made i x a ∙ ap (λ (n : ℕ). digest_of HashAlg.Sha256 ((maker_of seed).disclosure n x.name x.value)) e)
         ∙ ap (map (digest_of HashAlg.Sha256)) (sym written.disclosures);

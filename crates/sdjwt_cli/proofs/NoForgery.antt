@@ -1,5 +1,5 @@
 -- The law against forgery: what is accepted with the signed part of an issued token is a closed choice of what was issued.
-use Rattle.std.proofs.Common.{◌≡◌, ℕ, zero, suc, List, [], ◌∷◌, ◌++◌, Bool, true, false, ◌⊎◌, inl, inr, ⊎_elim, refl, sym, ap, ◌∙◌, subst}
+use Rattle.std.proofs.Common.{◌≡◌, ℕ, zero, suc, List, [], ◌∷◌, ◌++◌, Bool, true, false, ◌⊎◌, inl, inr, ⊎_elim, Some, refl, sym, ap, ◌∙◌, subst}
 use Rattle.std.specs.Prelude.{bytes_eq}
 use Rattle.std.specs.List.{AllZip}
 use Rattle.claim_tree.specs.Lists.{StandsAt, In}
@@ -58,10 +58,6 @@ is_in d (e ∷ ds) = go (bytes_eq d e) refl (is_in d ds)
     go false q (inl there) = inl (inr there)
     go false q (inr out) = inr (λ m. ⊎_elim (λ same. let clash : false ≡ true = sym q ∙ bytes_refl d e same in cc clash) (λ there. out there) m)
 
--- there is one algorithm
-one_hash : (hash : HashAlg) → hash ≡ HashAlg.Sha256
-one_hash HashAlg.Sha256 = refl
-
 module _ (maker : Maker) (o : Order) (parts : Parts) (p : Tree) (g : List Given) (good : IsGoodOrder o) (issued : IsIssuedFor maker o p g) (only : IsReadOnlyAs parts p g)
     (text : List ℕ) (token : Token) (is_token : IsToken text token) (same_signed : token.parts.signed ≡ parts.signed)
     (policy : Policy) (now : ℕ) (marked : Marked) (accepted : IsAccepted text policy now marked) (none : NoneCollides maker o parts.disclosures token.parts.disclosures) where
@@ -82,8 +78,14 @@ module _ (maker : Maker) (o : Order) (parts : Parts) (p : Tree) (g : List Given)
   same_payload : opens.0 ≡ p
   same_payload = sent_content.payload_is ∙ only.payload sent_content.body (subst (λ (j : JwtParts). IsBody j.payload sent_content.body) same_signed sent_content.is_body)
 
+  same_hash : sent_content.hash ≡ HashAlg.Sha256
+  same_hash =
+      let issued_body = subst (λ (j : JwtParts). IsBody j.payload sent_content.body) same_signed sent_content.is_body in
+      let hashes : Some sent_content.hash ≡ Some HashAlg.Sha256 = sym sent_content.hash_is ∙ only.hash sent_content.body issued_body in
+      cc hashes
+
   sent : Sent h
-  sent = subst (λ (a : HashAlg). AllZip (Gives a) token.parts.disclosures h) (one_hash sent_content.hash) sent_content.disclosures
+  sent = subst (λ (a : HashAlg). AllZip (Gives a) token.parts.disclosures h) same_hash sent_content.disclosures
 
   sound : IsSound p h
   sound = subst (λ (t : Tree). IsSound t h) same_payload (content_sound token (rules_of policy) opens.0 h sent_content (λ c place fails. accepted.passes c place (of_token token is_token fails)))
