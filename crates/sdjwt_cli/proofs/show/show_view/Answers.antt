@@ -31,12 +31,12 @@ returns-in-Err-Unreadable-read_body-clause-fails c =
     let none = subst IsNoObject (ap (λ j. j.payload) c.signed.ensures) (c.in-Err-Unreadable-read_body.ensures.unreadable (ap Err c.in-Err-Unreadable-read_body.field-0-is)) in
     rw c.fails-in-Err-Unreadable-read_body.ensures (payload c.args.token.now (tree_of c.in-Ok.head) c.requires head none refl)
 
-pub returns-in-None-clause-fails :
-    goal.returns-in-None-clause-fails
-returns-in-None-clause-fails c =
+pub returns-in_default-clause-fails :
+    goal.returns-in_default-clause-fails
+returns-in_default-clause-fails c =
     let head = subst (λ (o : Members). IsHead c.args.token.now.parts.signed.protected o (tree_of c.in-Ok.head)) c.outer.ensures (subst (λ (p : Text). IsHead p c.outer.result.now (tree_of c.in-Ok.head)) (ap (λ j. j.protected) c.signed.ensures) c.in-Ok.ensures.head) in
     let body = subst (λ (p : Text). IsBody p (tree_of c.in-Ok-read_body.payload)) (ap (λ j. j.payload) c.signed.ensures) c.in-Ok-read_body.ensures.ok in
-    rw c.fails-in-None.ensures (hash c.args.token.now (tree_of c.in-Ok.head) (tree_of c.in-Ok-read_body.payload) c.requires head body (sym c.in-None.ensures) refl)
+    rw c.fails-in_default.ensures (hash c.args.token.now (tree_of c.in-Ok.head) (tree_of c.in-Ok-read_body.payload) c.requires head body (sym c.in_default.ensures) refl)
 
 pub returns-in_err-push_all_shown-clause-fails : goal.returns-in_err-push_all_shown-clause-fails
 returns-in_err-push_all_shown-clause-fails c =

@@ -1,8 +1,9 @@
-use Rattle.std.proofs.Common.{List, ℕ, ap, sym, subst, arith}
+use Rattle.std.proofs.Common.{List, ℕ, IfErr, ap, sym, subst, arith}
 use Rattle.claim_tree.specs.Tree.{depth, IsRanged}
 use Rattle.issuer_core.specs.Order.{Order, order_of}
-use Rattle.sdjwt_cli.specs.Generated.{generated_seed, generated_key}
-use Rattle.sdjwt_cli.specs.Issuing.{IsIssuedBy}
+use Rattle.sdjwt_cli.specs.Generated.{generated, generated_seed, generated_key}
+use Rattle.sdjwt_cli.specs.Issuing.{TellsRefusal}
+use Rattle.sdjwt_cli.specs.Stops.{OnRefused}
 use Rattle.sdjwt_cli.proofs.GeneratedOrder.{shallow, all_ranged}
 use Rattle.sdjwt_cli.proofs.summary.issue_order.Goals as goal
 
@@ -14,3 +15,8 @@ issue_parts-requires-clause-depth c =
 
 pub issue_parts-requires-clause-ranged : goal.issue_parts-requires-clause-ranged
 issue_parts-requires-clause-ranged c = subst (λ (o : Order). IsRanged o.payload) (sym c.in_ok-order.ensures) (all_ranged c.args.count (omega (arith, c.ranges.count.fits)))
+
+pub returns-clause-refuses : goal.returns-clause-refuses
+returns-clause-refuses c =
+    let by_order = subst (λ (o : Order). IfErr c.issue_parts.result (λ stop. OnRefused stop (TellsRefusal generated_seed o c.key.result))) c.in_ok-order.ensures c.issue_parts.ensures.refuses in
+    subst (λ (k : List ℕ). IfErr c.issue_parts.result (λ stop. OnRefused stop (TellsRefusal generated_seed (generated c.args.count) k))) c.key.ensures by_order
