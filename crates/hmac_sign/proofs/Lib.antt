@@ -1,5 +1,5 @@
 pub mod Macs
-mod Blocks
+pub mod Blocks
 mod Equal
 mod KeySets
 pub mod KeySetVerdicts
