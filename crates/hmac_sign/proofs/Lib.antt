@@ -1,3 +1,4 @@
+pub mod AlgNames
 pub mod Macs
 pub mod Blocks
 mod Equal
