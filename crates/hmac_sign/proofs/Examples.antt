@@ -5,7 +5,7 @@ use Rattle.sha2.specs.Sha256.{compress, digest_bytes, first_words, hash_after, r
 use Rattle.b64url_text.specs.Base64url.{letters, bits, sixes, b64, AreBytes}
 use Rattle.claim_tree.specs.Tree.{Text, Tree, leaf, text, array, object, Elements, no_elements, element, element_at, no_members, member}
 use Rattle.hmac_sign.specs.Hmac.{key_block, xored, hmac, hs256_key, mac}
-use Rattle.hmac_sign.specs.Keys.{key_named, picked, IsNamedKey, IsKeySet, no_keys, other, key, IsOct}
+use Rattle.hmac_sign.specs.Keys.{key_named, picked_key, IsNamedKey, IsKeySet, no_keys, other, key, IsOct}
 use Rattle.hmac_sign.specs.KeyRefusals.{IsKeyNotBase64, KeyShortAt, IsNoKeySet, no_key, no_array}
 use Rattle.hmac_sign.specs.declared.alg.Alg.{Alg}
 use Rattle.hmac_sign.specs.declared.key_set.NamedKey.{NamedKey}
@@ -116,11 +116,11 @@ set_of_two = record {
 found : key_named two_keys (codes "one") ≡ Some (zeros ++ replicate 32 0)
 found = refl
 
-picked_first : picked two_keys None Alg.Hs256 ≡ Some (hs256_key (zeros ++ replicate 32 0))
+picked_first : picked_key two_keys None Alg.Hs256 ≡ Some (hs256_key (zeros ++ replicate 32 0))
 picked_first = refl
 
 -- none is long enough
-none_picked : picked two_keys None Alg.Hs512 ≡ None
+none_picked : picked_key two_keys None Alg.Hs512 ≡ None
 none_picked = refl
 
 not_found : key_named two_keys (codes "two") ≡ None

@@ -92,6 +92,6 @@ key_by named Alg.Hs384 = named.hs384
 key_by named Alg.Hs512 = named.hs512
 
 -- the key for an algorithm of the first element that has one and the name that is given
-abbrev pub picked : List NamedKey → Option Text → Alg → Option AlgKey
-picked [] kid alg = None
-picked (named ∷ keys) kid alg = option_or (if answers named.kid kid then key_by named alg else None) (picked keys kid alg)
+abbrev pub picked_key : List NamedKey → Option Text → Alg → Option AlgKey
+picked_key [] kid alg = None
+picked_key (named ∷ keys) kid alg = option_or (if answers named.kid kid then key_by named alg else None) (picked_key keys kid alg)

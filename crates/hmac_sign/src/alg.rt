@@ -1,7 +1,10 @@
 // The algorithms of signatures.
-ghost use Rattle.std.specs.Prelude.{◌≡◌, ◌≢◌, Some, IfSome, IfNone};
-ghost use Rattle.hmac_sign.specs.Algs.{alg_text, alg_of_text as alg_of_text_by, block_length, key_least};
+ghost use Rattle.std.specs.Prelude.{◌≡◌, ◌≢◌, Some, IfOk, IfSome, IfNone, map};
+ghost use Rattle.hmac_sign.specs.Algs.{algs, alg_text, alg_of_text as alg_of_text_by, block_length, key_least};
 ghost use Rattle.hmac_sign.specs.declared.alg.Alg.{Alg};
+
+use sd_outside::{NoMemory, TextBox, TextList};
+use std::alloc::Global;
 
 /// An algorithm of signatures, by its name in RFC 7518 section 3.1.
 #[derive(Clone, Copy, Debug, PartialEq, Eq)]
@@ -60,4 +63,15 @@ pub fn alg_named(name: &str) -> Option<Alg>
         "HS512" => Some(Alg::Hs512),
         _ => None,
     }
+}
+
+/// The names of all of them.
+pub fn alg_names(alloc: Global) -> Result<TextList, NoMemory>
+    ensures { IfOk result (λ names. names ≡ map alg_text algs) }
+{
+    let mut names = TextList::new(alloc);
+    names.push(TextBox::make(alloc, Alg::Hs256.name())?)?;
+    names.push(TextBox::make(alloc, Alg::Hs384.name())?)?;
+    names.push(TextBox::make(alloc, Alg::Hs512.name())?)?;
+    Ok(names)
 }

@@ -1,6 +1,6 @@
 // Sets of keys.
 ghost use Rattle.std.specs.Prelude.{◌≡◌, ℕ, IfOk, IsErrOf, option_map, slice_get};
-ghost use Rattle.hmac_sign.specs.Keys.{IsKeySet, answers, key_by, key_named, picked};
+ghost use Rattle.hmac_sign.specs.Keys.{IsKeySet, answers, key_by, key_named, picked_key};
 ghost use Rattle.hmac_sign.specs.KeyRefusals.{IsNoKeySet, KeyNotBase64At, KeyShortAt};
 ghost use Rattle.claim_tree.specs.Tree.{has_text};
 ghost use Rattle.hmac_sign.specs.declared.key_set.KeySetError.{KeySetError};
@@ -146,7 +146,7 @@ impl KeySet {
     /// The key for an algorithm, of the first element that has enough bytes for it and, where a name is given, that name. It takes no
     /// memory.
     pub fn pick(&self, kid: Option<&str>, alg: Alg) -> Option<&HsKey>
-        ensures { option_map (λ key. key.now) result ≡ picked self.now (option_map (λ name. name.now) kid.entry) alg }
+        ensures { option_map (λ key. key.now) result ≡ picked_key self.now (option_map (λ name. name.now) kid.entry) alg }
     {
         for named in &self.keys {
             if named.answers(kid)

@@ -21,7 +21,7 @@ mod sign;
 #[cfg(test)]
 mod tests;
 
-pub use alg::{Alg, alg_named};
+pub use alg::{Alg, alg_named, alg_names};
 pub use fail_signer::FailSigner;
 pub use file_keys::{key_bytes_member, key_bytes_of, key_of};
 pub use hs_key::{HsKey, KeyShort};
