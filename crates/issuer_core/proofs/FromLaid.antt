@@ -28,7 +28,7 @@ use Rattle.issuer_core.specs.Laid.{IsLaid, with_alg}
 use Rattle.issuer_core.specs.Clash.{IsFirstClash}
 use Rattle.issuer_core.specs.Laws.{PartsAreIssued}
 use Rattle.compact_form.specs.Lowest.{NoneApplies}
-use Rattle.issuer_core.specs.OrderRefusals.{AppliesToOrder, IsLowestRefusal, refusal_number, refusal_place}
+use Rattle.issuer_core.specs.OrderRefusals.{AppliesToOrder, IsLowestRefusal, issue_number, refusal_place}
 use Rattle.issuer_core.specs.JudgeCalls.{IsOrderRefused}
 use Rattle.issuer_core.specs.Salts.{salt_of}
 use Rattle.issuer_core.specs.Seed.{maker_of}
@@ -68,7 +68,7 @@ module _ (maker : Maker) (o : Order) (good : Meaning) where
   above n l = (omega (arith, l), omega (arith, l))
 
   -- what applies is a refusal of the order alone, or one of the last two
-  pub applies_or : (error : IssueError) → AppliesToIssue maker o good error → (NoneApplies (AppliesToOrder o) → 60 ≤ refusal_number error)
+  pub applies_or : (error : IssueError) → AppliesToIssue maker o good error → (NoneApplies (AppliesToOrder o) → 60 ≤ issue_number error)
   applies_or Memory h none = absurd h
   applies_or SignFailed h none = absurd h
   applies_or PayloadNotObject h none = absurd (none PayloadNotObject h)
@@ -89,7 +89,7 @@ module _ (maker : Maker) (o : Order) (good : Meaning) where
   pub long_lowest : NoneApplies (AppliesToOrder o) → ((i j : ℕ) → ClashesAt maker o i j → ⊥) → IsIssueTooLong maker o good → IsLowestRefusal (AppliesToIssue maker o good) TooLong
   long_lowest none differ long = record { applies = long; lowest = λ other h. go other h (applies_or other h none); first = λ other h e. omega arith }
     where
-      go : (other : IssueError) → AppliesToIssue maker o good other → 60 ≤ refusal_number other → 61 ≤ refusal_number other
+      go : (other : IssueError) → AppliesToIssue maker o good other → 60 ≤ issue_number other → 61 ≤ issue_number other
       go (DigestClash i j) h l = absurd (differ i j h)
       go TooLong h l = omega arith
       go Memory h l = absurd (omega (arith, l))
@@ -104,14 +104,14 @@ module _ (maker : Maker) (o : Order) (good : Meaning) where
       go TooManyHidden h l = absurd (omega (arith, l))
       go TooManyDecoys h l = absurd (omega (arith, l))
 
-  raised : (error : IssueError) → refusal_number error ≤ 59 → (AppliesToOrder o error → AppliesToIssue maker o good error) → IsLowestRefusal (AppliesToOrder o) error → IsLowestRefusal (AppliesToIssue maker o good) error
+  raised : (error : IssueError) → issue_number error ≤ 59 → (AppliesToOrder o error → AppliesToIssue maker o good error) → IsLowestRefusal (AppliesToOrder o) error → IsLowestRefusal (AppliesToIssue maker o good) error
   raised error low same l = record {
     applies = same l.applies;
     lowest = λ other h. lower other h;
     first = λ other h e. earlier other h e;
   }
     where
-      lower : (other : IssueError) → AppliesToIssue maker o good other → refusal_number error ≤ refusal_number other
+      lower : (other : IssueError) → AppliesToIssue maker o good other → issue_number error ≤ issue_number other
       lower Memory h = l.lowest Memory h
       lower SignFailed h = l.lowest SignFailed h
       lower PayloadNotObject h = l.lowest PayloadNotObject h
@@ -126,7 +126,7 @@ module _ (maker : Maker) (o : Order) (good : Meaning) where
       lower (DigestClash i j) h = omega (arith, low)
       lower TooLong h = omega (arith, low)
 
-      earlier : (other : IssueError) → AppliesToIssue maker o good other → refusal_number other ≡ refusal_number error → refusal_place error ≤ refusal_place other
+      earlier : (other : IssueError) → AppliesToIssue maker o good other → issue_number other ≡ issue_number error → refusal_place error ≤ refusal_place other
       earlier Memory h e = l.first Memory h e
       earlier SignFailed h e = l.first SignFailed h e
       earlier PayloadNotObject h e = l.first PayloadNotObject h e

@@ -9,7 +9,7 @@ use Rattle.issuer_core.specs.declared.errors.IssueError.TheVariants.{Memory, Sig
 use Rattle.issuer_core.specs.Order.{Order}
 use Rattle.issuer_core.specs.Digests.{Maker}
 use Rattle.issuer_core.specs.Clash.{IsEqualAt, IsFirstClash}
-use Rattle.issuer_core.specs.OrderRefusals.{refusal_number, refusal_place, IsLowestRefusal}
+use Rattle.issuer_core.specs.OrderRefusals.{issue_number, refusal_place, IsLowestRefusal}
 use Rattle.issuer_core.specs.Issue.{laid_digests, ClashesAt, AppliesToIssue}
 use Rattle.issuer_core.proofs.FromLaid.{one_list}
 
@@ -41,7 +41,7 @@ module _ (maker : Maker) (o : Order) where
 
   module _ (good : Meaning) where
     -- the number and the place tell what applies
-    by_number : (e f : IssueError) → AppliesToIssue maker o good e → AppliesToIssue maker o good f → refusal_number e ≡ refusal_number f → refusal_place e ≡ refusal_place f → e ≡ f
+    by_number : (e f : IssueError) → AppliesToIssue maker o good e → AppliesToIssue maker o good f → issue_number e ≡ issue_number f → refusal_place e ≡ refusal_place f → e ≡ f
     by_number Memory f a b n p = absurd a
     by_number SignFailed f a b n p = absurd a
     by_number PayloadNotObject PayloadNotObject a b n p = refl
@@ -71,7 +71,7 @@ module _ (maker : Maker) (o : Order) where
     one_refusal e f this other =
         let up = this.lowest f other.applies in
         let down = other.lowest e this.applies in
-        let numbers : refusal_number e ≡ refusal_number f = omega (arith, up, down) in
+        let numbers : issue_number e ≡ issue_number f = omega (arith, up, down) in
         let before = this.first f other.applies (sym numbers) in
         let behind = other.first e this.applies numbers in
         by_number e f this.applies other.applies numbers (omega (arith, before, behind))

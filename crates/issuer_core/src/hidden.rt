@@ -16,7 +16,7 @@ pub(crate) fn different(alloc: Global, paths: &PathList) -> Result<PathList, NoM
     let mut index = DigestIndex::new(alloc);
     let mut steps = LookUps::new();
     let mut kept = PathList::new(alloc);
-    for path in paths.paths() {
+    for path in paths.elements() {
         let pointer = print_path(alloc, path)?;
         let place = index.intern(pointer.as_str(), &mut steps)?;
         if place == kept.len() {

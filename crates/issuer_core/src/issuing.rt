@@ -22,14 +22,13 @@ ghost use Rattle.issuer_core.specs.OrderRefusals.{AppliesToOrder};
 ghost use Rattle.claim_tree.specs.Lists.{Repeats, AtNone};
 
 use crate::laying::{Laid, lay_order};
-use crate::order::copy_of;
 use crate::{IssueError, Order, first_clash, judge};
 use b64url_text::encode;
 use claim_tree::Tree;
 use compact_form::{ISSUE_MAX, JwtParts, Parts, is_longer_than};
 use hmac_sign::{SignError, Signer};
 use jws_part::{Header, write_body, write_header};
-use sd_outside::{NoMemory, TextBox, TextList};
+use sd_outside::{NoMemory, TextBox, TextList, copy_text};
 use std::alloc::Global;
 
 /// Issues a token for a copy of an order: the compact parts of an SD-JWT, RFC 9901 section 4, without a key binding token.
@@ -101,8 +100,8 @@ fn order_header(alloc: Global, order: &Order) -> Result<Header, NoMemory>
 {
     Ok(Header {
         alg: TextBox::make(alloc, "HS256")?,
-        kid: copy_of(alloc, &order.kid)?,
-        typ: copy_of(alloc, &order.typ)?,
+        kid: copy_text(alloc, &order.kid)?,
+        typ: copy_text(alloc, &order.typ)?,
     })
 }
 

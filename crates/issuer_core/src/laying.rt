@@ -368,7 +368,7 @@ fn hides_nothing(order: &Order) -> bool
     ensures hide { IsTrue result → order.now.hide ≡ [] }
     ensures decoys { IsTrue result → order.now.decoys ≡ [] }
 {
-    order.hide.paths().is_empty() && order.decoys.items().is_empty()
+    order.hide.elements().is_empty() && order.decoys.items().is_empty()
 }
 
 // A payload of which nothing is hidden.

@@ -41,22 +41,9 @@ pub(crate) fn first_reserved(alloc: Global, tree: &Tree) -> Result<Option<Path>,
     ensures held { IfOk result (λ path. IfNone path (FitsMachine (tree_of tree.now))) }
 {
     match find(alloc, tree)? {
-        Some(steps) => Ok(Some(path_back(alloc, steps)?)),
+        Some(steps) => Ok(Some(Path::from_last(steps))),
         None => Ok(None),
     }
-}
-
-// The path of steps that are given from the last to the first.
-fn path_back(alloc: Global, steps: Vec<TextBox>) -> Result<Path, NoMemory>
-    ensures { IfOk result (λ path. path ≡ reverse steps.items) }
-{
-    let mut steps = steps;
-    steps.reverse();
-    let mut path = Path::new(alloc);
-    for step in steps {
-        path.push(step)?;
-    }
-    Ok(path)
 }
 
 // The steps to the first member with a reserved name, from the last to the first.

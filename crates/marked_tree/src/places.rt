@@ -18,22 +18,9 @@ pub fn place_of(alloc: Global, tree: &Marked, mark: u32) -> Result<Option<Path>,
     ensures { IfOk result (λ path. path ≡ mark_path (marked_of tree.now) mark) }
 {
     match find(alloc, tree, mark)? {
-        Some(steps) => Ok(Some(path_back(alloc, steps)?)),
+        Some(steps) => Ok(Some(Path::from_last(steps))),
         None => Ok(None),
     }
-}
-
-// The path of steps that are given from the last to the first.
-fn path_back(alloc: Global, steps: Vec<TextBox>) -> Result<Path, NoMemory>
-    ensures { IfOk result (λ path. path ≡ reverse steps.items) }
-{
-    let mut steps = steps;
-    steps.reverse();
-    let mut path = Path::new(alloc);
-    for step in steps {
-        path.push(step)?;
-    }
-    Ok(path)
 }
 
 // The steps to the first node with the mark, from the last to the first.

@@ -5,12 +5,13 @@
 //! memory tell what they hold; the objects of the host tell nothing, and are the trusted edge.
 #![tactic(auto)]
 
-mod boxes;
+mod byte_box;
 mod cabinet;
 mod call_plan;
 mod errors;
 mod host_cabinet;
 mod host_sink;
+mod list_of;
 mod memory_cabinet;
 mod memory_sink;
 mod sink;
@@ -19,13 +20,14 @@ mod status;
 mod tests;
 mod text;
 
-pub use boxes::{ByteBox, TextList};
+pub use byte_box::ByteBox;
 pub use cabinet::Cabinet;
 pub use errors::{Failed, FetchError, NoMemory};
 pub use host_cabinet::HostCabinet;
 pub use host_sink::HostSink;
+pub use list_of::{ListOf, TextList};
 pub use memory_cabinet::MemCabinet;
 pub use memory_sink::MemSink;
 pub use sink::Sink;
 pub use status::Status;
-pub use text::TextBox;
+pub use text::{TextBox, copy_text};

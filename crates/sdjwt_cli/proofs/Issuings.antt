@@ -10,8 +10,6 @@ use Rattle.issuer_core.specs.Order.{Order, order_of}
 use Rattle.issuer_core.specs.OrderFile.{IsOrderFile}
 use Rattle.issuer_core.specs.Digests.{Maker}
 use Rattle.issuer_core.specs.OrderRefusals.{IsLowestRefusal}
-use Rattle.issuer_core.specs.RefusalLine.{issue_refusal_text}
-use Rattle.issuer_core.specs.RefusalCalls.{IsRefusalLine}
 use Rattle.issuer_core.specs.Issue.{AppliesToIssue}
 use Rattle.issuer_core.specs.IssueCalls.{IsNotIssued}
 use Rattle.sd_outside.specs.Limits.{seed_len}
@@ -30,8 +28,3 @@ module _ (maker : Maker) (o : Order) (good : Meaning) where
   lowest Memory memory failed h = absurd (memory refl)
   lowest SignFailed memory failed h = absurd (failed refl)
   lowest error memory failed h = h
-
-pub line_of : (error : IssueError) → error ≢ Memory → error ≢ SignFailed → (text : List ℕ) → IsRefusalLine error text → text ≡ issue_refusal_text error
-line_of Memory memory failed text h = absurd (memory refl)
-line_of SignFailed memory failed text h = absurd (failed refl)
-line_of error memory failed text h = h

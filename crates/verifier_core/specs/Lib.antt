@@ -2,5 +2,4 @@ pub mod PolicyFile
 pub mod Verdict
 pub mod Content
 pub mod Check
-pub mod RefusalText
 pub mod Verdicts

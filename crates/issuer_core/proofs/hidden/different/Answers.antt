@@ -7,7 +7,7 @@ use Rattle.issuer_core.proofs.hidden.different.Goals as goal
 pub loop-path-preserved : goal.loop-path-preserved
 loop-path-preserved c =
     let l = c.loop-path in
-    let items = c.paths-path-items.result.now in
+    let items = c.elements-path-items.result.now in
     let path = c.path-item.result in
     let text = c.as_str.result.now in
     let says = c.as_str.ensures ∙ c.in_ok-pointer.ensures in
@@ -24,9 +24,9 @@ loop-path-preserved c =
 
 pub returns-clause-same : goal.returns-clause-same
 returns-clause-same c path =
-    covers_all c.loop-path.kept c.paths-path-items.result.now c.loop-path.path-index (omega (arith, c.loop-path-test.false)) c.loop-path.invariant.2 path ∙ ap (λ ps. is_among ps path) c.paths-path-items.ensures
+    covers_all c.loop-path.kept c.elements-path-items.result.now c.loop-path.path-index (omega (arith, c.loop-path-test.false)) c.loop-path.invariant.2 path ∙ ap (λ ps. is_among ps path) c.elements-path-items.ensures
 
 pub returns-clause-count : goal.returns-clause-count
 returns-clause-count c =
     kept_count c.loop-path.kept c.args.paths.now c.loop-path.index c.loop-path.invariant.0 c.loop-path.invariant.1
-    (λ path. covers_all c.loop-path.kept c.paths-path-items.result.now c.loop-path.path-index (omega (arith, c.loop-path-test.false)) c.loop-path.invariant.2 path ∙ ap (λ ps. is_among ps path) c.paths-path-items.ensures)
+    (λ path. covers_all c.loop-path.kept c.elements-path-items.result.now c.loop-path.path-index (omega (arith, c.loop-path-test.false)) c.loop-path.invariant.2 path ∙ ap (λ ps. is_among ps path) c.elements-path-items.ensures)

@@ -1,7 +1,6 @@
-ghost use Rattle.std.specs.Prelude.{◌≡◌, List, ℕ, [], ◌∷◌, ◌++◌, length, OnOk, OnErr, slice_get};
-ghost use Rattle.std.specs.Option.{option_copied};
+ghost use Rattle.std.specs.Prelude.{◌≡◌, [], ◌∷◌, ◌++◌, OnOk, OnErr};
 
-use crate::{NoMemory, TextBox};
+use crate::NoMemory;
 use std::alloc::Global;
 use std::marker::Model;
 
@@ -59,53 +58,5 @@ impl ByteBox {
         ensures { result.now ≡ self.now }
     {
         self.bytes.as_slice()
-    }
-}
-
-/// Texts in order. Contracts see the list of their bytes.
-#[derive(Debug, Drop)]
-pub struct TextList {
-    texts: Vec<TextBox>,
-}
-
-impl Model for TextList {
-    ghost use Rattle.std.specs.Prelude.{List, ℕ};
-
-    ghost Value = { List (List ℕ) };
-
-    ghost view = { λ l. l.texts.items };
-}
-
-impl TextList {
-    /// No texts. It takes no memory.
-    pub fn new(alloc: Global) -> TextList
-        ensures { result ≡ [] }
-    {
-        TextList {
-            texts: Vec::new(alloc),
-        }
-    }
-
-    /// Adds a text at the end.
-    pub fn push(&mut self, text: TextBox) -> Result<(), NoMemory>
-        ensures ok { OnOk result (self.new ≡ self.old ++ text ∷ []) }
-        ensures err { OnErr result (self.new ≡ self.old) }
-    {
-        self.texts.push(text)?;
-        Ok(())
-    }
-
-    /// The number of texts.
-    pub fn len(&self) -> usize
-        ensures { result ≡ length self.now }
-    {
-        self.texts.len()
-    }
-
-    /// The text at a position, counted from 0.
-    pub fn at(&self, i: usize) -> Option<&TextBox>
-        ensures { option_copied result ≡ slice_get self.now i }
-    {
-        self.texts.get(i)
     }
 }
