@@ -13,6 +13,7 @@ pub mod RoundTrip
 pub mod Everywheres
 pub mod TreeTexts
 pub mod OneTree
+pub mod OwnReading
 pub mod ReadOrdered
 mod PointerEscapes
 mod PointerTildes

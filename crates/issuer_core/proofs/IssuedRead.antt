@@ -9,6 +9,7 @@ use Rattle.claim_tree.specs.Lists.{StandsAt, In}
 use Rattle.claim_tree.specs.Tree.{Text, text, Tree, leaf, array, object, Members, no_members, member, member_named, IsOrdered, IsRanged}
 use Rattle.claim_tree.proofs.Lists.{At-In, At-below, At-same, In-At, In-append, In-of_map, bytes_same}
 use Rattle.claim_tree.proofs.OtherMembers.{removed_inserted}
+use Rattle.claim_tree.proofs.OwnReading.{read_as_itself}
 use Rattle.claim_tree.proofs.TreeTexts.{HasTexts, json_utf8}
 use Rattle.compact_form.specs.declared.parts.Parts.{Parts}
 use Rattle.digest_sites.specs.Given.{Given}
@@ -17,6 +18,7 @@ use Rattle.disclosure.specs.Digest.{digest_of, hash_of, payload_hash}
 use Rattle.disclosure.specs.Disclosure.{array_of}
 use Rattle.disclosure.specs.declared.digests.HashAlg.{HashAlg}
 use Rattle.disclosure.proofs.Arrays.{array_of-injective}
+use Rattle.disclosure.proofs.ReadBack.{array_texts, array_ranged, array_ordered}
 use Rattle.hmac_sign.specs.Signatures.{Meaning}
 use Rattle.jws_part.specs.Part.{IsBody}
 use Rattle.marked_tree.specs.Marked.{Marked, marked_member, strip, strip_members}
@@ -49,7 +51,6 @@ use Rattle.issuer_core.proofs.IssuedSound.{issued_is_sound_holds}
 use Rattle.issuer_core.proofs.WithAlg.{with_alg_ordered}
 use Rattle.issuer_core.proofs.WrittenTexts.{GivenTexts, held_texts, with_alg_texts}
 use Rattle.marked_tree.specs.Paths.{Path}
-use Rattle.issuer_core.proofs.OwnReading.{read_as_itself}
 use Rattle.issuer_core.proofs.ShownTexts.{texts_fine, shown_texts_at}
 
 from_number : (f : ℕ → Text) (k : ℕ) (paths : List Path) (d : Text) → In d (digests_from f k paths) → (n : ℕ) × (d ≡ f n)
@@ -71,18 +72,6 @@ no_alg r (member k t ms) f = go (bytes_eq k sd_name) refl (bytes_eq k alg_name) 
     go true q false z f ih = ih f
     go false q true z f ih = let clash : true ≡ false = sym z ∙ f.0.2 in cc clash
     go false q false z f ih = ih f.2
-
-array_texts : (salt : Text) (name : Option Text) (value : Tree) → IsUtf8 salt → IfSome name IsUtf8 → HasTexts value → HasTexts (array_of (leaf (text salt)) name value)
-array_texts salt None value s n v = (tt, (s, (v, tt)))
-array_texts salt (Some name) value s n v = (tt, (s, (n, (v, tt))))
-
-array_ranged : (salt : Text) (name : Option Text) (value : Tree) → IsRanged value → IsRanged (array_of (leaf (text salt)) name value)
-array_ranged salt None value r = (tt, (r, tt))
-array_ranged salt (Some name) value r = (tt, (tt, (r, tt)))
-
-array_ordered : (salt : Text) (name : Option Text) (value : Tree) → IsOrdered value → IsOrdered (array_of (leaf (text salt)) name value)
-array_ordered salt None value o = (tt, (o, tt))
-array_ordered salt (Some name) value o = (tt, (tt, (o, tt)))
 
 made_at : (made : ℕ → Option Text → Tree → Text) (k : ℕ) (g : List Given) (i : ℕ) (d : Text) → StandsAt (made_texts made k g) i d → (x : Given) × StandsAt g i x × (d ≡ made (k + i) x.name x.value)
 made_at made k (x ∷ g) zero d a = let e : k ≡ k + 0 = omega arith in (x, refl, a ∙ ap (λ (n : ℕ). made n x.name x.value) e)
