@@ -48,7 +48,9 @@ fn is_object(tree: &Tree) -> bool
 fn first_root(hide: &PathList) -> Option<usize>
     ensures { result ≡ position_from spec.is_root 0 hide.now }
 {
-    hide.elements().iter().position(|path| path.steps().is_empty())
+    hide.elements()
+        .iter()
+        .position(|path| path.steps().is_empty())
 }
 
 fn is_nowhere(payload: &Tree, path: &Path) -> bool
