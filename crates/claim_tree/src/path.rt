@@ -1,6 +1,7 @@
-ghost use Rattle.std.specs.Prelude.{◌≡◌, ◌-◌, List, [], ◌∷◌, ◌++◌, length, reverse, take, IfOk, OnOk, OnErr, slice_get};
+ghost use Rattle.std.specs.Prelude.{◌≡◌, ◌-◌, List, [], ◌∷◌, ◌++◌, length, reverse, take, decimal, IfOk, OnOk, OnErr, slice_get};
 ghost use Rattle.std.specs.Option.{option_copied};
 
+use itoa::Buffer;
 use sd_outside::{ListOf, NoMemory, TextBox};
 use std::alloc::Global;
 use std::marker::Model;
@@ -100,4 +101,12 @@ pub fn copy_paths(alloc: Global, paths: &PathList) -> Result<PathList, NoMemory>
         copies.push(path.copy(alloc)?)?;
     }
     Ok(copies)
+}
+
+/// The decimal digits of a position: the step to it.
+pub fn digits(alloc: Global, i: usize) -> Result<TextBox, NoMemory>
+    ensures { IfOk result (λ text. text ≡ decimal i) }
+{
+    let mut digits = Buffer::new();
+    TextBox::make(alloc, digits.format(i))
 }

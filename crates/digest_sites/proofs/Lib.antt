@@ -1,3 +1,4 @@
 pub mod Moved
+pub mod NameTexts
 mod Found
 mod Examples

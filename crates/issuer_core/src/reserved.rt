@@ -1,5 +1,5 @@
 // The first member of a payload whose name SD-JWT reserves.
-ghost use Rattle.std.specs.Prelude.{◌≡◌, ◌≤◌, [], ◌∷◌, ◌++◌, map, reverse, Some, None, IfOk, IfNone, option_map, slice_get, bytes_eq, decimal};
+ghost use Rattle.std.specs.Prelude.{◌≡◌, ◌≤◌, [], ◌∷◌, ◌++◌, map, reverse, Some, None, IfOk, IfNone, option_map, slice_get, bytes_eq};
 ghost use Rattle.claim_tree.specs.Tree.{array, object, depth, elements_depth, members_depth, member_named};
 ghost use Rattle.claim_tree.specs.View.{tree_of};
 ghost use Rattle.digest_sites.specs.Reserved.{sd_name};
@@ -9,9 +9,8 @@ ghost use Rattle.issuer_core.specs.GoodOrder.{FitsMachine};
 ghost use Rattle.issuer_core.specs.ReservedPaths as spec;
 ghost use Rattle.issuer_core.specs.ReservedPaths.{own_reserved_path, reserved_paths, reserved_elements};
 
-use claim_tree::{Path, Tree, TreeList, TreeMap};
+use claim_tree::{Path, Tree, TreeList, TreeMap, digits};
 use digest_sites::{is_dots, is_sd};
-use itoa::Buffer;
 use sd_outside::{NoMemory, TextBox};
 use std::alloc::Global;
 
@@ -129,12 +128,4 @@ fn one_step(alloc: Global, step: &str) -> Result<Vec<TextBox>, NoMemory>
     let mut steps = Vec::new(alloc);
     steps.push(TextBox::make(alloc, step)?)?;
     Ok(steps)
-}
-
-// The decimal digits of a position.
-fn digits(alloc: Global, i: usize) -> Result<TextBox, NoMemory>
-    ensures { IfOk result (λ text. text ≡ decimal i) }
-{
-    let mut digits = Buffer::new();
-    TextBox::make(alloc, digits.format(i))
 }

@@ -1,13 +1,12 @@
 // Where marks stand.
-ghost use Rattle.std.specs.Prelude.{◌≡◌, ◌≤◌, ℕ, List, [], ◌∷◌, ◌++◌, map, reverse, IfOk, IfSome, option_map, decimal};
+ghost use Rattle.std.specs.Prelude.{◌≡◌, ◌≤◌, ℕ, List, [], ◌∷◌, ◌++◌, map, reverse, IfOk, IfSome, option_map};
 ghost use Rattle.claim_tree.specs.Tree.{depth, elements_depth, members_depth};
 ghost use Rattle.marked_tree.specs.Marked.{strip, strip_elements, strip_members};
 ghost use Rattle.marked_tree.specs.Paths.{mark_path, own_spot, inside, spots, elements_spots, members_spots, first_with};
 ghost use Rattle.marked_tree.specs.View.{marked_of};
 
 use crate::{Marked, MarkedList, MarkedMap};
-use claim_tree::Path;
-use itoa::Buffer;
+use claim_tree::{Path, digits};
 use sd_outside::{NoMemory, TextBox};
 use std::alloc::Global;
 
@@ -84,12 +83,4 @@ fn find_at(
         return Ok(Some(Vec::new(alloc)));
     }
     find(alloc, tree, mark)
-}
-
-/// The decimal digits of a position: the step to it.
-pub fn digits(alloc: Global, i: usize) -> Result<TextBox, NoMemory>
-    ensures { IfOk result (λ text. text ≡ decimal i) }
-{
-    let mut digits = Buffer::new();
-    TextBox::make(alloc, digits.format(i))
 }
