@@ -11,6 +11,7 @@ ghost use Rattle.examples_service.specs.Token.{order_for, IsTokenFor};
 
 use claim_tree::{PathList, Tree};
 use compact_form::print;
+use disclosure::HashAlg;
 use hmac_sign::Signer;
 use issuer_core::{DecoyList, IssueError, Order, issue_owned};
 use sd_outside::TextBox;
@@ -46,6 +47,7 @@ pub fn token_for<S: Signer>(
         decoys: DecoyList::new(alloc),
         kid: None,
         typ: None,
+        hash: HashAlg::Sha256,
     };
     let parts = issue_owned(alloc, order, seed, signer)?;
     Ok(print(alloc, &parts)?)

@@ -1,5 +1,5 @@
 -- From what is laid and signed to what is issued, and why it is not.
-use Rattle.std.proofs.Common.{◌≡◌, ℕ, zero, suc, ◌+◌, ◌<◌, ◌≤◌, List, [], ◌∷◌, None, Option, Some, ap₂, arith, length, refl, subst, sym, ⊎_elim, ◌∙◌, IfSome, codes}
+use Rattle.std.proofs.Common.{◌≡◌, ℕ, zero, suc, ◌+◌, ◌<◌, ◌≤◌, List, [], ◌∷◌, None, Option, Some, ap₂, arith, length, refl, subst, sym, ⊎_elim, ◌∙◌, IfSome}
 use Rattle.std.specs.List.{AllByRecursion}
 use Rattle.b64url_text.specs.Base64url.{IsWord, b64}
 use Rattle.b64url_text.proofs.Codes.{IsWord-b64}
@@ -11,7 +11,9 @@ use Rattle.claim_tree.specs.JsonText.{json_text}
 use Rattle.compact_form.specs.declared.parts.Parts.{Parts}
 use Rattle.compact_form.specs.Compact.{AreWords, HasWords}
 use Rattle.hmac_sign.specs.Signatures.{Meaning}
+use Rattle.disclosure.specs.Digest.{hash_name}
 use Rattle.disclosure.specs.Disclosure.{array_of, disclosure_text}
+use Rattle.disclosure.specs.declared.digests.HashAlg.{HashAlg}
 use Rattle.digest_sites.specs.Given.{Given}
 use Rattle.jws_part.specs.declared.header.Header.{Header}
 use Rattle.jws_part.specs.Header.{header_members}
@@ -276,7 +278,7 @@ pub body_object : (seed : List ℕ) (o : Order) (body : Tree) (texts digests : L
 body_object seed o body texts digests good laid =
     subst IsObject (sym laid.payload_is) (with_alg_object laid.laid (payload_object (maker_of seed) o laid.laid laid.given laid.dg good laid.is_laid))
   where
-    with_alg_object : (t : Tree) → IsObject t → IsObject (with_alg t)
+    with_alg_object : (t : Tree) → IsObject t → IsObject (with_alg o.hash t)
     with_alg_object (object ms) h = tt
     with_alg_object (leaf l) h = absurd h
     with_alg_object (array es) h = absurd h
@@ -314,11 +316,11 @@ words header good body texts parts is_object are_words signed = record {
 pub not_more : (a b : ℕ) → (a < b → ⊥) → b ≤ a
 not_more a b h = grind arith
 
-pub with_alg_ranged : (t : Tree) → IsRanged t → IsRanged (with_alg t)
-with_alg_ranged (object ms) r = MembersRanged-inserted ms alg_name (leaf (text (codes "sha-256"))) r tt
-with_alg_ranged (leaf l) r = r
-with_alg_ranged (array es) r = r
+pub with_alg_ranged : (hash : HashAlg) (t : Tree) → IsRanged t → IsRanged (with_alg hash t)
+with_alg_ranged hash (object ms) r = MembersRanged-inserted ms alg_name (leaf (text (hash_name hash))) r tt
+with_alg_ranged hash (leaf l) r = r
+with_alg_ranged hash (array es) r = r
 
 pub body_ranged : (seed : List ℕ) (o : Order) (body : Tree) (texts digests : List Text) → IsLaidFor (maker_of seed) o body texts digests → IsRanged o.payload → IsRanged body
 body_ranged seed o body texts digests laid ranged =
-    subst IsRanged (sym laid.payload_is) (with_alg_ranged laid.laid (payload_ranged (maker_of seed) o laid.laid laid.given laid.dg laid.is_laid ranged))
+    subst IsRanged (sym laid.payload_is) (with_alg_ranged o.hash laid.laid (payload_ranged (maker_of seed) o laid.laid laid.given laid.dg laid.is_laid ranged))

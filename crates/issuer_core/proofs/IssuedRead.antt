@@ -96,12 +96,12 @@ one_given : (x y : Given) → x.digest ≡ y.digest → x.name ≡ y.name → x.
 one_given x y d n v =
     ap (λ (a : Text). given_as a x.name x.value) d ∙ (ap (λ (a : Option Text). given_as y.digest a x.value) n ∙ ap (λ (a : Tree). given_as y.digest y.name a) v)
 
--- the parts are read as this payload and these disclosures, or not at all
-pub record IsReadOnlyAs (parts : Parts) (p : Tree) (g : List Given) : Type 0 where
+-- the parts are read as this payload and these disclosures with this hash, or not at all
+pub record IsReadOnlyAs (hash_is : HashAlg) (parts : Parts) (p : Tree) (g : List Given) : Type 0 where
   pub payload : (body : Tree) → IsBody parts.signed.payload body → without_alg body ≡ p
-  pub hash : (body : Tree) → IsBody parts.signed.payload body → payload_hash body ≡ Some HashAlg.Sha256
-  pub disclosures : (i : ℕ) (d : Text) (x : Given) → StandsAt parts.disclosures i d → IsTextOf d x → StandsAt g i x
-  pub digests : given_digests g ≡ map (digest_of HashAlg.Sha256) parts.disclosures
+  pub hash : (body : Tree) → IsBody parts.signed.payload body → payload_hash body ≡ Some hash_is
+  pub disclosures : (i : ℕ) (d : Text) (x : Given) → StandsAt parts.disclosures i d → IsTextOf hash_is d x → StandsAt g i x
+  pub digests : given_digests g ≡ map (digest_of hash_is) parts.disclosures
 
 module _ (seed : List ℕ) (o : Order) (good : Meaning) (p : Tree) (g : List Given) (parts : Parts) (good_order : IsGoodOrder o) (held : FitsMachine o.payload) (issued : IsIssuedFor (maker_of seed) o p g) (written : IsWritten (maker_of seed) o good p g parts) where
   sound : IsSound p g
@@ -113,10 +113,10 @@ module _ (seed : List ℕ) (o : Order) (good : Meaning) (p : Tree) (g : List Giv
       (λ a.
       let w = In-of_map (λ (x : Given). x.digest) d g a in
       let k = In-At g w.0 w.1 in
-      subst IsUtf8 (sym (w.2 ∙ issued.made k.0 w.0 k.1)) (b64_utf8 (hash_of HashAlg.Sha256 ((maker_of seed).disclosure k.0 w.0.name w.0.value))))
+      subst IsUtf8 (sym (w.2 ∙ issued.made k.0 w.0 k.1)) (b64_utf8 (hash_of o.hash ((maker_of seed).disclosure k.0 w.0.name w.0.value))))
       (λ b.
-      let w = from_number (λ k. (maker_of seed).digest ((maker_of seed).piece k)) (hidden_of o) (decoys_of o) d b in
-      subst IsUtf8 (sym w.1) (b64_utf8 (hash_of HashAlg.Sha256 (salt_of seed w.0))))
+      let w = from_number (λ k. (maker_of seed).digest o.hash ((maker_of seed).piece k)) (hidden_of o) (decoys_of o) d b in
+      subst IsUtf8 (sym w.1) (b64_utf8 (hash_of o.hash (salt_of seed w.0))))
       (In-append d (given_digests g) (decoy_digests (maker_of seed) o) m)
 
   settles : processed p g ≡ opened (length g) g p
@@ -145,24 +145,24 @@ module _ (seed : List ℕ) (o : Order) (good : Meaning) (p : Tree) (g : List Giv
             (λ s m. digest_utf8 s.digest (digest_issued (maker_of seed) o p g good_order issued s.digest (value_digest p g x s there m))) fine.1,
       )
 
-  bare : (t : Tree) → IsObject t → HasNoReserved (strip (open_tree (reveal (length g) g) t)) → without_alg (with_alg t) ≡ t
+  bare : (t : Tree) → IsObject t → HasNoReserved (strip (open_tree (reveal (length g) g) t)) → without_alg (with_alg o.hash t) ≡ t
   bare (object ms) is f = ap object (removed_inserted ms alg_name _ (no_alg (reveal (length g) g) ms (shows_free (reveal (length g) g) (sd_texts ms) (open_members (reveal (length g) g) ms) f)))
   bare (leaf l) is f = absurd is
   bare (array es) is f = absurd is
 
-  object_of : (t : Tree) (ms : Members) → object ms ≡ with_alg t → IsObject t
+  object_of : (t : Tree) (ms : Members) → object ms ≡ with_alg o.hash t → IsObject t
   object_of (object us) ms e = tt
   object_of (leaf l) ms e = cc e
   object_of (array es) ms e = cc e
 
-  written_body : (body : Tree) → IsBody parts.signed.payload body → body ≡ with_alg p
+  written_body : (body : Tree) → IsBody parts.signed.payload body → body ≡ with_alg o.hash p
   written_body body is =
-      let t = with_alg p in
-      let ranged = with_alg_ranged p issued.payload_ranged in
-      let utf8 = json_utf8 t (with_alg_texts p payload_texts) ranged in
+      let t = with_alg o.hash p in
+      let ranged = with_alg_ranged o.hash p issued.payload_ranged in
+      let utf8 = json_utf8 t (with_alg_texts o.hash p payload_texts) ranged in
       let own : Decodes parts.signed.payload (json_text t) = record { fit = AreBytes-text (json_text t) utf8; spelling = written.body } in
       let bytes = one_code parts.signed.payload is.carried.bytes (json_text t) is.carried.decodes own in
-      read_as_itself t body ranged (with_alg_ordered p issued.readable.in_payload) (subst (λ (b : Text). Reads b body) bytes is.carried.reads)
+      read_as_itself t body ranged (with_alg_ordered o.hash p issued.readable.in_payload) (subst (λ (b : Text). Reads b body) bytes is.carried.reads)
 
   an_object : (body : Tree) → IsBody parts.signed.payload body → IsObject p
   an_object body is = object_of p is.members (sym is.is_object ∙ written_body body is)
@@ -172,10 +172,10 @@ module _ (seed : List ℕ) (o : Order) (good : Meaning) (p : Tree) (g : List Giv
       let free : HasNoReserved (strip (opened (length g) g p)) = subst (λ (m : Marked). HasNoReserved (strip m)) (sym opens) (subst HasNoReserved (sym (mark_strips_holds o.payload o.hide)) good_order.no_reserved) in
       ap without_alg (written_body body is) ∙ bare p (an_object body is) free
 
-  hash_read : (body : Tree) → IsBody parts.signed.payload body → payload_hash body ≡ Some HashAlg.Sha256
-  hash_read body is = ap payload_hash (written_body body is) ∙ names_hash p (an_object body is)
+  hash_read : (body : Tree) → IsBody parts.signed.payload body → payload_hash body ≡ Some o.hash
+  hash_read body is = ap payload_hash (written_body body is) ∙ names_hash o.hash p (an_object body is)
 
-  disclosure_read : (i : ℕ) (d : Text) (x : Given) → StandsAt parts.disclosures i d → IsTextOf d x → StandsAt g i x
+  disclosure_read : (i : ℕ) (d : Text) (x : Given) → StandsAt parts.disclosures i d → IsTextOf o.hash d x → StandsAt g i x
   disclosure_read i d x a gives =
       let w = made_at (maker_of seed).disclosure 0 g i d (subst (λ (ds : List Text). StandsAt ds i d) written.disclosures a) in
       let y = w.0 in
@@ -190,14 +190,14 @@ module _ (seed : List ℕ) (o : Order) (good : Meaning) (p : Tree) (g : List Giv
       let same = read_as_itself t (array_of gives.1 x.name x.value) ranged (array_ordered salt y.name y.value (issued.readable.in_values y there)) (subst (λ (b : Text). Reads b (array_of gives.1 x.name x.value)) bytes gives.2.reads) in
       let parts_same = array_of-injective gives.1 (leaf (text salt)) x.name y.name x.value y.value same in
       let e : 0 + i ≡ i = omega arith in
-      let digests : x.digest ≡ y.digest = gives.0 ∙ (ap (digest_of HashAlg.Sha256) (w.2 ∙ ap (λ (n : ℕ). (maker_of seed).disclosure n y.name y.value) e) ∙ sym (issued.made i y w.1)) in
+      let digests : x.digest ≡ y.digest = gives.0 ∙ (ap (digest_of o.hash) (w.2 ∙ ap (λ (n : ℕ). (maker_of seed).disclosure n y.name y.value) e) ∙ sym (issued.made i y w.1)) in
       subst (λ (z : Given). StandsAt g i z) (sym (one_given x y digests parts_same.1 parts_same.2)) w.1
 
-  pub read_only_as : IsReadOnlyAs parts p g
+  pub read_only_as : IsReadOnlyAs o.hash parts p g
   read_only_as = record {
     payload = payload_read;
     hash = hash_read;
     disclosures = disclosure_read;
-    digests = made_digests (maker_of seed).disclosure (digest_of HashAlg.Sha256) 0 g (λ i x a. let e : i ≡ 0 + i = omega arith in issued.made i x a ∙ ap (λ (n : ℕ). digest_of HashAlg.Sha256 ((maker_of seed).disclosure n x.name x.value)) e)
-        ∙ ap (map (digest_of HashAlg.Sha256)) (sym written.disclosures);
+    digests = made_digests (maker_of seed).disclosure (digest_of o.hash) 0 g (λ i x a. let e : i ≡ 0 + i = omega arith in issued.made i x a ∙ ap (λ (n : ℕ). digest_of o.hash ((maker_of seed).disclosure n x.name x.value)) e)
+        ∙ ap (map (digest_of o.hash)) (sym written.disclosures);
   }

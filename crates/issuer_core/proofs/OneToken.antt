@@ -32,7 +32,7 @@ module _ (maker : Maker) (o : Order) (key : List ℕ) where
       → IsWritten maker o (IsGood key) payload given parts → IsWritten maker o (IsGood key) other_payload other_given other → parts ≡ other
   one_written payload other_payload given other_given parts other same_payload same_given this that =
       let protected : parts.signed.protected ≡ other.signed.protected = this.protected ∙ sym that.protected in
-      let body : parts.signed.payload ≡ other.signed.payload = this.body ∙ (ap (λ t. b64 (json_text (with_alg t))) same_payload ∙ sym that.body) in
+      let body : parts.signed.payload ≡ other.signed.payload = this.body ∙ (ap (λ t. b64 (json_text (with_alg o.hash t))) same_payload ∙ sym that.body) in
       let signatures : this.signature ≡ that.signature = this.signed ∙ (ap₂ (λ (x y : Text). mac key x y) protected body ∙ sym that.signed) in
       let signature : parts.signed.signature ≡ other.signed.signature = this.signature_text ∙ (ap b64 signatures ∙ sym that.signature_text) in
       let disclosures : parts.disclosures ≡ other.disclosures = this.disclosures ∙ (ap (made_texts maker.disclosure 0) same_given ∙ sym that.disclosures) in

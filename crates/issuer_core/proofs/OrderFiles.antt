@@ -3,20 +3,23 @@ use Rattle.std.proofs.Common.{◌≡◌, ◌≢◌, ℕ, ◌≤◌, List, [], �
 use Rattle.std.specs.Prelude.{bytes_eq}
 use Rattle.sd_outside.specs.Limits.{count_max, file_max}
 use Rattle.claim_tree.specs.Tree as spec
-use Rattle.claim_tree.specs.Tree.{Text, object, Elements, no_elements, element, Members, no_members, member, members_len, member_named, depth, members_depth, IsOrdered, MembersOrdered, IsRanged, MembersRanged}
+use Rattle.claim_tree.specs.Tree.{Text, text, leaf, object, Elements, no_elements, element, Members, no_members, member, members_len, member_named, depth, members_depth, IsOrdered, MembersOrdered, IsRanged, MembersRanged}
 use Rattle.claim_tree.specs.Lists.{In}
 use Rattle.claim_tree.specs.View.{tree_of}
 use Rattle.claim_tree.specs.declared.tree.Tree as tree
 use Rattle.claim_tree.specs.FileForms.{IsText, IsWholeUpTo, Says, MaySay, SaysOr, HasValue, found}
-use Rattle.claim_tree.specs.declared.file_fault.Field.TheVariants.{Payload, Hide, Decoys, Key, Kid, Typ}
+use Rattle.claim_tree.specs.declared.file_fault.Field.TheVariants.{Payload, Hide, Decoys, Key, Kid, Typ, SdAlg}
 use Rattle.claim_tree.specs.declared.file_fault.FileFault.{FileFault}
 use Rattle.claim_tree.proofs.FileMembers.{says_meets, may_say_meets, says_or_meets}
 use Rattle.claim_tree.proofs.FileVerdicts as verdicts
 use Rattle.claim_tree.proofs.FileVerdicts.{SaysOne}
 use Rattle.claim_tree.specs.FileLists.{IsListOf, EachSays, IsPointer}
+use Rattle.disclosure.specs.Digest.{hash_name, hash_of_text}
+use Rattle.disclosure.specs.declared.digests.HashAlg.{HashAlg}
+use Rattle.disclosure.proofs.HashNames.{of_its_name}
 use Rattle.hmac_sign.specs.KeyText.{IsKeyText}
 use Rattle.issuer_core.specs.Order.{Order, order_of}
-use Rattle.issuer_core.specs.OrderFile.{IsValue, IsDecoy, order_table, IsOrderFile, IsOrderFileRefused}
+use Rattle.issuer_core.specs.OrderFile.{IsValue, IsDecoy, IsHashText, order_table, IsOrderFile, IsOrderFileRefused}
 use Rattle.issuer_core.specs.declared.order.Decoy.{Decoy}
 use Rattle.issuer_core.specs.declared.order_file.IssueFile.{IssueFile}
 use Rattle.claim_tree.proofs.ListForms.{one_list, one_pointer}
@@ -128,10 +131,19 @@ value_ordered ms name u o says = ordered_named ms name u o (value_named (member_
 pub value_ranged : (ms : Members) (name : Text) (u : spec.Tree) → MembersRanged ms → Says IsValue (member_named ms name) u → IsRanged u
 value_ranged ms name u r says = ranged-member_named ms name u r (value_named (member_named ms name) u says)
 
+-- ---- the hash
+
+one_hash_text : SaysOne IsHashText
+one_hash_text t x y h k =
+    let both : leaf (text (hash_name x)) ≡ leaf (text (hash_name y)) = sym h ∙ k in
+    let same : hash_name x ≡ hash_name y = cc both in
+    let found_same : Some x ≡ Some y = of_its_name x ∙ (ap hash_of_text same ∙ sym (of_its_name y)) in
+    cc found_same
+
 -- ---- the file
 
-made : spec.Tree → List (List Text) → List Decoy → Option Text → Option Text → Order
-made payload hide decoys kid typ = record { payload = payload; hide = hide; decoys = decoys; kid = kid; typ = typ }
+made : spec.Tree → List (List Text) → List Decoy → Option Text → Option Text → HashAlg → Order
+made payload hide decoys kid typ hash = record { payload = payload; hide = hide; decoys = decoys; kid = kid; typ = typ; hash = hash }
 
 -- what the members say is one
 module _ (bytes : Text) (f g : IssueFile) (h : IsOrderFile bytes f) (k : IsOrderFile bytes g) where
@@ -153,17 +165,21 @@ module _ (bytes : Text) (f g : IssueFile) (h : IsOrderFile bytes f) (k : IsOrder
   typ_one : f.order.typ ≡ g.order.typ
   typ_one = verdicts.may_say_one IsText (found k.members Typ) f.order.typ g.order.typ verdicts.one_text (subst (λ ns. MaySay IsText (found ns Typ) f.order.typ) same h.typ) k.typ
 
+  hash_one : f.order.hash ≡ g.order.hash
+  hash_one = verdicts.says_or_one IsHashText HashAlg.Sha256 (found k.members SdAlg) f.order.hash g.order.hash one_hash_text (subst (λ ns. SaysOr IsHashText HashAlg.Sha256 (found ns SdAlg) f.order.hash) same h.hash) k.hash
+
   pub key_one : f.key ≡ g.key
   key_one = verdicts.says_one IsKeyText (found k.members Key) f.key g.key one_key_text (subst (λ ns. Says IsKeyText (found ns Key) f.key) same h.key) k.key
 
   pub order_one : order_of f.order ≡ order_of g.order
   unfolding made
   order_one =
-      ap (λ x. made x f.order.hide f.order.decoys f.order.kid f.order.typ) claims_one
-      ∙ (ap (λ x. made (tree_of g.order.payload) x f.order.decoys f.order.kid f.order.typ) hide_one
-      ∙ (ap (λ x. made (tree_of g.order.payload) g.order.hide x f.order.kid f.order.typ) decoys_one
-      ∙ (ap (λ x. made (tree_of g.order.payload) g.order.hide g.order.decoys x f.order.typ) kid_one
-      ∙ ap (λ x. made (tree_of g.order.payload) g.order.hide g.order.decoys g.order.kid x) typ_one)))
+      ap (λ x. made x f.order.hide f.order.decoys f.order.kid f.order.typ f.order.hash) claims_one
+      ∙ (ap (λ x. made (tree_of g.order.payload) x f.order.decoys f.order.kid f.order.typ f.order.hash) hide_one
+      ∙ (ap (λ x. made (tree_of g.order.payload) g.order.hide x f.order.kid f.order.typ f.order.hash) decoys_one
+      ∙ (ap (λ x. made (tree_of g.order.payload) g.order.hide g.order.decoys x f.order.typ f.order.hash) kid_one
+      ∙ (ap (λ x. made (tree_of g.order.payload) g.order.hide g.order.decoys g.order.kid x f.order.hash) typ_one
+      ∙ ap (λ x. made (tree_of g.order.payload) g.order.hide g.order.decoys g.order.kid g.order.typ x) hash_one))))
 
 pub one_order : (bytes : Text) (f g : IssueFile) → IsOrderFile bytes f → IsOrderFile bytes g → (order_of f.order ≡ order_of g.order) × (f.key ≡ g.key)
 one_order bytes f g h k = (order_one bytes f g h k, key_one bytes f g h k)
@@ -177,7 +193,8 @@ not_both bytes said fault says refused =
     let key = says_meets IsKeyText Key ms said.key says.key in
     let kid = may_say_meets IsText Kid ms said.order.kid says.kid in
     let typ = may_say_meets IsText Typ ms said.order.typ says.typ in
-    verdicts.not_refused file_max order_table bytes ms fault says.file (payload, (hide, (decoys, (key, (kid, (typ, tt)))))) refused
+    let hash = says_or_meets IsHashText HashAlg.Sha256 SdAlg ms said.order.hash says.hash in
+    verdicts.not_refused file_max order_table bytes ms fault says.file (payload, (hide, (decoys, (key, (kid, (typ, (hash, tt))))))) refused
 
 pub one_fault : (bytes : Text) (fault other : FileFault) → IsOrderFileRefused bytes fault → IsOrderFileRefused bytes other → fault ≢ FileFault.Memory → other ≢ FileFault.Memory → fault ≡ other
 one_fault bytes fault other h k = verdicts.one_fault file_max order_table bytes fault other h k

@@ -36,7 +36,7 @@ use Rattle.issuer_core.specs.Written.{header_of, IsWritten}
 use Rattle.issuer_core.proofs.Agrees.{MarkAgrees, MarksAgree, ElementsAgree, MembersAgree, lay_agrees, items_agree}
 use Rattle.issuer_core.proofs.Closing.{order_closes, order_marks, items_length}
 use Rattle.rebuild_core.specs.Payload.{alg_name}
-use Rattle.disclosure.specs.Digest.{hash_of}
+use Rattle.disclosure.specs.Digest.{hash_name, hash_of}
 use Rattle.disclosure.specs.declared.digests.HashAlg.{HashAlg}
 use Rattle.issuer_core.proofs.LaidBounds.{inserted_depth, payload_depth, value_depth, payload_ranged, value_ranged}
 use Rattle.issuer_core.proofs.LaidOrdered.{laid_is_readable_holds}
@@ -78,7 +78,7 @@ module _ (dg dh : ℕ → Text) (most : ℕ) (same : (k : ℕ) → k < most → 
 -- the parts are read as what is written
 pub record IsReadBack (o : Order) (payload : Tree) (given : List Given) (parts : Parts) : Type 0 where
   pub header : IsHeader parts.signed.protected no_members (header_of o)
-  pub body : IsBody parts.signed.payload (with_alg payload)
+  pub body : IsBody parts.signed.payload (with_alg o.hash payload)
   pub disclosures : AllZip (λ (d : Text) (x : Given). (salt : Tree) × IsDisclosure d salt x.name x.value) parts.disclosures given
 
 decoys_texts : (dg : ℕ → Text) (n : ℕ) (places : List Path) → ((d : ℕ) → d < length places → IsUtf8 (dg (n + d))) → (q : Path) → AllTexts (decoys_at dg n places q)
@@ -96,10 +96,10 @@ decoys_texts dg n (place ∷ places) each q = go (same_path place q) (decoys_tex
     go false rest = rest
     go true rest = λ d there. front d rest there
 
-with_alg_depth : (t : Tree) (c : ℕ) → depth t ≤ suc c → depth (with_alg t) ≤ suc c
-with_alg_depth (leaf l) c h = h
-with_alg_depth (array es) c h = h
-with_alg_depth (object ms) c h = omega (arith, inserted_depth ms alg_name (leaf (text (codes "sha-256"))) c (omega arith) (omega (arith, h)))
+with_alg_depth : (hash : HashAlg) (t : Tree) (c : ℕ) → depth t ≤ suc c → depth (with_alg hash t) ≤ suc c
+with_alg_depth hash (leaf l) c h = h
+with_alg_depth hash (array es) c h = h
+with_alg_depth hash (object ms) c h = omega (arith, inserted_depth ms alg_name (leaf (text (hash_name hash))) c (omega arith) (omega (arith, h)))
 
 -- the digests, and no text behind them
 abbrev first_texts : (ℕ → Text) → ℕ → ℕ → Text
@@ -130,10 +130,10 @@ module _ (seed : List ℕ) (o : Order) (p : Tree) (g : List Given) (dg : ℕ →
   mark_utf8 k l =
       let there = At-get g k (omega (arith, l, count)) in
       let x = there.0 in
-      subst IsUtf8 (sym (laid.disclosures k x there.1)) (b64_utf8 (hash_of HashAlg.Sha256 ((maker_of seed).disclosure k x.name x.value)))
+      subst IsUtf8 (sym (laid.disclosures k x there.1)) (b64_utf8 (hash_of o.hash ((maker_of seed).disclosure k x.name x.value)))
 
   decoy_utf8 : (d : ℕ) → d < length (decoys_of o) → IsUtf8 (dg (hidden_of o + d))
-  decoy_utf8 d l = subst IsUtf8 (sym (laid.decoys d l)) (b64_utf8 (hash_of HashAlg.Sha256 (salt_of seed (hidden_of o + d))))
+  decoy_utf8 d l = subst IsUtf8 (sym (laid.decoys d l)) (b64_utf8 (hash_of o.hash (salt_of seed (hidden_of o + d))))
 
   dh : ℕ → Text
   dh = first_texts dg (hidden_of o)
@@ -162,16 +162,16 @@ module _ (seed : List ℕ) (o : Order) (p : Tree) (g : List Given) (dg : ℕ →
       let same = laid.given_laid ∙ items_agree dg dh dec dec (λ q. refl) (marked_claims o) agree in
       items_texts dh (first_utf8 dg (hidden_of o) mark_utf8) dec decoys_are (marked_claims o) claims_texts x (subst (λ (xs : List Given). In x xs) same m)
 
-  pub body_back : (part : Text) → part ≡ b64 (json_text (with_alg p)) → IsBody part (with_alg p)
+  pub body_back : (part : Text) → part ≡ b64 (json_text (with_alg o.hash p)) → IsBody part (with_alg o.hash p)
   body_back part is =
       let readable = laid_is_readable_holds (maker_of seed) o p g dg writable.good laid in
       let is_object = payload_object (maker_of seed) o p g dg writable.good laid in
       let low = payload_depth (maker_of seed) o p g dg laid in
       let shallow = writable.good.shallow in
-      let carried = carried_back part (with_alg p) is (with_alg_texts p payload_texts) (with_alg_ranged p (payload_ranged (maker_of seed) o p g dg laid writable.ranged)) (with_alg_ordered p readable.in_payload) (with_alg_depth p 126 (omega (arith, low, shallow))) in
-      body_of_object (with_alg p) (with_alg_is_object p is_object) carried
+      let carried = carried_back part (with_alg o.hash p) is (with_alg_texts o.hash p payload_texts) (with_alg_ranged o.hash p (payload_ranged (maker_of seed) o p g dg laid writable.ranged)) (with_alg_ordered o.hash p readable.in_payload) (with_alg_depth o.hash p 126 (omega (arith, low, shallow))) in
+      body_of_object (with_alg o.hash p) (with_alg_is_object p is_object) carried
     where
-      with_alg_is_object : (t : Tree) → IsObject t → IsObject (with_alg t)
+      with_alg_is_object : (t : Tree) → IsObject t → IsObject (with_alg o.hash t)
       with_alg_is_object (object ms) h = tt
       with_alg_is_object (leaf l) h = absurd h
       with_alg_is_object (array es) h = absurd h

@@ -16,11 +16,11 @@ use Rattle.issuer_core.specs.Issued.{IsIssuedFor}
 abbrev pub header_of : Order → Header
 header_of o = record { alg = codes "HS256"; kid = o.kid; typ = o.typ }
 
--- the parts are the texts of this payload, to which the name of the hash is put, and of these disclosures, with a good
+-- the parts are the texts of this payload, to which the name of the order's hash is put, and of these disclosures, with a good
 -- signature and without a key binding token
 pub record IsWritten (maker : Maker) (o : Order) (good : Meaning) (payload : Tree) (given : List Given) (parts : Parts) : Type 0 where
   pub protected : parts.signed.protected ≡ b64 (json_text (object (header_members (header_of o))))
-  pub body : parts.signed.payload ≡ b64 (json_text (with_alg payload))
+  pub body : parts.signed.payload ≡ b64 (json_text (with_alg o.hash payload))
   pub signature : List ℕ
   pub signature_text : parts.signed.signature ≡ b64 signature
   pub signed : good parts.signed.protected parts.signed.payload signature

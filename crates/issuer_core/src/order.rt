@@ -5,6 +5,7 @@ ghost use Rattle.claim_tree.specs.View.{tree_of};
 ghost use Rattle.issuer_core.specs.Order.{order_of};
 
 use claim_tree::{Path, PathList, Tree, copy, copy_paths};
+use disclosure::HashAlg;
 use sd_outside::{NoMemory, TextBox, copy_text};
 use std::alloc::Global;
 use std::marker::Model;
@@ -106,6 +107,8 @@ pub struct Order {
     pub kid: Option<TextBox>,
     /// The type, for the header (RFC 7515 section 4.1.9).
     pub typ: Option<TextBox>,
+    /// The hash of the digests, which the payload names (RFC 9901 section 4.1.1).
+    pub hash: HashAlg,
 }
 
 impl Order {
@@ -124,6 +127,7 @@ impl Order {
             decoys,
             kid,
             typ,
+            hash: self.hash,
         })
     }
 }

@@ -7,10 +7,11 @@ ghost use Rattle.claim_tree.specs.View.{tree_of};
 ghost use Rattle.claim_tree.specs.ListViews.{elements_of};
 ghost use Rattle.claim_tree.specs.FileForms.{HasValue, Says, SaysOr, MemberMeets, required, optional, found};
 ghost use Rattle.claim_tree.specs.FileRefusals.{IsMemberRefused};
-ghost use Rattle.claim_tree.specs.declared.file_fault.Field.TheVariants.{Payload, Decoys};
+ghost use Rattle.claim_tree.specs.declared.file_fault.Field.TheVariants.{Payload, Decoys, SdAlg};
 ghost use Rattle.claim_tree.specs.FileLists.{IsListOf, EachSays};
+ghost use Rattle.disclosure.specs.declared.digests.HashAlg.{HashAlg};
 ghost use Rattle.issuer_core.specs.declared.order.Decoy.{Decoy as Seen};
-ghost use Rattle.issuer_core.specs.OrderFile.{IsValue, IsDecoy, IsOrderFile, IsOrderFileRefused};
+ghost use Rattle.issuer_core.specs.OrderFile.{IsValue, IsDecoy, IsHashText, IsOrderFile, IsOrderFileRefused};
 
 use crate::{Decoy, DecoyList, Order};
 use claim_tree::{
@@ -18,17 +19,19 @@ use claim_tree::{
     whole_up_to,
 };
 use compact_form::FILE_MAX;
+use disclosure::{HashAlg, hash_named};
 use hmac_sign::{Hs256Key, key_member};
 use sd_outside::NoMemory;
 use std::alloc::Global;
 
-const FIELDS: [Field; 6] = [
+const FIELDS: [Field; 7] = [
     Field::Payload,
     Field::Hide,
     Field::Decoys,
     Field::Key,
     Field::Kid,
     Field::Typ,
+    Field::SdAlg,
 ];
 
 // The most decoys of one entry, as many as an order may have.
@@ -118,11 +121,36 @@ fn decoys_member(alloc: Global, members: &TreeMap) -> Result<DecoyList, FileFaul
     }
 }
 
+// The hash whose name the tree is.
+fn hash_of(tree: &Tree) -> Option<HashAlg>
+    ensures hash { IfSome result (IsHashText (tree_of tree.now)) }
+    ensures none { IfNone result (HasValue IsHashText (tree_of tree.now) → ⊥) }
+{
+    match tree {
+        Tree::Text(text) => hash_named(text.as_str()),
+        _ => None,
+    }
+}
+
+fn hash_member(members: &TreeMap) -> Result<HashAlg, FileFault>
+    ensures ok { IfOk result (SaysOr IsHashText HashAlg.Sha256 (found members.now SdAlg)) }
+    ensures refused { IfErr result (IsMemberRefused (optional SdAlg IsHashText) members.now) }
+{
+    let Some(tree) = members.get(Field::SdAlg.word()) else {
+        return Ok(HashAlg::Sha256);
+    };
+    match hash_of(tree) {
+        Some(hash) => Ok(hash),
+        None => Err(FileFault::Wrong(Field::SdAlg)),
+    }
+}
+
 /// The order that a file says: a JSON object that must have `payload`, any JSON value, and `key`, the base64url text of at
 /// least 32 bytes.
 ///
 /// `hide` is a list of JSON Pointers, and `decoys` a list of objects of just `at`, a pointer, and `count`, from 0 to 4,096; where
-/// they are missing they are empty. `kid` and `typ` are texts. Another member is a fault.
+/// they are missing they are empty. `kid` and `typ` are texts. `sd_alg` is the name of a hash, and `sha-256` where it is missing.
+/// Another member is a fault.
 pub fn read_order(alloc: Global, bytes: &[u8]) -> Result<IssueFile, FileFault>
     ensures ok { IfOk result (IsOrderFile bytes.now) }
     ensures ranged { IfOk result (λ said. IsRanged (tree_of said.order.payload)) }
@@ -138,12 +166,14 @@ pub fn read_order(alloc: Global, bytes: &[u8]) -> Result<IssueFile, FileFault>
     let key = key_member(alloc, &members, Field::Key)?;
     let kid = text_member(alloc, &members, Field::Kid)?;
     let typ = text_member(alloc, &members, Field::Typ)?;
+    let hash = hash_member(&members)?;
     let order = Order {
         payload: into_payload(members),
         hide,
         decoys,
         kid,
         typ,
+        hash,
     };
     Ok(IssueFile { order, key })
 }

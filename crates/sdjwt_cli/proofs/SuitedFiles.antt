@@ -213,7 +213,7 @@ order_ordered : MembersOrdered order_members
 order_ordered = search rules
 
 abbrev asked : IssueFile
-asked = record { order = record { payload = code.Tree.Object claims_members; hide = order.hide; decoys = []; kid = None; typ = order.typ }; key = issuer_key }
+asked = record { order = record { payload = code.Tree.Object claims_members; hide = order.hide; decoys = []; kid = None; typ = order.typ; hash = order.hash }; key = issuer_key }
 
 pub is_asked : IsOrderFile order_file asked
 is_asked = record {
@@ -225,6 +225,7 @@ is_asked = record {
   key = issuer_text;
   kid = tt;
   typ = refl;
+  hash = refl;
 }
 
 abbrev pub seed_file : Text

@@ -6,6 +6,7 @@ use Rattle.claim_tree.specs.Path.{is_front, tree_at}
 use Rattle.compact_form.specs.Lowest.{NoneFails}
 use Rattle.compact_form.specs.declared.condition.Condition.{Condition}
 use Rattle.compact_form.proofs.Lowest.{holds_too, none_fails}
+use Rattle.disclosure.specs.declared.digests.HashAlg.{HashAlg}
 use Rattle.hmac_sign.specs.Hmac.{key_block}
 use Rattle.jws_part.specs.Times.{IsTimeUnreadable}
 use Rattle.key_binding.specs.declared.policy.BindingPolicy.{BindingPolicy}
@@ -40,6 +41,7 @@ order = record {
   decoys = [];
   kid = None;
   typ = Some (codes "dc+sd-jwt");
+  hash = HashAlg.Sha256;
 }
 
 -- two keys of 32 bytes

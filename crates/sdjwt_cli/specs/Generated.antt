@@ -3,6 +3,7 @@ use Rattle.std.specs.Prelude.{ℕ, zero, suc, ◌%◌, ◌==◌, pos, List, [], 
 use Rattle.std.specs.Fmt.{decimal}
 use Rattle.sd_outside.specs.Limits.{seed_len, key_min}
 use Rattle.claim_tree.specs.Tree.{Text, Tree, leaf, whole, array, object, no_elements, element, Members, no_members, member, inserted}
+use Rattle.disclosure.specs.declared.digests.HashAlg.{HashAlg}
 use Rattle.hmac_sign.specs.Hmac.{key_block}
 use Rattle.hmac_sign.specs.declared.key_set.NamedKey.{NamedKey}
 use Rattle.marked_tree.specs.Paths.{Path}
@@ -70,6 +71,7 @@ generated n = record {
   decoys = one_decoy;
   kid = None;
   typ = None;
+  hash = HashAlg.Sha256;
 }
 
 -- ---- who signs, asks and verifies

@@ -9,6 +9,7 @@ ghost use Rattle.sdjwt_cli.specs.GeneratedSteps.{with_member, HasMember, HasNoOt
 
 use b64url_text::encode;
 use claim_tree::{Path, PathList, Tree, TreeList, TreeMap, position};
+use disclosure::HashAlg;
 use hmac_sign::{Hs256Key, KeySet, KeySetError, KeyShort};
 use holder_core::Ask;
 use issuer_core::{Decoy, DecoyList, Order};
@@ -190,6 +191,7 @@ pub(crate) fn order_of(alloc: Global, count: u32) -> Result<Order, NoMemory>
         decoys,
         kid: None,
         typ: None,
+        hash: HashAlg::Sha256,
     })
 }
 

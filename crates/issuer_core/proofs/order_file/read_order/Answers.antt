@@ -4,11 +4,11 @@ use Rattle.sd_outside.specs.Limits.{file_max}
 use Rattle.claim_tree.specs.View.{tree_of}
 use Rattle.claim_tree.specs.FileForms.{IsText, Entry, required, optional, found}
 use Rattle.claim_tree.specs.FileWords.{field_word}
-use Rattle.claim_tree.specs.declared.file_fault.Field.TheVariants.{Payload, Hide, Decoys, Key, Kid, Typ}
+use Rattle.claim_tree.specs.declared.file_fault.Field.TheVariants.{Payload, Hide, Decoys, Key, Kid, Typ, SdAlg}
 use Rattle.claim_tree.proofs.FileMembers.{says_meets, may_say_meets, says_or_meets, member_refused}
 use Rattle.claim_tree.specs.FileLists.{IsListOf, IsPointer}
 use Rattle.hmac_sign.specs.KeyText.{IsKeyText}
-use Rattle.issuer_core.specs.OrderFile.{IsValue, IsDecoy}
+use Rattle.issuer_core.specs.OrderFile.{IsValue, IsDecoy, IsHashText}
 use Rattle.issuer_core.proofs.OrderFiles.{value_ranged, value_depth, counts_within}
 use Rattle.issuer_core.proofs.order_file.read_order.Goals as goal
 
@@ -30,6 +30,9 @@ kid = optional Kid IsText
 abbrev typ : Entry
 typ = optional Typ IsText
 
+abbrev hash : Entry
+hash = optional SdAlg IsHashText
+
 pub into_payload-requires : goal.into_payload-requires
 into_payload-requires c = c.in_ok-need_payload.ensures.there
 
@@ -38,7 +41,7 @@ returns-in_err-hide-clause-refused c =
     let handed = err_from_is_err_and c.from_residual-in_err-hide.result c.from_residual-in_err-hide.ensures.1 in
     let ms = c.in_ok-members.members in
     let payload_meets = c.in_ok-need_payload.ensures.there in
-    rw (handed.1, handed.2) (member_refused file_max (payload ∷ []) hide (decoys ∷ key ∷ kid ∷ typ ∷ []) c.args.bytes.now ms c.in_err-hide.field-0.0 c.in_ok-members.ensures.ok (payload_meets, tt) c.in_err-hide.ensures.refused)
+    rw (handed.1, handed.2) (member_refused file_max (payload ∷ []) hide (decoys ∷ key ∷ kid ∷ typ ∷ hash ∷ []) c.args.bytes.now ms c.in_err-hide.field-0.0 c.in_ok-members.ensures.ok (payload_meets, tt) c.in_err-hide.ensures.refused)
 
 pub returns-in_err-decoys-clause-refused : goal.returns-in_err-decoys-clause-refused
 returns-in_err-decoys-clause-refused c =
@@ -46,7 +49,7 @@ returns-in_err-decoys-clause-refused c =
     let ms = c.in_ok-members.members in
     let payload_meets = c.in_ok-need_payload.ensures.there in
     let hide_meets = says_or_meets (IsListOf IsPointer) [] Hide ms c.in_ok-hide.hide c.in_ok-hide.ensures.ok in
-    rw (handed.1, handed.2) (member_refused file_max (payload ∷ hide ∷ []) decoys (key ∷ kid ∷ typ ∷ []) c.args.bytes.now ms c.in_err-decoys.field-0.0 c.in_ok-members.ensures.ok (payload_meets, (hide_meets, tt)) c.in_err-decoys.ensures.refused)
+    rw (handed.1, handed.2) (member_refused file_max (payload ∷ hide ∷ []) decoys (key ∷ kid ∷ typ ∷ hash ∷ []) c.args.bytes.now ms c.in_err-decoys.field-0.0 c.in_ok-members.ensures.ok (payload_meets, (hide_meets, tt)) c.in_err-decoys.ensures.refused)
 
 pub returns-in_err-key-clause-refused : goal.returns-in_err-key-clause-refused
 returns-in_err-key-clause-refused c =
@@ -55,7 +58,7 @@ returns-in_err-key-clause-refused c =
     let payload_meets = c.in_ok-need_payload.ensures.there in
     let hide_meets = says_or_meets (IsListOf IsPointer) [] Hide ms c.in_ok-hide.hide c.in_ok-hide.ensures.ok in
     let decoys_meet = says_or_meets (IsListOf IsDecoy) [] Decoys ms c.in_ok-decoys.decoys c.in_ok-decoys.ensures.ok in
-    rw (handed.1, handed.2) (member_refused file_max (payload ∷ hide ∷ decoys ∷ []) key (kid ∷ typ ∷ []) c.args.bytes.now ms c.in_err-key.field-0.0 c.in_ok-members.ensures.ok (payload_meets, (hide_meets, (decoys_meet, tt))) c.in_err-key.ensures.refused)
+    rw (handed.1, handed.2) (member_refused file_max (payload ∷ hide ∷ decoys ∷ []) key (kid ∷ typ ∷ hash ∷ []) c.args.bytes.now ms c.in_err-key.field-0.0 c.in_ok-members.ensures.ok (payload_meets, (hide_meets, (decoys_meet, tt))) c.in_err-key.ensures.refused)
 
 pub returns-in_err-kid-clause-refused : goal.returns-in_err-kid-clause-refused
 returns-in_err-kid-clause-refused c =
@@ -65,7 +68,7 @@ returns-in_err-kid-clause-refused c =
     let hide_meets = says_or_meets (IsListOf IsPointer) [] Hide ms c.in_ok-hide.hide c.in_ok-hide.ensures.ok in
     let decoys_meet = says_or_meets (IsListOf IsDecoy) [] Decoys ms c.in_ok-decoys.decoys c.in_ok-decoys.ensures.ok in
     let key_meets = says_meets IsKeyText Key ms c.in_ok-key.key c.in_ok-key.ensures.ok in
-    rw (handed.1, handed.2) (member_refused file_max (payload ∷ hide ∷ decoys ∷ key ∷ []) kid (typ ∷ []) c.args.bytes.now ms c.in_err-kid.field-0.0 c.in_ok-members.ensures.ok (payload_meets, (hide_meets, (decoys_meet, (key_meets, tt)))) c.in_err-kid.ensures.refused)
+    rw (handed.1, handed.2) (member_refused file_max (payload ∷ hide ∷ decoys ∷ key ∷ []) kid (typ ∷ hash ∷ []) c.args.bytes.now ms c.in_err-kid.field-0.0 c.in_ok-members.ensures.ok (payload_meets, (hide_meets, (decoys_meet, (key_meets, tt)))) c.in_err-kid.ensures.refused)
 
 pub returns-in_err-typ-clause-refused : goal.returns-in_err-typ-clause-refused
 returns-in_err-typ-clause-refused c =
@@ -76,7 +79,19 @@ returns-in_err-typ-clause-refused c =
     let decoys_meet = says_or_meets (IsListOf IsDecoy) [] Decoys ms c.in_ok-decoys.decoys c.in_ok-decoys.ensures.ok in
     let key_meets = says_meets IsKeyText Key ms c.in_ok-key.key c.in_ok-key.ensures.ok in
     let kid_meets = may_say_meets IsText Kid ms c.in_ok-kid.kid c.in_ok-kid.ensures.ok in
-    rw (handed.1, handed.2) (member_refused file_max (payload ∷ hide ∷ decoys ∷ key ∷ kid ∷ []) typ [] c.args.bytes.now ms c.in_err-typ.field-0.0 c.in_ok-members.ensures.ok (payload_meets, (hide_meets, (decoys_meet, (key_meets, (kid_meets, tt))))) c.in_err-typ.ensures.refused)
+    rw (handed.1, handed.2) (member_refused file_max (payload ∷ hide ∷ decoys ∷ key ∷ kid ∷ []) typ (hash ∷ []) c.args.bytes.now ms c.in_err-typ.field-0.0 c.in_ok-members.ensures.ok (payload_meets, (hide_meets, (decoys_meet, (key_meets, (kid_meets, tt))))) c.in_err-typ.ensures.refused)
+
+pub returns-in_err-hash-clause-refused : goal.returns-in_err-hash-clause-refused
+returns-in_err-hash-clause-refused c =
+    let handed = err_from_is_err_and c.from_residual-in_err-hash.result c.from_residual-in_err-hash.ensures.1 in
+    let ms = c.in_ok-members.members in
+    let payload_meets = c.in_ok-need_payload.ensures.there in
+    let hide_meets = says_or_meets (IsListOf IsPointer) [] Hide ms c.in_ok-hide.hide c.in_ok-hide.ensures.ok in
+    let decoys_meet = says_or_meets (IsListOf IsDecoy) [] Decoys ms c.in_ok-decoys.decoys c.in_ok-decoys.ensures.ok in
+    let key_meets = says_meets IsKeyText Key ms c.in_ok-key.key c.in_ok-key.ensures.ok in
+    let kid_meets = may_say_meets IsText Kid ms c.in_ok-kid.kid c.in_ok-kid.ensures.ok in
+    let typ_meets = may_say_meets IsText Typ ms c.in_ok-typ.typ c.in_ok-typ.ensures.ok in
+    rw (handed.1, handed.2) (member_refused file_max (payload ∷ hide ∷ decoys ∷ key ∷ kid ∷ typ ∷ []) hash [] c.args.bytes.now ms c.in_err-hash.field-0.0 c.in_ok-members.ensures.ok (payload_meets, (hide_meets, (decoys_meet, (key_meets, (kid_meets, (typ_meets, tt)))))) c.in_err-hash.ensures.refused)
 
 pub returns-clause-ranged : goal.returns-clause-ranged
 returns-clause-ranged c = value_ranged c.in_ok-members.members (field_word Payload) (tree_of c.into_payload.result) c.in_ok-members.ensures.ranged c.into_payload.ensures
