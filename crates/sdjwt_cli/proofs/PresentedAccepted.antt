@@ -156,13 +156,11 @@ module _ (seed : List ℕ) (o : Order) (key : List ℕ) (parts : Parts) (good : 
         let suit = suits.bound b fails.asked in
         let made = made_binding ask.binding answer.binding suit.ask fails.token presented.bound suit.asked_for fails.sent in
         let j = judged fails.token payload b policy.skew o.hash (hashed answer) later in
-        let is_binding = subst (λ (x : Text). IsBinding (IsGood signing) o.hash (hashed answer) b.aud x now fails.token) suit.nonce
-        (subst (λ (x : Text). IsBinding (IsGood signing) o.hash (hashed answer) x suit.ask.nonce now fails.token) suit.aud made.is_binding) in
-        let read_back = subst (λ (x : Text). IsReadBack o.hash (hashed answer) b.aud x now fails.token) suit.nonce
-        (subst (λ (x : Text). IsReadBack o.hash (hashed answer) x suit.ask.nonce now fails.token) suit.aud made.read_back) in
+        let is_binding = subst (λ (x : Text). IsBinding (IsGood signing) o.hash (hashed answer) suit.ask.aud x now fails.token) suit.nonce made.is_binding in
+        let read_back = subst (λ (x : Text). IsReadBack o.hash (hashed answer) suit.ask.aud x now fails.token) suit.nonce made.read_back in
         let kid : holder_kid payload ≡ Some suit.ask.kid = ap holder_kid shown ∙ names_ask ask.binding suit.ask presented.names suit.asked_for in
         let found : holder_key b.keys payload ≡ Some signing = ap (option_and_then (key_named b.keys)) kid ∙ suit.known in
-        accepted signing now j is_binding read_back found suit.not_stale suit.not_early c place fails.fails
+        accepted signing suit.ask.aud now j is_binding read_back suit.aud found suit.not_stale suit.not_early c place fails.fails
 
     hash_passes : (payload : Tree) (hash : HashAlg) → HasHash (alone answer) hash → payload ≡ shown_for (marked_claims o) ask.want → (c : Condition) (place : Place) → HolderFails answer payload hash policy later c place → ⊥
     hash_passes payload hash has shown c place fails =

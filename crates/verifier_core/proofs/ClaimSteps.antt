@@ -10,7 +10,7 @@ use Rattle.claim_tree.proofs.Counting.{before_or_at}
 use Rattle.claim_tree.proofs.Lists.{At-same}
 use Rattle.compact_form.specs.declared.condition.Condition.{Condition}
 use Rattle.compact_form.specs.Condition.{number_of}
-use Rattle.verifier_core.specs.Verdict.{ClaimFails}
+use Rattle.verifier_core.specs.Verdict.{ClaimFails, IsIssuerRefused}
 use Rattle.verifier_core.specs.declared.policy.Policy.{Policy}
 use Rattle.compact_form.specs.Passing.{Passes}
 use Rattle.compact_form.proofs.Lowest.{holds_too}
@@ -62,8 +62,8 @@ module _ (payload : Tree) (policy : Policy) (now : ℕ) where
   pub before_issuer : Passes 22 (ClaimFails payload policy now)
   before_issuer c place h = let n = claim_numbers payload policy now c place h in omega (arith, n.0)
 
-  pub before_missing : ((iss : Text) → policy.iss ≡ Some iss → get payload (codes "iss") ≢ Some (leaf (text iss)) → ⊥) → Passes 23 (ClaimFails payload policy now)
-  before_missing holds = holds_too (ClaimFails payload policy now) Condition.IssuerRefused before_issuer (λ place h. holds h.1.0 h.1.1 h.1.2)
+  pub before_missing : (IsIssuerRefused policy.iss (get payload (codes "iss")) → ⊥) → Passes 23 (ClaimFails payload policy now)
+  before_missing holds = holds_too (ClaimFails payload policy now) Condition.IssuerRefused before_issuer (λ place h. holds h.1)
 
   pub before_times : Passes 23 (ClaimFails payload policy now) → ((i : ℕ) (name : Text) → StandsAt policy.require i name → get payload name ≢ None) → Passes 24 (ClaimFails payload policy now)
   before_times below holds = holds_too (ClaimFails payload policy now) Condition.ClaimMissing below (λ place h. holds h.0 h.2.0 h.2.1 h.2.2)

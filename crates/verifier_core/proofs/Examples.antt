@@ -1,11 +1,11 @@
 -- Members of a policy, computed from the definitions.
 use Rattle.std.specs.Prelude.{◌≡◌, true, false, codes, refl}
 use Rattle.claim_tree.specs.Tree.{leaf, null, no_members, member}
-use Rattle.claim_tree.specs.FileForms.{fields_of, has_unknown}
-use Rattle.verifier_core.specs.PolicyFile.{policy_table}
+use Rattle.claim_tree.specs.FileForms.{has_unknown}
+use Rattle.verifier_core.specs.PolicyFile.{policy_fields}
 
-known : has_unknown (fields_of policy_table) (member (codes "iss") (leaf null) (member (codes "keys") (leaf null) no_members)) ≡ false
+known : has_unknown policy_fields (member (codes "iss") (leaf null) (member (codes "keys") (leaf null) no_members)) ≡ false
 known = refl
 
-unknown : has_unknown (fields_of policy_table) (member (codes "Keys") (leaf null) no_members) ≡ true
+unknown : has_unknown policy_fields (member (codes "Keys") (leaf null) no_members) ≡ true
 unknown = refl

@@ -1,4 +1,6 @@
 pub mod PolicyFile
+pub mod PolicyVersion
+pub mod VersionTwo
 pub mod Verdict
 pub mod Content
 pub mod Check

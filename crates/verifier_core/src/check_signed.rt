@@ -1,7 +1,6 @@
 // The header of a token, and its signature.
-ghost use Rattle.std.specs.Prelude.{◌≡◌, ℕ, IfErr, OnOk, option_map};
+ghost use Rattle.std.specs.Prelude.{◌≡◌, IfErr, OnOk, option_map};
 ghost use Rattle.std.specs.Option.{option_copied};
-ghost use Rattle.claim_tree.specs.Lists.{StandsAt};
 ghost use Rattle.compact_form.specs.Views.{jwt_of};
 ghost use Rattle.jws_part.specs.Header.{IsHeader};
 ghost use Rattle.verifier_core.specs.Verdict.{key_for as key_for_of, IsAlgRefused, IsTypeRefused};
@@ -14,6 +13,7 @@ use claim_tree::TreeMap;
 use compact_form::{Condition, JwtView};
 use hmac_sign::{Hs256Key, KeySet};
 use jws_part::{HeaderError, read_header};
+use key_binding::is_among;
 use sd_outside::{TextBox, TextList};
 use std::alloc::Global;
 
@@ -32,26 +32,6 @@ fn key_for<'a>(keys: &'a KeySet, kid: Option<&TextBox>) -> Option<&'a Hs256Key>
         Some(kid) => keys.find(kid.as_str()),
         None => keys.first(),
     }
-}
-
-fn is_at(algs: &TextList, i: usize, alg: &str) -> bool
-    ensures { TestTells result (StandsAt algs.now i alg.now) }
-{
-    match algs.at(i) {
-        Some(other) => other.as_str() == alg,
-        None => false,
-    }
-}
-
-fn is_among(algs: &TextList, alg: &str) -> bool
-    ensures { TestTells result ((i : ℕ) × StandsAt algs.now i alg.now) }
-{
-    for i in 0..algs.len() {
-        if is_at(algs, i, alg) {
-            return true;
-        }
-    }
-    false
 }
 
 fn is_alg_refused(algs: &TextList, alg: &str) -> bool

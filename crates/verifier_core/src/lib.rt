@@ -17,6 +17,7 @@ mod claims;
 mod content;
 pub mod laws;
 mod policy;
+mod policy_version;
 mod rules;
 mod verdict;
 
@@ -25,5 +26,6 @@ pub use check::{Checked, CheckedMarks, CheckedPayload, VerifyError, check_token,
 pub use compact_form::fault_line;
 pub use content::Content;
 pub use policy::{Policy, SKEW_MAX, keys_member, read_policy};
+pub use policy_version::AUDIENCES_MAX;
 pub use rules::Rules;
 pub use verdict::{Accepted, verify, verify_payload};
