@@ -32,7 +32,7 @@ const FIELDS: [Field; 6] = [
 ];
 
 // The most decoys of one entry, as many as an order may have.
-const ENTRY_MAX: u32 = 4_096;
+const ENTRY_MAX: u32 = 32_768;
 
 /// What an order file says: the order, and the key that signs.
 #[derive(Drop)]
@@ -121,7 +121,7 @@ fn decoys_member(alloc: Global, members: &TreeMap) -> Result<DecoyList, FileFaul
 /// The order that a file says: a JSON object that must have `payload`, any JSON value, and `key`, the base64url text of at
 /// least 32 bytes.
 ///
-/// `hide` is a list of JSON Pointers, and `decoys` a list of objects of just `at`, a pointer, and `count`, from 0 to 4,096; where
+/// `hide` is a list of JSON Pointers, and `decoys` a list of objects of just `at`, a pointer, and `count`, from 0 to 32,768; where
 /// they are missing they are empty. `kid` and `typ` are texts. Another member is a fault.
 pub fn read_order(alloc: Global, bytes: &[u8]) -> Result<IssueFile, FileFault>
     ensures ok { IfOk result (IsOrderFile bytes.now) }
