@@ -35,7 +35,7 @@ const FIELDS: [Field; 7] = [
 ];
 
 // The most decoys of one entry, as many as an order may have.
-const ENTRY_MAX: u32 = 4_096;
+const ENTRY_MAX: u32 = 32_768;
 
 /// What an order file says: the order, and the key that signs.
 #[derive(Drop)]
@@ -148,7 +148,7 @@ fn hash_member(members: &TreeMap) -> Result<HashAlg, FileFault>
 /// The order that a file says: a JSON object that must have `payload`, any JSON value, and `key`, the base64url text of at
 /// least 32 bytes.
 ///
-/// `hide` is a list of JSON Pointers, and `decoys` a list of objects of just `at`, a pointer, and `count`, from 0 to 4,096; where
+/// `hide` is a list of JSON Pointers, and `decoys` a list of objects of just `at`, a pointer, and `count`, from 0 to 32,768; where
 /// they are missing they are empty. `kid` and `typ` are texts. `sd_alg` is the name of a hash, and `sha-256` where it is missing.
 /// Another member is a fault.
 pub fn read_order(alloc: Global, bytes: &[u8]) -> Result<IssueFile, FileFault>

@@ -2,7 +2,7 @@
 use Rattle.std.proofs.Common.{◌≡◌, ◌≢◌, ◌↔◌, ℕ, zero, suc, List, [], ◌∷◌, slice_get, Option, Some, None, IsTrue, Bool, true, false, not, bytes_eq, refl, sym, subst, ◌∙◌}
 use Rattle.claim_tree.specs.Tree.{Text}
 use Rattle.claim_tree.specs.Lists.{StandsAt}
-use Rattle.claim_tree.proofs.Lists.{At-same, bytes_same, bytes_refl}
+use Rattle.claim_tree.proofs.Lists.{At-same, got_stands, bytes_same, bytes_refl}
 
 pub told_same : (x y : Text) (b : Bool) → b ≡ not (bytes_eq x y) → b ≡ false → x ≡ y
 told_same x y b is off = go (bytes_eq x y) refl (sym is ∙ off)
@@ -22,11 +22,6 @@ pub no_truth : (b : Bool) → b ≡ false → b ≡ true → ⊥
 no_truth b off on = let clash : false ≡ true = sym off ∙ on in cc clash
 
 -- ---- a text at a position
-
-got_stands : (xs : List Text) (i : ℕ) (x : Text) → slice_get xs i ≡ Some x → StandsAt xs i x
-got_stands [] i x h = cc h
-got_stands (y ∷ xs) zero x h = let both : Some y ≡ Some x = h in let same : x ≡ y = sym (cc both) in same
-got_stands (y ∷ xs) (suc i) x h = got_stands xs i x h
 
 pub at_told : (xs : List Text) (i : ℕ) (y x : Text) → slice_get xs i ≡ Some y → (b : Bool) → b ≡ bytes_eq y x → IsTrue b ↔ StandsAt xs i x
 at_told xs i y x there b is = (

@@ -1,8 +1,9 @@
 -- What each version of a policy file says of issuers and audiences.
-use Rattle.std.proofs.Common.{◌≡◌, ◌⊎◌, ⊎_elim, ℕ, zero, suc, ◌+◌, ◌<◌, ◌≤◌, pos, List, [], ◌∷◌, length, slice_get, Option, Some, None, refl, sym, ap, subst, ◌∙◌, arith}
+use Rattle.std.proofs.Common.{◌≡◌, ⊎_elim, ℕ, ◌+◌, ◌<◌, ◌≤◌, pos, List, [], ◌∷◌, length, Option, Some, None, refl, sym, ap, subst, ◌∙◌, arith}
 use Rattle.claim_tree.specs.Tree.{Text, leaf, whole, array, Tree, Elements}
 use Rattle.claim_tree.specs.Lists.{StandsAt}
 use Rattle.claim_tree.proofs.Lists.{At-same}
+use Rattle.claim_tree.proofs.Counting.{before_or_at}
 use Rattle.sd_outside.specs.Limits.{binding_text_max}
 use Rattle.claim_tree.specs.FileForms.{IsText, IsTexts, text_elements, Says, HasValue}
 use Rattle.claim_tree.proofs.FileVerdicts as verdicts
@@ -48,17 +49,9 @@ other_texts P es texts is odd list listed such =
 
 -- ---- the texts of a list
 
-pub got_stands : (texts : List Text) (i : ℕ) (s : Text) → slice_get texts i ≡ Some s → StandsAt texts i s
-got_stands [] i s h = cc h
-got_stands (t ∷ texts) zero s h = let both : Some t ≡ Some s = h in let same : s ≡ t = sym (cc both) in same
-got_stands (t ∷ texts) (suc i) s h = got_stands texts i s h
-
-split : (x y : ℕ) → x < y + 1 → (x < y) ⊎ (x ≡ y)
-split x y l = grind arith
-
 pub one_more : (texts : List Text) (i : ℕ) (s : Text) → StandsAt texts i s → length s ≤ binding_text_max → ((j : ℕ) (t : Text) → j < i → StandsAt texts j t → length t ≤ binding_text_max)
     → (j : ℕ) (t : Text) → j < i + 1 → StandsAt texts j t → length t ≤ binding_text_max
 one_more texts i s at short before j t less there =
     ⊎_elim (λ l. before j t l there)
     (λ same. subst (λ u. length u ≤ binding_text_max) (At-same texts i s t at (subst (λ k. StandsAt texts k t) same there)) short)
-    (split j i less)
+    (before_or_at j i less)

@@ -1,6 +1,6 @@
 -- What the version of a policy file decides: version 1 names one issuer and one audience, version 2 lists them.
 use Rattle.std.specs.Prelude.{◌≡◌, ◌≤◌, ℕ, pos, List, [], ◌∷◌, length}
-use Rattle.sd_outside.specs.Limits.{binding_text_max}
+use Rattle.sd_outside.specs.Limits.{audiences_max, binding_text_max}
 use Rattle.claim_tree.specs.Tree.{Text, whole, leaf, Tree}
 use Rattle.claim_tree.specs.Lists.{In}
 use Rattle.claim_tree.specs.FileForms.{IsText, IsTexts}
@@ -23,10 +23,6 @@ IsIssuers PolicyVersion.Two t issuers = IsTexts t issuers × (1 ≤ length issue
 
 abbrev pub AreShortTexts : List Text → Type 0
 AreShortTexts texts = (s : Text) → In s texts → length s ≤ binding_text_max
-
--- the most audiences of a policy
-abbrev pub audiences_max : ℕ
-audiences_max = 16
 
 -- at least one, no more than there may be, and each short
 pub record AreAudiences (audiences : List Text) : Type 0 where

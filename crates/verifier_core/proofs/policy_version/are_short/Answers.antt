@@ -1,7 +1,7 @@
 use Rattle.std.proofs.Common.{◌≡◌, Some, slice_get, ap, refl, sym, ◌∙◌, arith}
 use Rattle.std.specs.Option.{option_copied}
-use Rattle.claim_tree.proofs.Lists.{At-In, In-At, At-below}
-use Rattle.verifier_core.proofs.PolicyVersions.{got_stands, one_more}
+use Rattle.claim_tree.proofs.Lists.{At-In, In-At, At-below, got_stands}
+use Rattle.verifier_core.proofs.PolicyVersions.{one_more}
 use Rattle.verifier_core.proofs.policy_version.are_short.Goals as goal
 
 pub returns-then-as_str-gt-BINDING_TEXT_MAX : goal.returns-then-as_str-gt-BINDING_TEXT_MAX
