@@ -1,4 +1,3 @@
 pub mod Moved
-pub mod NameTexts
 mod Found
 mod Examples

@@ -9,7 +9,6 @@ use Rattle.claim_tree.proofs.Everywheres.{EachElementIn, EachMemberIn}
 use Rattle.claim_tree.proofs.Lists.{In-append, In-left, In-right, In-map, bytes_same}
 use Rattle.claim_tree.proofs.TreeTexts.{HasTexts, ElementsTexts, MembersTexts}
 use Rattle.digest_sites.specs.Given.{Given}
-use Rattle.digest_sites.proofs.NameTexts.{sd_utf8, dots_utf8}
 use Rattle.digest_sites.specs.Reserved.{sd_name, dots_name, sd_texts, text_list, texts_of, element_digest}
 use Rattle.digest_sites.specs.Sites.{Site, to_member, to_element, sites, element_sites, member_sites, sites_on, own_site, element_site, under}
 use Rattle.marked_tree.specs.Marked.{Marked, MarkedElements, MarkedMembers, marked_member, no_marked_members, put, strip, strip_elements, strip_members}
@@ -20,6 +19,7 @@ use Rattle.rebuild_core.specs.Soundness.{IsReferencedOnce}
 use Rattle.rebuild_core.proofs.ShownBy.{way_step, shown_from}
 use Rattle.rebuild_core.proofs.Marks.{Way, shown_ways}
 use Rattle.issuer_core.specs.Issued.{IsDigestList, HasDigestLists}
+use Rattle.issuer_core.proofs.WrittenTexts.{sd_utf8, dots_utf8}
 
 -- ---- what is shown
 

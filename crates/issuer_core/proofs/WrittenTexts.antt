@@ -14,8 +14,7 @@ use Rattle.disclosure.specs.Digest.{hash_name}
 use Rattle.disclosure.specs.declared.digests.HashAlg.{HashAlg}
 use Rattle.disclosure.proofs.HashNames.{name_utf8}
 use Rattle.digest_sites.specs.Given.{Given}
-use Rattle.digest_sites.proofs.NameTexts.{sd_utf8, dots_utf8}
-use Rattle.digest_sites.specs.Reserved.{sd_name}
+use Rattle.digest_sites.specs.Reserved.{sd_name, dots_name}
 use Rattle.marked_tree.specs.Marked.{Marked, MarkedElements, MarkedMembers, marked_array, marked_element, marked_leaf, marked_member, marked_object, no_marked_elements, no_marked_members, strip, strip_elements, strip_members}
 use Rattle.marked_tree.specs.Paths.{Path}
 use Rattle.rebuild_core.specs.Payload.{alg_name}
@@ -29,6 +28,14 @@ held_texts t h = everywhere_else (λ l leaf_is. leaf_is) (λ es few. tt) (λ nam
 
 abbrev pub AllTexts : List Text → Type 0
 AllTexts ds = (d : Text) → In d ds → IsUtf8 d
+
+pub sd_utf8 : IsUtf8 sd_name
+unfolding sd_name
+sd_utf8 = IsUtf8-are_ascii (codes "_sd") refl
+
+pub dots_utf8 : IsUtf8 dots_name
+unfolding dots_name
+dots_utf8 = IsUtf8-are_ascii (codes "...") refl
 
 alg_utf8 : IsUtf8 alg_name
 unfolding alg_name
