@@ -1,5 +1,5 @@
 /*
- * Calls the library as sdjwt.h says: calls VECTORS [THREADS]
+ * Calls the library as sdjwt.h says: calls VECTORS [THREADS [small]]
  *
  * VECTORS is what vectors.py writes. Each vector is run with a room that just fits, with one that is larger, with one
  * that is too small, and with none; those that verify, behind a handle too. Then the same on several threads at once.
@@ -18,6 +18,7 @@ enum { ISSUE, PRESENT, VERIFY, SHOW, SPLIT, CONVERT };
 #define FILES 16
 #define RUNS 16
 #define BEHIND 8
+#define OWN_STACK (32 * 1024)
 #define FILL 0xA5
 
 struct text {
@@ -209,6 +210,25 @@ static void rules_of_handles(const struct text policy, const struct text token, 
     CHECK(moved.held == NULL && is_filled(guarded.behind, 0, BEHIND), "it is one pointer");
 }
 
+/* A handle that another thread made is used here, and freed. */
+static void *take_over(void *handle) {
+    uint8_t line[128];
+    size_t len;
+    CHECK(sdjwt_policy_verify(handle, (const uint8_t *)"", 0, 0, line, sizeof line, &len) == SDJWT_REFUSED, "of another thread");
+    sdjwt_policy_free(handle);
+    return NULL;
+}
+
+static void hand_over(const struct text policy) {
+    sdjwt_policy handle = SDJWT_POLICY_INIT;
+    uint8_t line[1];
+    size_t len;
+    pthread_t thread;
+    CHECK(sdjwt_policy_new(&handle, policy.bytes, policy.len, line, 0, &len) == SDJWT_DONE, "a policy");
+    CHECK(pthread_create(&thread, NULL, take_over, &handle) == 0 && pthread_join(thread, NULL) == 0, "a thread");
+    CHECK(handle.held == NULL, "it was freed");
+}
+
 static const uint8_t *next;
 
 static uint64_t number(void) {
@@ -286,7 +306,7 @@ static const struct vector *verifying(uint64_t status) {
 }
 
 int main(int count, char **words) {
-    CHECK(count >= 2, "usage: calls VECTORS [THREADS]");
+    CHECK(count >= 2, "usage: calls VECTORS [THREADS [small]]");
     size_t threads = count > 2 ? strtoul(words[2], NULL, 10) : 8;
     CHECK(sdjwt_abi_version() == SDJWT_ABI_VERSION, "the version");
     CHECK(sizeof(sdjwt_policy) == sizeof(void *), "a handle is one pointer");
@@ -296,17 +316,22 @@ int main(int count, char **words) {
         const struct vector *vector = verifying(refused ? SDJWT_REFUSED : SDJWT_DONE);
         const struct run *run = &vector->runs[0];
         rules_of_handles(vector->files[run->first], vector->files[run->second], run->now);
+        hand_over(vector->files[run->first]);
     }
     size_t none = 0;
     run_vectors(&none);
     pthread_t running[64];
     size_t firsts[64];
+    pthread_attr_t attributes;
     CHECK(threads <= 64, "64 threads at most");
+    CHECK(pthread_attr_init(&attributes) == 0, "attributes");
+    if (count > 3) CHECK(pthread_attr_setstacksize(&attributes, SDJWT_STACK + OWN_STACK) == 0, "a small stack");
     for (size_t i = 0; i < threads; i++) {
         firsts[i] = i * vector_count / (threads + 1);
-        CHECK(pthread_create(&running[i], NULL, run_vectors, &firsts[i]) == 0, "a thread");
+        CHECK(pthread_create(&running[i], &attributes, run_vectors, &firsts[i]) == 0, "a thread");
     }
     for (size_t i = 0; i < threads; i++) CHECK(pthread_join(running[i], NULL) == 0, "its end");
+    pthread_attr_destroy(&attributes);
     printf("%zu vectors, then on %zu threads\n", vector_count, threads);
     free_vectors();
     return 0;

@@ -1,6 +1,6 @@
 -- What is handed over is a reply of the command, where its answer is.
 use Rattle.std.proofs.Common.{◌≡◌, ℕ, List, [], inl, inr, ap, ◌∙◌, arith}
-use Rattle.std.specs.Prelude.{◌⊎◌, Result, Ok, Err, IfOk, IfErr, string_bytes}
+use Rattle.std.specs.Prelude.{Result, Ok, Err, IfOk, IfErr, string_bytes}
 use Rattle.std.specs.declared.string.String.{String}
 use Rattle.std.specs.declared.alloc.Global.{Global}
 use Rattle.sd_outside.specs.Status.{status_number}
@@ -11,7 +11,7 @@ use Rattle.sdjwt_cli.specs.Answers.{Reply, gives, refuses, unreadable}
 use Rattle.sdjwt_cli.specs.Stops.{OnRefused, OnUnread, OnUnreadable}
 use Rattle.sdjwt_cli.specs.declared.stop.Stop.{Stop}
 use Rattle.sdjwt_cli.specs.declared.stop.Stop.TheVariants.{Memory, Unread, Unreadable, Refused}
-use Rattle.sdjwt_c.specs.Handed.{IsLeft, IsGiven, IsWritten, IsTooLong, HandsText, WantsRoom, Hands, HandsBy, reply_text}
+use Rattle.sdjwt_c.specs.Handed.{IsLeft, IsGiven, IsTooLong, Hands, HandsBy, reply_text}
 use Rattle.sdjwt_c.specs.Results.{IsHanded}
 
 module _ (Misused : Type 0) (Is : Reply → Type 0) (before after : List ℕ) (len number : ℕ) (told : Status) (number_is : number ≡ status_number told) where

@@ -8,7 +8,7 @@ ghost use Rattle.sdjwt_c.specs.Held.{holds};
 
 use crate::loose::Loose;
 use std::alloc::Global;
-use std::marker::Model;
+use std::marker::{Model, Send};
 use std::ptr::null_mut;
 use verifier_core::Policy;
 
@@ -62,6 +62,9 @@ impl SdjwtPolicy {
         }
     }
 }
+
+// C may take a handle from thread to thread, if one call at a time has it.
+unsafe impl Send for SdjwtPolicy {}
 
 impl Drop for SdjwtPolicy {
     fn drop(self) {

@@ -28,8 +28,8 @@ pub extern "C" fn sdjwt_policy_new(
     ensures kept { result ≢ 0 → handle.new.held ≡ handle.old.held }
 {
     match read(alloc, policy) {
-        Ok(policy) => {
-            put(handle, policy);
+        Ok(kept) => {
+            put(handle, kept);
             leave(Status::Done, len).number()
         }
         Err(stop) => hand(Err(stop), room, len).number(),

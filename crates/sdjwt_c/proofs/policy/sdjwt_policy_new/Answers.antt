@@ -7,7 +7,7 @@ use Rattle.sdjwt_c.proofs.policy.sdjwt_policy_new.Goals as goal
 pub returns-in-Ok-clause-answers : goal.returns-in-Ok-clause-answers
 returns-in-Ok-clause-answers c =
     empty ⊥ (λ reply. PolicyAnswers c.args.policy.now reply) c.args.room.now c.args.room.now c.leave.new.len c.number.result c.leave.result c.number.ensures
-    (record { policy = c.in-Ok.policy.value; is_policy = c.in-Ok.ensures.policy; empty = refl }) c.leave.ensures.status (record { len_is = c.leave.ensures.len; room_is = refl })
+    (record { policy = c.in-Ok.kept.value; is_policy = c.in-Ok.ensures.policy; empty = refl }) c.leave.ensures.status (record { len_is = c.leave.ensures.len; room_is = refl })
 
 pub returns-in-Err-clause-answers : goal.returns-in-Err-clause-answers
 returns-in-Err-clause-answers c =
