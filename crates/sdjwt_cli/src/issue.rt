@@ -74,7 +74,7 @@ fn issue_for(alloc: Global, asked: IssueFile, seed: &[u8; SEED_LEN]) -> Result<S
 }
 
 /// The answer to an order file and a seed file.
-pub(crate) fn issue(alloc: Global, order_file: &[u8], seed_file: &[u8]) -> Result<String, Stop>
+pub fn issue(alloc: Global, order_file: &[u8], seed_file: &[u8]) -> Result<String, Stop>
     ensures issues { IfOk result (λ text. Issues order_file.now seed_file.now (string_bytes text)) }
     ensures refuses { IfErr result (λ stop. OnRefused stop (DoesNotIssue order_file.now seed_file.now)) }
     ensures unreadable { IfErr result (λ stop. OnUnreadable stop (HasNoOrder order_file.now seed_file.now)) }
