@@ -1,14 +1,14 @@
 -- A policy file is judged by the table of its version.
-use Rattle.std.proofs.Common.{◌≡◌, ◌≢◌, pos, List, [], ◌∷◌, Option, Some, None, refl, sym, ap, subst, ◌∙◌}
+use Rattle.std.proofs.Common.{◌≡◌, ◌≢◌, pos, List, [], ◌∷◌, ◌++◌, Option, Some, None, refl, sym, ap, subst, ◌∙◌}
 use Rattle.sd_outside.specs.Limits.{file_max, skew_max}
 use Rattle.claim_tree.specs.Tree.{Text, leaf, whole, Tree, Members}
-use Rattle.claim_tree.specs.FileForms.{IsText, IsTexts, IsWholeUpTo, SaysOr, Entry, required, optional, found, MemberFails, missing, wrong, IsFirstFault, HasMembers, IsFileRefused}
+use Rattle.claim_tree.specs.FileForms.{IsText, IsTexts, IsWholeUpTo, SaysOr, Entry, required, optional, fields_of, found, MemberFails, missing, wrong, IsFirstFault, HasMembers, IsFileRefused}
 use Rattle.claim_tree.specs.FileRefusals.{IsMemberRefused}
 use Rattle.claim_tree.specs.declared.file_fault.Field.{Field}
 use Rattle.claim_tree.specs.declared.file_fault.Field.TheVariants.{Version, Keys, Algs, Typ, Iss, Require, Skew, Binding}
 use Rattle.claim_tree.specs.declared.file_fault.FileFault.{FileFault}
 use Rattle.claim_tree.specs.declared.file_fault.FileFault.TheVariants.{Memory, TooLong, NotJson, NotWhole, NotObject, Unknown, Missing, Wrong}
-use Rattle.claim_tree.proofs.FileMembers.{member_refused}
+use Rattle.claim_tree.proofs.FileMembers.{AllMeet, member_refused, says_or_meets}
 use Rattle.claim_tree.proofs.FileVerdicts as verdicts
 use Rattle.hmac_sign.specs.Keys.{IsKeySet}
 use Rattle.verifier_core.specs.PolicyFile.{IsBindingPolicy, policy_table, policy_fields, IsReadAs, HasPolicyFault, IsPolicyFileRefused}
@@ -41,7 +41,7 @@ odd_version ms fault (wrong t there odd is) = λ e.
 -- ---- from the table to the file, and back
 
 module _ (version : PolicyVersion) (bytes : Text) (ms : Members) (file : HasMembers file_max policy_fields bytes ms) (read_as : IsReadAs version (found ms Version)) where
-  pub by_table : (fault : FileFault) → IsFileRefused file_max (policy_table version) bytes fault → IsPolicyFileRefused bytes fault
+  by_table : (fault : FileFault) → IsFileRefused file_max (policy_table version) bytes fault → IsPolicyFileRefused bytes fault
   by_table Memory h = h
   by_table TooLong h = h
   by_table NotJson h = h
@@ -72,7 +72,7 @@ module _ (version : PolicyVersion) (bytes : Text) (ms : Members) (file : HasMemb
       record { members = h.members; file = h.file; first = subst (λ v. IsFirstFault (policy_table v) h.members (Wrong field)) version_is h.first }
 
 -- the entries behind the version
-abbrev rest_of : PolicyVersion → List Entry
+abbrev pub rest_of : PolicyVersion → List Entry
 rest_of version =
     required Keys IsKeySet
     ∷ optional Algs IsTexts
@@ -97,6 +97,16 @@ by_version bytes ms NotObject file refused = behind bytes ms NotObject file refu
 by_version bytes ms Unknown file refused = behind bytes ms Unknown file refused refused
 by_version bytes ms (Missing field) file refused = behind bytes ms (Missing field) file refused refused
 by_version bytes ms (Wrong field) file refused = behind bytes ms (Wrong field) file refused refused
+
+-- an entry behind the version that is refused, behind others that meet theirs, is the fault of the file
+pub by_entry : (v : PolicyVersion) (bytes : Text) (ms : Members) (front : List Entry) (entry : Entry) (rest : List Entry) (fault : FileFault) → front ++ entry ∷ rest ≡ rest_of v
+    → HasMembers file_max policy_fields bytes ms → SaysOr IsVersion PolicyVersion.One (found ms Version) v → AllMeet front ms → IsMemberRefused entry ms fault → IsPolicyFileRefused bytes fault
+by_entry v bytes ms front entry rest fault same file says meet refused =
+    let version = optional Version IsVersion in
+    let meets = says_or_meets IsVersion PolicyVersion.One Version ms v says in
+    let known = subst (λ table. HasMembers file_max (fields_of (version ∷ table)) bytes ms) (sym same) file in
+    let behind_front = member_refused file_max (version ∷ front) entry rest bytes ms fault known (meets, meet) refused in
+    by_table v bytes ms file (says_as (found ms Version) v says) fault (subst (λ table. IsFileRefused file_max (version ∷ table) bytes fault) same behind_front)
 
 -- ---- two faults
 

@@ -24,27 +24,27 @@ use Rattle.verifier_core.proofs.Policies.{one_policy}
 
 named : (ms : Members) (name : Text) → In name (names ms) → (t : Tree) × (member_named ms name ≡ Some t)
 named no_members name h = absurd h
-named (member other u ms) name h = go (bytes_eq other name) refl h
+named (member other u ms) name h = go (bytes_eq other name) refl h (named ms name)
   where
-    go : (b : Bool) → bytes_eq other name ≡ b → (name ≡ other) ⊎ In name (names ms) → (t : Tree) × (cond b (Some u) (member_named ms name) ≡ Some t)
-    go true is at = (u, refl)
-    go false is (inl same) = let clash : true ≡ false = sym (bytes_refl other name (sym same)) ∙ is in absurd (cc clash)
-    go false is (inr rest) = named ms name rest
+    go : (b : Bool) → bytes_eq other name ≡ b → (name ≡ other) ⊎ In name (names ms) → (In name (names ms) → (t : Tree) × (member_named ms name ≡ Some t)) → (t : Tree) × (cond b (Some u) (member_named ms name) ≡ Some t)
+    go true is at rest = (u, refl)
+    go false is (inl same) rest = let clash : true ≡ false = sym (bytes_refl other name (sym same)) ∙ is in absurd (cc clash)
+    go false is (inr at) rest = rest at
 
 has_name : (ms : Members) (name : Text) (t : Tree) → member_named ms name ≡ Some t → In name (names ms)
 has_name no_members name t h = absurd (cc h)
-has_name (member other u ms) name t h = go (bytes_eq other name) refl h
+has_name (member other u ms) name t h = go (bytes_eq other name) refl h (has_name ms name t)
   where
-    go : (b : Bool) → bytes_eq other name ≡ b → cond b (Some u) (member_named ms name) ≡ Some t → (name ≡ other) ⊎ In name (names ms)
-    go true is e = inl (sym (bytes_same other name is))
-    go false is e = inr (has_name ms name t e)
+    go : (b : Bool) → bytes_eq other name ≡ b → cond b (Some u) (member_named ms name) ≡ Some t → (member_named ms name ≡ Some t → In name (names ms)) → (name ≡ other) ⊎ In name (names ms)
+    go true is e rest = inl (sym (bytes_same other name is))
+    go false is e rest = inr (rest e)
 
 any_of : (p : Text → Bool) (xs : List Text) (x : Text) → In x xs → p x ≡ true → list_any p xs ≡ true
 any_of p [] x at h = absurd at
 any_of p (z ∷ xs) x (inl same) h = or_left (p z) (list_any p xs) (ap p (sym same) ∙ h)
 any_of p (z ∷ xs) x (inr at) h = or_right (p z) (list_any p xs) (any_of p xs x at h)
 
-known : Text → Bool
+abbrev known : Text → Bool
 known name = is_known policy_fields name
 
 -- a name of known members is known
@@ -61,6 +61,9 @@ apart a b = go (bytes_eq a b) refl
     go : (c : Bool) → bytes_eq a b ≡ c → (a ≡ b) ⊎ (a ≢ b)
     go true is = inl (bytes_same a b is)
     go false is = inr (λ same. let clash : false ≡ true = sym is ∙ bytes_refl a b same in cc clash)
+
+differ : (a b : Text) → bytes_eq a b ≡ false → a ≢ b
+differ a b is same = let clash : false ≡ true = sym is ∙ bytes_refl a b same in cc clash
 
 -- ---- members that are listed
 
@@ -89,9 +92,9 @@ listed_binding one two binding lists h =
       is = lists.other_is;
       four = lists.as_many ∙ (ap members_len same ∙ h.four);
       aud = subst (λ o. Says (IsAudiences PolicyVersion.Two) o binding.aud) (sym (lists.aud ∙ ap (λ ms. listed (member_named ms (codes "aud"))) same)) (listed_audiences (member_named h.members (codes "aud")) binding.aud h.aud);
-      nonce = subst (λ o. Says IsShortText o binding.nonce) (sym (of (codes "nonce") (λ e. cc e))) h.nonce;
-      keys = subst (λ o. Says IsKeySet o binding.keys) (sym (of (codes "keys") (λ e. cc e))) h.keys;
-      max_age = subst (λ o. Says (IsWholeUpTo age_max) o binding.max_age) (sym (of (codes "max_age") (λ e. cc e))) h.max_age;
+      nonce = subst (λ o. Says IsShortText o binding.nonce) (sym (of (codes "nonce") (differ (codes "nonce") (codes "aud") refl))) h.nonce;
+      keys = subst (λ o. Says IsKeySet o binding.keys) (sym (of (codes "keys") (differ (codes "keys") (codes "aud") refl))) h.keys;
+      max_age = subst (λ o. Says (IsWholeUpTo age_max) o binding.max_age) (sym (of (codes "max_age") (differ (codes "max_age") (codes "aud") refl))) h.max_age;
     }
 
 may_list : (member other : Option Tree) (binding : Option BindingPolicy) → BindingListed member other → MaySay (IsBindingPolicy PolicyVersion.One) member binding → MaySay (IsBindingPolicy PolicyVersion.Two) other binding
@@ -144,13 +147,13 @@ module _ (one two : Text) (policy : Policy) (short : length two ≤ file_max) (s
     file = record { object = record { short = short; reads = says.other_reads }; known = all_known };
     version = PolicyVersion.Two;
     version_is = subst (λ o. SaysOr IsVersion PolicyVersion.One o PolicyVersion.Two) (sym says.second) refl;
-    keys = subst (λ o. Says IsKeySet o policy.keys) (sym (of (codes "keys") (λ e. cc e) (λ e. cc e) (λ e. cc e))) h.keys;
-    algs = subst (λ o. SaysOr IsTexts (codes "HS256" ∷ []) o policy.algs) (sym (of (codes "algs") (λ e. cc e) (λ e. cc e) (λ e. cc e))) h.algs;
-    typ = subst (λ o. MaySay IsText o policy.typ) (sym (of (codes "typ") (λ e. cc e) (λ e. cc e) (λ e. cc e))) h.typ;
+    keys = subst (λ o. Says IsKeySet o policy.keys) (sym (of (codes "keys") (differ (codes "keys") (codes "version") refl) (differ (codes "keys") (codes "iss") refl) (differ (codes "keys") (codes "binding") refl))) h.keys;
+    algs = subst (λ o. SaysOr IsTexts (codes "HS256" ∷ []) o policy.algs) (sym (of (codes "algs") (differ (codes "algs") (codes "version") refl) (differ (codes "algs") (codes "iss") refl) (differ (codes "algs") (codes "binding") refl))) h.algs;
+    typ = subst (λ o. MaySay IsText o policy.typ) (sym (of (codes "typ") (differ (codes "typ") (codes "version") refl) (differ (codes "typ") (codes "iss") refl) (differ (codes "typ") (codes "binding") refl))) h.typ;
     iss = subst (λ o. MaySay (IsIssuers PolicyVersion.Two) o policy.iss) (sym (says.iss ∙ ap (λ ms. listed (found ms Iss)) same_members))
         (listed_issuers (found h.members Iss) policy.iss (subst (λ v. MaySay (IsIssuers v) (found h.members Iss) policy.iss) version_is h.iss));
-    require = subst (λ o. SaysOr IsTexts [] o policy.require) (sym (of (codes "require") (λ e. cc e) (λ e. cc e) (λ e. cc e))) h.require;
-    skew = subst (λ o. SaysOr (IsWholeUpTo skew_max) 0 o policy.skew) (sym (of (codes "skew") (λ e. cc e) (λ e. cc e) (λ e. cc e))) h.skew;
+    require = subst (λ o. SaysOr IsTexts [] o policy.require) (sym (of (codes "require") (differ (codes "require") (codes "version") refl) (differ (codes "require") (codes "iss") refl) (differ (codes "require") (codes "binding") refl))) h.require;
+    skew = subst (λ o. SaysOr (IsWholeUpTo skew_max) 0 o policy.skew) (sym (of (codes "skew") (differ (codes "skew") (codes "version") refl) (differ (codes "skew") (codes "iss") refl) (differ (codes "skew") (codes "binding") refl))) h.skew;
     binding = may_list (found h.members Binding) (found says.others Binding) policy.binding (subst (λ ms. BindingListed (found ms Binding) (found says.others Binding)) same_members says.binding)
         (subst (λ v. MaySay (IsBindingPolicy v) (found h.members Binding) policy.binding) version_is h.binding);
   }
