@@ -46,6 +46,14 @@ pub fn mark_counted(alloc: Global, tree: Tree, paths: PathList) -> Result<(Marke
     Ok((marked, next))
 }
 
+/// How many different paths these are: copies of them are sorted.
+pub fn count_different(alloc: Global, paths: &PathList) -> Result<usize, NoMemory>
+    ensures { IfOk result (λ count. count ≡ distinct_count same_path paths.now) }
+{
+    let paths = copies(alloc, paths)?;
+    Ok(sorted_paths(paths)?.len())
+}
+
 fn copies(alloc: Global, paths: &PathList) -> Result<PathList, NoMemory>
     ensures { IfOk result (λ copies. copies ≡ paths.now) }
 {
