@@ -20,11 +20,11 @@ ghost use Rattle.issuer_core.specs.JudgeCalls.{IsOrderRefused};
 ghost use Rattle.issuer_core.specs.Judging as spec;
 ghost use Rattle.issuer_core.specs.Judging.{PassesBelow};
 
-use crate::hidden::different;
 use crate::reserved::{first_reserved, spells};
 use crate::{DecoyList, IssueError, Order};
 use claim_tree::{Path, PathList, Tree, depth, find};
 use compact_form::COUNT_MAX;
+use marked_tree::count_different;
 use sd_outside::{NoMemory, TextBox};
 use std::alloc::Global;
 
@@ -118,7 +118,7 @@ fn hides_too_many(alloc: Global, hide: &PathList) -> Result<bool, NoMemory>
     if hide.len() <= COUNT_MAX {
         return Ok(false);
     }
-    Ok(different(alloc, hide)?.len() > COUNT_MAX)
+    Ok(count_different(alloc, hide)? > COUNT_MAX)
 }
 
 fn are_too_many(decoys: &DecoyList) -> bool

@@ -46,6 +46,14 @@ pub fn mark_counted(alloc: Global, tree: Tree, paths: PathList) -> Result<(Marke
     Ok((marked, next))
 }
 
+/// How many different paths these are: copies of them are sorted.
+pub fn count_different(alloc: Global, paths: &PathList) -> Result<usize, NoMemory>
+    ensures { IfOk result (λ count. count ≡ distinct_count same_path paths.now) }
+{
+    let paths = copy_paths(alloc, paths)?;
+    Ok(sorted_paths(paths)?.len())
+}
+
 // The paths in their order, each once.
 fn sorted_paths(paths: PathList) -> Result<Vec<Path>, NoMemory>
     ensures same { IfOk result (λ sorted. (path : Steps) → is_among sorted.items path ≡ is_among paths path) }
