@@ -1,42 +1,103 @@
 -- The block of a key, and its pads.
-use Rattle.std.proofs.Common.{◌≡◌, ℕ, ◌-◌, ◌<◌, ◌≤◌, List, Bool, true, false, cond, length, replicate, get_or, bit_xor, refl, ap, sym, ◌∙◌, arith}
+use Rattle.std.proofs.Common.{◌≡◌, ℕ, ◌+◌, ◌-◌, ◌<◌, ◌≤◌, List, ◌++◌, Bool, true, false, cond, length, replicate, take, get_or, bit_xor, append_assoc, refl, ap, sym, ◌∙◌, subst, arith}
 use Rattle.std.specs.Prelude.{nat_lt}
 use Rattle.std.proofs.lemmas.Bool.{ltb-true, ltb-false}
-use Rattle.std.proofs.lemmas.List.{ext_get_or, length-map, get_or-map, length-append, length-replicate, append-nil}
-use Rattle.sha2.specs.Sha256.{sha256}
+use Rattle.std.proofs.lemmas.List.{ext_get_or, length-map, get_or-map, length-append, length-replicate, append-nil, take-map, take-replicate}
+use Rattle.std.proofs.Math.Seq.{take-append-add}
 use Rattle.sha2.proofs.Facts256.{length-sha256}
+use Rattle.sha2.proofs.Facts512.{length-sha384, length-sha512}
+use Rattle.hmac_sign.specs.Algs.{hash_by, block_length, code_length}
 use Rattle.hmac_sign.specs.Hmac.{filled, key_block, xored, hmac}
+use Rattle.hmac_sign.specs.declared.alg.Alg.{Alg}
 
 -- each byte with the pad
-pub xored_each : (block out : List ℕ) (pad : ℕ) → length block ≡ 64 → length out ≡ 64 → ((i : ℕ) → i < 64 → get_or out i 0 ≡ bit_xor (get_or block i 0) pad) → out ≡ xored block pad
+pub xored_each : (block out : List ℕ) (pad : ℕ) → length block ≡ 128 → length out ≡ 128 → ((i : ℕ) → i < 128 → get_or out i 0 ≡ bit_xor (get_or block i 0) pad) → out ≡ xored block pad
 xored_each block out pad whole long each =
     let padded = λ (byte : ℕ). bit_xor byte pad in
     ext_get_or 0 out (xored block pad) (long ∙ sym (length-map block padded ∙ whole))
     (λ i lt. each i (omega (arith, long)) ∙ sym (get_or-map padded block i 0 0 (omega (arith, long, whole))))
 
-filled_whole : (block : List ℕ) → length block ≡ 64 → filled block ≡ block
-filled_whole block whole =
-    let none : 64 - length block ≡ 0 = omega arith in
+-- the front of a block with the pad
+pub xored_front : (n : ℕ) (block : List ℕ) (pad : ℕ) → take n (xored block pad) ≡ xored (take n block) pad
+xored_front n block pad = take-map (λ (byte : ℕ). bit_xor byte pad) n block
+
+filled_whole : (size : ℕ) (block : List ℕ) → length block ≡ size → filled size block ≡ block
+filled_whole size block whole =
+    let none : size - length block ≡ 0 = omega arith in
     rw none (append-nil block)
 
-length-filled : (key : List ℕ) → length key ≤ 64 → length (filled key) ≡ 64
-length-filled key fits = length-append key (replicate (64 - length key) 0) ∙ omega (arith, length-replicate {A = ℕ} (64 - length key) 0)
+length-filled : (size : ℕ) (key : List ℕ) → length key ≤ size → length (filled size key) ≡ size
+length-filled size key fits = length-append key (replicate (size - length key) 0) ∙ omega (arith, length-replicate {A = ℕ} (size - length key) 0)
 
-hashed_fits : (longer : Bool) (key : List ℕ) → nat_lt 64 (length key) ≡ longer → length (cond longer (sha256 key) key) ≤ 64
-hashed_fits true key e = omega (arith, length-sha256 key)
-hashed_fits false key e = omega (arith, ltb-false 64 (length key) e)
+-- the front of a key that is filled
+filled_front : (n size : ℕ) (key : List ℕ) → length key ≤ n → n ≤ size → take n (filled size key) ≡ filled n key
+filled_front n size key fits le =
+    let sum : length key + (n - length key) ≡ n = omega arith in
+    let front = take-append-add key (replicate (size - length key) 0) (n - length key) in
+    let zeros = take-replicate (n - length key) (size - length key) 0 (omega arith) in
+    subst (λ m. take m (filled size key) ≡ filled n key) sum (front ∙ ap (λ (rest : List ℕ). key ++ rest) zeros)
 
-length-key_block : (key : List ℕ) → length (key_block key) ≡ 64
-length-key_block key = length-filled _ (hashed_fits (nat_lt 64 (length key)) key refl)
+pub length-hash_by : (alg : Alg) (text : List ℕ) → length (hash_by alg text) ≡ code_length alg
+length-hash_by Alg.Hs256 text = length-sha256 text
+length-hash_by Alg.Hs384 text = length-sha384 text
+length-hash_by Alg.Hs512 text = length-sha512 text
 
-not_longer : (longer : Bool) (block : List ℕ) → nat_lt 64 (length block) ≡ longer → length block ≡ 64 → cond longer (sha256 block) block ≡ block
-not_longer true block e whole = absurd (omega (arith, ltb-true 64 (length block) e))
-not_longer false block e whole = refl
+code_fits : (alg : Alg) → code_length alg ≤ block_length alg
+code_fits Alg.Hs256 = omega arith
+code_fits Alg.Hs384 = omega arith
+code_fits Alg.Hs512 = omega arith
+
+pub block_fits : (alg : Alg) → block_length alg ≤ 128
+block_fits Alg.Hs256 = omega arith
+block_fits Alg.Hs384 = omega arith
+block_fits Alg.Hs512 = omega arith
+
+hash_fits : (alg : Alg) (key : List ℕ) → length (hash_by alg key) ≤ block_length alg
+hash_fits alg key = omega (arith, length-hash_by alg key, code_fits alg)
+
+hashed_fits : (longer : Bool) (alg : Alg) (key : List ℕ) → nat_lt (block_length alg) (length key) ≡ longer → length (cond longer (hash_by alg key) key) ≤ block_length alg
+hashed_fits true alg key e = hash_fits alg key
+hashed_fits false alg key e = omega (arith, ltb-false (block_length alg) (length key) e)
+
+pub length-key_block : (alg : Alg) (key : List ℕ) → length (key_block alg key) ≡ block_length alg
+length-key_block alg key = length-filled (block_length alg) _ (hashed_fits (nat_lt (block_length alg) (length key)) alg key refl)
+
+-- the front of what is filled to the most bytes of a block
+block_of : (longer : Bool) (alg : Alg) (key out : List ℕ) → nat_lt (block_length alg) (length key) ≡ longer → out ≡ filled 128 (cond longer (hash_by alg key) key) → take (block_length alg) out ≡ key_block alg key
+block_of longer alg key out e is =
+    let fits = hashed_fits longer alg key e in
+    rw (is, e) (filled_front (block_length alg) 128 (cond longer (hash_by alg key) key) fits (block_fits alg))
+
+longer_is : (longer : Bool) (n m : ℕ) → nat_lt n m ≡ longer → n < m → longer ≡ true
+longer_is true n m e lt = refl
+longer_is false n m e lt = absurd (omega (arith, lt, ltb-false n m e))
+
+shorter_is : (longer : Bool) (n m : ℕ) → nat_lt n m ≡ longer → m ≤ n → longer ≡ false
+shorter_is true n m e le = absurd (omega (arith, le, ltb-true n m e))
+shorter_is false n m e le = refl
+
+-- of a key that is longer than a block, and of one that is not
+pub long_block : (alg : Alg) (key out : List ℕ) → block_length alg < length key → out ≡ filled 128 (hash_by alg key) → take (block_length alg) out ≡ key_block alg key
+long_block alg key out lt is = block_of true alg key out (longer_is (nat_lt (block_length alg) (length key)) (block_length alg) (length key) refl lt) is
+
+pub short_block : (alg : Alg) (key out : List ℕ) → length key ≤ block_length alg → out ≡ filled 128 key → take (block_length alg) out ≡ key_block alg key
+short_block alg key out le is = block_of false alg key out (shorter_is (nat_lt (block_length alg) (length key)) (block_length alg) (length key) refl le) is
+
+not_longer : (longer : Bool) (alg : Alg) (block : List ℕ) → nat_lt (block_length alg) (length block) ≡ longer → length block ≡ block_length alg → cond longer (hash_by alg block) block ≡ block
+not_longer true alg block e whole = absurd (omega (arith, whole, ltb-true (block_length alg) (length block) e))
+not_longer false alg block e whole = refl
 
 -- a key of one block is its own block
-pub key_block-whole : (block : List ℕ) → length block ≡ 64 → key_block block ≡ block
-key_block-whole block whole = ap filled (not_longer (nat_lt 64 (length block)) block refl whole) ∙ filled_whole block whole
+pub key_block-whole : (alg : Alg) (block : List ℕ) → length block ≡ block_length alg → key_block alg block ≡ block
+key_block-whole alg block whole =
+    ap (filled (block_length alg)) (not_longer (nat_lt (block_length alg) (length block)) alg block refl whole) ∙ filled_whole (block_length alg) block whole
 
 -- a key and its block give one HMAC
-pub one_key : (key text : List ℕ) → hmac (key_block key) text ≡ hmac key text
-one_key key text = rw (key_block-whole (key_block key) (length-key_block key)) refl
+pub one_key : (alg : Alg) (key text : List ℕ) → hmac alg (key_block alg key) text ≡ hmac alg key text
+one_key alg key text = rw (key_block-whole alg (key_block alg key) (length-key_block alg key)) refl
+
+-- the HMAC under a block, of a text in three pieces
+pub of_block : (alg : Alg) (block head dot body inner code : List ℕ) → length block ≡ block_length alg → inner ≡ hash_by alg (((xored block 0x36 ++ head) ++ dot) ++ body) → code ≡ hash_by alg (xored block 0x5c ++ inner) → code ≡ hmac alg block (head ++ (dot ++ body))
+of_block alg block head dot body inner code whole inner_is code_is =
+    let pieces : ((xored block 0x36 ++ head) ++ dot) ++ body ≡ xored block 0x36 ++ (head ++ (dot ++ body)) = append_assoc (xored block 0x36 ++ head) dot body ∙ append_assoc (xored block 0x36) head (dot ++ body) in
+    code_is ∙ (ap (λ (m : List ℕ). hash_by alg (xored block 0x5c ++ m)) (inner_is ∙ ap (hash_by alg) pieces) ∙ ap (λ (b : List ℕ). hash_by alg (xored b 0x5c ++ hash_by alg (xored b 0x36 ++ (head ++ (dot ++ body))))) (sym (key_block-whole alg block whole)))

@@ -4,29 +4,30 @@ use Rattle.std.specs.Prelude.{replicate}
 use Rattle.sha2.specs.Sha256.{compress, digest_bytes, first_words, hash_after, rounds, schedule, sha256}
 use Rattle.b64url_text.specs.Base64url.{letters, bits, sixes, b64, AreBytes}
 use Rattle.claim_tree.specs.Tree.{Text, Tree, leaf, text, array, object, Elements, no_elements, element, element_at, no_members, member}
-use Rattle.hmac_sign.specs.Hmac.{key_block, xored, hmac, mac}
-use Rattle.hmac_sign.specs.Keys.{key_named, IsKeySet, no_keys, other, key, IsOct}
+use Rattle.hmac_sign.specs.Hmac.{key_block, xored, hmac, hs256_key, mac}
+use Rattle.hmac_sign.specs.Keys.{key_named, picked_key, IsNamedKey, IsKeySet, no_keys, other, key, IsOct}
 use Rattle.hmac_sign.specs.KeyRefusals.{IsKeyNotBase64, KeyShortAt, IsNoKeySet, no_key, no_array}
+use Rattle.hmac_sign.specs.declared.alg.Alg.{Alg}
 use Rattle.hmac_sign.specs.declared.key_set.NamedKey.{NamedKey}
 use Rattle.hmac_sign.proofs.KeySets.{has_code}
 
 -- ---- codes
 
-short_key : key_block (codes "Jefe") ≡ codes "Jefe" ++ replicate 60 0
+short_key : key_block Alg.Hs256 (codes "Jefe") ≡ codes "Jefe" ++ replicate 60 0
 short_key = refl
 
-inner_block : xored (key_block (codes "Jefe")) 0x36 ≡ 0x7C ∷ 0x53 ∷ 0x50 ∷ 0x53 ∷ replicate 60 0x36
+inner_block : xored (key_block Alg.Hs256 (codes "Jefe")) 0x36 ≡ 0x7C ∷ 0x53 ∷ 0x50 ∷ 0x53 ∷ replicate 60 0x36
 inner_block = refl
 
-outer_block : xored (key_block (codes "Jefe")) 0x5c ≡ 0x16 ∷ 0x39 ∷ 0x3A ∷ 0x39 ∷ replicate 60 0x5c
+outer_block : xored (key_block Alg.Hs256 (codes "Jefe")) 0x5c ≡ 0x16 ∷ 0x39 ∷ 0x3A ∷ 0x39 ∷ replicate 60 0x5c
 outer_block = refl
 
 -- what is signed is the head, a full stop and the body
-signing_input : mac (codes "k") (codes "head") (codes "body") ≡ hmac (codes "k") (codes "head.body")
+signing_input : mac (hs256_key (codes "k")) (codes "head") (codes "body") ≡ hmac Alg.Hs256 (codes "k") (codes "head.body")
 signing_input = refl
 
 -- RFC 4231, case 2
-case_2 : hmac (codes "Jefe") (codes "what do ya want for nothing?") ≡
+case_2 : hmac Alg.Hs256 (codes "Jefe") (codes "what do ya want for nothing?") ≡
     0x5B ∷ 0xDC ∷ 0xC1 ∷ 0x46 ∷ 0xBF ∷ 0x60 ∷ 0x75 ∷ 0x4E ∷ 0x6A ∷ 0x04 ∷ 0x24 ∷ 0x26 ∷ 0x08 ∷ 0x95 ∷ 0x75 ∷ 0xC7 ∷
     0x5A ∷ 0x00 ∷ 0x3F ∷ 0x08 ∷ 0x9D ∷ 0x27 ∷ 0x39 ∷ 0x83 ∷ 0x9D ∷ 0xEC ∷ 0x58 ∷ 0xB9 ∷ 0x64 ∷ 0xEC ∷ 0x38 ∷ 0x43 ∷ []
 unfolding first_words schedule rounds compress hash_after digest_bytes sha256
@@ -40,7 +41,7 @@ octets =
     211 ∷ 251 ∷ 90 ∷ 146 ∷ 210 ∷ 6 ∷ 71 ∷ 239 ∷ 150 ∷ 138 ∷ 180 ∷ 195 ∷ 119 ∷ 98 ∷ 61 ∷ 34 ∷
     61 ∷ 46 ∷ 33 ∷ 114 ∷ 5 ∷ 46 ∷ 79 ∷ 8 ∷ 192 ∷ 205 ∷ 154 ∷ 245 ∷ 103 ∷ 208 ∷ 128 ∷ 163 ∷ []
 
-signature : b64 (mac octets (codes "eyJ0eXAiOiJKV1QiLA0KICJhbGciOiJIUzI1NiJ9") (codes "eyJpc3MiOiJqb2UiLA0KICJleHAiOjEzMDA4MTkzODAsDQogImh0dHA6Ly9leGFtcGxlLmNvbS9pc19yb290Ijp0cnVlfQ")) ≡ codes "dBjftJeZ4CVP-mB92K27uhbUJU1p1r_wW1gFWFOEjXk"
+signature : b64 (mac (hs256_key octets) (codes "eyJ0eXAiOiJKV1QiLA0KICJhbGciOiJIUzI1NiJ9") (codes "eyJpc3MiOiJqb2UiLA0KICJleHAiOjEzMDA4MTkzODAsDQogImh0dHA6Ly9leGFtcGxlLmNvbS9pc19yb290Ijp0cnVlfQ")) ≡ codes "dBjftJeZ4CVP-mB92K27uhbUJU1p1r_wW1gFWFOEjXk"
 unfolding first_words schedule rounds compress hash_after digest_bytes sha256 b64 sixes bits letters
 signature = refl
 
@@ -69,8 +70,12 @@ key_two = object (member (codes "k") (word (codes "_____________________________
 abbrev set_of : Elements → Tree
 set_of es = object (member (codes "keys") (array es) no_members)
 
+-- of 32 bytes, which are enough for HS256 alone
 abbrev named : List ℕ → Option Text → NamedKey
-named bytes kid = record { key = key_block bytes; kid = kid }
+named bytes kid = record { kid = kid; hs256 = key_block Alg.Hs256 bytes; hs384 = None; hs512 = None }
+
+abbrev are_kept : (t : Tree) (bytes : List ℕ) (kid : Option Text) → Type 0
+are_kept t bytes kid = IsNamedKey t bytes (named bytes kid)
 
 abbrev zeros : List ℕ
 zeros = replicate 32 0
@@ -89,6 +94,12 @@ is_ones = record { code = codes "__________________________________________8"; i
 abbrev two_keys : List NamedKey
 two_keys = named zeros (Some (codes "one")) ∷ named ones None ∷ []
 
+kept_one : are_kept key_one zeros (Some (codes "one"))
+kept_one = record { kid = refl; hs256 = refl; hs384 = refl; hs512 = refl }
+
+kept_two : are_kept key_two ones None
+kept_two = record { kid = refl; hs256 = refl; hs384 = refl; hs512 = refl }
+
 -- a key of another kind is left out
 set_of_two : IsKeySet (set_of (element of_another_kind (element key_one (element key_two no_elements)))) two_keys
 set_of_two = record {
@@ -96,14 +107,21 @@ set_of_two = record {
   stand = refl;
   good = refl;
   keys_are = other of_another_kind (element key_one (element key_two no_elements)) two_keys refl (
-      key key_one (element key_two no_elements) (named zeros (Some (codes "one"))) (named ones None ∷ []) zeros is_zeros (omega arith) refl refl (
-      key key_two no_elements (named ones None) [] ones is_ones (omega arith) refl refl no_keys
+      key key_one (element key_two no_elements) (named zeros (Some (codes "one"))) (named ones None ∷ []) zeros is_zeros (omega arith) kept_one (
+      key key_two no_elements (named ones None) [] ones is_ones (omega arith) kept_two no_keys
       )
       );
 }
 
 found : key_named two_keys (codes "one") ≡ Some (zeros ++ replicate 32 0)
 found = refl
+
+picked_first : picked_key two_keys None Alg.Hs256 ≡ Some (hs256_key (zeros ++ replicate 32 0))
+picked_first = refl
+
+-- none is long enough
+none_picked : picked_key two_keys None Alg.Hs512 ≡ None
+none_picked = refl
 
 not_found : key_named two_keys (codes "two") ≡ None
 not_found = refl

@@ -3,8 +3,8 @@ use Rattle.std.proofs.Common.{◌≡◌, ◌≢◌, ℕ, zero, suc, ◌≤◌, L
 use Rattle.b64url_text.specs.Base64url.{Decodes}
 use Rattle.b64url_text.proofs.Codes.{one_code}
 use Rattle.claim_tree.specs.Tree.{Text, Tree, Elements, element_at}
-use Rattle.hmac_sign.specs.Hmac.{key_block}
-use Rattle.hmac_sign.specs.Keys.{oct_text, keys_under, are_keys, IsOct, KeysOf, no_keys, other, key, IsKeySet}
+use Rattle.hmac_sign.specs.Hmac.{AlgKey}
+use Rattle.hmac_sign.specs.Keys.{oct_text, keys_under, are_keys, IsNamedKey, IsOct, KeysOf, no_keys, other, key, IsKeySet}
 use Rattle.hmac_sign.specs.KeyRefusals.{IsKeyNotBase64, IsKeyShort, IsNoKeySet, no_array, no_key, KeyNotBase64At, KeyShortAt}
 use Rattle.hmac_sign.specs.declared.key_set.NamedKey.{NamedKey}
 use Rattle.hmac_sign.specs.declared.key_set.KeySetError.{KeySetError}
@@ -18,8 +18,8 @@ no_such : (P : Tree → Type 0) → ((t : Tree) → oct_text t ≡ None → P t 
 no_such P not_other not_oct _ _ no_keys i u at p = absurd (cc at)
 no_such P not_other not_oct _ _ (other t es keys e more) zero u at p = let same : t ≡ u = cc at in not_other t e (subst P (sym same) p)
 no_such P not_other not_oct _ _ (other t es keys e more) (suc i) u at p = no_such P not_other not_oct es keys more i u at p
-no_such P not_other not_oct _ _ (key t es n keys bytes o enough block name more) zero u at p = let same : t ≡ u = cc at in not_oct t bytes o enough (subst P (sym same) p)
-no_such P not_other not_oct _ _ (key t es n keys bytes o enough block name more) (suc i) u at p = no_such P not_other not_oct es keys more i u at p
+no_such P not_other not_oct _ _ (key t es n keys bytes o enough kept more) zero u at p = let same : t ≡ u = cc at in not_oct t bytes o enough (subst P (sym same) p)
+no_such P not_other not_oct _ _ (key t es n keys bytes o enough kept more) (suc i) u at p = no_such P not_other not_oct es keys more i u at p
 
 same_elements : (o : Option Elements) (es fs : Elements) → o ≡ Some es → o ≡ Some fs → es ≡ fs
 same_elements o es fs e f = let both : Some es ≡ Some fs = sym e ∙ f in cc both
@@ -49,18 +49,21 @@ one_oct t bytes more o p =
     let same : o.code ≡ p.code = cc both in
     one_code p.code bytes more (subst (λ code. Decodes code bytes) same o.decodes) p.decodes
 
-one_key : (n m : NamedKey) → n.key ≡ m.key → n.kid ≡ m.kid → n ≡ m
-one_key n m k i =
-    let made : List ℕ → Option Text → NamedKey = λ block kid. record { key = block; kid = kid } in
-    ap (λ block. made block n.kid) k ∙ ap (made m.key) i
+same_named : (n m : NamedKey) → n.kid ≡ m.kid → n.hs256 ≡ m.hs256 → n.hs384 ≡ m.hs384 → n.hs512 ≡ m.hs512 → n ≡ m
+same_named n m k a b c =
+    let made : Option Text → List ℕ → Option AlgKey → Option AlgKey → NamedKey = λ kid x y z. record { kid = kid; hs256 = x; hs384 = y; hs512 = z } in
+    ap (λ kid. made kid n.hs256 n.hs384 n.hs512) k ∙ (ap (λ x. made m.kid x n.hs384 n.hs512) a ∙ (ap (λ y. made m.kid m.hs256 y n.hs512) b ∙ ap (made m.kid m.hs256 m.hs384) c))
+
+one_named : (t : Tree) (bytes : List ℕ) (n m : NamedKey) → IsNamedKey t bytes n → IsNamedKey t bytes m → n ≡ m
+one_named t bytes n m h k = same_named n m (h.kid ∙ sym k.kid) (h.hs256 ∙ sym k.hs256) (h.hs384 ∙ sym k.hs384) (h.hs512 ∙ sym k.hs512)
 
 one_keys : (es : Elements) (keys others : List NamedKey) → KeysOf es keys → KeysOf es others → keys ≡ others
 one_keys _ _ _ no_keys no_keys = refl
 one_keys _ _ _ (other t es keys e more) (other _ _ others f rest) = one_keys es keys others more rest
-one_keys _ _ _ (other t es keys e more) (key _ _ m others bytes o enough block name rest) = let both : None ≡ Some o.code = sym e ∙ o.is in absurd (cc both)
-one_keys _ _ _ (key t es n keys bytes o enough block name more) (other _ _ others f rest) = let both : None ≡ Some o.code = sym f ∙ o.is in absurd (cc both)
-one_keys _ _ _ (key t es n keys bytes o enough block name more) (key _ _ m others bits p long wall word rest) =
-    let same : n ≡ m = one_key n m (block ∙ (ap key_block (one_oct t bytes bits o p) ∙ sym wall)) (name ∙ sym word) in
+one_keys _ _ _ (other t es keys e more) (key _ _ m others bytes o enough kept rest) = let both : None ≡ Some o.code = sym e ∙ o.is in absurd (cc both)
+one_keys _ _ _ (key t es n keys bytes o enough kept more) (other _ _ others f rest) = let both : None ≡ Some o.code = sym f ∙ o.is in absurd (cc both)
+one_keys _ _ _ (key t es n keys bytes o enough kept more) (key _ _ m others bits p long held rest) =
+    let same : n ≡ m = one_named t bits n m (subst (λ bs. IsNamedKey t bs n) (one_oct t bytes bits o p) kept) held in
     ap (λ x. x ∷ keys) same ∙ ap (λ xs. m ∷ xs) (one_keys es keys others more rest)
 
 pub one_key_set : (t : Tree) (keys others : List NamedKey) → IsKeySet t keys → IsKeySet t others → keys ≡ others

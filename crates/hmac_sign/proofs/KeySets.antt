@@ -1,5 +1,5 @@
 -- The elements of a key set, one by one.
-use Rattle.std.proofs.Common.{◌≡◌, ℕ, ◌+◌, ◌<◌, ◌≤◌, List, [], ◌∷◌, ◌++◌, length, get_or, Option, Some, None, IfSome, codes, ◌⊎◌, inl, inr, refl, sym, ap, subst, ◌∙◌, arith}
+use Rattle.std.proofs.Common.{◌≡◌, ℕ, ◌+◌, ◌<◌, ◌≤◌, List, [], ◌∷◌, ◌++◌, length, get_or, Option, Some, None, IfSome, ◌⊎◌, inl, inr, refl, sym, ap, subst, ◌∙◌, arith}
 use Rattle.std.proofs.lemmas.Bool.{cases_lt}
 use Rattle.b64url_text.specs.Base64url.{Decodes}
 use Rattle.b64url_text.proofs.Codes.{one_code}
@@ -10,8 +10,7 @@ use Rattle.claim_tree.specs.View.{tree_of}
 use Rattle.claim_tree.specs.ListViews.{elements_of}
 use Rattle.claim_tree.specs.declared.tree.Tree.{Tree}
 use Rattle.claim_tree.proofs.Views.{element_at-there, element_at-past}
-use Rattle.hmac_sign.specs.Hmac.{key_block}
-use Rattle.hmac_sign.specs.Keys.{text_under, oct_text, IsOct, KeysOf, no_keys, other, key}
+use Rattle.hmac_sign.specs.Keys.{oct_text, IsNamedKey, IsOct, KeysOf, no_keys, other, key}
 use Rattle.hmac_sign.specs.KeyRefusals.{IsKeyNotBase64, IsKeyShort, NoneBefore, IsFirstKey, IsAdded, added_none, added_key}
 use Rattle.hmac_sign.specs.declared.key_set.NamedKey.{NamedKey}
 
@@ -71,17 +70,17 @@ decoded t (Some bytes) none oct = has_code t bytes oct
 pub other_more : (es : Elements) (keys : List NamedKey) (t : spec.Tree) → KeysOf es keys → oct_text t ≡ None → KeysOf (pushed es t) keys
 other_more _ _ t no_keys none = other t no_elements [] none no_keys
 other_more _ _ t (other u es keys e more) none = other u (pushed es t) keys e (other_more es keys t more none)
-other_more _ _ t (key u es n keys bytes o enough block name more) none = key u (pushed es t) n keys bytes o enough block name (other_more es keys t more none)
+other_more _ _ t (key u es n keys bytes o enough kept more) none = key u (pushed es t) n keys bytes o enough kept (other_more es keys t more none)
 
-pub key_more : (es : Elements) (keys : List NamedKey) (t : spec.Tree) (named : NamedKey) (bytes : List ℕ) → KeysOf es keys → IsOct t bytes → 32 ≤ length bytes → named.key ≡ key_block bytes → named.kid ≡ text_under t (codes "kid") → KeysOf (pushed es t) (keys ++ named ∷ [])
-key_more _ _ t named bytes no_keys o enough block name = key t no_elements named [] bytes o enough block name no_keys
-key_more _ _ t named bytes (other u es keys e more) o enough block name = other u (pushed es t) (keys ++ named ∷ []) e (key_more es keys t named bytes more o enough block name)
-key_more _ _ t named bytes (key u es n keys bs p long b k more) o enough block name = key u (pushed es t) n (keys ++ named ∷ []) bs p long b k (key_more es keys t named bytes more o enough block name)
+pub key_more : (es : Elements) (keys : List NamedKey) (t : spec.Tree) (named : NamedKey) (bytes : List ℕ) → KeysOf es keys → IsOct t bytes → 32 ≤ length bytes → IsNamedKey t bytes named → KeysOf (pushed es t) (keys ++ named ∷ [])
+key_more _ _ t named bytes no_keys o enough kept = key t no_elements named [] bytes o enough kept no_keys
+key_more _ _ t named bytes (other u es keys e more) o enough kept = other u (pushed es t) (keys ++ named ∷ []) e (key_more es keys t named bytes more o enough kept)
+key_more _ _ t named bytes (key u es n keys bs p long k more) o enough kept = key u (pushed es t) n (keys ++ named ∷ []) bs p long k (key_more es keys t named bytes more o enough kept)
 
 pub added : (es : Elements) (t : spec.Tree) (old new : List NamedKey) → KeysOf es old → IsAdded t old new → KeysOf (pushed es t) new
 added es t old new before (added_none none same) = rw same (other_more es old t before none)
-added es t old new before (added_key named bytes o enough block name more) = rw more (key_more es old t named bytes before o enough block name)
+added es t old new before (added_key named bytes o enough kept more) = rw more (key_more es old t named bytes before o enough kept)
 
 pub added_long : (t : spec.Tree) (old new : List NamedKey) → IsAdded t old new → IsKeyShort t → ⊥
 added_long t old new (added_none none same) = no_short t none
-added_long t old new (added_key named bytes o enough block name more) = not_short t bytes o enough
+added_long t old new (added_key named bytes o enough kept more) = not_short t bytes o enough

@@ -1,5 +1,6 @@
+pub mod AlgNames
 pub mod Macs
-mod Blocks
+pub mod Blocks
 mod Equal
 mod KeySets
 pub mod KeySetVerdicts

@@ -1,13 +1,12 @@
 -- Not needed to believe the program's promises: why a tree is no key set.
-use Rattle.std.specs.Prelude.{◌≡◌, ℕ, ◌<◌, ◌≤◌, List, [], ◌∷◌, ◌++◌, Some, None, true, false, length, codes}
+use Rattle.std.specs.Prelude.{◌≡◌, ℕ, ◌<◌, ◌≤◌, List, [], ◌∷◌, ◌++◌, Some, None, true, false, length}
 use Rattle.sd_outside.specs.Limits.{key_min}
 use Rattle.b64url_text.specs.NotBase64.{IsNotBase64}
 use Rattle.claim_tree.specs.Tree.{Text, Tree, Elements, element_at}
-use Rattle.hmac_sign.specs.Hmac.{key_block}
 use Rattle.hmac_sign.specs.declared.key_set.NamedKey.{NamedKey}
 use Rattle.hmac_sign.specs.declared.key_set.KeySetError.{KeySetError}
 use Rattle.hmac_sign.specs.declared.key_set.KeySetError.TheVariants.{Memory, NotASet, KeyNotBase64, KeyShort}
-use Rattle.hmac_sign.specs.Keys.{IsOct, are_keys, key, keys_under, oct_text, text_under}
+use Rattle.hmac_sign.specs.Keys.{IsNamedKey, IsOct, are_keys, keys_under, oct_text}
 
 -- its `k` is the code of no bytes
 pub record IsKeyNotBase64 (t : Tree) : Type 0 where
@@ -35,7 +34,7 @@ pub record IsFirstKey (P : Tree → Type 0) (es : Elements) (place : ℕ) : Type
 -- what one element adds to the keys; only private functions cite this
 pub data IsAdded (t : Tree) (old new : List NamedKey) : Type 0 where
   added_none : oct_text t ≡ None → new ≡ old → IsAdded t old new
-  added_key : (named : NamedKey) (bytes : List ℕ) → IsOct t bytes → key_min ≤ length bytes → named.key ≡ key_block bytes → named.kid ≡ text_under t (codes "kid") → new ≡ old ++ named ∷ [] → IsAdded t old new
+  added_key : (named : NamedKey) (bytes : List ℕ) → IsOct t bytes → key_min ≤ length bytes → IsNamedKey t bytes named → new ≡ old ++ named ∷ [] → IsAdded t old new
 
 -- the refusals of the codes alone, and of the lengths alone; only private functions cite these
 abbrev pub IsOfCodes : KeySetError → Type 0

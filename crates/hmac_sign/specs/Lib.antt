@@ -1,4 +1,6 @@
+pub mod Algs
 pub mod Hmac
+pub mod Codes
 pub mod Signatures
 pub mod FailState
 pub mod Keys

@@ -1,7 +1,7 @@
 ghost use Rattle.std.specs.Prelude.{◌≡◌, ◌<◌, ◌≤◌, ◌↔◌, length, IfOk, IsErrOf};
 ghost use Rattle.sd_outside.specs.Causes.{Rose};
 ghost use Rattle.hmac_sign.specs.FailState.{after_call};
-ghost use Rattle.hmac_sign.specs.Hmac.{IsGood};
+ghost use Rattle.hmac_sign.specs.Hmac.{IsGood, hs256_key};
 ghost use Rattle.hmac_sign.specs.Agreement.{Agree};
 
 use crate::{Alg, Hs256Key, SignError, Signatures, Signer};
@@ -48,11 +48,11 @@ impl FailSigner {
 }
 
 impl Signatures for FailSigner {
-    ghost good = { λ s. IsGood s.key };
+    ghost good = { λ s. IsGood (hs256_key s.key) };
 }
 
 impl Signer for FailSigner {
-    ghost use Rattle.hmac_sign.specs.declared.sign.Alg.TheVariants.{Hs256};
+    ghost use Rattle.hmac_sign.specs.declared.alg.Alg.TheVariants.{Hs256};
 
     ghost faults = { λ s. s.faults };
 
@@ -64,10 +64,10 @@ impl Signer for FailSigner {
 
     fn sign(&mut self, alloc: Global, head: &str, body: &str) -> Result<ByteBox, SignError>
         // the clauses of the trait
-        ensures good { IfOk result (IsGood self.old.key head.now body.now) }
+        ensures good { IfOk result (IsGood (hs256_key self.old.key) head.now body.now) }
         ensures some { IfOk result (λ signature. 0 < length signature) }
         ensures failed { IsErrOf result SignError.Failed → Rose self.old.faults self.new.faults }
-        ensures same_good { Agree (IsGood self.new.key) (IsGood self.old.key) }
+        ensures same_good { Agree (IsGood (hs256_key self.new.key)) (IsGood (hs256_key self.old.key)) }
         ensures later { self.old.faults ≤ self.new.faults }
 
         // it fails exactly at its call, and just then it counts
@@ -80,6 +80,6 @@ impl Signer for FailSigner {
             self.faults = self.faults.saturating_add(1);
             return Err(SignError::Failed);
         }
-        self.key.signature(alloc, head, body)
+        self.key.as_key().signature(alloc, head, body)
     }
 }

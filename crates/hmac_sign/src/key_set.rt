@@ -1,23 +1,58 @@
 // Sets of keys.
 ghost use Rattle.std.specs.Prelude.{◌≡◌, ℕ, IfOk, IsErrOf, option_map, slice_get};
-ghost use Rattle.hmac_sign.specs.Keys.{IsKeySet, key_named};
+ghost use Rattle.hmac_sign.specs.Keys.{IsKeySet, answers, key_by, key_named, picked_key};
 ghost use Rattle.hmac_sign.specs.KeyRefusals.{IsNoKeySet, KeyNotBase64At, KeyShortAt};
 ghost use Rattle.claim_tree.specs.Tree.{has_text};
 ghost use Rattle.hmac_sign.specs.declared.key_set.KeySetError.{KeySetError};
 ghost use Rattle.claim_tree.specs.View.{tree_of};
 
-use crate::Hs256Key;
 use crate::key_set_elements::{all_decode, are_keys, make_keys};
+use crate::{Alg, Hs256Key, HsKey};
 use claim_tree::{Tree, get};
 use sd_outside::{NoMemory, TextBox};
 use std::alloc::{AllocFailed, Global};
 use std::marker::Model;
 
-/// A key, and the name by which a header may ask for it.
+/// The bytes of one key as a key for each algorithm that has enough of them, and the name by which a header may ask for it.
 #[derive(Drop)]
 pub struct NamedKey {
-    pub key: Hs256Key,
     pub kid: Option<TextBox>,
+    pub hs256: Hs256Key,
+    pub hs384: Option<HsKey>,
+    pub hs512: Option<HsKey>,
+}
+
+impl NamedKey {
+    // The key for an algorithm.
+    fn by(&self, alg: Alg) -> Option<&HsKey>
+        ensures { option_map (λ key. key.now) result ≡ key_by self.now alg }
+    {
+        match alg {
+            Alg::Hs256 => Some(self.hs256.as_key()),
+            Alg::Hs384 => self.hs384.as_ref(),
+            Alg::Hs512 => self.hs512.as_ref(),
+        }
+    }
+
+    // Whether it has this name.
+    fn is_named(&self, kid: &str) -> bool
+        ensures { result ≡ has_text self.now.kid kid.now }
+    {
+        match &self.kid {
+            Some(own) => own.as_str() == kid,
+            None => false,
+        }
+    }
+
+    // Whether it has this name, where one is given.
+    fn answers(&self, kid: Option<&str>) -> bool
+        ensures { result ≡ answers self.now.kid (option_map (λ name. name.now) kid.entry) }
+    {
+        match kid {
+            Some(kid) => self.is_named(kid),
+            None => true,
+        }
+    }
 }
 
 /// Why a tree is not read as a key set. A place counts all elements of `keys` from 0.
@@ -88,33 +123,38 @@ impl KeySet {
         Ok(KeySet { keys })
     }
 
-    /// The first key of this name. It takes no memory.
+    /// The first key of this name, for HS256. It takes no memory.
     pub fn find(&self, kid: &str) -> Option<&Hs256Key>
         ensures { option_map (λ key. key.now) result ≡ key_named self.now kid.now }
     {
         for named in &self.keys {
-            if is_named(named, kid) {
-                return Some(&named.key);
+            if named.is_named(kid) {
+                return Some(&named.hs256);
             }
         }
         None
     }
 
-    /// The first key. It takes no memory.
+    /// The first key, for HS256. It takes no memory.
     pub fn first(&self) -> Option<&Hs256Key>
-        ensures { option_map (λ key. key.now) result ≡ option_map (λ named. named.key) (slice_get self.now 0) }
+        ensures { option_map (λ key. key.now) result ≡ option_map (λ named. named.hs256) (slice_get self.now 0) }
     {
         let named = self.keys.first()?;
-        Some(&named.key)
+        Some(&named.hs256)
     }
-}
 
-// Whether the key has this name.
-fn is_named(named: &NamedKey, kid: &str) -> bool
-    ensures { result ≡ has_text named.now.kid kid.now }
-{
-    match &named.kid {
-        Some(own) => own.as_str() == kid,
-        None => false,
+    /// The key for an algorithm, of the first element that has enough bytes for it and, where a name is given, that name. It takes no
+    /// memory.
+    pub fn pick(&self, kid: Option<&str>, alg: Alg) -> Option<&HsKey>
+        ensures { option_map (λ key. key.now) result ≡ picked_key self.now (option_map (λ name. name.now) kid.entry) alg }
+    {
+        for named in &self.keys {
+            if named.answers(kid)
+                && let Some(key) = named.by(alg)
+            {
+                return Some(key);
+            }
+        }
+        None
     }
 }

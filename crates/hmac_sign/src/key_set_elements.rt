@@ -5,13 +5,12 @@ ghost use Rattle.claim_tree.specs.Tree.{get as get_of};
 ghost use Rattle.claim_tree.specs.View.{tree_of};
 ghost use Rattle.claim_tree.specs.ListViews.{elements_of};
 ghost use Rattle.hmac_sign.specs.Keys as spec;
-ghost use Rattle.hmac_sign.specs.Keys.{KeysOf, IsOct};
+ghost use Rattle.hmac_sign.specs.Keys.{KeysOf, IsNamedKey, IsOct};
 ghost use Rattle.hmac_sign.specs.KeyRefusals.{NoneBefore, IsFirstKey, IsKeyNotBase64, IsKeyShort, IsAdded, IsOfCodes, IsOfLengths};
-ghost use Rattle.hmac_sign.specs.Hmac.{key_block};
 ghost use Rattle.hmac_sign.specs.declared.key_set.KeySetError.{KeySetError};
 
-use crate::Hs256Key;
 use crate::key_set::{KeySetError, NamedKey};
+use crate::{Alg, Hs256Key, HsKey};
 use b64url_text::{DecodeError, decode};
 use claim_tree::{Tree, get};
 use sd_outside::{ByteBox, NoMemory, TextBox};
@@ -115,24 +114,27 @@ pub(crate) fn all_decode(alloc: Global, trees: &[Tree]) -> Result<(), KeySetErro
     Ok(())
 }
 
-// The key of these bytes, with the name of the element.
+// The keys of these bytes, with the name of the element.
 fn named_key(
     alloc: Global,
     tree: &Tree,
     bytes: &[u8],
     place: usize,
 ) -> Result<NamedKey, KeySetError>
-    ensures key { IfOk result (λ named. named.key ≡ key_block bytes.now) }
-    ensures kid { IfOk result (λ named. named.kid ≡ spec.text_under (tree_of tree.now) (codes "kid")) }
+    ensures named { IfOk result (IsNamedKey (tree_of tree.now) bytes.now) }
     ensures enough { IfOk result (λ _. key_min ≤ length bytes.now) }
     ensures short { (at : ℕ) → IsErrOf result (KeySetError.KeyShort at) → (at ≡ place) × (length bytes.now < key_min) }
     ensures no_other { IfErr result IsOfLengths }
 {
-    let Ok(key) = Hs256Key::new(bytes) else {
+    let Ok(hs256) = Hs256Key::new(bytes) else {
         return Err(KeySetError::KeyShort(place));
     };
-    let kid = kid_of(alloc, tree)?;
-    Ok(NamedKey { key, kid })
+    Ok(NamedKey {
+        kid: kid_of(alloc, tree)?,
+        hs256,
+        hs384: HsKey::new(Alg::Hs384, bytes).ok(),
+        hs512: HsKey::new(Alg::Hs512, bytes).ok(),
+    })
 }
 
 // Adds the key of an element, where it is of the kind `oct`.

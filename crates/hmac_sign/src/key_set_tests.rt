@@ -1,4 +1,4 @@
-use crate::{KeySet, KeySetError};
+use crate::{Alg, HsKey, KeySet, KeySetError};
 use claim_tree::read;
 use std::test::Fail;
 
@@ -13,6 +13,42 @@ fn key_sets_are_read(rt: HostRuntime) -> Result<(), Fail> {
     let named = set.find("b").ok_or("no key")?;
     assert!(rt; first.mac("a", "b") != named.mac("a", "b"));
     assert!(rt; set.find("B").is_none() && set.find("").is_none());
+    Ok(())
+}
+
+// Keys of 32 bytes 1, 48 bytes 2 and 64 bytes 3 under one name, and one of 64 bytes 4 under another.
+#[test]
+fn the_first_key_that_is_long_enough_is_picked(rt: HostRuntime) -> Result<(), Fail> {
+    let alloc = rt.alloc();
+    let text = br#"{"keys":[
+        {"kty":"oct","kid":"a","k":"AQEBAQEBAQEBAQEBAQEBAQEBAQEBAQEBAQEBAQEBAQE"},
+        {"kty":"oct","kid":"a","k":"AgICAgICAgICAgICAgICAgICAgICAgICAgICAgICAgICAgICAgICAgICAgICAgIC"},
+        {"kty":"oct","kid":"a","k":"AwMDAwMDAwMDAwMDAwMDAwMDAwMDAwMDAwMDAwMDAwMDAwMDAwMDAwMDAwMDAwMDAwMDAwMDAwMDAwMDAwMDAw"},
+        {"kty":"oct","kid":"b","k":"BAQEBAQEBAQEBAQEBAQEBAQEBAQEBAQEBAQEBAQEBAQEBAQEBAQEBAQEBAQEBAQEBAQEBAQEBAQEBAQEBAQEBA"}]}"#;
+    let tree = read(alloc, text).map_err(|_| "no tree")?;
+    let set = KeySet::read(alloc, &tree).map_err(|_| "no key set")?;
+    for (kid, alg, byte, length) in [
+        (Some("a"), Alg::Hs256, 1, 32),
+        (Some("a"), Alg::Hs384, 2, 48),
+        (Some("a"), Alg::Hs512, 3, 64),
+        (Some("b"), Alg::Hs256, 4, 64),
+        (Some("b"), Alg::Hs512, 4, 64),
+        (None, Alg::Hs256, 1, 32),
+        (None, Alg::Hs384, 2, 48),
+        (None, Alg::Hs512, 3, 64),
+    ] {
+        let bytes = [byte; 64];
+        let key = HsKey::new(alg, &bytes[..length]).map_err(|_| "the key is short")?;
+        let picked = set.pick(kid, alg).ok_or("no key")?;
+        assert_eq!(rt;
+            picked.mac("head", "body").bytes(),
+            key.mac("head", "body").bytes(),
+            "{kid:?} {alg:?}"
+        );
+    }
+    assert!(rt;
+        set.pick(Some("c"), Alg::Hs256).is_none() && set.pick(Some(""), Alg::Hs512).is_none()
+    );
     Ok(())
 }
 

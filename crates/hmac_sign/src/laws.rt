@@ -2,13 +2,14 @@
 ghost use Rattle.std.specs.Prelude.{◌≡◌, ℕ, List};
 ghost use Rattle.claim_tree.specs.Tree.{Tree};
 ghost use Rattle.hmac_sign.specs.Hmac.{hmac, key_block};
+ghost use Rattle.hmac_sign.specs.declared.alg.Alg.{Alg};
 ghost use Rattle.hmac_sign.specs.Keys.{IsKeySet};
 ghost use Rattle.hmac_sign.specs.KeyRefusals.{IsNoKeySet, KeyNotBase64At, KeyShortAt};
 ghost use Rattle.hmac_sign.specs.declared.key_set.NamedKey.{NamedKey};
 
 /// A key and the block made of it are one key.
 pub fn one_key()
-    ensures { (key text : List ℕ) → hmac (key_block key) text ≡ hmac key text }
+    ensures { (alg : Alg) (key text : List ℕ) → hmac alg (key_block alg key) text ≡ hmac alg key text }
 {}
 
 /// A tree is one key set, and none of its refusals holds of it.

@@ -2,18 +2,12 @@ ghost use Rattle.std.specs.Prelude.{◌≡◌, ◌<◌, ◌≤◌, ◌↔◌, �
 ghost use Rattle.sd_outside.specs.Causes.{Rose};
 ghost use Rattle.hmac_sign.specs.Signatures.{Meaning};
 ghost use Rattle.hmac_sign.specs.Agreement.{Agree};
-ghost use Rattle.hmac_sign.specs.declared.sign.Alg.{Alg};
+ghost use Rattle.hmac_sign.specs.declared.alg.Alg.{Alg};
 ghost use Rattle.hmac_sign.specs.declared.sign.SignError.TheVariants.{Memory};
 
+use crate::Alg;
 use sd_outside::{ByteBox, NoMemory};
 use std::alloc::Global;
-
-/// An algorithm of signatures, by its name in RFC 7518.
-#[derive(Clone, Copy, Debug, PartialEq, Eq)]
-pub enum Alg {
-    /// HMAC with SHA-256.
-    Hs256,
-}
 
 /// Why a signer answers no signature.
 #[derive(Clone, Copy, Debug, PartialEq, Eq)]

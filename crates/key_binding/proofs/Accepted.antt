@@ -4,7 +4,7 @@ use Rattle.std.proofs.Math.Facts.{ltb_yes}
 use Rattle.b64url_text.specs.Base64url.{AreBytes}
 use Rattle.claim_tree.specs.Tree.{object}
 use Rattle.compact_form.specs.Lowest.{NoneFails}
-use Rattle.hmac_sign.specs.Hmac.{IsGood, IsGoodText}
+use Rattle.hmac_sign.specs.Hmac.{IsGood, IsGoodText, hs256_key}
 use Rattle.hmac_sign.proofs.Macs.{AreBytes-mac}
 use Rattle.key_binding.specs.Binding.{Claims, claims_for, claim_members, binding_header, IsBinding, IsReadBack}
 use Rattle.key_binding.specs.Judged.{Judged, holder_key, HasClaims}
@@ -24,14 +24,14 @@ fresh_enough iat max_age skew now h stale = let late : iat + max_age + skew < no
 made_already : (iat skew now : ℕ) → iat ≤ now + skew → IsEarly (pos iat) skew now → ⊥
 made_already iat skew now h early = let before : now + skew < iat = ltb_yes early.lt in omega (arith, h, before)
 
-pub accepted : (key : List ℕ) (iat : ℕ) (j : Judged) → IsBinding (IsGood key) j.hash j.hashed j.policy.aud j.policy.nonce iat j.token → IsReadBack j.hash j.hashed j.policy.aud j.policy.nonce iat j.token
+pub accepted : (key : List ℕ) (iat : ℕ) (j : Judged) → IsBinding (IsGood (hs256_key key)) j.hash j.hashed j.policy.aud j.policy.nonce iat j.token → IsReadBack j.hash j.hashed j.policy.aud j.policy.nonce iat j.token
     → holder_key j.policy.keys j.payload ≡ Some key → j.now ≤ iat + j.policy.max_age + j.skew → iat ≤ j.now + j.skew → NoneFails (BindingFails j)
 accepted key iat j is back key_is fresh made =
     let claims = claims_for j.hash j.hashed j.policy.aud j.policy.nonce iat in
     let body = object (claim_members claims) in
     let has : HasClaims j.token claims = record { body = body; is_body = back.body; says = record { aud = refl; iat = refl; nonce = refl; sd_hash = refl } } in
-    let bytes : AreBytes is.signature = subst AreBytes (sym is.signed) (AreBytes-mac key j.token.protected j.token.payload) in
-    let good : IsGoodText key j.token.protected j.token.payload j.token.signature = (is.signature, record { fit = bytes; spelling = is.signature_text }, is.signed) in
+    let bytes : AreBytes is.signature = subst AreBytes (sym is.signed) (AreBytes-mac (hs256_key key) j.token.protected j.token.payload) in
+    let good : IsGoodText (hs256_key key) j.token.protected j.token.payload j.token.signature = (is.signature, record { fit = bytes; spelling = is.signature_text }, is.signed) in
     let at_header = at30 j (at29 j (at28 j key key_is) binding_header back.header) binding_header back.header refl in
     let at_payload = at32 j (at31 j at_header key key_is good) binding_header back.header refl in
     let at_times = at34 j (at33 j at_payload claims has) claims has (fresh_enough iat j.policy.max_age j.skew j.now fresh) in

@@ -10,7 +10,7 @@ use Rattle.compact_form.specs.Faults.{unplaced}
 use Rattle.compact_form.specs.Passing.{Passes}
 use Rattle.compact_form.proofs.Lowest.{holds_too, none_fails, refuse_unplaced}
 use Rattle.disclosure.specs.Digest.{digest_of}
-use Rattle.hmac_sign.specs.Hmac.{IsGoodText}
+use Rattle.hmac_sign.specs.Hmac.{IsGoodText, hs256_key}
 use Rattle.jws_part.specs.declared.header.Header.{Header}
 use Rattle.jws_part.specs.Header.{text_tree}
 use Rattle.jws_part.specs.Part.{IsBody, IsNoObject}
@@ -152,14 +152,14 @@ module _ (j : Judged) where
   pub at30 : Passes 29 (BindingFails j) → (h : Header) → HasBindingHeader j.token h → h.alg ≡ codes "HS256" → Passes 30 (BindingFails j)
   at30 passes h has alg = holds_too (BindingFails j) Condition.BindingAlg passes (λ place (is, (k, other, differs)). differs (subst (λ (x : Header). x.alg ≡ codes "HS256") (one_header h k has other) alg))
 
-  pub at31 : Passes 30 (BindingFails j) → (key : List ℕ) → holder_key j.policy.keys j.payload ≡ Some key → IsGoodText key j.token.protected j.token.payload j.token.signature → Passes 31 (BindingFails j)
+  pub at31 : Passes 30 (BindingFails j) → (key : List ℕ) → holder_key j.policy.keys j.payload ≡ Some key → IsGoodText (hs256_key key) j.token.protected j.token.payload j.token.signature → Passes 31 (BindingFails j)
   at31 passes key is good = holds_too (BindingFails j) Condition.BindingSignature passes go
     where
       go : (place : Place) → BindingFails j Condition.BindingSignature place → ⊥
       go place (at, (other, other_is, bad)) =
           let both : Some other ≡ Some key = sym other_is ∙ is in
           let same : other ≡ key = cc both in
-          bad (subst (λ x. IsGoodText x j.token.protected j.token.payload j.token.signature) (sym same) good)
+          bad (subst (λ x. IsGoodText (hs256_key x) j.token.protected j.token.payload j.token.signature) (sym same) good)
 
   pub at32 : Passes 31 (BindingFails j) → (h : Header) → HasBindingHeader j.token h → h.typ ≡ Some (codes "kb+jwt") → Passes 32 (BindingFails j)
   at32 passes h has typ = holds_too (BindingFails j) Condition.BindingType passes (λ place (is, (k, other, differs)). differs (subst (λ (x : Header). x.typ ≡ Some (codes "kb+jwt")) (one_header h k has other) typ))

@@ -15,7 +15,7 @@ use Rattle.compact_form.specs.Compact.{jwt}
 use Rattle.compact_form.specs.declared.parts.JwtParts.{JwtParts}
 use Rattle.disclosure.specs.Digest.{digest_of, hash_of}
 use Rattle.disclosure.specs.declared.digests.HashAlg.{HashAlg}
-use Rattle.hmac_sign.specs.Hmac.{IsGood}
+use Rattle.hmac_sign.specs.Hmac.{IsGood, hs256_key}
 use Rattle.hmac_sign.proofs.Macs.{length-mac}
 use Rattle.jws_part.specs.Header.{header_members}
 use Rattle.key_binding.specs.Binding.{claims_for, claim_members, binding_header, IsBinding}
@@ -110,13 +110,13 @@ claims_short hash hashed aud nonce iat a n i = claims_data_short aud nonce (dige
 
 -- ---- the token
 
-pub binding_short : (key : List ℕ) (hash : HashAlg) (hashed aud nonce : Text) (iat : ℕ) (token : JwtParts) → length aud ≤ 256 → length nonce ≤ 256 → iat < 2 ^ 64 → IsBinding (IsGood key) hash hashed aud nonce iat token
+pub binding_short : (key : List ℕ) (hash : HashAlg) (hashed aud nonce : Text) (iat : ℕ) (token : JwtParts) → length aud ≤ 256 → length nonce ≤ 256 → iat < 2 ^ 64 → IsBinding (IsGood (hs256_key key)) hash hashed aud nonce iat token
     → length (jwt token) < 5500
 binding_short key hash hashed aud nonce iat token a n i is =
     let protected = ap length is.protected in
     let payload = ap length is.payload in
     let signature = ap length is.signature_text in
-    let code = ap length is.signed ∙ length-mac key token.protected token.payload in
+    let code = ap length is.signed ∙ length-mac (hs256_key key) token.protected token.payload in
     omega (
       arith,
       protected,

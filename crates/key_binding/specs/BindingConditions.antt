@@ -5,7 +5,7 @@ use Rattle.compact_form.specs.declared.condition.Condition.{Condition}
 use Rattle.compact_form.specs.Lowest.{Unplaced}
 use Rattle.compact_form.specs.declared.fault.Place.{Place}
 use Rattle.disclosure.specs.Digest.{digest_of}
-use Rattle.hmac_sign.specs.Hmac.{IsGoodText}
+use Rattle.hmac_sign.specs.Hmac.{IsGoodText, hs256_key}
 use Rattle.jws_part.specs.declared.header.Header.{Header}
 use Rattle.jws_part.specs.Header.{IsHeaderUnreadable, IsHeaderCritical}
 use Rattle.jws_part.specs.Part.{IsBody}
@@ -23,7 +23,7 @@ OfClaims j P = (claims : Claims) × HasClaims j.token claims × P claims
 
 -- the signature is not good under the holder's key
 abbrev pub IsBadBindingSignature : Judged → Type 0
-IsBadBindingSignature j = (key : List ℕ) × (holder_key j.policy.keys j.payload ≡ Some key) × (IsGoodText key j.token.protected j.token.payload j.token.signature → ⊥)
+IsBadBindingSignature j = (key : List ℕ) × (holder_key j.policy.keys j.payload ≡ Some key) × (IsGoodText (hs256_key key) j.token.protected j.token.payload j.token.signature → ⊥)
 
 -- it was made too long ago; sums have no limit
 abbrev pub IsStale : ℤ → ℕ → ℕ → ℕ → Type 0

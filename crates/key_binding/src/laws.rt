@@ -6,7 +6,7 @@ ghost use Rattle.compact_form.specs.Condition.{number_of};
 ghost use Rattle.compact_form.specs.Lowest.{NoneFails};
 ghost use Rattle.compact_form.specs.declared.parts.JwtParts.{JwtParts};
 ghost use Rattle.disclosure.specs.declared.digests.HashAlg.{HashAlg};
-ghost use Rattle.hmac_sign.specs.Hmac.{IsGood};
+ghost use Rattle.hmac_sign.specs.Hmac.{IsGood, hs256_key};
 ghost use Rattle.key_binding.specs.Binding.{IsBinding, IsReadBack};
 ghost use Rattle.key_binding.specs.BindingCalls.{IsLowestBinding};
 ghost use Rattle.key_binding.specs.BindingConditions.{BindingFails};
@@ -17,7 +17,7 @@ ghost use Rattle.sd_outside.specs.Limits.{binding_text_max};
 /// so at the very second of each limit.
 pub fn bound_is_accepted()
     ensures { (key : List ℕ) (iat : ℕ) (j : Judged)
-        → IsBinding (IsGood key) j.hash j.hashed j.policy.aud j.policy.nonce iat j.token
+        → IsBinding (IsGood (hs256_key key)) j.hash j.hashed j.policy.aud j.policy.nonce iat j.token
         → IsReadBack j.hash j.hashed j.policy.aud j.policy.nonce iat j.token
         → holder_key j.policy.keys j.payload ≡ Some key
         → j.now ≤ iat + j.policy.max_age + j.skew
@@ -29,7 +29,7 @@ pub fn bound_is_accepted()
 pub fn bound_is_short()
     ensures { (key : List ℕ) (hash : HashAlg) (hashed aud nonce : List ℕ) (iat : ℕ) (token : JwtParts)
         → length aud ≤ binding_text_max → length nonce ≤ binding_text_max → iat < 2 ^ 64
-        → IsBinding (IsGood key) hash hashed aud nonce iat token
+        → IsBinding (IsGood (hs256_key key)) hash hashed aud nonce iat token
         → length (jwt token) < 5500 }
 {}
 

@@ -9,7 +9,7 @@ ghost use Rattle.jws_part.specs.Header.{IsHeader, header_members, text_tree};
 ghost use Rattle.jws_part.specs.Part.{IsBody};
 ghost use Rattle.compact_form.specs.Compact.{HasWords};
 ghost use Rattle.hmac_sign.specs.Agreement.{Agree};
-ghost use Rattle.hmac_sign.specs.declared.sign.Alg.{Alg};
+ghost use Rattle.hmac_sign.specs.declared.alg.Alg.{Alg};
 ghost use Rattle.key_binding.specs.SignatureText.{IsSignatureText};
 ghost use Rattle.key_binding.specs.Binding.{IsBinding, IsReadBack, claims_for, claim_members, binding_header};
 ghost use Rattle.key_binding.specs.declared.errors.BindError.{BindError};

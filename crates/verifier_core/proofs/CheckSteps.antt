@@ -6,6 +6,7 @@ use Rattle.claim_tree.specs.Lists.{StandsAt, AtNone, IsLeast}
 use Rattle.compact_form.specs.declared.fault.Fault.{Fault}
 use Rattle.compact_form.specs.declared.fault.Place.{Place}
 use Rattle.json_form.specs.declared.token.Token.{Token}
+use Rattle.hmac_sign.specs.Hmac.{AlgKey}
 use Rattle.jws_part.specs.declared.header.Header.{Header}
 use Rattle.jws_part.specs.Part.{IsBody}
 use Rattle.jws_part.proofs.Headers as headers
@@ -40,11 +41,11 @@ same_header token h k a b = headers.one_header token.parts.signed.protected toke
 none_of : (P : Header → Type 0) (token : Token) (h : Header) → HasHeader token h → (P h → ⊥) → (place : Place) → Unplaced ((header : Header) × HasHeader token header × P header) place → ⊥
 none_of P token h has none place (is, (k, other, p)) = none (subst P (same_header token k h other has) p)
 
-good_signature : (token : Token) (rules : Rules) (h : Header) (key : List ℕ) → HasHeader token h → key_for rules.keys h.kid ≡ Some key → (IsBadSignature key token.parts.signed → ⊥)
+good_signature : (token : Token) (rules : Rules) (h : Header) (key : AlgKey) → HasHeader token h → key_for rules.keys h ≡ Some key → (IsBadSignature key token.parts.signed → ⊥)
     → (place : Place) → TokenFails token rules Condition.BadSignature place → ⊥
 good_signature token rules h key has key_is good place (is, (k, other, found, found_is, bad)) =
     let heads : k ≡ h = same_header token k h other has in
-    let keys : Some found ≡ Some key = sym found_is ∙ (ap (λ (x : Header). key_for rules.keys x.kid) heads ∙ key_is) in
+    let keys : Some found ≡ Some key = sym found_is ∙ (ap (λ (x : Header). key_for rules.keys x) heads ∙ key_is) in
     let same : found ≡ key = cc keys in
     good (subst (λ x. IsBadSignature x token.parts.signed) same bad)
 
@@ -60,11 +61,11 @@ at8 token rules h has alg = holds_too (TokenFails token rules) Condition.AlgRefu
 at9 : (token : Token) (rules : Rules) (h : Header) → HasHeader token h → (IsAlgRefused rules.algs h.alg → ⊥) → (IsTypeRefused rules.typ h.typ → ⊥) → Passes 9 (TokenFails token rules)
 at9 token rules h has alg typ = holds_too (TokenFails token rules) Condition.TypeRefused (at8 token rules h has alg) (none_of (λ x. IsTypeRefused rules.typ x.typ) token h has typ)
 
-at10 : (token : Token) (rules : Rules) (h : Header) (key : List ℕ) → HasHeader token h → (IsAlgRefused rules.algs h.alg → ⊥) → (IsTypeRefused rules.typ h.typ → ⊥) → key_for rules.keys h.kid ≡ Some key
+at10 : (token : Token) (rules : Rules) (h : Header) (key : AlgKey) → HasHeader token h → (IsAlgRefused rules.algs h.alg → ⊥) → (IsTypeRefused rules.typ h.typ → ⊥) → key_for rules.keys h ≡ Some key
     → Passes 10 (TokenFails token rules)
 at10 token rules h key has alg typ key_is =
     holds_too (TokenFails token rules) Condition.IssuerKeyUnknown (at9 token rules h has alg typ)
-    (none_of (λ x. key_for rules.keys x.kid ≡ None) token h has (λ none. let both : Some key ≡ None = sym key_is ∙ none in absurd (cc both)))
+    (none_of (λ x. key_for rules.keys x ≡ None) token h has (λ none. let both : Some key ≡ None = sym key_is ∙ none in absurd (cc both)))
 
 pub signed_passes : (token : Token) (rules : Rules) → IsSigned token.parts.signed token.outer rules → Passes 11 (TokenFails token rules)
 signed_passes token rules s =

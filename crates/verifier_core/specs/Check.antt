@@ -6,6 +6,7 @@ use Rattle.compact_form.specs.declared.fault.Fault.{Fault}
 use Rattle.compact_form.specs.declared.fault.Place.{Place}
 use Rattle.compact_form.specs.declared.parts.JwtParts.{JwtParts}
 use Rattle.compact_form.specs.declared.parts.Parts.{Parts}
+use Rattle.hmac_sign.specs.Hmac.{AlgKey}
 use Rattle.jws_part.specs.declared.header.Header.{Header}
 use Rattle.jws_part.specs.Header.{IsHeader, IsHeaderUnreadable, IsHeaderCritical}
 use Rattle.jws_part.specs.Part.{IsBody, IsNoObject}
@@ -91,8 +92,8 @@ pub record IsSigned (signed : JwtParts) (outer : Members) (rules : Rules) : Type
   pub is_header : IsHeader signed.protected outer header
   pub alg : IsAlgRefused rules.algs header.alg → ⊥
   pub typ : IsTypeRefused rules.typ header.typ → ⊥
-  pub key : List ℕ
-  pub key_is : key_for rules.keys header.kid ≡ Some key
+  pub key : AlgKey
+  pub key_is : key_for rules.keys header ≡ Some key
   pub good : IsBadSignature key signed → ⊥
 
 -- the lowest of the conditions 5 to 10 that fails
@@ -101,8 +102,8 @@ pub data IsSignedFault (signed : JwtParts) (outer : Members) (rules : Rules) (fa
   critical : IsHeaderCritical signed.protected outer → fault ≡ unplaced Condition.HeaderCritical → IsSignedFault signed outer rules fault
   bad_alg : (header : Header) → IsHeader signed.protected outer header → IsAlgRefused rules.algs header.alg → fault ≡ unplaced Condition.AlgRefused → IsSignedFault signed outer rules fault
   bad_type : (header : Header) → IsHeader signed.protected outer header → (IsAlgRefused rules.algs header.alg → ⊥) → IsTypeRefused rules.typ header.typ → fault ≡ unplaced Condition.TypeRefused → IsSignedFault signed outer rules fault
-  no_key : (header : Header) → IsHeader signed.protected outer header → (IsAlgRefused rules.algs header.alg → ⊥) → (IsTypeRefused rules.typ header.typ → ⊥) → key_for rules.keys header.kid ≡ None → fault ≡ unplaced Condition.IssuerKeyUnknown → IsSignedFault signed outer rules fault
-  not_signed : (header : Header) → IsHeader signed.protected outer header → (IsAlgRefused rules.algs header.alg → ⊥) → (IsTypeRefused rules.typ header.typ → ⊥) → (key : List ℕ) → key_for rules.keys header.kid ≡ Some key → IsBadSignature key signed → fault ≡ unplaced Condition.BadSignature → IsSignedFault signed outer rules fault
+  no_key : (header : Header) → IsHeader signed.protected outer header → (IsAlgRefused rules.algs header.alg → ⊥) → (IsTypeRefused rules.typ header.typ → ⊥) → key_for rules.keys header ≡ None → fault ≡ unplaced Condition.IssuerKeyUnknown → IsSignedFault signed outer rules fault
+  not_signed : (header : Header) → IsHeader signed.protected outer header → (IsAlgRefused rules.algs header.alg → ⊥) → (IsTypeRefused rules.typ header.typ → ⊥) → (key : AlgKey) → key_for rules.keys header ≡ Some key → IsBadSignature key signed → fault ≡ unplaced Condition.BadSignature → IsSignedFault signed outer rules fault
 
 -- the lowest of the conditions 11 and 12 that fails
 pub data IsPayloadFault (payload : Text) (fault : Fault) : Type 0 where

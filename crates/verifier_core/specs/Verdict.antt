@@ -1,5 +1,5 @@
 -- The verdict on a token: what fails each condition and at which place, and the lowest that fails (RFC 9901 section 7.3).
-use Rattle.std.specs.Prelude.{◌≡◌, ◌≢◌, ℕ, ◌⊎◌, List, Option, Some, None, codes, option_map, slice_get}
+use Rattle.std.specs.Prelude.{◌≡◌, ◌≢◌, ℕ, ◌⊎◌, List, Option, Some, None, codes, option_and_then}
 use Rattle.std.specs.List.{AllZip}
 use Rattle.claim_tree.specs.Tree.{Text, Tree, leaf, text, get}
 use Rattle.claim_tree.specs.Lists.{StandsAt, IsSuchAt}
@@ -16,8 +16,9 @@ use Rattle.jws_part.specs.Header.{IsHeader, IsHeaderUnreadable, IsHeaderCritical
 use Rattle.jws_part.specs.Part.{IsBody, IsNoObject}
 use Rattle.jws_part.specs.Times.{IsTimeUnreadable, IsExpired, IsNotYet}
 use Rattle.hmac_sign.specs.declared.key_set.NamedKey.{NamedKey}
-use Rattle.hmac_sign.specs.Keys.{key_named}
-use Rattle.hmac_sign.specs.Hmac.{IsGoodText}
+use Rattle.hmac_sign.specs.Algs.{alg_of_text}
+use Rattle.hmac_sign.specs.Keys.{picked_key}
+use Rattle.hmac_sign.specs.Hmac.{AlgKey, IsGoodText}
 use Rattle.disclosure.specs.Digest.{digest_of, payload_hash}
 use Rattle.disclosure.specs.Disclosure.{IsDisclosure}
 use Rattle.disclosure.specs.declared.digests.HashAlg.{HashAlg}
@@ -45,21 +46,20 @@ pub record Rules : Type 0 where
 abbrev pub HasHeader : Token → Header → Type 0
 HasHeader token header = IsHeader token.parts.signed.protected token.outer header
 
--- the algorithm is not HS256, or is not one of those
+-- the algorithm is not known, or is not one of those
 abbrev pub IsAlgRefused : List Text → Text → Type 0
-IsAlgRefused algs alg = (alg ≢ codes "HS256") ⊎ ((i : ℕ) → StandsAt algs i alg → ⊥)
+IsAlgRefused algs alg = (alg_of_text alg ≡ None) ⊎ ((i : ℕ) → StandsAt algs i alg → ⊥)
 
 -- a type is asked for, and the header has none or another
 abbrev pub IsTypeRefused : Option Text → Option Text → Type 0
 IsTypeRefused asked typ = (name : Text) × (asked ≡ Some name) × (typ ≢ Some name)
 
--- the key that the header asks for: by its name, or else the first
-abbrev pub key_for : List NamedKey → Option Text → Option (List ℕ)
-key_for keys (Some kid) = key_named keys kid
-key_for keys None = option_map (λ named. named.key) (slice_get keys 0)
+-- the key that the header asks for: the first that is long enough for its algorithm, and has its name where there is one
+abbrev pub key_for : List NamedKey → Header → Option AlgKey
+key_for keys header = option_and_then (picked_key keys header.kid) (alg_of_text header.alg)
 
 -- the signature is no base64url text, or is not good under the key
-abbrev pub IsBadSignature : List ℕ → JwtParts → Type 0
+abbrev pub IsBadSignature : AlgKey → JwtParts → Type 0
 IsBadSignature key signed = IsGoodText key signed.protected signed.payload signed.signature → ⊥
 
 abbrev pub HasPayload : Token → Tree → Type 0
@@ -102,9 +102,9 @@ TokenFails token rules Condition.HeaderUnreadable place = Unplaced (IsHeaderUnre
 TokenFails token rules Condition.HeaderCritical place = Unplaced (IsHeaderCritical token.parts.signed.protected token.outer) place
 TokenFails token rules Condition.AlgRefused place = Unplaced ((header : Header) × HasHeader token header × IsAlgRefused rules.algs header.alg) place
 TokenFails token rules Condition.TypeRefused place = Unplaced ((header : Header) × HasHeader token header × IsTypeRefused rules.typ header.typ) place
-TokenFails token rules Condition.IssuerKeyUnknown place = Unplaced ((header : Header) × HasHeader token header × (key_for rules.keys header.kid ≡ None)) place
+TokenFails token rules Condition.IssuerKeyUnknown place = Unplaced ((header : Header) × HasHeader token header × (key_for rules.keys header ≡ None)) place
 TokenFails token rules Condition.BadSignature place =
-    Unplaced ((header : Header) × HasHeader token header × (key : List ℕ) × (key_for rules.keys header.kid ≡ Some key) × IsBadSignature key token.parts.signed) place
+    Unplaced ((header : Header) × HasHeader token header × (key : AlgKey) × (key_for rules.keys header ≡ Some key) × IsBadSignature key token.parts.signed) place
 TokenFails token rules Condition.PayloadUnreadable place = Unplaced (IsNoObject token.parts.signed.payload) place
 TokenFails token rules Condition.HashUnknown place = Unplaced ((body : Tree) × HasPayload token body × (payload_hash body ≡ None)) place
 TokenFails token rules Condition.DisclosureUnreadable place = Numbered (IsSuchAt IsNoDisclosure token.parts.disclosures) place

@@ -1,8 +1,9 @@
 // The header of a token, and its signature.
-ghost use Rattle.std.specs.Prelude.{◌≡◌, ℕ, IfErr, OnOk, option_map};
+ghost use Rattle.std.specs.Prelude.{◌≡◌, ℕ, Some, IfErr, IfSome, IfNone, OnOk, option_map};
 ghost use Rattle.std.specs.Option.{option_copied};
 ghost use Rattle.claim_tree.specs.Lists.{StandsAt};
 ghost use Rattle.compact_form.specs.Views.{jwt_of};
+ghost use Rattle.hmac_sign.specs.Algs.{alg_of_text};
 ghost use Rattle.jws_part.specs.Header.{IsHeader};
 ghost use Rattle.verifier_core.specs.Verdict.{key_for as key_for_of, IsAlgRefused, IsTypeRefused};
 ghost use Rattle.verifier_core.specs.Check.{OnFault, TestTells, IsSigned, IsSignedFault};
@@ -12,8 +13,8 @@ ghost use Rattle.verifier_core.specs.declared.check.VerifyError as error;
 use crate::{Rules, VerifyError};
 use claim_tree::TreeMap;
 use compact_form::{Condition, JwtView};
-use hmac_sign::{Hs256Key, KeySet};
-use jws_part::{HeaderError, read_header};
+use hmac_sign::{Alg, HsKey, KeySet, alg_named};
+use jws_part::{Header, HeaderError, read_header};
 use sd_outside::{TextBox, TextList};
 use std::alloc::Global;
 
@@ -24,13 +25,14 @@ pub(crate) fn fails(condition: Condition) -> VerifyError
     VerifyError::Fault(condition.fault())
 }
 
-// The key that a header asks for.
-fn key_for<'a>(keys: &'a KeySet, kid: Option<&TextBox>) -> Option<&'a Hs256Key>
-    ensures { option_map (λ key. key.now) result ≡ key_for_of keys.now (option_copied kid.entry) }
+// The key that a header asks for, of its algorithm.
+fn key_for<'a>(keys: &'a KeySet, header: &Header, alg: Alg) -> Option<&'a HsKey>
+    requires { alg_of_text header.now.alg ≡ Some alg }
+    ensures { option_map (λ key. key.now) result ≡ key_for_of keys.now header.now }
 {
-    match kid {
-        Some(kid) => keys.find(kid.as_str()),
-        None => keys.first(),
+    match &header.kid {
+        Some(kid) => keys.pick(Some(kid.as_str()), alg),
+        None => keys.pick(None, alg),
     }
 }
 
@@ -54,13 +56,18 @@ fn is_among(algs: &TextList, alg: &str) -> bool
     false
 }
 
-fn is_alg_refused(algs: &TextList, alg: &str) -> bool
-    ensures { TestTells result (IsAlgRefused algs.now alg.now) }
+// The algorithm of this name, where it is one of those.
+fn alg_among(algs: &TextList, name: &str) -> Option<Alg>
+    ensures known { IfSome result (λ alg. alg_of_text name.now ≡ Some alg) }
+    ensures taken { IfSome result (λ _. IsAlgRefused algs.now name.now → ⊥) }
+    ensures refused { IfNone result (IsAlgRefused algs.now name.now) }
 {
-    if alg != "HS256" {
-        return true;
+    let alg = alg_named(name)?;
+    if is_among(algs, name) {
+        Some(alg)
+    } else {
+        None
     }
-    !is_among(algs, alg)
 }
 
 fn is_type_refused(asked: Option<&TextBox>, typ: Option<&TextBox>) -> bool
@@ -91,13 +98,13 @@ pub(crate) fn check_signed(
         Err(HeaderError::Unreadable) => return Err(fails(Condition::HeaderUnreadable)),
         Err(HeaderError::Critical) => return Err(fails(Condition::HeaderCritical)),
     };
-    if is_alg_refused(rules.algs, header.alg.as_str()) {
+    let Some(alg) = alg_among(rules.algs, header.alg.as_str()) else {
         return Err(fails(Condition::AlgRefused));
-    }
+    };
     if is_type_refused(rules.typ, header.typ.as_ref()) {
         return Err(fails(Condition::TypeRefused));
     }
-    let Some(key) = key_for(rules.keys, header.kid.as_ref()) else {
+    let Some(key) = key_for(rules.keys, &header, alg) else {
         return Err(fails(Condition::IssuerKeyUnknown));
     };
     let is_good = key.check_text(alloc, signed.protected, signed.payload, signed.signature)?;

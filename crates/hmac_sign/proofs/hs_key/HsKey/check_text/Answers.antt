@@ -2,7 +2,7 @@ use Rattle.std.proofs.Common.{sym, subst}
 use Rattle.b64url_text.specs.Base64url.{Decodes}
 use Rattle.b64url_text.proofs.Codes.{one_code}
 use Rattle.hmac_sign.specs.Hmac.{IsGood}
-use Rattle.hmac_sign.proofs.hs256_key.Hs256Key.check_text.Goals as goal
+use Rattle.hmac_sign.proofs.hs_key.HsKey.check_text.Goals as goal
 
 pub returns-in-Ok : goal.returns-in-Ok
 returns-in-Ok c =
