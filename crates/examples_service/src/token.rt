@@ -29,10 +29,10 @@ pub fn token_for<S: Signer>(
 ) -> Result<TextBox, IssueError>
     requires depth { depth (tree_of payload) ≤ 127 }
     requires ranged { IsRanged (tree_of payload) }
-    ensures token { IfOk result
-        (IsTokenFor (maker_of seed.now) (order_for (tree_of payload) hide) (S.good signer.old)) }
-    ensures refused { IfErr result
-        (IsNotIssued (maker_of seed.now) (order_for (tree_of payload) hide) (S.good signer.old)) }
+    ensures token { IfOk result (IsTokenFor (maker_of seed.now)
+        (order_for (tree_of payload) hide) (S.alg_of signer.old) (S.good signer.old)) }
+    ensures refused { IfErr result (IsNotIssued (maker_of seed.now)
+        (order_for (tree_of payload) hide) (S.alg_of signer.old) (S.good signer.old)) }
     ensures failed { IsErrOf result IssueError.SignFailed
         → Rose (S.faults signer.old) (S.faults signer.new) }
 

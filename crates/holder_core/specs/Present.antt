@@ -1,5 +1,5 @@
 -- What a holder presents of a token as it is asked, and why it presents nothing (RFC 9901 section 7.2).
-use Rattle.std.specs.Prelude.{◌≡◌, ◌≢◌, ◌<◌, ℕ, suc, Bool, List, [], ◌∷◌, length, Option, None, Some, codes, if◌then◌else◌}
+use Rattle.std.specs.Prelude.{◌≡◌, ◌≢◌, ◌<◌, ℕ, suc, Bool, List, [], ◌∷◌, length, Option, None, Some, map, if◌then◌else◌}
 use Rattle.claim_tree.specs.Tree.{Text, Tree}
 use Rattle.claim_tree.specs.Lists.{IsLeast, AtNone}
 use Rattle.compact_form.specs.Compact.{compact, hashed}
@@ -10,6 +10,7 @@ use Rattle.sd_outside.specs.Limits.{compact_max}
 use Rattle.compact_form.specs.declared.parts.JwtParts.{JwtParts}
 use Rattle.compact_form.specs.declared.parts.Parts.{Parts}
 use Rattle.disclosure.specs.declared.digests.HashAlg.{HashAlg}
+use Rattle.hmac_sign.specs.Algs.{algs, alg_text}
 use Rattle.hmac_sign.specs.Signatures.{Meaning}
 use Rattle.hmac_sign.specs.declared.key_set.NamedKey.{NamedKey}
 use Rattle.json_form.specs.Token.{IsToken}
@@ -45,9 +46,9 @@ shown_for marked want = strip (prune marked (chosen marked want))
 
 -- ---- what is asked of the token
 
--- it may be signed by these keys, with HS256 alone, and its type is not judged
+-- it may be signed by these keys, with any algorithm that is known, and its type is not judged
 abbrev pub held_rules : List NamedKey → Rules
-held_rules keys = asked keys (codes "HS256" ∷ []) None
+held_rules keys = asked keys (map alg_text algs) None
 
 -- it has no key binding token, no condition from 5 to 21 fails, and it processes to this payload
 pub record IsHeld (token : Token) (ask : Ask) (marked : Marked) : Type 0 where

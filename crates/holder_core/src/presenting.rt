@@ -8,7 +8,7 @@ ghost use Rattle.compact_form.specs.Lowest.{IsLowest};
 ghost use Rattle.sd_outside.specs.Limits.{compact_max};
 ghost use Rattle.disclosure.specs.declared.digests.HashAlg.{HashAlg as SeenHash};
 ghost use Rattle.hmac_sign.specs.Agreement.{Agree};
-ghost use Rattle.hmac_sign.specs.declared.sign.Alg.{Alg};
+ghost use Rattle.hmac_sign.specs.declared.alg.Alg.{Alg};
 ghost use Rattle.json_form.specs.Token.{IsToken};
 ghost use Rattle.json_form.specs.declared.token.Token.{Token as SeenToken};
 ghost use Rattle.key_binding.specs.Judged.{holder_kid as holder_kid_of};
@@ -30,7 +30,7 @@ use claim_tree::{Path, PathList, Tree};
 use compact_form::{COMPACT_MAX, JwtParts, Parts, hashed_text, is_longer_than};
 use digest_index::Steps;
 use disclosure::HashAlg;
-use hmac_sign::{KeySet, Signer};
+use hmac_sign::{KeySet, Signer, alg_names};
 use json_form::{Disclosures, TokenError, TokenText, TokenView};
 use key_binding::{BindError, bind, holder_kid};
 use marked_tree::{ChosenSet, Marked, into_tree, prune};
@@ -42,7 +42,7 @@ use verifier_core::{Content, Rules, VerifyError};
 /// Presents a token as it comes from a file, RFC 9901 section 7.2: the issuer's JWT, the disclosures that lead to the wanted places in
 /// their order, and a key binding token of a moment in seconds since 1970 where one is asked for.
 ///
-/// The token is checked by the conditions 5 to 21, with HS256 as the one algorithm that is allowed and whatever its type is. The rule is
+/// The token is checked by the conditions 5 to 21, with each algorithm allowed that is known, and whatever its type is. The rule is
 /// asked for the place of each disclosure that is chosen. The signer is asked once, when all else is there, and not at all where no key
 /// binding token is asked for. `steps` counts the look-ups of digests.
 pub fn present<S: Signer, F: Fn(&Path) -> bool>(
@@ -211,15 +211,6 @@ fn finish<S: Signer>(
     Ok(parts)
 }
 
-// The algorithms that are allowed.
-fn hs256_alone(alloc: Global) -> Result<TextList, NoMemory>
-    ensures { IfOk result (λ algs. algs ≡ codes "HS256" ∷ []) }
-{
-    let mut algs = TextList::new(alloc);
-    algs.push(TextBox::make(alloc, "HS256")?)?;
-    Ok(algs)
-}
-
 // The conditions 5 to 13, but 8, where the token may be signed with these algorithms.
 fn read_signed<'a>(
     alloc: Global,
@@ -239,14 +230,14 @@ fn read_signed<'a>(
     Content::read(alloc, token, &rules)
 }
 
-// The conditions 5 to 13, but 8, where it may be signed with HS256 alone.
+// The conditions 5 to 13, but 8, where it may be signed with any algorithm that is known.
 fn check_held(alloc: Global, token: &TokenView<'_>, keys: &KeySet) -> Result<Content, PresentError>
     requires few { length token.now.parts.disclosures < 2 ^ 32 - 1 }
     ensures content { IfOk result (IsContent token.now (held_rules keys.now)) }
     ensures refused { IfErr result (IsUnchecked token.now (held_rules keys.now)) }
 {
-    let algs = hs256_alone(alloc)?;
-    Ok(read_signed(alloc, token, keys, &algs)?)
+    let names = alg_names(alloc)?;
+    Ok(read_signed(alloc, token, keys, &names)?)
 }
 
 // The disclosures that lead to the wanted places, if each place is there and the rule allows all that is chosen.

@@ -10,6 +10,7 @@ use Rattle.disclosure.specs.Disclosure.{IsDisclosure}
 use Rattle.disclosure.specs.declared.digests.HashAlg.{HashAlg}
 use Rattle.disclosure.proofs.HashNames.{of_its_name}
 use Rattle.hmac_sign.specs.Signatures.{Meaning}
+use Rattle.hmac_sign.specs.declared.alg.Alg.{Alg}
 use Rattle.rebuild_core.specs.Soundness.{IsSound}
 use Rattle.rebuild_core.specs.Payload.{alg_name, without_alg}
 use Rattle.issuer_core.specs.Decoys.{decoys_of}
@@ -34,12 +35,12 @@ abbrev pub IsTextOf : HashAlg → Text → Given → Type 0
 IsTextOf hash d x = (x.digest ≡ digest_of hash d) × (salt : Tree) × IsDisclosure d salt x.name x.value
 
 -- the parts carry this payload and these disclosures, which are issued for the order
-pub record HasIssued (seed : List ℕ) (o : Order) (good : Meaning) (parts : Parts) : Type 0 where
+pub record HasIssued (seed : List ℕ) (o : Order) (alg : Alg) (good : Meaning) (parts : Parts) : Type 0 where
   pub payload : Tree
   pub given : List Given
   pub issued : IsIssuedFor (maker_of seed) o payload given
-  pub written : IsWritten (maker_of seed) o good payload given parts
-  pub back : IsReadBack o payload given parts
+  pub written : IsWritten (maker_of seed) o alg good payload given parts
+  pub back : IsReadBack o alg payload given parts
   pub sound : IsSound payload given
   pub hash : payload_hash (with_alg o.hash payload) ≡ Some o.hash
   pub bare : without_alg (with_alg o.hash payload) ≡ payload
@@ -77,12 +78,12 @@ laid_digests_differ seed o p g dg laid differ writable =
     laid_is_issued_holds (maker_of seed) o p g dg writable.good writable.ranged (held_short o.payload writable.held) laid
     (all_differ dg (hidden_of o + length (decoys_of o)) (no_repeats (laid_digests o dg) (λ i j clash. differ i j (record { payload = p; given = g; digests = dg; laid = laid; clash = clash }))))
 
-pub has_issued : (seed : List ℕ) (o : Order) (good : Meaning) (parts : Parts) → IsWritable o → HasNoClash (maker_of seed) o → IsLaidOut (maker_of seed) o good parts → HasIssued seed o good parts
-has_issued seed o good parts writable differ out =
+pub has_issued : (seed : List ℕ) (o : Order) (alg : Alg) (good : Meaning) (parts : Parts) → IsWritable o → HasNoClash (maker_of seed) o → IsLaidOut (maker_of seed) o alg good parts → HasIssued seed o alg good parts
+has_issued seed o alg good parts writable differ out =
     let p = out.payload in
     let g = out.given in
     let issued = laid_digests_differ seed o p g out.digests out.laid differ writable in
-    let back = written_back seed o p g out.digests writable out.laid good parts out.written in
+    let back = written_back seed o p g out.digests writable out.laid alg good parts out.written in
     record {
       payload = p;
       given = g;

@@ -20,6 +20,7 @@ use Rattle.disclosure.specs.declared.digests.HashAlg.{HashAlg}
 use Rattle.disclosure.proofs.Arrays.{array_of-injective}
 use Rattle.disclosure.proofs.ReadBack.{array_texts, array_ranged, array_ordered}
 use Rattle.hmac_sign.specs.Signatures.{Meaning}
+use Rattle.hmac_sign.specs.declared.alg.Alg.{Alg}
 use Rattle.jws_part.specs.Part.{IsBody}
 use Rattle.marked_tree.specs.Marked.{Marked, marked_member, strip, strip_members}
 use Rattle.marked_tree.specs.Ways.{ways}
@@ -103,7 +104,7 @@ pub record IsReadOnlyAs (hash_is : HashAlg) (parts : Parts) (p : Tree) (g : List
   pub disclosures : (i : ℕ) (d : Text) (x : Given) → StandsAt parts.disclosures i d → IsTextOf hash_is d x → StandsAt g i x
   pub digests : given_digests g ≡ map (digest_of hash_is) parts.disclosures
 
-module _ (seed : List ℕ) (o : Order) (good : Meaning) (p : Tree) (g : List Given) (parts : Parts) (good_order : IsGoodOrder o) (held : FitsMachine o.payload) (issued : IsIssuedFor (maker_of seed) o p g) (written : IsWritten (maker_of seed) o good p g parts) where
+module _ (seed : List ℕ) (o : Order) (alg : Alg) (good : Meaning) (p : Tree) (g : List Given) (parts : Parts) (good_order : IsGoodOrder o) (held : FitsMachine o.payload) (issued : IsIssuedFor (maker_of seed) o p g) (written : IsWritten (maker_of seed) o alg good p g parts) where
   sound : IsSound p g
   sound = issued_is_sound_holds (maker_of seed) o p g good_order issued
 

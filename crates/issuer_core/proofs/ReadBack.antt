@@ -1,10 +1,9 @@
 -- What is written for an order is read again.
-use Rattle.std.proofs.Common.{◌≡◌, ℕ, suc, ◌+◌, ◌<◌, ◌≤◌, inl, inr, List, [], ◌∷◌, ◌++◌, length, Bool, true, false, None, Option, Some, IsUtf8, arith, codes, ltb, ltb-true, refl, subst, sym, ap, ◌∙◌}
+use Rattle.std.proofs.Common.{◌≡◌, ℕ, suc, ◌+◌, ◌<◌, ◌≤◌, inl, inr, List, [], ◌∷◌, ◌++◌, length, Bool, true, false, None, Option, Some, IsUtf8, arith, ltb, ltb-true, refl, subst, sym, ap, ◌∙◌}
 use Rattle.std.specs.Prelude.{if◌then◌else◌}
 use Rattle.std.specs.List.{AllZip}
 use Rattle.std.proofs.lemmas.Bool.{lt-ltb}
 use Rattle.std.proofs.lemmas.Str.{IsUtf8-nil}
-use Rattle.json.proofs.Printed.Utf8.{IsUtf8-are_ascii}
 use Rattle.b64url_text.specs.Base64url.{b64}
 use Rattle.b64url_text.proofs.Texts.{b64_utf8}
 use Rattle.claim_tree.specs.Tree.{Text, Tree, leaf, text, array, object, no_members, depth, IsOrdered, IsRanged}
@@ -28,6 +27,8 @@ use Rattle.issuer_core.specs.Closing.{one, HasNumber, ClosesFrom, ElementsClose,
 use Rattle.issuer_core.specs.Decoys.{decoys_of, decoys_at}
 use Rattle.issuer_core.specs.Digests.{marked_claims, hidden_of, made_texts}
 use Rattle.issuer_core.specs.GoodOrder.{IsObject, IsWritable}
+use Rattle.hmac_sign.specs.declared.alg.Alg.{Alg}
+use Rattle.hmac_sign.proofs.AlgNames.{text_utf8}
 use Rattle.issuer_core.specs.Laid.{IsLaid, with_alg, order_decoys}
 use Rattle.issuer_core.specs.Order.{Order}
 use Rattle.issuer_core.specs.Salts.{salt_of, salt_piece}
@@ -76,8 +77,8 @@ module _ (dg dh : ℕ → Text) (most : ℕ) (same : (k : ℕ) → k < most → 
 -- ---- an order
 
 -- the parts are read as what is written
-pub record IsReadBack (o : Order) (payload : Tree) (given : List Given) (parts : Parts) : Type 0 where
-  pub header : IsHeader parts.signed.protected no_members (header_of o)
+pub record IsReadBack (o : Order) (alg : Alg) (payload : Tree) (given : List Given) (parts : Parts) : Type 0 where
+  pub header : IsHeader parts.signed.protected no_members (header_of alg o)
   pub body : IsBody parts.signed.payload (with_alg o.hash payload)
   pub disclosures : AllZip (λ (d : Text) (x : Given). (salt : Tree) × IsDisclosure d salt x.name x.value) parts.disclosures given
 
@@ -181,8 +182,8 @@ module _ (seed : List ℕ) (o : Order) (p : Tree) (g : List Given) (dg : ℕ →
       body_of_object (leaf l) h c = absurd h
       body_of_object (array es) h c = absurd h
 
-  pub written_back : (good : Meaning) (parts : Parts) → IsWritten (maker_of seed) o good p g parts → IsReadBack o p g parts
-  written_back good parts written =
+  pub written_back : (alg : Alg) (good : Meaning) (parts : Parts) → IsWritten (maker_of seed) o alg good p g parts → IsReadBack o alg p g parts
+  written_back alg good parts written =
       let readable = laid_is_readable_holds (maker_of seed) o p g dg writable.good laid in
       let shallow = writable.good.shallow in
       let each : (i : ℕ) (x : Given) → StandsAt g i x → GivenTexts x × IsRanged x.value × IsOrdered x.value × (depth x.value ≤ 126) = λ i x a.
@@ -190,7 +191,7 @@ module _ (seed : List ℕ) (o : Order) (p : Tree) (g : List Given) (dg : ℕ →
       let low = value_depth (maker_of seed) o p g dg laid x m in
       (given_texts x m, value_ranged (maker_of seed) o p g dg laid writable.ranged x m, readable.in_values x m, omega (arith, low, shallow)) in
       record {
-        header = header_back parts.signed.protected (header_of o) written.protected (IsUtf8-are_ascii (codes "HS256") refl) writable.kid writable.typ;
+        header = header_back parts.signed.protected (header_of alg o) written.protected (text_utf8 alg) writable.kid writable.typ;
         body = body_back parts.signed.payload written.body;
         disclosures = subst (λ (ds : List Text). AllZip (λ (d : Text) (x : Given). (salt : Tree) × IsDisclosure d salt x.name x.value) ds g) (sym written.disclosures) (salts_back seed 0 g each);
       }

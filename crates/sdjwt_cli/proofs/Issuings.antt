@@ -3,6 +3,7 @@ use Rattle.std.proofs.Common.{◌≡◌, ◌≢◌, ℕ, List, refl, arith}
 use Rattle.std.specs.Array.{IsFirstChunk}
 use Rattle.sd_outside.specs.Causes.{Rose}
 use Rattle.hmac_sign.specs.Signatures.{Meaning}
+use Rattle.hmac_sign.specs.declared.alg.Alg.{Alg}
 use Rattle.issuer_core.specs.declared.errors.IssueError.{IssueError}
 use Rattle.issuer_core.specs.declared.errors.IssueError.TheVariants.{Memory, SignFailed}
 use Rattle.issuer_core.specs.declared.order_file.IssueFile.{IssueFile}
@@ -23,8 +24,8 @@ pub never : Rose 0 0 → ⊥
 never h = omega (arith, h)
 
 -- beside want of memory and a signer that fails an error is a refusal
-module _ (maker : Maker) (o : Order) (good : Meaning) where
-  pub lowest : (error : IssueError) → error ≢ Memory → error ≢ SignFailed → IsNotIssued maker o good error → IsLowestRefusal (AppliesToIssue maker o good) error
+module _ (maker : Maker) (o : Order) (alg : Alg) (good : Meaning) where
+  pub lowest : (error : IssueError) → error ≢ Memory → error ≢ SignFailed → IsNotIssued maker o alg good error → IsLowestRefusal (AppliesToIssue maker o alg good) error
   lowest Memory memory failed h = absurd (memory refl)
   lowest SignFailed memory failed h = absurd (failed refl)
   lowest error memory failed h = h

@@ -8,6 +8,7 @@ use Rattle.compact_form.specs.declared.parts.Parts.{Parts}
 use Rattle.compact_form.specs.Lowest.{NoneApplies}
 use Rattle.disclosure.specs.Digest.{digest_of}
 use Rattle.hmac_sign.specs.Signatures.{Meaning}
+use Rattle.hmac_sign.specs.declared.alg.Alg.{Alg}
 use Rattle.json_form.specs.Token.{IsToken}
 use Rattle.json_form.specs.declared.token.Token.{Token}
 use Rattle.marked_tree.specs.Marked.{Marked, strip, prune}
@@ -53,7 +54,7 @@ ShowsIssued maker o parts =
 
 -- the parts are issued, by whoever makes these good signatures, for an order that nothing of 51 to 59 refuses, and whose
 -- claims are a JSON value as a machine holds it
-abbrev pub NoForgery : Meaning → Type 0
-NoForgery good =
+abbrev pub NoForgery : Alg → Meaning → Type 0
+NoForgery alg good =
     (seed : List ℕ) (o : Order) (parts : Parts)
-    → NoneApplies (AppliesToOrder o) → IsOrdered o.payload → FitsMachine o.payload → IsIssued (maker_of seed) o good parts → ShowsIssued (maker_of seed) o parts
+    → NoneApplies (AppliesToOrder o) → IsOrdered o.payload → FitsMachine o.payload → IsIssued (maker_of seed) o alg good parts → ShowsIssued (maker_of seed) o parts

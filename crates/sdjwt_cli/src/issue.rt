@@ -12,7 +12,7 @@ ghost use Rattle.sdjwt_cli.specs.Stops.{OnRefused, OnUnread, OnUnreadable};
 use crate::lines::{as_line, short_seed_line};
 use crate::stop::{Stop, unreadable};
 use compact_form::{Parts, print};
-use hmac_sign::Hs256Key;
+use hmac_sign::HsKey;
 use issuer_core::{IssueError, IssueFile, Order, issue_owned, read_order, refusal_line};
 use std::alloc::Global;
 
@@ -39,7 +39,7 @@ pub(crate) fn issue_parts(
     alloc: Global,
     order: Order,
     seed: &[u8; SEED_LEN],
-    mut key: Hs256Key,
+    mut key: HsKey,
 ) -> Result<Parts, Stop>
     requires depth { depth (tree_of order.payload) ≤ 127 }
     requires ranged { IsRanged (tree_of order.payload) }

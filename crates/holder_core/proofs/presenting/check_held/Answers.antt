@@ -11,8 +11,8 @@ use Rattle.holder_core.proofs.presenting.check_held.Goals as goal
 pub returns-in_err-read_signed-clause-refused : goal.returns-in_err-read_signed-clause-refused
 returns-in_err-read_signed-clause-refused c =
     let from = err_from_is_err_and c.from_residual-in_err-read_signed.result c.from_residual-in_err-read_signed.ensures.1 in
-    let told = subst (λ (names : List Text). OnFault c.in_err-read_signed.field-0.0 (IsLowest (TokenFails c.args.token.now (asked c.args.keys.now names None)))) c.in_ok-algs.ensures c.in_err-read_signed.ensures.refused in
+    let told = subst (λ (names : List Text). OnFault c.in_err-read_signed.field-0.0 (IsLowest (TokenFails c.args.token.now (asked c.args.keys.now names None)))) c.in_ok-names.ensures c.in_err-read_signed.ensures.refused in
     rw (from.1, from.2) (unchecked_told c.args.token.now (held_rules c.args.keys.now) c.in_err-read_signed.field-0.0 told)
 
 pub returns-clause-content : goal.returns-clause-content
-returns-clause-content c = subst (λ (names : List Text). IsContent c.args.token.now (asked c.args.keys.now names None) c.in_ok-read_signed.field-0) c.in_ok-algs.ensures c.in_ok-read_signed.ensures.content
+returns-clause-content c = subst (λ (names : List Text). IsContent c.args.token.now (asked c.args.keys.now names None) c.in_ok-read_signed.field-0) c.in_ok-names.ensures c.in_ok-read_signed.ensures.content

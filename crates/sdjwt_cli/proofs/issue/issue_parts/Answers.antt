@@ -26,6 +26,6 @@ returns-in_ok-as_line-in-Err-clause-refuses c =
     let failed : error ≢ SignFailed = λ is. never (c.in-Err.ensures.failed (ap Err is)) in
     record {
       error = error;
-      lowest = lowest (maker_of c.args.seed.now) (order_of c.args.order) (IsGood c.args.key) error memory failed c.in-Err.ensures.refused;
+      lowest = lowest (maker_of c.args.seed.now) (order_of c.args.order) c.args.key.alg (IsGood c.args.key) error memory failed c.in-Err.ensures.refused;
       line_is = c.in_ok-as_line-in-Err.ensures ∙ ap line c.in_ok-refusal_line-in-Err.ensures;
     }
