@@ -316,11 +316,7 @@ fn count_decoys(decoys: &DecoyList) -> usize
 }
 
 // The digests of the salts from `first` on.
-fn decoy_digests(
-    alloc: Global,
-    hiding: Hiding<'_>,
-    first: usize,
-) -> Result<TextList, NoMemory>
+fn decoy_digests(alloc: Global, hiding: Hiding<'_>, first: usize) -> Result<TextList, NoMemory>
     requires { first ≤ length hiding.salts.now }
     ensures { IfOk result (λ digests. digests ≡ map (digest_of hiding.entry.hash) (drop first hiding.entry.salts.now)) }
 {

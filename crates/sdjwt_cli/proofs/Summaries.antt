@@ -79,7 +79,7 @@ module _ (n : ℕ) (issued : Parts) (is_issued : IsIssuedBy generated_seed (gene
   given_count = is.has.issued.count
 
   text_count : length issued.disclosures ≡ hidden_of (generated n)
-  text_count = zip_length (IsTextOf o.hash) issued.disclosures is.has.given is.has.texts ∙ given_count
+  text_count = zip_length (IsTextOf (generated n).hash) issued.disclosures is.has.given is.has.texts ∙ given_count
 
   hidden_is : length issued.disclosures ≡ hidden_paths n
   hidden_is = text_count ∙ hidden_count_is (generated n) is_issued.passes is_issued.writable.good.ordered (held_short (generated n).payload is_issued.writable.held)
