@@ -19,7 +19,7 @@ TOP = Path(__file__).resolve().parent.parent
 def read_crates():
     """Each crate of the repository, lowest first, with those that it stands on, the kit's too."""
     lines = (TOP / "crates.txt").read_text(encoding="utf-8").split("\n")
-    return {name: words.split() for name, words in re.findall(r"^(\w+):(.*)$", "\n".join(lines), re.M)}
+    return {name: words.split() for name, words in re.findall(r"^(\w+)(?: staticlib)?:(.*)$", "\n".join(lines), re.M)}
 
 
 def all_below(stands_on, name):

@@ -98,7 +98,7 @@ in_code() {
         "$specs/sdjwt_cli/specs/Lines.antt"
     # the payload of an order may be any value
     readers | sed -n '/^const FIELDS/,/];/p' | words_of | sed '/^payload$/d; s/^/6 wrong /'
-    readers | sed -n '/keys*_member(/p; /Missing(Field/p' | words_of | sed 's/^/6 missing /'
+    readers | sed -n '/key[a-z_]*_member(/p; /Missing(Field/p' | words_of | sed 's/^/6 missing /'
     printf '%s\n' '2 usage' '3 unread' '4 unwritten' '5 memory'
 }
 

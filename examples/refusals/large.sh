@@ -1,10 +1,13 @@
 #!/bin/sh
 # Writes the files of this folder that are too large to be kept: sh large.sh FOLDER. `sh large.sh text` prints the text
-# of a disclosure of a megabyte.
+# of a disclosure of eight megabytes.
 set -eu
 
-# A text, so many times.
-repeated() { awk -v text="$1" -v count="$2" 'BEGIN { for (i = 0; i < count; i++) printf "%s", text }'; }
+# A text, so many times: twice as long for each digit of the number in base two.
+repeated() {
+    awk -v text="$1" -v count="$2" '
+        BEGIN { ORS = ""; for (; count; count = int(count / 2)) { if (count % 2) print text; text = text text } }'
+}
 
 # A list of numbers from 0 on, each between two texts, with commas between.
 numbers() {
@@ -15,7 +18,7 @@ numbers() {
 # The letters of ["salt of a large text","large","xx..x"]: each eHh4 is xxx.
 large_text() {
     printf %s WyJzYWx0IG9mIGEgbGFyZ2UgdGV4dCIsImxhcmdlIiwi
-    repeated eHh4 262050
+    repeated eHh4 2097058
     printf %s Il0
 }
 
@@ -26,26 +29,26 @@ fi
 
 signed=$(cd "$(dirname "$0")" && pwd)/75_signed.txt
 cd "$1"
-repeated a 1048577 >1_tooLong.txt
+repeated a 8388609 >1_tooLong.txt
 {
     printf 'a.b.c~'
-    repeated a~ 4097
+    repeated a~ 32769
 } >3_tooMuch.txt
 {
     printf '{"header":{"text":"'
-    repeated a 2097070
+    repeated a 16777134
     printf '"},"payload":"b","protected":"a","signature":"c"}'
 } >3_tooMuch_written.json
 {
     printf '{ "payload": { "list": ['
-    numbers '' '' 4097
+    numbers '' '' 32769
     printf '] }, "hide": ['
-    numbers '"/list/' '"' 4097
+    numbers '"/list/' '"' 32769
     printf '], "key": "dGhlIHRpY2tldCBvZmZpY2Uga2V5LCBub3QgeW91cnM" }'
 } >58_tooManyHidden.json
 {
     printf '{ "payload": { "text": "'
-    repeated a 800000
+    repeated a 7000000
     printf '" }, "key": "dGhlIHRpY2tldCBvZmZpY2Uga2V5LCBub3QgeW91cnM" }'
 } >61_issueTooLong.json
 {
@@ -53,4 +56,4 @@ repeated a 1048577 >1_tooLong.txt
     large_text
     echo '~'
 } >75_presentTooLong.txt
-repeated ' ' 2097153 >tooLong.json
+repeated ' ' 16777217 >tooLong.json

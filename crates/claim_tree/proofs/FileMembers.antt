@@ -26,7 +26,7 @@ text_inside (tree.Tree.Object ms) s e = cc e
 pub no_text : (t : tree.Tree) → ((s : Text) → t ≢ tree.Tree.Text s) → HasValue IsText (tree_of t) → ⊥
 no_text t other h = other h.0 (text_inside t h.0 h.1)
 
-list_inside : (t : tree.Tree) (es : Elements) → tree_of t ≡ array es → t ≡ tree.Tree.List es
+pub list_inside : (t : tree.Tree) (es : Elements) → tree_of t ≡ array es → t ≡ tree.Tree.List es
 list_inside tree.Tree.Null es e = cc e
 list_inside (tree.Tree.Flag b) es e = cc e
 list_inside (tree.Tree.Whole n) es e = cc e

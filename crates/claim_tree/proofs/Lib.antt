@@ -1,3 +1,4 @@
+pub mod Counting
 pub mod Lists
 pub mod Views
 pub mod MapPlaces
@@ -13,6 +14,7 @@ pub mod RoundTrip
 pub mod Everywheres
 pub mod TreeTexts
 pub mod OneTree
+pub mod OwnReading
 pub mod ReadOrdered
 mod PointerEscapes
 mod PointerTildes

@@ -9,19 +9,11 @@ use Rattle.claim_tree.specs.View.{tree_of}
 use Rattle.claim_tree.specs.ListViews.{elements_of}
 use Rattle.claim_tree.specs.declared.tree.Tree as tree
 use Rattle.claim_tree.specs.FileForms.{HasValue, IsText}
-use Rattle.claim_tree.proofs.FileMembers.{no_text}
+use Rattle.claim_tree.proofs.FileMembers.{list_inside, no_text}
 use Rattle.claim_tree.proofs.FileVerdicts.{SaysOne}
 use Rattle.claim_tree.proofs.PointerTexts.{pointer_text-injective, no_path}
 use Rattle.claim_tree.proofs.Walks.{elements_turn}
 use Rattle.claim_tree.specs.FileLists.{EachSays, IsListOf, IsPointer}
-
-list_inside : (t : tree.Tree) (es : Elements) → tree_of t ≡ array es → t ≡ tree.Tree.List es
-list_inside tree.Tree.Null es e = cc e
-list_inside (tree.Tree.Flag b) es e = cc e
-list_inside (tree.Tree.Whole n) es e = cc e
-list_inside (tree.Tree.Text s) es e = cc e
-list_inside (tree.Tree.List other) es e = let same : other ≡ es = cc e in ap tree.Tree.List same
-list_inside (tree.Tree.Object ms) es e = cc e
 
 module _ {X : Type 0} (Is : spec.Tree → X → Type 0) where
   -- a tree that is no list

@@ -1,5 +1,5 @@
 -- Elements of lists and tests on them, by cases on the list.
-use Rattle.std.proofs.Common.{◌≡◌, ℕ, zero, suc, ◌+◌, ◌<◌, List, [], ◌∷◌, ◌++◌, map, length, get_or, Bool, true, false, ◌||◌, ◌&&◌, ◌⊎◌, inl, inr, ⊎_elim, Option, Some, refl, sym, ap, ◌∙◌, subst, arith}
+use Rattle.std.proofs.Common.{◌≡◌, ℕ, zero, suc, ◌+◌, ◌<◌, List, [], ◌∷◌, ◌++◌, map, length, slice_get, get_or, Bool, true, false, ◌||◌, ◌&&◌, ◌⊎◌, inl, inr, ⊎_elim, Option, Some, None, refl, sym, ap, ◌∙◌, subst, arith}
 use Rattle.std.specs.Prelude.{bytes_eq}
 use Rattle.std.specs.List.{list_any}
 use Rattle.std.proofs.lemmas.Slice.Eq.{bytes_eq-Decides}
@@ -69,6 +69,12 @@ pub In-At : {X : Type 0} (xs : List X) (x : X) → In x xs → (i : ℕ) × Stan
 In-At (y ∷ ys) x (inl e) = (0, e)
 In-At (y ∷ ys) x (inr h) = let w = In-At ys x h in (suc w.0, w.1)
 In-At [] x h = elim h [ ]
+
+-- what is read at a place stands there
+pub got_stands : {X : Type 0} (xs : List X) (i : ℕ) (x : X) → slice_get xs i ≡ Some x → StandsAt xs i x
+got_stands [] i x e = absurd (cc e)
+got_stands (y ∷ xs) zero x e = let same : Some y ≡ Some x = e in sym (cc same)
+got_stands (y ∷ xs) (suc i) x e = got_stands xs i x e
 
 pub At-same : {X : Type 0} (xs : List X) (i : ℕ) (x y : X) → StandsAt xs i x → StandsAt xs i y → x ≡ y
 At-same (z ∷ zs) zero x y h k = h ∙ sym k

@@ -91,7 +91,7 @@ digits_number (pos n) h = IsNumber-decimal n h
 digits_number (negsuc n) h = IsNumber-signed_decimal (negsuc n) h
 
 mutual
-  numbers : (t : Tree) → IsRanged t → tree.HasNumbers (outline (data_of t))
+  pub numbers : (t : Tree) → IsRanged t → tree.HasNumbers (outline (data_of t))
   numbers (leaf null) r = tt
   numbers (leaf (flag b)) r = tt
   numbers (leaf (whole z)) r = digits_number z r
@@ -108,7 +108,7 @@ mutual
   members_numbers (member name t ms) r = (numbers t r.0, members_numbers ms r.1)
 
 mutual
-  outline_depth : (t : Tree) → tree.depth (outline (data_of t)) ≡ depth t
+  pub outline_depth : (t : Tree) → tree.depth (outline (data_of t)) ≡ depth t
   outline_depth (leaf null) = refl
   outline_depth (leaf (flag b)) = refl
   outline_depth (leaf (whole z)) = refl

@@ -1,7 +1,8 @@
-ghost use Rattle.std.specs.Prelude.{◌≡◌, ◌-◌, List, [], ◌∷◌, ◌++◌, length, take, IfOk, OnOk, OnErr, slice_get};
+ghost use Rattle.std.specs.Prelude.{◌≡◌, ◌-◌, List, [], ◌∷◌, ◌++◌, length, reverse, take, decimal, IfOk, OnOk, OnErr, slice_get};
 ghost use Rattle.std.specs.Option.{option_copied};
 
-use sd_outside::{NoMemory, TextBox};
+use itoa::Buffer;
+use sd_outside::{ListOf, NoMemory, TextBox};
 use std::alloc::Global;
 use std::marker::Model;
 
@@ -28,6 +29,15 @@ impl Path {
         Path {
             steps: Vec::new(alloc),
         }
+    }
+
+    /// The path of steps that are given from the last to the first, with no copy.
+    pub fn from_last(steps: Vec<TextBox>) -> Path
+        ensures { result ≡ reverse steps.items }
+    {
+        let mut steps = steps;
+        steps.reverse();
+        Path { steps }
     }
 
     /// Adds a step at the end.
@@ -80,64 +90,23 @@ impl Path {
 }
 
 /// Paths in order. Contracts see the list of them.
-#[derive(Debug, Drop)]
-pub struct PathList {
-    paths: Vec<Path>,
+pub type PathList = ListOf<Path>;
+
+/// A copy of paths.
+pub fn copy_paths(alloc: Global, paths: &PathList) -> Result<PathList, NoMemory>
+    ensures { IfOk result (λ copies. copies ≡ paths.now) }
+{
+    let mut copies = PathList::new(alloc);
+    for path in paths.elements() {
+        copies.push(path.copy(alloc)?)?;
+    }
+    Ok(copies)
 }
 
-impl Model for PathList {
-    ghost use Rattle.std.specs.Prelude.{List, ℕ};
-
-    ghost Value = { List (List (List ℕ)) };
-
-    ghost view = { λ l. l.paths.items };
-}
-
-impl PathList {
-    /// No paths. It takes no memory.
-    pub fn new(alloc: Global) -> PathList
-        ensures { result ≡ [] }
-    {
-        PathList {
-            paths: Vec::new(alloc),
-        }
-    }
-
-    /// Adds a path at the end.
-    pub fn push(&mut self, path: Path) -> Result<(), NoMemory>
-        ensures ok { OnOk result (self.new ≡ self.old ++ path ∷ []) }
-        ensures err { OnErr result (self.new ≡ self.old) }
-    {
-        self.paths.push(path)?;
-        Ok(())
-    }
-
-    /// The paths, in their order.
-    pub fn paths(&self) -> &[Path]
-        ensures { result.now ≡ self.now }
-    {
-        self.paths.as_slice()
-    }
-
-    /// The paths, in their order, with no copy.
-    pub fn into_paths(self) -> Vec<Path>
-        ensures { result.items ≡ self }
-    {
-        let PathList { paths } = self;
-        paths
-    }
-
-    /// The number of paths.
-    pub fn len(&self) -> usize
-        ensures { result ≡ length self.now }
-    {
-        self.paths.len()
-    }
-
-    /// The path at a position, counted from 0.
-    pub fn at(&self, i: usize) -> Option<&Path>
-        ensures { option_copied result ≡ slice_get self.now i }
-    {
-        self.paths.get(i)
-    }
+/// The decimal digits of a position: the step to it.
+pub fn digits(alloc: Global, i: usize) -> Result<TextBox, NoMemory>
+    ensures { IfOk result (λ text. text ≡ decimal i) }
+{
+    let mut digits = Buffer::new();
+    TextBox::make(alloc, digits.format(i))
 }

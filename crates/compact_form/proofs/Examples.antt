@@ -1,11 +1,18 @@
 -- Worked values, by the definitions.
 use Rattle.std.proofs.Common.{◌≡◌, List, ℕ, [], ◌∷◌, Option, None, Some, true, false, codes, refl, arith}
 use Rattle.b64url_text.specs.Base64url.{letters, is_letter, IsWord}
+use Rattle.std.specs.Fmt.{digits}
 use Rattle.compact_form.specs.declared.field.Field.TheVariants.{Protected, Signature, Piece, BindingSignature}
 use Rattle.compact_form.specs.declared.parts.JwtParts.{JwtParts}
 use Rattle.compact_form.specs.declared.parts.Parts.{Parts}
-use Rattle.compact_form.specs.Compact.{hashed, compact, IsCompact, IsMisformedAt}
+use Rattle.compact_form.specs.Compact.{hashed, compact, HasWords, IsCompact, IsMisformedAt}
 use Rattle.compact_form.specs.Trim.{trimmed}
+use Rattle.compact_form.specs.declared.condition.Condition.{Condition}
+use Rattle.compact_form.specs.declared.fault.JsonPlace.{JsonPlace}
+use Rattle.compact_form.specs.declared.fault.Part.{Part}
+use Rattle.compact_form.specs.declared.fault.Place.TheVariants.{Json}
+use Rattle.compact_form.specs.Faults.{fault_at, unplaced, placed}
+use Rattle.compact_form.specs.RefusedText.{fault_text}
 use Rattle.compact_form.proofs.Stops.{refused_at_byte, refused_at_end}
 
 abbrev jwt_of : List ℕ → List ℕ → List ℕ → JwtParts
@@ -23,47 +30,28 @@ bound = parts_of (codes "d" ∷ []) (Some (jwt_of (codes "e") (codes "f") (codes
 abbrev two : Parts
 two = parts_of (codes "d" ∷ codes "e" ∷ []) None
 
-a : IsWord (codes "a")
-unfolding is_letter letters
-a = record { some = omega arith; letters = refl }
+letter : (byte : ℕ) → is_letter byte ≡ true → IsWord (byte ∷ [])
+letter byte is = record { some = omega arith; letters = rw is refl }
 
-b : IsWord (codes "b")
+signed_words : HasWords (jwt_of (codes "a") (codes "b") (codes "c"))
 unfolding is_letter letters
-b = record { some = omega arith; letters = refl }
-
-c : IsWord (codes "c")
-unfolding is_letter letters
-c = record { some = omega arith; letters = refl }
-
-d : IsWord (codes "d")
-unfolding is_letter letters
-d = record { some = omega arith; letters = refl }
-
-e : IsWord (codes "e")
-unfolding is_letter letters
-e = record { some = omega arith; letters = refl }
-
-f : IsWord (codes "f")
-unfolding is_letter letters
-f = record { some = omega arith; letters = refl }
-
-g : IsWord (codes "g")
-unfolding is_letter letters
-g = record { some = omega arith; letters = refl }
+signed_words = record { protected = letter 97 refl; payload = letter 98 refl; signature = letter 99 refl }
 
 -- ---- texts and the parts that they spell
 
 issued : IsCompact bare (codes "a.b.c~")
-issued = record { signed = record { protected = a; payload = b; signature = c }; disclosures = tt; binding = tt; spelling = refl }
+issued = record { signed = signed_words; disclosures = tt; binding = tt; spelling = refl }
 
 disclosed : IsCompact two (codes "a.b.c~d~e~")
-disclosed = record { signed = record { protected = a; payload = b; signature = c }; disclosures = (d, (e, tt)); binding = tt; spelling = refl }
+unfolding is_letter letters
+disclosed = record { signed = signed_words; disclosures = (letter 100 refl, (letter 101 refl, tt)); binding = tt; spelling = refl }
 
 pub presented : IsCompact bound (codes "a.b.c~d~e.f.g")
+unfolding is_letter letters
 presented = record {
-  signed = record { protected = a; payload = b; signature = c };
-  disclosures = (d, tt);
-  binding = record { protected = e; payload = f; signature = g };
+  signed = signed_words;
+  disclosures = (letter 100 refl, tt);
+  binding = record { protected = letter 101 refl; payload = letter 102 refl; signature = letter 103 refl };
   spelling = refl;
 }
 
@@ -101,3 +89,17 @@ padded = refused_at_byte (codes "a.b.c~d=~") 7 (Piece, true) (omega arith) refl 
 
 trimmed_at_both_ends : trimmed (codes " a.b.c~ \n") ≡ codes "a.b.c~"
 trimmed_at_both_ends = refl
+
+-- ---- lines
+
+no_place : fault_text (unplaced Condition.Expired) ≡ codes "refused 25 expired"
+unfolding digits
+no_place = refl
+
+a_place : fault_text (placed Condition.ClaimMissing 10) ≡ codes "refused 23 claimMissing at 10"
+unfolding digits
+a_place = refl
+
+a_member : fault_text (fault_at Condition.Form (Json (JsonPlace.Missing Part.KbJwt))) ≡ codes "refused 2 form at missing kb_jwt"
+unfolding digits
+a_member = refl

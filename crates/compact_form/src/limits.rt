@@ -1,11 +1,11 @@
 /// The most bytes of a file that is read.
-pub const FILE_MAX: usize = 2_097_152;
+pub const FILE_MAX: usize = 16_777_216;
 
 /// The most bytes of a compact text.
-pub const COMPACT_MAX: usize = 1_048_576;
+pub const COMPACT_MAX: usize = 8_388_608;
 
 /// The most bytes of a compact text that is issued. What is left to `COMPACT_MAX` holds a key binding token.
-pub const ISSUE_MAX: usize = 1_040_384;
+pub const ISSUE_MAX: usize = 8_380_416;
 
 /// The most disclosures of a token, and the most hidden places and decoys of an issue order.
-pub const COUNT_MAX: usize = 4_096;
+pub const COUNT_MAX: usize = 32_768;

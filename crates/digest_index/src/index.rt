@@ -9,30 +9,29 @@ use sd_outside::NoMemory;
 use std::alloc::Global;
 use std::marker::Model;
 
-/// Distinct texts, in the order in which they were first seen. Contracts see the list of them.
+/// Distinct texts, borrowed, in the order in which they were first seen. Contracts see the list of them.
 ///
 /// A position never changes, and a look-up costs one hash of the text, which begins with a seed. Someone who picks the
 /// texts and knows the seed can pick ones that collide.
 #[derive(Debug, Drop)]
-pub struct DigestIndex {
-    alloc: Global,
-    texts: IndexSet<String, Seeded>,
+pub struct DigestIndex<'a> {
+    texts: IndexSet<&'a str, Seeded>,
 }
 
-impl Model for DigestIndex {
-    ghost use Rattle.std.specs.Prelude.{List, ℕ, map, string_bytes, bytes_eq};
+impl<'a> Model for DigestIndex<'a> {
+    ghost use Rattle.std.specs.Prelude.{List, ℕ, map, bytes_eq};
     ghost use Rattle.std.specs.List.{IsDistinct};
 
     ghost Value = { List (List ℕ) };
 
-    ghost view = { λ d. map string_bytes d.texts.keys };
+    ghost view = { λ d. map (λ t. t.now) d.texts.keys };
 
-    ghost invariant = { λ d. IsDistinct bytes_eq (map string_bytes d.texts.keys) };
+    ghost invariant = { λ d. IsDistinct bytes_eq (map (λ t. t.now) d.texts.keys) };
 }
 
-impl DigestIndex {
+impl<'a> DigestIndex<'a> {
     /// No texts, for who trusts those that are to come: the seed is 0. It takes no memory.
-    pub fn new(alloc: Global) -> DigestIndex
+    pub fn new(alloc: Global) -> DigestIndex<'a>
         ensures { result ≡ [] }
     {
         DigestIndex::with_seed(alloc, 0)
@@ -41,11 +40,10 @@ impl DigestIndex {
     /// No texts, whose hashes are to begin with this seed. It takes no memory.
     ///
     /// No contract speaks of the seed: it changes no answer, but which texts are slow to look up together.
-    pub fn with_seed(alloc: Global, seed: u64) -> DigestIndex
+    pub fn with_seed(alloc: Global, seed: u64) -> DigestIndex<'a>
         ensures { result ≡ [] }
     {
         DigestIndex {
-            alloc,
             texts: IndexSet::with_hasher(alloc, Seeded::new(seed)),
         }
     }
@@ -60,8 +58,8 @@ impl DigestIndex {
 
     /// The position of a text, counted from 0, which is put at the end where it is new.
     ///
-    /// Only a text that is new is copied, so one that is there takes no memory.
-    pub fn intern(&mut self, text: &str, steps: &mut Steps) -> Result<usize, NoMemory>
+    /// A text that is there takes no memory.
+    pub fn intern(&mut self, text: &'a str, steps: &mut Steps) -> Result<usize, NoMemory>
         ensures place { IfOk result (λ place. place ≡ position_or_end text.now self.old) }
         ensures ok { OnOk result (self.new ≡ interned text.now self.old) }
         ensures err { OnErr result (self.new ≡ self.old) }
@@ -69,11 +67,8 @@ impl DigestIndex {
         ensures distinct { IsDistinct bytes_eq self.new }
         ensures ticked { steps.new ≡ ticked steps.old }
     {
-        if let Some(place) = self.find(text, steps) {
-            return Ok(place);
-        }
-        let copy = String::from_str(self.alloc, text)?;
-        let (place, _) = self.texts.insert_full(copy)?;
+        steps.tick();
+        let (place, _) = self.texts.insert_full(text)?;
         Ok(place)
     }
 

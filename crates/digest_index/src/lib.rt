@@ -11,4 +11,5 @@ mod steps;
 mod tests;
 
 pub use index::DigestIndex;
+pub use seeded::Seeded;
 pub use steps::Steps;

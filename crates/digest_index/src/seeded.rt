@@ -1,15 +1,15 @@
-// A hash that begins with a seed.
 use std::hash::{BuildHasher, DefaultHasher, Hasher};
 
-// Makes each hasher as it stands behind the seed. It is SipHash-1-3, so that which texts collide can't be known without
-// the seed.
+/// Makes hashers that stand behind a seed. They are SipHash-1-3, so that which keys collide can't be known without the
+/// seed.
 #[derive(Clone, Copy, Debug)]
-pub(crate) struct Seeded {
+pub struct Seeded {
     start: DefaultHasher,
 }
 
 impl Seeded {
-    pub(crate) fn new(seed: u64) -> Seeded {
+    /// Hashes that begin with this seed. No contract speaks of it: it changes no answer of a set.
+    pub fn new(seed: u64) -> Seeded {
         let mut start = DefaultHasher::new();
         start.write_u64(seed);
         Seeded { start }

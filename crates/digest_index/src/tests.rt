@@ -1,5 +1,15 @@
 use crate::{DigestIndex, Steps};
+use std::alloc::Global;
 use std::test::Fail;
+
+// The digits of the numbers below `count`.
+fn digits(alloc: Global, count: usize) -> Result<Vec<String>, Fail> {
+    let mut texts = Vec::new(alloc);
+    for i in 0..count {
+        texts.push(format!(in alloc; "{i}")?)?;
+    }
+    Ok(texts)
+}
 
 #[test]
 fn texts_are_numbered_by_first_sight(rt: HostRuntime) -> Result<(), Fail> {
@@ -33,11 +43,11 @@ fn texts_are_numbered_by_first_sight(rt: HostRuntime) -> Result<(), Fail> {
 #[test]
 fn many_texts_keep_their_places(rt: HostRuntime) -> Result<(), Fail> {
     let alloc = rt.alloc();
+    let texts = digits(alloc, 1000)?;
     let mut index = DigestIndex::new(alloc);
     let mut steps = Steps::new();
     for round in 0..2 {
-        for i in 0..1000usize {
-            let text = format!(in alloc; "{i}")?;
+        for (i, text) in texts.iter().enumerate() {
             assert_eq!(rt; index.intern(text.as_str(), &mut steps)?, i);
         }
         assert_eq!(rt; index.len(), 1000);
@@ -50,11 +60,11 @@ fn many_texts_keep_their_places(rt: HostRuntime) -> Result<(), Fail> {
 #[test]
 fn a_seed_changes_no_place(rt: HostRuntime) -> Result<(), Fail> {
     let alloc = rt.alloc();
+    let texts = digits(alloc, 100)?;
     for seed in [0, 1, 0x8000_0000_0000_0000, 0xffff_ffff_ffff_ffff] {
         let mut index = DigestIndex::with_seed(alloc, seed);
         let mut steps = Steps::new();
-        for i in 0..100usize {
-            let text = format!(in alloc; "{i}")?;
+        for (i, text) in texts.iter().enumerate() {
             assert_eq!(rt; index.intern(text.as_str(), &mut steps)?, i);
             assert_eq!(rt; index.find(text.as_str(), &mut steps), Some(i));
         }

@@ -1,6 +1,5 @@
 // The sites of a tree, in their order.
 ghost use Rattle.std.specs.Prelude.{◌≡◌, [], ◌∷◌, ◌++◌, map, false, Some, IsSome, IfOk, IfErr, OnOk, unwrap_or};
-ghost use Rattle.std.specs.Fmt.{decimal};
 ghost use Rattle.claim_tree.specs.View.{tree_of};
 ghost use Rattle.digest_sites.specs.Reserved.{misuses, texts_of, element_digest as digest_in};
 ghost use Rattle.digest_sites.specs.Sites.{sites as sites_of};
@@ -11,7 +10,7 @@ ghost use Rattle.digest_sites.specs.declared.site.SiteKind.TheVariants.{Member};
 use crate::misuse::is_misused;
 use crate::reserved::{element_digest, is_sd, own_digests};
 use crate::site::{Site, SiteKind, SiteList};
-use claim_tree::{Path, Tree, TreeList, TreeMap};
+use claim_tree::{Path, Tree, TreeList, TreeMap, digits};
 use sd_outside::{NoMemory, TextBox};
 use std::alloc::Global;
 
@@ -135,13 +134,6 @@ fn walk_inside(
     walk(alloc, tree, at, found)?;
     at.pop();
     Ok(())
-}
-
-// The decimal digits of a position.
-fn digits(alloc: Global, i: usize) -> Result<TextBox, NoMemory>
-    ensures { IfOk result (λ text. text ≡ decimal i) }
-{
-    Ok(TextBox::from_string(format!(in alloc; "{i}")?))
 }
 
 fn add_element_site(

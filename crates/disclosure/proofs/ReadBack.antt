@@ -7,15 +7,15 @@ use Rattle.claim_tree.proofs.TreeTexts.{HasTexts, read_back}
 use Rattle.disclosure.specs.Disclosure.{array_of, disclosure_text, IsDisclosure}
 use Rattle.disclosure.proofs.Arrays.{depth-array_of}
 
-array_texts : (salt : Text) (name : Option Text) (value : Tree) → IsUtf8 salt → IfSome name IsUtf8 → HasTexts value → HasTexts (array_of (leaf (text salt)) name value)
+pub array_texts : (salt : Text) (name : Option Text) (value : Tree) → IsUtf8 salt → IfSome name IsUtf8 → HasTexts value → HasTexts (array_of (leaf (text salt)) name value)
 array_texts salt None value s n v = (tt, (s, (v, tt)))
 array_texts salt (Some name) value s n v = (tt, (s, (n, (v, tt))))
 
-array_ranged : (salt : Text) (name : Option Text) (value : Tree) → IsRanged value → IsRanged (array_of (leaf (text salt)) name value)
+pub array_ranged : (salt : Text) (name : Option Text) (value : Tree) → IsRanged value → IsRanged (array_of (leaf (text salt)) name value)
 array_ranged salt None value r = (tt, (r, tt))
 array_ranged salt (Some name) value r = (tt, (tt, (r, tt)))
 
-array_ordered : (salt : Text) (name : Option Text) (value : Tree) → IsOrdered value → IsOrdered (array_of (leaf (text salt)) name value)
+pub array_ordered : (salt : Text) (name : Option Text) (value : Tree) → IsOrdered value → IsOrdered (array_of (leaf (text salt)) name value)
 array_ordered salt None value o = (tt, (o, tt))
 array_ordered salt (Some name) value o = (tt, (tt, (o, tt)))
 

@@ -20,6 +20,19 @@ pub enum HashAlg {
     Sha512,
 }
 
+impl HashAlg {
+    /// Its name.
+    pub fn name(self) -> &'static str
+        ensures { result.now ≡ hash_name self }
+    {
+        match self {
+            HashAlg::Sha256 => "sha-256",
+            HashAlg::Sha384 => "sha-384",
+            HashAlg::Sha512 => "sha-512",
+        }
+    }
+}
+
 /// The algorithm of a name.
 pub fn hash_named(name: &str) -> Option<HashAlg>
     ensures named { IfSome result (λ alg. name.now ≡ hash_name alg) }

@@ -1,4 +1,5 @@
-ghost use Rattle.std.specs.Prelude.{◌≡◌, ◌≤◌, OnOk, IfOk, IfErr, IfSome, IfNone, Option, option_map};
+ghost use Rattle.std.specs.Prelude.{◌≡◌, ◌≤◌, length, take, OnOk, IfOk, IfErr, IfSome, IfNone, Option, option_map};
+ghost use Rattle.b64url_text.specs.Base64url.{Decodes};
 ghost use Rattle.claim_tree.specs.Tree.{IsRanged, IsOrdered, depth, leaf, text as text_leaf};
 ghost use Rattle.claim_tree.specs.TreeCalls.{pushed};
 ghost use Rattle.claim_tree.specs.View.{tree_of};
@@ -8,7 +9,7 @@ ghost use Rattle.disclosure.specs.Front.{front};
 ghost use Rattle.disclosure.specs.DisclosureRefusals.{IsNoArray, IsDisclosureRefused};
 
 use crate::{DisclosureError, HashAlg, digest};
-use b64url_text::{decode, encode};
+use b64url_text::{decode_into, encode};
 use claim_tree::{JsonReader, Tree, TreeList, copy, write};
 use sd_outside::{NoMemory, TextBox};
 use std::alloc::Global;
@@ -69,6 +70,21 @@ fn of_tree(text: TextBox, tree: Tree) -> Option<Disclosure>
 #[derive(Drop)]
 pub struct DisclosureReader {
     json: JsonReader,
+    // What a text is decoded to.
+    room: Vec<u8>,
+}
+
+// Decodes a text to the front of the room, which grows as it has to. The answer is how many bytes they are.
+fn decode_to(room: &mut Vec<u8>, text: &str) -> Result<usize, DisclosureError>
+    ensures within { IfOk result (λ count. count ≤ length room.new.items) }
+    ensures ok { IfOk result (λ count. Decodes text.now (take count room.new.items)) }
+    ensures refused { IfErr result (IsDisclosureRefused text.now) }
+{
+    let wanted = text.len() / 4 * 3 + 3;
+    if room.len() < wanted && room.resize(wanted, 0).is_err() {
+        return Err(DisclosureError::Memory);
+    }
+    Ok(decode_into(text.as_bytes(), room.as_mut_slice())?)
 }
 
 impl DisclosureReader {
@@ -76,6 +92,7 @@ impl DisclosureReader {
     pub fn new(alloc: Global) -> DisclosureReader {
         DisclosureReader {
             json: JsonReader::new(alloc),
+            room: Vec::new(alloc),
         }
     }
 
@@ -94,8 +111,8 @@ impl DisclosureReader {
 
         ensures refused { IfErr result (IsDisclosureRefused text.now) }
     {
-        let json = decode(alloc, text.as_bytes())?;
-        let tree = self.json.read(alloc, json.bytes())?;
+        let count = decode_to(&mut self.room, text)?;
+        let tree = self.json.read(alloc, &self.room[..count])?;
         of_tree(TextBox::make(alloc, text)?, tree).ok_or(DisclosureError::NotDisclosure)
     }
 }

@@ -1,4 +1,4 @@
-use b64url_text::DecodeError;
+use b64url_text::NotBase64;
 use claim_tree::ReadError;
 use sd_outside::NoMemory;
 
@@ -28,17 +28,14 @@ impl From<NoMemory> for DisclosureError {
     }
 }
 
-impl From<DecodeError> for DisclosureError {
+impl From<NotBase64> for DisclosureError {
     ghost use Rattle.std.specs.Prelude.{◌≡◌};
-    ghost use Rattle.disclosure.specs.ReadSteps.{of_decode};
+    ghost use Rattle.disclosure.specs.declared.errors.DisclosureError.TheVariants.{NotBase64};
 
-    ghost from_gives = { λ e f. f ≡ of_decode e };
+    ghost from_gives = { λ _ e. e ≡ NotBase64 };
 
-    fn from(error: DecodeError) -> Self {
-        match error {
-            DecodeError::Memory => DisclosureError::Memory,
-            DecodeError::NotBase64 => DisclosureError::NotBase64,
-        }
+    fn from(_: NotBase64) -> Self {
+        DisclosureError::NotBase64
     }
 }
 

@@ -3,18 +3,21 @@ use Rattle.std.specs.Prelude.{List, [], None}
 use Rattle.claim_tree.specs.Tree.{Text, Tree}
 use Rattle.compact_form.specs.declared.parts.Parts.{Parts}
 use Rattle.compact_form.specs.Compact.{IsCompact}
+use Rattle.disclosure.specs.declared.digests.HashAlg.{HashAlg}
 use Rattle.hmac_sign.specs.Signatures.{Meaning}
+use Rattle.hmac_sign.specs.declared.alg.Alg.{Alg}
 use Rattle.issuer_core.specs.Order.{Order}
 use Rattle.issuer_core.specs.Digests.{Maker}
 use Rattle.issuer_core.specs.Written.{IsIssued, IsLaidOut}
 
--- the order that hides these places of a payload, and asks for nothing else
+-- the order that hides these places of a payload by SHA-256, and asks for nothing else
 abbrev pub order_for : Tree → List (List Text) → Order
-order_for payload hide = record { payload = payload; hide = hide; decoys = []; kid = None; typ = None }
+order_for payload hide =
+    record { payload = payload; hide = hide; decoys = []; kid = None; typ = None; hash = HashAlg.Sha256 }
 
--- the text is the compact text of parts that are laid out and issued for the order
-pub record IsTokenFor (maker : Maker) (o : Order) (good : Meaning) (text : Text) : Type 0 where
+-- the text is the compact text of parts that are laid out and issued for the order, with signatures of this algorithm
+pub record IsTokenFor (maker : Maker) (o : Order) (alg : Alg) (good : Meaning) (text : Text) : Type 0 where
   pub parts : Parts
-  pub issued : IsIssued maker o good parts
-  pub laid : IsLaidOut maker o good parts
+  pub issued : IsIssued maker o alg good parts
+  pub laid : IsLaidOut maker o alg good parts
   pub text_is : IsCompact parts text

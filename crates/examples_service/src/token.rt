@@ -11,6 +11,7 @@ ghost use Rattle.examples_service.specs.Token.{order_for, IsTokenFor};
 
 use claim_tree::{PathList, Tree};
 use compact_form::print;
+use disclosure::HashAlg;
 use hmac_sign::Signer;
 use issuer_core::{DecoyList, IssueError, Order, issue_owned};
 use sd_outside::TextBox;
@@ -28,10 +29,10 @@ pub fn token_for<S: Signer>(
 ) -> Result<TextBox, IssueError>
     requires depth { depth (tree_of payload) ≤ 127 }
     requires ranged { IsRanged (tree_of payload) }
-    ensures token { IfOk result
-        (IsTokenFor (maker_of seed.now) (order_for (tree_of payload) hide) (S.good signer.old)) }
-    ensures refused { IfErr result
-        (IsNotIssued (maker_of seed.now) (order_for (tree_of payload) hide) (S.good signer.old)) }
+    ensures token { IfOk result (IsTokenFor (maker_of seed.now)
+        (order_for (tree_of payload) hide) (S.alg_of signer.old) (S.good signer.old)) }
+    ensures refused { IfErr result (IsNotIssued (maker_of seed.now)
+        (order_for (tree_of payload) hide) (S.alg_of signer.old) (S.good signer.old)) }
     ensures failed { IsErrOf result IssueError.SignFailed
         → Rose (S.faults signer.old) (S.faults signer.new) }
 
@@ -46,6 +47,7 @@ pub fn token_for<S: Signer>(
         decoys: DecoyList::new(alloc),
         kid: None,
         typ: None,
+        hash: HashAlg::Sha256,
     };
     let parts = issue_owned(alloc, order, seed, signer)?;
     Ok(print(alloc, &parts)?)

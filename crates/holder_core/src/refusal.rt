@@ -1,58 +1,45 @@
 // The lines that tell of a refusal.
 ghost use Rattle.std.specs.Prelude.{◌≡◌, IfOk};
-ghost use Rattle.holder_core.specs.PresentRefusal.{present_number, present_name, present_place, present_refusal_text};
+ghost use Rattle.holder_core.specs.PresentRefusal.{present_place, present_refusal, present_refusal_text};
 
 use crate::PresentError;
-use compact_form::refused_line;
+use compact_form::{Place, Refusal, placed_line};
 use sd_outside::{NoMemory, TextBox};
 use std::alloc::Global;
-use verifier_core::fault_line;
 
-fn number(error: &PresentError) -> u8
-    ensures { result ≡ present_number error.now }
+// The refusal that the error is, where it is one.
+fn refusal(error: &PresentError) -> Option<Refusal>
+    ensures { result ≡ present_refusal error.now }
 {
     match error {
-        PresentError::Memory | PresentError::SignFailed | PresentError::Token(_) => 0,
-        PresentError::HasBinding => 71,
-        PresentError::NoSuchPlace(_) => 72,
-        PresentError::ConsentRefused(_) => 73,
-        PresentError::BindingKeyDiffers => 74,
-        PresentError::TooLong => 75,
+        PresentError::Memory | PresentError::SignFailed => None,
+        PresentError::Token(fault) => Some(Refusal::Condition(fault.condition())),
+        PresentError::HasBinding => Some(Refusal::HasBinding),
+        PresentError::NoSuchPlace(_) => Some(Refusal::WantedNotThere),
+        PresentError::ConsentRefused(_) => Some(Refusal::ConsentRefused),
+        PresentError::BindingKeyDiffers => Some(Refusal::BindingKeyDiffers),
+        PresentError::TooLong => Some(Refusal::PresentTooLong),
     }
 }
 
-fn name(error: &PresentError) -> &'static str
-    ensures { result.now ≡ present_name error.now }
+fn place(error: &PresentError) -> Place
+    ensures { result ≡ present_place error.now }
 {
     match error {
-        PresentError::Memory | PresentError::SignFailed | PresentError::Token(_) => "",
-        PresentError::HasBinding => "hasBinding",
-        PresentError::NoSuchPlace(_) => "wantedNotThere",
-        PresentError::ConsentRefused(_) => "consentRefused",
-        PresentError::BindingKeyDiffers => "bindingKeyDiffers",
-        PresentError::TooLong => "presentTooLong",
+        PresentError::Token(fault) => fault.place,
+        PresentError::NoSuchPlace(k) => Place::At(*k),
+        PresentError::ConsentRefused(i) => Place::At(*i as usize),
+        _ => Place::Nowhere,
     }
-}
-
-fn place(alloc: Global, error: &PresentError) -> Result<Option<TextBox>, NoMemory>
-    ensures { IfOk result (λ text. text ≡ present_place error.now) }
-{
-    let words = match error {
-        PresentError::NoSuchPlace(k) => format!(in alloc; "{k}")?,
-        PresentError::ConsentRefused(i) => format!(in alloc; "{i}")?,
-        _ => return Ok(None),
-    };
-    Ok(Some(TextBox::from_string(words)))
 }
 
 /// The line that tells why nothing is presented, without its line end: of a condition that the token fails, or of a refusal of
-/// 71 to 75. What is no refusal has no name.
+/// 71 to 75. What is no refusal has no line.
 pub fn refusal_line(alloc: Global, error: &PresentError) -> Result<TextBox, NoMemory>
     ensures { IfOk result (λ line. line ≡ present_refusal_text error.now) }
 {
-    if let PresentError::Token(fault) = error {
-        return fault_line(alloc, fault);
+    match refusal(error) {
+        Some(refusal) => placed_line(alloc, refusal, place(error)),
+        None => TextBox::make(alloc, ""),
     }
-    let place = place(alloc, error)?;
-    refused_line(alloc, number(error), name(error), place.as_ref())
 }

@@ -84,7 +84,7 @@ fn first_missing(payload: &Tree, want: &PathList) -> Option<usize>
     ensures least { IfSome result (IsLeast (IsMissing (tree_of payload.now) want.now)) }
     ensures there { result ≡ None → AtNone (IsMissing (tree_of payload.now) want.now) }
 {
-    for (k, path) in want.paths().iter().enumerate() {
+    for (k, path) in want.elements().iter().enumerate() {
         if find(payload, path).is_none() {
             return Some(k);
         }

@@ -5,6 +5,7 @@ use Rattle.issuer_core.specs.declared.order.Decoy.{Decoy}
 use Rattle.claim_tree.specs.Lists.{In}
 use Rattle.claim_tree.specs.Path.{tree_at}
 use Rattle.claim_tree.specs.Tree.{IsRanged, Text, Tree, array, element, leaf, member, no_elements, no_members, object, text, whole}
+use Rattle.disclosure.specs.declared.digests.HashAlg.{HashAlg}
 use Rattle.digest_sites.specs.Given.{Given}
 use Rattle.digest_sites.specs.Reserved.{dots_name, sd_name}
 use Rattle.marked_tree.specs.Marked.{marked_array, marked_element, marked_leaf, marked_member, marked_object, no_marked_elements, no_marked_members}
@@ -35,6 +36,7 @@ order = record {
   decoys = record { at = []; count = 1 } ∷ record { at = codes "b" ∷ []; count = 1 } ∷ record { at = codes "l" ∷ []; count = 2 } ∷ [];
   kid = None;
   typ = None;
+  hash = HashAlg.Sha384;
 }
 
 -- a digest for each number
@@ -42,7 +44,7 @@ abbrev digests : ℕ → Text
 digests k = 68 ∷ k ∷ []
 
 abbrev maker : Maker
-maker = record { disclosure = λ k name v. digests k; piece = digests; digest = λ t. t }
+maker = record { disclosure = λ k name v. digests k; piece = digests; digest = λ hash t. t }
 
 marks_are : marked_claims order
     ≡ marked_object (marked_member (codes "a") (Some 0) (marked_leaf (whole (pos 1)))

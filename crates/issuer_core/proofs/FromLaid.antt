@@ -1,5 +1,5 @@
 -- From what is laid and signed to what is issued, and why it is not.
-use Rattle.std.proofs.Common.{◌≡◌, ℕ, zero, suc, ◌+◌, ◌<◌, ◌≤◌, List, [], ◌∷◌, None, Option, Some, ap₂, arith, length, refl, subst, sym, ⊎_elim, ◌∙◌, IfSome, codes}
+use Rattle.std.proofs.Common.{◌≡◌, ℕ, zero, suc, ◌+◌, ◌<◌, ◌≤◌, List, [], ◌∷◌, None, Option, Some, ap₂, arith, length, refl, subst, sym, ⊎_elim, ◌∙◌, IfSome}
 use Rattle.std.specs.List.{AllByRecursion}
 use Rattle.b64url_text.specs.Base64url.{IsWord, b64}
 use Rattle.b64url_text.proofs.Codes.{IsWord-b64}
@@ -11,7 +11,10 @@ use Rattle.claim_tree.specs.JsonText.{json_text}
 use Rattle.compact_form.specs.declared.parts.Parts.{Parts}
 use Rattle.compact_form.specs.Compact.{AreWords, HasWords}
 use Rattle.hmac_sign.specs.Signatures.{Meaning}
+use Rattle.hmac_sign.specs.declared.alg.Alg.{Alg}
+use Rattle.disclosure.specs.Digest.{hash_name}
 use Rattle.disclosure.specs.Disclosure.{array_of, disclosure_text}
+use Rattle.disclosure.specs.declared.digests.HashAlg.{HashAlg}
 use Rattle.digest_sites.specs.Given.{Given}
 use Rattle.jws_part.specs.declared.header.Header.{Header}
 use Rattle.jws_part.specs.Header.{header_members}
@@ -28,7 +31,7 @@ use Rattle.issuer_core.specs.Laid.{IsLaid, with_alg}
 use Rattle.issuer_core.specs.Clash.{IsFirstClash}
 use Rattle.issuer_core.specs.Laws.{PartsAreIssued}
 use Rattle.compact_form.specs.Lowest.{NoneApplies}
-use Rattle.issuer_core.specs.OrderRefusals.{AppliesToOrder, IsLowestRefusal, refusal_number, refusal_place}
+use Rattle.issuer_core.specs.OrderRefusals.{AppliesToOrder, IsLowestRefusal, issue_number, refusal_place}
 use Rattle.issuer_core.specs.JudgeCalls.{IsOrderRefused}
 use Rattle.issuer_core.specs.Salts.{salt_of}
 use Rattle.issuer_core.specs.Seed.{maker_of}
@@ -63,12 +66,12 @@ one_list maker o p q g h dg dh one other = first_same dg dh (hidden_of o + lengt
 -- ---- refusals
 
 -- a refusal of the order alone is the lowest of all
-module _ (maker : Maker) (o : Order) (good : Meaning) where
+module _ (maker : Maker) (o : Order) (alg : Alg) (good : Meaning) where
   above : (n : ℕ) → n ≤ 59 → (n ≤ 60) × (n ≤ 61)
   above n l = (omega (arith, l), omega (arith, l))
 
   -- what applies is a refusal of the order alone, or one of the last two
-  pub applies_or : (error : IssueError) → AppliesToIssue maker o good error → (NoneApplies (AppliesToOrder o) → 60 ≤ refusal_number error)
+  pub applies_or : (error : IssueError) → AppliesToIssue maker o alg good error → (NoneApplies (AppliesToOrder o) → 60 ≤ issue_number error)
   applies_or Memory h none = absurd h
   applies_or SignFailed h none = absurd h
   applies_or PayloadNotObject h none = absurd (none PayloadNotObject h)
@@ -83,13 +86,13 @@ module _ (maker : Maker) (o : Order) (good : Meaning) where
   applies_or (DigestClash i j) h none = omega arith
   applies_or TooLong h none = omega arith
 
-  pub clash_lowest : NoneApplies (AppliesToOrder o) → (i j : ℕ) → ClashesAt maker o i j → IsLowestRefusal (AppliesToIssue maker o good) (DigestClash i j)
+  pub clash_lowest : NoneApplies (AppliesToOrder o) → (i j : ℕ) → ClashesAt maker o i j → IsLowestRefusal (AppliesToIssue maker o alg good) (DigestClash i j)
   clash_lowest none i j clash = record { applies = clash; lowest = λ other h. applies_or other h none; first = λ other h e. omega arith }
 
-  pub long_lowest : NoneApplies (AppliesToOrder o) → ((i j : ℕ) → ClashesAt maker o i j → ⊥) → IsIssueTooLong maker o good → IsLowestRefusal (AppliesToIssue maker o good) TooLong
+  pub long_lowest : NoneApplies (AppliesToOrder o) → ((i j : ℕ) → ClashesAt maker o i j → ⊥) → IsIssueTooLong maker o alg good → IsLowestRefusal (AppliesToIssue maker o alg good) TooLong
   long_lowest none differ long = record { applies = long; lowest = λ other h. go other h (applies_or other h none); first = λ other h e. omega arith }
     where
-      go : (other : IssueError) → AppliesToIssue maker o good other → 60 ≤ refusal_number other → 61 ≤ refusal_number other
+      go : (other : IssueError) → AppliesToIssue maker o alg good other → 60 ≤ issue_number other → 61 ≤ issue_number other
       go (DigestClash i j) h l = absurd (differ i j h)
       go TooLong h l = omega arith
       go Memory h l = absurd (omega (arith, l))
@@ -104,14 +107,14 @@ module _ (maker : Maker) (o : Order) (good : Meaning) where
       go TooManyHidden h l = absurd (omega (arith, l))
       go TooManyDecoys h l = absurd (omega (arith, l))
 
-  raised : (error : IssueError) → refusal_number error ≤ 59 → (AppliesToOrder o error → AppliesToIssue maker o good error) → IsLowestRefusal (AppliesToOrder o) error → IsLowestRefusal (AppliesToIssue maker o good) error
+  raised : (error : IssueError) → issue_number error ≤ 59 → (AppliesToOrder o error → AppliesToIssue maker o alg good error) → IsLowestRefusal (AppliesToOrder o) error → IsLowestRefusal (AppliesToIssue maker o alg good) error
   raised error low same l = record {
     applies = same l.applies;
     lowest = λ other h. lower other h;
     first = λ other h e. earlier other h e;
   }
     where
-      lower : (other : IssueError) → AppliesToIssue maker o good other → refusal_number error ≤ refusal_number other
+      lower : (other : IssueError) → AppliesToIssue maker o alg good other → issue_number error ≤ issue_number other
       lower Memory h = l.lowest Memory h
       lower SignFailed h = l.lowest SignFailed h
       lower PayloadNotObject h = l.lowest PayloadNotObject h
@@ -126,7 +129,7 @@ module _ (maker : Maker) (o : Order) (good : Meaning) where
       lower (DigestClash i j) h = omega (arith, low)
       lower TooLong h = omega (arith, low)
 
-      earlier : (other : IssueError) → AppliesToIssue maker o good other → refusal_number other ≡ refusal_number error → refusal_place error ≤ refusal_place other
+      earlier : (other : IssueError) → AppliesToIssue maker o alg good other → issue_number other ≡ issue_number error → refusal_place error ≤ refusal_place other
       earlier Memory h e = l.first Memory h e
       earlier SignFailed h e = l.first SignFailed h e
       earlier PayloadNotObject h e = l.first PayloadNotObject h e
@@ -141,7 +144,7 @@ module _ (maker : Maker) (o : Order) (good : Meaning) where
       earlier (DigestClash i j) h e = absurd (omega (arith, low, e))
       earlier TooLong h e = absurd (omega (arith, low, e))
 
-  pub order_refused : (error : IssueError) → IsOrderRefused o error → IsNotIssued maker o good error
+  pub order_refused : (error : IssueError) → IsOrderRefused o error → IsNotIssued maker o alg good error
   order_refused Memory r = tt
   order_refused SignFailed r = absurd r.applies
   order_refused PayloadNotObject r = raised PayloadNotObject (omega arith) (λ h. h) r
@@ -156,7 +159,7 @@ module _ (maker : Maker) (o : Order) (good : Meaning) where
   order_refused (DigestClash i j) r = absurd r.applies
   order_refused TooLong r = absurd r.applies
 
-  pub unsigned_refused : IsToBeSigned maker o → (error : IssueError) → IsUnsigned error → IsNotIssued maker o good error
+  pub unsigned_refused : IsToBeSigned maker o → (error : IssueError) → IsUnsigned error → IsNotIssued maker o alg good error
   unsigned_refused ready Memory h = tt
   unsigned_refused ready SignFailed h = ready
   unsigned_refused ready PayloadNotObject h = absurd h
@@ -174,18 +177,18 @@ module _ (maker : Maker) (o : Order) (good : Meaning) where
 -- ---- what is laid and signed
 
 -- what is laid out for a good order, with digests that differ, is issued
-laid_out_issued : (maker : Maker) (o : Order) (good : Meaning) (parts : Parts) → IsGoodOrder o → IsRanged o.payload → HasShortLists o.payload
-    → (out : IsLaidOut maker o good parts) → AllDiffer out.digests (hidden_of o + length (decoys_of o)) → IsIssued maker o good parts
-laid_out_issued maker o good parts is_good ranged short out differ = record {
+laid_out_issued : (maker : Maker) (o : Order) (alg : Alg) (good : Meaning) (parts : Parts) → IsGoodOrder o → IsRanged o.payload → HasShortLists o.payload
+    → (out : IsLaidOut maker o alg good parts) → AllDiffer out.digests (hidden_of o + length (decoys_of o)) → IsIssued maker o alg good parts
+laid_out_issued maker o alg good parts is_good ranged short out differ = record {
   payload = out.payload;
   given = out.given;
   issued = laid_is_issued_holds maker o out.payload out.given out.digests is_good ranged short out.laid differ;
   written = out.written;
 }
 
-pub parts_are_issued_holds : (good : Meaning) → PartsAreIssued good
-parts_are_issued_holds good maker o parts none ordered ranged short out differ =
-    laid_out_issued maker o good parts (good_order o (λ error h. absurd (none error h)) ordered) ranged short out differ
+pub parts_are_issued_holds : (alg : Alg) (good : Meaning) → PartsAreIssued alg good
+parts_are_issued_holds alg good maker o parts none ordered ranged short out differ =
+    laid_out_issued maker o alg good parts (good_order o (λ error h. absurd (none error h)) ordered) ranged short out differ
 
 list_is : (ds : List Text) (dg : ℕ → Text) (n : ℕ) → length ds ≡ n → ((k : ℕ) (d : Text) → StandsAt ds k d → d ≡ dg k) → ds ≡ first_digests dg n
 list_is [] dg zero e each = refl
@@ -206,28 +209,28 @@ module _ (seed : List ℕ) (o : Order) (body : Tree) (texts digests : List Text)
     clash = subst (λ (ds : List Text). IsFirstClash ds i j) (digests_are seed o body texts digests laid) clash;
   }
 
-  pub clash_refused : (good : Meaning) → NoneApplies (AppliesToOrder o) → (error : IssueError) → HasClash digests error → IsNotIssued (maker_of seed) o good error
-  clash_refused good none Memory h = tt
-  clash_refused good none (DigestClash i j) h = clash_lowest (maker_of seed) o good none i j (clash_at i j h)
-  clash_refused good none SignFailed h = absurd h
-  clash_refused good none PayloadNotObject h = absurd h
-  clash_refused good none (ReservedName path) h = absurd h
-  clash_refused good none TooDeep h = absurd h
-  clash_refused good none (RootMarked k) h = absurd h
-  clash_refused good none (NoSuchPlace k) h = absurd h
-  clash_refused good none (ProtectedClaim k) h = absurd h
-  clash_refused good none (DecoyPlace k) h = absurd h
-  clash_refused good none TooManyHidden h = absurd h
-  clash_refused good none TooManyDecoys h = absurd h
-  clash_refused good none TooLong h = absurd h
+  pub clash_refused : (alg : Alg) (good : Meaning) → NoneApplies (AppliesToOrder o) → (error : IssueError) → HasClash digests error → IsNotIssued (maker_of seed) o alg good error
+  clash_refused alg good none Memory h = tt
+  clash_refused alg good none (DigestClash i j) h = clash_lowest (maker_of seed) o alg good none i j (clash_at i j h)
+  clash_refused alg good none SignFailed h = absurd h
+  clash_refused alg good none PayloadNotObject h = absurd h
+  clash_refused alg good none (ReservedName path) h = absurd h
+  clash_refused alg good none TooDeep h = absurd h
+  clash_refused alg good none (RootMarked k) h = absurd h
+  clash_refused alg good none (NoSuchPlace k) h = absurd h
+  clash_refused alg good none (ProtectedClaim k) h = absurd h
+  clash_refused alg good none (DecoyPlace k) h = absurd h
+  clash_refused alg good none TooManyHidden h = absurd h
+  clash_refused alg good none TooManyDecoys h = absurd h
+  clash_refused alg good none TooLong h = absurd h
 
   pub no_clash : AtNone (Repeats digests) → (i j : ℕ) → ClashesAt (maker_of seed) o i j → ⊥
   no_clash none i j clash =
       let same = one_list (maker_of seed) o clash.payload laid.laid clash.given laid.given clash.digests laid.dg clash.laid laid.is_laid in
       none j (subst (λ (ds : List Text). Repeats ds j) (same ∙ sym (digests_are seed o body texts digests laid)) clash.clash.later.fails)
 
-  module _ (good : Meaning) (parts : Parts) (signed : AreSigned (header_of o) good body texts parts) where
-    written : IsWritten (maker_of seed) o good laid.laid laid.given parts
+  module _ (alg : Alg) (good : Meaning) (parts : Parts) (signed : AreSigned (header_of alg o) good body texts parts) where
+    written : IsWritten (maker_of seed) o alg good laid.laid laid.given parts
     written = record {
       protected = signed.jwt.protected;
       body = subst (λ t. parts.signed.payload ≡ b64 (json_text t)) laid.payload_is signed.jwt.payload;
@@ -238,37 +241,37 @@ module _ (seed : List ℕ) (o : Order) (body : Tree) (texts digests : List Text)
       unbound = signed.unbound;
     }
 
-    pub laid_out : IsLaidOut (maker_of seed) o good parts
+    pub laid_out : IsLaidOut (maker_of seed) o alg good parts
     laid_out = record { payload = laid.laid; given = laid.given; digests = laid.dg; laid = laid.is_laid; written = written }
 
-    pub issued : IsGoodOrder o → IsRanged o.payload → HasShortLists o.payload → AtNone (Repeats digests) → IsIssued (maker_of seed) o good parts
+    pub issued : IsGoodOrder o → IsRanged o.payload → HasShortLists o.payload → AtNone (Repeats digests) → IsIssued (maker_of seed) o alg good parts
     unfolding laid_out
     issued is_good ranged short none =
-        laid_out_issued (maker_of seed) o good parts is_good ranged short laid_out
+        laid_out_issued (maker_of seed) o alg good parts is_good ranged short laid_out
         (all_differ laid.dg (hidden_of o + length (decoys_of o)) (subst (λ (ds : List Text). AtNone (Repeats ds)) (digests_are seed o body texts digests laid) none))
 
 -- ---- what is finished, or not
 
-module _ (seed : List ℕ) (o : Order) (body : Tree) (texts digests : List Text) (laid : IsLaidFor (maker_of seed) o body texts digests) (header : Header) (is : header ≡ header_of o) (good : Meaning) where
-  named : (parts : Parts) → AreSigned header good body texts parts → AreSigned (header_of o) good body texts parts
+module _ (seed : List ℕ) (o : Order) (body : Tree) (texts digests : List Text) (laid : IsLaidFor (maker_of seed) o body texts digests) (header : Header) (alg : Alg) (is : header ≡ header_of alg o) (good : Meaning) where
+  named : (parts : Parts) → AreSigned header good body texts parts → AreSigned (header_of alg o) good body texts parts
   named parts signed = subst (λ h. AreSigned h good body texts parts) is signed
 
-  pub finished_laid : (parts : Parts) → IsFinished header good body texts digests parts → IsLaidOut (maker_of seed) o good parts
-  finished_laid parts done = laid_out seed o body texts digests laid good parts (named parts done.signed)
+  pub finished_laid : (parts : Parts) → IsFinished header good body texts digests parts → IsLaidOut (maker_of seed) o alg good parts
+  finished_laid parts done = laid_out seed o body texts digests laid alg good parts (named parts done.signed)
 
-  pub finished_issued : IsGoodOrder o → IsRanged o.payload → FitsMachine o.payload → (parts : Parts) → IsFinished header good body texts digests parts → IsIssued (maker_of seed) o good parts
-  finished_issued is_good ranged held parts done = issued seed o body texts digests laid good parts (named parts done.signed) is_good ranged (held_short o.payload held) done.differ
+  pub finished_issued : IsGoodOrder o → IsRanged o.payload → FitsMachine o.payload → (parts : Parts) → IsFinished header good body texts digests parts → IsIssued (maker_of seed) o alg good parts
+  finished_issued is_good ranged held parts done = issued seed o body texts digests laid alg good parts (named parts done.signed) is_good ranged (held_short o.payload held) done.differ
 
-  long_refused : NoneApplies (AppliesToOrder o) → (error : IssueError) → IsOverlong header good body texts digests error → IsNotIssued (maker_of seed) o good error
+  long_refused : NoneApplies (AppliesToOrder o) → (error : IssueError) → IsOverlong header good body texts digests error → IsNotIssued (maker_of seed) o alg good error
   long_refused none error over =
-      subst (IsNotIssued (maker_of seed) o good) (sym over.is)
-      (long_lowest (maker_of seed) o good none (no_clash seed o body texts digests laid over.differ)
-      (record { parts = over.parts; laid = laid_out seed o body texts digests laid good over.parts (named over.parts over.signed); long = over.long }))
+      subst (IsNotIssued (maker_of seed) o alg good) (sym over.is)
+      (long_lowest (maker_of seed) o alg good none (no_clash seed o body texts digests laid over.differ)
+      (record { parts = over.parts; laid = laid_out seed o body texts digests laid alg good over.parts (named over.parts over.signed); long = over.long }))
 
-  pub unfinished_refused : NoneApplies (AppliesToOrder o) → (error : IssueError) → IsUnfinished header good body texts digests error → IsNotIssued (maker_of seed) o good error
+  pub unfinished_refused : NoneApplies (AppliesToOrder o) → (error : IssueError) → IsUnfinished header good body texts digests error → IsNotIssued (maker_of seed) o alg good error
   unfinished_refused none error h =
-      ⊎_elim (clash_refused seed o body texts digests laid good none error)
-      (λ k. ⊎_elim (λ u. unsigned_refused (maker_of seed) o good (record { passes = none; differ = no_clash seed o body texts digests laid u.0 }) error u.1) (long_refused none error) k) h
+      ⊎_elim (clash_refused seed o body texts digests laid alg good none error)
+      (λ k. ⊎_elim (λ u. unsigned_refused (maker_of seed) o alg good (record { passes = none; differ = no_clash seed o body texts digests laid u.0 }) error u.1) (long_refused none error) k) h
 
 -- ---- words
 
@@ -276,7 +279,7 @@ pub body_object : (seed : List ℕ) (o : Order) (body : Tree) (texts digests : L
 body_object seed o body texts digests good laid =
     subst IsObject (sym laid.payload_is) (with_alg_object laid.laid (payload_object (maker_of seed) o laid.laid laid.given laid.dg good laid.is_laid))
   where
-    with_alg_object : (t : Tree) → IsObject t → IsObject (with_alg t)
+    with_alg_object : (t : Tree) → IsObject t → IsObject (with_alg o.hash t)
     with_alg_object (object ms) h = tt
     with_alg_object (leaf l) h = absurd h
     with_alg_object (array es) h = absurd h
@@ -314,11 +317,11 @@ words header good body texts parts is_object are_words signed = record {
 pub not_more : (a b : ℕ) → (a < b → ⊥) → b ≤ a
 not_more a b h = grind arith
 
-pub with_alg_ranged : (t : Tree) → IsRanged t → IsRanged (with_alg t)
-with_alg_ranged (object ms) r = MembersRanged-inserted ms alg_name (leaf (text (codes "sha-256"))) r tt
-with_alg_ranged (leaf l) r = r
-with_alg_ranged (array es) r = r
+pub with_alg_ranged : (hash : HashAlg) (t : Tree) → IsRanged t → IsRanged (with_alg hash t)
+with_alg_ranged hash (object ms) r = MembersRanged-inserted ms alg_name (leaf (text (hash_name hash))) r tt
+with_alg_ranged hash (leaf l) r = r
+with_alg_ranged hash (array es) r = r
 
 pub body_ranged : (seed : List ℕ) (o : Order) (body : Tree) (texts digests : List Text) → IsLaidFor (maker_of seed) o body texts digests → IsRanged o.payload → IsRanged body
 body_ranged seed o body texts digests laid ranged =
-    subst IsRanged (sym laid.payload_is) (with_alg_ranged laid.laid (payload_ranged (maker_of seed) o laid.laid laid.given laid.dg laid.is_laid ranged))
+    subst IsRanged (sym laid.payload_is) (with_alg_ranged o.hash laid.laid (payload_ranged (maker_of seed) o laid.laid laid.given laid.dg laid.is_laid ranged))

@@ -9,6 +9,7 @@ use Rattle.claim_tree.specs.Lists.{StandsAt, In}
 use Rattle.claim_tree.specs.Tree.{Text, text, Tree, leaf, array, object, Members, no_members, member, member_named, IsOrdered, IsRanged}
 use Rattle.claim_tree.proofs.Lists.{At-In, At-below, At-same, In-At, In-append, In-of_map, bytes_same}
 use Rattle.claim_tree.proofs.OtherMembers.{removed_inserted}
+use Rattle.claim_tree.proofs.OwnReading.{read_as_itself}
 use Rattle.claim_tree.proofs.TreeTexts.{HasTexts, json_utf8}
 use Rattle.compact_form.specs.declared.parts.Parts.{Parts}
 use Rattle.digest_sites.specs.Given.{Given}
@@ -17,7 +18,9 @@ use Rattle.disclosure.specs.Digest.{digest_of, hash_of, payload_hash}
 use Rattle.disclosure.specs.Disclosure.{array_of}
 use Rattle.disclosure.specs.declared.digests.HashAlg.{HashAlg}
 use Rattle.disclosure.proofs.Arrays.{array_of-injective}
+use Rattle.disclosure.proofs.ReadBack.{array_texts, array_ranged, array_ordered}
 use Rattle.hmac_sign.specs.Signatures.{Meaning}
+use Rattle.hmac_sign.specs.declared.alg.Alg.{Alg}
 use Rattle.jws_part.specs.Part.{IsBody}
 use Rattle.marked_tree.specs.Marked.{Marked, marked_member, strip, strip_members}
 use Rattle.marked_tree.specs.Ways.{ways}
@@ -49,7 +52,6 @@ use Rattle.issuer_core.proofs.IssuedSound.{issued_is_sound_holds}
 use Rattle.issuer_core.proofs.WithAlg.{with_alg_ordered}
 use Rattle.issuer_core.proofs.WrittenTexts.{GivenTexts, held_texts, with_alg_texts}
 use Rattle.marked_tree.specs.Paths.{Path}
-use Rattle.issuer_core.proofs.OwnReading.{read_as_itself}
 use Rattle.issuer_core.proofs.ShownTexts.{texts_fine, shown_texts_at}
 
 from_number : (f : ℕ → Text) (k : ℕ) (paths : List Path) (d : Text) → In d (digests_from f k paths) → (n : ℕ) × (d ≡ f n)
@@ -71,18 +73,6 @@ no_alg r (member k t ms) f = go (bytes_eq k sd_name) refl (bytes_eq k alg_name) 
     go true q false z f ih = ih f
     go false q true z f ih = let clash : true ≡ false = sym z ∙ f.0.2 in cc clash
     go false q false z f ih = ih f.2
-
-array_texts : (salt : Text) (name : Option Text) (value : Tree) → IsUtf8 salt → IfSome name IsUtf8 → HasTexts value → HasTexts (array_of (leaf (text salt)) name value)
-array_texts salt None value s n v = (tt, (s, (v, tt)))
-array_texts salt (Some name) value s n v = (tt, (s, (n, (v, tt))))
-
-array_ranged : (salt : Text) (name : Option Text) (value : Tree) → IsRanged value → IsRanged (array_of (leaf (text salt)) name value)
-array_ranged salt None value r = (tt, (r, tt))
-array_ranged salt (Some name) value r = (tt, (tt, (r, tt)))
-
-array_ordered : (salt : Text) (name : Option Text) (value : Tree) → IsOrdered value → IsOrdered (array_of (leaf (text salt)) name value)
-array_ordered salt None value o = (tt, (o, tt))
-array_ordered salt (Some name) value o = (tt, (tt, (o, tt)))
 
 made_at : (made : ℕ → Option Text → Tree → Text) (k : ℕ) (g : List Given) (i : ℕ) (d : Text) → StandsAt (made_texts made k g) i d → (x : Given) × StandsAt g i x × (d ≡ made (k + i) x.name x.value)
 made_at made k (x ∷ g) zero d a = let e : k ≡ k + 0 = omega arith in (x, refl, a ∙ ap (λ (n : ℕ). made n x.name x.value) e)
@@ -107,14 +97,14 @@ one_given : (x y : Given) → x.digest ≡ y.digest → x.name ≡ y.name → x.
 one_given x y d n v =
     ap (λ (a : Text). given_as a x.name x.value) d ∙ (ap (λ (a : Option Text). given_as y.digest a x.value) n ∙ ap (λ (a : Tree). given_as y.digest y.name a) v)
 
--- the parts are read as this payload and these disclosures, or not at all
-pub record IsReadOnlyAs (parts : Parts) (p : Tree) (g : List Given) : Type 0 where
+-- the parts are read as this payload and these disclosures with this hash, or not at all
+pub record IsReadOnlyAs (hash_is : HashAlg) (parts : Parts) (p : Tree) (g : List Given) : Type 0 where
   pub payload : (body : Tree) → IsBody parts.signed.payload body → without_alg body ≡ p
-  pub hash : (body : Tree) → IsBody parts.signed.payload body → payload_hash body ≡ Some HashAlg.Sha256
-  pub disclosures : (i : ℕ) (d : Text) (x : Given) → StandsAt parts.disclosures i d → IsTextOf d x → StandsAt g i x
-  pub digests : given_digests g ≡ map (digest_of HashAlg.Sha256) parts.disclosures
+  pub hash : (body : Tree) → IsBody parts.signed.payload body → payload_hash body ≡ Some hash_is
+  pub disclosures : (i : ℕ) (d : Text) (x : Given) → StandsAt parts.disclosures i d → IsTextOf hash_is d x → StandsAt g i x
+  pub digests : given_digests g ≡ map (digest_of hash_is) parts.disclosures
 
-module _ (seed : List ℕ) (o : Order) (good : Meaning) (p : Tree) (g : List Given) (parts : Parts) (good_order : IsGoodOrder o) (held : FitsMachine o.payload) (issued : IsIssuedFor (maker_of seed) o p g) (written : IsWritten (maker_of seed) o good p g parts) where
+module _ (seed : List ℕ) (o : Order) (alg : Alg) (good : Meaning) (p : Tree) (g : List Given) (parts : Parts) (good_order : IsGoodOrder o) (held : FitsMachine o.payload) (issued : IsIssuedFor (maker_of seed) o p g) (written : IsWritten (maker_of seed) o alg good p g parts) where
   sound : IsSound p g
   sound = issued_is_sound_holds (maker_of seed) o p g good_order issued
 
@@ -124,10 +114,10 @@ module _ (seed : List ℕ) (o : Order) (good : Meaning) (p : Tree) (g : List Giv
       (λ a.
       let w = In-of_map (λ (x : Given). x.digest) d g a in
       let k = In-At g w.0 w.1 in
-      subst IsUtf8 (sym (w.2 ∙ issued.made k.0 w.0 k.1)) (b64_utf8 (hash_of HashAlg.Sha256 ((maker_of seed).disclosure k.0 w.0.name w.0.value))))
+      subst IsUtf8 (sym (w.2 ∙ issued.made k.0 w.0 k.1)) (b64_utf8 (hash_of o.hash ((maker_of seed).disclosure k.0 w.0.name w.0.value))))
       (λ b.
-      let w = from_number (λ k. (maker_of seed).digest ((maker_of seed).piece k)) (hidden_of o) (decoys_of o) d b in
-      subst IsUtf8 (sym w.1) (b64_utf8 (hash_of HashAlg.Sha256 (salt_of seed w.0))))
+      let w = from_number (λ k. (maker_of seed).digest o.hash ((maker_of seed).piece k)) (hidden_of o) (decoys_of o) d b in
+      subst IsUtf8 (sym w.1) (b64_utf8 (hash_of o.hash (salt_of seed w.0))))
       (In-append d (given_digests g) (decoy_digests (maker_of seed) o) m)
 
   settles : processed p g ≡ opened (length g) g p
@@ -156,24 +146,24 @@ module _ (seed : List ℕ) (o : Order) (good : Meaning) (p : Tree) (g : List Giv
             (λ s m. digest_utf8 s.digest (digest_issued (maker_of seed) o p g good_order issued s.digest (value_digest p g x s there m))) fine.1,
       )
 
-  bare : (t : Tree) → IsObject t → HasNoReserved (strip (open_tree (reveal (length g) g) t)) → without_alg (with_alg t) ≡ t
+  bare : (t : Tree) → IsObject t → HasNoReserved (strip (open_tree (reveal (length g) g) t)) → without_alg (with_alg o.hash t) ≡ t
   bare (object ms) is f = ap object (removed_inserted ms alg_name _ (no_alg (reveal (length g) g) ms (shows_free (reveal (length g) g) (sd_texts ms) (open_members (reveal (length g) g) ms) f)))
   bare (leaf l) is f = absurd is
   bare (array es) is f = absurd is
 
-  object_of : (t : Tree) (ms : Members) → object ms ≡ with_alg t → IsObject t
+  object_of : (t : Tree) (ms : Members) → object ms ≡ with_alg o.hash t → IsObject t
   object_of (object us) ms e = tt
   object_of (leaf l) ms e = cc e
   object_of (array es) ms e = cc e
 
-  written_body : (body : Tree) → IsBody parts.signed.payload body → body ≡ with_alg p
+  written_body : (body : Tree) → IsBody parts.signed.payload body → body ≡ with_alg o.hash p
   written_body body is =
-      let t = with_alg p in
-      let ranged = with_alg_ranged p issued.payload_ranged in
-      let utf8 = json_utf8 t (with_alg_texts p payload_texts) ranged in
+      let t = with_alg o.hash p in
+      let ranged = with_alg_ranged o.hash p issued.payload_ranged in
+      let utf8 = json_utf8 t (with_alg_texts o.hash p payload_texts) ranged in
       let own : Decodes parts.signed.payload (json_text t) = record { fit = AreBytes-text (json_text t) utf8; spelling = written.body } in
       let bytes = one_code parts.signed.payload is.carried.bytes (json_text t) is.carried.decodes own in
-      read_as_itself t body ranged (with_alg_ordered p issued.readable.in_payload) (subst (λ (b : Text). Reads b body) bytes is.carried.reads)
+      read_as_itself t body ranged (with_alg_ordered o.hash p issued.readable.in_payload) (subst (λ (b : Text). Reads b body) bytes is.carried.reads)
 
   an_object : (body : Tree) → IsBody parts.signed.payload body → IsObject p
   an_object body is = object_of p is.members (sym is.is_object ∙ written_body body is)
@@ -183,10 +173,10 @@ module _ (seed : List ℕ) (o : Order) (good : Meaning) (p : Tree) (g : List Giv
       let free : HasNoReserved (strip (opened (length g) g p)) = subst (λ (m : Marked). HasNoReserved (strip m)) (sym opens) (subst HasNoReserved (sym (mark_strips_holds o.payload o.hide)) good_order.no_reserved) in
       ap without_alg (written_body body is) ∙ bare p (an_object body is) free
 
-  hash_read : (body : Tree) → IsBody parts.signed.payload body → payload_hash body ≡ Some HashAlg.Sha256
-  hash_read body is = ap payload_hash (written_body body is) ∙ names_hash p (an_object body is)
+  hash_read : (body : Tree) → IsBody parts.signed.payload body → payload_hash body ≡ Some o.hash
+  hash_read body is = ap payload_hash (written_body body is) ∙ names_hash o.hash p (an_object body is)
 
-  disclosure_read : (i : ℕ) (d : Text) (x : Given) → StandsAt parts.disclosures i d → IsTextOf d x → StandsAt g i x
+  disclosure_read : (i : ℕ) (d : Text) (x : Given) → StandsAt parts.disclosures i d → IsTextOf o.hash d x → StandsAt g i x
   disclosure_read i d x a gives =
       let w = made_at (maker_of seed).disclosure 0 g i d (subst (λ (ds : List Text). StandsAt ds i d) written.disclosures a) in
       let y = w.0 in
@@ -201,14 +191,14 @@ module _ (seed : List ℕ) (o : Order) (good : Meaning) (p : Tree) (g : List Giv
       let same = read_as_itself t (array_of gives.1 x.name x.value) ranged (array_ordered salt y.name y.value (issued.readable.in_values y there)) (subst (λ (b : Text). Reads b (array_of gives.1 x.name x.value)) bytes gives.2.reads) in
       let parts_same = array_of-injective gives.1 (leaf (text salt)) x.name y.name x.value y.value same in
       let e : 0 + i ≡ i = omega arith in
-      let digests : x.digest ≡ y.digest = gives.0 ∙ (ap (digest_of HashAlg.Sha256) (w.2 ∙ ap (λ (n : ℕ). (maker_of seed).disclosure n y.name y.value) e) ∙ sym (issued.made i y w.1)) in
+      let digests : x.digest ≡ y.digest = gives.0 ∙ (ap (digest_of o.hash) (w.2 ∙ ap (λ (n : ℕ). (maker_of seed).disclosure n y.name y.value) e) ∙ sym (issued.made i y w.1)) in
       subst (λ (z : Given). StandsAt g i z) (sym (one_given x y digests parts_same.1 parts_same.2)) w.1
 
-  pub read_only_as : IsReadOnlyAs parts p g
+  pub read_only_as : IsReadOnlyAs o.hash parts p g
   read_only_as = record {
     payload = payload_read;
     hash = hash_read;
     disclosures = disclosure_read;
-    digests = made_digests (maker_of seed).disclosure (digest_of HashAlg.Sha256) 0 g (λ i x a. let e : i ≡ 0 + i = omega arith in issued.made i x a ∙ ap (λ (n : ℕ). digest_of HashAlg.Sha256 ((maker_of seed).disclosure n x.name x.value)) e)
-        ∙ ap (map (digest_of HashAlg.Sha256)) (sym written.disclosures);
+    digests = made_digests (maker_of seed).disclosure (digest_of o.hash) 0 g (λ i x a. let e : i ≡ 0 + i = omega arith in issued.made i x a ∙ ap (λ (n : ℕ). digest_of o.hash ((maker_of seed).disclosure n x.name x.value)) e)
+        ∙ ap (map (digest_of o.hash)) (sym written.disclosures);
   }

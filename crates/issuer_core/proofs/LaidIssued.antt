@@ -57,7 +57,7 @@ module _ (mk : Maker) (o : Order) (p : Tree) (g : List Given) (dg : ℕ → Text
         decoys_sum f dg (hidden_of o) (decoys_of o) o.payload good.ordered short (held_at o good),
         sum_of-append f (given_digests g) (decoy_digests mk o),
         sum_of-map f (λ (x : Given). x.digest) g,
-        ap (sum_of f) (numbered_same dg (λ k. mk.digest (mk.piece k)) (hidden_of o) (decoys_of o) laid.decoys),
+        ap (sum_of f) (numbered_same dg (λ k. mk.digest o.hash (mk.piece k)) (hidden_of o) (decoys_of o) laid.decoys),
       )
 
   pub issued : DecoysStand mk o p g → IsIssuedFor mk o p g

@@ -36,7 +36,7 @@ module _ (mk : Maker) (o : Order) (p : Tree) (g : List Given) (dg : ℕ → Text
       items_numbered dec dg 0 (marked_claims o) (order_closes o) k x (subst (λ (xs : List Given). StandsAt xs k x) laid.given_laid a)
       ∙ ap dg (let e : 0 + k ≡ k = omega arith in e)
 
-  pub laid_made : (k : ℕ) (x : Given) → StandsAt g k x → x.digest ≡ mk.digest (mk.disclosure k x.name x.value)
+  pub laid_made : (k : ℕ) (x : Given) → StandsAt g k x → x.digest ≡ mk.digest o.hash (mk.disclosure k x.name x.value)
   laid_made k x a = digest_is k x a ∙ laid.disclosures k x a
 
   numbered_at : (f : ℕ → Text) (k : ℕ) (qs : List Path) (i : ℕ) (d : Text) → StandsAt (digests_from f k qs) i d → (i < length qs) × (d ≡ f (k + i))
@@ -54,7 +54,7 @@ module _ (mk : Maker) (o : Order) (p : Tree) (g : List Given) (dg : ℕ → Text
       ⊎_elim
       (λ a. let w = At-of_map (λ (x : Given). x.digest) g q d a in (omega (arith, At-below g q w.0 w.1, laid_count), w.2 ∙ digest_is q w.0 w.1))
       (λ b.
-      let w = numbered_at (λ k. mk.digest (mk.piece k)) n (decoys_of o) b.0 d b.2 in
+      let w = numbered_at (λ k. mk.digest o.hash (mk.piece k)) n (decoys_of o) b.0 d b.2 in
       let e : n + b.0 ≡ q = omega (arith, b.1, given_length g, laid_count) in
       (omega (arith, w.0, e), w.1 ∙ sym (laid.decoys b.0 w.0) ∙ ap dg e))
       (At-either (given_digests g) (decoy_digests mk o) q d h)

@@ -8,14 +8,16 @@ use Rattle.claim_tree.specs.Nodes.{elements_nodes}
 use Rattle.claim_tree.specs.View.{tree_of}
 use Rattle.claim_tree.specs.declared.tree.Tree as code
 use Rattle.digest_sites.specs.Given.{Given}
+use Rattle.disclosure.specs.Digest.{digest_of}
 use Rattle.marked_tree.specs.Marked.{Marked, MarkedElements, marked_element, no_marked_elements, strip_elements}
 use Rattle.marked_tree.specs.Ways.{weight, elements_weight, mark_weight}
 use Rattle.marked_tree.specs.Paths.{Path}
 use Rattle.issuer_core.specs.Laid.{digest_object, digest_elements, laid_given, laid_elements, own_given, lay, lay_elements}
 use Rattle.issuer_core.specs.Digests.{made_texts}
-use Rattle.issuer_core.specs.Laying.{digest, digest_at, salted, elements_joined, placed_at, DecoysTell, IsPart}
+use Rattle.issuer_core.specs.Laying.{digest_at, salted, elements_joined, placed_at, DecoysTell, IsPart}
 use Rattle.issuer_core.specs.Closing.{one, ElementsClose}
 use Rattle.issuer_core.specs.declared.decoys.Decoys.{Decoys}
+use Rattle.issuer_core.specs.declared.laying.Hiding.{Hiding}
 use Rattle.issuer_core.specs.declared.laying.Part.{Part}
 use Rattle.issuer_core.proofs.LayingSteps.{grown, behind, IsMade}
 
@@ -50,26 +52,26 @@ element_laid dec dg i None m es u e = ap (λ (t : Tree). element t (lay_elements
 element_laid dec dg i (Some k) m es u e = ap (λ (t : Tree). element t (lay_elements dec dg (suc i) es)) e
 
 -- what is known where a list is laid up to some of its elements
-pub record LaysElements (decoys : Decoys) (salts : List Text) (first : List Text) (all : MarkedElements) (laid : Elements) (texts digests : List Text) (left : MarkedElements) : Type 0 where
+pub record LaysElements (decoys : Decoys) (hiding : Hiding) (first : List Text) (all : MarkedElements) (laid : Elements) (texts digests : List Text) (left : MarkedElements) : Type 0 where
   pub so_far : (dec : Path → List Text) → DecoysTell decoys dec → (more : List Text)
-      → elements_joined laid (lay_elements dec (digest_at (texts ++ more)) (elements_len laid) left) ≡ lay_elements dec (digest_at (texts ++ more)) 0 all
+      → elements_joined laid (lay_elements dec (digest_at hiding.hash (texts ++ more)) (elements_len laid) left) ≡ lay_elements dec (digest_at hiding.hash (texts ++ more)) 0 all
   pub made : (dec : Path → List Text) → DecoysTell decoys dec → (more : List Text)
-      → texts ++ made_texts (salted salts) (length texts) (laid_elements dec (digest_at (texts ++ more)) (elements_len laid) left) ≡ first ++ made_texts (salted salts) (length first) (laid_elements dec (digest_at (texts ++ more)) 0 all)
+      → texts ++ made_texts (salted hiding.salts.now) (length texts) (laid_elements dec (digest_at hiding.hash (texts ++ more)) (elements_len laid) left) ≡ first ++ made_texts (salted hiding.salts.now) (length first) (laid_elements dec (digest_at hiding.hash (texts ++ more)) 0 all)
   pub closes : ElementsClose (length texts) left
   pub count : length texts + elements_weight one left ≡ length first + elements_weight one all
-  pub digested : digests ≡ map digest texts
+  pub digested : digests ≡ map (digest_of hiding.hash) texts
   pub ranged : ElementsRanged (strip_elements left)
   pub low : elements_depth (strip_elements left) ≤ elements_depth (strip_elements all)
   pub few : elements_nodes (strip_elements left) ≤ elements_nodes (strip_elements all)
 
-module _ (decoys : Decoys) (salts first : List Text) (all : MarkedElements) (laid : Elements) (texts digests : List Text) (k : Option ℕ) (m : Marked) (left : MarkedElements)
-    (so : LaysElements decoys salts first all laid texts digests (marked_element k m left))
+module _ (decoys : Decoys) (hiding : Hiding) (first : List Text) (all : MarkedElements) (laid : Elements) (texts digests : List Text) (k : Option ℕ) (m : Marked) (left : MarkedElements)
+    (so : LaysElements decoys hiding first all laid texts digests (marked_element k m left))
     (below : Decoys) (step : (at : Path) → placed_at below at ≡ placed_at decoys (decimal (elements_len laid) ∷ at))
     (u : Tree) (texts2 digests2 : List Text)
-    (is : (dec : Path → List Text) → DecoysTell below dec → (more : List Text) → IsElement dec (digest_at (texts2 ++ more)) k m u)
-    (made : IsMade below salts None k m texts texts2)
+    (is : (dec : Path → List Text) → DecoysTell below dec → (more : List Text) → IsElement dec (digest_at hiding.hash (texts2 ++ more)) k m u)
+    (made : IsMade below hiding None k m texts texts2)
     (count : length texts2 ≡ length texts + (mark_weight one k + weight one m))
-    (digested : digests2 ≡ map digest texts2)
+    (digested : digests2 ≡ map (digest_of hiding.hash) texts2)
   where
     module _ (dec : Path → List Text) (tells : DecoysTell decoys dec) (more : List Text) where
       abbrev inner : Path → List Text
@@ -79,13 +81,13 @@ module _ (decoys : Decoys) (salts first : List Text) (all : MarkedElements) (lai
       tells_below at = step at ∙ tells (decimal (elements_len laid) ∷ at)
 
       abbrev dg : ℕ → Text
-      dg = digest_at (texts2 ++ more)
+      dg = digest_at hiding.hash (texts2 ++ more)
 
       abbrev parts : List Given
       parts = laid_given inner dg m ++ own_given dg None k (lay inner dg m)
 
       abbrev added : List Text
-      added = made_texts (salted salts) (length texts) parts
+      added = made_texts (salted hiding.salts.now) (length texts) parts
 
       grows : texts2 ≡ texts ++ added
       grows = made inner tells_below more
@@ -98,15 +100,15 @@ module _ (decoys : Decoys) (salts first : List Text) (all : MarkedElements) (lai
           ap (λ i. elements_joined (pushed laid u) (lay_elements dec dg i left)) (len_pushed laid u)
           ∙ (joined_pushed laid u (lay_elements dec dg (suc (elements_len laid)) left)
           ∙ (ap (elements_joined laid) (element_laid dec dg (elements_len laid) k m left u (is inner tells_below more))
-          ∙ subst (λ (ts : List Text). elements_joined laid (lay_elements dec (digest_at ts) (elements_len laid) (marked_element k m left)) ≡ lay_elements dec (digest_at ts) 0 all) same (so.so_far dec tells (added ++ more))))
+          ∙ subst (λ (ts : List Text). elements_joined laid (lay_elements dec (digest_at hiding.hash ts) (elements_len laid) (marked_element k m left)) ≡ lay_elements dec (digest_at hiding.hash ts) 0 all) same (so.so_far dec tells (added ++ more))))
 
-      made_further : texts2 ++ made_texts (salted salts) (length texts2) (laid_elements dec dg (elements_len (pushed laid u)) left) ≡ first ++ made_texts (salted salts) (length first) (laid_elements dec dg 0 all)
+      made_further : texts2 ++ made_texts (salted hiding.salts.now) (length texts2) (laid_elements dec dg (elements_len (pushed laid u)) left) ≡ first ++ made_texts (salted hiding.salts.now) (length first) (laid_elements dec dg 0 all)
       made_further =
-          ap (λ i. texts2 ++ made_texts (salted salts) (length texts2) (laid_elements dec dg i left)) (len_pushed laid u)
-          ∙ (grown (salted salts) texts texts2 parts (laid_elements dec dg (suc (elements_len laid)) left) grows
-          ∙ subst (λ (ts : List Text). texts ++ made_texts (salted salts) (length texts) (laid_elements dec (digest_at ts) (elements_len laid) (marked_element k m left)) ≡ first ++ made_texts (salted salts) (length first) (laid_elements dec (digest_at ts) 0 all)) same (so.made dec tells (added ++ more)))
+          ap (λ i. texts2 ++ made_texts (salted hiding.salts.now) (length texts2) (laid_elements dec dg i left)) (len_pushed laid u)
+          ∙ (grown (salted hiding.salts.now) texts texts2 parts (laid_elements dec dg (suc (elements_len laid)) left) grows
+          ∙ subst (λ (ts : List Text). texts ++ made_texts (salted hiding.salts.now) (length texts) (laid_elements dec (digest_at hiding.hash ts) (elements_len laid) (marked_element k m left)) ≡ first ++ made_texts (salted hiding.salts.now) (length first) (laid_elements dec (digest_at hiding.hash ts) 0 all)) same (so.made dec tells (added ++ more)))
 
-    pub element_more : LaysElements decoys salts first all (pushed laid u) texts2 digests2 left
+    pub element_more : LaysElements decoys hiding first all (pushed laid u) texts2 digests2 left
     element_more = record {
       so_far = further;
       made = made_further;
@@ -120,9 +122,9 @@ module _ (decoys : Decoys) (salts first : List Text) (all : MarkedElements) (lai
 
 -- ---- the first and the last
 
-pub elements_start : (decoys : Decoys) (salts first digests : List Text) (all : MarkedElements) → ElementsClose (length first) all → digests ≡ map digest first → ElementsRanged (strip_elements all)
-    → LaysElements decoys salts first all no_elements first digests all
-elements_start decoys salts first digests all closes digested ranged = record {
+pub elements_start : (decoys : Decoys) (hiding : Hiding) (first digests : List Text) (all : MarkedElements) → ElementsClose (length first) all → digests ≡ map (digest_of hiding.hash) first → ElementsRanged (strip_elements all)
+    → LaysElements decoys hiding first all no_elements first digests all
+elements_start decoys hiding first digests all closes digested ranged = record {
   so_far = λ dec tells more. refl;
   made = λ dec tells more. refl;
   closes = closes;
@@ -133,13 +135,13 @@ elements_start decoys salts first digests all closes digested ranged = record {
   few = omega arith;
 }
 
-pub elements_end : (decoys : Decoys) (salts first texts digests : List Text) (all : MarkedElements) (laid : Elements) → LaysElements decoys salts first all laid texts digests no_marked_elements
-    → (here : List Text) → here ≡ placed_at decoys [] → (dec : Path → List Text) → DecoysTell decoys dec → (more : List Text) → elements_joined laid (digest_elements here) ≡ lay_elements dec (digest_at (texts ++ more)) 0 all
-elements_end decoys salts first texts digests all laid so here e dec tells more = ap (λ (ds : List Text). elements_joined laid (digest_elements ds)) (e ∙ tells []) ∙ so.so_far dec tells more
+pub elements_end : (decoys : Decoys) (hiding : Hiding) (first texts digests : List Text) (all : MarkedElements) (laid : Elements) → LaysElements decoys hiding first all laid texts digests no_marked_elements
+    → (here : List Text) → here ≡ placed_at decoys [] → (dec : Path → List Text) → DecoysTell decoys dec → (more : List Text) → elements_joined laid (digest_elements here) ≡ lay_elements dec (digest_at hiding.hash (texts ++ more)) 0 all
+elements_end decoys hiding first texts digests all laid so here e dec tells more = ap (λ (ds : List Text). elements_joined laid (digest_elements ds)) (e ∙ tells []) ∙ so.so_far dec tells more
 
-pub elements_made : (decoys : Decoys) (salts first texts digests : List Text) (all : MarkedElements) (laid : Elements) → LaysElements decoys salts first all laid texts digests no_marked_elements
-    → (dec : Path → List Text) → DecoysTell decoys dec → (more : List Text) → texts ≡ first ++ made_texts (salted salts) (length first) (laid_elements dec (digest_at (texts ++ more)) 0 all)
-elements_made decoys salts first texts digests all laid so dec tells more = sym (append-nil texts) ∙ so.made dec tells more
+pub elements_made : (decoys : Decoys) (hiding : Hiding) (first texts digests : List Text) (all : MarkedElements) (laid : Elements) → LaysElements decoys hiding first all laid texts digests no_marked_elements
+    → (dec : Path → List Text) → DecoysTell decoys dec → (more : List Text) → texts ≡ first ++ made_texts (salted hiding.salts.now) (length first) (laid_elements dec (digest_at hiding.hash (texts ++ more)) 0 all)
+elements_made decoys hiding first texts digests all laid so dec tells more = sym (append-nil texts) ∙ so.made dec tells more
 
 -- ---- digests and texts as elements
 

@@ -5,6 +5,7 @@ use Rattle.claim_tree.specs.Nodes.{members_nodes}
 use Rattle.claim_tree.specs.View.{tree_of}
 use Rattle.claim_tree.specs.declared.tree.Tree as code
 use Rattle.digest_sites.specs.Given.{Given}
+use Rattle.disclosure.specs.Digest.{digest_of}
 use Rattle.marked_tree.specs.Marked.{Marked, MarkedMembers, marked_member, no_marked_members, strip_members}
 use Rattle.marked_tree.specs.Ways.{weight, members_weight, mark_weight}
 use Rattle.marked_tree.specs.MarkedCalls.{marked_names}
@@ -12,9 +13,10 @@ use Rattle.marked_tree.specs.Paths.{Path}
 use Rattle.marked_tree.proofs.Names.{Ascend, ascend}
 use Rattle.issuer_core.specs.Laid.{with_sd, sorted, hidden_digests, laid_given, laid_members, own_given, lay, lay_members}
 use Rattle.issuer_core.specs.Digests.{made_texts}
-use Rattle.issuer_core.specs.Laying.{digest, digest_at, salted, placed_at, DecoysTell, IsPart}
+use Rattle.issuer_core.specs.Laying.{digest_at, salted, placed_at, DecoysTell, IsPart}
 use Rattle.issuer_core.specs.Closing.{one, MembersClose}
 use Rattle.issuer_core.specs.declared.decoys.Decoys.{Decoys}
+use Rattle.issuer_core.specs.declared.laying.Hiding.{Hiding}
 use Rattle.issuer_core.specs.declared.laying.Part.{Part}
 use Rattle.issuer_core.proofs.LaidOrdered.{lay_names_after}
 use Rattle.issuer_core.proofs.LayingSteps.{grown, behind, IsMade}
@@ -42,15 +44,15 @@ module _ (dec : Path → List Text) (dg : ℕ → Text) where
   names_ascend (marked_member k (Some i) t ms) o = names_ascend ms o.1
 
 -- what is known where an object is laid up to some of its members
-pub record LaysMembers (decoys : Decoys) (salts : List Text) (first : List Text) (all : MarkedMembers) (laid : Members) (hidden texts digests : List Text) (left : MarkedMembers) : Type 0 where
-  pub so_far : (dec : Path → List Text) → DecoysTell decoys dec → (more : List Text) → members_joined laid (lay_members dec (digest_at (texts ++ more)) left) ≡ lay_members dec (digest_at (texts ++ more)) all
-  pub hidden_so_far : (more : List Text) → hidden ++ hidden_digests (digest_at (texts ++ more)) left ≡ hidden_digests (digest_at (texts ++ more)) all
+pub record LaysMembers (decoys : Decoys) (hiding : Hiding) (first : List Text) (all : MarkedMembers) (laid : Members) (hidden texts digests : List Text) (left : MarkedMembers) : Type 0 where
+  pub so_far : (dec : Path → List Text) → DecoysTell decoys dec → (more : List Text) → members_joined laid (lay_members dec (digest_at hiding.hash (texts ++ more)) left) ≡ lay_members dec (digest_at hiding.hash (texts ++ more)) all
+  pub hidden_so_far : (more : List Text) → hidden ++ hidden_digests (digest_at hiding.hash (texts ++ more)) left ≡ hidden_digests (digest_at hiding.hash (texts ++ more)) all
   pub made : (dec : Path → List Text) → DecoysTell decoys dec → (more : List Text)
-      → texts ++ made_texts (salted salts) (length texts) (laid_members dec (digest_at (texts ++ more)) left) ≡ first ++ made_texts (salted salts) (length first) (laid_members dec (digest_at (texts ++ more)) all)
+      → texts ++ made_texts (salted hiding.salts.now) (length texts) (laid_members dec (digest_at hiding.hash (texts ++ more)) left) ≡ first ++ made_texts (salted hiding.salts.now) (length first) (laid_members dec (digest_at hiding.hash (texts ++ more)) all)
   pub ordered : MembersOrdered (strip_members all)
   pub closes : MembersClose (length texts) left
   pub count : length texts + members_weight one left ≡ length first + members_weight one all
-  pub digested : digests ≡ map digest texts
+  pub digested : digests ≡ map (digest_of hiding.hash) texts
   pub ranged : MembersRanged (strip_members left)
   pub low : members_depth (strip_members left) ≤ members_depth (strip_members all)
   pub few : members_nodes (strip_members left) ≤ members_nodes (strip_members all)
@@ -75,30 +77,30 @@ member_hidden : (dec : Path → List Text) (dg : ℕ → Text) (name : Text) (k 
 member_hidden dec dg name None m ms d p = elim p [ ]
 member_hidden dec dg name (Some k) m ms d p = ap (λ (e : Text). e ∷ hidden_digests dg ms) p
 
-module _ (decoys : Decoys) (salts first : List Text) (all : MarkedMembers) (laid : Members) (hidden texts digests : List Text) (name : Text) (k : Option ℕ) (m : Marked) (left : MarkedMembers)
-    (so : LaysMembers decoys salts first all laid hidden texts digests (marked_member name k m left))
+module _ (decoys : Decoys) (hiding : Hiding) (first : List Text) (all : MarkedMembers) (laid : Members) (hidden texts digests : List Text) (name : Text) (k : Option ℕ) (m : Marked) (left : MarkedMembers)
+    (so : LaysMembers decoys hiding first all laid hidden texts digests (marked_member name k m left))
     (below : Decoys) (step : (at : Path) → placed_at below at ≡ placed_at decoys (name ∷ at))
     (part : Part) (texts2 digests2 : List Text)
-    (is : (dec : Path → List Text) → DecoysTell below dec → (more : List Text) → IsPart dec (digest_at (texts2 ++ more)) k m part)
-    (made : IsMade below salts (Some name) k m texts texts2)
+    (is : (dec : Path → List Text) → DecoysTell below dec → (more : List Text) → IsPart dec (digest_at hiding.hash (texts2 ++ more)) k m part)
+    (made : IsMade below hiding (Some name) k m texts texts2)
     (count : length texts2 ≡ length texts + (mark_weight one k + weight one m))
-    (digested : digests2 ≡ map digest texts2)
+    (digested : digests2 ≡ map (digest_of hiding.hash) texts2)
   where
     module _ (more : List Text) where
       abbrev dg : ℕ → Text
-      dg = digest_at (texts2 ++ more)
+      dg = digest_at hiding.hash (texts2 ++ more)
 
       abbrev own : List Given
       own = laid_given (placed_at below) dg m ++ own_given dg (Some name) k (lay (placed_at below) dg m)
 
       abbrev added : List Text
-      added = made_texts (salted salts) (length texts) own
+      added = made_texts (salted hiding.salts.now) (length texts) own
 
       same : texts ++ (added ++ more) ≡ texts2 ++ more
       same = behind texts texts2 added more (made (placed_at below) (λ at. refl) more)
 
       hidden_before : hidden ++ hidden_digests dg (marked_member name k m left) ≡ hidden_digests dg all
-      hidden_before = subst (λ (ts : List Text). hidden ++ hidden_digests (digest_at ts) (marked_member name k m left) ≡ hidden_digests (digest_at ts) all) same (so.hidden_so_far (added ++ more))
+      hidden_before = subst (λ (ts : List Text). hidden ++ hidden_digests (digest_at hiding.hash ts) (marked_member name k m left) ≡ hidden_digests (digest_at hiding.hash ts) all) same (so.hidden_so_far (added ++ more))
 
       module _ (dec : Path → List Text) (tells : DecoysTell decoys dec) where
         abbrev inner : Path → List Text
@@ -111,20 +113,20 @@ module _ (decoys : Decoys) (salts first : List Text) (all : MarkedMembers) (laid
         parts = laid_given inner dg m ++ own_given dg (Some name) k (lay inner dg m)
 
         before : members_joined laid (lay_members dec dg (marked_member name k m left)) ≡ lay_members dec dg all
-        before = subst (λ (ts : List Text). members_joined laid (lay_members dec (digest_at ts) (marked_member name k m left)) ≡ lay_members dec (digest_at ts) all) same (so.so_far dec tells (added ++ more))
+        before = subst (λ (ts : List Text). members_joined laid (lay_members dec (digest_at hiding.hash ts) (marked_member name k m left)) ≡ lay_members dec (digest_at hiding.hash ts) all) same (so.so_far dec tells (added ++ more))
 
-        made_further : texts2 ++ made_texts (salted salts) (length texts2) (laid_members dec dg left) ≡ first ++ made_texts (salted salts) (length first) (laid_members dec dg all)
+        made_further : texts2 ++ made_texts (salted hiding.salts.now) (length texts2) (laid_members dec dg left) ≡ first ++ made_texts (salted hiding.salts.now) (length first) (laid_members dec dg all)
         made_further =
-            grown (salted salts) texts texts2 parts (laid_members dec dg left) (made inner tells_below more)
-            ∙ subst (λ (ts : List Text). texts ++ made_texts (salted salts) (length texts) (laid_members dec (digest_at ts) (marked_member name k m left)) ≡ first ++ made_texts (salted salts) (length first) (laid_members dec (digest_at ts) all)) same (so.made dec tells (added ++ more))
+            grown (salted hiding.salts.now) texts texts2 parts (laid_members dec dg left) (made inner tells_below more)
+            ∙ subst (λ (ts : List Text). texts ++ made_texts (salted hiding.salts.now) (length texts) (laid_members dec (digest_at hiding.hash ts) (marked_member name k m left)) ≡ first ++ made_texts (salted hiding.salts.now) (length first) (laid_members dec (digest_at hiding.hash ts) all)) same (so.made dec tells (added ++ more))
 
     -- what the next one needs besides
     abbrev Rest : (Members → List Text → Type 0)
     Rest laid2 hidden2 =
-        ((dec : Path → List Text) → DecoysTell decoys dec → (more : List Text) → members_joined laid2 (lay_members dec (digest_at (texts2 ++ more)) left) ≡ lay_members dec (digest_at (texts2 ++ more)) all)
-        × ((more : List Text) → hidden2 ++ hidden_digests (digest_at (texts2 ++ more)) left ≡ hidden_digests (digest_at (texts2 ++ more)) all)
+        ((dec : Path → List Text) → DecoysTell decoys dec → (more : List Text) → members_joined laid2 (lay_members dec (digest_at hiding.hash (texts2 ++ more)) left) ≡ lay_members dec (digest_at hiding.hash (texts2 ++ more)) all)
+        × ((more : List Text) → hidden2 ++ hidden_digests (digest_at hiding.hash (texts2 ++ more)) left ≡ hidden_digests (digest_at hiding.hash (texts2 ++ more)) all)
 
-    next : (laid2 : Members) (hidden2 : List Text) → Rest laid2 hidden2 → LaysMembers decoys salts first all laid2 hidden2 texts2 digests2 left
+    next : (laid2 : Members) (hidden2 : List Text) → Rest laid2 hidden2 → LaysMembers decoys hiding first all laid2 hidden2 texts2 digests2 left
     next laid2 hidden2 rest = record {
       so_far = rest.0;
       hidden_so_far = rest.1;
@@ -138,41 +140,41 @@ module _ (decoys : Decoys) (salts first : List Text) (all : MarkedMembers) (laid
       few = let old = so.few in omega (arith, old);
     }
 
-    pub member_more_shown : (t : code.Tree) → part ≡ Part.Shown t → LaysMembers decoys salts first all (inserted laid name (tree_of t)) hidden texts2 digests2 left
+    pub member_more_shown : (t : code.Tree) → part ≡ Part.Shown t → LaysMembers decoys hiding first all (inserted laid name (tree_of t)) hidden texts2 digests2 left
     member_more_shown t e = next (inserted laid name (tree_of t)) hidden (so_far, hidden_so_far)
       where
-        told : (dec : Path → List Text) → DecoysTell below dec → (more : List Text) → IsPart dec (digest_at (texts2 ++ more)) k m (Part.Shown t)
-        told dec tells more = subst (λ p. IsPart dec (digest_at (texts2 ++ more)) k m p) e (is dec tells more)
+        told : (dec : Path → List Text) → DecoysTell below dec → (more : List Text) → IsPart dec (digest_at hiding.hash (texts2 ++ more)) k m (Part.Shown t)
+        told dec tells more = subst (λ p. IsPart dec (digest_at hiding.hash (texts2 ++ more)) k m p) e (is dec tells more)
 
         so_far : (dec : Path → List Text) → DecoysTell decoys dec → (more : List Text)
-            → members_joined (inserted laid name (tree_of t)) (lay_members dec (digest_at (texts2 ++ more)) left) ≡ lay_members dec (digest_at (texts2 ++ more)) all
+            → members_joined (inserted laid name (tree_of t)) (lay_members dec (digest_at hiding.hash (texts2 ++ more)) left) ≡ lay_members dec (digest_at hiding.hash (texts2 ++ more)) all
         so_far dec tells more =
             let whole = ap (members_joined laid) (member_laid dec (dg more) name k m left t (told (inner more dec tells) (tells_below more dec tells) more)) ∙ before more dec tells in
             let rises = subst (λ us. Ascend (names us)) (sym whole) (names_ascend dec (dg more) all (ascend all so.ordered)) in
             inserted_last name (tree_of t) laid (lay_members dec (dg more) left) rises ∙ whole
 
-        hidden_so_far : (more : List Text) → hidden ++ hidden_digests (digest_at (texts2 ++ more)) left ≡ hidden_digests (digest_at (texts2 ++ more)) all
+        hidden_so_far : (more : List Text) → hidden ++ hidden_digests (digest_at hiding.hash (texts2 ++ more)) left ≡ hidden_digests (digest_at hiding.hash (texts2 ++ more)) all
         hidden_so_far more = ap (λ (ds : List Text). hidden ++ ds) (member_shown (placed_at below) (dg more) name k m left t (told (placed_at below) (λ at. refl) more)) ∙ hidden_before more
 
-    pub member_more_hidden : (d : Text) → part ≡ Part.Hidden d → LaysMembers decoys salts first all laid (hidden ++ d ∷ []) texts2 digests2 left
+    pub member_more_hidden : (d : Text) → part ≡ Part.Hidden d → LaysMembers decoys hiding first all laid (hidden ++ d ∷ []) texts2 digests2 left
     member_more_hidden d e = next laid (hidden ++ d ∷ []) (so_far, hidden_so_far)
       where
-        told : (more : List Text) → IsPart (placed_at below) (digest_at (texts2 ++ more)) k m (Part.Hidden d)
-        told more = subst (λ p. IsPart (placed_at below) (digest_at (texts2 ++ more)) k m p) e (is (placed_at below) (λ at. refl) more)
+        told : (more : List Text) → IsPart (placed_at below) (digest_at hiding.hash (texts2 ++ more)) k m (Part.Hidden d)
+        told more = subst (λ p. IsPart (placed_at below) (digest_at hiding.hash (texts2 ++ more)) k m p) e (is (placed_at below) (λ at. refl) more)
 
-        so_far : (dec : Path → List Text) → DecoysTell decoys dec → (more : List Text) → members_joined laid (lay_members dec (digest_at (texts2 ++ more)) left) ≡ lay_members dec (digest_at (texts2 ++ more)) all
+        so_far : (dec : Path → List Text) → DecoysTell decoys dec → (more : List Text) → members_joined laid (lay_members dec (digest_at hiding.hash (texts2 ++ more)) left) ≡ lay_members dec (digest_at hiding.hash (texts2 ++ more)) all
         so_far dec tells more = ap (members_joined laid) (member_left_out dec (dg more) (placed_at below) name k m left d (told more)) ∙ before more dec tells
 
-        hidden_so_far : (more : List Text) → (hidden ++ d ∷ []) ++ hidden_digests (digest_at (texts2 ++ more)) left ≡ hidden_digests (digest_at (texts2 ++ more)) all
+        hidden_so_far : (more : List Text) → (hidden ++ d ∷ []) ++ hidden_digests (digest_at hiding.hash (texts2 ++ more)) left ≡ hidden_digests (digest_at hiding.hash (texts2 ++ more)) all
         hidden_so_far more =
             append_assoc hidden (d ∷ []) (hidden_digests (dg more) left)
             ∙ (ap (λ (ds : List Text). hidden ++ ds) (member_hidden (placed_at below) (dg more) name k m left d (told more)) ∙ hidden_before more)
 
 -- ---- the first and the last
 
-pub members_start : (decoys : Decoys) (salts first digests : List Text) (all : MarkedMembers) → MembersClose (length first) all → digests ≡ map digest first → MembersRanged (strip_members all) → MembersOrdered (strip_members all)
-    → LaysMembers decoys salts first all no_members [] first digests all
-members_start decoys salts first digests all closes digested ranged ordered = record {
+pub members_start : (decoys : Decoys) (hiding : Hiding) (first digests : List Text) (all : MarkedMembers) → MembersClose (length first) all → digests ≡ map (digest_of hiding.hash) first → MembersRanged (strip_members all) → MembersOrdered (strip_members all)
+    → LaysMembers decoys hiding first all no_members [] first digests all
+members_start decoys hiding first digests all closes digested ranged ordered = record {
   so_far = λ dec tells more. refl;
   hidden_so_far = λ more. refl;
   made = λ dec tells more. refl;
@@ -185,14 +187,14 @@ members_start decoys salts first digests all closes digested ranged ordered = re
   few = omega arith;
 }
 
-pub members_end : (decoys : Decoys) (salts first texts digests hidden : List Text) (all : MarkedMembers) (laid : Members) → LaysMembers decoys salts first all laid hidden texts digests no_marked_members
+pub members_end : (decoys : Decoys) (hiding : Hiding) (first texts digests hidden : List Text) (all : MarkedMembers) (laid : Members) → LaysMembers decoys hiding first all laid hidden texts digests no_marked_members
     → (here : List Text) → here ≡ placed_at decoys [] → (dec : Path → List Text) → DecoysTell decoys dec → (more : List Text)
-    → with_sd (sorted (hidden ++ here)) laid ≡ with_sd (sorted (hidden_digests (digest_at (texts ++ more)) all ++ dec [])) (lay_members dec (digest_at (texts ++ more)) all)
-members_end decoys salts first texts digests hidden all laid so here e dec tells more =
+    → with_sd (sorted (hidden ++ here)) laid ≡ with_sd (sorted (hidden_digests (digest_at hiding.hash (texts ++ more)) all ++ dec [])) (lay_members dec (digest_at hiding.hash (texts ++ more)) all)
+members_end decoys hiding first texts digests hidden all laid so here e dec tells more =
     ap₂ (λ (ds : List Text) (ms : Members). with_sd (sorted ds) ms)
     (ap₂ (λ (xs ys : List Text). xs ++ ys) (sym (append-nil hidden) ∙ so.hidden_so_far more) (e ∙ tells []))
     (sym (joined_no_members laid) ∙ so.so_far dec tells more)
 
-pub members_made : (decoys : Decoys) (salts first texts digests hidden : List Text) (all : MarkedMembers) (laid : Members) → LaysMembers decoys salts first all laid hidden texts digests no_marked_members
-    → (dec : Path → List Text) → DecoysTell decoys dec → (more : List Text) → texts ≡ first ++ made_texts (salted salts) (length first) (laid_members dec (digest_at (texts ++ more)) all)
-members_made decoys salts first texts digests hidden all laid so dec tells more = sym (append-nil texts) ∙ so.made dec tells more
+pub members_made : (decoys : Decoys) (hiding : Hiding) (first texts digests hidden : List Text) (all : MarkedMembers) (laid : Members) → LaysMembers decoys hiding first all laid hidden texts digests no_marked_members
+    → (dec : Path → List Text) → DecoysTell decoys dec → (more : List Text) → texts ≡ first ++ made_texts (salted hiding.salts.now) (length first) (laid_members dec (digest_at hiding.hash (texts ++ more)) all)
+members_made decoys hiding first texts digests hidden all laid so dec tells more = sym (append-nil texts) ∙ so.made dec tells more

@@ -23,7 +23,6 @@ pub mod WrittenTexts
 pub mod ReadBack
 pub mod IssuedContent
 pub mod ShownTexts
-pub mod OwnReading
 pub mod IssuedRead
 pub mod FromLaid
 pub mod OneToken

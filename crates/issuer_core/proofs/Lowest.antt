@@ -6,7 +6,7 @@ use Rattle.issuer_core.specs.declared.errors.IssueError.{IssueError}
 use Rattle.issuer_core.specs.declared.errors.IssueError.TheVariants.{Memory, SignFailed, PayloadNotObject, ReservedName, TooDeep, RootMarked, NoSuchPlace, ProtectedClaim, DecoyPlace, TooManyHidden, TooManyDecoys, DigestClash, TooLong}
 use Rattle.issuer_core.specs.Order.{Order}
 use Rattle.compact_form.specs.Lowest.{NoneApplies}
-use Rattle.issuer_core.specs.OrderRefusals.{IsRoot, IsNowhere, IsProtected, IsMisplaced, AppliesToOrder, refusal_number, refusal_place, IsLowestRefusal}
+use Rattle.issuer_core.specs.OrderRefusals.{IsRoot, IsNowhere, IsProtected, IsMisplaced, AppliesToOrder, issue_number, refusal_place, IsLowestRefusal}
 use Rattle.issuer_core.specs.Judging.{PassesBelow}
 
 -- ---- none below a number
@@ -28,10 +28,10 @@ from_51 o TooLong h = absurd h
 
 -- no refusal with this number applies
 abbrev pub NoneWith : ℕ → Order → Type 0
-NoneWith number o = (error : IssueError) → AppliesToOrder o error → refusal_number error ≡ number → ⊥
+NoneWith number o = (error : IssueError) → AppliesToOrder o error → issue_number error ≡ number → ⊥
 
 pub one_more : (o : Order) (number : ℕ) → PassesBelow number o → NoneWith number o → PassesBelow (suc number) o
-one_more o number below none error h = at_or_above number (refusal_number error) (below error h) (none error h)
+one_more o number below none error h = at_or_above number (issue_number error) (below error h) (none error h)
   where
     at_or_above : (a b : ℕ) → a ≤ b → (b ≡ a → ⊥) → suc a ≤ b
     at_or_above a b l differs = grind arith
@@ -81,30 +81,30 @@ none_left o below error h = let over = below error h in omega (arith, over)
 
 -- ---- the lowest, at its least place
 
-pub lowest_at : (o : Order) (error : IssueError) → PassesBelow (refusal_number error) o → AppliesToOrder o error
-    → ((other : IssueError) → AppliesToOrder o other → refusal_number other ≡ refusal_number error → refusal_place error ≤ refusal_place other) → IsLowestRefusal (AppliesToOrder o) error
+pub lowest_at : (o : Order) (error : IssueError) → PassesBelow (issue_number error) o → AppliesToOrder o error
+    → ((other : IssueError) → AppliesToOrder o other → issue_number other ≡ issue_number error → refusal_place error ≤ refusal_place other) → IsLowestRefusal (AppliesToOrder o) error
 lowest_at o error below applies first = record { applies = applies; lowest = below; first = first }
 
 -- a refusal with no place
-pub lowest : (o : Order) (error : IssueError) → refusal_place error ≡ 0 → PassesBelow (refusal_number error) o → AppliesToOrder o error → IsLowestRefusal (AppliesToOrder o) error
+pub lowest : (o : Order) (error : IssueError) → refusal_place error ≡ 0 → PassesBelow (issue_number error) o → AppliesToOrder o error → IsLowestRefusal (AppliesToOrder o) error
 lowest o error nought below applies = lowest_at o error below applies (λ other h same. omega (arith, nought))
 
 not_below : (a b : ℕ) → (b < a → ⊥) → a ≤ b
 not_below a b h = grind arith
 
-least_54 : (o : Order) (k : ℕ) → IsLeast (IsSuchAt IsRoot o.hide) k → (other : IssueError) → AppliesToOrder o other → refusal_number other ≡ 54 → k ≤ refusal_place other
+least_54 : (o : Order) (k : ℕ) → IsLeast (IsSuchAt IsRoot o.hide) k → (other : IssueError) → AppliesToOrder o other → issue_number other ≡ 54 → k ≤ refusal_place other
 least_54 o k least (RootMarked j) h same = not_below k j (λ less. least.first j less h)
 least_54 o k least other h same = absurd (omega (arith, same))
 
-least_55 : (o : Order) (k : ℕ) → IsLeast (IsSuchAt (IsNowhere o.payload) o.hide) k → (other : IssueError) → AppliesToOrder o other → refusal_number other ≡ 55 → k ≤ refusal_place other
+least_55 : (o : Order) (k : ℕ) → IsLeast (IsSuchAt (IsNowhere o.payload) o.hide) k → (other : IssueError) → AppliesToOrder o other → issue_number other ≡ 55 → k ≤ refusal_place other
 least_55 o k least (NoSuchPlace j) h same = not_below k j (λ less. least.first j less h)
 least_55 o k least other h same = absurd (omega (arith, same))
 
-least_56 : (o : Order) (k : ℕ) → IsLeast (IsSuchAt IsProtected o.hide) k → (other : IssueError) → AppliesToOrder o other → refusal_number other ≡ 56 → k ≤ refusal_place other
+least_56 : (o : Order) (k : ℕ) → IsLeast (IsSuchAt IsProtected o.hide) k → (other : IssueError) → AppliesToOrder o other → issue_number other ≡ 56 → k ≤ refusal_place other
 least_56 o k least (ProtectedClaim j) h same = not_below k j (λ less. least.first j less h)
 least_56 o k least other h same = absurd (omega (arith, same))
 
-least_57 : (o : Order) (k : ℕ) → IsLeast (IsSuchAt (IsMisplaced o.payload) o.decoys) k → (other : IssueError) → AppliesToOrder o other → refusal_number other ≡ 57 → k ≤ refusal_place other
+least_57 : (o : Order) (k : ℕ) → IsLeast (IsSuchAt (IsMisplaced o.payload) o.decoys) k → (other : IssueError) → AppliesToOrder o other → issue_number other ≡ 57 → k ≤ refusal_place other
 least_57 o k least (DecoyPlace j) h same = not_below k j (λ less. least.first j less h)
 least_57 o k least other h same = absurd (omega (arith, same))
 

@@ -104,7 +104,7 @@ module _ (mk : Maker) (o : Order) (shown : o.hide ≡ []) (bare : o.decoys ≡ [
   no_items = nil_from_length (laid_given (order_decoys o dg) dg (marked_claims o)) (items_length (order_decoys o dg) dg (marked_claims o) ∙ order_marks o ∙ no_hidden)
 
   -- the payload alone, with the name of the hash
-  pub nothing_laid : IsLaidFor mk o (with_alg o.payload) [] []
+  pub nothing_laid : IsLaidFor mk o (with_alg o.hash o.payload) [] []
   nothing_laid = record {
     laid = o.payload;
     given = [];

@@ -2,6 +2,7 @@
 use Rattle.std.proofs.Common.{◌≡◌, ℕ, suc, ◌+◌, ◌-◌, ◌<◌, ◌≤◌, ◌⊎◌, inl, inr, List, [], ◌∷◌, ◌++◌, None, Option, Some, ap, arith, decimal, length, length-append, refl, subst, sym, ◌∙◌, if◌then◌else◌}
 use Rattle.claim_tree.specs.Lists.{StandsAt}
 use Rattle.claim_tree.specs.Tree.{Text, Tree}
+use Rattle.disclosure.specs.declared.digests.HashAlg.{HashAlg}
 use Rattle.digest_sites.specs.Given.{Given}
 use Rattle.marked_tree.specs.Marked.{Marked, MarkedElements, MarkedMembers, marked_array, marked_element, marked_leaf, marked_member, marked_object, no_marked_elements, no_marked_members}
 use Rattle.marked_tree.specs.Paths.{Path, same_path}
@@ -16,10 +17,10 @@ use Rattle.rebuild_core.proofs.AllShown.{At-left, At-right}
 use Rattle.issuer_core.proofs.Agrees.{MarkAgrees, MarksAgree, ElementsAgree, MembersAgree, DecoysAgree, lay_agrees, items_agree}
 use Rattle.issuer_core.proofs.Closing.{own_items_length, items_length, order_closes, order_marks}
 
-module _ (maker : Maker) where
+module _ (maker : Maker) (hash : HashAlg) where
   -- the digest of each of the disclosures, from the number n on, is that of its text
   abbrev Made : (ℕ → Text) → ℕ → List Given → Type 0
-  Made dg n xs = (q : ℕ) (x : Given) → StandsAt xs q x → dg (n + q) ≡ maker.digest (maker.disclosure (n + q) x.name x.value)
+  Made dg n xs = (q : ℕ) (x : Given) → StandsAt xs q x → dg (n + q) ≡ maker.digest hash (maker.disclosure (n + q) x.name x.value)
 
   made_first : (dg : ℕ → Text) (n : ℕ) (xs ys : List Given) → Made dg n (xs ++ ys) → Made dg n xs
   made_first dg n xs ys h q x a = h q x (At-left xs ys q x a)
@@ -27,7 +28,7 @@ module _ (maker : Maker) where
   made_last : (dg : ℕ → Text) (n k : ℕ) (xs ys : List Given) → k ≡ length xs → Made dg n (xs ++ ys) → Made dg (n + k) ys
   made_last dg n k xs ys e h q x a =
       let c : n + (length xs + q) ≡ n + k + q = omega (arith, e) in
-      subst (λ z. dg z ≡ maker.digest (maker.disclosure z x.name x.value)) c (h (length xs + q) x (At-right xs ys q x a))
+      subst (λ z. dg z ≡ maker.digest hash (maker.disclosure z x.name x.value)) c (h (length xs + q) x (At-right xs ys q x a))
 
   -- what is made of a node: its inside, its own disclosure, and what follows
   record Cut (dg : ℕ → Text) (n a : ℕ) (k : Option ℕ) (name : Option Text) (v : Tree) (xs ys : List Given) : Type 0 where
@@ -50,9 +51,9 @@ module _ (maker : Maker) where
     own_agrees name None n v u is e a b = tt
     own_agrees name (Some k) n v u is e a b =
         let c : n + 0 ≡ k = omega (arith, is) in
-        let here : dg k ≡ maker.digest (maker.disclosure k name v) = subst (λ z. dg z ≡ maker.digest (maker.disclosure z name v)) c (a 0 (record { digest = dg k; name = name; value = v }) refl) in
-        let other : dh k ≡ maker.digest (maker.disclosure k name u) = subst (λ z. dh z ≡ maker.digest (maker.disclosure z name u)) c (b 0 (record { digest = dh k; name = name; value = u }) refl) in
-        here ∙ (ap (λ t. maker.digest (maker.disclosure k name t)) e ∙ sym other)
+        let here : dg k ≡ maker.digest hash (maker.disclosure k name v) = subst (λ z. dg z ≡ maker.digest hash (maker.disclosure z name v)) c (a 0 (record { digest = dg k; name = name; value = v }) refl) in
+        let other : dh k ≡ maker.digest hash (maker.disclosure k name u) = subst (λ z. dh z ≡ maker.digest hash (maker.disclosure z name u)) c (b 0 (record { digest = dh k; name = name; value = u }) refl) in
+        here ∙ (ap (λ t. maker.digest hash (maker.disclosure k name t)) e ∙ sym other)
 
     mutual
       pub marks_agree : (dec ded : Path → List Text) → DecoysAgree dec ded → (n : ℕ) (m : Marked) → ClosesFrom n m → Made dg n (laid_given dec dg m) → Made dh n (laid_given ded dh m) → MarksAgree dg dh m
@@ -101,15 +102,15 @@ module _ (maker : Maker) (o : Order) (p q : Tree) (g h : List Given) (dg dh : �
   same_decoys d l = this.decoys d l ∙ sym (other.decoys d l)
 
   decoys_same : DecoysAgree (order_decoys o dg) (order_decoys o dh)
-  decoys_same = decoys_agree maker dg dh (hidden_of o) (decoys_of o) same_decoys
+  decoys_same = decoys_agree maker o.hash dg dh (hidden_of o) (decoys_of o) same_decoys
 
-  made_of : (dk : ℕ → Text) (r : Tree) (k : List Given) → IsLaid maker o r k dk → Made maker dk 0 (laid_given (order_decoys o dk) dk (marked_claims o))
+  made_of : (dk : ℕ → Text) (r : Tree) (k : List Given) → IsLaid maker o r k dk → Made maker o.hash dk 0 (laid_given (order_decoys o dk) dk (marked_claims o))
   made_of dk r k laid i x a =
       let c : i ≡ 0 + i = omega arith in
-      subst (λ z. dk z ≡ maker.digest (maker.disclosure z x.name x.value)) c (laid.disclosures i x (subst (λ (xs : List Given). StandsAt xs i x) (sym laid.given_laid) a))
+      subst (λ z. dk z ≡ maker.digest o.hash (maker.disclosure z x.name x.value)) c (laid.disclosures i x (subst (λ (xs : List Given). StandsAt xs i x) (sym laid.given_laid) a))
 
   marks_same : MarksAgree dg dh (marked_claims o)
-  marks_same = marks_agree maker dg dh (order_decoys o dg) (order_decoys o dh) decoys_same 0 (marked_claims o) (order_closes o) (made_of dg p g this) (made_of dh q h other)
+  marks_same = marks_agree maker o.hash dg dh (order_decoys o dg) (order_decoys o dh) decoys_same 0 (marked_claims o) (order_closes o) (made_of dg p g this) (made_of dh q h other)
 
   pub one_payload : p ≡ q
   one_payload = this.payload_laid ∙ (lay_agrees dg dh (order_decoys o dg) (order_decoys o dh) decoys_same (marked_claims o) marks_same ∙ sym other.payload_laid)

@@ -3,13 +3,14 @@ use Rattle.std.proofs.Common.{◌≡◌, ℕ, ◌<◌, ◌⊎◌, inl, inr, List
 use Rattle.claim_tree.specs.Tree.{Text}
 use Rattle.claim_tree.specs.Lists.{IsLeast}
 use Rattle.hmac_sign.specs.Signatures.{Meaning}
+use Rattle.hmac_sign.specs.declared.alg.Alg.{Alg}
 use Rattle.marked_tree.specs.Paths.{Path}
 use Rattle.issuer_core.specs.declared.errors.IssueError.{IssueError}
 use Rattle.issuer_core.specs.declared.errors.IssueError.TheVariants.{Memory, SignFailed, PayloadNotObject, ReservedName, TooDeep, RootMarked, NoSuchPlace, ProtectedClaim, DecoyPlace, TooManyHidden, TooManyDecoys, DigestClash, TooLong}
 use Rattle.issuer_core.specs.Order.{Order}
 use Rattle.issuer_core.specs.Digests.{Maker}
 use Rattle.issuer_core.specs.Clash.{IsEqualAt, IsFirstClash}
-use Rattle.issuer_core.specs.OrderRefusals.{refusal_number, refusal_place, IsLowestRefusal}
+use Rattle.issuer_core.specs.OrderRefusals.{issue_number, refusal_place, IsLowestRefusal}
 use Rattle.issuer_core.specs.Issue.{laid_digests, ClashesAt, AppliesToIssue}
 use Rattle.issuer_core.proofs.FromLaid.{one_list}
 
@@ -39,9 +40,9 @@ module _ (maker : Maker) (o : Order) where
   one_path : (found : Option Path) (p q : Path) → found ≡ Some p → found ≡ Some q → p ≡ q
   one_path found p q e f = let same : Some p ≡ Some q = sym e ∙ f in cc same
 
-  module _ (good : Meaning) where
+  module _ (alg : Alg) (good : Meaning) where
     -- the number and the place tell what applies
-    by_number : (e f : IssueError) → AppliesToIssue maker o good e → AppliesToIssue maker o good f → refusal_number e ≡ refusal_number f → refusal_place e ≡ refusal_place f → e ≡ f
+    by_number : (e f : IssueError) → AppliesToIssue maker o alg good e → AppliesToIssue maker o alg good f → issue_number e ≡ issue_number f → refusal_place e ≡ refusal_place f → e ≡ f
     by_number Memory f a b n p = absurd a
     by_number SignFailed f a b n p = absurd a
     by_number PayloadNotObject PayloadNotObject a b n p = refl
@@ -67,11 +68,11 @@ module _ (maker : Maker) (o : Order) where
     by_number TooLong TooLong a b n p = refl
     by_number TooLong f a b n p = absurd (omega (arith, n))
 
-    pub one_refusal : (e f : IssueError) → IsLowestRefusal (AppliesToIssue maker o good) e → IsLowestRefusal (AppliesToIssue maker o good) f → e ≡ f
+    pub one_refusal : (e f : IssueError) → IsLowestRefusal (AppliesToIssue maker o alg good) e → IsLowestRefusal (AppliesToIssue maker o alg good) f → e ≡ f
     one_refusal e f this other =
         let up = this.lowest f other.applies in
         let down = other.lowest e this.applies in
-        let numbers : refusal_number e ≡ refusal_number f = omega (arith, up, down) in
+        let numbers : issue_number e ≡ issue_number f = omega (arith, up, down) in
         let before = this.first f other.applies (sym numbers) in
         let behind = other.first e this.applies numbers in
         by_number e f this.applies other.applies numbers (omega (arith, before, behind))

@@ -1,29 +1,39 @@
 -- A file says one order, or is refused.
-use Rattle.std.proofs.Common.{◌≡◌, ◌≢◌, ℕ, ◌≤◌, List, [], ◌∷◌, Bool, true, false, cond, inl, inr, Option, Some, None, sym, ap, subst, ◌∙◌, arith, codes}
+use Rattle.std.proofs.Common.{◌≡◌, ◌≢◌, ℕ, ◌<◌, ◌≤◌, List, [], ◌∷◌, Bool, true, false, cond, inl, inr, Option, Some, None, length, refl, sym, ap, ap₂, subst, ◌∙◌, arith, codes}
 use Rattle.std.specs.Prelude.{bytes_eq}
-use Rattle.sd_outside.specs.Limits.{count_max, file_max}
+use Rattle.sd_outside.specs.Limits.{count_max, file_max, key_min}
 use Rattle.claim_tree.specs.Tree as spec
-use Rattle.claim_tree.specs.Tree.{Text, object, Elements, no_elements, element, Members, no_members, member, members_len, member_named, depth, members_depth, IsOrdered, MembersOrdered, IsRanged, MembersRanged}
+use Rattle.claim_tree.specs.Tree.{Text, text, leaf, object, Elements, no_elements, element, Members, no_members, member, members_len, member_named, depth, members_depth, IsOrdered, MembersOrdered, IsRanged, MembersRanged}
 use Rattle.claim_tree.specs.Lists.{In}
 use Rattle.claim_tree.specs.View.{tree_of}
 use Rattle.claim_tree.specs.declared.tree.Tree as tree
-use Rattle.claim_tree.specs.FileForms.{IsText, IsWholeUpTo, Says, MaySay, SaysOr, HasValue, found}
-use Rattle.claim_tree.specs.declared.file_fault.Field.TheVariants.{Payload, Hide, Decoys, Key, Kid, Typ}
+use Rattle.claim_tree.specs.FileForms.{IsText, IsWholeUpTo, Says, MaySay, SaysOr, HasValue, MemberMeets, MemberFails, missing, wrong, optional, found}
+use Rattle.claim_tree.specs.FileRefusals.{IsMemberRefused}
+use Rattle.claim_tree.specs.declared.file_fault.Field.{Field}
+use Rattle.claim_tree.specs.declared.file_fault.Field.TheVariants.{Payload, Hide, Decoys, Key, Kid, Typ, SdAlg}
 use Rattle.claim_tree.specs.declared.file_fault.FileFault.{FileFault}
+use Rattle.claim_tree.specs.declared.file_fault.FileFault.TheVariants.{Memory, Wrong}
 use Rattle.claim_tree.proofs.FileMembers.{says_meets, may_say_meets, says_or_meets}
 use Rattle.claim_tree.proofs.FileVerdicts as verdicts
 use Rattle.claim_tree.proofs.FileVerdicts.{SaysOne}
 use Rattle.claim_tree.specs.FileLists.{IsListOf, EachSays, IsPointer}
-use Rattle.hmac_sign.specs.KeyText.{IsKeyText}
+use Rattle.disclosure.specs.Digest.{hash_name, hash_of_text}
+use Rattle.disclosure.specs.declared.digests.HashAlg.{HashAlg}
+use Rattle.disclosure.proofs.HashNames.{of_its_name}
+use Rattle.hmac_sign.specs.Algs.{alg_text, alg_of_text, key_least}
+use Rattle.hmac_sign.proofs.AlgNames.{of_its_text}
+use Rattle.hmac_sign.specs.Hmac.{alg_key}
+use Rattle.hmac_sign.specs.KeyText.{IsKeyBytes}
+use Rattle.hmac_sign.specs.declared.alg.Alg.{Alg}
 use Rattle.issuer_core.specs.Order.{Order, order_of}
-use Rattle.issuer_core.specs.OrderFile.{IsValue, IsDecoy, order_table, IsOrderFile, IsOrderFileRefused}
+use Rattle.issuer_core.specs.OrderFile.{IsValue, IsDecoy, IsHashText, IsAlgText, IsAlgFor, IsAlgOf, HasKey, order_table, IsOrderFile, IsOrderFileRefused}
 use Rattle.issuer_core.specs.declared.order.Decoy.{Decoy}
 use Rattle.issuer_core.specs.declared.order_file.IssueFile.{IssueFile}
 use Rattle.claim_tree.proofs.ListForms.{one_list, one_pointer}
 use Rattle.claim_tree.proofs.Inner.{ranged-member_named}
 use Rattle.claim_tree.proofs.OtherMembers.{depth-member_named}
 use Rattle.claim_tree.proofs.ObjectTrees.{object_inside}
-use Rattle.hmac_sign.proofs.KeyTexts.{one_key_text}
+use Rattle.hmac_sign.proofs.KeyTexts.{one_key_bytes}
 
 -- ---- what a member says
 
@@ -128,10 +138,72 @@ value_ordered ms name u o says = ordered_named ms name u o (value_named (member_
 pub value_ranged : (ms : Members) (name : Text) (u : spec.Tree) → MembersRanged ms → Says IsValue (member_named ms name) u → IsRanged u
 value_ranged ms name u r says = ranged-member_named ms name u r (value_named (member_named ms name) u says)
 
+-- ---- the hash
+
+one_hash_text : SaysOne IsHashText
+one_hash_text t x y h k =
+    let both : leaf (text (hash_name x)) ≡ leaf (text (hash_name y)) = sym h ∙ k in
+    let same : hash_name x ≡ hash_name y = cc both in
+    let found_same : Some x ≡ Some y = of_its_name x ∙ (ap hash_of_text same ∙ sym (of_its_name y)) in
+    cc found_same
+
+-- ---- the algorithm, and the key
+
+one_alg_name : (x y : Alg) → alg_text x ≡ alg_text y → x ≡ y
+one_alg_name x y e = let found_same : Some x ≡ Some y = of_its_text x ∙ (ap alg_of_text e ∙ sym (of_its_text y)) in cc found_same
+
+one_alg_text : SaysOne IsAlgText
+one_alg_text t x y h k = let both : leaf (text (alg_text x)) ≡ leaf (text (alg_text y)) = sym h ∙ k in let same : alg_text x ≡ alg_text y = cc both in one_alg_name x y same
+
+one_alg_for : (size : ℕ) → SaysOne (IsAlgFor size)
+one_alg_for size t x y h k = one_alg_text t x y h.named k.named
+
+-- what a member says of another form is wrong where it says nothing of this one
+fails_as : {X Y : Type 0} (Is : spec.Tree → X → Type 0) (Was : spec.Tree → Y → Type 0) (field : Field) (ms : Members) (fault : FileFault) → ((t : spec.Tree) → HasValue Was t → HasValue Is t)
+    → MemberFails (optional field Is) ms fault → MemberFails (optional field Was) ms fault
+fails_as Is Was field ms fault into (missing none must is) = missing none must is
+fails_as Is Was field ms fault into (wrong t there odd is) = wrong t there (λ h. odd (into t h)) is
+
+pub refused_as : {X Y : Type 0} (Is : spec.Tree → X → Type 0) (Was : spec.Tree → Y → Type 0) (field : Field) (ms : Members) (fault : FileFault) → ((t : spec.Tree) → HasValue Was t → HasValue Is t)
+    → IsMemberRefused (optional field Is) ms fault → IsMemberRefused (optional field Was) ms fault
+refused_as Is Was field ms Memory into h = tt
+refused_as Is Was field ms fault into h = fails_as Is Was field ms fault into h
+
+pub unsized : (size : ℕ) (t : spec.Tree) → HasValue (IsAlgFor size) t → HasValue IsAlgText t
+unsized size t h = (h.0, h.1.named)
+
+-- an algorithm is wrong for a key that is too short for it, as no key is for the one that stands for a missing one
+pub too_short : (size : ℕ) (ms : Members) (alg : Alg) → key_min ≤ size → size < key_least alg → SaysOr IsAlgText Alg.Hs256 (found ms Field.Alg) alg → MemberFails (optional Field.Alg (IsAlgFor size)) ms (Wrong Field.Alg)
+too_short size ms alg least short says = go (found ms Field.Alg) refl says
+  where
+    go : (o : Option spec.Tree) → found ms Field.Alg ≡ o → SaysOr IsAlgText Alg.Hs256 o alg → MemberFails (optional Field.Alg (IsAlgFor size)) ms (Wrong Field.Alg)
+    go None is h = let low : size < key_least Alg.Hs256 = subst (λ a. size < key_least a) h short in absurd (omega (arith, low, least))
+    go (Some t) is h = wrong t is (λ k. let same = one_alg_text t k.0 alg k.1.named h in let enough = subst (λ a. key_least a ≤ size) same k.1.enough in omega (arith, enough, short)) refl
+
+pub enough_bytes : (o : Option spec.Tree) (key : List ℕ) → Says IsKeyBytes o key → key_min ≤ length key
+enough_bytes None key h = absurd h
+enough_bytes (Some t) key h = h.enough
+
+-- the key of a file is one
+one_key : (bytes : Text) (key other : List ℕ) → HasKey bytes key → HasKey bytes other → key ≡ other
+one_key bytes key other h k =
+    let same = verdicts.one_object file_max bytes h.members k.members h.file k.file in
+    verdicts.says_one IsKeyBytes (found k.members Key) key other one_key_bytes (subst (λ ns. Says IsKeyBytes (found ns Key) key) same h.says) k.says
+
+pub alg_of_file : (bytes : Text) (key : List ℕ) → HasKey bytes key → (t : spec.Tree) → HasValue (IsAlgOf bytes) t → HasValue (IsAlgFor (length key)) t
+alg_of_file bytes key has t h = (h.0, subst (λ (k : List ℕ). IsAlgFor (length k) t h.0) (one_key bytes h.1.key key h.1.has has) h.1.is_for)
+
+pub alg_meets : (bytes : Text) (key : List ℕ) (ms : Members) (alg : Alg) → HasKey bytes key → SaysOr (IsAlgFor (length key)) Alg.Hs256 (found ms Field.Alg) alg → MemberMeets (optional Field.Alg (IsAlgOf bytes)) ms
+alg_meets bytes key ms alg has says = says_or_meets (IsAlgOf bytes) Alg.Hs256 Field.Alg ms alg (go (found ms Field.Alg) says)
+  where
+    go : (o : Option spec.Tree) → SaysOr (IsAlgFor (length key)) Alg.Hs256 o alg → SaysOr (IsAlgOf bytes) Alg.Hs256 o alg
+    go None h = h
+    go (Some t) h = record { key = key; has = has; is_for = h }
+
 -- ---- the file
 
-made : spec.Tree → List (List Text) → List Decoy → Option Text → Option Text → Order
-made payload hide decoys kid typ = record { payload = payload; hide = hide; decoys = decoys; kid = kid; typ = typ }
+made : spec.Tree → List (List Text) → List Decoy → Option Text → Option Text → HashAlg → Order
+made payload hide decoys kid typ hash = record { payload = payload; hide = hide; decoys = decoys; kid = kid; typ = typ; hash = hash }
 
 -- what the members say is one
 module _ (bytes : Text) (f g : IssueFile) (h : IsOrderFile bytes f) (k : IsOrderFile bytes g) where
@@ -153,17 +225,29 @@ module _ (bytes : Text) (f g : IssueFile) (h : IsOrderFile bytes f) (k : IsOrder
   typ_one : f.order.typ ≡ g.order.typ
   typ_one = verdicts.may_say_one IsText (found k.members Typ) f.order.typ g.order.typ verdicts.one_text (subst (λ ns. MaySay IsText (found ns Typ) f.order.typ) same h.typ) k.typ
 
+  hash_one : f.order.hash ≡ g.order.hash
+  hash_one = verdicts.says_or_one IsHashText HashAlg.Sha256 (found k.members SdAlg) f.order.hash g.order.hash one_hash_text (subst (λ ns. SaysOr IsHashText HashAlg.Sha256 (found ns SdAlg) f.order.hash) same h.hash) k.hash
+
+  bytes_one : h.key_bytes ≡ k.key_bytes
+  bytes_one = verdicts.says_one IsKeyBytes (found k.members Key) h.key_bytes k.key_bytes one_key_bytes (subst (λ ns. Says IsKeyBytes (found ns Key) h.key_bytes) same h.says_key) k.says_key
+
+  alg_one : h.alg ≡ k.alg
+  alg_one =
+      let other = subst (λ (b : List ℕ). SaysOr (IsAlgFor (length b)) Alg.Hs256 (found h.members Field.Alg) h.alg) bytes_one h.says_alg in
+      verdicts.says_or_one (IsAlgFor (length k.key_bytes)) Alg.Hs256 (found k.members Field.Alg) h.alg k.alg (one_alg_for (length k.key_bytes)) (subst (λ ns. SaysOr (IsAlgFor (length k.key_bytes)) Alg.Hs256 (found ns Field.Alg) h.alg) same other) k.says_alg
+
   pub key_one : f.key ≡ g.key
-  key_one = verdicts.says_one IsKeyText (found k.members Key) f.key g.key one_key_text (subst (λ ns. Says IsKeyText (found ns Key) f.key) same h.key) k.key
+  key_one = h.key ∙ (ap₂ alg_key alg_one bytes_one ∙ sym k.key)
 
   pub order_one : order_of f.order ≡ order_of g.order
   unfolding made
   order_one =
-      ap (λ x. made x f.order.hide f.order.decoys f.order.kid f.order.typ) claims_one
-      ∙ (ap (λ x. made (tree_of g.order.payload) x f.order.decoys f.order.kid f.order.typ) hide_one
-      ∙ (ap (λ x. made (tree_of g.order.payload) g.order.hide x f.order.kid f.order.typ) decoys_one
-      ∙ (ap (λ x. made (tree_of g.order.payload) g.order.hide g.order.decoys x f.order.typ) kid_one
-      ∙ ap (λ x. made (tree_of g.order.payload) g.order.hide g.order.decoys g.order.kid x) typ_one)))
+      ap (λ x. made x f.order.hide f.order.decoys f.order.kid f.order.typ f.order.hash) claims_one
+      ∙ (ap (λ x. made (tree_of g.order.payload) x f.order.decoys f.order.kid f.order.typ f.order.hash) hide_one
+      ∙ (ap (λ x. made (tree_of g.order.payload) g.order.hide x f.order.kid f.order.typ f.order.hash) decoys_one
+      ∙ (ap (λ x. made (tree_of g.order.payload) g.order.hide g.order.decoys x f.order.typ f.order.hash) kid_one
+      ∙ (ap (λ x. made (tree_of g.order.payload) g.order.hide g.order.decoys g.order.kid x f.order.hash) typ_one
+      ∙ ap (λ x. made (tree_of g.order.payload) g.order.hide g.order.decoys g.order.kid g.order.typ x) hash_one))))
 
 pub one_order : (bytes : Text) (f g : IssueFile) → IsOrderFile bytes f → IsOrderFile bytes g → (order_of f.order ≡ order_of g.order) × (f.key ≡ g.key)
 one_order bytes f g h k = (order_one bytes f g h k, key_one bytes f g h k)
@@ -174,10 +258,12 @@ not_both bytes said fault says refused =
     let payload = says_meets IsValue Payload ms (tree_of said.order.payload) says.payload in
     let hide = says_or_meets (IsListOf IsPointer) [] Hide ms said.order.hide says.hide in
     let decoys = says_or_meets (IsListOf IsDecoy) [] Decoys ms said.order.decoys says.decoys in
-    let key = says_meets IsKeyText Key ms said.key says.key in
+    let key = says_meets IsKeyBytes Key ms says.key_bytes says.says_key in
     let kid = may_say_meets IsText Kid ms said.order.kid says.kid in
     let typ = may_say_meets IsText Typ ms said.order.typ says.typ in
-    verdicts.not_refused file_max order_table bytes ms fault says.file (payload, (hide, (decoys, (key, (kid, (typ, tt)))))) refused
+    let alg = alg_meets bytes says.key_bytes ms says.alg (record { members = ms; file = says.file.object; says = says.says_key }) says.says_alg in
+    let hash = says_or_meets IsHashText HashAlg.Sha256 SdAlg ms said.order.hash says.hash in
+    verdicts.not_refused file_max (order_table bytes) bytes ms fault says.file (payload, (hide, (decoys, (key, (kid, (typ, (alg, (hash, tt)))))))) refused
 
 pub one_fault : (bytes : Text) (fault other : FileFault) → IsOrderFileRefused bytes fault → IsOrderFileRefused bytes other → fault ≢ FileFault.Memory → other ≢ FileFault.Memory → fault ≡ other
-one_fault bytes fault other h k = verdicts.one_fault file_max order_table bytes fault other h k
+one_fault bytes fault other h k = verdicts.one_fault file_max (order_table bytes) bytes fault other h k

@@ -1,10 +1,9 @@
 -- What is written for an order is read again.
-use Rattle.std.proofs.Common.{◌≡◌, ℕ, suc, ◌+◌, ◌<◌, ◌≤◌, inl, inr, List, [], ◌∷◌, ◌++◌, length, Bool, true, false, None, Option, Some, IsUtf8, arith, codes, ltb, ltb-true, refl, subst, sym, ap, ◌∙◌}
+use Rattle.std.proofs.Common.{◌≡◌, ℕ, suc, ◌+◌, ◌<◌, ◌≤◌, inl, inr, List, [], ◌∷◌, ◌++◌, length, Bool, true, false, None, Option, Some, IsUtf8, arith, ltb, ltb-true, refl, subst, sym, ap, ◌∙◌}
 use Rattle.std.specs.Prelude.{if◌then◌else◌}
 use Rattle.std.specs.List.{AllZip}
 use Rattle.std.proofs.lemmas.Bool.{lt-ltb}
 use Rattle.std.proofs.lemmas.Str.{IsUtf8-nil}
-use Rattle.json.proofs.Printed.Utf8.{IsUtf8-are_ascii}
 use Rattle.b64url_text.specs.Base64url.{b64}
 use Rattle.b64url_text.proofs.Texts.{b64_utf8}
 use Rattle.claim_tree.specs.Tree.{Text, Tree, leaf, text, array, object, no_members, depth, IsOrdered, IsRanged}
@@ -28,6 +27,8 @@ use Rattle.issuer_core.specs.Closing.{one, HasNumber, ClosesFrom, ElementsClose,
 use Rattle.issuer_core.specs.Decoys.{decoys_of, decoys_at}
 use Rattle.issuer_core.specs.Digests.{marked_claims, hidden_of, made_texts}
 use Rattle.issuer_core.specs.GoodOrder.{IsObject, IsWritable}
+use Rattle.hmac_sign.specs.declared.alg.Alg.{Alg}
+use Rattle.hmac_sign.proofs.AlgNames.{text_utf8}
 use Rattle.issuer_core.specs.Laid.{IsLaid, with_alg, order_decoys}
 use Rattle.issuer_core.specs.Order.{Order}
 use Rattle.issuer_core.specs.Salts.{salt_of, salt_piece}
@@ -36,7 +37,7 @@ use Rattle.issuer_core.specs.Written.{header_of, IsWritten}
 use Rattle.issuer_core.proofs.Agrees.{MarkAgrees, MarksAgree, ElementsAgree, MembersAgree, lay_agrees, items_agree}
 use Rattle.issuer_core.proofs.Closing.{order_closes, order_marks, items_length}
 use Rattle.rebuild_core.specs.Payload.{alg_name}
-use Rattle.disclosure.specs.Digest.{hash_of}
+use Rattle.disclosure.specs.Digest.{hash_name, hash_of}
 use Rattle.disclosure.specs.declared.digests.HashAlg.{HashAlg}
 use Rattle.issuer_core.proofs.LaidBounds.{inserted_depth, payload_depth, value_depth, payload_ranged, value_ranged}
 use Rattle.issuer_core.proofs.LaidOrdered.{laid_is_readable_holds}
@@ -76,9 +77,9 @@ module _ (dg dh : ℕ → Text) (most : ℕ) (same : (k : ℕ) → k < most → 
 -- ---- an order
 
 -- the parts are read as what is written
-pub record IsReadBack (o : Order) (payload : Tree) (given : List Given) (parts : Parts) : Type 0 where
-  pub header : IsHeader parts.signed.protected no_members (header_of o)
-  pub body : IsBody parts.signed.payload (with_alg payload)
+pub record IsReadBack (o : Order) (alg : Alg) (payload : Tree) (given : List Given) (parts : Parts) : Type 0 where
+  pub header : IsHeader parts.signed.protected no_members (header_of alg o)
+  pub body : IsBody parts.signed.payload (with_alg o.hash payload)
   pub disclosures : AllZip (λ (d : Text) (x : Given). (salt : Tree) × IsDisclosure d salt x.name x.value) parts.disclosures given
 
 decoys_texts : (dg : ℕ → Text) (n : ℕ) (places : List Path) → ((d : ℕ) → d < length places → IsUtf8 (dg (n + d))) → (q : Path) → AllTexts (decoys_at dg n places q)
@@ -96,10 +97,10 @@ decoys_texts dg n (place ∷ places) each q = go (same_path place q) (decoys_tex
     go false rest = rest
     go true rest = λ d there. front d rest there
 
-with_alg_depth : (t : Tree) (c : ℕ) → depth t ≤ suc c → depth (with_alg t) ≤ suc c
-with_alg_depth (leaf l) c h = h
-with_alg_depth (array es) c h = h
-with_alg_depth (object ms) c h = omega (arith, inserted_depth ms alg_name (leaf (text (codes "sha-256"))) c (omega arith) (omega (arith, h)))
+with_alg_depth : (hash : HashAlg) (t : Tree) (c : ℕ) → depth t ≤ suc c → depth (with_alg hash t) ≤ suc c
+with_alg_depth hash (leaf l) c h = h
+with_alg_depth hash (array es) c h = h
+with_alg_depth hash (object ms) c h = omega (arith, inserted_depth ms alg_name (leaf (text (hash_name hash))) c (omega arith) (omega (arith, h)))
 
 -- the digests, and no text behind them
 abbrev first_texts : (ℕ → Text) → ℕ → ℕ → Text
@@ -130,10 +131,10 @@ module _ (seed : List ℕ) (o : Order) (p : Tree) (g : List Given) (dg : ℕ →
   mark_utf8 k l =
       let there = At-get g k (omega (arith, l, count)) in
       let x = there.0 in
-      subst IsUtf8 (sym (laid.disclosures k x there.1)) (b64_utf8 (hash_of HashAlg.Sha256 ((maker_of seed).disclosure k x.name x.value)))
+      subst IsUtf8 (sym (laid.disclosures k x there.1)) (b64_utf8 (hash_of o.hash ((maker_of seed).disclosure k x.name x.value)))
 
   decoy_utf8 : (d : ℕ) → d < length (decoys_of o) → IsUtf8 (dg (hidden_of o + d))
-  decoy_utf8 d l = subst IsUtf8 (sym (laid.decoys d l)) (b64_utf8 (hash_of HashAlg.Sha256 (salt_of seed (hidden_of o + d))))
+  decoy_utf8 d l = subst IsUtf8 (sym (laid.decoys d l)) (b64_utf8 (hash_of o.hash (salt_of seed (hidden_of o + d))))
 
   dh : ℕ → Text
   dh = first_texts dg (hidden_of o)
@@ -162,16 +163,16 @@ module _ (seed : List ℕ) (o : Order) (p : Tree) (g : List Given) (dg : ℕ →
       let same = laid.given_laid ∙ items_agree dg dh dec dec (λ q. refl) (marked_claims o) agree in
       items_texts dh (first_utf8 dg (hidden_of o) mark_utf8) dec decoys_are (marked_claims o) claims_texts x (subst (λ (xs : List Given). In x xs) same m)
 
-  pub body_back : (part : Text) → part ≡ b64 (json_text (with_alg p)) → IsBody part (with_alg p)
+  pub body_back : (part : Text) → part ≡ b64 (json_text (with_alg o.hash p)) → IsBody part (with_alg o.hash p)
   body_back part is =
       let readable = laid_is_readable_holds (maker_of seed) o p g dg writable.good laid in
       let is_object = payload_object (maker_of seed) o p g dg writable.good laid in
       let low = payload_depth (maker_of seed) o p g dg laid in
       let shallow = writable.good.shallow in
-      let carried = carried_back part (with_alg p) is (with_alg_texts p payload_texts) (with_alg_ranged p (payload_ranged (maker_of seed) o p g dg laid writable.ranged)) (with_alg_ordered p readable.in_payload) (with_alg_depth p 126 (omega (arith, low, shallow))) in
-      body_of_object (with_alg p) (with_alg_is_object p is_object) carried
+      let carried = carried_back part (with_alg o.hash p) is (with_alg_texts o.hash p payload_texts) (with_alg_ranged o.hash p (payload_ranged (maker_of seed) o p g dg laid writable.ranged)) (with_alg_ordered o.hash p readable.in_payload) (with_alg_depth o.hash p 126 (omega (arith, low, shallow))) in
+      body_of_object (with_alg o.hash p) (with_alg_is_object p is_object) carried
     where
-      with_alg_is_object : (t : Tree) → IsObject t → IsObject (with_alg t)
+      with_alg_is_object : (t : Tree) → IsObject t → IsObject (with_alg o.hash t)
       with_alg_is_object (object ms) h = tt
       with_alg_is_object (leaf l) h = absurd h
       with_alg_is_object (array es) h = absurd h
@@ -181,8 +182,8 @@ module _ (seed : List ℕ) (o : Order) (p : Tree) (g : List Given) (dg : ℕ →
       body_of_object (leaf l) h c = absurd h
       body_of_object (array es) h c = absurd h
 
-  pub written_back : (good : Meaning) (parts : Parts) → IsWritten (maker_of seed) o good p g parts → IsReadBack o p g parts
-  written_back good parts written =
+  pub written_back : (alg : Alg) (good : Meaning) (parts : Parts) → IsWritten (maker_of seed) o alg good p g parts → IsReadBack o alg p g parts
+  written_back alg good parts written =
       let readable = laid_is_readable_holds (maker_of seed) o p g dg writable.good laid in
       let shallow = writable.good.shallow in
       let each : (i : ℕ) (x : Given) → StandsAt g i x → GivenTexts x × IsRanged x.value × IsOrdered x.value × (depth x.value ≤ 126) = λ i x a.
@@ -190,7 +191,7 @@ module _ (seed : List ℕ) (o : Order) (p : Tree) (g : List Given) (dg : ℕ →
       let low = value_depth (maker_of seed) o p g dg laid x m in
       (given_texts x m, value_ranged (maker_of seed) o p g dg laid writable.ranged x m, readable.in_values x m, omega (arith, low, shallow)) in
       record {
-        header = header_back parts.signed.protected (header_of o) written.protected (IsUtf8-are_ascii (codes "HS256") refl) writable.kid writable.typ;
+        header = header_back parts.signed.protected (header_of alg o) written.protected (text_utf8 alg) writable.kid writable.typ;
         body = body_back parts.signed.payload written.body;
         disclosures = subst (λ (ds : List Text). AllZip (λ (d : Text) (x : Given). (salt : Tree) × IsDisclosure d salt x.name x.value) ds g) (sym written.disclosures) (salts_back seed 0 g each);
       }

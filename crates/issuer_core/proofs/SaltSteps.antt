@@ -5,6 +5,7 @@ use Rattle.std.specs.Int.{w32, to_le_bytes}
 use Rattle.std.proofs.lemmas.List.{length-append}
 use Rattle.rand_chacha.specs.ChaCha.{ChaCha, next_word, word_at, key_of}
 use Rattle.claim_tree.specs.Tree.{Text}
+use Rattle.claim_tree.proofs.Counting.{before_or_at}
 use Rattle.issuer_core.specs.Salts.{salt_of}
 
 abbrev pub at : List ℕ → ℕ → ChaCha
@@ -46,11 +47,8 @@ behind (x ∷ xs) y = behind xs y
 
 pub each_salt : (seed : List ℕ) (n k : ℕ) → k < n → slice_get (salts_before seed n) k ≡ Some (salt_of seed k)
 each_salt seed zero k h = absurd (omega arith)
-each_salt seed (suc n) k h = go (below_or_last k n (omega arith)) (each_salt seed n k)
+each_salt seed (suc n) k h = go (before_or_at k n (omega (arith, h))) (each_salt seed n k)
   where
-    below_or_last : (a b : ℕ) → a < suc b → (a < b) ⊎ (a ≡ b)
-    below_or_last a b l = grind arith
-
     go : (k < n) ⊎ (k ≡ n) → (k < n → slice_get (salts_before seed n) k ≡ Some (salt_of seed k)) → slice_get (salts_before seed n ++ salt_of seed n ∷ []) k ≡ Some (salt_of seed k)
     go (inl l) ih = within (salts_before seed n) (salt_of seed n ∷ []) k (omega (arith, l, salts_count seed n)) ∙ ih l
     go (inr e) ih =

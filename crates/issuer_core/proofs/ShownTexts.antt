@@ -1,13 +1,12 @@
 -- Where the texts of an opened tree are UTF-8, so are those of what is shown in it, and of the tree itself, if its digests are.
-use Rattle.std.proofs.Common.{◌≡◌, ℕ, zero, suc, List, [], ◌∷◌, ◌++◌, map, length, Bool, true, false, cond, ◌⊎◌, inl, inr, ⊎_elim, Option, Some, None, IfSome, IsUtf8, Ordering, Less, Equal, Greater, codes, refl, sym, ap, ◌∙◌, subst}
+use Rattle.std.proofs.Common.{◌≡◌, ℕ, suc, List, [], ◌∷◌, ◌++◌, map, length, Bool, true, false, cond, ◌⊎◌, inl, inr, ⊎_elim, Option, Some, None, IfSome, IsUtf8, Ordering, Less, Equal, Greater, refl, sym, subst}
 use Rattle.std.specs.Prelude.{bytes_eq, option_and_then, option_map, unwrap_or, if◌then◌else◌}
 use Rattle.std.specs.Ordering.{match_ordering, nat_cmp}
 use Rattle.std.specs.Cmp.Lexicographic.{slice_cmp}
-use Rattle.json.proofs.Printed.Utf8.{IsUtf8-are_ascii}
 use Rattle.claim_tree.specs.Lists.{StandsAt, In}
 use Rattle.claim_tree.specs.Tree.{null, flag, whole, text, Text, Tree, leaf, array, object, Elements, no_elements, element, Members, no_members, member, names, text_of, IsOrdered, ElementsOrdered, MembersOrdered}
 use Rattle.claim_tree.proofs.Everywheres.{EachElementIn, EachMemberIn}
-use Rattle.claim_tree.proofs.Lists.{In-append, In-left, In-right, In-map, In-of_map, bytes_same}
+use Rattle.claim_tree.proofs.Lists.{In-append, In-left, In-right, In-map, bytes_same}
 use Rattle.claim_tree.proofs.TreeTexts.{HasTexts, ElementsTexts, MembersTexts}
 use Rattle.digest_sites.specs.Given.{Given}
 use Rattle.digest_sites.specs.Reserved.{sd_name, dots_name, sd_texts, text_list, texts_of, element_digest}
@@ -15,13 +14,12 @@ use Rattle.digest_sites.specs.Sites.{Site, to_member, to_element, sites, element
 use Rattle.marked_tree.specs.Marked.{Marked, MarkedElements, MarkedMembers, marked_member, no_marked_members, put, strip, strip_elements, strip_members}
 use Rattle.marked_tree.specs.Ways.{ways, elements_ways, members_ways, way_of}
 use Rattle.marked_tree.proofs.Puts.{IsBeforeAll-not_in}
-use Rattle.rebuild_core.specs.Opening.{Shown, nothing_shown, shown, shown_by, reveal, open_tree, open_elements, open_members, open_element, show_members, show_element, show_member, opened}
-use Rattle.rebuild_core.specs.Reached.{find}
+use Rattle.rebuild_core.specs.Opening.{Shown, nothing_shown, shown, reveal, open_tree, open_elements, open_members, open_element, show_members, show_element, show_member, opened}
 use Rattle.rebuild_core.specs.Soundness.{IsReferencedOnce}
-use Rattle.rebuild_core.proofs.Fixed.{fixed}
-use Rattle.rebuild_core.proofs.Found.{found}
+use Rattle.rebuild_core.proofs.ShownBy.{way_step, shown_from}
 use Rattle.rebuild_core.proofs.Marks.{Way, shown_ways}
 use Rattle.issuer_core.specs.Issued.{IsDigestList, HasDigestLists}
+use Rattle.issuer_core.proofs.WrittenTexts.{sd_utf8, dots_utf8}
 
 -- ---- what is shown
 
@@ -121,14 +119,6 @@ AllUtf8 ds = (d : Text) → In d ds → IsUtf8 d
 -- each digest at a site is UTF-8
 abbrev pub SitesUtf8 : List Site → Type 0
 SitesUtf8 ss = (s : Site) → In s ss → IsUtf8 s.digest
-
-sd_utf8 : IsUtf8 sd_name
-unfolding sd_name
-sd_utf8 = IsUtf8-are_ascii (codes "_sd") refl
-
-dots_utf8 : IsUtf8 dots_name
-unfolding dots_name
-dots_utf8 = IsUtf8-are_ascii (codes "...") refl
 
 text_leaf : (t : Tree) (s : Text) → text_of t ≡ Some s → IsUtf8 s → HasTexts t
 text_leaf (leaf (text x)) s e u = let same : x ≡ s = cc e in subst IsUtf8 (sym same) u
@@ -232,14 +222,6 @@ mutual
 
 -- ---- the values of disclosures that are shown
 
--- one step of a way: the disclosure below, or the way goes on inside it
-way_step : (k i : ℕ) (above : List ℕ) (ws : List Way) → In (i, above) (way_of (Some k) ws) → ((i ≡ k) × (above ≡ [])) ⊎ ((rest : List ℕ) × (above ≡ k ∷ rest) × In (i, rest) ws)
-way_step k i above ws (inl e) = inl (ap (λ (z : Way). z.0) e, ap (λ (z : Way). z.1) e)
-way_step k i above ws (inr m) =
-    let w = In-of_map (λ (z : Way). (z.0, k ∷ z.1)) (i, above) ws m in
-    let a : i ≡ w.0.0 = ap (λ (z : Way). z.0) w.2 in
-    inr (w.0.1, ap (λ (z : Way). z.1) w.2, subst (λ c. In (c, w.0.1) ws) (sym a) w.1)
-
 module _ (p : Tree) (g : List Given) (ok : IsReferencedOnce p g) where
   abbrev full : Text → Shown
   full = reveal (length g) g
@@ -248,37 +230,17 @@ module _ (p : Tree) (g : List Given) (ok : IsReferencedOnce p g) where
   abbrev pub HasShownTexts : ℕ → Type 0
   HasShownTexts i = (x : Given) × StandsAt g i x × (IfSome x.name IsUtf8 × HasTexts (strip (opened (length g) g x.value)))
 
-  record IsOf (v : Way) : Type 0 where
-    k : ℕ
-    has : HasShownTexts k
-    way : In v (way_of (Some k) (ways (opened (length g) g has.0.value)))
-
-  shown_of : (d : Text) (v : Way) → In v (shown_ways (full d)) → ShownTexts (full d) → IsOf v
-  shown_of d v m texts = go (length g) refl m
-    where
-      go : (n : ℕ) → length g ≡ n → In v (shown_ways (reveal n g d)) → IsOf v
-      go zero e q = elim q [ ]
-      go (suc n) e q = from (find g d) refl q
-        where
-          from : (o : Option (ℕ × Given)) → find g d ≡ o → In v (shown_ways (shown_by (open_tree (reveal n g)) o)) → IsOf v
-          from None f c = elim c [ ]
-          from (Some (k, x)) f c =
-              let w = found 0 g d k x f in
-              let same : full d ≡ shown w.0 x.name (opened (length g) g x.value) = ap full (sym w.2) ∙ fixed p g ok w.0 x w.1 in
-              let fine : ShownTexts (shown w.0 x.name (opened (length g) g x.value)) = subst ShownTexts same texts in
-              record { k = w.0; has = (x, w.1, fine); way = subst (λ z. In v (shown_ways z)) same m }
-
   pub shown_texts_at : (above : List ℕ) (i : ℕ) (t : Tree) → HasTexts (strip (opened (length g) g t)) → In (i, above) (ways (opened (length g) g t)) → HasShownTexts i
   shown_texts_at [] i t f m =
       let l = texts_back full t (i, []) f m in
-      let b = shown_of l.0 (i, []) l.1 l.2 in
-      ⊎_elim (λ e. subst HasShownTexts (sym e.0) b.has) (λ r. let bad : ◌≡◌ {A = List ℕ} [] (b.k ∷ r.0) = r.1 in cc)
-      (way_step b.k i [] (ways (opened (length g) g b.has.0.value)) b.way)
+      let b = shown_from p g ok ShownTexts l.0 (i, []) l.1 l.2 in
+      ⊎_elim (λ e. subst HasShownTexts (sym e.0) (b.x, b.there, b.fine)) (λ r. let bad : ◌≡◌ {A = List ℕ} [] (b.k ∷ r.0) = r.1 in cc)
+      (way_step b.k i [] (ways (opened (length g) g b.x.value)) b.way)
   shown_texts_at (c ∷ above) i t f m =
       let l = texts_back full t (i, c ∷ above) f m in
-      let b = shown_of l.0 (i, c ∷ above) l.1 l.2 in
-      ⊎_elim (λ e. subst HasShownTexts (sym e.0) b.has)
+      let b = shown_from p g ok ShownTexts l.0 (i, c ∷ above) l.1 l.2 in
+      ⊎_elim (λ e. subst HasShownTexts (sym e.0) (b.x, b.there, b.fine))
       (λ r.
       let same : above ≡ r.0 = let q : c ∷ above ≡ b.k ∷ r.0 = r.1 in cc in
-      shown_texts_at above i b.has.0.value b.has.2.1 (subst (λ z. In (i, z) (ways (opened (length g) g b.has.0.value))) (sym same) r.2))
-      (way_step b.k i (c ∷ above) (ways (opened (length g) g b.has.0.value)) b.way)
+      shown_texts_at above i b.x.value b.fine.1 (subst (λ z. In (i, z) (ways (opened (length g) g b.x.value))) (sym same) r.2))
+      (way_step b.k i (c ∷ above) (ways (opened (length g) g b.x.value)) b.way)

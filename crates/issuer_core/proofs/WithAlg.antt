@@ -1,5 +1,5 @@
 -- The payload with its `_sd_alg`: taken out again, it leaves what was laid.
-use Rattle.std.proofs.Common.{◌≡◌, ℕ, List, [], ◌∷◌, ◌++◌, Equal, Greater, Less, None, Ordering, Some, ap, false, refl, subst, sym, true, codes}
+use Rattle.std.proofs.Common.{◌≡◌, ℕ, List, [], ◌∷◌, ◌++◌, Equal, Greater, Less, None, Ordering, Some, ap, false, refl, subst, sym, true}
 use Rattle.std.proofs.lemmas.Map.Lookups.{exact_bytes}
 use Rattle.std.specs.Cmp.Lexicographic.{slice_cmp}
 use Rattle.std.specs.Ordering.{match_ordering, nat_cmp}
@@ -7,6 +7,8 @@ use Rattle.std.specs.Prelude.{bytes_eq}
 use Rattle.claim_tree.specs.FileForms.{text_elements}
 use Rattle.claim_tree.specs.Tree.{IsOrdered, Members, Text, Tree, array, get, inserted, leaf, member, no_members, object, text}
 use Rattle.claim_tree.specs.Removed.{removed}
+use Rattle.disclosure.specs.Digest.{hash_name}
+use Rattle.disclosure.specs.declared.digests.HashAlg.{HashAlg}
 use Rattle.digest_sites.specs.Given.{Given}
 use Rattle.digest_sites.specs.Reserved.{sd_name}
 use Rattle.marked_tree.specs.Marked.{Marked, MarkedMembers, marked_array, marked_leaf, marked_member, marked_object, no_marked_members, strip, strip_members}
@@ -61,29 +63,29 @@ lay_no_alg dec dg no_marked_members f = tt
 lay_no_alg dec dg (marked_member k None t ms) f = (f.0.2, lay_no_alg dec dg ms f.2)
 lay_no_alg dec dg (marked_member k (Some i) t ms) f = lay_no_alg dec dg ms f.2
 
-laid_without_alg : (dec : Path → List Text) (dg : ℕ → Text) (m : Marked) → HasNoReserved (strip m) → without_alg (with_alg (lay dec dg m)) ≡ lay dec dg m
-laid_without_alg dec dg (marked_leaf l) f = refl
-laid_without_alg dec dg (marked_array es) f = refl
-laid_without_alg dec dg (marked_object ms) f =
+laid_without_alg : (hash : HashAlg) (dec : Path → List Text) (dg : ℕ → Text) (m : Marked) → HasNoReserved (strip m) → without_alg (with_alg hash (lay dec dg m)) ≡ lay dec dg m
+laid_without_alg hash dec dg (marked_leaf l) f = refl
+laid_without_alg hash dec dg (marked_array es) f = refl
+laid_without_alg hash dec dg (marked_object ms) f =
     let us = with_sd (sorted (hidden_digests dg ms ++ dec [])) (lay_members dec dg ms) in
-    ap object (inserted_out us alg_name (leaf (text (codes "sha-256"))) (with_sd_no_alg (sorted (hidden_digests dg ms ++ dec [])) (lay_members dec dg ms) (lay_no_alg dec dg ms f)))
+    ap object (inserted_out us alg_name (leaf (text (hash_name hash))) (with_sd_no_alg (sorted (hidden_digests dg ms ++ dec [])) (lay_members dec dg ms) (lay_no_alg dec dg ms f)))
 
 -- the payload that is handed out, without its `_sd_alg`, is what was laid
-pub without_with_alg : (mk : Maker) (o : Order) (p : Tree) (g : List Given) (dg : ℕ → Text) → IsGoodOrder o → IsLaid mk o p g dg → without_alg (with_alg p) ≡ p
+pub without_with_alg : (mk : Maker) (o : Order) (p : Tree) (g : List Given) (dg : ℕ → Text) → IsGoodOrder o → IsLaid mk o p g dg → without_alg (with_alg o.hash p) ≡ p
 without_with_alg mk o p g dg good laid =
     let free : HasNoReserved (strip (marked_claims o)) = subst HasNoReserved (sym (mark_strips_holds o.payload o.hide)) good.no_reserved in
-    subst (λ t. without_alg (with_alg t) ≡ t) (sym laid.payload_laid) (laid_without_alg (order_decoys o dg) dg (marked_claims o) free)
+    subst (λ t. without_alg (with_alg o.hash t) ≡ t) (sym laid.payload_laid) (laid_without_alg o.hash (order_decoys o dg) dg (marked_claims o) free)
 
-pub with_alg_ordered : (t : Tree) → IsOrdered t → IsOrdered (with_alg t)
-with_alg_ordered (leaf l) o = o
-with_alg_ordered (array es) o = o
-with_alg_ordered (object ms) o = ordered-inserted ms alg_name (leaf (text (codes "sha-256"))) o tt
+pub with_alg_ordered : (hash : HashAlg) (t : Tree) → IsOrdered t → IsOrdered (with_alg hash t)
+with_alg_ordered hash (leaf l) o = o
+with_alg_ordered hash (array es) o = o
+with_alg_ordered hash (object ms) o = ordered-inserted ms alg_name (leaf (text (hash_name hash))) o tt
 
 -- an object names its hash
-pub alg_named : (t : Tree) → IsObject t → get (with_alg t) alg_name ≡ Some (leaf (text (codes "sha-256")))
-alg_named (object ms) h = named_inserted ms alg_name (leaf (text (codes "sha-256")))
-alg_named (leaf l) h = absurd h
-alg_named (array es) h = absurd h
+pub alg_named : (hash : HashAlg) (t : Tree) → IsObject t → get (with_alg hash t) alg_name ≡ Some (leaf (text (hash_name hash)))
+alg_named hash (object ms) h = named_inserted ms alg_name (leaf (text (hash_name hash)))
+alg_named hash (leaf l) h = absurd h
+alg_named hash (array es) h = absurd h
 
 -- what is laid from an object is one
 pub laid_object : (dec : Path → List Text) (dg : ℕ → Text) (m : Marked) → IsObject (strip m) → IsObject (lay dec dg m)

@@ -10,6 +10,9 @@ use Rattle.claim_tree.proofs.Lists.{In-append}
 use Rattle.claim_tree.specs.Everywhere.{LeafIsUtf8}
 use Rattle.claim_tree.proofs.Everywheres.{everywhere_else, inserted_everywhere}
 use Rattle.claim_tree.proofs.TreeTexts.{HasTexts, ElementsTexts, MembersTexts}
+use Rattle.disclosure.specs.Digest.{hash_name}
+use Rattle.disclosure.specs.declared.digests.HashAlg.{HashAlg}
+use Rattle.disclosure.proofs.HashNames.{name_utf8}
 use Rattle.digest_sites.specs.Given.{Given}
 use Rattle.digest_sites.specs.Reserved.{sd_name, dots_name}
 use Rattle.marked_tree.specs.Marked.{Marked, MarkedElements, MarkedMembers, marked_array, marked_element, marked_leaf, marked_member, marked_object, no_marked_elements, no_marked_members, strip, strip_elements, strip_members}
@@ -26,11 +29,11 @@ held_texts t h = everywhere_else (λ l leaf_is. leaf_is) (λ es few. tt) (λ nam
 abbrev pub AllTexts : List Text → Type 0
 AllTexts ds = (d : Text) → In d ds → IsUtf8 d
 
-sd_utf8 : IsUtf8 sd_name
+pub sd_utf8 : IsUtf8 sd_name
 unfolding sd_name
 sd_utf8 = IsUtf8-are_ascii (codes "_sd") refl
 
-dots_utf8 : IsUtf8 dots_name
+pub dots_utf8 : IsUtf8 dots_name
 unfolding dots_name
 dots_utf8 = IsUtf8-are_ascii (codes "...") refl
 
@@ -149,7 +152,7 @@ module _ (dg : ℕ → Text) (each : (k : ℕ) → IsUtf8 (dg k)) where
         (members_items_texts dec all ms h.2)
 
 -- the payload with its hash
-pub with_alg_texts : (t : Tree) → HasTexts t → HasTexts (with_alg t)
-with_alg_texts (leaf l) h = h
-with_alg_texts (array es) h = h
-with_alg_texts (object ms) h = inserted_texts ms alg_name (leaf (text (codes "sha-256"))) alg_utf8 (IsUtf8-are_ascii (codes "sha-256") refl) h
+pub with_alg_texts : (hash : HashAlg) (t : Tree) → HasTexts t → HasTexts (with_alg hash t)
+with_alg_texts hash (leaf l) h = h
+with_alg_texts hash (array es) h = h
+with_alg_texts hash (object ms) h = inserted_texts ms alg_name (leaf (text (hash_name hash))) alg_utf8 (name_utf8 hash) h

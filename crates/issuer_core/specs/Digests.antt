@@ -2,6 +2,7 @@
 use Rattle.std.specs.Prelude.{ℕ, suc, List, [], ◌∷◌, ◌++◌, Option}
 use Rattle.claim_tree.specs.Tree.{Text, Tree}
 use Rattle.digest_sites.specs.Given.{Given}
+use Rattle.disclosure.specs.declared.digests.HashAlg.{HashAlg}
 use Rattle.marked_tree.specs.Marked.{Marked}
 use Rattle.marked_tree.specs.Paths.{Path, mark, hidden_count}
 use Rattle.rebuild_core.specs.Reached.{given_digests}
@@ -9,11 +10,11 @@ use Rattle.issuer_core.specs.Order.{Order}
 use Rattle.issuer_core.specs.Decoys.{decoys_of}
 
 -- how texts are made: that of a disclosure with its number, its name or none, and its value; that of a decoy with its number;
--- and the digest of a text
+-- and the digest of a text by a hash
 pub record Maker : Type 0 where
   pub disclosure : ℕ → Option Text → Tree → Text
   pub piece : ℕ → Text
-  pub digest : Text → Text
+  pub digest : HashAlg → Text → Text
 
 -- the texts of disclosures, where the first has the number k
 abbrev pub made_texts : (ℕ → Option Text → Tree → Text) → ℕ → List Given → List Text
@@ -33,8 +34,9 @@ abbrev pub digests_from : (ℕ → Text) → ℕ → List Path → List Text
 digests_from dg k [] = []
 digests_from dg k (at ∷ decoys) = dg k ∷ digests_from dg (suc k) decoys
 
+-- by the order's hash
 abbrev pub decoy_digests : Maker → Order → List Text
-decoy_digests maker o = digests_from (λ k. maker.digest (maker.piece k)) (hidden_of o) (decoys_of o)
+decoy_digests maker o = digests_from (λ k. maker.digest o.hash (maker.piece k)) (hidden_of o) (decoys_of o)
 
 abbrev pub issued_digests : Maker → Order → List Given → List Text
 issued_digests maker o given = given_digests given ++ decoy_digests maker o

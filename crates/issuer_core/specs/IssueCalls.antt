@@ -2,6 +2,7 @@
 use Rattle.std.specs.Prelude.{◌≡◌, ℕ, ◌<◌}
 use Rattle.claim_tree.specs.Tree.{Text}
 use Rattle.hmac_sign.specs.Signatures.{Meaning}
+use Rattle.hmac_sign.specs.declared.alg.Alg.{Alg}
 use Rattle.hmac_sign.specs.declared.sign.SignError.{SignError}
 use Rattle.issuer_core.specs.declared.errors.IssueError.{IssueError}
 use Rattle.issuer_core.specs.declared.errors.IssueError.TheVariants.{Memory, SignFailed}
@@ -22,10 +23,10 @@ pub record IsToBeSigned (maker : Maker) (o : Order) : Type 0 where
 
 -- why an order is not issued: by the lowest refusal that applies, or a signer failed where none of 51 to 60 does; want of memory
 -- says nothing of it
-abbrev pub IsNotIssued : Maker → Order → Meaning → IssueError → Type 0
-IsNotIssued maker o good Memory = Unit {0}
-IsNotIssued maker o good SignFailed = IsToBeSigned maker o
-IsNotIssued maker o good error = IsLowestRefusal (AppliesToIssue maker o good) error
+abbrev pub IsNotIssued : Maker → Order → Alg → Meaning → IssueError → Type 0
+IsNotIssued maker o alg good Memory = Unit {0}
+IsNotIssued maker o alg good SignFailed = IsToBeSigned maker o
+IsNotIssued maker o alg good error = IsLowestRefusal (AppliesToIssue maker o alg good) error
 
 -- for conversions: the answer where nothing is signed
 abbrev pub issue_unsigned : SignError → IssueError

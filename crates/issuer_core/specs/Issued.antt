@@ -43,7 +43,7 @@ IsDecoySite m x at many _ = Unit {0}
 abbrev pub DecoysStand : Maker → Order → Tree → List Given → Type 0
 DecoysStand maker o p given =
     (d : ℕ) (at : Path) → StandsAt (decoys_of o) d at
-    → (x : OwnedSite) × In x (all_sites p given) × (x.site.digest ≡ maker.digest (maker.piece (hidden_of o + d)))
+    → (x : OwnedSite) × In x (all_sites p given) × (x.site.digest ≡ maker.digest o.hash (maker.piece (hidden_of o + d)))
     × IsDecoySite (marked_claims o) x at (earlier d at (decoys_of o)) (tree_at o.payload at)
 
 -- ---- the lists `_sd`
@@ -65,7 +65,7 @@ HasDigestLists t = EachMember (λ name value. bytes_eq name sd_name ≡ true →
 pub record IsIssuedFor (maker : Maker) (o : Order) (p : Tree) (given : List Given) : Type 0 where
   -- a disclosure for each hidden place
   pub count : length given ≡ hidden_of o
-  pub made : (k : ℕ) (x : Given) → StandsAt given k x → x.digest ≡ maker.digest (maker.disclosure k x.name x.value)
+  pub made : (k : ℕ) (x : Given) → StandsAt given k x → x.digest ≡ maker.digest o.hash (maker.disclosure k x.name x.value)
   -- together they show the claims, each disclosure at its place
   pub opens : processed p given ≡ marked_claims o
   -- the digests that stand in the payload and in the values are those of the disclosures and of the decoys

@@ -7,7 +7,7 @@ use Rattle.marked_tree.specs.Paths.{Path}
 use Rattle.issuer_core.specs.declared.order.Decoy.{Decoy}
 use Rattle.issuer_core.specs.declared.errors.IssueError.{IssueError}
 use Rattle.issuer_core.specs.Order.{Order}
-use Rattle.issuer_core.specs.OrderRefusals.{AppliesToOrder, protected_names, refusal_number}
+use Rattle.issuer_core.specs.OrderRefusals.{AppliesToOrder, protected_names, issue_number}
 
 abbrev pub is_root : Path → Bool
 is_root [] = true
@@ -30,4 +30,4 @@ is_misplaced claims entry = is_no_holder (tree_at claims entry.at)
 
 -- no refusal below the number applies
 abbrev pub PassesBelow : ℕ → Order → Type 0
-PassesBelow number o = (error : IssueError) → AppliesToOrder o error → number ≤ refusal_number error
+PassesBelow number o = (error : IssueError) → AppliesToOrder o error → number ≤ issue_number error

@@ -45,9 +45,9 @@ digest_elements [] = no_elements
 digest_elements (digest ∷ digests) = element (digest_object digest) (digest_elements digests)
 
 -- section 4.1.1: the hash is named, always
-abbrev pub with_alg : Tree → Tree
-with_alg (object ms) = object (inserted ms alg_name (leaf (text (hash_name HashAlg.Sha256))))
-with_alg t = t
+abbrev pub with_alg : HashAlg → Tree → Tree
+with_alg hash (object ms) = object (inserted ms alg_name (leaf (text (hash_name hash))))
+with_alg hash t = t
 
 -- ---- hiding
 
@@ -105,9 +105,9 @@ abbrev pub order_decoys : Order → (ℕ → Text) → Path → List Text
 order_decoys o dg = decoys_at dg (hidden_of o) (decoys_of o)
 
 -- the payload, without `_sd_alg`, and the disclosures are laid from the order's marked claims, where dg has the digest of each
--- disclosure, and then of each decoy
+-- disclosure, and then of each decoy, by the order's hash
 pub record IsLaid (maker : Maker) (o : Order) (payload : Tree) (given : List Given) (dg : ℕ → Text) : Type 0 where
   pub payload_laid : payload ≡ lay (order_decoys o dg) dg (marked_claims o)
   pub given_laid : given ≡ laid_given (order_decoys o dg) dg (marked_claims o)
-  pub disclosures : (k : ℕ) (x : Given) → StandsAt given k x → dg k ≡ maker.digest (maker.disclosure k x.name x.value)
-  pub decoys : (d : ℕ) → d < length (decoys_of o) → dg (hidden_of o + d) ≡ maker.digest (maker.piece (hidden_of o + d))
+  pub disclosures : (k : ℕ) (x : Given) → StandsAt given k x → dg k ≡ maker.digest o.hash (maker.disclosure k x.name x.value)
+  pub decoys : (d : ℕ) → d < length (decoys_of o) → dg (hidden_of o + d) ≡ maker.digest o.hash (maker.piece (hidden_of o + d))

@@ -22,8 +22,9 @@ use Rattle.issuer_core.specs.Written.{IsIssued, IsLaidOut}
 use Rattle.compact_form.specs.Lowest.{NoneApplies}
 use Rattle.issuer_core.specs.OrderRefusals.{AppliesToOrder}
 use Rattle.compact_form.specs.declared.parts.Parts.{Parts}
-use Rattle.hmac_sign.specs.Hmac.{IsGood}
+use Rattle.hmac_sign.specs.Hmac.{AlgKey, IsGood}
 use Rattle.hmac_sign.specs.Signatures.{Meaning}
+use Rattle.hmac_sign.specs.declared.alg.Alg.{Alg}
 
 abbrev pub LaidIsIssued : Type 0
 LaidIsIssued =
@@ -32,11 +33,11 @@ LaidIsIssued =
     → IsLaid maker o p given dg → AllDiffer dg (hidden_of o + length (decoys_of o)) → IsIssuedFor maker o p given
 
 -- the same of the parts with a good signature, for an order that nothing of 51 to 59 refuses and whose claims are a JSON value
-abbrev pub PartsAreIssued : Meaning → Type 0
-PartsAreIssued good =
+abbrev pub PartsAreIssued : Alg → Meaning → Type 0
+PartsAreIssued alg good =
     (maker : Maker) (o : Order) (parts : Parts)
     → NoneApplies (AppliesToOrder o) → IsOrdered o.payload → IsRanged o.payload → HasShortLists o.payload
-    → (laid : IsLaidOut maker o good parts) → AllDiffer laid.digests (hidden_of o + length (decoys_of o)) → IsIssued maker o good parts
+    → (laid : IsLaidOut maker o alg good parts) → AllDiffer laid.digests (hidden_of o + length (decoys_of o)) → IsIssued maker o alg good parts
 
 abbrev pub LaidIsReadable : Type 0
 LaidIsReadable =
@@ -63,5 +64,5 @@ IssuedIsShown =
 
 abbrev pub OneToken : Type 0
 OneToken =
-    (seed : List ℕ) (o : Order) (key : List ℕ) (parts other : Parts)
-    → IsLaidOut (maker_of seed) o (IsGood key) parts → IsLaidOut (maker_of seed) o (IsGood key) other → parts ≡ other
+    (seed : List ℕ) (o : Order) (key : AlgKey) (parts other : Parts)
+    → IsLaidOut (maker_of seed) o key.alg (IsGood key) parts → IsLaidOut (maker_of seed) o key.alg (IsGood key) other → parts ≡ other

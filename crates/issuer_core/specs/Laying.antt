@@ -25,12 +25,9 @@ nth [] k = []
 nth (t ∷ ts) zero = t
 nth (t ∷ ts) (suc k) = nth ts k
 
-abbrev pub digest : Text → Text
-digest t = digest_of HashAlg.Sha256 t
-
 -- the digest of the text at a place
-abbrev pub digest_at : List Text → ℕ → Text
-digest_at texts k = digest (nth texts k)
+abbrev pub digest_at : HashAlg → List Text → ℕ → Text
+digest_at hash texts k = digest_of hash (nth texts k)
 
 -- the text of disclosure k
 abbrev pub salted : List Text → ℕ → Option Text → Tree → Text
@@ -78,12 +75,12 @@ IsPart dec dg k m part = ⊥
 
 -- ---- marked claims
 
--- laid with salts, of which the first `hidden` are those of the disclosures, and the others those of decoys with these places
-pub record IsLaidWith (salts : List Text) (hidden : ℕ) (decoys : List Path) (m : Marked) (payload : Tree) (texts digests : List Text) : Type 0 where
-  pub laid : (dec : Path → List Text) → ((at : Path) → digests_on_path decoys (map digest (drop hidden salts)) at ≡ dec at) → (more : List Text) → payload ≡ with_alg (lay dec (digest_at (texts ++ more)) m)
-  pub made : (dec : Path → List Text) → ((at : Path) → digests_on_path decoys (map digest (drop hidden salts)) at ≡ dec at) → (more : List Text) → texts ≡ made_texts (salted salts) 0 (laid_given dec (digest_at (texts ++ more)) m)
+-- laid with a hash and salts, of which the first `hidden` are those of the disclosures, and the others those of decoys with these places
+pub record IsLaidWith (hash : HashAlg) (salts : List Text) (hidden : ℕ) (decoys : List Path) (m : Marked) (payload : Tree) (texts digests : List Text) : Type 0 where
+  pub laid : (dec : Path → List Text) → ((at : Path) → digests_on_path decoys (map (digest_of hash) (drop hidden salts)) at ≡ dec at) → (more : List Text) → payload ≡ with_alg hash (lay dec (digest_at hash (texts ++ more)) m)
+  pub made : (dec : Path → List Text) → ((at : Path) → digests_on_path decoys (map (digest_of hash) (drop hidden salts)) at ≡ dec at) → (more : List Text) → texts ≡ made_texts (salted salts) 0 (laid_given dec (digest_at hash (texts ++ more)) m)
   pub count : length texts ≡ hidden
-  pub digests_are : digests ≡ map digest texts ++ map digest (drop hidden salts)
+  pub digests_are : digests ≡ map (digest_of hash) texts ++ map (digest_of hash) (drop hidden salts)
 
 -- ---- an order
 
@@ -93,7 +90,7 @@ pub record IsLaidFor (maker : Maker) (o : Order) (payload : Tree) (texts digests
   pub given : List Given
   pub dg : ℕ → Text
   pub is_laid : IsLaid maker o laid given dg
-  pub payload_is : payload ≡ with_alg laid
+  pub payload_is : payload ≡ with_alg o.hash laid
   pub texts_are : texts ≡ made_texts maker.disclosure 0 given
   pub count : length digests ≡ hidden_of o + length (decoys_of o)
   pub each : (k : ℕ) (d : Text) → StandsAt digests k d → d ≡ dg k

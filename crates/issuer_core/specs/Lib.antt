@@ -21,6 +21,5 @@ pub mod Laying
 pub mod IssueCalls
 pub mod IssueSteps
 pub mod JudgeCalls
-pub mod RefusalCalls
 pub mod SaltSteps
 pub mod ShortLists

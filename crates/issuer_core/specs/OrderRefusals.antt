@@ -1,10 +1,12 @@
 -- The refusals of an order: what each says of it, and the lowest that applies.
-use Rattle.std.specs.Prelude.{◌≡◌, ℕ, ◌<◌, ◌≤◌, List, [], ◌∷◌, length, Some, None, codes, slice_get}
+use Rattle.std.specs.Prelude.{◌≡◌, ℕ, ◌<◌, ◌≤◌, List, [], ◌∷◌, length, Option, Some, None, codes, slice_get}
 use Rattle.std.specs.Set.{distinct_count}
 use Rattle.claim_tree.specs.Tree.{Text, Tree, depth}
 use Rattle.claim_tree.specs.Lists.{IsSuchAt, In}
 use Rattle.claim_tree.specs.Path.{tree_at}
 use Rattle.sd_outside.specs.Limits.{count_max, depth_max}
+use Rattle.compact_form.specs.declared.refusal.Refusal.{Refusal}
+use Rattle.compact_form.specs.Refusal.{refusal_number}
 use Rattle.marked_tree.specs.Paths.{Path, same_path}
 use Rattle.issuer_core.specs.declared.order.Decoy.{Decoy}
 use Rattle.issuer_core.specs.declared.errors.IssueError.{IssueError}
@@ -47,21 +49,29 @@ AppliesToOrder o TooManyHidden = count_max < distinct_count same_path o.hide
 AppliesToOrder o TooManyDecoys = count_max < length (decoys_of o)
 AppliesToOrder o _ = ⊥
 
--- the printed number; what is no refusal has none
-abbrev pub refusal_number : IssueError → ℕ
-refusal_number Memory = 0
-refusal_number SignFailed = 0
-refusal_number PayloadNotObject = 51
-refusal_number (ReservedName path) = 52
-refusal_number TooDeep = 53
-refusal_number (RootMarked k) = 54
-refusal_number (NoSuchPlace k) = 55
-refusal_number (ProtectedClaim k) = 56
-refusal_number (DecoyPlace k) = 57
-refusal_number TooManyHidden = 58
-refusal_number TooManyDecoys = 59
-refusal_number (DigestClash i j) = 60
-refusal_number TooLong = 61
+-- the refusal that the error is, where it is one
+abbrev pub refusal_of : IssueError → Option Refusal
+refusal_of Memory = None
+refusal_of SignFailed = None
+refusal_of PayloadNotObject = Some Refusal.PayloadNotObject
+refusal_of (ReservedName path) = Some Refusal.ReservedInPayload
+refusal_of TooDeep = Some Refusal.PayloadTooDeep
+refusal_of (RootMarked k) = Some Refusal.RootMarked
+refusal_of (NoSuchPlace k) = Some Refusal.NoSuchPlace
+refusal_of (ProtectedClaim k) = Some Refusal.ProtectedClaim
+refusal_of (DecoyPlace k) = Some Refusal.DecoyPlace
+refusal_of TooManyHidden = Some Refusal.TooManyHidden
+refusal_of TooManyDecoys = Some Refusal.TooManyDecoys
+refusal_of (DigestClash i j) = Some Refusal.DigestClash
+refusal_of TooLong = Some Refusal.IssueTooLong
+
+-- its number; what is no refusal has none
+abbrev pub number_in : Option Refusal → ℕ
+number_in None = 0
+number_in (Some refusal) = refusal_number refusal
+
+abbrev pub issue_number : IssueError → ℕ
+issue_number error = number_in (refusal_of error)
 
 -- the place among those of one number; a refusal with one place at most has none
 abbrev pub refusal_place : IssueError → ℕ
@@ -74,5 +84,5 @@ refusal_place _ = 0
 -- the refusal applies, none with a lower number does, and none with this number at a lower place
 pub record IsLowestRefusal (Applies : IssueError → Type 0) (error : IssueError) : Type 0 where
   pub applies : Applies error
-  pub lowest : (other : IssueError) → Applies other → refusal_number error ≤ refusal_number other
-  pub first : (other : IssueError) → Applies other → refusal_number other ≡ refusal_number error → refusal_place error ≤ refusal_place other
+  pub lowest : (other : IssueError) → Applies other → issue_number error ≤ issue_number other
+  pub first : (other : IssueError) → Applies other → issue_number other ≡ issue_number error → refusal_place error ≤ refusal_place other

@@ -1,29 +1,13 @@
 -- The line that tells of a refusal of an order.
-use Rattle.std.specs.Prelude.{[], ◌++◌, Option, None, Some, codes}
+use Rattle.std.specs.Prelude.{◌++◌, Option, None, Some, codes}
 use Rattle.std.specs.Fmt.{decimal}
 use Rattle.claim_tree.specs.Tree.{Text, leaf, text}
 use Rattle.claim_tree.specs.JsonText.{json_text}
 use Rattle.claim_tree.specs.Path.{pointer_text}
-use Rattle.compact_form.specs.RefusedText.{refused_text}
+use Rattle.compact_form.specs.RefusedText.{told_text}
 use Rattle.issuer_core.specs.declared.errors.IssueError.{IssueError}
-use Rattle.issuer_core.specs.declared.errors.IssueError.TheVariants.{Memory, SignFailed, PayloadNotObject, ReservedName, TooDeep, RootMarked, NoSuchPlace, ProtectedClaim, DecoyPlace, TooManyHidden, TooManyDecoys, DigestClash, TooLong}
-use Rattle.issuer_core.specs.OrderRefusals.{refusal_number}
-
--- the printed name; what is no refusal has none
-abbrev pub refusal_name : IssueError → Text
-refusal_name Memory = []
-refusal_name SignFailed = []
-refusal_name PayloadNotObject = codes "payloadNotObject"
-refusal_name (ReservedName path) = codes "reservedInPayload"
-refusal_name TooDeep = codes "payloadTooDeep"
-refusal_name (RootMarked k) = codes "rootMarked"
-refusal_name (NoSuchPlace k) = codes "noSuchPlace"
-refusal_name (ProtectedClaim k) = codes "protectedClaim"
-refusal_name (DecoyPlace k) = codes "decoyPlace"
-refusal_name TooManyHidden = codes "tooManyHidden"
-refusal_name TooManyDecoys = codes "tooManyDecoys"
-refusal_name (DigestClash i j) = codes "digestClash"
-refusal_name TooLong = codes "issueTooLong"
+use Rattle.issuer_core.specs.declared.errors.IssueError.TheVariants.{ReservedName, RootMarked, NoSuchPlace, ProtectedClaim, DecoyPlace, DigestClash}
+use Rattle.issuer_core.specs.OrderRefusals.{refusal_of}
 
 -- the words of its place, where there is one: a pointer is a JSON text
 abbrev pub refusal_place_text : IssueError → Option Text
@@ -35,6 +19,6 @@ refusal_place_text (DecoyPlace k) = Some (decimal k)
 refusal_place_text (DigestClash i j) = Some (decimal i ++ (codes " " ++ decimal j))
 refusal_place_text _ = None
 
--- the line of a refusal, without its line end
+-- the line of a refusal, without its line end; what is no refusal has none
 abbrev pub issue_refusal_text : IssueError → Text
-issue_refusal_text error = refused_text (refusal_number error) (refusal_name error) (refusal_place_text error)
+issue_refusal_text error = told_text (refusal_of error) (refusal_place_text error)

@@ -22,14 +22,13 @@ ghost use Rattle.issuer_core.specs.OrderRefusals.{AppliesToOrder};
 ghost use Rattle.claim_tree.specs.Lists.{Repeats, AtNone};
 
 use crate::laying::{Laid, lay_order};
-use crate::order::copy_of;
 use crate::{IssueError, Order, first_clash, judge};
 use b64url_text::encode;
 use claim_tree::Tree;
 use compact_form::{ISSUE_MAX, JwtParts, Parts, is_longer_than};
-use hmac_sign::{SignError, Signer};
+use hmac_sign::{Alg, SignError, Signer};
 use jws_part::{Header, write_body, write_header};
-use sd_outside::{NoMemory, TextBox, TextList};
+use sd_outside::{NoMemory, TextBox, TextList, copy_text};
 use std::alloc::Global;
 
 /// Issues a token for a copy of an order: the compact parts of an SD-JWT, RFC 9901 section 4, without a key binding token.
@@ -43,15 +42,15 @@ pub fn issue<S: Signer>(
 ) -> Result<Parts, IssueError>
     requires depth { depth_of (tree_of order.now.payload) ≤ 127 }
     requires ranged { IsRanged (tree_of order.now.payload) }
-    ensures issued { IfOk result (IsIssued (maker_of seed.now) (order_of order.now) (S.good signer.old)) }
-    ensures laid { IfOk result (IsLaidOut (maker_of seed.now) (order_of order.now) (S.good signer.old)) }
+    ensures issued { IfOk result (IsIssued (maker_of seed.now) (order_of order.now) (S.alg_of signer.old) (S.good signer.old)) }
+    ensures laid { IfOk result (IsLaidOut (maker_of seed.now) (order_of order.now) (S.alg_of signer.old) (S.good signer.old)) }
     ensures passes { IfOk result (λ _. NoneApplies (AppliesToOrder (order_of order.now))) }
     ensures writable { IfOk result (λ _. IsWritable (order_of order.now)) }
     ensures differ { IfOk result (λ _. HasNoClash (maker_of seed.now) (order_of order.now)) }
     ensures words { IfOk result AreWords }
     ensures few { IfOk result (λ parts. length parts.disclosures ≤ count_max) }
     ensures short { IfOk result (λ parts. length (compact parts) ≤ issue_max) }
-    ensures refused { IfErr result (IsNotIssued (maker_of seed.now) (order_of order.now) (S.good signer.old)) }
+    ensures refused { IfErr result (IsNotIssued (maker_of seed.now) (order_of order.now) (S.alg_of signer.old) (S.good signer.old)) }
     ensures failed { IsErrOf result IssueError.SignFailed → Rose (S.faults signer.old) (S.faults signer.new) }
 
     // what stays
@@ -72,15 +71,15 @@ pub fn issue_owned<S: Signer>(
 ) -> Result<Parts, IssueError>
     requires depth { depth_of (tree_of order.payload) ≤ 127 }
     requires ranged { IsRanged (tree_of order.payload) }
-    ensures issued { IfOk result (IsIssued (maker_of seed.now) (order_of order) (S.good signer.old)) }
-    ensures laid { IfOk result (IsLaidOut (maker_of seed.now) (order_of order) (S.good signer.old)) }
+    ensures issued { IfOk result (IsIssued (maker_of seed.now) (order_of order) (S.alg_of signer.old) (S.good signer.old)) }
+    ensures laid { IfOk result (IsLaidOut (maker_of seed.now) (order_of order) (S.alg_of signer.old) (S.good signer.old)) }
     ensures passes { IfOk result (λ _. NoneApplies (AppliesToOrder (order_of order))) }
     ensures writable { IfOk result (λ _. IsWritable (order_of order)) }
     ensures differ { IfOk result (λ _. HasNoClash (maker_of seed.now) (order_of order)) }
     ensures words { IfOk result AreWords }
     ensures few { IfOk result (λ parts. length parts.disclosures ≤ count_max) }
     ensures short { IfOk result (λ parts. length (compact parts) ≤ issue_max) }
-    ensures refused { IfErr result (IsNotIssued (maker_of seed.now) (order_of order) (S.good signer.old)) }
+    ensures refused { IfErr result (IsNotIssued (maker_of seed.now) (order_of order) (S.alg_of signer.old) (S.good signer.old)) }
     ensures failed { IsErrOf result IssueError.SignFailed → Rose (S.faults signer.old) (S.faults signer.new) }
 
     // what stays
@@ -91,18 +90,18 @@ pub fn issue_owned<S: Signer>(
     if let Err(error) = judge(alloc, &order) {
         return Err(error);
     }
-    let header = order_header(alloc, &order)?;
+    let header = order_header(alloc, &order, signer.alg())?;
     let laid = lay_order(alloc, order, seed)?;
     issue_laid(alloc, &header, laid, signer)
 }
 
-fn order_header(alloc: Global, order: &Order) -> Result<Header, NoMemory>
-    ensures { IfOk result (λ header. header ≡ header_of (order_of order.now)) }
+fn order_header(alloc: Global, order: &Order, alg: Alg) -> Result<Header, NoMemory>
+    ensures { IfOk result (λ header. header ≡ header_of alg (order_of order.now)) }
 {
     Ok(Header {
-        alg: TextBox::make(alloc, "HS256")?,
-        kid: copy_of(alloc, &order.kid)?,
-        typ: copy_of(alloc, &order.typ)?,
+        alg: TextBox::make(alloc, alg.name())?,
+        kid: copy_text(alloc, &order.kid)?,
+        typ: copy_text(alloc, &order.typ)?,
     })
 }
 

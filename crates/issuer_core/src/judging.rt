@@ -13,16 +13,18 @@ ghost use Rattle.issuer_core.specs.Decoys.{decoy_paths};
 ghost use Rattle.issuer_core.specs.GoodOrder as good;
 ghost use Rattle.issuer_core.specs.GoodOrder.{IsGoodOrder};
 ghost use Rattle.compact_form.specs.Lowest.{NoneApplies};
+ghost use Rattle.compact_form.specs.Refusal.{refusal_number};
+ghost use Rattle.compact_form.specs.declared.refusal.Refusal.{Refusal};
 ghost use Rattle.issuer_core.specs.OrderRefusals.{AppliesToOrder, protected_names};
 ghost use Rattle.issuer_core.specs.JudgeCalls.{IsOrderRefused};
 ghost use Rattle.issuer_core.specs.Judging as spec;
 ghost use Rattle.issuer_core.specs.Judging.{PassesBelow};
 
-use crate::hidden::different;
 use crate::reserved::{first_reserved, spells};
 use crate::{DecoyList, IssueError, Order};
 use claim_tree::{Path, PathList, Tree, depth, find};
 use compact_form::COUNT_MAX;
+use marked_tree::count_different;
 use sd_outside::{NoMemory, TextBox};
 use std::alloc::Global;
 
@@ -46,7 +48,9 @@ fn is_object(tree: &Tree) -> bool
 fn first_root(hide: &PathList) -> Option<usize>
     ensures { result ≡ position_from spec.is_root 0 hide.now }
 {
-    hide.paths().iter().position(|path| path.steps().is_empty())
+    hide.elements()
+        .iter()
+        .position(|path| path.steps().is_empty())
 }
 
 fn is_nowhere(payload: &Tree, path: &Path) -> bool
@@ -59,7 +63,7 @@ fn is_nowhere(payload: &Tree, path: &Path) -> bool
 fn first_nowhere(payload: &Tree, hide: &PathList) -> Option<usize>
     ensures { result ≡ position_from (spec.is_nowhere (tree_of payload.now)) 0 hide.now }
 {
-    hide.paths()
+    hide.elements()
         .iter()
         .position(|path| is_nowhere(payload, path))
 }
@@ -84,7 +88,7 @@ fn is_protected(path: &Path) -> bool
 fn first_protected(hide: &PathList) -> Option<usize>
     ensures { result ≡ position_from spec.is_protected 0 hide.now }
 {
-    hide.paths().iter().position(|path| is_protected(path))
+    hide.elements().iter().position(|path| is_protected(path))
 }
 
 // Whether the path leads to no object and no list of the payload.
@@ -114,7 +118,7 @@ fn hides_too_many(alloc: Global, hide: &PathList) -> Result<bool, NoMemory>
     if hide.len() <= COUNT_MAX {
         return Ok(false);
     }
-    Ok(different(alloc, hide)?.len() > COUNT_MAX)
+    Ok(count_different(alloc, hide)? > COUNT_MAX)
 }
 
 fn are_too_many(decoys: &DecoyList) -> bool
@@ -133,7 +137,7 @@ fn are_too_many(decoys: &DecoyList) -> bool
 // 51 to 53.
 fn judge_payload(alloc: Global, order: &Order) -> Result<(), IssueError>
     requires { depth_of (tree_of order.now.payload) ≤ 127 }
-    ensures passes { OnOk result (PassesBelow 54 (order_of order.now)) }
+    ensures passes { OnOk result (PassesBelow (refusal_number Refusal.RootMarked) (order_of order.now)) }
     ensures ordered { OnOk result (IsOrdered (tree_of order.now.payload)) }
     ensures held { OnOk result (good.FitsMachine (tree_of order.now.payload)) }
     ensures refused { IfErr result (IsOrderRefused (order_of order.now)) }
@@ -152,8 +156,8 @@ fn judge_payload(alloc: Global, order: &Order) -> Result<(), IssueError>
 
 // 54 to 57.
 fn judge_places(order: &Order) -> Result<(), IssueError>
-    requires { PassesBelow 54 (order_of order.now) }
-    ensures passes { OnOk result (PassesBelow 58 (order_of order.now)) }
+    requires { PassesBelow (refusal_number Refusal.RootMarked) (order_of order.now) }
+    ensures passes { OnOk result (PassesBelow (refusal_number Refusal.TooManyHidden) (order_of order.now)) }
     ensures refused { IfErr result (IsOrderRefused (order_of order.now)) }
 {
     if let Some(k) = first_root(&order.hide) {

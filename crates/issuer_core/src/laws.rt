@@ -25,7 +25,7 @@ pub fn laid_is_issued()
 /// The same of the parts, with a signature that is good by the meaning of whoever signs: where the digests all differ, the parts of
 /// what is laid for an order that nothing of 51 to 59 refuses are issued for it.
 pub fn parts_are_issued<S: Signer>()
-    ensures { (signer : S) → PartsAreIssued (S.good signer) }
+    ensures { (signer : S) → PartsAreIssued (S.alg_of signer) (S.good signer) }
 {}
 
 /// The members of each object that is laid ascend by the bytes of their names.

@@ -5,6 +5,7 @@ ghost use Rattle.claim_tree.specs.FileForms.{text_elements};
 ghost use Rattle.sd_outside.specs.Limits.{count_max, depth_max};
 ghost use Rattle.claim_tree.specs.Tree.{Text, IsRanged, leaf, text as text_leaf, depth, elements_depth, members_depth, ElementsRanged, MembersRanged};
 ghost use Rattle.claim_tree.specs.View.{tree_of};
+ghost use Rattle.disclosure.specs.Digest.{digest_of};
 ghost use Rattle.disclosure.specs.Disclosure.{disclosure_text};
 ghost use Rattle.marked_tree.specs.Marked.{strip, strip_elements, strip_members};
 ghost use Rattle.marked_tree.specs.Ways.{weight, elements_weight, members_weight, mark_weight};
@@ -16,7 +17,7 @@ ghost use Rattle.issuer_core.specs.Seed.{maker_of};
 ghost use Rattle.issuer_core.specs.Laid as spec;
 ghost use Rattle.issuer_core.specs.Laid.{sorted, with_sd, digest_elements, hidden_digests, laid_given, laid_elements, laid_members, own_given, lay_elements, lay_members};
 ghost use Rattle.issuer_core.specs.Digests.{made_texts};
-ghost use Rattle.issuer_core.specs.Laying.{digest as digest_by, digest_at, salted, elements_joined, placed_at, ArePlaced, DecoysTell, IsPart, IsLaidWith, IsLaidFor};
+ghost use Rattle.issuer_core.specs.Laying.{digest_at, salted, elements_joined, placed_at, ArePlaced, DecoysTell, IsPart, IsLaidWith, IsLaidFor};
 ghost use Rattle.issuer_core.specs.Closing.{one, HasNumber, ClosesFrom, ElementsClose, MembersClose};
 
 use crate::decoys::{Decoys, sort_decoys};
@@ -48,6 +49,13 @@ struct Layer {
     digests: TextList,
 }
 
+// By what parts are hidden: the salts of their disclosures, and the hash of the digests.
+#[derive(Clone, Copy, Debug)]
+struct Hiding<'a> {
+    salts: &'a TextList,
+    hash: HashAlg,
+}
+
 // A member or an element: laid, or the digest of its disclosure.
 #[derive(Debug, Drop)]
 enum Part {
@@ -70,23 +78,23 @@ impl Layer {
     fn disclose(
         &mut self,
         alloc: Global,
-        salts: &TextList,
+        hiding: Hiding<'_>,
         name: Option<&str>,
         value: Tree,
     ) -> Result<TextBox, NoMemory>
-        requires salts { length self.old.texts < length salts.now }
+        requires salts { length self.old.texts < length hiding.salts.now }
         requires ranged { IsRanged (tree_of value) }
         requires depth { depth (tree_of value) ≤ 126 }
-        requires digests { self.old.digests ≡ map digest_by self.old.texts }
-        ensures text { OnOk result (self.new.texts ≡ self.old.texts ++ salted salts.now (length self.old.texts) (option_map (λ n. n.now) name.entry) (tree_of value) ∷ []) }
-        ensures digest { IfOk result (λ digest. digest ≡ digest_by (salted salts.now (length self.old.texts) (option_map (λ n. n.now) name.entry) (tree_of value))) }
-        ensures digests { OnOk result (self.new.digests ≡ map digest_by self.new.texts) }
+        requires digests { self.old.digests ≡ map (digest_of hiding.hash) self.old.texts }
+        ensures text { OnOk result (self.new.texts ≡ self.old.texts ++ salted hiding.entry.salts.now (length self.old.texts) (option_map (λ n. n.now) name.entry) (tree_of value) ∷ []) }
+        ensures digest { IfOk result (λ digest. digest ≡ digest_of hiding.entry.hash (salted hiding.entry.salts.now (length self.old.texts) (option_map (λ n. n.now) name.entry) (tree_of value))) }
+        ensures digests { OnOk result (self.new.digests ≡ map (digest_of hiding.entry.hash) self.new.texts) }
     {
-        let Some(salt) = salts.at(self.texts.len()) else {
+        let Some(salt) = hiding.salts.at(self.texts.len()) else {
             unreachable!();
         };
         let text = made_text(alloc, salt.as_str(), name, value)?;
-        let made = digest(alloc, HashAlg::Sha256, text.as_str())?;
+        let made = digest(alloc, hiding.hash, text.as_str())?;
         self.texts.push(text)?;
         self.digests.push(TextBox::make(alloc, made.as_str())?)?;
         Ok(made)
@@ -175,27 +183,27 @@ fn lay(
     alloc: Global,
     tree: Marked,
     decoys: Decoys<'_>,
-    salts: &TextList,
+    hiding: Hiding<'_>,
     layer: &mut Layer,
 ) -> Result<Tree, NoMemory>
     requires depth { decoys.depth + depth (strip (marked_of tree)) ≤ 125 }
     requires ranged { IsRanged (strip (marked_of tree)) }
     requires decoys { ArePlaced decoys }
     requires closes { ClosesFrom (length layer.old.texts) (marked_of tree) }
-    requires salts { length layer.old.texts + weight one (marked_of tree) ≤ length salts.now }
-    requires digests { layer.old.digests ≡ map digest_by layer.old.texts }
-    ensures laid { IfOk result (λ laid. (dec : Steps → List Text) → DecoysTell decoys.entry dec → (more : List Text) → tree_of laid ≡ spec.lay dec (digest_at (layer.new.texts ++ more)) (marked_of tree)) }
-    ensures texts { OnOk result ((dec : Steps → List Text) → DecoysTell decoys.entry dec → (more : List Text) → layer.new.texts ≡ layer.old.texts ++ made_texts (salted salts.now) (length layer.old.texts) (laid_given dec (digest_at (layer.new.texts ++ more)) (marked_of tree))) }
+    requires salts { length layer.old.texts + weight one (marked_of tree) ≤ length hiding.salts.now }
+    requires digests { layer.old.digests ≡ map (digest_of hiding.hash) layer.old.texts }
+    ensures laid { IfOk result (λ laid. (dec : Steps → List Text) → DecoysTell decoys.entry dec → (more : List Text) → tree_of laid ≡ spec.lay dec (digest_at hiding.entry.hash (layer.new.texts ++ more)) (marked_of tree)) }
+    ensures texts { OnOk result ((dec : Steps → List Text) → DecoysTell decoys.entry dec → (more : List Text) → layer.new.texts ≡ layer.old.texts ++ made_texts (salted hiding.entry.salts.now) (length layer.old.texts) (laid_given dec (digest_at hiding.entry.hash (layer.new.texts ++ more)) (marked_of tree))) }
     ensures count { OnOk result (length layer.new.texts ≡ length layer.old.texts + weight one (marked_of tree)) }
-    ensures digests { OnOk result (layer.new.digests ≡ map digest_by layer.new.texts) }
+    ensures digests { OnOk result (layer.new.digests ≡ map (digest_of hiding.entry.hash) layer.new.texts) }
 {
     match tree {
         Marked::Null => Ok(Tree::Null),
         Marked::Flag(flag) => Ok(Tree::Flag(flag)),
         Marked::Whole(n) => Ok(Tree::Whole(n)),
         Marked::Text(text) => Ok(Tree::Text(text)),
-        Marked::List(list) => Ok(Tree::List(lay_list(alloc, list, decoys, salts, layer)?)),
-        Marked::Object(map) => Ok(Tree::Object(lay_map(alloc, map, decoys, salts, layer)?)),
+        Marked::List(list) => Ok(Tree::List(lay_list(alloc, list, decoys, hiding, layer)?)),
+        Marked::Object(map) => Ok(Tree::Object(lay_map(alloc, map, decoys, hiding, layer)?)),
     }
 }
 
@@ -204,25 +212,25 @@ fn lay_list(
     alloc: Global,
     list: MarkedList,
     decoys: Decoys<'_>,
-    salts: &TextList,
+    hiding: Hiding<'_>,
     layer: &mut Layer,
 ) -> Result<TreeList, NoMemory>
     requires depth { decoys.depth + elements_depth (strip_elements list) ≤ 124 }
     requires ranged { ElementsRanged (strip_elements list) }
     requires decoys { ArePlaced decoys }
     requires closes { ElementsClose (length layer.old.texts) list }
-    requires salts { length layer.old.texts + elements_weight one list ≤ length salts.now }
-    requires digests { layer.old.digests ≡ map digest_by layer.old.texts }
-    ensures laid { IfOk result (λ laid. (dec : Steps → List Text) → DecoysTell decoys.entry dec → (more : List Text) → laid ≡ lay_elements dec (digest_at (layer.new.texts ++ more)) 0 list) }
-    ensures texts { OnOk result ((dec : Steps → List Text) → DecoysTell decoys.entry dec → (more : List Text) → layer.new.texts ≡ layer.old.texts ++ made_texts (salted salts.now) (length layer.old.texts) (laid_elements dec (digest_at (layer.new.texts ++ more)) 0 list)) }
+    requires salts { length layer.old.texts + elements_weight one list ≤ length hiding.salts.now }
+    requires digests { layer.old.digests ≡ map (digest_of hiding.hash) layer.old.texts }
+    ensures laid { IfOk result (λ laid. (dec : Steps → List Text) → DecoysTell decoys.entry dec → (more : List Text) → laid ≡ lay_elements dec (digest_at hiding.entry.hash (layer.new.texts ++ more)) 0 list) }
+    ensures texts { OnOk result ((dec : Steps → List Text) → DecoysTell decoys.entry dec → (more : List Text) → layer.new.texts ≡ layer.old.texts ++ made_texts (salted hiding.entry.salts.now) (length layer.old.texts) (laid_elements dec (digest_at hiding.entry.hash (layer.new.texts ++ more)) 0 list)) }
     ensures count { OnOk result (length layer.new.texts ≡ length layer.old.texts + elements_weight one list) }
-    ensures digests { OnOk result (layer.new.digests ≡ map digest_by layer.new.texts) }
+    ensures digests { OnOk result (layer.new.digests ≡ map (digest_of hiding.entry.hash) layer.new.texts) }
 {
     let mut laid = TreeList::new(alloc);
     for (mark, tree) in list.into_elements() {
         let mut digits = Buffer::new();
         let below = decoys.below(digits.format(laid.len()));
-        let tree = match lay_part(alloc, None, mark, tree, below, salts, layer)? {
+        let tree = match lay_part(alloc, None, mark, tree, below, hiding, layer)? {
             Part::Shown(tree) => tree,
             Part::Hidden(digest) => digest_object(alloc, digest)?,
         };
@@ -237,25 +245,25 @@ fn lay_map(
     alloc: Global,
     members: MarkedMap,
     decoys: Decoys<'_>,
-    salts: &TextList,
+    hiding: Hiding<'_>,
     layer: &mut Layer,
 ) -> Result<TreeMap, NoMemory>
     requires depth { decoys.depth + members_depth (strip_members members) ≤ 124 }
     requires ranged { MembersRanged (strip_members members) }
     requires decoys { ArePlaced decoys }
     requires closes { MembersClose (length layer.old.texts) members }
-    requires salts { length layer.old.texts + members_weight one members ≤ length salts.now }
-    requires digests { layer.old.digests ≡ map digest_by layer.old.texts }
-    ensures laid { IfOk result (λ laid. (dec : Steps → List Text) → DecoysTell decoys.entry dec → (more : List Text) → laid ≡ with_sd (sorted (hidden_digests (digest_at (layer.new.texts ++ more)) members ++ dec [])) (lay_members dec (digest_at (layer.new.texts ++ more)) members)) }
-    ensures texts { OnOk result ((dec : Steps → List Text) → DecoysTell decoys.entry dec → (more : List Text) → layer.new.texts ≡ layer.old.texts ++ made_texts (salted salts.now) (length layer.old.texts) (laid_members dec (digest_at (layer.new.texts ++ more)) members)) }
+    requires salts { length layer.old.texts + members_weight one members ≤ length hiding.salts.now }
+    requires digests { layer.old.digests ≡ map (digest_of hiding.hash) layer.old.texts }
+    ensures laid { IfOk result (λ laid. (dec : Steps → List Text) → DecoysTell decoys.entry dec → (more : List Text) → laid ≡ with_sd (sorted (hidden_digests (digest_at hiding.entry.hash (layer.new.texts ++ more)) members ++ dec [])) (lay_members dec (digest_at hiding.entry.hash (layer.new.texts ++ more)) members)) }
+    ensures texts { OnOk result ((dec : Steps → List Text) → DecoysTell decoys.entry dec → (more : List Text) → layer.new.texts ≡ layer.old.texts ++ made_texts (salted hiding.entry.salts.now) (length layer.old.texts) (laid_members dec (digest_at hiding.entry.hash (layer.new.texts ++ more)) members)) }
     ensures count { OnOk result (length layer.new.texts ≡ length layer.old.texts + members_weight one members) }
-    ensures digests { OnOk result (layer.new.digests ≡ map digest_by layer.new.texts) }
+    ensures digests { OnOk result (layer.new.digests ≡ map (digest_of hiding.entry.hash) layer.new.texts) }
 {
     let mut laid = TreeMap::new(alloc);
     let mut digests = Vec::new(alloc);
     for (name, mark, tree) in members.into_members() {
         let below = decoys.below(name.as_str());
-        match lay_part(alloc, Some(name.as_str()), mark, tree, below, salts, layer)? {
+        match lay_part(alloc, Some(name.as_str()), mark, tree, below, hiding, layer)? {
             Part::Shown(tree) => laid.insert(name, tree)?,
             Part::Hidden(digest) => digests.push(digest)?,
         }
@@ -273,7 +281,7 @@ fn lay_part(
     mark: Option<u32>,
     tree: Marked,
     decoys: Decoys<'_>,
-    salts: &TextList,
+    hiding: Hiding<'_>,
     layer: &mut Layer,
 ) -> Result<Part, NoMemory>
     requires depth { decoys.depth + depth (strip (marked_of tree)) ≤ 125 }
@@ -281,17 +289,17 @@ fn lay_part(
     requires decoys { ArePlaced decoys }
     requires closes { ClosesFrom (length layer.old.texts) (marked_of tree) }
     requires numbered { HasNumber mark (length layer.old.texts + weight one (marked_of tree)) }
-    requires salts { length layer.old.texts + (mark_weight one mark + weight one (marked_of tree)) ≤ length salts.now }
-    requires digests { layer.old.digests ≡ map digest_by layer.old.texts }
-    ensures part { IfOk result (λ part. (dec : Steps → List Text) → DecoysTell decoys.entry dec → (more : List Text) → IsPart dec (digest_at (layer.new.texts ++ more)) mark (marked_of tree) part) }
-    ensures texts { OnOk result ((dec : Steps → List Text) → DecoysTell decoys.entry dec → (more : List Text) → layer.new.texts ≡ layer.old.texts ++ made_texts (salted salts.now) (length layer.old.texts) (laid_given dec (digest_at (layer.new.texts ++ more)) (marked_of tree) ++ own_given (digest_at (layer.new.texts ++ more)) (option_map (λ n. n.now) name.entry) mark (spec.lay dec (digest_at (layer.new.texts ++ more)) (marked_of tree)))) }
+    requires salts { length layer.old.texts + (mark_weight one mark + weight one (marked_of tree)) ≤ length hiding.salts.now }
+    requires digests { layer.old.digests ≡ map (digest_of hiding.hash) layer.old.texts }
+    ensures part { IfOk result (λ part. (dec : Steps → List Text) → DecoysTell decoys.entry dec → (more : List Text) → IsPart dec (digest_at hiding.entry.hash (layer.new.texts ++ more)) mark (marked_of tree) part) }
+    ensures texts { OnOk result ((dec : Steps → List Text) → DecoysTell decoys.entry dec → (more : List Text) → layer.new.texts ≡ layer.old.texts ++ made_texts (salted hiding.entry.salts.now) (length layer.old.texts) (laid_given dec (digest_at hiding.entry.hash (layer.new.texts ++ more)) (marked_of tree) ++ own_given (digest_at hiding.entry.hash (layer.new.texts ++ more)) (option_map (λ n. n.now) name.entry) mark (spec.lay dec (digest_at hiding.entry.hash (layer.new.texts ++ more)) (marked_of tree)))) }
     ensures count { OnOk result (length layer.new.texts ≡ length layer.old.texts + (mark_weight one mark + weight one (marked_of tree))) }
-    ensures digests { OnOk result (layer.new.digests ≡ map digest_by layer.new.texts) }
+    ensures digests { OnOk result (layer.new.digests ≡ map (digest_of hiding.entry.hash) layer.new.texts) }
 {
-    let inside = lay(alloc, tree, decoys, salts, layer)?;
+    let inside = lay(alloc, tree, decoys, hiding, layer)?;
     match mark {
         None => Ok(Part::Shown(inside)),
-        Some(_) => Ok(Part::Hidden(layer.disclose(alloc, salts, name, inside)?)),
+        Some(_) => Ok(Part::Hidden(layer.disclose(alloc, hiding, name, inside)?)),
     }
 }
 
@@ -308,28 +316,29 @@ fn count_decoys(decoys: &DecoyList) -> usize
 }
 
 // The digests of the salts from `first` on.
-fn decoy_digests(alloc: Global, salts: &TextList, first: usize) -> Result<TextList, NoMemory>
-    requires { first ≤ length salts.now }
-    ensures { IfOk result (λ digests. digests ≡ map digest_by (drop first salts.now)) }
+fn decoy_digests(alloc: Global, hiding: Hiding<'_>, first: usize) -> Result<TextList, NoMemory>
+    requires { first ≤ length hiding.salts.now }
+    ensures { IfOk result (λ digests. digests ≡ map (digest_of hiding.entry.hash) (drop first hiding.entry.salts.now)) }
 {
+    let Hiding { salts, hash } = hiding;
     let mut digests = TextList::new(alloc);
     for k in first..salts.len() {
         let Some(salt) = salts.at(k) else {
             unreachable!();
         };
-        digests.push(digest(alloc, HashAlg::Sha256, salt.as_str())?)?;
+        digests.push(digest(alloc, hash, salt.as_str())?)?;
     }
     Ok(digests)
 }
 
 // Names the hash of the digests, section 4.1.1.
-fn with_alg(alloc: Global, payload: Tree) -> Result<Tree, NoMemory>
-    ensures { IfOk result (λ named. tree_of named ≡ spec.with_alg (tree_of payload)) }
+fn with_alg(alloc: Global, hash: HashAlg, payload: Tree) -> Result<Tree, NoMemory>
+    ensures { IfOk result (λ named. tree_of named ≡ spec.with_alg hash (tree_of payload)) }
 {
     match payload {
         Tree::Object(mut members) => {
             let name = TextBox::make(alloc, "_sd_alg")?;
-            members.insert(name, Tree::Text(TextBox::make(alloc, "sha-256")?))?;
+            members.insert(name, Tree::Text(TextBox::make(alloc, hash.name())?))?;
             Ok(Tree::Object(members))
         }
         other => Ok(other),
@@ -358,7 +367,7 @@ pub(crate) fn lay_order(alloc: Global, order: Order, seed: &[u8; 32]) -> Result<
     ensures few { IfOk result (λ laid. length laid.texts ≤ count_max) }
 {
     if hides_nothing(&order) {
-        return lay_shown(alloc, order.payload);
+        return lay_shown(alloc, order.hash, order.payload);
     }
     lay_hidden(alloc, order, seed)
 }
@@ -368,14 +377,14 @@ fn hides_nothing(order: &Order) -> bool
     ensures hide { IsTrue result → order.now.hide ≡ [] }
     ensures decoys { IsTrue result → order.now.decoys ≡ [] }
 {
-    order.hide.paths().is_empty() && order.decoys.items().is_empty()
+    order.hide.elements().is_empty() && order.decoys.items().is_empty()
 }
 
 // A payload of which nothing is hidden.
-fn lay_shown(alloc: Global, payload: Tree) -> Result<Laid, NoMemory>
-    ensures { IfOk result (λ laid. (tree_of laid.payload ≡ spec.with_alg (tree_of payload)) × (laid.texts ≡ []) × (laid.digests ≡ [])) }
+fn lay_shown(alloc: Global, hash: HashAlg, payload: Tree) -> Result<Laid, NoMemory>
+    ensures { IfOk result (λ laid. (tree_of laid.payload ≡ spec.with_alg hash (tree_of payload)) × (laid.texts ≡ []) × (laid.digests ≡ [])) }
 {
-    let payload = with_alg(alloc, payload)?;
+    let payload = with_alg(alloc, hash, payload)?;
     Ok(Laid {
         payload,
         texts: TextList::new(alloc),
@@ -396,12 +405,17 @@ fn lay_hidden(alloc: Global, order: Order, seed: &[u8; 32]) -> Result<Laid, NoMe
         payload,
         hide,
         decoys,
+        hash,
         ..
     } = order;
     let (claims, hidden) = mark_counted(alloc, payload, hide)?;
     let hidden = hidden as usize;
     let salts = salts_of(alloc, seed, hidden + count_decoys(&decoys))?;
-    lay_salted(alloc, claims, &decoys, &salts, hidden)
+    let hiding = Hiding {
+        salts: &salts,
+        hash,
+    };
+    lay_salted(alloc, claims, &decoys, hiding, hidden)
 }
 
 // Marked claims and decoys by salts: the first `hidden` are those of the disclosures.
@@ -409,19 +423,19 @@ fn lay_salted(
     alloc: Global,
     claims: Marked,
     decoys: &DecoyList,
-    salts: &TextList,
+    hiding: Hiding<'_>,
     hidden: usize,
 ) -> Result<Laid, NoMemory>
     requires depth { depth (strip (marked_of claims)) ≤ 125 }
     requires ranged { IsRanged (strip (marked_of claims)) }
     requires closes { ClosesFrom 0 (marked_of claims) }
     requires hidden { weight one (marked_of claims) ≡ hidden }
-    requires salts { length salts.now ≡ hidden + length (decoy_paths decoys.now) }
-    ensures { IfOk result (λ laid. IsLaidWith salts.now hidden (decoy_paths decoys.now) (marked_of claims) (tree_of laid.payload) laid.texts laid.digests) }
+    requires salts { length hiding.salts.now ≡ hidden + length (decoy_paths decoys.now) }
+    ensures { IfOk result (λ laid. IsLaidWith hiding.entry.hash hiding.entry.salts.now hidden (decoy_paths decoys.now) (marked_of claims) (tree_of laid.payload) laid.texts laid.digests) }
 {
-    let of_decoys = decoy_digests(alloc, salts, hidden)?;
+    let of_decoys = decoy_digests(alloc, hiding, hidden)?;
     let sorted = sort_decoys(alloc, decoys, &of_decoys)?;
-    let mut laid = lay_claims(alloc, claims, sorted.all(), salts)?;
+    let mut laid = lay_claims(alloc, claims, sorted.all(), hiding)?;
     push_texts(alloc, &mut laid.digests, &of_decoys)?;
     Ok(laid)
 }
@@ -431,21 +445,21 @@ fn lay_claims(
     alloc: Global,
     claims: Marked,
     decoys: Decoys<'_>,
-    salts: &TextList,
+    hiding: Hiding<'_>,
 ) -> Result<Laid, NoMemory>
     requires depth { decoys.depth + depth (strip (marked_of claims)) ≤ 125 }
     requires ranged { IsRanged (strip (marked_of claims)) }
     requires decoys { ArePlaced decoys }
     requires closes { ClosesFrom 0 (marked_of claims) }
-    requires salts { weight one (marked_of claims) ≤ length salts.now }
-    ensures laid { IfOk result (λ laid. (dec : Steps → List Text) → DecoysTell decoys.entry dec → (more : List Text) → tree_of laid.payload ≡ spec.with_alg (spec.lay dec (digest_at (laid.texts ++ more)) (marked_of claims))) }
-    ensures texts { IfOk result (λ laid. (dec : Steps → List Text) → DecoysTell decoys.entry dec → (more : List Text) → laid.texts ≡ made_texts (salted salts.now) 0 (laid_given dec (digest_at (laid.texts ++ more)) (marked_of claims))) }
+    requires salts { weight one (marked_of claims) ≤ length hiding.salts.now }
+    ensures laid { IfOk result (λ laid. (dec : Steps → List Text) → DecoysTell decoys.entry dec → (more : List Text) → tree_of laid.payload ≡ spec.with_alg hiding.entry.hash (spec.lay dec (digest_at hiding.entry.hash (laid.texts ++ more)) (marked_of claims))) }
+    ensures texts { IfOk result (λ laid. (dec : Steps → List Text) → DecoysTell decoys.entry dec → (more : List Text) → laid.texts ≡ made_texts (salted hiding.entry.salts.now) 0 (laid_given dec (digest_at hiding.entry.hash (laid.texts ++ more)) (marked_of claims))) }
     ensures count { IfOk result (λ laid. length laid.texts ≡ weight one (marked_of claims)) }
-    ensures digests { IfOk result (λ laid. laid.digests ≡ map digest_by laid.texts) }
+    ensures digests { IfOk result (λ laid. laid.digests ≡ map (digest_of hiding.entry.hash) laid.texts) }
 {
     let mut layer = Layer::new(alloc);
-    let payload = lay(alloc, claims, decoys, salts, &mut layer)?;
-    let payload = with_alg(alloc, payload)?;
+    let payload = lay(alloc, claims, decoys, hiding, &mut layer)?;
+    let payload = with_alg(alloc, hiding.hash, payload)?;
     let Layer { texts, digests } = layer;
     Ok(Laid {
         payload,

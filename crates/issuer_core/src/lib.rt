@@ -1,7 +1,7 @@
 //! Issuing an SD-JWT, RFC 9901 section 4.2: places of a payload hidden behind the digests of their disclosures, and decoys.
 //!
 //! In three layers, each over the one before:
-//! - an order, and what speaks against it: `order`, `order_file`, `reserved`, `hidden`, `judging`, `refusal`;
+//! - an order, and what speaks against it: `order`, `order_file`, `reserved`, `judging`, `refusal`;
 //! - what hiding makes of its claims: `salts`, `decoys`, `laying`, `clash`;
 //! - the token that is signed: `issuing`.
 #![tactic(auto)]
@@ -9,7 +9,6 @@
 mod clash;
 mod decoys;
 mod errors;
-mod hidden;
 mod issuing;
 mod judging;
 pub mod laws;

@@ -4,8 +4,9 @@ ghost use Rattle.claim_tree.specs.Tree.{depth};
 ghost use Rattle.claim_tree.specs.View.{tree_of};
 ghost use Rattle.issuer_core.specs.Order.{order_of};
 
-use claim_tree::{Path, PathList, Tree, copy};
-use sd_outside::{NoMemory, TextBox};
+use claim_tree::{Path, PathList, Tree, copy, copy_paths};
+use disclosure::HashAlg;
+use sd_outside::{NoMemory, TextBox, copy_text};
 use std::alloc::Global;
 use std::marker::Model;
 
@@ -106,6 +107,8 @@ pub struct Order {
     pub kid: Option<TextBox>,
     /// The type, for the header (RFC 7515 section 4.1.9).
     pub typ: Option<TextBox>,
+    /// The hash of the digests, which the payload names (RFC 9901 section 4.1.1).
+    pub hash: HashAlg,
 }
 
 impl Order {
@@ -114,36 +117,17 @@ impl Order {
         requires { depth (tree_of self.now.payload) ≤ 127 }
         ensures { IfOk result (λ copy. order_of copy ≡ order_of self.now) }
     {
-        let kid = copy_of(alloc, &self.kid)?;
-        let typ = copy_of(alloc, &self.typ)?;
+        let kid = copy_text(alloc, &self.kid)?;
+        let typ = copy_text(alloc, &self.typ)?;
         let decoys = self.decoys.copy(alloc)?;
-        let hide = copies(alloc, &self.hide)?;
+        let hide = copy_paths(alloc, &self.hide)?;
         Ok(Order {
             payload: copy(alloc, &self.payload)?,
             hide,
             decoys,
             kid,
             typ,
+            hash: self.hash,
         })
-    }
-}
-
-fn copies(alloc: Global, paths: &PathList) -> Result<PathList, NoMemory>
-    ensures { IfOk result (λ copies. copies ≡ paths.now) }
-{
-    let mut copies = PathList::new(alloc);
-    for path in paths.paths() {
-        copies.push(path.copy(alloc)?)?;
-    }
-    Ok(copies)
-}
-
-// The same text, or none.
-pub(crate) fn copy_of(alloc: Global, text: &Option<TextBox>) -> Result<Option<TextBox>, NoMemory>
-    ensures { IfOk result (λ copy. copy ≡ text.now) }
-{
-    match text {
-        Some(text) => Ok(Some(TextBox::make(alloc, text.as_str())?)),
-        None => Ok(None),
     }
 }

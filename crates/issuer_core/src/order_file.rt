@@ -1,16 +1,20 @@
 // The file that says an order.
-ghost use Rattle.std.specs.Prelude.{◌≡◌, ◌≤◌, List, [], OnOk, IfOk, IfErr, IfSome, IfNone};
-ghost use Rattle.sd_outside.specs.Limits.{count_max};
+ghost use Rattle.std.specs.Prelude.{◌≡◌, ◌≤◌, List, [], length, OnOk, IfOk, IfErr, IfSome, IfNone};
+ghost use Rattle.sd_outside.specs.Limits.{count_max, key_min};
 ghost use Rattle.claim_tree.specs.Tree.{IsRanged, IsOrdered, depth as depth_of};
 ghost use Rattle.claim_tree.specs.Lists.{In};
 ghost use Rattle.claim_tree.specs.View.{tree_of};
 ghost use Rattle.claim_tree.specs.ListViews.{elements_of};
 ghost use Rattle.claim_tree.specs.FileForms.{HasValue, Says, SaysOr, MemberMeets, required, optional, found};
 ghost use Rattle.claim_tree.specs.FileRefusals.{IsMemberRefused};
-ghost use Rattle.claim_tree.specs.declared.file_fault.Field.TheVariants.{Payload, Decoys};
+ghost use Rattle.claim_tree.specs.declared.file_fault.Field.{Field};
+ghost use Rattle.claim_tree.specs.declared.file_fault.Field.TheVariants.{Payload, Decoys, SdAlg};
 ghost use Rattle.claim_tree.specs.FileLists.{IsListOf, EachSays};
+ghost use Rattle.disclosure.specs.declared.digests.HashAlg.{HashAlg};
+ghost use Rattle.hmac_sign.specs.Hmac.{alg_key};
+ghost use Rattle.hmac_sign.specs.declared.alg.Alg.{Alg};
 ghost use Rattle.issuer_core.specs.declared.order.Decoy.{Decoy as Seen};
-ghost use Rattle.issuer_core.specs.OrderFile.{IsValue, IsDecoy, IsOrderFile, IsOrderFileRefused};
+ghost use Rattle.issuer_core.specs.OrderFile.{IsValue, IsDecoy, IsHashText, IsAlgText, IsAlgFor, IsOrderFile, IsOrderFileRefused};
 
 use crate::{Decoy, DecoyList, Order};
 use claim_tree::{
@@ -18,27 +22,30 @@ use claim_tree::{
     whole_up_to,
 };
 use compact_form::FILE_MAX;
-use hmac_sign::{Hs256Key, key_member};
+use disclosure::{HashAlg, hash_named};
+use hmac_sign::{Alg, HsKey, KeyShort, alg_named, key_bytes_member};
 use sd_outside::NoMemory;
 use std::alloc::Global;
 
-const FIELDS: [Field; 6] = [
+const FIELDS: [Field; 8] = [
     Field::Payload,
     Field::Hide,
     Field::Decoys,
     Field::Key,
     Field::Kid,
     Field::Typ,
+    Field::Alg,
+    Field::SdAlg,
 ];
 
 // The most decoys of one entry, as many as an order may have.
-const ENTRY_MAX: u32 = 4_096;
+const ENTRY_MAX: u32 = 32_768;
 
 /// What an order file says: the order, and the key that signs.
 #[derive(Drop)]
 pub struct IssueFile {
     pub order: Order,
-    pub key: Hs256Key,
+    pub key: HsKey,
 }
 
 fn need_payload(members: &TreeMap) -> Result<(), FileFault>
@@ -118,11 +125,75 @@ fn decoys_member(alloc: Global, members: &TreeMap) -> Result<DecoyList, FileFaul
     }
 }
 
+// The algorithm whose name the tree is.
+fn alg_of(tree: &Tree) -> Option<Alg>
+    ensures alg { IfSome result (IsAlgText (tree_of tree.now)) }
+    ensures none { IfNone result (HasValue IsAlgText (tree_of tree.now) → ⊥) }
+{
+    match tree {
+        Tree::Text(text) => alg_named(text.as_str()),
+        _ => None,
+    }
+}
+
+fn alg_member(members: &TreeMap) -> Result<Alg, FileFault>
+    ensures ok { IfOk result (SaysOr IsAlgText Alg.Hs256 (found members.now Field.Alg)) }
+    ensures refused { IfErr result (IsMemberRefused (optional Field.Alg IsAlgText) members.now) }
+{
+    let Some(tree) = members.get(Field::Alg.word()) else {
+        return Ok(Alg::Hs256);
+    };
+    match alg_of(tree) {
+        Some(alg) => Ok(alg),
+        None => Err(FileFault::Wrong(Field::Alg)),
+    }
+}
+
+// The key of these bytes, by the algorithm that the file names.
+fn key_by_alg(members: &TreeMap, bytes: &[u8]) -> Result<HsKey, FileFault>
+    requires { key_min ≤ length bytes.now }
+    ensures alg { IfOk result (λ key. SaysOr (IsAlgFor (length bytes.now)) Alg.Hs256 (found members.now Field.Alg) key.alg) }
+    ensures key { IfOk result (λ key. key ≡ alg_key key.alg bytes.now) }
+    ensures refused { IfErr result (IsMemberRefused (optional Field.Alg (IsAlgFor (length bytes.now))) members.now) }
+{
+    let alg = alg_member(members)?;
+    match HsKey::new(alg, bytes) {
+        Ok(key) => Ok(key),
+        Err(KeyShort) => Err(FileFault::Wrong(Field::Alg)),
+    }
+}
+
+// The hash whose name the tree is.
+fn hash_of(tree: &Tree) -> Option<HashAlg>
+    ensures hash { IfSome result (IsHashText (tree_of tree.now)) }
+    ensures none { IfNone result (HasValue IsHashText (tree_of tree.now) → ⊥) }
+{
+    match tree {
+        Tree::Text(text) => hash_named(text.as_str()),
+        _ => None,
+    }
+}
+
+fn hash_member(members: &TreeMap) -> Result<HashAlg, FileFault>
+    ensures ok { IfOk result (SaysOr IsHashText HashAlg.Sha256 (found members.now SdAlg)) }
+    ensures refused { IfErr result (IsMemberRefused (optional SdAlg IsHashText) members.now) }
+{
+    let Some(tree) = members.get(Field::SdAlg.word()) else {
+        return Ok(HashAlg::Sha256);
+    };
+    match hash_of(tree) {
+        Some(hash) => Ok(hash),
+        None => Err(FileFault::Wrong(Field::SdAlg)),
+    }
+}
+
 /// The order that a file says: a JSON object that must have `payload`, any JSON value, and `key`, the base64url text of at
 /// least 32 bytes.
 ///
-/// `hide` is a list of JSON Pointers, and `decoys` a list of objects of just `at`, a pointer, and `count`, from 0 to 4,096; where
-/// they are missing they are empty. `kid` and `typ` are texts. Another member is a fault.
+/// `hide` is a list of JSON Pointers, and `decoys` a list of objects of just `at`, a pointer, and `count`, from 0 to 32,768; where
+/// they are missing they are empty. `kid` and `typ` are texts. `alg` is the name of an algorithm for
+/// which the key is long enough (RFC 7518 section 3.2), and `sd_alg` that of a hash; where they are missing, they are `HS256` and
+/// `sha-256`. Another member is a fault.
 pub fn read_order(alloc: Global, bytes: &[u8]) -> Result<IssueFile, FileFault>
     ensures ok { IfOk result (IsOrderFile bytes.now) }
     ensures ranged { IfOk result (λ said. IsRanged (tree_of said.order.payload)) }
@@ -135,15 +206,18 @@ pub fn read_order(alloc: Global, bytes: &[u8]) -> Result<IssueFile, FileFault>
     need_payload(&members)?;
     let hide = pointer_list_member(alloc, &members, Field::Hide)?;
     let decoys = decoys_member(alloc, &members)?;
-    let key = key_member(alloc, &members, Field::Key)?;
+    let key_bytes = key_bytes_member(alloc, &members, Field::Key)?;
     let kid = text_member(alloc, &members, Field::Kid)?;
     let typ = text_member(alloc, &members, Field::Typ)?;
+    let key = key_by_alg(&members, key_bytes.bytes())?;
+    let hash = hash_member(&members)?;
     let order = Order {
         payload: into_payload(members),
         hide,
         decoys,
         kid,
         typ,
+        hash,
     };
     Ok(IssueFile { order, key })
 }

@@ -3,51 +3,32 @@ ghost use Rattle.std.specs.Prelude.{◌≡◌, IfOk};
 ghost use Rattle.claim_tree.specs.Tree.{leaf, text as text_leaf};
 ghost use Rattle.claim_tree.specs.JsonText.{json_text};
 ghost use Rattle.claim_tree.specs.Path.{pointer_text};
-ghost use Rattle.issuer_core.specs.OrderRefusals.{refusal_number};
-ghost use Rattle.issuer_core.specs.RefusalLine.{refusal_name, refusal_place_text};
-ghost use Rattle.issuer_core.specs.RefusalCalls.{IsRefusalLine};
+ghost use Rattle.issuer_core.specs.OrderRefusals.{refusal_of};
+ghost use Rattle.issuer_core.specs.RefusalLine.{refusal_place_text, issue_refusal_text};
 
 use crate::IssueError;
 use claim_tree::{Path, Tree, print_path, write};
-use compact_form::refused_line;
+use compact_form::{Refusal, refused_line};
 use sd_outside::{NoMemory, TextBox};
 use std::alloc::Global;
 
-fn number(error: &IssueError) -> u8
-    ensures { result ≡ refusal_number error.now }
+// The refusal that the error is, where it is one.
+fn refusal(error: &IssueError) -> Option<Refusal>
+    ensures { result ≡ refusal_of error.now }
 {
     match error {
-        IssueError::Memory | IssueError::SignFailed => 0,
-        IssueError::PayloadNotObject => 51,
-        IssueError::ReservedName(_) => 52,
-        IssueError::TooDeep => 53,
-        IssueError::RootMarked(_) => 54,
-        IssueError::NoSuchPlace(_) => 55,
-        IssueError::ProtectedClaim(_) => 56,
-        IssueError::DecoyPlace(_) => 57,
-        IssueError::TooManyHidden => 58,
-        IssueError::TooManyDecoys => 59,
-        IssueError::DigestClash(_, _) => 60,
-        IssueError::TooLong => 61,
-    }
-}
-
-fn name(error: &IssueError) -> &'static str
-    ensures { result.now ≡ refusal_name error.now }
-{
-    match error {
-        IssueError::Memory | IssueError::SignFailed => "",
-        IssueError::PayloadNotObject => "payloadNotObject",
-        IssueError::ReservedName(_) => "reservedInPayload",
-        IssueError::TooDeep => "payloadTooDeep",
-        IssueError::RootMarked(_) => "rootMarked",
-        IssueError::NoSuchPlace(_) => "noSuchPlace",
-        IssueError::ProtectedClaim(_) => "protectedClaim",
-        IssueError::DecoyPlace(_) => "decoyPlace",
-        IssueError::TooManyHidden => "tooManyHidden",
-        IssueError::TooManyDecoys => "tooManyDecoys",
-        IssueError::DigestClash(_, _) => "digestClash",
-        IssueError::TooLong => "issueTooLong",
+        IssueError::Memory | IssueError::SignFailed => None,
+        IssueError::PayloadNotObject => Some(Refusal::PayloadNotObject),
+        IssueError::ReservedName(_) => Some(Refusal::ReservedInPayload),
+        IssueError::TooDeep => Some(Refusal::PayloadTooDeep),
+        IssueError::RootMarked(_) => Some(Refusal::RootMarked),
+        IssueError::NoSuchPlace(_) => Some(Refusal::NoSuchPlace),
+        IssueError::ProtectedClaim(_) => Some(Refusal::ProtectedClaim),
+        IssueError::DecoyPlace(_) => Some(Refusal::DecoyPlace),
+        IssueError::TooManyHidden => Some(Refusal::TooManyHidden),
+        IssueError::TooManyDecoys => Some(Refusal::TooManyDecoys),
+        IssueError::DigestClash(_, _) => Some(Refusal::DigestClash),
+        IssueError::TooLong => Some(Refusal::IssueTooLong),
     }
 }
 
@@ -74,11 +55,14 @@ fn place(alloc: Global, error: &IssueError) -> Result<Option<TextBox>, NoMemory>
     Ok(Some(TextBox::from_string(words)))
 }
 
-/// The line that tells of a refusal of 51 to 61, without its line end: `refused`, the number, the name of the refusal, and the
-/// place where there is one. What is no refusal has no name.
+/// The line that tells of a refusal of 51 to 61, without its line end: `refused`, its number, its name, and its place where there is
+/// one. What is no refusal has no line.
 pub fn refusal_line(alloc: Global, error: &IssueError) -> Result<TextBox, NoMemory>
-    ensures { IfOk result (IsRefusalLine error.now) }
+    ensures { IfOk result (λ line. line ≡ issue_refusal_text error.now) }
 {
+    let Some(refusal) = refusal(error) else {
+        return TextBox::make(alloc, "");
+    };
     let place = place(alloc, error)?;
-    refused_line(alloc, number(error), name(error), place.as_ref())
+    refused_line(alloc, refusal, place.as_ref())
 }

@@ -1,5 +1,5 @@
 // The first member of a payload whose name SD-JWT reserves.
-ghost use Rattle.std.specs.Prelude.{◌≡◌, ◌≤◌, [], ◌∷◌, ◌++◌, map, reverse, Some, None, IfOk, IfNone, option_map, slice_get, bytes_eq, decimal};
+ghost use Rattle.std.specs.Prelude.{◌≡◌, ◌≤◌, [], ◌∷◌, ◌++◌, map, reverse, Some, None, IfOk, IfNone, option_map, slice_get, bytes_eq};
 ghost use Rattle.claim_tree.specs.Tree.{array, object, depth, elements_depth, members_depth, member_named};
 ghost use Rattle.claim_tree.specs.View.{tree_of};
 ghost use Rattle.digest_sites.specs.Reserved.{sd_name};
@@ -9,9 +9,8 @@ ghost use Rattle.issuer_core.specs.GoodOrder.{FitsMachine};
 ghost use Rattle.issuer_core.specs.ReservedPaths as spec;
 ghost use Rattle.issuer_core.specs.ReservedPaths.{own_reserved_path, reserved_paths, reserved_elements};
 
-use claim_tree::{Path, Tree, TreeList, TreeMap};
+use claim_tree::{Path, Tree, TreeList, TreeMap, digits};
 use digest_sites::{is_dots, is_sd};
-use itoa::Buffer;
 use sd_outside::{NoMemory, TextBox};
 use std::alloc::Global;
 
@@ -41,22 +40,9 @@ pub(crate) fn first_reserved(alloc: Global, tree: &Tree) -> Result<Option<Path>,
     ensures held { IfOk result (λ path. IfNone path (FitsMachine (tree_of tree.now))) }
 {
     match find(alloc, tree)? {
-        Some(steps) => Ok(Some(path_back(alloc, steps)?)),
+        Some(steps) => Ok(Some(Path::from_last(steps))),
         None => Ok(None),
     }
-}
-
-// The path of steps that are given from the last to the first.
-fn path_back(alloc: Global, steps: Vec<TextBox>) -> Result<Path, NoMemory>
-    ensures { IfOk result (λ path. path ≡ reverse steps.items) }
-{
-    let mut steps = steps;
-    steps.reverse();
-    let mut path = Path::new(alloc);
-    for step in steps {
-        path.push(step)?;
-    }
-    Ok(path)
 }
 
 // The steps to the first member with a reserved name, from the last to the first.
@@ -142,12 +128,4 @@ fn one_step(alloc: Global, step: &str) -> Result<Vec<TextBox>, NoMemory>
     let mut steps = Vec::new(alloc);
     steps.push(TextBox::make(alloc, step)?)?;
     Ok(steps)
-}
-
-// The decimal digits of a position.
-fn digits(alloc: Global, i: usize) -> Result<TextBox, NoMemory>
-    ensures { IfOk result (λ text. text ≡ decimal i) }
-{
-    let mut digits = Buffer::new();
-    TextBox::make(alloc, digits.format(i))
 }

@@ -19,6 +19,7 @@ use Rattle.compact_form.specs.Faults.{unplaced}
 use Rattle.sd_outside.specs.Limits.{compact_max, count_max}
 use Rattle.compact_form.specs.Compact.{jwt, spelled, hashed, ending, compact, HasWords, AreWords}
 use Rattle.compact_form.specs.PartWords.{part_word}
+use Rattle.compact_form.specs.declared.fault.Part.{Part}
 use Rattle.compact_form.specs.declared.fault.Part.TheVariants.{Payload, Protected, Signature, Signatures, Header, Disclosures, KbJwt}
 use Rattle.compact_form.specs.declared.parts.JwtParts.{JwtParts}
 use Rattle.compact_form.specs.declared.parts.Parts.{Parts}
@@ -155,33 +156,15 @@ within_object ms n a = within_byte 123 (members_after false ms) n (IsUtf8-are_as
 
 -- ---- the names of the members
 
-bare_header : IsBare (part_word Header)
+bare_part : (part : Part) → IsBare (part_word part)
 unfolding is_letter letters
-bare_header = bare_word (part_word Header) (record { some = omega arith; letters = refl })
-
-bare_payload : IsBare (part_word Payload)
-unfolding is_letter letters
-bare_payload = bare_word (part_word Payload) (record { some = omega arith; letters = refl })
-
-bare_protected : IsBare (part_word Protected)
-unfolding is_letter letters
-bare_protected = bare_word (part_word Protected) (record { some = omega arith; letters = refl })
-
-bare_signature : IsBare (part_word Signature)
-unfolding is_letter letters
-bare_signature = bare_word (part_word Signature) (record { some = omega arith; letters = refl })
-
-bare_signatures : IsBare (part_word Signatures)
-unfolding is_letter letters
-bare_signatures = bare_word (part_word Signatures) (record { some = omega arith; letters = refl })
-
-bare_disclosures : IsBare (part_word Disclosures)
-unfolding is_letter letters
-bare_disclosures = bare_word (part_word Disclosures) (record { some = omega arith; letters = refl })
-
-bare_binding : IsBare (part_word KbJwt)
-unfolding is_letter letters
-bare_binding = bare_word (part_word KbJwt) (record { some = omega arith; letters = refl })
+bare_part Payload = bare_word (part_word Payload) (record { some = omega arith; letters = refl })
+bare_part Protected = bare_word (part_word Protected) (record { some = omega arith; letters = refl })
+bare_part Signature = bare_word (part_word Signature) (record { some = omega arith; letters = refl })
+bare_part Signatures = bare_word (part_word Signatures) (record { some = omega arith; letters = refl })
+bare_part Header = bare_word (part_word Header) (record { some = omega arith; letters = refl })
+bare_part Disclosures = bare_word (part_word Disclosures) (record { some = omega arith; letters = refl })
+bare_part KbJwt = bare_word (part_word KbJwt) (record { some = omega arith; letters = refl })
 
 -- ---- the header
 
@@ -195,7 +178,7 @@ header_is (Some j) list = refl
 within_binding : (b : Option JwtParts) → IfSome b HasWords → IsWithin (members_after true (with_binding b no_members)) (length (ending b) + 13)
 within_binding None words = record { utf8 = within_none.utf8; short = omega arith }
 within_binding (Some j) words =
-    let all = within_word true (part_word KbJwt) (jwt j) no_members 1 bare_binding (bare_jwt j words) within_none in
+    let all = within_word true (part_word KbJwt) (jwt j) no_members 1 (bare_part KbJwt) (bare_jwt j words) within_none in
     record { utf8 = all.utf8; short = omega (arith, all.short) }
 
 abbrev header_limit : Parts → ℕ
@@ -207,7 +190,7 @@ within_header parts words =
     let es = text_elements ds in
     let more = with_binding parts.binding no_members in
     let list = within_byte 91 (items_text false (elements_data es)) (length (spelled ds) + 2 * length ds + 1) (IsUtf8-are_ascii (91 ∷ []) refl) (within_items false ds words.disclosures) in
-    let all = within_member false (part_word Disclosures) (array es) more _ _ bare_disclosures list (within_binding parts.binding words.binding) in
+    let all = within_member false (part_word Disclosures) (array es) more _ _ (bare_part Disclosures) list (within_binding parts.binding words.binding) in
     let whole = within_object (member (part_word Disclosures) (array es) more) _ all in
     subst (λ (ms : Members). IsWithin (json_text (object ms)) (header_limit parts)) (sym (header_is parts.binding (array es))) (record { utf8 = whole.utf8; short = omega (arith, whole.short) })
 
@@ -239,15 +222,15 @@ protected_members parts = member (part_word Protected) (leaf (text parts.signed.
 within_protected : (parts : Parts) → AreWords parts → IsWithin (members_after true (protected_members parts)) (length parts.signed.protected + length parts.signed.signature + 31)
 within_protected parts words =
     let j = parts.signed in
-    let signature = within_word true (part_word Signature) j.signature no_members 1 bare_signature (bare_word j.signature words.signed.signature) within_none in
-    let all = within_word true (part_word Protected) j.protected (signature_members parts) _ bare_protected (bare_word j.protected words.signed.protected) signature in
+    let signature = within_word true (part_word Signature) j.signature no_members 1 (bare_part Signature) (bare_word j.signature words.signed.signature) within_none in
+    let all = within_word true (part_word Protected) j.protected (signature_members parts) _ (bare_part Protected) (bare_word j.protected words.signed.protected) signature in
     record { utf8 = all.utf8; short = omega (arith, all.short) }
 
 within_flat : (parts : Parts) → AreWords parts → IsWithin (json_text (flat_of (alone parts))) (limit parts)
 within_flat parts words =
     let j = parts.signed in
-    let payload = within_word true (part_word Payload) j.payload (protected_members parts) _ bare_payload (bare_word j.payload words.signed.payload) (within_protected parts words) in
-    let all = within_member false (part_word Header) (object (written_header (alone parts))) (member (part_word Payload) (leaf (text j.payload)) (protected_members parts)) _ _ bare_header (within_header parts words) payload in
+    let payload = within_word true (part_word Payload) j.payload (protected_members parts) _ (bare_part Payload) (bare_word j.payload words.signed.payload) (within_protected parts words) in
+    let all = within_member false (part_word Header) (object (written_header (alone parts))) (member (part_word Payload) (leaf (text j.payload)) (protected_members parts)) _ _ (bare_part Header) (within_header parts words) payload in
     let whole = within_object (flat_members (alone parts)) _ all in
     record { utf8 = whole.utf8; short = omega (arith, whole.short, compact_length parts) }
 
@@ -256,11 +239,11 @@ within_general parts words =
     let j = parts.signed in
     let entry = object (entry_of (alone parts)) in
     let list = array (element entry no_elements) in
-    let all = within_member false (part_word Header) (object (written_header (alone parts))) (protected_members parts) _ _ bare_header (within_header parts words) (within_protected parts words) in
+    let all = within_member false (part_word Header) (object (written_header (alone parts))) (protected_members parts) _ _ (bare_part Header) (within_header parts words) (within_protected parts words) in
     let end : IsWithin (93 ∷ []) 1 = record { utf8 = IsUtf8-are_ascii (93 ∷ []) refl; short = omega arith } in
     let entries = within_byte 91 (json_text entry ++ 93 ∷ []) _ (IsUtf8-are_ascii (91 ∷ []) refl) (within_both (json_text entry) (93 ∷ []) _ 1 (within_object (entry_of (alone parts)) _ all) end) in
-    let signatures = within_member true (part_word Signatures) list no_members _ 1 bare_signatures entries within_none in
-    let whole = within_object (general_members (alone parts)) _ (within_word false (part_word Payload) j.payload (member (part_word Signatures) list no_members) _ bare_payload (bare_word j.payload words.signed.payload) signatures) in
+    let signatures = within_member true (part_word Signatures) list no_members _ 1 (bare_part Signatures) entries within_none in
+    let whole = within_object (general_members (alone parts)) _ (within_word false (part_word Payload) j.payload (member (part_word Signatures) list no_members) _ (bare_part Payload) (bare_word j.payload words.signed.payload) signatures) in
     record { utf8 = whole.utf8; short = omega (arith, whole.short, compact_length parts) }
 
 -- ---- they are read

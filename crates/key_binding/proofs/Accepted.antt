@@ -2,6 +2,7 @@
 use Rattle.std.proofs.Common.{◌≡◌, inl, inr, ℕ, pos, ◌+◌, ◌<◌, ◌≤◌, List, Some, refl, sym, subst, arith}
 use Rattle.std.proofs.Math.Facts.{ltb_yes}
 use Rattle.b64url_text.specs.Base64url.{AreBytes}
+use Rattle.claim_tree.specs.Lists.{In}
 use Rattle.claim_tree.specs.Tree.{object}
 use Rattle.compact_form.specs.Lowest.{NoneFails}
 use Rattle.hmac_sign.specs.Hmac.{IsGood, IsGoodText, hs256_key}
@@ -24,10 +25,10 @@ fresh_enough iat max_age skew now h stale = let late : iat + max_age + skew < no
 made_already : (iat skew now : ℕ) → iat ≤ now + skew → IsEarly (pos iat) skew now → ⊥
 made_already iat skew now h early = let before : now + skew < iat = ltb_yes early.lt in omega (arith, h, before)
 
-pub accepted : (key : List ℕ) (iat : ℕ) (j : Judged) → IsBinding (IsGood (hs256_key key)) j.hash j.hashed j.policy.aud j.policy.nonce iat j.token → IsReadBack j.hash j.hashed j.policy.aud j.policy.nonce iat j.token
+pub accepted : (key aud : List ℕ) (iat : ℕ) (j : Judged) → IsBinding (IsGood (hs256_key key)) j.hash j.hashed aud j.policy.nonce iat j.token → IsReadBack j.hash j.hashed aud j.policy.nonce iat j.token → In aud j.policy.aud
     → holder_key j.policy.keys j.payload ≡ Some key → j.now ≤ iat + j.policy.max_age + j.skew → iat ≤ j.now + j.skew → NoneFails (BindingFails j)
-accepted key iat j is back key_is fresh made =
-    let claims = claims_for j.hash j.hashed j.policy.aud j.policy.nonce iat in
+accepted key aud iat j is back among key_is fresh made =
+    let claims = claims_for j.hash j.hashed aud j.policy.nonce iat in
     let body = object (claim_members claims) in
     let has : HasClaims j.token claims = record { body = body; is_body = back.body; says = record { aud = refl; iat = refl; nonce = refl; sd_hash = refl } } in
     let bytes : AreBytes is.signature = subst AreBytes (sym is.signed) (AreBytes-mac (hs256_key key) j.token.protected j.token.payload) in
@@ -36,5 +37,5 @@ accepted key iat j is back key_is fresh made =
     let at_payload = at32 j (at31 j at_header key key_is good) binding_header back.header refl in
     let at_times = at34 j (at33 j at_payload claims has) claims has (fresh_enough iat j.policy.max_age j.skew j.now fresh) in
     let at_nonce = at35 j at_times claims has (made_already iat j.skew j.now made) in
-    let at_hash = at37 j (at36 j at_nonce claims has refl) claims has refl in
+    let at_hash = at37 j (at36 j at_nonce claims has refl) claims has among in
     finish j (at38 j at_hash claims has refl) body back.body (no_times claims j.skew j.now)

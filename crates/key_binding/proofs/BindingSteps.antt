@@ -17,6 +17,7 @@ use Rattle.jws_part.specs.Part.{IsBody, IsNoObject}
 use Rattle.jws_part.proofs.Headers as headers
 use Rattle.jws_part.proofs.Parts as bodies
 use Rattle.key_binding.specs.Binding.{Claims}
+use Rattle.claim_tree.specs.Lists.{In}
 use Rattle.key_binding.specs.Judged.{Judged, holder_key, HasBindingHeader, HasClaims, PayloadSays}
 use Rattle.key_binding.specs.BindingConditions.{BindingFails, OfClaims, IsStale, IsEarly, IsTimeRefused}
 
@@ -180,8 +181,8 @@ module _ (j : Judged) where
   pub at36 : Passes 35 (BindingFails j) → (claims : Claims) → HasClaims j.token claims → claims.nonce ≡ j.policy.nonce → Passes 36 (BindingFails j)
   at36 passes claims has same = holds_too (BindingFails j) Condition.NonceDiffers passes (no_claims (λ x. x.nonce ≢ j.policy.nonce) claims has (λ differs. differs same))
 
-  pub at37 : Passes 36 (BindingFails j) → (claims : Claims) → HasClaims j.token claims → claims.aud ≡ j.policy.aud → Passes 37 (BindingFails j)
-  at37 passes claims has same = holds_too (BindingFails j) Condition.AudienceDiffers passes (no_claims (λ x. x.aud ≢ j.policy.aud) claims has (λ differs. differs same))
+  pub at37 : Passes 36 (BindingFails j) → (claims : Claims) → HasClaims j.token claims → In claims.aud j.policy.aud → Passes 37 (BindingFails j)
+  at37 passes claims has same = holds_too (BindingFails j) Condition.AudienceDiffers passes (no_claims (λ x. In x.aud j.policy.aud → ⊥) claims has (λ differs. differs same))
 
   pub at38 : Passes 37 (BindingFails j) → (claims : Claims) → HasClaims j.token claims → claims.sd_hash ≡ digest_of j.hash j.hashed → Passes 38 (BindingFails j)
   at38 passes claims has same = holds_too (BindingFails j) Condition.HashDiffers passes (no_claims (λ x. x.sd_hash ≢ digest_of j.hash j.hashed) claims has (λ differs. differs same))

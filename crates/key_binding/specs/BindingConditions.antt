@@ -1,5 +1,6 @@
 -- What fails each condition on a key binding token, RFC 9901 section 7.3.
 use Rattle.std.specs.Prelude.{◌≡◌, ◌≢◌, ℕ, ◌⊎◌, ℤ, pos, ◌+ℤ◌, ◌<ℤ◌, List, Some, None, codes}
+use Rattle.claim_tree.specs.Lists.{In}
 use Rattle.claim_tree.specs.Tree.{Tree, no_members}
 use Rattle.compact_form.specs.declared.condition.Condition.{Condition}
 use Rattle.compact_form.specs.Lowest.{Unplaced}
@@ -48,7 +49,7 @@ BindingFails j Condition.BindingPayload place = Unplaced ((claims : Claims) → 
 BindingFails j Condition.BindingStale place = Unplaced (OfClaims j (λ claims. IsStale claims.iat j.policy.max_age j.skew j.now)) place
 BindingFails j Condition.BindingEarly place = Unplaced (OfClaims j (λ claims. IsEarly claims.iat j.skew j.now)) place
 BindingFails j Condition.NonceDiffers place = Unplaced (OfClaims j (λ claims. claims.nonce ≢ j.policy.nonce)) place
-BindingFails j Condition.AudienceDiffers place = Unplaced (OfClaims j (λ claims. claims.aud ≢ j.policy.aud)) place
+BindingFails j Condition.AudienceDiffers place = Unplaced (OfClaims j (λ claims. In claims.aud j.policy.aud → ⊥)) place
 BindingFails j Condition.HashDiffers place = Unplaced (OfClaims j (λ claims. claims.sd_hash ≢ digest_of j.hash j.hashed)) place
 BindingFails j Condition.BindingTime place = Unplaced ((body : Tree) × IsBody j.token.payload body × IsTimeRefused body j.skew j.now) place
 BindingFails j _ place = ⊥

@@ -16,7 +16,7 @@ ghost use Rattle.key_binding.specs.Read.{claims_of};
 
 use crate::holder::holder_key;
 use crate::reading::{Claims, read_claims};
-use crate::{BindingError, BindingPolicy, BoundError};
+use crate::{BindingError, BindingPolicy, BoundError, is_among};
 use claim_tree::{Tree, TreeMap};
 use compact_form::{Condition, JwtParts, JwtView};
 use disclosure::{HashAlg, digest};
@@ -225,7 +225,7 @@ fn check_claims(bound: Bound<'_>, claims: Claims<'_>) -> Result<(), Condition>
     if claims.nonce != bound.policy.nonce.as_str() {
         return Err(Condition::NonceDiffers);
     }
-    if claims.aud != bound.policy.aud.as_str() {
+    if !is_among(&bound.policy.aud, claims.aud) {
         return Err(Condition::AudienceDiffers);
     }
     Ok(())

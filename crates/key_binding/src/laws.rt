@@ -1,5 +1,6 @@
 //! What the definitions of both ends say together. Each law holds for every value.
 ghost use Rattle.std.specs.Prelude.{◌≡◌, ◌<◌, ◌≤◌, ◌^◌, ◌+◌, ℕ, List, Some, length};
+ghost use Rattle.claim_tree.specs.Lists.{In};
 ghost use Rattle.compact_form.specs.Compact.{jwt};
 ghost use Rattle.compact_form.specs.declared.condition.Condition.{Condition};
 ghost use Rattle.compact_form.specs.Condition.{number_of};
@@ -13,12 +14,13 @@ ghost use Rattle.key_binding.specs.BindingConditions.{BindingFails};
 ghost use Rattle.key_binding.specs.Judged.{Judged, holder_key};
 ghost use Rattle.sd_outside.specs.Limits.{binding_text_max};
 
-/// What is bound is accepted: by the holder's key, for this audience and nonce, and over this text, as long as it is fresh. It is
+/// What is bound is accepted: by the holder's key, for one of these audiences and this nonce, and over this text, as long as it is fresh. It is
 /// so at the very second of each limit.
 pub fn bound_is_accepted()
-    ensures { (key : List ℕ) (iat : ℕ) (j : Judged)
-        → IsBinding (IsGood (hs256_key key)) j.hash j.hashed j.policy.aud j.policy.nonce iat j.token
-        → IsReadBack j.hash j.hashed j.policy.aud j.policy.nonce iat j.token
+    ensures { (key aud : List ℕ) (iat : ℕ) (j : Judged)
+        → IsBinding (IsGood (hs256_key key)) j.hash j.hashed aud j.policy.nonce iat j.token
+        → IsReadBack j.hash j.hashed aud j.policy.nonce iat j.token
+        → In aud j.policy.aud
         → holder_key j.policy.keys j.payload ≡ Some key
         → j.now ≤ iat + j.policy.max_age + j.skew
         → iat ≤ j.now + j.skew

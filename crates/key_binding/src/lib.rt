@@ -4,6 +4,7 @@
 //! the conditions 27 to 38 of a verifier. The holder's key is found by the `kid` of the claim `cnf` (RFC 7800 section 3.4).
 #![tactic(auto)]
 
+mod among;
 mod errors;
 mod holder;
 mod judging;
@@ -13,6 +14,7 @@ mod reading;
 mod short_text;
 mod writing;
 
+pub use among::is_among;
 pub use errors::{BindError, BindingError, BoundError};
 pub use holder::holder_kid;
 pub use judging::{Bound, check_binding, check_bound};

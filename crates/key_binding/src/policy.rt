@@ -1,11 +1,11 @@
 use hmac_sign::KeySet;
-use sd_outside::TextBox;
+use sd_outside::{TextBox, TextList};
 
 /// What a verifier wants of a key binding token.
 #[derive(Drop)]
 pub struct BindingPolicy {
-    /// The audience that it is to be for: the verifier itself.
-    pub aud: TextBox,
+    /// The audiences of which it is to be for one: the names by which the verifier goes.
+    pub aud: TextList,
     /// The nonce that the verifier gave.
     pub nonce: TextBox,
     /// The keys of the holders.

@@ -3,7 +3,7 @@ use compact_form::JwtParts;
 use disclosure::HashAlg;
 use hmac_sign::{FailSigner, Hs256Key, KeySet};
 use key_binding::{BindError, BindingError, BindingPolicy, bind, check_binding, holder_kid};
-use sd_outside::TextBox;
+use sd_outside::{TextBox, TextList};
 use std::alloc::Global;
 use std::test::Fail;
 
@@ -22,8 +22,10 @@ fn key() -> Result<Hs256Key, Fail> {
 
 fn policy(alloc: Global) -> Result<BindingPolicy, Fail> {
     let keys = read(alloc, KEYS.as_bytes()).map_err(|_| "no JSON")?;
+    let mut aud = TextList::new(alloc);
+    aud.push(TextBox::make(alloc, "https://v")?)?;
     Ok(BindingPolicy {
-        aud: TextBox::make(alloc, "https://v")?,
+        aud,
         nonce: TextBox::make(alloc, "n\"1")?,
         keys: KeySet::read(alloc, &keys).map_err(|_| "no key set")?,
         max_age: 300,

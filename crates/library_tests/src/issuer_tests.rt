@@ -3,6 +3,7 @@ ghost use Rattle.claim_tree.specs.Tree.{depth, IsRanged};
 ghost use Rattle.claim_tree.specs.View.{tree_of};
 
 use claim_tree::{Path, PathList, Tree, read, read_pointer};
+use disclosure::HashAlg;
 use hmac_sign::{FailSigner, Hs256Key};
 use issuer_core::{Decoy, DecoyList, IssueError, Order, first_clash, issue, judge};
 use sd_outside::{TextBox, TextList};
@@ -73,6 +74,7 @@ fn order(alloc: Global, count: u32) -> Result<Order, Fail>
         decoys,
         kid: None,
         typ: None,
+        hash: HashAlg::Sha256,
     })
 }
 

@@ -13,7 +13,7 @@ ghost use Rattle.library_tests.specs.Shown.{shown_of};
 use claim_tree::{Tree, TreeList, TreeMap};
 use digest_sites::{Given, GivenList, element_digest, is_sd, own_digests};
 use marked_tree::{Marked, MarkedList, MarkedMap};
-use sd_outside::{NoMemory, TextBox};
+use sd_outside::{NoMemory, TextBox, copy_text};
 use std::alloc::Global;
 
 // The first disclosure with the digest, with its number.
@@ -30,15 +30,6 @@ fn find<'a>(given: &'a GivenList, digest: &TextBox) -> Option<(usize, &'a Given)
 
 // What a digest shows: the number of a disclosure, its name, and its value opened.
 type Revealed = (u32, Option<TextBox>, Marked);
-
-fn copy_name(alloc: Global, item: &Given) -> Result<Option<TextBox>, NoMemory>
-    ensures { IfOk result (λ name. name ≡ item.now.name) }
-{
-    match &item.name {
-        Some(name) => Ok(Some(TextBox::make(alloc, name.as_str())?)),
-        None => Ok(None),
-    }
-}
 
 // At the end of an array.
 #[tactic(auto, using(rebuild_core::proofs::ShownDepths::joined_push))]
@@ -85,7 +76,7 @@ fn reveal(
         return Ok(None);
     };
     let tree = plain_opening(alloc, fuel - 1, given, &item.value)?;
-    Ok(Some((number as u32, copy_name(alloc, item)?, tree)))
+    Ok(Some((number as u32, copy_text(alloc, &item.name)?, tree)))
 }
 
 #[cycle(plain)]

@@ -9,7 +9,7 @@ ghost use Rattle.marked_tree.specs.Rests.{rests, step_order, path_order, AreSort
 ghost use Rattle.marked_tree.specs.View.{marked_of};
 
 use crate::{Marked, MarkedList, MarkedMap};
-use claim_tree::{Path, PathList, Tree, TreeList, TreeMap, copy};
+use claim_tree::{Path, PathList, Tree, TreeList, TreeMap, copy, copy_paths};
 use itoa::Buffer;
 use sd_outside::NoMemory;
 use std::alloc::Global;
@@ -25,7 +25,7 @@ pub fn mark(alloc: Global, tree: &Tree, paths: &PathList) -> Result<Marked, NoMe
     ensures strips { IfOk result (λ marked. strip (marked_of marked) ≡ tree_of tree.now) }
     ensures count { IfOk result (λ _. hidden_count (tree_of tree.now) paths.now ≤ distinct_count same_path paths.now) }
 {
-    let paths = copies(alloc, paths)?;
+    let paths = copy_paths(alloc, paths)?;
     let tree = copy(alloc, tree)?;
     let (marked, _) = mark_counted(alloc, tree, paths)?;
     Ok(marked)
@@ -46,14 +46,12 @@ pub fn mark_counted(alloc: Global, tree: Tree, paths: PathList) -> Result<(Marke
     Ok((marked, next))
 }
 
-fn copies(alloc: Global, paths: &PathList) -> Result<PathList, NoMemory>
-    ensures { IfOk result (λ copies. copies ≡ paths.now) }
+/// How many different paths these are: copies of them are sorted.
+pub fn count_different(alloc: Global, paths: &PathList) -> Result<usize, NoMemory>
+    ensures { IfOk result (λ count. count ≡ distinct_count same_path paths.now) }
 {
-    let mut copies = PathList::new(alloc);
-    for path in paths.paths() {
-        copies.push(path.copy(alloc)?)?;
-    }
-    Ok(copies)
+    let paths = copy_paths(alloc, paths)?;
+    Ok(sorted_paths(paths)?.len())
 }
 
 // The paths in their order, each once.
@@ -62,7 +60,7 @@ fn sorted_paths(paths: PathList) -> Result<Vec<Path>, NoMemory>
     ensures sorted { IfOk result (λ sorted. AreSorted sorted.items) }
     ensures count { IfOk result (λ sorted. length sorted.items ≡ distinct_count same_path paths) }
 {
-    let mut sorted = paths.into_paths();
+    let mut sorted = paths.into_elements();
     sorted.sort_by(|one, other| ordered(one, other))?;
     sorted.dedup_by(|one, other| is_same(one, other));
     Ok(sorted)

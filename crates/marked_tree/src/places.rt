@@ -1,13 +1,12 @@
 // Where marks stand.
-ghost use Rattle.std.specs.Prelude.{◌≡◌, ◌≤◌, ℕ, List, [], ◌∷◌, ◌++◌, map, reverse, IfOk, IfSome, option_map, decimal};
+ghost use Rattle.std.specs.Prelude.{◌≡◌, ◌≤◌, ℕ, List, [], ◌∷◌, ◌++◌, map, reverse, IfOk, IfSome, option_map};
 ghost use Rattle.claim_tree.specs.Tree.{depth, elements_depth, members_depth};
 ghost use Rattle.marked_tree.specs.Marked.{strip, strip_elements, strip_members};
 ghost use Rattle.marked_tree.specs.Paths.{mark_path, own_spot, inside, spots, elements_spots, members_spots, first_with};
 ghost use Rattle.marked_tree.specs.View.{marked_of};
 
 use crate::{Marked, MarkedList, MarkedMap};
-use claim_tree::Path;
-use itoa::Buffer;
+use claim_tree::{Path, digits};
 use sd_outside::{NoMemory, TextBox};
 use std::alloc::Global;
 
@@ -18,22 +17,9 @@ pub fn place_of(alloc: Global, tree: &Marked, mark: u32) -> Result<Option<Path>,
     ensures { IfOk result (λ path. path ≡ mark_path (marked_of tree.now) mark) }
 {
     match find(alloc, tree, mark)? {
-        Some(steps) => Ok(Some(path_back(alloc, steps)?)),
+        Some(steps) => Ok(Some(Path::from_last(steps))),
         None => Ok(None),
     }
-}
-
-// The path of steps that are given from the last to the first.
-fn path_back(alloc: Global, steps: Vec<TextBox>) -> Result<Path, NoMemory>
-    ensures { IfOk result (λ path. path ≡ reverse steps.items) }
-{
-    let mut steps = steps;
-    steps.reverse();
-    let mut path = Path::new(alloc);
-    for step in steps {
-        path.push(step)?;
-    }
-    Ok(path)
 }
 
 // The steps to the first node with the mark, from the last to the first.
@@ -97,12 +83,4 @@ fn find_at(
         return Ok(Some(Vec::new(alloc)));
     }
     find(alloc, tree, mark)
-}
-
-/// The decimal digits of a position: the step to it.
-pub fn digits(alloc: Global, i: usize) -> Result<TextBox, NoMemory>
-    ensures { IfOk result (λ text. text ≡ decimal i) }
-{
-    let mut digits = Buffer::new();
-    TextBox::make(alloc, digits.format(i))
 }

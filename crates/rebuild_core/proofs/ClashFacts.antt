@@ -3,11 +3,11 @@ use Rattle.std.proofs.Common.{◌≡◌, ℕ, ◌+◌, ◌<◌, ◌≤◌, List,
 use Rattle.std.specs.Prelude.{bytes_eq}
 use Rattle.claim_tree.specs.Tree.{Text}
 use Rattle.claim_tree.specs.Lists.{StandsAt, In, AtNone, IsLeast}
+use Rattle.claim_tree.proofs.Counting.{before_or_at}
 use Rattle.claim_tree.proofs.Lists.{At-same, At-below, bytes_same, bytes_refl, and_split, and_join}
 use Rattle.digest_sites.specs.Given.{Given}
 use Rattle.rebuild_core.specs.Rows.{SeenRow}
 use Rattle.rebuild_core.specs.RowNames.{given_name, Names, Clashes}
-use Rattle.rebuild_core.proofs.LeastIll.{split}
 
 -- what has the names that are disclosed at the first q places, where none of them clashes
 pub record IsNoted (rows : List SeenRow) (numbers : List ℕ) (g : List Given) (q : ℕ) (has : ℕ → Text → Bool) : Type 0 where
@@ -40,8 +40,8 @@ pub noted_step : (rows : List SeenRow) (numbers : List ℕ) (g : List Given) (q 
     → (In k m.beside → ⊥) → has m.object k ≡ false → ((o : ℕ) (n : Text) → more o n ≡ (if eqb m.object o && bytes_eq k n then true else has o n)) → IsNoted rows numbers g (q + 1) more
 noted_step rows numbers g q has more s m k n b c e = record {
   from = λ o l h. taken o l (eqb m.object o && bytes_eq k l) refl (sym (e o l) ∙ h);
-  whole = λ j i l lt d. ⊎_elim (λ z. e i.object l ∙ kept (eqb m.object i.object && bytes_eq k l) (has i.object l) (s.whole j i l z d)) (λ z. here j i l z d) (split j q lt);
-  none = λ r lt d. ⊎_elim (λ o. s.none r o d) (λ o. fresh (subst (λ z. Clashes rows numbers g z) o d)) (split r q lt);
+  whole = λ j i l lt d. ⊎_elim (λ z. e i.object l ∙ kept (eqb m.object i.object && bytes_eq k l) (has i.object l) (s.whole j i l z d)) (λ z. here j i l z d) (before_or_at j q lt);
+  none = λ r lt d. ⊎_elim (λ o. s.none r o d) (λ o. fresh (subst (λ z. Clashes rows numbers g z) o d)) (before_or_at r q lt);
 }
   where
     kept : (t h : Bool) → h ≡ true → (if t then true else h) ≡ true
@@ -72,8 +72,8 @@ pub noted_skip : (rows : List SeenRow) (numbers : List ℕ) (g : List Given) (q 
     → StandsAt rows q row → StandsAt numbers q i → None ≡ given_name row.kind g i → IsNoted rows numbers g (q + 1) has
 noted_skip rows numbers g q i row has s a b h = record {
   from = λ o l m. let w = s.from o l m in (w.0, omega (arith, w.1), w.2, w.3, w.4);
-  whole = λ j m l lt d. ⊎_elim (λ o. s.whole j m l o d) (λ o. absurd (nothing m l (subst (λ z. Names rows numbers g z m l) o d))) (split j q lt);
-  none = λ r lt d. ⊎_elim (λ o. s.none r o d) (λ o. let w : Clashes rows numbers g q = subst (λ z. Clashes rows numbers g z) o d in nothing w.0 w.1 w.2) (split r q lt);
+  whole = λ j m l lt d. ⊎_elim (λ o. s.whole j m l o d) (λ o. absurd (nothing m l (subst (λ z. Names rows numbers g z m l) o d))) (before_or_at j q lt);
+  none = λ r lt d. ⊎_elim (λ o. s.none r o d) (λ o. let w : Clashes rows numbers g q = subst (λ z. Clashes rows numbers g z) o d in nothing w.0 w.1 w.2) (before_or_at r q lt);
 }
   where
     nothing : (m : SeenRow) (l : Text) → Names rows numbers g q m l → ⊥

@@ -9,25 +9,26 @@ use Rattle.digest_sites.specs.Given.{Given}
 use Rattle.marked_tree.specs.Choice.{IsClosed}
 use Rattle.marked_tree.specs.Marked.{Marked, strip, prune, remark}
 use Rattle.marked_tree.specs.Numbers.{has}
-use Rattle.marked_tree.specs.Ways.{ways, way_of}
+use Rattle.marked_tree.specs.Ways.{ways}
 use Rattle.rebuild_core.specs.Free.{HasNoReserved}
 use Rattle.rebuild_core.specs.Laws.{StandsIn, LeadsUp, Enumerates, IsPick, position_from}
-use Rattle.rebuild_core.specs.Opening.{shown, shown_by, reveal, open_tree, opened, processed}
-use Rattle.rebuild_core.specs.Reached.{find, stands, is_in_round, payload, value_of, OwnedSite, owned_site, value_sites, all_sites, all_digests, given_digests}
+use Rattle.rebuild_core.specs.Opening.{shown, reveal, opened, processed}
+use Rattle.rebuild_core.specs.Reached.{stands, is_in_round, payload, value_of, OwnedSite, owned_site, value_sites, all_sites, all_digests, given_digests}
 use Rattle.rebuild_core.specs.Readable.{IsReadable}
 use Rattle.rebuild_core.specs.Soundness.{IsSound}
-use Rattle.claim_tree.proofs.Lists.{or_split, and_split, In-left, In-right, In-map, In-of_map, In-At, At-In, At-same, At-map, At-below, list_any-In}
+use Rattle.claim_tree.proofs.Lists.{or_split, and_split, In-left, In-right, In-map, In-At, At-In, At-same, At-map, At-below, list_any-In}
 use Rattle.marked_tree.proofs.NumberSets.{has-In, In-has}
 use Rattle.marked_tree.proofs.Remarks.{strip-renumbered}
 use Rattle.rebuild_core.proofs.Chains.{item_of_value, in_payload, in_value, same_item, leads_up, reached_all}
 use Rattle.rebuild_core.proofs.Fits.{Pairwise}
-use Rattle.rebuild_core.proofs.Fixed.{fixed, processed_settles}
-use Rattle.rebuild_core.proofs.Found.{stands-In, found}
-use Rattle.rebuild_core.proofs.Marks.{Way, shown_ways}
+use Rattle.rebuild_core.proofs.Fixed.{processed_settles}
+use Rattle.rebuild_core.proofs.Found.{stands-In}
+use Rattle.rebuild_core.proofs.Marks.{Way}
 use Rattle.rebuild_core.proofs.Named.{Pairwise-from}
 use Rattle.rebuild_core.proofs.Pick.{pick_at, pick_from, met_item, value_injective, payload_not_value, place_at}
 use Rattle.rebuild_core.proofs.Presented.{presentation_holds}
 use Rattle.rebuild_core.proofs.Ranked.{same_marks}
+use Rattle.rebuild_core.proofs.ShownBy.{way_step, shown_from}
 use Rattle.rebuild_core.proofs.ShownAt.{ShownFree, Shows, shown_back}
 
 -- these disclosures are some of the others, in any order; the set of their numbers is closed in the marked tree, and they show
@@ -154,64 +155,26 @@ module _ (p : Tree) (g : List Given) (readable : IsReadable p g) (sound : IsSoun
     abbrev AllIn : List ℕ → Type 0
     AllIn is = (j : ℕ) → In j is → In j h
 
-    -- what a digest shows is a disclosure and its value
-    record IsShownBy (d : Text) (v : Way) : Type 0 where
-      k : ℕ
-      x : Given
-      there : StandsAt g k x
-      digest : x.digest ≡ d
-      way : In v (way_of (Some k) (ways (opened (length g) g x.value)))
-      free_inside : HasNoReserved (strip (opened (length g) g x.value))
-
-    shown_from : (d : Text) (v : Way) → In v (shown_ways (reveal (length g) g d)) → ShownFree (reveal (length g) g d) → IsShownBy d v
-    shown_from d v m none = go (length g) refl m
-      where
-        go : (n : ℕ) → length g ≡ n → In v (shown_ways (reveal n g d)) → IsShownBy d v
-        go zero e q = elim q [ ]
-        go (suc n) e q = from (find g d) refl q
-          where
-            from : (o : Option (ℕ × Given)) → find g d ≡ o → In v (shown_ways (shown_by (open_tree (reveal n g)) o)) → IsShownBy d v
-            from None f c = elim c [ ]
-            from (Some (k, x)) f c =
-                let w = found 0 g d k x f in
-                let same : reveal (length g) g d ≡ shown w.0 x.name (opened (length g) g x.value) = ap (reveal (length g) g) (sym w.2) ∙ fixed p g sound.referenced w.0 x w.1 in
-                record {
-                  k = w.0;
-                  x = x;
-                  there = w.1;
-                  digest = w.2;
-                  way = subst (λ z. In v (shown_ways z)) same m;
-                  free_inside = free_value w.0 x.name (opened (length g) g x.value) (subst ShownFree same none);
-                }
-
-    -- one step of a way: the disclosure below, or the way goes on inside it
-    way_step : (k i : ℕ) (above : List ℕ) (ws : List Way) → In (i, above) (way_of (Some k) ws) → ((i ≡ k) × (above ≡ [])) ⊎ ((rest : List ℕ) × (above ≡ k ∷ rest) × In (i, rest) ws)
-    way_step k i above ws (inl e) = inl (ap (λ (z : Way). z.0) e, ap (λ (z : Way). z.1) e)
-    way_step k i above ws (inr m) =
-        let w = In-of_map (λ (z : Way). (z.0, k ∷ z.1)) (i, above) ws m in
-        let a : i ≡ w.0.0 = ap (λ (z : Way). z.0) w.2 in
-        inr (w.0.1, ap (λ (z : Way). z.1) w.2, subst (λ c. In (c, w.0.1) ws) (sym a) w.1)
-
     site_in : (t : Tree) (s : Site) → Shows (reveal (length g) g) (sites t) s → In s (sites t)
     site_in t s shows = subst (λ (ss : List Site). In s ss) (sym shows.is) (In-right s shows.before (s ∷ shows.after) (inl refl))
 
     above_value : (above : List ℕ) (i j : ℕ) (y : Given) → StandsAt g j y → HasNoReserved (strip (opened (length g) g y.value)) → In (i, above) (ways (opened (length g) g y.value)) → In i h → AllIn above × In j h
     above_value [] i j y a none m n =
         let l = shown_back (reveal (length g) g) y.value (i, []) (readable.in_values y (At-In g j y a)) none m in
-        let b = shown_from l.0.digest (i, []) l.2 l.1.free in
+        let b = shown_from p g sound.referenced ShownFree l.0.digest (i, []) l.2 l.1.free in
         ⊎_elim
         (λ e. ((λ c o. absurd o), owner_there i j (subst (λ z. StandsIn p g z (value_of j)) (sym e.0) (b.x, b.there, l.0, in_value p g sound.referenced j y l.0 a (site_in y.value l.0 l.1), sym b.digest)) n))
         (λ r. let bad : ◌≡◌ {A = List ℕ} [] (b.k ∷ r.0) = r.1 in cc)
         (way_step b.k i [] (ways (opened (length g) g b.x.value)) b.way)
     above_value (c ∷ above) i j y a none m n =
         let l = shown_back (reveal (length g) g) y.value (i, c ∷ above) (readable.in_values y (At-In g j y a)) none m in
-        let b = shown_from l.0.digest (i, c ∷ above) l.2 l.1.free in
+        let b = shown_from p g sound.referenced ShownFree l.0.digest (i, c ∷ above) l.2 l.1.free in
         ⊎_elim
         (λ e. let bad : c ∷ above ≡ [] = e.1 in cc)
         (λ r.
         let same : above ≡ r.0 = let q : c ∷ above ≡ b.k ∷ r.0 = r.1 in cc in
         let first : c ≡ b.k = let q : c ∷ above ≡ b.k ∷ r.0 = r.1 in cc in
-        let up = above_value above i b.k b.x b.there b.free_inside (subst (λ z. In (i, z) (ways (opened (length g) g b.x.value))) (sym same) r.2) n in (
+        let up = above_value above i b.k b.x b.there (free_value b.k b.x.name (opened (length g) g b.x.value) b.fine) (subst (λ z. In (i, z) (ways (opened (length g) g b.x.value))) (sym same) r.2) n in (
           (λ k o. ⊎_elim (λ e. subst (λ z. In z h) (sym (e ∙ first)) up.1) (λ z. up.0 k z) o),
           owner_there b.k j (b.x, b.there, l.0, in_value p g sound.referenced j y l.0 a (site_in y.value l.0 l.1), sym b.digest) up.1,
         ))
@@ -223,11 +186,11 @@ module _ (p : Tree) (g : List Given) (readable : IsReadable p g) (sound : IsSoun
     above_all : (v : Way) → In v (ways (opened (length g) g p)) → In v.0 h → AllIn v.1
     above_all v m n =
         let l = shown_back (reveal (length g) g) p v readable.in_payload (subst (λ z. HasNoReserved (strip z)) settles free) m in
-        let b = shown_from l.0.digest v l.2 l.1.free in
+        let b = shown_from p g sound.referenced ShownFree l.0.digest v l.2 l.1.free in
         ⊎_elim
         (λ e k o. absurd (subst (λ z. In k z) e.1 o))
         (λ r.
-        let up = above_value r.0 v.0 b.k b.x b.there b.free_inside r.2 n in
+        let up = above_value r.0 v.0 b.k b.x b.there (free_value b.k b.x.name (opened (length g) g b.x.value) b.fine) r.2 n in
         λ k o. ⊎_elim (λ e. subst (λ z. In z h) (sym e) up.1) (λ z. up.0 k z) (subst (λ z. In k z) r.1 o))
         (way_step b.k v.0 v.1 (ways (opened (length g) g b.x.value)) b.way)
 

@@ -1,6 +1,7 @@
 -- The least disclosure that is ill placed, found in one pass.
 use Rattle.std.proofs.Common.{◌≡◌, ℕ, zero, suc, ◌+◌, ◌<◌, ◌≤◌, List, [], ◌∷◌, length, get_or, ◌⊎◌, ⊎_elim, subst, arith}
 use Rattle.claim_tree.specs.Lists.{StandsAt, AtNone, IsLeast}
+use Rattle.claim_tree.proofs.Counting.{before_or_at}
 use Rattle.claim_tree.proofs.Lists.{At-same, At-below}
 use Rattle.digest_sites.specs.Given.{Given}
 use Rattle.rebuild_core.specs.Rows.{SeenRow}
@@ -25,15 +26,12 @@ low_start IsIll rows numbers g least e = record {
   none = λ r i m x l. absurd (omega arith);
 }
 
-pub split : (x y : ℕ) → x < y + 1 → (x < y) ⊎ (x ≡ y)
-split x y l = grind arith
-
 pub low_take : (IsIll : SeenRow → Given → Type 0) (rows : List SeenRow) (numbers : List ℕ) (g : List Given) (q k least : ℕ) (m : SeenRow) (x : Given)
     → IsLow IsIll rows numbers g q least → StandsAt numbers q k → StandsAt rows q m → StandsAt g k x → k < least → IsIll m x → IsLow IsIll rows numbers g (q + 1) k
 low_take IsIll rows numbers g q k least m x s a b c l h = record {
   within = omega (arith, l, s.within);
   holds = λ _. (q, a, m, b, x, c, h);
-  none = λ r i n y lt d e f z. ⊎_elim (λ o. omega (arith, s.none r i n y o d e f z, l)) (λ o. let w : i ≡ k = At-same numbers q i k (subst (λ v. StandsAt numbers v i) o d) a in omega (arith, w)) (split r q lt);
+  none = λ r i n y lt d e f z. ⊎_elim (λ o. omega (arith, s.none r i n y o d e f z, l)) (λ o. let w : i ≡ k = At-same numbers q i k (subst (λ v. StandsAt numbers v i) o d) a in omega (arith, w)) (before_or_at r q lt);
 }
 
 pub low_pass : (IsIll : SeenRow → Given → Type 0) (rows : List SeenRow) (numbers : List ℕ) (g : List Given) (q k least : ℕ) (m : SeenRow)
@@ -41,7 +39,7 @@ pub low_pass : (IsIll : SeenRow → Given → Type 0) (rows : List SeenRow) (num
 low_pass IsIll rows numbers g q k least m s a b h = record {
   within = s.within;
   holds = s.holds;
-  none = λ r i n y lt d e f z. ⊎_elim (λ o. s.none r i n y o d e f z) (λ o. here i n y (subst (λ v. StandsAt numbers v i) o d) (subst (λ v. StandsAt rows v n) o e) f z) (split r q lt);
+  none = λ r i n y lt d e f z. ⊎_elim (λ o. s.none r i n y o d e f z) (λ o. here i n y (subst (λ v. StandsAt numbers v i) o d) (subst (λ v. StandsAt rows v n) o e) f z) (before_or_at r q lt);
 }
   where
     order : (i j : ℕ) → (i < j → ⊥) → j ≤ i

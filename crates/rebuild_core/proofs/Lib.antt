@@ -46,6 +46,7 @@ pub mod ShownAt
 pub mod AllShown
 pub mod Ranked
 pub mod ChosenShown
+pub mod ShownBy
 pub mod Forgery
 mod Examples
 mod Premises

@@ -1,6 +1,7 @@
 -- The met list by numbers.
 use Rattle.std.proofs.Common.{◌≡◌, ℕ, zero, suc, ◌+◌, ◌<◌, ◌≤◌, List, [], ◌∷◌, ◌++◌, length, get_or, set, drop, Bool, true, false, cond, ◌⊎◌, ⊎_elim, refl, sym, ap, ap₂, ◌∙◌, subst, arith, length-set, append_assoc}
 use Rattle.claim_tree.specs.Lists.{StandsAt, IsLeast}
+use Rattle.claim_tree.proofs.Counting.{before_or_at}
 use Rattle.claim_tree.proofs.Lists.{At-same, At-below}
 use Rattle.rebuild_core.specs.Graph.{flagged_rows, Recurs}
 use Rattle.rebuild_core.proofs.Worklist.{set_from, set_keeps, set_here, same_default, not_both, in_range}
@@ -40,13 +41,10 @@ pub seen_step : (xs : List ℕ) (n q k : ℕ) (seen : List Bool) → IsSeen xs n
 seen_step xs n q k seen s a e = record {
   len = length-set seen k true ∙ s.len;
   from = λ i h. ⊎_elim (λ l. let w = s.from i l in (w.0, omega (arith, w.1), w.2)) (λ r. (q, omega arith, subst (λ z. StandsAt xs q z) (sym r) a)) (set_from seen k i h);
-  whole = λ j i l b. ⊎_elim (λ m. set_keeps seen k i (s.whole j i m b)) (λ m. let same : i ≡ k = At-same xs q i k (subst (λ z. StandsAt xs z i) m b) a in rw same (set_here seen k (in_range seen k e))) (split j q l);
-  none = λ r l b. ⊎_elim (λ m. s.none r m b) (λ m. fresh (subst (λ z. Recurs xs z) m b)) (split r q l);
+  whole = λ j i l b. ⊎_elim (λ m. set_keeps seen k i (s.whole j i m b)) (λ m. let same : i ≡ k = At-same xs q i k (subst (λ z. StandsAt xs z i) m b) a in rw same (set_here seen k (in_range seen k e))) (before_or_at j q l);
+  none = λ r l b. ⊎_elim (λ m. s.none r m b) (λ m. fresh (subst (λ z. Recurs xs z) m b)) (before_or_at r q l);
 }
   where
-    split : (x y : ℕ) → x < y + 1 → (x < y) ⊎ (x ≡ y)
-    split x y l = grind arith
-
     fresh : Recurs xs q → ⊥
     fresh r =
         let same : r.0 ≡ k = At-same xs q r.0 k r.1 a in

@@ -1,6 +1,7 @@
 -- The worklist reaches what the rounds reach.
 use Rattle.std.proofs.Common.{◌≡◌, ℕ, zero, suc, ◌+◌, ◌-◌, ◌<◌, ◌≤◌, List, [], ◌∷◌, ◌++◌, length, get_or, set, replicate, Bool, true, false, cond, ◌&&◌, eqb, ◌⊎◌, inl, inr, ⊎_elim, refl, sym, ap, ◌∙◌, subst, arith, length-set}
 use Rattle.claim_tree.specs.Lists.{StandsAt, In}
+use Rattle.claim_tree.proofs.Counting.{before_or_at}
 use Rattle.claim_tree.proofs.Lists.{At-below, At-same, or_left, or_right, or_split, and_split, and_join}
 use Rattle.rebuild_core.specs.Graph.{has_number, any_row, is_in, Marks, mark_one, mark_all, trues, IsClear}
 
@@ -280,11 +281,8 @@ fits_step n roots rows h j row s f a b =
     }
   where
     done : (i j' k : ℕ) (row' : List ℕ) → i < suc h → StandsAt (mark_all row s).1 i j' → StandsAt rows j' row' → In k row' → k < n → get_or (mark_all row s).0 k false ≡ true
-    done i j' k row' l a' b' m lt = pick (split i h l)
+    done i j' k row' l a' b' m lt = pick (before_or_at i h (omega (arith, l)))
       where
-        split : (x y : ℕ) → x < suc y → (x < y) ⊎ (x ≡ y)
-        split x y l = grind arith
-
         pick : (i < h) ⊎ (i ≡ h) → get_or (mark_all row s).0 k false ≡ true
         pick (inl less) =
             let q = (spread row s).before i j' a' (omega (arith, less, At-below s.1 h j a)) in

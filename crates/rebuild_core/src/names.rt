@@ -16,10 +16,11 @@ use crate::errors::ProcessError;
 use crate::readable::is_readable;
 use crate::rows::Row;
 use claim_tree::{Tree, TreeMap};
+use digest_index::Seeded;
 use digest_sites::{Given, GivenList, SiteKind, is_dots, is_sd};
 use sd_outside::{NoMemory, TextBox};
 use std::alloc::Global;
-use std::collections::BTreeSet;
+use std::collections::HashSet;
 
 // The disclosure with a number.
 fn given_at(given: &GivenList, number: usize) -> &Given
@@ -102,7 +103,7 @@ pub(crate) fn first_reserved(
 }
 
 // A name that is disclosed, and the number of its object.
-#[derive(Debug, PartialEq, Eq, PartialOrd, Ord, Drop)]
+#[derive(Debug, PartialEq, Eq, Hash, Drop)]
 struct Disclosed<'a> {
     object: usize,
     name: &'a str,
@@ -137,7 +138,7 @@ fn name_given<'a>(row: &Row<'_>, given: &'a GivenList, number: usize) -> Option<
 
 // Notes a name, and answers whether it is new in its object.
 fn note<'a>(
-    disclosed: &mut BTreeSet<Disclosed<'a>>,
+    disclosed: &mut HashSet<Disclosed<'a>, Seeded>,
     object: usize,
     name: &'a TextBox,
 ) -> Result<bool, NoMemory>
@@ -154,11 +155,12 @@ pub(crate) fn first_clash(
     rows: &[Row<'_>],
     numbers: &[usize],
     given: &GivenList,
+    seed: u64,
 ) -> Result<Option<usize>, NoMemory>
     requires { length numbers.now ≡ length rows.now }
     ensures { IfOk result (λ r. MatchOption r (AtNone (Clashes (map seen rows.now) numbers.now given.now)) (λ place. IsLeast (Clashes (map seen rows.now) numbers.now given.now) place)) }
 {
-    let mut disclosed = BTreeSet::new(alloc);
+    let mut disclosed = HashSet::with_hasher(alloc, Seeded::new(seed));
     for (place, row) in rows.iter().enumerate() {
         if let Some(name) = name_given(row, given, numbers[place]) {
             if is_beside(row, name) || !note(&mut disclosed, row.object, name)? {
@@ -176,6 +178,7 @@ pub(crate) fn check_names(
     given: &GivenList,
     rows: &[Row<'_>],
     numbers: &[usize],
+    seed: u64,
 ) -> Result<(), ProcessError>
     requires object { IsPayload (tree_of payload.now) }
     requires rows { map seen rows.now ≡ all_rows (tree_of payload.now) given.now }
@@ -190,7 +193,7 @@ pub(crate) fn check_names(
     if let Some(i) = first_reserved(rows, numbers, given) {
         return Err(ProcessError::ReservedName(i));
     }
-    if let Some(place) = first_clash(alloc, rows, numbers, given)? {
+    if let Some(place) = first_clash(alloc, rows, numbers, given, seed)? {
         return Err(ProcessError::NameClash(place));
     }
     Ok(())

@@ -20,9 +20,9 @@ pub(crate) fn steps_fit(steps: &Steps)
 }
 
 // Numbers the digests of the disclosures. The answer is the first that repeats an earlier one.
-pub(crate) fn number_given(
-    given: &GivenList,
-    index: &mut DigestIndex,
+pub(crate) fn number_given<'a>(
+    given: &'a GivenList,
+    index: &mut DigestIndex<'a>,
     steps: &mut Steps,
 ) -> Result<Option<usize>, NoMemory>
     requires { index.old ≡ [] }
@@ -42,10 +42,10 @@ pub(crate) fn number_given(
 }
 
 // Numbers the digests of rows in turn.
-pub(crate) fn number_rows(
+pub(crate) fn number_rows<'a>(
     alloc: Global,
-    rows: &[Row<'_>],
-    index: &mut DigestIndex,
+    rows: &[Row<'a>],
+    index: &mut DigestIndex<'a>,
     steps: &mut Steps,
 ) -> Result<Vec<usize>, NoMemory>
     ensures numbers { IfOk result (λ r. r.items ≡ numbers index.old (row_texts rows.now)) }

@@ -17,11 +17,11 @@ ghost use Rattle.rebuild_core.specs.Whole.{IsOpenable, OpensWhole, ElementsWhole
 use crate::ProcessError;
 use crate::graph::Graph;
 use crate::names::is_alg;
-use crate::shown::{Revealed, copy_name, push_element, push_member};
+use crate::shown::{Revealed, push_element, push_member};
 use claim_tree::{Tree, TreeList, TreeMap};
 use digest_sites::{Given, GivenList, element_digest, is_sd, own_digests};
 use marked_tree::{Marked, MarkedList, MarkedMap};
-use sd_outside::TextBox;
+use sd_outside::{TextBox, copy_text};
 use std::alloc::Global;
 
 // Whether a member is none of those that only say where disclosures stand.
@@ -73,7 +73,7 @@ fn open_next(
     let tree = open(alloc, limit, given, graph, &mut inside, &item.value)?;
     Ok(Some(Revealed {
         mark: number as u32,
-        name: copy_name(alloc, item)?,
+        name: copy_text(alloc, &item.name)?,
         tree,
     }))
 }

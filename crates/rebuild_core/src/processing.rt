@@ -86,7 +86,7 @@ pub fn process_seeded(
     };
     let rows = found.rows.as_slice();
     let numbers = found.graph.numbers.as_slice();
-    if let Err(e) = check_names(alloc, payload, given, rows, numbers) {
+    if let Err(e) = check_names(alloc, payload, given, rows, numbers, seed) {
         return Err(e);
     }
     open_payload(alloc, payload, given, &found.graph)

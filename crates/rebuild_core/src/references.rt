@@ -65,16 +65,16 @@ fn first_misused(payload: &Tree, given: &GivenList) -> Option<usize>
 struct Numbered<'a> {
     rows: Vec<Row<'a>>,
     graph: Graph,
-    index: DigestIndex,
+    index: DigestIndex<'a>,
 }
 
 // The digests of the disclosures by number, where none is given twice.
-fn index_given(
+fn index_given<'a>(
     alloc: Global,
-    given: &GivenList,
+    given: &'a GivenList,
     seed: u64,
     steps: &mut Steps,
-) -> Result<DigestIndex, ProcessError>
+) -> Result<DigestIndex<'a>, ProcessError>
     ensures repeated { IfOk result (λ _. AtNone (RepeatedDisclosure given.now)) }
     ensures index { IfOk result (λ index. index ≡ given_digests given.now) }
     ensures refused { IfErr result (IsGivenRefusal given.now) }
@@ -93,13 +93,13 @@ fn index_given(
 fn number_list<'a>(
     alloc: Global,
     list: RowList<'a>,
-    index: DigestIndex,
+    index: DigestIndex<'a>,
     steps: &mut Steps,
 ) -> Result<Numbered<'a>, NoMemory>
     ensures rows { IfOk result (λ found. found.rows.items ≡ list.entry.rows.items) }
     ensures ends { IfOk result (λ found. found.graph.ends.items ≡ list.entry.ends.items) }
-    ensures numbers { IfOk result (λ found. found.graph.numbers.items ≡ numbers index (row_texts list.entry.rows.items)) }
-    ensures index { IfOk result (λ found. found.index ≡ all_interned index (row_texts list.entry.rows.items)) }
+    ensures numbers { IfOk result (λ found. found.graph.numbers.items ≡ numbers index.entry (row_texts list.entry.rows.items)) }
+    ensures index { IfOk result (λ found. found.index ≡ all_interned index.entry (row_texts list.entry.rows.items)) }
     ensures counted { IfOk result (λ _. steps.new ≡ counted steps.old (length list.entry.rows.items)) }
     ensures risen { RoseWithin (length list.entry.rows.items) steps.old steps.new }
 {

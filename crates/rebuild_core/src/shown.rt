@@ -1,11 +1,10 @@
 // What a digest shows, and where it is put.
-ghost use Rattle.std.specs.Prelude.{◌≡◌, IfOk, OnOk};
+ghost use Rattle.std.specs.Prelude.{◌≡◌, OnOk};
 ghost use Rattle.marked_tree.specs.Marked.{MarkedElements, MarkedMembers};
 ghost use Rattle.marked_tree.specs.View.{marked_of, marked_members_of};
 ghost use Rattle.rebuild_core.specs.Opening.{show_element, show_member};
 ghost use Rattle.rebuild_core.specs.Whole.{shown_of, joined, members_joined, shown_member};
 
-use digest_sites::Given;
 use marked_tree::{Marked, MarkedList};
 use sd_outside::{NoMemory, TextBox};
 use std::alloc::Global;
@@ -17,15 +16,6 @@ pub(crate) struct Revealed {
     pub mark: u32,
     pub name: Option<TextBox>,
     pub tree: Marked,
-}
-
-pub(crate) fn copy_name(alloc: Global, item: &Given) -> Result<Option<TextBox>, NoMemory>
-    ensures { IfOk result (λ name. name ≡ item.now.name) }
-{
-    match &item.name {
-        Some(name) => Ok(Some(TextBox::make(alloc, name.as_str())?)),
-        None => Ok(None),
-    }
 }
 
 // At the end of an array.

@@ -3,19 +3,19 @@ use Rattle.std.specs.Prelude.{ℕ}
 
 -- the most bytes of a file
 abbrev pub file_max : ℕ
-file_max = 2097152
+file_max = 16777216
 
 -- the most bytes of a compact text
 abbrev pub compact_max : ℕ
-compact_max = 1048576
+compact_max = 8388608
 
 -- the most bytes of a compact text that is issued: what is left holds a key binding token
 abbrev pub issue_max : ℕ
-issue_max = 1040384
+issue_max = 8380416
 
 -- the most disclosures of a token, and the most hidden places and decoys of an order, in all and in one entry
 abbrev pub count_max : ℕ
-count_max = 4096
+count_max = 32768
 
 -- the deepest a payload nests
 abbrev pub depth_max : ℕ
@@ -32,6 +32,10 @@ age_max = 4294967295
 -- the most bytes of an audience or a nonce
 abbrev pub binding_text_max : ℕ
 binding_text_max = 256
+
+-- the most audiences of a policy
+abbrev pub audiences_max : ℕ
+audiences_max = 16
 
 -- the fewest bytes of a key
 abbrev pub key_min : ℕ

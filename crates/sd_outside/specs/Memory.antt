@@ -1,4 +1,4 @@
--- Not needed to believe the program's promises: what contracts see of the cabinet and the sink in memory.
+-- Not needed to believe the program's promises: what contracts see of the cabinet, the sink and the source in memory.
 use Rattle.std.specs.Prelude.{◌≡◌, ◌==◌, ◌<◌, ◌+◌, ◌-◌, ◌^◌, ◌++◌, min, ℕ, length, take, slice_index_or, IsTrue, List, [], ◌∷◌, Option, None, Some, bytes_eq, if◌then◌else◌}
 use Rattle.std.specs.List.{list_any}
 
@@ -44,6 +44,14 @@ pub record CabinetState : Type 0 where
 pub record SinkState : Type 0 where
   pub bytes : List ℕ
   pub room : ℕ
+  pub faults : ℕ
+  pub calls : Calls
+
+-- what is left, how many bytes were given, the most that one pull gives, its faults, and its calls
+pub record SourceState : Type 0 where
+  pub left : List ℕ
+  pub taken : ℕ
+  pub step : ℕ
   pub faults : ℕ
   pub calls : Calls
 

@@ -1,6 +1,6 @@
 use crate::{
-    ByteBox, Cabinet, Failed, FetchError, HostCabinet, HostSink, MemCabinet, MemSink, Sink,
-    TextBox, TextList,
+    ByteBox, Cabinet, Failed, FetchError, HostCabinet, HostSink, HostSource, MemCabinet, MemSink,
+    MemSource, Sink, Source, TextBox, TextList,
 };
 use std::alloc::Global;
 use std::fs;
@@ -84,6 +84,21 @@ fn a_call_that_is_to_fail_fails_alone(rt: HostRuntime) -> Result<(), Fail> {
     Ok(())
 }
 
+#[test]
+fn a_source_in_memory_gives_pieces_and_fails_where_it_is_to(rt: HostRuntime) -> Result<(), Fail> {
+    let alloc = rt.alloc();
+    let mut source = MemSource::new(alloc, b"abcdefg", 3)?;
+    source.fail_at(1)?;
+    source.fail_at(4)?;
+    let mut room = [0u8; 4];
+    for answer in [Ok(3), Err(Failed), Ok(3), Ok(1), Err(Failed), Ok(0)] {
+        assert_eq!(rt; source.pull(&mut room), answer);
+    }
+    assert_eq!(rt; room[0], b'g');
+    assert_eq!(rt; source.failures(), 2);
+    Ok(())
+}
+
 // Bytes of which neighbouring blocks differ.
 fn long_content(alloc: Global) -> Result<Vec<u8>, Fail> {
     let mut content = Vec::new(alloc);
@@ -110,6 +125,21 @@ fn files_of_the_host_are_read_in_part_and_in_whole(rt: HostRuntime) -> Result<()
             "{name}"
         );
     }
+    Ok(())
+}
+
+#[test]
+fn streams_of_the_host_give_what_they_have(rt: HostRuntime) -> Result<(), Fail> {
+    fs::write(&rt, "given", b"abc".as_slice())?;
+    let mut source = HostSource::new(File::open(&rt, "given")?);
+    let mut room = [0u8; 2];
+    assert_eq!(rt; source.pull(&mut room), Ok(2));
+    assert_eq!(rt; room, [b'a', b'b']);
+    assert_eq!(rt; source.pull(&mut room), Ok(1));
+    assert_eq!(rt; room[0], b'c');
+    assert_eq!(rt; source.pull(&mut room), Ok(0));
+    let mut closed = HostSource::new(File::create(&rt, "written")?);
+    assert_eq!(rt; closed.pull(&mut room), Err(Failed));
     Ok(())
 }
 

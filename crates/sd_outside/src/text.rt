@@ -52,6 +52,16 @@ impl TextBox {
     }
 }
 
+/// A copy of a text, where there is one.
+pub fn copy_text(alloc: Global, text: &Option<TextBox>) -> Result<Option<TextBox>, NoMemory>
+    ensures { IfOk result (λ copy. copy ≡ text.now) }
+{
+    match text {
+        Some(text) => Ok(Some(TextBox::make(alloc, text.as_str())?)),
+        None => Ok(None),
+    }
+}
+
 impl PartialEq for TextBox {
     ghost use Rattle.std.specs.Prelude.{nat_eq};
     ghost use Rattle.std.specs.Cmp.{partial_equiv_from_equiv};

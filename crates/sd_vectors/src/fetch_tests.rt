@@ -101,24 +101,24 @@ fn left_by(alloc: Global, words: &str) -> Result<String, Fail> {
 #[test]
 fn each_file_is_fetched_once_and_the_answer_is_one_piece(rt: HostRuntime) -> Result<(), Fail> {
     for (words, wanted) in [
-        ("split token", "0 1 0 token 2097153"),
-        ("show token", "0 1 0 token 2097153"),
-        ("verify policy token", "0 1 0 policy 2097153 token 2097153"),
-        ("issue order seed", "0 1 0 order 2097153 seed 32"),
-        ("present policy token", "0 1 0 policy 2097153 token 2097153"),
-        ("convert flat token", "0 1 0 token 2097153"),
+        ("split token", "0 1 0 token 16777217"),
+        ("show token", "0 1 0 token 16777217"),
+        ("verify policy token", "0 1 0 policy 16777217 token 16777217"),
+        ("issue order seed", "0 1 0 order 16777217 seed 32"),
+        ("present policy token", "0 1 0 policy 16777217 token 16777217"),
+        ("convert flat token", "0 1 0 token 16777217"),
         // a file that is refused is asked for no second time, and the next one is asked for all the same
-        ("split bad", "1 0 1 bad 2097153"),
-        ("show bad", "1 0 1 bad 2097153"),
-        ("verify bad token", "6 0 1 bad 2097153 token 2097153"),
-        ("issue bad seed", "6 0 1 bad 2097153 seed 32"),
-        ("present bad token", "6 0 1 bad 2097153 token 2097153"),
-        ("convert flat bad", "1 0 1 bad 2097153"),
+        ("split bad", "1 0 1 bad 16777217"),
+        ("show bad", "1 0 1 bad 16777217"),
+        ("verify bad token", "6 0 1 bad 16777217 token 16777217"),
+        ("issue bad seed", "6 0 1 bad 16777217 seed 32"),
+        ("present bad token", "6 0 1 bad 16777217 token 16777217"),
+        ("convert flat bad", "1 0 1 bad 16777217"),
         // behind one that is missing none is asked for
-        ("verify absent token", "3 0 1 absent 2097153"),
-        ("issue order absent", "3 0 1 order 2097153 absent 32"),
-        ("present absent absent", "3 0 1 absent 2097153"),
-        ("convert flat absent", "3 0 1 absent 2097153"),
+        ("verify absent token", "3 0 1 absent 16777217"),
+        ("issue order absent", "3 0 1 order 16777217 absent 32"),
+        ("present absent absent", "3 0 1 absent 16777217"),
+        ("convert flat absent", "3 0 1 absent 16777217"),
         ("verify token", "2 0 1"),
     ] {
         assert_eq!(rt; left_by(rt.alloc(), words)?.as_str(), wanted, "{words}");

@@ -8,7 +8,6 @@ use Rattle.claim_tree.proofs.Lists.{In-At}
 use Rattle.compact_form.specs.declared.parts.Parts.{Parts}
 use Rattle.digest_sites.specs.Given.{Given}
 use Rattle.disclosure.specs.Digest.{payload_hash}
-use Rattle.disclosure.specs.declared.digests.HashAlg.{HashAlg}
 use Rattle.hmac_sign.specs.Hmac.{IsGood, IsGoodText}
 use Rattle.hmac_sign.proofs.Macs.{AreBytes-mac}
 use Rattle.jws_part.specs.Header.{IsHeader}
@@ -37,14 +36,14 @@ pub record CarriesFor (o : Order) (key : List ℕ) (p : Tree) (g : List Given) (
   pub signature : List ℕ
   pub signature_text : parts.signed.signature ≡ b64 signature
   pub good : IsGood key parts.signed.protected parts.signed.payload signature
-  pub body : IsBody parts.signed.payload (with_alg p)
-  pub hash : payload_hash (with_alg p) ≡ Some HashAlg.Sha256
-  pub bare : without_alg (with_alg p) ≡ p
-  pub texts : AllZip IsTextOf parts.disclosures g
+  pub body : IsBody parts.signed.payload (with_alg o.hash p)
+  pub hash : payload_hash (with_alg o.hash p) ≡ Some o.hash
+  pub bare : without_alg (with_alg o.hash p) ≡ p
+  pub texts : AllZip (IsTextOf o.hash) parts.disclosures g
 
 module _ (o : Order) (key : List ℕ) (p : Tree) (g : List Given) (parts : Parts) (carries : CarriesFor o key p g parts) where
   pub content : HasContent (alone parts) p g
-  content = record { body = with_alg p; is_body = carries.body; payload_is = sym carries.bare; hash = HashAlg.Sha256; hash_is = carries.hash; disclosures = carries.texts }
+  content = record { body = with_alg o.hash p; is_body = carries.body; payload_is = sym carries.bare; hash = o.hash; hash_is = carries.hash; disclosures = carries.texts }
 
   pub checked : (rules : Rules) → Takes o key rules → IsSound p g → IsChecked (alone parts) rules (processed p g)
   checked rules takes sound =
@@ -59,8 +58,8 @@ module _ (o : Order) (key : List ℕ) (p : Tree) (g : List Given) (parts : Parts
         key_is = takes.finds;
         good = λ bad. bad good;
       } in
-      let at_payload = payload_passes (alone parts) rules (with_alg p) HashAlg.Sha256 (signed_passes (alone parts) rules signed) carries.body carries.hash in
-      content_checked (alone parts) rules p g (processed p g) content (given_passes (alone parts) rules HashAlg.Sha256 g at_payload carries.texts) sound refl
+      let at_payload = payload_passes (alone parts) rules (with_alg o.hash p) o.hash (signed_passes (alone parts) rules signed) carries.body carries.hash in
+      content_checked (alone parts) rules p g (processed p g) content (given_passes (alone parts) rules o.hash g at_payload carries.texts) sound refl
     where
       taken : IsAlgRefused rules.algs (codes "HS256") → ⊥
       taken (inl other) = other refl

@@ -96,7 +96,7 @@ issued_count maker o p given issued =
       length_all p given,
       length-append (given_digests given) (decoy_digests maker o),
       length-map given (λ (x : Given). x.digest),
-      length_decoys (λ k. maker.digest (maker.piece k)) (hidden_of o) (decoys_of o),
+      length_decoys (λ k. maker.digest o.hash (maker.piece k)) (hidden_of o) (decoys_of o),
       count,
     )
 

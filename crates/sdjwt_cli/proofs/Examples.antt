@@ -1,5 +1,5 @@
 -- Worked values, by the definitions.
-use Rattle.std.proofs.Common.{◌≡◌, [], ◌∷◌, Option, Some, None, true, false, codes, inl, refl, sym, arith}
+use Rattle.std.proofs.Common.{◌≡◌, [], ◌∷◌, Option, Some, None, codes, inl, refl, sym, arith}
 use Rattle.std.specs.Fmt.{digits}
 use Rattle.json.specs.Print.{escape_byte}
 use Rattle.b64url_text.specs.Base64url.{letters, is_letter}

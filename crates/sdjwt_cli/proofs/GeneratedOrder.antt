@@ -122,7 +122,7 @@ absent o t none some = cc (sym none ∙ some)
 claims_hold : (n : ℕ) → NoneFails (ClaimFails (shown_for (marked_claims (generated n)) (generated_ask n).want) generated_policy 0)
 claims_hold n =
     let shown = shown_for (marked_claims (generated n)) (generated_ask n).want in
-    let issuer = before_missing shown generated_policy 0 (λ iss wanted other. cc wanted) in
+    let issuer = before_missing shown generated_policy 0 (λ h. cc h.1) in
     let required = before_times shown generated_policy 0 issuer (λ i name is. absurd is) in
     let readable = before_expiry shown generated_policy 0 required unreadable in
     let fresh = before_start shown generated_policy 0 readable (λ late. absent (get shown (codes "exp")) _ (no_expiry n) late.1) in

@@ -4,7 +4,7 @@ use Rattle.std.proofs.Common.{◌≡◌, inl, ℕ, ◌≤◌, List, length, Some
 use Rattle.sd_outside.specs.Limits.{issue_max, count_max}
 use Rattle.compact_form.specs.declared.parts.Parts.{Parts}
 use Rattle.compact_form.specs.Compact.{compact, AreWords}
-use Rattle.hmac_sign.specs.Hmac.{IsGood}
+use Rattle.hmac_sign.specs.Hmac.{AlgKey, IsGood}
 use Rattle.json_form.specs.Token.{IsToken}
 use Rattle.json_form.proofs.AloneForms.{compact_read}
 use Rattle.marked_tree.specs.Marked.{Marked}
@@ -23,16 +23,16 @@ use Rattle.sdjwt_cli.proofs.CompactLines.{line_token}
 use Rattle.sdjwt_cli.proofs.CheckedParts.{CarriesFor, content, checked}
 
 -- what is known of a token that is issued
-pub record IsTokenOf (seed : List ℕ) (o : Order) (key : List ℕ) (parts : Parts) : Type 0 where
-  pub has : HasIssued seed o (IsGood key) parts
+pub record IsTokenOf (seed : List ℕ) (o : Order) (key : AlgKey) (parts : Parts) : Type 0 where
+  pub has : HasIssued seed o key.alg (IsGood key) parts
   pub words : AreWords parts
   pub few : length parts.disclosures ≤ count_max
   pub short : length (compact parts) ≤ issue_max
 
-pub token_of : (seed : List ℕ) (o : Order) (key : List ℕ) (parts : Parts) → IsIssuedBy seed o key parts → IsTokenOf seed o key parts
-token_of seed o key parts is = record { has = has_issued seed o (IsGood key) parts is.writable is.differ is.laid; words = is.words; few = is.few; short = is.short }
+pub token_of : (seed : List ℕ) (o : Order) (key : AlgKey) (parts : Parts) → IsIssuedBy seed o key parts → IsTokenOf seed o key parts
+token_of seed o key parts is = record { has = has_issued seed o key.alg (IsGood key) parts is.writable is.differ is.laid; words = is.words; few = is.few; short = is.short }
 
-pub carries_issued : (seed : List ℕ) (o : Order) (key : List ℕ) (parts : Parts) (has : HasIssued seed o (IsGood key) parts) → CarriesFor o key has.payload has.given parts
+pub carries_issued : (seed : List ℕ) (o : Order) (key : AlgKey) (parts : Parts) (has : HasIssued seed o key.alg (IsGood key) parts) → CarriesFor o key has.payload has.given parts
 carries_issued seed o key parts has = record {
   header = has.back.header;
   signature = has.written.signature;
@@ -44,7 +44,7 @@ carries_issued seed o key parts has = record {
   texts = has.texts;
 }
 
-module _ (seed : List ℕ) (o : Order) (key : List ℕ) (parts : Parts) (is : IsTokenOf seed o key parts) where
+module _ (seed : List ℕ) (o : Order) (key : AlgKey) (parts : Parts) (is : IsTokenOf seed o key parts) where
   pub issued_line : IsToken (line (compact parts)) (alone parts)
   issued_line = let short = is.short in line_token parts is.words (omega (arith, short)) is.few
 

@@ -2,7 +2,7 @@
 use Rattle.std.proofs.Common.{◌≡◌, ℕ, List, ap, ◌∙◌, sym, subst, arith}
 use Rattle.compact_form.specs.declared.parts.Parts.{Parts}
 use Rattle.compact_form.specs.Compact.{compact}
-use Rattle.hmac_sign.specs.Hmac.{IsGood}
+use Rattle.hmac_sign.specs.Hmac.{AlgKey, IsGood}
 use Rattle.issuer_core.specs.declared.errors.IssueError.{IssueError}
 use Rattle.issuer_core.specs.Order.{Order}
 use Rattle.issuer_core.specs.OrderRefusals.{IsLowestRefusal}
@@ -18,7 +18,7 @@ use Rattle.sdjwt_cli.specs.Issuing.{IsAsked, Issues, DoesNotIssue, HasNoOrder, n
 use Rattle.sdjwt_cli.specs.Answers.{Reply, gives, refuses, unreadable, IssueAnswers}
 
 -- what the files ask for is one
-module _ (order_file seed_file : List ℕ) (o p : Order) (key other : List ℕ) (seed grain : List ℕ) (this : IsAsked order_file seed_file o key seed) (that : IsAsked order_file seed_file p other grain) where
+module _ (order_file seed_file : List ℕ) (o p : Order) (key other : AlgKey) (seed grain : List ℕ) (this : IsAsked order_file seed_file o key seed) (that : IsAsked order_file seed_file p other grain) where
   pub same_order : o ≡ p
   same_order = this.order_is ∙ ((orders.one_order order_file this.said that.said this.is_order that.is_order).0 ∙ sym that.order_is)
 
@@ -29,29 +29,29 @@ module _ (order_file seed_file : List ℕ) (o p : Order) (key other : List ℕ) 
   same_seed = this.seed_is ∙ sym that.seed_is
 
   -- a fact on what the first asks for is one on what the second does
-  pub carried : (P : Order → List ℕ → List ℕ → Type 0) → P o key seed → P p other grain
-  carried P h = subst (λ (x : Order). P x other grain) same_order (subst (λ (k : List ℕ). P o k grain) same_key (subst (λ (s : List ℕ). P o key s) same_seed h))
+  pub carried : (P : Order → AlgKey → List ℕ → Type 0) → P o key seed → P p other grain
+  carried P h = subst (λ (x : Order). P x other grain) same_order (subst (λ (k : AlgKey). P o k grain) same_key (subst (λ (s : List ℕ). P o key s) same_seed h))
 
 printed : (order seed : List ℕ) (a b : List ℕ) → Issues order seed a → Issues order seed b → a ≡ b
 printed order seed a b g h =
-    let laid : IsLaidOut (maker_of h.seed) h.order (IsGood h.key) g.parts =
-    carried order seed g.order h.order g.key h.key g.seed h.seed g.asked h.asked (λ (o : Order) (k s : List ℕ). IsLaidOut (maker_of s) o (IsGood k) g.parts) g.answered.laid in
+    let laid : IsLaidOut (maker_of h.seed) h.order h.key.alg (IsGood h.key) g.parts =
+    carried order seed g.order h.order g.key h.key g.seed h.seed g.asked h.asked (λ (o : Order) (k : AlgKey) (s : List ℕ). IsLaidOut (maker_of s) o k.alg (IsGood k) g.parts) g.answered.laid in
     g.line_is ∙ (ap (λ (parts : Parts). line (compact parts)) (one_token (maker_of h.seed) h.order h.key g.parts h.parts laid h.answered.laid) ∙ sym h.line_is)
 
 refused : (order seed : List ℕ) (a b : List ℕ) → DoesNotIssue order seed a → DoesNotIssue order seed b → a ≡ b
 refused order seed a b g h =
-    let lowest : IsLowestRefusal (AppliesToIssue (maker_of h.seed) h.order (IsGood h.key)) g.refused.error =
-    carried order seed g.order h.order g.key h.key g.seed h.seed g.asked h.asked (λ (o : Order) (k s : List ℕ). IsLowestRefusal (AppliesToIssue (maker_of s) o (IsGood k)) g.refused.error) g.refused.lowest in
-    g.refused.line_is ∙ (ap (λ (error : IssueError). line (issue_refusal_text error)) (one_refusal (maker_of h.seed) h.order (IsGood h.key) g.refused.error h.refused.error lowest h.refused.lowest) ∙ sym h.refused.line_is)
+    let lowest : IsLowestRefusal (AppliesToIssue (maker_of h.seed) h.order h.key.alg (IsGood h.key)) g.refused.error =
+    carried order seed g.order h.order g.key h.key g.seed h.seed g.asked h.asked (λ (o : Order) (k : AlgKey) (s : List ℕ). IsLowestRefusal (AppliesToIssue (maker_of s) o k.alg (IsGood k)) g.refused.error) g.refused.lowest in
+    g.refused.line_is ∙ (ap (λ (error : IssueError). line (issue_refusal_text error)) (one_refusal (maker_of h.seed) h.order h.key.alg (IsGood h.key) g.refused.error h.refused.error lowest h.refused.lowest) ∙ sym h.refused.line_is)
 
 printed_not_refused : (order seed : List ℕ) (a b : List ℕ) → Issues order seed a → DoesNotIssue order seed b → ⊥
 printed_not_refused order seed a b g h =
-    let lowest : IsLowestRefusal (AppliesToIssue (maker_of g.seed) g.order (IsGood g.key)) h.refused.error =
-    carried order seed h.order g.order h.key g.key h.seed g.seed h.asked g.asked (λ (o : Order) (k s : List ℕ). IsLowestRefusal (AppliesToIssue (maker_of s) o (IsGood k)) h.refused.error) h.refused.lowest in
+    let lowest : IsLowestRefusal (AppliesToIssue (maker_of g.seed) g.order g.key.alg (IsGood g.key)) h.refused.error =
+    carried order seed h.order g.order h.key g.key h.seed g.seed h.asked g.asked (λ (o : Order) (k : AlgKey) (s : List ℕ). IsLowestRefusal (AppliesToIssue (maker_of s) o k.alg (IsGood k)) h.refused.error) h.refused.lowest in
     issued_not_refused (maker_of g.seed) g.order g.key g.parts g.answered.passes g.answered.differ g.answered.laid g.answered.short h.refused.error lowest.applies
 
 -- what is asked for is of its form
-asked_not_unreadable : (order_file seed_file : List ℕ) (o : Order) (key seed : List ℕ) (text : List ℕ) → IsAsked order_file seed_file o key seed → HasNoOrder order_file seed_file text → ⊥
+asked_not_unreadable : (order_file seed_file : List ℕ) (o : Order) (key : AlgKey) (seed : List ℕ) (text : List ℕ) → IsAsked order_file seed_file o key seed → HasNoOrder order_file seed_file text → ⊥
 asked_not_unreadable order_file seed_file o key seed text asked (no_order fault refused cause is) = cause (orders.not_both order_file asked.said fault asked.is_order refused)
 asked_not_unreadable order_file seed_file o key seed text asked (no_seed said is_order short is) = let enough = asked.enough in omega (arith, short, enough)
 

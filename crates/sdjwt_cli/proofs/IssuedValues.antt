@@ -206,10 +206,10 @@ writable = record {
 -- ---- the token
 
 abbrev protected : Text
-protected = b64 (json_text (object (header_members (header_of order))))
+protected = b64 (json_text (object (header_members (header_of issuer_key.alg order))))
 
 abbrev body : Text
-body = b64 (json_text (with_alg payload))
+body = b64 (json_text (with_alg order.hash payload))
 
 abbrev pub parts : Parts
 parts = record {
@@ -218,25 +218,25 @@ parts = record {
   binding = None;
 }
 
-written : IsWritten (maker_of seed) order (IsGood issuer_key) payload given parts
+written : IsWritten (maker_of seed) order issuer_key.alg (IsGood issuer_key) payload given parts
 written = record { protected = refl; body = refl; signature = mac issuer_key protected body; signature_text = refl; signed = refl; disclosures = refl; unbound = refl }
 
 words : AreWords parts
 words = record {
   signed = record {
-    protected = IsWord-b64 (json_text (object (header_members (header_of order)))) (omega arith);
-    payload = IsWord-b64 (json_text (with_alg payload)) (omega arith);
+    protected = IsWord-b64 (json_text (object (header_members (header_of issuer_key.alg order)))) (omega arith);
+    payload = IsWord-b64 (json_text (with_alg order.hash payload)) (omega arith);
     signature = IsWord-b64 (mac issuer_key protected body) (omega (arith, length-mac issuer_key protected body));
   };
   disclosures = (IsWord-b64 (json_text (array_of (named (salt_of seed 0)) (Some (codes "family_name")) (named (codes "Bee")))) (omega arith), (IsWord-b64 (json_text (array_of (named (salt_of seed 1)) (Some (codes "given_name")) (named (codes "Ann")))) (omega arith), tt));
   binding = tt;
 }
 
-head_length : length (json_text (object (header_members (header_of order)))) ≤ 1000
+head_length : length (json_text (object (header_members (header_of issuer_key.alg order)))) ≤ 1000
 unfolding escape_byte
 head_length = omega arith
 
-body_length : length (json_text (with_alg payload)) ≤ 1000
+body_length : length (json_text (with_alg order.hash payload)) ≤ 1000
 unfolding escape_byte alg_name sd_name
 body_length = omega arith
 
@@ -250,8 +250,8 @@ short =
       second,
       head_length,
       body_length,
-      length-b64 (json_text (object (header_members (header_of order)))),
-      length-b64 (json_text (with_alg payload)),
+      length-b64 (json_text (object (header_members (header_of issuer_key.alg order)))),
+      length-b64 (json_text (with_alg order.hash payload)),
       length-b64 (mac issuer_key protected body),
       length-mac issuer_key protected body,
       compact_length parts,

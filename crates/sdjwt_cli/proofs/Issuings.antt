@@ -3,6 +3,7 @@ use Rattle.std.proofs.Common.{◌≡◌, ◌≢◌, ℕ, List, refl, arith}
 use Rattle.std.specs.Array.{IsFirstChunk}
 use Rattle.sd_outside.specs.Causes.{Rose}
 use Rattle.hmac_sign.specs.Signatures.{Meaning}
+use Rattle.hmac_sign.specs.declared.alg.Alg.{Alg}
 use Rattle.issuer_core.specs.declared.errors.IssueError.{IssueError}
 use Rattle.issuer_core.specs.declared.errors.IssueError.TheVariants.{Memory, SignFailed}
 use Rattle.issuer_core.specs.declared.order_file.IssueFile.{IssueFile}
@@ -10,8 +11,6 @@ use Rattle.issuer_core.specs.Order.{Order, order_of}
 use Rattle.issuer_core.specs.OrderFile.{IsOrderFile}
 use Rattle.issuer_core.specs.Digests.{Maker}
 use Rattle.issuer_core.specs.OrderRefusals.{IsLowestRefusal}
-use Rattle.issuer_core.specs.RefusalLine.{issue_refusal_text}
-use Rattle.issuer_core.specs.RefusalCalls.{IsRefusalLine}
 use Rattle.issuer_core.specs.Issue.{AppliesToIssue}
 use Rattle.issuer_core.specs.IssueCalls.{IsNotIssued}
 use Rattle.sd_outside.specs.Limits.{seed_len}
@@ -25,13 +24,8 @@ pub never : Rose 0 0 → ⊥
 never h = omega (arith, h)
 
 -- beside want of memory and a signer that fails an error is a refusal
-module _ (maker : Maker) (o : Order) (good : Meaning) where
-  pub lowest : (error : IssueError) → error ≢ Memory → error ≢ SignFailed → IsNotIssued maker o good error → IsLowestRefusal (AppliesToIssue maker o good) error
+module _ (maker : Maker) (o : Order) (alg : Alg) (good : Meaning) where
+  pub lowest : (error : IssueError) → error ≢ Memory → error ≢ SignFailed → IsNotIssued maker o alg good error → IsLowestRefusal (AppliesToIssue maker o alg good) error
   lowest Memory memory failed h = absurd (memory refl)
   lowest SignFailed memory failed h = absurd (failed refl)
   lowest error memory failed h = h
-
-pub line_of : (error : IssueError) → error ≢ Memory → error ≢ SignFailed → (text : List ℕ) → IsRefusalLine error text → text ≡ issue_refusal_text error
-line_of Memory memory failed text h = absurd (memory refl)
-line_of SignFailed memory failed text h = absurd (failed refl)
-line_of error memory failed text h = h

@@ -10,6 +10,7 @@ use Rattle.compact_form.specs.declared.parts.Parts.{Parts}
 use Rattle.digest_sites.specs.Given.{Given}
 use Rattle.disclosure.specs.declared.digests.HashAlg.{HashAlg}
 use Rattle.hmac_sign.specs.Signatures.{Meaning}
+use Rattle.hmac_sign.specs.declared.alg.Alg.{Alg}
 use Rattle.json_form.specs.Token.{IsToken}
 use Rattle.json_form.specs.declared.token.Token.{Token}
 use Rattle.json_form.proofs.Tokens as tokens
@@ -37,16 +38,13 @@ use Rattle.issuer_core.proofs.IssuedSound.{issued_is_sound_holds}
 use Rattle.issuer_core.proofs.Judged.{good_order}
 use Rattle.sdjwt_cli.specs.NoForgery.{NoForgery, NoneCollides, HasAllAbove, IsChoiceOf, token_digests}
 
-abbrev Given256 : Text → Given → Type 0
-Given256 d x = Gives HashAlg.Sha256 d x
-
 -- ---- what stands beside each other in two lists
 
-text_of : (ds : List Text) (g : List Given) → AllZip Given256 ds g → (k : ℕ) (x : Given) → StandsAt g k x → (d : Text) × StandsAt ds k d × Given256 d x
-text_of (d ∷ ds) (y ∷ g) all zero x a = (d, refl, subst (Given256 d) (sym a) all.0)
-text_of (d ∷ ds) (y ∷ g) all (suc k) x a = text_of ds g all.1 k x a
-text_of [] (y ∷ g) all k x a = absurd all
-text_of ds [] all k x a = elim a [ ]
+text_of : (hash : HashAlg) (ds : List Text) (g : List Given) → AllZip (Gives hash) ds g → (k : ℕ) (x : Given) → StandsAt g k x → (d : Text) × StandsAt ds k d × Gives hash d x
+text_of hash (d ∷ ds) (y ∷ g) all zero x a = (d, refl, subst (Gives hash d) (sym a) all.0)
+text_of hash (d ∷ ds) (y ∷ g) all (suc k) x a = text_of hash ds g all.1 k x a
+text_of hash [] (y ∷ g) all k x a = absurd all
+text_of hash ds [] all k x a = elim a [ ]
 
 -- a text is in a list or it is not
 is_in : (d : Text) (ds : List Text) → In d ds ⊎ (In d ds → ⊥)
@@ -58,11 +56,11 @@ is_in d (e ∷ ds) = go (bytes_eq d e) refl (is_in d ds)
     go false q (inl there) = inl (inr there)
     go false q (inr out) = inr (λ m. ⊎_elim (λ same. let clash : false ≡ true = sym q ∙ bytes_refl d e same in cc clash) (λ there. out there) m)
 
-module _ (maker : Maker) (o : Order) (parts : Parts) (p : Tree) (g : List Given) (good : IsGoodOrder o) (issued : IsIssuedFor maker o p g) (only : IsReadOnlyAs parts p g)
+module _ (maker : Maker) (o : Order) (parts : Parts) (p : Tree) (g : List Given) (good : IsGoodOrder o) (issued : IsIssuedFor maker o p g) (only : IsReadOnlyAs o.hash parts p g)
     (text : List ℕ) (token : Token) (is_token : IsToken text token) (same_signed : token.parts.signed ≡ parts.signed)
     (policy : Policy) (now : ℕ) (marked : Marked) (accepted : IsAccepted text policy now marked) (none : NoneCollides maker o parts.disclosures token.parts.disclosures) where
   abbrev Sent : List Given → Type 0
-  Sent h = AllZip Given256 token.parts.disclosures h
+  Sent h = AllZip (Gives o.hash) token.parts.disclosures h
 
   -- ---- what is sent is opened over the issued payload
 
@@ -78,10 +76,10 @@ module _ (maker : Maker) (o : Order) (parts : Parts) (p : Tree) (g : List Given)
   same_payload : opens.0 ≡ p
   same_payload = sent_content.payload_is ∙ only.payload sent_content.body (subst (λ (j : JwtParts). IsBody j.payload sent_content.body) same_signed sent_content.is_body)
 
-  same_hash : sent_content.hash ≡ HashAlg.Sha256
+  same_hash : sent_content.hash ≡ o.hash
   same_hash =
       let issued_body = subst (λ (j : JwtParts). IsBody j.payload sent_content.body) same_signed sent_content.is_body in
-      let hashes : Some sent_content.hash ≡ Some HashAlg.Sha256 = sym sent_content.hash_is ∙ only.hash sent_content.body issued_body in
+      let hashes : Some sent_content.hash ≡ Some o.hash = sym sent_content.hash_is ∙ only.hash sent_content.body issued_body in
       cc hashes
 
   sent : Sent h
@@ -98,7 +96,7 @@ module _ (maker : Maker) (o : Order) (parts : Parts) (p : Tree) (g : List Given)
   known : (x : Given) → In x h → In x g ⊎ (In x.digest (issued_digests maker o g) → ⊥)
   known x m =
       let a = In-At h x m in
-      let d = text_of token.parts.disclosures h sent a.0 x a.1 in
+      let d = text_of o.hash token.parts.disclosures h sent a.0 x a.1 in
       ⊎_elim
       (λ there. let b = In-At parts.disclosures d.0 there in inl (At-In g b.0 x (only.disclosures b.0 d.0 x b.1 d.2)))
       (λ out. inr (λ stands. none d.0 (At-In token.parts.disclosures a.0 d.0 d.1) out (subst (λ e. In e (token_digests maker o parts.disclosures)) d.2.0 (subst (λ ds. In x.digest ds) digests_same stands))))
@@ -108,7 +106,7 @@ module _ (maker : Maker) (o : Order) (parts : Parts) (p : Tree) (g : List Given)
   honest = issued_not_forged maker o p g good issued h sound known
 
   -- the text of an issued disclosure stands at its number
-  text_at : (i k : ℕ) (x : Given) (d : Text) → StandsAt g i x → StandsAt token.parts.disclosures k d → Given256 d x → StandsAt parts.disclosures i d
+  text_at : (i k : ℕ) (x : Given) (d : Text) → StandsAt g i x → StandsAt token.parts.disclosures k d → Gives o.hash d x → StandsAt parts.disclosures i d
   text_at i k x d a b gives =
       ⊎_elim
       (λ there.
@@ -121,7 +119,7 @@ module _ (maker : Maker) (o : Order) (parts : Parts) (p : Tree) (g : List Given)
       absurd (none d (At-In token.parts.disclosures k d b) out (subst (λ e. In e (token_digests maker o parts.disclosures)) gives.0 (subst (λ ds. In x.digest ds) digests_same stands))))
       (is_in d parts.disclosures)
 
-  texts_at : (order : List ℕ) (hs : List Given) (ds : List Text) → IsPick g order hs → AllZip Given256 ds hs → ((k : ℕ) (d : Text) → StandsAt ds k d → In d token.parts.disclosures) → AllZip (StandsAt parts.disclosures) order ds
+  texts_at : (order : List ℕ) (hs : List Given) (ds : List Text) → IsPick g order hs → AllZip (Gives o.hash) ds hs → ((k : ℕ) (d : Text) → StandsAt ds k d → In d token.parts.disclosures) → AllZip (StandsAt parts.disclosures) order ds
   texts_at [] [] [] pick all inside = tt
   texts_at [] [] (d ∷ ds) pick all inside = absurd all
   texts_at [] (x ∷ hs) ds pick all inside = absurd pick
@@ -145,8 +143,8 @@ module _ (maker : Maker) (o : Order) (parts : Parts) (p : Tree) (g : List Given)
     shows = ap strip (opens.3 ∙ ap (λ t. processed t h) same_payload) ∙ honest.shows;
   }
 
-pub no_forgery_holds : (good : Meaning) → NoForgery good
-no_forgery_holds good seed o parts none ordered held is text token is_token same_signed policy now marked accepted collides =
+pub no_forgery_holds : (alg : Alg) (good : Meaning) → NoForgery alg good
+no_forgery_holds alg good seed o parts none ordered held is text token is_token same_signed policy now marked accepted collides =
     let fine = good_order o (λ error h. absurd (none error h)) ordered in
-    choice_of (maker_of seed) o parts is.payload is.given fine is.issued (read_only_as seed o good is.payload is.given parts fine held is.issued is.written)
+    choice_of (maker_of seed) o parts is.payload is.given fine is.issued (read_only_as seed o alg good is.payload is.given parts fine held is.issued is.written)
     text token is_token same_signed policy now marked accepted collides

@@ -45,8 +45,8 @@ module _ (seed : List ℕ) (o : Order) (key : List ℕ) (parts : Parts) (passes 
   marked_is : (marked : Marked) → IsHeld (alone parts) ask marked → marked ≡ marked_claims o
   marked_is marked held = one_marked seed o key parts is marked held.checked.opens
 
-  hash_is : (hash : HashAlg) → HasHash (alone parts) hash → hash ≡ HashAlg.Sha256
-  hash_is hash has = one_hash (alone parts) hash HashAlg.Sha256 has (with_alg is.has.payload, is.has.back.body, is.has.hash)
+  hash_is : (hash : HashAlg) → HasHash (alone parts) hash → hash ≡ o.hash
+  hash_is hash has = one_hash (alone parts) hash o.hash has (with_alg o.hash is.has.payload, is.has.back.body, is.has.hash)
 
   -- what meets the definition of an answer is presented of the issued parts
   pub answer_presented : (answer : Parts) → IsAnswer answers rule (alone parts) ask (IsGood signing) now answer → IsPresentedOf o ask signing parts now answer
@@ -89,7 +89,7 @@ module _ (seed : List ℕ) (o : Order) (key : List ℕ) (parts : Parts) (passes 
     too_long : (answer : Parts) → IsAnswer answers rule (alone parts) ask (IsGood signing) now answer → compact_max < length (compact answer) → ⊥
     too_long answer a long =
         let of = answer_presented answer a in
-        let short = answer_short signing HashAlg.Sha256 now in_range ask.binding small parts answer (chosen (marked_claims o) ask.want) of.presents of.bound is.short in
+        let short = answer_short signing o.hash now in_range ask.binding small parts answer (chosen (marked_claims o) ask.want) of.presents of.bound is.short in
         omega (arith, short, long)
 
     refuses_nothing : (error : PresentError) → error ≢ Memory → error ≢ SignFailed → IsNoAnswer answers rule (alone parts) ask (IsGood signing) now error → ⊥

@@ -61,7 +61,7 @@ use Rattle.sdjwt_cli.proofs.PresentedShort.{answer_words, answer_few, answer_sho
 pub record IsPresentedOf (o : Order) (ask : Ask) (signing : List ℕ) (parts : Parts) (now : ℕ) (answer : Parts) : Type 0 where
   pub presents : PicksParts parts (chosen (marked_claims o) ask.want) answer.binding answer
   pub names : NamesKey ask.binding (shown_for (marked_claims o) ask.want)
-  pub bound : IsBoundAs ask.binding (IsGood signing) HashAlg.Sha256 now answer
+  pub bound : IsBoundAs ask.binding (IsGood signing) o.hash now answer
 
 module _ (seed : List ℕ) (o : Order) (key : List ℕ) (parts : Parts) (good : IsGoodOrder o) (is : IsTokenOf seed o key parts)
     (ask : Ask) (signing : List ℕ) (small : AreShort ask.binding) (now : ℕ) (in_range : now < 2 ^ 64) (answer : Parts) (presented : IsPresentedOf o ask signing parts now answer) where
@@ -93,19 +93,19 @@ module _ (seed : List ℕ) (o : Order) (key : List ℕ) (parts : Parts) (good : 
         signature = carries.signature;
         signature_text = ap (λ (j : JwtParts). j.signature) same ∙ carries.signature_text;
         good = subst (λ (j : JwtParts). IsGood key j.protected j.payload carries.signature) (sym same) carries.good;
-        body = subst (λ (j : JwtParts). IsBody j.payload (with_alg p)) (sym same) carries.body;
+        body = subst (λ (j : JwtParts). IsBody j.payload (with_alg o.hash p)) (sym same) carries.body;
         hash = carries.hash;
         bare = carries.bare;
-        texts = subst (λ (ds : List Text). AllZip IsTextOf ds (picked s g)) (sym presented.presents.disclosures) (zip_picked IsTextOf s parts.disclosures g carries.texts);
+        texts = subst (λ (ds : List Text). AllZip (IsTextOf o.hash) ds (picked s g)) (sym presented.presents.disclosures) (zip_picked (IsTextOf o.hash) s parts.disclosures g carries.texts);
       }
 
   -- the line of its compact text is read as its parts, and so is the text itself
   pub answer_line : IsToken (line (compact answer)) (alone answer)
   answer_line =
       line_token answer
-      (answer_words signing HashAlg.Sha256 now in_range ask.binding small parts answer s presented.presents presented.bound is.words)
-      (answer_short signing HashAlg.Sha256 now in_range ask.binding small parts answer s presented.presents presented.bound is.short)
-      (answer_few signing HashAlg.Sha256 now in_range ask.binding small parts answer s presented.presents presented.bound is.few)
+      (answer_words signing o.hash now in_range ask.binding small parts answer s presented.presents presented.bound is.words)
+      (answer_short signing o.hash now in_range ask.binding small parts answer s presented.presents presented.bound is.short)
+      (answer_few signing o.hash now in_range ask.binding small parts answer s presented.presents presented.bound is.few)
 
   pub answer_text : IsToken (compact answer) (alone answer)
   answer_text = compact_read (line (compact answer)) (alone answer) answer_line refl
@@ -130,43 +130,41 @@ module _ (seed : List ℕ) (o : Order) (key : List ℕ) (parts : Parts) (good : 
     one_answer token there = tokens.one text token (alone answer) there is_text
 
     -- a key binding token that the policy asks for is there
-    not_missing : (asked : Option BindingAsk) (binding : Option JwtParts) → IsBoundWith asked (IsGood signing) HashAlg.Sha256 (hashed answer) now binding → (one : BindingAsk) → asked ≡ Some one → binding ≡ None → ⊥
+    not_missing : (asked : Option BindingAsk) (binding : Option JwtParts) → IsBoundWith asked (IsGood signing) o.hash (hashed answer) now binding → (one : BindingAsk) → asked ≡ Some one → binding ≡ None → ⊥
     not_missing None binding bound one e none = cc e
     not_missing (Some a) None bound one e none = bound
     not_missing (Some a) (Some token) bound one e none = cc none
 
     -- and it is the one that the holder made
-    made_binding : (asked : Option BindingAsk) (binding : Option JwtParts) (one : BindingAsk) (token : JwtParts) → IsBoundWith asked (IsGood signing) HashAlg.Sha256 (hashed answer) now binding → asked ≡ Some one → binding ≡ Some token
-        → IsBoundBy one (IsGood signing) HashAlg.Sha256 (hashed answer) now token
+    made_binding : (asked : Option BindingAsk) (binding : Option JwtParts) (one : BindingAsk) (token : JwtParts) → IsBoundWith asked (IsGood signing) o.hash (hashed answer) now binding → asked ≡ Some one → binding ≡ Some token
+        → IsBoundBy one (IsGood signing) o.hash (hashed answer) now token
     made_binding None binding one token bound e f = cc e
     made_binding (Some a) None one token bound e f = absurd bound
     made_binding (Some a) (Some t) one token bound e f =
         let asks : a ≡ one = cc e in
         let tokens_same : t ≡ token = cc f in
-        subst (λ (x : BindingAsk). IsBoundBy x (IsGood signing) HashAlg.Sha256 (hashed answer) now token) asks
-        (subst (λ (x : JwtParts). IsBoundBy a (IsGood signing) HashAlg.Sha256 (hashed answer) now x) tokens_same bound)
+        subst (λ (x : BindingAsk). IsBoundBy x (IsGood signing) o.hash (hashed answer) now token) asks
+        (subst (λ (x : JwtParts). IsBoundBy a (IsGood signing) o.hash (hashed answer) now x) tokens_same bound)
 
     names_ask : (asked : Option BindingAsk) (one : BindingAsk) → NamesKey asked (shown_for (marked_claims o) ask.want) → asked ≡ Some one → holder_kid (shown_for (marked_claims o) ask.want) ≡ Some one.kid
     names_ask None one names e = cc e
     names_ask (Some a) one names e = let same : a ≡ one = cc e in subst (λ (x : BindingAsk). holder_kid (shown_for (marked_claims o) ask.want) ≡ Some x.kid) same names
 
-    binding_passes : (payload : Tree) → payload ≡ shown_for (marked_claims o) ask.want → (c : Condition) (place : Place) → HolderFails answer payload HashAlg.Sha256 policy later c place → ⊥
+    binding_passes : (payload : Tree) → payload ≡ shown_for (marked_claims o) ask.want → (c : Condition) (place : Place) → HolderFails answer payload o.hash policy later c place → ⊥
     binding_passes payload shown c place fails =
         let b = fails.binding in
         let suit = suits.bound b fails.asked in
         let made = made_binding ask.binding answer.binding suit.ask fails.token presented.bound suit.asked_for fails.sent in
-        let j = judged fails.token payload b policy.skew HashAlg.Sha256 (hashed answer) later in
-        let is_binding = subst (λ (x : Text). IsBinding (IsGood signing) HashAlg.Sha256 (hashed answer) b.aud x now fails.token) suit.nonce
-        (subst (λ (x : Text). IsBinding (IsGood signing) HashAlg.Sha256 (hashed answer) x suit.ask.nonce now fails.token) suit.aud made.is_binding) in
-        let read_back = subst (λ (x : Text). IsReadBack HashAlg.Sha256 (hashed answer) b.aud x now fails.token) suit.nonce
-        (subst (λ (x : Text). IsReadBack HashAlg.Sha256 (hashed answer) x suit.ask.nonce now fails.token) suit.aud made.read_back) in
+        let j = judged fails.token payload b policy.skew o.hash (hashed answer) later in
+        let is_binding = subst (λ (x : Text). IsBinding (IsGood signing) o.hash (hashed answer) suit.ask.aud x now fails.token) suit.nonce made.is_binding in
+        let read_back = subst (λ (x : Text). IsReadBack o.hash (hashed answer) suit.ask.aud x now fails.token) suit.nonce made.read_back in
         let kid : holder_kid payload ≡ Some suit.ask.kid = ap holder_kid shown ∙ names_ask ask.binding suit.ask presented.names suit.asked_for in
         let found : holder_key b.keys payload ≡ Some signing = ap (option_and_then (key_named b.keys)) kid ∙ suit.known in
-        accepted signing now j is_binding read_back found suit.not_stale suit.not_early c place fails.fails
+        accepted signing suit.ask.aud now j is_binding read_back suit.aud found suit.not_stale suit.not_early c place fails.fails
 
     hash_passes : (payload : Tree) (hash : HashAlg) → HasHash (alone answer) hash → payload ≡ shown_for (marked_claims o) ask.want → (c : Condition) (place : Place) → HolderFails answer payload hash policy later c place → ⊥
     hash_passes payload hash has shown c place fails =
-        let same = one_hash (alone answer) hash HashAlg.Sha256 has (with_alg p, carries_answer.body, carries_answer.hash) in
+        let same = one_hash (alone answer) hash o.hash has (with_alg o.hash p, carries_answer.body, carries_answer.hash) in
         binding_passes payload shown c place (subst (λ (h : HashAlg). HolderFails answer payload h policy later c place) same fails)
 
     missing_passes : IsBindingMissing policy answer → ⊥

@@ -1,5 +1,5 @@
 -- What the steps of `present` say of its files.
-use Rattle.std.proofs.Common.{◌≡◌, ◌≢◌, ◌≤◌, ℕ, List, length, Result, Ok, Err, IfOk, IfErr, ap, ◌∙◌}
+use Rattle.std.proofs.Common.{◌≢◌, ◌≤◌, ℕ, List, length, Result, Ok, Err, IfOk, IfErr, ap}
 use Rattle.std.specs.Prelude.{IsErrOf}
 use Rattle.holder_core.specs.declared.errors.PresentError.{PresentError}
 use Rattle.holder_core.specs.declared.errors.PresentError.TheVariants.{SignFailed}

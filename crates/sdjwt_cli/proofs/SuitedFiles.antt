@@ -12,6 +12,7 @@ use Rattle.sd_outside.specs.Limits.{file_max}
 use Rattle.hmac_sign.specs.Keys.{IsKeySet, key, no_keys}
 use Rattle.hmac_sign.specs.KeyText.{IsKeyText}
 use Rattle.verifier_core.specs.PolicyFile.{IsPolicyFile}
+use Rattle.verifier_core.specs.declared.policy_version.PolicyVersion.{PolicyVersion}
 use Rattle.issuer_core.specs.OrderFile.{IsOrderFile}
 use Rattle.issuer_core.specs.declared.order_file.IssueFile.{IssueFile}
 use Rattle.claim_tree.proofs.Lists.{and_split}
@@ -143,17 +144,19 @@ pub is_policy : IsPolicyFile policy_file policy
 is_policy = record {
   members = policy_members;
   file = record { object = record { short = policy_short; reads = reads_plain (object policy_members) refl policy_ordered (omega arith) }; known = refl };
+  version = PolicyVersion.One;
+  version_is = refl;
   keys = issuer_set;
   algs = refl;
   typ = refl;
-  iss = refl;
+  iss = (codes "i", refl, refl);
   require = refl;
   skew = record { is = refl; within = omega arith };
   binding = record {
     members = _;
     is = refl;
     four = refl;
-    aud = record { is = refl; short = omega arith };
+    aud = (codes "v", record { is = refl; short = omega arith }, refl);
     nonce = record { is = refl; short = omega arith };
     keys = holder_set;
     max_age = record { is = refl; within = omega arith };
@@ -213,7 +216,7 @@ order_ordered : MembersOrdered order_members
 order_ordered = search rules
 
 abbrev asked : IssueFile
-asked = record { order = record { payload = code.Tree.Object claims_members; hide = order.hide; decoys = []; kid = None; typ = order.typ }; key = issuer_key }
+asked = record { order = record { payload = code.Tree.Object claims_members; hide = order.hide; decoys = []; kid = None; typ = order.typ; hash = order.hash }; key = issuer_key }
 
 pub is_asked : IsOrderFile order_file asked
 is_asked = record {
@@ -225,6 +228,7 @@ is_asked = record {
   key = issuer_text;
   kid = tt;
   typ = refl;
+  hash = refl;
 }
 
 abbrev pub seed_file : Text

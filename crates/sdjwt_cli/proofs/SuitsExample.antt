@@ -6,6 +6,7 @@ use Rattle.claim_tree.specs.Path.{is_front, tree_at}
 use Rattle.compact_form.specs.Lowest.{NoneFails}
 use Rattle.compact_form.specs.declared.condition.Condition.{Condition}
 use Rattle.compact_form.proofs.Lowest.{holds_too, none_fails}
+use Rattle.disclosure.specs.declared.digests.HashAlg.{HashAlg}
 use Rattle.hmac_sign.specs.Hmac.{key_block}
 use Rattle.jws_part.specs.Times.{IsTimeUnreadable}
 use Rattle.key_binding.specs.declared.policy.BindingPolicy.{BindingPolicy}
@@ -40,6 +41,7 @@ order = record {
   decoys = [];
   kid = None;
   typ = Some (codes "dc+sd-jwt");
+  hash = HashAlg.Sha256;
 }
 
 -- two keys of 32 bytes
@@ -68,7 +70,7 @@ said = record {
 }
 
 abbrev pub asked_binding : BindingPolicy
-asked_binding = record { aud = codes "v"; nonce = codes "7"; keys = record { kid = Some (codes "h"); key = holder_key } ∷ []; max_age = 300 }
+asked_binding = record { aud = codes "v" ∷ []; nonce = codes "7"; keys = record { kid = Some (codes "h"); key = holder_key } ∷ []; max_age = 300 }
 
 -- the verifier wants a given name by this issuer, and a key binding token where it says so
 abbrev pub policy_with : Option BindingPolicy → Policy
@@ -76,7 +78,7 @@ policy_with binding = record {
   keys = record { kid = None; key = issuer_key } ∷ [];
   algs = codes "HS256" ∷ [];
   typ = Some (codes "dc+sd-jwt");
-  iss = Some (codes "i");
+  iss = Some (codes "i" ∷ []);
   require = codes "given_name" ∷ [];
   skew = 5;
   binding = binding;
@@ -99,7 +101,7 @@ pub claims_hold : (binding : Option BindingPolicy) → NoneFails (ClaimFails (sh
 claims_hold binding =
     let shown = shown_for (marked_claims order) said.ask.want in
     let asks = policy_with binding in
-    let issuer = before_missing shown asks 1300 (λ iss wanted other. let same : codes "i" ≡ iss = cc wanted in other (ap (λ s. Some (named s)) same)) in
+    let issuer = before_missing shown asks 1300 (λ h. let same : codes "i" ∷ [] ≡ h.0 = cc h.1 in h.2 (codes "i", subst (λ list. In (codes "i") list) same (inl refl), refl)) in
     let required = before_times shown asks 1300 issuer wanted in
     let readable = before_expiry shown asks 1300 required unreadable in
     let fresh = before_start shown asks 1300 readable (λ late. cc late.1) in
@@ -127,7 +129,7 @@ at_work : BindingSuits said.ask.binding holder_key asked_binding policy.skew 100
 at_work = record {
   ask = record { kid = codes "h"; aud = codes "v"; nonce = codes "7" };
   asked_for = refl;
-  aud = refl;
+  aud = inl refl;
   nonce = refl;
   known = refl;
   not_stale = omega arith;

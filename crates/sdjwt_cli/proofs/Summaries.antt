@@ -1,6 +1,7 @@
 -- What `gen` counts of a token that is issued, presented and verified.
 use Rattle.std.proofs.Common.{◌≡◌, ◌≢◌, ℕ, suc, ◌+◌, ◌-◌, ◌<◌, ◌≤◌, ◌^◌, Bool, List, [], ◌∷◌, length, refl, sym, ap, ap₂, subst, ◌∙◌, arith}
 use Rattle.std.specs.List.{AllZip, count_by, range_with_len}
+use Rattle.sd_outside.specs.Limits.{count_max}
 use Rattle.claim_tree.specs.Tree.{Tree, IsRanged}
 use Rattle.claim_tree.specs.View.{tree_of}
 use Rattle.claim_tree.specs.JsonText.{json_text}
@@ -79,7 +80,7 @@ module _ (n : ℕ) (issued : Parts) (is_issued : IsIssuedBy generated_seed (gene
   given_count = is.has.issued.count
 
   text_count : length issued.disclosures ≡ hidden_of (generated n)
-  text_count = zip_length IsTextOf issued.disclosures is.has.given is.has.texts ∙ given_count
+  text_count = zip_length (IsTextOf (generated n).hash) issued.disclosures is.has.given is.has.texts ∙ given_count
 
   hidden_is : length issued.disclosures ≡ hidden_paths n
   hidden_is = text_count ∙ hidden_count_is (generated n) is_issued.passes is_issued.writable.good.ordered (held_short (generated n).payload is_issued.writable.held)
@@ -108,7 +109,7 @@ module _ (n : ℕ) (issued : Parts) (is_issued : IsIssuedBy generated_seed (gene
     given_is : length given ≡ length presented.disclosures
     given_is = length_picked s is.has.given ∙ ap (λ many. count_by s (range_with_len 0 many)) given_count ∙ sym chosen_is
 
-    few : embedded_digests is.has.payload given ≤ 4097
+    few : embedded_digests is.has.payload given ≤ count_max + 1
     few =
         let fewer = fewer_embedded is.has.payload s is.has.given in
         let all = issued_count (maker_of generated_seed) (generated n) is.has.payload is.has.given is.has.issued in
@@ -116,7 +117,7 @@ module _ (n : ℕ) (issued : Parts) (is_issued : IsIssuedBy generated_seed (gene
         let one : length (decoys_of (generated n)) ≡ 1 = refl in
         omega (arith, fewer, all, texts, text_count, one)
 
-    few_presented : length presented.disclosures ≤ 4096
+    few_presented : length presented.disclosures ≤ count_max
     few_presented =
         let fewer = fewer_picked s issued.disclosures in
         let same = ap length of.presents.disclosures in

@@ -3,7 +3,9 @@ use Rattle.std.specs.Prelude.{ℕ, zero, suc, ◌%◌, ◌==◌, pos, List, [], 
 use Rattle.std.specs.Fmt.{decimal}
 use Rattle.sd_outside.specs.Limits.{seed_len, key_min}
 use Rattle.claim_tree.specs.Tree.{Text, Tree, leaf, whole, array, object, no_elements, element, Members, no_members, member, inserted}
-use Rattle.hmac_sign.specs.Hmac.{key_block}
+use Rattle.disclosure.specs.declared.digests.HashAlg.{HashAlg}
+use Rattle.hmac_sign.specs.Hmac.{AlgKey, alg_key}
+use Rattle.hmac_sign.specs.declared.alg.Alg.{Alg}
 use Rattle.hmac_sign.specs.declared.key_set.NamedKey.{NamedKey}
 use Rattle.marked_tree.specs.Paths.{Path}
 use Rattle.issuer_core.specs.Order.{Order}
@@ -70,6 +72,7 @@ generated n = record {
   decoys = one_decoy;
   kid = None;
   typ = None;
+  hash = HashAlg.Sha256;
 }
 
 -- ---- who signs, asks and verifies
@@ -77,11 +80,11 @@ generated n = record {
 abbrev pub generated_seed : List ℕ
 generated_seed = replicate seed_len 0
 
-abbrev pub generated_key : List ℕ
-generated_key = key_block (replicate key_min 1)
+abbrev pub generated_key : AlgKey
+generated_key = alg_key Alg.Hs256 (replicate key_min 1)
 
 abbrev pub generated_keys : List NamedKey
-generated_keys = record { kid = None; key = generated_key } ∷ []
+generated_keys = record { kid = None; hs256 = generated_key.block; hs384 = None; hs512 = None } ∷ []
 
 -- wanted is of each fourth member `a`, without key binding
 abbrev pub generated_ask : ℕ → Ask

@@ -4,7 +4,7 @@ use Rattle.claim_tree.specs.declared.file_fault.FileFault.{FileFault}
 use Rattle.sd_outside.specs.Limits.{count_max, issue_max, seed_len}
 use Rattle.compact_form.specs.declared.parts.Parts.{Parts}
 use Rattle.compact_form.specs.Compact.{compact, AreWords}
-use Rattle.hmac_sign.specs.Hmac.{IsGood}
+use Rattle.hmac_sign.specs.Hmac.{AlgKey, IsGood}
 use Rattle.issuer_core.specs.declared.errors.IssueError.{IssueError}
 use Rattle.issuer_core.specs.declared.order_file.IssueFile.{IssueFile}
 use Rattle.issuer_core.specs.Order.{Order, order_of}
@@ -19,7 +19,7 @@ use Rattle.issuer_core.specs.Issue.{AppliesToIssue, HasNoClash}
 use Rattle.sdjwt_cli.specs.Lines.{line, unreadable_line, short_seed}
 
 -- what one file asks for with its order and its key, and the seed with which the other begins
-pub record IsAsked (order_file seed_file : List ℕ) (order : Order) (key seed : List ℕ) : Type 0 where
+pub record IsAsked (order_file seed_file : List ℕ) (order : Order) (key : AlgKey) (seed : List ℕ) : Type 0 where
   pub said : IssueFile
   pub is_order : IsOrderFile order_file said
   pub order_is : order ≡ order_of said.order
@@ -28,9 +28,9 @@ pub record IsAsked (order_file seed_file : List ℕ) (order : Order) (key seed :
   pub seed_is : seed ≡ take seed_len seed_file
 
 -- what an issuer with this key answers for an order and a seed: the parts are issued, and none of the refusals applies
-pub record IsIssuedBy (seed : List ℕ) (order : Order) (key : List ℕ) (parts : Parts) : Type 0 where
-  pub issued : IsIssued (maker_of seed) order (IsGood key) parts
-  pub laid : IsLaidOut (maker_of seed) order (IsGood key) parts
+pub record IsIssuedBy (seed : List ℕ) (order : Order) (key : AlgKey) (parts : Parts) : Type 0 where
+  pub issued : IsIssued (maker_of seed) order key.alg (IsGood key) parts
+  pub laid : IsLaidOut (maker_of seed) order key.alg (IsGood key) parts
   pub passes : NoneApplies (AppliesToOrder order)
   pub differ : HasNoClash (maker_of seed) order
   pub writable : IsWritable order
@@ -41,7 +41,7 @@ pub record IsIssuedBy (seed : List ℕ) (order : Order) (key : List ℕ) (parts 
 -- the token is issued, and this is the line of its compact text
 pub record Issues (order_file seed_file answer : List ℕ) : Type 0 where
   pub order : Order
-  pub key : List ℕ
+  pub key : AlgKey
   pub seed : List ℕ
   pub asked : IsAsked order_file seed_file order key seed
   pub parts : Parts
@@ -49,15 +49,15 @@ pub record Issues (order_file seed_file answer : List ℕ) : Type 0 where
   pub line_is : answer ≡ line (compact parts)
 
 -- the lowest refusal that applies to the order, with its line
-pub record TellsRefusal (seed : List ℕ) (order : Order) (key text : List ℕ) : Type 0 where
+pub record TellsRefusal (seed : List ℕ) (order : Order) (key : AlgKey) (text : List ℕ) : Type 0 where
   pub error : IssueError
-  pub lowest : IsLowestRefusal (AppliesToIssue (maker_of seed) order (IsGood key)) error
+  pub lowest : IsLowestRefusal (AppliesToIssue (maker_of seed) order key.alg (IsGood key)) error
   pub line_is : text ≡ line (issue_refusal_text error)
 
 -- what is asked for is refused
 pub record DoesNotIssue (order_file seed_file text : List ℕ) : Type 0 where
   pub order : Order
-  pub key : List ℕ
+  pub key : AlgKey
   pub seed : List ℕ
   pub asked : IsAsked order_file seed_file order key seed
   pub refused : TellsRefusal seed order key text

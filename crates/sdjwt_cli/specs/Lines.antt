@@ -5,7 +5,7 @@ use Rattle.claim_tree.specs.FileWords.{field_word}
 use Rattle.claim_tree.specs.declared.file_fault.FileFault.{FileFault}
 use Rattle.claim_tree.specs.declared.file_fault.FileFault.TheVariants.{Memory, TooLong, NotJson, NotWhole, NotObject, Unknown, Missing, Wrong}
 use Rattle.compact_form.specs.declared.fault.Fault.{Fault}
-use Rattle.verifier_core.specs.RefusalText.{fault_text}
+use Rattle.compact_form.specs.RefusedText.{fault_text}
 
 abbrev pub line : List ℕ → List ℕ
 line text = text ++ (10 ∷ [])

@@ -7,8 +7,8 @@ use Rattle.claim_tree.specs.Tree.{Text, IsOrdered}
 use Rattle.compact_form.specs.declared.parts.Parts.{Parts}
 use Rattle.compact_form.specs.Lowest.{NoneApplies}
 use Rattle.disclosure.specs.Digest.{digest_of}
-use Rattle.disclosure.specs.declared.digests.HashAlg.{HashAlg}
 use Rattle.hmac_sign.specs.Signatures.{Meaning}
+use Rattle.hmac_sign.specs.declared.alg.Alg.{Alg}
 use Rattle.json_form.specs.Token.{IsToken}
 use Rattle.json_form.specs.declared.token.Token.{Token}
 use Rattle.marked_tree.specs.Marked.{Marked, strip, prune}
@@ -24,12 +24,12 @@ use Rattle.issuer_core.specs.Written.{IsIssued}
 
 -- the digests of a token: those of the disclosures that were issued with it, then those of its decoys
 abbrev pub token_digests : Maker → Order → List Text → List Text
-token_digests maker o issued = map (digest_of HashAlg.Sha256) issued ++ decoy_digests maker o
+token_digests maker o issued = map (digest_of o.hash) issued ++ decoy_digests maker o
 
 -- none of the disclosures that are sent and were not issued has one of these digests
 abbrev pub NoneCollides : Maker → Order → List Text → List Text → Type 0
 NoneCollides maker o issued sent =
-    (disclosure : Text) → In disclosure sent → (In disclosure issued → ⊥) → In (digest_of HashAlg.Sha256 disclosure) (token_digests maker o issued) → ⊥
+    (disclosure : Text) → In disclosure sent → (In disclosure issued → ⊥) → In (digest_of o.hash disclosure) (token_digests maker o issued) → ⊥
 
 -- with each hidden place that has one of the numbers, those above it have one too
 abbrev pub HasAllAbove : Marked → List ℕ → Type 0
@@ -54,7 +54,7 @@ ShowsIssued maker o parts =
 
 -- the parts are issued, by whoever makes these good signatures, for an order that nothing of 51 to 59 refuses, and whose
 -- claims are a JSON value as a machine holds it
-abbrev pub NoForgery : Meaning → Type 0
-NoForgery good =
+abbrev pub NoForgery : Alg → Meaning → Type 0
+NoForgery alg good =
     (seed : List ℕ) (o : Order) (parts : Parts)
-    → NoneApplies (AppliesToOrder o) → IsOrdered o.payload → FitsMachine o.payload → IsIssued (maker_of seed) o good parts → ShowsIssued (maker_of seed) o parts
+    → NoneApplies (AppliesToOrder o) → IsOrdered o.payload → FitsMachine o.payload → IsIssued (maker_of seed) o alg good parts → ShowsIssued (maker_of seed) o parts

@@ -1,4 +1,4 @@
--- For private functions: a fact for one reason why a command has no answer.
+-- A fact for one reason why a command has no answer.
 use Rattle.std.specs.Prelude.{ℕ, List, string_bytes}
 use Rattle.sdjwt_cli.specs.declared.stop.Stop.{Stop}
 use Rattle.sdjwt_cli.specs.declared.stop.Stop.TheVariants.{Memory, Unread, Unreadable, Refused}

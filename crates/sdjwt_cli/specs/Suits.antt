@@ -17,12 +17,12 @@ use Rattle.holder_core.specs.declared.ask.Ask.{Ask}
 use Rattle.holder_core.specs.declared.ask.BindingAsk.{BindingAsk}
 use Rattle.holder_core.specs.Present.{shown_for}
 
--- the holder is asked for a key binding token for the audience and with the nonce of the policy, signs it with a key that the
+-- the holder is asked for a key binding token for an audience and with the nonce of the policy, signs it with a key that the
 -- policy knows by the same name, and both moments lie within its age, as far as clocks may differ
 pub record BindingSuits (asked : Option BindingAsk) (signing : List ℕ) (binding : BindingPolicy) (skew presented verified : ℕ) : Type 0 where
   pub ask : BindingAsk
   pub asked_for : asked ≡ Some ask
-  pub aud : ask.aud ≡ binding.aud
+  pub aud : In ask.aud binding.aud
   pub nonce : ask.nonce ≡ binding.nonce
   pub known : key_named binding.keys ask.kid ≡ Some signing
   pub not_stale : verified ≤ presented + binding.max_age + skew

@@ -1,5 +1,5 @@
 -- The command `verify`: what it prints of a token file under a policy file, and when it refuses one.
-use Rattle.std.specs.Prelude.{◌≡◌, ◌≢◌, ℕ, List}
+use Rattle.std.specs.Prelude.{◌≡◌, ℕ, List}
 use Rattle.claim_tree.specs.JsonText.{json_text}
 use Rattle.compact_form.specs.declared.fault.Fault.{Fault}
 use Rattle.marked_tree.specs.Marked.{Marked, strip}

@@ -44,7 +44,7 @@ fn convert_token(alloc: Global, form: Form, token: &Token) -> Result<String, Sto
 }
 
 /// The answer to a token file: its token in a form, as a line.
-pub(crate) fn convert(alloc: Global, form: Form, file: &[u8]) -> Result<String, Stop>
+pub fn convert(alloc: Global, form: Form, file: &[u8]) -> Result<String, Stop>
     ensures converts { IfOk result (λ text. Converts form file.now (string_bytes text)) }
     ensures refuses { IfErr result (λ stop. OnRefused stop (TellsFault (IsConvertRefused form file.now))) }
     ensures read { IfErr result (λ stop. OnUnread stop (λ _. ⊥)) }

@@ -1,11 +1,14 @@
 ghost use Rattle.std.specs.Prelude.{◌≡◌};
 ghost use Rattle.sdjwt_cli.specs.Forms.{form_of};
 
-// A serialization of a token: the compact one, or a JSON one, flattened or general.
+/// A serialization of a token: the compact one (RFC 9901 section 4), or a JSON one, flattened or general (section 8).
 #[derive(Clone, Copy, Debug)]
-pub(crate) enum Form {
+pub enum Form {
+    /// The compact serialization.
     Compact,
+    /// The flattened JSON serialization.
     Flat,
+    /// The general JSON serialization.
     General,
 }
 

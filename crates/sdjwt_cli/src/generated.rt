@@ -9,7 +9,8 @@ ghost use Rattle.sdjwt_cli.specs.GeneratedSteps.{with_member, HasMember, HasNoOt
 
 use b64url_text::encode;
 use claim_tree::{Path, PathList, Tree, TreeList, TreeMap, position};
-use hmac_sign::{Hs256Key, KeySet, KeySetError, KeyShort};
+use disclosure::HashAlg;
+use hmac_sign::{Alg, HsKey, KeySet, KeySetError, KeyShort};
 use holder_core::Ask;
 use issuer_core::{Decoy, DecoyList, Order};
 use sd_outside::{NoMemory, TextBox, TextList};
@@ -190,16 +191,17 @@ pub(crate) fn order_of(alloc: Global, count: u32) -> Result<Order, NoMemory>
         decoys,
         kid: None,
         typ: None,
+        hash: HashAlg::Sha256,
     })
 }
 
 // ---- who signs, asks and verifies
 
 // The key of the issuer.
-pub(crate) fn key() -> Hs256Key
+pub(crate) fn key() -> HsKey
     ensures { result ≡ generated_key }
 {
-    match Hs256Key::new(&KEY) {
+    match HsKey::new(Alg::Hs256, &KEY) {
         Ok(key) => key,
         Err(KeyShort) => unreachable!(),
     }

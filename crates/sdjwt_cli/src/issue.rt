@@ -12,7 +12,7 @@ ghost use Rattle.sdjwt_cli.specs.Stops.{OnRefused, OnUnread, OnUnreadable};
 use crate::lines::{as_line, short_seed_line};
 use crate::stop::{Stop, unreadable};
 use compact_form::{Parts, print};
-use hmac_sign::Hs256Key;
+use hmac_sign::HsKey;
 use issuer_core::{IssueError, IssueFile, Order, issue_owned, read_order, refusal_line};
 use std::alloc::Global;
 
@@ -39,7 +39,7 @@ pub(crate) fn issue_parts(
     alloc: Global,
     order: Order,
     seed: &[u8; SEED_LEN],
-    mut key: Hs256Key,
+    mut key: HsKey,
 ) -> Result<Parts, Stop>
     requires depth { depth (tree_of order.payload) ≤ 127 }
     requires ranged { IsRanged (tree_of order.payload) }
@@ -74,7 +74,7 @@ fn issue_for(alloc: Global, asked: IssueFile, seed: &[u8; SEED_LEN]) -> Result<S
 }
 
 /// The answer to an order file and a seed file.
-pub(crate) fn issue(alloc: Global, order_file: &[u8], seed_file: &[u8]) -> Result<String, Stop>
+pub fn issue(alloc: Global, order_file: &[u8], seed_file: &[u8]) -> Result<String, Stop>
     ensures issues { IfOk result (λ text. Issues order_file.now seed_file.now (string_bytes text)) }
     ensures refuses { IfErr result (λ stop. OnRefused stop (DoesNotIssue order_file.now seed_file.now)) }
     ensures unreadable { IfErr result (λ stop. OnUnreadable stop (HasNoOrder order_file.now seed_file.now)) }

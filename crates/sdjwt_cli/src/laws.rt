@@ -59,5 +59,5 @@ pub fn presented()
 /// some of the disclosures that were issued with it, in any order, with those of all hidden places above, and shows the claims
 /// without the places of the others. The premise is that no disclosure that was not issued has the digest of one that was, or of a decoy.
 pub fn no_forgery<S: Signer>()
-    ensures { (signer : S) → NoForgery (S.good signer) }
+    ensures { (signer : S) → NoForgery (S.alg_of signer) (S.good signer) }
 {}

@@ -3,10 +3,9 @@ ghost use Rattle.std.specs.Prelude.{◌≡◌, IfOk, string_bytes};
 ghost use Rattle.sdjwt_cli.specs.Lines.{line, reason as reason_of, refusal, short_seed, unread_text, unreadable_line as line_of};
 
 use claim_tree::FileFault;
-use compact_form::Fault;
+use compact_form::{Fault, fault_line};
 use sd_outside::{NoMemory, TextBox};
 use std::alloc::Global;
-use verifier_core::fault_line;
 
 // The text with a line end behind it.
 pub(crate) fn as_line(text: TextBox) -> Result<String, NoMemory>

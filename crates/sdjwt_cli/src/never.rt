@@ -7,5 +7,5 @@ use claim_tree::{Path, PathList, is_prefix};
 pub(crate) fn may_be_shown(never: &PathList, place: &Path) -> bool
     ensures { Judges never.now place.now result }
 {
-    !never.paths().iter().any(|front| is_prefix(front, place))
+    !never.elements().iter().any(|front| is_prefix(front, place))
 }

@@ -108,7 +108,7 @@ fn present_for(
 }
 
 /// The answer to an order file and a token file, at a moment.
-pub(crate) fn present(
+pub fn present(
     alloc: Global,
     order_file: &[u8],
     token_file: &[u8],

@@ -221,7 +221,7 @@ fn show_file(alloc: Global, file: &[u8]) -> Result<String, Unshown>
 }
 
 /// The answer to a token file.
-pub(crate) fn show(alloc: Global, file: &[u8]) -> Result<String, Stop>
+pub fn show(alloc: Global, file: &[u8]) -> Result<String, Stop>
     ensures shows { IfOk result (λ text. Shows file.now (string_bytes text)) }
     ensures refuses { IfErr result (λ stop. OnRefused stop (TellsFault (IsShowRefused file.now))) }
     ensures read { IfErr result (λ stop. OnUnread stop (λ _. ⊥)) }

@@ -81,7 +81,7 @@ fn room_for(file: &[u8], disclosures: usize) -> usize {
 }
 
 /// The answer to a token file.
-pub(crate) fn split(alloc: Global, file: &[u8]) -> Result<String, Stop>
+pub fn split(alloc: Global, file: &[u8]) -> Result<String, Stop>
     ensures gives { IfOk result (λ text. Splits file.now (string_bytes text)) }
     ensures refuses { IfErr result (λ stop. OnRefused stop (TellsFault (IsTextRefused file.now))) }
     ensures read { IfErr result (λ stop. OnUnread stop (λ _. ⊥)) }

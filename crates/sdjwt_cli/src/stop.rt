@@ -11,15 +11,16 @@ use compact_form::Fault;
 use sd_outside::NoMemory;
 use std::alloc::Global;
 
-// Why a command has no answer.
+/// Why a command has no answer. Each line has its line end.
 #[derive(Debug, Drop)]
-pub(crate) enum Stop {
+pub enum Stop {
+    /// There was no memory.
     Memory,
-    // The file of this word could not be read. Words are counted behind the command, from 0.
+    /// The file of this word could not be read. Words are counted behind the command, from 0.
     Unread(usize),
-    // A policy, an order or a seed is not of its form, with this line.
+    /// A policy, an order or a seed is not of its form, with this line.
     Unreadable(String),
-    // The command refuses its files, with this line.
+    /// The command refuses its files, with this line.
     Refused(String),
 }
 

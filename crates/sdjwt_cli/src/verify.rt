@@ -25,8 +25,8 @@ fn json_line(alloc: Global, tree: &Tree) -> Result<String, NoMemory>
     as_line(write(alloc, tree)?)
 }
 
-// The policy of a file.
-fn policy_of(alloc: Global, file: &[u8]) -> Result<Policy, Stop>
+/// The policy of a file, or that the file is not of its form.
+pub fn policy_of(alloc: Global, file: &[u8]) -> Result<Policy, Stop>
     ensures policy { IfOk result (IsPolicyFile file.now) }
     ensures unreadable { IfErr result (λ stop. OnUnreadable stop (TellsFileFault (IsPolicyFileRefused file.now))) }
     ensures fit { IfErr result (λ stop. OnRefused stop (λ _. ⊥)) }
@@ -38,8 +38,13 @@ fn policy_of(alloc: Global, file: &[u8]) -> Result<Policy, Stop>
     }
 }
 
-// The answer under a policy, of whatever file.
-fn verify_under(alloc: Global, policy: &Policy, token_file: &[u8], now: u64) -> Result<String, Stop>
+/// The answer under a policy that is read, for every file that says it.
+pub fn verify_under(
+    alloc: Global,
+    policy: &Policy,
+    token_file: &[u8],
+    now: u64,
+) -> Result<String, Stop>
     ensures verifies { (file : List ℕ) → IsPolicyFile file policy.now → IfOk result (λ text. Verifies file token_file.now now (string_bytes text)) }
     ensures refuses { (file : List ℕ) → IsPolicyFile file policy.now → IfErr result (λ stop. OnRefused stop (DoesNotVerify file token_file.now now)) }
     ensures readable { IfErr result (λ stop. OnUnreadable stop (λ _. ⊥)) }
@@ -53,7 +58,7 @@ fn verify_under(alloc: Global, policy: &Policy, token_file: &[u8], now: u64) -> 
 }
 
 /// The answer to a policy file and a token file, at a moment.
-pub(crate) fn verify(
+pub fn verify(
     alloc: Global,
     policy_file: &[u8],
     token_file: &[u8],

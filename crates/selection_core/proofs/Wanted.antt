@@ -6,6 +6,7 @@ use Rattle.std.proofs.lemmas.List.{drop_more, drop_all}
 use Rattle.claim_tree.specs.Tree.{Tree}
 use Rattle.claim_tree.specs.Lists.{StandsAt, IsLeast}
 use Rattle.claim_tree.specs.Path.{tree_at}
+use Rattle.claim_tree.proofs.Counting.{before_or_at}
 use Rattle.claim_tree.proofs.Lists.{At-same, At-below, At-get_or}
 use Rattle.marked_tree.specs.Choice.{is_on_way}
 use Rattle.marked_tree.specs.Marked.{Marked}
@@ -48,12 +49,9 @@ gathered_all m want marks k l gathered i =
     sym (ap (λ (ps : List Path). has marks i || ways_to m ps i) (drop_all k want l) ∙ or_no (has marks i))
     ∙ gathered i ∙ sym (chosen_by_ways m want i)
 
-below_or_last : (q k : ℕ) → q < k + 1 → (q < k) ⊎ (q ≡ k)
-below_or_last q k l = grind arith
-
 pub none_missing_more : (t : Tree) (want : List Path) (k : ℕ) (p : Path) → p ≡ get_or want k p → true ≡ is_some (tree_at t p)
     → NoneMissing t want k → NoneMissing t want (k + 1)
-none_missing_more t want k p e there none q l missing = go (below_or_last q k l)
+none_missing_more t want k p e there none q l missing = go (before_or_at q k l)
   where
     go : (q < k) ⊎ (q ≡ k) → ⊥
     go (inl less) = none q less missing

@@ -11,8 +11,8 @@ ghost use Rattle.selection_core.specs.Consent.{AllAllowed};
 ghost use Rattle.selection_core.specs.AllowCalls.{IsAllowRefused};
 
 use crate::{AllowError, Consent};
-use claim_tree::Path;
-use marked_tree::{ChosenSet, Marked, MarkedList, MarkedMap, digits};
+use claim_tree::{Path, digits};
+use marked_tree::{ChosenSet, Marked, MarkedList, MarkedMap};
 use sd_outside::{NoMemory, TextBox};
 use std::alloc::Global;
 

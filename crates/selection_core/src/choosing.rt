@@ -27,7 +27,7 @@ pub fn choose(alloc: Global, tree: &Marked, wanted: &PathList) -> Result<ChosenS
     ensures refused { IfErr result (IsChooseRefused (strip (marked_of tree.now)) wanted.now) }
 {
     let mut marks = ChosenSet::new(alloc);
-    for (k, path) in wanted.paths().iter().enumerate() {
+    for (k, path) in wanted.elements().iter().enumerate() {
         if !add_way(tree, path, &mut marks)? {
             return Err(ChooseError::NoSuchPlace(k));
         }

@@ -134,7 +134,7 @@ fn each_chosen_place_is_asked_for(rt: HostRuntime) -> Result<(), Fail> {
         let chosen = chosen(alloc, &marked, want)?;
         let never = paths_of(alloc, never)?;
         let consent = Consent::new(|place: &Path| !never
-            .paths()
+            .elements()
             .iter()
             .any(|path| is_prefix(path, place)));
         let answer_told = judged(alloc, allow(alloc, &consent, &marked, &chosen))?;

@@ -6,10 +6,11 @@ use Rattle.claim_tree.specs.Tree.{Text, Tree, leaf, text, get}
 use Rattle.claim_tree.specs.View.{tree_of}
 use Rattle.claim_tree.specs.declared.tree.Tree as tree
 use Rattle.claim_tree.specs.Lists.{StandsAt}
+use Rattle.claim_tree.proofs.Counting.{before_or_at}
 use Rattle.claim_tree.proofs.Lists.{At-same}
 use Rattle.compact_form.specs.declared.condition.Condition.{Condition}
 use Rattle.compact_form.specs.Condition.{number_of}
-use Rattle.verifier_core.specs.Verdict.{ClaimFails}
+use Rattle.verifier_core.specs.Verdict.{ClaimFails, IsIssuerRefused}
 use Rattle.verifier_core.specs.declared.policy.Policy.{Policy}
 use Rattle.compact_form.specs.Passing.{Passes}
 use Rattle.compact_form.proofs.Lowest.{holds_too}
@@ -61,8 +62,8 @@ module _ (payload : Tree) (policy : Policy) (now : ℕ) where
   pub before_issuer : Passes 22 (ClaimFails payload policy now)
   before_issuer c place h = let n = claim_numbers payload policy now c place h in omega (arith, n.0)
 
-  pub before_missing : ((iss : Text) → policy.iss ≡ Some iss → get payload (codes "iss") ≢ Some (leaf (text iss)) → ⊥) → Passes 23 (ClaimFails payload policy now)
-  before_missing holds = holds_too (ClaimFails payload policy now) Condition.IssuerRefused before_issuer (λ place h. holds h.1.0 h.1.1 h.1.2)
+  pub before_missing : (IsIssuerRefused policy.iss (get payload (codes "iss")) → ⊥) → Passes 23 (ClaimFails payload policy now)
+  before_missing holds = holds_too (ClaimFails payload policy now) Condition.IssuerRefused before_issuer (λ place h. holds h.1)
 
   pub before_times : Passes 23 (ClaimFails payload policy now) → ((i : ℕ) (name : Text) → StandsAt policy.require i name → get payload name ≢ None) → Passes 24 (ClaimFails payload policy now)
   before_times below holds = holds_too (ClaimFails payload policy now) Condition.ClaimMissing below (λ place h. holds h.0 h.2.0 h.2.1 h.2.2)
@@ -78,10 +79,7 @@ abbrev pub HasFirst : Tree → List Text → ℕ → Type 0
 HasFirst payload names i = (j : ℕ) (name : Text) → j < i → StandsAt names j name → get payload name ≢ None
 
 pub has_more : (payload : Tree) (names : List Text) (i : ℕ) (name : Text) → HasFirst payload names i → StandsAt names i name → get payload name ≢ None → HasFirst payload names (i + 1)
-has_more payload names i name first at there j other less stands none = ⊎_elim (λ below. first j other below stands none) (λ same. there (subst (λ n. get payload n ≡ None) (At-same names i other name (subst (λ k. StandsAt names k other) same stands) at) none)) (split j i less)
-  where
-    split : (x y : ℕ) → x < y + 1 → (x < y) ⊎ (x ≡ y)
-    split x y l = grind arith
+has_more payload names i name first at there j other less stands none = ⊎_elim (λ below. first j other below stands none) (λ same. there (subst (λ n. get payload n ≡ None) (At-same names i other name (subst (λ k. StandsAt names k other) same stands) at) none)) (before_or_at j i less)
 
 -- what is read at a place stands there
 pub stands : (names : List Text) (i : ℕ) (name : Text) → slice_get names i ≡ Some name → StandsAt names i name

@@ -1,6 +1,9 @@
 pub mod LeastPlaces
 pub mod ClaimSteps
 pub mod Policies
+mod PolicyVersions
+mod PolicyFaults
+mod VersionTwo
 pub mod TokenConditions
 pub mod CheckSteps
 pub mod CheckTests

@@ -1,6 +1,7 @@
 pub mod PolicyFile
+pub mod PolicyVersion
+pub mod VersionTwo
 pub mod Verdict
 pub mod Content
 pub mod Check
-pub mod RefusalText
 pub mod Verdicts

@@ -2,7 +2,7 @@
 use Rattle.std.specs.Prelude.{◌≡◌, ◌≢◌, ℕ, ◌⊎◌, List, Option, Some, None, codes, option_and_then}
 use Rattle.std.specs.List.{AllZip}
 use Rattle.claim_tree.specs.Tree.{Text, Tree, leaf, text, get}
-use Rattle.claim_tree.specs.Lists.{StandsAt, IsSuchAt}
+use Rattle.claim_tree.specs.Lists.{StandsAt, IsSuchAt, In}
 use Rattle.compact_form.specs.declared.fault.Place.{Place}
 use Rattle.compact_form.specs.Faults.{fault_at}
 use Rattle.compact_form.specs.declared.parts.JwtParts.{JwtParts}
@@ -118,10 +118,18 @@ TokenFails token rules Condition.NameClash place = Numbered (OfContent opening.N
 TokenFails token rules Condition.TooDeep place = Unplaced ((payload : Tree) × (given : List Given) × HasContent token payload given × opening.IsTooDeep payload given) place
 TokenFails token rules _ place = ⊥
 
+-- the claim is one of these texts
+abbrev pub NamesIssuer : List Text → Option Tree → Type 0
+NamesIssuer issuers claim = (iss : Text) × In iss issuers × (claim ≡ Some (leaf (text iss)))
+
+-- an issuer is asked for, and the claim is none of those
+abbrev pub IsIssuerRefused : Option (List Text) → Option Tree → Type 0
+IsIssuerRefused asked claim = (issuers : List Text) × (asked ≡ Some issuers) × (NamesIssuer issuers claim → ⊥)
+
 -- what fails each condition on the processed payload, at a moment in seconds since 1970
 abbrev pub ClaimFails : Tree → Policy → ℕ → Condition → Place → Type 0
 ClaimFails payload policy now Condition.IssuerRefused place =
-    Unplaced ((iss : Text) × (policy.iss ≡ Some iss) × (get payload (codes "iss") ≢ Some (leaf (text iss)))) place
+    Unplaced (IsIssuerRefused policy.iss (get payload (codes "iss"))) place
 ClaimFails payload policy now Condition.ClaimMissing place = Numbered (IsSuchAt (λ name. get payload name ≡ None) policy.require) place
 ClaimFails payload policy now Condition.TimeUnreadable place = Unplaced (IsTimeUnreadable payload) place
 ClaimFails payload policy now Condition.Expired place = Unplaced (IsExpired payload policy.skew now) place

@@ -10,6 +10,7 @@ ghost use Rattle.hmac_sign.specs.Keys.{IsKeySet};
 ghost use Rattle.hmac_sign.specs.declared.key_set.NamedKey.{NamedKey};
 ghost use Rattle.verifier_core.specs.PolicyFile.{IsBindingPolicy};
 
+use crate::policy_version::{PolicyVersion, audiences_in};
 use claim_tree::{Field, FileFault, Tree, TreeMap, whole_up_to};
 use hmac_sign::{KeySet, KeySetError};
 use key_binding::{BindingPolicy, short_text_in};
@@ -45,9 +46,13 @@ fn max_age_in(members: &TreeMap) -> Option<u32>
     whole_up_to(members.get("max_age")?, AGE_MAX)
 }
 
-fn binding_of(alloc: Global, tree: &Tree) -> Result<Option<BindingPolicy>, NoMemory>
-    ensures binding { IfOk result (λ binding. IfSome binding (IsBindingPolicy (tree_of tree.now))) }
-    ensures none { IfOk result (λ binding. IfNone binding (HasValue IsBindingPolicy (tree_of tree.now) → ⊥)) }
+fn binding_of(
+    alloc: Global,
+    tree: &Tree,
+    version: PolicyVersion,
+) -> Result<Option<BindingPolicy>, NoMemory>
+    ensures binding { IfOk result (λ binding. IfSome binding (IsBindingPolicy version (tree_of tree.now))) }
+    ensures none { IfOk result (λ binding. IfNone binding (HasValue (IsBindingPolicy version) (tree_of tree.now) → ⊥)) }
 {
     let Tree::Object(members) = tree else {
         return Ok(None);
@@ -55,7 +60,7 @@ fn binding_of(alloc: Global, tree: &Tree) -> Result<Option<BindingPolicy>, NoMem
     if members.len() != MEMBERS {
         return Ok(None);
     }
-    let Some(aud) = short_text_in(alloc, members, "aud")? else {
+    let Some(aud) = audiences_in(alloc, members, version)? else {
         return Ok(None);
     };
     let Some(nonce) = short_text_in(alloc, members, "nonce")? else {
@@ -79,14 +84,15 @@ fn binding_of(alloc: Global, tree: &Tree) -> Result<Option<BindingPolicy>, NoMem
 pub(crate) fn binding_member(
     alloc: Global,
     members: &TreeMap,
+    version: PolicyVersion,
 ) -> Result<Option<BindingPolicy>, FileFault>
-    ensures ok { IfOk result (MaySay IsBindingPolicy (found members.now Binding)) }
-    ensures refused { IfErr result (IsMemberRefused (optional Binding IsBindingPolicy) members.now) }
+    ensures ok { IfOk result (MaySay (IsBindingPolicy version) (found members.now Binding)) }
+    ensures refused { IfErr result (IsMemberRefused (optional Binding (IsBindingPolicy version)) members.now) }
 {
     let Some(tree) = members.get(Field::Binding.word()) else {
         return Ok(None);
     };
-    match binding_of(alloc, tree)? {
+    match binding_of(alloc, tree, version)? {
         Some(binding) => Ok(Some(binding)),
         None => Err(FileFault::Wrong(Field::Binding)),
     }

@@ -1,7 +1,6 @@
 // The header of a token, and its signature.
-ghost use Rattle.std.specs.Prelude.{◌≡◌, ℕ, Some, IfErr, IfSome, IfNone, OnOk, option_map};
+ghost use Rattle.std.specs.Prelude.{◌≡◌, Some, IfErr, IfSome, IfNone, OnOk, option_map};
 ghost use Rattle.std.specs.Option.{option_copied};
-ghost use Rattle.claim_tree.specs.Lists.{StandsAt};
 ghost use Rattle.compact_form.specs.Views.{jwt_of};
 ghost use Rattle.hmac_sign.specs.Algs.{alg_of_text};
 ghost use Rattle.jws_part.specs.Header.{IsHeader};
@@ -15,6 +14,7 @@ use claim_tree::TreeMap;
 use compact_form::{Condition, JwtView};
 use hmac_sign::{Alg, HsKey, KeySet, alg_named};
 use jws_part::{Header, HeaderError, read_header};
+use key_binding::is_among;
 use sd_outside::{TextBox, TextList};
 use std::alloc::Global;
 
@@ -34,26 +34,6 @@ fn key_for<'a>(keys: &'a KeySet, header: &Header, alg: Alg) -> Option<&'a HsKey>
         Some(kid) => keys.pick(Some(kid.as_str()), alg),
         None => keys.pick(None, alg),
     }
-}
-
-fn is_at(algs: &TextList, i: usize, alg: &str) -> bool
-    ensures { TestTells result (StandsAt algs.now i alg.now) }
-{
-    match algs.at(i) {
-        Some(other) => other.as_str() == alg,
-        None => false,
-    }
-}
-
-fn is_among(algs: &TextList, alg: &str) -> bool
-    ensures { TestTells result ((i : ℕ) × StandsAt algs.now i alg.now) }
-{
-    for i in 0..algs.len() {
-        if is_at(algs, i, alg) {
-            return true;
-        }
-    }
-    false
 }
 
 // The algorithm of this name, where it is one of those.

@@ -1,33 +1,34 @@
 // What a policy wants of the claims of the processed payload.
 ghost use Rattle.std.specs.Prelude.{◌≡◌, ◌≢◌, ◌↔◌, ℕ, Some, None, codes, IsTrue, OnOk, IfErr, IfSome, IfNone};
-ghost use Rattle.claim_tree.specs.Tree.{Text, leaf, text, get as get_of, IsRanged};
+ghost use Rattle.claim_tree.specs.Tree.{Text, get as get_of, IsRanged};
 ghost use Rattle.claim_tree.specs.Lists.{StandsAt, IsLeast};
 ghost use Rattle.claim_tree.specs.View.{tree_of};
-ghost use Rattle.verifier_core.specs.Verdict.{ClaimFails};
+ghost use Rattle.verifier_core.specs.Verdict.{ClaimFails, NamesIssuer, IsIssuerRefused};
 ghost use Rattle.compact_form.specs.Lowest.{IsLowest, NoneFails};
 
 use crate::Policy;
 use claim_tree::{Tree, get};
 use compact_form::{Condition, Fault, Place};
 use jws_part::{is_expired, is_not_yet, is_time_unreadable};
-use sd_outside::{TextBox, TextList};
+use key_binding::is_among;
+use sd_outside::TextList;
 
-// Whether the payload names this issuer.
-fn has_issuer(payload: &Tree, iss: &TextBox) -> bool
-    ensures { IsTrue result ↔ (get_of (tree_of payload.now) (codes "iss") ≡ Some (leaf (text iss.now))) }
+// Whether the payload names one of these issuers.
+fn has_issuer(payload: &Tree, issuers: &TextList) -> bool
+    ensures { IsTrue result ↔ NamesIssuer issuers.now (get_of (tree_of payload.now) (codes "iss")) }
 {
     match get(payload, "iss") {
-        Some(Tree::Text(named)) => named.as_str() == iss.as_str(),
+        Some(Tree::Text(named)) => is_among(issuers, named.as_str()),
         _ => false,
     }
 }
 
 // Whether an issuer is wanted, and the payload names none or another (RFC 7519 section 4.1.1).
 fn is_issuer_refused(payload: &Tree, policy: &Policy) -> bool
-    ensures { IsTrue result ↔ ((iss : Text) × (policy.now.iss ≡ Some iss) × (get_of (tree_of payload.now) (codes "iss") ≢ Some (leaf (text iss)))) }
+    ensures { IsTrue result ↔ IsIssuerRefused policy.now.iss (get_of (tree_of payload.now) (codes "iss")) }
 {
     match &policy.iss {
-        Some(iss) => !has_issuer(payload, iss),
+        Some(issuers) => !has_issuer(payload, issuers),
         None => false,
     }
 }

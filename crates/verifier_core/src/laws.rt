@@ -1,5 +1,6 @@
 //! What the definitions of conditions and policies say together. Each law holds for every value.
-ghost use Rattle.std.specs.Prelude.{◌≡◌, ◌≢◌, ℕ, List, false};
+ghost use Rattle.std.specs.Prelude.{◌≡◌, ◌≢◌, ◌≤◌, ℕ, List, false, length};
+ghost use Rattle.sd_outside.specs.Limits.{file_max};
 ghost use Rattle.claim_tree.specs.declared.file_fault.FileFault.{FileFault};
 ghost use Rattle.claim_tree.specs.JsonText.{json_text};
 ghost use Rattle.claim_tree.specs.Tree.{no_members};
@@ -11,6 +12,7 @@ ghost use Rattle.json_form.specs.Token.{IsToken, Spells};
 ghost use Rattle.json_form.specs.Written.{flat_of, general_of};
 ghost use Rattle.marked_tree.specs.Marked.{Marked};
 ghost use Rattle.verifier_core.specs.PolicyFile.{IsPolicyFile, IsPolicyFileRefused};
+ghost use Rattle.verifier_core.specs.VersionTwo.{SaysInTwo};
 ghost use Rattle.verifier_core.specs.Verdict.{Fails, IsAccepted};
 ghost use Rattle.verifier_core.specs.Verdicts.{HaveOneVerdict};
 ghost use Rattle.compact_form.specs.Lowest.{IsLowest};
@@ -22,6 +24,12 @@ pub fn one_policy()
     ensures not_both { (bytes : List ℕ) (policy : Policy) (fault : FileFault) → IsPolicyFile bytes policy → IsPolicyFileRefused bytes fault → fault ≡ FileFault.Memory }
     ensures one_fault { (bytes : List ℕ) (fault other : FileFault) → IsPolicyFileRefused bytes fault → IsPolicyFileRefused bytes other
         → fault ≢ FileFault.Memory → other ≢ FileFault.Memory → fault ≡ other }
+{}
+
+/// A policy of version 1 is that of version 2 with the same members, where `iss` and the audience are lists of one.
+pub fn version_one()
+    ensures said { (one two : List ℕ) (policy : Policy) → length two ≤ file_max → SaysInTwo one two → IsPolicyFile one policy → IsPolicyFile two policy }
+    ensures equal { (one two : List ℕ) (policy other : Policy) → length two ≤ file_max → SaysInTwo one two → IsPolicyFile one policy → IsPolicyFile two other → policy ≡ other }
 {}
 
 /// A text under a policy at a moment is accepted with one payload, or refused with one fault.

@@ -17,14 +17,15 @@ mod claims;
 mod content;
 pub mod laws;
 mod policy;
-mod refusal;
+mod policy_version;
 mod rules;
 mod verdict;
 
 pub use binding_file::AGE_MAX;
 pub use check::{Checked, CheckedMarks, CheckedPayload, VerifyError, check_token, check_view};
+pub use compact_form::fault_line;
 pub use content::Content;
 pub use policy::{Policy, SKEW_MAX, keys_member, read_policy};
-pub use refusal::fault_line;
+pub use policy_version::AUDIENCES_MAX;
 pub use rules::Rules;
 pub use verdict::{Accepted, verify, verify_payload};

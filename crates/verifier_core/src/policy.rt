@@ -10,6 +10,7 @@ ghost use Rattle.verifier_core.specs.Verdict.{rules_of};
 
 use crate::Rules;
 use crate::binding_file::binding_member;
+use crate::policy_version::{issuers_member, version_member};
 use claim_tree::{
     Field, FileFault, TreeMap, read_members, text_list_member, text_member, whole_member,
 };
@@ -22,7 +23,8 @@ use std::alloc::Global;
 /// The most seconds by which clocks may differ.
 pub const SKEW_MAX: u32 = 3_600;
 
-const FIELDS: [Field; 7] = [
+const FIELDS: [Field; 8] = [
+    Field::Version,
     Field::Keys,
     Field::Algs,
     Field::Typ,
@@ -41,8 +43,8 @@ pub struct Policy {
     pub algs: TextList,
     /// The type that the header has to name (RFC 7515 section 4.1.9), where one is wanted.
     pub typ: Option<TextBox>,
-    /// The issuer that the payload has to name (RFC 7519 section 4.1.1), where one is wanted.
-    pub iss: Option<TextBox>,
+    /// The issuers of which the payload has to name one (RFC 7519 section 4.1.1), where one is wanted.
+    pub iss: Option<TextList>,
     /// The names of the claims that the processed payload has to have.
     pub require: TextList,
     /// The seconds by which the clocks may differ, at most [`SKEW_MAX`].
@@ -119,18 +121,22 @@ fn skew_member(members: &TreeMap) -> Result<u32, FileFault>
 /// missing, the algorithm is HS256, nothing else is wanted, and the clocks do not differ. `binding` is an object of just `aud` and
 /// `nonce`, texts of at most 256 bytes, `keys`, a key set, and `max_age`, a whole number of seconds below 2^32; where it is
 /// missing, no key binding token is asked for. Another member is a fault.
+///
+/// `version` is 1 or 2, and 1 where it is missing. In version 2 `iss` is a list of at least one text, and `aud` one of 1 to 16
+/// texts.
 pub fn read_policy(alloc: Global, bytes: &[u8]) -> Result<Policy, FileFault>
     ensures ok { IfOk result (IsPolicyFile bytes.now) }
     ensures refused { IfErr result (IsPolicyFileRefused bytes.now) }
 {
     let members = read_members(alloc, bytes, FILE_MAX, &FIELDS)?;
+    let version = version_member(&members)?;
     let keys = keys_member(alloc, &members, Field::Keys)?;
     let algs = algs_member(alloc, &members)?;
     let typ = text_member(alloc, &members, Field::Typ)?;
-    let iss = text_member(alloc, &members, Field::Iss)?;
+    let iss = issuers_member(alloc, &members, version)?;
     let require = require_member(alloc, &members)?;
     let skew = skew_member(&members)?;
-    let binding = binding_member(alloc, &members)?;
+    let binding = binding_member(alloc, &members, version)?;
     Ok(Policy {
         keys,
         algs,

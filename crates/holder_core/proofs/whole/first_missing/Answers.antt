@@ -13,18 +13,18 @@ loop-k-init c = λ q l. absurd (omega (arith, l))
 pub returns-then-is_none-clause-least : goal.returns-then-is_none-clause-least
 returns-then-is_none-clause-least c =
     let t = tree_of c.args.payload.now in
-    let want = c.paths-path-items.result.now in
-    subst (λ (ps : List Path). IsLeast (IsMissing t ps) c.loop-k.k) c.paths-path-items.ensures
+    let want = c.elements-path-items.result.now in
+    subst (λ (ps : List Path). IsLeast (IsMissing t ps) c.loop-k.k) c.elements-path-items.ensures
     (first_missing t want c.loop-k.k c.path-item.result c.loop-k-test.true c.path-item.is (nothing_found _ c.find.result _ c.find.ensures.value c.if-is_none.ensures) c.loop-k.invariant)
 
 pub loop-k-preserved : goal.loop-k-preserved
 loop-k-preserved c =
     let t = tree_of c.args.payload.now in
-    let want = c.paths-path-items.result.now in
+    let want = c.elements-path-items.result.now in
     none_missing_more t want c.loop-k.k c.path-item.result c.path-item.is (something_found _ c.find.result _ c.find.ensures.value c.if-is_none.ensures) c.loop-k.invariant
 
 pub returns-clause-there : goal.returns-clause-there
 returns-clause-there c none =
     let t = tree_of c.args.payload.now in
-    subst (λ (ps : List Path). AtNone (IsMissing t ps)) c.paths-path-items.ensures
-    (none_missing_all t c.paths-path-items.result.now c.loop-k.k c.loop-k-test.false c.loop-k.invariant)
+    subst (λ (ps : List Path). AtNone (IsMissing t ps)) c.elements-path-items.ensures
+    (none_missing_all t c.elements-path-items.result.now c.loop-k.k c.loop-k-test.false c.loop-k.invariant)

@@ -1,4 +1,4 @@
-use Rattle.std.proofs.Common.{length, ap, arith}
+use Rattle.std.proofs.Common.{length, ap, ◌∙◌, arith}
 use Rattle.std.proofs.lemmas.Result.{IfOk-weaker, IfErr-weaker}
 use Rattle.std.specs.Set.{distinct_count}
 use Rattle.sd_outside.specs.Limits.{count_max}
@@ -8,24 +8,25 @@ use Rattle.issuer_core.specs.Decoys.{decoy_paths}
 use Rattle.issuer_core.specs.declared.errors.IssueError.TheVariants.{TooManyHidden, TooManyDecoys}
 use Rattle.issuer_core.specs.Order.{order_of}
 use Rattle.issuer_core.specs.Seed.{maker_of}
+use Rattle.issuer_core.specs.Written.{header_of}
 use Rattle.issuer_core.proofs.FromLaid.{order_refused, finished_issued, finished_laid, unfinished_refused, no_clash, laid_words, body_object, body_ranged, not_more}
 use Rattle.issuer_core.proofs.issuing.issue_owned.Goals as goal
 
 pub returns-in-Err-clause-refused : goal.returns-in-Err-clause-refused
-returns-in-Err-clause-refused g c = order_refused (maker_of c.args.seed.now) (order_of c.args.order) (g.S.Signatures.good c.args.signer.now) c.in-Err.error c.in-Err.ensures.refused
+returns-in-Err-clause-refused g c = order_refused (maker_of c.args.seed.now) (order_of c.args.order) (g.S.Signer.alg_of c.args.signer.now) (g.S.Signatures.good c.args.signer.now) c.in-Err.error c.in-Err.ensures.refused
 
 pub returns-clause-issued : goal.returns-clause-issued
 returns-clause-issued g c =
     let l = c.in_ok-laid.laid in
     IfOk-weaker c.issue_laid.result _ _
-    (finished_issued c.args.seed.now (order_of c.args.order) (tree_of l.payload) l.texts l.digests c.in_ok-laid.ensures.laid c.in_ok-header.header c.in_ok-header.ensures (g.S.Signatures.good c.args.signer.now) c.in_default.ensures.good c.requires.ranged c.in_default.ensures.held)
+    (finished_issued c.args.seed.now (order_of c.args.order) (tree_of l.payload) l.texts l.digests c.in_ok-laid.ensures.laid c.in_ok-header.header (g.S.Signer.alg_of c.args.signer.now) (c.in_ok-header.ensures ∙ ap (λ alg. header_of alg (order_of c.args.order)) c.alg.ensures) (g.S.Signatures.good c.args.signer.now) c.in_default.ensures.good c.requires.ranged c.in_default.ensures.held)
     c.issue_laid.ensures.finished
 
 pub returns-clause-laid : goal.returns-clause-laid
 returns-clause-laid g c =
     let l = c.in_ok-laid.laid in
     IfOk-weaker c.issue_laid.result _ _
-    (finished_laid c.args.seed.now (order_of c.args.order) (tree_of l.payload) l.texts l.digests c.in_ok-laid.ensures.laid c.in_ok-header.header c.in_ok-header.ensures (g.S.Signatures.good c.args.signer.now))
+    (finished_laid c.args.seed.now (order_of c.args.order) (tree_of l.payload) l.texts l.digests c.in_ok-laid.ensures.laid c.in_ok-header.header (g.S.Signer.alg_of c.args.signer.now) (c.in_ok-header.ensures ∙ ap (λ alg. header_of alg (order_of c.args.order)) c.alg.ensures) (g.S.Signatures.good c.args.signer.now))
     c.issue_laid.ensures.finished
 
 pub returns-clause-passes : goal.returns-clause-passes
@@ -54,7 +55,7 @@ pub returns-clause-refused : goal.returns-clause-refused
 returns-clause-refused g c =
     let l = c.in_ok-laid.laid in
     IfErr-weaker c.issue_laid.result _ _
-    (unfinished_refused c.args.seed.now (order_of c.args.order) (tree_of l.payload) l.texts l.digests c.in_ok-laid.ensures.laid c.in_ok-header.header c.in_ok-header.ensures (g.S.Signatures.good c.args.signer.now) c.in_default.ensures.passes)
+    (unfinished_refused c.args.seed.now (order_of c.args.order) (tree_of l.payload) l.texts l.digests c.in_ok-laid.ensures.laid c.in_ok-header.header (g.S.Signer.alg_of c.args.signer.now) (c.in_ok-header.ensures ∙ ap (λ alg. header_of alg (order_of c.args.order)) c.alg.ensures) (g.S.Signatures.good c.args.signer.now) c.in_default.ensures.passes)
     c.issue_laid.ensures.unfinished
 
 pub lay_order-requires-clause-few : goal.lay_order-requires-clause-few

@@ -21,8 +21,8 @@ decreases-lay_map l = 3 * members_nodes (strip_members l.members) + 2
 
 abbrev pub invariant-lay_list-loop-mark : goal.invariant-lay_list-loop-mark
 invariant-lay_list-loop-mark l =
-    LaysElements l.fn.decoys l.fn.salts l.fn.layer.texts l.fn.list l.laid l.layer.texts l.layer.digests (marked_elements_of (into_iter_items l.mark-iterator))
+    LaysElements l.fn.decoys l.fn.hiding l.fn.layer.texts l.fn.list l.laid l.layer.texts l.layer.digests (marked_elements_of (into_iter_items l.mark-iterator))
 
 abbrev pub invariant-lay_map-loop-name : goal.invariant-lay_map-loop-name
 invariant-lay_map-loop-name l =
-    LaysMembers l.fn.decoys l.fn.salts l.fn.layer.texts l.fn.members l.laid l.digests.items l.layer.texts l.layer.digests (marked_members_of (into_iter_items l.name-iterator))
+    LaysMembers l.fn.decoys l.fn.hiding l.fn.layer.texts l.fn.members l.laid l.digests.items l.layer.texts l.layer.digests (marked_members_of (into_iter_items l.name-iterator))

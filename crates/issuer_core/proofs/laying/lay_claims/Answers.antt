@@ -16,12 +16,12 @@ lay-requires-clause-salts c =
     omega (arith, none, many)
 
 pub returns-clause-laid : goal.returns-clause-laid
-returns-clause-laid c dec tells more = c.in_ok-payload-2.ensures ∙ ap with_alg (c.in_ok-payload.ensures.laid dec tells more)
+returns-clause-laid c dec tells more = c.in_ok-payload-2.ensures ∙ ap (with_alg c.args.hiding.hash) (c.in_ok-payload.ensures.laid dec tells more)
 
 pub returns-clause-texts : goal.returns-clause-texts
 returns-clause-texts c dec tells more =
     let texts = c.lay.new.layer.texts in
-    subst (λ old. texts ≡ old ++ made_texts (salted c.args.salts.now) (length old) (laid_given dec (digest_at (texts ++ more)) (marked_of c.args.claims))) c.new-layer.ensures.texts (c.in_ok-payload.ensures.texts dec tells more)
+    subst (λ old. texts ≡ old ++ made_texts (salted c.args.hiding.salts.now) (length old) (laid_given dec (digest_at c.args.hiding.hash (texts ++ more)) (marked_of c.args.claims))) c.new-layer.ensures.texts (c.in_ok-payload.ensures.texts dec tells more)
 
 pub returns-clause-count : goal.returns-clause-count
 returns-clause-count c =

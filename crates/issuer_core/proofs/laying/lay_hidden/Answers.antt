@@ -31,8 +31,8 @@ returns-clause-laid c =
     IfOk-weaker c.lay_salted.result _ _
     (λ l h. order_laid c.args.seed.now o salts l.texts l.digests (tree_of l.payload) many
     (λ k low. sym (c.in_ok-salts.ensures.each k (omega (arith, low, long))))
-    (subst (λ n. IsLaidWith salts n (decoys_of o) (order.marked_claims o) (tree_of l.payload) l.texts l.digests) hidden
-    (subst (λ m. IsLaidWith salts c.in_ok-claims.hidden (decoys_of o) m (tree_of l.payload) l.texts l.digests) marked h)))
+    (subst (λ n. IsLaidWith o.hash salts n (decoys_of o) (order.marked_claims o) (tree_of l.payload) l.texts l.digests) hidden
+    (subst (λ m. IsLaidWith o.hash salts c.in_ok-claims.hidden (decoys_of o) m (tree_of l.payload) l.texts l.digests) marked h)))
     c.lay_salted.ensures
 
 pub returns-clause-few : goal.returns-clause-few

@@ -1,10 +1,11 @@
 use Rattle.std.proofs.Common.{◌≡◌, List, ◌++◌, length, map, drop, sym, ap, ap₂, subst, ◌∙◌}
 use Rattle.claim_tree.specs.Tree.{Text}
+use Rattle.disclosure.specs.Digest.{digest_of}
 use Rattle.marked_tree.specs.Paths.{Path}
 use Rattle.marked_tree.specs.Rests.{rests, AreSorted}
 use Rattle.marked_tree.proofs.PathOrder.{rests_zero}
 use Rattle.issuer_core.specs.Decoys.{decoy_paths}
-use Rattle.issuer_core.specs.Laying.{digest, digests_on_path, placed_at}
+use Rattle.issuer_core.specs.Laying.{digests_on_path, placed_at}
 use Rattle.issuer_core.proofs.laying.lay_salted.Goals as goal
 
 pub lay_claims-requires-clause-decoys : goal.lay_claims-requires-clause-decoys
@@ -20,7 +21,7 @@ pub returns : goal.returns
 returns c =
     let d = c.all.result in
     let ps = decoy_paths c.args.decoys.now in
-    let seen : (q : Path) → placed_at d q ≡ digests_on_path ps (map digest (drop c.args.hidden c.args.salts.now)) q =
+    let seen : (q : Path) → placed_at d q ≡ digests_on_path ps (map (digest_of c.args.hiding.hash) (drop c.args.hidden c.args.hiding.salts.now)) q =
     λ q. ap (λ n. digests_on_path (rests n d.paths.now) d.digests.now q) c.all.ensures.depth
     ∙ (ap₂ (λ (xs : List Path) (ds : List Text). digests_on_path xs ds q) (rests_zero d.paths.now ∙ c.all.ensures.paths) c.all.ensures.digests
     ∙ (c.in_ok-sorted.ensures.placed q ∙ ap (λ ds. digests_on_path ps ds q) c.in_ok-of_decoys.ensures)) in

@@ -9,5 +9,5 @@ pub returns-in_ok-insert-in-Object : goal.returns-in_ok-insert-in-Object
 unfolding alg_name
 returns-in_ok-insert-in-Object c =
     ap object
-    (c.in_ok-insert-in-Object.ensures.ok ∙ ap₂ (λ (name value : Text). inserted c.in-Object.members name (leaf (text value))) c.in_ok-name-in-Object.ensures c.in_ok-make-in-Object.ensures)
-    ∙ sym (ap (λ t. with_alg (tree_of t)) c.in-Object.is)
+    (c.in_ok-insert-in-Object.ensures.ok ∙ ap₂ (λ (name value : Text). inserted c.in-Object.members name (leaf (text value))) c.in_ok-name-in-Object.ensures (c.in_ok-make-in-Object.ensures ∙ c.name.ensures))
+    ∙ sym (ap (λ t. with_alg c.args.hash (tree_of t)) c.in-Object.is)

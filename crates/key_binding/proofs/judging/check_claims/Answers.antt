@@ -29,8 +29,8 @@ returns-then-ne-clause-refused c =
     refuse j Condition.NonceDiffers made
     (refl, (claims, read, told_other claims.nonce j.policy.nonce c.ne.result (c.ne.ensures ∙ ap (λ t. not (bytes_eq claims.nonce t)) c.as_str.ensures) c.if-ne.true))
 
-pub returns-then-ne-2-clause-refused : goal.returns-then-ne-2-clause-refused
-returns-then-ne-2-clause-refused c =
+pub returns-then-not-is_among-clause-refused : goal.returns-then-not-is_among-clause-refused
+returns-then-not-is_among-clause-refused c =
     let j = judged_of c.args.bound in
     let claims = claims_of c.args.claims in
     let read = c.requires.read in
@@ -38,7 +38,7 @@ returns-then-ne-2-clause-refused c =
     let made = at35 j fresh claims read (λ early. no_truth _ c.if-is_early.false (c.is_early.ensures.1 early)) in
     let nonces = told_same claims.nonce j.policy.nonce c.ne.result (c.ne.ensures ∙ ap (λ t. not (bytes_eq claims.nonce t)) c.as_str.ensures) c.if-ne.false in
     refuse j Condition.AudienceDiffers (at36 j made claims read nonces)
-    (refl, (claims, read, told_other claims.aud j.policy.aud c.ne-2.result (c.ne-2.ensures ∙ ap (λ t. not (bytes_eq claims.aud t)) c.as_str-2.ensures) c.if-ne-2.true))
+    (refl, (claims, read, λ among. no_truth _ c.if-not-is_among.true (c.is_among.ensures.1 among)))
 
 pub returns-clause-ok : goal.returns-clause-ok
 returns-clause-ok c =
@@ -48,5 +48,4 @@ returns-clause-ok c =
     let fresh = at34 j c.requires.below claims read (λ stale. no_truth _ c.if-is_stale.false (c.is_stale.ensures.1 stale)) in
     let made = at35 j fresh claims read (λ early. no_truth _ c.if-is_early.false (c.is_early.ensures.1 early)) in
     let nonces = told_same claims.nonce j.policy.nonce c.ne.result (c.ne.ensures ∙ ap (λ t. not (bytes_eq claims.nonce t)) c.as_str.ensures) c.if-ne.false in
-    let auds = told_same claims.aud j.policy.aud c.ne-2.result (c.ne-2.ensures ∙ ap (λ t. not (bytes_eq claims.aud t)) c.as_str-2.ensures) c.if-ne-2.false in
-    at37 j (at36 j made claims read nonces) claims read auds
+    at37 j (at36 j made claims read nonces) claims read (c.is_among.ensures.0 c.if-not-is_among.false)

@@ -67,4 +67,4 @@ reveal-overflow_cast-result t c =
 pub reveal-returns : goal.reveal-returns
 reveal-returns t c =
     let some : 0 < c.args.fuel = omega arith in
-    found_shows c.args.fuel c.args.given.now c.args.digest.now c.in-Some.number (given_of c.in-Some.item.now) c.in-Some.ensures some c.in_ok-copy_name.field-0 (marked_of c.in_ok-tree.tree) c.in_ok-copy_name.ensures c.in_ok-tree.ensures
+    found_shows c.args.fuel c.args.given.now c.args.digest.now c.in-Some.number (given_of c.in-Some.item.now) c.in-Some.ensures some c.in_ok-copy_text.field-0 (marked_of c.in_ok-tree.tree) c.in_ok-copy_text.ensures c.in_ok-tree.ensures

@@ -75,7 +75,7 @@ open_next-overflow_cast-result t c = omega (arith, few_numbers _ _ _ c.requires.
 pub open_next-returns-clause-shown : goal.open_next-returns-clause-shown
 open_next-returns-clause-shown t c = λ digest tells.
     let e = shows _ _ _ c.requires.ready c.index-number.result.now (given_of c.in-Some.item.now) c.in-Some.ensures c.args.at.now digest c.requires.within c.index-number.ensures tells in
-    (rw (c.in_ok-copy_name.ensures, c.in_ok-tree.ensures.opened.0) (sym e), c.in_ok-tree.ensures.opened.1)
+    (rw (c.in_ok-copy_text.ensures, c.in_ok-tree.ensures.opened.0) (sym e), c.in_ok-tree.ensures.opened.1)
 
 -- ---- the object
 

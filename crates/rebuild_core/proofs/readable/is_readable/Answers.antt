@@ -2,11 +2,11 @@ use Rattle.std.proofs.Common.{◌≡◌, ◌<◌, ⊎_elim, length, sym, ap, sub
 use Rattle.std.proofs.lemmas.List.{length-map}
 use Rattle.claim_tree.specs.Tree.{IsOrdered}
 use Rattle.claim_tree.specs.Lists.{StandsAt}
+use Rattle.claim_tree.proofs.Counting.{before_or_at}
 use Rattle.claim_tree.proofs.Lists.{At-below, At-same, In-At}
 use Rattle.digest_sites.specs.Given.{Given}
 use Rattle.digest_sites.specs.GivenView.{given_of}
 use Rattle.rebuild_core.proofs.GivenFacts.{item_at}
-use Rattle.rebuild_core.proofs.LeastIll.{split}
 use Rattle.rebuild_core.proofs.readable.is_readable.Goals as goal
 
 pub loop-item-preserved : goal.loop-item-preserved
@@ -17,7 +17,7 @@ loop-item-preserved c = λ i x l a. ⊎_elim
     let at = item_at c.items-item-items.result.now c.args.given.now c.loop-item.item-index c.item-item.result c.items-item-items.ensures c.loop-item-test.true c.item-item.is in
     let same : x ≡ item = At-same c.args.given.now c.loop-item.item-index x item (subst (λ z. StandsAt c.args.given.now z x) here a) at in
     subst (λ (z : Given). IsOrdered z.value) (sym same) c.is_ordered-in-loop-item.ensures)
-    (split i c.loop-item.item-index l)
+    (before_or_at i c.loop-item.item-index l)
 
 pub returns : goal.returns
 returns c = record {

@@ -4,7 +4,7 @@ use Rattle.issuer_core.specs.declared.errors.IssueError.TheVariants.{Memory, Sig
 use Rattle.issuer_core.specs.Order.{order_of}
 use Rattle.issuer_core.specs.Seed.{maker_of}
 use Rattle.sdjwt_cli.specs.Lines.{line}
-use Rattle.sdjwt_cli.proofs.Issuings.{never, lowest, line_of}
+use Rattle.sdjwt_cli.proofs.Issuings.{never, lowest}
 use Rattle.sdjwt_cli.proofs.issue.issue_parts.Goals as goal
 
 pub returns-in-Ok-clause-issued : goal.returns-in-Ok-clause-issued
@@ -26,6 +26,6 @@ returns-in_ok-as_line-in-Err-clause-refuses c =
     let failed : error ≢ SignFailed = λ is. never (c.in-Err.ensures.failed (ap Err is)) in
     record {
       error = error;
-      lowest = lowest (maker_of c.args.seed.now) (order_of c.args.order) (IsGood c.args.key) error memory failed c.in-Err.ensures.refused;
-      line_is = c.in_ok-as_line-in-Err.ensures ∙ ap line (line_of error memory failed c.in_ok-refusal_line-in-Err.field-0 c.in_ok-refusal_line-in-Err.ensures);
+      lowest = lowest (maker_of c.args.seed.now) (order_of c.args.order) c.args.key.alg (IsGood c.args.key) error memory failed c.in-Err.ensures.refused;
+      line_is = c.in_ok-as_line-in-Err.ensures ∙ ap line c.in_ok-refusal_line-in-Err.ensures;
     }

@@ -8,4 +8,4 @@ pub returns : goal.returns
 returns c =
     let at = c.args.place.now in
     let cases = cases_from_any _ _ _ (λ front. is_front front at ≡ true) (λ front. is_front front at ≡ true → ⊥) c.any.ensures.ran (YieldsList-from_slice c.paths.result.now c.iter.ensures.rest) (λ x q k. search (rules, tests)) (λ x q k. search (rules, tests)) in
-    judged c.args.never.now at c.any.result (rw (c.paths.ensures) at cases)
+    judged c.args.never.now at c.any.result (rw (c.elements.ensures) at cases)

@@ -1,7 +1,7 @@
 use Rattle.std.proofs.Common.{List, ℕ, IfErr, ap, sym, subst, arith}
 use Rattle.claim_tree.specs.Tree.{depth, IsRanged}
-use Rattle.issuer_core.specs.Order.{Order, order_of}
-use Rattle.sdjwt_cli.specs.Generated.{generated, generated_seed, generated_key}
+use Rattle.issuer_core.specs.Order.{Order}
+use Rattle.sdjwt_cli.specs.Generated.{generated, generated_seed}
 use Rattle.sdjwt_cli.specs.Issuing.{TellsRefusal}
 use Rattle.sdjwt_cli.specs.Stops.{OnRefused}
 use Rattle.sdjwt_cli.proofs.GeneratedOrder.{shallow, all_ranged}

@@ -15,14 +15,14 @@ loop-k-init c = (λ i. rw c.new-marks.ensures refl, λ q l. absurd (omega (arith
 pub returns-then-not-branch-clause-refused : goal.returns-then-not-branch-clause-refused
 returns-then-not-branch-clause-refused c =
     let t = strip (marked_of c.args.tree.now) in
-    let want = c.paths-path-items.result.now in
-    subst (λ (ps : List Path). IsLeast (IsMissing t ps) c.loop-k.k) c.paths-path-items.ensures
+    let want = c.elements-path-items.result.now in
+    subst (λ (ps : List Path). IsLeast (IsMissing t ps) c.loop-k.k) c.elements-path-items.ensures
     (first_missing t want c.loop-k.k c.path-item.result c.loop-k-test.true c.path-item.is (sym c.if-not-branch.true ∙ c.in_ok-add_way.ensures.there) c.loop-k.invariant.1)
 
 pub loop-k-preserved : goal.loop-k-preserved
 loop-k-preserved c =
     let m = marked_of c.args.tree.now in
-    let want = c.paths-path-items.result.now in (
+    let want = c.elements-path-items.result.now in (
       gathered_more m want c.loop-k.marks c.add_way.new.marks c.loop-k.k c.path-item.result c.loop-k-test.true c.path-item.is c.loop-k.invariant.0 (c.in_ok-add_way.ensures.marks c.if-not-branch.false),
       none_missing_more (strip m) want c.loop-k.k c.path-item.result c.path-item.is (sym c.if-not-branch.false ∙ c.in_ok-add_way.ensures.there) c.loop-k.invariant.1,
     )
@@ -30,19 +30,19 @@ loop-k-preserved c =
 pub returns-clause-chosen : goal.returns-clause-chosen
 returns-clause-chosen c =
     let m = marked_of c.args.tree.now in
-    subst (λ (ps : List Path). (i : ℕ) → has c.loop-k.marks i ≡ chosen m ps i) c.paths-path-items.ensures
-    (gathered_all m c.paths-path-items.result.now c.loop-k.marks c.loop-k.k c.loop-k-test.false c.loop-k.invariant.0)
+    subst (λ (ps : List Path). (i : ℕ) → has c.loop-k.marks i ≡ chosen m ps i) c.elements-path-items.ensures
+    (gathered_all m c.elements-path-items.result.now c.loop-k.marks c.loop-k.k c.loop-k-test.false c.loop-k.invariant.0)
 
 pub returns-clause-least : goal.returns-clause-least
 returns-clause-least c once =
     let m = marked_of c.args.tree.now in
     least_same m c.args.wanted.now (has c.loop-k.marks) (chosen m c.args.wanted.now)
-    (subst (λ (ps : List Path). (i : ℕ) → has c.loop-k.marks i ≡ chosen m ps i) c.paths-path-items.ensures
-    (gathered_all m c.paths-path-items.result.now c.loop-k.marks c.loop-k.k c.loop-k-test.false c.loop-k.invariant.0))
+    (subst (λ (ps : List Path). (i : ℕ) → has c.loop-k.marks i ≡ chosen m ps i) c.elements-path-items.ensures
+    (gathered_all m c.elements-path-items.result.now c.loop-k.marks c.loop-k.k c.loop-k-test.false c.loop-k.invariant.0))
     (least_choice m c.args.wanted.now once)
 
 pub returns-clause-there : goal.returns-clause-there
 returns-clause-there c =
     let t = strip (marked_of c.args.tree.now) in
-    subst (λ (ps : List Path). AtNone (IsMissing t ps)) c.paths-path-items.ensures
-    (none_missing_all t c.paths-path-items.result.now c.loop-k.k c.loop-k-test.false c.loop-k.invariant.1)
+    subst (λ (ps : List Path). AtNone (IsMissing t ps)) c.elements-path-items.ensures
+    (none_missing_all t c.elements-path-items.result.now c.loop-k.k c.loop-k-test.false c.loop-k.invariant.1)

@@ -24,7 +24,7 @@ returns-in-Some-clause-lowest c =
     let payload = tree_of c.args.payload.now in
     let policy = c.args.policy.now in
     let now = c.args.now in
-    let issuer = before_missing payload policy now (λ iss is differs. no_truth (c.if-is_issuer_refused.ensures.1 (iss, is, differs))) in
+    let issuer = before_missing payload policy now (λ h. no_truth (c.if-is_issuer_refused.ensures.1 h)) in
     let first = c.in-Some.ensures.first in
     subst (IsLowest (ClaimFails payload policy now)) (sym c.fault_at.ensures)
     (refuse_placed (ClaimFails payload policy now) Condition.ClaimMissing _ c.in-Some.i (λ place h. h) (λ h. (c.in-Some.i, refl, h)) issuer first)
@@ -34,7 +34,7 @@ returns-then-is_time_unreadable-clause-lowest c =
     let payload = tree_of c.args.payload.now in
     let policy = c.args.policy.now in
     let now = c.args.now in
-    let issuer = before_missing payload policy now (λ iss is differs. no_truth (c.if-is_issuer_refused.ensures.1 (iss, is, differs))) in
+    let issuer = before_missing payload policy now (λ h. no_truth (c.if-is_issuer_refused.ensures.1 h)) in
     let claims = before_times payload policy now issuer c.in_default.ensures.none in
     let fault = c.fault-then-is_time_unreadable in
     refuse_unplaced (ClaimFails payload policy now) Condition.TimeUnreadable fault.result fault.ensures claims (refl, c.if-is_time_unreadable.ensures.0 refl)
@@ -44,7 +44,7 @@ returns-then-is_expired-clause-lowest c =
     let payload = tree_of c.args.payload.now in
     let policy = c.args.policy.now in
     let now = c.args.now in
-    let issuer = before_missing payload policy now (λ iss is differs. no_truth (c.if-is_issuer_refused.ensures.1 (iss, is, differs))) in
+    let issuer = before_missing payload policy now (λ h. no_truth (c.if-is_issuer_refused.ensures.1 h)) in
     let claims = before_times payload policy now issuer c.in_default.ensures.none in
     let times = before_expiry payload policy now claims (λ h. no_truth (c.if-is_time_unreadable.ensures.1 h)) in
     let fault = c.fault-then-is_expired in
@@ -55,7 +55,7 @@ returns-then-is_not_yet-clause-lowest c =
     let payload = tree_of c.args.payload.now in
     let policy = c.args.policy.now in
     let now = c.args.now in
-    let issuer = before_missing payload policy now (λ iss is differs. no_truth (c.if-is_issuer_refused.ensures.1 (iss, is, differs))) in
+    let issuer = before_missing payload policy now (λ h. no_truth (c.if-is_issuer_refused.ensures.1 h)) in
     let claims = before_times payload policy now issuer c.in_default.ensures.none in
     let times = before_expiry payload policy now claims (λ h. no_truth (c.if-is_time_unreadable.ensures.1 h)) in
     let expiry = before_start payload policy now times (λ h. no_truth (c.if-is_expired.ensures.1 h)) in

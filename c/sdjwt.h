@@ -1,0 +1,149 @@
+/*
+ * sdjwt: SD-JWT (RFC 9901) for C, by the proved library.
+ *
+ * Each function is one command of the program sdjwt, over the bytes of its files in the place of their names. What the
+ * files are to have in them stands in docs/FILES.md, and docs/REFUSALS.md has each number by which a call refuses. The
+ * library reads no file, no clock and no environment, keeps nothing between two calls, and writes nothing but what its
+ * parameters point to.
+ *
+ * THE ANSWER goes to the caller's buffer `out`, which has room for `room` bytes, and its length to `*len`. It has no
+ * zero byte behind it. A call that answers
+ *
+ *   SDJWT_DONE        wrote the answer whole: a text, and a line end behind it;
+ *   SDJWT_REFUSED     wrote a line that tells why, as "refused 10 badSignature\n";
+ *   SDJWT_UNREADABLE  wrote a line that tells which of its first two inputs is not of its form, and why, as
+ *                     "unreadable 1 notJson\n";
+ *   SDJWT_UNWRITTEN   wrote nothing, since the room is too small: `*len` tells how much is needed. Call again with
+ *                     that much. An answer is seldom longer than the inputs together with 256 bytes;
+ *   SDJWT_USAGE       wrote nothing, since the caller broke a rule that stands at the function. `*len` is 0;
+ *   SDJWT_MEMORY      wrote nothing, since malloc found no memory. `*len` is 0.
+ *
+ * No other status comes. What lies behind the answer in `out` stays as it was, also where the status is not SDJWT_DONE:
+ * look at no more than `*len` bytes, and at none where nothing was written.
+ *
+ * POINTERS. None may be null, not even where its length is 0: pass "" for an input of no bytes, and any byte of yours
+ * for a buffer of no room. `*len` need not be set before the call. `out` and `len` may overlap neither each other, nor
+ * an input, nor a handle; inputs may overlap. A length is at most 2^63 - 1. Inputs of more than 2 MiB are refused.
+ *
+ * THREADS. Each function may run on several threads at once, over buffers that they do not share. A handle of a policy
+ * is for one call at a time: give each thread its own, or keep one behind a lock. It may move from thread to thread.
+ * No function may be called from a signal handler, or from a forked child of a process with threads. A call needs up to
+ * SDJWT_STACK bytes of stack.
+ *
+ * MEMORY. Only what a handle holds outlives its call. The library allocates by malloc, realloc and free of the program,
+ * which are to be one allocator, and it copies keys: it does not wipe what it frees.
+ */
+#ifndef SDJWT_H
+#define SDJWT_H
+
+#include <stddef.h>
+#include <stdint.h>
+
+#ifdef __cplusplus
+extern "C" {
+#endif
+
+#if defined(__GNUC__) || defined(__clang__)
+#define SDJWT_NONNULL __attribute__((nonnull))
+#define SDJWT_CHECKED __attribute__((nonnull, warn_unused_result))
+#else
+#define SDJWT_NONNULL
+#define SDJWT_CHECKED
+#endif
+
+/* The version of this header. A library fits where sdjwt_abi_version() answers the same. */
+#define SDJWT_ABI_VERSION 1
+
+/* Stack that is enough for each call, in bytes. */
+#define SDJWT_STACK (256 * 1024)
+
+/* The statuses. They are the exit statuses of the program sdjwt, of which 3 comes of a file that can't be read. */
+#define SDJWT_DONE 0
+#define SDJWT_REFUSED 1
+#define SDJWT_USAGE 2
+#define SDJWT_UNWRITTEN 4
+#define SDJWT_MEMORY 5
+#define SDJWT_UNREADABLE 6
+
+/* The forms of a token, for sdjwt_convert (RFC 9901 sections 4 and 8). */
+#define SDJWT_COMPACT 0
+#define SDJWT_FLAT 1
+#define SDJWT_GENERAL 2
+
+/* A status. */
+typedef uint8_t sdjwt_status;
+
+/* The version of the library. */
+uint32_t sdjwt_abi_version(void);
+
+/*
+ * Issues the token of an order. The seed has 32 bytes or more, of which the first 32 are used; with fewer the status is
+ * SDJWT_UNREADABLE. Whoever knows the seed can guess what is hidden: take it from the system's random numbers, and use
+ * none twice.
+ */
+SDJWT_CHECKED sdjwt_status sdjwt_issue(const uint8_t *order, size_t order_len,
+                                       const uint8_t *seed, size_t seed_len,
+                                       uint8_t *out, size_t room, size_t *len);
+
+/* Presents what an order asks for of a token, at a moment in seconds since 1970, which a key binding token tells. */
+SDJWT_CHECKED sdjwt_status sdjwt_present(const uint8_t *order, size_t order_len,
+                                         const uint8_t *token, size_t token_len, uint64_t now,
+                                         uint8_t *out, size_t room, size_t *len);
+
+/*
+ * Verifies a presentation under a policy, at a moment in seconds since 1970. The answer is the processed payload, as a
+ * line of JSON. Where many tokens come under one policy, sdjwt_policy_verify is faster.
+ */
+SDJWT_CHECKED sdjwt_status sdjwt_verify(const uint8_t *policy, size_t policy_len,
+                                        const uint8_t *token, size_t token_len, uint64_t now,
+                                        uint8_t *out, size_t room, size_t *len);
+
+/* The JSON inside a token, a line each. Nothing is checked: no signature, no digest, no time. */
+SDJWT_CHECKED sdjwt_status sdjwt_show(const uint8_t *token, size_t token_len,
+                                      uint8_t *out, size_t room, size_t *len);
+
+/* The texts of the parts of a token, a line each. Nothing is checked. */
+SDJWT_CHECKED sdjwt_status sdjwt_split(const uint8_t *token, size_t token_len,
+                                       uint8_t *out, size_t room, size_t *len);
+
+/*
+ * The token in a form: SDJWT_COMPACT, SDJWT_FLAT or SDJWT_GENERAL. With another number the status is SDJWT_USAGE.
+ * Nothing is checked.
+ */
+SDJWT_CHECKED sdjwt_status sdjwt_convert(uint8_t form, const uint8_t *token, size_t token_len,
+                                         uint8_t *out, size_t room, size_t *len);
+
+/*
+ * A handle of a policy that is read once. Begin with SDJWT_POLICY_INIT, look at no field, and end with
+ * sdjwt_policy_free. It may be moved by copying its bytes, if only one of the two is used from then on.
+ */
+typedef struct sdjwt_policy {
+    void *held;
+} sdjwt_policy;
+
+#define SDJWT_POLICY_INIT {0}
+
+/*
+ * Reads a policy into a handle, in place of one that the handle held, which is freed. The answer is empty. With another
+ * status than SDJWT_DONE the handle holds what it held before.
+ */
+SDJWT_CHECKED sdjwt_status sdjwt_policy_new(sdjwt_policy *handle,
+                                            const uint8_t *policy, size_t policy_len,
+                                            uint8_t *out, size_t room, size_t *len);
+
+/*
+ * Verifies a presentation as sdjwt_verify does, under the policy of a handle. Where that holds none, the status is
+ * SDJWT_USAGE.
+ */
+SDJWT_CHECKED sdjwt_status sdjwt_policy_verify(sdjwt_policy *handle,
+                                               const uint8_t *token, size_t token_len, uint64_t now,
+                                               uint8_t *out, size_t room, size_t *len);
+
+/* Frees what a handle holds. It holds nothing from then on, so to free it once more does nothing. */
+SDJWT_NONNULL void sdjwt_policy_free(sdjwt_policy *handle);
+
+#ifdef __cplusplus
+}
+#endif
+
+#endif

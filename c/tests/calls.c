@@ -1,0 +1,338 @@
+/*
+ * Calls the library as sdjwt.h says: calls VECTORS [THREADS [small]]
+ *
+ * VECTORS is what vectors.py writes. Each vector is run with a room that just fits, with one that is larger, with one
+ * that is too small, and with none; those that verify, behind a handle too. Then the same on several threads at once.
+ * The status is 0 where all went as it should.
+ */
+#include "sdjwt.h"
+
+#include <pthread.h>
+#include <stdio.h>
+#include <stdlib.h>
+#include <string.h>
+
+enum { ISSUE, PRESENT, VERIFY, SHOW, SPLIT, CONVERT };
+
+#define NO_FILE UINT64_MAX
+#define FILES 16
+#define RUNS 16
+#define BEHIND 8
+#define OWN_STACK (32 * 1024)
+#define FILL 0xA5
+
+struct text {
+    const uint8_t *bytes;
+    size_t len;
+};
+
+struct run {
+    uint64_t command, form, first, second, kept, now;
+};
+
+struct vector {
+    struct text name, files[FILES], written;
+    struct run runs[RUNS];
+    uint64_t file_count, run_count, status, due;
+};
+
+static struct vector *vectors;
+static size_t vector_count;
+
+#define CHECK(so, what)                                                              \
+    do {                                                                             \
+        if (!(so)) {                                                                 \
+            fprintf(stderr, "calls.c:%d: %s: %s\n", __LINE__, (what), #so);          \
+            exit(1);                                                                 \
+        }                                                                            \
+    } while (0)
+
+static void *room_of(size_t size) {
+    void *room = malloc(size ? size : 1);
+    CHECK(room != NULL, "malloc");
+    return room;
+}
+
+static sdjwt_status call(const struct run *run, const struct text *files, uint8_t *out, size_t room, size_t *len) {
+    struct text a = files[run->first];
+    struct text b = run->second == NO_FILE ? a : files[run->second];
+    switch (run->command) {
+    case ISSUE: return sdjwt_issue(a.bytes, a.len, b.bytes, b.len, out, room, len);
+    case PRESENT: return sdjwt_present(a.bytes, a.len, b.bytes, b.len, run->now, out, room, len);
+    case VERIFY: return sdjwt_verify(a.bytes, a.len, b.bytes, b.len, run->now, out, room, len);
+    case SHOW: return sdjwt_show(a.bytes, a.len, out, room, len);
+    case SPLIT: return sdjwt_split(a.bytes, a.len, out, room, len);
+    default: return sdjwt_convert((uint8_t)run->form, a.bytes, a.len, out, room, len);
+    }
+}
+
+/* The answer in a room that just fits, which the caller frees. */
+static sdjwt_status whole(const struct run *run, const struct text *files, struct text *answer) {
+    uint8_t none;
+    size_t len;
+    sdjwt_status status = call(run, files, &none, 0, &len);
+    if (status == SDJWT_UNWRITTEN) {
+        size_t room = len;
+        uint8_t *out = room_of(room);
+        status = call(run, files, out, room, &len);
+        CHECK(status != SDJWT_UNWRITTEN && len == room, "a room of the length that was told");
+        answer->bytes = out;
+    } else {
+        CHECK(len == 0, "nothing is written");
+        answer->bytes = room_of(0);
+    }
+    answer->len = len;
+    return status;
+}
+
+static int is_filled(const uint8_t *bytes, size_t from, size_t to) {
+    for (size_t i = from; i < to; i++)
+        if (bytes[i] != FILL) return 0;
+    return 1;
+}
+
+/* The same call with rooms that do not just fit. */
+static void other_rooms(const char *name, const struct run *run, const struct text *files, sdjwt_status due, struct text answer) {
+    size_t sizes[] = {answer.len + BEHIND, answer.len ? answer.len - 1 : 0, answer.len / 2};
+    for (size_t i = 0; i < sizeof sizes / sizeof *sizes; i++) {
+        size_t room = sizes[i], len = 12345;
+        uint8_t *out = room_of(room);
+        memset(out, FILL, room);
+        sdjwt_status status = call(run, files, out, room, &len);
+        CHECK(len == answer.len, name);
+        if (room >= answer.len) {
+            CHECK(status == due && memcmp(out, answer.bytes, len) == 0 && is_filled(out, len, room), name);
+        } else {
+            CHECK(status == SDJWT_UNWRITTEN && is_filled(out, 0, room), name);
+        }
+        free(out);
+    }
+}
+
+/* The same verification behind a handle, twice. */
+static void behind_handle(const char *name, const struct run *run, const struct text *files, sdjwt_status due, struct text answer) {
+    sdjwt_policy handle = SDJWT_POLICY_INIT;
+    struct text policy = files[run->first], token = files[run->second];
+    size_t room = answer.len, len;
+    uint8_t *out = room_of(room);
+    sdjwt_status status = sdjwt_policy_new(&handle, policy.bytes, policy.len, out, room, &len);
+    if (status == SDJWT_DONE) {
+        CHECK(len == 0, name);
+        for (int i = 0; i < 2; i++) {
+            status = sdjwt_policy_verify(&handle, token.bytes, token.len, run->now, out, room, &len);
+            CHECK(status == due && len == answer.len && memcmp(out, answer.bytes, len) == 0, name);
+        }
+    } else {
+        CHECK(status == SDJWT_UNREADABLE && due == status && len == answer.len && memcmp(out, answer.bytes, len) == 0, name);
+        CHECK(handle.held == NULL, name);
+    }
+    sdjwt_policy_free(&handle);
+    free(out);
+}
+
+static void run_vector(const struct vector *vector) {
+    char name[200];
+    struct text files[FILES], answer = {NULL, 0};
+    uint8_t *kept[RUNS];
+    size_t kept_count = 0;
+    sdjwt_status status = 0;
+    snprintf(name, sizeof name, "%.*s", (int)vector->name.len, (const char *)vector->name.bytes);
+    memcpy(files, vector->files, sizeof files);
+    for (uint64_t i = 0; i < vector->run_count; i++) {
+        const struct run *run = &vector->runs[i];
+        status = whole(run, files, &answer);
+        other_rooms(name, run, files, status, answer);
+        if (run->command == VERIFY) behind_handle(name, run, files, status, answer);
+        kept[kept_count++] = (uint8_t *)answer.bytes;
+        if (run->kept != NO_FILE) {
+            files[run->kept].bytes = status == SDJWT_DONE ? answer.bytes : (const uint8_t *)"";
+            files[run->kept].len = status == SDJWT_DONE ? answer.len : 0;
+        }
+    }
+    CHECK(status == vector->status, name);
+    if (vector->due == NO_FILE) {
+        CHECK(answer.len == vector->written.len && memcmp(answer.bytes, vector->written.bytes, answer.len) == 0, name);
+    } else {
+        struct text due = files[vector->due];
+        CHECK(answer.len == due.len + 1 && memcmp(answer.bytes, due.bytes, due.len) == 0 && answer.bytes[due.len] == '\n', name);
+    }
+    while (kept_count > 0) free(kept[--kept_count]);
+}
+
+static void *run_vectors(void *stride) {
+    size_t first = *(size_t *)stride;
+    for (size_t i = 0; i < vector_count; i++) run_vector(&vectors[(i + first) % vector_count]);
+    return NULL;
+}
+
+/* Each input of no bytes, and each length that is told. */
+static void empty_inputs(void) {
+    static const uint8_t none[1] = {0};
+    struct text files[2] = {{none, 0}, {none, 0}};
+    for (uint64_t command = ISSUE; command <= CONVERT; command++) {
+        struct run run = {command, 0, 0, command <= VERIFY ? 1 : NO_FILE, NO_FILE, 0};
+        struct text answer;
+        sdjwt_status status = whole(&run, files, &answer);
+        CHECK(status == (command <= VERIFY ? SDJWT_UNREADABLE : SDJWT_REFUSED), "no bytes");
+        other_rooms("no bytes", &run, files, status, answer);
+        free((void *)answer.bytes);
+    }
+}
+
+/* What breaks a rule, and what a handle holds. */
+static void rules_of_handles(const struct text policy, const struct text token, uint64_t now) {
+    struct { sdjwt_policy handle; uint8_t behind[BEHIND]; } guarded;
+    uint8_t line[128], other[128];
+    size_t len, other_len;
+    memset(&guarded, FILL, sizeof guarded);
+    guarded.handle = (sdjwt_policy)SDJWT_POLICY_INIT;
+    sdjwt_policy *handle = &guarded.handle;
+    for (int form = 3; form < 256; form++) {
+        len = 1;
+        CHECK(sdjwt_convert((uint8_t)form, token.bytes, token.len, line, sizeof line, &len) == SDJWT_USAGE && len == 0, "no form");
+    }
+    CHECK(sdjwt_policy_verify(handle, token.bytes, token.len, now, line, sizeof line, &len) == SDJWT_USAGE && len == 0, "no policy");
+    sdjwt_policy_free(handle);
+    CHECK(sdjwt_policy_new(handle, (const uint8_t *)"{", 1, line, sizeof line, &len) == SDJWT_UNREADABLE, "no policy is read");
+    CHECK(len == strlen("unreadable 1 notJson\n") && memcmp(line, "unreadable 1 notJson\n", len) == 0, "its line");
+    CHECK(handle->held == NULL, "it holds none");
+    CHECK(sdjwt_policy_new(handle, (const uint8_t *)"{", 1, line, 3, &len) == SDJWT_UNWRITTEN && handle->held == NULL, "no room");
+    for (int i = 0; i < 3; i++) CHECK(sdjwt_policy_new(handle, policy.bytes, policy.len, line, 0, &len) == SDJWT_DONE && len == 0, "read again");
+    void *held = handle->held;
+    CHECK(sdjwt_policy_new(handle, (const uint8_t *)"[]", 2, line, sizeof line, &len) == SDJWT_UNREADABLE && handle->held == held, "it keeps what it held");
+    sdjwt_policy moved = *handle;
+    memset(handle, 0, sizeof *handle);
+    sdjwt_status status = sdjwt_policy_verify(&moved, token.bytes, token.len, now, line, sizeof line, &len);
+    sdjwt_status again = sdjwt_verify(policy.bytes, policy.len, token.bytes, token.len, now, other, sizeof other, &other_len);
+    CHECK(status == again && len == other_len, "a handle that is moved");
+    sdjwt_policy_free(&moved);
+    sdjwt_policy_free(&moved);
+    CHECK(moved.held == NULL && is_filled(guarded.behind, 0, BEHIND), "it is one pointer");
+}
+
+/* A handle that another thread made is used here, and freed. */
+static void *take_over(void *handle) {
+    uint8_t line[128];
+    size_t len;
+    CHECK(sdjwt_policy_verify(handle, (const uint8_t *)"", 0, 0, line, sizeof line, &len) == SDJWT_REFUSED, "of another thread");
+    sdjwt_policy_free(handle);
+    return NULL;
+}
+
+static void hand_over(const struct text policy) {
+    sdjwt_policy handle = SDJWT_POLICY_INIT;
+    uint8_t line[1];
+    size_t len;
+    pthread_t thread;
+    CHECK(sdjwt_policy_new(&handle, policy.bytes, policy.len, line, 0, &len) == SDJWT_DONE, "a policy");
+    CHECK(pthread_create(&thread, NULL, take_over, &handle) == 0 && pthread_join(thread, NULL) == 0, "a thread");
+    CHECK(handle.held == NULL, "it was freed");
+}
+
+static const uint8_t *next;
+
+static uint64_t number(void) {
+    uint64_t value = 0;
+    for (int i = 7; i >= 0; i--) value = value << 8 | next[i];
+    next += 8;
+    return value;
+}
+
+/* A text in memory of its own, so that a read before or behind it is seen. */
+static struct text text(void) {
+    struct text read;
+    read.len = number();
+    uint8_t *bytes = room_of(read.len);
+    memcpy(bytes, next, read.len);
+    read.bytes = bytes;
+    next += read.len;
+    return read;
+}
+
+static void read_vectors(const char *name) {
+    FILE *file = fopen(name, "rb");
+    CHECK(file != NULL, name);
+    CHECK(fseek(file, 0, SEEK_END) == 0, name);
+    size_t size = (size_t)ftell(file);
+    rewind(file);
+    uint8_t *content = room_of(size);
+    CHECK(fread(content, 1, size, file) == size, name);
+    fclose(file);
+    next = content;
+    vector_count = number();
+    vectors = calloc(vector_count, sizeof *vectors);
+    CHECK(vectors != NULL, name);
+    for (size_t i = 0; i < vector_count; i++) {
+        struct vector *vector = &vectors[i];
+        vector->name = text();
+        vector->file_count = number();
+        CHECK(vector->file_count <= FILES, "room for the files");
+        for (uint64_t j = 0; j < vector->file_count; j++) vector->files[j] = text();
+        vector->run_count = number();
+        CHECK(vector->run_count <= RUNS, "room for the runs");
+        for (uint64_t j = 0; j < vector->run_count; j++) {
+            struct run *run = &vector->runs[j];
+            run->command = number();
+            run->form = number();
+            run->first = number();
+            run->second = number();
+            run->kept = number();
+            run->now = number();
+        }
+        vector->status = number();
+        vector->due = number();
+        vector->written = text();
+    }
+    CHECK(next == content + size, "the whole file");
+    free(content);
+}
+
+static void free_vectors(void) {
+    for (size_t i = 0; i < vector_count; i++) {
+        struct vector *vector = &vectors[i];
+        free((void *)vector->name.bytes);
+        free((void *)vector->written.bytes);
+        for (uint64_t j = 0; j < vector->file_count; j++) free((void *)vector->files[j].bytes);
+    }
+    free(vectors);
+}
+
+/* The first vector of one run that verifies with this status. */
+static const struct vector *verifying(uint64_t status) {
+    for (size_t i = 0; i < vector_count; i++)
+        if (vectors[i].run_count == 1 && vectors[i].runs[0].command == VERIFY && vectors[i].status == status) return &vectors[i];
+    CHECK(0, "a vector that verifies");
+    return NULL;
+}
+
+int main(int count, char **words) {
+    CHECK(count >= 2, "usage: calls VECTORS [THREADS [small]]");
+    size_t threads = count > 2 ? strtoul(words[2], NULL, 10) : 8;
+    CHECK(sdjwt_abi_version() == SDJWT_ABI_VERSION, "the version");
+    CHECK(sizeof(sdjwt_policy) == sizeof(void *), "a handle is one pointer");
+    read_vectors(words[1]);
+    empty_inputs();
+    for (int refused = 0; refused < 2; refused++) {
+        const struct vector *vector = verifying(refused ? SDJWT_REFUSED : SDJWT_DONE);
+        const struct run *run = &vector->runs[0];
+        rules_of_handles(vector->files[run->first], vector->files[run->second], run->now);
+        hand_over(vector->files[run->first]);
+    }
+    size_t none = 0;
+    run_vectors(&none);
+    pthread_t running[64];
+    size_t firsts[64];
+    pthread_attr_t attributes;
+    CHECK(threads <= 64, "64 threads at most");
+    CHECK(pthread_attr_init(&attributes) == 0, "attributes");
+    if (count > 3) CHECK(pthread_attr_setstacksize(&attributes, SDJWT_STACK + OWN_STACK) == 0, "a small stack");
+    for (size_t i = 0; i < threads; i++) {
+        firsts[i] = i * vector_count / (threads + 1);
+        CHECK(pthread_create(&running[i], &attributes, run_vectors, &firsts[i]) == 0, "a thread");
+    }
+    for (size_t i = 0; i < threads; i++) CHECK(pthread_join(running[i], NULL) == 0, "its end");
+    pthread_attr_destroy(&attributes);
+    printf("%zu vectors, then on %zu threads\n", vector_count, threads);
+    free_vectors();
+    return 0;
+}

@@ -1,0 +1,121 @@
+/*
+ * Refuses each request of the library for memory in turn: memory FOLDER, where FOLDER has the files of examples/walk.
+ *
+ * It is linked with --wrap for malloc, realloc and free. A call whose request is refused has to answer SDJWT_MEMORY and
+ * write nothing, or what it answers else; and after each call just the memory that a handle holds is taken.
+ */
+#include "sdjwt.h"
+
+#include <stdio.h>
+#include <stdlib.h>
+#include <string.h>
+
+#define CHECK(so, what)                                                              \
+    do {                                                                             \
+        if (!(so)) {                                                                 \
+            fprintf(stderr, "memory.c:%d: %s: %s\n", __LINE__, (what), #so);         \
+            exit(1);                                                                 \
+        }                                                                            \
+    } while (0)
+
+void *__real_malloc(size_t size);
+void *__real_realloc(void *old, size_t size);
+void __real_free(void *at);
+void *__wrap_malloc(size_t size);
+void *__wrap_realloc(void *old, size_t size);
+void __wrap_free(void *at);
+
+static unsigned long requests, refused;
+static long taken;
+
+static int is_refused(void) { return ++requests == refused; }
+
+void *__wrap_malloc(size_t size) {
+    void *at = is_refused() ? NULL : __real_malloc(size);
+    if (at != NULL) taken++;
+    return at;
+}
+
+void *__wrap_realloc(void *old, size_t size) {
+    void *at = is_refused() ? NULL : __real_realloc(old, size);
+    if (at != NULL && old == NULL) taken++;
+    return at;
+}
+
+void __wrap_free(void *at) {
+    if (at != NULL) taken--;
+    __real_free(at);
+}
+
+#define ROOM 65536
+
+struct text {
+    uint8_t bytes[ROOM];
+    size_t len;
+};
+
+static struct text order, seed, present, policy, token, shown;
+
+static void read_file(const char *folder, const char *name, struct text *into) {
+    char path[4096];
+    snprintf(path, sizeof path, "%s/%s", folder, name);
+    FILE *file = fopen(path, "rb");
+    CHECK(file != NULL, path);
+    into->len = fread(into->bytes, 1, ROOM, file);
+    fclose(file);
+}
+
+static sdjwt_policy handle = SDJWT_POLICY_INIT;
+#define NOW 1800000000
+
+static sdjwt_status call(int which, struct text *out) {
+    switch (which) {
+    case 0: return sdjwt_issue(order.bytes, order.len, seed.bytes, seed.len, out->bytes, ROOM, &out->len);
+    case 1: return sdjwt_present(present.bytes, present.len, token.bytes, token.len, NOW, out->bytes, ROOM, &out->len);
+    case 2: return sdjwt_verify(policy.bytes, policy.len, shown.bytes, shown.len, NOW, out->bytes, ROOM, &out->len);
+    case 3: return sdjwt_show(token.bytes, token.len, out->bytes, ROOM, &out->len);
+    case 4: return sdjwt_split(token.bytes, token.len, out->bytes, ROOM, &out->len);
+    case 5: return sdjwt_convert(SDJWT_GENERAL, token.bytes, token.len, out->bytes, ROOM, &out->len);
+    case 6: return sdjwt_policy_new(&handle, policy.bytes, policy.len, out->bytes, ROOM, &out->len);
+    case 7: return sdjwt_policy_verify(&handle, shown.bytes, shown.len, NOW, out->bytes, ROOM, &out->len);
+    default: return sdjwt_verify(policy.bytes, policy.len, token.bytes, token.len, NOW, out->bytes, ROOM, &out->len);
+    }
+}
+
+#define CALLS 9
+
+int main(int count, char **words) {
+    static struct text due, out;
+    unsigned long all = 0;
+    CHECK(count == 2, "usage: memory FOLDER");
+    read_file(words[1], "order.json", &order);
+    read_file(words[1], "seed.txt", &seed);
+    read_file(words[1], "present.json", &present);
+    read_file(words[1], "policy.json", &policy);
+    CHECK(call(0, &token) == SDJWT_DONE && call(1, &shown) == SDJWT_DONE, "the walk");
+    for (int which = 0; which < CALLS; which++) {
+        refused = 0;
+        sdjwt_status status = call(which, &due);
+        CHECK(status == (which == 8 ? SDJWT_REFUSED : SDJWT_DONE), "the call");
+        long held = taken;
+        CHECK(which == 6 || which == 7 ? held > 0 : held == 0, "what it keeps");
+        for (refused = 1;; refused++) {
+            requests = 0;
+            memset(out.bytes, 0xA5, ROOM);
+            sdjwt_status came = call(which, &out);
+            CHECK(taken == held, "memory that is lost");
+            if (came == SDJWT_MEMORY) {
+                CHECK(out.len == 0, "the length");
+                for (size_t i = 0; i < ROOM; i++) CHECK(out.bytes[i] == 0xA5, "nothing is written");
+            } else {
+                CHECK(came == status && out.len == due.len && memcmp(out.bytes, due.bytes, due.len) == 0, "another answer");
+            }
+            if (requests < refused) break;
+        }
+        all += refused - 1;
+        if (which == 7) sdjwt_policy_free(&handle);
+    }
+    CHECK(taken == 0, "all is freed");
+    printf("%lu requests refused\n", all);
+    return 0;
+}

@@ -1,0 +1,9 @@
+use Rattle.claim_tree.specs.FileForms.{optional}
+use Rattle.claim_tree.specs.View.{tree_of}
+use Rattle.claim_tree.specs.declared.file_fault.Field.TheVariants.{SdAlg}
+use Rattle.claim_tree.proofs.FileMembers.{wrong_member}
+use Rattle.issuer_core.specs.OrderFile.{IsHashText}
+use Rattle.issuer_core.proofs.order_file.hash_member.Goals as goal
+
+pub returns-in-None-clause-refused : goal.returns-in-None-clause-refused
+returns-in-None-clause-refused c = wrong_member (optional SdAlg IsHashText) c.args.members.now c.word.result.now (tree_of c.in-Some.tree.now) c.word.ensures c.in-Some.ensures c.in-None.ensures.none

@@ -1,0 +1,70 @@
+-- What is handed over is a reply of the command, where its answer is.
+use Rattle.std.proofs.Common.{◌≡◌, ℕ, List, [], inl, inr, ap, ◌∙◌, arith}
+use Rattle.std.specs.Prelude.{Result, Ok, Err, IfOk, IfErr, string_bytes}
+use Rattle.std.specs.declared.string.String.{String}
+use Rattle.std.specs.declared.alloc.Global.{Global}
+use Rattle.sd_outside.specs.Status.{status_number}
+use Rattle.sd_outside.specs.declared.status.Status.{Status}
+use Rattle.sd_outside.specs.declared.status.Status.TheVariants.{Done, Unwritten}
+use Rattle.sd_outside.specs.declared.status.Status.TheVariants as status
+use Rattle.sdjwt_cli.specs.Answers.{Reply, gives, refuses, unreadable}
+use Rattle.sdjwt_cli.specs.Stops.{OnRefused, OnUnread, OnUnreadable}
+use Rattle.sdjwt_cli.specs.declared.stop.Stop.{Stop}
+use Rattle.sdjwt_cli.specs.declared.stop.Stop.TheVariants.{Memory, Unread, Unreadable, Refused}
+use Rattle.sdjwt_c.specs.Handed.{IsLeft, IsGiven, IsTooLong, Hands, HandsBy, reply_text}
+use Rattle.sdjwt_c.specs.Results.{IsHanded}
+
+module _ (Misused : Type 0) (Is : Reply → Type 0) (before after : List ℕ) (len number : ℕ) (told : Status) (number_is : number ≡ status_number told) where
+  by_status : (s : Status) → told ≡ s → Hands Misused Is before after len s → HandsBy Misused Is before after len number
+  by_status s e hands = record { status = s; number_is = number_is ∙ ap status_number e; hands = hands }
+
+  unwritten : (reply : Reply) → Is reply → told ≡ Unwritten → IsTooLong (reply_text reply) before after len → HandsBy Misused Is before after len number
+  unwritten reply is e long = by_status Unwritten e (record { reply = reply; is = is; too_long = long })
+
+  given : (text : List ℕ) → Is (gives text) → IsGiven text Done before after len told → HandsBy Misused Is before after len number
+  given text is (inl w) = by_status Done w.0 (record { text = text; is = is; written = w.1 })
+  given text is (inr n) = unwritten (gives text) is n.0 n.1
+
+  refused : (text : List ℕ) → Is (refuses text) → IsGiven text status.Refused before after len told → HandsBy Misused Is before after len number
+  refused text is (inl w) = by_status status.Refused w.0 (record { text = text; is = is; written = w.1 })
+  refused text is (inr n) = unwritten (refuses text) is n.0 n.1
+
+  not_read : (text : List ℕ) → Is (unreadable text) → IsGiven text status.Unreadable before after len told → HandsBy Misused Is before after len number
+  not_read text is (inl w) = by_status status.Unreadable w.0 (record { text = text; is = is; written = w.1 })
+  not_read text is (inr n) = unwritten (unreadable text) is n.0 n.1
+
+  -- an answer, or a stop that is no failed read
+  pub handed : (answer : Result (String Global) Stop) → IfOk answer (λ text. Is (gives (string_bytes text))) → IfErr answer (λ stop. OnRefused stop (λ text. Is (refuses text)))
+      → IfErr answer (λ stop. OnUnreadable stop (λ text. Is (unreadable text))) → IfErr answer (λ stop. OnUnread stop (λ _. ⊥)) → IsHanded answer before after len told → HandsBy Misused Is before after len number
+  handed (Ok text) ok refusal unfit unread is = given (string_bytes text) ok is
+  handed (Err (Refused text)) ok refusal unfit unread is = refused (string_bytes text) refusal is
+  handed (Err (Unreadable text)) ok refusal unfit unread is = not_read (string_bytes text) unfit is
+  handed (Err (Unread word)) ok refusal unfit unread is = absurd unread
+  handed (Err Memory) ok refusal unfit unread is = by_status status.Memory is.0 is.1
+
+  -- an answer of no bytes
+  pub empty : Is (gives []) → told ≡ Done → IsLeft before after len → HandsBy Misused Is before after len number
+  empty is e left = by_status Done e (record { text = []; is = is; written = record { fits = omega arith; len_is = left.len_is; room_is = left.room_is } })
+
+-- what is so under each file that says the policy, of what was answered under the policy
+module _ (Says : List ℕ → Type 0) where
+  pub each_ok : (P : List ℕ → List ℕ → Type 0) (answer : Result (String Global) Stop) → ((file : List ℕ) → Says file → IfOk answer (λ text. P file (string_bytes text)))
+      → IfOk answer (λ text. (file : List ℕ) → Says file → P file (string_bytes text))
+  each_ok P (Ok text) each = each
+  each_ok P (Err stop) each = tt
+
+  pub each_refused : (P : List ℕ → List ℕ → Type 0) (answer : Result (String Global) Stop) → ((file : List ℕ) → Says file → IfErr answer (λ stop. OnRefused stop (P file)))
+      → IfErr answer (λ stop. OnRefused stop (λ text. (file : List ℕ) → Says file → P file text))
+  each_refused P (Ok text) each = tt
+  each_refused P (Err (Refused text)) each = each
+  each_refused P (Err (Unreadable text)) each = tt
+  each_refused P (Err (Unread word)) each = tt
+  each_refused P (Err Memory) each = tt
+
+  pub none_unreadable : (P : List ℕ → List ℕ → Type 0) (answer : Result (String Global) Stop) → IfErr answer (λ stop. OnUnreadable stop (λ _. ⊥))
+      → IfErr answer (λ stop. OnUnreadable stop (λ text. (file : List ℕ) → Says file → P file text))
+  none_unreadable P (Ok text) none = tt
+  none_unreadable P (Err (Refused text)) none = tt
+  none_unreadable P (Err (Unreadable text)) none = absurd none
+  none_unreadable P (Err (Unread word)) none = tt
+  none_unreadable P (Err Memory) none = tt

@@ -1,0 +1,5 @@
+pub mod Handed
+pub mod Held
+pub mod Policies
+pub mod Results
+pub mod Numbers

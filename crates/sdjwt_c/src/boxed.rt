@@ -1,0 +1,43 @@
+// A policy on the heap, on its way into a handle and out of it.
+ghost use Rattle.std.specs.Prelude.{◌≡◌, None, Some, IfOk, IfErr};
+ghost use Rattle.std.specs.Option.{option_map};
+ghost use Rattle.verifier_core.specs.PolicyFile.{IsPolicyFile, IsPolicyFileRefused};
+ghost use Rattle.sdjwt_cli.specs.Stops.{OnRefused, OnUnread, OnUnreadable};
+ghost use Rattle.sdjwt_cli.specs.Telling.{TellsFileFault};
+
+use crate::handle::SdjwtPolicy;
+use crate::loose::Loose;
+use sdjwt_cli::Stop;
+use sdjwt_cli::commands::policy_of;
+use std::alloc::Global;
+use std::mem;
+use verifier_core::Policy;
+
+// The policy of a handle, which holds none from then on.
+pub(crate) fn take(alloc: Global, handle: &mut SdjwtPolicy) -> Option<Box<Policy>>
+    ensures policy { option_map (λ policy. policy.value) result ≡ handle.old.held }
+    ensures left { handle.new.held ≡ None }
+{
+    let policy = mem::replace(handle, SdjwtPolicy::none(alloc)).into_loose()?;
+    Some(policy.into_box())
+}
+
+// Lets a handle hold this policy.
+pub(crate) fn put(handle: &mut SdjwtPolicy, policy: Box<Policy>)
+    ensures { handle.new.held ≡ Some policy.value }
+{
+    *handle = SdjwtPolicy::of(Loose::of(policy));
+}
+
+// The policy that a file says.
+pub(crate) fn read(alloc: Global, file: &[u8]) -> Result<Box<Policy>, Stop>
+    ensures policy { IfOk result (λ policy. IsPolicyFile file.now policy.value) }
+    ensures unreadable { IfErr result (λ stop. OnUnreadable stop (TellsFileFault (IsPolicyFileRefused file.now))) }
+    ensures fit { IfErr result (λ stop. OnRefused stop (λ _. ⊥)) }
+    ensures read { IfErr result (λ stop. OnUnread stop (λ _. ⊥)) }
+{
+    match Box::new(alloc, policy_of(alloc, file)?) {
+        Ok(policy) => Ok(policy),
+        Err(_) => Err(Stop::Memory),
+    }
+}

@@ -1,0 +1,11 @@
+use Rattle.claim_tree.specs.View.{tree_of}
+use Rattle.claim_tree.specs.FileForms.{optional}
+use Rattle.claim_tree.specs.declared.file_fault.Field.TheVariants.{Iss}
+use Rattle.claim_tree.proofs.FileMembers.{wrong_member}
+use Rattle.verifier_core.specs.PolicyVersion.{IsIssuers}
+use Rattle.verifier_core.proofs.policy_version.issuers_member.Goals as goal
+
+pub returns-in-None-clause-refused : goal.returns-in-None-clause-refused
+returns-in-None-clause-refused c =
+    let none = rw c.in-None.is at c.in_ok-issuers.ensures.none in
+    wrong_member (optional Iss (IsIssuers c.args.version)) c.args.members.now c.word.result.now (tree_of c.in-Some.tree.now) c.word.ensures c.in-Some.ensures none

@@ -1,0 +1,10 @@
+use Rattle.claim_tree.specs.View.{tree_of}
+use Rattle.claim_tree.specs.FileForms.{optional}
+use Rattle.claim_tree.specs.declared.file_fault.Field.TheVariants.{Version}
+use Rattle.claim_tree.proofs.FileMembers.{wrong_member}
+use Rattle.verifier_core.specs.PolicyVersion.{IsVersion}
+use Rattle.verifier_core.proofs.policy_version.version_member.Goals as goal
+
+pub returns-in-None-clause-refused : goal.returns-in-None-clause-refused
+returns-in-None-clause-refused c =
+    wrong_member (optional Version IsVersion) c.args.members.now c.word.result.now (tree_of c.in-Some.tree.now) c.word.ensures c.in-Some.ensures c.in-None.ensures.none

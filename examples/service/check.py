@@ -1,0 +1,124 @@
+#!/usr/bin/env python3
+"""Tries service.py: by plain requests, and in a browser where python3-selenium and a chromium are installed.
+
+    python3 check.py                    tries it
+    python3 check.py --picture FILE     also takes a picture of the page, at the end of the walk
+
+The package sdjwt has to be importable (python/README.md).
+"""
+import argparse
+import html
+import re
+import subprocess
+import sys
+import urllib.error
+import urllib.parse
+import urllib.request
+from pathlib import Path
+
+SERVICE = Path(__file__).resolve().parent / "service.py"
+HOSTILE = ["", "<script>document.title='x'</script>", "\"'><img src=x onerror=alert(1)>", "\x00\x01", "\u202e\U0001f600", "/~2",
+           "~" * 1000, "a" * 50_000, "{" * 5_000, "../../etc/passwd", "%s%n", "null", "-1", "9" * 5_000]
+
+
+def post(base, path, fields, **headers):
+    """The status and the text that answer a form."""
+    request = urllib.request.Request(base + path, urllib.parse.urlencode(fields, doseq=True).encode(), headers=headers)
+    try:
+        with urllib.request.urlopen(request, timeout=20) as answer:
+            return answer.status, answer.read().decode()
+    except urllib.error.HTTPError as fault:
+        return fault.code, fault.read().decode()
+
+
+def field(text, name):
+    """What stands in a text area of the page."""
+    return html.unescape(re.search(rf'<textarea name="{name}" rows="6">(.*?)</textarea>', text, re.S)[1])
+
+
+def by_requests(base):
+    """The walk, then hostile input to every field, then requests that are not for this service."""
+    _, text = post(base, "/issue", {"name": "Ada", "seat": "B12", "year": "1990"})
+    ticket = field(text, "ticket")
+    nonce = re.search(r'<code id="nonce">(.*?)</code>', text)[1]
+    _, text = post(base, "/present", {"ticket": ticket, "nonce": nonce, "show": ["over_18"]})
+    shown = field(text, "shown")
+    _, text = post(base, "/verify", {"shown": shown})
+    assert "<th>over_18</th><td>True</td>" in text and "Ada</td>" not in text
+    _, text = post(base, "/verify", {"shown": shown})
+    assert "refused 36 nonceMismatch" in text or "refused 3" in text, "a nonce that was used"
+    walks = {"/issue": {"name": "Ada", "seat": "B12", "year": "1990"}, "/present": {"ticket": ticket, "nonce": nonce, "show": "seat"},
+             "/verify": {"shown": shown, "ticket": ticket}}
+    tried = 0
+    for path, fields in walks.items():
+        for name in fields:
+            for value in HOSTILE:
+                status, text = post(base, path, {**fields, name: value})
+                assert status in (200, 413), (path, name, status)
+                assert "<script" not in text and "<img" not in text, (path, name)
+                tried += 1
+        assert post(base, path, {})[0] == 200
+    assert post(base, "/issue", {str(n): "x" for n in range(100)})[0] == 400
+    assert post(base, "/verify", {"shown": "x" * 200_000})[0] == 413
+    assert post(base, "/issue", walks["/issue"], Origin="http://evil.example")[0] == 403
+    assert post(base, "/issue", walks["/issue"], Host="evil.example")[0] == 403
+    assert post(base, "/other", {})[0] == 403
+    print(f"by requests: the walk, and {tried} forms of hostile input")
+
+
+def by_browser(base, picture):
+    """The walk by clicks."""
+    try:
+        from selenium import webdriver
+        from selenium.webdriver.chrome.service import Service
+        from selenium.webdriver.common.by import By
+    except ImportError:
+        print("skipped: the browser (no python3-selenium)")
+        return
+    options = webdriver.ChromeOptions()
+    for word in ("--headless=new", "--no-sandbox", "--disable-gpu", "--window-size=1250,900"):
+        options.add_argument(word)
+    try:
+        browser = webdriver.Chrome(options=options, service=Service("/usr/bin/chromedriver"))
+    except Exception as fault:
+        print(f"skipped: the browser ({type(fault).__name__}: is chromium-driver installed?)")
+        return
+    try:
+        find = lambda kind, what: browser.find_element(kind, what)
+        browser.get(base + "/")
+        find(By.ID, "issue").click()
+        find(By.CSS_SELECTOR, "input[value=over_18]").click()
+        find(By.CSS_SELECTOR, "input[value=seat]").click()
+        find(By.ID, "present").click()
+        assert find(By.CSS_SELECTOR, "input[value=over_18]").is_selected()
+        find(By.ID, "verify").click()
+        rows = {row.text.split(" ", 1)[0]: row.text.split(" ", 1)[1] for row in browser.find_elements(By.CSS_SELECTOR, ".claims tr")}
+        assert rows["over_18"] == "True" and rows["seat"] == "B12" and "name" not in rows, rows
+        if picture:
+            browser.save_screenshot(picture)
+        find(By.ID, "verify").click()
+        assert "refused" in find(By.CSS_SELECTOR, ".refusal").text
+        find(By.NAME, "name").clear()
+        find(By.NAME, "name").send_keys("<script>document.title='x'</script>")
+        find(By.ID, "issue").click()
+        assert browser.title == "A ticket with an age mark"
+        print("in a browser: the walk by clicks")
+    finally:
+        browser.quit()
+
+
+def main():
+    parser = argparse.ArgumentParser(description=__doc__, formatter_class=argparse.RawDescriptionHelpFormatter)
+    parser.add_argument("--picture")
+    words = parser.parse_args()
+    with subprocess.Popen([sys.executable, str(SERVICE), "0"], stdout=subprocess.PIPE, text=True) as service:
+        try:
+            base = service.stdout.readline().strip().rstrip("/")
+            by_requests(base)
+            by_browser(base, words.picture)
+        finally:
+            service.terminate()
+
+
+if __name__ == "__main__":
+    main()
