@@ -69,5 +69,5 @@ none_collides disclosure there out stands = out (sent_issued disclosure there)
 -- so the law says of it what it says
 holds : IsChoiceOf (marked_claims order) parts.disclosures sent.disclosures accepted.0
 holds =
-    no_forgery_holds (IsGood issuer_key) seed order parts issued.passes issued.writable.good.ordered issued.writable.held issued.issued
+    no_forgery_holds issuer_key.alg (IsGood issuer_key) seed order parts issued.passes issued.writable.good.ordered issued.writable.held issued.issued
     (compact sent) (alone sent) is_text refl policy 1300 accepted.0 accepted.1 none_collides

@@ -22,7 +22,7 @@ is_set = record {
   elements = element key_tree no_elements;
   stand = refl;
   good = refl;
-  keys_are = key key_tree no_elements (record { kid = None; key = generated_key }) [] (replicate key_min 1) (record { code = b64 (replicate key_min 1); is = refl; decodes = decodes }) (omega arith) refl refl no_keys;
+  keys_are = key key_tree no_elements (record { kid = None; hs256 = generated_key.block; hs384 = None; hs512 = None }) [] (replicate key_min 1) (record { code = b64 (replicate key_min 1); is = refl; decodes = decodes }) (omega arith) (record { kid = refl; hs256 = refl; hs384 = refl; hs512 = refl }) no_keys;
 }
 
 module _ (t : Tree) (same : set_tree ≡ t) where

@@ -134,7 +134,7 @@ claims_hold n =
     unreadable (inl h) = absent (get (shown_for (marked_claims (generated n)) (generated_ask n).want) (codes "exp")) h.0 (no_expiry n) h.1
     unreadable (inr h) = absent (get (shown_for (marked_claims (generated n)) (generated_ask n).want) (codes "nbf")) h.0 (no_start n) h.1
 
-pub generated_suits : (n : ℕ) → Suits never_rule [] (generated n) generated_key (generated_ask n) generated_key generated_policy 0 0
+pub generated_suits : (n : ℕ) → Suits never_rule [] (generated n) generated_key (generated_ask n) generated_key.block generated_policy 0 0
 generated_suits n = record {
   holder_finds = refl;
   verifier_finds = refl;

@@ -1,15 +1,19 @@
 -- A token that is issued is held: it is read, no condition on it fails under the keys of a holder who finds the issuer's, and it
 -- processes to the claims with their marks.
-use Rattle.std.proofs.Common.{◌≡◌, inl, ℕ, ◌≤◌, List, length, Some, refl, subst, ◌∙◌, arith, ap₂}
+use Rattle.std.proofs.Common.{◌≡◌, inl, inr, ℕ, ◌≤◌, List, length, map, Some, refl, subst, ◌∙◌, arith, ap₂}
 use Rattle.sd_outside.specs.Limits.{issue_max, count_max}
 use Rattle.compact_form.specs.declared.parts.Parts.{Parts}
 use Rattle.compact_form.specs.Compact.{compact, AreWords}
+use Rattle.claim_tree.specs.Lists.{In}
+use Rattle.hmac_sign.specs.Algs.{alg_text, algs}
 use Rattle.hmac_sign.specs.Hmac.{AlgKey, IsGood}
+use Rattle.hmac_sign.specs.Keys.{picked_key}
+use Rattle.hmac_sign.specs.declared.alg.Alg.{Alg}
 use Rattle.json_form.specs.Token.{IsToken}
 use Rattle.json_form.proofs.AloneForms.{compact_read}
 use Rattle.marked_tree.specs.Marked.{Marked}
 use Rattle.rebuild_core.specs.Opening.{processed}
-use Rattle.verifier_core.specs.Verdict.{HasContent, Opens, IsChecked, key_for}
+use Rattle.verifier_core.specs.Verdict.{HasContent, Opens, IsChecked}
 use Rattle.verifier_core.proofs.CheckSteps.{one_content}
 use Rattle.issuer_core.specs.Digests.{marked_claims}
 use Rattle.issuer_core.specs.Order.{Order}
@@ -21,6 +25,11 @@ use Rattle.sdjwt_cli.specs.Lines.{line}
 use Rattle.json_form.specs.Alone.{alone}
 use Rattle.sdjwt_cli.proofs.CompactLines.{line_token}
 use Rattle.sdjwt_cli.proofs.CheckedParts.{CarriesFor, content, checked}
+
+is_known : (alg : Alg) → In (alg_text alg) (map alg_text algs)
+is_known Alg.Hs256 = inl refl
+is_known Alg.Hs384 = inr (inl refl)
+is_known Alg.Hs512 = inr (inr (inl refl))
 
 -- what is known of a token that is issued
 pub record IsTokenOf (seed : List ℕ) (o : Order) (key : AlgKey) (parts : Parts) : Type 0 where
@@ -54,11 +63,11 @@ module _ (seed : List ℕ) (o : Order) (key : AlgKey) (parts : Parts) (is : IsTo
   pub issued_content : HasContent (alone parts) is.has.payload is.has.given
   issued_content = content o key is.has.payload is.has.given parts (carries_issued seed o key parts is.has)
 
-  pub issued_held : (ask : Ask) → key_for ask.keys o.kid ≡ Some key → IsHeld (alone parts) ask (marked_claims o)
+  pub issued_held : (ask : Ask) → picked_key ask.keys o.kid key.alg ≡ Some key → IsHeld (alone parts) ask (marked_claims o)
   issued_held ask finds = record {
     unbound = is.has.written.unbound;
     checked = subst (IsChecked (alone parts) (held_rules ask.keys)) is.has.issued.opens
-        (checked o key is.has.payload is.has.given parts (carries_issued seed o key parts is.has) (held_rules ask.keys) (record { alg = inl refl; typ = λ name none. cc none; finds = finds }) is.has.sound);
+        (checked o key is.has.payload is.has.given parts (carries_issued seed o key parts is.has) (held_rules ask.keys) (record { alg = is_known key.alg; typ = λ name none. cc none; finds = finds }) is.has.sound);
   }
 
   -- it processes to nothing else

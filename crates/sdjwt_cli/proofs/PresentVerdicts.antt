@@ -2,7 +2,7 @@
 use Rattle.std.proofs.Common.{◌≡◌, ℕ, List, ap, ◌∙◌, sym, subst, inl, inr, ◌⊎◌}
 use Rattle.compact_form.specs.declared.parts.Parts.{Parts}
 use Rattle.compact_form.specs.Compact.{compact}
-use Rattle.hmac_sign.specs.Hmac.{IsGood}
+use Rattle.hmac_sign.specs.Hmac.{hs256_key, IsGood}
 use Rattle.holder_core.specs.declared.errors.PresentError.{PresentError}
 use Rattle.holder_core.specs.declared.errors.PresentError.TheVariants.{Memory, SignFailed}
 use Rattle.holder_core.specs.PresentRefusal.{present_refusal_text}
@@ -17,7 +17,7 @@ use Rattle.sdjwt_cli.proofs.NeverShown.{never_decided}
 use Rattle.sdjwt_cli.specs.Telling.{TellsFileFault}
 use Rattle.holder_core.specs.PresentFile.{IsPresentFileRefused}
 
-one_signature : (key : List ℕ) → HasOneSignature (IsGood key)
+one_signature : (key : List ℕ) → HasOneSignature (IsGood (hs256_key key))
 one_signature key head body one other h k = h ∙ sym k
 
 printed : (order token : List ℕ) (now : ℕ) (a b : List ℕ) → Presents order token now a → Presents order token now b → a ≡ b
@@ -25,7 +25,7 @@ printed order token now a b g h =
     let same : g.said ≡ h.said = orders.one_present order g.said h.said g.is_order h.is_order in
     let presented : IsPresentedFor h.said token now g.parts = subst (λ (said : PresentFile). IsPresentedFor said token now g.parts) same g.presented in
     let key = signing_key h.said.key in
-    let one = one_presented never_rule h.said.never (never_decided h.said.never) token h.said.ask (IsGood key) (one_signature key) now g.parts h.parts presented h.presented in
+    let one = one_presented never_rule h.said.never (never_decided h.said.never) token h.said.ask (IsGood (hs256_key key)) (one_signature key) now g.parts h.parts presented h.presented in
     g.line_is ∙ (ap (λ (parts : Parts). line (compact parts)) one ∙ sym h.line_is)
 
 refused : (order token : List ℕ) (now : ℕ) (a b : List ℕ) → DoesNotPresent order token now a → DoesNotPresent order token now b → a ≡ b
@@ -33,14 +33,14 @@ refused order token now a b g h =
     let same : g.said ≡ h.said = orders.one_present order g.said h.said g.is_order h.is_order in
     let applies : IsNotPresentedFor h.said token now g.error = subst (λ (said : PresentFile). IsNotPresentedFor said token now g.error) same g.refused in
     let key = signing_key h.said.key in
-    let one = one_cause never_rule h.said.never (never_decided h.said.never) token h.said.ask (IsGood key) (one_signature key) now g.error h.error g.memory g.signed h.memory h.signed applies h.refused in
+    let one = one_cause never_rule h.said.never (never_decided h.said.never) token h.said.ask (IsGood (hs256_key key)) (one_signature key) now g.error h.error g.memory g.signed h.memory h.signed applies h.refused in
     g.line_is ∙ (ap (λ (e : PresentError). line (present_refusal_text e)) one ∙ sym h.line_is)
 
 no_order : (order : List ℕ) (a b : List ℕ) → TellsFileFault (IsPresentFileRefused order) a → TellsFileFault (IsPresentFileRefused order) b → a ≡ b
 no_order order a b g h = g.line_is ∙ (ap (unreadable_line 1) (orders.one_fault order g.fault h.fault g.refused h.refused g.cause h.cause) ∙ sym h.line_is)
 
 printed_not_refused : (order token : List ℕ) (now : ℕ) (a b : List ℕ) → Presents order token now a → DoesNotPresent order token now b → ⊥
-printed_not_refused order token now a b g h = neither (presented_not_refused never_rule g.said.never (never_decided g.said.never) token g.said.ask (IsGood key) (one_signature key) now g.parts h.error g.presented g.short applies)
+printed_not_refused order token now a b g h = neither (presented_not_refused never_rule g.said.never (never_decided g.said.never) token g.said.ask (IsGood (hs256_key key)) (one_signature key) now g.parts h.error g.presented g.short applies)
   where
     key : List ℕ
     key = signing_key g.said.key

@@ -12,6 +12,7 @@ use Rattle.sdjwt_cli.specs.Issuing.{Issues}
 use Rattle.sdjwt_cli.specs.Lines.{line}
 use Rattle.sdjwt_cli.specs.Never.{never_rule}
 use Rattle.sdjwt_cli.specs.Presented.{AllSuits, OnlyGives, GivesAlone, IsShownWell, PresentedOverFiles, IsRun, Wrote, IsNoRefusal, RunsTo, RunsWell, PresentedOverRuns}
+use Rattle.hmac_sign.specs.Hmac.{AlgKey}
 use Rattle.sdjwt_cli.specs.Presenting.{signing_key}
 use Rattle.sdjwt_cli.specs.Run.{Outside, Ends, EndsDone, EndsTelling}
 use Rattle.sdjwt_cli.specs.Suits.{Suits}
@@ -27,7 +28,7 @@ use Rattle.issuer_core.specs.Digests.{marked_claims}
 module _ (order_file seed_file present_file policy_file : List ℕ) (now later : ℕ) (all : AllSuits order_file seed_file present_file policy_file now later) (token : List ℕ) (issues : Issues order_file seed_file token) where
   suits : Suits never_rule all.said.never issues.order issues.key all.said.ask (signing_key all.said.key) all.policy now later
   suits =
-      carried order_file seed_file all.order issues.order all.key issues.key all.seed issues.seed all.asked issues.asked (λ (p : Order) (k s : List ℕ). Suits never_rule all.said.never p k all.said.ask (signing_key all.said.key) all.policy now later) all.suits
+      carried order_file seed_file all.order issues.order all.key issues.key all.seed issues.seed all.asked issues.asked (λ (p : Order) (k : AlgKey) (s : List ℕ). Suits never_rule all.said.never p k all.said.ask (signing_key all.said.key) all.policy now later) all.suits
 
   claims_are : shown_for (marked_claims issues.order) all.said.ask.want ≡ shown_for (marked_claims all.order) all.said.ask.want
   claims_are = ap (λ (p : Order). shown_for (marked_claims p) all.said.ask.want) (sym (same_order order_file seed_file all.order issues.order all.key issues.key all.seed issues.seed all.asked issues.asked))

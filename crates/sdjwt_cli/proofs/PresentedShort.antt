@@ -11,7 +11,7 @@ use Rattle.compact_form.specs.declared.parts.JwtParts.{JwtParts}
 use Rattle.compact_form.specs.declared.parts.Parts.{Parts}
 use Rattle.compact_form.specs.Compact.{jwt, spelled, hashed, ending, compact, HasWords, AreWords}
 use Rattle.disclosure.specs.declared.digests.HashAlg.{HashAlg}
-use Rattle.hmac_sign.specs.Hmac.{IsGood}
+use Rattle.hmac_sign.specs.Hmac.{hs256_key, IsGood}
 use Rattle.hmac_sign.proofs.Macs.{length-mac}
 use Rattle.jws_part.specs.Header.{header_members}
 use Rattle.key_binding.specs.Binding.{IsBinding, binding_header, claim_members, claims_for}
@@ -50,20 +50,20 @@ compact_length parts = length-append (hashed parts) (ending parts.binding)
 
 -- ---- a key binding token
 
-binding_words : (key : List ℕ) (hash : HashAlg) (text aud nonce : Text) (now : ℕ) (token : JwtParts) → IsBinding (IsGood key) hash text aud nonce now token → HasWords token
+binding_words : (key : List ℕ) (hash : HashAlg) (text aud nonce : Text) (now : ℕ) (token : JwtParts) → IsBinding (IsGood (hs256_key key)) hash text aud nonce now token → HasWords token
 binding_words key hash text aud nonce now token is = record {
   protected = subst IsWord (sym is.protected) (object_word (header_members binding_header));
   payload = subst IsWord (sym is.payload) (object_word (claim_members (claims_for hash text aud nonce now)));
-  signature = subst IsWord (sym is.signature_text) (IsWord-b64 is.signature (omega (arith, ap length is.signed, length-mac key token.protected token.payload)));
+  signature = subst IsWord (sym is.signature_text) (IsWord-b64 is.signature (omega (arith, ap length is.signed, length-mac (hs256_key key) token.protected token.payload)));
 }
 
 module _ (key : List ℕ) (hash : HashAlg) (text : Text) (now : ℕ) (in_range : now < 2 ^ 64) where
-  pub ending_words : (asked : Option BindingAsk) (binding : Option JwtParts) → IsBoundWith asked (IsGood key) hash text now binding → IfSome binding HasWords
+  pub ending_words : (asked : Option BindingAsk) (binding : Option JwtParts) → IsBoundWith asked (IsGood (hs256_key key)) hash text now binding → IfSome binding HasWords
   ending_words None binding is = subst (λ b. IfSome b HasWords) (sym is) tt
   ending_words (Some ask) None is = absurd is
   ending_words (Some ask) (Some token) is = binding_words key hash text ask.aud ask.nonce now token is.is_binding
 
-  pub ending_short : (asked : Option BindingAsk) (binding : Option JwtParts) → AreShort asked → IsBoundWith asked (IsGood key) hash text now binding → length (ending binding) < 5500
+  pub ending_short : (asked : Option BindingAsk) (binding : Option JwtParts) → AreShort asked → IsBoundWith asked (IsGood (hs256_key key)) hash text now binding → length (ending binding) < 5500
   ending_short None binding small is = omega (arith, ap (λ b. length (ending b)) is)
   ending_short (Some ask) None small is = absurd is
   ending_short (Some ask) (Some token) small is = binding_short key hash text ask.aud ask.nonce now token small.0 small.1 in_range is.is_binding
@@ -71,7 +71,7 @@ module _ (key : List ℕ) (hash : HashAlg) (text : Text) (now : ℕ) (in_range :
 -- ---- what is presented
 
 module _ (key : List ℕ) (hash : HashAlg) (now : ℕ) (in_range : now < 2 ^ 64) (asked : Option BindingAsk) (small : AreShort asked) (parts answer : Parts) (s : ℕ → Bool)
-    (presents : PicksParts parts s answer.binding answer) (bound : IsBoundAs asked (IsGood key) hash now answer) where
+    (presents : PicksParts parts s answer.binding answer) (bound : IsBoundAs asked (IsGood (hs256_key key)) hash now answer) where
   pub answer_words : AreWords parts → AreWords answer
   answer_words words = record {
     signed = subst HasWords (sym presents.signed) words.signed;

@@ -6,6 +6,7 @@ use Rattle.selection_core.specs.Consent.{RuleAnswers}
 use Rattle.issuer_core.specs.Order.{Order}
 use Rattle.verifier_core.specs.declared.policy.Policy.{Policy}
 use Rattle.holder_core.specs.declared.ask.Ask.{Ask}
+use Rattle.hmac_sign.specs.Hmac.{AlgKey}
 use Rattle.sdjwt_cli.specs.Issuing.{IsIssuedBy}
 use Rattle.sdjwt_cli.specs.PresentedValues.{IsAcceptedWith, IsShownAt, PresentedOverValues, AreShort}
 use Rattle.json_form.specs.Alone.{alone}
@@ -16,7 +17,7 @@ use Rattle.sdjwt_cli.proofs.PresentedAccepted.{IsPresentedOf, answer_text, answe
 use Rattle.holder_core.specs.Present.{shown_for}
 use Rattle.issuer_core.specs.Digests.{marked_claims}
 
-module _ {F : Type 0} (answers : RuleAnswers F) (rule : F) (seed : List ℕ) (o : Order) (key : List ℕ) (parts : Parts) (issued : IsIssuedBy seed o key parts)
+module _ {F : Type 0} (answers : RuleAnswers F) (rule : F) (seed : List ℕ) (o : Order) (key : AlgKey) (parts : Parts) (issued : IsIssuedBy seed o key parts)
     (ask : Ask) (signing : List ℕ) (policy : Policy) (now later : ℕ) (suits : Suits answers rule o key ask signing policy now later) (small : AreShort ask.binding) (in_range : now < 2 ^ 64) where
   is : IsTokenOf seed o key parts
   is = token_of seed o key parts issued

@@ -10,7 +10,8 @@ use Rattle.claim_tree.specs.Tree.{Text, Leaf, Tree, leaf, null, flag, text, whol
 use Rattle.claim_tree.specs.JsonText.{json_text, Reads}
 use Rattle.sd_outside.specs.Limits.{file_max}
 use Rattle.hmac_sign.specs.Keys.{IsKeySet, key, no_keys}
-use Rattle.hmac_sign.specs.KeyText.{IsKeyText}
+use Rattle.hmac_sign.specs.declared.alg.Alg.{Alg}
+use Rattle.hmac_sign.specs.KeyText.{IsKeyBytes, IsKeyText}
 use Rattle.verifier_core.specs.PolicyFile.{IsPolicyFile}
 use Rattle.verifier_core.specs.declared.policy_version.PolicyVersion.{PolicyVersion}
 use Rattle.issuer_core.specs.OrderFile.{IsOrderFile}
@@ -19,7 +20,7 @@ use Rattle.claim_tree.proofs.Lists.{and_split}
 use Rattle.claim_tree.proofs.TreeTexts.{HasTexts, ElementsTexts, MembersTexts, read_back}
 use Rattle.holder_core.specs.PresentFile.{IsPresentFile}
 use Rattle.sdjwt_cli.specs.Presented.{AllSuits}
-use Rattle.sdjwt_cli.proofs.SuitsExample.{issuer_bytes, holder_bytes, issuer_key, holder_key, named, claims_members, order, said, policy, suits}
+use Rattle.sdjwt_cli.proofs.SuitsExample.{issuer_bytes, holder_bytes, issuer_key, holder_key, in_a_set, named, claims_members, order, said, policy, suits}
 
 -- ---- keys
 
@@ -37,11 +38,11 @@ holder_decodes : Decodes holder_code holder_bytes
 unfolding letters bits sixes b64
 holder_decodes = record { fit = AreBytes-text holder_bytes (IsUtf8-are_ascii holder_bytes refl); spelling = refl }
 
-issuer_text : IsKeyText (named issuer_code) issuer_key
-issuer_text = record { code = issuer_code; is = refl; bytes = issuer_bytes; decodes = issuer_decodes; enough = omega arith; key_is = refl }
+issuer_text : IsKeyBytes (named issuer_code) issuer_bytes
+issuer_text = record { code = issuer_code; is = refl; decodes = issuer_decodes; enough = omega arith }
 
 holder_text : IsKeyText (named holder_code) holder_key
-holder_text = record { code = holder_code; is = refl; bytes = holder_bytes; decodes = holder_decodes; enough = omega arith; key_is = refl }
+holder_text = record { bytes = holder_bytes; are = record { code = holder_code; is = refl; decodes = holder_decodes; enough = omega arith }; key_is = refl }
 
 -- a set of one key
 abbrev issuer_tree : Tree
@@ -53,20 +54,20 @@ holder_tree = object (member (codes "k") (named holder_code) (member (codes "kid
 abbrev set_of : Tree → Tree
 set_of t = object (member (codes "keys") (array (element t no_elements)) no_members)
 
-issuer_set : IsKeySet (set_of issuer_tree) (record { kid = None; key = issuer_key } ∷ [])
+issuer_set : IsKeySet (set_of issuer_tree) (in_a_set None issuer_key.block ∷ [])
 issuer_set = record {
   elements = element issuer_tree no_elements;
   stand = refl;
   good = refl;
-  keys_are = key issuer_tree no_elements (record { kid = None; key = issuer_key }) [] issuer_bytes (record { code = issuer_code; is = refl; decodes = issuer_decodes }) (omega arith) refl refl no_keys;
+  keys_are = key issuer_tree no_elements (in_a_set None issuer_key.block) [] issuer_bytes (record { code = issuer_code; is = refl; decodes = issuer_decodes }) (omega arith) (record { kid = refl; hs256 = refl; hs384 = refl; hs512 = refl }) no_keys;
 }
 
-holder_set : IsKeySet (set_of holder_tree) (record { kid = Some (codes "h"); key = holder_key } ∷ [])
+holder_set : IsKeySet (set_of holder_tree) (in_a_set (Some (codes "h")) holder_key ∷ [])
 holder_set = record {
   elements = element holder_tree no_elements;
   stand = refl;
   good = refl;
-  keys_are = key holder_tree no_elements (record { kid = Some (codes "h"); key = holder_key }) [] holder_bytes (record { code = holder_code; is = refl; decodes = holder_decodes }) (omega arith) refl refl no_keys;
+  keys_are = key holder_tree no_elements (in_a_set (Some (codes "h")) holder_key) [] holder_bytes (record { code = holder_code; is = refl; decodes = holder_decodes }) (omega arith) (record { kid = refl; hs256 = refl; hs384 = refl; hs512 = refl }) no_keys;
 }
 
 -- ---- files
@@ -225,9 +226,13 @@ is_asked = record {
   payload = refl;
   hide = record { elements = _; is = refl; each = (refl, (refl, tt)) };
   decoys = refl;
-  key = issuer_text;
+  key_bytes = issuer_bytes;
+  says_key = issuer_text;
   kid = tt;
   typ = refl;
+  alg = Alg.Hs256;
+  says_alg = refl;
+  key = refl;
   hash = refl;
 }
 

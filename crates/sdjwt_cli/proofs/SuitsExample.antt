@@ -7,7 +7,9 @@ use Rattle.compact_form.specs.Lowest.{NoneFails}
 use Rattle.compact_form.specs.declared.condition.Condition.{Condition}
 use Rattle.compact_form.proofs.Lowest.{holds_too, none_fails}
 use Rattle.disclosure.specs.declared.digests.HashAlg.{HashAlg}
-use Rattle.hmac_sign.specs.Hmac.{key_block}
+use Rattle.hmac_sign.specs.Hmac.{AlgKey, alg_key, key_block}
+use Rattle.hmac_sign.specs.declared.alg.Alg.{Alg}
+use Rattle.hmac_sign.specs.declared.key_set.NamedKey.{NamedKey}
 use Rattle.jws_part.specs.Times.{IsTimeUnreadable}
 use Rattle.key_binding.specs.declared.policy.BindingPolicy.{BindingPolicy}
 use Rattle.marked_tree.specs.Paths.{Path, mark_path, chosen}
@@ -51,17 +53,21 @@ issuer_bytes = codes "the key of an issuer, 32 bytes.."
 abbrev pub holder_bytes : List ℕ
 holder_bytes = codes "the key of a holder, of 32 bytes"
 
-abbrev pub issuer_key : List ℕ
-issuer_key = key_block issuer_bytes
+abbrev pub issuer_key : AlgKey
+issuer_key = alg_key Alg.Hs256 issuer_bytes
 
 abbrev pub holder_key : List ℕ
-holder_key = key_block holder_bytes
+holder_key = key_block Alg.Hs256 holder_bytes
+
+-- 32 bytes are enough for HS256 alone
+abbrev pub in_a_set : Option Text → List ℕ → NamedKey
+in_a_set kid block = record { kid = kid; hs256 = block; hs384 = None; hs512 = None }
 
 -- the given name is wanted, with a key binding token, and the family name is never shown
 abbrev pub said : PresentFile
 said = record {
   ask = record {
-    keys = record { kid = None; key = issuer_key } ∷ [];
+    keys = in_a_set None issuer_key.block ∷ [];
     want = (codes "given_name" ∷ []) ∷ [];
     binding = Some (record { kid = codes "h"; aud = codes "v"; nonce = codes "7" });
   };
@@ -70,12 +76,12 @@ said = record {
 }
 
 abbrev pub asked_binding : BindingPolicy
-asked_binding = record { aud = codes "v" ∷ []; nonce = codes "7"; keys = record { kid = Some (codes "h"); key = holder_key } ∷ []; max_age = 300 }
+asked_binding = record { aud = codes "v" ∷ []; nonce = codes "7"; keys = in_a_set (Some (codes "h")) holder_key ∷ []; max_age = 300 }
 
 -- the verifier wants a given name by this issuer, and a key binding token where it says so
 abbrev pub policy_with : Option BindingPolicy → Policy
 policy_with binding = record {
-  keys = record { kid = None; key = issuer_key } ∷ [];
+  keys = in_a_set None issuer_key.block ∷ [];
   algs = codes "HS256" ∷ [];
   typ = Some (codes "dc+sd-jwt");
   iss = Some (codes "i" ∷ []);

@@ -61,10 +61,10 @@ module _ (n : ℕ) (issued : Parts) (is_issued : IsIssuedBy generated_seed (gene
   abbrev claims : Tree
   claims = shown_claims n
 
-  through : IsShownOf never_rule [] issued (generated_ask n) generated_key generated_policy 0 0 claims
-  through = presented_over_values never_rule [] generated_seed (generated n) generated_key issued is_issued (generated_ask n) generated_key generated_policy 0 0 (generated_suits n) tt (omega arith)
+  through : IsShownOf never_rule [] issued (generated_ask n) generated_key.block generated_policy 0 0 claims
+  through = presented_over_values never_rule [] generated_seed (generated n) generated_key issued is_issued (generated_ask n) generated_key.block generated_policy 0 0 (generated_suits n) tt (omega arith)
 
-  here : IsShownAt never_rule [] (compact issued) (generated_ask n) generated_key generated_policy 0 0 claims
+  here : IsShownAt never_rule [] (compact issued) (generated_ask n) generated_key.block generated_policy 0 0 claims
   here = through.shown (compact issued) through.reads
 
   pub nothing_refused : (error : PresentError) → error ≢ Memory → error ≢ SignFailed → IsNotPresented never_rule [] (compact issued) (generated_ask n) (IsGood generated_key) 0 error → ⊥
@@ -92,8 +92,8 @@ module _ (n : ℕ) (issued : Parts) (is_issued : IsIssuedBy generated_seed (gene
     pub acceptable : IsAcceptable presented
     acceptable = (claims, accepted_with)
 
-    of : holder.IsPresentedOf (generated n) (generated_ask n) generated_key issued 0 presented
-    of = is_presented_of generated_seed (generated n) generated_key issued is_issued.passes is never_rule [] (generated_ask n) generated_key tt 0 (omega arith) (compact issued) through.reads presented is_presented
+    of : holder.IsPresentedOf (generated n) (generated_ask n) generated_key.block issued 0 presented
+    of = is_presented_of generated_seed (generated n) generated_key issued is_issued.passes is never_rule [] (generated_ask n) generated_key.block tt 0 (omega arith) (compact issued) through.reads presented is_presented
 
     abbrev given : List Given
     given = picked s is.has.given
@@ -101,7 +101,7 @@ module _ (n : ℕ) (issued : Parts) (is_issued : IsIssuedBy generated_seed (gene
     has_content : HasContent (alone presented) is.has.payload given
     has_content =
         content (generated n) generated_key is.has.payload given presented
-        (holder.carries_answer generated_seed (generated n) generated_key issued is_issued.writable.good is (generated_ask n) generated_key tt 0 (omega arith) presented of)
+        (holder.carries_answer generated_seed (generated n) generated_key issued is_issued.writable.good is (generated_ask n) generated_key.block tt 0 (omega arith) presented of)
 
     chosen_is : length presented.disclosures ≡ chosen_places n
     chosen_is = ap length of.presents.disclosures ∙ length_picked s issued.disclosures ∙ ap (λ many. count_by s (range_with_len 0 many)) text_count

@@ -4,7 +4,7 @@ use Rattle.claim_tree.specs.Tree.{Tree}
 use Rattle.compact_form.specs.declared.parts.Parts.{Parts}
 use Rattle.compact_form.specs.Compact.{compact}
 use Rattle.digest_sites.specs.Given.{Given}
-use Rattle.hmac_sign.specs.Hmac.{IsGood}
+use Rattle.hmac_sign.specs.Hmac.{AlgKey, IsGood}
 use Rattle.verifier_core.specs.Verdict.{HasContent}
 use Rattle.verifier_core.proofs.CheckSteps.{one_content}
 use Rattle.issuer_core.specs.declared.errors.IssueError.{IssueError}
@@ -22,7 +22,7 @@ use Rattle.json_form.specs.Alone.{alone}
 use Rattle.sdjwt_cli.specs.Summary.{Summarizes, DoesNotSummarize, hidden_paths, chosen_places, embedded_digests, shown_length, summary_lines}
 use Rattle.sdjwt_cli.proofs.NeverShown.{never_decided}
 
-one_signature : (key : List ℕ) → HasOneSignature (IsGood key)
+one_signature : (key : AlgKey) → HasOneSignature (IsGood key)
 one_signature key head body one other h k = h ∙ sym k
 
 module _ (n : ℕ) where
@@ -40,7 +40,7 @@ module _ (n : ℕ) where
 
   refused : (a b : List ℕ) → DoesNotSummarize n a → DoesNotSummarize n b → a ≡ b
   refused a b g h =
-      g.line_is ∙ (ap (λ (error : IssueError). line (issue_refusal_text error)) (one_refusal (maker_of generated_seed) (generated n) (IsGood generated_key) g.error h.error g.lowest h.lowest) ∙ sym h.line_is)
+      g.line_is ∙ (ap (λ (error : IssueError). line (issue_refusal_text error)) (one_refusal (maker_of generated_seed) (generated n) generated_key.alg (IsGood generated_key) g.error h.error g.lowest h.lowest) ∙ sym h.line_is)
 
   not_both : (a b : List ℕ) → Summarizes n a → DoesNotSummarize n b → ⊥
   not_both a b g h =

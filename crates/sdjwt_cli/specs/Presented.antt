@@ -5,6 +5,7 @@ use Rattle.std.specs.Io.KnownBytes.{Appends}
 use Rattle.sd_outside.specs.declared.status.Status.{Status}
 use Rattle.claim_tree.specs.JsonText.{json_text}
 use Rattle.claim_tree.specs.Tree.{Tree}
+use Rattle.hmac_sign.specs.Hmac.{AlgKey}
 use Rattle.verifier_core.specs.PolicyFile.{IsPolicyFile}
 use Rattle.verifier_core.specs.declared.policy.Policy.{Policy}
 use Rattle.issuer_core.specs.Order.{Order}
@@ -24,7 +25,7 @@ use Rattle.issuer_core.specs.Digests.{marked_claims}
 -- the files of `issue` say an order and its key, the others a present order and a policy, which suits; a moment has 64 bits
 pub record AllSuits (order_file seed_file present_file policy_file : List ℕ) (presented verified : ℕ) : Type 0 where
   pub order : Order
-  pub key : List ℕ
+  pub key : AlgKey
   pub seed : List ℕ
   pub asked : IsAsked order_file seed_file order key seed
   pub said : PresentFile

@@ -3,7 +3,7 @@ use Rattle.std.specs.Prelude.{◌≢◌, ℕ, ◌<◌, ◌^◌, List, ◌≤◌,
 use Rattle.claim_tree.specs.Tree.{Tree}
 use Rattle.compact_form.specs.declared.parts.Parts.{Parts}
 use Rattle.compact_form.specs.Compact.{compact}
-use Rattle.hmac_sign.specs.Hmac.{IsGood}
+use Rattle.hmac_sign.specs.Hmac.{AlgKey, hs256_key, IsGood}
 use Rattle.json_form.specs.Token.{IsToken}
 use Rattle.selection_core.specs.Consent.{RuleAnswers}
 use Rattle.verifier_core.specs.Verdicts.{IsAcceptedAs}
@@ -27,8 +27,8 @@ pub record IsAcceptedWith (answer : Parts) (policy : Policy) (verified : ℕ) (c
 
 -- of a text that is read as the token nothing is refused that is asked for, and whatever is presented is accepted with these claims
 pub record IsShownAt {F : Type 0} (answers : RuleAnswers F) (rule : F) (token : List ℕ) (ask : Ask) (signing : List ℕ) (policy : Policy) (presented verified : ℕ) (claims : Tree) : Type 0 where
-  pub presents : (error : PresentError) → error ≢ Memory → error ≢ SignFailed → IsNotPresented answers rule token ask (IsGood signing) presented error → ⊥
-  pub verifies : (answer : Parts) → IsPresented answers rule token ask (IsGood signing) presented answer → IsAcceptedWith answer policy verified claims
+  pub presents : (error : PresentError) → error ≢ Memory → error ≢ SignFailed → IsNotPresented answers rule token ask (IsGood (hs256_key signing)) presented error → ⊥
+  pub verifies : (answer : Parts) → IsPresented answers rule token ask (IsGood (hs256_key signing)) presented answer → IsAcceptedWith answer policy verified claims
 
 -- the compact text of the parts is read as them, and so it is of each text that is
 pub record IsShownOf {F : Type 0} (answers : RuleAnswers F) (rule : F) (parts : Parts) (ask : Ask) (signing : List ℕ) (policy : Policy) (presented verified : ℕ) (claims : Tree) : Type 0 where
@@ -42,7 +42,7 @@ AreShort asked = IfSome asked (λ ask. (length ask.aud ≤ binding_text_max) × 
 -- with this rule of consent; a moment has 64 bits
 abbrev pub PresentedOverValues : {F : Type 0} → RuleAnswers F → F → Type 0
 PresentedOverValues answers rule =
-    (seed : List ℕ) (o : Order) (key : List ℕ) (parts : Parts) → IsIssuedBy seed o key parts
+    (seed : List ℕ) (o : Order) (key : AlgKey) (parts : Parts) → IsIssuedBy seed o key parts
     → (ask : Ask) (signing : List ℕ) (policy : Policy) (presented verified : ℕ)
     → Suits answers rule o key ask signing policy presented verified → AreShort ask.binding → presented < 2 ^ 64
     → IsShownOf answers rule parts ask signing policy presented verified (shown_for (marked_claims o) ask.want)

@@ -1,15 +1,17 @@
 -- When a policy suits what a holder is asked to present of a token that is issued for an order.
-use Rattle.std.specs.Prelude.{◌≡◌, ◌≢◌, ◌≤◌, ℕ, ◌+◌, true, false, List, Option, None, Some, codes}
+use Rattle.std.specs.Prelude.{◌≡◌, ◌≢◌, ◌≤◌, ℕ, ◌+◌, true, false, List, Option, None, Some}
 use Rattle.claim_tree.specs.Tree.{Text}
 use Rattle.claim_tree.specs.Lists.{In}
 use Rattle.claim_tree.specs.Path.{tree_at}
 use Rattle.compact_form.specs.Lowest.{NoneFails}
-use Rattle.hmac_sign.specs.Keys.{key_named}
+use Rattle.hmac_sign.specs.Algs.{alg_text}
+use Rattle.hmac_sign.specs.Hmac.{AlgKey}
+use Rattle.hmac_sign.specs.Keys.{key_named, picked_key}
 use Rattle.key_binding.specs.Judged.{holder_kid}
 use Rattle.key_binding.specs.declared.policy.BindingPolicy.{BindingPolicy}
 use Rattle.marked_tree.specs.Paths.{Path, mark_path, chosen}
 use Rattle.selection_core.specs.Consent.{RuleAnswers, Allows}
-use Rattle.verifier_core.specs.Verdict.{key_for, ClaimFails}
+use Rattle.verifier_core.specs.Verdict.{ClaimFails}
 use Rattle.verifier_core.specs.declared.policy.Policy.{Policy}
 use Rattle.issuer_core.specs.Digests.{marked_claims}
 use Rattle.issuer_core.specs.Order.{Order}
@@ -30,12 +32,12 @@ pub record BindingSuits (asked : Option BindingAsk) (signing : List ℕ) (bindin
 
 -- with a rule of consent, the key of the issuer, that with which the holder signs, and the moments of presenting and of verifying, in
 -- seconds since 1970
-pub record Suits {F : Type 0} (answers : RuleAnswers F) (rule : F) (o : Order) (key : List ℕ) (ask : Ask) (signing : List ℕ) (policy : Policy) (presented verified : ℕ) : Type 0 where
-  -- holder and verifier find the key of the issuer: by the name that the order gives it, else as their first
-  pub holder_finds : key_for ask.keys o.kid ≡ Some key
-  pub verifier_finds : key_for policy.keys o.kid ≡ Some key
-  -- the verifier takes HS256, and the type of the token where it asks for one
-  pub alg : In (codes "HS256") policy.algs
+pub record Suits {F : Type 0} (answers : RuleAnswers F) (rule : F) (o : Order) (key : AlgKey) (ask : Ask) (signing : List ℕ) (policy : Policy) (presented verified : ℕ) : Type 0 where
+  -- holder and verifier pick the key of the issuer for its algorithm: by the name that the order gives it, where it gives one
+  pub holder_finds : picked_key ask.keys o.kid key.alg ≡ Some key
+  pub verifier_finds : picked_key policy.keys o.kid key.alg ≡ Some key
+  -- the verifier takes the algorithm, and the type of the token where it asks for one
+  pub alg : In (alg_text key.alg) policy.algs
   pub typ : (name : Text) → policy.typ ≡ Some name → o.typ ≡ Some name
   -- each wanted path is in the payload, and the rule refuses the place of no disclosure that leads to one
   pub there : (path : Path) → In path ask.want → tree_at o.payload path ≢ None

@@ -10,7 +10,7 @@ ghost use Rattle.sdjwt_cli.specs.GeneratedSteps.{with_member, HasMember, HasNoOt
 use b64url_text::encode;
 use claim_tree::{Path, PathList, Tree, TreeList, TreeMap, position};
 use disclosure::HashAlg;
-use hmac_sign::{Alg, HsKey, KeySet, KeySetError, KeyShort};
+use hmac_sign::{Alg, Hs256Key, HsKey, KeySet, KeySetError, KeyShort};
 use holder_core::Ask;
 use issuer_core::{Decoy, DecoyList, Order};
 use sd_outside::{NoMemory, TextBox, TextList};
@@ -202,6 +202,16 @@ pub(crate) fn key() -> HsKey
     ensures { result ≡ generated_key }
 {
     match HsKey::new(Alg::Hs256, &KEY) {
+        Ok(key) => key,
+        Err(KeyShort) => unreachable!(),
+    }
+}
+
+// The same key, for who presents.
+pub(crate) fn presenting_key() -> Hs256Key
+    ensures { result ≡ generated_key.block }
+{
+    match Hs256Key::new(&KEY) {
         Ok(key) => key,
         Err(KeyShort) => unreachable!(),
     }

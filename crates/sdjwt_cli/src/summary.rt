@@ -7,7 +7,7 @@ ghost use Rattle.sdjwt_cli.specs.Stops.{OnRefused, OnUnread, OnUnreadable};
 ghost use Rattle.sdjwt_cli.specs.Summary.{Summarizes, DoesNotSummarize, count_line, summary_lines};
 ghost use Rattle.sdjwt_cli.specs.SummarySteps.{IsPresentedOf, IsAcceptable, IsVerified};
 
-use crate::generated::{ask_of, key, order_of, policy};
+use crate::generated::{ask_of, key, order_of, policy, presenting_key};
 use crate::issue::{SEED_LEN, issue_parts};
 use crate::present::present_parts;
 use crate::stop::Stop;
@@ -46,7 +46,7 @@ fn present_issued(alloc: Global, count: u32, issued: &Parts) -> Result<Parts, No
     let ask = ask_of(alloc, count)?;
     let never = PathList::new(alloc);
     let text = token.as_str().as_bytes();
-    match present_parts(alloc, text, &ask, &never, &mut key(), NOW) {
+    match present_parts(alloc, text, &ask, &never, &mut presenting_key(), NOW) {
         Ok(parts) => Ok(parts),
         Err(PresentError::Memory) => Err(NoMemory),
         Err(_) => unreachable!(),

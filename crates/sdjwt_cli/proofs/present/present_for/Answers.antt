@@ -1,5 +1,5 @@
 use Rattle.std.proofs.Common.{ℕ, List, IfOk, IfErr, subst}
-use Rattle.hmac_sign.specs.Hmac.{IsGood}
+use Rattle.hmac_sign.specs.Hmac.{hs256_key, IsGood}
 use Rattle.holder_core.specs.Present.{IsPresented, IsNotPresented}
 use Rattle.sdjwt_cli.specs.Never.{never_rule}
 use Rattle.sdjwt_cli.specs.Presenting.{Presents, DoesNotPresent}
@@ -14,7 +14,7 @@ returns-clause-presents c file is_order =
     let presented = c.present_parts-presented.result in
     let token = c.args.token_file.now in
     let now = c.args.now in
-    let shown = subst (λ (key : List ℕ). IfOk presented (IsPresented never_rule said.never token said.ask (IsGood key) now)) c.signer-key.ensures c.present_parts-presented.ensures.presented in
+    let shown = subst (λ (key : List ℕ). IfOk presented (IsPresented never_rule said.never token said.ask (IsGood (hs256_key key)) now)) c.signer-key.ensures c.present_parts-presented.ensures.presented in
     of_text (IsLineOf presented) (Presents file token now) (presents said token now presented file is_order shown c.present_parts-presented.ensures.short) c.told.result c.told.ensures.presents
 
 pub returns-clause-refuses : goal.returns-clause-refuses
@@ -23,5 +23,5 @@ returns-clause-refuses c file is_order =
     let presented = c.present_parts-presented.result in
     let token = c.args.token_file.now in
     let now = c.args.now in
-    let refused = subst (λ (key : List ℕ). IfErr presented (IsNotPresented never_rule said.never token said.ask (IsGood key) now)) c.signer-key.ensures c.present_parts-presented.ensures.refused in
+    let refused = subst (λ (key : List ℕ). IfErr presented (IsNotPresented never_rule said.never token said.ask (IsGood (hs256_key key)) now)) c.signer-key.ensures c.present_parts-presented.ensures.refused in
     of_refused (IsRefusalOf presented) (DoesNotPresent file token now) (refuses said token now presented file is_order refused c.present_parts-presented.ensures.signed) c.told.result c.told.ensures.refuses

@@ -1,6 +1,6 @@
 use Rattle.std.proofs.Common.{List, subst, ap}
 use Rattle.marked_tree.specs.Paths.{Path}
-use Rattle.hmac_sign.specs.Hmac.{IsGood}
+use Rattle.hmac_sign.specs.Hmac.{hs256_key, IsGood}
 use Rattle.sdjwt_cli.specs.Never.{Judges, never_rule}
 use Rattle.sdjwt_cli.proofs.Issuings.{never}
 use Rattle.holder_core.proofs.OtherRules.{presented_by, not_presented_by}
@@ -10,7 +10,7 @@ use Rattle.sdjwt_cli.proofs.present.present_parts.Goals as goal
 pub returns : goal.returns
 returns c =
     let text = c.args.token_file.now in
-    let good = IsGood c.args.key.now in
+    let good = IsGood (hs256_key c.args.key.now) in
     let list = ap (λ x. x.0.now) c.new-consent.ensures.rule in
     record {
       presented = presented_by text c.args.ask.now good c.args.now c.present.result c.present.ensures.presented never_rule c.args.never.now (λ at b h. record { shown = h.shown; shows = h.shows; says = record { met = subst (λ (paths : List Path). Judges paths h.shown.now b) list h.says.met } });

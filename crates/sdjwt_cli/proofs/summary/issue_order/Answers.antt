@@ -1,6 +1,7 @@
 use Rattle.std.proofs.Common.{List, ℕ, IfErr, ap, sym, subst, arith}
 use Rattle.claim_tree.specs.Tree.{depth, IsRanged}
 use Rattle.issuer_core.specs.Order.{Order}
+use Rattle.hmac_sign.specs.Hmac.{AlgKey}
 use Rattle.sdjwt_cli.specs.Generated.{generated, generated_seed}
 use Rattle.sdjwt_cli.specs.Issuing.{TellsRefusal}
 use Rattle.sdjwt_cli.specs.Stops.{OnRefused}
@@ -19,4 +20,4 @@ issue_parts-requires-clause-ranged c = subst (λ (o : Order). IsRanged o.payload
 pub returns-clause-refuses : goal.returns-clause-refuses
 returns-clause-refuses c =
     let by_order = subst (λ (o : Order). IfErr c.issue_parts.result (λ stop. OnRefused stop (TellsRefusal generated_seed o c.key.result))) c.in_ok-order.ensures c.issue_parts.ensures.refuses in
-    subst (λ (k : List ℕ). IfErr c.issue_parts.result (λ stop. OnRefused stop (TellsRefusal generated_seed (generated c.args.count) k))) c.key.ensures by_order
+    subst (λ (k : AlgKey). IfErr c.issue_parts.result (λ stop. OnRefused stop (TellsRefusal generated_seed (generated c.args.count) k))) c.key.ensures by_order
