@@ -46,7 +46,7 @@ def _load() -> ctypes.CDLL:
     if library.sdjwt_abi_version() != _ABI_VERSION:
         raise ImportError(f"sdjwt: the library {path} is of another version")
     for name, parameters in _CALLS.items():
-        function = library["sdjwt_" + name]
+        function = getattr(library, "sdjwt_" + name)
         function.argtypes, function.restype = parameters, c_uint8
     library.sdjwt_policy_free.argtypes, library.sdjwt_policy_free.restype = (POINTER(_Handle),), None
     return library
@@ -54,7 +54,7 @@ def _load() -> ctypes.CDLL:
 
 _LIBRARY = _load()
 _FREE = _LIBRARY.sdjwt_policy_free
-_FUNCTIONS = {name: _LIBRARY["sdjwt_" + name] for name in _CALLS}
+_FUNCTIONS = {name: getattr(_LIBRARY, "sdjwt_" + name) for name in _CALLS}
 
 
 class _Room(threading.local):
