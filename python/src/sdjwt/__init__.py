@@ -34,6 +34,8 @@ _FORMS = {"compact": 0, "flat": 1, "general": 2}
 
 
 def _bytes(given: Json | bytearray | memoryview) -> bytes:
+    if type(given) is bytes:
+        return given
     if isinstance(given, str):
         return given.encode()
     if isinstance(given, Mapping):
