@@ -1,7 +1,7 @@
 use Rattle.std.proofs.Common.{ap, ◌∙◌}
 use Rattle.std.proofs.lemmas.Result.{IfOk-weaker}
 use Rattle.issuer_core.specs.Order.{order_of}
-use Rattle.sdjwt_cli.specs.Lines.{line}
+use Rattle.cli_parts.specs.Lines.{line}
 use Rattle.sdjwt_cli.specs.Issuing.{DoesNotIssue, TellsRefusal}
 use Rattle.sdjwt_cli.proofs.Issuings.{is_asked}
 use Rattle.sdjwt_cli.proofs.issue.issue_for.Goals as goal

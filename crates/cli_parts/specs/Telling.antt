@@ -2,7 +2,7 @@
 use Rattle.std.specs.Prelude.{◌≡◌, ◌≢◌, ℕ, List}
 use Rattle.claim_tree.specs.declared.file_fault.FileFault.{FileFault}
 use Rattle.compact_form.specs.declared.fault.Fault.{Fault}
-use Rattle.sdjwt_cli.specs.Lines.{refusal, unreadable_line}
+use Rattle.cli_parts.specs.Lines.{refusal, unreadable_line}
 
 -- a token file is refused by such a fault, with this line
 pub record TellsFault (IsRefused : Fault → Type 0) (text : List ℕ) : Type 0 where

@@ -2,10 +2,10 @@
 use Rattle.std.proofs.Common.{◌≡◌, ◌≢◌, ℕ, List, Result, Ok, Err, String, Global, IfOk, IfErr, string_bytes, sym, subst}
 use Rattle.claim_tree.specs.declared.file_fault.FileFault.{FileFault}
 use Rattle.compact_form.specs.declared.fault.Fault.{Fault}
-use Rattle.sdjwt_cli.specs.Lines.{refusal, unreadable_line}
-use Rattle.sdjwt_cli.specs.Stops.{OnRefused, OnUnreadable}
-use Rattle.sdjwt_cli.specs.declared.stop.Stop.{Stop}
-use Rattle.sdjwt_cli.specs.declared.stop.Stop.TheVariants.{Memory, Unread, Unreadable, Refused}
+use Rattle.cli_parts.specs.Lines.{refusal, unreadable_line}
+use Rattle.cli_parts.specs.Stops.{OnRefused, OnUnreadable}
+use Rattle.cli_parts.specs.declared.stop.Stop.{Stop}
+use Rattle.cli_parts.specs.declared.stop.Stop.TheVariants.{Memory, Unread, Unreadable, Refused}
 
 module _ (Holds : List ℕ → Type 0) where
   pub of_refusal : (fault : Fault) → Holds (refusal fault) → (stop : Stop) → OnRefused stop (λ text. text ≡ refusal fault) → OnRefused stop Holds

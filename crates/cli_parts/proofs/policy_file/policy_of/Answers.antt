@@ -1,7 +1,7 @@
 use Rattle.std.proofs.Common.{refl}
-use Rattle.sdjwt_cli.proofs.Stopped.{of_unreadable}
-use Rattle.sdjwt_cli.proofs.verify.policy_of.Goals as goal
-use Rattle.sdjwt_cli.specs.Telling.{TellsFileFault}
+use Rattle.cli_parts.proofs.Stopped.{of_unreadable}
+use Rattle.cli_parts.proofs.policy_file.policy_of.Goals as goal
+use Rattle.cli_parts.specs.Telling.{TellsFileFault}
 use Rattle.verifier_core.specs.PolicyFile.{IsPolicyFileRefused}
 
 pub returns-in-Err-clause-unreadable : goal.returns-in-Err-clause-unreadable

@@ -1,6 +1,6 @@
 // The lines that the program writes to standard error.
 ghost use Rattle.std.specs.Prelude.{◌≡◌, IfOk, string_bytes};
-ghost use Rattle.sdjwt_cli.specs.Lines.{line, reason as reason_of, refusal, short_seed, unread_text, unreadable_line as line_of};
+ghost use Rattle.cli_parts.specs.Lines.{line, reason as reason_of, refusal, short_seed, unread_text, unreadable_line as line_of};
 
 use claim_tree::FileFault;
 use compact_form::Fault;
@@ -8,8 +8,8 @@ use sd_outside::{NoMemory, TextBox};
 use std::alloc::Global;
 use verifier_core::fault_line;
 
-// The text with a line end behind it.
-pub(crate) fn as_line(text: TextBox) -> Result<String, NoMemory>
+/// The text with a line end behind it.
+pub fn as_line(text: TextBox) -> Result<String, NoMemory>
     ensures { IfOk result (λ whole. string_bytes whole ≡ line text) }
 {
     let mut whole = text.into_string();
@@ -17,15 +17,15 @@ pub(crate) fn as_line(text: TextBox) -> Result<String, NoMemory>
     Ok(whole)
 }
 
-// The line of a condition that fails.
-pub(crate) fn refusal_line(alloc: Global, fault: &Fault) -> Result<String, NoMemory>
+/// The line of a condition that fails.
+pub fn refusal_line(alloc: Global, fault: &Fault) -> Result<String, NoMemory>
     ensures { IfOk result (λ text. string_bytes text ≡ refusal fault.now) }
 {
     as_line(fault_line(alloc, fault)?)
 }
 
-// No command has more than two files.
-pub(crate) fn unread_line(word: usize) -> &'static str
+/// No command has more than two files.
+pub fn unread_line(word: usize) -> &'static str
     ensures { result.now ≡ unread_text word }
 {
     match word {
@@ -57,20 +57,16 @@ fn reason(alloc: Global, fault: FileFault) -> Result<String, NoMemory>
     Ok(text)
 }
 
-// The line of a file that is not of its form. Its word is counted behind the command, from 1.
-pub(crate) fn unreadable_line(
-    alloc: Global,
-    word: usize,
-    fault: FileFault,
-) -> Result<String, NoMemory>
+/// The line of a file that is not of its form. Its word is counted behind the command, from 1.
+pub fn unreadable_line(alloc: Global, word: usize, fault: FileFault) -> Result<String, NoMemory>
     ensures { IfOk result (λ text. string_bytes text ≡ line_of word fault) }
 {
     let reason = reason(alloc, fault)?;
     Ok(format!(in alloc; "unreadable {word} {reason}\n")?)
 }
 
-// The line of a seed that is too short.
-pub(crate) fn short_seed_line(alloc: Global) -> Result<String, NoMemory>
+/// The line of a seed that is too short.
+pub fn short_seed_line(alloc: Global) -> Result<String, NoMemory>
     ensures { IfOk result (λ text. string_bytes text ≡ short_seed) }
 {
     Ok(String::from_str(alloc, "unreadable 2 short\n")?)

@@ -1,7 +1,7 @@
 -- For private functions: a fact for one reason why a command has no answer.
 use Rattle.std.specs.Prelude.{ℕ, List, string_bytes}
-use Rattle.sdjwt_cli.specs.declared.stop.Stop.{Stop}
-use Rattle.sdjwt_cli.specs.declared.stop.Stop.TheVariants.{Memory, Unread, Unreadable, Refused}
+use Rattle.cli_parts.specs.declared.stop.Stop.{Stop}
+use Rattle.cli_parts.specs.declared.stop.Stop.TheVariants.{Memory, Unread, Unreadable, Refused}
 
 abbrev pub OnRefused : Stop → (List ℕ → Type 0) → Type 0
 OnRefused Memory P = Unit {0}
