@@ -166,6 +166,12 @@ keep issued.txt issue order.json seed.txt
 show show issued.txt
 show verify policy.json issued.txt
 
+# Another, with SHA-512 for its digests and its signature, which a verifier has to allow.
+keep issued_hs512.txt issue order_hs512.json seed.txt
+show show issued_hs512.txt
+show verify policy_hs512.json issued_hs512.txt
+show verify policy.json issued_hs512.txt
+
 # What its holder shows of it: what was asked for, once without and once with key binding, but never the date of birth.
 show present present.json issued.txt
 keep shown.txt present present_binding.json issued.txt

@@ -53,8 +53,8 @@ in_cases() {
         s/^unread .*/3 unread/p
         s/^usage$/2 usage/p
         s/^unwritten$/4 unwritten/p'
-    # what no file gives
-    printf '%s\n' '60 digestClash' '5 memory'
+    # what no file gives, or another program
+    printf '%s\n' '60 digestClash' '5 memory' '87 feedTooLong'
 }
 
 on_page() {
@@ -95,7 +95,8 @@ in_code() {
     numbered "$specs/issuer_core/specs/OrderRefusals.antt" "$specs/issuer_core/specs/RefusalLine.antt"
     numbered "$specs/holder_core/specs/PresentRefusal.antt"
     sed -n 's/^reason [A-Za-z]* = codes "\([A-Za-z]*\)"$/6 \1/p; s/^short_seed .*unreadable 2 \([a-z]*\).*/6 \1/p' \
-        "$specs/sdjwt_cli/specs/Lines.antt"
+        "$specs/cli_parts/specs/Lines.antt"
+    sed -n 's/.*codes "refused \([0-9]* [A-Za-z]*\)".*/\1/p' "$specs/feed_core/specs/FeedRun.antt"
     # the payload of an order may be any value
     readers | sed -n '/^const FIELDS/,/];/p' | words_of | sed '/^payload$/d; s/^/6 wrong /'
     readers | sed -n '/key[a-z_]*_member(/p; /Missing(Field/p' | words_of | sed 's/^/6 missing /'

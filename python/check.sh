@@ -26,7 +26,7 @@ trap 'exit 1' HUP INT TERM
 python=$made/venv/bin/python
 "$python" -m pip install --quiet --no-index --disable-pip-version-check "$here"
 cd "$made"
-"$python" -m doctest -o NORMALIZE_WHITESPACE -o IGNORE_EXCEPTION_DETAIL "$made"/venv/lib/python3*/site-packages/sdjwt/__init__.py
+"$python" -c "import doctest, sdjwt, sys; sys.exit(doctest.testmod(sdjwt).failed > 0)"
 sed -n '/^```python$/,/^```$/p' "$here/README.md" | sed '/^```/d' >first_minute.py
 "$python" first_minute.py
 if "$python" -c 'import pytest' 2>/dev/null; then

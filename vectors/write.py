@@ -163,10 +163,10 @@ def vector_of(row):
             if moment is not None:
                 run["moment"] = moment
             runs.append(run)
-    if moment is None and any(map(speaks_of_time, files.values())):
+    if any(map(speaks_of_time, files.values())):
         for run in runs:
             if run["words"][:1] in (["verify"], ["present"]):
-                run["moment"] = NOW
+                run.setdefault("moment", NOW)
     vector = {"files": files, "runs": runs}
     vector["status"] = status
     if same_as is None:

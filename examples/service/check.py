@@ -44,9 +44,9 @@ def by_requests(base):
     _, text = post(base, "/present", {"ticket": ticket, "nonce": nonce, "show": ["over_18"]})
     shown = field(text, "shown")
     _, text = post(base, "/verify", {"shown": shown})
-    assert "<th>over_18</th><td>True</td>" in text and "Ada</td>" not in text
+    assert "<th>over_18</th><td>true</td>" in text and "Ada" not in text.split("claims")[1]
     _, text = post(base, "/verify", {"shown": shown})
-    assert "refused 36 nonceMismatch" in text or "refused 3" in text, "a nonce that was used"
+    assert "refused 35 nonceDiffers" in text
     walks = {"/issue": {"name": "Ada", "seat": "B12", "year": "1990"}, "/present": {"ticket": ticket, "nonce": nonce, "show": "seat"},
              "/verify": {"shown": shown, "ticket": ticket}}
     tried = 0
@@ -72,6 +72,8 @@ def by_browser(base, picture):
         from selenium import webdriver
         from selenium.webdriver.chrome.service import Service
         from selenium.webdriver.common.by import By
+        from selenium.webdriver.support.expected_conditions import staleness_of
+        from selenium.webdriver.support.wait import WebDriverWait
     except ImportError:
         print("skipped: the browser (no python3-selenium)")
         return
@@ -84,23 +86,29 @@ def by_browser(base, picture):
         print(f"skipped: the browser ({type(fault).__name__}: is chromium-driver installed?)")
         return
     try:
-        find = lambda kind, what: browser.find_element(kind, what)
+        find = browser.find_element
+
+        def press(button):
+            page = find(By.TAG_NAME, "html")
+            find(By.ID, button).click()
+            WebDriverWait(browser, 20).until(staleness_of(page))
+
         browser.get(base + "/")
-        find(By.ID, "issue").click()
+        press("issue")
         find(By.CSS_SELECTOR, "input[value=over_18]").click()
         find(By.CSS_SELECTOR, "input[value=seat]").click()
-        find(By.ID, "present").click()
+        press("present")
         assert find(By.CSS_SELECTOR, "input[value=over_18]").is_selected()
-        find(By.ID, "verify").click()
+        press("verify")
         rows = {row.text.split(" ", 1)[0]: row.text.split(" ", 1)[1] for row in browser.find_elements(By.CSS_SELECTOR, ".claims tr")}
-        assert rows["over_18"] == "True" and rows["seat"] == "B12" and "name" not in rows, rows
+        assert rows["over_18"] == "true" and rows["seat"] == '"B12"' and "name" not in rows, rows
         if picture:
             browser.save_screenshot(picture)
-        find(By.ID, "verify").click()
+        press("verify")
         assert "refused" in find(By.CSS_SELECTOR, ".refusal").text
         find(By.NAME, "name").clear()
         find(By.NAME, "name").send_keys("<script>document.title='x'</script>")
-        find(By.ID, "issue").click()
+        press("issue")
         assert browser.title == "A ticket with an age mark"
         print("in a browser: the walk by clicks")
     finally:

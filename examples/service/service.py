@@ -5,6 +5,7 @@ It shows how a service uses the package. Look at it on this machine alone, at ht
 other address. All three ends share keys by HMAC, which are drawn at the start, so each could forge what another signs.
 """
 import html
+import json
 import secrets
 import sys
 import threading
@@ -87,7 +88,7 @@ def boxes(ticket, chosen):
         return refusal(fault)
     return "".join(
         f'<label><input type="checkbox" name="show" value="{html.escape(d["name"])}"'
-        f'{" checked" if d["name"] in chosen else ""}> {html.escape(d["name"])}: {html.escape(str(d["value"]))}</label>'
+        f'{" checked" if d["name"] in chosen else ""}> {html.escape(d["name"])}: {html.escape(json.dumps(d["value"]))}</label>'
         for d in shown)
 
 
@@ -119,7 +120,7 @@ def answer(path, form, chosen):
             return page({**form, "ticket": issue(form), "shown": ""})
         if path == "/present":
             return page({**form, "shown": present(form, chosen)}, chosen)
-        return page(form, door=table("claims", THE_DOOR.admit(form["shown"].strip()).items()))
+        return page(form, door=table("claims", [(n, json.dumps(v)) for n, v in THE_DOOR.admit(form["shown"].strip()).items()]))
     except sdjwt.SdJwtError as fault:
         where = {"/issue": "office", "/present": "wallet", "/verify": "door"}[path]
         return page(form, chosen, **{where: refusal(fault)})

@@ -11,26 +11,50 @@ SOME_MOMENT = 1_800_000_000
 FORMS = ("compact", "flat", "general")
 
 
+COUNTS = {"issue": 2, "present": 2, "verify": 2, "convert": 2, "show": 1, "split": 1}
+
+
+def lines_of(parts):
+    """What the program prints of the parts that split tells."""
+    lines = [f"{name} {parts[name]}" for name in ("protected", "payload", "signature")]
+    lines += [f"disclosure {i} {text}" for i, text in enumerate(parts["disclosures"])]
+    return "\n".join(lines + [f"binding {parts['binding']}"] * (parts["binding"] is not None))
+
+
 def answer_of(words, read, now):
-    """The text of a run's answer, as the program writes it, or its line. None where it is no call."""
+    """The answer of a run. None where it is no call of the package."""
     command, *names = words or [""]
-    calls = {"issue": 2, "present": 2, "verify": 2, "convert": 2}
-    if len(names) != calls.get(command, 0):
+    if len(names) != COUNTS.get(command):
         return None
+    form = names.pop(0) if command == "convert" else None
+    if form not in (None, *FORMS) or any(name not in read for name in names):
+        return None
+    files = [read[name] for name in names]
     if command == "convert":
-        if names[0] not in FORMS or names[1] not in read:
-            return None
-        return sdjwt.convert(names[0], read[names[1]])
-    if any(name not in read for name in names):
-        return None
-    first, second = (read[name] for name in names)
+        return sdjwt.convert(form, *files)
+    if command == "split":
+        return lines_of(sdjwt.split(*files))
+    if command == "show":
+        inside = sdjwt.show(*files)
+        assert len(inside["disclosures"]) == len(sdjwt.split(*files)["disclosures"])
+        return inside
     if command == "issue":
-        return sdjwt.issue(first, seed=second)
+        return sdjwt.issue(*files)
     if command == "present":
-        return sdjwt.present(first, second, now=now)
-    claims = sdjwt.verify(first, second, now=now)
-    assert sdjwt.Policy(first).verify(second, now=now) == claims
+        return sdjwt.present(*files, now=now)
+    claims = sdjwt.verify(*files, now=now)
+    assert sdjwt.Policy(files[0]).verify(files[1], now=now) == claims
     return claims
+
+
+def is_due(said, text):
+    """Whether an answer is this output, without the line end. What show tells is compared line by line."""
+    if not isinstance(said, dict):
+        return said == text
+    if text.startswith("header "):
+        lines = dict(line.split(" ", 1) for line in text.split("\n")[:2])
+        return (said["header"], said["payload"]) == (json.loads(lines["header"]), json.loads(lines["payload"]))
+    return said == json.loads(text)
 
 
 def left_by(vector):
@@ -66,8 +90,6 @@ def test_vectors(path):
         if status:
             assert said == vector["line"], vector["name"]
         elif "output_of_file" in vector:
-            assert said == read[vector["output_of_file"]].decode().rstrip("\n"), vector["name"]
-        elif isinstance(said, dict):
-            assert said == json.loads(vector["output"]), vector["name"]
+            assert is_due(said, read[vector["output_of_file"]].decode().rstrip("\n")), vector["name"]
         else:
-            assert said + "\n" == vector["output"], vector["name"]
+            assert is_due(said, vector["output"][:-1]), vector["name"]

@@ -178,6 +178,14 @@ impl TreeMap {
         }
     }
 
+    /// No members, with memory for so many.
+    pub fn with_capacity(alloc: Global, count: usize) -> Result<TreeMap, NoMemory>
+        ensures { IfOk result (λ map. map ≡ no_members) }
+    {
+        let members = Vec::with_capacity(alloc, count)?;
+        Ok(TreeMap { members })
+    }
+
     /// The members, ascending by the bytes of their names.
     pub fn members(&self) -> &[(TextBox, Tree)]
         ensures value { members_of result.now ≡ self.now }

@@ -5,7 +5,7 @@ use Rattle.claim_tree.specs.TreeCalls.{pushed}
 use Rattle.claim_tree.specs.Nodes.{nodes, elements_nodes, members_nodes}
 use Rattle.marked_tree.specs.Marked as spec
 use Rattle.marked_tree.specs.Marked.{MarkedElements, marked_element, MarkedMembers, marked_member, no_marked_members, strip, strip_elements, strip_members, put, remark, remark_elements, remark_members, new_mark, kept, keep_element, keep_member}
-use Rattle.marked_tree.specs.MarkedCalls.{marked_names, marked_pushed}
+use Rattle.marked_tree.specs.MarkedCalls.{marked_pushed}
 use Rattle.marked_tree.specs.View.{marked_of, marked_elements_of, marked_members_of}
 use Rattle.marked_tree.proofs.MarkedViews.{Element, Entry, strip-pushed}
 use Rattle.marked_tree.proofs.Names.{Ascend, names_of, ascend, turned_back}

@@ -1,12 +1,13 @@
 -- Sorted paths: those that go on by a step stand in one run.
-use Rattle.std.proofs.Common.{◌≡◌, ◌≢◌, ℕ, zero, suc, ◌+◌, ◌-◌, ◌<◌, ◌≤◌, List, [], ◌∷◌, Some, None, length, take, drop, get_or, Bool, true, false, ◌||◌, Ordering, Less, Equal, Greater, refl, sym, ap, subst, ◌∙◌, arith}
+use Rattle.std.proofs.Common.{◌≡◌, ◌≢◌, ℕ, zero, suc, ◌+◌, ◌-◌, ◌<◌, ◌≤◌, List, [], ◌∷◌, Some, None, length, take, drop, get_or, ◌⊎◌, inl, inr, Bool, true, false, ◌||◌, Ordering, Less, Equal, Greater, refl, sym, ap, subst, ◌∙◌, arith}
 use Rattle.std.specs.Prelude.{◌==◌}
 use Rattle.std.specs.List.{slice_get}
-use Rattle.std.specs.List.Sorted.{IsPartitionedBy, IsSortedBy}
+use Rattle.std.specs.List.Sorted.{IsPartitionedBy, IsPartitionPoint, IsSortedBy}
 use Rattle.std.specs.Ordering.{ordering_index, ordering_then, ordering_reverse, is_lt}
 use Rattle.std.specs.Cmp.{IsTotalOrder}
 use Rattle.std.proofs.lemmas.Cmp.{tied_itself, lists_total, is_eq_index}
-use Rattle.std.proofs.lemmas.List.{get_or-drop, length-drop}
+use Rattle.std.proofs.lemmas.Bool.{cases_lt}
+use Rattle.std.proofs.lemmas.List.{get_or-take, get_or-drop, length-take-le, length-drop}
 use Rattle.std.proofs.Math.Seq.{take-length}
 use Rattle.std.proofs.lemmas.List.Sorted.{sorted_far, ranks_by}
 use Rattle.claim_tree.specs.Tree.{Text}
@@ -352,3 +353,33 @@ none_left depth step xs start all k d l =
 
 pub rest_whole : (xs : List Path) (start : ℕ) → take (length xs - start) (drop start xs) ≡ drop start xs
 rest_whole xs start = rw (sym (length-drop start xs)) (take-length (drop start xs))
+
+-- what is found among the first is found among all, where the next fails
+pub near_point : (p : Path → Bool) (xs : List Path) (n count : ℕ) → IsPartitionedBy p xs → n ≤ length xs → ((d : Path) → n < length xs → p (get_or xs n d) ≡ false) → count ≤ n
+    → IsPartitionPoint (λ y. p y ≡ true) (λ y. p y ≡ false) (take n xs) count → IsPartitionPoint (λ y. p y ≡ true) (λ y. p y ≡ false) xs count
+near_point p xs n count parted fits ends few point = (
+  λ k d l h. subst (λ y. p y ≡ true) (get_or-take n xs k d (omega (arith, h, few))) (point.0 k d l h),
+  λ k d l h. go k d l h (cases_lt k n),
+)
+  where
+    fails : (b : Bool) → (b ≡ true → ⊥) → b ≡ false
+    fails true h = absurd (h refl)
+    fails false h = refl
+
+    go : (k : ℕ) (d : Path) → count ≤ k → k < length xs → (k < n) ⊎ (n ≤ k) → p (get_or xs k d) ≡ false
+    go k d l h (inl w) = subst (λ y. p y ≡ false) (get_or-take n xs k d w) (point.1 k d l (omega (arith, w, length-take-le n xs fits)))
+    go k d l h (inr w) = fails (p (get_or xs k d)) (λ e. let holds = parted n k d w h e in let not = ends d (omega (arith, w, h)) in cc)
+
+pub parted_near : (p : Path → Bool) (xs : List Path) (n : ℕ) → IsPartitionedBy p xs → n ≤ length xs → IsPartitionedBy p (take n xs)
+parted_near p xs n parted fits i j d l h e =
+    let long = length-take-le n xs fits in
+    let there = subst (λ y. p y ≡ true) (get_or-take n xs j d (omega (arith, h, long))) e in
+    subst (λ y. p y ≡ true) (sym (get_or-take n xs i d (omega (arith, l, h, long)))) (parted i j d l (omega (arith, h, long, fits)) there)
+
+pub not_tied : (depth : ℕ) (step : Text) (y : Path) → step_order (drop depth y) step ≢ Equal → is_tied depth step y ≡ false
+not_tied depth step y differs = go (step_order (drop depth y) step) differs
+  where
+    go : (o : Ordering) → o ≢ Equal → (ordering_index o == 1) ≡ false
+    go Less n = refl
+    go Equal n = absurd (n refl)
+    go Greater n = refl

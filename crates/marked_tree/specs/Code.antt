@@ -3,7 +3,6 @@ use Rattle.std.specs.Prelude.{◌≡◌, ℕ, Option, refl}
 use Rattle.std.proofs.Common.{ap}
 use Rattle.std.specs.Coded.{Coded, coded_ℕ, coded_option}
 use base.Stored.{Gv, gnil, gnum, gcons}
-use Rattle.claim_tree.specs.Tree.{Text}
 use Rattle.claim_tree.specs.Code.{text_code, leaf_to, leaf_inj, gcons_same}
 use Rattle.marked_tree.specs.Marked.{Marked, marked_leaf, marked_array, marked_object, MarkedElements, no_marked_elements, marked_element, MarkedMembers, no_marked_members, marked_member}
 

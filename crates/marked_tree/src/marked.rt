@@ -261,7 +261,9 @@ fn of_members(
 ) -> Result<MarkedMap, NoMemory>
     ensures { IfOk result (λ map. map ≡ put_all (marked_members_of members.items) no_marked_members) }
 {
-    let mut map = MarkedMap::new(alloc);
+    let mut map = MarkedMap {
+        members: Vec::with_capacity(alloc, members.len())?,
+    };
     for (name, mark, tree) in members {
         map.put(name, mark, tree)?;
     }

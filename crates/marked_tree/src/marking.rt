@@ -1,5 +1,6 @@
 // The marking of a plain tree.
-ghost use Rattle.std.specs.Prelude.{◌≡◌, ◌≤◌, ◌<◌, ◌+◌, ◌-◌, ◌^◌, List, ◌∷◌, [], length, IfOk, OnOk, drop};
+ghost use Rattle.std.specs.Prelude.{◌≡◌, ◌≢◌, ◌≤◌, ◌<◌, ◌+◌, ◌-◌, ◌^◌, List, ◌∷◌, [], length, IfOk, OnOk, drop, slice_index_or};
+ghost use Rattle.std.specs.declared.cmp.Ordering.TheVariants.{Equal};
 ghost use Rattle.std.specs.Set.{distinct_count};
 ghost use Rattle.claim_tree.specs.Tree.{depth as depth_of, elements_depth, members_depth};
 ghost use Rattle.claim_tree.specs.View.{tree_of};
@@ -197,8 +198,21 @@ pub fn run_below(paths: &[Path], depth: usize, step: &str) -> (usize, usize)
 {
     let start = paths.partition_point(|path| compared(path, depth, step) == Ordering::Less);
     let rest = &paths[start..];
-    let count = rest.partition_point(|path| compared(path, depth, step) == Ordering::Equal);
+    let near = &rest[..near_count(rest, depth, step)];
+    let count = near.partition_point(|path| compared(path, depth, step) == Ordering::Equal);
     (start, count)
+}
+
+// How many of the paths to look at: the first alone where the second has another step there, as most often.
+fn near_count(paths: &[Path], depth: usize, step: &str) -> usize
+    ensures within { result ≤ length paths.now }
+    ensures ends { (d : Steps) → result < length paths.now → step_order (drop depth (slice_index_or paths.now result d)) step.now ≢ Equal }
+{
+    if paths.len() > 1 && compared(&paths[1], depth, step) != Ordering::Equal {
+        1
+    } else {
+        paths.len()
+    }
 }
 
 // How the step of a path at the depth compares with another.

@@ -84,7 +84,7 @@ fn map_into_trees(alloc: Global, map: MarkedMap) -> Result<TreeMap, NoMemory>
     requires { members_depth (members_stripped map) ≤ 126 }
     ensures { IfOk result (λ stripped. stripped ≡ members_stripped map) }
 {
-    let mut stripped = TreeMap::new(alloc);
+    let mut stripped = TreeMap::with_capacity(alloc, map.len())?;
     for (name, _, tree) in map.into_members() {
         stripped.insert(name, into_tree(alloc, tree)?)?;
     }

@@ -8,9 +8,9 @@ use Rattle.sd_outside.specs.declared.status.Status.{Status}
 use Rattle.sd_outside.specs.declared.status.Status.TheVariants.{Done, Unwritten}
 use Rattle.sd_outside.specs.declared.status.Status.TheVariants as status
 use Rattle.sdjwt_cli.specs.Answers.{Reply, gives, refuses, unreadable}
-use Rattle.sdjwt_cli.specs.Stops.{OnRefused, OnUnread, OnUnreadable}
-use Rattle.sdjwt_cli.specs.declared.stop.Stop.{Stop}
-use Rattle.sdjwt_cli.specs.declared.stop.Stop.TheVariants.{Memory, Unread, Unreadable, Refused}
+use Rattle.cli_parts.specs.Stops.{OnRefused, OnUnread, OnUnreadable}
+use Rattle.cli_parts.specs.declared.stop.Stop.{Stop}
+use Rattle.cli_parts.specs.declared.stop.Stop.TheVariants.{Memory, Unread, Unreadable, Refused}
 use Rattle.sdjwt_c.specs.Handed.{IsLeft, IsGiven, IsTooLong, Hands, HandsBy, reply_text}
 use Rattle.sdjwt_c.specs.Results.{IsHanded}
 

@@ -4,8 +4,8 @@ use Rattle.std.specs.declared.string.String.{String}
 use Rattle.std.specs.declared.alloc.Global.{Global}
 use Rattle.sd_outside.specs.declared.status.Status.{Status}
 use Rattle.sd_outside.specs.declared.status.Status.TheVariants as status
-use Rattle.sdjwt_cli.specs.declared.stop.Stop.{Stop}
-use Rattle.sdjwt_cli.specs.declared.stop.Stop.TheVariants.{Memory, Unread, Unreadable, Refused}
+use Rattle.cli_parts.specs.declared.stop.Stop.{Stop}
+use Rattle.cli_parts.specs.declared.stop.Stop.TheVariants.{Memory, Unread, Unreadable, Refused}
 use Rattle.sdjwt_c.specs.Handed.{IsGiven, IsLeft}
 
 abbrev pub IsHanded : Result (String Global) Stop → List ℕ → List ℕ → ℕ → Status → Type 0

@@ -4,7 +4,7 @@ ghost use Rattle.sdjwt_c.specs.Handed.{IsGiven, IsLeft};
 ghost use Rattle.sdjwt_c.specs.Results.{IsHanded};
 
 use sd_outside::Status;
-use sdjwt_cli::Stop;
+use cli_parts::Stop;
 
 // Writes the whole text, and answers the status; or nothing where there is no room for it.
 fn give(text: &str, told: Status, room: &mut [u8], len: &mut usize) -> Status

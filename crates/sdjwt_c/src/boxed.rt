@@ -2,13 +2,13 @@
 ghost use Rattle.std.specs.Prelude.{◌≡◌, None, Some, IfOk, IfErr};
 ghost use Rattle.std.specs.Option.{option_map};
 ghost use Rattle.verifier_core.specs.PolicyFile.{IsPolicyFile, IsPolicyFileRefused};
-ghost use Rattle.sdjwt_cli.specs.Stops.{OnRefused, OnUnread, OnUnreadable};
-ghost use Rattle.sdjwt_cli.specs.Telling.{TellsFileFault};
+ghost use Rattle.cli_parts.specs.Stops.{OnRefused, OnUnread, OnUnreadable};
+ghost use Rattle.cli_parts.specs.Telling.{TellsFileFault};
 
 use crate::handle::SdjwtPolicy;
 use crate::loose::Loose;
-use sdjwt_cli::Stop;
-use sdjwt_cli::commands::policy_of;
+use cli_parts::Stop;
+use cli_parts::policy_of;
 use std::alloc::Global;
 use std::mem;
 use verifier_core::Policy;

@@ -5,7 +5,7 @@ use Rattle.compact_form.specs.declared.parts.Parts.{Parts}
 use Rattle.compact_form.specs.Compact.{compact, AreWords}
 use Rattle.json_form.specs.Token.{IsTooMuch, IsToken}
 use Rattle.json_form.proofs.Lines.{read_compact_line}
-use Rattle.sdjwt_cli.specs.Lines.{line}
+use Rattle.cli_parts.specs.Lines.{line}
 use Rattle.json_form.specs.Alone.{alone}
 
 pub line_token : (parts : Parts) → AreWords parts → length (compact parts) ≤ compact_max → length parts.disclosures ≤ count_max → IsToken (line (compact parts)) (alone parts)

@@ -5,7 +5,7 @@ use Rattle.sd_outside.specs.Limits.{file_max}
 use Rattle.json_form.specs.declared.token.Token.{Token}
 use Rattle.json_form.proofs.Tokens as tokens
 use Rattle.sdjwt_cli.specs.declared.form.Form.{Form}
-use Rattle.sdjwt_cli.specs.Lines.{line, refusal}
+use Rattle.cli_parts.specs.Lines.{line, refusal}
 use Rattle.sdjwt_cli.specs.Converting.{written, Converts, IsConvertRefused, unread, too_much}
 use Rattle.sdjwt_cli.specs.Answers.{Reply, gives, refuses, unreadable, ConvertAnswers}
 

@@ -11,7 +11,7 @@ use Rattle.json_form.specs.Printable.{IsPrintable}
 use Rattle.json_form.proofs.Lines.{read_compact_line, read_json_line}
 use Rattle.sdjwt_cli.specs.declared.form.Form.{Form}
 use Rattle.sdjwt_cli.specs.declared.form.Form.TheVariants.{Compact, Flat, General}
-use Rattle.sdjwt_cli.specs.Lines.{line}
+use Rattle.cli_parts.specs.Lines.{line}
 use Rattle.sdjwt_cli.specs.Converting.{written, kept_in, HasRoom, Converts}
 use Rattle.sdjwt_cli.specs.ConvertingSteps.{IsJsonOf}
 

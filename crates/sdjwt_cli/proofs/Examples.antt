@@ -25,14 +25,14 @@ use Rattle.issuer_core.specs.declared.errors.IssueError.TheVariants.{ReservedNam
 use Rattle.issuer_core.specs.RefusalLine.{issue_refusal_text}
 use Rattle.sdjwt_cli.specs.declared.form.Form.TheVariants.{Compact, Flat, General}
 use Rattle.sdjwt_cli.specs.Command.{split, verify, issue, present, convert, command_of}
-use Rattle.sdjwt_cli.specs.Lines.{line, refusal, unread_text, unreadable_line, short_seed}
+use Rattle.cli_parts.specs.Lines.{line, refusal, unread_text, unreadable_line, short_seed}
 use Rattle.sdjwt_cli.specs.Never.{MayBeShown}
 use Rattle.holder_core.specs.PresentRefusal.{present_refusal_text}
 use Rattle.sdjwt_cli.specs.Split.{Splits}
 use Rattle.digest_sites.specs.Given.{Given}
 use Rattle.sdjwt_cli.specs.Show.{show_lines, Shows}
 use Rattle.sdjwt_cli.specs.Converting.{written}
-use Rattle.sdjwt_cli.specs.Telling.{TellsFault}
+use Rattle.cli_parts.specs.Telling.{TellsFault}
 
 -- ---- the words
 

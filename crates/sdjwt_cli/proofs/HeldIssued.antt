@@ -21,7 +21,7 @@ use Rattle.issuer_core.proofs.IssuedContent.{HasIssued, has_issued}
 use Rattle.holder_core.specs.declared.ask.Ask.{Ask}
 use Rattle.holder_core.specs.Present.{held_rules, IsHeld}
 use Rattle.sdjwt_cli.specs.Issuing.{IsIssuedBy}
-use Rattle.sdjwt_cli.specs.Lines.{line}
+use Rattle.cli_parts.specs.Lines.{line}
 use Rattle.json_form.specs.Alone.{alone}
 use Rattle.sdjwt_cli.proofs.CompactLines.{line_token}
 use Rattle.sdjwt_cli.proofs.CheckedParts.{CarriesFor, content, checked}

@@ -13,7 +13,7 @@ use Rattle.issuer_core.specs.Issue.{AppliesToIssue}
 use Rattle.issuer_core.proofs.OrderFiles as orders
 use Rattle.issuer_core.proofs.OneToken.{one_token, issued_not_refused}
 use Rattle.issuer_core.proofs.OneRefusal.{one_refusal}
-use Rattle.sdjwt_cli.specs.Lines.{line, unreadable_line}
+use Rattle.cli_parts.specs.Lines.{line, unreadable_line}
 use Rattle.sdjwt_cli.specs.Issuing.{IsAsked, Issues, DoesNotIssue, HasNoOrder, no_order, no_seed}
 use Rattle.sdjwt_cli.specs.Answers.{Reply, gives, refuses, unreadable, IssueAnswers}
 

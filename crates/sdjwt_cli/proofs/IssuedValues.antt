@@ -43,7 +43,7 @@ use Rattle.issuer_core.specs.Seed.{maker_of}
 use Rattle.issuer_core.proofs.FromLaid.{one_list}
 use Rattle.sdjwt_cli.proofs.SuitsExample.{issuer_key, named, order}
 use Rattle.sdjwt_cli.specs.Issuing.{IsIssuedBy, Issues}
-use Rattle.sdjwt_cli.specs.Lines.{line}
+use Rattle.cli_parts.specs.Lines.{line}
 use Rattle.sdjwt_cli.specs.Presented.{IsShownWell}
 use Rattle.sdjwt_cli.proofs.PresentedRuns.{presented_over_files}
 use Rattle.sdjwt_cli.proofs.PresentedShort.{spelled_more, hashed_length, compact_length}

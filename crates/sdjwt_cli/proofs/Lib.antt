@@ -11,7 +11,6 @@ mod Presentings
 mod PresentVerdicts
 mod ConvertVerdicts
 mod Converted
-mod Stopped
 mod CompactLines
 mod CheckedParts
 mod HeldIssued

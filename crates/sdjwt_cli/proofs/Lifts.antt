@@ -1,10 +1,10 @@
 -- From the answer over files to that of the command that fetched them.
 use Rattle.std.proofs.Common.{◌≡◌, ℕ, List, Option, Ok, Err, Result, String, Global, take, string_bytes, IfOk, IfErr, IfSome, subst, sym}
-use Rattle.sdjwt_cli.specs.declared.stop.Stop.{Stop}
-use Rattle.sdjwt_cli.specs.declared.stop.Stop.TheVariants.{Memory, Unread, Unreadable, Refused}
+use Rattle.cli_parts.specs.declared.stop.Stop.{Stop}
+use Rattle.cli_parts.specs.declared.stop.Stop.TheVariants.{Memory, Unread, Unreadable, Refused}
 use Rattle.sdjwt_cli.specs.Command.{Command}
 use Rattle.sdjwt_cli.specs.Answers.{Reply, gives, refuses, unreadable, Answers, AreFetched, IsAnswered}
-use Rattle.sdjwt_cli.specs.Stops.{OnRefused, OnUnreadable}
+use Rattle.cli_parts.specs.Stops.{OnRefused, OnUnreadable}
 
 -- the bytes of a file, under what the cabinet holds at another moment
 pub fetched_as : (o now_held : Option (List ℕ)) (most : ℕ) (file bytes : List ℕ) → now_held ≡ o → bytes ≡ file

@@ -9,12 +9,12 @@ use Rattle.holder_core.specs.PresentRefusal.{present_refusal_text}
 use Rattle.holder_core.specs.declared.present_file.PresentFile.{PresentFile}
 use Rattle.holder_core.proofs.PresentFiles as orders
 use Rattle.holder_core.proofs.OnePresentation.{HasOneSignature, one_presented, presented_not_refused, one_cause}
-use Rattle.sdjwt_cli.specs.Lines.{line, unreadable_line}
+use Rattle.cli_parts.specs.Lines.{line, unreadable_line}
 use Rattle.sdjwt_cli.specs.Never.{never_rule}
 use Rattle.sdjwt_cli.specs.Presenting.{signing_key, IsPresentedFor, IsNotPresentedFor, Presents, DoesNotPresent}
 use Rattle.sdjwt_cli.specs.Answers.{Reply, gives, refuses, unreadable, PresentAnswers}
 use Rattle.sdjwt_cli.proofs.NeverShown.{never_decided}
-use Rattle.sdjwt_cli.specs.Telling.{TellsFileFault}
+use Rattle.cli_parts.specs.Telling.{TellsFileFault}
 use Rattle.holder_core.specs.PresentFile.{IsPresentFileRefused}
 
 one_signature : (key : List ℕ) → HasOneSignature (IsGood (hs256_key key))

@@ -48,7 +48,7 @@ use Rattle.holder_core.specs.declared.ask.Ask.{Ask}
 use Rattle.holder_core.specs.declared.ask.BindingAsk.{BindingAsk}
 use Rattle.holder_core.specs.Present.{shown_for, picked, PicksParts, NamesKey, IsBoundBy, IsBoundWith, IsBoundAs}
 use Rattle.holder_core.proofs.PickedNumbers.{numbers, rising, enumerates, is_pick, zip_picked}
-use Rattle.sdjwt_cli.specs.Lines.{line}
+use Rattle.cli_parts.specs.Lines.{line}
 use Rattle.sdjwt_cli.specs.PresentedValues.{AreShort}
 use Rattle.json_form.specs.Alone.{alone}
 use Rattle.sdjwt_cli.specs.Suits.{Suits}

@@ -9,12 +9,13 @@ use Rattle.holder_core.proofs.PresentFiles as orders
 use Rattle.sdjwt_cli.specs.Answers.{Reply, gives, refuses, unreadable, PresentAnswers, VerifyAnswers, Answers, IsAnswered}
 use Rattle.sdjwt_cli.specs.Command.{Command, issue, present, verify, command_of}
 use Rattle.sdjwt_cli.specs.Issuing.{Issues}
-use Rattle.sdjwt_cli.specs.Lines.{line}
+use Rattle.cli_parts.specs.Lines.{line}
 use Rattle.sdjwt_cli.specs.Never.{never_rule}
 use Rattle.sdjwt_cli.specs.Presented.{AllSuits, OnlyGives, GivesAlone, IsShownWell, PresentedOverFiles, IsRun, Wrote, IsNoRefusal, RunsTo, RunsWell, PresentedOverRuns}
 use Rattle.hmac_sign.specs.Hmac.{AlgKey}
 use Rattle.sdjwt_cli.specs.Presenting.{signing_key}
-use Rattle.sdjwt_cli.specs.Run.{Outside, Ends, EndsDone, EndsTelling}
+use Rattle.cli_parts.specs.Outside.{Outside}
+use Rattle.sdjwt_cli.specs.Run.{Ends, EndsDone, EndsTelling}
 use Rattle.sdjwt_cli.specs.Suits.{Suits}
 use Rattle.sdjwt_cli.proofs.IssueVerdicts.{same_order, carried}
 use Rattle.sdjwt_cli.proofs.PresentedVerified.{not_refused, verifies}

@@ -17,9 +17,9 @@ use Rattle.json_form.proofs.Tokens as tokens
 use Rattle.digest_sites.specs.Given.{Given}
 use Rattle.disclosure.specs.declared.digests.HashAlg.{HashAlg}
 use Rattle.verifier_core.specs.Verdict.{Gives, IsNoDisclosure}
-use Rattle.sdjwt_cli.specs.Lines.{refusal}
+use Rattle.cli_parts.specs.Lines.{refusal}
 use Rattle.sdjwt_cli.specs.Show.{show_lines, IsHead, IsShownPayload, Shows, IsShowUnreadAt, IsShowRefused, form, header, payload, hash, disclosure}
-use Rattle.sdjwt_cli.specs.Telling.{TellsFault}
+use Rattle.cli_parts.specs.Telling.{TellsFault}
 
 abbrev shown_of : Text → Option Text → Tree → Given
 shown_of digest name value = record { digest = digest; name = name; value = value }

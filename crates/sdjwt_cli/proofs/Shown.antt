@@ -8,7 +8,7 @@ use Rattle.json_form.specs.Token.{IsToken}
 use Rattle.digest_sites.specs.Given.{Given}
 use Rattle.disclosure.specs.declared.digests.HashAlg.{HashAlg}
 use Rattle.verifier_core.specs.Verdict.{Gives}
-use Rattle.sdjwt_cli.specs.Lines.{line}
+use Rattle.cli_parts.specs.Lines.{line}
 use Rattle.sdjwt_cli.specs.Split.{binding_line}
 use Rattle.sdjwt_cli.specs.Show.{shown_line, shown_lines, IsHead, IsShownPayload, Shows}
 use Rattle.sdjwt_cli.specs.ShowSteps.{AddsLine, AddsLines}

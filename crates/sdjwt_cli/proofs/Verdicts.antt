@@ -9,10 +9,11 @@ use Rattle.sd_outside.specs.declared.status.Status.TheVariants.{Done, Refused, U
 use Rattle.json_form.specs.declared.token.Token.{Token}
 use Rattle.json_form.proofs.Tokens as tokens
 use Rattle.sdjwt_cli.specs.Command.{Command, split, show, verify, issue, present, convert, gen, command_of, NamedFile, files_of}
-use Rattle.sdjwt_cli.specs.Lines.{refusal}
+use Rattle.cli_parts.specs.Lines.{refusal}
 use Rattle.sdjwt_cli.specs.Split.{split_lines}
 use Rattle.sdjwt_cli.specs.Answers.{Reply, gives, refuses, unreadable, SplitAnswers, ShowAnswers, Answers, AreFetched, AreTold, IsAnswered}
-use Rattle.sdjwt_cli.specs.Run.{Outside, Ends}
+use Rattle.cli_parts.specs.Outside.{Outside}
+use Rattle.sdjwt_cli.specs.Run.{Ends}
 use Rattle.sdjwt_cli.proofs.ShowVerdicts.{one_shown, shown_not_refused, one_refusal}
 use Rattle.sdjwt_cli.proofs.VerifyVerdicts.{one_verify}
 use Rattle.sdjwt_cli.proofs.IssueVerdicts.{one_issue}

@@ -7,10 +7,10 @@ use Rattle.compact_form.specs.Lowest.{IsLowest}
 use Rattle.verifier_core.specs.declared.policy.Policy.{Policy}
 use Rattle.verifier_core.proofs.Policies as policies
 use Rattle.verifier_core.proofs.OneVerdict as verdicts
-use Rattle.sdjwt_cli.specs.Lines.{line, refusal, unreadable_line}
+use Rattle.cli_parts.specs.Lines.{line, refusal, unreadable_line}
 use Rattle.sdjwt_cli.specs.Verify.{Verifies, DoesNotVerify}
 use Rattle.sdjwt_cli.specs.Answers.{Reply, gives, refuses, unreadable, VerifyAnswers}
-use Rattle.sdjwt_cli.specs.Telling.{TellsFileFault}
+use Rattle.cli_parts.specs.Telling.{TellsFileFault}
 use Rattle.verifier_core.specs.PolicyFile.{IsPolicyFileRefused}
 
 printed : (policy token : List ℕ) (now : ℕ) (a b : List ℕ) → Verifies policy token now a → Verifies policy token now b → a ≡ b

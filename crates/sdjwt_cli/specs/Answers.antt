@@ -10,7 +10,7 @@ use Rattle.sdjwt_cli.specs.Presenting.{Presents, DoesNotPresent}
 use Rattle.sdjwt_cli.specs.declared.form.Form.{Form}
 use Rattle.sdjwt_cli.specs.Converting.{IsConvertRefused, Converts}
 use Rattle.sdjwt_cli.specs.Summary.{Summarizes, DoesNotSummarize}
-use Rattle.sdjwt_cli.specs.Telling.{TellsFileFault, TellsFault}
+use Rattle.cli_parts.specs.Telling.{TellsFileFault, TellsFault}
 use Rattle.json_form.specs.Token.{IsTextRefused}
 use Rattle.verifier_core.specs.PolicyFile.{IsPolicyFileRefused}
 use Rattle.holder_core.specs.PresentFile.{IsPresentFileRefused}

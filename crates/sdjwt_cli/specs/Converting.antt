@@ -12,7 +12,7 @@ use Rattle.json_form.specs.Token.{IsTextRefused, IsToken}
 use Rattle.json_form.specs.Written.{flat_of, general_of}
 use Rattle.sdjwt_cli.specs.declared.form.Form.{Form}
 use Rattle.sdjwt_cli.specs.declared.form.Form.TheVariants.{Compact, Flat, General}
-use Rattle.sdjwt_cli.specs.Lines.{line}
+use Rattle.cli_parts.specs.Lines.{line}
 
 -- a token in a form: the JSON ones keep the other members of its unprotected header, which the compact one has no place for
 abbrev pub written : Form → Token → List ℕ

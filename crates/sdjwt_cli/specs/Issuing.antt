@@ -16,7 +16,7 @@ use Rattle.issuer_core.specs.RefusalLine.{issue_refusal_text}
 use Rattle.issuer_core.specs.Seed.{maker_of}
 use Rattle.issuer_core.specs.Written.{IsIssued, IsLaidOut}
 use Rattle.issuer_core.specs.Issue.{AppliesToIssue, HasNoClash}
-use Rattle.sdjwt_cli.specs.Lines.{line, unreadable_line, short_seed}
+use Rattle.cli_parts.specs.Lines.{line, unreadable_line, short_seed}
 
 -- what one file asks for with its order and its key, and the seed with which the other begins
 pub record IsAsked (order_file seed_file : List ℕ) (order : Order) (key : AlgKey) (seed : List ℕ) : Type 0 where

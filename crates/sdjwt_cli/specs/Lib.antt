@@ -1,11 +1,8 @@
 pub mod Command
-pub mod Lines
-pub mod Telling
 pub mod Split
 pub mod Answers
 pub mod Run
 pub mod Names
-pub mod Stops
 pub mod Show
 pub mod Verify
 pub mod Issuing

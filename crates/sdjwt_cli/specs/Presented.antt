@@ -14,10 +14,11 @@ use Rattle.holder_core.specs.declared.present_file.PresentFile.{PresentFile}
 use Rattle.sdjwt_cli.specs.Answers.{Reply, gives, IssueAnswers, PresentAnswers, VerifyAnswers, AreTold}
 use Rattle.sdjwt_cli.specs.Command.{Command, issue, present, verify, command_of}
 use Rattle.sdjwt_cli.specs.Issuing.{IsAsked}
-use Rattle.sdjwt_cli.specs.Lines.{line}
+use Rattle.cli_parts.specs.Lines.{line}
 use Rattle.sdjwt_cli.specs.Never.{never_rule}
 use Rattle.sdjwt_cli.specs.Presenting.{signing_key}
-use Rattle.sdjwt_cli.specs.Run.{Outside, Ends}
+use Rattle.cli_parts.specs.Outside.{Outside}
+use Rattle.sdjwt_cli.specs.Run.{Ends}
 use Rattle.sdjwt_cli.specs.Suits.{Suits}
 use Rattle.holder_core.specs.Present.{shown_for}
 use Rattle.issuer_core.specs.Digests.{marked_claims}

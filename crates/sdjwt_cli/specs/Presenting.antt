@@ -11,7 +11,7 @@ use Rattle.holder_core.specs.declared.present_file.PresentFile.{PresentFile}
 use Rattle.holder_core.specs.Present.{IsPresented, IsNotPresented}
 use Rattle.holder_core.specs.PresentRefusal.{present_refusal_text}
 use Rattle.holder_core.specs.PresentFile.{IsPresentFile}
-use Rattle.sdjwt_cli.specs.Lines.{line}
+use Rattle.cli_parts.specs.Lines.{line}
 use Rattle.sdjwt_cli.specs.Never.{never_rule}
 
 -- the key that signs: that of the order, or one of zeros, which signs nothing, where no key binding token is asked for

@@ -5,7 +5,7 @@ use Rattle.compact_form.specs.Compact.{compact}
 use Rattle.holder_core.specs.declared.errors.PresentError.{PresentError}
 use Rattle.holder_core.specs.declared.errors.PresentError.TheVariants.{Memory}
 use Rattle.holder_core.specs.PresentRefusal.{present_refusal_text}
-use Rattle.sdjwt_cli.specs.Lines.{line}
+use Rattle.cli_parts.specs.Lines.{line}
 
 -- for private functions: the line of what is presented
 abbrev pub IsLineOf : Result Parts PresentError → List ℕ → Type 0

@@ -4,32 +4,10 @@ use Rattle.std.specs.Io.KnownBytes.{Appends}
 use Rattle.sd_outside.specs.Causes.{Rose, AppendsPrefix}
 use Rattle.sd_outside.specs.declared.status.Status.{Status}
 use Rattle.sd_outside.specs.declared.status.Status.TheVariants.{Done, Refused, Usage, Unread, Unwritten, Memory, Unreadable}
+use Rattle.cli_parts.specs.Outside.{Outside, Tells}
 use Rattle.sdjwt_cli.specs.Command.{Command, command_of, NamedFile, files_of}
-use Rattle.sdjwt_cli.specs.Lines.{line, unread_text}
+use Rattle.cli_parts.specs.Lines.{line, unread_text}
 use Rattle.sdjwt_cli.specs.Answers.{Reply, gives, refuses, unreadable, IsAnswered}
-
--- a sink at one moment
-pub record Stream : Type 0 where
-  pub written : Option (List ℕ)
-  pub faults : ℕ
-
-abbrev pub stream : Option (List ℕ) → ℕ → Stream
-stream written faults = record { written = written; faults = faults }
-
--- the cabinet, `out` and `err` at one moment
-pub record Outside : Type 0 where
-  pub holds : List ℕ → Option (List ℕ)
-  pub missed : Option (List ℕ)
-  pub faults : ℕ
-  pub out : Stream
-  pub err : Stream
-
-abbrev pub outside : (List ℕ → Option (List ℕ)) → Option (List ℕ) → ℕ → Stream → Stream → Outside
-outside holds missed faults out err = record { holds = holds; missed = missed; faults = faults; out = out; err = err }
-
--- the text went to the sink, or the sink failed at it
-abbrev pub Tells : Stream → Stream → List ℕ → Type 0
-Tells before after text = Appends before.written after.written text ⊎ (Rose before.faults after.faults × AppendsPrefix before.written after.written text)
 
 -- the name of the file of this word, where there is one
 abbrev pub name_wanted : List NamedFile → ℕ → Option (List ℕ)

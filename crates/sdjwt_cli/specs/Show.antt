@@ -16,7 +16,7 @@ use Rattle.compact_form.specs.declared.parts.JwtParts.{JwtParts}
 use Rattle.json_form.specs.declared.token.Token.{Token}
 use Rattle.json_form.specs.Token.{IsTextRefused, IsToken}
 use Rattle.verifier_core.specs.Verdict.{Gives, IsNoDisclosure}
-use Rattle.sdjwt_cli.specs.Lines.{line}
+use Rattle.cli_parts.specs.Lines.{line}
 use Rattle.sdjwt_cli.specs.Split.{binding_line}
 
 -- the name of a member as JSON, or that it is an element

@@ -6,7 +6,7 @@ use Rattle.compact_form.specs.declared.parts.Parts.{Parts}
 use Rattle.compact_form.specs.Compact.{jwt}
 use Rattle.json_form.specs.declared.token.Token.{Token}
 use Rattle.json_form.specs.Token.{IsToken}
-use Rattle.sdjwt_cli.specs.Lines.{line}
+use Rattle.cli_parts.specs.Lines.{line}
 
 abbrev pub signed_lines : JwtParts → List ℕ
 signed_lines j = line (codes "protected " ++ j.protected) ++ (line (codes "payload " ++ j.payload) ++ line (codes "signature " ++ j.signature))

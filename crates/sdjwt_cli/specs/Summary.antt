@@ -17,7 +17,7 @@ use Rattle.issuer_core.specs.Digests.{marked_claims, hidden_of}
 use Rattle.holder_core.specs.Present.{shown_for, IsPresented}
 use Rattle.sdjwt_cli.specs.Generated.{generated, generated_seed, generated_key, generated_ask, generated_policy}
 use Rattle.sdjwt_cli.specs.Issuing.{IsIssuedBy, TellsRefusal}
-use Rattle.sdjwt_cli.specs.Lines.{line}
+use Rattle.cli_parts.specs.Lines.{line}
 use Rattle.sdjwt_cli.specs.Never.{never_rule}
 use Rattle.json_form.specs.Alone.{alone}
 

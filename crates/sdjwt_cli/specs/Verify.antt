@@ -7,7 +7,7 @@ use Rattle.verifier_core.specs.PolicyFile.{IsPolicyFile}
 use Rattle.verifier_core.specs.Verdict.{Fails, IsAccepted}
 use Rattle.compact_form.specs.Lowest.{IsLowest}
 use Rattle.verifier_core.specs.declared.policy.Policy.{Policy}
-use Rattle.sdjwt_cli.specs.Lines.{line, refusal}
+use Rattle.cli_parts.specs.Lines.{line, refusal}
 
 -- the token is accepted under the policy, and this is the line of its processed payload
 pub record Verifies (policy_file token_file : List ℕ) (now : ℕ) (answer : List ℕ) : Type 0 where

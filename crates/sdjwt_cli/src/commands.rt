@@ -6,4 +6,4 @@ pub use crate::issue::issue;
 pub use crate::present::present;
 pub use crate::show::show;
 pub use crate::split::split;
-pub use crate::verify::{policy_of, verify, verify_under};
+pub use crate::verify::{verify, verify_under};

@@ -4,12 +4,11 @@ ghost use Rattle.json_form.specs.Token.{IsToken};
 ghost use Rattle.json_form.specs.Printable.{IsPrintable};
 ghost use Rattle.sdjwt_cli.specs.Converting.{IsConvertRefused, written, HasRoom, Converts};
 ghost use Rattle.sdjwt_cli.specs.ConvertingSteps.{IsJsonOf};
-ghost use Rattle.sdjwt_cli.specs.Stops.{OnRefused, OnUnread, OnUnreadable};
-ghost use Rattle.sdjwt_cli.specs.Telling.{TellsFault};
+ghost use Rattle.cli_parts.specs.Stops.{OnRefused, OnUnread, OnUnreadable};
+ghost use Rattle.cli_parts.specs.Telling.{TellsFault};
 
 use crate::form::Form;
-use crate::lines::as_line;
-use crate::stop::{Stop, refused};
+use cli_parts::{Stop, as_line, refused};
 use compact_form::{Condition, FILE_MAX, print};
 use json_form::{Token, TokenError, print_flat, print_general, read_token};
 use sd_outside::{NoMemory, TextBox};

@@ -7,10 +7,9 @@ ghost use Rattle.claim_tree.specs.View.{tree_of};
 ghost use Rattle.issuer_core.specs.OrderFile.{IsOrderFile};
 ghost use Rattle.issuer_core.specs.Order.{order_of as order_said};
 ghost use Rattle.sdjwt_cli.specs.Issuing.{IsIssuedBy, TellsRefusal, Issues, DoesNotIssue, HasNoOrder};
-ghost use Rattle.sdjwt_cli.specs.Stops.{OnRefused, OnUnread, OnUnreadable};
+ghost use Rattle.cli_parts.specs.Stops.{OnRefused, OnUnread, OnUnreadable};
 
-use crate::lines::{as_line, short_seed_line};
-use crate::stop::{Stop, unreadable};
+use cli_parts::{Stop, as_line, short_seed_line, unreadable};
 use compact_form::{Parts, print};
 use hmac_sign::HsKey;
 use issuer_core::{IssueError, IssueFile, Order, issue_owned, read_order, refusal_line};

@@ -8,7 +8,8 @@ ghost use Rattle.sdjwt_cli.specs.Command.{Command, command_of, NamedFile, files_
 ghost use Rattle.sdjwt_cli.specs.Answers.{Reply, gives, Answers, AreTold};
 ghost use Rattle.sdjwt_cli.specs.declared.form.Form.{Form};
 ghost use Rattle.sdjwt_cli.specs.Converting.{HasRoom, Converts};
-ghost use Rattle.sdjwt_cli.specs.Run.{Outside, Ends};
+ghost use Rattle.cli_parts.specs.Outside.{Outside};
+ghost use Rattle.sdjwt_cli.specs.Run.{Ends};
 ghost use Rattle.sdjwt_cli.specs.Presented.{PresentedOverFiles, PresentedOverRuns};
 ghost use Rattle.sdjwt_cli.specs.PresentedValues.{PresentedOverValues};
 ghost use Rattle.sdjwt_cli.specs.NoForgery.{NoForgery};

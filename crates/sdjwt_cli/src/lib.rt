@@ -12,17 +12,15 @@ mod form;
 mod generated;
 mod issue;
 pub mod laws;
-mod lines;
 mod never;
 mod present;
 mod show;
 mod split;
-mod stop;
 mod summary;
 mod top;
 mod verify;
 
+pub use cli_parts::Stop;
 pub use form::Form;
 pub use sd_outside::Status;
-pub use stop::Stop;
 pub use top::run;

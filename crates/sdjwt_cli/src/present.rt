@@ -9,14 +9,13 @@ ghost use Rattle.holder_core.specs.declared.errors.PresentError.{PresentError};
 ghost use Rattle.sdjwt_cli.specs.Never.{Judges, never_rule};
 ghost use Rattle.sdjwt_cli.specs.Presenting.{signing_key, Presents, DoesNotPresent};
 ghost use Rattle.sdjwt_cli.specs.PresentingSteps.{IsLineOf, IsRefusalOf};
-ghost use Rattle.sdjwt_cli.specs.Stops.{OnRefused, OnUnread, OnUnreadable};
-ghost use Rattle.sdjwt_cli.specs.Lines.{line};
-ghost use Rattle.sdjwt_cli.specs.Telling.{TellsFileFault};
+ghost use Rattle.cli_parts.specs.Stops.{OnRefused, OnUnread, OnUnreadable};
+ghost use Rattle.cli_parts.specs.Lines.{line};
+ghost use Rattle.cli_parts.specs.Telling.{TellsFileFault};
 
-use crate::lines::as_line;
 use crate::never::may_be_shown;
-use crate::stop::{Stop, unreadable};
 use claim_tree::{Path, PathList};
+use cli_parts::{Stop, as_line, unreadable};
 use compact_form::{Parts, print};
 use digest_index::Steps;
 use hmac_sign::{Hs256Key, KeyShort};

@@ -3,13 +3,13 @@ ghost use Rattle.std.specs.Prelude.{◌≡◌, ◌^◌, ◌<◌, ◌++◌, lengt
 ghost use Rattle.std.specs.Fmt.{decimal};
 ghost use Rattle.std.specs.Option.{option_map};
 ghost use Rattle.compact_form.specs.Views.{jwt_of};
-ghost use Rattle.sdjwt_cli.specs.Lines.{line};
+ghost use Rattle.cli_parts.specs.Lines.{line};
 ghost use Rattle.sdjwt_cli.specs.Split.{disclosure_lines, binding_line, signed_lines, split_lines, Splits};
-ghost use Rattle.sdjwt_cli.specs.Stops.{OnRefused, OnUnread, OnUnreadable};
-ghost use Rattle.sdjwt_cli.specs.Telling.{TellsFault};
+ghost use Rattle.cli_parts.specs.Stops.{OnRefused, OnUnread, OnUnreadable};
+ghost use Rattle.cli_parts.specs.Telling.{TellsFault};
 ghost use Rattle.json_form.specs.Token.{IsTextRefused};
 
-use crate::stop::{Stop, refused};
+use cli_parts::{Stop, refused};
 use compact_form::JwtView;
 use json_form::{Disclosures, TokenError, TokenText, TokenView};
 use sd_outside::NoMemory;

@@ -3,15 +3,15 @@ ghost use Rattle.std.specs.Prelude.{◌≡◌, ◌++◌, IfOk, IfErr, OnOk, stri
 ghost use Rattle.compact_form.specs.Compact.{AreWords};
 ghost use Rattle.sdjwt_cli.specs.Generated.{generated, generated_seed, generated_key};
 ghost use Rattle.sdjwt_cli.specs.Issuing.{IsIssuedBy};
-ghost use Rattle.sdjwt_cli.specs.Stops.{OnRefused, OnUnread, OnUnreadable};
+ghost use Rattle.cli_parts.specs.Stops.{OnRefused, OnUnread, OnUnreadable};
 ghost use Rattle.sdjwt_cli.specs.Summary.{Summarizes, DoesNotSummarize, count_line, summary_lines};
 ghost use Rattle.sdjwt_cli.specs.SummarySteps.{IsPresentedOf, IsAcceptable, IsVerified};
 
 use crate::generated::{ask_of, key, order_of, policy, presenting_key};
 use crate::issue::{SEED_LEN, issue_parts};
 use crate::present::present_parts;
-use crate::stop::Stop;
 use claim_tree::{PathList, Tree, write};
+use cli_parts::Stop;
 use compact_form::{Parts, print};
 use digest_index::Steps;
 use holder_core::PresentError;

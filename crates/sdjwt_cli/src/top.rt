@@ -3,49 +3,21 @@ ghost use Rattle.sd_outside.specs.Causes.{Rose};
 ghost use Rattle.sd_outside.specs.Limits.{file_max};
 ghost use Rattle.sdjwt_cli.specs.Names.{meant_by};
 ghost use Rattle.sdjwt_cli.specs.Answers.{gives, refuses, unreadable, IsAnswered};
-ghost use Rattle.sdjwt_cli.specs.Stops.{OnRefused, OnUnread, OnUnreadable};
-ghost use Rattle.sdjwt_cli.specs.Run.{outside, stream, Misses, Tells, Ends, Keeps};
+ghost use Rattle.cli_parts.specs.Stops.{OnRefused, OnUnread, OnUnreadable};
+ghost use Rattle.cli_parts.specs.Outside.{outside, stream, Tells};
+ghost use Rattle.sdjwt_cli.specs.Run.{Misses, Ends, Keeps};
 
 use crate::command::Command;
 use crate::convert::convert;
 use crate::issue::{SEED_LEN, issue};
-use crate::lines::unread_line;
 use crate::present::present;
 use crate::show::show;
 use crate::split::split;
-use crate::stop::Stop;
 use crate::summary::summary;
 use crate::verify::verify;
-use compact_form::FILE_MAX;
-use sd_outside::{ByteBox, Cabinet, Failed, FetchError, Sink, Status};
+use cli_parts::{FETCH_MAX, Stop, fetch_file, tell, unread_line};
+use sd_outside::{Cabinet, Failed, Sink, Status};
 use std::alloc::Global;
-
-// A file that is too long shows by one byte more than is allowed.
-const FETCH_MAX: usize = FILE_MAX + 1;
-
-// At most so many bytes of the file of a word, which is counted behind the command, from 0.
-fn fetch_file<C: Cabinet>(
-    alloc: Global,
-    cab: &mut C,
-    name: &str,
-    most: usize,
-    word: usize,
-) -> Result<ByteBox, Stop>
-    ensures content { IfOk result (λ file. IfSome (C.holds cab.old name.now) (λ content. file ≡ take most content)) }
-    ensures refuses { IfErr result (λ stop. OnRefused stop (λ _. ⊥)) }
-    ensures unreadable { IfErr result (λ stop. OnUnreadable stop (λ _. ⊥)) }
-    ensures unread { IfErr result (λ stop. OnUnread stop (λ k. k ≡ word)) }
-    ensures missed { IfErr result (λ stop. OnUnread stop (λ _. C.missed cab.new ≡ Some name.now)) }
-    ensures rose { IfErr result (λ stop. OnUnread stop (λ _. Rose (C.faults cab.old) (C.faults cab.new))) }
-    ensures held { (other : List ℕ) → C.holds cab.new other ≡ C.holds cab.old other }
-    ensures later { C.faults cab.old ≤ C.faults cab.new }
-{
-    match cab.fetch(alloc, name, most) {
-        Ok(file) => Ok(file),
-        Err(FetchError::Memory) => Err(Stop::Memory),
-        Err(FetchError::Failed) => Err(Stop::Unread(word)),
-    }
-}
 
 // The answer of a command, over the files that the cabinet has under its names.
 fn answer<C: Cabinet>(
@@ -92,14 +64,6 @@ fn answer<C: Cabinet>(
         }
         Command::Gen { count } => summary(alloc, count),
     }
-}
-
-// A line on `err`. Where `err` fails, nothing else is tried.
-fn tell<E: Sink>(err: &mut E, text: &str)
-    ensures told { Tells (stream (E.written err.old) (E.faults err.old)) (stream (E.written err.new) (E.faults err.new)) text.now }
-    ensures later { E.faults err.old ≤ E.faults err.new }
-{
-    let _ = err.put(text.as_bytes());
 }
 
 /// Runs the command that the words name, over the files of the cabinet.

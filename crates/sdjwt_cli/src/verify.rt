@@ -4,18 +4,17 @@ ghost use Rattle.claim_tree.specs.Tree.{IsRanged};
 ghost use Rattle.claim_tree.specs.JsonText.{json_text};
 ghost use Rattle.claim_tree.specs.View.{tree_of};
 ghost use Rattle.verifier_core.specs.PolicyFile.{IsPolicyFileRefused, IsPolicyFile};
-ghost use Rattle.sdjwt_cli.specs.Lines.{line};
+ghost use Rattle.cli_parts.specs.Lines.{line};
 ghost use Rattle.sdjwt_cli.specs.Verify.{Verifies, DoesNotVerify};
-ghost use Rattle.sdjwt_cli.specs.Stops.{OnRefused, OnUnread, OnUnreadable};
-ghost use Rattle.sdjwt_cli.specs.Telling.{TellsFileFault};
+ghost use Rattle.cli_parts.specs.Stops.{OnRefused, OnUnread, OnUnreadable};
+ghost use Rattle.cli_parts.specs.Telling.{TellsFileFault};
 
-use crate::lines::as_line;
-use crate::stop::{Stop, refused, unreadable};
 use claim_tree::{Tree, write};
+use cli_parts::{Stop, as_line, policy_of, refused};
 use digest_index::Steps;
 use sd_outside::NoMemory;
 use std::alloc::Global;
-use verifier_core::{Policy, VerifyError, read_policy, verify_payload};
+use verifier_core::{Policy, VerifyError, verify_payload};
 
 // The JSON of a tree, as a line.
 fn json_line(alloc: Global, tree: &Tree) -> Result<String, NoMemory>
@@ -23,19 +22,6 @@ fn json_line(alloc: Global, tree: &Tree) -> Result<String, NoMemory>
     ensures { IfOk result (λ text. string_bytes text ≡ line (json_text (tree_of tree.now))) }
 {
     as_line(write(alloc, tree)?)
-}
-
-/// The policy of a file, or that the file is not of its form.
-pub fn policy_of(alloc: Global, file: &[u8]) -> Result<Policy, Stop>
-    ensures policy { IfOk result (IsPolicyFile file.now) }
-    ensures unreadable { IfErr result (λ stop. OnUnreadable stop (TellsFileFault (IsPolicyFileRefused file.now))) }
-    ensures fit { IfErr result (λ stop. OnRefused stop (λ _. ⊥)) }
-    ensures read { IfErr result (λ stop. OnUnread stop (λ _. ⊥)) }
-{
-    match read_policy(alloc, file) {
-        Ok(policy) => Ok(policy),
-        Err(fault) => Err(unreadable(alloc, fault)),
-    }
 }
 
 /// The answer under a policy that is read, for every file that says it.

@@ -34,6 +34,8 @@ _FORMS = {"compact": 0, "flat": 1, "general": 2}
 
 
 def _bytes(given: Json | bytearray | memoryview) -> bytes:
+    if type(given) is bytes:
+        return given
     if isinstance(given, str):
         return given.encode()
     if isinstance(given, Mapping):
@@ -75,7 +77,7 @@ def issue(order: Json, seed: bytes | None = None) -> str:
     2
     >>> issue({"payload": {"name": "Ada"}, "hide": ["/seat"], "key": key})
     Traceback (most recent call last):
-    sdjwt._errors.Refused: refused 53 notThere at "/seat"
+    sdjwt._errors.Refused: refused 55 noSuchPlace at 0
     """
     return _text("issue", _bytes(order), secrets.token_bytes(32) if seed is None else bytes(seed))
 
@@ -108,8 +110,8 @@ def verify(policy: Json, token: Json, now: float | None = None) -> dict[str, Any
     ... except Refused as refused:
     ...     print(refused.number, refused.name, refused.place)
     ...     print(refused.explanation)
-    24 expired None
-    The claim `exp` of the payload lies in the past, by more than `skew` of the policy.
+    25 expired None
+    The moment of the claim `exp` has come: the token is valid no longer.
     """
     return _object(_answer(*_library.call("verify", _bytes(policy), _bytes(token), _moment(now))))
 

@@ -46,7 +46,7 @@ def _load() -> ctypes.CDLL:
     if library.sdjwt_abi_version() != _ABI_VERSION:
         raise ImportError(f"sdjwt: the library {path} is of another version")
     for name, parameters in _CALLS.items():
-        function = library["sdjwt_" + name]
+        function = getattr(library, "sdjwt_" + name)
         function.argtypes, function.restype = parameters, c_uint8
     library.sdjwt_policy_free.argtypes, library.sdjwt_policy_free.restype = (POINTER(_Handle),), None
     return library
@@ -54,7 +54,8 @@ def _load() -> ctypes.CDLL:
 
 _LIBRARY = _load()
 _FREE = _LIBRARY.sdjwt_policy_free
-_FUNCTIONS = {name: _LIBRARY["sdjwt_" + name] for name in _CALLS}
+_VERIFY = _LIBRARY.sdjwt_policy_verify
+_FUNCTIONS = {name: getattr(_LIBRARY, "sdjwt_" + name) for name in _CALLS}
 
 
 class _Room(threading.local):
@@ -90,12 +91,17 @@ def call(name: str, *words: Any) -> tuple[int, bytes]:
 
 
 def new_handle(policy: bytes) -> tuple[int, bytes, Any]:
-    """A handle that holds a policy, where the status is DONE."""
+    """A handle that holds a policy, where the status is DONE; as a pointer, which keeps it alive."""
     handle = _Handle()
     status, line = call("policy_new", byref(handle), policy)
-    return status, line, handle
+    return status, line, ctypes.pointer(handle)
 
 
 def verify_behind(handle: Any, token: bytes, now: int) -> tuple[int, bytes]:
     """What the policy of a handle answers. A handle is for one call at a time."""
-    return call("policy_verify", byref(handle), token, now)
+    room = _ROOM
+    status: int = _VERIFY(handle, token, len(token), now, room.buffer, room.size, room.at_len)
+    if status == UNWRITTEN:
+        room.grow(room.len.value)
+        status = _VERIFY(handle, token, len(token), now, room.buffer, room.size, room.at_len)
+    return status, string_at(room.buffer, room.len.value)

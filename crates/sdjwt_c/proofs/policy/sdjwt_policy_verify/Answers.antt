@@ -1,7 +1,7 @@
 -- Under the policy that the handle held.
 use Rattle.std.proofs.Common.{◌≡◌, ℕ, List, Option, None, Some, ap, ◌∙◌, subst}
 use Rattle.std.specs.Prelude.{IsSomeAnd}
-use Rattle.sdjwt_cli.specs.Telling.{TellsFileFault}
+use Rattle.cli_parts.specs.Telling.{TellsFileFault}
 use Rattle.sdjwt_cli.specs.Verify.{Verifies, DoesNotVerify}
 use Rattle.verifier_core.specs.declared.policy.Policy.{Policy}
 use Rattle.verifier_core.specs.PolicyFile.{IsPolicyFile, IsPolicyFileRefused}

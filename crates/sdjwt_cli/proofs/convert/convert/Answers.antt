@@ -1,11 +1,11 @@
 use Rattle.std.proofs.Common.{◌≡◌, Err, ap, refl, subst}
 use Rattle.sdjwt_cli.specs.Converting.{IsConvertRefused, unread}
 use Rattle.compact_form.specs.declared.fault.Fault.{Fault}
-use Rattle.sdjwt_cli.specs.Lines.{refusal}
-use Rattle.sdjwt_cli.specs.Stops.{OnRefused}
-use Rattle.sdjwt_cli.proofs.Stopped.{of_refusal}
+use Rattle.cli_parts.specs.Lines.{refusal}
+use Rattle.cli_parts.specs.Stops.{OnRefused}
+use Rattle.cli_parts.proofs.Stopped.{of_refusal}
 use Rattle.sdjwt_cli.proofs.convert.convert.Goals as goal
-use Rattle.sdjwt_cli.specs.Telling.{TellsFault}
+use Rattle.cli_parts.specs.Telling.{TellsFault}
 
 pub returns-in-Err-Fault-clause-refuses : goal.returns-in-Err-Fault-clause-refuses
 returns-in-Err-Fault-clause-refuses c =

@@ -3,13 +3,13 @@ use Rattle.sd_outside.specs.Limits.{file_max}
 use Rattle.compact_form.specs.declared.condition.Condition.{Condition}
 use Rattle.compact_form.specs.Faults.{unplaced}
 use Rattle.compact_form.specs.declared.fault.Fault.{Fault}
-use Rattle.sdjwt_cli.specs.Lines.{line, refusal}
+use Rattle.cli_parts.specs.Lines.{line, refusal}
 use Rattle.sdjwt_cli.specs.Converting.{IsConvertRefused, written, too_much}
-use Rattle.sdjwt_cli.specs.Stops.{OnRefused}
-use Rattle.sdjwt_cli.proofs.Stopped.{of_refusal}
+use Rattle.cli_parts.specs.Stops.{OnRefused}
+use Rattle.cli_parts.proofs.Stopped.{of_refusal}
 use Rattle.sdjwt_cli.proofs.Converted.{converts}
 use Rattle.sdjwt_cli.proofs.convert.convert_token.Goals as goal
-use Rattle.sdjwt_cli.specs.Telling.{TellsFault}
+use Rattle.cli_parts.specs.Telling.{TellsFault}
 
 pub returns-clause-refuses : goal.returns-clause-refuses
 returns-clause-refuses c file reads =

@@ -1,6 +1,6 @@
 use Rattle.std.proofs.Common.{ap, ◌∙◌}
 use Rattle.issuer_core.specs.Order.{order_of}
-use Rattle.sdjwt_cli.specs.Lines.{line}
+use Rattle.cli_parts.specs.Lines.{line}
 use Rattle.sdjwt_cli.proofs.Issuings.{is_asked}
 use Rattle.sdjwt_cli.proofs.issue.issue_for.Goals as goal
 

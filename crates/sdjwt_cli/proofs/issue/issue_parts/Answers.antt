@@ -3,7 +3,7 @@ use Rattle.hmac_sign.specs.Hmac.{IsGood}
 use Rattle.issuer_core.specs.declared.errors.IssueError.TheVariants.{Memory, SignFailed}
 use Rattle.issuer_core.specs.Order.{order_of}
 use Rattle.issuer_core.specs.Seed.{maker_of}
-use Rattle.sdjwt_cli.specs.Lines.{line}
+use Rattle.cli_parts.specs.Lines.{line}
 use Rattle.sdjwt_cli.proofs.Issuings.{never, lowest}
 use Rattle.sdjwt_cli.proofs.issue.issue_parts.Goals as goal
 

@@ -1,6 +1,6 @@
 use Rattle.std.proofs.Common.{refl}
 use Rattle.sdjwt_cli.specs.Issuing.{HasNoOrder, no_order}
-use Rattle.sdjwt_cli.proofs.Stopped.{of_unreadable}
+use Rattle.cli_parts.proofs.Stopped.{of_unreadable}
 use Rattle.sdjwt_cli.proofs.issue.order_of.Goals as goal
 
 pub returns-in-Err-clause-unreadable : goal.returns-in-Err-clause-unreadable

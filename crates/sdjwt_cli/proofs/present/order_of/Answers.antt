@@ -1,7 +1,7 @@
 use Rattle.std.proofs.Common.{refl}
-use Rattle.sdjwt_cli.proofs.Stopped.{of_unreadable}
+use Rattle.cli_parts.proofs.Stopped.{of_unreadable}
 use Rattle.sdjwt_cli.proofs.present.order_of.Goals as goal
-use Rattle.sdjwt_cli.specs.Telling.{TellsFileFault}
+use Rattle.cli_parts.specs.Telling.{TellsFileFault}
 use Rattle.holder_core.specs.PresentFile.{IsPresentFileRefused}
 
 pub returns-in-Err-clause-unreadable : goal.returns-in-Err-clause-unreadable

@@ -5,7 +5,7 @@ use Rattle.sdjwt_cli.specs.Never.{never_rule}
 use Rattle.sdjwt_cli.specs.Presenting.{Presents, DoesNotPresent}
 use Rattle.sdjwt_cli.specs.PresentingSteps.{IsLineOf, IsRefusalOf}
 use Rattle.sdjwt_cli.proofs.Presentings.{presents, refuses}
-use Rattle.sdjwt_cli.proofs.Stopped.{of_text, of_refused}
+use Rattle.cli_parts.proofs.Stopped.{of_text, of_refused}
 use Rattle.sdjwt_cli.proofs.present.present_for.Goals as goal
 
 pub returns-clause-presents : goal.returns-clause-presents

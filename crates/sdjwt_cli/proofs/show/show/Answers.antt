@@ -2,9 +2,9 @@ use Rattle.std.proofs.Common.{subst, refl}
 use Rattle.sdjwt_cli.specs.declared.show.Unshown.{Unshown}
 use Rattle.sdjwt_cli.specs.Show.{IsShowRefused}
 use Rattle.sdjwt_cli.specs.ShowSteps.{OnFails}
-use Rattle.sdjwt_cli.proofs.Stopped.{of_refusal}
+use Rattle.cli_parts.proofs.Stopped.{of_refusal}
 use Rattle.sdjwt_cli.proofs.show.show.Goals as goal
-use Rattle.sdjwt_cli.specs.Telling.{TellsFault}
+use Rattle.cli_parts.specs.Telling.{TellsFault}
 
 pub returns-in-Err-Fails-clause-refuses : goal.returns-in-Err-Fails-clause-refuses
 returns-in-Err-Fails-clause-refuses c =

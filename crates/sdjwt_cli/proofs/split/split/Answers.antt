@@ -1,7 +1,7 @@
 use Rattle.std.proofs.Common.{Err, ap, refl}
-use Rattle.sdjwt_cli.proofs.Stopped.{of_refusal}
+use Rattle.cli_parts.proofs.Stopped.{of_refusal}
 use Rattle.sdjwt_cli.proofs.split.split.Goals as goal
-use Rattle.sdjwt_cli.specs.Telling.{TellsFault}
+use Rattle.cli_parts.specs.Telling.{TellsFault}
 use Rattle.json_form.specs.Token.{IsTextRefused}
 
 pub returns-in-Err-Fault-clause-refuses : goal.returns-in-Err-Fault-clause-refuses

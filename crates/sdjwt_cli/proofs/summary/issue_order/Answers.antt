@@ -4,7 +4,7 @@ use Rattle.issuer_core.specs.Order.{Order}
 use Rattle.hmac_sign.specs.Hmac.{AlgKey}
 use Rattle.sdjwt_cli.specs.Generated.{generated, generated_seed}
 use Rattle.sdjwt_cli.specs.Issuing.{TellsRefusal}
-use Rattle.sdjwt_cli.specs.Stops.{OnRefused}
+use Rattle.cli_parts.specs.Stops.{OnRefused}
 use Rattle.sdjwt_cli.proofs.GeneratedOrder.{shallow, all_ranged}
 use Rattle.sdjwt_cli.proofs.summary.issue_order.Goals as goal
 

@@ -1,9 +1,9 @@
 use Rattle.std.proofs.Common.{◌≡◌, refl, subst}
 use Rattle.compact_form.specs.declared.fault.Fault.{Fault}
-use Rattle.sdjwt_cli.specs.Lines.{refusal}
-use Rattle.sdjwt_cli.specs.Stops.{OnRefused}
+use Rattle.cli_parts.specs.Lines.{refusal}
+use Rattle.cli_parts.specs.Stops.{OnRefused}
 use Rattle.sdjwt_cli.specs.Verify.{DoesNotVerify}
-use Rattle.sdjwt_cli.proofs.Stopped.{of_refusal}
+use Rattle.cli_parts.proofs.Stopped.{of_refusal}
 use Rattle.sdjwt_cli.proofs.verify.verify_under.Goals as goal
 
 pub returns-in-Err-Fault-clause-refuses : goal.returns-in-Err-Fault-clause-refuses

@@ -9,19 +9,16 @@ use denote.Param.Send.{IsSend, AllSend, owning_send, struct_send, sendable}
 use mir.Raw.{raw as bare}
 use Rattle.std.specs.declared.alloc.Global.{Global}
 use Rattle.std.proofs.Crossing as crossing
-use Rattle.std.proofs.MapsCrossing as maps
 use Rattle.std_alloc.proofs.SendSync.{lies, quiet}
 use Rattle.verifier_core.specs.declared.policy.Policy.{Policy}
+use Rattle.verifier_core.proofs.policy.Policy.TheSendSync as policy
 use Rattle.verifier_core.specs.contracts.policy.Policy.{the_row as policy_row}
 use Rattle.sdjwt_c.specs.Held.{holds}
 use Rattle.sdjwt_c.specs.contracts.handle.SdjwtPolicy.{the_row, the_type}
 
-policy_send : IsSend policy_row
-policy_send = search (sendable, crossing.crosses, maps.crosses) depth 40
-
 keyless : (alloc : Global) (p : Ptr) (held : Option Policy) → Keyless (holds alloc p held)
 keyless alloc null_ptr held = λ e. tt
-keyless alloc (block_ptr b o) held = λ policy. ((lies policy_row policy_send (block_ptr b o) policy, crossing.frees.frees alloc (bare (lone policy_row.mir)) (block_ptr b o)), λ e. tt)
+keyless alloc (block_ptr b o) held = λ x. ((lies policy_row policy.the_send (block_ptr b o) x, crossing.frees.frees alloc (bare (lone policy_row.mir)) (block_ptr b o)), λ e. tt)
 
 pub send : IsSend the_row
 send =

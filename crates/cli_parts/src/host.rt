@@ -1,0 +1,64 @@
+// What a program takes from its host before it runs a command.
+
+use sd_outside::Status;
+use std::rt::{Clock, Env};
+use std::time::{SystemTime, UNIX_EPOCH};
+use std::{env, io};
+
+/// Why a program runs no command.
+#[derive(Clone, Copy, Debug)]
+pub enum Ending {
+    /// A word is not UTF-8.
+    Words,
+    /// There was no memory for the words.
+    Memory,
+    /// The clock could not be read.
+    Clock,
+}
+
+impl Ending {
+    /// The line that tells it, without its line end.
+    pub fn line(self) -> &'static str {
+        match self {
+            Ending::Words => "usage",
+            Ending::Memory => "memory",
+            Ending::Clock => "unread clock",
+        }
+    }
+
+    /// How the program ends then.
+    pub fn status(self) -> Status {
+        match self {
+            Ending::Words => Status::Usage,
+            Ending::Memory => Status::Memory,
+            Ending::Clock => Status::Unread,
+        }
+    }
+}
+
+/// The words behind the program's name.
+// Each is pushed, since `collect` first asks for room for all, and passes over a refusal.
+pub fn words(rt: &(impl Env + AllocGlobal)) -> Result<Vec<String>, Ending> {
+    let args = env::args(rt).map_err(|fault| match fault.kind() {
+        io::ErrorKind::InvalidData => Ending::Words,
+        _ => Ending::Memory,
+    })?;
+    let mut words = Vec::new(rt.alloc());
+    for word in args.skip(1) {
+        words.push(word).map_err(|_| Ending::Memory)?;
+    }
+    Ok(words)
+}
+
+/// Whole seconds since 1970, and 0 before.
+// std tells a clock that stands before 1970 by `InvalidData`.
+pub fn seconds(rt: &impl Clock) -> Result<u64, Ending> {
+    match SystemTime::now(rt) {
+        Ok(now) => Ok(
+            now.duration_since(UNIX_EPOCH)
+                .map_or(0, |time| time.as_secs()),
+        ),
+        Err(fault) if fault.kind() == io::ErrorKind::InvalidData => Ok(0),
+        Err(_) => Err(Ending::Clock),
+    }
+}

@@ -1,0 +1,17 @@
+//! What the programs share around their commands: a file by its word, the policy of a file, why a command has no answer, and the
+//! line that tells it.
+#![tactic(auto)]
+
+mod files;
+mod host;
+mod lines;
+mod policy_file;
+mod stop;
+mod telling;
+
+pub use files::{FETCH_MAX, fetch_file};
+pub use host::{Ending, seconds, words};
+pub use lines::{as_line, refusal_line, short_seed_line, unread_line, unreadable_line};
+pub use policy_file::policy_of;
+pub use stop::{Stop, refused, unreadable};
+pub use telling::tell;

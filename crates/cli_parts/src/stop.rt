@@ -1,0 +1,61 @@
+// Why a command has no answer.
+ghost use Rattle.std.specs.Prelude.{◌≡◌, ◌≢◌};
+ghost use Rattle.claim_tree.specs.declared.file_fault.FileFault.{FileFault};
+ghost use Rattle.cli_parts.specs.Lines.{refusal, unreadable_line as line_of};
+ghost use Rattle.cli_parts.specs.Stops.{OnRefused, OnUnread, OnUnreadable};
+ghost use Rattle.cli_parts.specs.declared.stop.Stop.TheVariants.{Memory};
+
+use crate::lines::{refusal_line, unreadable_line};
+use claim_tree::FileFault;
+use compact_form::Fault;
+use sd_outside::NoMemory;
+use std::alloc::Global;
+
+/// Why a command has no answer. Each line has its line end.
+#[derive(Debug, Drop)]
+pub enum Stop {
+    /// There was no memory.
+    Memory,
+    /// The file of this word could not be read. Words are counted behind the command, from 0.
+    Unread(usize),
+    /// A policy, an order or a seed is not of its form, with this line.
+    Unreadable(String),
+    /// The command refuses its files, with this line.
+    Refused(String),
+}
+
+impl From<NoMemory> for Stop {
+    ghost from_gives = { λ _ stop. stop ≡ Memory };
+
+    fn from(_: NoMemory) -> Self {
+        Stop::Memory
+    }
+}
+
+/// A condition fails: its line, where there is memory for it.
+pub fn refused(alloc: Global, fault: &Fault) -> Stop
+    ensures line { OnRefused result (λ text. text ≡ refusal fault.now) }
+    ensures read { OnUnread result (λ _. ⊥) }
+    ensures readable { OnUnreadable result (λ _. ⊥) }
+{
+    match refusal_line(alloc, fault) {
+        Ok(text) => Stop::Refused(text),
+        Err(NoMemory) => Stop::Memory,
+    }
+}
+
+/// The first file of a command is not of its form: its line, where there is memory for it.
+pub fn unreadable(alloc: Global, fault: FileFault) -> Stop
+    ensures cause { OnUnreadable result (λ _. fault ≢ FileFault.Memory) }
+    ensures line { OnUnreadable result (λ text. text ≡ line_of 1 fault) }
+    ensures fit { OnRefused result (λ _. ⊥) }
+    ensures read { OnUnread result (λ _. ⊥) }
+{
+    if let FileFault::Memory = fault {
+        return Stop::Memory;
+    }
+    match unreadable_line(alloc, 1, fault) {
+        Ok(text) => Stop::Unreadable(text),
+        Err(NoMemory) => Stop::Memory,
+    }
+}

@@ -1,0 +1,52 @@
+-- A line has one verdict, and lines that are too long have the same.
+use Rattle.std.proofs.Common.{◌≡◌, ◌++◌, ℕ, ◌<◌, List, length, refl, sym, ap, ◌∙◌, Result, Ok, Err, IfOk, String, Global, string_bytes}
+use Rattle.std.specs.Prelude.{codes}
+use Rattle.sd_outside.specs.Limits.{file_max}
+use Rattle.sd_outside.specs.declared.errors.NoMemory.{NoMemory}
+use Rattle.claim_tree.specs.JsonText.{json_text}
+use Rattle.compact_form.specs.declared.condition.Condition.{Condition}
+use Rattle.compact_form.specs.declared.fault.Fault.{Fault}
+use Rattle.compact_form.specs.Faults.{unplaced}
+use Rattle.compact_form.specs.Lowest.{IsLowest}
+use Rattle.json_form.proofs.Tokens.{refused_long}
+use Rattle.claim_tree.specs.Tree.{Tree}
+use Rattle.marked_tree.specs.Marked.{Marked, strip}
+use Rattle.verifier_core.specs.declared.policy.Policy.{Policy}
+use Rattle.verifier_core.specs.RefusalText.{fault_text}
+use Rattle.verifier_core.specs.Verdict.{Fails}
+use Rattle.verifier_core.specs.Verdicts.{IsAcceptedAs}
+use Rattle.verifier_core.proofs.Verdicts.{file_lowest}
+use Rattle.verifier_core.proofs.OneVerdict.{accepted_not_refused, one_accepted, one_lowest}
+use Rattle.feed_core.specs.Cut.{with_end}
+use Rattle.feed_core.specs.FeedVerdict.{TellsVerdict, accepts, refuses}
+
+told : Marked → List ℕ
+told marked = codes "accepted " ++ json_text (strip marked)
+
+pub one_verdict_text : (policy : Policy) (now : ℕ) (token text other : List ℕ) → TellsVerdict policy now token text → TellsVerdict policy now token other → text ≡ other
+unfolding told
+one_verdict_text policy now token text other (accepts m a e) (accepts n b f) = e ∙ ap told (one_accepted token policy now m n a b) ∙ sym f
+one_verdict_text policy now token text other (accepts m a e) (refuses fault l f) = absurd (accepted_not_refused token policy now m fault a l)
+one_verdict_text policy now token text other (refuses fault l e) (accepts n b f) = absurd (accepted_not_refused token policy now n fault b l)
+one_verdict_text policy now token text other (refuses fault l e) (refuses another m f) = e ∙ ap fault_text (one_lowest token policy now fault another l m) ∙ sym f
+
+too_long : (policy : Policy) (now : ℕ) (token : List ℕ) → file_max < length token → IsLowest (Fails token policy now) (unplaced Condition.TooLong)
+too_long policy now token long = file_lowest token policy now (unplaced Condition.TooLong) (refused_long token (unplaced Condition.TooLong) refl long)
+
+pub long_alike : (policy : Policy) (now : ℕ) (token other text : List ℕ) → file_max < length token → file_max < length other → TellsVerdict policy now token text → TellsVerdict policy now other text
+long_alike policy now token other text long more (accepts m a e) = absurd (accepted_not_refused token policy now m (unplaced Condition.TooLong) a (too_long policy now token long))
+long_alike policy now token other text long more (refuses fault l e) =
+    refuses (unplaced Condition.TooLong) (too_long policy now other more) (e ∙ ap fault_text (one_lowest token policy now fault (unplaced Condition.TooLong) l (too_long policy now token long)))
+
+-- ---- the line of a verdict
+
+pub line_accepted : (policy : Policy) (now : ℕ) (token : List ℕ) (payload : Tree) → IsAcceptedAs token policy now payload → (r : Result (String Global) NoMemory)
+    → IfOk r (λ line. string_bytes line ≡ with_end (codes "accepted " ++ json_text payload)) → IfOk r (λ line. (verdict : List ℕ) × TellsVerdict policy now token verdict × (string_bytes line ≡ with_end verdict))
+line_accepted policy now token payload accepted (Ok line) is =
+    (codes "accepted " ++ json_text payload, accepts accepted.0 accepted.1 (ap (λ (t : Tree). codes "accepted " ++ json_text t) accepted.2), is)
+line_accepted policy now token payload accepted (Err e) is = tt
+
+pub line_refused : (policy : Policy) (now : ℕ) (token : List ℕ) (fault : Fault) → IsLowest (Fails token policy now) fault → (r : Result (String Global) NoMemory)
+    → IfOk r (λ line. string_bytes line ≡ with_end (fault_text fault)) → IfOk r (λ line. (verdict : List ℕ) × TellsVerdict policy now token verdict × (string_bytes line ≡ with_end verdict))
+line_refused policy now token fault lowest (Ok line) is = (fault_text fault, refuses fault lowest refl, is)
+line_refused policy now token fault lowest (Err e) is = tt

@@ -1,0 +1,10 @@
+pub mod Cuts
+pub mod FeedVerdicts
+pub mod Told
+pub mod Fronts
+pub mod Ends
+pub mod Answering
+pub mod Endings
+pub mod AnyCut
+pub mod Pumping
+pub mod Completes

@@ -1,0 +1,142 @@
+-- What a run of the feed does to the outside, by the status with which it ends.
+use Rattle.std.specs.Prelude.{◌≡◌, ◌<◌, ◌≤◌, ◌+◌, ℕ, List, [], ◌∷◌, Some, IfSome, take, codes}
+use Rattle.std.specs.Fmt.{decimal}
+use Rattle.sd_outside.specs.Causes.{Rose}
+use Rattle.sd_outside.specs.Limits.{file_max}
+use Rattle.sd_outside.specs.declared.status.Status.{Status}
+use Rattle.sd_outside.specs.declared.status.Status.TheVariants.{Done, Refused, Usage, Unread, Unwritten, Memory, Unreadable}
+use Rattle.cli_parts.specs.Lines.{line, unread_text}
+use Rattle.cli_parts.specs.Outside.{Outside, Tells}
+use Rattle.cli_parts.specs.Telling.{TellsFileFault}
+use Rattle.verifier_core.specs.PolicyFile.{IsPolicyFile, IsPolicyFileRefused}
+use Rattle.verifier_core.specs.declared.policy.Policy.{Policy}
+use Rattle.feed_core.specs.FeedSource.{Input, feed_max, FedAll, FedLong, FedPart, FedFront}
+
+-- all that a run of the feed reaches, at one moment
+pub record FeedOutside : Type 0 where
+  pub files : Outside
+  pub source : Input
+
+abbrev pub feed_outside : Outside → Input → FeedOutside
+feed_outside files source = record { files = files; source = source }
+
+-- the words of a feed: `feed`, the name of its policy file, and the most bytes that it takes, in digits
+pub record IsFeed (words : List (List ℕ)) (policy : List ℕ) (most : ℕ) : Type 0 where
+  pub words_are : words ≡ codes "feed" ∷ policy ∷ decimal most ∷ []
+  pub some : 0 < most
+  pub within : most ≤ feed_max
+
+-- what a fetch answers of the policy file, where the cabinet tells it
+abbrev pub IsFetched : FeedOutside → List ℕ → List ℕ → Type 0
+IsFetched before name file = IfSome (before.files.holds name) (λ content. file ≡ take (file_max + 1) content)
+
+-- the words are those of a feed, and its policy file says this policy
+pub record Asks (words : List (List ℕ)) (before : FeedOutside) (policy : Policy) (most : ℕ) : Type 0 where
+  pub name : List ℕ
+  pub named : IsFeed words name most
+  pub file : List ℕ
+  pub fetched : IsFetched before name file
+  pub is_policy : IsPolicyFile file policy
+
+-- nothing was taken, and nothing written
+pub record Untouched (before after : FeedOutside) : Type 0 where
+  pub source : after.source ≡ before.source
+  pub out : after.files.out.written ≡ before.files.out.written
+
+pub record FeedDone (words : List (List ℕ)) (before after : FeedOutside) (now : ℕ) : Type 0 where
+  pub policy : Policy
+  pub most : ℕ
+  pub asks : Asks words before policy most
+  pub fed : FedAll policy now most before.source after.source before.files.out.written after.files.out.written
+  pub err : after.files.err.written ≡ before.files.err.written
+
+-- the source gave more than it may
+pub record FeedRefused (words : List (List ℕ)) (before after : FeedOutside) (now : ℕ) : Type 0 where
+  pub policy : Policy
+  pub most : ℕ
+  pub asks : Asks words before policy most
+  pub fed : FedLong policy now most before.source after.source before.files.out.written after.files.out.written
+  pub err : Tells before.files.err after.files.err (line (codes "refused 87 feedTooLong"))
+
+pub record FeedUsage (words : List (List ℕ)) (before after : FeedOutside) : Type 0 where
+  pub none : (policy : List ℕ) (most : ℕ) → IsFeed words policy most → ⊥
+  pub untouched : Untouched before after
+  pub err : Tells before.files.err after.files.err (line (codes "usage"))
+
+-- the cabinet failed at the policy file, or the source failed
+pub record PolicyUnread (words : List (List ℕ)) (before after : FeedOutside) : Type 0 where
+  pub name : List ℕ
+  pub most : ℕ
+  pub named : IsFeed words name most
+  pub missed : after.files.missed ≡ Some name
+  pub rose : Rose before.files.faults after.files.faults
+  pub untouched : Untouched before after
+  pub err : Tells before.files.err after.files.err (unread_text 0)
+
+pub record SourceUnread (words : List (List ℕ)) (before after : FeedOutside) (now : ℕ) : Type 0 where
+  pub policy : Policy
+  pub most : ℕ
+  pub asks : Asks words before policy most
+  pub fed : FedPart policy now most before.source after.source before.files.out.written after.files.out.written
+  pub err : Tells before.files.err after.files.err (line (codes "unread source"))
+
+pub data FeedUnread (words : List (List ℕ)) (before after : FeedOutside) (now : ℕ) : Type 0 where
+  of_policy : PolicyUnread words before after → FeedUnread words before after now
+  of_source : SourceUnread words before after now → FeedUnread words before after now
+
+-- `out` failed at a line that was due
+pub record FeedUnwritten (words : List (List ℕ)) (before after : FeedOutside) (now : ℕ) : Type 0 where
+  pub policy : Policy
+  pub most : ℕ
+  pub asks : Asks words before policy most
+  pub fed : FedFront policy now most before.source after.source before.files.out.written after.files.out.written
+  pub rose : Rose before.files.out.faults after.files.out.faults
+  pub err : Tells before.files.err after.files.err (line (codes "unwritten"))
+
+-- there was no memory for the policy, or behind it
+pub record NoMemoryFirst (words : List (List ℕ)) (before after : FeedOutside) : Type 0 where
+  pub name : List ℕ
+  pub most : ℕ
+  pub named : IsFeed words name most
+  pub untouched : Untouched before after
+  pub err : Tells before.files.err after.files.err (line (codes "memory"))
+
+pub record NoMemoryLater (words : List (List ℕ)) (before after : FeedOutside) (now : ℕ) : Type 0 where
+  pub policy : Policy
+  pub most : ℕ
+  pub asks : Asks words before policy most
+  pub fed : FedFront policy now most before.source after.source before.files.out.written after.files.out.written
+  pub err : Tells before.files.err after.files.err (line (codes "memory"))
+
+pub data FeedMemory (words : List (List ℕ)) (before after : FeedOutside) (now : ℕ) : Type 0 where
+  at_first : NoMemoryFirst words before after → FeedMemory words before after now
+  later_on : NoMemoryLater words before after now → FeedMemory words before after now
+
+-- the policy file is not of its form
+pub record FeedUnreadable (words : List (List ℕ)) (before after : FeedOutside) : Type 0 where
+  pub name : List ℕ
+  pub most : ℕ
+  pub named : IsFeed words name most
+  pub file : List ℕ
+  pub fetched : IsFetched before name file
+  pub text : List ℕ
+  pub told : TellsFileFault (IsPolicyFileRefused file) text
+  pub untouched : Untouched before after
+  pub err : Tells before.files.err after.files.err text
+
+abbrev pub FeedEnds : List (List ℕ) → FeedOutside → FeedOutside → ℕ → Status → Type 0
+FeedEnds words before after now Done = FeedDone words before after now
+FeedEnds words before after now Refused = FeedRefused words before after now
+FeedEnds words before after now Usage = FeedUsage words before after
+FeedEnds words before after now Unread = FeedUnread words before after now
+FeedEnds words before after now Unwritten = FeedUnwritten words before after now
+FeedEnds words before after now Memory = FeedMemory words before after now
+FeedEnds words before after now Unreadable = FeedUnreadable words before after
+
+-- what each run leaves
+pub record FeedKeeps (before after : FeedOutside) : Type 0 where
+  pub held : (name : List ℕ) → after.files.holds name ≡ before.files.holds name
+  pub later : before.files.faults ≤ after.files.faults
+  pub source_later : before.source.faults ≤ after.source.faults
+  pub out_later : before.files.out.faults ≤ after.files.out.faults
+  pub err_later : before.files.err.faults ≤ after.files.err.faults

@@ -1,0 +1,5 @@
+pub mod Cut
+pub mod FeedVerdict
+pub mod Feed
+pub mod FeedSource
+pub mod FeedRun

@@ -1,0 +1,101 @@
+// A run of the feed.
+ghost use Rattle.std.specs.Prelude.{◌≡◌, ◌≤◌, ◌^◌, ◌+◌, ℕ, List, Some, map, take, IfOk, IfErr, IfSome, string_bytes};
+ghost use Rattle.sd_outside.specs.Causes.{Rose};
+ghost use Rattle.sd_outside.specs.Limits.{file_max};
+ghost use Rattle.cli_parts.specs.Outside.{outside, stream};
+ghost use Rattle.cli_parts.specs.Stops.{OnRefused, OnUnread, OnUnreadable};
+ghost use Rattle.cli_parts.specs.Telling.{TellsFileFault};
+ghost use Rattle.verifier_core.specs.PolicyFile.{IsPolicyFile, IsPolicyFileRefused};
+ghost use Rattle.feed_core.specs.FeedSource.{input};
+ghost use Rattle.feed_core.specs.FeedRun.{feed_outside, FeedEnds, FeedKeeps};
+
+use crate::Feed;
+use crate::pump::{Halt, pump};
+use crate::words::feed_words;
+use cli_parts::{FETCH_MAX, Stop, fetch_file, policy_of, tell, unread_line};
+use sd_outside::{Cabinet, Sink, Source, Status};
+use std::alloc::Global;
+use verifier_core::Policy;
+
+// The policy of the file of this name.
+fn fetch_policy<C: Cabinet>(alloc: Global, cab: &mut C, name: &str) -> Result<Policy, Stop>
+    ensures policy { IfOk result (λ policy. (file : List ℕ) × IfSome (C.holds cab.old name.now) (λ content. file ≡ take (file_max + 1) content) × IsPolicyFile file policy) }
+    ensures unreadable { IfErr result (λ stop. OnUnreadable stop (λ text. (file : List ℕ) × IfSome (C.holds cab.old name.now) (λ content. file ≡ take (file_max + 1) content) × TellsFileFault (IsPolicyFileRefused file) text)) }
+    ensures fit { IfErr result (λ stop. OnRefused stop (λ _. ⊥)) }
+    ensures word { IfErr result (λ stop. OnUnread stop (λ word. word ≡ 0)) }
+    ensures missed { IfErr result (λ stop. OnUnread stop (λ _. C.missed cab.new ≡ Some name.now)) }
+    ensures rose { IfErr result (λ stop. OnUnread stop (λ _. Rose (C.faults cab.old) (C.faults cab.new))) }
+    ensures held { (other : List ℕ) → C.holds cab.new other ≡ C.holds cab.old other }
+    ensures later { C.faults cab.old ≤ C.faults cab.new }
+{
+    let file = match fetch_file(alloc, cab, name, FETCH_MAX, 0) {
+        Ok(file) => file,
+        Err(stop) => return Err(stop),
+    };
+    policy_of(alloc, file.bytes())
+}
+
+/// Runs the feed that the words ask for: `feed`, the name of a policy file, and the most bytes that are taken.
+///
+/// Each line that the source gives is judged under the policy, at a moment in seconds since 1970, and answered by a line on
+/// `out`, as soon as it has ended. At the end comes the number of lines. What each status says of the outside before and after is
+/// `FeedEnds`, by cases.
+pub fn run_feed<C: Cabinet, R: Source, O: Sink, E: Sink>(
+    alloc: Global,
+    words: &[String],
+    cab: &mut C,
+    src: &mut R,
+    now: u64,
+    out: &mut O,
+    err: &mut E,
+) -> Status
+    requires { R.taken src.old ≤ 2 ^ 63 }
+    ensures ends { FeedEnds (map string_bytes words.now)
+        (feed_outside (outside (C.holds cab.old) (C.missed cab.old) (C.faults cab.old) (stream (O.written out.old) (O.faults out.old)) (stream (E.written err.old) (E.faults err.old))) (input (R.left src.old) (R.taken src.old) (R.faults src.old)))
+        (feed_outside (outside (C.holds cab.new) (C.missed cab.new) (C.faults cab.new) (stream (O.written out.new) (O.faults out.new)) (stream (E.written err.new) (E.faults err.new))) (input (R.left src.new) (R.taken src.new) (R.faults src.new)))
+        now
+        result }
+    ensures keeps { FeedKeeps
+        (feed_outside (outside (C.holds cab.old) (C.missed cab.old) (C.faults cab.old) (stream (O.written out.old) (O.faults out.old)) (stream (E.written err.old) (E.faults err.old))) (input (R.left src.old) (R.taken src.old) (R.faults src.old)))
+        (feed_outside (outside (C.holds cab.new) (C.missed cab.new) (C.faults cab.new) (stream (O.written out.new) (O.faults out.new)) (stream (E.written err.new) (E.faults err.new))) (input (R.left src.new) (R.taken src.new) (R.faults src.new))) }
+{
+    let Some((name, most)) = feed_words(words) else {
+        tell(err, "usage\n");
+        return Status::Usage;
+    };
+    let policy = match fetch_policy(alloc, cab, name) {
+        Ok(policy) => policy,
+        Err(Stop::Unread(word)) => {
+            tell(err, unread_line(word));
+            return Status::Unread;
+        }
+        Err(Stop::Unreadable(line)) => {
+            tell(err, line.as_str());
+            return Status::Unreadable;
+        }
+        Err(Stop::Refused(_)) => unreachable!(),
+        Err(Stop::Memory) => {
+            tell(err, "memory\n");
+            return Status::Memory;
+        }
+    };
+    match pump(&mut Feed::new(alloc, policy, now), src, most, out) {
+        Ok(()) => Status::Done,
+        Err(Halt::TooLong) => {
+            tell(err, "refused 87 feedTooLong\n");
+            Status::Refused
+        }
+        Err(Halt::Unread) => {
+            tell(err, "unread source\n");
+            Status::Unread
+        }
+        Err(Halt::Unwritten) => {
+            tell(err, "unwritten\n");
+            Status::Unwritten
+        }
+        Err(Halt::Memory) => {
+            tell(err, "memory\n");
+            Status::Memory
+        }
+    }
+}

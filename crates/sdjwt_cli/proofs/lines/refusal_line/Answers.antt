@@ -1,6 +1,0 @@
-use Rattle.std.proofs.Common.{List, ℕ, IfOk, string_bytes, ◌≡◌, ap, subst}
-use Rattle.sdjwt_cli.specs.Lines.{line}
-use Rattle.sdjwt_cli.proofs.lines.refusal_line.Goals as goal
-
-pub returns : goal.returns
-returns c = subst (λ (text : List ℕ). IfOk c.as_line.result (λ whole. string_bytes whole ≡ text)) (ap line c.in_ok-fault_line.ensures) c.as_line.ensures

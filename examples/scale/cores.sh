@@ -1,0 +1,8 @@
+#!/bin/sh
+# Judges the tokens of standard input, one a line, with one feed for each block of lines, on several cores at a time:
+#     sh examples/scale/cores.sh POLICY [JOBS] <tokens >verdicts
+# The verdicts come in the order of the tokens. It needs GNU parallel, and sdjwt_tools on the path or in SDJWT_TOOLS.
+policy=${1:?the policy file}
+jobs=${2:-$(nproc)}
+exec parallel --pipe --block 16M --keep-order --jobs "$jobs" --quote \
+    sh -c '"$1" feed "$2" 1073741824 | sed "\$d"' sh "${SDJWT_TOOLS:-sdjwt_tools}" "$policy"

@@ -1,0 +1,123 @@
+#!/usr/bin/env python3
+"""How many tokens a second: the package, the program, and the bare signature check of other libraries, side by side.
+
+    python3 speed.py [--program sdjwt] [--seconds 2]
+
+The token has ten disclosures, of which all are shown, and the policy has two keys. Each figure is the best of five
+rounds of so many seconds. Beside the calls a second stands the time of the processor that a call takes on one thread,
+which other work on the machine disturbs less.
+"""
+import argparse
+import base64
+import json
+import subprocess
+import tempfile
+import threading
+import time
+from pathlib import Path
+
+import sdjwt
+
+KEY = bytes(range(1, 33))
+TEXT = base64.urlsafe_b64encode(KEY).rstrip(b"=").decode()
+OTHER = base64.urlsafe_b64encode(bytes(32)).rstrip(b"=").decode()
+ORDER = {"payload": {"iss": "office", "exp": 4102444800, **{f"claim_{i}": f"value of claim {i}" for i in range(10)}},
+         "hide": [f"/claim_{i}" for i in range(10)], "key": TEXT, "kid": "one"}
+POLICY = {"keys": {"keys": [{"kty": "oct", "kid": "other", "k": OTHER}, {"kty": "oct", "kid": "one", "k": TEXT}]},
+          "iss": "office", "require": ["claim_3"]}
+
+
+def rate(call, seconds, threads=1):
+    """Calls a second on so many threads, the best of five rounds."""
+    best = 0.0
+    for _ in range(5):
+        counts = [0] * threads
+        end = time.perf_counter() + seconds
+
+        def work(which):
+            done = 0
+            while time.perf_counter() < end:
+                for _ in range(20):
+                    call()
+                done += 20
+            counts[which] = done
+
+        start = time.perf_counter()
+        running = [threading.Thread(target=work, args=(which,)) for which in range(threads)]
+        for thread in running:
+            thread.start()
+        for thread in running:
+            thread.join()
+        best = max(best, sum(counts) / (time.perf_counter() - start))
+    return best
+
+
+def time_of(call, rounds=9, calls=1000):
+    """Microseconds of the processor for a call, the best of some rounds."""
+    best = float("inf")
+    for _ in range(rounds):
+        start = time.thread_time()
+        for _ in range(calls):
+            call()
+        best = min(best, (time.thread_time() - start) / calls)
+    return best * 1e6
+
+
+def tell(name, call, seconds):
+    print(f"{name}: {rate(call, seconds):,.0f} a second, {time_of(call):.0f} us of the processor")
+
+
+def peers(jwt):
+    """The bare check of the signature by others, where they are installed: no disclosure is looked at."""
+    try:
+        from joserfc import jwk, jws
+        key = jwk.OctKey.import_key(KEY)
+        yield "joserfc, signature alone", lambda: jws.deserialize_compact(jwt, key)
+    except ImportError:
+        print("skipped: joserfc")
+    try:
+        from jwcrypto import jwk as keys
+        from jwcrypto import jws as tokens
+        shared = keys.JWK(kty="oct", k=TEXT)
+
+        def check():
+            token = tokens.JWS()
+            token.deserialize(jwt, shared)
+
+        yield "jwcrypto, signature alone", check
+    except ImportError:
+        print("skipped: jwcrypto")
+
+
+def main():
+    parser = argparse.ArgumentParser(description=__doc__, formatter_class=argparse.RawDescriptionHelpFormatter)
+    parser.add_argument("--program")
+    parser.add_argument("--seconds", type=float, default=2)
+    words = parser.parse_args()
+    token = sdjwt.issue(ORDER, seed=bytes(32))
+    shown = sdjwt.present({"keys": POLICY["keys"], "want": ORDER["hide"]}, token).encode()
+    text = json.dumps(POLICY).encode()
+    policy = sdjwt.Policy(POLICY)
+    print(f"a token of {len(shown)} bytes with 10 disclosures")
+    tell("Policy.verify", lambda: policy.verify(shown), words.seconds)
+    for threads in (2, 4):
+        print(f"Policy.verify on {threads} threads: {rate(lambda: policy.verify(shown), words.seconds, threads):,.0f} a second")
+    handle = policy._handles[0]
+    tell("the call of the library in it", lambda: sdjwt._library.verify_behind(handle, shown, 1_800_000_000), words.seconds)
+    tell("verify, the policy read each time", lambda: sdjwt.verify(text, shown), words.seconds)
+    for name, check in peers(shown.decode().split("~")[0]):
+        tell(name, check, words.seconds)
+    if words.program:
+        with tempfile.TemporaryDirectory() as made:
+            (Path(made) / "policy").write_bytes(text)
+            (Path(made) / "token").write_bytes(shown)
+            run = [words.program, "verify", "policy", "token"]
+
+            def run_program():
+                subprocess.run(run, cwd=made, check=True, stdout=subprocess.DEVNULL)
+
+            print(f"the program, one run a token: {rate(run_program, words.seconds):,.0f} a second")
+
+
+if __name__ == "__main__":
+    main()
