@@ -12,7 +12,7 @@ use Rattle.json_form.proofs.Tokens.{refused_long}
 use Rattle.claim_tree.specs.Tree.{Tree}
 use Rattle.marked_tree.specs.Marked.{Marked, strip}
 use Rattle.verifier_core.specs.declared.policy.Policy.{Policy}
-use Rattle.verifier_core.specs.RefusalText.{fault_text}
+use Rattle.compact_form.specs.RefusedText.{fault_text}
 use Rattle.verifier_core.specs.Verdict.{Fails}
 use Rattle.verifier_core.specs.Verdicts.{IsAcceptedAs}
 use Rattle.verifier_core.proofs.Verdicts.{file_lowest}

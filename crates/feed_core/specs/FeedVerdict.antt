@@ -6,7 +6,7 @@ use Rattle.compact_form.specs.declared.fault.Fault.{Fault}
 use Rattle.compact_form.specs.Lowest.{IsLowest}
 use Rattle.marked_tree.specs.Marked.{Marked, strip}
 use Rattle.verifier_core.specs.declared.policy.Policy.{Policy}
-use Rattle.verifier_core.specs.RefusalText.{fault_text}
+use Rattle.compact_form.specs.RefusedText.{fault_text}
 use Rattle.verifier_core.specs.Verdict.{Fails, IsAccepted}
 use Rattle.feed_core.specs.Cut.{with_end}
 

@@ -3,7 +3,7 @@ ghost use Rattle.std.specs.Prelude.{◌≡◌, ◌++◌, ℕ, List, IfOk, codes,
 ghost use Rattle.claim_tree.specs.JsonText.{json_text};
 ghost use Rattle.claim_tree.specs.Tree.{IsRanged};
 ghost use Rattle.claim_tree.specs.View.{tree_of};
-ghost use Rattle.verifier_core.specs.RefusalText.{fault_text};
+ghost use Rattle.compact_form.specs.RefusedText.{fault_text};
 ghost use Rattle.feed_core.specs.Cut.{with_end};
 ghost use Rattle.feed_core.specs.FeedVerdict.{TellsVerdict};
 

@@ -1,6 +1,6 @@
 use Rattle.std.proofs.Common.{◌≡◌, IfOk, string_bytes, subst}
 use Rattle.compact_form.specs.declared.fault.Fault.{Fault}
-use Rattle.verifier_core.specs.RefusalText.{fault_text}
+use Rattle.compact_form.specs.RefusedText.{fault_text}
 use Rattle.feed_core.specs.Cut.{with_end}
 use Rattle.feed_core.proofs.FeedVerdicts.{line_accepted, line_refused}
 use Rattle.feed_core.proofs.verdict_line.verdict_line.Goals as goal
