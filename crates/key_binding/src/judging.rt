@@ -147,7 +147,10 @@ fn check_header(
         payload,
         signature,
     } = bound.token;
-    let good = match key.as_key().check_text(alloc, protected, payload, signature) {
+    let good = match key
+        .as_key()
+        .check_text(alloc, protected, payload, signature)
+    {
         Ok(good) => good,
         Err(_) => return Err(BoundError::Memory),
     };

@@ -3,8 +3,8 @@ ghost use Rattle.std.specs.Prelude.{◌≡◌, string_bytes};
 ghost use Rattle.sdjwt_c.specs.Handed.{IsGiven, IsLeft};
 ghost use Rattle.sdjwt_c.specs.Results.{IsHanded};
 
-use sd_outside::Status;
 use cli_parts::Stop;
+use sd_outside::Status;
 
 // Writes the whole text, and answers the status; or nothing where there is no room for it.
 fn give(text: &str, told: Status, room: &mut [u8], len: &mut usize) -> Status

@@ -7,8 +7,7 @@ ghost use Rattle.cli_parts.specs.Telling.{TellsFileFault};
 
 use crate::handle::SdjwtPolicy;
 use crate::loose::Loose;
-use cli_parts::Stop;
-use cli_parts::policy_of;
+use cli_parts::{Stop, policy_of};
 use std::alloc::Global;
 use std::mem;
 use verifier_core::Policy;

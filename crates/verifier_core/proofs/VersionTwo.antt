@@ -127,8 +127,8 @@ module _ (one two : Text) (policy : Policy) (short : length two ≤ file_max) (s
       (λ a. ⊎_elim (λ is. ap known is)
       (λ b. ⊎_elim (λ is. ap known is)
       (λ c.
-          let there = named says.others name at in
-          is_known_name h.members name h.file.known (has_name h.members name there.0 (sym (of name a b c) ∙ there.1)))
+      let there = named says.others name at in
+      is_known_name h.members name h.file.known (has_name h.members name there.0 (sym (of name a b c) ∙ there.1)))
       (apart name (codes "binding"))) (apart name (codes "iss"))) (apart name (codes "version"))
 
   all_known : has_unknown policy_fields says.others ≡ false
