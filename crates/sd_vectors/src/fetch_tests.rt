@@ -103,9 +103,15 @@ fn each_file_is_fetched_once_and_the_answer_is_one_piece(rt: HostRuntime) -> Res
     for (words, wanted) in [
         ("split token", "0 1 0 token 16777217"),
         ("show token", "0 1 0 token 16777217"),
-        ("verify policy token", "0 1 0 policy 16777217 token 16777217"),
+        (
+            "verify policy token",
+            "0 1 0 policy 16777217 token 16777217",
+        ),
         ("issue order seed", "0 1 0 order 16777217 seed 32"),
-        ("present policy token", "0 1 0 policy 16777217 token 16777217"),
+        (
+            "present policy token",
+            "0 1 0 policy 16777217 token 16777217",
+        ),
         ("convert flat token", "0 1 0 token 16777217"),
         // a file that is refused is asked for no second time, and the next one is asked for all the same
         ("split bad", "1 0 1 bad 16777217"),
