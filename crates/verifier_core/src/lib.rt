@@ -26,6 +26,6 @@ pub use check::{Checked, CheckedMarks, CheckedPayload, VerifyError, check_token,
 pub use compact_form::fault_line;
 pub use content::Content;
 pub use policy::{Policy, SKEW_MAX, keys_member, read_policy};
-pub use policy_version::AUDIENCES_MAX;
+pub use policy_version::{AUDIENCES_MAX, PolicyVersion};
 pub use rules::Rules;
 pub use verdict::{Accepted, verify, verify_payload};

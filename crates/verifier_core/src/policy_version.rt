@@ -18,7 +18,7 @@ pub const AUDIENCES_MAX: usize = 16;
 
 /// The version of a policy file.
 #[derive(Clone, Copy, Debug, PartialEq, Eq)]
-pub(crate) enum PolicyVersion {
+pub enum PolicyVersion {
     /// It names one issuer and one audience.
     One,
     /// It lists them.

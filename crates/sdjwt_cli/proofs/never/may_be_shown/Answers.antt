@@ -7,5 +7,5 @@ use Rattle.sdjwt_cli.proofs.never.may_be_shown.Goals as goal
 pub returns : goal.returns
 returns c =
     let at = c.args.place.now in
-    let cases = cases_from_any _ _ _ (λ front. is_front front at ≡ true) (λ front. is_front front at ≡ true → ⊥) c.any.ensures.ran (YieldsList-from_slice c.paths.result.now c.iter.ensures.rest) (λ x q k. search (rules, tests)) (λ x q k. search (rules, tests)) in
+    let cases = cases_from_any _ _ _ (λ front. is_front front at ≡ true) (λ front. is_front front at ≡ true → ⊥) c.any.ensures.ran (YieldsList-from_slice c.elements.result.now c.iter.ensures.rest) (λ x q k. search (rules, tests)) (λ x q k. search (rules, tests)) in
     judged c.args.never.now at c.any.result (rw (c.elements.ensures) at cases)
