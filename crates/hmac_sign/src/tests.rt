@@ -79,7 +79,7 @@ fn codes_of_rfc_4231(rt: HostRuntime) {
     ] {
         for (alg, code) in [Alg::Hs256, Alg::Hs384, Alg::Hs512].into_iter().zip(codes) {
             let mac = hmac(alg, key, text);
-            assert_eq!(rt; &mac.bytes()[..code.len()], code, "{alg:?}");
+            assert!(rt; mac.bytes().starts_with(code), "{alg:?}");
             assert!(rt; alg != Alg::Hs256 || mac.bytes() == hmac_sha256(key, text).as_slice());
         }
     }
