@@ -1,5 +1,6 @@
 #!/bin/sh
-# Copies the built program, its manual page and its completions below a folder, and says what it did.
+# Copies the built programs, their manual pages and their completions below a folder, and says what it did: sdjwt, and
+# sdjwt_tools where it is built.
 #
 #   sh install.sh [--prefix DIR] [--dry-run]
 #
@@ -55,6 +56,16 @@ put 755 "$program" bin/sdjwt
 put 644 docs/sdjwt.1 share/man/man1/sdjwt.1
 put 644 completions/sdjwt.bash share/bash-completion/completions/sdjwt
 put 644 completions/_sdjwt share/zsh/site-functions/_sdjwt
+
+tools=crates/sdjwt_tools/out/sdjwt_tools
+if [ -x "$tools" ]; then
+    put 755 "$tools" bin/sdjwt_tools
+    put 644 docs/sdjwt_tools.1 share/man/man1/sdjwt_tools.1
+    put 644 completions/sdjwt_tools.bash share/bash-completion/completions/sdjwt_tools
+    put 644 completions/_sdjwt_tools share/zsh/site-functions/_sdjwt_tools
+else
+    echo "sdjwt_tools is not built yet: run 'rt run' in crates/sdjwt_tools for it, and then this again"
+fi
 
 case :${PATH:-}: in
     *:"$prefix/bin":*) ;;

@@ -11,7 +11,7 @@ use std::alloc::Global;
 const NOW: u64 = 1_700_000_000;
 
 /// The room on standard output where a row sets none, in bytes.
-const ROOM: usize = 2_200_000;
+const ROOM: usize = 17_000_000;
 
 /// The room for a line on standard error, in bytes.
 const LINE_ROOM: usize = 1_000;
