@@ -70,8 +70,8 @@ on_page() {
 # The numbers and the names of a file that gives both to each constructor.
 numbered() {
     awk '
-        $1 ~ "^((refusal|present)_)?number(_of)?$" && $NF ~ /^[0-9]+$/ { gsub(/[()]/, "", $2); number[$2] = $NF }
-        $1 ~ "^((refusal|present)_)?name(_of)?$" && $(NF - 1) == "codes" { gsub(/[()]/, "", $2); gsub(/"/, "", $NF); name[$2] = $NF }
+        $1 ~ "^(refusal_)?number(_of)?$" && $NF ~ /^[0-9]+$/ { gsub(/[()]/, "", $2); number[$2] = $NF }
+        $1 ~ "^(refusal_)?name(_of)?$" && $(NF - 1) == "codes" { gsub(/[()]/, "", $2); gsub(/"/, "", $NF); name[$2] = $NF }
         END { for (it in name) print number[it], name[it] }' "$@"
 }
 
@@ -91,9 +91,7 @@ readers() {
 
 in_code() {
     specs=$top/crates
-    numbered "$specs/compact_form/specs/Condition.antt"
-    numbered "$specs/issuer_core/specs/OrderRefusals.antt" "$specs/issuer_core/specs/RefusalLine.antt"
-    numbered "$specs/holder_core/specs/PresentRefusal.antt"
+    numbered "$specs/compact_form/specs/Condition.antt" "$specs/compact_form/specs/Refusal.antt"
     sed -n 's/^reason [A-Za-z]* = codes "\([A-Za-z]*\)"$/6 \1/p; s/^short_seed .*unreadable 2 \([a-z]*\).*/6 \1/p' \
         "$specs/cli_parts/specs/Lines.antt"
     sed -n 's/.*codes "refused \([0-9]* [A-Za-z]*\)".*/\1/p' "$specs/feed_core/specs/FeedRun.antt"
