@@ -13,6 +13,7 @@ use Rattle.serde_json.specs.declared.value.Value.{Value}
 use Rattle.claim_tree.specs.Tree.{Text, null, flag, whole, text, Tree, leaf, array, object, Elements, no_elements, element, Members, no_members, member, depth, elements_depth, members_depth, inserted, IsRanged, ElementsRanged, MembersRanged}
 use Rattle.claim_tree.specs.TreeCalls.{pushed}
 use Rattle.claim_tree.specs.JsonText.{data_of, elements_data, members_data}
+use Rattle.claim_tree.proofs.Lists.{or_right}
 
 abbrev pub Entry : Type 0
 Entry = String Global × Value
@@ -33,20 +34,16 @@ pub ElementsRanged-pushed : (es : Elements) (t : Tree) → ElementsRanged es →
 ElementsRanged-pushed no_elements t h r = (r, h)
 ElementsRanged-pushed (element u es) t h r = (h.0, ElementsRanged-pushed es t h.1 r)
 
-or_true : (a b : Bool) → b ≡ true → (a || b) ≡ true
-or_true true b e = refl
-or_true false b e = e
-
 -- a float in an element is one of the list
 pub items_have_float-at : (done : List Value) (v : Value) (more : List Value) → has_float (view v) ≡ true → items_have_float (items_view (done ++ v ∷ more)) ≡ true
 items_have_float-at [] v more h = rw h refl
-items_have_float-at (w ∷ done) v more h = or_true (has_float (view w)) _ (items_have_float-at done v more h)
+items_have_float-at (w ∷ done) v more h = or_right (has_float (view w)) _ (items_have_float-at done v more h)
 
 -- ---- objects
 
 pub members_have_float-at : (done : List Entry) (e : Entry) (more : List Entry) → has_float (view e.1) ≡ true → members_have_float (members_view (done ++ e ∷ more)) ≡ true
 members_have_float-at [] e more h = rw h refl
-members_have_float-at (d ∷ done) e more h = or_true (has_float (view d.1)) _ (members_have_float-at done e more h)
+members_have_float-at (d ∷ done) e more h = or_right (has_float (view d.1)) _ (members_have_float-at done e more h)
 
 ranged_by : (o : Ordering) (a b c : Members) → MembersRanged a → MembersRanged b → MembersRanged c → MembersRanged (match_ordering o a b c)
 ranged_by Less a b c ha hb hc = ha

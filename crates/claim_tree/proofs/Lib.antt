@@ -1,5 +1,6 @@
 pub mod Counting
 pub mod Lists
+pub mod TextElements
 pub mod Views
 pub mod MapPlaces
 pub mod Insertions

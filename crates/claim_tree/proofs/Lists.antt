@@ -1,10 +1,10 @@
 -- Elements of lists and tests on them, by cases on the list.
-use Rattle.std.proofs.Common.{◌≡◌, ℕ, zero, suc, ◌+◌, ◌<◌, List, [], ◌∷◌, ◌++◌, map, length, slice_get, get_or, Bool, true, false, ◌||◌, ◌&&◌, ◌⊎◌, inl, inr, ⊎_elim, Option, Some, None, refl, sym, ap, ◌∙◌, subst, arith}
+use Rattle.std.proofs.Common.{◌≡◌, ℕ, zero, suc, ◌+◌, ◌<◌, List, [], ◌∷◌, ◌++◌, map, length, take, slice_get, get_or, Bool, true, false, ◌||◌, ◌&&◌, ◌⊎◌, inl, inr, ⊎_elim, Option, Some, None, refl, sym, ap, ◌∙◌, subst, arith}
 use Rattle.std.specs.Prelude.{bytes_eq}
 use Rattle.std.specs.List.{list_any}
 use Rattle.std.proofs.lemmas.Slice.Eq.{bytes_eq-Decides}
 use Rattle.claim_tree.specs.Tree.{Text}
-use Rattle.claim_tree.specs.Lists.{StandsAt, In, Repeats, AtNone}
+use Rattle.claim_tree.specs.Lists.{StandsAt, In, Repeats, AtNone, IsLeast}
 
 pub bytes_same : (a b : Text) → bytes_eq a b ≡ true → a ≡ b
 bytes_same a b h = (bytes_eq-Decides a b).0 h
@@ -35,6 +35,14 @@ and_join false b h k = cc
 pub true_unless_false : (a : Bool) → (a ≡ false → ⊥) → a ≡ true
 true_unless_false true h = refl
 true_unless_false false h = absurd (h refl)
+
+pub false_unless_true : (a : Bool) → (a ≡ true → ⊥) → a ≡ false
+false_unless_true true h = absurd (h refl)
+false_unless_true false h = refl
+
+-- one of two numbers is less, or they are one
+pub compare_lt : (a b : ℕ) → (a < b) ⊎ ((a ≡ b) ⊎ (b < a))
+compare_lt a b = grind arith
 
 pub In-left : {X : Type 0} (x : X) (xs ys : List X) → In x xs → In x (xs ++ ys)
 In-left x (z ∷ xs) ys (inl e) = inl e
@@ -101,6 +109,22 @@ At-get_or (z ∷ zs) zero d h = refl
 At-get_or (z ∷ zs) (suc i) d h = At-get_or zs i d (omega arith)
 At-get_or [] i d h = absurd (omega arith)
 
+-- in a longer list, and in its front
+pub At-left : {X : Type 0} (xs ys : List X) (i : ℕ) (x : X) → StandsAt xs i x → StandsAt (xs ++ ys) i x
+At-left (z ∷ xs) ys zero x h = h
+At-left (z ∷ xs) ys (suc i) x h = At-left xs ys i x h
+At-left [] ys i x h = elim h [ ]
+
+pub At-right : {X : Type 0} (xs ys : List X) (i : ℕ) (x : X) → StandsAt ys i x → StandsAt (xs ++ ys) (length xs + i) x
+At-right [] ys i x h = let e : 0 + i ≡ i = omega arith in rw e h
+At-right (z ∷ xs) ys i x h = let e : suc (length xs) + i ≡ suc (length xs + i) = omega arith in rw e (At-right xs ys i x h)
+
+pub take-At : {X : Type 0} (xs : List X) (i j : ℕ) (x : X) → StandsAt xs j x → j < i → StandsAt (take i xs) j x
+take-At (z ∷ zs) (suc i) zero x h l = h
+take-At (z ∷ zs) (suc i) (suc j) x h l = take-At zs i j x h (omega arith)
+take-At (z ∷ zs) zero j x h l = absurd (omega arith)
+take-At [] i j x h l = elim h [ ]
+
 -- an element of an image, and of two lists in a row
 pub At-of_map : {X Y : Type 0} (f : X → Y) (xs : List X) (i : ℕ) (y : Y) → StandsAt (map f xs) i y → (x : X) × StandsAt xs i x × (y ≡ f x)
 At-of_map f (z ∷ zs) zero y h = (z, refl, h)
@@ -116,9 +140,6 @@ At-either (z ∷ xs) ys (suc i) x h = ⊎_elim (λ a. inl a) (λ b. inr (b.0, om
 pub one_place : (ds : List Text) → AtNone (Repeats ds) → (p q : ℕ) (d : Text) → StandsAt ds p d → StandsAt ds q d → p ≡ q
 one_place ds none p q d h k = go (compare_lt p q)
   where
-    compare_lt : (a b : ℕ) → (a < b) ⊎ ((a ≡ b) ⊎ (b < a))
-    compare_lt a b = grind arith
-
     go : (p < q) ⊎ ((p ≡ q) ⊎ (q < p)) → p ≡ q
     go (inl l) = absurd (none q (d, k, p, l, h))
     go (inr (inl e)) = e
@@ -133,6 +154,20 @@ same_by_image f xs none x y h k e =
     let v = At-map f xs b.0 y b.1 in
     let s = one_place (map f xs) none a.0 b.0 (f y) (subst (λ d. StandsAt (map f xs) a.0 d) e u) v in
     At-same xs b.0 x y (subst (λ i. StandsAt xs i x) s a.1) b.1
+
+-- there is one least number
+pub least_one : (Fails : ℕ → Type 0) (i j : ℕ) → IsLeast Fails i → IsLeast Fails j → i ≡ j
+least_one Fails i j this other = go (compare_lt i j)
+  where
+    go : (i < j) ⊎ ((i ≡ j) ⊎ (j < i)) → i ≡ j
+    go (inl less) = absurd (other.first i less this.fails)
+    go (inr (inl same)) = same
+    go (inr (inr more)) = absurd (this.first j more other.fails)
+
+pub list_any-from : {X : Type 0} (p : X → Bool) (xs : List X) (x : X) → In x xs → p x ≡ true → list_any p xs ≡ true
+list_any-from p (z ∷ xs) x (inl e) h = or_left (p z) (list_any p xs) (ap p (sym e) ∙ h)
+list_any-from p (z ∷ xs) x (inr m) h = or_right (p z) (list_any p xs) (list_any-from p xs x m h)
+list_any-from p [] x m h = elim m [ ]
 
 pub list_any-In : {X : Type 0} (p : X → Bool) (xs : List X) → list_any p xs ≡ true → (x : X) × In x xs × (p x ≡ true)
 list_any-In p [] h = cc

@@ -67,10 +67,15 @@ found_gap ms name (Err i) o within is =
     let parted = is (searchable_from_sorted order (λ (m : Entry). m.0) ms name (sorted ms o)) in
     record { within = within; before = λ k d l. parted.0 k d (omega arith) l; after = λ k d l h. parted.1 k d l h }
 
-is_less : (o : Ordering) → is_lt o ≡ true → o ≡ Less
+pub is_less : (o : Ordering) → is_lt o ≡ true → o ≡ Less
 is_less Less e = refl
 is_less Equal e = cc e
 is_less Greater e = cc e
+
+pub less_clash : (o : Ordering) → o ≡ Less → is_lt o ≡ false → ⊥
+less_clash Less e f = cc f
+less_clash Equal e f = cc e
+less_clash Greater e f = cc e
 
 before_last : (ms : List Entry) (name : Text) (m : Entry) → MembersOrdered (members_of ms) → ((d : Entry) → m ≡ get_or ms (length ms - 1) d) → cmp m.0 name ≡ Less → (k : ℕ) (d : Entry) → k < length ms → cmp (get_or ms k d).0 name ≡ Less
 before_last ms name m o is less k d within =

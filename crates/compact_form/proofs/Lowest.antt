@@ -14,7 +14,7 @@ use Rattle.compact_form.proofs.Numbers.{one_condition}
 abbrev pub Holds : (Condition → Place → Type 0) → Condition → Type 0
 Holds FailsSo c = (place : Place) → FailsSo c place → ⊥
 
-below_or_at : (number other : ℕ) → number ≤ other → (number < other) ⊎ (number ≡ other)
+pub below_or_at : (number other : ℕ) → number ≤ other → (number < other) ⊎ (number ≡ other)
 below_or_at number other h = grind arith
 
 at_or_above : (number other : ℕ) → number ≤ other → (number ≡ other → ⊥) → suc number ≤ other

@@ -1,24 +1,12 @@
 -- The first text that repeats an earlier one, and where it stands first.
 use Rattle.std.proofs.Common.{◌≡◌, ℕ, zero, suc, ◌<◌, ◌≤◌, ◌⊎◌, inl, inr, List, [], ◌∷◌, length, take, Bool, true, false, cond, Some, bytes_eq, refl, sym, subst, ◌∙◌, arith}
-use Rattle.std.specs.Prelude.{slice_get}
 use Rattle.std.proofs.lemmas.List.{length-take-le}
 use Rattle.claim_tree.specs.Tree.{Text}
 use Rattle.claim_tree.specs.Lists.{StandsAt, Repeats, AtNone}
-use Rattle.claim_tree.proofs.Lists.{bytes_refl, At-below, At-get, At-same}
+use Rattle.claim_tree.proofs.Lists.{bytes_refl, At-below, At-get, At-same, take-At}
 use Rattle.digest_index.specs.Index.{position_or_end}
-use Rattle.rebuild_core.proofs.Repeated.{place_there, repeats_there}
+use Rattle.rebuild_core.proofs.Repeated.{place_there, repeats_there, repeats_new}
 use Rattle.issuer_core.specs.Clash.{IsFirstClash}
-
-pub stands : {X : Type 0} (xs : List X) (i : ℕ) (x : X) → slice_get xs i ≡ Some x → StandsAt xs i x
-stands [] i x h = cc h
-stands (y ∷ ys) zero x h = let same : y ≡ x = cc h in sym same
-stands (y ∷ ys) (suc i) x h = stands ys i x h
-
-At-taken : {X : Type 0} (xs : List X) (j i : ℕ) (x : X) → StandsAt xs i x → i < j → StandsAt (take j xs) i x
-At-taken (y ∷ ys) (suc j) zero x h l = h
-At-taken (y ∷ ys) (suc j) (suc i) x h l = At-taken ys j i x h (omega arith)
-At-taken (y ∷ ys) zero i x h l = absurd (omega arith)
-At-taken [] j i x h l = elim h [ ]
 
 At-whole : {X : Type 0} (xs : List X) (j i : ℕ) (x : X) → StandsAt (take j xs) i x → StandsAt xs i x
 At-whole (y ∷ ys) (suc j) zero x h = h
@@ -50,17 +38,11 @@ clash_at ds j i d at is less none =
         first = λ q before equal.
             let same : equal.text ≡ d = At-same ds j equal.text d equal.again at in
             let stands_too : StandsAt ds q d = subst (λ t. StandsAt ds q t) same equal.here in
-            omega (arith, is, before, place_least (take j ds) q d (At-taken ds j q d stands_too (omega (arith, before, less))));
+            omega (arith, is, before, place_least (take j ds) q d (take-At ds j q d stands_too (omega (arith, before, less))));
       };
     }
 
 -- ---- where none is the first
-
-not_below : (ds : List Text) (n : ℕ) (d : Text) → StandsAt ds n d → n ≤ position_or_end d (take n ds) → Repeats ds n → ⊥
-not_below ds n d at more (text, here, earlier, before, there) =
-    let same : text ≡ d = At-same ds n text d here at in
-    let stands_too : StandsAt ds earlier d = subst (λ t. StandsAt ds earlier t) same there in
-    omega (arith, more, before, place_least (take n ds) earlier d (At-taken ds n earlier d stands_too before))
 
 one_further : (ds : List Text) → ((i j : ℕ) → IsFirstClash ds i j → ⊥) → (n : ℕ) (d : Text) → StandsAt ds n d → ((p : ℕ) → p < n → Repeats ds p → ⊥) → (q : ℕ) → q < suc n → Repeats ds q → ⊥
 one_further ds none n d at before q less r = go (either (position_or_end d (take n ds)) n) (sooner q n less)
@@ -74,7 +56,7 @@ one_further ds none n d at before q less r = go (either (position_or_end d (take
     go : (position_or_end d (take n ds) < n) ⊎ (n ≤ position_or_end d (take n ds)) → (q < n) ⊎ (q ≡ n) → ⊥
     go (inl below) s = none (position_or_end d (take n ds)) n (clash_at ds n (position_or_end d (take n ds)) d at refl below before)
     go (inr more) (inl s) = before q s r
-    go (inr more) (inr e) = not_below ds n d at more (subst (Repeats ds) e r)
+    go (inr more) (inr e) = repeats_new ds n d at more (subst (Repeats ds) e r)
 
 first_repeats : (ds : List Text) → ((i j : ℕ) → IsFirstClash ds i j → ⊥) → (n : ℕ) → n ≤ length ds → (q : ℕ) → q < n → Repeats ds q → ⊥
 first_repeats ds none zero l q less r = omega (arith, less)

@@ -275,14 +275,14 @@ module _ (seed : List ℕ) (o : Order) (body : Tree) (texts digests : List Text)
 
 -- ---- words
 
+pub with_alg_object : (hash : HashAlg) (t : Tree) → IsObject t → IsObject (with_alg hash t)
+with_alg_object hash (object ms) h = tt
+with_alg_object hash (leaf l) h = absurd h
+with_alg_object hash (array es) h = absurd h
+
 pub body_object : (seed : List ℕ) (o : Order) (body : Tree) (texts digests : List Text) → IsGoodOrder o → IsLaidFor (maker_of seed) o body texts digests → IsObject body
 body_object seed o body texts digests good laid =
-    subst IsObject (sym laid.payload_is) (with_alg_object laid.laid (payload_object (maker_of seed) o laid.laid laid.given laid.dg good laid.is_laid))
-  where
-    with_alg_object : (t : Tree) → IsObject t → IsObject (with_alg o.hash t)
-    with_alg_object (object ms) h = tt
-    with_alg_object (leaf l) h = absurd h
-    with_alg_object (array es) h = absurd h
+    subst IsObject (sym laid.payload_is) (with_alg_object o.hash laid.laid (payload_object (maker_of seed) o laid.laid laid.given laid.dg good laid.is_laid))
 
 disclosure_word : (salt : Tree) (name : Option Text) (value : Tree) → IsWord (disclosure_text salt name value)
 disclosure_word salt None value = IsWord-b64 (json_text (array_of salt None value)) (omega arith)

@@ -18,10 +18,10 @@ use Rattle.issuer_core.specs.GoodOrder.{IsGoodOrder}
 use Rattle.issuer_core.specs.Issued.{HasDigestLists, IsIssuedFor, occurs}
 use Rattle.issuer_core.specs.Laws.{IssuedIsSound}
 use Rattle.issuer_core.specs.Order.{Order}
-use Rattle.claim_tree.proofs.Lists.{In-At, bytes_refl, bytes_same}
+use Rattle.claim_tree.proofs.Lists.{In-At, bytes_refl, bytes_same, At-left}
 use Rattle.marked_tree.proofs.MarkFacts.{mark_strips_holds, marks_once_holds}
 use Rattle.marked_tree.proofs.SpotMarks.{way_with}
-use Rattle.rebuild_core.proofs.AllShown.{At-left, shown_is_sound_holds}
+use Rattle.rebuild_core.proofs.AllShown.{shown_is_sound_holds}
 use Rattle.issuer_core.proofs.LaidIssued.{issued}
 
 -- ---- lists that have each text as often

@@ -9,8 +9,7 @@ use Rattle.marked_tree.specs.Paths.{Path}
 use Rattle.rebuild_core.specs.Reached.{given_digests}
 use Rattle.issuer_core.specs.Closing.{ClosesFrom, ElementsClose, HasNumber, MembersClose, one}
 use Rattle.issuer_core.specs.Laid.{laid_elements, laid_given, laid_members, lay, own_given}
-use Rattle.claim_tree.proofs.Lists.{At-either}
-use Rattle.rebuild_core.proofs.AllShown.{At-left, At-right}
+use Rattle.claim_tree.proofs.Lists.{At-either, At-left, At-right}
 use Rattle.rebuild_core.proofs.Fixed.{find_at}
 use Rattle.issuer_core.proofs.Closing.{items_length, own_items_length}
 use Rattle.issuer_core.proofs.LaidOpens.{ElementsHaveItems, HasItems, MarkItem, MembersHaveItems, NoneFound, elements_mark_depth, mark_depth, members_mark_depth, one_deeper}

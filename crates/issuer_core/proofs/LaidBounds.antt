@@ -15,6 +15,7 @@ use Rattle.issuer_core.specs.Order.{Order}
 use Rattle.claim_tree.proofs.Datas.{MembersRanged-inserted}
 use Rattle.claim_tree.proofs.Lists.{In-append}
 use Rattle.marked_tree.proofs.MarkFacts.{mark_strips_holds}
+use Rattle.claim_tree.proofs.TextElements.{texts_depth, texts_ranged}
 
 -- ---- depths
 
@@ -26,10 +27,6 @@ inserted_depth (member l u ms) n t c h k = go (slice_cmp nat_cmp l n) (inserted_
     go Less ih = omega (arith, ih, k)
     go Equal ih = omega (arith, h, k)
     go Greater ih = omega (arith, h, k)
-
-texts_depth : (ds : List Text) → elements_depth (text_elements ds) ≡ 0
-texts_depth [] = refl
-texts_depth (d ∷ ds) = omega (arith, texts_depth ds)
 
 digests_depth : (ds : List Text) → elements_depth (digest_elements ds) ≤ 1
 digests_depth [] = omega arith
@@ -62,10 +59,6 @@ mutual
 with_sd_ranged : (ds : List Text) (ms : Members) → MembersRanged ms → MembersRanged (with_sd ds ms)
 with_sd_ranged [] ms h = h
 with_sd_ranged (d ∷ ds) ms h = MembersRanged-inserted ms sd_name (array (text_elements (d ∷ ds))) h (texts_ranged (d ∷ ds))
-  where
-    texts_ranged : (ds : List Text) → ElementsRanged (text_elements ds)
-    texts_ranged [] = tt
-    texts_ranged (d ∷ ds) = (tt, texts_ranged ds)
 
 digests_ranged : (ds : List Text) → ElementsRanged (digest_elements ds)
 digests_ranged [] = tt

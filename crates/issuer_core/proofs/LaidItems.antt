@@ -12,14 +12,14 @@ use Rattle.issuer_core.specs.IssueCalls.{AllDiffer}
 use Rattle.issuer_core.specs.GoodOrder.{IsGoodOrder}
 use Rattle.issuer_core.specs.Laid.{IsLaid}
 use Rattle.issuer_core.specs.Order.{Order}
-use Rattle.claim_tree.proofs.Lists.{At-below, At-either, At-of_map}
-use Rattle.rebuild_core.proofs.AllShown.{At-left}
+use Rattle.claim_tree.proofs.Lists.{At-below, At-either, At-of_map, At-left}
 use Rattle.rebuild_core.proofs.Found.{found}
 use Rattle.issuer_core.proofs.Closing.{items_length, order_closes, order_marks}
 use Rattle.issuer_core.proofs.DecoyPlaces.{in_decoys}
 use Rattle.issuer_core.proofs.ItemNumbers.{depth_within, has_items, items_numbered}
 use Rattle.issuer_core.proofs.LaidOpens.{NoneFound, laid_opens}
 use Rattle.issuer_core.proofs.Plain.{marked_plain}
+use Rattle.rebuild_core.proofs.Repeated.{length-digests}
 
 module _ (mk : Maker) (o : Order) (p : Tree) (g : List Given) (dg : ℕ → Text) (good : IsGoodOrder o) (laid : IsLaid mk o p g dg) (differ : AllDiffer dg (hidden_of o + length (decoys_of o))) where
   abbrev n : ℕ
@@ -44,10 +44,6 @@ module _ (mk : Maker) (o : Order) (p : Tree) (g : List Given) (dg : ℕ → Text
   numbered_at f k (q ∷ qs) (suc i) d h = let w = numbered_at f (suc k) qs i d h in (omega (arith, w.0), w.1 ∙ ap f (let e : suc k + i ≡ k + suc i = omega arith in e))
   numbered_at f k [] i d h = elim h [ ]
 
-  given_length : (g : List Given) → length (given_digests g) ≡ length g
-  given_length [] = refl
-  given_length (x ∷ g) = omega (arith, given_length g)
-
   -- the digest at each place is that of its number
   issued_at : (q : ℕ) (d : Text) → StandsAt (issued_digests mk o g) q d → (q < n + length (decoys_of o)) × (d ≡ dg q)
   issued_at q d h =
@@ -55,7 +51,7 @@ module _ (mk : Maker) (o : Order) (p : Tree) (g : List Given) (dg : ℕ → Text
       (λ a. let w = At-of_map (λ (x : Given). x.digest) g q d a in (omega (arith, At-below g q w.0 w.1, laid_count), w.2 ∙ digest_is q w.0 w.1))
       (λ b.
       let w = numbered_at (λ k. mk.digest o.hash (mk.piece k)) n (decoys_of o) b.0 d b.2 in
-      let e : n + b.0 ≡ q = omega (arith, b.1, given_length g, laid_count) in
+      let e : n + b.0 ≡ q = omega (arith, b.1, length-digests g, laid_count) in
       (omega (arith, w.0, e), w.1 ∙ sym (laid.decoys b.0 w.0) ∙ ap dg e))
       (At-either (given_digests g) (decoy_digests mk o) q d h)
 

@@ -18,12 +18,12 @@ use Rattle.issuer_core.specs.Decoys.{decoys_at}
 use Rattle.issuer_core.specs.IssueCalls.{AllDiffer}
 use Rattle.issuer_core.specs.Issued.{HasDigestLists, IsDigestList, Rises}
 use Rattle.issuer_core.specs.Laid.{digest_elements, digest_object, hidden_digests, laid_elements, laid_given, laid_members, lay, lay_elements, lay_members, own_given, sorted, sorted_with, with_sd}
-use Rattle.claim_tree.proofs.Lists.{In-append}
-use Rattle.marked_tree.proofs.Puts.{IsBeforeAll-weaker, after_turned}
+use Rattle.claim_tree.proofs.Lists.{In-append, compare_lt}
 use Rattle.rebuild_core.proofs.Sums.{Apart}
 use Rattle.issuer_core.proofs.DecoyPlaces.{in_decoys}
 use Rattle.issuer_core.proofs.PutSwaps.{sort_in}
 use Rattle.issuer_core.proofs.SdMembers.{texts_are}
+use Rattle.claim_tree.proofs.MapPlaces.{before_after, before_through}
 
 -- ---- sorting
 
@@ -41,9 +41,9 @@ insert_rises d [] r out = (tt, tt)
 insert_rises d (e ∷ es) r out = go (slice_cmp nat_cmp d e) refl (insert_rises d es r.1 (λ m. out (inr m)))
   where
     go : (o : Ordering) → slice_cmp nat_cmp d e ≡ o → Rises (sorted_with d es) → Rises (match_ordering o (d ∷ e ∷ es) (d ∷ e ∷ es) (e ∷ sorted_with d es))
-    go Less c ih = ((c, IsBeforeAll-weaker d e es c r.0), r)
+    go Less c ih = ((c, before_through d e es c r.0), r)
     go Equal c ih = absurd (out (inl (exact_bytes d e c)))
-    go Greater c ih = (insert_after e d es (after_turned d e c) r.0, ih)
+    go Greater c ih = (insert_after e d es (before_after d e c) r.0, ih)
 
 sort_rises : (ds : List Text) → Apart ds → Rises (sorted ds)
 sort_rises [] a = tt
@@ -91,11 +91,8 @@ digest_lists d = ((λ e. let f : bytes_eq dots_name sd_name ≡ false = dots_not
 
 module _ (dg : ℕ → Text) (n c : ℕ) (differ : AllDiffer dg (n + c)) where
   not_same : (i j : ℕ) → i < n + c → j < n + c → dg i ≡ dg j → i ≡ j
-  not_same i j a b e = go (order i j)
+  not_same i j a b e = go (compare_lt i j)
     where
-      order : (i j : ℕ) → (i < j) ⊎ ((i ≡ j) ⊎ (j < i))
-      order i j = grind arith
-
       go : (i < j) ⊎ ((i ≡ j) ⊎ (j < i)) → i ≡ j
       go (inl l) = absurd (differ i j l b e)
       go (inr (inl q)) = q

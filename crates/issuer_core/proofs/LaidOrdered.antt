@@ -15,10 +15,7 @@ use Rattle.issuer_core.specs.Laws.{LaidIsReadable}
 use Rattle.claim_tree.proofs.Lists.{In-append}
 use Rattle.claim_tree.proofs.MapPlaces.{ordered-inserted}
 use Rattle.issuer_core.proofs.Plain.{ElementsPlain, IsPlain, MembersPlain, marked_plain}
-
-texts_ordered : (ds : List Text) → ElementsOrdered (text_elements ds)
-texts_ordered [] = tt
-texts_ordered (d ∷ ds) = (tt, texts_ordered ds)
+use Rattle.claim_tree.proofs.TextElements.{texts_ordered}
 
 decoys_ordered : (ds : List Text) → ElementsOrdered (digest_elements ds)
 decoys_ordered [] = tt

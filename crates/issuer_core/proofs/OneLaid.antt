@@ -12,8 +12,7 @@ use Rattle.issuer_core.specs.Digests.{Maker, hidden_of, marked_claims}
 use Rattle.issuer_core.specs.Laid.{laid_elements, laid_given, laid_members, lay, own_given, order_decoys, IsLaid}
 use Rattle.marked_tree.specs.Ways.{weight, mark_weight}
 use Rattle.issuer_core.specs.Closing.{one, HasNumber, ClosesFrom, ElementsClose, MembersClose}
-use Rattle.claim_tree.proofs.Lists.{At-get}
-use Rattle.rebuild_core.proofs.AllShown.{At-left, At-right}
+use Rattle.claim_tree.proofs.Lists.{At-get, At-left, At-right}
 use Rattle.issuer_core.proofs.Agrees.{MarkAgrees, MarksAgree, ElementsAgree, MembersAgree, DecoysAgree, lay_agrees, items_agree}
 use Rattle.issuer_core.proofs.Closing.{own_items_length, items_length, order_closes, order_marks}
 

@@ -13,23 +13,13 @@ use Rattle.issuer_core.specs.Clash.{IsEqualAt, IsFirstClash}
 use Rattle.issuer_core.specs.OrderRefusals.{issue_number, refusal_place, IsLowestRefusal}
 use Rattle.issuer_core.specs.Issue.{laid_digests, ClashesAt, AppliesToIssue}
 use Rattle.issuer_core.proofs.FromLaid.{one_list}
-
-one_least : (Fails : ℕ → Type 0) (i j : ℕ) → IsLeast Fails i → IsLeast Fails j → i ≡ j
-one_least Fails i j this other = go (either i j)
-  where
-    either : (a b : ℕ) → (a < b) ⊎ ((b < a) ⊎ (a ≡ b))
-    either a b = grind arith
-
-    go : (i < j) ⊎ ((j < i) ⊎ (i ≡ j)) → i ≡ j
-    go (inl less) = absurd (other.first i less this.fails)
-    go (inr (inl more)) = absurd (this.first j more other.fails)
-    go (inr (inr same)) = same
+use Rattle.claim_tree.proofs.Lists.{least_one}
 
 one_first_clash : (texts : List Text) (i j k l : ℕ) → IsFirstClash texts i j → IsFirstClash texts k l → (i ≡ k) × (j ≡ l)
 one_first_clash texts i j k l this other =
-    let later : j ≡ l = one_least _ j l this.later other.later in
+    let later : j ≡ l = least_one _ j l this.later other.later in
     let earlier : IsLeast (IsEqualAt texts l) i = subst (λ q. IsLeast (IsEqualAt texts q) i) later this.earlier in
-    (one_least (IsEqualAt texts l) i k earlier other.earlier, later)
+    (least_one (IsEqualAt texts l) i k earlier other.earlier, later)
 
 module _ (maker : Maker) (o : Order) where
   one_clash : (i j k l : ℕ) → ClashesAt maker o i j → ClashesAt maker o k l → (i ≡ k) × (j ≡ l)

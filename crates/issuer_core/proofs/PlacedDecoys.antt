@@ -7,10 +7,9 @@ use Rattle.std.proofs.lemmas.Bool.{leb-true, le-leb}
 use Rattle.std.specs.List.Sorted.{IsPartitionedBy}
 use Rattle.claim_tree.specs.Tree.{Text}
 use Rattle.claim_tree.proofs.Lists.{bytes_refl}
-use Rattle.claim_tree.proofs.MapPlaces.{same_name}
+use Rattle.claim_tree.proofs.MapPlaces.{same_name, before_after}
 use Rattle.marked_tree.specs.Paths.{Path, same_path}
 use Rattle.marked_tree.specs.Rests.{rests, step_order, path_order, AreSorted, Every, Compares, IsRunOfPaths}
-use Rattle.marked_tree.proofs.Names.{turned}
 use Rattle.marked_tree.proofs.Lookups.{apart, apart_back}
 use Rattle.marked_tree.proofs.PathOrder.{at_end, goes_on, sorted_pair, rest_whole}
 use Rattle.issuer_core.specs.Laying.{digests_on_path}
@@ -24,7 +23,7 @@ module _ (depth : ℕ) (step : Text) (q : Path) where
 
   back_differs : (x : Path) → step_order x step ≡ Greater → same_path x (step ∷ q) ≡ false
   back_differs [] e = cc
-  back_differs (k ∷ t) e = rw (apart_back step k (turned k step e)) refl
+  back_differs (k ∷ t) e = rw (apart_back step k (before_after k step e)) refl
 
   skip_front : (n : ℕ) (xs : List Path) (ds : List Text) → Every (Compares Less depth step) (take n xs)
       → digests_on_path (rests depth xs) ds (step ∷ q) ≡ digests_on_path (rests depth (drop n xs)) (drop n ds) (step ∷ q)

@@ -41,7 +41,7 @@ use Rattle.disclosure.specs.Digest.{hash_name, hash_of}
 use Rattle.disclosure.specs.declared.digests.HashAlg.{HashAlg}
 use Rattle.issuer_core.proofs.LaidBounds.{inserted_depth, payload_depth, value_depth, payload_ranged, value_ranged}
 use Rattle.issuer_core.proofs.LaidOrdered.{laid_is_readable_holds}
-use Rattle.issuer_core.proofs.FromLaid.{with_alg_ranged}
+use Rattle.issuer_core.proofs.FromLaid.{with_alg_ranged, with_alg_object}
 use Rattle.issuer_core.proofs.WithAlg.{with_alg_ordered, payload_object}
 use Rattle.issuer_core.proofs.WrittenTexts.{AllTexts, GivenTexts, held_texts, lay_texts, items_texts, with_alg_texts}
 
@@ -170,13 +170,8 @@ module _ (seed : List ℕ) (o : Order) (p : Tree) (g : List Given) (dg : ℕ →
       let low = payload_depth (maker_of seed) o p g dg laid in
       let shallow = writable.good.shallow in
       let carried = carried_back part (with_alg o.hash p) is (with_alg_texts o.hash p payload_texts) (with_alg_ranged o.hash p (payload_ranged (maker_of seed) o p g dg laid writable.ranged)) (with_alg_ordered o.hash p readable.in_payload) (with_alg_depth o.hash p 126 (omega (arith, low, shallow))) in
-      body_of_object (with_alg o.hash p) (with_alg_is_object p is_object) carried
+      body_of_object (with_alg o.hash p) (with_alg_object o.hash p is_object) carried
     where
-      with_alg_is_object : (t : Tree) → IsObject t → IsObject (with_alg o.hash t)
-      with_alg_is_object (object ms) h = tt
-      with_alg_is_object (leaf l) h = absurd h
-      with_alg_is_object (array es) h = absurd h
-
       body_of_object : (t : Tree) → IsObject t → Carries part t → IsBody part t
       body_of_object (object ms) h c = record { members = ms; is_object = refl; carried = c }
       body_of_object (leaf l) h c = absurd h

@@ -33,13 +33,6 @@ found_here name t e = rw e refl
 pub found_inside : (name : Text) (t : spec.Tree) → is_reserved name ≡ false → slice_get (places_at name t) 0 ≡ option_map (λ p. name ∷ p) (slice_get (reserved_paths t) 0)
 found_inside name t e = rw e (first_map (λ (p : Path). name ∷ p) (reserved_paths t))
 
-pub step_behind : {X : Type 0} (xs : List X) (x : X) → reverse (xs ++ x ∷ []) ≡ x ∷ reverse xs
-step_behind xs x = reverse-append xs (x ∷ [])
-
-pub stepped : {V : Type 0} (f : V → Path) (step : Text) (o : Option V) → option_map (λ s. step ∷ f s) o ≡ option_map (λ p. step ∷ p) (option_map f o)
-stepped f step None = refl
-stepped f step (Some s) = refl
-
 -- ---- an object
 
 abbrev pub every : Text → Bool

@@ -9,8 +9,8 @@ use Rattle.claim_tree.specs.FileForms.{text_elements}
 use Rattle.claim_tree.specs.Tree.{Text, Members, array, inserted}
 use Rattle.digest_sites.specs.Reserved.{sd_name}
 use Rattle.claim_tree.proofs.Lists.{bytes_refl, bytes_same}
-use Rattle.claim_tree.proofs.MapPlaces.{cmp, order, same_name}
-use Rattle.marked_tree.proofs.Names.{turned, tie_turned}
+use Rattle.claim_tree.proofs.MapPlaces.{cmp, order, same_name, before_after, less_clash}
+use Rattle.marked_tree.proofs.Names.{tie_turned}
 use Rattle.marked_tree.proofs.Lookups.{apart, apart_back}
 use Rattle.issuer_core.specs.Laid.{sorted, sorted_with, with_sd}
 
@@ -23,7 +23,7 @@ tie_is x y = go (cmp x y) refl
     go : (o : Ordering) → cmp x y ≡ o → (not (is_lt o) && not (is_lt (cmp y x))) ≡ bytes_eq y x
     go Less e = sym (apart_back x y e)
     go Equal e = rw (tie_turned x y e) (sym (bytes_refl y x (sym (same_name x y e))))
-    go Greater e = rw (turned x y e) (sym (apart y x (turned x y e)))
+    go Greater e = rw (before_after x y e) (sym (apart y x (before_after x y e)))
 
 -- ---- texts that do not fall
 
@@ -37,12 +37,7 @@ Rising (x ∷ xs) = NoneBelow x xs × Rising xs
 
 none_below : (x : Text) (xs : List Text) → ((k : ℕ) (d : Text) → k < length xs → is_lt (cmp (get_or xs k d) x) ≡ false) → NoneBelow x xs
 none_below x [] all = tt
-none_below x (y ∷ ys) all = (λ g. clash (cmp y x) (turned x y g) (all 0 y (omega arith)), none_below x ys (λ k d l. all (suc k) d (omega (arith, l))))
-  where
-    clash : (o : Ordering) → o ≡ Less → is_lt o ≡ false → ⊥
-    clash Less e f = cc
-    clash Equal e f = cc
-    clash Greater e f = cc
+none_below x (y ∷ ys) all = (λ g. less_clash (cmp y x) (before_after x y g) (all 0 y (omega arith)), none_below x ys (λ k d l. all (suc k) d (omega (arith, l))))
 
 rising_pairs : (xs : List Text) → ((i j : ℕ) (d : Text) → i ≤ j → j < length xs → is_lt (cmp (get_or xs j d) (get_or xs i d)) ≡ false) → Rising xs
 rising_pairs [] all = tt
@@ -94,7 +89,7 @@ with_rising d (e ∷ ds) r = go (cmp d e) refl (with_rising d ds r.1)
     go : (o : Ordering) → cmp d e ≡ o → Rising (sorted_with d ds) → Rising (match_ordering o (d ∷ e ∷ ds) (d ∷ e ∷ ds) (e ∷ sorted_with d ds))
     go Less c ih = ((λ g. let w : Less ≡ Greater = sym c ∙ g in cc, below_all d e ds (λ g. let w : Less ≡ Greater = sym c ∙ g in cc) r.0), r)
     go Equal c ih = ((λ g. let w : Equal ≡ Greater = sym c ∙ g in cc, below_all d e ds (λ g. let w : Equal ≡ Greater = sym c ∙ g in cc) r.0), r)
-    go Greater c ih = (with_below e d ds (λ g. let w : Less ≡ Greater = sym (turned d e c) ∙ g in cc) r.0, ih)
+    go Greater c ih = (with_below e d ds (λ g. let w : Less ≡ Greater = sym (before_after d e c) ∙ g in cc) r.0, ih)
 
 sorted_rising : (ds : List Text) → Rising (sorted ds)
 sorted_rising [] = tt
@@ -158,7 +153,7 @@ one_rising (y ∷ ys) (z ∷ zs) r s same = go (cmp y z) refl (λ tails. one_ris
   where
     go : (o : Ordering) → cmp y z ≡ o → (((x : Text) → same_as x ys ≡ same_as x zs) → ys ≡ zs) → y ∷ ys ≡ z ∷ zs
     go Less c ih = absurd (let w : y ∷ same_as y ys ≡ [] = sym (itself y ys) ∙ same y ∙ none_same y (z ∷ zs) (c, later y z zs c s.0) in cc)
-    go Greater c ih = let d = turned y z c in absurd (let w : z ∷ same_as z zs ≡ [] = sym (itself z zs) ∙ sym (same z) ∙ none_same z (y ∷ ys) (d, later z y ys d r.0) in cc)
+    go Greater c ih = let d = before_after y z c in absurd (let w : z ∷ same_as z zs ≡ [] = sym (itself z zs) ∙ sym (same z) ∙ none_same z (y ∷ ys) (d, later z y ys d r.0) in cc)
     go Equal c ih =
         let one = same_name y z c in
         let tails : ys ≡ zs = ih (λ x. tail_same (ties lower x y) y (same_as x ys) (same_as x zs) (same x ∙ ap (λ (w : Text). cond (ties lower x w) (w ∷ same_as x zs) (same_as x zs)) (sym one))) in

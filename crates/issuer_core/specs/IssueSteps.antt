@@ -16,7 +16,7 @@ use Rattle.jws_part.specs.Header.{header_members}
 use Rattle.compact_form.specs.declared.parts.JwtParts.{JwtParts}
 
 -- for private functions: the JWT is written with this header and this payload, and signed
-pub record IsSigned (header : Header) (good : Meaning) (body : Tree) (jwt : JwtParts) : Type 0 where
+pub record IsSignedJwt (header : Header) (good : Meaning) (body : Tree) (jwt : JwtParts) : Type 0 where
   pub protected : jwt.protected ≡ b64 (json_text (object (header_members header)))
   pub payload : jwt.payload ≡ b64 (json_text body)
   pub signature : List ℕ
@@ -26,7 +26,7 @@ pub record IsSigned (header : Header) (good : Meaning) (body : Tree) (jwt : JwtP
 
 -- for private functions: the parts are such a JWT and these disclosures
 pub record AreSigned (header : Header) (good : Meaning) (body : Tree) (texts : List Text) (parts : Parts) : Type 0 where
-  pub jwt : IsSigned header good body parts.signed
+  pub jwt : IsSignedJwt header good body parts.signed
   pub disclosures : parts.disclosures ≡ texts
   pub unbound : parts.binding ≡ None
 

@@ -15,7 +15,7 @@ ghost use Rattle.b64url_text.specs.Base64url.{IsWord};
 ghost use Rattle.issuer_core.specs.Written.{header_of};
 ghost use Rattle.issuer_core.specs.GoodOrder.{IsObject, IsWritable};
 ghost use Rattle.issuer_core.specs.Issue.{HasNoClash};
-ghost use Rattle.issuer_core.specs.IssueSteps.{IsUnsigned, HasClash, IsFinished, IsUnfinished, IsSigned};
+ghost use Rattle.issuer_core.specs.IssueSteps.{IsUnsigned, HasClash, IsFinished, IsUnfinished, IsSignedJwt};
 ghost use Rattle.issuer_core.specs.IssueCalls.{IsNotIssued};
 ghost use Rattle.compact_form.specs.Lowest.{NoneApplies};
 ghost use Rattle.issuer_core.specs.OrderRefusals.{AppliesToOrder};
@@ -141,7 +141,7 @@ fn sign_laid<S: Signer>(
     signer: &mut S,
 ) -> Result<JwtParts, IssueError>
     requires ranged { IsRanged (tree_of laid.now.payload) }
-    ensures signed { IfOk result (IsSigned header.now (S.good signer.old) (tree_of laid.now.payload)) }
+    ensures signed { IfOk result (IsSignedJwt header.now (S.good signer.old) (tree_of laid.now.payload)) }
     ensures differ { OnOk result (AtNone (Repeats laid.now.digests)) }
     ensures unsigned { IfErr result (λ e. HasClash laid.now.digests e ⊎ (AtNone (Repeats laid.now.digests) × IsUnsigned e)) }
     ensures failed { IsErrOf result IssueError.SignFailed → Rose (S.faults signer.old) (S.faults signer.new) }
@@ -174,7 +174,7 @@ fn sign_body<S: Signer>(
     signer: &mut S,
 ) -> Result<JwtParts, IssueError>
     requires ranged { IsRanged (tree_of body.now) }
-    ensures signed { IfOk result (IsSigned header.now (S.good signer.old) (tree_of body.now)) }
+    ensures signed { IfOk result (IsSignedJwt header.now (S.good signer.old) (tree_of body.now)) }
     ensures unsigned { IfErr result (IsUnsigned) }
     ensures failed { IsErrOf result IssueError.SignFailed → Rose (S.faults signer.old) (S.faults signer.new) }
     ensures same_good { Agree (S.good signer.new) (S.good signer.old) }

@@ -34,6 +34,7 @@ use Rattle.json_form.specs.Printable.{IsPrintable}
 use Rattle.json_form.proofs.Lines.{read_json_text}
 use Rattle.json_form.proofs.Tokens.{read_plainly}
 use Rattle.json_form.proofs.WrittenForms.{entry_words, flat_ranged, flat_depth, flat_says, general_ranged, general_depth, general_says}
+use Rattle.claim_tree.proofs.TextElements.{texts_ordered}
 
 -- ---- letters stand for themselves
 
@@ -247,10 +248,6 @@ within_general parts words =
     record { utf8 = whole.utf8; short = omega (arith, whole.short, compact_length parts) }
 
 -- ---- they are read
-
-texts_ordered : (texts : List Text) → ElementsOrdered (text_elements texts)
-texts_ordered [] = tt
-texts_ordered (s ∷ texts) = (tt, texts_ordered texts)
 
 header_ordered : (parts : Parts) → MembersOrdered (written_header (alone parts))
 header_ordered parts = go parts.binding

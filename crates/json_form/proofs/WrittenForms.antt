@@ -24,16 +24,9 @@ use Rattle.json_form.specs.Json.{found_part, IsWordTree, AreWordTrees, IsJwtTree
 use Rattle.json_form.specs.MembersRead.{HasEntries, itself, listed, MembersSay}
 use Rattle.json_form.specs.Written.{with_binding, written_header, flat_members, flat_of, entry_of, general_members, general_of}
 use Rattle.json_form.specs.Printable.{IsPrintable}
+use Rattle.claim_tree.proofs.TextElements.{texts_depth, texts_ranged}
 
 -- ---- lists of texts
-
-pub texts_depth : (texts : List Text) → elements_depth (text_elements texts) ≡ 0
-texts_depth [] = refl
-texts_depth (s ∷ texts) = omega (arith, texts_depth texts)
-
-texts_ranged : (texts : List Text) → ElementsRanged (text_elements texts)
-texts_ranged [] = tt
-texts_ranged (s ∷ texts) = (tt, texts_ranged texts)
 
 -- one text more
 pub texts_turn : (texts : List Text) (i : ℕ) (s : Text) → slice_get texts i ≡ Some s → text_elements (take (i + 1) texts) ≡ pushed (text_elements (take i texts)) (leaf (text s))

@@ -3,6 +3,8 @@ ghost use Rattle.std.specs.Prelude.{◌≡◌, ◌≢◌, ◌↔◌, ◌⊎◌, 
 ghost use Rattle.std.specs.Option.{option_copied};
 ghost use Rattle.claim_tree.specs.Tree.{InRange, IsRanged, no_members};
 ghost use Rattle.claim_tree.specs.View.{tree_of};
+ghost use Rattle.compact_form.specs.Condition.{number_of};
+ghost use Rattle.compact_form.specs.declared.condition.Condition.{Condition};
 ghost use Rattle.compact_form.specs.Lowest.{NoneFails};
 ghost use Rattle.compact_form.specs.Passing.{Passes};
 ghost use Rattle.disclosure.specs.Digest.{digest_of};
@@ -116,7 +118,7 @@ fn header_of(alloc: Global, protected: &str) -> Result<Header, HeaderError>
 // 28 to 31.
 fn check_signed(alloc: Global, bound: Bound<'_>, key: &Hs256Key) -> Result<(), BoundError>
     requires key { holder_key_of bound.policy.now.keys (tree_of bound.payload.now) ≡ Some key.now }
-    ensures ok { OnOk result (Passes 32 (BindingFails (judged_of bound.entry))) }
+    ensures ok { OnOk result (Passes (number_of Condition.BindingPayload) (BindingFails (judged_of bound.entry))) }
     ensures refused { IfErr result (λ e. OnBoundFails e (IsLowestBinding (judged_of bound.entry))) }
 {
     match header_of(alloc, bound.token.protected) {
@@ -136,7 +138,7 @@ fn check_header(
 ) -> Result<(), BoundError>
     requires key { holder_key_of bound.policy.now.keys (tree_of bound.payload.now) ≡ Some key.now }
     requires read { HasBindingHeader (judged_of bound).token header.now }
-    ensures ok { OnOk result (Passes 32 (BindingFails (judged_of bound.entry))) }
+    ensures ok { OnOk result (Passes (number_of Condition.BindingPayload) (BindingFails (judged_of bound.entry))) }
     ensures refused { IfErr result (λ e. OnBoundFails e (IsLowestBinding (judged_of bound.entry))) }
 {
     if header.alg.as_str() != "HS256" {
@@ -165,7 +167,7 @@ fn check_header(
 
 // 32 to 38.
 fn check_payload(alloc: Global, bound: Bound<'_>) -> Result<(), BoundError>
-    requires below { Passes 32 (BindingFails (judged_of bound)) }
+    requires below { Passes (number_of Condition.BindingPayload) (BindingFails (judged_of bound)) }
     ensures passes { OnOk result (NoneFails (BindingFails (judged_of bound.entry))) }
     ensures refused { IfErr result (λ e. OnBoundFails e (IsLowestBinding (judged_of bound.entry))) }
 {
@@ -178,7 +180,7 @@ fn check_payload(alloc: Global, bound: Bound<'_>) -> Result<(), BoundError>
 
 // 32 to 38, of a payload that is read.
 fn check_body(alloc: Global, bound: Bound<'_>, body: &Tree) -> Result<(), BoundError>
-    requires below { Passes 32 (BindingFails (judged_of bound)) }
+    requires below { Passes (number_of Condition.BindingPayload) (BindingFails (judged_of bound)) }
     requires read { IsBody (judged_of bound).token.payload (tree_of body.now) }
     requires ranged { IsRanged (tree_of body.now) }
     ensures passes { OnOk result (NoneFails (BindingFails (judged_of bound.entry))) }
@@ -213,10 +215,10 @@ fn is_digest_of(alloc: Global, text: &str, hash: HashAlg, hashed: &str) -> Resul
 
 // 33 to 36.
 fn check_claims(bound: Bound<'_>, claims: Claims<'_>) -> Result<(), Condition>
-    requires below { Passes 33 (BindingFails (judged_of bound)) }
+    requires below { Passes (number_of Condition.BindingStale) (BindingFails (judged_of bound)) }
     requires read { HasClaims (judged_of bound).token (claims_of claims) }
     requires ranged { InRange claims.iat }
-    ensures ok { OnOk result (Passes 37 (BindingFails (judged_of bound.entry))) }
+    ensures ok { OnOk result (Passes (number_of Condition.HashDiffers) (BindingFails (judged_of bound.entry))) }
     ensures refused { IfErr result (IsLowestBinding (judged_of bound.entry)) }
 {
     if is_stale(&claims, bound.policy.max_age, bound.skew, bound.now) {

@@ -6,6 +6,6 @@ use Rattle.marked_tree.specs.declared.marked.Marked.{Marked}
 use Rattle.rebuild_core.specs.Opening.{Shown, nothing_shown, shown}
 
 -- a disclosure by its number, its name or none, and its opened value
-abbrev pub shown_of : Option (ℕ × Option Text × Marked) → Shown
-shown_of None = nothing_shown
-shown_of (Some r) = shown r.0 r.1 (marked_of r.2)
+abbrev pub revealed_as : Option (ℕ × Option Text × Marked) → Shown
+revealed_as None = nothing_shown
+revealed_as (Some r) = shown r.0 r.1 (marked_of r.2)

@@ -8,7 +8,7 @@ ghost use Rattle.marked_tree.specs.View.{marked_of};
 ghost use Rattle.rebuild_core.specs.Reached.{find as find_in};
 ghost use Rattle.rebuild_core.specs.Opening.{reveal as reveal_by, opened, open_elements, open_members, show_element, show_member, show_members};
 ghost use Rattle.rebuild_core.specs.Whole.{joined};
-ghost use Rattle.library_tests.specs.Shown.{shown_of};
+ghost use Rattle.library_tests.specs.Shown.{revealed_as};
 
 use claim_tree::{Tree, TreeList, TreeMap};
 use digest_sites::{Given, GivenList, element_digest, is_sd, own_digests};
@@ -34,7 +34,7 @@ type Revealed = (u32, Option<TextBox>, Marked);
 // At the end of an array.
 #[tactic(auto, using(rebuild_core::proofs::ShownDepths::joined_push))]
 fn push_shown(out: &mut MarkedList, shown: Option<Revealed>) -> Result<(), NoMemory>
-    ensures { OnOk result ((es : MarkedElements) → joined out.new es ≡ joined out.old (show_element (shown_of shown) es)) }
+    ensures { OnOk result ((es : MarkedElements) → joined out.new es ≡ joined out.old (show_element (revealed_as shown) es)) }
 {
     let Some((mark, name, tree)) = shown else {
         return Ok(());
@@ -47,7 +47,7 @@ fn push_shown(out: &mut MarkedList, shown: Option<Revealed>) -> Result<(), NoMem
 
 // Among the members of an object.
 fn put_shown(out: &mut MarkedMap, shown: Option<Revealed>) -> Result<(), NoMemory>
-    ensures { OnOk result (out.new ≡ show_member (shown_of shown) out.old) }
+    ensures { OnOk result (out.new ≡ show_member (revealed_as shown) out.old) }
 {
     let Some((mark, name, tree)) = shown else {
         return Ok(());
@@ -67,7 +67,7 @@ fn reveal(
     digest: &TextBox,
 ) -> Result<Option<Revealed>, NoMemory>
     requires few { length given.now < 2 ^ 32 }
-    ensures { IfOk result (λ r. shown_of r ≡ reveal_by fuel given.now digest.now) }
+    ensures { IfOk result (λ r. revealed_as r ≡ reveal_by fuel given.now digest.now) }
 {
     if fuel == 0 {
         return Ok(None);

@@ -4,7 +4,7 @@ use Rattle.std.specs.List.{list_any}
 use Rattle.std.proofs.lemmas.Bool.Decides.{nat_tests}
 use Rattle.claim_tree.specs.Tree.{Tree}
 use Rattle.claim_tree.specs.Lists.{In}
-use Rattle.claim_tree.proofs.Lists.{and_split, and_join, In-of_map, list_any-In}
+use Rattle.claim_tree.proofs.Lists.{and_split, and_join, In-of_map, list_any-In, list_any-from}
 use Rattle.claim_tree.specs.Path.{is_front}
 use Rattle.marked_tree.specs.Choice.{IsClosed, is_on_way, KeepsTheWay, IsUnmixed, IsLeastChoice}
 use Rattle.marked_tree.specs.Laws.{Choice, HasEachMarkOnce}
@@ -12,13 +12,13 @@ use Rattle.marked_tree.specs.Marked.{Marked}
 use Rattle.marked_tree.specs.Ways.{only}
 use Rattle.marked_tree.specs.Paths.{Path, Spot, spots, mark, hidden_count, chosen}
 use Rattle.marked_tree.proofs.MarkFacts.{up_to, up_to_le, marks_once_holds}
-use Rattle.marked_tree.proofs.Spots.{at_least_one, Way, way, any-from, ways_of_spots, spots_weigh, same_spot, leads_through, spots_above}
+use Rattle.marked_tree.proofs.Spots.{at_least_one, Way, way, ways_of_spots, spots_weigh, same_spot, leads_through, spots_above}
 
 module _ (m : Marked) (want : List Path) where
   choose : (s : Spot) → In s (spots m) → (p : Path) → In p want → is_front s.at p ≡ true → chosen m want s.mark ≡ true
   choose s n p o l =
-      any-from (λ z. eqb z.mark s.mark && list_any (is_front z.at) want) (spots m) s n
-      (and_join (eqb s.mark s.mark) (list_any (is_front s.at) want) (eq-eqb s.mark s.mark refl) (any-from (is_front s.at) want p o l))
+      list_any-from (λ z. eqb z.mark s.mark && list_any (is_front z.at) want) (spots m) s n
+      (and_join (eqb s.mark s.mark) (list_any (is_front s.at) want) (eq-eqb s.mark s.mark refl) (list_any-from (is_front s.at) want p o l))
 
   is_wanted : (i : ℕ) → chosen m want i ≡ true → (s : Spot) × In s (spots m) × (s.mark ≡ i) × (p : Path) × In p want × (is_front s.at p ≡ true)
   is_wanted i h =

@@ -14,8 +14,8 @@ use Rattle.marked_tree.specs.Steps.{marked_member_named}
 use Rattle.marked_tree.specs.declared.marked.Marked.{Marked}
 use Rattle.marked_tree.specs.View.{marked_of, marked_members_of}
 use Rattle.marked_tree.proofs.MarkedViews.{Entry}
-use Rattle.claim_tree.proofs.MapPlaces.{cmp, before_through, same_name}
-use Rattle.marked_tree.proofs.Names.{Ascend, names_of, put_by, turned, turned_back, tie_turned}
+use Rattle.claim_tree.proofs.MapPlaces.{cmp, before_after, before_through, same_name}
+use Rattle.marked_tree.proofs.Names.{Ascend, names_of, put_by, turned_back, tie_turned}
 
 abbrev Found : Type 0
 Found = Option (Option ℕ × spec.Marked)
@@ -69,7 +69,7 @@ ascend_put name i t (marked_member other j u ms) o = go (cmp name other) refl (a
     go : (r : Ordering) → cmp name other ≡ r → Ascend (marked_names (put name i t ms)) → Ascend (marked_names (put_by r name i t other j u ms (put name i t ms)))
     go Less e ih = ((e, before_through name other (marked_names ms) e o.0), o)
     go Equal e ih = o
-    go Greater e ih = (before_put other ms (turned name other e) o.0, ih)
+    go Greater e ih = (before_put other ms (before_after name other e) o.0, ih)
 
 -- under each name stands what stood there, else what is put
 found_put : (k name : Text) (i : Option ℕ) (t : spec.Marked) (ms : MarkedMembers) → Ascend (marked_names ms) → first_named k (put name i t ms) ≡ or_else (first_named k ms) (at_own k name i t)
@@ -147,7 +147,7 @@ same_members (marked_member k i t ms) (marked_member l j u ns) o p same = go (cm
         let none : first_named k (marked_member l j u ns) ≡ None = none_behind k (marked_member l j u ns) (e, before_through k l (marked_names ns) e p.0) in
         absurd (let f : Some (i, t) ≡ None = sym (here k i t ms) ∙ same k ∙ none in cc)
     go Greater e ih =
-        let none : first_named l (marked_member k i t ms) ≡ None = none_behind l (marked_member k i t ms) (turned k l e, before_through l k (marked_names ms) (turned k l e) o.0) in
+        let none : first_named l (marked_member k i t ms) ≡ None = none_behind l (marked_member k i t ms) (before_after k l e, before_through l k (marked_names ms) (before_after k l e) o.0) in
         absurd (let f : None ≡ Some (j, u) = sym none ∙ same l ∙ here l j u ns in cc)
     go Equal e ih =
         let one : k ≡ l = same_name k l e in
@@ -183,7 +183,7 @@ tie_is x y = go (cmp x.0 y.0) refl
     go : (o : Ordering) → cmp x.0 y.0 ≡ o → (not (is_lt o) && not (is_lt (cmp y.0 x.0))) ≡ bytes_eq y.0 x.0
     go Less e = sym (apart_back x.0 y.0 e)
     go Equal e = rw (tie_turned x.0 y.0 e) (sym (bytes_refl y.0 x.0 (sym (same_name x.0 y.0 e))))
-    go Greater e = rw (turned x.0 y.0 e) (sym (apart y.0 x.0 (turned x.0 y.0 e)))
+    go Greater e = rw (before_after x.0 y.0 e) (sym (apart y.0 x.0 (before_after x.0 y.0 e)))
 
 first_filtered : (x : Entry) (ys : List Entry) → first_named x.0 (marked_members_of ys) ≡ first_of (filter (ties lower x) ys)
 first_filtered x [] = refl

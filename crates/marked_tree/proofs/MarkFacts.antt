@@ -86,7 +86,7 @@ past : (i n c : ℕ) → i < n → range_sum (only i) n c ≡ 0
 past i n zero l = refl
 past i n (suc c) l = omega (arith, past i (suc n) c (omega arith), none_if_less i n l)
 
-same_or_more : (i k : ℕ) → k ≤ i → (i ≡ k) ⊎ (k < i)
+pub same_or_more : (i k : ℕ) → k ≤ i → (i ≡ k) ⊎ (k < i)
 same_or_more i k l = grind arith
 
 range_of_one : (i n c : ℕ) → n ≤ i → range_sum (only i) n c ≡ up_to i (n + c)

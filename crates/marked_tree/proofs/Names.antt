@@ -9,7 +9,7 @@ use Rattle.std.proofs.lemmas.List.Sorted.{searchable_from_sorted}
 use Rattle.claim_tree.specs.Tree.{Text, member, names, inserted, IsBefore, IsBeforeAll, IsOrdered, MembersOrdered}
 use Rattle.claim_tree.specs.Lists.{StandsAt}
 use Rattle.claim_tree.proofs.Lists.{At-below, At-same}
-use Rattle.claim_tree.proofs.MapPlaces.{cmp, order, same_name, before_through, ordered-inserted}
+use Rattle.claim_tree.proofs.MapPlaces.{cmp, order, same_name, before_after, before_through, is_less, ordered-inserted}
 use Rattle.marked_tree.specs.Marked as spec
 use Rattle.marked_tree.specs.Marked.{MarkedMembers, marked_member, no_marked_members, put, strip, strip_members}
 use Rattle.marked_tree.specs.MarkedCalls.{marked_names, marked_inserted}
@@ -19,9 +19,6 @@ use Rattle.marked_tree.specs.View.{marked_of, marked_members_of}
 use Rattle.marked_tree.proofs.MarkedViews.{Entry}
 
 -- ---- names
-
-pub turned : (a b : Text) → cmp a b ≡ Greater → IsBefore b a
-turned a b e = (order).antisymm b a ∙ ap ordering_reverse e
 
 pub turned_back : (a b : Text) → IsBefore a b → cmp b a ≡ Greater
 turned_back a b e = (order).antisymm b a ∙ ap ordering_reverse e
@@ -101,18 +98,13 @@ found_gap ms name (Err i) o within is =
           subst (λ a. IsBefore a name) (name_there ms k other d at) (parted.0 k d (omega arith) low);
       after = λ k other at high.
           let d = some_entry ms k other at in
-          turned other name (subst (λ a. cmp a name ≡ Greater) (name_there ms k other d at) (parted.1 k d high (rw (sym (length-names ms)) (At-below (names_of ms) k other at))));
+          before_after other name (subst (λ a. cmp a name ≡ Greater) (name_there ms k other d at) (parted.1 k d high (rw (sym (length-names ms)) (At-below (names_of ms) k other at))));
     }
 
 -- ---- a name behind the last
 
-less_is : (o : Ordering) → is_lt o ≡ true → o ≡ Less
-less_is Less e = refl
-less_is Equal e = cc
-less_is Greater e = cc
-
 pub behind_last : (o : Ordering) → (ordering_index o == 0) ≡ true → o ≡ Less
-behind_last o e = less_is o (is_lt_index o ∙ e)
+behind_last o e = is_less o (is_lt_index o ∙ e)
 
 name_got : (ms : List Entry) (k : ℕ) (e : Entry) → slice_get ms k ≡ Some e → StandsAt (names_of ms) k e.0
 name_got [] k e h = cc
@@ -238,4 +230,4 @@ ordered-put name i t (marked_member other j u ms) o p = go (cmp name other) refl
     go : (r : Ordering) → cmp name other ≡ r → MembersOrdered (strip_members (put name i t ms)) → MembersOrdered (strip_members (put_by r name i t other j u ms (put name i t ms)))
     go Less e ih = ((e, before_through name other (names (strip_members ms)) e o.0), p, o)
     go Equal e ih = o
-    go Greater e ih = (before_put other name i t ms (turned name other e) o.0, o.1, ih)
+    go Greater e ih = (before_put other name i t ms (before_after name other e) o.0, o.1, ih)

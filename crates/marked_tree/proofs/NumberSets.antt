@@ -8,9 +8,8 @@ use Rattle.std.proofs.lemmas.Map.Keys.{sorted_head, sorted_tail}
 use Rattle.std.specs.List.{AllByRecursion, IsDistinct}
 use Rattle.std.proofs.lemmas.Bool.Decides.{nat_tests}
 use Rattle.claim_tree.specs.Lists.{In}
-use Rattle.claim_tree.proofs.Lists.{list_any-In}
+use Rattle.claim_tree.proofs.Lists.{list_any-In, list_any-from}
 use Rattle.marked_tree.specs.Numbers.{has, AllAbove, IsRising}
-use Rattle.marked_tree.proofs.Spots.{any-from}
 
 swapped : (a b c : Bool) → (a || (b || c)) ≡ (b || (a || c))
 swapped true true c = refl
@@ -62,4 +61,4 @@ pub has-In : (ns : List ℕ) (i : ℕ) → has ns i ≡ true → In i ns
 has-In ns i h = let w = list_any-In (eqb i) ns h in subst (λ n. In n ns) (sym (eqb-true i w.0 w.2)) w.1
 
 pub In-has : (ns : List ℕ) (i : ℕ) → In i ns → has ns i ≡ true
-In-has ns i there = any-from (eqb i) ns i there (eq-eqb i i refl)
+In-has ns i there = list_any-from (eqb i) ns i there (eq-eqb i i refl)

@@ -11,11 +11,11 @@ use Rattle.std.proofs.lemmas.List.{get_or-take, get_or-drop, length-take-le, len
 use Rattle.std.proofs.Math.Seq.{take-length}
 use Rattle.std.proofs.lemmas.List.Sorted.{sorted_far, ranks_by}
 use Rattle.claim_tree.specs.Tree.{Text}
-use Rattle.claim_tree.proofs.Lists.{bytes_refl}
+use Rattle.claim_tree.proofs.Lists.{bytes_refl, false_unless_true}
 use Rattle.marked_tree.specs.Paths.{Path, same_path, is_among}
 use Rattle.marked_tree.specs.Rests.{rests, step_order, path_order, AfterNone, AreSorted, Every, Compares, IsRunOfPaths, one_head, headed}
-use Rattle.claim_tree.proofs.MapPlaces.{cmp, order, same_name}
-use Rattle.marked_tree.proofs.Names.{behind_last, turned}
+use Rattle.claim_tree.proofs.MapPlaces.{cmp, order, same_name, before_after, less_clash}
+use Rattle.marked_tree.proofs.Names.{behind_last}
 use Rattle.marked_tree.proofs.Lookups.{apart, apart_back}
 
 pub paths_total : IsTotalOrder path_order
@@ -174,7 +174,7 @@ module _ (depth : ℕ) (step : Text) where
 
   back_differs : (q p : Path) → step_order q step ≡ Greater → same_path (step ∷ p) q ≡ false
   back_differs [] p e = cc
-  back_differs (k ∷ t) p e = rw (apart step k (turned k step e)) refl
+  back_differs (k ∷ t) p e = rw (apart step k (before_after k step e)) refl
 
   skip_front : (p : Path) (n : ℕ) (xs : List Path) → Every Before (take n xs) → is_among (rests depth xs) (step ∷ p) ≡ is_among (rests depth (drop n xs)) (step ∷ p)
   skip_front p zero xs all = refl
@@ -204,7 +204,7 @@ module _ (depth : ℕ) (step : Text) where
 
   back_none : (q : Path) → step_order q step ≡ Greater → one_head step q ≡ 0
   back_none [] e = refl
-  back_none (k ∷ t) e = rw (apart_back step k (turned k step e)) refl
+  back_none (k ∷ t) e = rw (apart_back step k (before_after k step e)) refl
 
   count_front : (n : ℕ) (xs : List Path) → Every Before (take n xs) → headed step (rests depth xs) ≡ headed step (rests depth (drop n xs))
   count_front zero xs all = refl
@@ -277,11 +277,6 @@ module _ (depth : ℕ) (step : Text) where
 after_sorted : (p : Path) (xs : List Path) → ((k : ℕ) (d : Path) → k < length xs → is_lt (path_order (get_or xs k d) p) ≡ false) → AfterNone p xs
 after_sorted p [] all = tt
 after_sorted p (x ∷ xs) all = (λ g. less_clash (path_order x p) ((paths_total).antisymm x p ∙ ap ordering_reverse g) (all 0 x (omega arith)), after_sorted p xs (λ k d l. all (suc k) d (omega arith)))
-  where
-    less_clash : (o : Ordering) → o ≡ Less → is_lt o ≡ false → ⊥
-    less_clash Less e f = cc
-    less_clash Equal e f = cc
-    less_clash Greater e f = cc
 
 sorted_pairs : (xs : List Path) → ((i j : ℕ) (d : Path) → i ≤ j → j < length xs → is_lt (path_order (get_or xs j d) (get_or xs i d)) ≡ false) → AreSorted xs
 sorted_pairs [] all = tt
@@ -362,13 +357,9 @@ near_point p xs n count parted fits ends few point = (
   λ k d l h. go k d l h (cases_lt k n),
 )
   where
-    fails : (b : Bool) → (b ≡ true → ⊥) → b ≡ false
-    fails true h = absurd (h refl)
-    fails false h = refl
-
     go : (k : ℕ) (d : Path) → count ≤ k → k < length xs → (k < n) ⊎ (n ≤ k) → p (get_or xs k d) ≡ false
     go k d l h (inl w) = subst (λ y. p y ≡ false) (get_or-take n xs k d w) (point.1 k d l (omega (arith, w, length-take-le n xs fits)))
-    go k d l h (inr w) = fails (p (get_or xs k d)) (λ e. let holds = parted n k d w h e in let not = ends d (omega (arith, w, h)) in cc)
+    go k d l h (inr w) = false_unless_true (p (get_or xs k d)) (λ e. let holds = parted n k d w h e in let not = ends d (omega (arith, w, h)) in cc)
 
 pub parted_near : (p : Path → Bool) (xs : List Path) (n : ℕ) → IsPartitionedBy p xs → n ≤ length xs → IsPartitionedBy p (take n xs)
 parted_near p xs n parted fits i j d l h e =

@@ -10,6 +10,7 @@ use Rattle.marked_tree.specs.Marked.{Marked, MarkedMembers, no_marked_members, m
 use Rattle.marked_tree.specs.Ways.{weight, members_weight, mark_weight, ways, members_ways, way_of}
 use Rattle.marked_tree.specs.MarkedCalls.{marked_names}
 use Rattle.claim_tree.proofs.Lists.{In-left, In-right, In-append}
+use Rattle.claim_tree.proofs.MapPlaces.{before_after, before_through}
 
 pub before_trans : (k l m : Text) → IsBefore k l → IsBefore l m → IsBefore k m
 before_trans k l m h e = nat_list_cmp_total.trans k l m h e
@@ -18,13 +19,6 @@ pub never_itself : (k : Text) → IsBefore k k → ⊥
 never_itself k h =
     let e : Less ≡ Greater = sym h ∙ nat_list_cmp_total.antisymm k k ∙ ap ordering_reverse h in
     cc
-
-pub after_turned : (k l : Text) → slice_cmp nat_cmp k l ≡ Greater → IsBefore l k
-after_turned k l h = nat_list_cmp_total.antisymm l k ∙ ap ordering_reverse h
-
-pub IsBeforeAll-weaker : (k l : Text) (ns : List Text) → IsBefore k l → IsBeforeAll l ns → IsBeforeAll k ns
-IsBeforeAll-weaker k l [] h a = tt
-IsBeforeAll-weaker k l (n ∷ ns) h a = (before_trans k l n h a.0, IsBeforeAll-weaker k l ns h a.1)
 
 pub IsBeforeAll-not_in : (k : Text) (ns : List Text) → IsBeforeAll k ns → In k ns → ⊥
 IsBeforeAll-not_in k (n ∷ ns) a (inl e) = never_itself k (subst (λ z. IsBefore k z) (sym e) a.0)
@@ -50,7 +44,7 @@ where_is k l = go (slice_cmp nat_cmp k l) refl
     go : (o : Ordering) → slice_cmp nat_cmp k l ≡ o → Where k l o
     go Less h = h
     go Equal h = exact_bytes k l h
-    go Greater h = after_turned k l h
+    go Greater h = before_after k l h
 
 abbrev put_by : Ordering → Text → Option ℕ → Marked → Text → Option ℕ → Marked → MarkedMembers → MarkedMembers → MarkedMembers
 put_by o k i t l j u ms ns = match_ordering o (marked_member k i t (marked_member l j u ms)) (marked_member l j u ms) (marked_member l j u ns)
@@ -81,7 +75,7 @@ put_ascending k i t no_marked_members a = (tt, tt)
 put_ascending k i t (marked_member l j u ms) a = go (slice_cmp nat_cmp k l) (where_is k l) (put_ascending k i t ms a.1)
   where
     go : (o : Ordering) → Where k l o → IsAscending (marked_names (put k i t ms)) → IsAscending (marked_names (put_by o k i t l j u ms (put k i t ms)))
-    go Less w ih = ((w, IsBeforeAll-weaker k l (marked_names ms) w a.0), a)
+    go Less w ih = ((w, before_through k l (marked_names ms) w a.0), a)
     go Equal w ih = a
     go Greater w ih = (put_after l k i t ms w a.0, ih)
 
@@ -121,7 +115,7 @@ remark_put f k i t (marked_member l j u ms) a out = go (slice_cmp nat_cmp k l) (
 
     go : (c : Ordering) → Where k l c → (o q : Option (Option ℕ)) → remark_members f (put k i t ms) ≡ put_kept k (new_mark f i) (remark f t) (remark_members f ms)
         → remark_members f (put_by c k i t l j u ms (put k i t ms)) ≡ put_kept k (new_mark f i) (remark f t) (keep_member l (new_mark f j) (remark f u) (remark_members f ms))
-    go Less w o q ih = tail (remark_members f (marked_member l j u ms)) (new_mark f i) (remark_after k f (marked_member l j u ms) (w, IsBeforeAll-weaker k l (marked_names ms) w a.0))
+    go Less w o q ih = tail (remark_members f (marked_member l j u ms)) (new_mark f i) (remark_after k f (marked_member l j u ms) (w, before_through k l (marked_names ms) w a.0))
     go Equal w o q ih = absurd (out (inl w))
     go Greater w o q ih = ap (keep_member l (new_mark f j) (remark f u)) ih ∙ later (new_mark f i) (new_mark f j)
       where

@@ -10,13 +10,8 @@ use Rattle.marked_tree.specs.Marked.{Marked, marked_leaf, marked_array, marked_o
 use Rattle.marked_tree.specs.Ways.{ways, elements_ways, members_ways, way_of, mark_weight, weight, elements_weight, members_weight, only}
 use Rattle.claim_tree.specs.Lists.{In}
 use Rattle.marked_tree.specs.Paths.{Path, Spot, inside, own_spot, spots, elements_spots, members_spots, first_with}
-use Rattle.claim_tree.proofs.Lists.{or_left, or_right, and_split, and_join, bytes_refl, bytes_same, In-left, In-right, In-append, In-map, In-of_map}
+use Rattle.claim_tree.proofs.Lists.{and_split, and_join, bytes_refl, bytes_same, In-left, In-right, In-append, In-map, In-of_map}
 use Rattle.marked_tree.proofs.Sums.{sum_of, sum_of-append, sum_of-map}
-
-pub any-from : {X : Type 0} (p : X → Bool) (xs : List X) (x : X) → In x xs → p x ≡ true → list_any p xs ≡ true
-any-from p (y ∷ xs) x (inl e) t = or_left (p y) (list_any p xs) (ap p (sym e) ∙ t)
-any-from p (y ∷ xs) x (inr m) t = or_right (p y) (list_any p xs) (any-from p xs x m t)
-any-from p [] x m t = elim m [ ]
 
 -- ---- each way is that of a spot
 

@@ -18,14 +18,14 @@ use Rattle.rebuild_core.specs.Reached.{OwnedSite, Owner, find, is_in_round, is_r
 use Rattle.rebuild_core.specs.Opening.{Shown, nothing_shown, open_element, open_elements, open_members, open_tree, opened, processed, reveal, show_element, shown, shown_by}
 use Rattle.rebuild_core.specs.Payload.{alg_name}
 use Rattle.claim_tree.proofs.Everywheres.{EachElementIn, EachMemberIn}
-use Rattle.claim_tree.proofs.Lists.{At-In, At-below, At-map, At-same, In-At, In-append, In-left, In-map, In-of_map, In-right, and_join, bytes_refl, bytes_same, one_place, or_right, same_by_image}
+use Rattle.claim_tree.proofs.Lists.{At-In, At-below, At-left, At-map, At-right, At-same, In-At, In-append, In-left, In-map, In-of_map, In-right, and_join, bytes_refl, bytes_same, list_any-from, one_place, or_right, same_by_image}
 use Rattle.rebuild_core.proofs.Chains.{item_of_value}
 use Rattle.rebuild_core.proofs.Fits.{Names, Suits}
 use Rattle.rebuild_core.proofs.Fixed.{find_at}
 use Rattle.rebuild_core.proofs.Found.{found}
 use Rattle.rebuild_core.proofs.Marks.{Way, shown_ways}
 use Rattle.rebuild_core.proofs.Pick.{met_item}
-use Rattle.rebuild_core.proofs.Reach.{later_round, list_any-from, stands-from}
+use Rattle.rebuild_core.proofs.Reach.{later_round, stands-from}
 use Rattle.rebuild_core.proofs.ShownAt.{ShownFree, Shows, shown_back, shows_free}
 use Rattle.digest_sites.specs.declared.site.SiteKind.TheVariants.{Member}
 
@@ -33,15 +33,6 @@ use Rattle.digest_sites.specs.declared.site.SiteKind.TheVariants.{Member}
 
 abbrev Before : {X : Type 0} → List X → X → X → Type 0
 Before {X} xs a b = (i : ℕ) × (j : ℕ) × (i < j) × StandsAt xs i a × StandsAt xs j b
-
-pub At-right : {X : Type 0} (xs ys : List X) (i : ℕ) (x : X) → StandsAt ys i x → StandsAt (xs ++ ys) (length xs + i) x
-At-right [] ys i x h = let e : 0 + i ≡ i = omega arith in rw e h
-At-right (z ∷ xs) ys i x h = let e : suc (length xs) + i ≡ suc (length xs + i) = omega arith in rw e (At-right xs ys i x h)
-
-pub At-left : {X : Type 0} (xs ys : List X) (i : ℕ) (x : X) → StandsAt xs i x → StandsAt (xs ++ ys) i x
-At-left (z ∷ xs) ys zero x h = h
-At-left (z ∷ xs) ys (suc i) x h = At-left xs ys i x h
-At-left [] ys i x h = elim h [ ]
 
 before_left : {X : Type 0} (xs ys : List X) (a b : X) → Before xs a b → Before (xs ++ ys) a b
 before_left xs ys a b h = (h.0, h.1, h.2, At-left xs ys h.0 a h.3, At-left xs ys h.1 b h.4)
@@ -147,7 +138,7 @@ mutual
 
 -- ---- the item that shows a disclosure
 
-value_free : (j : ℕ) (n : Option Text) (u : Marked) → ShownFree (shown j n u) → HasNoReserved (strip u)
+pub value_free : (j : ℕ) (n : Option Text) (u : Marked) → ShownFree (shown j n u) → HasNoReserved (strip u)
 value_free j None u f = f
 value_free j (Some k) u f = f.1
 

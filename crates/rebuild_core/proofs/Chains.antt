@@ -25,6 +25,9 @@ item_of_value p (y ∷ g) i (suc k) n x s e a t m =
     (item_of_value p g (suc i) k n x s (omega arith) a t m)
 item_of_value p [] i k n x s e a t m = elim a [ ]
 
+pub value_injective : (i j : ℕ) → value_of i ≡ value_of j → i ≡ j
+value_injective i j e = cc
+
 module _ (p : Tree) (g : List Given) (once : AtNone (RepeatedDigest p g)) where
   -- two items with one digest are the same
   pub same_item : (a b : OwnedSite) → In a (met p g) → In b (met p g) → a.site.digest ≡ b.site.digest → a ≡ b
@@ -34,16 +37,13 @@ module _ (p : Tree) (g : List Given) (once : AtNone (RepeatedDigest p g)) where
   same_owner i o u (x, a, s, m, e) (y, b, t, n, f) =
       ap (λ (z : OwnedSite). z.owner) (same_item (owned_site o s) (owned_site u t) m n (e ∙ ap (λ (z : Given). z.digest) (At-same g i x y a b) ∙ sym f))
 
-  value_of_same : (i j : ℕ) → value_of i ≡ value_of j → i ≡ j
-  value_of_same i j e = cc
-
   -- one chain of owners
   pub same_chain : (o : Owner) (is js : List ℕ) → LeadsUp p g o is → LeadsUp p g o js → is ≡ js
   same_chain o [] [] h k = refl
   same_chain o [] (j ∷ js) h (e, u, s, l) = let f : payload ≡ value_of j = sym h ∙ e in cc
   same_chain o (i ∷ is) [] (e, u, s, l) h = let f : payload ≡ value_of i = sym h ∙ e in cc
   same_chain o (i ∷ is) (j ∷ js) (e, u, s, l) (f, v, t, m) =
-      let w : j ≡ i = value_of_same j i (sym f ∙ e) in
+      let w : j ≡ i = value_injective j i (sym f ∙ e) in
       let same : u ≡ v = same_owner i u v s (subst (λ k. StandsIn p g k v) w t) in
       let rest : is ≡ js = same_chain u is js l (subst (λ z. LeadsUp p g z js) (sym same) m) in
       ap₂ (λ (k : ℕ) (ks : List ℕ). k ∷ ks) (sym w) rest

@@ -26,7 +26,7 @@ pub later_row : (ends ks : List ℕ) (n k : ℕ) → length ends ≡ suc n → g
 later_row [] ks n k h = absurd (omega (arith, h))
 later_row (end ∷ ends) ks n k h = rw (add-one k) refl
 
-length-cut : (start : ℕ) (ends ks : List ℕ) → length (cut start ends ks) ≡ length ends
+pub length-cut : (start : ℕ) (ends ks : List ℕ) → length (cut start ends ks) ≡ length ends
 length-cut start [] ks = refl
 length-cut start (end ∷ ends) ks = ap suc (length-cut end ends ks)
 

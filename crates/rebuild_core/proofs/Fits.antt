@@ -150,7 +150,7 @@ abbrev pub reshown : (ℕ → Option ℕ) → Shown → Shown
 reshown f nothing_shown = nothing_shown
 reshown f (shown i n t) = reshown_as (f i) n (remark f t)
 
-show_ascending : (x : Shown) (ms : MarkedMembers) → IsAscending (marked_names ms) → IsAscending (marked_names (show_member x ms))
+pub show_ascending : (x : Shown) (ms : MarkedMembers) → IsAscending (marked_names ms) → IsAscending (marked_names (show_member x ms))
 show_ascending nothing_shown ms a = a
 show_ascending (shown i None t) ms a = a
 show_ascending (shown i (Some k) t) ms a = put_ascending k (Some i) t ms a

@@ -19,17 +19,18 @@ use Rattle.rebuild_core.specs.Soundness.{IsSound}
 use Rattle.claim_tree.proofs.Lists.{or_split, and_split, In-left, In-right, In-map, In-At, At-In, At-same, At-map, At-below, list_any-In}
 use Rattle.marked_tree.proofs.NumberSets.{has-In, In-has}
 use Rattle.marked_tree.proofs.Remarks.{strip-renumbered}
-use Rattle.rebuild_core.proofs.Chains.{item_of_value, in_payload, in_value, same_item, leads_up, reached_all}
+use Rattle.rebuild_core.proofs.Chains.{item_of_value, in_payload, in_value, same_item, leads_up, reached_all, value_injective}
 use Rattle.rebuild_core.proofs.Fits.{Pairwise}
 use Rattle.rebuild_core.proofs.Fixed.{processed_settles}
 use Rattle.rebuild_core.proofs.Found.{stands-In}
 use Rattle.rebuild_core.proofs.Marks.{Way}
 use Rattle.rebuild_core.proofs.Named.{Pairwise-from}
-use Rattle.rebuild_core.proofs.Pick.{pick_at, pick_from, met_item, value_injective, payload_not_value, place_at}
+use Rattle.rebuild_core.proofs.Pick.{pick_at, pick_from, met_item, payload_not_value, place_at}
 use Rattle.rebuild_core.proofs.Presented.{presentation_holds}
 use Rattle.rebuild_core.proofs.Ranked.{same_marks}
 use Rattle.rebuild_core.proofs.ShownBy.{way_step, shown_from}
 use Rattle.rebuild_core.proofs.ShownAt.{ShownFree, Shows, shown_back}
+use Rattle.rebuild_core.proofs.AllShown.{value_free}
 
 -- these disclosures are some of the others, in any order; the set of their numbers is closed in the marked tree, and they show
 -- what it says without what is not in this set
@@ -89,10 +90,6 @@ strip_placed : (s : ℕ → Bool) (f : ℕ → Option ℕ) → ((i : ℕ) → s 
 strip_placed s f each m =
     ap strip (same_marks s f (λ i. Some (some_number (f i))) (λ i e. let w = each i e in w.1 ∙ ap (λ (o : Option ℕ). Some (some_number o)) (sym w.1)) m)
     ∙ strip-renumbered (λ i. some_number (f i)) (prune m s)
-
-free_value : (k : ℕ) (name : Option Text) (u : Marked) → ShownFree (shown k name u) → HasNoReserved (strip u)
-free_value k None u h = h
-free_value k (Some name) u h = h.1
 
 module _ (p : Tree) (g : List Given) (readable : IsReadable p g) (sound : IsSound p g) (free : HasNoReserved (strip (processed p g)))
     (gs : List Given) (sound_too : IsSound p gs) (known : NoneForged p g gs) where
@@ -174,7 +171,7 @@ module _ (p : Tree) (g : List Given) (readable : IsReadable p g) (sound : IsSoun
         (λ r.
         let same : above ≡ r.0 = let q : c ∷ above ≡ b.k ∷ r.0 = r.1 in cc in
         let first : c ≡ b.k = let q : c ∷ above ≡ b.k ∷ r.0 = r.1 in cc in
-        let up = above_value above i b.k b.x b.there (free_value b.k b.x.name (opened (length g) g b.x.value) b.fine) (subst (λ z. In (i, z) (ways (opened (length g) g b.x.value))) (sym same) r.2) n in (
+        let up = above_value above i b.k b.x b.there (value_free b.k b.x.name (opened (length g) g b.x.value) b.fine) (subst (λ z. In (i, z) (ways (opened (length g) g b.x.value))) (sym same) r.2) n in (
           (λ k o. ⊎_elim (λ e. subst (λ z. In z h) (sym (e ∙ first)) up.1) (λ z. up.0 k z) o),
           owner_there b.k j (b.x, b.there, l.0, in_value p g sound.referenced j y l.0 a (site_in y.value l.0 l.1), sym b.digest) up.1,
         ))
@@ -190,7 +187,7 @@ module _ (p : Tree) (g : List Given) (readable : IsReadable p g) (sound : IsSoun
         ⊎_elim
         (λ e k o. absurd (subst (λ z. In k z) e.1 o))
         (λ r.
-        let up = above_value r.0 v.0 b.k b.x b.there (free_value b.k b.x.name (opened (length g) g b.x.value) b.fine) r.2 n in
+        let up = above_value r.0 v.0 b.k b.x b.there (value_free b.k b.x.name (opened (length g) g b.x.value) b.fine) r.2 n in
         λ k o. ⊎_elim (λ e. subst (λ z. In z h) (sym e) up.1) (λ z. up.0 k z) (subst (λ z. In k z) r.1 o))
         (way_step b.k v.0 v.1 (ways (opened (length g) g b.x.value)) b.way)
 

@@ -12,7 +12,7 @@ use Rattle.rebuild_core.specs.Soundness.{IsReferencedOnce, IsWellNamed}
 use Rattle.rebuild_core.specs.Laws.{IsPick, position_from}
 use Rattle.claim_tree.proofs.Lists.{In-append, In-of_map, In-At, At-In, At-same, At-map, one_place, At-of_map}
 use Rattle.rebuild_core.proofs.Found.{found}
-use Rattle.rebuild_core.proofs.Chains.{in_payload, in_value, same_item, reached_all}
+use Rattle.rebuild_core.proofs.Chains.{in_payload, in_value, same_item, reached_all, value_injective}
 use Rattle.rebuild_core.proofs.Fixed.{find_at}
 use Rattle.rebuild_core.proofs.Fits.{Pairwise, Pairwise-left, Pairwise-right, Pairwise-join, Pairwise-map, Pairwise-of_map, reshown, remark_open}
 use Rattle.rebuild_core.proofs.Named.{Pairwise-from, Pairwise-at, value_part, value_fits}
@@ -157,9 +157,6 @@ DiscloseApart g a b = a.owner ≡ b.owner → a.site.at ≡ b.site.at → (k : T
 
 pub payload_not_value : (i : ℕ) → payload ≡ value_of i → ⊥
 payload_not_value i e = cc
-
-pub value_injective : (i j : ℕ) → value_of i ≡ value_of j → i ≡ j
-value_injective i j e = cc
 
 module _ (p : Tree) (g : List Given) (ok : IsReferencedOnce p g) (named : IsWellNamed p g) (h : List ℕ) (differ : Pairwise (λ i j. i ≡ j → ⊥) h) (gs : List Given) (pick : IsPick g h gs) where
   -- two items of the choice are one item of all only at one place

@@ -14,7 +14,7 @@ use Rattle.rebuild_core.specs.Laws.{IsPick, Enumerates, IsPresentation, Presenta
 use Rattle.rebuild_core.specs.Readable.{IsReadable}
 use Rattle.claim_tree.proofs.Lists.{At-In}
 use Rattle.rebuild_core.proofs.OneSite.{one_site_holds}
-use Rattle.marked_tree.proofs.MarkFacts.{one_if_same, none_if_less, none_if_more}
+use Rattle.marked_tree.proofs.MarkFacts.{one_if_same, none_if_less, none_if_more, same_or_more}
 use Rattle.marked_tree.proofs.Sums.{sum_of}
 use Rattle.rebuild_core.proofs.Fixed.{fixed, unknown, processed_settles, disclosures_sum}
 use Rattle.rebuild_core.proofs.Fits.{remark_open}
@@ -22,28 +22,7 @@ use Rattle.rebuild_core.proofs.Named.{payload_fits, value_fits}
 use Rattle.rebuild_core.proofs.Marks.{shown_weight, open_weight}
 use Rattle.rebuild_core.proofs.Pick.{distinct_pairs, place_none, c14_holds, c15_holds, c16_holds, named_holds, reveal_picked}
 use Rattle.rebuild_core.proofs.Reach.{c17_holds}
-
-keep_element_depth : (o : Option (Option ℕ)) (t : Marked) (es : MarkedElements) → elements_depth (strip_elements (keep_element o t es)) ≤ max (depth (strip t)) (elements_depth (strip_elements es))
-keep_element_depth None t es = omega arith
-keep_element_depth (Some i) t es = omega arith
-
-keep_member_depth : (k : Text) (o : Option (Option ℕ)) (t : Marked) (ms : MarkedMembers) → members_depth (strip_members (keep_member k o t ms)) ≤ max (depth (strip t)) (members_depth (strip_members ms))
-keep_member_depth k None t ms = omega arith
-keep_member_depth k (Some i) t ms = omega arith
-
-mutual
-  remark_depth : (f : ℕ → Option ℕ) (m : Marked) → depth (strip (remark f m)) ≤ depth (strip m)
-  remark_depth f (marked_leaf l) = omega arith
-  remark_depth f (marked_array es) = omega (arith, remark_elements_depth f es)
-  remark_depth f (marked_object ms) = omega (arith, remark_members_depth f ms)
-
-  remark_elements_depth : (f : ℕ → Option ℕ) (es : MarkedElements) → elements_depth (strip_elements (remark_elements f es)) ≤ elements_depth (strip_elements es)
-  remark_elements_depth f no_marked_elements = omega arith
-  remark_elements_depth f (marked_element i t es) = omega (arith, keep_element_depth (new_mark f i) (remark f t) (remark_elements f es), remark_depth f t, remark_elements_depth f es)
-
-  remark_members_depth : (f : ℕ → Option ℕ) (ms : MarkedMembers) → members_depth (strip_members (remark_members f ms)) ≤ members_depth (strip_members ms)
-  remark_members_depth f no_marked_members = omega arith
-  remark_members_depth f (marked_member k i t ms) = omega (arith, keep_member_depth k (new_mark f i) (remark f t) (remark_members f ms), remark_depth f t, remark_members_depth f ms)
+use Rattle.marked_tree.proofs.Remarks.{depth-remark}
 
 -- each mark stays, or goes under both
 abbrev Stays : (ℕ → Option ℕ) → (ℕ → Option ℕ) → Type 0
@@ -112,7 +91,7 @@ module _ (p : Tree) (g : List Given) (readable : IsReadable p g) (sound : IsSoun
     sound = record {
       referenced = referenced;
       named = named_holds p g sound.referenced sound.named h (distinct_pairs h all.distinct) gs pick;
-      shallow = omega (arith, sound.shallow, remark_depth (position_from 0 h) (processed p g), ap (λ m. depth (strip m)) same_tree);
+      shallow = omega (arith, sound.shallow, depth-remark (position_from 0 h) (processed p g), ap (λ m. depth (strip m)) same_tree);
     };
     pruned = same_tree ∙ sym (remark_twice (kept s) (position_from 0 h) (kept_stays s h all.within) (processed p g));
   }
@@ -161,9 +140,6 @@ numbers_of_one : (i k : ℕ) (g : List Given) → k ≤ i → numbers_sum (only 
 numbers_of_one i k [] l = sym (outside_is i (k + 0) (omega arith))
 numbers_of_one i k (x ∷ g) l = go (same_or_more i k l) (numbers_of_one i (suc k) g)
   where
-    same_or_more : (i k : ℕ) → k ≤ i → (i ≡ k) ⊎ (k < i)
-    same_or_more i k l = grind arith
-
     go : (i ≡ k) ⊎ (k < i) → (suc k ≤ i → numbers_sum (only i) (suc k) g ≡ inside i (suc k + length g)) → only i k + numbers_sum (only i) (suc k) g ≡ cond (ltb i (k + suc (length g))) 1 0
     go (inl e) ih = omega (arith, one_if_same i k e, past i (suc k) g (omega arith), within_is i (k + suc (length g)) (omega arith))
     go (inr m) ih = omega (arith, none_if_more i k m, ih (omega arith), ap (inside i) (let q : suc k + length g ≡ k + suc (length g) = omega arith in q))

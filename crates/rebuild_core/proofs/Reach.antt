@@ -14,17 +14,12 @@ use Rattle.rebuild_core.specs.Opening.{reveal, opened, processed}
 use Rattle.rebuild_core.specs.Conditions.{RepeatedDigest, Unreferenced}
 use Rattle.rebuild_core.specs.Soundness.{IsReferencedOnce, IsWellNamed}
 use Rattle.rebuild_core.specs.Laws.{StandsIn, LeadsUp, IsPick}
-use Rattle.claim_tree.proofs.Lists.{bytes_refl, or_left, or_right, and_join, In-left, In-right, In-map, In-At, At-In, At-same}
+use Rattle.claim_tree.proofs.Lists.{bytes_refl, or_left, or_right, and_join, In-left, In-right, In-map, In-At, At-In, At-same, list_any-from}
 use Rattle.rebuild_core.proofs.Chains.{short, leads_up, item_of_value}
 use Rattle.rebuild_core.proofs.Fixed.{fixed, processed_settles}
 use Rattle.rebuild_core.proofs.Named.{payload_fits, value_fits}
 use Rattle.rebuild_core.proofs.Marks.{Way, shown_ways, open_way}
 use Rattle.rebuild_core.proofs.Pick.{pick_at, pick_from, met_item}
-
-pub list_any-from : {X : Type 0} (p : X → Bool) (xs : List X) (x : X) → In x xs → p x ≡ true → list_any p xs ≡ true
-list_any-from p (y ∷ xs) x (inl e) t = or_left (p y) (list_any p xs) (ap p (sym e) ∙ t)
-list_any-from p (y ∷ xs) x (inr m) t = or_right (p y) (list_any p xs) (list_any-from p xs x m t)
-list_any-from p [] x m t = elim m [ ]
 
 pub stands-from : (d : Text) (ss : List Site) (s : Site) → In s ss → s.digest ≡ d → stands d ss ≡ true
 stands-from d ss s m e = list_any-from (λ z. bytes_eq z.digest d) ss s m (bytes_refl s.digest d e)

@@ -2,7 +2,7 @@
 use Rattle.std.proofs.Common.{◌≡◌, ℕ, zero, suc, ◌<◌, ◌≤◌, List, [], ◌∷◌, ◌++◌, map, length, get_or, take, Bool, true, false, cond, bytes_eq, inl, inr, refl, sym, ap, ◌∙◌, subst, arith}
 use Rattle.claim_tree.specs.Tree.{Text}
 use Rattle.claim_tree.specs.Lists.{StandsAt, In, Repeats}
-use Rattle.claim_tree.proofs.Lists.{bytes_same, bytes_refl, At-In, At-below, At-same, At-map}
+use Rattle.claim_tree.proofs.Lists.{bytes_same, bytes_refl, At-In, At-below, At-same, At-map, take-At}
 use Rattle.digest_index.specs.Index.{position_or_end, interned}
 use Rattle.digest_index.proofs.Places.{place_or_end-within}
 use Rattle.digest_index.proofs.Interned.{interned-new}
@@ -42,12 +42,6 @@ At-take (y ∷ ys) zero j x h = elim h [ ]
 At-take [] zero j x h = elim h [ ]
 At-take [] (suc i) j x h = elim h [ ]
 
-take-At : {X : Type 0} (xs : List X) (i j : ℕ) (x : X) → StandsAt xs j x → j < i → StandsAt (take i xs) j x
-take-At (y ∷ ys) (suc i) zero x h l = h
-take-At (y ∷ ys) (suc i) (suc j) x h l = take-At ys i j x h (omega arith)
-take-At (y ∷ ys) zero j x h l = absurd (omega arith)
-take-At [] i j x h l = elim h [ ]
-
 take-one : {X : Type 0} (xs : List X) (i : ℕ) (x : X) → StandsAt xs i x → take (suc i) xs ≡ take i xs ++ x ∷ []
 take-one (y ∷ ys) zero x h = ap (λ z. z ∷ []) (sym h)
 take-one (y ∷ ys) (suc i) x h = ap (λ zs. y ∷ zs) (take-one ys i x h)
@@ -79,7 +73,7 @@ grows_new ds i d a h =
 pub at_given : (items : List code.Given) (given : List Given) (i : ℕ) (x : code.Given) → map given_of items ≡ given → i < length items → x ≡ get_or items i x → StandsAt (given_digests given) i x.digest
 at_given items given i x e h s = At-map (λ (y : Given). y.digest) given i (given_of x) (item_at items given i x e h s)
 
-length-digests : (given : List Given) → length (given_digests given) ≡ length given
+pub length-digests : (given : List Given) → length (given_digests given) ≡ length given
 length-digests [] = refl
 length-digests (x ∷ given) = ap suc (length-digests given)
 

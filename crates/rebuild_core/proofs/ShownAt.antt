@@ -14,7 +14,7 @@ use Rattle.rebuild_core.proofs.FreeMembers.{ElementsNoReserved, MembersNoReserve
 use Rattle.rebuild_core.specs.Opening.{Shown, nothing_shown, open_element, open_elements, open_members, open_tree, show_element, show_member, show_members, shown}
 use Rattle.claim_tree.proofs.Lists.{In-append, In-of_map, In-right, bytes_same}
 use Rattle.marked_tree.proofs.Puts.{IsAscending, IsBeforeAll-not_in, put_ascending}
-use Rattle.rebuild_core.proofs.Fits.{Names, NamesApart, Suits, open_ascending}
+use Rattle.rebuild_core.proofs.Fits.{Names, NamesApart, Suits, open_ascending, show_ascending}
 use Rattle.rebuild_core.proofs.Marks.{Way, shown_ways}
 use Rattle.rebuild_core.proofs.ObjectFacts.{on_starts, in_starts, element_starts, member_starts, same_step}
 use Rattle.rebuild_core.proofs.ShownPuts.{put_adds, put_has, put_keeps, put_free, put_new_free}
@@ -87,11 +87,6 @@ abbrev pub Shown_at : (Text → Shown) → List Site → Way → Type 0
 Shown_at r ss v = (s : Site) × Shows r ss s × In v (shown_ways (r s.digest))
 
 -- ---- the texts of `_sd`
-
-show_ascending : (x : Shown) (ms : MarkedMembers) → IsAscending (marked_names ms) → IsAscending (marked_names (show_member x ms))
-show_ascending nothing_shown ms a = a
-show_ascending (shown i None t) ms a = a
-show_ascending (shown i (Some k) t) ms a = put_ascending k (Some i) t ms a
 
 show_free : (x : Shown) (ms : MarkedMembers) → MembersNoReserved (strip_members (show_member x ms)) → MembersNoReserved (strip_members ms)
 show_free nothing_shown ms f = f

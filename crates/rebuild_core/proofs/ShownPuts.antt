@@ -11,7 +11,8 @@ use Rattle.marked_tree.specs.MarkedCalls.{marked_names}
 use Rattle.rebuild_core.specs.Free.{HasNoReserved, IsFree}
 use Rattle.rebuild_core.proofs.FreeMembers.{MembersNoReserved}
 use Rattle.claim_tree.proofs.Lists.{In-append, In-left, In-right}
-use Rattle.marked_tree.proofs.Puts.{IsAscending, IsBeforeAll-not_in, IsBeforeAll-weaker, after_turned, never_itself}
+use Rattle.claim_tree.proofs.MapPlaces.{before_after, before_through}
+use Rattle.marked_tree.proofs.Puts.{IsAscending, IsBeforeAll-not_in, never_itself}
 use Rattle.rebuild_core.proofs.Marks.{Way}
 
 pub put_adds : (k : Text) (i : Option ℕ) (t : Marked) (ms : MarkedMembers) (v : Way) → IsAscending (marked_names ms) → In v (members_ways (put k i t ms))
@@ -23,13 +24,13 @@ put_adds k i t (marked_member l j u ms) v a h = go (slice_cmp nat_cmp k l) refl 
         → (In v (members_ways (put k i t ms)) → (In v (way_of i (ways t)) × (In k (marked_names ms) → ⊥)) ⊎ In v (members_ways ms))
         → (In v (way_of i (ways t)) × (In k (marked_names (marked_member l j u ms)) → ⊥)) ⊎ In v (members_ways (marked_member l j u ms))
     go Less c m ih =
-        ⊎_elim (λ x. inl (x, IsBeforeAll-not_in k (l ∷ marked_names ms) (c, IsBeforeAll-weaker k l (marked_names ms) c a.0))) (λ y. inr y)
+        ⊎_elim (λ x. inl (x, IsBeforeAll-not_in k (l ∷ marked_names ms) (c, before_through k l (marked_names ms) c a.0))) (λ y. inr y)
         (In-append v (way_of i (ways t)) (members_ways (marked_member l j u ms)) m)
     go Equal c m ih = inr m
     go Greater c m ih =
         ⊎_elim (λ x. inr (In-left v (way_of j (ways u)) (members_ways ms) x))
         (λ x. ⊎_elim
-        (λ y. inl (y.0, λ z. ⊎_elim (λ e. never_itself k (subst (λ n. IsBefore n k) (sym e) (after_turned k l c))) (λ n. y.1 n) z))
+        (λ y. inl (y.0, λ z. ⊎_elim (λ e. never_itself k (subst (λ n. IsBefore n k) (sym e) (before_after k l c))) (λ n. y.1 n) z))
         (λ y. inr (In-right v (way_of j (ways u)) (members_ways ms) y)) (ih x))
         (In-append v (way_of j (ways u)) (members_ways (put k i t ms)) m)
 

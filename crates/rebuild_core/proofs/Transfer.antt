@@ -10,7 +10,7 @@ use Rattle.digest_sites.specs.SiteCalls.{digests}
 use Rattle.digest_sites.specs.Given.{Given}
 use Rattle.rebuild_core.specs.Reached.{stands, is_in_round, is_reached, OwnedSite, owned_site, Owner, payload, value_of, value_sites, met, owned_digests, all_sites}
 use Rattle.rebuild_core.specs.Conditions.{RepeatedDigest, Unreferenced}
-use Rattle.claim_tree.proofs.Lists.{bytes_same, bytes_refl, At-same, At-below, At-In, At-get, one_place}
+use Rattle.claim_tree.proofs.Lists.{bytes_same, bytes_refl, At-left, At-same, At-below, At-In, At-get, one_place}
 use Rattle.digest_index.specs.Index.{position_or_end, interned}
 use Rattle.rebuild_core.specs.DigestNumbers.{numbers, all_interned, AllAt, IsFlatList}
 use Rattle.rebuild_core.specs.Graph.{cut, Ascends, roots_in, rows_in, has_number, any_row, is_in, flagged_rows, Recurs}
@@ -22,13 +22,9 @@ use Rattle.rebuild_core.specs.Rows.{tree_rows, value_ends}
 use Rattle.rebuild_core.proofs.RowFacts.{length_tree_rows, length_top_rows}
 use Rattle.rebuild_core.proofs.Repeated.{place_there, place_absent}
 use Rattle.rebuild_core.proofs.Worklist.{eqb_same, eqb_refl}
+use Rattle.rebuild_core.proofs.Cuts.{length-cut}
 
 -- ---- the index grows
-
-more_at : {X : Type 0} (xs ys : List X) (i : ℕ) (x : X) → StandsAt xs i x → StandsAt (xs ++ ys) i x
-more_at (z ∷ zs) ys zero x h = h
-more_at (z ∷ zs) ys (suc i) x h = more_at zs ys i x h
-more_at [] ys i x h = elim h [ ]
 
 last_at : {X : Type 0} (xs : List X) (x : X) → StandsAt (xs ++ x ∷ []) (length xs) x
 last_at [] x = refl
@@ -74,7 +70,7 @@ grows_text ix d = go (split (position_or_end d ix) (length ix))
     go (inr l) =
         let e : position_or_end d ix ≡ length ix = omega (arith, l, place_or_end-within d ix) in
         subst (λ z. Grows ix z × StandsAt z (position_or_end d ix) d) (sym (interned-new d ix e))
-        (record { keeps = λ k c h. more_at ix (d ∷ []) k c h; apart = λ a. apart_last ix d a l }, rw e (last_at ix d))
+        (record { keeps = λ k c h. At-left ix (d ∷ []) k c h; apart = λ a. apart_last ix d a l }, rw e (last_at ix d))
 
 pub grows_texts : (ix ds : List Text) → Grows ix (all_interned ix ds)
 grows_texts ix [] = grows_refl ix
@@ -137,7 +133,7 @@ repeats_recurs ix ks ds ok a q r =
 
 -- ---- rounds
 
-same_bool : (a b : Bool) → (a ≡ true → b ≡ true) → (b ≡ true → a ≡ true) → a ≡ b
+pub same_bool : (a b : Bool) → (a ≡ true → b ≡ true) → (b ≡ true → a ≡ true) → a ≡ b
 same_bool true true f g = refl
 same_bool false false f g = refl
 same_bool true false f g = let z = f refl in cc
@@ -274,10 +270,6 @@ cut_start ix [] ks n h j x a = elim a [ ]
 length-value_ends : (n : ℕ) (g : List Given) → length (value_ends n g) ≡ length g
 length-value_ends n [] = refl
 length-value_ends n (x ∷ g) = ap suc (length-value_ends (n + length (tree_rows false n x.value)) g)
-
-length-cut : (n : ℕ) (ends ks : List ℕ) → length (cut n ends ks) ≡ length ends
-length-cut n [] ks = refl
-length-cut n (b ∷ ends) ks = ap suc (length-cut b ends ks)
 
 pub length-all_at : (ix : List Text) (ks : List ℕ) (ds : List Text) → AllAt ix ks ds → length ks ≡ length ds
 length-all_at ix [] [] h = refl

@@ -12,7 +12,7 @@ reply_text (refuses text) = text
 reply_text (unreadable text) = text
 
 -- the text stands at the front of the room, and what lay behind it is as it was
-pub record IsWritten (text before after : List ℕ) (len : ℕ) : Type 0 where
+pub record IsInRoom (text before after : List ℕ) (len : ℕ) : Type 0 where
   pub fits : length text ≤ length before
   pub len_is : len ≡ length text
   pub room_is : after ≡ text ++ drop (length text) before
@@ -32,7 +32,7 @@ pub record IsLeft (before after : List ℕ) (len : ℕ) : Type 0 where
 pub record HandsText (Is : List ℕ → Type 0) (before after : List ℕ) (len : ℕ) : Type 0 where
   pub text : List ℕ
   pub is : Is text
-  pub written : IsWritten text before after len
+  pub written : IsInRoom text before after len
 
 -- the reply is longer than the room
 pub record WantsRoom (Is : Reply → Type 0) (before after : List ℕ) (len : ℕ) : Type 0 where
@@ -63,4 +63,4 @@ pub record HandsBy (Misused : Type 0) (Is : Reply → Type 0) (before after : Li
 
 -- for private functions: the text was written, with this status, or it is too long
 abbrev pub IsGiven : List ℕ → Status → List ℕ → List ℕ → ℕ → Status → Type 0
-IsGiven text told before after len status = ((status ≡ told) × IsWritten text before after len) ⊎ ((status ≡ Unwritten) × IsTooLong text before after len)
+IsGiven text told before after len status = ((status ≡ told) × IsInRoom text before after len) ⊎ ((status ≡ Unwritten) × IsTooLong text before after len)

@@ -14,19 +14,17 @@ use Rattle.sdjwt_cli.specs.declared.form.Form.TheVariants.{Compact, Flat, Genera
 use Rattle.cli_parts.specs.Lines.{line}
 use Rattle.sdjwt_cli.specs.Converting.{written, kept_in, HasRoom, Converts}
 use Rattle.sdjwt_cli.specs.ConvertingSteps.{IsJsonOf}
+use Rattle.verifier_core.proofs.SameVerdict.{few}
 
 abbrev members_of : Tree → Members
 members_of (object ms) = ms
 members_of _ = no_members
 
-not_much : (file : List ℕ) (token : Token) → IsToken file token → IsTooMuch token.parts → ⊥
-not_much file token reads much = reads.passes (unplaced Condition.TooMuch) (too_much token refl reads.spells much)
-
 read_back : (form : Form) (file : List ℕ) (token : Token) → IsToken file token → IsPrintable token → IsJsonOf form token (written form token) → length (line (written form token)) ≤ file_max
     → IsToken (line (written form token)) (kept_in form token)
-read_back Compact file token reads good is short = read_compact_line token.parts good.words (not_much file token reads)
-read_back Flat file token reads good is short = read_json_line token (members_of (flat_of token)) is short (not_much file token reads)
-read_back General file token reads good is short = read_json_line token (members_of (general_of token)) is short (not_much file token reads)
+read_back Compact file token reads good is short = read_compact_line token.parts good.words (few file token reads)
+read_back Flat file token reads good is short = read_json_line token (members_of (flat_of token)) is short (few file token reads)
+read_back General file token reads good is short = read_json_line token (members_of (general_of token)) is short (few file token reads)
 
 pub converts : (form : Form) (file : List ℕ) (token : Token) (text answer : List ℕ) → IsToken file token → IsPrintable token → text ≡ written form token → (HasRoom form token → IsJsonOf form token text)
     → answer ≡ line text → length answer ≤ file_max → Converts form file answer

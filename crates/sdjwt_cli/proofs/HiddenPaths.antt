@@ -22,6 +22,7 @@ use Rattle.issuer_core.specs.Order.{Order}
 use Rattle.issuer_core.specs.OrderRefusals.{AppliesToOrder}
 use Rattle.issuer_core.specs.ShortLists.{HasShortLists}
 use Rattle.issuer_core.specs.declared.errors.IssueError.TheVariants.{RootMarked, NoSuchPlace}
+use Rattle.rebuild_core.proofs.Transfer.{same_bool}
 
 -- ---- lists with each path once
 
@@ -257,11 +258,6 @@ among (q ∷ ps) p (inr more) = or_right (same_path p q) (is_among ps p) (among 
 of_among : (ps : List Path) (p : Path) → is_among ps p ≡ true → In p ps
 of_among ps p is = let found = list_any-In (same_path p) ps is in subst (λ (q : Path). In q ps) (sym (path_same p found.0 found.2)) found.1
 
-both_ways : (a b : Bool) → (a ≡ true → b ≡ true) → (b ≡ true → a ≡ true) → a ≡ b
-both_ways true b f g = sym (f refl)
-both_ways false true f g = g refl
-both_ways false false f g = refl
-
 -- ---- an order
 
 module _ (o : Order) (passes : NoneApplies (AppliesToOrder o)) (ordered : IsOrdered o.payload) (short : HasShortLists o.payload) where
@@ -276,7 +272,7 @@ module _ (o : Order) (passes : NoneApplies (AppliesToOrder o)) (ordered : IsOrde
 
   same_paths : (p : Path) → is_among closed p ≡ is_among o.hide p
   same_paths p =
-      both_ways (is_among closed p) (is_among o.hide p) (λ is. closing_passes (is_among o.hide) o.payload p (of_among closed p is)) (λ is. among closed p (hidden_there p (of_among o.hide p is)))
+      same_bool (is_among closed p) (is_among o.hide p) (λ is. closing_passes (is_among o.hide) o.payload p (of_among closed p is)) (λ is. among closed p (hidden_there p (of_among o.hide p is)))
 
   pub hidden_count_is : hidden_of o ≡ distinct_count same_path o.hide
   hidden_count_is =

@@ -20,16 +20,9 @@ use Rattle.holder_core.specs.declared.ask.BindingAsk.{BindingAsk}
 use Rattle.holder_core.specs.Present.{picked, PicksParts, IsBoundWith, IsBoundAs}
 use Rattle.holder_core.proofs.Picking.{picked_words}
 use Rattle.sdjwt_cli.specs.PresentedValues.{AreShort}
+use Rattle.sdjwt_cli.proofs.EmbeddedDigests.{fewer_picked}
 
 -- ---- disclosures that are picked
-
-pub picked_few : {X : Type 0} (s : ℕ → Bool) (xs : List X) → length (picked s xs) ≤ length xs
-picked_few s [] = omega arith
-picked_few {X} s (x ∷ xs) = go (s 0) (picked (λ k. s (suc k)) xs) (picked_few (λ k. s (suc k)) xs)
-  where
-    go : (b : Bool) (ys : List X) → length ys ≤ length xs → length (if b then x ∷ ys else ys) ≤ length (x ∷ xs)
-    go true ys ih = omega (arith, ih)
-    go false ys ih = omega (arith, ih)
 
 pub spelled_more : (d : Text) (ds : List Text) → length (spelled (d ∷ ds)) ≡ suc (length d) + length (spelled ds)
 spelled_more d ds = omega (arith, length-append (d ++ codes "~") (spelled ds), length-append d (codes "~"))
@@ -80,7 +73,7 @@ module _ (key : List ℕ) (hash : HashAlg) (now : ℕ) (in_range : now < 2 ^ 64)
   }
 
   pub answer_few : length parts.disclosures ≤ count_max → length answer.disclosures ≤ count_max
-  answer_few few = omega (arith, few, ap length presents.disclosures, picked_few s parts.disclosures)
+  answer_few few = omega (arith, few, ap length presents.disclosures, fewer_picked s parts.disclosures)
 
   pub answer_short : length (compact parts) ≤ issue_max → length (compact answer) ≤ compact_max
   answer_short short =

@@ -20,33 +20,9 @@ use Rattle.verifier_core.specs.Verdict.{Gives, IsNoDisclosure}
 use Rattle.cli_parts.specs.Lines.{refusal}
 use Rattle.sdjwt_cli.specs.Show.{show_lines, IsHead, IsShownPayload, Shows, IsShowUnreadAt, IsShowRefused, form, header, payload, hash, disclosure}
 use Rattle.cli_parts.specs.Telling.{TellsFault}
-
-abbrev shown_of : Text → Option Text → Tree → Given
-shown_of digest name value = record { digest = digest; name = name; value = value }
-
-one_reading : (alg : HashAlg) (disclosed : Text) (s t : Given) → Gives alg disclosed s → Gives alg disclosed t → s ≡ t
-one_reading alg disclosed s t g h =
-    let same = readings.one_disclosure disclosed g.1 h.1 s.name t.name s.value t.value g.2 h.2 in
-    let digests : s.digest ≡ t.digest = g.0 ∙ sym h.0 in
-    let names : s.name ≡ t.name = same.1 in
-    let values : s.value ≡ t.value = same.2 in
-    ap (λ (x : Text). shown_of x s.name s.value) digests ∙ (ap (λ (x : Option Text). shown_of t.digest x s.value) names ∙ ap (λ (x : Tree). shown_of t.digest t.name x) values)
-
-all_readings : (alg : HashAlg) (ds : List Text) (ss ts : List Given) → AllZip (Gives alg) ds ss → AllZip (Gives alg) ds ts → ss ≡ ts
-all_readings alg [] [] [] g h = refl
-all_readings alg [] [] (t ∷ ts) g h = absurd h
-all_readings alg [] (s ∷ ss) ts g h = absurd g
-all_readings alg (d ∷ ds) [] ts g h = absurd g
-all_readings alg (d ∷ ds) (s ∷ ss) [] g h = absurd h
-all_readings alg (d ∷ ds) (s ∷ ss) (t ∷ ts) g h =
-    let first : s ≡ t = one_reading alg d s t g.0 h.0 in
-    let others : ss ≡ ts = all_readings alg ds ss ts g.1 h.1 in
-    cc
+use Rattle.verifier_core.proofs.CheckSteps.{one_list, read_unread}
 
 -- a disclosure that is read is not one that is not
-read_unread : (alg : HashAlg) (disclosed : Text) (s : Given) → Gives alg disclosed s → IsNoDisclosure disclosed → ⊥
-read_unread alg disclosed s g u = u g.1 s.name s.value g.2
-
 all_read : (alg : HashAlg) (front : List Text) (d : Text) (rest : List Text) (ss : List Given) → AllZip (Gives alg) (front ++ d ∷ rest) ss → IsNoDisclosure d → ⊥
 all_read alg [] d rest [] g u = g
 all_read alg [] d rest (s ∷ ss) g u = read_unread alg d s g.0 u
@@ -118,7 +94,7 @@ one_shown file a b g h =
     let hashes : g.hash ≡ h.hash = (let known : Some g.hash ≡ Some h.hash = sym g.body.hash_is ∙ (ap payload_hash payloads ∙ h.body.hash_is) in cc known) in
     let there : AllZip (Gives g.hash) h.token.parts.disclosures g.shown = subst (λ (x : Token). AllZip (Gives g.hash) x.parts.disclosures g.shown) same g.disclosures in
     let read : AllZip (Gives h.hash) h.token.parts.disclosures g.shown = subst (λ (alg : HashAlg). AllZip (Gives alg) h.token.parts.disclosures g.shown) hashes there in
-    let all : g.shown ≡ h.shown = all_readings h.hash h.token.parts.disclosures g.shown h.shown read h.disclosures in
+    let all : g.shown ≡ h.shown = one_list h.hash h.token.parts.disclosures g.shown h.shown read h.disclosures in
     let bindings : g.token.parts.binding ≡ h.token.parts.binding = ap (λ (x : Token). x.parts.binding) same in
     g.lines ∙ (same_lines g.header h.header g.payload h.payload g.shown h.shown g.token.parts.binding h.token.parts.binding heads payloads all bindings ∙ sym h.lines)
 

@@ -13,12 +13,6 @@ use Rattle.sdjwt_cli.specs.Split.{binding_line}
 use Rattle.sdjwt_cli.specs.Show.{shown_line, shown_lines, IsHead, IsShownPayload, Shows}
 use Rattle.sdjwt_cli.specs.ShowSteps.{AddsLine, AddsLines}
 
-pub zip_more : (hash : HashAlg) (xs : List Text) (ss : List Given) (x : Text) (s : Given) → AllZip (Gives hash) xs ss → Gives hash x s → AllZip (Gives hash) (xs ++ x ∷ []) (ss ++ s ∷ [])
-zip_more hash [] [] x s all is = (is, tt)
-zip_more hash [] (t ∷ ss) x s all is = absurd all
-zip_more hash (y ∷ xs) [] x s all is = absurd all
-zip_more hash (y ∷ xs) (t ∷ ss) x s all is = (all.0, zip_more hash xs ss x s all.1 is)
-
 zip_length : (hash : HashAlg) (xs : List Text) (ss : List Given) → AllZip (Gives hash) xs ss → length xs ≡ length ss
 zip_length hash [] [] all = refl
 zip_length hash [] (t ∷ ss) all = absurd all

@@ -3,6 +3,7 @@ use Rattle.std.proofs.Common.{◌≡◌, ℕ, zero, suc, ◌<◌, ◌≤◌, Lis
 use Rattle.std.specs.List.{AllZip}
 use Rattle.claim_tree.specs.Tree.{Text, Tree, Members, leaf, null, flag, whole, text, array, object, depth}
 use Rattle.claim_tree.specs.Lists.{StandsAt, AtNone, IsLeast}
+use Rattle.claim_tree.proofs.Lists.{got_stands}
 use Rattle.compact_form.specs.declared.fault.Fault.{Fault}
 use Rattle.compact_form.specs.declared.fault.Place.{Place}
 use Rattle.json_form.specs.declared.token.Token.{Token}
@@ -105,7 +106,7 @@ payload_fault token rules fault passes (no_hash body has w is) = refuse_unplaced
 -- ---- one list of what is given
 
 -- a disclosure that is read is not one that is not
-read_unread : (hash : HashAlg) (d : Text) (x : Given) → Gives hash d x → IsNoDisclosure d → ⊥
+pub read_unread : (hash : HashAlg) (d : Text) (x : Given) → Gives hash d x → IsNoDisclosure d → ⊥
 read_unread hash d x g u = u g.1 x.name x.value g.2
 
 all_read : (hash : HashAlg) (ds : List Text) (xs : List Given) (i : ℕ) (d : Text) → AllZip (Gives hash) ds xs → StandsAt ds i d → IsNoDisclosure d → ⊥
@@ -120,11 +121,6 @@ front_read hash (e ∷ ds) xs zero j d all below there u = absurd (omega (arith,
 front_read hash (e ∷ ds) [] (suc i) j d all below there u = all
 front_read hash (e ∷ ds) (x ∷ xs) (suc i) zero d all below there u = read_unread hash e x all.0 (subst IsNoDisclosure there u)
 front_read hash (e ∷ ds) (x ∷ xs) (suc i) (suc j) d all below there u = front_read hash ds xs i j d all.1 (omega (arith, below)) there u
-
-pub got_stands : (ds : List Text) (i : ℕ) (d : Text) → slice_get ds i ≡ Some d → StandsAt ds i d
-got_stands [] i d e = absurd (cc e)
-got_stands (x ∷ ds) zero d e = let same : Some x ≡ Some d = e in sym (cc same)
-got_stands (x ∷ ds) (suc i) d e = got_stands ds i d e
 
 abbrev UnreadAt : Token → ℕ → Type 0
 UnreadAt token i = (disclosure : Text) × StandsAt token.parts.disclosures i disclosure × IsNoDisclosure disclosure
@@ -155,7 +151,7 @@ one_given hash d x y g h =
     let values : x.value ≡ y.value = same.2 in
     ap (λ (a : Text). given_as a x.name x.value) digests ∙ (ap (λ (a : Option Text). given_as y.digest a x.value) names ∙ ap (λ (a : Tree). given_as y.digest y.name a) values)
 
-one_list : (hash : HashAlg) (ds : List Text) (xs ys : List Given) → AllZip (Gives hash) ds xs → AllZip (Gives hash) ds ys → xs ≡ ys
+pub one_list : (hash : HashAlg) (ds : List Text) (xs ys : List Given) → AllZip (Gives hash) ds xs → AllZip (Gives hash) ds ys → xs ≡ ys
 one_list hash [] [] [] g h = refl
 one_list hash [] [] (y ∷ ys) g h = absurd h
 one_list hash [] (x ∷ xs) ys g h = absurd g

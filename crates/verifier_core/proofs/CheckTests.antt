@@ -3,7 +3,7 @@ use Rattle.std.proofs.Common.{Result, Ok, Err, IfOk, IfErr, ◌≡◌, ◌⊎◌
 use Rattle.std.specs.List.{AllZip}
 use Rattle.claim_tree.specs.Tree.{Text}
 use Rattle.claim_tree.specs.Lists.{StandsAt, In}
-use Rattle.claim_tree.proofs.Lists.{At-same, bytes_same, bytes_refl, In-append}
+use Rattle.claim_tree.proofs.Lists.{At-same, bytes_same, bytes_refl, In-append, got_stands}
 use Rattle.disclosure.specs.declared.digests.HashAlg.{HashAlg}
 use Rattle.disclosure.specs.declared.errors.DisclosureError.{DisclosureError}
 use Rattle.disclosure.specs.DisclosureRefusals.{IsDisclosureRefused}
@@ -11,7 +11,6 @@ use Rattle.disclosure.proofs.Verdicts as readings
 use Rattle.digest_sites.specs.Given.{Given}
 use Rattle.verifier_core.specs.Verdict.{IsTypeRefused, Gives, IsNoDisclosure}
 use Rattle.verifier_core.specs.Check.{TestTells, OnFault, unread_at, IsUnreadAt}
-use Rattle.verifier_core.proofs.CheckSteps.{got_stands}
 
 pub at_told : (xs : List Text) (i : ℕ) (y x : Text) → slice_get xs i ≡ Some y → (b : Bool) → b ≡ bytes_eq y x → TestTells b (StandsAt xs i x)
 at_told xs i y x there true is = subst (λ z. StandsAt xs i z) (bytes_same y x (sym is)) (got_stands xs i y there)

@@ -81,12 +81,6 @@ HasFirst payload names i = (j : ℕ) (name : Text) → j < i → StandsAt names 
 pub has_more : (payload : Tree) (names : List Text) (i : ℕ) (name : Text) → HasFirst payload names i → StandsAt names i name → get payload name ≢ None → HasFirst payload names (i + 1)
 has_more payload names i name first at there j other less stands none = ⊎_elim (λ below. first j other below stands none) (λ same. there (subst (λ n. get payload n ≡ None) (At-same names i other name (subst (λ k. StandsAt names k other) same stands) at) none)) (before_or_at j i less)
 
--- what is read at a place stands there
-pub stands : (names : List Text) (i : ℕ) (name : Text) → slice_get names i ≡ Some name → StandsAt names i name
-stands (other ∷ names) zero name e = cc e
-stands (other ∷ names) (suc i) name e = stands names i name e
-stands [] i name e = cc e
-
 -- where nothing is found, there is no claim
 pub no_claim : (found : Option (Bor tree.Tree)) (claim : Option Tree) → option_map (λ t. tree_of t.now) found ≡ claim → is_some found ≡ false → claim ≡ None
 no_claim None claim e none = sym e

@@ -17,7 +17,7 @@ use Rattle.rebuild_core.specs.Soundness.{IsSound}
 use Rattle.rebuild_core.specs.LookUps.{look_ups, counted, RoseWithin}
 use Rattle.rebuild_core.specs.Opening.{processed}
 use Rattle.rebuild_core.specs.Payload.{without_alg}
-use Rattle.verifier_core.specs.Content.{Content, IsOpenable}
+use Rattle.verifier_core.specs.Content.{Content, IsReadyToOpen}
 use Rattle.verifier_core.specs.Check.{OnFault, IsContent, IsCounted, IsCountedWithin, IsUncounted, IsUnopened, IsSigned, IsSignedFault, IsPayloadFault, IsUnreadAt}
 use Rattle.verifier_core.specs.Verdict.{Rules, TokenFails, Fails, IsBindingMissing, IsChecked, Gives, rules_of}
 use Rattle.verifier_core.specs.declared.check.VerifyError.{VerifyError}
@@ -62,7 +62,7 @@ module _ (token : Token) (rules : Rules) (signed : JwtParts) (outer : Members) (
           hash = (body, has_body, hash_is);
         }
 
-        pub is_openable : depth body ≤ 127 → IsRanged body → ValuesShallow given → ValuesRanged given → length token.parts.disclosures < 2 ^ 32 - 1 → IsOpenable body given
+        pub is_openable : depth body ≤ 127 → IsRanged body → ValuesShallow given → ValuesRanged given → length token.parts.disclosures < 2 ^ 32 - 1 → IsReadyToOpen body given
         is_openable low ranged shallow in_range few = record {
           object = is_payload signed.payload body hash is_body hash_is;
           body_depth = low;

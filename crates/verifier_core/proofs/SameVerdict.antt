@@ -51,7 +51,7 @@ one_verdict text other token policy now here there =
     }
 
 -- what is read has no more parts than it may have
-few : (text : List ℕ) (token : Token) → IsToken text token → IsTooMuch token.parts → ⊥
+pub few : (text : List ℕ) (token : Token) → IsToken text token → IsTooMuch token.parts → ⊥
 few text token is much = is.passes (unplaced Condition.TooMuch) (too_much token refl is.spells much)
 
 pub spelled : (text other : List ℕ) (token : Token) (policy : Policy) (now : ℕ) → IsToken text token → Spells (trimmed other) token → is_too_long other ≡ false → HaveOneVerdict text other policy now

@@ -33,6 +33,7 @@ use Rattle.compact_form.proofs.Numbers.{one_condition, same_fault}
 use Rattle.verifier_core.proofs.TokenConditions.{token_numbers}
 use Rattle.verifier_core.proofs.ClaimSteps.{claim_numbers}
 use Rattle.verifier_core.proofs.CheckSteps.{one_content}
+use Rattle.compact_form.proofs.Lowest.{below_or_at}
 
 pub few : (content : List ℕ) (token : Token) → IsToken content token → length token.parts.disclosures < 2 ^ 32 - 1
 few content token is = go (either (length token.parts.disclosures))
@@ -54,9 +55,6 @@ file_condition content fault (file.too_long e h) = (Condition.TooLong, ap (λ (x
 file_condition content fault (file.form place e h) = (Condition.Form, ap (λ (x : Fault). x.number) e)
 file_condition content fault (file.too_much token e h much) = (Condition.TooMuch, ap (λ (x : Fault). x.number) e)
 
-less_or_same : (a b : ℕ) → a ≤ b → (a < b) ⊎ (a ≡ b)
-less_or_same a b l = grind arith
-
 -- a file that is no token
 pub file_lowest : (content : List ℕ) (policy : Policy) (now : ℕ) (fault : Fault) → file.IsTextRefused content fault → IsLowest (Fails content policy now) fault
 file_lowest content policy now fault refused =
@@ -74,7 +72,7 @@ file_lowest content policy now fault refused =
     go c is other place (of_token token there h) = absurd (tokens.not_both content token fault there refused)
     go c is other place (of_claims token marked there opens h) = absurd (tokens.not_both content token fault there refused)
     go c is other place (of_holder token marked hash there opens has h) = absurd (tokens.not_both content token fault there refused)
-    go c is other place (of_file h) = placed (less_or_same fault.number (number_of other) (refused.lowest (fault_at other place) h))
+    go c is other place (of_file h) = placed (below_or_at fault.number (number_of other) (refused.lowest (fault_at other place) h))
       where
         placed : (fault.number < number_of other) ⊎ (fault.number ≡ number_of other) → (number_of c < number_of other) ⊎ ((other ≡ c) × IsNoLater fault.place place)
         placed (inl less) = inl (omega (arith, less, is))

@@ -18,7 +18,7 @@ pub record Content : Type 0 where
 -- ---- for the model
 
 -- what is read can be opened
-pub record IsOpenable (body : Tree) (given : List Given) : Type 0 where
+pub record IsReadyToOpen (body : Tree) (given : List Given) : Type 0 where
   pub object : IsPayload body
   pub body_depth : depth body ≤ 127
   pub body_range : IsRanged body

@@ -44,11 +44,11 @@ impl Model for Content {
     ghost coded = { content_code };
 
     ghost use Rattle.claim_tree.specs.View.{tree_of};
-    ghost use Rattle.verifier_core.specs.Content.{IsOpenable};
+    ghost use Rattle.verifier_core.specs.Content.{IsReadyToOpen};
 
     ghost view = { λ c. record { body = tree_of c.body; hash = c.hash; given = c.given } };
 
-    ghost invariant = { λ c. IsOpenable (tree_of c.body) c.given };
+    ghost invariant = { λ c. IsReadyToOpen (tree_of c.body) c.given };
 }
 
 fn refusal(error: ProcessError) -> VerifyError

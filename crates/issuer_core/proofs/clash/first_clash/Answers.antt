@@ -1,9 +1,9 @@
 use Rattle.std.proofs.Common.{◌≡◌, ◌≤◌, Some, take, slice_get, ap, sym, ◌∙◌, arith, below_more, add-one}
 use Rattle.std.specs.Option.{option_copied}
-use Rattle.claim_tree.proofs.Lists.{At-below}
+use Rattle.claim_tree.proofs.Lists.{At-below, got_stands}
 use Rattle.digest_index.specs.Index.{position_or_end, interned}
 use Rattle.rebuild_core.proofs.Repeated.{repeats_new, grows_new}
-use Rattle.issuer_core.proofs.Clashes.{stands, clash_at}
+use Rattle.issuer_core.proofs.Clashes.{clash_at}
 use Rattle.issuer_core.proofs.clash.first_clash.Goals as goal
 
 pub returns-then-i-j-clause-clash : goal.returns-then-i-j-clause-clash
@@ -12,14 +12,14 @@ returns-then-i-j-clause-clash c =
     let d = c.as_str.result.now in
     let read : slice_get ds c.loop-j.j ≡ Some d = sym c.at.ensures ∙ ap option_copied c.unwrap-digest.ensures ∙ ap Some (sym c.as_str.ensures) in
     let place : c.in_ok-i.i ≡ position_or_end d (take c.loop-j.j ds) = c.in_ok-i.ensures.place ∙ ap (position_or_end d) c.loop-j.invariant.0 in
-    clash_at ds c.loop-j.j c.in_ok-i.i d (stands ds c.loop-j.j d read) place c.if-i-j.true c.loop-j.invariant.1
+    clash_at ds c.loop-j.j c.in_ok-i.i d (got_stands ds c.loop-j.j d read) place c.if-i-j.true c.loop-j.invariant.1
 
 pub loop-j-preserved : goal.loop-j-preserved
 loop-j-preserved c =
     let ds = c.args.digests.now in
     let d = c.as_str.result.now in
     let read : slice_get ds c.loop-j.j ≡ Some d = sym c.at.ensures ∙ ap option_copied c.unwrap-digest.ensures ∙ ap Some (sym c.as_str.ensures) in
-    let at = stands ds c.loop-j.j d read in
+    let at = got_stands ds c.loop-j.j d read in
     let place : c.in_ok-i.i ≡ position_or_end d (take c.loop-j.j ds) = c.in_ok-i.ensures.place ∙ ap (position_or_end d) c.loop-j.invariant.0 in
     let new : c.loop-j.j ≤ position_or_end d (take c.loop-j.j ds) = omega (arith, place, c.if-i-j.false) in (
       c.in_ok-i.ensures.ok ∙ (ap (interned d) c.loop-j.invariant.0 ∙ (grows_new ds c.loop-j.j d at new ∙ ap (λ n. take n ds) (sym (add-one c.loop-j.j)))),

@@ -3,12 +3,13 @@ use Rattle.std.specs.Prelude.{slice_get}
 use Rattle.std.proofs.Math.ListN.{drop_of_length-le}
 use Rattle.claim_tree.specs.Tree.{Text, elements_len}
 use Rattle.claim_tree.proofs.Views.{elements_len-of}
-use Rattle.issuer_core.proofs.ReservedPlaces.{ElementsFit, every, element_found, element_passed, member_found, member_passed, step_behind, without_sd, object_with, object_without, held_element, held_member}
+use Rattle.issuer_core.proofs.ReservedPlaces.{ElementsFit, every, element_found, element_passed, member_found, member_passed, without_sd, object_with, object_without, held_element, held_member}
 use Rattle.claim_tree.specs.ListViews.{elements_of, members_of}
 use Rattle.claim_tree.proofs.Walks.{Named, into_element, into_member}
 use Rattle.marked_tree.specs.Paths.{Path}
 use Rattle.issuer_core.specs.ReservedPaths.{reserved_elements, reserved_members}
 use Rattle.issuer_core.proofs.reserved.+reserved.Goals as goal
+use Rattle.marked_tree.proofs.Finds.{step_behind}
 
 pub find_in_list-find-requires : goal.find_in_list-find-requires
 find_in_list-find-requires t c =

@@ -9,7 +9,7 @@ use Rattle.rebuild_core.proofs.MapOpening.{member_here, members_end}
 use Rattle.library_tests.proofs.PlainOpening.{found_below, found_falls, found_shows, elements_done, members_done, PlainState, plain_element, shown_element, plain_member, sd_member}
 use Rattle.rebuild_core.specs.Opening.{reveal, open_elements, open_members}
 use Rattle.rebuild_core.specs.Whole.{joined}
-use Rattle.library_tests.specs.Shown.{shown_of}
+use Rattle.library_tests.specs.Shown.{revealed_as}
 use Rattle.library_tests.proofs.plain.+plain.Goals as goal
 use Rattle.library_tests.proofs.plain.+plain.Goals.{open_list-in-None+in_ok-plain-in-None+in_ok-push-in-None, open_list-in-Some+in_ok-shown-in-Some+in_ok-push_shown-in-Some, open_map-then-not-is_sd+in_ok-plain+in_ok-make+in_ok-put, open_map-else-not-is_sd}
 
@@ -27,7 +27,7 @@ open_list-loop-tree-preserved t c =
       | open_list-in-None+in_ok-plain-in-None+in_ok-push-in-None w ↦
           rw w.out-is (plain_element _ _ _ _ _ s (marked_of w.in_ok-plain-in-None.plain) w.push.new.self w.in-None.ensures w.in_ok-plain-in-None.ensures w.in_ok-push-in-None.ensures.ok)
       | open_list-in-Some+in_ok-shown-in-Some+in_ok-push_shown-in-Some w ↦
-          rw w.out-is (shown_element _ _ _ _ _ s w.in-Some.digest.now (shown_of w.in_ok-shown-in-Some.shown) w.push_shown.new.out w.in-Some.ensures w.in_ok-shown-in-Some.ensures w.in_ok-push_shown-in-Some.ensures)
+          rw w.out-is (shown_element _ _ _ _ _ s w.in-Some.digest.now (revealed_as w.in_ok-shown-in-Some.shown) w.push_shown.new.out w.in-Some.ensures w.in_ok-shown-in-Some.ensures w.in_ok-push_shown-in-Some.ensures)
     ]
 
 pub open_list-returns : goal.open_list-returns

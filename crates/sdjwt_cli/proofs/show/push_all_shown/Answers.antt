@@ -1,8 +1,8 @@
 use Rattle.std.proofs.Common.{[], ◌∷◌, ◌++◌, length-append, string_bytes, append_assoc, append-nil, sym, ap, ◌∙◌, arith, rules}
 use Rattle.compact_form.specs.Faults.{placed}
 use Rattle.compact_form.specs.declared.condition.Condition.{Condition}
-use Rattle.verifier_core.proofs.CheckTests.{unread_of}
-use Rattle.sdjwt_cli.proofs.Shown.{zip_more, line_more}
+use Rattle.verifier_core.proofs.CheckTests.{unread_of, zip_more}
+use Rattle.sdjwt_cli.proofs.Shown.{line_more}
 use Rattle.sdjwt_cli.proofs.show.push_all_shown.Goals as goal
 
 pub loop-i-init : goal.loop-i-init
