@@ -21,6 +21,14 @@ refusal_number Refusal.WantedNotThere = 72
 refusal_number Refusal.ConsentRefused = 73
 refusal_number Refusal.BindingKeyDiffers = 74
 refusal_number Refusal.PresentTooLong = 75
+refusal_number Refusal.NoCredentialAnswers = 77
+refusal_number Refusal.OrderRefused = 80
+refusal_number Refusal.SignedPartDiffers = 81
+refusal_number Refusal.WrittenFormDiffers = 82
+refusal_number Refusal.PayloadDiffers = 83
+refusal_number Refusal.DigestsDiffer = 84
+refusal_number Refusal.DecoysDiffer = 85
+refusal_number Refusal.SdOrderDiffers = 86
 
 abbrev pub refusal_name : Refusal → List ℕ
 refusal_name (Refusal.Condition condition) = name_of condition
@@ -40,3 +48,11 @@ refusal_name Refusal.WantedNotThere = codes "wantedNotThere"
 refusal_name Refusal.ConsentRefused = codes "consentRefused"
 refusal_name Refusal.BindingKeyDiffers = codes "bindingKeyDiffers"
 refusal_name Refusal.PresentTooLong = codes "presentTooLong"
+refusal_name Refusal.NoCredentialAnswers = codes "noCredentialAnswers"
+refusal_name Refusal.OrderRefused = codes "orderRefused"
+refusal_name Refusal.SignedPartDiffers = codes "signedPartDiffers"
+refusal_name Refusal.WrittenFormDiffers = codes "writtenFormDiffers"
+refusal_name Refusal.PayloadDiffers = codes "payloadDiffers"
+refusal_name Refusal.DigestsDiffer = codes "digestsDiffer"
+refusal_name Refusal.DecoysDiffer = codes "decoysDiffer"
+refusal_name Refusal.SdOrderDiffers = codes "sdOrderDiffers"

@@ -40,6 +40,22 @@ pub enum Refusal {
     BindingKeyDiffers,
     /// 75: what is to be presented is too long.
     PresentTooLong,
+    /// 77: no held credential answers a query.
+    NoCredentialAnswers,
+    /// 80: the order of an audited token is itself refused.
+    OrderRefused,
+    /// 81: the signed part of an audited token is not what its order asks for.
+    SignedPartDiffers,
+    /// 82: the payload or a disclosure of an audited token is not written as its order asks for.
+    WrittenFormDiffers,
+    /// 83: the disclosures of an audited token do not open it to its order's payload.
+    PayloadDiffers,
+    /// 84: the digests of an audited token are not those of its disclosures and of its order's decoys.
+    DigestsDiffer,
+    /// 85: decoys of an audited token do not stand where its order puts them.
+    DecoysDiffer,
+    /// 86: a list `_sd` of an audited token does not ascend.
+    SdOrderDiffers,
 }
 
 impl Refusal {
@@ -67,6 +83,14 @@ impl Refusal {
             Refusal::ConsentRefused => 73,
             Refusal::BindingKeyDiffers => 74,
             Refusal::PresentTooLong => 75,
+            Refusal::NoCredentialAnswers => 77,
+            Refusal::OrderRefused => 80,
+            Refusal::SignedPartDiffers => 81,
+            Refusal::WrittenFormDiffers => 82,
+            Refusal::PayloadDiffers => 83,
+            Refusal::DigestsDiffer => 84,
+            Refusal::DecoysDiffer => 85,
+            Refusal::SdOrderDiffers => 86,
         }
     }
 
@@ -92,6 +116,14 @@ impl Refusal {
             Refusal::ConsentRefused => "consentRefused",
             Refusal::BindingKeyDiffers => "bindingKeyDiffers",
             Refusal::PresentTooLong => "presentTooLong",
+            Refusal::NoCredentialAnswers => "noCredentialAnswers",
+            Refusal::OrderRefused => "orderRefused",
+            Refusal::SignedPartDiffers => "signedPartDiffers",
+            Refusal::WrittenFormDiffers => "writtenFormDiffers",
+            Refusal::PayloadDiffers => "payloadDiffers",
+            Refusal::DigestsDiffer => "digestsDiffer",
+            Refusal::DecoysDiffer => "decoysDiffer",
+            Refusal::SdOrderDiffers => "sdOrderDiffers",
         }
     }
 }
