@@ -2,12 +2,14 @@
 use Rattle.std.proofs.Common.{◌≡◌, ◌≢◌, ℕ, zero, suc, ◌+◌, ◌≤◌, ◌⊎◌, inl, inr, ⊎_elim, List, [], ◌∷◌, ◌++◌, map, Bool, true, false, cond, ◌&&◌, Ordering, Less, Equal, Greater, refl, sym, ap, ap₂, ◌∙◌, subst, arith}
 use Rattle.std.specs.Prelude.{bytes_eq, if◌then◌else◌, sum_by, codes}
 use Rattle.std.specs.List.{count_by}
-use Rattle.std.specs.Ordering.{match_ordering}
+use Rattle.std.proofs.lemmas.Bool.{true≢false}
+use Rattle.std.proofs.lemmas.List.Sums.{sum_by-cons}
+use Rattle.std.specs.Ordering.{match_ordering, is_lt}
 use Rattle.claim_tree.specs.Tree.{Text}
 use Rattle.claim_tree.specs.Lists.{In}
 use Rattle.claim_tree.specs.Path.{pointer_text}
 use Rattle.claim_tree.proofs.Lists.{bytes_refl, bytes_same, true_unless_false, false_unless_true, and_split, and_join, In-of_map}
-use Rattle.claim_tree.proofs.MapPlaces.{cmp, order, same_name, before_after}
+use Rattle.claim_tree.proofs.MapPlaces.{cmp, same_name, before_after, after_before}
 use Rattle.claim_tree.proofs.PointerTexts.{pointer_text-injective}
 use Rattle.digest_sites.specs.declared.site.SiteKind.{SiteKind}
 use Rattle.digest_sites.specs.declared.site.SiteKind.TheVariants.{Member, Element}
@@ -44,18 +46,23 @@ occurs_sorted d (x ∷ xs) = occurs_with d x (sorted xs) ∙ ap (λ (n : ℕ). o
 own : (x : Text) (xs : List Text) → 1 ≤ occurs x (x ∷ xs)
 own x xs = rw (bytes_refl x x refl) (omega arith)
 
+less_greater : Less ≡ Greater → ⊥
+less_greater e = let w : true ≡ false = ap is_lt e in true≢false w
+
 -- below all others it is none of them
 absent : (x : Text) (ys : List Text) → ((y : Text) → In y ys → cmp x y ≡ Less) → occurs x ys ≡ 0
 absent x [] low = refl
 absent x (y ∷ ys) low =
     let other : bytes_eq y x ≡ false = false_unless_true (bytes_eq y x) (λ e. let s = bytes_same y x e in let l = low y (inl refl) in apart x (subst (λ z. cmp x z ≡ Less) s l)) in
-    rw other (absent x ys (λ z h. low z (inr h)))
+    let rest = absent x ys (λ z h. low z (inr h)) in
+    rw other (omega (arith, rest))
   where
     apart : (z : Text) → cmp z z ≡ Less → ⊥
-    apart z l = let e = (order).refl z in let w : Less ≡ Equal = sym l ∙ e in cc
+    apart z l = less_greater (sym l ∙ after_before z z l)
 
 above : (x y : Text) (ys : List Text) → cmp x y ≡ Less → NoneBelow y ys → (z : Text) → In z (y ∷ ys) → cmp x z ≡ Less
 above x y ys l n z (inl e) = subst (λ w. cmp x w ≡ Less) (sym e) l
+above x y [] l n z (inr h) = absurd h
 above x y (w ∷ ys) l n z (inr (inl e)) = subst (λ v. cmp x v ≡ Less) (sym e) (less_then x y w l n.0)
 above x y (w ∷ ys) l n z (inr (inr h)) = above x y ys l n.1 z (inr h)
 
@@ -63,23 +70,23 @@ pub one_order : (xs ys : List Text) → Rising xs → Rising ys → ((d : Text) 
 one_order [] [] r s same = refl
 one_order [] (y ∷ ys) r s same = let w = own y ys in absurd (omega (arith, w, same y))
 one_order (x ∷ xs) [] r s same = let w = own x xs in absurd (omega (arith, w, same x))
-one_order (x ∷ xs) (y ∷ ys) r s same = go (cmp x y) refl
+one_order (x ∷ xs) (y ∷ ys) r s same = go (cmp x y) refl (one_order xs ys r.1 s.1)
   where
     rest : (u : Text) → u ≡ y → u ≡ x → (d : Text) → occurs d xs ≡ occurs d ys
     rest u e f d = let head : one_for x d ≡ one_for y d = ap (λ (z : Text). one_for z d) (sym f ∙ e) in omega (arith, same d, head)
 
-    go : (o : Ordering) → cmp x y ≡ o → x ∷ xs ≡ y ∷ ys
-    go Less c = let w = own x xs in let v = absent x (y ∷ ys) (above x y ys c s.0) in absurd (omega (arith, w, v, same x))
-    go Greater c = let w = own y ys in let v = absent y (x ∷ xs) (above y x xs (before_after x y c) r.0) in absurd (omega (arith, w, v, same y))
-    go Equal c = let e = same_name x y c in ap₂ (λ (z : Text) (zs : List Text). z ∷ zs) e (one_order xs ys r.1 s.1 (rest x e refl))
+    go : (o : Ordering) → cmp x y ≡ o → (((d : Text) → occurs d xs ≡ occurs d ys) → xs ≡ ys) → x ∷ xs ≡ y ∷ ys
+    go Less c ih = let w = own x xs in let v = absent x (y ∷ ys) (above x y ys c s.0) in absurd (omega (arith, w, v, same x))
+    go Greater c ih = let w = own y ys in let v = absent y (x ∷ xs) (above y x xs (before_after x y c) r.0) in absurd (omega (arith, w, v, same y))
+    go Equal c ih = let e = same_name x y c in ap₂ (λ (z : Text) (zs : List Text). z ∷ zs) e (ih (rest x e refl))
 
 -- ---- standings and their texts
 
 kind_same : (a b : SiteKind) (p q : Text) → kind_text a ++ p ≡ kind_text b ++ q → (same_kind a b ≡ true) × (p ≡ q)
 kind_same Member Member p q e = (refl, cc)
 kind_same Element Element p q e = (refl, cc)
-kind_same Member Element p q e = absurd (cc)
-kind_same Element Member p q e = absurd (cc)
+kind_same Member Element p q e = let n : ◌≡◌ {A = ℕ} 109 101 = cc in absurd (omega (arith, n))
+kind_same Element Member p q e = let n : ◌≡◌ {A = ℕ} 101 109 = cc in absurd (omega (arith, n))
 
 kind_is : (a b : SiteKind) → same_kind a b ≡ true → a ≡ b
 kind_is Member Member e = refl
@@ -109,7 +116,7 @@ tests x y =
 
 counts : (x : Standing) (ys : List Standing) → count_by (same_standing x) ys ≡ occurs (standing_text x) (map standing_text ys)
 counts x [] = refl
-counts x (y ∷ ys) = ap₂ (λ (b : Bool) (n : ℕ). cond b 1 0 + n) (tests x y) (counts x ys)
+counts x (y ∷ ys) = sum_by-cons (λ (z : Standing). cond (same_standing x z) 1 0) y ys ∙ ap₂ (λ (b : Bool) (n : ℕ). cond b 1 0 + n) (tests x y) (counts x ys)
 
 pub alike : (xs ys : List Standing) → sorted (map standing_text xs) ≡ sorted (map standing_text ys) → IsEachAsOften xs ys
 alike xs ys e x =
@@ -118,8 +125,13 @@ alike xs ys e x =
 
 some_or_none : (d : Text) (xs ys : List Standing) → IsEachAsOften xs ys → In d (map standing_text xs) ⊎ In d (map standing_text ys) → occurs d (map standing_text xs) ≡ occurs d (map standing_text ys)
 some_or_none d xs ys h there =
-    let x = ⊎_elim (λ w. let v = In-of_map standing_text d xs w in (v.0, v.2)) (λ w. let v = In-of_map standing_text d ys w in (v.0, v.2)) there in
-    subst (λ e. occurs e (map standing_text xs) ≡ occurs e (map standing_text ys)) (sym x.1) (sym (counts x.0 xs) ∙ h x.0 ∙ counts x.0 ys)
+    elim there [
+      | inl w ↦ let v = In-of_map standing_text d xs w in for_text v.0 v.2
+      | inr w ↦ let v = In-of_map standing_text d ys w in for_text v.0 v.2
+    ]
+  where
+    for_text : (x : Standing) → d ≡ standing_text x → occurs d (map standing_text xs) ≡ occurs d (map standing_text ys)
+    for_text x e = subst (λ f. occurs f (map standing_text xs) ≡ occurs f (map standing_text ys)) (sym e) (sym (counts x xs) ∙ h x ∙ counts x ys)
 
 occurrences : (d : Text) (xs ys : List Standing) → IsEachAsOften xs ys → occurs d (map standing_text xs) ≡ occurs d (map standing_text ys)
 occurrences d xs ys h = go (occurs d (map standing_text xs)) refl

@@ -1,5 +1,5 @@
 -- What is found of the sites of a token is what the definitions say of them.
-use Rattle.std.proofs.Common.{◌≡◌, ℕ, zero, suc, ◌+◌, ◌<◌, ◌≤◌, List, [], ◌∷◌, ◌++◌, map, length, Bool, true, false, not, Option, Some, None, inl, inr, refl, sym, ap, ap₂, ◌∙◌, subst, arith, append_assoc}
+use Rattle.std.proofs.Common.{◌≡◌, ℕ, zero, suc, ◌+◌, ◌<◌, ◌≤◌, List, [], ◌∷◌, ◌++◌, map, length, Bool, true, false, not, cond, Option, Some, None, inl, inr, refl, sym, ap, ap₂, ◌∙◌, subst, arith, append_assoc}
 use Rattle.std.specs.Prelude.{filter, slice_get, unwrap_or, sum_by, codes, option_map}
 use Rattle.std.specs.List.{flat_map}
 use Rattle.std.proofs.lemmas.List.{length-append, length-map, map-append}
@@ -48,14 +48,13 @@ one_text m w r s e =
 owned_texts : (m : Marked) (g : List Given) (w : Owner) (r : Text) (ss : List Site) → r ≡ pointer_text (issued.root_of m w)
     → strange_texts m g (map (owned_site w) ss) ≡ map (site_text r) (strange g ss)
 owned_texts m g w r [] e = refl
-owned_texts m g w r (s ∷ ss) e = go (is_given g s.digest) refl
+owned_texts m g w r (s ∷ ss) e = go (is_given g s.digest) (owned_texts m g w r ss e)
   where
-    rest : strange_texts m g (map (owned_site w) ss) ≡ map (site_text r) (strange g ss)
-    rest = owned_texts m g w r ss e
-
-    go : (b : Bool) → is_given g s.digest ≡ b → strange_texts m g (map (owned_site w) (s ∷ ss)) ≡ map (site_text r) (strange g (s ∷ ss))
-    go true c = rw c rest
-    go false c = rw c (ap₂ (λ (x : Text) (xs : List Text). x ∷ xs) (one_text m w r s e) rest)
+    go : (b : Bool) → strange_texts m g (map (owned_site w) ss) ≡ map (site_text r) (strange g ss)
+        → map standing_text (map (stand_of m) (cond (not b) (owned_site w s ∷ filter (is_strange g) (map (owned_site w) ss)) (filter (is_strange g) (map (owned_site w) ss))))
+        ≡ map (site_text r) (cond (not b) (s ∷ strange g ss) (strange g ss))
+    go true ih = ih
+    go false ih = ap₂ (λ (x : Text) (xs : List Text). x ∷ xs) (one_text m w r s e) ih
 
 abbrev HasRoots : Marked → List Text → ℕ → Type 0
 HasRoots m places n = (j : ℕ) → j < n → root_of places (suc j) ≡ pointer_text (issued.root_of m (value_of j))

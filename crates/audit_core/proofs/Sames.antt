@@ -10,12 +10,10 @@ use Rattle.marked_tree.specs.Marked.{Marked, marked_leaf, marked_array, marked_o
 use Rattle.audit_core.specs.SameMarked.{same_flag, same_leaf, same_mark, same_marked, same_elements, same_members}
 
 told : (b : Bool) (P : Type 0) → Decides b P → b ≡ true → P
-told true P d e = d
-told false P d e = let w : false ≡ true = e in cc
+told b P d e = d.0 e
 
 is_told : (b : Bool) (P : Type 0) → Decides b P → P → b ≡ true
-is_told true P d p = refl
-is_told false P d p = absurd (d p)
+is_told b P d p = d.1 p
 
 flags : (a b : Bool) → same_flag a b ≡ true → a ≡ b
 flags true true e = refl

@@ -1,30 +1,30 @@
 -- What the test of each `_sd` says.
-use Rattle.std.proofs.Common.{◌≡◌, Bool, true, false, not, ◌&&◌, ◌||◌, List, [], ◌∷◌, Option, Some, None, Ordering, Less, Equal, Greater, refl, sym, ap, subst}
+use Rattle.std.proofs.Common.{◌≡◌, ℕ, ◌+◌, ◌<◌, inl, inr, length, get_or, drop, Bool, true, false, not, ◌&&◌, ◌||◌, List, [], ◌∷◌, Option, Some, None, Ordering, Less, Equal, Greater, refl, sym, ap, subst, ◌∙◌}
 use Rattle.std.specs.Prelude.{bytes_eq, option_map}
-use Rattle.std.specs.Ordering.{match_ordering, nat_cmp}
+use Rattle.std.specs.Ordering.{is_lt, nat_cmp}
 use Rattle.std.specs.Cmp.Lexicographic.{slice_cmp}
 use Rattle.claim_tree.specs.Tree.{Text, Tree, leaf, null, flag, whole, text, array, object, Elements, no_elements, element, Members, no_members, member, IsBefore}
-use Rattle.claim_tree.specs.Everywhere.{EachMember}
+use Rattle.std.proofs.lemmas.List.{drop_more}
+use Rattle.claim_tree.specs.Lists.{In}
+use Rattle.claim_tree.specs.View.{tree_of}
+use Rattle.claim_tree.specs.ListViews.{elements_of}
+use Rattle.claim_tree.specs.declared.tree.Tree as tree
+use Rattle.digest_sites.specs.Given.{Given}
 use Rattle.claim_tree.proofs.Everywheres.{EachElementIn, EachMemberIn}
 use Rattle.claim_tree.proofs.Lists.{and_split, and_join}
-use Rattle.claim_tree.proofs.MapPlaces.{before_through}
+use Rattle.claim_tree.proofs.MapPlaces.{before_through, is_less}
 use Rattle.digest_sites.specs.Reserved.{sd_name, texts_of, text_list}
 use Rattle.issuer_core.specs.Issued.{Rises, IsDigestList, HasDigestLists}
-use Rattle.audit_core.specs.SortedLists.{is_before, rise, is_digest_list, has_digest_lists, elements_have, members_have}
+use Rattle.audit_core.specs.SortedLists.{is_before, rise, is_digest_list, has_digest_lists, elements_have, members_have, values_have}
 
 no : {A : Type 0} → false ≡ true → A
 no e = let w : false ≡ true = e in absurd (cc)
 
 before_is : (x y : Text) → is_before x y ≡ true → IsBefore x y
-before_is x y = go (slice_cmp nat_cmp x y)
-  where
-    go : (o : Ordering) → match_ordering o true false false ≡ true → o ≡ Less
-    go Less e = refl
-    go Equal e = no e
-    go Greater e = no e
+before_is x y e = is_less (slice_cmp nat_cmp x y) e
 
 is_before_so : (x y : Text) → IsBefore x y → is_before x y ≡ true
-is_before_so x y e = ap (λ (o : Ordering). match_ordering o true false false) e
+is_before_so x y e = ap is_lt e
 
 -- ---- one list
 
@@ -54,13 +54,14 @@ some_same a b e = cc
 
 is_rise : (d : Text) (es : Elements) (ds : List Text) → texts_of es ≡ Some ds → Rises (d ∷ ds) → rise d es ≡ true
 is_rise d no_elements ds e r = refl
-is_rise d (element (leaf (text s)) es) ds e r = go (texts_of es) refl e
+is_rise d (element (leaf (text s)) es) ds e r = go (texts_of es) refl e (is_rise s es)
   where
-    go : (o : Option (List Text)) → texts_of es ≡ o → option_map (λ (ss : List Text). s ∷ ss) o ≡ Some ds → (is_before d s && rise s es) ≡ true
-    go None c e = nothing ds e
-    go (Some ss) c e =
-        let r2 = subst (λ xs. Rises (d ∷ xs)) (sym (some_same (s ∷ ss) ds e)) r in
-        and_join (is_before d s) (rise s es) (is_before_so d s r2.0.0) (is_rise s es ss c r2.1)
+    go : (o : Option (List Text)) → texts_of es ≡ o → option_map (λ (ss : List Text). s ∷ ss) o ≡ Some ds
+        → ((xs : List Text) → texts_of es ≡ Some xs → Rises (s ∷ xs) → rise s es ≡ true) → (is_before d s && rise s es) ≡ true
+    go None c f ih = nothing ds f
+    go (Some ss) c f ih =
+        let r2 = subst (λ xs. Rises (d ∷ xs)) (sym (some_same (s ∷ ss) ds f)) r in
+        and_join (is_before d s) (rise s es) (is_before_so d s r2.0.0) (ih ss c r2.1)
 is_rise d (element (leaf null) es) ds e r = nothing ds e
 is_rise d (element (leaf (flag b)) es) ds e r = nothing ds e
 is_rise d (element (leaf (whole z)) es) ds e r = nothing ds e
@@ -77,9 +78,6 @@ list_is (array (element (leaf (flag b)) es)) e = no e
 list_is (array (element (leaf (whole z)) es)) e = no e
 list_is (array (element (array fs) es)) e = no e
 list_is (array (element (object ms) es)) e = no e
-
-none_some : {A : Type 0} (ds : List Text) → ◌≡◌ {A = Option (List Text)} (Some []) (Some ds) → ds ≡ []
-none_some ds e = cc
 
 is_list : (t : Tree) → IsDigestList t → is_digest_list t ≡ true
 is_list (leaf l) h = nothing _ h.2
@@ -141,3 +139,21 @@ mutual
   are_members (member name t ms) h =
       and_join (not (bytes_eq name sd_name) || is_digest_list t) (has_digest_lists t && members_have ms) (is_member (bytes_eq name sd_name) t h.0)
       (and_join (has_digest_lists t) (members_have ms) (are_lists t h.1) (are_members ms h.2))
+
+-- ---- values
+
+pub values_are : (given : List Given) → values_have given ≡ true → (x : Given) → In x given → HasDigestLists x.value
+values_are [] e x m = absurd m
+values_are (y ∷ given) e x (inl same) =
+    let w = and_split (has_digest_lists y.value) (values_have given) e in
+    subst (λ (z : Given). HasDigestLists z.value) (sym same) (lists_are y.value w.0)
+values_are (y ∷ given) e x (inr m) = let w = and_split (has_digest_lists y.value) (values_have given) e in values_are given w.1 x m
+
+pub are_values : (given : List Given) → ((x : Given) → In x given → HasDigestLists x.value) → values_have given ≡ true
+are_values [] h = refl
+are_values (y ∷ given) h = and_join (has_digest_lists y.value) (values_have given) (are_lists y.value (h y (inl refl))) (are_values given (λ x m. h x (inr m)))
+
+-- ---- one tree of a slice
+
+pub trees_front : (ts : List tree.Tree) (n : ℕ) (t : tree.Tree) → n < length ts → t ≡ get_or ts n t → elements_of (drop n ts) ≡ element (tree_of t) (elements_of (drop (n + 1) ts))
+trees_front ts n t within is = ap elements_of (drop_more ts n t within ∙ ap (λ (d : tree.Tree). d ∷ drop (n + 1) ts) (sym is))

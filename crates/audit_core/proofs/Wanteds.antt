@@ -1,10 +1,11 @@
 -- Where an order wants its decoys, entry by entry.
-use Rattle.std.proofs.Common.{◌≡◌, ℕ, zero, suc, ◌+◌, ◌<◌, ◌≤◌, List, [], ◌∷◌, ◌++◌, map, length, replicate, Bool, true, false, cond, Option, Some, None, refl, sym, ap, ap₂, ◌∙◌, subst, arith, decimal, append_assoc}
+use Rattle.std.proofs.Common.{◌≡◌, ℕ, zero, suc, ◌+◌, ◌<◌, ◌≤◌, List, [], ◌∷◌, ◌++◌, map, length, take, drop, replicate, Bool, true, false, cond, Option, Some, None, refl, sym, ap, ap₂, ◌∙◌, subst, arith, decimal, append_assoc}
 use Rattle.std.specs.Prelude.{if◌then◌else◌, bytes_eq, unwrap_or}
 use Rattle.std.specs.Ordering.{nat_cmp, is_eq}
 use Rattle.std.specs.Cmp.Lexicographic.{slice_cmp}
 use Rattle.std.specs.BTreeMap.{BTreeMap, get}
-use Rattle.std.proofs.lemmas.List.{map-append}
+use Rattle.std.proofs.lemmas.List.{map-append, length-append, append-nil, drop_all}
+use Rattle.std.proofs.lemmas.List.{length-replicate}
 use Rattle.std.proofs.lemmas.Map.Text.{is_eq-slice_cmp}
 use Rattle.claim_tree.specs.Tree.{Text, Tree, leaf, array, object, elements_len}
 use Rattle.claim_tree.specs.Path.{pointer_text, tree_at}
@@ -19,6 +20,7 @@ use Rattle.audit_core.specs.Audited.{Standing, standing, decoy_standing, standin
 use Rattle.audit_core.specs.AuditSteps.{standing_text}
 use Rattle.audit_core.specs.Wanted.{count_at, member_texts, element_texts, entry_texts}
 use Rattle.audit_core.proofs.Alikes.{one_test}
+use Rattle.audit_core.proofs.Loops.{IsEntry}
 
 -- ---- how many came before
 
@@ -33,7 +35,7 @@ before_parts p (x ∷ front) more (suc n) k e = let ih = before_parts p front mo
 run_count : (p at : Path) (n : ℕ) (rest : List Path) → earlier n p (replicate n at ++ rest) ≡ (if same_path at p then n else 0)
 run_count p at zero rest = go (same_path at p)
   where
-    go : (b : Bool) → 0 ≡ (if b then 0 else 0)
+    go : (b : Bool) → ◌≡◌ {A = ℕ} 0 (if b then 0 else 0)
     go true = refl
     go false = refl
 run_count p at (suc n) rest = go (same_path at p) (run_count p at n rest)
@@ -136,3 +138,61 @@ noted old new pointer before more b h q = ap (λ (o : Option ℕ). unwrap_or o 0
     go : (t : Bool) → bytes_eq pointer q ≡ t → unwrap_or (cond t (Some (before + more)) (get (slice_cmp nat_cmp) old q)) 0 ≡ (if t then more else 0) + count_at old q
     go true e = let same = b ∙ ap (count_at old) (bytes_same pointer q e) in omega (arith, same)
     go false e = omega arith
+
+-- ---- the loop over entries
+
+abbrev CountsTell : BTreeMap Text ℕ → List Decoy → ℕ → Type 0
+CountsTell counts es i = (p : Path) → count_at counts (pointer_text p) ≡ earlier (length (decoy_paths (take i es))) p (decoy_paths es)
+
+abbrev AreSplit : List Decoy → ℕ → Type 0
+AreSplit es i = decoy_paths es ≡ decoy_paths (take i es) ++ decoy_paths (drop i es)
+
+before_is : (es : List Decoy) (i : ℕ) (e : Decoy) (counts : BTreeMap Text ℕ) (pointer : Text) → CountsTell counts es i → pointer ≡ pointer_text e.at
+    → count_at counts pointer ≡ earlier (length (decoy_paths (take i es))) e.at (decoy_paths es)
+before_is es i e counts pointer tell is = ap (count_at counts) is ∙ tell e.at
+
+pub few_before : (es : List Decoy) (i : ℕ) (e : Decoy) (counts : BTreeMap Text ℕ) (pointer : Text) → IsEntry es i e → AreSplit es i → CountsTell counts es i → pointer ≡ pointer_text e.at
+    → count_at counts pointer + e.count ≤ length (decoy_paths es)
+few_before es i e counts pointer h whole tell is =
+    let b = before_is es i e counts pointer tell is in
+    let low = earlier_within (length (decoy_paths (take i es))) e.at (decoy_paths es) in
+    let long = ap (λ (ps : List Path). length ps) whole ∙ length-append (decoy_paths (take i es)) (decoy_paths (drop i es)) in
+    let rest = ap (λ (ps : List Path). length ps) h.left ∙ length-append (replicate e.count e.at) (decoy_paths (drop (i + 1) es)) in
+    omega (arith, b, low, long, rest, length-replicate e.count e.at)
+
+split_again : (es : List Decoy) (i : ℕ) (e : Decoy) → IsEntry es i e → AreSplit es i → decoy_paths es ≡ decoy_paths (take i es) ++ (replicate e.count e.at ++ decoy_paths (drop (i + 1) es))
+split_again es i e h whole = whole ∙ ap (λ (ps : List Path). decoy_paths (take i es) ++ ps) h.left
+
+pub whole_step : (es : List Decoy) (i : ℕ) (e : Decoy) → IsEntry es i e → AreSplit es i → AreSplit es (i + 1)
+whole_step es i e h whole =
+    split_again es i e h whole ∙ sym (append_assoc (decoy_paths (take i es)) (replicate e.count e.at) (decoy_paths (drop (i + 1) es)))
+    ∙ ap (λ (ps : List Path). ps ++ decoy_paths (drop (i + 1) es)) (sym h.so_far)
+
+next_length : (es : List Decoy) (i : ℕ) (e : Decoy) → IsEntry es i e → length (decoy_paths (take (i + 1) es)) ≡ length (decoy_paths (take i es)) + e.count
+next_length es i e h =
+    ap (λ (ps : List Path). length ps) h.so_far ∙ length-append (decoy_paths (take i es)) (replicate e.count e.at) ∙ ap (λ (n : ℕ). length (decoy_paths (take i es)) + n) (length-replicate e.count e.at)
+
+pub counts_after : (es : List Decoy) (i : ℕ) (e : Decoy) (old new : BTreeMap Text ℕ) (pointer : Text) → IsEntry es i e → AreSplit es i → CountsTell old es i → pointer ≡ pointer_text e.at
+    → ((q : Text) → count_at new q ≡ (if bytes_eq pointer q then e.count else 0) + count_at old q) → CountsTell new es (i + 1)
+counts_after es i e old new pointer h whole tell is noted p =
+    let d = length (decoy_paths (take i es)) in
+    noted (pointer_text p)
+    ∙ ap₂ (λ (t : Bool) (n : ℕ). (if t then e.count else 0) + n) (ap (λ (x : Text). bytes_eq x (pointer_text p)) is ∙ pointer_test e.at p) (tell p)
+    ∙ sym (counts_step p e.at (decoy_paths (take i es)) e.count (decoy_paths (drop (i + 1) es)) (decoy_paths es) d (split_again es i e h whole) refl)
+    ∙ ap (λ (n : ℕ). earlier n p (decoy_paths es)) (sym (next_length es i e h))
+
+pub texts_after : (claims : Tree) (es : List Decoy) (i : ℕ) (e : Decoy) (counts : BTreeMap Text ℕ) (pointer : Text) (before : ℕ) → IsEntry es i e → AreSplit es i → CountsTell counts es i → pointer ≡ pointer_text e.at
+    → before ≡ count_at counts pointer
+    → texts_of claims (decoy_paths es) (length (decoy_paths (take i es))) (decoy_paths (drop i es))
+    ≡ entry_texts e.at before e.count (tree_at claims e.at) ++ texts_of claims (decoy_paths es) (length (decoy_paths (take (i + 1) es))) (decoy_paths (drop (i + 1) es))
+texts_after claims es i e counts pointer before h whole tell is b =
+    let d = length (decoy_paths (take i es)) in
+    ap (texts_of claims (decoy_paths es) d) h.left
+    ∙ entry_step claims (decoy_paths (take i es)) e.at e.count (decoy_paths (drop (i + 1) es)) (decoy_paths es) d before (split_again es i e h whole) refl (b ∙ before_is es i e counts pointer tell is)
+    ∙ ap (λ (n : ℕ). entry_texts e.at before e.count (tree_at claims e.at) ++ texts_of claims (decoy_paths es) n (decoy_paths (drop (i + 1) es))) (sym (next_length es i e h))
+
+pub texts_end : (claims : Tree) (es : List Decoy) (i : ℕ) (items : List Text) → length es ≤ i
+    → items ++ texts_of claims (decoy_paths es) (length (decoy_paths (take i es))) (decoy_paths (drop i es)) ≡ texts_of claims (decoy_paths es) 0 (decoy_paths es)
+    → items ≡ texts_of claims (decoy_paths es) 0 (decoy_paths es)
+texts_end claims es i items l inv =
+    sym (append-nil items) ∙ ap (λ (ds : List Decoy). items ++ texts_of claims (decoy_paths es) (length (decoy_paths (take i es))) (decoy_paths ds)) (sym (drop_all i es l)) ∙ inv

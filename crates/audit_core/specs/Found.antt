@@ -1,5 +1,5 @@
 -- For private functions: what is found of the sites of a token.
-use Rattle.std.specs.Prelude.{◌≡◌, ℕ, zero, suc, ◌+◌, List, [], ◌∷◌, ◌++◌, map, length, filter, not, Bool, true, false, bytes_eq, unwrap_or, slice_get, sum_by}
+use Rattle.std.specs.Prelude.{◌≡◌, ℕ, zero, suc, ◌+◌, List, [], ◌∷◌, ◌++◌, map, length, filter, not, Bool, true, false, bytes_eq, unwrap_or, slice_get}
 use Rattle.std.specs.List.{list_any}
 use Rattle.std.specs.Borrow.{Bor}
 use Rattle.claim_tree.specs.Tree.{Text, Tree}
@@ -76,4 +76,10 @@ pub record IsFoundIn (hash : HashAlg) (given : List Given) (places : List Text) 
 
 -- how many sites the trees have
 abbrev pub sites_in : List Tree → ℕ
-sites_in trees = sum_by (λ t. length (sites t)) trees
+sites_in [] = 0
+sites_in (t ∷ ts) = length (sites t) + sites_in ts
+
+-- the same, as they are listed
+abbrev pub listed_in : List (List code.Site) → ℕ
+listed_in [] = 0
+listed_in (l ∷ ls) = length l + listed_in ls

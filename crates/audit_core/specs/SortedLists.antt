@@ -1,12 +1,13 @@
 -- For private functions: whether each `_sd` ascends.
 use Rattle.std.specs.Prelude.{Bool, true, false, ◌&&◌, List, [], ◌∷◌, bytes_eq, if◌then◌else◌, not, ◌||◌}
-use Rattle.std.specs.Ordering.{match_ordering, nat_cmp}
+use Rattle.std.specs.Ordering.{is_lt, nat_cmp}
 use Rattle.std.specs.Cmp.Lexicographic.{slice_cmp}
 use Rattle.claim_tree.specs.Tree.{Text, Tree, leaf, text, array, object, Elements, no_elements, element, Members, no_members, member}
+use Rattle.digest_sites.specs.Given.{Given}
 use Rattle.digest_sites.specs.Reserved.{sd_name}
 
 abbrev pub is_before : Text → Text → Bool
-is_before x y = match_ordering (slice_cmp nat_cmp x y) true false false
+is_before x y = is_lt (slice_cmp nat_cmp x y)
 
 -- the elements are texts that ascend, after this one
 abbrev pub rise : Text → Elements → Bool
@@ -31,3 +32,8 @@ abbrev mutual
   pub members_have : Members → Bool
   members_have no_members = true
   members_have (member name t ms) = (not (bytes_eq name sd_name) || is_digest_list t) && (has_digest_lists t && members_have ms)
+
+-- of the values of disclosures
+abbrev pub values_have : List Given → Bool
+values_have [] = true
+values_have (x ∷ given) = has_digest_lists x.value && values_have given

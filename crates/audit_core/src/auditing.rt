@@ -88,14 +88,16 @@ fn judge_digests(
     requires claims { marked_of claims.now ≡ marked_claims (order_of order.now) }
     requires shows { ShowsClaims (order_of order.now) (tree_of payload.now) given.now }
     requires count { length given.now ≡ hidden_of (order_of order.now) }
+    requires few { length given.now ≤ count_max }
     ensures audited { OnOk result (IsAuditedFor (order_of order.now) (tree_of payload.now) given.now) }
     ensures differs { IfErr result (λ e. OnPart e (ContentDiffers (order_of order.now) (tree_of payload.now) given.now)) }
 {
     let lists = site_lists(alloc, payload, given)?;
+    let lists = lists.as_slice();
     let places = places_of(alloc, claims)?;
-    let found = gather(alloc, order.hash, given, lists.as_slice(), &places)?;
+    let found = gather(alloc, order.hash, given, lists, &places)?;
     let Found { of_form, standings } = found;
-    if !of_form || !are_so_many(lists.as_slice(), given.len() + decoy_count(order)) {
+    if !of_form || !are_so_many(lists, given.len() + decoy_count(order)) {
         return Err(AuditError::Part(4));
     }
     let wanted = wanted_standings(alloc, order)?;
@@ -196,7 +198,9 @@ pub fn audit<K: Checker>(
     ensures within { IsAuditedWithin (order_of order.now) text.now steps.old steps.new }
     ensures uncounted { (error : SeenError) → IsEarly error → FailsAudit (order_of order.now) alg (K.good checker.now) text.now error → steps.new ≡ steps.old }
 {
-    judge_order(alloc, order)?;
+    if let Err(error) = judge_order(alloc, order) {
+        return Err(error);
+    }
     let token = match TokenText::read(alloc, text) {
         Ok(token) => token,
         Err(TokenError::Fault(fault)) => return Err(AuditError::Token(fault)),

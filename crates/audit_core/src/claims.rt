@@ -32,8 +32,10 @@ fn opened(alloc: Global, written: &Written, steps: &mut Steps) -> Result<Option<
 {
     match process(alloc, &written.body, &written.given, steps) {
         Ok(marked) => Ok(Some(marked)),
-        Err(ProcessError::Memory) => Err(NoMemory),
-        Err(_) => Ok(None),
+        Err(error) => match error {
+            ProcessError::Memory => Err(NoMemory),
+            _ => Ok(None),
+        },
     }
 }
 

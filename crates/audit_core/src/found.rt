@@ -1,5 +1,5 @@
 // The fourth part: the digests of a token, and where those stand that are of no disclosure.
-ghost use Rattle.std.specs.Prelude.{◌≡◌, ◌↔◌, List, map, IfOk, OnOk, IsTrue};
+ghost use Rattle.std.specs.Prelude.{◌≡◌, ◌↔◌, ◌||◌, List, map, IfOk, OnOk, IsTrue, bytes_eq};
 ghost use Rattle.claim_tree.specs.Tree.{Text, Tree as SeenTree};
 ghost use Rattle.digest_sites.specs.Given.{Given as SeenGiven};
 ghost use Rattle.digest_sites.specs.Sites.{Site as SeenSite};
@@ -23,13 +23,27 @@ pub(crate) struct Found {
     pub(crate) standings: Vec<TextBox>,
 }
 
+// Puts a digest among those, unless it is there.
+fn add<'a>(digests: &mut HashSet<&'a str, Seeded>, digest: &'a str) -> Result<(), NoMemory>
+    ensures { OnOk result ((other : Text) → is_in digests.new.keys other ≡ (bytes_eq other digest.now || is_in digests.old.keys other)) }
+{
+    digests.insert(digest)?;
+    Ok(())
+}
+
+fn has(digests: &HashSet<&str, Seeded>, digest: &str) -> bool
+    ensures { result ≡ is_in digests.now.keys digest.now }
+{
+    digests.contains(digest)
+}
+
 // The digests of the disclosures.
 fn digests_of<'a>(alloc: Global, given: &'a GivenList) -> Result<HashSet<&'a str, Seeded>, NoMemory>
     ensures { IfOk result (λ set. (digest : Text) → is_in set.keys digest ≡ is_given given.now digest) }
 {
     let mut digests = HashSet::with_hasher(alloc, Seeded::new(0));
     for one in given.items() {
-        digests.insert(one.digest.as_str())?;
+        add(&mut digests, one.digest.as_str())?;
     }
     Ok(digests)
 }
@@ -87,7 +101,7 @@ fn add_sites(
     ensures { OnOk result ((ss : List SeenSite) (given : List SeenGiven) → map listed ss ≡ list.now → ((digest : Text) → is_in digests.now.keys digest ≡ is_given given digest) → AddsSites hash given root.now ss found.old found.new) }
 {
     for site in list.elements() {
-        if !digests.contains(site.digest.as_str()) {
+        if !has(digests, site.digest.as_str()) {
             add_strange(alloc, hash, root, site, found)?;
         }
     }

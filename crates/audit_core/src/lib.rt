@@ -9,6 +9,7 @@ mod claims;
 mod errors;
 mod found;
 mod places;
+mod refusal;
 mod same;
 mod signed;
 mod sites;
@@ -19,3 +20,4 @@ mod written;
 
 pub use auditing::audit;
 pub use errors::AuditError;
+pub use refusal::refusal_line;

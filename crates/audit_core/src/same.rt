@@ -1,9 +1,10 @@
 // Whether two marked trees are one.
-ghost use Rattle.std.specs.Prelude.{◌≡◌};
+ghost use Rattle.std.specs.Prelude.{◌≡◌, ◌&&◌, bytes_eq};
 ghost use Rattle.marked_tree.specs.View.{marked_of};
 ghost use Rattle.audit_core.specs.SameMarked.{same_mark, same_marked, same_elements, same_members};
 
 use marked_tree::{Marked, MarkedList, MarkedMap};
+use sd_outside::TextBox;
 
 // Whether two trees have the same values and the same marks.
 #[cycle(same)]
@@ -35,13 +36,13 @@ fn is_same_mark(one: Option<u32>, other: Option<u32>) -> bool
 fn is_same_list(one: &MarkedList, other: &MarkedList) -> bool
     ensures { result ≡ same_elements one.now other.now }
 {
+    let elements = one.elements();
     let others = other.elements();
-    if one.elements().len() != others.len() {
+    if elements.len() != others.len() {
         return false;
     }
-    for (i, (mark, tree)) in one.elements().iter().enumerate() {
-        let (other_mark, other_tree) = &others[i];
-        if !is_same_mark(*mark, *other_mark) || !is_same(tree, other_tree) {
+    for (i, element) in elements.iter().enumerate() {
+        if !is_same_element(element, &others[i]) {
             return false;
         }
     }
@@ -49,21 +50,41 @@ fn is_same_list(one: &MarkedList, other: &MarkedList) -> bool
 }
 
 #[cycle(same)]
+fn is_same_element(one: &(Option<u32>, Marked), other: &(Option<u32>, Marked)) -> bool
+    ensures { result ≡ (same_mark one.now.0 other.now.0 && same_marked (marked_of one.now.1) (marked_of other.now.1)) }
+{
+    let (mark, tree) = one;
+    let (other_mark, other_tree) = other;
+    is_same_mark(*mark, *other_mark) && is_same(tree, other_tree)
+}
+
+#[cycle(same)]
 fn is_same_map(one: &MarkedMap, other: &MarkedMap) -> bool
     ensures { result ≡ same_members one.now other.now }
 {
+    let members = one.members();
     let others = other.members();
-    if one.members().len() != others.len() {
+    if members.len() != others.len() {
         return false;
     }
-    for (i, (name, mark, tree)) in one.members().iter().enumerate() {
-        let (other_name, other_mark, other_tree) = &others[i];
-        if name.as_str() != other_name.as_str()
-            || !is_same_mark(*mark, *other_mark)
-            || !is_same(tree, other_tree)
-        {
+    for (i, member) in members.iter().enumerate() {
+        if !is_same_member(member, &others[i]) {
             return false;
         }
     }
     true
+}
+
+#[cycle(same)]
+fn is_same_member(
+    one: &(TextBox, Option<u32>, Marked),
+    other: &(TextBox, Option<u32>, Marked),
+) -> bool
+    ensures { result ≡ (bytes_eq one.now.0 other.now.0 && (same_mark one.now.1 other.now.1 && same_marked (marked_of one.now.2) (marked_of other.now.2))) }
+{
+    let (name, mark, tree) = one;
+    let (other_name, other_mark, other_tree) = other;
+    name.as_str() == other_name.as_str()
+        && is_same_mark(*mark, *other_mark)
+        && is_same(tree, other_tree)
 }

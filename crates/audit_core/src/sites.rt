@@ -1,11 +1,10 @@
 // The sites of a token.
-ghost use Rattle.std.specs.Prelude.{◌≡◌, ◌↔◌, ℕ, false, List, map, IfOk, IsTrue};
-ghost use Rattle.claim_tree.specs.Tree.{Tree as SeenTree};
+ghost use Rattle.std.specs.Prelude.{◌≡◌, ◌↔◌, false, map, IfOk, IsTrue};
 ghost use Rattle.claim_tree.specs.Lists.{In};
 ghost use Rattle.claim_tree.specs.View.{tree_of};
 ghost use Rattle.digest_sites.specs.Given.{Given as SeenGiven};
 ghost use Rattle.digest_sites.specs.Reserved.{misuses};
-ghost use Rattle.audit_core.specs.Found.{listed_sites, trees_of, sites_in};
+ghost use Rattle.audit_core.specs.Found.{listed_in, listed_sites, trees_of};
 
 use claim_tree::Tree;
 use digest_sites::{GivenList, SiteError, SiteList, sites};
@@ -44,7 +43,7 @@ pub(crate) fn site_lists(
 
 // Whether they are so many together.
 pub(crate) fn are_so_many(lists: &[SiteList], wanted: usize) -> bool
-    ensures { (trees : List SeenTree) → map listed_sites trees ≡ lists.now → (IsTrue result ↔ (sites_in trees ≡ wanted)) }
+    ensures { IsTrue result ↔ (listed_in lists.now ≡ wanted) }
 {
     let mut left = wanted;
     for list in lists {

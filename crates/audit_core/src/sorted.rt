@@ -3,7 +3,7 @@ ghost use Rattle.std.specs.Prelude.{◌≡◌, ◌↔◌, IsTrue};
 ghost use Rattle.claim_tree.specs.ListViews.{elements_of};
 ghost use Rattle.claim_tree.specs.View.{tree_of};
 ghost use Rattle.audit_core.specs.Audited.{HasSortedDigests};
-ghost use Rattle.audit_core.specs.SortedLists.{is_digest_list, has_digest_lists, elements_have, members_have, rise};
+ghost use Rattle.audit_core.specs.SortedLists.{is_digest_list, has_digest_lists, elements_have, members_have, rise, values_have};
 
 use claim_tree::{Tree, TreeList, TreeMap};
 use digest_sites::{GivenList, is_sd};
@@ -14,9 +14,14 @@ fn ascends(least: &str, trees: &[Tree]) -> bool
 {
     let mut least = least;
     for tree in trees {
-        match tree {
-            Tree::Text(digest) if least < digest.as_str() => least = digest.as_str(),
-            _ => return false,
+        let Tree::Text(digest) = tree else {
+            return false;
+        };
+        let digest = digest.as_str();
+        if least < digest {
+            least = digest;
+        } else {
+            return false;
         }
     }
     true
@@ -71,9 +76,20 @@ fn are_members_sorted(trees: &TreeMap) -> bool
     true
 }
 
+fn are_values_sorted(given: &GivenList) -> bool
+    ensures { result ≡ values_have given.now }
+{
+    for one in given.items() {
+        if !is_sorted(&one.value) {
+            return false;
+        }
+    }
+    true
+}
+
 // Whether this is so of the payload and of each value.
 pub(crate) fn has_sorted_digests(payload: &Tree, given: &GivenList) -> bool
     ensures { IsTrue result ↔ HasSortedDigests (tree_of payload.now) given.now }
 {
-    is_sorted(payload) && given.items().iter().all(|one| is_sorted(&one.value))
+    is_sorted(payload) && are_values_sorted(given)
 }

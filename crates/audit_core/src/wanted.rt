@@ -1,12 +1,13 @@
 // Where an order wants its decoys.
-ghost use Rattle.std.specs.Prelude.{◌≡◌, ◌+◌, ◌<◌, ◌≤◌, ◌^◌, ◌++◌, ℕ, map, length, IfOk, OnOk, bytes_eq, if◌then◌else◌};
+ghost use Rattle.std.specs.Prelude.{◌≡◌, ◌+◌, ◌<◌, ◌≤◌, ◌^◌, [], ◌∷◌, ◌++◌, map, length, decimal, IfOk, OnOk, bytes_eq, if◌then◌else◌};
 ghost use Rattle.sd_outside.specs.Limits.{count_max};
 ghost use Rattle.claim_tree.specs.Tree.{Text};
 ghost use Rattle.claim_tree.specs.Path.{pointer_text, tree_at};
 ghost use Rattle.claim_tree.specs.View.{tree_of};
+ghost use Rattle.digest_sites.specs.declared.site.SiteKind.TheVariants.{Element};
 ghost use Rattle.issuer_core.specs.Order.{order_of};
 ghost use Rattle.issuer_core.specs.Decoys.{decoys_of};
-ghost use Rattle.audit_core.specs.Audited.{decoys_wanted};
+ghost use Rattle.audit_core.specs.Audited.{decoys_wanted, standing};
 ghost use Rattle.audit_core.specs.AuditSteps.{standing_text};
 ghost use Rattle.audit_core.specs.Wanted.{count_at, entry_texts, element_texts, member_texts};
 
@@ -18,6 +19,16 @@ use sd_outside::{NoMemory, TextBox};
 use std::alloc::Global;
 use std::collections::BTreeMap;
 
+// How many decoys the place with the pointer has.
+fn count_of(counts: &BTreeMap<TextBox, usize>, pointer: &TextBox) -> usize
+    ensures { result ≡ count_at counts.now pointer.now }
+{
+    match counts.get(pointer) {
+        Some(count) => *count,
+        None => 0,
+    }
+}
+
 // How many decoys the place with the pointer has already, where so many come now.
 fn note(
     counts: &mut BTreeMap<TextBox, usize>,
@@ -28,10 +39,7 @@ fn note(
     ensures before { IfOk result (λ before. before ≡ count_at counts.old pointer) }
     ensures noted { OnOk result ((q : Text) → count_at counts.new q ≡ (if bytes_eq pointer q then more else 0) + count_at counts.old q) }
 {
-    let before = match counts.get(&pointer) {
-        Some(count) => *count,
-        None => 0,
-    };
+    let before = count_of(counts, &pointer);
     match counts.insert(pointer, before + more as usize) {
         Ok(_) => Ok(before),
         Err(_) => Err(NoMemory),
@@ -53,6 +61,15 @@ fn push_members(
     Ok(())
 }
 
+// Where the element with this position of a list stands.
+fn element_text(alloc: Global, at: &Path, position: usize) -> Result<TextBox, NoMemory>
+    ensures { IfOk result (λ text. text ≡ standing_text (standing Element (at.now ++ decimal position ∷ []))) }
+{
+    let mut at = at.copy(alloc)?;
+    at.push(digits(alloc, position)?)?;
+    standing_of(alloc, SiteKind::Element, "", &at)
+}
+
 // So many decoys of a list, from this position on.
 fn push_elements(
     alloc: Global,
@@ -64,11 +81,8 @@ fn push_elements(
     requires { first + count < 2 ^ 64 }
     ensures { OnOk result (wanted.new.items ≡ wanted.old.items ++ element_texts at.now first count) }
 {
-    let mut at = at.copy(alloc)?;
     for i in 0..count as usize {
-        at.push(digits(alloc, first + i)?)?;
-        wanted.push(standing_of(alloc, SiteKind::Element, "", &at)?)?;
-        at.pop();
+        wanted.push(element_text(alloc, at, first + i)?)?;
     }
     Ok(())
 }

@@ -1,5 +1,5 @@
 // The second part: how a token is written.
-ghost use Rattle.std.specs.Prelude.{◌≡◌, ◌≤◌, ◌<◌, ◌^◌, ◌↔◌, ℕ, List, length, IfOk, IfSome, IfNone, IsTrue};
+ghost use Rattle.std.specs.Prelude.{◌≡◌, ◌≤◌, ◌<◌, ◌^◌, ◌↔◌, ℕ, List, length, IfOk, IfSome, IfNone, IsTrue, option_map};
 ghost use Rattle.std.specs.List.{AllZip};
 ghost use Rattle.b64url_text.specs.Base64url.{b64};
 ghost use Rattle.claim_tree.specs.Tree.{Tree as SeenTree, leaf, text as text_leaf, IsRanged, IsOrdered, depth as depth_of};
@@ -55,8 +55,19 @@ fn read_one(
 {
     match reader.read(alloc, text) {
         Ok(disclosure) => Ok(Some(disclosure)),
-        Err(DisclosureError::Memory) => Err(NoMemory),
-        Err(_) => Ok(None),
+        Err(error) => match error {
+            DisclosureError::Memory => Err(NoMemory),
+            _ => Ok(None),
+        },
+    }
+}
+
+fn name_of(name: &Option<TextBox>) -> Option<&str>
+    ensures { option_map (λ n. n.now) result ≡ name.now }
+{
+    match name {
+        Some(name) => Some(name.as_str()),
+        None => None,
     }
 }
 
@@ -78,7 +89,7 @@ fn written_again(
     ensures depth { IfOk result (λ given. IfSome given (λ g. depth_of (tree_of g.value) ≤ 127)) }
     ensures none { IfOk result (λ given. IfNone given (IsUnsalted text.now)) }
 {
-    let made = make_owned(alloc, salt, name.as_ref().map(|name| name.as_str()), value)?;
+    let made = make_owned(alloc, salt, name_of(&name), value)?;
     if made.text.as_str() != text {
         return Ok(None);
     }
