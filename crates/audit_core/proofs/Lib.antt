@@ -11,3 +11,4 @@ pub mod Writtens
 pub mod Contents
 pub mod Parts
 pub mod Verdicts
+mod Answering

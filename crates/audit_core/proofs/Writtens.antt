@@ -24,7 +24,7 @@ use Rattle.audit_core.specs.AuditSteps.{NamesHash, IsSalt, IsUnsalted, IsOtherPa
 
 -- ---- a disclosure
 
-is_disclosure : (disclosure : Text) (name : Option Text) (value : Tree) (w : IsSaltedText disclosure name value) → IsDisclosure disclosure (leaf (text w.salt)) name value
+pub is_disclosure : (disclosure : Text) (name : Option Text) (value : Tree) (w : IsSaltedText disclosure name value) → IsDisclosure disclosure (leaf (text w.salt)) name value
 is_disclosure disclosure name value w = record { json = w.written.carried.bytes; decodes = w.written.carried.decodes; reads = w.written.carried.reads }
 
 pub refused_unsalted : (disclosure : Text) (e : DisclosureError) → e ≢ DisclosureError.Memory → IsDisclosureRefused disclosure e → IsUnsalted disclosure

@@ -9,3 +9,4 @@ pub mod Places
 pub mod Found
 pub mod Wanted
 pub mod AuditLaws
+pub mod AuditRun
