@@ -18,7 +18,7 @@ use Rattle.marked_tree.proofs.MarkFacts.{mark_strips_holds}
 use Rattle.rebuild_core.proofs.Forgery.{IsHonest, none_forged}
 use Rattle.issuer_core.proofs.IssuedSound.{there_once, issued_is_sound_holds}
 
-is_there : (d : Text) (ds : List Text) → 1 ≤ occurs d ds → In d ds
+pub is_there : (d : Text) (ds : List Text) → 1 ≤ occurs d ds → In d ds
 is_there d [] l = absurd (omega arith)
 is_there d (e ∷ ds) l = go (bytes_eq e d) refl l (is_there d ds)
   where

@@ -26,7 +26,7 @@ use Rattle.issuer_core.proofs.LaidIssued.{issued}
 
 -- ---- lists that have each text as often
 
-once_at_most : (d : Text) (ds : List Text) → AtNone (Repeats ds) → occurs d ds ≤ 1
+pub once_at_most : (d : Text) (ds : List Text) → AtNone (Repeats ds) → occurs d ds ≤ 1
 once_at_most d [] h = omega arith
 once_at_most d (e ∷ ds) h = go (bytes_eq e d) refl (once_at_most d ds (λ q r. h (suc q) (r.0, r.1, suc r.2, omega (arith, r.3), r.4)))
   where
@@ -49,14 +49,14 @@ there_once d (e ∷ ds) zero a = let q : bytes_eq e d ≡ true = bytes_refl e d 
 there_once d (e ∷ ds) (suc i) a = omega (arith, there_once d ds i a)
 there_once d [] i a = elim a [ ]
 
-there_twice : (d : Text) (ds : List Text) (i j : ℕ) → i < j → StandsAt ds i d → StandsAt ds j d → 2 ≤ occurs d ds
+pub there_twice : (d : Text) (ds : List Text) (i j : ℕ) → i < j → StandsAt ds i d → StandsAt ds j d → 2 ≤ occurs d ds
 there_twice d (e ∷ ds) zero zero l a b = absurd (omega arith)
 there_twice d (e ∷ ds) zero (suc j) l a b = let q : bytes_eq e d ≡ true = bytes_refl e d (sym a) in let z = there_once d ds j b in rw q (omega (arith, z))
 there_twice d (e ∷ ds) (suc i) zero l a b = absurd (omega arith)
 there_twice d (e ∷ ds) (suc i) (suc j) l a b = omega (arith, there_twice d ds i j (omega arith) a b)
 there_twice d [] i j l a b = elim a [ ]
 
-same_occurrences : (xs ys : List Text) → ((d : Text) → occurs d xs ≡ occurs d ys) → AtNone (Repeats ys) → AtNone (Repeats xs)
+pub same_occurrences : (xs ys : List Text) → ((d : Text) → occurs d xs ≡ occurs d ys) → AtNone (Repeats ys) → AtNone (Repeats xs)
 same_occurrences xs ys same none q (d, a, j, l, b) = absurd (omega (arith, there_twice d xs j q l b a, same d, once_at_most d ys none))
 
 first_part : (xs ys : List Text) → AtNone (Repeats (xs ++ ys)) → AtNone (Repeats xs)

@@ -27,11 +27,11 @@ tie_is x y = go (cmp x y) refl
 
 -- ---- texts that do not fall
 
-abbrev NoneBelow : Text → List Text → Type 0
+abbrev pub NoneBelow : Text → List Text → Type 0
 NoneBelow x [] = Unit {0}
 NoneBelow x (y ∷ ys) = (cmp x y ≢ Greater) × NoneBelow x ys
 
-abbrev Rising : List Text → Type 0
+abbrev pub Rising : List Text → Type 0
 Rising [] = Unit {0}
 Rising (x ∷ xs) = NoneBelow x xs × Rising xs
 
@@ -46,7 +46,7 @@ rising_pairs (x ∷ xs) all = (none_below x xs (λ k d l. all 0 (suc k) d (omega
 rising : (xs : List Text) → IsSortedBy lower xs → Rising xs
 rising xs s = rising_pairs xs (sorted_far lower (ranks_by order (λ (x : Text). x)) xs s)
 
-less_through : (x y z : Text) → cmp x y ≢ Greater → cmp y z ≡ Less → cmp x z ≡ Less
+pub less_through : (x y z : Text) → cmp x y ≢ Greater → cmp y z ≡ Less → cmp x z ≡ Less
 less_through x y z n l = go (cmp x y) refl
   where
     go : (o : Ordering) → cmp x y ≡ o → cmp x z ≡ Less
@@ -54,7 +54,7 @@ less_through x y z n l = go (cmp x y) refl
     go Equal e = subst (λ w. cmp w z ≡ Less) (sym (same_name x y e)) l
     go Greater e = absurd (n e)
 
-less_then : (x y z : Text) → cmp x y ≡ Less → cmp y z ≢ Greater → cmp x z ≡ Less
+pub less_then : (x y z : Text) → cmp x y ≡ Less → cmp y z ≢ Greater → cmp x z ≡ Less
 less_then x y z l n = go (cmp y z) refl
   where
     go : (o : Ordering) → cmp y z ≡ o → cmp x z ≡ Less
@@ -91,7 +91,7 @@ with_rising d (e ∷ ds) r = go (cmp d e) refl (with_rising d ds r.1)
     go Equal c ih = ((λ g. let w : Equal ≡ Greater = sym c ∙ g in cc, below_all d e ds (λ g. let w : Equal ≡ Greater = sym c ∙ g in cc) r.0), r)
     go Greater c ih = (with_below e d ds (λ g. let w : Less ≡ Greater = sym (before_after d e c) ∙ g in cc) r.0, ih)
 
-sorted_rising : (ds : List Text) → Rising (sorted ds)
+pub sorted_rising : (ds : List Text) → Rising (sorted ds)
 sorted_rising [] = tt
 sorted_rising (d ∷ ds) = with_rising d (sorted ds) (sorted_rising ds)
 

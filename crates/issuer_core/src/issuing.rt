@@ -95,7 +95,8 @@ pub fn issue_owned<S: Signer>(
     issue_laid(alloc, &header, laid, signer)
 }
 
-fn order_header(alloc: Global, order: &Order, alg: Alg) -> Result<Header, NoMemory>
+/// The header of a token that is issued for the order, with signatures by the algorithm.
+pub fn order_header(alloc: Global, order: &Order, alg: Alg) -> Result<Header, NoMemory>
     ensures { IfOk result (λ header. header ≡ header_of alg (order_of order.now)) }
 {
     Ok(Header {

@@ -21,8 +21,8 @@ mod salts;
 
 pub use clash::first_clash;
 pub use errors::IssueError;
-pub use issuing::{issue, issue_owned};
+pub use issuing::{issue, issue_owned, order_header};
 pub use judging::{DEPTH_MAX, judge};
 pub use order::{Decoy, DecoyList, Order};
 pub use order_file::{IssueFile, read_order};
-pub use refusal::refusal_line;
+pub use refusal::{order_refusal, refusal_line};

@@ -12,8 +12,8 @@ use compact_form::{Refusal, refused_line};
 use sd_outside::{NoMemory, TextBox};
 use std::alloc::Global;
 
-// The refusal that the error is, where it is one.
-fn refusal(error: &IssueError) -> Option<Refusal>
+/// The refusal that the error is, where it is one.
+pub fn order_refusal(error: &IssueError) -> Option<Refusal>
     ensures { result ≡ refusal_of error.now }
 {
     match error {
@@ -60,7 +60,7 @@ fn place(alloc: Global, error: &IssueError) -> Result<Option<TextBox>, NoMemory>
 pub fn refusal_line(alloc: Global, error: &IssueError) -> Result<TextBox, NoMemory>
     ensures { IfOk result (λ line. line ≡ issue_refusal_text error.now) }
 {
-    let Some(refusal) = refusal(error) else {
+    let Some(refusal) = order_refusal(error) else {
         return TextBox::make(alloc, "");
     };
     let place = place(alloc, error)?;

@@ -1,4 +1,4 @@
--- Not needed to believe the program's promises: what holds where no condition on the content fails.
+-- What holds where no condition on the content fails.
 use Rattle.std.specs.Prelude.{◌≤◌, List}
 use Rattle.sd_outside.specs.Limits.{depth_max}
 use Rattle.claim_tree.specs.Tree.{Tree, depth}

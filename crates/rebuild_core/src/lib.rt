@@ -19,3 +19,4 @@ mod unhidden;
 
 pub use errors::ProcessError;
 pub use processing::{process, process_payload, process_seeded};
+pub use unhidden::without_alg;

@@ -59,9 +59,9 @@ fn has_nothing_hidden(members: &TreeMap) -> bool
     true
 }
 
-// The payload without its own `_sd_alg`, by move.
+/// The payload without its own `_sd_alg`, by move.
 #[tactic(auto, unfolding(crate::specs::Payload::alg_name))]
-fn without_alg(payload: Tree) -> Tree
+pub fn without_alg(payload: Tree) -> Tree
     ensures { tree_of result ≡ without_alg_of (tree_of payload) }
 {
     match payload {
