@@ -6,3 +6,5 @@ pub mod Alikes
 pub mod Founds
 pub mod Soundness
 pub mod Wanteds
+pub mod IssuedDepths
+pub mod IssuedHashes
