@@ -54,7 +54,7 @@ use Rattle.issuer_core.proofs.WrittenTexts.{GivenTexts, held_texts, with_alg_tex
 use Rattle.marked_tree.specs.Paths.{Path}
 use Rattle.issuer_core.proofs.ShownTexts.{texts_fine, shown_texts_at}
 
-from_number : (f : ℕ → Text) (k : ℕ) (paths : List Path) (d : Text) → In d (digests_from f k paths) → (n : ℕ) × (d ≡ f n)
+pub from_number : (f : ℕ → Text) (k : ℕ) (paths : List Path) (d : Text) → In d (digests_from f k paths) → (n : ℕ) × (d ≡ f n)
 from_number f k [] d m = absurd m
 from_number f k (p ∷ paths) d (inl e) = (k, e)
 from_number f k (p ∷ paths) d (inr m) = from_number f (suc k) paths d m
