@@ -8,3 +8,4 @@ pub mod Soundness
 pub mod Wanteds
 pub mod IssuedDepths
 pub mod IssuedHashes
+pub mod IssuedWritten
