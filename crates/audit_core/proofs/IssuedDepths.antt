@@ -1,10 +1,10 @@
 -- How deep a tree is of which it is known how deep it is opened, and so the values of the disclosures that are shown in it.
-use Rattle.std.proofs.Common.{◌≡◌, ℕ, suc, ◌≤◌, max, List, [], ◌∷◌, length, Bool, true, false, cond, ◌⊎◌, inl, inr, ⊎_elim, Option, Some, None, Ordering, Less, Equal, Greater, refl, sym, subst, arith}
+use Rattle.std.proofs.Common.{◌≡◌, ℕ, suc, ◌≤◌, List, [], ◌∷◌, length, Bool, true, false, cond, ◌⊎◌, inl, inr, ⊎_elim, Option, Some, None, Ordering, Less, Equal, Greater, refl, sym, subst, arith}
 use Rattle.std.specs.Prelude.{bytes_eq, option_and_then, option_map, if◌then◌else◌}
 use Rattle.std.specs.Ordering.{match_ordering, nat_cmp}
 use Rattle.std.specs.Cmp.Lexicographic.{slice_cmp}
 use Rattle.claim_tree.specs.Lists.{StandsAt, In}
-use Rattle.claim_tree.specs.Tree.{null, flag, whole, text, Text, Tree, leaf, array, object, Elements, no_elements, element, Members, no_members, member, text_of, depth, elements_depth, members_depth}
+use Rattle.claim_tree.specs.Tree.{Text, Tree, leaf, array, object, Elements, no_elements, element, Members, no_members, member, text_of, depth, elements_depth, members_depth}
 use Rattle.claim_tree.proofs.Everywheres.{EachElementIn, EachMemberIn}
 use Rattle.claim_tree.proofs.Lists.{In-append, In-left, In-right}
 use Rattle.digest_sites.specs.Given.{Given}

@@ -1,7 +1,6 @@
 -- The digests and the salts of an issuer are texts of bytes, as many as there are to be.
-use Rattle.std.proofs.Common.{◌≡◌, ℕ, zero, suc, ◌+◌, ◌*◌, ◌/◌, ◌%◌, ◌^◌, ◌<◌, List, ◌++◌, length, refl, arith}
-use Rattle.std.specs.Prelude.{slice_index}
-use Rattle.std.specs.Int.{w32, byte_at, bytes_low_first, to_le_bytes}
+use Rattle.std.proofs.Common.{◌≡◌, ℕ, zero, suc, ◌+◌, ◌*◌, ◌/◌, ◌^◌, ◌<◌, List, ◌++◌, length, refl, arith}
+use Rattle.std.specs.Int.{byte_at, bytes_low_first}
 use Rattle.b64url_text.specs.Base64url.{AreBytes}
 use Rattle.b64url_text.proofs.Codes.{AreBytes-append}
 use Rattle.disclosure.specs.Digest.{digest_of, hash_of}

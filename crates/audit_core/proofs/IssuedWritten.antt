@@ -1,5 +1,5 @@
 -- What is issued is signed and written as an audit asks, and shows the claims.
-use Rattle.std.proofs.Common.{◌≡◌, ℕ, zero, suc, ◌+◌, ◌≤◌, List, [], ◌∷◌, length, Option, Some, codes, refl, sym, ap, ◌∙◌, subst, arith}
+use Rattle.std.proofs.Common.{◌≡◌, ℕ, suc, ◌+◌, ◌≤◌, List, [], ◌∷◌, length, Option, Some, codes, refl, sym, ap, ◌∙◌, subst, arith}
 use Rattle.std.specs.List.{AllZip}
 use Rattle.b64url_text.specs.Base64url.{AreBytes}
 use Rattle.b64url_text.proofs.Texts.{b64_utf8}
@@ -25,7 +25,7 @@ use Rattle.rebuild_core.specs.Opening.{Shown, open_tree, opened, processed, reve
 use Rattle.rebuild_core.specs.Payload.{alg_name, without_alg}
 use Rattle.rebuild_core.specs.Soundness.{IsSound}
 use Rattle.rebuild_core.proofs.Presented.{one_node_holds}
-use Rattle.issuer_core.specs.Digests.{marked_claims, hidden_of, made_texts}
+use Rattle.issuer_core.specs.Digests.{made_texts}
 use Rattle.issuer_core.specs.GoodOrder.{IsObject, IsGoodOrder, FitsMachine}
 use Rattle.issuer_core.specs.Issued.{IsIssuedFor}
 use Rattle.issuer_core.specs.Laid.{with_alg}

@@ -9,3 +9,6 @@ pub mod Wanteds
 pub mod IssuedDepths
 pub mod IssuedHashes
 pub mod IssuedWritten
+pub mod IssuedDigests
+pub mod IssuedDecoys
+pub mod IssuedLaw
