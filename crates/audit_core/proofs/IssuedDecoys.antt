@@ -103,27 +103,33 @@ module _ (f : ℕ → Text) (claims : Tree) (all : List Path) (st : OwnedSite �
       let i : d + 0 ≡ d = omega arith in
       let h = subst (λ n. IsPlaced xs n d at) e (subst (λ n. IsPlaced xs (k + 0) n at) i (placed 0 at refl)) in
       let w = splits h.x xs h.there in
-      let rest = w.0 ++ w.1 in
-      let fewer : (z : Text) → occurs z (owned_digests rest) ≡ occurs z (digests_from f (suc k) places) = λ z.
-      omega (arith, same z, ap (λ (ys : List OwnedSite). occurs z (owned_digests ys)) w.2, occurs_site z h.x w.0 w.1, ap {B = ℕ} (λ (t : Text). cond (bytes_eq t z) 1 0) h.digest) in
-      let left : (j : ℕ) (place : Path) → StandsAt places j place → IsPlaced rest (suc k + j) (suc d + j) place = λ j place a. later h.x h.digest w.0 w.1 w.2 j place a in
-      let ih = matched (suc k) (suc d) places rest fewer (λ z. omega (arith, once z)) left in
-      subst (λ (s : List Standing). count_by test (map st xs) ≡ count_by test (s ++ standings_from claims all (suc d) places)) h.stands
-      (omega (arith, ap (λ (ys : List OwnedSite). count_by test (map st ys)) w.2, count_site test st h.x w.0 w.1, ih, count_first test (st h.x) (standings_from claims all (suc d) places)))
+      without h w.0 w.1 w.2 (λ ys fewer left. matched (suc k) (suc d) places ys fewer (λ z. omega (arith, once z)) left)
     where
-      later : (x : OwnedSite) → x.site.digest ≡ f k → (us vs : List OwnedSite) → xs ≡ us ++ x ∷ vs → (j : ℕ) (place : Path) → StandsAt places j place → IsPlaced (us ++ vs) (suc k + j) (suc d + j) place
-      later x digest us vs split j place a =
+      -- each later decoy has its site among the others
+      later : (h : IsPlaced xs k d at) (us vs : List OwnedSite) → xs ≡ us ++ h.x ∷ vs → (j : ℕ) (place : Path) → StandsAt places j place → IsPlaced (us ++ vs) (suc k + j) (suc d + j) place
+      later h us vs split j place a =
           let e : k + suc j ≡ suc k + j = omega arith in
           let i : d + suc j ≡ suc d + j = omega arith in
-          let h = subst (λ n. IsPlaced xs n (suc d + j) place) e (subst (λ n. IsPlaced xs (k + suc j) n place) i (placed (suc j) place a)) in
-          let there : In h.x (us ++ vs) =
+          let l = subst (λ n. IsPlaced xs n (suc d + j) place) e (subst (λ n. IsPlaced xs (k + suc j) n place) i (placed (suc j) place a)) in
+          let there : In l.x (us ++ vs) =
           ⊎_elim
           (λ same_site.
-          let again : f (suc k + j) ≡ f k = sym h.digest ∙ (ap (λ (z : OwnedSite). z.site.digest) same_site ∙ digest) in
+          let again : f (suc k + j) ≡ f k = sym l.digest ∙ (ap (λ (z : OwnedSite). z.site.digest) same_site ∙ h.digest) in
           let stands = subst (λ (t : Text). StandsAt (digests_from f (suc k) places) j t) again (digest_at f (suc k) places j place a) in
           absurd (omega (arith, once (f k), there_twice (f k) (digests_from f k (at ∷ places)) 0 (suc j) (omega arith) refl stands)))
-          (λ m. m) (in_rest x h.x us vs (subst (λ (zs : List OwnedSite). In h.x zs) split h.there)) in
-          record { x = h.x; there = there; digest = h.digest; stands = h.stands }
+          (λ m. m) (in_rest h.x l.x us vs (subst (λ (zs : List OwnedSite). In l.x zs) split l.there)) in
+          record { x = l.x; there = there; digest = l.digest; stands = l.stands }
+
+      without : (h : IsPlaced xs k d at) (us vs : List OwnedSite) → xs ≡ us ++ h.x ∷ vs
+          → ((ys : List OwnedSite) → ((z : Text) → occurs z (owned_digests ys) ≡ occurs z (digests_from f (suc k) places)) → ((j : ℕ) (place : Path) → StandsAt places j place → IsPlaced ys (suc k + j) (suc d + j) place)
+          → count_by test (map st ys) ≡ count_by test (standings_from claims all (suc d) places))
+          → count_by test (map st xs) ≡ count_by test (standings_from claims all d (at ∷ places))
+      without h us vs split goes =
+          let fewer : (z : Text) → occurs z (owned_digests (us ++ vs)) ≡ occurs z (digests_from f (suc k) places) = λ z.
+          omega (arith, same z, ap (λ (ys : List OwnedSite). occurs z (owned_digests ys)) split, occurs_site z h.x us vs, ap {B = ℕ} (λ (t : Text). cond (bytes_eq t z) 1 0) h.digest) in
+          let rest = goes (us ++ vs) fewer (later h us vs split) in
+          subst (λ (s : List Standing). count_by test (map st xs) ≡ count_by test (s ++ standings_from claims all (suc d) places)) h.stands
+          (omega (arith, ap (λ (ys : List OwnedSite). count_by test (map st ys)) split, count_site test st h.x us vs, rest, count_first test (st h.x) (standings_from claims all (suc d) places)))
 
 -- ---- an order
 

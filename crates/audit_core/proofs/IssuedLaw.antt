@@ -8,6 +8,7 @@ use Rattle.hmac_sign.specs.Hmac.{AlgKey, IsGood}
 use Rattle.hmac_sign.specs.Signatures.{Meaning}
 use Rattle.hmac_sign.specs.declared.alg.Alg.{Alg}
 use Rattle.hmac_sign.proofs.Macs.{AreBytes-mac}
+use Rattle.json_form.specs.Alone.{alone}
 use Rattle.issuer_core.specs.GoodOrder.{IsGoodOrder, FitsMachine}
 use Rattle.issuer_core.specs.Issued.{IsIssuedFor}
 use Rattle.issuer_core.specs.Laid.{with_alg}
@@ -16,7 +17,7 @@ use Rattle.issuer_core.specs.Seed.{maker_of}
 use Rattle.issuer_core.specs.Written.{IsWritten}
 use Rattle.issuer_core.proofs.Judged.{good_order}
 use Rattle.audit_core.specs.Audited.{IsAudited, IsAuditedFor}
-use Rattle.audit_core.specs.AuditLaws.{IssuedPasses, KeyIssuedPasses, plain_token}
+use Rattle.audit_core.specs.AuditLaws.{IssuedPasses, KeyIssuedPasses}
 use Rattle.audit_core.proofs.IssuedDecoys.{has_decoys}
 use Rattle.audit_core.proofs.IssuedDigests.{has_digests}
 use Rattle.audit_core.proofs.IssuedWritten.{signed_for, shows_claims, bare, written_for}
@@ -31,7 +32,7 @@ audited_for seed o alg good p g parts fine held issued written = record {
 }
 
 is_audited : (seed : List ℕ) (o : Order) (alg : Alg) (good : Meaning) (p : Tree) (g : List Given) (parts : Parts) → IsGoodOrder o → FitsMachine o.payload → IsIssuedFor (maker_of seed) o p g
-    → (written : IsWritten (maker_of seed) o alg good p g parts) → AreBytes written.signature → IsAudited o alg good (plain_token parts)
+    → (written : IsWritten (maker_of seed) o alg good p g parts) → AreBytes written.signature → IsAudited o alg good (alone parts)
 is_audited seed o alg good p g parts fine held issued written bytes = record {
   signed = signed_for seed o alg good p g parts fine held issued written bytes;
   body = with_alg o.hash p;
@@ -43,7 +44,7 @@ is_audited seed o alg good p g parts fine held issued written bytes = record {
 pub issued_passes_holds : (alg : Alg) (good : Meaning) → IssuedPasses alg good
 issued_passes_holds alg good seed o parts none ordered held issued bytes is_token = record {
   passes = none;
-  token = plain_token parts;
+  token = alone parts;
   is_token = is_token;
   audited = is_audited seed o alg good issued.payload issued.given parts (good_order o (λ error h. absurd (none error h)) ordered) held issued.issued issued.written bytes;
 }

@@ -15,6 +15,7 @@ use Rattle.disclosure.proofs.Arrays.{depth-array_of}
 use Rattle.disclosure.proofs.ReadBack.{array_texts, array_ranged, array_ordered}
 use Rattle.hmac_sign.specs.Signatures.{Meaning}
 use Rattle.hmac_sign.specs.declared.alg.Alg.{Alg}
+use Rattle.json_form.specs.Alone.{alone}
 use Rattle.jws_part.proofs.ReadBack.{carried_back}
 use Rattle.marked_tree.specs.Marked.{Marked, strip}
 use Rattle.marked_tree.specs.Ways.{ways}
@@ -40,7 +41,6 @@ use Rattle.issuer_core.proofs.ReadBack.{with_alg_depth}
 use Rattle.issuer_core.proofs.WithAlg.{alg_named, with_alg_ordered}
 use Rattle.issuer_core.proofs.WrittenTexts.{GivenTexts, with_alg_texts}
 use Rattle.audit_core.specs.Audited.{IsSignedFor, IsWrittenAs, GivesSalted, IsWrittenFor, ShowsClaims}
-use Rattle.audit_core.specs.AuditLaws.{plain_token}
 use Rattle.audit_core.proofs.IssuedDepths.{tree_depth, shallow_at}
 use Rattle.audit_core.proofs.IssuedHashes.{salt_bytes, salt_long}
 
@@ -67,7 +67,7 @@ made_zip hash made k (x ∷ xs) each = (
 )
 
 module _ (seed : List ℕ) (o : Order) (alg : Alg) (good : Meaning) (p : Tree) (g : List Given) (parts : Parts) (fine : IsGoodOrder o) (held : FitsMachine o.payload) (issued : IsIssuedFor (maker_of seed) o p g) (written : IsWritten (maker_of seed) o alg good p g parts) where
-  pub signed_for : AreBytes written.signature → IsSignedFor o alg good (plain_token parts)
+  pub signed_for : AreBytes written.signature → IsSignedFor o alg good (alone parts)
   signed_for bytes = record {
     protected = written.protected;
     signature = written.signature;

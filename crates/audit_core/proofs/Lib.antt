@@ -12,3 +12,4 @@ pub mod IssuedWritten
 pub mod IssuedDigests
 pub mod IssuedDecoys
 pub mod IssuedLaw
+mod Examples
