@@ -18,8 +18,8 @@ use Rattle.issuer_core.specs.Written.{IsIssued}
 use Rattle.audit_core.specs.declared.errors.AuditError.{AuditError}
 use Rattle.audit_core.specs.Audit.{PassesAudit, FailsAudit}
 
--- what is issued with any seed for an order that nothing of 51 to 59 refuses, with a signature of bytes, passes the audit, where its
--- compact text is read as a token
+-- what is issued with any seed for an order that nothing of 51 to 59 refuses, with a signature of bytes, passes the audit,
+-- where its compact text is read as a token
 abbrev pub IssuedPasses : Alg → Meaning → Type 0
 IssuedPasses alg good =
     (seed : List ℕ) (o : Order) (parts : Parts)
