@@ -15,6 +15,7 @@ use Rattle.claim_tree.specs.JsonText.{json_text}
 use Rattle.claim_tree.specs.Lists.{StandsAt, In}
 use Rattle.claim_tree.specs.Path.{tree_at}
 use Rattle.claim_tree.specs.Tree.{Text, Tree, leaf, text, array, object, no_elements, element, no_members, member, IsOrdered, IsRanged}
+use Rattle.claim_tree.proofs.Lists.{list_any-from}
 use Rattle.compact_form.specs.Compact.{compact, AreWords}
 use Rattle.compact_form.specs.declared.parts.Parts.{Parts}
 use Rattle.digest_sites.specs.Given.{Given}
@@ -139,12 +140,7 @@ none_some : (path : Path) → ◌≡◌ {A = Option Path} None (Some path) → �
 none_some path e = cc e
 
 free : In (codes "a") protected_names → ⊥
-free (inl e) = cc e
-free (inr (inl e)) = cc e
-free (inr (inr (inl e))) = cc e
-free (inr (inr (inr (inl e)))) = cc e
-free (inr (inr (inr (inr (inl e))))) = cc e
-free (inr (inr (inr (inr (inr none))))) = none
+free there = let clash : false ≡ true = list_any-from (bytes_eq (codes "a")) protected_names (codes "a") there refl in cc clash
 
 passes : (error : IssueError) → AppliesToOrder order error → ⊥
 passes Memory h = h
