@@ -11,3 +11,10 @@ pub mod Writtens
 pub mod Contents
 pub mod Parts
 pub mod Verdicts
+pub mod IssuedDepths
+pub mod IssuedHashes
+pub mod IssuedWritten
+pub mod IssuedDigests
+pub mod IssuedDecoys
+pub mod IssuedLaw
+mod Examples

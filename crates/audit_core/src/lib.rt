@@ -8,6 +8,7 @@ mod auditing;
 mod claims;
 mod errors;
 mod found;
+pub mod laws;
 mod places;
 mod refusal;
 mod same;
