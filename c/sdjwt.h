@@ -23,7 +23,7 @@
  *
  * POINTERS. None may be null, not even where its length is 0: pass "" for an input of no bytes, and any byte of yours
  * for a buffer of no room. `*len` need not be set before the call. `out` and `len` may overlap neither each other, nor
- * an input, nor a handle; inputs may overlap. A length is at most 2^63 - 1. Inputs of more than 2 MiB are refused.
+ * an input, nor a handle; inputs may overlap. A length is at most 2^63 - 1. Inputs of more than 16 MiB are refused.
  *
  * THREADS. Each function may run on several threads at once, over buffers that they do not share. A handle of a policy
  * is for one call at a time: give each thread its own, or keep one behind a lock. It may move from thread to thread.

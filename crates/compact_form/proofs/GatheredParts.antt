@@ -36,7 +36,7 @@ IsAscii-jwt j words =
 IsAscii-none : IsAscii []
 IsAscii-none i = omega arith
 
-IsAscii-spelled : (ds : List (List ℕ)) → AllByRecursion IsWord ds → IsAscii (spelled ds)
+pub IsAscii-spelled : (ds : List (List ℕ)) → AllByRecursion IsWord ds → IsAscii (spelled ds)
 IsAscii-spelled [] words = IsAscii-none
 IsAscii-spelled (d ∷ ds) words =
     IsAscii-append (d ++ (126 ∷ [])) (spelled ds)

@@ -14,5 +14,6 @@ mod Absent
 pub mod Printed
 pub mod Trimmed
 pub mod Examples
+pub mod NextWords
 pub mod Numbers
 pub mod Lowest

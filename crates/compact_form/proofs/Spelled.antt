@@ -37,10 +37,10 @@ IsSpelled-spelled ds words =
     let is = pieces_of-spelled ds words in
     record { words = subst (AllByRecursion IsWord) (sym is) words; spelling = ap spelled (sym is) }
 
-abbrev is_tilde : ℕ → Bool
+abbrev pub is_tilde : ℕ → Bool
 is_tilde b = b == 126
 
-first_tilde : (d x : List ℕ) → list_all is_letter d ≡ true → position_or_len is_tilde (d ++ (126 ∷ x)) ≡ length d
+pub first_tilde : (d x : List ℕ) → list_all is_letter d ≡ true → position_or_len is_tilde (d ++ (126 ∷ x)) ≡ length d
 first_tilde [] x h = refl
 first_tilde (b ∷ d) x h = let p = and_parts (is_letter b) (list_all is_letter d) h in rw (no_tilde b p.0) (omega (arith, first_tilde d x p.1))
 

@@ -13,7 +13,7 @@ pub fn is_longer_than(parts: &Parts, most: usize) -> bool
 }
 
 // What the compact text leaves of so many bytes, if it has no more.
-fn left_by_parts(most: usize, parts: &Parts) -> Option<usize>
+pub(crate) fn left_by_parts(most: usize, parts: &Parts) -> Option<usize>
     ensures { SomeIff result (length (compact parts.now) ≤ most) (most - length (compact parts.now)) }
 {
     let left = left_by_jwt(most, &parts.signed)?.checked_sub(1)?;

@@ -1,9 +1,10 @@
 // The text that spells parts.
-ghost use Rattle.std.specs.Prelude.{◌≡◌, ◌++◌, OnOk, IfOk, string_bytes};
+ghost use Rattle.std.specs.Prelude.{◌≡◌, ◌++◌, [], OnOk, IfOk, string_bytes};
 ghost use Rattle.compact_form.specs.Compact.{jwt as jwt_text, spelled, hashed, compact, AreWords, HasWords, IsCompact};
 ghost use Rattle.compact_form.specs.JwtCalls.{IsJwt, IsUpToLastTilde};
 
-use crate::{JwtParts, Parts};
+use crate::lengths::left_by_parts;
+use crate::{COMPACT_MAX, JwtParts, Parts};
 use sd_outside::{NoMemory, TextBox, TextList};
 use std::alloc::Global;
 
@@ -29,11 +30,21 @@ fn push_disclosures(text: &mut String, disclosures: &TextList) -> Result<(), NoM
     Ok(())
 }
 
+// Room for the compact text of the parts and the end of a line, where it is no longer than that of a token may be.
+fn room_for(alloc: Global, parts: &Parts) -> Result<String, NoMemory>
+    ensures { IfOk result (λ text. string_bytes text ≡ []) }
+{
+    match left_by_parts(COMPACT_MAX, parts) {
+        Some(left) => Ok(String::with_capacity(alloc, COMPACT_MAX - left + 1)?),
+        None => Ok(String::new(alloc)),
+    }
+}
+
 // The text up to and with the last tilde.
 fn front(alloc: Global, parts: &Parts) -> Result<String, NoMemory>
     ensures { IfOk result (λ text. string_bytes text ≡ hashed parts.now) }
 {
-    let mut text = String::new(alloc);
+    let mut text = room_for(alloc, parts)?;
     push_jwt(&mut text, &parts.signed)?;
     text.push('~')?;
     push_disclosures(&mut text, &parts.disclosures)?;

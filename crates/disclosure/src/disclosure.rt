@@ -35,9 +35,35 @@ impl Disclosure {
     }
 }
 
-// The disclosure of a text whose JSON is this tree.
-fn of_tree(text: TextBox, tree: Tree) -> Option<Disclosure>
-    ensures text { IfSome result (λ d. d.text ≡ text) }
+/// What the list in a disclosure holds: all of it but its text.
+#[derive(Debug, Drop)]
+pub struct DisclosureParts {
+    /// Any JSON value.
+    pub salt: Tree,
+    /// The name of the member, or nothing where it is an element.
+    pub name: Option<TextBox>,
+    pub value: Tree,
+}
+
+impl DisclosureParts {
+    // The disclosure with this text.
+    fn with_text(self, text: TextBox) -> Disclosure
+        ensures text { result.text ≡ text }
+        ensures salt { result.salt ≡ self.salt }
+        ensures name { result.name ≡ self.name }
+        ensures value { result.value ≡ self.value }
+    {
+        Disclosure {
+            text,
+            salt: self.salt,
+            name: self.name,
+            value: self.value,
+        }
+    }
+}
+
+// What a disclosure holds whose JSON is this tree.
+fn parts_of(tree: Tree) -> Option<DisclosureParts>
     ensures parts { IfSome result (λ d. tree_of tree ≡ array_of (tree_of d.salt) d.name (tree_of d.value)) }
     ensures other { IfNone result (IsNoArray (tree_of tree)) }
 {
@@ -48,16 +74,14 @@ fn of_tree(text: TextBox, tree: Tree) -> Option<Disclosure>
     let salt = trees.next()?;
     let second = trees.next()?;
     let Some(value) = trees.next() else {
-        return Some(Disclosure {
-            text,
+        return Some(DisclosureParts {
             salt,
             name: None,
             value: second,
         });
     };
     match second {
-        Tree::Text(name) if trees.next().is_none() => Some(Disclosure {
-            text,
+        Tree::Text(name) if trees.next().is_none() => Some(DisclosureParts {
             salt,
             name: Some(name),
             value,
@@ -111,9 +135,31 @@ impl DisclosureReader {
 
         ensures refused { IfErr result (IsDisclosureRefused text.now) }
     {
+        let parts = self.read_parts(alloc, text)?;
+        Ok(parts.with_text(TextBox::make(alloc, text)?))
+    }
+
+    /// The same, for who has the text: it is not copied.
+    pub fn read_parts(
+        &mut self,
+        alloc: Global,
+        text: &str,
+    ) -> Result<DisclosureParts, DisclosureError>
+        ensures ok { IfOk result (λ d. IsDisclosure text.now (tree_of d.salt) d.name (tree_of d.value)) }
+        ensures ranged { IfOk result (λ d. IsRanged (tree_of d.value)) }
+        ensures ordered { IfOk result (λ d. IsOrdered (tree_of d.value)) }
+        ensures depth { IfOk result (λ d. depth (tree_of d.value) ≤ 126) }
+
+        // the salt
+        ensures salt_ranged { IfOk result (λ d. IsRanged (tree_of d.salt)) }
+        ensures salt_ordered { IfOk result (λ d. IsOrdered (tree_of d.salt)) }
+        ensures salt_depth { IfOk result (λ d. depth (tree_of d.salt) ≤ 126) }
+
+        ensures refused { IfErr result (IsDisclosureRefused text.now) }
+    {
         let count = decode_to(&mut self.room, text)?;
         let tree = self.json.read(alloc, &self.room[..count])?;
-        of_tree(TextBox::make(alloc, text)?, tree).ok_or(DisclosureError::NotDisclosure)
+        parts_of(tree).ok_or(DisclosureError::NotDisclosure)
     }
 }
 
@@ -199,8 +245,8 @@ pub fn make_owned(
     let list = list_of(alloc, salt, name, value)?;
     let json = write(alloc, &list)?;
     let text = encode(alloc, json.as_str().as_bytes())?;
-    let Some(disclosure) = of_tree(text, list) else {
+    let Some(parts) = parts_of(list) else {
         unreachable!();
     };
-    Ok(disclosure)
+    Ok(parts.with_text(text))
 }

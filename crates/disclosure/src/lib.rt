@@ -10,5 +10,7 @@ mod errors;
 pub mod laws;
 
 pub use digests::{HashAlg, digest, hash_named, payload_hash};
-pub use disclosure::{Disclosure, DisclosureReader, make, make_owned, read_disclosure};
+pub use disclosure::{
+    Disclosure, DisclosureParts, DisclosureReader, make, make_owned, read_disclosure,
+};
 pub use errors::DisclosureError;

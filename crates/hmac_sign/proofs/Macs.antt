@@ -39,7 +39,7 @@ AreBytes-long hash zero i = omega arith
 AreBytes-long hash (suc n) i =
     AreBytes-append (long.digest_bytes hash n) (to_be_bytes w64 (slice_index hash n)) (AreBytes-long hash n) (AreBytes-high_first 8 (slice_index hash n)) i
 
-AreBytes-hash_by : (alg : Alg) (text : List ℕ) → AreBytes (hash_by alg text)
+pub AreBytes-hash_by : (alg : Alg) (text : List ℕ) → AreBytes (hash_by alg text)
 unfolding long.sha384 long.sha512
 AreBytes-hash_by Alg.Hs256 text = AreBytes-sha256 text
 AreBytes-hash_by Alg.Hs384 text = AreBytes-take 48 _ (AreBytes-long _ 8)

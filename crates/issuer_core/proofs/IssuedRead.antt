@@ -54,7 +54,7 @@ use Rattle.issuer_core.proofs.WrittenTexts.{GivenTexts, held_texts, with_alg_tex
 use Rattle.marked_tree.specs.Paths.{Path}
 use Rattle.issuer_core.proofs.ShownTexts.{texts_fine, shown_texts_at}
 
-from_number : (f : ℕ → Text) (k : ℕ) (paths : List Path) (d : Text) → In d (digests_from f k paths) → (n : ℕ) × (d ≡ f n)
+pub from_number : (f : ℕ → Text) (k : ℕ) (paths : List Path) (d : Text) → In d (digests_from f k paths) → (n : ℕ) × (d ≡ f n)
 from_number f k [] d m = absurd m
 from_number f k (p ∷ paths) d (inl e) = (k, e)
 from_number f k (p ∷ paths) d (inr m) = from_number f (suc k) paths d m
@@ -120,21 +120,21 @@ module _ (seed : List ℕ) (o : Order) (alg : Alg) (good : Meaning) (p : Tree) (
       subst IsUtf8 (sym w.1) (b64_utf8 (hash_of o.hash (salt_of seed w.0))))
       (In-append d (given_digests g) (decoy_digests (maker_of seed) o) m)
 
-  settles : processed p g ≡ opened (length g) g p
+  pub settles : processed p g ≡ opened (length g) g p
   settles = processed_settles p g sound.referenced
 
-  opens : opened (length g) g p ≡ marked_claims o
+  pub opens : opened (length g) g p ≡ marked_claims o
   opens = sym settles ∙ issued.opens
 
   opened_texts : HasTexts (strip (opened (length g) g p))
   opened_texts = subst (λ (m : Marked). HasTexts (strip m)) (sym opens) (subst HasTexts (sym (mark_strips_holds o.payload o.hide)) (held_texts o.payload held))
 
-  payload_texts : HasTexts p
+  pub payload_texts : HasTexts p
   payload_texts =
       texts_fine (reveal (length g) g) p issued.readable.in_payload issued.payload_rises
       (λ s m. digest_utf8 s.digest (digest_issued (maker_of seed) o p g good_order issued s.digest (payload_digest p g s m))) opened_texts
 
-  given_texts : (i : ℕ) (x : Given) → StandsAt g i x → GivenTexts x
+  pub given_texts : (i : ℕ) (x : Given) → StandsAt g i x → GivenTexts x
   given_texts i x a =
       let w = way_with (processed p g) (length g) (one_node_holds p g issued.readable sound) i (At-below g i x a) in
       let y = shown_texts_at p g sound.referenced w.0.1 w.0.0 p opened_texts (subst (λ (m : Marked). In w.0 (ways m)) settles w.1) in
@@ -146,7 +146,7 @@ module _ (seed : List ℕ) (o : Order) (alg : Alg) (good : Meaning) (p : Tree) (
             (λ s m. digest_utf8 s.digest (digest_issued (maker_of seed) o p g good_order issued s.digest (value_digest p g x s there m))) fine.1,
       )
 
-  bare : (t : Tree) → IsObject t → HasNoReserved (strip (open_tree (reveal (length g) g) t)) → without_alg (with_alg o.hash t) ≡ t
+  pub bare : (t : Tree) → IsObject t → HasNoReserved (strip (open_tree (reveal (length g) g) t)) → without_alg (with_alg o.hash t) ≡ t
   bare (object ms) is f = ap object (removed_inserted ms alg_name _ (no_alg (reveal (length g) g) ms (shows_free (reveal (length g) g) (sd_texts ms) (open_members (reveal (length g) g) ms) f)))
   bare (leaf l) is f = absurd is
   bare (array es) is f = absurd is

@@ -97,7 +97,7 @@ decoys_texts dg n (place ∷ places) each q = go (same_path place q) (decoys_tex
     go false rest = rest
     go true rest = λ d there. front d rest there
 
-with_alg_depth : (hash : HashAlg) (t : Tree) (c : ℕ) → depth t ≤ suc c → depth (with_alg hash t) ≤ suc c
+pub with_alg_depth : (hash : HashAlg) (t : Tree) (c : ℕ) → depth t ≤ suc c → depth (with_alg hash t) ≤ suc c
 with_alg_depth hash (leaf l) c h = h
 with_alg_depth hash (array es) c h = h
 with_alg_depth hash (object ms) c h = omega (arith, inserted_depth ms alg_name (leaf (text (hash_name hash))) c (omega arith) (omega (arith, h)))

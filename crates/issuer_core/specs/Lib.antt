@@ -1,4 +1,3 @@
-pub mod Code
 pub mod Order
 pub mod Decoys
 pub mod GoodOrder

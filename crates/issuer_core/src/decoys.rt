@@ -79,7 +79,7 @@ pub(crate) fn sort_decoys(
     ensures placed { IfOk result (λ sorted. (at : Steps) → digests_on_path sorted.paths.items sorted.digests.items at ≡ digests_on_path (decoy_paths decoys.now) digests.now at) }
 {
     let mut entries = Vec::new(alloc);
-    for decoy in decoys.items() {
+    for decoy in decoys.elements() {
         push_entries(alloc, &mut entries, &decoy.at, decoy.count, digests)?;
     }
     entries.sort_by(|one, other| ordered(one, other))?;

@@ -106,7 +106,7 @@ fn first_misplaced(payload: &Tree, decoys: &DecoyList) -> Option<usize>
     ensures { result ≡ position_from (spec.is_misplaced (tree_of payload.now)) 0 decoys.now }
 {
     decoys
-        .items()
+        .elements()
         .iter()
         .position(|entry| is_no_holder(payload, &entry.at))
 }
@@ -125,7 +125,7 @@ fn are_too_many(decoys: &DecoyList) -> bool
     ensures { IsTrue result ↔ (count_max < length (decoy_paths decoys.now)) }
 {
     let mut total = 0;
-    for entry in decoys.items() {
+    for entry in decoys.elements() {
         total += entry.count as usize;
         if total > COUNT_MAX {
             return true;

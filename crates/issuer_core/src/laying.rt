@@ -309,7 +309,7 @@ fn count_decoys(decoys: &DecoyList) -> usize
     ensures { result ≡ length (decoy_paths decoys.now) }
 {
     let mut count = 0;
-    for entry in decoys.items() {
+    for entry in decoys.elements() {
         count += entry.count as usize;
     }
     count
@@ -377,7 +377,7 @@ fn hides_nothing(order: &Order) -> bool
     ensures hide { IsTrue result → order.now.hide ≡ [] }
     ensures decoys { IsTrue result → order.now.decoys ≡ [] }
 {
-    order.hide.elements().is_empty() && order.decoys.items().is_empty()
+    order.hide.elements().is_empty() && order.decoys.elements().is_empty()
 }
 
 // A payload of which nothing is hidden.

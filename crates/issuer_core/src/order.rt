@@ -1,14 +1,13 @@
 // What an issuer is asked for.
-ghost use Rattle.std.specs.Prelude.{◌≡◌, ◌≤◌, [], ◌∷◌, ◌++◌, length, IfOk, OnOk, OnErr, option_copied, slice_get};
+ghost use Rattle.std.specs.Prelude.{◌≡◌, ◌≤◌, IfOk};
 ghost use Rattle.claim_tree.specs.Tree.{depth};
 ghost use Rattle.claim_tree.specs.View.{tree_of};
 ghost use Rattle.issuer_core.specs.Order.{order_of};
 
 use claim_tree::{Path, PathList, Tree, copy, copy_paths};
 use disclosure::HashAlg;
-use sd_outside::{NoMemory, TextBox, copy_text};
+use sd_outside::{ListOf, NoMemory, TextBox, copy_text};
 use std::alloc::Global;
-use std::marker::Model;
 
 /// Decoy digests at a place, RFC 9901 section 4.2.5.
 #[derive(Debug, Drop)]
@@ -20,76 +19,20 @@ pub struct Decoy {
 }
 
 /// Entries of decoys in order. Contracts see the list of them.
-#[derive(Debug, Drop)]
-pub struct DecoyList {
-    items: Vec<Decoy>,
-}
+pub type DecoyList = ListOf<Decoy>;
 
-impl Model for DecoyList {
-    ghost use Rattle.std.specs.Prelude.{List};
-    ghost use Rattle.issuer_core.specs.declared.order.Decoy.{Decoy as Seen};
-    ghost use Rattle.issuer_core.specs.Code.{decoys_code};
-
-    ghost Value = { List Seen };
-
-    ghost coded = { decoys_code };
-
-    ghost view = { λ l. l.items.items };
-}
-
-impl DecoyList {
-    /// No entries. It takes no memory.
-    pub fn new(alloc: Global) -> DecoyList
-        ensures { result ≡ [] }
-    {
-        DecoyList {
-            items: Vec::new(alloc),
-        }
+// A copy of the entries.
+fn copy_decoys(alloc: Global, decoys: &DecoyList) -> Result<DecoyList, NoMemory>
+    ensures { IfOk result (λ copies. copies ≡ decoys.now) }
+{
+    let mut copies = DecoyList::new(alloc);
+    for entry in decoys.elements() {
+        copies.push(Decoy {
+            at: entry.at.copy(alloc)?,
+            count: entry.count,
+        })?;
     }
-
-    /// Adds an entry at the end.
-    pub fn push(&mut self, item: Decoy) -> Result<(), NoMemory>
-        ensures ok { OnOk result (self.new ≡ self.old ++ item ∷ []) }
-        ensures err { OnErr result (self.new ≡ self.old) }
-    {
-        self.items.push(item)?;
-        Ok(())
-    }
-
-    /// The entries, in their order.
-    pub fn items(&self) -> &[Decoy]
-        ensures { result.now ≡ self.now }
-    {
-        self.items.as_slice()
-    }
-
-    /// The number of entries.
-    pub fn len(&self) -> usize
-        ensures { result ≡ length self.now }
-    {
-        self.items().len()
-    }
-
-    /// The entry at a position, counted from 0.
-    pub fn at(&self, i: usize) -> Option<&Decoy>
-        ensures { option_copied result ≡ slice_get self.now i }
-    {
-        self.items().get(i)
-    }
-
-    /// A copy of the entries.
-    pub fn copy(&self, alloc: Global) -> Result<DecoyList, NoMemory>
-        ensures { IfOk result (λ copy. copy ≡ self.now) }
-    {
-        let mut copy = DecoyList::new(alloc);
-        for entry in self.items() {
-            copy.push(Decoy {
-                at: entry.at.copy(alloc)?,
-                count: entry.count,
-            })?;
-        }
-        Ok(copy)
-    }
+    Ok(copies)
 }
 
 /// What an issuer is asked for: a payload, and what is hidden of it.
@@ -119,7 +62,7 @@ impl Order {
     {
         let kid = copy_text(alloc, &self.kid)?;
         let typ = copy_text(alloc, &self.typ)?;
-        let decoys = self.decoys.copy(alloc)?;
+        let decoys = copy_decoys(alloc, &self.decoys)?;
         let hide = copy_paths(alloc, &self.hide)?;
         Ok(Order {
             payload: copy(alloc, &self.payload)?,

@@ -95,5 +95,8 @@ fn sets_keep_each_mark_once(rt: HostRuntime) -> Result<(), Fail> {
     }
     assert!(rt; set.len() == 4 && set.has(0) && set.has(3) && set.has(7) && set.has(u32::MAX));
     assert!(rt; !set.has(1) && !set.has(8));
+    let made = ChosenSet::of(rt.alloc(), vec![in rt.alloc(); 7, 3, u32::MAX, 3, 0, 7]?)?;
+    assert!(rt; made.len() == 4 && made.has(0) && made.has(3) && made.has(7) && made.has(u32::MAX));
+    assert!(rt; !made.has(1) && !made.has(8));
     Ok(())
 }

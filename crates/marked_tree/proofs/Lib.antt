@@ -8,6 +8,7 @@ pub mod Names
 pub mod Lookups
 pub mod Puts
 pub mod NumberSets
+pub mod RisingSearch
 pub mod MarkedWalks
 pub mod Finds
 pub mod Remarks

@@ -1,5 +1,5 @@
 -- Members that ascend: where a name stands among them, and what is put there.
-use Rattle.std.proofs.Common.{◌≡◌, ◌⊎◌, inl, inr, ℕ, zero, suc, ◌+◌, ◌-◌, ◌<◌, true, List, [], ◌∷◌, length, set, get_or, Option, Some, Ordering, Less, Equal, Greater, Result, Ok, Err, IfOk, IfErr, refl, sym, ap, subst, ◌∙◌, arith}
+use Rattle.std.proofs.Common.{◌≡◌, ◌⊎◌, inl, inr, ℕ, zero, suc, ◌+◌, ◌-◌, ◌<◌, true, List, [], ◌∷◌, length, drop, set, get_or, Option, Some, Ordering, Less, Equal, Greater, Result, Ok, Err, IfOk, IfErr, refl, sym, ap, subst, ◌∙◌, arith}
 use Rattle.std.specs.Prelude.{◌==◌}
 use Rattle.std.specs.List.{insert, slice_get}
 use Rattle.std.specs.List.Sorted.{IsSortedBy, IsSearchInRange, IsBinarySearchResult}
@@ -231,3 +231,12 @@ ordered-put name i t (marked_member other j u ms) o p = go (cmp name other) refl
     go Less e ih = ((e, before_through name other (names (strip_members ms)) e o.0), p, o)
     go Equal e ih = o
     go Greater e ih = (before_put other name i t ms (before_after name other e) o.0, o.1, ih)
+
+-- ---- from the end on
+
+-- a member in front of those that ascend, whose name is before that of the next
+pub ordered_from : (ms : List Entry) (k : ℕ) (d : Entry) → k < length ms → MembersOrdered (strip_members (marked_members_of (drop (suc k) ms))) → IsOrdered (strip (marked_of (get_or ms k d).2)) → (suc k < length ms → IsBefore (get_or ms k d).0 (get_or ms (suc k) d).0) → MembersOrdered (strip_members (marked_members_of (drop k ms)))
+ordered_from [] k d l inv o b = absurd (omega arith)
+ordered_from (m ∷ []) zero d l inv o b = (tt, o, tt)
+ordered_from (m ∷ n ∷ ms) zero d l inv o b = let first = b (omega arith) in ((first, before_through m.0 n.0 (names (strip_members (marked_members_of ms))) first inv.0), o, inv)
+ordered_from (m ∷ ms) (suc k) d l inv o b = ordered_from ms k d (omega arith) inv o (λ w. b (omega (arith, w)))

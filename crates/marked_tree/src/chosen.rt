@@ -1,17 +1,16 @@
-ghost use Rattle.std.specs.Prelude.{◌≡◌, ℕ, ◌||◌, eqb, [], length, OnOk, OnErr};
+ghost use Rattle.std.specs.Prelude.{◌≡◌, ℕ, ◌||◌, eqb, [], length, OnOk, OnErr, IfOk};
 ghost use Rattle.std.specs.Ordering.{nat_cmp};
 ghost use Rattle.std.specs.BTreeSet.{insert_key};
 ghost use Rattle.marked_tree.specs.Numbers.{has as has_number, IsRising};
 
 use sd_outside::NoMemory;
 use std::alloc::Global;
-use std::collections::BTreeSet;
 use std::marker::Model;
 
-/// A set of marks. Contracts see its numbers in rising order.
+/// A set of marks. Contracts see its numbers in rising order. One of many marks is made of all of them at once.
 #[derive(Debug, Drop)]
 pub struct ChosenSet {
-    marks: BTreeSet<u32>,
+    marks: Vec<u32>,
 }
 
 impl Model for ChosenSet {
@@ -19,7 +18,11 @@ impl Model for ChosenSet {
 
     ghost Value = { List ℕ };
 
-    ghost view = { λ s. s.marks.keys };
+    ghost view = { λ s. s.marks.items };
+
+    ghost use Rattle.marked_tree.specs.Numbers.{IsRising};
+
+    ghost invariant = { λ s. IsRising s.marks.items };
 }
 
 impl ChosenSet {
@@ -28,27 +31,40 @@ impl ChosenSet {
         ensures { result ≡ [] }
     {
         ChosenSet {
-            marks: BTreeSet::new(alloc),
+            marks: Vec::new(alloc),
         }
     }
 
-    /// Adds a mark, unless it is there.
+    /// The set of these marks, in whatever order they stand.
+    pub fn of(alloc: Global, marks: Vec<u32>) -> Result<ChosenSet, NoMemory>
+        ensures { IfOk result (λ set. (i : ℕ) → has_number set i ≡ has_number marks.items i) }
+    {
+        let mut marks = marks;
+        marks.sort_unstable();
+        let mut set = ChosenSet::new(alloc);
+        for mark in marks {
+            set.add(mark)?;
+        }
+        Ok(set)
+    }
+
+    /// Adds a mark, unless it is there. Each mark that is greater moves one place.
     pub fn add(&mut self, mark: u32) -> Result<(), NoMemory>
         ensures ok { OnOk result (self.new ≡ insert_key nat_cmp self.old mark) }
         ensures has { OnOk result ((i : ℕ) → has_number self.new i ≡ (eqb i mark || has_number self.old i)) }
         ensures err { OnErr result (self.new ≡ self.old) }
     {
-        match self.marks.insert(mark) {
-            Ok(_) => Ok(()),
-            Err(_) => Err(NoMemory),
+        if let Err(place) = self.marks.binary_search(&mark) {
+            self.marks.insert(place, mark)?;
         }
+        Ok(())
     }
 
     /// Whether the mark is there.
     pub fn has(&self, mark: u32) -> bool
         ensures { result ≡ has_number self.now mark }
     {
-        self.marks.contains(&mark)
+        self.marks.binary_search(&mark).is_ok()
     }
 
     /// The number of marks.

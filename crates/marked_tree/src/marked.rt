@@ -1,7 +1,7 @@
-ghost use Rattle.std.specs.Prelude.{◌≡◌, OnOk, OnErr, IfOk, IfErr, option_map};
+ghost use Rattle.std.specs.Prelude.{◌≡◌, ◌++◌, OnOk, OnErr, IfOk, IfErr, IsTrue, option_map};
 ghost use Rattle.std.specs.Ordering.{nat_cmp};
 ghost use Rattle.std.specs.Cmp.Lexicographic.{slice_cmp};
-ghost use Rattle.claim_tree.specs.Tree.{IsOrdered, ElementsOrdered, MembersOrdered};
+ghost use Rattle.claim_tree.specs.Tree.{IsBefore, IsOrdered, ElementsOrdered, MembersOrdered};
 ghost use Rattle.claim_tree.specs.Lists.{StandsAt};
 ghost use Rattle.marked_tree.specs.Marked.{strip, strip_elements, strip_members, no_marked_elements, no_marked_members, put};
 ghost use Rattle.marked_tree.specs.MarkedCalls.{marked_elements_len, marked_members_len, marked_element_at, marked_member_at, marked_names, marked_pushed, marked_inserted, put_all};
@@ -242,16 +242,48 @@ impl MarkedMap {
     pub fn with_all(
         self,
         alloc: Global,
-        mut added: Vec<(TextBox, Option<u32>, Marked)>,
+        added: Vec<(TextBox, Option<u32>, Marked)>,
     ) -> Result<MarkedMap, NoMemory>
         ensures { IfOk result (λ map. map ≡ put_all (marked_members_of added.items) self) }
     {
         let MarkedMap { members } = self;
-        let mut all = members;
-        all.append(&mut added)?;
+        let mut all = joined(members, added)?;
         sort_by_name(&mut all)?;
+        if are_ascending(&all) {
+            return Ok(MarkedMap { members: all });
+        }
         of_members(alloc, all)
     }
+}
+
+// The first members, and the second behind them.
+fn joined(
+    mut first: Vec<(TextBox, Option<u32>, Marked)>,
+    mut second: Vec<(TextBox, Option<u32>, Marked)>,
+) -> Result<Vec<(TextBox, Option<u32>, Marked)>, NoMemory>
+    ensures { IfOk result (λ all. all.items ≡ first.items ++ second.items) }
+{
+    if first.is_empty() {
+        return Ok(second);
+    }
+    first.append(&mut second)?;
+    Ok(first)
+}
+
+// Whether each name is before the next, so that the members are a map as they stand.
+fn are_ascending(members: &[(TextBox, Option<u32>, Marked)]) -> bool
+    ensures { IsTrue result → MembersOrdered (strip_members (marked_members_of members.now)) }
+{
+    let mut from = members.len();
+    while from > 0 {
+        let (_, _, tree) = &members[from - 1];
+        is_ordered(tree);
+        if from < members.len() && !is_before(&members[from - 1], &members[from]) {
+            return false;
+        }
+        from -= 1;
+    }
+    true
 }
 
 // The members, each put there in turn.
@@ -275,6 +307,16 @@ fn compared(member: &(TextBox, Option<u32>, Marked), name: &str) -> Ordering
     ensures { result ≡ slice_cmp nat_cmp member.now.0 name.now }
 {
     member.0.as_str().cmp(name)
+}
+
+// Whether the name of a member is before that of another.
+fn is_before(
+    member: &(TextBox, Option<u32>, Marked),
+    other: &(TextBox, Option<u32>, Marked),
+) -> bool
+    ensures { IsTrue result → IsBefore member.now.0 other.now.0 }
+{
+    compared(member, other.0.as_str()) == Ordering::Less
 }
 
 // Members of one name keep their order.

@@ -1,5 +1,5 @@
 // A payload opened without search: the digests of its sites are read as numbers, in their order.
-ghost use Rattle.std.specs.Prelude.{◌≡◌, ℕ, ◌+◌, ◌^◌, ◌<◌, ◌≤◌, length, drop, slice_index, OnOk, MatchOption, MatchResult};
+ghost use Rattle.std.specs.Prelude.{◌≡◌, ℕ, ◌+◌, ◌^◌, ◌<◌, ◌≤◌, [], length, drop, slice_index, OnOk, IfOk, MatchOption, MatchResult};
 ghost use Rattle.claim_tree.specs.Tree.{Text, object, depth, elements_depth, members_depth};
 ghost use Rattle.claim_tree.specs.Lists.{StandsAt};
 ghost use Rattle.claim_tree.specs.View.{tree_of};
@@ -21,7 +21,7 @@ use crate::shown::{Revealed, push_element, push_member};
 use claim_tree::{Tree, TreeList, TreeMap};
 use digest_sites::{Given, GivenList, element_digest, is_sd, own_digests};
 use marked_tree::{Marked, MarkedList, MarkedMap};
-use sd_outside::{TextBox, copy_text};
+use sd_outside::{NoMemory, TextBox, copy_text};
 use std::alloc::Global;
 
 // Whether a member is none of those that only say where disclosures stand.
@@ -109,6 +109,16 @@ fn open_list(
     Ok(out)
 }
 
+// No members, and room for so many.
+fn room_for_members(
+    alloc: Global,
+    count: usize,
+) -> Result<Vec<(TextBox, Option<u32>, Marked)>, NoMemory>
+    ensures { IfOk result (λ out. out.items ≡ []) }
+{
+    Ok(Vec::with_capacity(alloc, count)?)
+}
+
 // The hidden members of an object, in the order of its digests.
 #[cycle(opening)]
 fn open_own(
@@ -124,8 +134,9 @@ fn open_own(
     ensures moved { OnOk result (at.new ≡ at.old + length (sd_texts map.now)) }
     ensures opened { MatchResult result (λ out. (marked_members_of out.items ≡ shown_members (settled given.now) (sd_texts map.now)) × (shown_depths (settled given.now) (sd_texts map.now) ≤ limit)) (λ e. IfTooDeep e (limit < shown_depths (settled given.now) (sd_texts map.now))) }
 {
-    let mut out = Vec::new(alloc);
-    for _ in 0..own_count(map) {
+    let count = own_count(map);
+    let mut out = room_for_members(alloc, count)?;
+    for _ in 0..count {
         let shown = open_next(alloc, limit, given, graph, at)?;
         push_member(&mut out, shown)?;
     }

@@ -15,7 +15,7 @@ use crate::ProcessError;
 use crate::names::check_names;
 use crate::numbers::steps_fit;
 use crate::opening::open_payload;
-use crate::references::check_references;
+use crate::references::{References, check_references};
 use crate::unhidden::{is_unhidden, move_out};
 use claim_tree::Tree;
 use digest_index::Steps;
@@ -80,16 +80,16 @@ pub fn process_seeded(
     ensures counted { IfOk result (λ _. steps.new ≡ counted steps.old (look_ups (without_alg (tree_of payload.now)) given.now)) }
     ensures risen { RoseWithin (look_ups (without_alg (tree_of payload.now)) given.now) steps.old steps.new }
 {
-    let found = match check_references(alloc, payload, given, seed, steps) {
+    let References { rows, graph } = match check_references(alloc, payload, given, seed, steps) {
         Ok(found) => found,
         Err(e) => return Err(e),
     };
-    let rows = found.rows.as_slice();
-    let numbers = found.graph.numbers.as_slice();
-    if let Err(e) = check_names(alloc, payload, given, rows, numbers, seed) {
+    let numbers = graph.numbers.as_slice();
+    if let Err(e) = check_names(alloc, payload, given, rows.as_slice(), numbers, seed) {
         return Err(e);
     }
-    open_payload(alloc, payload, given, &found.graph)
+    drop(rows);
+    open_payload(alloc, payload, given, &graph)
 }
 
 // What a payload in which nothing is hidden says, where no disclosure is given.

@@ -157,8 +157,8 @@ pub(crate) fn all_rows<'a>(
     ensures rows { IfOk result (λ list. map seen list.rows.items ≡ rows_of (tree_of payload.now) given.now) }
     ensures ends { IfOk result (λ list. list.ends.items ≡ row_ends (tree_of payload.now) given.now) }
 {
-    let mut rows = Vec::new(alloc);
-    let mut ends = Vec::new(alloc);
+    let mut rows = Vec::with_capacity(alloc, given.len())?;
+    let mut ends = Vec::with_capacity(alloc, given.len())?;
     list_rows(true, payload, &mut rows)?;
     ends.push(rows.len())?;
     for item in given.items() {

@@ -1,5 +1,5 @@
 // The choice of the marks that lead to wanted places.
-ghost use Rattle.std.specs.Prelude.{◌≡◌, ◌||◌, ℕ, true, is_some, IfOk, IfErr};
+ghost use Rattle.std.specs.Prelude.{◌≡◌, ◌||◌, ℕ, true, eqb, is_some, IfOk, IfErr, OnOk};
 ghost use Rattle.claim_tree.specs.Lists.{AtNone};
 ghost use Rattle.claim_tree.specs.Path.{tree_at};
 ghost use Rattle.marked_tree.specs.Choice.{is_on_way, IsUnmixed, IsLeastChoice};
@@ -26,26 +26,34 @@ pub fn choose(alloc: Global, tree: &Marked, wanted: &PathList) -> Result<ChosenS
     ensures there { IfOk result (λ _. AtNone (IsMissing (strip (marked_of tree.now)) wanted.now)) }
     ensures refused { IfErr result (IsChooseRefused (strip (marked_of tree.now)) wanted.now) }
 {
-    let mut marks = ChosenSet::new(alloc);
+    let mut marks = Vec::new(alloc);
     for (k, path) in wanted.elements().iter().enumerate() {
         if !add_way(tree, path, &mut marks)? {
             return Err(ChooseError::NoSuchPlace(k));
         }
     }
-    Ok(marks)
+    Ok(ChosenSet::of(alloc, marks)?)
+}
+
+// Adds a mark, also where it is there.
+fn add_mark(marks: &mut Vec<u32>, mark: u32) -> Result<(), NoMemory>
+    ensures { OnOk result ((i : ℕ) → has marks.new.items i ≡ (eqb i mark || has marks.old.items i)) }
+{
+    marks.push(mark)?;
+    Ok(())
 }
 
 // Adds the marks on the way to the path. False where it leads nowhere.
-fn add_way(tree: &Marked, path: &Path, marks: &mut ChosenSet) -> Result<bool, NoMemory>
+fn add_way(tree: &Marked, path: &Path, marks: &mut Vec<u32>) -> Result<bool, NoMemory>
     ensures there { IfOk result (λ there. there ≡ is_some (tree_at (strip (marked_of tree.now)) path.now)) }
-    ensures marks { IfOk result (λ there. there ≡ true → (i : ℕ) → has marks.new i ≡ (has marks.old i || is_on_way (marked_of tree.now) path.now i)) }
+    ensures marks { IfOk result (λ there. there ≡ true → (i : ℕ) → has marks.new.items i ≡ (has marks.old.items i || is_on_way (marked_of tree.now) path.now i)) }
 {
     let mut inside = tree;
     for step in path.steps() {
         match stepped(inside, step.as_str()) {
             Some((mark, below)) => {
                 if let Some(mark) = mark {
-                    marks.add(mark)?;
+                    add_mark(marks, mark)?;
                 }
                 inside = below;
             }

@@ -9,7 +9,7 @@ ghost use Rattle.verifier_core.specs.Check.{OnFault, Adds, IsUnreadAt, unread_at
 use crate::check::{VerifyError, fails_at};
 use compact_form::Condition;
 use digest_sites::{Given, GivenList};
-use disclosure::{DisclosureError, DisclosureReader, HashAlg};
+use disclosure::{DisclosureError, DisclosureReader, HashAlg, digest};
 use json_form::Disclosures;
 use std::alloc::Global;
 
@@ -24,12 +24,11 @@ pub(crate) fn push_given(
     ensures ok { OnOk result (Adds hash text.now given.old given.new) }
     ensures refused { IfErr result (IsDisclosureRefused text.now) }
 {
-    let disclosure = reader.read(alloc, text)?;
-    let digest = disclosure.digest(alloc, hash)?;
+    let parts = reader.read_parts(alloc, text)?;
     given.push(Given {
-        digest,
-        name: disclosure.name,
-        value: disclosure.value,
+        digest: digest(alloc, hash, text)?,
+        name: parts.name,
+        value: parts.value,
     })?;
     Ok(())
 }

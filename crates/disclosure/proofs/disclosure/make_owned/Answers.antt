@@ -9,7 +9,7 @@ use Rattle.disclosure.proofs.disclosure.make_owned.Goals as goal
 
 pub returns-clause-back : goal.returns-clause-back
 returns-clause-back c =
-    let d = c.in-Some.disclosure in
+    let d = c.in-Some.parts in
     let json = c.in_ok-json.json in
     let low : depth (tree_of c.in_ok-list.list) ≤ 127 =
     subst (λ t. depth t ≤ 127) (sym c.in_ok-list.ensures) (depth-array_of c.args.salt.now (option_map (λ n. n.now) c.args.name) (tree_of c.args.value) c.requires.depth) in
@@ -17,12 +17,13 @@ returns-clause-back c =
     let reads = c.in_ok-json.ensures.back low in
     record {
       json = json;
-      decodes = record { fit = AreBytes-text json reads.utf8; spelling = c.in-Some.ensures.text ∙ c.in_ok-text.ensures ∙ ap b64 bytes };
-      reads = subst (Reads json) c.in-Some.ensures.parts reads;
+      decodes = record { fit = AreBytes-text json reads.utf8; spelling = c.with_text.ensures.text ∙ c.in_ok-text.ensures ∙ ap b64 bytes };
+      reads = rw (c.with_text.ensures.salt, c.with_text.ensures.name, c.with_text.ensures.value) (subst (Reads json) c.in-Some.ensures.parts reads);
     }
 
 pub returns-clause-value : goal.returns-clause-value
 returns-clause-value c =
-    let d = c.in-Some.disclosure in
+    let d = c.in-Some.parts in
     let same = sym c.in-Some.ensures.parts ∙ c.in_ok-list.ensures in
-    (array_of-injective (tree_of d.salt) (leaf (text c.args.salt.now)) d.name (option_map (λ n. n.now) c.args.name) (tree_of d.value) (tree_of c.args.value) same).2
+    ap tree_of c.with_text.ensures.value
+    ∙ (array_of-injective (tree_of d.salt) (leaf (text c.args.salt.now)) d.name (option_map (λ n. n.now) c.args.name) (tree_of d.value) (tree_of c.args.value) same).2

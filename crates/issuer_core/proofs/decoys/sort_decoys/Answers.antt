@@ -26,9 +26,9 @@ returns-clause-placed c =
     let es = l.entries.items in
     let new = c.sort_by.new.self.items in
     let stable = c.in_ok-sort_by.ensures.stable lower (ranks_by paths_total (λ (e : Entry). e.0)) (answers_always _ _ _ (λ f a r g h. search rules)) in
-    let none = drop_of_length-le c.items-decoy-items.result.now c.loop-decoy-test.false in
+    let none = drop_of_length-le c.elements-decoy-items.result.now c.loop-decoy-test.false in
     let paths : paths_in es ≡ decoy_paths c.args.decoys.now =
-    sym (append-nil (paths_in es)) ∙ (ap (λ ds. paths_in es ++ decoy_paths ds) (sym none) ∙ (l.invariant.0 ∙ ap decoy_paths c.items-decoy-items.ensures)) in
+    sym (append-nil (paths_in es)) ∙ (ap (λ ds. paths_in es ++ decoy_paths ds) (sym none) ∙ (l.invariant.0 ∙ ap decoy_paths c.elements-decoy-items.ensures)) in
     let texts = all_entries es c.args.digests.now (decoy_paths c.args.decoys.now) paths l.invariant.1 c.requires in
     both c.parted.result _ _ _
     (λ parted e f at.

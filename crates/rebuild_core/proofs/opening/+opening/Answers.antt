@@ -124,7 +124,7 @@ pub open_own-returns-in_err-shown-clause-opened : goal.open_own-returns-in_err-s
 open_own-returns-in_err-shown-clause-opened t c =
     let s = own_here _ _ _ _ _ c.loop.counter _ _ (omega (arith, c.loop-test.true, c.loop.invariant.0)) c.loop.invariant.2 in
     let told = own_at _ _ _ _ _ _ _ _ _ s in
-    let p = err_from_is_err_and c.from_residual.result c.from_residual.ensures.1 in
+    let p = err_from_is_err_and c.from_residual-in_err-shown.result c.from_residual-in_err-shown.ensures.1 in
     rw (p.1, p.2) (still_deep c.in_err-shown.field-0.0 (λ h. own_deep _ _ _ _ _ _ _ _ _ s h) (c.in_err-shown.ensures.shown _ told.tells))
 
 pub open_own-loop-preserved : goal.open_own-loop-preserved

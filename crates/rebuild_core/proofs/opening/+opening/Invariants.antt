@@ -32,8 +32,8 @@ invariant-open_list-loop-tree l =
 
 abbrev pub invariant-open_own-loop : goal.invariant-open_own-loop
 invariant-open_own-loop l =
-    (l.end ≡ length (sd_texts l.map))
-    × (l.counter ≤ l.end)
+    (l.count ≡ length (sd_texts l.map))
+    × (l.counter ≤ l.count)
     × OwnState l.given l.graph.numbers.items l.limit (sd_texts l.map) (l.fn.at + length (sd_texts l.map)) (drop l.counter (sd_texts l.map)) (marked_members_of l.out.items) l.at
 
 abbrev pub invariant-open_plain-loop-name : goal.invariant-open_plain-loop-name

@@ -11,6 +11,6 @@ returns-clause-marks c there =
     let m = marked_of c.args.tree.now in
     let inside = marked_of c.loop-step.inside.now in
     let none : drop c.loop-step.step-index steps ≡ [] = drop_all _ _ c.loop-step-test.false in
-    passed_all c.args.marks.now c.loop-step.marks m c.args.path.now inside
-    (subst (λ (p : Path). ArePassed c.args.marks.now m p c.loop-step.marks inside []) c.steps-step-items.ensures
-    (subst (λ (p : Path). ArePassed c.args.marks.now m steps c.loop-step.marks inside p) none c.loop-step.invariant.1))
+    passed_all c.args.marks.now.items c.loop-step.marks.items m c.args.path.now inside
+    (subst (λ (p : Path). ArePassed c.args.marks.now.items m p c.loop-step.marks.items inside []) c.steps-step-items.ensures
+    (subst (λ (p : Path). ArePassed c.args.marks.now.items m steps c.loop-step.marks.items inside p) none c.loop-step.invariant.1))

@@ -6,4 +6,4 @@ use Rattle.selection_core.proofs.choosing.add_way.Given as goal
 abbrev pub invariant-loop-step : goal.invariant-loop-step
 invariant-loop-step l =
     LeadsOn (marked_of l.tree) l.step-items (marked_of l.inside) (drop l.step-index l.step-items)
-    × ArePassed l.fn.marks (marked_of l.tree) l.step-items l.marks (marked_of l.inside) (drop l.step-index l.step-items)
+    × ArePassed l.fn.marks.items (marked_of l.tree) l.step-items l.marks.items (marked_of l.inside) (drop l.step-index l.step-items)

@@ -10,7 +10,7 @@ use Rattle.selection_core.proofs.Wanted.{gathered_more, gathered_all, none_missi
 use Rattle.selection_core.proofs.choosing.choose.Goals as goal
 
 pub loop-k-init : goal.loop-k-init
-loop-k-init c = (λ i. rw c.new-marks.ensures refl, λ q l. absurd (omega (arith, l)))
+loop-k-init c = (λ i. rw c.new-marks.ensures.items refl, λ q l. absurd (omega (arith, l)))
 
 pub returns-then-not-branch-clause-refused : goal.returns-then-not-branch-clause-refused
 returns-then-not-branch-clause-refused c =
@@ -23,22 +23,22 @@ pub loop-k-preserved : goal.loop-k-preserved
 loop-k-preserved c =
     let m = marked_of c.args.tree.now in
     let want = c.elements-path-items.result.now in (
-      gathered_more m want c.loop-k.marks c.add_way.new.marks c.loop-k.k c.path-item.result c.loop-k-test.true c.path-item.is c.loop-k.invariant.0 (c.in_ok-add_way.ensures.marks c.if-not-branch.false),
+      gathered_more m want c.loop-k.marks.items c.add_way.new.marks.items c.loop-k.k c.path-item.result c.loop-k-test.true c.path-item.is c.loop-k.invariant.0 (c.in_ok-add_way.ensures.marks c.if-not-branch.false),
       none_missing_more (strip m) want c.loop-k.k c.path-item.result c.path-item.is (sym c.if-not-branch.false ∙ c.in_ok-add_way.ensures.there) c.loop-k.invariant.1,
     )
 
 pub returns-clause-chosen : goal.returns-clause-chosen
 returns-clause-chosen c =
     let m = marked_of c.args.tree.now in
-    subst (λ (ps : List Path). (i : ℕ) → has c.loop-k.marks i ≡ chosen m ps i) c.elements-path-items.ensures
-    (gathered_all m c.elements-path-items.result.now c.loop-k.marks c.loop-k.k c.loop-k-test.false c.loop-k.invariant.0)
+    subst (λ (ps : List Path). (i : ℕ) → has c.in_ok-of.field-0 i ≡ chosen m ps i) c.elements-path-items.ensures
+    (λ i. c.in_ok-of.ensures i ∙ gathered_all m c.elements-path-items.result.now c.loop-k.marks.items c.loop-k.k c.loop-k-test.false c.loop-k.invariant.0 i)
 
 pub returns-clause-least : goal.returns-clause-least
 returns-clause-least c once =
     let m = marked_of c.args.tree.now in
-    least_same m c.args.wanted.now (has c.loop-k.marks) (chosen m c.args.wanted.now)
-    (subst (λ (ps : List Path). (i : ℕ) → has c.loop-k.marks i ≡ chosen m ps i) c.elements-path-items.ensures
-    (gathered_all m c.elements-path-items.result.now c.loop-k.marks c.loop-k.k c.loop-k-test.false c.loop-k.invariant.0))
+    least_same m c.args.wanted.now (has c.in_ok-of.field-0) (chosen m c.args.wanted.now)
+    (subst (λ (ps : List Path). (i : ℕ) → has c.in_ok-of.field-0 i ≡ chosen m ps i) c.elements-path-items.ensures
+    (λ i. c.in_ok-of.ensures i ∙ gathered_all m c.elements-path-items.result.now c.loop-k.marks.items c.loop-k.k c.loop-k-test.false c.loop-k.invariant.0 i))
     (least_choice m c.args.wanted.now once)
 
 pub returns-clause-there : goal.returns-clause-there

@@ -6,5 +6,5 @@ use Rattle.selection_core.proofs.choosing.choose.Given as goal
 
 abbrev pub invariant-loop-k : goal.invariant-loop-k
 invariant-loop-k l =
-    AreGathered (marked_of l.tree) l.path-items l.marks (drop l.k l.path-items)
+    AreGathered (marked_of l.tree) l.path-items l.marks.items (drop l.k l.path-items)
     × NoneMissing (strip (marked_of l.tree)) l.path-items l.k

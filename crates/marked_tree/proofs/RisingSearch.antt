@@ -1,0 +1,156 @@
+-- A number among rising ones: where a search finds it, and where it goes.
+use Rattle.std.proofs.Common.{◌≡◌, ◌⊎◌, inl, inr, ℕ, zero, suc, ◌+◌, ◌<◌, ◌≤◌, Bool, true, false, List, [], ◌∷◌, length, get_or, eqb, ◌||◌, Result, Ok, Err, Ordering, Less, Equal, Greater, nat_cmp, refl, ap, sym, subst, arith, eq-eqb}
+use Rattle.std.specs.BTreeSet.{insert_key}
+use Rattle.std.specs.List.{insert}
+use Rattle.std.specs.List.Sorted.{IsSortedBy, IsSearchInRange, IsBinarySearchResult}
+use Rattle.std.specs.Result.{is_ok}
+use Rattle.std.specs.Ordering.{MatchOrdering, match_ordering, is_lt}
+use Rattle.std.proofs.lemmas.Bool.{ne_eqb}
+use Rattle.std.proofs.lemmas.Cmp.{ranked, nat_cmp_total}
+use Rattle.std.proofs.lemmas.List.Sorted.{searchable_from_sorted}
+use Rattle.marked_tree.specs.Numbers.{has, AllAbove, IsRising}
+
+-- ---- how numbers compare
+
+ranks : (a b : ℕ) (o : Ordering) → nat_cmp a b ≡ o → MatchOrdering o (a < b) (a ≡ b) (b < a)
+ranks a b o e = subst (λ r. MatchOrdering r (a < b) (a ≡ b) (b < a)) e (ranked a b (nat_cmp a b) refl)
+
+pub same : (a b : ℕ) → nat_cmp a b ≡ Equal → a ≡ b
+same a b e = ranks a b Equal e
+
+less : (a b : ℕ) → a < b → nat_cmp a b ≡ Less
+less a b l = go (nat_cmp a b) (ranked a b (nat_cmp a b) refl)
+  where
+    go : (o : Ordering) → MatchOrdering o (a < b) (a ≡ b) (b < a) → o ≡ Less
+    go Less r = refl
+    go Equal r = absurd (omega (arith, l, r))
+    go Greater r = absurd (omega (arith, l, r))
+
+equal : (a b : ℕ) → a ≡ b → nat_cmp a b ≡ Equal
+equal a b l = go (nat_cmp a b) (ranked a b (nat_cmp a b) refl)
+  where
+    go : (o : Ordering) → MatchOrdering o (a < b) (a ≡ b) (b < a) → o ≡ Equal
+    go Less r = absurd (omega (arith, l, r))
+    go Equal r = refl
+    go Greater r = absurd (omega (arith, l, r))
+
+greater : (a b : ℕ) → b < a → nat_cmp a b ≡ Greater
+greater a b l = go (nat_cmp a b) (ranked a b (nat_cmp a b) refl)
+  where
+    go : (o : Ordering) → MatchOrdering o (a < b) (a ≡ b) (b < a) → o ≡ Greater
+    go Less r = absurd (omega (arith, l, r))
+    go Equal r = absurd (omega (arith, l, r))
+    go Greater r = refl
+
+-- ---- where a search ends
+
+above_at : (n : ℕ) (ns : List ℕ) (k d : ℕ) → AllAbove n ns → k < length ns → n < get_or ns k d
+above_at n (m ∷ ns) zero d all l = all.0
+above_at n (m ∷ ns) (suc k) d all l = above_at n ns k d all.1 (omega arith)
+above_at n [] k d all l = absurd (omega arith)
+
+rising_pair : (ns : List ℕ) (k d : ℕ) → IsRising ns → suc k < length ns → get_or ns k d < get_or ns (suc k) d
+rising_pair (n ∷ ns) zero d r l = above_at n ns zero d r.0 (omega arith)
+rising_pair (n ∷ ns) (suc k) d r l = rising_pair ns k d r.1 (omega arith)
+rising_pair [] k d r l = absurd (omega arith)
+
+sorted : (ns : List ℕ) → IsRising ns → IsSortedBy (λ (a b : ℕ). is_lt (nat_cmp a b)) ns
+sorted ns r k d l h =
+    let next : suc k ≡ k + 1 = omega arith in
+    let pair : get_or ns k d < get_or ns (k + 1) d = subst (λ j. get_or ns k d < get_or ns j d) next (rising_pair ns k d r (omega (arith, h))) in
+    ap is_lt (greater (get_or ns (k + 1) d) (get_or ns k d) pair)
+
+-- all before the place are less than the number, and all from there on are greater
+pub record IsPlace (ns : List ℕ) (n i : ℕ) : Type 0 where
+  pub within : i ≤ length ns
+  pub before : (k d : ℕ) → k < i → get_or ns k d < n
+  pub after : (k d : ℕ) → i ≤ k → k < length ns → n < get_or ns k d
+
+pub place_of : (ns : List ℕ) (n i : ℕ) → IsRising ns → IsSearchInRange (Err i) (length ns) → IsBinarySearchResult (λ (m : ℕ). nat_cmp m n) ns (Err i) → IsPlace ns n i
+place_of ns n i r within is =
+    let parted = is (searchable_from_sorted nat_cmp_total (λ (m : ℕ). m) ns n (sorted ns r)) in
+    record {
+      within = within;
+      before = λ k d low. ranks (get_or ns k d) n Less (parted.0 k d (omega arith) low);
+      after = λ k d high l. ranks (get_or ns k d) n Greater (parted.1 k d high l);
+    }
+
+-- ---- what is put there
+
+inserted_at : (ns : List ℕ) (n i : ℕ) → IsPlace ns n i → insert ns i n ≡ insert_key nat_cmp ns n
+inserted_at [] n zero p = refl
+inserted_at [] n (suc i) p = absurd (let w = p.within in omega arith)
+inserted_at (m ∷ ns) n zero p = rw (less n m (p.after 0 0 (omega arith) (omega arith))) refl
+inserted_at (m ∷ ns) n (suc i) p =
+    rw (greater n m (p.before 0 0 (omega arith)))
+    (ap (λ (xs : List ℕ). m ∷ xs)
+    (inserted_at ns n i (record {
+      within = (let w = p.within in omega arith);
+      before = λ k d l. p.before (suc k) d (omega arith);
+      after = λ k d l h. p.after (suc k) d (omega arith) (omega arith);
+    })))
+
+pub put_at : (ns : List ℕ) (n i : ℕ) → IsPlace ns n i → insert ns i n ≡ insert_key nat_cmp ns n
+put_at ns n i p = inserted_at ns n i p
+
+-- a number that is there is not put again
+pub put_there : (ns : List ℕ) (n i d : ℕ) → IsRising ns → i < length ns → get_or ns i d ≡ n → insert_key nat_cmp ns n ≡ ns
+put_there (m ∷ ns) n zero d r l e = rw (equal n m (sym e)) refl
+put_there (m ∷ ns) n (suc i) d r l e =
+    let under : m < n = subst (λ k. m < k) e (above_at m ns i d r.0 (omega arith)) in
+    rw (greater n m under) (ap (λ (xs : List ℕ). m ∷ xs) (put_there ns n i d r.1 (omega arith) e))
+put_there [] n i d r l e = absurd (omega arith)
+
+-- ---- whether it is there
+
+or_true : (b : Bool) → (b || true) ≡ true
+or_true true = refl
+or_true false = refl
+
+pub has_at : (ns : List ℕ) (n i d : ℕ) → i < length ns → get_or ns i d ≡ n → has ns n ≡ true
+has_at (m ∷ ns) n zero d l e = rw (eq-eqb n m (sym e)) refl
+has_at (m ∷ ns) n (suc i) d l e = rw (has_at ns n i d (omega arith) e) (or_true (eqb n m))
+has_at [] n i d l e = absurd (omega arith)
+
+absent : (ns : List ℕ) (n : ℕ) → ((k d : ℕ) → k < length ns → get_or ns k d ≡ n → ⊥) → has ns n ≡ false
+absent [] n other = refl
+absent (m ∷ ns) n other = rw (ne_eqb n m (λ e. other 0 0 (omega arith) (sym e))) (absent ns n (λ k d l. other (suc k) d (omega arith)))
+
+below_or : (k i : ℕ) → (k < i) ⊎ (i ≤ k)
+below_or k i = grind arith
+
+pub not_at : (ns : List ℕ) (n i : ℕ) → IsPlace ns n i → has ns n ≡ false
+not_at ns n i p = absent ns n (λ k d l e. go k d l e (below_or k i))
+  where
+    go : (k d : ℕ) → k < length ns → get_or ns k d ≡ n → (k < i) ⊎ (i ≤ k) → ⊥
+    go k d l e (inl low) = let b = p.before k d low in omega (arith, b, e)
+    go k d l e (inr high) = let a = p.after k d high l in omega (arith, a, e)
+
+-- a search tells it
+pub search_tells : (ns : List ℕ) (n : ℕ) (r : Result ℕ ℕ) → IsRising ns → IsSearchInRange r (length ns) → IsBinarySearchResult (λ (m : ℕ). nat_cmp m n) ns r → is_ok r ≡ has ns n
+search_tells ns n (Ok i) r within is = sym (has_at ns n i 0 within (same (get_or ns i 0) n (is 0)))
+search_tells ns n (Err i) r within is = sym (not_at ns n i (place_of ns n i r within is))
+
+-- ---- they stay rising
+
+above_through : (n m : ℕ) (ns : List ℕ) → n < m → AllAbove m ns → AllAbove n ns
+above_through n m [] l all = tt
+above_through n m (k ∷ ns) l all = (omega (arith, l, all.0), above_through n m ns l all.1)
+
+above_inserted : (m n : ℕ) (ns : List ℕ) → m < n → AllAbove m ns → AllAbove m (insert_key nat_cmp ns n)
+above_inserted m n [] l all = (l, tt)
+above_inserted m n (k ∷ ns) l all = go (nat_cmp n k) (above_inserted m n ns l all.1)
+  where
+    go : (o : Ordering) → AllAbove m (insert_key nat_cmp ns n) → AllAbove m (match_ordering o (n ∷ k ∷ ns) (k ∷ ns) (k ∷ insert_key nat_cmp ns n))
+    go Less ih = (l, all)
+    go Equal ih = all
+    go Greater ih = (all.0, ih)
+
+pub rising_inserted : (ns : List ℕ) (n : ℕ) → IsRising ns → IsRising (insert_key nat_cmp ns n)
+rising_inserted [] n r = (tt, tt)
+rising_inserted (m ∷ ns) n r = go (nat_cmp n m) (ranked n m (nat_cmp n m) refl) (rising_inserted ns n r.1)
+  where
+    go : (o : Ordering) → MatchOrdering o (n < m) (n ≡ m) (m < n) → IsRising (insert_key nat_cmp ns n) → IsRising (match_ordering o (n ∷ m ∷ ns) (m ∷ ns) (m ∷ insert_key nat_cmp ns n))
+    go Less l ih = ((l, above_through n m ns l r.0), r)
+    go Equal l ih = r
+    go Greater l ih = (above_inserted m n ns l r.0, ih)
