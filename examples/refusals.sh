@@ -54,7 +54,8 @@ in_cases() {
         s/^usage$/2 usage/p
         s/^unwritten$/4 unwritten/p'
     # what no file gives, or another program
-    printf '%s\n' '60 digestClash' '5 memory' '87 feedTooLong'
+    printf '%s\n' '60 digestClash' '5 memory' '80 orderRefused' '81 signedPartDiffers' '82 writtenFormDiffers' '83 payloadDiffers' \
+        '84 digestsDiffer' '85 decoysDiffer' '86 sdOrderDiffers' '87 feedTooLong'
 }
 
 on_page() {
