@@ -1,0 +1,5 @@
+use Rattle.audit_core.proofs.Verdicts.{one_verdict}
+use Rattle.audit_core.proofs.laws.one_audit.Goals as goal
+
+pub returns : goal.returns
+returns g c = λ checker o alg content. one_verdict o alg (g.K.Signatures.good checker) content

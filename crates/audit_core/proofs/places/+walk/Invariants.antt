@@ -1,0 +1,28 @@
+use Rattle.std.proofs.Common.{◌≡◌, ◌+◌, ◌*◌, ◌++◌, drop}
+use Rattle.claim_tree.specs.Nodes.{nodes, elements_nodes, members_nodes}
+use Rattle.marked_tree.specs.Marked.{strip, strip_elements, strip_members}
+use Rattle.marked_tree.specs.View.{marked_of, marked_elements_of, marked_members_of}
+use Rattle.audit_core.specs.Places.{elements_places, members_places}
+use Rattle.audit_core.proofs.places.+walk.Given as goal
+
+abbrev pub decreases-walk : goal.decreases-walk
+decreases-walk l = 4 * nodes (strip (marked_of l.tree.now))
+
+abbrev pub decreases-walk_node : goal.decreases-walk_node
+decreases-walk_node l = 4 * nodes (strip (marked_of l.tree.now)) + 1
+
+abbrev pub decreases-walk_elements : goal.decreases-walk_elements
+decreases-walk_elements l = 4 * elements_nodes (strip_elements l.list.now) + 3
+
+abbrev pub decreases-walk_members : goal.decreases-walk_members
+decreases-walk_members l = 4 * members_nodes (strip_members l.map.now) + 3
+
+abbrev pub invariant-walk_elements-loop-i : goal.invariant-walk_elements-loop-i
+invariant-walk_elements-loop-i l =
+    (l.at ≡ l.fn.at)
+    × (l.places ++ elements_places l.at l.i (marked_elements_of (drop l.i l.element-items)) ≡ l.fn.places ++ elements_places l.fn.at 0 (marked_elements_of l.element-items))
+
+abbrev pub invariant-walk_members-loop-name : goal.invariant-walk_members-loop-name
+invariant-walk_members-loop-name l =
+    (l.at ≡ l.fn.at)
+    × (l.places ++ members_places l.at (marked_members_of (drop l.name-index l.name-items)) ≡ l.fn.places ++ members_places l.fn.at (marked_members_of l.name-items))

@@ -1,0 +1,46 @@
+use Rattle.std.proofs.Common.{◌≡◌, ◌≤◌, ◌+◌, ◌++◌, [], length, map, drop, take, sym, ap, ap₂, ◌∙◌, append_assoc, arith, subst}
+use Rattle.claim_tree.specs.View.{tree_of}
+use Rattle.issuer_core.specs.Decoys.{decoy_paths}
+use Rattle.audit_core.specs.Wanted.{entry_texts}
+use Rattle.audit_core.proofs.Loops.{entry}
+use Rattle.audit_core.proofs.Wanteds.{texts_of, few_before, whole_step, counts_after, texts_after, texts_end}
+use Rattle.audit_core.proofs.wanted.wanted_standings.Goals as goal
+
+pub note-requires : goal.note-requires
+note-requires c =
+    let l = c.loop-entry.invariant in
+    let h = entry c.items-entry-items.result.now c.loop-entry.entry-index c.entry-item.result c.loop-entry-test.true c.entry-item.is in
+    let few = few_before c.items-entry-items.result.now c.loop-entry.entry-index c.entry-item.result c.loop-entry.counts c.in_ok-pointer.pointer h l.whole l.counts c.in_ok-pointer.ensures in
+    let all = c.requires in
+    omega (arith, few, subst (λ ds. length (decoy_paths ds) ≤ 32768) (sym c.items-entry-items.ensures) all)
+
+pub push_entry-requires : goal.push_entry-requires
+push_entry-requires c =
+    let l = c.loop-entry.invariant in
+    let h = entry c.items-entry-items.result.now c.loop-entry.entry-index c.entry-item.result c.loop-entry-test.true c.entry-item.is in
+    let few = few_before c.items-entry-items.result.now c.loop-entry.entry-index c.entry-item.result c.loop-entry.counts c.in_ok-pointer.pointer h l.whole l.counts c.in_ok-pointer.ensures in
+    let all = c.requires in
+    omega (arith, few, c.in_ok-before.ensures.before, subst (λ ds. length (decoy_paths ds) ≤ 32768) (sym c.items-entry-items.ensures) all)
+
+pub loop-entry-preserved : goal.loop-entry-preserved
+loop-entry-preserved c =
+    let l = c.loop-entry.invariant in
+    let items = c.items-entry-items.result.now in
+    let i = c.loop-entry.entry-index in
+    let e = c.entry-item.result in
+    let h = entry items i e c.loop-entry-test.true c.entry-item.is in
+    record {
+      whole = whole_step items i e h l.whole;
+      counts = counts_after items i e c.loop-entry.counts c.note.new.counts c.in_ok-pointer.pointer h l.whole l.counts c.in_ok-pointer.ensures c.in_ok-before.ensures.noted;
+      texts =
+          ap (λ xs. xs ++ texts_of (tree_of c.args.order.now.payload) (decoy_paths items) (length (decoy_paths (take (i + 1) items))) (decoy_paths (drop (i + 1) items))) c.in_ok-push_entry.ensures
+          ∙ append_assoc c.loop-entry.wanted.items _ _
+          ∙ ap (λ xs. c.loop-entry.wanted.items ++ xs)
+          (sym (texts_after (tree_of c.args.order.now.payload) items i e c.loop-entry.counts c.in_ok-pointer.pointer c.in_ok-before.before h l.whole l.counts c.in_ok-pointer.ensures c.in_ok-before.ensures.before))
+          ∙ l.texts;
+    }
+
+pub returns : goal.returns
+returns c =
+    texts_end (tree_of c.args.order.now.payload) c.items-entry-items.result.now c.loop-entry.entry-index c.loop-entry.wanted.items c.loop-entry-test.false c.loop-entry.invariant.texts
+    ∙ ap (λ ds. texts_of (tree_of c.args.order.now.payload) (decoy_paths ds) 0 (decoy_paths ds)) c.items-entry-items.ensures

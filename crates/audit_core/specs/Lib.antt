@@ -1,0 +1,12 @@
+pub mod Audited
+pub mod Audit
+pub mod AuditCalls
+pub mod AuditRefusal
+pub mod AuditSteps
+pub mod SameMarked
+pub mod SortedLists
+pub mod Places
+pub mod Found
+pub mod Wanted
+pub mod AuditLaws
+pub mod AuditRun

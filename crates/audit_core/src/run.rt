@@ -1,0 +1,130 @@
+// A run of the audit.
+ghost use Rattle.std.specs.Prelude.{◌≡◌, ◌≤◌, ◌+◌, ℕ, List, Some, map, take, IfOk, IfErr, IfSome, string_bytes};
+ghost use Rattle.sd_outside.specs.Causes.{Rose};
+ghost use Rattle.claim_tree.specs.Tree.{IsRanged, depth};
+ghost use Rattle.claim_tree.specs.View.{tree_of};
+ghost use Rattle.cli_parts.specs.Outside.{outside, stream};
+ghost use Rattle.cli_parts.specs.Stops.{OnRefused, OnUnread, OnUnreadable};
+ghost use Rattle.issuer_core.specs.OrderFile.{IsOrderFile};
+ghost use Rattle.audit_core.specs.AuditRun.{AuditEnds, AuditKeeps, HasNoAudit, IsAudit, IsMissed, IsSoOfFiles, SaysNo, SaysYes};
+
+use crate::{AuditError, audit, refusal_line};
+use cli_parts::{FETCH_MAX, Stop, as_line, fetch_file, tell, unread_line, unreadable};
+use digest_index::Steps;
+use hmac_sign::Signer;
+use issuer_core::{IssueFile, read_order};
+use sd_outside::{Cabinet, Failed, Sink, Status, TextBox};
+use std::alloc::Global;
+
+// The answer for what an order file says.
+fn audit_for(alloc: Global, asked: &IssueFile, token_file: &[u8]) -> Result<String, Stop>
+    requires depth { depth (tree_of asked.now.order.payload) ≤ 127 }
+    requires ranged { IsRanged (tree_of asked.now.order.payload) }
+    ensures yes { (order_file : List ℕ) → IsOrderFile order_file asked.now → IfOk result (λ text. SaysYes order_file token_file.now (string_bytes text)) }
+    ensures no { (order_file : List ℕ) → IsOrderFile order_file asked.now → IfErr result (λ stop. OnRefused stop (SaysNo order_file token_file.now)) }
+    ensures readable { IfErr result (λ stop. OnUnreadable stop (λ _. ⊥)) }
+    ensures read { IfErr result (λ stop. OnUnread stop (λ _. ⊥)) }
+{
+    let key = &asked.key;
+    match audit(
+        alloc,
+        &asked.order,
+        key.alg(),
+        key,
+        token_file,
+        &mut Steps::new(),
+    ) {
+        Ok(()) => Ok(as_line(TextBox::make(alloc, "yes")?)?),
+        Err(AuditError::Memory) => Err(Stop::Memory),
+        Err(error) => Err(Stop::Refused(as_line(refusal_line(alloc, &error)?)?)),
+    }
+}
+
+// The answer to an order file and a token file.
+fn audit_files(alloc: Global, order_file: &[u8], token_file: &[u8]) -> Result<String, Stop>
+    ensures yes { IfOk result (λ text. SaysYes order_file.now token_file.now (string_bytes text)) }
+    ensures no { IfErr result (λ stop. OnRefused stop (SaysNo order_file.now token_file.now)) }
+    ensures unreadable { IfErr result (λ stop. OnUnreadable stop (HasNoAudit order_file.now token_file.now)) }
+    ensures read { IfErr result (λ stop. OnUnread stop (λ _. ⊥)) }
+{
+    match read_order(alloc, order_file) {
+        Ok(asked) => audit_for(alloc, &asked, token_file),
+        Err(fault) => Err(unreadable(alloc, fault)),
+    }
+}
+
+// The answer over the files that the cabinet has under these names.
+fn answer<C: Cabinet>(alloc: Global, cab: &mut C, order: &str, token: &str) -> Result<String, Stop>
+    ensures yes { IfOk result (λ text. IsSoOfFiles (C.holds cab.old) order.now token.now (λ o t. SaysYes o t (string_bytes text))) }
+    ensures no { IfErr result (λ stop. OnRefused stop (λ text. IsSoOfFiles (C.holds cab.old) order.now token.now (λ o t. SaysNo o t text))) }
+    ensures unreadable { IfErr result (λ stop. OnUnreadable stop (λ text. IsSoOfFiles (C.holds cab.old) order.now token.now (λ o t. HasNoAudit o t text))) }
+    ensures misses { IfErr result (λ stop. OnUnread stop (λ word. (name : List ℕ) × IsMissed order.now token.now word name × (C.missed cab.new ≡ Some name))) }
+    ensures rose { IfErr result (λ stop. OnUnread stop (λ _. Rose (C.faults cab.old) (C.faults cab.new))) }
+    ensures held { (name : List ℕ) → C.holds cab.new name ≡ C.holds cab.old name }
+    ensures later { C.faults cab.old ≤ C.faults cab.new }
+{
+    let order = fetch_file(alloc, cab, order, FETCH_MAX, 0)?;
+    let token = fetch_file(alloc, cab, token, FETCH_MAX, 1)?;
+    audit_files(alloc, order.bytes(), token.bytes())
+}
+
+// The names of the two files.
+fn audit_words(words: &[String]) -> Option<(&str, &str)>
+    ensures some { IfSome result (λ names. IsAudit (map string_bytes words.now) names.0.now names.1.now) }
+    ensures none { result ≡ None → (order token : List ℕ) → IsAudit (map string_bytes words.now) order token → ⊥ }
+{
+    match words {
+        [name, order, token] if name.as_str() == "audit" => Some((order.as_str(), token.as_str())),
+        _ => None,
+    }
+}
+
+/// Runs the audit that the words ask for: `audit`, the name of an order file, and that of a token file.
+///
+/// Where the token is what the order asks for, signed with its key, the line `yes` goes to `out`; else the line of the first
+/// refusal goes to `err`. What each status says of the outside before and after is `AuditEnds`, by cases.
+pub fn run_audit<C: Cabinet, O: Sink, E: Sink>(
+    alloc: Global,
+    words: &[String],
+    cab: &mut C,
+    out: &mut O,
+    err: &mut E,
+) -> Status
+    ensures ends { AuditEnds (map string_bytes words.now)
+        (outside (C.holds cab.old) (C.missed cab.old) (C.faults cab.old) (stream (O.written out.old) (O.faults out.old)) (stream (E.written err.old) (E.faults err.old)))
+        (outside (C.holds cab.new) (C.missed cab.new) (C.faults cab.new) (stream (O.written out.new) (O.faults out.new)) (stream (E.written err.new) (E.faults err.new)))
+        result }
+    ensures keeps { AuditKeeps
+        (outside (C.holds cab.old) (C.missed cab.old) (C.faults cab.old) (stream (O.written out.old) (O.faults out.old)) (stream (E.written err.old) (E.faults err.old)))
+        (outside (C.holds cab.new) (C.missed cab.new) (C.faults cab.new) (stream (O.written out.new) (O.faults out.new)) (stream (E.written err.new) (E.faults err.new))) }
+{
+    let Some((order, token)) = audit_words(words) else {
+        tell(err, "usage\n");
+        return Status::Usage;
+    };
+    match answer(alloc, cab, order, token) {
+        Ok(text) => match out.put(text.as_bytes()) {
+            Ok(()) => Status::Done,
+            Err(Failed) => {
+                tell(err, "unwritten\n");
+                Status::Unwritten
+            }
+        },
+        Err(Stop::Refused(line)) => {
+            tell(err, line.as_str());
+            Status::Refused
+        }
+        Err(Stop::Unread(word)) => {
+            tell(err, unread_line(word));
+            Status::Unread
+        }
+        Err(Stop::Unreadable(line)) => {
+            tell(err, line.as_str());
+            Status::Unreadable
+        }
+        Err(Stop::Memory) => {
+            tell(err, "memory\n");
+            Status::Memory
+        }
+    }
+}
