@@ -1,0 +1,4 @@
+pub mod Choices
+pub mod Bests
+pub mod Bounds
+pub mod Sames

@@ -1,5 +1,5 @@
 -- What a run of the wallet does to the outside, by the status with which it ends.
-use Rattle.std.specs.Prelude.{◌≡◌, ◌<◌, ◌≤◌, ◌+◌, ◌++◌, ℕ, List, [], ◌∷◌, length, Option, Some, IfSome, take, codes}
+use Rattle.std.specs.Prelude.{◌≡◌, ◌<◌, ◌≤◌, ◌+◌, ◌++◌, ℕ, List, [], ◌∷◌, length, Option, None, Some, IfSome, take, codes}
 use Rattle.std.specs.Fmt.{decimal}
 use Rattle.std.specs.Io.KnownBytes.{Appends}
 use Rattle.std.specs.List.{AllZip}
@@ -12,6 +12,8 @@ use Rattle.cli_parts.specs.Lines.{line}
 use Rattle.cli_parts.specs.Outside.{Outside, Tells}
 use Rattle.cli_parts.specs.Telling.{TellsFileFault}
 use Rattle.compact_form.specs.Compact.{compact}
+use Rattle.compact_form.specs.RefusedText.{refused_text}
+use Rattle.compact_form.specs.declared.refusal.Refusal.{Refusal}
 use Rattle.selection_core.specs.Never.{never_rule}
 use Rattle.wallet_core.specs.Meets.{Meets}
 use Rattle.wallet_core.specs.Picked.{IsPicked, IsFewest, HasNoAnswer}
@@ -29,15 +31,19 @@ pub record IsWallet (words : List (List ℕ)) (query : List ℕ) (tokens : List 
 abbrev pub IsFetched : (List ℕ → Option (List ℕ)) → List ℕ → List ℕ → Type 0
 IsFetched holds name file = IfSome (holds name) (λ content. file ≡ take (file_max + 1) content)
 
--- the words are those of a wallet, whose token files are these, and whose query file says this
+-- the query file says this, and these are the token files
+pub record AreFiles (holds : List ℕ → Option (List ℕ)) (query : List ℕ) (tokens : List (List ℕ)) (said : QueryFile) (held : List (List ℕ)) : Type 0 where
+  pub file : List ℕ
+  pub fetched : IsFetched holds query file
+  pub all_fetched : AllZip (IsFetched holds) tokens held
+  pub is_query : IsQueryFile file said
+
+-- the words are those of a wallet, whose query file says this, and whose token files are these
 pub record Asks (words : List (List ℕ)) (before : Outside) (said : QueryFile) (held : List (List ℕ)) : Type 0 where
   pub query : List ℕ
   pub tokens : List (List ℕ)
   pub named : IsWallet words query tokens
-  pub file : List ℕ
-  pub fetched : IsFetched before.holds query file
-  pub all_fetched : AllZip (IsFetched before.holds) tokens held
-  pub is_query : IsQueryFile file said
+  pub files : AreFiles before.holds query tokens said held
 
 -- the number of the credential that is picked, and the compact text of what it presents
 abbrev pub picked_text : Picked → List ℕ
@@ -59,6 +65,10 @@ pub record WalletDone (words : List (List ℕ)) (before after : Outside) : Type 
   pub out : Appends before.out.written after.out.written answer
   pub err : after.err.written ≡ before.err.written
 
+-- the line of the refusal
+abbrev pub none_text : List ℕ
+none_text = line (refused_text Refusal.NoCredentialAnswers None)
+
 -- no credential answers the query
 pub record WalletRefused (words : List (List ℕ)) (before after : Outside) : Type 0 where
   pub said : QueryFile
@@ -66,7 +76,7 @@ pub record WalletRefused (words : List (List ℕ)) (before after : Outside) : Ty
   pub asks : Asks words before said held
   pub none : HasNoAnswer never_rule said.never held said.query
   pub out : after.out.written ≡ before.out.written
-  pub err : Tells before.err after.err (line (codes "refused 77 noCredentialAnswers"))
+  pub err : Tells before.err after.err none_text
 
 pub record WalletUsage (words : List (List ℕ)) (before after : Outside) : Type 0 where
   pub none : (query : List ℕ) (tokens : List (List ℕ)) → IsWallet words query tokens → ⊥
@@ -77,15 +87,17 @@ pub record WalletUsage (words : List (List ℕ)) (before after : Outside) : Type
 abbrev pub unread_text : ℕ → List ℕ
 unread_text word = line (codes "unread " ++ decimal (word + 1))
 
+-- the name that was missed is that of this word
+abbrev pub Misses : List (List ℕ) → ℕ → Option (List ℕ) → Type 0
+Misses names word missed = (name : List ℕ) × StandsAt names word name × (missed ≡ Some name)
+
 -- the cabinet failed at the file of this word
 pub record WalletUnread (words : List (List ℕ)) (before after : Outside) : Type 0 where
   pub query : List ℕ
   pub tokens : List (List ℕ)
   pub named : IsWallet words query tokens
   pub word : ℕ
-  pub name : List ℕ
-  pub stands : StandsAt (query ∷ tokens) word name
-  pub missed : after.missed ≡ Some name
+  pub missed : Misses (query ∷ tokens) word after.missed
   pub rose : Rose before.faults after.faults
   pub out : after.out.written ≡ before.out.written
   pub err : Tells before.err after.err (unread_text word)

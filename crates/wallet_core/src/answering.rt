@@ -4,7 +4,7 @@ ghost use Rattle.claim_tree.specs.Tree.{depth};
 ghost use Rattle.compact_form.specs.Compact.{AreWords};
 ghost use Rattle.holder_core.specs.Present.{held_rules};
 ghost use Rattle.marked_tree.specs.Choice.{IsUnmixed};
-ghost use Rattle.marked_tree.specs.Marked.{strip};
+ghost use Rattle.marked_tree.specs.Marked.{Marked as SeenMarked, strip};
 ghost use Rattle.marked_tree.specs.View.{marked_of};
 ghost use Rattle.selection_core.specs.Consent.{IsDecided};
 ghost use Rattle.verifier_core.specs.Check.{IsCountedWithin, IsUncounted};
@@ -12,7 +12,7 @@ ghost use Rattle.verifier_core.specs.Verdict.{TokenFails, IsChecked};
 ghost use Rattle.wallet_core.specs.LookUps.{RoseWithinSum};
 ghost use Rattle.wallet_core.specs.Meets.{asked_places as asked_of, Meets, MayMeet};
 ghost use Rattle.wallet_core.specs.Picked.{IsPicked, IsFewest, HasNoAnswer};
-ghost use Rattle.wallet_core.specs.WalletSteps.{IsLeastSet, IsUnanswered, IsSentOf, IsTold, IsBest, IsWithinBound};
+ghost use Rattle.wallet_core.specs.WalletSteps.{IsLeastSet, IsUnanswered, IsTold, IsToldOf, IsBetter, IsWithinBound};
 ghost use Rattle.wallet_core.specs.declared.error.WalletError.TheVariants.{NoAnswer};
 
 use crate::values::has_values;
@@ -80,7 +80,10 @@ fn asked_places(alloc: Global, query: &Query) -> Result<PathList, NoMemory>
 }
 
 // What was best so far, or these parts where they have fewer disclosures.
-fn better(best: Option<Picked>, index: usize, sent: Option<Parts>) -> Option<Picked> {
+fn better(best: Option<Picked>, index: usize, sent: Option<Parts>) -> Option<Picked>
+    ensures better { IsBetter best index sent result }
+    ensures words { IfSome best (λ choice. AreWords choice.parts) → IfSome sent AreWords → IfSome result (λ choice. AreWords choice.parts) }
+{
     let Some(parts) = sent else {
         return best;
     };
@@ -130,6 +133,10 @@ fn token_parts<F: Fn(&Path) -> bool>(
     requires words { AreWords token.now.parts }
     requires callable { F.IsAlwaysCallable consent.now }
     requires asked { asked.now ≡ asked_of query.now }
+    ensures told { IfOk result (IsToldOf F.Fn consent.now query.now token.now) }
+    ensures words { IfOk result (λ sent. IfSome sent AreWords) }
+    ensures within { IsCountedWithin token.now steps.old steps.new }
+    ensures uncounted { IsUncounted (TokenFails token.now (held_rules query.now.keys)) steps.old steps.new }
 {
     let Some(marked) = open_held(alloc, token, &query.keys, steps)? else {
         return Ok(None);
@@ -149,7 +156,7 @@ fn open_held(
 ) -> Result<Option<Marked>, NoMemory>
     requires few { length token.now.parts.disclosures < 2 ^ 32 - 1 }
     ensures checked { IfOk result (λ opened. IfSome opened (λ marked. IsChecked token.now (held_rules keys.now) (marked_of marked))) }
-    ensures none { IfOk result (λ opened. IfNone opened ((marked : _) → IsChecked token.now (held_rules keys.now) marked → ⊥)) }
+    ensures none { IfOk result (λ opened. IfNone opened ((marked : SeenMarked) → IsChecked token.now (held_rules keys.now) marked → ⊥)) }
     ensures within { IsCountedWithin token.now steps.old steps.new }
     ensures uncounted { IsUncounted (TokenFails token.now (held_rules keys.now)) steps.old steps.new }
 {

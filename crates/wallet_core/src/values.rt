@@ -66,10 +66,13 @@ fn are_same(list: &MarkedList, values: &TreeList) -> bool
     if list.len() != values.len() {
         return false;
     }
-    for (i, (_, tree)) in list.elements().iter().enumerate() {
-        match values.at(i) {
-            Some(value) if is_same(tree, value) => (),
-            _ => return false,
+    for (i, element) in list.elements().iter().enumerate() {
+        let Some(value) = values.at(i) else {
+            return false;
+        };
+        let (_, tree) = element;
+        if !is_same(tree, value) {
+            return false;
         }
     }
     true
@@ -82,10 +85,13 @@ fn have_same(map: &MarkedMap, values: &TreeMap) -> bool
     if map.len() != values.len() {
         return false;
     }
-    for (i, (name, _, tree)) in map.members().iter().enumerate() {
-        match values.entry_at(i) {
-            Some((other, value)) if name == other && is_same(tree, value) => (),
-            _ => return false,
+    for (i, member) in map.members().iter().enumerate() {
+        let Some((name, value)) = values.entry_at(i) else {
+            return false;
+        };
+        let (own, _, tree) = member;
+        if own != name || !is_same(tree, value) {
+            return false;
         }
     }
     true
