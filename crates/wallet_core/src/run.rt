@@ -99,11 +99,7 @@ fn picked_lines(alloc: Global, choice: &Picked) -> Result<String, NoMemory>
 fn none_line(alloc: Global) -> Result<String, NoMemory>
     ensures { IfOk result (λ text. string_bytes text ≡ none_text) }
 {
-    as_line(placed_line(
-        alloc,
-        Refusal::NoCredentialAnswers,
-        Place::Nowhere,
-    )?)
+    as_line(placed_line(alloc, Refusal::NoCredentialAnswers, Place::Nowhere)?)
 }
 
 // The answer to a query file over the token files.
