@@ -14,10 +14,10 @@ use wallet_core::run_wallet;
 fn names_tool(words: &[String], name: &str) -> bool
     ensures { IsTrue result ↔ ((rest : List (List ℕ)) × (map string_bytes words.now ≡ name.now ∷ rest)) }
 {
-    match words.first() {
-        Some(word) => word.as_str() == name,
-        None => false,
-    }
+    let [word, ..] = words else {
+        return false;
+    };
+    word.as_str() == name
 }
 
 /// Runs the tool that the first word names, over the files of the cabinet and what the source gives: `wallet`, which takes nothing
