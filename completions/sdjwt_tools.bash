@@ -1,13 +1,13 @@
-# Completion of sdjwt_tools for bash: its command, and the name of the policy.
+# Completion of sdjwt_tools for bash: its commands, and the names of the files.
 
 _sdjwt_tools() {
     local word=${COMP_WORDS[COMP_CWORD]} file
     COMPREPLY=()
     case $COMP_CWORD,${COMP_WORDS[1]} in
         1,*)
-            COMPREPLY=($(compgen -W 'feed' -- "$word"))
+            COMPREPLY=($(compgen -W 'feed wallet' -- "$word"))
             ;;
-        2,feed)
+        2,feed | *,wallet)
             compopt -o filenames 2>/dev/null
             while IFS= read -r file; do
                 COMPREPLY+=("$file")

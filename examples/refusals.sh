@@ -54,7 +54,7 @@ in_cases() {
         s/^usage$/2 usage/p
         s/^unwritten$/4 unwritten/p'
     # what no file gives, or another program
-    printf '%s\n' '60 digestClash' '5 memory' '87 feedTooLong'
+    printf '%s\n' '60 digestClash' '5 memory' '77 noCredentialAnswers' '87 feedTooLong' '6 wrong equal'
 }
 
 on_page() {
@@ -83,10 +83,10 @@ words_of() {
         done
 }
 
-# The code that reads policies, orders and present orders.
+# The code that reads policies, orders, present orders and queries.
 readers() {
     cat "$top/crates/verifier_core/src/policy.rt" "$top/crates/issuer_core/src/order_file.rt" \
-        "$top/crates/holder_core/src/present_file.rt"
+        "$top/crates/holder_core/src/present_file.rt" "$top/crates/wallet_core/src/query_file.rt"
 }
 
 in_code() {

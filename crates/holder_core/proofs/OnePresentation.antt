@@ -17,7 +17,7 @@ use Rattle.json_form.specs.declared.token.Token.{Token}
 use Rattle.key_binding.specs.Binding.{IsBinding}
 use Rattle.marked_tree.specs.Marked.{Marked, strip}
 use Rattle.marked_tree.specs.Paths.{Path, chosen}
-use Rattle.selection_core.specs.Consent.{RuleAnswers, Allows, AllAllowed, IsRefusedAt}
+use Rattle.selection_core.specs.Consent.{RuleAnswers, Allows, IsDecided, AllAllowed, IsRefusedAt}
 use Rattle.selection_core.specs.ChoiceRefusals.{IsMissing}
 use Rattle.verifier_core.specs.Verdict.{TokenFails}
 use Rattle.verifier_core.proofs.Verdicts.{one_opening, one_hash}
@@ -27,10 +27,6 @@ use Rattle.holder_core.specs.declared.ask.BindingAsk.{BindingAsk}
 use Rattle.holder_core.specs.declared.errors.PresentError.{PresentError}
 use Rattle.holder_core.specs.declared.errors.PresentError.TheVariants.{Memory, Token as OnCondition, HasBinding, NoSuchPlace, ConsentRefused, BindingKeyDiffers, SignFailed, TooLong}
 use Rattle.holder_core.specs.Present.{picked, shown_for, held_rules, IsHeld, NamesKey, IsBoundWith, IsAnswer, IsWantedNotThere, IsConsentRefused, IsBindingKeyOther, IsNoAnswer, IsPresented, IsNotPresented, no_memory, not_read, refused}
-
--- the rule does not both allow and refuse a place
-abbrev pub IsDecided : {F : Type 0} → RuleAnswers F → F → Type 0
-IsDecided answers rule = (at : Path) → Allows answers rule at true → Allows answers rule at false → ⊥
 
 -- no two signatures of a text are good
 abbrev pub HasOneSignature : Meaning → Type 0
