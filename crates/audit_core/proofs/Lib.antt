@@ -12,3 +12,10 @@ pub mod Contents
 pub mod Parts
 pub mod Verdicts
 mod Answering
+pub mod IssuedDepths
+pub mod IssuedHashes
+pub mod IssuedWritten
+pub mod IssuedDigests
+pub mod IssuedDecoys
+pub mod IssuedLaw
+mod Examples

@@ -1,14 +1,16 @@
 -- Not needed to believe the program's promises: what the laws say.
 use Rattle.std.specs.Prelude.{◌≡◌, ℕ, List}
-use Rattle.claim_tree.specs.Tree.{Text, no_members}
+use Rattle.b64url_text.specs.Base64url.{AreBytes}
+use Rattle.claim_tree.specs.Tree.{Text, IsOrdered}
 use Rattle.compact_form.specs.Compact.{compact}
 use Rattle.compact_form.specs.Lowest.{NoneApplies}
 use Rattle.compact_form.specs.declared.parts.Parts.{Parts}
+use Rattle.hmac_sign.specs.Hmac.{AlgKey, IsGood}
 use Rattle.hmac_sign.specs.Signatures.{Meaning}
 use Rattle.hmac_sign.specs.declared.alg.Alg.{Alg}
+use Rattle.json_form.specs.Alone.{alone}
 use Rattle.json_form.specs.Token.{IsToken}
-use Rattle.json_form.specs.declared.token.Token.{Token}
-use Rattle.issuer_core.specs.GoodOrder.{IsWritable}
+use Rattle.issuer_core.specs.GoodOrder.{FitsMachine}
 use Rattle.issuer_core.specs.Order.{Order}
 use Rattle.issuer_core.specs.OrderRefusals.{AppliesToOrder}
 use Rattle.issuer_core.specs.Seed.{maker_of}
@@ -16,16 +18,22 @@ use Rattle.issuer_core.specs.Written.{IsIssued}
 use Rattle.audit_core.specs.declared.errors.AuditError.{AuditError}
 use Rattle.audit_core.specs.Audit.{PassesAudit, FailsAudit}
 
--- the token of these parts, with no unprotected header
-abbrev pub plain_token : Parts → Token
-plain_token parts = record { parts = parts; outer = no_members }
-
--- what is issued with any seed for an order that nothing of 51 to 59 refuses passes the audit, where its compact text is read as a token
+-- what is issued with any seed for an order that nothing of 51 to 59 refuses, with a signature of bytes, passes the audit,
+-- where its compact text is read as a token
 abbrev pub IssuedPasses : Alg → Meaning → Type 0
 IssuedPasses alg good =
     (seed : List ℕ) (o : Order) (parts : Parts)
-    → NoneApplies (AppliesToOrder o) → IsWritable o → IsIssued (maker_of seed) o alg good parts
-    → IsToken (compact parts) (plain_token parts) → PassesAudit o alg good (compact parts)
+    → NoneApplies (AppliesToOrder o) → IsOrdered o.payload → FitsMachine o.payload
+    → (issued : IsIssued (maker_of seed) o alg good parts) → AreBytes issued.written.signature
+    → IsToken (compact parts) (alone parts) → PassesAudit o alg good (compact parts)
+
+-- the same with the signature of a key
+abbrev pub KeyIssuedPasses : AlgKey → Type 0
+KeyIssuedPasses key =
+    (seed : List ℕ) (o : Order) (parts : Parts)
+    → NoneApplies (AppliesToOrder o) → IsOrdered o.payload → FitsMachine o.payload
+    → IsIssued (maker_of seed) o key.alg (IsGood key) parts
+    → IsToken (compact parts) (alone parts) → PassesAudit o key.alg (IsGood key) (compact parts)
 
 -- a text passes, or one thing refuses it
 pub record HasOneVerdict (o : Order) (alg : Alg) (accepts : Meaning) (content : Text) : Type 0 where

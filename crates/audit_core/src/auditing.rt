@@ -70,7 +70,7 @@ fn decoy_count(order: &Order) -> usize
     ensures { result ≡ length (decoys_of (order_of order.now)) }
 {
     let mut count = 0;
-    for entry in order.decoys.items() {
+    for entry in order.decoys.elements() {
         count += entry.count as usize;
     }
     count

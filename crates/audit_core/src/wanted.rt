@@ -115,7 +115,7 @@ pub(crate) fn wanted_standings(alloc: Global, order: &Order) -> Result<Vec<TextB
 {
     let mut counts = BTreeMap::new(alloc);
     let mut wanted = Vec::new(alloc);
-    for entry in order.decoys.items() {
+    for entry in order.decoys.elements() {
         let pointer = print_path(alloc, &entry.at)?;
         let before = note(&mut counts, pointer, entry.count)?;
         push_entry(alloc, &order.payload, entry, before, &mut wanted)?;
