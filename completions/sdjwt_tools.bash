@@ -5,9 +5,9 @@ _sdjwt_tools() {
     COMPREPLY=()
     case $COMP_CWORD,${COMP_WORDS[1]} in
         1,*)
-            COMPREPLY=($(compgen -W 'feed audit' -- "$word"))
+            COMPREPLY=($(compgen -W 'feed audit wallet' -- "$word"))
             ;;
-        2,feed | 2,audit | 3,audit)
+        2,feed | 2,audit | 3,audit | *,wallet)
             compopt -o filenames 2>/dev/null
             while IFS= read -r file; do
                 COMPREPLY+=("$file")

@@ -54,8 +54,9 @@ in_cases() {
         s/^usage$/2 usage/p
         s/^unwritten$/4 unwritten/p'
     # what no file gives, or another program
-    printf '%s\n' '60 digestClash' '5 memory' '80 orderRefused' '81 signedPartDiffers' '82 writtenFormDiffers' '83 payloadDiffers' \
-        '84 digestsDiffer' '85 decoysDiffer' '86 sdOrderDiffers' '87 feedTooLong'
+    printf '%s\n' '60 digestClash' '5 memory' '77 noCredentialAnswers' '80 orderRefused' '81 signedPartDiffers' \
+        '82 writtenFormDiffers' '83 payloadDiffers' '84 digestsDiffer' '85 decoysDiffer' '86 sdOrderDiffers' '87 feedTooLong' \
+        '6 wrong equal'
 }
 
 on_page() {
@@ -84,10 +85,10 @@ words_of() {
         done
 }
 
-# The code that reads policies, orders and present orders.
+# The code that reads policies, orders, present orders and queries.
 readers() {
     cat "$top/crates/verifier_core/src/policy.rt" "$top/crates/issuer_core/src/order_file.rt" \
-        "$top/crates/holder_core/src/present_file.rt"
+        "$top/crates/holder_core/src/present_file.rt" "$top/crates/wallet_core/src/query_file.rt"
 }
 
 in_code() {

@@ -1,12 +1,12 @@
 #!/usr/bin/env python3
-"""What the feed does where the system fails, and when its verdicts go out. It stands beside the gate and proves nothing.
+"""What the feed does where the system fails, and when its verdicts go out.
 
     python3 tests/feed.py PROGRAM      PROGRAM is sdjwt_tools, as `rt run` makes it
 
 Standard output that nobody reads any more, a full disk, input that is none and input that fails in its middle, and each
 request for memory refused in turn: the status and the line are those of the manual, and what was written before is a
 front of all verdicts. Verdicts go out as lines end, each by one write. Refusing memory needs a C compiler; without one
-that part is skipped.
+that part is skipped. It stands beside the gate and proves nothing.
 """
 import os
 import shutil
@@ -36,7 +36,8 @@ def expect(what, came, due):
 def run(program, given, out=subprocess.PIPE, **more):
     """The status of a feed over this input, what it wrote, and its line."""
     source = {"input": given} if isinstance(given, bytes) else {"stdin": given}
-    done = subprocess.run([program, "feed", POLICY, MOST], **source, stdout=out, stderr=subprocess.PIPE, timeout=60, **more)
+    words = [program, "feed", POLICY, MOST]
+    done = subprocess.run(words, **source, stdout=out, stderr=subprocess.PIPE, timeout=60, **more)
     return done.returncode, done.stdout, done.stderr
 
 
@@ -50,7 +51,8 @@ def output_fails(program):
             expect("a full disk", run(program, INPUT, out=full), (4, None, b"unwritten\n"))
     with tempfile.TemporaryFile() as out:
         # a reader that goes away in the middle: the first lines came to it whole
-        feed = subprocess.Popen([program, "feed", POLICY, MOST], stdin=subprocess.PIPE, stdout=subprocess.PIPE, stderr=out)
+        words = [program, "feed", POLICY, MOST]
+        feed = subprocess.Popen(words, stdin=subprocess.PIPE, stdout=subprocess.PIPE, stderr=out)
         feed.stdin.write(INPUT * 3)
         feed.stdin.flush()
         expect("the first line", feed.stdout.readline(), b"refused 2 form at 5\n")
@@ -76,7 +78,8 @@ def input_fails(program, whole):
     server = socket.create_server(("127.0.0.1", 0))
     sender = socket.create_connection(server.getsockname())
     taken, _ = server.accept()
-    feed = subprocess.Popen([program, "feed", POLICY, MOST], stdin=taken, stdout=subprocess.PIPE, stderr=subprocess.PIPE)
+    words = [program, "feed", POLICY, MOST]
+    feed = subprocess.Popen(words, stdin=taken, stdout=subprocess.PIPE, stderr=subprocess.PIPE)
     taken.close()
     sender.sendall(INPUT + b"half a li")
     lines = b"".join(feed.stdout.readline() for _ in range(3))
@@ -94,7 +97,8 @@ def verdicts_go_out(program, whole):
     feed = subprocess.Popen([program, "feed", POLICY, MOST], stdin=subprocess.PIPE, stdout=its)
     its.close()
     said = whole.splitlines(keepends=True)
-    for piece, due in [(b"a.b", []), (b".c\n", said[:1]), (GOOD[:-1], []), (b"\n", said[1:2]), (INPUT, said), (b"x", [])]:
+    for piece, due in [(b"a.b", []), (b".c\n", said[:1]), (GOOD[:-1], []), (b"\n", said[1:2]), (INPUT, said),
+                       (b"x", [])]:
         feed.stdin.write(piece)
         feed.stdin.flush()
         for packet in due:
@@ -121,7 +125,8 @@ def memory_is_refused(program, whole, made):
         return
     count = made / "requests"
     set_up = {"LD_PRELOAD": str(library)}
-    expect("nothing refused", run(program, INPUT, env={**set_up, "REQUESTS": str(count)}), (0, whole + b"lines 3\n", b""))
+    counted = run(program, INPUT, env={**set_up, "REQUESTS": str(count)})
+    expect("nothing refused", counted, (0, whole + b"lines 3\n", b""))
     requests = int(count.read_text())
     for number in range(requests):
         status, out, line = run(program, INPUT, env={**set_up, "REFUSED": str(number)})

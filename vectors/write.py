@@ -6,7 +6,7 @@
 
 The language of the tables stands in crates/sd_vectors/data/README.md. A row becomes a vector, whose shape README.md
 of this folder tells. A row that limits the room on standard output is left out, since no caller can set it; so is a
-row with more than 5,000 bytes of files.
+row with more than 5,000 bytes of files. The tables of the other program, `sdjwt_tools`, are left out whole.
 """
 import base64
 import hashlib
@@ -19,6 +19,7 @@ from pathlib import Path
 HERE = Path(__file__).resolve().parent
 DATA = HERE.parent / "crates" / "sd_vectors" / "data"
 MOST_BYTES = 5_000
+OF_TOOLS = {"wallet.rows"}
 NOW = 1_700_000_000
 CHARACTERS = {"nul": "\0", "tab": "\t", "return": "\r", "blank": " ", "bom": "\ufeff"}
 
@@ -227,7 +228,7 @@ def written(vectors):
 def main():
     names = names_of(DATA / "names.txt")
     check, stale, count = "--check" in sys.argv[1:], [], 0
-    for path in sorted(DATA.glob("*.rows")):
+    for path in sorted(path for path in DATA.glob("*.rows") if path.name not in OF_TOOLS):
         vectors = table(path, names)
         count += len(vectors)
         target = HERE / f"{path.stem}.json"

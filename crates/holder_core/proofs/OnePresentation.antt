@@ -17,7 +17,7 @@ use Rattle.json_form.specs.declared.token.Token.{Token}
 use Rattle.key_binding.specs.Binding.{IsBinding}
 use Rattle.marked_tree.specs.Marked.{Marked, strip}
 use Rattle.marked_tree.specs.Paths.{Path, chosen}
-use Rattle.selection_core.specs.Consent.{RuleAnswers, Allows, AllAllowed, IsRefusedAt}
+use Rattle.selection_core.specs.Consent.{RuleAnswers, Allows, IsDecided, AllAllowed, IsRefusedAt}
 use Rattle.selection_core.specs.ChoiceRefusals.{IsMissing}
 use Rattle.verifier_core.specs.Verdict.{TokenFails}
 use Rattle.verifier_core.proofs.Verdicts.{one_opening, one_hash}
@@ -27,10 +27,7 @@ use Rattle.holder_core.specs.declared.ask.BindingAsk.{BindingAsk}
 use Rattle.holder_core.specs.declared.errors.PresentError.{PresentError}
 use Rattle.holder_core.specs.declared.errors.PresentError.TheVariants.{Memory, Token as OnCondition, HasBinding, NoSuchPlace, ConsentRefused, BindingKeyDiffers, SignFailed, TooLong}
 use Rattle.holder_core.specs.Present.{picked, shown_for, held_rules, IsHeld, NamesKey, IsBoundWith, IsAnswer, IsWantedNotThere, IsConsentRefused, IsBindingKeyOther, IsNoAnswer, IsPresented, IsNotPresented, no_memory, not_read, refused}
-
--- the rule does not both allow and refuse a place
-abbrev pub IsDecided : {F : Type 0} → RuleAnswers F → F → Type 0
-IsDecided answers rule = (at : Path) → Allows answers rule at true → Allows answers rule at false → ⊥
+use Rattle.claim_tree.proofs.Lists.{least_one}
 
 -- no two signatures of a text are good
 abbrev pub HasOneSignature : Meaning → Type 0
@@ -58,17 +55,6 @@ one_bound good once (Some ask) hash text now (Some a) (Some b) h k = ap Some (on
 
 parts_made : JwtParts → List Text → Option JwtParts → Parts
 parts_made signed disclosures binding = record { signed = signed; disclosures = disclosures; binding = binding }
-
-least_one : (P : ℕ → Type 0) (i j : ℕ) → IsLeast P i → IsLeast P j → i ≡ j
-least_one P i j h k = go (either i j)
-  where
-    either : (a b : ℕ) → (a < b) ⊎ ((b < a) ⊎ (a ≡ b))
-    either a b = grind arith
-
-    go : (i < j) ⊎ ((j < i) ⊎ (i ≡ j)) → i ≡ j
-    go (inl less) = absurd (k.first i less h.fails)
-    go (inr (inl more)) = absurd (h.first j more k.fails)
-    go (inr (inr same)) = same
 
 refused_one : {F : Type 0} (answers : RuleAnswers F) (rule : F) → IsDecided answers rule → (m : Marked) (s : ℕ → Bool) (i j : ℕ) → IsRefusedAt answers rule m s i → IsRefusedAt answers rule m s j → i ≡ j
 refused_one answers rule decided m s i j h k = go (either i j)

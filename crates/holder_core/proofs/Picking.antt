@@ -1,5 +1,5 @@
 -- Elements that are picked by their places, under sets with the same members.
-use Rattle.std.proofs.Common.{◌≡◌, ℕ, suc, List, [], ◌∷◌, ◌++◌, length, Bool, true, false, refl, ap, ap₂, ◌∙◌}
+use Rattle.std.proofs.Common.{◌≡◌, ℕ, suc, ◌≤◌, List, [], ◌∷◌, ◌++◌, length, Bool, true, false, refl, ap, ap₂, ◌∙◌, arith}
 use Rattle.std.specs.Prelude.{if◌then◌else◌}
 use Rattle.std.specs.List.{AllByRecursion}
 use Rattle.b64url_text.specs.Base64url.{IsWord}
@@ -44,3 +44,15 @@ picked_in s xs x is = picked_more s xs x ∙ ap (λ (b : Bool). last_if b x (pic
 
 pub picked_out : {X : Type 0} (s : ℕ → Bool) (xs : List X) (x : X) → s (length xs) ≡ false → picked s (xs ++ x ∷ []) ≡ picked s xs
 picked_out s xs x is = picked_more s xs x ∙ ap (λ (b : Bool). last_if b x (picked s xs)) is
+
+-- a set that has all of another picks no fewer
+pub picked_fewer : {X : Type 0} (s t : ℕ → Bool) → ((i : ℕ) → s i ≡ true → t i ≡ true) → (xs : List X) → length (picked s xs) ≤ length (picked t xs)
+picked_fewer s t all [] = omega arith
+picked_fewer {X} s t all (x ∷ xs) = go (s 0) (t 0) (all 0) (picked_fewer (λ k. s (suc k)) (λ k. t (suc k)) (λ i h. all (suc i) h) xs)
+  where
+    go : (b c : Bool) → (b ≡ true → c ≡ true) → length (picked (λ k. s (suc k)) xs) ≤ length (picked (λ k. t (suc k)) xs)
+        → length (first_if b x (picked (λ k. s (suc k)) xs)) ≤ length (first_if c x (picked (λ k. t (suc k)) xs))
+    go true true h less = omega (arith, less)
+    go true false h less = absurd (cc (h refl))
+    go false true h less = omega (arith, less)
+    go false false h less = less

@@ -3,7 +3,6 @@ use Rattle.std.specs.Prelude.{◌≡◌, ◌≢◌, ◌<◌, ◌⊎◌, ℕ, Lis
 use Rattle.claim_tree.specs.Tree.{Tree}
 use Rattle.claim_tree.specs.Lists.{IsLeast, AtNone}
 use Rattle.compact_form.specs.Compact.{compact}
-use Rattle.compact_form.specs.Lowest.{IsLowest}
 use Rattle.sd_outside.specs.Limits.{compact_max}
 use Rattle.compact_form.specs.declared.parts.Parts.{Parts}
 use Rattle.disclosure.specs.declared.digests.HashAlg.{HashAlg}
@@ -15,18 +14,12 @@ use Rattle.marked_tree.specs.Numbers.{has}
 use Rattle.marked_tree.specs.Paths.{Path, chosen}
 use Rattle.selection_core.specs.Consent.{RuleAnswers, AllAllowed, IsRefusedAt}
 use Rattle.selection_core.specs.ChoiceRefusals.{IsMissing}
-use Rattle.verifier_core.specs.Verdict.{Rules, TokenFails}
 use Rattle.verifier_core.specs.Verdicts.{IsCheckedAs}
 use Rattle.holder_core.specs.declared.ask.Ask.{Ask}
 use Rattle.holder_core.specs.declared.ask.BindingAsk.{BindingAsk}
 use Rattle.holder_core.specs.declared.errors.PresentError.{PresentError}
-use Rattle.holder_core.specs.declared.errors.PresentError.TheVariants.{Memory, Token as OnCondition, NoSuchPlace, ConsentRefused, BindingKeyDiffers, SignFailed, TooLong}
-use Rattle.holder_core.specs.Present.{held_rules, shown_for, IsAgreed, NamesKey, IsBoundAs, PicksParts, IsWantedNotThere, IsConsentRefused, IsBindingKeyOther}
-
-abbrev pub IsUnchecked : Token → Rules → PresentError → Type 0
-IsUnchecked token rules Memory = Unit {0}
-IsUnchecked token rules (OnCondition fault) = IsLowest (TokenFails token rules) fault
-IsUnchecked token rules _ = ⊥
+use Rattle.holder_core.specs.declared.errors.PresentError.TheVariants.{Memory, NoSuchPlace, ConsentRefused, BindingKeyDiffers, SignFailed, TooLong}
+use Rattle.holder_core.specs.Present.{held_rules, shown_for, IsUnchecked, IsAgreed, NamesKey, IsBoundAs, PicksParts, IsWantedNotThere, IsConsentRefused, IsBindingKeyOther}
 
 -- these are the marks that lead to the wanted places, which are there, and the rule may allow them
 pub record IsChosen {F : Type 0} (answers : RuleAnswers F) (rule : F) (m : Marked) (want : List Path) (marks : List ℕ) : Type 0 where

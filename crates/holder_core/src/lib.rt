@@ -2,7 +2,8 @@
 //!
 //! [`read_present`] reads an [`Ask`] from its file, with the places that are never shown and the key of the holder. [`present`]
 //! answers it: the disclosures that lead to the wanted places, where the holder consents, with a key binding token where one is
-//! asked for. [`refusal_line`] is the line that tells why it does not.
+//! asked for. [`refusal_line`] is the line that tells why it does not. Two of its steps may be taken apart:
+//! [`check_held`] judges a token that is held, and [`picked_parts`] leaves out what is not chosen.
 #![tactic(auto)]
 
 mod ask;
@@ -16,5 +17,5 @@ mod whole;
 pub use ask::{Ask, BindingAsk};
 pub use errors::PresentError;
 pub use present_file::{PresentFile, read_present};
-pub use presenting::present;
+pub use presenting::{check_held, picked_parts, present};
 pub use refusal::refusal_line;

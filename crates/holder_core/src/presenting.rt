@@ -18,9 +18,9 @@ ghost use Rattle.marked_tree.specs.Numbers.{has};
 ghost use Rattle.marked_tree.specs.View.{marked_of};
 ghost use Rattle.verifier_core.specs.Verdict.{TokenFails, HasHash, asked};
 ghost use Rattle.verifier_core.specs.Check.{OnFault, IsContent, IsCounted, IsCountedWithin, IsReadWithin, IsUncounted};
-ghost use Rattle.holder_core.specs.Present.{held_rules, picked, IsHeld, IsBoundBy, IsAnswer, IsNoAnswer, IsPresented, IsNotPresented, NamesKey};
+ghost use Rattle.holder_core.specs.Present.{held_rules, picked, IsHeld, IsBoundBy, IsAnswer, IsNoAnswer, IsPresented, IsNotPresented, IsUnchecked, NamesKey};
 ghost use Rattle.holder_core.specs.PresentCalls.{PresentFails};
-ghost use Rattle.holder_core.specs.PresentSteps.{IsUnchecked, IsUnchosen, IsChosen, IsOtherKey, IsReady, IsUnready, IsPresentUnsigned, IsPresentFinished, IsPresentUnfinished, IsMadeReady, IsUncheckedOrUnready};
+ghost use Rattle.holder_core.specs.PresentSteps.{IsUnchosen, IsChosen, IsOtherKey, IsReady, IsUnready, IsPresentUnsigned, IsPresentFinished, IsPresentUnfinished, IsMadeReady, IsUncheckedOrUnready};
 ghost use Rattle.holder_core.specs.declared.errors.PresentError.{PresentError};
 ghost use Rattle.key_binding.specs.declared.errors.BindError.{BindError};
 
@@ -230,8 +230,13 @@ fn read_signed<'a>(
     Content::read(alloc, token, &rules)
 }
 
-// The conditions 5 to 13, but 8, where it may be signed with any algorithm that is known.
-fn check_held(alloc: Global, token: &TokenView<'_>, keys: &KeySet) -> Result<Content, PresentError>
+/// Judges a token that is held by the conditions 5 to 13, but 8, RFC 9901 section 7.3: it may be signed by one of the keys with any
+/// algorithm that is known, whatever its type is. The first condition that fails is answered.
+pub fn check_held(
+    alloc: Global,
+    token: &TokenView<'_>,
+    keys: &KeySet,
+) -> Result<Content, PresentError>
     requires few { length token.now.parts.disclosures < 2 ^ 32 - 1 }
     ensures content { IfOk result (IsContent token.now (held_rules keys.now)) }
     ensures refused { IfErr result (IsUnchecked token.now (held_rules keys.now)) }
@@ -298,8 +303,8 @@ pub(crate) fn check_named(binding: &BindingAsk, payload: &Tree) -> Result<(), Pr
     Ok(())
 }
 
-// The token with the chosen disclosures alone.
-pub(crate) fn picked_parts(
+/// The token of the issuer with the chosen disclosures alone, in their order, and no key binding token.
+pub fn picked_parts(
     alloc: Global,
     token: &TokenView<'_>,
     chosen: &ChosenSet,

@@ -25,3 +25,5 @@ mod rebuild_tests;
 mod tree_tests;
 #[cfg(test)]
 mod verifier_tests;
+#[cfg(test)]
+mod wallet_tests;

@@ -3,9 +3,10 @@
 use crate::names::Names;
 use crate::token::{binding, flattened, token};
 use crate::trouble::Trouble;
-use sd_outside::{MemCabinet, MemSink};
+use sd_outside::{MemCabinet, MemSink, Status};
 use sdjwt_cli::run;
 use std::alloc::Global;
+use wallet_core::run_wallet;
 
 /// The moment of a run where a row sets none, in seconds since 1970.
 const NOW: u64 = 1_700_000_000;
@@ -153,18 +154,22 @@ impl Bench {
         self.hold(name, whole.as_str())
     }
 
+    // Runs the program that has these words: `wallet` is of the tools.
+    fn run_words(&mut self, words: &[String], out: &mut MemSink, err: &mut MemSink) -> Status {
+        let cabinet = &mut self.cabinet;
+        match words.first() {
+            Some(word) if word.as_str() == "wallet" => {
+                run_wallet(self.alloc, words, cabinet, out, err)
+            }
+            _ => run(self.alloc, words, cabinet, self.now, out, err),
+        }
+    }
+
     fn run(&mut self, words: &str, file: &str) -> Result<(), Trouble> {
         let words = words_of(self.alloc, words)?;
         let mut out = MemSink::new(self.alloc, self.room)?;
         let mut err = MemSink::new(self.alloc, LINE_ROOM)?;
-        let status = run(
-            self.alloc,
-            words.as_slice(),
-            &mut self.cabinet,
-            self.now,
-            &mut out,
-            &mut err,
-        );
+        let status = self.run_words(words.as_slice(), &mut out, &mut err);
         let answer = text_of(out.written())?;
         self.left = outcome(self.alloc, status.number(), answer, text_of(err.written())?)?;
         self.hold(file, answer)

@@ -26,7 +26,7 @@ use Rattle.issuer_core.specs.RefusalLine.{issue_refusal_text}
 use Rattle.sdjwt_cli.specs.declared.form.Form.TheVariants.{Compact, Flat, General}
 use Rattle.sdjwt_cli.specs.Command.{split, verify, issue, present, convert, command_of}
 use Rattle.cli_parts.specs.Lines.{line, refusal, unread_text, unreadable_line, short_seed}
-use Rattle.sdjwt_cli.specs.Never.{MayBeShown}
+use Rattle.selection_core.specs.Never.{MayBeShown}
 use Rattle.holder_core.specs.PresentRefusal.{present_refusal_text}
 use Rattle.sdjwt_cli.specs.Split.{Splits}
 use Rattle.digest_sites.specs.Given.{Given}

@@ -14,7 +14,7 @@ use Rattle.issuer_core.specs.Digests.{marked_claims}
 use Rattle.issuer_core.specs.Seed.{maker_of}
 use Rattle.holder_core.specs.declared.ask.Ask.{Ask}
 use Rattle.holder_core.specs.Present.{shown_for, picked}
-use Rattle.sdjwt_cli.specs.Never.{never_rule}
+use Rattle.selection_core.specs.Never.{never_rule}
 use Rattle.sdjwt_cli.specs.NoForgery.{NoneCollides, IsChoiceOf}
 use Rattle.sdjwt_cli.specs.Suits.{Suits}
 use Rattle.sdjwt_cli.proofs.HeldIssued.{IsTokenOf, token_of}

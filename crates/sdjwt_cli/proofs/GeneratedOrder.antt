@@ -17,11 +17,11 @@ use Rattle.verifier_core.specs.Verdict.{ClaimFails}
 use Rattle.verifier_core.proofs.ClaimSteps.{claim_numbers, before_missing, before_times, before_expiry, before_start}
 use Rattle.issuer_core.specs.Digests.{marked_claims}
 use Rattle.sdjwt_cli.specs.Generated.{number, member_name, member_value, members_below, paths_below, hidden_below, to_a, to_second, generated, generated_key, generated_ask, generated_policy}
-use Rattle.sdjwt_cli.specs.Never.{never_rule}
+use Rattle.selection_core.specs.Never.{never_rule}
 use Rattle.holder_core.specs.Present.{shown_for}
 use Rattle.sdjwt_cli.specs.Suits.{Suits}
 use Rattle.sdjwt_cli.proofs.KeptClaims.{NonePasses, claim_kept}
-use Rattle.sdjwt_cli.proofs.NeverShown.{unrefused}
+use Rattle.selection_core.proofs.NeverShown.{unrefused}
 
 -- ---- the members
 

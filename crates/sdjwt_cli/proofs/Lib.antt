@@ -6,7 +6,6 @@ mod Shown
 mod ShowVerdicts
 mod VerifyVerdicts
 mod IssueVerdicts
-mod NeverShown
 mod Presentings
 mod PresentVerdicts
 mod ConvertVerdicts

@@ -10,10 +10,10 @@ use Rattle.holder_core.specs.declared.present_file.PresentFile.{PresentFile}
 use Rattle.holder_core.proofs.PresentFiles as orders
 use Rattle.holder_core.proofs.OnePresentation.{HasOneSignature, one_presented, presented_not_refused, one_cause}
 use Rattle.cli_parts.specs.Lines.{line, unreadable_line}
-use Rattle.sdjwt_cli.specs.Never.{never_rule}
+use Rattle.selection_core.specs.Never.{never_rule}
 use Rattle.sdjwt_cli.specs.Presenting.{signing_key, IsPresentedFor, IsNotPresentedFor, Presents, DoesNotPresent}
 use Rattle.sdjwt_cli.specs.Answers.{Reply, gives, refuses, unreadable, PresentAnswers}
-use Rattle.sdjwt_cli.proofs.NeverShown.{never_decided}
+use Rattle.selection_core.proofs.NeverShown.{never_decided}
 use Rattle.cli_parts.specs.Telling.{TellsFileFault}
 use Rattle.holder_core.specs.PresentFile.{IsPresentFileRefused}
 

@@ -17,7 +17,7 @@ use Rattle.holder_core.specs.PresentFile.{IsBindingOrder, both, IsPresentFile}
 use Rattle.holder_core.proofs.PresentFiles.{one_present}
 use Rattle.sdjwt_cli.specs.Issuing.{Issues}
 use Rattle.cli_parts.specs.Lines.{line}
-use Rattle.sdjwt_cli.specs.Never.{never_rule}
+use Rattle.selection_core.specs.Never.{never_rule}
 use Rattle.sdjwt_cli.specs.PresentedValues.{IsShownAt, AreShort}
 use Rattle.json_form.specs.Alone.{alone}
 use Rattle.sdjwt_cli.specs.Presenting.{signing_key, Presents, DoesNotPresent, IsPresentedFor, IsNotPresentedFor}

@@ -22,9 +22,9 @@ use Rattle.issuer_core.specs.Digests.{marked_claims}
 use Rattle.issuer_core.specs.Order.{Order}
 use Rattle.holder_core.specs.declared.ask.BindingAsk.{BindingAsk}
 use Rattle.holder_core.specs.declared.present_file.PresentFile.{PresentFile}
-use Rattle.sdjwt_cli.specs.Never.{MayBeShown, never_rule}
+use Rattle.selection_core.specs.Never.{MayBeShown, never_rule}
 use Rattle.sdjwt_cli.specs.Suits.{Suits, BindingSuits}
-use Rattle.sdjwt_cli.proofs.NeverShown.{unrefused}
+use Rattle.selection_core.proofs.NeverShown.{unrefused}
 use Rattle.holder_core.specs.Present.{shown_for}
 
 abbrev pub named : Text → Tree

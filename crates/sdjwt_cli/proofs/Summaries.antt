@@ -34,7 +34,7 @@ use Rattle.holder_core.specs.declared.errors.PresentError.TheVariants.{Memory, S
 use Rattle.holder_core.specs.Present.{picked, IsNotPresented}
 use Rattle.sdjwt_cli.specs.Generated.{generated, generated_seed, generated_key, generated_ask, generated_policy}
 use Rattle.sdjwt_cli.specs.Issuing.{IsIssuedBy}
-use Rattle.sdjwt_cli.specs.Never.{never_rule}
+use Rattle.selection_core.specs.Never.{never_rule}
 use Rattle.json_form.specs.Alone.{alone}
 use Rattle.sdjwt_cli.specs.PresentedValues.{IsAcceptedWith, IsShownAt, IsShownOf}
 use Rattle.sdjwt_cli.specs.Summary.{Summarizes, hidden_paths, chosen_places, embedded_digests, shown_claims, shown_length, summary_lines}

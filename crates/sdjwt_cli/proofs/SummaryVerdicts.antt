@@ -17,10 +17,10 @@ use Rattle.holder_core.proofs.OnePresentation.{HasOneSignature, one_presented}
 use Rattle.sdjwt_cli.specs.Answers.{Reply, gives, refuses, unreadable, GenAnswers}
 use Rattle.sdjwt_cli.specs.Generated.{generated, generated_seed, generated_key, generated_ask}
 use Rattle.cli_parts.specs.Lines.{line}
-use Rattle.sdjwt_cli.specs.Never.{never_rule}
+use Rattle.selection_core.specs.Never.{never_rule}
 use Rattle.json_form.specs.Alone.{alone}
 use Rattle.sdjwt_cli.specs.Summary.{Summarizes, DoesNotSummarize, hidden_paths, chosen_places, embedded_digests, shown_length, summary_lines}
-use Rattle.sdjwt_cli.proofs.NeverShown.{never_decided}
+use Rattle.selection_core.proofs.NeverShown.{never_decided}
 
 one_signature : (key : AlgKey) → HasOneSignature (IsGood key)
 one_signature key head body one other h k = h ∙ sym k

@@ -6,7 +6,6 @@ pub mod Names
 pub mod Show
 pub mod Verify
 pub mod Issuing
-pub mod Never
 pub mod Presenting
 pub mod Forms
 pub mod Converting

@@ -15,7 +15,7 @@ use Rattle.sdjwt_cli.specs.Answers.{Reply, gives, IssueAnswers, PresentAnswers, 
 use Rattle.sdjwt_cli.specs.Command.{Command, issue, present, verify, command_of}
 use Rattle.sdjwt_cli.specs.Issuing.{IsAsked}
 use Rattle.cli_parts.specs.Lines.{line}
-use Rattle.sdjwt_cli.specs.Never.{never_rule}
+use Rattle.selection_core.specs.Never.{never_rule}
 use Rattle.sdjwt_cli.specs.Presenting.{signing_key}
 use Rattle.cli_parts.specs.Outside.{Outside}
 use Rattle.sdjwt_cli.specs.Run.{Ends}

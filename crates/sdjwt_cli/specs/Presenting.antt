@@ -12,7 +12,7 @@ use Rattle.holder_core.specs.Present.{IsPresented, IsNotPresented}
 use Rattle.holder_core.specs.PresentRefusal.{present_refusal_text}
 use Rattle.holder_core.specs.PresentFile.{IsPresentFile}
 use Rattle.cli_parts.specs.Lines.{line}
-use Rattle.sdjwt_cli.specs.Never.{never_rule}
+use Rattle.selection_core.specs.Never.{never_rule}
 
 -- the key that signs: that of the order, or one of zeros, which signs nothing, where no key binding token is asked for
 abbrev pub signing_key : Option (List ℕ) → List ℕ

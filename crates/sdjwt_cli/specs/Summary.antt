@@ -18,7 +18,7 @@ use Rattle.holder_core.specs.Present.{shown_for, IsPresented}
 use Rattle.sdjwt_cli.specs.Generated.{generated, generated_seed, generated_key, generated_ask, generated_policy}
 use Rattle.sdjwt_cli.specs.Issuing.{IsIssuedBy, TellsRefusal}
 use Rattle.cli_parts.specs.Lines.{line}
-use Rattle.sdjwt_cli.specs.Never.{never_rule}
+use Rattle.selection_core.specs.Never.{never_rule}
 use Rattle.json_form.specs.Alone.{alone}
 
 -- ---- what is counted

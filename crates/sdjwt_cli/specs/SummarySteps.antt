@@ -10,7 +10,7 @@ use Rattle.holder_core.specs.Present.{IsPresented}
 use Rattle.verifier_core.specs.Check.{IsCounted}
 use Rattle.verifier_core.specs.Verdicts.{IsAcceptedAs}
 use Rattle.sdjwt_cli.specs.Generated.{generated_key, generated_ask, generated_policy}
-use Rattle.sdjwt_cli.specs.Never.{never_rule}
+use Rattle.selection_core.specs.Never.{never_rule}
 use Rattle.json_form.specs.Alone.{alone}
 use Rattle.sdjwt_cli.specs.PresentedValues.{IsAcceptedWith}
 

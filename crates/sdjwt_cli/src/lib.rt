@@ -12,7 +12,6 @@ mod form;
 mod generated;
 mod issue;
 pub mod laws;
-mod never;
 mod present;
 mod show;
 mod split;

@@ -6,21 +6,20 @@ ghost use Rattle.hmac_sign.specs.Hmac.{IsGood, hs256_key};
 ghost use Rattle.holder_core.specs.Present.{IsPresented, IsNotPresented};
 ghost use Rattle.holder_core.specs.PresentFile.{IsPresentFileRefused, IsPresentFile};
 ghost use Rattle.holder_core.specs.declared.errors.PresentError.{PresentError};
-ghost use Rattle.sdjwt_cli.specs.Never.{Judges, never_rule};
+ghost use Rattle.selection_core.specs.Never.{Judges, never_rule};
 ghost use Rattle.sdjwt_cli.specs.Presenting.{signing_key, Presents, DoesNotPresent};
 ghost use Rattle.sdjwt_cli.specs.PresentingSteps.{IsLineOf, IsRefusalOf};
 ghost use Rattle.cli_parts.specs.Stops.{OnRefused, OnUnread, OnUnreadable};
 ghost use Rattle.cli_parts.specs.Lines.{line};
 ghost use Rattle.cli_parts.specs.Telling.{TellsFileFault};
 
-use crate::never::may_be_shown;
 use claim_tree::{Path, PathList};
 use cli_parts::{Stop, as_line, unreadable};
 use compact_form::{Parts, print};
 use digest_index::Steps;
 use hmac_sign::{Hs256Key, KeyShort};
 use holder_core::{Ask, PresentError, PresentFile, read_present, refusal_line};
-use selection_core::Consent;
+use selection_core::{Consent, may_be_shown};
 use std::alloc::Global;
 
 // The key that signs: one of zeros where no key binding token is asked for, which signs nothing.

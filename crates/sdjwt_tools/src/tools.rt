@@ -1,18 +1,21 @@
 // The top call of the program.
-ghost use Rattle.std.specs.Prelude.{◌≡◌, ◌≢◌, ◌≤◌, ◌^◌, ◌↔◌, ◌∷◌, ℕ, List, map, string_bytes, codes, IsTrue};
+ghost use Rattle.std.specs.Prelude.{◌≡◌, ◌≤◌, ◌^◌, ◌↔◌, ◌⊎◌, map, string_bytes, codes, IsTrue, ⊥};
 ghost use Rattle.cli_parts.specs.Outside.{outside, stream};
 ghost use Rattle.audit_core.specs.AuditRun.{AuditEnds};
 ghost use Rattle.feed_core.specs.FeedSource.{input};
 ghost use Rattle.feed_core.specs.FeedRun.{feed_outside, FeedEnds, FeedKeeps};
+ghost use Rattle.wallet_core.specs.WalletRun.{WalletEnds};
+ghost use Rattle.sdjwt_tools.specs.Tools.{Names};
 
 use audit_core::run_audit;
 use feed_core::run_feed;
 use sd_outside::{Cabinet, Sink, Source, Status};
 use std::alloc::Global;
+use wallet_core::run_wallet;
 
 // Whether the first word is this name.
 fn names_tool(words: &[String], name: &str) -> bool
-    ensures { IsTrue result ↔ ((rest : List (List ℕ)) × (map string_bytes words.now ≡ name.now ∷ rest)) }
+    ensures { IsTrue result ↔ Names name.now (map string_bytes words.now) }
 {
     let [word, ..] = words else {
         return false;
@@ -20,8 +23,8 @@ fn names_tool(words: &[String], name: &str) -> bool
     word.as_str() == name
 }
 
-/// Runs the tool that the first word names, over the files of the cabinet and what the source gives: `audit`, which takes nothing
-/// from the source, or `feed`. All other words are none.
+/// Runs the tool that the first word names, over the files of the cabinet and what the source gives: `audit` and `wallet`, which
+/// take nothing from the source, or `feed`. All other words are none.
 pub fn run_tools<C: Cabinet, R: Source, O: Sink, E: Sink>(
     alloc: Global,
     words: &[String],
@@ -32,12 +35,16 @@ pub fn run_tools<C: Cabinet, R: Source, O: Sink, E: Sink>(
     err: &mut E,
 ) -> Status
     requires { R.taken src.old ≤ 2 ^ 63 }
-    ensures audit { (rest : List (List ℕ)) → map string_bytes words.now ≡ codes "audit" ∷ rest → AuditEnds (map string_bytes words.now)
+    ensures audit { Names (codes "audit") (map string_bytes words.now) → AuditEnds (map string_bytes words.now)
         (outside (C.holds cab.old) (C.missed cab.old) (C.faults cab.old) (stream (O.written out.old) (O.faults out.old)) (stream (E.written err.old) (E.faults err.old)))
         (outside (C.holds cab.new) (C.missed cab.new) (C.faults cab.new) (stream (O.written out.new) (O.faults out.new)) (stream (E.written err.new) (E.faults err.new)))
         result }
-    ensures untaken { (rest : List (List ℕ)) → map string_bytes words.now ≡ codes "audit" ∷ rest → src.new ≡ src.old }
-    ensures ends { ((rest : List (List ℕ)) → map string_bytes words.now ≢ codes "audit" ∷ rest) → FeedEnds (map string_bytes words.now)
+    ensures wallet { Names (codes "wallet") (map string_bytes words.now) → WalletEnds (map string_bytes words.now)
+        (outside (C.holds cab.old) (C.missed cab.old) (C.faults cab.old) (stream (O.written out.old) (O.faults out.old)) (stream (E.written err.old) (E.faults err.old)))
+        (outside (C.holds cab.new) (C.missed cab.new) (C.faults cab.new) (stream (O.written out.new) (O.faults out.new)) (stream (E.written err.new) (E.faults err.new)))
+        result }
+    ensures untaken { Names (codes "audit") (map string_bytes words.now) ⊎ Names (codes "wallet") (map string_bytes words.now) → src.new ≡ src.old }
+    ensures ends { (Names (codes "audit") (map string_bytes words.now) → ⊥) → (Names (codes "wallet") (map string_bytes words.now) → ⊥) → FeedEnds (map string_bytes words.now)
         (feed_outside (outside (C.holds cab.old) (C.missed cab.old) (C.faults cab.old) (stream (O.written out.old) (O.faults out.old)) (stream (E.written err.old) (E.faults err.old))) (input (R.left src.old) (R.taken src.old) (R.faults src.old)))
         (feed_outside (outside (C.holds cab.new) (C.missed cab.new) (C.faults cab.new) (stream (O.written out.new) (O.faults out.new)) (stream (E.written err.new) (E.faults err.new))) (input (R.left src.new) (R.taken src.new) (R.faults src.new)))
         now
@@ -48,6 +55,9 @@ pub fn run_tools<C: Cabinet, R: Source, O: Sink, E: Sink>(
 {
     if names_tool(words, "audit") {
         return run_audit(alloc, words, cab, out, err);
+    }
+    if names_tool(words, "wallet") {
+        return run_wallet(alloc, words, cab, out, err);
     }
     run_feed(alloc, words, cab, src, now, out, err)
 }

@@ -1,3 +1,4 @@
 pub mod PathWalks
 pub mod Wanted
 pub mod Asking
+pub mod NeverShown

@@ -3,3 +3,4 @@ pub mod ChoiceRefusals
 pub mod Asked
 pub mod AllowCalls
 pub mod ChooseCalls
+pub mod Never

@@ -135,26 +135,31 @@ class Policy:
         # handles that no call uses: each call takes one, so that none is used by two
         self._handles = [self._handle()]
 
-    def _handle(self) -> Any:
+    def _handle(self) -> _library.Handle:
         status, line, handle = _library.new_handle(self._text)
         _answer(status, line)
         return handle
 
     def verify(self, token: Json, now: float | None = None) -> dict[str, Any]:
         """The claims of a token that is accepted."""
+        handles = self._handles
         try:
-            handle = self._handles.pop()
+            handle = handles.pop()
         except IndexError:
             handle = self._handle()
         try:
             status, said = _library.verify_behind(handle, _bytes(token), _moment(now))
         finally:
-            self._handles.append(handle)
+            handles.append(handle)
         return _object(_answer(status, said))
 
 
+# no wish of json.loads, as to tell the encoding of bytes, has to be looked for: the text is the library's
+_read_json = json.JSONDecoder().raw_decode
+
+
 def _object(text: bytes) -> dict[str, Any]:
-    found: dict[str, Any] = json.loads(text)
+    found: dict[str, Any] = _read_json(text.decode())[0]
     return found
 
 

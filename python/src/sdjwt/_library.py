@@ -4,7 +4,7 @@ from __future__ import annotations
 import ctypes
 import os
 import threading
-from ctypes import POINTER, byref, c_char_p, c_size_t, c_uint8, c_uint32, c_uint64, c_void_p, string_at
+from ctypes import addressof, c_char_p, c_size_t, c_uint8, c_uint32, c_uint64, c_void_p, create_string_buffer
 from pathlib import Path
 from typing import Any
 
@@ -13,17 +13,22 @@ _ABI_VERSION = 1
 _FIRST_ROOM = 4096
 
 
-class _Handle(ctypes.Structure):
+class Handle(ctypes.Structure):
     """A handle of a policy. Its memory is freed with it."""
 
     _fields_ = [("held", c_void_p)]
 
+    def __init__(self) -> None:
+        super().__init__()
+        self.at = addressof(self)
+
     def __del__(self) -> None:
-        _FREE(byref(self))
+        _FREE(self.at)
 
 
+# What is written goes by its address, which ctypes passes on with the least work.
 _IN = (c_char_p, c_size_t)
-_OUT = (c_char_p, c_size_t, POINTER(c_size_t))
+_OUT = (c_void_p, c_size_t, c_void_p)
 _CALLS: dict[str, tuple[Any, ...]] = {
     "issue": (*_IN, *_IN, *_OUT),
     "present": (*_IN, *_IN, c_uint64, *_OUT),
@@ -31,8 +36,8 @@ _CALLS: dict[str, tuple[Any, ...]] = {
     "show": (*_IN, *_OUT),
     "split": (*_IN, *_OUT),
     "convert": (c_uint8, *_IN, *_OUT),
-    "policy_new": (POINTER(_Handle), *_IN, *_OUT),
-    "policy_verify": (POINTER(_Handle), *_IN, c_uint64, *_OUT),
+    "policy_new": (c_void_p, *_IN, *_OUT),
+    "policy_verify": (c_void_p, *_IN, c_uint64, *_OUT),
 }
 
 
@@ -48,7 +53,7 @@ def _load() -> ctypes.CDLL:
     for name, parameters in _CALLS.items():
         function = getattr(library, "sdjwt_" + name)
         function.argtypes, function.restype = parameters, c_uint8
-    library.sdjwt_policy_free.argtypes, library.sdjwt_policy_free.restype = (POINTER(_Handle),), None
+    library.sdjwt_policy_free.argtypes, library.sdjwt_policy_free.restype = (c_void_p,), None
     return library
 
 
@@ -58,20 +63,34 @@ _VERIFY = _LIBRARY.sdjwt_policy_verify
 _FUNCTIONS = {name: getattr(_LIBRARY, "sdjwt_" + name) for name in _CALLS}
 
 
-class _Room(threading.local):
-    """A buffer for the answers of a thread, which grows to the longest."""
+class _Room:
+    """A buffer for answers, which grows to the longest."""
+
+    __slots__ = ("at", "at_len", "buffer", "len", "size")
 
     def __init__(self) -> None:
+        self.len = c_size_t()
+        self.at_len = addressof(self.len)
         self.grow(_FIRST_ROOM)
 
     def grow(self, size: int) -> None:
         self.size = size
-        self.buffer = ctypes.create_string_buffer(size)
-        self.len = c_size_t()
-        self.at_len = byref(self.len)
+        self.buffer = create_string_buffer(size)
+        self.at = addressof(self.buffer)
+
+    def text(self) -> bytes:
+        # a slice of characters is bytes, which mypy does not know
+        return self.buffer[: self.len.value]  # type: ignore[return-value]
 
 
-_ROOM = _Room()
+class _Rooms(threading.local):
+    """The room of each thread."""
+
+    def __init__(self) -> None:
+        self.room = _Room()
+
+
+_ROOMS = _Rooms()
 
 
 def call(name: str, *words: Any) -> tuple[int, bytes]:
@@ -82,26 +101,26 @@ def call(name: str, *words: Any) -> tuple[int, bytes]:
         passed.append(word)
         if isinstance(word, bytes):
             passed.append(len(word))
-    room = _ROOM
-    status = function(*passed, room.buffer, room.size, room.at_len)
+    room = _ROOMS.room
+    status = function(*passed, room.at, room.size, room.at_len)
     if status == UNWRITTEN:
         room.grow(room.len.value)
-        status = function(*passed, room.buffer, room.size, room.at_len)
-    return status, string_at(room.buffer, room.len.value)
+        status = function(*passed, room.at, room.size, room.at_len)
+    return status, room.text()
 
 
-def new_handle(policy: bytes) -> tuple[int, bytes, Any]:
-    """A handle that holds a policy, where the status is DONE; as a pointer, which keeps it alive."""
-    handle = _Handle()
-    status, line = call("policy_new", byref(handle), policy)
-    return status, line, ctypes.pointer(handle)
+def new_handle(policy: bytes) -> tuple[int, bytes, Handle]:
+    """A handle that holds a policy, where the status is DONE."""
+    handle = Handle()
+    status, line = call("policy_new", handle.at, policy)
+    return status, line, handle
 
 
-def verify_behind(handle: Any, token: bytes, now: int) -> tuple[int, bytes]:
+def verify_behind(handle: Handle, token: bytes, now: int) -> tuple[int, bytes]:
     """What the policy of a handle answers. A handle is for one call at a time."""
-    room = _ROOM
-    status: int = _VERIFY(handle, token, len(token), now, room.buffer, room.size, room.at_len)
+    room = _ROOMS.room
+    status: int = _VERIFY(handle.at, token, len(token), now, room.at, room.size, room.at_len)
     if status == UNWRITTEN:
         room.grow(room.len.value)
-        status = _VERIFY(handle, token, len(token), now, room.buffer, room.size, room.at_len)
-    return status, string_at(room.buffer, room.len.value)
+        status = _VERIFY(handle.at, token, len(token), now, room.at, room.size, room.at_len)
+    return status, room.text()

@@ -5,27 +5,28 @@ use Rattle.audit_core.specs.Wanted.{entry_texts}
 use Rattle.audit_core.proofs.Loops.{entry}
 use Rattle.audit_core.proofs.Wanteds.{texts_of, few_before, whole_step, counts_after, texts_after, texts_end}
 use Rattle.audit_core.proofs.wanted.wanted_standings.Goals as goal
+use Rattle.sd_outside.specs.Limits.{count_max}
 
 pub note-requires : goal.note-requires
 note-requires c =
     let l = c.loop-entry.invariant in
-    let h = entry c.items-entry-items.result.now c.loop-entry.entry-index c.entry-item.result c.loop-entry-test.true c.entry-item.is in
-    let few = few_before c.items-entry-items.result.now c.loop-entry.entry-index c.entry-item.result c.loop-entry.counts c.in_ok-pointer.pointer h l.whole l.counts c.in_ok-pointer.ensures in
+    let h = entry c.elements-entry-items.result.now c.loop-entry.entry-index c.entry-item.result c.loop-entry-test.true c.entry-item.is in
+    let few = few_before c.elements-entry-items.result.now c.loop-entry.entry-index c.entry-item.result c.loop-entry.counts c.in_ok-pointer.pointer h l.whole l.counts c.in_ok-pointer.ensures in
     let all = c.requires in
-    omega (arith, few, subst (λ ds. length (decoy_paths ds) ≤ 32768) (sym c.items-entry-items.ensures) all)
+    omega (arith, few, subst (λ ds. length (decoy_paths ds) ≤ count_max) (sym c.elements-entry-items.ensures) all)
 
 pub push_entry-requires : goal.push_entry-requires
 push_entry-requires c =
     let l = c.loop-entry.invariant in
-    let h = entry c.items-entry-items.result.now c.loop-entry.entry-index c.entry-item.result c.loop-entry-test.true c.entry-item.is in
-    let few = few_before c.items-entry-items.result.now c.loop-entry.entry-index c.entry-item.result c.loop-entry.counts c.in_ok-pointer.pointer h l.whole l.counts c.in_ok-pointer.ensures in
+    let h = entry c.elements-entry-items.result.now c.loop-entry.entry-index c.entry-item.result c.loop-entry-test.true c.entry-item.is in
+    let few = few_before c.elements-entry-items.result.now c.loop-entry.entry-index c.entry-item.result c.loop-entry.counts c.in_ok-pointer.pointer h l.whole l.counts c.in_ok-pointer.ensures in
     let all = c.requires in
-    omega (arith, few, c.in_ok-before.ensures.before, subst (λ ds. length (decoy_paths ds) ≤ 32768) (sym c.items-entry-items.ensures) all)
+    omega (arith, few, c.in_ok-before.ensures.before, subst (λ ds. length (decoy_paths ds) ≤ count_max) (sym c.elements-entry-items.ensures) all)
 
 pub loop-entry-preserved : goal.loop-entry-preserved
 loop-entry-preserved c =
     let l = c.loop-entry.invariant in
-    let items = c.items-entry-items.result.now in
+    let items = c.elements-entry-items.result.now in
     let i = c.loop-entry.entry-index in
     let e = c.entry-item.result in
     let h = entry items i e c.loop-entry-test.true c.entry-item.is in
@@ -42,5 +43,5 @@ loop-entry-preserved c =
 
 pub returns : goal.returns
 returns c =
-    texts_end (tree_of c.args.order.now.payload) c.items-entry-items.result.now c.loop-entry.entry-index c.loop-entry.wanted.items c.loop-entry-test.false c.loop-entry.invariant.texts
-    ∙ ap (λ ds. texts_of (tree_of c.args.order.now.payload) (decoy_paths ds) 0 (decoy_paths ds)) c.items-entry-items.ensures
+    texts_end (tree_of c.args.order.now.payload) c.elements-entry-items.result.now c.loop-entry.entry-index c.loop-entry.wanted.items c.loop-entry-test.false c.loop-entry.invariant.texts
+    ∙ ap (λ ds. texts_of (tree_of c.args.order.now.payload) (decoy_paths ds) 0 (decoy_paths ds)) c.elements-entry-items.ensures

@@ -1,7 +1,7 @@
 use Rattle.std.proofs.Common.{ℕ, List, IfOk, IfErr, subst}
 use Rattle.hmac_sign.specs.Hmac.{hs256_key, IsGood}
 use Rattle.holder_core.specs.Present.{IsPresented, IsNotPresented}
-use Rattle.sdjwt_cli.specs.Never.{never_rule}
+use Rattle.selection_core.specs.Never.{never_rule}
 use Rattle.sdjwt_cli.specs.Presenting.{Presents, DoesNotPresent}
 use Rattle.sdjwt_cli.specs.PresentingSteps.{IsLineOf, IsRefusalOf}
 use Rattle.sdjwt_cli.proofs.Presentings.{presents, refuses}

@@ -1,7 +1,7 @@
 use Rattle.std.proofs.Common.{List, subst, ap}
 use Rattle.marked_tree.specs.Paths.{Path}
 use Rattle.hmac_sign.specs.Hmac.{hs256_key, IsGood}
-use Rattle.sdjwt_cli.specs.Never.{Judges, never_rule}
+use Rattle.selection_core.specs.Never.{Judges, never_rule}
 use Rattle.sdjwt_cli.proofs.Issuings.{never}
 use Rattle.holder_core.proofs.OtherRules.{presented_by, not_presented_by}
 use Rattle.sdjwt_cli.proofs.Presentings.{never_fails}

@@ -6,7 +6,7 @@ use Rattle.holder_core.specs.declared.errors.PresentError.TheVariants.{Memory}
 use Rattle.holder_core.specs.Present.{IsNotPresented}
 use Rattle.marked_tree.specs.Paths.{Path}
 use Rattle.sdjwt_cli.specs.Generated.{generated_key, generated_ask}
-use Rattle.sdjwt_cli.specs.Never.{never_rule}
+use Rattle.selection_core.specs.Never.{never_rule}
 use Rattle.sdjwt_cli.proofs.Summaries.{nothing_refused}
 use Rattle.sdjwt_cli.proofs.summary.present_issued.Goals as goal
 

@@ -1,4 +1,4 @@
--- The rule of consent that a present order says by its list of places that are never shown.
+-- The rule of consent that a list of places says which are never shown.
 use Rattle.std.specs.Prelude.{◌≡◌, ◌↔◌, List, Bool, true, IsTrue}
 use Rattle.claim_tree.specs.Lists.{In}
 use Rattle.claim_tree.specs.Path.{is_front}

@@ -1,8 +1,8 @@
 use Rattle.std.proofs.Common.{◌≡◌, true, rules, tests}
 use Rattle.std.proofs.lemmas.Iterator.{YieldsList-from_slice, cases_from_any}
 use Rattle.claim_tree.specs.Path.{is_front}
-use Rattle.sdjwt_cli.proofs.NeverShown.{judged}
-use Rattle.sdjwt_cli.proofs.never.may_be_shown.Goals as goal
+use Rattle.selection_core.proofs.NeverShown.{judged}
+use Rattle.selection_core.proofs.never.may_be_shown.Goals as goal
 
 pub returns : goal.returns
 returns c =

@@ -1,0 +1,7 @@
+pub mod Sames
+pub mod Choices
+pub mod Bests
+pub mod Bounds
+pub mod Carried
+pub mod Fetched
+pub mod WordsApart

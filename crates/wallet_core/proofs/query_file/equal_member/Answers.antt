@@ -1,0 +1,23 @@
+use Rattle.std.proofs.Common.{List, subst}
+use Rattle.claim_tree.specs.View.{tree_of}
+use Rattle.claim_tree.specs.FileForms.{optional}
+use Rattle.claim_tree.specs.declared.file_fault.Field.TheVariants as field
+use Rattle.claim_tree.proofs.FileMembers.{wrong_member}
+use Rattle.claim_tree.specs.FileLists.{IsListOf, EachSays}
+use Rattle.wallet_core.specs.QueryFile.{IsEqual}
+use Rattle.wallet_core.specs.declared.query.Equal.{Equal}
+use Rattle.claim_tree.proofs.ListForms.{other_than_list, list_without}
+use Rattle.wallet_core.proofs.query_file.equal_member.Goals as goal
+
+pub returns-in_default-tree : goal.returns-in_default-tree
+returns-in_default-tree c =
+    record {
+      ok = tt;
+      refused = wrong_member (optional field.Equal (IsListOf IsEqual)) c.args.members.now c.word.result.now (tree_of c.in-Some.tree.now) c.word.ensures c.in-Some.ensures (other_than_list IsEqual c.in-Some.tree.now c.in_default-tree.not-List);
+    }
+
+pub returns-in-None-clause-refused : goal.returns-in-None-clause-refused
+returns-in-None-clause-refused c =
+    let none = rw c.in-None.is at c.in_ok-equals.ensures.none in
+    let odd = subst (λ es. (xs : List Equal) → EachSays IsEqual es xs → ⊥) c.trees.ensures.value none in
+    wrong_member (optional field.Equal (IsListOf IsEqual)) c.args.members.now c.word.result.now (tree_of c.in-Some.tree.now) c.word.ensures c.in-Some.ensures (list_without IsEqual c.in-Some.tree.now c.in-List.list c.in-List.is odd)

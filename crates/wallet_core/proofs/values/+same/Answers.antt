@@ -1,0 +1,114 @@
+use Rattle.std.proofs.Common.{◌≡◌, ◌≤◌, Some, sym, ap, ap₂, subst, ◌∙◌, arith}
+use Rattle.claim_tree.specs.Tree.{Text, Tree, Elements, Members, array, object, elements_len, members_len, element_at}
+use Rattle.claim_tree.specs.TreeCalls.{member_at}
+use Rattle.claim_tree.specs.Nodes.{nodes, elements_nodes, members_nodes}
+use Rattle.claim_tree.specs.View.{tree_of}
+use Rattle.claim_tree.proofs.Lists.{pair_same}
+use Rattle.marked_tree.specs.MarkedCalls.{marked_elements_len, marked_members_len}
+use Rattle.marked_tree.specs.Marked.{MarkedElements, MarkedMembers, strip, strip_elements, strip_members}
+use Rattle.marked_tree.specs.View.{marked_of, marked_elements_of, marked_members_of}
+use Rattle.marked_tree.proofs.MarkedViews.{Element, Entry}
+use Rattle.wallet_core.proofs.Sames.{SameTo, SameMembersTo, turn_same, turn_same_members, all_same, all_same_members, differs_there, differs_there_members, lists_differ, objects_differ, elements_stripped_len, members_stripped_len, element_falls, member_falls, is_not, is_so, named_same, named_other}
+use Rattle.wallet_core.proofs.values.+same.Goals as goal
+use Rattle.wallet_core.proofs.values.+same.Goals.{have_same-then-ne-via-then-ne, have_same-then-ne-via-else-ne+then-not-is_same}
+
+pub are_same-returns-then-len : goal.are_same-returns-then-len
+are_same-returns-then-len t c =
+    is_not _ (lists_differ c.args.list.now c.args.values.now (λ same. let lens = ap elements_len same in let own = elements_stripped_len c.args.list.now in omega (arith, c.if-len.true, c.len.ensures, c.len-2.ensures, lens, own)))
+
+pub are_same-is_same-requires : goal.are_same-is_same-requires
+are_same-is_same-requires t c =
+    let e : Element = c.element-item.result in
+    let fall = subst (λ us. nodes (strip (marked_of e.1)) ≤ elements_nodes (strip_elements us)) c.elements-element-items.ensures.value (element_falls c.elements-element-items.result.now c.loop-i.i e c.loop-i-test.true c.element-item.is) in
+    omega (arith, fall)
+
+pub are_same-returns-in_default : goal.are_same-returns-in_default
+are_same-returns-in_default t c =
+    let es = c.elements-element-items.result.now in
+    let us : Elements = c.args.values.now in
+    let other : strip_elements c.args.list.now ≡ us → ⊥ =
+    subst (λ (vs : MarkedElements). strip_elements vs ≡ us → ⊥) c.elements-element-items.ensures.value
+    (differs_there c.loop-i.i es us c.element-item.result c.loop-i-test.true c.element-item.is (λ there. let both = c.in_default.ensures ∙ there in cc both)) in
+    is_not _ (lists_differ c.args.list.now us other)
+
+pub are_same-returns-then-not-is_same : goal.are_same-returns-then-not-is_same
+are_same-returns-then-not-is_same t c =
+    let es = c.elements-element-items.result.now in
+    let us : Elements = c.args.values.now in
+    let e : Element = c.element-item.result in
+    let unlike : element_at us c.loop-i.i ≡ Some (strip (marked_of e.1)) → ⊥ =
+    λ there.
+    let both = c.in-Some.ensures ∙ there in
+    let same : tree_of c.in-Some.value.now ≡ strip (marked_of e.1) = cc both in
+    let yes = c.is_same.ensures.1 (sym same) in
+    let no = sym c.if-not-is_same.true ∙ yes in cc no in
+    let other : strip_elements c.args.list.now ≡ us → ⊥ =
+    subst (λ (vs : MarkedElements). strip_elements vs ≡ us → ⊥) c.elements-element-items.ensures.value (differs_there c.loop-i.i es us e c.loop-i-test.true c.element-item.is unlike) in
+    is_not _ (lists_differ c.args.list.now us other)
+
+pub are_same-loop-i-preserved : goal.are_same-loop-i-preserved
+are_same-loop-i-preserved t c =
+    let e : Element = c.element-item.result in
+    let there = sym c.in-Some.ensures ∙ ap Some (sym (c.is_same.ensures.0 c.if-not-is_same.false)) in
+    turn_same c.loop-i.i c.elements-element-items.result.now c.args.values.now e c.loop-i-test.true c.element-item.is c.loop-i.invariant there
+
+pub are_same-returns : goal.are_same-returns
+are_same-returns t c =
+    let es = c.elements-element-items.result.now in
+    let us : Elements = c.args.values.now in
+    let value : marked_elements_of es ≡ c.args.list.now = c.elements-element-items.ensures.value in
+    let lens : marked_elements_len (marked_elements_of es) ≡ elements_len us = ap marked_elements_len value ∙ omega (arith, c.if-len.false, c.len.ensures, c.len-2.ensures) in
+    let all = all_same c.loop-i.i es us (omega (arith, c.loop-i-test.false)) lens c.loop-i.invariant in
+    is_so _ (ap array (subst (λ (vs : MarkedElements). strip_elements vs ≡ us) value all))
+
+pub have_same-returns-then-len : goal.have_same-returns-then-len
+have_same-returns-then-len t c =
+    is_not _ (objects_differ c.args.map.now c.args.values.now (λ same. let lens = ap members_len same in let own = members_stripped_len c.args.map.now in omega (arith, c.if-len.true, c.len.ensures, c.len-2.ensures, lens, own)))
+
+pub have_same-is_same-requires : goal.have_same-is_same-requires
+have_same-is_same-requires t c =
+    let m : Entry = c.member-item.result in
+    let fall = subst (λ us. nodes (strip (marked_of m.2)) ≤ members_nodes (strip_members us)) c.members-member-items.ensures.value (member_falls c.members-member-items.result.now c.loop-i.i m c.loop-i-test.true c.member-item.is) in
+    omega (arith, fall)
+
+pub have_same-returns-in_default : goal.have_same-returns-in_default
+have_same-returns-in_default t c =
+    let ms = c.members-member-items.result.now in
+    let us : Members = c.args.values.now in
+    let other : strip_members c.args.map.now ≡ us → ⊥ =
+    subst (λ (vs : MarkedMembers). strip_members vs ≡ us → ⊥) c.members-member-items.ensures.value
+    (differs_there_members c.loop-i.i ms us c.member-item.result c.loop-i-test.true c.member-item.is (λ there. let both = c.in_default.ensures ∙ there in cc both)) in
+    is_not _ (objects_differ c.args.map.now us other)
+
+pub have_same-returns-then-ne : goal.have_same-returns-then-ne
+have_same-returns-then-ne t c =
+    let ms = c.members-member-items.result.now in
+    let us : Members = c.args.values.now in
+    let m : Entry = c.member-item.result in
+    let unlike : member_at us c.loop-i.i ≡ Some (m.0, strip (marked_of m.2)) → ⊥ =
+    λ there.
+    let both = pair_same c.in-Some.name.now m.0 (tree_of c.in-Some.value.now) (strip (marked_of m.2)) (c.in-Some.ensures ∙ there) in
+    elim c.then-ne.branch [
+      | have_same-then-ne-via-then-ne w ↦ named_other m.0 c.in-Some.name.now w.if-ne.ensures (sym both.0)
+      | have_same-then-ne-via-else-ne+then-not-is_same w ↦ let yes = w.is_same.ensures.1 (sym both.1) in let no = sym w.if-not-is_same.true ∙ yes in cc no
+    ] in
+    let other : strip_members c.args.map.now ≡ us → ⊥ =
+    subst (λ (vs : MarkedMembers). strip_members vs ≡ us → ⊥) c.members-member-items.ensures.value (differs_there_members c.loop-i.i ms us m c.loop-i-test.true c.member-item.is unlike) in
+    is_not _ (objects_differ c.args.map.now us other)
+
+pub have_same-loop-i-preserved : goal.have_same-loop-i-preserved
+have_same-loop-i-preserved t c =
+    let m : Entry = c.member-item.result in
+    let named = named_same m.0 c.in-Some.name.now c.if-ne.ensures in
+    let same : strip (marked_of m.2) ≡ tree_of c.in-Some.value.now = c.is_same.ensures.0 c.if-not-is_same.false in
+    let there = sym c.in-Some.ensures ∙ ap₂ (λ (n : Text) (u : Tree). Some (n, u)) (sym named) (sym same) in
+    turn_same_members c.loop-i.i c.members-member-items.result.now c.args.values.now m c.loop-i-test.true c.member-item.is c.loop-i.invariant there
+
+pub have_same-returns : goal.have_same-returns
+have_same-returns t c =
+    let ms = c.members-member-items.result.now in
+    let us : Members = c.args.values.now in
+    let value : marked_members_of ms ≡ c.args.map.now = c.members-member-items.ensures.value in
+    let lens : marked_members_len (marked_members_of ms) ≡ members_len us = ap marked_members_len value ∙ omega (arith, c.if-len.false, c.len.ensures, c.len-2.ensures) in
+    let all = all_same_members c.loop-i.i ms us (omega (arith, c.loop-i-test.false)) lens c.loop-i.invariant in
+    is_so _ (ap object (subst (λ (vs : MarkedMembers). strip_members vs ≡ us) value all))

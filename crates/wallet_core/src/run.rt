@@ -1,0 +1,212 @@
+// A run of the wallet.
+ghost use Rattle.std.specs.Prelude.{◌≡◌, ◌≤◌, ◌<◌, ℕ, List, ◌∷◌, map, IfOk, IfErr, IsErrOf, string_bytes};
+ghost use Rattle.std.specs.List.{AllZip};
+ghost use Rattle.sd_outside.specs.Causes.{Rose};
+ghost use Rattle.cli_parts.specs.Outside.{outside, stream};
+ghost use Rattle.cli_parts.specs.Stops.{OnRefused, OnUnread, OnUnreadable};
+ghost use Rattle.cli_parts.specs.Telling.{TellsFileFault};
+ghost use Rattle.compact_form.specs.Compact.{AreWords};
+ghost use Rattle.selection_core.specs.Never.{Judges, never_rule};
+ghost use Rattle.wallet_core.specs.Meets.{Meets};
+ghost use Rattle.wallet_core.specs.Picked.{IsPicked, IsFewest, HasNoAnswer};
+ghost use Rattle.wallet_core.specs.QueryFile.{IsQueryFile, IsQueryFileRefused};
+ghost use Rattle.wallet_core.specs.WalletRun.{IsFetched, Misses, picked_text, none_text, unread_text, WalletEnds, WalletKeeps};
+ghost use Rattle.wallet_core.specs.WalletSteps.{IsAnswerTo, IsNoneFor, IsGiven, IsNotGiven, IsNoQuery};
+ghost use Rattle.wallet_core.specs.declared.error.WalletError.TheVariants.{NoAnswer};
+
+use crate::words::wallet_words;
+use crate::{CredentialList, Picked, Query, QueryFile, WalletError, answer, read_query};
+use claim_tree::{Path, PathList};
+use cli_parts::{FETCH_MAX, Stop, as_line, fetch_file, tell, unreadable};
+use compact_form::{Place, Refusal, placed_line, print};
+use digest_index::Steps;
+use sd_outside::{Cabinet, Failed, NoMemory, Sink, Status};
+use selection_core::{Consent, may_be_shown};
+use std::alloc::Global;
+
+// The token files of these names, which stand behind that of the query file.
+fn fetch_tokens<C: Cabinet>(
+    alloc: Global,
+    cab: &mut C,
+    names: &[String],
+) -> Result<CredentialList, Stop>
+    ensures all { IfOk result (λ held. AllZip (IsFetched (C.holds cab.old)) (map string_bytes names.now) held) }
+    ensures refuses { IfErr result (λ stop. OnRefused stop (λ _. ⊥)) }
+    ensures unreadable { IfErr result (λ stop. OnUnreadable stop (λ _. ⊥)) }
+    ensures unread { IfErr result (λ stop. OnUnread stop (λ word. (query : List ℕ) → Misses (query ∷ map string_bytes names.now) word (C.missed cab.new))) }
+    ensures rose { IfErr result (λ stop. OnUnread stop (λ _. Rose (C.faults cab.old) (C.faults cab.new))) }
+    ensures held { (other : List ℕ) → C.holds cab.new other ≡ C.holds cab.old other }
+    ensures later { C.faults cab.old ≤ C.faults cab.new }
+{
+    let mut held = CredentialList::new(alloc);
+    for (k, name) in names.iter().enumerate() {
+        let file = match fetch_file(alloc, cab, name.as_str(), FETCH_MAX, k + 1) {
+            Ok(file) => file,
+            Err(stop) => return Err(stop),
+        };
+        held.push(file)?;
+    }
+    Ok(held)
+}
+
+// The query of a file, or the line that tells why there is none.
+fn query_of(alloc: Global, file: &[u8]) -> Result<QueryFile, Stop>
+    ensures query { IfOk result (IsQueryFile file.now) }
+    ensures unreadable { IfErr result (λ stop. OnUnreadable stop (TellsFileFault (IsQueryFileRefused file.now))) }
+    ensures fit { IfErr result (λ stop. OnRefused stop (λ _. ⊥)) }
+    ensures read { IfErr result (λ stop. OnUnread stop (λ _. ⊥)) }
+{
+    match read_query(alloc, file) {
+        Ok(said) => Ok(said),
+        Err(fault) => Err(unreadable(alloc, fault)),
+    }
+}
+
+// The answer where no place is shown to which a path of `never` leads.
+fn answer_shown(
+    alloc: Global,
+    held: &CredentialList,
+    query: &Query,
+    never: &PathList,
+) -> Result<Picked, WalletError>
+    ensures picked { IfOk result (IsPicked (Meets never_rule never.now) held.now query.now) }
+    ensures fewest { IfOk result (IsFewest never_rule never.now held.now query.now) }
+    ensures words { IfOk result (λ choice. AreWords choice.parts) }
+    ensures none { IsErrOf result NoAnswer → HasNoAnswer never_rule never.now held.now query.now }
+{
+    let consent = Consent::new(
+        |place: &Path|
+            ensures { Judges never.entry.now place.now result }
+        { may_be_shown(never, place) },
+    );
+    let mut steps = Steps::new();
+    answer(alloc, held, query, &consent, &mut steps)
+}
+
+// The lines of a credential that is picked.
+fn picked_lines(alloc: Global, choice: &Picked) -> Result<String, NoMemory>
+    requires words { AreWords choice.now.parts }
+    ensures { IfOk result (λ text. string_bytes text ≡ picked_text choice.now) }
+{
+    let index = choice.index;
+    let mut lines = format!(in alloc; "credential {index}\n")?;
+    lines.push_str(print(alloc, &choice.parts)?.as_str())?;
+    lines.push_str("\n")?;
+    Ok(lines)
+}
+
+// The line that tells that no credential answers.
+fn none_line(alloc: Global) -> Result<String, NoMemory>
+    ensures { IfOk result (λ text. string_bytes text ≡ none_text) }
+{
+    as_line(placed_line(alloc, Refusal::NoCredentialAnswers, Place::Nowhere)?)
+}
+
+// The answer to a query file over the token files.
+fn answer_lines(alloc: Global, query_file: &[u8], held: &CredentialList) -> Result<String, Stop>
+    ensures answers { IfOk result (λ text. IsAnswerTo query_file.now held.now (string_bytes text)) }
+    ensures refuses { IfErr result (λ stop. OnRefused stop (IsNoneFor query_file.now held.now)) }
+    ensures unreadable { IfErr result (λ stop. OnUnreadable stop (TellsFileFault (IsQueryFileRefused query_file.now))) }
+    ensures read { IfErr result (λ stop. OnUnread stop (λ _. ⊥)) }
+{
+    let said = match query_of(alloc, query_file) {
+        Ok(said) => said,
+        Err(stop) => return Err(stop),
+    };
+    match answer_shown(alloc, held, &said.query, &said.never) {
+        Ok(choice) => Ok(picked_lines(alloc, &choice)?),
+        Err(WalletError::Memory) => Err(Stop::Memory),
+        Err(WalletError::NoAnswer) => Err(Stop::Refused(none_line(alloc)?)),
+    }
+}
+
+// The answer over the files that the cabinet has under the names.
+fn fetch_answer<C: Cabinet>(
+    alloc: Global,
+    cab: &mut C,
+    query: &str,
+    tokens: &[String],
+) -> Result<String, Stop>
+    ensures gives { IfOk result (λ text. IsGiven (C.holds cab.old) query.now (map string_bytes tokens.now) (string_bytes text)) }
+    ensures refuses { IfErr result (λ stop. OnRefused stop (IsNotGiven (C.holds cab.old) query.now (map string_bytes tokens.now))) }
+    ensures unreadable { IfErr result (λ stop. OnUnreadable stop (IsNoQuery (C.holds cab.old) query.now)) }
+    ensures misses { IfErr result (λ stop. OnUnread stop (λ word. Misses (query.now ∷ map string_bytes tokens.now) word (C.missed cab.new))) }
+    ensures rose { IfErr result (λ stop. OnUnread stop (λ _. Rose (C.faults cab.old) (C.faults cab.new))) }
+    ensures held { (other : List ℕ) → C.holds cab.new other ≡ C.holds cab.old other }
+    ensures later { C.faults cab.old ≤ C.faults cab.new }
+{
+    let file = match fetch_file(alloc, cab, query, FETCH_MAX, 0) {
+        Ok(file) => file,
+        Err(stop) => return Err(stop),
+    };
+    let held = match fetch_tokens(alloc, cab, tokens) {
+        Ok(held) => held,
+        Err(stop) => return Err(stop),
+    };
+    answer_lines(alloc, file.bytes(), &held)
+}
+
+// The line of the file of a word, counted from 0, that could not be read.
+fn unread_line(alloc: Global, word: usize) -> Result<String, NoMemory>
+    requires { word < 100 }
+    ensures { IfOk result (λ text. string_bytes text ≡ unread_text word) }
+{
+    let number = word + 1;
+    Ok(format!(in alloc; "unread {number}\n")?)
+}
+
+/// Runs the wallet that the words ask for: `wallet`, the name of a query file, and those of 1 to 64 token files.
+///
+/// The position of the credential that answers the query with the fewest disclosures goes to `out`, and the compact text of what it
+/// presents, in one piece. What each status says of the outside before and after is `WalletEnds`, by cases.
+pub fn run_wallet<C: Cabinet, O: Sink, E: Sink>(
+    alloc: Global,
+    words: &[String],
+    cab: &mut C,
+    out: &mut O,
+    err: &mut E,
+) -> Status
+    ensures ends { WalletEnds (map string_bytes words.now)
+        (outside (C.holds cab.old) (C.missed cab.old) (C.faults cab.old) (stream (O.written out.old) (O.faults out.old)) (stream (E.written err.old) (E.faults err.old)))
+        (outside (C.holds cab.new) (C.missed cab.new) (C.faults cab.new) (stream (O.written out.new) (O.faults out.new)) (stream (E.written err.new) (E.faults err.new)))
+        result }
+    ensures keeps { WalletKeeps
+        (outside (C.holds cab.old) (C.missed cab.old) (C.faults cab.old) (stream (O.written out.old) (O.faults out.old)) (stream (E.written err.old) (E.faults err.old)))
+        (outside (C.holds cab.new) (C.missed cab.new) (C.faults cab.new) (stream (O.written out.new) (O.faults out.new)) (stream (E.written err.new) (E.faults err.new))) }
+{
+    let Some((query, tokens)) = wallet_words(words) else {
+        tell(err, "usage\n");
+        return Status::Usage;
+    };
+    match fetch_answer(alloc, cab, query, tokens) {
+        Ok(answer) => match out.put(answer.as_bytes()) {
+            Ok(()) => Status::Done,
+            Err(Failed) => {
+                tell(err, "unwritten\n");
+                Status::Unwritten
+            }
+        },
+        Err(Stop::Refused(line)) => {
+            tell(err, line.as_str());
+            Status::Refused
+        }
+        Err(Stop::Unread(word)) => match unread_line(alloc, word) {
+            Ok(line) => {
+                tell(err, line.as_str());
+                Status::Unread
+            }
+            Err(NoMemory) => {
+                tell(err, "memory\n");
+                Status::Memory
+            }
+        },
+        Err(Stop::Unreadable(line)) => {
+            tell(err, line.as_str());
+            Status::Unreadable
+        }
+        Err(Stop::Memory) => {
+            tell(err, "memory\n");
+            Status::Memory
+        }
+    }
+}
