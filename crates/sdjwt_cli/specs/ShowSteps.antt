@@ -6,16 +6,16 @@ use Rattle.compact_form.specs.declared.fault.Fault.{Fault}
 use Rattle.claim_tree.specs.View.{tree_of}
 use Rattle.disclosure.specs.Digest.{digest_of}
 use Rattle.disclosure.specs.declared.digests.HashAlg.{HashAlg}
-use Rattle.disclosure.specs.declared.disclosure.Disclosure.{Disclosure}
+use Rattle.disclosure.specs.declared.disclosure.DisclosureParts.{DisclosureParts}
 use Rattle.sdjwt_cli.specs.declared.show.Unshown.{Unshown}
 use Rattle.sdjwt_cli.specs.declared.show.Unshown.TheVariants.{Memory, Fails}
 use Rattle.digest_sites.specs.Given.{Given}
 use Rattle.verifier_core.specs.Verdict.{Gives}
 use Rattle.sdjwt_cli.specs.Show.{shown_line, shown_lines}
 
--- what is shown of a disclosure that is read
-abbrev pub disclosure_shown : HashAlg → Disclosure → Given
-disclosure_shown hash d = record { digest = digest_of hash d.text; name = d.name; value = tree_of d.value }
+-- what is shown of a disclosure's text and of what is read of it
+abbrev pub disclosure_shown : HashAlg → Text → DisclosureParts → Given
+disclosure_shown hash text d = record { digest = digest_of hash text; name = d.name; value = tree_of d.value }
 
 -- a line, or all lines, put behind a text
 pub record AddsLine (hash : HashAlg) (i : ℕ) (disclosure : Text) (old new : Text) : Type 0 where

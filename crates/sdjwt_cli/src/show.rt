@@ -22,7 +22,9 @@ use crate::split::push_binding;
 use claim_tree::{Tree, TreeMap, write};
 use cli_parts::{Stop, refused};
 use compact_form::{Condition, Fault, JwtView, Place};
-use disclosure::{Disclosure, DisclosureError, DisclosureReader, HashAlg, payload_hash};
+use disclosure::{
+    DisclosureError, DisclosureParts, DisclosureReader, HashAlg, digest, payload_hash,
+};
 use json_form::{Disclosures, TokenError, TokenText, TokenView};
 use jws_part::{BodyError, HeaderError, read_body, read_header};
 use sd_outside::{NoMemory, TextBox};
@@ -77,14 +79,15 @@ fn push_read(
     text: &mut String,
     i: usize,
     hash: HashAlg,
-    disclosure: &Disclosure,
+    part: &str,
+    read: &DisclosureParts,
 ) -> Result<(), NoMemory>
-    requires { IsRanged (tree_of disclosure.now.value) }
-    ensures { OnOk result (string_bytes text.new ≡ string_bytes text.old ++ shown_line i (disclosure_shown hash disclosure.now)) }
+    requires { IsRanged (tree_of read.now.value) }
+    ensures { OnOk result (string_bytes text.new ≡ string_bytes text.old ++ shown_line i (disclosure_shown hash part.now read.now)) }
 {
-    let digest = disclosure.digest(alloc, hash)?;
-    let kind = kind(alloc, &disclosure.name)?;
-    let value = write(alloc, &disclosure.value)?;
+    let digest = digest(alloc, hash, part)?;
+    let kind = kind(alloc, &read.name)?;
+    let value = write(alloc, &read.value)?;
     push_line(text, i, digest.as_str(), kind.as_str(), value.as_str())
 }
 
@@ -100,11 +103,11 @@ fn push_shown(
     ensures ok { OnOk result (AddsLine hash i part.now (string_bytes text.old) (string_bytes text.new)) }
     ensures refused { IfErr result (IsDisclosureRefused part.now) }
 {
-    let disclosure = match reader.read(alloc, part) {
-        Ok(disclosure) => disclosure,
+    let read = match reader.read_parts(alloc, part) {
+        Ok(read) => read,
         Err(error) => return Err(error),
     };
-    match push_read(alloc, text, i, hash, &disclosure) {
+    match push_read(alloc, text, i, hash, part, &read) {
         Ok(()) => Ok(()),
         Err(NoMemory) => Err(DisclosureError::Memory),
     }
