@@ -19,7 +19,7 @@ from pathlib import Path
 HERE = Path(__file__).resolve().parent
 DATA = HERE.parent / "crates" / "sd_vectors" / "data"
 MOST_BYTES = 5_000
-OF_TOOLS = {"wallet.rows"}
+OF_TOOLS = {"audits.rows", "feeds.rows", "wallet.rows"}
 NOW = 1_700_000_000
 CHARACTERS = {"nul": "\0", "tab": "\t", "return": "\r", "blank": " ", "bom": "\ufeff"}
 

@@ -8,6 +8,8 @@ mod compact_tests;
 #[cfg(test)]
 mod disclosure_tests;
 #[cfg(test)]
+mod feed_tests;
+#[cfg(test)]
 mod holder_tests;
 #[cfg(test)]
 mod issuer_tests;

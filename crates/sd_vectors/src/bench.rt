@@ -3,7 +3,9 @@
 use crate::names::Names;
 use crate::token::{binding, flattened, token};
 use crate::trouble::Trouble;
-use sd_outside::{MemCabinet, MemSink, Status};
+use audit_core::run_audit;
+use feed_core::run_feed;
+use sd_outside::{MemCabinet, MemSink, MemSource, NoMemory, Status};
 use sdjwt_cli::run;
 use std::alloc::Global;
 use wallet_core::run_wallet;
@@ -16,6 +18,9 @@ const ROOM: usize = 17_000_000;
 
 /// The room for a line on standard error, in bytes.
 const LINE_ROOM: usize = 1_000;
+
+/// The most bytes that standard input gives at once where a row sets none.
+const STEP: usize = 65_536;
 
 // A step of a row.
 #[derive(Drop)]
@@ -77,7 +82,33 @@ fn outcome(alloc: Global, status: u8, out: &str, err: &str) -> Result<String, Tr
     Ok(text)
 }
 
-/// The files, the moment and the room of a row, and what its last run left.
+// The number that a text says.
+fn number_of(text: &str) -> Result<u64, Trouble> {
+    text.parse()
+        .map_err(|_| Trouble::Unread("what is to be a number is none"))
+}
+
+// Standard input, from which a feed reads.
+#[derive(Drop)]
+struct Input {
+    text: String,
+    // the most bytes that it gives at once
+    step: usize,
+    // the number of the read that fails, counted from 0
+    fails_at: Option<u64>,
+}
+
+impl Input {
+    fn source(&self, alloc: Global) -> Result<MemSource, NoMemory> {
+        let mut source = MemSource::new(alloc, self.text.as_bytes(), self.step.max(1))?;
+        if let Some(call) = self.fails_at {
+            source.fail_at(call)?;
+        }
+        Ok(source)
+    }
+}
+
+/// The files, the moment, the room and standard input of a row, and what its last run left.
 #[derive(Drop)]
 pub(crate) struct Bench {
     alloc: Global,
@@ -86,6 +117,7 @@ pub(crate) struct Bench {
     files: Names,
     now: u64,
     room: usize,
+    input: Input,
     left: String,
 }
 
@@ -97,6 +129,11 @@ impl Bench {
             files: Names::new(alloc),
             now: NOW,
             room: ROOM,
+            input: Input {
+                text: String::new(alloc),
+                step: STEP,
+                fails_at: None,
+            },
             left: String::new(alloc),
         }
     }
@@ -121,20 +158,14 @@ impl Bench {
 
     fn put(&mut self, name: &str, text: &str) -> Result<(), Trouble> {
         match name {
-            "now" => {
-                self.now = text
-                    .parse()
-                    .map_err(|_| Trouble::Unread("now is no number"))?;
-                Ok(())
-            }
-            "room" => {
-                self.room = text
-                    .parse()
-                    .map_err(|_| Trouble::Unread("room is no number"))?;
-                Ok(())
-            }
-            _ => self.hold(name, text),
+            "now" => self.now = number_of(text)?,
+            "room" => self.room = number_of(text)? as usize,
+            "source" => self.input.text = String::from_str(self.alloc, text)?,
+            "step" => self.input.step = number_of(text)? as usize,
+            "fail" => self.input.fails_at = Some(number_of(text)?),
+            _ => self.hold(name, text)?,
         }
+        Ok(())
     }
 
     // The token that the file of this name holds.
@@ -154,14 +185,23 @@ impl Bench {
         self.hold(name, whole.as_str())
     }
 
-    // Runs the program that has these words: `wallet` is of the tools.
-    fn run_words(&mut self, words: &[String], out: &mut MemSink, err: &mut MemSink) -> Status {
+    // How the program ends that has these words: `sdjwt_tools` has those of its tools.
+    fn status(
+        &mut self,
+        words: &[String],
+        out: &mut MemSink,
+        err: &mut MemSink,
+    ) -> Result<Status, Trouble> {
+        let (alloc, now) = (self.alloc, self.now);
         let cabinet = &mut self.cabinet;
-        match words.first() {
-            Some(word) if word.as_str() == "wallet" => {
-                run_wallet(self.alloc, words, cabinet, out, err)
+        match words.first().map(|word| word.as_str()) {
+            Some("audit") => Ok(run_audit(alloc, words, cabinet, out, err)),
+            Some("wallet") => Ok(run_wallet(alloc, words, cabinet, out, err)),
+            Some("feed") => {
+                let mut source = self.input.source(alloc)?;
+                Ok(run_feed(alloc, words, cabinet, &mut source, now, out, err))
             }
-            _ => run(self.alloc, words, cabinet, self.now, out, err),
+            _ => Ok(run(alloc, words, cabinet, now, out, err)),
         }
     }
 
@@ -169,7 +209,7 @@ impl Bench {
         let words = words_of(self.alloc, words)?;
         let mut out = MemSink::new(self.alloc, self.room)?;
         let mut err = MemSink::new(self.alloc, LINE_ROOM)?;
-        let status = self.run_words(words.as_slice(), &mut out, &mut err);
+        let status = self.status(words.as_slice(), &mut out, &mut err)?;
         let answer = text_of(out.written())?;
         self.left = outcome(self.alloc, status.number(), answer, text_of(err.written())?)?;
         self.hold(file, answer)

@@ -41,7 +41,7 @@ t.rows:16: can't be read: a key is short
 t.rows:17: can't be read: a $ names a disclosure that does not stand before it
 t.rows:18: can't be read: there is no token
 t.rows:19: can't be read: it is no compact token
-t.rows:20: can't be read: now is no number
+t.rows:20: can't be read: what is to be a number is none
 "#;
 
 #[test]
