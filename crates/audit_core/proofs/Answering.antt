@@ -46,7 +46,8 @@ failed o alg accepts content (Part k) other h = h
 pub says_no : (order_file token_file answer : List ℕ) (said : IssueFile) (alg : Alg) (error : AuditError) → IsOrderFile order_file said → alg ≡ said.key.alg → error ≢ OnMemory
     → IsAuditRefused (order_of said.order) alg (IsGood said.key) token_file error → answer ≡ line (audit_refusal_text error) → SaysNo order_file token_file answer
 says_no order_file token_file answer said alg error file same other h told = record {
-  order = order_of said.order; key = said.key;
+  order = order_of said.order;
+  key = said.key;
   asks = record { said = said; is_order = file; order_is = refl; key_is = refl };
   error = error;
   fails = subst (λ (x : Alg). FailsAudit (order_of said.order) x (IsGood said.key) token_file error) same (failed (order_of said.order) alg (IsGood said.key) token_file error other h);
