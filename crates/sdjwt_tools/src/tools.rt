@@ -1,5 +1,5 @@
 // The top call of the program.
-ghost use Rattle.std.specs.Prelude.{◌≡◌, ◌≤◌, ◌^◌, ◌↔◌, ◌⊎◌, map, string_bytes, codes, IsTrue, ⊥};
+ghost use Rattle.std.specs.Prelude.{◌≡◌, ◌≤◌, ◌^◌, ◌↔◌, ◌⊎◌, map, string_bytes, codes, IsTrue};
 ghost use Rattle.cli_parts.specs.Outside.{outside, stream};
 ghost use Rattle.audit_core.specs.AuditRun.{AuditEnds};
 ghost use Rattle.feed_core.specs.FeedSource.{input};
