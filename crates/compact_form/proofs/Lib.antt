@@ -14,6 +14,6 @@ mod Absent
 pub mod Printed
 pub mod Trimmed
 pub mod Examples
-pub mod NextWords
+mod NextPieces
 pub mod Numbers
 pub mod Lowest

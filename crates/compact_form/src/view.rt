@@ -8,7 +8,8 @@ ghost use Rattle.compact_form.specs.Reading.{Gathered};
 use crate::field::Field;
 use crate::reader::{At, Reader, text_of};
 use crate::{JwtParts, Parts};
-use b64url_text::{is_word, word_len};
+use b64url_text::is_word;
+use memchr::memchr;
 use sd_outside::{NoMemory, TextBox, TextList};
 use std::alloc::Global;
 use std::marker::Model;
@@ -216,11 +217,9 @@ impl<'a> Iterator for Pieces<'a> {
     ghost remaining = { item_count (λ pieces. pieces) };
 
     fn next(&mut self) -> Option<&'a str> {
-        // a disclosure is a word, and ends at its tilde
-        let end = word_len(self.rest.as_bytes());
-        if end == self.rest.len() {
+        let Some(end) = memchr(b'~', self.rest.as_bytes()) else {
             return None;
-        }
+        };
         let piece = &self.rest[..end];
         self.rest = &self.rest[end + 1..];
         Some(piece)
