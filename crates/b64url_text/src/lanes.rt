@@ -1,5 +1,5 @@
 // Letters found 32 bytes at a time.
-ghost use Rattle.std.specs.Prelude.{◌≡◌, ◌+◌, ◌≤◌, length, take, drop};
+ghost use Rattle.std.specs.Prelude.{◌≡◌, ◌+◌, ◌≤◌, length, take, drop, IsTrue};
 ghost use Rattle.std.specs.List.{prefix_len};
 ghost use Rattle.b64url_text.specs.Base64url.{is_letter as letter_test};
 ghost use Rattle.b64url_text.specs.Lanes.{first_set as place_of_first};
@@ -7,6 +7,8 @@ ghost use Rattle.b64url_text.specs.Lanes.{first_set as place_of_first};
 use std::simd::prelude::*;
 
 pub(crate) const LANES: usize = 32;
+
+pub(crate) const WIDE: usize = 64;
 
 // The letters by the high four bits of their code. Each class is a bit, and a byte is a letter where the
 // class of its high four bits has its low four bits.
@@ -109,13 +111,30 @@ fn first_set(mask: u64) -> usize
     }
 }
 
+// Those of the 32 bytes from `at` on that are no letters: a bit for each byte.
+fn strays_at(text: &[u8], at: usize) -> u64
+    requires { at + LANES ≤ length text.now }
+    ensures { place_of_first result LANES ≡ prefix_len letter_test (take LANES (drop at text.now)) }
+{
+    let bytes = u8x32::from_slice(&text[at..]);
+    let class = u8x32::from_array(CLASS).swizzle_dyn_within::<16>(bytes >> u8x32::splat(4));
+    let classes = u8x32::from_array(CLASSES).swizzle_dyn_within::<16>(bytes & u8x32::splat(15));
+    (class & classes).simd_eq(u8x32::splat(0)).to_bitmask()
+}
+
 // How many of the 32 bytes from `at` on stand before the first that is no letter.
 pub(crate) fn letters_at(text: &[u8], at: usize) -> usize
     requires { at + LANES ≤ length text.now }
     ensures { result ≡ prefix_len letter_test (take LANES (drop at text.now)) }
 {
-    let bytes = u8x32::from_slice(&text[at..]);
-    let class = u8x32::from_array(CLASS).swizzle_dyn_within::<16>(bytes >> u8x32::splat(4));
-    let classes = u8x32::from_array(CLASSES).swizzle_dyn_within::<16>(bytes & u8x32::splat(15));
-    first_set((class & classes).simd_eq(u8x32::splat(0)).to_bitmask())
+    first_set(strays_at(text, at))
+}
+
+// Whether the 64 bytes from `at` on are all letters.
+pub(crate) fn are_letters(text: &[u8], at: usize) -> bool
+    requires { at + WIDE ≤ length text.now }
+    ensures first { IsTrue result → prefix_len letter_test (take LANES (drop at text.now)) ≡ LANES }
+    ensures second { IsTrue result → prefix_len letter_test (take LANES (drop (at + LANES) text.now)) ≡ LANES }
+{
+    strays_at(text, at) | strays_at(text, at + LANES) == 0
 }
