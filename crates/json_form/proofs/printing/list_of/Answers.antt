@@ -1,10 +1,16 @@
-use Rattle.std.proofs.Common.{◌≡◌, ap, sym, ◌∙◌}
-use Rattle.std.specs.Option.{option_copied}
-use Rattle.json_form.proofs.WrittenForms.{texts_turn}
+use Rattle.std.proofs.Common.{[], ◌∷◌, ◌++◌, append_assoc, sym, ap, ◌∙◌, rules}
+use Rattle.claim_tree.proofs.FileMembers.{text_elements-push}
 use Rattle.json_form.proofs.printing.list_of.Goals as goal
 
-pub loop-i-preserved : goal.loop-i-preserved
-loop-i-preserved c =
-    let at = sym c.at.ensures ∙ ap option_copied c.unwrap-text.ensures in
-    let same : c.in_ok-copy.copy ≡ c.unwrap-text.result.now = c.in_ok-copy.ensures ∙ c.as_str.ensures in
-    rw (c.in_ok-push.ensures.ok, c.loop-i.invariant, same) (sym (texts_turn c.args.texts.now c.loop-i.i c.unwrap-text.result.now at))
+pub loop-text-init : goal.loop-text-init
+loop-text-init c = record { done = []; stand = search rules; made = search rules }
+
+pub loop-text-preserved : goal.loop-text-preserved
+loop-text-preserved c =
+    let l = c.loop-text.invariant in
+    let text = c.in-Some.text.now in
+    record {
+      done = l.done ++ text ∷ [];
+      stand = l.stand ∙ (ap (λ w. l.done ++ w) c.in-Some.ensures.steps ∙ sym (append_assoc l.done (text ∷ []) c.next.new.self));
+      made = rw (c.in_ok-push.ensures.ok, l.made, c.in_ok-make.ensures) (sym (text_elements-push l.done text));
+    }

@@ -1,8 +1,9 @@
-use Rattle.std.proofs.Common.{◌≡◌, ◌≤◌, sym, ap, subst, ◌∙◌}
+use Rattle.std.proofs.Common.{◌≡◌, ◌≤◌, sym, ap, ap₂, subst, ◌∙◌}
 use Rattle.std.proofs.lemmas.Result.{IfOk-weaker}
-use Rattle.claim_tree.specs.Tree.{Members, object, depth, IsRanged, leaf, text, inserted}
+use Rattle.claim_tree.specs.Tree.{Text, Members, object, depth, IsRanged, leaf, text, inserted}
 use Rattle.claim_tree.specs.JsonText.{Reads}
 use Rattle.compact_form.specs.PartWords.{part_word}
+use Rattle.compact_form.specs.declared.parts.JwtParts.{JwtParts}
 use Rattle.compact_form.specs.declared.fault.Part.TheVariants.{Payload}
 use Rattle.json_form.specs.Json.{IsFlat}
 use Rattle.json_form.specs.Written.{flat_of}
@@ -12,12 +13,14 @@ use Rattle.json_form.proofs.printing.print_flat.Goals as goal
 pub write-requires : goal.write-requires
 write-requires c =
     let token = c.args.token.now in
-    let made : object c.put_text.new.members ≡ flat_of token = ap object (c.in_ok-put_text.ensures ∙ ap (λ (ms : Members). inserted ms (part_word Payload) (leaf (text token.parts.signed.payload))) c.in_ok-members.ensures) in
+    let payload : c.signed.result.payload.now ≡ token.parts.signed.payload = ap (λ (j : JwtParts). j.payload) c.signed.ensures in
+    let made : object c.put_text.new.members ≡ flat_of token = ap object (c.in_ok-put_text.ensures ∙ ap₂ (λ (ms : Members) (s : Text). inserted ms (part_word Payload) (leaf (text s))) c.in_ok-members.ensures payload) in
     subst IsRanged (sym made) (flat_ranged token c.requires.printable)
 
 pub returns-clause-back : goal.returns-clause-back
 returns-clause-back c =
     let token = c.args.token.now in
-    let made : object c.put_text.new.members ≡ flat_of token = ap object (c.in_ok-put_text.ensures ∙ ap (λ (ms : Members). inserted ms (part_word Payload) (leaf (text token.parts.signed.payload))) c.in_ok-members.ensures) in
+    let payload : c.signed.result.payload.now ≡ token.parts.signed.payload = ap (λ (j : JwtParts). j.payload) c.signed.ensures in
+    let made : object c.put_text.new.members ≡ flat_of token = ap object (c.in_ok-put_text.ensures ∙ ap₂ (λ (ms : Members) (s : Text). inserted ms (part_word Payload) (leaf (text s))) c.in_ok-members.ensures payload) in
     IfOk-weaker c.write.result (λ written. Reads written (object c.put_text.new.members)) (IsFlat token) (λ written reads. flat_says token written c.requires.printable (subst (Reads written) made reads))
     (c.write.ensures.back (subst (λ t. depth t ≤ 127) (sym made) (flat_depth token c.requires.printable)))
