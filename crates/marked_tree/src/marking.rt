@@ -77,7 +77,7 @@ fn ordered(one: &Path, other: &Path) -> Ordering
 fn is_same(one: &Path, other: &Path) -> bool
     ensures { result ≡ same_path one.now other.now }
 {
-    ordered(one, other) == Ordering::Equal
+    one.steps() == other.steps()
 }
 
 // Marks a tree that the paths come to by their first `depth` steps, from the mark `next` on.
