@@ -31,6 +31,14 @@ impl Path {
         }
     }
 
+    // The same, with memory for so many steps.
+    pub(crate) fn with_capacity(alloc: Global, count: usize) -> Result<Path, NoMemory>
+        ensures { IfOk result (λ path. path ≡ []) }
+    {
+        let steps = Vec::with_capacity(alloc, count)?;
+        Ok(Path { steps })
+    }
+
     /// The path of steps that are given from the last to the first, with no copy.
     pub fn from_last(steps: Vec<TextBox>) -> Path
         ensures { result ≡ reverse steps.items }

@@ -32,12 +32,17 @@ impl From<AllocError> for PointerError {
     }
 }
 
+// How many slashes are in a text.
+fn slashes(text: &str) -> usize {
+    text.as_bytes().iter().filter(|byte| **byte == b'/').count()
+}
+
 /// The path of a JSON Pointer, RFC 6901 section 3. The empty text is the path to the whole value.
 pub fn read_pointer(alloc: Global, text: &str) -> Result<Path, PointerError>
     ensures ok { IfOk result (λ path. text.now ≡ pointer_text path) }
     ensures syntax { result ≡ Err PointerError.Syntax → IsNoPointer text.now }
 {
-    let mut path = Path::new(alloc);
+    let mut path = Path::with_capacity(alloc, slashes(text))?;
     if text.is_empty() {
         return Ok(path);
     }
@@ -54,7 +59,7 @@ fn read_step(alloc: Global, written: &str) -> Result<TextBox, PointerError>
     ensures ok { IfOk result (λ step. written.now ≡ escaped step) }
     ensures syntax { result ≡ Err PointerError.Syntax → HasLoneTilde written.now }
 {
-    let mut step = String::new(alloc);
+    let mut step = String::with_capacity(alloc, written.len())?;
     let mut rest = written;
     while let Some((plain, escape)) = rest.split_once('~') {
         let (sign, more) = read_escape(escape).ok_or(PointerError::Syntax)?;

@@ -127,6 +127,14 @@ impl TreeList {
         }
     }
 
+    /// No elements, with memory for so many.
+    pub fn with_capacity(alloc: Global, count: usize) -> Result<TreeList, NoMemory>
+        ensures { IfOk result (λ list. list ≡ no_elements) }
+    {
+        let trees = Vec::with_capacity(alloc, count)?;
+        Ok(TreeList { trees })
+    }
+
     /// Adds a tree at the end.
     pub fn push(&mut self, tree: Tree) -> Result<(), NoMemory>
         ensures ok { OnOk result (self.new ≡ pushed self.old (tree_of tree)) }

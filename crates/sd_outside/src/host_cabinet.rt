@@ -28,8 +28,8 @@ impl<R: Files> HostCabinet<R> {
     }
 }
 
-// The most bytes that one read asks for.
-const BLOCK: usize = 32_768;
+// The most bytes that one read asks for. Few, since they are filled with zeros before the first read, and most files are short.
+const BLOCK: usize = 2_048;
 
 // The most bytes that are copied at once: the C library copies longer ones byte by byte.
 const RUN: usize = 2_048;

@@ -7,7 +7,7 @@ use Rattle.claim_tree.proofs.PointerEscapes.{escape_read, rest_read}
 use Rattle.claim_tree.proofs.pointer.read_step.Goals as goal
 
 pub loop-plain-init : goal.loop-plain-init
-loop-plain-init c = (c.utf8.written, record { no_slash = c.requires; spelling = rw c.new-step.ensures.bytes refl })
+loop-plain-init c = (c.utf8.written, record { no_slash = c.requires; spelling = rw c.in_ok-step.ensures.bytes refl })
 
 pub returns-in_err-sign-clause-syntax : goal.returns-in_err-sign-clause-syntax
 returns-in_err-sign-clause-syntax c syntax =
