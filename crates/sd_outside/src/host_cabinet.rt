@@ -1,6 +1,6 @@
-ghost use Rattle.std.specs.Prelude.{◌≡◌, ◌≤◌, ◌+◌, None, length, IfOk, OnOk};
+ghost use Rattle.std.specs.Prelude.{◌≡◌, ◌≤◌, None, length, IfOk};
 
-use crate::{ByteBox, Cabinet, FetchError, NoMemory, TextBox};
+use crate::{ByteBox, Cabinet, FetchError, TextBox};
 use std::alloc::Global;
 use std::fs;
 use std::io::Read;
@@ -31,22 +31,6 @@ impl<R: Files> HostCabinet<R> {
 // The most bytes that one read asks for. Few, since they are filled with zeros before the first read, and most files are short.
 const BLOCK: usize = 2_048;
 
-// The most bytes that are copied at once: the C library copies longer ones byte by byte.
-const RUN: usize = 2_048;
-
-// Adds a block at the end, run by run.
-fn append_block(bytes: &mut ByteBox, block: &[u8]) -> Result<(), NoMemory>
-    ensures { OnOk result (length bytes.new ≡ length bytes.old + length block.now) }
-{
-    let mut at = 0;
-    while at < block.len() {
-        let end = at + RUN.min(block.len() - at);
-        bytes.append(&block[at..end])?;
-        at = end;
-    }
-    Ok(())
-}
-
 // At most `most` bytes of a file. Each turn but the last takes a byte or more. The file is not asked for its size, since the
 // memory grows by doubling.
 fn read_front<F: Read>(alloc: Global, file: &mut F, most: usize) -> Result<ByteBox, FetchError>
@@ -60,7 +44,7 @@ fn read_front<F: Read>(alloc: Global, file: &mut F, most: usize) -> Result<ByteB
         match file.read(&mut block[..wanted]) {
             Ok(0) => break,
             Ok(count) => {
-                append_block(&mut bytes, &block[..count])?;
+                bytes.append(&block[..count])?;
                 left -= count;
             }
             Err(_) => return Err(FetchError::Failed),
