@@ -7,6 +7,7 @@ pub mod Founds
 pub mod Soundness
 pub mod Loops
 pub mod Wanteds
+mod Unwritten
 pub mod Writtens
 pub mod Contents
 pub mod Parts

@@ -19,9 +19,9 @@ use Rattle.audit_core.specs.declared.errors.AuditError.TheVariants.{Memory, Orde
 use Rattle.audit_core.specs.Audited.{GivesSalted, IsWrittenFor, IsAuditedFor, IsAudited}
 use Rattle.audit_core.specs.Audit.{PassesAudit, FailsAudit, DiffersIn, signed_differs, written_differs, content_differs, ContentDiffers, claims_differ, digests_differ, decoys_differ, order_differs, of_order, of_text, of_part}
 use Rattle.audit_core.specs.AuditLaws.{HasOneVerdict}
-use Rattle.audit_core.proofs.Writtens.{is_disclosure}
 use Rattle.disclosure.specs.declared.digests.HashAlg.{HashAlg}
-use Rattle.disclosure.proofs.Verdicts.{one_disclosure}
+use Rattle.disclosure.specs.Disclosure.{array_of}
+use Rattle.disclosure.proofs.Arrays.{array_of-injective}
 use Rattle.jws_part.proofs.Parts.{one_carried}
 use Rattle.rebuild_core.specs.Payload.{without_alg}
 use Rattle.compact_form.specs.declared.parts.Parts.{Parts}
@@ -67,7 +67,8 @@ given_same d e n m v u f g h = cc
 
 one_salted : (hash : HashAlg) (disclosure : Text) (x y : Given) → GivesSalted hash disclosure x → GivesSalted hash disclosure y → x ≡ y
 one_salted hash disclosure x y a b =
-    let e = one_disclosure disclosure (leaf (text a.salted.salt)) (leaf (text b.salted.salt)) x.name y.name x.value y.value (is_disclosure disclosure x.name x.value a.salted) (is_disclosure disclosure y.name y.value b.salted) in
+    let same = one_carried disclosure (array_of (leaf (text a.salted.salt)) x.name x.value) (array_of (leaf (text b.salted.salt)) y.name y.value) a.salted.written.carried b.salted.written.carried in
+    let e = array_of-injective (leaf (text a.salted.salt)) (leaf (text b.salted.salt)) x.name y.name x.value y.value same in
     given_same x.digest y.digest x.name y.name x.value y.value (a.digest ∙ sym b.digest) e.1 e.2
 
 one_given : (hash : HashAlg) (ds : List Text) (xs ys : List Given) → AllZip (GivesSalted hash) ds xs → AllZip (GivesSalted hash) ds ys → xs ≡ ys

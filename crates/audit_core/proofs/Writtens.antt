@@ -1,99 +1,66 @@
 -- When a text is not written as it is to be: what is read of it is the one thing that it could be the text of.
-use Rattle.std.proofs.Common.{◌≡◌, ◌≢◌, ℕ, suc, List, [], ◌∷◌, ◌++◌, length, Option, Some, None, Bool, true, false, not, inl, inr, refl, sym, ap, ◌∙◌, subst}
+use Rattle.std.proofs.Common.{◌≡◌, ◌≢◌, ◌<◌, arith, ℕ, suc, List, [], ◌∷◌, ◌++◌, length, Option, Some, None, Bool, true, false, not, inl, inr, refl, sym, ap, ◌∙◌, subst}
 use Rattle.std.specs.Prelude.{codes, slice_get, bytes_eq}
 use Rattle.std.proofs.lemmas.Bool.{true≢false}
 use Rattle.claim_tree.specs.Lists.{In}
 use Rattle.claim_tree.proofs.Lists.{bytes_refl, bytes_same, In-append}
 use Rattle.std.specs.List.{AllZip}
 use Rattle.b64url_text.specs.Base64url.{b64, Decodes}
+use Rattle.b64url_text.proofs.Lengths.{length-b64}
 use Rattle.claim_tree.specs.Tree.{Text, Tree, leaf, text, array, object, Members, member_named, get}
 use Rattle.claim_tree.specs.JsonText.{json_text}
 use Rattle.digest_sites.specs.Given.{Given}
 use Rattle.disclosure.specs.Digest.{digest_of, hash_name}
-use Rattle.disclosure.specs.Disclosure.{IsDisclosure, array_of, disclosure_text}
-use Rattle.disclosure.specs.DisclosureRefusals.{IsDisclosureRefused}
+use Rattle.disclosure.specs.Disclosure.{array_of}
+use Rattle.disclosure.specs.DisclosureRefusals.{IsNoArray}
 use Rattle.disclosure.specs.declared.digests.HashAlg.{HashAlg}
-use Rattle.disclosure.specs.declared.errors.DisclosureError.{DisclosureError}
-use Rattle.disclosure.proofs.Verdicts.{one_disclosure, not_both}
-use Rattle.jws_part.specs.Part.{Carries, IsBody, IsNoObject}
-use Rattle.jws_part.proofs.Parts.{one_body}
+use Rattle.disclosure.proofs.Arrays.{array_of-injective}
+use Rattle.jws_part.proofs.Parts.{one_carried}
 use Rattle.rebuild_core.specs.Answer.{IsPayload}
 use Rattle.rebuild_core.specs.Payload.{alg_name}
 use Rattle.audit_core.specs.Audited.{IsWrittenAs, IsSaltedText, GivesSalted}
-use Rattle.audit_core.specs.AuditSteps.{NamesHash, IsSalt, IsUnsalted, IsOtherPayload}
+use Rattle.audit_core.specs.AuditSteps.{NamesHash, IsSalt, IsUnsalted, IsOtherPayload, IsUnwritten}
 
 -- ---- a disclosure
 
-pub is_disclosure : (disclosure : Text) (name : Option Text) (value : Tree) (w : IsSaltedText disclosure name value) → IsDisclosure disclosure (leaf (text w.salt)) name value
-is_disclosure disclosure name value w = record { json = w.written.carried.bytes; decodes = w.written.carried.decodes; reads = w.written.carried.reads }
+pub unwritten_unsalted : (disclosure : Text) → IsUnwritten disclosure → IsUnsalted disclosure
+unwritten_unsalted disclosure none name value w = none (array_of (leaf (text w.salt)) name value) w.written
 
-pub refused_unsalted : (disclosure : Text) (e : DisclosureError) → e ≢ DisclosureError.Memory → IsDisclosureRefused disclosure e → IsUnsalted disclosure
-refused_unsalted disclosure e n r name value w = n (not_both disclosure (leaf (text w.salt)) name value e (is_disclosure disclosure name value w) r)
+pub other_array : (disclosure : Text) (t : Tree) → IsWrittenAs disclosure t → IsNoArray t → IsUnsalted disclosure
+other_array disclosure t written none name value w =
+    none (leaf (text w.salt)) name value (one_carried disclosure t (array_of (leaf (text w.salt)) name value) written.carried w.written.carried)
 
-pub other_salt : (disclosure : Text) (salt : Tree) (name : Option Text) (value : Tree) → IsDisclosure disclosure salt name value
+pub other_salt : (disclosure : Text) (salt : Tree) (name : Option Text) (value : Tree) → IsWrittenAs disclosure (array_of salt name value)
     → ((s : Text) → salt ≡ leaf (text s) → IsSalt s → ⊥) → IsUnsalted disclosure
-other_salt disclosure salt name value read n m v w =
-    let e = one_disclosure disclosure salt (leaf (text w.salt)) name m value v read (is_disclosure disclosure m v w) in
+other_salt disclosure salt name value written n m v w =
+    let same = one_carried disclosure (array_of salt name value) (array_of (leaf (text w.salt)) m v) written.carried w.written.carried in
+    let e = array_of-injective salt (leaf (text w.salt)) name m value v same in
     n w.salt e.0 (record { bytes = w.bytes; decodes = w.salt_text; long = w.long })
 
-pub other_text : (disclosure salt : Text) (name : Option Text) (value : Tree) → IsDisclosure disclosure (leaf (text salt)) name value
-    → (disclosure_text (leaf (text salt)) name value ≢ disclosure) → IsUnsalted disclosure
-other_text disclosure salt name value read n m v w =
-    let e = one_disclosure disclosure (leaf (text salt)) (leaf (text w.salt)) name m value v read (is_disclosure disclosure m v w) in
-    let same : array_of (leaf (text salt)) name value ≡ array_of (leaf (text w.salt)) m v = array_same (leaf (text salt)) (leaf (text w.salt)) name m value v e.0 e.1 e.2 in
-    n (ap (λ t. b64 (json_text t)) same ∙ sym w.written.written)
-  where
-    array_same : (s r : Tree) (n m : Option Text) (v u : Tree) → s ≡ r → n ≡ m → v ≡ u → array_of s n v ≡ array_of r m u
-    array_same s r n m v u e f g = subst (λ x. array_of s n v ≡ array_of x m u) e (subst (λ x. array_of s n v ≡ array_of s x u) f (ap (array_of s n) g))
-
-pub same_text : (r s : Tree) (m n : Option Text) (u v : Tree) → r ≡ s → m ≡ n → u ≡ v → disclosure_text r m u ≡ disclosure_text s n v
-same_text r s m n u v e f g = subst (λ x. disclosure_text r m u ≡ disclosure_text x n v) e (subst (λ x. disclosure_text r m u ≡ disclosure_text r x v) f (ap (disclosure_text r m) g))
-
-pub differ : (a b : Text) → not (bytes_eq a b) ≡ true → a ≡ b → ⊥
-differ a b e same = true≢false (sym e ∙ ap not (bytes_refl a b same))
-
-pub same_by_test : (a b : Text) → not (bytes_eq a b) ≡ false → a ≡ b
-same_by_test a b e = bytes_same a b (go (bytes_eq a b) e)
-  where
-    go : (t : Bool) → not t ≡ false → t ≡ true
-    go true f = refl
-    go false f = absurd (true≢false f)
-
-pub gives : (hash : HashAlg) (disclosure salt : Text) (x : Given) → x.digest ≡ digest_of hash disclosure → IsSalt salt → IsDisclosure disclosure (leaf (text salt)) x.name x.value
-    → disclosure ≡ disclosure_text (leaf (text salt)) x.name x.value → GivesSalted hash disclosure x
-gives hash disclosure salt x d s read same = record {
+pub gives : (hash : HashAlg) (disclosure salt : Text) (x : Given) → x.digest ≡ digest_of hash disclosure → IsSalt salt
+    → IsWrittenAs disclosure (array_of (leaf (text salt)) x.name x.value) → GivesSalted hash disclosure x
+gives hash disclosure salt x d s written = record {
   digest = d;
-  salted = record {
-    salt = salt;
-    bytes = s.bytes;
-    salt_text = s.decodes;
-    long = s.long;
-    written = record { written = same; carried = record { bytes = read.json; decodes = read.decodes; reads = read.reads } };
-  };
+  salted = record { salt = salt; bytes = s.bytes; salt_text = s.decodes; long = s.long; written = written };
 }
+
+-- a salt has no more letters than 16 bytes take
+pub short_salt : (salt : Text) → 22 < length salt → IsSalt salt → ⊥
+short_salt salt l s =
+    let few = length-b64 s.bytes in
+    let many : length salt ≡ length (b64 s.bytes) = ap length s.decodes.spelling in
+    absurd (omega (arith, few, many, s.long, l))
 
 -- ---- a payload
 
 no_name : {A : Type 0} (t : Tree) → ◌≡◌ {A = Option Tree} None (Some t) → A
 no_name t e = absurd (cc)
 
-record IsObjectWith (body : Tree) : Type 0 where
-  members : Members
-  same : body ≡ object members
+pub unwritten_other : (hash : HashAlg) (part : Text) → IsUnwritten part → IsOtherPayload hash part
+unwritten_other hash part none body w n = none body w
 
-named_object : (hash : HashAlg) (body : Tree) → NamesHash hash body → IsObjectWith body
-named_object hash (object ms) n = record { members = ms; same = refl }
-named_object hash (leaf l) n = no_name _ n
-named_object hash (array es) n = no_name _ n
-
-pub no_object : (hash : HashAlg) (part : Text) → IsNoObject part → IsOtherPayload hash part
-no_object hash part none body w n = let o = named_object hash body n in none o.members (subst (Carries part) o.same w.carried)
-
-pub other_payload : (hash : HashAlg) (part : Text) (body : Tree) → IsBody part body → (NamesHash hash body → b64 (json_text body) ≢ part) → IsOtherPayload hash part
-other_payload hash part body read n other w names =
-    let o = named_object hash other names in
-    let same = one_body part body other read (record { members = o.members; is_object = o.same; carried = w.carried }) in
-    n (subst (NamesHash hash) (sym same) names) (ap (λ t. b64 (json_text t)) same ∙ sym w.written)
+pub other_payload : (hash : HashAlg) (part : Text) (body : Tree) → IsWrittenAs part body → (NamesHash hash body → ⊥) → IsOtherPayload hash part
+other_payload hash part body written n other w names = n (subst (NamesHash hash) (sym (one_carried part body other written.carried w.carried)) names)
 
 some_tree : (t u : Tree) → ◌≡◌ {A = Option Tree} (Some t) (Some u) → t ≡ u
 some_tree t u e = cc

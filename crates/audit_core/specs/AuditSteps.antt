@@ -24,6 +24,10 @@ use Rattle.audit_core.specs.Audited.{Standing, IsWrittenAs, IsSaltedText, GivesS
 abbrev pub NamesHash : HashAlg → Tree → Type 0
 NamesHash hash body = get body (codes "_sd_alg") ≡ Some (leaf (text (hash_name hash)))
 
+-- the text is that of the compact JSON of no tree
+abbrev pub IsUnwritten : Text → Type 0
+IsUnwritten part = (t : Tree) → IsWrittenAs part t → ⊥
+
 -- the text is that of 16 bytes
 pub record IsSalt (salt : Text) : Type 0 where
   pub bytes : List ℕ

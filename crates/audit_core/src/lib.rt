@@ -1,11 +1,12 @@
 //! Whether a token is what an order asks for, without the seed that its issuer had (RFC 9901 section 4).
 //!
-//! [`audit`] judges six parts, in this order: what is signed (`signed`), how it is written (`written`), what it shows (`claims`, `same`),
+//! [`audit`] judges six parts, in this order: what is signed (`signed`), how it is written (`written`, `compact`), what it shows (`claims`, `same`),
 //! its digests (`sites`, `found`), the places of its decoys (`places`, `standing`, `wanted`), and the order of its digests (`sorted`).
 #![tactic(auto)]
 
 mod auditing;
 mod claims;
+mod compact;
 mod errors;
 mod found;
 pub mod laws;

@@ -1,0 +1,83 @@
+// Parts of a token that carry compact JSON.
+ghost use Rattle.std.specs.Prelude.{◌≡◌, ◌≤◌, ◌↔◌, length, take, IfOk, IfSome, IfNone, IsTrue, IsUtf8};
+ghost use Rattle.b64url_text.specs.Base64url.{Decodes};
+ghost use Rattle.b64url_text.specs.NotBase64.{IsNotBase64};
+ghost use Rattle.claim_tree.specs.Tree.{IsRanged, depth as depth_of};
+ghost use Rattle.claim_tree.specs.JsonText.{json_text};
+ghost use Rattle.claim_tree.specs.View.{tree_of};
+ghost use Rattle.audit_core.specs.Audited.{IsWrittenAs};
+ghost use Rattle.audit_core.specs.AuditSteps.{IsUnwritten};
+
+use b64url_text::decode_into;
+use claim_tree::{JsonReader, ReadError, Tree, write};
+use sd_outside::NoMemory;
+use std::alloc::Global;
+
+// What reads such parts, all in the same memory.
+#[derive(Drop)]
+pub(crate) struct CompactReader {
+    json: JsonReader,
+    // What a part is decoded to.
+    room: Vec<u8>,
+}
+
+// Decodes a part to the front of the room, which grows as it has to. The answer is how many bytes they are.
+fn decode_to(room: &mut Vec<u8>, part: &str) -> Result<Option<usize>, NoMemory>
+    ensures within { IfOk result (λ read. IfSome read (λ count. count ≤ length room.new.items)) }
+    ensures some { IfOk result (λ read. IfSome read (λ count. Decodes part.now (take count room.new.items))) }
+    ensures none { IfOk result (λ read. IfNone read (IsNotBase64 part.now)) }
+{
+    let wanted = part.len() / 4 * 3 + 3;
+    if room.len() < wanted {
+        room.resize(wanted, 0)?;
+    }
+    match decode_into(part.as_bytes(), room.as_mut_slice()) {
+        Ok(count) => Ok(Some(count)),
+        Err(_) => Ok(None),
+    }
+}
+
+// Whether the bytes are the compact JSON text of the tree.
+fn is_text_of(alloc: Global, json: &[u8], tree: &Tree) -> Result<bool, NoMemory>
+    requires { IsRanged (tree_of tree.now) }
+    ensures is { IfOk result (λ is. IsTrue is ↔ (json.now ≡ json_text (tree_of tree.now))) }
+    ensures utf8 { IfOk result (λ _. IsUtf8 (json_text (tree_of tree.now))) }
+{
+    let written = write(alloc, tree)?;
+    Ok(json == written.as_str().as_bytes())
+}
+
+impl CompactReader {
+    pub(crate) fn new(alloc: Global) -> CompactReader {
+        CompactReader {
+            json: JsonReader::new(alloc),
+            room: Vec::new(alloc),
+        }
+    }
+
+    // The tree that a part carries, where the part is the text of its compact JSON.
+    pub(crate) fn read(&mut self, alloc: Global, part: &str) -> Result<Option<Tree>, NoMemory>
+        ensures some { IfOk result (λ read. IfSome read (λ t. IsWrittenAs part.now (tree_of t))) }
+        ensures ranged { IfOk result (λ read. IfSome read (λ t. IsRanged (tree_of t))) }
+        ensures depth { IfOk result (λ read. IfSome read (λ t. depth_of (tree_of t) ≤ 127)) }
+        ensures none { IfOk result (λ read. IfNone read (IsUnwritten part.now)) }
+    {
+        let Some(count) = decode_to(&mut self.room, part)? else {
+            return Ok(None);
+        };
+        let json = &self.room[..count];
+        let tree = match self.json.read(alloc, json) {
+            Ok(tree) => tree,
+            Err(error) => {
+                return match error {
+                    ReadError::Memory => Err(NoMemory),
+                    _ => Ok(None),
+                };
+            }
+        };
+        if !is_text_of(alloc, json, &tree)? {
+            return Ok(None);
+        }
+        Ok(Some(tree))
+    }
+}
