@@ -7,7 +7,7 @@ use Rattle.sd_outside.specs.Status.{status_number}
 use Rattle.sd_outside.specs.declared.status.Status.{Status}
 use Rattle.sd_outside.specs.declared.status.Status.TheVariants.{Done, Unwritten}
 use Rattle.sd_outside.specs.declared.status.Status.TheVariants as status
-use Rattle.sdjwt_cli.specs.Answers.{Reply, gives, refuses, unreadable}
+use Rattle.cli_parts.specs.Replies.{Reply, gives, refuses, unreadable}
 use Rattle.cli_parts.specs.Stops.{OnRefused, OnUnread, OnUnreadable}
 use Rattle.cli_parts.specs.declared.stop.Stop.{Stop}
 use Rattle.cli_parts.specs.declared.stop.Stop.TheVariants.{Memory, Unread, Unreadable, Refused}
