@@ -58,7 +58,7 @@ pub record AuditsFiles (holds : List ℕ → Option (List ℕ)) (order token : L
   pub token_fetched : IsFetched holds token token_file
   pub answers : AuditAnswers order_file token_file reply
 
--- the words ask for an order file and a token file
+-- the words ask for an order file and a token file, by their names
 abbrev pub AuditEnds : List (List ℕ) → Outside → Outside → Status → Type 0
 AuditEnds words before after status =
-    RunEnds (λ names. IsAudit words names.0 names.1) (λ names reply. AuditsFiles before.holds names.0 names.1 reply) (λ names word missed. MissesWord (names.0 ∷ names.1 ∷ []) word missed) before after status
+    RunEnds {Asked = List ℕ × List ℕ} (λ names. IsAudit words names.0 names.1) (λ names reply. AuditsFiles before.holds names.0 names.1 reply) (λ names word missed. MissesWord (names.0 ∷ names.1 ∷ []) word missed) before after status

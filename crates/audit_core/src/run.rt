@@ -96,6 +96,5 @@ pub fn run_audit<C: Cabinet, O: Sink, E: Sink>(
     let Some((order, token)) = audit_words(words) else {
         return tell(err, "usage\n", Status::Usage);
     };
-    let answer = answer(alloc, cab, order, token);
-    finish(alloc, answer, out, err)
+    finish(alloc, answer(alloc, cab, order, token), out, err)
 }

@@ -89,6 +89,5 @@ pub fn run<C: Cabinet, O: Sink, E: Sink>(
     let Some(command) = Command::of(words) else {
         return tell(err, "usage\n", Status::Usage);
     };
-    let answer = answer(alloc, cab, command, now);
-    finish(alloc, answer, out, err)
+    finish(alloc, answer(alloc, cab, command, now), out, err)
 }

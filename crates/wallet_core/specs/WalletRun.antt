@@ -64,7 +64,7 @@ pub record PicksFromFiles (holds : List ℕ → Option (List ℕ)) (query : List
   pub all_fetched : AllZip (IsFetched holds) tokens held
   pub answers : WalletAnswers query_file held reply
 
--- the words ask for a query file and token files
+-- the words ask for a query file and token files, by their names
 abbrev pub WalletEnds : List (List ℕ) → Outside → Outside → Status → Type 0
 WalletEnds words before after status =
-    RunEnds (λ names. IsWallet words names.0 names.1) (λ names reply. PicksFromFiles before.holds names.0 names.1 reply) (λ names word missed. MissesWord (names.0 ∷ names.1) word missed) before after status
+    RunEnds {Asked = List ℕ × List (List ℕ)} (λ names. IsWallet words names.0 names.1) (λ names reply. PicksFromFiles before.holds names.0 names.1 reply) (λ names word missed. MissesWord (names.0 ∷ names.1) word missed) before after status

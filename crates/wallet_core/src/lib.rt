@@ -18,3 +18,4 @@ pub use error::WalletError;
 pub use query::{CredentialList, Equal, EqualList, Query};
 pub use query_file::{QueryFile, read_query};
 pub use run::{answer_files, run_wallet};
+pub use words::TOKENS_MAX;

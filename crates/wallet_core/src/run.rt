@@ -165,6 +165,5 @@ pub fn run_wallet<C: Cabinet, O: Sink, E: Sink>(
     let Some((query, tokens)) = wallet_words(words) else {
         return tell(err, "usage\n", Status::Usage);
     };
-    let answer = fetch_answer(alloc, cab, query, tokens);
-    finish(alloc, answer, out, err)
+    finish(alloc, fetch_answer(alloc, cab, query, tokens), out, err)
 }
