@@ -16,6 +16,7 @@ SEEN_BY_C = {
     "u32": ["uint32_t"],
     "u64": ["uint64_t"],
     "&[u8]": ["const uint8_t *", "size_t"],
+    "&[usize]": ["const size_t *", "size_t"],
     "&mut [u8]": ["uint8_t *", "size_t"],
     "&mut usize": ["size_t *"],
     "&mut SdjwtPolicy": ["sdjwt_policy *"],

@@ -1,8 +1,8 @@
 /*
  * sdjwt: SD-JWT (RFC 9901) for C, by the proved library.
  *
- * Each function is one command of the program sdjwt, over the bytes of its files in the place of their names. What the
- * files are to have in them stands in docs/FILES.md, and docs/REFUSALS.md has each number by which a call refuses. The
+ * Each function is one command of the program sdjwt, or of sdjwt_tools, over the bytes of its files in the place of their
+ * names. What the files are to have in them stands in docs/FILES.md, and docs/REFUSALS.md has each number by which a call refuses. The
  * library reads no file, no clock and no environment, keeps nothing between two calls, and writes nothing but what its
  * parameters point to.
  *
@@ -70,6 +70,9 @@ extern "C" {
 #define SDJWT_FLAT 1
 #define SDJWT_GENERAL 2
 
+/* The most tokens of a call of sdjwt_wallet. */
+#define SDJWT_TOKENS 64
+
 /* A status. */
 typedef uint8_t sdjwt_status;
 
@@ -112,6 +115,26 @@ SDJWT_CHECKED sdjwt_status sdjwt_split(const uint8_t *token, size_t token_len,
  */
 SDJWT_CHECKED sdjwt_status sdjwt_convert(uint8_t form, const uint8_t *token, size_t token_len,
                                          uint8_t *out, size_t room, size_t *len);
+
+/*
+ * Audits a token for the order that it was issued for, as who has no seed can: the answer is the line "yes" where the
+ * token is what the order asks for, signed with its key. Else the status is SDJWT_REFUSED, with the first that differs.
+ */
+SDJWT_CHECKED sdjwt_status sdjwt_audit(const uint8_t *order, size_t order_len,
+                                       const uint8_t *token, size_t token_len,
+                                       uint8_t *out, size_t room, size_t *len);
+
+/*
+ * Shows, of the tokens that a holder has, the one that answers a query with the fewest disclosures. The tokens stand one
+ * behind the other with nothing between them, and their lengths in `lengths`, 1 to SDJWT_TOKENS of them, which make the
+ * whole of `tokens_len`: with others the status is SDJWT_USAGE. The answer has two lines, the number of the token,
+ * counted from 0, as "credential 1\n", and the text of what is shown. Where no token answers the query, the status is
+ * SDJWT_REFUSED.
+ */
+SDJWT_CHECKED sdjwt_status sdjwt_wallet(const uint8_t *query, size_t query_len,
+                                        const uint8_t *tokens, size_t tokens_len,
+                                        const size_t *lengths, size_t count,
+                                        uint8_t *out, size_t room, size_t *len);
 
 /*
  * A handle of a policy that is read once. Begin with SDJWT_POLICY_INIT, look at no field, and end with

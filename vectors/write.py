@@ -208,15 +208,21 @@ def names_of(path):
     return names
 
 
-def table(path, names):
-    """The vectors of a table."""
+def table(path, names, most=MOST_BYTES):
+    """The vectors of a table, without those of which the files have more bytes."""
     vectors = []
     for number, about, row in rows_of(path, names):
         vector = vector_of(row)
-        if vector is None or sum(len(text) for text in vector["files"].values()) > MOST_BYTES:
+        if vector is None or sum(len(text) for text in vector["files"].values()) > most:
             continue
         vectors.append({"name": f"{path.stem} {number}", "about": about, **vector})
     return vectors
+
+
+def of_tools():
+    """The vectors of the audit and of the wallet, for tests of a library that has them. They are not among those of this folder."""
+    names = names_of(DATA / "names.txt")
+    return [vector for name in ("audits.rows", "wallet.rows") for vector in table(DATA / name, names, 2**30)]
 
 
 def written(vectors):

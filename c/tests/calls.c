@@ -12,11 +12,12 @@
 #include <stdlib.h>
 #include <string.h>
 
-enum { ISSUE, PRESENT, VERIFY, SHOW, SPLIT, CONVERT };
+enum { ISSUE, PRESENT, VERIFY, SHOW, SPLIT, CONVERT, AUDIT, WALLET };
 
 #define NO_FILE UINT64_MAX
 #define FILES 16
 #define RUNS 16
+#define READ (1 + SDJWT_TOKENS)
 #define BEHIND 8
 #define OWN_STACK (32 * 1024)
 #define FILL 0xA5
@@ -27,7 +28,7 @@ struct text {
 };
 
 struct run {
-    uint64_t command, form, first, second, kept, now;
+    uint64_t command, form, count, read[READ], kept, now;
 };
 
 struct vector {
@@ -53,15 +54,32 @@ static void *room_of(size_t size) {
     return room;
 }
 
+/* The wallet over its query and its tokens, which are laid one behind the other. */
+static sdjwt_status ask_wallet(const struct run *run, const struct text *files, uint8_t *out, size_t room, size_t *len) {
+    struct text query = files[run->read[0]];
+    size_t lengths[SDJWT_TOKENS], count = run->count - 1, whole = 0;
+    for (size_t i = 0; i < count; i++) whole += lengths[i] = files[run->read[i + 1]].len;
+    uint8_t *tokens = room_of(whole);
+    size_t *just = room_of(count * sizeof *just);
+    memcpy(just, lengths, count * sizeof *just);
+    for (size_t i = 0, at = 0; i < count; at += lengths[i++]) memcpy(tokens + at, files[run->read[i + 1]].bytes, lengths[i]);
+    sdjwt_status status = sdjwt_wallet(query.bytes, query.len, tokens, whole, just, count, out, room, len);
+    free(tokens);
+    free(just);
+    return status;
+}
+
 static sdjwt_status call(const struct run *run, const struct text *files, uint8_t *out, size_t room, size_t *len) {
-    struct text a = files[run->first];
-    struct text b = run->second == NO_FILE ? a : files[run->second];
+    struct text a = files[run->read[0]];
+    struct text b = files[run->read[run->count - 1]];
     switch (run->command) {
     case ISSUE: return sdjwt_issue(a.bytes, a.len, b.bytes, b.len, out, room, len);
     case PRESENT: return sdjwt_present(a.bytes, a.len, b.bytes, b.len, run->now, out, room, len);
     case VERIFY: return sdjwt_verify(a.bytes, a.len, b.bytes, b.len, run->now, out, room, len);
     case SHOW: return sdjwt_show(a.bytes, a.len, out, room, len);
     case SPLIT: return sdjwt_split(a.bytes, a.len, out, room, len);
+    case AUDIT: return sdjwt_audit(a.bytes, a.len, b.bytes, b.len, out, room, len);
+    case WALLET: return ask_wallet(run, files, out, room, len);
     default: return sdjwt_convert((uint8_t)run->form, a.bytes, a.len, out, room, len);
     }
 }
@@ -112,7 +130,7 @@ static void other_rooms(const char *name, const struct run *run, const struct te
 /* The same verification behind a handle, twice. */
 static void behind_handle(const char *name, const struct run *run, const struct text *files, sdjwt_status due, struct text answer) {
     sdjwt_policy handle = SDJWT_POLICY_INIT;
-    struct text policy = files[run->first], token = files[run->second];
+    struct text policy = files[run->read[0]], token = files[run->read[1]];
     size_t room = answer.len, len;
     uint8_t *out = room_of(room);
     sdjwt_status status = sdjwt_policy_new(&handle, policy.bytes, policy.len, out, room, &len);
@@ -169,14 +187,31 @@ static void *run_vectors(void *stride) {
 static void empty_inputs(void) {
     static const uint8_t none[1] = {0};
     struct text files[2] = {{none, 0}, {none, 0}};
-    for (uint64_t command = ISSUE; command <= CONVERT; command++) {
-        struct run run = {command, 0, 0, command <= VERIFY ? 1 : NO_FILE, NO_FILE, 0};
+    for (uint64_t command = ISSUE; command <= WALLET; command++) {
+        int of_two = command < SHOW || command > CONVERT;
+        struct run run = {command, 0, of_two ? 2 : 1, {0, 1}, NO_FILE, 0};
         struct text answer;
         sdjwt_status status = whole(&run, files, &answer);
-        CHECK(status == (command <= VERIFY ? SDJWT_UNREADABLE : SDJWT_REFUSED), "no bytes");
+        CHECK(status == (of_two ? SDJWT_UNREADABLE : SDJWT_REFUSED), "no bytes");
         other_rooms("no bytes", &run, files, status, answer);
         free((void *)answer.bytes);
     }
+}
+
+/* Lengths that are not those of 1 to 64 tokens, or not of all of the text. */
+static void rules_of_lengths(void) {
+    static const size_t bad[][3] = {{3, 3, 0}, {4, 4, 0}, {SIZE_MAX, 8, 0}, {8, 0, SIZE_MAX}, {0, 0, 0}, {7, 1, SIZE_MAX}};
+    const uint8_t *query = (const uint8_t *)"{}", *tokens = (const uint8_t *)"a.b.c~d";
+    size_t many[SDJWT_TOKENS + 1] = {7}, len;
+    uint8_t line[128];
+    for (size_t i = 0; i < sizeof bad / sizeof *bad; i++) {
+        len = 1;
+        CHECK(sdjwt_wallet(query, 2, tokens, 7, bad[i], 3, line, sizeof line, &len) == SDJWT_USAGE && len == 0, "other lengths");
+    }
+    CHECK(sdjwt_wallet(query, 2, tokens, 7, many, SDJWT_TOKENS + 1, line, sizeof line, &len) == SDJWT_USAGE && len == 0, "too many");
+    CHECK(sdjwt_wallet(query, 2, tokens, 7, many, 0, line, sizeof line, &len) == SDJWT_USAGE && len == 0, "none");
+    CHECK(sdjwt_wallet(query, 2, tokens, 0, many, 0, line, sizeof line, &len) == SDJWT_USAGE && len == 0, "none of nothing");
+    CHECK(sdjwt_wallet(query, 2, tokens, 7, many, SDJWT_TOKENS, line, sizeof line, &len) == SDJWT_UNREADABLE, "as many as may be");
 }
 
 /* What breaks a rule, and what a handle holds. */
@@ -274,8 +309,9 @@ static void read_vectors(const char *name) {
             struct run *run = &vector->runs[j];
             run->command = number();
             run->form = number();
-            run->first = number();
-            run->second = number();
+            run->count = number();
+            CHECK(0 < run->count && run->count <= READ, "room for what a run reads");
+            for (uint64_t k = 0; k < run->count; k++) run->read[k] = number();
             run->kept = number();
             run->now = number();
         }
@@ -312,11 +348,12 @@ int main(int count, char **words) {
     CHECK(sizeof(sdjwt_policy) == sizeof(void *), "a handle is one pointer");
     read_vectors(words[1]);
     empty_inputs();
+    rules_of_lengths();
     for (int refused = 0; refused < 2; refused++) {
         const struct vector *vector = verifying(refused ? SDJWT_REFUSED : SDJWT_DONE);
         const struct run *run = &vector->runs[0];
-        rules_of_handles(vector->files[run->first], vector->files[run->second], run->now);
-        hand_over(vector->files[run->first]);
+        rules_of_handles(vector->files[run->read[0]], vector->files[run->read[1]], run->now);
+        hand_over(vector->files[run->read[0]]);
     }
     size_t none = 0;
     run_vectors(&none);

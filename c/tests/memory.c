@@ -68,6 +68,17 @@ static void read_file(const char *folder, const char *name, struct text *into) {
 static sdjwt_policy handle = SDJWT_POLICY_INIT;
 #define NOW 1800000000
 
+/* The seat of the one of two tokens that has one and no key binding token: the first is what was shown with such a token. */
+static sdjwt_status ask_wallet(struct text *out) {
+    static const char query[] = "{\"keys\": {\"keys\": [{\"kty\": \"oct\", \"kid\": \"tickets-1\","
+                                " \"k\": \"dGhlIHRpY2tldCBvZmZpY2Uga2V5LCBub3QgeW91cnM\"}]}, \"want\": [\"/seat\"]}";
+    static uint8_t tokens[2 * ROOM];
+    size_t lengths[] = {shown.len, token.len};
+    memcpy(tokens, shown.bytes, shown.len);
+    memcpy(tokens + shown.len, token.bytes, token.len);
+    return sdjwt_wallet((const uint8_t *)query, strlen(query), tokens, shown.len + token.len, lengths, 2, out->bytes, ROOM, &out->len);
+}
+
 static sdjwt_status call(int which, struct text *out) {
     switch (which) {
     case 0: return sdjwt_issue(order.bytes, order.len, seed.bytes, seed.len, out->bytes, ROOM, &out->len);
@@ -78,11 +89,13 @@ static sdjwt_status call(int which, struct text *out) {
     case 5: return sdjwt_convert(SDJWT_GENERAL, token.bytes, token.len, out->bytes, ROOM, &out->len);
     case 6: return sdjwt_policy_new(&handle, policy.bytes, policy.len, out->bytes, ROOM, &out->len);
     case 7: return sdjwt_policy_verify(&handle, shown.bytes, shown.len, NOW, out->bytes, ROOM, &out->len);
+    case 8: return sdjwt_audit(order.bytes, order.len, token.bytes, token.len, out->bytes, ROOM, &out->len);
+    case 9: return ask_wallet(out);
     default: return sdjwt_verify(policy.bytes, policy.len, token.bytes, token.len, NOW, out->bytes, ROOM, &out->len);
     }
 }
 
-#define CALLS 9
+#define CALLS 11
 
 int main(int count, char **words) {
     static struct text due, out;
@@ -96,7 +109,7 @@ int main(int count, char **words) {
     for (int which = 0; which < CALLS; which++) {
         refused = 0;
         sdjwt_status status = call(which, &due);
-        CHECK(status == (which == 8 ? SDJWT_REFUSED : SDJWT_DONE), "the call");
+        CHECK(status == (which == CALLS - 1 ? SDJWT_REFUSED : SDJWT_DONE), "the call");
         long held = taken;
         CHECK(which == 6 || which == 7 ? held > 0 : held == 0, "what it keeps");
         for (refused = 1;; refused++) {

@@ -1,13 +1,11 @@
--- The words of an audit, and from the answer over two files to that over what the cabinet holds.
-use Rattle.std.proofs.Common.{◌≡◌, ◌≢◌, ℕ, ◌+◌, ◌≤◌, ◌<◌, length, List, [], ◌∷◌, Bool, true, Option, Ok, Err, Result, String, Global, map, get_or, take, string_bytes, IfOk, IfErr, IfSome, subst, sym, refl, ap, ◌∙◌, arith}
+-- The words of an audit, what refuses a token with its line, and the bytes of a file.
+use Rattle.std.proofs.Common.{◌≡◌, ◌≢◌, ℕ, ◌+◌, ◌≤◌, ◌<◌, length, List, [], ◌∷◌, Bool, true, Option, String, Global, map, get_or, take, string_bytes, IfSome, subst, sym, refl, ap, ◌∙◌, arith}
 use Rattle.std.specs.Prelude.{bytes_eq}
 use Rattle.std.proofs.lemmas.Slice.Eq.{bytes_eq-Decides}
 use Rattle.sd_outside.specs.Limits.{file_max}
 use Rattle.claim_tree.specs.Tree.{Text}
 use Rattle.cli_parts.specs.Lines.{line}
-use Rattle.cli_parts.specs.declared.stop.Stop.{Stop}
-use Rattle.cli_parts.specs.declared.stop.Stop.TheVariants.{Memory, Unread, Unreadable, Refused}
-use Rattle.cli_parts.specs.Stops.{OnRefused, OnUnreadable}
+use Rattle.cli_parts.specs.Runs.{IsFetched}
 use Rattle.hmac_sign.specs.Hmac.{IsGood}
 use Rattle.hmac_sign.specs.Signatures.{Meaning}
 use Rattle.hmac_sign.specs.declared.alg.Alg.{Alg}
@@ -19,7 +17,7 @@ use Rattle.audit_core.specs.declared.errors.AuditError.TheVariants.{Memory as On
 use Rattle.audit_core.specs.Audit.{FailsAudit}
 use Rattle.audit_core.specs.AuditCalls.{IsAuditRefused}
 use Rattle.audit_core.specs.AuditRefusal.{audit_refusal_text}
-use Rattle.audit_core.specs.AuditRun.{IsFetched, IsSoOfFiles, SaysNo}
+use Rattle.audit_core.specs.AuditRun.{SaysNo}
 
 -- three words, of which the first is this name
 pub three_words : (words : List (String Global)) (a b c : String Global) (said order token name : List ℕ) (same : Bool) → 3 ≤ length words → length words < 4
@@ -60,28 +58,3 @@ pub fetched : (holds later : List ℕ → Option (List ℕ)) (name file bytes : 
 fetched holds later name file bytes held same f =
     subst (λ (x : Option (List ℕ)). IfSome x (λ content. bytes ≡ take (file_max + 1) content)) held
     (subst (λ (x : List ℕ). IfSome (later name) (λ content. x ≡ take (file_max + 1) content)) (sym same) f)
-
-module _ (holds : List ℕ → Option (List ℕ)) (order token order_file token_file : List ℕ) (first : IsFetched holds order order_file) (second : IsFetched holds token token_file) where
-  so : (IsSo : List ℕ → List ℕ → Type 0) → IsSo order_file token_file → IsSoOfFiles holds order token IsSo
-  so IsSo h = record { order_file = order_file; token_file = token_file; order_fetched = first; token_fetched = second; is_so = h }
-
-  pub lift_yes : (Says : List ℕ → List ℕ → List ℕ → Type 0) (r : Result (String Global) Stop) → IfOk r (λ text. Says order_file token_file (string_bytes text))
-      → IfOk r (λ text. IsSoOfFiles holds order token (λ o t. Says o t (string_bytes text)))
-  lift_yes Says (Ok text) h = so (λ o t. Says o t (string_bytes text)) h
-  lift_yes Says (Err stop) h = tt
-
-  pub lift_no : (Says : List ℕ → List ℕ → List ℕ → Type 0) (r : Result (String Global) Stop) → IfErr r (λ stop. OnRefused stop (Says order_file token_file))
-      → IfErr r (λ stop. OnRefused stop (λ text. IsSoOfFiles holds order token (λ o t. Says o t text)))
-  lift_no Says (Ok text) h = tt
-  lift_no Says (Err Memory) h = tt
-  lift_no Says (Err (Unread word)) h = tt
-  lift_no Says (Err (Unreadable text)) h = tt
-  lift_no Says (Err (Refused text)) h = so (λ o t. Says o t (string_bytes text)) h
-
-  pub lift_unreadable : (Says : List ℕ → List ℕ → List ℕ → Type 0) (r : Result (String Global) Stop) → IfErr r (λ stop. OnUnreadable stop (Says order_file token_file))
-      → IfErr r (λ stop. OnUnreadable stop (λ text. IsSoOfFiles holds order token (λ o t. Says o t text)))
-  lift_unreadable Says (Ok text) h = tt
-  lift_unreadable Says (Err Memory) h = tt
-  lift_unreadable Says (Err (Unread word)) h = tt
-  lift_unreadable Says (Err (Unreadable text)) h = so (λ o t. Says o t (string_bytes text)) h
-  lift_unreadable Says (Err (Refused text)) h = tt

@@ -1,12 +1,10 @@
--- What a run of the audit does to the outside, by the status with which it ends.
-use Rattle.std.specs.Prelude.{◌≡◌, ◌≤◌, ◌+◌, ℕ, zero, suc, List, [], ◌∷◌, Option, Some, IfSome, take, codes}
-use Rattle.std.specs.Io.KnownBytes.{Appends}
-use Rattle.sd_outside.specs.Causes.{Rose, AppendsPrefix}
-use Rattle.sd_outside.specs.Limits.{file_max}
+-- What a run of the audit answers, and does to the outside.
+use Rattle.std.specs.Prelude.{◌≡◌, ℕ, List, [], ◌∷◌, Option, codes}
 use Rattle.sd_outside.specs.declared.status.Status.{Status}
-use Rattle.sd_outside.specs.declared.status.Status.TheVariants.{Done, Refused, Usage, Unread, Unwritten, Memory, Unreadable}
-use Rattle.cli_parts.specs.Lines.{line, unread_text}
-use Rattle.cli_parts.specs.Outside.{Outside, Tells}
+use Rattle.cli_parts.specs.Lines.{line}
+use Rattle.cli_parts.specs.Outside.{Outside}
+use Rattle.cli_parts.specs.Replies.{Reply, Replies}
+use Rattle.cli_parts.specs.Runs.{IsFetched, MissesWord, RunEnds}
 use Rattle.cli_parts.specs.Telling.{TellsFileFault}
 use Rattle.hmac_sign.specs.Hmac.{AlgKey, IsGood}
 use Rattle.issuer_core.specs.Order.{Order, order_of}
@@ -42,9 +40,9 @@ pub record SaysNo (order_file token_file text : List ℕ) : Type 0 where
   pub fails : FailsAudit order key.alg (IsGood key) token_file error
   pub line_is : text ≡ line (audit_refusal_text error)
 
--- the order file is not of its form, with this line
-abbrev pub HasNoAudit : List ℕ → List ℕ → List ℕ → Type 0
-HasNoAudit order_file token_file text = TellsFileFault (IsOrderFileRefused order_file) text
+-- or the order file is not of its form
+abbrev pub AuditAnswers : List ℕ → List ℕ → Reply → Type 0
+AuditAnswers order_file token_file reply = Replies (SaysYes order_file token_file) (SaysNo order_file token_file) (TellsFileFault (IsOrderFileRefused order_file)) reply
 
 -- ---- over what the cabinet holds
 
@@ -52,91 +50,15 @@ HasNoAudit order_file token_file text = TellsFileFault (IsOrderFileRefused order
 abbrev pub IsAudit : List (List ℕ) → List ℕ → List ℕ → Type 0
 IsAudit words order token = words ≡ codes "audit" ∷ order ∷ token ∷ []
 
--- what a fetch answers of a file, where the cabinet tells it
-abbrev pub IsFetched : (List ℕ → Option (List ℕ)) → List ℕ → List ℕ → Type 0
-IsFetched holds name file = IfSome (holds name) (λ content. file ≡ take (file_max + 1) content)
-
--- this is so of the two files with these names
-pub record IsSoOfFiles (holds : List ℕ → Option (List ℕ)) (order token : List ℕ) (IsSo : List ℕ → List ℕ → Type 0) : Type 0 where
+-- the reply over the files with these names
+pub record AuditsFiles (holds : List ℕ → Option (List ℕ)) (order token : List ℕ) (reply : Reply) : Type 0 where
   pub order_file : List ℕ
   pub token_file : List ℕ
   pub order_fetched : IsFetched holds order order_file
   pub token_fetched : IsFetched holds token token_file
-  pub is_so : IsSo order_file token_file
+  pub answers : AuditAnswers order_file token_file reply
 
--- the words are those of an audit, and this is so of its two files
-pub record IsSoOf (words : List (List ℕ)) (before : Outside) (IsSo : List ℕ → List ℕ → Type 0) : Type 0 where
-  pub order : List ℕ
-  pub token : List ℕ
-  pub named : IsAudit words order token
-  pub files : IsSoOfFiles before.holds order token IsSo
-
--- ---- the statuses
-
-pub record AuditDone (words : List (List ℕ)) (before after : Outside) : Type 0 where
-  pub answer : List ℕ
-  pub answered : IsSoOf words before (λ order token. SaysYes order token answer)
-  pub out : Appends before.out.written after.out.written answer
-  pub err : after.err.written ≡ before.err.written
-
--- a line on `err`, and nothing on `out`
-pub record AuditTold (words : List (List ℕ)) (before after : Outside) (Says : List ℕ → List ℕ → List ℕ → Type 0) : Type 0 where
-  pub text : List ℕ
-  pub answered : IsSoOf words before (λ order token. Says order token text)
-  pub out : after.out.written ≡ before.out.written
-  pub err : Tells before.err after.err text
-
-pub record AuditUsage (words : List (List ℕ)) (before after : Outside) : Type 0 where
-  pub none : (order token : List ℕ) → IsAudit words order token → ⊥
-  pub out : after.out.written ≡ before.out.written
-  pub err : Tells before.err after.err (line (codes "usage"))
-
--- the name that was missed is that of the file of this word
-abbrev pub IsMissed : List ℕ → List ℕ → ℕ → List ℕ → Type 0
-IsMissed order token zero name = name ≡ order
-IsMissed order token (suc word) name = name ≡ token
-
--- the cabinet failed at the file of this word
-pub record AuditUnread (words : List (List ℕ)) (before after : Outside) : Type 0 where
-  pub order : List ℕ
-  pub token : List ℕ
-  pub named : IsAudit words order token
-  pub word : ℕ
-  pub name : List ℕ
-  pub is_name : IsMissed order token word name
-  pub missed : after.missed ≡ Some name
-  pub rose : Rose before.faults after.faults
-  pub out : after.out.written ≡ before.out.written
-  pub err : Tells before.err after.err (unread_text word)
-
--- `out` failed at an answer that was due
-pub record AuditUnwritten (words : List (List ℕ)) (before after : Outside) : Type 0 where
-  pub answer : List ℕ
-  pub answered : IsSoOf words before (λ order token. SaysYes order token answer)
-  pub rose : Rose before.out.faults after.out.faults
-  pub out : AppendsPrefix before.out.written after.out.written answer
-  pub err : Tells before.err after.err (line (codes "unwritten"))
-
--- there was no memory: this may come of any audit, and of no other words
-pub record AuditMemory (words : List (List ℕ)) (before after : Outside) : Type 0 where
-  pub order : List ℕ
-  pub token : List ℕ
-  pub named : IsAudit words order token
-  pub out : after.out.written ≡ before.out.written
-  pub err : Tells before.err after.err (line (codes "memory"))
-
+-- the words ask for an order file and a token file, by their names
 abbrev pub AuditEnds : List (List ℕ) → Outside → Outside → Status → Type 0
-AuditEnds words before after Done = AuditDone words before after
-AuditEnds words before after Refused = AuditTold words before after SaysNo
-AuditEnds words before after Usage = AuditUsage words before after
-AuditEnds words before after Unread = AuditUnread words before after
-AuditEnds words before after Unwritten = AuditUnwritten words before after
-AuditEnds words before after Memory = AuditMemory words before after
-AuditEnds words before after Unreadable = AuditTold words before after HasNoAudit
-
--- what each run leaves
-pub record AuditKeeps (before after : Outside) : Type 0 where
-  pub held : (name : List ℕ) → after.holds name ≡ before.holds name
-  pub later : before.faults ≤ after.faults
-  pub out_later : before.out.faults ≤ after.out.faults
-  pub err_later : before.err.faults ≤ after.err.faults
+AuditEnds words before after status =
+    RunEnds {Asked = List ℕ × List ℕ} (λ names. IsAudit words names.0 names.1) (λ names reply. AuditsFiles before.holds names.0 names.1 reply) (λ names word missed. MissesWord (names.0 ∷ names.1 ∷ []) word missed) before after status

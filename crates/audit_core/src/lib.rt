@@ -2,6 +2,7 @@
 //!
 //! [`audit`] judges six parts, in this order: what is signed (`signed`), how it is written (`written`, `compact`), what it shows (`claims`, `same`),
 //! its digests (`sites`, `found`), the places of its decoys (`places`, `standing`, `wanted`), and the order of its digests (`sorted`).
+//! [`audit_files`] does so over the bytes of two files, and [`run_audit`] over files and two sinks.
 #![tactic(auto)]
 
 mod auditing;
@@ -24,4 +25,4 @@ mod written;
 pub use auditing::audit;
 pub use errors::AuditError;
 pub use refusal::refusal_line;
-pub use run::run_audit;
+pub use run::{audit_files, run_audit};

@@ -1,28 +1,27 @@
 // A run of the audit.
-ghost use Rattle.std.specs.Prelude.{◌≡◌, ◌≤◌, ◌+◌, ℕ, List, Some, map, take, IfOk, IfErr, IfSome, string_bytes};
+ghost use Rattle.std.specs.Prelude.{◌≡◌, ◌≤◌, ℕ, List, [], ◌∷◌, None, map, IfErr, IfSome, string_bytes};
 ghost use Rattle.sd_outside.specs.Causes.{Rose};
 ghost use Rattle.claim_tree.specs.Tree.{IsRanged, depth};
 ghost use Rattle.claim_tree.specs.View.{tree_of};
 ghost use Rattle.cli_parts.specs.Outside.{outside, stream};
-ghost use Rattle.cli_parts.specs.Stops.{OnRefused, OnUnread, OnUnreadable};
+ghost use Rattle.cli_parts.specs.Runs.{MissesWord, RunKeeps};
+ghost use Rattle.cli_parts.specs.Stops.{IsReply, OnUnread};
 ghost use Rattle.issuer_core.specs.OrderFile.{IsOrderFile};
-ghost use Rattle.audit_core.specs.AuditRun.{AuditEnds, AuditKeeps, HasNoAudit, IsAudit, IsMissed, IsSoOfFiles, SaysNo, SaysYes};
+ghost use Rattle.audit_core.specs.AuditRun.{AuditAnswers, AuditEnds, AuditsFiles, IsAudit};
 
 use crate::{AuditError, audit, refusal_line};
-use cli_parts::{FETCH_MAX, Stop, as_line, fetch_file, tell, unread_line, unreadable};
+use cli_parts::{FETCH_MAX, Stop, as_line, fetch_file, finish, tell, unreadable};
 use digest_index::Steps;
 use hmac_sign::Signer;
 use issuer_core::{IssueFile, read_order};
-use sd_outside::{Cabinet, Failed, Sink, Status, TextBox};
+use sd_outside::{Cabinet, Sink, Status, TextBox};
 use std::alloc::Global;
 
 // The answer for what an order file says.
 fn audit_for(alloc: Global, asked: &IssueFile, token_file: &[u8]) -> Result<String, Stop>
     requires depth { depth (tree_of asked.now.order.payload) ≤ 127 }
     requires ranged { IsRanged (tree_of asked.now.order.payload) }
-    ensures yes { (order_file : List ℕ) → IsOrderFile order_file asked.now → IfOk result (λ text. SaysYes order_file token_file.now (string_bytes text)) }
-    ensures no { (order_file : List ℕ) → IsOrderFile order_file asked.now → IfErr result (λ stop. OnRefused stop (SaysNo order_file token_file.now)) }
-    ensures readable { IfErr result (λ stop. OnUnreadable stop (λ _. ⊥)) }
+    ensures replies { (order_file : List ℕ) → IsOrderFile order_file asked.now → IsReply (AuditAnswers order_file token_file.now) result }
     ensures read { IfErr result (λ stop. OnUnread stop (λ _. ⊥)) }
 {
     let key = &asked.key;
@@ -40,11 +39,9 @@ fn audit_for(alloc: Global, asked: &IssueFile, token_file: &[u8]) -> Result<Stri
     }
 }
 
-// The answer to an order file and a token file.
-fn audit_files(alloc: Global, order_file: &[u8], token_file: &[u8]) -> Result<String, Stop>
-    ensures yes { IfOk result (λ text. SaysYes order_file.now token_file.now (string_bytes text)) }
-    ensures no { IfErr result (λ stop. OnRefused stop (SaysNo order_file.now token_file.now)) }
-    ensures unreadable { IfErr result (λ stop. OnUnreadable stop (HasNoAudit order_file.now token_file.now)) }
+/// The answer to an order file and a token file: the line `yes`, where the token is what the order asks for, signed with its key.
+pub fn audit_files(alloc: Global, order_file: &[u8], token_file: &[u8]) -> Result<String, Stop>
+    ensures replies { IsReply (AuditAnswers order_file.now token_file.now) result }
     ensures read { IfErr result (λ stop. OnUnread stop (λ _. ⊥)) }
 {
     match read_order(alloc, order_file) {
@@ -55,10 +52,8 @@ fn audit_files(alloc: Global, order_file: &[u8], token_file: &[u8]) -> Result<St
 
 // The answer over the files that the cabinet has under these names.
 fn answer<C: Cabinet>(alloc: Global, cab: &mut C, order: &str, token: &str) -> Result<String, Stop>
-    ensures yes { IfOk result (λ text. IsSoOfFiles (C.holds cab.old) order.now token.now (λ o t. SaysYes o t (string_bytes text))) }
-    ensures no { IfErr result (λ stop. OnRefused stop (λ text. IsSoOfFiles (C.holds cab.old) order.now token.now (λ o t. SaysNo o t text))) }
-    ensures unreadable { IfErr result (λ stop. OnUnreadable stop (λ text. IsSoOfFiles (C.holds cab.old) order.now token.now (λ o t. HasNoAudit o t text))) }
-    ensures misses { IfErr result (λ stop. OnUnread stop (λ word. (name : List ℕ) × IsMissed order.now token.now word name × (C.missed cab.new ≡ Some name))) }
+    ensures replies { IsReply (AuditsFiles (C.holds cab.old) order.now token.now) result }
+    ensures misses { IfErr result (λ stop. OnUnread stop (λ word. MissesWord (order.now ∷ token.now ∷ []) word (C.missed cab.new))) }
     ensures rose { IfErr result (λ stop. OnUnread stop (λ _. Rose (C.faults cab.old) (C.faults cab.new))) }
     ensures held { (name : List ℕ) → C.holds cab.new name ≡ C.holds cab.old name }
     ensures later { C.faults cab.old ≤ C.faults cab.new }
@@ -94,37 +89,12 @@ pub fn run_audit<C: Cabinet, O: Sink, E: Sink>(
         (outside (C.holds cab.old) (C.missed cab.old) (C.faults cab.old) (stream (O.written out.old) (O.faults out.old)) (stream (E.written err.old) (E.faults err.old)))
         (outside (C.holds cab.new) (C.missed cab.new) (C.faults cab.new) (stream (O.written out.new) (O.faults out.new)) (stream (E.written err.new) (E.faults err.new)))
         result }
-    ensures keeps { AuditKeeps
+    ensures keeps { RunKeeps
         (outside (C.holds cab.old) (C.missed cab.old) (C.faults cab.old) (stream (O.written out.old) (O.faults out.old)) (stream (E.written err.old) (E.faults err.old)))
         (outside (C.holds cab.new) (C.missed cab.new) (C.faults cab.new) (stream (O.written out.new) (O.faults out.new)) (stream (E.written err.new) (E.faults err.new))) }
 {
     let Some((order, token)) = audit_words(words) else {
-        tell(err, "usage\n");
-        return Status::Usage;
+        return tell(err, "usage\n", Status::Usage);
     };
-    match answer(alloc, cab, order, token) {
-        Ok(text) => match out.put(text.as_bytes()) {
-            Ok(()) => Status::Done,
-            Err(Failed) => {
-                tell(err, "unwritten\n");
-                Status::Unwritten
-            }
-        },
-        Err(Stop::Refused(line)) => {
-            tell(err, line.as_str());
-            Status::Refused
-        }
-        Err(Stop::Unread(word)) => {
-            tell(err, unread_line(word));
-            Status::Unread
-        }
-        Err(Stop::Unreadable(line)) => {
-            tell(err, line.as_str());
-            Status::Unreadable
-        }
-        Err(Stop::Memory) => {
-            tell(err, "memory\n");
-            Status::Memory
-        }
-    }
+    finish(alloc, answer(alloc, cab, order, token), out, err)
 }

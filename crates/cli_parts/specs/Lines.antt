@@ -1,5 +1,5 @@
 -- The lines on standard error.
-use Rattle.std.specs.Prelude.{zero, suc, ℕ, List, [], ◌∷◌, ◌++◌, codes}
+use Rattle.std.specs.Prelude.{◌+◌, ℕ, List, [], ◌∷◌, ◌++◌, codes}
 use Rattle.std.specs.Fmt.{decimal}
 use Rattle.claim_tree.specs.FileWords.{field_word}
 use Rattle.claim_tree.specs.declared.file_fault.FileFault.{FileFault}
@@ -16,8 +16,7 @@ refusal fault = line (fault_text fault)
 
 -- the line of a file that was not read: its word is counted behind the command, here from 0 and in print from 1
 abbrev pub unread_text : ℕ → List ℕ
-unread_text zero = line (codes "unread 1")
-unread_text (suc word) = line (codes "unread 2")
+unread_text word = line (codes "unread " ++ decimal (word + 1))
 
 -- why a file is not of its form; want of memory is no reason
 abbrev pub reason : FileFault → List ℕ

@@ -1,5 +1,8 @@
--- A fact for one reason why a command has no answer.
-use Rattle.std.specs.Prelude.{ℕ, List, string_bytes}
+-- A fact for one reason why a command has no answer, and for what it replies.
+use Rattle.std.specs.Prelude.{ℕ, List, Result, Ok, Err, string_bytes}
+use Rattle.std.specs.declared.alloc.Global.{Global}
+use Rattle.std.specs.declared.string.String.{String}
+use Rattle.cli_parts.specs.Replies.{Reply, gives, refuses, unreadable}
 use Rattle.cli_parts.specs.declared.stop.Stop.{Stop}
 use Rattle.cli_parts.specs.declared.stop.Stop.TheVariants.{Memory, Unread, Unreadable, Refused}
 
@@ -20,3 +23,11 @@ OnUnreadable Memory P = Unit {0}
 OnUnreadable (Unread word) P = Unit {0}
 OnUnreadable (Unreadable text) P = P (string_bytes text)
 OnUnreadable (Refused text) P = Unit {0}
+
+-- what was answered is such a reply; a file that was not read and want of memory are none
+abbrev pub IsReply : (Reply → Type 0) → Result (String Global) Stop → Type 0
+IsReply Is (Ok text) = Is (gives (string_bytes text))
+IsReply Is (Err (Refused text)) = Is (refuses (string_bytes text))
+IsReply Is (Err (Unreadable text)) = Is (unreadable (string_bytes text))
+IsReply Is (Err (Unread word)) = Unit {0}
+IsReply Is (Err Memory) = Unit {0}

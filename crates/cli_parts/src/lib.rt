@@ -1,5 +1,5 @@
-//! What the programs share around their commands: a file by its word, the policy of a file, why a command has no answer, and the
-//! line that tells it.
+//! What the programs share around their commands: a file by its word, the policy of a file, why a command has no answer, and how
+//! a run ends.
 #![tactic(auto)]
 
 mod files;
@@ -11,7 +11,7 @@ mod telling;
 
 pub use files::{FETCH_MAX, fetch_file};
 pub use host::{Ending, seconds, words};
-pub use lines::{as_line, refusal_line, short_seed_line, unread_line, unreadable_line};
+pub use lines::{as_line, refusal_line, short_seed_line, unreadable_line};
 pub use policy_file::policy_of;
 pub use stop::{Stop, refused, unreadable};
-pub use telling::tell;
+pub use telling::{finish, tell, tell_stop};

@@ -1,6 +1,6 @@
 // The lines that the program writes to standard error.
 ghost use Rattle.std.specs.Prelude.{◌≡◌, IfOk, string_bytes};
-ghost use Rattle.cli_parts.specs.Lines.{line, reason as reason_of, refusal, short_seed, unread_text, unreadable_line as line_of};
+ghost use Rattle.cli_parts.specs.Lines.{line, reason as reason_of, refusal, short_seed, unreadable_line as line_of};
 
 use claim_tree::FileFault;
 use compact_form::{Fault, fault_line};
@@ -21,16 +21,6 @@ pub fn refusal_line(alloc: Global, fault: &Fault) -> Result<String, NoMemory>
     ensures { IfOk result (λ text. string_bytes text ≡ refusal fault.now) }
 {
     as_line(fault_line(alloc, fault)?)
-}
-
-/// No command has more than two files.
-pub fn unread_line(word: usize) -> &'static str
-    ensures { result.now ≡ unread_text word }
-{
-    match word {
-        0 => "unread 1\n",
-        _ => "unread 2\n",
-    }
 }
 
 // Why a file is not of its form.

@@ -8,3 +8,4 @@ pub mod Endings
 pub mod AnyCut
 pub mod Pumping
 pub mod Completes
+mod Stopping

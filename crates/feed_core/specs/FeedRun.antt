@@ -1,12 +1,12 @@
 -- What a run of the feed does to the outside, by the status with which it ends.
-use Rattle.std.specs.Prelude.{◌≡◌, ◌<◌, ◌≤◌, ◌+◌, ℕ, List, [], ◌∷◌, Some, IfSome, take, codes}
+use Rattle.std.specs.Prelude.{◌≡◌, ◌<◌, ◌≤◌, ℕ, List, [], ◌∷◌, Some, codes}
 use Rattle.std.specs.Fmt.{decimal}
 use Rattle.sd_outside.specs.Causes.{Rose}
-use Rattle.sd_outside.specs.Limits.{file_max}
 use Rattle.sd_outside.specs.declared.status.Status.{Status}
 use Rattle.sd_outside.specs.declared.status.Status.TheVariants.{Done, Refused, Usage, Unread, Unwritten, Memory, Unreadable}
 use Rattle.cli_parts.specs.Lines.{line, unread_text}
 use Rattle.cli_parts.specs.Outside.{Outside, Tells}
+use Rattle.cli_parts.specs.Runs.{IsFetched, RunKeeps}
 use Rattle.cli_parts.specs.Telling.{TellsFileFault}
 use Rattle.verifier_core.specs.PolicyFile.{IsPolicyFile, IsPolicyFileRefused}
 use Rattle.verifier_core.specs.declared.policy.Policy.{Policy}
@@ -26,16 +26,12 @@ pub record IsFeed (words : List (List ℕ)) (policy : List ℕ) (most : ℕ) : T
   pub some : 0 < most
   pub within : most ≤ feed_max
 
--- what a fetch answers of the policy file, where the cabinet tells it
-abbrev pub IsFetched : FeedOutside → List ℕ → List ℕ → Type 0
-IsFetched before name file = IfSome (before.files.holds name) (λ content. file ≡ take (file_max + 1) content)
-
 -- the words are those of a feed, and its policy file says this policy
 pub record Asks (words : List (List ℕ)) (before : FeedOutside) (policy : Policy) (most : ℕ) : Type 0 where
   pub name : List ℕ
   pub named : IsFeed words name most
   pub file : List ℕ
-  pub fetched : IsFetched before name file
+  pub fetched : IsFetched before.files.holds name file
   pub is_policy : IsPolicyFile file policy
 
 -- nothing was taken, and nothing written
@@ -118,7 +114,7 @@ pub record FeedUnreadable (words : List (List ℕ)) (before after : FeedOutside)
   pub most : ℕ
   pub named : IsFeed words name most
   pub file : List ℕ
-  pub fetched : IsFetched before name file
+  pub fetched : IsFetched before.files.holds name file
   pub text : List ℕ
   pub told : TellsFileFault (IsPolicyFileRefused file) text
   pub untouched : Untouched before after
@@ -135,8 +131,5 @@ FeedEnds words before after now Unreadable = FeedUnreadable words before after
 
 -- what each run leaves
 pub record FeedKeeps (before after : FeedOutside) : Type 0 where
-  pub held : (name : List ℕ) → after.files.holds name ≡ before.files.holds name
-  pub later : before.files.faults ≤ after.files.faults
+  pub files : RunKeeps before.files after.files
   pub source_later : before.source.faults ≤ after.source.faults
-  pub out_later : before.files.out.faults ≤ after.files.out.faults
-  pub err_later : before.files.err.faults ≤ after.files.err.faults

@@ -1,8 +1,8 @@
 // A run of the feed.
-ghost use Rattle.std.specs.Prelude.{◌≡◌, ◌≤◌, ◌^◌, ◌+◌, ℕ, List, Some, map, take, IfOk, IfErr, IfSome, string_bytes};
+ghost use Rattle.std.specs.Prelude.{◌≡◌, ◌≤◌, ◌^◌, ℕ, List, Some, map, IfOk, IfErr, string_bytes};
 ghost use Rattle.sd_outside.specs.Causes.{Rose};
-ghost use Rattle.sd_outside.specs.Limits.{file_max};
 ghost use Rattle.cli_parts.specs.Outside.{outside, stream};
+ghost use Rattle.cli_parts.specs.Runs.{IsFetched};
 ghost use Rattle.cli_parts.specs.Stops.{OnRefused, OnUnread, OnUnreadable};
 ghost use Rattle.cli_parts.specs.Telling.{TellsFileFault};
 ghost use Rattle.verifier_core.specs.PolicyFile.{IsPolicyFile, IsPolicyFileRefused};
@@ -12,15 +12,15 @@ ghost use Rattle.feed_core.specs.FeedRun.{feed_outside, FeedEnds, FeedKeeps};
 use crate::Feed;
 use crate::pump::{Halt, pump};
 use crate::words::feed_words;
-use cli_parts::{FETCH_MAX, Stop, fetch_file, policy_of, tell, unread_line};
+use cli_parts::{FETCH_MAX, Stop, fetch_file, policy_of, tell, tell_stop};
 use sd_outside::{Cabinet, Sink, Source, Status};
 use std::alloc::Global;
 use verifier_core::Policy;
 
 // The policy of the file of this name.
 fn fetch_policy<C: Cabinet>(alloc: Global, cab: &mut C, name: &str) -> Result<Policy, Stop>
-    ensures policy { IfOk result (λ policy. (file : List ℕ) × IfSome (C.holds cab.old name.now) (λ content. file ≡ take (file_max + 1) content) × IsPolicyFile file policy) }
-    ensures unreadable { IfErr result (λ stop. OnUnreadable stop (λ text. (file : List ℕ) × IfSome (C.holds cab.old name.now) (λ content. file ≡ take (file_max + 1) content) × TellsFileFault (IsPolicyFileRefused file) text)) }
+    ensures policy { IfOk result (λ policy. (file : List ℕ) × IsFetched (C.holds cab.old) name.now file × IsPolicyFile file policy) }
+    ensures unreadable { IfErr result (λ stop. OnUnreadable stop (λ text. (file : List ℕ) × IsFetched (C.holds cab.old) name.now file × TellsFileFault (IsPolicyFileRefused file) text)) }
     ensures fit { IfErr result (λ stop. OnRefused stop (λ _. ⊥)) }
     ensures word { IfErr result (λ stop. OnUnread stop (λ word. word ≡ 0)) }
     ensures missed { IfErr result (λ stop. OnUnread stop (λ _. C.missed cab.new ≡ Some name.now)) }
@@ -60,42 +60,17 @@ pub fn run_feed<C: Cabinet, R: Source, O: Sink, E: Sink>(
         (feed_outside (outside (C.holds cab.new) (C.missed cab.new) (C.faults cab.new) (stream (O.written out.new) (O.faults out.new)) (stream (E.written err.new) (E.faults err.new))) (input (R.left src.new) (R.taken src.new) (R.faults src.new))) }
 {
     let Some((name, most)) = feed_words(words) else {
-        tell(err, "usage\n");
-        return Status::Usage;
+        return tell(err, "usage\n", Status::Usage);
     };
     let policy = match fetch_policy(alloc, cab, name) {
         Ok(policy) => policy,
-        Err(Stop::Unread(word)) => {
-            tell(err, unread_line(word));
-            return Status::Unread;
-        }
-        Err(Stop::Unreadable(line)) => {
-            tell(err, line.as_str());
-            return Status::Unreadable;
-        }
-        Err(Stop::Refused(_)) => unreachable!(),
-        Err(Stop::Memory) => {
-            tell(err, "memory\n");
-            return Status::Memory;
-        }
+        Err(stop) => return tell_stop(alloc, stop, err),
     };
     match pump(&mut Feed::new(alloc, policy, now), src, most, out) {
         Ok(()) => Status::Done,
-        Err(Halt::TooLong) => {
-            tell(err, "refused 87 feedTooLong\n");
-            Status::Refused
-        }
-        Err(Halt::Unread) => {
-            tell(err, "unread source\n");
-            Status::Unread
-        }
-        Err(Halt::Unwritten) => {
-            tell(err, "unwritten\n");
-            Status::Unwritten
-        }
-        Err(Halt::Memory) => {
-            tell(err, "memory\n");
-            Status::Memory
-        }
+        Err(Halt::TooLong) => tell(err, "refused 87 feedTooLong\n", Status::Refused),
+        Err(Halt::Unread) => tell(err, "unread source\n", Status::Unread),
+        Err(Halt::Unwritten) => tell(err, "unwritten\n", Status::Unwritten),
+        Err(Halt::Memory) => tell(err, "memory\n", Status::Memory),
     }
 }

@@ -7,8 +7,9 @@ use Rattle.sd_outside.specs.Status.{status_number}
 use Rattle.sd_outside.specs.declared.status.Status.{Status}
 use Rattle.sd_outside.specs.declared.status.Status.TheVariants.{Done, Unwritten}
 use Rattle.sd_outside.specs.declared.status.Status.TheVariants as status
-use Rattle.sdjwt_cli.specs.Answers.{Reply, gives, refuses, unreadable}
-use Rattle.cli_parts.specs.Stops.{OnRefused, OnUnread, OnUnreadable}
+use Rattle.cli_parts.specs.Replies.{Reply, gives, refuses, unreadable}
+use Rattle.cli_parts.specs.Stops.{IsReply, OnRefused, OnUnread, OnUnreadable}
+use Rattle.cli_parts.proofs.Finished.{replied}
 use Rattle.cli_parts.specs.declared.stop.Stop.{Stop}
 use Rattle.cli_parts.specs.declared.stop.Stop.TheVariants.{Memory, Unread, Unreadable, Refused}
 use Rattle.sdjwt_c.specs.Handed.{IsLeft, IsGiven, IsTooLong, Hands, HandsBy, reply_text}
@@ -33,14 +34,17 @@ module _ (Misused : Type 0) (Is : Reply → Type 0) (before after : List ℕ) (l
   not_read text is (inl w) = by_status status.Unreadable w.0 (record { text = text; is = is; written = w.1 })
   not_read text is (inr n) = unwritten (unreadable text) is n.0 n.1
 
-  -- an answer, or a stop that is no failed read
+  -- a reply, or a stop that is no failed read
+  pub handed_reply : (answer : Result (String Global) Stop) → IsReply Is answer → IfErr answer (λ stop. OnUnread stop (λ _. ⊥)) → IsHanded answer before after len told → HandsBy Misused Is before after len number
+  handed_reply (Ok text) reply unread is = given (string_bytes text) reply is
+  handed_reply (Err (Refused text)) reply unread is = refused (string_bytes text) reply is
+  handed_reply (Err (Unreadable text)) reply unread is = not_read (string_bytes text) reply is
+  handed_reply (Err (Unread word)) reply unread is = absurd unread
+  handed_reply (Err Memory) reply unread is = by_status status.Memory is.0 is.1
+
   pub handed : (answer : Result (String Global) Stop) → IfOk answer (λ text. Is (gives (string_bytes text))) → IfErr answer (λ stop. OnRefused stop (λ text. Is (refuses text)))
       → IfErr answer (λ stop. OnUnreadable stop (λ text. Is (unreadable text))) → IfErr answer (λ stop. OnUnread stop (λ _. ⊥)) → IsHanded answer before after len told → HandsBy Misused Is before after len number
-  handed (Ok text) ok refusal unfit unread is = given (string_bytes text) ok is
-  handed (Err (Refused text)) ok refusal unfit unread is = refused (string_bytes text) refusal is
-  handed (Err (Unreadable text)) ok refusal unfit unread is = not_read (string_bytes text) unfit is
-  handed (Err (Unread word)) ok refusal unfit unread is = absurd unread
-  handed (Err Memory) ok refusal unfit unread is = by_status status.Memory is.0 is.1
+  handed answer ok refusal unfit unread is = handed_reply answer (replied Is answer ok refusal unfit) unread is
 
   -- an answer of no bytes
   pub empty : Is (gives []) → told ≡ Done → IsLeft before after len → HandsBy Misused Is before after len number

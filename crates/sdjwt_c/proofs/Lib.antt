@@ -1,3 +1,4 @@
 pub mod LooseValues
 pub mod HandleValues
 pub mod Handing
+pub mod Cutting

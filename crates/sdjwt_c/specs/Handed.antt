@@ -3,7 +3,7 @@ use Rattle.std.specs.Prelude.{◌≡◌, ◌<◌, ◌≤◌, ◌⊎◌, ℕ, Lis
 use Rattle.sd_outside.specs.Status.{status_number}
 use Rattle.sd_outside.specs.declared.status.Status.{Status}
 use Rattle.sd_outside.specs.declared.status.Status.TheVariants.{Done, Refused, Usage, Unread, Unwritten, Memory, Unreadable}
-use Rattle.sdjwt_cli.specs.Answers.{Reply, gives, refuses, unreadable}
+use Rattle.cli_parts.specs.Replies.{Reply, gives, refuses, unreadable}
 
 -- the bytes of a reply: an answer, or the line that tells why there is none
 abbrev pub reply_text : Reply → List ℕ

@@ -3,3 +3,4 @@ pub mod Held
 pub mod Policies
 pub mod Results
 pub mod Numbers
+pub mod Tokens

@@ -1,6 +1,7 @@
 -- The replies to a policy that is to be kept, and under one that is.
 use Rattle.std.specs.Prelude.{◌≡◌, ℕ, List, []}
-use Rattle.sdjwt_cli.specs.Answers.{Reply, Replies, VerifyAnswers}
+use Rattle.cli_parts.specs.Replies.{Reply, Replies}
+use Rattle.sdjwt_cli.specs.Answers.{VerifyAnswers}
 use Rattle.cli_parts.specs.Telling.{TellsFileFault}
 use Rattle.verifier_core.specs.declared.policy.Policy.{Policy}
 use Rattle.verifier_core.specs.PolicyFile.{IsPolicyFile, IsPolicyFileRefused}

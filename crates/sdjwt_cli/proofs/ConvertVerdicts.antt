@@ -7,7 +7,8 @@ use Rattle.json_form.proofs.Tokens as tokens
 use Rattle.sdjwt_cli.specs.declared.form.Form.{Form}
 use Rattle.cli_parts.specs.Lines.{line, refusal}
 use Rattle.sdjwt_cli.specs.Converting.{written, Converts, IsConvertRefused, unread, too_much}
-use Rattle.sdjwt_cli.specs.Answers.{Reply, gives, refuses, unreadable, ConvertAnswers}
+use Rattle.cli_parts.specs.Replies.{Reply, gives, refuses, unreadable}
+use Rattle.sdjwt_cli.specs.Answers.{ConvertAnswers}
 
 one_line : (form : Form) (file a b : List ℕ) → Converts form file a → Converts form file b → a ≡ b
 one_line form file a b g h = g.line_is ∙ (ap (λ (t : Token). line (written form t)) (tokens.one file g.token h.token g.reads h.reads) ∙ sym h.line_is)

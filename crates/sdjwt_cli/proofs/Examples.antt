@@ -74,6 +74,7 @@ unfolding digits
 nowhere = refl
 
 first_file : unread_text 0 ≡ codes "unread 1\n"
+unfolding digits
 first_file = refl
 
 no_json : unreadable_line 1 NotJson ≡ codes "unreadable 1 notJson\n"

@@ -15,7 +15,8 @@ use Rattle.issuer_core.proofs.OneToken.{one_token, issued_not_refused}
 use Rattle.issuer_core.proofs.OneRefusal.{one_refusal}
 use Rattle.cli_parts.specs.Lines.{line, unreadable_line}
 use Rattle.sdjwt_cli.specs.Issuing.{IsAsked, Issues, DoesNotIssue, HasNoOrder, no_order, no_seed}
-use Rattle.sdjwt_cli.specs.Answers.{Reply, gives, refuses, unreadable, IssueAnswers}
+use Rattle.cli_parts.specs.Replies.{Reply, gives, refuses, unreadable}
+use Rattle.sdjwt_cli.specs.Answers.{IssueAnswers}
 
 -- what the files ask for is one
 module _ (order_file seed_file : List ℕ) (o p : Order) (key other : AlgKey) (seed grain : List ℕ) (this : IsAsked order_file seed_file o key seed) (that : IsAsked order_file seed_file p other grain) where

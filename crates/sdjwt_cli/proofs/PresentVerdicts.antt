@@ -12,7 +12,8 @@ use Rattle.holder_core.proofs.OnePresentation.{HasOneSignature, one_presented, p
 use Rattle.cli_parts.specs.Lines.{line, unreadable_line}
 use Rattle.selection_core.specs.Never.{never_rule}
 use Rattle.sdjwt_cli.specs.Presenting.{signing_key, IsPresentedFor, IsNotPresentedFor, Presents, DoesNotPresent}
-use Rattle.sdjwt_cli.specs.Answers.{Reply, gives, refuses, unreadable, PresentAnswers}
+use Rattle.cli_parts.specs.Replies.{Reply, gives, refuses, unreadable}
+use Rattle.sdjwt_cli.specs.Answers.{PresentAnswers}
 use Rattle.selection_core.proofs.NeverShown.{never_decided}
 use Rattle.cli_parts.specs.Telling.{TellsFileFault}
 use Rattle.holder_core.specs.PresentFile.{IsPresentFileRefused}

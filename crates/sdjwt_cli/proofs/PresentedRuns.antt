@@ -6,7 +6,8 @@ use Rattle.claim_tree.specs.JsonText.{json_text}
 use Rattle.claim_tree.specs.Tree.{Tree}
 use Rattle.issuer_core.specs.Order.{Order}
 use Rattle.holder_core.proofs.PresentFiles as orders
-use Rattle.sdjwt_cli.specs.Answers.{Reply, gives, refuses, unreadable, PresentAnswers, VerifyAnswers, Answers, IsAnswered}
+use Rattle.cli_parts.specs.Replies.{Reply, gives, refuses, unreadable}
+use Rattle.sdjwt_cli.specs.Answers.{PresentAnswers, VerifyAnswers, Answers, IsAnswered}
 use Rattle.sdjwt_cli.specs.Command.{Command, issue, present, verify, command_of}
 use Rattle.sdjwt_cli.specs.Issuing.{Issues}
 use Rattle.cli_parts.specs.Lines.{line}
@@ -15,7 +16,7 @@ use Rattle.sdjwt_cli.specs.Presented.{AllSuits, OnlyGives, GivesAlone, IsShownWe
 use Rattle.hmac_sign.specs.Hmac.{AlgKey}
 use Rattle.sdjwt_cli.specs.Presenting.{signing_key}
 use Rattle.cli_parts.specs.Outside.{Outside}
-use Rattle.sdjwt_cli.specs.Run.{Ends, EndsDone, EndsTelling}
+use Rattle.sdjwt_cli.specs.Run.{Ends}
 use Rattle.sdjwt_cli.specs.Suits.{Suits}
 use Rattle.sdjwt_cli.proofs.IssueVerdicts.{same_order, carried}
 use Rattle.sdjwt_cli.proofs.PresentedVerified.{not_refused, verifies}
@@ -70,22 +71,22 @@ module _ (command : Command) (files : List (List ℕ)) (now : ℕ) (before after
   told_answers : (other : Command) (verdict : Reply) → command_of run.words ≡ Some other → IsAnswered before.holds other now verdict → Answers command files now verdict
   told_answers other verdict named answered = answers_told before.holds command other files now verdict (same_command (command_of run.words) other command named run.named) run.told answered
 
-  pub done_answers : status ≡ Status.Done → (e : EndsDone run.words before after now) × Answers command files now (gives e.answer)
-  done_answers is = let e = subst (Ends run.words before after now) is run.ends in (e, told_answers e.command (gives e.answer) e.named e.answered)
+  pub done_answers : status ≡ Status.Done → (e : Ends run.words before after now Status.Done) × Answers command files now (gives e.answer)
+  done_answers is = let e = subst (Ends run.words before after now) is run.ends in (e, told_answers e.asked (gives e.answer) e.named e.answered)
 
   pub no_refusal : OnlyGives (Answers command files now) → IsNoRefusal status
   no_refusal only = record { not_refused = refused; not_unreadable = odd }
     where
       refused : status ≢ Status.Refused
       refused is =
-          let e : EndsTelling refuses run.words before after now = subst (Ends run.words before after now) is run.ends in
-          let found = only (refuses e.text) (told_answers e.command (refuses e.text) e.named e.answered) in
+          let e = subst (Ends run.words before after now) is run.ends in
+          let found = only (refuses e.text) (told_answers e.asked (refuses e.text) e.named e.answered) in
           cc found.1
 
       odd : status ≢ Status.Unreadable
       odd is =
-          let e : EndsTelling unreadable run.words before after now = subst (Ends run.words before after now) is run.ends in
-          let found = only (unreadable e.text) (told_answers e.command (unreadable e.text) e.named e.answered) in
+          let e = subst (Ends run.words before after now) is run.ends in
+          let found = only (unreadable e.text) (told_answers e.asked (unreadable e.text) e.named e.answered) in
           cc found.1
 
   -- what was written is the answer

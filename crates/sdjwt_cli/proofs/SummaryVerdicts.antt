@@ -14,7 +14,8 @@ use Rattle.issuer_core.proofs.OneToken.{one_token, issued_not_refused}
 use Rattle.issuer_core.proofs.OneRefusal.{one_refusal}
 use Rattle.holder_core.specs.Present.{IsPresented}
 use Rattle.holder_core.proofs.OnePresentation.{HasOneSignature, one_presented}
-use Rattle.sdjwt_cli.specs.Answers.{Reply, gives, refuses, unreadable, GenAnswers}
+use Rattle.cli_parts.specs.Replies.{Reply, gives, refuses, unreadable}
+use Rattle.sdjwt_cli.specs.Answers.{GenAnswers}
 use Rattle.sdjwt_cli.specs.Generated.{generated, generated_seed, generated_key, generated_ask}
 use Rattle.cli_parts.specs.Lines.{line}
 use Rattle.selection_core.specs.Never.{never_rule}

@@ -11,7 +11,8 @@ use Rattle.json_form.proofs.Tokens as tokens
 use Rattle.sdjwt_cli.specs.Command.{Command, split, show, verify, issue, present, convert, gen, command_of, NamedFile, files_of}
 use Rattle.cli_parts.specs.Lines.{refusal}
 use Rattle.sdjwt_cli.specs.Split.{split_lines}
-use Rattle.sdjwt_cli.specs.Answers.{Reply, gives, refuses, unreadable, SplitAnswers, ShowAnswers, Answers, AreFetched, AreTold, IsAnswered}
+use Rattle.cli_parts.specs.Replies.{Reply, gives, refuses, unreadable}
+use Rattle.sdjwt_cli.specs.Answers.{SplitAnswers, ShowAnswers, Answers, AreFetched, AreTold, IsAnswered}
 use Rattle.cli_parts.specs.Outside.{Outside}
 use Rattle.sdjwt_cli.specs.Run.{Ends}
 use Rattle.sdjwt_cli.proofs.ShowVerdicts.{one_shown, shown_not_refused, one_refusal}
@@ -63,9 +64,6 @@ one_answer (convert form token) (file ∷ []) now v w g h = one_convert form fil
 one_answer (convert form token) (file ∷ more ∷ files) now v w g h = absurd g
 one_answer (gen count) [] now v w g h = one_gen count v w g h
 one_answer (gen count) (file ∷ files) now v w g h = absurd g
-
-none_some : (o : Option Command) (k : Command) → o ≡ None → o ≡ Some k → ⊥
-none_some o k e f = cc
 
 pub same_command : (o : Option Command) (c d : Command) → o ≡ Some c → o ≡ Some d → c ≡ d
 same_command o c d e f = cc
@@ -119,16 +117,16 @@ pub completes : (words : List (List ℕ)) (before after : Outside) (now : ℕ) (
     → (Rose before.faults after.faults → ⊥) → (Rose before.out.faults after.out.faults → ⊥) → Ends words before after now status
     → ((status ≡ Done) × Appends before.out.written after.out.written answer) ⊎ (status ≡ Memory)
 completes words before after now Done command files answer named told good read written e =
-    let same = same_command (command_of words) e.command command e.named named in
-    let is = given_given answer e.answer (told_verdict before.holds command e.command files now (gives answer) (gives e.answer) same told good e.answered) in
+    let same = same_command (command_of words) e.asked command e.named named in
+    let is = given_given answer e.answer (told_verdict before.holds command e.asked files now (gives answer) (gives e.answer) same told good e.answered) in
     inl (refl, subst (λ (a : List ℕ). Appends before.out.written after.out.written a) is e.out)
 completes words before after now Refused command files answer named told good read written e =
-    let same = same_command (command_of words) e.command command e.named named in
-    absurd (given_refused answer e.text (told_verdict before.holds command e.command files now (gives answer) (refuses e.text) same told good e.answered))
-completes words before after now Usage command files answer named told good read written e = absurd (none_some (command_of words) command e.named named)
+    let same = same_command (command_of words) e.asked command e.named named in
+    absurd (given_refused answer e.text (told_verdict before.holds command e.asked files now (gives answer) (refuses e.text) same told good e.answered))
+completes words before after now Usage command files answer named told good read written e = absurd (e.none command named)
 completes words before after now Unread command files answer named told good read written e = absurd (read e.rose)
 completes words before after now Unwritten command files answer named told good read written e = absurd (written e.rose)
 completes words before after now Memory command files answer named told good read written e = inr refl
 completes words before after now Unreadable command files answer named told good read written e =
-    let same = same_command (command_of words) e.command command e.named named in
-    absurd (given_unreadable answer e.text (told_verdict before.holds command e.command files now (gives answer) (unreadable e.text) same told good e.answered))
+    let same = same_command (command_of words) e.asked command e.named named in
+    absurd (given_unreadable answer e.text (told_verdict before.holds command e.asked files now (gives answer) (unreadable e.text) same told good e.answered))

@@ -9,7 +9,8 @@ use Rattle.verifier_core.proofs.Policies as policies
 use Rattle.verifier_core.proofs.OneVerdict as verdicts
 use Rattle.cli_parts.specs.Lines.{line, refusal, unreadable_line}
 use Rattle.sdjwt_cli.specs.Verify.{Verifies, DoesNotVerify}
-use Rattle.sdjwt_cli.specs.Answers.{Reply, gives, refuses, unreadable, VerifyAnswers}
+use Rattle.cli_parts.specs.Replies.{Reply, gives, refuses, unreadable}
+use Rattle.sdjwt_cli.specs.Answers.{VerifyAnswers}
 use Rattle.cli_parts.specs.Telling.{TellsFileFault}
 use Rattle.verifier_core.specs.PolicyFile.{IsPolicyFileRefused}
 

@@ -10,22 +10,11 @@ use Rattle.sdjwt_cli.specs.Presenting.{Presents, DoesNotPresent}
 use Rattle.sdjwt_cli.specs.declared.form.Form.{Form}
 use Rattle.sdjwt_cli.specs.Converting.{IsConvertRefused, Converts}
 use Rattle.sdjwt_cli.specs.Summary.{Summarizes, DoesNotSummarize}
+use Rattle.cli_parts.specs.Replies.{Reply, Replies}
 use Rattle.cli_parts.specs.Telling.{TellsFileFault, TellsFault}
 use Rattle.json_form.specs.Token.{IsTextRefused}
 use Rattle.verifier_core.specs.PolicyFile.{IsPolicyFileRefused}
 use Rattle.holder_core.specs.PresentFile.{IsPresentFileRefused}
-
--- the bytes for standard output, or the line of a refusal, or that of a file that is not of its form
-pub data Reply : Type 0 where
-  gives : (answer : List ℕ) → Reply
-  refuses : (text : List ℕ) → Reply
-  unreadable : (text : List ℕ) → Reply
-
--- what is so of each kind of reply
-abbrev pub Replies : (List ℕ → Type 0) → (List ℕ → Type 0) → (List ℕ → Type 0) → Reply → Type 0
-Replies Gives Refuses Unreadable (gives answer) = Gives answer
-Replies Gives Refuses Unreadable (refuses text) = Refuses text
-Replies Gives Refuses Unreadable (unreadable text) = Unreadable text
 
 abbrev pub SplitAnswers : List ℕ → Reply → Type 0
 SplitAnswers file reply = Replies (Splits file) (TellsFault (IsTextRefused file)) (λ _. ⊥) reply

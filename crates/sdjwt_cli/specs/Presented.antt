@@ -11,7 +11,8 @@ use Rattle.verifier_core.specs.declared.policy.Policy.{Policy}
 use Rattle.issuer_core.specs.Order.{Order}
 use Rattle.holder_core.specs.PresentFile.{IsPresentFile}
 use Rattle.holder_core.specs.declared.present_file.PresentFile.{PresentFile}
-use Rattle.sdjwt_cli.specs.Answers.{Reply, gives, IssueAnswers, PresentAnswers, VerifyAnswers, AreTold}
+use Rattle.cli_parts.specs.Replies.{Reply, gives}
+use Rattle.sdjwt_cli.specs.Answers.{IssueAnswers, PresentAnswers, VerifyAnswers, AreTold}
 use Rattle.sdjwt_cli.specs.Command.{Command, issue, present, verify, command_of}
 use Rattle.sdjwt_cli.specs.Issuing.{IsAsked}
 use Rattle.cli_parts.specs.Lines.{line}

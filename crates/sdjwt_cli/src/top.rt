@@ -1,11 +1,11 @@
-ghost use Rattle.std.specs.Prelude.{◌≡◌, ◌≤◌, ◌+◌, ℕ, List, Some, map, take, IfOk, IfErr, IfSome, string_bytes};
+ghost use Rattle.std.specs.Prelude.{◌≡◌, ◌≤◌, ℕ, List, map, IfErr, string_bytes};
 ghost use Rattle.sd_outside.specs.Causes.{Rose};
-ghost use Rattle.sd_outside.specs.Limits.{file_max};
+ghost use Rattle.cli_parts.specs.Outside.{outside, stream};
+ghost use Rattle.cli_parts.specs.Runs.{RunKeeps};
+ghost use Rattle.cli_parts.specs.Stops.{IsReply, OnUnread};
+ghost use Rattle.sdjwt_cli.specs.Answers.{IsAnswered};
 ghost use Rattle.sdjwt_cli.specs.Names.{meant_by};
-ghost use Rattle.sdjwt_cli.specs.Answers.{gives, refuses, unreadable, IsAnswered};
-ghost use Rattle.cli_parts.specs.Stops.{OnRefused, OnUnread, OnUnreadable};
-ghost use Rattle.cli_parts.specs.Outside.{outside, stream, Tells};
-ghost use Rattle.sdjwt_cli.specs.Run.{Misses, Ends, Keeps};
+ghost use Rattle.sdjwt_cli.specs.Run.{Misses, Ends};
 
 use crate::command::Command;
 use crate::convert::convert;
@@ -15,8 +15,8 @@ use crate::show::show;
 use crate::split::split;
 use crate::summary::summary;
 use crate::verify::verify;
-use cli_parts::{FETCH_MAX, Stop, fetch_file, tell, unread_line};
-use sd_outside::{Cabinet, Failed, Sink, Status};
+use cli_parts::{FETCH_MAX, Stop, fetch_file, finish, tell};
+use sd_outside::{Cabinet, Sink, Status};
 use std::alloc::Global;
 
 // The answer of a command, over the files that the cabinet has under its names.
@@ -26,9 +26,7 @@ fn answer<C: Cabinet>(
     command: Command<'_>,
     now: u64,
 ) -> Result<String, Stop>
-    ensures gives { IfOk result (λ text. IsAnswered (C.holds cab.old) (meant_by command.entry) now (gives (string_bytes text))) }
-    ensures refuses { IfErr result (λ stop. OnRefused stop (λ text. IsAnswered (C.holds cab.old) (meant_by command.entry) now (refuses text))) }
-    ensures unreadable { IfErr result (λ stop. OnUnreadable stop (λ text. IsAnswered (C.holds cab.old) (meant_by command.entry) now (unreadable text))) }
+    ensures replies { IsReply (IsAnswered (C.holds cab.old) (meant_by command.entry) now) result }
     ensures misses { IfErr result (λ stop. OnUnread stop (λ word. Misses (meant_by command.entry) word (C.missed cab.new))) }
     ensures rose { IfErr result (λ stop. OnUnread stop (λ word. Rose (C.faults cab.old) (C.faults cab.new))) }
     ensures held { (name : List ℕ) → C.holds cab.new name ≡ C.holds cab.old name }
@@ -84,37 +82,12 @@ pub fn run<C: Cabinet, O: Sink, E: Sink>(
         (outside (C.holds cab.new) (C.missed cab.new) (C.faults cab.new) (stream (O.written out.new) (O.faults out.new)) (stream (E.written err.new) (E.faults err.new)))
         now
         result }
-    ensures keeps { Keeps
+    ensures keeps { RunKeeps
         (outside (C.holds cab.old) (C.missed cab.old) (C.faults cab.old) (stream (O.written out.old) (O.faults out.old)) (stream (E.written err.old) (E.faults err.old)))
         (outside (C.holds cab.new) (C.missed cab.new) (C.faults cab.new) (stream (O.written out.new) (O.faults out.new)) (stream (E.written err.new) (E.faults err.new))) }
 {
     let Some(command) = Command::of(words) else {
-        tell(err, "usage\n");
-        return Status::Usage;
+        return tell(err, "usage\n", Status::Usage);
     };
-    match answer(alloc, cab, command, now) {
-        Ok(text) => match out.put(text.as_bytes()) {
-            Ok(()) => Status::Done,
-            Err(Failed) => {
-                tell(err, "unwritten\n");
-                Status::Unwritten
-            }
-        },
-        Err(Stop::Refused(line)) => {
-            tell(err, line.as_str());
-            Status::Refused
-        }
-        Err(Stop::Unread(word)) => {
-            tell(err, unread_line(word));
-            Status::Unread
-        }
-        Err(Stop::Unreadable(line)) => {
-            tell(err, line.as_str());
-            Status::Unreadable
-        }
-        Err(Stop::Memory) => {
-            tell(err, "memory\n");
-            Status::Memory
-        }
-    }
+    finish(alloc, answer(alloc, cab, command, now), out, err)
 }

@@ -1,14 +1,13 @@
 -- The files that were fetched, and those that were not.
-use Rattle.std.proofs.Common.{◌≡◌, Global, String, ℕ, zero, suc, ◌+◌, ◌<◌, List, [], ◌∷◌, ◌++◌, length, take, map, get_or, add-one, Option, Some, None, IfSome, refl, sym, ap, subst, ◌∙◌, arith, string_bytes, ◌≤◌}
+use Rattle.std.proofs.Common.{◌≡◌, Global, String, ℕ, zero, suc, ◌+◌, ◌<◌, List, [], ◌∷◌, ◌++◌, length, take, map, get_or, add-one, Option, Some, None, IfSome, refl, sym, ap, subst, ◌∙◌, arith, string_bytes}
 use Rattle.std.proofs.Math.Seq.{take-suc}
 use Rattle.std.specs.List.{AllZip}
 use Rattle.claim_tree.specs.Lists.{StandsAt}
-use Rattle.claim_tree.proofs.Lists.{At-map, At-get_or, At-below}
-use Rattle.cli_parts.specs.Stops.{OnRefused, OnUnread}
+use Rattle.claim_tree.proofs.Lists.{At-map, At-get_or}
+use Rattle.cli_parts.specs.Runs.{IsFetched, MissesWord}
+use Rattle.cli_parts.specs.Stops.{OnUnread}
 use Rattle.cli_parts.specs.declared.stop.Stop.{Stop}
 use Rattle.cli_parts.specs.declared.stop.Stop.TheVariants.{Memory, Unread, Unreadable, Refused}
-use Rattle.wallet_core.specs.WalletRun.{IsWallet, IsFetched, Misses, AreFiles}
-use Rattle.wallet_core.specs.WalletSteps.{IsAnswerTo, IsNoneFor, IsGiven, IsNotGiven}
 
 pub zip_more : {A B : Type 0} (R : A → B → Type 0) (xs : List A) (ys : List B) (x : A) (y : B) → AllZip R xs ys → R x y → AllZip R (xs ++ x ∷ []) (ys ++ y ∷ [])
 zip_more R [] [] x y h r = (r, tt)
@@ -32,26 +31,13 @@ all_fetched_as holds other same (n ∷ names) [] h = absurd h
 all_fetched_as holds other same (n ∷ names) (f ∷ files) h = (fetched_as holds other n f (same n) h.0, all_fetched_as holds other same names files h.1)
 
 pub missed_at : (names : List (List ℕ)) (k : ℕ) (name : List ℕ) (missed : Option (List ℕ)) → StandsAt names k name → (stop : Stop) → OnUnread stop (λ word. word ≡ k + 1) → OnUnread stop (λ _. missed ≡ Some name)
-    → OnUnread stop (λ word. (query : List ℕ) → Misses (query ∷ names) word missed)
+    → OnUnread stop (λ word. (query : List ℕ) → MissesWord (query ∷ names) word missed)
 missed_at names k name missed stands Memory is named = tt
 missed_at names k name missed stands (Unread word) is named =
     let turned : suc k ≡ word = omega (arith, is) in
     λ query. (name, subst (λ (n : ℕ). StandsAt (query ∷ names) n name) turned stands, named)
 missed_at names k name missed stands (Unreadable text) is named = tt
 missed_at names k name missed stands (Refused text) is named = tt
-
-module _ (holds : List ℕ → Option (List ℕ)) (query : List ℕ) (tokens : List (List ℕ)) (file : List ℕ) (held : List (List ℕ)) (fetched : IsFetched holds query file) (all : AllZip (IsFetched holds) tokens held) where
-  pub given_of : (text : List ℕ) → IsAnswerTo file held text → IsGiven holds query tokens text
-  given_of text is = (is.0, held, record { file = file; fetched = fetched; all_fetched = all; is_query = is.1 }, is.2)
-
-  pub not_given_of : (text : List ℕ) → IsNoneFor file held text → IsNotGiven holds query tokens text
-  not_given_of text is = (is.0, held, record { file = file; fetched = fetched; all_fetched = all; is_query = is.1 }, is.2, is.3)
-
-pub refused_more : (P Q : List ℕ → Type 0) → ((text : List ℕ) → P text → Q text) → (stop : Stop) → OnRefused stop P → OnRefused stop Q
-refused_more P Q weaker Memory h = h
-refused_more P Q weaker (Unread word) h = h
-refused_more P Q weaker (Unreadable text) h = h
-refused_more P Q weaker (Refused text) h = weaker (string_bytes text) h
 
 -- ---- the name of a word
 
@@ -67,10 +53,3 @@ there_got (n ∷ names) (suc k) name h = there_got names k name h
 
 pub named_there : (words : List (String Global)) (k : ℕ) (word : String Global) (name : List ℕ) → k < length words → word ≡ get_or words k word → name ≡ string_bytes word → name ≡ get_or (map string_bytes words) k name
 named_there words k word name within is same = there_got (map string_bytes words) k name (named_at words k word name within is same)
-
--- a word that was missed is one of a few
-pub few_words : (words : List (List ℕ)) (query : List ℕ) (tokens : List (List ℕ)) (word : ℕ) (missed : Option (List ℕ)) → IsWallet words query tokens → Misses (query ∷ tokens) word missed → word ≤ 64
-few_words words query tokens word missed is h =
-    let below = At-below (query ∷ tokens) word h.0 h.1 in
-    let within = is.within in
-    omega (arith, below, within)

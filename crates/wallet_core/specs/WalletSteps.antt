@@ -1,6 +1,5 @@
 -- For private functions: the steps of an answer.
 use Rattle.std.specs.Prelude.{◌≡◌, ◌<◌, ◌≤◌, ◌⊎◌, ℕ, Bool, true, List, length, Option, None, Some}
-use Rattle.cli_parts.specs.Telling.{TellsFileFault}
 use Rattle.claim_tree.specs.Tree.{Text}
 use Rattle.compact_form.specs.declared.parts.Parts.{Parts}
 use Rattle.hmac_sign.specs.declared.key_set.NamedKey.{NamedKey}
@@ -10,17 +9,13 @@ use Rattle.marked_tree.specs.Marked.{Marked}
 use Rattle.marked_tree.specs.Numbers.{has}
 use Rattle.rebuild_core.specs.LookUps.{RoseWithin}
 use Rattle.selection_core.specs.Consent.{RuleAnswers}
-use Rattle.selection_core.specs.Never.{never_rule}
 use Rattle.verifier_core.specs.Verdict.{IsChecked}
 use Rattle.wallet_core.specs.LookUps.{IsBound}
 use Rattle.wallet_core.specs.Meets.{MayMeet, CantFail}
 use Rattle.wallet_core.specs.Picked.{IsPicked, IsFewest, HasNoAnswer}
-use Rattle.wallet_core.specs.QueryFile.{IsQueryFile, IsQueryFileRefused}
 use Rattle.wallet_core.specs.Usable.{IsUsable}
-use Rattle.wallet_core.specs.WalletRun.{Answers, AreFiles, IsFetched, none_text}
 use Rattle.wallet_core.specs.declared.answering.Picked.{Picked}
 use Rattle.wallet_core.specs.declared.query.Query.{Query}
-use Rattle.wallet_core.specs.declared.query_file.QueryFile.{QueryFile}
 
 -- these marks may answer the query, and each set that can't fail has all of them
 pub record IsLeastSet {F : Type 0} (answers : RuleAnswers F) (rule : F) (marked : Marked) (query : Query) (marks : List ℕ) : Type 0 where
@@ -77,24 +72,3 @@ IsBest answers rule held query (Some choice) = IsPicked (MayMeet answers rule) h
 -- in a text no more digests are looked up than its bound says
 abbrev pub IsWithinBound : List NamedKey → Text → ℕ → ℕ → Type 0
 IsWithinBound keys content old new = (bound : ℕ) → IsBound keys content bound → RoseWithin bound old new
-
--- ---- a run
-
--- the answer to a query file over token files
-abbrev pub IsAnswerTo : List ℕ → List (List ℕ) → List ℕ → Type 0
-IsAnswerTo file held text = (said : QueryFile) × IsQueryFile file said × Answers said held text
-
--- and its refusal
-abbrev pub IsNoneFor : List ℕ → List (List ℕ) → List ℕ → Type 0
-IsNoneFor file held text = (said : QueryFile) × IsQueryFile file said × HasNoAnswer never_rule said.never held said.query × (text ≡ none_text)
-
--- the same over what the cabinet has under the names
-abbrev pub IsGiven : (List ℕ → Option (List ℕ)) → List ℕ → List (List ℕ) → List ℕ → Type 0
-IsGiven holds query tokens text = (said : QueryFile) × (held : List (List ℕ)) × AreFiles holds query tokens said held × Answers said held text
-
-abbrev pub IsNotGiven : (List ℕ → Option (List ℕ)) → List ℕ → List (List ℕ) → List ℕ → Type 0
-IsNotGiven holds query tokens text =
-    (said : QueryFile) × (held : List (List ℕ)) × AreFiles holds query tokens said held × HasNoAnswer never_rule said.never held said.query × (text ≡ none_text)
-
-abbrev pub IsNoQuery : (List ℕ → Option (List ℕ)) → List ℕ → List ℕ → Type 0
-IsNoQuery holds query text = (file : List ℕ) × IsFetched holds query file × TellsFileFault (IsQueryFileRefused file) text

@@ -1,26 +1,26 @@
 // A run of the wallet.
-ghost use Rattle.std.specs.Prelude.{◌≡◌, ◌≤◌, ◌<◌, ℕ, List, ◌∷◌, map, IfOk, IfErr, IsErrOf, string_bytes};
+ghost use Rattle.std.specs.Prelude.{◌≡◌, ◌≤◌, ℕ, List, ◌∷◌, map, IfOk, IfErr, IsErrOf, string_bytes};
 ghost use Rattle.std.specs.List.{AllZip};
 ghost use Rattle.sd_outside.specs.Causes.{Rose};
 ghost use Rattle.cli_parts.specs.Outside.{outside, stream};
-ghost use Rattle.cli_parts.specs.Stops.{OnRefused, OnUnread, OnUnreadable};
+ghost use Rattle.cli_parts.specs.Runs.{IsFetched, MissesWord, RunKeeps};
+ghost use Rattle.cli_parts.specs.Stops.{IsReply, OnRefused, OnUnread, OnUnreadable};
 ghost use Rattle.cli_parts.specs.Telling.{TellsFileFault};
 ghost use Rattle.compact_form.specs.Compact.{AreWords};
 ghost use Rattle.selection_core.specs.Never.{Judges, never_rule};
 ghost use Rattle.wallet_core.specs.Meets.{Meets};
 ghost use Rattle.wallet_core.specs.Picked.{IsPicked, IsFewest, HasNoAnswer};
 ghost use Rattle.wallet_core.specs.QueryFile.{IsQueryFile, IsQueryFileRefused};
-ghost use Rattle.wallet_core.specs.WalletRun.{IsFetched, Misses, picked_text, none_text, unread_text, WalletEnds, WalletKeeps};
-ghost use Rattle.wallet_core.specs.WalletSteps.{IsAnswerTo, IsNoneFor, IsGiven, IsNotGiven, IsNoQuery};
+ghost use Rattle.wallet_core.specs.WalletRun.{PicksFromFiles, WalletAnswers, WalletEnds, none_text, picked_text};
 ghost use Rattle.wallet_core.specs.declared.error.WalletError.TheVariants.{NoAnswer};
 
 use crate::words::wallet_words;
 use crate::{CredentialList, Picked, Query, QueryFile, WalletError, answer, read_query};
 use claim_tree::{Path, PathList};
-use cli_parts::{FETCH_MAX, Stop, as_line, fetch_file, tell, unreadable};
+use cli_parts::{FETCH_MAX, Stop, as_line, fetch_file, finish, tell, unreadable};
 use compact_form::{Place, Refusal, placed_line, print};
 use digest_index::Steps;
-use sd_outside::{Cabinet, Failed, NoMemory, Sink, Status};
+use sd_outside::{Cabinet, NoMemory, Sink, Status};
 use selection_core::{Consent, may_be_shown};
 use std::alloc::Global;
 
@@ -33,7 +33,7 @@ fn fetch_tokens<C: Cabinet>(
     ensures all { IfOk result (λ held. AllZip (IsFetched (C.holds cab.old)) (map string_bytes names.now) held) }
     ensures refuses { IfErr result (λ stop. OnRefused stop (λ _. ⊥)) }
     ensures unreadable { IfErr result (λ stop. OnUnreadable stop (λ _. ⊥)) }
-    ensures unread { IfErr result (λ stop. OnUnread stop (λ word. (query : List ℕ) → Misses (query ∷ map string_bytes names.now) word (C.missed cab.new))) }
+    ensures unread { IfErr result (λ stop. OnUnread stop (λ word. (query : List ℕ) → MissesWord (query ∷ map string_bytes names.now) word (C.missed cab.new))) }
     ensures rose { IfErr result (λ stop. OnUnread stop (λ _. Rose (C.faults cab.old) (C.faults cab.new))) }
     ensures held { (other : List ℕ) → C.holds cab.new other ≡ C.holds cab.old other }
     ensures later { C.faults cab.old ≤ C.faults cab.new }
@@ -102,11 +102,10 @@ fn none_line(alloc: Global) -> Result<String, NoMemory>
     as_line(placed_line(alloc, Refusal::NoCredentialAnswers, Place::Nowhere)?)
 }
 
-// The answer to a query file over the token files.
-fn answer_lines(alloc: Global, query_file: &[u8], held: &CredentialList) -> Result<String, Stop>
-    ensures answers { IfOk result (λ text. IsAnswerTo query_file.now held.now (string_bytes text)) }
-    ensures refuses { IfErr result (λ stop. OnRefused stop (IsNoneFor query_file.now held.now)) }
-    ensures unreadable { IfErr result (λ stop. OnUnreadable stop (TellsFileFault (IsQueryFileRefused query_file.now))) }
+/// The answer to a query file over token files: the position of the credential that answers the query with the fewest disclosures,
+/// and the compact text of what it presents.
+pub fn answer_files(alloc: Global, query_file: &[u8], held: &CredentialList) -> Result<String, Stop>
+    ensures replies { IsReply (WalletAnswers query_file.now held.now) result }
     ensures read { IfErr result (λ stop. OnUnread stop (λ _. ⊥)) }
 {
     let said = match query_of(alloc, query_file) {
@@ -127,10 +126,8 @@ fn fetch_answer<C: Cabinet>(
     query: &str,
     tokens: &[String],
 ) -> Result<String, Stop>
-    ensures gives { IfOk result (λ text. IsGiven (C.holds cab.old) query.now (map string_bytes tokens.now) (string_bytes text)) }
-    ensures refuses { IfErr result (λ stop. OnRefused stop (IsNotGiven (C.holds cab.old) query.now (map string_bytes tokens.now))) }
-    ensures unreadable { IfErr result (λ stop. OnUnreadable stop (IsNoQuery (C.holds cab.old) query.now)) }
-    ensures misses { IfErr result (λ stop. OnUnread stop (λ word. Misses (query.now ∷ map string_bytes tokens.now) word (C.missed cab.new))) }
+    ensures replies { IsReply (PicksFromFiles (C.holds cab.old) query.now (map string_bytes tokens.now)) result }
+    ensures misses { IfErr result (λ stop. OnUnread stop (λ word. MissesWord (query.now ∷ map string_bytes tokens.now) word (C.missed cab.new))) }
     ensures rose { IfErr result (λ stop. OnUnread stop (λ _. Rose (C.faults cab.old) (C.faults cab.new))) }
     ensures held { (other : List ℕ) → C.holds cab.new other ≡ C.holds cab.old other }
     ensures later { C.faults cab.old ≤ C.faults cab.new }
@@ -143,16 +140,7 @@ fn fetch_answer<C: Cabinet>(
         Ok(held) => held,
         Err(stop) => return Err(stop),
     };
-    answer_lines(alloc, file.bytes(), &held)
-}
-
-// The line of the file of a word, counted from 0, that could not be read.
-fn unread_line(alloc: Global, word: usize) -> Result<String, NoMemory>
-    requires { word < 100 }
-    ensures { IfOk result (λ text. string_bytes text ≡ unread_text word) }
-{
-    let number = word + 1;
-    Ok(format!(in alloc; "unread {number}\n")?)
+    answer_files(alloc, file.bytes(), &held)
 }
 
 /// Runs the wallet that the words ask for: `wallet`, the name of a query file, and those of 1 to 64 token files.
@@ -170,43 +158,12 @@ pub fn run_wallet<C: Cabinet, O: Sink, E: Sink>(
         (outside (C.holds cab.old) (C.missed cab.old) (C.faults cab.old) (stream (O.written out.old) (O.faults out.old)) (stream (E.written err.old) (E.faults err.old)))
         (outside (C.holds cab.new) (C.missed cab.new) (C.faults cab.new) (stream (O.written out.new) (O.faults out.new)) (stream (E.written err.new) (E.faults err.new)))
         result }
-    ensures keeps { WalletKeeps
+    ensures keeps { RunKeeps
         (outside (C.holds cab.old) (C.missed cab.old) (C.faults cab.old) (stream (O.written out.old) (O.faults out.old)) (stream (E.written err.old) (E.faults err.old)))
         (outside (C.holds cab.new) (C.missed cab.new) (C.faults cab.new) (stream (O.written out.new) (O.faults out.new)) (stream (E.written err.new) (E.faults err.new))) }
 {
     let Some((query, tokens)) = wallet_words(words) else {
-        tell(err, "usage\n");
-        return Status::Usage;
+        return tell(err, "usage\n", Status::Usage);
     };
-    match fetch_answer(alloc, cab, query, tokens) {
-        Ok(answer) => match out.put(answer.as_bytes()) {
-            Ok(()) => Status::Done,
-            Err(Failed) => {
-                tell(err, "unwritten\n");
-                Status::Unwritten
-            }
-        },
-        Err(Stop::Refused(line)) => {
-            tell(err, line.as_str());
-            Status::Refused
-        }
-        Err(Stop::Unread(word)) => match unread_line(alloc, word) {
-            Ok(line) => {
-                tell(err, line.as_str());
-                Status::Unread
-            }
-            Err(NoMemory) => {
-                tell(err, "memory\n");
-                Status::Memory
-            }
-        },
-        Err(Stop::Unreadable(line)) => {
-            tell(err, line.as_str());
-            Status::Unreadable
-        }
-        Err(Stop::Memory) => {
-            tell(err, "memory\n");
-            Status::Memory
-        }
-    }
+    finish(alloc, fetch_answer(alloc, cab, query, tokens), out, err)
 }

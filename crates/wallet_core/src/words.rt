@@ -2,8 +2,8 @@
 ghost use Rattle.std.specs.Prelude.{◌≡◌, ℕ, List, None, map, IfSome, string_bytes};
 ghost use Rattle.wallet_core.specs.WalletRun.{IsWallet};
 
-// The most tokens that a wallet is asked to look through.
-const TOKENS_MAX: usize = 64;
+/// The most tokens that a wallet is asked to look through.
+pub const TOKENS_MAX: usize = 64;
 
 // The names of the query file and of the token files.
 pub(crate) fn wallet_words(words: &[String]) -> Option<(&str, &[String])>

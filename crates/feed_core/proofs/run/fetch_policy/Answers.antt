@@ -1,7 +1,7 @@
-use Rattle.std.proofs.Common.{◌≡◌, ◌+◌, List, ℕ, take, IfSome, string_bytes, subst, sym}
+use Rattle.std.proofs.Common.{List, ℕ, string_bytes, subst, sym}
 use Rattle.std.proofs.lemmas.Result.{IfErr-weaker}
-use Rattle.sd_outside.specs.Limits.{file_max}
 use Rattle.verifier_core.specs.PolicyFile.{IsPolicyFileRefused}
+use Rattle.cli_parts.specs.Runs.{IsFetched}
 use Rattle.cli_parts.specs.Stops.{OnUnreadable}
 use Rattle.cli_parts.specs.Telling.{TellsFileFault}
 use Rattle.cli_parts.specs.declared.stop.Stop.{Stop}
@@ -17,5 +17,5 @@ more P Q weaker (Refused text) h = h
 pub returns-clause-unreadable : goal.returns-clause-unreadable
 returns-clause-unreadable g c =
     let file = c.bytes.result.now in
-    let content = subst (λ (x : List ℕ). IfSome (g.C.Cabinet.holds c.args.cab.now c.args.name.now) (λ content. x ≡ take (file_max + 1) content)) (sym c.bytes.ensures) c.in-Ok.ensures.content in
+    let content = subst (λ (x : List ℕ). IsFetched (g.C.Cabinet.holds c.args.cab.now) c.args.name.now x) (sym c.bytes.ensures) c.in-Ok.ensures.content in
     IfErr-weaker c.policy_of.result _ _ (more (TellsFileFault (IsPolicyFileRefused file)) _ (λ text told. (file, content, told))) c.policy_of.ensures.unreadable

@@ -1,7 +1,7 @@
 use Rattle.std.proofs.Common.{◌+◌, Global, ℕ, List, map, take, string_bytes, sym, subst, ◌∙◌, arith}
 use Rattle.std.proofs.lemmas.List.{length-map}
 use Rattle.std.specs.List.{AllZip}
-use Rattle.wallet_core.specs.WalletRun.{IsFetched}
+use Rattle.cli_parts.specs.Runs.{IsFetched}
 use Rattle.wallet_core.proofs.Fetched.{fetched_turn, fetched_as, missed_at, named_at, named_there}
 use Rattle.wallet_core.proofs.run.fetch_tokens.Goals as goal
 

@@ -1,6 +1,6 @@
 use Rattle.std.proofs.Common.{◌≡◌, ◌≤◌, ℕ, List, map, take, string_bytes}
 use Rattle.std.specs.List.{AllZip}
-use Rattle.wallet_core.specs.WalletRun.{IsFetched}
+use Rattle.cli_parts.specs.Runs.{IsFetched}
 use Rattle.wallet_core.proofs.run.fetch_tokens.Given as goal
 
 abbrev pub invariant-loop-k : goal.invariant-loop-k

@@ -1,9 +1,7 @@
-use Rattle.std.proofs.Common.{arith}
-use Rattle.wallet_core.proofs.Fetched.{few_words}
+use Rattle.std.proofs.Common.{map, string_bytes}
+use Rattle.cli_parts.proofs.Finished.{ends_by}
 use Rattle.wallet_core.proofs.run.run_wallet.Goals as goal
 
-pub unread_line-requires : goal.unread_line-requires
-unread_line-requires g c =
-    let misses = rw c.in-Err-Unread.field-0-is at c.in-Err-Unread.ensures.misses in
-    let few = few_words _ _ _ c.in-Err-Unread.word _ c.in-Some.ensures.some misses in
-    omega (arith, few)
+pub returns-clause-ends : goal.returns-clause-ends
+returns-clause-ends g c =
+    ends_by _ _ _ _ _ c.finish.result (c.in-Some.query.now, map string_bytes c.in-Some.tokens.now) c.in-Some.ensures.some c.fetch_answer.result c.fetch_answer.ensures.replies c.fetch_answer.ensures.misses c.fetch_answer.ensures.rose c.finish.ensures.finishes
