@@ -13,7 +13,7 @@ use Rattle.cli_parts.specs.Telling.{TellsFault}
 
 pub returns-clause-refuses : goal.returns-clause-refuses
 returns-clause-refuses c file reads =
-    let token = c.args.token.now in
+    let token = c.args.token in
     let form = c.args.form in
     let whole : string_bytes c.in_ok-text.text ≡ line (written form token) = c.in_ok-text.ensures ∙ ap line c.in_ok-write_as.ensures.text in
     let long : file_max < length (line (written form token)) = omega (arith, c.len.ensures, c.if-len-le-FILE_MAX.false, ap length whole) in
@@ -24,5 +24,5 @@ returns-clause-refuses c file reads =
 
 pub returns-then-len-le-FILE_MAX-clause-converts : goal.returns-then-len-le-FILE_MAX-clause-converts
 returns-then-len-le-FILE_MAX-clause-converts c file reads =
-    converts c.args.form file c.args.token.now c.in_ok-write_as.field-0 (string_bytes c.in_ok-text.text) reads c.requires.printable c.in_ok-write_as.ensures.text c.in_ok-write_as.ensures.back
+    converts c.args.form file c.args.token c.in_ok-write_as.field-0 (string_bytes c.in_ok-text.text) reads c.requires.printable c.in_ok-write_as.ensures.text c.in_ok-write_as.ensures.back
     c.in_ok-text.ensures (omega (arith, c.len.ensures, c.if-len-le-FILE_MAX.true))
