@@ -10,28 +10,31 @@ ghost use Rattle.cli_parts.specs.Telling.{TellsFault};
 use crate::form::Form;
 use cli_parts::{Stop, as_line, refused};
 use compact_form::{Condition, FILE_MAX, print};
-use json_form::{Token, TokenError, print_flat, print_general, read_token};
+use json_form::{TokenError, TokenText, print_flat, print_general};
 use sd_outside::{NoMemory, TextBox};
 use std::alloc::Global;
 
 // The text of a token in a form.
-fn write_as(alloc: Global, form: Form, token: &Token) -> Result<TextBox, NoMemory>
-    requires printable { IsPrintable token.now }
-    ensures text { IfOk result (λ text. text ≡ written form token.now) }
-    ensures back { HasRoom form token.now → IfOk result (IsJsonOf form token.now) }
+fn write_as(alloc: Global, form: Form, token: TokenText<'_>) -> Result<TextBox, NoMemory>
+    requires printable { IsPrintable token }
+    ensures text { IfOk result (λ text. text ≡ written form token.entry) }
+    ensures back { HasRoom form token.entry → IfOk result (IsJsonOf form token.entry) }
 {
     match form {
-        Form::Compact => print(alloc, &token.parts),
-        Form::Flat => print_flat(alloc, token),
-        Form::General => print_general(alloc, token),
+        Form::Compact => {
+            let token = token.into_token(alloc)?;
+            print(alloc, &token.parts)
+        }
+        Form::Flat => print_flat(alloc, &token.view()),
+        Form::General => print_general(alloc, &token.view()),
     }
 }
 
 // The answer for a token that is read, of whatever file.
-fn convert_token(alloc: Global, form: Form, token: &Token) -> Result<String, Stop>
-    requires printable { IsPrintable token.now }
-    ensures converts { (file : List ℕ) → IsToken file token.now → IfOk result (λ text. Converts form file (string_bytes text)) }
-    ensures refuses { (file : List ℕ) → IsToken file token.now → IfErr result (λ stop. OnRefused stop (TellsFault (IsConvertRefused form file))) }
+fn convert_token(alloc: Global, form: Form, token: TokenText<'_>) -> Result<String, Stop>
+    requires printable { IsPrintable token }
+    ensures converts { (file : List ℕ) → IsToken file token.entry → IfOk result (λ text. Converts form file (string_bytes text)) }
+    ensures refuses { (file : List ℕ) → IsToken file token.entry → IfErr result (λ stop. OnRefused stop (TellsFault (IsConvertRefused form file))) }
     ensures read { IfErr result (λ stop. OnUnread stop (λ _. ⊥)) }
     ensures readable { IfErr result (λ stop. OnUnreadable stop (λ _. ⊥)) }
 {
@@ -49,8 +52,8 @@ pub fn convert(alloc: Global, form: Form, file: &[u8]) -> Result<String, Stop>
     ensures read { IfErr result (λ stop. OnUnread stop (λ _. ⊥)) }
     ensures readable { IfErr result (λ stop. OnUnreadable stop (λ _. ⊥)) }
 {
-    match read_token(alloc, file) {
-        Ok(token) => convert_token(alloc, form, &token),
+    match TokenText::read(alloc, file) {
+        Ok(token) => convert_token(alloc, form, token),
         Err(TokenError::Memory) => Err(Stop::Memory),
         Err(TokenError::Fault(fault)) => Err(refused(alloc, &fault)),
     }
