@@ -34,18 +34,19 @@ impl<'a> DigestIndex<'a> {
     pub fn new(alloc: Global) -> DigestIndex<'a>
         ensures { result ≡ [] }
     {
-        DigestIndex::with_seed(alloc, 0)
+        DigestIndex {
+            texts: IndexSet::with_hasher(alloc, Seeded::new(0)),
+        }
     }
 
-    /// No texts, whose hashes are to begin with this seed. It takes no memory.
+    /// No texts, with memory for so many, whose hashes are to begin with this seed.
     ///
     /// No contract speaks of the seed: it changes no answer, but which texts are slow to look up together.
-    pub fn with_seed(alloc: Global, seed: u64) -> DigestIndex<'a>
-        ensures { result ≡ [] }
+    pub fn with_seed(alloc: Global, count: usize, seed: u64) -> Result<DigestIndex<'a>, NoMemory>
+        ensures { IfOk result (λ index. index ≡ []) }
     {
-        DigestIndex {
-            texts: IndexSet::with_hasher(alloc, Seeded::new(seed)),
-        }
+        let texts = IndexSet::with_capacity_and_hasher(alloc, count, Seeded::new(seed))?;
+        Ok(DigestIndex { texts })
     }
 
     /// The number of texts.

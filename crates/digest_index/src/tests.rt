@@ -62,7 +62,7 @@ fn a_seed_changes_no_place(rt: HostRuntime) -> Result<(), Fail> {
     let alloc = rt.alloc();
     let texts = digits(alloc, 100)?;
     for seed in [0, 1, 0x8000_0000_0000_0000, 0xffff_ffff_ffff_ffff] {
-        let mut index = DigestIndex::with_seed(alloc, seed);
+        let mut index = DigestIndex::with_seed(alloc, 10, seed)?;
         let mut steps = Steps::new();
         for (i, text) in texts.iter().enumerate() {
             assert_eq!(rt; index.intern(text.as_str(), &mut steps)?, i);

@@ -1,4 +1,4 @@
-ghost use Rattle.std.specs.Prelude.{◌≡◌, [], ◌∷◌, ◌++◌, map, length, OnOk, OnErr, option_map, slice_get};
+ghost use Rattle.std.specs.Prelude.{◌≡◌, [], ◌∷◌, ◌++◌, map, length, IfOk, OnOk, OnErr, option_map, slice_get};
 ghost use Rattle.digest_sites.specs.GivenView.{given_of};
 
 use claim_tree::Tree;
@@ -45,6 +45,14 @@ impl GivenList {
         GivenList {
             items: Vec::new(alloc),
         }
+    }
+
+    /// No disclosures, with memory for so many.
+    pub fn with_capacity(alloc: Global, count: usize) -> Result<GivenList, NoMemory>
+        ensures { IfOk result (λ list. list ≡ []) }
+    {
+        let items = Vec::with_capacity(alloc, count)?;
+        Ok(GivenList { items })
     }
 
     /// Adds a disclosure at the end.

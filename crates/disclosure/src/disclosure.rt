@@ -93,7 +93,8 @@ fn parts_of(tree: Tree) -> Option<DisclosureParts>
 /// What reads disclosures. One that is kept reads many of them in the same memory.
 #[derive(Drop)]
 pub struct DisclosureReader {
-    json: JsonReader,
+    /// Reads their JSON, and may be lent to what reads other texts.
+    pub json: JsonReader,
     // What a text is decoded to.
     room: Vec<u8>,
 }

@@ -7,7 +7,7 @@ ghost use Rattle.claim_tree.specs.JsonText.{json_text};
 ghost use Rattle.jws_part.specs.Part.{Carries, IsBody, IsNoObject};
 
 use b64url_text::{DecodeError, decode, encode};
-use claim_tree::{ReadError, Tree, TreeMap, read, write};
+use claim_tree::{JsonReader, ReadError, Tree, TreeMap, write};
 use sd_outside::{NoMemory, TextBox};
 use std::alloc::Global;
 
@@ -57,7 +57,11 @@ impl From<ReadError> for BodyError {
 }
 
 // The members of the object that a text carries.
-pub(crate) fn read_object(alloc: Global, part: &str) -> Result<TreeMap, BodyError>
+pub(crate) fn read_object(
+    alloc: Global,
+    reader: &mut JsonReader,
+    part: &str,
+) -> Result<TreeMap, BodyError>
     ensures ok { IfOk result (λ ms. Carries part.now (object ms)) }
     ensures ranged { IfOk result (λ ms. IsRanged (object ms)) }
     ensures ordered { IfOk result (λ ms. IsOrdered (object ms)) }
@@ -65,21 +69,21 @@ pub(crate) fn read_object(alloc: Global, part: &str) -> Result<TreeMap, BodyErro
     ensures unreadable { IsErrOf result BodyError.Unreadable → IsNoObject part.now }
 {
     let bytes = decode(alloc, part.as_bytes())?;
-    match read(alloc, bytes.bytes())? {
+    match reader.read(alloc, bytes.bytes())? {
         Tree::Object(members) => Ok(members),
         _ => Err(BodyError::Unreadable),
     }
 }
 
 /// The JSON object that a payload carries: base64url of its JSON text. Of two members of one name the last is kept.
-pub fn read_body(alloc: Global, payload: &str) -> Result<Tree, BodyError>
+pub fn read_body(alloc: Global, reader: &mut JsonReader, payload: &str) -> Result<Tree, BodyError>
     ensures ok { IfOk result (λ t. IsBody payload.now (tree_of t)) }
     ensures ranged { IfOk result (λ t. IsRanged (tree_of t)) }
     ensures ordered { IfOk result (λ t. IsOrdered (tree_of t)) }
     ensures depth { IfOk result (λ t. depth_of (tree_of t) ≤ 127) }
     ensures unreadable { IsErrOf result BodyError.Unreadable → IsNoObject payload.now }
 {
-    let members = read_object(alloc, payload)?;
+    let members = read_object(alloc, reader, payload)?;
     Ok(Tree::Object(members))
 }
 

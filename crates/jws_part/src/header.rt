@@ -9,7 +9,7 @@ ghost use Rattle.jws_part.specs.Header.{HeadersSay, SayNothing, IsHeader, IsHead
 use crate::BodyError;
 use crate::body::{read_object, write_body};
 use crate::members::{copied, has_crit, put_text, shares_name, text_named};
-use claim_tree::{Tree, TreeMap};
+use claim_tree::{JsonReader, Tree, TreeMap};
 use sd_outside::{NoMemory, TextBox};
 use std::alloc::Global;
 
@@ -90,12 +90,17 @@ fn said(alloc: Global, members: &TreeMap, outer: &TreeMap) -> Result<Header, Bod
 /// (RFC 7515 section 7.2.1).
 ///
 /// `alg` and `typ` are those of the protected header, and `kid` is that of the protected or of the outer one.
-pub fn read_header(alloc: Global, protected: &str, outer: &TreeMap) -> Result<Header, HeaderError>
+pub fn read_header(
+    alloc: Global,
+    reader: &mut JsonReader,
+    protected: &str,
+    outer: &TreeMap,
+) -> Result<Header, HeaderError>
     ensures ok { IfOk result (IsHeader protected.now outer.now) }
     ensures unreadable { IsErrOf result HeaderError.Unreadable → IsHeaderUnreadable protected.now outer.now }
     ensures critical { IsErrOf result HeaderError.Critical → IsHeaderCritical protected.now outer.now }
 {
-    let members = read_object(alloc, protected)?;
+    let members = read_object(alloc, reader, protected)?;
     let header = said(alloc, &members, outer)?;
     if has_crit(&members, outer) {
         return Err(HeaderError::Critical);

@@ -1,13 +1,14 @@
 -- A number among rising ones: where a search finds it, and where it goes.
-use Rattle.std.proofs.Common.{◌≡◌, ◌⊎◌, inl, inr, ℕ, zero, suc, ◌+◌, ◌<◌, ◌≤◌, Bool, true, false, List, [], ◌∷◌, length, get_or, eqb, ◌||◌, Result, Ok, Err, Ordering, Less, Equal, Greater, nat_cmp, refl, ap, sym, subst, arith, eq-eqb}
+use Rattle.std.proofs.Common.{◌≡◌, ◌⊎◌, inl, inr, ℕ, zero, suc, ◌+◌, ◌-◌, ◌<◌, ◌≤◌, Bool, true, false, List, [], ◌∷◌, length, get_or, eqb, ◌||◌, Some, Result, Ok, Err, Ordering, Less, Equal, Greater, nat_cmp, refl, ap, sym, subst, arith, eq-eqb}
 use Rattle.std.specs.BTreeSet.{insert_key}
-use Rattle.std.specs.List.{insert}
+use Rattle.std.specs.List.{insert, slice_get}
 use Rattle.std.specs.List.Sorted.{IsSortedBy, IsSearchInRange, IsBinarySearchResult}
 use Rattle.std.specs.Result.{is_ok}
 use Rattle.std.specs.Ordering.{MatchOrdering, match_ordering, is_lt}
 use Rattle.std.proofs.lemmas.Bool.{ne_eqb}
 use Rattle.std.proofs.lemmas.Cmp.{ranked, nat_cmp_total}
 use Rattle.std.proofs.lemmas.List.Sorted.{searchable_from_sorted}
+use Rattle.std.proofs.lemmas.Option.{get_or_from_slice_get}
 use Rattle.marked_tree.specs.Numbers.{has, AllAbove, IsRising}
 
 -- ---- how numbers compare
@@ -59,6 +60,24 @@ sorted ns r k d l h =
     let next : suc k ≡ k + 1 = omega arith in
     let pair : get_or ns k d < get_or ns (k + 1) d = subst (λ j. get_or ns k d < get_or ns j d) next (rising_pair ns k d r (omega (arith, h))) in
     ap is_lt (greater (get_or ns (k + 1) d) (get_or ns k d) pair)
+
+rising_through : (ns : List ℕ) (k j d : ℕ) → IsRising ns → k ≤ j → j < length ns → get_or ns k d ≤ get_or ns j d
+rising_through (n ∷ ns) zero zero d r l h = omega arith
+rising_through (n ∷ ns) zero (suc j) d r l h = let a = above_at n ns j d r.0 (omega arith) in omega (arith, a)
+rising_through (n ∷ ns) (suc k) zero d r l h = absurd (omega arith)
+rising_through (n ∷ ns) (suc k) (suc j) d r l h = rising_through ns k j d r.1 (omega arith) (omega arith)
+rising_through [] k j d r l h = absurd (omega arith)
+
+last_most : (ns : List ℕ) (last k d : ℕ) → IsRising ns → slice_get ns (length ns - 1) ≡ Some last → k < length ns → get_or ns k d ≤ last
+last_most ns last k d r is l =
+    let e = get_or_from_slice_get ns (length ns - 1) last d is in
+    let m = rising_through ns k (length ns - 1) d r (omega arith) (omega arith) in
+    omega (arith, e, m)
+
+-- a number behind the last one goes to the end
+pub behind_last : (ns : List ℕ) (n last : ℕ) → IsRising ns → slice_get ns (length ns - 1) ≡ Some last → last < n → IsBinarySearchResult (λ (m : ℕ). nat_cmp m n) ns (Err (length ns))
+behind_last ns n last r is l =
+    λ sorted. (λ k d from low. less (get_or ns k d) n (let m = last_most ns last k d r is low in omega (arith, m, l)), λ k d from low. absurd (omega (arith, from, low)))
 
 -- all before the place are less than the number, and all from there on are greater
 pub record IsPlace (ns : List ℕ) (n i : ℕ) : Type 0 where

@@ -1,6 +1,7 @@
 ghost use Rattle.std.specs.Prelude.{◌≡◌, ℕ, ◌||◌, eqb, [], length, OnOk, OnErr, IfOk};
 ghost use Rattle.std.specs.Ordering.{nat_cmp};
 ghost use Rattle.std.specs.BTreeSet.{insert_key};
+ghost use Rattle.std.specs.List.Sorted.{IsSearchInRange, IsBinarySearchResult};
 ghost use Rattle.marked_tree.specs.Numbers.{has as has_number, IsRising};
 
 use sd_outside::NoMemory;
@@ -23,6 +24,19 @@ impl Model for ChosenSet {
     ghost use Rattle.marked_tree.specs.Numbers.{IsRising};
 
     ghost invariant = { λ s. IsRising s.marks.items };
+}
+
+// Where a mark stands among rising ones, or where it would go: by few comparisons at the end.
+fn search_from_end(marks: &[u32], mark: u32) -> Result<usize, usize>
+    requires { IsRising marks.now }
+    ensures bound { IsSearchInRange result (length marks.now) }
+    ensures position { IsBinarySearchResult (λ m. nat_cmp m mark) marks.now result }
+{
+    match marks.last() {
+        Some(last) if *last < mark => Err(marks.len()),
+        Some(last) if *last == mark => Ok(marks.len() - 1),
+        _ => marks.binary_search(&mark),
+    }
 }
 
 impl ChosenSet {
@@ -54,7 +68,7 @@ impl ChosenSet {
         ensures has { OnOk result ((i : ℕ) → has_number self.new i ≡ (eqb i mark || has_number self.old i)) }
         ensures err { OnErr result (self.new ≡ self.old) }
     {
-        if let Err(place) = self.marks.binary_search(&mark) {
+        if let Err(place) = search_from_end(&self.marks, mark) {
             self.marks.insert(place, mark)?;
         }
         Ok(())

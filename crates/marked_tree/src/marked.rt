@@ -119,6 +119,14 @@ impl MarkedList {
         }
     }
 
+    /// No elements, with memory for so many.
+    pub fn with_capacity(alloc: Global, count: usize) -> Result<MarkedList, NoMemory>
+        ensures { IfOk result (λ list. list ≡ no_marked_elements) }
+    {
+        let elements = Vec::with_capacity(alloc, count)?;
+        Ok(MarkedList { elements })
+    }
+
     /// Adds an element at the end.
     pub fn push(&mut self, mark: Option<u32>, tree: Marked) -> Result<(), NoMemory>
         ensures ok { OnOk result (self.new ≡ marked_pushed self.old mark (marked_of tree)) }
@@ -333,9 +341,18 @@ fn search(members: &[(TextBox, Option<u32>, Marked)], name: &str) -> Result<usiz
     ensures found { IfOk result (λ i. StandsAt (marked_names (marked_members_of members.now)) i name.now) }
     ensures absent { IfErr result (IsNameGap (marked_names (marked_members_of members.now)) name.now) }
 {
+    members.binary_search_by(|member| compared(member, name))
+}
+
+// The same as `search`, by one comparison where the name comes after all others.
+fn search_from_end(members: &[(TextBox, Option<u32>, Marked)], name: &str) -> Result<usize, usize>
+    requires { MembersOrdered (strip_members (marked_members_of members.now)) }
+    ensures found { IfOk result (λ i. StandsAt (marked_names (marked_members_of members.now)) i name.now) }
+    ensures absent { IfErr result (IsNameGap (marked_names (marked_members_of members.now)) name.now) }
+{
     match members.last() {
         Some(last) if compared(last, name) == Ordering::Less => Err(members.len()),
-        _ => members.binary_search_by(|member| compared(member, name)),
+        _ => search(members, name),
     }
 }
 
@@ -351,7 +368,7 @@ fn set(
     ensures ordered { MembersOrdered (strip_members (marked_members_of members.new.items)) }
     ensures err { OnErr result (marked_members_of members.new.items ≡ marked_members_of members.old.items) }
 {
-    match search(members.as_slice(), name.as_str()) {
+    match search_from_end(members.as_slice(), name.as_str()) {
         Ok(place) => members[place] = (name, mark, tree),
         Err(place) => members.insert(place, (name, mark, tree))?,
     }
@@ -370,7 +387,7 @@ fn add(
     ensures ordered { MembersOrdered (strip_members (marked_members_of members.new.items)) }
     ensures err { OnErr result (marked_members_of members.new.items ≡ marked_members_of members.old.items) }
 {
-    if let Err(place) = search(members.as_slice(), name.as_str()) {
+    if let Err(place) = search_from_end(members.as_slice(), name.as_str()) {
         members.insert(place, (name, mark, tree))?;
     }
     Ok(())

@@ -72,7 +72,7 @@ fn list_into_trees(alloc: Global, list: MarkedList) -> Result<TreeList, NoMemory
     requires { elements_depth (elements_stripped list) ≤ 126 }
     ensures { IfOk result (λ stripped. stripped ≡ elements_stripped list) }
 {
-    let mut stripped = TreeList::new(alloc);
+    let mut stripped = TreeList::with_capacity(alloc, list.len())?;
     for (_, tree) in list.into_elements() {
         stripped.push(into_tree(alloc, tree)?)?;
     }

@@ -160,7 +160,7 @@ pub(crate) fn first_clash(
     requires { length numbers.now ≡ length rows.now }
     ensures { IfOk result (λ r. MatchOption r (AtNone (Clashes (map seen rows.now) numbers.now given.now)) (λ place. IsLeast (Clashes (map seen rows.now) numbers.now given.now) place)) }
 {
-    let mut disclosed = HashSet::with_hasher(alloc, Seeded::new(seed));
+    let mut disclosed = HashSet::with_capacity_and_hasher(alloc, given.len(), Seeded::new(seed))?;
     for (place, row) in rows.iter().enumerate() {
         if let Some(name) = name_given(row, given, numbers[place]) {
             if is_beside(row, name) || !note(&mut disclosed, row.object, name)? {

@@ -54,7 +54,7 @@ pub(crate) fn number_rows<'a>(
     ensures risen { RoseWithin (length rows.now) steps.old steps.new }
 {
     steps_fit(steps);
-    let mut found = Vec::new(alloc);
+    let mut found = Vec::with_capacity(alloc, rows.len())?;
     for row in rows {
         let k = index.intern(row.digest.as_str(), steps)?;
         found.push(k)?;

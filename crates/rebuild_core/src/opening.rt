@@ -93,7 +93,7 @@ fn open_list(
     ensures moved { OnOk result (at.new ≡ at.old + length (elements_digests list.now)) }
     ensures opened { MatchResult result (λ out. (out ≡ open_elements (settled given.now) list.now) × (elements_depth (strip_elements out) ≤ limit)) (λ e. IfTooDeep e (limit < elements_depth (strip_elements (open_elements (settled given.now) list.now)))) }
 {
-    let mut out = MarkedList::new(alloc);
+    let mut out = MarkedList::with_capacity(alloc, list.len())?;
     for tree in list.trees() {
         match element_digest(tree) {
             None => {

@@ -81,7 +81,7 @@ fn index_given<'a>(
     ensures counted { IfOk result (λ _. steps.new ≡ counted steps.old (length given.now)) }
     ensures risen { RoseWithin (length given.now) steps.old steps.new }
 {
-    let mut index = DigestIndex::with_seed(alloc, seed);
+    let mut index = DigestIndex::with_seed(alloc, given.len(), seed)?;
     match number_given(given, &mut index, steps) {
         Ok(None) => Ok(index),
         Ok(Some(i)) => Err(ProcessError::RepeatedDisclosure(i)),

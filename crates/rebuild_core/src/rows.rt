@@ -157,7 +157,8 @@ pub(crate) fn all_rows<'a>(
     ensures rows { IfOk result (λ list. map seen list.rows.items ≡ rows_of (tree_of payload.now) given.now) }
     ensures ends { IfOk result (λ list. list.ends.items ≡ row_ends (tree_of payload.now) given.now) }
 {
-    let mut rows = Vec::with_capacity(alloc, given.len())?;
+    // beside the digests of the disclosures stand some decoys
+    let mut rows = Vec::with_capacity(alloc, given.len().saturating_add(given.len() / 8))?;
     let mut ends = Vec::with_capacity(alloc, given.len())?;
     list_rows(true, payload, &mut rows)?;
     ends.push(rows.len())?;

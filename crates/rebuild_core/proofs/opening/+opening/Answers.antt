@@ -24,7 +24,7 @@ open_list-open-requires t c =
 pub open_list-returns-in_err-plain-in-None-clause-opened : goal.open_list-returns-in_err-plain-in-None-clause-opened
 open_list-returns-in_err-plain-in-None-clause-opened t c =
     let s = list_at _ _ _ _ _ c.trees-tree-items.result.now c.loop-tree.tree-index c.tree-item.result _ _ c.loop-tree-test.true c.tree-item.is c.loop-tree.invariant in
-    let p = err_from_is_err_and c.from_residual.result c.from_residual.ensures.1 in
+    let p = err_from_is_err_and c.from_residual-in_err-plain-in-None.result c.from_residual-in_err-plain-in-None.ensures.1 in
     rw (p.1, p.2) (still_deep c.in_err-plain-in-None.field-0.0 (λ h. plain_deep _ _ _ _ _ _ _ _ _ s c.in-None.ensures h) c.in_err-plain-in-None.ensures.opened)
 
 pub open_list-returns-in_err-shown-in-Some-clause-opened : goal.open_list-returns-in_err-shown-in-Some-clause-opened
