@@ -148,7 +148,7 @@ class Policy:
         except IndexError:
             handle = self._handle()
         try:
-            status, said = _library.verify_behind(handle, _bytes(token), _moment(now))
+            status, said = handle.verify(token if type(token) is bytes else _bytes(token), _moment(now))
         finally:
             handles.append(handle)
         return _object(_answer(status, said))
