@@ -58,15 +58,17 @@ _FUNCTIONS = {name: getattr(_LIBRARY, "sdjwt_" + name) for name in _CALLS}
 class _Room:
     """A buffer for answers, which grows to the longest. What ctypes passes on of it is made once."""
 
-    __slots__ = ("buffer", "len", "out")
+    __slots__ = ("at", "at_len", "buffer", "len", "size")
 
     def __init__(self) -> None:
         self.len = c_size_t()
+        self.at_len = c_void_p(addressof(self.len))
         self.grow(_FIRST_ROOM)
 
     def grow(self, size: int) -> None:
         self.buffer = create_string_buffer(size)
-        self.out = (c_void_p(addressof(self.buffer)), c_size_t(size), c_void_p(addressof(self.len)))
+        self.at = c_void_p(addressof(self.buffer))
+        self.size = c_size_t(size)
 
     def text(self) -> bytes:
         # a slice of characters is bytes, which mypy does not know
@@ -92,10 +94,10 @@ def call(name: str, *words: Any) -> tuple[int, bytes]:
         if isinstance(word, (bytes, ctypes.Array)):
             passed.append(len(word))
     room = _ROOMS.room
-    status = function(*passed, *room.out)
+    status = function(*passed, room.at, room.size, room.at_len)
     if status == UNWRITTEN:
         room.grow(room.len.value)
-        status = function(*passed, *room.out)
+        status = function(*passed, room.at, room.size, room.at_len)
     return status, room.text()
 
 
@@ -127,11 +129,11 @@ class Handle:
     def verify(self, token: bytes, now: int) -> tuple[int, bytes]:
         """The status, and the claims or the line."""
         room = self.room
-        status: int = _VERIFY(self.at, token, len(token), now, *room.out)
+        status: int = _VERIFY(self.at, token, len(token), now, room.at, room.size, room.at_len)
         if status == UNWRITTEN:
             room.grow(room.len.value)
-            status = _VERIFY(self.at, token, len(token), now, *room.out)
-        return status, room.text()
+            status = _VERIFY(self.at, token, len(token), now, room.at, room.size, room.at_len)
+        return status, room.buffer[: room.len.value]  # type: ignore[return-value]
 
 
 def new_handle(policy: bytes) -> tuple[int, bytes, Handle]:
