@@ -1,10 +1,10 @@
 /*
  * sdjwt: SD-JWT (RFC 9901) for C, by the proved library.
  *
- * Each function is one command of the program sdjwt, or of sdjwt_tools, over the bytes of its files in the place of their
- * names. What the files are to have in them stands in docs/FILES.md, and docs/REFUSALS.md has each number by which a call refuses. The
- * library reads no file, no clock and no environment, keeps nothing between two calls, and writes nothing but what its
- * parameters point to.
+ * Each function is one command of the program sdjwt, or of sdjwt_tools, over the bytes of its files in the place of
+ * their names. What the files are to have in them stands in docs/FILES.md, and docs/REFUSALS.md has each number by
+ * which a call refuses. The library reads no file, no clock and no environment, keeps nothing between two calls, and
+ * writes nothing but what its parameters point to.
  *
  * THE ANSWER goes to the caller's buffer `out`, which has room for `room` bytes, and its length to `*len`. It has no
  * zero byte behind it. A call that answers
@@ -21,9 +21,10 @@
  * No other status comes. What lies behind the answer in `out` stays as it was, also where the status is not SDJWT_DONE:
  * look at no more than `*len` bytes, and at none where nothing was written.
  *
- * POINTERS. None may be null, not even where its length is 0: pass "" for an input of no bytes, and any byte of yours
- * for a buffer of no room. `*len` need not be set before the call. `out` and `len` may overlap neither each other, nor
- * an input, nor a handle; inputs may overlap. A length is at most 2^63 - 1. Inputs of more than 16 MiB are refused.
+ * POINTERS. None may be null, not even where its length is 0: pass "" for an input of no bytes, and any byte of
+ * yours for a buffer of no room. `*len` need not be set before the call. `out` and `len` may overlap neither each
+ * other, nor an input, nor a handle; inputs may overlap. A length is at most 2^63 - 1. An order, a policy, a query
+ * or a token of more than 16 MiB is refused.
  *
  * THREADS. Each function may run on several threads at once, over buffers that they do not share. A handle of a policy
  * is for one call at a time: give each thread its own, or keep one behind a lock. It may move from thread to thread.
@@ -125,11 +126,11 @@ SDJWT_CHECKED sdjwt_status sdjwt_audit(const uint8_t *order, size_t order_len,
                                        uint8_t *out, size_t room, size_t *len);
 
 /*
- * Shows, of the tokens that a holder has, the one that answers a query with the fewest disclosures. The tokens stand one
- * behind the other with nothing between them, and their lengths in `lengths`, 1 to SDJWT_TOKENS of them, which make the
- * whole of `tokens_len`: with others the status is SDJWT_USAGE. The answer has two lines, the number of the token,
- * counted from 0, as "credential 1\n", and the text of what is shown. Where no token answers the query, the status is
- * SDJWT_REFUSED.
+ * Shows, of the tokens that a holder has, the one that answers a query with the fewest disclosures. The tokens stand
+ * one behind the other with nothing between them, and their lengths in `lengths`, an array of `count`. The lengths are 1
+ * to SDJWT_TOKENS, and make the whole of `tokens_len`: with others the status is SDJWT_USAGE. The answer has two lines:
+ * the number of the token, counted from 0, as "credential 1\n", and the text of what is shown. Where no token answers
+ * the query, the status is SDJWT_REFUSED.
  */
 SDJWT_CHECKED sdjwt_status sdjwt_wallet(const uint8_t *query, size_t query_len,
                                         const uint8_t *tokens, size_t tokens_len,

@@ -1,5 +1,7 @@
 #!/usr/bin/env python3
-"""Writes the vectors of vectors/, and those of the audit and the wallet, as one file of bytes, for calls.c: python3 vectors.py FILE
+"""Writes vectors as one file of bytes, for calls.c: python3 vectors.py FILE
+
+They are those of vectors/, and those of the tables of the audit and the wallet.
 
 Numbers have eight bytes, lowest first, and a text has its length before it. The file has the number of vectors, and of
 each: its name; its files, each a text; its runs, each with the number of its command, its form or 0, the numbers of its

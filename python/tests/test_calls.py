@@ -61,6 +61,32 @@ def test_show_and_split():
     assert sdjwt.split(token)["disclosures"] == token.split("~")[1:-1]
 
 
+def test_a_wallet_takes_tokens_of_all_forms():
+    token = sdjwt.issue(ORDER)
+    query = {"keys": KEYS, "want": ["/seat"]}
+    for form in (token, token.encode(), sdjwt.convert("flat", token), sdjwt.convert("general", token)):
+        picked = sdjwt.wallet(query, ("", b"no token", form, token))
+        assert picked.index == 2
+        assert sdjwt.verify({"keys": KEYS}, picked.token) == {"iss": "tickets", "list": [2], "seat": "B12"}
+    assert sdjwt.wallet(query, [""] * 63 + [token]) == (63, picked.token)
+
+
+@pytest.mark.parametrize("count", [0, 65])
+def test_a_wallet_has_1_to_64_tokens(count):
+    with pytest.raises(ValueError):
+        sdjwt.wallet({"keys": KEYS}, [sdjwt.issue(ORDER)] * count)
+
+
+def test_an_audit_tells_what_differs():
+    token = sdjwt.issue(ORDER)
+    assert sdjwt.audit(ORDER, token) is None
+    assert sdjwt.audit(ORDER, sdjwt.convert("general", token)) is None
+    for order, name in (({**ORDER, "kid": "other"}, "signedPartDiffers"), ({**ORDER, "hide": []}, "payloadDiffers")):
+        with pytest.raises(sdjwt.Refused) as caught:
+            sdjwt.audit(order, token)
+        assert caught.value.name == name and caught.value.explanation
+
+
 def test_a_long_answer_gets_its_room():
     order = {"payload": {"text": "x" * 100_000}, "hide": ["/text"], "key": KEY}
     assert sdjwt.verify({"keys": KEYS}, sdjwt.issue(order)) == order["payload"]

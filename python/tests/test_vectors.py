@@ -1,5 +1,6 @@
-"""The vectors of vectors/, through the calls of the package."""
+"""The vectors of vectors/, and those of the audit and the wallet, through the calls of the package."""
 import json
+import sys
 from pathlib import Path
 
 import pytest
@@ -7,11 +8,14 @@ import pytest
 import sdjwt
 
 VECTORS = Path(__file__).resolve().parent.parent.parent / "vectors"
+sys.path.insert(0, str(VECTORS))
+import write  # noqa: E402
+
 SOME_MOMENT = 1_800_000_000
 FORMS = ("compact", "flat", "general")
 
 
-COUNTS = {"issue": 2, "present": 2, "verify": 2, "convert": 2, "show": 1, "split": 1}
+COUNTS = {"issue": (2,), "present": (2,), "verify": (2,), "convert": (2,), "show": (1,), "split": (1,), "audit": (2,), "wallet": range(2, 66)}
 
 
 def lines_of(parts):
@@ -24,7 +28,7 @@ def lines_of(parts):
 def answer_of(words, read, now):
     """The answer of a run. None where it is no call of the package."""
     command, *names = words or [""]
-    if len(names) != COUNTS.get(command):
+    if len(names) not in COUNTS.get(command, ()):
         return None
     form = names.pop(0) if command == "convert" else None
     if form not in (None, *FORMS) or any(name not in read for name in names):
@@ -42,6 +46,11 @@ def answer_of(words, read, now):
         return sdjwt.issue(*files)
     if command == "present":
         return sdjwt.present(*files, now=now)
+    if command == "audit":
+        return sdjwt.audit(*files) or "yes"
+    if command == "wallet":
+        picked = sdjwt.wallet(files[0], iter(files[1:]))
+        return f"credential {picked.index}\n{picked.token}"
     claims = sdjwt.verify(*files, now=now)
     assert sdjwt.Policy(files[0]).verify(files[1], now=now) == claims
     return claims
@@ -79,12 +88,14 @@ def left_by(vector):
     return status, said, read
 
 
-@pytest.mark.parametrize("path", sorted(VECTORS.glob("*.json")), ids=lambda path: path.stem)
-def test_vectors(path):
-    for vector in json.loads(path.read_text(encoding="utf-8")):
+def hold(vectors):
+    """Holds the package against vectors, and answers how many of them are calls."""
+    count = 0
+    for vector in vectors:
         left = left_by(vector)
         if left is None:
             continue
+        count += 1
         status, said, read = left
         assert status == vector["status"], vector["name"]
         if status:
@@ -93,3 +104,13 @@ def test_vectors(path):
             assert is_due(said, read[vector["output_of_file"]].decode().rstrip("\n")), vector["name"]
         else:
             assert is_due(said, vector["output"][:-1]), vector["name"]
+    return count
+
+
+@pytest.mark.parametrize("path", sorted(VECTORS.glob("*.json")), ids=lambda path: path.stem)
+def test_vectors(path):
+    hold(json.loads(path.read_text(encoding="utf-8")))
+
+
+def test_the_audit_and_the_wallet():
+    assert hold(write.of_tools()) > 60

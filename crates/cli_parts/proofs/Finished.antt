@@ -20,13 +20,6 @@ module _ (Is : Reply → Type 0) where
   replied (Err (Unreadable text)) ok refusal unfit = unfit
   replied (Err (Refused text)) ok refusal unfit = refusal
 
-  -- a stop that tells no line is a reply of any kind
-  pub no_reply : (stop : Stop) → OnRefused stop (λ _. ⊥) → OnUnreadable stop (λ _. ⊥) → IsReply Is (Err stop)
-  no_reply Memory refusal unfit = tt
-  no_reply (Unread word) refusal unfit = tt
-  no_reply (Unreadable text) refusal unfit = absurd unfit
-  no_reply (Refused text) refusal unfit = absurd refusal
-
 pub reply_more : (P Q : Reply → Type 0) → ((reply : Reply) → P reply → Q reply) → (answer : Result (String Global) Stop) → IsReply P answer → IsReply Q answer
 reply_more P Q follows (Ok text) h = follows (gives (string_bytes text)) h
 reply_more P Q follows (Err Memory) h = tt

@@ -63,7 +63,7 @@ pub extern "C" fn sdjwt_wallet(
     room: &mut [u8],
     len: &mut usize,
 ) -> u8
-    ensures { HandsBy (AreLengths lengths.now tokens.now → ⊥) (λ reply. WalletAnswers query.now (pieces lengths.now tokens.now) reply) room.old room.new len.new result }
+    ensures { HandsBy (AreLengths lengths.now tokens.now → ⊥) (λ reply. AreLengths lengths.now tokens.now × WalletAnswers query.now (pieces lengths.now tokens.now) reply) room.old room.new len.new result }
 {
     match cut(alloc, tokens, lengths) {
         Ok(Some(held)) => hand(answer_files(alloc, query, &held), room, len).number(),

@@ -1,6 +1,6 @@
 """SD-JWT (RFC 9901): issue, present and verify, by a library that is proved.
 
-An order and a policy are dicts, or their JSON as str or bytes; README.md of the repository and docs/FILES.md say what
+An order, a policy and a query are dicts, or their JSON as str or bytes; README.md of the repository and docs/FILES.md say what
 they have in them. A token is a str or bytes, or the dict of a JSON serialization.
 
 >>> import sdjwt
@@ -17,20 +17,22 @@ from __future__ import annotations
 
 import json
 import secrets
-import time
-from collections.abc import Mapping
-from typing import Any, Literal, Union
+from collections.abc import Iterable, Mapping
+from time import time as _time
+from typing import Any, Literal, NamedTuple, Union
 
 from sdjwt import _library
 from sdjwt._errors import OutOfMemory, Refused, SdJwtError, Unreadable
 
 __all__ = [
-    "OutOfMemory", "Policy", "Refused", "SdJwtError", "Unreadable", "convert", "issue", "present", "show", "split", "verify",
+    "OutOfMemory", "Picked", "Policy", "Refused", "SdJwtError", "Unreadable", "audit", "convert", "issue", "present", "show",
+    "split", "verify", "wallet",
 ]
 
 Text = Union[str, bytes]
 Json = Union[Mapping[str, Any], Text]
 _FORMS = {"compact": 0, "flat": 1, "general": 2}
+_DONE = _library.DONE
 
 
 def _bytes(given: Json | bytearray | memoryview) -> bytes:
@@ -44,7 +46,7 @@ def _bytes(given: Json | bytearray | memoryview) -> bytes:
 
 
 def _moment(now: float | None) -> int:
-    return max(0, int(time.time() if now is None else now))
+    return max(0, int(_time() if now is None else now))
 
 
 def _answer(status: int, said: bytes) -> bytes:
@@ -142,16 +144,21 @@ class Policy:
 
     def verify(self, token: Json, now: float | None = None) -> dict[str, Any]:
         """The claims of a token that is accepted."""
+        given = token if type(token) is bytes else _bytes(token)
+        moment = int(_time()) if now is None else _moment(now)
         handles = self._handles
         try:
             handle = handles.pop()
         except IndexError:
             handle = self._handle()
         try:
-            status, said = _library.verify_behind(handle, _bytes(token), _moment(now))
+            status, said = handle.verify(given, moment)
         finally:
             handles.append(handle)
-        return _object(_answer(status, said))
+        if status != _DONE:
+            _answer(status, said)
+        claims: dict[str, Any] = _read_json(said.decode())[0]
+        return claims
 
 
 # no wish of json.loads, as to tell the encoding of bytes, has to be looked for: the text is the library's
@@ -227,3 +234,47 @@ def convert(form: Literal["compact", "flat", "general"], token: Json) -> str | d
         raise ValueError(f"sdjwt: no form: {form!r}")
     text = _text("convert", _FORMS[form], _bytes(token))
     return text if form == "compact" else _object(text.encode())
+
+
+def audit(order: Json, token: Json) -> None:
+    """Audits a token for the order that it was issued for, as who has no seed can.
+
+    Nothing is answered where the token is what the order asks for, signed with its key. Else `Refused` tells the first that
+    differs, by its number: 81 to 86, or 80 where the order itself is refused.
+
+    >>> order = {"payload": {"name": "Ada"}, "hide": ["/name"], "key": "dGhlIHRpY2tldCBvZmZpY2Uga2V5LCBub3QgeW91cnM"}
+    >>> token = issue(order)
+    >>> audit(order, token)
+    >>> audit({**order, "hide": []}, token)
+    Traceback (most recent call last):
+    sdjwt._errors.Refused: refused 83 payloadDiffers
+    """
+    _text("audit", _bytes(order), _bytes(token))
+
+
+class Picked(NamedTuple):
+    """The credential that a wallet picked: its index among the tokens, and what is shown of it, in its compact form."""
+
+    index: int
+    token: str
+
+
+def wallet(query: Json, tokens: Iterable[Json]) -> Picked:
+    """Of 1 to 64 tokens that a holder has, the one that answers a query with the fewest disclosures.
+
+    >>> key = "dGhlIHRpY2tldCBvZmZpY2Uga2V5LCBub3QgeW91cnM"
+    >>> ticket = issue({"payload": {"name": "Ada", "seat": "B12"}, "hide": ["/name", "/seat"], "key": key})
+    >>> badge = issue({"payload": {"name": "Ada", "team": "red"}, "hide": ["/name"], "key": key})
+    >>> query = {"keys": {"keys": [{"kty": "oct", "k": key}]}, "want": ["/seat"], "never": ["/name"]}
+    >>> picked = wallet(query, [badge, ticket])
+    >>> picked.index, [disclosure["name"] for disclosure in show(picked.token)["disclosures"]]
+    (1, ['seat'])
+    >>> wallet({**query, "want": ["/name"]}, [badge, ticket])
+    Traceback (most recent call last):
+    sdjwt._errors.Refused: refused 77 noCredentialAnswers
+    """
+    held = [_bytes(token) for token in tokens]
+    if not 1 <= len(held) <= _library.TOKENS:
+        raise ValueError(f"sdjwt: 1 to {_library.TOKENS} tokens, not {len(held)}")
+    number, token = _answer(*_library.call_wallet(_bytes(query), held)).decode().split("\n", 1)
+    return Picked(int(number.removeprefix("credential ")), token[:-1])

@@ -58,9 +58,9 @@ class Refused(SdJwtError):
 
 
 class Unreadable(SdJwtError):
-    """An order, a policy or a seed is not of its form.
+    """An order, a policy, a query or a seed is not of its form.
 
-    `input` is 1 for the order or the policy and 2 for the seed, and `reason` says what is wrong with it.
+    `input` is 2 for the seed and 1 for any other, and `reason` says what is wrong with it.
     """
 
     def __init__(self, line: str) -> None:

@@ -4,7 +4,7 @@ from __future__ import annotations
 import ctypes
 import os
 import threading
-from ctypes import addressof, c_char_p, c_size_t, c_uint8, c_uint32, c_uint64, c_void_p, create_string_buffer
+from ctypes import POINTER, addressof, c_char_p, c_size_t, c_uint8, c_uint32, c_uint64, c_void_p, create_string_buffer
 from pathlib import Path
 from typing import Any
 
@@ -13,18 +13,8 @@ _ABI_VERSION = 1
 _FIRST_ROOM = 4096
 
 
-class Handle(ctypes.Structure):
-    """A handle of a policy. Its memory is freed with it."""
-
-    _fields_ = [("held", c_void_p)]
-
-    def __init__(self) -> None:
-        super().__init__()
-        self.at = addressof(self)
-
-    def __del__(self) -> None:
-        _FREE(self.at)
-
+# The most tokens that a wallet may have.
+TOKENS = 64
 
 # What is written goes by its address, which ctypes passes on with the least work.
 _IN = (c_char_p, c_size_t)
@@ -36,6 +26,8 @@ _CALLS: dict[str, tuple[Any, ...]] = {
     "show": (*_IN, *_OUT),
     "split": (*_IN, *_OUT),
     "convert": (c_uint8, *_IN, *_OUT),
+    "audit": (*_IN, *_IN, *_OUT),
+    "wallet": (*_IN, *_IN, POINTER(c_size_t), c_size_t, *_OUT),
     "policy_new": (c_void_p, *_IN, *_OUT),
     "policy_verify": (c_void_p, *_IN, c_uint64, *_OUT),
 }
@@ -64,19 +56,19 @@ _FUNCTIONS = {name: getattr(_LIBRARY, "sdjwt_" + name) for name in _CALLS}
 
 
 class _Room:
-    """A buffer for answers, which grows to the longest."""
+    """A buffer for answers, which grows to the longest. What ctypes passes on of it is made once."""
 
     __slots__ = ("at", "at_len", "buffer", "len", "size")
 
     def __init__(self) -> None:
         self.len = c_size_t()
-        self.at_len = addressof(self.len)
+        self.at_len = c_void_p(addressof(self.len))
         self.grow(_FIRST_ROOM)
 
     def grow(self, size: int) -> None:
-        self.size = size
         self.buffer = create_string_buffer(size)
-        self.at = addressof(self.buffer)
+        self.at = c_void_p(addressof(self.buffer))
+        self.size = c_size_t(size)
 
     def text(self) -> bytes:
         # a slice of characters is bytes, which mypy does not know
@@ -94,12 +86,12 @@ _ROOMS = _Rooms()
 
 
 def call(name: str, *words: Any) -> tuple[int, bytes]:
-    """The status of a call, and its answer or line. Bytes are passed with their length."""
+    """The status of a call, and its answer or line. Bytes and arrays are passed with their length."""
     function = _FUNCTIONS[name]
     passed: list[Any] = []
     for word in words:
         passed.append(word)
-        if isinstance(word, bytes):
+        if isinstance(word, (bytes, ctypes.Array)):
             passed.append(len(word))
     room = _ROOMS.room
     status = function(*passed, room.at, room.size, room.at_len)
@@ -109,18 +101,43 @@ def call(name: str, *words: Any) -> tuple[int, bytes]:
     return status, room.text()
 
 
+def call_wallet(query: bytes, tokens: list[bytes]) -> tuple[int, bytes]:
+    """What a wallet answers over its tokens, which are passed as one text with their lengths."""
+    lengths = (c_size_t * len(tokens))(*map(len, tokens))
+    return call("wallet", query, b"".join(tokens), lengths)
+
+
+class _Held(ctypes.Structure):
+    """The handle of a policy, as C has it. The policy is freed with it."""
+
+    _fields_ = [("held", c_void_p)]
+
+    def __del__(self) -> None:
+        _FREE(addressof(self))
+
+
+class Handle:
+    """A policy that is read, with a room of its own. It is for one call at a time."""
+
+    __slots__ = ("at", "held", "room")
+
+    def __init__(self, held: _Held) -> None:
+        self.held = held
+        self.at = c_void_p(addressof(held))
+        self.room = _Room()
+
+    def verify(self, token: bytes, now: int) -> tuple[int, bytes]:
+        """The status, and the claims or the line."""
+        room = self.room
+        status: int = _VERIFY(self.at, token, len(token), now, room.at, room.size, room.at_len)
+        if status == UNWRITTEN:
+            room.grow(room.len.value)
+            status = _VERIFY(self.at, token, len(token), now, room.at, room.size, room.at_len)
+        return status, room.buffer[: room.len.value]  # type: ignore[return-value]
+
+
 def new_handle(policy: bytes) -> tuple[int, bytes, Handle]:
     """A handle that holds a policy, where the status is DONE."""
-    handle = Handle()
-    status, line = call("policy_new", handle.at, policy)
-    return status, line, handle
-
-
-def verify_behind(handle: Handle, token: bytes, now: int) -> tuple[int, bytes]:
-    """What the policy of a handle answers. A handle is for one call at a time."""
-    room = _ROOMS.room
-    status: int = _VERIFY(handle.at, token, len(token), now, room.at, room.size, room.at_len)
-    if status == UNWRITTEN:
-        room.grow(room.len.value)
-        status = _VERIFY(handle.at, token, len(token), now, room.at, room.size, room.at_len)
-    return status, room.text()
+    held = _Held()
+    status, line = call("policy_new", addressof(held), policy)
+    return status, line, Handle(held)
