@@ -20,7 +20,7 @@ mod token_view;
 pub use disclosures::Disclosures;
 pub use json_error::JsonFormError;
 pub use parsing::parse_json;
-pub use printing::{print_flat, print_general};
+pub use printing::{flat_text, general_text, print_flat, print_general};
 pub use token::{Token, TokenError, read_token};
 pub use token_text::TokenText;
 pub use token_view::TokenView;

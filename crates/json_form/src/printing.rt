@@ -10,7 +10,7 @@ ghost use Rattle.json_form.specs.Written as spec;
 ghost use Rattle.json_form.specs.Written.{flat_of, general_of};
 ghost use Rattle.json_form.specs.Printable.{IsPrintable};
 
-use crate::{Disclosures, TokenView};
+use crate::{Disclosures, Token, TokenView};
 use claim_tree::{Tree, TreeList, TreeMap, copy_members, write};
 use compact_form::{Part, print_jwt};
 use sd_outside::{NoMemory, TextBox};
@@ -74,7 +74,16 @@ fn entry_of(alloc: Global, token: &TokenView<'_>) -> Result<TreeMap, NoMemory>
 }
 
 /// The flattened JSON serialization of a token (RFC 9901 section 8): compact JSON, which is read as this token.
-pub fn print_flat(alloc: Global, token: &TokenView<'_>) -> Result<TextBox, NoMemory>
+pub fn print_flat(alloc: Global, token: &Token) -> Result<TextBox, NoMemory>
+    requires printable { IsPrintable token.now }
+    ensures text { IfOk result (λ text. text ≡ json_text (flat_of token.now)) }
+    ensures back { IfOk result (IsFlat token.now) }
+{
+    flat_text(alloc, &token.view())
+}
+
+/// The same of a token that is borrowed, whose texts are not copied before they are written.
+pub fn flat_text(alloc: Global, token: &TokenView<'_>) -> Result<TextBox, NoMemory>
     requires printable { IsPrintable token.now }
     ensures text { IfOk result (λ text. text ≡ json_text (flat_of token.now)) }
     ensures back { IfOk result (IsFlat token.now) }
@@ -86,7 +95,16 @@ pub fn print_flat(alloc: Global, token: &TokenView<'_>) -> Result<TextBox, NoMem
 
 /// The general JSON serialization of a token, with one signature: compact JSON. It is read as this token where the
 /// members of its unprotected header leave room for the four levels around them.
-pub fn print_general(alloc: Global, token: &TokenView<'_>) -> Result<TextBox, NoMemory>
+pub fn print_general(alloc: Global, token: &Token) -> Result<TextBox, NoMemory>
+    requires printable { IsPrintable token.now }
+    ensures text { IfOk result (λ text. text ≡ json_text (general_of token.now)) }
+    ensures back { members_depth token.now.outer ≤ 123 → IfOk result (IsGeneral token.now) }
+{
+    general_text(alloc, &token.view())
+}
+
+/// The same of a token that is borrowed, whose texts are not copied before they are written.
+pub fn general_text(alloc: Global, token: &TokenView<'_>) -> Result<TextBox, NoMemory>
     requires printable { IsPrintable token.now }
     ensures text { IfOk result (λ text. text ≡ json_text (general_of token.now)) }
     ensures back { members_depth token.now.outer ≤ 123 → IfOk result (IsGeneral token.now) }

@@ -10,7 +10,7 @@ ghost use Rattle.cli_parts.specs.Telling.{TellsFault};
 use crate::form::Form;
 use cli_parts::{Stop, as_line, refused};
 use compact_form::{Condition, FILE_MAX, print};
-use json_form::{TokenError, TokenText, print_flat, print_general};
+use json_form::{TokenError, TokenText, flat_text, general_text};
 use sd_outside::{NoMemory, TextBox};
 use std::alloc::Global;
 
@@ -25,8 +25,8 @@ fn write_as(alloc: Global, form: Form, token: TokenText<'_>) -> Result<TextBox, 
             let token = token.into_token(alloc)?;
             print(alloc, &token.parts)
         }
-        Form::Flat => print_flat(alloc, &token.view()),
-        Form::General => print_general(alloc, &token.view()),
+        Form::Flat => flat_text(alloc, &token.view()),
+        Form::General => general_text(alloc, &token.view()),
     }
 }
 

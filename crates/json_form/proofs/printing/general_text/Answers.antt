@@ -9,7 +9,7 @@ use Rattle.compact_form.specs.declared.fault.Part.TheVariants.{Payload}
 use Rattle.json_form.specs.Json.{IsGeneral}
 use Rattle.json_form.specs.Written.{general_of}
 use Rattle.json_form.proofs.WrittenForms.{general_ranged, general_depth, general_says}
-use Rattle.json_form.proofs.printing.print_general.Goals as goal
+use Rattle.json_form.proofs.printing.general_text.Goals as goal
 
 pub write-requires : goal.write-requires
 write-requires c =

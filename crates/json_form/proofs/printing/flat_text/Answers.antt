@@ -8,7 +8,7 @@ use Rattle.compact_form.specs.declared.fault.Part.TheVariants.{Payload}
 use Rattle.json_form.specs.Json.{IsFlat}
 use Rattle.json_form.specs.Written.{flat_of}
 use Rattle.json_form.proofs.WrittenForms.{flat_ranged, flat_depth, flat_says}
-use Rattle.json_form.proofs.printing.print_flat.Goals as goal
+use Rattle.json_form.proofs.printing.flat_text.Goals as goal
 
 pub write-requires : goal.write-requires
 write-requires c =
