@@ -26,10 +26,10 @@ pointer-append p q = flat_map-append (λ (step : Text). codes "/" ++ escaped ste
 
 -- ---- where the strange ones stand
 
-abbrev is_strange : List Given → OwnedSite → Bool
+abbrev pub is_strange : List Given → OwnedSite → Bool
 is_strange g x = not (is_given g x.site.digest)
 
-abbrev stand_of : Marked → OwnedSite → Standing
+abbrev pub stand_of : Marked → OwnedSite → Standing
 stand_of m x = standing x.site.kind (issued.origin m x)
 
 abbrev strange_texts : Marked → List Given → List OwnedSite → List Text
