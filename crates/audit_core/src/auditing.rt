@@ -84,6 +84,7 @@ fn judge_others(
     claims: &Marked,
     given: &GivenList,
     lists: &[SiteList],
+    seed: u64,
 ) -> Result<(), AuditError>
     requires passes { NoneApplies (AppliesToOrder (order_of order.now)) }
     requires claims { marked_of claims.now ≡ marked_claims (order_of order.now) }
@@ -95,7 +96,7 @@ fn judge_others(
         return Ok(());
     }
     let places = places_of(alloc, claims)?;
-    let found = gather(alloc, order.hash, given, lists, &places)?;
+    let found = gather(alloc, order.hash, given, lists, &places, seed)?;
     let Found { of_form, standings } = found;
     if !of_form {
         return Err(AuditError::Part(4));
@@ -114,6 +115,7 @@ fn judge_digests(
     claims: &Marked,
     payload: &Tree,
     given: &GivenList,
+    seed: u64,
 ) -> Result<(), AuditError>
     requires passes { NoneApplies (AppliesToOrder (order_of order.now)) }
     requires claims { marked_of claims.now ≡ marked_claims (order_of order.now) }
@@ -128,7 +130,7 @@ fn judge_digests(
     if !are_so_many(lists, given.len() + decoy_count(order)) {
         return Err(AuditError::Part(4));
     }
-    if let Err(error) = judge_others(alloc, order, claims, given, lists) {
+    if let Err(error) = judge_others(alloc, order, claims, given, lists, seed) {
         return Err(error);
     }
     if !has_sorted_digests(payload, given) {
@@ -161,8 +163,8 @@ fn judge_content(
     if !shows(alloc, &written, claims, steps)? {
         return Err(AuditError::Part(3));
     }
-    let Written { body, given } = written;
-    judge_digests(alloc, order, claims, &without_alg(body), &given)
+    let Written { body, given, seed } = written;
+    judge_digests(alloc, order, claims, &without_alg(body), &given, seed)
 }
 
 // The claims of the order with their marks, and how many they are.

@@ -3,7 +3,7 @@ use Rattle.std.proofs.lemmas.Bool.{true≢false}
 use Rattle.claim_tree.specs.View.{tree_of}
 use Rattle.issuer_core.specs.Decoys.{decoys_of}
 use Rattle.issuer_core.specs.Order.{order_of}
-use Rattle.audit_core.specs.Audit.{digests_differ, order_differs}
+use Rattle.audit_core.specs.Audit.{digests_differ}
 use Rattle.audit_core.specs.Found.{AreCounted, listed_in}
 use Rattle.audit_core.proofs.Contents.{count_told}
 use Rattle.audit_core.proofs.Parts.{few_decoys}

@@ -1,4 +1,4 @@
-use Rattle.std.proofs.Common.{◌≡◌, [], sym, ap, ◌∙◌, refl}
+use Rattle.std.proofs.Common.{[], sym, ap, ◌∙◌, refl}
 use Rattle.std.proofs.lemmas.Bool.{true≢false}
 use Rattle.issuer_core.specs.Order.{order_of}
 use Rattle.audit_core.specs.Audit.{digests_differ, decoys_differ}
