@@ -1,7 +1,6 @@
 use Rattle.std.proofs.Common.{refl}
-use Rattle.audit_core.specs.AuditRun.{SaysYes, SaysNo, HasNoAudit, IsFetched}
+use Rattle.audit_core.specs.AuditRun.{SaysYes, SaysNo, HasNoAudit}
 use Rattle.audit_core.proofs.Answering.{fetched, lift_yes, lift_no, lift_unreadable}
-use Rattle.audit_core.proofs.run.answer.Given as given
 use Rattle.audit_core.proofs.run.answer.Goals as goal
 
 pub returns-clause-yes : goal.returns-clause-yes
