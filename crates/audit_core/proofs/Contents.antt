@@ -1,16 +1,15 @@
 -- From what the steps tell to the parts 4 and 5.
-use Rattle.std.proofs.Common.{◌≡◌, ℕ, ◌+◌, ◌<◌, ◌≤◌, List, [], length, map, Bool, true, refl, sym, ap, ◌∙◌, subst, arith}
+use Rattle.std.proofs.Common.{◌≡◌, ℕ, ◌+◌, List, [], length, map, sym, ap, ◌∙◌, arith}
 use Rattle.claim_tree.specs.Tree.{Text, Tree}
 use Rattle.digest_sites.specs.Given.{Given}
 use Rattle.digest_sites.specs.declared.site.Site as code
-use Rattle.disclosure.specs.declared.digests.HashAlg.{HashAlg}
 use Rattle.issuer_core.specs.Decoys.{decoys_of}
 use Rattle.issuer_core.specs.Digests.{hidden_of, marked_claims}
 use Rattle.issuer_core.specs.Laid.{sorted}
 use Rattle.issuer_core.specs.Order.{Order}
 use Rattle.audit_core.specs.Audited.{ShowsClaims, HasDigests, HasDecoys, decoys_found, decoys_wanted}
 use Rattle.audit_core.specs.AuditSteps.{standing_text}
-use Rattle.audit_core.specs.Found.{AllDigests, listed_in, listed_sites, sites_in, texts_from, trees_of}
+use Rattle.audit_core.specs.Found.{AllDigests, listed_in, listed_sites, texts_from, trees_of}
 use Rattle.audit_core.specs.Places.{places_at}
 use Rattle.audit_core.proofs.Alikes.{alike, sorted_alike}
 use Rattle.audit_core.proofs.ClosedPlaces.{roots}

@@ -1,20 +1,19 @@
 -- What is found of the sites of a token is what the definitions say of them.
-use Rattle.std.proofs.Common.{◌≡◌, ℕ, zero, suc, ◌+◌, ◌<◌, ◌≤◌, List, [], ◌∷◌, ◌++◌, map, length, Bool, true, false, not, cond, Option, Some, None, inl, inr, refl, sym, ap, ap₂, ◌∙◌, subst, arith, append_assoc}
-use Rattle.std.specs.Prelude.{filter, slice_get, unwrap_or, sum_by, codes, option_map}
-use Rattle.std.specs.List.{flat_map}
+use Rattle.std.proofs.Common.{◌≡◌, ℕ, suc, ◌+◌, ◌<◌, ◌≤◌, List, [], ◌∷◌, ◌++◌, map, length, Bool, true, false, not, cond, inl, inr, refl, sym, ap, ap₂, ◌∙◌, subst, arith}
+use Rattle.std.specs.Prelude.{filter, codes}
 use Rattle.std.proofs.lemmas.List.{length-append, length-map, map-append}
 use Rattle.std.proofs.lemmas.List.Elements.{filter-append}
 use Rattle.std.proofs.lemmas.Grind.{flat_map-append}
 use Rattle.claim_tree.specs.Tree.{Text, Tree}
-use Rattle.claim_tree.specs.Lists.{In, StandsAt}
+use Rattle.claim_tree.specs.Lists.{In}
 use Rattle.claim_tree.specs.Path.{pointer_text, escaped}
-use Rattle.claim_tree.proofs.Lists.{In-At, At-In, In-of_map, In-append, In-map, At-get}
+use Rattle.claim_tree.proofs.Lists.{In-of_map, In-append}
 use Rattle.digest_sites.specs.Given.{Given}
 use Rattle.digest_sites.specs.Sites.{Site, sites, step_text}
 use Rattle.disclosure.specs.declared.digests.HashAlg.{HashAlg}
 use Rattle.marked_tree.specs.Marked.{Marked}
-use Rattle.marked_tree.specs.Paths.{Path, mark_path}
-use Rattle.rebuild_core.specs.Reached.{Owner, payload, value_of, OwnedSite, owned_site, value_sites, all_sites, all_digests, given_digests}
+use Rattle.marked_tree.specs.Paths.{Path}
+use Rattle.rebuild_core.specs.Reached.{Owner, payload, value_of, OwnedSite, owned_site, value_sites, all_sites, all_digests}
 use Rattle.rebuild_core.proofs.Forgery.{payload_digest, value_digest}
 use Rattle.issuer_core.specs.Issued as issued
 use Rattle.audit_core.specs.Audited.{Standing, standing, IsDigestText, is_given, decoys_found}
@@ -26,10 +25,10 @@ pointer-append p q = flat_map-append (λ (step : Text). codes "/" ++ escaped ste
 
 -- ---- where the strange ones stand
 
-abbrev is_strange : List Given → OwnedSite → Bool
+abbrev pub is_strange : List Given → OwnedSite → Bool
 is_strange g x = not (is_given g x.site.digest)
 
-abbrev stand_of : Marked → OwnedSite → Standing
+abbrev pub stand_of : Marked → OwnedSite → Standing
 stand_of m x = standing x.site.kind (issued.origin m x)
 
 abbrev strange_texts : Marked → List Given → List OwnedSite → List Text

@@ -10,6 +10,7 @@ pub mod Wanteds
 mod Unwritten
 pub mod Writtens
 pub mod Contents
+mod NoOthers
 pub mod Parts
 pub mod Verdicts
 mod Answering

@@ -1,7 +1,7 @@
 -- Steps of the loops over sites and over entries of decoys.
-use Rattle.std.proofs.Common.{◌≡◌, ℕ, zero, suc, ◌+◌, ◌<◌, ◌≤◌, List, [], ◌∷◌, ◌++◌, map, length, take, drop, get_or, replicate, Bool, true, false, not, cond, ◌||◌, inl, inr, ⊎_elim, add-one, refl, sym, ap, ap₂, ◌∙◌, subst, arith, append_assoc, decimal}
-use Rattle.std.specs.Prelude.{filter, bytes_eq, if◌then◌else◌}
-use Rattle.std.proofs.lemmas.List.{append-nil, map-append, length-append, length-map, take_all, drop_all}
+use Rattle.std.proofs.Common.{◌≡◌, ℕ, zero, suc, ◌+◌, ◌<◌, ◌≤◌, List, [], ◌∷◌, ◌++◌, map, length, take, drop, get_or, replicate, Bool, true, false, not, cond, ◌||◌, inl, inr, add-one, refl, sym, ap, ap₂, ◌∙◌, subst, arith, append_assoc, decimal}
+use Rattle.std.specs.Prelude.{bytes_eq}
+use Rattle.std.proofs.lemmas.List.{append-nil, map-append, length-map, take_all, drop_all}
 use Rattle.std.proofs.lemmas.List.Elements.{filter-append}
 use Rattle.claim_tree.specs.Tree.{Text, Tree, elements_len}
 use Rattle.claim_tree.specs.Lists.{In}

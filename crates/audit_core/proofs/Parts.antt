@@ -17,7 +17,6 @@ use Rattle.claim_tree.proofs.Walks.{Named}
 use Rattle.audit_core.proofs.Alikes.{one_test}
 use Rattle.compact_form.specs.Lowest.{NoneApplies}
 use Rattle.marked_tree.specs.Paths.{Path, same_path}
-use Rattle.issuer_core.specs.declared.errors.IssueError.{IssueError}
 use Rattle.issuer_core.specs.declared.errors.IssueError.TheVariants.{TooManyHidden, TooManyDecoys}
 use Rattle.issuer_core.specs.Decoys.{decoys_of}
 use Rattle.issuer_core.specs.Order.{Order}

@@ -1,5 +1,5 @@
 -- What the test of each `_sd` says.
-use Rattle.std.proofs.Common.{◌≡◌, ℕ, ◌+◌, ◌<◌, inl, inr, length, get_or, drop, Bool, true, false, not, ◌&&◌, ◌||◌, List, [], ◌∷◌, Option, Some, None, Ordering, Less, Equal, Greater, refl, sym, ap, subst, ◌∙◌}
+use Rattle.std.proofs.Common.{◌≡◌, ℕ, ◌+◌, ◌<◌, inl, inr, length, get_or, drop, Bool, true, false, not, ◌&&◌, ◌||◌, List, [], ◌∷◌, Option, Some, None, refl, sym, ap, subst, ◌∙◌}
 use Rattle.std.specs.Prelude.{bytes_eq, option_map}
 use Rattle.std.specs.Ordering.{is_lt, nat_cmp}
 use Rattle.std.specs.Cmp.Lexicographic.{slice_cmp}
@@ -13,7 +13,7 @@ use Rattle.digest_sites.specs.Given.{Given}
 use Rattle.claim_tree.proofs.Everywheres.{EachElementIn, EachMemberIn}
 use Rattle.claim_tree.proofs.Lists.{and_split, and_join}
 use Rattle.claim_tree.proofs.MapPlaces.{before_through, is_less}
-use Rattle.digest_sites.specs.Reserved.{sd_name, texts_of, text_list}
+use Rattle.digest_sites.specs.Reserved.{sd_name, texts_of}
 use Rattle.issuer_core.specs.Issued.{Rises, IsDigestList, HasDigestLists}
 use Rattle.audit_core.specs.SortedLists.{is_before, rise, is_digest_list, has_digest_lists, elements_have, members_have, values_have}
 

@@ -1,14 +1,12 @@
 -- Where no condition of 14 to 21 fails, each digest stands once, and those of the disclosures are among them.
-use Rattle.std.proofs.Common.{◌≡◌, ◌≢◌, ℕ, suc, ◌<◌, ◌≤◌, List, [], ◌∷◌, ◌++◌, map, length, Bool, true, false, inl, inr, refl, sym, ap, ap₂, ◌∙◌, subst, arith, if◌then◌else◌}
-use Rattle.sd_outside.specs.Limits.{depth_max}
+use Rattle.std.proofs.Common.{◌≡◌, ◌≢◌, ℕ, suc, List, [], ◌∷◌, ◌++◌, map, Bool, true, false, inl, inr, refl, sym, ap, ap₂, subst, arith, if◌then◌else◌}
 use Rattle.claim_tree.specs.Tree.{Text, Tree}
-use Rattle.claim_tree.specs.Lists.{In, StandsAt, IsSuchAt, Repeats, AtNone, IsLeast}
-use Rattle.claim_tree.proofs.Lists.{In-At, At-In, In-of_map, At-map, false_unless_true}
+use Rattle.claim_tree.specs.Lists.{In, Repeats, AtNone}
+use Rattle.claim_tree.proofs.Lists.{In-At, At-In, In-of_map, false_unless_true}
 use Rattle.digest_sites.specs.Given.{Given}
 use Rattle.digest_sites.specs.Reserved.{misuses}
 use Rattle.digest_sites.specs.Sites.{sites}
 use Rattle.rebuild_core.specs.Reached.{payload, value_of, OwnedSite, owned_site, is_reached, value_sites, met, all_sites, owned_digests, all_digests, given_digests}
-use Rattle.rebuild_core.specs.Conditions.{RepeatedDigest}
 use Rattle.rebuild_core.specs.Soundness.{IsSound, IsReferencedOnce}
 use Rattle.rebuild_core.specs.Answer.{IsProcessRefused}
 use Rattle.rebuild_core.specs.declared.errors.ProcessError.{ProcessError}

@@ -1,9 +1,9 @@
 -- The elements and members of a slice of marked trees, one by one.
-use Rattle.std.proofs.Common.{◌≡◌, ◌≢◌, ℕ, zero, suc, ◌+◌, ◌<◌, ◌≤◌, List, [], ◌∷◌, ◌++◌, map, length, get_or, drop, Bool, true, false, ◌&&◌, refl, sym, ap, ap₂, ◌∙◌, subst, arith}
+use Rattle.std.proofs.Common.{◌≡◌, ◌≢◌, ℕ, zero, suc, ◌+◌, ◌<◌, ◌≤◌, List, [], ◌∷◌, length, get_or, drop, Bool, true, false, ◌&&◌, refl, sym, ap, ap₂, ◌∙◌, subst, arith}
 use Rattle.std.specs.Prelude.{bytes_eq}
 use Rattle.std.proofs.lemmas.List.{drop_more, drop_all}
 use Rattle.claim_tree.specs.Nodes.{nodes, elements_nodes, members_nodes}
-use Rattle.marked_tree.specs.Marked.{MarkedElements, marked_element, MarkedMembers, marked_member, strip, strip_elements, strip_members}
+use Rattle.marked_tree.specs.Marked.{MarkedElements, MarkedMembers, strip, strip_elements, strip_members}
 use Rattle.marked_tree.specs.View.{marked_of, marked_elements_of, marked_members_of}
 use Rattle.marked_tree.proofs.MarkedViews.{Element, Entry}
 use Rattle.audit_core.specs.SameMarked.{same_mark, same_marked, same_elements, same_members}

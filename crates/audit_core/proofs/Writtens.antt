@@ -1,14 +1,11 @@
 -- When a text is not written as it is to be: what is read of it is the one thing that it could be the text of.
-use Rattle.std.proofs.Common.{◌≡◌, ◌≢◌, ◌<◌, arith, ℕ, suc, List, [], ◌∷◌, ◌++◌, length, Option, Some, None, Bool, true, false, not, inl, inr, refl, sym, ap, ◌∙◌, subst}
-use Rattle.std.specs.Prelude.{codes, slice_get, bytes_eq}
-use Rattle.std.proofs.lemmas.Bool.{true≢false}
+use Rattle.std.proofs.Common.{◌≡◌, ◌<◌, arith, suc, List, [], ◌∷◌, ◌++◌, length, Option, Some, None, inl, inr, refl, sym, ap, ◌∙◌, subst}
 use Rattle.claim_tree.specs.Lists.{In}
-use Rattle.claim_tree.proofs.Lists.{bytes_refl, bytes_same, In-append}
+use Rattle.claim_tree.proofs.Lists.{In-append}
 use Rattle.std.specs.List.{AllZip}
-use Rattle.b64url_text.specs.Base64url.{b64, Decodes}
+use Rattle.b64url_text.specs.Base64url.{b64}
 use Rattle.b64url_text.proofs.Lengths.{length-b64}
-use Rattle.claim_tree.specs.Tree.{Text, Tree, leaf, text, array, object, Members, member_named, get}
-use Rattle.claim_tree.specs.JsonText.{json_text}
+use Rattle.claim_tree.specs.Tree.{Text, Tree, leaf, text, array, object}
 use Rattle.digest_sites.specs.Given.{Given}
 use Rattle.disclosure.specs.Digest.{digest_of, hash_name}
 use Rattle.disclosure.specs.Disclosure.{array_of}
@@ -18,7 +15,7 @@ use Rattle.disclosure.proofs.Arrays.{array_of-injective}
 use Rattle.jws_part.proofs.Parts.{one_carried}
 use Rattle.rebuild_core.specs.Answer.{IsPayload}
 use Rattle.rebuild_core.specs.Payload.{alg_name}
-use Rattle.audit_core.specs.Audited.{IsWrittenAs, IsSaltedText, GivesSalted}
+use Rattle.audit_core.specs.Audited.{IsWrittenAs, GivesSalted}
 use Rattle.audit_core.specs.AuditSteps.{NamesHash, IsSalt, IsUnsalted, IsOtherPayload, IsUnwritten}
 
 -- ---- a disclosure

@@ -13,7 +13,7 @@ use Rattle.issuer_core.specs.declared.errors.IssueError.{IssueError}
 use Rattle.issuer_core.specs.Order.{Order}
 use Rattle.issuer_core.specs.OrderRefusals.{AppliesToOrder, IsLowestRefusal, issue_number}
 use Rattle.audit_core.specs.declared.errors.AuditError.{AuditError}
-use Rattle.audit_core.specs.declared.errors.AuditError.TheVariants.{Memory, Order as OnOrder, Token as OnCondition, Part}
+use Rattle.audit_core.specs.declared.errors.AuditError.TheVariants.{Order as OnOrder, Token as OnCondition, Part}
 use Rattle.audit_core.specs.Audited.{IsSignedFor, IsWrittenFor, ShowsClaims, HasDigests, HasDecoys, HasSortedDigests, IsAudited}
 
 -- nothing of 51 to 59 refuses the order, and the text is what it asks for

@@ -1,7 +1,6 @@
 -- Not needed to believe the program's promises: what an audit answers, and how many digests it looks up.
 use Rattle.std.specs.Prelude.{◌≡◌, ◌⊎◌, ◌≤◌, ℕ, List}
 use Rattle.claim_tree.specs.Tree.{Text, Tree}
-use Rattle.compact_form.specs.declared.fault.Fault.{Fault}
 use Rattle.digest_sites.specs.Given.{Given}
 use Rattle.hmac_sign.specs.Signatures.{Meaning}
 use Rattle.hmac_sign.specs.declared.alg.Alg.{Alg}

@@ -1,5 +1,5 @@
 -- The line that tells why a token is not what an order asks for.
-use Rattle.std.specs.Prelude.{◌==◌, ℕ, zero, suc, Option, None, Some}
+use Rattle.std.specs.Prelude.{ℕ, zero, suc, Option, None, Some}
 use Rattle.claim_tree.specs.Tree.{Text}
 use Rattle.compact_form.specs.declared.fault.Place.{Place}
 use Rattle.compact_form.specs.declared.fault.Place.TheVariants.{Nowhere, At}

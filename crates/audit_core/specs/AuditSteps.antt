@@ -1,14 +1,13 @@
 -- For private functions: what the steps of an audit answer.
-use Rattle.std.specs.Prelude.{◌≡◌, ◌⊎◌, ◌≤◌, ℕ, List, [], ◌∷◌, ◌++◌, map, length, codes, Option, Some, None, Bool, unwrap_or}
+use Rattle.std.specs.Prelude.{◌≡◌, ◌⊎◌, ℕ, List, ◌++◌, length, codes, Option, Some}
 use Rattle.std.specs.List.{AllZip}
 use Rattle.b64url_text.specs.Base64url.{Decodes}
-use Rattle.claim_tree.specs.Tree.{Text, Tree, leaf, text, get, IsRanged, IsOrdered, depth}
+use Rattle.claim_tree.specs.Tree.{Text, Tree, leaf, text, get}
 use Rattle.claim_tree.specs.Path.{pointer_text}
 use Rattle.digest_sites.specs.Given.{Given}
 use Rattle.digest_sites.specs.declared.site.SiteKind.{SiteKind}
 use Rattle.digest_sites.specs.declared.site.SiteKind.TheVariants.{Member, Element}
 use Rattle.disclosure.specs.Digest.{hash_name}
-use Rattle.disclosure.specs.Disclosure.{IsDisclosure}
 use Rattle.disclosure.specs.declared.digests.HashAlg.{HashAlg}
 use Rattle.json_form.specs.declared.token.Token.{Token}
 use Rattle.rebuild_core.specs.LookUps.{look_ups, RoseWithin}

@@ -10,7 +10,9 @@ use Rattle.digest_sites.specs.SiteCalls.{listed}
 use Rattle.digest_sites.specs.Sites.{Site, sites, step_text}
 use Rattle.digest_sites.specs.declared.site.Site as code
 use Rattle.disclosure.specs.declared.digests.HashAlg.{HashAlg}
-use Rattle.audit_core.specs.Audited.{IsDigestText, is_given}
+use Rattle.issuer_core.specs.Decoys.{decoys_of}
+use Rattle.issuer_core.specs.Order.{Order}
+use Rattle.audit_core.specs.Audited.{IsDigestText, is_given, ShowsClaims}
 use Rattle.audit_core.specs.AuditSteps.{kind_text}
 use Rattle.audit_core.specs.declared.found.Found.{Found}
 
@@ -83,3 +85,9 @@ sites_in (t ∷ ts) = length (sites t) + sites_in ts
 abbrev pub listed_in : List (List code.Site) → ℕ
 listed_in [] = 0
 listed_in (l ∷ ls) = length l + listed_in ls
+
+-- the payload and the values show the claims, and these are their sites, as many as the digests are to be
+pub record AreCounted (o : Order) (payload : Tree) (given : List Given) (lists : List (List code.Site)) : Type 0 where
+  pub shows : ShowsClaims o payload given
+  pub listed : map listed_sites (trees_of payload given) ≡ lists
+  pub count : listed_in lists ≡ length given + length (decoys_of o)

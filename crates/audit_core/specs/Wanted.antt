@@ -1,10 +1,9 @@
 -- For private functions: where an order wants its decoys, as texts.
-use Rattle.std.specs.Prelude.{◌≡◌, ℕ, zero, suc, ◌+◌, List, [], ◌∷◌, ◌++◌, map, codes, decimal, Option, Some, None, unwrap_or, replicate}
+use Rattle.std.specs.Prelude.{ℕ, zero, suc, ◌+◌, List, [], ◌∷◌, ◌++◌, decimal, Option, Some, unwrap_or, replicate}
 use Rattle.std.specs.Ordering.{nat_cmp}
 use Rattle.std.specs.Cmp.Lexicographic.{slice_cmp}
 use Rattle.std.specs.BTreeMap.{BTreeMap, get}
 use Rattle.claim_tree.specs.Tree.{Text, Tree, array, object, elements_len}
-use Rattle.claim_tree.specs.Path.{pointer_text}
 use Rattle.digest_sites.specs.declared.site.SiteKind.TheVariants.{Member, Element}
 use Rattle.marked_tree.specs.Paths.{Path}
 use Rattle.audit_core.specs.Audited.{standing}

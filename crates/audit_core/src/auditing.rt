@@ -1,7 +1,7 @@
 // The call that audits.
 ghost use Rattle.std.specs.Prelude.{◌≡◌, ◌≤◌, ℕ, length, OnOk, IfOk, IfErr};
 ghost use Rattle.sd_outside.specs.Limits.{count_max};
-ghost use Rattle.claim_tree.specs.Tree.{IsRanged, depth as depth_of};
+ghost use Rattle.claim_tree.specs.Tree.{Tree as SeenTree, IsRanged, depth as depth_of};
 ghost use Rattle.claim_tree.specs.View.{tree_of};
 ghost use Rattle.compact_form.specs.Lowest.{NoneApplies};
 ghost use Rattle.marked_tree.specs.View.{marked_of};
@@ -15,10 +15,11 @@ ghost use Rattle.issuer_core.specs.JudgeCalls.{IsOrderRefused};
 ghost use Rattle.issuer_core.specs.Order.{Order as SeenOrder, order_of};
 ghost use Rattle.issuer_core.specs.OrderRefusals.{AppliesToOrder};
 ghost use Rattle.audit_core.specs.declared.errors.AuditError.{AuditError as SeenError};
-ghost use Rattle.audit_core.specs.Audited.{IsAudited, IsAuditedFor, ShowsClaims};
+ghost use Rattle.audit_core.specs.Audited.{IsAudited, IsAuditedFor, ShowsClaims, HasDigests, HasDecoys};
 ghost use Rattle.audit_core.specs.Audit.{PassesAudit, FailsAudit, DiffersIn, ContentDiffers};
 ghost use Rattle.audit_core.specs.AuditCalls.{IsAuditRefused, IsAuditedWithin, IsEarly};
 ghost use Rattle.audit_core.specs.AuditSteps.{IsTokenWithin, OnOrderRefused, OnPart};
+ghost use Rattle.audit_core.specs.Found.{AreCounted};
 
 use crate::AuditError;
 use crate::claims::shows;
@@ -32,7 +33,7 @@ use crate::wanted::wanted_standings;
 use crate::written::{Written, read_written};
 use claim_tree::{Tree, copy, copy_paths};
 use digest_index::Steps;
-use digest_sites::GivenList;
+use digest_sites::{GivenList, SiteList};
 use hmac_sign::{Alg, Checker};
 use issuer_core::{IssueError, Order, judge, order_refusal};
 use json_form::{TokenError, TokenText, TokenView};
@@ -76,6 +77,37 @@ fn decoy_count(order: &Order) -> usize
     count
 }
 
+// The digests of no disclosure: what part 4 says of them, and part 5. They are counted, so an order without decoys has none.
+fn judge_others(
+    alloc: Global,
+    order: &Order,
+    claims: &Marked,
+    given: &GivenList,
+    lists: &[SiteList],
+    seed: u64,
+) -> Result<(), AuditError>
+    requires passes { NoneApplies (AppliesToOrder (order_of order.now)) }
+    requires claims { marked_of claims.now ≡ marked_claims (order_of order.now) }
+    requires count { length given.now ≡ hidden_of (order_of order.now) }
+    ensures hold { OnOk result ((p : SeenTree) → AreCounted (order_of order.now) p given.now lists.now → HasDigests (order_of order.now) p given.now × HasDecoys (order_of order.now) p given.now) }
+    ensures differs { IfErr result (λ e. (p : SeenTree) → AreCounted (order_of order.now) p given.now lists.now → OnPart e (ContentDiffers (order_of order.now) p given.now)) }
+{
+    if decoy_count(order) == 0 {
+        return Ok(());
+    }
+    let places = places_of(alloc, claims)?;
+    let found = gather(alloc, order.hash, given, lists, &places, seed)?;
+    let Found { of_form, standings } = found;
+    if !of_form {
+        return Err(AuditError::Part(4));
+    }
+    let wanted = wanted_standings(alloc, order)?;
+    if !are_alike(standings, wanted)? {
+        return Err(AuditError::Part(5));
+    }
+    Ok(())
+}
+
 // The parts 4 to 6, of a payload without its own `_sd_alg`.
 fn judge_digests(
     alloc: Global,
@@ -83,6 +115,7 @@ fn judge_digests(
     claims: &Marked,
     payload: &Tree,
     given: &GivenList,
+    seed: u64,
 ) -> Result<(), AuditError>
     requires passes { NoneApplies (AppliesToOrder (order_of order.now)) }
     requires claims { marked_of claims.now ≡ marked_claims (order_of order.now) }
@@ -94,15 +127,11 @@ fn judge_digests(
 {
     let lists = site_lists(alloc, payload, given)?;
     let lists = lists.as_slice();
-    let places = places_of(alloc, claims)?;
-    let found = gather(alloc, order.hash, given, lists, &places)?;
-    let Found { of_form, standings } = found;
-    if !of_form || !are_so_many(lists, given.len() + decoy_count(order)) {
+    if !are_so_many(lists, given.len() + decoy_count(order)) {
         return Err(AuditError::Part(4));
     }
-    let wanted = wanted_standings(alloc, order)?;
-    if !are_alike(standings, wanted)? {
-        return Err(AuditError::Part(5));
+    if let Err(error) = judge_others(alloc, order, claims, given, lists, seed) {
+        return Err(error);
     }
     if !has_sorted_digests(payload, given) {
         return Err(AuditError::Part(6));
@@ -134,8 +163,8 @@ fn judge_content(
     if !shows(alloc, &written, claims, steps)? {
         return Err(AuditError::Part(3));
     }
-    let Written { body, given } = written;
-    judge_digests(alloc, order, claims, &without_alg(body), &given)
+    let Written { body, given, seed } = written;
+    judge_digests(alloc, order, claims, &without_alg(body), &given, seed)
 }
 
 // The claims of the order with their marks, and how many they are.

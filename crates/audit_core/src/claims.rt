@@ -13,7 +13,7 @@ use crate::same::is_same;
 use crate::written::Written;
 use digest_index::Steps;
 use marked_tree::Marked;
-use rebuild_core::{ProcessError, process};
+use rebuild_core::{ProcessError, process_seeded};
 use sd_outside::NoMemory;
 use std::alloc::Global;
 
@@ -30,7 +30,7 @@ fn opened(alloc: Global, written: &Written, steps: &mut Steps) -> Result<Option<
     ensures unsound { IfOk result (λ shown. IfNone shown (IsSound (without_alg (tree_of written.now.body)) written.now.given → ⊥)) }
     ensures risen { RoseWithin (look_ups (without_alg (tree_of written.now.body)) written.now.given) steps.old steps.new }
 {
-    match process(alloc, &written.body, &written.given, steps) {
+    match process_seeded(alloc, &written.body, &written.given, written.seed, steps) {
         Ok(marked) => Ok(Some(marked)),
         Err(error) => match error {
             ProcessError::Memory => Err(NoMemory),

@@ -37,11 +37,15 @@ fn has(digests: &HashSet<&str, Seeded>, digest: &str) -> bool
     digests.contains(digest)
 }
 
-// The digests of the disclosures.
-fn digests_of<'a>(alloc: Global, given: &'a GivenList) -> Result<HashSet<&'a str, Seeded>, NoMemory>
+// The digests of the disclosures, hashed with the seed.
+fn digests_of<'a>(
+    alloc: Global,
+    given: &'a GivenList,
+    seed: u64,
+) -> Result<HashSet<&'a str, Seeded>, NoMemory>
     ensures { IfOk result (λ set. (digest : Text) → is_in set.keys digest ≡ is_given given.now digest) }
 {
-    let mut digests = HashSet::with_hasher(alloc, Seeded::new(0));
+    let mut digests = HashSet::with_hasher(alloc, Seeded::new(seed));
     for one in given.items() {
         add(&mut digests, one.digest.as_str())?;
     }
@@ -121,17 +125,18 @@ fn root_at(places: &TextList, k: usize) -> &str
     }
 }
 
-// What is found of these sites, where the values stand at these places.
+// What is found of these sites, where the values stand at these places. Digests are looked up by their hashes with the seed.
 pub(crate) fn gather(
     alloc: Global,
     hash: HashAlg,
     given: &GivenList,
     lists: &[SiteList],
     places: &TextList,
+    seed: u64,
 ) -> Result<Found, NoMemory>
     ensures { IfOk result (λ found. (trees : List SeenTree) → map listed_sites trees ≡ lists.now → IsFoundIn hash given.now places.now trees found) }
 {
-    let digests = digests_of(alloc, given)?;
+    let digests = digests_of(alloc, given, seed)?;
     let mut found = Found {
         of_form: true,
         standings: Vec::new(alloc),

@@ -22,12 +22,22 @@ use issuer_core::Order;
 use json_form::{Disclosures, TokenView};
 use sd_outside::NoMemory;
 use std::alloc::Global;
+use std::hash::{DefaultHasher, Hasher};
 
 // What is read of a token that is written as it is to be.
 #[derive(Debug, Drop)]
 pub(crate) struct Written {
     pub(crate) body: Tree,
     pub(crate) given: GivenList,
+    // By which digests are hashed, so that it costs no more to look up some of them than others.
+    pub(crate) seed: u64,
+}
+
+// What the author of a token can't know while choosing its digests: the signature is over them, and it was checked.
+fn seed_of(signature: &str) -> u64 {
+    let mut hasher = DefaultHasher::new();
+    hasher.write(signature.as_bytes());
+    hasher.finish()
 }
 
 // Whether a salt is the text of 16 bytes.
@@ -198,12 +208,16 @@ pub(crate) fn read_written(
         return Ok(None);
     }
     let mut reader = CompactReader::new(alloc);
-    let payload = token.signed().payload;
-    let Some(body) = read_payload(alloc, order.hash, &mut reader, payload)? else {
+    let signed = token.signed();
+    let Some(body) = read_payload(alloc, order.hash, &mut reader, signed.payload)? else {
         return Ok(None);
     };
     match read_given(alloc, order.hash, &mut reader, token.disclosures())? {
-        Some(given) => Ok(Some(Written { body, given })),
+        Some(given) => Ok(Some(Written {
+            body,
+            given,
+            seed: seed_of(signed.signature),
+        })),
         None => Ok(None),
     }
 }

@@ -1,5 +1,4 @@
-use Rattle.std.proofs.Common.{◌≡◌, ◌+◌, ◌≤◌, length, drop}
-use Rattle.sd_outside.specs.Limits.{count_max}
+use Rattle.std.proofs.Common.{◌≡◌, ◌+◌, length, drop}
 use Rattle.issuer_core.specs.Decoys.{decoy_paths}
 use Rattle.audit_core.proofs.auditing.decoy_count.Given as goal
 

@@ -1,4 +1,4 @@
-use Rattle.std.proofs.Common.{◌≡◌, sym, ◌∙◌}
+use Rattle.std.proofs.Common.{sym, ◌∙◌}
 use Rattle.marked_tree.specs.View.{marked_of}
 use Rattle.audit_core.proofs.Sames.{is_one, one_is}
 use Rattle.audit_core.proofs.claims.shows.Goals as goal

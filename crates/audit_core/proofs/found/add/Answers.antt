@@ -1,4 +1,4 @@
-use Rattle.std.proofs.Common.{◌≡◌, ◌∙◌}
+use Rattle.std.proofs.Common.{◌∙◌}
 use Rattle.audit_core.proofs.Parts.{put_turned}
 use Rattle.audit_core.proofs.found.add.Goals as goal
 

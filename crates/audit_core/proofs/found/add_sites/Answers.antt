@@ -1,4 +1,4 @@
-use Rattle.std.proofs.Common.{◌≡◌, ◌++◌, ◌∷◌, [], take, sym, ap, ◌∙◌, subst}
+use Rattle.std.proofs.Common.{◌++◌, ◌∷◌, [], take, sym, ap, ◌∙◌, subst}
 use Rattle.digest_sites.specs.SiteCalls.{listed}
 use Rattle.audit_core.specs.Audited.{is_given}
 use Rattle.audit_core.specs.Found.{AddsSites}

@@ -1,6 +1,4 @@
-use Rattle.std.proofs.Common.{◌≡◌, sym, ap, ap₂, ◌∙◌, map, take, subst}
-use Rattle.std.specs.Prelude.{bytes_eq}
-use Rattle.digest_sites.specs.GivenView.{given_of}
+use Rattle.std.proofs.Common.{◌∙◌}
 use Rattle.audit_core.proofs.Loops.{given_more, given_all}
 use Rattle.audit_core.proofs.found.digests_of.Goals as goal
 

@@ -1,4 +1,4 @@
-use Rattle.std.proofs.Common.{◌≡◌, ◌++◌, refl, ap}
+use Rattle.std.proofs.Common.{◌++◌, refl, ap}
 use Rattle.digest_sites.specs.Sites.{sites}
 use Rattle.audit_core.specs.Found.{listed_sites, texts_from}
 use Rattle.audit_core.proofs.Loops.{there, trees_step, trees_end}

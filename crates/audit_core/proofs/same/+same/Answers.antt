@@ -1,6 +1,6 @@
-use Rattle.std.proofs.Common.{◌≡◌, arith, sym, ap₂, ◌∙◌}
+use Rattle.std.proofs.Common.{arith, sym, ap₂, ◌∙◌}
 use Rattle.audit_core.specs.SameMarked.{same_elements, same_members}
-use Rattle.audit_core.proofs.Walks.{element_nodes, member_nodes, same_lists, same_maps, lists_step, maps_step, goes_on, stops, lists_end, maps_end, lists_done, maps_done}
+use Rattle.audit_core.proofs.Walks.{element_nodes, member_nodes, lists_end, maps_end}
 use Rattle.audit_core.proofs.same.+same.Goals as goal
 
 pub is_same_list-returns-then-elements-others : goal.is_same_list-returns-then-elements-others

@@ -1,4 +1,4 @@
-use Rattle.std.proofs.Common.{◌≡◌, List, length, sym, ◌∙◌, ap, eq-eqb}
+use Rattle.std.proofs.Common.{◌∙◌, eq-eqb}
 use Rattle.audit_core.proofs.Parts.{no_members_empty}
 use Rattle.audit_core.proofs.signed.is_alone.Goals as goal
 

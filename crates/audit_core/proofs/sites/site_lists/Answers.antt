@@ -1,4 +1,3 @@
-use Rattle.std.proofs.Common.{subst, sym, ap, ◌∙◌, append-nil}
 use Rattle.claim_tree.proofs.Lists.{At-In}
 use Rattle.rebuild_core.proofs.GivenFacts.{item_at}
 use Rattle.audit_core.proofs.Loops.{lists_end}

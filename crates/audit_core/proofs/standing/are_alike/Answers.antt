@@ -1,4 +1,4 @@
-use Rattle.std.proofs.Common.{◌≡◌, sym, ap, ◌∙◌}
+use Rattle.std.proofs.Common.{sym, ◌∙◌}
 use Rattle.issuer_core.proofs.SortedDigests.{sort_is}
 use Rattle.audit_core.proofs.Parts.{texts_same, same_texts}
 use Rattle.audit_core.proofs.standing.are_alike.Goals as goal

@@ -1,4 +1,4 @@
-use Rattle.std.proofs.Common.{◌≡◌, ◌++◌, ◌∷◌, [], sym, ap, ap₂, ◌∙◌, append_assoc}
+use Rattle.std.proofs.Common.{◌++◌, ◌∷◌, [], sym, ap, ap₂, ◌∙◌, append_assoc}
 use Rattle.audit_core.specs.Wanted.{element_texts}
 use Rattle.audit_core.proofs.Loops.{elements_more}
 use Rattle.audit_core.proofs.wanted.push_elements.Goals as goal

@@ -1,6 +1,5 @@
 use Rattle.std.proofs.Common.{◌≡◌, ◌++◌, ◌+◌, sym, ap, ◌∙◌, Some, subst}
 use Rattle.std.specs.Result.{OnOk}
-use Rattle.claim_tree.specs.Tree.{array, elements_len}
 use Rattle.claim_tree.specs.View.{tree_of}
 use Rattle.audit_core.specs.Wanted.{element_texts, entry_texts}
 use Rattle.audit_core.proofs.Loops.{list_length}

@@ -1,7 +1,6 @@
-use Rattle.std.proofs.Common.{◌≡◌, ◌≤◌, ◌+◌, ◌++◌, [], length, map, drop, take, sym, ap, ap₂, ◌∙◌, append_assoc, arith, subst}
+use Rattle.std.proofs.Common.{◌≤◌, ◌+◌, ◌++◌, length, drop, take, sym, ap, ◌∙◌, append_assoc, arith, subst}
 use Rattle.claim_tree.specs.View.{tree_of}
 use Rattle.issuer_core.specs.Decoys.{decoy_paths}
-use Rattle.audit_core.specs.Wanted.{entry_texts}
 use Rattle.audit_core.proofs.Loops.{entry}
 use Rattle.audit_core.proofs.Wanteds.{texts_of, few_before, whole_step, counts_after, texts_after, texts_end}
 use Rattle.audit_core.proofs.wanted.wanted_standings.Goals as goal

@@ -1,4 +1,4 @@
-use Rattle.std.proofs.Common.{◌≡◌, ◌++◌, ◌+◌, length, map, drop, take}
+use Rattle.std.proofs.Common.{◌≡◌, ◌++◌, length, drop, take}
 use Rattle.claim_tree.specs.Path.{pointer_text}
 use Rattle.claim_tree.specs.View.{tree_of}
 use Rattle.marked_tree.specs.Paths.{Path}

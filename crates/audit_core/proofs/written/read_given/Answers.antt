@@ -1,4 +1,4 @@
-use Rattle.std.proofs.Common.{◌≡◌, ◌≤◌, [], ◌∷◌, ◌++◌, append_assoc, sym, ap, subst, ◌∙◌, rules}
+use Rattle.std.proofs.Common.{◌≤◌, [], ◌∷◌, ◌++◌, append_assoc, sym, ap, subst, ◌∙◌, rules}
 use Rattle.std.specs.List.{AllZip}
 use Rattle.claim_tree.specs.Tree.{depth, IsRanged}
 use Rattle.claim_tree.specs.Lists.{In}

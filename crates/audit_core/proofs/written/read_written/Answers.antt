@@ -1,4 +1,4 @@
-use Rattle.std.proofs.Common.{◌≡◌, sym, ap, length, ◌∙◌}
+use Rattle.std.proofs.Common.{sym, ap, length, ◌∙◌}
 use Rattle.audit_core.proofs.Writtens.{zip_length}
 use Rattle.audit_core.proofs.written.read_written.Goals as goal
 
