@@ -19,7 +19,7 @@ ghost use Rattle.key_binding.specs.Read.{claims_of};
 use crate::holder::holder_key;
 use crate::reading::{Claims, read_claims};
 use crate::{BindingError, BindingPolicy, BoundError, is_among};
-use claim_tree::{Tree, TreeMap};
+use claim_tree::{JsonReader, Tree, TreeMap};
 use compact_form::{Condition, JwtParts, JwtView};
 use disclosure::{HashAlg, digest};
 use hmac_sign::Hs256Key;
@@ -76,25 +76,29 @@ pub fn check_binding(
         hashed,
         now,
     };
-    match check_bound(alloc, bound) {
+    match check_bound(alloc, &mut JsonReader::new(alloc), bound) {
         Ok(()) => Ok(()),
         Err(BoundError::Memory) => Err(BindingError::Memory),
         Err(BoundError::Fails(condition)) => Err(BindingError::Fault(condition.number())),
     }
 }
 
-/// The same of borrowed texts, with no copy.
-pub fn check_bound(alloc: Global, bound: Bound<'_>) -> Result<(), BoundError>
+/// The same of borrowed texts, with no copy. The reader reads what they carry.
+pub fn check_bound(
+    alloc: Global,
+    reader: &mut JsonReader,
+    bound: Bound<'_>,
+) -> Result<(), BoundError>
     ensures passes { OnOk result (NoneFails (BindingFails (judged_of bound.entry))) }
     ensures refused { IfErr result (λ e. OnBoundFails e (IsLowestBinding (judged_of bound.entry))) }
 {
     let Some(key) = holder_key(&bound.policy.keys, bound.payload) else {
         return Err(BoundError::Fails(Condition::HolderKeyUnknown));
     };
-    if let Err(error) = check_signed(alloc, bound, key) {
+    if let Err(error) = check_signed(alloc, reader, bound, key) {
         return Err(error);
     }
-    check_payload(alloc, bound)
+    check_payload(alloc, reader, bound)
 }
 
 fn is_binding_type(typ: Option<&TextBox>) -> bool
@@ -107,21 +111,26 @@ fn is_binding_type(typ: Option<&TextBox>) -> bool
 }
 
 // The header of the token. There is no unprotected one.
-fn header_of(alloc: Global, protected: &str) -> Result<Header, HeaderError>
+fn header_of(alloc: Global, reader: &mut JsonReader, protected: &str) -> Result<Header, HeaderError>
     ensures ok { IfOk result (IsHeader protected.now no_members) }
     ensures unreadable { IsErrOf result HeaderError.Unreadable → IsHeaderUnreadable protected.now no_members }
     ensures critical { IsErrOf result HeaderError.Critical → IsHeaderCritical protected.now no_members }
 {
-    read_header(alloc, protected, &TreeMap::new(alloc))
+    read_header(alloc, reader, protected, &TreeMap::new(alloc))
 }
 
 // 28 to 31.
-fn check_signed(alloc: Global, bound: Bound<'_>, key: &Hs256Key) -> Result<(), BoundError>
+fn check_signed(
+    alloc: Global,
+    reader: &mut JsonReader,
+    bound: Bound<'_>,
+    key: &Hs256Key,
+) -> Result<(), BoundError>
     requires key { holder_key_of bound.policy.now.keys (tree_of bound.payload.now) ≡ Some key.now }
     ensures ok { OnOk result (Passes (number_of Condition.BindingPayload) (BindingFails (judged_of bound.entry))) }
     ensures refused { IfErr result (λ e. OnBoundFails e (IsLowestBinding (judged_of bound.entry))) }
 {
-    match header_of(alloc, bound.token.protected) {
+    match header_of(alloc, reader, bound.token.protected) {
         Ok(header) => check_header(alloc, bound, key, &header),
         Err(HeaderError::Memory) => Err(BoundError::Memory),
         Err(HeaderError::Unreadable) => Err(BoundError::Fails(Condition::BindingHeader)),
@@ -166,12 +175,12 @@ fn check_header(
 }
 
 // 32 to 38.
-fn check_payload(alloc: Global, bound: Bound<'_>) -> Result<(), BoundError>
+fn check_payload(alloc: Global, reader: &mut JsonReader, bound: Bound<'_>) -> Result<(), BoundError>
     requires below { Passes (number_of Condition.BindingPayload) (BindingFails (judged_of bound)) }
     ensures passes { OnOk result (NoneFails (BindingFails (judged_of bound.entry))) }
     ensures refused { IfErr result (λ e. OnBoundFails e (IsLowestBinding (judged_of bound.entry))) }
 {
-    match read_body(alloc, bound.token.payload) {
+    match read_body(alloc, reader, bound.token.payload) {
         Ok(body) => check_body(alloc, bound, &body),
         Err(BodyError::Memory) => Err(BoundError::Memory),
         Err(BodyError::Unreadable) => Err(BoundError::Fails(Condition::BindingPayload)),

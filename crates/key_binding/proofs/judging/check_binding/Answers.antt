@@ -8,8 +8,8 @@ use Rattle.key_binding.specs.Judged.{judged}
 use Rattle.key_binding.specs.BindingCalls.{IsLowestBinding, OnBoundFails}
 use Rattle.key_binding.proofs.judging.check_binding.Goals as goal
 
-pub returns-in-Err-Fails-clause-refused : goal.returns-in-Err-Fails-clause-refused
-returns-in-Err-Fails-clause-refused c =
+pub returns-clause-refused : goal.returns-clause-refused
+returns-clause-refused c =
     let a = c.args in
     let Lowest : JwtParts → Condition → Type 0 = λ token. IsLowestBinding (judged token (tree_of a.payload.now) a.policy.now a.skew a.hash a.hashed.now a.now) in
     let lowest = subst (λ (e : BoundError). OnBoundFails e (Lowest (jwt_of c.view.result))) c.in-Err-Fails.field-0-is c.in-Err-Fails.ensures.refused in
