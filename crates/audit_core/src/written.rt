@@ -16,13 +16,13 @@ ghost use Rattle.audit_core.specs.AuditSteps.{NamesHash, IsSalt, IsUnsalted, Has
 use crate::compact::CompactReader;
 use b64url_text::decode_into;
 use claim_tree::{Tree, get};
+use digest_index::seed_of;
 use digest_sites::{Given, GivenList};
 use disclosure::{DisclosureParts, HashAlg, digest};
 use issuer_core::Order;
 use json_form::{Disclosures, TokenView};
 use sd_outside::NoMemory;
 use std::alloc::Global;
-use std::hash::{DefaultHasher, Hasher};
 
 // What is read of a token that is written as it is to be.
 #[derive(Debug, Drop)]
@@ -31,13 +31,6 @@ pub(crate) struct Written {
     pub(crate) given: GivenList,
     // By which digests are hashed, so that it costs no more to look up some of them than others.
     pub(crate) seed: u64,
-}
-
-// What the author of a token can't know while choosing its digests: the signature is over them, and it was checked.
-fn seed_of(signature: &str) -> u64 {
-    let mut hasher = DefaultHasher::new();
-    hasher.write(signature.as_bytes());
-    hasher.finish()
 }
 
 // Whether a salt is the text of 16 bytes.

@@ -16,13 +16,12 @@ use crate::check_signed::{check_signed, fails};
 use crate::{CheckedMarks, CheckedPayload, Rules, VerifyError};
 use claim_tree::Tree;
 use compact_form::Condition;
-use digest_index::Steps;
+use digest_index::{Steps, seed_of};
 use digest_sites::GivenList;
 use disclosure::HashAlg;
 use json_form::TokenView;
 use rebuild_core::{ProcessError, process_payload, process_seeded};
 use std::alloc::Global;
-use std::hash::{DefaultHasher, Hasher};
 use std::marker::Model;
 
 /// What is read of a token that passes the conditions 5 to 13: its payload, the algorithm of its digests, and what its
@@ -65,13 +64,6 @@ fn refusal(error: ProcessError) -> VerifyError
         ProcessError::NameClash(i) => fails_at(Condition::NameClash, i),
         ProcessError::TooDeep => fails(Condition::TooDeep),
     }
-}
-
-// What the author of a token can't know while choosing its digests: the signature is over them, and it was checked.
-fn seed_of(signature: &str) -> u64 {
-    let mut hasher = DefaultHasher::new();
-    hasher.write(signature.as_bytes());
-    hasher.finish()
 }
 
 impl Content {
