@@ -15,7 +15,7 @@ ghost use Rattle.audit_core.specs.Audited.{IsWrittenAs, GivesSalted, IsWrittenFo
 ghost use Rattle.audit_core.specs.AuditSteps.{NamesHash, IsSalt, IsUnsalted, HasUnsalted, IsOtherPayload};
 
 use b64url_text::{DecodeError, decode};
-use claim_tree::{Tree, get};
+use claim_tree::{JsonReader, Tree, get};
 use digest_sites::{Given, GivenList};
 use disclosure::{Disclosure, DisclosureError, DisclosureReader, HashAlg, make_owned};
 use issuer_core::Order;
@@ -151,6 +151,7 @@ fn read_salted(
 // What the disclosures give, where each is such.
 fn read_given(
     alloc: Global,
+    reader: &mut DisclosureReader,
     hash: HashAlg,
     disclosures: Disclosures<'_>,
 ) -> Result<Option<GivenList>, NoMemory>
@@ -159,10 +160,9 @@ fn read_given(
     ensures shallow { IfOk result (λ read. IfSome read ValuesShallow) }
     ensures none { IfOk result (λ read. IfNone read (HasUnsalted hash disclosures.entry)) }
 {
-    let mut reader = DisclosureReader::new(alloc);
     let mut given = GivenList::new(alloc);
     for text in disclosures {
-        match read_salted(alloc, hash, &mut reader, text)? {
+        match read_salted(alloc, hash, reader, text)? {
             Some(one) => given.push(one)?,
             None => return Ok(None),
         }
@@ -190,7 +190,12 @@ fn is_text_of(alloc: Global, part: &str, tree: &Tree) -> Result<bool, NoMemory>
 }
 
 // The payload, where it is the text of one that names the hash.
-fn read_payload(alloc: Global, hash: HashAlg, part: &str) -> Result<Option<Tree>, NoMemory>
+fn read_payload(
+    alloc: Global,
+    reader: &mut JsonReader,
+    hash: HashAlg,
+    part: &str,
+) -> Result<Option<Tree>, NoMemory>
     ensures some { IfOk result (λ read. IfSome read (λ body. IsWrittenAs part.now (tree_of body))) }
     ensures hash { IfOk result (λ read. IfSome read (λ body. NamesHash hash (tree_of body))) }
     ensures object { IfOk result (λ read. IfSome read (λ body. IsPayload (tree_of body))) }
@@ -198,7 +203,7 @@ fn read_payload(alloc: Global, hash: HashAlg, part: &str) -> Result<Option<Tree>
     ensures depth { IfOk result (λ read. IfSome read (λ body. depth_of (tree_of body) ≤ 127)) }
     ensures none { IfOk result (λ read. IfNone read (IsOtherPayload hash part.now)) }
 {
-    let body = match read_body(alloc, part) {
+    let body = match read_body(alloc, reader, part) {
         Ok(body) => body,
         Err(BodyError::Unreadable) => return Ok(None),
         Err(BodyError::Memory) => return Err(NoMemory),
@@ -229,10 +234,12 @@ pub(crate) fn read_written(
     if token.count() != hidden as usize {
         return Ok(None);
     }
-    let Some(body) = read_payload(alloc, order.hash, token.signed().payload)? else {
+    let mut reader = DisclosureReader::new(alloc);
+    let payload = token.signed().payload;
+    let Some(body) = read_payload(alloc, &mut reader.json, order.hash, payload)? else {
         return Ok(None);
     };
-    match read_given(alloc, order.hash, token.disclosures())? {
+    match read_given(alloc, &mut reader, order.hash, token.disclosures())? {
         Some(given) => Ok(Some(Written { body, given })),
         None => Ok(None),
     }

@@ -19,7 +19,7 @@ ghost use Rattle.cli_parts.specs.Stops.{OnRefused, OnUnread, OnUnreadable};
 ghost use Rattle.cli_parts.specs.Telling.{TellsFault};
 
 use crate::split::push_binding;
-use claim_tree::{Tree, TreeMap, write};
+use claim_tree::{JsonReader, Tree, TreeMap, write};
 use cli_parts::{Stop, refused};
 use compact_form::{Condition, Fault, JwtView, Place};
 use disclosure::{
@@ -31,13 +31,18 @@ use sd_outside::{NoMemory, TextBox};
 use std::alloc::Global;
 
 // The protected header as a tree, read with the unprotected one beside it.
-fn read_head(alloc: Global, protected: &str, outer: &TreeMap) -> Result<Tree, BodyError>
+fn read_head(
+    alloc: Global,
+    reader: &mut JsonReader,
+    protected: &str,
+    outer: &TreeMap,
+) -> Result<Tree, BodyError>
     ensures head { IfOk result (λ t. IsHead protected.now outer.now (tree_of t)) }
     ensures ranged { IfOk result (λ t. IsRanged (tree_of t)) }
     ensures unreadable { IsErrOf result BodyError.Unreadable → IsHeaderUnreadable protected.now outer.now }
 {
-    let tree = read_body(alloc, protected)?;
-    match read_header(alloc, protected, outer) {
+    let tree = read_body(alloc, reader, protected)?;
+    match read_header(alloc, reader, protected, outer) {
         Ok(_) => Ok(tree),
         Err(HeaderError::Critical) => Ok(tree),
         Err(HeaderError::Unreadable) => Err(BodyError::Unreadable),
@@ -133,6 +138,7 @@ impl From<NoMemory> for Unshown {
 // The lines of the disclosures, up to the first that is not read.
 fn push_all_shown(
     alloc: Global,
+    reader: &mut DisclosureReader,
     text: &mut String,
     hash: HashAlg,
     disclosures: Disclosures<'_>,
@@ -141,9 +147,8 @@ fn push_all_shown(
     ensures ok { OnOk result (AddsLines hash disclosures.entry (string_bytes text.old) (string_bytes text.new)) }
     ensures unread { IfErr result (λ e. OnFails e (IsShowUnreadAt hash disclosures.entry)) }
 {
-    let mut reader = DisclosureReader::new(alloc);
     for (i, part) in disclosures.enumerate() {
-        match push_shown(alloc, &mut reader, text, i, hash, part) {
+        match push_shown(alloc, reader, text, i, hash, part) {
             Ok(()) => (),
             Err(DisclosureError::Memory) => return Err(Unshown::Memory),
             Err(_) => {
@@ -191,12 +196,13 @@ fn show_view(alloc: Global, file: &[u8], token: &TokenView<'_>) -> Result<String
         payload,
         ..
     } = token.signed();
-    let head = match read_head(alloc, protected, token.outer()) {
+    let mut reader = DisclosureReader::new(alloc);
+    let head = match read_head(alloc, &mut reader.json, protected, token.outer()) {
         Ok(head) => head,
         Err(BodyError::Unreadable) => return Err(fails(Condition::HeaderUnreadable)),
         Err(BodyError::Memory) => return Err(Unshown::Memory),
     };
-    let payload = match read_body(alloc, payload) {
+    let payload = match read_body(alloc, &mut reader.json, payload) {
         Ok(payload) => payload,
         Err(BodyError::Unreadable) => return Err(fails(Condition::PayloadUnreadable)),
         Err(BodyError::Memory) => return Err(Unshown::Memory),
@@ -205,7 +211,7 @@ fn show_view(alloc: Global, file: &[u8], token: &TokenView<'_>) -> Result<String
         return Err(fails(Condition::HashUnknown));
     };
     let mut text = start(alloc, &head, &payload, file.len())?;
-    push_all_shown(alloc, &mut text, hash, token.disclosures())?;
+    push_all_shown(alloc, &mut reader, &mut text, hash, token.disclosures())?;
     push_binding(&mut text, token.binding())?;
     Ok(text)
 }

@@ -42,10 +42,12 @@ fn unread(i: usize, error: DisclosureError) -> VerifyError
     }
 }
 
-// Condition 13.
+// Condition 13. There is memory for so many at first.
 pub(crate) fn read_given(
     alloc: Global,
+    reader: &mut DisclosureReader,
     hash: HashAlg,
+    count: usize,
     disclosures: Disclosures<'_>,
 ) -> Result<GivenList, VerifyError>
     requires { length disclosures < 2 ^ 64 }
@@ -54,10 +56,9 @@ pub(crate) fn read_given(
     ensures ranged { IfOk result ValuesRanged }
     ensures refused { IfErr result (λ e. OnFault e (IsUnreadAt hash disclosures.entry)) }
 {
-    let mut reader = DisclosureReader::new(alloc);
-    let mut given = GivenList::new(alloc);
+    let mut given = GivenList::with_capacity(alloc, count)?;
     for (i, text) in disclosures.enumerate() {
-        if let Err(error) = push_given(alloc, hash, &mut reader, &mut given, text) {
+        if let Err(error) = push_given(alloc, hash, reader, &mut given, text) {
             return Err(unread(i, error));
         }
     }

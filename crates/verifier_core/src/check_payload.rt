@@ -8,21 +8,25 @@ ghost use Rattle.verifier_core.specs.Check.{OnFault, IsPayloadFault};
 
 use crate::check::VerifyError;
 use crate::check_signed::fails;
-use claim_tree::Tree;
+use claim_tree::{JsonReader, Tree};
 use compact_form::Condition;
 use disclosure::{HashAlg, payload_hash};
 use jws_part::{BodyError, read_body};
 use std::alloc::Global;
 
 // The conditions 11 and 12.
-pub(crate) fn read_payload(alloc: Global, payload: &str) -> Result<(Tree, HashAlg), VerifyError>
+pub(crate) fn read_payload(
+    alloc: Global,
+    reader: &mut JsonReader,
+    payload: &str,
+) -> Result<(Tree, HashAlg), VerifyError>
     ensures ok { IfOk result (λ p. IsBody payload.now (tree_of p.0)) }
     ensures hash { IfOk result (λ p. payload_hash_of (tree_of p.0) ≡ Some p.1) }
     ensures ranged { IfOk result (λ p. IsRanged (tree_of p.0)) }
     ensures depth { IfOk result (λ p. depth_of (tree_of p.0) ≤ 127) }
     ensures refused { IfErr result (λ e. OnFault e (IsPayloadFault payload.now)) }
 {
-    let body = match read_body(alloc, payload) {
+    let body = match read_body(alloc, reader, payload) {
         Ok(body) => body,
         Err(BodyError::Memory) => return Err(VerifyError::Memory),
         Err(BodyError::Unreadable) => return Err(fails(Condition::PayloadUnreadable)),

@@ -10,7 +10,7 @@ ghost use Rattle.marked_tree.specs.Marked.{Marked, strip};
 use crate::check_signed::fails;
 use crate::claims::check_claims;
 use crate::{Policy, VerifyError};
-use claim_tree::Tree;
+use claim_tree::{JsonReader, Tree};
 use disclosure::HashAlg;
 use json_form::{TokenText, TokenView};
 use key_binding::{Bound, BoundError, check_bound};
@@ -26,6 +26,7 @@ pub(crate) fn is_binding_missing(token: &TokenView<'_>, policy: &Policy) -> bool
 // The conditions 27 to 38, where a key binding token is asked for.
 fn check_holder(
     alloc: Global,
+    reader: &mut JsonReader,
     token: &TokenText<'_>,
     payload: &Tree,
     hash: HashAlg,
@@ -50,7 +51,7 @@ fn check_holder(
         hashed: token.hashed(),
         now,
     };
-    match check_bound(alloc, bound) {
+    match check_bound(alloc, reader, bound) {
         Ok(()) => Ok(()),
         Err(BoundError::Memory) => Err(VerifyError::Memory),
         Err(BoundError::Fails(condition)) => Err(fails(condition)),
@@ -60,6 +61,7 @@ fn check_holder(
 // The conditions 22 to 38 of a token that is opened, over its processed payload and its hash.
 pub(crate) fn check_shown(
     alloc: Global,
+    reader: &mut JsonReader,
     token: &TokenText<'_>,
     payload: &Tree,
     hash: HashAlg,
@@ -75,5 +77,5 @@ pub(crate) fn check_shown(
     if let Err(fault) = check_claims(payload, policy, now) {
         return Err(VerifyError::Fault(fault));
     }
-    check_holder(alloc, token, payload, hash, policy, now)
+    check_holder(alloc, reader, token, payload, hash, policy, now)
 }

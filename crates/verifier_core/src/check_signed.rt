@@ -10,7 +10,7 @@ ghost use Rattle.compact_form.specs.Faults.{unplaced};
 ghost use Rattle.verifier_core.specs.declared.check.VerifyError as error;
 
 use crate::{Rules, VerifyError};
-use claim_tree::TreeMap;
+use claim_tree::{JsonReader, TreeMap};
 use compact_form::{Condition, JwtView};
 use hmac_sign::{Alg, HsKey, KeySet, alg_named};
 use jws_part::{Header, HeaderError, read_header};
@@ -65,6 +65,7 @@ fn is_type_refused(asked: Option<&TextBox>, typ: Option<&TextBox>) -> bool
 /// The conditions 5 to 10.
 pub(crate) fn check_signed(
     alloc: Global,
+    reader: &mut JsonReader,
     signed: JwtView<'_>,
     outer: &TreeMap,
     rules: &Rules<'_>,
@@ -72,7 +73,7 @@ pub(crate) fn check_signed(
     ensures ok { OnOk result (IsSigned (jwt_of signed.entry) outer.now rules.now) }
     ensures refused { IfErr result (λ e. OnFault e (IsSignedFault (jwt_of signed.entry) outer.now rules.now)) }
 {
-    let header = match read_header(alloc, signed.protected, outer) {
+    let header = match read_header(alloc, reader, signed.protected, outer) {
         Ok(header) => header,
         Err(HeaderError::Memory) => return Err(VerifyError::Memory),
         Err(HeaderError::Unreadable) => return Err(fails(Condition::HeaderUnreadable)),

@@ -18,7 +18,7 @@ use claim_tree::Tree;
 use compact_form::Condition;
 use digest_index::Steps;
 use digest_sites::GivenList;
-use disclosure::HashAlg;
+use disclosure::{DisclosureReader, HashAlg};
 use json_form::TokenView;
 use rebuild_core::{ProcessError, process_payload, process_seeded};
 use std::alloc::Global;
@@ -86,15 +86,29 @@ impl Content {
         ensures content { IfOk result (IsContent token.now rules.now) }
         ensures refused { IfErr result (λ e. OnFault e (IsLowest (TokenFails token.now rules.now))) }
     {
+        Content::read_with(alloc, &mut DisclosureReader::new(alloc), token, rules)
+    }
+
+    // The same, in the memory of a reader.
+    pub(crate) fn read_with(
+        alloc: Global,
+        reader: &mut DisclosureReader,
+        token: &TokenView<'_>,
+        rules: &Rules<'_>,
+    ) -> Result<Content, VerifyError>
+        requires few { length token.now.parts.disclosures < 2 ^ 32 - 1 }
+        ensures content { IfOk result (IsContent token.now rules.now) }
+        ensures refused { IfErr result (λ e. OnFault e (IsLowest (TokenFails token.now rules.now))) }
+    {
         let signed = token.signed();
-        if let Err(error) = check_signed(alloc, signed, token.outer(), rules) {
+        if let Err(error) = check_signed(alloc, &mut reader.json, signed, token.outer(), rules) {
             return Err(error);
         }
-        let (body, hash) = match read_payload(alloc, signed.payload) {
+        let (body, hash) = match read_payload(alloc, &mut reader.json, signed.payload) {
             Ok(read) => read,
             Err(error) => return Err(error),
         };
-        let given = match read_given(alloc, hash, token.disclosures()) {
+        let given = match read_given(alloc, reader, hash, token.count(), token.disclosures()) {
             Ok(given) => given,
             Err(error) => return Err(error),
         };

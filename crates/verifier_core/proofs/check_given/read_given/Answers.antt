@@ -13,9 +13,9 @@ loop-i-init c = record {
   done = [];
   stand = search rules;
   counted = search rules;
-  read = rw c.new-given.ensures tt;
-  shallow = λ x there. absurd (subst (λ g. In x g) c.new-given.ensures there);
-  ranged = λ x there. absurd (subst (λ g. In x g) c.new-given.ensures there);
+  read = rw c.in_ok-given.ensures tt;
+  shallow = λ x there. absurd (subst (λ g. In x g) c.in_ok-given.ensures there);
+  ranged = λ x there. absurd (subst (λ g. In x g) c.in_ok-given.ensures there);
 }
 
 pub loop-i-preserved : goal.loop-i-preserved
