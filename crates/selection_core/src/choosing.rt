@@ -35,25 +35,29 @@ pub fn choose(alloc: Global, tree: &Marked, wanted: &PathList) -> Result<ChosenS
     Ok(ChosenSet::of(alloc, marks)?)
 }
 
-// Adds a mark, also where it is there.
-fn add_mark(marks: &mut Vec<u32>, mark: u32) -> Result<(), NoMemory>
+// Adds a mark, unless it stands at this place. It may stand at another.
+fn add_mark(marks: &mut Vec<u32>, at: usize, mark: u32) -> Result<(), NoMemory>
     ensures { OnOk result ((i : ℕ) → has marks.new.items i ≡ (eqb i mark || has marks.old.items i)) }
 {
+    if marks.get(at) == Some(&mark) {
+        return Ok(());
+    }
     marks.push(mark)?;
     Ok(())
 }
 
-// Adds the marks on the way to the path. False where it leads nowhere.
+// Adds the marks on the way to the path. False where it leads nowhere. Most ways begin as an earlier one does, whose marks
+// are there, each at the number of its step where each step has one.
 fn add_way(tree: &Marked, path: &Path, marks: &mut Vec<u32>) -> Result<bool, NoMemory>
     ensures there { IfOk result (λ there. there ≡ is_some (tree_at (strip (marked_of tree.now)) path.now)) }
     ensures marks { IfOk result (λ there. there ≡ true → (i : ℕ) → has marks.new.items i ≡ (has marks.old.items i || is_on_way (marked_of tree.now) path.now i)) }
 {
     let mut inside = tree;
-    for step in path.steps() {
+    for (at, step) in path.steps().iter().enumerate() {
         match stepped(inside, step.as_str()) {
             Some((mark, below)) => {
                 if let Some(mark) = mark {
-                    add_mark(marks, mark)?;
+                    add_mark(marks, at, mark)?;
                 }
                 inside = below;
             }

@@ -9,8 +9,8 @@ pub returns-clause-marks : goal.returns-clause-marks
 returns-clause-marks c there =
     let steps : Path = c.steps-step-items.result.now in
     let m = marked_of c.args.tree.now in
-    let inside = marked_of c.loop-step.inside.now in
-    let none : drop c.loop-step.step-index steps ≡ [] = drop_all _ _ c.loop-step-test.false in
-    passed_all c.args.marks.now.items c.loop-step.marks.items m c.args.path.now inside
-    (subst (λ (p : Path). ArePassed c.args.marks.now.items m p c.loop-step.marks.items inside []) c.steps-step-items.ensures
-    (subst (λ (p : Path). ArePassed c.args.marks.now.items m steps c.loop-step.marks.items inside p) none c.loop-step.invariant.1))
+    let inside = marked_of c.loop-at.inside.now in
+    let none : drop c.loop-at.at steps ≡ [] = drop_all _ _ c.loop-at-test.false in
+    passed_all c.args.marks.now.items c.loop-at.marks.items m c.args.path.now inside
+    (subst (λ (p : Path). ArePassed c.args.marks.now.items m p c.loop-at.marks.items inside []) c.steps-step-items.ensures
+    (subst (λ (p : Path). ArePassed c.args.marks.now.items m steps c.loop-at.marks.items inside p) none c.loop-at.invariant.1))

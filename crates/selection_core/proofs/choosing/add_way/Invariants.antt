@@ -3,7 +3,7 @@ use Rattle.marked_tree.specs.View.{marked_of}
 use Rattle.selection_core.proofs.PathWalks.{LeadsOn, ArePassed}
 use Rattle.selection_core.proofs.choosing.add_way.Given as goal
 
-abbrev pub invariant-loop-step : goal.invariant-loop-step
-invariant-loop-step l =
-    LeadsOn (marked_of l.tree) l.step-items (marked_of l.inside) (drop l.step-index l.step-items)
-    × ArePassed l.fn.marks.items (marked_of l.tree) l.step-items l.marks.items (marked_of l.inside) (drop l.step-index l.step-items)
+abbrev pub invariant-loop-at : goal.invariant-loop-at
+invariant-loop-at l =
+    LeadsOn (marked_of l.tree) l.step-items (marked_of l.inside) (drop l.at l.step-items)
+    × ArePassed l.fn.marks.items (marked_of l.tree) l.step-items l.marks.items (marked_of l.inside) (drop l.at l.step-items)
