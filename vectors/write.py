@@ -132,6 +132,13 @@ def outcome(due):
     return int(status), output, line.removesuffix("\n")
 
 
+def replace_output(runs, name):
+    """A file takes the place of what a run before it kept under this name."""
+    for run in runs:
+        if run.get("kept_as") == name:
+            del run["kept_as"]
+
+
 def vector_of(row):
     """The vector of a row that is written out, or None where it limits the room on standard output."""
     if " = " in row:
@@ -150,8 +157,10 @@ def vector_of(row):
             moment = int(rest)
         elif name.endswith(":"):
             files[name[:-1]] = rest
+            replace_output(runs, name[:-1])
         elif rest.startswith(":= "):
             files[name] = token(files, rest[3:])
+            replace_output(runs, name)
         elif rest.startswith("+= "):
             files[name] += binding(files, rest[3:])
         elif rest.startswith("~= "):
