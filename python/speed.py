@@ -103,7 +103,7 @@ def main():
     for threads in (2, 4):
         print(f"Policy.verify on {threads} threads: {rate(lambda: policy.verify(shown), words.seconds, threads):,.0f} a second")
     handle = policy._handles[0]
-    tell("the call of the library in it", lambda: sdjwt._library.verify_behind(handle, shown, 1_800_000_000), words.seconds)
+    tell("the call of the library in it", lambda: handle.verify(shown, 1_800_000_000), words.seconds)
     tell("verify, the policy read each time", lambda: sdjwt.verify(text, shown), words.seconds)
     for name, check in peers(shown.decode().split("~")[0]):
         tell(name, check, words.seconds)

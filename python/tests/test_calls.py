@@ -81,7 +81,8 @@ def test_an_audit_tells_what_differs():
     token = sdjwt.issue(ORDER)
     assert sdjwt.audit(ORDER, token) is None
     assert sdjwt.audit(ORDER, sdjwt.convert("general", token)) is None
-    for order, name in (({**ORDER, "kid": "other"}, "signedPartDiffers"), ({**ORDER, "hide": []}, "payloadDiffers")):
+    for order, name in (({**ORDER, "kid": "other"}, "signedPartDiffers"), ({**ORDER, "hide": []}, "writtenFormDiffers"),
+                        ({**ORDER, "payload": {**CLAIMS, "seat": "B13"}}, "payloadDiffers")):
         with pytest.raises(sdjwt.Refused) as caught:
             sdjwt.audit(order, token)
         assert caught.value.name == name and caught.value.explanation

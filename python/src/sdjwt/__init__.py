@@ -245,7 +245,7 @@ def audit(order: Json, token: Json) -> None:
     >>> order = {"payload": {"name": "Ada"}, "hide": ["/name"], "key": "dGhlIHRpY2tldCBvZmZpY2Uga2V5LCBub3QgeW91cnM"}
     >>> token = issue(order)
     >>> audit(order, token)
-    >>> audit({**order, "hide": []}, token)
+    >>> audit({**order, "payload": {"name": "Eve"}}, token)
     Traceback (most recent call last):
     sdjwt._errors.Refused: refused 83 payloadDiffers
     """
