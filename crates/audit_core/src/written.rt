@@ -6,7 +6,6 @@ ghost use Rattle.claim_tree.specs.View.{tree_of};
 ghost use Rattle.digest_sites.specs.Given.{Given as SeenGiven};
 ghost use Rattle.digest_sites.specs.GivenView.{given_of};
 ghost use Rattle.disclosure.specs.Disclosure.{array_of};
-ghost use Rattle.disclosure.specs.DisclosureRefusals.{IsNoArray};
 ghost use Rattle.rebuild_core.specs.Answer.{IsPayload, ValuesShallow, ValuesRanged};
 ghost use Rattle.issuer_core.specs.Order.{order_of};
 ghost use Rattle.issuer_core.specs.Digests.{hidden_of};
@@ -18,7 +17,7 @@ use b64url_text::decode_into;
 use claim_tree::{Tree, get};
 use digest_index::seed_of;
 use digest_sites::{Given, GivenList};
-use disclosure::{DisclosureParts, HashAlg, digest};
+use disclosure::{DisclosureParts, HashAlg, digest, parts_of};
 use issuer_core::Order;
 use json_form::{Disclosures, TokenView};
 use sd_outside::NoMemory;
@@ -44,34 +43,6 @@ fn is_salt(salt: &str) -> bool
     match decode_into(salt.as_bytes(), &mut room) {
         Ok(count) => count == 16,
         Err(_) => false,
-    }
-}
-
-// The salt, the name and the value of which a list is made.
-fn parts_of(tree: Tree) -> Option<DisclosureParts>
-    ensures some { IfSome result (λ d. tree_of tree ≡ array_of (tree_of d.salt) d.name (tree_of d.value)) }
-    ensures none { IfNone result (IsNoArray (tree_of tree)) }
-{
-    let Tree::List(list) = tree else {
-        return None;
-    };
-    let mut trees = list.into_trees().into_iter();
-    let salt = trees.next()?;
-    let second = trees.next()?;
-    let Some(value) = trees.next() else {
-        return Some(DisclosureParts {
-            salt,
-            name: None,
-            value: second,
-        });
-    };
-    match second {
-        Tree::Text(name) if trees.next().is_none() => Some(DisclosureParts {
-            salt,
-            name: Some(name),
-            value,
-        }),
-        _ => None,
     }
 }
 

@@ -62,8 +62,8 @@ impl DisclosureParts {
     }
 }
 
-// What a disclosure holds whose JSON is this tree.
-fn parts_of(tree: Tree) -> Option<DisclosureParts>
+/// What a disclosure holds whose JSON is this tree (RFC 9901 section 4.2): the salt, the name and the value, which are moved out of it.
+pub fn parts_of(tree: Tree) -> Option<DisclosureParts>
     ensures parts { IfSome result (λ d. tree_of tree ≡ array_of (tree_of d.salt) d.name (tree_of d.value)) }
     ensures other { IfNone result (IsNoArray (tree_of tree)) }
 {
@@ -121,26 +121,7 @@ impl DisclosureReader {
         }
     }
 
-    /// Reads a disclosure, as [`read_disclosure`] does.
-    pub fn read(&mut self, alloc: Global, text: &str) -> Result<Disclosure, DisclosureError>
-        ensures text { IfOk result (λ d. d.text ≡ text.now) }
-        ensures ok { IfOk result (λ d. IsDisclosure text.now (tree_of d.salt) d.name (tree_of d.value)) }
-        ensures ranged { IfOk result (λ d. IsRanged (tree_of d.value)) }
-        ensures ordered { IfOk result (λ d. IsOrdered (tree_of d.value)) }
-        ensures depth { IfOk result (λ d. depth (tree_of d.value) ≤ 126) }
-
-        // the salt
-        ensures salt_ranged { IfOk result (λ d. IsRanged (tree_of d.salt)) }
-        ensures salt_ordered { IfOk result (λ d. IsOrdered (tree_of d.salt)) }
-        ensures salt_depth { IfOk result (λ d. depth (tree_of d.salt) ≤ 126) }
-
-        ensures refused { IfErr result (IsDisclosureRefused text.now) }
-    {
-        let parts = self.read_parts(alloc, text)?;
-        Ok(parts.with_text(TextBox::make(alloc, text)?))
-    }
-
-    /// The same, for who has the text: it is not copied.
+    /// Reads a disclosure, as [`read_disclosure`] does, for who has the text: it is not copied.
     pub fn read_parts(
         &mut self,
         alloc: Global,
@@ -179,7 +160,8 @@ pub fn read_disclosure(alloc: Global, text: &str) -> Result<Disclosure, Disclosu
 
     ensures refused { IfErr result (IsDisclosureRefused text.now) }
 {
-    DisclosureReader::new(alloc).read(alloc, text)
+    let parts = DisclosureReader::new(alloc).read_parts(alloc, text)?;
+    Ok(parts.with_text(TextBox::make(alloc, text)?))
 }
 
 fn push_text(alloc: Global, list: &mut TreeList, text: &str) -> Result<(), NoMemory>
