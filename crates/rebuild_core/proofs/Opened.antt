@@ -7,18 +7,13 @@ use Rattle.digest_sites.specs.Sites.{Step, to_member, to_element, Site, sites, e
 use Rattle.digest_sites.specs.Given.{Given}
 use Rattle.digest_sites.specs.declared.site.SiteKind.TheVariants.{Element}
 use Rattle.marked_tree.specs.Marked.{Marked, strip}
-use Rattle.marked_tree.specs.View.{marked_of}
-use Rattle.marked_tree.specs.declared.marked.Marked.{Marked as Code}
-use Rattle.claim_tree.specs.declared.tree.Tree.{Tree as TreeCode}
-use Rattle.claim_tree.specs.declared.tree.TreeMap.{TreeMap}
-use Rattle.claim_tree.specs.View.{tree_of}
-use Rattle.rebuild_core.specs.Payload.{without_alg}
 use Rattle.rebuild_core.specs.Answer.{IsProcessRefused}
 use Rattle.rebuild_core.specs.Opening.{Shown, nothing_shown, shown, open_tree, processed}
 use Rattle.rebuild_core.specs.Soundness.{IsReferencedOnce, IsWellNamed, IsSound}
 use Rattle.rebuild_core.specs.Cursor.{tree_digests, TellFirst, NumbersTell}
-use Rattle.rebuild_core.specs.Whole.{settled, IfTooDeep, IsElement, WholeOn, WholeUnless, OpensWhole, ElementsWhole, MembersWhole, IsOpenable}
+use Rattle.rebuild_core.specs.Whole.{settled, IfTooDeep, IsElement, WholeOn, WholeUnless, OpensWhole, ElementsWhole, MembersWhole, IsOpenable, whole_object}
 use Rattle.rebuild_core.specs.declared.errors.ProcessError.{ProcessError}
+use Rattle.rebuild_core.specs.declared.shown.OpenedMembers.{OpenedMembers}
 use Rattle.rebuild_core.proofs.Fits.{AreFit, Suits, fit_left, fit_right, fit_under, object_new}
 use Rattle.rebuild_core.proofs.Fixed.{processed_settles}
 use Rattle.rebuild_core.proofs.Named.{payload_fits, value_fits}
@@ -91,16 +86,8 @@ module _ (p : Tree) (g : List Given) (ok : IsReferencedOnce p g) (named : IsWell
   is_refused (ProcessError.ReservedName i) h = elim h [ ]
   is_refused (ProcessError.NameClash i) h = elim h [ ]
 
-  pub answered : (q : Tree) → p ≡ q → (r : Result Code ProcessError)
-      → MatchResult r (λ m. (marked_of m ≡ open_tree (settled g) q) × (depth (strip (marked_of m)) ≤ 100)) (λ e. IfTooDeep e (100 < depth (strip (open_tree (settled g) q))))
-      → MatchResult r (λ m. IsSound p g × (marked_of m ≡ processed p g)) (IsProcessRefused p g)
-  answered q same (Ok m) h = is_processed (marked_of m) (h.0 ∙ ap (open_tree (settled g)) (sym same)) h.1
+  pub answered : (q : Tree) → p ≡ q → (r : Result OpenedMembers ProcessError)
+      → MatchResult r (λ o. (whole_object o ≡ open_tree (settled g) q) × (depth (strip (whole_object o)) ≤ 100)) (λ e. IfTooDeep e (100 < depth (strip (open_tree (settled g) q))))
+      → MatchResult r (λ o. IsSound p g × (whole_object o ≡ processed p g)) (IsProcessRefused p g)
+  answered q same (Ok o) h = is_processed (whole_object o) (h.0 ∙ ap (open_tree (settled g)) (sym same)) h.1
   answered q same (Err e) h = is_refused e (subst (λ t. IfTooDeep e (100 < depth (strip (open_tree (settled g) t)))) (sym same) h)
-
-pub without_alg-other : (t : TreeCode) → ((ms : TreeMap) → t ≡ TreeCode.Object ms → ⊥) → without_alg (tree_of t) ≡ tree_of t
-without_alg-other TreeCode.Null h = refl
-without_alg-other (TreeCode.Flag b) h = refl
-without_alg-other (TreeCode.Whole n) h = refl
-without_alg-other (TreeCode.Text s) h = refl
-without_alg-other (TreeCode.List es) h = refl
-without_alg-other (TreeCode.Object ms) h = absurd (h ms refl)

@@ -13,10 +13,10 @@ use Rattle.marked_tree.specs.Marked.{Marked, MarkedElements, MarkedMembers, no_m
 use Rattle.rebuild_core.specs.Payload.{alg_name, without_alg}
 use Rattle.rebuild_core.specs.Reached.{find}
 use Rattle.rebuild_core.specs.Opening.{Shown, nothing_shown, shown, show_element, show_member, show_members, open_element, open_tree, open_elements, open_members, shown_by, reveal, processed}
-use Rattle.marked_tree.specs.View.{marked_of}
-use Rattle.marked_tree.specs.declared.marked.Marked as code
 use Rattle.rebuild_core.specs.Soundness.{IsSound}
 use Rattle.rebuild_core.specs.Answer.{ValuesRanged, IsProcessRefused}
+use Rattle.rebuild_core.specs.Whole.{whole_object}
+use Rattle.rebuild_core.specs.declared.shown.OpenedMembers.{OpenedMembers}
 use Rattle.rebuild_core.specs.declared.errors.ProcessError.{ProcessError}
 use Rattle.rebuild_core.proofs.Found.{found}
 
@@ -96,7 +96,7 @@ payload_ranged (object ms) h = without_ranged alg_name ms h
 pub processed_ranged : (p : Tree) (g : List Given) → IsRanged p → ValuesRanged g → IsRanged (strip (processed (without_alg p) g))
 processed_ranged p g h values = open_ranged (reveal (suc (length g)) g) (reveal_ranged g values (suc (length g))) (without_alg p) (payload_ranged p h)
 
-pub answer_ranged : (p : Tree) (g : List Given) → IsRanged p → ValuesRanged g → (answer : Result code.Marked ProcessError)
-    → MatchResult answer (λ m. IsSound (without_alg p) g × (marked_of m ≡ processed (without_alg p) g)) (IsProcessRefused (without_alg p) g) → IfOk answer (λ m. IsRanged (strip (marked_of m)))
-answer_ranged p g h values (Ok m) is = subst (λ (t : Marked). IsRanged (strip t)) (sym is.1) (processed_ranged p g h values)
+pub answer_ranged : (p : Tree) (g : List Given) → IsRanged p → ValuesRanged g → (answer : Result OpenedMembers ProcessError)
+    → MatchResult answer (λ o. IsSound (without_alg p) g × (whole_object o ≡ processed (without_alg p) g)) (IsProcessRefused (without_alg p) g) → IfOk answer (λ o. IsRanged (strip (whole_object o)))
+answer_ranged p g h values (Ok o) is = subst (λ (t : Marked). IsRanged (strip t)) (sym is.1) (processed_ranged p g h values)
 answer_ranged p g h values (Err e) is = tt

@@ -5,13 +5,14 @@ use Rattle.claim_tree.specs.Lists.{StandsAt, In}
 use Rattle.claim_tree.specs.Removed.{removed}
 use Rattle.digest_sites.specs.Reserved.{sd_name, sd_texts, element_digest}
 use Rattle.digest_sites.specs.Given.{Given}
-use Rattle.marked_tree.specs.Marked.{strip, MarkedElements, no_marked_elements, marked_element, MarkedMembers, no_marked_members, marked_member}
-use Rattle.marked_tree.specs.MarkedCalls.{marked_names}
-use Rattle.marked_tree.specs.View.{marked_of}
+use Rattle.marked_tree.specs.Marked.{Marked, marked_object, strip, MarkedElements, no_marked_elements, marked_element, MarkedMembers, no_marked_members, marked_member}
+use Rattle.marked_tree.specs.MarkedCalls.{marked_names, put_all}
+use Rattle.marked_tree.specs.View.{marked_of, marked_members_of}
 use Rattle.rebuild_core.specs.Payload.{alg_name}
 use Rattle.rebuild_core.specs.Opening.{Shown, nothing_shown, shown, show_member, reveal, open_members}
 use Rattle.rebuild_core.specs.Cursor.{tree_digests, TellEach}
 use Rattle.rebuild_core.specs.declared.errors.ProcessError.{ProcessError}
+use Rattle.rebuild_core.specs.declared.shown.OpenedMembers.{OpenedMembers}
 use Rattle.rebuild_core.specs.declared.shown.Revealed.{Revealed}
 
 -- what a digest shows, as the code has it
@@ -45,6 +46,10 @@ shown_member (shown i (Some name) t) ms = marked_member name (Some i) t ms
 abbrev pub shown_members : (Text → Shown) → List Text → MarkedMembers
 shown_members reveals [] = no_marked_members
 shown_members reveals (digest ∷ digests) = shown_member (reveals digest) (shown_members reveals digests)
+
+-- the object that opened members are, the hidden put there in turn
+abbrev pub whole_object : OpenedMembers → Marked
+whole_object o = marked_object (put_all (marked_members_of o.hidden.items) o.plain)
 
 -- ---- depths
 

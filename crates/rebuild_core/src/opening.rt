@@ -7,17 +7,17 @@ ghost use Rattle.digest_sites.specs.Reserved.{sd_texts, element_digest as digest
 ghost use Rattle.digest_sites.specs.GivenView.{given_of};
 ghost use Rattle.marked_tree.specs.Marked.{strip, strip_elements, strip_members};
 ghost use Rattle.marked_tree.specs.View.{marked_of, marked_members_of};
-ghost use Rattle.rebuild_core.specs.Answer.{IsProcessRefused};
+ghost use Rattle.rebuild_core.specs.Answer.{IsPayload, IsProcessRefused};
 ghost use Rattle.rebuild_core.specs.Soundness.{IsReferencedOnce, IsWellNamed, IsSound};
 ghost use Rattle.rebuild_core.specs.Payload.{without_alg};
 ghost use Rattle.rebuild_core.specs.Opening.{open_tree, open_elements, open_members, processed};
 ghost use Rattle.rebuild_core.specs.Cursor.{NumberTells, TellFirst, NumbersTell, tree_digests, elements_digests, members_digests};
-ghost use Rattle.rebuild_core.specs.Whole.{IsOpenable, OpensWhole, ElementsWhole, MembersWhole, IfTooDeep, settled, shown_of, shown_depth, shown_depths, shown_members, topped, stays as stays_in};
+ghost use Rattle.rebuild_core.specs.Whole.{IsOpenable, OpensWhole, ElementsWhole, MembersWhole, IfTooDeep, settled, shown_of, shown_depth, shown_depths, shown_members, topped, stays as stays_in, whole_object};
 
 use crate::ProcessError;
 use crate::graph::Graph;
 use crate::names::is_alg;
-use crate::shown::{Revealed, push_element, push_member};
+use crate::shown::{OpenedMembers, Revealed, push_element, push_member};
 use claim_tree::{Tree, TreeList, TreeMap};
 use digest_sites::{Given, GivenList, element_digest, is_sd, own_digests};
 use marked_tree::{Marked, MarkedList, MarkedMap};
@@ -170,8 +170,9 @@ fn open_plain(
     Ok(out)
 }
 
+// The members of an object, which is the payload itself where `top` says so.
 #[cycle(opening)]
-fn open_object(
+fn open_parts(
     alloc: Global,
     limit: usize,
     top: bool,
@@ -179,19 +180,38 @@ fn open_object(
     graph: &Graph,
     at: &mut usize,
     map: &TreeMap,
-) -> Result<Marked, ProcessError>
+) -> Result<OpenedMembers, ProcessError>
     requires ready { IsOpenable given.now graph.now.numbers.items graph.now.ends.items }
     requires numbered { TellFirst given.now (drop at.old graph.now.numbers.items) (tree_digests (object (topped top map.now))) }
     requires whole { OpensWhole (settled given.now) (object (topped top map.now)) }
     ensures moved { OnOk result (at.new ≡ at.old + length (tree_digests (object (topped top map.now)))) }
-    ensures opened { MatchResult result (λ m. (marked_of m ≡ open_tree (settled given.now) (object (topped top map.now))) × (depth (strip (marked_of m)) ≤ limit)) (λ e. IfTooDeep e (limit < depth (strip (open_tree (settled given.now) (object (topped top map.now)))))) }
+    ensures opened { MatchResult result (λ o. (whole_object o ≡ open_tree (settled given.now) (object (topped top map.now))) × (depth (strip (whole_object o)) ≤ limit)) (λ e. IfTooDeep e (limit < depth (strip (open_tree (settled given.now) (object (topped top map.now)))))) }
 {
     if limit == 0 {
         return Err(ProcessError::TooDeep);
     }
     let hidden = open_own(alloc, limit - 1, given, graph, at, map)?;
     let plain = open_plain(alloc, limit - 1, top, given, graph, at, map)?;
-    Ok(Marked::Object(plain.with_all(alloc, hidden)?))
+    Ok(OpenedMembers { hidden, plain })
+}
+
+#[cycle(opening)]
+fn open_object(
+    alloc: Global,
+    limit: usize,
+    given: &GivenList,
+    graph: &Graph,
+    at: &mut usize,
+    map: &TreeMap,
+) -> Result<Marked, ProcessError>
+    requires ready { IsOpenable given.now graph.now.numbers.items graph.now.ends.items }
+    requires numbered { TellFirst given.now (drop at.old graph.now.numbers.items) (tree_digests (object map.now)) }
+    requires whole { OpensWhole (settled given.now) (object map.now) }
+    ensures moved { OnOk result (at.new ≡ at.old + length (tree_digests (object map.now))) }
+    ensures opened { MatchResult result (λ m. (marked_of m ≡ open_tree (settled given.now) (object map.now)) × (depth (strip (marked_of m)) ≤ limit)) (λ e. IfTooDeep e (limit < depth (strip (open_tree (settled given.now) (object map.now))))) }
+{
+    let members = open_parts(alloc, limit, false, given, graph, at, map)?;
+    Ok(members.into_object(alloc)?)
 }
 
 // A tree whose digests begin at the cursor, which goes past them.
@@ -222,26 +242,27 @@ fn open(
             let list = open_list(alloc, limit - 1, given, graph, at, list)?;
             Ok(Marked::List(list))
         }
-        Tree::Object(map) => open_object(alloc, limit, false, given, graph, at, map),
+        Tree::Object(map) => open_object(alloc, limit, given, graph, at, map),
     }
 }
 
-// The payload opened, without its own `_sd_alg`. The numbers begin with those of its digests.
-pub(crate) fn open_payload(
+// The members of the payload, without its own `_sd_alg`. The numbers begin with those of its digests.
+pub(crate) fn open_top(
     alloc: Global,
     payload: &Tree,
     given: &GivenList,
     graph: &Graph,
-) -> Result<Marked, ProcessError>
+) -> Result<OpenedMembers, ProcessError>
+    requires object { IsPayload (tree_of payload.now) }
     requires few { length given.now < 2 ^ 32 }
     requires referenced { IsReferencedOnce (without_alg (tree_of payload.now)) given.now }
     requires named { IsWellNamed (without_alg (tree_of payload.now)) given.now }
     requires told { NumbersTell (without_alg (tree_of payload.now)) given.now graph.now.numbers.items graph.now.ends.items }
-    ensures { MatchResult result (λ m. IsSound (without_alg (tree_of payload.now)) given.now × (marked_of m ≡ processed (without_alg (tree_of payload.now)) given.now)) (IsProcessRefused (without_alg (tree_of payload.now)) given.now) }
+    ensures { MatchResult result (λ o. IsSound (without_alg (tree_of payload.now)) given.now × (whole_object o ≡ processed (without_alg (tree_of payload.now)) given.now)) (IsProcessRefused (without_alg (tree_of payload.now)) given.now) }
 {
     let mut at = 0;
     match payload {
-        Tree::Object(map) => open_object(alloc, 100, true, given, graph, &mut at, map),
-        _ => open(alloc, 100, given, graph, &mut at, payload),
+        Tree::Object(map) => open_parts(alloc, 100, true, given, graph, &mut at, map),
+        _ => unreachable!(),
     }
 }

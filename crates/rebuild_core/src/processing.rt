@@ -1,5 +1,5 @@
 // The processed payload.
-ghost use Rattle.std.specs.Prelude.{◌≡◌, ◌≤◌, ◌<◌, ◌-◌, ◌^◌, [], true, length, IfOk, IfErr};
+ghost use Rattle.std.specs.Prelude.{◌≡◌, ◌≤◌, ◌<◌, ◌-◌, ◌^◌, [], true, length, IfOk, IfErr, MatchResult};
 ghost use Rattle.claim_tree.specs.Tree.{depth, IsRanged};
 ghost use Rattle.claim_tree.specs.View.{tree_of};
 ghost use Rattle.marked_tree.specs.Marked.{strip};
@@ -9,19 +9,52 @@ ghost use Rattle.rebuild_core.specs.Soundness.{IsSound};
 ghost use Rattle.rebuild_core.specs.LookUps.{look_ups, counted, RoseWithin};
 ghost use Rattle.rebuild_core.specs.Opening.{processed};
 ghost use Rattle.rebuild_core.specs.Payload.{without_alg};
+ghost use Rattle.rebuild_core.specs.Whole.{whole_object};
 ghost use Rattle.rebuild_core.specs.Unhidden.{is_unhidden as is_unhidden_of};
 
 use crate::ProcessError;
 use crate::names::check_names;
 use crate::numbers::steps_fit;
-use crate::opening::open_payload;
+use crate::opening::open_top;
 use crate::references::{References, check_references};
+use crate::shown::OpenedMembers;
 use crate::unhidden::{is_unhidden, move_out};
 use claim_tree::Tree;
 use digest_index::Steps;
 use digest_sites::GivenList;
 use marked_tree::{Marked, into_tree};
 use std::alloc::Global;
+
+// The members of the payload, with their disclosures in their places, or why the token is refused.
+fn open_judged(
+    alloc: Global,
+    payload: &Tree,
+    given: &GivenList,
+    seed: u64,
+    steps: &mut Steps,
+) -> Result<OpenedMembers, ProcessError>
+    requires object { IsPayload (tree_of payload.now) }
+    requires payload_depth { depth (tree_of payload.now) ≤ 127 }
+    requires values_depth { ValuesShallow given.now }
+    requires payload_range { IsRanged (tree_of payload.now) }
+    requires values_range { ValuesRanged given.now }
+    requires few { length given.now < 2 ^ 32 - 1 }
+    ensures opened { MatchResult result (λ o. IsSound (without_alg (tree_of payload.now)) given.now × (whole_object o ≡ processed (without_alg (tree_of payload.now)) given.now)) (IsProcessRefused (without_alg (tree_of payload.now)) given.now) }
+    ensures ranged { IfOk result (λ o. IsRanged (strip (whole_object o))) }
+    ensures counted { IfOk result (λ _. steps.new ≡ counted steps.old (look_ups (without_alg (tree_of payload.now)) given.now)) }
+    ensures risen { RoseWithin (look_ups (without_alg (tree_of payload.now)) given.now) steps.old steps.new }
+{
+    let References { rows, graph } = match check_references(alloc, payload, given, seed, steps) {
+        Ok(found) => found,
+        Err(e) => return Err(e),
+    };
+    let numbers = graph.numbers.as_slice();
+    if let Err(e) = check_names(alloc, payload, given, rows.as_slice(), numbers, seed) {
+        return Err(e);
+    }
+    drop(rows);
+    open_top(alloc, payload, given, &graph)
+}
 
 /// The payload with its disclosures in their places, RFC 9901 section 7.1, or the lowest of the conditions 14 to 21 that
 /// fails, at its least place.
@@ -80,16 +113,11 @@ pub fn process_seeded(
     ensures counted { IfOk result (λ _. steps.new ≡ counted steps.old (look_ups (without_alg (tree_of payload.now)) given.now)) }
     ensures risen { RoseWithin (look_ups (without_alg (tree_of payload.now)) given.now) steps.old steps.new }
 {
-    let References { rows, graph } = match check_references(alloc, payload, given, seed, steps) {
-        Ok(found) => found,
+    let members = match open_judged(alloc, payload, given, seed, steps) {
+        Ok(members) => members,
         Err(e) => return Err(e),
     };
-    let numbers = graph.numbers.as_slice();
-    if let Err(e) = check_names(alloc, payload, given, rows.as_slice(), numbers, seed) {
-        return Err(e);
-    }
-    drop(rows);
-    open_payload(alloc, payload, given, &graph)
+    Ok(members.into_object(alloc)?)
 }
 
 // What a payload in which nothing is hidden says, where no disclosure is given.
@@ -111,36 +139,39 @@ fn open_nothing(payload: Tree, given: &GivenList, steps: &mut Steps) -> Result<T
 }
 
 /// What [`process_seeded`] answers, for who needs no marks: the processed payload alone, whose texts are moved. A payload in
-/// which nothing is hidden is handed back without its own `_sd_alg`, and no part of it is copied.
+/// which nothing is hidden is handed back without its own `_sd_alg`, and no part of it is copied. Any other is dropped,
+/// and the disclosures with it, before the opened members are put together.
 pub fn process_payload(
     alloc: Global,
     payload: Tree,
-    given: &GivenList,
+    given: GivenList,
     seed: u64,
     steps: &mut Steps,
 ) -> Result<Tree, ProcessError>
     requires object { IsPayload (tree_of payload) }
     requires payload_depth { depth (tree_of payload) ≤ 127 }
-    requires values_depth { ValuesShallow given.now }
+    requires values_depth { ValuesShallow given }
     requires payload_range { IsRanged (tree_of payload) }
-    requires values_range { ValuesRanged given.now }
-    requires few { length given.now < 2 ^ 32 - 1 }
-    ensures sound { IfOk result (λ _. IsSound (without_alg (tree_of payload)) given.now) }
-    ensures processed { IfOk result (λ tree. tree_of tree ≡ strip (processed (without_alg (tree_of payload)) given.now)) }
+    requires values_range { ValuesRanged given }
+    requires few { length given < 2 ^ 32 - 1 }
+    ensures sound { IfOk result (λ _. IsSound (without_alg (tree_of payload)) given) }
+    ensures processed { IfOk result (λ tree. tree_of tree ≡ strip (processed (without_alg (tree_of payload)) given)) }
     ensures ranged { IfOk result (λ tree. IsRanged (tree_of tree)) }
-    ensures refused { IfErr result (IsProcessRefused (without_alg (tree_of payload)) given.now) }
+    ensures refused { IfErr result (IsProcessRefused (without_alg (tree_of payload)) given) }
 
     // the look-ups
-    ensures counted { IfOk result (λ _. steps.new ≡ counted steps.old (look_ups (without_alg (tree_of payload)) given.now)) }
-    ensures risen { RoseWithin (look_ups (without_alg (tree_of payload)) given.now) steps.old steps.new }
+    ensures counted { IfOk result (λ _. steps.new ≡ counted steps.old (look_ups (without_alg (tree_of payload)) given)) }
+    ensures risen { RoseWithin (look_ups (without_alg (tree_of payload)) given) steps.old steps.new }
 {
     if given.len() == 0 && is_unhidden(&payload) {
-        return open_nothing(payload, given, steps);
+        return open_nothing(payload, &given, steps);
     }
-    let marked = match process_seeded(alloc, &payload, given, seed, steps) {
-        Ok(marked) => marked,
+    let members = match open_judged(alloc, &payload, &given, seed, steps) {
+        Ok(members) => members,
         Err(e) => return Err(e),
     };
+    drop(given);
     drop(payload);
+    let marked = members.into_object(alloc)?;
     Ok(into_tree(alloc, marked)?)
 }

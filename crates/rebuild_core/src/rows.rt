@@ -159,7 +159,7 @@ pub(crate) fn all_rows<'a>(
 {
     // beside the digests of the disclosures stand some decoys
     let mut rows = Vec::with_capacity(alloc, given.len().saturating_add(given.len() / 8))?;
-    let mut ends = Vec::with_capacity(alloc, given.len())?;
+    let mut ends = Vec::with_capacity(alloc, given.len().saturating_add(1))?;
     list_rows(true, payload, &mut rows)?;
     ends.push(rows.len())?;
     for item in given.items() {

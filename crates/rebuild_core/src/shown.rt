@@ -1,11 +1,11 @@
 // What a digest shows, and where it is put.
-ghost use Rattle.std.specs.Prelude.{◌≡◌, OnOk};
+ghost use Rattle.std.specs.Prelude.{◌≡◌, OnOk, IfOk};
 ghost use Rattle.marked_tree.specs.Marked.{MarkedElements, MarkedMembers};
 ghost use Rattle.marked_tree.specs.View.{marked_of, marked_members_of};
 ghost use Rattle.rebuild_core.specs.Opening.{show_element, show_member};
-ghost use Rattle.rebuild_core.specs.Whole.{shown_of, joined, members_joined, shown_member};
+ghost use Rattle.rebuild_core.specs.Whole.{shown_of, joined, members_joined, shown_member, whole_object};
 
-use marked_tree::{Marked, MarkedList};
+use marked_tree::{Marked, MarkedList, MarkedMap};
 use sd_outside::{NoMemory, TextBox};
 use std::alloc::Global;
 
@@ -16,6 +16,23 @@ pub(crate) struct Revealed {
     pub mark: u32,
     pub name: Option<TextBox>,
     pub tree: Marked,
+}
+
+// The members of an object, opened and not yet in one map.
+#[derive(Debug, Drop)]
+pub(crate) struct OpenedMembers {
+    // In the order of their digests.
+    pub hidden: Vec<(TextBox, Option<u32>, Marked)>,
+    pub plain: MarkedMap,
+}
+
+impl OpenedMembers {
+    pub(crate) fn into_object(self, alloc: Global) -> Result<Marked, NoMemory>
+        ensures { IfOk result (λ m. marked_of m ≡ whole_object self) }
+    {
+        let OpenedMembers { hidden, plain } = self;
+        Ok(Marked::Object(plain.with_all(alloc, hidden)?))
+    }
 }
 
 // At the end of an array.

@@ -14,7 +14,7 @@ use crate::check_given::read_given;
 use crate::check_payload::read_payload;
 use crate::check_signed::{check_signed, fails};
 use crate::{CheckedMarks, CheckedPayload, Rules, VerifyError};
-use claim_tree::Tree;
+use claim_tree::{JsonReader, Tree};
 use compact_form::Condition;
 use digest_index::{Steps, seed_of};
 use digest_sites::GivenList;
@@ -96,7 +96,8 @@ impl Content {
         if let Err(error) = check_signed(alloc, &mut reader.json, signed, token.outer(), rules) {
             return Err(error);
         }
-        let (body, hash) = match read_payload(alloc, &mut reader.json, signed.payload) {
+        // by a reader of its own, since its memory is as large as the payload
+        let (body, hash) = match read_payload(alloc, &mut JsonReader::new(alloc), signed.payload) {
             Ok(read) => read,
             Err(error) => return Err(error),
         };
@@ -159,7 +160,7 @@ impl Content {
             given,
             seed,
         } = self;
-        match process_payload(alloc, body, &given, seed, steps) {
+        match process_payload(alloc, body, given, seed, steps) {
             Ok(payload) => Ok(CheckedPayload { payload, hash }),
             Err(error) => Err(refusal(error)),
         }

@@ -1,9 +1,10 @@
-use Rattle.std.proofs.Common.{◌≡◌, ◌-◌, ◌<◌, ◌≤◌, [], drop, None, sym, ap, ◌∙◌, arith}
+use Rattle.std.proofs.Common.{◌≡◌, ◌-◌, ◌<◌, ◌≤◌, [], drop, None, refl, sym, ap, ◌∙◌, arith}
 use Rattle.std.proofs.lemmas.Result.{err_from_is_err_and}
 use Rattle.std.proofs.Math.ListN.{drop_of_length-le}
 use Rattle.digest_sites.specs.Reserved.{sd_texts}
 use Rattle.digest_sites.specs.GivenView.{given_of}
 use Rattle.marked_tree.specs.Marked.{marked_object, put}
+use Rattle.marked_tree.specs.MarkedCalls.{put_all}
 use Rattle.marked_tree.specs.View.{marked_of, marked_members_of}
 use Rattle.rebuild_core.specs.Opening.{open_members}
 use Rattle.rebuild_core.specs.Whole.{settled, topped, shown_depth}
@@ -77,40 +78,41 @@ open_next-returns-clause-shown t c = λ digest tells.
     let e = shows _ _ _ c.requires.ready c.index-number.result.now (given_of c.in-Some.item.now) c.in-Some.ensures c.args.at.now digest c.requires.within c.index-number.ensures tells in
     (rw (c.in_ok-copy_text.ensures, c.in_ok-tree.ensures.opened.0) (sym e), c.in_ok-tree.ensures.opened.1)
 
--- ---- the object
+-- ---- the members of an object
 
-pub open_object-open_own-requires : goal.open_object-open_own-requires
-open_object-open_own-requires t c =
+pub open_parts-open_own-requires : goal.open_parts-open_own-requires
+open_parts-open_own-requires t c =
     (omega (arith, c.decreases, c.if-limit-eq0.false), (c.requires.ready, object_at c.args.given.now c.args.graph.now.numbers.items c.args.top c.args.map.now c.args.at.now c.requires.numbered))
 
-pub open_object-returns-in_err-hidden-clause-opened : goal.open_object-returns-in_err-hidden-clause-opened
-open_object-returns-in_err-hidden-clause-opened t c =
+pub open_parts-returns-in_err-hidden-clause-opened : goal.open_parts-returns-in_err-hidden-clause-opened
+open_parts-returns-in_err-hidden-clause-opened t c =
     let some : 0 < c.args.limit = omega (arith, c.if-limit-eq0.false) in
     let p = err_from_is_err_and c.from_residual.result c.from_residual.ensures.1 in
     rw (p.1, p.2) (still_deep c.in_err-hidden.field-0.0 (λ h. object_deep_own c.args.given.now c.args.limit c.args.top c.args.map.now some c.requires.whole.0 h) c.in_err-hidden.ensures.opened)
 
-pub open_object-open_plain-requires : goal.open_object-open_plain-requires
-open_object-open_plain-requires t c = (
+pub open_parts-open_plain-requires : goal.open_parts-open_plain-requires
+open_parts-open_plain-requires t c = (
   omega (arith, c.decreases, c.if-limit-eq0.false),
   (c.requires.ready, (object_next c.args.given.now c.args.graph.now.numbers.items c.args.top c.args.map.now c.args.at.now c.open_own.new.at c.requires.numbered c.in_ok-hidden.ensures.moved, c.requires.whole.1)),
 )
 
-pub open_object-returns-in_err-plain-clause-opened : goal.open_object-returns-in_err-plain-clause-opened
-open_object-returns-in_err-plain-clause-opened t c =
+pub open_parts-returns-in_err-plain-clause-opened : goal.open_parts-returns-in_err-plain-clause-opened
+open_parts-returns-in_err-plain-clause-opened t c =
     let some : 0 < c.args.limit = omega (arith, c.if-limit-eq0.false) in
     let p = err_from_is_err_and c.from_residual-in_err-plain.result c.from_residual-in_err-plain.ensures.1 in
     rw (p.1, p.2) (still_deep c.in_err-plain.field-0.0 (λ h. object_deep_plain c.args.given.now c.args.limit c.args.top c.args.map.now some h) c.in_err-plain.ensures.opened)
 
-pub open_object-returns-clause-moved : goal.open_object-returns-clause-moved
-open_object-returns-clause-moved t c = object_moved c.args.top c.args.map.now c.args.at.now c.open_own.new.at c.open_plain.new.at c.in_ok-hidden.ensures.moved c.in_ok-plain.ensures.moved
+pub open_parts-returns-clause-moved : goal.open_parts-returns-clause-moved
+open_parts-returns-clause-moved t c = object_moved c.args.top c.args.map.now c.args.at.now c.open_own.new.at c.open_plain.new.at c.in_ok-hidden.ensures.moved c.in_ok-plain.ensures.moved
 
-pub open_object-returns-clause-opened : goal.open_object-returns-clause-opened
-open_object-returns-clause-opened t c =
+pub open_parts-returns-clause-opened : goal.open_parts-returns-clause-opened
+open_parts-returns-clause-opened t c =
     let some : 0 < c.args.limit = omega (arith, c.if-limit-eq0.false) in
-    let is = object_is c.args.given.now c.args.limit c.args.top c.args.map.now some _ _ c.in_ok-with_all.field-0 c.in_ok-hidden.ensures.opened.0 c.in_ok-plain.ensures.opened.0 c.in_ok-with_all.ensures in
+    let all = put_all (marked_members_of c.in_ok-hidden.hidden.items) c.in_ok-plain.plain in
+    let is = object_is c.args.given.now c.args.limit c.args.top c.args.map.now some _ _ all c.in_ok-hidden.ensures.opened.0 c.in_ok-plain.ensures.opened.0 refl in
     let low : map_depth (open_members (settled c.args.given.now) (topped c.args.top c.args.map.now)) ≤ c.args.limit - 1 =
     omega (arith, c.in_ok-plain.ensures.opened.1, ap map_depth c.in_ok-plain.ensures.opened.0) in
-    (ap marked_object is, object_low c.args.given.now c.args.limit c.args.top c.args.map.now some c.in_ok-with_all.field-0 is c.in_ok-hidden.ensures.opened.1 low)
+    (ap marked_object is, object_low c.args.given.now c.args.limit c.args.top c.args.map.now some all is c.in_ok-hidden.ensures.opened.1 low)
 
 -- ---- the hidden members
 

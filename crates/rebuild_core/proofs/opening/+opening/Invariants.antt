@@ -9,22 +9,25 @@ use Rattle.rebuild_core.proofs.MapOpening.{OwnState, MapState}
 use Rattle.rebuild_core.proofs.opening.+opening.Given as goal
 
 abbrev pub decreases-open : goal.decreases-open
-decreases-open l = 4 * l.limit + 1
+decreases-open l = 5 * l.limit + 2
 
 abbrev pub decreases-open_list : goal.decreases-open_list
-decreases-open_list l = 4 * l.limit + 3
+decreases-open_list l = 5 * l.limit + 4
 
 abbrev pub decreases-open_next : goal.decreases-open_next
-decreases-open_next l = 4 * l.limit + 2
+decreases-open_next l = 5 * l.limit + 3
 
 abbrev pub decreases-open_object : goal.decreases-open_object
-decreases-open_object l = 4 * l.limit + 0
+decreases-open_object l = 5 * l.limit + 1
 
 abbrev pub decreases-open_own : goal.decreases-open_own
-decreases-open_own l = 4 * l.limit + 3
+decreases-open_own l = 5 * l.limit + 4
+
+abbrev pub decreases-open_parts : goal.decreases-open_parts
+decreases-open_parts l = 5 * l.limit + 0
 
 abbrev pub decreases-open_plain : goal.decreases-open_plain
-decreases-open_plain l = 4 * l.limit + 3
+decreases-open_plain l = 5 * l.limit + 4
 
 abbrev pub invariant-open_list-loop-tree : goal.invariant-open_list-loop-tree
 invariant-open_list-loop-tree l =
