@@ -7,10 +7,9 @@ use Rattle.std.proofs.lemmas.Bool.{leb-true, le-leb}
 use Rattle.std.specs.List.Sorted.{IsPartitionedBy}
 use Rattle.claim_tree.specs.Tree.{Text}
 use Rattle.claim_tree.proofs.Lists.{bytes_refl}
-use Rattle.claim_tree.proofs.MapPlaces.{same_name, before_after}
 use Rattle.marked_tree.specs.Paths.{Path, same_path}
 use Rattle.marked_tree.specs.Rests.{rests, step_order, path_order, AreSorted, Every, Compares, IsRunOfPaths}
-use Rattle.marked_tree.proofs.Lookups.{apart, apart_back}
+use Rattle.marked_tree.proofs.StepOrder.{same_step, step_before, steps_apart, steps_apart_back}
 use Rattle.marked_tree.proofs.PathOrder.{at_end, goes_on, sorted_pair, rest_whole}
 use Rattle.issuer_core.specs.Laying.{digests_on_path}
 
@@ -19,11 +18,11 @@ use Rattle.issuer_core.specs.Laying.{digests_on_path}
 module _ (depth : ℕ) (step : Text) (q : Path) where
   front_differs : (x : Path) → step_order x step ≡ Less → same_path x (step ∷ q) ≡ false
   front_differs [] e = refl
-  front_differs (k ∷ t) e = rw (apart k step e) refl
+  front_differs (k ∷ t) e = rw (steps_apart k step e) refl
 
   back_differs : (x : Path) → step_order x step ≡ Greater → same_path x (step ∷ q) ≡ false
   back_differs [] e = cc
-  back_differs (k ∷ t) e = rw (apart_back step k (before_after k step e)) refl
+  back_differs (k ∷ t) e = rw (steps_apart_back step k (step_before k step e)) refl
 
   skip_front : (n : ℕ) (xs : List Path) (ds : List Text) → Every (Compares Less depth step) (take n xs)
       → digests_on_path (rests depth xs) ds (step ∷ q) ≡ digests_on_path (rests depth (drop n xs)) (drop n ds) (step ∷ q)
@@ -50,7 +49,7 @@ module _ (depth : ℕ) (step : Text) (q : Path) where
 
 goes_further : (depth : ℕ) (x : Path) (step : Text) (q : Path) → step_order (drop depth x) step ≡ Equal → same_path (drop depth x) (step ∷ q) ≡ same_path (drop (depth + 1) x) q
 goes_further zero [] step q e = cc
-goes_further zero (k ∷ t) step q e = rw (bytes_refl k step (same_name k step e)) refl
+goes_further zero (k ∷ t) step q e = rw (bytes_refl k step (same_step k step e)) refl
 goes_further (suc depth) [] step q e = cc
 goes_further (suc depth) (k ∷ t) step q e = let more : suc depth + 1 ≡ suc (depth + 1) = omega arith in rw more (goes_further depth t step q e)
 

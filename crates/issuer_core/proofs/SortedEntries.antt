@@ -9,9 +9,9 @@ use Rattle.std.proofs.lemmas.List.{length-map, length-append}
 use Rattle.std.proofs.Math.Seq.{take-length}
 use Rattle.std.specs.List.{slice_get}
 use Rattle.claim_tree.specs.Tree.{Text}
-use Rattle.claim_tree.proofs.MapPlaces.{cmp, same_name}
 use Rattle.marked_tree.specs.Paths.{Path, same_path}
-use Rattle.marked_tree.specs.Rests.{path_order, AreSorted}
+use Rattle.marked_tree.specs.Rests.{step_cmp, path_order, AreSorted}
+use Rattle.marked_tree.proofs.StepOrder.{same_step}
 use Rattle.marked_tree.proofs.PathOrder.{paths_total, are_sorted}
 use Rattle.issuer_core.specs.Decoys.{decoys_at}
 use Rattle.issuer_core.specs.Laying.{nth, digests_on_path, paths_in, digests_in}
@@ -29,12 +29,12 @@ tied_paths : (p q : Path) → path_order p q ≡ Equal → p ≡ q
 tied_paths [] [] e = refl
 tied_paths [] (l ∷ q) e = cc
 tied_paths (k ∷ p) [] e = cc
-tied_paths (k ∷ p) (l ∷ q) e = go (cmp k l) refl e (λ f. tied_paths p q f)
+tied_paths (k ∷ p) (l ∷ q) e = go (step_cmp k l) refl e (λ f. tied_paths p q f)
   where
-    go : (o : Ordering) → cmp k l ≡ o → ordering_then o (path_order p q) ≡ Equal → (path_order p q ≡ Equal → p ≡ q) → k ∷ p ≡ l ∷ q
+    go : (o : Ordering) → step_cmp k l ≡ o → ordering_then o (path_order p q) ≡ Equal → (path_order p q ≡ Equal → p ≡ q) → k ∷ p ≡ l ∷ q
     go Less c f ih = cc
     go Greater c f ih = cc
-    go Equal c f ih = let a = same_name k l c in let b = ih f in cc
+    go Equal c f ih = let a = same_step k l c in let b = ih f in cc
 
 not_tied : (p q : Path) → path_order q p ≢ Equal → same_path p q ≡ false
 not_tied p q n = go (same_path p q) refl

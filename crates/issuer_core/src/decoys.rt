@@ -7,7 +7,7 @@ ghost use Rattle.issuer_core.specs.Laying.{digests_on_path, placed_at, paths_in,
 
 use crate::DecoyList;
 use claim_tree::Path;
-use marked_tree::run_below;
+use marked_tree::{compare_paths, run_below};
 use sd_outside::{NoMemory, TextBox, TextList};
 use std::alloc::Global;
 use std::cmp::Ordering;
@@ -78,7 +78,7 @@ pub(crate) fn sort_decoys(
     ensures each { IfOk result (λ sorted. length sorted.digests.items ≡ length sorted.paths.items) }
     ensures placed { IfOk result (λ sorted. (at : Steps) → digests_on_path sorted.paths.items sorted.digests.items at ≡ digests_on_path (decoy_paths decoys.now) digests.now at) }
 {
-    let mut entries = Vec::new(alloc);
+    let mut entries = Vec::with_capacity(alloc, digests.len())?;
     for decoy in decoys.elements() {
         push_entries(alloc, &mut entries, &decoy.at, decoy.count, digests)?;
     }
@@ -108,19 +108,19 @@ fn push_entries(
     Ok(())
 }
 
-// By the bytes of the steps of their paths, a front first.
+// By their paths.
 fn ordered(one: &(Path, TextBox), other: &(Path, TextBox)) -> Ordering
     ensures { result ≡ path_order one.now.0 other.now.0 }
 {
-    one.0.steps().cmp(other.0.steps())
+    compare_paths(&one.0, &other.0)
 }
 
 fn parted(alloc: Global, entries: Vec<(Path, TextBox)>) -> Result<SortedDecoys, NoMemory>
     ensures paths { IfOk result (λ parted. parted.paths.items ≡ paths_in entries.items) }
     ensures digests { IfOk result (λ parted. parted.digests.items ≡ digests_in entries.items) }
 {
-    let mut paths = Vec::new(alloc);
-    let mut digests = Vec::new(alloc);
+    let mut paths = Vec::with_capacity(alloc, entries.len())?;
+    let mut digests = Vec::with_capacity(alloc, entries.len())?;
     for (path, digest) in entries {
         paths.push(path)?;
         digests.push(digest)?;

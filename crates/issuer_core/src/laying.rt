@@ -120,7 +120,7 @@ fn made_text(
 fn digest_object(alloc: Global, digest: TextBox) -> Result<Tree, NoMemory>
     ensures { IfOk result (λ object. tree_of object ≡ spec.digest_object digest) }
 {
-    let mut object = TreeMap::new(alloc);
+    let mut object = TreeMap::with_capacity(alloc, 1)?;
     object.insert(TextBox::make(alloc, "...")?, Tree::Text(digest))?;
     Ok(Tree::Object(object))
 }
@@ -151,7 +151,7 @@ fn push_copies(
 fn texts_list(alloc: Global, texts: Vec<TextBox>) -> Result<TreeList, NoMemory>
     ensures { IfOk result (λ list. list ≡ text_elements texts.items) }
 {
-    let mut list = TreeList::new(alloc);
+    let mut list = TreeList::with_capacity(alloc, texts.len())?;
     for text in texts {
         list.push(Tree::Text(text))?;
     }
@@ -226,7 +226,9 @@ fn lay_list(
     ensures count { OnOk result (length layer.new.texts ≡ length layer.old.texts + elements_weight one list) }
     ensures digests { OnOk result (layer.new.digests ≡ map (digest_of hiding.entry.hash) layer.new.texts) }
 {
-    let mut laid = TreeList::new(alloc);
+    let own = decoys.here();
+    let count = list.len();
+    let mut laid = TreeList::with_capacity(alloc, count.saturating_add(own.len()))?;
     for (mark, tree) in list.into_elements() {
         let mut digits = Buffer::new();
         let below = decoys.below(digits.format(laid.len()));
@@ -236,7 +238,7 @@ fn lay_list(
         };
         laid.push(tree)?;
     }
-    push_decoys(alloc, &mut laid, decoys.here())?;
+    push_decoys(alloc, &mut laid, own)?;
     Ok(laid)
 }
 

@@ -10,12 +10,11 @@ use Rattle.std.proofs.lemmas.List.Kept.{IsStrictlySortedBy-dedup}
 use Rattle.std.proofs.lemmas.List.Sorted.{list_any-IsPermutation}
 use Rattle.std.proofs.lemmas.Map.Keys.{sorted_head, sorted_tail, IsDistinct-from_sorted, IsDistinct-head, IsDistinct-tail, IsDistinct-cons, IsDistinct-from_apart}
 use Rattle.std.proofs.lemmas.Map.Made.{length-from_keys}
-use Rattle.std.proofs.lemmas.Map.Text.{is_eq-slice_cmp}
 use Rattle.claim_tree.specs.Tree.{Text}
 use Rattle.claim_tree.proofs.Lists.{bytes_same, bytes_refl, and_split, and_join}
-use Rattle.claim_tree.proofs.MapPlaces.{cmp}
 use Rattle.marked_tree.specs.Paths.{Path, same_path, is_among}
-use Rattle.marked_tree.specs.Rests.{path_order, AfterNone, AreSorted}
+use Rattle.marked_tree.specs.Rests.{step_cmp, path_order, AfterNone, AreSorted}
+use Rattle.marked_tree.proofs.StepOrder.{is_eq-step_cmp}
 use Rattle.marked_tree.proofs.PathOrder.{paths_total, lower_path, not_greater}
 
 -- ---- equal paths
@@ -51,7 +50,7 @@ pub path_ties : (p q : Path) → same_path p q ≡ eq_by_cmp path_order p q
 path_ties [] [] = refl
 path_ties [] (l ∷ q) = refl
 path_ties (k ∷ p) [] = refl
-path_ties (k ∷ p) (l ∷ q) = ap (λ b. b && same_path p q) (sym (is_eq-slice_cmp k l)) ∙ go (cmp k l) (path_ties p q)
+path_ties (k ∷ p) (l ∷ q) = ap (λ b. b && same_path p q) (sym (is_eq-step_cmp k l)) ∙ go (step_cmp k l) (path_ties p q)
   where
     go : (o : Ordering) → same_path p q ≡ is_eq (path_order p q) → (is_eq o && same_path p q) ≡ is_eq (ordering_then o (path_order p q))
     go Less tie = refl

@@ -14,7 +14,10 @@ pub mod Finds
 pub mod Remarks
 pub mod PrunedSame
 pub mod MarkSame
+pub mod StepOrder
+pub mod PathSteps
 pub mod PathOrder
+pub mod RunSearch
 pub mod DifferentPaths
 pub mod HeadCounts
 mod Examples

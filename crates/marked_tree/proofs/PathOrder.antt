@@ -1,25 +1,24 @@
 -- Sorted paths: those that go on by a step stand in one run.
-use Rattle.std.proofs.Common.{◌≡◌, ◌≢◌, ℕ, zero, suc, ◌+◌, ◌-◌, ◌<◌, ◌≤◌, List, [], ◌∷◌, Some, None, length, take, drop, get_or, ◌⊎◌, inl, inr, Bool, true, false, ◌||◌, Ordering, Less, Equal, Greater, refl, sym, ap, subst, ◌∙◌, arith}
+use Rattle.std.proofs.Common.{◌≡◌, ◌≢◌, ℕ, zero, suc, ◌+◌, ◌-◌, ◌<◌, ◌≤◌, List, [], ◌∷◌, Some, None, length, take, drop, get_or, Bool, true, false, ◌||◌, Ordering, Less, Equal, Greater, refl, sym, ap, subst, ◌∙◌, arith}
 use Rattle.std.specs.Prelude.{◌==◌}
 use Rattle.std.specs.List.{slice_get}
-use Rattle.std.specs.List.Sorted.{IsPartitionedBy, IsPartitionPoint, IsSortedBy}
+use Rattle.std.specs.List.Sorted.{IsPartitionedBy, IsSortedBy}
 use Rattle.std.specs.Ordering.{ordering_index, ordering_then, ordering_reverse, is_lt}
 use Rattle.std.specs.Cmp.{IsTotalOrder}
 use Rattle.std.proofs.lemmas.Cmp.{tied_itself, lists_total, is_eq_index}
-use Rattle.std.proofs.lemmas.Bool.{cases_lt}
-use Rattle.std.proofs.lemmas.List.{get_or-take, get_or-drop, length-take-le, length-drop}
+use Rattle.std.proofs.lemmas.List.{length-drop}
 use Rattle.std.proofs.Math.Seq.{take-length}
 use Rattle.std.proofs.lemmas.List.Sorted.{sorted_far, ranks_by}
 use Rattle.claim_tree.specs.Tree.{Text}
-use Rattle.claim_tree.proofs.Lists.{bytes_refl, false_unless_true}
+use Rattle.claim_tree.proofs.Lists.{bytes_refl}
 use Rattle.marked_tree.specs.Paths.{Path, same_path, is_among}
-use Rattle.marked_tree.specs.Rests.{rests, step_order, path_order, AfterNone, AreSorted, Every, Compares, IsRunOfPaths, one_head, headed}
-use Rattle.claim_tree.proofs.MapPlaces.{cmp, order, same_name, before_after, less_clash}
+use Rattle.marked_tree.specs.Rests.{rests, step_cmp, step_order, path_order, AfterNone, AreSorted, Every, Compares, IsRunOfPaths, one_head, headed}
+use Rattle.claim_tree.proofs.MapPlaces.{less_clash}
+use Rattle.marked_tree.proofs.StepOrder.{steps_total, same_step, step_before, steps_apart, steps_apart_back}
 use Rattle.marked_tree.proofs.Names.{behind_last}
-use Rattle.marked_tree.proofs.Lookups.{apart, apart_back}
 
 pub paths_total : IsTotalOrder path_order
-paths_total = lists_total order
+paths_total = lists_total steps_total
 
 pub not_greater : (o : Ordering) → (o ≡ Less) → o ≢ Greater
 not_greater Less e g = cc
@@ -36,21 +35,21 @@ tie_not_greater Greater e g = cc
 less_before : (a b : Path) (step : Text) → path_order a b ≢ Greater → step_order b step ≡ Less → step_order a step ≡ Less
 less_before [] b step n e = refl
 less_before (k ∷ a) [] step n e = absurd (n refl)
-less_before (k ∷ a) (l ∷ b) step n e = go (cmp k l) refl n
+less_before (k ∷ a) (l ∷ b) step n e = go (step_cmp k l) refl n
   where
-    go : (o : Ordering) → cmp k l ≡ o → ordering_then o (path_order a b) ≢ Greater → cmp k step ≡ Less
-    go Less c n = (order).trans k l step c e
-    go Equal c n = subst (λ x. cmp x step ≡ Less) (sym (same_name k l c)) e
+    go : (o : Ordering) → step_cmp k l ≡ o → ordering_then o (path_order a b) ≢ Greater → step_cmp k step ≡ Less
+    go Less c n = (steps_total).trans k l step c e
+    go Equal c n = subst (λ x. step_cmp x step ≡ Less) (sym (same_step k l c)) e
     go Greater c n = absurd (n refl)
 
 equal_before : (a b : Path) (step : Text) → path_order a b ≢ Greater → step_order b step ≡ Equal → step_order a step ≢ Greater
 equal_before [] b step n e = not_greater Less refl
 equal_before (k ∷ a) [] step n e = absurd (n refl)
-equal_before (k ∷ a) (l ∷ b) step n e = go (cmp k l) refl n
+equal_before (k ∷ a) (l ∷ b) step n e = go (step_cmp k l) refl n
   where
-    go : (o : Ordering) → cmp k l ≡ o → ordering_then o (path_order a b) ≢ Greater → cmp k step ≢ Greater
-    go Less c n = not_greater (cmp k step) (subst (λ x. cmp k x ≡ Less) (same_name l step e) c)
-    go Equal c n = tie_not_greater (cmp k step) (subst (λ x. cmp x step ≡ Equal) (sym (same_name k l c)) e)
+    go : (o : Ordering) → step_cmp k l ≡ o → ordering_then o (path_order a b) ≢ Greater → step_cmp k step ≢ Greater
+    go Less c n = not_greater (step_cmp k step) (subst (λ x. step_cmp k x ≡ Less) (same_step l step e) c)
+    go Equal c n = tie_not_greater (step_cmp k step) (subst (λ x. step_cmp x step ≡ Equal) (sym (same_step k l c)) e)
     go Greater c n = absurd (n refl)
 
 after_at : (depth : ℕ) (p : Path) (xs : List Path) (j : ℕ) (d : Path) → AfterNone p (rests depth xs) → j < length xs → path_order p (drop depth (get_or xs j d)) ≢ Greater
@@ -72,12 +71,12 @@ is_less depth step y = ordering_index (step_order (drop depth y) step) == 0
 abbrev pub is_tied : ℕ → Text → Path → Bool
 is_tied depth step y = ordering_index (step_order (drop depth y) step) == 1
 
-tied_is : (o : Ordering) → (ordering_index o == 1) ≡ true → o ≡ Equal
+pub tied_is : (o : Ordering) → (ordering_index o == 1) ≡ true → o ≡ Equal
 tied_is Less e = let w = is_eq_index Less ∙ e in cc
 tied_is Equal e = refl
 tied_is Greater e = let w = is_eq_index Greater ∙ e in cc
 
-index_less : (o : Ordering) → o ≡ Less → (ordering_index o == 0) ≡ true
+pub index_less : (o : Ordering) → o ≡ Less → (ordering_index o == 0) ≡ true
 index_less Less e = refl
 index_less Equal e = cc
 index_less Greater e = cc
@@ -87,7 +86,7 @@ index_equal Less n e = let w : true ≡ false = e in cc
 index_equal Equal n e = refl
 index_equal Greater n e = absurd (n refl)
 
-index_greater : (o : Ordering) → (ordering_index o == 0) ≡ false → (ordering_index o == 1) ≡ false → o ≡ Greater
+pub index_greater : (o : Ordering) → (ordering_index o == 0) ≡ false → (ordering_index o == 1) ≡ false → o ≡ Greater
 index_greater Less e f = let w : true ≡ false = e in cc
 index_greater Equal e f = let w : true ≡ false = f in cc
 index_greater Greater e f = refl
@@ -125,12 +124,12 @@ sorted_take depth (suc n) (x ∷ xs) s = (after_take depth (drop depth x) n xs s
 
 -- ---- the run
 
-every_taken : (P : Path → Type 0) (n : ℕ) (xs : List Path) → ((k : ℕ) (d : Path) → k < n → k < length xs → P (get_or xs k d)) → Every P (take n xs)
+pub every_taken : (P : Path → Type 0) (n : ℕ) (xs : List Path) → ((k : ℕ) (d : Path) → k < n → k < length xs → P (get_or xs k d)) → Every P (take n xs)
 every_taken P zero xs all = tt
 every_taken P (suc n) [] all = tt
 every_taken P (suc n) (x ∷ xs) all = (all 0 x (omega arith) (omega arith), every_taken P n xs (λ k d l h. all (suc k) d (omega arith) (omega arith)))
 
-every_dropped : (P : Path → Type 0) (n : ℕ) (xs : List Path) → ((k : ℕ) (d : Path) → n ≤ k → k < length xs → P (get_or xs k d)) → Every P (drop n xs)
+pub every_dropped : (P : Path → Type 0) (n : ℕ) (xs : List Path) → ((k : ℕ) (d : Path) → n ≤ k → k < length xs → P (get_or xs k d)) → Every P (drop n xs)
 every_dropped P n [] all = go n
   where
     go : (m : ℕ) → Every P (drop m [])
@@ -156,7 +155,7 @@ module _ (depth : ℕ) (step : Text) where
       go : (q : Path) → drop depth x ≡ q → step_order q step ≡ Equal → Begins x
       go [] f g = cc
       go (k ∷ t) f g =
-          let here : drop depth x ≡ step ∷ t = f ∙ ap (λ a. a ∷ t) (same_name k step g) in
+          let here : drop depth x ≡ step ∷ t = f ∙ ap (λ a. a ∷ t) (same_step k step g) in
           record { rest = t; is = here; further = rest_of depth x step t here }
 
   abbrev Before : Path → Type 0
@@ -170,11 +169,11 @@ module _ (depth : ℕ) (step : Text) where
 
   front_differs : (q p : Path) → step_order q step ≡ Less → same_path (step ∷ p) q ≡ false
   front_differs [] p e = refl
-  front_differs (k ∷ t) p e = rw (apart_back k step e) refl
+  front_differs (k ∷ t) p e = rw (steps_apart_back k step e) refl
 
   back_differs : (q p : Path) → step_order q step ≡ Greater → same_path (step ∷ p) q ≡ false
   back_differs [] p e = cc
-  back_differs (k ∷ t) p e = rw (apart step k (before_after k step e)) refl
+  back_differs (k ∷ t) p e = rw (steps_apart step k (step_before k step e)) refl
 
   skip_front : (p : Path) (n : ℕ) (xs : List Path) → Every Before (take n xs) → is_among (rests depth xs) (step ∷ p) ≡ is_among (rests depth (drop n xs)) (step ∷ p)
   skip_front p zero xs all = refl
@@ -200,11 +199,11 @@ module _ (depth : ℕ) (step : Text) where
 
   front_none : (q : Path) → step_order q step ≡ Less → one_head step q ≡ 0
   front_none [] e = refl
-  front_none (k ∷ t) e = rw (apart k step e) refl
+  front_none (k ∷ t) e = rw (steps_apart k step e) refl
 
   back_none : (q : Path) → step_order q step ≡ Greater → one_head step q ≡ 0
   back_none [] e = refl
-  back_none (k ∷ t) e = rw (apart_back step k (before_after k step e)) refl
+  back_none (k ∷ t) e = rw (steps_apart_back step k (step_before k step e)) refl
 
   count_front : (n : ℕ) (xs : List Path) → Every Before (take n xs) → headed step (rests depth xs) ≡ headed step (rests depth (drop n xs))
   count_front zero xs all = refl
@@ -230,7 +229,7 @@ module _ (depth : ℕ) (step : Text) where
   -- ---- order
 
   tails_order : (p q : Path) → path_order (step ∷ p) (step ∷ q) ≡ path_order p q
-  tails_order p q = rw (tied_itself order step) refl
+  tails_order p q = rw (tied_itself steps_total step) refl
 
   after_tails : (p : Path) (xs : List Path) → Every Within xs → AfterNone (step ∷ p) (rests depth xs) → AfterNone p (rests (depth + 1) xs)
   after_tails p [] all s = tt
@@ -244,22 +243,6 @@ module _ (depth : ℕ) (step : Text) where
   sorted_tails (x ∷ xs) all s =
       let b = begins x all.0 in
       (subst (λ q. AfterNone q (rests (depth + 1) xs)) (sym b.further) (after_tails b.rest xs all.1 (subst (λ q. AfterNone q (rests depth xs)) b.is s.0)), sorted_tails xs all.1 s.1)
-
-  -- ---- all together: what two searches by halves cut out
-
-  pub record IsCut (xs : List Path) (start end : ℕ) : Type 0 where
-    pub front : (k : ℕ) (d : Path) → k < start → k < length xs → is_less depth step (get_or xs k d) ≡ true
-    pub none : (k : ℕ) (d : Path) → k < length (drop start xs) → is_less depth step (get_or (drop start xs) k d) ≡ false
-    pub run : (k : ℕ) (d : Path) → k < end → k < length (drop start xs) → is_tied depth step (get_or (drop start xs) k d) ≡ true
-    pub back : (k : ℕ) (d : Path) → end ≤ k → k < length (drop start xs) → is_tied depth step (get_or (drop start xs) k d) ≡ false
-
-  pub cut_run : (xs : List Path) (start count : ℕ) → IsCut xs start count → start + count ≤ length xs → IsRunOfPaths depth step xs start count
-  cut_run xs start count cut within = record {
-    within = within;
-    before = every_taken Before start xs (λ k d l h. behind_last (step_order (drop depth (get_or xs k d)) step) (cut.front k d l h));
-    run = every_taken Within count (drop start xs) (λ k d l h. tied_is (step_order (drop depth (get_or (drop start xs) k d)) step) (cut.run k d l h));
-    behind = every_dropped Behind count (drop start xs) (λ k d l h. index_greater (step_order (drop depth (get_or (drop start xs) k d)) step) (cut.none k d h) (cut.back k d l h));
-  }
 
   module _ (xs : List Path) (start count : ℕ) (run : IsRunOfPaths depth step xs start count) where
     pub run_sorted : AreSorted (rests depth xs) → AreSorted (rests (depth + 1) (take count (drop start xs)))
@@ -329,9 +312,9 @@ ends_first depth (y ∷ ps) x e l = let same : x ≡ y = cc in first_ends depth 
 
 -- ---- the step at a depth
 
-pub step_there : (depth : ℕ) (x : Path) (k step : Text) → Some k ≡ slice_get x depth → cmp k step ≡ step_order (drop depth x) step
+pub step_there : (depth : ℕ) (x : Path) (k step : Text) → Some k ≡ slice_get x depth → step_cmp k step ≡ step_order (drop depth x) step
 step_there depth [] k step e = cc
-step_there zero (l ∷ x) k step e = let same : k ≡ l = cc in ap (λ a. cmp a step) same
+step_there zero (l ∷ x) k step e = let same : k ≡ l = cc in ap (λ a. step_cmp a step) same
 step_there (suc depth) (l ∷ x) k step e = step_there depth x k step e
 
 pub no_step : (depth : ℕ) (x : Path) (step : Text) → None ≡ slice_get x depth → Less ≡ step_order (drop depth x) step
@@ -340,37 +323,5 @@ no_step (suc depth) [] step e = refl
 no_step zero (l ∷ x) step e = cc
 no_step (suc depth) (l ∷ x) step e = no_step depth x step e
 
--- none of the rest comes before the step
-pub none_left : (depth : ℕ) (step : Text) (xs : List Path) (start : ℕ) → ((k : ℕ) (d : Path) → start ≤ k → k < length xs → is_less depth step (get_or xs k d) ≡ false)
-    → (k : ℕ) (d : Path) → k < length (drop start xs) → is_less depth step (get_or (drop start xs) k d) ≡ false
-none_left depth step xs start all k d l =
-    rw (get_or-drop start xs k d) (all (start + k) d (omega arith) (omega (arith, l, length-drop start xs)))
-
 pub rest_whole : (xs : List Path) (start : ℕ) → take (length xs - start) (drop start xs) ≡ drop start xs
 rest_whole xs start = rw (sym (length-drop start xs)) (take-length (drop start xs))
-
--- what is found among the first is found among all, where the next fails
-pub near_point : (p : Path → Bool) (xs : List Path) (n count : ℕ) → IsPartitionedBy p xs → n ≤ length xs → ((d : Path) → n < length xs → p (get_or xs n d) ≡ false) → count ≤ n
-    → IsPartitionPoint (λ y. p y ≡ true) (λ y. p y ≡ false) (take n xs) count → IsPartitionPoint (λ y. p y ≡ true) (λ y. p y ≡ false) xs count
-near_point p xs n count parted fits ends few point = (
-  λ k d l h. subst (λ y. p y ≡ true) (get_or-take n xs k d (omega (arith, h, few))) (point.0 k d l h),
-  λ k d l h. go k d l h (cases_lt k n),
-)
-  where
-    go : (k : ℕ) (d : Path) → count ≤ k → k < length xs → (k < n) ⊎ (n ≤ k) → p (get_or xs k d) ≡ false
-    go k d l h (inl w) = subst (λ y. p y ≡ false) (get_or-take n xs k d w) (point.1 k d l (omega (arith, w, length-take-le n xs fits)))
-    go k d l h (inr w) = false_unless_true (p (get_or xs k d)) (λ e. let holds = parted n k d w h e in let not = ends d (omega (arith, w, h)) in cc)
-
-pub parted_near : (p : Path → Bool) (xs : List Path) (n : ℕ) → IsPartitionedBy p xs → n ≤ length xs → IsPartitionedBy p (take n xs)
-parted_near p xs n parted fits i j d l h e =
-    let long = length-take-le n xs fits in
-    let there = subst (λ y. p y ≡ true) (get_or-take n xs j d (omega (arith, h, long))) e in
-    subst (λ y. p y ≡ true) (sym (get_or-take n xs i d (omega (arith, l, h, long)))) (parted i j d l (omega (arith, h, long, fits)) there)
-
-pub not_tied : (depth : ℕ) (step : Text) (y : Path) → step_order (drop depth y) step ≢ Equal → is_tied depth step y ≡ false
-not_tied depth step y differs = go (step_order (drop depth y) step) differs
-  where
-    go : (o : Ordering) → o ≢ Equal → (ordering_index o == 1) ≡ false
-    go Less n = refl
-    go Equal n = absurd (n refl)
-    go Greater n = refl

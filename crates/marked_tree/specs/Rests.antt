@@ -1,6 +1,6 @@
 -- Not needed to believe the program's promises: sorted paths, seen from a depth. What counts steps is for private functions.
 use Rattle.std.specs.Prelude.{◌≡◌, ◌≢◌, ℕ, ◌+◌, ◌≤◌, List, [], ◌∷◌, length, map, take, drop, bytes_eq, if◌then◌else◌}
-use Rattle.std.specs.Ordering.{nat_cmp}
+use Rattle.std.specs.Ordering.{nat_cmp, ordering_then}
 use Rattle.std.specs.Cmp.Lexicographic.{slice_cmp}
 use Rattle.std.specs.declared.cmp.Ordering.{Ordering}
 use Rattle.std.specs.declared.cmp.Ordering.TheVariants.{Less, Equal, Greater}
@@ -11,14 +11,18 @@ use Rattle.marked_tree.specs.Paths.{Path}
 abbrev pub rests : ℕ → List Path → List Path
 rests depth paths = map (drop depth) paths
 
+-- the shorter step first, and those of one length by their bytes
+abbrev pub step_cmp : Text → Text → Ordering
+step_cmp k l = ordering_then (nat_cmp (length k) (length l)) (slice_cmp nat_cmp k l)
+
 -- how the first step of a path compares: where there is none, it comes before
 abbrev pub step_order : Path → Text → Ordering
 step_order [] step = Less
-step_order (k ∷ p) step = slice_cmp nat_cmp k step
+step_order (k ∷ p) step = step_cmp k step
 
 -- by their steps
 abbrev pub path_order : Path → Path → Ordering
-path_order p q = slice_cmp (slice_cmp nat_cmp) p q
+path_order p q = slice_cmp step_cmp p q
 
 -- p comes after none of the paths
 abbrev pub AfterNone : Path → List Path → Type 0
@@ -37,6 +41,16 @@ Every P (p ∷ ps) = P p × Every P ps
 -- how the step of a path at the depth compares with this one
 abbrev pub Compares : Ordering → ℕ → Text → Path → Type 0
 Compares o depth step p = step_order (drop depth p) step ≡ o
+
+-- the step of a path at the depth does not come before this one
+abbrev pub Follows : ℕ → Text → Path → Type 0
+Follows depth step p = step_order (drop depth p) step ≢ Less
+
+-- so many paths come before the step at the depth, and the others do not
+pub record IsStart (depth : ℕ) (step : Text) (paths : List Path) (start : ℕ) : Type 0 where
+  pub within : start ≤ length paths
+  pub before : Every (Compares Less depth step) (take start paths)
+  pub behind : Every (Follows depth step) (drop start paths)
 
 -- the paths with this step at the depth: so many, from the place `start` on
 pub record IsRunOfPaths (depth : ℕ) (step : Text) (paths : List Path) (start count : ℕ) : Type 0 where

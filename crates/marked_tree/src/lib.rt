@@ -5,6 +5,7 @@
 #![tactic(auto)]
 
 mod chosen;
+mod compares;
 mod inside;
 pub mod laws;
 mod marked;
@@ -14,6 +15,7 @@ mod prunes;
 mod strips;
 
 pub use chosen::ChosenSet;
+pub use compares::compare_paths;
 pub use inside::stepped;
 pub use marked::{Marked, MarkedList, MarkedMap};
 pub use marking::{count_different, mark, mark_counted, run_below};

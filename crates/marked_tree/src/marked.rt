@@ -179,6 +179,14 @@ impl MarkedMap {
         }
     }
 
+    /// No members, with memory for so many.
+    pub fn with_capacity(alloc: Global, count: usize) -> Result<MarkedMap, NoMemory>
+        ensures { IfOk result (λ map. map ≡ no_marked_members) }
+    {
+        let members = Vec::with_capacity(alloc, count)?;
+        Ok(MarkedMap { members })
+    }
+
     /// The members, ascending by the bytes of their names.
     pub fn members(&self) -> &[(TextBox, Option<u32>, Marked)]
         ensures value { marked_members_of result.now ≡ self.now }

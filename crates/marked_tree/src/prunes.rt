@@ -40,7 +40,7 @@ fn prune_list(alloc: Global, list: &MarkedList, kept: &ChosenSet) -> Result<Mark
     requires { elements_depth (strip_elements list.now) ≤ 126 }
     ensures { IfOk result (λ pruned. pruned ≡ remark_elements (kept_by (has kept.now)) list.now) }
 {
-    let mut pruned = MarkedList::new(alloc);
+    let mut pruned = MarkedList::with_capacity(alloc, list.len())?;
     for (mark, tree) in list.elements() {
         if stays(*mark, kept) {
             pruned.push(*mark, prune_tree(alloc, tree, kept)?)?;
@@ -54,7 +54,7 @@ fn prune_map(alloc: Global, map: &MarkedMap, kept: &ChosenSet) -> Result<MarkedM
     requires { members_depth (strip_members map.now) ≤ 126 }
     ensures { IfOk result (λ pruned. pruned ≡ remark_members (kept_by (has kept.now)) map.now) }
 {
-    let mut pruned = MarkedMap::new(alloc);
+    let mut pruned = MarkedMap::with_capacity(alloc, map.len())?;
     for (name, mark, tree) in map.members() {
         if stays(*mark, kept) {
             let name = TextBox::make(alloc, name.as_str())?;

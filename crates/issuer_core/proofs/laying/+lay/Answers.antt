@@ -24,7 +24,7 @@ lay_list-loop-mark-init t c =
     let a = c.args in
     let all = ap marked_elements_of c.into_iter-mark-iterator.ensures.into_iter_gives.0 ∙ c.into_elements-mark-items.ensures in
     let start = elements_start a.decoys a.hiding a.layer.now.texts a.layer.now.digests a.list c.requires.closes c.requires.digests c.requires.ranged in
-    subst (λ laid. LaysElements a.decoys a.hiding a.layer.now.texts a.list laid a.layer.now.texts a.layer.now.digests (marked_elements_of (into_iter_items c.into_iter-mark-iterator.result))) (sym c.new-laid.ensures)
+    subst (λ laid. LaysElements a.decoys a.hiding a.layer.now.texts a.list laid a.layer.now.texts a.layer.now.digests (marked_elements_of (into_iter_items c.into_iter-mark-iterator.result))) (sym c.in_ok-laid.ensures)
     (subst (λ left. LaysElements a.decoys a.hiding a.layer.now.texts a.list _ a.layer.now.texts a.layer.now.digests left) (sym all) start)
 
 pub lay_list-lay_part-requires : goal.lay_list-lay_part-requires
@@ -55,9 +55,9 @@ lay_list-loop-mark-preserved t c =
     let step : (at : Path) → placed_at c.below-below.result at ≡ placed_at a.decoys (decimal (elements_len l.laid) ∷ at) =
     λ at. c.below-below.ensures.below at ∙ ap (λ s. placed_at a.decoys (s ∷ at)) (c.format.ensures.text ∙ ap decimal c.len.ensures) in
     let next = element_more a.decoys a.hiding a.layer.now.texts a.list l.laid l.layer.texts l.layer.digests c.in-Some.mark (marked_of c.in-Some.tree) left so c.below-below.result step
-    (tree_of c.match-branch-2.tree) texts c.lay_part.new.layer.digests
+    (tree_of c.match-branch-3.tree) texts c.lay_part.new.layer.digests
     (λ dec tells more.
-    elim c.match-branch-2.branch [
+    elim c.match-branch-3.branch [
       | lay_list-in-Shown w ↦
           rw w.tree-is
           (shown_element dec (digest_at c.args.hiding.hash (texts ++ more)) c.in-Some.mark (marked_of c.in-Some.tree) w.in-Shown.tree (subst (λ p. IsPart dec (digest_at c.args.hiding.hash (texts ++ more)) c.in-Some.mark (marked_of c.in-Some.tree) p) w.in-Shown.is (told.part dec tells more)))
@@ -80,7 +80,7 @@ pub lay_list-returns-clause-laid : goal.lay_list-returns-clause-laid
 lay_list-returns-clause-laid t c dec tells more =
     let a = c.args in
     let l = c.loop-mark in
-    c.in_ok-push_decoys.ensures ∙ elements_end a.decoys a.hiding a.layer.now.texts l.layer.texts l.layer.digests a.list l.laid (list_done t c) c.here.result.now c.here.ensures dec tells more
+    c.in_ok-push_decoys.ensures ∙ elements_end a.decoys a.hiding a.layer.now.texts l.layer.texts l.layer.digests a.list l.laid (list_done t c) c.here-own.result.now c.here-own.ensures dec tells more
 
 pub lay_list-returns-clause-texts : goal.lay_list-returns-clause-texts
 lay_list-returns-clause-texts t c dec tells more =

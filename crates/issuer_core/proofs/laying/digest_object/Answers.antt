@@ -5,4 +5,4 @@ use Rattle.issuer_core.proofs.laying.digest_object.Goals as goal
 
 pub returns : goal.returns
 unfolding dots_name
-returns c = ap object (c.in_ok-insert.ensures.ok ∙ ap₂ (λ (ms : Members) (name : Text). inserted ms name (leaf (text c.args.digest))) c.new-object.ensures c.in_ok-make.ensures)
+returns c = ap object (c.in_ok-insert.ensures.ok ∙ ap₂ (λ (ms : Members) (name : Text). inserted ms name (leaf (text c.args.digest))) c.in_ok-object.ensures c.in_ok-make.ensures)

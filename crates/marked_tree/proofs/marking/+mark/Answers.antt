@@ -43,7 +43,7 @@ mark_list-loop-tree-init t c =
     let a = c.args in
     let ps = rests a.depth a.paths.now in
     let all = ap elements_of c.into_iter-tree-iterator.ensures.into_iter_gives.0 ∙ c.into_trees-tree-items.ensures in
-    subst (λ done. MarksElements ps a.next.now a.trees done a.next.now (elements_of (into_iter_items c.into_iter-tree-iterator.result))) (sym c.new-marked.ensures)
+    subst (λ done. MarksElements ps a.next.now a.trees done a.next.now (elements_of (into_iter_items c.into_iter-tree-iterator.result))) (sym c.in_ok-marked.ensures)
     (subst (λ left. MarksElements ps a.next.now a.trees _ a.next.now left) (sym all) (elements_begin ps a.next.now a.trees))
 
 pub mark_list-mark_at-requires : goal.mark_list-mark_at-requires
@@ -108,7 +108,7 @@ mark_map-loop-name-init t c =
     let a = c.args in
     let ps = rests a.depth a.paths.now in
     let all = ap members_of c.into_iter-name-iterator.ensures.into_iter_gives.0 ∙ c.into_members-name-items.ensures.value in
-    subst (λ done. MarksMembers ps a.next.now a.trees done a.next.now (members_of (into_iter_items c.into_iter-name-iterator.result))) (sym c.new-marked.ensures)
+    subst (λ done. MarksMembers ps a.next.now a.trees done a.next.now (members_of (into_iter_items c.into_iter-name-iterator.result))) (sym c.in_ok-marked.ensures)
     (subst (λ left. MarksMembers ps a.next.now a.trees _ a.next.now left) (sym all) (members_begin ps a.next.now a.trees))
 
 pub mark_map-mark_at-requires : goal.mark_map-mark_at-requires
