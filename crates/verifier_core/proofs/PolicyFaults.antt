@@ -1,17 +1,17 @@
 -- A policy file is judged by the table of its version.
-use Rattle.std.proofs.Common.{◌≡◌, ◌≢◌, pos, List, [], ◌∷◌, ◌++◌, Option, Some, None, refl, sym, ap, subst, ◌∙◌}
+use Rattle.std.proofs.Common.{◌≡◌, ℕ, suc, pos, List, take, drop, codes, [], ◌∷◌, ◌++◌, Option, Some, None, refl, sym, ap, subst, ◌∙◌}
 use Rattle.sd_outside.specs.Limits.{file_max, skew_max}
 use Rattle.claim_tree.specs.Tree.{Text, leaf, whole, Tree, Members}
-use Rattle.claim_tree.specs.FileForms.{IsText, IsTexts, IsWholeUpTo, SaysOr, Entry, required, optional, fields_of, found, MemberFails, missing, wrong, IsFirstFault, HasMembers, IsFileRefused}
+use Rattle.claim_tree.specs.FileForms.{IsText, IsTexts, IsWholeUpTo, Says, MaySay, SaysOr, MemberMeets, Entry, required, optional, fields_of, found, MemberFails, missing, wrong, IsFirstFault, HasMembers, IsFileRefused}
 use Rattle.claim_tree.specs.FileRefusals.{IsMemberRefused}
-use Rattle.claim_tree.specs.declared.file_fault.Field.{Field}
 use Rattle.claim_tree.specs.declared.file_fault.Field.TheVariants.{Version, Keys, Algs, Typ, Iss, Require, Skew, Binding}
 use Rattle.claim_tree.specs.declared.file_fault.FileFault.{FileFault}
 use Rattle.claim_tree.specs.declared.file_fault.FileFault.TheVariants.{Memory, TooLong, NotJson, NotWhole, NotObject, Unknown, Missing, Wrong}
-use Rattle.claim_tree.proofs.FileMembers.{AllMeet, member_refused, says_or_meets}
+use Rattle.claim_tree.proofs.FileMembers.{AllMeet, member_refused, says_meets, may_say_meets, says_or_meets}
 use Rattle.claim_tree.proofs.FileVerdicts as verdicts
 use Rattle.hmac_sign.specs.Keys.{IsKeySet}
-use Rattle.verifier_core.specs.PolicyFile.{IsBindingPolicy, policy_table, policy_fields, IsReadAs, HasPolicyFault, IsPolicyFileRefused}
+use Rattle.hmac_sign.specs.declared.key_set.NamedKey.{NamedKey}
+use Rattle.verifier_core.specs.PolicyFile.{IsBindingPolicy, policy_table, policy_fields, IsReadAs, IsPolicyFileRefused}
 use Rattle.verifier_core.specs.PolicyVersion.{IsVersion, IsIssuers}
 use Rattle.verifier_core.specs.declared.policy_version.PolicyVersion.{PolicyVersion}
 
@@ -73,15 +73,7 @@ module _ (version : PolicyVersion) (bytes : Text) (ms : Members) (file : HasMemb
 
 -- the entries behind the version
 abbrev pub rest_of : PolicyVersion → List Entry
-rest_of version =
-    required Keys IsKeySet
-    ∷ optional Algs IsTexts
-    ∷ optional Typ IsText
-    ∷ optional Iss (IsIssuers version)
-    ∷ optional Require IsTexts
-    ∷ optional Skew (IsWholeUpTo skew_max)
-    ∷ optional Binding (IsBindingPolicy version)
-    ∷ []
+rest_of version = drop 1 (policy_table version)
 
 behind : (bytes : Text) (ms : Members) (fault : FileFault) → HasMembers file_max policy_fields bytes ms → MemberFails (optional Version IsVersion) ms fault → IsMemberRefused (optional Version IsVersion) ms fault → IsPolicyFileRefused bytes fault
 behind bytes ms fault file fails refused =
@@ -99,7 +91,7 @@ by_version bytes ms (Missing field) file refused = behind bytes ms (Missing fiel
 by_version bytes ms (Wrong field) file refused = behind bytes ms (Wrong field) file refused refused
 
 -- an entry behind the version that is refused, behind others that meet theirs, is the fault of the file
-pub by_entry : (v : PolicyVersion) (bytes : Text) (ms : Members) (front : List Entry) (entry : Entry) (rest : List Entry) (fault : FileFault) → front ++ entry ∷ rest ≡ rest_of v
+by_entry : (v : PolicyVersion) (bytes : Text) (ms : Members) (front : List Entry) (entry : Entry) (rest : List Entry) (fault : FileFault) → front ++ entry ∷ rest ≡ rest_of v
     → HasMembers file_max policy_fields bytes ms → SaysOr IsVersion PolicyVersion.One (found ms Version) v → AllMeet front ms → IsMemberRefused entry ms fault → IsPolicyFileRefused bytes fault
 by_entry v bytes ms front entry rest fault same file says meet refused =
     let version = optional Version IsVersion in
@@ -107,6 +99,59 @@ by_entry v bytes ms front entry rest fault same file says meet refused =
     let known = subst (λ table. HasMembers file_max (fields_of (version ∷ table)) bytes ms) (sym same) file in
     let behind_front = member_refused file_max (version ∷ front) entry rest bytes ms fault known (meets, meet) refused in
     by_table v bytes ms file (says_as (found ms Version) v says) fault (subst (λ table. IsFileRefused file_max (version ∷ table) bytes fault) same behind_front)
+
+-- ---- one entry after another
+
+module _ (v : PolicyVersion) (bytes : Text) (ms : Members) (file : HasMembers file_max policy_fields bytes ms) (version_says : SaysOr IsVersion PolicyVersion.One (found ms Version) v) where
+  -- a refusal of the entry is the fault of the file
+  abbrev Refuses : Entry → Type 0
+  Refuses entry = (fault : FileFault) → IsMemberRefused entry ms fault → IsPolicyFileRefused bytes fault
+
+  at : (i : ℕ) (entry : Entry) → take i (rest_of v) ++ entry ∷ drop (suc i) (rest_of v) ≡ rest_of v → AllMeet (take i (rest_of v)) ms → Refuses entry
+  at i entry same meet fault = by_entry v bytes ms (take i (rest_of v)) entry (drop (suc i) (rest_of v)) fault same file version_says meet
+
+  pub at_keys : Refuses (required Keys IsKeySet)
+  at_keys = at 0 (required Keys IsKeySet) refl tt
+
+  module _ (keys : List NamedKey) (keys_say : Says IsKeySet (found ms Keys) keys) where
+    keys_meet : MemberMeets (required Keys IsKeySet) ms
+    keys_meet = says_meets IsKeySet Keys ms keys keys_say
+
+    pub at_algs : Refuses (optional Algs IsTexts)
+    at_algs = at 1 (optional Algs IsTexts) refl (keys_meet, tt)
+
+    module _ (algs : List Text) (algs_say : SaysOr IsTexts (codes "HS256" ∷ []) (found ms Algs) algs) where
+      algs_meet : MemberMeets (optional Algs IsTexts) ms
+      algs_meet = says_or_meets IsTexts (codes "HS256" ∷ []) Algs ms algs algs_say
+
+      pub at_typ : Refuses (optional Typ IsText)
+      at_typ = at 2 (optional Typ IsText) refl (keys_meet, (algs_meet, tt))
+
+      module _ (typ : Option Text) (typ_says : MaySay IsText (found ms Typ) typ) where
+        typ_meets : MemberMeets (optional Typ IsText) ms
+        typ_meets = may_say_meets IsText Typ ms typ typ_says
+
+        pub at_iss : Refuses (optional Iss (IsIssuers v))
+        at_iss = at 3 (optional Iss (IsIssuers v)) refl (keys_meet, (algs_meet, (typ_meets, tt)))
+
+        module _ (iss : Option (List Text)) (iss_says : MaySay (IsIssuers v) (found ms Iss) iss) where
+          iss_meets : MemberMeets (optional Iss (IsIssuers v)) ms
+          iss_meets = may_say_meets (IsIssuers v) Iss ms iss iss_says
+
+          pub at_require : Refuses (optional Require IsTexts)
+          at_require = at 4 (optional Require IsTexts) refl (keys_meet, (algs_meet, (typ_meets, (iss_meets, tt))))
+
+          module _ (require : List Text) (require_says : SaysOr IsTexts [] (found ms Require) require) where
+            require_meets : MemberMeets (optional Require IsTexts) ms
+            require_meets = says_or_meets IsTexts [] Require ms require require_says
+
+            pub at_skew : Refuses (optional Skew (IsWholeUpTo skew_max))
+            at_skew = at 5 (optional Skew (IsWholeUpTo skew_max)) refl (keys_meet, (algs_meet, (typ_meets, (iss_meets, (require_meets, tt)))))
+
+            pub at_binding : (skew : ℕ) → SaysOr (IsWholeUpTo skew_max) 0 (found ms Skew) skew → Refuses (optional Binding (IsBindingPolicy v))
+            at_binding skew skew_says =
+                let skew_meets = says_or_meets (IsWholeUpTo skew_max) 0 Skew ms skew skew_says in
+                at 6 (optional Binding (IsBindingPolicy v)) refl (keys_meet, (algs_meet, (typ_meets, (iss_meets, (require_meets, (skew_meets, tt))))))
 
 -- ---- two faults
 
