@@ -1,8 +1,8 @@
 -- A policy file is judged by the table of its version.
-use Rattle.std.proofs.Common.{◌≡◌, ℕ, suc, pos, List, take, drop, codes, [], ◌∷◌, ◌++◌, Option, Some, None, refl, sym, ap, subst, ◌∙◌}
+use Rattle.std.proofs.Common.{◌≡◌, ◌↔◌, ℕ, suc, pos, List, take, drop, codes, [], ◌∷◌, ◌++◌, Option, Some, None, refl, sym, ap, subst, ◌∙◌}
 use Rattle.sd_outside.specs.Limits.{file_max, skew_max}
 use Rattle.claim_tree.specs.Tree.{Text, leaf, whole, Tree, Members}
-use Rattle.claim_tree.specs.FileForms.{IsText, IsTexts, IsWholeUpTo, Says, MaySay, SaysOr, MemberMeets, Entry, required, optional, fields_of, found, MemberFails, missing, wrong, IsFirstFault, HasMembers, IsFileRefused}
+use Rattle.claim_tree.specs.FileForms.{IsText, IsTexts, IsWholeUpTo, Says, MaySay, SaysOr, MemberMeets, Entry, required, optional, fields_of, found, MemberFails, missing, wrong, IsFirstFault, HasFirstFault, HasMembers, IsFileRefused}
 use Rattle.claim_tree.specs.FileRefusals.{IsMemberRefused}
 use Rattle.claim_tree.specs.declared.file_fault.Field.TheVariants.{Version, Keys, Algs, Typ, Iss, Require, Skew, Binding}
 use Rattle.claim_tree.specs.declared.file_fault.FileFault.{FileFault}
@@ -11,7 +11,7 @@ use Rattle.claim_tree.proofs.FileMembers.{AllMeet, member_refused, says_meets, m
 use Rattle.claim_tree.proofs.FileVerdicts as verdicts
 use Rattle.hmac_sign.specs.Keys.{IsKeySet}
 use Rattle.hmac_sign.specs.declared.key_set.NamedKey.{NamedKey}
-use Rattle.verifier_core.specs.PolicyFile.{IsBindingPolicy, policy_table, policy_fields, IsReadAs, IsPolicyFileRefused}
+use Rattle.verifier_core.specs.PolicyFile.{IsBindingPolicy, policy_table, policy_fields, IsReadAs, HasPolicyFault, IsPolicyFileRefused}
 use Rattle.verifier_core.specs.PolicyVersion.{IsVersion, IsIssuers}
 use Rattle.verifier_core.specs.declared.policy_version.PolicyVersion.{PolicyVersion}
 
@@ -41,35 +41,32 @@ odd_version ms fault (wrong t there odd is) = λ e.
 -- ---- from the table to the file, and back
 
 module _ (version : PolicyVersion) (bytes : Text) (ms : Members) (file : HasMembers file_max policy_fields bytes ms) (read_as : IsReadAs version (found ms Version)) where
+  read_there : (ns : Members) → HasMembers file_max policy_fields bytes ns → IsReadAs version (found ns Version)
+  read_there ns there = subst (λ us. IsReadAs version (found us Version)) (verdicts.one_object file_max bytes ms ns file.object there.object) read_as
+
+  to_file : (fault : FileFault) → HasFirstFault file_max (policy_table version) bytes fault → HasPolicyFault bytes fault
+  to_file fault h = record { members = h.members; file = h.file; version = version; read_as = read_there h.members h.file; first = h.first }
+
+  from_file : (fault : FileFault) → HasPolicyFault bytes fault → HasFirstFault file_max (policy_table version) bytes fault
+  from_file fault h =
+      let version_is : h.version ≡ version = one_reading (found h.members Version) h.version version h.read_as (read_there h.members h.file) in
+      record { members = h.members; file = h.file; first = subst (λ v. IsFirstFault (policy_table v) h.members fault) version_is h.first }
+
+  table_file : (fault : FileFault) → IsFileRefused file_max (policy_table version) bytes fault ↔ IsPolicyFileRefused bytes fault
+  table_file Memory = (λ h. h, λ h. h)
+  table_file TooLong = (λ h. h, λ h. h)
+  table_file NotJson = (λ h. h, λ h. h)
+  table_file NotWhole = (λ h. h, λ h. h)
+  table_file NotObject = (λ h. h, λ h. h)
+  table_file Unknown = (λ h. h, λ h. h)
+  table_file (Missing field) = (to_file (Missing field), from_file (Missing field))
+  table_file (Wrong field) = (to_file (Wrong field), from_file (Wrong field))
+
   by_table : (fault : FileFault) → IsFileRefused file_max (policy_table version) bytes fault → IsPolicyFileRefused bytes fault
-  by_table Memory h = h
-  by_table TooLong h = h
-  by_table NotJson h = h
-  by_table NotWhole h = h
-  by_table NotObject h = h
-  by_table Unknown h = h
-  by_table (Missing field) h =
-      let same : ms ≡ h.members = verdicts.one_object file_max bytes ms h.members file.object h.file.object in
-      record { members = h.members; file = h.file; version = version; read_as = subst (λ ns. IsReadAs version (found ns Version)) same read_as; first = h.first }
-  by_table (Wrong field) h =
-      let same : ms ≡ h.members = verdicts.one_object file_max bytes ms h.members file.object h.file.object in
-      record { members = h.members; file = h.file; version = version; read_as = subst (λ ns. IsReadAs version (found ns Version)) same read_as; first = h.first }
+  by_table fault = (table_file fault).0
 
   pub to_table : (fault : FileFault) → IsPolicyFileRefused bytes fault → IsFileRefused file_max (policy_table version) bytes fault
-  to_table Memory h = h
-  to_table TooLong h = h
-  to_table NotJson h = h
-  to_table NotWhole h = h
-  to_table NotObject h = h
-  to_table Unknown h = h
-  to_table (Missing field) h =
-      let same : ms ≡ h.members = verdicts.one_object file_max bytes ms h.members file.object h.file.object in
-      let version_is : h.version ≡ version = one_reading (found h.members Version) h.version version h.read_as (subst (λ ns. IsReadAs version (found ns Version)) same read_as) in
-      record { members = h.members; file = h.file; first = subst (λ v. IsFirstFault (policy_table v) h.members (Missing field)) version_is h.first }
-  to_table (Wrong field) h =
-      let same : ms ≡ h.members = verdicts.one_object file_max bytes ms h.members file.object h.file.object in
-      let version_is : h.version ≡ version = one_reading (found h.members Version) h.version version h.read_as (subst (λ ns. IsReadAs version (found ns Version)) same read_as) in
-      record { members = h.members; file = h.file; first = subst (λ v. IsFirstFault (policy_table v) h.members (Wrong field)) version_is h.first }
+  to_table fault = (table_file fault).1
 
 -- the entries behind the version
 abbrev pub rest_of : PolicyVersion → List Entry
