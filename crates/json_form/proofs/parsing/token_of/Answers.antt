@@ -10,8 +10,7 @@ use Rattle.json_form.proofs.parsing.token_of.Goals as goal
 
 pub returns-in_err-payload-clause-refused : goal.returns-in_err-payload-clause-refused
 returns-in_err-payload-clause-refused c place is =
-    let same = same_place c.from_residual.result c.in_err-payload.field-0.0 place c.from_residual.ensures.1 is in
-    first_payload c.args.members place (subst (IsNoWord c.args.members Payload) same c.in_err-payload.ensures.refused)
+    first_payload c.args.members place (subst (IsNoWord c.args.members Payload) (same_place c.from_residual.result c.in_err-payload.field-0.0 place c.from_residual.ensures.1 is) c.in_err-payload.ensures.refused)
 
 pub returns-in_err-entries-clause-refused : goal.returns-in_err-entries-clause-refused
 returns-in_err-entries-clause-refused c place is =
