@@ -1,13 +1,11 @@
 -- The text of a key says one key.
-use Rattle.std.proofs.Common.{◌≡◌, ◌≢◌, ℕ, ◌<◌, ◌≤◌, List, length, sym, ap, subst, ◌∙◌, arith}
+use Rattle.std.proofs.Common.{◌≡◌, ℕ, ◌<◌, List, length, sym, ap, subst, ◌∙◌, arith}
 use Rattle.b64url_text.specs.Base64url.{Decodes}
-use Rattle.b64url_text.specs.NotBase64.{IsNotBase64}
 use Rattle.b64url_text.proofs.Codes.{one_code}
 use Rattle.claim_tree.specs.Tree.{Text, leaf, text}
 use Rattle.claim_tree.specs.View.{tree_of}
 use Rattle.claim_tree.specs.declared.tree.Tree as tree
 use Rattle.claim_tree.specs.FileForms.{HasValue}
-use Rattle.claim_tree.proofs.FileMembers.{no_text}
 use Rattle.claim_tree.proofs.FileVerdicts.{SaysOne}
 use Rattle.hmac_sign.specs.Hmac.{key_block}
 use Rattle.hmac_sign.specs.KeyText.{IsKeyBytes, IsKeyText}
@@ -22,17 +20,8 @@ one_key_bytes t x y h k =
 pub one_key_text : SaysOne IsKeyText
 one_key_text t x y h k = h.key_is ∙ (ap (key_block Alg.Hs256) (one_key_bytes t h.bytes k.bytes h.are k.are) ∙ sym k.key_is)
 
-pub no_key : (t : tree.Tree) → ((s : Text) → t ≢ tree.Tree.Text s) → HasValue IsKeyBytes (tree_of t) → ⊥
-no_key t other h = no_text t other (h.1.code, h.1.is)
-
 same_code : (t : tree.Tree) (s : Text) → t ≡ tree.Tree.Text s → (h : HasValue IsKeyBytes (tree_of t)) → h.1.code ≡ s
 same_code t s is h = let both : leaf (text h.1.code) ≡ leaf (text s) = sym h.1.is ∙ ap tree_of is in cc both
-
-pub are_bytes : (t : tree.Tree) (s : Text) (bytes : List ℕ) → t ≡ tree.Tree.Text s → Decodes s bytes → 32 ≤ length bytes → IsKeyBytes (tree_of t) bytes
-are_bytes t s bytes is decodes enough = record { code = s; is = ap tree_of is; decodes = decodes; enough = enough }
-
-pub odd_key : (t : tree.Tree) (s : Text) → t ≡ tree.Tree.Text s → IsNotBase64 s → HasValue IsKeyBytes (tree_of t) → ⊥
-odd_key t s is none h = none h.0 (subst (λ code. Decodes code h.0) (same_code t s is h) h.1.decodes)
 
 pub short_key : (t : tree.Tree) (s : Text) (bytes : List ℕ) → t ≡ tree.Tree.Text s → Decodes s bytes → length bytes < 32 → HasValue IsKeyBytes (tree_of t) → ⊥
 short_key t s bytes is decodes short h =

@@ -4,14 +4,14 @@ use Rattle.std.proofs.lemmas.Bool.{cases_lt}
 use Rattle.claim_tree.specs.Tree.{Text, Tree, array, object, Elements, element, Members}
 use Rattle.claim_tree.specs.Removed.{removed}
 use Rattle.claim_tree.specs.FileForms.{Says}
-use Rattle.claim_tree.specs.JsonText.{Reads, IsNotJson, IsNotWhole}
+use Rattle.claim_tree.specs.JsonText.{Reads}
 use Rattle.claim_tree.specs.Lists.{IsLeast, AtNone}
-use Rattle.claim_tree.proofs.FileVerdicts.{is_json, is_whole, one_cause}
+use Rattle.claim_tree.proofs.FileVerdicts.{is_json, is_whole}
 use Rattle.claim_tree.proofs.OneTree.{one_tree}
 use Rattle.compact_form.specs.PartWords.{part_word}
 use Rattle.compact_form.specs.declared.fault.Part.TheVariants.{Payload, Protected, Signature, Signatures, Header}
 use Rattle.compact_form.specs.declared.fault.JsonPlace.{JsonPlace}
-use Rattle.compact_form.specs.declared.fault.JsonPlace.TheVariants.{NotJson, NotWhole, NotObject, Wrong, Stray}
+use Rattle.compact_form.specs.declared.fault.JsonPlace.TheVariants.{NotObject, Wrong, Stray}
 use Rattle.json_form.specs.declared.token.Token.{Token}
 use Rattle.json_form.specs.declared.signatures.Entries.{Entries}
 use Rattle.json_form.specs.Json.{found_part, has_beside, IsWordTree, AreEntries, IsStray, EntrySays, IsJson}
@@ -182,18 +182,6 @@ members_say ms token o says (entry m at v) = entry_says says.entries.first token
 members_say ms token o says (stray es e named at w) = none_stray ms says.entries es e says.has says.none_stray at w
 
 -- ---- a text
-
-pub first_not_json : (bytes : Text) (p : JsonPlace) → p ≡ NotJson → IsNotJson bytes → IsJsonPlace bytes p
-first_not_json bytes p is odd = record { applies = not_json is odd; lowest = λ o applies. omega (arith, ap row_of is) }
-
-pub first_not_whole : (bytes : Text) (p : JsonPlace) → p ≡ NotWhole → IsNotWhole bytes → IsJsonPlace bytes p
-first_not_whole bytes p is odd = record { applies = not_whole is odd; lowest = go }
-  where
-    go : (o : JsonPlace) → JsonFails bytes o → row_of p ≤ row_of o
-    go o (not_json named w) = absurd (one_cause bytes w odd)
-    go o (not_whole named w) = omega (arith, ap row_of is, ap row_of named)
-    go o (not_object t named r w) = omega (arith, ap row_of is, ap row_of named)
-    go o (members ms r w) = omega (arith, ap row_of is, from_payload ms o w)
 
 pub first_not_object : (bytes : Text) (t : Tree) (p : JsonPlace) → p ≡ NotObject → Reads bytes t → ((ms : Members) → t ≢ object ms) → IsJsonPlace bytes p
 first_not_object bytes t p is reads odd = record { applies = not_object t is reads odd; lowest = go }

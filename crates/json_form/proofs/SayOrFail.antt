@@ -1,12 +1,13 @@
 -- A member says its value, or fails by it, and never both.
-use Rattle.std.proofs.Common.{◌≡◌, ◌≤◌, List, [], Option, Some, None, Result, Err, refl, sym, ap, subst, ◌∙◌, arith}
+use Rattle.std.proofs.Common.{◌≡◌, ◌≤◌, List, [], Option, Some, None, Result, Ok, Err, IsErrAnd, refl, sym, ap, subst, ◌∙◌, arith}
 use Rattle.claim_tree.specs.Tree.{Text, Tree, object, Members, no_members}
 use Rattle.claim_tree.specs.Removed.{removed}
-use Rattle.claim_tree.specs.FileForms.{Says, MaySay, SaysOr}
+use Rattle.claim_tree.specs.FileForms.{Says, MaySay, SaysOr, HasValue}
 use Rattle.compact_form.specs.PartWords.{part_word}
 use Rattle.compact_form.specs.declared.fault.Part.{Part}
 use Rattle.compact_form.specs.declared.fault.Part.TheVariants.{Protected, Signature, Header, Disclosures, KbJwt}
 use Rattle.compact_form.specs.declared.fault.JsonPlace.{JsonPlace}
+use Rattle.compact_form.specs.declared.fault.JsonPlace.TheVariants.{Wrong}
 use Rattle.json_form.specs.declared.token.Token.{Token}
 use Rattle.json_form.specs.declared.json_error.JsonFormError.{JsonFormError}
 use Rattle.json_form.specs.Json.{found_part, IsWordTree, AreWordTrees, IsJwtTree, IsObjectOf, EntrySays}
@@ -32,6 +33,9 @@ row_no_word ms part o (other t is stands odd) = ap row_of is
 
 pub row_wrong : {X : Type 0} (Is : Tree → X → Type 0) (ms : Members) (part : Part) (o : JsonPlace) → IsWrongMember Is ms part o → row_of o ≡ part_row part
 row_wrong Is ms part o wrong = ap row_of wrong.named
+
+pub wrong_here : {X : Type 0} (Is : Tree → X → Type 0) (ms : Members) (part : Part) (o : JsonPlace) (t : Tree) → o ≡ Wrong part → found_part ms part ≡ Some t → (HasValue Is t → ⊥) → IsWrongMember Is ms part o
+wrong_here Is ms part o t named stands odd = record { named = named; tree = t; stands = stands; no_value = odd }
 
 -- ---- the same member of other members
 
@@ -161,31 +165,33 @@ entry_says e token o says (kb_jwt h at v) =
 
 -- ---- an entry whose words are taken out one by one
 
--- the members as they are after the first, and after the second
-pub record Taken (e after last : Members) : Type 0 where
-  pub protected : after ≡ removed e (part_word Protected)
-  pub signature : last ≡ removed after (part_word Signature)
-
-pub signature_kept : (e after : Members) → after ≡ removed e (part_word Protected) → found_part after Signature ≡ found_part e Signature
+signature_kept : (e after : Members) → after ≡ removed e (part_word Protected) → found_part after Signature ≡ found_part e Signature
 signature_kept e after gone = ap (λ (ms : Members). found_part ms Signature) gone ∙ found_other e Protected Signature refl
 
-pub header_kept : (e after last : Members) → Taken e after last → found_part last Header ≡ found_part e Header
-header_kept e after last taken =
-    ap (λ (ms : Members). found_part ms Header) taken.signature ∙ found_other after Signature Header refl ∙ ap (λ (ms : Members). found_part ms Header) taken.protected ∙ found_other e Protected Header refl
+-- the second word is there no more than before
+pub no_signature : (e after : Members) (o : JsonPlace) → after ≡ removed e (part_word Protected) → IsNoWord after Signature o → IsNoWord e Signature o
+no_signature e after o gone none = no_word_at after e Signature o (signature_kept e after gone) none
+
+pub both_said : (e after : Members) (s u : Text) → after ≡ removed e (part_word Protected) → Says IsWordTree (found_part e Protected) s → Says IsWordTree (found_part after Signature) u → HasBoth e s u
+both_said e after s u gone first second = record { protected = first; signature = subst (λ t. Says IsWordTree t u) (signature_kept e after gone) second }
+
+pub header_kept : (e after last : Members) → after ≡ removed e (part_word Protected) → last ≡ removed after (part_word Signature) → found_part last Header ≡ found_part e Header
+header_kept e after last first second =
+    ap (λ (ms : Members). found_part ms Header) second ∙ found_other after Signature Header refl ∙ ap (λ (ms : Members). found_part ms Header) first ∙ found_other e Protected Header refl
+
+pub header_said : (e after last h : Members) → after ≡ removed e (part_word Protected) → last ≡ removed after (part_word Signature) → SaysOr IsObjectOf no_members (found_part last Header) h → SaysOr IsObjectOf no_members (found_part e Header) h
+header_said e after last h first second = subst (λ t. SaysOr IsObjectOf no_members t h) (header_kept e after last first second)
 
 pub binding_kept : (h rest : Members) → rest ≡ removed h (part_word Disclosures) → found_part rest KbJwt ≡ found_part h KbJwt
 binding_kept h rest gone = ap (λ (ms : Members). found_part ms KbJwt) gone ∙ found_other h Disclosures KbJwt refl
 
 -- ---- answers
 
--- a place that is handed on as an error
-pub same_place : {T : Type 0} (r : Result T JsonFormError) (p place : JsonPlace) (error : JsonFormError) → r ≡ Err error → error ≡ JsonFormError.Fault p → r ≡ Err (JsonFormError.Fault place) → p ≡ place
-same_place {T} r p place error handed is wanted =
-    let both : Err error ≡ Err (JsonFormError.Fault place) = sym handed ∙ wanted in
-    let same : error ≡ JsonFormError.Fault place = cc both in
-    let faults : JsonFormError.Fault p ≡ JsonFormError.Fault place = sym is ∙ same in
-    cc faults
-
 -- an error that is handed on
-pub same_error : {T : Type 0} (r : Result T JsonFormError) (inner error : JsonFormError) (place : JsonPlace) → r ≡ Err error → error ≡ inner → r ≡ Err (JsonFormError.Fault place) → inner ≡ JsonFormError.Fault place
-same_error {T} r inner error place handed is wanted = let both : Err error ≡ Err (JsonFormError.Fault place) = sym handed ∙ wanted in sym is ∙ cc both
+pub same_error : {T : Type 0} (r : Result T JsonFormError) (inner : JsonFormError) (place : JsonPlace) → IsErrAnd r (λ error. error ≡ inner) → r ≡ Err (JsonFormError.Fault place) → inner ≡ JsonFormError.Fault place
+same_error (Ok x) inner place handed wanted = absurd handed
+same_error (Err error) inner place handed wanted = let same : error ≡ JsonFormError.Fault place = cc wanted in sym handed ∙ same
+
+-- a place that is handed on as an error
+pub same_place : {T : Type 0} (r : Result T JsonFormError) (p place : JsonPlace) → IsErrAnd r (λ error. error ≡ JsonFormError.Fault p) → r ≡ Err (JsonFormError.Fault place) → p ≡ place
+same_place r p place handed wanted = let faults : JsonFormError.Fault p ≡ JsonFormError.Fault place = same_error r (JsonFormError.Fault p) place handed wanted in cc faults

@@ -1,6 +1,6 @@
 -- A text has one token, or is refused by one fault.
-use Rattle.std.proofs.Common.{◌≡◌, ℕ, ◌<◌, ◌≤◌, Bool, true, false, List, length, inl, inr, refl, sym, ap, subst, ◌∙◌, arith}
-use Rattle.std.specs.Prelude.{◌&&◌, ◌||◌, not, nat_lt}
+use Rattle.std.proofs.Common.{◌≡◌, ℕ, ◌<◌, ◌≤◌, ◌||◌, Bool, true, false, List, length, inl, inr, refl, sym, ap, subst, ◌∙◌, arith}
+use Rattle.std.specs.Prelude.{◌&&◌, not, nat_lt}
 use Rattle.std.proofs.lemmas.Bool.{lt-ltb, le-ltb}
 use Rattle.claim_tree.specs.Tree.{Members, no_members}
 use Rattle.sd_outside.specs.Limits.{file_max, compact_max}
@@ -25,7 +25,6 @@ use Rattle.json_form.specs.MembersRead.{misformed}
 use Rattle.json_form.specs.Json.{IsJson}
 use Rattle.json_form.specs.JsonPlaces.{IsJsonPlace}
 use Rattle.json_form.specs.Token.{Spells, spells_compact, spells_json, IsMisformed, no_compact, no_json, IsTooMuch, TextFails, too_long, form, too_much, IsTextRefused, IsToken}
-use Rattle.json_form.specs.Printable.{IsPrintable}
 use Rattle.json_form.proofs.OneForm.{one_json, no_fault, one_fault}
 
 number : (fault : Fault) (c : Condition) (place : Place) → fault ≡ fault_at c place → fault.number ≡ number_of c
@@ -127,16 +126,6 @@ read_plainly text token plainly reads none =
     record {
       spells = spells_compact plainly reads.spelling none;
       passes = λ fault fails. let p = from_either text fault plainly fails in reads.passes p.plain_fault p.fails;
-    }
-
-pub printable_plainly : (text : List ℕ) (token : Token) → plain.ReadsCompact text token.parts → token.outer ≡ no_members → IsPrintable token
-printable_plainly text token reads none =
-    record {
-      words = record { signed = reads.spelling.signed; disclosures = reads.spelling.disclosures; binding = reads.spelling.binding };
-      no_disclosures = rw none refl;
-      no_binding = rw none refl;
-      shallow = rw none (omega arith);
-      ranged = rw none tt;
     }
 
 -- ---- a JSON text

@@ -3,7 +3,7 @@ use Rattle.std.proofs.Common.{◌≡◌, List, [], ◌∷◌, ◌++◌, sym, ap,
 use Rattle.std.specs.List.{AllByRecursion}
 use Rattle.b64url_text.specs.Base64url.{IsWord}
 use Rattle.claim_tree.specs.Tree as spec
-use Rattle.claim_tree.specs.Tree.{Text, leaf, text, array, element}
+use Rattle.claim_tree.specs.Tree.{Text, leaf, text, array}
 use Rattle.claim_tree.specs.TreeCalls.{pushed}
 use Rattle.claim_tree.specs.FileForms.{text_elements, HasValue}
 use Rattle.claim_tree.specs.View.{tree_of}

@@ -1,17 +1,13 @@
 -- What is written of a token says it, and what says a token can be written.
-use Rattle.std.proofs.Common.{◌≡◌, ℕ, zero, suc, ◌+◌, ◌≤◌, max, List, [], ◌∷◌, ◌++◌, take, Option, Some, None, IfSome, refl, sym, ap, subst, ◌∙◌, arith}
-use Rattle.std.specs.Prelude.{slice_get}
+use Rattle.std.proofs.Common.{◌≡◌, ℕ, zero, suc, ◌+◌, ◌≤◌, max, List, [], Option, Some, None, IfSome, refl, sym, ap, subst, ◌∙◌, arith}
 use Rattle.std.specs.List.{AllByRecursion}
-use Rattle.std.proofs.lemmas.List.{take_more}
-use Rattle.std.proofs.lemmas.Option.{slice_get_within, get_or_from_slice_get}
 use Rattle.b64url_text.specs.Base64url.{IsWord}
-use Rattle.claim_tree.specs.Tree.{Text, text, Tree, leaf, array, object, no_elements, element, Members, no_members, depth, elements_depth, members_depth, IsRanged, MembersRanged}
+use Rattle.claim_tree.specs.Tree.{Text, text, Tree, leaf, array, object, no_elements, element, Elements, Members, no_members, inserted, depth, elements_depth, members_depth, IsRanged, MembersRanged}
 use Rattle.claim_tree.specs.TreeCalls.{pushed}
 use Rattle.claim_tree.specs.Removed.{removed}
 use Rattle.claim_tree.specs.FileForms.{Says, MaySay, SaysOr, text_elements}
 use Rattle.claim_tree.specs.JsonText.{Reads}
 use Rattle.claim_tree.proofs.Datas.{MembersRanged-inserted}
-use Rattle.claim_tree.proofs.FileMembers.{text_elements-push}
 use Rattle.claim_tree.proofs.Inner.{ranged-member_named}
 use Rattle.claim_tree.proofs.OtherMembers.{named_other, named_gone, removed_absent, ranged-removed, depth-removed, depth-member_named, named_inserted, other_inserted, removed_inserted, depth-inserted}
 use Rattle.compact_form.specs.Compact.{jwt, HasWords, AreWords}
@@ -24,15 +20,8 @@ use Rattle.json_form.specs.Json.{found_part, IsWordTree, AreWordTrees, IsJwtTree
 use Rattle.json_form.specs.MembersRead.{HasEntries, itself, listed, MembersSay}
 use Rattle.json_form.specs.Written.{with_binding, written_header, flat_members, flat_of, entry_of, general_members, general_of}
 use Rattle.json_form.specs.Printable.{IsPrintable}
+use Rattle.json_form.proofs.SayOrFail.{entry_says_at}
 use Rattle.claim_tree.proofs.TextElements.{texts_depth, texts_ranged}
-
--- ---- lists of texts
-
--- one text more
-pub texts_turn : (texts : List Text) (i : ℕ) (s : Text) → slice_get texts i ≡ Some s → text_elements (take (i + 1) texts) ≡ pushed (text_elements (take i texts)) (leaf (text s))
-texts_turn texts i s at =
-    ap text_elements (take_more texts i [] (slice_get_within texts i s at) ∙ ap (λ (e : Text). take i texts ++ (e ∷ [])) (get_or_from_slice_get texts i s [] at))
-    ∙ text_elements-push (take i texts) s
 
 -- ---- the header that is written
 
@@ -92,6 +81,16 @@ flat_ranged token good = (header_ranged token good, (tt, (tt, (tt, tt))))
 pub flat_depth : (token : Token) → IsPrintable token → depth (flat_of token) ≤ 127
 flat_depth token good = omega (arith, header_depth token, good.shallow)
 
+flat_entry : (token : Token) → IsPrintable token → EntrySays (flat_members token) token
+flat_entry token good =
+    record {
+      protected = record { is = refl; word = good.words.signed.protected };
+      signature = record { is = refl; word = good.words.signed.signature };
+      header = written_header token;
+      unprotected = refl;
+      says = header_says token good;
+    }
+
 pub flat_says : (token : Token) (bytes : Text) → IsPrintable token → Reads bytes (flat_of token) → IsFlat token bytes
 flat_says token bytes good reads =
     record {
@@ -99,19 +98,19 @@ flat_says token bytes good reads =
       reads = reads;
       flat = refl;
       payload = record { is = refl; word = good.words.signed.payload };
-      entry = record {
-        protected = record { is = refl; word = good.words.signed.protected };
-        signature = record { is = refl; word = good.words.signed.signature };
-        header = written_header token;
-        unprotected = refl;
-        says = header_says token good;
-      };
+      entry = flat_entry token good;
     }
 
 -- ---- the general form
 
 pub general_ranged : (token : Token) → IsPrintable token → IsRanged (general_of token)
 general_ranged token good = (tt, (((header_ranged token good, (tt, (tt, tt))), tt), tt))
+
+-- the object that is put together
+pub general_made : (token : Token) (empty front all : Members) (none list : Elements) (entry : Members) (payload : Text) → empty ≡ no_members → none ≡ no_elements → entry ≡ entry_of token → payload ≡ token.parts.signed.payload
+    → front ≡ inserted empty (part_word Payload) (leaf (text payload)) → list ≡ pushed none (object entry) → all ≡ inserted front (part_word Signatures) (array list) → object all ≡ general_of token
+general_made token empty front all none list entry payload empty_is none_is entry_is payload_is put_first pushed_is put_last =
+    ap object (rw (put_last, put_first, pushed_is, empty_is, none_is, entry_is, payload_is) refl)
 
 pub general_depth : (token : Token) → members_depth token.outer ≤ 123 → depth (general_of token) ≤ 127
 general_depth token shallow = omega (arith, header_depth token, shallow)
@@ -132,13 +131,7 @@ general_says token bytes good reads =
       entries = record { are = refl; objects = refl };
       alone = refl;
       payload = record { is = refl; word = good.words.signed.payload };
-      entry = record {
-        protected = record { is = refl; word = good.words.signed.protected };
-        signature = record { is = refl; word = good.words.signed.signature };
-        header = written_header token;
-        unprotected = refl;
-        says = header_says token good;
-      };
+      entry = entry_says_at (flat_members token) (entry_of token) token (record { protected = refl; signature = refl; header = refl }) (flat_entry token good);
       no_stray = one_alone (entry_of token);
     }
 

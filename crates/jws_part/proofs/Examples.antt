@@ -9,6 +9,7 @@ use Rattle.claim_tree.specs.JsonText.{json_text}
 use Rattle.claim_tree.proofs.RoundTrip.{read_of_text}
 use Rattle.jws_part.specs.Part.{Carries, IsBody}
 use Rattle.jws_part.specs.Header.{header_members, has_crit, shares_name, IsHeader}
+use Rattle.jws_part.proofs.Parts.{body_of}
 
 plain : b64 (json_text (object (header_members (record { alg = codes "HS256"; kid = None; typ = None })))) ≡ codes "eyJhbGciOiJIUzI1NiJ9"
 unfolding b64 sixes bits letters escape_byte
@@ -44,11 +45,7 @@ alg_alone = member (codes "alg") (leaf (text (codes "HS256"))) no_members
 
 pub a_head : IsBody (codes "eyJhbGciOiJIUzI1NiJ9") (object alg_alone)
 unfolding b64 sixes bits letters escape_byte
-a_head = record {
-  members = alg_alone;
-  is_object = refl;
-  carried = carries (codes "eyJhbGciOiJIUzI1NiJ9") (object alg_alone) refl refl (tt, tt) (tt, tt, tt) (omega arith);
-}
+a_head = body_of (codes "eyJhbGciOiJIUzI1NiJ9") alg_alone (carries (codes "eyJhbGciOiJIUzI1NiJ9") (object alg_alone) refl refl (tt, tt) (tt, tt, tt) (omega arith))
 
 pub a_header : IsHeader (codes "eyJhbGciOiJIUzI1NiJ9") no_members (record { alg = codes "HS256"; kid = None; typ = None })
 a_header = record {
@@ -64,8 +61,4 @@ sd_alg_alone = member (codes "_sd_alg") (leaf (text (codes "sha-256"))) no_membe
 
 pub a_body : IsBody (codes "eyJfc2RfYWxnIjoic2hhLTI1NiJ9") (object sd_alg_alone)
 unfolding b64 sixes bits letters escape_byte
-a_body = record {
-  members = sd_alg_alone;
-  is_object = refl;
-  carried = carries (codes "eyJfc2RfYWxnIjoic2hhLTI1NiJ9") (object sd_alg_alone) refl refl (tt, tt) (tt, tt, tt) (omega arith);
-}
+a_body = body_of (codes "eyJfc2RfYWxnIjoic2hhLTI1NiJ9") sd_alg_alone (carries (codes "eyJfc2RfYWxnIjoic2hhLTI1NiJ9") (object sd_alg_alone) refl refl (tt, tt) (tt, tt, tt) (omega arith))

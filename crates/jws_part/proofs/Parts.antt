@@ -2,7 +2,6 @@
 use Rattle.std.proofs.Common.{◌≡◌, inl, inr, true, false, refl, sym, ap, subst, ◌∙◌}
 use Rattle.serde_json.specs.Written.{has_float}
 use Rattle.b64url_text.specs.Base64url.{Decodes}
-use Rattle.b64url_text.specs.NotBase64.{IsNotBase64}
 use Rattle.b64url_text.proofs.Codes.{one_code}
 use Rattle.claim_tree.specs.Tree.{Text, Tree, leaf, null, flag, whole, text, array, object, Members}
 use Rattle.claim_tree.specs.JsonText.{Reads, IsNotJson, IsNotWhole, data_of}
@@ -14,9 +13,6 @@ use Rattle.claim_tree.specs.declared.tree.TreeMap.{TreeMap}
 use Rattle.claim_tree.proofs.Datas.{no_float}
 use Rattle.claim_tree.proofs.OneTree.{one_tree}
 use Rattle.jws_part.specs.Part.{Carries, IsBody, IsNoObject}
-
-pub no_code : (part : Text) → IsNotBase64 part → IsNoObject part
-no_code part refused ms c = refused c.bytes c.decodes
 
 not_json : (bytes : Text) (t : Tree) → IsNotJson bytes → Reads bytes t → ⊥
 not_json bytes t (inl odd) r = odd r.utf8

@@ -10,7 +10,7 @@ use Rattle.hmac_sign.proofs.Macs.{AreBytes-mac}
 use Rattle.key_binding.specs.Binding.{Claims, claims_for, claim_members, binding_header, IsBinding, IsReadBack}
 use Rattle.key_binding.specs.Judged.{Judged, holder_key, HasClaims}
 use Rattle.key_binding.specs.BindingConditions.{BindingFails, IsStale, IsEarly, IsTimeRefused}
-use Rattle.key_binding.proofs.BindingSteps.{at28, at29, at30, at31, at32, at33, at34, at35, at36, at37, at38, finish}
+use Rattle.key_binding.proofs.BindingSteps.{at_type, at32, at33, at34, at35, at36, at37, at38, finish}
 
 -- it claims no times beside its moment
 no_times : (claims : Claims) (skew now : ℕ) → IsTimeRefused (object (claim_members claims)) skew now → ⊥
@@ -33,8 +33,7 @@ accepted key aud iat j is back among key_is fresh made =
     let has : HasClaims j.token claims = record { body = body; is_body = back.body; says = record { aud = refl; iat = refl; nonce = refl; sd_hash = refl } } in
     let bytes : AreBytes is.signature = subst AreBytes (sym is.signed) (AreBytes-mac (hs256_key key) j.token.protected j.token.payload) in
     let good : IsGoodText (hs256_key key) j.token.protected j.token.payload j.token.signature = (is.signature, record { fit = bytes; spelling = is.signature_text }, is.signed) in
-    let at_header = at30 j (at29 j (at28 j key key_is) binding_header back.header) binding_header back.header refl in
-    let at_payload = at32 j (at31 j at_header key key_is good) binding_header back.header refl in
+    let at_payload = at32 j (at_type j key key_is binding_header back.header refl good) binding_header back.header refl in
     let at_times = at34 j (at33 j at_payload claims has) claims has (fresh_enough iat j.policy.max_age j.skew j.now fresh) in
     let at_nonce = at35 j at_times claims has (made_already iat j.skew j.now made) in
     let at_hash = at37 j (at36 j at_nonce claims has refl) claims has among in

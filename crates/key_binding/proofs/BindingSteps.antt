@@ -62,47 +62,6 @@ binding_numbers j Condition.AudienceDiffers place h = (omega arith, omega arith)
 binding_numbers j Condition.HashDiffers place h = (omega arith, omega arith)
 binding_numbers j Condition.BindingTime place h = (omega arith, omega arith)
 
--- none names a place
-pub no_place : (j : Judged) (c : Condition) (place : Place) → BindingFails j c place → place ≡ Nowhere
-no_place j Condition.TooLong place h = absurd h
-no_place j Condition.Form place h = absurd h
-no_place j Condition.TooMuch place h = absurd h
-no_place j Condition.BindingMissing place h = absurd h
-no_place j Condition.HeaderUnreadable place h = absurd h
-no_place j Condition.HeaderCritical place h = absurd h
-no_place j Condition.AlgRefused place h = absurd h
-no_place j Condition.TypeRefused place h = absurd h
-no_place j Condition.IssuerKeyUnknown place h = absurd h
-no_place j Condition.BadSignature place h = absurd h
-no_place j Condition.PayloadUnreadable place h = absurd h
-no_place j Condition.HashUnknown place h = absurd h
-no_place j Condition.DisclosureUnreadable place h = absurd h
-no_place j Condition.RepeatedDisclosure place h = absurd h
-no_place j Condition.ReservedMisused place h = absurd h
-no_place j Condition.RepeatedDigest place h = absurd h
-no_place j Condition.UnreferencedDisclosure place h = absurd h
-no_place j Condition.WrongShape place h = absurd h
-no_place j Condition.ReservedName place h = absurd h
-no_place j Condition.NameClash place h = absurd h
-no_place j Condition.TooDeep place h = absurd h
-no_place j Condition.IssuerRefused place h = absurd h
-no_place j Condition.ClaimMissing place h = absurd h
-no_place j Condition.TimeUnreadable place h = absurd h
-no_place j Condition.Expired place h = absurd h
-no_place j Condition.NotYet place h = absurd h
-no_place j Condition.HolderKeyUnknown place h = h.0
-no_place j Condition.BindingHeader place h = h.0
-no_place j Condition.BindingAlg place h = h.0
-no_place j Condition.BindingSignature place h = h.0
-no_place j Condition.BindingType place h = h.0
-no_place j Condition.BindingPayload place h = h.0
-no_place j Condition.BindingStale place h = h.0
-no_place j Condition.BindingEarly place h = h.0
-no_place j Condition.NonceDiffers place h = h.0
-no_place j Condition.AudienceDiffers place h = h.0
-no_place j Condition.HashDiffers place h = h.0
-no_place j Condition.BindingTime place h = h.0
-
 -- ---- what is read is one
 
 same_text : (found : Option Tree) (a b : Text) → found ≡ Some (text_tree a) → found ≡ Some (text_tree b) → a ≡ b
@@ -153,7 +112,7 @@ module _ (j : Judged) where
   pub at30 : Passes 29 (BindingFails j) → (h : Header) → HasBindingHeader j.token h → h.alg ≡ codes "HS256" → Passes 30 (BindingFails j)
   at30 passes h has alg = holds_too (BindingFails j) Condition.BindingAlg passes (λ place (is, (k, other, differs)). differs (subst (λ (x : Header). x.alg ≡ codes "HS256") (one_header h k has other) alg))
 
-  pub at31 : Passes 30 (BindingFails j) → (key : List ℕ) → holder_key j.policy.keys j.payload ≡ Some key → IsGoodText (hs256_key key) j.token.protected j.token.payload j.token.signature → Passes 31 (BindingFails j)
+  at31 : Passes 30 (BindingFails j) → (key : List ℕ) → holder_key j.policy.keys j.payload ≡ Some key → IsGoodText (hs256_key key) j.token.protected j.token.payload j.token.signature → Passes 31 (BindingFails j)
   at31 passes key is good = holds_too (BindingFails j) Condition.BindingSignature passes go
     where
       go : (place : Place) → BindingFails j Condition.BindingSignature place → ⊥
@@ -161,6 +120,11 @@ module _ (j : Judged) where
           let both : Some other ≡ Some key = sym other_is ∙ is in
           let same : other ≡ key = cc both in
           bad (subst (λ x. IsGoodText (hs256_key x) j.token.protected j.token.payload j.token.signature) (sym same) good)
+
+  -- up to the type that the header names, where the signature is good
+  pub at_type : (key : List ℕ) → holder_key j.policy.keys j.payload ≡ Some key → (h : Header) → HasBindingHeader j.token h → h.alg ≡ codes "HS256" → IsGoodText (hs256_key key) j.token.protected j.token.payload j.token.signature
+      → Passes 31 (BindingFails j)
+  at_type key is h has alg good = at31 (at30 (at29 (at28 key is) h has) h has alg) key is good
 
   pub at32 : Passes 31 (BindingFails j) → (h : Header) → HasBindingHeader j.token h → h.typ ≡ Some (codes "kb+jwt") → Passes 32 (BindingFails j)
   at32 passes h has typ = holds_too (BindingFails j) Condition.BindingType passes (λ place (is, (k, other, differs)). differs (subst (λ (x : Header). x.typ ≡ Some (codes "kb+jwt")) (one_header h k has other) typ))

@@ -1,5 +1,5 @@
 -- What a comparison of texts tells.
-use Rattle.std.proofs.Common.{◌≡◌, ◌≢◌, ◌↔◌, ℕ, zero, suc, List, [], ◌∷◌, slice_get, Option, Some, None, IsTrue, Bool, true, false, not, bytes_eq, refl, sym, subst, ◌∙◌}
+use Rattle.std.proofs.Common.{◌≡◌, ◌≢◌, ◌↔◌, ℕ, zero, suc, List, [], ◌∷◌, slice_get, Some, None, IsTrue, Bool, true, false, not, bytes_eq, refl, sym, subst, ◌∙◌}
 use Rattle.claim_tree.specs.Tree.{Text}
 use Rattle.claim_tree.specs.Lists.{StandsAt}
 use Rattle.claim_tree.proofs.Lists.{At-same, got_stands, bytes_same, bytes_refl}

@@ -1,11 +1,12 @@
 -- What the steps of a check say of the conditions on the token.
-use Rattle.std.proofs.Common.{◌≡◌, ℕ, zero, suc, ◌<◌, ◌≤◌, List, [], ◌∷◌, length, take, slice_get, Option, Some, None, refl, sym, ap, subst, ◌∙◌, arith}
+use Rattle.std.proofs.Common.{◌≡◌, ℕ, zero, suc, ◌<◌, ◌≤◌, List, [], ◌∷◌, length, take, Option, Some, None, refl, sym, ap, subst, ◌∙◌, arith}
 use Rattle.std.specs.List.{AllZip}
 use Rattle.claim_tree.specs.Tree.{Text, Tree, Members, leaf, null, flag, whole, text, array, object, depth}
 use Rattle.claim_tree.specs.Lists.{StandsAt, AtNone, IsLeast}
 use Rattle.claim_tree.proofs.Lists.{got_stands}
 use Rattle.compact_form.specs.declared.fault.Fault.{Fault}
 use Rattle.compact_form.specs.declared.fault.Place.{Place}
+use Rattle.compact_form.specs.declared.fault.Place.TheVariants.{At}
 use Rattle.json_form.specs.declared.token.Token.{Token}
 use Rattle.hmac_sign.specs.Hmac.{AlgKey}
 use Rattle.jws_part.specs.declared.header.Header.{Header}
@@ -29,7 +30,8 @@ use Rattle.verifier_core.specs.Check.{OnFault, IsUncounted, IsUnopened, process_
 use Rattle.verifier_core.specs.declared.check.VerifyError.{VerifyError}
 use Rattle.verifier_core.proofs.TokenConditions.{finish, start}
 use Rattle.compact_form.specs.Lowest.{Unplaced, Numbered, IsLowest}
-use Rattle.compact_form.specs.Faults.{unplaced}
+use Rattle.compact_form.specs.Condition.{number_of}
+use Rattle.compact_form.specs.Faults.{placed, unplaced}
 use Rattle.compact_form.specs.Passing.{Passes}
 use Rattle.compact_form.proofs.Lowest.{holds_too, refuse_unplaced}
 use Rattle.verifier_core.proofs.LeastPlaces.{refuse_placed}
@@ -188,74 +190,56 @@ least C token p g has i l = record { fails = (p, g, has, l.fails); first = λ j 
 abbrev Doubled : Tree → List Given → ℕ → Type 0
 Doubled p g i = opening.RepeatedDisclosure g i
 
-at15 : (token : Token) (rules : Rules) (p : Tree) (g : List Given) → HasContent token p g → Passes 14 (TokenFails token rules) → AtNone (opening.RepeatedDisclosure g) → Passes 15 (TokenFails token rules)
-at15 token rules p g has passes none = holds_too (TokenFails token rules) Condition.RepeatedDisclosure passes (nowhere Doubled token p g has none)
+module _ (token : Token) (rules : Rules) (p : Tree) (g : List Given) (has : HasContent token p g) where
+  at15 : Passes 14 (TokenFails token rules) → AtNone (opening.RepeatedDisclosure g) → Passes 15 (TokenFails token rules)
+  at15 passes none = holds_too (TokenFails token rules) Condition.RepeatedDisclosure passes (nowhere Doubled token p g has none)
 
-at16 : (token : Token) (rules : Rules) (p : Tree) (g : List Given) → HasContent token p g → Passes 15 (TokenFails token rules) → AtNone (opening.Misused p g) → Passes 16 (TokenFails token rules)
-at16 token rules p g has passes none = holds_too (TokenFails token rules) Condition.ReservedMisused passes (nowhere opening.Misused token p g has none)
+  at16 : Passes 15 (TokenFails token rules) → AtNone (opening.Misused p g) → Passes 16 (TokenFails token rules)
+  at16 passes none = holds_too (TokenFails token rules) Condition.ReservedMisused passes (nowhere opening.Misused token p g has none)
 
-at17 : (token : Token) (rules : Rules) (p : Tree) (g : List Given) → HasContent token p g → Passes 16 (TokenFails token rules) → AtNone (opening.RepeatedDigest p g) → Passes 17 (TokenFails token rules)
-at17 token rules p g has passes none = holds_too (TokenFails token rules) Condition.RepeatedDigest passes (nowhere opening.RepeatedDigest token p g has none)
+  at17 : Passes 16 (TokenFails token rules) → AtNone (opening.RepeatedDigest p g) → Passes 17 (TokenFails token rules)
+  at17 passes none = holds_too (TokenFails token rules) Condition.RepeatedDigest passes (nowhere opening.RepeatedDigest token p g has none)
 
-at18 : (token : Token) (rules : Rules) (p : Tree) (g : List Given) → HasContent token p g → Passes 14 (TokenFails token rules) → opening2.IsReferencedOnce p g → Passes 18 (TokenFails token rules)
-at18 token rules p g has passes r =
-    holds_too (TokenFails token rules) Condition.UnreferencedDisclosure
-    (at17 token rules p g has (at16 token rules p g has (at15 token rules p g has passes r.no_repeated_disclosure) r.no_misuse) r.no_repeated_digest)
-    (nowhere opening.Unreferenced token p g has r.no_unreferenced)
+  at18 : Passes 14 (TokenFails token rules) → opening2.IsReferencedOnce p g → Passes 18 (TokenFails token rules)
+  at18 passes r =
+      holds_too (TokenFails token rules) Condition.UnreferencedDisclosure
+      (at17 (at16 (at15 passes r.no_repeated_disclosure) r.no_misuse) r.no_repeated_digest)
+      (nowhere opening.Unreferenced token p g has r.no_unreferenced)
 
-at19 : (token : Token) (rules : Rules) (p : Tree) (g : List Given) → HasContent token p g → Passes 18 (TokenFails token rules) → AtNone (opening.WrongShape p g) → Passes 19 (TokenFails token rules)
-at19 token rules p g has passes none = holds_too (TokenFails token rules) Condition.WrongShape passes (nowhere opening.WrongShape token p g has none)
+  at19 : Passes 18 (TokenFails token rules) → AtNone (opening.WrongShape p g) → Passes 19 (TokenFails token rules)
+  at19 passes none = holds_too (TokenFails token rules) Condition.WrongShape passes (nowhere opening.WrongShape token p g has none)
 
-at20 : (token : Token) (rules : Rules) (p : Tree) (g : List Given) → HasContent token p g → Passes 19 (TokenFails token rules) → AtNone (opening.ReservedName p g) → Passes 20 (TokenFails token rules)
-at20 token rules p g has passes none = holds_too (TokenFails token rules) Condition.ReservedName passes (nowhere opening.ReservedName token p g has none)
+  at20 : Passes 19 (TokenFails token rules) → AtNone (opening.ReservedName p g) → Passes 20 (TokenFails token rules)
+  at20 passes none = holds_too (TokenFails token rules) Condition.ReservedName passes (nowhere opening.ReservedName token p g has none)
 
-at21 : (token : Token) (rules : Rules) (p : Tree) (g : List Given) → HasContent token p g → Passes 14 (TokenFails token rules) → opening2.IsReferencedOnce p g → opening2.IsWellNamed p g → Passes 21 (TokenFails token rules)
-at21 token rules p g has passes r n =
-    holds_too (TokenFails token rules) Condition.NameClash
-    (at20 token rules p g has (at19 token rules p g has (at18 token rules p g has passes r) n.no_wrong_shape) n.no_reserved_name)
-    (nowhere opening.NameClash token p g has n.no_name_clash)
+  at21 : Passes 14 (TokenFails token rules) → opening2.IsReferencedOnce p g → opening2.IsWellNamed p g → Passes 21 (TokenFails token rules)
+  at21 passes r n = holds_too (TokenFails token rules) Condition.NameClash (at20 (at19 (at18 passes r) n.no_wrong_shape) n.no_reserved_name) (nowhere opening.NameClash token p g has n.no_name_clash)
 
-shallow : (token : Token) (rules : Rules) (p : Tree) (g : List Given) → HasContent token p g → depth (strip (processed p g)) ≤ 100 → (place : Place) → TokenFails token rules Condition.TooDeep place → ⊥
-shallow token rules p g has low place (is, (q, h, other, deep)) =
-    let same = one_content token q p h g other has in
-    let here_deep : opening.IsTooDeep p g = subst (λ x. opening.IsTooDeep p x) same.1 (subst (λ x. opening.IsTooDeep x h) same.0 deep) in
-    absurd (omega (arith, low, here_deep))
+  shallow : depth (strip (processed p g)) ≤ 100 → (place : Place) → TokenFails token rules Condition.TooDeep place → ⊥
+  shallow low place (is, (q, h, other, deep)) =
+      let same = one_content token q p h g other has in
+      let here_deep : opening.IsTooDeep p g = subst (λ x. opening.IsTooDeep p x) same.1 (subst (λ x. opening.IsTooDeep x h) same.0 deep) in
+      absurd (omega (arith, low, here_deep))
 
-pub content_passes : (token : Token) (rules : Rules) (p : Tree) (g : List Given) → HasContent token p g → Passes 14 (TokenFails token rules) → opening2.IsSound p g → Passes 22 (TokenFails token rules)
-content_passes token rules p g has passes s = holds_too (TokenFails token rules) Condition.TooDeep (at21 token rules p g has passes s.referenced s.named) (shallow token rules p g has s.shallow)
+  pub content_passes : Passes 14 (TokenFails token rules) → opening2.IsSound p g → Passes 22 (TokenFails token rules)
+  content_passes passes s = holds_too (TokenFails token rules) Condition.TooDeep (at21 passes s.referenced s.named) (shallow s.shallow)
 
--- a refusal to process is the lowest condition that fails
-pub content_fault : (token : Token) (rules : Rules) (p : Tree) (g : List Given) → HasContent token p g → Passes 14 (TokenFails token rules) → (e : ProcessError) → IsProcessRefused p g e
-    → OnFault (process_fault e) (IsLowest (TokenFails token rules))
-content_fault token rules p g has passes ProcessError.Memory r = tt
-content_fault token rules p g has passes (ProcessError.RepeatedDisclosure i) r =
-    refuse_placed (TokenFails token rules) Condition.RepeatedDisclosure (OfContent Doubled token) i (λ place h. h) (λ h. (i, refl, h)) passes (least Doubled token p g has i r)
-content_fault token rules p g has passes (ProcessError.ReservedMisused i) r =
-    refuse_placed (TokenFails token rules) Condition.ReservedMisused (OfContent opening.Misused token) i (λ place h. h) (λ h. (i, refl, h))
-    (at15 token rules p g has passes r.0)
-    (least opening.Misused token p g has i r.1)
-content_fault token rules p g has passes (ProcessError.RepeatedDigest i) r =
-    refuse_placed (TokenFails token rules) Condition.RepeatedDigest (OfContent opening.RepeatedDigest token) i (λ place h. h) (λ h. (i, refl, h))
-    (at16 token rules p g has (at15 token rules p g has passes r.0) r.1)
-    (least opening.RepeatedDigest token p g has i r.2)
-content_fault token rules p g has passes (ProcessError.Unreferenced i) r =
-    refuse_placed (TokenFails token rules) Condition.UnreferencedDisclosure (OfContent opening.Unreferenced token) i (λ place h. h) (λ h. (i, refl, h))
-    (at17 token rules p g has (at16 token rules p g has (at15 token rules p g has passes r.0) r.1) r.2)
-    (least opening.Unreferenced token p g has i r.3)
-content_fault token rules p g has passes (ProcessError.WrongShape i) r =
-    refuse_placed (TokenFails token rules) Condition.WrongShape (OfContent opening.WrongShape token) i (λ place h. h) (λ h. (i, refl, h))
-    (at18 token rules p g has passes r.0)
-    (least opening.WrongShape token p g has i r.1)
-content_fault token rules p g has passes (ProcessError.ReservedName i) r =
-    refuse_placed (TokenFails token rules) Condition.ReservedName (OfContent opening.ReservedName token) i (λ place h. h) (λ h. (i, refl, h))
-    (at19 token rules p g has (at18 token rules p g has passes r.0) r.1)
-    (least opening.ReservedName token p g has i r.2)
-content_fault token rules p g has passes (ProcessError.NameClash i) r =
-    refuse_placed (TokenFails token rules) Condition.NameClash (OfContent opening.NameClash token) i (λ place h. h) (λ h. (i, refl, h))
-    (at20 token rules p g has (at19 token rules p g has (at18 token rules p g has passes r.0) r.1) r.2)
-    (least opening.NameClash token p g has i r.3)
-content_fault token rules p g has passes ProcessError.TooDeep r =
-    refuse_unplaced (TokenFails token rules) Condition.TooDeep (unplaced Condition.TooDeep) refl (at21 token rules p g has passes r.0 r.1) (refl, (p, g, has, r.2))
+  -- a condition that fails first at this number
+  first_at : (d : Condition) (C : Tree → List Given → ℕ → Type 0) (i : ℕ) → ((place : Place) → TokenFails token rules d place → Numbered (OfContent C token) place) → (OfContent C token i → TokenFails token rules d (At i))
+      → Passes (number_of d) (TokenFails token rules) → IsLeast (C p g) i → IsLowest (TokenFails token rules) (placed d i)
+  first_at d C i is back passes fails = refuse_placed (TokenFails token rules) d (OfContent C token) i is back passes (least C token p g has i fails)
+
+  -- a refusal to process is the lowest condition that fails
+  pub content_fault : Passes 14 (TokenFails token rules) → (e : ProcessError) → IsProcessRefused p g e → OnFault (process_fault e) (IsLowest (TokenFails token rules))
+  content_fault passes ProcessError.Memory r = tt
+  content_fault passes (ProcessError.RepeatedDisclosure i) r = first_at Condition.RepeatedDisclosure Doubled i (λ place h. h) (λ h. (i, refl, h)) passes r
+  content_fault passes (ProcessError.ReservedMisused i) r = first_at Condition.ReservedMisused opening.Misused i (λ place h. h) (λ h. (i, refl, h)) (at15 passes r.0) r.1
+  content_fault passes (ProcessError.RepeatedDigest i) r = first_at Condition.RepeatedDigest opening.RepeatedDigest i (λ place h. h) (λ h. (i, refl, h)) (at16 (at15 passes r.0) r.1) r.2
+  content_fault passes (ProcessError.Unreferenced i) r = first_at Condition.UnreferencedDisclosure opening.Unreferenced i (λ place h. h) (λ h. (i, refl, h)) (at17 (at16 (at15 passes r.0) r.1) r.2) r.3
+  content_fault passes (ProcessError.WrongShape i) r = first_at Condition.WrongShape opening.WrongShape i (λ place h. h) (λ h. (i, refl, h)) (at18 passes r.0) r.1
+  content_fault passes (ProcessError.ReservedName i) r = first_at Condition.ReservedName opening.ReservedName i (λ place h. h) (λ h. (i, refl, h)) (at19 (at18 passes r.0) r.1) r.2
+  content_fault passes (ProcessError.NameClash i) r = first_at Condition.NameClash opening.NameClash i (λ place h. h) (λ h. (i, refl, h)) (at20 (at19 (at18 passes r.0) r.1) r.2) r.3
+  content_fault passes ProcessError.TooDeep r = refuse_unplaced (TokenFails token rules) Condition.TooDeep (unplaced Condition.TooDeep) refl (at21 passes r.0 r.1) (refl, (p, g, has, r.2))
 
 -- ---- from step to step
 

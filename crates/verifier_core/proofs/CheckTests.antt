@@ -1,9 +1,9 @@
 -- What the tests of a check tell.
-use Rattle.std.proofs.Common.{Result, Ok, Err, IfOk, IfErr, ◌≡◌, ◌⊎◌, inl, inr, ℕ, zero, suc, ◌<◌, List, [], ◌∷◌, ◌++◌, length, take, slice_get, Bool, true, false, not, bytes_eq, Option, Some, None, refl, sym, ap, subst, ◌∙◌, arith}
+use Rattle.std.proofs.Common.{◌≡◌, ◌⊎◌, inl, inr, ℕ, List, [], ◌∷◌, ◌++◌, length, take, slice_get, Bool, true, false, not, bytes_eq, Option, Some, refl, sym, ap, subst, ◌∙◌}
 use Rattle.std.specs.List.{AllZip}
 use Rattle.claim_tree.specs.Tree.{Text}
-use Rattle.claim_tree.specs.Lists.{StandsAt, In}
-use Rattle.claim_tree.proofs.Lists.{At-same, bytes_same, bytes_refl, In-append, got_stands}
+use Rattle.claim_tree.specs.Lists.{In}
+use Rattle.claim_tree.proofs.Lists.{bytes_same, bytes_refl, In-append}
 use Rattle.disclosure.specs.declared.digests.HashAlg.{HashAlg}
 use Rattle.disclosure.specs.declared.errors.DisclosureError.{DisclosureError}
 use Rattle.disclosure.specs.DisclosureRefusals.{IsDisclosureRefused}
@@ -11,18 +11,6 @@ use Rattle.disclosure.proofs.Verdicts as readings
 use Rattle.digest_sites.specs.Given.{Given}
 use Rattle.verifier_core.specs.Verdict.{IsTypeRefused, Gives, IsNoDisclosure}
 use Rattle.verifier_core.specs.Check.{TestTells, OnFault, unread_at, IsUnreadAt}
-
-pub at_told : (xs : List Text) (i : ℕ) (y x : Text) → slice_get xs i ≡ Some y → (b : Bool) → b ≡ bytes_eq y x → TestTells b (StandsAt xs i x)
-at_told xs i y x there true is = subst (λ z. StandsAt xs i z) (bytes_same y x (sym is)) (got_stands xs i y there)
-at_told xs i y x there false is = λ h.
-    let same : y ≡ x = At-same xs i y x (got_stands xs i y there) h in
-    let clash : false ≡ true = is ∙ bytes_refl y x same in
-    cc clash
-
-pub none_told : (xs : List Text) (i : ℕ) (x : Text) → slice_get xs i ≡ None → StandsAt xs i x → ⊥
-none_told [] i x none h = h
-none_told (y ∷ xs) zero x none h = cc none
-none_told (y ∷ xs) (suc i) x none h = none_told xs i x none h
 
 pub type_told : (asked typ : Option Text) (name own : Text) → asked ≡ Some name → typ ≡ Some own → (b : Bool) → b ≡ not (bytes_eq own name) → TestTells b (IsTypeRefused asked typ)
 type_told asked typ name own a t b is = subst (λ z. TestTells z (IsTypeRefused asked typ)) (sym is) (go (bytes_eq own name) refl)
@@ -47,20 +35,6 @@ type_told asked typ name own a t b is = subst (λ z. TestTells z (IsTypeRefused 
 pub unread_of : (text : Text) (e : DisclosureError) → IsDisclosureRefused text e → (e ≡ DisclosureError.Memory → ⊥) → IsNoDisclosure text
 unread_of text e refused cause = λ salt name value is. cause (readings.not_both text salt name value e is refused)
 
-pub take_more : (hash : HashAlg) (ds : List Text) (xs : List Given) (i : ℕ) (d : Text) (x : Given) → AllZip (Gives hash) (take i ds) xs → slice_get ds i ≡ Some d → Gives hash d x → AllZip (Gives hash) (take (suc i) ds) (xs ++ x ∷ [])
-take_more hash [] xs i d x all there g = absurd (cc there)
-take_more hash (e ∷ ds) [] zero d x all there g = let both : Some e ≡ Some d = there in let same : d ≡ e = sym (cc both) in (subst (λ z. Gives hash z x) same g, tt)
-take_more hash (e ∷ ds) (y ∷ xs) zero d x all there g = absurd all
-take_more hash (e ∷ ds) [] (suc i) d x all there g = absurd all
-take_more hash (e ∷ ds) (y ∷ xs) (suc i) d x all there g = (all.0, take_more hash ds xs i d x all.1 there g)
-
-pub take_all : (hash : HashAlg) (ds : List Text) (xs : List Given) (i : ℕ) → length ds ≡ i → AllZip (Gives hash) (take i ds) xs → AllZip (Gives hash) ds xs
-take_all hash [] xs zero e all = all
-take_all hash [] xs (suc i) e all = absurd (omega (arith, e))
-take_all hash (d ∷ ds) xs zero e all = absurd (omega (arith, e))
-take_all hash (d ∷ ds) [] (suc i) e all = absurd all
-take_all hash (d ∷ ds) (x ∷ xs) (suc i) e all = (all.0, take_all hash ds xs i (omega (arith, e)) all.1)
-
 pub more_in : (P : Given → Type 0) (old new : List Given) (x : Given) → new ≡ old ++ x ∷ [] → ((y : Given) → In y old → P y) → P x → (y : Given) → In y new → P y
 more_in P old new x is each one y there = go (In-append y old (x ∷ []) (subst (λ zs. In y zs) is there))
   where
@@ -68,11 +42,6 @@ more_in P old new x is each one y there = go (In-append y old (x ∷ []) (subst 
     go (inl h) = each y h
     go (inr (inl same)) = subst P (sym same) one
     go (inr (inr h)) = absurd h
-
-pub got_below : (ds : List Text) (i : ℕ) → i < length ds → slice_get ds i ≡ None → ⊥
-got_below [] i below none = omega (arith, below)
-got_below (d ∷ ds) zero below none = cc none
-got_below (d ∷ ds) (suc i) below none = got_below ds i (omega (arith, below)) none
 
 -- the refusal of a disclosure is that at its place
 pub unread_told : (hash : HashAlg) (ds : List Text) (i : ℕ) (d : Text) (before : List Given) (e : DisclosureError) → slice_get ds i ≡ Some d → AllZip (Gives hash) (take i ds) before → IsDisclosureRefused d e
@@ -106,13 +75,3 @@ next_unread hash ds done rest i d before e stand at read refused =
     let there : slice_get ds i ≡ Some d = subst (λ k. slice_get ds k ≡ Some d) (sym at) (subst (λ xs. slice_get xs (length done) ≡ Some d) (sym stand) (got_next done d rest)) in
     let front : take i ds ≡ done = subst (λ k. take k ds ≡ done) (sym at) (subst (λ xs. take (length done) xs ≡ done) (sym stand) (front_of done d rest)) in
     unread_told hash ds i d before e there (subst (λ xs. AllZip (Gives hash) xs before) (sym front) read) refused
-
--- ---- an answer that is handed on
-
-pub ok_both : {T E : Type 0} (r : Result T E) (P Q R : T → Type 0) → ((x : T) → P x → Q x → R x) → IfOk r P → IfOk r Q → IfOk r R
-ok_both (Ok x) P Q R more p q = more x p q
-ok_both (Err e) P Q R more p q = tt
-
-pub err_more : {T E : Type 0} (r : Result T E) (P Q : E → Type 0) → ((e : E) → P e → Q e) → IfErr r P → IfErr r Q
-err_more (Ok x) P Q more p = tt
-err_more (Err e) P Q more p = more e p

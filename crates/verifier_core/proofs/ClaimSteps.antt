@@ -1,8 +1,8 @@
 -- What each condition on the claims says of the payload.
-use Rattle.std.proofs.Common.{◌≡◌, ◌≢◌, ℕ, zero, suc, [], ◌∷◌, true, false, Bor, option_map, slice_get, is_some, ◌<◌, ◌⊎◌, List, Option, Some, None, codes, sym, ◌∙◌, subst, ◌+◌, ⊎_elim, arith}
+use Rattle.std.proofs.Common.{◌≡◌, ◌≢◌, ℕ, true, false, Bor, option_map, is_some, ◌<◌, ◌⊎◌, List, Option, Some, None, codes, sym, ◌∙◌, subst, ◌+◌, ⊎_elim, arith}
 use Rattle.compact_form.specs.declared.fault.Place.{Place}
 use Rattle.jws_part.specs.Times.{IsTimeUnreadable, IsExpired}
-use Rattle.claim_tree.specs.Tree.{Text, Tree, leaf, text, get}
+use Rattle.claim_tree.specs.Tree.{Text, Tree, get}
 use Rattle.claim_tree.specs.View.{tree_of}
 use Rattle.claim_tree.specs.declared.tree.Tree as tree
 use Rattle.claim_tree.specs.Lists.{StandsAt}
@@ -73,6 +73,18 @@ module _ (payload : Tree) (policy : Policy) (now : ℕ) where
 
   pub before_start : Passes 25 (ClaimFails payload policy now) → (IsExpired payload policy.skew now → ⊥) → Passes 26 (ClaimFails payload policy now)
   before_start below holds = holds_too (ClaimFails payload policy now) Condition.Expired below (λ place h. holds h.1)
+
+  -- ---- all of them up to one
+
+  pub to_times : (IsIssuerRefused policy.iss (get payload (codes "iss")) → ⊥) → ((i : ℕ) (name : Text) → StandsAt policy.require i name → get payload name ≢ None) → Passes 24 (ClaimFails payload policy now)
+  to_times issuer claims = before_times (before_missing issuer) claims
+
+  pub to_expiry : (IsIssuerRefused policy.iss (get payload (codes "iss")) → ⊥) → ((i : ℕ) (name : Text) → StandsAt policy.require i name → get payload name ≢ None) → (IsTimeUnreadable payload → ⊥) → Passes 25 (ClaimFails payload policy now)
+  to_expiry issuer claims times = before_expiry (to_times issuer claims) times
+
+  pub to_start : (IsIssuerRefused policy.iss (get payload (codes "iss")) → ⊥) → ((i : ℕ) (name : Text) → StandsAt policy.require i name → get payload name ≢ None) → (IsTimeUnreadable payload → ⊥) → (IsExpired payload policy.skew now → ⊥)
+      → Passes 26 (ClaimFails payload policy now)
+  to_start issuer claims times expiry = before_start (to_expiry issuer claims times) expiry
 
 -- the first so many names are names of claims
 abbrev pub HasFirst : Tree → List Text → ℕ → Type 0

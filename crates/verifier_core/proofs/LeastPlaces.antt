@@ -8,7 +8,7 @@ use Rattle.compact_form.specs.Lowest.{Numbered, IsNoLater, IsLowest}
 use Rattle.compact_form.specs.Faults.{placed}
 use Rattle.compact_form.specs.Passing.{Passes}
 use Rattle.compact_form.proofs.Lowest.{lowest_at}
-use Rattle.claim_tree.specs.Lists.{IsLeast, AtNone as NoPlace}
+use Rattle.claim_tree.specs.Lists.{IsLeast}
 
 -- a least number is the least place
 pub first_numbered : (FailsAt : ℕ → Type 0) (i : ℕ) → IsLeast FailsAt i → (place : Place) → Numbered FailsAt place → IsNoLater (At i) place
@@ -16,10 +16,6 @@ first_numbered FailsAt i least place h = subst (λ p. IsNoLater (At i) p) (sym h
   where
     not_below : (a b : ℕ) → (b < a → ⊥) → a ≤ b
     not_below a b h = grind arith
-
--- no number, no place
-pub none_numbered : (FailsAt : ℕ → Type 0) → NoPlace FailsAt → (place : Place) → Numbered FailsAt place → ⊥
-none_numbered FailsAt none place h = none h.0 h.2
 
 -- a condition at its least place
 pub refuse_placed : (FailsSo : Condition → Place → Type 0) (d : Condition) (FailsAt : ℕ → Type 0) (i : ℕ)

@@ -1,16 +1,16 @@
 -- A policy file is judged by the table of its version.
-use Rattle.std.proofs.Common.{◌≡◌, ◌≢◌, pos, List, [], ◌∷◌, ◌++◌, Option, Some, None, refl, sym, ap, subst, ◌∙◌}
+use Rattle.std.proofs.Common.{◌≡◌, ◌↔◌, ℕ, suc, pos, List, take, drop, codes, [], ◌∷◌, ◌++◌, Option, Some, None, refl, sym, ap, subst, ◌∙◌}
 use Rattle.sd_outside.specs.Limits.{file_max, skew_max}
 use Rattle.claim_tree.specs.Tree.{Text, leaf, whole, Tree, Members}
-use Rattle.claim_tree.specs.FileForms.{IsText, IsTexts, IsWholeUpTo, SaysOr, Entry, required, optional, fields_of, found, MemberFails, missing, wrong, IsFirstFault, HasMembers, IsFileRefused}
+use Rattle.claim_tree.specs.FileForms.{IsText, IsTexts, IsWholeUpTo, Says, MaySay, SaysOr, MemberMeets, Entry, required, optional, fields_of, found, MemberFails, missing, wrong, IsFirstFault, HasFirstFault, HasMembers, IsFileRefused}
 use Rattle.claim_tree.specs.FileRefusals.{IsMemberRefused}
-use Rattle.claim_tree.specs.declared.file_fault.Field.{Field}
 use Rattle.claim_tree.specs.declared.file_fault.Field.TheVariants.{Version, Keys, Algs, Typ, Iss, Require, Skew, Binding}
 use Rattle.claim_tree.specs.declared.file_fault.FileFault.{FileFault}
 use Rattle.claim_tree.specs.declared.file_fault.FileFault.TheVariants.{Memory, TooLong, NotJson, NotWhole, NotObject, Unknown, Missing, Wrong}
-use Rattle.claim_tree.proofs.FileMembers.{AllMeet, member_refused, says_or_meets}
+use Rattle.claim_tree.proofs.FileMembers.{AllMeet, member_refused, says_meets, may_say_meets, says_or_meets}
 use Rattle.claim_tree.proofs.FileVerdicts as verdicts
 use Rattle.hmac_sign.specs.Keys.{IsKeySet}
+use Rattle.hmac_sign.specs.declared.key_set.NamedKey.{NamedKey}
 use Rattle.verifier_core.specs.PolicyFile.{IsBindingPolicy, policy_table, policy_fields, IsReadAs, HasPolicyFault, IsPolicyFileRefused}
 use Rattle.verifier_core.specs.PolicyVersion.{IsVersion, IsIssuers}
 use Rattle.verifier_core.specs.declared.policy_version.PolicyVersion.{PolicyVersion}
@@ -41,47 +41,36 @@ odd_version ms fault (wrong t there odd is) = λ e.
 -- ---- from the table to the file, and back
 
 module _ (version : PolicyVersion) (bytes : Text) (ms : Members) (file : HasMembers file_max policy_fields bytes ms) (read_as : IsReadAs version (found ms Version)) where
+  read_there : (ns : Members) → HasMembers file_max policy_fields bytes ns → IsReadAs version (found ns Version)
+  read_there ns there = subst (λ us. IsReadAs version (found us Version)) (verdicts.one_object file_max bytes ms ns file.object there.object) read_as
+
+  to_file : (fault : FileFault) → HasFirstFault file_max (policy_table version) bytes fault → HasPolicyFault bytes fault
+  to_file fault h = record { members = h.members; file = h.file; version = version; read_as = read_there h.members h.file; first = h.first }
+
+  from_file : (fault : FileFault) → HasPolicyFault bytes fault → HasFirstFault file_max (policy_table version) bytes fault
+  from_file fault h =
+      let version_is : h.version ≡ version = one_reading (found h.members Version) h.version version h.read_as (read_there h.members h.file) in
+      record { members = h.members; file = h.file; first = subst (λ v. IsFirstFault (policy_table v) h.members fault) version_is h.first }
+
+  table_file : (fault : FileFault) → IsFileRefused file_max (policy_table version) bytes fault ↔ IsPolicyFileRefused bytes fault
+  table_file Memory = (λ h. h, λ h. h)
+  table_file TooLong = (λ h. h, λ h. h)
+  table_file NotJson = (λ h. h, λ h. h)
+  table_file NotWhole = (λ h. h, λ h. h)
+  table_file NotObject = (λ h. h, λ h. h)
+  table_file Unknown = (λ h. h, λ h. h)
+  table_file (Missing field) = (to_file (Missing field), from_file (Missing field))
+  table_file (Wrong field) = (to_file (Wrong field), from_file (Wrong field))
+
   by_table : (fault : FileFault) → IsFileRefused file_max (policy_table version) bytes fault → IsPolicyFileRefused bytes fault
-  by_table Memory h = h
-  by_table TooLong h = h
-  by_table NotJson h = h
-  by_table NotWhole h = h
-  by_table NotObject h = h
-  by_table Unknown h = h
-  by_table (Missing field) h =
-      let same : ms ≡ h.members = verdicts.one_object file_max bytes ms h.members file.object h.file.object in
-      record { members = h.members; file = h.file; version = version; read_as = subst (λ ns. IsReadAs version (found ns Version)) same read_as; first = h.first }
-  by_table (Wrong field) h =
-      let same : ms ≡ h.members = verdicts.one_object file_max bytes ms h.members file.object h.file.object in
-      record { members = h.members; file = h.file; version = version; read_as = subst (λ ns. IsReadAs version (found ns Version)) same read_as; first = h.first }
+  by_table fault = (table_file fault).0
 
   pub to_table : (fault : FileFault) → IsPolicyFileRefused bytes fault → IsFileRefused file_max (policy_table version) bytes fault
-  to_table Memory h = h
-  to_table TooLong h = h
-  to_table NotJson h = h
-  to_table NotWhole h = h
-  to_table NotObject h = h
-  to_table Unknown h = h
-  to_table (Missing field) h =
-      let same : ms ≡ h.members = verdicts.one_object file_max bytes ms h.members file.object h.file.object in
-      let version_is : h.version ≡ version = one_reading (found h.members Version) h.version version h.read_as (subst (λ ns. IsReadAs version (found ns Version)) same read_as) in
-      record { members = h.members; file = h.file; first = subst (λ v. IsFirstFault (policy_table v) h.members (Missing field)) version_is h.first }
-  to_table (Wrong field) h =
-      let same : ms ≡ h.members = verdicts.one_object file_max bytes ms h.members file.object h.file.object in
-      let version_is : h.version ≡ version = one_reading (found h.members Version) h.version version h.read_as (subst (λ ns. IsReadAs version (found ns Version)) same read_as) in
-      record { members = h.members; file = h.file; first = subst (λ v. IsFirstFault (policy_table v) h.members (Wrong field)) version_is h.first }
+  to_table fault = (table_file fault).1
 
 -- the entries behind the version
 abbrev pub rest_of : PolicyVersion → List Entry
-rest_of version =
-    required Keys IsKeySet
-    ∷ optional Algs IsTexts
-    ∷ optional Typ IsText
-    ∷ optional Iss (IsIssuers version)
-    ∷ optional Require IsTexts
-    ∷ optional Skew (IsWholeUpTo skew_max)
-    ∷ optional Binding (IsBindingPolicy version)
-    ∷ []
+rest_of version = drop 1 (policy_table version)
 
 behind : (bytes : Text) (ms : Members) (fault : FileFault) → HasMembers file_max policy_fields bytes ms → MemberFails (optional Version IsVersion) ms fault → IsMemberRefused (optional Version IsVersion) ms fault → IsPolicyFileRefused bytes fault
 behind bytes ms fault file fails refused =
@@ -99,7 +88,7 @@ by_version bytes ms (Missing field) file refused = behind bytes ms (Missing fiel
 by_version bytes ms (Wrong field) file refused = behind bytes ms (Wrong field) file refused refused
 
 -- an entry behind the version that is refused, behind others that meet theirs, is the fault of the file
-pub by_entry : (v : PolicyVersion) (bytes : Text) (ms : Members) (front : List Entry) (entry : Entry) (rest : List Entry) (fault : FileFault) → front ++ entry ∷ rest ≡ rest_of v
+by_entry : (v : PolicyVersion) (bytes : Text) (ms : Members) (front : List Entry) (entry : Entry) (rest : List Entry) (fault : FileFault) → front ++ entry ∷ rest ≡ rest_of v
     → HasMembers file_max policy_fields bytes ms → SaysOr IsVersion PolicyVersion.One (found ms Version) v → AllMeet front ms → IsMemberRefused entry ms fault → IsPolicyFileRefused bytes fault
 by_entry v bytes ms front entry rest fault same file says meet refused =
     let version = optional Version IsVersion in
@@ -107,6 +96,59 @@ by_entry v bytes ms front entry rest fault same file says meet refused =
     let known = subst (λ table. HasMembers file_max (fields_of (version ∷ table)) bytes ms) (sym same) file in
     let behind_front = member_refused file_max (version ∷ front) entry rest bytes ms fault known (meets, meet) refused in
     by_table v bytes ms file (says_as (found ms Version) v says) fault (subst (λ table. IsFileRefused file_max (version ∷ table) bytes fault) same behind_front)
+
+-- ---- one entry after another
+
+module _ (v : PolicyVersion) (bytes : Text) (ms : Members) (file : HasMembers file_max policy_fields bytes ms) (version_says : SaysOr IsVersion PolicyVersion.One (found ms Version) v) where
+  -- a refusal of the entry is the fault of the file
+  abbrev Refuses : Entry → Type 0
+  Refuses entry = (fault : FileFault) → IsMemberRefused entry ms fault → IsPolicyFileRefused bytes fault
+
+  at : (i : ℕ) (entry : Entry) → take i (rest_of v) ++ entry ∷ drop (suc i) (rest_of v) ≡ rest_of v → AllMeet (take i (rest_of v)) ms → Refuses entry
+  at i entry same meet fault = by_entry v bytes ms (take i (rest_of v)) entry (drop (suc i) (rest_of v)) fault same file version_says meet
+
+  pub at_keys : Refuses (required Keys IsKeySet)
+  at_keys = at 0 (required Keys IsKeySet) refl tt
+
+  module _ (keys : List NamedKey) (keys_say : Says IsKeySet (found ms Keys) keys) where
+    keys_meet : MemberMeets (required Keys IsKeySet) ms
+    keys_meet = says_meets IsKeySet Keys ms keys keys_say
+
+    pub at_algs : Refuses (optional Algs IsTexts)
+    at_algs = at 1 (optional Algs IsTexts) refl (keys_meet, tt)
+
+    module _ (algs : List Text) (algs_say : SaysOr IsTexts (codes "HS256" ∷ []) (found ms Algs) algs) where
+      algs_meet : MemberMeets (optional Algs IsTexts) ms
+      algs_meet = says_or_meets IsTexts (codes "HS256" ∷ []) Algs ms algs algs_say
+
+      pub at_typ : Refuses (optional Typ IsText)
+      at_typ = at 2 (optional Typ IsText) refl (keys_meet, (algs_meet, tt))
+
+      module _ (typ : Option Text) (typ_says : MaySay IsText (found ms Typ) typ) where
+        typ_meets : MemberMeets (optional Typ IsText) ms
+        typ_meets = may_say_meets IsText Typ ms typ typ_says
+
+        pub at_iss : Refuses (optional Iss (IsIssuers v))
+        at_iss = at 3 (optional Iss (IsIssuers v)) refl (keys_meet, (algs_meet, (typ_meets, tt)))
+
+        module _ (iss : Option (List Text)) (iss_says : MaySay (IsIssuers v) (found ms Iss) iss) where
+          iss_meets : MemberMeets (optional Iss (IsIssuers v)) ms
+          iss_meets = may_say_meets (IsIssuers v) Iss ms iss iss_says
+
+          pub at_require : Refuses (optional Require IsTexts)
+          at_require = at 4 (optional Require IsTexts) refl (keys_meet, (algs_meet, (typ_meets, (iss_meets, tt))))
+
+          module _ (require : List Text) (require_says : SaysOr IsTexts [] (found ms Require) require) where
+            require_meets : MemberMeets (optional Require IsTexts) ms
+            require_meets = says_or_meets IsTexts [] Require ms require require_says
+
+            pub at_skew : Refuses (optional Skew (IsWholeUpTo skew_max))
+            at_skew = at 5 (optional Skew (IsWholeUpTo skew_max)) refl (keys_meet, (algs_meet, (typ_meets, (iss_meets, (require_meets, tt)))))
+
+            pub at_binding : (skew : ℕ) → SaysOr (IsWholeUpTo skew_max) 0 (found ms Skew) skew → Refuses (optional Binding (IsBindingPolicy v))
+            at_binding skew skew_says =
+                let skew_meets = says_or_meets (IsWholeUpTo skew_max) 0 Skew ms skew skew_says in
+                at 6 (optional Binding (IsBindingPolicy v)) refl (keys_meet, (algs_meet, (typ_meets, (iss_meets, (require_meets, (skew_meets, tt))))))
 
 -- ---- two faults
 

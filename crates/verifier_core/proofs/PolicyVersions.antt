@@ -1,15 +1,15 @@
 -- What each version of a policy file says of issuers and audiences.
-use Rattle.std.proofs.Common.{◌≡◌, ⊎_elim, ℕ, ◌+◌, ◌<◌, ◌≤◌, pos, List, [], ◌∷◌, length, Option, Some, None, refl, sym, ap, subst, ◌∙◌, arith}
+use Rattle.std.proofs.Common.{◌≡◌, ⊎_elim, ℕ, ◌+◌, ◌<◌, ◌≤◌, pos, List, [], ◌∷◌, length, Option, Some, None, refl, sym, ap, subst, ◌∙◌}
 use Rattle.claim_tree.specs.Tree.{Text, leaf, whole, array, Tree, Elements}
 use Rattle.claim_tree.specs.Lists.{StandsAt}
 use Rattle.claim_tree.proofs.Lists.{At-same}
 use Rattle.claim_tree.proofs.Counting.{before_or_at}
 use Rattle.sd_outside.specs.Limits.{binding_text_max}
-use Rattle.claim_tree.specs.FileForms.{IsText, IsTexts, text_elements, Says, HasValue}
+use Rattle.claim_tree.specs.FileForms.{IsText, IsTexts, text_elements, Says}
 use Rattle.claim_tree.proofs.FileVerdicts as verdicts
 use Rattle.claim_tree.proofs.FileVerdicts.{SaysOne}
 use Rattle.key_binding.specs.ShortText.{IsShortText}
-use Rattle.verifier_core.specs.PolicyVersion.{IsVersion, IsAlone, IsIssuers, IsAudiences, AreShortTexts}
+use Rattle.verifier_core.specs.PolicyVersion.{IsVersion, IsAlone, IsIssuers, IsAudiences}
 use Rattle.verifier_core.specs.declared.policy_version.PolicyVersion.{PolicyVersion}
 
 -- ---- one value

@@ -11,7 +11,7 @@ use Rattle.compact_form.specs.declared.parts.Parts.{Parts}
 use Rattle.compact_form.specs.Compact.{hashed}
 use Rattle.json_form.specs.declared.token.Token.{Token}
 use Rattle.json_form.specs.Token as file
-use Rattle.json_form.specs.Token.{IsToken, IsTooMuch}
+use Rattle.json_form.specs.Token.{IsToken}
 use Rattle.json_form.proofs.Tokens as tokens
 use Rattle.disclosure.specs.Digest.{payload_hash}
 use Rattle.disclosure.specs.declared.digests.HashAlg.{HashAlg}

@@ -1,19 +1,18 @@
 -- What a policy file of version 1 says, that of version 2 with the same members says.
 use Rattle.std.proofs.Common.{◌≡◌, ◌≢◌, ◌⊎◌, inl, inr, ⊎_elim, ◌≤◌, pos, List, [], ◌∷◌, length, Bool, true, false, not, cond, bytes_eq, Option, Some, None, codes, refl, sym, ap, subst, ◌∙◌, arith}
-use Rattle.std.specs.Prelude.{option_map}
 use Rattle.std.specs.List.{list_any}
 use Rattle.sd_outside.specs.Limits.{age_max, binding_text_max, file_max, skew_max}
-use Rattle.claim_tree.specs.Tree.{Text, leaf, text, whole, array, object, Tree, no_elements, element, Members, no_members, member, members_len, names, member_named}
+use Rattle.claim_tree.specs.Tree.{Text, leaf, whole, array, object, Tree, no_elements, element, Members, no_members, member, members_len, names, member_named}
 use Rattle.claim_tree.specs.Lists.{In}
-use Rattle.claim_tree.specs.FileForms.{IsText, IsTexts, IsWholeUpTo, text_elements, Says, MaySay, SaysOr, found, is_known, has_unknown, IsObjectFile, HasMembers}
-use Rattle.claim_tree.specs.declared.file_fault.Field.TheVariants.{Version, Keys, Algs, Typ, Iss, Require, Skew, Binding}
+use Rattle.claim_tree.specs.FileForms.{IsText, IsTexts, IsWholeUpTo, text_elements, Says, MaySay, SaysOr, found, is_known, has_unknown}
+use Rattle.claim_tree.specs.declared.file_fault.Field.TheVariants.{Version, Iss, Binding}
 use Rattle.claim_tree.proofs.FileVerdicts as verdicts
 use Rattle.claim_tree.proofs.Lists.{bytes_same, bytes_refl, or_left, or_right, list_any-In}
 use Rattle.hmac_sign.specs.Keys.{IsKeySet}
 use Rattle.key_binding.specs.ShortText.{IsShortText}
 use Rattle.key_binding.specs.declared.policy.BindingPolicy.{BindingPolicy}
 use Rattle.verifier_core.specs.PolicyFile.{IsBindingPolicy, policy_fields, IsPolicyFile}
-use Rattle.verifier_core.specs.PolicyVersion.{IsVersion, IsAlone, IsIssuers, IsAudiences, AreAudiences}
+use Rattle.verifier_core.specs.PolicyVersion.{IsVersion, IsIssuers, IsAudiences}
 use Rattle.verifier_core.specs.VersionTwo.{listed, ListsAudience, BindingListed, SaysInTwo}
 use Rattle.verifier_core.specs.declared.policy.Policy.{Policy}
 use Rattle.verifier_core.specs.declared.policy_version.PolicyVersion.{PolicyVersion}

@@ -1,5 +1,4 @@
 use Rattle.std.proofs.Common.{◌≡◌, Err, sym, ap, subst, ◌∙◌}
-use Rattle.std.proofs.lemmas.Result.{err_from_is_err_and}
 use Rattle.claim_tree.specs.FileForms.{Says}
 use Rattle.compact_form.specs.declared.fault.JsonPlace.TheVariants.{Stray}
 use Rattle.compact_form.specs.declared.fault.Part.TheVariants.{Payload}
@@ -11,26 +10,20 @@ use Rattle.json_form.proofs.parsing.token_of.Goals as goal
 
 pub returns-in_err-payload-clause-refused : goal.returns-in_err-payload-clause-refused
 returns-in_err-payload-clause-refused c place is =
-    let handed = err_from_is_err_and c.from_residual.result c.from_residual.ensures.1 in
-    let same = same_place c.from_residual.result c.in_err-payload.field-0.0 place handed.0 handed.1 handed.2 is in
-    first_payload c.args.members place (subst (IsNoWord c.args.members Payload) same c.in_err-payload.ensures.refused)
+    first_payload c.args.members place (subst (IsNoWord c.args.members Payload) (same_place c.from_residual.result c.in_err-payload.field-0.0 place c.from_residual.ensures.1 is) c.in_err-payload.ensures.refused)
 
 pub returns-in_err-entries-clause-refused : goal.returns-in_err-entries-clause-refused
 returns-in_err-entries-clause-refused c place is =
     let ms = c.args.members in
     let rest = c.take_word.new.members in
-    let r = c.from_residual-in_err-entries in
-    let handed = err_from_is_err_and r.result r.ensures.1 in
-    let same = same_place r.result c.in_err-entries.field-0.0 place handed.0 handed.1 handed.2 is in
+    let same = same_place c.from_residual-in_err-entries.result c.in_err-entries.field-0.0 place c.from_residual-in_err-entries.ensures.1 is in
     first_signatures ms c.in_ok-payload.payload place c.in_ok-payload.ensures.ok (sym same ∙ c.in_err-entries.ensures.place) (no_entries_at ms rest c.in_ok-payload.ensures.others c.in_err-entries.ensures.refused)
 
 pub returns-in_err-token-clause-refused : goal.returns-in_err-token-clause-refused
 returns-in_err-token-clause-refused c place is =
     let ms = c.args.members in
     let rest = c.take_word.new.members in
-    let r = c.from_residual-in_err-token in
-    let handed = err_from_is_err_and r.result r.ensures.1 in
-    let same = same_error r.result c.in_err-token.field-0.0 handed.0 place handed.1 handed.2 is in
+    let same = same_error c.from_residual-in_err-token.result c.in_err-token.field-0.0 place c.from_residual-in_err-token.ensures.1 is in
     first_of_rest ms c.in_ok-payload.payload c.in_ok-entries.entries place c.in_ok-payload.ensures.ok (settled ms rest c.in_ok-entries.entries c.in_ok-payload.ensures.others c.in_ok-entries.ensures.ok)
     (c.in_err-token.ensures.refused place (ap Err same))
 

@@ -1,5 +1,4 @@
-use Rattle.std.proofs.Common.{◌≡◌, ⊎_elim, inr, Option, Some, None, refl, ◌∙◌}
-use Rattle.hmac_sign.specs.declared.alg.Alg.{Alg}
+use Rattle.std.proofs.Common.{◌≡◌, ⊎_elim, inr, Some, None, refl, ◌∙◌}
 use Rattle.claim_tree.proofs.Lists.{In-At, At-In}
 use Rattle.verifier_core.proofs.check_signed.alg_among.Goals as goal
 

@@ -31,8 +31,7 @@ returns-in-Err-open-clause-within c = inr (c.in-Ok.token, c.in-Ok.ensures.ok, c.
 
 pub returns-in-Err-open-clause-uncounted : goal.returns-in-Err-open-clause-uncounted
 returns-in-Err-open-clause-uncounted c =
-    read_uncounted c.args.text.now c.args.policy.now c.args.now c.in-Ok.token c.in-Ok.ensures.ok c.in-Ok-read_content.ensures.sent c.in-Ok-read_content.content c.in-Ok-read_content.ensures.content c.args.steps.now
-    c.open.new.steps
+    read_uncounted _ c.args.policy.now c.args.now _ c.in-Ok.ensures.ok c.in-Ok-read_content.ensures.sent _ c.in-Ok-read_content.ensures.content c.args.steps.now c.open.new.steps
 
 pub returns-in_err-payload-clause-refused : goal.returns-in_err-payload-clause-refused
 returns-in_err-payload-clause-refused c =
@@ -44,36 +43,30 @@ returns-in_err-payload-clause-within c = inr (c.in-Ok.token, c.in-Ok.ensures.ok,
 
 pub returns-in_err-payload-clause-uncounted : goal.returns-in_err-payload-clause-uncounted
 returns-in_err-payload-clause-uncounted c =
-    read_uncounted c.args.text.now c.args.policy.now c.args.now c.in-Ok.token c.in-Ok.ensures.ok c.in-Ok-read_content.ensures.sent c.in-Ok-read_content.content c.in-Ok-read_content.ensures.content c.args.steps.now
-    c.open.new.steps
+    read_uncounted _ c.args.policy.now c.args.now _ c.in-Ok.ensures.ok c.in-Ok-read_content.ensures.sent _ c.in-Ok-read_content.ensures.content c.args.steps.now c.open.new.steps
 
 pub returns-in-Err-check_shown-clause-refused : goal.returns-in-Err-check_shown-clause-refused
 returns-in-Err-check_shown-clause-refused c =
     let content = c.in-Ok-read_content.ensures.content in
     let has = c.in-Ok-open.ensures.hash c.in-Ok.token (rules_of c.args.policy.now) content in
-    let marked = marked_of c.in-Ok-open.opened.marked in
     let checked = c.in-Ok-open.ensures.checked c.in-Ok.token (rules_of c.args.policy.now) content in
-    let same = c.in_ok-payload.ensures in
-    let opened : IsOpened c.args.text.now c.args.policy.now c.in-Ok.token marked c.in-Ok-open.opened.hash = record { is_token = c.in-Ok.ensures.ok; sent = c.in-Ok-read_content.ensures.sent; checked = checked; hash_is = has } in
-    c.in-Err-check_shown.ensures.refused c.args.text.now marked opened same
+    let opened : IsOpened c.args.text.now c.args.policy.now c.in-Ok.token (marked_of c.in-Ok-open.opened.marked) c.in-Ok-open.opened.hash = record { is_token = c.in-Ok.ensures.ok; sent = c.in-Ok-read_content.ensures.sent; checked = checked; hash_is = has } in
+    c.in-Err-check_shown.ensures.refused c.args.text.now (marked_of c.in-Ok-open.opened.marked) opened c.in_ok-payload.ensures
 
 pub returns-clause-accepted : goal.returns-clause-accepted
 returns-clause-accepted c =
     let content = c.in-Ok-read_content.ensures.content in
     let has = c.in-Ok-open.ensures.hash c.in-Ok.token (rules_of c.args.policy.now) content in
-    let marked = marked_of c.in-Ok-open.opened.marked in
     let checked = c.in-Ok-open.ensures.checked c.in-Ok.token (rules_of c.args.policy.now) content in
-    let same = c.in_ok-payload.ensures in
-    let opened : IsOpened c.args.text.now c.args.policy.now c.in-Ok.token marked c.in-Ok-open.opened.hash = record { is_token = c.in-Ok.ensures.ok; sent = c.in-Ok-read_content.ensures.sent; checked = checked; hash_is = has } in
-    c.in_default.ensures.accepted c.args.text.now marked opened same
+    let opened : IsOpened c.args.text.now c.args.policy.now c.in-Ok.token (marked_of c.in-Ok-open.opened.marked) c.in-Ok-open.opened.hash = record { is_token = c.in-Ok.ensures.ok; sent = c.in-Ok-read_content.ensures.sent; checked = checked; hash_is = has } in
+    c.in_default.ensures.accepted c.args.text.now (marked_of c.in-Ok-open.opened.marked) opened c.in_ok-payload.ensures
 
 pub returns-in-Err-check_shown-clause-within : goal.returns-in-Err-check_shown-clause-within
 returns-in-Err-check_shown-clause-within c = inr (c.in-Ok.token, c.in-Ok.ensures.ok, c.open.ensures.within c.in-Ok.token (rules_of c.args.policy.now) c.in-Ok-read_content.ensures.content)
 
 pub returns-in-Err-check_shown-clause-uncounted : goal.returns-in-Err-check_shown-clause-uncounted
 returns-in-Err-check_shown-clause-uncounted c =
-    read_uncounted c.args.text.now c.args.policy.now c.args.now c.in-Ok.token c.in-Ok.ensures.ok c.in-Ok-read_content.ensures.sent c.in-Ok-read_content.content c.in-Ok-read_content.ensures.content c.args.steps.now
-    c.open.new.steps
+    read_uncounted _ c.args.policy.now c.args.now _ c.in-Ok.ensures.ok c.in-Ok-read_content.ensures.sent _ c.in-Ok-read_content.ensures.content c.args.steps.now c.open.new.steps
 
 pub returns-clause-counted : goal.returns-clause-counted
 returns-clause-counted c = (c.in-Ok.token, c.in-Ok.ensures.ok, c.in-Ok-open.ensures.counted c.in-Ok.token (rules_of c.args.policy.now) c.in-Ok-read_content.ensures.content)
@@ -83,8 +76,7 @@ returns-clause-within c = inr (c.in-Ok.token, c.in-Ok.ensures.ok, c.open.ensures
 
 pub returns-clause-uncounted : goal.returns-clause-uncounted
 returns-clause-uncounted c =
-    read_uncounted c.args.text.now c.args.policy.now c.args.now c.in-Ok.token c.in-Ok.ensures.ok c.in-Ok-read_content.ensures.sent c.in-Ok-read_content.content c.in-Ok-read_content.ensures.content c.args.steps.now
-    c.open.new.steps
+    read_uncounted _ c.args.policy.now c.args.now _ c.in-Ok.ensures.ok c.in-Ok-read_content.ensures.sent _ c.in-Ok-read_content.ensures.content c.args.steps.now c.open.new.steps
 
 pub returns-in-Err-clause-no_memory : goal.returns-in-Err-clause-no_memory
 returns-in-Err-clause-no_memory c = λ failed is.

@@ -29,38 +29,30 @@ returns-in-Err-open_payload-clause-within c = inr (c.in-Ok.token, c.in-Ok.ensure
 
 pub returns-in-Err-open_payload-clause-uncounted : goal.returns-in-Err-open_payload-clause-uncounted
 returns-in-Err-open_payload-clause-uncounted c =
-    read_uncounted c.args.text.now c.args.policy.now c.args.now c.in-Ok.token c.in-Ok.ensures.ok c.in-Ok-read_content.ensures.sent c.in-Ok-read_content.content c.in-Ok-read_content.ensures.content c.args.steps.now
-    c.open_payload.new.steps
+    read_uncounted _ c.args.policy.now c.args.now _ c.in-Ok.ensures.ok c.in-Ok-read_content.ensures.sent _ c.in-Ok-read_content.ensures.content c.args.steps.now c.open_payload.new.steps
 
 pub returns-in-Err-check_shown-clause-refused : goal.returns-in-Err-check_shown-clause-refused
 returns-in-Err-check_shown-clause-refused c =
     let content = c.in-Ok-read_content.ensures.content in
     let has = c.in-Ok-open_payload.ensures.hash c.in-Ok.token (rules_of c.args.policy.now) content in
     let told = c.in-Ok-open_payload.ensures.checked c.in-Ok.token (rules_of c.args.policy.now) content in
-    let marked = told.0 in
-    let checked = told.1 in
-    let same = told.2 in
-    let opened : IsOpened c.args.text.now c.args.policy.now c.in-Ok.token marked c.in-Ok-open_payload.opened.hash = record { is_token = c.in-Ok.ensures.ok; sent = c.in-Ok-read_content.ensures.sent; checked = checked; hash_is = has } in
-    c.in-Err-check_shown.ensures.refused c.args.text.now marked opened same
+    let opened : IsOpened c.args.text.now c.args.policy.now c.in-Ok.token told.0 c.in-Ok-open_payload.opened.hash = record { is_token = c.in-Ok.ensures.ok; sent = c.in-Ok-read_content.ensures.sent; checked = told.1; hash_is = has } in
+    c.in-Err-check_shown.ensures.refused c.args.text.now told.0 opened told.2
 
 pub returns-clause-accepted : goal.returns-clause-accepted
 returns-clause-accepted c =
     let content = c.in-Ok-read_content.ensures.content in
     let has = c.in-Ok-open_payload.ensures.hash c.in-Ok.token (rules_of c.args.policy.now) content in
     let told = c.in-Ok-open_payload.ensures.checked c.in-Ok.token (rules_of c.args.policy.now) content in
-    let marked = told.0 in
-    let checked = told.1 in
-    let same = told.2 in
-    let opened : IsOpened c.args.text.now c.args.policy.now c.in-Ok.token marked c.in-Ok-open_payload.opened.hash = record { is_token = c.in-Ok.ensures.ok; sent = c.in-Ok-read_content.ensures.sent; checked = checked; hash_is = has } in
-    (marked, c.in_default.ensures.accepted c.args.text.now marked opened same, same)
+    let opened : IsOpened c.args.text.now c.args.policy.now c.in-Ok.token told.0 c.in-Ok-open_payload.opened.hash = record { is_token = c.in-Ok.ensures.ok; sent = c.in-Ok-read_content.ensures.sent; checked = told.1; hash_is = has } in
+    (told.0, c.in_default.ensures.accepted c.args.text.now told.0 opened told.2, told.2)
 
 pub returns-in-Err-check_shown-clause-within : goal.returns-in-Err-check_shown-clause-within
 returns-in-Err-check_shown-clause-within c = inr (c.in-Ok.token, c.in-Ok.ensures.ok, c.open_payload.ensures.within c.in-Ok.token (rules_of c.args.policy.now) c.in-Ok-read_content.ensures.content)
 
 pub returns-in-Err-check_shown-clause-uncounted : goal.returns-in-Err-check_shown-clause-uncounted
 returns-in-Err-check_shown-clause-uncounted c =
-    read_uncounted c.args.text.now c.args.policy.now c.args.now c.in-Ok.token c.in-Ok.ensures.ok c.in-Ok-read_content.ensures.sent c.in-Ok-read_content.content c.in-Ok-read_content.ensures.content c.args.steps.now
-    c.open_payload.new.steps
+    read_uncounted _ c.args.policy.now c.args.now _ c.in-Ok.ensures.ok c.in-Ok-read_content.ensures.sent _ c.in-Ok-read_content.ensures.content c.args.steps.now c.open_payload.new.steps
 
 pub returns-clause-counted : goal.returns-clause-counted
 returns-clause-counted c = (c.in-Ok.token, c.in-Ok.ensures.ok, c.in-Ok-open_payload.ensures.counted c.in-Ok.token (rules_of c.args.policy.now) c.in-Ok-read_content.ensures.content)
@@ -70,8 +62,7 @@ returns-clause-within c = inr (c.in-Ok.token, c.in-Ok.ensures.ok, c.open_payload
 
 pub returns-clause-uncounted : goal.returns-clause-uncounted
 returns-clause-uncounted c =
-    read_uncounted c.args.text.now c.args.policy.now c.args.now c.in-Ok.token c.in-Ok.ensures.ok c.in-Ok-read_content.ensures.sent c.in-Ok-read_content.content c.in-Ok-read_content.ensures.content c.args.steps.now
-    c.open_payload.new.steps
+    read_uncounted _ c.args.policy.now c.args.now _ c.in-Ok.ensures.ok c.in-Ok-read_content.ensures.sent _ c.in-Ok-read_content.ensures.content c.args.steps.now c.open_payload.new.steps
 
 pub returns-in-Err-clause-no_memory : goal.returns-in-Err-clause-no_memory
 returns-in-Err-clause-no_memory c = λ failed is.
