@@ -7,8 +7,6 @@ mod given;
 mod misuse;
 mod reserved;
 mod site;
-#[cfg(test)]
-mod tests;
 mod walk;
 
 pub use given::{Given, GivenList};

@@ -18,8 +18,6 @@ mod keyed_hash;
 pub mod laws;
 mod mac_code;
 mod sign;
-#[cfg(test)]
-mod tests;
 
 pub use alg::{Alg, alg_named, alg_names};
 pub use fail_signer::FailSigner;

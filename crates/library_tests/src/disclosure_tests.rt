@@ -1,18 +1,30 @@
+ghost use Rattle.std.specs.Prelude.{◌≤◌};
+ghost use Rattle.claim_tree.specs.Tree.{IsRanged, depth};
+ghost use Rattle.claim_tree.specs.View.{tree_of};
+
 use claim_tree::Tree;
-use disclosure::{DisclosureError, make, read_disclosure};
+use disclosure::{Disclosure, DisclosureError, make, read_disclosure};
 use sd_outside::TextBox;
+use std::alloc::Global;
 use std::test::Fail;
+
+fn salt_of(alloc: Global, text: &str) -> Result<Tree, Fail> {
+    let Disclosure { salt, .. } = read_disclosure(alloc, text).map_err(|_| "not read")?;
+    Ok(salt)
+}
 
 #[test]
 fn a_disclosure_has_a_salt(rt: HostRuntime) -> Result<(), Fail> {
     // RFC 9901 section 4.2.3
     let text = "WyJfMjZiYzRMVC1hYzZxMktJNmNCVzVlcyIsICJmYW1pbHlfbmFtZSIsICJNw7ZiaXVzIl0";
-    let read = read_disclosure(rt.alloc(), text).map_err(|_| "not read")?;
-    assert_eq!(rt;
-        read.salt.as_text().map(|salt| salt.as_str()),
-        Some("_26bc4LT-ac6q2KI6cBW5es")
-    );
+    let salt = salt_of(rt.alloc(), text)?;
+    let salt = salt.as_text().map(|salt| salt.as_str());
+    assert_eq!(rt; salt, Some("_26bc4LT-ac6q2KI6cBW5es"));
     Ok(())
+}
+
+fn is_refused(alloc: Global, text: &str, cause: DisclosureError) -> bool {
+    matches!(read_disclosure(alloc, text), Err(error) if error == cause)
 }
 
 // Each text, behind the cause that is named, has no earlier one.
@@ -31,36 +43,33 @@ fn what_is_no_disclosure_has_its_cause(rt: HostRuntime) {
         ),
     ] {
         for text in texts.split(' ') {
-            let refused = matches!(read_disclosure(rt.alloc(), text), Err(error) if error == cause);
-            assert!(rt; refused, "{text}");
+            assert!(rt; is_refused(rt.alloc(), text, cause), "{text}");
         }
     }
-    assert!(rt;
-        matches!(
-            read_disclosure(rt.alloc(), ""),
-            Err(DisclosureError::NotJson)
-        )
-    );
+    assert!(rt; is_refused(rt.alloc(), "", DisclosureError::NotJson));
+}
+
+// The text of what is made.
+fn made(alloc: Global, salt: &str, name: Option<&str>, value: &Tree) -> Result<TextBox, Fail>
+    requires ranged { IsRanged (tree_of value.now) }
+    requires depth { depth (tree_of value.now) ≤ 126 }
+{
+    let Disclosure { text, .. } = make(alloc, salt, name, value)?;
+    Ok(text)
 }
 
 #[test]
 fn disclosures_are_made_without_blanks(rt: HostRuntime) -> Result<(), Fail> {
     let alloc = rt.alloc();
     // the variant of RFC 9901 section 4.2.1 with no white space
+    let (salt, name) = ("_26bc4LT-ac6q2KI6cBW5es", Some("family_name"));
     let value = Tree::Text(TextBox::make(alloc, "Möbius")?);
-    let made = make(
-        alloc,
-        "_26bc4LT-ac6q2KI6cBW5es",
-        Some("family_name"),
-        &value,
-    )?;
     assert_eq!(rt;
-        made.text.as_str(),
+        made(alloc, salt, name, &value)?.as_str(),
         "WyJfMjZiYzRMVC1hYzZxMktJNmNCVzVlcyIsImZhbWlseV9uYW1lIiwiTcO2Yml1cyJd"
     );
-    let made = make(alloc, "lklxF5jMYlGTPUovMNIvCA", None, &Tree::Flag(true))?;
     assert_eq!(rt;
-        made.text.as_str(),
+        made(alloc, "lklxF5jMYlGTPUovMNIvCA", None, &Tree::Flag(true))?.as_str(),
         "WyJsa2x4RjVqTVlsR1RQVW92TU5JdkNBIix0cnVlXQ"
     );
     Ok(())

@@ -1,7 +1,7 @@
 use claim_tree::Path;
 use digest_index::Steps;
 use hmac_sign::{FailSigner, Hs256Key};
-use holder_core::{PresentError, present, read_present};
+use holder_core::{Ask, PresentError, PresentFile, present, read_present};
 use selection_core::Consent;
 use std::alloc::Global;
 use std::test::Fail;
@@ -15,44 +15,64 @@ const KEYS: &str = r#"{"keys":[{"kty":"oct","k":"AQEBAQEBAQEBAQEBAQEBAQEBAQEBAQE
 const BINDING: &str =
     r#","binding":{"key":"AgICAgICAgICAgICAgICAgICAgICAgICAgICAgICAgI","kid":"h1","aud":"v","nonce":"n"}"#;
 
+// What a holder asks who wants a place.
+fn asked(alloc: Global, want: &str, binding: &str) -> Result<PresentFile, Fail> {
+    let text = format!(in alloc; r#"{{"keys":{KEYS},"want":["{want}"]{binding}}}"#)?;
+    Ok(read_present(alloc, text.as_bytes()).map_err(|_| "no order")?)
+}
+
+// Why nothing is presented, where places of at most so many steps are shown.
+fn refused(
+    alloc: Global,
+    most: usize,
+    ask: &Ask,
+    signer: &mut FailSigner,
+    steps: &mut Steps,
+) -> Option<PresentError> {
+    let consent = Consent::new(|place: &Path| place.len() <= most);
+    let text = TOKEN.as_bytes();
+    present(alloc, text, ask, &consent, signer, 0, steps).err()
+}
+
 // The answer of a holder who shows places of at most so many steps, and whose signer fails at one call: why it presents nothing,
-// and the faults of its signer. The token takes four look-ups.
+// the faults of its signer, and the look-ups of the token.
 fn told(
     alloc: Global,
     most: usize,
     call: u64,
     want: &str,
     binding: &str,
-) -> Result<(Option<PresentError>, u64), Fail> {
-    let text = format!(in alloc; r#"{{"keys":{KEYS},"want":["{want}"]{binding}}}"#)?;
-    let said = read_present(alloc, text.as_bytes()).map_err(|_| "no order")?;
-    let consent = Consent::new(|place: &Path| place.len() <= most);
-    let mut signer = FailSigner::new(Hs256Key::new(&[2; 32]).map_err(|_| "short key")?, call);
+) -> Result<(Option<PresentError>, u64, u64), Fail> {
+    let said = asked(alloc, want, binding)?;
+    let key = Hs256Key::new(&[2; 32]).map_err(|_| "short key")?;
+    let mut signer = FailSigner::new(key, call);
     let mut steps = Steps::new();
-    let text = TOKEN.as_bytes();
-    let answer = present(alloc, text, &said.ask, &consent, &mut signer, 0, &mut steps);
-    if steps.count() != 4 {
-        return Err("other look-ups")?;
-    }
-    Ok((answer.err(), signer.failures()))
+    let error = refused(alloc, most, &said.ask, &mut signer, &mut steps);
+    Ok((error, signer.failures(), steps.count()))
 }
 
 #[test]
 fn a_rule_may_count_steps_and_a_signer_may_fail(rt: HostRuntime) -> Result<(), Fail> {
     let (street, address) = ("/address/street", "/address");
     for (most, call, want, binding, wanted) in [
-        (2, 9, street, BINDING, (None, 0)),
+        (2, 9, street, BINDING, (None, 0, 4)),
         (
             1,
             9,
             street,
             BINDING,
-            (Some(PresentError::ConsentRefused(0)), 0),
+            (Some(PresentError::ConsentRefused(0)), 0, 4),
         ),
-        (1, 9, address, BINDING, (None, 0)),
-        (1, 1, address, BINDING, (None, 0)),
-        (1, 0, address, BINDING, (Some(PresentError::SignFailed), 1)),
-        (1, 0, address, "", (None, 0)),
+        (1, 9, address, BINDING, (None, 0, 4)),
+        (1, 1, address, BINDING, (None, 0, 4)),
+        (
+            1,
+            0,
+            address,
+            BINDING,
+            (Some(PresentError::SignFailed), 1, 4),
+        ),
+        (1, 0, address, "", (None, 0, 4)),
     ] {
         let told = told(rt.alloc(), most, call, want, binding)?;
         assert_eq!(rt; told, wanted, "{most} {call} {want}");

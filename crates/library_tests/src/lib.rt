@@ -10,6 +10,8 @@ mod disclosure_tests;
 #[cfg(test)]
 mod feed_tests;
 #[cfg(test)]
+mod hmac_tests;
+#[cfg(test)]
 mod holder_tests;
 #[cfg(test)]
 mod issuer_tests;
@@ -18,11 +20,13 @@ mod json_form_tests;
 #[cfg(test)]
 mod marked_tests;
 #[cfg(test)]
-mod plain;
-#[cfg(test)]
 mod pointer_tests;
 #[cfg(test)]
 mod rebuild_tests;
+#[cfg(test)]
+mod selection_tests;
+#[cfg(test)]
+mod sites_tests;
 #[cfg(test)]
 mod tree_tests;
 #[cfg(test)]

@@ -3,7 +3,7 @@ ghost use Rattle.claim_tree.specs.Tree.{depth, IsRanged};
 ghost use Rattle.marked_tree.specs.Marked.{strip as strip_of};
 ghost use Rattle.marked_tree.specs.View.{marked_of};
 
-use claim_tree::{PathList, print_path, read, read_pointer, write};
+use claim_tree::{Path, PathList, print_path, read, read_pointer, write};
 use marked_tree::{ChosenSet, Marked, MarkedMap, mark, place_of, prune, strip};
 use sd_outside::TextBox;
 use std::alloc::Global;
@@ -11,12 +11,16 @@ use std::test::Fail;
 
 const TREE: &str = r#"{"a":{"b":1,"c":2},"d":[1,2,3],"e":null}"#;
 
+fn path(alloc: Global, pointer: &str) -> Result<Path, Fail> {
+    Ok(read_pointer(alloc, pointer).map_err(|_| "no pointer")?)
+}
+
 fn paths(alloc: Global) -> Result<PathList, Fail>
     ensures { IfOk result (λ paths. length paths ≤ 100) }
 {
     let mut paths = PathList::new(alloc);
     for pointer in ["/a", "/a/b", "/d/2", "/d/0"] {
-        paths.push(read_pointer(alloc, pointer).map_err(|_| "no pointer")?)?;
+        paths.push(path(alloc, pointer)?)?;
     }
     if paths.len() > 100 {
         return Err("too many paths")?;
@@ -34,13 +38,27 @@ fn marked(alloc: Global) -> Result<Marked, Fail>
     Ok(mark(alloc, &tree, &paths)?)
 }
 
-// The JSON text of the tree in which just these marks are kept.
-fn left(alloc: Global, kept: [u32; 4]) -> Result<TextBox, Fail> {
+fn chosen(alloc: Global, kept: [u32; 4]) -> Result<ChosenSet, Fail> {
     let mut chosen = ChosenSet::new(alloc);
     for mark in kept {
         chosen.add(mark)?;
     }
-    let pruned = prune(alloc, &marked(alloc)?, &chosen)?;
+    Ok(chosen)
+}
+
+// The tree in which just these marks are kept.
+fn pruned(alloc: Global, kept: [u32; 4]) -> Result<Marked, Fail>
+    ensures shallow { IfOk result (λ marked. depth (strip_of (marked_of marked)) ≤ 127) }
+    ensures ranged { IfOk result (λ marked. IsRanged (strip_of (marked_of marked))) }
+{
+    let chosen = chosen(alloc, kept)?;
+    let marked = marked(alloc)?;
+    Ok(prune(alloc, &marked, &chosen)?)
+}
+
+// Its JSON text.
+fn left(alloc: Global, kept: [u32; 4]) -> Result<TextBox, Fail> {
+    let pruned = pruned(alloc, kept)?;
     let tree = strip(alloc, &pruned)?;
     Ok(write(alloc, &tree)?)
 }
@@ -60,43 +78,73 @@ fn what_is_not_kept_is_left_out(rt: HostRuntime) -> Result<(), Fail> {
     Ok(())
 }
 
-#[test]
-fn a_mark_has_a_place(rt: HostRuntime) -> Result<(), Fail> {
-    let marked = marked(rt.alloc())?;
-    let path = place_of(rt.alloc(), &marked, 3)?.ok_or("no place")?;
-    assert_eq!(rt; print_path(rt.alloc(), &path)?.as_str(), "/d/2");
-    assert!(rt; place_of(rt.alloc(), &marked, 4)?.is_none());
-    Ok(())
+// The pointer to the place of a mark.
+fn place(alloc: Global, marked: &Marked, mark: u32) -> Result<Option<TextBox>, Fail>
+    requires { depth (strip_of (marked_of marked.now)) ≤ 127 }
+{
+    match place_of(alloc, marked, mark)? {
+        Some(path) => Ok(Some(print_path(alloc, &path)?)),
+        None => Ok(None),
+    }
 }
 
 #[test]
-fn the_first_of_a_name_stays(rt: HostRuntime) -> Result<(), Fail> {
-    let alloc = rt.alloc();
+fn a_mark_has_a_place(rt: HostRuntime) -> Result<(), Fail> {
+    let marked = marked(rt.alloc())?;
+    for (mark, wanted) in [(3, Some("/d/2")), (4, None)] {
+        let place = place(rt.alloc(), &marked, mark)?;
+        assert_eq!(rt; place.as_ref().map(|text| text.as_str()), wanted);
+    }
+    Ok(())
+}
+
+// A member, and some that are put to it.
+fn joined(alloc: Global) -> Result<MarkedMap, Fail> {
     let mut map = MarkedMap::new(alloc);
     map.insert(TextBox::make(alloc, "b")?, Some(1), Marked::Null)?;
     let mut added = Vec::new(alloc);
     for (name, mark) in [("c", 5), ("b", 6), ("", 7), ("c", 8)] {
         added.push((TextBox::make(alloc, name)?, Some(mark), Marked::Null))?;
     }
-    let map = map.with_all(alloc, added)?;
+    Ok(map.with_all(alloc, added)?)
+}
+
+#[test]
+fn the_first_of_a_name_stays(rt: HostRuntime) -> Result<(), Fail> {
+    let map = joined(rt.alloc())?;
     for (i, name, mark) in [(0, "", 7), (1, "b", 1), (2, "c", 5)] {
-        let (found, number, _) = map.entry_at(i).ok_or("no member")?;
-        assert_eq!(rt; found.as_str(), name);
-        assert_eq!(rt; number, Some(mark));
+        let found = map.entry_at(i).map(|(name, mark, _)| (name.as_str(), mark));
+        assert_eq!(rt; found, Some((name, Some(mark))));
     }
     Ok(())
 }
 
-#[test]
-fn sets_keep_each_mark_once(rt: HostRuntime) -> Result<(), Fail> {
-    let mut set = ChosenSet::new(rt.alloc());
-    for mark in [7, 3, u32::MAX, 3, 0, 7] {
+const MARKS: [u32; 6] = [7, 3, u32::MAX, 3, 0, 7];
+
+fn added(alloc: Global) -> Result<ChosenSet, Fail> {
+    let mut set = ChosenSet::new(alloc);
+    for mark in MARKS {
         set.add(mark)?;
     }
-    assert!(rt; set.len() == 4 && set.has(0) && set.has(3) && set.has(7) && set.has(u32::MAX));
-    assert!(rt; !set.has(1) && !set.has(8));
-    let made = ChosenSet::of(rt.alloc(), vec![in rt.alloc(); 7, 3, u32::MAX, 3, 0, 7]?)?;
-    assert!(rt; made.len() == 4 && made.has(0) && made.has(3) && made.has(7) && made.has(u32::MAX));
-    assert!(rt; !made.has(1) && !made.has(8));
+    Ok(set)
+}
+
+fn made(alloc: Global) -> Result<ChosenSet, Fail> {
+    let mut marks = Vec::new(alloc);
+    marks.extend_from_slice(&MARKS)?;
+    Ok(ChosenSet::of(alloc, marks)?)
+}
+
+// How many marks a set has, whether it has those that were put into it, and whether others.
+fn told(set: &ChosenSet) -> (usize, [bool; 4], [bool; 2]) {
+    let those = [set.has(0), set.has(3), set.has(7), set.has(u32::MAX)];
+    (set.len(), those, [set.has(1), set.has(8)])
+}
+
+#[test]
+fn sets_keep_each_mark_once(rt: HostRuntime) -> Result<(), Fail> {
+    let wanted = (4, [true; 4], [false; 2]);
+    assert_eq!(rt; told(&added(rt.alloc())?), wanted);
+    assert_eq!(rt; told(&made(rt.alloc())?), wanted);
     Ok(())
 }

@@ -1,24 +1,31 @@
 use claim_tree::{Path, PathList, is_prefix, read_pointer};
 use sd_outside::TextBox;
+use std::alloc::Global;
 use std::test::Fail;
+
+fn path(alloc: Global, pointer: &str) -> Result<Path, Fail> {
+    Ok(read_pointer(alloc, pointer).map_err(|_| "not read")?)
+}
 
 #[test]
 fn a_path_leads_to_the_paths_that_go_on(rt: HostRuntime) -> Result<(), Fail> {
-    let alloc = rt.alloc();
-    let mut path = read_pointer(alloc, "").map_err(|_| "not read")?;
-    path.push(TextBox::make(alloc, "a")?)?;
-    let front = path.copy(alloc)?;
-    path.push(TextBox::make(alloc, "b")?)?;
-    assert!(rt; is_prefix(&front, &path) && is_prefix(&path, &path));
-    assert!(rt; !is_prefix(&path, &front));
-    path.pop();
-    assert!(rt; is_prefix(&path, &front));
+    let front = path(rt.alloc(), "/a")?;
+    let mut whole = front.copy(rt.alloc())?;
+    whole.push(TextBox::make(rt.alloc(), "b")?)?;
+    let whole_leads = is_prefix(&whole, &front);
+    assert!(rt; is_prefix(&front, &whole) && is_prefix(&whole, &whole) && !whole_leads);
+    whole.pop();
+    assert!(rt; is_prefix(&whole, &front));
+    Ok(())
+}
 
-    let mut paths = PathList::new(alloc);
-    paths.push(path)?;
-    paths.push(Path::new(alloc))?;
-    assert_eq!(rt; paths.len(), 2);
-    assert_eq!(rt; paths.at(0).ok_or("no path")?.len(), 1);
+#[test]
+fn a_list_has_its_paths(rt: HostRuntime) -> Result<(), Fail> {
+    let mut paths = PathList::new(rt.alloc());
+    paths.push(path(rt.alloc(), "/a")?)?;
+    paths.push(Path::new(rt.alloc()))?;
+    let first = paths.at(0).map(|path| path.len());
+    assert_eq!(rt; (paths.len(), first), (2, Some(1)));
     assert!(rt; paths.at(2).is_none());
     Ok(())
 }

@@ -4,9 +4,7 @@ ghost use Rattle.claim_tree.specs.View.{tree_of};
 ghost use Rattle.marked_tree.specs.Marked.{strip as strip_of};
 ghost use Rattle.marked_tree.specs.View.{marked_of};
 ghost use Rattle.rebuild_core.specs.Answer.{IsPayload, ValuesShallow, ValuesRanged};
-ghost use Rattle.rebuild_core.specs.Payload.{without_alg};
 
-use crate::plain::plain_opening;
 use claim_tree::{Tree, print_path, read, write};
 use digest_index::Steps;
 use digest_sites::{Given, GivenList};
@@ -47,6 +45,14 @@ fn payload(alloc: Global, text: &str) -> Result<Tree, Fail>
     Ok(tree)
 }
 
+// The name of a member, and none where it is `-`.
+fn name_of(alloc: Global, name: &str) -> Result<Option<TextBox>, Fail> {
+    if name == "-" {
+        return Ok(None);
+    }
+    Ok(Some(TextBox::make(alloc, name)?))
+}
+
 // Adds a disclosure, for an element where the name is `-`.
 fn add(
     alloc: Global,
@@ -66,11 +72,7 @@ fn add(
         return Err("too many")?;
     }
     let digest = TextBox::make(alloc, digest)?;
-    let name = if name == "-" {
-        None
-    } else {
-        Some(TextBox::make(alloc, name)?)
-    };
+    let name = name_of(alloc, name)?;
     let value = value(alloc, text)?;
     list.push(Given {
         digest,
@@ -96,19 +98,29 @@ fn given(alloc: Global, text: &str) -> Result<GivenList, Fail>
     Ok(list)
 }
 
+// Adds the pointers to the places of the marks below a number.
+fn push_places(alloc: Global, marks: u32, marked: &Marked, text: &mut String) -> Result<(), Fail>
+    requires depth { depth (strip_of (marked_of marked.now)) ≤ 127 }
+{
+    for mark in 0..marks {
+        if let Some(path) = place_of(alloc, marked, mark)? {
+            let place = print_path(alloc, &path)?;
+            text.push(' ')?;
+            text.push_str(place.as_str())?;
+        }
+    }
+    Ok(())
+}
+
 // The JSON text without marks, and the pointers to the places of the marks below a number.
 fn shown(alloc: Global, marks: u32, marked: &Marked) -> Result<String, Fail>
     requires depth { depth (strip_of (marked_of marked.now)) ≤ 127 }
     requires range { IsRanged (strip_of (marked_of marked.now)) }
 {
     let tree = strip(alloc, marked)?;
-    let mut text = String::from_str(alloc, write(alloc, &tree)?.as_str())?;
-    for mark in 0..marks {
-        if let Some(path) = place_of(alloc, marked, mark)? {
-            text.push(' ')?;
-            text.push_str(print_path(alloc, &path)?.as_str())?;
-        }
-    }
+    let json = write(alloc, &tree)?;
+    let mut text = String::from_str(alloc, json.as_str())?;
+    push_places(alloc, marks, marked, &mut text)?;
     Ok(text)
 }
 
@@ -128,16 +140,7 @@ fn refusal(alloc: Global, error: ProcessError) -> Result<String, Fail> {
     Ok(format!(in alloc; "{condition} at {place}")?)
 }
 
-fn has_no_alg(payload: &Tree) -> bool
-    ensures { IsTrue result → without_alg (tree_of payload.now) ≡ tree_of payload.now }
-{
-    match payload {
-        Tree::Object(members) => members.get("_sd_alg").is_none(),
-        _ => true,
-    }
-}
-
-// The answer in words. Where the payload has no `_sd_alg`, opening by search gives the same.
+// The answer in words.
 fn answer(
     alloc: Global,
     payload: &Tree,
@@ -151,19 +154,10 @@ fn answer(
     requires values_range { ValuesRanged given.now }
     requires few { length given.now < 2 ^ 32 - 1 }
 {
-    let marked = match process(alloc, payload, given, steps) {
-        Ok(marked) => marked,
-        Err(error) => return refusal(alloc, error),
-    };
-    let text = shown(alloc, given.len() as u32, &marked)?;
-    if has_no_alg(payload) {
-        let plain = plain_opening(alloc, given.len() + 1, given, payload)?;
-        let searched = shown(alloc, given.len() as u32, &plain)?;
-        if searched.as_str() != text.as_str() {
-            return Err("opened otherwise")?;
-        }
+    match process(alloc, payload, given, steps) {
+        Ok(marked) => shown(alloc, given.len() as u32, &marked),
+        Err(error) => refusal(alloc, error),
     }
-    Ok(text)
 }
 
 // The answer on a payload and disclosures in words.

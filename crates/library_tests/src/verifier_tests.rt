@@ -1,10 +1,13 @@
 // The look-ups of digests, which no run of the program shows, of `verify`, and of `check_token` and a borrowed token,
 // which none calls.
-use claim_tree::write;
+ghost use Rattle.claim_tree.specs.Tree.{IsRanged};
+ghost use Rattle.claim_tree.specs.View.{tree_of};
+
+use claim_tree::{Tree, write};
 use compact_form::print;
 use digest_index::Steps;
 use issuer_core::{IssueFile, issue_owned, read_order};
-use json_form::{TokenText, TokenView, read_token};
+use json_form::{Token, TokenText, TokenView, read_token};
 use sd_outside::TextBox;
 use std::alloc::Global;
 use std::test::Fail;
@@ -61,25 +64,39 @@ fn refused(alloc: Global, steps: &Steps, error: VerifyError) -> Result<String, F
     }
 }
 
+// The look-ups, and the text of a payload that is accepted.
+fn accepted(alloc: Global, steps: &Steps, payload: &Tree) -> Result<String, Fail>
+    requires { IsRanged (tree_of payload.now) }
+{
+    let text = write(alloc, payload)?;
+    told(alloc, steps, text.as_str())
+}
+
 fn verified(alloc: Global, text: &str) -> Result<String, Fail> {
+    let policy = policy(alloc)?;
     let mut steps = Steps::new();
-    match verify(alloc, text.as_bytes(), &policy(alloc)?, 0, &mut steps) {
-        Ok(Accepted { payload, .. }) => told(alloc, &steps, write(alloc, &payload)?.as_str()),
+    match verify(alloc, text.as_bytes(), &policy, 0, &mut steps) {
+        Ok(Accepted { payload, .. }) => accepted(alloc, &steps, &payload),
+        Err(error) => refused(alloc, &steps, error),
+    }
+}
+
+// What the check of a token answers that another read.
+fn token_checked(alloc: Global, token: &Token, policy: &Policy) -> Result<String, Fail> {
+    if token.parts.disclosures.len() > 9 {
+        return Err("too many".into());
+    }
+    let mut steps = Steps::new();
+    match check_token(alloc, token, &policy.keys, &policy.algs, None, &mut steps) {
+        Ok(Checked { payload, .. }) => accepted(alloc, &steps, &payload),
         Err(error) => refused(alloc, &steps, error),
     }
 }
 
 fn checked(alloc: Global, text: &str) -> Result<String, Fail> {
-    let Policy { keys, algs, .. } = policy(alloc)?;
+    let policy = policy(alloc)?;
     let token = read_token(alloc, text.as_bytes()).map_err(|_| "no token")?;
-    if token.parts.disclosures.len() > 9 {
-        return Err("too many".into());
-    }
-    let mut steps = Steps::new();
-    match check_token(alloc, &token, &keys, &algs, None, &mut steps) {
-        Ok(Checked { payload, .. }) => told(alloc, &steps, write(alloc, &payload)?.as_str()),
-        Err(error) => refused(alloc, &steps, error),
-    }
+    token_checked(alloc, &token, &policy)
 }
 
 #[test]
@@ -99,26 +116,31 @@ fn issued(alloc: Global) -> Result<TextBox, Fail> {
     Ok(print(alloc, &parts)?)
 }
 
-// The look-ups that the check of a view takes, and its claims.
-fn told_of_view(alloc: Global, token: &TokenView<'_>, policy: &Policy) -> Result<String, Fail> {
+// What a view of a token holds, where its check passes.
+fn content_of(alloc: Global, token: &TokenView<'_>) -> Result<Content, Fail> {
     if token.count() > 2 {
         return Err("too many".into());
     }
+    let policy = policy(alloc)?;
+    Ok(Content::read(alloc, token, &policy.rules()).map_err(|_| "refused")?)
+}
+
+// The look-ups that the check of a token's view takes, and its claims.
+fn told_of_view(alloc: Global, text: &str) -> Result<String, Fail> {
+    let token = TokenText::read(alloc, text.as_bytes()).map_err(|_| "no token")?;
+    let content = content_of(alloc, &token.view())?;
     let mut steps = Steps::new();
-    let content = Content::read(alloc, token, &policy.rules()).map_err(|_| "refused")?;
-    let checked = content
-        .open_payload(alloc, &mut steps)
-        .map_err(|_| "refused")?;
-    told(alloc, &steps, write(alloc, &checked.payload)?.as_str())
+    match content.open_payload(alloc, &mut steps) {
+        Ok(checked) => accepted(alloc, &steps, &checked.payload),
+        Err(error) => refused(alloc, &steps, error),
+    }
 }
 
 // Each of its two digests and of its two disclosures is looked up once.
 #[test]
 fn a_view_of_an_issued_token_is_checked(rt: HostRuntime) -> Result<(), Fail> {
-    let alloc = rt.alloc();
-    let text = issued(alloc)?;
-    let token = TokenText::read(alloc, text.as_str().as_bytes()).map_err(|_| "no token")?;
-    let found = told_of_view(alloc, &token.view(), &policy(alloc)?)?;
+    let text = issued(rt.alloc())?;
+    let found = told_of_view(rt.alloc(), text.as_str())?;
     assert_eq!(rt; found.as_str(), r#"4 {"age":40,"given":"Ann","iss":"i"}"#);
     Ok(())
 }

@@ -4,7 +4,7 @@ use sd_outside::ByteBox;
 use selection_core::Consent;
 use std::alloc::Global;
 use std::test::Fail;
-use wallet_core::{CredentialList, Picked, WalletError, answer, read_query};
+use wallet_core::{CredentialList, Picked, Query, WalletError, answer, read_query};
 
 // A token that hides an address, and the street inside it.
 const BOTH: &str =
@@ -27,28 +27,43 @@ fn held_of(alloc: Global, texts: &[&str]) -> Result<CredentialList, Fail> {
     Ok(held)
 }
 
-// What a wallet of these credentials answers whose holder shows places of at most so many steps: the credential and how many
-// disclosures are sent of it, or nothing where none answers; and how many digests were looked up.
-fn told(alloc: Global, most: usize, texts: &[&str]) -> Result<(Option<(usize, usize)>, u64), Fail> {
-    let said = read_query(alloc, QUERY.as_bytes()).map_err(|_| "no query")?;
-    let held = held_of(alloc, texts)?;
+// The credential that is picked, and how many disclosures are sent of it, where places of at most so many steps are shown.
+fn picked(
+    alloc: Global,
+    most: usize,
+    held: &CredentialList,
+    query: &Query,
+    steps: &mut Steps,
+) -> Result<Option<(usize, usize)>, Fail> {
     let consent = Consent::new(|place: &Path| place.len() <= most);
-    let mut steps = Steps::new();
-    match answer(alloc, &held, &said.query, &consent, &mut steps) {
-        Ok(Picked { index, parts }) => Ok((Some((index, parts.disclosures.len())), steps.count())),
-        Err(WalletError::NoAnswer) => Ok((None, steps.count())),
-        Err(WalletError::Memory) => Err("no memory")?,
+    match answer(alloc, held, query, &consent, steps) {
+        Ok(Picked { index, parts }) => Ok(Some((index, parts.disclosures.len()))),
+        Err(WalletError::NoAnswer) => Ok(None),
+        Err(WalletError::Memory) => Err("no memory".into()),
     }
+}
+
+// The same of a wallet of these credentials, and how many digests were looked up.
+fn told(alloc: Global, most: usize, texts: &[&str]) -> Result<(Option<(usize, usize)>, u64), Fail> {
+    let held = held_of(alloc, texts)?;
+    let said = read_query(alloc, QUERY.as_bytes()).map_err(|_| "no query")?;
+    let mut steps = Steps::new();
+    let picked = picked(alloc, most, &held, &said.query, &mut steps)?;
+    Ok((picked, steps.count()))
 }
 
 #[test]
 fn a_rule_is_asked_for_each_credential(rt: HostRuntime) -> Result<(), Fail> {
-    let alloc = rt.alloc();
-    assert_eq!(rt; told(alloc, 2, &[BOTH])?, (Some((0, 2)), 4));
-    assert_eq!(rt; told(alloc, 1, &[BOTH])?, (None, 4));
-    assert_eq!(rt; told(alloc, 1, &[BOTH, WHOLE])?, (Some((1, 1)), 6));
-    assert_eq!(rt; told(alloc, 2, &[BOTH, WHOLE])?, (Some((1, 1)), 6));
-    assert_eq!(rt; told(alloc, 1, &[WHOLE, BOTH])?, (Some((0, 1)), 6));
-    assert_eq!(rt; told(alloc, 0, &[WHOLE, BOTH, "a.b.c"])?, (None, 6));
+    for (most, texts, wanted) in [
+        (2, [BOTH].as_slice(), (Some((0, 2)), 4)),
+        (1, [BOTH].as_slice(), (None, 4)),
+        (1, [BOTH, WHOLE].as_slice(), (Some((1, 1)), 6)),
+        (2, [BOTH, WHOLE].as_slice(), (Some((1, 1)), 6)),
+        (1, [WHOLE, BOTH].as_slice(), (Some((0, 1)), 6)),
+        (0, [WHOLE, BOTH, "a.b.c"].as_slice(), (None, 6)),
+    ] {
+        let count = texts.len();
+        assert_eq!(rt; told(rt.alloc(), most, texts)?, wanted, "{most} of {count}");
+    }
     Ok(())
 }

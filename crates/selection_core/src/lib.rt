@@ -10,8 +10,6 @@ mod choosing;
 mod consent;
 mod errors;
 mod never;
-#[cfg(test)]
-mod tests;
 
 pub use allowing::allow;
 pub use choosing::choose;

@@ -1,11 +1,12 @@
 ghost use Rattle.std.specs.Prelude.{IfOk, IsTrue};
 ghost use Rattle.hmac_sign.specs.Agreement.{Agree};
 
-use crate::{
+use b64url_text::{decode, encode};
+use hmac_sign::{
     Alg, Checker, FailSigner, Hs256Key, HsKey, KeyShort, SignError, Signer, alg_named, hmac,
     hmac_sha256,
 };
-use b64url_text::{decode, encode};
+use sd_outside::TextBox;
 use std::alloc::Global;
 use std::test::Fail;
 
@@ -117,17 +118,30 @@ fn is_accepted<S: Signer, C: Checker>(
     Ok(checker.check(HEAD, BODY, signature.bytes()))
 }
 
+fn rfc_key(alloc: Global) -> Result<Hs256Key, Fail> {
+    let bytes = decode(alloc, KEY.as_bytes()).map_err(|_| "the key is not read")?;
+    Ok(Hs256Key::new(bytes.bytes()).map_err(|_| "the key is short")?)
+}
+
+// The text of a signature, whether the key accepts it, and whether it does with the parts exchanged and of one byte less.
+fn told(alloc: Global, key: &mut Hs256Key) -> Result<(TextBox, [bool; 3]), Fail> {
+    let signature = key.sign(alloc, HEAD, BODY).map_err(|_| "not signed")?;
+    let bytes = signature.bytes();
+    let accepted = key.check(HEAD, BODY, bytes);
+    let exchanged = key.check(BODY, HEAD, bytes);
+    let shorter = key.check(HEAD, BODY, &bytes[1..]);
+    Ok((encode(alloc, bytes)?, [accepted, exchanged, shorter]))
+}
+
 #[test]
 fn the_signature_of_rfc_7515(rt: HostRuntime) -> Result<(), Fail> {
-    let alloc = rt.alloc();
-    let bytes = decode(alloc, KEY.as_bytes()).map_err(|_| "the key is not read")?;
-    let mut key = Hs256Key::new(bytes.bytes()).map_err(|_| "the key is short")?;
-    let signature = key.sign(alloc, HEAD, BODY).map_err(|_| "not signed")?;
-    assert_eq!(rt; encode(alloc, signature.bytes())?.as_str(), SIGNATURE);
-    assert!(rt; key.check(HEAD, BODY, signature.bytes()));
-    assert!(rt; !key.check(BODY, HEAD, signature.bytes()));
-    assert!(rt; !key.check(HEAD, BODY, &signature.bytes()[1..]));
-    assert_eq!(rt; is_accepted_again(alloc, &mut key), Ok(true));
+    let mut key = rfc_key(rt.alloc())?;
+    let (signature, accepted) = told(rt.alloc(), &mut key)?;
+    assert_eq!(rt;
+        (signature.as_str(), accepted),
+        (SIGNATURE, [true, false, false])
+    );
+    assert_eq!(rt; is_accepted_again(rt.alloc(), &mut key), Ok(true));
     Ok(())
 }
 
@@ -153,17 +167,22 @@ fn names_of_algorithms(rt: HostRuntime) {
     }
 }
 
+fn key() -> Result<Hs256Key, Fail> {
+    Ok(Hs256Key::new(&[7; 40]).map_err(|_| "the key is short")?)
+}
+
+// Whether a signature fails, and how often one did by then.
+fn failed(alloc: Global, signer: &mut FailSigner) -> (bool, u64) {
+    let failed = matches!(signer.sign(alloc, HEAD, BODY), Err(SignError::Failed));
+    (failed, signer.failures())
+}
+
 #[test]
 fn one_call_fails_and_is_counted(rt: HostRuntime) -> Result<(), Fail> {
-    let bytes = [7; 40];
-    let key = Hs256Key::new(&bytes).map_err(|_| "the key is short")?;
-    let checker = Hs256Key::new(&bytes).map_err(|_| "the key is short")?;
-    let mut signer = FailSigner::new(key, 1);
+    let checker = key()?;
+    let mut signer = FailSigner::new(key()?, 1);
     assert_eq!(rt; is_accepted(rt.alloc(), &mut signer, &checker), Ok(true));
-    for (failed, failures) in [(true, 1), (false, 1)] {
-        let answer = signer.sign(rt.alloc(), HEAD, BODY);
-        assert_eq!(rt; matches!(answer, Err(SignError::Failed)), failed);
-        assert_eq!(rt; signer.failures(), failures);
-    }
+    assert_eq!(rt; failed(rt.alloc(), &mut signer), (true, 1));
+    assert_eq!(rt; failed(rt.alloc(), &mut signer), (false, 1));
     Ok(())
 }

@@ -7,11 +7,15 @@ ghost use Rattle.marked_tree.specs.Paths.{Path as Steps, mark_path};
 ghost use Rattle.marked_tree.specs.View.{marked_of};
 ghost use Rattle.selection_core.specs.declared.errors.AllowError.TheVariants.{Refused};
 
-use crate::{AllowError, ChooseError, Consent, allow, choose};
 use claim_tree::{Path, PathList, is_prefix, read, read_pointer};
 use marked_tree::{ChosenSet, Marked, mark};
+use selection_core::{AllowError, ChooseError, Consent, allow, choose};
 use std::alloc::Global;
 use std::test::Fail;
+
+fn path(alloc: Global, pointer: &str) -> Result<Path, Fail> {
+    Ok(read_pointer(alloc, pointer).map_err(|_| "no pointer")?)
+}
 
 // The paths of pointers with blanks between them.
 fn paths_of(alloc: Global, pointers: &str) -> Result<PathList, Fail>
@@ -19,8 +23,7 @@ fn paths_of(alloc: Global, pointers: &str) -> Result<PathList, Fail>
 {
     let mut paths = PathList::new(alloc);
     for pointer in pointers.split(' ') {
-        let path = read_pointer(alloc, pointer).map_err(|_| "no pointer")?;
-        paths.push(path)?;
+        paths.push(path(alloc, pointer)?)?;
     }
     if paths.len() > 100 {
         return Err("too many pointers")?;
@@ -49,14 +52,20 @@ fn listed(alloc: Global, chosen: &ChosenSet) -> Result<String, Fail> {
     Ok(listed)
 }
 
-// The marks that are chosen for the wanted pointers, or the number of the one that leads nowhere.
-fn told(alloc: Global, text: &str, hide: &str, want: &str) -> Result<String, Fail> {
-    let marked = marked(alloc, text, hide)?;
-    match choose(alloc, &marked, &paths_of(alloc, want)?) {
+// The marks that are chosen for the wanted paths, or the number of the one that leads nowhere.
+fn choice(alloc: Global, marked: &Marked, wanted: &PathList) -> Result<String, Fail> {
+    match choose(alloc, marked, wanted) {
         Ok(chosen) => listed(alloc, &chosen),
         Err(ChooseError::NoSuchPlace(k)) => Ok(format!(in alloc; "nowhere {k}")?),
-        Err(ChooseError::Memory) => Err("no memory")?,
+        Err(ChooseError::Memory) => Err("no memory".into()),
     }
+}
+
+// The same for a value that hides the places of pointers.
+fn told(alloc: Global, text: &str, hide: &str, want: &str) -> Result<String, Fail> {
+    let marked = marked(alloc, text, hide)?;
+    let wanted = paths_of(alloc, want)?;
+    choice(alloc, &marked, &wanted)
 }
 
 #[test]
@@ -101,19 +110,43 @@ fn judged(alloc: Global, answer: Result<(), AllowError>) -> Result<String, Fail>
     match answer {
         Ok(()) => Ok(String::new(alloc)),
         Err(AllowError::Refused(i)) => Ok(format!(in alloc; "refused {i}")?),
-        Err(AllowError::Memory) => Err("no memory")?,
+        Err(AllowError::Memory) => Err("no memory".into()),
     }
 }
 
 fn chosen(alloc: Global, marked: &Marked, want: &str) -> Result<ChosenSet, Fail> {
     let wanted = paths_of(alloc, want)?;
-    let chosen = choose(alloc, marked, &wanted).map_err(|_| "not chosen")?;
-    Ok(chosen)
+    Ok(choose(alloc, marked, &wanted).map_err(|_| "not chosen")?)
+}
+
+// What a rule says that shows nothing at or below some places.
+fn asked(alloc: Global, marked: &Marked, want: &str, never: &PathList) -> Result<String, Fail>
+    requires depth { depth (strip_of (marked_of marked.now)) ≤ 127 }
+    requires unmixed { IsUnmixed (marked_of marked.now) }
+{
+    let chosen = chosen(alloc, marked, want)?;
+    let consent = Consent::new(|place: &Path| !never
+        .elements()
+        .iter()
+        .any(|path| is_prefix(path, place)));
+    judged(alloc, allow(alloc, &consent, marked, &chosen))
+}
+
+// The same of a value that hides places.
+fn asked_of(
+    alloc: Global,
+    text: &str,
+    hide: &str,
+    want: &str,
+    never: &str,
+) -> Result<String, Fail> {
+    let marked = marked(alloc, text, hide)?;
+    let never = paths_of(alloc, never)?;
+    asked(alloc, &marked, want, &never)
 }
 
 #[test]
 fn each_chosen_place_is_asked_for(rt: HostRuntime) -> Result<(), Fail> {
-    let alloc = rt.alloc();
     let deep = r#"{"a":{"b":{"c":1,"d":2}},"l":[{"m":1}],"z":0}"#;
     let hide = "/a /a/b /a/b/c /a/b/d /l/0 /l/0/m /z";
     for (want, never, answer) in [
@@ -130,15 +163,10 @@ fn each_chosen_place_is_asked_for(rt: HostRuntime) -> Result<(), Fail> {
         ("", "", ""),
         ("/z", "", "refused 6"),
     ] {
-        let marked = marked(alloc, deep, hide)?;
-        let chosen = chosen(alloc, &marked, want)?;
-        let never = paths_of(alloc, never)?;
-        let consent = Consent::new(|place: &Path| !never
-            .elements()
-            .iter()
-            .any(|path| is_prefix(path, place)));
-        let answer_told = judged(alloc, allow(alloc, &consent, &marked, &chosen))?;
-        assert_eq!(rt; answer_told.as_str(), answer);
+        assert_eq!(rt;
+            asked_of(rt.alloc(), deep, hide, want, never)?.as_str(),
+            answer
+        );
     }
     Ok(())
 }
@@ -154,18 +182,18 @@ fn judge_steps(alloc: Global, marked: &Marked, chosen: &ChosenSet) -> Result<(),
     allow(alloc, &consent, marked, chosen)
 }
 
+// What it says of a value that hides an address and its street.
+fn steps_judged(alloc: Global, want: &str) -> Result<String, Fail> {
+    let address = r#"{"address":{"street":"S","zip":"1"}}"#;
+    let marked = marked(alloc, address, "/address /address/street")?;
+    let chosen = chosen(alloc, &marked, want)?;
+    judged(alloc, judge_steps(alloc, &marked, &chosen))
+}
+
 #[test]
 fn a_rule_may_count_steps(rt: HostRuntime) -> Result<(), Fail> {
-    let alloc = rt.alloc();
     for (want, answer) in [("/address/street", "refused 0"), ("/address", "")] {
-        let marked = marked(
-            alloc,
-            r#"{"address":{"street":"S","zip":"1"}}"#,
-            "/address /address/street",
-        )?;
-        let chosen = chosen(alloc, &marked, want)?;
-        let answer_told = judged(alloc, judge_steps(alloc, &marked, &chosen))?;
-        assert_eq!(rt; answer_told.as_str(), answer);
+        assert_eq!(rt; steps_judged(rt.alloc(), want)?.as_str(), answer);
     }
     Ok(())
 }
