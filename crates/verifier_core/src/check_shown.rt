@@ -26,7 +26,6 @@ pub(crate) fn is_binding_missing(token: &TokenView<'_>, policy: &Policy) -> bool
 // The conditions 27 to 38, where a key binding token is asked for.
 fn check_holder(
     alloc: Global,
-    reader: &mut JsonReader,
     token: &TokenText<'_>,
     payload: &Tree,
     hash: HashAlg,
@@ -51,7 +50,7 @@ fn check_holder(
         hashed: token.hashed(),
         now,
     };
-    match check_bound(alloc, reader, bound) {
+    match check_bound(alloc, &mut JsonReader::new(alloc), bound) {
         Ok(()) => Ok(()),
         Err(BoundError::Memory) => Err(VerifyError::Memory),
         Err(BoundError::Fails(condition)) => Err(fails(condition)),
@@ -61,7 +60,6 @@ fn check_holder(
 // The conditions 22 to 38 of a token that is opened, over its processed payload and its hash.
 pub(crate) fn check_shown(
     alloc: Global,
-    reader: &mut JsonReader,
     token: &TokenText<'_>,
     payload: &Tree,
     hash: HashAlg,
@@ -77,5 +75,5 @@ pub(crate) fn check_shown(
     if let Err(fault) = check_claims(payload, policy, now) {
         return Err(VerifyError::Fault(fault));
     }
-    check_holder(alloc, reader, token, payload, hash, policy, now)
+    check_holder(alloc, token, payload, hash, policy, now)
 }

@@ -14,7 +14,7 @@ use crate::check_given::read_given;
 use crate::check_payload::read_payload;
 use crate::check_signed::{check_signed, fails};
 use crate::{CheckedMarks, CheckedPayload, Rules, VerifyError};
-use claim_tree::{JsonReader, Tree};
+use claim_tree::Tree;
 use compact_form::Condition;
 use digest_index::{Steps, seed_of};
 use digest_sites::GivenList;
@@ -78,30 +78,16 @@ impl Content {
         ensures content { IfOk result (IsContent token.now rules.now) }
         ensures refused { IfErr result (λ e. OnFault e (IsLowest (TokenFails token.now rules.now))) }
     {
-        Content::read_with(alloc, &mut DisclosureReader::new(alloc), token, rules)
-    }
-
-    // The same, in the memory of a reader.
-    pub(crate) fn read_with(
-        alloc: Global,
-        reader: &mut DisclosureReader,
-        token: &TokenView<'_>,
-        rules: &Rules<'_>,
-    ) -> Result<Content, VerifyError>
-        requires few { length token.now.parts.disclosures < 2 ^ 32 - 1 }
-        ensures content { IfOk result (IsContent token.now rules.now) }
-        ensures refused { IfErr result (λ e. OnFault e (IsLowest (TokenFails token.now rules.now))) }
-    {
+        let mut reader = DisclosureReader::new(alloc);
         let signed = token.signed();
         if let Err(error) = check_signed(alloc, &mut reader.json, signed, token.outer(), rules) {
             return Err(error);
         }
-        // by a reader of its own, since its memory is as large as the payload
-        let (body, hash) = match read_payload(alloc, &mut JsonReader::new(alloc), signed.payload) {
+        let (body, hash) = match read_payload(alloc, &mut reader.json, signed.payload) {
             Ok(read) => read,
             Err(error) => return Err(error),
         };
-        let given = match read_given(alloc, reader, hash, token.count(), token.disclosures()) {
+        let given = match read_given(alloc, &mut reader, hash, token.count(), token.disclosures()) {
             Ok(given) => given,
             Err(error) => return Err(error),
         };

@@ -18,7 +18,6 @@ use crate::{CheckedMarks, CheckedPayload, Content, Policy, VerifyError};
 use claim_tree::Tree;
 use compact_form::Condition;
 use digest_index::Steps;
-use disclosure::DisclosureReader;
 use json_form::{TokenError, TokenText};
 use marked_tree::{Marked, strip};
 use std::alloc::Global;
@@ -48,7 +47,6 @@ fn read_text<'a>(alloc: Global, text: &'a [u8]) -> Result<TokenText<'a>, VerifyE
 // The conditions 4 to 13 of a token that is read.
 fn read_content(
     alloc: Global,
-    reader: &mut DisclosureReader,
     token: &TokenText<'_>,
     policy: &Policy,
 ) -> Result<Content, VerifyError>
@@ -61,7 +59,7 @@ fn read_content(
     if is_binding_missing(&view, policy) {
         return Err(fails(Condition::BindingMissing));
     }
-    Content::read_with(alloc, reader, &view, &policy.rules())
+    Content::read(alloc, &view, &policy.rules())
 }
 
 /// Verifies a token as it comes from a file, RFC 9901 section 7.3, at a moment in seconds since 1970. The token is in the
@@ -90,12 +88,11 @@ pub fn verify(
     ensures within { IsReadWithin text.now steps.old steps.new }
     ensures uncounted { IsUncounted (Fails text.now policy.now now) steps.old steps.new }
 {
-    let mut reader = DisclosureReader::new(alloc);
     let token = match read_text(alloc, text) {
         Ok(token) => token,
         Err(error) => return Err(error),
     };
-    let content = match read_content(alloc, &mut reader, &token, policy) {
+    let content = match read_content(alloc, &token, policy) {
         Ok(content) => content,
         Err(error) => return Err(error),
     };
@@ -104,7 +101,7 @@ pub fn verify(
         Err(error) => return Err(error),
     };
     let payload = strip(alloc, &marked)?;
-    if let Err(error) = check_shown(alloc, &mut reader.json, &token, &payload, hash, policy, now) {
+    if let Err(error) = check_shown(alloc, &token, &payload, hash, policy, now) {
         return Err(error);
     }
     Ok(Accepted { payload, marked })
@@ -130,12 +127,11 @@ pub fn verify_payload(
     ensures within { IsReadWithin text.now steps.old steps.new }
     ensures uncounted { IsUncounted (Fails text.now policy.now now) steps.old steps.new }
 {
-    let mut reader = DisclosureReader::new(alloc);
     let token = match read_text(alloc, text) {
         Ok(token) => token,
         Err(error) => return Err(error),
     };
-    let content = match read_content(alloc, &mut reader, &token, policy) {
+    let content = match read_content(alloc, &token, policy) {
         Ok(content) => content,
         Err(error) => return Err(error),
     };
@@ -143,7 +139,7 @@ pub fn verify_payload(
         Ok(opened) => opened,
         Err(error) => return Err(error),
     };
-    if let Err(error) = check_shown(alloc, &mut reader.json, &token, &payload, hash, policy, now) {
+    if let Err(error) = check_shown(alloc, &token, &payload, hash, policy, now) {
         return Err(error);
     }
     Ok(payload)

@@ -1,7 +1,7 @@
 use Rattle.claim_tree.specs.View.{tree_of}
 use Rattle.compact_form.specs.Views.{jwt_of}
 use Rattle.verifier_core.proofs.Contents.{header_refused, body_refused, given_refused, is_content, is_openable}
-use Rattle.verifier_core.proofs.content.Content.read_with.Goals as goal
+use Rattle.verifier_core.proofs.content.Content.read.Goals as goal
 
 pub returns-in-Err-clause-refused : goal.returns-in-Err-clause-refused
 returns-in-Err-clause-refused c = header_refused c.args.token.now c.args.rules.now (jwt_of c.signed-signed.result) c.outer.result.now c.signed-signed.ensures c.outer.ensures c.in-Err.error c.in-Err.ensures.refused
