@@ -42,14 +42,6 @@ lowest_at FailsSo failed fault number_is below fails least = record {
 pub none_fails : (FailsSo : Condition → Place → Type 0) (number : ℕ) → Passes number FailsSo → ((c : Condition) (place : Place) → FailsSo c place → number_of c < number) → NoneFails FailsSo
 none_fails FailsSo number below all c place h = omega (arith, below c place h, all c place h)
 
--- no place is later than none
-pub nowhere_first : (fault : Fault) → fault.place ≡ Nowhere → (place : Place) → IsNoLater fault.place place
-nowhere_first fault is place = subst (λ p. IsNoLater p place) (sym is) tt
-
--- a condition that fails at no place is the lowest
-pub lowest_unplaced : (FailsSo : Condition → Place → Type 0) (failed : Condition) (fault : Fault) → fault.number ≡ number_of failed → fault.place ≡ Nowhere → Passes (number_of failed) FailsSo → FailsSo failed Nowhere → IsLowest FailsSo fault
-lowest_unplaced FailsSo failed fault number_is place_is below fails = lowest_at FailsSo failed fault number_is below (subst (FailsSo failed) (sym place_is) fails) (λ place _. nowhere_first fault place_is place)
-
 -- a condition without a place
 pub refuse_unplaced : (FailsSo : Condition → Place → Type 0) (d : Condition) (fault : Fault) → fault ≡ unplaced d → Passes (number_of d) FailsSo → FailsSo d Nowhere → IsLowest FailsSo fault
 refuse_unplaced FailsSo d fault is passes fails =

@@ -13,14 +13,6 @@ use Rattle.compact_form.specs.Faults.{fault_at, found_condition, failed_of}
 pub one_condition : (a b : Condition) → number_of a ≡ number_of b → a ≡ b
 one_condition a b same = let both : Some a ≡ Some b = sym (numbered a) ∙ (ap condition_of same ∙ numbered b) in cc both
 
--- the condition of a fault is that of its number
-pub failed_is : (fault : Fault) (c : Condition) → fault.number ≡ number_of c → failed_of fault ≡ c
-failed_is fault c is = go (condition_of fault.number) fault.of_condition (ap condition_of is ∙ numbered c)
-  where
-    go : (found : Option Condition) (some : IsSome found) → found ≡ Some c → found_condition found some ≡ c
-    go (Some d) some same = cc same
-    go None some same = cc same
-
 -- a fault is its number and its place
 pub same_fault : (f g : Fault) → f.number ≡ g.number → f.place ≡ g.place → f ≡ g
 same_fault f g number place = under f.number g.number f.of_condition g.of_condition number ∙ ap (λ (p : Place). made g.number p g.of_condition) place

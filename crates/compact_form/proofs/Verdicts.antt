@@ -35,18 +35,6 @@ one_fault text f g r s = same_number text f g r.applies s.applies (let a = r.low
 pub clash : (b : Bool) → b ≡ true → b ≡ false → ⊥
 clash b h k = cc
 
--- condition 1 is the lowest
-lowest_too_long : (text : List ℕ) (fault other : Fault) → fault.number ≡ number_of Condition.TooLong → CompactFails text other → fault.number ≤ other.number
-lowest_too_long text fault other n (too_long e h) = omega (arith, ap fault_number e)
-lowest_too_long text fault other n (form s e h) = omega (arith, ap fault_number e)
-lowest_too_long text fault other n (too_much p e h l) = omega (arith, ap fault_number e)
-
-pub refused_too_long : (text : List ℕ) (fault : Fault) → fault ≡ unplaced Condition.TooLong → is_too_long text ≡ true → IsCompactRefused text fault
-refused_too_long text fault is long = record {
-  applies = too_long is long;
-  lowest = λ other fails. lowest_too_long text fault other (ap fault_number is) fails;
-}
-
 -- condition 2 is the lowest where condition 1 holds
 lowest_form : (text : List ℕ) (fault other : Fault) → fault.number ≡ number_of Condition.Form → is_too_long text ≡ false → CompactFails text other → fault.number ≤ other.number
 lowest_form text fault other n short (too_long e h) = absurd (clash (is_too_long text) h short)

@@ -1,5 +1,5 @@
 -- For the prover, which wants it of each fault that is made: a condition is found under its number.
-use Rattle.std.specs.Prelude.{◌≡◌, Option, Some, refl}
+use Rattle.std.specs.Prelude.{◌≡◌, Some, refl}
 use Rattle.compact_form.specs.declared.condition.Condition.{Condition}
 use Rattle.compact_form.specs.Condition.{number_of, condition_of}
 

@@ -13,9 +13,8 @@ says_there o t set there h = subst (位 (p : Option Tree). Says IsKeySet p set 鈫
 pub returns-in_default-error : goal.returns-in_default-error
 returns-in_default-error c =
     let t = tree_of c.in-Some.tree.now in
-    let told = c.in-Err.ensures in
     record {
       keys = tt;
-      none = 位 set says. not_read t c.in-Err.error (位 e. told.not_a_set (ap Err e)) (位 place e. told.not_base64 place (ap Err e)) (位 place e. told.short place (ap Err e)) c.in_default-error.not-Memory set
+      none = 位 set says. not_read t c.in-Err.error (位 e. c.in-Err.ensures.not_a_set (ap Err e)) (位 place e. c.in-Err.ensures.not_base64 place (ap Err e)) (位 place e. c.in-Err.ensures.short place (ap Err e)) c.in_default-error.not-Memory set
           (says_there (member_named c.args.members.now (codes "keys")) t set c.in-Some.ensures says);
     }
