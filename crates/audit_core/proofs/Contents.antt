@@ -2,28 +2,23 @@
 use Rattle.std.proofs.Common.{◌≡◌, ℕ, ◌+◌, List, [], length, map, sym, ap, ◌∙◌, arith}
 use Rattle.claim_tree.specs.Tree.{Text, Tree}
 use Rattle.digest_sites.specs.Given.{Given}
-use Rattle.digest_sites.specs.declared.site.Site as code
 use Rattle.issuer_core.specs.Decoys.{decoys_of}
 use Rattle.issuer_core.specs.Digests.{hidden_of, marked_claims}
 use Rattle.issuer_core.specs.Laid.{sorted}
 use Rattle.issuer_core.specs.Order.{Order}
 use Rattle.audit_core.specs.Audited.{ShowsClaims, HasDigests, HasDecoys, decoys_found, decoys_wanted}
 use Rattle.audit_core.specs.AuditSteps.{standing_text}
-use Rattle.audit_core.specs.Found.{AllDigests, listed_in, listed_sites, texts_from, trees_of}
+use Rattle.audit_core.specs.Found.{AllDigests, sites_in, texts_from, trees_of}
 use Rattle.audit_core.specs.Places.{places_at}
 use Rattle.audit_core.proofs.Alikes.{alike, sorted_alike}
 use Rattle.audit_core.proofs.ClosedPlaces.{roots}
 use Rattle.audit_core.proofs.Founds.{found_texts, sites_count, others_from, from_others}
-use Rattle.audit_core.proofs.Loops.{listed_count}
 use Rattle.audit_core.proofs.Soundness.{differ, each}
 
-abbrev AreListed : Tree → List Given → List (List code.Site) → Type 0
-AreListed p g lists = map listed_sites (trees_of p g) ≡ lists
-
-pub has_digests : (o : Order) (p : Tree) (g : List Given) (lists : List (List code.Site)) → ShowsClaims o p g → length g ≡ hidden_of o → AreListed p g lists
-    → AllDigests o.hash g (trees_of p g) → listed_in lists ≡ length g + length (decoys_of o) → HasDigests o p g
-has_digests o p g lists shows long listed form count = record {
-  count = sites_count p g ∙ sym (listed_count (trees_of p g)) ∙ ap listed_in listed ∙ count ∙ ap (λ (n : ℕ). n + length (decoys_of o)) long;
+pub has_digests : (o : Order) (p : Tree) (g : List Given) → ShowsClaims o p g → length g ≡ hidden_of o → AllDigests o.hash g (trees_of p g)
+    → sites_in (trees_of p g) ≡ length g + length (decoys_of o) → HasDigests o p g
+has_digests o p g shows long form count = record {
+  count = sites_count p g ∙ count ∙ ap (λ (n : ℕ). n + length (decoys_of o)) long;
   differ = differ p g shows.sound.referenced;
   each = each p g shows.sound.referenced;
   others = others_from o.hash p g form;
@@ -32,8 +27,8 @@ has_digests o p g lists shows long listed form count = record {
 pub all_digests_told : (o : Order) (p : Tree) (g : List Given) → HasDigests o p g → AllDigests o.hash g (trees_of p g)
 all_digests_told o p g h = from_others o.hash p g h.others
 
-pub count_told : (o : Order) (p : Tree) (g : List Given) (lists : List (List code.Site)) → length g ≡ hidden_of o → AreListed p g lists → HasDigests o p g → listed_in lists ≡ length g + length (decoys_of o)
-count_told o p g lists long listed h = sym (ap listed_in listed) ∙ listed_count (trees_of p g) ∙ sym (sites_count p g) ∙ h.count ∙ ap (λ (n : ℕ). n + length (decoys_of o)) (sym long)
+pub count_told : (o : Order) (p : Tree) (g : List Given) → length g ≡ hidden_of o → HasDigests o p g → sites_in (trees_of p g) ≡ length g + length (decoys_of o)
+count_told o p g long h = sym (sites_count p g) ∙ h.count ∙ ap (λ (n : ℕ). n + length (decoys_of o)) (sym long)
 
 found_are : (o : Order) (p : Tree) (g : List Given) (places : List Text) → length g ≡ hidden_of o → places ≡ places_at [] (marked_claims o)
     → map standing_text (decoys_found (marked_claims o) p g) ≡ texts_from g places 0 (trees_of p g)

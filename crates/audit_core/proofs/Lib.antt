@@ -6,6 +6,8 @@ pub mod Alikes
 pub mod Founds
 pub mod Soundness
 pub mod Loops
+mod Stranges
+mod Counting
 pub mod Wanteds
 mod Unwritten
 pub mod Writtens
@@ -13,6 +15,7 @@ pub mod Contents
 mod NoOthers
 pub mod Parts
 pub mod Verdicts
+mod Askeds
 mod Answering
 pub mod IssuedDepths
 pub mod IssuedHashes

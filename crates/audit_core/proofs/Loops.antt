@@ -1,8 +1,7 @@
 -- Steps of the loops over sites and over entries of decoys.
-use Rattle.std.proofs.Common.{◌≡◌, ℕ, zero, suc, ◌+◌, ◌<◌, ◌≤◌, List, [], ◌∷◌, ◌++◌, map, length, take, drop, get_or, replicate, Bool, true, false, not, cond, ◌||◌, inl, inr, add-one, refl, sym, ap, ap₂, ◌∙◌, subst, arith, append_assoc, decimal}
+use Rattle.std.proofs.Common.{◌≡◌, ℕ, zero, suc, ◌+◌, ◌<◌, ◌≤◌, List, [], ◌∷◌, ◌++◌, map, length, take, drop, get_or, replicate, Bool, true, false, not, cond, ◌||◌, ◌⊎◌, inl, inr, add-one, refl, sym, ap, ap₂, ◌∙◌, subst, arith, append_assoc, decimal}
 use Rattle.std.specs.Prelude.{bytes_eq}
 use Rattle.std.proofs.lemmas.List.{append-nil, map-append, length-map, take_all, drop_all}
-use Rattle.std.proofs.lemmas.List.Elements.{filter-append}
 use Rattle.claim_tree.specs.Tree.{Text, Tree, elements_len}
 use Rattle.claim_tree.specs.Lists.{In}
 use Rattle.claim_tree.specs.ListViews.{elements_of}
@@ -13,7 +12,6 @@ use Rattle.std.proofs.lemmas.Bool.{true≢false}
 use Rattle.digest_sites.specs.Given.{Given}
 use Rattle.digest_sites.specs.GivenView.{given_of}
 use Rattle.digest_sites.specs.declared.given.Given as given
-use Rattle.digest_sites.specs.SiteCalls.{listed}
 use Rattle.digest_sites.specs.Sites.{Site, sites}
 use Rattle.digest_sites.specs.declared.site.Site as code
 use Rattle.digest_sites.specs.declared.site.SiteKind.TheVariants.{Element}
@@ -24,7 +22,7 @@ use Rattle.issuer_core.specs.Decoys.{decoy_paths}
 use Rattle.audit_core.specs.declared.found.Found.{Found}
 use Rattle.audit_core.specs.Audited.{standing, is_given, IsDigestText}
 use Rattle.audit_core.specs.AuditSteps.{standing_text}
-use Rattle.audit_core.specs.Found.{strange, site_text, AreDigests, AllDigests, AddsSites, AddsStrange, listed_sites, listed_in, sites_in, root_of, texts_from, IsFoundIn}
+use Rattle.audit_core.specs.Found.{strange, site_text, AreDigests, AllDigests, AddsSites, AddsStrange, AddsStranges, strange_listed, root_of, texts_from, IsFoundIn}
 use Rattle.audit_core.specs.Wanted.{element_texts}
 
 -- ---- what stands at a place of a list that is another, mapped
@@ -56,49 +54,53 @@ there f xs items k item same l e =
 
 -- ---- sites
 
-pub no_sites : (hash : HashAlg) (given : List Given) (root : Text) (found : Found) → AddsSites hash given root [] found found
-no_sites hash given root found = record { standings = sym (append-nil found.standings.items); keeps = λ e. e; form = λ e s m. absurd m; is_form = λ e h. e }
+pub no_stranges : (hash : HashAlg) (root : Text) (found : Found) → AddsStranges hash root [] found found
+no_stranges hash root found = record { standings = sym (append-nil found.standings.items); keeps = λ e. e; form = λ e s m. absurd m; is_form = λ e h. e }
 
-digests_join : (hash : HashAlg) (given : List Given) (ss : List Site) (s : Site) → AreDigests hash given ss → AreDigests hash given (s ∷ []) → AreDigests hash given (ss ++ s ∷ [])
-digests_join hash given ss s a b z m e = elim (In-append z ss (s ∷ []) m) [ inl h ↦ a z h e | inr h ↦ b z h e ]
-
-digests_left : (hash : HashAlg) (given : List Given) (ss rs : List Site) → AreDigests hash given (ss ++ rs) → AreDigests hash given ss
-digests_left hash given ss rs h z m e = h z (In-left z ss rs m) e
-
-last_digest : (hash : HashAlg) (given : List Given) (ss : List Site) (s : Site) → AreDigests hash given (ss ++ s ∷ []) → AreDigests hash given (s ∷ [])
-last_digest hash given ss s h z m e = h z (In-right z ss (s ∷ []) m) e
-
--- one that is that of a disclosure
-pub known_site : (hash : HashAlg) (given : List Given) (root : Text) (ss : List Site) (s : Site) (old new : Found) → AddsSites hash given root ss old new → is_given given s.digest ≡ true
-    → AddsSites hash given root (ss ++ s ∷ []) old new
-known_site hash given root ss s old new a known = record {
-  standings = a.standings ∙ ap (λ (ys : List Site). old.standings.items ++ map (site_text root) ys) (sym (filter-append (λ (z : Site). not (is_given given z.digest)) ss (s ∷ []) ∙ ap (λ (b : Bool). strange given ss ++ cond (not b) (s ∷ []) []) known ∙ append-nil (strange given ss)));
-  keeps = a.keeps;
-  form = λ e. digests_join hash given ss s (a.form e) (λ z m f. known_clash z m f);
-  is_form = λ e h. a.is_form e (digests_left hash given ss (s ∷ []) h);
-}
-  where
-    known_clash : {A : Type 0} (z : Site) → In z (s ∷ []) → is_given given z.digest ≡ false → A
-    known_clash z (inl same) f = let w = sym known ∙ ap (λ (x : Site). is_given given x.digest) (sym same) ∙ f in absurd (true≢false w)
-    known_clash z (inr m) f = absurd m
-
--- one that is not
-pub strange_site : (hash : HashAlg) (given : List Given) (root : Text) (ss : List Site) (s : Site) (old mid new : Found) → AddsSites hash given root ss old mid → is_given given s.digest ≡ false
-    → AddsStrange hash root s mid new → AddsSites hash given root (ss ++ s ∷ []) old new
-strange_site hash given root ss s old mid new a other b = record {
+pub one_strange : (hash : HashAlg) (root : Text) (ss : List Site) (s : Site) (old mid new : Found) → AddsStranges hash root ss old mid → AddsStrange hash root s mid new
+    → AddsStranges hash root (ss ++ s ∷ []) old new
+one_strange hash root ss s old mid new a b = record {
   standings =
       b.standings ∙ ap (λ (xs : List Text). xs ++ site_text root s ∷ []) a.standings
-      ∙ append_assoc old.standings.items (map (site_text root) (strange given ss)) (site_text root s ∷ [])
-      ∙ ap (λ (xs : List Text). old.standings.items ++ xs)
-      (sym (ap (map (site_text root)) (filter-append (λ (z : Site). not (is_given given z.digest)) ss (s ∷ []) ∙ ap (λ (t : Bool). strange given ss ++ cond (not t) (s ∷ []) []) other) ∙ map-append (site_text root) (strange given ss) (s ∷ [])));
+      ∙ append_assoc old.standings.items (map (site_text root) ss) (site_text root s ∷ [])
+      ∙ ap (λ (xs : List Text). old.standings.items ++ xs) (sym (map-append (site_text root) ss (s ∷ [])));
   keeps = λ e. a.keeps (b.keeps e);
-  form = λ e. digests_join hash given ss s (a.form (b.keeps e)) (λ z m f. only z m (b.form e));
-  is_form = λ e h. b.is_form (a.is_form e (digests_left hash given ss (s ∷ []) h)) (last_digest hash given ss s h s (inl refl) other);
+  form = λ e z m. both z (a.form (b.keeps e)) (b.form e) (In-append z ss (s ∷ []) m);
+  is_form = λ e h. b.is_form (a.is_form e (λ z m. h z (In-left z ss (s ∷ []) m))) (h s (In-right s ss (s ∷ []) (inl refl)));
 }
   where
-    only : (z : Site) → In z (s ∷ []) → IsDigestText hash s.digest → IsDigestText hash z.digest
-    only z (inl same) d = subst (λ (x : Site). IsDigestText hash x.digest) (sym same) d
-    only z (inr m) d = absurd m
+    both : (z : Site) → ((x : Site) → In x ss → IsDigestText hash x.digest) → IsDigestText hash s.digest → In z ss ⊎ In z (s ∷ []) → IsDigestText hash z.digest
+    both z f d (inl m) = f z m
+    both z f d (inr (inl same)) = subst (λ (x : Site). IsDigestText hash x.digest) (sym same) d
+    both z f d (inr (inr m)) = absurd m
+
+in_strange : (given : List Given) (ss : List Site) (s : Site) → In s ss → is_given given s.digest ≡ false → In s (strange given ss)
+in_strange given [] s m e = absurd m
+in_strange given (x ∷ ss) s m e = go (is_given given x.digest) refl m (λ k. in_strange given ss s k e)
+  where
+    go : (b : Bool) → is_given given x.digest ≡ b → In s (x ∷ ss) → (In s ss → In s (strange given ss)) → In s (cond (not b) (x ∷ strange given ss) (strange given ss))
+    go true h (inl q) ih = let w = sym h ∙ ap (λ (z : Site). is_given given z.digest) (sym q) ∙ e in absurd (true≢false w)
+    go true h (inr k) ih = ih k
+    go false h (inl q) ih = inl q
+    go false h (inr k) ih = inr (ih k)
+
+strange_in : (given : List Given) (ss : List Site) (s : Site) → In s (strange given ss) → In s ss × (is_given given s.digest ≡ false)
+strange_in given [] s m = absurd m
+strange_in given (x ∷ ss) s m = go (is_given given x.digest) refl m (λ k. let w = strange_in given ss s k in (inr w.0, w.1))
+  where
+    go : (b : Bool) → is_given given x.digest ≡ b → In s (cond (not b) (x ∷ strange given ss) (strange given ss))
+        → (In s (strange given ss) → In s (x ∷ ss) × (is_given given s.digest ≡ false)) → In s (x ∷ ss) × (is_given given s.digest ≡ false)
+    go true h k ih = ih k
+    go false h (inl q) ih = (inl q, ap (λ (z : Site). is_given given z.digest) q ∙ h)
+    go false h (inr k) ih = ih k
+
+pub adds_sites : (hash : HashAlg) (given : List Given) (root : Text) (ss : List Site) (old new : Found) → AddsStranges hash root (strange given ss) old new → AddsSites hash given root ss old new
+adds_sites hash given root ss old new a = record {
+  standings = a.standings;
+  keeps = a.keeps;
+  form = λ e s m other. a.form e s (in_strange given ss s m other);
+  is_form = λ e h. a.is_form e (λ s m. let w = strange_in given ss s m in h s w.0 w.1);
+}
 
 -- ---- trees
 
@@ -113,10 +115,6 @@ all_front hash given (u ∷ ts) t a = (a.0, all_front hash given ts t a.1)
 pub all_last : (hash : HashAlg) (given : List Given) (ts : List Tree) (t : Tree) → AllDigests hash given (ts ++ t ∷ []) → AreDigests hash given (sites t)
 all_last hash given [] t a = a.0
 all_last hash given (u ∷ ts) t a = all_last hash given ts t a.1
-
-pub listed_count : (ts : List Tree) → listed_in (map listed_sites ts) ≡ sites_in ts
-listed_count [] = refl
-listed_count (t ∷ ts) = ap₂ ◌+◌ (length-map (sites t) listed) (listed_count ts)
 
 -- ---- decoys
 
@@ -194,17 +192,17 @@ given_all items gs k digest l same = ap (λ (ys : List given.Given). is_given (m
 
 -- ---- the lists of sites
 
-pub lists_end : (payload : Tree) (items : List given.Given) (gs : List Given) (k : ℕ) (lists : List (List code.Site)) → map given_of items ≡ gs → length items ≤ k
-    → lists ++ map (λ (x : given.Given). listed_sites (tree_of x.value)) (drop k items) ≡ listed_sites payload ∷ map (λ (x : given.Given). listed_sites (tree_of x.value)) items
-    → listed_sites payload ∷ map listed_sites (map (λ (x : Given). x.value) gs) ≡ lists
-lists_end payload items gs k lists same l inv =
+pub lists_end : (f : Tree → List code.Site) (payload : Tree) (items : List given.Given) (gs : List Given) (k : ℕ) (lists : List (List code.Site)) → map given_of items ≡ gs → length items ≤ k
+    → lists ++ map (λ (x : given.Given). f (tree_of x.value)) (drop k items) ≡ f payload ∷ map (λ (x : given.Given). f (tree_of x.value)) items
+    → f payload ∷ map f (map (λ (x : Given). x.value) gs) ≡ lists
+lists_end f payload items gs k lists same l inv =
     let none = drop_all k items l in
-    let all = sym (append-nil lists) ∙ ap (λ (ys : List given.Given). lists ++ map (λ (x : given.Given). listed_sites (tree_of x.value)) ys) (sym none) ∙ inv in
-    ap (λ (ls : List (List code.Site)). listed_sites payload ∷ ls) (ap (λ (ys : List Given). map listed_sites (map (λ (x : Given). x.value) ys)) (sym same) ∙ each items) ∙ sym all
+    let all = sym (append-nil lists) ∙ ap (λ (ys : List given.Given). lists ++ map (λ (x : given.Given). f (tree_of x.value)) ys) (sym none) ∙ inv in
+    ap (λ (ls : List (List code.Site)). f payload ∷ ls) (ap (λ (ys : List Given). map f (map (λ (x : Given). x.value) ys)) (sym same) ∙ each items) ∙ sym all
   where
-    each : (ys : List given.Given) → map listed_sites (map (λ (x : Given). x.value) (map given_of ys)) ≡ map (λ (x : given.Given). listed_sites (tree_of x.value)) ys
+    each : (ys : List given.Given) → map f (map (λ (x : Given). x.value) (map given_of ys)) ≡ map (λ (x : given.Given). f (tree_of x.value)) ys
     each [] = refl
-    each (y ∷ ys) = ap (λ (ls : List (List code.Site)). listed_sites (tree_of y.value) ∷ ls) (each ys)
+    each (y ∷ ys) = ap (λ (ls : List (List code.Site)). f (tree_of y.value) ∷ ls) (each ys)
 
 -- ---- the trees
 
@@ -214,7 +212,7 @@ pub record IsSoFar (hash : HashAlg) (gs : List Given) (places : List Text) (tree
   pub is_form : AllDigests hash gs (take k trees) → found.of_form ≡ true
 
 pub trees_step : (hash : HashAlg) (gs : List Given) (places : List Text) (trees : List Tree) (k : ℕ) (item : List code.Site) (root : Text) (old new : Found)
-    → (h : IsThere listed_sites trees k item) → root ≡ root_of places k → AddsSites hash gs root (sites h.x) old new
+    → (h : IsThere (strange_listed gs) trees k item) → root ≡ root_of places k → AddsSites hash gs root (sites h.x) old new
     → IsSoFar hash gs places trees k old → IsSoFar hash gs places trees (k + 1) new
 trees_step hash gs places trees k item root old new h r a s = record {
   standings =
@@ -227,11 +225,11 @@ trees_step hash gs places trees k item root old new h r a s = record {
   is_form = λ all. let whole = subst (AllDigests hash gs) h.so_far all in a.is_form (s.is_form (all_front hash gs (take k trees) h.x whole)) (all_last hash gs (take k trees) h.x whole);
 }
 
-pub trees_end : (hash : HashAlg) (gs : List Given) (places : List Text) (trees : List Tree) (lists : List (List code.Site)) (k : ℕ) (found : Found) → map listed_sites trees ≡ lists → length lists ≤ k
+pub trees_end : (hash : HashAlg) (gs : List Given) (places : List Text) (trees : List Tree) (lists : List (List code.Site)) (k : ℕ) (found : Found) → map (strange_listed gs) trees ≡ lists → length lists ≤ k
     → IsSoFar hash gs places trees k found → IsFoundIn hash gs places trees found
 trees_end hash gs places trees lists k found same l s =
-    let whole = take_whole listed_sites trees lists k same l in
-    let none : drop k trees ≡ [] = drop_all k trees (subst (λ n. n ≤ k) (length-map trees listed_sites) (subst (λ ys. length ys ≤ k) (sym same) l)) in
+    let whole = take_whole (strange_listed gs) trees lists k same l in
+    let none : drop k trees ≡ [] = drop_all k trees (subst (λ n. n ≤ k) (length-map trees (strange_listed gs)) (subst (λ ys. length ys ≤ k) (sym same) l)) in
     record {
       standings = sym (append-nil found.standings.items) ∙ ap (λ (ts : List Tree). found.standings.items ++ texts_from gs places k ts) (sym none) ∙ s.standings;
       form = λ e. subst (AllDigests hash gs) whole (s.form e);

@@ -6,7 +6,6 @@ use Rattle.claim_tree.specs.Tree.{Text, Tree}
 use Rattle.claim_tree.specs.Lists.{In}
 use Rattle.claim_tree.proofs.Lists.{bytes_refl, bytes_same, In-map, list_any-from, list_any-In}
 use Rattle.digest_sites.specs.Given.{Given}
-use Rattle.digest_sites.specs.declared.site.Site as code
 use Rattle.marked_tree.proofs.Sums.{sum_of}
 use Rattle.rebuild_core.specs.Reached.{OwnedSite, all_sites, all_digests, given_digests}
 use Rattle.rebuild_core.specs.Soundness.{IsReferencedOnce}
@@ -16,10 +15,9 @@ use Rattle.issuer_core.specs.Digests.{hidden_of, marked_claims}
 use Rattle.issuer_core.specs.Order.{Order}
 use Rattle.marked_tree.specs.Paths.{Path}
 use Rattle.audit_core.specs.Audited.{Standing, HasDigests, HasDecoys, IsEachAsOften, is_given, decoys_found, standings_from}
-use Rattle.audit_core.specs.Found.{AreCounted, listed_in, trees_of}
+use Rattle.audit_core.specs.Found.{AreCounted}
 use Rattle.audit_core.proofs.Contents.{has_digests}
 use Rattle.audit_core.proofs.Founds.{from_others, is_strange, sites_count, stand_of}
-use Rattle.audit_core.proofs.Loops.{listed_count}
 use Rattle.audit_core.proofs.Soundness.{differ, each}
 
 abbrev one : Bool → ℕ
@@ -72,17 +70,17 @@ no_paths : (ps : List Path) → length ps ≡ 0 → ps ≡ []
 no_paths [] e = refl
 no_paths (p ∷ ps) e = absurd (omega (arith, e))
 
-pub no_others : (o : Order) (p : Tree) (g : List Given) (lists : List (List code.Site)) → length (decoys_of o) ≡ 0 → length g ≡ hidden_of o → AreCounted o p g lists
+pub no_others : (o : Order) (p : Tree) (g : List Given) → length (decoys_of o) ≡ 0 → length g ≡ hidden_of o → AreCounted o p g
     → HasDigests o p g × HasDecoys o p g
-no_others o p g lists none long counted =
+no_others o p g none long counted =
     let many : length (all_digests p g) ≡ length g =
-    omega (arith, sites_count p g, listed_count (trees_of p g), ap listed_in counted.listed, counted.count, none) in
+    omega (arith, sites_count p g, counted.count, none) in
     let given = all_given p g counted.shows.sound.referenced many in
     let form = from_others o.hash p g (λ d m e. absurd (true≢false (sym (given d m) ∙ e))) in
     let found : decoys_found (marked_claims o) p g ≡ [] =
     ap (map (stand_of (marked_claims o))) (none_left (is_strange g) (all_sites p g) (λ x m. ap not (given x.site.digest (In-map (λ (z : OwnedSite). z.site.digest) x (all_sites p g) m)))) in
     let wanted = ap (λ (ps : List Path). standings_from o.payload ps 0 ps) (no_paths (decoys_of o) none) in (
-      has_digests o p g lists counted.shows long counted.listed form counted.count,
+      has_digests o p g counted.shows long form counted.count,
       subst (λ (xs : List Standing). IsEachAsOften xs (standings_from o.payload (decoys_of o) 0 (decoys_of o))) (sym found)
           (subst (λ (xs : List Standing). IsEachAsOften [] xs) (sym wanted) (λ x. refl)),
     )

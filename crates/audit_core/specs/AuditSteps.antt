@@ -4,6 +4,7 @@ use Rattle.std.specs.List.{AllZip}
 use Rattle.b64url_text.specs.Base64url.{Decodes}
 use Rattle.claim_tree.specs.Tree.{Text, Tree, leaf, text, get}
 use Rattle.claim_tree.specs.Path.{pointer_text}
+use Rattle.compact_form.specs.declared.parts.Parts.{Parts}
 use Rattle.digest_sites.specs.Given.{Given}
 use Rattle.digest_sites.specs.declared.site.SiteKind.{SiteKind}
 use Rattle.digest_sites.specs.declared.site.SiteKind.TheVariants.{Member, Element}
@@ -44,6 +45,13 @@ HasUnsalted hash disclosures = (given : List Given) → AllZip (GivesSalted hash
 -- the text is not that of a payload that names the hash
 abbrev pub IsOtherPayload : HashAlg → Text → Type 0
 IsOtherPayload hash payload = (body : Tree) → IsWrittenAs payload body → NamesHash hash body → ⊥
+
+-- the payload names the hash, and there are so many disclosures
+pub record IsWrittenWith (hash : HashAlg) (hidden : ℕ) (parts : Parts) (body : Tree) (given : List Given) : Type 0 where
+  pub payload : IsWrittenAs parts.signed.payload body
+  pub alg : NamesHash hash body
+  pub count : length parts.disclosures ≡ hidden
+  pub disclosures : AllZip (GivesSalted hash) parts.disclosures given
 
 -- the look-ups of a token, where it is written as it is to be
 abbrev pub IsTokenWithin : Order → Token → ℕ → ℕ → Type 0

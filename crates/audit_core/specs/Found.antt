@@ -35,7 +35,14 @@ pub record AddsSites (hash : HashAlg) (given : List Given) (root : Text) (ss : L
   pub form : new.of_form ≡ true → AreDigests hash given ss
   pub is_form : old.of_form ≡ true → AreDigests hash given ss → new.of_form ≡ true
 
--- the same of one, whose digest is of no disclosure
+-- the same of sites whose digests are of no disclosure
+pub record AddsStranges (hash : HashAlg) (root : Text) (ss : List Site) (old new : Found) : Type 0 where
+  pub standings : new.standings.items ≡ old.standings.items ++ map (site_text root) ss
+  pub keeps : new.of_form ≡ true → old.of_form ≡ true
+  pub form : new.of_form ≡ true → (s : Site) → In s ss → IsDigestText hash s.digest
+  pub is_form : old.of_form ≡ true → ((s : Site) → In s ss → IsDigestText hash s.digest) → new.of_form ≡ true
+
+-- the same of one
 pub record AddsStrange (hash : HashAlg) (root : Text) (s : Site) (old new : Found) : Type 0 where
   pub standings : new.standings.items ≡ old.standings.items ++ site_text root s ∷ []
   pub keeps : new.of_form ≡ true → old.of_form ≡ true
@@ -48,9 +55,9 @@ is_in keys digest = list_any (λ (key : Bor Text). bytes_eq digest key.now) keys
 
 -- ---- all sites of a token
 
--- the sites of a tree as they are listed
-abbrev pub listed_sites : Tree → List code.Site
-listed_sites t = map listed (sites t)
+-- the strange sites of a tree as they are listed
+abbrev pub strange_listed : List Given → Tree → List code.Site
+strange_listed given t = map listed (strange given (sites t))
 
 -- the payload, and then the values
 abbrev pub trees_of : Tree → List Given → List Tree
@@ -81,13 +88,7 @@ abbrev pub sites_in : List Tree → ℕ
 sites_in [] = 0
 sites_in (t ∷ ts) = length (sites t) + sites_in ts
 
--- the same, as they are listed
-abbrev pub listed_in : List (List code.Site) → ℕ
-listed_in [] = 0
-listed_in (l ∷ ls) = length l + listed_in ls
-
--- the payload and the values show the claims, and these are their sites, as many as the digests are to be
-pub record AreCounted (o : Order) (payload : Tree) (given : List Given) (lists : List (List code.Site)) : Type 0 where
+-- the payload and the values show the claims, and have as many sites as the digests are to be
+pub record AreCounted (o : Order) (payload : Tree) (given : List Given) : Type 0 where
   pub shows : ShowsClaims o payload given
-  pub listed : map listed_sites (trees_of payload given) ≡ lists
-  pub count : listed_in lists ≡ length given + length (decoys_of o)
+  pub count : sites_in (trees_of payload given) ≡ length given + length (decoys_of o)

@@ -3,10 +3,13 @@ pub mod Audit
 pub mod AuditCalls
 pub mod AuditRefusal
 pub mod AuditSteps
+pub mod Asked
 pub mod SameMarked
 pub mod SortedLists
 pub mod Places
 pub mod Found
+pub mod Counts
+pub mod Strange
 pub mod Wanted
 pub mod AuditLaws
 pub mod AuditRun

@@ -9,7 +9,8 @@ ghost use Rattle.cli_parts.specs.Stops.{IsReply, OnUnread};
 ghost use Rattle.issuer_core.specs.OrderFile.{IsOrderFile};
 ghost use Rattle.audit_core.specs.AuditRun.{AuditAnswers, AuditEnds, AuditsFiles, IsAudit};
 
-use crate::{AuditError, audit, refusal_line};
+use crate::auditing::audit_owned;
+use crate::{AuditError, refusal_line};
 use cli_parts::{FETCH_MAX, Stop, as_line, fetch_file, finish, tell, unreadable};
 use digest_index::Steps;
 use hmac_sign::Signer;
@@ -18,21 +19,14 @@ use sd_outside::{Cabinet, Sink, Status, TextBox};
 use std::alloc::Global;
 
 // The answer for what an order file says.
-fn audit_for(alloc: Global, asked: &IssueFile, token_file: &[u8]) -> Result<String, Stop>
-    requires depth { depth (tree_of asked.now.order.payload) ≤ 127 }
-    requires ranged { IsRanged (tree_of asked.now.order.payload) }
-    ensures replies { (order_file : List ℕ) → IsOrderFile order_file asked.now → IsReply (AuditAnswers order_file token_file.now) result }
+fn audit_for(alloc: Global, asked: IssueFile, token_file: &[u8]) -> Result<String, Stop>
+    requires depth { depth (tree_of asked.order.payload) ≤ 127 }
+    requires ranged { IsRanged (tree_of asked.order.payload) }
+    ensures replies { (order_file : List ℕ) → IsOrderFile order_file asked → IsReply (AuditAnswers order_file token_file.now) result }
     ensures read { IfErr result (λ stop. OnUnread stop (λ _. ⊥)) }
 {
-    let key = &asked.key;
-    match audit(
-        alloc,
-        &asked.order,
-        key.alg(),
-        key,
-        token_file,
-        &mut Steps::new(),
-    ) {
+    let IssueFile { order, key } = asked;
+    match audit_owned(alloc, order, key.alg(), &key, token_file, &mut Steps::new()) {
         Ok(()) => Ok(as_line(TextBox::make(alloc, "yes")?)?),
         Err(AuditError::Memory) => Err(Stop::Memory),
         Err(error) => Err(Stop::Refused(as_line(refusal_line(alloc, &error)?)?)),
@@ -45,7 +39,7 @@ pub fn audit_files(alloc: Global, order_file: &[u8], token_file: &[u8]) -> Resul
     ensures read { IfErr result (λ stop. OnUnread stop (λ _. ⊥)) }
 {
     match read_order(alloc, order_file) {
-        Ok(asked) => audit_for(alloc, &asked, token_file),
+        Ok(asked) => audit_for(alloc, asked, token_file),
         Err(fault) => Err(unreadable(alloc, fault)),
     }
 }

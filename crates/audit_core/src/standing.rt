@@ -33,11 +33,10 @@ pub(crate) fn standing_of(
     Ok(TextBox::from_string(format!(in alloc; "{kind}{root}{at}")?))
 }
 
-// Whether each text is in one list as often as in the other.
-pub(crate) fn are_alike(mut one: Vec<TextBox>, mut other: Vec<TextBox>) -> Result<bool, NoMemory>
-    ensures { IfOk result (λ are. IsTrue are ↔ (sorted one.items ≡ sorted other.items)) }
+// Whether each text is in the list as often as in the other, which is sorted.
+pub(crate) fn are_alike(mut texts: Vec<TextBox>, wanted: &[TextBox]) -> Result<bool, NoMemory>
+    ensures { IfOk result (λ are. IsTrue are ↔ (sorted texts.items ≡ wanted.now)) }
 {
-    one.sort()?;
-    other.sort()?;
-    Ok(one == other)
+    texts.sort()?;
+    Ok(texts.as_slice() == wanted)
 }

@@ -7,10 +7,8 @@ ghost use Rattle.digest_sites.specs.Given.{Given as SeenGiven};
 ghost use Rattle.digest_sites.specs.GivenView.{given_of};
 ghost use Rattle.disclosure.specs.Disclosure.{array_of};
 ghost use Rattle.rebuild_core.specs.Answer.{IsPayload, ValuesShallow, ValuesRanged};
-ghost use Rattle.issuer_core.specs.Order.{order_of};
-ghost use Rattle.issuer_core.specs.Digests.{hidden_of};
-ghost use Rattle.audit_core.specs.Audited.{IsWrittenAs, GivesSalted, IsWrittenFor};
-ghost use Rattle.audit_core.specs.AuditSteps.{NamesHash, IsSalt, IsUnsalted, HasUnsalted, IsOtherPayload};
+ghost use Rattle.audit_core.specs.Audited.{IsWrittenAs, GivesSalted};
+ghost use Rattle.audit_core.specs.AuditSteps.{NamesHash, IsSalt, IsUnsalted, HasUnsalted, IsOtherPayload, IsWrittenWith};
 
 use crate::compact::CompactReader;
 use b64url_text::decode_into;
@@ -18,7 +16,6 @@ use claim_tree::{Tree, get};
 use digest_index::seed_of;
 use digest_sites::{Given, GivenList};
 use disclosure::{DisclosureParts, HashAlg, digest, parts_of};
-use issuer_core::Order;
 use json_form::{Disclosures, TokenView};
 use sd_outside::NoMemory;
 use std::alloc::Global;
@@ -96,10 +93,11 @@ fn read_salted(
     }
 }
 
-// What the disclosures give, where each is such.
+// What the disclosures give, where each is such. They are so many.
 fn read_given(
     alloc: Global,
     hash: HashAlg,
+    count: usize,
     reader: &mut CompactReader,
     disclosures: Disclosures<'_>,
 ) -> Result<Option<GivenList>, NoMemory>
@@ -108,7 +106,7 @@ fn read_given(
     ensures shallow { IfOk result (λ read. IfSome read ValuesShallow) }
     ensures none { IfOk result (λ read. IfNone read (HasUnsalted hash disclosures.entry)) }
 {
-    let mut given = GivenList::new(alloc);
+    let mut given = GivenList::with_capacity(alloc, count)?;
     for text in disclosures {
         match read_salted(alloc, hash, reader, text)? {
             Some(one) => given.push(one)?,
@@ -151,32 +149,32 @@ fn read_payload(
     Ok(Some(body))
 }
 
-// What is read of a token, where it is written as the order asks for, which hides so many places.
+// What is read of a token, where it is written with this hash and has so many disclosures.
 pub(crate) fn read_written(
     alloc: Global,
-    order: &Order,
+    hash: HashAlg,
     hidden: u32,
     token: &TokenView<'_>,
 ) -> Result<Option<Written>, NoMemory>
-    requires { hidden ≡ hidden_of (order_of order.now) }
-    ensures some { IfOk result (λ read. IfSome read (λ w. IsWrittenFor (order_of order.now) token.now.parts (tree_of w.body) w.given)) }
+    ensures some { IfOk result (λ read. IfSome read (λ w. IsWrittenWith hash hidden token.now.parts (tree_of w.body) w.given)) }
     ensures object { IfOk result (λ read. IfSome read (λ w. IsPayload (tree_of w.body))) }
     ensures ranged { IfOk result (λ read. IfSome read (λ w. IsRanged (tree_of w.body))) }
     ensures depth { IfOk result (λ read. IfSome read (λ w. depth_of (tree_of w.body) ≤ 127)) }
     ensures values_ranged { IfOk result (λ read. IfSome read (λ w. ValuesRanged w.given)) }
     ensures shallow { IfOk result (λ read. IfSome read (λ w. ValuesShallow w.given)) }
     ensures count { IfOk result (λ read. IfSome read (λ w. length w.given ≡ hidden)) }
-    ensures none { IfOk result (λ read. IfNone read ((body : SeenTree) (given : List SeenGiven) → IsWrittenFor (order_of order.now) token.now.parts body given → ⊥)) }
+    ensures none { IfOk result (λ read. IfNone read ((body : SeenTree) (given : List SeenGiven) → IsWrittenWith hash hidden token.now.parts body given → ⊥)) }
 {
-    if token.count() != hidden as usize {
+    let count = token.count();
+    if count != hidden as usize {
         return Ok(None);
     }
     let mut reader = CompactReader::new(alloc);
     let signed = token.signed();
-    let Some(body) = read_payload(alloc, order.hash, &mut reader, signed.payload)? else {
+    let Some(body) = read_payload(alloc, hash, &mut reader, signed.payload)? else {
         return Ok(None);
     };
-    match read_given(alloc, order.hash, &mut reader, token.disclosures())? {
+    match read_given(alloc, hash, count, &mut reader, token.disclosures())? {
         Some(given) => Ok(Some(Written {
             body,
             given,

@@ -1,28 +1,27 @@
-use Rattle.std.proofs.Common.{◌≡◌, sym, ap, refl, subst}
-use Rattle.std.proofs.lemmas.Result.{IfErr-weaker}
-use Rattle.json_form.specs.Token.{IsToken}
-use Rattle.issuer_core.specs.Order.{order_of}
-use Rattle.audit_core.specs.Audit.{of_text}
-use Rattle.audit_core.specs.declared.errors.AuditError.TheVariants.{Token as OnCondition}
-use Rattle.audit_core.proofs.Verdicts.{order_told, part_told, early_part, passes_of}
+use Rattle.std.proofs.Common.{◌≡◌, ◌≤◌, sym, subst}
+use Rattle.std.specs.Result.{OnOk, IfErr}
+use Rattle.claim_tree.specs.Tree.{IsRanged, depth}
+use Rattle.audit_core.specs.Audit.{PassesAudit, FailsAudit}
+use Rattle.audit_core.specs.AuditCalls.{IsAuditRefused, IsAuditedWithin, IsEarly}
 use Rattle.audit_core.proofs.auditing.audit.Goals as goal
 
-pub returns-in-Err-clause-refused : goal.returns-in-Err-clause-refused
-returns-in-Err-clause-refused g c = order_told _ _ _ _ c.in-Err.error c.in-Err.ensures.refused
+pub audit_owned-requires-clause-depth : goal.audit_owned-requires-clause-depth
+audit_owned-requires-clause-depth g c = subst (λ o. depth o.payload ≤ 127) (sym c.in_ok-owned.ensures) c.requires.depth
 
-pub returns-in-Err-Fault-clause-refused : goal.returns-in-Err-Fault-clause-refused
-returns-in-Err-Fault-clause-refused g c =
-    of_text c.in-Err-Fault.fault (passes_of c.judge_order.result c.in_default.not-Err c.judge_order.ensures.passes)
-    (c.in-Err-Fault.ensures.refused c.in-Err-Fault.fault (rw c.in-Err-Fault.field-0-is refl)) (ap OnCondition c.in-Err-Fault.fault-is)
+pub audit_owned-requires-clause-ranged : goal.audit_owned-requires-clause-ranged
+audit_owned-requires-clause-ranged g c = subst (λ o. IsRanged o.payload) (sym c.in_ok-owned.ensures) c.requires.ranged
+
+pub returns-clause-passes : goal.returns-clause-passes
+returns-clause-passes g c =
+    subst (λ o. OnOk c.audit_owned.result (PassesAudit o c.args.alg (g.K.Signatures.good c.args.checker.now) c.args.text.now)) c.in_ok-owned.ensures c.audit_owned.ensures.passes
 
 pub returns-clause-refused : goal.returns-clause-refused
 returns-clause-refused g c =
-    let passes = passes_of c.judge_order.result c.in_default.not-Err c.judge_order.ensures.passes in
-    let read = subst (IsToken c.args.text.now) (sym c.view.ensures) c.in-Ok.ensures.ok in
-    IfErr-weaker c.judge_token.result _ _ (λ e h. part_told (order_of c.args.order.now) c.args.alg (g.K.Signatures.good c.args.checker.now) c.args.text.now c.view.result passes read e h) c.judge_token.ensures.differs
+    subst (λ o. IfErr c.audit_owned.result (IsAuditRefused o c.args.alg (g.K.Signatures.good c.args.checker.now) c.args.text.now)) c.in_ok-owned.ensures c.audit_owned.ensures.refused
+
+pub returns-clause-within : goal.returns-clause-within
+returns-clause-within g c = subst (λ o. IsAuditedWithin o c.args.text.now c.args.steps.now c.audit_owned.new.steps) c.in_ok-owned.ensures c.audit_owned.ensures.within
 
 pub returns-clause-uncounted : goal.returns-clause-uncounted
 returns-clause-uncounted g c =
-    let passes = passes_of c.judge_order.result c.in_default.not-Err c.judge_order.ensures.passes in
-    let read = subst (IsToken c.args.text.now) (sym c.view.ensures) c.in-Ok.ensures.ok in
-    early_part (order_of c.args.order.now) c.args.alg (g.K.Signatures.good c.args.checker.now) c.args.text.now c.view.result passes read (c.judge_token.new.steps ≡ c.args.steps.now) c.judge_token.ensures.uncounted
+    subst (λ o. (error : _) → IsEarly error → FailsAudit o c.args.alg (g.K.Signatures.good c.args.checker.now) c.args.text.now error → c.audit_owned.new.steps ≡ c.args.steps.now) c.in_ok-owned.ensures c.audit_owned.ensures.uncounted

@@ -5,8 +5,7 @@ use Rattle.audit_core.proofs.standing.are_alike.Goals as goal
 
 pub returns : goal.returns
 returns c =
-    let one = sort_is c.args.one.items c.sort.new.self.items c.in_ok-sort.ensures.sorted c.in_ok-sort.ensures.stable in
-    let other = sort_is c.args.other.items c.sort-2.new.self.items c.in_ok-sort-2.ensures.sorted c.in_ok-sort-2.ensures.stable in (
-      (λ e. sym one ∙ texts_same c.sort.new.self.items c.sort-2.new.self.items (sym c.eq.ensures ∙ e) ∙ other),
-      (λ e. c.eq.ensures ∙ same_texts c.sort.new.self.items c.sort-2.new.self.items (one ∙ e ∙ sym other)),
+    let one = sort_is c.args.texts.items c.sort.new.self.items c.in_ok-sort.ensures.sorted c.in_ok-sort.ensures.stable in (
+      (λ e. sym one ∙ sym c.as_slice.ensures.value ∙ texts_same c.as_slice.result.now c.args.wanted.now (sym c.eq.ensures ∙ e)),
+      (λ e. c.eq.ensures ∙ same_texts c.as_slice.result.now c.args.wanted.now (c.as_slice.ensures.value ∙ one ∙ e)),
     )

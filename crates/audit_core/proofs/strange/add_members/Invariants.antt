@@ -1,0 +1,13 @@
+use Rattle.std.proofs.Common.{◌≡◌, ◌++◌, drop, IsSome}
+use Rattle.std.specs.Prelude.{[], unwrap_or}
+use Rattle.claim_tree.specs.ListViews.{elements_of}
+use Rattle.digest_sites.specs.Reserved.{texts_of}
+use Rattle.audit_core.specs.Found.{is_in}
+use Rattle.audit_core.specs.Strange.{strange_own}
+use Rattle.audit_core.proofs.strange.add_members.Given as goal
+
+abbrev pub invariant-loop-tree : goal.invariant-loop-tree
+invariant-loop-tree l =
+    let left = texts_of (elements_of (drop l.tree-index l.tree-items)) in
+    IsSome left
+    × (l.found ++ strange_own (is_in l.known.keys) l.at (unwrap_or left []) ≡ l.fn.found ++ strange_own (is_in l.known.keys) l.at (unwrap_or (texts_of (elements_of l.tree-items)) []))
