@@ -47,26 +47,6 @@ fn put_text(alloc: Global, members: &mut TreeMap, name: &str, text: &str) -> Res
     put(alloc, members, name, text)
 }
 
-// The claims, in the order of their names.
-fn claims(
-    alloc: Global,
-    hash: HashAlg,
-    hashed: &str,
-    aud: &str,
-    nonce: &str,
-    iat: u64,
-) -> Result<TreeMap, NoMemory>
-    ensures { IfOk result (λ members. members ≡ claim_members (claims_for hash hashed.now aud.now nonce.now iat)) }
-{
-    let mut members = TreeMap::new(alloc);
-    put_text(alloc, &mut members, "aud", aud)?;
-    put(alloc, &mut members, "iat", Tree::Whole(i128::from(iat)))?;
-    put_text(alloc, &mut members, "nonce", nonce)?;
-    let sd_hash = Tree::Text(digest(alloc, hash, hashed)?);
-    put(alloc, &mut members, "sd_hash", sd_hash)?;
-    Ok(members)
-}
-
 // The protected header, written.
 fn header_part(alloc: Global) -> Result<TextBox, NoMemory>
     ensures text { IfOk result (λ part. part ≡ b64 (json_text (object (header_members binding_header)))) }
@@ -76,7 +56,7 @@ fn header_part(alloc: Global) -> Result<TextBox, NoMemory>
     write_header(alloc, &header)
 }
 
-// The payload, written.
+// The payload, written: the claims in the order of their names.
 fn payload_part(
     alloc: Global,
     hash: HashAlg,
@@ -88,8 +68,13 @@ fn payload_part(
     ensures text { IfOk result (λ part. part ≡ b64 (json_text (object (claim_members (claims_for hash hashed.now aud.now nonce.now iat))))) }
     ensures back { IfOk result (λ part. IsBody part (object (claim_members (claims_for hash hashed.now aud.now nonce.now iat)))) }
 {
-    let claims = Tree::Object(claims(alloc, hash, hashed, aud, nonce, iat)?);
-    write_body(alloc, &claims)
+    let mut members = TreeMap::new(alloc);
+    put_text(alloc, &mut members, "aud", aud)?;
+    put(alloc, &mut members, "iat", Tree::Whole(i128::from(iat)))?;
+    put_text(alloc, &mut members, "nonce", nonce)?;
+    let sd_hash = Tree::Text(digest(alloc, hash, hashed)?);
+    put(alloc, &mut members, "sd_hash", sd_hash)?;
+    write_body(alloc, &Tree::Object(members))
 }
 
 // The signature of the two, written.

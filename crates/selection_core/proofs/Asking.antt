@@ -63,29 +63,6 @@ module _ {F : Type 0} (answers : RuleAnswers F) (rule : F) (s : ℕ → Bool) wh
       go x (inl m) = own_none own refl x m
       go x (inr m) = let n : In x [] = subst (λ (zs : List Spot). In x (seen_from at zs)) e m in elim n [ ]
 
-  -- one mark
-  pub asked_allowed : (i : ℕ) (at : Path) (now : Option ℕ) → Allows answers rule at true → IsAskedOnWalk answers rule s (own_seen (Some i) at) now now
-  asked_allowed i at now shown = record {
-    allowed = λ x m k l. one x m;
-    falls = λ i b. b;
-    refused = inl refl;
-  }
-    where
-      one : (x : SeenMark) → In x ((i, at) ∷ []) → Allows answers rule x.1 true
-      one x (inl e) = subst (λ (z : SeenMark). Allows answers rule z.1 true) (sym e) shown
-      one x (inr m) = elim m [ ]
-
-  pub asked_above : (i : ℕ) (at : Path) (now : Option ℕ) → is_below i now ≡ false → IsAskedOnWalk answers rule s (own_seen (Some i) at) now now
-  asked_above i at now above = record {
-    allowed = λ x m k l. absurd (one x m l);
-    falls = λ i b. b;
-    refused = inl refl;
-  }
-    where
-      one : (x : SeenMark) → In x ((i, at) ∷ []) → is_below x.0 now ≡ true → ⊥
-      one x (inl e) l = let f : false ≡ true = sym above ∙ subst (λ (z : SeenMark). is_below z.0 now ≡ true) e l in cc f
-      one x (inr m) l = elim m [ ]
-
   pub asked_refused : (i : ℕ) (at : Path) (now : Option ℕ) → s i ≡ true → is_below i now ≡ true → Allows answers rule at false → IsAskedOnWalk answers rule s (own_seen (Some i) at) now (Some i)
   asked_refused i at now kept below hidden = record {
     allowed = λ x m k l. absurd (one x m l);

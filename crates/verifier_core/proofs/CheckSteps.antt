@@ -149,9 +149,7 @@ one_given : (hash : HashAlg) (d : Text) (x y : Given) → Gives hash d x → Giv
 one_given hash d x y g h =
     let same = readings.one_disclosure d g.1 h.1 x.name y.name x.value y.value g.2 h.2 in
     let digests : x.digest ≡ y.digest = g.0 ∙ sym h.0 in
-    let names : x.name ≡ y.name = same.1 in
-    let values : x.value ≡ y.value = same.2 in
-    ap (λ (a : Text). given_as a x.name x.value) digests ∙ (ap (λ (a : Option Text). given_as y.digest a x.value) names ∙ ap (λ (a : Tree). given_as y.digest y.name a) values)
+    ap (λ (a : Text). given_as a x.name x.value) digests ∙ (ap (λ (a : Option Text). given_as y.digest a x.value) same.1 ∙ ap (λ (a : Tree). given_as y.digest y.name a) same.2)
 
 pub one_list : (hash : HashAlg) (ds : List Text) (xs ys : List Given) → AllZip (Gives hash) ds xs → AllZip (Gives hash) ds ys → xs ≡ ys
 one_list hash [] [] [] g h = refl
