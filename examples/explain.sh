@@ -52,7 +52,7 @@ if [ $# -eq 0 ]; then
             answer("unreadable " name, 6, "null", name, json($2))
             next
         }
-        /^unread (1|2|clock)$/ { answer("unread", 3, "null", "unread", json($2)); next }
+        /^unread ([0-9]+|clock|source)$/ { answer("unread", 3, "null", "unread", json($2)); next }
         $0 == "usage" { answer($0, 2, "null", $0, "null"); next }
         $0 == "unwritten" { answer($0, 4, "null", $0, "null"); next }
         $0 == "memory" { answer($0, 5, "null", $0, "null"); next }
