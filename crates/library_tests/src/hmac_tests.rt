@@ -167,10 +167,6 @@ fn names_of_algorithms(rt: HostRuntime) {
     }
 }
 
-fn key() -> Result<Hs256Key, Fail> {
-    Ok(Hs256Key::new(&[7; 40]).map_err(|_| "the key is short")?)
-}
-
 // Whether a signature fails, and how often one did by then.
 fn failed(alloc: Global, signer: &mut FailSigner) -> (bool, u64) {
     let failed = matches!(signer.sign(alloc, HEAD, BODY), Err(SignError::Failed));
@@ -179,8 +175,10 @@ fn failed(alloc: Global, signer: &mut FailSigner) -> (bool, u64) {
 
 #[test]
 fn one_call_fails_and_is_counted(rt: HostRuntime) -> Result<(), Fail> {
-    let checker = key()?;
-    let mut signer = FailSigner::new(key()?, 1);
+    let bytes = [7; 40];
+    let key = Hs256Key::new(&bytes).map_err(|_| "the key is short")?;
+    let checker = Hs256Key::new(&bytes).map_err(|_| "the key is short")?;
+    let mut signer = FailSigner::new(key, 1);
     assert_eq!(rt; is_accepted(rt.alloc(), &mut signer, &checker), Ok(true));
     assert_eq!(rt; failed(rt.alloc(), &mut signer), (true, 1));
     assert_eq!(rt; failed(rt.alloc(), &mut signer), (false, 1));

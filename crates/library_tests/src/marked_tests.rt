@@ -88,11 +88,16 @@ fn place(alloc: Global, marked: &Marked, mark: u32) -> Result<Option<TextBox>, F
     }
 }
 
+// The same of the tree above.
+fn place_in_tree(alloc: Global, mark: u32) -> Result<Option<TextBox>, Fail> {
+    let marked = marked(alloc)?;
+    place(alloc, &marked, mark)
+}
+
 #[test]
 fn a_mark_has_a_place(rt: HostRuntime) -> Result<(), Fail> {
-    let marked = marked(rt.alloc())?;
     for (mark, wanted) in [(3, Some("/d/2")), (4, None)] {
-        let place = place(rt.alloc(), &marked, mark)?;
+        let place = place_in_tree(rt.alloc(), mark)?;
         assert_eq!(rt; place.as_ref().map(|text| text.as_str()), wanted);
     }
     Ok(())

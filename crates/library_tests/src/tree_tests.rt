@@ -1,6 +1,5 @@
 use claim_tree::{ReadError, Tree, TreeList, TreeMap, copy, depth, get, read, write};
 use sd_outside::TextBox;
-use std::alloc::Global;
 use std::test::Fail;
 
 #[test]
@@ -8,43 +7,22 @@ fn what_is_no_text_is_not_read(rt: HostRuntime) {
     assert!(rt; matches!(read(rt.alloc(), b"\"\xff\""), Err(ReadError::NotJson)));
 }
 
-fn list(alloc: Global) -> Result<TreeList, Fail> {
+#[test]
+fn trees_are_built(rt: HostRuntime) -> Result<(), Fail> {
+    let alloc = rt.alloc();
     let mut list = TreeList::new(alloc);
     list.push(Tree::Flag(false))?;
-    Ok(list)
-}
+    assert!(rt; list.at(0).is_some() && list.at(1).is_none());
 
-fn map(alloc: Global) -> Result<TreeMap, Fail> {
     let mut map = TreeMap::new(alloc);
     map.insert(TextBox::make(alloc, "b")?, Tree::Null)?;
-    map.insert(TextBox::make(alloc, "g|h")?, Tree::List(list(alloc)?))?;
+    map.insert(TextBox::make(alloc, "g|h")?, Tree::List(list))?;
     map.insert(TextBox::make(alloc, "b")?, Tree::Whole(7))?;
-    Ok(map)
-}
-
-#[test]
-fn a_position_behind_the_end_has_no_element(rt: HostRuntime) -> Result<(), Fail> {
-    let list = list(rt.alloc())?;
-    assert!(rt; list.at(0).is_some() && list.at(1).is_none());
-    Ok(())
-}
-
-#[test]
-fn the_last_of_a_name_stays(rt: HostRuntime) -> Result<(), Fail> {
-    let map = map(rt.alloc())?;
-    let name = map.entry_at(1).map(|(name, _)| name.as_str());
-    assert_eq!(rt; (map.len(), name), (2, Some("g|h")));
-    Ok(())
-}
-
-#[test]
-fn trees_are_copied(rt: HostRuntime) -> Result<(), Fail> {
-    let tree = copy(rt.alloc(), &Tree::Object(map(rt.alloc())?))?;
-    let found = (get(&tree, "g|h").is_some(), get(&tree, "g").is_some());
-    assert_eq!(rt; (depth(&tree), found), (2, (true, false)));
-    assert_eq!(rt;
-        write(rt.alloc(), &tree)?.as_str(),
-        r#"{"b":7,"g|h":[false]}"#
-    );
+    assert_eq!(rt; map.len(), 2);
+    assert_eq!(rt; map.entry_at(1).ok_or("no member")?.0.as_str(), "g|h");
+    let tree = copy(alloc, &Tree::Object(map))?;
+    assert_eq!(rt; depth(&tree), 2);
+    assert!(rt; get(&tree, "g|h").is_some() && get(&tree, "g").is_none());
+    assert_eq!(rt; write(alloc, &tree)?.as_str(), r#"{"b":7,"g|h":[false]}"#);
     Ok(())
 }
