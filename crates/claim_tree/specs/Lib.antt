@@ -17,3 +17,4 @@ pub mod JsonRefusals
 pub mod FileRefusals
 pub mod PointerRefusals
 pub mod ListViews
+pub mod Steps

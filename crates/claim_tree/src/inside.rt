@@ -27,7 +27,7 @@ pub fn find<'a>(tree: &'a Tree, path: &Path) -> Option<&'a Tree>
 {
     let mut found = tree;
     for step in path.steps() {
-        found = stepped(found, step.as_str())?;
+        found = stepped(found, step)?;
     }
     Some(found)
 }

@@ -28,7 +28,7 @@ pub use file_form::{
 };
 pub use file_list::{pointer_list_member, pointer_of};
 pub use inside::{find, get, position};
-pub use path::{Path, PathList, copy_paths, digits};
+pub use path::{Path, PathList, Steps, copy_paths, digits};
 pub use pointer::{PointerError, is_prefix, print_path, read_pointer};
 pub use text::{JsonReader, ReadError, read, write};
 pub use tree::{Tree, TreeList, TreeMap};

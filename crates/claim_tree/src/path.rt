@@ -1,5 +1,4 @@
-ghost use Rattle.std.specs.Prelude.{◌≡◌, ◌-◌, List, [], ◌∷◌, ◌++◌, length, reverse, take, decimal, IfOk, OnOk, OnErr, slice_get};
-ghost use Rattle.std.specs.Option.{option_copied};
+ghost use Rattle.std.specs.Prelude.{◌≡◌, ◌-◌, ◌++◌, List, ℕ, [], ◌∷◌, length, reverse, take, decimal, IfOk, OnOk, OnErr, slice_get, option_map};
 
 use itoa::Buffer;
 use sd_outside::{ListOf, NoMemory, TextBox};
@@ -8,17 +7,24 @@ use std::marker::Model;
 
 /// The way from a JSON value to one inside it, step by step: in an object the name of a member, in a list
 /// the digits of a position. Contracts see the list of the steps.
+///
+/// The steps stand in one text, one behind the other, so that a path takes two pieces of memory and not one a step.
 #[derive(Debug, Drop)]
 pub struct Path {
-    steps: Vec<TextBox>,
+    text: String,
+    // Where each step ends in the text.
+    ends: Vec<usize>,
 }
 
 impl Model for Path {
-    ghost use Rattle.std.specs.Prelude.{List, ℕ};
+    ghost use Rattle.std.specs.Prelude.{List, ℕ, string_bytes};
+    ghost use Rattle.claim_tree.specs.Steps.{steps_between, AreEnds};
 
     ghost Value = { List (List ℕ) };
 
-    ghost view = { λ p. p.steps.items };
+    ghost view = { λ p. steps_between 0 p.ends.items (string_bytes p.text) };
+
+    ghost invariant = { λ p. AreEnds 0 p.ends.items (string_bytes p.text) };
 }
 
 impl Path {
@@ -27,33 +33,40 @@ impl Path {
         ensures { result ≡ [] }
     {
         Path {
-            steps: Vec::new(alloc),
+            text: String::new(alloc),
+            ends: Vec::new(alloc),
         }
     }
 
-    // The same, with memory for so many steps.
-    pub(crate) fn with_capacity(alloc: Global, count: usize) -> Result<Path, NoMemory>
+    // The same, with memory for so many steps, and for so many bytes of their texts.
+    pub(crate) fn with_capacity(alloc: Global, steps: usize, bytes: usize) -> Result<Path, NoMemory>
         ensures { IfOk result (λ path. path ≡ []) }
     {
-        let steps = Vec::with_capacity(alloc, count)?;
-        Ok(Path { steps })
+        let text = String::with_capacity(alloc, bytes)?;
+        let ends = Vec::with_capacity(alloc, steps)?;
+        Ok(Path { text, ends })
     }
 
-    /// The path of steps that are given from the last to the first, with no copy.
-    pub fn from_last(steps: Vec<TextBox>) -> Path
-        ensures { result ≡ reverse steps.items }
+    /// The path of steps that are given from the last to the first.
+    pub fn from_last(alloc: Global, steps: &[TextBox]) -> Result<Path, NoMemory>
+        ensures { IfOk result (λ path. path ≡ reverse steps.now) }
     {
-        let mut steps = steps;
-        steps.reverse();
-        Path { steps }
+        let mut path = Path::new(alloc);
+        for step in steps.iter().rev() {
+            path.push(step.as_str())?;
+        }
+        Ok(path)
     }
 
     /// Adds a step at the end.
-    pub fn push(&mut self, step: TextBox) -> Result<(), NoMemory>
-        ensures ok { OnOk result (self.new ≡ self.old ++ step ∷ []) }
+    pub fn push(&mut self, step: &str) -> Result<(), NoMemory>
+        ensures ok { OnOk result (self.new ≡ self.old ++ step.now ∷ []) }
         ensures err { OnErr result (self.new ≡ self.old) }
     {
-        self.steps.push(step)?;
+        self.text.reserve(step.len())?;
+        self.ends.reserve(1)?;
+        self.text.push_str(step)?;
+        self.ends.push(self.text.len())?;
         Ok(())
     }
 
@@ -61,39 +74,91 @@ impl Path {
     pub fn pop(&mut self)
         ensures { self.new ≡ take (length self.old - 1) self.old }
     {
-        let _last = self.steps.pop();
+        let _last = self.ends.pop();
+        self.text.truncate(self.last_end());
+    }
+
+    // Where the last step ends, and the text with it.
+    fn last_end(&self) -> usize
+    {
+        self.ends.last().copied().unwrap_or(0)
     }
 
     /// The number of steps.
     pub fn len(&self) -> usize
         ensures { result ≡ length self.now }
     {
-        self.steps.len()
+        self.ends.len()
     }
 
     /// The step at a position, counted from 0.
-    pub fn at(&self, i: usize) -> Option<&TextBox>
-        ensures { option_copied result ≡ slice_get self.now i }
+    pub fn at(&self, i: usize) -> Option<&str>
+        ensures { option_map (λ step. step.now) result ≡ slice_get self.now i }
     {
-        self.steps.get(i)
+        let end = *self.ends.get(i)?;
+        let start = if i == 0 { 0 } else { self.ends[i - 1] };
+        Some(&self.text.as_str()[start..end])
     }
 
-    /// The steps.
-    pub fn steps(&self) -> &[TextBox]
-        ensures { result.now ≡ self.now }
+    /// The steps, from the first to the last.
+    pub fn steps(&self) -> Steps
+        ensures { result ≡ self.now }
     {
-        self.steps.as_slice()
+        Steps {
+            text: self.text.as_str(),
+            start: 0,
+            ends: self.ends.as_slice(),
+        }
     }
 
     /// A copy of the path.
     pub fn copy(&self, alloc: Global) -> Result<Path, NoMemory>
         ensures { IfOk result (λ copy. copy ≡ self.now) }
     {
-        let mut copy = Path::new(alloc);
-        for step in self.steps() {
-            copy.push(TextBox::make(alloc, step.as_str())?)?;
-        }
-        Ok(copy)
+        let text = String::from_str(alloc, self.text.as_str())?;
+        let mut ends = Vec::with_capacity(alloc, self.ends.len())?;
+        ends.extend_from_slice(self.ends.as_slice())?;
+        Ok(Path { text, ends })
+    }
+}
+
+/// The steps of a path that are still to come. Contracts see the list of them.
+#[derive(Debug, Drop)]
+pub struct Steps<'a> {
+    text: &'a str,
+    // Where the next step starts.
+    start: usize,
+    // Where each ends.
+    ends: &'a [usize],
+}
+
+impl<'a> Model for Steps<'a> {
+    ghost use Rattle.std.specs.Prelude.{List, ℕ};
+    ghost use Rattle.claim_tree.specs.Steps.{steps_between, AreEnds};
+
+    ghost Value = { List (List ℕ) };
+
+    ghost view = { λ s. steps_between s.start s.ends.now s.text.now };
+
+    ghost invariant = { λ s. AreEnds s.start s.ends.now s.text.now };
+}
+
+impl<'a> Iterator for Steps<'a> {
+    ghost use Rattle.std.specs.Prelude.{List, ℕ};
+    ghost use Rattle.std.specs.Iterator.{YieldsFirstRef, item_count};
+
+    type Item = &'a str;
+
+    ghost next_gives = { YieldsFirstRef (λ (s : List (List ℕ)). s) };
+
+    ghost remaining = { item_count (λ (s : List (List ℕ)). s) };
+
+    fn next(&mut self) -> Option<&'a str> {
+        let (end, ends) = self.ends.split_first()?;
+        let step = &self.text[self.start..*end];
+        self.start = *end;
+        self.ends = ends;
+        Some(step)
     }
 }
 

@@ -1,4 +1,4 @@
-ghost use Rattle.std.specs.Prelude.{◌≡◌, ◌↔◌, ◌<◌, ◌++◌, length, codes, string_bytes, IfOk, OnOk, IfSome, IfNone, IsTrue};
+ghost use Rattle.std.specs.Prelude.{◌≡◌, ◌↔◌, ◌<◌, List, ℕ, [], ◌∷◌, ◌++◌, length, codes, string_bytes, IfOk, OnOk, IfSome, IfNone, IsTrue};
 ghost use Rattle.claim_tree.specs.Path.{is_front, escaped, pointer_text};
 ghost use Rattle.claim_tree.specs.PointerRefusals.{IsNoPointer, HasLoneTilde, HasNoSlash, EndsNoEscape};
 ghost use Rattle.claim_tree.specs.declared.pointer.PointerError.TheVariants.{Memory};
@@ -42,15 +42,30 @@ pub fn read_pointer(alloc: Global, text: &str) -> Result<Path, PointerError>
     ensures ok { IfOk result (λ path. text.now ≡ pointer_text path) }
     ensures syntax { result ≡ Err PointerError.Syntax → IsNoPointer text.now }
 {
-    let mut path = Path::with_capacity(alloc, slashes(text))?;
+    let mut path = Path::with_capacity(alloc, slashes(text), text.len())?;
     if text.is_empty() {
         return Ok(path);
     }
     let steps = text.strip_prefix('/').ok_or(PointerError::Syntax)?;
     for step in steps.split('/') {
-        path.push(read_step(alloc, step)?)?;
+        push_step(alloc, &mut path, step)?;
     }
     Ok(path)
+}
+
+// Adds the step that is written so. Most are written as they are.
+fn push_step(alloc: Global, path: &mut Path, written: &str) -> Result<(), PointerError>
+    requires { HasNoSlash written.now }
+    ensures ok { OnOk result ((step : List ℕ) × (path.new ≡ path.old ++ step ∷ []) × (written.now ≡ escaped step)) }
+    ensures syntax { result ≡ Err PointerError.Syntax → HasLoneTilde written.now }
+{
+    if written.split_once('~').is_none() {
+        path.push(written)?;
+        return Ok(());
+    }
+    let step = read_step(alloc, written)?;
+    path.push(step.as_str())?;
+    Ok(())
 }
 
 // The step that is written so.
@@ -93,7 +108,7 @@ pub fn print_path(alloc: Global, path: &Path) -> Result<TextBox, NoMemory>
     let mut text = String::new(alloc);
     for step in path.steps() {
         text.push_str("/")?;
-        push_escaped(&mut text, step.as_str())?;
+        push_escaped(&mut text, step)?;
     }
     Ok(TextBox::from_string(text))
 }
@@ -118,5 +133,10 @@ fn push_escaped(text: &mut String, step: &str) -> Result<(), NoMemory>
 pub fn is_prefix(front: &Path, whole: &Path) -> bool
     ensures { result ≡ is_front front.now whole.now }
 {
-    whole.steps().starts_with(front.steps())
+    for (i, step) in front.steps().enumerate() {
+        if whole.at(i) != Some(step) {
+            return false;
+        }
+    }
+    true
 }
