@@ -29,3 +29,4 @@ pub mod FileMembers
 pub mod FileVerdicts
 pub mod ListForms
 mod PathSteps
+mod PlainPointers

@@ -1,5 +1,7 @@
-ghost use Rattle.std.specs.Prelude.{◌≡◌, ◌<◌, ◌≤◌, ◌-◌, ◌++◌, List, ℕ, [], ◌∷◌, length, reverse, take, decimal, IfOk, OnOk, OnErr, slice_get, slice_index, Some, option_map};
-ghost use Rattle.claim_tree.specs.Steps.{steps_between, AreEnds};
+ghost use Rattle.std.specs.Prelude.{◌≡◌, ◌↔◌, ◌<◌, ◌≤◌, ◌-◌, ◌^◌, ◌++◌, List, ℕ, [], ◌∷◌, length, reverse, take, decimal, IfOk, OnOk, OnErr, slice_get, slice_index, Some, IsTrue, drop, option_map};
+ghost use Rattle.std.specs.Str.Iter.{LacksByte};
+ghost use Rattle.claim_tree.specs.Path.{pointer_text};
+ghost use Rattle.claim_tree.specs.Steps.{steps_between, slashes_from, StartsWithSlash, AreEnds};
 
 use itoa::Buffer;
 use sd_outside::{ListOf, NoMemory, TextBox};
@@ -9,7 +11,8 @@ use std::marker::Model;
 /// The way from a JSON value to one inside it, step by step: in an object the name of a member, in a list
 /// the digits of a position. Contracts see the list of the steps.
 ///
-/// The steps stand in one text, one behind the other, so that a path takes two pieces of memory and not one a step.
+/// The steps stand in one text, each behind a slash, so that a path takes two pieces of memory and not one a step, and a
+/// pointer without escapes is its text.
 #[derive(Debug, Drop)]
 pub struct Path {
     text: String,
@@ -48,6 +51,17 @@ impl Path {
         Ok(Path { text, ends })
     }
 
+    // The path whose pointer the text is, where it has a step and no escape.
+    pub(crate) fn of_plain(alloc: Global, pointer: &str) -> Result<Path, NoMemory>
+        requires slash { StartsWithSlash pointer.now }
+        requires plain { LacksByte 126 pointer.now }
+        ensures { IfOk result (λ path. pointer.now ≡ pointer_text path) }
+    {
+        let text = String::from_str(alloc, pointer)?;
+        let ends = plain_ends(alloc, pointer)?;
+        Ok(Path { text, ends })
+    }
+
     /// The path of steps that are given from the last to the first.
     pub fn from_last(alloc: Global, steps: &[TextBox]) -> Result<Path, NoMemory>
         ensures { IfOk result (λ path. path ≡ reverse steps.now) }
@@ -64,8 +78,9 @@ impl Path {
         ensures ok { OnOk result (self.new ≡ self.old ++ step.now ∷ []) }
         ensures err { OnErr result (self.new ≡ self.old) }
     {
-        self.text.reserve(step.len())?;
+        self.text.reserve(step.len() + 1)?;
         self.ends.reserve(1)?;
+        self.text.push_str("/")?;
         self.text.push_str(step)?;
         self.ends.push(self.text.len())?;
         Ok(())
@@ -100,13 +115,21 @@ impl Path {
 
     /// The steps, from the first to the last.
     pub fn steps(&self) -> Steps
-        ensures { result ≡ self.now }
+        ensures steps { result ≡ self.now }
+        ensures countable { length result < 2 ^ 64 }
     {
         Steps {
             text: self.text.as_str(),
             start: 0,
             ends: self.ends.as_slice(),
         }
+    }
+
+    /// Whether the other path has the same steps.
+    pub fn is_same(&self, other: &Path) -> bool
+        ensures { IsTrue result ↔ (self.now ≡ other.now) }
+    {
+        self.ends == other.ends && self.text == other.text
     }
 
     /// A copy of the path.
@@ -120,7 +143,27 @@ impl Path {
     }
 }
 
-// Where the step at a position starts, by the ends of the steps. At the number of the steps it is where the last one ends.
+// Where the steps of a pointer without escapes end.
+fn plain_ends(alloc: Global, pointer: &str) -> Result<Vec<usize>, NoMemory>
+    ensures { IfOk result (λ ends. ends.items ≡ slashes_from 1 (drop 1 pointer.now) ++ length pointer.now ∷ []) }
+{
+    let bytes = pointer.as_bytes();
+    let mut ends = Vec::with_capacity(alloc, slashes(pointer))?;
+    for i in 1..bytes.len() {
+        if bytes[i] == b'/' {
+            ends.push(i)?;
+        }
+    }
+    ends.push(bytes.len())?;
+    Ok(ends)
+}
+
+// How many slashes are in a text.
+pub(crate) fn slashes(text: &str) -> usize {
+    text.as_bytes().iter().filter(|byte| **byte == b'/').count()
+}
+
+// Where the slash in front of a step stands, by the ends of the steps. At the number of the steps it is where the last ends.
 fn start_at(ends: &[usize], i: usize) -> usize
     requires { i ≤ length ends.now }
     ensures { result ≡ slice_index (0 ∷ ends.now) i }
@@ -134,14 +177,14 @@ fn step_at<'a>(text: &'a str, ends: &[usize], i: usize) -> &'a str
     requires within { i < length ends.now }
     ensures { slice_get (steps_between 0 ends.now text.now) i ≡ Some result.now }
 {
-    &text[start_at(ends, i)..ends[i]]
+    &text[start_at(ends, i) + 1..ends[i]]
 }
 
 /// The steps of a path that are still to come. Contracts see the list of them.
 #[derive(Debug, Drop)]
 pub struct Steps<'a> {
     text: &'a str,
-    // Where the next step starts.
+    // Where the slash in front of the next step stands.
     start: usize,
     // Where each ends.
     ends: &'a [usize],
@@ -170,7 +213,7 @@ impl<'a> Iterator for Steps<'a> {
 
     fn next(&mut self) -> Option<&'a str> {
         let (end, ends) = self.ends.split_first()?;
-        let step = &self.text[self.start..*end];
+        let step = &self.text[self.start + 1..*end];
         self.start = *end;
         self.ends = ends;
         Some(step)

@@ -4,6 +4,7 @@ ghost use Rattle.claim_tree.specs.PointerRefusals.{IsNoPointer, HasLoneTilde, Ha
 ghost use Rattle.claim_tree.specs.declared.pointer.PointerError.TheVariants.{Memory};
 
 use crate::Path;
+use crate::path::slashes;
 use sd_outside::{NoMemory, TextBox};
 use std::alloc::{AllocError, Global};
 
@@ -32,40 +33,33 @@ impl From<AllocError> for PointerError {
     }
 }
 
-// How many slashes are in a text.
-fn slashes(text: &str) -> usize {
-    text.as_bytes().iter().filter(|byte| **byte == b'/').count()
-}
-
 /// The path of a JSON Pointer, RFC 6901 section 3. The empty text is the path to the whole value.
 pub fn read_pointer(alloc: Global, text: &str) -> Result<Path, PointerError>
     ensures ok { IfOk result (λ path. text.now ≡ pointer_text path) }
     ensures syntax { result ≡ Err PointerError.Syntax → IsNoPointer text.now }
 {
-    let mut path = Path::with_capacity(alloc, slashes(text), text.len())?;
     if text.is_empty() {
-        return Ok(path);
+        return Ok(Path::new(alloc));
     }
     let steps = text.strip_prefix('/').ok_or(PointerError::Syntax)?;
-    for step in steps.split('/') {
-        push_step(alloc, &mut path, step)?;
+    match text.split_once('~') {
+        None => Ok(Path::of_plain(alloc, text)?),
+        Some(_) => read_steps(alloc, text, steps),
     }
-    Ok(path)
 }
 
-// Adds the step that is written so. Most are written as they are.
-fn push_step(alloc: Global, path: &mut Path, written: &str) -> Result<(), PointerError>
-    requires { HasNoSlash written.now }
-    ensures ok { OnOk result ((step : List ℕ) × (path.new ≡ path.old ++ step ∷ []) × (written.now ≡ escaped step)) }
-    ensures syntax { result ≡ Err PointerError.Syntax → HasLoneTilde written.now }
+// The path of a pointer that may have escapes, of which the steps are given behind the first slash.
+fn read_steps(alloc: Global, text: &str, steps: &str) -> Result<Path, PointerError>
+    requires { text.now ≡ 47 ∷ steps.now }
+    ensures ok { IfOk result (λ path. text.now ≡ pointer_text path) }
+    ensures syntax { result ≡ Err PointerError.Syntax → IsNoPointer text.now }
 {
-    let Some(_) = written.split_once('~') else {
-        path.push(written)?;
-        return Ok(());
-    };
-    let step = read_step(alloc, written)?;
-    path.push(step.as_str())?;
-    Ok(())
+    let mut path = Path::with_capacity(alloc, slashes(text), text.len())?;
+    for step in steps.split('/') {
+        let read = read_step(alloc, step)?;
+        path.push(read.as_str())?;
+    }
+    Ok(path)
 }
 
 // The step that is written so.
