@@ -28,5 +28,6 @@ pub mod ObjectTrees
 pub mod FileMembers
 pub mod FileVerdicts
 pub mod ListForms
+pub mod SamePaths
 mod PathSteps
 mod PlainPointers

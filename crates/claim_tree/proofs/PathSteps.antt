@@ -1,11 +1,15 @@
 -- The steps of a path, in the text in which they stand.
-use Rattle.std.proofs.Common.{◌≡◌, ℕ, zero, suc, ◌+◌, ◌-◌, ◌<◌, ◌≤◌, List, [], ◌∷◌, ◌++◌, length, take, drop, get_or, Some, inl, inr, refl, sym, ap, subst, ◌∙◌, arith, rules, length-append, append_assoc, drop-drop, IsUtf8}
+use Rattle.std.proofs.Common.{◌≡◌, Bool, true, false, bytes_eq, ℕ, zero, suc, ◌+◌, ◌-◌, ◌<◌, ◌≤◌, List, [], ◌∷◌, ◌++◌, length, take, drop, get_or, Some, inl, inr, refl, sym, ap, ap₂, subst, ◌∙◌, arith, rules, length-append, append_assoc, drop-drop, IsUtf8}
 use Rattle.std.specs.Prelude.{slice_range, slice_get}
-use Rattle.std.specs.List.{flat_map}
+use Rattle.std.specs.Prelude.{nat_eq}
+use Rattle.std.specs.List.{flat_map, starts_with}
+use Rattle.claim_tree.specs.Path.{is_front}
+use Rattle.claim_tree.proofs.Lists.{bytes_same, bytes_refl}
+use Rattle.claim_tree.proofs.SamePaths.{path_same, path_refl}
 use Rattle.std.specs.Str.{IsCharBoundary}
 use Rattle.std.proofs.Math.Nat.{eq-or-lt_of_le}
 use Rattle.std.proofs.Math.Seq.{drop-append-add, drop-length, get_or-append_seam}
-use Rattle.std.proofs.lemmas.List.{take-append-le, drop-append-le, take-take, take-append-drop, drop-take, drop_more, length-take-le, length-drop, take_all, get_or-take, get_or_append_left}
+use Rattle.std.proofs.lemmas.List.{take-append-le, drop-append-le, take-take, take-append-drop, drop-take, drop_more, length-take, length-take-le, length-drop, take_all, get_or-take, get_or_append_left}
 use Rattle.std.proofs.lemmas.Str.{IsCharBoundary-at_seam, IsUtf8-append, IsUtf8-from_ascii}
 use Rattle.claim_tree.specs.Steps.{steps_between, AreEnds}
 
@@ -179,3 +183,68 @@ ends_of_steps start (end ∷ ends) (other ∷ others) text more are ere same =
 
 pub one_text : (ends others text more : List ℕ) → AreEnds 0 ends text → AreEnds 0 others more → steps_between 0 ends text ≡ steps_between 0 others more → text ≡ more
 one_text ends others text more are ere same = text_of_steps 0 ends text are ∙ ap (flat_map slashed) same ∙ sym (text_of_steps 0 others more ere)
+
+-- ---- one path as the front of another
+
+same_bool : (b c : Bool) → (b ≡ true → c ≡ true) → (c ≡ true → b ≡ true) → b ≡ c
+same_bool true c to from = sym (to refl)
+same_bool false true to from = from refl
+same_bool false false to from = refl
+
+-- the last step ends where the text does
+last_end : (ends text : List ℕ) → AreEnds 0 ends text → start_of 0 ends (length ends) ≡ length text
+last_end ends text are = rw (drop-length ends) at (ends_from 0 ends text (length ends) (omega arith) are)
+
+-- the first steps of a path, as many as another has
+record Fronts (fronts ends front text : List ℕ) : Type 0 where
+  enough : length fronts ≤ length ends
+  are : AreEnds 0 (take (length fronts) ends) (take (start_of 0 ends (length fronts)) text)
+  steps : steps_between 0 (take (length fronts) ends) (take (start_of 0 ends (length fronts)) text) ≡ take (length (steps_between 0 fronts front)) (steps_between 0 ends text)
+
+fronts_of : (fronts ends front text : List ℕ) → AreEnds 0 ends text → length fronts ≤ length ends → Fronts fronts ends front text
+fronts_of fronts ends front text are enough = record {
+  enough = enough;
+  are = fewer_ends 0 ends text (length fronts) enough are;
+  steps = fewer_steps 0 ends text (length fronts) enough are ∙ ap (λ n. take n (steps_between 0 ends text)) (sym (steps_length 0 fronts front));
+}
+
+-- where the ends of the one begin those of the other, the paths are compared by their texts
+pub front_by_text : (fronts ends front text : List ℕ) → AreEnds 0 fronts front → AreEnds 0 ends text → starts_with nat_eq ends fronts ≡ true
+    → starts_with nat_eq text front ≡ is_front (steps_between 0 fronts front) (steps_between 0 ends text)
+front_by_text fronts ends front text ere are begin =
+    let same : fronts ≡ take (length fronts) ends = bytes_same fronts (take (length fronts) ends) begin in
+    let count : length fronts ≡ length (take (length fronts) ends) = ap length same in
+    let enough : length fronts ≤ length ends = omega (arith, count, length-take (length fronts) ends) in
+    let there = fronts_of fronts ends front text are enough in
+    let long : start_of 0 ends (length fronts) ≡ length front =
+    sym (last_of 0 ends (length fronts) enough) ∙ ap (λ (es : List ℕ). start_of 0 es (length es)) (sym same) ∙ last_end fronts front ere in
+    let cut : take (start_of 0 ends (length fronts)) text ≡ take (length front) text = ap (λ n. take n text) long in
+    same_bool (starts_with nat_eq text front) (is_front (steps_between 0 fronts front) (steps_between 0 ends text))
+    (λ yes.
+    let texts : front ≡ take (start_of 0 ends (length fronts)) text = bytes_same front (take (length front) text) yes ∙ sym cut in
+    path_refl (steps_between 0 fronts front) _ (ap₂ (λ es t. steps_between 0 es t) same texts ∙ there.steps))
+    (λ yes.
+    let steps = path_same (steps_between 0 fronts front) _ yes in
+    bytes_refl front (take (length front) text) (one_text fronts (take (length fronts) ends) front _ ere there.are (steps ∙ sym there.steps) ∙ cut))
+
+-- and where they do not, the one is no front of the other
+pub no_front : (fronts ends front text : List ℕ) → AreEnds 0 fronts front → AreEnds 0 ends text → starts_with nat_eq ends fronts ≡ false → is_front (steps_between 0 fronts front) (steps_between 0 ends text) ≡ false
+no_front fronts ends front text ere are other =
+    same_bool (is_front (steps_between 0 fronts front) (steps_between 0 ends text)) false
+    (λ yes.
+    let steps = path_same (steps_between 0 fronts front) (take (length (steps_between 0 fronts front)) (steps_between 0 ends text)) yes in
+    let count : length (steps_between 0 fronts front) ≡ length (take (length (steps_between 0 fronts front)) (steps_between 0 ends text)) = ap length steps in
+    let enough : length fronts ≤ length ends =
+    omega (arith, count, steps_length 0 fronts front, steps_length 0 ends text, length-take (length (steps_between 0 fronts front)) (steps_between 0 ends text)) in
+    let there = fronts_of fronts ends front text are enough in
+    let same : fronts ≡ take (length fronts) ends = ends_of_steps 0 fronts (take (length fronts) ends) front _ ere there.are (steps ∙ sym there.steps) in
+    let begin : starts_with nat_eq ends fronts ≡ true = bytes_refl fronts (take (length fronts) ends) same in
+    sym other ∙ begin)
+    (λ yes. cc yes)
+
+-- ---- the steps behind the first
+
+pub steps_from : (start : ℕ) (ends text : List ℕ) (i : ℕ) → i ≤ length ends → steps_between (start_of start ends i) (drop i ends) text ≡ drop i (steps_between start ends text)
+steps_from start ends text zero within = refl
+steps_from start [] text (suc i) within = absurd (omega arith)
+steps_from start (end ∷ ends) text (suc i) within = steps_from end ends text i (omega arith)

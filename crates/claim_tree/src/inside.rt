@@ -1,5 +1,5 @@
 // The trees inside a tree.
-ghost use Rattle.std.specs.Prelude.{◌≡◌, ◌≢◌, ◌<◌, ℕ, IfSome, None, option_map};
+ghost use Rattle.std.specs.Prelude.{◌≡◌, ◌≢◌, ◌<◌, ℕ, IfSome, None, drop, option_map};
 ghost use Rattle.std.specs.Fmt.{decimal};
 ghost use Rattle.claim_tree.specs.Tree.{get as get_of, IsRanged};
 ghost use Rattle.claim_tree.specs.Path.{tree_at, stepped as stepped_of};
@@ -25,8 +25,16 @@ pub fn find<'a>(tree: &'a Tree, path: &Path) -> Option<&'a Tree>
     ensures value { option_map (λ t. tree_of t.now) result ≡ tree_at (tree_of tree.now) path.now }
     ensures ranged { IsRanged (tree_of tree.now) → IfSome result (λ t. IsRanged (tree_of t.now)) }
 {
+    find_behind(tree, path, 0)
+}
+
+/// The same, from the tree at which the first steps of the path have come, which are so many.
+pub fn find_behind<'a>(tree: &'a Tree, path: &Path, count: usize) -> Option<&'a Tree>
+    ensures value { option_map (λ t. tree_of t.now) result ≡ tree_at (tree_of tree.now) (drop count path.now) }
+    ensures ranged { IsRanged (tree_of tree.now) → IfSome result (λ t. IsRanged (tree_of t.now)) }
+{
     let mut found = tree;
-    for step in path.steps() {
+    for step in path.steps_behind(count) {
         found = stepped(found, step)?;
     }
     Some(found)

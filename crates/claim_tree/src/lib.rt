@@ -27,8 +27,8 @@ pub use file_form::{
     read_members, text_list_member, text_member, texts_of, whole_member, whole_up_to,
 };
 pub use file_list::{pointer_list_member, pointer_of};
-pub use inside::{find, get, position};
-pub use path::{Path, PathList, Steps, copy_paths, digits};
-pub use pointer::{PointerError, is_prefix, print_path, read_pointer};
+pub use inside::{find, find_behind, get, position};
+pub use path::{Path, PathList, Steps, copy_paths, digits, is_prefix};
+pub use pointer::{PointerError, print_path, read_pointer};
 pub use text::{JsonReader, ReadError, read, write};
 pub use tree::{Tree, TreeList, TreeMap};

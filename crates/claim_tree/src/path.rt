@@ -1,6 +1,6 @@
 ghost use Rattle.std.specs.Prelude.{◌≡◌, ◌↔◌, ◌<◌, ◌≤◌, ◌-◌, ◌^◌, ◌++◌, List, ℕ, [], ◌∷◌, length, reverse, take, decimal, IfOk, OnOk, OnErr, slice_get, slice_index, Some, IsTrue, drop, option_map};
 ghost use Rattle.std.specs.Str.Iter.{LacksByte};
-ghost use Rattle.claim_tree.specs.Path.{pointer_text};
+ghost use Rattle.claim_tree.specs.Path.{is_front, pointer_text};
 ghost use Rattle.claim_tree.specs.Steps.{steps_between, slashes_from, StartsWithSlash, AreEnds};
 
 use itoa::Buffer;
@@ -118,10 +118,21 @@ impl Path {
         ensures steps { result ≡ self.now }
         ensures countable { length result < 2 ^ 64 }
     {
+        self.steps_behind(0)
+    }
+
+    /// The steps behind so many, of which there may be fewer.
+    pub fn steps_behind(&self, count: usize) -> Steps
+        ensures steps { result ≡ drop count self.now }
+        ensures countable { length result < 2 ^ 64 }
+    {
+        let all = self.ends.as_slice();
+        let count = count.min(all.len());
+        let (_passed, ends) = all.split_at(count);
         Steps {
             text: self.text.as_str(),
-            start: 0,
-            ends: self.ends.as_slice(),
+            start: start_at(all, count),
+            ends,
         }
     }
 
@@ -218,6 +229,14 @@ impl<'a> Iterator for Steps<'a> {
         self.ends = ends;
         Some(step)
     }
+}
+
+/// Whether the first path is a front of the second. A path is a front of itself.
+pub fn is_prefix(front: &Path, whole: &Path) -> bool
+    ensures { result ≡ is_front front.now whole.now }
+{
+    whole.ends.starts_with(front.ends.as_slice())
+        && whole.text.as_bytes().starts_with(front.text.as_bytes())
 }
 
 /// Paths in order. Contracts see the list of them.

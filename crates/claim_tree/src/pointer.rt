@@ -1,5 +1,5 @@
 ghost use Rattle.std.specs.Prelude.{◌≡◌, ◌↔◌, ◌<◌, List, ℕ, [], ◌∷◌, ◌++◌, length, codes, string_bytes, IfOk, OnOk, IfSome, IfNone, IsTrue};
-ghost use Rattle.claim_tree.specs.Path.{is_front, escaped, pointer_text};
+ghost use Rattle.claim_tree.specs.Path.{escaped, pointer_text};
 ghost use Rattle.claim_tree.specs.PointerRefusals.{IsNoPointer, HasLoneTilde, HasNoSlash, EndsNoEscape};
 ghost use Rattle.claim_tree.specs.declared.pointer.PointerError.TheVariants.{Memory};
 
@@ -121,17 +121,4 @@ fn push_escaped(text: &mut String, step: &str) -> Result<(), NoMemory>
         }
     }
     Ok(())
-}
-
-/// Whether the first path is a front of the second. A path is a front of itself.
-pub fn is_prefix(front: &Path, whole: &Path) -> bool
-    ensures { result ≡ is_front front.now whole.now }
-{
-    let mut rest = whole.steps();
-    for step in front.steps() {
-        if rest.next() != Some(step) {
-            return false;
-        }
-    }
-    true
 }

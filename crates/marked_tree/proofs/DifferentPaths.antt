@@ -11,7 +11,7 @@ use Rattle.std.proofs.lemmas.List.Sorted.{list_any-IsPermutation}
 use Rattle.std.proofs.lemmas.Map.Keys.{sorted_head, sorted_tail, IsDistinct-from_sorted, IsDistinct-head, IsDistinct-tail, IsDistinct-cons, IsDistinct-from_apart}
 use Rattle.std.proofs.lemmas.Map.Made.{length-from_keys}
 use Rattle.claim_tree.specs.Tree.{Text}
-use Rattle.claim_tree.proofs.Lists.{bytes_same, bytes_refl, and_split, and_join}
+use Rattle.claim_tree.proofs.SamePaths.{path_same, path_refl}
 use Rattle.marked_tree.specs.Paths.{Path, same_path, is_among}
 use Rattle.marked_tree.specs.Rests.{step_cmp, path_order, AfterNone, AreSorted}
 use Rattle.marked_tree.proofs.NumberSets.{twice}
@@ -20,19 +20,14 @@ use Rattle.marked_tree.proofs.PathOrder.{paths_total, lower_path, not_greater}
 
 -- ---- equal paths
 
-pub path_same : (p q : Path) → same_path p q ≡ true → p ≡ q
-path_same [] [] h = refl
-path_same [] (l ∷ q) h = cc h
-path_same (k ∷ p) [] h = cc h
-path_same (k ∷ p) (l ∷ q) h =
-    let both = and_split (bytes_eq k l) (same_path p q) h in
-    ap₂ (λ (step : Text) (rest : Path). step ∷ rest) (bytes_same k l both.0) (path_same p q both.1)
-
-pub path_refl : (p q : Path) → p ≡ q → same_path p q ≡ true
-path_refl [] [] h = refl
-path_refl [] (l ∷ q) h = cc h
-path_refl (k ∷ p) [] h = cc h
-path_refl (k ∷ p) (l ∷ q) h = let first : k ≡ l = cc h in let rest : p ≡ q = cc h in and_join (bytes_eq k l) (same_path p q) (bytes_refl k l first) (path_refl p q rest)
+-- what is true where two paths are one
+pub same_if : (b : Bool) (p q : Path) → (b ≡ true → p ≡ q) × (p ≡ q → b ≡ true) → b ≡ same_path p q
+same_if true p q is = sym (path_refl p q (is.0 refl))
+same_if false p q is = go (same_path p q) refl
+  where
+    go : (c : Bool) → same_path p q ≡ c → false ≡ c
+    go true yes = is.1 (path_same p q yes)
+    go false no = refl
 
 path_turned : (p q : Path) → same_path p q ≡ same_path q p
 path_turned [] [] = refl

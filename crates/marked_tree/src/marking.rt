@@ -68,11 +68,10 @@ fn sorted_paths(paths: PathList) -> Result<Vec<Path>, NoMemory>
     Ok(sorted)
 }
 
-#[tactic(auto, using(crate::proofs::DifferentPaths::path_ties))]
 fn is_same(one: &Path, other: &Path) -> bool
     ensures { result ≡ same_path one.now other.now }
 {
-    compare_paths(one, other).is_eq()
+    one.is_same(other)
 }
 
 // Marks a tree that the paths come to by their first `depth` steps, from the mark `next` on.
