@@ -29,5 +29,6 @@ pub mod FileMembers
 pub mod FileVerdicts
 pub mod ListForms
 pub mod SamePaths
+pub mod PathFronts
 mod PathSteps
 mod PlainPointers
