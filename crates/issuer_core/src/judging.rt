@@ -1,5 +1,5 @@
 // The refusals that an order alone decides.
-ghost use Rattle.std.specs.Prelude.{◌≡◌, ◌≤◌, ◌<◌, ◌↔◌, length, OnOk, IfOk, IfErr, IfSome, IsTrue, bytes_eq};
+ghost use Rattle.std.specs.Prelude.{◌≡◌, ◌≤◌, ◌<◌, ◌↔◌, length, OnOk, IfOk, IfErr, IfSome, IsTrue, Some, option_map, bytes_eq};
 ghost use Rattle.std.specs.Str.{IsUtf8};
 ghost use Rattle.std.specs.List.{position_from, list_any};
 ghost use Rattle.std.specs.Set.{distinct_count};
@@ -22,7 +22,7 @@ ghost use Rattle.issuer_core.specs.Judging.{PassesBelow};
 
 use crate::reserved::{first_reserved, spells};
 use crate::{DecoyList, IssueError, Order};
-use claim_tree::{Path, PathList, Tree, depth, find};
+use claim_tree::{Path, PathList, Tree, depth, find, find_behind, is_prefix};
 use compact_form::COUNT_MAX;
 use marked_tree::count_different;
 use sd_outside::{NoMemory, TextBox};
@@ -53,19 +53,34 @@ fn first_root(hide: &PathList) -> Option<usize>
         .position(|path| path.steps().is_empty())
 }
 
-fn is_nowhere(payload: &Tree, path: &Path) -> bool
-    ensures { result ≡ spec.is_nowhere (tree_of payload.now) path.now }
+// The tree at a path, where an earlier path and the tree at it may be known: a path that goes on behind that one is
+// followed from there.
+fn find_on<'a>(
+    payload: &'a Tree,
+    earlier: Option<(&Path, &'a Tree)>,
+    path: &Path,
+) -> Option<&'a Tree>
+    requires { IfSome earlier (λ e. tree_at (tree_of payload.now) e.0.now ≡ Some (tree_of e.1.now)) }
+    ensures { option_map (λ tree. tree_of tree.now) result ≡ tree_at (tree_of payload.now) path.now }
 {
-    find(payload, path).is_none()
+    match earlier {
+        Some((front, tree)) if is_prefix(front, path) => find_behind(tree, path, front.len()),
+        _ => find(payload, path),
+    }
 }
 
 // The first path that leads nowhere in the payload.
 fn first_nowhere(payload: &Tree, hide: &PathList) -> Option<usize>
     ensures { result ≡ position_from (spec.is_nowhere (tree_of payload.now)) 0 hide.now }
 {
-    hide.elements()
-        .iter()
-        .position(|path| is_nowhere(payload, path))
+    let mut earlier = None;
+    for (k, path) in hide.elements().iter().enumerate() {
+        match find_on(payload, earlier, path) {
+            Some(tree) => earlier = Some((path, tree)),
+            None => return Some(k),
+        }
+    }
+    None
 }
 
 // Whether a verifier cannot do without the claim (RFC 9901 section 9.7).
