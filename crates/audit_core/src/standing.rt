@@ -18,19 +18,16 @@ fn kind_letter(kind: SiteKind) -> &'static str
     }
 }
 
-// The kind of the site, and the pointer of its origin: it stands on a path below the place with the pointer `root`.
-pub(crate) fn standing_of(
-    alloc: Global,
-    kind: SiteKind,
-    root: &str,
-    at: &Path,
-) -> Result<TextBox, NoMemory>
-    ensures { IfOk result (λ text. text ≡ kind_text kind ++ (root.now ++ pointer_text at.now)) }
+// The kind of the site, and then the pointer of where it stands.
+pub(crate) fn standing_of(alloc: Global, kind: SiteKind, at: &Path) -> Result<TextBox, NoMemory>
+    ensures { IfOk result (λ text. text ≡ kind_text kind ++ pointer_text at.now) }
 {
-    let kind = kind_letter(kind);
-    let at = print_path(alloc, at)?;
-    let at = at.as_str();
-    Ok(TextBox::from_string(format!(in alloc; "{kind}{root}{at}")?))
+    let pointer = print_path(alloc, at)?;
+    let pointer = pointer.as_str();
+    let mut text = String::with_capacity(alloc, pointer.len().saturating_add(1))?;
+    text.push_str(kind_letter(kind))?;
+    text.push_str(pointer)?;
+    Ok(TextBox::from_string(text))
 }
 
 // Whether each text is in the list as often as in the other, which is sorted.

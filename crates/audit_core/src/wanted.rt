@@ -12,9 +12,10 @@ ghost use Rattle.audit_core.specs.AuditSteps.{standing_text};
 ghost use Rattle.audit_core.specs.Wanted.{count_at, entry_texts, element_texts, member_texts};
 
 use crate::standing::standing_of;
-use claim_tree::{Path, Tree, digits, find, print_path};
+use claim_tree::{Path, Tree, find, print_path};
 use digest_sites::SiteKind;
 use issuer_core::{Decoy, Order};
+use itoa::Buffer;
 use sd_outside::{NoMemory, TextBox};
 use std::alloc::Global;
 use std::collections::BTreeMap;
@@ -56,7 +57,7 @@ fn push_members(
     ensures { OnOk result (wanted.new.items ≡ wanted.old.items ++ member_texts at.now count) }
 {
     for _ in 0..count {
-        wanted.push(standing_of(alloc, SiteKind::Member, "", at)?)?;
+        wanted.push(standing_of(alloc, SiteKind::Member, at)?)?;
     }
     Ok(())
 }
@@ -65,9 +66,10 @@ fn push_members(
 fn element_text(alloc: Global, at: &Path, position: usize) -> Result<TextBox, NoMemory>
     ensures { IfOk result (λ text. text ≡ standing_text (standing Element (at.now ++ decimal position ∷ []))) }
 {
+    let mut digits = Buffer::new();
     let mut at = at.copy(alloc)?;
-    at.push(digits(alloc, position)?)?;
-    standing_of(alloc, SiteKind::Element, "", &at)
+    at.push(digits.format(position))?;
+    standing_of(alloc, SiteKind::Element, &at)
 }
 
 // So many decoys of a list, from this position on.

@@ -1,6 +1,6 @@
 use Rattle.std.proofs.Common.{arith}
 use Rattle.audit_core.proofs.Walks.{element_nodes, member_nodes}
-use Rattle.audit_core.proofs.places.+walk.Goals as goal
+use Rattle.audit_core.proofs.places.+values.Goals as goal
 
 pub walk_elements-walk_node-requires : goal.walk_elements-walk_node-requires
 walk_elements-walk_node-requires t c =
