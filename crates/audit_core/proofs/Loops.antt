@@ -114,12 +114,6 @@ given_more items k x digest before after put l is same b a =
     map_id [] = refl
     map_id (y ∷ ys) = ap (λ (zs : List given.Given). y ∷ zs) (map_id ys)
 
-    or_turn : (a b : Bool) → (a || b) ≡ (b || a)
-    or_turn true true = refl
-    or_turn true false = refl
-    or_turn false true = refl
-    or_turn false false = refl
-
     or_move : (a b d : Bool) → (a || (b || d)) ≡ (b || (a || d))
     or_move true true d = refl
     or_move true false d = refl

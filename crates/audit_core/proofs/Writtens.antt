@@ -16,12 +16,9 @@ use Rattle.jws_part.proofs.Parts.{one_carried}
 use Rattle.rebuild_core.specs.Answer.{IsPayload}
 use Rattle.rebuild_core.specs.Payload.{alg_name}
 use Rattle.audit_core.specs.Audited.{IsWrittenAs, GivesSalted, IsDigestText, hash_length}
-use Rattle.audit_core.specs.AuditSteps.{NamesHash, IsSalt, IsUnsalted, IsOtherPayload, IsUnwritten}
+use Rattle.audit_core.specs.AuditSteps.{NamesHash, IsSalt, IsUnsalted, IsOtherPayload}
 
 -- ---- a disclosure
-
-pub unwritten_unsalted : (disclosure : Text) → IsUnwritten disclosure → IsUnsalted disclosure
-unwritten_unsalted disclosure none name value w = none (array_of (leaf (text w.salt)) name value) w.written
 
 pub other_array : (disclosure : Text) (t : Tree) → IsWrittenAs disclosure t → IsNoArray t → IsUnsalted disclosure
 other_array disclosure t written none name value w =
@@ -64,9 +61,6 @@ short_digest hash digest l s =
 
 no_name : {A : Type 0} (t : Tree) → ◌≡◌ {A = Option Tree} None (Some t) → A
 no_name t e = absurd (cc)
-
-pub unwritten_other : (hash : HashAlg) (part : Text) → IsUnwritten part → IsOtherPayload hash part
-unwritten_other hash part none body w n = none body w
 
 pub other_payload : (hash : HashAlg) (part : Text) (body : Tree) → IsWrittenAs part body → (NamesHash hash body → ⊥) → IsOtherPayload hash part
 other_payload hash part body written n other w names = n (subst (NamesHash hash) (sym (one_carried part body other written.carried w.carried)) names)

@@ -11,7 +11,7 @@ use claim_tree::{Path, Tree};
 use digest_sites::{GivenList, SiteList};
 use itoa::Buffer;
 use marked_tree::{Marked, MarkedList, MarkedMap};
-use sd_outside::NoMemory;
+use sd_outside::{NoMemory, TextBox};
 use std::alloc::Global;
 
 // The strange sites of the payload, and then those of each value, which stands where its number is the mark of the claims.
@@ -62,24 +62,19 @@ fn walk_elements(
 {
     for (i, element) in list.elements().iter().enumerate() {
         let (mark, tree) = element;
-        let mut digits = Buffer::new();
-        walk_node(search, given, digits.format(i), *mark, tree)?;
+        walk_element(search, given, i, *mark, tree)?;
     }
     Ok(())
 }
 
 #[cycle(values)]
-fn walk_members(
-    search: &mut Search<'_>,
-    given: &GivenList,
-    map: &MarkedMap,
-) -> Result<(), NoMemory>
+fn walk_members(search: &mut Search<'_>, given: &GivenList, map: &MarkedMap) -> Result<(), NoMemory>
     ensures found { OnOk result (search.new.found ≡ search.old.found ++ members_values (is_in search.old.known.keys) given.now search.old.at map.now) }
     ensures at { OnOk result (search.new.at ≡ search.old.at) }
     ensures known { OnOk result (search.new.known ≡ search.old.known) }
 {
     for (name, mark, tree) in map.members() {
-        walk_node(search, given, name.as_str(), *mark, tree)?;
+        walk_member(search, given, name, *mark, tree)?;
     }
     Ok(())
 }
@@ -92,6 +87,44 @@ fn is_bare(mark: Option<u32>, tree: &Marked) -> bool
         Marked::List(_) | Marked::Object(_) => false,
         _ => mark.is_none(),
     }
+}
+
+// The element at a position. No step is made to a node where nothing is to be searched.
+#[cycle(values)]
+fn walk_element(
+    search: &mut Search<'_>,
+    given: &GivenList,
+    i: usize,
+    mark: Option<u32>,
+    tree: &Marked,
+) -> Result<(), NoMemory>
+    ensures found { OnOk result (search.new.found ≡ search.old.found ++ (values_at (is_in search.old.known.keys) given.now (search.old.at ++ decimal i ∷ []) (marked_of tree.now) ++ value_at (is_in search.old.known.keys) given.now (search.old.at ++ decimal i ∷ []) mark)) }
+    ensures at { OnOk result (search.new.at ≡ search.old.at) }
+    ensures known { OnOk result (search.new.known ≡ search.old.known) }
+{
+    if is_bare(mark, tree) {
+        return Ok(());
+    }
+    let mut digits = Buffer::new();
+    walk_node(search, given, digits.format(i), mark, tree)
+}
+
+#[cycle(values)]
+fn walk_member(
+    search: &mut Search<'_>,
+    given: &GivenList,
+    name: &TextBox,
+    mark: Option<u32>,
+    tree: &Marked,
+) -> Result<(), NoMemory>
+    ensures found { OnOk result (search.new.found ≡ search.old.found ++ (values_at (is_in search.old.known.keys) given.now (search.old.at ++ name.now ∷ []) (marked_of tree.now) ++ value_at (is_in search.old.known.keys) given.now (search.old.at ++ name.now ∷ []) mark)) }
+    ensures at { OnOk result (search.new.at ≡ search.old.at) }
+    ensures known { OnOk result (search.new.known ≡ search.old.known) }
+{
+    if is_bare(mark, tree) {
+        return Ok(());
+    }
+    walk_node(search, given, name.as_str(), mark, tree)
 }
 
 // The node on a step: what is inside it, and then the value that it marks.
@@ -107,9 +140,6 @@ fn walk_node(
     ensures at { OnOk result (search.new.at ≡ search.old.at) }
     ensures known { OnOk result (search.new.known ≡ search.old.known) }
 {
-    if is_bare(mark, tree) {
-        return Ok(());
-    }
     search.at.push(step)?;
     walk(search, given, tree)?;
     walk_value(search, given, mark)?;
@@ -118,11 +148,7 @@ fn walk_node(
 }
 
 // The value with this number.
-fn walk_value(
-    search: &mut Search<'_>,
-    given: &GivenList,
-    mark: Option<u32>,
-) -> Result<(), NoMemory>
+fn walk_value(search: &mut Search<'_>, given: &GivenList, mark: Option<u32>) -> Result<(), NoMemory>
     ensures found { OnOk result (search.new.found ≡ search.old.found ++ value_at (is_in search.old.known.keys) given.now search.old.at mark) }
     ensures at { OnOk result (search.new.at ≡ search.old.at) }
     ensures known { OnOk result (search.new.known ≡ search.old.known) }

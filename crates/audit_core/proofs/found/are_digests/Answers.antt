@@ -1,4 +1,4 @@
-use Rattle.std.proofs.Common.{sym, ap, subst, refl, ◌∙◌}
+use Rattle.std.proofs.Common.{sym, subst, refl, ◌∙◌}
 use Rattle.std.proofs.lemmas.Bool.{true≢false}
 use Rattle.audit_core.specs.Audited.{IsDigestText}
 use Rattle.audit_core.proofs.Loops.{digests_more, digests_end, digest_there}

@@ -12,6 +12,12 @@ decreases-walk l = 4 * nodes (strip (marked_of l.claims.now))
 abbrev pub decreases-walk_node : goal.decreases-walk_node
 decreases-walk_node l = 4 * nodes (strip (marked_of l.tree.now)) + 1
 
+abbrev pub decreases-walk_element : goal.decreases-walk_element
+decreases-walk_element l = 4 * nodes (strip (marked_of l.tree.now)) + 2
+
+abbrev pub decreases-walk_member : goal.decreases-walk_member
+decreases-walk_member l = 4 * nodes (strip (marked_of l.tree.now)) + 2
+
 abbrev pub decreases-walk_elements : goal.decreases-walk_elements
 decreases-walk_elements l = 4 * elements_nodes (strip_elements l.list.now) + 3
 
