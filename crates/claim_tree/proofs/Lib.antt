@@ -28,3 +28,4 @@ pub mod ObjectTrees
 pub mod FileMembers
 pub mod FileVerdicts
 pub mod ListForms
+mod PathSteps

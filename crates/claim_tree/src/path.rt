@@ -1,4 +1,5 @@
-ghost use Rattle.std.specs.Prelude.{◌≡◌, ◌-◌, ◌++◌, List, ℕ, [], ◌∷◌, length, reverse, take, decimal, IfOk, OnOk, OnErr, slice_get, option_map};
+ghost use Rattle.std.specs.Prelude.{◌≡◌, ◌<◌, ◌≤◌, ◌-◌, ◌++◌, List, ℕ, [], ◌∷◌, length, reverse, take, decimal, IfOk, OnOk, OnErr, slice_get, slice_index, Some, option_map};
+ghost use Rattle.claim_tree.specs.Steps.{steps_between, AreEnds};
 
 use itoa::Buffer;
 use sd_outside::{ListOf, NoMemory, TextBox};
@@ -75,13 +76,8 @@ impl Path {
         ensures { self.new ≡ take (length self.old - 1) self.old }
     {
         let _last = self.ends.pop();
-        self.text.truncate(self.last_end());
-    }
-
-    // Where the last step ends, and the text with it.
-    fn last_end(&self) -> usize
-    {
-        self.ends.last().copied().unwrap_or(0)
+        let end = start_at(self.ends.as_slice(), self.ends.len());
+        self.text.truncate(end);
     }
 
     /// The number of steps.
@@ -95,9 +91,11 @@ impl Path {
     pub fn at(&self, i: usize) -> Option<&str>
         ensures { option_map (λ step. step.now) result ≡ slice_get self.now i }
     {
-        let end = *self.ends.get(i)?;
-        let start = if i == 0 { 0 } else { self.ends[i - 1] };
-        Some(&self.text.as_str()[start..end])
+        if i < self.ends.len() {
+            Some(step_at(self.text.as_str(), self.ends.as_slice(), i))
+        } else {
+            None
+        }
     }
 
     /// The steps, from the first to the last.
@@ -120,6 +118,23 @@ impl Path {
         ends.extend_from_slice(self.ends.as_slice())?;
         Ok(Path { text, ends })
     }
+}
+
+// Where the step at a position starts, by the ends of the steps. At the number of the steps it is where the last one ends.
+fn start_at(ends: &[usize], i: usize) -> usize
+    requires { i ≤ length ends.now }
+    ensures { result ≡ slice_index (0 ∷ ends.now) i }
+{
+    if i == 0 { 0 } else { ends[i - 1] }
+}
+
+// The step at a position.
+fn step_at<'a>(text: &'a str, ends: &[usize], i: usize) -> &'a str
+    requires ends { AreEnds 0 ends.now text.now }
+    requires within { i < length ends.now }
+    ensures { slice_get (steps_between 0 ends.now text.now) i ≡ Some result.now }
+{
+    &text[start_at(ends, i)..ends[i]]
 }
 
 /// The steps of a path that are still to come. Contracts see the list of them.

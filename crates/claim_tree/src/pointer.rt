@@ -59,10 +59,10 @@ fn push_step(alloc: Global, path: &mut Path, written: &str) -> Result<(), Pointe
     ensures ok { OnOk result ((step : List ℕ) × (path.new ≡ path.old ++ step ∷ []) × (written.now ≡ escaped step)) }
     ensures syntax { result ≡ Err PointerError.Syntax → HasLoneTilde written.now }
 {
-    if written.split_once('~').is_none() {
+    let Some(_) = written.split_once('~') else {
         path.push(written)?;
         return Ok(());
-    }
+    };
     let step = read_step(alloc, written)?;
     path.push(step.as_str())?;
     Ok(())
@@ -133,8 +133,9 @@ fn push_escaped(text: &mut String, step: &str) -> Result<(), NoMemory>
 pub fn is_prefix(front: &Path, whole: &Path) -> bool
     ensures { result ≡ is_front front.now whole.now }
 {
-    for (i, step) in front.steps().enumerate() {
-        if whole.at(i) != Some(step) {
+    let mut rest = whole.steps();
+    for step in front.steps() {
+        if rest.next() != Some(step) {
             return false;
         }
     }

@@ -138,15 +138,3 @@ members_keep r (d ∷ ds) ms = omega (arith, show_keeps (r d) ms, members_keep r
 pub members_new : (r : Text → Shown) (ds : List Text) (ms : MarkedMembers) → AllNew r ds ms → shown_depths r ds ≤ map_depth (show_members r ds ms)
 members_new r [] ms h = omega arith
 members_new r (d ∷ ds) ms h = omega (arith, show_new (r d) ms h.0, members_keep r ds (show_member (r d) ms), members_new r ds (show_member (r d) ms) h.1)
-
-pub own_length : (es : Elements) (ds : List Text) → texts_of es ≡ Some ds → elements_len es ≡ length ds
-own_length no_elements [] h = refl
-own_length no_elements (d ∷ ds) h = cc
-own_length (element t es) ds h = go (text_of t) (texts_of es) ds h (own_length es)
-  where
-    go : (o : Option Text) (p : Option (List Text)) (ds : List Text) → option_and_then (λ s. option_map (λ ss. s ∷ ss) p) o ≡ Some ds → ((ds : List Text) → p ≡ Some ds → elements_len es ≡ length ds) → suc (elements_len es) ≡ length ds
-    go None p ds h ih = cc
-    go (Some s) None ds h ih = cc
-    go (Some s) (Some ss) ds h ih =
-        let e : s ∷ ss ≡ ds = cc in
-        ap suc (ih ss refl) ∙ ap length e

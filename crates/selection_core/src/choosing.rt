@@ -53,8 +53,8 @@ fn add_way(tree: &Marked, path: &Path, marks: &mut Vec<u32>) -> Result<bool, NoM
     ensures marks { IfOk result (λ there. there ≡ true → (i : ℕ) → has marks.new.items i ≡ (has marks.old.items i || is_on_way (marked_of tree.now) path.now i)) }
 {
     let mut inside = tree;
-    for (at, step) in path.steps().iter().enumerate() {
-        match stepped(inside, step.as_str()) {
+    for (at, step) in path.steps().enumerate() {
+        match stepped(inside, step) {
             Some((mark, below)) => {
                 if let Some(mark) = mark {
                     add_mark(marks, at, mark)?;

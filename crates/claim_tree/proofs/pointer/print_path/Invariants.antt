@@ -1,6 +1,6 @@
-use Rattle.std.proofs.Common.{◌≡◌, string_bytes, take}
+use Rattle.std.proofs.Common.{◌≡◌, ◌++◌, string_bytes}
 use Rattle.claim_tree.specs.Path.{pointer_text}
 use Rattle.claim_tree.proofs.pointer.print_path.Given as goal
 
 abbrev pub invariant-loop-step : goal.invariant-loop-step
-invariant-loop-step l = string_bytes l.text ≡ pointer_text (take l.step-index l.step-items)
+invariant-loop-step l = string_bytes l.text ++ pointer_text l.step-iterator ≡ pointer_text l.path

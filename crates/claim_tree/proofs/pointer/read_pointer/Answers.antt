@@ -14,20 +14,21 @@ returns-in_err-steps-clause-syntax c syntax =
     let some : (length c.args.text.now == 0) ≡ false = sym c.is_empty.ensures ∙ c.if-is_empty.false in
     no_slash (λ empty. let zero : (length c.args.text.now == 0) ≡ true = rw empty refl in cc) (begins_not 47 c.args.text.now none)
 
-pub returns-in_err-read_step-clause-syntax : goal.returns-in_err-read_step-clause-syntax
-returns-in_err-read_step-clause-syntax c syntax =
+pub returns-in_err-push_step-clause-syntax : goal.returns-in_err-push_step-clause-syntax
+returns-in_err-push_step-clause-syntax c syntax =
     let steps = c.in-Some.ensures.steps in
     let cut = step_cut c.args.text.now c.loop-step.path c.loop-step.step-iterator c.next.new.self c.in-Some.step.now c.loop-step.invariant steps.0 steps.1.1 in
-    let handed = err_from_is_err_and c.from_residual-in_err-read_step.result c.from_residual-in_err-read_step.ensures.1 in
+    let handed = err_from_is_err_and c.from_residual-in_err-push_step.result c.from_residual-in_err-push_step.ensures.1 in
     let error : handed.0 ≡ Syntax = let both = sym handed.1 ∙ syntax in cc in
-    let lone = c.in_err-read_step.ensures.syntax (ap Err (sym handed.2 ∙ error)) in
+    let lone = c.in_err-push_step.ensures.syntax (ap Err (sym handed.2 ∙ error)) in
     lone_tilde (lone_in_step c.args.text.now c.loop-step.path _ c.in-Some.step.now _ _ cut.0 cut.1 lone)
 
 pub loop-step-preserved : goal.loop-step-preserved
 loop-step-preserved c =
     let steps = c.in-Some.ensures.steps in
     let cut = step_cut c.args.text.now c.loop-step.path c.loop-step.step-iterator c.next.new.self c.in-Some.step.now c.loop-step.invariant steps.0 steps.1.1 in
+    let pushed = c.in_ok-push_step.ensures.ok in
     record {
       slash = steps.1.0 ∙ c.loop-step.invariant.slash;
-      spelling = rw c.in_ok-push.ensures.ok (step_read c.args.text.now c.loop-step.path _ c.in-Some.step.now c.in_ok-read_step.field-0 _ _ cut.0 cut.1 c.in_ok-read_step.ensures.ok);
+      spelling = rw (pushed.1) (step_read c.args.text.now c.loop-step.path _ c.in-Some.step.now pushed.0 _ _ cut.0 cut.1 pushed.2);
     }
