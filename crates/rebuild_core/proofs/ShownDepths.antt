@@ -1,11 +1,9 @@
 -- How deep what is opened is.
-use Rattle.std.proofs.Common.{◌≡◌, ℕ, suc, ◌≤◌, max, List, [], ◌∷◌, ◌++◌, length, Option, Some, None, Ordering, Less, Equal, Greater, nat_cmp, inl, inr, refl, sym, ap, ◌∙◌, arith}
+use Rattle.std.proofs.Common.{◌≡◌, ℕ, ◌≤◌, max, List, [], ◌∷◌, ◌++◌, Option, Some, None, Ordering, Less, Equal, Greater, nat_cmp, inl, inr, refl, sym, ap, ◌∙◌, arith}
 use Rattle.std.specs.Ordering.{match_ordering}
 use Rattle.std.specs.Cmp.Lexicographic.{slice_cmp}
 use Rattle.std.proofs.lemmas.Map.Lookups.{exact_bytes}
-use Rattle.std.specs.Prelude.{option_map, option_and_then}
-use Rattle.digest_sites.specs.Reserved.{texts_of}
-use Rattle.claim_tree.specs.Tree.{Text, Elements, no_elements, element, elements_len, depth, elements_depth, members_depth, text_of}
+use Rattle.claim_tree.specs.Tree.{Text, depth, elements_depth, members_depth}
 use Rattle.claim_tree.specs.Lists.{In}
 use Rattle.marked_tree.specs.Marked.{Marked, MarkedElements, no_marked_elements, marked_element, MarkedMembers, no_marked_members, marked_member, put, strip, strip_elements, strip_members}
 use Rattle.marked_tree.specs.MarkedCalls.{marked_pushed, marked_names, put_all}
