@@ -1,4 +1,4 @@
-// What is strange in a token, each site at its place in the claims.
+// The sites of a token whose digests are of no disclosure, each at its place in the claims.
 ghost use Rattle.std.specs.Prelude.{◌≡◌, [], ◌∷◌, ◌++◌, None, decimal, IfOk, OnOk, IsTrue};
 ghost use Rattle.claim_tree.specs.View.{tree_of};
 ghost use Rattle.marked_tree.specs.View.{marked_of};
@@ -14,8 +14,8 @@ use marked_tree::{Marked, MarkedList, MarkedMap};
 use sd_outside::{NoMemory, TextBox};
 use std::alloc::Global;
 
-// The strange sites of the payload, and then those of each value, which stands where its number is the mark of the claims.
-// Digests are looked up by their hashes with the seed.
+// The strange sites of the payload, and then those of each value. A value stands at the node of the claims whose mark is its
+// number. Digests are looked up by their hashes with the seed.
 pub(crate) fn others_of(
     alloc: Global,
     claims: &Marked,
@@ -127,7 +127,7 @@ fn walk_member(
     walk_node(search, given, name.as_str(), mark, tree)
 }
 
-// The node on a step: what is inside it, and then the value that it marks.
+// The node on a step: what is inside it, and then the value with the number of its mark.
 #[cycle(values)]
 fn walk_node(
     search: &mut Search<'_>,
