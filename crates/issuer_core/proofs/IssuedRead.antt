@@ -6,7 +6,7 @@ use Rattle.b64url_text.proofs.Codes.{one_code}
 use Rattle.b64url_text.proofs.Texts.{AreBytes-text, b64_utf8}
 use Rattle.claim_tree.specs.JsonText.{json_text, Reads}
 use Rattle.claim_tree.specs.Lists.{StandsAt, In}
-use Rattle.claim_tree.specs.Tree.{Text, text, Tree, leaf, array, object, Members, no_members, member, member_named, IsOrdered, IsRanged}
+use Rattle.claim_tree.specs.Tree.{Text, text, Tree, leaf, array, object, Members, no_members, member, member_named}
 use Rattle.claim_tree.proofs.Lists.{At-In, At-below, At-same, In-At, In-append, In-of_map, bytes_same}
 use Rattle.claim_tree.proofs.OtherMembers.{removed_inserted}
 use Rattle.claim_tree.proofs.OwnReading.{read_as_itself}

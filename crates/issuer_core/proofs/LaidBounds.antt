@@ -1,5 +1,5 @@
 -- What is laid is as deep as the claims, or one level deeper, and its numbers are those of the claims.
-use Rattle.std.proofs.Common.{◌≡◌, ℕ, suc, ◌≤◌, List, [], ◌∷◌, ◌++◌, Equal, Greater, Less, None, Option, Ordering, Some, arith, decimal, inl, inr, refl, subst, sym, ⊎_elim}
+use Rattle.std.proofs.Common.{ℕ, suc, ◌≤◌, List, [], ◌∷◌, ◌++◌, Equal, Greater, Less, None, Option, Ordering, Some, arith, decimal, inl, inr, subst, sym, ⊎_elim}
 use Rattle.std.specs.Cmp.Lexicographic.{slice_cmp}
 use Rattle.std.specs.Ordering.{match_ordering, nat_cmp}
 use Rattle.claim_tree.specs.FileForms.{text_elements}

@@ -1,7 +1,7 @@
 -- What is laid, with digests that all differ, is issued.
 use Rattle.std.proofs.Common.{◌≡◌, ℕ, suc, ◌+◌, ◌<◌, List, [], ◌∷◌, ap, ap₂, arith, cond, length, refl, subst, sym, ◌∙◌}
 use Rattle.std.specs.Prelude.{bytes_eq}
-use Rattle.claim_tree.specs.Lists.{StandsAt, In, AtNone, Repeats}
+use Rattle.claim_tree.specs.Lists.{In}
 use Rattle.claim_tree.specs.Tree.{Text, Tree, IsRanged}
 use Rattle.digest_sites.specs.Given.{Given}
 use Rattle.digest_sites.specs.Sites.{sites}
@@ -15,7 +15,6 @@ use Rattle.issuer_core.specs.ShortLists.{HasShortLists}
 use Rattle.issuer_core.specs.Issued.{DecoysStand, HasDigestLists, IsIssuedFor}
 use Rattle.issuer_core.specs.Laid.{IsLaid}
 use Rattle.issuer_core.specs.Order.{Order}
-use Rattle.claim_tree.proofs.Lists.{At-get}
 use Rattle.marked_tree.proofs.MarkFacts.{mark_strips_holds}
 use Rattle.marked_tree.proofs.Sums.{sum_of, sum_of-append, sum_of-map}
 use Rattle.issuer_core.proofs.DecoyPlaces.{held_at}
@@ -26,13 +25,6 @@ use Rattle.issuer_core.proofs.LaidBounds.{payload_ranged, value_ranged}
 use Rattle.issuer_core.proofs.LaidOrdered.{laid_is_readable_holds}
 use Rattle.issuer_core.proofs.LaidSums.{all_sum, digest_sum, laid_sum, occurs_is, site_sum, value_sum}
 use Rattle.issuer_core.proofs.Plain.{marked_plain}
-
--- the digests of a list in which none repeats
-pub all_differ : (dg : ℕ → Text) (ds : List Text) → ((k : ℕ) (d : Text) → StandsAt ds k d → d ≡ dg k) → AtNone (Repeats ds) → AllDiffer dg (length ds)
-all_differ dg ds same none i j l b e =
-    let x = At-get ds i (omega (arith, l, b)) in
-    let y = At-get ds j b in
-    none j (y.0, y.1, i, l, subst (λ z. StandsAt ds i z) (same i x.0 x.1 ∙ e ∙ sym (same j y.0 y.1)) x.1)
 
 numbered_same : (f h : ℕ → Text) (k : ℕ) (qs : List Path) → ((d : ℕ) → d < length qs → f (k + d) ≡ h (k + d)) → digests_from f k qs ≡ digests_from h k qs
 numbered_same f h k [] e = refl

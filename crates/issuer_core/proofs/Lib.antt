@@ -32,7 +32,6 @@ pub mod Firsts
 pub mod ReservedPlaces
 pub mod SaltSteps
 pub mod Clashes
-pub mod Counts
 pub mod Lowest
 pub mod Judged
 pub mod OrderFiles

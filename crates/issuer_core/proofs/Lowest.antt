@@ -1,30 +1,13 @@
 -- The lowest refusal that applies, sought step by step.
 use Rattle.std.proofs.Common.{◌≡◌, ◌<◌, ◌≤◌, ℕ, suc, arith}
 use Rattle.claim_tree.specs.Lists.{IsSuchAt, IsLeast, AtNone}
-use Rattle.marked_tree.specs.Paths.{Path}
 use Rattle.issuer_core.specs.declared.errors.IssueError.{IssueError}
-use Rattle.issuer_core.specs.declared.errors.IssueError.TheVariants.{Memory, SignFailed, PayloadNotObject, ReservedName, TooDeep, RootMarked, NoSuchPlace, ProtectedClaim, DecoyPlace, TooManyHidden, TooManyDecoys, DigestClash, TooLong}
+use Rattle.issuer_core.specs.declared.errors.IssueError.TheVariants.{RootMarked, NoSuchPlace, ProtectedClaim, DecoyPlace}
 use Rattle.issuer_core.specs.Order.{Order}
-use Rattle.compact_form.specs.Lowest.{NoneApplies}
 use Rattle.issuer_core.specs.OrderRefusals.{IsRoot, IsNowhere, IsProtected, IsMisplaced, AppliesToOrder, issue_number, refusal_place, IsLowestRefusal}
 use Rattle.issuer_core.specs.Judging.{PassesBelow}
 
 -- ---- none below a number
-
-pub from_51 : (o : Order) → PassesBelow 51 o
-from_51 o Memory h = absurd h
-from_51 o SignFailed h = absurd h
-from_51 o PayloadNotObject h = omega arith
-from_51 o (ReservedName path) h = omega arith
-from_51 o TooDeep h = omega arith
-from_51 o (RootMarked k) h = omega arith
-from_51 o (NoSuchPlace k) h = omega arith
-from_51 o (ProtectedClaim k) h = omega arith
-from_51 o (DecoyPlace k) h = omega arith
-from_51 o TooManyHidden h = omega arith
-from_51 o TooManyDecoys h = omega arith
-from_51 o (DigestClash i j) h = absurd h
-from_51 o TooLong h = absurd h
 
 -- no refusal with this number applies
 abbrev pub NoneWith : ℕ → Order → Type 0
@@ -35,18 +18,6 @@ one_more o number below none error h = at_or_above number (issue_number error) (
   where
     at_or_above : (a b : ℕ) → a ≤ b → (b ≡ a → ⊥) → suc a ≤ b
     at_or_above a b l differs = grind arith
-
-pub no_51 : (o : Order) → (AppliesToOrder o PayloadNotObject → ⊥) → NoneWith 51 o
-no_51 o none PayloadNotObject h same = none h
-no_51 o none error h same = omega (arith, same)
-
-pub no_52 : (o : Order) → ((path : Path) → AppliesToOrder o (ReservedName path) → ⊥) → NoneWith 52 o
-no_52 o none (ReservedName path) h same = none path h
-no_52 o none error h same = omega (arith, same)
-
-pub no_53 : (o : Order) → (AppliesToOrder o TooDeep → ⊥) → NoneWith 53 o
-no_53 o none TooDeep h same = none h
-no_53 o none error h same = omega (arith, same)
 
 pub no_54 : (o : Order) → AtNone (IsSuchAt IsRoot o.hide) → NoneWith 54 o
 no_54 o none (RootMarked k) h same = none k h
@@ -64,30 +35,11 @@ pub no_57 : (o : Order) → AtNone (IsSuchAt (IsMisplaced o.payload) o.decoys) �
 no_57 o none (DecoyPlace k) h same = none k h
 no_57 o none error h same = omega (arith, same)
 
-pub no_58 : (o : Order) → (AppliesToOrder o TooManyHidden → ⊥) → NoneWith 58 o
-no_58 o none TooManyHidden h same = none h
-no_58 o none error h same = omega (arith, same)
-
-pub no_59 : (o : Order) → (AppliesToOrder o TooManyDecoys → ⊥) → NoneWith 59 o
-no_59 o none TooManyDecoys h same = none h
-no_59 o none error h same = omega (arith, same)
-
-pub none_left : (o : Order) → PassesBelow 60 o → NoneApplies (AppliesToOrder o)
-none_left o below Memory h = h
-none_left o below SignFailed h = h
-none_left o below (DigestClash i j) h = h
-none_left o below TooLong h = h
-none_left o below error h = let over = below error h in omega (arith, over)
-
 -- ---- the lowest, at its least place
 
 pub lowest_at : (o : Order) (error : IssueError) → PassesBelow (issue_number error) o → AppliesToOrder o error
     → ((other : IssueError) → AppliesToOrder o other → issue_number other ≡ issue_number error → refusal_place error ≤ refusal_place other) → IsLowestRefusal (AppliesToOrder o) error
 lowest_at o error below applies first = record { applies = applies; lowest = below; first = first }
-
--- a refusal with no place
-pub lowest : (o : Order) (error : IssueError) → refusal_place error ≡ 0 → PassesBelow (issue_number error) o → AppliesToOrder o error → IsLowestRefusal (AppliesToOrder o) error
-lowest o error nought below applies = lowest_at o error below applies (λ other h same. omega (arith, nought))
 
 not_below : (a b : ℕ) → (b < a → ⊥) → a ≤ b
 not_below a b h = grind arith

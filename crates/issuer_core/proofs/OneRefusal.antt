@@ -1,5 +1,5 @@
 -- An order that is refused is refused in one way.
-use Rattle.std.proofs.Common.{◌≡◌, ℕ, ◌<◌, ◌⊎◌, inl, inr, List, Some, Option, ap, ap₂, arith, refl, subst, sym, ◌∙◌}
+use Rattle.std.proofs.Common.{◌≡◌, ℕ, List, Some, Option, ap, ap₂, arith, refl, subst, sym, ◌∙◌}
 use Rattle.claim_tree.specs.Tree.{Text}
 use Rattle.claim_tree.specs.Lists.{IsLeast}
 use Rattle.hmac_sign.specs.Signatures.{Meaning}

@@ -1,12 +1,10 @@
 -- A file says one order, or is refused.
-use Rattle.std.proofs.Common.{◌≡◌, ◌≢◌, ℕ, ◌<◌, ◌≤◌, List, [], ◌∷◌, Bool, true, false, cond, inl, inr, Option, Some, None, length, refl, sym, ap, ap₂, subst, ◌∙◌, arith, codes}
-use Rattle.std.specs.Prelude.{bytes_eq}
+use Rattle.std.proofs.Common.{◌≡◌, ◌≢◌, ℕ, ◌<◌, ◌≤◌, List, [], ◌∷◌, inl, inr, Option, Some, None, length, refl, sym, ap, ap₂, subst, ◌∙◌, arith, codes}
 use Rattle.sd_outside.specs.Limits.{count_max, file_max, key_min}
 use Rattle.claim_tree.specs.Tree as spec
-use Rattle.claim_tree.specs.Tree.{Text, text, leaf, object, Elements, no_elements, element, Members, no_members, member, members_len, member_named, depth, members_depth, IsOrdered, MembersOrdered, IsRanged, MembersRanged}
+use Rattle.claim_tree.specs.Tree.{Text, text, leaf, object, Elements, no_elements, element, Members, member_named, depth, members_depth, IsRanged, MembersRanged}
 use Rattle.claim_tree.specs.Lists.{In}
 use Rattle.claim_tree.specs.View.{tree_of}
-use Rattle.claim_tree.specs.declared.tree.Tree as tree
 use Rattle.claim_tree.specs.FileForms.{IsText, IsWholeUpTo, Says, MaySay, SaysOr, HasValue, MemberMeets, MemberFails, missing, wrong, optional, found}
 use Rattle.claim_tree.specs.FileRefusals.{IsMemberRefused}
 use Rattle.claim_tree.specs.declared.file_fault.Field.{Field}
@@ -32,57 +30,9 @@ use Rattle.issuer_core.specs.declared.order_file.IssueFile.{IssueFile}
 use Rattle.claim_tree.proofs.ListForms.{one_list, one_pointer}
 use Rattle.claim_tree.proofs.Inner.{ranged-member_named}
 use Rattle.claim_tree.proofs.OtherMembers.{depth-member_named}
-use Rattle.claim_tree.proofs.ObjectTrees.{object_inside}
 use Rattle.hmac_sign.proofs.KeyTexts.{one_key_bytes}
 
--- ---- what a member says
-
-says_none : {X : Type 0} (Is : spec.Tree → X → Type 0) (o : Option spec.Tree) (x : X) → o ≡ None → Says Is o x → ⊥
-says_none Is None x e h = h
-says_none Is (Some t) x e h = cc e
-
-says_odd : {X : Type 0} (Is : spec.Tree → X → Type 0) (o : Option spec.Tree) (t : spec.Tree) (x : X) → o ≡ Some t → (HasValue Is t → ⊥) → Says Is o x → ⊥
-says_odd Is None t x e none h = h
-says_odd Is (Some u) t x e none h = let same : u ≡ t = cc e in none (x, subst (λ v. Is v x) same h)
-
-says_it : {X : Type 0} (Is : spec.Tree → X → Type 0) (o : Option spec.Tree) (t : spec.Tree) (x : X) → o ≡ Some t → Is t x → Says Is o x
-says_it Is None t x e h = cc e
-says_it Is (Some u) t x e h = let same : u ≡ t = cc e in subst (λ v. Is v x) (sym same) h
-
 -- ---- entries of decoys
-
-pub no_object : (t : tree.Tree) → ((ms : Members) → t ≢ tree.Tree.Object ms) → HasValue IsDecoy (tree_of t) → ⊥
-no_object t other h = other h.1.members (object_inside t h.1.members h.1.is)
-
-same_members : (t : tree.Tree) (ms : Members) → t ≡ tree.Tree.Object ms → (h : HasValue IsDecoy (tree_of t)) → h.1.members ≡ ms
-same_members t ms is h = let both : object h.1.members ≡ object ms = sym h.1.is ∙ ap tree_of is in cc both
-
-pub not_two : (t : tree.Tree) (ms : Members) → t ≡ tree.Tree.Object ms → (members_len ms ≡ 2 → ⊥) → HasValue IsDecoy (tree_of t) → ⊥
-not_two t ms is differs h = differs (subst (λ ns. members_len ns ≡ 2) (same_members t ms is h) h.1.two)
-
-pub no_at : (t : tree.Tree) (ms : Members) → t ≡ tree.Tree.Object ms → member_named ms (codes "at") ≡ None → HasValue IsDecoy (tree_of t) → ⊥
-no_at t ms is none h = says_none IsPointer (member_named ms (codes "at")) h.0.at none (subst (λ ns. Says IsPointer (member_named ns (codes "at")) h.0.at) (same_members t ms is h) h.1.at)
-
-pub odd_at : (t : tree.Tree) (ms : Members) (u : spec.Tree) → t ≡ tree.Tree.Object ms → member_named ms (codes "at") ≡ Some u → (HasValue IsPointer u → ⊥) → HasValue IsDecoy (tree_of t) → ⊥
-odd_at t ms u is there odd h = says_odd IsPointer (member_named ms (codes "at")) u h.0.at there odd (subst (λ ns. Says IsPointer (member_named ns (codes "at")) h.0.at) (same_members t ms is h) h.1.at)
-
-pub no_count : (t : tree.Tree) (ms : Members) → t ≡ tree.Tree.Object ms → member_named ms (codes "count") ≡ None → HasValue IsDecoy (tree_of t) → ⊥
-no_count t ms is none h =
-    says_none (IsWholeUpTo count_max) (member_named ms (codes "count")) h.0.count none (subst (λ ns. Says (IsWholeUpTo count_max) (member_named ns (codes "count")) h.0.count) (same_members t ms is h) h.1.count)
-
-pub odd_count : (t : tree.Tree) (ms : Members) (u : spec.Tree) → t ≡ tree.Tree.Object ms → member_named ms (codes "count") ≡ Some u → (HasValue (IsWholeUpTo count_max) u → ⊥) → HasValue IsDecoy (tree_of t) → ⊥
-odd_count t ms u is there odd h =
-    says_odd (IsWholeUpTo count_max) (member_named ms (codes "count")) u h.0.count there odd (subst (λ ns. Says (IsWholeUpTo count_max) (member_named ns (codes "count")) h.0.count) (same_members t ms is h) h.1.count)
-
-pub is_decoy : (t : tree.Tree) (ms : Members) (u v : spec.Tree) (entry : Decoy) → t ≡ tree.Tree.Object ms → members_len ms ≡ 2 → member_named ms (codes "at") ≡ Some u → IsPointer u entry.at
-    → member_named ms (codes "count") ≡ Some v → IsWholeUpTo count_max v entry.count → IsDecoy (tree_of t) entry
-is_decoy t ms u v entry is two there at stands count = record {
-  members = ms;
-  is = ap tree_of is;
-  two = two;
-  at = says_it IsPointer (member_named ms (codes "at")) u entry.at there at;
-  count = says_it (IsWholeUpTo count_max) (member_named ms (codes "count")) v entry.count stands count;
-}
 
 entry_of : List Text → ℕ → Decoy
 entry_of at count = record { at = at; count = count }
@@ -121,19 +71,8 @@ value_named : (o : Option spec.Tree) (u : spec.Tree) → Says IsValue o u → o 
 value_named None u h = absurd h
 value_named (Some t) u h = ap Some (sym h)
 
-ordered_named : (ms : Members) (name : Text) (u : spec.Tree) → MembersOrdered ms → member_named ms name ≡ Some u → IsOrdered u
-ordered_named no_members name u o e = cc e
-ordered_named (member k t ms) name u o e = go (bytes_eq k name) e (ordered_named ms name u o.2)
-  where
-    go : (b : Bool) → cond b (Some t) (member_named ms name) ≡ Some u → (member_named ms name ≡ Some u → IsOrdered u) → IsOrdered u
-    go true e ih = let same : t ≡ u = cc e in subst IsOrdered same o.1
-    go false e ih = ih e
-
 pub value_depth : (ms : Members) (name : Text) (u : spec.Tree) → members_depth ms ≤ 126 → Says IsValue (member_named ms name) u → depth u ≤ 126
 value_depth ms name u low says = omega (arith, low, depth-member_named ms name u (value_named (member_named ms name) u says))
-
-pub value_ordered : (ms : Members) (name : Text) (u : spec.Tree) → MembersOrdered ms → Says IsValue (member_named ms name) u → IsOrdered u
-value_ordered ms name u o says = ordered_named ms name u o (value_named (member_named ms name) u says)
 
 pub value_ranged : (ms : Members) (name : Text) (u : spec.Tree) → MembersRanged ms → Says IsValue (member_named ms name) u → IsRanged u
 value_ranged ms name u r says = ranged-member_named ms name u r (value_named (member_named ms name) u says)

@@ -1,8 +1,9 @@
 -- Decoys' digests at their places: one step down, at the place itself, and sorted.
-use Rattle.std.proofs.Common.{◌≡◌, ◌≢◌, ℕ, zero, suc, ◌+◌, ◌-◌, ◌<◌, ◌≤◌, List, [], ◌∷◌, ◌++◌, length, take, drop, get_or, Bool, false, cond, Less, Equal, Greater, refl, sym, ap, subst, ◌∙◌, arith}
+use Rattle.std.proofs.Common.{◌≡◌, ◌≢◌, ℕ, zero, suc, ◌+◌, ◌-◌, ◌<◌, ◌≤◌, List, [], ◌∷◌, ◌++◌, length, take, drop, get_or, Some, Bool, false, cond, Less, Equal, Greater, refl, sym, ap, subst, ◌∙◌, arith}
 use Rattle.std.proofs.lemmas.List.{length-take-le, length-drop}
+use Rattle.std.proofs.lemmas.Option.{get_or_from_slice_get}
 use Rattle.std.proofs.Math.Seq.{take-length}
-use Rattle.std.specs.Prelude.{nat_le}
+use Rattle.std.specs.Prelude.{nat_le, slice_get}
 use Rattle.std.proofs.lemmas.Bool.{leb-true, le-leb}
 use Rattle.std.specs.List.Sorted.{IsPartitionedBy}
 use Rattle.claim_tree.specs.Tree.{Text}
@@ -105,6 +106,20 @@ placed_here depth (x ∷ xs) (d ∷ ds) (suc count) short long same =
     rw (at_end depth x (short 0 x (omega arith) (omega arith)))
     (ap (λ (rest : List Text). d ∷ rest)
     (placed_here depth xs ds count (λ k e l h. short (suc k) e (omega (arith, l)) (omega (arith, h))) (λ k e l h. long (suc k) e (omega (arith, l)) (omega (arith, h))) (omega (arith, same))))
+
+-- ---- at no place further on
+
+none_further : (depth : ℕ) (xs : List Path) (ds : List Text) → ((k : ℕ) (d : Path) → k < length xs → length (get_or xs k d) ≤ depth) → (step : Text) (q : Path) → digests_on_path (rests depth xs) ds (step ∷ q) ≡ []
+none_further depth [] ds all step q = refl
+none_further depth (x ∷ xs) [] all step q = refl
+none_further depth (x ∷ xs) (d ∷ ds) all step q = rw (at_end depth x (all 0 x (omega arith))) (none_further depth xs ds (λ k e l. all (suc k) e (omega (arith, l))) step q)
+
+-- where the last ends at the place, all do
+pub all_end : (depth : ℕ) (xs : List Path) (ds : List Text) (last : Path) → AreSorted (rests depth xs) → slice_get xs (length xs - 1) ≡ Some last → length last ≤ depth
+    → (step : Text) (q : Path) → digests_on_path (rests depth xs) ds (step ∷ q) ≡ []
+all_end depth xs ds last sorted is short =
+    none_further depth xs ds
+    (λ k d l. ends_before depth xs k (length xs - 1) d sorted (omega (arith, l)) (omega (arith, l)) (subst (λ (p : Path). length p ≤ depth) (sym (get_or_from_slice_get xs (length xs - 1) last d is)) short))
 
 -- ---- slices
 

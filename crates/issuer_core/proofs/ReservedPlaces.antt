@@ -1,7 +1,7 @@
 -- The first member with a reserved name.
 use Rattle.std.proofs.Common.{◌≡◌, ℕ, suc, ◌+◌, ◌<◌, List, [], ◌∷◌, ◌++◌, map, reverse, length, drop, get_or, Bool, true, false, cond, not, ◌||◌, Option, Some, None, option_map, Bor, refl, sym, ap, subst, ◌∙◌, arith, decimal}
 use Rattle.std.specs.Prelude.{◌^◌, bytes_eq, slice_get, is_some, codes}
-use Rattle.std.proofs.lemmas.List.{drop_more, reverse-append}
+use Rattle.std.proofs.lemmas.List.{drop_more}
 use Rattle.claim_tree.specs.Everywhere.{LeafIsUtf8, InElements, InMembers}
 use Rattle.claim_tree.proofs.Everywheres.{everywhere_else}
 use Rattle.claim_tree.specs.Tree as spec
@@ -29,9 +29,6 @@ places_at name t = own_reserved_path name ++ map (λ p. name ∷ p) (reserved_pa
 
 pub found_here : (name : Text) (t : spec.Tree) → is_reserved name ≡ true → slice_get (places_at name t) 0 ≡ Some (name ∷ [])
 found_here name t e = rw e refl
-
-pub found_inside : (name : Text) (t : spec.Tree) → is_reserved name ≡ false → slice_get (places_at name t) 0 ≡ option_map (λ p. name ∷ p) (slice_get (reserved_paths t) 0)
-found_inside name t e = rw e (first_map (λ (p : Path). name ∷ p) (reserved_paths t))
 
 -- ---- an object
 

@@ -46,14 +46,6 @@ rising_pairs (x ∷ xs) all = (none_below x xs (λ k d l. all 0 (suc k) d (omega
 rising : (xs : List Text) → IsSortedBy lower xs → Rising xs
 rising xs s = rising_pairs xs (sorted_far lower (ranks_by order (λ (x : Text). x)) xs s)
 
-pub less_through : (x y z : Text) → cmp x y ≢ Greater → cmp y z ≡ Less → cmp x z ≡ Less
-less_through x y z n l = go (cmp x y) refl
-  where
-    go : (o : Ordering) → cmp x y ≡ o → cmp x z ≡ Less
-    go Less e = (order).trans x y z e l
-    go Equal e = subst (λ w. cmp w z ≡ Less) (sym (same_name x y e)) l
-    go Greater e = absurd (n e)
-
 pub less_then : (x y z : Text) → cmp x y ≡ Less → cmp y z ≢ Greater → cmp x z ≡ Less
 less_then x y z l n = go (cmp y z) refl
   where

@@ -61,6 +61,10 @@ pub record ArePlaced (d : Decoys) : Type 0 where
   pub sorted : AreSorted (rests d.depth d.paths.now)
   pub each : length d.digests.now ≡ length d.paths.now
 
+-- none is at a place further on
+abbrev pub EndHere : Decoys → Type 0
+EndHere d = (step : Text) (at : Path) → placed_at d (step ∷ at) ≡ []
+
 -- dec has the digests at each place
 abbrev pub DecoysTell : Decoys → (Path → List Text) → Type 0
 DecoysTell d dec = (at : Path) → placed_at d at ≡ dec at

@@ -13,7 +13,7 @@ pub fn first_clash(alloc: Global, digests: &TextList) -> Result<Option<(usize, u
     ensures clash { IfOk result (λ clash. IfSome clash (λ places. IsFirstClash digests.now places.0 places.1)) }
     ensures none { IfOk result (λ clash. IfNone clash (AtNone (Repeats digests.now))) }
 {
-    let mut index = DigestIndex::new(alloc);
+    let mut index = DigestIndex::with_seed(alloc, digests.len(), 0)?;
     let mut steps = Steps::new();
     for j in 0..digests.len() {
         let digest = digests.at(j).unwrap();

@@ -1,12 +1,13 @@
 // Decoys' digests at their places, for the walk that hides.
-ghost use Rattle.std.specs.Prelude.{◌≡◌, ◌+◌, ◌≤◌, [], ◌∷◌, ◌++◌, length, take, replicate, IfOk, OnOk};
+ghost use Rattle.std.specs.Prelude.{◌≡◌, ◌+◌, ◌≤◌, [], ◌∷◌, ◌++◌, length, take, replicate, decimal, IfOk, IsTrue, OnOk};
 ghost use Rattle.marked_tree.specs.Paths.{Path as Steps};
 ghost use Rattle.marked_tree.specs.Rests.{path_order, AreSorted};
 ghost use Rattle.issuer_core.specs.Decoys.{decoy_paths};
-ghost use Rattle.issuer_core.specs.Laying.{digests_on_path, placed_at, paths_in, digests_in, ArePlaced};
+ghost use Rattle.issuer_core.specs.Laying.{digests_on_path, placed_at, paths_in, digests_in, ArePlaced, EndHere};
 
 use crate::DecoyList;
 use claim_tree::Path;
+use itoa::Buffer;
 use marked_tree::{compare_paths, run_below};
 use sd_outside::{NoMemory, TextBox, TextList};
 use std::alloc::Global;
@@ -51,8 +52,62 @@ impl<'a> Decoys<'a> {
         &self.digests[..count]
     }
 
+    // Whether there is none below the place: those at it come first.
+    fn end_here(&self) -> bool
+        requires { ArePlaced self.now }
+        ensures { IsTrue result → EndHere self.now }
+    {
+        match self.paths.last() {
+            Some(path) => path.len() <= self.depth,
+            None => true,
+        }
+    }
+
+    // None, at a place that is one step further.
+    fn none_below(&self) -> Decoys<'a>
+        requires { self.now.depth ≤ 126 }
+        ensures placed { ArePlaced result }
+        ensures none { (at : Steps) → placed_at result at ≡ [] }
+        ensures depth { result.depth ≡ self.now.depth + 1 }
+    {
+        Decoys {
+            paths: &self.paths[..0],
+            digests: &self.digests[..0],
+            depth: self.depth + 1,
+        }
+    }
+
     // Those at and below the place that is one step further.
     pub(crate) fn below(&self, step: &str) -> Decoys<'a>
+        requires fits { self.now.depth ≤ 126 }
+        requires placed { ArePlaced self.now }
+        ensures placed { ArePlaced result }
+        ensures below { (at : Steps) → placed_at result at ≡ placed_at self.now (step.now ∷ at) }
+        ensures depth { result.depth ≡ self.now.depth + 1 }
+    {
+        if self.end_here() {
+            return self.none_below();
+        }
+        self.search_below(step)
+    }
+
+    // The same for an element of a list. The digits of its position are written only where they are compared.
+    pub(crate) fn below_element(&self, i: usize) -> Decoys<'a>
+        requires fits { self.now.depth ≤ 126 }
+        requires placed { ArePlaced self.now }
+        ensures placed { ArePlaced result }
+        ensures below { (at : Steps) → placed_at result at ≡ placed_at self.now (decimal i ∷ at) }
+        ensures depth { result.depth ≡ self.now.depth + 1 }
+    {
+        if self.end_here() {
+            return self.none_below();
+        }
+        let mut digits = Buffer::new();
+        self.search_below(digits.format(i))
+    }
+
+    // The same, searched for.
+    fn search_below(&self, step: &str) -> Decoys<'a>
         requires fits { self.now.depth ≤ 126 }
         requires placed { ArePlaced self.now }
         ensures placed { ArePlaced result }

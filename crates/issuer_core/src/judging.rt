@@ -48,9 +48,7 @@ fn is_object(tree: &Tree) -> bool
 fn first_root(hide: &PathList) -> Option<usize>
     ensures { result ≡ position_from spec.is_root 0 hide.now }
 {
-    hide.elements()
-        .iter()
-        .position(|path| path.steps().is_empty())
+    hide.elements().iter().position(|path| path.len() == 0)
 }
 
 fn is_nowhere(payload: &Tree, path: &Path) -> bool
@@ -80,7 +78,7 @@ fn is_protected(path: &Path) -> bool
     ensures { result ≡ spec.is_protected path.now }
 {
     match path.at(0) {
-        Some(step) => is_protected_name(step.as_str()),
+        Some(step) => is_protected_name(step),
         None => false,
     }
 }

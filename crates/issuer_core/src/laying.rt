@@ -26,7 +26,6 @@ use crate::{DecoyList, Order};
 use claim_tree::{Tree, TreeList, TreeMap};
 use compact_form::COUNT_MAX;
 use disclosure::{HashAlg, digest, make_owned};
-use itoa::Buffer;
 use marked_tree::{Marked, MarkedList, MarkedMap, mark_counted};
 use sd_outside::{NoMemory, TextBox, TextList};
 use std::alloc::Global;
@@ -230,8 +229,7 @@ fn lay_list(
     let count = list.len();
     let mut laid = TreeList::with_capacity(alloc, count.saturating_add(own.len()))?;
     for (mark, tree) in list.into_elements() {
-        let mut digits = Buffer::new();
-        let below = decoys.below(digits.format(laid.len()));
+        let below = decoys.below_element(laid.len());
         let tree = match lay_part(alloc, None, mark, tree, below, hiding, layer)? {
             Part::Shown(tree) => tree,
             Part::Hidden(digest) => digest_object(alloc, digest)?,

@@ -40,7 +40,7 @@ pub(crate) fn first_reserved(alloc: Global, tree: &Tree) -> Result<Option<Path>,
     ensures held { IfOk result (λ path. IfNone path (FitsMachine (tree_of tree.now))) }
 {
     match find(alloc, tree)? {
-        Some(steps) => Ok(Some(Path::from_last(steps))),
+        Some(steps) => Ok(Some(Path::from_last(alloc, steps.as_slice())?)),
         None => Ok(None),
     }
 }

@@ -1,5 +1,4 @@
 use claim_tree::{Path, PathList, is_prefix, read_pointer};
-use sd_outside::TextBox;
 use std::alloc::Global;
 use std::test::Fail;
 
@@ -11,7 +10,7 @@ fn path(alloc: Global, pointer: &str) -> Result<Path, Fail> {
 fn a_path_leads_to_the_paths_that_go_on(rt: HostRuntime) -> Result<(), Fail> {
     let front = path(rt.alloc(), "/a")?;
     let mut whole = front.copy(rt.alloc())?;
-    whole.push(TextBox::make(rt.alloc(), "b")?)?;
+    whole.push("b")?;
     let whole_leads = is_prefix(&whole, &front);
     assert!(rt; is_prefix(&front, &whole) && is_prefix(&whole, &whole) && !whole_leads);
     whole.pop();

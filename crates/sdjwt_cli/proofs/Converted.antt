@@ -2,10 +2,8 @@
 use Rattle.std.proofs.Common.{◌≡◌, ◌≤◌, ℕ, List, length, refl, sym, ap, subst, ◌∙◌}
 use Rattle.claim_tree.specs.Tree.{Tree, object, Members, no_members}
 use Rattle.sd_outside.specs.Limits.{file_max}
-use Rattle.compact_form.specs.declared.condition.Condition.{Condition}
-use Rattle.compact_form.specs.Faults.{unplaced}
 use Rattle.json_form.specs.declared.token.Token.{Token}
-use Rattle.json_form.specs.Token.{IsToken, IsTooMuch, too_much}
+use Rattle.json_form.specs.Token.{IsToken}
 use Rattle.json_form.specs.Written.{flat_of, general_of}
 use Rattle.json_form.specs.Printable.{IsPrintable}
 use Rattle.json_form.proofs.Lines.{read_compact_line, read_json_line}

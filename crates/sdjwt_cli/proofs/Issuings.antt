@@ -1,5 +1,5 @@
 -- What the steps of `issue` say of its files.
-use Rattle.std.proofs.Common.{◌≡◌, ◌≢◌, ℕ, List, refl, arith}
+use Rattle.std.proofs.Common.{◌≢◌, ℕ, List, refl, arith}
 use Rattle.std.specs.Array.{IsFirstChunk}
 use Rattle.sd_outside.specs.Causes.{Rose}
 use Rattle.hmac_sign.specs.Signatures.{Meaning}

@@ -6,7 +6,6 @@ use Rattle.jws_part.specs.Part.{IsBody, IsNoObject}
 use Rattle.jws_part.specs.Header.{IsHeaderUnreadable}
 use Rattle.jws_part.proofs.Parts as bodies
 use Rattle.disclosure.specs.Digest.{payload_hash}
-use Rattle.disclosure.proofs.Verdicts as readings
 use Rattle.compact_form.specs.declared.condition.Condition.{Condition}
 use Rattle.compact_form.specs.Faults.{placed}
 use Rattle.compact_form.specs.declared.fault.Fault.{Fault}

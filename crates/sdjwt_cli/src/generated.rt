@@ -112,9 +112,9 @@ fn path_inside(alloc: Global, i: u32, inside: &Path) -> Result<Path, NoMemory>
     ensures { IfOk result (λ path. path ≡ spec.member_name i ∷ inside.now) }
 {
     let mut path = Path::new(alloc);
-    path.push(member_name(alloc, i)?)?;
+    path.push(member_name(alloc, i)?.as_str())?;
     for step in inside.steps() {
-        path.push(TextBox::make(alloc, step.as_str())?)?;
+        path.push(step)?;
     }
     Ok(path)
 }
@@ -143,7 +143,7 @@ fn to_a(alloc: Global) -> Result<Path, NoMemory>
     ensures { IfOk result (λ path. path ≡ spec.to_a) }
 {
     let mut path = Path::new(alloc);
-    path.push(TextBox::make(alloc, "a")?)?;
+    path.push("a")?;
     Ok(path)
 }
 
@@ -152,8 +152,8 @@ fn to_second(alloc: Global) -> Result<Path, NoMemory>
     ensures { IfOk result (λ path. path ≡ spec.to_second) }
 {
     let mut path = Path::new(alloc);
-    path.push(TextBox::make(alloc, "b")?)?;
-    path.push(TextBox::make(alloc, "1")?)?;
+    path.push("b")?;
+    path.push("1")?;
     Ok(path)
 }
 

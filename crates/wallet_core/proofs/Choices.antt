@@ -1,5 +1,5 @@
 -- The marks that are chosen for a query, and why none are.
-use Rattle.std.proofs.Common.{◌≡◌, ℕ, List, true, subst}
+use Rattle.std.proofs.Common.{◌≡◌, ℕ, List, subst}
 use Rattle.claim_tree.specs.Lists.{IsLeast, AtNone}
 use Rattle.marked_tree.specs.Choice.{IsLeastChoice}
 use Rattle.marked_tree.specs.Marked.{Marked, strip}

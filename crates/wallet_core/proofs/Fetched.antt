@@ -1,5 +1,5 @@
 -- The files that were fetched, and those that were not.
-use Rattle.std.proofs.Common.{◌≡◌, Global, String, ℕ, zero, suc, ◌+◌, ◌<◌, List, [], ◌∷◌, ◌++◌, length, take, map, get_or, add-one, Option, Some, None, IfSome, refl, sym, ap, subst, ◌∙◌, arith, string_bytes}
+use Rattle.std.proofs.Common.{◌≡◌, Global, String, ℕ, zero, suc, ◌+◌, ◌<◌, List, [], ◌∷◌, ◌++◌, length, take, map, get_or, add-one, Option, Some, sym, ap, subst, ◌∙◌, arith, string_bytes}
 use Rattle.std.proofs.Math.Seq.{take-suc}
 use Rattle.std.specs.List.{AllZip}
 use Rattle.claim_tree.specs.Lists.{StandsAt}

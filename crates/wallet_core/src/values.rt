@@ -37,7 +37,7 @@ fn found_at<'a>(tree: &'a Marked, at: &Path) -> Option<&'a Marked>
 {
     let mut inside = tree;
     for step in at.steps() {
-        let (_, below) = stepped(inside, step.as_str())?;
+        let (_, below) = stepped(inside, step)?;
         inside = below;
     }
     Some(inside)

@@ -39,8 +39,8 @@ lay_list-lay_part-requires t c =
     let count = so.count in
     let deep = c.requires.depth in
     let held = c.requires.salts in
-    let down = c.below-below.ensures.depth in
-    (omega (arith, few), (omega (arith, low, deep, down), (so.ranged.0, (c.below-below.ensures.placed, (so.closes.0, (so.closes.1, (omega (arith, count, held), so.digested)))))))
+    let down = c.below_element-below.ensures.depth in
+    (omega (arith, few), (omega (arith, low, deep, down), (so.ranged.0, (c.below_element-below.ensures.placed, (so.closes.0, (so.closes.1, (omega (arith, count, held), so.digested)))))))
 
 pub lay_list-loop-mark-preserved : goal.lay_list-loop-mark-preserved
 lay_list-loop-mark-preserved t c =
@@ -52,9 +52,9 @@ lay_list-loop-mark-preserved t c =
     let so : LaysElements a.decoys a.hiding a.layer.now.texts a.list l.laid l.layer.texts l.layer.digests (marked_element e.0 (marked_of e.1) (marked_elements_of (into_iter_items c.next.new.self))) =
     subst (λ es. LaysElements a.decoys a.hiding a.layer.now.texts a.list l.laid l.layer.texts l.layer.digests (marked_elements_of es)) c.in-Some.ensures.steps.0 l.invariant in
     let told = c.in_ok-tree.ensures in
-    let step : (at : Path) → placed_at c.below-below.result at ≡ placed_at a.decoys (decimal (elements_len l.laid) ∷ at) =
-    λ at. c.below-below.ensures.below at ∙ ap (λ s. placed_at a.decoys (s ∷ at)) (c.format.ensures.text ∙ ap decimal c.len.ensures) in
-    let next = element_more a.decoys a.hiding a.layer.now.texts a.list l.laid l.layer.texts l.layer.digests c.in-Some.mark (marked_of c.in-Some.tree) left so c.below-below.result step
+    let step : (at : Path) → placed_at c.below_element-below.result at ≡ placed_at a.decoys (decimal (elements_len l.laid) ∷ at) =
+    λ at. c.below_element-below.ensures.below at ∙ ap (λ i. placed_at a.decoys (decimal i ∷ at)) c.len.ensures in
+    let next = element_more a.decoys a.hiding a.layer.now.texts a.list l.laid l.layer.texts l.layer.digests c.in-Some.mark (marked_of c.in-Some.tree) left so c.below_element-below.result step
     (tree_of c.match-branch-3.tree) texts c.lay_part.new.layer.digests
     (λ dec tells more.
     elim c.match-branch-3.branch [

@@ -1,10 +1,7 @@
-use Rattle.marked_tree.specs.Marked.{Marked}
 use Rattle.holder_core.specs.Present.{held_rules}
-use Rattle.compact_form.specs.declared.fault.Fault.{Fault}
 use Rattle.verifier_core.specs.Check.{OnFault}
 use Rattle.compact_form.specs.Lowest.{IsLowest}
 use Rattle.verifier_core.specs.Verdict.{TokenFails}
-use Rattle.verifier_core.proofs.Contents.{content_uncounted}
 use Rattle.std.proofs.Common.{subst}
 use Rattle.wallet_core.proofs.answering.open_held.Goals as goal
 

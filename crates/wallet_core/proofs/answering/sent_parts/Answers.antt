@@ -1,4 +1,4 @@
-use Rattle.std.proofs.Common.{◌≡◌, List, ℕ, Option, Some, Err, sym, ap, subst, ◌∙◌}
+use Rattle.std.proofs.Common.{◌≡◌, List, ℕ, Err, sym, ap, subst, ◌∙◌}
 use Rattle.std.proofs.lemmas.Result.{IfOk-weaker}
 use Rattle.json_form.specs.Token.{IsToken}
 use Rattle.json_form.specs.declared.token.Token.{Token}
@@ -6,7 +6,7 @@ use Rattle.json_form.proofs.Tokens as tokens
 use Rattle.verifier_core.proofs.Verdicts.{few}
 use Rattle.holder_core.proofs.Steps.{is_bound, is_unbound}
 use Rattle.wallet_core.proofs.Bests.{told_of}
-use Rattle.wallet_core.proofs.Bounds.{unmoved, token_within}
+use Rattle.wallet_core.proofs.Bounds.{token_within}
 use Rattle.wallet_core.proofs.answering.sent_parts.Goals as goal
 
 seen : (text : List ℕ) (view token : Token) → view ≡ token → IsToken text token → IsToken text view

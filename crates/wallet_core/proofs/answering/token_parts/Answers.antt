@@ -1,4 +1,3 @@
-use Rattle.std.proofs.Common.{subst}
 use Rattle.holder_core.specs.Present.{held_rules}
 use Rattle.holder_core.proofs.HeldFacts.{checked_shallow, checked_unmixed}
 use Rattle.marked_tree.specs.View.{marked_of}

@@ -1,8 +1,5 @@
-use Rattle.std.proofs.Common.{◌≡◌, Some, List, ◌∷◌, ◌++◌, [], take, inl, inr, refl, sym, subst, ◌∙◌}
+use Rattle.std.proofs.Common.{List, sym, subst, ◌∙◌}
 use Rattle.claim_tree.specs.Lists.{In}
-use Rattle.claim_tree.specs.Path.{tree_at}
-use Rattle.claim_tree.specs.View.{tree_of}
-use Rattle.claim_tree.proofs.Lists.{At-In, At-get_or}
 use Rattle.marked_tree.specs.Marked.{strip}
 use Rattle.marked_tree.specs.View.{marked_of}
 use Rattle.wallet_core.specs.declared.query.Equal.{Equal}

@@ -3,7 +3,7 @@ use Rattle.marked_tree.specs.Rests.{rests, AreSorted, IsRunOfPaths}
 use Rattle.marked_tree.proofs.PathOrder.{rest_whole, run_sorted}
 use Rattle.issuer_core.specs.Laying.{digests_on_path}
 use Rattle.issuer_core.proofs.PlacedDecoys.{placed_below, whole_rest, run_length}
-use Rattle.issuer_core.proofs.decoys.Decoys.below.Goals as goal
+use Rattle.issuer_core.proofs.decoys.Decoys.search_below.Goals as goal
 
 pub returns-clause-placed : goal.returns-clause-placed
 returns-clause-placed c =
