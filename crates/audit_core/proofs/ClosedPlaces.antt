@@ -1,92 +1,98 @@
--- The places of marked claims are the hidden places in closing order.
-use Rattle.std.proofs.Common.{◌≡◌, ℕ, zero, suc, ◌+◌, ◌<◌, arith, List, [], ◌∷◌, ◌++◌, map, Bool, true, false, Option, Some, None, refl, sym, ap, ap₂, ◌∙◌, decimal, append_assoc}
-use Rattle.std.proofs.lemmas.List.{map-append, append-nil}
-use Rattle.marked_tree.specs.Marked.{Marked, marked_leaf, marked_array, marked_object, MarkedElements, no_marked_elements, marked_element, MarkedMembers, no_marked_members, marked_member}
-use Rattle.std.specs.Prelude.{slice_get, unwrap_or}
-use Rattle.claim_tree.specs.Lists.{StandsAt}
-use Rattle.claim_tree.specs.Path.{pointer_text}
-use Rattle.claim_tree.proofs.Lists.{At-get}
+-- The values at marked nodes are those at the hidden places in closing order.
+use Rattle.std.proofs.Common.{◌≡◌, ℕ, suc, ◌+◌, arith, List, [], ◌∷◌, ◌++◌, map, length, Bool, true, false, refl, sym, ap, ap₂, ◌∙◌, decimal, append_assoc}
+use Rattle.std.specs.Prelude.{slice_get}
+use Rattle.std.proofs.lemmas.List.{map-append, append-nil, length-append, length-map}
 use Rattle.claim_tree.specs.Tree.{Text, Tree, leaf, array, object, Elements, no_elements, element, Members, no_members, member}
+use Rattle.digest_sites.specs.Given.{Given}
+use Rattle.digest_sites.specs.declared.site.Site.{Site}
+use Rattle.marked_tree.specs.Paths.{Path, below, one_if, hidden_in, mark_if, mark_from, mark_elements, mark_members, is_among, mark}
 use Rattle.marked_tree.specs.Ways.{own_path, closing, closing_elements, closing_members}
-use Rattle.marked_tree.specs.Paths.{Path, below, one_if, hidden_in, mark_if, mark_from, mark_elements, mark_members, is_among, mark, hidden_count}
-use Rattle.marked_tree.proofs.Closing.{marks_close_holds}
-use Rattle.rebuild_core.specs.Reached.{value_of}
-use Rattle.issuer_core.specs.Issued as issued
-use Rattle.audit_core.specs.Places.{own_place, from_step, closed_places, closed_elements, closed_members, node_places, places_at, elements_places, members_places}
-use Rattle.audit_core.specs.Found.{root_of}
+use Rattle.marked_tree.proofs.Closing.{count}
+use Rattle.audit_core.specs.Places.{given_at, value_at, values_at, elements_values, members_values}
 
-own_is : (b : Bool) (k : Text) (n : ℕ) → own_place k (mark_if b n) ≡ own_path b k
-own_is true k n = refl
-own_is false k n = refl
+-- those at the paths, where the value at the first has the number n
+abbrev pub values_on : (Text → Bool) → List Given → ℕ → List Path → List Site
+values_on known g n [] = []
+values_on known g n (p ∷ ps) = given_at known p (slice_get g n) ++ values_on known g (suc n) ps
 
-mutual
-  pub closed_are : (h : Path → Bool) (n : ℕ) (t : Tree) → closed_places (mark_from h n t) ≡ closing h t
-  closed_are h n (leaf l) = refl
-  closed_are h n (array es) = closed_elements_are h n 0 es
-  closed_are h n (object ms) = closed_members_are h n ms
-
-  closed_elements_are : (h : Path → Bool) (n i : ℕ) (es : Elements) → closed_elements i (mark_elements h n i es) ≡ closing_elements h i es
-  closed_elements_are h n i no_elements = refl
-  closed_elements_are h n i (element t es) =
-      ap₂ (λ (xs ys : List Path). xs ++ ys)
-      (ap₂ (λ (xs ys : List Path). map (from_step (decimal i)) xs ++ ys) (closed_are (below (decimal i) h) n t) (own_is (h (decimal i ∷ [])) (decimal i) (n + hidden_in (below (decimal i) h) t)))
-      (closed_elements_are h (n + (hidden_in (below (decimal i) h) t + one_if (h (decimal i ∷ [])))) (suc i) es)
-
-  closed_members_are : (h : Path → Bool) (n : ℕ) (ms : Members) → closed_members (mark_members h n ms) ≡ closing_members h ms
-  closed_members_are h n no_members = refl
-  closed_members_are h n (member k t ms) =
-      ap₂ (λ (xs ys : List Path). xs ++ ys)
-      (ap₂ (λ (xs ys : List Path). map (from_step k) xs ++ ys) (closed_are (below k h) n t) (own_is (h (k ∷ [])) k (n + hidden_in (below k h) t)))
-      (closed_members_are h (n + (hidden_in (below k h) t + one_if (h (k ∷ [])))) ms)
+values-append : (known : Text → Bool) (g : List Given) (n : ℕ) (ps qs : List Path) → values_on known g n (ps ++ qs) ≡ values_on known g n ps ++ values_on known g (n + length ps) qs
+values-append known g n [] qs = ap (λ (k : ℕ). values_on known g k qs) (omega arith)
+values-append known g n (p ∷ ps) qs =
+    ap (λ (ss : List Site). given_at known p (slice_get g n) ++ ss)
+    (values-append known g (suc n) ps qs ∙ ap (λ (k : ℕ). values_on known g (suc n) ps ++ values_on known g k qs) (omega arith))
+    ∙ sym (append_assoc (given_at known p (slice_get g n)) (values_on known g (suc n) ps) (values_on known g (n + suc (length ps)) qs))
 
 -- ---- on a walk
 
-abbrev below_at : Path → List Path → List Text
-below_at at ps = map (λ (p : Path). pointer_text (at ++ p)) ps
+abbrev below_at : Path → List Path → List Path
+below_at at ps = map (λ (p : Path). at ++ p) ps
 
-stepped : (at : Path) (step : Text) (ps : List Path) → below_at (at ++ step ∷ []) ps ≡ below_at at (map (from_step step) ps)
+abbrev from_step : Text → List Path → List Path
+from_step step ps = map (λ (p : Path). step ∷ p) ps
+
+stepped : (at : Path) (step : Text) (ps : List Path) → below_at (at ++ step ∷ []) ps ≡ below_at at (from_step step ps)
 stepped at step [] = refl
-stepped at step (p ∷ ps) = ap₂ (λ (x : Path) (xs : List Text). pointer_text x ∷ xs) (append_assoc at (step ∷ []) p) (stepped at step ps)
+stepped at step (p ∷ ps) = ap₂ (λ (x : Path) (xs : List Path). x ∷ xs) (append_assoc at (step ∷ []) p) (stepped at step ps)
 
-node_moved : (at : Path) (step : Text) (i : Option ℕ) (xs : List Text) (ps : List Path) → xs ≡ below_at (at ++ step ∷ []) ps
-    → node_places (at ++ step ∷ []) i xs ≡ below_at at (map (from_step step) ps ++ own_place step i)
-node_moved at step None xs ps e = e ∙ stepped at step ps ∙ ap (below_at at) (sym (append-nil (map (from_step step) ps)))
-node_moved at step (Some i) xs ps e =
-    ap (λ (ys : List Text). ys ++ pointer_text (at ++ step ∷ []) ∷ []) (e ∙ stepped at step ps)
-    ∙ sym (map-append (λ (p : Path). pointer_text (at ++ p)) (map (from_step step) ps) ((step ∷ []) ∷ []))
+from_root : (ps : List Path) → below_at [] ps ≡ ps
+from_root [] = refl
+from_root (p ∷ ps) = ap (λ (qs : List Path). p ∷ qs) (from_root ps)
 
-joined : (at : Path) (xs ys : List Text) (ps qs : List Path) → xs ≡ below_at at ps → ys ≡ below_at at qs → xs ++ ys ≡ below_at at (ps ++ qs)
-joined at xs ys ps qs e f = ap₂ (λ (a b : List Text). a ++ b) e f ∙ sym (map-append (λ (p : Path). pointer_text (at ++ p)) ps qs)
+-- of the places inside a node, its own, and those behind it
+parted : (known : Text → Bool) (g : List Given) (n : ℕ) (at : Path) (inner own rest : List Path)
+    → values_on known g n (below_at at ((inner ++ own) ++ rest))
+    ≡ (values_on known g n (below_at at inner) ++ values_on known g (n + length inner) (below_at at own)) ++ values_on known g (n + (length inner + length own)) (below_at at rest)
+parted known g n at inner own rest =
+    ap (values_on known g n) (map-append (λ (p : Path). at ++ p) (inner ++ own) rest ∙ ap (λ (ps : List Path). ps ++ below_at at rest) (map-append (λ (p : Path). at ++ p) inner own))
+    ∙ values-append known g n (below_at at inner ++ below_at at own) (below_at at rest)
+    ∙ ap₂ (λ (ss : List Site) (k : ℕ). ss ++ values_on known g k (below_at at rest))
+    (values-append known g n (below_at at inner) (below_at at own) ∙ ap (λ (k : ℕ). values_on known g n (below_at at inner) ++ values_on known g (n + k) (below_at at own)) (length-map inner (λ (p : Path). at ++ p)))
+    (omega (
+      arith,
+      length-append (below_at at inner) (below_at at own),
+      length-map inner (λ (p : Path). at ++ p),
+      length-map own (λ (p : Path). at ++ p),
+    ))
+
+own_value : (known : Text → Bool) (g : List Given) (at : Path) (b : Bool) (k : Text) (n : ℕ) → value_at known g (at ++ k ∷ []) (mark_if b n) ≡ values_on known g n (below_at at (own_path b k))
+own_value known g at true k n = sym (append-nil (given_at known (at ++ k ∷ []) (slice_get g n)))
+own_value known g at false k n = refl
+
+own_count : (b : Bool) (k : Text) → length (own_path b k) ≡ one_if b
+own_count true k = refl
+own_count false k = refl
+
+step : (known : Text → Bool) (g : List Given) (at : Path) (b : Bool) (k : Text) (n a : ℕ) (inner rest : List Path) (xs ys : List Site) → length inner ≡ a
+    → xs ≡ values_on known g n (below_at (at ++ k ∷ []) inner) → ys ≡ values_on known g (n + (a + one_if b)) (below_at at rest)
+    → (xs ++ value_at known g (at ++ k ∷ []) (mark_if b (n + a))) ++ ys ≡ values_on known g n (below_at at ((from_step k inner ++ own_path b k) ++ rest))
+step known g at b k n a inner rest xs ys long e f =
+    let many : length (from_step k inner) ≡ a = length-map inner (λ (p : Path). k ∷ p) ∙ long in
+    ap₂ (λ (us vs : List Site). us ++ vs)
+    (ap₂ (λ (us vs : List Site). us ++ vs) (e ∙ ap (values_on known g n) (stepped at k inner)) (own_value known g at b k (n + a) ∙ ap (λ (j : ℕ). values_on known g (n + j) (below_at at (own_path b k))) (sym many)))
+    (f ∙ ap (λ (j : ℕ). values_on known g (n + j) (below_at at rest)) (omega (arith, many, own_count b k)))
+    ∙ sym (parted known g n at (from_step k inner) (own_path b k) rest)
 
 mutual
-  moved : (at : Path) (m : Marked) → places_at at m ≡ below_at at (closed_places m)
-  moved at (marked_leaf l) = refl
-  moved at (marked_array es) = moved_elements at 0 es
-  moved at (marked_object ms) = moved_members at ms
+  marked : (known : Text → Bool) (g : List Given) (h : Path → Bool) (n : ℕ) (at : Path) (t : Tree) → values_at known g at (mark_from h n t) ≡ values_on known g n (below_at at (closing h t))
+  marked known g h n at (leaf l) = refl
+  marked known g h n at (array es) = marked_elements known g h n 0 at es
+  marked known g h n at (object ms) = marked_members known g h n at ms
 
-  moved_elements : (at : Path) (n : ℕ) (es : MarkedElements) → elements_places at n es ≡ below_at at (closed_elements n es)
-  moved_elements at n no_marked_elements = refl
-  moved_elements at n (marked_element i t es) =
-      joined at _ _ _ _ (node_moved at (decimal n) i _ _ (moved (at ++ decimal n ∷ []) t)) (moved_elements at (suc n) es)
+  marked_elements : (known : Text → Bool) (g : List Given) (h : Path → Bool) (n i : ℕ) (at : Path) (es : Elements)
+      → elements_values known g at i (mark_elements h n i es) ≡ values_on known g n (below_at at (closing_elements h i es))
+  marked_elements known g h n i at no_elements = refl
+  marked_elements known g h n i at (element t es) =
+      let a = hidden_in (below (decimal i) h) t in
+      let b = h (decimal i ∷ []) in
+      step known g at b (decimal i) n a (closing (below (decimal i) h) t) (closing_elements h (suc i) es) _ _ (count (below (decimal i) h) t) (marked known g (below (decimal i) h) n (at ++ decimal i ∷ []) t)
+      (marked_elements known g h (n + (a + one_if b)) (suc i) at es)
 
-  moved_members : (at : Path) (ms : MarkedMembers) → members_places at ms ≡ below_at at (closed_members ms)
-  moved_members at no_marked_members = refl
-  moved_members at (marked_member k i t ms) = joined at _ _ _ _ (node_moved at k i _ _ (moved (at ++ k ∷ []) t)) (moved_members at ms)
+  marked_members : (known : Text → Bool) (g : List Given) (h : Path → Bool) (n : ℕ) (at : Path) (ms : Members) → members_values known g at (mark_members h n ms) ≡ values_on known g n (below_at at (closing_members h ms))
+  marked_members known g h n at no_members = refl
+  marked_members known g h n at (member k t ms) =
+      let a = hidden_in (below k h) t in
+      let b = h (k ∷ []) in
+      step known g at b k n a (closing (below k h) t) (closing_members h ms) _ _ (count (below k h) t) (marked known g (below k h) n (at ++ k ∷ []) t) (marked_members known g h (n + (a + one_if b)) at ms)
 
--- ---- the pointer of a value is that of the place of its disclosure
-
-stands_pointer : (ps : List Path) (j : ℕ) (q : Path) → StandsAt ps j q → unwrap_or (slice_get (below_at [] ps) j) [] ≡ pointer_text q
-stands_pointer [] j q a = absurd a
-stands_pointer (p ∷ ps) zero q a = ap pointer_text (sym a)
-stands_pointer (p ∷ ps) (suc j) q a = stands_pointer ps j q a
-
-pub roots : (t : Tree) (hide : List Path) (j : ℕ) → j < hidden_count t hide
-    → root_of (places_at [] (mark t hide)) (suc j) ≡ pointer_text (issued.root_of (mark t hide) (value_of j))
-roots t hide j l =
-    let c = marks_close_holds t hide in
-    let w = At-get (closing (is_among hide) t) j (omega (arith, c.count, l)) in
-    let path = c.places j w.0 w.1 in
-    ap (λ (ps : List Text). root_of ps (suc j)) (moved [] (mark t hide))
-    ∙ ap (λ (ps : List Path). root_of (below_at [] ps) (suc j)) (closed_are (is_among hide) 0 t)
-    ∙ stands_pointer (closing (is_among hide) t) j w.0 w.1
-    ∙ ap (λ (o : Option Path). pointer_text (unwrap_or o [])) (sym path)
+pub closed : (known : Text → Bool) (g : List Given) (t : Tree) (hide : List Path) → values_at known g [] (mark t hide) ≡ values_on known g 0 (closing (is_among hide) t)
+closed known g t hide = marked known g (is_among hide) 0 [] t ∙ ap (values_on known g 0) (from_root (closing (is_among hide) t))

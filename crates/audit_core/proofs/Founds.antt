@@ -1,29 +1,32 @@
 -- What is found of the sites of a token is what the definitions say of them.
-use Rattle.std.proofs.Common.{◌≡◌, ℕ, suc, ◌+◌, ◌<◌, ◌≤◌, List, [], ◌∷◌, ◌++◌, map, length, Bool, true, false, not, cond, inl, inr, refl, sym, ap, ap₂, ◌∙◌, subst, arith}
-use Rattle.std.specs.Prelude.{filter, codes}
+use Rattle.std.proofs.Common.{◌≡◌, ℕ, suc, ◌+◌, List, [], ◌∷◌, ◌++◌, map, length, Bool, true, false, not, cond, Option, Some, inl, inr, refl, sym, ap, ap₂, ◌∙◌, subst, arith}
+use Rattle.std.specs.Prelude.{filter, slice_get, unwrap_or}
+use Rattle.std.proofs.lemmas.Bool.{true≢false}
 use Rattle.std.proofs.lemmas.List.{length-append, length-map, map-append}
 use Rattle.std.proofs.lemmas.List.Elements.{filter-append}
-use Rattle.std.proofs.lemmas.Grind.{flat_map-append}
 use Rattle.claim_tree.specs.Tree.{Text, Tree}
-use Rattle.claim_tree.specs.Lists.{In}
-use Rattle.claim_tree.specs.Path.{pointer_text, escaped}
-use Rattle.claim_tree.proofs.Lists.{In-of_map, In-append}
+use Rattle.claim_tree.specs.Lists.{In, StandsAt}
+use Rattle.claim_tree.proofs.Lists.{In-map, In-of_map}
 use Rattle.digest_sites.specs.Given.{Given}
-use Rattle.digest_sites.specs.Sites.{Site, sites, step_text}
+use Rattle.digest_sites.specs.Sites.{Site, sites}
+use Rattle.digest_sites.specs.declared.site.Site as code
+use Rattle.digest_sites.proofs.Moved.{beneath}
 use Rattle.disclosure.specs.declared.digests.HashAlg.{HashAlg}
 use Rattle.marked_tree.specs.Marked.{Marked}
-use Rattle.marked_tree.specs.Paths.{Path}
+use Rattle.marked_tree.specs.Paths.{Path, is_among, mark, hidden_count}
+use Rattle.marked_tree.specs.Ways.{closing}
+use Rattle.marked_tree.proofs.Closing.{marks_close_holds}
 use Rattle.rebuild_core.specs.Reached.{Owner, payload, value_of, OwnedSite, owned_site, value_sites, all_sites, all_digests}
-use Rattle.rebuild_core.proofs.Forgery.{payload_digest, value_digest}
 use Rattle.issuer_core.specs.Issued as issued
 use Rattle.audit_core.specs.Audited.{Standing, standing, IsDigestText, is_given, decoys_found}
-use Rattle.audit_core.specs.AuditSteps.{kind_text, standing_text}
-use Rattle.audit_core.specs.Found.{strange, site_text, AreDigests, AllDigests, trees_of, root_of, texts_from, sites_in}
+use Rattle.audit_core.specs.AuditSteps.{standing_text}
+use Rattle.audit_core.specs.Found.{AreOthers, AreDigests, site_text, trees_of, sites_in}
+use Rattle.audit_core.specs.Places.{given_at}
+use Rattle.audit_core.specs.Strange.{strange_at}
+use Rattle.audit_core.proofs.ClosedPlaces.{values_on, closed}
+use Rattle.audit_core.proofs.Stranges.{strange, strange_are}
 
-pub pointer-append : (p q : Path) → pointer_text (p ++ q) ≡ pointer_text p ++ pointer_text q
-pointer-append p q = flat_map-append (λ (step : Text). codes "/" ++ escaped step) p q
-
--- ---- where the strange ones stand
+-- ---- the strange ones at their places
 
 abbrev pub is_strange : List Given → OwnedSite → Bool
 is_strange g x = not (is_given g x.site.digest)
@@ -31,45 +34,72 @@ is_strange g x = not (is_given g x.site.digest)
 abbrev pub stand_of : Marked → OwnedSite → Standing
 stand_of m x = standing x.site.kind (issued.origin m x)
 
-abbrev strange_texts : Marked → List Given → List OwnedSite → List Text
-strange_texts m g xs = map standing_text (map (stand_of m) (filter (is_strange g) xs))
+abbrev located : Marked → OwnedSite → code.Site
+located m x = beneath (issued.root_of m x.owner) x.site
 
-texts-append : (m : Marked) (g : List Given) (xs ys : List OwnedSite) → strange_texts m g (xs ++ ys) ≡ strange_texts m g xs ++ strange_texts m g ys
-texts-append m g xs ys =
-    ap (λ (zs : List OwnedSite). map standing_text (map (stand_of m) zs)) (filter-append (is_strange g) xs ys)
-    ∙ ap (map standing_text) (map-append (stand_of m) (filter (is_strange g) xs) (filter (is_strange g) ys))
-    ∙ map-append standing_text (map (stand_of m) (filter (is_strange g) xs)) (map (stand_of m) (filter (is_strange g) ys))
+abbrev pub all_located : Marked → List Given → List OwnedSite → List code.Site
+all_located m g xs = map (located m) (filter (is_strange g) xs)
 
-one_text : (m : Marked) (w : Owner) (r : Text) (s : Site) → r ≡ pointer_text (issued.root_of m w) → standing_text (stand_of m (owned_site w s)) ≡ site_text r s
-one_text m w r s e =
-    ap (λ (x : Text). kind_text s.kind ++ x) (pointer-append (issued.root_of m w) (map step_text s.at) ∙ ap (λ (x : Text). x ++ pointer_text (map step_text s.at)) (sym e))
+located-append : (m : Marked) (g : List Given) (xs ys : List OwnedSite) → all_located m g (xs ++ ys) ≡ all_located m g xs ++ all_located m g ys
+located-append m g xs ys = ap (map (located m)) (filter-append (is_strange g) xs ys) ∙ map-append (located m) (filter (is_strange g) xs) (filter (is_strange g) ys)
 
-owned_texts : (m : Marked) (g : List Given) (w : Owner) (r : Text) (ss : List Site) → r ≡ pointer_text (issued.root_of m w)
-    → strange_texts m g (map (owned_site w) ss) ≡ map (site_text r) (strange g ss)
-owned_texts m g w r [] e = refl
-owned_texts m g w r (s ∷ ss) e = go (is_given g s.digest) (owned_texts m g w r ss e)
+owned_located : (m : Marked) (g : List Given) (w : Owner) (ss : List Site) → map (beneath (issued.root_of m w)) (strange g ss) ≡ all_located m g (map (owned_site w) ss)
+owned_located m g w [] = refl
+owned_located m g w (s ∷ ss) = go (is_given g s.digest) (owned_located m g w ss)
   where
-    go : (b : Bool) → strange_texts m g (map (owned_site w) ss) ≡ map (site_text r) (strange g ss)
-        → map standing_text (map (stand_of m) (cond (not b) (owned_site w s ∷ filter (is_strange g) (map (owned_site w) ss)) (filter (is_strange g) (map (owned_site w) ss))))
-        ≡ map (site_text r) (cond (not b) (s ∷ strange g ss) (strange g ss))
+    go : (b : Bool) → map (beneath (issued.root_of m w)) (strange g ss) ≡ all_located m g (map (owned_site w) ss)
+        → map (beneath (issued.root_of m w)) (cond (not b) (s ∷ strange g ss) (strange g ss))
+        ≡ map (located m) (cond (not b) (owned_site w s ∷ filter (is_strange g) (map (owned_site w) ss)) (filter (is_strange g) (map (owned_site w) ss)))
     go true ih = ih
-    go false ih = ap₂ (λ (x : Text) (xs : List Text). x ∷ xs) (one_text m w r s e) ih
+    go false ih = ap (λ (xs : List code.Site). beneath (issued.root_of m w) s ∷ xs) ih
 
-abbrev HasRoots : Marked → List Text → ℕ → Type 0
-HasRoots m places n = (j : ℕ) → j < n → root_of places (suc j) ≡ pointer_text (issued.root_of m (value_of j))
+-- the digests that are known are those of the disclosures
+abbrev AreKnown : List Given → (Text → Bool) → Type 0
+AreKnown g known = (d : Text) → known d ≡ is_given g d
 
-value_texts : (m : Marked) (g : List Given) (places : List Text) (n : ℕ) → HasRoots m places n → (k : ℕ) (xs : List Given) → k + length xs ≤ n
-    → strange_texts m g (value_sites (λ x. true) k xs) ≡ texts_from g places (suc k) (map (λ (x : Given). x.value) xs)
-value_texts m g places n roots k [] l = refl
-value_texts m g places n roots k (x ∷ xs) l =
-    texts-append m g (map (owned_site (value_of k)) (sites x.value)) (value_sites (λ x. true) (suc k) xs)
-    ∙ ap₂ (λ (a b : List Text). a ++ b) (owned_texts m g (value_of k) (root_of places (suc k)) (sites x.value) (roots k (omega (arith, l)))) (value_texts m g places n roots (suc k) xs (omega (arith, l)))
+tree_located : (m : Marked) (g : List Given) (known : Text → Bool) → AreKnown g known → (w : Owner) (at : Path) (t : Tree) → at ≡ issued.root_of m w
+    → strange_at known at t ≡ all_located m g (map (owned_site w) (sites t))
+tree_located m g known same w at t e = strange_are known g same at t ∙ ap (λ (p : Path). map (beneath p) (strange g (sites t))) e ∙ owned_located m g w (sites t)
 
-pub found_texts : (m : Marked) (p : Tree) (g : List Given) (places : List Text) → HasRoots m places (length g)
-    → map standing_text (decoys_found m p g) ≡ texts_from g places 0 (trees_of p g)
-found_texts m p g places roots =
-    texts-append m g (map (owned_site payload) (sites p)) (value_sites (λ x. true) 0 g)
-    ∙ ap₂ (λ (a b : List Text). a ++ b) (owned_texts m g payload [] (sites p) refl) (value_texts m g places (length g) roots 0 g (omega arith))
+-- of the values from the number k on, at these paths
+values_located : (m : Marked) (g : List Given) (known : Text → Bool) → AreKnown g known → (k : ℕ) (xs : List Given) (ps : List Path)
+    → ((j : ℕ) → slice_get g (k + j) ≡ slice_get xs j) → ((j : ℕ) (q : Path) → StandsAt ps j q → q ≡ issued.root_of m (value_of (k + j))) → length xs ≡ length ps
+    → values_on known g k ps ≡ all_located m g (value_sites (λ x. true) k xs)
+values_located m g known same k [] [] there roots long = refl
+values_located m g known same k [] (p ∷ ps) there roots long = absurd (omega (arith, long))
+values_located m g known same k (x ∷ xs) [] there roots long = absurd (omega (arith, long))
+values_located m g known same k (x ∷ xs) (p ∷ ps) there roots long =
+    let here : k + 0 ≡ k = omega arith in
+    let next : (j : ℕ) → k + suc j ≡ suc k + j = λ j. omega arith in
+    let got : slice_get g k ≡ Some x = subst (λ n. slice_get g n ≡ Some x) here (there 0) in
+    let root : p ≡ issued.root_of m (value_of k) = subst (λ n. p ≡ issued.root_of m (value_of n)) here (roots 0 p refl) in
+    ap₂ (λ (us vs : List code.Site). us ++ vs)
+    (ap (given_at known p) got ∙ tree_located m g known same (value_of k) p x.value root)
+    (values_located m g known same (suc k) xs ps (λ j. subst (λ n. slice_get g n ≡ slice_get xs j) (next j) (there (suc j)))
+    (λ j q a. subst (λ n. q ≡ issued.root_of m (value_of n)) (next j) (roots (suc j) q a)) (omega (arith, long)))
+    ∙ sym (located-append m g (map (owned_site (value_of k)) (sites x.value)) (value_sites (λ x. true) (suc k) xs))
+
+pub others_located : (t : Tree) (hide : List Path) (p : Tree) (g : List Given) (others : List code.Site) → length g ≡ hidden_count t hide
+    → AreOthers (mark t hide) p g others → others ≡ all_located (mark t hide) g (all_sites p g)
+others_located t hide p g others long a =
+    let m = mark t hide in
+    let close = marks_close_holds t hide in
+    let from_none : (j : ℕ) → 0 + j ≡ j = λ j. omega arith in
+    a.are
+    ∙ ap₂ (λ (us vs : List code.Site). us ++ vs) (tree_located m g a.known a.same payload [] p refl)
+    (closed a.known g t hide
+    ∙ values_located m g a.known a.same 0 g (closing (is_among hide) t) (λ j. ap (slice_get g) (from_none j))
+    (λ j q at. subst (λ n. q ≡ issued.root_of m (value_of n)) (sym (from_none j)) (ap (λ (o : Option Path). unwrap_or o []) (sym (close.places j q at)))) (long ∙ sym close.count))
+    ∙ sym (located-append m g (map (owned_site payload) (sites p)) (value_sites (λ x. true) 0 g))
+
+-- ---- where they stand
+
+pub found_texts : (m : Marked) (p : Tree) (g : List Given) → map site_text (all_located m g (all_sites p g)) ≡ map standing_text (decoys_found m p g)
+found_texts m p g = go (filter (is_strange g) (all_sites p g))
+  where
+    go : (xs : List OwnedSite) → map site_text (map (located m) xs) ≡ map standing_text (map (stand_of m) xs)
+    go [] = refl
+    go (x ∷ xs) = ap (λ (ts : List Text). standing_text (stand_of m x) ∷ ts) (go xs)
 
 -- ---- how many they are
 
@@ -87,37 +117,40 @@ sites_count p g =
 
 -- ---- their digests
 
-abbrev Others : HashAlg → Tree → List Given → Type 0
+abbrev pub Others : HashAlg → Tree → List Given → Type 0
 Others hash p g = (digest : Text) → In digest (all_digests p g) → is_given g digest ≡ false → IsDigestText hash digest
 
-owned_form : (hash : HashAlg) (g : List Given) (w : Owner) (ss : List Site) → AreDigests hash g ss → (z : OwnedSite) → In z (map (owned_site w) ss) → is_given g z.site.digest ≡ false → IsDigestText hash z.site.digest
-owned_form hash g w ss h z m e =
-    let s = In-of_map (owned_site w) z ss m in
-    let same : z.site.digest ≡ s.0.digest = ap (λ (x : OwnedSite). x.site.digest) s.2 in
-    subst (λ d. IsDigestText hash d) (sym same) (h s.0 s.1 (subst (λ d. is_given g d ≡ false) same e))
+pub in_filter : {X : Type 0} (test : X → Bool) (x : X) (xs : List X) → In x xs → test x ≡ true → In x (filter test xs)
+in_filter test x [] m e = absurd m
+in_filter test x (y ∷ ys) m e = go (test y) refl m (λ n. in_filter test x ys n e)
+  where
+    go : (b : Bool) → test y ≡ b → In x (y ∷ ys) → (In x ys → In x (filter test ys)) → In x (cond b (y ∷ filter test ys) (filter test ys))
+    go true h (inl q) ih = inl q
+    go true h (inr n) ih = inr (ih n)
+    go false h (inl q) ih = absurd (true≢false (sym e ∙ ap test q ∙ h))
+    go false h (inr n) ih = ih n
 
-values_form : (hash : HashAlg) (g : List Given) (k : ℕ) (xs : List Given) → AllDigests hash g (map (λ (x : Given). x.value) xs)
-    → (z : OwnedSite) → In z (value_sites (λ x. true) k xs) → is_given g z.site.digest ≡ false → IsDigestText hash z.site.digest
-values_form hash g k [] h z m e = absurd m
-values_form hash g k (x ∷ xs) h z m e =
-    elim (In-append z (map (owned_site (value_of k)) (sites x.value)) (value_sites (λ x. true) (suc k) xs) m) [
-      | inl a ↦ owned_form hash g (value_of k) (sites x.value) h.0 z a e
-      | inr a ↦ values_form hash g (suc k) xs h.1 z a e
-    ]
+filter_in : {X : Type 0} (test : X → Bool) (x : X) (xs : List X) → In x (filter test xs) → In x xs × (test x ≡ true)
+filter_in test x [] m = absurd m
+filter_in test x (y ∷ ys) m = go (test y) refl m (λ n. filter_in test x ys n)
+  where
+    go : (b : Bool) → test y ≡ b → In x (cond b (y ∷ filter test ys) (filter test ys)) → (In x (filter test ys) → In x ys × (test x ≡ true)) → In x (y ∷ ys) × (test x ≡ true)
+    go true h (inl q) ih = (inl q, ap test q ∙ h)
+    go true h (inr n) ih = let w = ih n in (inr w.0, w.1)
+    go false h n ih = let w = ih n in (inr w.0, w.1)
 
-pub others_from : (hash : HashAlg) (p : Tree) (g : List Given) → AllDigests hash g (trees_of p g) → Others hash p g
-others_from hash p g h digest there e =
+not_true : (b : Bool) → not b ≡ true → b ≡ false
+not_true true e = sym e
+not_true false e = refl
+
+pub others_from : (hash : HashAlg) (m : Marked) (p : Tree) (g : List Given) → AreDigests hash (all_located m g (all_sites p g)) → Others hash p g
+others_from hash m p g h digest there e =
     let z = In-of_map (λ (x : OwnedSite). x.site.digest) digest (all_sites p g) there in
-    let e2 = subst (λ d. is_given g d ≡ false) z.2 e in
-    subst (λ d. IsDigestText hash d) (sym z.2)
-    (elim (In-append z.0 (map (owned_site payload) (sites p)) (value_sites (λ x. true) 0 g) z.1) [
-      | inl a ↦ owned_form hash g payload (sites p) h.0 z.0 a e2
-      | inr a ↦ values_form hash g 0 g h.1 z.0 a e2
-    ])
+    let other : is_strange g z.0 ≡ true = ap not (subst (λ d. is_given g d ≡ false) z.2 e) in
+    subst (λ d. IsDigestText hash d) (sym z.2) (h (located m z.0) (In-map (located m) z.0 (filter (is_strange g) (all_sites p g)) (in_filter (is_strange g) z.0 (all_sites p g) z.1 other)))
 
-from_values : (hash : HashAlg) (p : Tree) (g xs : List Given) → ((x : Given) → In x xs → In x g) → Others hash p g → AllDigests hash g (map (λ (x : Given). x.value) xs)
-from_values hash p g [] within h = tt
-from_values hash p g (x ∷ xs) within h = ((λ s m e. h s.digest (value_digest p g x s (within x (inl refl)) m) e), from_values hash p g xs (λ z m. within z (inr m)) h)
-
-pub from_others : (hash : HashAlg) (p : Tree) (g : List Given) → Others hash p g → AllDigests hash g (trees_of p g)
-from_others hash p g h = ((λ s m e. h s.digest (payload_digest p g s m) e), from_values hash p g g (λ x m. m) h)
+pub from_others : (hash : HashAlg) (m : Marked) (p : Tree) (g : List Given) → Others hash p g → AreDigests hash (all_located m g (all_sites p g))
+from_others hash m p g h s there =
+    let z = In-of_map (located m) s (filter (is_strange g) (all_sites p g)) there in
+    let w = filter_in (is_strange g) z.0 (all_sites p g) z.1 in
+    subst (λ (x : code.Site). IsDigestText hash x.digest) (sym z.2) (h z.0.site.digest (In-map (λ (x : OwnedSite). x.site.digest) z.0 (all_sites p g) w.0) (not_true (is_given g z.0.site.digest) w.1))

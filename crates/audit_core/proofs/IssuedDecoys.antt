@@ -1,5 +1,5 @@
 -- The digests of what is issued that are of no disclosure stand where the order has its decoys.
-use Rattle.std.proofs.Common.{◌≡◌, ℕ, zero, suc, ◌+◌, ◌≤◌, List, [], ◌∷◌, ◌++◌, map, Bool, true, false, cond, not, filter, inl, inr, ⊎_elim, Option, Some, None, refl, sym, ap, ap₂, ◌∙◌, subst, arith}
+use Rattle.std.proofs.Common.{◌≡◌, ℕ, zero, suc, ◌+◌, ◌≤◌, List, [], ◌∷◌, ◌++◌, map, Bool, true, false, cond, not, filter, ⊎_elim, Option, Some, None, refl, sym, ap, ap₂, ◌∙◌, subst, arith}
 use Rattle.std.specs.Prelude.{bytes_eq}
 use Rattle.std.specs.List.{count_by}
 use Rattle.std.proofs.lemmas.List.Sums.{sum_by-cons}
@@ -22,19 +22,10 @@ use Rattle.issuer_core.proofs.DecoyPlaces.{held_at}
 use Rattle.issuer_core.proofs.IssuedForgery.{is_there}
 use Rattle.issuer_core.proofs.IssuedSound.{once_at_most, there_once, there_twice}
 use Rattle.audit_core.specs.Audited.{is_given, Standing, standing, decoy_standing, standings_from, same_standing, HasDecoys}
+use Rattle.audit_core.proofs.Founds.{in_filter}
 use Rattle.audit_core.proofs.IssuedDigests.{splits, in_rest, occurs_append, there_some, given_some, given_there}
 
 -- ---- the sites whose digests are of no disclosure
-
-in_filter : {X : Type 0} (test : X → Bool) (x : X) (xs : List X) → In x xs → test x ≡ true → In x (filter test xs)
-in_filter test x [] m t = absurd m
-in_filter {X} test x (y ∷ ys) m t = go (test y) refl m (λ n. in_filter test x ys n t)
-  where
-    go : (b : Bool) → test y ≡ b → In x (y ∷ ys) → (In x ys → In x (filter test ys)) → In x (cond b (y ∷ filter test ys) (filter test ys))
-    go true q (inl e) ih = inl e
-    go true q (inr n) ih = inr (ih n)
-    go false q (inl e) ih = let clash : true ≡ false = sym t ∙ (ap test e ∙ q) in cc clash
-    go false q (inr n) ih = ih n
 
 module _ (is : Text → Bool) where
   abbrev others : List OwnedSite → List OwnedSite

@@ -1,28 +1,24 @@
 -- Steps of the loops over sites and over entries of decoys.
-use Rattle.std.proofs.Common.{◌≡◌, ℕ, zero, suc, ◌+◌, ◌<◌, ◌≤◌, List, [], ◌∷◌, ◌++◌, map, length, take, drop, get_or, replicate, Bool, true, false, not, cond, ◌||◌, ◌⊎◌, inl, inr, add-one, refl, sym, ap, ap₂, ◌∙◌, subst, arith, append_assoc, decimal}
+use Rattle.std.proofs.Common.{◌≡◌, ℕ, zero, suc, ◌+◌, ◌<◌, ◌≤◌, List, [], ◌∷◌, ◌++◌, map, length, take, drop, get_or, replicate, Bool, true, false, ◌||◌, inl, inr, add-one, refl, sym, ap, ap₂, ◌∙◌, subst, arith, append_assoc, decimal}
 use Rattle.std.specs.Prelude.{bytes_eq}
-use Rattle.std.proofs.lemmas.List.{append-nil, map-append, length-map, take_all, drop_all}
-use Rattle.claim_tree.specs.Tree.{Text, Tree, elements_len}
+use Rattle.std.proofs.lemmas.List.{append-nil, length-map, take_all, drop_all, drop_more}
+use Rattle.claim_tree.specs.Tree.{Text, elements_len}
 use Rattle.claim_tree.specs.Lists.{In}
 use Rattle.claim_tree.specs.ListViews.{elements_of}
-use Rattle.claim_tree.specs.View.{tree_of}
 use Rattle.claim_tree.specs.declared.tree.Tree as tree
-use Rattle.claim_tree.proofs.Lists.{In-append, In-left, In-right}
-use Rattle.std.proofs.lemmas.Bool.{true≢false}
+use Rattle.claim_tree.proofs.Lists.{At-In, At-get_or}
 use Rattle.digest_sites.specs.Given.{Given}
 use Rattle.digest_sites.specs.GivenView.{given_of}
 use Rattle.digest_sites.specs.declared.given.Given as given
-use Rattle.digest_sites.specs.Sites.{Site, sites}
-use Rattle.digest_sites.specs.declared.site.Site as code
+use Rattle.digest_sites.specs.declared.site.Site.{Site}
 use Rattle.digest_sites.specs.declared.site.SiteKind.TheVariants.{Element}
 use Rattle.disclosure.specs.declared.digests.HashAlg.{HashAlg}
 use Rattle.marked_tree.specs.Paths.{Path}
 use Rattle.issuer_core.specs.declared.order.Decoy.{Decoy}
 use Rattle.issuer_core.specs.Decoys.{decoy_paths}
-use Rattle.audit_core.specs.declared.found.Found.{Found}
 use Rattle.audit_core.specs.Audited.{standing, is_given, IsDigestText}
 use Rattle.audit_core.specs.AuditSteps.{standing_text}
-use Rattle.audit_core.specs.Found.{strange, site_text, AreDigests, AllDigests, AddsSites, AddsStrange, AddsStranges, strange_listed, root_of, texts_from, IsFoundIn}
+use Rattle.audit_core.specs.Found.{AreDigests}
 use Rattle.audit_core.specs.Wanted.{element_texts}
 
 -- ---- what stands at a place of a list that is another, mapped
@@ -54,67 +50,19 @@ there f xs items k item same l e =
 
 -- ---- sites
 
-pub no_stranges : (hash : HashAlg) (root : Text) (found : Found) → AddsStranges hash root [] found found
-no_stranges hash root found = record { standings = sym (append-nil found.standings.items); keeps = λ e. e; form = λ e s m. absurd m; is_form = λ e h. e }
-
-pub one_strange : (hash : HashAlg) (root : Text) (ss : List Site) (s : Site) (old mid new : Found) → AddsStranges hash root ss old mid → AddsStrange hash root s mid new
-    → AddsStranges hash root (ss ++ s ∷ []) old new
-one_strange hash root ss s old mid new a b = record {
-  standings =
-      b.standings ∙ ap (λ (xs : List Text). xs ++ site_text root s ∷ []) a.standings
-      ∙ append_assoc old.standings.items (map (site_text root) ss) (site_text root s ∷ [])
-      ∙ ap (λ (xs : List Text). old.standings.items ++ xs) (sym (map-append (site_text root) ss (s ∷ [])));
-  keeps = λ e. a.keeps (b.keeps e);
-  form = λ e z m. both z (a.form (b.keeps e)) (b.form e) (In-append z ss (s ∷ []) m);
-  is_form = λ e h. b.is_form (a.is_form e (λ z m. h z (In-left z ss (s ∷ []) m))) (h s (In-right s ss (s ∷ []) (inl refl)));
-}
+pub digests_more : (hash : HashAlg) (ss : List Site) (k : ℕ) (s : Site) → k < length ss → s ≡ get_or ss k s → IsDigestText hash s.digest
+    → (AreDigests hash (drop k ss) → AreDigests hash ss) → AreDigests hash (drop (k + 1) ss) → AreDigests hash ss
+digests_more hash ss k s l is form so_far rest = so_far (subst (AreDigests hash) (sym (drop_more ss k s l)) both)
   where
-    both : (z : Site) → ((x : Site) → In x ss → IsDigestText hash x.digest) → IsDigestText hash s.digest → In z ss ⊎ In z (s ∷ []) → IsDigestText hash z.digest
-    both z f d (inl m) = f z m
-    both z f d (inr (inl same)) = subst (λ (x : Site). IsDigestText hash x.digest) (sym same) d
-    both z f d (inr (inr m)) = absurd m
+    both : (z : Site) → In z (get_or ss k s ∷ drop (k + 1) ss) → IsDigestText hash z.digest
+    both z (inl e) = subst (λ (x : Site). IsDigestText hash x.digest) (is ∙ sym e) form
+    both z (inr m) = rest z m
 
-in_strange : (given : List Given) (ss : List Site) (s : Site) → In s ss → is_given given s.digest ≡ false → In s (strange given ss)
-in_strange given [] s m e = absurd m
-in_strange given (x ∷ ss) s m e = go (is_given given x.digest) refl m (λ k. in_strange given ss s k e)
-  where
-    go : (b : Bool) → is_given given x.digest ≡ b → In s (x ∷ ss) → (In s ss → In s (strange given ss)) → In s (cond (not b) (x ∷ strange given ss) (strange given ss))
-    go true h (inl q) ih = let w = sym h ∙ ap (λ (z : Site). is_given given z.digest) (sym q) ∙ e in absurd (true≢false w)
-    go true h (inr k) ih = ih k
-    go false h (inl q) ih = inl q
-    go false h (inr k) ih = inr (ih k)
+pub digests_end : (hash : HashAlg) (ss : List Site) (k : ℕ) → length ss ≤ k → (AreDigests hash (drop k ss) → AreDigests hash ss) → AreDigests hash ss
+digests_end hash ss k l so_far = so_far (subst (AreDigests hash) (sym (drop_all k ss l)) (λ s m. absurd m))
 
-strange_in : (given : List Given) (ss : List Site) (s : Site) → In s (strange given ss) → In s ss × (is_given given s.digest ≡ false)
-strange_in given [] s m = absurd m
-strange_in given (x ∷ ss) s m = go (is_given given x.digest) refl m (λ k. let w = strange_in given ss s k in (inr w.0, w.1))
-  where
-    go : (b : Bool) → is_given given x.digest ≡ b → In s (cond (not b) (x ∷ strange given ss) (strange given ss))
-        → (In s (strange given ss) → In s (x ∷ ss) × (is_given given s.digest ≡ false)) → In s (x ∷ ss) × (is_given given s.digest ≡ false)
-    go true h k ih = ih k
-    go false h (inl q) ih = (inl q, ap (λ (z : Site). is_given given z.digest) q ∙ h)
-    go false h (inr k) ih = ih k
-
-pub adds_sites : (hash : HashAlg) (given : List Given) (root : Text) (ss : List Site) (old new : Found) → AddsStranges hash root (strange given ss) old new → AddsSites hash given root ss old new
-adds_sites hash given root ss old new a = record {
-  standings = a.standings;
-  keeps = a.keeps;
-  form = λ e s m other. a.form e s (in_strange given ss s m other);
-  is_form = λ e h. a.is_form e (λ s m. let w = strange_in given ss s m in h s w.0 w.1);
-}
-
--- ---- trees
-
-pub all_more : (hash : HashAlg) (given : List Given) (ts : List Tree) (t : Tree) → AllDigests hash given ts → AreDigests hash given (sites t) → AllDigests hash given (ts ++ t ∷ [])
-all_more hash given [] t a b = (b, tt)
-all_more hash given (u ∷ ts) t a b = (a.0, all_more hash given ts t a.1 b)
-
-pub all_front : (hash : HashAlg) (given : List Given) (ts : List Tree) (t : Tree) → AllDigests hash given (ts ++ t ∷ []) → AllDigests hash given ts
-all_front hash given [] t a = tt
-all_front hash given (u ∷ ts) t a = (a.0, all_front hash given ts t a.1)
-
-pub all_last : (hash : HashAlg) (given : List Given) (ts : List Tree) (t : Tree) → AllDigests hash given (ts ++ t ∷ []) → AreDigests hash given (sites t)
-all_last hash given [] t a = a.0
-all_last hash given (u ∷ ts) t a = all_last hash given ts t a.1
+pub digest_there : (hash : HashAlg) (ss : List Site) (k : ℕ) (s : Site) → k < length ss → s ≡ get_or ss k s → AreDigests hash ss → IsDigestText hash s.digest
+digest_there hash ss k s l is all = subst (λ (x : Site). IsDigestText hash x.digest) (sym is) (all (get_or ss k s) (At-In ss k (get_or ss k s) (At-get_or ss k s l)))
 
 -- ---- decoys
 
@@ -152,12 +100,6 @@ entry es i e l is =
     map_same [] = refl
     map_same (x ∷ xs) = ap (λ (ys : List Decoy). x ∷ ys) (map_same xs)
 
-pub take_whole : {X Y : Type 0} (f : X → Y) (xs : List X) (items : List Y) (k : ℕ) → map f xs ≡ items → length items ≤ k → take k xs ≡ xs
-take_whole f xs items k same l = go xs k (subst (λ n. n ≤ k) (length-map xs f) (subst (λ ys. length ys ≤ k) (sym same) l))
-  where
-    go : {X : Type 0} (ys : List X) (n : ℕ) → length ys ≤ n → take n ys ≡ ys
-    go ys n h = take_all n ys h
-
 -- ---- the digests of disclosures
 
 pub given_more : (items : List given.Given) (k : ℕ) (x : given.Given) (digest : Text) (before after : Bool) (put : Text) → k < length items → x ≡ get_or items k x → put ≡ x.digest
@@ -172,12 +114,6 @@ given_more items k x digest before after put l is same b a =
     map_id [] = refl
     map_id (y ∷ ys) = ap (λ (zs : List given.Given). y ∷ zs) (map_id ys)
 
-    or_turn : (a b : Bool) → (a || b) ≡ (b || a)
-    or_turn true true = refl
-    or_turn true false = refl
-    or_turn false true = refl
-    or_turn false false = refl
-
     or_move : (a b d : Bool) → (a || (b || d)) ≡ (b || (a || d))
     or_move true true d = refl
     or_move true false d = refl
@@ -189,49 +125,3 @@ given_more items k x digest before after put l is same b a =
 
 pub given_all : (items : List given.Given) (gs : List Given) (k : ℕ) (digest : Text) → length items ≤ k → map given_of items ≡ gs → is_given (map given_of (take k items)) digest ≡ is_given gs digest
 given_all items gs k digest l same = ap (λ (ys : List given.Given). is_given (map given_of ys) digest) (take_all k items l) ∙ ap (λ (ys : List Given). is_given ys digest) same
-
--- ---- the lists of sites
-
-pub lists_end : (f : Tree → List code.Site) (payload : Tree) (items : List given.Given) (gs : List Given) (k : ℕ) (lists : List (List code.Site)) → map given_of items ≡ gs → length items ≤ k
-    → lists ++ map (λ (x : given.Given). f (tree_of x.value)) (drop k items) ≡ f payload ∷ map (λ (x : given.Given). f (tree_of x.value)) items
-    → f payload ∷ map f (map (λ (x : Given). x.value) gs) ≡ lists
-lists_end f payload items gs k lists same l inv =
-    let none = drop_all k items l in
-    let all = sym (append-nil lists) ∙ ap (λ (ys : List given.Given). lists ++ map (λ (x : given.Given). f (tree_of x.value)) ys) (sym none) ∙ inv in
-    ap (λ (ls : List (List code.Site)). f payload ∷ ls) (ap (λ (ys : List Given). map f (map (λ (x : Given). x.value) ys)) (sym same) ∙ each items) ∙ sym all
-  where
-    each : (ys : List given.Given) → map f (map (λ (x : Given). x.value) (map given_of ys)) ≡ map (λ (x : given.Given). f (tree_of x.value)) ys
-    each [] = refl
-    each (y ∷ ys) = ap (λ (ls : List (List code.Site)). f (tree_of y.value) ∷ ls) (each ys)
-
--- ---- the trees
-
-pub record IsSoFar (hash : HashAlg) (gs : List Given) (places : List Text) (trees : List Tree) (k : ℕ) (found : Found) : Type 0 where
-  pub standings : found.standings.items ++ texts_from gs places k (drop k trees) ≡ texts_from gs places 0 trees
-  pub form : found.of_form ≡ true → AllDigests hash gs (take k trees)
-  pub is_form : AllDigests hash gs (take k trees) → found.of_form ≡ true
-
-pub trees_step : (hash : HashAlg) (gs : List Given) (places : List Text) (trees : List Tree) (k : ℕ) (item : List code.Site) (root : Text) (old new : Found)
-    → (h : IsThere (strange_listed gs) trees k item) → root ≡ root_of places k → AddsSites hash gs root (sites h.x) old new
-    → IsSoFar hash gs places trees k old → IsSoFar hash gs places trees (k + 1) new
-trees_step hash gs places trees k item root old new h r a s = record {
-  standings =
-      ap (λ (xs : List Text). xs ++ texts_from gs places (k + 1) (drop (k + 1) trees)) a.standings
-      ∙ append_assoc old.standings.items (map (site_text root) (strange gs (sites h.x))) (texts_from gs places (k + 1) (drop (k + 1) trees))
-      ∙ ap (λ (xs : List Text). old.standings.items ++ xs)
-      (ap₂ (λ (q : Text) (n : ℕ). map (site_text q) (strange gs (sites h.x)) ++ texts_from gs places n (drop (k + 1) trees)) r (add-one k) ∙ sym (ap (texts_from gs places k) h.left))
-      ∙ s.standings;
-  form = λ e. subst (AllDigests hash gs) (sym h.so_far) (all_more hash gs (take k trees) h.x (s.form (a.keeps e)) (a.form e));
-  is_form = λ all. let whole = subst (AllDigests hash gs) h.so_far all in a.is_form (s.is_form (all_front hash gs (take k trees) h.x whole)) (all_last hash gs (take k trees) h.x whole);
-}
-
-pub trees_end : (hash : HashAlg) (gs : List Given) (places : List Text) (trees : List Tree) (lists : List (List code.Site)) (k : ℕ) (found : Found) → map (strange_listed gs) trees ≡ lists → length lists ≤ k
-    → IsSoFar hash gs places trees k found → IsFoundIn hash gs places trees found
-trees_end hash gs places trees lists k found same l s =
-    let whole = take_whole (strange_listed gs) trees lists k same l in
-    let none : drop k trees ≡ [] = drop_all k trees (subst (λ n. n ≤ k) (length-map trees (strange_listed gs)) (subst (λ ys. length ys ≤ k) (sym same) l)) in
-    record {
-      standings = sym (append-nil found.standings.items) ∙ ap (λ (ts : List Tree). found.standings.items ++ texts_from gs places k ts) (sym none) ∙ s.standings;
-      form = λ e. subst (AllDigests hash gs) whole (s.form e);
-      is_form = λ all. s.is_form (subst (AllDigests hash gs) (sym whole) all);
-    }

@@ -17,7 +17,7 @@ use Rattle.marked_tree.specs.Paths.{Path}
 use Rattle.audit_core.specs.Audited.{Standing, HasDigests, HasDecoys, IsEachAsOften, is_given, decoys_found, standings_from}
 use Rattle.audit_core.specs.Found.{AreCounted}
 use Rattle.audit_core.proofs.Contents.{has_digests}
-use Rattle.audit_core.proofs.Founds.{from_others, is_strange, sites_count, stand_of}
+use Rattle.audit_core.proofs.Founds.{Others, is_strange, sites_count, stand_of}
 use Rattle.audit_core.proofs.Soundness.{differ, each}
 
 abbrev one : Bool → ℕ
@@ -76,7 +76,7 @@ no_others o p g none long counted =
     let many : length (all_digests p g) ≡ length g =
     omega (arith, sites_count p g, counted.count, none) in
     let given = all_given p g counted.shows.sound.referenced many in
-    let form = from_others o.hash p g (λ d m e. absurd (true≢false (sym (given d m) ∙ e))) in
+    let form : Others o.hash p g = λ d m e. absurd (true≢false (sym (given d m) ∙ e)) in
     let found : decoys_found (marked_claims o) p g ≡ [] =
     ap (map (stand_of (marked_claims o))) (none_left (is_strange g) (all_sites p g) (λ x m. ap not (given x.site.digest (In-map (λ (z : OwnedSite). z.site.digest) x (all_sites p g) m)))) in
     let wanted = ap (λ (ps : List Path). standings_from o.payload ps 0 ps) (no_paths (decoys_of o) none) in (

@@ -1,10 +1,9 @@
 -- Small facts of the parts of an audit.
 use Rattle.std.proofs.Common.{◌≡◌, ℕ, ◌<◌, ◌≤◌, List, [], ◌∷◌, length, Bool, true, false, cond, ◌||◌, Option, Some, None, refl, sym, ap, ◌∙◌, subst, arith}
-use Rattle.std.specs.Prelude.{◌==◌, bytes_eq}
+use Rattle.std.specs.Prelude.{bytes_eq}
 use Rattle.std.specs.Cmp.Lexicographic.{pointwise}
 use Rattle.std.proofs.lemmas.Slice.Eq.{slice_eq-Decides, bytes_eq-Decides}
 use Rattle.std.specs.Set.{distinct_count}
-use Rattle.std.proofs.lemmas.Bool.Decides.{Decides-eqb}
 use Rattle.b64url_text.specs.Base64url.{Decodes}
 use Rattle.b64url_text.proofs.Codes.{one_code}
 use Rattle.sd_outside.specs.Limits.{count_max}
@@ -24,9 +23,6 @@ use Rattle.issuer_core.specs.OrderRefusals.{AppliesToOrder}
 
 pub one_decoding : (part x y : List ℕ) → Decodes part x → Decodes part y → x ≡ y
 one_decoding part x y d e = one_code part x y d e
-
-pub length_test : {X : Type 0} (xs : List X) (n : ℕ) → (length xs == n) ≡ true → length xs ≡ n
-length_test xs n e = (Decides-eqb (length xs) n).0 e
 
 pub no_members_empty : (ms : List Named) → members_of ms ≡ no_members → length ms ≡ 0
 no_members_empty [] e = refl

@@ -1,13 +1,10 @@
 -- What the test of each `_sd` says.
-use Rattle.std.proofs.Common.{◌≡◌, ℕ, ◌+◌, ◌<◌, inl, inr, length, get_or, drop, Bool, true, false, not, ◌&&◌, ◌||◌, List, [], ◌∷◌, Option, Some, None, refl, sym, ap, subst, ◌∙◌}
+use Rattle.std.proofs.Common.{◌≡◌, inl, inr, Bool, true, false, not, ◌&&◌, ◌||◌, List, [], ◌∷◌, Option, Some, None, refl, sym, ap, subst}
 use Rattle.std.specs.Prelude.{bytes_eq, option_map}
 use Rattle.std.specs.Ordering.{is_lt, nat_cmp}
 use Rattle.std.specs.Cmp.Lexicographic.{slice_cmp}
 use Rattle.claim_tree.specs.Tree.{Text, Tree, leaf, null, flag, whole, text, array, object, Elements, no_elements, element, Members, no_members, member, IsBefore}
-use Rattle.std.proofs.lemmas.List.{drop_more}
 use Rattle.claim_tree.specs.Lists.{In}
-use Rattle.claim_tree.specs.View.{tree_of}
-use Rattle.claim_tree.specs.ListViews.{elements_of}
 use Rattle.claim_tree.specs.declared.tree.Tree as tree
 use Rattle.digest_sites.specs.Given.{Given}
 use Rattle.claim_tree.proofs.Everywheres.{EachElementIn, EachMemberIn}
@@ -154,6 +151,3 @@ are_values [] h = refl
 are_values (y ∷ given) h = and_join (has_digest_lists y.value) (values_have given) (are_lists y.value (h y (inl refl))) (are_values given (λ x m. h x (inr m)))
 
 -- ---- one tree of a slice
-
-pub trees_front : (ts : List tree.Tree) (n : ℕ) (t : tree.Tree) → n < length ts → t ≡ get_or ts n t → elements_of (drop n ts) ≡ element (tree_of t) (elements_of (drop (n + 1) ts))
-trees_front ts n t within is = ap elements_of (drop_more ts n t within ∙ ap (λ (d : tree.Tree). d ∷ drop (n + 1) ts) (sym is))

@@ -1,10 +1,9 @@
 -- Where no condition of 14 to 21 fails, each digest stands once, and those of the disclosures are among them.
-use Rattle.std.proofs.Common.{◌≡◌, ◌≢◌, ℕ, suc, List, [], ◌∷◌, ◌++◌, map, Bool, true, false, inl, inr, refl, sym, ap, ap₂, subst, arith, if◌then◌else◌}
+use Rattle.std.proofs.Common.{◌≡◌, ◌≢◌, ℕ, suc, List, [], ◌∷◌, ◌++◌, map, Bool, true, inl, inr, refl, sym, ap, ap₂, subst, arith, if◌then◌else◌}
 use Rattle.claim_tree.specs.Tree.{Text, Tree}
 use Rattle.claim_tree.specs.Lists.{In, Repeats, AtNone}
-use Rattle.claim_tree.proofs.Lists.{In-At, At-In, In-of_map, false_unless_true}
+use Rattle.claim_tree.proofs.Lists.{In-At, At-In, In-of_map}
 use Rattle.digest_sites.specs.Given.{Given}
-use Rattle.digest_sites.specs.Reserved.{misuses}
 use Rattle.digest_sites.specs.Sites.{sites}
 use Rattle.rebuild_core.specs.Reached.{payload, value_of, OwnedSite, owned_site, is_reached, value_sites, met, all_sites, owned_digests, all_digests, given_digests}
 use Rattle.rebuild_core.specs.Soundness.{IsSound, IsReferencedOnce}
@@ -33,14 +32,6 @@ each p g ok digest there =
     let once = (one_site_holds p g ok).once at.0 x.0 at.1 in
     let here = At-In (owned_digests (met p g)) once.0 x.0.digest once.1 in
     subst (λ d. In d (all_digests p g)) (sym x.2) (subst (λ (items : List OwnedSite). In x.0.digest (owned_digests items)) (met_all p g ok) here)
-
-pub payload_well : (p : Tree) (g : List Given) → IsSound p g → misuses p ≡ false
-payload_well p g ok = false_unless_true (misuses p) (λ e. ok.referenced.no_misuse 0 e)
-
-pub value_well : (p : Tree) (g : List Given) → IsSound p g → (x : Given) → In x g → misuses x.value ≡ false
-value_well p g ok x m =
-    let w = In-At g x m in
-    false_unless_true (misuses x.value) (λ e. ok.referenced.no_misuse (suc w.0) (x, w.1, e))
 
 pub refused_unsound : (p : Tree) (g : List Given) (e : ProcessError) → e ≢ ProcessError.Memory → IsProcessRefused p g e → IsSound p g → ⊥
 refused_unsound p g ProcessError.Memory n r ok = n refl

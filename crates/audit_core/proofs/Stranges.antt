@@ -1,19 +1,21 @@
--- What a walk lists of the strange sites of a tree are those of its sites that are strange.
+-- What a walk lists of a tree at a path are those of its sites that are strange, moved beneath it.
 use Rattle.std.proofs.Common.{◌≡◌, ℕ, suc, List, [], ◌∷◌, ◌++◌, map, Bool, true, false, not, cond, Option, Some, None, refl, sym, ap, ap₂, ◌∙◌, decimal, bytes_eq}
 use Rattle.std.specs.Prelude.{filter, if◌then◌else◌}
 use Rattle.std.proofs.lemmas.List.Elements.{filter-append}
 use Rattle.claim_tree.specs.Tree.{Text, Tree, leaf, array, object, Elements, no_elements, element, Members, no_members, member}
 use Rattle.digest_sites.specs.Given.{Given}
 use Rattle.digest_sites.specs.Reserved.{sd_name, sd_texts, element_digest}
-use Rattle.digest_sites.specs.SiteCalls.{listed}
 use Rattle.digest_sites.specs.Sites.{Site, sites}
 use Rattle.digest_sites.specs.Walk.{site, sites_at, element_sites_on, elements_sites, members_sites}
 use Rattle.digest_sites.specs.declared.site.Site as code
 use Rattle.digest_sites.specs.declared.site.SiteKind.TheVariants.{Member, Element}
-use Rattle.digest_sites.proofs.Moved.{listed_sites}
+use Rattle.digest_sites.proofs.Moved.{beneath, moved}
 use Rattle.audit_core.specs.Audited.{is_given}
-use Rattle.audit_core.specs.Found.{strange, strange_listed}
 use Rattle.audit_core.specs.Strange.{strange_at, strange_own, strange_on, strange_elements, strange_members}
+
+-- the sites whose digests are of no disclosure
+abbrev pub strange : List Given → List Site → List Site
+strange given ss = filter (λ (s : Site). not (is_given given s.digest)) ss
 
 abbrev other : (Text → Bool) → code.Site → Bool
 other known s = not (known s.digest)
@@ -61,18 +63,14 @@ mutual
   kept_members known at (member name t ms) =
       joined known _ _ _ _ (on_member known (bytes_eq name sd_name) _ _ (kept known (at ++ name ∷ []) t)) (kept_members known at ms)
 
-listed_kept : (known : Text → Bool) (g : List Given) → ((d : Text) → known d ≡ is_given g d) → (ss : List Site) → filter (other known) (map listed ss) ≡ map listed (strange g ss)
-listed_kept known g same [] = refl
-listed_kept known g same (s ∷ ss) =
-    ap₂ (λ (b : Bool) (xs : List code.Site). cond (not b) (listed s ∷ xs) xs) (same s.digest) (listed_kept known g same ss) ∙ go (is_given g s.digest)
+beneath_kept : (known : Text → Bool) (g : List Given) → ((d : Text) → known d ≡ is_given g d) → (at : List Text) (ss : List Site) → filter (other known) (map (beneath at) ss) ≡ map (beneath at) (strange g ss)
+beneath_kept known g same at [] = refl
+beneath_kept known g same at (s ∷ ss) =
+    ap₂ (λ (b : Bool) (xs : List code.Site). cond (not b) (beneath at s ∷ xs) xs) (same s.digest) (beneath_kept known g same at ss) ∙ go (is_given g s.digest)
   where
-    go : (b : Bool) → cond (not b) (listed s ∷ map listed (strange g ss)) (map listed (strange g ss)) ≡ map listed (cond (not b) (s ∷ strange g ss) (strange g ss))
+    go : (b : Bool) → cond (not b) (beneath at s ∷ map (beneath at) (strange g ss)) (map (beneath at) (strange g ss)) ≡ map (beneath at) (cond (not b) (s ∷ strange g ss) (strange g ss))
     go true = refl
     go false = refl
 
-pub strange_are : (known : Text → Bool) (g : List Given) → ((d : Text) → known d ≡ is_given g d) → (t : Tree) → strange_listed g t ≡ strange_at known [] t
-strange_are known g same t = sym (kept known [] t ∙ ap (filter (other known)) (listed_sites t) ∙ listed_kept known g same (sites t))
-
-pub all_are : (f h : Tree → List code.Site) → ((t : Tree) → f t ≡ h t) → (ts : List Tree) → map f ts ≡ map h ts
-all_are f h same [] = refl
-all_are f h same (t ∷ ts) = ap₂ (λ (x : List code.Site) (xs : List (List code.Site)). x ∷ xs) (same t) (all_are f h same ts)
+pub strange_are : (known : Text → Bool) (g : List Given) → ((d : Text) → known d ≡ is_given g d) → (at : List Text) (t : Tree) → strange_at known at t ≡ map (beneath at) (strange g (sites t))
+strange_are known g same at t = kept known at t ∙ ap (filter (other known)) (moved at t) ∙ beneath_kept known g same at (sites t)

@@ -24,6 +24,3 @@ pub other_unwritten : (part bytes : Text) (t : Tree) → Decodes part bytes → 
 other_unwritten part bytes t d r utf8 n u w =
     let same : t ≡ u = one_tree bytes t u r (same_reads part bytes u d w) in
     n (one_code part bytes (json_text t) d (record { fit = AreBytes-text (json_text t) utf8; spelling = w.written ∙ ap (λ x. b64 (json_text x)) (sym same) }))
-
-pub is_written : (part bytes : Text) (t : Tree) → Decodes part bytes → Reads bytes t → bytes ≡ json_text t → IsWrittenAs part t
-is_written part bytes t d r e = record { written = d.spelling ∙ ap b64 e; carried = record { bytes = bytes; decodes = d; reads = r } }

@@ -1,7 +1,6 @@
 -- The elements and members of a slice of marked trees, one by one.
-use Rattle.std.proofs.Common.{◌≡◌, ◌≢◌, ℕ, zero, suc, ◌+◌, ◌<◌, ◌≤◌, List, [], ◌∷◌, length, get_or, drop, Bool, true, false, ◌&&◌, refl, sym, ap, ap₂, ◌∙◌, subst, arith}
+use Rattle.std.proofs.Common.{◌≡◌, ◌≢◌, ℕ, zero, suc, ◌<◌, ◌≤◌, List, [], ◌∷◌, length, get_or, drop, Bool, true, false, ◌&&◌, refl, sym, ap, subst, arith}
 use Rattle.std.specs.Prelude.{bytes_eq}
-use Rattle.std.proofs.lemmas.List.{drop_more, drop_all}
 use Rattle.claim_tree.specs.Nodes.{nodes, elements_nodes, members_nodes}
 use Rattle.marked_tree.specs.Marked.{MarkedElements, MarkedMembers, strip, strip_elements, strip_members}
 use Rattle.marked_tree.specs.View.{marked_of, marked_elements_of, marked_members_of}
@@ -28,12 +27,6 @@ member_nodes ms n m us within is all =
     subst (λ vs. nodes (strip (marked_of m.2)) ≤ members_nodes (strip_members vs)) all
     (subst (λ (d : Entry). nodes (strip (marked_of d.2)) ≤ members_nodes (strip_members (marked_members_of ms))) (sym is) (member_there ms n m within))
 
-pub element_front : (es : List Element) (n : ℕ) (e : Element) → n < length es → e ≡ get_or es n e → drop n es ≡ e ∷ drop (n + 1) es
-element_front es n e within is = drop_more es n e within ∙ ap (λ (d : Element). d ∷ drop (n + 1) es) (sym is)
-
-pub member_front : (ms : List Entry) (n : ℕ) (m : Entry) → n < length ms → m ≡ get_or ms n m → drop n ms ≡ m ∷ drop (n + 1) ms
-member_front ms n m within is = drop_more ms n m within ∙ ap (λ (d : Entry). d ∷ drop (n + 1) ms) (sym is)
-
 -- ---- two slices side by side
 
 abbrev pub same_lists : List Element → List Element → ℕ → Bool
@@ -41,27 +34,6 @@ same_lists es fs n = same_elements (marked_elements_of (drop n es)) (marked_elem
 
 abbrev pub same_maps : List Entry → List Entry → ℕ → Bool
 same_maps ms ns n = same_members (marked_members_of (drop n ms)) (marked_members_of (drop n ns))
-
-and_moved : (a b d : Bool) → (a && (b && d)) ≡ ((a && b) && d)
-and_moved true b d = refl
-and_moved false b d = refl
-
-three_moved : (a b d f : Bool) → (a && (b && (d && f))) ≡ ((a && (b && d)) && f)
-three_moved true true d f = refl
-three_moved true false d f = refl
-three_moved false b d f = refl
-
-pub lists_step : (es fs : List Element) (n : ℕ) (e f : Element) → n < length es → n < length fs → e ≡ get_or es n e → f ≡ get_or fs n f
-    → same_lists es fs n ≡ ((same_mark e.0 f.0 && same_marked (marked_of e.1) (marked_of f.1)) && same_lists es fs (n + 1))
-lists_step es fs n e f within inside is there =
-    ap₂ (λ (us vs : List Element). same_elements (marked_elements_of us) (marked_elements_of vs)) (element_front es n e within is) (element_front fs n f inside there)
-    ∙ and_moved (same_mark e.0 f.0) (same_marked (marked_of e.1) (marked_of f.1)) (same_lists es fs (n + 1))
-
-pub maps_step : (ms ns : List Entry) (n : ℕ) (m o : Entry) → n < length ms → n < length ns → m ≡ get_or ms n m → o ≡ get_or ns n o
-    → same_maps ms ns n ≡ ((bytes_eq m.0 o.0 && (same_mark m.1 o.1 && same_marked (marked_of m.2) (marked_of o.2))) && same_maps ms ns (n + 1))
-maps_step ms ns n m o within inside is there =
-    ap₂ (λ (us vs : List Entry). same_members (marked_members_of us) (marked_members_of vs)) (member_front ms n m within is) (member_front ns n o inside there)
-    ∙ three_moved (bytes_eq m.0 o.0) (same_mark m.1 o.1) (same_marked (marked_of m.2) (marked_of o.2)) (same_maps ms ns (n + 1))
 
 pub lists_end : (es fs : List Element) → length es ≢ length fs → same_elements (marked_elements_of es) (marked_elements_of fs) ≡ false
 lists_end [] [] n = absurd (n refl)
@@ -87,17 +59,3 @@ maps_end (m ∷ ms) (o ∷ ns) n =
     go true true false f e = refl
     go true false d f e = refl
     go false b d f e = refl
-
--- ---- how a loop over both goes on
-
-pub goes_on : (whole part own rest : Bool) → part ≡ whole → part ≡ (own && rest) → own ≡ true → rest ≡ whole
-goes_on whole part own rest same step e = sym (step ∙ ap (λ (b : Bool). b && rest) e) ∙ same
-
-pub stops : (whole part own rest : Bool) → part ≡ whole → part ≡ (own && rest) → own ≡ false → false ≡ whole
-stops whole part own rest same step e = sym (step ∙ ap (λ (b : Bool). b && rest) e) ∙ same
-
-pub lists_done : (es fs : List Element) (n : ℕ) → length es ≤ n → length fs ≤ n → same_lists es fs n ≡ true
-lists_done es fs n l m = ap₂ (λ (us vs : List Element). same_elements (marked_elements_of us) (marked_elements_of vs)) (drop_all n es l) (drop_all n fs m)
-
-pub maps_done : (ms ns : List Entry) (n : ℕ) → length ms ≤ n → length ns ≤ n → same_maps ms ns n ≡ true
-maps_done ms ns n l m = ap₂ (λ (us vs : List Entry). same_members (marked_members_of us) (marked_members_of vs)) (drop_all n ms l) (drop_all n ns m)

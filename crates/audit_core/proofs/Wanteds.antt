@@ -1,14 +1,18 @@
 -- Where an order wants its decoys, entry by entry.
-use Rattle.std.proofs.Common.{◌≡◌, ℕ, zero, suc, ◌+◌, ◌<◌, ◌≤◌, List, [], ◌∷◌, ◌++◌, map, length, take, drop, replicate, Bool, true, false, cond, Option, Some, None, refl, sym, ap, ap₂, ◌∙◌, subst, arith, decimal, append_assoc}
-use Rattle.std.specs.Prelude.{if◌then◌else◌, bytes_eq, unwrap_or}
+use Rattle.std.proofs.Common.{◌≡◌, ℕ, zero, suc, ◌+◌, ◌%◌, ◌^◌, ◌<◌, ◌≤◌, List, [], ◌∷◌, ◌++◌, map, length, take, drop, replicate, Bool, true, false, cond, Option, Some, None, refl, sym, ap, ap₂, ◌∙◌, subst, arith, decimal, append_assoc}
+use Rattle.std.specs.Prelude.{if◌then◌else◌, bytes_eq, codes, unwrap_or}
+use Rattle.std.proofs.Math.Nat.{mod-lt}
 use Rattle.std.specs.Ordering.{nat_cmp, is_eq}
 use Rattle.std.specs.Cmp.Lexicographic.{slice_cmp}
 use Rattle.std.specs.BTreeMap.{BTreeMap, get}
 use Rattle.std.proofs.lemmas.List.{map-append, length-append, append-nil, drop_all}
 use Rattle.std.proofs.lemmas.List.{length-replicate}
+use Rattle.std.proofs.lemmas.Bool.{ne_eqb}
+use Rattle.std.proofs.lemmas.Fmt.{decimal_by_steps}
+use Rattle.std.proofs.lemmas.Grind.{flat_map-append}
 use Rattle.std.proofs.lemmas.Map.Text.{is_eq-slice_cmp}
 use Rattle.claim_tree.specs.Tree.{Text, Tree, leaf, array, object, elements_len}
-use Rattle.claim_tree.specs.Path.{pointer_text, tree_at}
+use Rattle.claim_tree.specs.Path.{escaped_byte, escaped, pointer_text, tree_at}
 use Rattle.claim_tree.proofs.Lists.{bytes_same, bytes_refl}
 use Rattle.claim_tree.proofs.PointerTexts.{pointer_text-injective}
 use Rattle.digest_sites.specs.declared.site.SiteKind.TheVariants.{Member, Element}
@@ -17,7 +21,7 @@ use Rattle.marked_tree.proofs.DifferentPaths.{path_same, path_refl}
 use Rattle.issuer_core.specs.declared.order.Decoy.{Decoy}
 use Rattle.issuer_core.specs.Decoys.{decoy_paths, earlier}
 use Rattle.audit_core.specs.Audited.{Standing, standing, decoy_standing, standings_from}
-use Rattle.audit_core.specs.AuditSteps.{standing_text}
+use Rattle.audit_core.specs.AuditSteps.{kind_text, standing_text}
 use Rattle.audit_core.specs.Wanted.{count_at, member_texts, element_texts, entry_texts}
 use Rattle.audit_core.proofs.Alikes.{one_test}
 use Rattle.audit_core.proofs.Loops.{IsEntry}
@@ -127,6 +131,25 @@ earlier_within (suc n) p (x ∷ xs) = go (same_path x p) (earlier_within n p xs)
     go : (b : Bool) → earlier n p xs ≤ n → (if b then 1 else 0) + earlier n p xs ≤ suc n
     go true ih = omega (arith, ih)
     go false ih = omega (arith, ih)
+
+-- ---- the text of an element's place
+
+digit : (n : ℕ) → n < 10 → escaped ((48 + n) ∷ []) ≡ (48 + n) ∷ []
+digit n l = rw (ne_eqb (48 + n) 126 (λ e. omega (arith, l, e)), ne_eqb (48 + n) 47 (λ e. omega (arith, l, e))) refl
+
+-- the digits of a position need no escape
+plain_decimal : (n : ℕ) → n < 2 ^ 64 → escaped (decimal n) ≡ decimal n
+plain_decimal n fits = decimal_by_steps (λ k ds. escaped ds ≡ ds) digit more n fits
+  where
+    more : (k : ℕ) (ds : List ℕ) → 10 ≤ k → escaped ds ≡ ds → escaped (ds ++ ((48 + k % 10) ∷ [])) ≡ ds ++ ((48 + k % 10) ∷ [])
+    more k ds big ih = flat_map-append escaped_byte ds ((48 + k % 10) ∷ []) ∙ ap₂ (λ (xs ys : List ℕ). xs ++ ys) ih (digit (k % 10) (mod-lt k (omega arith)))
+
+pub element_place : (at : Path) (pointer : Text) (n : ℕ) → n < 2 ^ 64 → pointer ≡ pointer_text at → ((kind_text Element ++ pointer) ++ codes "/") ++ decimal n ≡ standing_text (standing Element (at ++ decimal n ∷ []))
+element_place at pointer n fits is =
+    let step : pointer_text (decimal n ∷ []) ≡ codes "/" ++ decimal n = append-nil (codes "/" ++ escaped (decimal n)) ∙ ap (λ (x : List ℕ). codes "/" ++ x) (plain_decimal n fits) in
+    append_assoc (kind_text Element ++ pointer) (codes "/") (decimal n) ∙ append_assoc (kind_text Element) pointer (codes "/" ++ decimal n)
+    ∙ ap (λ (x : Text). kind_text Element ++ x)
+    (ap₂ (λ (x y : Text). x ++ y) is (sym step) ∙ sym (flat_map-append (λ (s : Text). codes "/" ++ escaped s) at (decimal n ∷ [])))
 
 -- ---- the counts in a map
 

@@ -1,5 +1,5 @@
 -- When a text is not written as it is to be: what is read of it is the one thing that it could be the text of.
-use Rattle.std.proofs.Common.{◌≡◌, ◌<◌, arith, suc, List, [], ◌∷◌, ◌++◌, length, Option, Some, None, inl, inr, refl, sym, ap, ◌∙◌, subst}
+use Rattle.std.proofs.Common.{◌≡◌, ◌<◌, ◌≤◌, arith, suc, List, [], ◌∷◌, ◌++◌, length, Option, Some, None, inl, inr, refl, sym, ap, ◌∙◌, subst}
 use Rattle.claim_tree.specs.Lists.{In}
 use Rattle.claim_tree.proofs.Lists.{In-append}
 use Rattle.std.specs.List.{AllZip}
@@ -15,13 +15,10 @@ use Rattle.disclosure.proofs.Arrays.{array_of-injective}
 use Rattle.jws_part.proofs.Parts.{one_carried}
 use Rattle.rebuild_core.specs.Answer.{IsPayload}
 use Rattle.rebuild_core.specs.Payload.{alg_name}
-use Rattle.audit_core.specs.Audited.{IsWrittenAs, GivesSalted}
-use Rattle.audit_core.specs.AuditSteps.{NamesHash, IsSalt, IsUnsalted, IsOtherPayload, IsUnwritten}
+use Rattle.audit_core.specs.Audited.{IsWrittenAs, GivesSalted, IsDigestText, hash_length}
+use Rattle.audit_core.specs.AuditSteps.{NamesHash, IsSalt, IsUnsalted, IsOtherPayload}
 
 -- ---- a disclosure
-
-pub unwritten_unsalted : (disclosure : Text) → IsUnwritten disclosure → IsUnsalted disclosure
-unwritten_unsalted disclosure none name value w = none (array_of (leaf (text w.salt)) name value) w.written
 
 pub other_array : (disclosure : Text) (t : Tree) → IsWrittenAs disclosure t → IsNoArray t → IsUnsalted disclosure
 other_array disclosure t written none name value w =
@@ -48,13 +45,22 @@ short_salt salt l s =
     let many : length salt ≡ length (b64 s.bytes) = ap length s.decodes.spelling in
     absurd (omega (arith, few, many, s.long, l))
 
+-- nor a digest than the longest hash takes
+pub short_digest : (hash : HashAlg) (digest : Text) → 86 < length digest → IsDigestText hash digest → ⊥
+short_digest hash digest l s =
+    let few = length-b64 s.bytes in
+    let many : length digest ≡ length (b64 s.bytes) = ap length s.decodes.spelling in
+    absurd (omega (arith, few, many, s.long, longest hash, l))
+  where
+    longest : (hash : HashAlg) → hash_length hash ≤ 64
+    longest HashAlg.Sha256 = omega arith
+    longest HashAlg.Sha384 = omega arith
+    longest HashAlg.Sha512 = omega arith
+
 -- ---- a payload
 
 no_name : {A : Type 0} (t : Tree) → ◌≡◌ {A = Option Tree} None (Some t) → A
 no_name t e = absurd (cc)
-
-pub unwritten_other : (hash : HashAlg) (part : Text) → IsUnwritten part → IsOtherPayload hash part
-unwritten_other hash part none body w n = none body w
 
 pub other_payload : (hash : HashAlg) (part : Text) (body : Tree) → IsWrittenAs part body → (NamesHash hash body → ⊥) → IsOtherPayload hash part
 other_payload hash part body written n other w names = n (subst (NamesHash hash) (sym (one_carried part body other written.carried w.carried)) names)

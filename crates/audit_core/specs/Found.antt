@@ -1,87 +1,46 @@
 -- For private functions: what is found of the sites of a token.
-use Rattle.std.specs.Prelude.{◌≡◌, ℕ, zero, suc, ◌+◌, List, [], ◌∷◌, ◌++◌, map, length, filter, not, Bool, true, false, bytes_eq, unwrap_or, slice_get}
+use Rattle.std.specs.Prelude.{◌≡◌, ℕ, ◌+◌, List, [], ◌∷◌, ◌++◌, map, length, Bool, bytes_eq}
 use Rattle.std.specs.List.{list_any}
 use Rattle.std.specs.Borrow.{Bor}
 use Rattle.claim_tree.specs.Tree.{Text, Tree}
 use Rattle.claim_tree.specs.Lists.{In}
-use Rattle.claim_tree.specs.Path.{pointer_text}
 use Rattle.digest_sites.specs.Given.{Given}
-use Rattle.digest_sites.specs.SiteCalls.{listed}
-use Rattle.digest_sites.specs.Sites.{Site, sites, step_text}
-use Rattle.digest_sites.specs.declared.site.Site as code
+use Rattle.digest_sites.specs.Sites.{sites}
+use Rattle.digest_sites.specs.declared.site.Site.{Site}
 use Rattle.disclosure.specs.declared.digests.HashAlg.{HashAlg}
 use Rattle.issuer_core.specs.Decoys.{decoys_of}
 use Rattle.issuer_core.specs.Order.{Order}
-use Rattle.audit_core.specs.Audited.{IsDigestText, is_given, ShowsClaims}
-use Rattle.audit_core.specs.AuditSteps.{kind_text}
-use Rattle.audit_core.specs.declared.found.Found.{Found}
-
--- the sites whose digests are of no disclosure
-abbrev pub strange : List Given → List Site → List Site
-strange given ss = filter (λ (s : Site). not (is_given given s.digest)) ss
-
--- where a site stands below a place that has this pointer, as one text
-abbrev pub site_text : Text → Site → Text
-site_text root s = kind_text s.kind ++ (root ++ pointer_text (map step_text s.at))
-
--- each strange one has the form of a digest
-abbrev pub AreDigests : HashAlg → List Given → List Site → Type 0
-AreDigests hash given ss = (s : Site) → In s ss → is_given given s.digest ≡ false → IsDigestText hash s.digest
-
--- these sites are looked at too, below a place that has this pointer
-pub record AddsSites (hash : HashAlg) (given : List Given) (root : Text) (ss : List Site) (old new : Found) : Type 0 where
-  pub standings : new.standings.items ≡ old.standings.items ++ map (site_text root) (strange given ss)
-  pub keeps : new.of_form ≡ true → old.of_form ≡ true
-  pub form : new.of_form ≡ true → AreDigests hash given ss
-  pub is_form : old.of_form ≡ true → AreDigests hash given ss → new.of_form ≡ true
-
--- the same of sites whose digests are of no disclosure
-pub record AddsStranges (hash : HashAlg) (root : Text) (ss : List Site) (old new : Found) : Type 0 where
-  pub standings : new.standings.items ≡ old.standings.items ++ map (site_text root) ss
-  pub keeps : new.of_form ≡ true → old.of_form ≡ true
-  pub form : new.of_form ≡ true → (s : Site) → In s ss → IsDigestText hash s.digest
-  pub is_form : old.of_form ≡ true → ((s : Site) → In s ss → IsDigestText hash s.digest) → new.of_form ≡ true
-
--- the same of one
-pub record AddsStrange (hash : HashAlg) (root : Text) (s : Site) (old new : Found) : Type 0 where
-  pub standings : new.standings.items ≡ old.standings.items ++ site_text root s ∷ []
-  pub keeps : new.of_form ≡ true → old.of_form ≡ true
-  pub form : new.of_form ≡ true → IsDigestText hash s.digest
-  pub is_form : old.of_form ≡ true → IsDigestText hash s.digest → new.of_form ≡ true
+use Rattle.marked_tree.specs.Marked.{Marked}
+use Rattle.audit_core.specs.Audited.{IsDigestText, is_given, ShowsClaims, standing}
+use Rattle.audit_core.specs.AuditSteps.{standing_text}
+use Rattle.audit_core.specs.Places.{values_at}
+use Rattle.audit_core.specs.Strange.{strange_at}
 
 -- the texts that are in a set of them
 abbrev pub is_in : List (Bor Text) → Text → Bool
 is_in keys digest = list_any (λ (key : Bor Text). bytes_eq digest key.now) keys
 
--- ---- all sites of a token
+-- ---- the sites whose digests are of no disclosure
 
--- the strange sites of a tree as they are listed
-abbrev pub strange_listed : List Given → Tree → List code.Site
-strange_listed given t = map listed (strange given (sites t))
+-- these are they, each at its place in the claims: those of the payload, and then those of the values, each behind those inside it
+pub record AreOthers (claims : Marked) (payload : Tree) (given : List Given) (others : List Site) : Type 0 where
+  pub known : Text → Bool
+  pub same : (digest : Text) → known digest ≡ is_given given digest
+  pub are : others ≡ strange_at known [] payload ++ values_at known given [] claims
+
+-- where a site stands, as one text
+abbrev pub site_text : Site → Text
+site_text s = standing_text (standing s.kind s.at)
+
+-- the digest of each has the form of one
+abbrev pub AreDigests : HashAlg → List Site → Type 0
+AreDigests hash ss = (s : Site) → In s ss → IsDigestText hash s.digest
+
+-- ---- how many sites a token has
 
 -- the payload, and then the values
 abbrev pub trees_of : Tree → List Given → List Tree
 trees_of payload given = payload ∷ map (λ (x : Given). x.value) given
-
--- the pointer of the tree with this number
-abbrev pub root_of : List Text → ℕ → Text
-root_of places zero = []
-root_of places (suc k) = unwrap_or (slice_get places k) []
-
--- where the strange sites of the trees stand, where the first has the number k
-abbrev pub texts_from : List Given → List Text → ℕ → List Tree → List Text
-texts_from given places k [] = []
-texts_from given places k (t ∷ ts) = map (site_text (root_of places k)) (strange given (sites t)) ++ texts_from given places (suc k) ts
-
-abbrev pub AllDigests : HashAlg → List Given → List Tree → Type 0
-AllDigests hash given [] = Unit {0}
-AllDigests hash given (t ∷ ts) = AreDigests hash given (sites t) × AllDigests hash given ts
-
--- this is found of the trees
-pub record IsFoundIn (hash : HashAlg) (given : List Given) (places : List Text) (trees : List Tree) (found : Found) : Type 0 where
-  pub standings : found.standings.items ≡ texts_from given places 0 trees
-  pub form : found.of_form ≡ true → AllDigests hash given trees
-  pub is_form : AllDigests hash given trees → found.of_form ≡ true
 
 -- how many sites the trees have
 abbrev pub sites_in : List Tree → ℕ

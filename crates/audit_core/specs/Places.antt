@@ -1,50 +1,42 @@
--- For private functions: the places of marked nodes in closing order.
-use Rattle.std.specs.Prelude.{ℕ, suc, List, [], ◌∷◌, ◌++◌, map, Option, Some, None, decimal}
+-- For private functions: the sites of values whose digests are not known, each value at the node with its mark, as they are
+-- listed on a walk of the claims.
+use Rattle.std.specs.Prelude.{ℕ, suc, List, [], ◌∷◌, ◌++◌, Bool, Option, Some, None, decimal, slice_get}
 use Rattle.claim_tree.specs.Tree.{Text}
-use Rattle.claim_tree.specs.Path.{pointer_text}
+use Rattle.digest_sites.specs.Given.{Given}
+use Rattle.digest_sites.specs.declared.site.Site.{Site}
 use Rattle.marked_tree.specs.Marked.{Marked, marked_leaf, marked_array, marked_object, MarkedElements, no_marked_elements, marked_element, MarkedMembers, no_marked_members, marked_member}
 use Rattle.marked_tree.specs.Paths.{Path}
+use Rattle.audit_core.specs.Strange.{strange_at}
 
-abbrev pub own_place : Text → Option ℕ → List Path
-own_place step None = []
-own_place step (Some i) = (step ∷ []) ∷ []
+-- nothing is inside
+abbrev pub IsBare : Marked → Type 0
+IsBare (marked_leaf l) = Unit {0}
+IsBare (marked_array es) = ⊥
+IsBare (marked_object ms) = ⊥
 
-abbrev pub from_step : Text → Path → Path
-from_step step p = step ∷ p
+abbrev pub given_at : (Text → Bool) → Path → Option Given → List Site
+given_at known at None = []
+given_at known at (Some x) = strange_at known at x.value
 
--- the paths of the marked nodes, each behind those inside it
+-- of the value with this number
+abbrev pub value_at : (Text → Bool) → List Given → Path → Option ℕ → List Site
+value_at known given at None = []
+value_at known given at (Some i) = given_at known at (slice_get given i)
+
+-- of the values at the marked nodes, each behind those inside it
 abbrev mutual
-  pub closed_places : Marked → List Path
-  closed_places (marked_leaf l) = []
-  closed_places (marked_array es) = closed_elements 0 es
-  closed_places (marked_object ms) = closed_members ms
+  pub values_at : (Text → Bool) → List Given → Path → Marked → List Site
+  values_at known given at (marked_leaf l) = []
+  values_at known given at (marked_array es) = elements_values known given at 0 es
+  values_at known given at (marked_object ms) = members_values known given at ms
 
   -- the first element has the position n
-  pub closed_elements : ℕ → MarkedElements → List Path
-  closed_elements n no_marked_elements = []
-  closed_elements n (marked_element i t es) = (map (from_step (decimal n)) (closed_places t) ++ own_place (decimal n) i) ++ closed_elements (suc n) es
+  pub elements_values : (Text → Bool) → List Given → Path → ℕ → MarkedElements → List Site
+  elements_values known given at n no_marked_elements = []
+  elements_values known given at n (marked_element i t es) =
+      (values_at known given (at ++ decimal n ∷ []) t ++ value_at known given (at ++ decimal n ∷ []) i) ++ elements_values known given at (suc n) es
 
-  pub closed_members : MarkedMembers → List Path
-  closed_members no_marked_members = []
-  closed_members (marked_member k i t ms) = (map (from_step k) (closed_places t) ++ own_place k i) ++ closed_members ms
-
--- ---- the same on a walk, where the tree stands at a path
-
--- the pointer of a node behind those inside it, where it has a mark
-abbrev pub node_places : Path → Option ℕ → List Text → List Text
-node_places at None inside = inside
-node_places at (Some i) inside = inside ++ pointer_text at ∷ []
-
-abbrev mutual
-  pub places_at : Path → Marked → List Text
-  places_at at (marked_leaf l) = []
-  places_at at (marked_array es) = elements_places at 0 es
-  places_at at (marked_object ms) = members_places at ms
-
-  pub elements_places : Path → ℕ → MarkedElements → List Text
-  elements_places at n no_marked_elements = []
-  elements_places at n (marked_element i t es) = node_places (at ++ decimal n ∷ []) i (places_at (at ++ decimal n ∷ []) t) ++ elements_places at (suc n) es
-
-  pub members_places : Path → MarkedMembers → List Text
-  members_places at no_marked_members = []
-  members_places at (marked_member k i t ms) = node_places (at ++ k ∷ []) i (places_at (at ++ k ∷ []) t) ++ members_places at ms
+  pub members_values : (Text → Bool) → List Given → Path → MarkedMembers → List Site
+  members_values known given at no_marked_members = []
+  members_values known given at (marked_member k i t ms) =
+      (values_at known given (at ++ k ∷ []) t ++ value_at known given (at ++ k ∷ []) i) ++ members_values known given at ms

@@ -23,12 +23,11 @@ use crate::AuditError;
 use crate::asked::{Asked, asked_of};
 use crate::claims::shows;
 use crate::counts::are_so_many;
-use crate::found::{Found, gather};
-use crate::places::places_of;
+use crate::found::{are_digests, standings_of};
+use crate::places::others_of;
 use crate::signed::is_signed_for;
 use crate::sorted::has_sorted_digests;
 use crate::standing::are_alike;
-use crate::strange::strange_lists;
 use crate::written::{Written, read_written};
 use claim_tree::Tree;
 use digest_index::Steps;
@@ -77,13 +76,11 @@ fn judge_others(
     if asked.decoys == 0 {
         return Ok(());
     }
-    let lists = strange_lists(alloc, payload, given, seed)?;
-    let places = places_of(alloc, &asked.claims)?;
-    let found = gather(alloc, asked.hash, lists.as_slice(), &places)?;
-    let Found { of_form, standings } = found;
-    if !of_form {
+    let others = others_of(alloc, &asked.claims, payload, given, seed)?;
+    if !are_digests(asked.hash, others.elements()) {
         return Err(AuditError::Part(4));
     }
+    let standings = standings_of(alloc, others.elements())?;
     if !are_alike(standings, asked.standings.as_slice())? {
         return Err(AuditError::Part(5));
     }

@@ -1,11 +1,11 @@
 // How many digests a token has.
-ghost use Rattle.std.specs.Prelude.{◌≡◌, ◌<◌, ◌+◌, ◌↔◌, length, MatchOption, IsTrue};
+ghost use Rattle.std.specs.Prelude.{◌≡◌, ◌<◌, ◌+◌, ◌↔◌, MatchOption, IsTrue};
 ghost use Rattle.claim_tree.specs.View.{tree_of};
-ghost use Rattle.digest_sites.specs.Reserved.{sd_texts, element_digest as digest_in};
+ghost use Rattle.digest_sites.specs.Reserved.{element_digest as digest_in};
 ghost use Rattle.audit_core.specs.Counts.{count_in, count_on, elements_count, members_count, values_count};
 
 use claim_tree::{Tree, TreeList, TreeMap};
-use digest_sites::{GivenList, element_digest, is_sd, own_digests};
+use digest_sites::{GivenList, element_digest, is_sd, own_count};
 
 // What is left of a number without the sites of a tree, unless they are more.
 #[cycle(counting)]
@@ -54,17 +54,6 @@ fn left_of_members(trees: &TreeMap, left: usize) -> Option<usize>
         }
     }
     Some(left)
-}
-
-// How many digests an object has of its own.
-#[tactic(auto, using(rebuild_core::proofs::ShownDepths::own_length))]
-fn own_count(members: &TreeMap) -> usize
-    ensures { result ≡ length (sd_texts members.now) }
-{
-    match own_digests(members) {
-        Some(digests) => digests.len(),
-        None => 0,
-    }
 }
 
 fn without(left: usize, count: usize) -> Option<usize>

@@ -1,25 +1,14 @@
-// The fourth part: the digests of a token, and where those stand that are of no disclosure.
-ghost use Rattle.std.specs.Prelude.{◌≡◌, ◌↔◌, List, map, IfOk, OnOk, IsTrue};
-ghost use Rattle.claim_tree.specs.Tree.{Tree as SeenTree};
-ghost use Rattle.digest_sites.specs.Given.{Given as SeenGiven};
-ghost use Rattle.digest_sites.specs.Sites.{Site as SeenSite};
-ghost use Rattle.digest_sites.specs.SiteCalls.{listed};
+// What is found of the digests that are of no disclosure.
+ghost use Rattle.std.specs.Prelude.{◌≡◌, ◌↔◌, map, IfOk, IsTrue};
 ghost use Rattle.audit_core.specs.Audited.{IsDigestText, hash_length as hash_length_of};
-ghost use Rattle.audit_core.specs.Found.{AddsStranges, AddsStrange, IsFoundIn, strange_listed, root_of};
+ghost use Rattle.audit_core.specs.Found.{AreDigests, site_text};
 
 use crate::standing::standing_of;
-use b64url_text::{DecodeError, decode};
-use digest_sites::{Site, SiteList};
+use b64url_text::decode_into;
+use digest_sites::Site;
 use disclosure::HashAlg;
-use sd_outside::{NoMemory, TextBox, TextList};
+use sd_outside::{NoMemory, TextBox};
 use std::alloc::Global;
-
-// What the sites say: whether each digest of no disclosure has the form of one, and where those stand.
-#[derive(Debug, Drop)]
-pub(crate) struct Found {
-    pub(crate) of_form: bool,
-    pub(crate) standings: Vec<TextBox>,
-}
 
 // How many bytes a hash has.
 fn hash_length(hash: HashAlg) -> usize
@@ -32,81 +21,39 @@ fn hash_length(hash: HashAlg) -> usize
     }
 }
 
-// Whether a text has the form of a digest.
-fn is_digest(alloc: Global, hash: HashAlg, digest: &str) -> Result<bool, NoMemory>
-    ensures { IfOk result (λ is. IsTrue is ↔ IsDigestText hash digest.now) }
+// Whether a text has the form of a digest, which is never longer than 86 letters.
+fn is_digest(hash: HashAlg, digest: &str) -> bool
+    ensures { IsTrue result ↔ IsDigestText hash digest.now }
 {
-    match decode(alloc, digest.as_bytes()) {
-        Ok(bytes) => Ok(bytes.bytes().len() == hash_length(hash)),
-        Err(DecodeError::NotBase64) => Ok(false),
-        Err(DecodeError::Memory) => Err(NoMemory),
+    let mut room = [0; 66];
+    if digest.len() > 86 {
+        return false;
+    }
+    match decode_into(digest.as_bytes(), &mut room) {
+        Ok(count) => count == hash_length(hash),
+        Err(_) => false,
     }
 }
 
-// A site whose digest is of no disclosure.
-fn add_strange(
-    alloc: Global,
-    hash: HashAlg,
-    root: &str,
-    site: &Site,
-    found: &mut Found,
-) -> Result<(), NoMemory>
-    ensures { OnOk result ((seen : SeenSite) → listed seen ≡ site.now → AddsStrange hash root.now seen found.old found.new) }
+// Whether the digest of each site has this form.
+pub(crate) fn are_digests(hash: HashAlg, sites: &[Site]) -> bool
+    ensures { IsTrue result ↔ AreDigests hash sites.now }
 {
-    if !is_digest(alloc, hash, site.digest.as_str())? {
-        found.of_form = false;
+    for site in sites {
+        if !is_digest(hash, site.digest.as_str()) {
+            return false;
+        }
     }
-    found
-        .standings
-        .push(standing_of(alloc, site.kind, root, &site.at)?)?;
-    Ok(())
+    true
 }
 
-// The strange sites of a tree that stands at a place with this pointer.
-fn add_sites(
-    alloc: Global,
-    hash: HashAlg,
-    root: &str,
-    list: &SiteList,
-    found: &mut Found,
-) -> Result<(), NoMemory>
-    ensures { OnOk result ((ss : List SeenSite) → map listed ss ≡ list.now → AddsStranges hash root.now ss found.old found.new) }
+// Where the sites stand, each as one text.
+pub(crate) fn standings_of(alloc: Global, sites: &[Site]) -> Result<Vec<TextBox>, NoMemory>
+    ensures { IfOk result (λ standings. standings.items ≡ map site_text sites.now) }
 {
-    for site in list.elements() {
-        add_strange(alloc, hash, root, site, found)?;
+    let mut standings = Vec::with_capacity(alloc, sites.len())?;
+    for site in sites {
+        standings.push(standing_of(alloc, site.kind, &site.at)?)?;
     }
-    Ok(())
-}
-
-// The pointer of the tree with this number: the payload is first, and then the values come.
-fn root_at(places: &TextList, k: usize) -> &str
-    ensures { result.now ≡ root_of places.now k }
-{
-    if k == 0 {
-        return "";
-    }
-    match places.at(k - 1) {
-        Some(place) => place.as_str(),
-        None => "",
-    }
-}
-
-// What is found of the strange sites, where the values stand at these places.
-pub(crate) fn gather(
-    alloc: Global,
-    hash: HashAlg,
-    lists: &[SiteList],
-    places: &TextList,
-) -> Result<Found, NoMemory>
-    ensures { IfOk result (λ found. (given : List SeenGiven) (trees : List SeenTree) → map (strange_listed given) trees ≡ lists.now → IsFoundIn hash given places.now trees found) }
-{
-    let mut found = Found {
-        of_form: true,
-        standings: Vec::new(alloc),
-    };
-    for (k, list) in lists.iter().enumerate() {
-        let root = root_at(places, k);
-        add_sites(alloc, hash, root, list, &mut found)?;
-    }
-    Ok(found)
+    Ok(standings)
 }

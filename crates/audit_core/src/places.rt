@@ -1,87 +1,163 @@
-// The places of what is hidden.
-ghost use Rattle.std.specs.Prelude.{◌≡◌, [], ◌∷◌, ◌++◌, IfOk, OnOk};
+// The sites of a token whose digests are of no disclosure, each at its place in the claims.
+ghost use Rattle.std.specs.Prelude.{◌≡◌, [], ◌∷◌, ◌++◌, None, decimal, IfOk, OnOk, IsTrue};
+ghost use Rattle.claim_tree.specs.View.{tree_of};
 ghost use Rattle.marked_tree.specs.View.{marked_of};
-ghost use Rattle.audit_core.specs.Places.{places_at, elements_places, members_places, node_places};
+ghost use Rattle.audit_core.specs.Found.{is_in, AreOthers};
+ghost use Rattle.audit_core.specs.Places.{IsBare, value_at, values_at, elements_values, members_values};
 
-use claim_tree::{Path, digits, print_path};
+use crate::known::digests_of;
+use crate::strange::{self, Search};
+use claim_tree::{Path, Tree};
+use digest_sites::{GivenList, SiteList};
+use itoa::Buffer;
 use marked_tree::{Marked, MarkedList, MarkedMap};
-use sd_outside::{NoMemory, TextBox, TextList};
+use sd_outside::{NoMemory, TextBox};
 use std::alloc::Global;
 
-// The pointers of the marked nodes, each behind those inside it.
-pub(crate) fn places_of(alloc: Global, tree: &Marked) -> Result<TextList, NoMemory>
-    ensures { IfOk result (λ places. places ≡ places_at [] (marked_of tree.now)) }
+// The strange sites of the payload, and then those of each value. A value stands at the node of the claims whose mark is its
+// number. Digests are looked up by their hashes with the seed.
+pub(crate) fn others_of(
+    alloc: Global,
+    claims: &Marked,
+    payload: &Tree,
+    given: &GivenList,
+    seed: u64,
+) -> Result<SiteList, NoMemory>
+    ensures { IfOk result (AreOthers (marked_of claims.now) (tree_of payload.now) given.now) }
 {
-    let mut places = TextList::new(alloc);
-    walk(alloc, tree, &mut Path::new(alloc), &mut places)?;
-    Ok(places)
+    let mut search = Search {
+        alloc,
+        known: digests_of(alloc, given, seed)?,
+        at: Path::new(alloc),
+        found: SiteList::new(alloc),
+    };
+    strange::walk(&mut search, payload)?;
+    walk(&mut search, given, claims)?;
+    let Search { found, .. } = search;
+    Ok(found)
 }
 
-#[cycle(walk)]
-fn walk(alloc: Global, tree: &Marked, at: &mut Path, places: &mut TextList) -> Result<(), NoMemory>
-    ensures places { OnOk result (places.new ≡ places.old ++ places_at at.old (marked_of tree.now)) }
-    ensures at { OnOk result (at.new ≡ at.old) }
+#[cycle(values)]
+fn walk(search: &mut Search<'_>, given: &GivenList, claims: &Marked) -> Result<(), NoMemory>
+    ensures found { OnOk result (search.new.found ≡ search.old.found ++ values_at (is_in search.old.known.keys) given.now search.old.at (marked_of claims.now)) }
+    ensures at { OnOk result (search.new.at ≡ search.old.at) }
+    ensures known { OnOk result (search.new.known ≡ search.old.known) }
 {
-    match tree {
-        Marked::List(list) => walk_elements(alloc, list, at, places),
-        Marked::Object(map) => walk_members(alloc, map, at, places),
+    match claims {
+        Marked::List(list) => walk_elements(search, given, list),
+        Marked::Object(map) => walk_members(search, given, map),
         _ => Ok(()),
     }
 }
 
-#[cycle(walk)]
+#[cycle(values)]
 fn walk_elements(
-    alloc: Global,
+    search: &mut Search<'_>,
+    given: &GivenList,
     list: &MarkedList,
-    at: &mut Path,
-    places: &mut TextList,
 ) -> Result<(), NoMemory>
-    ensures places { OnOk result (places.new ≡ places.old ++ elements_places at.old 0 list.now) }
-    ensures at { OnOk result (at.new ≡ at.old) }
+    ensures found { OnOk result (search.new.found ≡ search.old.found ++ elements_values (is_in search.old.known.keys) given.now search.old.at 0 list.now) }
+    ensures at { OnOk result (search.new.at ≡ search.old.at) }
+    ensures known { OnOk result (search.new.known ≡ search.old.known) }
 {
     for (i, element) in list.elements().iter().enumerate() {
         let (mark, tree) = element;
-        let step = digits(alloc, i)?;
-        walk_node(alloc, step, *mark, tree, at, places)?;
+        walk_element(search, given, i, *mark, tree)?;
     }
     Ok(())
 }
 
-#[cycle(walk)]
-fn walk_members(
-    alloc: Global,
-    map: &MarkedMap,
-    at: &mut Path,
-    places: &mut TextList,
-) -> Result<(), NoMemory>
-    ensures places { OnOk result (places.new ≡ places.old ++ members_places at.old map.now) }
-    ensures at { OnOk result (at.new ≡ at.old) }
+#[cycle(values)]
+fn walk_members(search: &mut Search<'_>, given: &GivenList, map: &MarkedMap) -> Result<(), NoMemory>
+    ensures found { OnOk result (search.new.found ≡ search.old.found ++ members_values (is_in search.old.known.keys) given.now search.old.at map.now) }
+    ensures at { OnOk result (search.new.at ≡ search.old.at) }
+    ensures known { OnOk result (search.new.known ≡ search.old.known) }
 {
     for (name, mark, tree) in map.members() {
-        let step = TextBox::make(alloc, name.as_str())?;
-        walk_node(alloc, step, *mark, tree, at, places)?;
+        walk_member(search, given, name, *mark, tree)?;
     }
     Ok(())
 }
 
-// The node on a step, with its own mark.
-#[cycle(walk)]
-fn walk_node(
-    alloc: Global,
-    step: TextBox,
+// Whether nothing is to be searched at a node.
+fn is_bare(mark: Option<u32>, tree: &Marked) -> bool
+    ensures { IsTrue result → (mark ≡ None) × IsBare (marked_of tree.now) }
+{
+    match tree {
+        Marked::List(_) | Marked::Object(_) => false,
+        _ => mark.is_none(),
+    }
+}
+
+// The element at a position. No step is made to a node where nothing is to be searched.
+#[cycle(values)]
+fn walk_element(
+    search: &mut Search<'_>,
+    given: &GivenList,
+    i: usize,
     mark: Option<u32>,
     tree: &Marked,
-    at: &mut Path,
-    places: &mut TextList,
 ) -> Result<(), NoMemory>
-    ensures places { OnOk result (places.new ≡ places.old ++ node_places (at.old ++ step ∷ []) mark (places_at (at.old ++ step ∷ []) (marked_of tree.now))) }
-    ensures at { OnOk result (at.new ≡ at.old) }
+    ensures found { OnOk result (search.new.found ≡ search.old.found ++ (values_at (is_in search.old.known.keys) given.now (search.old.at ++ decimal i ∷ []) (marked_of tree.now) ++ value_at (is_in search.old.known.keys) given.now (search.old.at ++ decimal i ∷ []) mark)) }
+    ensures at { OnOk result (search.new.at ≡ search.old.at) }
+    ensures known { OnOk result (search.new.known ≡ search.old.known) }
 {
-    at.push(step)?;
-    walk(alloc, tree, at, places)?;
-    if mark.is_some() {
-        places.push(print_path(alloc, at)?)?;
+    if is_bare(mark, tree) {
+        return Ok(());
     }
-    at.pop();
+    let mut digits = Buffer::new();
+    walk_node(search, given, digits.format(i), mark, tree)
+}
+
+#[cycle(values)]
+fn walk_member(
+    search: &mut Search<'_>,
+    given: &GivenList,
+    name: &TextBox,
+    mark: Option<u32>,
+    tree: &Marked,
+) -> Result<(), NoMemory>
+    ensures found { OnOk result (search.new.found ≡ search.old.found ++ (values_at (is_in search.old.known.keys) given.now (search.old.at ++ name.now ∷ []) (marked_of tree.now) ++ value_at (is_in search.old.known.keys) given.now (search.old.at ++ name.now ∷ []) mark)) }
+    ensures at { OnOk result (search.new.at ≡ search.old.at) }
+    ensures known { OnOk result (search.new.known ≡ search.old.known) }
+{
+    if is_bare(mark, tree) {
+        return Ok(());
+    }
+    walk_node(search, given, name.as_str(), mark, tree)
+}
+
+// The node on a step: what is inside it, and then the value with the number of its mark.
+#[cycle(values)]
+fn walk_node(
+    search: &mut Search<'_>,
+    given: &GivenList,
+    step: &str,
+    mark: Option<u32>,
+    tree: &Marked,
+) -> Result<(), NoMemory>
+    ensures found { OnOk result (search.new.found ≡ search.old.found ++ (values_at (is_in search.old.known.keys) given.now (search.old.at ++ step.now ∷ []) (marked_of tree.now) ++ value_at (is_in search.old.known.keys) given.now (search.old.at ++ step.now ∷ []) mark)) }
+    ensures at { OnOk result (search.new.at ≡ search.old.at) }
+    ensures known { OnOk result (search.new.known ≡ search.old.known) }
+{
+    search.at.push(step)?;
+    walk(search, given, tree)?;
+    walk_value(search, given, mark)?;
+    search.at.pop();
     Ok(())
+}
+
+// The value with this number.
+fn walk_value(search: &mut Search<'_>, given: &GivenList, mark: Option<u32>) -> Result<(), NoMemory>
+    ensures found { OnOk result (search.new.found ≡ search.old.found ++ value_at (is_in search.old.known.keys) given.now search.old.at mark) }
+    ensures at { OnOk result (search.new.at ≡ search.old.at) }
+    ensures known { OnOk result (search.new.known ≡ search.old.known) }
+{
+    let Some(number) = mark else {
+        return Ok(());
+    };
+    match given.at(number as usize) {
+        Some(one) => strange::walk(search, &one.value),
+        None => Ok(()),
+    }
 }

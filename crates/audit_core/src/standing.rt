@@ -1,5 +1,5 @@
 // Where a digest stands, as one text.
-ghost use Rattle.std.specs.Prelude.{◌≡◌, ◌++◌, ◌↔◌, IfOk, IsTrue};
+ghost use Rattle.std.specs.Prelude.{◌≡◌, ◌++◌, ◌↔◌, IfOk, IsTrue, string_bytes};
 ghost use Rattle.claim_tree.specs.Path.{pointer_text};
 ghost use Rattle.issuer_core.specs.Laid.{sorted};
 ghost use Rattle.audit_core.specs.AuditSteps.{kind_text};
@@ -8,6 +8,9 @@ use claim_tree::{Path, print_path};
 use digest_sites::SiteKind;
 use sd_outside::{NoMemory, TextBox};
 use std::alloc::Global;
+
+// The letter of a kind, a slash, and the digits of a position.
+const ROOM: usize = 22;
 
 fn kind_letter(kind: SiteKind) -> &'static str
     ensures { result.now ≡ kind_text kind }
@@ -18,19 +21,22 @@ fn kind_letter(kind: SiteKind) -> &'static str
     }
 }
 
-// The kind of the site, and the pointer of its origin: it stands on a path below the place with the pointer `root`.
-pub(crate) fn standing_of(
-    alloc: Global,
-    kind: SiteKind,
-    root: &str,
-    at: &Path,
-) -> Result<TextBox, NoMemory>
-    ensures { IfOk result (λ text. text ≡ kind_text kind ++ (root.now ++ pointer_text at.now)) }
+// The kind, and then the pointer, with room for a position behind it.
+pub(crate) fn with_kind(alloc: Global, kind: SiteKind, pointer: &str) -> Result<String, NoMemory>
+    ensures { IfOk result (λ text. string_bytes text ≡ kind_text kind ++ pointer.now) }
 {
-    let kind = kind_letter(kind);
-    let at = print_path(alloc, at)?;
-    let at = at.as_str();
-    Ok(TextBox::from_string(format!(in alloc; "{kind}{root}{at}")?))
+    let mut text = String::with_capacity(alloc, pointer.len().saturating_add(ROOM))?;
+    text.push_str(kind_letter(kind))?;
+    text.push_str(pointer)?;
+    Ok(text)
+}
+
+// The kind of the site, and then the pointer of where it stands.
+pub(crate) fn standing_of(alloc: Global, kind: SiteKind, at: &Path) -> Result<TextBox, NoMemory>
+    ensures { IfOk result (λ text. text ≡ kind_text kind ++ pointer_text at.now) }
+{
+    let pointer = print_path(alloc, at)?;
+    Ok(TextBox::from_string(with_kind(alloc, kind, pointer.as_str())?))
 }
 
 // Whether each text is in the list as often as in the other, which is sorted.

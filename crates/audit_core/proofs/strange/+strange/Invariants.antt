@@ -29,10 +29,14 @@ decreases-walk_members l = 5 * members_nodes l.trees.now + 4
 
 abbrev pub invariant-walk_elements-loop-i : goal.invariant-walk_elements-loop-i
 invariant-walk_elements-loop-i l =
-    (l.at ≡ l.fn.at)
-    × (l.found ++ strange_elements (is_in l.known.keys) l.at l.i (elements_of (drop l.i l.tree-items)) ≡ l.fn.found ++ strange_elements (is_in l.known.keys) l.fn.at 0 (elements_of l.tree-items))
+    (l.search.at ≡ l.fn.search.at)
+    × (l.search.known ≡ l.fn.search.known)
+    × (l.search.found ++ strange_elements (is_in l.search.known.keys) l.search.at l.i (elements_of (drop l.i l.tree-items))
+    ≡ l.fn.search.found ++ strange_elements (is_in l.fn.search.known.keys) l.fn.search.at 0 (elements_of l.tree-items))
 
 abbrev pub invariant-walk_members-loop-name : goal.invariant-walk_members-loop-name
 invariant-walk_members-loop-name l =
-    (l.at ≡ l.fn.at)
-    × (l.found ++ strange_members (is_in l.known.keys) l.at (members_of (drop l.name-index l.name-items)) ≡ l.fn.found ++ strange_members (is_in l.known.keys) l.fn.at (members_of l.name-items))
+    (l.search.at ≡ l.fn.search.at)
+    × (l.search.known ≡ l.fn.search.known)
+    × (l.search.found ++ strange_members (is_in l.search.known.keys) l.search.at (members_of (drop l.name-index l.name-items))
+    ≡ l.fn.search.found ++ strange_members (is_in l.fn.search.known.keys) l.fn.search.at (members_of l.name-items))

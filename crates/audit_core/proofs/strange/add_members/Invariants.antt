@@ -10,4 +10,7 @@ abbrev pub invariant-loop-tree : goal.invariant-loop-tree
 invariant-loop-tree l =
     let left = texts_of (elements_of (drop l.tree-index l.tree-items)) in
     IsSome left
-    × (l.found ++ strange_own (is_in l.known.keys) l.at (unwrap_or left []) ≡ l.fn.found ++ strange_own (is_in l.known.keys) l.at (unwrap_or (texts_of (elements_of l.tree-items)) []))
+    × (l.search.at ≡ l.fn.search.at)
+    × (l.search.known ≡ l.fn.search.known)
+    × (l.search.found ++ strange_own (is_in l.search.known.keys) l.search.at (unwrap_or left [])
+    ≡ l.fn.search.found ++ strange_own (is_in l.fn.search.known.keys) l.fn.search.at (unwrap_or (texts_of (elements_of l.tree-items)) []))

@@ -1,6 +1,7 @@
-use Rattle.std.proofs.Common.{◌≡◌, ◌++◌}
-use Rattle.audit_core.specs.Wanted.{member_texts}
+use Rattle.std.proofs.Common.{◌≡◌, ◌++◌, replicate}
+use Rattle.digest_sites.specs.declared.site.SiteKind.TheVariants.{Member}
+use Rattle.audit_core.specs.AuditSteps.{kind_text}
 use Rattle.audit_core.proofs.wanted.push_members.Given as goal
 
 abbrev pub invariant-loop : goal.invariant-loop
-invariant-loop l = l.wanted.items ≡ l.fn.wanted.items ++ member_texts l.at l.counter
+invariant-loop l = l.wanted.items ≡ l.fn.wanted.items ++ replicate l.counter (kind_text Member ++ l.pointer)

@@ -6,21 +6,21 @@ use Rattle.audit_core.proofs.Wanteds.{texts_of, few_before, whole_step, counts_a
 use Rattle.audit_core.proofs.wanted.wanted_standings.Goals as goal
 use Rattle.sd_outside.specs.Limits.{count_max}
 
-pub note-requires : goal.note-requires
-note-requires c =
+pub note-requires-clause-few : goal.note-requires-clause-few
+note-requires-clause-few c =
     let l = c.loop-entry.invariant in
     let h = entry c.elements-entry-items.result.now c.loop-entry.entry-index c.entry-item.result c.loop-entry-test.true c.entry-item.is in
     let few = few_before c.elements-entry-items.result.now c.loop-entry.entry-index c.entry-item.result c.loop-entry.counts c.in_ok-pointer.pointer h l.whole l.counts c.in_ok-pointer.ensures in
     let all = c.requires in
-    omega (arith, few, subst (λ ds. length (decoy_paths ds) ≤ count_max) (sym c.elements-entry-items.ensures) all)
+    omega (arith, few, c.count_of-before.ensures, subst (λ ds. length (decoy_paths ds) ≤ count_max) (sym c.elements-entry-items.ensures) all)
 
-pub push_entry-requires : goal.push_entry-requires
-push_entry-requires c =
+pub push_entry-requires-clause-few : goal.push_entry-requires-clause-few
+push_entry-requires-clause-few c =
     let l = c.loop-entry.invariant in
     let h = entry c.elements-entry-items.result.now c.loop-entry.entry-index c.entry-item.result c.loop-entry-test.true c.entry-item.is in
     let few = few_before c.elements-entry-items.result.now c.loop-entry.entry-index c.entry-item.result c.loop-entry.counts c.in_ok-pointer.pointer h l.whole l.counts c.in_ok-pointer.ensures in
     let all = c.requires in
-    omega (arith, few, c.in_ok-before.ensures.before, subst (λ ds. length (decoy_paths ds) ≤ count_max) (sym c.elements-entry-items.ensures) all)
+    omega (arith, few, c.count_of-before.ensures, subst (λ ds. length (decoy_paths ds) ≤ count_max) (sym c.elements-entry-items.ensures) all)
 
 pub loop-entry-preserved : goal.loop-entry-preserved
 loop-entry-preserved c =
@@ -31,12 +31,12 @@ loop-entry-preserved c =
     let h = entry items i e c.loop-entry-test.true c.entry-item.is in
     record {
       whole = whole_step items i e h l.whole;
-      counts = counts_after items i e c.loop-entry.counts c.note.new.counts c.in_ok-pointer.pointer h l.whole l.counts c.in_ok-pointer.ensures c.in_ok-before.ensures.noted;
+      counts = counts_after items i e c.loop-entry.counts c.note.new.counts c.in_ok-pointer.pointer h l.whole l.counts c.in_ok-pointer.ensures c.in_ok-note.ensures;
       texts =
           ap (λ xs. xs ++ texts_of (tree_of c.args.order.now.payload) (decoy_paths items) (length (decoy_paths (take (i + 1) items))) (decoy_paths (drop (i + 1) items))) c.in_ok-push_entry.ensures
           ∙ append_assoc c.loop-entry.wanted.items _ _
           ∙ ap (λ xs. c.loop-entry.wanted.items ++ xs)
-          (sym (texts_after (tree_of c.args.order.now.payload) items i e c.loop-entry.counts c.in_ok-pointer.pointer c.in_ok-before.before h l.whole l.counts c.in_ok-pointer.ensures c.in_ok-before.ensures.before))
+          (sym (texts_after (tree_of c.args.order.now.payload) items i e c.loop-entry.counts c.in_ok-pointer.pointer c.count_of-before.result h l.whole l.counts c.in_ok-pointer.ensures c.count_of-before.ensures))
           ∙ l.texts;
     }
 

@@ -1,0 +1,39 @@
+use Rattle.std.proofs.Common.{◌≡◌, ◌+◌, ◌*◌, ◌++◌, drop}
+use Rattle.claim_tree.specs.Nodes.{nodes, elements_nodes, members_nodes}
+use Rattle.marked_tree.specs.Marked.{strip, strip_elements, strip_members}
+use Rattle.marked_tree.specs.View.{marked_of, marked_elements_of, marked_members_of}
+use Rattle.audit_core.specs.Found.{is_in}
+use Rattle.audit_core.specs.Places.{elements_values, members_values}
+use Rattle.audit_core.proofs.places.+values.Given as goal
+
+abbrev pub decreases-walk : goal.decreases-walk
+decreases-walk l = 4 * nodes (strip (marked_of l.claims.now))
+
+abbrev pub decreases-walk_node : goal.decreases-walk_node
+decreases-walk_node l = 4 * nodes (strip (marked_of l.tree.now)) + 1
+
+abbrev pub decreases-walk_element : goal.decreases-walk_element
+decreases-walk_element l = 4 * nodes (strip (marked_of l.tree.now)) + 2
+
+abbrev pub decreases-walk_member : goal.decreases-walk_member
+decreases-walk_member l = 4 * nodes (strip (marked_of l.tree.now)) + 2
+
+abbrev pub decreases-walk_elements : goal.decreases-walk_elements
+decreases-walk_elements l = 4 * elements_nodes (strip_elements l.list.now) + 3
+
+abbrev pub decreases-walk_members : goal.decreases-walk_members
+decreases-walk_members l = 4 * members_nodes (strip_members l.map.now) + 3
+
+abbrev pub invariant-walk_elements-loop-i : goal.invariant-walk_elements-loop-i
+invariant-walk_elements-loop-i l =
+    (l.search.at ≡ l.fn.search.at)
+    × (l.search.known ≡ l.fn.search.known)
+    × (l.search.found ++ elements_values (is_in l.search.known.keys) l.given l.search.at l.i (marked_elements_of (drop l.i l.element-items))
+    ≡ l.fn.search.found ++ elements_values (is_in l.fn.search.known.keys) l.given l.fn.search.at 0 (marked_elements_of l.element-items))
+
+abbrev pub invariant-walk_members-loop-name : goal.invariant-walk_members-loop-name
+invariant-walk_members-loop-name l =
+    (l.search.at ≡ l.fn.search.at)
+    × (l.search.known ≡ l.fn.search.known)
+    × (l.search.found ++ members_values (is_in l.search.known.keys) l.given l.search.at (marked_members_of (drop l.name-index l.name-items))
+    ≡ l.fn.search.found ++ members_values (is_in l.fn.search.known.keys) l.given l.fn.search.at (marked_members_of l.name-items))
