@@ -27,9 +27,6 @@ module _ {X : Type 0} (Is : spec.Tree → X → Type 0) where
       let same : es ≡ h.1.elements = cc both in
       none h.0 (subst (λ us. EachSays Is us h.0) (sym same) h.1.each)
 
-  pub list_says : (t : tree.Tree) (es : Elements) (xs : List X) → t ≡ tree.Tree.List es → EachSays Is es xs → IsListOf Is (tree_of t) xs
-  list_says t es xs is each = record { elements = es; is = ap tree_of is; each = each }
-
   says_there : (ts : List tree.Tree) (xs : List X) (i : ℕ) (d : tree.Tree) → i < length ts → EachSays Is (elements_of ts) xs → HasValue Is (tree_of (get_or ts i d))
   says_there [] xs i d within h = absurd (omega arith)
   says_there (t ∷ ts) [] i d within h = absurd h
@@ -72,12 +69,6 @@ one_pointer t p q h k =
     let both : leaf (text (pointer_text p)) ≡ leaf (text (pointer_text q)) = sym h ∙ k in
     let same : pointer_text p ≡ pointer_text q = cc both in
     pointer_text-injective p q same
-
-pub no_pointer : (t : tree.Tree) → ((s : Text) → t ≢ tree.Tree.Text s) → HasValue IsPointer (tree_of t) → ⊥
-no_pointer t other h = no_text t other (pointer_text h.0, h.1)
-
-pub is_pointer : (t : tree.Tree) (s : Text) (path : List Text) → t ≡ tree.Tree.Text s → s ≡ pointer_text path → IsPointer (tree_of t) path
-is_pointer t s path is e = ap tree_of is ∙ ap (λ word. leaf (text word)) e
 
 pub odd_pointer : (t : tree.Tree) (s : Text) → t ≡ tree.Tree.Text s → IsNoPointer s → HasValue IsPointer (tree_of t) → ⊥
 odd_pointer t s is none h =

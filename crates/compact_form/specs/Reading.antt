@@ -21,10 +21,6 @@ field_after BindingSignature byte = None
 abbrev pub State : Type 0
 State = Field × Bool
 
--- the field that a byte opens behind a word, or behind no letter
-abbrev pub field_opened : State → ℕ → Option Field
-field_opened state byte = if state.1 then field_after state.0 byte else None
-
 abbrev pub step : State → ℕ → Option State
 step state byte =
     if is_letter byte then Some (state.0, true) else if state.1 then option_and_then (λ field. Some (field, false)) (field_after state.0 byte) else None

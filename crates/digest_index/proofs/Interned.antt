@@ -18,9 +18,6 @@ interned-there t (x ∷ xs) h = go (bytes_eq t x) h (interned-there t xs)
     go true h ih = refl
     go false h ih = ap (λ (ys : List Text). x ∷ ys) (ih (omega (arith, h)))
 
-pub interned-found : (t : Text) (xs : List Text) (i : ℕ) → position_of t xs ≡ Some i → interned t xs ≡ xs
-interned-found t xs i h = interned-there t xs (omega (arith, place_of-Some t xs i h, slice_get_within xs i t (slice_get-place_of t xs i h)))
-
 -- a new text goes to the end
 pub interned-new : (t : Text) (xs : List Text) → position_or_end t xs ≡ length xs → interned t xs ≡ xs ++ t ∷ []
 interned-new t [] h = refl
@@ -71,11 +68,6 @@ place_or_end-interned t (x ∷ xs) = go (bytes_eq t x) refl (place_or_end-intern
     go true e ih = rw e refl
     go false e ih = rw e (ap suc ih)
 
-pub place_of-interned : (t : Text) (xs : List Text) → position_of t (interned t xs) ≡ Some (position_or_end t xs)
-place_of-interned t xs =
-    let same : position_or_end t (interned t xs) ≡ position_or_end t xs = place_or_end-interned t xs in
-    place_of-there t (interned t xs) (omega (arith, same, length-interned t xs)) ∙ ap Some same
-
 -- each text that was there keeps its position
 pub slice_get-interned_keeps : (t : Text) (xs : List Text) (i : ℕ) (u : Text) → slice_get xs i ≡ Some u → slice_get (interned t xs) i ≡ Some u
 slice_get-interned_keeps t [] i u h = cc
@@ -95,13 +87,6 @@ place_or_end-interned_keeps t u (x ∷ xs) h = go (bytes_eq t x) (bytes_eq u x) 
     go true c e h ih = ap (λ (z : Bool). cond z 0 (suc (position_or_end u xs))) e
     go false true e h ih = rw e refl
     go false false e h ih = rw e (ap suc (ih (omega (arith, h))))
-
-pub place_of-interned_keeps : (t u : Text) (xs : List Text) (i : ℕ) → position_of u xs ≡ Some i → position_of u (interned t xs) ≡ Some i
-place_of-interned_keeps t u xs i h =
-    let at : position_or_end u xs ≡ i = place_of-Some u xs i h in
-    let within : i < length xs = slice_get_within xs i u (slice_get-place_of u xs i h) in
-    let same : position_or_end u (interned t xs) ≡ position_or_end u xs = place_or_end-interned_keeps t u xs (omega (arith, at, within)) in
-    place_of-there u (interned t xs) (omega (arith, at, within, same, length-interned t xs)) ∙ ap Some (same ∙ at)
 
 -- a text that was not there is not there after another was interned
 pub place_of-interned_other : (t u : Text) (xs : List Text) → bytes_eq u t ≡ false → position_of u xs ≡ None → position_of u (interned t xs) ≡ None

@@ -1,5 +1,4 @@
 pub mod Places
 pub mod Interned
-pub mod Ticks
 mod Keys
 mod Examples

@@ -124,11 +124,6 @@ place_or_end-at t (x ∷ xs) (suc i) d h =
     let apart : bytes_eq t x ≡ false = bytes_eq-flip t x ∙ each_at (λ y. bytes_eq x y ≡ false) xs i t (IsDistinct-head bytes_eq x xs d) h in
     rw apart (ap suc (place_or_end-at t xs i (IsDistinct-tail bytes_eq x xs d) h))
 
-pub place_of-at : (t : Text) (xs : List Text) (i : ℕ) → IsDistinct bytes_eq xs → slice_get xs i ≡ Some t → position_of t xs ≡ Some i
-place_of-at t xs i d h =
-    let at : position_or_end t xs ≡ i = place_or_end-at t xs i d h in
-    place_of-there t xs (omega (arith, at, slice_get_within xs i t h)) ∙ ap Some at
-
 -- and stands nowhere else
 pub one_place : (t : Text) (xs : List Text) (i j : ℕ) → IsDistinct bytes_eq xs → slice_get xs i ≡ Some t → slice_get xs j ≡ Some t → i ≡ j
 one_place t xs i j d h k = sym (place_or_end-at t xs i d h) ∙ place_or_end-at t xs j d k

@@ -1,7 +1,6 @@
 -- What disclosures give, RFC 9901 section 4.2.
 use Rattle.std.specs.Prelude.{Option}
 use Rattle.claim_tree.specs.Tree.{Text, Tree}
-use Rattle.digest_sites.specs.declared.given.Given as code
 
 pub record Given : Type 0 where
   pub digest : Text

@@ -4,7 +4,6 @@ use Rattle.claim_tree.specs.Tree.{Text, Tree, leaf, array, object, Elements, no_
 use Rattle.digest_sites.specs.Reserved.{sd_name, sd_texts, element_digest}
 use Rattle.digest_sites.specs.declared.site.SiteKind.{SiteKind}
 use Rattle.digest_sites.specs.declared.site.SiteKind.TheVariants.{Member, Element}
-use Rattle.digest_sites.specs.declared.site.Site as code
 
 -- one step into a tree: to the member with this name, or to the element at this position, counted from 0
 pub data Step : Type 0 where

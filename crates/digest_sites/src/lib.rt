@@ -11,6 +11,6 @@ mod walk;
 
 pub use given::{Given, GivenList};
 pub use misuse::is_misused;
-pub use reserved::{element_digest, is_dots, is_sd, own_digests};
+pub use reserved::{element_digest, is_dots, is_sd, own_count, own_digests};
 pub use site::{Site, SiteKind, SiteList};
 pub use walk::{SiteError, sites};

@@ -1,5 +1,5 @@
 // What of a tree the reserved names read.
-ghost use Rattle.std.specs.Prelude.{◌≡◌, [], Some, MatchOption, is_some, option_map, bytes_eq};
+ghost use Rattle.std.specs.Prelude.{◌≡◌, [], Some, MatchOption, is_some, length, option_map, bytes_eq};
 ghost use Rattle.claim_tree.specs.View.{tree_of};
 ghost use Rattle.digest_sites.specs.Reserved.{texts_of, text_list, element_digest as digest_in, is_ill_named as is_ill_named_as, sd_texts, sd_name, dots_name};
 
@@ -61,6 +61,17 @@ pub fn own_digests(members: &TreeMap) -> Option<&TreeList>
         return None;
     }
     Some(list)
+}
+
+/// How many digests an object has of its own hidden members. It takes no memory.
+#[tactic(auto, using(crate::proofs::Found::own_length))]
+pub fn own_count(members: &TreeMap) -> usize
+    ensures { result ≡ length (sd_texts members.now) }
+{
+    match own_digests(members) {
+        Some(digests) => digests.len(),
+        None => 0,
+    }
 }
 
 // Whether a member with this name and value misuses a reserved name, in an object that is walked.

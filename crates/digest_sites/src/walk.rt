@@ -10,7 +10,8 @@ ghost use Rattle.digest_sites.specs.declared.site.SiteKind.TheVariants.{Member};
 use crate::misuse::is_misused;
 use crate::reserved::{element_digest, is_sd, own_digests};
 use crate::site::{Site, SiteKind, SiteList};
-use claim_tree::{Path, Tree, TreeList, TreeMap, digits};
+use claim_tree::{Path, Tree, TreeList, TreeMap};
+use itoa::Buffer;
 use sd_outside::{NoMemory, TextBox};
 use std::alloc::Global;
 
@@ -75,8 +76,8 @@ fn walk_elements(
     ensures at { OnOk result (at.new ≡ at.old) }
 {
     for (i, tree) in trees.trees().iter().enumerate() {
-        let step = digits(alloc, i)?;
-        walk_element(alloc, step, tree, at, found)?;
+        let mut digits = Buffer::new();
+        walk_element(alloc, digits.format(i), tree, at, found)?;
     }
     Ok(())
 }
@@ -85,12 +86,12 @@ fn walk_elements(
 #[cycle(walk)]
 fn walk_element(
     alloc: Global,
-    step: TextBox,
+    step: &str,
     tree: &Tree,
     at: &mut Path,
     found: &mut SiteList,
 ) -> Result<(), NoMemory>
-    ensures found { OnOk result (found.new ≡ found.old ++ element_sites_on (at.old ++ step ∷ []) (digest_in (tree_of tree.now)) (sites_at (at.old ++ step ∷ []) (tree_of tree.now))) }
+    ensures found { OnOk result (found.new ≡ found.old ++ element_sites_on (at.old ++ step.now ∷ []) (digest_in (tree_of tree.now)) (sites_at (at.old ++ step.now ∷ []) (tree_of tree.now))) }
     ensures at { OnOk result (at.new ≡ at.old) }
 {
     match element_digest(tree) {
@@ -111,8 +112,7 @@ fn walk_members(
 {
     for (name, tree) in trees.members() {
         if !is_sd(name) {
-            let step = TextBox::make(alloc, name.as_str())?;
-            walk_inside(alloc, step, tree, at, found)?;
+            walk_inside(alloc, name.as_str(), tree, at, found)?;
         }
     }
     Ok(())
@@ -122,12 +122,12 @@ fn walk_members(
 #[cycle(walk)]
 fn walk_inside(
     alloc: Global,
-    step: TextBox,
+    step: &str,
     tree: &Tree,
     at: &mut Path,
     found: &mut SiteList,
 ) -> Result<(), NoMemory>
-    ensures found { OnOk result (found.new ≡ found.old ++ sites_at (at.old ++ step ∷ []) (tree_of tree.now)) }
+    ensures found { OnOk result (found.new ≡ found.old ++ sites_at (at.old ++ step.now ∷ []) (tree_of tree.now)) }
     ensures at { OnOk result (at.new ≡ at.old) }
 {
     at.push(step)?;
@@ -138,12 +138,12 @@ fn walk_inside(
 
 fn add_element_site(
     alloc: Global,
-    step: TextBox,
+    step: &str,
     digest: &TextBox,
     at: &Path,
     found: &mut SiteList,
 ) -> Result<(), NoMemory>
-    ensures { OnOk result (found.new ≡ found.old ++ element_sites_on (at.now ++ step ∷ []) (Some digest.now) []) }
+    ensures { OnOk result (found.new ≡ found.old ++ element_sites_on (at.now ++ step.now ∷ []) (Some digest.now) []) }
 {
     let mut at = at.copy(alloc)?;
     at.push(step)?;

@@ -16,7 +16,7 @@ own_length true k = refl
 own_length false k = refl
 
 mutual
-  count : (h : Path → Bool) (t : Tree) → length (closing h t) ≡ hidden_in h t
+  pub count : (h : Path → Bool) (t : Tree) → length (closing h t) ≡ hidden_in h t
   count h (leaf l) = refl
   count h (array es) = count_elements h 0 es
   count h (object ms) = count_members h ms

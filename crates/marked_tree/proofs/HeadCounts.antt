@@ -40,11 +40,6 @@ taken_le ss d [] = omega arith
 taken_le ss d ([] ∷ ps) = omega (arith, taken_le ss d ps)
 taken_le ss d ((k ∷ p) ∷ ps) = omega (arith, taken_le ss d ps, occ_le ss k d)
 
-pub taken_none : (ps : List Path) → taken [] ps ≡ 0
-taken_none [] = refl
-taken_none ([] ∷ ps) = omega (arith, taken_none ps)
-taken_none ((k ∷ p) ∷ ps) = omega (arith, taken_none ps)
-
 pub taken_more : (s : Text) (ss : List Text) (ps : List Path) → taken (s ∷ ss) ps ≡ headed s ps + taken ss ps
 taken_more s ss [] = refl
 taken_more s ss ([] ∷ ps) = omega (arith, taken_more s ss ps)

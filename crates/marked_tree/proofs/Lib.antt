@@ -15,7 +15,6 @@ pub mod Remarks
 pub mod PrunedSame
 pub mod MarkSame
 pub mod StepOrder
-pub mod PathSteps
 pub mod PathOrder
 pub mod RunSearch
 pub mod DifferentPaths

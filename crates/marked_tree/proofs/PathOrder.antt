@@ -294,9 +294,6 @@ goes_on zero [] l = absurd (omega arith)
 goes_on (suc depth) [] l = absurd (omega arith)
 goes_on (suc depth) (k ∷ x) l = goes_on depth x (omega arith)
 
-pub first_ends : (depth : ℕ) (x : Path) (xs : List Path) → length x ≤ depth → is_among (rests depth (x ∷ xs)) [] ≡ true
-first_ends depth x xs l = rw (at_end depth x l) refl
-
 pub first_goes_on : (depth : ℕ) (x : Path) (xs : List Path) → AreSorted (rests depth (x ∷ xs)) → depth < length x → is_among (rests depth (x ∷ xs)) [] ≡ false
 first_goes_on depth x xs s l =
     let w = goes_on depth x l in
@@ -305,10 +302,6 @@ first_goes_on depth x xs s l =
 pub none_ends_first : (depth : ℕ) (ps : List Path) (x : Path) → Some x ≡ slice_get ps 0 → AreSorted (rests depth ps) → depth < length x → is_among (rests depth ps) [] ≡ false
 none_ends_first depth [] x e s l = cc
 none_ends_first depth (y ∷ ps) x e s l = let same : x ≡ y = cc in first_goes_on depth y ps s (subst (λ q. depth < length q) same l)
-
-pub ends_first : (depth : ℕ) (ps : List Path) (x : Path) → Some x ≡ slice_get ps 0 → length x ≤ depth → is_among (rests depth ps) [] ≡ true
-ends_first depth [] x e l = cc
-ends_first depth (y ∷ ps) x e l = let same : x ≡ y = cc in first_ends depth y ps (subst (λ q. length q ≤ depth) same l)
 
 -- ---- the step at a depth
 

@@ -29,10 +29,7 @@ abbrev pub IsAscending : List Text → Type 0
 IsAscending [] = Unit {0}
 IsAscending (n ∷ ns) = IsBeforeAll n ns × IsAscending ns
 
--- the three cases of a put, with what the order says
-pub PutCase : Text → Text → Type 0
-PutCase k l = IsBefore k l ⊎ ((k ≡ l) ⊎ IsBefore l k)
-
+-- how two names stand, with what the order says
 abbrev Where : Text → Text → Ordering → Type 0
 Where k l Less = IsBefore k l
 Where k l Equal = k ≡ l

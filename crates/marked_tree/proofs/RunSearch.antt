@@ -3,11 +3,10 @@ use Rattle.std.proofs.Common.{◌≡◌, ◌≢◌, ℕ, zero, suc, ◌-◌, ◌
 use Rattle.std.specs.Prelude.{◌==◌}
 use Rattle.std.specs.List.Sorted.{IsPartitionedBy, IsPartitionPoint}
 use Rattle.std.specs.Ordering.{ordering_index}
-use Rattle.std.proofs.lemmas.List.{length-drop}
 use Rattle.claim_tree.specs.Tree.{Text}
 use Rattle.claim_tree.proofs.Lists.{false_unless_true}
 use Rattle.marked_tree.specs.Paths.{Path}
-use Rattle.marked_tree.specs.Rests.{rests, step_order, AreSorted, Every, Compares, Follows, IsStart, IsRunOfPaths}
+use Rattle.marked_tree.specs.Rests.{rests, step_order, AreSorted, Every, Compares, Follows, IsStart}
 use Rattle.marked_tree.proofs.Names.{behind_last}
 use Rattle.marked_tree.proofs.PathOrder.{is_less, is_tied, index_greater, tied_is, parted_tied, every_taken, every_dropped}
 
@@ -63,12 +62,3 @@ module _ (depth : ℕ) (step : Text) where
 
   pub same_behind : (xs : List Path) (count : ℕ) → Every (Follows depth step) xs → IsPartitionPoint (λ y. is_tied depth step y ≡ true) (λ y. is_tied depth step y ≡ false) xs count → Every (Compares Greater depth step) (drop count xs)
   same_behind xs count all point = every_dropped (Compares Greater depth step) count xs (λ k d l h. index_greater (step_order (drop depth (get_or xs k d)) step) (none_lower xs all k d h) (point.1 k d l h))
-
-  pub run_is : (xs : List Path) (start count : ℕ) → IsStart depth step xs start → count ≤ length (drop start xs) → Every (Compares Equal depth step) (take count (drop start xs)) → Every (Compares Greater depth step) (drop count (drop start xs))
-      → IsRunOfPaths depth step xs start count
-  run_is xs start count begins few run behind = record {
-    within = let fits = begins.within in omega (arith, few, length-drop start xs, fits);
-    before = begins.before;
-    run = run;
-    behind = behind;
-  }

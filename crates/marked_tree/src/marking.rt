@@ -68,10 +68,11 @@ fn sorted_paths(paths: PathList) -> Result<Vec<Path>, NoMemory>
     Ok(sorted)
 }
 
+#[tactic(auto, using(crate::proofs::DifferentPaths::path_ties))]
 fn is_same(one: &Path, other: &Path) -> bool
     ensures { result ≡ same_path one.now other.now }
 {
-    one.steps() == other.steps()
+    compare_paths(one, other).is_eq()
 }
 
 // Marks a tree that the paths come to by their first `depth` steps, from the mark `next` on.
@@ -273,7 +274,7 @@ fn compared(path: &Path, depth: usize, step: &str) -> Ordering
     ensures { result ≡ step_order (drop depth path.now) step.now }
 {
     match path.at(depth) {
-        Some(found) => compare_steps(found.as_str(), step),
+        Some(found) => compare_steps(found, step),
         None => Ordering::Less,
     }
 }

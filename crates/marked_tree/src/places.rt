@@ -17,7 +17,7 @@ pub fn place_of(alloc: Global, tree: &Marked, mark: u32) -> Result<Option<Path>,
     ensures { IfOk result (λ path. path ≡ mark_path (marked_of tree.now) mark) }
 {
     match find(alloc, tree, mark)? {
-        Some(steps) => Ok(Some(Path::from_last(steps))),
+        Some(steps) => Ok(Some(Path::from_last(alloc, steps.as_slice())?)),
         None => Ok(None),
     }
 }

@@ -2,7 +2,7 @@
 -- closed choice of its own.
 use Rattle.std.proofs.Common.{◌≡◌, ℕ, zero, suc, List, [], ◌∷◌, map, length, Bool, true, false, eqb, ◌&&◌, ◌⊎◌, inl, inr, ⊎_elim, Option, Some, None, refl, sym, ap, ◌∙◌, subst, arith, eqb-true}
 use Rattle.std.specs.List.{IsDistinct, AllByRecursion}
-use Rattle.claim_tree.specs.Tree.{Text, Tree}
+use Rattle.claim_tree.specs.Tree.{Tree}
 use Rattle.claim_tree.specs.Lists.{StandsAt, In}
 use Rattle.digest_sites.specs.Sites.{Site, sites}
 use Rattle.digest_sites.specs.Given.{Given}
@@ -12,7 +12,7 @@ use Rattle.marked_tree.specs.Numbers.{has}
 use Rattle.marked_tree.specs.Ways.{ways}
 use Rattle.rebuild_core.specs.Free.{HasNoReserved}
 use Rattle.rebuild_core.specs.Laws.{StandsIn, LeadsUp, Enumerates, IsPick, position_from}
-use Rattle.rebuild_core.specs.Opening.{shown, reveal, opened, processed}
+use Rattle.rebuild_core.specs.Opening.{reveal, opened, processed}
 use Rattle.rebuild_core.specs.Reached.{stands, is_in_round, payload, value_of, OwnedSite, owned_site, value_sites, all_sites, all_digests, given_digests}
 use Rattle.rebuild_core.specs.Readable.{IsReadable}
 use Rattle.rebuild_core.specs.Soundness.{IsSound}

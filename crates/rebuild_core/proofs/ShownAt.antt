@@ -13,7 +13,7 @@ use Rattle.rebuild_core.specs.Free.{HasNoReserved, IsFree}
 use Rattle.rebuild_core.proofs.FreeMembers.{ElementsNoReserved, MembersNoReserved}
 use Rattle.rebuild_core.specs.Opening.{Shown, nothing_shown, open_element, open_elements, open_members, open_tree, show_element, show_member, show_members, shown}
 use Rattle.claim_tree.proofs.Lists.{In-append, In-of_map, In-right, bytes_same}
-use Rattle.marked_tree.proofs.Puts.{IsAscending, IsBeforeAll-not_in, put_ascending}
+use Rattle.marked_tree.proofs.Puts.{IsAscending, IsBeforeAll-not_in}
 use Rattle.rebuild_core.proofs.Fits.{Names, NamesApart, Suits, open_ascending, show_ascending}
 use Rattle.rebuild_core.proofs.Marks.{Way, shown_ways}
 use Rattle.rebuild_core.proofs.ObjectFacts.{on_starts, in_starts, element_starts, member_starts, same_step}

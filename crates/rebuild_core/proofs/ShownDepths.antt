@@ -1,11 +1,9 @@
 -- How deep what is opened is.
-use Rattle.std.proofs.Common.{◌≡◌, ℕ, suc, ◌≤◌, max, List, [], ◌∷◌, ◌++◌, length, Option, Some, None, Ordering, Less, Equal, Greater, nat_cmp, inl, inr, refl, sym, ap, ◌∙◌, arith}
+use Rattle.std.proofs.Common.{◌≡◌, ℕ, ◌≤◌, max, List, [], ◌∷◌, ◌++◌, Option, Some, None, Ordering, Less, Equal, Greater, nat_cmp, inl, inr, refl, sym, ap, ◌∙◌, arith}
 use Rattle.std.specs.Ordering.{match_ordering}
 use Rattle.std.specs.Cmp.Lexicographic.{slice_cmp}
 use Rattle.std.proofs.lemmas.Map.Lookups.{exact_bytes}
-use Rattle.std.specs.Prelude.{option_map, option_and_then}
-use Rattle.digest_sites.specs.Reserved.{texts_of}
-use Rattle.claim_tree.specs.Tree.{Text, Elements, no_elements, element, elements_len, depth, elements_depth, members_depth, text_of}
+use Rattle.claim_tree.specs.Tree.{Text, depth, elements_depth, members_depth}
 use Rattle.claim_tree.specs.Lists.{In}
 use Rattle.marked_tree.specs.Marked.{Marked, MarkedElements, no_marked_elements, marked_element, MarkedMembers, no_marked_members, marked_member, put, strip, strip_elements, strip_members}
 use Rattle.marked_tree.specs.MarkedCalls.{marked_pushed, marked_names, put_all}
@@ -138,15 +136,3 @@ members_keep r (d ∷ ds) ms = omega (arith, show_keeps (r d) ms, members_keep r
 pub members_new : (r : Text → Shown) (ds : List Text) (ms : MarkedMembers) → AllNew r ds ms → shown_depths r ds ≤ map_depth (show_members r ds ms)
 members_new r [] ms h = omega arith
 members_new r (d ∷ ds) ms h = omega (arith, show_new (r d) ms h.0, members_keep r ds (show_member (r d) ms), members_new r ds (show_member (r d) ms) h.1)
-
-pub own_length : (es : Elements) (ds : List Text) → texts_of es ≡ Some ds → elements_len es ≡ length ds
-own_length no_elements [] h = refl
-own_length no_elements (d ∷ ds) h = cc
-own_length (element t es) ds h = go (text_of t) (texts_of es) ds h (own_length es)
-  where
-    go : (o : Option Text) (p : Option (List Text)) (ds : List Text) → option_and_then (λ s. option_map (λ ss. s ∷ ss) p) o ≡ Some ds → ((ds : List Text) → p ≡ Some ds → elements_len es ≡ length ds) → suc (elements_len es) ≡ length ds
-    go None p ds h ih = cc
-    go (Some s) None ds h ih = cc
-    go (Some s) (Some ss) ds h ih =
-        let e : s ∷ ss ≡ ds = cc in
-        ap suc (ih ss refl) ∙ ap length e

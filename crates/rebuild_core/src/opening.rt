@@ -19,7 +19,7 @@ use crate::graph::Graph;
 use crate::names::is_alg;
 use crate::shown::{OpenedMembers, Revealed, push_element, push_member};
 use claim_tree::{Tree, TreeList, TreeMap};
-use digest_sites::{Given, GivenList, element_digest, is_sd, own_digests};
+use digest_sites::{Given, GivenList, element_digest, is_sd, own_count};
 use marked_tree::{Marked, MarkedList, MarkedMap};
 use sd_outside::{NoMemory, TextBox, copy_text};
 use std::alloc::Global;
@@ -29,17 +29,6 @@ fn stays(top: bool, name: &TextBox) -> bool
     ensures { result ≡ stays_in top name.now }
 {
     !is_sd(name) && !(top && is_alg(name))
-}
-
-// How many digests an object has of its own.
-#[tactic(auto, using(crate::proofs::ShownDepths::own_length))]
-fn own_count(map: &TreeMap) -> usize
-    ensures { result ≡ length (sd_texts map.now) }
-{
-    match own_digests(map) {
-        Some(list) => list.len(),
-        None => 0,
-    }
 }
 
 // The disclosure with a number, if there is one.

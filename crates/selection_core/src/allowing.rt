@@ -11,9 +11,10 @@ ghost use Rattle.selection_core.specs.Consent.{AllAllowed};
 ghost use Rattle.selection_core.specs.AllowCalls.{IsAllowRefused};
 
 use crate::{AllowError, Consent};
-use claim_tree::{Path, digits};
+use claim_tree::Path;
+use itoa::Buffer;
 use marked_tree::{ChosenSet, Marked, MarkedList, MarkedMap};
-use sd_outside::{NoMemory, TextBox};
+use sd_outside::NoMemory;
 use std::alloc::Global;
 
 /// Asks the rule for the place of each chosen mark, and refuses where it refuses one, with the least such mark. What has
@@ -34,7 +35,7 @@ pub fn allow<F: Fn(&Path) -> bool>(
 {
     let mut at = Path::new(alloc);
     let mut refused = None;
-    ask_inside(alloc, consent, tree, chosen, &mut at, &mut refused)?;
+    ask_inside(consent, tree, chosen, &mut at, &mut refused)?;
     match refused {
         Some(mark) => Err(AllowError::Refused(mark)),
         None => Ok(()),
@@ -44,7 +45,6 @@ pub fn allow<F: Fn(&Path) -> bool>(
 // Asks for the places inside a tree that stands at `at`. The least mark that is refused stays in `refused`.
 #[cycle(ask)]
 fn ask_inside<F: Fn(&Path) -> bool>(
-    alloc: Global,
     consent: &Consent<F>,
     tree: &Marked,
     chosen: &ChosenSet,
@@ -57,15 +57,14 @@ fn ask_inside<F: Fn(&Path) -> bool>(
     ensures at { OnOk result (at.new ≡ at.old) }
 {
     match tree {
-        Marked::List(list) => ask_elements(alloc, consent, list, chosen, at, refused),
-        Marked::Object(map) => ask_members(alloc, consent, map, chosen, at, refused),
+        Marked::List(list) => ask_elements(consent, list, chosen, at, refused),
+        Marked::Object(map) => ask_members(consent, map, chosen, at, refused),
         _ => Ok(()),
     }
 }
 
 #[cycle(ask)]
 fn ask_elements<F: Fn(&Path) -> bool>(
-    alloc: Global,
     consent: &Consent<F>,
     list: &MarkedList,
     chosen: &ChosenSet,
@@ -80,8 +79,9 @@ fn ask_elements<F: Fn(&Path) -> bool>(
     for (i, element) in list.elements().iter().enumerate() {
         let (mark, tree) = element;
         if may_hold(*mark, tree, chosen) {
-            at.push(digits(alloc, i)?)?;
-            ask_node(alloc, consent, *mark, tree, chosen, at, refused)?;
+            let mut digits = Buffer::new();
+            at.push(digits.format(i))?;
+            ask_node(consent, *mark, tree, chosen, at, refused)?;
             at.pop();
         }
     }
@@ -90,7 +90,6 @@ fn ask_elements<F: Fn(&Path) -> bool>(
 
 #[cycle(ask)]
 fn ask_members<F: Fn(&Path) -> bool>(
-    alloc: Global,
     consent: &Consent<F>,
     map: &MarkedMap,
     chosen: &ChosenSet,
@@ -104,8 +103,8 @@ fn ask_members<F: Fn(&Path) -> bool>(
 {
     for (name, mark, tree) in map.members() {
         if may_hold(*mark, tree, chosen) {
-            at.push(TextBox::make(alloc, name.as_str())?)?;
-            ask_node(alloc, consent, *mark, tree, chosen, at, refused)?;
+            at.push(name.as_str())?;
+            ask_node(consent, *mark, tree, chosen, at, refused)?;
             at.pop();
         }
     }
@@ -115,7 +114,6 @@ fn ask_members<F: Fn(&Path) -> bool>(
 // Asks for a node that stands at `at`, and for the places inside it.
 #[cycle(ask)]
 fn ask_node<F: Fn(&Path) -> bool>(
-    alloc: Global,
     consent: &Consent<F>,
     mark: Option<u32>,
     tree: &Marked,
@@ -129,7 +127,7 @@ fn ask_node<F: Fn(&Path) -> bool>(
     ensures at { OnOk result (at.new ≡ at.old) }
 {
     ask(consent, mark, chosen, at, refused);
-    ask_inside(alloc, consent, tree, chosen, at, refused)
+    ask_inside(consent, tree, chosen, at, refused)
 }
 
 // Asks for the place of a mark, where it is chosen and smaller than the one that is refused.

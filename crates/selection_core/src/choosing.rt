@@ -52,9 +52,11 @@ fn add_way(tree: &Marked, path: &Path, marks: &mut Vec<u32>) -> Result<bool, NoM
     ensures there { IfOk result (λ there. there ≡ is_some (tree_at (strip (marked_of tree.now)) path.now)) }
     ensures marks { IfOk result (λ there. there ≡ true → (i : ℕ) → has marks.new.items i ≡ (has marks.old.items i || is_on_way (marked_of tree.now) path.now i)) }
 {
+    // The number that is read here bounds the steps.
+    let _count = path.len();
     let mut inside = tree;
-    for (at, step) in path.steps().iter().enumerate() {
-        match stepped(inside, step.as_str()) {
+    for (at, step) in path.steps().enumerate() {
+        match stepped(inside, step) {
             Some((mark, below)) => {
                 if let Some(mark) = mark {
                     add_mark(marks, at, mark)?;

@@ -8,7 +8,7 @@ use Rattle.marked_tree.proofs.MarkedViews.{Element, Entry}
 use Rattle.marked_tree.proofs.MarkedWalks.{into_element, into_member}
 use Rattle.selection_core.specs.Asked.{SeenMark, own_seen, seen_from, IsAskedOnWalk}
 use Rattle.selection_core.proofs.Asking.{IsAskedThrough, asked_none, asked_skipped, through_node, element_seen, member_seen, popped}
-use Rattle.selection_core.proofs.allowing.+ask.Goals.{ask_elements-then-may_hold+in_ok-digits+in_ok-push+in_ok-ask_node, ask_elements-else-may_hold, ask_members-then-may_hold+in_ok-make+in_ok-push+in_ok-ask_node, ask_members-else-may_hold}
+use Rattle.selection_core.proofs.allowing.+ask.Goals.{ask_elements-then-may_hold+in_ok-push+in_ok-ask_node, ask_elements-else-may_hold, ask_members-then-may_hold+in_ok-push+in_ok-ask_node, ask_members-else-may_hold}
 use Rattle.selection_core.proofs.allowing.+ask.Goals as goal
 
 pub ask_elements-ask_node-requires : goal.ask_elements-ask_node-requires
@@ -33,8 +33,8 @@ ask_elements-loop-i-preserved g t c =
     through_node answers rule s (seen_from at (elements_spots i (marked_elements_of (drop i es)))) node rest (seen_from at (elements_spots 0 (marked_elements_of es))) c.args.refused.now now next
     (element_seen at i es e c.loop-i-test.true c.element-item.is) c.loop-i.invariant.1 asked in
     elim c.if-may_hold.branch [
-      | ask_elements-then-may_hold+in_ok-digits+in_ok-push+in_ok-ask_node w ↦
-          let pushed : w.push.new.self ≡ at ++ step ∷ [] = w.in_ok-push.ensures.ok ∙ ap₂ (λ (p : Path) (k : Text). p ++ k ∷ []) c.loop-i.invariant.0 w.in_ok-digits.ensures in
+      | ask_elements-then-may_hold+in_ok-push+in_ok-ask_node w ↦
+          let pushed : w.push.new.self ≡ at ++ step ∷ [] = w.in_ok-push.ensures.ok ∙ ap₂ (λ (p : Path) (k : Text). p ++ k ∷ []) c.loop-i.invariant.0 w.format.ensures.text in
           let asked = subst (λ (p : Path). IsAskedOnWalk answers rule s (own_seen e.0 p ++ seen_from p (spots (marked_of e.1))) now w.ask_node.new.refused) pushed w.in_ok-ask_node.ensures.asked in (
             w.at-is ∙ popped at w.ask_node.new.at w.pop.new.self step (w.in_ok-ask_node.ensures.at ∙ pushed) w.pop.ensures,
             subst (λ (o : Option ℕ). IsAskedThrough answers rule s rest (seen_from at (elements_spots 0 (marked_elements_of es))) c.args.refused.now o) (sym w.refused-is) (through w.ask_node.new.refused asked),
@@ -76,9 +76,8 @@ ask_members-loop-name-preserved g t c =
     through_node answers rule s (seen_from at (members_spots (marked_members_of (drop i ms)))) node rest (seen_from at (members_spots (marked_members_of ms))) c.args.refused.now now next
     (member_seen at i ms m c.loop-name-test.true c.loop-name-item.is) c.loop-name.invariant.1 asked in
     elim c.if-may_hold.branch [
-      | ask_members-then-may_hold+in_ok-make+in_ok-push+in_ok-ask_node w ↦
-          let made : w.in_ok-make.field-0 ≡ step = w.in_ok-make.ensures ∙ w.as_str.ensures in
-          let pushed : w.push.new.self ≡ at ++ step ∷ [] = w.in_ok-push.ensures.ok ∙ ap₂ (λ (p : Path) (k : Text). p ++ k ∷ []) c.loop-name.invariant.0 made in
+      | ask_members-then-may_hold+in_ok-push+in_ok-ask_node w ↦
+          let pushed : w.push.new.self ≡ at ++ step ∷ [] = w.in_ok-push.ensures.ok ∙ ap₂ (λ (p : Path) (k : Text). p ++ k ∷ []) c.loop-name.invariant.0 w.as_str.ensures in
           let asked = subst (λ (p : Path). IsAskedOnWalk answers rule s (own_seen m.1 p ++ seen_from p (spots (marked_of m.2))) now w.ask_node.new.refused) pushed w.in_ok-ask_node.ensures.asked in (
             w.at-is ∙ popped at w.ask_node.new.at w.pop.new.self step (w.in_ok-ask_node.ensures.at ∙ pushed) w.pop.ensures,
             subst (λ (o : Option ℕ). IsAskedThrough answers rule s rest (seen_from at (members_spots (marked_members_of ms))) c.args.refused.now o) (sym w.refused-is) (through w.ask_node.new.refused asked),
