@@ -88,7 +88,7 @@ pub(crate) fn reach(alloc: Global, count: usize, graph: &Graph) -> Result<Vec<bo
     ensures exact { IfOk result (λ flags. (k : ℕ) → k < count → slice_index_or flags.items k false ≡ is_in (roots_in graph.now.ends.items graph.now.numbers.items) (rows_in graph.now.ends.items graph.now.numbers.items) count k) }
 {
     let mut flags = cleared(alloc, count)?;
-    let mut order = Vec::new(alloc);
+    let mut order = Vec::with_capacity(alloc, count)?;
     mark_row(&mut flags, &mut order, graph.row(0))?;
     let mut head = 0;
     while head < order.len() {
@@ -109,7 +109,7 @@ pub(crate) fn met_numbers(
     requires flags { length graph.now.ends.items ≡ suc (length flags.now) }
     ensures { IfOk result (λ met. met.items ≡ roots_in graph.now.ends.items graph.now.numbers.items ++ flagged_rows flags.now (rows_in graph.now.ends.items graph.now.numbers.items)) }
 {
-    let mut met = Vec::new(alloc);
+    let mut met = Vec::with_capacity(alloc, graph.numbers.len())?;
     met.extend_from_slice(graph.row(0))?;
     for (k, flag) in flags.iter().enumerate() {
         if *flag {

@@ -149,7 +149,7 @@ fn open_plain(
     ensures moved { OnOk result (at.new ≡ at.old + length (members_digests (topped top map.now))) }
     ensures opened { MatchResult result (λ out. (out ≡ open_members (settled given.now) (topped top map.now)) × (members_depth (strip_members out) ≤ limit)) (λ e. IfTooDeep e (limit < members_depth (strip_members (open_members (settled given.now) (topped top map.now))))) }
 {
-    let mut out = MarkedMap::new(alloc);
+    let mut out = MarkedMap::with_capacity(alloc, map.len())?;
     for (name, tree) in map.members() {
         if stays(top, name) {
             let plain = open(alloc, limit, given, graph, at, tree)?;

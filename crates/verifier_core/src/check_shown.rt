@@ -3,6 +3,9 @@ ghost use Rattle.std.specs.Prelude.{◌≡◌, ◌↔◌, ℕ, List, IsTrue, OnO
 ghost use Rattle.claim_tree.specs.Tree.{IsRanged};
 ghost use Rattle.claim_tree.specs.View.{tree_of};
 ghost use Rattle.compact_form.specs.Lowest.{IsLowest, NoneFails};
+ghost use Rattle.key_binding.specs.JudgedSteps.{judged_of};
+ghost use Rattle.key_binding.specs.BindingConditions.{BindingFails};
+ghost use Rattle.key_binding.specs.BindingCalls.{IsLowestBinding, OnBoundFails};
 ghost use Rattle.verifier_core.specs.Verdict.{Fails, IsAccepted, IsBindingMissing, HolderFails};
 ghost use Rattle.verifier_core.specs.Check.{OnFault, IsOpened};
 ghost use Rattle.marked_tree.specs.Marked.{Marked, strip};
@@ -21,6 +24,14 @@ pub(crate) fn is_binding_missing(token: &TokenView<'_>, policy: &Policy) -> bool
     ensures { IsTrue result ↔ IsBindingMissing policy.now token.now.parts }
 {
     policy.binding.is_some() && token.binding().is_none()
+}
+
+// The conditions 27 to 38 of the key binding token that is sent. What reads it takes room only here.
+fn check_sent(alloc: Global, bound: Bound<'_>) -> Result<(), BoundError>
+    ensures passes { OnOk result (NoneFails (BindingFails (judged_of bound.entry))) }
+    ensures refused { IfErr result (λ e. OnBoundFails e (IsLowestBinding (judged_of bound.entry))) }
+{
+    check_bound(alloc, &mut JsonReader::new(alloc), bound)
 }
 
 // The conditions 27 to 38, where a key binding token is asked for.
@@ -50,7 +61,7 @@ fn check_holder(
         hashed: token.hashed(),
         now,
     };
-    match check_bound(alloc, &mut JsonReader::new(alloc), bound) {
+    match check_sent(alloc, bound) {
         Ok(()) => Ok(()),
         Err(BoundError::Memory) => Err(VerifyError::Memory),
         Err(BoundError::Fails(condition)) => Err(fails(condition)),

@@ -10,8 +10,8 @@ loop-head-init c =
     let ends = c.args.graph.now.ends.items in
     let ks = c.args.graph.now.numbers.items in
     let row = c.row.ensures ∙ first_row ends ks c.args.count c.requires.count in (
-      reach_start c.args.count (roots_in ends ks) (rows_in ends ks) c.in_ok-flags.flags.items c.mark_row.new.flags.items c.new-order.result.items c.mark_row.new.order.items
-          c.in_ok-flags.ensures c.new-order.ensures.items (rw row at c.in_ok-mark_row.ensures.flags) (rw row at c.in_ok-mark_row.ensures.order),
+      reach_start c.args.count (roots_in ends ks) (rows_in ends ks) c.in_ok-flags.flags.items c.mark_row.new.flags.items c.in_ok-order.order.items c.mark_row.new.order.items
+          c.in_ok-flags.ensures c.in_ok-order.ensures.items (rw row at c.in_ok-mark_row.ensures.flags) (rw row at c.in_ok-mark_row.ensures.order),
       omega arith,
     )
 

@@ -156,7 +156,7 @@ open_plain-open-requires t c =
 pub open_plain-returns-in_err-plain-clause-opened : goal.open_plain-returns-in_err-plain-clause-opened
 open_plain-returns-in_err-plain-clause-opened t c =
     let s = map_at _ _ _ _ _ _ c.members-name-items.result.now c.loop-name.name-index c.loop-name-item.result _ _ c.loop-name-test.true c.loop-name-item.is c.loop-name.invariant in
-    let p = err_from_is_err_and c.from_residual.result c.from_residual.ensures.1 in
+    let p = err_from_is_err_and c.from_residual-in_err-plain.result c.from_residual-in_err-plain.ensures.1 in
     rw (p.1, p.2) (still_deep c.in_err-plain.field-0.0 (λ h. kept_deep _ _ _ _ _ _ _ _ _ _ _ s (sym c.stays.ensures ∙ c.if-stays.true) h) c.in_err-plain.ensures.opened)
 
 pub open_plain-loop-name-preserved : goal.open_plain-loop-name-preserved

@@ -14,8 +14,8 @@ use Rattle.verifier_core.specs.Check.{OnFault}
 use Rattle.verifier_core.proofs.Verdicts.{holder_lowest}
 use Rattle.verifier_core.proofs.check_shown.check_holder.Goals as goal
 
-pub returns-clause-refused : goal.returns-clause-refused
-returns-clause-refused c =
+pub returns-in-Err-Fails-clause-refused : goal.returns-in-Err-Fails-clause-refused
+returns-in-Err-Fails-clause-refused c =
     let parts = c.args.token.now.parts in
     let payload = tree_of c.args.payload.now in
     let policy = c.args.policy.now in
