@@ -18,7 +18,7 @@ use Rattle.issuer_core.specs.Laid.{sorted, sorted_with}
 use Rattle.issuer_core.proofs.SortedDigests.{NoneBelow, Rising, sorted_rising, less_then}
 use Rattle.issuer_core.proofs.IssuedForgery.{is_there}
 use Rattle.marked_tree.specs.Paths.{Path, same_path}
-use Rattle.marked_tree.proofs.DifferentPaths.{path_refl, path_same}
+use Rattle.claim_tree.proofs.SamePaths.{path_refl, path_same}
 use Rattle.audit_core.specs.Audited.{Standing, same_kind, same_standing, IsEachAsOften}
 use Rattle.audit_core.specs.AuditSteps.{kind_text, standing_text}
 

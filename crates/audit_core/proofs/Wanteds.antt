@@ -17,7 +17,7 @@ use Rattle.claim_tree.proofs.Lists.{bytes_same, bytes_refl}
 use Rattle.claim_tree.proofs.PointerTexts.{pointer_text-injective}
 use Rattle.digest_sites.specs.declared.site.SiteKind.TheVariants.{Member, Element}
 use Rattle.marked_tree.specs.Paths.{Path, same_path}
-use Rattle.marked_tree.proofs.DifferentPaths.{path_same, path_refl}
+use Rattle.claim_tree.proofs.SamePaths.{path_same, path_refl}
 use Rattle.issuer_core.specs.declared.order.Decoy.{Decoy}
 use Rattle.issuer_core.specs.Decoys.{decoy_paths, earlier}
 use Rattle.audit_core.specs.Audited.{Standing, standing, decoy_standing, standings_from}

@@ -6,7 +6,7 @@ use Rattle.claim_tree.specs.Lists.{StandsAt, In}
 use Rattle.claim_tree.specs.Path.{tree_at}
 use Rattle.claim_tree.specs.Tree.{Text}
 use Rattle.marked_tree.specs.Paths.{Path, same_path}
-use Rattle.marked_tree.proofs.DifferentPaths.{path_refl}
+use Rattle.claim_tree.proofs.SamePaths.{path_refl}
 use Rattle.issuer_core.specs.Decoys.{decoys_at, decoys_of, earlier, decoy_paths}
 use Rattle.issuer_core.specs.GoodOrder.{HoldsOthers, IsGoodOrder}
 use Rattle.issuer_core.specs.Order.{Order}

@@ -15,7 +15,7 @@ use Rattle.marked_tree.proofs.StepOrder.{same_step}
 use Rattle.marked_tree.proofs.PathOrder.{paths_total, are_sorted}
 use Rattle.issuer_core.specs.Decoys.{decoys_at}
 use Rattle.issuer_core.specs.Laying.{nth, digests_on_path, paths_in, digests_in}
-use Rattle.marked_tree.proofs.DifferentPaths.{path_same, path_refl}
+use Rattle.claim_tree.proofs.SamePaths.{path_same, path_refl}
 
 abbrev pub Entry : Type 0
 Entry = Path × Text

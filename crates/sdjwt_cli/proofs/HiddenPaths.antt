@@ -14,7 +14,8 @@ use Rattle.claim_tree.proofs.Lists.{bytes_same, bytes_refl, or_left, or_right, I
 use Rattle.marked_tree.specs.Paths.{Path, below, is_among, same_path}
 use Rattle.marked_tree.specs.Ways.{closing, closing_elements, closing_members, own_path}
 use Rattle.marked_tree.proofs.Closing.{marks_close_holds}
-use Rattle.marked_tree.proofs.DifferentPaths.{path_same, path_refl, path_laws}
+use Rattle.claim_tree.proofs.SamePaths.{path_same, path_refl}
+use Rattle.marked_tree.proofs.DifferentPaths.{path_laws}
 use Rattle.marked_tree.proofs.Puts.{IsBeforeAll-not_in}
 use Rattle.compact_form.specs.Lowest.{NoneApplies}
 use Rattle.issuer_core.specs.Digests.{hidden_of}

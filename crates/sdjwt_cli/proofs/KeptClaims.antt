@@ -13,7 +13,7 @@ use Rattle.issuer_core.specs.Order.{Order}
 use Rattle.compact_form.specs.Lowest.{NoneApplies}
 use Rattle.issuer_core.specs.OrderRefusals.{AppliesToOrder, IsProtected, protected_names}
 use Rattle.issuer_core.specs.declared.errors.IssueError.TheVariants.{ProtectedClaim}
-use Rattle.marked_tree.proofs.DifferentPaths.{path_same}
+use Rattle.claim_tree.proofs.SamePaths.{path_same}
 use Rattle.holder_core.specs.Present.{shown_for}
 
 -- no path passes
