@@ -26,8 +26,8 @@ same_if true p q is = sym (path_refl p q (is.0 refl))
 same_if false p q is = go (same_path p q) refl
   where
     go : (c : Bool) → same_path p q ≡ c → false ≡ c
-    go true yes = is.1 (path_same p q yes)
-    go false no = refl
+    go true e = is.1 (path_same p q e)
+    go false e = refl
 
 path_turned : (p q : Path) → same_path p q ≡ same_path q p
 path_turned [] [] = refl
