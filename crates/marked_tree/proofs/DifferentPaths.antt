@@ -14,6 +14,7 @@ use Rattle.claim_tree.specs.Tree.{Text}
 use Rattle.claim_tree.proofs.Lists.{bytes_same, bytes_refl, and_split, and_join}
 use Rattle.marked_tree.specs.Paths.{Path, same_path, is_among}
 use Rattle.marked_tree.specs.Rests.{step_cmp, path_order, AfterNone, AreSorted}
+use Rattle.marked_tree.proofs.NumberSets.{twice}
 use Rattle.marked_tree.proofs.StepOrder.{is_eq-step_cmp}
 use Rattle.marked_tree.proofs.PathOrder.{paths_total, lower_path, not_greater}
 
@@ -58,10 +59,6 @@ path_ties (k ∷ p) (l ∷ q) = ap (λ b. b && same_path p q) (sym (is_eq-step_c
     go Greater tie = refl
 
 -- ---- each once
-
-twice : (a b : Bool) → (a || b) ≡ (a || (a || b))
-twice true b = refl
-twice false b = refl
 
 among_from : (p k : Path) (xs : List Path) → is_among (dedup_from same_path k xs) p ≡ (same_path p k || is_among xs p)
 among_from p k [] = refl

@@ -1,10 +1,8 @@
 -- Numbers in rising order.
 use Rattle.std.proofs.Common.{◌≡◌, ℕ, ◌<◌, List, [], ◌∷◌, Bool, true, false, eqb, ◌||◌, Ordering, Less, Equal, Greater, nat_cmp, inl, inr, refl, sym, subst, arith, eqb-true, eq-eqb}
-use Rattle.std.specs.List.Sorted.{IsStrictlySortedBy}
 use Rattle.std.specs.Ordering.{MatchOrdering, match_ordering}
 use Rattle.std.specs.BTreeSet.{insert_key}
 use Rattle.std.proofs.lemmas.Cmp.{ranked}
-use Rattle.std.proofs.lemmas.Map.Keys.{sorted_head, sorted_tail}
 use Rattle.std.specs.List.{AllByRecursion, IsDistinct}
 use Rattle.std.proofs.lemmas.Bool.Decides.{nat_tests}
 use Rattle.claim_tree.specs.Lists.{In}
@@ -16,7 +14,7 @@ swapped true true c = refl
 swapped true false c = refl
 swapped false b c = refl
 
-twice : (a b : Bool) → (a || b) ≡ (a || (a || b))
+pub twice : (a b : Bool) → (a || b) ≡ (a || (a || b))
 twice true b = refl
 twice false b = refl
 
@@ -29,14 +27,6 @@ has-inserted (m ∷ ns) n i = go (nat_cmp n m) (ranked n m (nat_cmp n m) refl) (
     go Less r ih = refl
     go Equal r ih = subst (λ k. (eqb i m || has ns i) ≡ (eqb i k || (eqb i m || has ns i))) (sym r) (twice (eqb i m) (has ns i))
     go Greater r ih = rw ih (swapped (eqb i m) (eqb i n) (has ns i))
-
-above : (n : ℕ) (ns : List ℕ) → AllByRecursion (λ m. nat_cmp n m ≡ Less) ns → AllAbove n ns
-above n [] all = tt
-above n (m ∷ ns) all = (subst (λ o. MatchOrdering o (n < m) (n ≡ m) (m < n)) all.0 (ranked n m (nat_cmp n m) refl), above n ns all.1)
-
-pub rising : (ns : List ℕ) → IsStrictlySortedBy nat_cmp ns → IsRising ns
-rising [] s = tt
-rising (n ∷ ns) s = (above n ns (sorted_head nat_cmp n ns s), rising ns (sorted_tail nat_cmp n ns s))
 
 -- ---- rising numbers
 
