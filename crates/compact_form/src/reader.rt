@@ -19,7 +19,7 @@ pub(crate) fn text_of(bytes: &[u8]) -> &str
     requires { IsAscii bytes.now }
     ensures { result.now ≡ bytes.now }
 {
-    unsafe { str::from_utf8_unchecked(bytes) }
+    str::from_utf8(bytes).unwrap()
 }
 
 fn word_text(word: &[u8]) -> &str
