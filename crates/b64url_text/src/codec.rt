@@ -4,31 +4,16 @@ ghost use Rattle.b64url_text.specs.NotBase64.{IsNotBase64};
 ghost use Rattle.b64url_text.specs.Room.{room_for};
 
 use crate::{DecodeError, NotBase64};
+use base64::DecodeAllocError;
 use base64::engine::general_purpose::URL_SAFE_NO_PAD;
-use base64::{DecodeAllocError, encoded_len};
 use sd_outside::{ByteBox, NoMemory, TextBox};
 use std::alloc::Global;
-
-// The letters of the bytes.
-fn letters_of(alloc: Global, bytes: &[u8]) -> Result<Vec<u8>, NoMemory>
-    ensures { IfOk result (λ letters. letters.items ≡ b64 bytes.now) }
-{
-    let Some(count) = encoded_len(bytes.len(), false) else {
-        return Err(NoMemory);
-    };
-    let mut letters = vec![in alloc; 0u8; count]?;
-    let Ok(_) = URL_SAFE_NO_PAD.encode_slice(bytes, letters.as_mut_slice()) else {
-        unreachable!();
-    };
-    Ok(letters)
-}
 
 /// The text of the bytes, which are any.
 pub fn encode(alloc: Global, bytes: &[u8]) -> Result<TextBox, NoMemory>
     ensures { IfOk result (λ text. text ≡ b64 bytes.now) }
 {
-    let letters = letters_of(alloc, bytes)?;
-    let text = unsafe { String::from_utf8_unchecked(letters) };
+    let text = URL_SAFE_NO_PAD.encode(alloc, bytes)?;
     Ok(TextBox::from_string(text))
 }
 
