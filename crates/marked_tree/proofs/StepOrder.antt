@@ -1,14 +1,15 @@
 -- Steps in the order in which paths are sorted.
-use Rattle.std.proofs.Common.{◌≡◌, length, Bool, true, false, Ordering, Less, Equal, Greater, refl, sym, ap, subst, ◌∙◌}
+use Rattle.std.proofs.Common.{◌≡◌, ◌<◌, List, [], ◌∷◌, length, take, Bool, true, false, Ordering, Less, Equal, Greater, refl, sym, ap, subst, ◌∙◌, arith}
 use Rattle.std.specs.Prelude.{bytes_eq}
 use Rattle.std.specs.Ordering.{nat_cmp, ordering_reverse, ordering_then, is_eq}
 use Rattle.std.specs.Cmp.{IsTotalOrder}
-use Rattle.std.specs.Cmp.Lexicographic.{nat_list_cmp_total}
+use Rattle.std.specs.Cmp.Lexicographic.{pointwise, nat_list_cmp_total}
 use Rattle.std.proofs.lemmas.Cmp.{tied_itself, then_total, nat_cmp_total, on_total}
 use Rattle.claim_tree.specs.Tree.{Text}
-use Rattle.claim_tree.proofs.Lists.{bytes_same, bytes_refl}
+use Rattle.claim_tree.proofs.Lists.{bytes_same, bytes_refl, and_split}
 use Rattle.claim_tree.proofs.MapPlaces.{cmp, same_name}
-use Rattle.marked_tree.specs.Rests.{step_cmp}
+use Rattle.claim_tree.specs.Path.{is_front}
+use Rattle.marked_tree.specs.Rests.{step_cmp, path_order}
 
 pub steps_total : IsTotalOrder step_cmp
 steps_total = then_total (on_total length nat_cmp_total) nat_list_cmp_total
@@ -44,3 +45,13 @@ steps_apart k l e = sym (is_eq-step_cmp k l) ∙ ap is_eq e
 
 pub steps_apart_back : (k l : Text) → step_cmp k l ≡ Less → bytes_eq l k ≡ false
 steps_apart_back k l e = sym (is_eq-step_cmp l k) ∙ ap is_eq (step_after k l e)
+
+-- a path comes after each of its fronts
+pub behind_front : (front path : List Text) → is_front front path ≡ true → length front < length path → path_order path front ≡ Greater
+behind_front [] [] is longer = absurd (omega (arith, longer))
+behind_front [] (k ∷ path) is longer = refl
+behind_front (k ∷ front) [] is longer = cc is
+behind_front (k ∷ front) (l ∷ path) is longer =
+    let both = and_split (bytes_eq k l) (pointwise bytes_eq front (take (length front) path)) is in
+    let tied : step_cmp l k ≡ Equal = subst (λ x. step_cmp l x ≡ Equal) (sym (bytes_same k l both.0)) (tied_itself steps_total l) in
+    rw tied (behind_front front path both.1 (omega (arith, longer)))

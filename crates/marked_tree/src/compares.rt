@@ -2,7 +2,7 @@
 ghost use Rattle.std.specs.Prelude.{◌≡◌};
 ghost use Rattle.marked_tree.specs.Rests.{step_cmp, path_order};
 
-use claim_tree::Path;
+use claim_tree::{Path, is_prefix};
 use std::cmp::Ordering;
 
 /// How two paths compare: step by step, a front first. Of two steps the shorter comes first, so that positions rise
@@ -10,6 +10,10 @@ use std::cmp::Ordering;
 pub fn compare_paths(one: &Path, other: &Path) -> Ordering
     ensures { result ≡ path_order one.now other.now }
 {
+    // Deep in a tree most paths go on behind another, which their texts tell at once.
+    if other.len() < one.len() && is_prefix(other, one) {
+        return Ordering::Greater;
+    }
     let mut others = other.steps();
     for step in one.steps() {
         let Some(against) = others.next() else {
