@@ -32,10 +32,6 @@ got_drop [] k t e = cc
 got_drop (x ∷ ts) zero t e = let same : t ≡ x = cc in ap (λ (y : Text). y ∷ ts) same
 got_drop (x ∷ ts) (suc k) t e = let more : suc k + 1 ≡ suc (k + 1) = omega arith in rw more (got_drop ts k t e)
 
--- one text more, and those behind it
-pub got_further : (old ts : List Text) (k : ℕ) (t : Text) → Some t ≡ slice_get ts k → (old ++ t ∷ []) ++ drop (k + 1) ts ≡ old ++ drop k ts
-got_further old ts k t e = append_assoc old (t ∷ []) (drop (k + 1) ts) ∙ ap (λ (xs : List Text). old ++ xs) (got_drop ts k t e)
-
 pub digested_further : (hash : HashAlg) (old ts : List Text) (k : ℕ) (t : Text) → Some t ≡ slice_get ts k → (old ++ digest_of hash t ∷ []) ++ map (digest_of hash) (drop (k + 1) ts) ≡ old ++ map (digest_of hash) (drop k ts)
 digested_further hash old ts k t e = append_assoc old (digest_of hash t ∷ []) (map (digest_of hash) (drop (k + 1) ts)) ∙ ap (λ (xs : List Text). old ++ map (digest_of hash) xs) (got_drop ts k t e)
 

@@ -345,14 +345,12 @@ fn with_alg(alloc: Global, hash: HashAlg, payload: Tree) -> Result<Tree, NoMemor
     }
 }
 
-fn push_texts(alloc: Global, texts: &mut TextList, others: &TextList) -> Result<(), NoMemory>
-    ensures { OnOk result (texts.new ≡ texts.old ++ others.now) }
+// Moves the others behind the texts.
+fn push_texts(texts: &mut TextList, others: TextList) -> Result<(), NoMemory>
+    ensures { OnOk result (texts.new ≡ texts.old ++ others) }
 {
-    for k in 0..others.len() {
-        let Some(text) = others.at(k) else {
-            unreachable!();
-        };
-        texts.push(TextBox::make(alloc, text.as_str())?)?;
+    for text in others.into_elements() {
+        texts.push(text)?;
     }
     Ok(())
 }
@@ -436,7 +434,7 @@ fn lay_salted(
     let of_decoys = decoy_digests(alloc, hiding, hidden)?;
     let sorted = sort_decoys(alloc, decoys, &of_decoys)?;
     let mut laid = lay_claims(alloc, claims, sorted.all(), hiding)?;
-    push_texts(alloc, &mut laid.digests, &of_decoys)?;
+    push_texts(&mut laid.digests, of_decoys)?;
     Ok(laid)
 }
 

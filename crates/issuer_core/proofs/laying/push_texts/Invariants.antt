@@ -1,5 +1,6 @@
-use Rattle.std.proofs.Common.{◌≡◌, ◌++◌, drop}
+use Rattle.std.proofs.Common.{◌≡◌, ◌++◌}
+use Rattle.std.specs.Vec.Iter.{into_iter_items}
 use Rattle.issuer_core.proofs.laying.push_texts.Given as goal
 
-abbrev pub invariant-loop-k : goal.invariant-loop-k
-invariant-loop-k l = l.texts ++ drop l.k l.fn.others ≡ l.fn.texts ++ l.fn.others
+abbrev pub invariant-loop-text : goal.invariant-loop-text
+invariant-loop-text l = l.texts ++ into_iter_items l.text-iterator ≡ l.fn.texts ++ l.fn.others
