@@ -5,7 +5,6 @@ use Rattle.std.specs.Ordering.{is_lt, nat_cmp}
 use Rattle.std.specs.Cmp.Lexicographic.{slice_cmp}
 use Rattle.claim_tree.specs.Tree.{Text, Tree, leaf, null, flag, whole, text, array, object, Elements, no_elements, element, Members, no_members, member, IsBefore}
 use Rattle.claim_tree.specs.Lists.{In}
-use Rattle.claim_tree.specs.declared.tree.Tree as tree
 use Rattle.digest_sites.specs.Given.{Given}
 use Rattle.claim_tree.proofs.Everywheres.{EachElementIn, EachMemberIn}
 use Rattle.claim_tree.proofs.Lists.{and_split, and_join}

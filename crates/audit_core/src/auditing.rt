@@ -61,7 +61,8 @@ fn order_error(error: &IssueError) -> AuditError
     }
 }
 
-// The digests of no disclosure: what part 4 says of them, and part 5. They are counted, so an order without decoys has none.
+// The digests of no disclosure: what part 4 says of them, and part 5. They are counted, so an order without decoys has
+// none.
 fn judge_others(
     alloc: Global,
     asked: &Asked,

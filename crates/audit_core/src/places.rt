@@ -14,8 +14,8 @@ use marked_tree::{Marked, MarkedList, MarkedMap};
 use sd_outside::{NoMemory, TextBox};
 use std::alloc::Global;
 
-// The strange sites of the payload, and then those of each value. A value stands at the node of the claims whose mark is its
-// number. Digests are looked up by their hashes with the seed.
+// The strange sites of the payload, and then those of each value. A value stands at the node of the claims whose mark
+// is its number. Digests are looked up by their hashes with the seed.
 pub(crate) fn others_of(
     alloc: Global,
     claims: &Marked,
