@@ -51,20 +51,6 @@ module _ (policy : Policy) (now : ℕ) (start piece : List ℕ) (first : ℕ) (o
       let Q : List (List ℕ) → Type 0 = λ ls. IsCut (is.front ++ left) ls (rest ++ left) in
       subst P (sym is.whole) (subst Q (append-nil is.ended) (cut_append is.front left is.ended [] rest (rest ++ left) is.cut (cut_open (rest ++ left) (all_append _ rest left is.cut.unended one))))
 
-  pub answered_all : (left rest after : List ℕ) (count : ℕ) (new : Option (List ℕ)) → Answered policy now start piece left rest first count old new → IsOneLine left → after ≡ kept (rest ++ left)
-      → (text : List ℕ) × Takes (taking policy now start first) (taking policy now after count) piece text × Appends old new text
-  answered_all left rest after count new is one kept_is = (
-    is.text,
-    record {
-      ended = is.ended;
-      rest = rest ++ left;
-      cut = all_cut left rest count new is one;
-      told = is.told;
-      after_is = ap (λ (r : List ℕ). taking policy now r count) kept_is ∙ ap (λ (n : ℕ). taking policy now (kept (rest ++ left)) n) is.count_is;
-    },
-    is.written,
-  )
-
   pub answered_unkept : (left rest : List ℕ) (count : ℕ) (new : Option (List ℕ)) → Answered policy now start piece left rest first count old new → IsOneLine left → TakesFront (taking policy now start first) piece old new
   answered_unkept left rest count new is one = record {
     ended = is.ended;

@@ -71,18 +71,6 @@ module _ (policy : Policy) (now most : ℕ) (before : Input) (old : Option (List
 
   -- ---- the source fails, or has one byte too many
 
-  pub pumped_part : (left : ℕ) (mid after : Input) (feed : FeedState) (new : Option (List ℕ)) → Pumped policy now most left before mid feed old new → Gave mid after [] → Rose before.faults after.faults
-      → FedPart policy now most before after old new
-  pumped_part left mid after feed new is gave rose =
-      let P : List ℕ → Type 0 = λ t. Gave before after t in
-      record {
-        bytes = is.bytes;
-        gave = subst P (append-nil is.bytes) (gave_more before mid after is.bytes [] is.gave gave);
-        within = omega (arith, is.used);
-        rose = rose;
-        told = ended_told left mid feed new is;
-      }
-
   pub pumped_long : (left : ℕ) (mid after : Input) (feed : FeedState) (new : Option (List ℕ)) → Pumped policy now most left before mid feed old new → left ≡ 0 → (byte : ℕ) × Gave mid after (byte ∷ [])
       → FedLong policy now most before after old new
   pumped_long left mid after feed new is none gave =
@@ -128,9 +116,6 @@ module _ (policy : Policy) (now most : ℕ) (before : Input) (old : Option (List
       }
 
   -- ---- the source is at its end
-
-  at_end_lines : (left : ℕ) (after : Input) (feed : FeedState) (new : Option (List ℕ)) → (is : Pumped policy now most left before after feed old new) → List (List ℕ)
-  at_end_lines left after feed new is = is.takes.ended ++ last_line is.takes.rest
 
   count_all : (ended : List (List ℕ)) (rest : List ℕ) → count_at_end (taking policy now (kept rest) (0 + length ended)) ≡ length (ended ++ last_line rest)
   count_all ended rest = omega (arith, length-append ended (last_line rest), last_as_many policy now rest)

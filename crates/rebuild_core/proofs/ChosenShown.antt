@@ -17,14 +17,6 @@ use Rattle.rebuild_core.specs.Opening.{processed}
 use Rattle.rebuild_core.proofs.Presented.{presentation_holds, one_node_holds}
 use Rattle.rebuild_core.proofs.Ranked.{ranks_hold}
 
--- a set that is kept as its members in rising order
-pub enumerated : (choice : ℕ → Bool) (order : List ℕ) → IsRising order → ((i : ℕ) → has order i ≡ choice i) → Enumerates choice order
-enumerated choice order rising same = record {
-  distinct = rising_distinct order rising;
-  within = λ i there. sym (same i) ∙ In-has order i there;
-  whole = λ i is. has-In order i (same i ∙ is);
-}
-
 pub processed_unmixed : (p : Tree) (given : List Given) → IsReadable p given → IsSound p given → IsUnmixed (processed p given)
 processed_unmixed p given readable sound = unmixed_once (processed p given) (length given) (one_node_holds p given readable sound)
 

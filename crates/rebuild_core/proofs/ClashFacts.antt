@@ -15,13 +15,6 @@ pub record IsNoted (rows : List SeenRow) (numbers : List ℕ) (g : List Given) (
   pub whole : (j : ℕ) (e : SeenRow) (name : Text) → j < q → Names rows numbers g j e name → has e.object name ≡ true
   pub none : (r : ℕ) → r < q → Clashes rows numbers g r → ⊥
 
-pub noted_start : (rows : List SeenRow) (numbers : List ℕ) (g : List Given) (has : ℕ → Text → Bool) → ((object : ℕ) (name : Text) → has object name ≡ false) → IsNoted rows numbers g 0 has
-noted_start rows numbers g has h = record {
-  from = λ object name e. let z = h object name in cc;
-  whole = λ j e name l. absurd (omega arith);
-  none = λ r l. absurd (omega arith);
-}
-
 same_name : (k l : Text) → ◌≡◌ {A = Option Text} (Some k) (Some l) → k ≡ l
 same_name k l e = cc
 

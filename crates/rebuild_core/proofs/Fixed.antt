@@ -66,9 +66,6 @@ module _ (p : Tree) (g : List Given) (ok : IsReferencedOnce p g) where
   pub processed_settles : opened (suc (length g)) g p ≡ opened (length g) g p
   processed_settles = (one_site_holds p g ok).settled (suc (length g)) (omega arith)
 
-  abbrev items_sum : (Text → ℕ) → List OwnedSite → ℕ
-  items_sum f ms = sum_of (λ m. f m.site.digest) ms
-
   values_sum : (f : Text → ℕ) (i : ℕ) (xs : List Given) → ((x : Given) → In x xs → is_reached p g x ≡ true)
       → sum_of (λ m. f m.site.digest) (value_sites (is_reached p g) i xs) ≡ sum_of (λ x. sum_of (λ s. f s.digest) (sites x.value)) xs
   values_sum f i [] all = refl

@@ -137,8 +137,3 @@ numbered t g ix ks ends w ok =
           let s : v.0 ≡ x.digest = At-same (owned_digests (met p g)) q v.0 m.site.digest v.1 (At-map (λ (z : OwnedSite). z.site.digest) (met p g) q m b) ∙ d in
           one_place ix w.apart k i x.digest (subst (λ z. StandsAt ix k z) s v.2) (w.given_first i x c);
     }
-
--- the rows are the met list, one by one
-pub row_is_met : (t : Tree) (g : List Given) → IsOrdered t → IsPayload t → IsReferencedOnce (without_alg t) g → (place : ℕ) (r : SeenRow) (m : OwnedSite)
-    → StandsAt (all_rows t g) place r → StandsAt (met (without_alg t) g) place m → (r.kind ≡ m.site.kind) × (r.digest ≡ m.site.digest) × (r.beside ≡ m.site.beside)
-row_is_met t g o is ok place r m a b = row_is_item t g o is place r m a (subst (λ (ms : List OwnedSite). StandsAt ms place m) (sym (met_all (without_alg t) g ok)) b)

@@ -19,13 +19,6 @@ pub record IsLow (IsIll : SeenRow → Given → Type 0) (rows : List SeenRow) (n
   pub holds : least < length g → StandsAtRow IsIll rows numbers g least
   pub none : (r i : ℕ) (m : SeenRow) (x : Given) → r < q → StandsAt numbers r i → StandsAt rows r m → StandsAt g i x → IsIll m x → least ≤ i
 
-pub low_start : (IsIll : SeenRow → Given → Type 0) (rows : List SeenRow) (numbers : List ℕ) (g : List Given) (least : ℕ) → least ≡ length g → IsLow IsIll rows numbers g 0 least
-low_start IsIll rows numbers g least e = record {
-  within = omega (arith, e);
-  holds = λ l. absurd (omega (arith, l, e));
-  none = λ r i m x l. absurd (omega arith);
-}
-
 pub low_take : (IsIll : SeenRow → Given → Type 0) (rows : List SeenRow) (numbers : List ℕ) (g : List Given) (q k least : ℕ) (m : SeenRow) (x : Given)
     → IsLow IsIll rows numbers g q least → StandsAt numbers q k → StandsAt rows q m → StandsAt g k x → k < least → IsIll m x → IsLow IsIll rows numbers g (q + 1) k
 low_take IsIll rows numbers g q k least m x s a b c l h = record {

@@ -36,9 +36,6 @@ each_differs i (n ∷ h) a j (inl e) q = let t : eqb i n ≡ true = eq-eqb i n (
 each_differs i (n ∷ h) a j (inr m) q = each_differs i h a.1 j m q
 each_differs i [] a j m q = elim m [ ]
 
-abbrev Differ : ℕ → ℕ → Type 0
-Differ i j = i ≡ j → ⊥
-
 pub distinct_pairs : (h : List ℕ) → IsDistinct eqb h → Pairwise (λ i j. i ≡ j → ⊥) h
 unfolding IsDistinct
 distinct_pairs [] d = tt

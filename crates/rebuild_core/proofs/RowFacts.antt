@@ -129,10 +129,6 @@ site_digests : (ss : List Site) → map (λ (l : Look). l.digest) (map site_look
 site_digests [] = refl
 site_digests (s ∷ ss) = ap (λ ds. s.digest ∷ ds) (site_digests ss)
 
--- rows that look like sites have their digests
-pub digests_look : (rs : List SeenRow) (ss : List Site) → map row_look rs ≡ map site_look ss → map (λ (r : SeenRow). r.digest) rs ≡ digests ss
-digests_look rs ss h = sym (row_digests rs) ∙ (ap (map (λ (l : Look). l.digest)) h ∙ site_digests ss)
-
 pub length_look : (rs : List SeenRow) (ss : List Site) → map row_look rs ≡ map site_look ss → length rs ≡ length ss
 length_look rs ss h = sym (length-map rs row_look) ∙ (ap length h ∙ length-map ss site_look)
 

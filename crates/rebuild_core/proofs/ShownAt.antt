@@ -102,11 +102,6 @@ show_keeps nothing_shown ms l m = m
 show_keeps (shown i None t) ms l m = m
 show_keeps (shown i (Some k) t) ms l m = put_keeps k (Some i) t ms l m
 
-show_has : (x : Shown) (ms : MarkedMembers) (l : Text) → Suits Member x → Names x l → In l (marked_names (show_member x ms))
-show_has nothing_shown ms l s n = absurd n
-show_has (shown i None t) ms l s n = absurd (s tt)
-show_has (shown i (Some k) t) ms l s n = let e : k ≡ l = cc in subst (λ z. In z (marked_names (put k (Some i) t ms))) e (put_has k (Some i) t ms)
-
 show_has_name : (x : Shown) (ms : MarkedMembers) (l : Text) → Names x l → In l (marked_names (show_member x ms))
 show_has_name nothing_shown ms l n = absurd n
 show_has_name (shown i None t) ms l n = cc

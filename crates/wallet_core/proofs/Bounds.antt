@@ -27,9 +27,6 @@ sum-cons : (n : ℕ) (ns : List ℕ) → sum (n ∷ ns) ≡ n + sum ns
 sum-cons n ns = sum_by-cons (λ x. x) n ns
 
 module _ (keys : List NamedKey) where
-  pub unmoved : (content : Text) (steps : ℕ) → IsWithinBound keys content steps steps
-  unmoved content steps bound is = (omega arith, omega arith)
-
   -- where one of the conditions 5 to 13 fails nothing is looked up, and else no more than is said
   pub token_within : (content : Text) (token : Token) (old new : ℕ) → IsToken content token → IsCountedWithin token old new → IsUncounted (TokenFails token (held_rules keys)) old new
       → IsWithinBound keys content old new
@@ -86,6 +83,3 @@ module _ (keys : List NamedKey) where
       let front = zip_take k xs bounds h in
       let rose = within front.0 front.1 in
       (rose.0, omega (arith, rose.1, front.2))
-
-  pub none_within : (steps : ℕ) (xs : List Text) → RoseWithinSum keys xs steps steps
-  none_within steps xs bounds h = (omega arith, omega arith)

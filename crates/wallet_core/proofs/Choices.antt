@@ -12,9 +12,6 @@ use Rattle.wallet_core.specs.WalletSteps.{IsLeastSet, IsUnanswered}
 use Rattle.wallet_core.specs.declared.query.Query.{Query}
 
 module _ {F : Type 0} (answers : RuleAnswers F) (rule : F) (marked : Marked) (query : Query) where
-  pub valueless_unanswered : (HasValues (strip marked) query.equal → ⊥) → IsUnanswered answers rule marked query
-  valueless_unanswered none s sure = none sure.serves.values
-
   module _ (asked : List Path) (same : asked ≡ asked_places query) where
     pub missing_unanswered : (k : ℕ) → IsLeast (IsMissing (strip marked) asked) k → IsUnanswered answers rule marked query
     missing_unanswered k least s sure = sure.serves.there k (subst (λ (ps : List Path). IsMissing (strip marked) ps k) same least.fails)
