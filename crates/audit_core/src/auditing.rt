@@ -195,11 +195,11 @@ pub(crate) fn audit_owned<K: Checker>(
     judge_token(alloc, order, alg, checker, &token.view(), steps)
 }
 
-/// Whether a token is what an order asks for, as who has no seed can tell. The order is judged first, then whether the text is a
-/// token, and then the six parts of [`AuditError::Part`], in their order: the first that differs is answered.
+/// Whether a token is what an order asks for, as who has no seed can tell. The order is judged first, then whether the
+/// text is a token, and then the six parts of [`AuditError::Part`], in their order: the first that differs is answered.
 ///
-/// The signature is to be one that the checker accepts, by the algorithm `alg`. Of a decoy no one can tell what it is made of, so
-/// its place and its form are judged alone. `steps` counts the look-ups of digests.
+/// The signature is to be one that the checker accepts, by the algorithm `alg`. Of a decoy no one can tell what it is
+/// made of, so its place and its form are judged alone. `steps` counts the look-ups of digests.
 pub fn audit<K: Checker>(
     alloc: Global,
     order: &Order,

@@ -12,8 +12,8 @@ pub fn one_audit<K: Checker>()
     ensures { (checker : K) (o : Order) (alg : Alg) (content : Text) → HasOneVerdict o alg (K.good checker) content }
 {}
 
-/// What is issued for an order that nothing of 51 to 59 refuses passes the audit of whoever knows what its signature means
-/// and has no seed, where its compact text is read as a token.
+/// What is issued for an order that nothing of 51 to 59 refuses passes the audit of whoever knows what its signature
+/// means and has no seed, where its compact text is read as a token.
 pub fn audited<S: Signer>()
     ensures by_signer { (signer : S) → IssuedPasses (S.alg_of signer) (S.good signer) }
     ensures by_key { (key : AlgKey) → KeyIssuedPasses key }

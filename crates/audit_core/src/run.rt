@@ -33,7 +33,8 @@ fn audit_for(alloc: Global, asked: IssueFile, token_file: &[u8]) -> Result<Strin
     }
 }
 
-/// The answer to an order file and a token file: the line `yes`, where the token is what the order asks for, signed with its key.
+/// The answer to an order file and a token file: the line `yes`, where the token is what the order asks for, signed
+/// with its key.
 pub fn audit_files(alloc: Global, order_file: &[u8], token_file: &[u8]) -> Result<String, Stop>
     ensures replies { IsReply (AuditAnswers order_file.now token_file.now) result }
     ensures read { IfErr result (λ stop. OnUnread stop (λ _. ⊥)) }
@@ -70,8 +71,8 @@ fn audit_words(words: &[String]) -> Option<(&str, &str)>
 
 /// Runs the audit that the words ask for: `audit`, the name of an order file, and that of a token file.
 ///
-/// Where the token is what the order asks for, signed with its key, the line `yes` goes to `out`; else the line of the first
-/// refusal goes to `err`. What each status says of the outside before and after is `AuditEnds`, by cases.
+/// Where the token is what the order asks for, signed with its key, the line `yes` goes to `out`; else the line of the
+/// first refusal goes to `err`. What each status says of the outside before and after is `AuditEnds`, by cases.
 pub fn run_audit<C: Cabinet, O: Sink, E: Sink>(
     alloc: Global,
     words: &[String],

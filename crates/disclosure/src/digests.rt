@@ -63,8 +63,8 @@ fn hash_of_name(name: &Tree) -> Option<HashAlg>
     }
 }
 
-/// The algorithm of a payload's digests, RFC 9901 section 4.1.1: that of its `_sd_alg`, or SHA-256 where it has none. `None`
-/// where `_sd_alg` names no algorithm that is known, or is no text.
+/// The algorithm of a payload's digests, RFC 9901 section 4.1.1: that of its `_sd_alg`, or SHA-256 where it has none.
+/// `None` where `_sd_alg` names no algorithm that is known, or is no text.
 pub fn payload_hash(payload: &Tree) -> Option<HashAlg>
     ensures { result ≡ payload_hash_by (tree_of payload.now) }
 {

@@ -62,7 +62,8 @@ impl DisclosureParts {
     }
 }
 
-/// What a disclosure holds whose JSON is this tree (RFC 9901 section 4.2): the salt, the name and the value, which are moved out of it.
+/// What a disclosure holds whose JSON is this tree (RFC 9901 section 4.2): the salt, the name and the value, which are
+/// moved out of it.
 pub fn parts_of(tree: Tree) -> Option<DisclosureParts>
     ensures parts { IfSome result (λ d. tree_of tree ≡ array_of (tree_of d.salt) d.name (tree_of d.value)) }
     ensures other { IfNone result (IsNoArray (tree_of tree)) }

@@ -14,11 +14,11 @@ use std::alloc::Global;
 use std::marker::Model;
 use verifier_core::Policy;
 
-/// Judges tokens, one a line, that come in pieces, and writes one line for each: `accepted` and the processed payload as compact
-/// JSON, or the line of the lowest condition that fails.
+/// Judges tokens, one a line, that come in pieces, and writes one line for each: `accepted` and the processed payload
+/// as compact JSON, or the line of the lowest condition that fails.
 ///
-/// Contracts see its policy, its moment, what it keeps of a line that has not ended, how many lines it judged, and whether it is
-/// over. It keeps one byte more of a line than a file may have, which tells that the line is too long.
+/// Contracts see its policy, its moment, what it keeps of a line that has not ended, how many lines it judged, and
+/// whether it is over. It keeps one byte more of a line than a file may have, which tells that the line is too long.
 #[derive(Drop)]
 pub struct Feed {
     alloc: Global,
@@ -92,7 +92,8 @@ impl Feed {
         answer
     }
 
-    /// Ends the feed: a last line that has no line end is judged too, and the number of all lines is written and answered.
+    /// Ends the feed: a last line that has no line end is judged too, and the number of all lines is written and
+    /// answered.
     pub fn end<O: Sink>(&mut self, out: &mut O) -> Result<u64, FeedError>
         requires { self.old.count + 1 < 2 ^ 64 }
         ensures ends { OnOk result ((text : List ℕ) × IsEnded self.old text × Appends (O.written out.old) (O.written out.new) text) }

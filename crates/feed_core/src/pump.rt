@@ -23,8 +23,8 @@ pub(crate) enum Halt {
     TooLong,
 }
 
-// The next bytes of the source, to the front of the room: at most so many, and none only at the end. Where none are allowed any
-// more, one is asked for, to see the end.
+// The next bytes of the source, to the front of the room: at most so many, and none only at the end. Where none are
+// allowed any more, one is asked for, to see the end.
 fn pull_piece<R: Source>(src: &mut R, room: &mut [u8], left: usize) -> Result<usize, Halt>
     requires room { 0 < length room.old }
     requires countable { R.taken src.old + length room.old < 2 ^ 64 }

@@ -37,9 +37,9 @@ fn fetch_policy<C: Cabinet>(alloc: Global, cab: &mut C, name: &str) -> Result<Po
 
 /// Runs the feed that the words ask for: `feed`, the name of a policy file, and the most bytes that are taken.
 ///
-/// Each line that the source gives is judged under the policy, at a moment in seconds since 1970, and answered by a line on
-/// `out`, as soon as it has ended. At the end comes the number of lines. What each status says of the outside before and after is
-/// `FeedEnds`, by cases.
+/// Each line that the source gives is judged under the policy, at a moment in seconds since 1970, and answered by a
+/// line on `out`, as soon as it has ended. At the end comes the number of lines. What each status says of the outside
+/// before and after is `FeedEnds`, by cases.
 pub fn run_feed<C: Cabinet, R: Source, O: Sink, E: Sink>(
     alloc: Global,
     words: &[String],

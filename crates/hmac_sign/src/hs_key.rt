@@ -14,7 +14,8 @@ use std::marker::Model;
 #[derive(Clone, Copy, Debug, PartialEq, Eq)]
 pub struct KeyShort;
 
-/// A key for an algorithm. Contracts see its algorithm, and the block that HMAC makes of it, so keys of one block are one.
+/// A key for an algorithm. Contracts see its algorithm, and the block that HMAC makes of it, so keys of one block are
+/// one.
 #[derive(Drop)]
 pub struct HsKey {
     alg: Alg,

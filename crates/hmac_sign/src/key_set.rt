@@ -13,7 +13,8 @@ use sd_outside::{NoMemory, TextBox};
 use std::alloc::{AllocFailed, Global};
 use std::marker::Model;
 
-/// The bytes of one key as a key for each algorithm that has enough of them, and the name by which a header may ask for it.
+/// The bytes of one key as a key for each algorithm that has enough of them, and the name by which a header may ask for
+/// it.
 #[derive(Drop)]
 pub struct NamedKey {
     pub kid: Option<TextBox>,
@@ -104,7 +105,8 @@ impl Model for KeySet {
 }
 
 impl KeySet {
-    /// The set of a JSON value. Keys of another kind are left out, and so is what a key says beyond `kty`, `k` and `kid`.
+    /// The set of a JSON value. Keys of another kind are left out, and so is what a key says beyond `kty`, `k` and
+    /// `kid`.
     pub fn read(alloc: Global, tree: &Tree) -> Result<KeySet, KeySetError>
         ensures ok { IfOk result (IsKeySet (tree_of tree.now)) }
         ensures not_a_set { IsErrOf result KeySetError.NotASet → IsNoKeySet (tree_of tree.now) }
@@ -143,8 +145,8 @@ impl KeySet {
         Some(&named.hs256)
     }
 
-    /// The key for an algorithm, of the first element that has enough bytes for it and, where a name is given, that name. It takes no
-    /// memory.
+    /// The key for an algorithm, of the first element that has enough bytes for it and, where a name is given, that
+    /// name. It takes no memory.
     pub fn pick(&self, kid: Option<&str>, alg: Alg) -> Option<&HsKey>
         ensures { option_map (λ key. key.now) result ≡ picked_key self.now (option_map (λ name. name.now) kid.entry) alg }
     {

@@ -4,8 +4,8 @@ use verifier_core::VerifyError;
 
 /// Why nothing is presented.
 ///
-/// But for `Memory` these are judged in the order in which they stand here, and the first that applies is answered. Conditions 1 to 3
-/// of `Token` stand before `HasBinding`, and the others behind it.
+/// But for `Memory` these are judged in the order in which they stand here, and the first that applies is answered.
+/// Conditions 1 to 3 of `Token` stand before `HasBinding`, and the others behind it.
 #[derive(Clone, Copy, Debug, PartialEq, Eq)]
 pub enum PresentError {
     /// There was no memory for the answer.

@@ -22,8 +22,8 @@ const FIELDS: [Field; 4] = [Field::Keys, Field::Want, Field::Never, Field::Bindi
 // The members of the object that asks for a key binding token: no more, and no fewer.
 const MEMBERS: usize = 4;
 
-/// What a present order says: what is asked, the places that are never shown, and the key of the holder, which is there exactly where
-/// a key binding token is asked for.
+/// What a present order says: what is asked, the places that are never shown, and the key of the holder, which is there
+/// exactly where a key binding token is asked for.
 #[derive(Drop)]
 pub struct PresentFile {
     pub ask: Ask,
@@ -99,11 +99,12 @@ fn binding_member(alloc: Global, members: &TreeMap) -> Result<Option<BindingOrde
     }
 }
 
-/// The present order that a file says: a JSON object whose one member that it must have is `keys`, the key set of the issuers.
+/// The present order that a file says: a JSON object whose one member that it must have is `keys`, the key set of the
+/// issuers.
 ///
-/// `want` and `never` are lists of JSON Pointers; where they are missing they are empty. `binding` is an object of just `key`, the
-/// base64url text of at least 32 bytes, `kid`, a text, and `aud` and `nonce`, texts of at most 256 bytes; where it is missing, no key
-/// binding token is asked for. Another member is a fault.
+/// `want` and `never` are lists of JSON Pointers; where they are missing they are empty. `binding` is an object of just
+/// `key`, the base64url text of at least 32 bytes, `kid`, a text, and `aud` and `nonce`, texts of at most 256 bytes;
+/// where it is missing, no key binding token is asked for. Another member is a fault.
 pub fn read_present(alloc: Global, bytes: &[u8]) -> Result<PresentFile, FileFault>
     ensures ok { IfOk result (IsPresentFile bytes.now) }
     ensures refused { IfErr result (IsPresentFileRefused bytes.now) }

@@ -39,12 +39,12 @@ use selection_core::{AllowError, ChooseError, Consent, allow, choose};
 use std::alloc::Global;
 use verifier_core::{Content, Rules, VerifyError};
 
-/// Presents a token as it comes from a file, RFC 9901 section 7.2: the issuer's JWT, the disclosures that lead to the wanted places in
-/// their order, and a key binding token of a moment in seconds since 1970 where one is asked for.
+/// Presents a token as it comes from a file, RFC 9901 section 7.2: the issuer's JWT, the disclosures that lead to the
+/// wanted places in their order, and a key binding token of a moment in seconds since 1970 where one is asked for.
 ///
-/// The token is checked by the conditions 5 to 21, with each algorithm allowed that is known, and whatever its type is. The rule is
-/// asked for the place of each disclosure that is chosen. The signer is asked once, when all else is there, and not at all where no key
-/// binding token is asked for. `steps` counts the look-ups of digests.
+/// The token is checked by the conditions 5 to 21, with each algorithm allowed that is known, and whatever its type is.
+/// The rule is asked for the place of each disclosure that is chosen. The signer is asked once, when all else is there,
+/// and not at all where no key binding token is asked for. `steps` counts the look-ups of digests.
 pub fn present<S: Signer, F: Fn(&Path) -> bool>(
     alloc: Global,
     text: &[u8],
@@ -230,8 +230,8 @@ fn read_signed<'a>(
     Content::read(alloc, token, &rules)
 }
 
-/// Judges a token that is held by the conditions 5 to 13, but 8, RFC 9901 section 7.3: it may be signed by one of the keys with any
-/// algorithm that is known, whatever its type is. The first condition that fails is answered.
+/// Judges a token that is held by the conditions 5 to 13, but 8, RFC 9901 section 7.3: it may be signed by one of the
+/// keys with any algorithm that is known, whatever its type is. The first condition that fails is answered.
 pub fn check_held(
     alloc: Global,
     token: &TokenView<'_>,

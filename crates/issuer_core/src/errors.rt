@@ -4,8 +4,8 @@ use sd_outside::NoMemory;
 
 /// Why an order is not issued.
 ///
-/// Beside `Memory` and `SignFailed` these are the refusals 51 to 61, in the order in which they are judged. Of those that apply the
-/// first is answered, and of its places the least, counted from 0.
+/// Beside `Memory` and `SignFailed` these are the refusals 51 to 61, in the order in which they are judged. Of those
+/// that apply the first is answered, and of its places the least, counted from 0.
 #[derive(Debug, Drop)]
 pub enum IssueError {
     /// There was no memory for the token.

@@ -31,9 +31,11 @@ use jws_part::{Header, write_body, write_header};
 use sd_outside::{NoMemory, TextBox, TextList, copy_text};
 use std::alloc::Global;
 
-/// Issues a token for a copy of an order: the compact parts of an SD-JWT, RFC 9901 section 4, without a key binding token.
+/// Issues a token for a copy of an order: the compact parts of an SD-JWT, RFC 9901 section 4, without a key binding
+/// token.
 ///
-/// The seed makes the salts, so that one order and one seed make one token. The signer is asked once, when all else is there.
+/// The seed makes the salts, so that one order and one seed make one token. The signer is asked once, when all else is
+/// there.
 pub fn issue<S: Signer>(
     alloc: Global,
     order: &Order,

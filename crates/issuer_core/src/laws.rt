@@ -22,8 +22,8 @@ pub fn laid_is_issued()
     ensures { LaidIsIssued }
 {}
 
-/// The same of the parts, with a signature that is good by the meaning of whoever signs: where the digests all differ, the parts of
-/// what is laid for an order that nothing of 51 to 59 refuses are issued for it.
+/// The same of the parts, with a signature that is good by the meaning of whoever signs: where the digests all differ,
+/// the parts of what is laid for an order that nothing of 51 to 59 refuses are issued for it.
 pub fn parts_are_issued<S: Signer>()
     ensures { (signer : S) → PartsAreIssued (S.alg_of signer) (S.good signer) }
 {}
@@ -38,8 +38,8 @@ pub fn issued_is_sound()
     ensures { IssuedIsSound }
 {}
 
-/// Of a token that is issued for a good order, the disclosures on the way to wanted paths are sound, and show the claims
-/// without what is hidden and leads to none of these paths.
+/// Of a token that is issued for a good order, the disclosures on the way to wanted paths are sound, and show the
+/// claims without what is hidden and leads to none of these paths.
 pub fn issued_is_shown()
     ensures { IssuedIsShown }
 {}

@@ -187,13 +187,13 @@ fn hash_member(members: &TreeMap) -> Result<HashAlg, FileFault>
     }
 }
 
-/// The order that a file says: a JSON object that must have `payload`, any JSON value, and `key`, the base64url text of at
-/// least 32 bytes.
+/// The order that a file says: a JSON object that must have `payload`, any JSON value, and `key`, the base64url text of
+/// at least 32 bytes.
 ///
-/// `hide` is a list of JSON Pointers, and `decoys` a list of objects of just `at`, a pointer, and `count`, from 0 to 32,768; where
-/// they are missing they are empty. `kid` and `typ` are texts. `alg` is the name of an algorithm for
-/// which the key is long enough (RFC 7518 section 3.2), and `sd_alg` that of a hash; where they are missing, they are `HS256` and
-/// `sha-256`. Another member is a fault.
+/// `hide` is a list of JSON Pointers, and `decoys` a list of objects of just `at`, a pointer, and `count`, from 0 to
+/// 32,768; where they are missing they are empty. `kid` and `typ` are texts. `alg` is the name of an algorithm for
+/// which the key is long enough (RFC 7518 section 3.2), and `sd_alg` that of a hash; where they are missing, they are
+/// `HS256` and `sha-256`. Another member is a fault.
 pub fn read_order(alloc: Global, bytes: &[u8]) -> Result<IssueFile, FileFault>
     ensures ok { IfOk result (IsOrderFile bytes.now) }
     ensures ranged { IfOk result (λ said. IsRanged (tree_of said.order.payload)) }

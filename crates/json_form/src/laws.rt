@@ -14,7 +14,8 @@ pub fn one_token()
     ensures one_fault { (text : List ℕ) (fault other : Fault) → IsTextRefused text fault → IsTextRefused text other → fault ≡ other }
 {}
 
-/// A text is a JSON serialization of at most one token. Where it is one, no place applies to it; else one place is the first.
+/// A text is a JSON serialization of at most one token. Where it is one, no place applies to it; else one place is the
+/// first.
 pub fn one_json()
     ensures one { (text : List ℕ) (token other : Token) → IsJson token text → IsJson other text → token ≡ other }
     ensures not_both { (text : List ℕ) (token : Token) (place : JsonPlace) → IsJson token text → JsonFails text place → ⊥ }

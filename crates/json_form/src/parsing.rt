@@ -29,12 +29,12 @@ fn token_of(alloc: Global, members: TreeMap) -> Result<Token, JsonFormError>
 
 /// The token of its flattened or general JSON serialization (RFC 9901 section 8).
 ///
-/// A text with a member `signatures` is general, whatever stands there, and its first entry is read. Members that the form
-/// does not know are left out.
+/// A text with a member `signatures` is general, whatever stands there, and its first entry is read. Members that the
+/// form does not know are left out.
 ///
-/// The error names the first place at which the text fails. In this order it is judged as JSON, for whole numbers and as
-/// an object; then `payload`, `signatures`, `protected`, `signature`, `header`, `disclosures` and `kb_jwt`; and at last the
-/// later entries, whose `header` has neither `disclosures` nor `kb_jwt`.
+/// The error names the first place at which the text fails. In this order it is judged as JSON, for whole numbers and
+/// as an object; then `payload`, `signatures`, `protected`, `signature`, `header`, `disclosures` and `kb_jwt`; and at
+/// last the later entries, whose `header` has neither `disclosures` nor `kb_jwt`.
 pub fn parse_json(alloc: Global, text: &[u8]) -> Result<Token, JsonFormError>
     ensures ok { IfOk result (λ token. IsJson token text.now) }
     ensures printable { IfOk result IsPrintable }

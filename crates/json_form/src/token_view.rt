@@ -17,8 +17,8 @@ enum Lent<'a> {
     Apart(&'a Parts),
 }
 
-/// A token that is borrowed: its parts, wherever they stand, and what a JSON serialization says beside them. Contracts see
-/// the token.
+/// A token that is borrowed: its parts, wherever they stand, and what a JSON serialization says beside them. Contracts
+/// see the token.
 #[derive(Debug, Drop)]
 pub struct TokenView<'a> {
     parts: Lent<'a>,

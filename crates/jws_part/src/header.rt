@@ -29,7 +29,8 @@ pub struct Header {
 pub enum HeaderError {
     /// There was no memory for it.
     Memory,
-    /// The protected header is not read, lacks `alg`, or shares a name with the outer one; or `alg`, `kid` or `typ` is no text.
+    /// The protected header is not read, lacks `alg`, or shares a name with the outer one; or `alg`, `kid` or `typ` is
+    /// no text.
     Unreadable,
     /// One of the headers has a member `crit`. No extension is understood.
     Critical,

@@ -36,7 +36,8 @@ pub fn is_time_unreadable(payload: &Tree) -> bool
     is_no_moment(payload, "exp") || is_no_moment(payload, "nbf")
 }
 
-/// Whether a payload is expired, where the clocks may differ by the skew (RFC 7519 section 4.1.4). Times are in seconds.
+/// Whether a payload is expired, where the clocks may differ by the skew (RFC 7519 section 4.1.4). Times are in
+/// seconds.
 pub fn is_expired(payload: &Tree, skew: u32, now: u64) -> bool
     requires { IsRanged (tree_of payload.now) }
     ensures { IsTrue result ↔ IsExpired (tree_of payload.now) skew now }

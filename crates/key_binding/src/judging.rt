@@ -51,9 +51,9 @@ pub struct Bound<'a> {
 
 /// Judges a key binding token, RFC 9901 section 7.3, at a moment in seconds since 1970.
 ///
-/// `payload` is the processed payload of the token that it is sent with, `hash` the algorithm of its digests, and `hashed` its
-/// text up to and with the last tilde. The conditions 27 to 38 are judged in the order of their numbers, and the first that fails
-/// is answered.
+/// `payload` is the processed payload of the token that it is sent with, `hash` the algorithm of its digests, and
+/// `hashed` its text up to and with the last tilde. The conditions 27 to 38 are judged in the order of their numbers,
+/// and the first that fails is answered.
 pub fn check_binding(
     alloc: Global,
     token: &JwtParts,

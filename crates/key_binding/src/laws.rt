@@ -14,8 +14,8 @@ ghost use Rattle.key_binding.specs.BindingConditions.{BindingFails};
 ghost use Rattle.key_binding.specs.Judged.{Judged, holder_key};
 ghost use Rattle.sd_outside.specs.Limits.{binding_text_max};
 
-/// What is bound is accepted: by the holder's key, for one of these audiences and this nonce, and over this text, as long as it is fresh. It is
-/// so at the very second of each limit.
+/// What is bound is accepted: by the holder's key, for one of these audiences and this nonce, and over this text, as
+/// long as it is fresh. It is so at the very second of each limit.
 pub fn bound_is_accepted()
     ensures { (key aud : List ℕ) (iat : ℕ) (j : Judged)
         → IsBinding (IsGood (hs256_key key)) j.hash j.hashed aud j.policy.nonce iat j.token

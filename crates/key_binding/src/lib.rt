@@ -1,7 +1,9 @@
-//! Key binding tokens, RFC 9901 section 4.3: a holder shows that a token was issued to it, to one verifier and for one use.
+//! Key binding tokens, RFC 9901 section 4.3: a holder shows that a token was issued to it, to one verifier and for one
+//! use.
 //!
-//! [`bind`] writes one, over the text of the token that it is sent with. [`check_binding`] judges one by a [`BindingPolicy`]:
-//! the conditions 27 to 38 of a verifier. The holder's key is found by the `kid` of the claim `cnf` (RFC 7800 section 3.4).
+//! [`bind`] writes one, over the text of the token that it is sent with. [`check_binding`] judges one by a
+//! [`BindingPolicy`]: the conditions 27 to 38 of a verifier. The holder's key is found by the `kid` of the claim `cnf`
+//! (RFC 7800 section 3.4).
 #![tactic(auto)]
 
 mod among;

@@ -102,10 +102,11 @@ fn signature_part<S: Signer>(
     }
 }
 
-/// Writes a key binding token, RFC 9901 section 4.3, for an audience, with its nonce, at a moment in seconds since 1970.
+/// Writes a key binding token, RFC 9901 section 4.3, for an audience, with its nonce, at a moment in seconds since
+/// 1970.
 ///
-/// `hashed` is the text of the token that it is sent with, up to and with the last tilde, and `hash` the algorithm of that token's
-/// digests. The signer is asked once.
+/// `hashed` is the text of the token that it is sent with, up to and with the last tilde, and `hash` the algorithm of
+/// that token's digests. The signer is asked once.
 pub fn bind<S: Signer>(
     alloc: Global,
     signer: &mut S,

@@ -123,7 +123,8 @@ fn rfc_key(alloc: Global) -> Result<Hs256Key, Fail> {
     Ok(Hs256Key::new(bytes.bytes()).map_err(|_| "the key is short")?)
 }
 
-// The text of a signature, whether the key accepts it, and whether it does with the parts exchanged and of one byte less.
+// The text of a signature, whether the key accepts it, and whether it does with the parts exchanged and of one byte
+// less.
 fn told(alloc: Global, key: &mut Hs256Key) -> Result<(TextBox, [bool; 3]), Fail> {
     let signature = key.sign(alloc, HEAD, BODY).map_err(|_| "not signed")?;
     let bytes = signature.bytes();

@@ -34,8 +34,8 @@ fn refused(
     present(alloc, text, ask, &consent, signer, 0, steps).err()
 }
 
-// The answer of a holder who shows places of at most so many steps, and whose signer fails at one call: why it presents nothing,
-// the faults of its signer, and the look-ups of the token.
+// The answer of a holder who shows places of at most so many steps, and whose signer fails at one call: why it presents
+// nothing, the faults of its signer, and the look-ups of the token.
 fn told(
     alloc: Global,
     most: usize,

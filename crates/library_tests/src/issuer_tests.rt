@@ -86,7 +86,8 @@ fn decoys_are_counted_past_their_type(rt: HostRuntime) -> Result<(), Fail> {
     Ok(())
 }
 
-// What a signer that fails at one call makes of an order: whether it is issued, whether the signer failed, and how often it did.
+// What a signer that fails at one call makes of an order: whether it is issued, whether the signer failed, and how
+// often it did.
 fn asked(alloc: Global, order: &Order, call: u64) -> Result<(bool, bool, u64), Fail>
     requires shallow { depth (tree_of order.now.payload) ≤ 127 }
     requires ranged { IsRanged (tree_of order.now.payload) }

@@ -16,8 +16,8 @@ pub fn marks_close()
     ensures { MarksClose }
 {}
 
-/// Where no mark stands on two nodes, the marks of the nodes that lead to a wanted path are closed, and the least that keep the
-/// way to each wanted path.
+/// Where no mark stands on two nodes, the marks of the nodes that lead to a wanted path are closed, and the least that
+/// keep the way to each wanted path.
 pub fn choice()
     ensures { Choice }
 {}

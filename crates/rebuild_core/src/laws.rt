@@ -24,8 +24,8 @@ pub fn ranks()
     ensures { Ranks }
 {}
 
-/// The disclosures on the way to wanted paths, in their order, are sound again, and open to the processed payload without
-/// what is hidden and leads to none of these paths, each mark being its rank among the chosen.
+/// The disclosures on the way to wanted paths, in their order, are sound again, and open to the processed payload
+/// without what is hidden and leads to none of these paths, each mark being its rank among the chosen.
 pub fn choice_shown()
     ensures { ChoiceShown }
 {}

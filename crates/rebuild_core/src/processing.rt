@@ -56,8 +56,8 @@ fn open_judged(
     open_top(alloc, payload, given, &graph)
 }
 
-/// The payload with its disclosures in their places, RFC 9901 section 7.1, or the lowest of the conditions 14 to 21 that
-/// fails, at its least place.
+/// The payload with its disclosures in their places, RFC 9901 section 7.1, or the lowest of the conditions 14 to 21
+/// that fails, at its least place.
 ///
 /// Each member and element that a disclosure shows has the number of the disclosure as its mark. Digests are taken as
 /// they are handed in: no digest is computed here, and they may lead in a circle. Every condition speaks of the payload
@@ -89,8 +89,9 @@ pub fn process(
     process_seeded(alloc, payload, given, 0, steps)
 }
 
-/// The same, where the digests are hashed with a seed. No answer depends on it, but who knows it can choose digests that are
-/// slow to look up together: who reads what others wrote gives one that they couldn't know when they chose the digests.
+/// The same, where the digests are hashed with a seed. No answer depends on it, but who knows it can choose digests
+/// that are slow to look up together: who reads what others wrote gives one that they couldn't know when they chose the
+/// digests.
 pub fn process_seeded(
     alloc: Global,
     payload: &Tree,
@@ -138,9 +139,9 @@ fn open_nothing(payload: Tree, given: &GivenList, steps: &mut Steps) -> Result<T
     move_out(payload)
 }
 
-/// What [`process_seeded`] answers, for who needs no marks: the processed payload alone, whose texts are moved. A payload in
-/// which nothing is hidden is handed back without its own `_sd_alg`, and no part of it is copied. Any other is dropped,
-/// and the disclosures with it, before the opened members are put together.
+/// What [`process_seeded`] answers, for who needs no marks: the processed payload alone, whose texts are moved. A
+/// payload in which nothing is hidden is handed back without its own `_sd_alg`, and no part of it is copied. Any other
+/// is dropped, and the disclosures with it, before the opened members are put together.
 pub fn process_payload(
     alloc: Global,
     payload: Tree,

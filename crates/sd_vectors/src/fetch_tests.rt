@@ -81,7 +81,8 @@ pub(crate) fn words_of(alloc: Global, words: &str) -> Result<Vec<String>, Fail> 
     Ok(list)
 }
 
-// What a run of these words over the files leaves: its status, how often it put a piece on `out` and on `err`, and what it asked for.
+// What a run of these words over the files leaves: its status, how often it put a piece on `out` and on `err`, and what
+// it asked for.
 fn left_by(alloc: Global, words: &str) -> Result<String, Fail> {
     let mut files = MemCabinet::new(alloc);
     for (name, text) in FILES {

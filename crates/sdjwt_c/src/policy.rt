@@ -13,8 +13,8 @@ use sd_outside::Status;
 use sdjwt_cli::commands;
 use std::alloc::Global;
 
-/// Reads a policy, which the handle holds from then on in place of what it held. Where it is none, the handle holds what
-/// it held before. The answer is empty.
+/// Reads a policy, which the handle holds from then on in place of what it held. Where it is none, the handle holds
+/// what it held before. The answer is empty.
 #[unsafe(no_mangle)]
 pub extern "C" fn sdjwt_policy_new(
     alloc: Global,

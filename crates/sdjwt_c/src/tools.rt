@@ -52,8 +52,8 @@ fn cut(alloc: Global, text: &[u8], lengths: &[usize]) -> Result<Option<Credentia
     Ok(Some(held))
 }
 
-/// What a wallet shows for a query, of 1 to 64 tokens that stand one behind the other, with their lengths. With other lengths the call
-/// is misused.
+/// What a wallet shows for a query, of 1 to 64 tokens that stand one behind the other, with their lengths. With other
+/// lengths the call is misused.
 #[unsafe(no_mangle)]
 pub extern "C" fn sdjwt_wallet(
     alloc: Global,

@@ -43,23 +43,25 @@ pub fn converted_again()
     ensures { (form : Form) (file answer : List ℕ) (read : Converts form file answer) → HasRoom form read.token → Converts form answer answer }
 {}
 
-/// What is presented of an issued token, where the policy suits, is accepted with what was asked for: of each text that is read as
-/// what `issue` gives for an order, a holder with this rule of consent refuses nothing, and each text that is read as what it
-/// presents has the verdict acceptance with the claims without the hidden places that lead to none of the wanted ones.
+/// What is presented of an issued token, where the policy suits, is accepted with what was asked for: of each text that
+/// is read as what `issue` gives for an order, a holder with this rule of consent refuses nothing, and each text that
+/// is read as what it presents has the verdict acceptance with the claims without the hidden places that lead to none
+/// of the wanted ones.
 pub fn presented_values<F: Fn(&Path) -> bool>()
     ensures { (rule : F) → PresentedOverValues F.Fn rule }
 {}
 
-/// The same over files and over runs: over the line that `issue` gives, `present` refuses nothing, and whatever it gives, `verify`
-/// prints these claims, and does nothing else.
+/// The same over files and over runs: over the line that `issue` gives, `present` refuses nothing, and whatever it
+/// gives, `verify` prints these claims, and does nothing else.
 pub fn presented()
     ensures over_files { PresentedOverFiles }
     ensures over_runs { PresentedOverRuns }
 {}
 
-/// What is accepted was issued: a text that is accepted with the signed part of an issued token, under any policy and at any moment, has
-/// some of the disclosures that were issued with it, in any order, with those of all hidden places above, and shows the claims
-/// without the places of the others. The premise is that no disclosure that was not issued has the digest of one that was, or of a decoy.
+/// What is accepted was issued: a text that is accepted with the signed part of an issued token, under any policy and
+/// at any moment, has some of the disclosures that were issued with it, in any order, with those of all hidden places
+/// above, and shows the claims without the places of the others. The premise is that no disclosure that was not issued
+/// has the digest of one that was, or of a decoy.
 pub fn no_forgery<S: Signer>()
     ensures { (signer : S) → NoForgery (S.alg_of signer) (S.good signer) }
 {}

@@ -1,4 +1,5 @@
-// The command `gen`: an order of a number of members is issued, presented and verified, and what there is of it counted.
+// The command `gen`: an order of a number of members is issued, presented and verified, and what there is of it
+// counted.
 ghost use Rattle.std.specs.Prelude.{◌≡◌, ◌++◌, IfOk, IfErr, OnOk, string_bytes};
 ghost use Rattle.compact_form.specs.Compact.{AreWords};
 ghost use Rattle.sdjwt_cli.specs.Generated.{generated, generated_seed, generated_key};

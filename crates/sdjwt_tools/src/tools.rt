@@ -23,8 +23,8 @@ fn names_tool(words: &[String], name: &str) -> bool
     word.as_str() == name
 }
 
-/// Runs the tool that the first word names, over the files of the cabinet and what the source gives: `audit` and `wallet`, which
-/// take nothing from the source, or `feed`. All other words are none.
+/// Runs the tool that the first word names, over the files of the cabinet and what the source gives: `audit` and
+/// `wallet`, which take nothing from the source, or `feed`. All other words are none.
 pub fn run_tools<C: Cabinet, R: Source, O: Sink, E: Sink>(
     alloc: Global,
     words: &[String],

@@ -17,10 +17,11 @@ use marked_tree::{ChosenSet, Marked, MarkedList, MarkedMap};
 use sd_outside::NoMemory;
 use std::alloc::Global;
 
-/// Asks the rule for the place of each chosen mark, and refuses where it refuses one, with the least such mark. What has
-/// no mark, or stands inside a chosen place without one, is not asked for.
+/// Asks the rule for the place of each chosen mark, and refuses where it refuses one, with the least such mark. What
+/// has no mark, or stands inside a chosen place without one, is not asked for.
 ///
-/// The tree is walked once, and the rule is asked on the way; a mark above one that is already refused is not asked for.
+/// The tree is walked once, and the rule is asked on the way; a mark above one that is already refused is not asked
+/// for.
 pub fn allow<F: Fn(&Path) -> bool>(
     alloc: Global,
     consent: &Consent<F>,

@@ -115,8 +115,8 @@ fn check(
 
 /// Checks a token itself: the conditions 5 to 21, RFC 9901 section 7.3, without its key binding token.
 ///
-/// The header, the signature, the payload and the disclosures are judged in this order, and the first condition that fails is
-/// answered. `steps` counts the look-ups of digests.
+/// The header, the signature, the payload and the disclosures are judged in this order, and the first condition that
+/// fails is answered. `steps` counts the look-ups of digests.
 pub fn check_token(
     alloc: Global,
     token: &Token,

@@ -47,8 +47,8 @@ fn first_missing(payload: &Tree, names: &TextList) -> Option<usize>
     None
 }
 
-// Whether the policy accepts the claims of a processed payload, at a moment in seconds since 1970. The fault is that of the
-// lowest condition that fails.
+// Whether the policy accepts the claims of a processed payload, at a moment in seconds since 1970. The fault is that of
+// the lowest condition that fails.
 pub(crate) fn check_claims(payload: &Tree, policy: &Policy, now: u64) -> Result<(), Fault>
     requires { IsRanged (tree_of payload.now) }
     ensures passes { OnOk result (NoneFails (ClaimFails (tree_of payload.now) policy.now now)) }

@@ -67,8 +67,9 @@ fn refusal(error: ProcessError) -> VerifyError
 }
 
 impl Content {
-    /// Judges a token by the conditions 5 to 13, RFC 9901 section 7.3, and reads what it says. The header, the signature, the
-    /// payload and the disclosures are judged in this order, and the first condition that fails is answered.
+    /// Judges a token by the conditions 5 to 13, RFC 9901 section 7.3, and reads what it says. The header, the
+    /// signature, the payload and the disclosures are judged in this order, and the first condition that fails is
+    /// answered.
     pub fn read(
         alloc: Global,
         token: &TokenView<'_>,
@@ -100,8 +101,8 @@ impl Content {
         })
     }
 
-    /// Judges what was read by the conditions 14 to 21, and answers the processed payload with its marks alone. `steps` counts
-    /// the look-ups of digests.
+    /// Judges what was read by the conditions 14 to 21, and answers the processed payload with its marks alone. `steps`
+    /// counts the look-ups of digests.
     pub fn open(self, alloc: Global, steps: &mut Steps) -> Result<CheckedMarks, VerifyError>
         ensures checked { OfToken self (λ token rules. IfOk result (λ c. IsChecked token rules (marked_of c.marked))) }
         ensures shallow { IfOk result (λ c. depth (strip_of (marked_of c.marked)) ≤ 127) }

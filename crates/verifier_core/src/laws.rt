@@ -42,10 +42,10 @@ pub fn one_verdict()
         → IsLowest (Fails content policy now) fault → IsLowest (Fails content policy now) other → fault ≡ other }
 {}
 
-/// The serializations of a token have one verdict: where one text is read as a token, every text that spells the token and
-/// is not too long is judged alike. Where its unprotected header has nothing but `disclosures` and `kb_jwt`, as that of a
-/// compact text has, so are the compact text of its parts, and the flattened and the general form that `json_form` writes
-/// (RFC 9901 section 8); none of them is too long.
+/// The serializations of a token have one verdict: where one text is read as a token, every text that spells the token
+/// and is not too long is judged alike. Where its unprotected header has nothing but `disclosures` and `kb_jwt`, as
+/// that of a compact text has, so are the compact text of its parts, and the flattened and the general form that
+/// `json_form` writes (RFC 9901 section 8); none of them is too long.
 pub fn same_verdict()
     ensures spelled { (text other : List ℕ) (token : Token) (policy : Policy) (now : ℕ)
         → IsToken text token → Spells (trimmed other) token → is_too_long other ≡ false → HaveOneVerdict text other policy now }

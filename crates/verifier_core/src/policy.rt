@@ -117,13 +117,13 @@ fn skew_member(members: &TreeMap) -> Result<u32, FileFault>
 
 /// The policy that a file says: a JSON object whose one member that it must have is `keys`, a key set.
 ///
-/// `algs` and `require` are lists of texts, `typ` and `iss` texts, and `skew` is a whole number of seconds. Where they are
-/// missing, the algorithm is HS256, nothing else is wanted, and the clocks do not differ. `binding` is an object of just `aud` and
-/// `nonce`, texts of at most 256 bytes, `keys`, a key set, and `max_age`, a whole number of seconds below 2^32; where it is
-/// missing, no key binding token is asked for. Another member is a fault.
+/// `algs` and `require` are lists of texts, `typ` and `iss` texts, and `skew` is a whole number of seconds. Where they
+/// are missing, the algorithm is HS256, nothing else is wanted, and the clocks do not differ. `binding` is an object of
+/// just `aud` and `nonce`, texts of at most 256 bytes, `keys`, a key set, and `max_age`, a whole number of seconds
+/// below 2^32; where it is missing, no key binding token is asked for. Another member is a fault.
 ///
-/// `version` is 1 or 2, and 1 where it is missing. In version 2 `iss` is a list of at least one text, and `aud` one of 1 to 16
-/// texts.
+/// `version` is 1 or 2, and 1 where it is missing. In version 2 `iss` is a list of at least one text, and `aud` one of
+/// 1 to 16 texts.
 pub fn read_policy(alloc: Global, bytes: &[u8]) -> Result<Policy, FileFault>
     ensures ok { IfOk result (IsPolicyFile bytes.now) }
     ensures refused { IfErr result (IsPolicyFileRefused bytes.now) }

@@ -62,12 +62,12 @@ fn read_content(
     Content::read(alloc, &view, &policy.rules())
 }
 
-/// Verifies a token as it comes from a file, RFC 9901 section 7.3, at a moment in seconds since 1970. The token is in the
-/// compact serialization or, where its text begins with `{`, in a JSON one (section 8).
+/// Verifies a token as it comes from a file, RFC 9901 section 7.3, at a moment in seconds since 1970. The token is in
+/// the compact serialization or, where its text begins with `{`, in a JSON one (section 8).
 ///
-/// The conditions 1 to 38 are judged in the order of their numbers, and the first that fails is answered with its least place. A key
-/// binding token that is there without being asked for is read as grammar and otherwise ignored. `steps` counts the look-ups of
-/// digests.
+/// The conditions 1 to 38 are judged in the order of their numbers, and the first that fails is answered with its least
+/// place. A key binding token that is there without being asked for is read as grammar and otherwise ignored. `steps`
+/// counts the look-ups of digests.
 pub fn verify(
     alloc: Global,
     text: &[u8],

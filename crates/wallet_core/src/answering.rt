@@ -36,11 +36,13 @@ pub struct Picked {
     pub parts: Parts,
 }
 
-/// Of the credentials that may be used and answer the query, the one that needs the fewest disclosures for it, and of those the first.
+/// Of the credentials that may be used and answer the query, the one that needs the fewest disclosures for it, and of
+/// those the first.
 ///
-/// A credential may be used if it has no key binding token, and the conditions 1 to 21, but 8, RFC 9901 section 7.3, do not fail. It
-/// answers the query if it has each place, with the value that is asked for, and the rule allows the place of each disclosure on the
-/// way. Each credential is judged once, and one processed payload is held at a time. `steps` counts the look-ups of digests.
+/// A credential may be used if it has no key binding token, and the conditions 1 to 21, but 8, RFC 9901 section 7.3, do
+/// not fail. It answers the query if it has each place, with the value that is asked for, and the rule allows the place
+/// of each disclosure on the way. Each credential is judged once, and one processed payload is held at a time. `steps`
+/// counts the look-ups of digests.
 pub fn answer<F: Fn(&Path) -> bool>(
     alloc: Global,
     held: &CredentialList,

@@ -99,8 +99,9 @@ fn equal_member(alloc: Global, members: &TreeMap) -> Result<EqualList, FileFault
 
 /// The query that a file says: a JSON object whose one member that it must have is `keys`, the key set of the issuers.
 ///
-/// `want` and `never` are lists of JSON Pointers. `equal` is a list of objects of just `at`, a JSON Pointer, and `value`, which is null,
-/// a flag, a whole number or a text. Where one of the three is missing, it is empty. Another member is a fault.
+/// `want` and `never` are lists of JSON Pointers. `equal` is a list of objects of just `at`, a JSON Pointer, and
+/// `value`, which is null, a flag, a whole number or a text. Where one of the three is missing, it is empty. Another
+/// member is a fault.
 pub fn read_query(alloc: Global, bytes: &[u8]) -> Result<QueryFile, FileFault>
     ensures ok { IfOk result (IsQueryFile bytes.now) }
     ensures refused { IfErr result (IsQueryFileRefused bytes.now) }

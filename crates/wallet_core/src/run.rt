@@ -102,8 +102,8 @@ fn none_line(alloc: Global) -> Result<String, NoMemory>
     as_line(placed_line(alloc, Refusal::NoCredentialAnswers, Place::Nowhere)?)
 }
 
-/// The answer to a query file over token files: the position of the credential that answers the query with the fewest disclosures,
-/// and the compact text of what it presents.
+/// The answer to a query file over token files: the position of the credential that answers the query with the fewest
+/// disclosures, and the compact text of what it presents.
 pub fn answer_files(alloc: Global, query_file: &[u8], held: &CredentialList) -> Result<String, Stop>
     ensures replies { IsReply (WalletAnswers query_file.now held.now) result }
     ensures read { IfErr result (λ stop. OnUnread stop (λ _. ⊥)) }
@@ -145,8 +145,9 @@ fn fetch_answer<C: Cabinet>(
 
 /// Runs the wallet that the words ask for: `wallet`, the name of a query file, and those of 1 to 64 token files.
 ///
-/// The position of the credential that answers the query with the fewest disclosures goes to `out`, and the compact text of what it
-/// presents, in one piece. What each status says of the outside before and after is `WalletEnds`, by cases.
+/// The position of the credential that answers the query with the fewest disclosures goes to `out`, and the compact
+/// text of what it presents, in one piece. What each status says of the outside before and after is `WalletEnds`, by
+/// cases.
 pub fn run_wallet<C: Cabinet, O: Sink, E: Sink>(
     alloc: Global,
     words: &[String],
