@@ -139,7 +139,7 @@ fn open_nothing(payload: Tree, given: &GivenList, steps: &mut Steps) -> Result<T
     move_out(payload)
 }
 
-/// What [`process_seeded`] answers, for who needs no marks: the processed payload alone, whose texts are moved. A
+/// What [`process_seeded`] answers, for who needs no marks: the processed payload alone. A
 /// payload in which nothing is hidden is handed back without its own `_sd_alg`, and no part of it is copied. Any other
 /// is dropped, and the disclosures with it, before the opened members are put together.
 pub fn process_payload(

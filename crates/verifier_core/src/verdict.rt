@@ -107,7 +107,7 @@ pub fn verify(
     Ok(Accepted { payload, marked })
 }
 
-/// The same, for who needs no marks: the processed payload alone, whose texts are moved.
+/// The same, for who needs no marks: the processed payload alone.
 pub fn verify_payload(
     alloc: Global,
     text: &[u8],
