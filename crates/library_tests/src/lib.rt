@@ -1,35 +1,15 @@
-//! Tests of the libraries, of what no run of the program shows. They stand apart from the code because a crate with
-//! tests is proved twice.
+//! Tests of the libraries that issue, present and judge, of what no run of the program shows. They stand apart from the
+//! code because a crate with tests is proved twice, and apart from `base_tests` so that those need not wait for these.
 #![tactic(auto)]
 
 #[cfg(test)]
 mod binding_tests;
 #[cfg(test)]
-mod compact_tests;
-#[cfg(test)]
-mod disclosure_tests;
-#[cfg(test)]
 mod feed_tests;
-#[cfg(test)]
-mod hmac_tests;
 #[cfg(test)]
 mod holder_tests;
 #[cfg(test)]
 mod issuer_tests;
-#[cfg(test)]
-mod json_form_tests;
-#[cfg(test)]
-mod marked_tests;
-#[cfg(test)]
-mod pointer_tests;
-#[cfg(test)]
-mod rebuild_tests;
-#[cfg(test)]
-mod selection_tests;
-#[cfg(test)]
-mod sites_tests;
-#[cfg(test)]
-mod tree_tests;
 #[cfg(test)]
 mod verifier_tests;
 #[cfg(test)]

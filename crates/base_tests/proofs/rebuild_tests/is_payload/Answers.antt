@@ -3,7 +3,7 @@ use Rattle.claim_tree.specs.Tree.{Text, Tree, null, flag, whole, text, leaf, arr
 use Rattle.claim_tree.specs.View.{tree_of}
 use Rattle.rebuild_core.specs.Payload.{alg_name}
 use Rattle.rebuild_core.specs.Answer.{IsPayload}
-use Rattle.library_tests.proofs.rebuild_tests.is_payload.Goals as goal
+use Rattle.base_tests.proofs.rebuild_tests.is_payload.Goals as goal
 
 is_leaf : {X : Type 0} (f : X → Text) (r : Option X) (u : Tree) → option_map f r ≡ text_of u → is_some r ≡ true → (s : Text) × (u ≡ leaf (text s))
 is_leaf f None u e h = cc

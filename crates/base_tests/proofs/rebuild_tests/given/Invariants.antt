@@ -1,6 +1,6 @@
 use Rattle.std.proofs.Common.{◌<◌, ◌-◌, ◌^◌, length}
 use Rattle.rebuild_core.specs.Answer.{ValuesShallow, ValuesRanged}
-use Rattle.library_tests.proofs.rebuild_tests.given.Given as goal
+use Rattle.base_tests.proofs.rebuild_tests.given.Given as goal
 
 abbrev pub invariant-loop-item : goal.invariant-loop-item
 invariant-loop-item l =

@@ -4,7 +4,7 @@ use Rattle.claim_tree.specs.Lists.{In}
 use Rattle.claim_tree.proofs.Lists.{In-append}
 use Rattle.digest_sites.specs.Given.{Given}
 use Rattle.rebuild_core.specs.Answer.{ValuesRanged}
-use Rattle.library_tests.proofs.rebuild_tests.add.Goals as goal
+use Rattle.base_tests.proofs.rebuild_tests.add.Goals as goal
 
 kept : (P : Given → Type 0) (xs ys : List Given) (y : Given) → ys ≡ xs ++ y ∷ [] → ((x : Given) → In x xs → P x) → P y → (x : Given) → In x ys → P x
 kept P xs ys y e all one x h = go (In-append x xs (y ∷ []) (subst (λ z. In x z) e h))

@@ -1,0 +1,24 @@
+//! Tests of the crates below the verdict, of what no run of the program shows. They stand apart from the code because a
+//! crate with tests is proved twice.
+#![tactic(auto)]
+
+#[cfg(test)]
+mod compact_tests;
+#[cfg(test)]
+mod disclosure_tests;
+#[cfg(test)]
+mod hmac_tests;
+#[cfg(test)]
+mod json_form_tests;
+#[cfg(test)]
+mod marked_tests;
+#[cfg(test)]
+mod pointer_tests;
+#[cfg(test)]
+mod rebuild_tests;
+#[cfg(test)]
+mod selection_tests;
+#[cfg(test)]
+mod sites_tests;
+#[cfg(test)]
+mod tree_tests;

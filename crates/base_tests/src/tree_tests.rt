@@ -1,0 +1,58 @@
+use claim_tree::{ReadError, Tree, TreeList, TreeMap, copy, depth, get, read, write};
+use sd_outside::TextBox;
+use std::alloc::Global;
+use std::test::Fail;
+
+#[test]
+fn what_is_no_text_is_not_read(rt: HostRuntime) {
+    assert!(rt; matches!(read(rt.alloc(), b"\"\xff\""), Err(ReadError::NotJson)));
+}
+
+fn tree_of(text: &str, alloc: Global) -> Result<Tree, Fail> {
+    Ok(read(alloc, text.as_bytes()).map_err(|_| "no JSON")?)
+}
+
+#[test]
+fn an_element_stands_at_its_position(rt: HostRuntime) -> Result<(), Fail> {
+    let mut list = TreeList::new(rt.alloc());
+    list.push(Tree::Flag(false))?;
+    assert!(rt; list.at(0).is_some() && list.at(1).is_none());
+    Ok(())
+}
+
+#[test]
+fn the_last_member_of_a_name_counts(rt: HostRuntime) -> Result<(), Fail> {
+    let alloc = rt.alloc();
+    let mut map = TreeMap::new(alloc);
+    for number in [0, 7] {
+        map.insert(TextBox::make(alloc, "b")?, Tree::Whole(number))?;
+    }
+    let tree = Tree::Object(map);
+    assert_eq!(rt; write(alloc, &tree)?.as_str(), r#"{"b":7}"#);
+    Ok(())
+}
+
+#[test]
+fn a_copy_is_the_same_tree(rt: HostRuntime) -> Result<(), Fail> {
+    let text = r#"{"b":7,"g|h":[false]}"#;
+    let tree = copy(rt.alloc(), &tree_of(text, rt.alloc())?)?;
+    assert_eq!(rt; write(rt.alloc(), &tree)?.as_str(), text);
+    Ok(())
+}
+
+#[test]
+fn a_tree_has_a_depth_and_members(rt: HostRuntime) -> Result<(), Fail> {
+    let tree = tree_of(r#"{"b":7,"g|h":[false]}"#, rt.alloc())?;
+    assert!(rt; depth(&tree) == 2 && get(&tree, "g|h").is_some() && get(&tree, "g").is_none());
+    Ok(())
+}
+
+#[test]
+fn members_are_counted_from_0(rt: HostRuntime) -> Result<(), Fail> {
+    let Tree::Object(map) = tree_of(r#"{"b":7,"g|h":[false]}"#, rt.alloc())? else {
+        return Err("no object")?;
+    };
+    let name = map.entry_at(1).map(|(name, _)| name.as_str());
+    assert!(rt; map.len() == 2 && name == Some("g|h"));
+    Ok(())
+}
