@@ -106,6 +106,7 @@ pub record NoMemoryLater (words : List (List ℕ)) (before after : FeedOutside) 
 
 pub data FeedMemory (words : List (List ℕ)) (before after : FeedOutside) (now : ℕ) : Type 0 where
   at_first : NoMemoryFirst words before after → FeedMemory words before after now
+  later_on : NoMemoryLater words before after now → FeedMemory words before after now
 
 -- the policy file is not of its form
 pub record FeedUnreadable (words : List (List ℕ)) (before after : FeedOutside) : Type 0 where
