@@ -56,7 +56,7 @@ extern "C" {
 #define SDJWT_ABI_VERSION 1
 
 /* Stack that is enough for each call, in bytes. */
-#define SDJWT_STACK (256 * 1024)
+#define SDJWT_STACK (1024 * 1024)
 
 /* The statuses. They are the exit statuses of the program sdjwt, of which 3 comes of a file that can't be read. */
 #define SDJWT_DONE 0

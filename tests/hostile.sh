@@ -1,6 +1,7 @@
 #!/bin/sh
 # What the program does where the system fails: each request for memory refused in turn, a full disk, a closed pipe,
-# a file that is none or that never ends, and standard output closed. It stands beside the gate and proves nothing.
+# a file that is none or that never ends, standard output closed, and little stack. It stands beside the gate and proves
+# nothing.
 #
 #     sh tests/hostile.sh PROGRAM      PROGRAM is sdjwt, as `rt run` or install.sh makes it
 #
@@ -100,6 +101,19 @@ if command -v cc >/dev/null && cc -shared -fPIC -O1 -o refuse.so "$here/refuse_m
     refused gen 3
 else
     echo "skipped: refused memory, since there is no C compiler that builds refuse_memory.c"
+fi
+
+# The texts that take the most stack are those that are read a second time, to tell why they are refused.
+deep=$(awk 'BEGIN { for (i = 0; i < 126; i++) printf "{\"a\":"; printf "1.5"; for (i = 0; i < 126; i++) printf "}" }')
+printf '%s' "$deep" >deep.txt
+if ulimit -S -s 1024 2>/dev/null; then
+    for command in split show 'verify policy.json' 'present present.json' 'convert general'; do
+        # shellcheck disable=SC2086 # words
+        ends 1 'refused 2 form at notWhole' $command deep.txt
+    done
+    echo "the deepest texts: each judged in the stack that c/sdjwt.h promises to be enough"
+else
+    echo "skipped: little stack, since it can't be limited here"
 fi
 [ "$wrong" = 0 ] || {
     echo "$wrong runs ended otherwise" >&2
