@@ -1,3 +1,7 @@
+ghost use Rattle.std.specs.Prelude.{◌≤◌, IfOk};
+ghost use Rattle.claim_tree.specs.Tree.{depth as depth_of, IsRanged};
+ghost use Rattle.claim_tree.specs.View.{tree_of};
+
 use claim_tree::{ReadError, Tree, TreeList, TreeMap, copy, depth, get, read, write};
 use sd_outside::TextBox;
 use std::alloc::Global;
@@ -8,8 +12,14 @@ fn what_is_no_text_is_not_read(rt: HostRuntime) {
     assert!(rt; matches!(read(rt.alloc(), b"\"\xff\""), Err(ReadError::NotJson)));
 }
 
-fn tree_of(text: &str, alloc: Global) -> Result<Tree, Fail> {
-    Ok(read(alloc, text.as_bytes()).map_err(|_| "no JSON")?)
+fn tree(alloc: Global, text: &str) -> Result<Tree, Fail>
+    ensures depth { IfOk result (λ tree. depth_of (tree_of tree) ≤ 127) }
+    ensures ranged { IfOk result (λ tree. IsRanged (tree_of tree)) }
+{
+    match read(alloc, text.as_bytes()) {
+        Ok(tree) => Ok(tree),
+        Err(_) => Err("no JSON")?,
+    }
 }
 
 #[test]
@@ -24,9 +34,8 @@ fn an_element_stands_at_its_position(rt: HostRuntime) -> Result<(), Fail> {
 fn the_last_member_of_a_name_counts(rt: HostRuntime) -> Result<(), Fail> {
     let alloc = rt.alloc();
     let mut map = TreeMap::new(alloc);
-    for number in [0, 7] {
-        map.insert(TextBox::make(alloc, "b")?, Tree::Whole(number))?;
-    }
+    map.insert(TextBox::make(alloc, "b")?, Tree::Null)?;
+    map.insert(TextBox::make(alloc, "b")?, Tree::Whole(7))?;
     let tree = Tree::Object(map);
     assert_eq!(rt; write(alloc, &tree)?.as_str(), r#"{"b":7}"#);
     Ok(())
@@ -35,21 +44,21 @@ fn the_last_member_of_a_name_counts(rt: HostRuntime) -> Result<(), Fail> {
 #[test]
 fn a_copy_is_the_same_tree(rt: HostRuntime) -> Result<(), Fail> {
     let text = r#"{"b":7,"g|h":[false]}"#;
-    let tree = copy(rt.alloc(), &tree_of(text, rt.alloc())?)?;
+    let tree = copy(rt.alloc(), &tree(rt.alloc(), text)?)?;
     assert_eq!(rt; write(rt.alloc(), &tree)?.as_str(), text);
     Ok(())
 }
 
 #[test]
 fn a_tree_has_a_depth_and_members(rt: HostRuntime) -> Result<(), Fail> {
-    let tree = tree_of(r#"{"b":7,"g|h":[false]}"#, rt.alloc())?;
+    let tree = tree(rt.alloc(), r#"{"b":7,"g|h":[false]}"#)?;
     assert!(rt; depth(&tree) == 2 && get(&tree, "g|h").is_some() && get(&tree, "g").is_none());
     Ok(())
 }
 
 #[test]
 fn members_are_counted_from_0(rt: HostRuntime) -> Result<(), Fail> {
-    let Tree::Object(map) = tree_of(r#"{"b":7,"g|h":[false]}"#, rt.alloc())? else {
+    let Tree::Object(map) = tree(rt.alloc(), r#"{"b":7,"g|h":[false]}"#)? else {
         return Err("no object")?;
     };
     let name = map.entry_at(1).map(|(name, _)| name.as_str());
