@@ -1,4 +1,4 @@
--- The steps of a path, in the text in which they stand. Nobody need read this: contracts see the list of the steps.
+-- For private functions: the steps of a path, in the text in which they stand. Contracts see the list of the steps.
 use Rattle.std.specs.Prelude.{◌≡◌, ℕ, suc, ◌+◌, ◌≤◌, List, [], ◌∷◌, length, slice_index, slice_range, ◌==◌, if◌then◌else◌}
 use Rattle.std.specs.Str.{IsCharBoundary}
 
@@ -17,5 +17,6 @@ abbrev pub slashes_from : ℕ → List ℕ → List ℕ
 slashes_from i [] = []
 slashes_from i (byte ∷ bytes) = if byte == 47 then i ∷ slashes_from (suc i) bytes else slashes_from (suc i) bytes
 
+-- the text of a pointer that has a step
 abbrev pub StartsWithSlash : List ℕ → Type 0
 StartsWithSlash text = (rest : List ℕ) × (text ≡ 47 ∷ rest)

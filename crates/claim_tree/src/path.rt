@@ -121,8 +121,8 @@ impl Path {
         self.steps_behind(0)
     }
 
-    /// The steps behind so many, of which there may be fewer.
-    pub fn steps_behind(&self, count: usize) -> Steps
+    // The steps behind so many, of which there may be fewer.
+    pub(crate) fn steps_behind(&self, count: usize) -> Steps
         ensures steps { result ≡ drop count self.now }
         ensures countable { length result < 2 ^ 64 }
     {
