@@ -1,5 +1,5 @@
 // What `gen` issues, asks for and verifies, by the number of its members.
-ghost use Rattle.std.specs.Prelude.{◌≡◌, ◌≢◌, ◌<◌, ◌≤◌, ◌∷◌, ◌++◌, ℕ, List, IfOk, OnOk};
+ghost use Rattle.std.specs.Prelude.{◌≡◌, ◌≢◌, ◌<◌, ◌≤◌, ◌∷◌, ◌++◌, ℕ, List, IfOk, OnOk, string_bytes};
 ghost use Rattle.std.specs.Fmt.{decimal};
 ghost use Rattle.claim_tree.specs.View.{tree_of};
 ghost use Rattle.issuer_core.specs.Order.{order_of as order_in};
@@ -13,6 +13,7 @@ use disclosure::HashAlg;
 use hmac_sign::{Alg, Hs256Key, HsKey, KeySet, KeySetError, KeyShort};
 use holder_core::Ask;
 use issuer_core::{Decoy, DecoyList, Order};
+use itoa::Buffer;
 use sd_outside::{NoMemory, TextBox, TextList};
 use std::alloc::Global;
 use verifier_core::Policy;
@@ -42,10 +43,23 @@ fn within_limits(count: usize) -> Option<u32>
 
 // ---- the order
 
+// Makes the text the name of the member of a number.
+fn spell_name(text: &mut String, i: u32) -> Result<(), NoMemory>
+    ensures { OnOk result (string_bytes text.new ≡ spec.member_name i) }
+{
+    let mut digits = Buffer::new();
+    text.clear();
+    text.push_str("m")?;
+    text.push_str(digits.format(i))?;
+    Ok(())
+}
+
 fn member_name(alloc: Global, i: u32) -> Result<TextBox, NoMemory>
     ensures { IfOk result (λ name. name ≡ spec.member_name i) }
 {
-    Ok(TextBox::from_string(format!(in alloc; "m{i}")?))
+    let mut name = String::new(alloc);
+    spell_name(&mut name, i)?;
+    Ok(TextBox::from_string(name))
 }
 
 fn number(i: u64) -> Tree
@@ -107,12 +121,12 @@ fn members(alloc: Global, count: u32) -> Result<TreeMap, NoMemory>
     Ok(members)
 }
 
-// The path to the member of a number, and from there on.
-fn path_inside(alloc: Global, i: u32, inside: &Path) -> Result<Path, NoMemory>
-    ensures { IfOk result (λ path. path ≡ spec.member_name i ∷ inside.now) }
+// The path to the member of a name, and from there on.
+fn path_inside(alloc: Global, name: &str, inside: &Path) -> Result<Path, NoMemory>
+    ensures { IfOk result (λ path. path ≡ name.now ∷ inside.now) }
 {
     let mut path = Path::new(alloc);
-    path.push(member_name(alloc, i)?.as_str())?;
+    path.push(name)?;
     for step in inside.steps() {
         path.push(step)?;
     }
@@ -130,9 +144,11 @@ fn push_paths(
     requires { every ≢ 0 }
     ensures { OnOk result (paths.new ≡ paths.old ++ paths_below every inside.now count) }
 {
+    let mut name = String::new(alloc);
     for i in 0..count {
         if i % every == 0 {
-            paths.push(path_inside(alloc, i, inside)?)?;
+            spell_name(&mut name, i)?;
+            paths.push(path_inside(alloc, name.as_str(), inside)?)?;
         }
     }
     Ok(())
