@@ -333,11 +333,14 @@ fn pick(
     requires few { length disclosures < 2 ^ 32 - 1 }
     ensures { IfOk result (λ texts. texts ≡ picked (has chosen.now) disclosures.entry) }
 {
+    let marks = chosen.marks();
     let mut texts = TextList::new(alloc);
+    let mut next = 0;
     let mut number = 0u32;
     for text in disclosures {
-        if chosen.has(number) {
+        if next < marks.len() && marks[next] == number {
             texts.push(TextBox::make(alloc, text)?)?;
+            next += 1;
         }
         number += 1;
     }

@@ -1,5 +1,5 @@
 -- A number among rising ones: where a search finds it, and where it goes.
-use Rattle.std.proofs.Common.{◌≡◌, ◌⊎◌, inl, inr, ℕ, zero, suc, ◌+◌, ◌-◌, ◌<◌, ◌≤◌, Bool, true, false, List, [], ◌∷◌, length, get_or, eqb, ◌||◌, Some, Result, Ok, Err, Ordering, Less, Equal, Greater, nat_cmp, refl, ap, sym, subst, arith, eq-eqb}
+use Rattle.std.proofs.Common.{◌≡◌, ◌⊎◌, inl, inr, ℕ, zero, suc, ◌+◌, ◌-◌, ◌<◌, ◌≤◌, Bool, true, false, List, [], ◌∷◌, length, get_or, eqb, ◌||◌, Some, Result, Ok, Err, Ordering, Less, Equal, Greater, nat_cmp, refl, ap, sym, ◌∙◌, subst, arith, eq-eqb}
 use Rattle.std.specs.BTreeSet.{insert_key}
 use Rattle.std.specs.List.{insert, slice_get}
 use Rattle.std.specs.List.Sorted.{IsSortedBy, IsSearchInRange, IsBinarySearchResult}
@@ -120,6 +120,18 @@ put_there (m ∷ ns) n (suc i) d r l e =
     rw (greater n m under) (ap (λ (xs : List ℕ). m ∷ xs) (put_there ns n i d r.1 (omega arith) e))
 put_there [] n i d r l e = absurd (omega arith)
 
+rising_over : (ns : List ℕ) (k j d : ℕ) → IsRising ns → k < j → j < length ns → get_or ns k d < get_or ns j d
+rising_over ns k j d r l h =
+    let pair = rising_pair ns k d r (omega (arith, l, h)) in
+    let rest = rising_through ns (suc k) j d r (omega (arith, l)) h in
+    omega (arith, pair, rest)
+
+-- what stands for a place that is none plays no part at a place
+same_at : (ns : List ℕ) (k d e : ℕ) → k < length ns → get_or ns k d ≡ get_or ns k e
+same_at (n ∷ ns) zero d e l = refl
+same_at (n ∷ ns) (suc k) d e l = same_at ns k d e (omega arith)
+same_at [] k d e l = absurd (omega arith)
+
 -- ---- whether it is there
 
 or_true : (b : Bool) → (b || true) ≡ true
@@ -149,6 +161,40 @@ not_at ns n i p = absent ns n (λ k d l e. go k d l e (below_or k i))
 pub search_tells : (ns : List ℕ) (n : ℕ) (r : Result ℕ ℕ) → IsRising ns → IsSearchInRange r (length ns) → IsBinarySearchResult (λ (m : ℕ). nat_cmp m n) ns r → is_ok r ≡ has ns n
 search_tells ns n (Ok i) r within is = sym (has_at ns n i 0 within (same (get_or ns i 0) n (is 0)))
 search_tells ns n (Err i) r within is = sym (not_at ns n i (place_of ns n i r within is))
+
+-- ---- a cursor that goes over rising numbers, as n counts up
+
+-- the numbers in front of i are less than n, and no other is
+pub record IsFront (ns : List ℕ) (i n : ℕ) : Type 0 where
+  pub within : i ≤ length ns
+  pub before : (k d : ℕ) → k < i → get_or ns k d < n
+  pub after : (k d : ℕ) → i ≤ k → k < length ns → n ≤ get_or ns k d
+
+pub front_none : (ns : List ℕ) → IsFront ns 0 0
+front_none ns = record { within = omega arith; before = λ k d l. absurd (omega (arith, l)); after = λ k d l h. omega arith }
+
+-- where n stands at the cursor
+pub front_at : (ns : List ℕ) (i n e : ℕ) → IsRising ns → IsFront ns i n → i < length ns → get_or ns i e ≡ n → IsFront ns (i + 1) (n + 1)
+front_at ns i n e r f l is = record { within = omega (arith, l); before = λ k d h. go k d h (below_or k i); after = λ k d h m. let up = rising_over ns i k d r (omega (arith, h)) m in omega (arith, up, same_at ns i e d l, is) }
+  where
+    go : (k d : ℕ) → k < i + 1 → (k < i) ⊎ (i ≤ k) → get_or ns k d < n + 1
+    go k d h (inl low) = let b = f.before k d low in omega (arith, b)
+    go k d h (inr high) = let q : k ≡ i = omega (arith, h, high) in omega (arith, ap (λ j. get_or ns j d) q, same_at ns i e d l, is)
+
+-- where it does not
+pub front_past : (ns : List ℕ) (i n e : ℕ) → IsRising ns → IsFront ns i n → (i < length ns → get_or ns i e ≡ n → ⊥) → (has ns n ≡ false) × IsFront ns i (n + 1)
+front_past ns i n e r f not = (not_at ns n i (record { within = f.within; before = f.before; after = above }), record { within = f.within; before = λ k d l. let b = f.before k d l in omega (arith, b); after = λ k d l h. let a = above k d l h in omega (arith, a) })
+  where
+    above : (k d : ℕ) → i ≤ k → k < length ns → n < get_or ns k d
+    above k d l h =
+        let a = f.after i d (omega arith) (omega (arith, l, h)) in
+        let up = rising_through ns i k d r l h in
+        go (nat_cmp n (get_or ns i d)) (ranked n (get_or ns i d) (nat_cmp n (get_or ns i d)) refl) a up
+      where
+        go : (o : Ordering) → MatchOrdering o (n < get_or ns i d) (n ≡ get_or ns i d) (get_or ns i d < n) → n ≤ get_or ns i d → get_or ns i d ≤ get_or ns k d → n < get_or ns k d
+        go Less m a up = omega (arith, m, up)
+        go Equal m a up = absurd (not (omega (arith, l, h)) (same_at ns i e d (omega (arith, l, h)) ∙ sym m))
+        go Greater m a up = absurd (omega (arith, m, a))
 
 -- ---- they stay rising
 

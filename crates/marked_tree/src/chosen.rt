@@ -81,6 +81,14 @@ impl ChosenSet {
         self.marks.binary_search(&mark).is_ok()
     }
 
+    /// The marks, in rising order.
+    pub fn marks(&self) -> &[u32]
+        ensures all { result.now ≡ self.now }
+        ensures rising { IsRising self.now }
+    {
+        self.marks.as_slice()
+    }
+
     /// The number of marks.
     pub fn len(&self) -> usize
         ensures count { result ≡ length self.now }
