@@ -19,6 +19,11 @@ loop-i-preserved c =
     let l = c.loop-i in
     elim c.if-i-every-eq0.branch [
       | then-i-every-eq0+in_ok-spell_name+in_ok-path_inside+in_ok-push w ↦
-          one_more a.paths.now l.paths c.if-i-every-eq0.paths a.every l.i a.inside.now w.in_ok-path_inside.field-0 l.invariant w.in_ok-path_inside.ensures (w.paths-is ∙ w.in_ok-push.ensures.ok) w.if-i-every-eq0.true
+          let is : w.in_ok-path_inside.field-0 ≡ member_name l.i ∷ a.inside.now =
+          let path = w.in_ok-path_inside.ensures in
+          let name = w.in_ok-spell_name.ensures in
+          let text = w.as_str.ensures in
+          cc in
+          one_more a.paths.now l.paths c.if-i-every-eq0.paths a.every l.i a.inside.now w.in_ok-path_inside.field-0 l.invariant is (w.paths-is ∙ w.in_ok-push.ensures.ok) w.if-i-every-eq0.true
       | else-i-every-eq0 w ↦ none_more a.paths.now l.paths c.if-i-every-eq0.paths a.every l.i a.inside.now l.invariant w.paths-is w.if-i-every-eq0.false
     ]
