@@ -1,10 +1,12 @@
 ghost use Rattle.std.specs.Prelude.{◌≡◌, [], ◌∷◌, ◌++◌, map, length, IfOk, OnOk, OnErr, option_map, slice_get};
-ghost use Rattle.digest_sites.specs.GivenView.{given_of};
+ghost use Rattle.claim_tree.specs.View.{tree_of};
+ghost use Rattle.digest_sites.specs.GivenView.{given_of, emptied};
 
 use claim_tree::Tree;
 use sd_outside::{NoMemory, TextBox};
 use std::alloc::Global;
 use std::marker::Model;
+use std::mem::replace;
 
 /// What a disclosure gives, RFC 9901 section 4.2. Contracts see it by `given_of`.
 #[derive(Debug, Drop)]
@@ -76,6 +78,20 @@ impl GivenList {
         ensures { result ≡ length self.now }
     {
         self.items().len()
+    }
+
+    /// Takes the name and the value of the disclosure at a position, and leaves no name and null.
+    pub fn take(&mut self, i: usize) -> Option<(Option<TextBox>, Tree)>
+        ensures taken { option_map (λ one. (one.0, tree_of one.1)) result ≡ option_map (λ x. (x.name, x.value)) (slice_get self.old i) }
+        ensures left { self.new ≡ emptied self.old i }
+    {
+        if i < self.items.len() {
+            let item = &mut self.items[i];
+            let value = replace(&mut item.value, Tree::Null);
+            Some((item.name.take(), value))
+        } else {
+            None
+        }
     }
 
     /// The disclosure at a position, counted from 0.

@@ -19,9 +19,9 @@ use crate::graph::Graph;
 use crate::names::is_alg;
 use crate::shown::{OpenedMembers, Revealed, push_element, push_member};
 use claim_tree::{Tree, TreeList, TreeMap};
-use digest_sites::{Given, GivenList, element_digest, is_sd, own_count};
+use digest_sites::{GivenList, element_digest, is_sd, own_count};
 use marked_tree::{Marked, MarkedList, MarkedMap};
-use sd_outside::{NoMemory, TextBox, copy_text};
+use sd_outside::{NoMemory, TextBox};
 use std::alloc::Global;
 
 // Whether a member is none of those that only say where disclosures stand.
@@ -31,38 +31,30 @@ fn stays(top: bool, name: &TextBox) -> bool
     !is_sd(name) && !(top && is_alg(name))
 }
 
-// The disclosure with a number, if there is one.
-#[tactic(auto, using(crate::proofs::ListOpening::disclosure_found))]
-fn disclosure<'a>(given: &'a GivenList, number: usize) -> Option<&'a Given>
-    ensures { MatchOption result (length given.now ≤ number) (λ item. StandsAt given.now number (given_of item.now)) }
-{
-    given.at(number)
-}
-
 // What the digest at the cursor shows.
 #[cycle(opening)]
 fn open_next(
     alloc: Global,
     limit: usize,
-    given: &GivenList,
+    given: &mut GivenList,
     graph: &Graph,
     at: &mut usize,
 ) -> Result<Option<Revealed>, ProcessError>
-    requires ready { IsOpenable given.now graph.now.numbers.items graph.now.ends.items }
+    requires ready { IsOpenable given.old graph.now.numbers.items graph.now.ends.items }
     requires within { at.old < length graph.now.numbers.items }
     ensures moved { OnOk result (at.new ≡ at.old + 1) }
-    ensures shown { (digest : Text) → NumberTells given.now (slice_index graph.now.numbers.items at.old) digest → MatchResult result (λ r. (shown_of r ≡ settled given.now digest) × (shown_depth (shown_of r) ≤ limit)) (λ e. IfTooDeep e (limit < shown_depth (settled given.now digest))) }
+    ensures shown { (digest : Text) → NumberTells given.old (slice_index graph.now.numbers.items at.old) digest → MatchResult result (λ r. (shown_of r ≡ settled given.old digest) × (shown_depth (shown_of r) ≤ limit)) (λ e. IfTooDeep e (limit < shown_depth (settled given.old digest))) }
 {
     let number = graph.numbers[*at];
     *at += 1;
-    let Some(item) = disclosure(given, number) else {
+    let Some((name, value)) = given.take(number) else {
         return Ok(None);
     };
     let mut inside = graph.ends[number];
-    let tree = open(alloc, limit, given, graph, &mut inside, &item.value)?;
+    let tree = open(alloc, limit, given, graph, &mut inside, value)?;
     Ok(Some(Revealed {
         mark: number as u32,
-        name: copy_text(alloc, &item.name)?,
+        name,
         tree,
     }))
 }
@@ -71,28 +63,25 @@ fn open_next(
 fn open_list(
     alloc: Global,
     limit: usize,
-    given: &GivenList,
+    given: &mut GivenList,
     graph: &Graph,
     at: &mut usize,
-    list: &TreeList,
+    list: TreeList,
 ) -> Result<MarkedList, ProcessError>
-    requires ready { IsOpenable given.now graph.now.numbers.items graph.now.ends.items }
-    requires numbered { TellFirst given.now (drop at.old graph.now.numbers.items) (elements_digests list.now) }
-    requires whole { ElementsWhole (settled given.now) list.now }
-    ensures moved { OnOk result (at.new ≡ at.old + length (elements_digests list.now)) }
-    ensures opened { MatchResult result (λ out. (out ≡ open_elements (settled given.now) list.now) × (elements_depth (strip_elements out) ≤ limit)) (λ e. IfTooDeep e (limit < elements_depth (strip_elements (open_elements (settled given.now) list.now)))) }
+    requires ready { IsOpenable given.old graph.now.numbers.items graph.now.ends.items }
+    requires numbered { TellFirst given.old (drop at.old graph.now.numbers.items) (elements_digests list) }
+    requires whole { ElementsWhole (settled given.old) list }
+    ensures moved { OnOk result (at.new ≡ at.old + length (elements_digests list)) }
+    ensures opened { MatchResult result (λ out. (out ≡ open_elements (settled given.old) list) × (elements_depth (strip_elements out) ≤ limit)) (λ e. IfTooDeep e (limit < elements_depth (strip_elements (open_elements (settled given.old) list)))) }
 {
     let mut out = MarkedList::with_capacity(alloc, list.len())?;
-    for tree in list.trees() {
-        match element_digest(tree) {
-            None => {
-                let plain = open(alloc, limit, given, graph, at, tree)?;
-                out.push(None, plain)?;
-            }
-            Some(_) => {
-                let shown = open_next(alloc, limit, given, graph, at)?;
-                push_element(&mut out, shown)?;
-            }
+    for tree in list.into_trees() {
+        if element_digest(&tree).is_some() {
+            let shown = open_next(alloc, limit, given, graph, at)?;
+            push_element(&mut out, shown)?;
+        } else {
+            let plain = open(alloc, limit, given, graph, at, tree)?;
+            out.push(None, plain)?;
         }
     }
     Ok(out)
@@ -113,15 +102,15 @@ fn room_for_members(
 fn open_own(
     alloc: Global,
     limit: usize,
-    given: &GivenList,
+    given: &mut GivenList,
     graph: &Graph,
     at: &mut usize,
     map: &TreeMap,
 ) -> Result<Vec<(TextBox, Option<u32>, Marked)>, ProcessError>
-    requires ready { IsOpenable given.now graph.now.numbers.items graph.now.ends.items }
-    requires numbered { TellFirst given.now (drop at.old graph.now.numbers.items) (sd_texts map.now) }
+    requires ready { IsOpenable given.old graph.now.numbers.items graph.now.ends.items }
+    requires numbered { TellFirst given.old (drop at.old graph.now.numbers.items) (sd_texts map.now) }
     ensures moved { OnOk result (at.new ≡ at.old + length (sd_texts map.now)) }
-    ensures opened { MatchResult result (λ out. (marked_members_of out.items ≡ shown_members (settled given.now) (sd_texts map.now)) × (shown_depths (settled given.now) (sd_texts map.now) ≤ limit)) (λ e. IfTooDeep e (limit < shown_depths (settled given.now) (sd_texts map.now))) }
+    ensures opened { MatchResult result (λ out. (marked_members_of out.items ≡ shown_members (settled given.old) (sd_texts map.now)) × (shown_depths (settled given.old) (sd_texts map.now) ≤ limit)) (λ e. IfTooDeep e (limit < shown_depths (settled given.old) (sd_texts map.now))) }
 {
     let count = own_count(map);
     let mut out = room_for_members(alloc, count)?;
@@ -138,22 +127,22 @@ fn open_plain(
     alloc: Global,
     limit: usize,
     top: bool,
-    given: &GivenList,
+    given: &mut GivenList,
     graph: &Graph,
     at: &mut usize,
-    map: &TreeMap,
+    map: TreeMap,
 ) -> Result<MarkedMap, ProcessError>
-    requires ready { IsOpenable given.now graph.now.numbers.items graph.now.ends.items }
-    requires numbered { TellFirst given.now (drop at.old graph.now.numbers.items) (members_digests (topped top map.now)) }
-    requires whole { MembersWhole (settled given.now) (topped top map.now) }
-    ensures moved { OnOk result (at.new ≡ at.old + length (members_digests (topped top map.now))) }
-    ensures opened { MatchResult result (λ out. (out ≡ open_members (settled given.now) (topped top map.now)) × (members_depth (strip_members out) ≤ limit)) (λ e. IfTooDeep e (limit < members_depth (strip_members (open_members (settled given.now) (topped top map.now))))) }
+    requires ready { IsOpenable given.old graph.now.numbers.items graph.now.ends.items }
+    requires numbered { TellFirst given.old (drop at.old graph.now.numbers.items) (members_digests (topped top map)) }
+    requires whole { MembersWhole (settled given.old) (topped top map) }
+    ensures moved { OnOk result (at.new ≡ at.old + length (members_digests (topped top map))) }
+    ensures opened { MatchResult result (λ out. (out ≡ open_members (settled given.old) (topped top map)) × (members_depth (strip_members out) ≤ limit)) (λ e. IfTooDeep e (limit < members_depth (strip_members (open_members (settled given.old) (topped top map))))) }
 {
     let mut out = MarkedMap::with_capacity(alloc, map.len())?;
-    for (name, tree) in map.members() {
-        if stays(top, name) {
+    for (name, tree) in map.into_members() {
+        if stays(top, &name) {
             let plain = open(alloc, limit, given, graph, at, tree)?;
-            out.put(TextBox::make(alloc, name.as_str())?, None, plain)?;
+            out.put(name, None, plain)?;
         }
     }
     Ok(out)
@@ -165,21 +154,21 @@ fn open_parts(
     alloc: Global,
     limit: usize,
     top: bool,
-    given: &GivenList,
+    given: &mut GivenList,
     graph: &Graph,
     at: &mut usize,
-    map: &TreeMap,
+    map: TreeMap,
 ) -> Result<OpenedMembers, ProcessError>
-    requires ready { IsOpenable given.now graph.now.numbers.items graph.now.ends.items }
-    requires numbered { TellFirst given.now (drop at.old graph.now.numbers.items) (tree_digests (object (topped top map.now))) }
-    requires whole { OpensWhole (settled given.now) (object (topped top map.now)) }
-    ensures moved { OnOk result (at.new ≡ at.old + length (tree_digests (object (topped top map.now)))) }
-    ensures opened { MatchResult result (λ o. (whole_object o ≡ open_tree (settled given.now) (object (topped top map.now))) × (depth (strip (whole_object o)) ≤ limit)) (λ e. IfTooDeep e (limit < depth (strip (open_tree (settled given.now) (object (topped top map.now)))))) }
+    requires ready { IsOpenable given.old graph.now.numbers.items graph.now.ends.items }
+    requires numbered { TellFirst given.old (drop at.old graph.now.numbers.items) (tree_digests (object (topped top map))) }
+    requires whole { OpensWhole (settled given.old) (object (topped top map)) }
+    ensures moved { OnOk result (at.new ≡ at.old + length (tree_digests (object (topped top map)))) }
+    ensures opened { MatchResult result (λ o. (whole_object o ≡ open_tree (settled given.old) (object (topped top map))) × (depth (strip (whole_object o)) ≤ limit)) (λ e. IfTooDeep e (limit < depth (strip (open_tree (settled given.old) (object (topped top map)))))) }
 {
     if limit == 0 {
         return Err(ProcessError::TooDeep);
     }
-    let hidden = open_own(alloc, limit - 1, given, graph, at, map)?;
+    let hidden = open_own(alloc, limit - 1, given, graph, at, &map)?;
     let plain = open_plain(alloc, limit - 1, top, given, graph, at, map)?;
     Ok(OpenedMembers { hidden, plain })
 }
@@ -188,16 +177,16 @@ fn open_parts(
 fn open_object(
     alloc: Global,
     limit: usize,
-    given: &GivenList,
+    given: &mut GivenList,
     graph: &Graph,
     at: &mut usize,
-    map: &TreeMap,
+    map: TreeMap,
 ) -> Result<Marked, ProcessError>
-    requires ready { IsOpenable given.now graph.now.numbers.items graph.now.ends.items }
-    requires numbered { TellFirst given.now (drop at.old graph.now.numbers.items) (tree_digests (object map.now)) }
-    requires whole { OpensWhole (settled given.now) (object map.now) }
-    ensures moved { OnOk result (at.new ≡ at.old + length (tree_digests (object map.now))) }
-    ensures opened { MatchResult result (λ m. (marked_of m ≡ open_tree (settled given.now) (object map.now)) × (depth (strip (marked_of m)) ≤ limit)) (λ e. IfTooDeep e (limit < depth (strip (open_tree (settled given.now) (object map.now))))) }
+    requires ready { IsOpenable given.old graph.now.numbers.items graph.now.ends.items }
+    requires numbered { TellFirst given.old (drop at.old graph.now.numbers.items) (tree_digests (object map)) }
+    requires whole { OpensWhole (settled given.old) (object map) }
+    ensures moved { OnOk result (at.new ≡ at.old + length (tree_digests (object map))) }
+    ensures opened { MatchResult result (λ m. (marked_of m ≡ open_tree (settled given.old) (object map)) × (depth (strip (marked_of m)) ≤ limit)) (λ e. IfTooDeep e (limit < depth (strip (open_tree (settled given.old) (object map))))) }
 {
     let members = open_parts(alloc, limit, false, given, graph, at, map)?;
     Ok(members.into_object(alloc)?)
@@ -208,22 +197,22 @@ fn open_object(
 fn open(
     alloc: Global,
     limit: usize,
-    given: &GivenList,
+    given: &mut GivenList,
     graph: &Graph,
     at: &mut usize,
-    tree: &Tree,
+    tree: Tree,
 ) -> Result<Marked, ProcessError>
-    requires ready { IsOpenable given.now graph.now.numbers.items graph.now.ends.items }
-    requires numbered { TellFirst given.now (drop at.old graph.now.numbers.items) (tree_digests (tree_of tree.now)) }
-    requires whole { OpensWhole (settled given.now) (tree_of tree.now) }
-    ensures moved { OnOk result (at.new ≡ at.old + length (tree_digests (tree_of tree.now))) }
-    ensures opened { MatchResult result (λ m. (marked_of m ≡ open_tree (settled given.now) (tree_of tree.now)) × (depth (strip (marked_of m)) ≤ limit)) (λ e. IfTooDeep e (limit < depth (strip (open_tree (settled given.now) (tree_of tree.now))))) }
+    requires ready { IsOpenable given.old graph.now.numbers.items graph.now.ends.items }
+    requires numbered { TellFirst given.old (drop at.old graph.now.numbers.items) (tree_digests (tree_of tree)) }
+    requires whole { OpensWhole (settled given.old) (tree_of tree) }
+    ensures moved { OnOk result (at.new ≡ at.old + length (tree_digests (tree_of tree))) }
+    ensures opened { MatchResult result (λ m. (marked_of m ≡ open_tree (settled given.old) (tree_of tree)) × (depth (strip (marked_of m)) ≤ limit)) (λ e. IfTooDeep e (limit < depth (strip (open_tree (settled given.old) (tree_of tree))))) }
 {
     match tree {
         Tree::Null => Ok(Marked::Null),
-        Tree::Flag(flag) => Ok(Marked::Flag(*flag)),
-        Tree::Whole(n) => Ok(Marked::Whole(*n)),
-        Tree::Text(text) => Ok(Marked::Text(TextBox::make(alloc, text.as_str())?)),
+        Tree::Flag(flag) => Ok(Marked::Flag(flag)),
+        Tree::Whole(n) => Ok(Marked::Whole(n)),
+        Tree::Text(text) => Ok(Marked::Text(text)),
         Tree::List(list) => {
             if limit == 0 {
                 return Err(ProcessError::TooDeep);
@@ -238,16 +227,16 @@ fn open(
 // The members of the payload, without its own `_sd_alg`. The numbers begin with those of its digests.
 pub(crate) fn open_top(
     alloc: Global,
-    payload: &Tree,
-    given: &GivenList,
+    payload: Tree,
+    given: &mut GivenList,
     graph: &Graph,
 ) -> Result<OpenedMembers, ProcessError>
-    requires object { IsPayload (tree_of payload.now) }
-    requires few { length given.now < 2 ^ 32 }
-    requires referenced { IsReferencedOnce (without_alg (tree_of payload.now)) given.now }
-    requires named { IsWellNamed (without_alg (tree_of payload.now)) given.now }
-    requires told { NumbersTell (without_alg (tree_of payload.now)) given.now graph.now.numbers.items graph.now.ends.items }
-    ensures { MatchResult result (λ o. IsSound (without_alg (tree_of payload.now)) given.now × (whole_object o ≡ processed (without_alg (tree_of payload.now)) given.now)) (IsProcessRefused (without_alg (tree_of payload.now)) given.now) }
+    requires object { IsPayload (tree_of payload) }
+    requires few { length given.old < 2 ^ 32 }
+    requires referenced { IsReferencedOnce (without_alg (tree_of payload)) given.old }
+    requires named { IsWellNamed (without_alg (tree_of payload)) given.old }
+    requires told { NumbersTell (without_alg (tree_of payload)) given.old graph.now.numbers.items graph.now.ends.items }
+    ensures { MatchResult result (λ o. IsSound (without_alg (tree_of payload)) given.old × (whole_object o ≡ processed (without_alg (tree_of payload)) given.old)) (IsProcessRefused (without_alg (tree_of payload)) given.old) }
 {
     let mut at = 0;
     match payload {
