@@ -1,5 +1,7 @@
-ghost use Rattle.std.specs.Prelude.{◌≡◌, [], ◌∷◌, ◌++◌, map, length, IfOk, OnOk, OnErr, option_map, slice_get};
+ghost use Rattle.std.specs.Prelude.{◌≡◌, ◌≤◌, [], ◌∷◌, ◌++◌, map, length, IfOk, OnOk, OnErr, MatchOption, option_map, slice_get};
+ghost use Rattle.claim_tree.specs.Lists.{StandsAt};
 ghost use Rattle.claim_tree.specs.View.{tree_of};
+ghost use Rattle.digest_sites.specs.Given.{Given as Seen};
 ghost use Rattle.digest_sites.specs.GivenView.{given_of, emptied};
 
 use claim_tree::Tree;
@@ -82,7 +84,7 @@ impl GivenList {
 
     /// Takes the name and the value of the disclosure at a position, and leaves no name and null.
     pub fn take(&mut self, i: usize) -> Option<(Option<TextBox>, Tree)>
-        ensures taken { option_map (λ one. (one.0, tree_of one.1)) result ≡ option_map (λ x. (x.name, x.value)) (slice_get self.old i) }
+        ensures taken { MatchOption result (length self.old ≤ i) (λ one. (x : Seen) × StandsAt self.old i x × (one.0 ≡ x.name) × (tree_of one.1 ≡ x.value)) }
         ensures left { self.new ≡ emptied self.old i }
     {
         if i < self.items.len() {
