@@ -1,18 +1,17 @@
 // A payload opened without search: the digests of its sites are read as numbers, in their order.
-ghost use Rattle.std.specs.Prelude.{◌≡◌, ℕ, ◌+◌, ◌^◌, ◌<◌, ◌≤◌, [], length, drop, slice_index, OnOk, IfOk, MatchOption, MatchResult};
+ghost use Rattle.std.specs.Prelude.{◌≡◌, ◌+◌, ◌^◌, ◌<◌, ◌≤◌, List, [], ◌∷◌, length, OnOk, IfOk, MatchResult};
 ghost use Rattle.claim_tree.specs.Tree.{Text, object, depth, elements_depth, members_depth};
-ghost use Rattle.claim_tree.specs.Lists.{StandsAt};
 ghost use Rattle.claim_tree.specs.View.{tree_of};
-ghost use Rattle.digest_sites.specs.Reserved.{sd_texts, element_digest as digest_in};
-ghost use Rattle.digest_sites.specs.GivenView.{given_of};
+ghost use Rattle.digest_sites.specs.Reserved.{sd_texts};
+ghost use Rattle.digest_sites.specs.Given.{Given};
 ghost use Rattle.marked_tree.specs.Marked.{strip, strip_elements, strip_members};
 ghost use Rattle.marked_tree.specs.View.{marked_of, marked_members_of};
 ghost use Rattle.rebuild_core.specs.Answer.{IsPayload, IsProcessRefused};
 ghost use Rattle.rebuild_core.specs.Soundness.{IsReferencedOnce, IsWellNamed, IsSound};
 ghost use Rattle.rebuild_core.specs.Payload.{without_alg};
 ghost use Rattle.rebuild_core.specs.Opening.{open_tree, open_elements, open_members, processed};
-ghost use Rattle.rebuild_core.specs.Cursor.{NumberTells, TellFirst, NumbersTell, tree_digests, elements_digests, members_digests};
-ghost use Rattle.rebuild_core.specs.Whole.{IsOpenable, OpensWhole, ElementsWhole, MembersWhole, IfTooDeep, settled, shown_of, shown_depth, shown_depths, shown_members, topped, stays as stays_in, whole_object};
+ghost use Rattle.rebuild_core.specs.Cursor.{NumbersTell, tree_digests, elements_digests, members_digests};
+ghost use Rattle.rebuild_core.specs.Whole.{OpensFrom, TakesOnly, OpensWhole, ElementsWhole, MembersWhole, IfTooDeep, settled, shown_of, shown_depth, shown_depths, shown_members, topped, stays as stays_in, whole_object};
 
 use crate::ProcessError;
 use crate::graph::Graph;
@@ -40,10 +39,9 @@ fn open_next(
     graph: &Graph,
     at: &mut usize,
 ) -> Result<Option<Revealed>, ProcessError>
-    requires ready { IsOpenable given.old graph.now.numbers.items graph.now.ends.items }
-    requires within { at.old < length graph.now.numbers.items }
+    requires ready { (g : List Given) × (digest : Text) × OpensFrom g given.old graph.now.numbers.items graph.now.ends.items at.old (digest ∷ []) (Unit {0}) }
     ensures moved { OnOk result (at.new ≡ at.old + 1) }
-    ensures shown { (digest : Text) → NumberTells given.old (slice_index graph.now.numbers.items at.old) digest → MatchResult result (λ r. (shown_of r ≡ settled given.old digest) × (shown_depth (shown_of r) ≤ limit)) (λ e. IfTooDeep e (limit < shown_depth (settled given.old digest))) }
+    ensures opened { (g : List Given) (digest : Text) → OpensFrom g given.old graph.now.numbers.items graph.now.ends.items at.old (digest ∷ []) (Unit {0}) → MatchResult result (λ r. (shown_of r ≡ settled g digest) × (shown_depth (shown_of r) ≤ limit) × TakesOnly g given.old given.new (digest ∷ [])) (λ e. IfTooDeep e (limit < shown_depth (settled g digest))) }
 {
     let number = graph.numbers[*at];
     *at += 1;
@@ -68,11 +66,9 @@ fn open_list(
     at: &mut usize,
     list: TreeList,
 ) -> Result<MarkedList, ProcessError>
-    requires ready { IsOpenable given.old graph.now.numbers.items graph.now.ends.items }
-    requires numbered { TellFirst given.old (drop at.old graph.now.numbers.items) (elements_digests list) }
-    requires whole { ElementsWhole (settled given.old) list }
+    requires ready { (g : List Given) × OpensFrom g given.old graph.now.numbers.items graph.now.ends.items at.old (elements_digests list) (ElementsWhole (settled g) list) }
     ensures moved { OnOk result (at.new ≡ at.old + length (elements_digests list)) }
-    ensures opened { MatchResult result (λ out. (out ≡ open_elements (settled given.old) list) × (elements_depth (strip_elements out) ≤ limit)) (λ e. IfTooDeep e (limit < elements_depth (strip_elements (open_elements (settled given.old) list)))) }
+    ensures opened { (g : List Given) → OpensFrom g given.old graph.now.numbers.items graph.now.ends.items at.old (elements_digests list) (ElementsWhole (settled g) list) → MatchResult result (λ out. (out ≡ open_elements (settled g) list) × (elements_depth (strip_elements out) ≤ limit) × TakesOnly g given.old given.new (elements_digests list)) (λ e. IfTooDeep e (limit < elements_depth (strip_elements (open_elements (settled g) list)))) }
 {
     let mut out = MarkedList::with_capacity(alloc, list.len())?;
     for tree in list.into_trees() {
@@ -107,10 +103,9 @@ fn open_own(
     at: &mut usize,
     map: &TreeMap,
 ) -> Result<Vec<(TextBox, Option<u32>, Marked)>, ProcessError>
-    requires ready { IsOpenable given.old graph.now.numbers.items graph.now.ends.items }
-    requires numbered { TellFirst given.old (drop at.old graph.now.numbers.items) (sd_texts map.now) }
+    requires ready { (g : List Given) × OpensFrom g given.old graph.now.numbers.items graph.now.ends.items at.old (sd_texts map.now) (Unit {0}) }
     ensures moved { OnOk result (at.new ≡ at.old + length (sd_texts map.now)) }
-    ensures opened { MatchResult result (λ out. (marked_members_of out.items ≡ shown_members (settled given.old) (sd_texts map.now)) × (shown_depths (settled given.old) (sd_texts map.now) ≤ limit)) (λ e. IfTooDeep e (limit < shown_depths (settled given.old) (sd_texts map.now))) }
+    ensures opened { (g : List Given) → OpensFrom g given.old graph.now.numbers.items graph.now.ends.items at.old (sd_texts map.now) (Unit {0}) → MatchResult result (λ out. (marked_members_of out.items ≡ shown_members (settled g) (sd_texts map.now)) × (shown_depths (settled g) (sd_texts map.now) ≤ limit) × TakesOnly g given.old given.new (sd_texts map.now)) (λ e. IfTooDeep e (limit < shown_depths (settled g) (sd_texts map.now))) }
 {
     let count = own_count(map);
     let mut out = room_for_members(alloc, count)?;
@@ -132,11 +127,9 @@ fn open_plain(
     at: &mut usize,
     map: TreeMap,
 ) -> Result<MarkedMap, ProcessError>
-    requires ready { IsOpenable given.old graph.now.numbers.items graph.now.ends.items }
-    requires numbered { TellFirst given.old (drop at.old graph.now.numbers.items) (members_digests (topped top map)) }
-    requires whole { MembersWhole (settled given.old) (topped top map) }
+    requires ready { (g : List Given) × OpensFrom g given.old graph.now.numbers.items graph.now.ends.items at.old (members_digests (topped top map)) (MembersWhole (settled g) (topped top map)) }
     ensures moved { OnOk result (at.new ≡ at.old + length (members_digests (topped top map))) }
-    ensures opened { MatchResult result (λ out. (out ≡ open_members (settled given.old) (topped top map)) × (members_depth (strip_members out) ≤ limit)) (λ e. IfTooDeep e (limit < members_depth (strip_members (open_members (settled given.old) (topped top map))))) }
+    ensures opened { (g : List Given) → OpensFrom g given.old graph.now.numbers.items graph.now.ends.items at.old (members_digests (topped top map)) (MembersWhole (settled g) (topped top map)) → MatchResult result (λ out. (out ≡ open_members (settled g) (topped top map)) × (members_depth (strip_members out) ≤ limit) × TakesOnly g given.old given.new (members_digests (topped top map))) (λ e. IfTooDeep e (limit < members_depth (strip_members (open_members (settled g) (topped top map))))) }
 {
     let mut out = MarkedMap::with_capacity(alloc, map.len())?;
     for (name, tree) in map.into_members() {
@@ -159,11 +152,9 @@ fn open_parts(
     at: &mut usize,
     map: TreeMap,
 ) -> Result<OpenedMembers, ProcessError>
-    requires ready { IsOpenable given.old graph.now.numbers.items graph.now.ends.items }
-    requires numbered { TellFirst given.old (drop at.old graph.now.numbers.items) (tree_digests (object (topped top map))) }
-    requires whole { OpensWhole (settled given.old) (object (topped top map)) }
+    requires ready { (g : List Given) × OpensFrom g given.old graph.now.numbers.items graph.now.ends.items at.old (tree_digests (object (topped top map))) (OpensWhole (settled g) (object (topped top map))) }
     ensures moved { OnOk result (at.new ≡ at.old + length (tree_digests (object (topped top map)))) }
-    ensures opened { MatchResult result (λ o. (whole_object o ≡ open_tree (settled given.old) (object (topped top map))) × (depth (strip (whole_object o)) ≤ limit)) (λ e. IfTooDeep e (limit < depth (strip (open_tree (settled given.old) (object (topped top map)))))) }
+    ensures opened { (g : List Given) → OpensFrom g given.old graph.now.numbers.items graph.now.ends.items at.old (tree_digests (object (topped top map))) (OpensWhole (settled g) (object (topped top map))) → MatchResult result (λ o. (whole_object o ≡ open_tree (settled g) (object (topped top map))) × (depth (strip (whole_object o)) ≤ limit) × TakesOnly g given.old given.new (tree_digests (object (topped top map)))) (λ e. IfTooDeep e (limit < depth (strip (open_tree (settled g) (object (topped top map)))))) }
 {
     if limit == 0 {
         return Err(ProcessError::TooDeep);
@@ -182,11 +173,9 @@ fn open_object(
     at: &mut usize,
     map: TreeMap,
 ) -> Result<Marked, ProcessError>
-    requires ready { IsOpenable given.old graph.now.numbers.items graph.now.ends.items }
-    requires numbered { TellFirst given.old (drop at.old graph.now.numbers.items) (tree_digests (object map)) }
-    requires whole { OpensWhole (settled given.old) (object map) }
+    requires ready { (g : List Given) × OpensFrom g given.old graph.now.numbers.items graph.now.ends.items at.old (tree_digests (object map)) (OpensWhole (settled g) (object map)) }
     ensures moved { OnOk result (at.new ≡ at.old + length (tree_digests (object map))) }
-    ensures opened { MatchResult result (λ m. (marked_of m ≡ open_tree (settled given.old) (object map)) × (depth (strip (marked_of m)) ≤ limit)) (λ e. IfTooDeep e (limit < depth (strip (open_tree (settled given.old) (object map))))) }
+    ensures opened { (g : List Given) → OpensFrom g given.old graph.now.numbers.items graph.now.ends.items at.old (tree_digests (object map)) (OpensWhole (settled g) (object map)) → MatchResult result (λ m. (marked_of m ≡ open_tree (settled g) (object map)) × (depth (strip (marked_of m)) ≤ limit) × TakesOnly g given.old given.new (tree_digests (object map))) (λ e. IfTooDeep e (limit < depth (strip (open_tree (settled g) (object map))))) }
 {
     let members = open_parts(alloc, limit, false, given, graph, at, map)?;
     Ok(members.into_object(alloc)?)
@@ -202,11 +191,9 @@ fn open(
     at: &mut usize,
     tree: Tree,
 ) -> Result<Marked, ProcessError>
-    requires ready { IsOpenable given.old graph.now.numbers.items graph.now.ends.items }
-    requires numbered { TellFirst given.old (drop at.old graph.now.numbers.items) (tree_digests (tree_of tree)) }
-    requires whole { OpensWhole (settled given.old) (tree_of tree) }
+    requires ready { (g : List Given) × OpensFrom g given.old graph.now.numbers.items graph.now.ends.items at.old (tree_digests (tree_of tree)) (OpensWhole (settled g) (tree_of tree)) }
     ensures moved { OnOk result (at.new ≡ at.old + length (tree_digests (tree_of tree))) }
-    ensures opened { MatchResult result (λ m. (marked_of m ≡ open_tree (settled given.old) (tree_of tree)) × (depth (strip (marked_of m)) ≤ limit)) (λ e. IfTooDeep e (limit < depth (strip (open_tree (settled given.old) (tree_of tree))))) }
+    ensures opened { (g : List Given) → OpensFrom g given.old graph.now.numbers.items graph.now.ends.items at.old (tree_digests (tree_of tree)) (OpensWhole (settled g) (tree_of tree)) → MatchResult result (λ m. (marked_of m ≡ open_tree (settled g) (tree_of tree)) × (depth (strip (marked_of m)) ≤ limit) × TakesOnly g given.old given.new (tree_digests (tree_of tree))) (λ e. IfTooDeep e (limit < depth (strip (open_tree (settled g) (tree_of tree))))) }
 {
     match tree {
         Tree::Null => Ok(Marked::Null),
