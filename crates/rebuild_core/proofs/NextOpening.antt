@@ -4,14 +4,14 @@ use Rattle.std.specs.Prelude.{slice_index}
 use Rattle.std.proofs.lemmas.Grind.{get_or_default_zero}
 use Rattle.claim_tree.specs.Tree.{Text, Tree}
 use Rattle.claim_tree.specs.Lists.{StandsAt}
-use Rattle.claim_tree.proofs.Lists.{At-below, At-same}
+use Rattle.claim_tree.proofs.Lists.{At-below, At-same, At-get}
 use Rattle.digest_sites.specs.Given.{Given}
 use Rattle.digest_sites.specs.GivenView.{emptied}
 use Rattle.rebuild_core.specs.Opening.{nothing_shown, shown, open_tree}
 use Rattle.rebuild_core.specs.Cursor.{tree_digests}
 use Rattle.rebuild_core.specs.Whole.{settled, OpensWhole, OpensFrom, TakesOnly}
 use Rattle.rebuild_core.proofs.Goes.{IsTold, told_here}
-use Rattle.rebuild_core.proofs.Taking.{stands_within, takes_none, is_left, opens_value, takes_value}
+use Rattle.rebuild_core.proofs.Taking.{takes_none, is_left, opens_value, takes_value}
 use Rattle.rebuild_core.proofs.ListOpening.{few_numbers, has_end, value_at, shows}
 
 module _ (g left : List Given) (ks ends : List ℕ) (at : ℕ) (d : Text) (o : OpensFrom g left ks ends at (d ∷ []) (Unit {0})) where
@@ -40,7 +40,7 @@ module _ (g left : List Given) (ks ends : List ℕ) (at : ℕ) (d : Text) (o : O
 
       here : (x : Given) × Here x
       here =
-          let w = stands_within g j (omega (arith, At-below left j taken.0 taken.1, o.as_many)) in
+          let w = At-get g j (omega (arith, At-below left j taken.0 taken.1, o.as_many)) in
           let is = shows g ks ends o.ready j w.0 w.1 at d next_within read told_next.tells in
           let e : taken.0 ≡ w.0 = At-same left j taken.0 w.0 taken.1 (is_left g left ks ends at d o j w.0 w.1 is) in
           (w.0, (w.1, is, taken.2 ∙ ap (λ (x : Given). x.name) e, taken.3 ∙ ap (λ (x : Given). x.value) e))

@@ -1,13 +1,13 @@
 -- The list of disclosures while its values are taken.
-use Rattle.std.proofs.Common.{◌≡◌, ℕ, zero, suc, ◌+◌, ◌<◌, ◌≤◌, List, [], ◌∷◌, ◌++◌, length, drop, Option, Some, None, refl, sym, ap, ◌∙◌, subst, arith}
+use Rattle.std.proofs.Common.{◌≡◌, ℕ, zero, suc, ◌+◌, ◌<◌, ◌≤◌, List, [], ◌∷◌, ◌++◌, length, drop, refl, ap, ◌∙◌, arith}
 use Rattle.claim_tree.specs.Tree.{Text}
 use Rattle.claim_tree.specs.Lists.{StandsAt}
-use Rattle.claim_tree.proofs.Lists.{At-below, At-same}
+use Rattle.claim_tree.proofs.Lists.{At-below}
 use Rattle.digest_sites.specs.Given.{Given}
 use Rattle.digest_sites.specs.GivenView.{emptied}
-use Rattle.marked_tree.specs.Ways.{weight, only}
+use Rattle.marked_tree.specs.Ways.{only}
 use Rattle.marked_tree.proofs.MarkFacts.{one_if_same}
-use Rattle.rebuild_core.specs.Opening.{nothing_shown, shown, open_tree}
+use Rattle.rebuild_core.specs.Opening.{shown, open_tree}
 use Rattle.rebuild_core.specs.Cursor.{tree_digests, TellFirst}
 use Rattle.rebuild_core.specs.Whole.{settled, shown_weight, uses, OpensWhole, IsOpenable, OpensFrom, TakesOnly}
 
@@ -90,11 +90,6 @@ takes_none g left j ds l = record {
   spared = λ k x z a. other_stays left j k x (λ e. omega (arith, l, At-below left k x a, e)) a;
   as_many = length_emptied left j;
 }
-
-pub stands_within : (g : List Given) (i : ℕ) → i < length g → (x : Given) × StandsAt g i x
-stands_within [] i l = absurd (omega arith)
-stands_within (x ∷ g) zero l = (x, refl)
-stands_within (x ∷ g) (suc i) l = stands_within g i (omega arith)
 
 module _ (g left : List Given) (ks ends : List ℕ) (at : ℕ) (d : Text) (o : OpensFrom g left ks ends at (d ∷ []) (Unit {0}))
     (j : ℕ) (x : Given) (there : StandsAt g j x) (is : settled g d ≡ shown j x.name (open_tree (settled g) x.value)) where

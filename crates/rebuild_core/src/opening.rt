@@ -1,4 +1,4 @@
-// A payload opened without search: the digests of its sites are read as numbers, in their order.
+// A payload opened without search: the digests of its sites are read as numbers, in their order. What is shown is moved.
 ghost use Rattle.std.specs.Prelude.{◌≡◌, ◌+◌, ◌^◌, ◌<◌, ◌≤◌, List, [], ◌∷◌, length, OnOk, IfOk, MatchResult};
 ghost use Rattle.claim_tree.specs.Tree.{Text, object, depth, elements_depth, members_depth};
 ghost use Rattle.claim_tree.specs.View.{tree_of};
@@ -30,7 +30,7 @@ fn stays(top: bool, name: &TextBox) -> bool
     !is_sd(name) && !(top && is_alg(name))
 }
 
-// What the digest at the cursor shows.
+// What the digest at the cursor shows, taken out of its place.
 #[cycle(opening)]
 fn open_next(
     alloc: Global,

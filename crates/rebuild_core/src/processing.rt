@@ -83,6 +83,8 @@ fn copy_given(alloc: Global, given: &GivenList) -> Result<GivenList, NoMemory>
 ///
 /// Each given digest and each digest of a site is looked up once, and what follows works on numbers. So time and memory
 /// grow with n log n, and the answer is built no deeper than 100, whatever the input. `steps` counts the look-ups.
+///
+/// Payload and disclosures are copied. [`process_seeded`] takes them, and moves what they say.
 pub fn process(
     alloc: Global,
     payload: &Tree,
@@ -109,9 +111,9 @@ pub fn process(
     process_seeded(alloc, payload, given, 0, steps)
 }
 
-/// The same, where the digests are hashed with a seed. No answer depends on it, but who knows it can choose digests
-/// that are slow to look up together: who reads what others wrote gives one that they couldn't know when they chose the
-/// digests.
+/// The same, of a payload and disclosures that are given away, where the digests are hashed with a seed. No answer
+/// depends on the seed, but who knows it can choose digests that are slow to look up together: who reads what others
+/// wrote gives one that they couldn't know when they chose the digests.
 pub fn process_seeded(
     alloc: Global,
     payload: Tree,
@@ -160,8 +162,8 @@ fn open_nothing(payload: Tree, given: &GivenList, steps: &mut Steps) -> Result<T
 }
 
 /// What [`process_seeded`] answers, for who needs no marks: the processed payload alone. A
-/// payload in which nothing is hidden is handed back without its own `_sd_alg`, and no part of it is copied. Any other
-/// is dropped, and the disclosures with it, before the opened members are put together.
+/// payload in which nothing is hidden is handed back without its own `_sd_alg`. Of any other, and of the disclosures, what
+/// is not shown is dropped before the opened members are put together. No part of either is copied.
 pub fn process_payload(
     alloc: Global,
     payload: Tree,

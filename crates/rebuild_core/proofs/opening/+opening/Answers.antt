@@ -1,21 +1,18 @@
-use Rattle.std.proofs.Common.{◌≡◌, ◌-◌, ◌<◌, ◌≤◌, List, [], ◌∷◌, drop, None, refl, sym, ap, ◌∙◌, subst, arith}
+use Rattle.std.proofs.Common.{◌≡◌, ◌-◌, ◌<◌, ◌≤◌, [], drop, refl, sym, ap, ◌∙◌, arith}
 use Rattle.std.proofs.lemmas.Result.{err_from_is_err_and}
 use Rattle.std.proofs.lemmas.List.{nil_from_length}
 use Rattle.std.proofs.Math.ListN.{drop_of_length-le}
 use Rattle.std.specs.Vec.Iter.{into_iter_items}
 use Rattle.claim_tree.specs.ListViews.{elements_of, members_of}
 use Rattle.digest_sites.specs.Reserved.{sd_texts}
-use Rattle.digest_sites.specs.Given.{Given}
-use Rattle.claim_tree.specs.View.{tree_of}
-use Rattle.marked_tree.specs.Marked.{marked_object, put}
+use Rattle.marked_tree.specs.Marked.{marked_object}
 use Rattle.marked_tree.specs.MarkedCalls.{put_all}
-use Rattle.marked_tree.specs.View.{marked_of, marked_members_of}
-use Rattle.rebuild_core.specs.Opening.{open_members, shown}
-use Rattle.rebuild_core.specs.Cursor.{elements_digests, members_digests}
+use Rattle.marked_tree.specs.View.{marked_members_of}
+use Rattle.rebuild_core.specs.Opening.{open_members}
 use Rattle.rebuild_core.specs.Whole.{settled, topped, shown_depth}
-use Rattle.rebuild_core.proofs.Taking.{Taking, taking_end}
+use Rattle.rebuild_core.proofs.Taking.{taking_end}
 use Rattle.rebuild_core.proofs.ListOpening.{has_digest, has_none, still_deep, list_here, list_ends, plain_after, plain_deep, hidden_after, hidden_deep, plain_opens, plain_taken, hidden_opens, hidden_taken}
-use Rattle.rebuild_core.proofs.NextOpening.{none_shown, none_taken, few_here, end_here, next_within, shown_here, opens_here, taken_here}
+use Rattle.rebuild_core.proofs.NextOpening.{none_shown, none_taken, few_here, end_here, shown_here, opens_here, taken_here}
 use Rattle.rebuild_core.proofs.ShownDepths.{map_depth}
 use Rattle.rebuild_core.proofs.MapOpening.{own_here, own_after, own_deep, own_ends, own_opens, own_taken, map_here, map_ends, kept_after, kept_deep, dropped_after, kept_opens, kept_taken, dropped_taken, object_own, object_plain, object_taken, object_moved, object_is, object_low, object_deep_own, object_deep_plain}
 use Rattle.rebuild_core.proofs.opening.+opening.Goals as goal
@@ -42,9 +39,10 @@ pub open_list-loop-tree-preserved-in_ok-push_element-3 : goal.open_list-loop-tre
 open_list-loop-tree-preserved-in_ok-push_element-3 t c = λ g o.
     let s = list_here _ _ _ _ _ _ _ _ _ _ _ _ _ c.in-Some.ensures.steps.0 (c.loop-tree.invariant g o) in
     let d = has_digest (λ x. x.now) c.element_digest.result _ c.element_digest.ensures (sym c.is_some.ensures ∙ c.if-is_some.true) in
-    let w = c.in_ok-shown.ensures.opened g d.0 (hidden_opens _ _ _ _ _ _ _ _ _ _ _ _ _ o.ready s.0 s.1 d.0 d.1) in
-    (hidden_after _ _ _ _ _ _ _ _ _ s.0 d.0 d.1 c.open_next.new.at _ c.push_element.new.out c.in_ok-shown.ensures.moved w.0 w.1 c.in_ok-push_element.ensures,
-    hidden_taken _ _ _ _ _ _ _ _ _ _ _ _ _ o.ready s.0 s.1 d.0 d.1 _ w.2)
+    let w = c.in_ok-shown.ensures.opened g d.0 (hidden_opens _ _ _ _ _ _ _ _ _ _ _ _ _ o.ready s.0 s.1 d.0 d.1) in (
+      hidden_after _ _ _ _ _ _ _ _ _ s.0 d.0 d.1 c.open_next.new.at _ c.push_element.new.out c.in_ok-shown.ensures.moved w.0 w.1 c.in_ok-push_element.ensures,
+      hidden_taken _ _ _ _ _ _ _ _ _ _ _ _ _ o.ready s.0 s.1 d.0 d.1 _ w.2,
+    )
 
 pub open_list-open-requires : goal.open_list-open-requires
 open_list-open-requires t c =
@@ -64,9 +62,10 @@ pub open_list-loop-tree-preserved : goal.open_list-loop-tree-preserved
 open_list-loop-tree-preserved t c = λ g o.
     let s = list_here _ _ _ _ _ _ _ _ _ _ _ _ _ c.in-Some.ensures.steps.0 (c.loop-tree.invariant g o) in
     let none = has_none (λ x. x.now) c.element_digest.result _ c.element_digest.ensures (sym c.is_some.ensures ∙ c.if-is_some.false) in
-    let w = c.in_ok-plain.ensures.opened g (plain_opens _ _ _ _ _ _ _ _ _ _ _ _ _ o.ready s.0 s.1 none) in
-    (plain_after _ _ _ _ _ _ _ _ _ s.0 none c.open.new.at _ c.push.new.self c.in_ok-plain.ensures.moved w.0 w.1 c.in_ok-push.ensures.ok,
-    plain_taken _ _ _ _ _ _ _ _ _ _ _ _ _ o.ready s.0 s.1 none _ w.2)
+    let w = c.in_ok-plain.ensures.opened g (plain_opens _ _ _ _ _ _ _ _ _ _ _ _ _ o.ready s.0 s.1 none) in (
+      plain_after _ _ _ _ _ _ _ _ _ s.0 none c.open.new.at _ c.push.new.self c.in_ok-plain.ensures.moved w.0 w.1 c.in_ok-push.ensures.ok,
+      plain_taken _ _ _ _ _ _ _ _ _ _ _ _ _ o.ready s.0 s.1 none _ w.2,
+    )
 
 pub open_list-returns-clause-opened : goal.open_list-returns-clause-opened
 open_list-returns-clause-opened t c = λ g o.
@@ -172,10 +171,11 @@ open_own-loop-preserved t c = (
   c.loop.invariant.0,
   omega (arith, c.loop-test.true),
   λ g o.
-  let s = own_here _ _ _ _ _ _ _ c.loop.counter _ _ (omega (arith, c.loop-test.true, c.loop.invariant.0)) (c.loop.invariant.2 g o) in
-  let w = c.in_ok-shown.ensures.opened g _ (own_opens _ _ _ _ _ _ _ _ _ _ _ _ o.ready s.0 s.1) in
-  (own_after _ _ _ _ _ _ _ _ _ s.0 c.open_next.new.at _ (marked_members_of c.push_member.new.out.items) c.in_ok-shown.ensures.moved w.0 w.1 c.in_ok-push_member.ensures,
-  own_taken _ _ _ _ _ _ _ _ _ _ _ _ o.ready s.0 s.1 _ w.2),
+      let s = own_here _ _ _ _ _ _ _ c.loop.counter _ _ (omega (arith, c.loop-test.true, c.loop.invariant.0)) (c.loop.invariant.2 g o) in
+      let w = c.in_ok-shown.ensures.opened g _ (own_opens _ _ _ _ _ _ _ _ _ _ _ _ o.ready s.0 s.1) in (
+        own_after _ _ _ _ _ _ _ _ _ s.0 c.open_next.new.at _ (marked_members_of c.push_member.new.out.items) c.in_ok-shown.ensures.moved w.0 w.1 c.in_ok-push_member.ensures,
+        own_taken _ _ _ _ _ _ _ _ _ _ _ _ o.ready s.0 s.1 _ w.2,
+      ),
 )
 
 pub open_own-returns-clause-opened : goal.open_own-returns-clause-opened
@@ -204,9 +204,10 @@ open_plain-returns-in_err-plain-clause-opened t c = λ g o.
 pub open_plain-loop-name-preserved-in-Continue-branch-3 : goal.open_plain-loop-name-preserved-in-Continue-branch-3
 open_plain-loop-name-preserved-in-Continue-branch-3 t c = λ g o.
     let s = map_here _ _ _ _ _ _ _ _ _ (c.in-Some.name, c.in-Some.tree) _ _ _ _ c.in-Some.ensures.steps.0 (c.loop-name.invariant g o) in
-    let w = c.in_ok-plain.ensures.opened g (kept_opens _ _ _ _ _ _ _ _ _ _ _ _ _ _ _ o.ready s.0 s.1 (sym c.stays.ensures ∙ c.if-stays.true)) in
-    (kept_after _ _ _ _ _ _ _ _ _ _ _ s.0 (sym c.stays.ensures ∙ c.if-stays.true) c.open.new.at _ c.put.new.self c.in_ok-plain.ensures.moved w.0 w.1 c.in_ok-put.ensures.ok,
-    kept_taken _ _ _ _ _ _ _ _ _ _ _ _ _ _ _ o.ready s.0 s.1 (sym c.stays.ensures ∙ c.if-stays.true) _ w.2)
+    let w = c.in_ok-plain.ensures.opened g (kept_opens _ _ _ _ _ _ _ _ _ _ _ _ _ _ _ o.ready s.0 s.1 (sym c.stays.ensures ∙ c.if-stays.true)) in (
+      kept_after _ _ _ _ _ _ _ _ _ _ _ s.0 (sym c.stays.ensures ∙ c.if-stays.true) c.open.new.at _ c.put.new.self c.in_ok-plain.ensures.moved w.0 w.1 c.in_ok-put.ensures.ok,
+      kept_taken _ _ _ _ _ _ _ _ _ _ _ _ _ _ _ o.ready s.0 s.1 (sym c.stays.ensures ∙ c.if-stays.true) _ w.2,
+    )
 
 pub open_plain-loop-name-preserved : goal.open_plain-loop-name-preserved
 open_plain-loop-name-preserved t c = λ g o.
