@@ -133,11 +133,14 @@ fn judge_content(
     ensures differs { IfErr result (λ e. (o : SeenOrder) → IsAsked o asked.now → OnPart e (ContentDiffers o (without_alg_of (tree_of written.body)) written.given)) }
     ensures risen { RoseWithin (look_ups (without_alg_of (tree_of written.body)) written.given) steps.old steps.new }
 {
-    if !shows(alloc, &written, &asked.claims, steps)? {
+    let Written { body, given, seed } = written;
+    let payload = without_alg(body);
+    // the claims are judged last, since what is written is given away for them
+    let judged = judge_digests(alloc, asked, &payload, &given, seed);
+    if !shows(alloc, payload, given, seed, &asked.claims, steps)? {
         return Err(AuditError::Part(3));
     }
-    let Written { body, given, seed } = written;
-    judge_digests(alloc, asked, &without_alg(body), &given, seed)
+    judged
 }
 
 // The six parts, in their order.

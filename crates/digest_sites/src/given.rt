@@ -1,10 +1,14 @@
-ghost use Rattle.std.specs.Prelude.{◌≡◌, [], ◌∷◌, ◌++◌, map, length, IfOk, OnOk, OnErr, option_map, slice_get};
-ghost use Rattle.digest_sites.specs.GivenView.{given_of};
+ghost use Rattle.std.specs.Prelude.{◌≡◌, ◌≤◌, [], ◌∷◌, ◌++◌, map, length, IfOk, OnOk, OnErr, MatchOption, option_map, slice_get};
+ghost use Rattle.claim_tree.specs.Lists.{StandsAt};
+ghost use Rattle.claim_tree.specs.View.{tree_of};
+ghost use Rattle.digest_sites.specs.Given.{Given as Seen};
+ghost use Rattle.digest_sites.specs.GivenView.{given_of, emptied};
 
 use claim_tree::Tree;
 use sd_outside::{NoMemory, TextBox};
 use std::alloc::Global;
 use std::marker::Model;
+use std::mem::replace;
 
 /// What a disclosure gives, RFC 9901 section 4.2. Contracts see it by `given_of`.
 #[derive(Debug, Drop)]
@@ -76,6 +80,20 @@ impl GivenList {
         ensures { result ≡ length self.now }
     {
         self.items().len()
+    }
+
+    /// Takes the name and the value of the disclosure at a position, and leaves no name and null.
+    pub fn take(&mut self, i: usize) -> Option<(Option<TextBox>, Tree)>
+        ensures taken { MatchOption result (length self.old ≤ i) (λ one. (x : Seen) × StandsAt self.old i x × (one.0 ≡ x.name) × (tree_of one.1 ≡ x.value)) }
+        ensures left { self.new ≡ emptied self.old i }
+    {
+        if i < self.items.len() {
+            let item = &mut self.items[i];
+            let value = replace(&mut item.value, Tree::Null);
+            Some((item.name.take(), value))
+        } else {
+            None
+        }
     }
 
     /// The disclosure at a position, counted from 0.

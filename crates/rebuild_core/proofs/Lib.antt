@@ -35,8 +35,10 @@ pub mod Transfer
 pub mod Judged
 pub mod Telling
 pub mod Goes
+pub mod Taking
 pub mod ShownDepths
 pub mod ListOpening
+pub mod NextOpening
 pub mod MapOpening
 pub mod Opened
 pub mod Ranged

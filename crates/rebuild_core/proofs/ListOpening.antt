@@ -1,9 +1,8 @@
 -- The loop that opens the elements of an array.
-use Rattle.std.proofs.Common.{◌≡◌, ℕ, zero, suc, ◌+◌, ◌^◌, ◌<◌, ◌≤◌, List, [], ◌∷◌, ◌++◌, length, get_or, drop, Option, Some, None, MatchOption, Bor, sym, ap, ◌∙◌, subst, arith}
-use Rattle.std.specs.Prelude.{slice_index, slice_get, option_map}
-use Rattle.std.proofs.lemmas.List.{at_drop_more}
+use Rattle.std.proofs.Common.{◌≡◌, ℕ, zero, suc, ◌+◌, ◌^◌, ◌<◌, ◌≤◌, List, [], ◌∷◌, ◌++◌, length, get_or, drop, true, false, Option, Some, None, sym, ap, ◌∙◌, subst, arith}
+use Rattle.std.specs.Prelude.{slice_index, option_map}
+use Rattle.std.specs.Option.{is_some}
 use Rattle.std.proofs.lemmas.Grind.{get_or_default_zero}
-use Rattle.std.proofs.Math.ListN.{drop_of_length-le}
 use Rattle.claim_tree.specs.Tree.{Text, Tree, Elements, no_elements, element, depth}
 use Rattle.claim_tree.specs.Lists.{StandsAt}
 use Rattle.claim_tree.specs.View.{tree_of}
@@ -12,15 +11,14 @@ use Rattle.claim_tree.specs.declared.tree.Tree.{Tree as Code}
 use Rattle.claim_tree.proofs.Lists.{At-below}
 use Rattle.digest_sites.specs.Reserved.{element_digest}
 use Rattle.digest_sites.specs.Given.{Given}
-use Rattle.digest_sites.specs.GivenView.{given_of}
-use Rattle.digest_sites.specs.declared.given.Given.{Given as GivenCode}
 use Rattle.marked_tree.specs.Marked.{Marked, MarkedElements, marked_element, strip}
 use Rattle.marked_tree.specs.MarkedCalls.{marked_pushed}
 use Rattle.rebuild_core.specs.Opening.{Shown, shown, show_element, open_tree, open_element, open_elements}
 use Rattle.rebuild_core.specs.Cursor.{digests_on, tree_digests, elements_digests, NumberTells, TellFirst}
-use Rattle.rebuild_core.specs.Whole.{settled, joined, shown_depth, IfTooDeep, IsElement, WholeOn, OpensWhole, ElementsWhole, IsOpenable}
+use Rattle.rebuild_core.specs.Whole.{settled, joined, shown_depth, IfTooDeep, IsElement, WholeOn, OpensWhole, ElementsWhole, IsOpenable, OpensFrom, TakesOnly}
 use Rattle.rebuild_core.specs.declared.errors.ProcessError.{ProcessError}
-use Rattle.rebuild_core.proofs.Goes.{Goes, goes_past, first_part, IsTold, told_here}
+use Rattle.rebuild_core.proofs.Goes.{Goes, goes_past, first_part}
+use Rattle.rebuild_core.proofs.Taking.{Taking, taking_past, opens_part}
 use Rattle.rebuild_core.proofs.ShownDepths.{list_depth, joined_push, joined_end, joined_depth, pushed_shown_depth, pushed_depth, element_keeps}
 
 -- ---- what was refused below is refused here
@@ -37,20 +35,6 @@ still_deep (ProcessError.ReservedName i) f h = h
 still_deep (ProcessError.NameClash i) f h = h
 
 -- ---- a disclosure by its number
-
-at_slice_get : (g : List Given) (i : ℕ) (x : Given) → Some x ≡ slice_get g i → StandsAt g i x
-at_slice_get [] i x h = cc
-at_slice_get (y ∷ g) zero x h = cc
-at_slice_get (y ∷ g) (suc i) x h = at_slice_get g i x h
-
-past_slice_get : (g : List Given) (i : ℕ) → None ≡ slice_get g i → length g ≤ i
-past_slice_get [] i h = omega arith
-past_slice_get (y ∷ g) zero h = cc
-past_slice_get (y ∷ g) (suc i) h = omega (arith, past_slice_get g i h)
-
-pub disclosure_found : (g : List Given) (i : ℕ) (r : Option (Bor GivenCode)) → option_map (λ x. given_of x.now) r ≡ slice_get g i → MatchOption r (length g ≤ i) (λ x. StandsAt g i (given_of x.now))
-disclosure_found g i None h = past_slice_get g i h
-disclosure_found g i (Some x) h = at_slice_get g i (given_of x.now) h
 
 read_at : (ks : List ℕ) (i k d : ℕ) → StandsAt ks i k → get_or ks i d ≡ k
 read_at (j ∷ ks) zero k d h = sym h
@@ -79,11 +63,14 @@ module _ (g : List Given) (ks ends : List ℕ) (ready : IsOpenable g ks ends) (j
 
 -- ---- the elements
 
-pub element_here : (ts : List Code) (i : ℕ) (t : Code) → i < length ts → t ≡ get_or ts i t → elements_of (drop i ts) ≡ element (tree_of t) (elements_of (drop (i + 1) ts))
-element_here ts i t l e = at_drop_more elements_of ts i t l ∙ ap (λ u. element (tree_of u) (elements_of (drop (i + 1) ts))) (sym e)
+-- whether the code finds a digest
+pub has_digest : {X : Type 0} (f : X → Text) (r : Option X) (o : Option Text) → option_map f r ≡ o → is_some r ≡ true → (d : Text) × (Some d ≡ o)
+has_digest f (Some x) o e h = (f x, e)
+has_digest f None o e h = cc
 
-pub elements_end : (ts : List Code) (i : ℕ) → length ts ≤ i → elements_of (drop i ts) ≡ no_elements
-elements_end ts i l = ap elements_of (drop_of_length-le ts l)
+pub has_none : {X : Type 0} (f : X → Text) (r : Option X) (o : Option Text) → option_map f r ≡ o → is_some r ≡ false → None ≡ o
+has_none f None o e h = e
+has_none f (Some x) o e h = cc
 
 -- some elements are opened, the cursor stands at the digests of the rest
 pub record ListState (g : List Given) (ks : List ℕ) (limit : ℕ) (all : Elements) (end : ℕ) (rest : Elements) (out : MarkedElements) (at : ℕ) : Type 0 where
@@ -92,6 +79,12 @@ pub record ListState (g : List Given) (ks : List ℕ) (limit : ℕ) (all : Eleme
   pub whole : ElementsWhole (settled g) rest
   pub low : list_depth out ≤ limit
 
+-- the next element
+pub list_here : (g old now : List Given) (ks : List ℕ) (limit : ℕ) (all : Elements) (end : ℕ) (ts : List Code) (t : Code) (rest : List Code) (out : MarkedElements) (at : ℕ) (ds : List Text)
+    → ts ≡ t ∷ rest → ListState g ks limit all end (elements_of ts) out at × Taking g old now ds (elements_digests (elements_of ts))
+    → ListState g ks limit all end (element (tree_of t) (elements_of rest)) out at × Taking g old now ds (elements_digests (element (tree_of t) (elements_of rest)))
+list_here g old now ks limit all end ts t rest out at ds e w = subst (λ us. ListState g ks limit all end (elements_of us) out at × Taking g old now ds (elements_digests (elements_of us))) e w
+
 pub list_ends : (g : List Given) (ks : List ℕ) (limit : ℕ) (all : Elements) (end : ℕ) (rest : Elements) (out : MarkedElements) (at : ℕ) → ListState g ks limit all end rest out at → rest ≡ no_elements
     → (at ≡ end) × (out ≡ open_elements (settled g) all) × (list_depth out ≤ limit)
 list_ends g ks limit all end rest out at s e = (
@@ -99,10 +92,6 @@ list_ends g ks limit all end rest out at s e = (
   sym (joined_end out) ∙ ap (λ es. joined out (open_elements (settled g) es)) (sym e) ∙ s.joins,
   s.low,
 )
-
-pub list_at : (g : List Given) (ks : List ℕ) (limit : ℕ) (all : Elements) (end : ℕ) (ts : List Code) (i : ℕ) (t : Code) (out : MarkedElements) (at : ℕ) → i < length ts → t ≡ get_or ts i t
-    → ListState g ks limit all end (elements_of (drop i ts)) out at → ListState g ks limit all end (element (tree_of t) (elements_of (drop (i + 1) ts))) out at
-list_at g ks limit all end ts i t out at l e s = subst (λ es. ListState g ks limit all end es out at) (element_here ts i t l e) s
 
 module _ (g : List Given) (ks : List ℕ) (limit : ℕ) (all : Elements) (end : ℕ) (t : Tree) (rest : Elements) (out : MarkedElements) (at : ℕ) (s : ListState g ks limit all end (element t rest) out at) where
   -- ---- an element with no digest
@@ -143,9 +132,6 @@ module _ (g : List Given) (ks : List ℕ) (limit : ℕ) (all : Elements) (end : 
     joins_hidden : joined out (show_element (settled g d) (open_elements (settled g) rest)) ≡ open_elements (settled g) all
     joins_hidden = subst (λ o. joined out (open_element (settled g) o (open_tree (settled g) t) (open_elements (settled g) rest)) ≡ open_elements (settled g) all) (sym hidden) s.joins
 
-    pub hidden_at : IsTold g ks at d
-    hidden_at = told_here g d (elements_digests rest) at ks goes_hidden.0
-
     pub hidden_after : (next : ℕ) (x : Shown) (new : MarkedElements) → next ≡ at + 1 → x ≡ settled g d → shown_depth x ≤ limit
         → ((es : MarkedElements) → joined new es ≡ joined out (show_element x es)) → ListState g ks limit all end rest new next
     hidden_after next x new q is low pushed =
@@ -160,3 +146,31 @@ module _ (g : List Given) (ks : List ℕ) (limit : ℕ) (all : Elements) (end : 
     hidden_deep h =
         let w : IsElement (settled g d) = subst (λ o. WholeOn (settled g) o (OpensWhole (settled g) t)) (sym hidden) s.whole.0 in
         omega (arith, h, element_keeps (settled g d) (open_elements (settled g) rest) w, joined_depth out (show_element (settled g d) (open_elements (settled g) rest)), ap list_depth joins_hidden)
+
+-- ---- what is taken with an element
+
+module _ (g old now : List Given) (ks ends : List ℕ) (limit : ℕ) (all : Elements) (end : ℕ) (t : Tree) (rest : Elements) (out : MarkedElements) (at : ℕ) (ds : List Text)
+    (ready : IsOpenable g ks ends) (s : ListState g ks limit all end (element t rest) out at) (w : Taking g old now ds (elements_digests (element t rest))) where
+  module _ (plain : None ≡ element_digest t) where
+    taking_plain : Taking g old now ds (tree_digests t ++ elements_digests rest)
+    taking_plain = subst (λ o. Taking g old now ds (digests_on o (tree_digests t) ++ elements_digests rest)) (sym plain) w
+
+    pub plain_opens : OpensFrom g now ks ends at (tree_digests t) (OpensWhole (settled g) t)
+    plain_opens =
+        let p = plain_at g ks limit all end t rest out at s plain in
+        opens_part g old now ks ends at ds (tree_digests t) (elements_digests rest) (OpensWhole (settled g) t) taking_plain ready p.0 p.1
+
+    pub plain_taken : (new : List Given) → TakesOnly g now new (tree_digests t) → Taking g old new ds (elements_digests rest)
+    plain_taken new o = taking_past g old now new ds (tree_digests t) (elements_digests rest) taking_plain o
+
+  module _ (d : Text) (hidden : Some d ≡ element_digest t) where
+    taking_hidden : Taking g old now ds (d ∷ elements_digests rest)
+    taking_hidden = subst (λ o. Taking g old now ds (digests_on o (tree_digests t) ++ elements_digests rest)) (sym hidden) w
+
+    pub hidden_opens : OpensFrom g now ks ends at (d ∷ []) (Unit {0})
+    hidden_opens =
+        let told = first_part g (drop at ks) (d ∷ []) (elements_digests rest) (goes_hidden g ks limit all end t rest out at s d hidden).0 in
+        opens_part g old now ks ends at ds (d ∷ []) (elements_digests rest) (Unit {0}) taking_hidden ready told tt
+
+    pub hidden_taken : (new : List Given) → TakesOnly g now new (d ∷ []) → Taking g old new ds (elements_digests rest)
+    hidden_taken new o = taking_past g old now new ds (d ∷ []) (elements_digests rest) taking_hidden o

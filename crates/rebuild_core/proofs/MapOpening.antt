@@ -5,7 +5,6 @@ use Rattle.std.specs.Ordering.{ordering_reverse}
 use Rattle.std.specs.Cmp.Lexicographic.{slice_cmp}
 use Rattle.std.proofs.lemmas.Cmp.{nat_list_cmp_total}
 use Rattle.std.proofs.lemmas.List.{at_drop_more}
-use Rattle.std.proofs.Math.ListN.{drop_of_length-le}
 use Rattle.claim_tree.specs.Tree.{Text, Tree, Members, no_members, member, object, names, depth, IsBefore, IsBeforeAll, MembersOrdered}
 use Rattle.claim_tree.specs.View.{tree_of}
 use Rattle.claim_tree.specs.ListViews.{members_of}
@@ -18,9 +17,10 @@ use Rattle.marked_tree.specs.MarkedCalls.{put_all}
 use Rattle.rebuild_core.specs.Payload.{alg_name}
 use Rattle.rebuild_core.specs.Opening.{Shown, open_tree, open_members, show_members}
 use Rattle.rebuild_core.specs.Cursor.{tree_digests, members_digests, TellFirst}
-use Rattle.rebuild_core.specs.Whole.{settled, members_joined, shown_member, shown_members, shown_depth, shown_depths, topped, stays, AllNew, WholeUnless, OpensWhole, MembersWhole}
+use Rattle.rebuild_core.specs.Whole.{settled, members_joined, shown_member, shown_members, shown_depth, shown_depths, topped, stays, AllNew, WholeUnless, OpensWhole, MembersWhole, IsOpenable, OpensFrom, TakesOnly}
 use Rattle.rebuild_core.proofs.AlgFacts.{sd_texts_without}
-use Rattle.rebuild_core.proofs.Goes.{Goes, goes_past, first_part, length-join, IsTold, told_here}
+use Rattle.rebuild_core.proofs.Goes.{Goes, goes_past, first_part, length-join}
+use Rattle.rebuild_core.proofs.Taking.{Taking, taking_start, taking_past, taking_last, opens_part, opens_rest}
 use Rattle.rebuild_core.proofs.ShownDepths.{map_depth, members_joined_end, members_joined_depth, put_shown, put_depth_most, members_most, members_keep, members_new}
 
 -- ---- the payload's own object
@@ -56,6 +56,11 @@ topped_drops top k t ms h = go top (bytes_eq k sd_name) refl (bytes_eq k alg_nam
     go true false q false e = cc
     go false false q alg e = cc
 
+kept_digests : (top : Bool) (k : Text) (t : Tree) (ms : Members) → stays top k ≡ true → members_digests (topped top (member k t ms)) ≡ tree_digests t ++ members_digests (topped top ms)
+kept_digests top k t ms h =
+    let w = topped_stays top k t ms h in
+    ap members_digests w.0 ∙ ap (λ b. cond b [] (tree_digests t) ++ members_digests (topped top ms)) w.1
+
 -- ---- the hidden members
 
 pub record OwnState (g : List Given) (ks : List ℕ) (limit : ℕ) (all : List Text) (end : ℕ) (rest : List Text) (out : MarkedMembers) (at : ℕ) : Type 0 where
@@ -75,14 +80,12 @@ own_ends g ks limit all end rest out at s e = (
 text_here : (ds : List Text) (i : ℕ) → i < length ds → drop i ds ≡ get_or ds i [] ∷ drop (i + 1) ds
 text_here ds i l = at_drop_more (λ (es : List Text). es) ds i [] l
 
-pub own_here : (g : List Given) (ks : List ℕ) (limit : ℕ) (all : List Text) (end i : ℕ) (out : MarkedMembers) (at : ℕ) → i < length all → OwnState g ks limit all end (drop i all) out at
-    → OwnState g ks limit all end (get_or all i [] ∷ drop (i + 1) all) out at
-own_here g ks limit all end i out at l s = subst (λ (ds : List Text). OwnState g ks limit all end ds out at) (text_here all i l) s
+pub own_here : (g old now : List Given) (ks : List ℕ) (limit : ℕ) (all : List Text) (end i : ℕ) (out : MarkedMembers) (at : ℕ) → i < length all
+    → OwnState g ks limit all end (drop i all) out at × Taking g old now all (drop i all)
+    → OwnState g ks limit all end (get_or all i [] ∷ drop (i + 1) all) out at × Taking g old now all (get_or all i [] ∷ drop (i + 1) all)
+own_here g old now ks limit all end i out at l w = subst (λ (ds : List Text). OwnState g ks limit all end ds out at × Taking g old now all ds) (text_here all i l) w
 
 module _ (g : List Given) (ks : List ℕ) (limit : ℕ) (all : List Text) (end : ℕ) (d : Text) (rest : List Text) (out : MarkedMembers) (at : ℕ) (s : OwnState g ks limit all end (d ∷ rest) out at) where
-  pub own_at : IsTold g ks at d
-  own_at = told_here g d rest at ks s.goes.0
-
   pub own_after : (next : ℕ) (x : Shown) (new : MarkedMembers) → next ≡ at + 1 → x ≡ settled g d → shown_depth x ≤ limit
       → ((ms : MarkedMembers) → members_joined new ms ≡ members_joined out (shown_member x ms)) → OwnState g ks limit all end rest new next
   own_after next x new q is low pushed =
@@ -95,6 +98,15 @@ module _ (g : List Given) (ks : List ℕ) (limit : ℕ) (all : List Text) (end :
 
   pub own_deep : limit < shown_depth (settled g d) → limit < shown_depths (settled g) all
   own_deep h = omega (arith, h, s.part)
+
+-- what is taken with a hidden member
+module _ (g old now : List Given) (ks ends : List ℕ) (limit : ℕ) (all : List Text) (end : ℕ) (d : Text) (rest : List Text) (out : MarkedMembers) (at : ℕ)
+    (ready : IsOpenable g ks ends) (s : OwnState g ks limit all end (d ∷ rest) out at) (w : Taking g old now all (d ∷ rest)) where
+  pub own_opens : OpensFrom g now ks ends at (d ∷ []) (Unit {0})
+  own_opens = opens_part g old now ks ends at all (d ∷ []) rest (Unit {0}) w ready (first_part g (drop at ks) (d ∷ []) rest s.goes.0) tt
+
+  pub own_taken : (new : List Given) → TakesOnly g now new (d ∷ []) → Taking g old new all rest
+  own_taken new o = taking_past g old now new all (d ∷ []) rest w o
 
 -- ---- the other members
 
@@ -119,12 +131,6 @@ pub before_less : (ms : MarkedMembers) (k : Text) (ls : List Text) → AllBefore
 before_less no_marked_members k ls h = tt
 before_less (marked_member l j u ms) k ls h = (h.0.1, before_less ms k ls h.1)
 
-pub member_here : (ms : List Named) (i : ℕ) (m : Named) → i < length ms → m ≡ get_or ms i m → members_of (drop i ms) ≡ member m.0 (tree_of m.1) (members_of (drop (i + 1) ms))
-member_here ms i m l e = at_drop_more members_of ms i m l ∙ ap (λ (n : Named). member n.0 (tree_of n.1) (members_of (drop (i + 1) ms))) (sym e)
-
-pub members_end : (ms : List Named) (i : ℕ) → length ms ≤ i → members_of (drop i ms) ≡ no_members
-members_end ms i l = ap members_of (drop_of_length-le ms l)
-
 pub record MapState (g : List Given) (ks : List ℕ) (limit : ℕ) (top : Bool) (all : Members) (end : ℕ) (rest : Members) (out : MarkedMembers) (at : ℕ) : Type 0 where
   pub goes : Goes g ks (members_digests (topped top rest)) at end
   pub joins : members_joined out (open_members (settled g) (topped top rest)) ≡ open_members (settled g) (topped top all)
@@ -137,6 +143,13 @@ topped_none : (top : Bool) → topped top no_members ≡ no_members
 topped_none true = refl
 topped_none false = refl
 
+-- the next member
+pub map_here : (g old now : List Given) (ks : List ℕ) (limit : ℕ) (top : Bool) (all : Members) (end : ℕ) (us : List Named) (m : Named) (rest : List Named) (out : MarkedMembers) (at : ℕ) (ds : List Text)
+    → us ≡ m ∷ rest → MapState g ks limit top all end (members_of us) out at × Taking g old now ds (members_digests (topped top (members_of us)))
+    → MapState g ks limit top all end (member m.0 (tree_of m.1) (members_of rest)) out at × Taking g old now ds (members_digests (topped top (member m.0 (tree_of m.1) (members_of rest))))
+map_here g old now ks limit top all end us m rest out at ds e w =
+    subst (λ vs. MapState g ks limit top all end (members_of vs) out at × Taking g old now ds (members_digests (topped top (members_of vs)))) e w
+
 pub map_ends : (g : List Given) (ks : List ℕ) (limit : ℕ) (top : Bool) (all : Members) (end : ℕ) (rest : Members) (out : MarkedMembers) (at : ℕ)
     → MapState g ks limit top all end rest out at → rest ≡ no_members → (at ≡ end) × (out ≡ open_members (settled g) (topped top all)) × (map_depth out ≤ limit)
 map_ends g ks limit top all end rest out at s e =
@@ -145,11 +158,6 @@ map_ends g ks limit top all end rest out at s e =
       sym (members_joined_end out) ∙ ap (λ ms. members_joined out (open_members (settled g) ms)) (sym f) ∙ s.joins,
       s.low,
     )
-
-pub map_at : (g : List Given) (ks : List ℕ) (limit : ℕ) (top : Bool) (all : Members) (end : ℕ) (items : List Named) (i : ℕ) (m : Named) (out : MarkedMembers) (at : ℕ)
-    → i < length items → m ≡ get_or items i m → MapState g ks limit top all end (members_of (drop i items)) out at
-    → MapState g ks limit top all end (member m.0 (tree_of m.1) (members_of (drop (i + 1) items))) out at
-map_at g ks limit top all end items i m out at l e s = subst (λ ms. MapState g ks limit top all end ms out at) (member_here items i m l e) s
 
 module _ (g : List Given) (ks : List ℕ) (limit : ℕ) (top : Bool) (all : Members) (end : ℕ) (k : Text) (t : Tree) (rest : Members) (out : MarkedMembers) (at : ℕ)
     (s : MapState g ks limit top all end (member k t rest) out at) where
@@ -170,10 +178,7 @@ module _ (g : List Given) (ks : List ℕ) (limit : ℕ) (top : Bool) (all : Memb
     own_false = (topped_stays top k t rest h).1
 
     goes_kept : Goes g ks (tree_digests t ++ members_digests (topped top rest)) at end
-    goes_kept =
-        let e : members_digests (topped top (member k t rest)) ≡ tree_digests t ++ members_digests (topped top rest) =
-        ap members_digests (topped_stays top k t rest h).0 ∙ ap (λ b. cond b [] (tree_digests t) ++ members_digests (topped top rest)) own_false in
-        subst (λ ds. Goes g ks ds at end) e s.goes
+    goes_kept = subst (λ ds. Goes g ks ds at end) (kept_digests top k t rest h) s.goes
 
     joins_kept : members_joined out (marked_member k None (open_tree (settled g) t) (open_members (settled g) (topped top rest))) ≡ open_members (settled g) (topped top all)
     joins_kept =
@@ -208,16 +213,53 @@ module _ (g : List Given) (ks : List ℕ) (limit : ℕ) (top : Bool) (all : Memb
     kept_deep h =
         omega (arith, h, members_joined_depth out (marked_member k None (open_tree (settled g) t) (open_members (settled g) (topped top rest))), ap map_depth joins_kept)
 
+-- what is taken with a member
+module _ (g old now : List Given) (ks ends : List ℕ) (limit : ℕ) (top : Bool) (all : Members) (end : ℕ) (k : Text) (t : Tree) (rest : Members) (out : MarkedMembers) (at : ℕ) (ds : List Text)
+    (ready : IsOpenable g ks ends) (s : MapState g ks limit top all end (member k t rest) out at) (w : Taking g old now ds (members_digests (topped top (member k t rest)))) where
+  pub dropped_taken : stays top k ≡ false → Taking g old now ds (members_digests (topped top rest))
+  dropped_taken h = subst (Taking g old now ds) (topped_drops top k t rest h).0 w
+
+  module _ (h : stays top k ≡ true) where
+    taking_kept : Taking g old now ds (tree_digests t ++ members_digests (topped top rest))
+    taking_kept = subst (Taking g old now ds) (kept_digests top k t rest h) w
+
+    pub kept_opens : OpensFrom g now ks ends at (tree_digests t) (OpensWhole (settled g) t)
+    kept_opens =
+        let p = kept_at g ks limit top all end k t rest out at s h in
+        opens_part g old now ks ends at ds (tree_digests t) (members_digests (topped top rest)) (OpensWhole (settled g) t) taking_kept ready p.0 p.1
+
+    pub kept_taken : (new : List Given) → TakesOnly g now new (tree_digests t) → Taking g old new ds (members_digests (topped top rest))
+    kept_taken new o = taking_past g old now new ds (tree_digests t) (members_digests (topped top rest)) taking_kept o
+
 -- ---- the object
 
-module _ (g : List Given) (ks : List ℕ) (top : Bool) (ms : Members) (at : ℕ) where
-  pub object_at : TellFirst g (drop at ks) (tree_digests (object (topped top ms))) → TellFirst g (drop at ks) (sd_texts ms)
-  object_at told = subst (λ ds. TellFirst g (drop at ks) ds) (sd_texts-topped top ms) (first_part g (drop at ks) (sd_texts (topped top ms)) (members_digests (topped top ms)) told)
+module _ (g old : List Given) (ks ends : List ℕ) (top : Bool) (ms : Members) (at : ℕ)
+    (o : OpensFrom g old ks ends at (tree_digests (object (topped top ms))) (OpensWhole (settled g) (object (topped top ms)))) where
+  abbrev object_digests : List Text
+  object_digests = tree_digests (object (topped top ms))
 
-  pub object_next : (next : ℕ) → TellFirst g (drop at ks) (tree_digests (object (topped top ms))) → next ≡ at + length (sd_texts ms) → TellFirst g (drop next ks) (members_digests (topped top ms))
-  object_next next told q =
-      let l : next ≡ at + length (sd_texts (topped top ms)) = q ∙ ap (λ (ds : List Text). at + length ds) (sym (sd_texts-topped top ms)) in
-      (goes_past g ks (sd_texts (topped top ms)) (members_digests (topped top ms)) at next _ (told, refl) l).0
+  object_taking : Taking g old old object_digests (sd_texts ms ++ members_digests (topped top ms))
+  object_taking =
+      subst (λ ds. Taking g old old object_digests (ds ++ members_digests (topped top ms))) (sd_texts-topped top ms)
+      (taking_start g old ks ends at object_digests (OpensWhole (settled g) (object (topped top ms))) o)
+
+  pub object_own : OpensFrom g old ks ends at (sd_texts ms) (Unit {0})
+  object_own =
+      let told = subst (λ ds. TellFirst g (drop at ks) ds) (sd_texts-topped top ms) (first_part g (drop at ks) (sd_texts (topped top ms)) (members_digests (topped top ms)) o.told) in
+      opens_part g old old ks ends at object_digests (sd_texts ms) (members_digests (topped top ms)) (Unit {0}) object_taking o.ready told tt
+
+  module _ (now : List Given) (taken : TakesOnly g old now (sd_texts ms)) where
+    object_rest : Taking g old now object_digests (members_digests (topped top ms))
+    object_rest = taking_past g old old now object_digests (sd_texts ms) (members_digests (topped top ms)) object_taking taken
+
+    pub object_plain : (next : ℕ) → next ≡ at + length (sd_texts ms) → OpensFrom g now ks ends next (members_digests (topped top ms)) (MembersWhole (settled g) (topped top ms))
+    object_plain next q =
+        let l : next ≡ at + length (sd_texts (topped top ms)) = q ∙ ap (λ (ds : List Text). at + length ds) (sym (sd_texts-topped top ms)) in
+        let told = (goes_past g ks (sd_texts (topped top ms)) (members_digests (topped top ms)) at next _ (o.told, refl) l).0 in
+        opens_rest g old now ks ends next object_digests (members_digests (topped top ms)) (MembersWhole (settled g) (topped top ms)) object_rest o.ready told o.whole.1
+
+    pub object_taken : (new : List Given) → TakesOnly g now new (members_digests (topped top ms)) → TakesOnly g old new object_digests
+    object_taken new t = taking_last g old now new object_digests (members_digests (topped top ms)) object_rest t
 
 pub object_moved : (top : Bool) (ms : Members) (at next end : ℕ) → next ≡ at + length (sd_texts ms) → end ≡ next + length (members_digests (topped top ms))
     → end ≡ at + length (tree_digests (object (topped top ms)))

@@ -12,12 +12,8 @@ use Rattle.rebuild_core.specs.Opening.{Shown, nothing_shown, shown, open_tree, o
 use Rattle.claim_tree.proofs.Lists.{In-left, In-right, In-append, In-of_map}
 use Rattle.marked_tree.proofs.Sums.{sum_of, sum_of-append, sum_of-map}
 use Rattle.marked_tree.proofs.Puts.{put_weight, put_way, put_way_other}
-use Rattle.rebuild_core.specs.Whole.{IsNew, AllNew}
+use Rattle.rebuild_core.specs.Whole.{IsNew, AllNew, shown_weight}
 use Rattle.rebuild_core.proofs.Fits.{AreFit, Suits, object_new, fit_left, fit_right, fit_under}
-
-abbrev pub shown_weight : (ℕ → ℕ) → Shown → ℕ
-shown_weight w nothing_shown = 0
-shown_weight w (shown i n t) = w i + weight w t
 
 abbrev pub sites_weight : (ℕ → ℕ) → (Text → Shown) → List Site → ℕ
 sites_weight w r ss = sum_of (λ s. shown_weight w (r s.digest)) ss

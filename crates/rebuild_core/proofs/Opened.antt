@@ -1,22 +1,26 @@
 -- What the conditions give to opening, and what opening answers by them.
-use Rattle.std.proofs.Common.{◌≡◌, ℕ, suc, ◌^◌, ◌<◌, ◌≤◌, List, [], map, length, drop, Bool, true, false, cond, inl, Option, Some, None, MatchResult, Result, Ok, Err, refl, sym, ap, ◌∙◌, subst}
+use Rattle.std.proofs.Common.{◌≡◌, ℕ, suc, ◌+◌, ◌^◌, ◌<◌, ◌≤◌, List, [], ◌∷◌, map, length, drop, Bool, true, false, cond, inl, Option, Some, None, MatchResult, Result, Ok, Err, refl, sym, ap, ◌∙◌, subst, arith}
 use Rattle.std.specs.Prelude.{bytes_eq}
 use Rattle.claim_tree.specs.Tree.{Text, Tree, leaf, array, object, Elements, no_elements, element, Members, no_members, member, names, depth}
 use Rattle.digest_sites.specs.Reserved.{sd_name, sd_texts, element_digest}
 use Rattle.digest_sites.specs.Sites.{Step, to_member, to_element, Site, sites, element_sites, member_sites, sites_on, own_site, element_site, under}
+use Rattle.digest_sites.specs.SiteCalls.{digests}
 use Rattle.digest_sites.specs.Given.{Given}
 use Rattle.digest_sites.specs.declared.site.SiteKind.TheVariants.{Element}
 use Rattle.marked_tree.specs.Marked.{Marked, strip}
+use Rattle.marked_tree.specs.Ways.{weight, only}
 use Rattle.rebuild_core.specs.Answer.{IsProcessRefused}
 use Rattle.rebuild_core.specs.Opening.{Shown, nothing_shown, shown, open_tree, processed}
 use Rattle.rebuild_core.specs.Soundness.{IsReferencedOnce, IsWellNamed, IsSound}
 use Rattle.rebuild_core.specs.Cursor.{tree_digests, TellFirst, NumbersTell}
-use Rattle.rebuild_core.specs.Whole.{settled, IfTooDeep, IsElement, WholeOn, WholeUnless, OpensWhole, ElementsWhole, MembersWhole, IsOpenable, whole_object}
+use Rattle.rebuild_core.specs.Whole.{settled, IfTooDeep, IsElement, WholeOn, WholeUnless, OpensWhole, ElementsWhole, MembersWhole, shown_weight, uses, IsOpenable, OpensFrom, TakesOnly, whole_object}
 use Rattle.rebuild_core.specs.declared.errors.ProcessError.{ProcessError}
 use Rattle.rebuild_core.specs.declared.shown.OpenedMembers.{OpenedMembers}
 use Rattle.rebuild_core.proofs.Fits.{AreFit, Suits, fit_left, fit_right, fit_under, object_new}
 use Rattle.rebuild_core.proofs.Fixed.{processed_settles}
 use Rattle.rebuild_core.proofs.Named.{payload_fits, value_fits}
+use Rattle.rebuild_core.proofs.Marks.{sites_weight, open_weight}
+use Rattle.rebuild_core.proofs.Presented.{mark_once, inside_most}
 use Rattle.rebuild_core.proofs.Goes.{digests-sites}
 
 -- ---- where all disclosures fit, nothing is left out
@@ -57,18 +61,44 @@ mutual
 -- ---- the payload
 
 module _ (p : Tree) (g : List Given) (ok : IsReferencedOnce p g) (named : IsWellNamed p g) where
-  pub openable : (numbers ends : List ℕ) → length g < 2 ^ 32 → NumbersTell p g numbers ends → IsOpenable g numbers ends
+  sites_uses : (k : ℕ) (ss : List Site) → sites_weight (only k) (settled g) ss ≡ uses g k (digests ss)
+  sites_uses k [] = refl
+  sites_uses k (s ∷ ss) = ap (λ n. shown_weight (only k) (settled g s.digest) + n) (sites_uses k ss)
+
+  opened_uses : (k : ℕ) (t : Tree) → AreFit (settled g) (sites t) → weight (only k) (open_tree (settled g) t) ≡ uses g k (tree_digests t)
+  opened_uses k t fit = open_weight (only k) (settled g) t fit ∙ sites_uses k (sites t) ∙ ap (uses g k) (digests-sites t)
+
+  openable : (numbers ends : List ℕ) → length g < 2 ^ 32 → NumbersTell p g numbers ends → IsOpenable g numbers ends
   openable numbers ends few told = record {
     few = few;
     told = λ j x a. let w = told.values j x a in (w.0, w.1, subst (λ ds. TellFirst g (drop w.0 numbers) ds) (digests-sites x.value) w.2);
     whole = λ j x a. opens_whole (settled g) x.value (value_fits p g ok named (length g) j x a);
+    shows = λ j k x a. opened_uses k x.value (value_fits p g ok named (length g) j x a);
   }
 
-  pub payload_told : (q : Tree) → p ≡ q → (numbers ends : List ℕ) → NumbersTell p g numbers ends → TellFirst g numbers (tree_digests q)
-  payload_told q e numbers ends told = subst (λ ds. TellFirst g numbers ds) (digests-sites p ∙ ap tree_digests e) told.payload
+  -- a disclosure is shown once, or there is none with the number
+  payload_once : (k : ℕ) → uses g k (tree_digests p) ≤ 1
+  payload_once k =
+      omega (
+        arith,
+        opened_uses k p (payload_fits p g ok named (length g)),
+        ap (weight (only k)) (processed_settles p g ok),
+        mark_once p g ok named k,
+        inside_most k (length g),
+      )
 
-  pub payload_whole : (q : Tree) → p ≡ q → OpensWhole (settled g) q
-  payload_whole q e = subst (OpensWhole (settled g)) e (opens_whole (settled g) p (payload_fits p g ok named (length g)))
+  pub payload_opens : (q : Tree) → p ≡ q → (numbers ends : List ℕ) → length g < 2 ^ 32 → NumbersTell p g numbers ends
+      → OpensFrom g g numbers ends 0 (tree_digests q) (OpensWhole (settled g) q)
+  payload_opens q e numbers ends few told =
+      subst (λ (t : Tree). OpensFrom g g numbers ends 0 (tree_digests t) (OpensWhole (settled g) t)) e
+      (record {
+        ready = openable numbers ends few told;
+        told = subst (λ ds. TellFirst g numbers ds) (digests-sites p) told.payload;
+        whole = opens_whole (settled g) p (payload_fits p g ok named (length g));
+        once = payload_once;
+        there = λ k x a l. a;
+        as_many = refl;
+      })
 
   is_processed : (m : Marked) → m ≡ open_tree (settled g) p → depth (strip m) ≤ 100 → IsSound p g × (m ≡ processed p g)
   is_processed m is low =
@@ -86,8 +116,8 @@ module _ (p : Tree) (g : List Given) (ok : IsReferencedOnce p g) (named : IsWell
   is_refused (ProcessError.ReservedName i) h = elim h [ ]
   is_refused (ProcessError.NameClash i) h = elim h [ ]
 
-  pub answered : (q : Tree) → p ≡ q → (r : Result OpenedMembers ProcessError)
-      → MatchResult r (λ o. (whole_object o ≡ open_tree (settled g) q) × (depth (strip (whole_object o)) ≤ 100)) (λ e. IfTooDeep e (100 < depth (strip (open_tree (settled g) q))))
+  pub answered : (q : Tree) → p ≡ q → (r : Result OpenedMembers ProcessError) (new : List Given)
+      → MatchResult r (λ o. (whole_object o ≡ open_tree (settled g) q) × (depth (strip (whole_object o)) ≤ 100) × TakesOnly g g new (tree_digests q)) (λ e. IfTooDeep e (100 < depth (strip (open_tree (settled g) q))))
       → MatchResult r (λ o. IsSound p g × (whole_object o ≡ processed p g)) (IsProcessRefused p g)
-  answered q same (Ok o) h = is_processed (whole_object o) (h.0 ∙ ap (open_tree (settled g)) (sym same)) h.1
-  answered q same (Err e) h = is_refused e (subst (λ t. IfTooDeep e (100 < depth (strip (open_tree (settled g) t)))) (sym same) h)
+  answered q same (Ok o) new h = is_processed (whole_object o) (h.0 ∙ ap (open_tree (settled g)) (sym same)) h.1
+  answered q same (Err e) new h = is_refused e (subst (λ t. IfTooDeep e (100 < depth (strip (open_tree (settled g) t)))) (sym same) h)

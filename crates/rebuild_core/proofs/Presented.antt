@@ -9,9 +9,10 @@ use Rattle.marked_tree.specs.Marked.{Marked, MarkedElements, MarkedMembers, mark
 use Rattle.marked_tree.specs.Ways.{weight, only}
 use Rattle.marked_tree.specs.Choice.{IsClosed}
 use Rattle.rebuild_core.specs.Opening.{Shown, reveal, opened, processed}
-use Rattle.rebuild_core.specs.Soundness.{IsReferencedOnce, IsSound}
+use Rattle.rebuild_core.specs.Soundness.{IsReferencedOnce, IsWellNamed, IsSound}
 use Rattle.rebuild_core.specs.Laws.{IsPick, Enumerates, IsPresentation, Presentation, position_from, OneNode}
 use Rattle.rebuild_core.specs.Readable.{IsReadable}
+use Rattle.rebuild_core.specs.Whole.{shown_weight}
 use Rattle.claim_tree.proofs.Lists.{At-In}
 use Rattle.rebuild_core.proofs.OneSite.{one_site_holds}
 use Rattle.marked_tree.proofs.MarkFacts.{one_if_same, none_if_less, none_if_more, same_or_more}
@@ -19,7 +20,7 @@ use Rattle.marked_tree.proofs.Sums.{sum_of}
 use Rattle.rebuild_core.proofs.Fixed.{fixed, unknown, processed_settles, disclosures_sum}
 use Rattle.rebuild_core.proofs.Fits.{remark_open}
 use Rattle.rebuild_core.proofs.Named.{payload_fits, value_fits}
-use Rattle.rebuild_core.proofs.Marks.{shown_weight, open_weight}
+use Rattle.rebuild_core.proofs.Marks.{open_weight}
 use Rattle.rebuild_core.proofs.Pick.{distinct_pairs, place_none, c14_holds, c15_holds, c16_holds, named_holds, reveal_picked}
 use Rattle.rebuild_core.proofs.Reach.{c17_holds}
 use Rattle.marked_tree.proofs.Remarks.{depth-remark}
@@ -111,19 +112,19 @@ sum_with_numbers f h w i [] e = refl
 sum_with_numbers f h w i (x ∷ g) e =
     omega (arith, e 0 i x (omega arith) refl, sum_with_numbers f h w (suc i) g (λ k n y q a. e (suc k) n y (omega arith) a))
 
-weight_is : (p : Tree) (g : List Given) → IsSound p g → (w : ℕ → ℕ) → weight w (processed p g) ≡ numbers_sum w 0 g
-weight_is p g sound w =
+weight_is : (p : Tree) (g : List Given) → IsReferencedOnce p g → IsWellNamed p g → (w : ℕ → ℕ) → weight w (processed p g) ≡ numbers_sum w 0 g
+weight_is p g ok named w =
     let r : Text → Shown = reveal (length g) g in
     let f : Text → ℕ = λ d. shown_weight w (r d) in
-    let top = open_weight w r p (payload_fits p g sound.referenced sound.named (length g)) in
-    let all = disclosures_sum p g sound.referenced f (λ d e. ap (shown_weight w) (unknown (length g) g d e)) in
+    let top = open_weight w r p (payload_fits p g ok named (length g)) in
+    let all = disclosures_sum p g ok f (λ d e. ap (shown_weight w) (unknown (length g) g d e)) in
     let each = sum_with_numbers (λ x. f x.digest) (λ x. sum_of (λ s. f s.digest) (sites x.value)) w 0 g
     (λ k n x q a.
     let z : n ≡ k = omega arith in
-    omega (arith, ap (shown_weight w) (fixed p g sound.referenced k x a), ap w z, open_weight w r x.value (value_fits p g sound.referenced sound.named (length g) k x a))) in
-    omega (arith, top, all, each, ap (weight w) (processed_settles p g sound.referenced))
+    omega (arith, ap (shown_weight w) (fixed p g ok k x a), ap w z, open_weight w r x.value (value_fits p g ok named (length g) k x a))) in
+    omega (arith, top, all, each, ap (weight w) (processed_settles p g ok))
 
-abbrev inside : ℕ → ℕ → ℕ
+abbrev pub inside : ℕ → ℕ → ℕ
 inside i n = cond (ltb i n) 1 0
 
 within_is : (i n : ℕ) → i < n → inside i n ≡ 1
@@ -144,5 +145,11 @@ numbers_of_one i k (x ∷ g) l = go (same_or_more i k l) (numbers_of_one i (suc 
     go (inl e) ih = omega (arith, one_if_same i k e, past i (suc k) g (omega arith), within_is i (k + suc (length g)) (omega arith))
     go (inr m) ih = omega (arith, none_if_more i k m, ih (omega arith), ap (inside i) (let q : suc k + length g ≡ k + suc (length g) = omega arith in q))
 
+pub mark_once : (p : Tree) (g : List Given) → IsReferencedOnce p g → IsWellNamed p g → (i : ℕ) → weight (only i) (processed p g) ≡ inside i (length g)
+mark_once p g ok named i = weight_is p g ok named (only i) ∙ numbers_of_one i 0 g (omega arith) ∙ ap (inside i) (let e : 0 + length g ≡ length g = omega arith in e)
+
+pub inside_most : (i n : ℕ) → inside i n ≤ 1
+inside_most i n = grind (arith, nat_tests)
+
 pub one_node_holds : OneNode
-one_node_holds p g readable sound i = weight_is p g sound (only i) ∙ numbers_of_one i 0 g (omega arith) ∙ ap (λ n. cond (ltb i n) 1 0) (let e : 0 + length g ≡ length g = omega arith in e)
+one_node_holds p g readable sound i = mark_once p g sound.referenced sound.named i

@@ -1,5 +1,5 @@
--- For private functions: what is shown, and how deep it is.
-use Rattle.std.specs.Prelude.{ℕ, ◌<◌, ◌^◌, max, List, [], ◌∷◌, length, Bool, true, false, Option, Some, None, not, ◌&&◌, bytes_eq, if◌then◌else◌}
+-- For private functions: what is shown, how deep it is, and what is left of the disclosures.
+use Rattle.std.specs.Prelude.{◌≡◌, ℕ, ◌+◌, ◌<◌, ◌≤◌, ◌^◌, max, List, [], ◌∷◌, length, drop, Bool, true, false, Option, Some, None, not, ◌&&◌, bytes_eq, if◌then◌else◌}
 use Rattle.claim_tree.specs.Tree.{Text, Tree, leaf, array, object, Elements, no_elements, element, Members, no_members, member, depth}
 use Rattle.claim_tree.specs.Lists.{StandsAt, In}
 use Rattle.claim_tree.specs.Removed.{removed}
@@ -8,9 +8,10 @@ use Rattle.digest_sites.specs.Given.{Given}
 use Rattle.marked_tree.specs.Marked.{Marked, marked_object, strip, MarkedElements, no_marked_elements, marked_element, MarkedMembers, no_marked_members, marked_member}
 use Rattle.marked_tree.specs.MarkedCalls.{marked_names, put_all}
 use Rattle.marked_tree.specs.View.{marked_of, marked_members_of}
+use Rattle.marked_tree.specs.Ways.{weight, only}
 use Rattle.rebuild_core.specs.Payload.{alg_name}
-use Rattle.rebuild_core.specs.Opening.{Shown, nothing_shown, shown, show_member, reveal, open_members}
-use Rattle.rebuild_core.specs.Cursor.{tree_digests, TellEach}
+use Rattle.rebuild_core.specs.Opening.{Shown, nothing_shown, shown, show_member, reveal, open_tree, open_members}
+use Rattle.rebuild_core.specs.Cursor.{tree_digests, TellFirst, TellEach}
 use Rattle.rebuild_core.specs.declared.errors.ProcessError.{ProcessError}
 use Rattle.rebuild_core.specs.declared.shown.OpenedMembers.{OpenedMembers}
 use Rattle.rebuild_core.specs.declared.shown.Revealed.{Revealed}
@@ -125,8 +126,34 @@ abbrev mutual
 
 -- ---- what every step of opening asks
 
--- the numbers of all values, and that each value opens whole
+-- the sum of w over the marks of what is shown, its own and those inside it
+abbrev pub shown_weight : (ℕ → ℕ) → Shown → ℕ
+shown_weight w nothing_shown = 0
+shown_weight w (shown i name t) = w i + weight w t
+
+-- how often the disclosure with number k is shown where these digests stand
+abbrev pub uses : List Given → ℕ → List Text → ℕ
+uses given k [] = 0
+uses given k (digest ∷ digests) = shown_weight (only k) (settled given digest) + uses given k digests
+
+-- the numbers of all values, that each value opens whole, and what it shows
 pub record IsOpenable (given : List Given) (numbers ends : List ℕ) : Type 0 where
   pub few : length given < 2 ^ 32
   pub told : TellEach tree_digests given numbers ends
   pub whole : (j : ℕ) (x : Given) → StandsAt given j x → OpensWhole (settled given) x.value
+  pub shows : (j k : ℕ) (x : Given) → StandsAt given j x → weight (only k) (open_tree (settled given) x.value) ≡ uses given k (tree_digests x.value)
+
+-- What is opened is taken out of its place: `given` are all disclosures as they came in, and `left` is the list as it is
+-- now. It still has those that the digests show, each of them once.
+pub record OpensFrom (given left : List Given) (numbers ends : List ℕ) (at : ℕ) (digests : List Text) (Whole : Type 0) : Type 0 where
+  pub ready : IsOpenable given numbers ends
+  pub told : TellFirst given (drop at numbers) digests
+  pub whole : Whole
+  pub once : (k : ℕ) → uses given k digests ≤ 1
+  pub there : (k : ℕ) (x : Given) → StandsAt given k x → 0 < uses given k digests → StandsAt left k x
+  pub as_many : length left ≡ length given
+
+-- those that the digests do not show stay as they are
+pub record TakesOnly (given old new : List Given) (digests : List Text) : Type 0 where
+  pub spared : (k : ℕ) (x : Given) → uses given k digests ≡ 0 → StandsAt old k x → StandsAt new k x
+  pub as_many : length new ≡ length old

@@ -1,27 +1,26 @@
-// A payload opened without search: the digests of its sites are read as numbers, in their order.
-ghost use Rattle.std.specs.Prelude.{◌≡◌, ℕ, ◌+◌, ◌^◌, ◌<◌, ◌≤◌, [], length, drop, slice_index, OnOk, IfOk, MatchOption, MatchResult};
+// A payload opened without search: the digests of its sites are read as numbers, in their order. What is shown is moved.
+ghost use Rattle.std.specs.Prelude.{◌≡◌, ◌+◌, ◌^◌, ◌<◌, ◌≤◌, List, [], ◌∷◌, length, OnOk, IfOk, MatchResult};
 ghost use Rattle.claim_tree.specs.Tree.{Text, object, depth, elements_depth, members_depth};
-ghost use Rattle.claim_tree.specs.Lists.{StandsAt};
 ghost use Rattle.claim_tree.specs.View.{tree_of};
-ghost use Rattle.digest_sites.specs.Reserved.{sd_texts, element_digest as digest_in};
-ghost use Rattle.digest_sites.specs.GivenView.{given_of};
+ghost use Rattle.digest_sites.specs.Reserved.{sd_texts};
+ghost use Rattle.digest_sites.specs.Given.{Given};
 ghost use Rattle.marked_tree.specs.Marked.{strip, strip_elements, strip_members};
 ghost use Rattle.marked_tree.specs.View.{marked_of, marked_members_of};
 ghost use Rattle.rebuild_core.specs.Answer.{IsPayload, IsProcessRefused};
 ghost use Rattle.rebuild_core.specs.Soundness.{IsReferencedOnce, IsWellNamed, IsSound};
 ghost use Rattle.rebuild_core.specs.Payload.{without_alg};
 ghost use Rattle.rebuild_core.specs.Opening.{open_tree, open_elements, open_members, processed};
-ghost use Rattle.rebuild_core.specs.Cursor.{NumberTells, TellFirst, NumbersTell, tree_digests, elements_digests, members_digests};
-ghost use Rattle.rebuild_core.specs.Whole.{IsOpenable, OpensWhole, ElementsWhole, MembersWhole, IfTooDeep, settled, shown_of, shown_depth, shown_depths, shown_members, topped, stays as stays_in, whole_object};
+ghost use Rattle.rebuild_core.specs.Cursor.{NumbersTell, tree_digests, elements_digests, members_digests};
+ghost use Rattle.rebuild_core.specs.Whole.{OpensFrom, TakesOnly, OpensWhole, ElementsWhole, MembersWhole, IfTooDeep, settled, shown_of, shown_depth, shown_depths, shown_members, topped, stays as stays_in, whole_object};
 
 use crate::ProcessError;
 use crate::graph::Graph;
 use crate::names::is_alg;
 use crate::shown::{OpenedMembers, Revealed, push_element, push_member};
 use claim_tree::{Tree, TreeList, TreeMap};
-use digest_sites::{Given, GivenList, element_digest, is_sd, own_count};
+use digest_sites::{GivenList, element_digest, is_sd, own_count};
 use marked_tree::{Marked, MarkedList, MarkedMap};
-use sd_outside::{NoMemory, TextBox, copy_text};
+use sd_outside::{NoMemory, TextBox};
 use std::alloc::Global;
 
 // Whether a member is none of those that only say where disclosures stand.
@@ -31,38 +30,29 @@ fn stays(top: bool, name: &TextBox) -> bool
     !is_sd(name) && !(top && is_alg(name))
 }
 
-// The disclosure with a number, if there is one.
-#[tactic(auto, using(crate::proofs::ListOpening::disclosure_found))]
-fn disclosure<'a>(given: &'a GivenList, number: usize) -> Option<&'a Given>
-    ensures { MatchOption result (length given.now ≤ number) (λ item. StandsAt given.now number (given_of item.now)) }
-{
-    given.at(number)
-}
-
-// What the digest at the cursor shows.
+// What the digest at the cursor shows, taken out of its place.
 #[cycle(opening)]
 fn open_next(
     alloc: Global,
     limit: usize,
-    given: &GivenList,
+    given: &mut GivenList,
     graph: &Graph,
     at: &mut usize,
 ) -> Result<Option<Revealed>, ProcessError>
-    requires ready { IsOpenable given.now graph.now.numbers.items graph.now.ends.items }
-    requires within { at.old < length graph.now.numbers.items }
+    requires ready { (g : List Given) × (digest : Text) × OpensFrom g given.old graph.now.numbers.items graph.now.ends.items at.old (digest ∷ []) (Unit {0}) }
     ensures moved { OnOk result (at.new ≡ at.old + 1) }
-    ensures shown { (digest : Text) → NumberTells given.now (slice_index graph.now.numbers.items at.old) digest → MatchResult result (λ r. (shown_of r ≡ settled given.now digest) × (shown_depth (shown_of r) ≤ limit)) (λ e. IfTooDeep e (limit < shown_depth (settled given.now digest))) }
+    ensures opened { (g : List Given) (digest : Text) → OpensFrom g given.old graph.now.numbers.items graph.now.ends.items at.old (digest ∷ []) (Unit {0}) → MatchResult result (λ r. (shown_of r ≡ settled g digest) × (shown_depth (shown_of r) ≤ limit) × TakesOnly g given.old given.new (digest ∷ [])) (λ e. IfTooDeep e (limit < shown_depth (settled g digest))) }
 {
     let number = graph.numbers[*at];
     *at += 1;
-    let Some(item) = disclosure(given, number) else {
+    let Some((name, value)) = given.take(number) else {
         return Ok(None);
     };
     let mut inside = graph.ends[number];
-    let tree = open(alloc, limit, given, graph, &mut inside, &item.value)?;
+    let tree = open(alloc, limit, given, graph, &mut inside, value)?;
     Ok(Some(Revealed {
         mark: number as u32,
-        name: copy_text(alloc, &item.name)?,
+        name,
         tree,
     }))
 }
@@ -71,28 +61,23 @@ fn open_next(
 fn open_list(
     alloc: Global,
     limit: usize,
-    given: &GivenList,
+    given: &mut GivenList,
     graph: &Graph,
     at: &mut usize,
-    list: &TreeList,
+    list: TreeList,
 ) -> Result<MarkedList, ProcessError>
-    requires ready { IsOpenable given.now graph.now.numbers.items graph.now.ends.items }
-    requires numbered { TellFirst given.now (drop at.old graph.now.numbers.items) (elements_digests list.now) }
-    requires whole { ElementsWhole (settled given.now) list.now }
-    ensures moved { OnOk result (at.new ≡ at.old + length (elements_digests list.now)) }
-    ensures opened { MatchResult result (λ out. (out ≡ open_elements (settled given.now) list.now) × (elements_depth (strip_elements out) ≤ limit)) (λ e. IfTooDeep e (limit < elements_depth (strip_elements (open_elements (settled given.now) list.now)))) }
+    requires ready { (g : List Given) × OpensFrom g given.old graph.now.numbers.items graph.now.ends.items at.old (elements_digests list) (ElementsWhole (settled g) list) }
+    ensures moved { OnOk result (at.new ≡ at.old + length (elements_digests list)) }
+    ensures opened { (g : List Given) → OpensFrom g given.old graph.now.numbers.items graph.now.ends.items at.old (elements_digests list) (ElementsWhole (settled g) list) → MatchResult result (λ out. (out ≡ open_elements (settled g) list) × (elements_depth (strip_elements out) ≤ limit) × TakesOnly g given.old given.new (elements_digests list)) (λ e. IfTooDeep e (limit < elements_depth (strip_elements (open_elements (settled g) list)))) }
 {
     let mut out = MarkedList::with_capacity(alloc, list.len())?;
-    for tree in list.trees() {
-        match element_digest(tree) {
-            None => {
-                let plain = open(alloc, limit, given, graph, at, tree)?;
-                out.push(None, plain)?;
-            }
-            Some(_) => {
-                let shown = open_next(alloc, limit, given, graph, at)?;
-                push_element(&mut out, shown)?;
-            }
+    for tree in list.into_trees() {
+        if element_digest(&tree).is_some() {
+            let shown = open_next(alloc, limit, given, graph, at)?;
+            push_element(&mut out, shown)?;
+        } else {
+            let plain = open(alloc, limit, given, graph, at, tree)?;
+            out.push(None, plain)?;
         }
     }
     Ok(out)
@@ -113,15 +98,14 @@ fn room_for_members(
 fn open_own(
     alloc: Global,
     limit: usize,
-    given: &GivenList,
+    given: &mut GivenList,
     graph: &Graph,
     at: &mut usize,
     map: &TreeMap,
 ) -> Result<Vec<(TextBox, Option<u32>, Marked)>, ProcessError>
-    requires ready { IsOpenable given.now graph.now.numbers.items graph.now.ends.items }
-    requires numbered { TellFirst given.now (drop at.old graph.now.numbers.items) (sd_texts map.now) }
+    requires ready { (g : List Given) × OpensFrom g given.old graph.now.numbers.items graph.now.ends.items at.old (sd_texts map.now) (Unit {0}) }
     ensures moved { OnOk result (at.new ≡ at.old + length (sd_texts map.now)) }
-    ensures opened { MatchResult result (λ out. (marked_members_of out.items ≡ shown_members (settled given.now) (sd_texts map.now)) × (shown_depths (settled given.now) (sd_texts map.now) ≤ limit)) (λ e. IfTooDeep e (limit < shown_depths (settled given.now) (sd_texts map.now))) }
+    ensures opened { (g : List Given) → OpensFrom g given.old graph.now.numbers.items graph.now.ends.items at.old (sd_texts map.now) (Unit {0}) → MatchResult result (λ out. (marked_members_of out.items ≡ shown_members (settled g) (sd_texts map.now)) × (shown_depths (settled g) (sd_texts map.now) ≤ limit) × TakesOnly g given.old given.new (sd_texts map.now)) (λ e. IfTooDeep e (limit < shown_depths (settled g) (sd_texts map.now))) }
 {
     let count = own_count(map);
     let mut out = room_for_members(alloc, count)?;
@@ -138,22 +122,20 @@ fn open_plain(
     alloc: Global,
     limit: usize,
     top: bool,
-    given: &GivenList,
+    given: &mut GivenList,
     graph: &Graph,
     at: &mut usize,
-    map: &TreeMap,
+    map: TreeMap,
 ) -> Result<MarkedMap, ProcessError>
-    requires ready { IsOpenable given.now graph.now.numbers.items graph.now.ends.items }
-    requires numbered { TellFirst given.now (drop at.old graph.now.numbers.items) (members_digests (topped top map.now)) }
-    requires whole { MembersWhole (settled given.now) (topped top map.now) }
-    ensures moved { OnOk result (at.new ≡ at.old + length (members_digests (topped top map.now))) }
-    ensures opened { MatchResult result (λ out. (out ≡ open_members (settled given.now) (topped top map.now)) × (members_depth (strip_members out) ≤ limit)) (λ e. IfTooDeep e (limit < members_depth (strip_members (open_members (settled given.now) (topped top map.now))))) }
+    requires ready { (g : List Given) × OpensFrom g given.old graph.now.numbers.items graph.now.ends.items at.old (members_digests (topped top map)) (MembersWhole (settled g) (topped top map)) }
+    ensures moved { OnOk result (at.new ≡ at.old + length (members_digests (topped top map))) }
+    ensures opened { (g : List Given) → OpensFrom g given.old graph.now.numbers.items graph.now.ends.items at.old (members_digests (topped top map)) (MembersWhole (settled g) (topped top map)) → MatchResult result (λ out. (out ≡ open_members (settled g) (topped top map)) × (members_depth (strip_members out) ≤ limit) × TakesOnly g given.old given.new (members_digests (topped top map))) (λ e. IfTooDeep e (limit < members_depth (strip_members (open_members (settled g) (topped top map))))) }
 {
     let mut out = MarkedMap::with_capacity(alloc, map.len())?;
-    for (name, tree) in map.members() {
-        if stays(top, name) {
+    for (name, tree) in map.into_members() {
+        if stays(top, &name) {
             let plain = open(alloc, limit, given, graph, at, tree)?;
-            out.put(TextBox::make(alloc, name.as_str())?, None, plain)?;
+            out.put(name, None, plain)?;
         }
     }
     Ok(out)
@@ -165,21 +147,19 @@ fn open_parts(
     alloc: Global,
     limit: usize,
     top: bool,
-    given: &GivenList,
+    given: &mut GivenList,
     graph: &Graph,
     at: &mut usize,
-    map: &TreeMap,
+    map: TreeMap,
 ) -> Result<OpenedMembers, ProcessError>
-    requires ready { IsOpenable given.now graph.now.numbers.items graph.now.ends.items }
-    requires numbered { TellFirst given.now (drop at.old graph.now.numbers.items) (tree_digests (object (topped top map.now))) }
-    requires whole { OpensWhole (settled given.now) (object (topped top map.now)) }
-    ensures moved { OnOk result (at.new ≡ at.old + length (tree_digests (object (topped top map.now)))) }
-    ensures opened { MatchResult result (λ o. (whole_object o ≡ open_tree (settled given.now) (object (topped top map.now))) × (depth (strip (whole_object o)) ≤ limit)) (λ e. IfTooDeep e (limit < depth (strip (open_tree (settled given.now) (object (topped top map.now)))))) }
+    requires ready { (g : List Given) × OpensFrom g given.old graph.now.numbers.items graph.now.ends.items at.old (tree_digests (object (topped top map))) (OpensWhole (settled g) (object (topped top map))) }
+    ensures moved { OnOk result (at.new ≡ at.old + length (tree_digests (object (topped top map)))) }
+    ensures opened { (g : List Given) → OpensFrom g given.old graph.now.numbers.items graph.now.ends.items at.old (tree_digests (object (topped top map))) (OpensWhole (settled g) (object (topped top map))) → MatchResult result (λ o. (whole_object o ≡ open_tree (settled g) (object (topped top map))) × (depth (strip (whole_object o)) ≤ limit) × TakesOnly g given.old given.new (tree_digests (object (topped top map)))) (λ e. IfTooDeep e (limit < depth (strip (open_tree (settled g) (object (topped top map)))))) }
 {
     if limit == 0 {
         return Err(ProcessError::TooDeep);
     }
-    let hidden = open_own(alloc, limit - 1, given, graph, at, map)?;
+    let hidden = open_own(alloc, limit - 1, given, graph, at, &map)?;
     let plain = open_plain(alloc, limit - 1, top, given, graph, at, map)?;
     Ok(OpenedMembers { hidden, plain })
 }
@@ -188,16 +168,14 @@ fn open_parts(
 fn open_object(
     alloc: Global,
     limit: usize,
-    given: &GivenList,
+    given: &mut GivenList,
     graph: &Graph,
     at: &mut usize,
-    map: &TreeMap,
+    map: TreeMap,
 ) -> Result<Marked, ProcessError>
-    requires ready { IsOpenable given.now graph.now.numbers.items graph.now.ends.items }
-    requires numbered { TellFirst given.now (drop at.old graph.now.numbers.items) (tree_digests (object map.now)) }
-    requires whole { OpensWhole (settled given.now) (object map.now) }
-    ensures moved { OnOk result (at.new ≡ at.old + length (tree_digests (object map.now))) }
-    ensures opened { MatchResult result (λ m. (marked_of m ≡ open_tree (settled given.now) (object map.now)) × (depth (strip (marked_of m)) ≤ limit)) (λ e. IfTooDeep e (limit < depth (strip (open_tree (settled given.now) (object map.now))))) }
+    requires ready { (g : List Given) × OpensFrom g given.old graph.now.numbers.items graph.now.ends.items at.old (tree_digests (object map)) (OpensWhole (settled g) (object map)) }
+    ensures moved { OnOk result (at.new ≡ at.old + length (tree_digests (object map))) }
+    ensures opened { (g : List Given) → OpensFrom g given.old graph.now.numbers.items graph.now.ends.items at.old (tree_digests (object map)) (OpensWhole (settled g) (object map)) → MatchResult result (λ m. (marked_of m ≡ open_tree (settled g) (object map)) × (depth (strip (marked_of m)) ≤ limit) × TakesOnly g given.old given.new (tree_digests (object map))) (λ e. IfTooDeep e (limit < depth (strip (open_tree (settled g) (object map))))) }
 {
     let members = open_parts(alloc, limit, false, given, graph, at, map)?;
     Ok(members.into_object(alloc)?)
@@ -208,22 +186,20 @@ fn open_object(
 fn open(
     alloc: Global,
     limit: usize,
-    given: &GivenList,
+    given: &mut GivenList,
     graph: &Graph,
     at: &mut usize,
-    tree: &Tree,
+    tree: Tree,
 ) -> Result<Marked, ProcessError>
-    requires ready { IsOpenable given.now graph.now.numbers.items graph.now.ends.items }
-    requires numbered { TellFirst given.now (drop at.old graph.now.numbers.items) (tree_digests (tree_of tree.now)) }
-    requires whole { OpensWhole (settled given.now) (tree_of tree.now) }
-    ensures moved { OnOk result (at.new ≡ at.old + length (tree_digests (tree_of tree.now))) }
-    ensures opened { MatchResult result (λ m. (marked_of m ≡ open_tree (settled given.now) (tree_of tree.now)) × (depth (strip (marked_of m)) ≤ limit)) (λ e. IfTooDeep e (limit < depth (strip (open_tree (settled given.now) (tree_of tree.now))))) }
+    requires ready { (g : List Given) × OpensFrom g given.old graph.now.numbers.items graph.now.ends.items at.old (tree_digests (tree_of tree)) (OpensWhole (settled g) (tree_of tree)) }
+    ensures moved { OnOk result (at.new ≡ at.old + length (tree_digests (tree_of tree))) }
+    ensures opened { (g : List Given) → OpensFrom g given.old graph.now.numbers.items graph.now.ends.items at.old (tree_digests (tree_of tree)) (OpensWhole (settled g) (tree_of tree)) → MatchResult result (λ m. (marked_of m ≡ open_tree (settled g) (tree_of tree)) × (depth (strip (marked_of m)) ≤ limit) × TakesOnly g given.old given.new (tree_digests (tree_of tree))) (λ e. IfTooDeep e (limit < depth (strip (open_tree (settled g) (tree_of tree))))) }
 {
     match tree {
         Tree::Null => Ok(Marked::Null),
-        Tree::Flag(flag) => Ok(Marked::Flag(*flag)),
-        Tree::Whole(n) => Ok(Marked::Whole(*n)),
-        Tree::Text(text) => Ok(Marked::Text(TextBox::make(alloc, text.as_str())?)),
+        Tree::Flag(flag) => Ok(Marked::Flag(flag)),
+        Tree::Whole(n) => Ok(Marked::Whole(n)),
+        Tree::Text(text) => Ok(Marked::Text(text)),
         Tree::List(list) => {
             if limit == 0 {
                 return Err(ProcessError::TooDeep);
@@ -238,16 +214,16 @@ fn open(
 // The members of the payload, without its own `_sd_alg`. The numbers begin with those of its digests.
 pub(crate) fn open_top(
     alloc: Global,
-    payload: &Tree,
-    given: &GivenList,
+    payload: Tree,
+    given: &mut GivenList,
     graph: &Graph,
 ) -> Result<OpenedMembers, ProcessError>
-    requires object { IsPayload (tree_of payload.now) }
-    requires few { length given.now < 2 ^ 32 }
-    requires referenced { IsReferencedOnce (without_alg (tree_of payload.now)) given.now }
-    requires named { IsWellNamed (without_alg (tree_of payload.now)) given.now }
-    requires told { NumbersTell (without_alg (tree_of payload.now)) given.now graph.now.numbers.items graph.now.ends.items }
-    ensures { MatchResult result (λ o. IsSound (without_alg (tree_of payload.now)) given.now × (whole_object o ≡ processed (without_alg (tree_of payload.now)) given.now)) (IsProcessRefused (without_alg (tree_of payload.now)) given.now) }
+    requires object { IsPayload (tree_of payload) }
+    requires few { length given.old < 2 ^ 32 }
+    requires referenced { IsReferencedOnce (without_alg (tree_of payload)) given.old }
+    requires named { IsWellNamed (without_alg (tree_of payload)) given.old }
+    requires told { NumbersTell (without_alg (tree_of payload)) given.old graph.now.numbers.items graph.now.ends.items }
+    ensures { MatchResult result (λ o. IsSound (without_alg (tree_of payload)) given.old × (whole_object o ≡ processed (without_alg (tree_of payload)) given.old)) (IsProcessRefused (without_alg (tree_of payload)) given.old) }
 {
     let mut at = 0;
     match payload {

@@ -19,41 +19,59 @@ use crate::opening::open_top;
 use crate::references::{References, check_references};
 use crate::shown::OpenedMembers;
 use crate::unhidden::{is_unhidden, move_out};
-use claim_tree::Tree;
+use claim_tree::{Tree, copy};
 use digest_index::Steps;
-use digest_sites::GivenList;
+use digest_sites::{Given, GivenList};
 use marked_tree::{Marked, into_tree};
+use sd_outside::{NoMemory, TextBox, copy_text};
 use std::alloc::Global;
 
 // The members of the payload, with their disclosures in their places, or why the token is refused.
 fn open_judged(
     alloc: Global,
-    payload: &Tree,
-    given: &GivenList,
+    payload: Tree,
+    given: GivenList,
     seed: u64,
     steps: &mut Steps,
 ) -> Result<OpenedMembers, ProcessError>
-    requires object { IsPayload (tree_of payload.now) }
-    requires payload_depth { depth (tree_of payload.now) ≤ 127 }
-    requires values_depth { ValuesShallow given.now }
-    requires payload_range { IsRanged (tree_of payload.now) }
-    requires values_range { ValuesRanged given.now }
-    requires few { length given.now < 2 ^ 32 - 1 }
-    ensures opened { MatchResult result (λ o. IsSound (without_alg (tree_of payload.now)) given.now × (whole_object o ≡ processed (without_alg (tree_of payload.now)) given.now)) (IsProcessRefused (without_alg (tree_of payload.now)) given.now) }
+    requires object { IsPayload (tree_of payload) }
+    requires payload_depth { depth (tree_of payload) ≤ 127 }
+    requires values_depth { ValuesShallow given }
+    requires payload_range { IsRanged (tree_of payload) }
+    requires values_range { ValuesRanged given }
+    requires few { length given < 2 ^ 32 - 1 }
+    ensures opened { MatchResult result (λ o. IsSound (without_alg (tree_of payload)) given × (whole_object o ≡ processed (without_alg (tree_of payload)) given)) (IsProcessRefused (without_alg (tree_of payload)) given) }
     ensures ranged { IfOk result (λ o. IsRanged (strip (whole_object o))) }
-    ensures counted { IfOk result (λ _. steps.new ≡ counted steps.old (look_ups (without_alg (tree_of payload.now)) given.now)) }
-    ensures risen { RoseWithin (look_ups (without_alg (tree_of payload.now)) given.now) steps.old steps.new }
+    ensures counted { IfOk result (λ _. steps.new ≡ counted steps.old (look_ups (without_alg (tree_of payload)) given)) }
+    ensures risen { RoseWithin (look_ups (without_alg (tree_of payload)) given) steps.old steps.new }
 {
-    let References { rows, graph } = match check_references(alloc, payload, given, seed, steps) {
+    let References { rows, graph } = match check_references(alloc, &payload, &given, seed, steps) {
         Ok(found) => found,
         Err(e) => return Err(e),
     };
     let numbers = graph.numbers.as_slice();
-    if let Err(e) = check_names(alloc, payload, given, rows.as_slice(), numbers, seed) {
+    if let Err(e) = check_names(alloc, &payload, &given, rows.as_slice(), numbers, seed) {
         return Err(e);
     }
     drop(rows);
-    open_top(alloc, payload, given, &graph)
+    let mut given = given;
+    open_top(alloc, payload, &mut given, &graph)
+}
+
+// Equal disclosures, with texts of their own.
+fn copy_given(alloc: Global, given: &GivenList) -> Result<GivenList, NoMemory>
+    requires { ValuesShallow given.now }
+    ensures { IfOk result (λ copies. copies ≡ given.now) }
+{
+    let mut copies = GivenList::with_capacity(alloc, given.len())?;
+    for item in given.items() {
+        copies.push(Given {
+            digest: TextBox::make(alloc, item.digest.as_str())?,
+            name: copy_text(alloc, &item.name)?,
+            value: copy(alloc, &item.value)?,
+        })?;
+    }
+    Ok(copies)
 }
 
 /// The payload with its disclosures in their places, RFC 9901 section 7.1, or the lowest of the conditions 14 to 21
@@ -65,6 +83,8 @@ fn open_judged(
 ///
 /// Each given digest and each digest of a site is looked up once, and what follows works on numbers. So time and memory
 /// grow with n log n, and the answer is built no deeper than 100, whatever the input. `steps` counts the look-ups.
+///
+/// Payload and disclosures are copied. [`process_seeded`] takes them, and moves what they say.
 pub fn process(
     alloc: Global,
     payload: &Tree,
@@ -86,33 +106,35 @@ pub fn process(
     ensures counted { IfOk result (λ _. steps.new ≡ counted steps.old (look_ups (without_alg (tree_of payload.now)) given.now)) }
     ensures risen { RoseWithin (look_ups (without_alg (tree_of payload.now)) given.now) steps.old steps.new }
 {
+    let payload = copy(alloc, payload)?;
+    let given = copy_given(alloc, given)?;
     process_seeded(alloc, payload, given, 0, steps)
 }
 
-/// The same, where the digests are hashed with a seed. No answer depends on it, but who knows it can choose digests
-/// that are slow to look up together: who reads what others wrote gives one that they couldn't know when they chose the
-/// digests.
+/// The same, of a payload and disclosures that are given away, where the digests are hashed with a seed. No answer
+/// depends on the seed, but who knows it can choose digests that are slow to look up together: who reads what others
+/// wrote gives one that they couldn't know when they chose the digests.
 pub fn process_seeded(
     alloc: Global,
-    payload: &Tree,
-    given: &GivenList,
+    payload: Tree,
+    given: GivenList,
     seed: u64,
     steps: &mut Steps,
 ) -> Result<Marked, ProcessError>
-    requires object { IsPayload (tree_of payload.now) }
-    requires payload_depth { depth (tree_of payload.now) ≤ 127 }
-    requires values_depth { ValuesShallow given.now }
-    requires payload_range { IsRanged (tree_of payload.now) }
-    requires values_range { ValuesRanged given.now }
-    requires few { length given.now < 2 ^ 32 - 1 }
-    ensures sound { IfOk result (λ _. IsSound (without_alg (tree_of payload.now)) given.now) }
-    ensures processed { IfOk result (λ marked. marked_of marked ≡ processed (without_alg (tree_of payload.now)) given.now) }
+    requires object { IsPayload (tree_of payload) }
+    requires payload_depth { depth (tree_of payload) ≤ 127 }
+    requires values_depth { ValuesShallow given }
+    requires payload_range { IsRanged (tree_of payload) }
+    requires values_range { ValuesRanged given }
+    requires few { length given < 2 ^ 32 - 1 }
+    ensures sound { IfOk result (λ _. IsSound (without_alg (tree_of payload)) given) }
+    ensures processed { IfOk result (λ marked. marked_of marked ≡ processed (without_alg (tree_of payload)) given) }
     ensures ranged { IfOk result (λ marked. IsRanged (strip (marked_of marked))) }
-    ensures refused { IfErr result (IsProcessRefused (without_alg (tree_of payload.now)) given.now) }
+    ensures refused { IfErr result (IsProcessRefused (without_alg (tree_of payload)) given) }
 
     // the look-ups
-    ensures counted { IfOk result (λ _. steps.new ≡ counted steps.old (look_ups (without_alg (tree_of payload.now)) given.now)) }
-    ensures risen { RoseWithin (look_ups (without_alg (tree_of payload.now)) given.now) steps.old steps.new }
+    ensures counted { IfOk result (λ _. steps.new ≡ counted steps.old (look_ups (without_alg (tree_of payload)) given)) }
+    ensures risen { RoseWithin (look_ups (without_alg (tree_of payload)) given) steps.old steps.new }
 {
     let members = match open_judged(alloc, payload, given, seed, steps) {
         Ok(members) => members,
@@ -140,8 +162,8 @@ fn open_nothing(payload: Tree, given: &GivenList, steps: &mut Steps) -> Result<T
 }
 
 /// What [`process_seeded`] answers, for who needs no marks: the processed payload alone. A
-/// payload in which nothing is hidden is handed back without its own `_sd_alg`, and no part of it is copied. Any other
-/// is dropped, and the disclosures with it, before the opened members are put together.
+/// payload in which nothing is hidden is handed back without its own `_sd_alg`. Of any other, and of the disclosures, what
+/// is not shown is dropped before the opened members are put together. No part of either is copied.
 pub fn process_payload(
     alloc: Global,
     payload: Tree,
@@ -167,12 +189,10 @@ pub fn process_payload(
     if given.len() == 0 && is_unhidden(&payload) {
         return open_nothing(payload, &given, steps);
     }
-    let members = match open_judged(alloc, &payload, &given, seed, steps) {
+    let members = match open_judged(alloc, payload, given, seed, steps) {
         Ok(members) => members,
         Err(e) => return Err(e),
     };
-    drop(given);
-    drop(payload);
     let marked = members.into_object(alloc)?;
     Ok(into_tree(alloc, marked)?)
 }

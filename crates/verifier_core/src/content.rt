@@ -120,7 +120,7 @@ impl Content {
             given,
             seed,
         } = self;
-        match process_seeded(alloc, &body, &given, seed, steps) {
+        match process_seeded(alloc, body, given, seed, steps) {
             Ok(marked) => Ok(CheckedMarks { marked, hash }),
             Err(error) => Err(refusal(error)),
         }

@@ -1,176 +1,224 @@
-use Rattle.std.proofs.Common.{◌≡◌, ◌-◌, ◌<◌, ◌≤◌, [], drop, None, refl, sym, ap, ◌∙◌, arith}
+use Rattle.std.proofs.Common.{◌≡◌, ◌-◌, ◌<◌, ◌≤◌, [], drop, refl, sym, ap, ◌∙◌, arith}
 use Rattle.std.proofs.lemmas.Result.{err_from_is_err_and}
+use Rattle.std.proofs.lemmas.List.{nil_from_length}
 use Rattle.std.proofs.Math.ListN.{drop_of_length-le}
+use Rattle.std.specs.Vec.Iter.{into_iter_items}
+use Rattle.claim_tree.specs.ListViews.{elements_of, members_of}
 use Rattle.digest_sites.specs.Reserved.{sd_texts}
-use Rattle.digest_sites.specs.GivenView.{given_of}
-use Rattle.marked_tree.specs.Marked.{marked_object, put}
+use Rattle.marked_tree.specs.Marked.{marked_object}
 use Rattle.marked_tree.specs.MarkedCalls.{put_all}
-use Rattle.marked_tree.specs.View.{marked_of, marked_members_of}
+use Rattle.marked_tree.specs.View.{marked_members_of}
 use Rattle.rebuild_core.specs.Opening.{open_members}
 use Rattle.rebuild_core.specs.Whole.{settled, topped, shown_depth}
-use Rattle.rebuild_core.proofs.ListOpening.{still_deep, few_numbers, has_end, value_at, shows, list_at, list_ends, elements_end, plain_at, plain_after, plain_deep, hidden_at, hidden_after, hidden_deep}
+use Rattle.rebuild_core.proofs.Taking.{taking_end}
+use Rattle.rebuild_core.proofs.ListOpening.{has_digest, has_none, still_deep, list_here, list_ends, plain_after, plain_deep, hidden_after, hidden_deep, plain_opens, plain_taken, hidden_opens, hidden_taken}
+use Rattle.rebuild_core.proofs.NextOpening.{none_shown, none_taken, few_here, end_here, shown_here, opens_here, taken_here}
 use Rattle.rebuild_core.proofs.ShownDepths.{map_depth}
-use Rattle.rebuild_core.proofs.MapOpening.{own_here, own_at, own_after, own_deep, own_ends, map_at, map_ends, members_end, kept_at, kept_after, kept_deep, dropped_after, object_at, object_next, object_moved, object_is, object_low, object_deep_own, object_deep_plain}
+use Rattle.rebuild_core.proofs.MapOpening.{own_here, own_after, own_deep, own_ends, own_opens, own_taken, map_here, map_ends, kept_after, kept_deep, dropped_after, kept_opens, kept_taken, dropped_taken, object_own, object_plain, object_taken, object_moved, object_is, object_low, object_deep_own, object_deep_plain}
 use Rattle.rebuild_core.proofs.opening.+opening.Goals as goal
-use Rattle.rebuild_core.proofs.opening.+opening.Goals.{open_list-in-None+in_ok-plain-in-None+in_ok-push-in-None, open_list-in-Some+in_ok-shown-in-Some+in_ok-push_element-in-Some, open_plain-then-stays+in_ok-plain+in_ok-make+in_ok-put, open_plain-else-stays}
 
 -- ---- the elements
 
+pub open_list-open_next-requires : goal.open_list-open_next-requires
+open_list-open_next-requires t c =
+    let g = c.requires.ready.0 in
+    let o = c.requires.ready.1 in
+    let s = list_here _ _ _ _ _ _ _ _ _ _ _ _ _ c.in-Some.ensures.steps.0 (c.loop-tree.invariant g o) in
+    let d = has_digest (λ x. x.now) c.element_digest.result _ c.element_digest.ensures (sym c.is_some.ensures ∙ c.if-is_some.true) in
+    (omega (arith, c.decreases), (g, d.0, hidden_opens _ _ _ _ _ _ _ _ _ _ _ _ _ o.ready s.0 s.1 d.0 d.1))
+
+pub open_list-returns-in_err-shown-clause-opened : goal.open_list-returns-in_err-shown-clause-opened
+open_list-returns-in_err-shown-clause-opened t c = λ g o.
+    let s = list_here _ _ _ _ _ _ _ _ _ _ _ _ _ c.in-Some.ensures.steps.0 (c.loop-tree.invariant g o) in
+    let d = has_digest (λ x. x.now) c.element_digest.result _ c.element_digest.ensures (sym c.is_some.ensures ∙ c.if-is_some.true) in
+    let p = err_from_is_err_and c.from_residual-in_err-shown.result c.from_residual-in_err-shown.ensures.1 in
+    rw (p.1, p.2) (still_deep c.in_err-shown.field-0.0 (λ h. hidden_deep _ _ _ _ _ _ _ _ _ s.0 d.0 d.1 h)
+    (c.in_err-shown.ensures.opened g d.0 (hidden_opens _ _ _ _ _ _ _ _ _ _ _ _ _ o.ready s.0 s.1 d.0 d.1)))
+
+pub open_list-loop-tree-preserved-in_ok-push_element-3 : goal.open_list-loop-tree-preserved-in_ok-push_element-3
+open_list-loop-tree-preserved-in_ok-push_element-3 t c = λ g o.
+    let s = list_here _ _ _ _ _ _ _ _ _ _ _ _ _ c.in-Some.ensures.steps.0 (c.loop-tree.invariant g o) in
+    let d = has_digest (λ x. x.now) c.element_digest.result _ c.element_digest.ensures (sym c.is_some.ensures ∙ c.if-is_some.true) in
+    let w = c.in_ok-shown.ensures.opened g d.0 (hidden_opens _ _ _ _ _ _ _ _ _ _ _ _ _ o.ready s.0 s.1 d.0 d.1) in (
+      hidden_after _ _ _ _ _ _ _ _ _ s.0 d.0 d.1 c.open_next.new.at _ c.push_element.new.out c.in_ok-shown.ensures.moved w.0 w.1 c.in_ok-push_element.ensures,
+      hidden_taken _ _ _ _ _ _ _ _ _ _ _ _ _ o.ready s.0 s.1 d.0 d.1 _ w.2,
+    )
+
 pub open_list-open-requires : goal.open_list-open-requires
 open_list-open-requires t c =
-    let s = list_at _ _ _ _ _ c.trees-tree-items.result.now c.loop-tree.tree-index c.tree-item.result _ _ c.loop-tree-test.true c.tree-item.is c.loop-tree.invariant in
-    let w = plain_at _ _ _ _ _ _ _ _ _ s c.in-None.ensures in
-    (omega (arith, c.decreases), (c.requires.ready, (w.0, w.1)))
+    let g = c.requires.ready.0 in
+    let o = c.requires.ready.1 in
+    let s = list_here _ _ _ _ _ _ _ _ _ _ _ _ _ c.in-Some.ensures.steps.0 (c.loop-tree.invariant g o) in
+    (omega (arith, c.decreases), (g, plain_opens _ _ _ _ _ _ _ _ _ _ _ _ _ o.ready s.0 s.1 (has_none (λ x. x.now) c.element_digest.result _ c.element_digest.ensures (sym c.is_some.ensures ∙ c.if-is_some.false))))
 
-pub open_list-returns-in_err-plain-in-None-clause-opened : goal.open_list-returns-in_err-plain-in-None-clause-opened
-open_list-returns-in_err-plain-in-None-clause-opened t c =
-    let s = list_at _ _ _ _ _ c.trees-tree-items.result.now c.loop-tree.tree-index c.tree-item.result _ _ c.loop-tree-test.true c.tree-item.is c.loop-tree.invariant in
-    let p = err_from_is_err_and c.from_residual-in_err-plain-in-None.result c.from_residual-in_err-plain-in-None.ensures.1 in
-    rw (p.1, p.2) (still_deep c.in_err-plain-in-None.field-0.0 (λ h. plain_deep _ _ _ _ _ _ _ _ _ s c.in-None.ensures h) c.in_err-plain-in-None.ensures.opened)
-
-pub open_list-returns-in_err-shown-in-Some-clause-opened : goal.open_list-returns-in_err-shown-in-Some-clause-opened
-open_list-returns-in_err-shown-in-Some-clause-opened t c =
-    let s = list_at _ _ _ _ _ c.trees-tree-items.result.now c.loop-tree.tree-index c.tree-item.result _ _ c.loop-tree-test.true c.tree-item.is c.loop-tree.invariant in
-    let w = hidden_at _ _ _ _ _ _ _ _ _ s c.in-Some.field-0.now c.in-Some.ensures in
-    let p = err_from_is_err_and c.from_residual-in_err-shown-in-Some.result c.from_residual-in_err-shown-in-Some.ensures.1 in
-    rw (p.1, p.2) (still_deep c.in_err-shown-in-Some.field-0.0 (λ h. hidden_deep _ _ _ _ _ _ _ _ _ s c.in-Some.field-0.now c.in-Some.ensures h) (c.in_err-shown-in-Some.ensures.shown c.in-Some.field-0.now w.tells))
+pub open_list-returns-in_err-plain-clause-opened : goal.open_list-returns-in_err-plain-clause-opened
+open_list-returns-in_err-plain-clause-opened t c = λ g o.
+    let s = list_here _ _ _ _ _ _ _ _ _ _ _ _ _ c.in-Some.ensures.steps.0 (c.loop-tree.invariant g o) in
+    let none = has_none (λ x. x.now) c.element_digest.result _ c.element_digest.ensures (sym c.is_some.ensures ∙ c.if-is_some.false) in
+    let p = err_from_is_err_and c.from_residual-in_err-plain.result c.from_residual-in_err-plain.ensures.1 in
+    rw (p.1, p.2) (still_deep c.in_err-plain.field-0.0 (λ h. plain_deep _ _ _ _ _ _ _ _ _ s.0 none h) (c.in_err-plain.ensures.opened g (plain_opens _ _ _ _ _ _ _ _ _ _ _ _ _ o.ready s.0 s.1 none)))
 
 pub open_list-loop-tree-preserved : goal.open_list-loop-tree-preserved
-open_list-loop-tree-preserved t c =
-    let s = list_at _ _ _ _ _ c.trees-tree-items.result.now c.loop-tree.tree-index c.tree-item.result _ _ c.loop-tree-test.true c.tree-item.is c.loop-tree.invariant in
-    elim c.match-element_digest.branch [
-      | open_list-in-None+in_ok-plain-in-None+in_ok-push-in-None w ↦
-          rw (w.at-is, w.out-is)
-          (plain_after _ _ _ _ _ _ _ _ _ s w.in-None.ensures w.open.new.at _ w.push.new.self w.in_ok-plain-in-None.ensures.moved w.in_ok-plain-in-None.ensures.opened.0 w.in_ok-plain-in-None.ensures.opened.1 w.in_ok-push-in-None.ensures.ok)
-      | open_list-in-Some+in_ok-shown-in-Some+in_ok-push_element-in-Some w ↦
-          let told = hidden_at _ _ _ _ _ _ _ _ _ s w.in-Some.field-0.now w.in-Some.ensures in
-          let opened = w.in_ok-shown-in-Some.ensures.shown w.in-Some.field-0.now told.tells in
-          rw (w.at-is, w.out-is)
-          (hidden_after _ _ _ _ _ _ _ _ _ s w.in-Some.field-0.now w.in-Some.ensures w.open_next.new.at _ w.push_element.new.out w.in_ok-shown-in-Some.ensures.moved opened.0 opened.1 w.in_ok-push_element-in-Some.ensures)
-    ]
+open_list-loop-tree-preserved t c = λ g o.
+    let s = list_here _ _ _ _ _ _ _ _ _ _ _ _ _ c.in-Some.ensures.steps.0 (c.loop-tree.invariant g o) in
+    let none = has_none (λ x. x.now) c.element_digest.result _ c.element_digest.ensures (sym c.is_some.ensures ∙ c.if-is_some.false) in
+    let w = c.in_ok-plain.ensures.opened g (plain_opens _ _ _ _ _ _ _ _ _ _ _ _ _ o.ready s.0 s.1 none) in (
+      plain_after _ _ _ _ _ _ _ _ _ s.0 none c.open.new.at _ c.push.new.self c.in_ok-plain.ensures.moved w.0 w.1 c.in_ok-push.ensures.ok,
+      plain_taken _ _ _ _ _ _ _ _ _ _ _ _ _ o.ready s.0 s.1 none _ w.2,
+    )
 
 pub open_list-returns-clause-opened : goal.open_list-returns-clause-opened
-open_list-returns-clause-opened t c =
-    let w = list_ends _ _ _ _ _ _ _ _ c.loop-tree.invariant (elements_end c.trees-tree-items.result.now c.loop-tree.tree-index (omega arith)) in
-    (w.1, w.2)
+open_list-returns-clause-opened t c = λ g o.
+    let s = c.loop-tree.invariant g o in
+    let left = into_iter_items c.loop-tree.tree-iterator in
+    let none : left ≡ [] = nil_from_length left (sym c.loop-tree.tree-iterator.rest.ok.0 ∙ c.in-None.ensures.steps.0) in
+    let w = list_ends _ _ _ _ _ _ _ _ s.0 (ap elements_of none) in
+    (w.1, w.2, taking_end _ _ _ _ _ s.1)
 
 -- ---- a digest
 
+pub open_next-returns-in_default-clause-opened : goal.open_next-returns-in_default-clause-opened
+open_next-returns-in_default-clause-opened t c = λ g d o. (
+  none_shown g _ _ _ _ d o c.index-number.result.now c.index-number.ensures c.in_default.ensures.taken,
+  omega arith,
+  none_taken g _ _ _ _ d o c.index-number.result.now c.index-number.ensures c.in_default.ensures.taken _ c.in_default.ensures.left,
+)
+
 pub open_next-index-requires : goal.open_next-index-requires
-open_next-index-requires t c = omega (arith, has_end _ _ _ c.requires.ready c.index-number.result.now (given_of c.in-Some.item.now) c.in-Some.ensures)
+open_next-index-requires t c =
+    let o = c.requires.ready.2 in
+    omega (arith, end_here _ _ _ _ _ _ o c.index-number.result.now c.index-number.ensures _ _ c.in-Some.ensures.taken)
 
 pub open_next-open-requires : goal.open_next-open-requires
 open_next-open-requires t c =
-    let w = value_at _ _ _ c.requires.ready c.index-number.result.now (given_of c.in-Some.item.now) c.in-Some.ensures c.index.result.now c.index.ensures in
-    (omega (arith, c.decreases), (c.requires.ready, (w.0, w.1)))
+    let o = c.requires.ready.2 in
+    (omega (arith, c.decreases), (c.requires.ready.0, opens_here _ _ _ _ _ _ o c.index-number.result.now c.index-number.ensures _ _ c.in-Some.ensures.taken _ c.index.ensures _ c.in-Some.ensures.left))
 
-pub open_next-returns-in_err-tree-clause-shown : goal.open_next-returns-in_err-tree-clause-shown
-open_next-returns-in_err-tree-clause-shown t c = λ digest tells.
-    let e = shows _ _ _ c.requires.ready c.index-number.result.now (given_of c.in-Some.item.now) c.in-Some.ensures c.args.at.now digest c.requires.within c.index-number.ensures tells in
+pub open_next-returns-in_err-tree-clause-opened : goal.open_next-returns-in_err-tree-clause-opened
+open_next-returns-in_err-tree-clause-opened t c = λ g d o.
+    let v = opens_here _ _ _ _ _ _ o c.index-number.result.now c.index-number.ensures _ _ c.in-Some.ensures.taken _ c.index.ensures _ c.in-Some.ensures.left in
+    let e = shown_here _ _ _ _ _ _ o c.index-number.result.now c.index-number.ensures _ _ c.in-Some.ensures.taken in
     let p = err_from_is_err_and c.from_residual.result c.from_residual.ensures.1 in
-    rw (p.1, p.2) (still_deep c.in_err-tree.field-0.0 (λ h. omega (arith, h, ap shown_depth e)) c.in_err-tree.ensures.opened)
+    rw (p.1, p.2) (still_deep c.in_err-tree.field-0.0 (λ h. omega (arith, h, ap shown_depth e)) (c.in_err-tree.ensures.opened g v))
 
 pub open_next-overflow_cast-result : goal.open_next-overflow_cast-result
-open_next-overflow_cast-result t c = omega (arith, few_numbers _ _ _ c.requires.ready c.index-number.result.now (given_of c.in-Some.item.now) c.in-Some.ensures)
+open_next-overflow_cast-result t c =
+    let o = c.requires.ready.2 in
+    omega (arith, few_here _ _ _ _ _ _ o c.index-number.result.now c.index-number.ensures _ _ c.in-Some.ensures.taken)
 
-pub open_next-returns-clause-shown : goal.open_next-returns-clause-shown
-open_next-returns-clause-shown t c = λ digest tells.
-    let e = shows _ _ _ c.requires.ready c.index-number.result.now (given_of c.in-Some.item.now) c.in-Some.ensures c.args.at.now digest c.requires.within c.index-number.ensures tells in
-    (rw (c.in_ok-copy_text.ensures, c.in_ok-tree.ensures.opened.0) (sym e), c.in_ok-tree.ensures.opened.1)
+pub open_next-returns-clause-opened : goal.open_next-returns-clause-opened
+open_next-returns-clause-opened t c = λ g d o.
+    let v = opens_here _ _ _ _ _ _ o c.index-number.result.now c.index-number.ensures _ _ c.in-Some.ensures.taken _ c.index.ensures _ c.in-Some.ensures.left in
+    let e = shown_here _ _ _ _ _ _ o c.index-number.result.now c.index-number.ensures _ _ c.in-Some.ensures.taken in
+    let w = c.in_ok-tree.ensures.opened g v in
+    (rw w.0 (sym e), w.1, taken_here _ _ _ _ _ _ o c.index-number.result.now c.index-number.ensures _ _ c.in-Some.ensures.taken _ _ c.in-Some.ensures.left w.2)
 
 -- ---- the members of an object
 
 pub open_parts-open_own-requires : goal.open_parts-open_own-requires
-open_parts-open_own-requires t c =
-    (omega (arith, c.decreases, c.if-limit-eq0.false), (c.requires.ready, object_at c.args.given.now c.args.graph.now.numbers.items c.args.top c.args.map.now c.args.at.now c.requires.numbered))
+open_parts-open_own-requires t c = (omega (arith, c.decreases, c.if-limit-eq0.false), (c.requires.ready.0, object_own _ _ _ _ c.args.top c.args.map _ c.requires.ready.1))
 
 pub open_parts-returns-in_err-hidden-clause-opened : goal.open_parts-returns-in_err-hidden-clause-opened
-open_parts-returns-in_err-hidden-clause-opened t c =
+open_parts-returns-in_err-hidden-clause-opened t c = λ g o.
     let some : 0 < c.args.limit = omega (arith, c.if-limit-eq0.false) in
     let p = err_from_is_err_and c.from_residual.result c.from_residual.ensures.1 in
-    rw (p.1, p.2) (still_deep c.in_err-hidden.field-0.0 (λ h. object_deep_own c.args.given.now c.args.limit c.args.top c.args.map.now some c.requires.whole.0 h) c.in_err-hidden.ensures.opened)
+    rw (p.1, p.2) (still_deep c.in_err-hidden.field-0.0 (λ h. object_deep_own g c.args.limit c.args.top c.args.map some o.whole.0 h) (c.in_err-hidden.ensures.opened g (object_own _ _ _ _ c.args.top c.args.map _ o)))
 
 pub open_parts-open_plain-requires : goal.open_parts-open_plain-requires
-open_parts-open_plain-requires t c = (
-  omega (arith, c.decreases, c.if-limit-eq0.false),
-  (c.requires.ready, (object_next c.args.given.now c.args.graph.now.numbers.items c.args.top c.args.map.now c.args.at.now c.open_own.new.at c.requires.numbered c.in_ok-hidden.ensures.moved, c.requires.whole.1)),
-)
+open_parts-open_plain-requires t c =
+    let o = c.requires.ready.1 in
+    let own = c.in_ok-hidden.ensures.opened _ (object_own _ _ _ _ c.args.top c.args.map _ o) in
+    (omega (arith, c.decreases, c.if-limit-eq0.false), (c.requires.ready.0, object_plain _ _ _ _ c.args.top c.args.map _ o _ own.2 _ c.in_ok-hidden.ensures.moved))
 
 pub open_parts-returns-in_err-plain-clause-opened : goal.open_parts-returns-in_err-plain-clause-opened
-open_parts-returns-in_err-plain-clause-opened t c =
+open_parts-returns-in_err-plain-clause-opened t c = λ g o.
     let some : 0 < c.args.limit = omega (arith, c.if-limit-eq0.false) in
+    let own = c.in_ok-hidden.ensures.opened _ (object_own _ _ _ _ c.args.top c.args.map _ o) in
     let p = err_from_is_err_and c.from_residual-in_err-plain.result c.from_residual-in_err-plain.ensures.1 in
-    rw (p.1, p.2) (still_deep c.in_err-plain.field-0.0 (λ h. object_deep_plain c.args.given.now c.args.limit c.args.top c.args.map.now some h) c.in_err-plain.ensures.opened)
+    rw (p.1, p.2) (still_deep c.in_err-plain.field-0.0 (λ h. object_deep_plain g c.args.limit c.args.top c.args.map some h)
+    (c.in_err-plain.ensures.opened g (object_plain _ _ _ _ c.args.top c.args.map _ o _ own.2 _ c.in_ok-hidden.ensures.moved)))
 
 pub open_parts-returns-clause-moved : goal.open_parts-returns-clause-moved
-open_parts-returns-clause-moved t c = object_moved c.args.top c.args.map.now c.args.at.now c.open_own.new.at c.open_plain.new.at c.in_ok-hidden.ensures.moved c.in_ok-plain.ensures.moved
+open_parts-returns-clause-moved t c = object_moved c.args.top c.args.map c.args.at.now c.open_own.new.at c.open_plain.new.at c.in_ok-hidden.ensures.moved c.in_ok-plain.ensures.moved
 
 pub open_parts-returns-clause-opened : goal.open_parts-returns-clause-opened
-open_parts-returns-clause-opened t c =
+open_parts-returns-clause-opened t c = λ g o.
     let some : 0 < c.args.limit = omega (arith, c.if-limit-eq0.false) in
+    let own = c.in_ok-hidden.ensures.opened g (object_own _ _ _ _ c.args.top c.args.map _ o) in
+    let plain = c.in_ok-plain.ensures.opened g (object_plain _ _ _ _ c.args.top c.args.map _ o _ own.2 _ c.in_ok-hidden.ensures.moved) in
     let all = put_all (marked_members_of c.in_ok-hidden.hidden.items) c.in_ok-plain.plain in
-    let is = object_is c.args.given.now c.args.limit c.args.top c.args.map.now some _ _ all c.in_ok-hidden.ensures.opened.0 c.in_ok-plain.ensures.opened.0 refl in
-    let low : map_depth (open_members (settled c.args.given.now) (topped c.args.top c.args.map.now)) ≤ c.args.limit - 1 =
-    omega (arith, c.in_ok-plain.ensures.opened.1, ap map_depth c.in_ok-plain.ensures.opened.0) in
-    (ap marked_object is, object_low c.args.given.now c.args.limit c.args.top c.args.map.now some all is c.in_ok-hidden.ensures.opened.1 low)
+    let is = object_is g c.args.limit c.args.top c.args.map some _ _ all own.0 plain.0 refl in
+    let low : map_depth (open_members (settled g) (topped c.args.top c.args.map)) ≤ c.args.limit - 1 = omega (arith, plain.1, ap map_depth plain.0) in
+    (ap marked_object is, object_low g c.args.limit c.args.top c.args.map some all is own.1 low, object_taken _ _ _ _ c.args.top c.args.map _ o _ own.2 _ plain.2)
 
 -- ---- the hidden members
 
 pub open_own-open_next-requires : goal.open_own-open_next-requires
 open_own-open_next-requires t c =
-    let s = own_here _ _ _ _ _ c.loop.counter _ _ (omega (arith, c.loop-test.true, c.loop.invariant.0)) c.loop.invariant.2 in
-    let told = own_at _ _ _ _ _ _ _ _ _ s in
-    (omega (arith, c.decreases), (c.requires.ready, told.within))
+    let g = c.requires.ready.0 in
+    let o = c.requires.ready.1 in
+    let s = own_here _ _ _ _ _ _ _ c.loop.counter _ _ (omega (arith, c.loop-test.true, c.loop.invariant.0)) (c.loop.invariant.2 g o) in
+    (omega (arith, c.decreases), (g, _, own_opens _ _ _ _ _ _ _ _ _ _ _ _ o.ready s.0 s.1))
 
 pub open_own-returns-in_err-shown-clause-opened : goal.open_own-returns-in_err-shown-clause-opened
-open_own-returns-in_err-shown-clause-opened t c =
-    let s = own_here _ _ _ _ _ c.loop.counter _ _ (omega (arith, c.loop-test.true, c.loop.invariant.0)) c.loop.invariant.2 in
-    let told = own_at _ _ _ _ _ _ _ _ _ s in
+open_own-returns-in_err-shown-clause-opened t c = λ g o.
+    let s = own_here _ _ _ _ _ _ _ c.loop.counter _ _ (omega (arith, c.loop-test.true, c.loop.invariant.0)) (c.loop.invariant.2 g o) in
     let p = err_from_is_err_and c.from_residual-in_err-shown.result c.from_residual-in_err-shown.ensures.1 in
-    rw (p.1, p.2) (still_deep c.in_err-shown.field-0.0 (λ h. own_deep _ _ _ _ _ _ _ _ _ s h) (c.in_err-shown.ensures.shown _ told.tells))
+    rw (p.1, p.2) (still_deep c.in_err-shown.field-0.0 (λ h. own_deep _ _ _ _ _ _ _ _ _ s.0 h) (c.in_err-shown.ensures.opened g _ (own_opens _ _ _ _ _ _ _ _ _ _ _ _ o.ready s.0 s.1)))
 
 pub open_own-loop-preserved : goal.open_own-loop-preserved
-open_own-loop-preserved t c =
-    let s = own_here _ _ _ _ _ c.loop.counter _ _ (omega (arith, c.loop-test.true, c.loop.invariant.0)) c.loop.invariant.2 in
-    let told = own_at _ _ _ _ _ _ _ _ _ s in
-    let opened = c.in_ok-shown.ensures.shown _ told.tells in (
-      c.loop.invariant.0,
-      omega (arith, c.loop-test.true),
-      own_after _ _ _ _ _ _ _ _ _ s c.open_next.new.at _ (marked_members_of c.push_member.new.out.items) c.in_ok-shown.ensures.moved opened.0 opened.1 c.in_ok-push_member.ensures,
-    )
+open_own-loop-preserved t c = (
+  c.loop.invariant.0,
+  omega (arith, c.loop-test.true),
+  λ g o.
+      let s = own_here _ _ _ _ _ _ _ c.loop.counter _ _ (omega (arith, c.loop-test.true, c.loop.invariant.0)) (c.loop.invariant.2 g o) in
+      let w = c.in_ok-shown.ensures.opened g _ (own_opens _ _ _ _ _ _ _ _ _ _ _ _ o.ready s.0 s.1) in (
+        own_after _ _ _ _ _ _ _ _ _ s.0 c.open_next.new.at _ (marked_members_of c.push_member.new.out.items) c.in_ok-shown.ensures.moved w.0 w.1 c.in_ok-push_member.ensures,
+        own_taken _ _ _ _ _ _ _ _ _ _ _ _ o.ready s.0 s.1 _ w.2,
+      ),
+)
 
 pub open_own-returns-clause-opened : goal.open_own-returns-clause-opened
-open_own-returns-clause-opened t c =
+open_own-returns-clause-opened t c = λ g o.
+    let s = c.loop.invariant.2 g o in
     let end : drop c.loop.counter (sd_texts c.args.map.now) ≡ [] = drop_of_length-le (sd_texts c.args.map.now) (omega (arith, c.loop.invariant.0)) in
-    let w = own_ends _ _ _ _ _ _ _ _ c.loop.invariant.2 end in
-    (w.1, w.2)
+    let w = own_ends _ _ _ _ _ _ _ _ s.0 end in
+    (w.1, w.2, taking_end _ _ _ _ _ s.1)
 
 -- ---- the other members
 
 pub open_plain-open-requires : goal.open_plain-open-requires
 open_plain-open-requires t c =
-    let s = map_at _ _ _ _ _ _ c.members-name-items.result.now c.loop-name.name-index c.loop-name-item.result _ _ c.loop-name-test.true c.loop-name-item.is c.loop-name.invariant in
-    let w = kept_at _ _ _ _ _ _ _ _ _ _ _ s (sym c.stays.ensures ∙ c.if-stays.true) in
-    (omega (arith, c.decreases), (c.requires.ready, (w.0, w.1)))
+    let g = c.requires.ready.0 in
+    let o = c.requires.ready.1 in
+    let s = map_here _ _ _ _ _ _ _ _ _ (c.in-Some.name, c.in-Some.tree) _ _ _ _ c.in-Some.ensures.steps.0 (c.loop-name.invariant g o) in
+    (omega (arith, c.decreases), (g, kept_opens _ _ _ _ _ _ _ _ _ _ _ _ _ _ _ o.ready s.0 s.1 (sym c.stays.ensures ∙ c.if-stays.true)))
 
 pub open_plain-returns-in_err-plain-clause-opened : goal.open_plain-returns-in_err-plain-clause-opened
-open_plain-returns-in_err-plain-clause-opened t c =
-    let s = map_at _ _ _ _ _ _ c.members-name-items.result.now c.loop-name.name-index c.loop-name-item.result _ _ c.loop-name-test.true c.loop-name-item.is c.loop-name.invariant in
+open_plain-returns-in_err-plain-clause-opened t c = λ g o.
+    let s = map_here _ _ _ _ _ _ _ _ _ (c.in-Some.name, c.in-Some.tree) _ _ _ _ c.in-Some.ensures.steps.0 (c.loop-name.invariant g o) in
     let p = err_from_is_err_and c.from_residual-in_err-plain.result c.from_residual-in_err-plain.ensures.1 in
-    rw (p.1, p.2) (still_deep c.in_err-plain.field-0.0 (λ h. kept_deep _ _ _ _ _ _ _ _ _ _ _ s (sym c.stays.ensures ∙ c.if-stays.true) h) c.in_err-plain.ensures.opened)
+    rw (p.1, p.2) (still_deep c.in_err-plain.field-0.0 (λ h. kept_deep _ _ _ _ _ _ _ _ _ _ _ s.0 (sym c.stays.ensures ∙ c.if-stays.true) h)
+    (c.in_err-plain.ensures.opened g (kept_opens _ _ _ _ _ _ _ _ _ _ _ _ _ _ _ o.ready s.0 s.1 (sym c.stays.ensures ∙ c.if-stays.true))))
+
+pub open_plain-loop-name-preserved-in-Continue-branch-3 : goal.open_plain-loop-name-preserved-in-Continue-branch-3
+open_plain-loop-name-preserved-in-Continue-branch-3 t c = λ g o.
+    let s = map_here _ _ _ _ _ _ _ _ _ (c.in-Some.name, c.in-Some.tree) _ _ _ _ c.in-Some.ensures.steps.0 (c.loop-name.invariant g o) in
+    let w = c.in_ok-plain.ensures.opened g (kept_opens _ _ _ _ _ _ _ _ _ _ _ _ _ _ _ o.ready s.0 s.1 (sym c.stays.ensures ∙ c.if-stays.true)) in (
+      kept_after _ _ _ _ _ _ _ _ _ _ _ s.0 (sym c.stays.ensures ∙ c.if-stays.true) c.open.new.at _ c.put.new.self c.in_ok-plain.ensures.moved w.0 w.1 c.in_ok-put.ensures.ok,
+      kept_taken _ _ _ _ _ _ _ _ _ _ _ _ _ _ _ o.ready s.0 s.1 (sym c.stays.ensures ∙ c.if-stays.true) _ w.2,
+    )
 
 pub open_plain-loop-name-preserved : goal.open_plain-loop-name-preserved
-open_plain-loop-name-preserved t c =
-    let s = map_at _ _ _ _ _ _ c.members-name-items.result.now c.loop-name.name-index c.loop-name-item.result _ _ c.loop-name-test.true c.loop-name-item.is c.loop-name.invariant in
-    elim c.if-stays.branch [
-      | open_plain-then-stays+in_ok-plain+in_ok-make+in_ok-put w ↦
-          let put_is = w.in_ok-put.ensures.ok ∙ ap (λ name. put name None (marked_of w.in_ok-plain.plain) c.loop-name.out) (w.in_ok-make.ensures ∙ w.as_str.ensures) in
-          rw (w.at-is, w.out-is)
-          (kept_after _ _ _ _ _ _ _ _ _ _ _ s (sym c.stays.ensures ∙ w.if-stays.true) w.open.new.at _ w.put.new.self w.in_ok-plain.ensures.moved w.in_ok-plain.ensures.opened.0 w.in_ok-plain.ensures.opened.1 put_is)
-      | open_plain-else-stays w ↦ rw (w.at-is, w.out-is) (dropped_after _ _ _ _ _ _ _ _ _ _ _ s (sym c.stays.ensures ∙ w.if-stays.false))
-    ]
+open_plain-loop-name-preserved t c = λ g o.
+    let s = map_here _ _ _ _ _ _ _ _ _ (c.in-Some.name, c.in-Some.tree) _ _ _ _ c.in-Some.ensures.steps.0 (c.loop-name.invariant g o) in
+    let drops = sym c.stays.ensures ∙ c.if-stays.false in
+    (dropped_after _ _ _ _ _ _ _ _ _ _ _ s.0 drops, dropped_taken _ _ _ _ _ _ _ _ _ _ _ _ _ _ _ o.ready s.0 s.1 drops)
 
 pub open_plain-returns-clause-opened : goal.open_plain-returns-clause-opened
-open_plain-returns-clause-opened t c =
-    let w = map_ends _ _ _ _ _ _ _ _ _ c.loop-name.invariant (members_end c.members-name-items.result.now c.loop-name.name-index (omega arith)) in
-    (w.1, w.2)
+open_plain-returns-clause-opened t c = λ g o.
+    let s = c.loop-name.invariant g o in
+    let left = into_iter_items c.loop-name.name-iterator in
+    let none : left ≡ [] = nil_from_length left (sym c.loop-name.name-iterator.rest.ok.0 ∙ c.in-None.ensures.steps.0) in
+    let w = map_ends _ _ _ _ _ _ _ _ _ s.0 (ap members_of none) in
+    (w.1, w.2, taking_end _ _ _ _ _ s.1)
