@@ -18,7 +18,7 @@ use rebuild_core::{ProcessError, process_seeded};
 use sd_outside::NoMemory;
 use std::alloc::Global;
 
-// What the payload and the disclosures show, where no condition of 14 to 21 fails.
+// What the payload, which has no `_sd_alg` of its own, and the disclosures show, where no condition of 14 to 21 fails.
 fn opened(
     alloc: Global,
     payload: Tree,
@@ -27,15 +27,16 @@ fn opened(
     steps: &mut Steps,
 ) -> Result<Option<Marked>, NoMemory>
     requires object { IsPayload (tree_of payload) }
+    requires bare { without_alg (tree_of payload) ≡ tree_of payload }
     requires payload_depth { depth_of (tree_of payload) ≤ 127 }
     requires values_depth { ValuesShallow given }
     requires payload_range { IsRanged (tree_of payload) }
     requires values_range { ValuesRanged given }
     requires few { length given < 2 ^ 32 - 1 }
-    ensures sound { IfOk result (λ shown. IfSome shown (λ _. IsSound (without_alg (tree_of payload)) given)) }
-    ensures shown { IfOk result (λ shown. IfSome shown (λ m. marked_of m ≡ processed (without_alg (tree_of payload)) given)) }
-    ensures unsound { IfOk result (λ shown. IfNone shown (IsSound (without_alg (tree_of payload)) given → ⊥)) }
-    ensures risen { RoseWithin (look_ups (without_alg (tree_of payload)) given) steps.old steps.new }
+    ensures sound { IfOk result (λ shown. IfSome shown (λ _. IsSound (tree_of payload) given)) }
+    ensures shown { IfOk result (λ shown. IfSome shown (λ m. marked_of m ≡ processed (tree_of payload) given)) }
+    ensures unsound { IfOk result (λ shown. IfNone shown (IsSound (tree_of payload) given → ⊥)) }
+    ensures risen { RoseWithin (look_ups (tree_of payload) given) steps.old steps.new }
 {
     match process_seeded(alloc, payload, given, seed, steps) {
         Ok(marked) => Ok(Some(marked)),
@@ -56,13 +57,14 @@ pub(crate) fn shows(
     steps: &mut Steps,
 ) -> Result<bool, NoMemory>
     requires object { IsPayload (tree_of payload) }
+    requires bare { without_alg (tree_of payload) ≡ tree_of payload }
     requires payload_depth { depth_of (tree_of payload) ≤ 127 }
     requires values_depth { ValuesShallow given }
     requires payload_range { IsRanged (tree_of payload) }
     requires values_range { ValuesRanged given }
     requires few { length given < 2 ^ 32 - 1 }
-    ensures shows { IfOk result (λ is. IsTrue is ↔ (IsSound (without_alg (tree_of payload)) given × (processed (without_alg (tree_of payload)) given ≡ marked_of claims.now))) }
-    ensures risen { RoseWithin (look_ups (without_alg (tree_of payload)) given) steps.old steps.new }
+    ensures shows { IfOk result (λ is. IsTrue is ↔ (IsSound (tree_of payload) given × (processed (tree_of payload) given ≡ marked_of claims.now))) }
+    ensures risen { RoseWithin (look_ups (tree_of payload) given) steps.old steps.new }
 {
     match opened(alloc, payload, given, seed, steps)? {
         Some(shown) => Ok(is_same(&shown, claims)),

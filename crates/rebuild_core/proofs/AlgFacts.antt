@@ -1,10 +1,12 @@
--- A payload without its own `_sd_alg` has the same digests, and misuses a reserved name where the payload does.
+-- A payload without its own `_sd_alg` has the same digests, and misuses a reserved name where the payload does. Without
+-- it once more it stays the same, and is a payload.
 use Rattle.std.proofs.Common.{◌≡◌, Bool, true, false, ◌||◌, Some, bytes_eq, refl, sym, ap, ◌∙◌, subst, inl, inr}
 use Rattle.std.specs.Prelude.{[], if◌then◌else◌, unwrap_or}
 use Rattle.claim_tree.specs.Tree.{Text, Tree, leaf, text, array, object, Members, no_members, member, member_named, names, IsBeforeAll, IsOrdered, MembersOrdered}
 use Rattle.claim_tree.specs.Lists.{In}
 use Rattle.claim_tree.specs.Removed.{removed}
 use Rattle.claim_tree.proofs.Lists.{bytes_same}
+use Rattle.claim_tree.proofs.OtherMembers.{named_gone, removed_absent}
 use Rattle.digest_sites.specs.Reserved.{sd_name, dots_name, sd_texts, text_list, misuses, members_misuse, is_ill_named}
 use Rattle.rebuild_core.specs.Payload.{alg_name, without_alg}
 use Rattle.rebuild_core.specs.Answer.{IsPayload}
@@ -63,3 +65,15 @@ pub misuses_without : (t : Tree) → IsOrdered t → IsPayload t → misuses (wi
 misuses_without (object ms) o h = members_misuse_without ms (has_text_alg ms o h)
 misuses_without (leaf l) o h = elim h [ ]
 misuses_without (array es) o h = elim h [ ]
+
+-- ---- once more
+
+pub without_twice : (t : Tree) → without_alg (without_alg t) ≡ without_alg t
+without_twice (leaf l) = refl
+without_twice (array es) = refl
+without_twice (object ms) = ap object (removed_absent (removed ms alg_name) alg_name (named_gone ms alg_name))
+
+pub without_is_payload : (t : Tree) → IsPayload t → IsPayload (without_alg t)
+without_is_payload (object ms) h = λ t is. let gone = named_gone ms alg_name in cc
+without_is_payload (leaf l) h = elim h [ ]
+without_is_payload (array es) h = elim h [ ]

@@ -1,8 +1,18 @@
-use Rattle.std.proofs.Common.{sym, ◌∙◌, refl}
-use Rattle.std.proofs.lemmas.Bool.{true≢false}
-use Rattle.audit_core.specs.Audit.{claims_differ}
+use Rattle.std.proofs.Common.{arith}
+use Rattle.claim_tree.specs.View.{tree_of}
+use Rattle.rebuild_core.proofs.AlgFacts.{without_twice, without_is_payload}
+use Rattle.rebuild_core.proofs.NothingHidden.{without_alg_shallow}
+use Rattle.rebuild_core.proofs.Ranged.{payload_ranged}
 use Rattle.audit_core.proofs.auditing.judge_content.Goals as goal
 
-pub returns-then-not-branch-clause-differs : goal.returns-then-not-branch-clause-differs
-returns-then-not-branch-clause-differs c o is =
-    claims_differ refl (λ s. true≢false (sym (c.in_ok-shows.ensures.shows.1 (s.sound, s.opens ∙ sym is.claims)) ∙ c.if-not-branch.true))
+pub shows-requires-clause-object : goal.shows-requires-clause-object
+shows-requires-clause-object c = rw c.without_alg-payload.ensures (without_is_payload (tree_of c.args.written.body) c.requires.object)
+
+pub shows-requires-clause-bare : goal.shows-requires-clause-bare
+shows-requires-clause-bare c = rw c.without_alg-payload.ensures (without_twice (tree_of c.args.written.body))
+
+pub shows-requires-clause-payload_depth : goal.shows-requires-clause-payload_depth
+shows-requires-clause-payload_depth c = rw c.without_alg-payload.ensures (let l = without_alg_shallow (tree_of c.args.written.body) in omega (arith, c.requires.payload_depth, l))
+
+pub shows-requires-clause-payload_range : goal.shows-requires-clause-payload_range
+shows-requires-clause-payload_range c = rw c.without_alg-payload.ensures (payload_ranged (tree_of c.args.written.body) c.requires.payload_range)
