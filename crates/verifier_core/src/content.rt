@@ -126,7 +126,7 @@ impl Content {
         }
     }
 
-    /// The same, for the processed payload alone: what the issuer signed is not copied where nothing in it is hidden.
+    /// The same, for the processed payload alone. Neither copies what the issuer signed or what the disclosures give.
     pub fn open_payload(
         self,
         alloc: Global,

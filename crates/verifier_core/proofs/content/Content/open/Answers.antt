@@ -15,9 +15,6 @@ returns-in-Ok-clause-counted c token rules is = content_counted token rules _ (c
 pub returns-in-Ok-clause-within : goal.returns-in-Ok-clause-within
 returns-in-Ok-clause-within c token rules is = content_within token rules _ (content_seen token rules _ _ c.self.view_is is) _ _ c.process_seeded.ensures.risen
 
-pub returns-clause-refused : goal.returns-clause-refused
-returns-clause-refused c token rules is =
+pub returns-in-Err-clause-refused : goal.returns-in-Err-clause-refused
+returns-in-Err-clause-refused c token rules is =
     unopened token rules _ (content_seen token rules _ _ c.self.view_is is) _ (c.in-Err.error, c.refusal.ensures, c.in-Err.ensures.refused)
-
-pub returns-clause-within : goal.returns-clause-within
-returns-clause-within c token rules is = content_within token rules _ (content_seen token rules _ _ c.self.view_is is) _ _ c.process_seeded.ensures.risen
