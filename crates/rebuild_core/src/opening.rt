@@ -73,6 +73,7 @@ fn open_list(
     let mut out = MarkedList::with_capacity(alloc, list.len())?;
     for tree in list.into_trees() {
         if element_digest(&tree).is_some() {
+            drop(tree);
             let shown = open_next(alloc, limit, given, graph, at)?;
             push_element(&mut out, shown)?;
         } else {
