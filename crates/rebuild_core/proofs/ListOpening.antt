@@ -103,7 +103,7 @@ module _ (g : List Given) (ks : List ℕ) (limit : ℕ) (all : Elements) (end : 
     joins_plain : joined out (marked_element None (open_tree (settled g) t) (open_elements (settled g) rest)) ≡ open_elements (settled g) all
     joins_plain = subst (λ o. joined out (open_element (settled g) o (open_tree (settled g) t) (open_elements (settled g) rest)) ≡ open_elements (settled g) all) (sym plain) s.joins
 
-    pub plain_at : TellFirst g (drop at ks) (tree_digests t) × OpensWhole (settled g) t
+    plain_at : TellFirst g (drop at ks) (tree_digests t) × OpensWhole (settled g) t
     plain_at = (
       first_part g (drop at ks) (tree_digests t) (elements_digests rest) goes_plain.0,
       subst (λ o. WholeOn (settled g) o (OpensWhole (settled g) t)) (sym plain) s.whole.0,

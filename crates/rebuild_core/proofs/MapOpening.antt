@@ -192,7 +192,7 @@ module _ (g : List Given) (ks : List ℕ) (limit : ℕ) (top : Bool) (all : Memb
         let w : MembersWhole (settled g) (member k t (topped top rest)) = subst (λ ms. MembersWhole (settled g) ms) (topped_stays top k t rest h).0 s.whole in
         (subst (λ b. WholeUnless b (OpensWhole (settled g) t)) own_false w.0, w.1)
 
-    pub kept_at : TellFirst g (drop at ks) (tree_digests t) × OpensWhole (settled g) t
+    kept_at : TellFirst g (drop at ks) (tree_digests t) × OpensWhole (settled g) t
     kept_at = (first_part g (drop at ks) (tree_digests t) (members_digests (topped top rest)) goes_kept.0, whole_kept.0)
 
     pub kept_after : (next : ℕ) (m : Marked) (new : MarkedMembers) → next ≡ at + length (tree_digests t) → m ≡ open_tree (settled g) t → depth (strip m) ≤ limit

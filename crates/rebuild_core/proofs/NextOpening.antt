@@ -18,7 +18,7 @@ module _ (g left : List Given) (ks ends : List ℕ) (at : ℕ) (d : Text) (o : O
   told_next : IsTold g ks at d
   told_next = told_here g d [] at ks o.told
 
-  pub next_within : at < length ks
+  next_within : at < length ks
   next_within = told_next.within
 
   module _ (j : ℕ) (read : j ≡ get_or ks at j) where

@@ -11,7 +11,7 @@ use Rattle.rebuild_core.specs.Opening.{shown, open_tree}
 use Rattle.rebuild_core.specs.Cursor.{tree_digests, TellFirst}
 use Rattle.rebuild_core.specs.Whole.{settled, shown_weight, uses, OpensWhole, IsOpenable, OpensFrom, TakesOnly}
 
-pub uses_join : (g : List Given) (k : ℕ) (ds es : List Text) → uses g k (ds ++ es) ≡ uses g k ds + uses g k es
+uses_join : (g : List Given) (k : ℕ) (ds es : List Text) → uses g k (ds ++ es) ≡ uses g k ds + uses g k es
 uses_join g k [] es = omega arith
 uses_join g k (d ∷ ds) es = omega (arith, uses_join g k ds es)
 

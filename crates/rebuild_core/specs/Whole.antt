@@ -143,8 +143,8 @@ pub record IsOpenable (given : List Given) (numbers ends : List ℕ) : Type 0 wh
   pub whole : (j : ℕ) (x : Given) → StandsAt given j x → OpensWhole (settled given) x.value
   pub shows : (j k : ℕ) (x : Given) → StandsAt given j x → weight (only k) (open_tree (settled given) x.value) ≡ uses given k (tree_digests x.value)
 
--- What is opened is taken out of its place: `given` are all disclosures as they came in, and `left` is the list as it is
--- now. It still has those that the digests show, each of them once.
+-- What is opened is taken out of its place: `given` are all disclosures as they came in, and `left` is the list as it
+-- is now. It still has those that the digests show, each of them once.
 pub record OpensFrom (given left : List Given) (numbers ends : List ℕ) (at : ℕ) (digests : List Text) (Whole : Type 0) : Type 0 where
   pub ready : IsOpenable given numbers ends
   pub told : TellFirst given (drop at numbers) digests

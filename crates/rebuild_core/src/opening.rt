@@ -1,4 +1,5 @@
-// A payload opened without search: the digests of its sites are read as numbers, in their order. What is shown is moved.
+// A payload opened without search: the digests of its sites are read as numbers, in their order. What is shown is
+// moved.
 ghost use Rattle.std.specs.Prelude.{◌≡◌, ◌+◌, ◌^◌, ◌<◌, ◌≤◌, List, [], ◌∷◌, length, OnOk, IfOk, MatchResult};
 ghost use Rattle.claim_tree.specs.Tree.{Text, object, depth, elements_depth, members_depth};
 ghost use Rattle.claim_tree.specs.View.{tree_of};
@@ -73,6 +74,7 @@ fn open_list(
     let mut out = MarkedList::with_capacity(alloc, list.len())?;
     for tree in list.into_trees() {
         if element_digest(&tree).is_some() {
+            drop(tree);
             let shown = open_next(alloc, limit, given, graph, at)?;
             push_element(&mut out, shown)?;
         } else {

@@ -161,9 +161,9 @@ fn open_nothing(payload: Tree, given: &GivenList, steps: &mut Steps) -> Result<T
     move_out(payload)
 }
 
-/// What [`process_seeded`] answers, for who needs no marks: the processed payload alone. A
-/// payload in which nothing is hidden is handed back without its own `_sd_alg`. Of any other, and of the disclosures, what
-/// is not shown is dropped before the opened members are put together. No part of either is copied.
+/// What [`process_seeded`] answers, for who needs no marks: the processed payload alone. A payload in which nothing is
+/// hidden is handed back without its own `_sd_alg`. Of any other, and of the disclosures, what is not shown is dropped
+/// before the opened members are put together. No part of either is copied.
 pub fn process_payload(
     alloc: Global,
     payload: Tree,

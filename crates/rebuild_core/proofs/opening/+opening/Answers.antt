@@ -35,8 +35,8 @@ open_list-returns-in_err-shown-clause-opened t c = λ g o.
     rw (p.1, p.2) (still_deep c.in_err-shown.field-0.0 (λ h. hidden_deep _ _ _ _ _ _ _ _ _ s.0 d.0 d.1 h)
     (c.in_err-shown.ensures.opened g d.0 (hidden_opens _ _ _ _ _ _ _ _ _ _ _ _ _ o.ready s.0 s.1 d.0 d.1)))
 
-pub open_list-loop-tree-preserved-in_ok-push_element-3 : goal.open_list-loop-tree-preserved-in_ok-push_element-3
-open_list-loop-tree-preserved-in_ok-push_element-3 t c = λ g o.
+pub open_list-loop-tree-preserved-in-Continue-branch-3 : goal.open_list-loop-tree-preserved-in-Continue-branch-3
+open_list-loop-tree-preserved-in-Continue-branch-3 t c = λ g o.
     let s = list_here _ _ _ _ _ _ _ _ _ _ _ _ _ c.in-Some.ensures.steps.0 (c.loop-tree.invariant g o) in
     let d = has_digest (λ x. x.now) c.element_digest.result _ c.element_digest.ensures (sym c.is_some.ensures ∙ c.if-is_some.true) in
     let w = c.in_ok-shown.ensures.opened g d.0 (hidden_opens _ _ _ _ _ _ _ _ _ _ _ _ _ o.ready s.0 s.1 d.0 d.1) in (
