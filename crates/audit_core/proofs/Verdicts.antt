@@ -25,7 +25,7 @@ use Rattle.jws_part.proofs.Parts.{one_carried}
 use Rattle.rebuild_core.specs.Payload.{without_alg}
 use Rattle.compact_form.specs.declared.parts.Parts.{Parts}
 use Rattle.audit_core.specs.AuditCalls.{IsAuditRefused, IsEarly}
-use Rattle.audit_core.specs.AuditSteps.{OnPart, OnOrderRefused}
+use Rattle.audit_core.specs.AuditSteps.{IsWrittenWith, OnPart, OnOrderRefused}
 
 pub passes_of : {T E P : Type 0} (r : Result T E) → ((x : E) → r ≡ Err x → ⊥) → OnOk r P → P
 passes_of (Ok u) n p = p
@@ -80,6 +80,14 @@ one_given hash (d ∷ ds) (x ∷ xs) (y ∷ ys) a b = ap₂ (λ (z : Given) (zs 
 
 one_body : (o : Order) (parts : Parts) (p q : Tree) (xs ys : List Given) → IsWrittenFor o parts p xs → IsWrittenFor o parts q ys → p ≡ q
 one_body o parts p q xs ys a b = one_carried parts.signed.payload p q a.payload.carried b.payload.carried
+
+-- the same of what is read, and then what is said of the one is said of the other
+pub one_reading : (A : Tree → List Given → Type 0) (hash : HashAlg) (hidden : ℕ) (parts : Parts) (p q : Tree) (xs ys : List Given) → IsWrittenWith hash hidden parts p xs → IsWrittenWith hash hidden parts q ys
+    → A p xs → A q ys
+one_reading A hash hidden parts p q xs ys a b said =
+    let body = one_carried parts.signed.payload p q a.payload.carried b.payload.carried in
+    let given = one_given hash parts.disclosures xs ys a.disclosures b.disclosures in
+    subst (λ zs. A q zs) given (subst (λ r. A r xs) body said)
 
 -- the part that differs of one content
 one_content : (o : Order) (p : Tree) (g : List Given) (k j : ℕ) → ContentDiffers o p g k → ContentDiffers o p g j → k ≡ j

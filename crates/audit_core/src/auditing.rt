@@ -1,9 +1,10 @@
 // The call that audits.
-ghost use Rattle.std.specs.Prelude.{◌≡◌, ◌≤◌, ℕ, length, OnOk, IfErr};
+ghost use Rattle.std.specs.Prelude.{◌≡◌, ◌≤◌, ℕ, List, length, OnOk, IfErr, IfSome};
 ghost use Rattle.sd_outside.specs.Limits.{count_max};
-ghost use Rattle.claim_tree.specs.Tree.{IsRanged, depth as depth_of};
+ghost use Rattle.claim_tree.specs.Tree.{Tree as SeenTree, IsRanged, depth as depth_of};
 ghost use Rattle.claim_tree.specs.View.{tree_of};
 ghost use Rattle.compact_form.specs.Lowest.{NoneApplies};
+ghost use Rattle.digest_sites.specs.Given.{Given as SeenGiven};
 ghost use Rattle.rebuild_core.specs.Answer.{IsPayload, ValuesShallow, ValuesRanged};
 ghost use Rattle.rebuild_core.specs.LookUps.{look_ups, RoseWithin};
 ghost use Rattle.rebuild_core.specs.Payload.{without_alg as without_alg_of};
@@ -16,7 +17,7 @@ ghost use Rattle.audit_core.specs.Asked.{IsAsked};
 ghost use Rattle.audit_core.specs.Audited.{IsAudited, IsAuditedFor, ShowsClaims, HasDigests, HasDecoys};
 ghost use Rattle.audit_core.specs.Audit.{PassesAudit, FailsAudit, DiffersIn, ContentDiffers};
 ghost use Rattle.audit_core.specs.AuditCalls.{IsAuditRefused, IsAuditedWithin, IsEarly};
-ghost use Rattle.audit_core.specs.AuditSteps.{IsTokenWithin, OnOrderRefused, OnPart};
+ghost use Rattle.audit_core.specs.AuditSteps.{IsTokenWithin, IsWrittenWith, OnOrderRefused, OnPart};
 ghost use Rattle.audit_core.specs.Found.{AreCounted};
 
 use crate::AuditError;
@@ -114,13 +115,54 @@ fn judge_digests(
     Ok(())
 }
 
-// The parts 3 to 6, of what is written.
+// The same, of an order without decoys: it takes no memory then, however long the names of the payload are.
+fn judge_undecoyed(
+    alloc: Global,
+    asked: &Asked,
+    payload: &Tree,
+    given: &GivenList,
+    seed: u64,
+) -> Option<Result<(), AuditError>>
+    requires count { length given.now ≡ asked.now.hidden }
+    requires few { length given.now ≤ count_max }
+    requires decoys { asked.now.decoys ≤ count_max }
+    ensures audited { IfSome result (λ judged. OnOk judged ((o : SeenOrder) → IsAsked o asked.now → ShowsClaims o (tree_of payload.now) given.now → IsAuditedFor o (tree_of payload.now) given.now)) }
+    ensures differs { IfSome result (λ judged. IfErr judged (λ e. (o : SeenOrder) → IsAsked o asked.now → ShowsClaims o (tree_of payload.now) given.now → OnPart e (ContentDiffers o (tree_of payload.now) given.now))) }
+{
+    if asked.decoys != 0 {
+        return None;
+    }
+    Some(judge_digests(alloc, asked, payload, given, seed))
+}
+
+// The same, of what is written, which is read again.
+fn judge_again(alloc: Global, asked: &Asked, token: &TokenView<'_>) -> Result<(), AuditError>
+    requires few { asked.now.hidden ≤ count_max }
+    requires decoys { asked.now.decoys ≤ count_max }
+    ensures audited { OnOk result ((o : SeenOrder) (body : SeenTree) (given : List SeenGiven) → IsAsked o asked.now → IsWrittenWith asked.now.hash asked.now.hidden token.now.parts body given → ShowsClaims o (without_alg_of body) given → IsAuditedFor o (without_alg_of body) given) }
+    ensures differs { IfErr result (λ e. (o : SeenOrder) (body : SeenTree) (given : List SeenGiven) → IsAsked o asked.now → IsWrittenWith asked.now.hash asked.now.hidden token.now.parts body given → ShowsClaims o (without_alg_of body) given → OnPart e (ContentDiffers o (without_alg_of body) given)) }
+{
+    match read_written(alloc, asked.hash, asked.hidden, token)? {
+        Some(written) => {
+            let Written { body, given, seed } = written;
+            judge_digests(alloc, asked, &without_alg(body), &given, seed)
+        }
+        // it was read before
+        None => Err(AuditError::Part(2)),
+    }
+}
+
+// The parts 3 to 6, of what is written. The payload and the disclosures are given away for the third. The other parts
+// look at them before where that takes no memory. Else they wait, since a payload that shows other claims may have
+// names that are much longer, and what is written is read again.
 fn judge_content(
     alloc: Global,
     asked: &Asked,
+    token: &TokenView<'_>,
     written: Written,
     steps: &mut Steps,
 ) -> Result<(), AuditError>
+    requires read { IsWrittenWith asked.now.hash asked.now.hidden token.now.parts (tree_of written.body) written.given }
     requires count { length written.given ≡ asked.now.hidden }
     requires few { length written.given ≤ count_max }
     requires decoys { asked.now.decoys ≤ count_max }
@@ -135,12 +177,14 @@ fn judge_content(
 {
     let Written { body, given, seed } = written;
     let payload = without_alg(body);
-    // the claims are judged last, since what is written is given away for them
-    let judged = judge_digests(alloc, asked, &payload, &given, seed);
+    let early = judge_undecoyed(alloc, asked, &payload, &given, seed);
     if !shows(alloc, payload, given, seed, &asked.claims, steps)? {
         return Err(AuditError::Part(3));
     }
-    judged
+    match early {
+        Some(judged) => judged,
+        None => judge_again(alloc, asked, token),
+    }
 }
 
 // The six parts, in their order.
@@ -164,7 +208,7 @@ fn judge_token<K: Checker>(
     }
     let asked = asked_of(alloc, order)?;
     match read_written(alloc, asked.hash, asked.hidden, token)? {
-        Some(written) => judge_content(alloc, &asked, written, steps),
+        Some(written) => judge_content(alloc, &asked, token, written, steps),
         None => Err(AuditError::Part(2)),
     }
 }
