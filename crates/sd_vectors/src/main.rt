@@ -5,23 +5,9 @@
 //! has the language. With words, just the tables of these names are run.
 #![tactic(auto)]
 
-mod bench;
-#[cfg(test)]
-mod failing_tests;
-#[cfg(test)]
-mod fetch_tests;
-mod names;
-mod spelling;
-mod table;
-#[cfg(test)]
-mod tests;
-mod token;
-mod trouble;
-
-use names::Names;
 use std::process::ExitCode;
 use std::{env, fs, io};
-use table::{Count, report};
+use table_rows::{Count, Report, run_table};
 
 /// The file with the names for all tables.
 const NAMES: &str = "names.txt";
@@ -49,25 +35,25 @@ fn chosen(rt: &HostRuntime) -> io::Result<Vec<String>> {
     }
 }
 
-// Runs a table, and tells what is wrong with it.
-fn run_table(rt: &HostRuntime, names: &mut Names, file: &str, count: &mut Count) -> io::Result<()> {
-    let text = fs::read_to_string(rt, file)?;
-    let report = report(rt.alloc(), names, file, text.as_str(), count).map_err(|_| io::Error::from(
-        io::ErrorKind::OutOfMemory,
-    ))?;
-    print!(rt; "{}", report.as_str())
+// Tells what is wrong with a table, in which the names of another one hold.
+fn tell(rt: &HostRuntime, shared: &str, file: &str, text: &str) -> io::Result<Count> {
+    let Ok(Report { told, count }) = run_table(rt.alloc(), shared, file, text) else {
+        return Err(io::Error::from(io::ErrorKind::OutOfMemory));
+    };
+    print!(rt; "{}", told.as_str())?;
+    Ok(count)
 }
 
 fn run_all(rt: &HostRuntime) -> io::Result<Count> {
-    let mut count = Count::new();
-    let mut names = Names::new(rt.alloc());
-    run_table(rt, &mut names, NAMES, &mut count)?;
-    let shared = names.len();
+    let names = fs::read_to_string(rt, NAMES)?;
+    let mut all = tell(rt, "", NAMES, names.as_str())?;
     for file in chosen(rt)?.iter() {
-        run_table(rt, &mut names, file.as_str(), &mut count)?;
-        names.truncate(shared);
+        let text = fs::read_to_string(rt, file.as_str())?;
+        let count = tell(rt, names.as_str(), file.as_str(), text.as_str())?;
+        all.rows = all.rows.saturating_add(count.rows);
+        all.differing = all.differing.saturating_add(count.differing);
     }
-    Ok(count)
+    Ok(all)
 }
 
 fn main(rt: HostRuntime) -> io::Result<ExitCode> {

@@ -22,15 +22,6 @@ impl Names {
         Ok(())
     }
 
-    pub(crate) fn len(&self) -> usize {
-        self.texts.len()
-    }
-
-    /// Forgets all but the first `count` names.
-    pub(crate) fn truncate(&mut self, count: usize) {
-        self.texts.truncate(count);
-    }
-
     pub(crate) fn find(&self, name: &str) -> Option<&str> {
         for (known, text) in self.texts.iter().rev() {
             if known.as_str() == name {

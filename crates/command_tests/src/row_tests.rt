@@ -1,10 +1,13 @@
-use crate::names::Names;
-use crate::table::{Count, report};
+// The runner of rows: which rows it tells, and what it says of them.
 use std::test::Fail;
+use table_rows::run_table;
+
+// A name for all tables, and a line that can't be read.
+const SHARED: &str = "let A = a.b.c\nsplit t";
 
 // Lines that are as they say, and lines that are not, or can't be read.
 const TABLE: &str = r#"# a comment
-let T = a.b.c~
+let T = <A>~
 first t: <T>
 
 split t = 0 protected a|payload b|signature c|
@@ -46,12 +49,9 @@ t.rows:20: can't be read: what is to be a number is none
 
 #[test]
 fn rows_that_leave_something_else_are_told(rt: HostRuntime) -> Result<(), Fail> {
-    let alloc = rt.alloc();
-    let mut count = Count::new();
-    let mut names = Names::new(alloc);
-    let report = report(alloc, &mut names, "t.rows", TABLE, &mut count)?;
-    assert_eq!(rt; report.as_str(), WRONG);
-    assert_eq!(rt; count.rows, 16);
-    assert_eq!(rt; count.differing, 13);
+    let report = run_table(rt.alloc(), SHARED, "t.rows", TABLE)?;
+    assert_eq!(rt; report.told.as_str(), WRONG);
+    assert_eq!(rt; report.count.rows, 16);
+    assert_eq!(rt; report.count.differing, 13);
     Ok(())
 }

@@ -9,25 +9,27 @@ use std::alloc::Global;
 
 /// How many rows were run, and how many of them left something else than they say.
 #[derive(Clone, Copy)]
-pub(crate) struct Count {
-    pub(crate) rows: u64,
-    pub(crate) differing: u64,
+pub struct Count {
+    pub rows: u64,
+    pub differing: u64,
 }
 
 impl Count {
-    pub(crate) fn new() -> Count {
-        Count {
-            rows: 0,
-            differing: 0,
-        }
-    }
-
     fn add(&mut self, differs: bool) {
         self.rows = self.rows.saturating_add(1);
         if differs {
             self.differing = self.differing.saturating_add(1);
         }
     }
+}
+
+/// What became of a table.
+#[derive(Drop)]
+pub struct Report {
+    /// What is wrong with its lines, each with the name of the file and its number.
+    pub told: String,
+    /// Its rows. A line that can't be read is one of them, and differs.
+    pub count: Count,
 }
 
 /// The most characters of what came and of what was due that a report shows.
@@ -85,16 +87,16 @@ fn difference(alloc: Global, row: &str) -> Result<Option<String>, Trouble> {
     Ok(Some(format!(in alloc; "came {came}\n    due {due}")?))
 }
 
-/// The names and the first steps that hold for the next line of a table.
+// The names and the first steps that hold for the next line of a table.
 #[derive(Drop)]
-pub(crate) struct Table<'a> {
+struct Table<'a> {
     alloc: Global,
     names: &'a mut Names,
     first: String,
 }
 
 impl<'a> Table<'a> {
-    pub(crate) fn new(alloc: Global, names: &'a mut Names) -> Table<'a> {
+    fn new(alloc: Global, names: &'a mut Names) -> Table<'a> {
         Table {
             alloc,
             names,
@@ -150,22 +152,30 @@ impl<'a> Table<'a> {
     }
 }
 
-/// What is wrong with the lines of a table, each with the name of its file and its number.
-pub(crate) fn report(
-    alloc: Global,
-    names: &mut Names,
-    file: &str,
-    text: &str,
-    count: &mut Count,
-) -> Result<String, NoMemory> {
-    let mut report = String::new(alloc);
+// What is wrong with the lines of a table, each with the name of its file and its number. The names that they define are
+// added.
+fn read(alloc: Global, names: &mut Names, file: &str, text: &str) -> Result<Report, NoMemory> {
+    let mut told = String::new(alloc);
+    let mut count = Count {
+        rows: 0,
+        differing: 0,
+    };
     let mut table = Table::new(alloc, names);
     for (i, line) in text.split('\n').enumerate() {
-        if let Some(told) = table.told(line, count)? {
+        if let Some(fault) = table.told(line, &mut count)? {
             let number = i.saturating_add(1);
-            let told = told.as_str();
-            report.push_str(format!(in alloc; "{file}:{number}: {told}\n")?.as_str())?;
+            let fault = fault.as_str();
+            told.push_str(format!(in alloc; "{file}:{number}: {fault}\n")?.as_str())?;
         }
     }
-    Ok(report)
+    Ok(Report { told, count })
+}
+
+/// Runs every row of the table that the text of a file is. The names of another table, `shared`, hold in it.
+///
+/// What is wrong with the lines of `shared` is not told: run it as a table for that.
+pub fn run_table(alloc: Global, shared: &str, file: &str, text: &str) -> Result<Report, NoMemory> {
+    let mut names = Names::new(alloc);
+    let _ = read(alloc, &mut names, file, shared)?;
+    read(alloc, &mut names, file, text)
 }
