@@ -1,5 +1,5 @@
 // The call that audits.
-ghost use Rattle.std.specs.Prelude.{◌≡◌, ◌≤◌, ℕ, List, length, OnOk, IfErr, IfSome};
+ghost use Rattle.std.specs.Prelude.{◌≡◌, ◌≤◌, ℕ, List, length, OnOk, IfErr};
 ghost use Rattle.sd_outside.specs.Limits.{count_max};
 ghost use Rattle.claim_tree.specs.Tree.{Tree as SeenTree, IsRanged, depth as depth_of};
 ghost use Rattle.claim_tree.specs.View.{tree_of};
@@ -37,6 +37,7 @@ use hmac_sign::{Alg, Checker};
 use issuer_core::{IssueError, Order, judge, order_refusal};
 use json_form::{TokenError, TokenText, TokenView};
 use rebuild_core::without_alg;
+use sd_outside::TextBox;
 use std::alloc::Global;
 
 // 80.
@@ -63,13 +64,14 @@ fn order_error(error: &IssueError) -> AuditError
 }
 
 // The digests of no disclosure: what part 4 says of them, and part 5. They are counted, so an order without decoys has
-// none.
+// none. No memory is taken for a place whose path is longer than `longest`.
 fn judge_others(
     alloc: Global,
     asked: &Asked,
     payload: &Tree,
     given: &GivenList,
     seed: u64,
+    longest: usize,
 ) -> Result<(), AuditError>
     requires { length given.now ≡ asked.now.hidden }
     ensures hold { OnOk result ((o : SeenOrder) → IsAsked o asked.now → AreCounted o (tree_of payload.now) given.now → HasDigests o (tree_of payload.now) given.now × HasDecoys o (tree_of payload.now) given.now) }
@@ -78,7 +80,7 @@ fn judge_others(
     if asked.decoys == 0 {
         return Ok(());
     }
-    let others = others_of(alloc, &asked.claims, payload, given, seed)?;
+    let others = others_of(alloc, &asked.claims, payload, given, seed, longest)?;
     if !are_digests(asked.hash, others.elements()) {
         return Err(AuditError::Part(4));
     }
@@ -96,6 +98,7 @@ fn judge_digests(
     payload: &Tree,
     given: &GivenList,
     seed: u64,
+    longest: usize,
 ) -> Result<(), AuditError>
     requires count { length given.now ≡ asked.now.hidden }
     requires few { length given.now ≤ count_max }
@@ -106,7 +109,7 @@ fn judge_digests(
     if !are_so_many(payload, given, given.len() + asked.decoys) {
         return Err(AuditError::Part(4));
     }
-    if let Err(error) = judge_others(alloc, asked, payload, given, seed) {
+    if let Err(error) = judge_others(alloc, asked, payload, given, seed, longest) {
         return Err(error);
     }
     if !has_sorted_digests(payload, given) {
@@ -115,27 +118,7 @@ fn judge_digests(
     Ok(())
 }
 
-// The same, of an order without decoys: it takes no memory then, however long the names of the payload are.
-fn judge_undecoyed(
-    alloc: Global,
-    asked: &Asked,
-    payload: &Tree,
-    given: &GivenList,
-    seed: u64,
-) -> Option<Result<(), AuditError>>
-    requires count { length given.now ≡ asked.now.hidden }
-    requires few { length given.now ≤ count_max }
-    requires decoys { asked.now.decoys ≤ count_max }
-    ensures audited { IfSome result (λ judged. OnOk judged ((o : SeenOrder) → IsAsked o asked.now → ShowsClaims o (tree_of payload.now) given.now → IsAuditedFor o (tree_of payload.now) given.now)) }
-    ensures differs { IfSome result (λ judged. IfErr judged (λ e. (o : SeenOrder) → IsAsked o asked.now → ShowsClaims o (tree_of payload.now) given.now → OnPart e (ContentDiffers o (tree_of payload.now) given.now))) }
-{
-    if asked.decoys != 0 {
-        return None;
-    }
-    Some(judge_digests(alloc, asked, payload, given, seed))
-}
-
-// The same, of what is written, which is read again.
+// The same, of what is written, which is read again: the claims are known by now, and so are all names.
 fn judge_again(alloc: Global, asked: &Asked, token: &TokenView<'_>) -> Result<(), AuditError>
     requires few { asked.now.hidden ≤ count_max }
     requires decoys { asked.now.decoys ≤ count_max }
@@ -145,16 +128,25 @@ fn judge_again(alloc: Global, asked: &Asked, token: &TokenView<'_>) -> Result<()
     match read_written(alloc, asked.hash, asked.hidden, token)? {
         Some(written) => {
             let Written { body, given, seed } = written;
-            judge_digests(alloc, asked, &without_alg(body), &given, seed)
+            judge_digests(alloc, asked, &without_alg(body), &given, seed, usize::MAX)
         }
         // it was read before
         None => Err(AuditError::Part(2)),
     }
 }
 
-// The parts 3 to 6, of what is written. The payload and the disclosures are given away for the third. The other parts
-// look at them before where that takes no memory. Else they wait, since a payload that shows other claims may have
-// names that are much longer, and what is written is read again.
+// The length of the longest of the texts.
+fn longest_of(texts: &[TextBox]) -> usize {
+    let mut longest = 0;
+    for text in texts {
+        longest = longest.max(text.as_str().len());
+    }
+    longest
+}
+
+// The parts 3 to 6, of what is written. Payload and disclosures are given away for the third, so the others look at
+// them before. A payload that shows other claims may have names of megabytes over thousands of digests: where one
+// stands at a longer path than any decoy that is asked for, the others wait, and what is written is read again.
 fn judge_content(
     alloc: Global,
     asked: &Asked,
@@ -177,13 +169,14 @@ fn judge_content(
 {
     let Written { body, given, seed } = written;
     let payload = without_alg(body);
-    let early = judge_undecoyed(alloc, asked, &payload, &given, seed);
+    let longest = longest_of(asked.standings.as_slice());
+    let early = judge_digests(alloc, asked, &payload, &given, seed, longest);
     if !shows(alloc, payload, given, seed, &asked.claims, steps)? {
         return Err(AuditError::Part(3));
     }
     match early {
-        Some(judged) => judged,
-        None => judge_again(alloc, asked, token),
+        Err(AuditError::Memory) => judge_again(alloc, asked, token),
+        judged => judged,
     }
 }
 

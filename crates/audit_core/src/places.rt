@@ -15,19 +15,22 @@ use sd_outside::{NoMemory, TextBox};
 use std::alloc::Global;
 
 // The strange sites of the payload, and then those of each value. A value stands at the node of the claims whose mark
-// is its number. Digests are looked up by their hashes with the seed.
+// is its number. Digests are looked up by their hashes with the seed. No memory is taken for a site whose path is longer
+// than `longest`.
 pub(crate) fn others_of(
     alloc: Global,
     claims: &Marked,
     payload: &Tree,
     given: &GivenList,
     seed: u64,
+    longest: usize,
 ) -> Result<SiteList, NoMemory>
     ensures { IfOk result (AreOthers (marked_of claims.now) (tree_of payload.now) given.now) }
 {
     let mut search = Search {
         alloc,
         known: digests_of(alloc, given, seed)?,
+        longest,
         at: Path::new(alloc),
         found: SiteList::new(alloc),
     };

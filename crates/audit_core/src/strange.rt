@@ -21,6 +21,8 @@ pub(crate) struct Search<'a> {
     pub(crate) alloc: Global,
     // The digests of the disclosures.
     pub(crate) known: HashSet<&'a str, Seeded>,
+    // How long the path of a site may be.
+    pub(crate) longest: usize,
     // Where in the claims the search is.
     pub(crate) at: Path,
     pub(crate) found: SiteList,
@@ -122,7 +124,17 @@ fn walk_inside(search: &mut Search<'_>, step: &str, tree: &Tree) -> Result<(), N
     Ok(())
 }
 
-// A site at a path, whose digest is of no disclosure.
+// Whether the texts of the steps are longer than this.
+fn is_longer(path: &Path, most: usize) -> bool {
+    let mut length = 0usize;
+    for step in path.steps() {
+        length = length.saturating_add(step.len());
+    }
+    length > most
+}
+
+// A site at a path, whose digest is of no disclosure. None is added at one that is too long: that is as if there were no
+// memory for it.
 fn add_site(
     search: &mut Search<'_>,
     at: Path,
@@ -133,6 +145,9 @@ fn add_site(
     ensures at { search.new.at ≡ search.old.at }
     ensures known { search.new.known ≡ search.old.known }
 {
+    if is_longer(&at, search.longest) {
+        return Err(NoMemory);
+    }
     let digest = TextBox::make(search.alloc, digest.as_str())?;
     search.found.push(Site { at, kind, digest })
 }
