@@ -152,8 +152,8 @@ impl<'a> Table<'a> {
     }
 }
 
-// What is wrong with the lines of a table, each with the name of its file and its number. The names that they define are
-// added.
+// What is wrong with the lines of a table, each with the name of its file and its number. The names that they define
+// are added.
 fn read(alloc: Global, names: &mut Names, file: &str, text: &str) -> Result<Report, NoMemory> {
     let mut told = String::new(alloc);
     let mut count = Count {
