@@ -237,7 +237,8 @@ impl TreeMap {
         Some((name, tree))
     }
 
-    /// Puts a tree under a name, in place of the one that is there. A name behind all others costs one comparison and moves no member.
+    /// Puts a tree under a name, in place of the one that is there. A name behind all others costs one comparison and
+    /// moves no member.
     pub fn insert(&mut self, name: TextBox, tree: Tree) -> Result<(), NoMemory>
         ensures ok { OnOk result (self.new ≡ inserted self.old name (tree_of tree)) }
         ensures err { OnErr result (self.new ≡ self.old) }

@@ -2,8 +2,8 @@ ghost use Rattle.std.specs.Prelude.{◌≡◌};
 
 use crate::Condition;
 
-/// Why something is refused, with the number and the name that its line tells. A number that was printed once never gets another
-/// meaning.
+/// Why something is refused, with the number and the name that its line tells. A number that was printed once never
+/// gets another meaning.
 #[derive(Clone, Copy, Debug, PartialEq, Eq)]
 pub enum Refusal {
     /// A token fails this condition: 1 to 38.

@@ -79,8 +79,8 @@ impl Sink for MemSink {
         ensures failed { OnErr result (Rose self.old.faults self.new.faults) }
         ensures later { self.old.faults ≤ self.new.faults }
 
-        // it fails exactly at a call that is to fail, which writes nothing, and where the piece does not fit; what fits is
-        // written, and just then it counts
+        // it fails exactly at a call that is to fail, which writes nothing, and where the piece does not fit; what fits
+        // is written, and just then it counts
         ensures asked { OnOk result (IsToFail self.old.calls → ⊥) }
         ensures fits { OnOk result (length self.old.bytes + length bytes.now ≤ self.old.room) }
         ensures cause { OnErr result (IsToFail self.old.calls ⊎ (self.old.room < length self.old.bytes + length bytes.now)) }

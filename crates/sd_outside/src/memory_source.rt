@@ -94,8 +94,8 @@ impl Source for MemSource {
         ensures same_taken { OnErr result (self.new.taken ≡ self.old.taken) }
         ensures later { self.old.faults ≤ self.new.faults }
 
-        // it fails exactly at a call that is to fail, and just then it counts; else it gives the least of the step, the room and
-        // what is left
+        // it fails exactly at a call that is to fail, and just then it counts; else it gives the least of the step, the
+        // room and what is left
         ensures asked { OnOk result (IsToFail self.old.calls → ⊥) }
         ensures cause { OnErr result (IsToFail self.old.calls) }
         ensures least { IfOk result (λ count. count ≡ min self.old.step (min (length room.old) (length self.old.left))) }
