@@ -64,7 +64,7 @@ fn order_error(error: &IssueError) -> AuditError
 }
 
 // The digests of no disclosure: what part 4 says of them, and part 5. They are counted, so an order without decoys has
-// none. No memory is taken for a place whose path is longer than `longest`.
+// none. A place whose path is longer than `longest` ends it as want of memory does.
 fn judge_others(
     alloc: Global,
     asked: &Asked,

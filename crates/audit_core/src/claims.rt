@@ -1,5 +1,5 @@
 // The third part: what a token shows.
-ghost use Rattle.std.specs.Prelude.{◌≡◌, ◌≤◌, ◌<◌, ◌-◌, ◌^◌, ◌↔◌, length, IfOk, IfSome, IfNone, IsTrue};
+ghost use Rattle.std.specs.Prelude.{◌≡◌, ◌≤◌, ◌<◌, ◌-◌, ◌^◌, ◌↔◌, length, IfOk, IsTrue};
 ghost use Rattle.claim_tree.specs.Tree.{IsRanged, depth as depth_of};
 ghost use Rattle.claim_tree.specs.View.{tree_of};
 ghost use Rattle.marked_tree.specs.View.{marked_of};
@@ -18,36 +18,8 @@ use rebuild_core::{ProcessError, process_seeded};
 use sd_outside::NoMemory;
 use std::alloc::Global;
 
-// What the payload, which has no `_sd_alg` of its own, and the disclosures show, where no condition of 14 to 21 fails.
-fn opened(
-    alloc: Global,
-    payload: Tree,
-    given: GivenList,
-    seed: u64,
-    steps: &mut Steps,
-) -> Result<Option<Marked>, NoMemory>
-    requires object { IsPayload (tree_of payload) }
-    requires bare { without_alg (tree_of payload) ≡ tree_of payload }
-    requires payload_depth { depth_of (tree_of payload) ≤ 127 }
-    requires values_depth { ValuesShallow given }
-    requires payload_range { IsRanged (tree_of payload) }
-    requires values_range { ValuesRanged given }
-    requires few { length given < 2 ^ 32 - 1 }
-    ensures sound { IfOk result (λ shown. IfSome shown (λ _. IsSound (tree_of payload) given)) }
-    ensures shown { IfOk result (λ shown. IfSome shown (λ m. marked_of m ≡ processed (tree_of payload) given)) }
-    ensures unsound { IfOk result (λ shown. IfNone shown (IsSound (tree_of payload) given → ⊥)) }
-    ensures risen { RoseWithin (look_ups (tree_of payload) given) steps.old steps.new }
-{
-    match process_seeded(alloc, payload, given, seed, steps) {
-        Ok(marked) => Ok(Some(marked)),
-        Err(error) => match error {
-            ProcessError::Memory => Err(NoMemory),
-            _ => Ok(None),
-        },
-    }
-}
-
-// Whether they show these claims.
+// Whether the payload, which has no `_sd_alg` of its own, and the disclosures meet the conditions 14 to 21 and show
+// these claims. Both are given away.
 pub(crate) fn shows(
     alloc: Global,
     payload: Tree,
@@ -66,8 +38,11 @@ pub(crate) fn shows(
     ensures shows { IfOk result (λ is. IsTrue is ↔ (IsSound (tree_of payload) given × (processed (tree_of payload) given ≡ marked_of claims.now))) }
     ensures risen { RoseWithin (look_ups (tree_of payload) given) steps.old steps.new }
 {
-    match opened(alloc, payload, given, seed, steps)? {
-        Some(shown) => Ok(is_same(&shown, claims)),
-        None => Ok(false),
+    match process_seeded(alloc, payload, given, seed, steps) {
+        Ok(shown) => Ok(is_same(&shown, claims)),
+        Err(error) => match error {
+            ProcessError::Memory => Err(NoMemory),
+            _ => Ok(false),
+        },
     }
 }

@@ -15,8 +15,8 @@ use sd_outside::{NoMemory, TextBox};
 use std::alloc::Global;
 
 // The strange sites of the payload, and then those of each value. A value stands at the node of the claims whose mark
-// is its number. Digests are looked up by their hashes with the seed. No memory is taken for a site whose path is
-// longer than `longest`.
+// is its number. Digests are looked up by their hashes with the seed. A site whose path is longer than `longest` ends
+// the search as want of memory does.
 pub(crate) fn others_of(
     alloc: Global,
     claims: &Marked,

@@ -133,8 +133,7 @@ fn is_longer(path: &Path, most: usize) -> bool {
     length > most
 }
 
-// A site at a path, whose digest is of no disclosure. None is added at one that is too long: that is as if there were
-// no memory for it.
+// A site at a path, whose digest is of no disclosure. A path that is too long is refused as want of memory is.
 fn add_site(
     search: &mut Search<'_>,
     at: Path,
