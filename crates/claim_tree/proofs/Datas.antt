@@ -1,5 +1,5 @@
 -- Trees beside the data of `serde_json`.
-use Rattle.std.proofs.Common.{◌≡◌, ℤ, pos, negsuc, suc, List, [], ◌∷◌, ◌++◌, String, Global, string_bytes, string_cmp, nat_cmp, Ordering, Less, Equal, Greater, Bool, true, false, ◌||◌, refl, ap}
+use Rattle.std.proofs.Common.{◌≡◌, ℤ, pos, negsuc, suc, List, [], ◌∷◌, ◌++◌, String, Global, string_bytes, string_cmp, nat_cmp, Ordering, Less, Equal, Greater, true, false, refl, ap}
 use Rattle.std.specs.Cmp.Lexicographic.{slice_cmp}
 use Rattle.std.specs.Ordering.{match_ordering}
 use Rattle.std.specs.Map.{keys_of}

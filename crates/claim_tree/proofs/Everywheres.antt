@@ -1,5 +1,5 @@
 -- What is so of every part of a tree.
-use Rattle.std.proofs.Common.{List, Ordering, Less, Equal, Greater}
+use Rattle.std.proofs.Common.{Ordering, Less, Equal, Greater}
 use Rattle.std.specs.Cmp.Lexicographic.{slice_cmp}
 use Rattle.std.specs.Ordering.{match_ordering, nat_cmp}
 use Rattle.claim_tree.specs.Tree.{Text, Leaf, Tree, leaf, array, object, Elements, no_elements, element, Members, no_members, member, inserted}

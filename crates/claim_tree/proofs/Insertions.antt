@@ -1,6 +1,5 @@
 -- The order in which members are put is no matter.
-use Rattle.std.proofs.Common.{◌≡◌, Ordering, Less, Equal, Greater, nat_cmp, refl, sym, ap, subst, ◌∙◌}
-use Rattle.std.specs.Cmp.{IsTotalOrder}
+use Rattle.std.proofs.Common.{◌≡◌, Ordering, Less, Equal, Greater, refl, sym, ap, subst, ◌∙◌}
 use Rattle.std.specs.Ordering.{ordering_reverse}
 use Rattle.claim_tree.specs.Tree.{Text, Tree, Members, no_members, member, inserted, IsBefore}
 use Rattle.claim_tree.proofs.MapPlaces.{cmp, order, same_name, before_after, after_before}

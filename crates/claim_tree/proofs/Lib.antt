@@ -11,6 +11,7 @@ pub mod Walks
 pub mod TreeTokens
 pub mod Datas
 mod TreeReading
+mod ListTails
 pub mod RoundTrip
 pub mod Everywheres
 pub mod TreeTexts

@@ -1,5 +1,5 @@
 -- Lists in files, element by element.
-use Rattle.std.proofs.Common.{◌≡◌, ◌≢◌, ℕ, zero, suc, ◌+◌, ◌<◌, List, [], ◌∷◌, ◌++◌, length, get_or, take, Option, refl, sym, ap, subst, ◌∙◌, arith}
+use Rattle.std.proofs.Common.{◌≡◌, ◌≢◌, ℕ, zero, suc, ◌+◌, ◌<◌, List, [], ◌∷◌, ◌++◌, length, get_or, take, refl, sym, ap, subst, ◌∙◌, arith}
 use Rattle.claim_tree.specs.Tree as spec
 use Rattle.claim_tree.specs.Tree.{Text, leaf, text, array, Elements, no_elements, element}
 use Rattle.claim_tree.specs.TreeCalls.{pushed}
@@ -8,8 +8,8 @@ use Rattle.claim_tree.specs.PointerRefusals.{IsNoPointer}
 use Rattle.claim_tree.specs.View.{tree_of}
 use Rattle.claim_tree.specs.ListViews.{elements_of}
 use Rattle.claim_tree.specs.declared.tree.Tree as tree
-use Rattle.claim_tree.specs.FileForms.{HasValue, IsText}
-use Rattle.claim_tree.proofs.FileMembers.{list_inside, no_text}
+use Rattle.claim_tree.specs.FileForms.{HasValue}
+use Rattle.claim_tree.proofs.FileMembers.{list_inside}
 use Rattle.claim_tree.proofs.FileVerdicts.{SaysOne}
 use Rattle.claim_tree.proofs.PointerTexts.{pointer_text-injective, no_path}
 use Rattle.claim_tree.proofs.Walks.{elements_turn}

@@ -1,5 +1,5 @@
 -- The way to a place goes by each front of its path.
-use Rattle.std.proofs.Common.{◌≡◌, List, [], ◌∷◌, length, drop, take, true, bytes_eq, refl, sym, ap, ◌∙◌}
+use Rattle.std.proofs.Common.{◌≡◌, List, [], ◌∷◌, length, drop, take, true, bytes_eq, refl}
 use Rattle.std.specs.Prelude.{Option, None, Some, option_and_then}
 use Rattle.std.specs.Cmp.Lexicographic.{pointwise}
 use Rattle.claim_tree.specs.Tree.{Text, Tree}

@@ -1,5 +1,5 @@
 -- The steps of a path, in the text in which they stand.
-use Rattle.std.proofs.Common.{◌≡◌, Bool, true, false, bytes_eq, ℕ, zero, suc, ◌+◌, ◌-◌, ◌<◌, ◌≤◌, List, [], ◌∷◌, ◌++◌, length, take, drop, get_or, Some, inl, inr, refl, sym, ap, ap₂, subst, ◌∙◌, arith, rules, length-append, append_assoc, drop-drop, IsUtf8}
+use Rattle.std.proofs.Common.{◌≡◌, Bool, true, false, ℕ, zero, suc, ◌+◌, ◌-◌, ◌<◌, ◌≤◌, List, [], ◌∷◌, ◌++◌, length, take, drop, get_or, Some, inl, inr, refl, sym, ap, ap₂, subst, ◌∙◌, arith, rules, length-append, append_assoc, drop-drop, IsUtf8}
 use Rattle.std.specs.Prelude.{slice_range, slice_get}
 use Rattle.std.specs.Prelude.{nat_eq}
 use Rattle.std.specs.List.{flat_map, starts_with}

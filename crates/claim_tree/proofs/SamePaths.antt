@@ -1,5 +1,5 @@
 -- Paths that are equal.
-use Rattle.std.proofs.Common.{◌≡◌, ◌&&◌, List, [], ◌∷◌, true, bytes_eq, refl, ap₂}
+use Rattle.std.proofs.Common.{◌≡◌, List, [], ◌∷◌, true, bytes_eq, refl, ap₂}
 use Rattle.std.specs.Cmp.Lexicographic.{pointwise}
 use Rattle.claim_tree.specs.Tree.{Text}
 use Rattle.claim_tree.proofs.Lists.{bytes_same, bytes_refl, and_split, and_join}

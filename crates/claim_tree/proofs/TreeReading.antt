@@ -1,5 +1,5 @@
 -- The grammar's loops, a turn at a time, where each value is a tree.
-use Rattle.std.proofs.Common.{◌≡◌, ℕ, ◌-◌, ◌<◌, ◌≤◌, List, [], length, Option, Some, None, option_map, option_and_then, Ordering, Less, Equal, Greater, refl, sym, ap, ◌∙◌}
+use Rattle.std.proofs.Common.{◌≡◌, ℕ, ◌-◌, ◌<◌, ◌≤◌, List, length, Option, Some, None, option_map, Ordering, Less, Equal, Greater, refl, sym, ap, ◌∙◌}
 use Rattle.std.specs.Ordering.{match_ordering, ordering_reverse}
 use Rattle.json.specs.Token.{Token}
 use Rattle.json.specs.Json as json
@@ -24,7 +24,7 @@ found : {B : Type 0} (r s : List Token) (x : Option B) (b : B) → option_map {U
 found r s None b e = absurd (cc)
 found r s (Some y) b e = let same = ap (value_or (y, r)) e in (ap (λ p. p.1) same, ap (λ p. Some p.0) same)
 
-converted_some : {A B : Type 0} (f : A → Option B) (o : Option (A × List Token)) (b : B) (r : List Token) → converted f o ≡ Some (b, r) → (a : A) × (o ≡ Some (a, r)) × (f a ≡ Some b)
+pub converted_some : {A B : Type 0} (f : A → Option B) (o : Option (A × List Token)) (b : B) (r : List Token) → converted f o ≡ Some (b, r) → (a : A) × (o ≡ Some (a, r)) × (f a ≡ Some b)
 converted_some f None b r e = absurd (cc)
 converted_some f (Some p) b r e = let both = found p.1 r (f p.0) b e in (p.0, ap (λ s. Some (p.0, s)) both.0, both.1)
 

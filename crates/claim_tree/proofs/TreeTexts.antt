@@ -5,7 +5,7 @@ use Rattle.std.proofs.lemmas.Str.{IsUtf8-append, IsUtf8-from_ascii}
 use Rattle.json.specs.Print.{quoted}
 use Rattle.json.proofs.Printed.Utf8.{IsUtf8-are_ascii, IsUtf8-boolean, IsUtf8-quoted}
 use Rattle.serde_json.specs.Written.{comma_if, items_text, members_text}
-use Rattle.claim_tree.specs.Tree.{Leaf, null, flag, whole, text, Tree, leaf, array, object, Elements, no_elements, element, Members, no_members, member, depth, IsOrdered, IsRanged, ElementsRanged, MembersRanged}
+use Rattle.claim_tree.specs.Tree.{null, flag, whole, text, Tree, leaf, array, object, Elements, no_elements, element, Members, no_members, member, depth, IsOrdered, IsRanged, ElementsRanged, MembersRanged}
 use Rattle.claim_tree.specs.Everywhere.{LeafIsUtf8, Everywhere, InElements, InMembers}
 use Rattle.claim_tree.specs.JsonText.{json_text, elements_data, members_data, Reads}
 use Rattle.claim_tree.proofs.RoundTrip.{read_of_text}

@@ -18,3 +18,4 @@ pub mod FileRefusals
 pub mod PointerRefusals
 pub mod ListViews
 pub mod Steps
+pub mod ListTails

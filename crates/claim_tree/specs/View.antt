@@ -1,5 +1,4 @@
 -- The tree that a value of the code is.
-use Rattle.std.specs.Prelude.{List}
 use Rattle.claim_tree.specs.Tree as spec
 use Rattle.claim_tree.specs.Tree.{Text, leaf, array, object, null, flag, whole, text}
 use Rattle.claim_tree.specs.declared.tree.Tree.{Tree}

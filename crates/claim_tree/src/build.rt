@@ -15,7 +15,7 @@ use sd_outside::{NoMemory, TextBox};
 use std::alloc::{AllocError, Global};
 
 // How deep arrays and objects nest at most.
-const MOST_DEPTH: usize = 127;
+pub(crate) const MOST_DEPTH: usize = 127;
 
 // Why the tokens give no tree.
 #[derive(Clone, Copy, Debug, PartialEq, Eq)]
@@ -62,7 +62,11 @@ pub(crate) fn build_text(
 
 // The tree that the next tokens are.
 #[cycle(build)]
-fn build(alloc: Global, reader: &mut Reader<'_>, depth: usize) -> Result<Tree, BuildError>
+pub(crate) fn build(
+    alloc: Global,
+    reader: &mut Reader<'_>,
+    depth: usize,
+) -> Result<Tree, BuildError>
     ensures ok { IfOk result (λ t. converted of_json (value depth reader.old) ≡ Some (data_of (tree_of t), reader.new)) }
     ensures ranged { IfOk result (λ t. IsRanged (tree_of t)) }
     ensures shorter { OnOk result (length reader.new < length reader.old) }

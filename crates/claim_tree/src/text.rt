@@ -5,9 +5,11 @@ ghost use Rattle.claim_tree.specs.Tree.{IsRanged, IsOrdered, depth as depth_of};
 ghost use Rattle.claim_tree.specs.View.{tree_of};
 ghost use Rattle.claim_tree.specs.JsonText.{Reads, data_of, json_text};
 ghost use Rattle.claim_tree.specs.JsonRefusals.{IsReadRefused};
+ghost use Rattle.claim_tree.specs.ListTails.{ReadsTail, kept};
 
 use crate::build::{BuildError, build_text};
 use crate::convert::{TakeError, take};
+use crate::tail::{TailOrTree, build_tail};
 use crate::tokens::put_tree;
 use crate::tree::{Tree, is_ordered};
 use json::{Scratch, Writer};
@@ -59,6 +61,30 @@ impl JsonReader {
         };
         is_ordered(&tree);
         Ok(tree)
+    }
+
+    /// The same, but the text that a list of two or three begins with is read and not kept.
+    pub fn read_tail(&mut self, alloc: Global, bytes: &[u8]) -> Result<TailOrTree, ReadError>
+        ensures ok { IfOk result (ReadsTail bytes.now) }
+        ensures ranged { IfOk result (λ found. IsRanged (kept found)) }
+        ensures ordered { IfOk result (λ found. IsOrdered (kept found)) }
+        ensures depth { IfOk result (λ found. depth_of (kept found) ≤ 127) }
+        ensures unread { IfErr result (IsReadRefused bytes.now) }
+    {
+        let Ok(text) = str::from_utf8(bytes) else {
+            return Err(ReadError::NotJson);
+        };
+        match build_tail(alloc, &mut self.scratch, text) {
+            Ok(tail) => {
+                is_ordered(&tail.second);
+                if let Some(third) = &tail.third {
+                    is_ordered(third);
+                }
+                Ok(TailOrTree::Tail(tail))
+            }
+            Err(BuildError::Memory) => Err(ReadError::Memory),
+            Err(BuildError::NoTree) => Ok(TailOrTree::Tree(self.read(alloc, bytes)?)),
+        }
     }
 }
 

@@ -1,4 +1,4 @@
-use Rattle.std.proofs.Common.{◌≡◌, Bool, true, false, nat_eq, sym, ◌∙◌, string_bytes}
+use Rattle.std.proofs.Common.{◌≡◌, true, false, nat_eq, sym, ◌∙◌}
 use Rattle.std.specs.List.{starts_with}
 use Rattle.claim_tree.proofs.PathSteps.{front_by_text, no_front}
 use Rattle.claim_tree.proofs.path.is_prefix.Goals as goal

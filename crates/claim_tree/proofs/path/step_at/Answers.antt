@@ -1,4 +1,4 @@
-use Rattle.std.proofs.Common.{rules, arith}
+use Rattle.std.proofs.Common.{arith}
 use Rattle.claim_tree.proofs.PathSteps.{step_bounds, ends_at_boundary, step_at}
 use Rattle.claim_tree.proofs.path.step_at.Goals as goal
 

@@ -1,10 +1,8 @@
-use Rattle.std.proofs.Common.{◌≡◌, arith, length, refl, sym, ◌∙◌, ap}
-use Rattle.std.specs.Prelude.{None, Err, false, true, ◌==◌}
+use Rattle.std.proofs.Common.{◌≡◌, sym, ◌∙◌, ap}
+use Rattle.std.specs.Prelude.{Err}
 use Rattle.std.proofs.lemmas.Result.{err_from_is_err_and}
-use Rattle.std.proofs.lemmas.Str.Pattern.{strip_prefix_char}
-use Rattle.claim_tree.specs.PointerRefusals.{no_slash, lone_tilde}
+use Rattle.claim_tree.specs.PointerRefusals.{lone_tilde}
 use Rattle.claim_tree.specs.declared.pointer.PointerError.TheVariants.{Syntax}
-use Rattle.claim_tree.proofs.PointerTildes.{begins_not}
 use Rattle.claim_tree.proofs.PointerPieces.{step_cut, step_read, lone_in_step}
 use Rattle.claim_tree.proofs.pointer.read_steps.Goals as goal
 

@@ -1,4 +1,4 @@
-use Rattle.std.proofs.Common.{◌≡◌, ◌≤◌, length, rules, sym, ◌∙◌, arith, string_bytes}
+use Rattle.std.proofs.Common.{◌≤◌, length, rules, sym, string_bytes}
 use Rattle.std.proofs.lemmas.Option.{slice_get_past}
 use Rattle.claim_tree.proofs.PathSteps.{steps_length}
 use Rattle.claim_tree.proofs.path.Path.at.Goals as goal

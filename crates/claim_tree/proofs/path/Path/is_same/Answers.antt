@@ -1,5 +1,4 @@
-use Rattle.std.proofs.Common.{◌≡◌, true, refl, sym, ◌∙◌, string_bytes}
-use Rattle.claim_tree.specs.Steps.{steps_between}
+use Rattle.std.proofs.Common.{◌≡◌, refl, sym, ◌∙◌, string_bytes}
 use Rattle.claim_tree.proofs.Lists.{bytes_same, bytes_refl}
 use Rattle.claim_tree.proofs.PathSteps.{ends_of_steps, one_text}
 use Rattle.claim_tree.proofs.path.Path.is_same.Goals as goal

@@ -1,4 +1,4 @@
-use Rattle.std.proofs.Common.{◌≡◌, length, rules, sym, ◌∙◌, string_bytes}
+use Rattle.std.proofs.Common.{◌≡◌, length, rules, string_bytes}
 use Rattle.claim_tree.proofs.PathSteps.{steps_length}
 use Rattle.claim_tree.proofs.path.Path.len.Goals as goal
 

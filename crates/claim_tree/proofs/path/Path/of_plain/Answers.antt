@@ -1,4 +1,3 @@
-use Rattle.std.proofs.Common.{string_bytes}
 use Rattle.claim_tree.proofs.PlainPointers.{plain_cuts}
 use Rattle.claim_tree.proofs.path.Path.of_plain.Goals as goal
 

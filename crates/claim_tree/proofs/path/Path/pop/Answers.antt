@@ -1,5 +1,4 @@
-use Rattle.std.proofs.Common.{◌≡◌, ◌≤◌, ◌-◌, ℕ, List, length, take, rules, refl, arith, ap, sym, ◌∙◌, string_bytes}
-use Rattle.claim_tree.specs.Steps.{AreEnds}
+use Rattle.std.proofs.Common.{◌≡◌, ◌≤◌, ◌-◌, ℕ, length, take, rules, arith, ◌∙◌, string_bytes}
 use Rattle.claim_tree.proofs.PathSteps.{start_of, last_of, fewer_ends, fewer_steps, starts_at_boundary, steps_length}
 use Rattle.claim_tree.proofs.path.Path.pop.Goals as goal
 

@@ -1,4 +1,4 @@
-use Rattle.std.proofs.Common.{◌≡◌, ◌≤◌, ◌<◌, ◌^◌, min, length, drop, rules, arith, refl, sym, ap, ◌∙◌, string_bytes}
+use Rattle.std.proofs.Common.{◌≡◌, ◌≤◌, ◌<◌, ◌^◌, min, length, drop, rules, arith, sym, ap, ◌∙◌, string_bytes}
 use Rattle.std.proofs.lemmas.List.{length-drop, drop_min}
 use Rattle.claim_tree.specs.Steps.{steps_between}
 use Rattle.claim_tree.proofs.PathSteps.{ends_from, steps_from, steps_length}
