@@ -1,6 +1,7 @@
 ghost use Rattle.std.specs.Prelude.{◌≡◌, ◌≤◌, length, take, OnOk, IfOk, IfErr, IfSome, IfNone, Option, option_map};
 ghost use Rattle.b64url_text.specs.Base64url.{Decodes};
-ghost use Rattle.claim_tree.specs.Tree.{IsRanged, IsOrdered, depth, leaf, text as text_leaf};
+ghost use Rattle.claim_tree.specs.ListTails.{tail_elements};
+ghost use Rattle.claim_tree.specs.Tree.{Tree as TreeSpec, IsRanged, IsOrdered, depth, leaf, text as text_leaf, array, element};
 ghost use Rattle.claim_tree.specs.TreeCalls.{pushed};
 ghost use Rattle.claim_tree.specs.View.{tree_of};
 ghost use Rattle.disclosure.specs.Digest.{digest_of};
@@ -10,7 +11,7 @@ ghost use Rattle.disclosure.specs.DisclosureRefusals.{IsNoArray, IsDisclosureRef
 
 use crate::{DisclosureError, HashAlg, digest};
 use b64url_text::{decode_into, encode};
-use claim_tree::{JsonReader, Tree, TreeList, copy, write};
+use claim_tree::{JsonReader, ListTail, TailOrTree, Tree, TreeList, copy, write};
 use sd_outside::{NoMemory, TextBox};
 use std::alloc::Global;
 
@@ -60,6 +61,25 @@ impl DisclosureParts {
             value: self.value,
         }
     }
+
+    // What it gives.
+    fn without_salt(self) -> Disclosed
+        ensures name { result.name ≡ self.name }
+        ensures value { result.value ≡ self.value }
+    {
+        Disclosed {
+            name: self.name,
+            value: self.value,
+        }
+    }
+}
+
+/// What a disclosure gives: all that the list in it holds but the salt.
+#[derive(Debug, Drop)]
+pub struct Disclosed {
+    /// The name of the member, or nothing where it is an element.
+    pub name: Option<TextBox>,
+    pub value: Tree,
 }
 
 /// What a disclosure holds whose JSON is this tree (RFC 9901 section 4.2): the salt, the name and the value, which are
@@ -84,6 +104,27 @@ pub fn parts_of(tree: Tree) -> Option<DisclosureParts>
     match second {
         Tree::Text(name) if trees.next().is_none() => Some(DisclosureParts {
             salt,
+            name: Some(name),
+            value,
+        }),
+        _ => None,
+    }
+}
+
+// What a disclosure gives whose JSON is the list of a salt and these.
+fn given_by(tail: ListTail) -> Option<Disclosed>
+    ensures given { IfSome result (λ d. (salt : TreeSpec) → array (element salt (tail_elements tail)) ≡ array_of salt d.name (tree_of d.value)) }
+    ensures other { IfNone result ((salt : TreeSpec) → IsNoArray (array (element salt (tail_elements tail)))) }
+{
+    let ListTail { second, third } = tail;
+    let Some(value) = third else {
+        return Some(Disclosed {
+            name: None,
+            value: second,
+        });
+    };
+    match second {
+        Tree::Text(name) => Some(Disclosed {
             name: Some(name),
             value,
         }),
@@ -143,6 +184,28 @@ impl DisclosureReader {
         let count = decode_to(&mut self.room, text)?;
         let tree = self.json.read(alloc, &self.room[..count])?;
         parts_of(tree).ok_or(DisclosureError::NotDisclosure)
+    }
+
+    /// Reads what a disclosure gives. That is faster than to read all that it holds: a salt that is a text is not copied.
+    pub fn read_disclosed(
+        &mut self,
+        alloc: Global,
+        text: &str,
+    ) -> Result<Disclosed, DisclosureError>
+        ensures ok { IfOk result (λ d. (salt : TreeSpec) × IsDisclosure text.now salt d.name (tree_of d.value)) }
+        ensures ranged { IfOk result (λ d. IsRanged (tree_of d.value)) }
+        ensures ordered { IfOk result (λ d. IsOrdered (tree_of d.value)) }
+        ensures depth { IfOk result (λ d. depth (tree_of d.value) ≤ 126) }
+        ensures refused { IfErr result (IsDisclosureRefused text.now) }
+    {
+        let count = decode_to(&mut self.room, text)?;
+        match self.json.read_tail(alloc, &self.room[..count])? {
+            TailOrTree::Tail(tail) => Ok(given_by(tail).ok_or(DisclosureError::NotDisclosure)?),
+            TailOrTree::Tree(tree) => {
+                let parts = parts_of(tree).ok_or(DisclosureError::NotDisclosure)?;
+                Ok(parts.without_salt())
+            }
+        }
     }
 }
 

@@ -24,11 +24,11 @@ pub(crate) fn push_given(
     ensures ok { OnOk result (Adds hash text.now given.old given.new) }
     ensures refused { IfErr result (IsDisclosureRefused text.now) }
 {
-    let parts = reader.read_parts(alloc, text)?;
+    let disclosed = reader.read_disclosed(alloc, text)?;
     given.push(Given {
         digest: digest(alloc, hash, text)?,
-        name: parts.name,
-        value: parts.value,
+        name: disclosed.name,
+        value: disclosed.value,
     })?;
     Ok(())
 }
