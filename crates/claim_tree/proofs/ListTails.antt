@@ -1,5 +1,5 @@
--- A list that begins with a text, from its tokens.
-use Rattle.std.proofs.Common.{◌≡◌, ℕ, ◌-◌, ◌<◌, ◌≤◌, List, [], ◌∷◌, length, Some, None, option_and_then, refl, ap, ◌∙◌, arith}
+-- A list that begins with a text, from its tokens and in its text.
+use Rattle.std.proofs.Common.{◌≡◌, ℕ, ◌-◌, ◌<◌, ◌≤◌, List, [], ◌∷◌, ◌++◌, length, Option, Some, None, option_and_then, refl, ap, ◌∙◌, arith}
 use Rattle.json.specs.Token.{Token}
 use Rattle.json.specs.Json as json
 use Rattle.json.specs.Json.{Parse, parse_map, after_end_array, items, value}
@@ -7,7 +7,11 @@ use Rattle.json.specs.Lex.{tokens}
 use Rattle.json.proofs.Grammar.{value_is, value-begin_array}
 use Rattle.serde_json.specs.Data.{Data, array, string, item, Items, no_items}
 use Rattle.serde_json.specs.Read.{of_json, of_items, converted, read}
-use Rattle.claim_tree.specs.Tree.{Text}
+use Rattle.claim_tree.specs.Tree as tree
+use Rattle.claim_tree.specs.Tree.{Text, Tree, depth, IsRanged, IsOrdered}
+use Rattle.claim_tree.specs.ListTails.{listed}
+use Rattle.claim_tree.specs.Begun.{begun}
+use Rattle.claim_tree.proofs.TreeTokens.{tree_tokens}
 use Rattle.claim_tree.proofs.TreeReading.{converted_some, converted-array, item_read, items_over}
 
 -- the last element of a list
@@ -33,3 +37,21 @@ tail_read text first ts ds is tail =
     let elements = one ∙ ap (parse_map (item (string first))) (ap (λ k. converted of_items (items p k ts)) less ∙ tail) in
     let opened = ap (converted of_json) (value-begin_array 127 more (omega arith)) ∙ converted-array (items p n more) ∙ ap (parse_map array) elements in
     read_of_tokens text (array (item (string first) ds)) (ap (λ w. converted of_json (value 127 w)) is ∙ opened)
+
+-- ---- such a list is written
+
+pub listed_tokens : (first : Text) (second : Option Text) (t : Tree) → begun first second ++ (tree_tokens t ++ Token.end_array ∷ []) ≡ tree_tokens (tree.array (listed first second t))
+listed_tokens first None t = refl
+listed_tokens first (Some second) t = refl
+
+pub listed_ranged : (first : Text) (second : Option Text) (t : Tree) → IsRanged t → IsRanged (tree.array (listed first second t))
+listed_ranged first None t r = (tt, (r, tt))
+listed_ranged first (Some second) t r = (tt, (tt, (r, tt)))
+
+pub listed_ordered : (first : Text) (second : Option Text) (t : Tree) → IsOrdered t → IsOrdered (tree.array (listed first second t))
+listed_ordered first None t o = (tt, (o, tt))
+listed_ordered first (Some second) t o = (tt, (tt, (o, tt)))
+
+pub listed_shallow : (first : Text) (second : Option Text) (t : Tree) → depth t ≤ 126 → depth (tree.array (listed first second t)) ≤ 127
+listed_shallow first None t low = omega (arith, low)
+listed_shallow first (Some second) t low = omega (arith, low)

@@ -19,3 +19,4 @@ pub mod PointerRefusals
 pub mod ListViews
 pub mod Steps
 pub mod ListTails
+pub mod Begun

@@ -1,4 +1,5 @@
--- Not needed to believe the program's promises: what is read of a text without the text that its list begins with.
+-- Not needed to believe the program's promises: lists that begin with a text, read without it and written without making
+-- them.
 use Rattle.std.specs.Prelude.{Option, Some, None}
 use Rattle.claim_tree.specs.Tree as spec
 use Rattle.claim_tree.specs.Tree.{Text, text, leaf, array, Elements, no_elements, element}
@@ -25,3 +26,8 @@ kept (TailOrTree.Tree t) = tree_of t
 abbrev pub ReadsTail : Text → TailOrTree → Type 0
 ReadsTail bytes (TailOrTree.Tail tail) = (first : Text) × Reads bytes (array (element (leaf (text first)) (tail_elements tail)))
 ReadsTail bytes (TailOrTree.Tree t) = Reads bytes (tree_of t)
+
+-- the elements of a list: a text, another where there is one, and a tree
+abbrev pub listed : Text → Option Text → spec.Tree → Elements
+listed first None last = element (leaf (text first)) (element last no_elements)
+listed first (Some second) last = element (leaf (text first)) (element (leaf (text second)) (element last no_elements))

@@ -32,5 +32,5 @@ pub use inside::{find, find_behind, get, position};
 pub use path::{Path, PathList, Steps, copy_paths, digits, is_prefix};
 pub use pointer::{PointerError, print_path, read_pointer};
 pub use tail::{ListTail, TailOrTree};
-pub use text::{JsonReader, ReadError, read, write};
+pub use text::{JsonReader, ReadError, read, write, write_list};
 pub use tree::{Tree, TreeList, TreeMap};

@@ -1,16 +1,17 @@
 // JSON texts, read and written.
-ghost use Rattle.std.specs.Prelude.{◌≡◌, ◌≤◌, Some, IfOk, IfErr, IsUtf8};
+ghost use Rattle.std.specs.Prelude.{◌≡◌, ◌≤◌, [], Some, option_map, IfOk, IfErr, IsUtf8};
+ghost use Rattle.json.specs.Print.{print};
 ghost use Rattle.serde_json.specs.Read.{read as value_of_text};
-ghost use Rattle.claim_tree.specs.Tree.{IsRanged, IsOrdered, depth as depth_of};
+ghost use Rattle.claim_tree.specs.Tree.{IsRanged, IsOrdered, depth as depth_of, array};
 ghost use Rattle.claim_tree.specs.View.{tree_of};
 ghost use Rattle.claim_tree.specs.JsonText.{Reads, data_of, json_text};
 ghost use Rattle.claim_tree.specs.JsonRefusals.{IsReadRefused};
-ghost use Rattle.claim_tree.specs.ListTails.{ReadsTail, kept};
+ghost use Rattle.claim_tree.specs.ListTails.{ReadsTail, kept, listed};
 
 use crate::build::{BuildError, build_text};
 use crate::convert::{TakeError, take};
 use crate::tail::{TailOrTree, build_tail};
-use crate::tokens::put_tree;
+use crate::tokens::{put_texts, put_tree};
 use crate::tree::{Tree, is_ordered};
 use json::{Scratch, Writer};
 use sd_outside::{NoMemory, TextBox};
@@ -120,6 +121,25 @@ fn read_value(alloc: Global, text: &str) -> Result<Tree, ReadError>
 // The bytes that a written text takes memory for at first.
 const ROOM: usize = 128;
 
+fn new_writer(alloc: Global) -> Result<Writer, NoMemory>
+    ensures before { IfOk result (λ out. out.before ≡ []) }
+    ensures tokens { IfOk result (λ out. out.tokens ≡ []) }
+{
+    Ok(Writer::new(Vec::with_capacity(alloc, ROOM)?))
+}
+
+// The text that is written.
+fn written_text(out: Writer) -> TextBox
+    requires { out.before ≡ [] }
+    ensures text { result ≡ print out.tokens }
+    ensures utf8 { IsUtf8 result }
+{
+    let Ok(text) = String::from_utf8(out.into_inner()) else {
+        unreachable!();
+    };
+    TextBox::from_string(text)
+}
+
 /// The compact JSON text of a tree: no blanks, the members ascending by the bytes of their names.
 pub fn write(alloc: Global, tree: &Tree) -> Result<TextBox, NoMemory>
     requires { IsRanged (tree_of tree.now) }
@@ -127,10 +147,26 @@ pub fn write(alloc: Global, tree: &Tree) -> Result<TextBox, NoMemory>
     ensures back { depth_of (tree_of tree.now) ≤ 127 → IfOk result (λ text. Reads text (tree_of tree.now)) }
 {
     is_ordered(tree);
-    let mut out = Writer::new(Vec::with_capacity(alloc, ROOM)?);
+    let mut out = new_writer(alloc)?;
     put_tree(&mut out, tree)?;
-    let Ok(text) = String::from_utf8(out.into_inner()) else {
-        unreachable!();
-    };
-    Ok(TextBox::from_string(text))
+    Ok(written_text(out))
+}
+
+/// The same of the list of a text, another text where there is one, and a tree: the list is not made.
+pub fn write_list(
+    alloc: Global,
+    first: &str,
+    second: Option<&str>,
+    last: &Tree,
+) -> Result<TextBox, NoMemory>
+    requires { IsRanged (tree_of last.now) }
+    ensures ok { IfOk result (λ text. text ≡ json_text (array (listed first.now (option_map (λ s. s.now) second.entry) (tree_of last.now)))) }
+    ensures back { depth_of (tree_of last.now) ≤ 126 → IfOk result (λ text. Reads text (array (listed first.now (option_map (λ s. s.now) second.entry) (tree_of last.now)))) }
+{
+    is_ordered(last);
+    let mut out = new_writer(alloc)?;
+    put_texts(&mut out, first, second)?;
+    put_tree(&mut out, last)?;
+    out.end_array()?;
+    Ok(written_text(out))
 }

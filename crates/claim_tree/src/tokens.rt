@@ -1,5 +1,5 @@
 // The tokens of a tree, for the writer of JSON.
-ghost use Rattle.std.specs.Prelude.{◌≡◌, [], ◌∷◌, ◌++◌, OnOk};
+ghost use Rattle.std.specs.Prelude.{◌≡◌, [], ◌∷◌, ◌++◌, option_map, OnOk};
 ghost use Rattle.json.specs.Token.{number};
 ghost use Rattle.json.specs.Tree.{json_tokens, items_tokens, members_tokens};
 ghost use Rattle.serde_json.specs.Find.{of_integer};
@@ -7,6 +7,7 @@ ghost use Rattle.serde_json.specs.Written.{number_text, outline, items_outline, 
 ghost use Rattle.claim_tree.specs.Tree.{InRange, IsRanged, ElementsRanged, MembersRanged};
 ghost use Rattle.claim_tree.specs.View.{tree_of};
 ghost use Rattle.claim_tree.specs.JsonText.{data_of, elements_data, members_data};
+ghost use Rattle.claim_tree.specs.Begun.{begun};
 
 use crate::{Tree, TreeList, TreeMap};
 use json::Writer;
@@ -32,6 +33,23 @@ pub(crate) fn put_tree(out: &mut Writer, tree: &Tree) -> Result<(), AllocError>
             out.begin_object()?;
             put_members(out, trees)
         }
+    }
+}
+
+// Puts the beginning of a list: a text, and another where there is one.
+pub(crate) fn put_texts(
+    out: &mut Writer,
+    first: &str,
+    second: Option<&str>,
+) -> Result<(), AllocError>
+    ensures ok { OnOk result (out.new.tokens ≡ out.old.tokens ++ begun first.now (option_map (λ s. s.now) second.entry)) }
+    ensures before { out.new.before ≡ out.old.before }
+{
+    out.begin_array()?;
+    out.string(first)?;
+    match second {
+        Some(text) => out.string(text),
+        None => Ok(()),
     }
 }
 

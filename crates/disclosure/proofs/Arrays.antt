@@ -1,14 +1,12 @@
 -- The list of a salt, a name and a value.
 use Rattle.std.proofs.Common.{◌≡◌, ◌≤◌, Option, Some, None, refl, sym, ap, arith}
 use Rattle.claim_tree.specs.Tree.{Text, text, Tree, leaf, array, Elements, element, no_elements, depth, IsRanged}
-use Rattle.claim_tree.specs.TreeCalls.{pushed}
+use Rattle.claim_tree.specs.ListTails.{listed}
 use Rattle.disclosure.specs.Disclosure.{array_of}
-use Rattle.disclosure.specs.Front.{front}
 
--- the value comes last
-pub array_of-pushed : (salt : Tree) (name : Option Text) (value : Tree) → array (pushed (front salt name) value) ≡ array_of salt name value
-array_of-pushed salt (Some name) value = refl
-array_of-pushed salt None value = refl
+pub array_of-listed : (salt : Text) (name : Option Text) (value : Tree) → array (listed salt name value) ≡ array_of (leaf (text salt)) name value
+array_of-listed salt (Some name) value = refl
+array_of-listed salt None value = refl
 
 pub depth-array_of : (salt : Text) (name : Option Text) (value : Tree) → depth value ≤ 126 → depth (array_of (leaf (text salt)) name value) ≤ 127
 depth-array_of salt (Some name) value low = omega (arith, low)

@@ -1,5 +1,4 @@
 pub mod Digest
 pub mod Disclosure
 pub mod DisclosureRefusals
-pub mod Front
 pub mod ReadSteps

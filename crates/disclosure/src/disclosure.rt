@@ -1,17 +1,15 @@
-ghost use Rattle.std.specs.Prelude.{◌≡◌, ◌≤◌, length, take, OnOk, IfOk, IfErr, IfSome, IfNone, Option, option_map};
+ghost use Rattle.std.specs.Prelude.{◌≡◌, ◌≤◌, length, take, IfOk, IfErr, IfSome, IfNone, Option, option_map};
 ghost use Rattle.b64url_text.specs.Base64url.{Decodes};
 ghost use Rattle.claim_tree.specs.ListTails.{tail_elements};
 ghost use Rattle.claim_tree.specs.Tree.{Tree as TreeSpec, IsRanged, IsOrdered, depth, leaf, text as text_leaf, array, element};
-ghost use Rattle.claim_tree.specs.TreeCalls.{pushed};
 ghost use Rattle.claim_tree.specs.View.{tree_of};
 ghost use Rattle.disclosure.specs.Digest.{digest_of};
 ghost use Rattle.disclosure.specs.Disclosure.{IsDisclosure, array_of, disclosure_text};
-ghost use Rattle.disclosure.specs.Front.{front};
 ghost use Rattle.disclosure.specs.DisclosureRefusals.{IsNoArray, IsDisclosureRefused};
 
 use crate::{DisclosureError, HashAlg, digest};
 use b64url_text::{decode_into, encode};
-use claim_tree::{JsonReader, ListTail, TailOrTree, Tree, TreeList, copy, write};
+use claim_tree::{JsonReader, ListTail, TailOrTree, Tree, copy, write_list};
 use sd_outside::{NoMemory, TextBox};
 use std::alloc::Global;
 
@@ -228,35 +226,32 @@ pub fn read_disclosure(alloc: Global, text: &str) -> Result<Disclosure, Disclosu
     Ok(parts.with_text(TextBox::make(alloc, text)?))
 }
 
-fn push_text(alloc: Global, list: &mut TreeList, text: &str) -> Result<(), NoMemory>
-    ensures { OnOk result (list.new ≡ pushed list.old (leaf (text_leaf text.now))) }
+/// The text of the disclosure of a salt, a name and a value, whose JSON is compact.
+pub fn make_text(
+    alloc: Global,
+    salt: &str,
+    name: Option<&str>,
+    value: &Tree,
+) -> Result<TextBox, NoMemory>
+    requires ranged { IsRanged (tree_of value.now) }
+    requires depth { depth (tree_of value.now) ≤ 126 }
+    ensures text { IfOk result (λ text. text ≡ disclosure_text (leaf (text_leaf salt.now)) (option_map (λ n. n.now) name.entry) (tree_of value.now)) }
+    ensures back { IfOk result (λ text. IsDisclosure text (leaf (text_leaf salt.now)) (option_map (λ n. n.now) name.entry) (tree_of value.now)) }
 {
-    let text = TextBox::make(alloc, text)?;
-    list.push(Tree::Text(text))
+    let json = write_list(alloc, salt, name, value)?;
+    encode(alloc, json.as_str().as_bytes())
 }
 
-// The list of a salt and a name.
-fn front_of(alloc: Global, salt: &str, name: Option<&str>) -> Result<TreeList, NoMemory>
-    ensures { IfOk result (λ list. list ≡ front (leaf (text_leaf salt.now)) (option_map (λ n. n.now) name.entry)) }
+fn copy_name(alloc: Global, name: Option<&str>) -> Result<Option<TextBox>, NoMemory>
+    ensures { IfOk result (λ copy. copy ≡ option_map (λ n. n.now) name.entry) }
 {
-    let mut list = TreeList::new(alloc);
-    push_text(alloc, &mut list, salt)?;
-    if let Some(name) = name {
-        push_text(alloc, &mut list, name)?;
+    match name {
+        Some(name) => Ok(Some(TextBox::make(alloc, name)?)),
+        None => Ok(None),
     }
-    Ok(list)
 }
 
-// The list of a salt, a name and a value.
-fn list_of(alloc: Global, salt: &str, name: Option<&str>, value: Tree) -> Result<Tree, NoMemory>
-    ensures { IfOk result (λ t. tree_of t ≡ array_of (leaf (text_leaf salt.now)) (option_map (λ n. n.now) name.entry) (tree_of value)) }
-{
-    let mut list = front_of(alloc, salt, name)?;
-    list.push(value)?;
-    Ok(Tree::List(list))
-}
-
-/// The disclosure of a salt, a name and a value, whose JSON is compact. It has a copy of the value.
+/// The disclosure of a salt, a name and a value, whose JSON is compact. It has copies of them.
 pub fn make(
     alloc: Global,
     salt: &str,
@@ -271,29 +266,10 @@ pub fn make(
     ensures text { IfOk result (λ d. d.text ≡ disclosure_text (tree_of d.salt) d.name (tree_of d.value)) }
     ensures back { IfOk result (λ d. IsDisclosure d.text (tree_of d.salt) d.name (tree_of d.value)) }
 {
-    make_owned(alloc, salt, name, copy(alloc, value)?)
-}
-
-/// The same, of a value that is moved.
-pub fn make_owned(
-    alloc: Global,
-    salt: &str,
-    name: Option<&str>,
-    value: Tree,
-) -> Result<Disclosure, NoMemory>
-    requires ranged { IsRanged (tree_of value) }
-    requires depth { depth (tree_of value) ≤ 126 }
-    ensures salt { IfOk result (λ d. tree_of d.salt ≡ leaf (text_leaf salt.now)) }
-    ensures name { IfOk result (λ d. d.name ≡ option_map (λ n. n.now) name.entry) }
-    ensures value { IfOk result (λ d. tree_of d.value ≡ tree_of value) }
-    ensures text { IfOk result (λ d. d.text ≡ disclosure_text (tree_of d.salt) d.name (tree_of d.value)) }
-    ensures back { IfOk result (λ d. IsDisclosure d.text (tree_of d.salt) d.name (tree_of d.value)) }
-{
-    let list = list_of(alloc, salt, name, value)?;
-    let json = write(alloc, &list)?;
-    let text = encode(alloc, json.as_str().as_bytes())?;
-    let Some(parts) = parts_of(list) else {
-        unreachable!();
-    };
-    Ok(parts.with_text(text))
+    Ok(Disclosure {
+        text: make_text(alloc, salt, name, value)?,
+        salt: Tree::Text(TextBox::make(alloc, salt)?),
+        name: copy_name(alloc, name)?,
+        value: copy(alloc, value)?,
+    })
 }

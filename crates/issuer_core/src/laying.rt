@@ -25,7 +25,7 @@ use crate::salts::salts_of;
 use crate::{DecoyList, Order};
 use claim_tree::{Tree, TreeList, TreeMap};
 use compact_form::COUNT_MAX;
-use disclosure::{HashAlg, digest, make_owned};
+use disclosure::{HashAlg, digest, make_text};
 use marked_tree::{Marked, MarkedList, MarkedMap, mark_counted};
 use sd_outside::{NoMemory, TextBox, TextList};
 use std::alloc::Global;
@@ -92,27 +92,12 @@ impl Layer {
         let Some(salt) = hiding.salts.at(self.texts.len()) else {
             unreachable!();
         };
-        let text = made_text(alloc, salt.as_str(), name, value)?;
+        let text = make_text(alloc, salt.as_str(), name, &value)?;
         let made = digest(alloc, hiding.hash, text.as_str())?;
         self.texts.push(text)?;
         self.digests.push(TextBox::make(alloc, made.as_str())?)?;
         Ok(made)
     }
-}
-
-// The text of a disclosure.
-fn made_text(
-    alloc: Global,
-    salt: &str,
-    name: Option<&str>,
-    value: Tree,
-) -> Result<TextBox, NoMemory>
-    requires ranged { IsRanged (tree_of value) }
-    requires depth { depth (tree_of value) ≤ 126 }
-    ensures { IfOk result (λ text. text ≡ disclosure_text (leaf (text_leaf salt.now)) (option_map (λ n. n.now) name.entry) (tree_of value)) }
-{
-    let disclosure = make_owned(alloc, salt, name, value)?;
-    Ok(disclosure.text)
 }
 
 // What stands for a hidden element, section 4.2.4.2.

@@ -1,4 +1,4 @@
-use Rattle.std.proofs.Common.{◌≡◌, ◌≤◌, take, subst, arith}
+use Rattle.std.proofs.Common.{◌≤◌, take, subst, arith}
 use Rattle.std.proofs.lemmas.Result.{err_from_is_err_and}
 use Rattle.claim_tree.specs.Tree.{IsRanged, depth, leaf, null, text, array, element}
 use Rattle.claim_tree.specs.JsonText.{Reads}
