@@ -17,11 +17,11 @@ by_salt salts texts k salt got made name value long there same is =
 pub returns-clause-text : goal.returns-clause-text
 returns-clause-text c =
     let made = by_salt c.args.hiding.salts.now c.args.self.now.texts c.len.result c.as_str.result.now c.in-Some.salt.now c.in_ok-text.text (option_map (λ n. n.now) c.args.name) (tree_of c.args.value)
-    c.len.ensures c.in-Some.ensures c.as_str.ensures c.in_ok-text.ensures in
+    c.len.ensures c.in-Some.ensures c.as_str.ensures c.in_ok-text.ensures.text in
     c.in_ok-push.ensures.ok ∙ ap (λ (t : Text). c.args.self.now.texts ++ t ∷ []) made
 
 pub returns-clause-digest : goal.returns-clause-digest
 returns-clause-digest c =
     let made = by_salt c.args.hiding.salts.now c.args.self.now.texts c.len.result c.as_str.result.now c.in-Some.salt.now c.in_ok-text.text (option_map (λ n. n.now) c.args.name) (tree_of c.args.value)
-    c.len.ensures c.in-Some.ensures c.as_str.ensures c.in_ok-text.ensures in
+    c.len.ensures c.in-Some.ensures c.as_str.ensures c.in_ok-text.ensures.text in
     c.in_ok-made.ensures ∙ ap (digest_of c.args.hiding.hash) (c.as_str-2.ensures ∙ made)
