@@ -161,12 +161,8 @@ impl DisclosureReader {
         }
     }
 
-    /// Reads a disclosure, as [`read_disclosure`] does, for who has the text: it is not copied.
-    pub fn read_parts(
-        &mut self,
-        alloc: Global,
-        text: &str,
-    ) -> Result<DisclosureParts, DisclosureError>
+    // Reads all that a disclosure holds.
+    fn read_parts(&mut self, alloc: Global, text: &str) -> Result<DisclosureParts, DisclosureError>
         ensures ok { IfOk result (λ d. IsDisclosure text.now (tree_of d.salt) d.name (tree_of d.value)) }
         ensures ranged { IfOk result (λ d. IsRanged (tree_of d.value)) }
         ensures ordered { IfOk result (λ d. IsOrdered (tree_of d.value)) }
@@ -184,7 +180,8 @@ impl DisclosureReader {
         parts_of(tree).ok_or(DisclosureError::NotDisclosure)
     }
 
-    /// Reads what a disclosure gives. That is faster than to read all that it holds: a salt that is a text is not copied.
+    /// Reads what a disclosure gives. That is faster than to read all that it holds: no text is copied but those that it
+    /// gives.
     pub fn read_disclosed(
         &mut self,
         alloc: Global,
@@ -207,7 +204,8 @@ impl DisclosureReader {
     }
 }
 
-/// Reads a disclosure. Whole numbers alone are taken, as everywhere. A [`DisclosureReader`] reads many of them faster.
+/// Reads a disclosure. Whole numbers alone are taken, as everywhere. A [`DisclosureReader`] reads what many of them give
+/// in less time.
 pub fn read_disclosure(alloc: Global, text: &str) -> Result<Disclosure, DisclosureError>
     ensures text { IfOk result (λ d. d.text ≡ text.now) }
     ensures ok { IfOk result (λ d. IsDisclosure text.now (tree_of d.salt) d.name (tree_of d.value)) }

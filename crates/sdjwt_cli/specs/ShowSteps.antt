@@ -6,7 +6,7 @@ use Rattle.compact_form.specs.declared.fault.Fault.{Fault}
 use Rattle.claim_tree.specs.View.{tree_of}
 use Rattle.disclosure.specs.Digest.{digest_of}
 use Rattle.disclosure.specs.declared.digests.HashAlg.{HashAlg}
-use Rattle.disclosure.specs.declared.disclosure.DisclosureParts.{DisclosureParts}
+use Rattle.disclosure.specs.declared.disclosure.Disclosed.{Disclosed}
 use Rattle.sdjwt_cli.specs.declared.show.Unshown.{Unshown}
 use Rattle.sdjwt_cli.specs.declared.show.Unshown.TheVariants.{Memory, Fails}
 use Rattle.digest_sites.specs.Given.{Given}
@@ -14,7 +14,7 @@ use Rattle.verifier_core.specs.Verdict.{Gives}
 use Rattle.sdjwt_cli.specs.Show.{shown_line, shown_lines}
 
 -- what is shown of a disclosure's text and of what is read of it
-abbrev pub disclosure_shown : HashAlg → Text → DisclosureParts → Given
+abbrev pub disclosure_shown : HashAlg → Text → Disclosed → Given
 disclosure_shown hash text d = record { digest = digest_of hash text; name = d.name; value = tree_of d.value }
 
 -- a line, or all lines, put behind a text

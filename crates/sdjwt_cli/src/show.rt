@@ -22,9 +22,7 @@ use crate::split::push_binding;
 use claim_tree::{JsonReader, Tree, TreeMap, write};
 use cli_parts::{Stop, refused};
 use compact_form::{Condition, Fault, JwtView, Place};
-use disclosure::{
-    DisclosureError, DisclosureParts, DisclosureReader, HashAlg, digest, payload_hash,
-};
+use disclosure::{Disclosed, DisclosureError, DisclosureReader, HashAlg, digest, payload_hash};
 use json_form::{Disclosures, TokenError, TokenText, TokenView};
 use jws_part::{BodyError, HeaderError, read_body, read_header};
 use sd_outside::{NoMemory, TextBox};
@@ -85,7 +83,7 @@ fn push_read(
     i: usize,
     hash: HashAlg,
     part: &str,
-    read: &DisclosureParts,
+    read: &Disclosed,
 ) -> Result<(), NoMemory>
     requires { IsRanged (tree_of read.now.value) }
     ensures { OnOk result (string_bytes text.new ≡ string_bytes text.old ++ shown_line i (disclosure_shown hash part.now read.now)) }
@@ -108,7 +106,7 @@ fn push_shown(
     ensures ok { OnOk result (AddsLine hash i part.now (string_bytes text.old) (string_bytes text.new)) }
     ensures refused { IfErr result (IsDisclosureRefused part.now) }
 {
-    let read = match reader.read_parts(alloc, part) {
+    let read = match reader.read_disclosed(alloc, part) {
         Ok(read) => read,
         Err(error) => return Err(error),
     };

@@ -1,5 +1,4 @@
 use Rattle.std.proofs.Common.{refl}
-use Rattle.claim_tree.specs.View.{tree_of}
 use Rattle.sdjwt_cli.specs.ShowSteps.{disclosure_shown}
 use Rattle.sdjwt_cli.proofs.show.push_shown.Goals as goal
 
@@ -8,6 +7,6 @@ returns-in-Ok-push_read-clause-ok c =
     let d = c.in-Ok.read in
     record {
       shown = disclosure_shown c.args.hash c.args.part.now d;
-      is = (refl, tree_of d.salt, c.in-Ok.ensures.ok);
+      is = (refl, c.in-Ok.ensures.ok);
       more = c.in-Ok-push_read.ensures;
     }
