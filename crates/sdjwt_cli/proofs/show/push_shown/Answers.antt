@@ -7,6 +7,6 @@ returns-in-Ok-push_read-clause-ok c =
     let d = c.in-Ok.read in
     record {
       shown = disclosure_shown c.args.hash c.args.part.now d;
-      is = (refl, c.in-Ok.ensures.ok);
+      is = (refl, c.in-Ok.ensures.ok.0, c.in-Ok.ensures.ok.1);
       more = c.in-Ok-push_read.ensures;
     }
