@@ -45,21 +45,6 @@ pub struct DisclosureParts {
 }
 
 impl DisclosureParts {
-    // The disclosure with this text.
-    fn with_text(self, text: TextBox) -> Disclosure
-        ensures text { result.text ≡ text }
-        ensures salt { result.salt ≡ self.salt }
-        ensures name { result.name ≡ self.name }
-        ensures value { result.value ≡ self.value }
-    {
-        Disclosure {
-            text,
-            salt: self.salt,
-            name: self.name,
-            value: self.value,
-        }
-    }
-
     // What it gives.
     fn without_salt(self) -> Disclosed
         ensures name { result.name ≡ self.name }
@@ -161,25 +146,6 @@ impl DisclosureReader {
         }
     }
 
-    // Reads all that a disclosure holds.
-    fn read_parts(&mut self, alloc: Global, text: &str) -> Result<DisclosureParts, DisclosureError>
-        ensures ok { IfOk result (λ d. IsDisclosure text.now (tree_of d.salt) d.name (tree_of d.value)) }
-        ensures ranged { IfOk result (λ d. IsRanged (tree_of d.value)) }
-        ensures ordered { IfOk result (λ d. IsOrdered (tree_of d.value)) }
-        ensures depth { IfOk result (λ d. depth (tree_of d.value) ≤ 126) }
-
-        // the salt
-        ensures salt_ranged { IfOk result (λ d. IsRanged (tree_of d.salt)) }
-        ensures salt_ordered { IfOk result (λ d. IsOrdered (tree_of d.salt)) }
-        ensures salt_depth { IfOk result (λ d. depth (tree_of d.salt) ≤ 126) }
-
-        ensures refused { IfErr result (IsDisclosureRefused text.now) }
-    {
-        let count = decode_to(&mut self.room, text)?;
-        let tree = self.json.read(alloc, &self.room[..count])?;
-        parts_of(tree).ok_or(DisclosureError::NotDisclosure)
-    }
-
     /// Reads what a disclosure gives. That is faster than to read all that it holds: no text is copied but those that it
     /// gives.
     pub fn read_disclosed(
@@ -220,8 +186,16 @@ pub fn read_disclosure(alloc: Global, text: &str) -> Result<Disclosure, Disclosu
 
     ensures refused { IfErr result (IsDisclosureRefused text.now) }
 {
-    let parts = DisclosureReader::new(alloc).read_parts(alloc, text)?;
-    Ok(parts.with_text(TextBox::make(alloc, text)?))
+    let mut reader = DisclosureReader::new(alloc);
+    let count = decode_to(&mut reader.room, text)?;
+    let tree = reader.json.read(alloc, &reader.room[..count])?;
+    let parts = parts_of(tree).ok_or(DisclosureError::NotDisclosure)?;
+    Ok(Disclosure {
+        text: TextBox::make(alloc, text)?,
+        salt: parts.salt,
+        name: parts.name,
+        value: parts.value,
+    })
 }
 
 /// The text of the disclosure of a salt, a name and a value, whose JSON is compact.

@@ -30,7 +30,7 @@ impl<R: Files> HostCabinet<R> {
 
 // The most bytes that one read asks for. Few, since they are filled with zeros before the first read, and most files
 // are short.
-const BLOCK: usize = 2_048;
+const BLOCK: usize = 8_192;
 
 // At most `most` bytes of a file. Each turn but the last takes a byte or more. The file is not asked for its size,
 // since the memory grows by doubling.

@@ -1,7 +1,7 @@
 use Rattle.std.proofs.Common.{take}
 use Rattle.std.proofs.lemmas.Result.{err_from_is_err_and}
 use Rattle.disclosure.proofs.Unread.{unread}
-use Rattle.disclosure.proofs.disclosure.DisclosureReader.read_parts.Goals as goal
+use Rattle.disclosure.proofs.disclosure.read_disclosure.Goals as goal
 
 pub returns-in_err-tree-clause-refused : goal.returns-in_err-tree-clause-refused
 returns-in_err-tree-clause-refused c =
