@@ -1,10 +1,8 @@
 -- What is read of a token, before it is opened.
 use Rattle.std.specs.Prelude.{◌≡◌, ◌≤◌, ◌<◌, ◌-◌, ◌^◌, ℕ, zero, suc, List, length, refl}
-use Rattle.std.proofs.Common.{ap}
 use Rattle.std.specs.Coded.{Coded, coded_ℕ, coded×, code_by}
-use Rattle.claim_tree.specs.Code.{elements_code}
-use Rattle.claim_tree.specs.Tree.{Tree, leaf, null, Elements, no_elements, element, IsRanged, depth}
-use Rattle.digest_sites.specs.Code.{given_code}
+use Rattle.claim_tree.specs.Tree.{Tree, IsRanged, depth}
+use Rattle.digest_sites.specs.Code.{tree_code, given_code}
 use Rattle.digest_sites.specs.Given.{Given}
 use Rattle.disclosure.specs.declared.digests.HashAlg.{HashAlg}
 use Rattle.rebuild_core.specs.Answer.{IsPayload, ValuesShallow, ValuesRanged}
@@ -26,11 +24,7 @@ pub record IsReadyToOpen (body : Tree) (given : List Given) : Type 0 where
   pub values_range : ValuesRanged given
   pub few : length given < 2 ^ 32 - 1
 
--- a code for it, by which a proof tells two of them apart: of its payload, the code of the array that has it alone
-abbrev first : Elements → Tree
-first no_elements = leaf null
-first (element t es) = t
-
+-- a code for it, by which a proof tells two of them apart
 abbrev hash_to : HashAlg → ℕ
 hash_to HashAlg.Sha256 = 0
 hash_to HashAlg.Sha384 = 1
@@ -41,22 +35,15 @@ hash_from zero = HashAlg.Sha256
 hash_from (suc zero) = HashAlg.Sha384
 hash_from (suc (suc _)) = HashAlg.Sha512
 
-hash_back : (hash : HashAlg) → hash_from (hash_to hash) ≡ hash
+pub hash_back : (hash : HashAlg) → hash_from (hash_to hash) ≡ hash
 hash_back HashAlg.Sha256 = refl
 hash_back HashAlg.Sha384 = refl
 hash_back HashAlg.Sha512 = refl
 
-abbrev content_to : Content → Elements × (ℕ × List Given)
-content_to c = (element c.body no_elements, (hash_to c.hash, c.given))
-
-abbrev content_from : Elements × (ℕ × List Given) → Content
-content_from p = record { body = first p.0; hash = hash_from p.1.0; given = p.1.1 }
-
-abbrev content_with : Tree → HashAlg → List Given → Content
-content_with body hash given = record { body = body; hash = hash; given = given }
-
-pub content_back : (c : Content) → content_from (content_to c) ≡ c
-content_back c = ap (λ (hash : HashAlg). content_with c.body hash c.given) (hash_back c.hash)
+abbrev hash_code : Coded HashAlg
+hash_code = code_by ℕ coded_ℕ hash_to hash_from hash_back
 
 abbrev pub content_code : Coded Content
-content_code = code_by (Elements × (ℕ × List Given)) (coded× elements_code (coded× coded_ℕ given_code)) content_to content_from content_back
+content_code =
+    code_by (Tree × (HashAlg × List Given)) (coded× tree_code (coded× hash_code given_code)) (λ c. (c.body, (c.hash, c.given)))
+    (λ p. record { body = p.0; hash = p.1.0; given = p.1.1 }) (λ _. refl)
