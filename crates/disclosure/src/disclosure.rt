@@ -1,7 +1,8 @@
 ghost use Rattle.std.specs.Prelude.{◌≡◌, ◌≤◌, length, take, IfOk, IfErr, IfSome, IfNone, Option, option_map};
 ghost use Rattle.b64url_text.specs.Base64url.{Decodes};
-ghost use Rattle.claim_tree.specs.ListTails.{tail_elements};
-ghost use Rattle.claim_tree.specs.Tree.{Tree as TreeSpec, IsRanged, IsOrdered, depth, leaf, text as text_leaf, array, element};
+ghost use Rattle.claim_tree.specs.ListTails.{ReadsTail, kept, tail_elements};
+ghost use Rattle.claim_tree.specs.JsonText.{Reads};
+ghost use Rattle.claim_tree.specs.Tree.{Text, Tree as TreeSpec, IsRanged, IsOrdered, depth, leaf, text as text_leaf, array, element};
 ghost use Rattle.claim_tree.specs.View.{tree_of};
 ghost use Rattle.disclosure.specs.Digest.{digest_of};
 ghost use Rattle.disclosure.specs.Disclosure.{IsDisclosure, array_of, disclosure_text};
@@ -42,19 +43,6 @@ pub struct DisclosureParts {
     /// The name of the member, or nothing where it is an element.
     pub name: Option<TextBox>,
     pub value: Tree,
-}
-
-impl DisclosureParts {
-    // What it gives.
-    fn without_salt(self) -> Disclosed
-        ensures name { result.name ≡ self.name }
-        ensures value { result.value ≡ self.value }
-    {
-        Disclosed {
-            name: self.name,
-            value: self.value,
-        }
-    }
 }
 
 /// What a disclosure gives: all that the list in it holds but the salt.
@@ -115,6 +103,24 @@ fn given_by(tail: ListTail) -> Option<Disclosed>
     }
 }
 
+/// What a disclosure gives whose JSON reads to this, which is moved out of it. None where it is no disclosure.
+pub fn disclosed_by(found: TailOrTree) -> Option<Disclosed>
+    requires ranged { IsRanged (kept found) }
+    requires depth { depth (kept found) ≤ 127 }
+    ensures given { IfSome result (λ d. (json : Text) → ReadsTail json found → (salt : TreeSpec) × Reads json (array_of salt d.name (tree_of d.value))) }
+    ensures ranged { IfSome result (λ d. IsRanged (tree_of d.value)) }
+    ensures depth { IfSome result (λ d. depth (tree_of d.value) ≤ 126) }
+    ensures other { IfNone result ((json : Text) → ReadsTail json found → (t : TreeSpec) × Reads json t × IsNoArray t) }
+{
+    match found {
+        TailOrTree::Tail(tail) => given_by(tail),
+        TailOrTree::Tree(tree) => {
+            let DisclosureParts { name, value, .. } = parts_of(tree)?;
+            Some(Disclosed { name, value })
+        }
+    }
+}
+
 /// What reads disclosures. One that is kept reads many of them in the same memory.
 #[derive(Drop)]
 pub struct DisclosureReader {
@@ -160,13 +166,8 @@ impl DisclosureReader {
         ensures refused { IfErr result (IsDisclosureRefused text.now) }
     {
         let count = decode_to(&mut self.room, text)?;
-        match self.json.read_tail(alloc, &self.room[..count])? {
-            TailOrTree::Tail(tail) => Ok(given_by(tail).ok_or(DisclosureError::NotDisclosure)?),
-            TailOrTree::Tree(tree) => {
-                let parts = parts_of(tree).ok_or(DisclosureError::NotDisclosure)?;
-                Ok(parts.without_salt())
-            }
-        }
+        let found = self.json.read_tail(alloc, &self.room[..count])?;
+        disclosed_by(found).ok_or(DisclosureError::NotDisclosure)
     }
 }
 

@@ -11,7 +11,7 @@ pub mod laws;
 
 pub use digests::{HashAlg, digest, hash_named, payload_hash};
 pub use disclosure::{
-    Disclosed, Disclosure, DisclosureParts, DisclosureReader, make, make_text, parts_of,
-    read_disclosure,
+    Disclosed, Disclosure, DisclosureParts, DisclosureReader, disclosed_by, make, make_text,
+    parts_of, read_disclosure,
 };
 pub use errors::DisclosureError;

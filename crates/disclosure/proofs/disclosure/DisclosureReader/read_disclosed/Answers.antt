@@ -1,40 +1,37 @@
-use Rattle.std.proofs.Common.{◌≤◌, take, subst, arith}
+use Rattle.std.proofs.Common.{Option, Some, None, IfOk, IfErr, IfSome, IfNone, take, subst}
+use Rattle.std.specs.Option.{ok_or}
 use Rattle.std.proofs.lemmas.Result.{err_from_is_err_and}
-use Rattle.claim_tree.specs.Tree.{IsRanged, depth, leaf, null, text, array, element}
-use Rattle.claim_tree.specs.JsonText.{Reads}
-use Rattle.claim_tree.specs.ListTails.{tail_elements}
-use Rattle.claim_tree.specs.View.{tree_of}
-use Rattle.disclosure.proofs.Arrays.{value_ranged, value_shallow}
+use Rattle.claim_tree.specs.ListTails.{ReadsTail}
 use Rattle.disclosure.proofs.Unread.{unread}
 use Rattle.disclosure.proofs.disclosure.DisclosureReader.read_disclosed.Goals as goal
 
-pub returns-in_err-tail-clause-refused : goal.returns-in_err-tail-clause-refused
-returns-in_err-tail-clause-refused c =
-    let p = err_from_is_err_and c.from_residual-in_err-tail.result c.from_residual-in_err-tail.ensures.1 in
-    let error = c.in_err-tail.field-0.0 in
+pub returns-in_err-found-clause-refused : goal.returns-in_err-found-clause-refused
+returns-in_err-found-clause-refused c =
+    let p = err_from_is_err_and c.from_residual-in_err-found.result c.from_residual-in_err-found.ensures.1 in
+    let error = c.in_err-found.field-0.0 in
     let bytes = take c.in_ok-count.count c.decode_to.new.room.items in
-    rw (p.1, p.2) (unread error c.args.text.now bytes c.in_ok-count.ensures.ok (rw c.deref.ensures.value at c.in_err-tail.ensures.unread))
+    rw (p.1, p.2) (unread error c.args.text.now bytes c.in_ok-count.ensures.ok (rw c.deref.ensures.value at c.in_err-found.ensures.unread))
 
-pub returns-in_ok-ok_or-in-Tail-clause-ok : goal.returns-in_ok-ok_or-in-Tail-clause-ok
-returns-in_ok-ok_or-in-Tail-clause-ok c =
+ok_of : {X E : Type 0} (o : Option X) (e : E) (P Q : X → Type 0) → IfSome o P → ((x : X) → P x → Q x) → IfOk (ok_or o e) Q
+ok_of (Some x) e P Q h f = f x h
+ok_of None e P Q h f = tt
+
+err_of : {X E : Type 0} (o : Option X) (e : E) (P : Type 0) (Q : E → Type 0) → IfNone o P → (P → Q e) → IfErr (ok_or o e) Q
+err_of (Some x) e P Q h f = tt
+err_of None e P Q h f = f h
+
+pub returns-clause-ok : goal.returns-clause-ok
+returns-clause-ok c =
     let bytes = take c.in_ok-count.count c.decode_to.new.room.items in
-    let lent = take c.in_ok-count.count c.deref.result.now in
-    let given = rw c.in_ok-ok_or-in-Tail.ensures.ok_part at c.given_by.ensures.given in
-    let read = rw c.in-Tail.is at c.in_ok-tail.ensures.ok in
-    let salt = leaf (text read.0) in
-    (salt, record { json = bytes; decodes = c.in_ok-count.ensures.ok; reads = rw c.deref.ensures.value at (subst (Reads lent) (given salt) read.1) })
+    let read = subst (λ room. ReadsTail (take c.in_ok-count.count room) c.in_ok-found.found) c.deref.ensures.value c.in_ok-found.ensures.ok in
+    rw c.ok_or.ensures.value
+    (ok_of c.disclosed_by.result _ _ _ c.disclosed_by.ensures.given
+    (λ d given. let own = given bytes read in (own.0, record { json = bytes; decodes = c.in_ok-count.ensures.ok; reads = own.1 })))
 
-pub returns-in_ok-ok_or-in-Tail-clause-ranged : goal.returns-in_ok-ok_or-in-Tail-clause-ranged
-returns-in_ok-ok_or-in-Tail-clause-ranged c =
-    let d = c.in_ok-ok_or-in-Tail.field-0 in
-    let given = rw c.in_ok-ok_or-in-Tail.ensures.ok_part at c.given_by.ensures.given in
-    let kept = rw c.in-Tail.is at c.in_ok-tail.ensures.ranged in
-    value_ranged (leaf null) d.name (tree_of d.value) (subst IsRanged (given (leaf null)) (tt, kept))
-
-pub returns-in_ok-ok_or-in-Tail-clause-depth : goal.returns-in_ok-ok_or-in-Tail-clause-depth
-returns-in_ok-ok_or-in-Tail-clause-depth c =
-    let d = c.in_ok-ok_or-in-Tail.field-0 in
-    let given = rw c.in_ok-ok_or-in-Tail.ensures.ok_part at c.given_by.ensures.given in
-    let kept : depth (array (tail_elements c.in-Tail.tail)) ≤ 127 = rw c.in-Tail.is at c.in_ok-tail.ensures.depth in
-    let whole : depth (array (element (leaf null) (tail_elements c.in-Tail.tail))) ≤ 127 = omega (arith, kept) in
-    value_shallow (leaf null) d.name (tree_of d.value) (subst (λ t. depth t ≤ 127) (given (leaf null)) whole)
+pub returns-clause-refused : goal.returns-clause-refused
+returns-clause-refused c =
+    let bytes = take c.in_ok-count.count c.decode_to.new.room.items in
+    let read = subst (λ room. ReadsTail (take c.in_ok-count.count room) c.in_ok-found.found) c.deref.ensures.value c.in_ok-found.ensures.ok in
+    rw c.ok_or.ensures.value
+    (err_of c.disclosed_by.result _ _ _ c.disclosed_by.ensures.other
+    (λ other. let t = other bytes read in record { json = bytes; decodes = c.in_ok-count.ensures.ok; tree = t.0; reads = t.1; other = t.2 }))
