@@ -1,5 +1,5 @@
 -- A text is presented in one way, or refused for one cause, where the rule has one answer for each place and a text has one good signature.
-use Rattle.std.proofs.Common.{◌≡◌, ◌≢◌, ◌⊎◌, inl, inr, ℕ, ◌<◌, ◌≤◌, Bool, true, false, List, length, Option, None, Some, refl, sym, ap, ap₂, subst, ◌∙◌, arith}
+use Rattle.std.proofs.Common.{◌≡◌, ◌≢◌, ◌⊎◌, inl, inr, ℕ, ◌<◌, ◌≤◌, Bool, List, length, Option, None, Some, refl, sym, ap, ap₂, subst, ◌∙◌, arith}
 use Rattle.b64url_text.specs.Base64url.{b64}
 use Rattle.claim_tree.specs.Tree.{Text}
 use Rattle.claim_tree.specs.Lists.{IsLeast, AtNone}
@@ -16,8 +16,8 @@ use Rattle.json_form.specs.Token.{IsToken}
 use Rattle.json_form.specs.declared.token.Token.{Token}
 use Rattle.key_binding.specs.Binding.{IsBinding}
 use Rattle.marked_tree.specs.Marked.{Marked, strip}
-use Rattle.marked_tree.specs.Paths.{Path, chosen}
-use Rattle.selection_core.specs.Consent.{RuleAnswers, Allows, IsDecided, AllAllowed, IsRefusedAt}
+use Rattle.marked_tree.specs.Paths.{chosen}
+use Rattle.selection_core.specs.Consent.{RuleAnswers, IsDecided, AllAllowed, IsRefusedAt}
 use Rattle.selection_core.specs.ChoiceRefusals.{IsMissing}
 use Rattle.verifier_core.specs.Verdict.{TokenFails}
 use Rattle.verifier_core.proofs.Verdicts.{one_opening, one_hash}

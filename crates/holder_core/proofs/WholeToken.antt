@@ -1,5 +1,5 @@
 -- What follows for a token without disclosures: its payload has no mark, so nothing is chosen and pruning leaves it as it is.
-use Rattle.std.proofs.Common.{◌≡◌, inl, inr, ℕ, List, [], length, Bool, true, false, Option, Some, None, refl, sym, ap, ap₂, subst, ◌∙◌, arith, eq-eqb}
+use Rattle.std.proofs.Common.{◌≡◌, ℕ, List, [], length, Bool, true, false, Option, Some, None, refl, sym, ap, ap₂, subst, ◌∙◌, arith, eq-eqb}
 use Rattle.std.specs.Prelude.{if◌then◌else◌, ltb}
 use Rattle.std.specs.Option.{option_map, is_some}
 use Rattle.std.proofs.lemmas.Bool.Decides.{nat_tests}
@@ -24,7 +24,7 @@ use Rattle.holder_core.specs.declared.ask.Ask.{Ask}
 use Rattle.holder_core.specs.declared.errors.PresentError.{PresentError}
 use Rattle.holder_core.specs.declared.errors.PresentError.TheVariants.{Memory, Token as OnCondition, HasBinding, NoSuchPlace, ConsentRefused, BindingKeyDiffers, SignFailed, TooLong}
 use Rattle.holder_core.specs.Present.{held_rules, IsHeld, NamesKey}
-use Rattle.holder_core.specs.PresentSteps.{IsChosen, IsOtherKey, IsReady, IsUnready, IsWholeReady, IsWholeUnready, IsMadeWhole, IsMadeReady, IsUncheckedOrUnmade, IsUncheckedOrUnready}
+use Rattle.holder_core.specs.PresentSteps.{IsChosen, IsOtherKey, IsReady, IsUnready, IsWholeReady, IsWholeUnready}
 use Rattle.holder_core.proofs.Steps.{unchosen, other_key, ready}
 
 -- ---- a tree without marks
@@ -112,14 +112,6 @@ module _ {F : Type 0} (answers : RuleAnswers F) (rule : F) (token : Token) (ask 
       other_key answers rule token ask is.0 held [] (nothing h.0) BindingKeyDiffers (subst (λ (t : Tree). IsOtherKey ask.binding t BindingKeyDiffers) same_shown h.1)
   whole_unready SignFailed h = absurd h
   whole_unready TooLong h = absurd h
-
-module _ {F : Type 0} (answers : RuleAnswers F) (rule : F) (token : Token) (ask : Ask) (none : length token.parts.disclosures ≡ 0) (unbound : token.parts.binding ≡ None) where
-  pub made_ready : (parts : Parts) → IsMadeWhole token ask parts → IsMadeReady answers rule token ask parts
-  made_ready parts made = (made.1.0, whole_ready answers rule token ask none unbound made.0 made.1 parts made.2)
-
-  pub unmade_unready : (e : PresentError) → IsUncheckedOrUnmade token ask e → IsUncheckedOrUnready answers rule token ask e
-  unmade_unready e (inl unchecked) = inl unchecked
-  unmade_unready e (inr unmade) = inr (whole_unready answers rule token ask none unbound unmade.0 unmade.1 e unmade.2)
 
 -- ---- the wanted places
 

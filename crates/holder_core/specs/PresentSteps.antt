@@ -14,7 +14,6 @@ use Rattle.marked_tree.specs.Numbers.{has}
 use Rattle.marked_tree.specs.Paths.{Path, chosen}
 use Rattle.selection_core.specs.Consent.{RuleAnswers, AllAllowed, IsRefusedAt}
 use Rattle.selection_core.specs.ChoiceRefusals.{IsMissing}
-use Rattle.verifier_core.specs.Verdicts.{IsCheckedAs}
 use Rattle.holder_core.specs.declared.ask.Ask.{Ask}
 use Rattle.holder_core.specs.declared.ask.BindingAsk.{BindingAsk}
 use Rattle.holder_core.specs.declared.errors.PresentError.{PresentError}
@@ -100,13 +99,3 @@ IsWholeUnready ask payload Memory = Unit {0}
 IsWholeUnready ask payload (NoSuchPlace k) = IsLeast (IsMissing payload ask.want) k
 IsWholeUnready ask payload BindingKeyDiffers = AtNone (IsMissing payload ask.want) × IsOtherKey ask.binding payload BindingKeyDiffers
 IsWholeUnready ask payload _ = ⊥
-
--- the same for some processed payload
-abbrev pub IsMadeWhole : Token → Ask → Parts → Type 0
-IsMadeWhole token ask unbound = (payload : Tree) × IsCheckedAs token (held_rules ask.keys) payload × IsWholeReady token ask payload unbound
-
--- the token is refused, or what is asked of it
-abbrev pub IsUncheckedOrUnmade : Token → Ask → PresentError → Type 0
-IsUncheckedOrUnmade token ask e =
-    IsUnchecked token (held_rules ask.keys) e
-    ⊎ ((payload : Tree) × IsCheckedAs token (held_rules ask.keys) payload × IsWholeUnready ask payload e)

@@ -11,7 +11,6 @@ ghost use Rattle.hmac_sign.specs.Agreement.{Agree};
 ghost use Rattle.hmac_sign.specs.declared.alg.Alg.{Alg};
 ghost use Rattle.json_form.specs.Token.{IsToken};
 ghost use Rattle.json_form.specs.declared.token.Token.{Token as SeenToken};
-ghost use Rattle.key_binding.specs.Judged.{holder_kid as holder_kid_of};
 ghost use Rattle.marked_tree.specs.Choice.{IsUnmixed};
 ghost use Rattle.marked_tree.specs.Marked.{strip, prune as pruned_by};
 ghost use Rattle.marked_tree.specs.Numbers.{has};
@@ -24,7 +23,7 @@ ghost use Rattle.holder_core.specs.PresentSteps.{IsUnchosen, IsChosen, IsOtherKe
 ghost use Rattle.holder_core.specs.declared.errors.PresentError.{PresentError};
 ghost use Rattle.key_binding.specs.declared.errors.BindError.{BindError};
 
-use crate::whole::whole_parts;
+use crate::whole::wanted_parts;
 use crate::{Ask, BindingAsk, PresentError};
 use claim_tree::{Path, PathList, Tree};
 use compact_form::{COMPACT_MAX, JwtParts, Parts, hashed_text, is_longer_than};
@@ -144,7 +143,9 @@ fn ready_parts<F: Fn(&Path) -> bool>(
 {
     let content = check_held(alloc, token, &ask.keys)?;
     if token.count() == 0 {
-        return whole_parts(alloc, token, content, ask, steps);
+        let whole = content.open_payload(alloc, steps)?;
+        let unbound = wanted_parts(alloc, token, &whole.payload, ask)?;
+        return Ok((unbound, whole.hash));
     }
     let opened = content.open(alloc, steps)?;
     match choose_parts(alloc, token, &opened.marked, ask, consent) {
@@ -281,19 +282,22 @@ fn check_key(
     ensures named { OnOk result (NamesKey binding.now (strip (pruned_by (marked_of marked.now) (has chosen.now)))) }
     ensures refused { IfErr result (IsOtherKey binding.now (strip (pruned_by (marked_of marked.now) (has chosen.now)))) }
 {
-    let Some(binding) = binding else {
+    if binding.is_none() {
         return Ok(());
-    };
+    }
     let pruned = prune(alloc, marked, chosen)?;
     let payload = into_tree(alloc, pruned)?;
     check_named(binding, &payload)
 }
 
-// Whether the payload names the key of the ask.
-pub(crate) fn check_named(binding: &BindingAsk, payload: &Tree) -> Result<(), PresentError>
-    ensures named { OnOk result (holder_kid_of (tree_of payload.now) ≡ Some binding.now.kid) }
-    ensures refused { IfErr result (IsOtherKey (Some binding.now) (tree_of payload.now)) }
+// Whether the payload names the key of the ask, where a key binding token is asked for.
+pub(crate) fn check_named(binding: &Option<BindingAsk>, payload: &Tree) -> Result<(), PresentError>
+    ensures named { OnOk result (NamesKey binding.now (tree_of payload.now)) }
+    ensures refused { IfErr result (IsOtherKey binding.now (tree_of payload.now)) }
 {
+    let Some(binding) = binding else {
+        return Ok(());
+    };
     let Some(kid) = holder_kid(payload) else {
         return Err(PresentError::BindingKeyDiffers);
     };

@@ -1,10 +1,11 @@
-use Rattle.std.proofs.Common.{inl, sym, ◌∙◌}
-use Rattle.std.proofs.lemmas.Result.{IfOk-weaker, IfErr-weaker, err_from_is_err_and}
+use Rattle.std.proofs.Common.{inl, inr, sym, ◌∙◌}
+use Rattle.std.proofs.lemmas.Result.{err_from_is_err_and}
+use Rattle.claim_tree.specs.View.{tree_of}
 use Rattle.marked_tree.specs.View.{marked_of}
 use Rattle.verifier_core.proofs.Contents.{content_uncounted}
 use Rattle.holder_core.specs.Present.{held_rules}
 use Rattle.holder_core.proofs.Steps.{unchecked_told}
-use Rattle.holder_core.proofs.WholeToken.{made_ready, unmade_unready}
+use Rattle.holder_core.proofs.WholeToken.{whole_ready, whole_unready}
 use Rattle.holder_core.proofs.presenting.ready_parts.Goals as goal
 
 pub returns-in_err-content-clause-refused : goal.returns-in_err-content-clause-refused
@@ -12,18 +13,48 @@ returns-in_err-content-clause-refused g c =
     let from = err_from_is_err_and c.from_residual.result c.from_residual.ensures.1 in
     rw (from.1, from.2) (inl c.in_err-content.ensures.refused)
 
+pub returns-in_err-whole-clause-refused : goal.returns-in_err-whole-clause-refused
+returns-in_err-whole-clause-refused g c =
+    let rules = held_rules c.args.ask.now.keys in
+    let from = err_from_is_err_and c.from_residual-in_err-whole.result c.from_residual-in_err-whole.ensures.1 in
+    rw (from.1, from.2) (inl (unchecked_told c.args.token.now rules c.in_err-whole.field-0.0 (c.in_err-whole.ensures.refused c.args.token.now rules c.in_ok-content.ensures.content)))
+
+pub returns-in_err-whole-clause-within : goal.returns-in_err-whole-clause-within
+returns-in_err-whole-clause-within g c = c.open_payload.ensures.within c.args.token.now (held_rules c.args.ask.now.keys) c.in_ok-content.ensures.content
+
+pub returns-in_err-whole-clause-uncounted : goal.returns-in_err-whole-clause-uncounted
+returns-in_err-whole-clause-uncounted g c = content_uncounted c.args.token.now (held_rules c.args.ask.now.keys) c.in_ok-content.content c.in_ok-content.ensures.content c.args.steps.now c.open_payload.new.steps
+
+pub returns-in_err-unbound-clause-refused : goal.returns-in_err-unbound-clause-refused
+returns-in_err-unbound-clause-refused g c =
+    let none = sym c.count.ensures ∙ c.if-count-eq0.true in
+    let is = c.in_ok-whole.ensures.checked c.args.token.now (held_rules c.args.ask.now.keys) c.in_ok-content.ensures.content in
+    let from = err_from_is_err_and c.from_residual-in_err-unbound.result c.from_residual-in_err-unbound.ensures.1 in
+    rw (from.1, from.2) (inr (whole_unready g.F.Fn c.args.consent.now c.args.token.now c.args.ask.now none c.requires.unbound (tree_of c.in_ok-whole.whole.payload) is c.in_err-unbound.field-0.0 c.in_err-unbound.ensures.refused))
+
+pub returns-in_err-unbound-clause-within : goal.returns-in_err-unbound-clause-within
+returns-in_err-unbound-clause-within g c = c.open_payload.ensures.within c.args.token.now (held_rules c.args.ask.now.keys) c.in_ok-content.ensures.content
+
+pub returns-in_err-unbound-clause-uncounted : goal.returns-in_err-unbound-clause-uncounted
+returns-in_err-unbound-clause-uncounted g c = content_uncounted c.args.token.now (held_rules c.args.ask.now.keys) c.in_ok-content.content c.in_ok-content.ensures.content c.args.steps.now c.open_payload.new.steps
+
 pub returns-then-count-eq0-clause-ready : goal.returns-then-count-eq0-clause-ready
 returns-then-count-eq0-clause-ready g c =
     let none = sym c.count.ensures ∙ c.if-count-eq0.true in
-    IfOk-weaker c.whole_parts.result _ _ (λ r. made_ready g.F.Fn c.args.consent.now c.args.token.now c.args.ask.now none c.requires.unbound r.0) c.whole_parts.ensures.ready
+    let is = c.in_ok-whole.ensures.checked c.args.token.now (held_rules c.args.ask.now.keys) c.in_ok-content.ensures.content in
+    (is.0, whole_ready g.F.Fn c.args.consent.now c.args.token.now c.args.ask.now none c.requires.unbound (tree_of c.in_ok-whole.whole.payload) is c.in_ok-unbound.unbound c.in_ok-unbound.ensures.ready)
 
-pub returns-then-count-eq0-clause-refused : goal.returns-then-count-eq0-clause-refused
-returns-then-count-eq0-clause-refused g c =
-    let none = sym c.count.ensures ∙ c.if-count-eq0.true in
-    IfErr-weaker c.whole_parts.result _ _ (unmade_unready g.F.Fn c.args.consent.now c.args.token.now c.args.ask.now none c.requires.unbound) c.whole_parts.ensures.refused
+pub returns-then-count-eq0-clause-hash : goal.returns-then-count-eq0-clause-hash
+returns-then-count-eq0-clause-hash g c = c.in_ok-whole.ensures.hash c.args.token.now (held_rules c.args.ask.now.keys) c.in_ok-content.ensures.content
+
+pub returns-then-count-eq0-clause-counted : goal.returns-then-count-eq0-clause-counted
+returns-then-count-eq0-clause-counted g c = c.in_ok-whole.ensures.counted c.args.token.now (held_rules c.args.ask.now.keys) c.in_ok-content.ensures.content
+
+pub returns-then-count-eq0-clause-within : goal.returns-then-count-eq0-clause-within
+returns-then-count-eq0-clause-within g c = c.open_payload.ensures.within c.args.token.now (held_rules c.args.ask.now.keys) c.in_ok-content.ensures.content
 
 pub returns-then-count-eq0-clause-uncounted : goal.returns-then-count-eq0-clause-uncounted
-returns-then-count-eq0-clause-uncounted g c = content_uncounted c.args.token.now (held_rules c.args.ask.now.keys) c.in_ok-content.content c.in_ok-content.ensures.content c.args.steps.now c.whole_parts.new.steps
+returns-then-count-eq0-clause-uncounted g c = content_uncounted c.args.token.now (held_rules c.args.ask.now.keys) c.in_ok-content.content c.in_ok-content.ensures.content c.args.steps.now c.open_payload.new.steps
 
 pub returns-in_err-opened-clause-refused : goal.returns-in_err-opened-clause-refused
 returns-in_err-opened-clause-refused g c =

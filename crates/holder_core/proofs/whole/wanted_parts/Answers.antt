@@ -11,7 +11,7 @@ returns-in-Err-clause-refused c = other_named c.args.ask.now (tree_of c.args.pay
 pub returns-clause-ready : goal.returns-clause-ready
 returns-clause-ready c = record {
   there = c.in_default.ensures.there refl;
-  key = c.in_default-check_binding.ensures.named;
+  key = c.in_default-check_named.ensures.named;
   presents = record {
     signed = c.in_ok-picked_parts.ensures.signed;
     disclosures = c.in_ok-picked_parts.ensures.disclosures ∙ ap (λ (marks : List ℕ). picked (has marks) c.args.token.now.parts.disclosures) c.new.ensures;
