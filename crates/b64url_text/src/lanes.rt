@@ -18,86 +18,33 @@ const DIGITS: u8 = 2; // 0x30 to 0x39
 
 const A_TO_O: u8 = 4; // 0x41 to 0x4F, 0x61 to 0x6F
 
-const UPPER_P_TO_Z: u8 = 8; // 0x50 to 0x5A, and 0x5F
+const UPPER_REST: u8 = 8; // 0x50 to 0x5A, and 0x5F
 
-const LOWER_P_TO_Z: u8 = 16; // 0x70 to 0x7A
-
-const ZERO: u8 = DIGITS | UPPER_P_TO_Z | LOWER_P_TO_Z;
-
-const TO_NINE: u8 = ZERO | A_TO_O;
-
-const TEN: u8 = A_TO_O | UPPER_P_TO_Z | LOWER_P_TO_Z;
+const LOWER_REST: u8 = 16; // 0x70 to 0x7A
 
 // The class of a high four bits, for both halves of a vector.
 const CLASS: [u8; LANES] = [
-    0,
-    0,
-    DASH,
-    DIGITS,
-    A_TO_O,
-    UPPER_P_TO_Z,
-    A_TO_O,
-    LOWER_P_TO_Z,
-    0,
-    0,
-    0,
-    0,
-    0,
-    0,
-    0,
-    0,
-    0,
-    0,
-    DASH,
-    DIGITS,
-    A_TO_O,
-    UPPER_P_TO_Z,
-    A_TO_O,
-    LOWER_P_TO_Z,
-    0,
-    0,
-    0,
-    0,
-    0,
-    0,
-    0,
-    0,
+    0, 0, DASH, DIGITS, A_TO_O, UPPER_REST, A_TO_O, LOWER_REST, 0, 0, 0, 0, 0, 0, 0, 0, 0, 0, DASH,
+    DIGITS, A_TO_O, UPPER_REST, A_TO_O, LOWER_REST, 0, 0, 0, 0, 0, 0, 0, 0,
 ];
 
-// The classes that have a low four bits, likewise.
+// The classes that have these low four bits; B, C and E have `A_TO_O` alone.
+const LOW_0: u8 = DIGITS | UPPER_REST | LOWER_REST;
+
+const LOW_1_TO_9: u8 = LOW_0 | A_TO_O;
+
+const LOW_A: u8 = A_TO_O | UPPER_REST | LOWER_REST;
+
+const LOW_D: u8 = A_TO_O | DASH;
+
+const LOW_F: u8 = A_TO_O | UPPER_REST;
+
+// The classes that have a low four bits, for both halves of a vector.
 const CLASSES: [u8; LANES] = [
-    ZERO,
-    TO_NINE,
-    TO_NINE,
-    TO_NINE,
-    TO_NINE,
-    TO_NINE,
-    TO_NINE,
-    TO_NINE,
-    TO_NINE,
-    TO_NINE,
-    TEN,
-    A_TO_O,
-    A_TO_O,
-    A_TO_O | DASH,
-    A_TO_O,
-    A_TO_O | UPPER_P_TO_Z,
-    ZERO,
-    TO_NINE,
-    TO_NINE,
-    TO_NINE,
-    TO_NINE,
-    TO_NINE,
-    TO_NINE,
-    TO_NINE,
-    TO_NINE,
-    TO_NINE,
-    TEN,
-    A_TO_O,
-    A_TO_O,
-    A_TO_O | DASH,
-    A_TO_O,
-    A_TO_O | UPPER_P_TO_Z,
+    LOW_0, LOW_1_TO_9, LOW_1_TO_9, LOW_1_TO_9, LOW_1_TO_9, LOW_1_TO_9, LOW_1_TO_9, LOW_1_TO_9,
+    LOW_1_TO_9, LOW_1_TO_9, LOW_A, A_TO_O, A_TO_O, LOW_D, A_TO_O, LOW_F, LOW_0, LOW_1_TO_9,
+    LOW_1_TO_9, LOW_1_TO_9, LOW_1_TO_9, LOW_1_TO_9, LOW_1_TO_9, LOW_1_TO_9, LOW_1_TO_9, LOW_1_TO_9,
+    LOW_A, A_TO_O, A_TO_O, LOW_D, A_TO_O, LOW_F,
 ];
 
 // The lowest bit that is set, or the number of lanes.

@@ -179,3 +179,13 @@ pub pair_same : {X Y : Type 0} (a b : X) (c d : Y) → ◌≡◌ {A = Option (X 
 pair_same {X} {Y} a b c d h =
     let e : ◌≡◌ {A = X × Y} (a, c) (b, d) = cc in
     (ap (λ (p : X × Y). p.0) e, ap (λ (p : X × Y). p.1) e)
+
+-- what is so of the first of a list, and of one of the rest where it is so there, is so at each place
+pub each_place : {X : Type 0} (R : List X → X → Type 0) → ((x : X) (xs : List X) → R (x ∷ xs) x) → ((y : X) (xs : List X) (x : X) → R xs x → R (y ∷ xs) x)
+    → (xs : List X) (i : ℕ) (x : X) → i < length xs → x ≡ get_or xs i x → R xs x
+each_place {X} R first later xs i x within is = subst (R xs) (sym is) (go xs i x within)
+  where
+    go : (xs : List X) (i : ℕ) (d : X) → i < length xs → R xs (get_or xs i d)
+    go [] i d within = absurd (omega arith)
+    go (x ∷ xs) zero d within = first x xs
+    go (y ∷ xs) (suc i) d within = later y xs (get_or xs i d) (go xs i d (omega arith))

@@ -8,6 +8,7 @@ use Rattle.claim_tree.specs.Nodes.{nodes, elements_nodes, members_nodes}
 use Rattle.claim_tree.specs.View.{tree_of}
 use Rattle.claim_tree.specs.ListViews.{elements_of, members_of}
 use Rattle.claim_tree.specs.declared.tree.Tree as tree
+use Rattle.claim_tree.proofs.Lists.{each_place}
 use Rattle.claim_tree.proofs.Views.{elements_of-push}
 
 abbrev pub Named : Type 0
@@ -15,29 +16,14 @@ Named = Text × tree.Tree
 
 -- ---- what every element is
 
-ranged_there : (ts : List tree.Tree) (i : ℕ) (d : tree.Tree) → i < length ts → ElementsRanged (elements_of ts) → IsRanged (tree_of (get_or ts i d))
-ranged_there [] i d within h = absurd (omega arith)
-ranged_there (t ∷ ts) zero d within h = h.0
-ranged_there (t ∷ ts) (suc i) d within h = ranged_there ts i d (omega arith) h.1
-
 pub ranged_at : (ts : List tree.Tree) (i : ℕ) (t : tree.Tree) → i < length ts → t ≡ get_or ts i t → ElementsRanged (elements_of ts) → IsRanged (tree_of t)
-ranged_at ts i t within is h = subst (λ u. IsRanged (tree_of u)) (sym is) (ranged_there ts i t within h)
-
-nodes_there : (ts : List tree.Tree) (i : ℕ) (d : tree.Tree) → i < length ts → nodes (tree_of (get_or ts i d)) ≤ elements_nodes (elements_of ts)
-nodes_there [] i d within = absurd (omega arith)
-nodes_there (t ∷ ts) zero d within = omega arith
-nodes_there (t ∷ ts) (suc i) d within = let rest = nodes_there ts i d (omega arith) in omega (arith, rest)
+ranged_at = each_place (λ ts t. ElementsRanged (elements_of ts) → IsRanged (tree_of t)) (λ t ts h. h.0) (λ u ts t rest h. rest h.1)
 
 pub nodes_at : (ts : List tree.Tree) (i : ℕ) (t : tree.Tree) → i < length ts → t ≡ get_or ts i t → nodes (tree_of t) ≤ elements_nodes (elements_of ts)
-nodes_at ts i t within is = subst (λ u. nodes (tree_of u) ≤ elements_nodes (elements_of ts)) (sym is) (nodes_there ts i t within)
-
-depth_there : (ts : List tree.Tree) (i : ℕ) (d : tree.Tree) → i < length ts → depth (tree_of (get_or ts i d)) ≤ elements_depth (elements_of ts)
-depth_there [] i d within = absurd (omega arith)
-depth_there (t ∷ ts) zero d within = omega arith
-depth_there (t ∷ ts) (suc i) d within = let rest = depth_there ts i d (omega arith) in omega (arith, rest)
+nodes_at = each_place (λ ts t. nodes (tree_of t) ≤ elements_nodes (elements_of ts)) (λ t ts. omega arith) (λ u ts t rest. omega (arith, rest))
 
 pub depth_at : (ts : List tree.Tree) (i : ℕ) (t : tree.Tree) → i < length ts → t ≡ get_or ts i t → depth (tree_of t) ≤ elements_depth (elements_of ts)
-depth_at ts i t within is = subst (λ u. depth (tree_of u) ≤ elements_depth (elements_of ts)) (sym is) (depth_there ts i t within)
+depth_at = each_place (λ ts t. depth (tree_of t) ≤ elements_depth (elements_of ts)) (λ t ts. omega arith) (λ u ts t rest. omega (arith, rest))
 
 -- one element more
 pub elements_turn : (ts : List tree.Tree) (i : ℕ) (t : tree.Tree) → i < length ts → t ≡ get_or ts i t → elements_of (take (i + 1) ts) ≡ pushed (elements_of (take i ts)) (tree_of t)
@@ -47,29 +33,14 @@ elements_turn ts i t within is =
 
 -- ---- what every member is
 
-ranged_member_there : (ms : List Named) (i : ℕ) (d : Named) → i < length ms → MembersRanged (members_of ms) → IsRanged (tree_of (get_or ms i d).1)
-ranged_member_there [] i d within h = absurd (omega arith)
-ranged_member_there (m ∷ ms) zero d within h = h.0
-ranged_member_there (m ∷ ms) (suc i) d within h = ranged_member_there ms i d (omega arith) h.1
-
 pub ranged_member_at : (ms : List Named) (i : ℕ) (m : Named) → i < length ms → m ≡ get_or ms i m → MembersRanged (members_of ms) → IsRanged (tree_of m.1)
-ranged_member_at ms i m within is h = subst (λ (n : Named). IsRanged (tree_of n.1)) (sym is) (ranged_member_there ms i m within h)
-
-nodes_member_there : (ms : List Named) (i : ℕ) (d : Named) → i < length ms → nodes (tree_of (get_or ms i d).1) ≤ members_nodes (members_of ms)
-nodes_member_there [] i d within = absurd (omega arith)
-nodes_member_there (m ∷ ms) zero d within = omega arith
-nodes_member_there (m ∷ ms) (suc i) d within = let rest = nodes_member_there ms i d (omega arith) in omega (arith, rest)
+ranged_member_at = each_place (λ (ms : List Named) (m : Named). MembersRanged (members_of ms) → IsRanged (tree_of m.1)) (λ m ms h. h.0) (λ n ms m rest h. rest h.1)
 
 pub nodes_member_at : (ms : List Named) (i : ℕ) (m : Named) → i < length ms → m ≡ get_or ms i m → nodes (tree_of m.1) ≤ members_nodes (members_of ms)
-nodes_member_at ms i m within is = subst (λ (n : Named). nodes (tree_of n.1) ≤ members_nodes (members_of ms)) (sym is) (nodes_member_there ms i m within)
-
-depth_member_there : (ms : List Named) (i : ℕ) (d : Named) → i < length ms → depth (tree_of (get_or ms i d).1) ≤ members_depth (members_of ms)
-depth_member_there [] i d within = absurd (omega arith)
-depth_member_there (m ∷ ms) zero d within = omega arith
-depth_member_there (m ∷ ms) (suc i) d within = let rest = depth_member_there ms i d (omega arith) in omega (arith, rest)
+nodes_member_at = each_place (λ (ms : List Named) (m : Named). nodes (tree_of m.1) ≤ members_nodes (members_of ms)) (λ m ms. omega arith) (λ n ms m rest. omega (arith, rest))
 
 pub depth_member_at : (ms : List Named) (i : ℕ) (m : Named) → i < length ms → m ≡ get_or ms i m → depth (tree_of m.1) ≤ members_depth (members_of ms)
-depth_member_at ms i m within is = subst (λ (n : Named). depth (tree_of n.1) ≤ members_depth (members_of ms)) (sym is) (depth_member_there ms i m within)
+depth_member_at = each_place (λ (ms : List Named) (m : Named). depth (tree_of m.1) ≤ members_depth (members_of ms)) (λ m ms. omega arith) (λ n ms m rest. omega (arith, rest))
 
 before_there : (name : Text) (ms : List Named) (i : ℕ) (d : Named) → i < length ms → IsBeforeAll name (names (members_of ms)) → IsBefore name (get_or ms i d).0
 before_there name [] i d within h = absurd (omega arith)
@@ -92,16 +63,20 @@ members_turn ms i m within is ordered =
 
 -- ---- the step of a call that goes into each tree of a slice
 
+pub element_nodes : (ts : List tree.Tree) (i : ℕ) (t : tree.Tree) (es : spec.Elements) → i < length ts → t ≡ get_or ts i t → elements_of ts ≡ es → nodes (tree_of t) ≤ elements_nodes es
+element_nodes ts i t es within is all = subst (λ us. nodes (tree_of t) ≤ elements_nodes us) all (nodes_at ts i t within is)
+
+pub member_nodes : (ms : List Named) (i : ℕ) (m : Named) (us : spec.Members) → i < length ms → m ≡ get_or ms i m → members_of ms ≡ us → nodes (tree_of m.1) ≤ members_nodes us
+member_nodes ms i m us within is all = subst (λ vs. nodes (tree_of m.1) ≤ members_nodes vs) all (nodes_member_at ms i m within is)
+
 pub into_element : (ts : List tree.Tree) (i : ℕ) (t : tree.Tree) (es : spec.Elements) → i < length ts → t ≡ get_or ts i t → elements_of ts ≡ es → elements_depth es ≤ 126
     → (2 * nodes (tree_of t) < 2 * elements_nodes es + 1) × (depth (tree_of t) ≤ 127)
 into_element ts i t es within is all low =
-    let few : nodes (tree_of t) ≤ elements_nodes es = subst (λ us. nodes (tree_of t) ≤ elements_nodes us) all (nodes_at ts i t within is) in
     let deep : depth (tree_of t) ≤ elements_depth es = subst (λ us. depth (tree_of t) ≤ elements_depth us) all (depth_at ts i t within is) in
-    (omega (arith, few), omega (arith, deep, low))
+    (omega (arith, element_nodes ts i t es within is all), omega (arith, deep, low))
 
 pub into_member : (ms : List Named) (i : ℕ) (m : Named) (us : spec.Members) → i < length ms → m ≡ get_or ms i m → members_of ms ≡ us → members_depth us ≤ 126
     → (2 * nodes (tree_of m.1) < 2 * members_nodes us + 1) × (depth (tree_of m.1) ≤ 127)
 into_member ms i m us within is all low =
-    let few : nodes (tree_of m.1) ≤ members_nodes us = subst (λ vs. nodes (tree_of m.1) ≤ members_nodes vs) all (nodes_member_at ms i m within is) in
     let deep : depth (tree_of m.1) ≤ members_depth us = subst (λ vs. depth (tree_of m.1) ≤ members_depth vs) all (depth_member_at ms i m within is) in
-    (omega (arith, few), omega (arith, deep, low))
+    (omega (arith, member_nodes ms i m us within is all), omega (arith, deep, low))

@@ -96,7 +96,7 @@ fn build_elements(
     ensures shorter { OnOk result (length reader.new < length reader.old) }
 {
     let mut trees = TreeList::new(alloc);
-    'elements: while !reader.take_end_array() {
+    while !reader.take_end_array() {
         let tree = build(alloc, reader, depth)?;
         trees.push(tree)?;
     }
@@ -123,7 +123,7 @@ fn build_members(
     ensures shorter { OnOk result (length reader.new < length reader.old) }
 {
     let mut trees = TreeMap::new(alloc);
-    'members: while let Some(name) = reader.next_key()? {
+    while let Some(name) = reader.next_key()? {
         if !is_quick(&trees, name) {
             return Err(BuildError::NoTree);
         }

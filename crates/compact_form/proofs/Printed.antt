@@ -1,10 +1,8 @@
 -- The text that is printed of parts.
-use Rattle.std.proofs.Common.{◌≡◌, ℕ, ◌+◌, Bool, true, false, List, [], ◌∷◌, ◌++◌, Some, take, refl, length, ap, ◌∙◌, sym, subst, arith, ◌≤◌, append_assoc}
-use Rattle.std.specs.Prelude.{◌==◌, ◌&&◌, ◌||◌, not, nat_lt, slice_get}
+use Rattle.std.proofs.Common.{◌≡◌, ℕ, Bool, true, false, List, [], ◌∷◌, ◌++◌, refl, length, ap, ◌∙◌, sym, subst, arith, ◌≤◌, append_assoc}
+use Rattle.std.specs.Prelude.{◌==◌, ◌&&◌, ◌||◌, not, nat_lt}
 use Rattle.std.proofs.Math.Bool.{and-false}
 use Rattle.std.proofs.lemmas.Bool.{le-ltb}
-use Rattle.std.proofs.lemmas.List.{take_more}
-use Rattle.std.proofs.lemmas.Option.{slice_get_within, get_or_from_slice_get}
 use Rattle.b64url_text.specs.Base64url.{letters, is_letter}
 use Rattle.sd_outside.specs.Limits.{file_max, compact_max, count_max}
 use Rattle.compact_form.specs.declared.parts.Parts.{Parts}
@@ -12,28 +10,11 @@ use Rattle.compact_form.specs.Compact.{jwt, spelled, hashed, ending, compact, Ar
 use Rattle.compact_form.specs.JwtCalls.{IsUpToLastTilde}
 use Rattle.compact_form.specs.Trim.{is_blank, trimmed, is_json, is_too_long}
 use Rattle.compact_form.specs.CompactToken.{ReadsCompact}
-use Rattle.compact_form.proofs.GatheredParts.{spelled-push}
 use Rattle.compact_form.proofs.Runs.{tilde}
 use Rattle.compact_form.proofs.Spelled.{other_byte}
 use Rattle.compact_form.proofs.Absent.{none_in_ending, none_in_compact, trimmed_bare}
 use Rattle.compact_form.proofs.Unique.{one_spelling}
 use Rattle.compact_form.proofs.Verdicts.{reads}
-
--- one disclosure more
-spelled-take : (ds : List (List ℕ)) (i : ℕ) (d : List ℕ) → slice_get ds i ≡ Some d → spelled (take (i + 1) ds) ≡ spelled (take i ds) ++ (d ++ (126 ∷ []))
-spelled-take ds i d at =
-    ap spelled (take_more ds i [] (slice_get_within ds i d at) ∙ ap (λ (e : List ℕ). take i ds ++ (e ∷ [])) (get_or_from_slice_get ds i d [] at))
-    ∙ spelled-push (take i ds) d
-
-regrouped : (a b d : List ℕ) → ((a ++ b) ++ d) ++ (126 ∷ []) ≡ a ++ (b ++ (d ++ (126 ∷ [])))
-regrouped a b d = simp append_assoc
-
-pub one_more : (ds : List (List ℕ)) (i : ℕ) (d front text : List ℕ) → slice_get ds i ≡ Some d → text ≡ front ++ spelled (take i ds)
-    → (text ++ d) ++ (126 ∷ []) ≡ front ++ spelled (take (i + 1) ds)
-one_more ds i d front text at is =
-    ap (λ (t : List ℕ). (t ++ d) ++ (126 ∷ [])) is
-    ∙ regrouped front (spelled (take i ds)) d
-    ∙ ap (λ (s : List ℕ). front ++ s) (sym (spelled-take ds i d at))
 
 -- ---- the printed text is read as the same parts
 

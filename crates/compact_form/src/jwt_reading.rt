@@ -11,12 +11,8 @@ pub fn read_jwt(text: &str) -> Option<JwtView<'_>>
     ensures some { IfSome result (λ view. IsJwt (jwt_of view) text.now) }
     ensures none { IfNone result ((j : TheParts) → IsJwt j text.now → ⊥) }
 {
-    let Some((protected, rest)) = text.split_once('.') else {
-        return None;
-    };
-    let Some((payload, signature)) = rest.split_once('.') else {
-        return None;
-    };
+    let (protected, rest) = text.split_once('.')?;
+    let (payload, signature) = rest.split_once('.')?;
     let view = JwtView {
         protected,
         payload,

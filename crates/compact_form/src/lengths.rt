@@ -36,8 +36,7 @@ fn left_by_disclosures(most: usize, disclosures: &TextList) -> Option<usize>
     ensures { SomeIff result (length (spelled disclosures.now) ≤ most) (most - length (spelled disclosures.now)) }
 {
     let mut left = most;
-    for i in 0..disclosures.len() {
-        let disclosure = disclosures.at(i).unwrap();
+    for disclosure in disclosures.elements() {
         left = left_behind(left, disclosure.as_str())?;
     }
     Some(left)

@@ -22,8 +22,7 @@ fn push_jwt(text: &mut String, jwt: &JwtParts) -> Result<(), NoMemory>
 fn push_disclosures(text: &mut String, disclosures: &TextList) -> Result<(), NoMemory>
     ensures { OnOk result (string_bytes text.new ≡ string_bytes text.old ++ spelled disclosures.now) }
 {
-    for i in 0..disclosures.len() {
-        let disclosure = disclosures.at(i).unwrap();
+    for disclosure in disclosures.elements() {
         text.push_str(disclosure.as_str())?;
         text.push('~')?;
     }

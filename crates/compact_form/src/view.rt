@@ -217,9 +217,7 @@ impl<'a> Iterator for Pieces<'a> {
     ghost remaining = { item_count (λ pieces. pieces) };
 
     fn next(&mut self) -> Option<&'a str> {
-        let Some(end) = memchr(b'~', self.rest.as_bytes()) else {
-            return None;
-        };
+        let end = memchr(b'~', self.rest.as_bytes())?;
         let piece = &self.rest[..end];
         self.rest = &self.rest[end + 1..];
         Some(piece)

@@ -7,10 +7,10 @@ use claim_tree::{Tree, TreeList, TreeMap};
 use sd_outside::TextBox;
 
 // The name of the digests of hidden members.
-pub(crate) const SD: &str = "_sd";
+const SD: &str = "_sd";
 
 // The name of the digest of a hidden element.
-pub(crate) const DOTS: &str = "...";
+const DOTS: &str = "...";
 
 /// Whether a name is `_sd`, RFC 9901 section 4.2.4.1.
 #[tactic(auto, unfolding(crate::specs::Reserved::sd_name))]
@@ -28,7 +28,8 @@ pub fn is_dots(name: &TextBox) -> bool
     name.as_str() == DOTS
 }
 
-pub(crate) fn are_texts(trees: &TreeList) -> bool
+// Whether the elements are texts alone.
+fn are_texts(trees: &TreeList) -> bool
     ensures { result ≡ is_some (texts_of trees.now) }
 {
     for tree in trees.trees() {
@@ -39,7 +40,7 @@ pub(crate) fn are_texts(trees: &TreeList) -> bool
     true
 }
 
-pub(crate) fn is_text_list(tree: &Tree) -> bool
+fn is_text_list(tree: &Tree) -> bool
     ensures { result ≡ is_some (text_list (tree_of tree.now)) }
 {
     match tree {

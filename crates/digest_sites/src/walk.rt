@@ -1,5 +1,5 @@
 // The sites of a tree, in their order.
-ghost use Rattle.std.specs.Prelude.{◌≡◌, [], ◌∷◌, ◌++◌, map, false, Some, IsSome, IfOk, IfErr, OnOk, unwrap_or};
+ghost use Rattle.std.specs.Prelude.{◌≡◌, [], ◌∷◌, ◌++◌, map, false, IsSome, IfOk, IfErr, OnOk, unwrap_or};
 ghost use Rattle.claim_tree.specs.View.{tree_of};
 ghost use Rattle.digest_sites.specs.Reserved.{misuses, texts_of, element_digest as digest_in};
 ghost use Rattle.digest_sites.specs.Sites.{sites as sites_of};
@@ -45,149 +45,122 @@ pub fn sites(alloc: Global, tree: &Tree) -> Result<SiteList, SiteError>
     if is_misused(tree) {
         return Err(SiteError::Misused);
     }
-    let mut found = SiteList::new(alloc);
-    walk(alloc, tree, &mut Path::new(alloc), &mut found)?;
-    Ok(found)
+    let mut walk = Walk {
+        alloc,
+        at: Path::new(alloc),
+        found: SiteList::new(alloc),
+    };
+    walk.visit(tree)?;
+    Ok(walk.found)
 }
 
-#[cycle(walk)]
-fn walk(alloc: Global, tree: &Tree, at: &mut Path, found: &mut SiteList) -> Result<(), NoMemory>
-    ensures found { OnOk result (found.new ≡ found.old ++ sites_at at.old (tree_of tree.now)) }
-    ensures at { OnOk result (at.new ≡ at.old) }
-{
-    match tree {
-        Tree::List(trees) => walk_elements(alloc, trees, at, found),
-        Tree::Object(trees) => {
-            add_own_sites(alloc, trees, at, found)?;
-            walk_members(alloc, trees, at, found)
-        }
-        _ => Ok(()),
-    }
-}
-
-#[cycle(walk)]
-fn walk_elements(
+// A walk over a tree: the place to which it has come, and the sites that it has found.
+#[derive(Drop)]
+struct Walk {
     alloc: Global,
-    trees: &TreeList,
-    at: &mut Path,
-    found: &mut SiteList,
-) -> Result<(), NoMemory>
-    ensures found { OnOk result (found.new ≡ found.old ++ elements_sites at.old 0 trees.now) }
-    ensures at { OnOk result (at.new ≡ at.old) }
-{
-    for (i, tree) in trees.trees().iter().enumerate() {
-        let mut digits = Buffer::new();
-        walk_element(alloc, digits.format(i), tree, at, found)?;
-    }
-    Ok(())
+    at: Path,
+    found: SiteList,
 }
 
-// The element on a step.
-#[cycle(walk)]
-fn walk_element(
-    alloc: Global,
-    step: &str,
-    tree: &Tree,
-    at: &mut Path,
-    found: &mut SiteList,
-) -> Result<(), NoMemory>
-    ensures found { OnOk result (found.new ≡ found.old ++ element_sites_on (at.old ++ step.now ∷ []) (digest_in (tree_of tree.now)) (sites_at (at.old ++ step.now ∷ []) (tree_of tree.now))) }
-    ensures at { OnOk result (at.new ≡ at.old) }
-{
-    match element_digest(tree) {
-        Some(digest) => add_element_site(alloc, step, digest, at, found),
-        None => walk_inside(alloc, step, tree, at, found),
-    }
-}
-
-#[cycle(walk)]
-fn walk_members(
-    alloc: Global,
-    trees: &TreeMap,
-    at: &mut Path,
-    found: &mut SiteList,
-) -> Result<(), NoMemory>
-    ensures found { OnOk result (found.new ≡ found.old ++ members_sites at.old trees.now) }
-    ensures at { OnOk result (at.new ≡ at.old) }
-{
-    for (name, tree) in trees.members() {
-        if !is_sd(name) {
-            walk_inside(alloc, name.as_str(), tree, at, found)?;
+impl Walk {
+    // Adds the sites of the tree to which the walk has come.
+    #[cycle(walk)]
+    fn visit(&mut self, tree: &Tree) -> Result<(), NoMemory>
+        ensures found { OnOk result (self.new.found ≡ self.old.found ++ sites_at self.old.at (tree_of tree.now)) }
+        ensures at { OnOk result (self.new.at ≡ self.old.at) }
+    {
+        match tree {
+            Tree::List(trees) => self.visit_elements(trees),
+            Tree::Object(trees) => {
+                self.add_own_sites(trees)?;
+                self.visit_members(trees)
+            }
+            _ => Ok(()),
         }
     }
-    Ok(())
-}
 
-// The tree on a step.
-#[cycle(walk)]
-fn walk_inside(
-    alloc: Global,
-    step: &str,
-    tree: &Tree,
-    at: &mut Path,
-    found: &mut SiteList,
-) -> Result<(), NoMemory>
-    ensures found { OnOk result (found.new ≡ found.old ++ sites_at (at.old ++ step.now ∷ []) (tree_of tree.now)) }
-    ensures at { OnOk result (at.new ≡ at.old) }
-{
-    at.push(step)?;
-    walk(alloc, tree, at, found)?;
-    at.pop();
-    Ok(())
-}
-
-fn add_element_site(
-    alloc: Global,
-    step: &str,
-    digest: &TextBox,
-    at: &Path,
-    found: &mut SiteList,
-) -> Result<(), NoMemory>
-    ensures { OnOk result (found.new ≡ found.old ++ element_sites_on (at.now ++ step.now ∷ []) (Some digest.now) []) }
-{
-    let mut at = at.copy(alloc)?;
-    at.push(step)?;
-    let digest = TextBox::make(alloc, digest.as_str())?;
-    found.push(Site {
-        at,
-        kind: SiteKind::Element,
-        digest,
-    })
-}
-
-fn add_own_sites(
-    alloc: Global,
-    trees: &TreeMap,
-    at: &Path,
-    found: &mut SiteList,
-) -> Result<(), NoMemory>
-    ensures { OnOk result (found.new ≡ found.old ++ own_sites_at at.now trees.now) }
-{
-    match own_digests(trees) {
-        Some(digests) => add_member_sites(alloc, digests, at, found),
-        None => Ok(()),
+    #[cycle(walk)]
+    fn visit_elements(&mut self, trees: &TreeList) -> Result<(), NoMemory>
+        ensures found { OnOk result (self.new.found ≡ self.old.found ++ elements_sites self.old.at 0 trees.now) }
+        ensures at { OnOk result (self.new.at ≡ self.old.at) }
+    {
+        for (i, tree) in trees.trees().iter().enumerate() {
+            let mut digits = Buffer::new();
+            self.visit_element(digits.format(i), tree)?;
+        }
+        Ok(())
     }
-}
 
-fn add_member_sites(
-    alloc: Global,
-    digests: &TreeList,
-    at: &Path,
-    found: &mut SiteList,
-) -> Result<(), NoMemory>
-    requires { IsSome (texts_of digests.now) }
-    ensures { OnOk result (found.new ≡ found.old ++ map (site at.now Member) (unwrap_or (texts_of digests.now) [])) }
-{
-    for tree in digests.trees() {
-        if let Some(digest) = tree.as_text() {
-            let at = at.copy(alloc)?;
-            let digest = TextBox::make(alloc, digest.as_str())?;
-            found.push(Site {
-                at,
-                kind: SiteKind::Member,
-                digest,
-            })?;
+    // The element on a step.
+    #[cycle(walk)]
+    fn visit_element(&mut self, step: &str, tree: &Tree) -> Result<(), NoMemory>
+        ensures found { OnOk result (self.new.found ≡ self.old.found ++ element_sites_on (self.old.at ++ step.now ∷ []) (digest_in (tree_of tree.now)) (sites_at (self.old.at ++ step.now ∷ []) (tree_of tree.now))) }
+        ensures at { OnOk result (self.new.at ≡ self.old.at) }
+    {
+        self.at.push(step)?;
+        match element_digest(tree) {
+            Some(digest) => self.add_site(SiteKind::Element, digest)?,
+            None => self.visit(tree)?,
+        }
+        self.at.pop();
+        Ok(())
+    }
+
+    #[cycle(walk)]
+    fn visit_members(&mut self, trees: &TreeMap) -> Result<(), NoMemory>
+        ensures found { OnOk result (self.new.found ≡ self.old.found ++ members_sites self.old.at trees.now) }
+        ensures at { OnOk result (self.new.at ≡ self.old.at) }
+    {
+        for (name, tree) in trees.members() {
+            if !is_sd(name) {
+                self.visit_member(name.as_str(), tree)?;
+            }
+        }
+        Ok(())
+    }
+
+    #[cycle(walk)]
+    fn visit_member(&mut self, name: &str, tree: &Tree) -> Result<(), NoMemory>
+        ensures found { OnOk result (self.new.found ≡ self.old.found ++ sites_at (self.old.at ++ name.now ∷ []) (tree_of tree.now)) }
+        ensures at { OnOk result (self.new.at ≡ self.old.at) }
+    {
+        self.at.push(name)?;
+        self.visit(tree)?;
+        self.at.pop();
+        Ok(())
+    }
+
+    // Adds the sites of the digests of an object's own hidden members.
+    fn add_own_sites(&mut self, trees: &TreeMap) -> Result<(), NoMemory>
+        ensures found { OnOk result (self.new.found ≡ self.old.found ++ own_sites_at self.old.at trees.now) }
+        ensures at { OnOk result (self.new.at ≡ self.old.at) }
+    {
+        match own_digests(trees) {
+            Some(digests) => self.add_member_sites(digests),
+            None => Ok(()),
         }
     }
-    Ok(())
+
+    fn add_member_sites(&mut self, digests: &TreeList) -> Result<(), NoMemory>
+        requires { IsSome (texts_of digests.now) }
+        ensures found { OnOk result (self.new.found ≡ self.old.found ++ map (site self.old.at Member) (unwrap_or (texts_of digests.now) [])) }
+        ensures at { OnOk result (self.new.at ≡ self.old.at) }
+    {
+        for tree in digests.trees() {
+            if let Some(digest) = tree.as_text() {
+                self.add_site(SiteKind::Member, digest)?;
+            }
+        }
+        Ok(())
+    }
+
+    // Adds a site at the place to which the walk has come.
+    fn add_site(&mut self, kind: SiteKind, digest: &TextBox) -> Result<(), NoMemory>
+        ensures found { OnOk result (self.new.found ≡ self.old.found ++ site self.old.at kind digest.now ∷ []) }
+        ensures at { OnOk result (self.new.at ≡ self.old.at) }
+    {
+        let at = self.at.copy(self.alloc)?;
+        let digest = TextBox::make(self.alloc, digest.as_str())?;
+        self.found.push(Site { at, kind, digest })
+    }
 }

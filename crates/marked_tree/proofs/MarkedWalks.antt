@@ -7,22 +7,21 @@ use Rattle.marked_tree.specs.Marked as spec
 use Rattle.marked_tree.specs.Marked.{MarkedElements, marked_element, MarkedMembers, marked_member, no_marked_members, strip, strip_elements, strip_members, put, remark, remark_elements, remark_members, new_mark, kept, keep_element, keep_member}
 use Rattle.marked_tree.specs.MarkedCalls.{marked_pushed}
 use Rattle.marked_tree.specs.View.{marked_of, marked_elements_of, marked_members_of}
+use Rattle.claim_tree.proofs.Lists.{each_place}
 use Rattle.marked_tree.proofs.MarkedViews.{Element, Entry, strip-pushed}
 use Rattle.marked_tree.proofs.Names.{Ascend, names_of, ascend, turned_back}
 
 -- ---- what every element is
 
-element_there : (es : List Element) (n : ℕ) (d : Element) → n < length es
-    → (nodes (strip (marked_of (get_or es n d).1)) ≤ elements_nodes (strip_elements (marked_elements_of es))) × (depth (strip (marked_of (get_or es n d).1)) ≤ elements_depth (strip_elements (marked_elements_of es)))
-element_there [] n d within = absurd (omega arith)
-element_there (e ∷ es) zero d within = (omega arith, omega arith)
-element_there (e ∷ es) (suc n) d within = let rest = element_there es n d (omega arith) in (omega (arith, rest.0), omega (arith, rest.1))
+-- it has no more nodes than all of them, and nests no deeper
+abbrev ElementWithin : List Element → Element → Type 0
+ElementWithin es e = (nodes (strip (marked_of e.1)) ≤ elements_nodes (strip_elements (marked_elements_of es))) × (depth (strip (marked_of e.1)) ≤ elements_depth (strip_elements (marked_elements_of es)))
 
 -- the step of a call that goes into each tree
 pub into_element : (es : List Element) (n : ℕ) (e : Element) (us : MarkedElements) → n < length es → e ≡ get_or es n e → marked_elements_of es ≡ us → elements_depth (strip_elements us) ≤ 126
     → (nodes (strip (marked_of e.1)) ≤ elements_nodes (strip_elements us)) × (depth (strip (marked_of e.1)) ≤ 127)
 into_element es n e us within is all low =
-    let there = subst (λ (d : Element). (nodes (strip (marked_of d.1)) ≤ elements_nodes (strip_elements (marked_elements_of es))) × (depth (strip (marked_of d.1)) ≤ elements_depth (strip_elements (marked_elements_of es)))) (sym is) (element_there es n e within) in
+    let there = each_place ElementWithin (λ e es. (omega arith, omega arith)) (λ d es e rest. (omega (arith, rest.0), omega (arith, rest.1))) es n e within is in
     let here = subst (λ vs. (nodes (strip (marked_of e.1)) ≤ elements_nodes (strip_elements vs)) × (depth (strip (marked_of e.1)) ≤ elements_depth (strip_elements vs))) all there in
     (here.0, omega (arith, here.1, low))
 
@@ -65,16 +64,13 @@ kept_turn f es n e within is = ap (remark_elements f) (element_turn es n e withi
 
 -- ---- what every member is
 
-member_there : (ms : List Entry) (n : ℕ) (d : Entry) → n < length ms
-    → (nodes (strip (marked_of (get_or ms n d).2)) ≤ members_nodes (strip_members (marked_members_of ms))) × (depth (strip (marked_of (get_or ms n d).2)) ≤ members_depth (strip_members (marked_members_of ms)))
-member_there [] n d within = absurd (omega arith)
-member_there (m ∷ ms) zero d within = (omega arith, omega arith)
-member_there (m ∷ ms) (suc n) d within = let rest = member_there ms n d (omega arith) in (omega (arith, rest.0), omega (arith, rest.1))
+abbrev MemberWithin : List Entry → Entry → Type 0
+MemberWithin ms m = (nodes (strip (marked_of m.2)) ≤ members_nodes (strip_members (marked_members_of ms))) × (depth (strip (marked_of m.2)) ≤ members_depth (strip_members (marked_members_of ms)))
 
 pub into_member : (ms : List Entry) (n : ℕ) (m : Entry) (us : MarkedMembers) → n < length ms → m ≡ get_or ms n m → marked_members_of ms ≡ us → members_depth (strip_members us) ≤ 126
     → (nodes (strip (marked_of m.2)) ≤ members_nodes (strip_members us)) × (depth (strip (marked_of m.2)) ≤ 127)
 into_member ms n m us within is all low =
-    let there = subst (λ (d : Entry). (nodes (strip (marked_of d.2)) ≤ members_nodes (strip_members (marked_members_of ms))) × (depth (strip (marked_of d.2)) ≤ members_depth (strip_members (marked_members_of ms)))) (sym is) (member_there ms n m within) in
+    let there = each_place MemberWithin (λ m ms. (omega arith, omega arith)) (λ d ms m rest. (omega (arith, rest.0), omega (arith, rest.1))) ms n m within is in
     let here = subst (λ vs. (nodes (strip (marked_of m.2)) ≤ members_nodes (strip_members vs)) × (depth (strip (marked_of m.2)) ≤ members_depth (strip_members vs))) all there in
     (here.0, omega (arith, here.1, low))
 
@@ -131,8 +127,7 @@ kept_member_turn f ms n m within is ordered =
 
 -- ---- among elements and members that are taken by value
 
-element_among : (xs : List Element) (e : Element) (rest : List Element)
-    → (nodes (strip (marked_of e.1)) ≤ elements_nodes (strip_elements (marked_elements_of (xs ++ e ∷ rest)))) × (depth (strip (marked_of e.1)) ≤ elements_depth (strip_elements (marked_elements_of (xs ++ e ∷ rest))))
+element_among : (xs : List Element) (e : Element) (rest : List Element) → ElementWithin (xs ++ e ∷ rest) e
 element_among [] e rest = (omega arith, omega arith)
 element_among (x ∷ xs) e rest = let there = element_among xs e rest in (omega (arith, there.0), omega (arith, there.1))
 
@@ -142,8 +137,7 @@ into_taken_element xs e rest us all low =
     let here = subst (λ vs. (nodes (strip (marked_of e.1)) ≤ elements_nodes (strip_elements vs)) × (depth (strip (marked_of e.1)) ≤ elements_depth (strip_elements vs))) all (element_among xs e rest) in
     (here.0, omega (arith, here.1, low))
 
-member_among : (xs : List Entry) (m : Entry) (rest : List Entry)
-    → (nodes (strip (marked_of m.2)) ≤ members_nodes (strip_members (marked_members_of (xs ++ m ∷ rest)))) × (depth (strip (marked_of m.2)) ≤ members_depth (strip_members (marked_members_of (xs ++ m ∷ rest))))
+member_among : (xs : List Entry) (m : Entry) (rest : List Entry) → MemberWithin (xs ++ m ∷ rest) m
 member_among [] m rest = (omega arith, omega arith)
 member_among (x ∷ xs) m rest = let there = member_among xs m rest in (omega (arith, there.0), omega (arith, there.1))
 

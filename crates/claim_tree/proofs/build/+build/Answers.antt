@@ -53,10 +53,10 @@ build-returns-in_ok-build_members-in-BeginObject-clause-ok t c =
     let opened = ap (converted of_json) (ap (value c.args.depth) (first ∙ ap (λ k. token_of k ∷ c.next.new.self) c.in-BeginObject.is) ∙ value-begin_object c.args.depth c.next.new.self (omega arith)) ∙ converted-object (members (value (c.args.depth - 1)) (length c.next.new.self) c.next.new.self) in
     opened ∙ ap (parse_map object) c.in_ok-build_members-in-BeginObject.ensures.ok
 
-pub build_elements-elements-preserved : goal.build_elements-elements-preserved
-build_elements-elements-preserved t c =
+pub build_elements-loop-alloc-preserved : goal.build_elements-loop-alloc-preserved
+build_elements-loop-alloc-preserved t c =
     let p = value c.args.depth in
-    let l = c.elements in
+    let l = c.loop-alloc in
     let n = l.invariant.0 in
     let going : (after_end_array l.reader ≡ None) × (c.take_end_array.new.self ≡ l.reader) = grind arith in
     let done = c.in_ok-tree.ensures in
@@ -75,15 +75,15 @@ build_elements-elements-preserved t c =
 pub build_elements-returns-clause-ok : goal.build_elements-returns-clause-ok
 build_elements-returns-clause-ok t c =
     let p = value c.args.depth in
-    let l = c.elements in
+    let l = c.loop-alloc in
     let n = l.invariant.0 in
     let r = c.take_end_array.new.self in
     l.invariant.2 ∙ ap (parse_map (items_before l.trees)) (items_over p n l.reader r l.invariant.1 (grind arith)) ∙ ap (λ ds. Some (ds, r)) (items_before-no_items l.trees)
 
-pub build_members-members-preserved : goal.build_members-members-preserved
-build_members-members-preserved t c =
+pub build_members-loop-trees-preserved : goal.build_members-loop-trees-preserved
+build_members-loop-trees-preserved t c =
     let p = value c.args.depth in
-    let l = c.members in
+    let l = c.loop-trees in
     let n = l.invariant.0 in
     let k = c.in-Some.name.now in
     let s = c.next_key.new.self in
@@ -107,6 +107,6 @@ build_members-members-preserved t c =
 pub build_members-returns-clause-ok : goal.build_members-returns-clause-ok
 build_members-returns-clause-ok t c =
     let p = value c.args.depth in
-    let l = c.members in
+    let l = c.loop-trees in
     let n = l.invariant.0 in
     l.invariant.2 ∙ members_over p (members_data l.trees) n l.reader c.next_key.new.self l.invariant.1 (grind arith)

@@ -1,11 +1,8 @@
-use Rattle.std.proofs.Common.{◌≡◌, ◌≤◌, ◌++◌, ap, sym, ◌∙◌, subst, arith}
+use Rattle.std.proofs.Common.{◌≡◌, ◌++◌, ap, sym, ◌∙◌, arith}
 use Rattle.std.proofs.lemmas.List.{drop_all}
 use Rattle.std.proofs.lemmas.Result.{on_ok_weaker}
-use Rattle.claim_tree.specs.Tree.{IsRanged}
-use Rattle.claim_tree.specs.Nodes.{nodes, elements_nodes, members_nodes}
-use Rattle.claim_tree.specs.View.{tree_of}
 use Rattle.claim_tree.specs.ListViews.{elements_of, members_of}
-use Rattle.claim_tree.proofs.Walks.{ranged_at, nodes_at, ranged_member_at, nodes_member_at}
+use Rattle.claim_tree.proofs.Walks.{ranged_at, ranged_member_at, element_nodes, member_nodes}
 use Rattle.claim_tree.proofs.TreeTokens.{elements_tokens, members_tokens, element_written, member_written}
 use Rattle.claim_tree.proofs.tokens.+put.Goals as goal
 
@@ -13,10 +10,8 @@ pub put_elements-put_tree-requires : goal.put_elements-put_tree-requires
 put_elements-put_tree-requires t c =
     let ts = c.trees-tree-items.result.now in
     let all : elements_of ts ≡ c.args.trees.now = c.trees-tree-items.ensures.value in
-    let ranged : IsRanged (tree_of c.tree-item.result) = ranged_at ts c.loop-tree.tree-index c.tree-item.result c.loop-tree-test.true c.tree-item.is (rw all c.requires) in
-    let few : nodes (tree_of c.tree-item.result) ≤ elements_nodes (elements_of ts) = nodes_at ts c.loop-tree.tree-index c.tree-item.result c.loop-tree-test.true c.tree-item.is in
-    let fewer : nodes (tree_of c.tree-item.result) ≤ elements_nodes c.args.trees.now = subst (λ es. nodes (tree_of c.tree-item.result) ≤ elements_nodes es) all few in
-    (omega (arith, fewer), ranged)
+    let few = element_nodes ts c.loop-tree.tree-index c.tree-item.result c.args.trees.now c.loop-tree-test.true c.tree-item.is all in
+    (omega (arith, few), ranged_at ts c.loop-tree.tree-index c.tree-item.result c.loop-tree-test.true c.tree-item.is (rw all c.requires))
 
 pub put_elements-loop-tree-preserved : goal.put_elements-loop-tree-preserved
 put_elements-loop-tree-preserved t c =
@@ -39,10 +34,8 @@ pub put_members-put_tree-requires : goal.put_members-put_tree-requires
 put_members-put_tree-requires t c =
     let ms = c.members-name-items.result.now in
     let all : members_of ms ≡ c.args.trees.now = c.members-name-items.ensures.value in
-    let ranged : IsRanged (tree_of c.loop-name-item.result.1) = ranged_member_at ms c.loop-name.name-index c.loop-name-item.result c.loop-name-test.true c.loop-name-item.is (rw all c.requires) in
-    let few : nodes (tree_of c.loop-name-item.result.1) ≤ members_nodes (members_of ms) = nodes_member_at ms c.loop-name.name-index c.loop-name-item.result c.loop-name-test.true c.loop-name-item.is in
-    let fewer : nodes (tree_of c.loop-name-item.result.1) ≤ members_nodes c.args.trees.now = subst (λ es. nodes (tree_of c.loop-name-item.result.1) ≤ members_nodes es) all few in
-    (omega (arith, fewer), ranged)
+    let few = member_nodes ms c.loop-name.name-index c.loop-name-item.result c.args.trees.now c.loop-name-test.true c.loop-name-item.is all in
+    (omega (arith, few), ranged_member_at ms c.loop-name.name-index c.loop-name-item.result c.loop-name-test.true c.loop-name-item.is (rw all c.requires))
 
 pub put_members-loop-name-preserved : goal.put_members-loop-name-preserved
 put_members-loop-name-preserved t c =

@@ -2,34 +2,30 @@ use Rattle.std.proofs.Common.{Some, ap, ◌∙◌, sym, subst}
 use Rattle.claim_tree.specs.Tree.{MembersOrdered}
 use Rattle.claim_tree.specs.View.{tree_of}
 use Rattle.claim_tree.specs.ListViews.{members_of}
-use Rattle.claim_tree.specs.MemberPositions.{IsPosition, IsGap}
 use Rattle.claim_tree.proofs.MapPlaces.{named_at, named_gap, remove_at, removed_gap, ordered-removed}
 use Rattle.claim_tree.proofs.tree.take.Goals as goal
 
 pub returns-in-Ok-clause-tree : goal.returns-in-Ok-clause-tree
 returns-in-Ok-clause-tree c =
-    let place = subst (λ ms. IsPosition ms c.args.name.now c.in-Ok.place) c.as_slice.ensures.value c.in-Ok.ensures.found in
+    let place = rw c.as_slice.ensures.value at c.in-Ok.ensures.found in
     ap (λ m. Some (tree_of m.1)) c.remove-tree.ensures.value
     ∙ sym (named_at c.args.members.now.items c.args.name.now c.in-Ok.place c.remove-tree.result c.requires place)
 
 pub returns-in-Ok-clause-others : goal.returns-in-Ok-clause-others
 returns-in-Ok-clause-others c =
-    let place = subst (λ ms. IsPosition ms c.args.name.now c.in-Ok.place) c.as_slice.ensures.value c.in-Ok.ensures.found in
+    let place = rw c.as_slice.ensures.value at c.in-Ok.ensures.found in
     ap members_of c.remove-tree.ensures.items ∙ remove_at c.args.members.now.items c.args.name.now c.in-Ok.place c.requires place
 
 pub returns-in-Ok-clause-ordered : goal.returns-in-Ok-clause-ordered
 returns-in-Ok-clause-ordered c =
-    let place = subst (λ ms. IsPosition ms c.args.name.now c.in-Ok.place) c.as_slice.ensures.value c.in-Ok.ensures.found in
-    subst MembersOrdered
-    (sym (ap members_of c.remove-tree.ensures.items ∙ remove_at c.args.members.now.items c.args.name.now c.in-Ok.place c.requires place))
-    (ordered-removed (members_of c.args.members.now.items) c.args.name.now c.requires)
+    subst MembersOrdered (sym (returns-in-Ok-clause-others c)) (ordered-removed (members_of c.args.members.now.items) c.args.name.now c.requires)
 
 pub returns-in-Err-clause-tree : goal.returns-in-Err-clause-tree
 returns-in-Err-clause-tree c =
-    let gap = subst (λ ms. IsGap ms c.args.name.now c.in-Err.field-0) c.as_slice.ensures.value c.in-Err.ensures.absent in
+    let gap = rw c.as_slice.ensures.value at c.in-Err.ensures.absent in
     sym (named_gap c.args.members.now.items c.args.name.now c.in-Err.field-0 gap)
 
 pub returns-in-Err-clause-others : goal.returns-in-Err-clause-others
 returns-in-Err-clause-others c =
-    let gap = subst (λ ms. IsGap ms c.args.name.now c.in-Err.field-0) c.as_slice.ensures.value c.in-Err.ensures.absent in
+    let gap = rw c.as_slice.ensures.value at c.in-Err.ensures.absent in
     removed_gap c.args.members.now.items c.args.name.now c.in-Err.field-0 gap

@@ -1,15 +1,11 @@
-use Rattle.std.proofs.Common.{arith, subst, ◌≤◌}
-use Rattle.claim_tree.specs.Nodes.{nodes, elements_nodes, members_nodes}
-use Rattle.claim_tree.specs.View.{tree_of}
-use Rattle.claim_tree.proofs.Walks.{nodes_at, nodes_member_at}
+use Rattle.std.proofs.Common.{arith}
+use Rattle.claim_tree.proofs.Walks.{element_nodes, member_nodes}
 use Rattle.digest_sites.proofs.misuse.+misuse.Goals as goal
 
 pub has_misused_element-is_misused-requires : goal.has_misused_element-is_misused-requires
 has_misused_element-is_misused-requires t c =
-    let few = nodes_at c.trees-tree-items.result.now c.loop-tree.tree-index c.tree-item.result c.loop-tree-test.true c.tree-item.is in
-    omega (arith, subst (λ ts. nodes (tree_of c.tree-item.result) ≤ elements_nodes ts) c.trees-tree-items.ensures.value few)
+    omega (arith, element_nodes c.trees-tree-items.result.now c.loop-tree.tree-index c.tree-item.result c.args.trees.now c.loop-tree-test.true c.tree-item.is c.trees-tree-items.ensures.value)
 
 pub has_misused_member-is_misused-requires : goal.has_misused_member-is_misused-requires
 has_misused_member-is_misused-requires t c =
-    let few = nodes_member_at c.members-name-items.result.now c.loop-name.name-index c.loop-name-item.result c.loop-name-test.true c.loop-name-item.is in
-    omega (arith, subst (λ ms. nodes (tree_of c.loop-name-item.result.1) ≤ members_nodes ms) c.members-name-items.ensures.value few)
+    omega (arith, member_nodes c.members-name-items.result.now c.loop-name.name-index c.loop-name-item.result c.args.trees.now c.loop-name-test.true c.loop-name-item.is c.members-name-items.ensures.value)

@@ -1,49 +1,39 @@
-use Rattle.std.proofs.Common.{List, ap, ◌∙◌, sym, subst, arith}
-use Rattle.claim_tree.specs.Tree.{Text, MembersOrdered}
-use Rattle.claim_tree.specs.Lists.{StandsAt}
+use Rattle.std.proofs.Common.{ap, ◌∙◌, sym, subst, arith}
+use Rattle.claim_tree.specs.Tree.{MembersOrdered}
 use Rattle.claim_tree.proofs.Lists.{At-below}
 use Rattle.marked_tree.specs.Marked.{strip_members}
-use Rattle.marked_tree.specs.NamePositions.{IsNameGap}
 use Rattle.marked_tree.specs.View.{marked_of, marked_members_of}
-use Rattle.marked_tree.proofs.MarkedViews.{Entry}
 use Rattle.marked_tree.proofs.Names.{names_of, length-names, ascend, set_at, insert_at, ordered-marked_inserted}
 use Rattle.marked_tree.proofs.marked.set.Goals as goal
 
 pub index_mut-requires : goal.index_mut-requires
 index_mut-requires c =
     let ms = c.args.members.now.items in
-    let place = subst (λ (es : List Entry). StandsAt (names_of es) c.in-Ok.place c.as_str.result.now) c.as_slice.ensures.value c.in-Ok.ensures.found in
-    omega (arith, At-below (names_of ms) c.in-Ok.place c.as_str.result.now place, length-names ms)
+    let place = rw (c.as_slice.ensures.value, c.as_str.ensures) at c.in-Ok.ensures.found in
+    omega (arith, At-below (names_of ms) c.in-Ok.place c.args.name place, length-names ms)
 
 pub insert-requires : goal.insert-requires
 insert-requires c =
-    let ms = c.args.members.now.items in
-    let gap = subst (λ (es : List Entry). IsNameGap (names_of es) c.as_str.result.now c.in-Err.place) c.as_slice.ensures.value c.in-Err.ensures.absent in
-    let w = gap.within in
-    omega (arith, w, length-names ms)
+    let gap = rw (c.as_slice.ensures.value, c.as_str.ensures) at c.in-Err.ensures.absent in
+    omega (arith, gap.within, length-names c.args.members.now.items)
 
 pub returns-in-Ok-clause-ok : goal.returns-in-Ok-clause-ok
 returns-in-Ok-clause-ok c =
     let ms = c.args.members.now.items in
-    let place = subst (λ (n : Text). StandsAt (names_of ms) c.in-Ok.place n) c.as_str.ensures (subst (λ (es : List Entry). StandsAt (names_of es) c.in-Ok.place c.as_str.result.now) c.as_slice.ensures.value c.in-Ok.ensures.found) in
+    let place = rw (c.as_slice.ensures.value, c.as_str.ensures) at c.in-Ok.ensures.found in
     set_at ms c.args.name c.args.mark c.args.tree c.in-Ok.place (ascend (marked_members_of ms) c.requires.members) place
 
 pub returns-in-Ok-clause-ordered : goal.returns-in-Ok-clause-ordered
 returns-in-Ok-clause-ordered c =
-    let ms = c.args.members.now.items in
-    let place = subst (λ (n : Text). StandsAt (names_of ms) c.in-Ok.place n) c.as_str.ensures (subst (λ (es : List Entry). StandsAt (names_of es) c.in-Ok.place c.as_str.result.now) c.as_slice.ensures.value c.in-Ok.ensures.found) in
-    subst (λ ns. MembersOrdered (strip_members ns)) (sym (set_at ms c.args.name c.args.mark c.args.tree c.in-Ok.place (ascend (marked_members_of ms) c.requires.members) place))
-    (ordered-marked_inserted (marked_members_of ms) c.args.name c.args.mark (marked_of c.args.tree) c.requires.members c.requires.tree)
+    subst (λ ns. MembersOrdered (strip_members ns)) (sym (returns-in-Ok-clause-ok c))
+    (ordered-marked_inserted (marked_members_of c.args.members.now.items) c.args.name c.args.mark (marked_of c.args.tree) c.requires.members c.requires.tree)
 
 pub returns-in_ok-insert-in-Err-clause-ok : goal.returns-in_ok-insert-in-Err-clause-ok
 returns-in_ok-insert-in-Err-clause-ok c =
-    let ms = c.args.members.now.items in
-    let gap = subst (λ (n : Text). IsNameGap (names_of ms) n c.in-Err.place) c.as_str.ensures (subst (λ (es : List Entry). IsNameGap (names_of es) c.as_str.result.now c.in-Err.place) c.as_slice.ensures.value c.in-Err.ensures.absent) in
-    ap marked_members_of c.in_ok-insert-in-Err.ensures.items ∙ insert_at ms c.args.name c.args.mark c.args.tree c.in-Err.place gap
+    let gap = rw (c.as_slice.ensures.value, c.as_str.ensures) at c.in-Err.ensures.absent in
+    ap marked_members_of c.in_ok-insert-in-Err.ensures.items ∙ insert_at c.args.members.now.items c.args.name c.args.mark c.args.tree c.in-Err.place gap
 
 pub returns-in_ok-insert-in-Err-clause-ordered : goal.returns-in_ok-insert-in-Err-clause-ordered
 returns-in_ok-insert-in-Err-clause-ordered c =
-    let ms = c.args.members.now.items in
-    let gap = subst (λ (n : Text). IsNameGap (names_of ms) n c.in-Err.place) c.as_str.ensures (subst (λ (es : List Entry). IsNameGap (names_of es) c.as_str.result.now c.in-Err.place) c.as_slice.ensures.value c.in-Err.ensures.absent) in
-    subst (λ ns. MembersOrdered (strip_members ns)) (sym (ap marked_members_of c.in_ok-insert-in-Err.ensures.items ∙ insert_at ms c.args.name c.args.mark c.args.tree c.in-Err.place gap))
-    (ordered-marked_inserted (marked_members_of ms) c.args.name c.args.mark (marked_of c.args.tree) c.requires.members c.requires.tree)
+    subst (λ ns. MembersOrdered (strip_members ns)) (sym (returns-in_ok-insert-in-Err-clause-ok c))
+    (ordered-marked_inserted (marked_members_of c.args.members.now.items) c.args.name c.args.mark (marked_of c.args.tree) c.requires.members c.requires.tree)
