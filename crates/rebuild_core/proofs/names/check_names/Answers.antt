@@ -1,6 +1,5 @@
-use Rattle.std.proofs.Common.{map, ◌∙◌}
+use Rattle.std.proofs.Common.{◌∙◌}
 use Rattle.std.proofs.lemmas.List.{length-map}
-use Rattle.claim_tree.specs.View.{tree_of}
 use Rattle.rebuild_core.specs.Rows.{seen}
 use Rattle.rebuild_core.proofs.NamesJudged.{rows_fit, wrong_least, wrong_none, reserved_least, reserved_none, clash_least, clash_none}
 use Rattle.rebuild_core.proofs.names.check_names.Goals as goal
