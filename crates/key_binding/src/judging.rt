@@ -119,7 +119,7 @@ fn header_of(alloc: Global, reader: &mut JsonReader, protected: &str) -> Result<
     read_header(alloc, reader, protected, &TreeMap::new(alloc))
 }
 
-// 28 to 31.
+// The conditions 28 to 31: its header and its signature.
 fn check_signed(
     alloc: Global,
     reader: &mut JsonReader,
@@ -138,7 +138,7 @@ fn check_signed(
     }
 }
 
-// 29 to 31.
+// The conditions 29 to 31, of a header that is read.
 fn check_header(
     alloc: Global,
     bound: Bound<'_>,
@@ -174,7 +174,7 @@ fn check_header(
     Ok(())
 }
 
-// 32 to 38.
+// The conditions 32 to 38: its payload.
 fn check_payload(alloc: Global, reader: &mut JsonReader, bound: Bound<'_>) -> Result<(), BoundError>
     requires below { Passes (number_of Condition.BindingPayload) (BindingFails (judged_of bound)) }
     ensures passes { OnOk result (NoneFails (BindingFails (judged_of bound.entry))) }
@@ -187,7 +187,7 @@ fn check_payload(alloc: Global, reader: &mut JsonReader, bound: Bound<'_>) -> Re
     }
 }
 
-// 32 to 38, of a payload that is read.
+// The conditions 32 to 38, of a payload that is read.
 fn check_body(alloc: Global, bound: Bound<'_>, body: &Tree) -> Result<(), BoundError>
     requires below { Passes (number_of Condition.BindingPayload) (BindingFails (judged_of bound)) }
     requires read { IsBody (judged_of bound).token.payload (tree_of body.now) }
@@ -222,7 +222,7 @@ fn is_digest_of(alloc: Global, text: &str, hash: HashAlg, hashed: &str) -> Resul
     Ok(text == digest.as_str())
 }
 
-// 33 to 36.
+// The conditions 33 to 36, of the claims that are read.
 fn check_claims(bound: Bound<'_>, claims: Claims<'_>) -> Result<(), Condition>
     requires below { Passes (number_of Condition.BindingStale) (BindingFails (judged_of bound)) }
     requires read { HasClaims (judged_of bound).token (claims_of claims) }

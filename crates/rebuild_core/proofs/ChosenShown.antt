@@ -1,17 +1,15 @@
 -- The disclosures on the way to wanted paths, opened.
-use Rattle.std.proofs.Common.{◌≡◌, ℕ, List, Bool, length, sym, ap, ◌∙◌}
+use Rattle.std.proofs.Common.{ℕ, List, Bool, length, ap, ◌∙◌}
 use Rattle.claim_tree.specs.Tree.{Tree}
 use Rattle.digest_sites.specs.Given.{Given}
 use Rattle.marked_tree.specs.Choice.{IsUnmixed}
 use Rattle.marked_tree.specs.Paths.{chosen}
 use Rattle.marked_tree.specs.Marked.{prune, strip}
 use Rattle.marked_tree.specs.Ways.{count_below}
-use Rattle.marked_tree.specs.Numbers.{has, IsRising}
 use Rattle.marked_tree.proofs.LeastChoice.{least_choice, unmixed_once, chosen_below}
-use Rattle.marked_tree.proofs.NumberSets.{rising_distinct, has-In, In-has}
 use Rattle.marked_tree.proofs.Remarks.{strip-renumbered}
 use Rattle.rebuild_core.specs.Soundness.{IsSound}
-use Rattle.rebuild_core.specs.Laws.{Enumerates, IsPresentation, ChoiceShown}
+use Rattle.rebuild_core.specs.Laws.{IsPresentation, ChoiceShown}
 use Rattle.rebuild_core.specs.Readable.{IsReadable}
 use Rattle.rebuild_core.specs.Opening.{processed}
 use Rattle.rebuild_core.proofs.Presented.{presentation_holds, one_node_holds}

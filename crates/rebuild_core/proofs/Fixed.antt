@@ -5,7 +5,7 @@ use Rattle.claim_tree.specs.Tree.{Text, Tree}
 use Rattle.claim_tree.specs.Lists.{StandsAt, In, Repeats, AtNone}
 use Rattle.digest_sites.specs.Sites.{sites}
 use Rattle.digest_sites.specs.Given.{Given}
-use Rattle.rebuild_core.specs.Reached.{find_from, find, is_reached, payload, value_of, OwnedSite, owned_site, value_sites, met, owned_digests, given_digests}
+use Rattle.rebuild_core.specs.Reached.{find_from, find, is_reached, payload, value_of, owned_site, value_sites, met, owned_digests, given_digests}
 use Rattle.rebuild_core.specs.Opening.{Shown, nothing_shown, shown, reveal, opened}
 use Rattle.rebuild_core.specs.Soundness.{IsReferencedOnce}
 use Rattle.rebuild_core.specs.Laws.{LeadsUp}

@@ -7,7 +7,7 @@ use Rattle.digest_sites.specs.Given.{Given}
 use Rattle.rebuild_core.specs.Payload.{without_alg}
 use Rattle.rebuild_core.specs.Reached.{OwnedSite, owned_site, payload, value_of, value_sites, is_reached, met, owned_digests, given_digests, all_sites}
 use Rattle.rebuild_core.specs.LookUps.{look_ups, counted, RoseWithin}
-use Rattle.rebuild_core.specs.Rows.{SeenRow, seen, all_rows, row_ends}
+use Rattle.rebuild_core.specs.Rows.{seen, all_rows, row_ends}
 use Rattle.rebuild_core.specs.Conditions.{RepeatedDisclosure, Misused, RepeatedDigest, Unreferenced}
 use Rattle.rebuild_core.specs.Soundness.{IsReferencedOnce}
 use Rattle.claim_tree.proofs.Lists.{At-same, At-map, In-At, one_place}
@@ -16,27 +16,22 @@ use Rattle.rebuild_core.specs.Answer.{IsPayload}
 use Rattle.rebuild_core.specs.declared.rows.Row.{Row}
 use Rattle.rebuild_core.specs.Graph.{roots_in, rows_in, is_in, flagged_rows, Recurs, IsClear}
 use Rattle.rebuild_core.proofs.Chains.{reached_all}
-use Rattle.rebuild_core.proofs.RowFacts.{row_is_item, all_row_texts, rows_looked_up}
+use Rattle.rebuild_core.proofs.RowFacts.{all_row_texts, rows_looked_up}
 use Rattle.rebuild_core.proofs.Transfer.{length-all_at, graph_of_flat, IsGraph, Grows, grows_texts, numbers_stand, all_at, all_below, Apart, Reaches, met_stand, digest_recurs, recurs_digest, unreferenced_clear, clear_unreferenced}
 
 -- the numbers of the digests, in turn after those of the disclosures
-pub flat_made : (t : Tree) (g : List Given) → IsOrdered t → IsPayload t → (rows listed : List Row) (ix jx : List Text) (ks ends : List ℕ) → AtNone (RepeatedDisclosure g) → ix ≡ given_digests g
-    → map seen rows ≡ all_rows t g → listed ≡ rows → ks ≡ numbers ix (row_texts listed) → jx ≡ all_interned ix (row_texts listed) → ends ≡ row_ends t g → IsFlatList t g jx ks ends
-flat_made t g o is rows listed ix jx ks ends none a b l c d e =
-    let ts = row_texts listed in
-    let are : ts ≡ owned_digests (all_sites (without_alg t) g) = ap row_texts l ∙ all_row_texts t g rows o is b in
+pub flat_found : (t : Tree) (g : List Given) → IsOrdered t → IsPayload t → (rows : List Row) (ix jx : List Text) (ks es : List ℕ) {ends : List ℕ} → AtNone (RepeatedDisclosure g) → ix ≡ given_digests g
+    → map seen rows ≡ all_rows t g → ks ≡ numbers ix (row_texts rows) → jx ≡ all_interned ix (row_texts rows) → es ≡ ends → ends ≡ row_ends t g → IsFlatList t g jx ks es
+flat_found t g o is rows ix jx ks es none a b c d e f =
+    let ts = row_texts rows in
+    let are : ts ≡ owned_digests (all_sites (without_alg t) g) = all_row_texts t g rows o is b in
     let w : Grows ix jx = subst (λ z. Grows ix z) (sym d) (grows_texts ix ts) in
     record {
       apart = w.apart (subst Apart (sym a) none);
       given_first = λ i x h. w.keeps i x.digest (subst (λ z. StandsAt z i x.digest) (sym a) (At-map (λ (z : Given). z.digest) g i x h));
       all = subst (λ z. AllAt jx ks z) are (subst (λ z. AllAt jx z ts) (sym c) (subst (λ z. AllAt z (numbers ix ts) ts) (sym d) (numbers_stand ix ts)));
-      cuts = e;
+      cuts = e ∙ f;
     }
-
--- the same of what is found with rows that are moved
-pub flat_found : (t : Tree) (g : List Given) → IsOrdered t → IsPayload t → (rows : List Row) (ix jx : List Text) (ks es : List ℕ) {ends : List ℕ} → AtNone (RepeatedDisclosure g) → ix ≡ given_digests g
-    → map seen rows ≡ all_rows t g → ks ≡ numbers ix (row_texts rows) → jx ≡ all_interned ix (row_texts rows) → es ≡ ends → ends ≡ row_ends t g → IsFlatList t g jx ks es
-flat_found t g o is rows ix jx ks es none a b c d e f = flat_made t g o is rows rows ix jx ks es none a b refl c d (e ∙ f)
 
 -- where each disclosure is reached, the met list has the digests of all values
 reached_items : (passes : Given → Bool) (i : ℕ) (g : List Given) → ((x : Given) → In x g → passes x ≡ true) → value_sites passes i g ≡ value_sites (λ _. true) i g
@@ -53,36 +48,6 @@ length-items : (ms : List OwnedSite) → length (owned_digests ms) ≡ length ms
 length-items [] = refl
 length-items (m ∷ ms) = ap suc (length-items ms)
 
-module _ (p : Tree) (g : List Given) (ix : List Text) (roots : List ℕ) (rows : List (List ℕ)) (w : IsGraph p g ix roots rows) (fs : List Bool) (few : length fs ≡ length g) (reaches : Reaches (length g) roots rows fs) (ks : List ℕ) (made : ks ≡ roots ++ flagged_rows fs rows) where
-  stand : AllAt ix ks (owned_digests (met p g))
-  stand = rw made (met_stand p g ix roots rows w fs few reaches)
-
-  pub below : (k : ℕ) → In k ks → k < length ix
-  below = all_below ix ks (owned_digests (met p g)) stand
-
-  pub least_digest : (q : ℕ) → IsLeast (Recurs ks) q → IsLeast (RepeatedDigest p g) q
-  least_digest q l = record {
-    fails = recurs_digest p g ix roots rows w fs few reaches q (subst (λ z. Recurs z q) made l.fails);
-    first = λ r lt d. l.first r lt (subst (λ z. Recurs z r) (sym made) (digest_recurs p g ix roots rows w fs few reaches r d));
-  }
-
-  pub no_digest : AtNone (Recurs ks) → AtNone (RepeatedDigest p g)
-  no_digest n = λ q d. n q (subst (λ z. Recurs z q) (sym made) (digest_recurs p g ix roots rows w fs few reaches q d))
-
-  clear_there : (k : ℕ) → Unreferenced p g k → IsClear fs k
-  clear_there k u = let z = unreferenced_clear p g ix roots rows w fs few reaches k u in (omega (arith, z.0, few), z.1)
-
-  pub least_unreferenced : (i : ℕ) → IsLeast (IsClear fs) i → IsLeast (Unreferenced p g) i
-  least_unreferenced i l = record {
-    fails = clear_unreferenced p g ix roots rows w fs few reaches i (omega (arith, l.fails.0, few)) l.fails.1;
-    first = λ r lt u. l.first r lt (clear_there r u);
-  }
-
-  pub no_unreferenced : AtNone (IsClear fs) → AtNone (Unreferenced p g)
-  no_unreferenced n = λ r u. n r (clear_there r u)
-
--- ---- all of it
-
 -- what the numbers, the flags and the met list say of conditions 16 and 17
 pub record IsJudged (p : Tree) (g : List Given) (ix : List Text) (fs : List Bool) (ks : List ℕ) : Type 0 where
   pub below : (k : ℕ) → In k ks → k < length ix
@@ -91,23 +56,34 @@ pub record IsJudged (p : Tree) (g : List Given) (ix : List Text) (fs : List Bool
   pub unreferenced : (i : ℕ) → IsLeast (IsClear fs) i → IsLeast (Unreferenced p g) i
   pub referenced : AtNone (IsClear fs) → AtNone (Unreferenced p g)
 
+module _ (p : Tree) (g : List Given) (ix : List Text) (roots : List ℕ) (rows : List (List ℕ)) (w : IsGraph p g ix roots rows) (fs : List Bool) (few : length fs ≡ length g) (reaches : Reaches (length g) roots rows fs) where
+  clear_there : (k : ℕ) → Unreferenced p g k → IsClear fs k
+  clear_there k u = let z = unreferenced_clear p g ix roots rows w fs few reaches k u in (omega (arith, z.0, few), z.1)
+
+  graph_judged : IsJudged p g ix fs (roots ++ flagged_rows fs rows)
+  graph_judged = record {
+    below = all_below ix (roots ++ flagged_rows fs rows) (owned_digests (met p g)) (met_stand p g ix roots rows w fs few reaches);
+    repeated = λ q l. record {
+      fails = recurs_digest p g ix roots rows w fs few reaches q l.fails;
+      first = λ r lt d. l.first r lt (digest_recurs p g ix roots rows w fs few reaches r d);
+    };
+    apart = λ n q d. n q (digest_recurs p g ix roots rows w fs few reaches q d);
+    unreferenced = λ i l. record {
+      fails = clear_unreferenced p g ix roots rows w fs few reaches i (omega (arith, l.fails.0, few)) l.fails.1;
+      first = λ r lt u. l.first r lt (clear_there r u);
+    };
+    referenced = λ n r u. n r (clear_there r u);
+  }
+
 pub judged : (t : Tree) (g : List Given) → IsOrdered t → IsPayload t → (ix : List Text) (ks ends : List ℕ) → IsFlatList t g ix ks ends → (n : ℕ) → n ≡ length g
     → (flags fs : List Bool) → length flags ≡ n → ((k : ℕ) → k < n → get_or flags k false ≡ is_in (roots_in ends ks) (rows_in ends ks) n k) → fs ≡ flags
-    → (met ms : List ℕ) → met ≡ roots_in ends ks ++ flagged_rows fs (rows_in ends ks) → ms ≡ met → IsJudged (without_alg t) g ix fs ms
-judged t g o is ix ks ends w n many flags fs few reaches same met ms made also =
-    let p = without_alg t in
+    → IsJudged (without_alg t) g ix fs (roots_in ends ks ++ flagged_rows fs (rows_in ends ks))
+judged t g o is ix ks ends w n many flags fs few reaches same =
     let roots = roots_in ends ks in
     let rows = rows_in ends ks in
-    let v = graph_of_flat t g o is ix ks ends w in
     let few : length fs ≡ length g = ap length same ∙ (few ∙ many) in
     let reaches : Reaches (length g) roots rows fs = subst (λ (z : List Bool). Reaches (length g) roots rows z) (sym same) (subst (λ z. Reaches z roots rows flags) many reaches) in
-    record {
-      below = below p g ix roots rows v fs few reaches ms (also ∙ made);
-      repeated = least_digest p g ix roots rows v fs few reaches ms (also ∙ made);
-      apart = no_digest p g ix roots rows v fs few reaches ms (also ∙ made);
-      unreferenced = least_unreferenced p g ix roots rows v fs few reaches ms (also ∙ made);
-      referenced = no_unreferenced p g ix roots rows v fs few reaches ms (also ∙ made);
-    }
+    graph_judged (without_alg t) g ix roots rows (graph_of_flat t g o is ix ks ends w) fs few reaches
 
 pub referenced_once : (p : Tree) (g : List Given) (ix : List Text) (fs : List Bool) (ks : List ℕ) → IsJudged p g ix fs ks → AtNone (RepeatedDisclosure g) → AtNone (Misused p g)
     → AtNone (Recurs ks) → AtNone (IsClear fs) → IsReferencedOnce p g

@@ -1,17 +1,25 @@
 -- The least disclosure that is ill placed, found in one pass.
-use Rattle.std.proofs.Common.{◌≡◌, ℕ, zero, suc, ◌+◌, ◌<◌, ◌≤◌, List, [], ◌∷◌, length, get_or, ⊎_elim, subst, arith}
+use Rattle.std.proofs.Common.{◌≡◌, ℕ, zero, suc, ◌+◌, ◌<◌, ◌≤◌, List, [], ◌∷◌, map, length, get_or, ⊎_elim, refl, subst, arith}
 use Rattle.claim_tree.specs.Lists.{StandsAt, AtNone, IsLeast}
 use Rattle.claim_tree.proofs.Counting.{before_or_at}
-use Rattle.claim_tree.proofs.Lists.{At-same, At-below}
+use Rattle.claim_tree.proofs.Lists.{At-same, At-below, At-map}
 use Rattle.digest_sites.specs.Given.{Given}
-use Rattle.rebuild_core.specs.Rows.{SeenRow}
+use Rattle.rebuild_core.specs.Rows.{SeenRow, seen}
 use Rattle.rebuild_core.specs.RowNames.{StandsAtRow}
+use Rattle.rebuild_core.specs.declared.rows.Row.{Row}
 
 -- what an index reads stands there
-pub At-read : {X : Type 0} (xs : List X) (i : ℕ) (x other : X) → i < length xs → x ≡ get_or xs i other → StandsAt xs i x
+At-read : {X : Type 0} (xs : List X) (i : ℕ) (x other : X) → i < length xs → x ≡ get_or xs i other → StandsAt xs i x
 At-read (y ∷ xs) zero x other l e = e
 At-read (y ∷ xs) (suc i) x other l e = At-read xs i x other (omega arith) e
 At-read [] i x other l e = absurd (omega arith)
+
+-- the number and the row at a place of both lists
+pub number_at : {X : Type 0} (rows : List X) (numbers : List ℕ) (place : ℕ) → length numbers ≡ length rows → place < length rows → StandsAt numbers place (get_or numbers place 0)
+number_at rows numbers place same l = At-read numbers place (get_or numbers place 0) 0 (omega (arith, same, l)) refl
+
+pub seen_at : (rows : List Row) (place : ℕ) (row other : Row) → place < length rows → row ≡ get_or rows place other → StandsAt (map seen rows) place (seen row)
+seen_at rows place row other l e = At-map seen rows place row (At-read rows place row other l e)
 
 -- least is the least ill placed disclosure in the first q rows, or how many there are
 pub record IsLow (IsIll : SeenRow → Given → Type 0) (rows : List SeenRow) (numbers : List ℕ) (g : List Given) (q least : ℕ) : Type 0 where

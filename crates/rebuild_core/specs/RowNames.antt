@@ -9,6 +9,7 @@ use Rattle.digest_sites.specs.declared.site.SiteKind.TheVariants.{Member}
 use Rattle.rebuild_core.specs.Payload.{alg_name}
 use Rattle.rebuild_core.specs.Conditions.{IsWrong}
 use Rattle.rebuild_core.specs.Rows.{SeenRow}
+use Rattle.rebuild_core.specs.declared.names.Misfit.{Misfit}
 
 abbrev pub IsWrongRow : SeenRow → Given → Type 0
 IsWrongRow row x = IsWrong row.kind x.name
@@ -18,6 +19,10 @@ IsReservedIn row name = (name ≡ sd_name) ⊎ ((name ≡ dots_name) ⊎ ((name 
 
 abbrev pub IsReservedRow : SeenRow → Given → Type 0
 IsReservedRow row x = (row.kind ≡ Member) × (name : Text) × (x.name ≡ Some name) × IsReservedIn row name
+
+abbrev pub IsMisfit : Misfit → SeenRow → Given → Type 0
+IsMisfit Misfit.Shape = IsWrongRow
+IsMisfit Misfit.Name = IsReservedRow
 
 -- disclosure i stands at a row where it is ill placed
 abbrev pub StandsAtRow : (SeenRow → Given → Type 0) → List SeenRow → List ℕ → List Given → ℕ → Type 0

@@ -15,6 +15,7 @@ pub(crate) struct Graph {
 }
 
 impl Graph {
+    // Where the numbers of a tree begin.
     fn start(&self, tree: usize) -> usize
         requires { tree < length self.now.ends.items }
         ensures { result ≡ slice_index_or (0 ∷ self.now.ends.items) tree 0 }
@@ -22,6 +23,7 @@ impl Graph {
         if tree == 0 { 0 } else { self.ends[tree - 1] }
     }
 
+    // Where they end.
     #[tactic(auto, using(crate::proofs::Cuts::ascends_at))]
     fn end(&self, tree: usize) -> usize
         requires ascends { Ascends 0 self.now.ends.items (length self.now.numbers.items) }
@@ -46,12 +48,14 @@ impl Graph {
     }
 }
 
+// So many flags, none of which is set.
 fn cleared(alloc: Global, count: usize) -> Result<Vec<bool>, NoMemory>
     ensures { IfOk result (λ flags. flags.items ≡ replicate count false) }
 {
     Ok(vec![in alloc; false; count]?)
 }
 
+// Whether a flag is set. Past the end each counts as set.
 fn is_set(flags: &[bool], k: usize) -> bool
     ensures { result ≡ slice_index_or flags.now k true }
 {
@@ -70,6 +74,7 @@ fn mark(flags: &mut Vec<bool>, order: &mut Vec<usize>, k: usize) -> Result<(), N
     Ok(())
 }
 
+// Marks each number of a row in turn.
 fn mark_row(flags: &mut Vec<bool>, order: &mut Vec<usize>, row: &[usize]) -> Result<(), NoMemory>
     ensures flags { OnOk result (flags.new.items ≡ (mark_all row.now (flags.old.items, order.old.items)).0) }
     ensures order { OnOk result (order.new.items ≡ (mark_all row.now (flags.old.items, order.old.items)).1) }

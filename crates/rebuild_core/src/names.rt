@@ -9,7 +9,7 @@ ghost use Rattle.rebuild_core.specs.Soundness.{IsReferencedOnce, IsWellNamed};
 ghost use Rattle.rebuild_core.specs.Answer.{IsPayload, IsProcessRefused};
 ghost use Rattle.rebuild_core.specs.Rows.{seen, beside_names, all_rows};
 ghost use Rattle.rebuild_core.specs.DigestNumbers.{IsNumbered};
-ghost use Rattle.rebuild_core.specs.RowNames.{IsWrongRow, IsReservedRow, StandsAtRow, given_name, Clashes};
+ghost use Rattle.rebuild_core.specs.RowNames.{IsWrongRow, IsReservedRow, IsMisfit, StandsAtRow, given_name, Clashes};
 ghost use Rattle.rebuild_core.specs.Disclosed.{is_name_disclosed};
 
 use crate::errors::ProcessError;
@@ -60,38 +60,37 @@ fn is_reserved(row: &Row<'_>, item: &Given) -> bool
     }
 }
 
-// The first disclosure whose shape is wrong where it stands.
-pub(crate) fn first_wrong(rows: &[Row<'_>], numbers: &[usize], given: &GivenList) -> Option<usize>
-    requires { length numbers.now ≡ length rows.now }
-    ensures { MatchOption result (AtNone (StandsAtRow IsWrongRow (map seen rows.now) numbers.now given.now)) (λ i. IsLeast (StandsAtRow IsWrongRow (map seen rows.now) numbers.now given.now) i) }
+// What may be wrong with a disclosure alone where it stands.
+#[derive(Clone, Copy, Debug)]
+enum Misfit {
+    Shape,
+    Name,
+}
+
+// Whether this is wrong with a disclosure.
+fn is_misfit(misfit: Misfit, row: &Row<'_>, item: &Given) -> bool
+    ensures { IsTrue result ↔ IsMisfit misfit (seen row.now) (given_of item.now) }
 {
-    let mut least = given.len();
-    for (place, row) in rows.iter().enumerate() {
-        let number = numbers[place];
-        if number < least && is_wrong(row, given_at(given, number)) {
-            least = number;
-        }
-    }
-    if least < given.len() {
-        Some(least)
-    } else {
-        None
+    match misfit {
+        Misfit::Shape => is_wrong(row, item),
+        Misfit::Name => is_reserved(row, item),
     }
 }
 
-// The first disclosure whose name is reserved where it stands.
-pub(crate) fn first_reserved(
+// The first disclosure with which this is wrong where it stands.
+fn first_misfit(
+    misfit: Misfit,
     rows: &[Row<'_>],
     numbers: &[usize],
     given: &GivenList,
 ) -> Option<usize>
     requires { length numbers.now ≡ length rows.now }
-    ensures { MatchOption result (AtNone (StandsAtRow IsReservedRow (map seen rows.now) numbers.now given.now)) (λ i. IsLeast (StandsAtRow IsReservedRow (map seen rows.now) numbers.now given.now) i) }
+    ensures { MatchOption result (AtNone (StandsAtRow (IsMisfit misfit) (map seen rows.now) numbers.now given.now)) (λ i. IsLeast (StandsAtRow (IsMisfit misfit) (map seen rows.now) numbers.now given.now) i) }
 {
     let mut least = given.len();
     for (place, row) in rows.iter().enumerate() {
         let number = numbers[place];
-        if number < least && is_reserved(row, given_at(given, number)) {
+        if number < least && is_misfit(misfit, row, given_at(given, number)) {
             least = number;
         }
     }
@@ -150,7 +149,7 @@ fn note<'a>(
 }
 
 // The first place at which a name is disclosed that its object has already.
-pub(crate) fn first_clash(
+fn first_clash(
     alloc: Global,
     rows: &[Row<'_>],
     numbers: &[usize],
@@ -187,10 +186,10 @@ pub(crate) fn check_names(
     ensures { MatchResult result (λ _. IsWellNamed (without_alg (tree_of payload.now)) given.now) (λ e. IsProcessRefused (without_alg (tree_of payload.now)) given.now e) }
 {
     is_readable(payload, given);
-    if let Some(i) = first_wrong(rows, numbers, given) {
+    if let Some(i) = first_misfit(Misfit::Shape, rows, numbers, given) {
         return Err(ProcessError::WrongShape(i));
     }
-    if let Some(i) = first_reserved(rows, numbers, given) {
+    if let Some(i) = first_misfit(Misfit::Name, rows, numbers, given) {
         return Err(ProcessError::ReservedName(i));
     }
     if let Some(place) = first_clash(alloc, rows, numbers, given, seed)? {

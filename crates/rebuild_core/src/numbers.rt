@@ -12,7 +12,7 @@ use digest_sites::GivenList;
 use sd_outside::NoMemory;
 use std::alloc::Global;
 
-// What every count is.
+// Does nothing but tell a proof how great a count can be.
 pub(crate) fn steps_fit(steps: &Steps)
     ensures { steps.now ≤ 2 ^ 64 - 1 }
 {

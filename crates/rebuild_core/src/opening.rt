@@ -166,23 +166,6 @@ fn open_parts(
     Ok(OpenedMembers { hidden, plain })
 }
 
-#[cycle(opening)]
-fn open_object(
-    alloc: Global,
-    limit: usize,
-    given: &mut GivenList,
-    graph: &Graph,
-    at: &mut usize,
-    map: TreeMap,
-) -> Result<Marked, ProcessError>
-    requires ready { (g : List Given) × OpensFrom g given.old graph.now.numbers.items graph.now.ends.items at.old (tree_digests (object map)) (OpensWhole (settled g) (object map)) }
-    ensures moved { OnOk result (at.new ≡ at.old + length (tree_digests (object map))) }
-    ensures opened { (g : List Given) → OpensFrom g given.old graph.now.numbers.items graph.now.ends.items at.old (tree_digests (object map)) (OpensWhole (settled g) (object map)) → MatchResult result (λ m. (marked_of m ≡ open_tree (settled g) (object map)) × (depth (strip (marked_of m)) ≤ limit) × TakesOnly g given.old given.new (tree_digests (object map))) (λ e. IfTooDeep e (limit < depth (strip (open_tree (settled g) (object map))))) }
-{
-    let members = open_parts(alloc, limit, false, given, graph, at, map)?;
-    Ok(members.into_object(alloc)?)
-}
-
 // A tree whose digests begin at the cursor, which goes past them.
 #[cycle(opening)]
 fn open(
@@ -209,7 +192,10 @@ fn open(
             let list = open_list(alloc, limit - 1, given, graph, at, list)?;
             Ok(Marked::List(list))
         }
-        Tree::Object(map) => open_object(alloc, limit, given, graph, at, map),
+        Tree::Object(map) => {
+            let members = open_parts(alloc, limit, false, given, graph, at, map)?;
+            Ok(members.into_object(alloc)?)
+        }
     }
 }
 

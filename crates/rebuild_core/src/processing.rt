@@ -189,10 +189,9 @@ pub fn process_payload(
     if given.len() == 0 && is_unhidden(&payload) {
         return open_nothing(payload, &given, steps);
     }
-    let members = match open_judged(alloc, payload, given, seed, steps) {
-        Ok(members) => members,
+    let marked = match process_seeded(alloc, payload, given, seed, steps) {
+        Ok(marked) => marked,
         Err(e) => return Err(e),
     };
-    let marked = members.into_object(alloc)?;
     Ok(into_tree(alloc, marked)?)
 }

@@ -1,4 +1,4 @@
-// Every tree has ascending names, by the invariants of what it holds.
+// Facts that the invariants of trees tell. The functions do nothing but tell them, to the proofs of what calls them.
 ghost use Rattle.claim_tree.specs.Tree.{IsOrdered};
 ghost use Rattle.claim_tree.specs.View.{tree_of};
 ghost use Rattle.rebuild_core.specs.Readable.{IsReadable};
@@ -6,7 +6,8 @@ ghost use Rattle.rebuild_core.specs.Readable.{IsReadable};
 use claim_tree::Tree;
 use digest_sites::GivenList;
 
-fn is_ordered(tree: &Tree)
+// The names of every object ascend.
+pub(crate) fn is_ordered(tree: &Tree)
     ensures { IsOrdered (tree_of tree.now) }
 {
     match tree {
@@ -20,6 +21,7 @@ fn is_ordered(tree: &Tree)
     }
 }
 
+// The same of a payload and of each value.
 pub(crate) fn is_readable(payload: &Tree, given: &GivenList)
     ensures { IsReadable (tree_of payload.now) given.now }
 {

@@ -1,7 +1,7 @@
 // Whether each disclosure stands at one place.
 ghost use Rattle.std.specs.Prelude.{◌≡◌, ◌<◌, ◌≤◌, ℕ, suc, map, length, IfOk, OnOk, IfErr, MatchOption};
 ghost use Rattle.claim_tree.specs.Lists.{In, AtNone, IsLeast};
-ghost use Rattle.claim_tree.specs.Tree.{IsOrdered, depth};
+ghost use Rattle.claim_tree.specs.Tree.{depth};
 ghost use Rattle.claim_tree.specs.View.{tree_of};
 ghost use Rattle.rebuild_core.specs.Answer.{IsPayload, ValuesShallow, IsProcessRefused};
 ghost use Rattle.rebuild_core.specs.Conditions.{RepeatedDisclosure, Misused};
@@ -18,6 +18,7 @@ ghost use Rattle.rebuild_core.specs.Rows.{seen, all_rows as rows_of};
 use crate::errors::ProcessError;
 use crate::graph::{Graph, first_clear, first_recurring, met_numbers, reach};
 use crate::numbers::{number_given, number_rows};
+use crate::readable::is_ordered;
 use crate::rows::{Row, RowList, all_rows};
 use claim_tree::Tree;
 use digest_index::{DigestIndex, Steps};
@@ -31,16 +32,6 @@ pub(crate) struct References<'a> {
     pub rows: Vec<Row<'a>>,
     // The number of each row: that of the disclosure with the digest, or one that no disclosure has.
     pub graph: Graph,
-}
-
-// What every object is.
-fn is_ordered(payload: &Tree)
-    requires { IsPayload (tree_of payload.now) }
-    ensures { IsOrdered (tree_of payload.now) }
-{
-    if let Tree::Object(members) = payload {
-        let _ = members.members();
-    }
 }
 
 // The first tree that misuses a reserved name: 0 is the payload, and i + 1 value i.

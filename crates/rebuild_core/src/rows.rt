@@ -44,11 +44,7 @@ fn push_row<'a>(out: &mut Vec<Row<'a>>, row: Row<'a>) -> Result<(), NoMemory>
 
 // The digests of a tree, where `top` says that it is the payload.
 #[cycle(rows)]
-pub(crate) fn list_rows<'a>(
-    top: bool,
-    tree: &'a Tree,
-    out: &mut Vec<Row<'a>>,
-) -> Result<(), NoMemory>
+fn list_rows<'a>(top: bool, tree: &'a Tree, out: &mut Vec<Row<'a>>) -> Result<(), NoMemory>
     requires { depth (tree_of tree.now) ≤ 127 }
     ensures { OnOk result (map seen out.new.items ≡ map seen out.old.items ++ tree_rows top (length out.old.items) (tree_of tree.now)) }
 {

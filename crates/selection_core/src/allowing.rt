@@ -1,5 +1,5 @@
 // Whether a rule consents to all that is chosen.
-ghost use Rattle.std.specs.Prelude.{◌≡◌, ◌≤◌, ◌++◌, ℕ, false, [], None, Some, IfOk, IfErr, OnOk};
+ghost use Rattle.std.specs.Prelude.{◌≡◌, ◌≤◌, ◌++◌, ◌∷◌, ℕ, false, [], None, Some, IfOk, IfErr, OnOk};
 ghost use Rattle.claim_tree.specs.Tree.{depth, elements_depth, members_depth};
 ghost use Rattle.marked_tree.specs.Choice.{StandOnce};
 ghost use Rattle.marked_tree.specs.Marked.{strip, strip_elements, strip_members};
@@ -81,9 +81,7 @@ fn ask_elements<F: Fn(&Path) -> bool>(
         let (mark, tree) = element;
         if may_hold(*mark, tree, chosen) {
             let mut digits = Buffer::new();
-            at.push(digits.format(i))?;
-            ask_node(consent, *mark, tree, chosen, at, refused)?;
-            at.pop();
+            ask_node(consent, digits.format(i), *mark, tree, chosen, at, refused)?;
         }
     }
     Ok(())
@@ -104,18 +102,17 @@ fn ask_members<F: Fn(&Path) -> bool>(
 {
     for (name, mark, tree) in map.members() {
         if may_hold(*mark, tree, chosen) {
-            at.push(name.as_str())?;
-            ask_node(consent, *mark, tree, chosen, at, refused)?;
-            at.pop();
+            ask_node(consent, name.as_str(), *mark, tree, chosen, at, refused)?;
         }
     }
     Ok(())
 }
 
-// Asks for a node that stands at `at`, and for the places inside it.
+// Asks for a node that stands one step below `at`, and for the places inside it.
 #[cycle(ask)]
 fn ask_node<F: Fn(&Path) -> bool>(
     consent: &Consent<F>,
+    step: &str,
     mark: Option<u32>,
     tree: &Marked,
     chosen: &ChosenSet,
@@ -124,11 +121,14 @@ fn ask_node<F: Fn(&Path) -> bool>(
 ) -> Result<(), NoMemory>
     requires callable { F.IsAlwaysCallable consent.now }
     requires depth { depth (strip (marked_of tree.now)) ≤ 127 }
-    ensures asked { OnOk result (IsAskedOnWalk F.Fn consent.now (has chosen.now) (own_seen mark at.old ++ seen_from at.old (spots (marked_of tree.now))) refused.old refused.new) }
+    ensures asked { OnOk result (IsAskedOnWalk F.Fn consent.now (has chosen.now) (own_seen mark (at.old ++ step.now ∷ []) ++ seen_from (at.old ++ step.now ∷ []) (spots (marked_of tree.now))) refused.old refused.new) }
     ensures at { OnOk result (at.new ≡ at.old) }
 {
+    at.push(step)?;
     ask(consent, mark, chosen, at, refused);
-    ask_inside(consent, tree, chosen, at, refused)
+    ask_inside(consent, tree, chosen, at, refused)?;
+    at.pop();
+    Ok(())
 }
 
 // Asks for the place of a mark, where it is chosen and smaller than the one that is refused.

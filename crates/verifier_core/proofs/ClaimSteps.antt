@@ -1,5 +1,5 @@
 -- What each condition on the claims says of the payload.
-use Rattle.std.proofs.Common.{◌≡◌, ◌≢◌, ℕ, true, false, Bor, option_map, is_some, ◌<◌, ◌⊎◌, List, Option, Some, None, codes, sym, ◌∙◌, subst, ◌+◌, ⊎_elim, arith}
+use Rattle.std.proofs.Common.{◌≡◌, ◌≢◌, ℕ, true, false, Bor, option_map, is_some, ◌<◌, List, Option, Some, None, codes, sym, ◌∙◌, subst, ◌+◌, ⊎_elim, arith}
 use Rattle.compact_form.specs.declared.fault.Place.{Place}
 use Rattle.jws_part.specs.Times.{IsTimeUnreadable, IsExpired}
 use Rattle.claim_tree.specs.Tree.{Text, Tree, get}

@@ -18,8 +18,8 @@ use Rattle.rebuild_core.specs.LookUps.{look_ups, counted, RoseWithin}
 use Rattle.rebuild_core.specs.Opening.{processed}
 use Rattle.rebuild_core.specs.Payload.{without_alg}
 use Rattle.verifier_core.specs.Content.{Content, IsReadyToOpen}
-use Rattle.verifier_core.specs.Check.{OnFault, IsContent, IsCounted, IsCountedWithin, IsUncounted, IsUnopened, IsSigned, IsSignedFault, IsPayloadFault, IsUnreadAt}
-use Rattle.verifier_core.specs.Verdict.{Rules, TokenFails, Fails, IsBindingMissing, IsChecked, Gives, rules_of}
+use Rattle.verifier_core.specs.Check.{OnFault, FailsAsCompact, IsContent, IsRead, OfToken, IsCounted, IsCountedWithin, IsReadWithin, IsUncounted, IsOpened, IsUnopened, IsSigned, IsSignedFault, IsPayloadFault, IsUnreadAt}
+use Rattle.verifier_core.specs.Verdict.{Rules, TokenFails, Fails, HasHash, IsBindingMissing, IsChecked, Gives, rules_of}
 use Rattle.verifier_core.specs.declared.check.VerifyError.{VerifyError}
 use Rattle.verifier_core.specs.declared.policy.Policy.{Policy}
 use Rattle.verifier_core.proofs.CheckSteps.{on_fault, zip_length, is_payload, signed_passes, signed_fault, payload_passes, payload_fault, given_passes, given_fault, unopened_fault, content_checked, passed_uncounted}
@@ -102,3 +102,24 @@ module _ (text : List ℕ) (policy : Policy) (now : ℕ) (token : Token) (is : I
 
   pub read_uncounted : (content : Content) → IsContent token (rules_of policy) content → (old new : ℕ) → IsUncounted (Fails text policy now) old new
   read_uncounted content has old new = text_uncounted text policy now token is sent old new (content_uncounted token (rules_of policy) content has old new)
+
+-- ---- what is opened of a text that is read
+
+module _ (text : List ℕ) (policy : Policy) (token : Token) (content : Content) (read : IsRead text policy token content) where
+  pub open_refused : (now : ℕ) (e : VerifyError) → OfToken content (λ t rules. OnFault e (IsLowest (TokenFails t rules))) → OnFault e (IsLowest (Fails text policy now))
+  open_refused now e h = token_refused text policy now token read.is_token read.sent e (h token (rules_of policy) read.is_content)
+
+  pub open_counted : (old new : ℕ) → OfToken content (λ t rules. IsCounted t old new) → (t : Token) × IsToken text t × IsCounted t old new
+  open_counted old new h = (token, read.is_token, h token (rules_of policy) read.is_content)
+
+  pub open_within : (old new : ℕ) → OfToken content (λ t rules. IsCountedWithin t old new) → IsReadWithin text old new
+  open_within old new h = inr (token, read.is_token, h token (rules_of policy) read.is_content)
+
+  pub open_uncounted : (now old new : ℕ) → IsUncounted (Fails text policy now) old new
+  open_uncounted now = read_uncounted text policy now token read.is_token read.sent content read.is_content
+
+  pub is_opened : (marked : Marked) (hash : HashAlg) → IsChecked token (rules_of policy) marked → OfToken content (λ t rules. HasHash t hash) → IsOpened text policy token marked hash
+  is_opened marked hash checked has = record { is_token = read.is_token; sent = read.sent; checked = checked; hash_is = has token (rules_of policy) read.is_content }
+
+  pub not_refused : FailsAsCompact text → ⊥
+  not_refused failed = read.is_token.passes failed.fault failed.fails

@@ -74,6 +74,12 @@ IsUncounted FailsSo old new = (c : Condition) (place : Place) → FailsSo c plac
 abbrev pub ShownFails : Parts → Tree → HashAlg → Policy → ℕ → Condition → Place → Type 0
 ShownFails parts payload hash policy now c place = ClaimFails payload policy now c place ⊎ HolderFails parts payload hash policy now c place
 
+-- the text is this token, which passes the conditions 4 to 13 under the policy, and this is read of it
+pub record IsRead (text : List ℕ) (policy : Policy) (token : Token) (content : Content) : Type 0 where
+  pub is_token : IsToken text token
+  pub sent : IsBindingMissing policy token.parts → ⊥
+  pub is_content : IsContent token (rules_of policy) content
+
 -- the text is this token, which passes the conditions 4 to 21 under the policy, with this processed payload and this hash
 pub record IsOpened (text : List ℕ) (policy : Policy) (token : Token) (marked : Marked) (hash : HashAlg) : Type 0 where
   pub is_token : IsToken text token

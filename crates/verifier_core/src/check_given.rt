@@ -14,7 +14,7 @@ use json_form::Disclosures;
 use std::alloc::Global;
 
 // Reads one more disclosure.
-pub(crate) fn push_given(
+fn push_given(
     alloc: Global,
     hash: HashAlg,
     reader: &mut DisclosureReader,

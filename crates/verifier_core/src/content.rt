@@ -114,14 +114,11 @@ impl Content {
         ensures counted { OfToken self (λ token rules. IfOk result (λ _. IsCounted token steps.old steps.new)) }
         ensures within { OfToken self (λ token rules. IsCountedWithin token steps.old steps.new) }
     {
-        let Content {
-            body,
-            hash,
-            given,
-            seed,
-        } = self;
-        match process_seeded(alloc, body, given, seed, steps) {
-            Ok(marked) => Ok(CheckedMarks { marked, hash }),
+        match process_seeded(alloc, self.body, self.given, self.seed, steps) {
+            Ok(marked) => Ok(CheckedMarks {
+                marked,
+                hash: self.hash,
+            }),
             Err(error) => Err(refusal(error)),
         }
     }
@@ -141,14 +138,11 @@ impl Content {
         ensures counted { OfToken self (λ token rules. IfOk result (λ _. IsCounted token steps.old steps.new)) }
         ensures within { OfToken self (λ token rules. IsCountedWithin token steps.old steps.new) }
     {
-        let Content {
-            body,
-            hash,
-            given,
-            seed,
-        } = self;
-        match process_payload(alloc, body, given, seed, steps) {
-            Ok(payload) => Ok(CheckedPayload { payload, hash }),
+        match process_payload(alloc, self.body, self.given, self.seed, steps) {
+            Ok(payload) => Ok(CheckedPayload {
+                payload,
+                hash: self.hash,
+            }),
             Err(error) => Err(refusal(error)),
         }
     }

@@ -10,7 +10,7 @@ ghost use Rattle.verifier_core.specs.Verdict.{Fails, IsAccepted, IsBindingMissin
 ghost use Rattle.verifier_core.specs.Verdicts.{IsAcceptedAs};
 ghost use Rattle.compact_form.specs.Lowest.{IsLowest};
 ghost use Rattle.compact_form.specs.Trim.{trimmed, is_json as is_json_test};
-ghost use Rattle.verifier_core.specs.Check.{OnFault, FailsAsCompact, IsContent, IsCounted, IsReadWithin, IsUncounted};
+ghost use Rattle.verifier_core.specs.Check.{OnFault, FailsAsCompact, IsContent, IsRead, IsCounted, IsReadWithin, IsUncounted};
 
 use crate::check_shown::{check_shown, is_binding_missing};
 use crate::check_signed::fails;
@@ -62,6 +62,26 @@ fn read_content(
     Content::read(alloc, &view, &policy.rules())
 }
 
+// The conditions 1 to 13 of a text.
+fn read<'a>(
+    alloc: Global,
+    text: &'a [u8],
+    policy: &Policy,
+) -> Result<(TokenText<'a>, Content), VerifyError>
+    ensures read { IfOk result (λ r. IsRead text.now policy.now r.0 r.1) }
+    ensures refused { (now : ℕ) → IfErr result (λ e. OnFault e (IsLowest (Fails text.now policy.now now))) }
+    ensures no_memory { FailsAsCompact text.now → result ≢ Err VerifyError.Memory }
+{
+    let token = match read_text(alloc, text) {
+        Ok(token) => token,
+        Err(error) => return Err(error),
+    };
+    match read_content(alloc, &token, policy) {
+        Ok(content) => Ok((token, content)),
+        Err(error) => Err(error),
+    }
+}
+
 /// Verifies a token as it comes from a file, RFC 9901 section 7.3, at a moment in seconds since 1970. The token is in
 /// the compact serialization or, where its text begins with `{`, in a JSON one (section 8).
 ///
@@ -88,12 +108,8 @@ pub fn verify(
     ensures within { IsReadWithin text.now steps.old steps.new }
     ensures uncounted { IsUncounted (Fails text.now policy.now now) steps.old steps.new }
 {
-    let token = match read_text(alloc, text) {
-        Ok(token) => token,
-        Err(error) => return Err(error),
-    };
-    let content = match read_content(alloc, &token, policy) {
-        Ok(content) => content,
+    let (token, content) = match read(alloc, text, policy) {
+        Ok(read) => read,
         Err(error) => return Err(error),
     };
     let CheckedMarks { marked, hash } = match content.open(alloc, steps) {
@@ -127,12 +143,8 @@ pub fn verify_payload(
     ensures within { IsReadWithin text.now steps.old steps.new }
     ensures uncounted { IsUncounted (Fails text.now policy.now now) steps.old steps.new }
 {
-    let token = match read_text(alloc, text) {
-        Ok(token) => token,
-        Err(error) => return Err(error),
-    };
-    let content = match read_content(alloc, &token, policy) {
-        Ok(content) => content,
+    let (token, content) = match read(alloc, text, policy) {
+        Ok(read) => read,
         Err(error) => return Err(error),
     };
     let CheckedPayload { payload, hash } = match content.open_payload(alloc, steps) {

@@ -20,9 +20,6 @@ decreases-open_list l = 5 * l.limit + 4
 abbrev pub decreases-open_next : goal.decreases-open_next
 decreases-open_next l = 5 * l.limit + 3
 
-abbrev pub decreases-open_object : goal.decreases-open_object
-decreases-open_object l = 5 * l.limit + 1
-
 abbrev pub decreases-open_own : goal.decreases-open_own
 decreases-open_own l = 5 * l.limit + 4
 
