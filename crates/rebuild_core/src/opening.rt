@@ -17,7 +17,7 @@ ghost use Rattle.rebuild_core.specs.Whole.{OpensFrom, TakesOnly, OpensWhole, Ele
 use crate::ProcessError;
 use crate::graph::Graph;
 use crate::names::is_alg;
-use crate::shown::{OpenedMembers, Revealed, push_element, push_member};
+use crate::shown::{HiddenMembers, OpenedMembers, Revealed, push_element, push_member};
 use claim_tree::{Tree, TreeList, TreeMap};
 use digest_sites::{GivenList, element_digest, is_sd, own_count};
 use marked_tree::{Marked, MarkedList, MarkedMap};
@@ -86,10 +86,7 @@ fn open_list(
 }
 
 // No members, and room for so many.
-fn room_for_members(
-    alloc: Global,
-    count: usize,
-) -> Result<Vec<(TextBox, Option<u32>, Marked)>, NoMemory>
+fn room_for_members(alloc: Global, count: usize) -> Result<HiddenMembers, NoMemory>
     ensures { IfOk result (λ out. out.items ≡ []) }
 {
     Ok(Vec::with_capacity(alloc, count)?)
@@ -104,7 +101,7 @@ fn open_own(
     graph: &Graph,
     at: &mut usize,
     map: &TreeMap,
-) -> Result<Vec<(TextBox, Option<u32>, Marked)>, ProcessError>
+) -> Result<HiddenMembers, ProcessError>
     requires ready { (g : List Given) × OpensFrom g given.old graph.now.numbers.items graph.now.ends.items at.old (sd_texts map.now) (Unit {0}) }
     ensures moved { OnOk result (at.new ≡ at.old + length (sd_texts map.now)) }
     ensures opened { (g : List Given) → OpensFrom g given.old graph.now.numbers.items graph.now.ends.items at.old (sd_texts map.now) (Unit {0}) → MatchResult result (λ out. (marked_members_of out.items ≡ shown_members (settled g) (sd_texts map.now)) × (shown_depths (settled g) (sd_texts map.now) ≤ limit) × TakesOnly g given.old given.new (sd_texts map.now)) (λ e. IfTooDeep e (limit < shown_depths (settled g) (sd_texts map.now))) }

@@ -18,11 +18,13 @@ pub(crate) struct Revealed {
     pub tree: Marked,
 }
 
+// The hidden members of an object, opened, in the order of their digests: each with its name and its mark.
+pub(crate) type HiddenMembers = Vec<(TextBox, Option<u32>, Marked)>;
+
 // The members of an object, opened and not yet in one map.
 #[derive(Debug, Drop)]
 pub(crate) struct OpenedMembers {
-    // In the order of their digests.
-    pub hidden: Vec<(TextBox, Option<u32>, Marked)>,
+    pub hidden: HiddenMembers,
     pub plain: MarkedMap,
 }
 
@@ -51,10 +53,7 @@ pub(crate) fn push_element(out: &mut MarkedList, shown: Option<Revealed>) -> Res
 
 // Behind other hidden members.
 #[tactic(auto, using(crate::proofs::ShownDepths::members_joined_push))]
-pub(crate) fn push_member(
-    out: &mut Vec<(TextBox, Option<u32>, Marked)>,
-    shown: Option<Revealed>,
-) -> Result<(), NoMemory>
+pub(crate) fn push_member(out: &mut HiddenMembers, shown: Option<Revealed>) -> Result<(), NoMemory>
     ensures { OnOk result ((ms : MarkedMembers) → members_joined (marked_members_of out.new.items) ms ≡ members_joined (marked_members_of out.old.items) (shown_member (shown_of shown) ms)) }
 {
     let Some(Revealed { mark, name, tree }) = shown else {
