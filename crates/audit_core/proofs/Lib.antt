@@ -9,6 +9,7 @@ pub mod Loops
 mod Stranges
 mod Counting
 pub mod Wanteds
+mod Salts
 mod Unwritten
 pub mod Writtens
 pub mod Contents

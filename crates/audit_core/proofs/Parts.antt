@@ -1,5 +1,5 @@
 -- Small facts of the parts of an audit.
-use Rattle.std.proofs.Common.{◌≡◌, ℕ, ◌<◌, ◌≤◌, List, [], ◌∷◌, length, Bool, true, false, cond, ◌||◌, Option, Some, None, refl, sym, ap, ◌∙◌, subst, arith}
+use Rattle.std.proofs.Common.{◌≡◌, ℕ, ◌<◌, ◌≤◌, List, [], ◌∷◌, length, Bool, true, false, cond, ◌||◌, refl, sym, ap, ◌∙◌, subst, arith}
 use Rattle.std.specs.Prelude.{bytes_eq}
 use Rattle.std.specs.Cmp.Lexicographic.{pointwise}
 use Rattle.std.proofs.lemmas.Slice.Eq.{slice_eq-Decides, bytes_eq-Decides}
@@ -7,8 +7,7 @@ use Rattle.std.specs.Set.{distinct_count}
 use Rattle.b64url_text.specs.Base64url.{Decodes}
 use Rattle.b64url_text.proofs.Codes.{one_code}
 use Rattle.sd_outside.specs.Limits.{count_max}
-use Rattle.claim_tree.specs.declared.tree.Tree as tree
-use Rattle.claim_tree.specs.Tree.{Text, Tree, leaf, text, text_of, Members, no_members, member}
+use Rattle.claim_tree.specs.Tree.{Text, Members, no_members, member}
 use Rattle.claim_tree.specs.View.{tree_of}
 use Rattle.claim_tree.specs.ListViews.{members_of}
 use Rattle.claim_tree.proofs.Lists.{bytes_refl, bytes_same}
@@ -48,28 +47,6 @@ few_decoys o none = within (length (decoys_of o)) count_max (none TooManyDecoys)
   where
     within : (a b : ℕ) → (b < a → ⊥) → a ≤ b
     within a b n = grind (arith, n)
-
--- ---- a value that is no text
-
-clash : (t : Tree) (s : Text) → text_of t ≡ None → t ≡ leaf (text s) → ⊥
-clash t s none e = none_some s (sym none ∙ ap text_of e)
-  where
-    none_some : (s : Text) → ◌≡◌ {A = Option Text} None (Some s) → ⊥
-    none_some s w = absurd (cc)
-
-pub not_text : (t : tree.Tree) → ((x : Text) → t ≡ tree.Tree.Text x → ⊥) → (s : Text) → tree_of t ≡ leaf (text s) → ⊥
-not_text (tree.Tree.Text x) n s e = n x refl
-not_text tree.Tree.Null n s e = clash _ s refl e
-not_text (tree.Tree.Flag b) n s e = clash _ s refl e
-not_text (tree.Tree.Whole z) n s e = clash _ s refl e
-not_text (tree.Tree.List es) n s e = clash _ s refl e
-not_text (tree.Tree.Object ms) n s e = clash _ s refl e
-
-pub one_text : (a b : Text) → leaf (text a) ≡ leaf (text b) → a ≡ b
-one_text a b e = some_same a b (ap text_of e)
-  where
-    some_same : (x y : Text) → ◌≡◌ {A = Option Text} (Some x) (Some y) → x ≡ y
-    some_same x y w = cc
 
 -- ---- two lists of texts
 

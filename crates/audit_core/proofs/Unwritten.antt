@@ -12,7 +12,7 @@ use Rattle.claim_tree.proofs.FileVerdicts.{is_json, is_whole}
 use Rattle.audit_core.specs.Audited.{IsWrittenAs}
 use Rattle.audit_core.specs.AuditSteps.{IsUnwritten}
 
-same_reads : (part bytes : Text) (t : Tree) → Decodes part bytes → IsWrittenAs part t → Reads bytes t
+pub same_reads : (part bytes : Text) (t : Tree) → Decodes part bytes → IsWrittenAs part t → Reads bytes t
 same_reads part bytes t d w = subst (λ x. Reads x t) (one_code part w.carried.bytes bytes w.carried.decodes d) w.carried.reads
 
 pub unread_unwritten : (part bytes : Text) (error : ReadError) → error ≢ ReadError.Memory → Decodes part bytes → IsReadRefused bytes error → IsUnwritten part

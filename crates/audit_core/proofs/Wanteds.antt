@@ -11,6 +11,7 @@ use Rattle.std.proofs.lemmas.Bool.{ne_eqb}
 use Rattle.std.proofs.lemmas.Fmt.{decimal_by_steps}
 use Rattle.std.proofs.lemmas.Grind.{flat_map-append}
 use Rattle.std.proofs.lemmas.Map.Text.{is_eq-slice_cmp}
+use Rattle.sd_outside.specs.Limits.{count_max}
 use Rattle.claim_tree.specs.Tree.{Text, Tree, leaf, array, object, elements_len}
 use Rattle.claim_tree.specs.Path.{escaped_byte, escaped, pointer_text, tree_at}
 use Rattle.claim_tree.proofs.Lists.{bytes_same, bytes_refl}
@@ -174,14 +175,15 @@ before_is : (es : List Decoy) (i : ℕ) (e : Decoy) (counts : BTreeMap Text ℕ)
     → count_at counts pointer ≡ earlier (length (decoy_paths (take i es))) e.at (decoy_paths es)
 before_is es i e counts pointer tell is = ap (count_at counts) is ∙ tell e.at
 
-pub few_before : (es : List Decoy) (i : ℕ) (e : Decoy) (counts : BTreeMap Text ℕ) (pointer : Text) → IsEntry es i e → AreSplit es i → CountsTell counts es i → pointer ≡ pointer_text e.at
-    → count_at counts pointer + e.count ≤ length (decoy_paths es)
-few_before es i e counts pointer h whole tell is =
+pub few_before : (es all : List Decoy) (i : ℕ) (e : Decoy) (counts : BTreeMap Text ℕ) (pointer : Text) (before : ℕ) → IsEntry es i e → AreSplit es i → CountsTell counts es i → pointer ≡ pointer_text e.at
+    → before ≡ count_at counts pointer → es ≡ all → length (decoy_paths all) ≤ count_max → before + e.count ≤ count_max
+few_before es all i e counts pointer before h whole tell is counted same few =
     let b = before_is es i e counts pointer tell is in
     let low = earlier_within (length (decoy_paths (take i es))) e.at (decoy_paths es) in
     let long = ap (λ (ps : List Path). length ps) whole ∙ length-append (decoy_paths (take i es)) (decoy_paths (drop i es)) in
     let rest = ap (λ (ps : List Path). length ps) h.left ∙ length-append (replicate e.count e.at) (decoy_paths (drop (i + 1) es)) in
-    omega (arith, b, low, long, rest, length-replicate e.count e.at)
+    let within = subst (λ (ds : List Decoy). length (decoy_paths ds) ≤ count_max) (sym same) few in
+    omega (arith, b, low, long, rest, length-replicate e.count e.at, counted, within)
 
 split_again : (es : List Decoy) (i : ℕ) (e : Decoy) → IsEntry es i e → AreSplit es i → decoy_paths es ≡ decoy_paths (take i es) ++ (replicate e.count e.at ++ decoy_paths (drop (i + 1) es))
 split_again es i e h whole = whole ∙ ap (λ (ps : List Path). decoy_paths (take i es) ++ ps) h.left

@@ -3,11 +3,13 @@ use Rattle.std.proofs.Common.{◌≡◌, ◌<◌, ◌≤◌, arith, suc, List, [
 use Rattle.claim_tree.specs.Lists.{In}
 use Rattle.claim_tree.proofs.Lists.{In-append}
 use Rattle.std.specs.List.{AllZip}
-use Rattle.b64url_text.specs.Base64url.{b64}
+use Rattle.b64url_text.specs.Base64url.{b64, Decodes}
 use Rattle.b64url_text.proofs.Lengths.{length-b64}
 use Rattle.claim_tree.specs.Tree.{Text, Tree, leaf, text, array, object}
+use Rattle.claim_tree.specs.JsonText.{Reads}
+use Rattle.claim_tree.proofs.OneTree.{one_tree}
 use Rattle.digest_sites.specs.Given.{Given}
-use Rattle.disclosure.specs.Digest.{digest_of, hash_name}
+use Rattle.disclosure.specs.Digest.{hash_name}
 use Rattle.disclosure.specs.Disclosure.{array_of}
 use Rattle.disclosure.specs.DisclosureRefusals.{IsNoArray}
 use Rattle.disclosure.specs.declared.digests.HashAlg.{HashAlg}
@@ -15,37 +17,25 @@ use Rattle.disclosure.proofs.Arrays.{array_of-injective}
 use Rattle.jws_part.proofs.Parts.{one_carried}
 use Rattle.rebuild_core.specs.Answer.{IsPayload}
 use Rattle.rebuild_core.specs.Payload.{alg_name}
-use Rattle.audit_core.specs.Audited.{IsWrittenAs, GivesSalted, IsDigestText, hash_length}
-use Rattle.audit_core.specs.AuditSteps.{NamesHash, IsSalt, IsUnsalted, IsOtherPayload}
+use Rattle.audit_core.specs.Audited.{IsWrittenAs, IsSaltedText, GivesSalted, IsDigestText, hash_length}
+use Rattle.audit_core.specs.AuditSteps.{NamesHash, IsUnsalted, IsOtherPayload}
+use Rattle.audit_core.proofs.Unwritten.{same_reads}
 
 -- ---- a disclosure
 
-pub other_array : (disclosure : Text) (t : Tree) → IsWrittenAs disclosure t → IsNoArray t → IsUnsalted disclosure
-other_array disclosure t written none name value w =
-    none (leaf (text w.salt)) name value (one_carried disclosure t (array_of (leaf (text w.salt)) name value) written.carried w.written.carried)
+-- it gives nothing else than what is read, of which the salt was any
+pub one_salted : (disclosure json : Text) (salt : Tree) (name n : Option Text) (value v : Tree) → Decodes disclosure json → Reads json (array_of salt name value) → IsSaltedText disclosure n v → IsSaltedText disclosure name value
+one_salted disclosure json salt name n value v d r w =
+    let reads = same_reads disclosure json (array_of (leaf (text w.salt)) n v) d w.written in
+    let same = array_of-injective salt (leaf (text w.salt)) name n value v (one_tree json _ _ r reads) in
+    subst (λ m. IsSaltedText disclosure m value) (sym same.1) (subst (λ u. IsSaltedText disclosure n u) (sym same.2) w)
 
-pub other_salt : (disclosure : Text) (salt : Tree) (name : Option Text) (value : Tree) → IsWrittenAs disclosure (array_of salt name value)
-    → ((s : Text) → salt ≡ leaf (text s) → IsSalt s → ⊥) → IsUnsalted disclosure
-other_salt disclosure salt name value written n m v w =
-    let same = one_carried disclosure (array_of salt name value) (array_of (leaf (text w.salt)) m v) written.carried w.written.carried in
-    let e = array_of-injective salt (leaf (text w.salt)) name m value v same in
-    n w.salt e.0 (record { bytes = w.bytes; decodes = w.salt_text; long = w.long })
+pub no_array_unsalted : (disclosure json : Text) (t : Tree) → Decodes disclosure json → Reads json t → IsNoArray t → IsUnsalted disclosure
+no_array_unsalted disclosure json t d r none name value w =
+    let salt = leaf (text w.salt) in
+    none salt name value (one_tree json t (array_of salt name value) r (same_reads disclosure json (array_of salt name value) d w.written))
 
-pub gives : (hash : HashAlg) (disclosure salt : Text) (x : Given) → x.digest ≡ digest_of hash disclosure → IsSalt salt
-    → IsWrittenAs disclosure (array_of (leaf (text salt)) x.name x.value) → GivesSalted hash disclosure x
-gives hash disclosure salt x d s written = record {
-  digest = d;
-  salted = record { salt = salt; bytes = s.bytes; salt_text = s.decodes; long = s.long; written = written };
-}
-
--- a salt has no more letters than 16 bytes take
-pub short_salt : (salt : Text) → 22 < length salt → IsSalt salt → ⊥
-short_salt salt l s =
-    let few = length-b64 s.bytes in
-    let many : length salt ≡ length (b64 s.bytes) = ap length s.decodes.spelling in
-    absurd (omega (arith, few, many, s.long, l))
-
--- nor a digest than the longest hash takes
+-- a digest has no more letters than the longest hash takes
 pub short_digest : (hash : HashAlg) (digest : Text) → 86 < length digest → IsDigestText hash digest → ⊥
 short_digest hash digest l s =
     let few = length-b64 s.bytes in

@@ -40,7 +40,7 @@ use rebuild_core::without_alg;
 use sd_outside::TextBox;
 use std::alloc::Global;
 
-// 80.
+// Refusal 80: the order itself is refused.
 fn judge_order(alloc: Global, order: &Order) -> Result<(), AuditError>
     requires { depth_of (tree_of order.now.payload) ≤ 127 }
     ensures passes { OnOk result (NoneApplies (AppliesToOrder (order_of order.now))) }
@@ -130,7 +130,7 @@ fn judge_again(alloc: Global, asked: &Asked, token: &TokenView<'_>) -> Result<()
             let Written { body, given, seed } = written;
             judge_digests(alloc, asked, &without_alg(body), &given, seed, usize::MAX)
         }
-        // it was read before
+        // It was read before, so it is written as it is to be.
         None => Err(AuditError::Part(2)),
     }
 }

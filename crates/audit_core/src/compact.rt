@@ -5,11 +5,13 @@ ghost use Rattle.b64url_text.specs.NotBase64.{IsNotBase64};
 ghost use Rattle.claim_tree.specs.Tree.{IsRanged, depth as depth_of};
 ghost use Rattle.claim_tree.specs.JsonText.{json_text};
 ghost use Rattle.claim_tree.specs.View.{tree_of};
-ghost use Rattle.audit_core.specs.Audited.{IsWrittenAs};
-ghost use Rattle.audit_core.specs.AuditSteps.{IsUnwritten};
+ghost use Rattle.audit_core.specs.Audited.{IsWrittenAs, IsSaltedText};
+ghost use Rattle.audit_core.specs.AuditSteps.{IsUnwritten, IsUnsalted};
 
+use crate::salted::{disclosed_by, is_salted};
 use b64url_text::decode_into;
 use claim_tree::{JsonReader, ReadError, Tree, write};
+use disclosure::Disclosed;
 use sd_outside::NoMemory;
 use std::alloc::Global;
 
@@ -79,5 +81,38 @@ impl CompactReader {
             return Ok(None);
         }
         Ok(Some(tree))
+    }
+
+    // What a disclosure gives, where it is the text of its compact JSON and has a salt of 16 bytes.
+    pub(crate) fn read_salted(
+        &mut self,
+        alloc: Global,
+        text: &str,
+    ) -> Result<Option<Disclosed>, NoMemory>
+        ensures some { IfOk result (λ read. IfSome read (λ d. IsSaltedText text.now d.name (tree_of d.value))) }
+        ensures ranged { IfOk result (λ read. IfSome read (λ d. IsRanged (tree_of d.value))) }
+        ensures depth { IfOk result (λ read. IfSome read (λ d. depth_of (tree_of d.value) ≤ 126)) }
+        ensures none { IfOk result (λ read. IfNone read (IsUnsalted text.now)) }
+    {
+        let Some(count) = decode_to(&mut self.room, text)? else {
+            return Ok(None);
+        };
+        let json = &self.room[..count];
+        let found = match self.json.read_tail(alloc, json) {
+            Ok(found) => found,
+            Err(error) => {
+                return match error {
+                    ReadError::Memory => Err(NoMemory),
+                    _ => Ok(None),
+                };
+            }
+        };
+        let Some(disclosed) = disclosed_by(found) else {
+            return Ok(None);
+        };
+        if !is_salted(alloc, json, &disclosed)? {
+            return Ok(None);
+        }
+        Ok(Some(disclosed))
     }
 }

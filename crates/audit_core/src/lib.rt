@@ -1,9 +1,9 @@
 //! Whether a token is what an order asks for, without the seed that its issuer had (RFC 9901 section 4).
 //!
 //! [`audit`] judges six parts of what an order asks for (`asked`), in this order: what is signed (`signed`), how it is
-//! written (`written`, `compact`), what it shows (`claims`, `same`), its digests (`counts`, `known`, `strange`,
-//! `places`, `found`), the places of its decoys (`standing`, `wanted`), and the order of its digests (`sorted`).
-//! [`audit_files`] does so over the bytes of two files, and [`run_audit`] over files and two sinks.
+//! written (`written`, `compact`, `salted`), what it shows (`claims`, `same`), its digests (`counts`, `known`,
+//! `strange`, `places`, `found`), the places of its decoys (`standing`, `wanted`), and the order of its digests
+//! (`sorted`). [`audit_files`] does so over the bytes of two files, and [`run_audit`] over files and two sinks.
 #![tactic(auto)]
 
 mod asked;
@@ -18,6 +18,7 @@ pub mod laws;
 mod places;
 mod refusal;
 mod run;
+mod salted;
 mod same;
 mod signed;
 mod sorted;

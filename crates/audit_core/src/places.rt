@@ -1,5 +1,5 @@
 // The sites of a token whose digests are of no disclosure, each at its place in the claims.
-ghost use Rattle.std.specs.Prelude.{◌≡◌, [], ◌∷◌, ◌++◌, None, decimal, IfOk, OnOk, IsTrue};
+ghost use Rattle.std.specs.Prelude.{◌≡◌, [], ◌∷◌, ◌++◌, None, IfOk, OnOk, IsTrue};
 ghost use Rattle.claim_tree.specs.View.{tree_of};
 ghost use Rattle.marked_tree.specs.View.{marked_of};
 ghost use Rattle.audit_core.specs.Found.{is_in, AreOthers};
@@ -11,7 +11,7 @@ use claim_tree::{Path, Tree};
 use digest_sites::{GivenList, SiteList};
 use itoa::Buffer;
 use marked_tree::{Marked, MarkedList, MarkedMap};
-use sd_outside::{NoMemory, TextBox};
+use sd_outside::NoMemory;
 use std::alloc::Global;
 
 // The strange sites of the payload, and then those of each value. A value stands at the node of the claims whose mark
@@ -65,7 +65,10 @@ fn walk_elements(
 {
     for (i, element) in list.elements().iter().enumerate() {
         let (mark, tree) = element;
-        walk_element(search, given, i, *mark, tree)?;
+        if !is_bare(*mark, tree) {
+            let mut digits = Buffer::new();
+            walk_node(search, given, digits.format(i), *mark, tree)?;
+        }
     }
     Ok(())
 }
@@ -77,12 +80,14 @@ fn walk_members(search: &mut Search<'_>, given: &GivenList, map: &MarkedMap) -> 
     ensures known { OnOk result (search.new.known ≡ search.old.known) }
 {
     for (name, mark, tree) in map.members() {
-        walk_member(search, given, name, *mark, tree)?;
+        if !is_bare(*mark, tree) {
+            walk_node(search, given, name.as_str(), *mark, tree)?;
+        }
     }
     Ok(())
 }
 
-// Whether nothing is to be searched at a node.
+// Whether nothing is to be searched at a node, so that no step is made to it.
 fn is_bare(mark: Option<u32>, tree: &Marked) -> bool
     ensures { IsTrue result → (mark ≡ None) × IsBare (marked_of tree.now) }
 {
@@ -90,44 +95,6 @@ fn is_bare(mark: Option<u32>, tree: &Marked) -> bool
         Marked::List(_) | Marked::Object(_) => false,
         _ => mark.is_none(),
     }
-}
-
-// The element at a position. No step is made to a node where nothing is to be searched.
-#[cycle(values)]
-fn walk_element(
-    search: &mut Search<'_>,
-    given: &GivenList,
-    i: usize,
-    mark: Option<u32>,
-    tree: &Marked,
-) -> Result<(), NoMemory>
-    ensures found { OnOk result (search.new.found ≡ search.old.found ++ (values_at (is_in search.old.known.keys) given.now (search.old.at ++ decimal i ∷ []) (marked_of tree.now) ++ value_at (is_in search.old.known.keys) given.now (search.old.at ++ decimal i ∷ []) mark)) }
-    ensures at { OnOk result (search.new.at ≡ search.old.at) }
-    ensures known { OnOk result (search.new.known ≡ search.old.known) }
-{
-    if is_bare(mark, tree) {
-        return Ok(());
-    }
-    let mut digits = Buffer::new();
-    walk_node(search, given, digits.format(i), mark, tree)
-}
-
-#[cycle(values)]
-fn walk_member(
-    search: &mut Search<'_>,
-    given: &GivenList,
-    name: &TextBox,
-    mark: Option<u32>,
-    tree: &Marked,
-) -> Result<(), NoMemory>
-    ensures found { OnOk result (search.new.found ≡ search.old.found ++ (values_at (is_in search.old.known.keys) given.now (search.old.at ++ name.now ∷ []) (marked_of tree.now) ++ value_at (is_in search.old.known.keys) given.now (search.old.at ++ name.now ∷ []) mark)) }
-    ensures at { OnOk result (search.new.at ≡ search.old.at) }
-    ensures known { OnOk result (search.new.known ≡ search.old.known) }
-{
-    if is_bare(mark, tree) {
-        return Ok(());
-    }
-    walk_node(search, given, name.as_str(), mark, tree)
 }
 
 // The node on a step: what is inside it, and then the value with the number of its mark.

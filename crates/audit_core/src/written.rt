@@ -5,17 +5,15 @@ ghost use Rattle.claim_tree.specs.Tree.{Tree as SeenTree, IsRanged, IsOrdered, d
 ghost use Rattle.claim_tree.specs.View.{tree_of};
 ghost use Rattle.digest_sites.specs.Given.{Given as SeenGiven};
 ghost use Rattle.digest_sites.specs.GivenView.{given_of};
-ghost use Rattle.disclosure.specs.Disclosure.{array_of};
 ghost use Rattle.rebuild_core.specs.Answer.{IsPayload, ValuesShallow, ValuesRanged};
 ghost use Rattle.audit_core.specs.Audited.{IsWrittenAs, GivesSalted};
-ghost use Rattle.audit_core.specs.AuditSteps.{NamesHash, IsSalt, IsUnsalted, HasUnsalted, IsOtherPayload, IsWrittenWith};
+ghost use Rattle.audit_core.specs.AuditSteps.{NamesHash, IsUnsalted, HasUnsalted, IsOtherPayload, IsWrittenWith};
 
 use crate::compact::CompactReader;
-use b64url_text::decode_into;
 use claim_tree::{Tree, get};
 use digest_index::seed_of;
 use digest_sites::{Given, GivenList};
-use disclosure::{DisclosureParts, HashAlg, digest, parts_of};
+use disclosure::{Disclosed, HashAlg, digest};
 use json_form::{Disclosures, TokenView};
 use sd_outside::NoMemory;
 use std::alloc::Global;
@@ -29,50 +27,7 @@ pub(crate) struct Written {
     pub(crate) seed: u64,
 }
 
-// Whether a salt is the text of 16 bytes.
-fn is_salt(salt: &str) -> bool
-    ensures { IsTrue result ↔ IsSalt salt.now }
-{
-    let mut room = [0; 18];
-    if salt.len() > 22 {
-        return false;
-    }
-    match decode_into(salt.as_bytes(), &mut room) {
-        Ok(count) => count == 16,
-        Err(_) => false,
-    }
-}
-
-// What a text gives that is made of these parts, where the salt is such.
-fn give(
-    alloc: Global,
-    hash: HashAlg,
-    text: &str,
-    parts: DisclosureParts,
-) -> Result<Option<Given>, NoMemory>
-    requires written { IsWrittenAs text.now (array_of (tree_of parts.salt) parts.name (tree_of parts.value)) }
-    requires ranged { IsRanged (tree_of parts.value) }
-    requires depth { depth_of (tree_of parts.value) ≤ 127 }
-    ensures some { IfOk result (λ given. IfSome given (λ g. GivesSalted hash text.now (given_of g))) }
-    ensures ranged { IfOk result (λ given. IfSome given (λ g. IsRanged (tree_of g.value))) }
-    ensures depth { IfOk result (λ given. IfSome given (λ g. depth_of (tree_of g.value) ≤ 127)) }
-    ensures none { IfOk result (λ given. IfNone given (IsUnsalted text.now)) }
-{
-    let DisclosureParts { salt, name, value } = parts;
-    let Tree::Text(salt) = salt else {
-        return Ok(None);
-    };
-    if !is_salt(salt.as_str()) {
-        return Ok(None);
-    }
-    Ok(Some(Given {
-        digest: digest(alloc, hash, text)?,
-        name,
-        value,
-    }))
-}
-
-// What a text gives, where it is such a disclosure.
+// What a text gives, where it is a disclosure that is written so and has a salt of 16 bytes.
 fn read_salted(
     alloc: Global,
     hash: HashAlg,
@@ -84,13 +39,14 @@ fn read_salted(
     ensures depth { IfOk result (λ given. IfSome given (λ g. depth_of (tree_of g.value) ≤ 127)) }
     ensures none { IfOk result (λ given. IfNone given (IsUnsalted text.now)) }
 {
-    let Some(tree) = reader.read(alloc, text)? else {
+    let Some(Disclosed { name, value }) = reader.read_salted(alloc, text)? else {
         return Ok(None);
     };
-    match parts_of(tree) {
-        Some(parts) => give(alloc, hash, text, parts),
-        None => Ok(None),
-    }
+    Ok(Some(Given {
+        digest: digest(alloc, hash, text)?,
+        name,
+        value,
+    }))
 }
 
 // What the disclosures give, where each is such. They are so many.

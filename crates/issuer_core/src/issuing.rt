@@ -158,7 +158,7 @@ fn sign_laid<S: Signer>(
     sign_body(alloc, header, &laid.payload, signer)
 }
 
-// 60.
+// Refusal 60: two digests are equal.
 fn judge_digests(alloc: Global, digests: &TextList) -> Result<(), IssueError>
     ensures differ { OnOk result (AtNone (Repeats digests.now)) }
     ensures clash { IfErr result (HasClash digests.now) }
@@ -195,7 +195,7 @@ fn sign_body<S: Signer>(
     })
 }
 
-// 61.
+// Refusal 61: the compact text is too long.
 fn within_limit(parts: Parts) -> Result<Parts, IssueError>
     ensures short { IfOk result (λ same. (same ≡ parts) × (length (compact parts) ≤ issue_max)) }
     ensures long { IfErr result (λ error. (error ≡ IssueError.TooLong) × (issue_max < length (compact parts))) }

@@ -124,7 +124,7 @@ fn first_misplaced(payload: &Tree, decoys: &DecoyList) -> Option<usize>
         .position(|entry| is_no_holder(payload, &entry.at))
 }
 
-// They are told apart only where there are so many paths.
+// Whether more paths are hidden than may be, where equal ones count once. Few paths need not be compared.
 fn hides_too_many(alloc: Global, hide: &PathList) -> Result<bool, NoMemory>
     ensures { IfOk result (λ answer. IsTrue answer ↔ (count_max < distinct_count same_path hide.now)) }
 {
@@ -147,7 +147,7 @@ fn are_too_many(decoys: &DecoyList) -> bool
     false
 }
 
-// 51 to 53.
+// The refusals 51 to 53: what the payload may be.
 fn judge_payload(alloc: Global, order: &Order) -> Result<(), IssueError>
     requires { depth_of (tree_of order.now.payload) ≤ 127 }
     ensures passes { OnOk result (PassesBelow (refusal_number Refusal.RootMarked) (order_of order.now)) }
@@ -167,7 +167,7 @@ fn judge_payload(alloc: Global, order: &Order) -> Result<(), IssueError>
     Ok(())
 }
 
-// 54 to 57.
+// The refusals 54 to 57: what may be hidden, and where decoys may be put.
 fn judge_places(order: &Order) -> Result<(), IssueError>
     requires { PassesBelow (refusal_number Refusal.RootMarked) (order_of order.now) }
     ensures passes { OnOk result (PassesBelow (refusal_number Refusal.TooManyHidden) (order_of order.now)) }
@@ -188,6 +188,7 @@ fn judge_places(order: &Order) -> Result<(), IssueError>
     Ok(())
 }
 
+// The bytes of a text are UTF-8, where there is one.
 fn spells_some(text: &Option<TextBox>)
     ensures { IfSome text.now IsUtf8 }
 {

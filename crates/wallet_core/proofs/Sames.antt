@@ -16,6 +16,14 @@ use Rattle.wallet_core.specs.Meets.{HasValues}
 use Rattle.wallet_core.specs.declared.query.Equal.{Equal}
 use Rattle.marked_tree.proofs.MarkedViews.{Element, Entry}
 
+-- ---- lists and objects that differ
+
+pub lists_differ : (es : MarkedElements) (us : Elements) → (strip_elements es ≡ us → ⊥) → array (strip_elements es) ≡ array us → ⊥
+lists_differ es us other same = let inside : strip_elements es ≡ us = cc same in other inside
+
+pub objects_differ : (ms : MarkedMembers) (us : Members) → (strip_members ms ≡ us → ⊥) → object (strip_members ms) ≡ object us → ⊥
+objects_differ ms us other same = let inside : strip_members ms ≡ us = cc same in other inside
+
 -- ---- elements
 
 -- the first so many are the same
@@ -52,9 +60,12 @@ there_same k es us d within same = subst (λ (vs : Elements). element_at vs k �
     go (suc n) (x ∷ xs) within = go n xs (omega arith)
 
 -- a list that is read at a place, where the other has what differs
-pub differs_there : (k : ℕ) (es : List Element) (us : Elements) (e : Element) → k < length es → e ≡ get_or es k e → (element_at us k ≡ Some (strip (marked_of e.1)) → ⊥) → strip_elements (marked_elements_of es) ≡ us → ⊥
-differs_there k es us e within is other same =
-    other (subst (λ (d : Element). element_at us k ≡ Some (strip (marked_of d.1))) (sym is) (there_same k es us e within same))
+pub differs_there : (k : ℕ) (es : List Element) (us : Elements) (e : Element) (list : MarkedElements) → k < length es → e ≡ get_or es k e → marked_elements_of es ≡ list
+    → (element_at us k ≡ Some (strip (marked_of e.1)) → ⊥) → array (strip_elements list) ≡ array us → ⊥
+differs_there k es us e list within is held other =
+    lists_differ list us
+    (subst (λ (vs : MarkedElements). strip_elements vs ≡ us → ⊥) held
+    (λ same. other (subst (λ (d : Element). element_at us k ≡ Some (strip (marked_of d.1))) (sym is) (there_same k es us e within same))))
 
 -- ---- members
 
@@ -91,9 +102,12 @@ there_same_members k ms us d within same = subst (λ (vs : Members). member_at v
     go zero (x ∷ xs) within = refl
     go (suc n) (x ∷ xs) within = go n xs (omega arith)
 
-pub differs_there_members : (k : ℕ) (ms : List Entry) (us : Members) (m : Entry) → k < length ms → m ≡ get_or ms k m → (member_at us k ≡ Some (m.0, strip (marked_of m.2)) → ⊥) → strip_members (marked_members_of ms) ≡ us → ⊥
-differs_there_members k ms us m within is other same =
-    other (subst (λ (d : Entry). member_at us k ≡ Some (d.0, strip (marked_of d.2))) (sym is) (there_same_members k ms us m within same))
+pub differs_there_members : (k : ℕ) (ms : List Entry) (us : Members) (m : Entry) (map : MarkedMembers) → k < length ms → m ≡ get_or ms k m → marked_members_of ms ≡ map
+    → (member_at us k ≡ Some (m.0, strip (marked_of m.2)) → ⊥) → object (strip_members map) ≡ object us → ⊥
+differs_there_members k ms us m map within is held other =
+    objects_differ map us
+    (subst (λ (vs : MarkedMembers). strip_members vs ≡ us → ⊥) held
+    (λ same. other (subst (λ (d : Entry). member_at us k ≡ Some (d.0, strip (marked_of d.2))) (sym is) (there_same_members k ms us m within same))))
 
 -- ---- lengths
 
@@ -104,12 +118,6 @@ elements_stripped_len (marked_element i t es) = ap suc (elements_stripped_len es
 pub members_stripped_len : (ms : MarkedMembers) → members_len (strip_members ms) ≡ marked_members_len ms
 members_stripped_len no_marked_members = refl
 members_stripped_len (marked_member name i t ms) = ap suc (members_stripped_len ms)
-
-pub lists_differ : (es : MarkedElements) (us : Elements) → (strip_elements es ≡ us → ⊥) → array (strip_elements es) ≡ array us → ⊥
-lists_differ es us other same = let inside : strip_elements es ≡ us = cc same in other inside
-
-pub objects_differ : (ms : MarkedMembers) (us : Members) → (strip_members ms ≡ us → ⊥) → object (strip_members ms) ≡ object us → ⊥
-objects_differ ms us other same = let inside : strip_members ms ≡ us = cc same in other inside
 
 -- ---- what a tree inside is
 

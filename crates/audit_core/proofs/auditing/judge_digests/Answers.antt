@@ -1,13 +1,23 @@
-use Rattle.std.proofs.Common.{◌≡◌, ◌+◌, length, arith, sym, ◌∙◌, refl}
+use Rattle.std.proofs.Common.{◌≡◌, ℕ, ◌+◌, List, length, arith, sym, ◌∙◌, refl}
 use Rattle.std.proofs.lemmas.Bool.{true≢false}
+use Rattle.claim_tree.specs.Tree.{Tree}
 use Rattle.claim_tree.specs.View.{tree_of}
+use Rattle.digest_sites.specs.Given.{Given}
+use Rattle.issuer_core.specs.Order.{Order}
 use Rattle.issuer_core.specs.Decoys.{decoys_of}
 use Rattle.audit_core.specs.Audit.{digests_differ, order_differs}
+use Rattle.audit_core.specs.Audited.{ShowsClaims}
 use Rattle.audit_core.specs.Counts.{count_in, values_count}
 use Rattle.audit_core.specs.Found.{AreCounted, sites_in, trees_of}
 use Rattle.audit_core.proofs.Contents.{count_told}
 use Rattle.audit_core.proofs.Counting.{counted}
 use Rattle.audit_core.proofs.auditing.judge_digests.Goals as goal
+
+-- so many sites are those of the disclosures and of the decoys
+all_counted : (o : Order) (p : Tree) (g : List Given) (many decoys : ℕ) → count_in p + values_count g ≡ many + decoys → many ≡ length g → decoys ≡ length (decoys_of o) → ShowsClaims o p g → AreCounted o p g
+all_counted o p g many decoys told is_many are_decoys shows =
+    let count : sites_in (trees_of p g) ≡ length g + length (decoys_of o) = omega (arith, told, counted p g, is_many, are_decoys) in
+    record { shows = shows; count = count }
 
 pub overflow_add-len : goal.overflow_add-len
 overflow_add-len c = omega (arith, c.requires.decoys, c.len.ensures, c.requires.few)
@@ -25,17 +35,13 @@ pub returns-in-Err-clause-differs : goal.returns-in-Err-clause-differs
 returns-in-Err-clause-differs c o is shows =
     let p = tree_of c.args.payload.now in
     let g = c.args.given.now in
-    let told = c.are_so_many.ensures.0 c.if-not-are_so_many.false in
-    let many : sites_in (trees_of p g) ≡ length g + length (decoys_of o) = omega (arith, told, counted p g, c.len.ensures, is.decoys) in
-    c.in-Err.ensures.differs o is (record { shows = shows; count = many })
+    c.in-Err.ensures.differs o is (all_counted o p g _ _ (c.are_so_many.ensures.0 c.if-not-are_so_many.false) c.len.ensures is.decoys shows)
 
 pub returns-then-not-has_sorted_digests-clause-differs : goal.returns-then-not-has_sorted_digests-clause-differs
 returns-then-not-has_sorted_digests-clause-differs c o is shows =
     let p = tree_of c.args.payload.now in
     let g = c.args.given.now in
-    let told = c.are_so_many.ensures.0 c.if-not-are_so_many.false in
-    let many : sites_in (trees_of p g) ≡ length g + length (decoys_of o) = omega (arith, told, counted p g, c.len.ensures, is.decoys) in
-    let all : AreCounted o p g = record { shows = shows; count = many } in
+    let all = all_counted o p g _ _ (c.are_so_many.ensures.0 c.if-not-are_so_many.false) c.len.ensures is.decoys shows in
     let both = c.in_default.ensures.hold o is all in
     order_differs refl shows both.0 both.1 (λ s. true≢false (sym (c.has_sorted_digests.ensures.1 s) ∙ c.if-not-has_sorted_digests.true))
 
@@ -43,8 +49,6 @@ pub returns-clause-audited : goal.returns-clause-audited
 returns-clause-audited c o is shows =
     let p = tree_of c.args.payload.now in
     let g = c.args.given.now in
-    let told = c.are_so_many.ensures.0 c.if-not-are_so_many.false in
-    let many : sites_in (trees_of p g) ≡ length g + length (decoys_of o) = omega (arith, told, counted p g, c.len.ensures, is.decoys) in
-    let all : AreCounted o p g = record { shows = shows; count = many } in
+    let all = all_counted o p g _ _ (c.are_so_many.ensures.0 c.if-not-are_so_many.false) c.len.ensures is.decoys shows in
     let both = c.in_default.ensures.hold o is all in
     record { shows = shows; digests = both.0; decoys = both.1; sorted = c.has_sorted_digests.ensures.0 c.if-not-has_sorted_digests.false }

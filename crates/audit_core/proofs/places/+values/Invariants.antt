@@ -7,22 +7,16 @@ use Rattle.audit_core.specs.Places.{elements_values, members_values}
 use Rattle.audit_core.proofs.places.+values.Given as goal
 
 abbrev pub decreases-walk : goal.decreases-walk
-decreases-walk l = 4 * nodes (strip (marked_of l.claims.now))
+decreases-walk l = 3 * nodes (strip (marked_of l.claims.now))
 
 abbrev pub decreases-walk_node : goal.decreases-walk_node
-decreases-walk_node l = 4 * nodes (strip (marked_of l.tree.now)) + 1
-
-abbrev pub decreases-walk_element : goal.decreases-walk_element
-decreases-walk_element l = 4 * nodes (strip (marked_of l.tree.now)) + 2
-
-abbrev pub decreases-walk_member : goal.decreases-walk_member
-decreases-walk_member l = 4 * nodes (strip (marked_of l.tree.now)) + 2
+decreases-walk_node l = 3 * nodes (strip (marked_of l.tree.now)) + 1
 
 abbrev pub decreases-walk_elements : goal.decreases-walk_elements
-decreases-walk_elements l = 4 * elements_nodes (strip_elements l.list.now) + 3
+decreases-walk_elements l = 3 * elements_nodes (strip_elements l.list.now) + 2
 
 abbrev pub decreases-walk_members : goal.decreases-walk_members
-decreases-walk_members l = 4 * members_nodes (strip_members l.map.now) + 3
+decreases-walk_members l = 3 * members_nodes (strip_members l.map.now) + 2
 
 abbrev pub invariant-walk_elements-loop-i : goal.invariant-walk_elements-loop-i
 invariant-walk_elements-loop-i l =

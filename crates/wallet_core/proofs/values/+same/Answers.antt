@@ -24,16 +24,12 @@ are_same-is_same-requires t c =
 
 pub are_same-returns-in_default : goal.are_same-returns-in_default
 are_same-returns-in_default t c =
-    let es = c.elements-element-items.result.now in
-    let us : Elements = c.args.values.now in
-    let other : strip_elements c.args.list.now ≡ us → ⊥ =
-    subst (λ (vs : MarkedElements). strip_elements vs ≡ us → ⊥) c.elements-element-items.ensures.value
-    (differs_there c.loop-i.i es us c.element-item.result c.loop-i-test.true c.element-item.is (λ there. let both = c.in_default.ensures ∙ there in cc both)) in
-    is_not _ (lists_differ c.args.list.now us other)
+    let items = c.elements-element-items in
+    is_not _ (differs_there c.loop-i.i items.result.now c.args.values.now c.element-item.result c.args.list.now c.loop-i-test.true c.element-item.is items.ensures.value (λ there. let both = c.in_default.ensures ∙ there in cc both))
 
 pub are_same-returns-then-not-is_same : goal.are_same-returns-then-not-is_same
 are_same-returns-then-not-is_same t c =
-    let es = c.elements-element-items.result.now in
+    let items = c.elements-element-items in
     let us : Elements = c.args.values.now in
     let e : Element = c.element-item.result in
     let unlike : element_at us c.loop-i.i ≡ Some (strip (marked_of e.1)) → ⊥ =
@@ -42,9 +38,7 @@ are_same-returns-then-not-is_same t c =
     let same : tree_of c.in-Some.value.now ≡ strip (marked_of e.1) = cc both in
     let yes = c.is_same.ensures.1 (sym same) in
     let no = sym c.if-not-is_same.true ∙ yes in cc no in
-    let other : strip_elements c.args.list.now ≡ us → ⊥ =
-    subst (λ (vs : MarkedElements). strip_elements vs ≡ us → ⊥) c.elements-element-items.ensures.value (differs_there c.loop-i.i es us e c.loop-i-test.true c.element-item.is unlike) in
-    is_not _ (lists_differ c.args.list.now us other)
+    is_not _ (differs_there c.loop-i.i items.result.now us e c.args.list.now c.loop-i-test.true c.element-item.is items.ensures.value unlike)
 
 pub are_same-loop-i-preserved : goal.are_same-loop-i-preserved
 are_same-loop-i-preserved t c =
@@ -73,16 +67,12 @@ have_same-is_same-requires t c =
 
 pub have_same-returns-in_default : goal.have_same-returns-in_default
 have_same-returns-in_default t c =
-    let ms = c.members-member-items.result.now in
-    let us : Members = c.args.values.now in
-    let other : strip_members c.args.map.now ≡ us → ⊥ =
-    subst (λ (vs : MarkedMembers). strip_members vs ≡ us → ⊥) c.members-member-items.ensures.value
-    (differs_there_members c.loop-i.i ms us c.member-item.result c.loop-i-test.true c.member-item.is (λ there. let both = c.in_default.ensures ∙ there in cc both)) in
-    is_not _ (objects_differ c.args.map.now us other)
+    let items = c.members-member-items in
+    is_not _ (differs_there_members c.loop-i.i items.result.now c.args.values.now c.member-item.result c.args.map.now c.loop-i-test.true c.member-item.is items.ensures.value (λ there. let both = c.in_default.ensures ∙ there in cc both))
 
 pub have_same-returns-then-ne : goal.have_same-returns-then-ne
 have_same-returns-then-ne t c =
-    let ms = c.members-member-items.result.now in
+    let items = c.members-member-items in
     let us : Members = c.args.values.now in
     let m : Entry = c.member-item.result in
     let unlike : member_at us c.loop-i.i ≡ Some (m.0, strip (marked_of m.2)) → ⊥ =
@@ -92,9 +82,7 @@ have_same-returns-then-ne t c =
       | have_same-then-ne-via-then-ne w ↦ named_other m.0 c.in-Some.name.now w.if-ne.ensures (sym both.0)
       | have_same-then-ne-via-else-ne+then-not-is_same w ↦ let yes = w.is_same.ensures.1 (sym both.1) in let no = sym w.if-not-is_same.true ∙ yes in cc no
     ] in
-    let other : strip_members c.args.map.now ≡ us → ⊥ =
-    subst (λ (vs : MarkedMembers). strip_members vs ≡ us → ⊥) c.members-member-items.ensures.value (differs_there_members c.loop-i.i ms us m c.loop-i-test.true c.member-item.is unlike) in
-    is_not _ (objects_differ c.args.map.now us other)
+    is_not _ (differs_there_members c.loop-i.i items.result.now us m c.args.map.now c.loop-i-test.true c.member-item.is items.ensures.value unlike)
 
 pub have_same-loop-i-preserved : goal.have_same-loop-i-preserved
 have_same-loop-i-preserved t c =

@@ -1,0 +1,36 @@
+use Rattle.std.proofs.Common.{sym, take, subst, ◌∙◌}
+use Rattle.std.proofs.lemmas.Bool.{true≢false}
+use Rattle.b64url_text.specs.Base64url.{Decodes}
+use Rattle.claim_tree.specs.ListTails.{ReadsTail}
+use Rattle.claim_tree.specs.View.{tree_of}
+use Rattle.audit_core.proofs.Unwritten.{unread_unwritten}
+use Rattle.audit_core.proofs.Writtens.{one_salted, no_array_unsalted}
+use Rattle.audit_core.proofs.compact.CompactReader.read_salted.Goals as goal
+
+pub returns-in_default-error : goal.returns-in_default-error
+returns-in_default-error c =
+    let bytes = take c.in-Some.count c.decode_to.new.room.items in
+    let some = rw c.in-Some.is at c.in_ok-count.ensures.some in
+    let unread = rw c.deref.ensures.value at c.in-Err.ensures.unread in
+    record {
+      some = tt;
+      ranged = tt;
+      depth = tt;
+      none = λ name value w. unread_unwritten c.args.text.now bytes c.in-Err.error c.in_default-error.not-Memory some unread _ w.written;
+    }
+
+pub returns-in_default-disclosed_by-clause-none : goal.returns-in_default-disclosed_by-clause-none
+returns-in_default-disclosed_by-clause-none c =
+    let bytes = take c.in-Some.count c.decode_to.new.room.items in
+    let some = rw c.in-Some.is at c.in_ok-count.ensures.some in
+    let read = c.in_default-disclosed_by.ensures.none bytes (subst (λ json. ReadsTail (take c.in-Some.count json) c.in-Ok.found) c.deref.ensures.value c.in-Ok.ensures.ok) in
+    no_array_unsalted c.args.text.now bytes read.0 some read.1 read.2
+
+pub returns-then-not-branch-clause-none : goal.returns-then-not-branch-clause-none
+returns-then-not-branch-clause-none c = λ name value w.
+    let bytes = take c.in-Some.count c.decode_to.new.room.items in
+    let given = c.in-Some-disclosed_by.disclosed in
+    let some = rw c.in-Some.is at c.in_ok-count.ensures.some in
+    let read = c.in-Some-disclosed_by.ensures.some bytes (subst (λ json. ReadsTail (take c.in-Some.count json) c.in-Ok.found) c.deref.ensures.value c.in-Ok.ensures.ok) in
+    let one = one_salted c.args.text.now bytes read.0 given.name name (tree_of given.value) value some read.1 w in
+    true≢false (sym (c.in_ok-is_salted.ensures.none c.args.text.now (subst (λ json. Decodes c.args.text.now (take c.in-Some.count json)) (sym c.deref.ensures.value) some) one) ∙ c.if-not-branch.true)
