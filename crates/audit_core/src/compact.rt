@@ -8,10 +8,10 @@ ghost use Rattle.claim_tree.specs.View.{tree_of};
 ghost use Rattle.audit_core.specs.Audited.{IsWrittenAs, IsSaltedText};
 ghost use Rattle.audit_core.specs.AuditSteps.{IsUnwritten, IsUnsalted};
 
-use crate::salted::{disclosed_by, is_salted};
+use crate::salted::is_salted;
 use b64url_text::decode_into;
 use claim_tree::{JsonReader, ReadError, Tree, write};
-use disclosure::Disclosed;
+use disclosure::{Disclosed, disclosed_by};
 use sd_outside::NoMemory;
 use std::alloc::Global;
 

@@ -23,7 +23,7 @@ pub returns-in_default-disclosed_by-clause-none : goal.returns-in_default-disclo
 returns-in_default-disclosed_by-clause-none c =
     let bytes = take c.in-Some.count c.decode_to.new.room.items in
     let some = rw c.in-Some.is at c.in_ok-count.ensures.some in
-    let read = c.in_default-disclosed_by.ensures.none bytes (subst (λ json. ReadsTail (take c.in-Some.count json) c.in-Ok.found) c.deref.ensures.value c.in-Ok.ensures.ok) in
+    let read = c.in_default-disclosed_by.ensures.other bytes (subst (λ json. ReadsTail (take c.in-Some.count json) c.in-Ok.found) c.deref.ensures.value c.in-Ok.ensures.ok) in
     no_array_unsalted c.args.text.now bytes read.0 some read.1 read.2
 
 pub returns-then-not-branch-clause-none : goal.returns-then-not-branch-clause-none
@@ -31,6 +31,6 @@ returns-then-not-branch-clause-none c = λ name value w.
     let bytes = take c.in-Some.count c.decode_to.new.room.items in
     let given = c.in-Some-disclosed_by.disclosed in
     let some = rw c.in-Some.is at c.in_ok-count.ensures.some in
-    let read = c.in-Some-disclosed_by.ensures.some bytes (subst (λ json. ReadsTail (take c.in-Some.count json) c.in-Ok.found) c.deref.ensures.value c.in-Ok.ensures.ok) in
+    let read = c.in-Some-disclosed_by.ensures.given bytes (subst (λ json. ReadsTail (take c.in-Some.count json) c.in-Ok.found) c.deref.ensures.value c.in-Ok.ensures.ok) in
     let one = one_salted c.args.text.now bytes read.0 given.name name (tree_of given.value) value some read.1 w in
     true≢false (sym (c.in_ok-is_salted.ensures.none c.args.text.now (subst (λ json. Decodes c.args.text.now (take c.in-Some.count json)) (sym c.deref.ensures.value) some) one) ∙ c.if-not-branch.true)
