@@ -13,3 +13,4 @@ pub mod Strange
 pub mod Wanted
 pub mod AuditLaws
 pub mod AuditRun
+pub mod PartNumbers

@@ -15,6 +15,7 @@ mod errors;
 mod found;
 mod known;
 pub mod laws;
+mod part;
 mod places;
 mod refusal;
 mod run;

@@ -26,10 +26,11 @@ pub returns-then-not-are_so_many-clause-differs : goal.returns-then-not-are_so_m
 returns-then-not-are_so_many-clause-differs c o is shows =
     let p = tree_of c.args.payload.now in
     let g = c.args.given.now in
-    digests_differ refl shows
+    rw c.differs.ensures
+    (digests_differ refl shows
     (λ h.
     let sum : count_in p + values_count g ≡ c.len.result + c.args.asked.now.decoys = omega (arith, counted p g, count_told o p g (c.requires.count ∙ is.hidden) h, c.len.ensures, is.decoys) in
-    true≢false (sym (c.are_so_many.ensures.1 sum) ∙ c.if-not-are_so_many.true))
+    true≢false (sym (c.are_so_many.ensures.1 sum) ∙ c.if-not-are_so_many.true)))
 
 pub returns-in-Err-clause-differs : goal.returns-in-Err-clause-differs
 returns-in-Err-clause-differs c o is shows =
@@ -43,7 +44,8 @@ returns-then-not-has_sorted_digests-clause-differs c o is shows =
     let g = c.args.given.now in
     let all = all_counted o p g _ _ (c.are_so_many.ensures.0 c.if-not-are_so_many.false) c.len.ensures is.decoys shows in
     let both = c.in_default.ensures.hold o is all in
-    order_differs refl shows both.0 both.1 (λ s. true≢false (sym (c.has_sorted_digests.ensures.1 s) ∙ c.if-not-has_sorted_digests.true))
+    rw c.differs-then-not-has_sorted_digests.ensures
+    (order_differs refl shows both.0 both.1 (λ s. true≢false (sym (c.has_sorted_digests.ensures.1 s) ∙ c.if-not-has_sorted_digests.true)))
 
 pub returns-clause-audited : goal.returns-clause-audited
 returns-clause-audited c o is shows =

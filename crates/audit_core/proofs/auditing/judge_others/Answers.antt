@@ -16,10 +16,11 @@ returns-then-not-are_digests-clause-differs c o is counted =
     let p = tree_of c.args.payload.now in
     let g = c.args.given.now in
     let are = subst (λ claims. AreOthers claims p g c.in_ok-others.others) is.claims c.in_ok-others.ensures in
-    digests_differ refl counted.shows
+    rw c.differs.ensures
+    (digests_differ refl counted.shows
     (λ h.
     let form = subst (AreDigests o.hash) (sym c.elements.ensures) (form_told o p g c.in_ok-others.others (c.requires ∙ is.hidden) are h) in
-    true≢false (sym (c.are_digests.ensures.1 (subst (λ hash. AreDigests hash c.elements.result.now) (sym is.hash) form)) ∙ c.if-not-are_digests.true))
+    true≢false (sym (c.are_digests.ensures.1 (subst (λ hash. AreDigests hash c.elements.result.now) (sym is.hash) form)) ∙ c.if-not-are_digests.true)))
 
 pub returns-then-not-branch-clause-differs : goal.returns-then-not-branch-clause-differs
 returns-then-not-branch-clause-differs c o is counted =
@@ -30,10 +31,11 @@ returns-then-not-branch-clause-differs c o is counted =
     let form = subst (AreDigests o.hash) c.elements.ensures (subst (λ hash. AreDigests hash c.elements.result.now) is.hash (c.are_digests.ensures.0 c.if-not-are_digests.false)) in
     let digests = has_digests o p g counted.shows long (others_form o p g c.in_ok-others.others long are form) counted.count in
     let found = c.in_ok-standings.ensures ∙ ap (map site_text) c.elements-2.ensures in
-    decoys_differ refl counted.shows digests
+    rw c.differs-then-not-branch.ensures
+    (decoys_differ refl counted.shows digests
     (λ h.
     let same = decoys_told o p g c.in_ok-others.others c.in_ok-standings.standings.items c.args.asked.now.standings.items long are found is.standings h in
-    true≢false (sym (c.in_ok-are_alike.ensures.1 (same ∙ sym c.as_slice.ensures.value)) ∙ c.if-not-branch.true))
+    true≢false (sym (c.in_ok-are_alike.ensures.1 (same ∙ sym c.as_slice.ensures.value)) ∙ c.if-not-branch.true)))
 
 pub returns-clause-hold : goal.returns-clause-hold
 returns-clause-hold c o is counted =

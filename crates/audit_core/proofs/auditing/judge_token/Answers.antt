@@ -42,5 +42,6 @@ returns-in-Some-clause-uncounted g c k l d =
 pub returns-clause-differs : goal.returns-clause-differs
 returns-clause-differs g c =
     let none = rw c.in-None.is at c.in_ok-written.ensures.none in
-    written_differs refl (c.in_ok-is_signed_for.ensures.0 c.if-not-branch.false)
-    (λ body given w. none body given (written_with (order_of c.args.order) c.in_ok-asked.asked c.args.token.now.parts body given c.in_ok-asked.ensures.asked w))
+    rw c.differs-in-None.ensures
+    (written_differs refl (c.in_ok-is_signed_for.ensures.0 c.if-not-branch.false)
+    (λ body given w. none body given (written_with (order_of c.args.order) c.in_ok-asked.asked c.args.token.now.parts body given c.in_ok-asked.ensures.asked w)))
