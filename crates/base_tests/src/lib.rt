@@ -7,6 +7,8 @@ mod compact_tests;
 #[cfg(test)]
 mod disclosure_tests;
 #[cfg(test)]
+mod from_text;
+#[cfg(test)]
 mod hmac_tests;
 #[cfg(test)]
 mod json_form_tests;

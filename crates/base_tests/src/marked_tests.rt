@@ -1,42 +1,19 @@
-ghost use Rattle.std.specs.Prelude.{◌≤◌, length, IfOk};
+ghost use Rattle.std.specs.Prelude.{◌≤◌, IfOk};
 ghost use Rattle.claim_tree.specs.Tree.{depth, IsRanged};
 ghost use Rattle.marked_tree.specs.Marked.{strip as strip_of};
 ghost use Rattle.marked_tree.specs.View.{marked_of};
 
-use claim_tree::{Path, PathList, print_path, read, read_pointer, write};
-use marked_tree::{ChosenSet, Marked, MarkedMap, mark, place_of, prune, strip};
+use crate::from_text::marked;
+use claim_tree::{print_path, write};
+use marked_tree::{ChosenSet, Marked, MarkedMap, place_of, prune, strip};
 use sd_outside::TextBox;
 use std::alloc::Global;
 use std::test::Fail;
 
 const TREE: &str = r#"{"a":{"b":1,"c":2},"d":[1,2,3],"e":null}"#;
 
-fn path(alloc: Global, pointer: &str) -> Result<Path, Fail> {
-    Ok(read_pointer(alloc, pointer).map_err(|_| "no pointer")?)
-}
-
-fn paths(alloc: Global) -> Result<PathList, Fail>
-    ensures { IfOk result (λ paths. length paths ≤ 100) }
-{
-    let mut paths = PathList::new(alloc);
-    for pointer in ["/a", "/a/b", "/d/2", "/d/0"] {
-        paths.push(path(alloc, pointer)?)?;
-    }
-    if paths.len() > 100 {
-        return Err("too many paths")?;
-    }
-    Ok(paths)
-}
-
-// The tree with marks at `/a/b`, `/a`, `/d/0` and `/d/2`, in closing order.
-fn marked(alloc: Global) -> Result<Marked, Fail>
-    ensures shallow { IfOk result (λ marked. depth (strip_of (marked_of marked)) ≤ 127) }
-    ensures ranged { IfOk result (λ marked. IsRanged (strip_of (marked_of marked))) }
-{
-    let tree = read(alloc, TREE.as_bytes()).map_err(|_| "not read")?;
-    let paths = paths(alloc)?;
-    Ok(mark(alloc, &tree, &paths)?)
-}
+// The places of the marks. In closing order they are `/a/b`, `/a`, `/d/0` and `/d/2`.
+const PLACES: &str = "/a /a/b /d/2 /d/0";
 
 fn chosen(alloc: Global, kept: [u32; 4]) -> Result<ChosenSet, Fail> {
     let mut chosen = ChosenSet::new(alloc);
@@ -52,7 +29,7 @@ fn pruned(alloc: Global, kept: [u32; 4]) -> Result<Marked, Fail>
     ensures ranged { IfOk result (λ marked. IsRanged (strip_of (marked_of marked))) }
 {
     let chosen = chosen(alloc, kept)?;
-    let marked = marked(alloc)?;
+    let marked = marked(alloc, TREE, PLACES)?;
     Ok(prune(alloc, &marked, &chosen)?)
 }
 
@@ -90,7 +67,7 @@ fn place(alloc: Global, marked: &Marked, mark: u32) -> Result<Option<TextBox>, F
 
 // The same of the tree above.
 fn place_in_tree(alloc: Global, mark: u32) -> Result<Option<TextBox>, Fail> {
-    let marked = marked(alloc)?;
+    let marked = marked(alloc, TREE, PLACES)?;
     place(alloc, &marked, mark)
 }
 

@@ -1,10 +1,6 @@
-use claim_tree::{Path, PathList, is_prefix, read_pointer};
-use std::alloc::Global;
+use crate::from_text::path;
+use claim_tree::{Path, PathList, is_prefix};
 use std::test::Fail;
-
-fn path(alloc: Global, pointer: &str) -> Result<Path, Fail> {
-    Ok(read_pointer(alloc, pointer).map_err(|_| "not read")?)
-}
 
 #[test]
 fn a_path_leads_to_the_paths_that_go_on(rt: HostRuntime) -> Result<(), Fail> {

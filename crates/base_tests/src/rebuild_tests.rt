@@ -1,11 +1,12 @@
-ghost use Rattle.std.specs.Prelude.{◌≡◌, ◌≤◌, ◌<◌, ◌-◌, ◌^◌, length, IfOk, IsTrue};
+ghost use Rattle.std.specs.Prelude.{◌≤◌, ◌<◌, ◌-◌, ◌^◌, length, IfOk, IsTrue};
 ghost use Rattle.claim_tree.specs.Tree.{depth, IsRanged};
 ghost use Rattle.claim_tree.specs.View.{tree_of};
 ghost use Rattle.marked_tree.specs.Marked.{strip as strip_of};
 ghost use Rattle.marked_tree.specs.View.{marked_of};
 ghost use Rattle.rebuild_core.specs.Answer.{IsPayload, ValuesShallow, ValuesRanged};
 
-use claim_tree::{Tree, print_path, read, write};
+use crate::from_text::value;
+use claim_tree::{Tree, print_path, write};
 use digest_index::Steps;
 use digest_sites::{Given, GivenList};
 use marked_tree::{Marked, place_of, strip};
@@ -13,13 +14,6 @@ use rebuild_core::{ProcessError, process};
 use sd_outside::TextBox;
 use std::alloc::Global;
 use std::test::Fail;
-
-fn value(alloc: Global, text: &str) -> Result<Tree, Fail>
-    ensures depth { IfOk result (λ t. depth (tree_of t) ≤ 127) }
-    ensures range { IfOk result (λ t. IsRanged (tree_of t)) }
-{
-    Ok(read(alloc, text.as_bytes()).map_err(|_| "not read")?)
-}
 
 fn is_payload(tree: &Tree) -> bool
     ensures { IsTrue result → IsPayload (tree_of tree.now) }
@@ -140,36 +134,22 @@ fn refusal(alloc: Global, error: ProcessError) -> Result<String, Fail> {
     Ok(format!(in alloc; "{condition} at {place}")?)
 }
 
-// The answer in words.
-fn answer(
-    alloc: Global,
-    payload: &Tree,
-    given: &GivenList,
-    steps: &mut Steps,
-) -> Result<String, Fail>
-    requires object { IsPayload (tree_of payload.now) }
-    requires payload_depth { depth (tree_of payload.now) ≤ 127 }
-    requires values_depth { ValuesShallow given.now }
-    requires payload_range { IsRanged (tree_of payload.now) }
-    requires values_range { ValuesRanged given.now }
-    requires few { length given.now < 2 ^ 32 - 1 }
-{
-    match process(alloc, payload, given, steps) {
-        Ok(marked) => shown(alloc, given.len() as u32, &marked),
-        Err(error) => refusal(alloc, error),
-    }
-}
-
-// The answer on a payload and disclosures in words.
+// The answer on a payload and disclosures, in words.
 fn answer_on(
     alloc: Global,
     text: &str,
-    disclosures: &str,
+    given: &GivenList,
     steps: &mut Steps,
-) -> Result<String, Fail> {
+) -> Result<String, Fail>
+    requires depths { ValuesShallow given.now }
+    requires ranges { ValuesRanged given.now }
+    requires few { length given.now < 2 ^ 32 - 1 }
+{
     let payload = payload(alloc, text)?;
-    let given = given(alloc, disclosures)?;
-    answer(alloc, &payload, &given, steps)
+    match process(alloc, &payload, given, steps) {
+        Ok(marked) => shown(alloc, given.len() as u32, &marked),
+        Err(error) => refusal(alloc, error),
+    }
 }
 
 // Digests that no text has, and disclosures that lead in a circle. Of what is opened the places are shown, too.
@@ -208,7 +188,8 @@ fn digests_may_lead_in_a_circle(rt: HostRuntime) -> Result<(), Fail> {
         ("{}", r#"A x {"_sd":["A"]}"#, 2, "17 at 0"),
     ] {
         let mut steps = Steps::new();
-        let answer = answer_on(alloc, payload, disclosures, &mut steps)?;
+        let given = given(alloc, disclosures)?;
+        let answer = answer_on(alloc, payload, &given, &mut steps)?;
         assert_eq!(rt; answer.as_str(), expected, "{payload} {disclosures}");
         assert!(rt; steps.count() <= look_ups, "{payload} {disclosures}");
     }
@@ -232,19 +213,6 @@ fn chain(alloc: Global, count: usize, last: &str) -> Result<GivenList, Fail>
     Ok(list)
 }
 
-// The answer on a payload and a chain.
-fn chain_answer(
-    alloc: Global,
-    text: &str,
-    count: usize,
-    last: &str,
-    steps: &mut Steps,
-) -> Result<String, Fail> {
-    let payload = payload(alloc, text)?;
-    let given = chain(alloc, count, last)?;
-    answer(alloc, &payload, &given, steps)
-}
-
 #[test]
 fn chains_are_opened_down_to_the_bound(rt: HostRuntime) -> Result<(), Fail> {
     let text = r#"{"_sd":["1"]}"#;
@@ -254,7 +222,8 @@ fn chains_are_opened_down_to_the_bound(rt: HostRuntime) -> Result<(), Fail> {
         ("{}", 4096, text, 8192, "17 at 0"),
     ] {
         let mut steps = Steps::new();
-        let answer = chain_answer(rt.alloc(), text, count, last, &mut steps)?;
+        let given = chain(rt.alloc(), count, last)?;
+        let answer = answer_on(rt.alloc(), text, &given, &mut steps)?;
         assert_eq!(rt; answer.as_str(), expected, "{text} {count} {last}");
         assert_eq!(rt; steps.count(), look_ups, "{text} {count} {last}");
     }

@@ -7,39 +7,12 @@ ghost use Rattle.marked_tree.specs.Paths.{Path as Steps, mark_path};
 ghost use Rattle.marked_tree.specs.View.{marked_of};
 ghost use Rattle.selection_core.specs.declared.errors.AllowError.TheVariants.{Refused};
 
-use claim_tree::{Path, PathList, is_prefix, read, read_pointer};
-use marked_tree::{ChosenSet, Marked, mark};
+use crate::from_text::{marked, paths_of};
+use claim_tree::{Path, PathList, is_prefix};
+use marked_tree::{ChosenSet, Marked};
 use selection_core::{AllowError, ChooseError, Consent, allow, choose};
 use std::alloc::Global;
 use std::test::Fail;
-
-fn path(alloc: Global, pointer: &str) -> Result<Path, Fail> {
-    Ok(read_pointer(alloc, pointer).map_err(|_| "no pointer")?)
-}
-
-// The paths of pointers with blanks between them.
-fn paths_of(alloc: Global, pointers: &str) -> Result<PathList, Fail>
-    ensures { IfOk result (λ paths. length paths ≤ 100) }
-{
-    let mut paths = PathList::new(alloc);
-    for pointer in pointers.split(' ') {
-        paths.push(path(alloc, pointer)?)?;
-    }
-    if paths.len() > 100 {
-        return Err("too many pointers")?;
-    }
-    Ok(paths)
-}
-
-// The JSON value with a mark at each place.
-fn marked(alloc: Global, text: &str, pointers: &str) -> Result<Marked, Fail>
-    ensures shallow { IfOk result (λ marked. depth (strip_of (marked_of marked)) ≤ 127) }
-    ensures unmixed { IfOk result (λ marked. IsUnmixed (marked_of marked)) }
-{
-    let tree = read(alloc, text.as_bytes()).map_err(|_| "not read")?;
-    let paths = paths_of(alloc, pointers)?;
-    Ok(mark(alloc, &tree, &paths)?)
-}
 
 // The first marks that are chosen, each behind a blank.
 fn listed(alloc: Global, chosen: &ChosenSet) -> Result<String, Fail> {

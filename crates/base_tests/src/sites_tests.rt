@@ -1,12 +1,9 @@
-use claim_tree::{Tree, print_path, read};
+use crate::from_text::value;
+use claim_tree::{Tree, print_path};
 use digest_sites::{Given, GivenList, Site, SiteError, SiteKind, SiteList, is_misused, sites};
 use sd_outside::TextBox;
 use std::alloc::Global;
 use std::test::Fail;
-
-fn value(alloc: Global, text: &str) -> Result<Tree, Fail> {
-    Ok(read(alloc, text.as_bytes()).map_err(|_| "not read")?)
-}
 
 fn kind_word(kind: &SiteKind) -> &'static str {
     match kind {

@@ -1,25 +1,11 @@
-ghost use Rattle.std.specs.Prelude.{◌≤◌, IfOk};
-ghost use Rattle.claim_tree.specs.Tree.{depth as depth_of, IsRanged};
-ghost use Rattle.claim_tree.specs.View.{tree_of};
-
+use crate::from_text::value;
 use claim_tree::{ReadError, Tree, TreeList, TreeMap, copy, depth, get, read, write};
 use sd_outside::TextBox;
-use std::alloc::Global;
 use std::test::Fail;
 
 #[test]
 fn what_is_no_text_is_not_read(rt: HostRuntime) {
     assert!(rt; matches!(read(rt.alloc(), b"\"\xff\""), Err(ReadError::NotJson)));
-}
-
-fn tree(alloc: Global, text: &str) -> Result<Tree, Fail>
-    ensures depth { IfOk result (λ tree. depth_of (tree_of tree) ≤ 127) }
-    ensures ranged { IfOk result (λ tree. IsRanged (tree_of tree)) }
-{
-    match read(alloc, text.as_bytes()) {
-        Ok(tree) => Ok(tree),
-        Err(_) => Err("no JSON")?,
-    }
 }
 
 #[test]
@@ -44,21 +30,21 @@ fn the_last_member_of_a_name_counts(rt: HostRuntime) -> Result<(), Fail> {
 #[test]
 fn a_copy_is_the_same_tree(rt: HostRuntime) -> Result<(), Fail> {
     let text = r#"{"b":7,"g|h":[false]}"#;
-    let tree = copy(rt.alloc(), &tree(rt.alloc(), text)?)?;
+    let tree = copy(rt.alloc(), &value(rt.alloc(), text)?)?;
     assert_eq!(rt; write(rt.alloc(), &tree)?.as_str(), text);
     Ok(())
 }
 
 #[test]
 fn a_tree_has_a_depth_and_members(rt: HostRuntime) -> Result<(), Fail> {
-    let tree = tree(rt.alloc(), r#"{"b":7,"g|h":[false]}"#)?;
+    let tree = value(rt.alloc(), r#"{"b":7,"g|h":[false]}"#)?;
     assert!(rt; depth(&tree) == 2 && get(&tree, "g|h").is_some() && get(&tree, "g").is_none());
     Ok(())
 }
 
 #[test]
 fn members_are_counted_from_0(rt: HostRuntime) -> Result<(), Fail> {
-    let Tree::Object(map) = tree(rt.alloc(), r#"{"b":7,"g|h":[false]}"#)? else {
+    let Tree::Object(map) = value(rt.alloc(), r#"{"b":7,"g|h":[false]}"#)? else {
         return Err("no object")?;
     };
     let name = map.entry_at(1).map(|(name, _)| name.as_str());

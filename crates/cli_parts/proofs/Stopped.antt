@@ -1,9 +1,8 @@
 -- What holds of the line of a stop, by the fault that it tells.
-use Rattle.std.proofs.Common.{◌≡◌, ◌≢◌, ℕ, List, Result, Ok, Err, String, Global, IfOk, IfErr, string_bytes, sym, subst}
-use Rattle.claim_tree.specs.declared.file_fault.FileFault.{FileFault}
+use Rattle.std.proofs.Common.{◌≡◌, ℕ, List, Result, Ok, Err, String, Global, IfOk, IfErr, string_bytes, sym, subst}
 use Rattle.compact_form.specs.declared.fault.Fault.{Fault}
-use Rattle.cli_parts.specs.Lines.{refusal, unreadable_line}
-use Rattle.cli_parts.specs.Stops.{OnRefused, OnUnreadable}
+use Rattle.cli_parts.specs.Lines.{refusal}
+use Rattle.cli_parts.specs.Stops.{OnRefused}
 use Rattle.cli_parts.specs.declared.stop.Stop.{Stop}
 use Rattle.cli_parts.specs.declared.stop.Stop.TheVariants.{Memory, Unread, Unreadable, Refused}
 
@@ -13,13 +12,6 @@ module _ (Holds : List ℕ → Type 0) where
   of_refusal fault holds (Unread word) told = tt
   of_refusal fault holds (Unreadable text) told = tt
   of_refusal fault holds (Refused text) told = subst Holds (sym told) holds
-
-  pub of_unreadable : (fault : FileFault) → (fault ≢ FileFault.Memory → Holds (unreadable_line 1 fault)) → (stop : Stop)
-      → OnUnreadable stop (λ _. fault ≢ FileFault.Memory) → OnUnreadable stop (λ text. text ≡ unreadable_line 1 fault) → OnUnreadable stop Holds
-  of_unreadable fault holds Memory cause told = tt
-  of_unreadable fault holds (Unread word) cause told = tt
-  of_unreadable fault holds (Unreadable text) cause told = subst Holds (sym told) (holds cause)
-  of_unreadable fault holds (Refused text) cause told = tt
 
 -- what follows from what is said of the text of an answer, and of a refusal
 module _ (P Q : List ℕ → Type 0) (follows : (text : List ℕ) → P text → Q text) where

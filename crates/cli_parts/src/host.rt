@@ -1,6 +1,8 @@
 // What a program takes from its host before it runs a command.
 
-use sd_outside::Status;
+use crate::tell;
+use sd_outside::{Sink, Status};
+use std::process::ExitCode;
 use std::rt::{Clock, Env};
 use std::time::{SystemTime, UNIX_EPOCH};
 use std::{env, io};
@@ -17,21 +19,12 @@ pub enum Ending {
 }
 
 impl Ending {
-    /// The line that tells it, without its line end.
-    pub fn line(self) -> &'static str {
+    // Tells it on `err`, and answers the status that it has.
+    fn tell<E: Sink>(self, err: &mut E) -> Status {
         match self {
-            Ending::Words => "usage",
-            Ending::Memory => "memory",
-            Ending::Clock => "unread clock",
-        }
-    }
-
-    /// How the program ends then.
-    pub fn status(self) -> Status {
-        match self {
-            Ending::Words => Status::Usage,
-            Ending::Memory => Status::Memory,
-            Ending::Clock => Status::Unread,
+            Ending::Words => tell(err, "usage\n", Status::Usage),
+            Ending::Memory => tell(err, "memory\n", Status::Memory),
+            Ending::Clock => tell(err, "unread clock\n", Status::Unread),
         }
     }
 }
@@ -61,4 +54,13 @@ pub fn seconds(rt: &impl Clock) -> Result<u64, Ending> {
         Err(fault) if fault.kind() == io::ErrorKind::InvalidData => Ok(0),
         Err(_) => Err(Ending::Clock),
     }
+}
+
+/// How the program ends. Where it ran no command, `err` is told why.
+pub fn exit_code<E: Sink>(ran: Result<Status, Ending>, err: &mut E) -> ExitCode {
+    let status = match ran {
+        Ok(status) => status,
+        Err(ending) => ending.tell(err),
+    };
+    ExitCode::from(status.number())
 }

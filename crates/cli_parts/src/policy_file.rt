@@ -4,7 +4,7 @@ ghost use Rattle.verifier_core.specs.PolicyFile.{IsPolicyFileRefused, IsPolicyFi
 ghost use Rattle.cli_parts.specs.Stops.{OnRefused, OnUnread, OnUnreadable};
 ghost use Rattle.cli_parts.specs.Telling.{TellsFileFault};
 
-use crate::{Stop, unreadable};
+use crate::{Stop, readable};
 use std::alloc::Global;
 use verifier_core::{Policy, read_policy};
 
@@ -15,8 +15,5 @@ pub fn policy_of(alloc: Global, file: &[u8]) -> Result<Policy, Stop>
     ensures fit { IfErr result (λ stop. OnRefused stop (λ _. ⊥)) }
     ensures read { IfErr result (λ stop. OnUnread stop (λ _. ⊥)) }
 {
-    match read_policy(alloc, file) {
-        Ok(policy) => Ok(policy),
-        Err(fault) => Err(unreadable(alloc, fault)),
-    }
+    readable(alloc, read_policy(alloc, file))
 }

@@ -1,8 +1,9 @@
 // Why a command has no answer.
-ghost use Rattle.std.specs.Prelude.{◌≡◌, ◌≢◌};
+ghost use Rattle.std.specs.Prelude.{◌≡◌, ◌≢◌, Ok, Err, IfOk, IfErr};
 ghost use Rattle.claim_tree.specs.declared.file_fault.FileFault.{FileFault};
 ghost use Rattle.cli_parts.specs.Lines.{refusal, unreadable_line as line_of};
 ghost use Rattle.cli_parts.specs.Stops.{OnRefused, OnUnread, OnUnreadable};
+ghost use Rattle.cli_parts.specs.Telling.{TellsFileFault};
 ghost use Rattle.cli_parts.specs.declared.stop.Stop.TheVariants.{Memory};
 
 use crate::lines::{refusal_line, unreadable_line};
@@ -57,5 +58,18 @@ pub fn unreadable(alloc: Global, fault: FileFault) -> Stop
     match unreadable_line(alloc, 1, fault) {
         Ok(text) => Stop::Unreadable(text),
         Err(NoMemory) => Stop::Memory,
+    }
+}
+
+/// What the first file of a command says, or the line that tells why it is not of its form.
+pub fn readable<T>(alloc: Global, said: Result<T, FileFault>) -> Result<T, Stop>
+    ensures said { IfOk result (λ value. said ≡ Ok value) }
+    ensures unreadable { IfErr result (λ stop. OnUnreadable stop (TellsFileFault (λ fault. said ≡ Err fault))) }
+    ensures fit { IfErr result (λ stop. OnRefused stop (λ _. ⊥)) }
+    ensures read { IfErr result (λ stop. OnUnread stop (λ _. ⊥)) }
+{
+    match said {
+        Ok(value) => Ok(value),
+        Err(fault) => Err(unreadable(alloc, fault)),
     }
 }

@@ -1,5 +1,5 @@
-// The look-ups of digests, which no run of the program shows, of `verify`, and of `check_token` and a borrowed token,
-// which none calls.
+// The look-ups of digests, which no run of the program shows: those of `verify`, and those of `check_token` and of a
+// borrowed token, which no run calls.
 ghost use Rattle.claim_tree.specs.Tree.{IsRanged};
 ghost use Rattle.claim_tree.specs.View.{tree_of};
 

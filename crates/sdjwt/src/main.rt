@@ -2,7 +2,7 @@
 //! runtime, and runs one command over them.
 #![tactic(auto)]
 
-use cli_parts::{Ending, seconds, words};
+use cli_parts::{Ending, exit_code, seconds, words};
 use sd_outside::{HostCabinet, HostSink, Status};
 use sdjwt_cli::run;
 use std::process::ExitCode;
@@ -25,12 +25,5 @@ fn status(rt: &HostRuntime) -> Result<Status, Ending> {
 }
 
 fn main(rt: HostRuntime) -> ExitCode {
-    let status = match status(&rt) {
-        Ok(status) => status,
-        Err(ending) => {
-            let _ = rt.eprintln(ending.line());
-            ending.status()
-        }
-    };
-    ExitCode::from(status.number())
+    exit_code(status(&rt), &mut HostSink::new(rt.stderr()))
 }

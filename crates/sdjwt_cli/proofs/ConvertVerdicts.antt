@@ -5,9 +5,11 @@ use Rattle.sd_outside.specs.Limits.{file_max}
 use Rattle.json_form.specs.declared.token.Token.{Token}
 use Rattle.json_form.proofs.Tokens as tokens
 use Rattle.sdjwt_cli.specs.declared.form.Form.{Form}
-use Rattle.cli_parts.specs.Lines.{line, refusal}
+use Rattle.cli_parts.specs.Lines.{line}
+use Rattle.cli_parts.specs.Telling.{TellsFault}
+use Rattle.cli_parts.proofs.OneReply.{one_readable_reply, one_refusal_line}
 use Rattle.sdjwt_cli.specs.Converting.{written, Converts, IsConvertRefused, unread, too_much}
-use Rattle.cli_parts.specs.Replies.{Reply, gives, refuses, unreadable}
+use Rattle.cli_parts.specs.Replies.{Reply}
 use Rattle.sdjwt_cli.specs.Answers.{ConvertAnswers}
 
 one_line : (form : Form) (file a b : List ℕ) → Converts form file a → Converts form file b → a ≡ b
@@ -26,10 +28,6 @@ one_fault form file f g (too_much t r long e) (unread s) = absurd (tokens.not_bo
 one_fault form file f g (too_much t r long e) (too_much u s over d) = e ∙ sym d
 
 pub one_convert : (form : Form) (file : List ℕ) (v w : Reply) → ConvertAnswers form file v → ConvertAnswers form file w → v ≡ w
-one_convert form file (gives a) (gives b) g h = ap gives (one_line form file a b g h)
-one_convert form file (gives a) (refuses t) g h = absurd (no_refusal form file a h.fault g h.refused)
-one_convert form file (gives a) (unreadable t) g h = absurd h
-one_convert form file (refuses s) (gives b) g h = absurd (no_refusal form file b g.fault h g.refused)
-one_convert form file (refuses s) (refuses t) g h = ap refuses (g.line_is ∙ (ap refusal (one_fault form file g.fault h.fault g.refused h.refused) ∙ sym h.line_is))
-one_convert form file (refuses s) (unreadable t) g h = absurd h
-one_convert form file (unreadable s) w g h = absurd g
+one_convert form file =
+    one_readable_reply (Converts form file) (TellsFault (IsConvertRefused form file)) (one_line form file) (one_refusal_line (IsConvertRefused form file) (one_fault form file))
+    (λ a b g h. no_refusal form file a h.fault g h.refused)

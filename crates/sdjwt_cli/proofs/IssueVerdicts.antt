@@ -15,7 +15,8 @@ use Rattle.issuer_core.proofs.OneToken.{one_token, issued_not_refused}
 use Rattle.issuer_core.proofs.OneRefusal.{one_refusal}
 use Rattle.cli_parts.specs.Lines.{line, unreadable_line}
 use Rattle.sdjwt_cli.specs.Issuing.{IsAsked, Issues, DoesNotIssue, HasNoOrder, no_order, no_seed}
-use Rattle.cli_parts.specs.Replies.{Reply, gives, refuses, unreadable}
+use Rattle.cli_parts.specs.Replies.{Reply}
+use Rattle.cli_parts.proofs.OneReply.{one_reply}
 use Rattle.sdjwt_cli.specs.Answers.{IssueAnswers}
 
 -- what the files ask for is one
@@ -63,12 +64,6 @@ one_reason order seed a b (no_seed said says short is) (no_order g q d also) = a
 one_reason order seed a b (no_seed said says short is) (no_seed other also_says also_short also) = is ∙ sym also
 
 pub one_issue : (order seed : List ℕ) (v w : Reply) → IssueAnswers order seed v → IssueAnswers order seed w → v ≡ w
-one_issue order seed (gives a) (gives b) g h = ap gives (printed order seed a b g h)
-one_issue order seed (gives a) (refuses b) g h = absurd (printed_not_refused order seed a b g h)
-one_issue order seed (gives a) (unreadable b) g h = absurd (asked_not_unreadable order seed g.order g.key g.seed b g.asked h)
-one_issue order seed (refuses a) (gives b) g h = absurd (printed_not_refused order seed b a h g)
-one_issue order seed (refuses a) (refuses b) g h = ap refuses (refused order seed a b g h)
-one_issue order seed (refuses a) (unreadable b) g h = absurd (asked_not_unreadable order seed g.order g.key g.seed b g.asked h)
-one_issue order seed (unreadable a) (gives b) g h = absurd (asked_not_unreadable order seed h.order h.key h.seed a h.asked g)
-one_issue order seed (unreadable a) (refuses b) g h = absurd (asked_not_unreadable order seed h.order h.key h.seed a h.asked g)
-one_issue order seed (unreadable a) (unreadable b) g h = ap unreadable (one_reason order seed a b g h)
+one_issue order seed =
+    one_reply (Issues order seed) (DoesNotIssue order seed) (HasNoOrder order seed) (printed order seed) (refused order seed) (one_reason order seed) (printed_not_refused order seed)
+    (λ a b g h. asked_not_unreadable order seed g.order g.key g.seed b g.asked h) (λ a b g h. asked_not_unreadable order seed g.order g.key g.seed b g.asked h)

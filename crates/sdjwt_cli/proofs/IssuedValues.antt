@@ -1,5 +1,5 @@
 -- A token that is issued for the worked order: each premise of the law of presenting is met.
-use Rattle.std.proofs.Common.{◌≡◌, ℕ, zero, suc, ◌+◌, ◌≤◌, List, [], ◌∷◌, ◌++◌, length, length-append, true, false, bytes_eq, Option, None, Some, IsUtf8, codes, inl, inr, rules, refl, sym, ap, subst, ◌∙◌, arith}
+use Rattle.std.proofs.Common.{◌≡◌, ℕ, zero, suc, ◌+◌, ◌≤◌, List, [], ◌∷◌, ◌++◌, length, length-append, true, false, bytes_eq, Option, None, Some, IsUtf8, codes, rules, refl, sym, ap, subst, ◌∙◌, arith}
 use Rattle.std.specs.Prelude.{slice_get}
 use Rattle.json.proofs.Printed.Utf8.{are_ascii, IsUtf8-are_ascii}
 use Rattle.json.specs.Print.{escape_byte}
@@ -13,6 +13,7 @@ use Rattle.rand_chacha.specs.Block.{block_word, double_rounds, diagonal_round, q
 use Rattle.rand_core.specs.Steps.{u32_at}
 use Rattle.issuer_core.specs.Salts.{salt_of, salt_piece}
 use Rattle.claim_tree.specs.Lists.{StandsAt, In, Repeats}
+use Rattle.claim_tree.proofs.Lists.{list_any-from}
 use Rattle.claim_tree.specs.Path.{tree_at}
 use Rattle.digest_sites.specs.Given.{Given}
 use Rattle.digest_sites.specs.Reserved.{sd_name, dots_name}
@@ -131,20 +132,10 @@ apart : first_digest ≡ second_digest → ⊥
 apart e = let clash : true ≡ false = ap (bytes_eq first_digest) e in cc clash
 
 first_free : In (codes "family_name") protected_names → ⊥
-first_free (inl e) = cc e
-first_free (inr (inl e)) = cc e
-first_free (inr (inr (inl e))) = cc e
-first_free (inr (inr (inr (inl e)))) = cc e
-first_free (inr (inr (inr (inr (inl e))))) = cc e
-first_free (inr (inr (inr (inr (inr none))))) = none
+first_free there = let clash : false ≡ true = list_any-from (bytes_eq (codes "family_name")) protected_names (codes "family_name") there refl in cc clash
 
 second_free : In (codes "given_name") protected_names → ⊥
-second_free (inl e) = cc e
-second_free (inr (inl e)) = cc e
-second_free (inr (inr (inl e))) = cc e
-second_free (inr (inr (inr (inl e)))) = cc e
-second_free (inr (inr (inr (inr (inl e))))) = cc e
-second_free (inr (inr (inr (inr (inr none))))) = none
+second_free there = let clash : false ≡ true = list_any-from (bytes_eq (codes "given_name")) protected_names (codes "given_name") there refl in cc clash
 
 passes : (error : IssueError) → AppliesToOrder order error → ⊥
 passes Memory h = h

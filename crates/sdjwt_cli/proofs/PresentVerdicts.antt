@@ -9,14 +9,15 @@ use Rattle.holder_core.specs.PresentRefusal.{present_refusal_text}
 use Rattle.holder_core.specs.declared.present_file.PresentFile.{PresentFile}
 use Rattle.holder_core.proofs.PresentFiles as orders
 use Rattle.holder_core.proofs.OnePresentation.{HasOneSignature, one_presented, presented_not_refused, one_cause}
-use Rattle.cli_parts.specs.Lines.{line, unreadable_line}
+use Rattle.cli_parts.specs.Lines.{line}
 use Rattle.selection_core.specs.Never.{never_rule}
 use Rattle.sdjwt_cli.specs.Presenting.{signing_key, IsPresentedFor, IsNotPresentedFor, Presents, DoesNotPresent}
-use Rattle.cli_parts.specs.Replies.{Reply, gives, refuses, unreadable}
+use Rattle.cli_parts.specs.Replies.{Reply}
 use Rattle.sdjwt_cli.specs.Answers.{PresentAnswers}
 use Rattle.selection_core.proofs.NeverShown.{never_decided}
 use Rattle.cli_parts.specs.Telling.{TellsFileFault}
-use Rattle.holder_core.specs.PresentFile.{IsPresentFileRefused}
+use Rattle.holder_core.specs.PresentFile.{IsPresentFile, IsPresentFileRefused}
+use Rattle.cli_parts.proofs.OneReply.{one_reply, one_unreadable_line}
 
 one_signature : (key : List ℕ) → HasOneSignature (IsGood (hs256_key key))
 one_signature key head body one other h k = h ∙ sym k
@@ -37,9 +38,6 @@ refused order token now a b g h =
     let one = one_cause never_rule h.said.never (never_decided h.said.never) token h.said.ask (IsGood (hs256_key key)) (one_signature key) now g.error h.error g.memory g.signed h.memory h.signed applies h.refused in
     g.line_is ∙ (ap (λ (e : PresentError). line (present_refusal_text e)) one ∙ sym h.line_is)
 
-no_order : (order : List ℕ) (a b : List ℕ) → TellsFileFault (IsPresentFileRefused order) a → TellsFileFault (IsPresentFileRefused order) b → a ≡ b
-no_order order a b g h = g.line_is ∙ (ap (unreadable_line 1) (orders.one_fault order g.fault h.fault g.refused h.refused g.cause h.cause) ∙ sym h.line_is)
-
 printed_not_refused : (order token : List ℕ) (now : ℕ) (a b : List ℕ) → Presents order token now a → DoesNotPresent order token now b → ⊥
 printed_not_refused order token now a b g h = neither (presented_not_refused never_rule g.said.never (never_decided g.said.never) token g.said.ask (IsGood (hs256_key key)) (one_signature key) now g.parts h.error g.presented g.short applies)
   where
@@ -53,19 +51,12 @@ printed_not_refused order token now a b g h = neither (presented_not_refused nev
     neither (inl is) = h.memory is
     neither (inr is) = h.signed is
 
-printed_has_order : (order token : List ℕ) (now : ℕ) (a b : List ℕ) → Presents order token now a → TellsFileFault (IsPresentFileRefused order) b → ⊥
-printed_has_order order token now a b g h = h.cause (orders.not_both order g.said h.fault g.is_order h.refused)
-
-refused_has_order : (order token : List ℕ) (now : ℕ) (a b : List ℕ) → DoesNotPresent order token now a → TellsFileFault (IsPresentFileRefused order) b → ⊥
-refused_has_order order token now a b g h = h.cause (orders.not_both order g.said h.fault g.is_order h.refused)
+-- a file that says an order is not unreadable
+has_order : (order : List ℕ) (said : PresentFile) (b : List ℕ) → IsPresentFile order said → TellsFileFault (IsPresentFileRefused order) b → ⊥
+has_order order said b is h = h.cause (orders.not_both order said h.fault is h.refused)
 
 pub one_present : (order token : List ℕ) (now : ℕ) (v w : Reply) → PresentAnswers order token now v → PresentAnswers order token now w → v ≡ w
-one_present order token now (gives a) (gives b) g h = ap gives (printed order token now a b g h)
-one_present order token now (gives a) (refuses b) g h = absurd (printed_not_refused order token now a b g h)
-one_present order token now (gives a) (unreadable b) g h = absurd (printed_has_order order token now a b g h)
-one_present order token now (refuses a) (gives b) g h = absurd (printed_not_refused order token now b a h g)
-one_present order token now (refuses a) (refuses b) g h = ap refuses (refused order token now a b g h)
-one_present order token now (refuses a) (unreadable b) g h = absurd (refused_has_order order token now a b g h)
-one_present order token now (unreadable a) (gives b) g h = absurd (printed_has_order order token now b a h g)
-one_present order token now (unreadable a) (refuses b) g h = absurd (refused_has_order order token now b a h g)
-one_present order token now (unreadable a) (unreadable b) g h = ap unreadable (no_order order a b g h)
+one_present order token now =
+    one_reply (Presents order token now) (DoesNotPresent order token now) (TellsFileFault (IsPresentFileRefused order)) (printed order token now) (refused order token now)
+    (one_unreadable_line (IsPresentFileRefused order) (orders.one_fault order)) (printed_not_refused order token now)
+    (λ a b g h. has_order order g.said b g.is_order h) (λ a b g h. has_order order g.said b g.is_order h)

@@ -16,9 +16,7 @@ use Rattle.json_form.proofs.Tokens as tokens
 use Rattle.digest_sites.specs.Given.{Given}
 use Rattle.disclosure.specs.declared.digests.HashAlg.{HashAlg}
 use Rattle.verifier_core.specs.Verdict.{Gives, IsNoDisclosure}
-use Rattle.cli_parts.specs.Lines.{refusal}
 use Rattle.sdjwt_cli.specs.Show.{show_lines, IsHead, IsShownPayload, Shows, IsShowUnreadAt, IsShowRefused, form, header, payload, hash, disclosure}
-use Rattle.cli_parts.specs.Telling.{TellsFault}
 use Rattle.verifier_core.proofs.CheckSteps.{one_list, read_unread}
 
 -- a disclosure that is read is not one that is not
@@ -97,7 +95,7 @@ one_shown file a b g h =
     let bindings : g.token.parts.binding ≡ h.token.parts.binding = ap (λ (x : Token). x.parts.binding) same in
     g.lines ∙ (same_lines g.header h.header g.payload h.payload g.shown h.shown g.token.parts.binding h.token.parts.binding heads payloads all bindings ∙ sym h.lines)
 
-no_refusal : (file a : List ℕ) (f : Fault) → Shows file a → IsShowRefused file f → ⊥
+pub no_refusal : (file a : List ℕ) (f : Fault) → Shows file a → IsShowRefused file f → ⊥
 no_refusal file a f g (form r) = tokens.not_both file g.token f g.reads r
 no_refusal file a f g (header p r u e) = headless file p g.token g.header r g.reads u g.head
 no_refusal file a f g (payload p h r i n e) = bodiless file p g.token g.payload r g.reads n g.body.body
@@ -107,10 +105,7 @@ no_refusal file a f g (disclosure p h b alg r i j u) =
     let read : AllZip (Gives g.hash) p.parts.disclosures g.shown = subst (λ (x : Token). AllZip (Gives g.hash) x.parts.disclosures g.shown) same g.disclosures in
     all_read g.hash u.front u.text u.rest g.shown (subst (λ (ds : List Text). AllZip (Gives g.hash) ds g.shown) u.stand read) u.unread
 
-pub shown_not_refused : (file a t : List ℕ) → Shows file a → TellsFault (IsShowRefused file) t → ⊥
-shown_not_refused file a t g h = no_refusal file a h.fault g h.refused
-
-same_fault : (file : List ℕ) (f g : Fault) → IsShowRefused file f → IsShowRefused file g → f ≡ g
+pub same_fault : (file : List ℕ) (f g : Fault) → IsShowRefused file f → IsShowRefused file g → f ≡ g
 same_fault file f g (form r) (form s) = tokens.one_refusal file f g r s
 same_fault file f g (form r) (header q s v d) = absurd (tokens.not_both file q f s r)
 same_fault file f g (form r) (payload q k s l m d) = absurd (tokens.not_both file q f s r)
@@ -136,6 +131,3 @@ same_fault file f g (disclosure p h b alg r i j u) (header q s v d) = absurd (he
 same_fault file f g (disclosure p h b alg r i j u) (payload q k s l m d) = absurd (bodiless file q p b s r m j.body)
 same_fault file f g (disclosure p h b alg r i j u) (hash q k c s l m o d) = absurd (hashless file q p c b alg s r m o j)
 same_fault file f g (disclosure p h b alg r i j u) (disclosure q k c other s l m v) = same_unread file p q alg other f g r s u v
-
-pub one_refusal : (file s t : List ℕ) → TellsFault (IsShowRefused file) s → TellsFault (IsShowRefused file) t → s ≡ t
-one_refusal file s t g h = g.line_is ∙ (ap refusal (same_fault file g.fault h.fault g.refused h.refused) ∙ sym h.line_is)

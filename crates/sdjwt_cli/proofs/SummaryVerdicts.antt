@@ -14,7 +14,8 @@ use Rattle.issuer_core.proofs.OneToken.{one_token, issued_not_refused}
 use Rattle.issuer_core.proofs.OneRefusal.{one_refusal}
 use Rattle.holder_core.specs.Present.{IsPresented}
 use Rattle.holder_core.proofs.OnePresentation.{HasOneSignature, one_presented}
-use Rattle.cli_parts.specs.Replies.{Reply, gives, refuses, unreadable}
+use Rattle.cli_parts.specs.Replies.{Reply}
+use Rattle.cli_parts.proofs.OneReply.{one_readable_reply}
 use Rattle.sdjwt_cli.specs.Answers.{GenAnswers}
 use Rattle.sdjwt_cli.specs.Generated.{generated, generated_seed, generated_key, generated_ask}
 use Rattle.cli_parts.specs.Lines.{line}
@@ -49,10 +50,4 @@ module _ (n : ℕ) where
       issued_not_refused (maker_of generated_seed) (generated n) generated_key g.issued is.passes is.differ is.laid is.short h.error h.lowest.applies
 
   pub one_gen : (v w : Reply) → GenAnswers n v → GenAnswers n w → v ≡ w
-  one_gen (gives a) (gives b) g h = ap gives (summarized a b g h)
-  one_gen (gives a) (refuses b) g h = absurd (not_both a b g h)
-  one_gen (gives a) (unreadable b) g h = absurd h
-  one_gen (refuses a) (gives b) g h = absurd (not_both b a h g)
-  one_gen (refuses a) (refuses b) g h = ap refuses (refused a b g h)
-  one_gen (refuses a) (unreadable b) g h = absurd h
-  one_gen (unreadable a) w g h = absurd g
+  one_gen = one_readable_reply (Summarizes n) (DoesNotSummarize n) summarized refused not_both

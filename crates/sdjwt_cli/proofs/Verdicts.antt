@@ -9,13 +9,16 @@ use Rattle.sd_outside.specs.declared.status.Status.TheVariants.{Done, Refused, U
 use Rattle.json_form.specs.declared.token.Token.{Token}
 use Rattle.json_form.proofs.Tokens as tokens
 use Rattle.sdjwt_cli.specs.Command.{Command, split, show, verify, issue, present, convert, gen, command_of, NamedFile, files_of}
-use Rattle.cli_parts.specs.Lines.{refusal}
-use Rattle.sdjwt_cli.specs.Split.{split_lines}
+use Rattle.cli_parts.specs.Telling.{TellsFault}
+use Rattle.cli_parts.proofs.OneReply.{one_readable_reply, one_refusal_line}
+use Rattle.json_form.specs.Token.{IsTextRefused}
+use Rattle.sdjwt_cli.specs.Split.{Splits, split_lines}
+use Rattle.sdjwt_cli.specs.Show.{Shows, IsShowRefused}
 use Rattle.cli_parts.specs.Replies.{Reply, gives, refuses, unreadable}
 use Rattle.sdjwt_cli.specs.Answers.{SplitAnswers, ShowAnswers, Answers, AreFetched, AreTold, IsAnswered}
 use Rattle.cli_parts.specs.Outside.{Outside}
 use Rattle.sdjwt_cli.specs.Run.{Ends}
-use Rattle.sdjwt_cli.proofs.ShowVerdicts.{one_shown, shown_not_refused, one_refusal}
+use Rattle.sdjwt_cli.proofs.ShowVerdicts.{one_shown, no_refusal, same_fault}
 use Rattle.sdjwt_cli.proofs.VerifyVerdicts.{one_verify}
 use Rattle.sdjwt_cli.proofs.IssueVerdicts.{one_issue}
 use Rattle.sdjwt_cli.proofs.PresentVerdicts.{one_present}
@@ -23,22 +26,12 @@ use Rattle.sdjwt_cli.proofs.ConvertVerdicts.{one_convert}
 use Rattle.sdjwt_cli.proofs.SummaryVerdicts.{one_gen}
 
 one_split : (file : List ℕ) (v w : Reply) → SplitAnswers file v → SplitAnswers file w → v ≡ w
-one_split file (gives a) (gives b) g h = ap gives (g.lines ∙ ap (λ (t : Token). split_lines t.parts) (tokens.one file g.token h.token g.reads h.reads) ∙ sym h.lines)
-one_split file (gives a) (refuses t) g h = absurd (tokens.not_both file g.token h.fault g.reads h.refused)
-one_split file (gives a) (unreadable t) g h = absurd h
-one_split file (refuses s) (gives b) g h = absurd (tokens.not_both file h.token g.fault h.reads g.refused)
-one_split file (refuses s) (refuses t) g h = ap refuses (g.line_is ∙ ap refusal (tokens.one_refusal file g.fault h.fault g.refused h.refused) ∙ sym h.line_is)
-one_split file (refuses s) (unreadable t) g h = absurd h
-one_split file (unreadable s) w g h = absurd g
+one_split file =
+    one_readable_reply (Splits file) (TellsFault (IsTextRefused file)) (λ a b g h. g.lines ∙ ap (λ (t : Token). split_lines t.parts) (tokens.one file g.token h.token g.reads h.reads) ∙ sym h.lines)
+    (one_refusal_line (IsTextRefused file) (tokens.one_refusal file)) (λ a b g h. tokens.not_both file g.token h.fault g.reads h.refused)
 
 one_show : (file : List ℕ) (v w : Reply) → ShowAnswers file v → ShowAnswers file w → v ≡ w
-one_show file (gives a) (gives b) g h = ap gives (one_shown file a b g h)
-one_show file (gives a) (refuses t) g h = absurd (shown_not_refused file a t g h)
-one_show file (gives a) (unreadable t) g h = absurd h
-one_show file (refuses s) (gives b) g h = absurd (shown_not_refused file b s h g)
-one_show file (refuses s) (refuses t) g h = ap refuses (one_refusal file s t g h)
-one_show file (refuses s) (unreadable t) g h = absurd h
-one_show file (unreadable s) w g h = absurd g
+one_show file = one_readable_reply (Shows file) (TellsFault (IsShowRefused file)) (one_shown file) (one_refusal_line (IsShowRefused file) (same_fault file)) (λ a b g h. no_refusal file a h.fault g h.refused)
 
 pub one_answer : (command : Command) (files : List (List ℕ)) (now : ℕ) (v w : Reply) → Answers command files now v → Answers command files now w → v ≡ w
 one_answer (split token) [] now v w g h = absurd g

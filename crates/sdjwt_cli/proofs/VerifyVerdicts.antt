@@ -7,12 +7,13 @@ use Rattle.compact_form.specs.Lowest.{IsLowest}
 use Rattle.verifier_core.specs.declared.policy.Policy.{Policy}
 use Rattle.verifier_core.proofs.Policies as policies
 use Rattle.verifier_core.proofs.OneVerdict as verdicts
-use Rattle.cli_parts.specs.Lines.{line, refusal, unreadable_line}
+use Rattle.cli_parts.specs.Lines.{line, refusal}
 use Rattle.sdjwt_cli.specs.Verify.{Verifies, DoesNotVerify}
-use Rattle.cli_parts.specs.Replies.{Reply, gives, refuses, unreadable}
+use Rattle.cli_parts.specs.Replies.{Reply}
 use Rattle.sdjwt_cli.specs.Answers.{VerifyAnswers}
 use Rattle.cli_parts.specs.Telling.{TellsFileFault}
-use Rattle.verifier_core.specs.PolicyFile.{IsPolicyFileRefused}
+use Rattle.verifier_core.specs.PolicyFile.{IsPolicyFile, IsPolicyFileRefused}
+use Rattle.cli_parts.proofs.OneReply.{one_reply, one_unreadable_line}
 
 printed : (policy token : List ℕ) (now : ℕ) (a b : List ℕ) → Verifies policy token now a → Verifies policy token now b → a ≡ b
 printed policy token now a b g h =
@@ -26,28 +27,18 @@ refused policy token now a b g h =
     let lowest : IsLowest (Fails token h.policy now) g.fault = subst (λ (p : Policy). IsLowest (Fails token p now) g.fault) same g.lowest in
     g.line_is ∙ (ap refusal (verdicts.one_lowest token h.policy now g.fault h.fault lowest h.lowest) ∙ sym h.line_is)
 
-no_policy : (policy : List ℕ) (a b : List ℕ) → TellsFileFault (IsPolicyFileRefused policy) a → TellsFileFault (IsPolicyFileRefused policy) b → a ≡ b
-no_policy policy a b g h = g.line_is ∙ (ap (unreadable_line 1) (policies.one_fault policy g.fault h.fault g.refused h.refused g.cause h.cause) ∙ sym h.line_is)
-
 printed_not_refused : (policy token : List ℕ) (now : ℕ) (a b : List ℕ) → Verifies policy token now a → DoesNotVerify policy token now b → ⊥
 printed_not_refused policy token now a b g h =
     let same : g.policy ≡ h.policy = policies.one_policy policy g.policy h.policy g.is_policy h.is_policy in
     let accepted : IsAccepted token h.policy now g.marked = subst (λ (p : Policy). IsAccepted token p now g.marked) same g.accepted in
     verdicts.accepted_not_refused token h.policy now g.marked h.fault accepted h.lowest
 
-printed_has_policy : (policy token : List ℕ) (now : ℕ) (a b : List ℕ) → Verifies policy token now a → TellsFileFault (IsPolicyFileRefused policy) b → ⊥
-printed_has_policy policy token now a b g h = h.cause (policies.not_both policy g.policy h.fault g.is_policy h.refused)
-
-refused_has_policy : (policy token : List ℕ) (now : ℕ) (a b : List ℕ) → DoesNotVerify policy token now a → TellsFileFault (IsPolicyFileRefused policy) b → ⊥
-refused_has_policy policy token now a b g h = h.cause (policies.not_both policy g.policy h.fault g.is_policy h.refused)
+-- a file that says a policy is not unreadable
+has_policy : (policy : List ℕ) (said : Policy) (b : List ℕ) → IsPolicyFile policy said → TellsFileFault (IsPolicyFileRefused policy) b → ⊥
+has_policy policy said b is h = h.cause (policies.not_both policy said h.fault is h.refused)
 
 pub one_verify : (policy token : List ℕ) (now : ℕ) (v w : Reply) → VerifyAnswers policy token now v → VerifyAnswers policy token now w → v ≡ w
-one_verify policy token now (gives a) (gives b) g h = ap gives (printed policy token now a b g h)
-one_verify policy token now (gives a) (refuses b) g h = absurd (printed_not_refused policy token now a b g h)
-one_verify policy token now (gives a) (unreadable b) g h = absurd (printed_has_policy policy token now a b g h)
-one_verify policy token now (refuses a) (gives b) g h = absurd (printed_not_refused policy token now b a h g)
-one_verify policy token now (refuses a) (refuses b) g h = ap refuses (refused policy token now a b g h)
-one_verify policy token now (refuses a) (unreadable b) g h = absurd (refused_has_policy policy token now a b g h)
-one_verify policy token now (unreadable a) (gives b) g h = absurd (printed_has_policy policy token now b a h g)
-one_verify policy token now (unreadable a) (refuses b) g h = absurd (refused_has_policy policy token now b a h g)
-one_verify policy token now (unreadable a) (unreadable b) g h = ap unreadable (no_policy policy a b g h)
+one_verify policy token now =
+    one_reply (Verifies policy token now) (DoesNotVerify policy token now) (TellsFileFault (IsPolicyFileRefused policy)) (printed policy token now) (refused policy token now)
+    (one_unreadable_line (IsPolicyFileRefused policy) (policies.one_fault policy)) (printed_not_refused policy token now)
+    (λ a b g h. has_policy policy g.policy b g.is_policy h) (λ a b g h. has_policy policy g.policy b g.is_policy h)

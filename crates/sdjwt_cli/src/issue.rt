@@ -1,5 +1,5 @@
 // The command `issue`: the compact text of a new token.
-ghost use Rattle.std.specs.Prelude.{◌≡◌, ◌≤◌, ℕ, List, IfOk, IfErr, string_bytes};
+ghost use Rattle.std.specs.Prelude.{◌≤◌, ℕ, List, IfOk, IfErr, string_bytes};
 ghost use Rattle.std.specs.Array.{IsFirstChunk};
 ghost use Rattle.sd_outside.specs.Limits.{seed_len};
 ghost use Rattle.claim_tree.specs.Tree.{IsRanged, depth};
@@ -9,7 +9,7 @@ ghost use Rattle.issuer_core.specs.Order.{order_of as order_said};
 ghost use Rattle.sdjwt_cli.specs.Issuing.{IsIssuedBy, TellsRefusal, Issues, DoesNotIssue, HasNoOrder};
 ghost use Rattle.cli_parts.specs.Stops.{OnRefused, OnUnread, OnUnreadable};
 
-use cli_parts::{Stop, as_line, short_seed_line, unreadable};
+use cli_parts::{Stop, as_line, readable, short_seed_line};
 use compact_form::{Parts, print};
 use hmac_sign::HsKey;
 use issuer_core::{IssueError, IssueFile, Order, issue_owned, read_order, refusal_line};
@@ -17,21 +17,6 @@ use std::alloc::Global;
 
 // The bytes of a seed.
 pub(crate) const SEED_LEN: usize = 32;
-
-// What an order file asks for.
-fn order_of(alloc: Global, file: &[u8]) -> Result<IssueFile, Stop>
-    ensures order { IfOk result (IsOrderFile file.now) }
-    ensures depth { IfOk result (λ asked. depth (tree_of asked.order.payload) ≤ 127) }
-    ensures ranged { IfOk result (λ asked. IsRanged (tree_of asked.order.payload)) }
-    ensures unreadable { (seed_file : List ℕ) → IfErr result (λ stop. OnUnreadable stop (HasNoOrder file.now seed_file)) }
-    ensures fit { IfErr result (λ stop. OnRefused stop (λ _. ⊥)) }
-    ensures read { IfErr result (λ stop. OnUnread stop (λ _. ⊥)) }
-{
-    match read_order(alloc, file) {
-        Ok(asked) => Ok(asked),
-        Err(fault) => Err(unreadable(alloc, fault)),
-    }
-}
 
 /// What is issued for an order with a seed and a key.
 pub(crate) fn issue_parts(
@@ -66,10 +51,8 @@ fn issue_for(alloc: Global, asked: IssueFile, seed: &[u8; SEED_LEN]) -> Result<S
     ensures read { IfErr result (λ stop. OnUnread stop (λ _. ⊥)) }
 {
     let IssueFile { order, key } = asked;
-    match issue_parts(alloc, order, seed, key) {
-        Ok(parts) => Ok(as_line(print(alloc, &parts)?)?),
-        Err(stop) => Err(stop),
-    }
+    let parts = issue_parts(alloc, order, seed, key)?;
+    Ok(as_line(print(alloc, &parts)?)?)
 }
 
 /// The answer to an order file and a seed file.
@@ -79,10 +62,7 @@ pub fn issue(alloc: Global, order_file: &[u8], seed_file: &[u8]) -> Result<Strin
     ensures unreadable { IfErr result (λ stop. OnUnreadable stop (HasNoOrder order_file.now seed_file.now)) }
     ensures read { IfErr result (λ stop. OnUnread stop (λ _. ⊥)) }
 {
-    let asked = match order_of(alloc, order_file) {
-        Ok(asked) => asked,
-        Err(stop) => return Err(stop),
-    };
+    let asked = readable(alloc, read_order(alloc, order_file))?;
     match seed_file.first_chunk::<SEED_LEN>() {
         Some(seed) => issue_for(alloc, asked, seed),
         None => Err(Stop::Unreadable(short_seed_line(alloc)?)),

@@ -14,7 +14,7 @@ ghost use Rattle.cli_parts.specs.Lines.{line};
 ghost use Rattle.cli_parts.specs.Telling.{TellsFileFault};
 
 use claim_tree::{Path, PathList};
-use cli_parts::{Stop, as_line, unreadable};
+use cli_parts::{Stop, as_line, readable};
 use compact_form::{Parts, print};
 use digest_index::Steps;
 use hmac_sign::{Hs256Key, KeyShort};
@@ -57,19 +57,6 @@ pub(crate) fn present_parts(
     );
     let mut steps = Steps::new();
     holder_core::present(alloc, token_file, ask, &consent, key, now, &mut steps)
-}
-
-// What a present order says.
-fn order_of(alloc: Global, file: &[u8]) -> Result<PresentFile, Stop>
-    ensures order { IfOk result (IsPresentFile file.now) }
-    ensures unreadable { IfErr result (λ stop. OnUnreadable stop (TellsFileFault (IsPresentFileRefused file.now))) }
-    ensures fit { IfErr result (λ stop. OnRefused stop (λ _. ⊥)) }
-    ensures read { IfErr result (λ stop. OnUnread stop (λ _. ⊥)) }
-{
-    match read_present(alloc, file) {
-        Ok(said) => Ok(said),
-        Err(fault) => Err(unreadable(alloc, fault)),
-    }
 }
 
 // The line of what is presented, or of the refusal.
@@ -117,8 +104,6 @@ pub fn present(
     ensures unreadable { IfErr result (λ stop. OnUnreadable stop (TellsFileFault (IsPresentFileRefused order_file.now))) }
     ensures read { IfErr result (λ stop. OnUnread stop (λ _. ⊥)) }
 {
-    match order_of(alloc, order_file) {
-        Ok(said) => present_for(alloc, said, token_file, now),
-        Err(stop) => Err(stop),
-    }
+    let said = readable(alloc, read_present(alloc, order_file))?;
+    present_for(alloc, said, token_file, now)
 }

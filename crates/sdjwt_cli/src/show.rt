@@ -1,14 +1,11 @@
 // The command `show`: the JSON of a token, unchecked.
-ghost use Rattle.std.specs.Prelude.{◌≡◌, ◌^◌, ◌<◌, ◌++◌, ℕ, length, List, IfOk, IfErr, OnOk, IsErrOf, codes, string_bytes};
+ghost use Rattle.std.specs.Prelude.{◌≡◌, ◌^◌, ◌<◌, ◌++◌, length, IfOk, IfErr, OnOk, IsErrOf, codes, string_bytes};
 ghost use Rattle.std.specs.Fmt.{decimal};
-ghost use Rattle.std.specs.Option.{option_map};
 ghost use Rattle.claim_tree.specs.Tree.{IsRanged};
 ghost use Rattle.claim_tree.specs.JsonText.{json_text};
 ghost use Rattle.claim_tree.specs.View.{tree_of};
-ghost use Rattle.jws_part.specs.Part.{IsBody, IsNoObject};
 ghost use Rattle.jws_part.specs.Header.{IsHeaderUnreadable};
 ghost use Rattle.disclosure.specs.DisclosureRefusals.{IsDisclosureRefused};
-ghost use Rattle.compact_form.specs.Views.{jwt_of};
 ghost use Rattle.cli_parts.specs.Lines.{line};
 ghost use Rattle.sdjwt_cli.specs.Show.{IsHead, kind_text, shown_line, IsShowUnreadAt, Shows, IsShowRefused};
 ghost use Rattle.compact_form.specs.Faults.{unplaced};
@@ -106,14 +103,9 @@ fn push_shown(
     ensures ok { OnOk result (AddsLine hash i part.now (string_bytes text.old) (string_bytes text.new)) }
     ensures refused { IfErr result (IsDisclosureRefused part.now) }
 {
-    let read = match reader.read_disclosed(alloc, part) {
-        Ok(read) => read,
-        Err(error) => return Err(error),
-    };
-    match push_read(alloc, text, i, hash, part, &read) {
-        Ok(()) => Ok(()),
-        Err(NoMemory) => Err(DisclosureError::Memory),
-    }
+    let read = reader.read_disclosed(alloc, part)?;
+    push_read(alloc, text, i, hash, part, &read)?;
+    Ok(())
 }
 
 // Why a token is not shown.

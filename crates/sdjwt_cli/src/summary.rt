@@ -133,8 +133,6 @@ pub(crate) fn summary(alloc: Global, count: u32) -> Result<String, Stop>
     ensures readable { IfErr result (λ stop. OnUnreadable stop (λ _. ⊥)) }
     ensures read { IfErr result (λ stop. OnUnread stop (λ _. ⊥)) }
 {
-    match issue_order(alloc, count) {
-        Ok(issued) => Ok(summarize(alloc, count, &issued)?),
-        Err(stop) => Err(stop),
-    }
+    let issued = issue_order(alloc, count)?;
+    Ok(summarize(alloc, count, &issued)?)
 }

@@ -4,7 +4,7 @@
 
 mod tools;
 
-use cli_parts::{Ending, seconds, words};
+use cli_parts::{Ending, exit_code, seconds, words};
 use sd_outside::{HostCabinet, HostSink, HostSource, Status};
 use std::process::ExitCode;
 use tools::run_tools;
@@ -29,12 +29,5 @@ fn status(rt: &HostRuntime) -> Result<Status, Ending> {
 }
 
 fn main(rt: HostRuntime) -> ExitCode {
-    let status = match status(&rt) {
-        Ok(status) => status,
-        Err(ending) => {
-            let _ = rt.eprintln(ending.line());
-            ending.status()
-        }
-    };
-    ExitCode::from(status.number())
+    exit_code(status(&rt), &mut HostSink::new(rt.stderr()))
 }

@@ -61,26 +61,22 @@ fn byte_named(name: &str) -> Option<&'static str> {
     None
 }
 
-fn number_of(text: &str) -> Option<usize> {
-    text.parse().ok()
+// The number before the first of these signs, and what stands behind it.
+fn counted(short: &str, sign: char) -> Option<(usize, &str)> {
+    let (count, rest) = short.split_once(sign)?;
+    Some((count.parse().ok()?, rest))
 }
 
 // The text for which this stands: so many pieces, growing texts, the front of a text, or the text of a name.
 fn meant(alloc: Global, names: &Names, short: &str) -> Result<String, Trouble> {
-    if let Some((count, piece)) = short.split_once('*') {
-        if let Some(count) = number_of(count) {
-            return repeated(alloc, count, piece);
-        }
+    if let Some((count, piece)) = counted(short, '*') {
+        return repeated(alloc, count, piece);
     }
-    if let Some((count, piece)) = short.split_once('^') {
-        if let Some(count) = number_of(count) {
-            return growing(alloc, count, piece);
-        }
+    if let Some((count, piece)) = counted(short, '^') {
+        return growing(alloc, count, piece);
     }
-    if let Some((count, name)) = short.split_once('/') {
-        if let Some(count) = number_of(count) {
-            return front(alloc, names, count, name);
-        }
+    if let Some((count, name)) = counted(short, '/') {
+        return front(alloc, names, count, name);
     }
     let text = names.find(short).or(byte_named(short));
     let text = text.ok_or(Trouble::Unread("no text has this name"))?;

@@ -5,19 +5,17 @@ ghost use Rattle.sd_outside.specs.Causes.{Rose};
 ghost use Rattle.cli_parts.specs.Outside.{outside, stream};
 ghost use Rattle.cli_parts.specs.Runs.{IsFetched, MissesWord, RunKeeps};
 ghost use Rattle.cli_parts.specs.Stops.{IsReply, OnRefused, OnUnread, OnUnreadable};
-ghost use Rattle.cli_parts.specs.Telling.{TellsFileFault};
 ghost use Rattle.compact_form.specs.Compact.{AreWords};
 ghost use Rattle.selection_core.specs.Never.{Judges, never_rule};
 ghost use Rattle.wallet_core.specs.Meets.{Meets};
 ghost use Rattle.wallet_core.specs.Picked.{IsPicked, IsFewest, HasNoAnswer};
-ghost use Rattle.wallet_core.specs.QueryFile.{IsQueryFile, IsQueryFileRefused};
 ghost use Rattle.wallet_core.specs.WalletRun.{PicksFromFiles, WalletAnswers, WalletEnds, none_text, picked_text};
 ghost use Rattle.wallet_core.specs.declared.error.WalletError.TheVariants.{NoAnswer};
 
 use crate::words::wallet_words;
-use crate::{CredentialList, Picked, Query, QueryFile, WalletError, answer, read_query};
+use crate::{CredentialList, Picked, Query, WalletError, answer, read_query};
 use claim_tree::{Path, PathList};
-use cli_parts::{FETCH_MAX, Stop, as_line, fetch_file, finish, tell, unreadable};
+use cli_parts::{FETCH_MAX, Stop, as_line, fetch_file, finish, readable, tell};
 use compact_form::{Place, Refusal, placed_line, print};
 use digest_index::Steps;
 use sd_outside::{Cabinet, NoMemory, Sink, Status};
@@ -40,26 +38,10 @@ fn fetch_tokens<C: Cabinet>(
 {
     let mut held = CredentialList::new(alloc);
     for (k, name) in names.iter().enumerate() {
-        let file = match fetch_file(alloc, cab, name.as_str(), FETCH_MAX, k + 1) {
-            Ok(file) => file,
-            Err(stop) => return Err(stop),
-        };
+        let file = fetch_file(alloc, cab, name.as_str(), FETCH_MAX, k + 1)?;
         held.push(file)?;
     }
     Ok(held)
-}
-
-// The query of a file, or the line that tells why there is none.
-fn query_of(alloc: Global, file: &[u8]) -> Result<QueryFile, Stop>
-    ensures query { IfOk result (IsQueryFile file.now) }
-    ensures unreadable { IfErr result (λ stop. OnUnreadable stop (TellsFileFault (IsQueryFileRefused file.now))) }
-    ensures fit { IfErr result (λ stop. OnRefused stop (λ _. ⊥)) }
-    ensures read { IfErr result (λ stop. OnUnread stop (λ _. ⊥)) }
-{
-    match read_query(alloc, file) {
-        Ok(said) => Ok(said),
-        Err(fault) => Err(unreadable(alloc, fault)),
-    }
 }
 
 // The answer where no place is shown to which a path of `never` leads.
@@ -108,10 +90,7 @@ pub fn answer_files(alloc: Global, query_file: &[u8], held: &CredentialList) -> 
     ensures replies { IsReply (WalletAnswers query_file.now held.now) result }
     ensures read { IfErr result (λ stop. OnUnread stop (λ _. ⊥)) }
 {
-    let said = match query_of(alloc, query_file) {
-        Ok(said) => said,
-        Err(stop) => return Err(stop),
-    };
+    let said = readable(alloc, read_query(alloc, query_file))?;
     match answer_shown(alloc, held, &said.query, &said.never) {
         Ok(choice) => Ok(picked_lines(alloc, &choice)?),
         Err(WalletError::Memory) => Err(Stop::Memory),
@@ -132,14 +111,8 @@ fn fetch_answer<C: Cabinet>(
     ensures held { (other : List ℕ) → C.holds cab.new other ≡ C.holds cab.old other }
     ensures later { C.faults cab.old ≤ C.faults cab.new }
 {
-    let file = match fetch_file(alloc, cab, query, FETCH_MAX, 0) {
-        Ok(file) => file,
-        Err(stop) => return Err(stop),
-    };
-    let held = match fetch_tokens(alloc, cab, tokens) {
-        Ok(held) => held,
-        Err(stop) => return Err(stop),
-    };
+    let file = fetch_file(alloc, cab, query, FETCH_MAX, 0)?;
+    let held = fetch_tokens(alloc, cab, tokens)?;
     answer_files(alloc, file.bytes(), &held)
 }
 

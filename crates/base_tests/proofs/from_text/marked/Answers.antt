@@ -4,7 +4,7 @@ use Rattle.claim_tree.specs.View.{tree_of}
 use Rattle.marked_tree.specs.Choice.{IsUnmixed}
 use Rattle.marked_tree.specs.Paths.{same_path}
 use Rattle.marked_tree.proofs.LeastChoice.{unmixed_mark}
-use Rattle.base_tests.proofs.selection_tests.marked.Goals as goal
+use Rattle.base_tests.proofs.from_text.marked.Goals as goal
 
 pub mark-requires-clause-few : goal.mark-requires-clause-few
 mark-requires-clause-few c = omega (arith, distinct_count-le same_path c.in_ok-paths.paths, c.in_ok-paths.ensures)

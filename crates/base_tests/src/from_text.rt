@@ -1,0 +1,49 @@
+// What several tests read from texts: paths, values, and values with marks.
+ghost use Rattle.std.specs.Prelude.{◌≤◌, length, IfOk};
+ghost use Rattle.claim_tree.specs.Tree.{depth, IsRanged};
+ghost use Rattle.claim_tree.specs.View.{tree_of};
+ghost use Rattle.marked_tree.specs.Choice.{IsUnmixed};
+ghost use Rattle.marked_tree.specs.Marked.{strip as strip_of};
+ghost use Rattle.marked_tree.specs.View.{marked_of};
+
+use claim_tree::{Path, PathList, Tree, read, read_pointer};
+use marked_tree::{Marked, mark};
+use std::alloc::Global;
+use std::test::Fail;
+
+pub(crate) fn path(alloc: Global, pointer: &str) -> Result<Path, Fail> {
+    Ok(read_pointer(alloc, pointer).map_err(|_| "no pointer")?)
+}
+
+// The paths of pointers with blanks between them.
+pub(crate) fn paths_of(alloc: Global, pointers: &str) -> Result<PathList, Fail>
+    ensures { IfOk result (λ paths. length paths ≤ 100) }
+{
+    let mut paths = PathList::new(alloc);
+    for pointer in pointers.split(' ') {
+        paths.push(path(alloc, pointer)?)?;
+    }
+    if paths.len() > 100 {
+        return Err("too many pointers")?;
+    }
+    Ok(paths)
+}
+
+// The value of a JSON text.
+pub(crate) fn value(alloc: Global, text: &str) -> Result<Tree, Fail>
+    ensures depth { IfOk result (λ tree. depth (tree_of tree) ≤ 127) }
+    ensures range { IfOk result (λ tree. IsRanged (tree_of tree)) }
+{
+    Ok(read(alloc, text.as_bytes()).map_err(|_| "not read")?)
+}
+
+// The value of a JSON text with a mark at each of these places.
+pub(crate) fn marked(alloc: Global, text: &str, pointers: &str) -> Result<Marked, Fail>
+    ensures depth { IfOk result (λ marked. depth (strip_of (marked_of marked)) ≤ 127) }
+    ensures range { IfOk result (λ marked. IsRanged (strip_of (marked_of marked))) }
+    ensures unmixed { IfOk result (λ marked. IsUnmixed (marked_of marked)) }
+{
+    let tree = value(alloc, text)?;
+    let paths = paths_of(alloc, pointers)?;
+    Ok(mark(alloc, &tree, &paths)?)
+}
