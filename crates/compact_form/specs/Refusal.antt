@@ -1,11 +1,11 @@
 -- The refusals: their numbers and their printed names.
 use Rattle.std.specs.Prelude.{ℕ, List, codes}
 use Rattle.compact_form.specs.declared.refusal.Refusal.{Refusal}
-use Rattle.compact_form.specs.Condition.{row_of}
+use Rattle.compact_form.specs.Condition.{number_of, name_of}
 
 -- its number and its name
 abbrev pub refusal_row : Refusal → ℕ × List ℕ
-refusal_row (Refusal.Condition condition) = row_of condition
+refusal_row (Refusal.Condition condition) = (number_of condition, name_of condition)
 refusal_row Refusal.PayloadNotObject = (51, codes "payloadNotObject")
 refusal_row Refusal.ReservedInPayload = (52, codes "reservedInPayload")
 refusal_row Refusal.PayloadTooDeep = (53, codes "payloadTooDeep")
@@ -30,6 +30,7 @@ refusal_row Refusal.PayloadDiffers = (83, codes "payloadDiffers")
 refusal_row Refusal.DigestsDiffer = (84, codes "digestsDiffer")
 refusal_row Refusal.DecoysDiffer = (85, codes "decoysDiffer")
 refusal_row Refusal.SdOrderDiffers = (86, codes "sdOrderDiffers")
+refusal_row Refusal.FeedTooLong = (87, codes "feedTooLong")
 
 abbrev pub refusal_number : Refusal → ℕ
 refusal_number refusal = (refusal_row refusal).0
