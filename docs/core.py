@@ -7,7 +7,8 @@
     python3 docs/core.py --names    besides, the definitions of each module with their lines
     python3 docs/core.py --left     besides, what is not reached of modules that are
     python3 docs/core.py --table    the crates, as rows of the table in docs/PROVED.md
-    python3 docs/core.py --check    whether docs/PROVED.md has these rows; status 1 where it has others
+    python3 docs/core.py --check    whether docs/PROVED.md has these rows, and each module of specs/ says in its first line
+                                    whether it is of the core; status 1 where not
 
 It takes the words of the clauses of each root, finds by the `use` lines where each word is defined, and goes on with
 the words of those definitions: so it follows definitions, and not whole modules. A module under `declared` is the
@@ -242,12 +243,22 @@ def totals(core, where):
     return sum(len(row[2]) for row in rows), sum(lines_of(row[2]) for row in rows), len(rows)
 
 
+def mistold(core):
+    """The modules of specs/ that are of the core and say that nobody need read them, or that are not and do not say so."""
+    inside = {(crate, module) for crate, module, _, _ in core.modules()}
+    for crate in CRATES:
+        for path in sorted((TOP / "crates" / crate / "specs").glob("*.antt")):
+            says_so = path.read_text(encoding="utf-8").startswith(("-- For ", "-- Not needed to believe "))
+            if path.stem != "Lib" and says_so == ((crate, path.stem) in inside):
+                yield f"{crate} {path.stem} is " + ("of the core, and says that it is not" if says_so else "not of the core, and does not say so")
+
+
 def check(core):
-    """Whether the document has just the rows of the table; prints those that it lacks."""
+    """Whether the document has just the rows of the table, and modules say whether they are of the core; prints what is wrong."""
     text = (TOP / "docs/PROVED.md").read_text(encoding="utf-8").split("\n")
-    lacking = [row for row in table(core) if row not in text]
-    print("\n".join(lacking) or "docs/PROVED.md has the table of the trusted core")
-    return 1 if lacking else 0
+    wrong = [row for row in table(core) if row not in text] + list(mistold(core))
+    print("\n".join(wrong) or "docs/PROVED.md has the table of the trusted core, and the modules say which of them it has")
+    return 1 if wrong else 0
 
 
 def print_modules(core, options):

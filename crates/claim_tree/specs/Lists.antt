@@ -1,14 +1,14 @@
--- Elements of a list and their places, counted from 0.
+-- Elements of a list and their positions, counted from 0.
 use Rattle.std.specs.Prelude.{◌≡◌, ℕ, zero, suc, ◌<◌, List, [], ◌∷◌, ◌⊎◌}
 use Rattle.claim_tree.specs.Tree.{Text}
 
--- the element at place i is x
+-- the element at position i is x
 abbrev pub StandsAt : {X : Type 0} → List X → ℕ → X → Type 0
 StandsAt [] i x = ⊥
 StandsAt (y ∷ ys) zero x = x ≡ y
 StandsAt (y ∷ ys) (suc i) x = StandsAt ys i x
 
--- the element at place i is such
+-- the element at position i is such
 abbrev pub IsSuchAt : {X : Type 0} → (X → Type 0) → List X → ℕ → Type 0
 IsSuchAt {X} IsSuch xs i = (x : X) × StandsAt xs i x × IsSuch x
 
@@ -17,15 +17,15 @@ abbrev pub In : {X : Type 0} → X → List X → Type 0
 In x [] = ⊥
 In x (y ∷ ys) = (x ≡ y) ⊎ In x ys
 
--- the text at a place equals an earlier one
+-- the text at a position equals an earlier one
 abbrev pub Repeats : List Text → ℕ → Type 0
 Repeats texts place = (text : Text) × StandsAt texts place text × (earlier : ℕ) × (earlier < place) × StandsAt texts earlier text
 
--- nothing fails, at any place
+-- nothing fails, at any position
 abbrev pub AtNone : (ℕ → Type 0) → Type 0
 AtNone Fails = (place : ℕ) → Fails place → ⊥
 
--- it fails at this place, and at no earlier one
+-- it fails at this position, and at no earlier one
 pub record IsLeast (Fails : ℕ → Type 0) (place : ℕ) : Type 0 where
   pub fails : Fails place
   pub first : (earlier : ℕ) → earlier < place → Fails earlier → ⊥

@@ -1,4 +1,5 @@
--- A fact for one reason why a command has no answer, and for what it replies.
+-- Not needed to believe the program's promises: a fact for one reason why a command has no answer,
+-- and for what it replies.
 use Rattle.std.specs.Prelude.{ℕ, List, Result, Ok, Err, string_bytes}
 use Rattle.std.specs.declared.alloc.Global.{Global}
 use Rattle.std.specs.declared.string.String.{String}

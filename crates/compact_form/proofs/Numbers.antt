@@ -1,5 +1,5 @@
 -- A condition has a number of its own, and a fault a condition.
-use Rattle.std.proofs.Common.{◌≡◌, ℕ, ◌==◌, Bool, true, false, cond, List, [], ◌∷◌, find, Option, Some, None, IsSome, is_some, refl, ap, sym, subst, ◌∙◌}
+use Rattle.std.proofs.Common.{◌≡◌, ℕ, ◌==◌, Bool, true, false, cond, List, [], ◌∷◌, find, Option, Some, None, IsSome, is_some, unwrap_or, refl, ap, sym, subst, ◌∙◌}
 use Rattle.std.proofs.lemmas.Bool.{eqb-true, false≢true}
 use Rattle.std.proofs.Math.Bool.{Bool-set}
 use Rattle.compact_form.specs.declared.condition.Condition.{Condition}
@@ -7,7 +7,7 @@ use Rattle.compact_form.specs.declared.fault.Fault.{Fault}
 use Rattle.compact_form.specs.declared.fault.Place.{Place}
 use Rattle.compact_form.specs.Condition.{number_of, conditions, condition_of}
 use Rattle.compact_form.specs.Numbered.{numbered}
-use Rattle.compact_form.specs.Faults.{fault_at, found_condition, failed_of}
+use Rattle.compact_form.specs.Faults.{fault_at, failed_of}
 
 -- two conditions of one number are one
 pub one_condition : (a b : Condition) → number_of a ≡ number_of b → a ≡ b
@@ -39,6 +39,6 @@ found_under n (d ∷ ds) c h = go (number_of d == n) (eqb-true (number_of d) n) 
 pub fault_is : (fault : Fault) → fault ≡ fault_at (failed_of fault) fault.place
 fault_is fault = same_fault fault (fault_at (failed_of fault) fault.place) (sym (go (condition_of fault.number) refl fault.of_condition)) refl
   where
-    go : (found : Option Condition) → condition_of fault.number ≡ found → (some : IsSome found) → number_of (found_condition found some) ≡ fault.number
+    go : (found : Option Condition) → condition_of fault.number ≡ found → (some : IsSome found) → number_of (unwrap_or found Condition.TooLong) ≡ fault.number
     go (Some c) is some = found_under fault.number conditions c is
     go None is some = absurd (false≢true some)

@@ -1,7 +1,6 @@
 -- The fault that names a condition and its place, and the condition that a fault names.
-use Rattle.std.specs.Prelude.{ℕ, Option, Some, None, IsSome, is_some}
+use Rattle.std.specs.Prelude.{ℕ, is_some, unwrap_or}
 use Rattle.std.proofs.Common.{ap}
-use Rattle.std.proofs.lemmas.Bool.{false≢true}
 use Rattle.compact_form.specs.declared.condition.Condition.{Condition}
 use Rattle.compact_form.specs.declared.fault.Fault.{Fault}
 use Rattle.compact_form.specs.declared.fault.Place.{Place}
@@ -24,11 +23,6 @@ unplaced condition = fault_at condition Nowhere
 abbrev pub placed : Condition → ℕ → Fault
 placed condition i = fault_at condition (At i)
 
--- the condition that is found
-abbrev pub found_condition : (found : Option Condition) → IsSome found → Condition
-found_condition (Some condition) is = condition
-found_condition None is = absurd (false≢true is)
-
--- the condition that the fault names
+-- the condition that the fault names: by its type a fault has one
 abbrev pub failed_of : Fault → Condition
-failed_of fault = found_condition (condition_of fault.number) fault.of_condition
+failed_of fault = unwrap_or (condition_of fault.number) Condition.TooLong

@@ -56,6 +56,8 @@ pub enum Refusal {
     DecoysDiffer,
     /// 86: a list `_sd` of an audited token does not ascend.
     SdOrderDiffers,
+    /// 87: the input of a feed is too long.
+    FeedTooLong,
 }
 
 impl Refusal {
@@ -91,6 +93,7 @@ impl Refusal {
             Refusal::DigestsDiffer => 84,
             Refusal::DecoysDiffer => 85,
             Refusal::SdOrderDiffers => 86,
+            Refusal::FeedTooLong => 87,
         }
     }
 
@@ -124,6 +127,7 @@ impl Refusal {
             Refusal::DigestsDiffer => "digestsDiffer",
             Refusal::DecoysDiffer => "decoysDiffer",
             Refusal::SdOrderDiffers => "sdOrderDiffers",
+            Refusal::FeedTooLong => "feedTooLong",
         }
     }
 }

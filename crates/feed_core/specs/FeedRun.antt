@@ -1,9 +1,11 @@
 -- What a run of the feed does to the outside, by the status with which it ends.
-use Rattle.std.specs.Prelude.{◌≡◌, ◌<◌, ◌≤◌, ℕ, List, [], ◌∷◌, Some, codes}
+use Rattle.std.specs.Prelude.{◌≡◌, ◌<◌, ◌≤◌, ℕ, List, [], ◌∷◌, None, Some, codes}
 use Rattle.std.specs.Fmt.{decimal}
 use Rattle.sd_outside.specs.Causes.{Rose}
 use Rattle.sd_outside.specs.declared.status.Status.{Status}
 use Rattle.sd_outside.specs.declared.status.Status.TheVariants.{Done, Refused, Usage, Unread, Unwritten, Memory, Unreadable}
+use Rattle.compact_form.specs.declared.refusal.Refusal.{Refusal}
+use Rattle.compact_form.specs.RefusedText.{refused_text}
 use Rattle.cli_parts.specs.Lines.{line, unread_text}
 use Rattle.cli_parts.specs.Outside.{Outside, Tells}
 use Rattle.cli_parts.specs.Runs.{IsFetched, RunKeeps}
@@ -52,7 +54,7 @@ pub record FeedRefused (words : List (List ℕ)) (before after : FeedOutside) (n
   pub most : ℕ
   pub asks : Asks words before policy most
   pub fed : FedLong policy now most before.source after.source before.files.out.written after.files.out.written
-  pub err : Tells before.files.err after.files.err (line (codes "refused 87 feedTooLong"))
+  pub err : Tells before.files.err after.files.err (line (refused_text Refusal.FeedTooLong None))
 
 pub record FeedUsage (words : List (List ℕ)) (before after : FeedOutside) : Type 0 where
   pub none : (policy : List ℕ) (most : ℕ) → IsFeed words policy most → ⊥

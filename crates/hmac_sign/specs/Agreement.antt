@@ -1,4 +1,4 @@
--- Not needed to believe the program's promises: signers that mean the same.
+-- Signers that mean the same.
 use Rattle.std.specs.Prelude.{◌↔◌, ℕ, List}
 use Rattle.hmac_sign.specs.Signatures.{Meaning}
 

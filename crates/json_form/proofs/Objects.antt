@@ -15,7 +15,8 @@ use Rattle.compact_form.specs.declared.fault.JsonPlace.TheVariants.{NotObject, W
 use Rattle.json_form.specs.declared.token.Token.{Token}
 use Rattle.json_form.specs.declared.signatures.Entries.{Entries}
 use Rattle.json_form.specs.Json.{found_part, has_beside, IsWordTree, AreEntries, IsStray, EntrySays, IsJson}
-use Rattle.json_form.specs.JsonPlaces.{row_of, IsNoWord, IsEntry, flat, first, AreNoEntries, no_list, beside, EntryFails, ObjectFails, payload, signatures, entry, stray, JsonFails, not_json, not_whole, not_object, members, IsFirstPlace, IsJsonPlace}
+use Rattle.compact_form.specs.Lowest.{IsLowestBy}
+use Rattle.json_form.specs.JsonPlaces.{row_of, IsNoWord, IsEntry, flat, first, AreNoEntries, no_list, beside, EntryFails, ObjectFails, payload, signatures, entry, stray, JsonFails, not_json, not_whole, not_object, members, IsJsonPlace}
 use Rattle.json_form.specs.MembersRead.{IsFirstStray, ListHas, HasEntries, itself, listed, MembersSay}
 use Rattle.json_form.proofs.Members.{found_other, beside_kept}
 use Rattle.json_form.proofs.SayOrFail.{says_word, row_no_word, SameEntry, first_at, entry_says_at, lower, upper, entry_says}
@@ -110,10 +111,10 @@ from_payload ms o (signatures named odd) = omega (arith, ap row_of named)
 from_payload ms o (entry m is v) = omega (arith, lower m o v)
 from_payload ms o (stray es e named at s) = omega (arith, ap row_of named)
 
-pub first_payload : (ms : Members) (p : JsonPlace) → IsNoWord ms Payload p → IsFirstPlace (ObjectFails ms) p
+pub first_payload : (ms : Members) (p : JsonPlace) → IsNoWord ms Payload p → IsLowestBy row_of (ObjectFails ms) p
 first_payload ms p w = record { applies = payload w; lowest = λ o applies. omega (arith, row_no_word ms Payload p w, from_payload ms o applies) }
 
-pub first_signatures : (ms : Members) (s : Text) (p : JsonPlace) → Says IsWordTree (found_part ms Payload) s → p ≡ Wrong Signatures → AreNoEntries ms → IsFirstPlace (ObjectFails ms) p
+pub first_signatures : (ms : Members) (s : Text) (p : JsonPlace) → Says IsWordTree (found_part ms Payload) s → p ≡ Wrong Signatures → AreNoEntries ms → IsLowestBy row_of (ObjectFails ms) p
 first_signatures ms s p says is odd = record { applies = signatures is odd; lowest = go }
   where
     go : (o : JsonPlace) → ObjectFails ms o → row_of p ≤ row_of o
@@ -122,7 +123,7 @@ first_signatures ms s p says is odd = record { applies = signatures is odd; lowe
     go o (entry m at v) = omega (arith, ap row_of is, lower m o v)
     go o (stray es e named at w) = omega (arith, ap row_of is, ap row_of named)
 
-pub first_entry : (ms : Members) (s : Text) (entries : Entries) (p : JsonPlace) → Says IsWordTree (found_part ms Payload) s → HasEntries ms entries → IsFirstPlace (EntryFails entries.first) p → IsFirstPlace (ObjectFails ms) p
+pub first_entry : (ms : Members) (s : Text) (entries : Entries) (p : JsonPlace) → Says IsWordTree (found_part ms Payload) s → HasEntries ms entries → IsLowestBy row_of (EntryFails entries.first) p → IsLowestBy row_of (ObjectFails ms) p
 first_entry ms s entries p says has is = record { applies = entry entries.first (is_entry ms entries has) is.applies; lowest = go }
   where
     go : (o : JsonPlace) → ObjectFails ms o → row_of p ≤ row_of o
@@ -132,7 +133,7 @@ first_entry ms s entries p says has is = record { applies = entry entries.first 
     go o (stray es e named at w) = omega (arith, upper entries.first p is.applies, ap row_of named)
 
 pub first_stray : (ms : Members) (token : Token) (entries : Entries) (k : ℕ) (p : JsonPlace) → Says IsWordTree (found_part ms Payload) token.parts.signed.payload → HasEntries ms entries → EntrySays entries.first token
-    → entries.stray ≡ Some k → p ≡ Stray k → IsFirstPlace (ObjectFails ms) p
+    → entries.stray ≡ Some k → p ≡ Stray k → IsLowestBy row_of (ObjectFails ms) p
 first_stray ms token entries k p says has said some is = record { applies = stray_applies ms entries k p has some is; lowest = go }
   where
     go : (o : JsonPlace) → ObjectFails ms o → row_of p ≤ row_of o
@@ -163,11 +164,11 @@ pub no_entries_at : (ms rest : Members) → rest ≡ removed ms (part_word Paylo
 no_entries_at ms rest gone (no_list t at odd) = no_list t (sym (rest_of ms rest gone).list ∙ at) odd
 no_entries_at ms rest gone (beside t at has) = beside t (sym (rest_of ms rest gone).list ∙ at) (sym (rest_of ms rest gone).kept ∙ has)
 
-pub first_of_rest : (ms : Members) (s : Text) (entries : Entries) (p : JsonPlace) → Says IsWordTree (found_part ms Payload) s → Settled ms entries → IsFirstPlace (EntryFails entries.first) p → IsFirstPlace (ObjectFails ms) p
+pub first_of_rest : (ms : Members) (s : Text) (entries : Entries) (p : JsonPlace) → Says IsWordTree (found_part ms Payload) s → Settled ms entries → IsLowestBy row_of (EntryFails entries.first) p → IsLowestBy row_of (ObjectFails ms) p
 first_of_rest ms s entries p says at is = first_entry ms s at.whole p says at.has (first_at entries.first at.whole.first p at.same is)
 
 pub stray_of_rest : (ms : Members) (token : Token) (entries : Entries) (k : ℕ) (p : JsonPlace) → Says IsWordTree (found_part ms Payload) token.parts.signed.payload → Settled ms entries → EntrySays entries.first token
-    → entries.stray ≡ Some k → p ≡ Stray k → IsFirstPlace (ObjectFails ms) p
+    → entries.stray ≡ Some k → p ≡ Stray k → IsLowestBy row_of (ObjectFails ms) p
 stray_of_rest ms token entries k p says at said some is = first_stray ms token at.whole k p says at.has (entry_says_at entries.first at.whole.first token at.same said) (at.stray ∙ some) is
 
 pub token_of_rest : (ms : Members) (token : Token) (entries : Entries) → Says IsWordTree (found_part ms Payload) token.parts.signed.payload → Settled ms entries → EntrySays entries.first token → entries.stray ≡ None → MembersSay ms token
@@ -195,7 +196,7 @@ first_not_object bytes t p is reads odd = record { applies = not_object t is rea
 pub one_object : (bytes : Text) (ms ns : Members) → Reads bytes (object ms) → Reads bytes (object ns) → ms ≡ ns
 one_object bytes ms ns r q = let same : object ms ≡ object ns = one_tree bytes (object ms) (object ns) r q in cc same
 
-pub first_of_members : (bytes : Text) (ms : Members) (p : JsonPlace) → Reads bytes (object ms) → IsFirstPlace (ObjectFails ms) p → IsJsonPlace bytes p
+pub first_of_members : (bytes : Text) (ms : Members) (p : JsonPlace) → Reads bytes (object ms) → IsLowestBy row_of (ObjectFails ms) p → IsJsonPlace bytes p
 first_of_members bytes ms p reads is = record { applies = members ms reads is.applies; lowest = go }
   where
     go : (o : JsonPlace) → JsonFails bytes o → row_of p ≤ row_of o

@@ -11,7 +11,8 @@ use Rattle.compact_form.specs.declared.fault.JsonPlace.TheVariants.{Wrong}
 use Rattle.json_form.specs.declared.token.Token.{Token}
 use Rattle.json_form.specs.declared.json_error.JsonFormError.{JsonFormError}
 use Rattle.json_form.specs.Json.{found_part, IsWordTree, AreWordTrees, IsJwtTree, IsObjectOf, EntrySays}
-use Rattle.json_form.specs.JsonPlaces.{part_row, row_of, IsNoWord, missing, other, IsWrongMember, EntryFails, protected, signature, header, disclosures, kb_jwt, IsFirstPlace}
+use Rattle.compact_form.specs.Lowest.{IsLowestBy}
+use Rattle.json_form.specs.JsonPlaces.{part_row, row_of, IsNoWord, missing, other, IsWrongMember, EntryFails, protected, signature, header, disclosures, kb_jwt}
 use Rattle.json_form.proofs.Members.{found_other}
 
 -- ---- one member
@@ -62,7 +63,7 @@ entry_at ms ns o same (header v) = header (wrong_at IsObjectOf ms ns Header o sa
 entry_at ms ns o same (disclosures h at v) = disclosures h (sym same.header ∙ at) v
 entry_at ms ns o same (kb_jwt h at v) = kb_jwt h (sym same.header ∙ at) v
 
-pub first_at : (ms ns : Members) (p : JsonPlace) → SameEntry ms ns → IsFirstPlace (EntryFails ms) p → IsFirstPlace (EntryFails ns) p
+pub first_at : (ms ns : Members) (p : JsonPlace) → SameEntry ms ns → IsLowestBy row_of (EntryFails ms) p → IsLowestBy row_of (EntryFails ns) p
 first_at ms ns p same is = record { applies = entry_at ms ns p same is.applies; lowest = λ o applies. is.lowest o (entry_at ns ms o (back ms ns same) applies) }
 
 pub entry_says_at : (ms ns : Members) (token : Token) → SameEntry ms ns → EntrySays ms token → EntrySays ns token
@@ -104,10 +105,10 @@ upper e o (header v) = omega (arith, row_wrong IsObjectOf e Header o v)
 upper e o (disclosures h at v) = omega (arith, row_wrong AreWordTrees h Disclosures o v)
 upper e o (kb_jwt h at v) = omega (arith, row_wrong IsJwtTree h KbJwt o v)
 
-pub first_protected : (e : Members) (p : JsonPlace) → IsNoWord e Protected p → IsFirstPlace (EntryFails e) p
+pub first_protected : (e : Members) (p : JsonPlace) → IsNoWord e Protected p → IsLowestBy row_of (EntryFails e) p
 first_protected e p w = record { applies = protected w; lowest = λ o applies. omega (arith, row_no_word e Protected p w, lower e o applies) }
 
-pub first_signature : (e : Members) (s : Text) (p : JsonPlace) → Says IsWordTree (found_part e Protected) s → IsNoWord e Signature p → IsFirstPlace (EntryFails e) p
+pub first_signature : (e : Members) (s : Text) (p : JsonPlace) → Says IsWordTree (found_part e Protected) s → IsNoWord e Signature p → IsLowestBy row_of (EntryFails e) p
 first_signature e s p says w = record { applies = signature w; lowest = go }
   where
     go : (o : JsonPlace) → EntryFails e o → row_of p ≤ row_of o
@@ -122,7 +123,7 @@ pub record HasBoth (e : Members) (s u : Text) : Type 0 where
   pub protected : Says IsWordTree (found_part e Protected) s
   pub signature : Says IsWordTree (found_part e Signature) u
 
-pub first_header : (e : Members) (s u : Text) (p : JsonPlace) → HasBoth e s u → IsWrongMember IsObjectOf e Header p → IsFirstPlace (EntryFails e) p
+pub first_header : (e : Members) (s u : Text) (p : JsonPlace) → HasBoth e s u → IsWrongMember IsObjectOf e Header p → IsLowestBy row_of (EntryFails e) p
 first_header e s u p both w = record { applies = header w; lowest = go }
   where
     go : (o : JsonPlace) → EntryFails e o → row_of p ≤ row_of o
@@ -132,7 +133,7 @@ first_header e s u p both w = record { applies = header w; lowest = go }
     go o (disclosures h at v) = omega (arith, row_wrong IsObjectOf e Header p w, row_wrong AreWordTrees h Disclosures o v)
     go o (kb_jwt h at v) = omega (arith, row_wrong IsObjectOf e Header p w, row_wrong IsJwtTree h KbJwt o v)
 
-pub first_disclosures : (e : Members) (s u : Text) (k : Members) (p : JsonPlace) → HasBoth e s u → SaysOr IsObjectOf no_members (found_part e Header) k → IsWrongMember AreWordTrees k Disclosures p → IsFirstPlace (EntryFails e) p
+pub first_disclosures : (e : Members) (s u : Text) (k : Members) (p : JsonPlace) → HasBoth e s u → SaysOr IsObjectOf no_members (found_part e Header) k → IsWrongMember AreWordTrees k Disclosures p → IsLowestBy row_of (EntryFails e) p
 first_disclosures e s u k p both says w = record { applies = disclosures k (header_there e k Disclosures w.tree says w.stands) w; lowest = go }
   where
     go : (o : JsonPlace) → EntryFails e o → row_of p ≤ row_of o
@@ -143,7 +144,7 @@ first_disclosures e s u k p both says w = record { applies = disclosures k (head
     go o (kb_jwt h at v) = omega (arith, row_wrong AreWordTrees k Disclosures p w, row_wrong IsJwtTree h KbJwt o v)
 
 pub first_kb_jwt : (e : Members) (s u : Text) (k : Members) (texts : List Text) (p : JsonPlace) → HasBoth e s u → SaysOr IsObjectOf no_members (found_part e Header) k → SaysOr AreWordTrees [] (found_part k Disclosures) texts
-    → IsWrongMember IsJwtTree k KbJwt p → IsFirstPlace (EntryFails e) p
+    → IsWrongMember IsJwtTree k KbJwt p → IsLowestBy row_of (EntryFails e) p
 first_kb_jwt e s u k texts p both says list w = record { applies = kb_jwt k (header_there e k KbJwt w.tree says w.stands) w; lowest = go }
   where
     go : (o : JsonPlace) → EntryFails e o → row_of p ≤ row_of o

@@ -78,9 +78,6 @@ pub data JsonFails (bytes : Text) (place : JsonPlace) : Type 0 where
 
 -- ---- the first that applies
 
-abbrev pub IsFirstPlace : (JsonPlace → Type 0) → JsonPlace → Type 0
-IsFirstPlace Row place = IsLowestBy row_of Row place
-
 -- the place of the first row that applies to the text
 abbrev pub IsJsonPlace : Text → JsonPlace → Type 0
-IsJsonPlace bytes place = IsFirstPlace (JsonFails bytes) place
+IsJsonPlace bytes place = IsLowestBy row_of (JsonFails bytes) place

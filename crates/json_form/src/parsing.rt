@@ -1,7 +1,8 @@
 ghost use Rattle.std.specs.Prelude.{◌≡◌, IfOk, IsErrOf};
 ghost use Rattle.compact_form.specs.declared.fault.JsonPlace.{JsonPlace as ThePlace};
 ghost use Rattle.json_form.specs.Json.{IsJson};
-ghost use Rattle.json_form.specs.JsonPlaces.{ObjectFails, IsFirstPlace, IsJsonPlace};
+ghost use Rattle.compact_form.specs.Lowest.{IsLowestBy};
+ghost use Rattle.json_form.specs.JsonPlaces.{row_of, ObjectFails, IsJsonPlace};
 ghost use Rattle.json_form.specs.MembersRead.{MembersSay};
 ghost use Rattle.json_form.specs.Printable.{IsPrintable};
 
@@ -15,7 +16,7 @@ use std::alloc::Global;
 // The token that the members of an object say.
 fn token_of(alloc: Global, members: TreeMap) -> Result<Token, JsonFormError>
     ensures ok { IfOk result (MembersSay members) }
-    ensures refused { (place : ThePlace) → IsErrOf result (JsonFormError.Fault place) → IsFirstPlace (ObjectFails members) place }
+    ensures refused { (place : ThePlace) → IsErrOf result (JsonFormError.Fault place) → IsLowestBy row_of (ObjectFails members) place }
 {
     let mut members = members;
     let payload = take_word(&mut members, Part::Payload)?;

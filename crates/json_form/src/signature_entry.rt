@@ -7,7 +7,8 @@ ghost use Rattle.compact_form.specs.PartWords.{part_word};
 ghost use Rattle.compact_form.specs.declared.fault.JsonPlace.{JsonPlace as ThePlace};
 ghost use Rattle.compact_form.specs.declared.fault.Part.TheVariants.{Header, Disclosures, KbJwt};
 ghost use Rattle.json_form.specs.Json.{found_part, IsWordTree, AreWordTrees, IsJwtTree, IsObjectOf, EntrySays};
-ghost use Rattle.json_form.specs.JsonPlaces.{IsNoWord, IsWrongMember, EntryFails, IsFirstPlace};
+ghost use Rattle.compact_form.specs.Lowest.{IsLowestBy};
+ghost use Rattle.json_form.specs.JsonPlaces.{row_of, IsNoWord, IsWrongMember, EntryFails};
 
 use crate::member_values::{jwt_in, word_in, words_in};
 use crate::{JsonFormError, Token};
@@ -83,7 +84,7 @@ pub(crate) fn read_entry(
 ) -> Result<Token, JsonFormError>
     ensures ok { IfOk result (EntrySays entry) }
     ensures payload { IfOk result (λ token. token.parts.signed.payload ≡ payload) }
-    ensures refused { (place : ThePlace) → IsErrOf result (JsonFormError.Fault place) → IsFirstPlace (EntryFails entry) place }
+    ensures refused { (place : ThePlace) → IsErrOf result (JsonFormError.Fault place) → IsLowestBy row_of (EntryFails entry) place }
 {
     let mut entry = entry;
     let protected = take_word(&mut entry, Part::Protected)?;

@@ -14,7 +14,7 @@ use Rattle.jws_part.specs.Times.{IsTimeUnreadable, IsExpired, IsNotYet}
 use Rattle.key_binding.specs.Binding.{Claims}
 use Rattle.key_binding.specs.Judged.{Judged, holder_key, HasBindingHeader, HasClaims}
 
--- the header is read, and this is not so of it
+-- the header is read, and this is so of it
 abbrev pub OfHeader : Judged → (Header → Type 0) → Type 0
 OfHeader j P = (header : Header) × HasBindingHeader j.token header × P header
 

@@ -80,5 +80,3 @@ kept s i = if s i then Some i else None
 -- without each member and element whose mark is not in s, and all below it
 abbrev pub prune : Marked → (ℕ → Bool) → Marked
 prune m s = remark (kept s) m
-
--- ---- marks of nodes

@@ -1,4 +1,4 @@
--- What a call leaves in the room that its caller gives for the answer.
+-- Not needed to believe the program's promises: what a call leaves in the room that its caller gives for the answer.
 use Rattle.std.specs.Prelude.{◌≡◌, ◌<◌, ◌≤◌, ◌⊎◌, ℕ, List, ◌++◌, length, drop}
 use Rattle.sd_outside.specs.Status.{status_number}
 use Rattle.sd_outside.specs.declared.status.Status.{Status}

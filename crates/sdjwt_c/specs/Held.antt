@@ -1,4 +1,4 @@
--- What a handle of a policy owns.
+-- Not needed to believe the program's promises: what a handle of a policy owns.
 use Rattle.std.specs.Prelude.{◌≡◌, Option, None, Some}
 use base.Fml.{Fml, ftrue, fsep, fex}
 use denote.RawPtr.{Ptr, block_ptr, null_ptr}

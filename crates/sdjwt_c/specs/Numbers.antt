@@ -1,4 +1,4 @@
--- The numbers by which C names the forms of a token.
+-- Not needed to believe the program's promises: the numbers by which C names the forms of a token.
 use Rattle.std.specs.Prelude.{zero, suc, ℕ, Option, None, Some}
 use Rattle.sdjwt_cli.specs.declared.form.Form.{Form}
 use Rattle.sdjwt_cli.specs.declared.form.Form.TheVariants.{Compact, Flat, General}

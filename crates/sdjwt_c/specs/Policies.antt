@@ -1,4 +1,4 @@
--- The replies to a policy that is to be kept, and under one that is.
+-- Not needed to believe the program's promises: the replies to a policy that is to be kept, and under one that is.
 use Rattle.std.specs.Prelude.{◌≡◌, ℕ, List, []}
 use Rattle.cli_parts.specs.Replies.{Reply, Replies}
 use Rattle.sdjwt_cli.specs.Answers.{VerifyAnswers}

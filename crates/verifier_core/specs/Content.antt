@@ -1,4 +1,4 @@
--- What is read of a token, before it is opened.
+-- Not needed to believe the program's promises: what is read of a token, before it is opened.
 use Rattle.std.specs.Prelude.{◌≡◌, ◌≤◌, ◌<◌, ◌-◌, ◌^◌, ℕ, zero, suc, List, length, refl}
 use Rattle.std.specs.Coded.{Coded, coded_ℕ, coded×, code_by}
 use Rattle.claim_tree.specs.Tree.{Tree, IsRanged, depth}

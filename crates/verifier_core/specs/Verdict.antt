@@ -179,8 +179,6 @@ pub record IsAccepted (content : List ℕ) (policy : Policy) (now : ℕ) (marked
   pub is_token : IsToken content token
   pub opens : Opens token marked
 
--- ---- two texts
-
 -- the rules of these keys, algorithms and type
 abbrev pub asked : List NamedKey → List Text → Option Text → Rules
 asked keys algs typ = record { keys = keys; algs = algs; typ = typ }

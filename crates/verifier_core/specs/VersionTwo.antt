@@ -1,4 +1,5 @@
--- A policy file of version 1, and that of version 2 with the same members.
+-- Not needed to believe the program's promises: a policy file of version 1, and that of version 2
+-- with the same members.
 use Rattle.std.specs.Prelude.{◌≡◌, ◌≢◌, pos, Option, Some, None, codes, option_map}
 use Rattle.claim_tree.specs.Tree.{Text, leaf, whole, array, object, Tree, no_elements, element, Members, members_len, member_named}
 use Rattle.claim_tree.specs.FileForms.{found}
