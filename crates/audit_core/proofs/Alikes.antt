@@ -5,6 +5,7 @@ use Rattle.std.specs.List.{count_by}
 use Rattle.std.proofs.lemmas.Bool.{true≢false}
 use Rattle.std.proofs.lemmas.List.Sums.{sum_by-cons}
 use Rattle.std.specs.Ordering.{match_ordering, is_lt}
+use Rattle.std.specs.Cmp.{both_ways}
 use Rattle.claim_tree.specs.Tree.{Text}
 use Rattle.claim_tree.specs.Lists.{In}
 use Rattle.claim_tree.specs.Path.{pointer_text}
@@ -104,14 +105,9 @@ same_text x y e =
     let w = kind_same x.kind y.kind (pointer_text x.at) (pointer_text y.at) (sym e) in
     and_join (same_kind x.kind y.kind) (same_path x.at y.at) w.0 (path_refl x.at y.at (pointer_text-injective x.at y.at w.1))
 
-pub one_test : (a b : Bool) → (a ≡ true → b ≡ true) → (b ≡ true → a ≡ true) → a ≡ b
-one_test true b f g = sym (f refl)
-one_test false true f g = g refl
-one_test false false f g = refl
-
 tests : (x y : Standing) → same_standing x y ≡ bytes_eq (standing_text y) (standing_text x)
 tests x y =
-    one_test (same_standing x y) (bytes_eq (standing_text y) (standing_text x))
+    both_ways (same_standing x y) (bytes_eq (standing_text y) (standing_text x))
     (λ e. bytes_refl (standing_text y) (standing_text x) (text_same x y e)) (λ e. same_text x y (bytes_same (standing_text y) (standing_text x) e))
 
 counts : (x : Standing) (ys : List Standing) → count_by (same_standing x) ys ≡ occurs (standing_text x) (map standing_text ys)

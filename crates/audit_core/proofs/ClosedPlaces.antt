@@ -7,7 +7,7 @@ use Rattle.digest_sites.specs.Given.{Given}
 use Rattle.digest_sites.specs.declared.site.Site.{Site}
 use Rattle.marked_tree.specs.Paths.{Path, below, one_if, hidden_in, mark_if, mark_from, mark_elements, mark_members, is_among, mark}
 use Rattle.marked_tree.specs.Ways.{own_path, closing, closing_elements, closing_members}
-use Rattle.marked_tree.proofs.Closing.{count}
+use Rattle.marked_tree.proofs.Closing.{own_length, count}
 use Rattle.audit_core.specs.Places.{given_at, value_at, values_at, elements_values, members_values}
 
 -- those at the paths, where the value at the first has the number n
@@ -58,10 +58,6 @@ own_value : (known : Text → Bool) (g : List Given) (at : Path) (b : Bool) (k :
 own_value known g at true k n = sym (append-nil (given_at known (at ++ k ∷ []) (slice_get g n)))
 own_value known g at false k n = refl
 
-own_count : (b : Bool) (k : Text) → length (own_path b k) ≡ one_if b
-own_count true k = refl
-own_count false k = refl
-
 step : (known : Text → Bool) (g : List Given) (at : Path) (b : Bool) (k : Text) (n a : ℕ) (inner rest : List Path) (xs ys : List Site) → length inner ≡ a
     → xs ≡ values_on known g n (below_at (at ++ k ∷ []) inner) → ys ≡ values_on known g (n + (a + one_if b)) (below_at at rest)
     → (xs ++ value_at known g (at ++ k ∷ []) (mark_if b (n + a))) ++ ys ≡ values_on known g n (below_at at ((from_step k inner ++ own_path b k) ++ rest))
@@ -69,7 +65,7 @@ step known g at b k n a inner rest xs ys long e f =
     let many : length (from_step k inner) ≡ a = length-map inner (λ (p : Path). k ∷ p) ∙ long in
     ap₂ (λ (us vs : List Site). us ++ vs)
     (ap₂ (λ (us vs : List Site). us ++ vs) (e ∙ ap (values_on known g n) (stepped at k inner)) (own_value known g at b k (n + a) ∙ ap (λ (j : ℕ). values_on known g (n + j) (below_at at (own_path b k))) (sym many)))
-    (f ∙ ap (λ (j : ℕ). values_on known g (n + j) (below_at at rest)) (omega (arith, many, own_count b k)))
+    (f ∙ ap (λ (j : ℕ). values_on known g (n + j) (below_at at rest)) (omega (arith, many, own_length b k)))
     ∙ sym (parted known g n at (from_step k inner) (own_path b k) rest)
 
 mutual

@@ -1,21 +1,18 @@
 -- An order with a hidden member and a decoy, and a token that is issued for it: the premises of the law of the audit are met.
-use Rattle.std.proofs.Common.{◌≡◌, ℕ, zero, suc, ◌+◌, ◌<◌, ◌≤◌, List, [], ◌∷◌, ◌++◌, length, length-append, true, false, bytes_eq, Option, None, Some, IsUtf8, codes, inl, inr, rules, refl, sym, ap, ◌∙◌, subst, arith}
+use Rattle.std.proofs.Common.{◌≡◌, ℕ, zero, suc, ◌+◌, ◌<◌, ◌≤◌, List, [], ◌∷◌, ◌++◌, length, length-append, true, false, bytes_eq, Option, None, Some, codes, inl, inr, rules, refl, sym, ap, ◌∙◌, subst, arith}
 use Rattle.std.specs.Fmt.{digits}
 use Rattle.std.specs.Prelude.{slice_get}
-use Rattle.json.proofs.Printed.Utf8.{are_ascii, IsUtf8-are_ascii}
+use Rattle.json.proofs.Printed.Utf8.{IsUtf8-are_ascii}
 use Rattle.json.specs.Print.{escape_byte}
 use Rattle.sha2.specs.Sha256.{compress, digest_bytes, first_words, hash_after, rounds, schedule, sha256}
-use Rattle.rand_chacha.specs.Block.{block_word, double_rounds, diagonal_round, quarter_round, column_round}
-use Rattle.rand_core.specs.Steps.{u32_at}
 use Rattle.sd_outside.specs.Limits.{compact_max}
 use Rattle.b64url_text.specs.Base64url.{letters, bits, sixes, b64}
 use Rattle.b64url_text.proofs.Codes.{IsWord-b64}
 use Rattle.b64url_text.proofs.Lengths.{length-b64}
 use Rattle.claim_tree.specs.JsonText.{json_text}
-use Rattle.claim_tree.specs.Lists.{StandsAt, In}
+use Rattle.claim_tree.specs.Lists.{StandsAt}
 use Rattle.claim_tree.specs.Path.{tree_at}
 use Rattle.claim_tree.specs.Tree.{Text, Tree, leaf, text, array, object, no_elements, element, no_members, member, IsOrdered, IsRanged}
-use Rattle.claim_tree.proofs.Lists.{list_any-from}
 use Rattle.compact_form.specs.Compact.{compact, AreWords}
 use Rattle.compact_form.specs.declared.parts.Parts.{Parts}
 use Rattle.digest_sites.specs.Given.{Given}
@@ -38,9 +35,9 @@ use Rattle.issuer_core.specs.GoodOrder.{FitsMachine}
 use Rattle.issuer_core.specs.IssueCalls.{AllDiffer}
 use Rattle.issuer_core.specs.Laid.{IsLaid, with_alg}
 use Rattle.issuer_core.specs.Order.{Order}
-use Rattle.issuer_core.specs.OrderRefusals.{AppliesToOrder, IsProtected, IsMisplaced, protected_names}
+use Rattle.issuer_core.specs.OrderRefusals.{AppliesToOrder, IsProtected, IsMisplaced}
 use Rattle.issuer_core.specs.ReservedPaths.{reserved_paths}
-use Rattle.issuer_core.specs.Salts.{salt_of, salt_piece}
+use Rattle.issuer_core.specs.Salts.{salt_of}
 use Rattle.issuer_core.specs.Seed.{maker_of}
 use Rattle.issuer_core.specs.ShortLists.{HasShortLists}
 use Rattle.issuer_core.specs.Written.{header_of, IsIssued, IsWritten}
@@ -48,6 +45,7 @@ use Rattle.issuer_core.specs.declared.errors.IssueError.{IssueError}
 use Rattle.issuer_core.specs.declared.errors.IssueError.TheVariants.{Memory, SignFailed, PayloadNotObject, ReservedName, TooDeep, RootMarked, NoSuchPlace, ProtectedClaim, DecoyPlace, TooManyHidden, TooManyDecoys, DigestClash, TooLong}
 use Rattle.issuer_core.proofs.Judged.{good_order}
 use Rattle.issuer_core.proofs.LaidDecoys.{laid_is_issued_holds}
+use Rattle.issuer_core.proofs.WorkedOrders.{seed, salt_0, salt_1, unprotected}
 use Rattle.audit_core.specs.Audit.{PassesAudit}
 use Rattle.audit_core.proofs.IssuedLaw.{key_issued_passes_holds}
 
@@ -65,28 +63,17 @@ order = record {
   hash = HashAlg.Sha256;
 }
 
-abbrev seed : List ℕ
-seed = codes "a seed of bytes, no fewer than 3"
-
 abbrev key : AlgKey
 key = alg_key Alg.Hs256 (codes "a key of bytes, as many as those")
 
--- ---- its salts and its digests
-
-salt : salt_of seed 0 ≡ codes "zmsWpmAHnM42j0qbcdYN8w"
-unfolding salt_piece u32_at block_word double_rounds diagonal_round quarter_round column_round letters bits sixes b64
-salt = refl
-
-piece : salt_of seed 1 ≡ codes "AoS086vrZ8wQa73AZnCrVQ"
-unfolding salt_piece u32_at block_word double_rounds diagonal_round quarter_round column_round letters bits sixes b64
-piece = refl
+-- ---- its digests
 
 abbrev disclosure : Text
 disclosure = codes "WyJ6bXNXcG1BSG5NNDJqMHFiY2RZTjh3IiwiYSIsImIiXQ"
 
 made_as : (maker_of seed).disclosure 0 (Some (codes "a")) (word (codes "b")) ≡ disclosure
 unfolding escape_byte letters bits sixes b64
-made_as = ap (λ (s : Text). disclosure_text (word s) (Some (codes "a")) (word (codes "b"))) salt
+made_as = ap (λ (s : Text). disclosure_text (word s) (Some (codes "a")) (word (codes "b"))) salt_0
 
 abbrev digest : Text
 digest = codes "_elWOIKcV7i2qRjULbq-E__e0_MO9gv6kyUtQW_Wvps"
@@ -123,7 +110,7 @@ made zero x is =
 made (suc k) x is = absurd is
 
 standing_decoy : (d : ℕ) → d < 1 → digests (1 + d) ≡ digest_of HashAlg.Sha256 (salt_of seed (1 + d))
-standing_decoy zero less = sym (ap (digest_of HashAlg.Sha256) piece ∙ decoy_as)
+standing_decoy zero less = sym (ap (digest_of HashAlg.Sha256) salt_1 ∙ decoy_as)
 standing_decoy (suc d) less = absurd (omega (arith, less))
 
 laid : IsLaid (maker_of seed) order payload given digests
@@ -136,23 +123,17 @@ none_reserved : slice_get (reserved_paths order.payload) 0 ≡ None
 unfolding sd_name dots_name alg_name
 none_reserved = refl
 
-none_some : (path : Path) → ◌≡◌ {A = Option Path} None (Some path) → ⊥
-none_some path e = cc e
-
-free : In (codes "a") protected_names → ⊥
-free there = let clash : false ≡ true = list_any-from (bytes_eq (codes "a")) protected_names (codes "a") there refl in cc clash
-
 passes : (error : IssueError) → AppliesToOrder order error → ⊥
 passes Memory h = h
 passes SignFailed h = h
 passes PayloadNotObject h = h tt
-passes (ReservedName path) h = none_some path (sym none_reserved ∙ h)
+passes (ReservedName path) h = let clash : ◌≡◌ {A = Option Path} None (Some path) = sym none_reserved ∙ h in cc clash
 passes TooDeep h = omega (arith, h)
 passes (RootMarked zero) h = let is = h.1 in let root = h.2 in cc (sym is ∙ root)
 passes (RootMarked (suc k)) h = absurd h.1
 passes (NoSuchPlace zero) h = cc (sym (ap (tree_at order.payload) h.1) ∙ h.2)
 passes (NoSuchPlace (suc k)) h = absurd h.1
-passes (ProtectedClaim zero) h = free (subst IsProtected h.1 h.2)
+passes (ProtectedClaim zero) h = unprotected (codes "a") refl (subst IsProtected h.1 h.2)
 passes (ProtectedClaim (suc k)) h = absurd h.1
 passes (DecoyPlace zero) h = subst (IsMisplaced order.payload) h.1 h.2 tt
 passes (DecoyPlace (suc k)) h = absurd h.1
@@ -166,11 +147,8 @@ passes TooLong h = h
 ordered : IsOrdered order.payload
 ordered = search rules
 
-ascii : (s : Text) → are_ascii s ≡ true → IsUtf8 s
-ascii s e = IsUtf8-are_ascii s e
-
 held : FitsMachine order.payload
-held = (ascii (codes "a") refl, ascii (codes "b") refl, (ascii (codes "l") refl, (omega arith, (ascii (codes "c") refl, tt)), tt))
+held = (IsUtf8-are_ascii (codes "a") refl, IsUtf8-are_ascii (codes "b") refl, (IsUtf8-are_ascii (codes "l") refl, (omega arith, (IsUtf8-are_ascii (codes "c") refl, tt)), tt))
 
 ranged : IsRanged order.payload
 ranged = search rules

@@ -1,7 +1,7 @@
 -- What is found of the sites of a token is what the definitions say of them.
 use Rattle.std.proofs.Common.{◌≡◌, ℕ, suc, ◌+◌, List, [], ◌∷◌, ◌++◌, map, length, Bool, true, false, not, cond, Option, Some, inl, inr, refl, sym, ap, ap₂, ◌∙◌, subst, arith}
 use Rattle.std.specs.Prelude.{filter, slice_get, unwrap_or}
-use Rattle.std.proofs.lemmas.Bool.{true≢false}
+use Rattle.std.proofs.lemmas.Bool.{true≢false, not-true}
 use Rattle.std.proofs.lemmas.List.{length-append, length-map, map-append}
 use Rattle.std.proofs.lemmas.List.Elements.{filter-append}
 use Rattle.claim_tree.specs.Tree.{Text, Tree}
@@ -139,10 +139,6 @@ filter_in test x (y ∷ ys) m = go (test y) refl m (λ n. filter_in test x ys n)
     go true h (inr n) ih = let w = ih n in (inr w.0, w.1)
     go false h n ih = let w = ih n in (inr w.0, w.1)
 
-not_true : (b : Bool) → not b ≡ true → b ≡ false
-not_true true e = sym e
-not_true false e = refl
-
 pub others_from : (hash : HashAlg) (m : Marked) (p : Tree) (g : List Given) → AreDigests hash (all_located m g (all_sites p g)) → Others hash p g
 others_from hash m p g h digest there e =
     let z = In-of_map (λ (x : OwnedSite). x.site.digest) digest (all_sites p g) there in
@@ -153,4 +149,4 @@ pub from_others : (hash : HashAlg) (m : Marked) (p : Tree) (g : List Given) → 
 from_others hash m p g h s there =
     let z = In-of_map (located m) s (filter (is_strange g) (all_sites p g)) there in
     let w = filter_in (is_strange g) z.0 (all_sites p g) z.1 in
-    subst (λ (x : code.Site). IsDigestText hash x.digest) (sym z.2) (h z.0.site.digest (In-map (λ (x : OwnedSite). x.site.digest) z.0 (all_sites p g) w.0) (not_true (is_given g z.0.site.digest) w.1))
+    subst (λ (x : code.Site). IsDigestText hash x.digest) (sym z.2) (h z.0.site.digest (In-map (λ (x : OwnedSite). x.site.digest) z.0 (all_sites p g) w.0) (not-true (is_given g z.0.site.digest) w.1))

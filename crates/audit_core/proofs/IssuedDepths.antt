@@ -16,8 +16,10 @@ use Rattle.rebuild_core.specs.Soundness.{IsReferencedOnce}
 use Rattle.rebuild_core.specs.Whole.{shown_depth}
 use Rattle.rebuild_core.proofs.ShownBy.{way_step, shown_from}
 use Rattle.rebuild_core.proofs.ShownDepths.{list_depth, map_depth, members_keep}
-use Rattle.rebuild_core.proofs.Marks.{Way, shown_ways}
+use Rattle.marked_tree.proofs.Spots.{Way}
+use Rattle.rebuild_core.proofs.Marks.{shown_ways}
 use Rattle.issuer_core.specs.Issued.{IsDigestList, HasDigestLists}
+use Rattle.issuer_core.proofs.LaidLists.{IsSdList}
 
 -- ---- the tree itself
 
@@ -51,9 +53,6 @@ digests_depth : (t : Tree) (ds : List Text) → text_list t ≡ Some ds → dept
 digests_depth (array es) ds e = omega (arith, list_flat es ds e)
 digests_depth (leaf l) ds e = cc e
 digests_depth (object ms) ds e = cc e
-
-abbrev IsSdList : Text → Tree → Type 0
-IsSdList name value = bytes_eq name sd_name ≡ true → IsDigestList value
 
 element_depth : (r : Text → Shown) (t : Tree) (es : Elements) (o : Option Text) → element_digest t ≡ o → depth t ≤ suc (depth (strip (open_tree r t))) → elements_depth es ≤ suc (list_depth (open_elements r es))
     → elements_depth (element t es) ≤ suc (list_depth (open_element r o (open_tree r t) (open_elements r es)))

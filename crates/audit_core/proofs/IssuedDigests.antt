@@ -6,10 +6,9 @@ use Rattle.claim_tree.specs.Lists.{In}
 use Rattle.claim_tree.specs.Tree.{Text, Tree}
 use Rattle.claim_tree.proofs.Lists.{In-At, In-append, In-left, bytes_refl, bytes_same, list_any-from, list_any-In}
 use Rattle.digest_sites.specs.Given.{Given}
-use Rattle.marked_tree.specs.Paths.{Path}
 use Rattle.rebuild_core.specs.Reached.{given_digests, all_digests}
 use Rattle.issuer_core.specs.Decoys.{decoys_of}
-use Rattle.issuer_core.specs.Digests.{hidden_of, digests_from, decoy_digests, issued_digests}
+use Rattle.issuer_core.specs.Digests.{hidden_of, decoy_digests, issued_digests}
 use Rattle.issuer_core.specs.GoodOrder.{IsGoodOrder}
 use Rattle.issuer_core.specs.Issued.{IsIssuedFor, occurs}
 use Rattle.issuer_core.specs.Order.{Order}
@@ -17,6 +16,7 @@ use Rattle.issuer_core.specs.Salts.{salt_of}
 use Rattle.issuer_core.specs.Seed.{maker_of}
 use Rattle.issuer_core.proofs.IssuedForgery.{digest_issued, is_there}
 use Rattle.issuer_core.proofs.IssuedRead.{from_number}
+use Rattle.issuer_core.proofs.LaidIssued.{length-digests_from}
 use Rattle.issuer_core.proofs.IssuedSound.{same_occurrences, there_once}
 use Rattle.audit_core.specs.Audited.{IsDigestText, is_given, HasDigests}
 use Rattle.audit_core.proofs.IssuedHashes.{digest_formed}
@@ -67,10 +67,6 @@ given_there g d is =
     let w = list_any-In (bytes_eq d) (given_digests g) is in
     subst (λ (e : Text). In e (given_digests g)) (sym (bytes_same d w.0 w.2)) w.1
 
-length-digests : (f : ℕ → Text) (k : ℕ) (places : List Path) → length (digests_from f k places) ≡ length places
-length-digests f k [] = refl
-length-digests f k (at ∷ places) = ap suc (length-digests f (suc k) places)
-
 module _ (seed : List ℕ) (o : Order) (p : Tree) (g : List Given) (fine : IsGoodOrder o) (issued : IsIssuedFor (maker_of seed) o p g) where
   count : length (all_digests p g) ≡ hidden_of o + length (decoys_of o)
   count =
@@ -82,7 +78,7 @@ module _ (seed : List ℕ) (o : Order) (p : Tree) (g : List Given) (fine : IsGoo
         length-append ds es,
         length-map g (λ (x : Given). x.digest),
         issued.count,
-        length-digests (λ k. (maker_of seed).digest o.hash ((maker_of seed).piece k)) (hidden_of o) (decoys_of o),
+        length-digests_from (λ k. (maker_of seed).digest o.hash ((maker_of seed).piece k)) (hidden_of o) (decoys_of o),
       )
 
   formed : (d : Text) → In d (all_digests p g) → is_given g d ≡ false → IsDigestText o.hash d

@@ -11,6 +11,7 @@ use Rattle.claim_tree.proofs.Lists.{and_split, and_join}
 use Rattle.claim_tree.proofs.MapPlaces.{before_through, is_less}
 use Rattle.digest_sites.specs.Reserved.{sd_name, texts_of}
 use Rattle.issuer_core.specs.Issued.{Rises, IsDigestList, HasDigestLists}
+use Rattle.issuer_core.proofs.LaidLists.{IsSdList}
 use Rattle.audit_core.specs.SortedLists.{is_before, rise, is_digest_list, has_digest_lists, elements_have, members_have, values_have}
 
 no : {A : Type 0} → false ≡ true → A
@@ -92,9 +93,6 @@ is_list (array (element (object ms) es)) h = nothing _ h.2
 
 -- ---- each list of a tree
 
-abbrev OfSd : Text → Tree → Type 0
-OfSd name value = bytes_eq name sd_name ≡ true → IsDigestList value
-
 member_is : (own : Bool) (t : Tree) → (not own || is_digest_list t) ≡ true → own ≡ true → IsDigestList t
 member_is true t e o = list_is t e
 member_is false t e o = no o
@@ -109,11 +107,11 @@ mutual
   lists_are (array es) e = (tt, elements_are es e)
   lists_are (object ms) e = members_are ms e
 
-  elements_are : (es : Elements) → elements_have es ≡ true → EachElementIn OfSd es
+  elements_are : (es : Elements) → elements_have es ≡ true → EachElementIn IsSdList es
   elements_are no_elements e = tt
   elements_are (element t es) e = let w = and_split (has_digest_lists t) (elements_have es) e in (lists_are t w.0, elements_are es w.1)
 
-  members_are : (ms : Members) → members_have ms ≡ true → EachMemberIn OfSd ms
+  members_are : (ms : Members) → members_have ms ≡ true → EachMemberIn IsSdList ms
   members_are no_members e = tt
   members_are (member name t ms) e =
       let w = and_split (not (bytes_eq name sd_name) || is_digest_list t) (has_digest_lists t && members_have ms) e in
@@ -126,11 +124,11 @@ mutual
   are_lists (array es) h = are_elements es h.1
   are_lists (object ms) h = are_members ms h
 
-  are_elements : (es : Elements) → EachElementIn OfSd es → elements_have es ≡ true
+  are_elements : (es : Elements) → EachElementIn IsSdList es → elements_have es ≡ true
   are_elements no_elements h = refl
   are_elements (element t es) h = and_join (has_digest_lists t) (elements_have es) (are_lists t h.0) (are_elements es h.1)
 
-  are_members : (ms : Members) → EachMemberIn OfSd ms → members_have ms ≡ true
+  are_members : (ms : Members) → EachMemberIn IsSdList ms → members_have ms ≡ true
   are_members no_members h = refl
   are_members (member name t ms) h =
       and_join (not (bytes_eq name sd_name) || is_digest_list t) (has_digest_lists t && members_have ms) (is_member (bytes_eq name sd_name) t h.0)

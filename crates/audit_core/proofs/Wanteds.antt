@@ -12,6 +12,7 @@ use Rattle.std.proofs.lemmas.Fmt.{decimal_by_steps}
 use Rattle.std.proofs.lemmas.Grind.{flat_map-append}
 use Rattle.std.proofs.lemmas.Map.Text.{is_eq-slice_cmp}
 use Rattle.sd_outside.specs.Limits.{count_max}
+use Rattle.std.specs.Cmp.{both_ways}
 use Rattle.claim_tree.specs.Tree.{Text, Tree, leaf, array, object, elements_len}
 use Rattle.claim_tree.specs.Path.{escaped_byte, escaped, pointer_text, tree_at}
 use Rattle.claim_tree.proofs.Lists.{bytes_same, bytes_refl}
@@ -24,7 +25,6 @@ use Rattle.issuer_core.specs.Decoys.{decoy_paths, earlier}
 use Rattle.audit_core.specs.Audited.{Standing, standing, decoy_standing, standings_from}
 use Rattle.audit_core.specs.AuditSteps.{kind_text, standing_text}
 use Rattle.audit_core.specs.Wanted.{count_at, member_texts, element_texts, entry_texts}
-use Rattle.audit_core.proofs.Alikes.{one_test}
 use Rattle.audit_core.proofs.Loops.{IsEntry}
 
 -- ---- how many came before
@@ -120,7 +120,7 @@ counts_step p at front n rest all d whole long =
 
 pub pointer_test : (p q : Path) → bytes_eq (pointer_text p) (pointer_text q) ≡ same_path p q
 pointer_test p q =
-    one_test (bytes_eq (pointer_text p) (pointer_text q)) (same_path p q)
+    both_ways (bytes_eq (pointer_text p) (pointer_text q)) (same_path p q)
     (λ e. path_refl p q (pointer_text-injective p q (bytes_same (pointer_text p) (pointer_text q) e)))
     (λ e. bytes_refl (pointer_text p) (pointer_text q) (ap pointer_text (path_same p q e)))
 

@@ -59,10 +59,10 @@ mutual
   none_members f (member k t ms) = omega (arith, none_sum f t, none_members f ms)
 
 -- the elements and the members of a tree with short lists
-abbrev ElementsShort : Elements → Type 0
+abbrev pub ElementsShort : Elements → Type 0
 ElementsShort es = InElements (λ _. Unit {0}) (λ us. elements_len us < 2 ^ 64) (λ _ _. Unit {0}) es
 
-abbrev MembersShort : Members → Type 0
+abbrev pub MembersShort : Members → Type 0
 MembersShort ms = InMembers (λ _. Unit {0}) (λ us. elements_len us < 2 ^ 64) (λ _ _. Unit {0}) ms
 
 -- one decoy d at r

@@ -314,9 +314,6 @@ words header good body texts parts is_object are_words signed = record {
 
 -- ---- what laying asks for, and the range of what is laid
 
-pub not_more : (a b : ℕ) → (a < b → ⊥) → b ≤ a
-not_more a b h = grind arith
-
 pub with_alg_ranged : (hash : HashAlg) (t : Tree) → IsRanged t → IsRanged (with_alg hash t)
 with_alg_ranged hash (object ms) r = MembersRanged-inserted ms alg_name (leaf (text (hash_name hash))) r tt
 with_alg_ranged hash (leaf l) r = r

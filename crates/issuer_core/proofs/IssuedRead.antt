@@ -49,7 +49,7 @@ use Rattle.issuer_core.proofs.FromLaid.{with_alg_ranged}
 use Rattle.issuer_core.proofs.IssuedContent.{IsTextOf, names_hash}
 use Rattle.issuer_core.proofs.IssuedForgery.{digest_issued}
 use Rattle.issuer_core.proofs.IssuedSound.{issued_is_sound_holds}
-use Rattle.issuer_core.proofs.WithAlg.{with_alg_ordered}
+use Rattle.issuer_core.proofs.WithAlg.{sd_not_alg, with_alg_ordered}
 use Rattle.issuer_core.proofs.WrittenTexts.{GivenTexts, held_texts, with_alg_texts}
 use Rattle.marked_tree.specs.Paths.{Path}
 use Rattle.issuer_core.proofs.ShownTexts.{texts_fine, shown_texts_at}
@@ -59,17 +59,13 @@ from_number f k [] d m = absurd m
 from_number f k (p ∷ paths) d (inl e) = (k, e)
 from_number f k (p ∷ paths) d (inr m) = from_number f (suc k) paths d m
 
-apart : bytes_eq sd_name alg_name ≡ false
-unfolding sd_name alg_name
-apart = refl
-
 no_alg : (r : Text → Shown) (ms : Members) → MembersNoReserved (strip_members (open_members r ms)) → member_named ms alg_name ≡ None
 no_alg r no_members f = refl
 no_alg r (member k t ms) f = go (bytes_eq k sd_name) refl (bytes_eq k alg_name) refl f (no_alg r ms)
   where
     go : (b : Bool) → bytes_eq k sd_name ≡ b → (c : Bool) → bytes_eq k alg_name ≡ c → MembersNoReserved (strip_members (if b then open_members r ms else marked_member k None (open_tree r t) (open_members r ms)))
         → (MembersNoReserved (strip_members (open_members r ms)) → member_named ms alg_name ≡ None) → (if c then Some t else member_named ms alg_name) ≡ None
-    go true q true z f ih = let clash : true ≡ false = sym z ∙ (ap (λ (n : Text). bytes_eq n alg_name) (bytes_same k sd_name q) ∙ apart) in cc clash
+    go true q true z f ih = let clash : true ≡ false = sym z ∙ (ap (λ (n : Text). bytes_eq n alg_name) (bytes_same k sd_name q) ∙ sd_not_alg) in cc clash
     go true q false z f ih = ih f
     go false q true z f ih = let clash : true ≡ false = sym z ∙ f.0.2 in cc clash
     go false q false z f ih = ih f.2

@@ -92,14 +92,14 @@ none_there : (o : Option Path) → ((path : Path) → o ≡ Some path → ⊥) �
 none_there None h = refl
 none_there (Some path) h = absurd (h path refl)
 
-not_over : (a b : ℕ) → (a < b → ⊥) → b ≤ a
-not_over a b h = grind arith
+pub not_more : (a b : ℕ) → (a < b → ⊥) → b ≤ a
+not_more a b h = grind arith
 
 pub good_order : (o : Order) → PassesBelow 58 o → IsOrdered o.payload → IsGoodOrder o
 good_order o below ordered = record {
   is_object = object_there o.payload (λ h. let over = below PayloadNotObject h in omega (arith, over));
   no_reserved = no_reserved o.payload (none_there (slice_get (reserved_paths o.payload) 0) (λ path e. let over = below (ReservedName path) e in omega (arith, over)));
-  shallow = not_over 100 (depth o.payload) (λ h. let over = below TooDeep h in omega (arith, over));
+  shallow = not_more 100 (depth o.payload) (λ h. let over = below TooDeep h in omega (arith, over));
   decoys_held = λ entry stands.
       let w = In-At o.decoys entry stands in
       holder_there (tree_at o.payload entry.at) (λ m. let over = below (DecoyPlace w.0) (entry, w.1, m) in omega (arith, over));

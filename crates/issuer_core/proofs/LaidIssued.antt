@@ -32,6 +32,10 @@ numbered_same f h k (q ∷ qs) e =
     ap₂ (λ (a : Text) (b : List Text). a ∷ b) (ap f (let z : k ≡ k + 0 = omega arith in z) ∙ e 0 (omega arith) ∙ ap h (let z : k + 0 ≡ k = omega arith in z))
     (numbered_same f h (suc k) qs (λ d l. let z : suc k + d ≡ k + suc d = omega arith in ap f z ∙ e (suc d) (omega (arith, l)) ∙ ap h (sym z)))
 
+pub length-digests_from : (f : ℕ → Text) (k : ℕ) (places : List Path) → length (digests_from f k places) ≡ length places
+length-digests_from f k [] = refl
+length-digests_from f k (at ∷ places) = ap suc (length-digests_from f (suc k) places)
+
 module _ (mk : Maker) (o : Order) (p : Tree) (g : List Given) (dg : ℕ → Text) (good : IsGoodOrder o) (ranged : IsRanged o.payload) (short : HasShortLists o.payload) (laid : IsLaid mk o p g dg) (differ : AllDiffer dg (hidden_of o + length (decoys_of o))) where
   abbrev dec : Path → List Text
   dec = decoys_at dg (hidden_of o) (decoys_of o)

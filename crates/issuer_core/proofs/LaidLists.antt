@@ -56,17 +56,17 @@ apart_join (x ∷ xs) ys a b c = ((λ m. ⊎_elim (λ z. a.0 z) (λ z. c x (inl 
 -- ---- setting members
 
 -- a member `_sd` is a list of digests
-abbrev IsListedSd : Text → Tree → Type 0
-IsListedSd name value = bytes_eq name sd_name ≡ true → IsDigestList value
+abbrev pub IsSdList : Text → Tree → Type 0
+IsSdList name value = bytes_eq name sd_name ≡ true → IsDigestList value
 
 abbrev ElementsDigestLists : Elements → Type 0
-ElementsDigestLists es = EachElementIn IsListedSd es
+ElementsDigestLists es = EachElementIn IsSdList es
 
 abbrev MembersDigestLists : Members → Type 0
-MembersDigestLists ms = EachMemberIn IsListedSd ms
+MembersDigestLists ms = EachMemberIn IsSdList ms
 
 set_lists : (k : Text) (t : Tree) (ms : Members) → (bytes_eq k sd_name ≡ true → IsDigestList t) → HasDigestLists t → MembersDigestLists ms → MembersDigestLists (inserted ms k t)
-set_lists k t ms l h rest = inserted_everywhere (λ _. Unit {0}) (λ _. Unit {0}) IsListedSd ms k t l h rest
+set_lists k t ms l h rest = inserted_everywhere (λ _. Unit {0}) (λ _. Unit {0}) IsSdList ms k t l h rest
 
 texts_lists : (ds : List Text) → ElementsDigestLists (text_elements ds)
 texts_lists [] = tt

@@ -28,6 +28,7 @@ pub mod FromLaid
 pub mod OneToken
 pub mod OneRefusal
 mod Examples
+pub mod WorkedOrders
 pub mod Firsts
 pub mod ReservedPlaces
 pub mod SaltSteps

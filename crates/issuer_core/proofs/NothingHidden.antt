@@ -4,15 +4,13 @@ use Rattle.std.proofs.lemmas.List.{nil_from_length}
 use Rattle.claim_tree.specs.Tree.{Text, Tree, leaf, array, object, Elements, no_elements, element, Members, no_members, member}
 use Rattle.marked_tree.specs.Marked.{Marked, MarkedElements, marked_element, MarkedMembers, marked_member}
 use Rattle.marked_tree.specs.Paths.{Path, below, hidden_in, hidden_elements, hidden_members, is_among, mark_if, mark_from, mark_elements, mark_members, one_if}
+use Rattle.marked_tree.proofs.KeptMembers.{NonePasses}
 use Rattle.issuer_core.specs.Order.{Order}
 use Rattle.issuer_core.specs.Decoys.{decoys_at, decoys_of, decoy_paths}
 use Rattle.issuer_core.specs.Digests.{Maker, hidden_of, marked_claims}
 use Rattle.issuer_core.specs.Laid.{lay, lay_elements, lay_members, hidden_digests, laid_given, digest_elements, sorted, with_sd, with_alg, order_decoys}
 use Rattle.issuer_core.specs.Laying.{IsLaidFor}
 use Rattle.issuer_core.proofs.Closing.{items_length, order_marks}
-
-abbrev HidesNone : (Path → Bool) → Type 0
-HidesNone h = (p : Path) → h p ≡ false
 
 abbrev HasNone : (Path → List Text) → Type 0
 HasNone dec = (p : Path) → dec p ≡ []
@@ -24,16 +22,16 @@ unmarked false i e = refl
 -- ---- no marks
 
 mutual
-  none_hidden : (h : Path → Bool) → HidesNone h → (t : Tree) → hidden_in h t ≡ 0
+  none_hidden : (h : Path → Bool) → NonePasses h → (t : Tree) → hidden_in h t ≡ 0
   none_hidden h none (leaf l) = refl
   none_hidden h none (array es) = no_elements_hidden h none 0 es
   none_hidden h none (object ms) = no_members_hidden h none ms
 
-  no_elements_hidden : (h : Path → Bool) → HidesNone h → (i : ℕ) (es : Elements) → hidden_elements h i es ≡ 0
+  no_elements_hidden : (h : Path → Bool) → NonePasses h → (i : ℕ) (es : Elements) → hidden_elements h i es ≡ 0
   no_elements_hidden h none i no_elements = refl
   no_elements_hidden h none i (element t es) = omega (arith, none_hidden (below (decimal i) h) (λ p. none (decimal i ∷ p)) t, ap one_if (none (decimal i ∷ [])), no_elements_hidden h none (suc i) es)
 
-  no_members_hidden : (h : Path → Bool) → HidesNone h → (ms : Members) → hidden_members h ms ≡ 0
+  no_members_hidden : (h : Path → Bool) → NonePasses h → (ms : Members) → hidden_members h ms ≡ 0
   no_members_hidden h none no_members = refl
   no_members_hidden h none (member k t ms) = omega (arith, none_hidden (below k h) (λ p. none (k ∷ p)) t, ap one_if (none (k ∷ [])), no_members_hidden h none ms)
 
@@ -53,7 +51,7 @@ shown_digests : (dg : ℕ → Text) (name : Text) (k : Option ℕ) (m : Marked) 
 shown_digests dg name None m ms e = refl
 shown_digests dg name (Some k) m ms e = cc e
 
-no_digests : (dg : ℕ → Text) (h : Path → Bool) → HidesNone h → (n : ℕ) (ms : Members) → hidden_digests dg (mark_members h n ms) ≡ []
+no_digests : (dg : ℕ → Text) (h : Path → Bool) → NonePasses h → (n : ℕ) (ms : Members) → hidden_digests dg (mark_members h n ms) ≡ []
 no_digests dg h none n no_members = refl
 no_digests dg h none n (member k t ms) =
     let after = n + (hidden_in (below k h) t + one_if (h (k ∷ []))) in
@@ -61,13 +59,13 @@ no_digests dg h none n (member k t ms) =
     ∙ no_digests dg h none after ms
 
 mutual
-  lay_same : (dec : Path → List Text) (dg : ℕ → Text) (h : Path → Bool) → HasNone dec → HidesNone h → (n : ℕ) (t : Tree) → lay dec dg (mark_from h n t) ≡ t
+  lay_same : (dec : Path → List Text) (dg : ℕ → Text) (h : Path → Bool) → HasNone dec → NonePasses h → (n : ℕ) (t : Tree) → lay dec dg (mark_from h n t) ≡ t
   lay_same dec dg h bare none n (leaf l) = refl
   lay_same dec dg h bare none n (array es) = ap array (elements_same dec dg h bare none n 0 es)
   lay_same dec dg h bare none n (object ms) =
       ap object (ap₂ (λ (ds : List Text) (us : Members). with_sd (sorted ds) us) (ap₂ (λ (xs ys : List Text). xs ++ ys) (no_digests dg h none n ms) (bare [])) (members_same dec dg h bare none n ms))
 
-  elements_same : (dec : Path → List Text) (dg : ℕ → Text) (h : Path → Bool) → HasNone dec → HidesNone h → (n i : ℕ) (es : Elements) → lay_elements dec dg i (mark_elements h n i es) ≡ es
+  elements_same : (dec : Path → List Text) (dg : ℕ → Text) (h : Path → Bool) → HasNone dec → NonePasses h → (n i : ℕ) (es : Elements) → lay_elements dec dg i (mark_elements h n i es) ≡ es
   elements_same dec dg h bare none n i no_elements = ap digest_elements (bare [])
   elements_same dec dg h bare none n i (element t es) =
       let k = decimal i in
@@ -75,7 +73,7 @@ mutual
       shown_element dec dg i (mark_if (h (k ∷ [])) (n + hidden_in (below k h) t)) (mark_from (below k h) n t) (mark_elements h after (suc i) es) (unmarked (h (k ∷ [])) (n + hidden_in (below k h) t) (none (k ∷ [])))
       ∙ ap₂ element (lay_same (λ at. dec (k ∷ at)) dg (below k h) (λ p. bare (k ∷ p)) (λ p. none (k ∷ p)) n t) (elements_same dec dg h bare none after (suc i) es)
 
-  members_same : (dec : Path → List Text) (dg : ℕ → Text) (h : Path → Bool) → HasNone dec → HidesNone h → (n : ℕ) (ms : Members) → lay_members dec dg (mark_members h n ms) ≡ ms
+  members_same : (dec : Path → List Text) (dg : ℕ → Text) (h : Path → Bool) → HasNone dec → NonePasses h → (n : ℕ) (ms : Members) → lay_members dec dg (mark_members h n ms) ≡ ms
   members_same dec dg h bare none n no_members = refl
   members_same dec dg h bare none n (member k t ms) =
       let after = n + (hidden_in (below k h) t + one_if (h (k ∷ []))) in
@@ -88,7 +86,7 @@ module _ (mk : Maker) (o : Order) (shown : o.hide ≡ []) (bare : o.decoys ≡ [
   abbrev dg : ℕ → Text
   dg k = []
 
-  hides_none : HidesNone (is_among o.hide)
+  hides_none : NonePasses (is_among o.hide)
   hides_none p = ap (λ ps. is_among ps p) shown
 
   no_hidden : hidden_of o ≡ 0

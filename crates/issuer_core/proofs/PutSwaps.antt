@@ -8,21 +8,7 @@ use Rattle.claim_tree.specs.Tree.{IsBefore, Text}
 use Rattle.marked_tree.specs.Marked.{Marked, MarkedMembers, marked_member, no_marked_members, put}
 use Rattle.rebuild_core.specs.Opening.{Shown, nothing_shown, show_member, show_members, shown}
 use Rattle.issuer_core.specs.Laid.{sorted, sorted_with}
-use Rattle.marked_tree.proofs.Puts.{before_trans, put_later}
-use Rattle.claim_tree.proofs.MapPlaces.{before_after}
-
-abbrev pub Where : Text → Text → Ordering → Type 0
-Where k l Less = IsBefore k l
-Where k l Equal = slice_cmp nat_cmp k l ≡ Equal
-Where k l Greater = IsBefore l k
-
-pub where_is : (k l : Text) → Where k l (slice_cmp nat_cmp k l)
-where_is k l = go (slice_cmp nat_cmp k l) refl
-  where
-    go : (o : Ordering) → slice_cmp nat_cmp k l ≡ o → Where k l o
-    go Less h = h
-    go Equal h = h
-    go Greater h = before_after k l h
+use Rattle.marked_tree.proofs.Puts.{Where, where_is, before_trans, put_later}
 
 put_less : (k : Text) (i : Option ℕ) (t : Marked) (l : Text) (j : Option ℕ) (u : Marked) (ms : MarkedMembers) → IsBefore k l → put k i t (marked_member l j u ms) ≡ marked_member k i t (marked_member l j u ms)
 put_less k i t l j u ms h = ap (λ o. match_ordering o (marked_member k i t (marked_member l j u ms)) (marked_member l j u ms) (marked_member l j u (put k i t ms))) h

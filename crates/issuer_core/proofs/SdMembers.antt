@@ -11,6 +11,7 @@ use Rattle.digest_sites.specs.Reserved.{dots_name, element_digest, sd_name, sd_t
 use Rattle.digest_sites.specs.Sites.{Site, member_sites, sites, to_member, under}
 use Rattle.marked_tree.specs.Marked.{Marked, MarkedMembers, marked_array, marked_leaf, marked_member, marked_object, no_marked_elements, no_marked_members}
 use Rattle.rebuild_core.specs.Opening.{Shown, nothing_shown, open_elements, open_members, open_tree}
+use Rattle.rebuild_core.proofs.AllShown.{sd_no_dots}
 use Rattle.issuer_core.specs.Laid.{digest_elements, digest_object, hidden_digests, lay, lay_members, sorted, with_sd}
 use Rattle.claim_tree.proofs.Lists.{bytes_refl}
 use Rattle.issuer_core.proofs.Plain.{IsPlain, MembersPlain}
@@ -84,10 +85,6 @@ with_sd_sites [] ms h = refl
 with_sd_sites (d ∷ ds) ms h = set_sites (array (text_elements (d ∷ ds))) ms h
 
 -- ---- what is laid from an element is no digest element
-
-sd_no_dots : bytes_eq sd_name dots_name ≡ false
-unfolding sd_name dots_name
-sd_no_dots = refl
 
 two_members : (l : Text) (u : Tree) (n : Text) (t : Tree) (ms : Members) → element_digest (object (member l u (inserted ms n t))) ≡ None
 two_members l u n t no_members = refl

@@ -17,9 +17,11 @@ use Rattle.marked_tree.proofs.Puts.{IsBeforeAll-not_in}
 use Rattle.rebuild_core.specs.Opening.{Shown, nothing_shown, shown, reveal, open_tree, open_elements, open_members, open_element, show_members, show_element, show_member, opened}
 use Rattle.rebuild_core.specs.Soundness.{IsReferencedOnce}
 use Rattle.rebuild_core.proofs.ShownBy.{way_step, shown_from}
-use Rattle.rebuild_core.proofs.Marks.{Way, shown_ways}
+use Rattle.marked_tree.proofs.Spots.{Way}
+use Rattle.rebuild_core.proofs.Marks.{shown_ways}
 use Rattle.issuer_core.specs.Issued.{IsDigestList, HasDigestLists}
-use Rattle.issuer_core.proofs.WrittenTexts.{sd_utf8, dots_utf8}
+use Rattle.issuer_core.proofs.LaidLists.{IsSdList}
+use Rattle.issuer_core.proofs.WrittenTexts.{AllTexts, sd_utf8, dots_utf8}
 
 -- ---- what is shown
 
@@ -113,9 +115,6 @@ mutual
 
 -- ---- the tree itself
 
-abbrev AllUtf8 : List Text → Type 0
-AllUtf8 ds = (d : Text) → In d ds → IsUtf8 d
-
 -- each digest at a site is UTF-8
 abbrev pub SitesUtf8 : List Site → Type 0
 SitesUtf8 ss = (s : Site) → In s ss → IsUtf8 s.digest
@@ -139,20 +138,20 @@ digest_texts (object (member k t no_members)) d e u = go (bytes_eq k dots_name) 
     go true q e = (subst IsUtf8 (sym (bytes_same k dots_name q)) dots_utf8, text_leaf t d e u, tt)
     go false q e = cc e
 
-list_texts : (es : Elements) (ds : List Text) → texts_of es ≡ Some ds → AllUtf8 ds → ElementsTexts es
+list_texts : (es : Elements) (ds : List Text) → texts_of es ≡ Some ds → AllTexts ds → ElementsTexts es
 list_texts no_elements ds e all = tt
 list_texts (element t es) ds e all = go (text_of t) refl (texts_of es) refl e (λ ss z each. list_texts es ss z each)
   where
     go : (o : Option Text) → text_of t ≡ o → (os : Option (List Text)) → texts_of es ≡ os → option_and_then (λ s. option_map (λ ss. s ∷ ss) os) o ≡ Some ds
-        → ((ss : List Text) → texts_of es ≡ Some ss → AllUtf8 ss → ElementsTexts es) → ElementsTexts (element t es)
+        → ((ss : List Text) → texts_of es ≡ Some ss → AllTexts ss → ElementsTexts es) → ElementsTexts (element t es)
     go None q os z e rest = cc e
     go (Some s) q None z e rest = cc e
     go (Some s) q (Some ss) z e rest =
         let same : s ∷ ss ≡ ds = cc e in
-        let each : AllUtf8 (s ∷ ss) = subst AllUtf8 (sym same) all in
+        let each : AllTexts (s ∷ ss) = subst AllTexts (sym same) all in
         (text_leaf t s q (each s (inl refl)), rest ss z (λ d m. each d (inr m)))
 
-digests_texts : (t : Tree) (ds : List Text) → text_list t ≡ Some ds → AllUtf8 ds → HasTexts t
+digests_texts : (t : Tree) (ds : List Text) → text_list t ≡ Some ds → AllTexts ds → HasTexts t
 digests_texts (array es) ds e all = (tt, list_texts es ds e all)
 digests_texts (leaf l) ds e all = cc e
 digests_texts (object ms) ds e all = cc e
@@ -164,9 +163,6 @@ no_sd (member l u ms) out = go (bytes_eq l sd_name) refl (no_sd ms (λ m. out (i
     go : (b : Bool) → bytes_eq l sd_name ≡ b → sd_texts ms ≡ [] → (if b then unwrap_or (text_list u) [] else sd_texts ms) ≡ []
     go true q ih = absurd (out (inl (sym (bytes_same l sd_name q))))
     go false q ih = ih
-
-abbrev IsSdList : Text → Tree → Type 0
-IsSdList name value = bytes_eq name sd_name ≡ true → IsDigestList value
 
 element_fine : (r : Text → Shown) (i : ℕ) (t : Tree) (es : Elements) (o : Option Text) → element_digest t ≡ o → SitesUtf8 (sites_on (to_element i) o (sites t))
     → (SitesUtf8 (sites t) → HasTexts (strip (open_tree r t)) → HasTexts t) → (ElementsTexts (strip_elements (open_elements r es)) → ElementsTexts es)
@@ -180,8 +176,8 @@ element_fine r i t es (Some d) q all one rest f = (digest_texts t d q (all (elem
     left (shown i (Some l) u) f = f
 
 member_fine : (r : Text → Shown) (k : Text) (t : Tree) (ms : Members) (b : Bool) → bytes_eq k sd_name ≡ b → (b ≡ true → IsDigestList t) → (b ≡ true → sd_texts ms ≡ [])
-    → AllUtf8 (if b then unwrap_or (text_list t) [] else sd_texts ms) → SitesUtf8 ((if b then [] else map (under (to_member k)) (sites t)) ++ member_sites ms)
-    → (SitesUtf8 (sites t) → HasTexts (strip (open_tree r t)) → HasTexts t) → (AllUtf8 (sd_texts ms) → SitesUtf8 (member_sites ms) → MembersTexts (strip_members (open_members r ms)) → MembersTexts ms)
+    → AllTexts (if b then unwrap_or (text_list t) [] else sd_texts ms) → SitesUtf8 ((if b then [] else map (under (to_member k)) (sites t)) ++ member_sites ms)
+    → (SitesUtf8 (sites t) → HasTexts (strip (open_tree r t)) → HasTexts t) → (AllTexts (sd_texts ms) → SitesUtf8 (member_sites ms) → MembersTexts (strip_members (open_members r ms)) → MembersTexts ms)
     → MembersTexts (strip_members (if b then open_members r ms else marked_member k None (open_tree r t) (open_members r ms))) → MembersTexts (member k t ms)
 member_fine r k t ms true q is none own inside one rest f =
     let list = is refl in (
@@ -213,7 +209,7 @@ mutual
       (λ a g. texts_fine r t o.0 lists.0 a g)
       (λ g. elements_fine r (suc i) es o.1 lists.1 (λ s m. all s (In-right s (sites_on (to_element i) (element_digest t) (sites t)) (element_sites (suc i) es) m)) g) f
 
-  members_fine : (r : Text → Shown) (ms : Members) → MembersOrdered ms → EachMemberIn IsSdList ms → AllUtf8 (sd_texts ms) → SitesUtf8 (member_sites ms) → MembersTexts (strip_members (open_members r ms)) → MembersTexts ms
+  members_fine : (r : Text → Shown) (ms : Members) → MembersOrdered ms → EachMemberIn IsSdList ms → AllTexts (sd_texts ms) → SitesUtf8 (member_sites ms) → MembersTexts (strip_members (open_members r ms)) → MembersTexts ms
   members_fine r no_members o lists own inside f = tt
   members_fine r (member k t ms) o lists own inside f =
       member_fine r k t ms (bytes_eq k sd_name) refl lists.0

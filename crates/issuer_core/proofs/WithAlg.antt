@@ -50,7 +50,7 @@ has_no_inserted k n t (member l u ms) d h = go (slice_cmp nat_cmp l n) (has_no_i
     go Equal ih = (d, h.1)
     go Greater ih = (d, h)
 
-sd_not_alg : bytes_eq sd_name alg_name ≡ false
+pub sd_not_alg : bytes_eq sd_name alg_name ≡ false
 unfolding sd_name alg_name
 sd_not_alg = refl
 

@@ -11,7 +11,7 @@ use Rattle.claim_tree.proofs.Lists.{In-left, In-right, In-map, At-of_map, At-eit
 use Rattle.marked_tree.proofs.MarkFacts.{marks_once_holds, up_to_le}
 use Rattle.marked_tree.proofs.Spots.{spots_weigh, first_is}
 
-own_length : (b : Bool) (k : Text) → length (own_path b k) ≡ one_if b
+pub own_length : (b : Bool) (k : Text) → length (own_path b k) ≡ one_if b
 own_length true k = refl
 own_length false k = refl
 

@@ -22,3 +22,4 @@ pub mod HeadCounts
 mod Examples
 pub mod StepFacts
 pub mod LeastChoice
+pub mod KeptMembers

@@ -126,21 +126,18 @@ found_all k (marked_member name i t xs) ms o =
 
 -- ---- ascending members are what stands under each name
 
-itself : (name : Text) → bytes_eq name name ≡ true
-itself name = bytes_refl name name refl
-
 same_members : (ms ns : MarkedMembers) → Ascend (marked_names ms) → Ascend (marked_names ns) → ((k : Text) → first_named k ms ≡ first_named k ns) → ms ≡ ns
 same_members no_marked_members no_marked_members o p same = refl
 same_members no_marked_members (marked_member l j u ns) o p same =
     let e : None ≡ first_named l (marked_member l j u ns) = same l in
-    absurd (let f : None ≡ Some (j, u) = rw (itself l) at e in cc)
+    absurd (let f : None ≡ Some (j, u) = rw (bytes_refl l l refl) at e in cc)
 same_members (marked_member k i t ms) no_marked_members o p same =
     let e : first_named k (marked_member k i t ms) ≡ None = same k in
-    absurd (let f : Some (i, t) ≡ None = rw (itself k) at e in cc)
+    absurd (let f : Some (i, t) ≡ None = rw (bytes_refl k k refl) at e in cc)
 same_members (marked_member k i t ms) (marked_member l j u ns) o p same = go (cmp k l) refl (λ rest. same_members ms ns o.1 p.1 rest)
   where
     here : (x : Text) (a : Option ℕ) (b : spec.Marked) (rest : MarkedMembers) → first_named x (marked_member x a b rest) ≡ Some (a, b)
-    here x a b rest = rw (itself x) refl
+    here x a b rest = rw (bytes_refl x x refl) refl
 
     go : (r : Ordering) → cmp k l ≡ r → (((x : Text) → first_named x ms ≡ first_named x ns) → ms ≡ ns) → marked_member k i t ms ≡ marked_member l j u ns
     go Less e ih =

@@ -76,7 +76,7 @@ up_to i n = cond (ltb i n) 1 0
 pub within_is : (i n : ℕ) → i < n → up_to i n ≡ 1
 within_is i n l = grind (arith, nat_tests)
 
-outside_is : (i n : ℕ) → n ≤ i → up_to i n ≡ 0
+pub outside_is : (i n : ℕ) → n ≤ i → up_to i n ≡ 0
 outside_is i n l = grind (arith, nat_tests)
 
 pub up_to_le : (i n : ℕ) → up_to i n ≤ 1

@@ -3,7 +3,7 @@ use Rattle.std.proofs.Common.{◌≡◌, ℕ, suc, ◌+◌, ◌<◌, ◌≤◌, 
 use Rattle.claim_tree.specs.Tree.{Text, Tree, leaf, array, object, Elements, no_elements, element, Members, no_members, member, elements_depth, members_depth, names, IsBefore, IsBeforeAll, MembersOrdered}
 use Rattle.claim_tree.specs.Nodes.{elements_nodes, members_nodes}
 use Rattle.marked_tree.specs.Marked.{Marked, marked_array, marked_object, MarkedElements, no_marked_elements, marked_element, MarkedMembers, no_marked_members, marked_member, put}
-use Rattle.marked_tree.specs.MarkedCalls.{marked_elements_len, marked_names, marked_pushed}
+use Rattle.marked_tree.specs.MarkedCalls.{marked_elements_len, marked_names, marked_pushed, joined, members_joined}
 use Rattle.marked_tree.specs.Paths.{Path, below, one_if, is_among, hidden_in, hidden_elements, hidden_members, mark_if, mark_from, mark_elements, mark_members}
 use Rattle.marked_tree.specs.Rests.{headed}
 use Rattle.marked_tree.proofs.HeadCounts.{taken, taken_more, decimals, decimals_more}
@@ -59,10 +59,6 @@ mutual
 
 -- ---- what is done, and what is left
 
-abbrev pub joined : MarkedElements → MarkedElements → MarkedElements
-joined no_marked_elements rest = rest
-joined (marked_element i t es) rest = marked_element i t (joined es rest)
-
 pub joined-pushed : (es : MarkedElements) (i : Option ℕ) (t : Marked) (rest : MarkedElements) → joined (marked_pushed es i t) rest ≡ joined es (marked_element i t rest)
 joined-pushed no_marked_elements i t rest = refl
 joined-pushed (marked_element j u es) i t rest = ap (marked_element j u) (joined-pushed es i t rest)
@@ -71,26 +67,22 @@ pub joined-none : (es : MarkedElements) → joined es no_marked_elements ≡ es
 joined-none no_marked_elements = refl
 joined-none (marked_element i t es) = ap (marked_element i t) (joined-none es)
 
-abbrev pub joined_members : MarkedMembers → MarkedMembers → MarkedMembers
-joined_members no_marked_members rest = rest
-joined_members (marked_member k i t ms) rest = marked_member k i t (joined_members ms rest)
+pub members_joined-none : (ms : MarkedMembers) → members_joined ms no_marked_members ≡ ms
+members_joined-none no_marked_members = refl
+members_joined-none (marked_member k i t ms) = ap (marked_member k i t) (members_joined-none ms)
 
-pub joined_members-none : (ms : MarkedMembers) → joined_members ms no_marked_members ≡ ms
-joined_members-none no_marked_members = refl
-joined_members-none (marked_member k i t ms) = ap (marked_member k i t) (joined_members-none ms)
-
-before_joined : (name k : Text) (i : Option ℕ) (t : Marked) (ms rest : MarkedMembers) → IsBeforeAll name (marked_names (joined_members ms (marked_member k i t rest))) → IsBefore name k
+before_joined : (name k : Text) (i : Option ℕ) (t : Marked) (ms rest : MarkedMembers) → IsBeforeAll name (marked_names (members_joined ms (marked_member k i t rest))) → IsBefore name k
 before_joined name k i t no_marked_members rest all = all.0
 before_joined name k i t (marked_member l j u ms) rest all = before_joined name k i t ms rest all.1
 
-joined-put : (k : Text) (i : Option ℕ) (t : Marked) (ms rest : MarkedMembers) → Ascend (marked_names (joined_members ms (marked_member k i t rest)))
-    → joined_members (put k i t ms) rest ≡ joined_members ms (marked_member k i t rest)
+joined-put : (k : Text) (i : Option ℕ) (t : Marked) (ms rest : MarkedMembers) → Ascend (marked_names (members_joined ms (marked_member k i t rest)))
+    → members_joined (put k i t ms) rest ≡ members_joined ms (marked_member k i t rest)
 joined-put k i t no_marked_members rest o = refl
 joined-put k i t (marked_member l j u ms) rest o = rw (turned_back l k (before_joined l k i t ms rest o.0)) (ap (marked_member l j u) (joined-put k i t ms rest o.1))
 
 -- where all of them are the marked members of a tree
 pub joined-put_marked : (h : Path → Bool) (n : ℕ) (us : Members) → MembersOrdered us → (k : Text) (i : Option ℕ) (t : Marked) (ms rest : MarkedMembers)
-    → joined_members ms (marked_member k i t rest) ≡ mark_members h n us → joined_members (put k i t ms) rest ≡ joined_members ms (marked_member k i t rest)
+    → members_joined ms (marked_member k i t rest) ≡ mark_members h n us → members_joined (put k i t ms) rest ≡ members_joined ms (marked_member k i t rest)
 joined-put_marked h n us o k i t ms rest all =
     joined-put k i t ms rest (subst (λ ns. Ascend (marked_names ns)) (sym all) (ascend (mark_members h n us) (subst MembersOrdered (sym (strips_members h n us)) o)))
 
@@ -150,7 +142,7 @@ elements_more ps first all done n t left so fits own inside next m few =
 
 -- the members that are marked already, and those that are left
 pub record MarksMembers (ps : List Path) (first : ℕ) (all : Members) (done : MarkedMembers) (next : ℕ) (left : Members) : Type 0 where
-  pub marked : joined_members done (mark_members (is_among ps) next left) ≡ mark_members (is_among ps) first all
+  pub marked : members_joined done (mark_members (is_among ps) next left) ≡ mark_members (is_among ps) first all
   pub counted : next + hidden_members (is_among ps) left ≡ first + hidden_members (is_among ps) all
   pub few : next + taken (names left) ps ≤ first + taken (names all) ps
   pub low : members_depth left ≤ members_depth all
@@ -166,7 +158,7 @@ members_more ps first all ordered done n k t left so own inside next m few =
     let h = is_among ps in
     let rest = mark_members h next left in
     let here : marked_member k own inside rest ≡ mark_members h n (member k t left) = rw (m.own_is, m.inside_is, m.next_is) refl in
-    let whole : joined_members done (marked_member k own inside rest) ≡ mark_members h first all = ap (joined_members done) here ∙ so.marked in
+    let whole : members_joined done (marked_member k own inside rest) ≡ mark_members h first all = ap (members_joined done) here ∙ so.marked in
     let begun = m.next_is in
     let counted = so.counted in
     let so_far = so.few in

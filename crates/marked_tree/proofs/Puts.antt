@@ -11,6 +11,7 @@ use Rattle.marked_tree.specs.Ways.{weight, members_weight, mark_weight, ways, me
 use Rattle.marked_tree.specs.MarkedCalls.{marked_names}
 use Rattle.claim_tree.proofs.Lists.{In-left, In-right, In-append}
 use Rattle.claim_tree.proofs.MapPlaces.{before_after, before_through}
+use Rattle.marked_tree.proofs.Names.{Ascend}
 
 pub before_trans : (k l m : Text) → IsBefore k l → IsBefore l m → IsBefore k m
 before_trans k l m h e = nat_list_cmp_total.trans k l m h e
@@ -25,22 +26,18 @@ IsBeforeAll-not_in k (n ∷ ns) a (inl e) = never_itself k (subst (λ z. IsBefor
 IsBeforeAll-not_in k (n ∷ ns) a (inr m) = IsBeforeAll-not_in k ns a.1 m
 IsBeforeAll-not_in k [] a m = elim m [ ]
 
-abbrev pub IsAscending : List Text → Type 0
-IsAscending [] = Unit {0}
-IsAscending (n ∷ ns) = IsBeforeAll n ns × IsAscending ns
-
 -- how two names stand, with what the order says
-abbrev Where : Text → Text → Ordering → Type 0
+abbrev pub Where : Text → Text → Ordering → Type 0
 Where k l Less = IsBefore k l
-Where k l Equal = k ≡ l
+Where k l Equal = slice_cmp nat_cmp k l ≡ Equal
 Where k l Greater = IsBefore l k
 
-where_is : (k l : Text) → Where k l (slice_cmp nat_cmp k l)
+pub where_is : (k l : Text) → Where k l (slice_cmp nat_cmp k l)
 where_is k l = go (slice_cmp nat_cmp k l) refl
   where
     go : (o : Ordering) → slice_cmp nat_cmp k l ≡ o → Where k l o
     go Less h = h
-    go Equal h = exact_bytes k l h
+    go Equal h = h
     go Greater h = before_after k l h
 
 abbrev put_by : Ordering → Text → Option ℕ → Marked → Text → Option ℕ → Marked → MarkedMembers → MarkedMembers → MarkedMembers
@@ -67,11 +64,11 @@ put_after n k i t (marked_member l j u ms) h a = go (slice_cmp nat_cmp k l) (put
     go Equal ih = a
     go Greater ih = (a.0, ih)
 
-pub put_ascending : (k : Text) (i : Option ℕ) (t : Marked) (ms : MarkedMembers) → IsAscending (marked_names ms) → IsAscending (marked_names (put k i t ms))
+pub put_ascending : (k : Text) (i : Option ℕ) (t : Marked) (ms : MarkedMembers) → Ascend (marked_names ms) → Ascend (marked_names (put k i t ms))
 put_ascending k i t no_marked_members a = (tt, tt)
 put_ascending k i t (marked_member l j u ms) a = go (slice_cmp nat_cmp k l) (where_is k l) (put_ascending k i t ms a.1)
   where
-    go : (o : Ordering) → Where k l o → IsAscending (marked_names (put k i t ms)) → IsAscending (marked_names (put_by o k i t l j u ms (put k i t ms)))
+    go : (o : Ordering) → Where k l o → Ascend (marked_names (put k i t ms)) → Ascend (marked_names (put_by o k i t l j u ms (put k i t ms)))
     go Less w ih = ((w, before_through k l (marked_names ms) w a.0), a)
     go Equal w ih = a
     go Greater w ih = (put_after l k i t ms w a.0, ih)
@@ -97,7 +94,7 @@ put_kept k None t ms = ms
 put_kept k (Some i) t ms = put k i t ms
 
 -- leaving out marks and putting a new name change places
-pub remark_put : (f : ℕ → Option ℕ) (k : Text) (i : Option ℕ) (t : Marked) (ms : MarkedMembers) → IsAscending (marked_names ms) → (In k (marked_names ms) → ⊥)
+pub remark_put : (f : ℕ → Option ℕ) (k : Text) (i : Option ℕ) (t : Marked) (ms : MarkedMembers) → Ascend (marked_names ms) → (In k (marked_names ms) → ⊥)
     → remark_members f (put k i t ms) ≡ put_kept k (new_mark f i) (remark f t) (remark_members f ms)
 remark_put f k i t no_marked_members a out = go (new_mark f i)
   where
@@ -113,7 +110,7 @@ remark_put f k i t (marked_member l j u ms) a out = go (slice_cmp nat_cmp k l) (
     go : (c : Ordering) → Where k l c → (o q : Option (Option ℕ)) → remark_members f (put k i t ms) ≡ put_kept k (new_mark f i) (remark f t) (remark_members f ms)
         → remark_members f (put_by c k i t l j u ms (put k i t ms)) ≡ put_kept k (new_mark f i) (remark f t) (keep_member l (new_mark f j) (remark f u) (remark_members f ms))
     go Less w o q ih = tail (remark_members f (marked_member l j u ms)) (new_mark f i) (remark_after k f (marked_member l j u ms) (w, before_through k l (marked_names ms) w a.0))
-    go Equal w o q ih = absurd (out (inl w))
+    go Equal w o q ih = absurd (out (inl (exact_bytes k l w)))
     go Greater w o q ih = ap (keep_member l (new_mark f j) (remark f u)) ih ∙ later (new_mark f i) (new_mark f j)
       where
         later : (o q : Option (Option ℕ)) → keep_member l q (remark f u) (put_kept k o (remark f t) (remark_members f ms)) ≡ put_kept k o (remark f t) (keep_member l q (remark f u) (remark_members f ms))
@@ -130,7 +127,7 @@ put_weight w k i t (marked_member l j u ms) out = go (slice_cmp nat_cmp k l) (wh
     go : (o : Ordering) → Where k l o → members_weight w (put k i t ms) ≡ (mark_weight w i + weight w t) + members_weight w ms
         → members_weight w (put_by o k i t l j u ms (put k i t ms)) ≡ (mark_weight w i + weight w t) + ((mark_weight w j + weight w u) + members_weight w ms)
     go Less h ih = refl
-    go Equal h ih = absurd (out (inl h))
+    go Equal h ih = absurd (out (inl (exact_bytes k l h)))
     go Greater h ih = omega (arith, ih)
 
 pub put_way : (k : Text) (i : Option ℕ) (t : Marked) (ms : MarkedMembers) (w : ℕ × List ℕ) → (In k (marked_names ms) → ⊥)
@@ -140,7 +137,7 @@ put_way k i t (marked_member l j u ms) w out h = go (slice_cmp nat_cmp k l) (whe
   where
     go : (o : Ordering) → Where k l o → In w (members_ways (put k i t ms)) → In w (members_ways (put_by o k i t l j u ms (put k i t ms)))
     go Less e ih = In-left w (way_of i (ways t)) (members_ways (marked_member l j u ms)) h
-    go Equal e ih = absurd (out (inl e))
+    go Equal e ih = absurd (out (inl (exact_bytes k l e)))
     go Greater e ih = In-right w (way_of j (ways u)) (members_ways (put k i t ms)) ih
 
 pub put_way_other : (k : Text) (i : Option ℕ) (t : Marked) (ms : MarkedMembers) (w : ℕ × List ℕ) → In w (members_ways ms) → In w (members_ways (put k i t ms))

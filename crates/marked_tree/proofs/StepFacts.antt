@@ -1,6 +1,7 @@
 -- One step into a marked tree: what it finds, and which marks are on the way.
-use Rattle.std.proofs.Common.{◌≡◌, ◌≢◌, ℕ, zero, suc, ◌+◌, ◌<◌, ◌≤◌, ◌^◌, List, [], ◌∷◌, ◌++◌, map, Bool, true, false, cond, ◌⊎◌, inl, inr, eqb, ◌&&◌, ◌||◌, Option, Some, None, option_map, refl, sym, ap, ap₂, subst, ◌∙◌, arith, bytes_eq, decimal, get_or, Bor, IfSome}
+use Rattle.std.proofs.Common.{◌≡◌, ◌≢◌, ℕ, zero, suc, ◌+◌, ◌<◌, ◌≤◌, ◌^◌, List, [], ◌∷◌, map, Bool, true, false, cond, ◌⊎◌, inl, inr, eqb, ◌&&◌, ◌||◌, Option, Some, None, option_map, refl, sym, ap, ap₂, subst, ◌∙◌, arith, bytes_eq, decimal, get_or, Bor, IfSome}
 use Rattle.std.specs.List.{list_any}
+use Rattle.std.proofs.Math.Bool.{and-false, and-true, or-false}
 use Rattle.std.proofs.lemmas.Fmt.{decimal_injective}
 use Rattle.std.proofs.lemmas.List.Folds.{list_any-append}
 use Rattle.std.proofs.lemmas.Slice.Eq.{bytes_eq-Decides}
@@ -21,6 +22,7 @@ use Rattle.marked_tree.specs.View.{marked_of, marked_members_of}
 use Rattle.marked_tree.proofs.MarkedViews.{Entry}
 use Rattle.marked_tree.proofs.Names.{Ascend, names_of, ascend}
 use Rattle.marked_tree.proofs.Lookups.{apart, apart_back}
+use Rattle.marked_tree.proofs.Finds.{node_spots}
 
 -- ---- the tree one step inside is that of the tree without marks
 
@@ -95,36 +97,21 @@ element_there (marked_element k t es) i (suc j) step fits e =
 abbrev on : Path → ℕ → Spot → Bool
 on p i s = eqb s.mark i && is_front s.at p
 
-abbrev node_spots : Text → Option ℕ → spec.Marked → List Spot
-node_spots k own t = own_spot k own ++ map (inside k own) (spots t)
-
-no_and : (b : Bool) → (b && false) ≡ false
-no_and true = refl
-no_and false = refl
-
-yes_and : (b : Bool) → (b && true) ≡ b
-yes_and true = refl
-yes_and false = refl
-
-or_no : (b : Bool) → (b || false) ≡ b
-or_no true = refl
-or_no false = refl
-
 inside_here : (k step : Text) (own : Option ℕ) (p : Path) (i : ℕ) (ss : List Spot) → bytes_eq k step ≡ true → list_any (on (step ∷ p) i) (map (inside k own) ss) ≡ list_any (on p i) ss
 inside_here k step own p i [] e = refl
 inside_here k step own p i (s ∷ ss) e = ap₂ (λ a b. a || b) (rw e refl) (inside_here k step own p i ss e)
 
 inside_other : (k step : Text) (own : Option ℕ) (p : Path) (i : ℕ) (ss : List Spot) → bytes_eq k step ≡ false → list_any (on (step ∷ p) i) (map (inside k own) ss) ≡ false
 inside_other k step own p i [] e = refl
-inside_other k step own p i (s ∷ ss) e = rw e (rw (no_and (eqb s.mark i)) (inside_other k step own p i ss e))
+inside_other k step own p i (s ∷ ss) e = rw e (rw (and-false (eqb s.mark i)) (inside_other k step own p i ss e))
 
 own_here : (k step : Text) (own : Option ℕ) (p : Path) (i : ℕ) → bytes_eq k step ≡ true → list_any (on (step ∷ p) i) (own_spot k own) ≡ has_mark own i
 own_here k step None p i e = refl
-own_here k step (Some j) p i e = rw e (or_no (eqb j i && true) ∙ yes_and (eqb j i))
+own_here k step (Some j) p i e = rw e (or-false (eqb j i && true) ∙ and-true (eqb j i))
 
 own_other : (k step : Text) (own : Option ℕ) (p : Path) (i : ℕ) → bytes_eq k step ≡ false → list_any (on (step ∷ p) i) (own_spot k own) ≡ false
 own_other k step None p i e = refl
-own_other k step (Some j) p i e = rw e (or_no (eqb j i && false) ∙ no_and (eqb j i))
+own_other k step (Some j) p i e = rw e (or-false (eqb j i && false) ∙ and-false (eqb j i))
 
 node_here : (k step : Text) (own : Option ℕ) (t : spec.Marked) (p : Path) (i : ℕ) → bytes_eq k step ≡ true
     → list_any (on (step ∷ p) i) (node_spots k own t) ≡ (has_mark own i || is_on_way t p i)
@@ -156,7 +143,7 @@ members_way (marked_member k own t ms) step e o h p i =
     go true q s ih =
         let same : (own, t) ≡ e = cc in
         ap₂ (λ a b. a || b) (node_here k step own t p i q) (members_none ms step p i (subst (λ x. IsBeforeAll x (marked_names ms)) (bytes_same k step q) o.0))
-        ∙ or_no (has_mark own i || is_on_way t p i) ∙ ap (λ (e : Node). has_mark e.0 i || is_on_way e.1 p i) same
+        ∙ or-false (has_mark own i || is_on_way t p i) ∙ ap (λ (e : Node). has_mark e.0 i || is_on_way e.1 p i) same
     go false q s ih = ap₂ (λ a b. a || b) (node_other k step own t p i q) (ih s)
 
 elements_none : (n : ℕ) (es : MarkedElements) (step : Text) (p : Path) (i : ℕ) → ((j : ℕ) → n ≤ j → j < n + marked_elements_len es → bytes_eq (decimal j) step ≡ false)
@@ -184,7 +171,7 @@ elements_way n (marked_element own t es) step e fits h p i =
     go true q s ih =
         let same : (own, t) ≡ e = cc in
         ap₂ (λ a b. a || b) (node_here (decimal n) step own t p i q) (elements_none (suc n) es step p i (apart_from q))
-        ∙ or_no (has_mark own i || is_on_way t p i) ∙ ap (λ (e : Node). has_mark e.0 i || is_on_way e.1 p i) same
+        ∙ or-false (has_mark own i || is_on_way t p i) ∙ ap (λ (e : Node). has_mark e.0 i || is_on_way e.1 p i) same
     go false q s ih = ap₂ (λ a b. a || b) (node_other (decimal n) step own t p i q) (ih s)
 
 pub way_stepped : (m : spec.Marked) (step : Text) (e : Node) → IsOrdered (strip m) → IsShortList m → marked_stepped m step ≡ Some e
@@ -200,11 +187,11 @@ node_root k own t i = list_any-append (on [] i) (own_spot k own) (map (inside k 
   where
     here : (own : Option ℕ) → list_any (on [] i) (own_spot k own) ≡ false
     here None = refl
-    here (Some j) = or_no (eqb j i && false) ∙ no_and (eqb j i)
+    here (Some j) = or-false (eqb j i && false) ∙ and-false (eqb j i)
 
     below : (ss : List Spot) → list_any (on [] i) (map (inside k own) ss) ≡ false
     below [] = refl
-    below (s ∷ ss) = rw (no_and (eqb s.mark i)) (below ss)
+    below (s ∷ ss) = rw (and-false (eqb s.mark i)) (below ss)
 
 elements_root : (n : ℕ) (es : MarkedElements) (i : ℕ) → list_any (on [] i) (elements_spots n es) ≡ false
 elements_root n no_marked_elements i = refl

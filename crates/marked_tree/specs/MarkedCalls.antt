@@ -14,6 +14,11 @@ abbrev pub marked_pushed : MarkedElements → Option ℕ → Marked → MarkedEl
 marked_pushed no_marked_elements i t = marked_element i t no_marked_elements
 marked_pushed (marked_element j u es) i t = marked_element j u (marked_pushed es i t)
 
+-- the elements of one array, then those of another
+abbrev pub joined : MarkedElements → MarkedElements → MarkedElements
+joined no_marked_elements fs = fs
+joined (marked_element i t es) fs = marked_element i t (joined es fs)
+
 abbrev pub marked_element_at : MarkedElements → ℕ → Option (Option ℕ × Marked)
 marked_element_at no_marked_elements n = None
 marked_element_at (marked_element i t es) zero = Some (i, t)
@@ -31,6 +36,11 @@ abbrev pub marked_member_at : MarkedMembers → ℕ → Option (Text × Option �
 marked_member_at no_marked_members n = None
 marked_member_at (marked_member name i t ms) zero = Some (name, i, t)
 marked_member_at (marked_member name i t ms) (suc n) = marked_member_at ms n
+
+-- the members of one object, then those of another
+abbrev pub members_joined : MarkedMembers → MarkedMembers → MarkedMembers
+members_joined no_marked_members ns = ns
+members_joined (marked_member name i t ms) ns = marked_member name i t (members_joined ms ns)
 
 -- the members, with this mark and tree under the name
 abbrev pub marked_inserted : MarkedMembers → Text → Option ℕ → Marked → MarkedMembers

@@ -23,7 +23,8 @@ use Rattle.rebuild_core.proofs.Chains.{item_of_value}
 use Rattle.rebuild_core.proofs.Fits.{Names, Suits}
 use Rattle.rebuild_core.proofs.Fixed.{find_at}
 use Rattle.rebuild_core.proofs.Found.{found}
-use Rattle.rebuild_core.proofs.Marks.{Way, shown_ways}
+use Rattle.marked_tree.proofs.Spots.{Way}
+use Rattle.rebuild_core.proofs.Marks.{shown_ways}
 use Rattle.rebuild_core.proofs.Pick.{met_item}
 use Rattle.rebuild_core.proofs.Reach.{later_round, stands-from}
 use Rattle.rebuild_core.proofs.ShownAt.{ShownFree, Shows, shown_back, shows_free}
@@ -85,7 +86,7 @@ list_clean (leaf l) h = cc
 list_clean (array es) h = texts_clean es h
 list_clean (object ms) h = cc
 
-sd_no_dots : bytes_eq sd_name dots_name ≡ false
+pub sd_no_dots : bytes_eq sd_name dots_name ≡ false
 unfolding sd_name dots_name
 sd_no_dots = refl
 

@@ -14,7 +14,8 @@ use Rattle.rebuild_core.specs.Conditions.{IsWrong}
 use Rattle.rebuild_core.specs.Whole.{IsNew, AllNew}
 use Rattle.claim_tree.proofs.Lists.{In-left, In-right, In-append, In-map, In-of_map}
 use Rattle.rebuild_core.proofs.Agree.{Each, Each-left, Each-right, Each-under, Each-own, Each-rest}
-use Rattle.marked_tree.proofs.Puts.{IsAscending, put_names, put_ascending, put_kept, remark_put}
+use Rattle.marked_tree.proofs.Names.{Ascend}
+use Rattle.marked_tree.proofs.Puts.{put_names, put_ascending, put_kept, remark_put}
 
 -- R holds of each element and each later one
 abbrev pub Pairwise : {X : Type 0} → (X → X → Type 0) → List X → Type 0
@@ -132,11 +133,11 @@ open_after r n (member l t ms) a = go (bytes_eq l sd_name) (open_after r n ms a.
     go true ih = ih
     go false ih = (a.0, ih)
 
-pub open_ascending : (r : Text → Shown) (ms : Members) → MembersOrdered ms → IsAscending (marked_names (open_members r ms))
+pub open_ascending : (r : Text → Shown) (ms : Members) → MembersOrdered ms → Ascend (marked_names (open_members r ms))
 open_ascending r no_members a = tt
 open_ascending r (member l t ms) a = go (bytes_eq l sd_name) (open_ascending r ms a.2)
   where
-    go : (b : Bool) → IsAscending (marked_names (open_members r ms)) → IsAscending (marked_names (cond b (open_members r ms) (marked_member l None (open_tree r t) (open_members r ms))))
+    go : (b : Bool) → Ascend (marked_names (open_members r ms)) → Ascend (marked_names (cond b (open_members r ms) (marked_member l None (open_tree r t) (open_members r ms))))
     go true ih = ih
     go false ih = (open_after r l ms a.0, ih)
 
@@ -150,12 +151,12 @@ abbrev pub reshown : (ℕ → Option ℕ) → Shown → Shown
 reshown f nothing_shown = nothing_shown
 reshown f (shown i n t) = reshown_as (f i) n (remark f t)
 
-pub show_ascending : (x : Shown) (ms : MarkedMembers) → IsAscending (marked_names ms) → IsAscending (marked_names (show_member x ms))
+pub show_ascending : (x : Shown) (ms : MarkedMembers) → Ascend (marked_names ms) → Ascend (marked_names (show_member x ms))
 show_ascending nothing_shown ms a = a
 show_ascending (shown i None t) ms a = a
 show_ascending (shown i (Some k) t) ms a = put_ascending k (Some i) t ms a
 
-remark_show : (f : ℕ → Option ℕ) (x : Shown) (ms : MarkedMembers) → IsAscending (marked_names ms) → IsNew x ms
+remark_show : (f : ℕ → Option ℕ) (x : Shown) (ms : MarkedMembers) → Ascend (marked_names ms) → IsNew x ms
     → remark_members f (show_member x ms) ≡ show_member (reshown f x) (remark_members f ms)
 remark_show f nothing_shown ms a new = refl
 remark_show f (shown i None t) ms a new = absurd new
@@ -166,7 +167,7 @@ remark_show f (shown i (Some k) t) ms a new = remark_put f k (Some i) t ms a new
     go (Some j) = refl
 
 remark_shows : (f : ℕ → Option ℕ) (r q : Text → Shown) (ks : List Text) (ds : List Text) (ms : MarkedMembers)
-    → IsAscending (marked_names ms) → AllNew r ds ms → Each (λ d. q d ≡ reshown f (r d)) (map (own_site ks) ds)
+    → Ascend (marked_names ms) → AllNew r ds ms → Each (λ d. q d ≡ reshown f (r d)) (map (own_site ks) ds)
     → remark_members f (show_members r ds ms) ≡ show_members q ds (remark_members f ms)
 remark_shows f r q ks [] ms a new h = refl
 remark_shows f r q ks (d ∷ ds) ms a new h =

@@ -23,7 +23,7 @@ use Rattle.rebuild_core.proofs.Chains.{item_of_value, in_payload, in_value, same
 use Rattle.rebuild_core.proofs.Fits.{Pairwise}
 use Rattle.rebuild_core.proofs.Fixed.{processed_settles}
 use Rattle.rebuild_core.proofs.Found.{stands-In}
-use Rattle.rebuild_core.proofs.Marks.{Way}
+use Rattle.marked_tree.proofs.Spots.{Way}
 use Rattle.rebuild_core.proofs.Named.{Pairwise-from}
 use Rattle.rebuild_core.proofs.Pick.{pick_at, pick_from, met_item, payload_not_value, place_at}
 use Rattle.rebuild_core.proofs.Presented.{presentation_holds}

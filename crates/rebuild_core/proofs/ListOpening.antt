@@ -12,14 +12,15 @@ use Rattle.claim_tree.proofs.Lists.{At-below}
 use Rattle.digest_sites.specs.Reserved.{element_digest}
 use Rattle.digest_sites.specs.Given.{Given}
 use Rattle.marked_tree.specs.Marked.{Marked, MarkedElements, marked_element, strip}
-use Rattle.marked_tree.specs.MarkedCalls.{marked_pushed}
+use Rattle.marked_tree.specs.MarkedCalls.{marked_pushed, joined}
 use Rattle.rebuild_core.specs.Opening.{Shown, shown, show_element, open_tree, open_element, open_elements}
 use Rattle.rebuild_core.specs.Cursor.{digests_on, tree_digests, elements_digests, NumberTells, TellFirst}
-use Rattle.rebuild_core.specs.Whole.{settled, joined, shown_depth, IfTooDeep, IsElement, WholeOn, OpensWhole, ElementsWhole, IsOpenable, OpensFrom, TakesOnly}
+use Rattle.rebuild_core.specs.Whole.{settled, shown_depth, IfTooDeep, IsElement, WholeOn, OpensWhole, ElementsWhole, IsOpenable, OpensFrom, TakesOnly}
 use Rattle.rebuild_core.specs.declared.errors.ProcessError.{ProcessError}
 use Rattle.rebuild_core.proofs.Goes.{Goes, goes_past, first_part}
 use Rattle.rebuild_core.proofs.Taking.{Taking, taking_past, opens_part}
-use Rattle.rebuild_core.proofs.ShownDepths.{list_depth, joined_push, joined_end, joined_depth, pushed_shown_depth, pushed_depth, element_keeps}
+use Rattle.marked_tree.proofs.MarkSame.{joined-none}
+use Rattle.rebuild_core.proofs.ShownDepths.{list_depth, joined_push, joined_depth, pushed_shown_depth, pushed_depth, element_keeps}
 
 -- ---- what was refused below is refused here
 
@@ -89,7 +90,7 @@ pub list_ends : (g : List Given) (ks : List ℕ) (limit : ℕ) (all : Elements) 
     → (at ≡ end) × (out ≡ open_elements (settled g) all) × (list_depth out ≤ limit)
 list_ends g ks limit all end rest out at s e = (
   (let l : at + length (elements_digests rest) ≡ end = s.goes.1 in omega (arith, l, ap (λ es. length (elements_digests es)) e)),
-  sym (joined_end out) ∙ ap (λ es. joined out (open_elements (settled g) es)) (sym e) ∙ s.joins,
+  sym (joined-none out) ∙ ap (λ es. joined out (open_elements (settled g) es)) (sym e) ∙ s.joins,
   s.low,
 )
 

@@ -13,15 +13,16 @@ use Rattle.claim_tree.proofs.Walks.{Named}
 use Rattle.digest_sites.specs.Reserved.{sd_name, sd_texts}
 use Rattle.digest_sites.specs.Given.{Given}
 use Rattle.marked_tree.specs.Marked.{Marked, MarkedMembers, no_marked_members, marked_member, put, strip}
-use Rattle.marked_tree.specs.MarkedCalls.{put_all}
+use Rattle.marked_tree.specs.MarkedCalls.{members_joined, put_all}
 use Rattle.rebuild_core.specs.Payload.{alg_name}
 use Rattle.rebuild_core.specs.Opening.{Shown, open_tree, open_members, show_members}
 use Rattle.rebuild_core.specs.Cursor.{tree_digests, members_digests, TellFirst}
-use Rattle.rebuild_core.specs.Whole.{settled, members_joined, shown_member, shown_members, shown_depth, shown_depths, topped, stays, AllNew, WholeUnless, OpensWhole, MembersWhole, IsOpenable, OpensFrom, TakesOnly}
+use Rattle.rebuild_core.specs.Whole.{settled, shown_member, shown_members, shown_depth, shown_depths, topped, stays, AllNew, WholeUnless, OpensWhole, MembersWhole, IsOpenable, OpensFrom, TakesOnly}
 use Rattle.rebuild_core.proofs.AlgFacts.{sd_texts_without}
 use Rattle.rebuild_core.proofs.Goes.{Goes, goes_past, first_part, length-join}
 use Rattle.rebuild_core.proofs.Taking.{Taking, taking_start, taking_past, taking_last, opens_part, opens_rest}
-use Rattle.rebuild_core.proofs.ShownDepths.{map_depth, members_joined_end, members_joined_depth, put_shown, put_depth_most, members_most, members_keep, members_new}
+use Rattle.marked_tree.proofs.MarkSame.{members_joined-none}
+use Rattle.rebuild_core.proofs.ShownDepths.{map_depth, members_joined_depth, put_shown, put_depth_most, members_most, members_keep, members_new}
 
 -- ---- the payload's own object
 
@@ -73,7 +74,7 @@ pub own_ends : (g : List Given) (ks : List ℕ) (limit : ℕ) (all : List Text) 
     → (at ≡ end) × (out ≡ shown_members (settled g) all) × (shown_depths (settled g) all ≤ limit)
 own_ends g ks limit all end rest out at s e = (
   (let l : at + length rest ≡ end = s.goes.1 in omega (arith, l, ap length e)),
-  sym (members_joined_end out) ∙ ap (λ ds. members_joined out (shown_members (settled g) ds)) (sym e) ∙ s.joins,
+  sym (members_joined-none out) ∙ ap (λ ds. members_joined out (shown_members (settled g) ds)) (sym e) ∙ s.joins,
   omega (arith, s.low, ap (shown_depths (settled g)) e),
 )
 
@@ -155,7 +156,7 @@ pub map_ends : (g : List Given) (ks : List ℕ) (limit : ℕ) (top : Bool) (all 
 map_ends g ks limit top all end rest out at s e =
     let f : topped top rest ≡ no_members = ap (topped top) e ∙ topped_none top in (
       (let l : at + length (members_digests (topped top rest)) ≡ end = s.goes.1 in omega (arith, l, ap (λ es. length (members_digests es)) f)),
-      sym (members_joined_end out) ∙ ap (λ ms. members_joined out (open_members (settled g) ms)) (sym f) ∙ s.joins,
+      sym (members_joined-none out) ∙ ap (λ ms. members_joined out (open_members (settled g) ms)) (sym f) ∙ s.joins,
       s.low,
     )
 

@@ -10,6 +10,7 @@ use Rattle.marked_tree.specs.Marked.{Marked, MarkedElements, MarkedMembers, mark
 use Rattle.marked_tree.specs.Ways.{weight, elements_weight, members_weight, ways, elements_ways, members_ways, way_of}
 use Rattle.rebuild_core.specs.Opening.{Shown, nothing_shown, shown, open_tree, open_elements, open_members, open_element, show_members, show_element, show_member}
 use Rattle.claim_tree.proofs.Lists.{In-left, In-right, In-append, In-of_map}
+use Rattle.marked_tree.proofs.Spots.{Way}
 use Rattle.marked_tree.proofs.Sums.{sum_of, sum_of-append, sum_of-map}
 use Rattle.marked_tree.proofs.Puts.{put_weight, put_way, put_way_other}
 use Rattle.rebuild_core.specs.Whole.{IsNew, AllNew, shown_weight}
@@ -83,9 +84,6 @@ mutual
       )
 
 -- ---- the way to each
-
-abbrev pub Way : Type 0
-Way = ℕ × List ℕ
 
 abbrev pub shown_ways : Shown → List Way
 shown_ways nothing_shown = []

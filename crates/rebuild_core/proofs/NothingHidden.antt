@@ -1,6 +1,7 @@
 -- Where nothing is hidden and nothing is given: no condition but the last can fail, and the payload opens to itself.
 use Rattle.std.proofs.Common.{◌≡◌, ℕ, zero, suc, ◌≤◌, ◌<◌, ◌-◌, ◌^◌, List, [], Bool, true, false, not, None, refl, sym, ap, ap₂, ◌∙◌, subst, arith}
 use Rattle.std.specs.Prelude.{bytes_eq, if◌then◌else◌, Result, Ok, Err, IfOk, IfErr, MatchResult}
+use Rattle.std.proofs.lemmas.Bool.{not-true}
 use Rattle.claim_tree.specs.Tree.{Text, Tree, leaf, array, object, Elements, no_elements, element, Members, no_members, member, depth, members_depth, IsRanged}
 use Rattle.claim_tree.specs.View.{tree_of}
 use Rattle.claim_tree.specs.declared.tree.Tree as code
@@ -22,12 +23,8 @@ use Rattle.rebuild_core.specs.Conditions.{IsTooDeep, Misused}
 use Rattle.rebuild_core.specs.Soundness.{IsSound, IsReferencedOnce, IsWellNamed}
 use Rattle.rebuild_core.specs.Unhidden.{is_unhidden_name, is_unhidden, elements_unhidden, members_unhidden}
 
-not_true : (b : Bool) → not b ≡ true → b ≡ false
-not_true true h = cc
-not_true false h = refl
-
 name_is_free : (name : Text) → is_unhidden_name name ≡ true → (bytes_eq name sd_name ≡ false) × (bytes_eq name dots_name ≡ false)
-name_is_free name h = let s = and_split _ _ h in (not_true _ s.0, not_true _ s.1)
+name_is_free name h = let s = and_split _ _ h in (not-true _ s.0, not-true _ s.1)
 
 -- ---- no digest stands in it
 

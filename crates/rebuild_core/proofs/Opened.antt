@@ -17,10 +17,11 @@ use Rattle.rebuild_core.specs.Whole.{settled, IfTooDeep, IsElement, WholeOn, Who
 use Rattle.rebuild_core.specs.declared.errors.ProcessError.{ProcessError}
 use Rattle.rebuild_core.specs.declared.shown.OpenedMembers.{OpenedMembers}
 use Rattle.rebuild_core.proofs.Fits.{AreFit, Suits, fit_left, fit_right, fit_under, object_new}
+use Rattle.marked_tree.proofs.MarkFacts.{up_to_le}
 use Rattle.rebuild_core.proofs.Fixed.{processed_settles}
 use Rattle.rebuild_core.proofs.Named.{payload_fits, value_fits}
 use Rattle.rebuild_core.proofs.Marks.{sites_weight, open_weight}
-use Rattle.rebuild_core.proofs.Presented.{mark_once, inside_most}
+use Rattle.rebuild_core.proofs.Presented.{mark_once}
 use Rattle.rebuild_core.proofs.Goes.{digests-sites}
 
 -- ---- where all disclosures fit, nothing is left out
@@ -84,7 +85,7 @@ module _ (p : Tree) (g : List Given) (ok : IsReferencedOnce p g) (named : IsWell
         opened_uses k p (payload_fits p g ok named (length g)),
         ap (weight (only k)) (processed_settles p g ok),
         mark_once p g ok named k,
-        inside_most k (length g),
+        up_to_le k (length g),
       )
 
   pub payload_opens : (q : Tree) → p ≡ q → (numbers ends : List ℕ) → length g < 2 ^ 32 → NumbersTell p g numbers ends

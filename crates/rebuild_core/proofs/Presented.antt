@@ -1,6 +1,5 @@
 -- The law of the presentation, and that each mark stands on one node.
 use Rattle.std.proofs.Common.{◌≡◌, ℕ, suc, ◌+◌, ◌<◌, ◌≤◌, List, [], ◌∷◌, length, Bool, true, false, cond, ltb, ◌⊎◌, inl, inr, ⊎_elim, Option, Some, None, refl, sym, ap, ap₂, ◌∙◌, arith}
-use Rattle.std.proofs.lemmas.Bool.Decides.{nat_tests}
 use Rattle.claim_tree.specs.Tree.{Text, Tree, depth}
 use Rattle.claim_tree.specs.Lists.{StandsAt, In}
 use Rattle.digest_sites.specs.Sites.{sites}
@@ -15,7 +14,7 @@ use Rattle.rebuild_core.specs.Readable.{IsReadable}
 use Rattle.rebuild_core.specs.Whole.{shown_weight}
 use Rattle.claim_tree.proofs.Lists.{At-In}
 use Rattle.rebuild_core.proofs.OneSite.{one_site_holds}
-use Rattle.marked_tree.proofs.MarkFacts.{one_if_same, none_if_less, none_if_more, same_or_more}
+use Rattle.marked_tree.proofs.MarkFacts.{one_if_same, none_if_less, none_if_more, same_or_more, up_to, within_is, outside_is}
 use Rattle.marked_tree.proofs.Sums.{sum_of}
 use Rattle.rebuild_core.proofs.Fixed.{fixed, unknown, processed_settles, disclosures_sum}
 use Rattle.rebuild_core.proofs.Fits.{remark_open}
@@ -124,15 +123,6 @@ weight_is p g ok named w =
     omega (arith, ap (shown_weight w) (fixed p g ok k x a), ap w z, open_weight w r x.value (value_fits p g ok named (length g) k x a))) in
     omega (arith, top, all, each, ap (weight w) (processed_settles p g ok))
 
-abbrev pub inside : ℕ → ℕ → ℕ
-inside i n = cond (ltb i n) 1 0
-
-within_is : (i n : ℕ) → i < n → inside i n ≡ 1
-within_is i n l = grind (arith, nat_tests)
-
-outside_is : (i n : ℕ) → n ≤ i → inside i n ≡ 0
-outside_is i n l = grind (arith, nat_tests)
-
 past : (i k : ℕ) (g : List Given) → i < k → numbers_sum (only i) k g ≡ 0
 past i k [] l = refl
 past i k (x ∷ g) l = omega (arith, past i (suc k) g (omega arith), none_if_less i k l)
@@ -141,15 +131,12 @@ numbers_of_one : (i k : ℕ) (g : List Given) → k ≤ i → numbers_sum (only 
 numbers_of_one i k [] l = sym (outside_is i (k + 0) (omega arith))
 numbers_of_one i k (x ∷ g) l = go (same_or_more i k l) (numbers_of_one i (suc k) g)
   where
-    go : (i ≡ k) ⊎ (k < i) → (suc k ≤ i → numbers_sum (only i) (suc k) g ≡ inside i (suc k + length g)) → only i k + numbers_sum (only i) (suc k) g ≡ cond (ltb i (k + suc (length g))) 1 0
+    go : (i ≡ k) ⊎ (k < i) → (suc k ≤ i → numbers_sum (only i) (suc k) g ≡ up_to i (suc k + length g)) → only i k + numbers_sum (only i) (suc k) g ≡ cond (ltb i (k + suc (length g))) 1 0
     go (inl e) ih = omega (arith, one_if_same i k e, past i (suc k) g (omega arith), within_is i (k + suc (length g)) (omega arith))
-    go (inr m) ih = omega (arith, none_if_more i k m, ih (omega arith), ap (inside i) (let q : suc k + length g ≡ k + suc (length g) = omega arith in q))
+    go (inr m) ih = omega (arith, none_if_more i k m, ih (omega arith), ap (up_to i) (let q : suc k + length g ≡ k + suc (length g) = omega arith in q))
 
-pub mark_once : (p : Tree) (g : List Given) → IsReferencedOnce p g → IsWellNamed p g → (i : ℕ) → weight (only i) (processed p g) ≡ inside i (length g)
-mark_once p g ok named i = weight_is p g ok named (only i) ∙ numbers_of_one i 0 g (omega arith) ∙ ap (inside i) (let e : 0 + length g ≡ length g = omega arith in e)
-
-pub inside_most : (i n : ℕ) → inside i n ≤ 1
-inside_most i n = grind (arith, nat_tests)
+pub mark_once : (p : Tree) (g : List Given) → IsReferencedOnce p g → IsWellNamed p g → (i : ℕ) → weight (only i) (processed p g) ≡ up_to i (length g)
+mark_once p g ok named i = weight_is p g ok named (only i) ∙ numbers_of_one i 0 g (omega arith) ∙ ap (up_to i) (let e : 0 + length g ≡ length g = omega arith in e)
 
 pub one_node_holds : OneNode
 one_node_holds p g readable sound i = mark_once p g sound.referenced sound.named i

@@ -1,5 +1,6 @@
 -- In rising order the places are the ranks.
 use Rattle.std.proofs.Common.{◌≡◌, ℕ, zero, suc, ◌<◌, ◌≤◌, List, [], ◌∷◌, Bool, true, false, cond, eqb, ◌⊎◌, inl, inr, ⊎_elim, Option, Some, None, refl, sym, ap, ap₂, ◌∙◌, arith, eq-eqb, le_trans}
+use Rattle.std.proofs.Math.Nat.{le-suc_iff}
 use Rattle.std.proofs.lemmas.Bool.Decides.{nat_tests}
 use Rattle.claim_tree.specs.Tree.{Text}
 use Rattle.claim_tree.specs.Lists.{In}
@@ -46,15 +47,12 @@ mutual
 
 -- ---- positions are ranks
 
-at_or_above : (b j : ℕ) → b ≤ suc j → (b ≤ j) ⊎ (b ≡ suc j)
-at_or_above b j h = grind arith
-
 same_count : (s : ℕ → Bool) (b j : ℕ) → b ≤ j → ((k : ℕ) → b ≤ k → k < j → s k ≡ false) → count_below s j ≡ count_below s b
 same_count s b zero l h = let e : b ≡ 0 = omega arith in rw e
 same_count s b (suc j) l h =
     ⊎_elim
     (λ p. let q : s j ≡ false = h j p (omega arith) in rw q (omega (arith, same_count s b j p (λ k c d. h k c (omega arith)))))
-    (λ e. rw e) (at_or_above b j l)
+    (λ e. rw e) ((le-suc_iff {m = b} {n = j}).0 l)
 
 -- none of s stands between the bound and the first
 first_count : (s : ℕ → Bool) (j : ℕ) (h : List ℕ) (b : ℕ) → AllAbove j h → b ≤ j → ((k : ℕ) → b ≤ k → s k ≡ true → In k (j ∷ h)) → count_below s j ≡ count_below s b

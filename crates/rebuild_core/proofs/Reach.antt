@@ -1,6 +1,7 @@
 -- A closed choice reaches each of its disclosures.
 use Rattle.std.proofs.Common.{◌≡◌, ℕ, zero, suc, ◌≤◌, List, [], ◌∷◌, map, length, Bool, true, ◌&&◌, ◌⊎◌, inl, inr, ⊎_elim, Some, refl, sym, ap, ◌∙◌, subst, arith}
 use Rattle.std.specs.Prelude.{bytes_eq}
+use Rattle.std.proofs.Math.Nat.{le-suc_iff}
 use Rattle.claim_tree.specs.Tree.{Text, Tree}
 use Rattle.claim_tree.specs.Lists.{StandsAt, In, AtNone}
 use Rattle.digest_sites.specs.Sites.{Site, sites}
@@ -17,20 +18,18 @@ use Rattle.claim_tree.proofs.Lists.{bytes_refl, or_left, or_right, and_join, In-
 use Rattle.rebuild_core.proofs.Chains.{short, leads_up, item_of_value}
 use Rattle.rebuild_core.proofs.Fixed.{fixed, processed_settles}
 use Rattle.rebuild_core.proofs.Named.{payload_fits, value_fits}
-use Rattle.rebuild_core.proofs.Marks.{Way, shown_ways, open_way}
+use Rattle.marked_tree.proofs.Spots.{Way}
+use Rattle.rebuild_core.proofs.Marks.{shown_ways, open_way}
 use Rattle.rebuild_core.proofs.Pick.{pick_at, pick_from, met_item}
 
 pub stands-from : (d : Text) (ss : List Site) (s : Site) → In s ss → s.digest ≡ d → stands d ss ≡ true
 stands-from d ss s m e = list_any-from (λ z. bytes_eq z.digest d) ss s m (bytes_refl s.digest d e)
 
-up_to : (r n : ℕ) → r ≤ suc n → (r ≤ n) ⊎ (r ≡ suc n)
-up_to r n h = grind arith
-
 -- later rounds have what earlier ones have
 pub later_round : (p : Tree) (g : List Given) (d : Text) (n r : ℕ) → r ≤ n → is_in_round p g r d ≡ true → is_in_round p g n d ≡ true
 later_round p g d zero r l h = let e : r ≡ 0 = omega arith in subst (λ z. is_in_round p g z d ≡ true) e h
 later_round p g d (suc n) r l h =
-    ⊎_elim (λ a. or_left (is_in_round p g n d) _ (later_round p g d n r a h)) (λ e. subst (λ z. is_in_round p g z d ≡ true) e h) (up_to r n l)
+    ⊎_elim (λ a. or_left (is_in_round p g n d) _ (later_round p g d n r a h)) (λ e. subst (λ z. is_in_round p g z d ≡ true) e h) ((le-suc_iff {m = r} {n = n}).0 l)
 
 later_way : (i j : ℕ) (above : List ℕ) (ws : List Way) → In (i, above) ws → In (i, j ∷ above) (way_of (Some j) ws)
 later_way i j above ws m = inr (In-map (λ (w : Way). (w.0, j ∷ w.1)) (i, above) ws m)

@@ -13,9 +13,11 @@ use Rattle.rebuild_core.specs.Free.{HasNoReserved, IsFree}
 use Rattle.rebuild_core.proofs.FreeMembers.{ElementsNoReserved, MembersNoReserved}
 use Rattle.rebuild_core.specs.Opening.{Shown, nothing_shown, open_element, open_elements, open_members, open_tree, show_element, show_member, show_members, shown}
 use Rattle.claim_tree.proofs.Lists.{In-append, In-of_map, In-right, bytes_same}
-use Rattle.marked_tree.proofs.Puts.{IsAscending, IsBeforeAll-not_in}
+use Rattle.marked_tree.proofs.Names.{Ascend}
+use Rattle.marked_tree.proofs.Puts.{IsBeforeAll-not_in}
 use Rattle.rebuild_core.proofs.Fits.{Names, NamesApart, Suits, open_ascending, show_ascending}
-use Rattle.rebuild_core.proofs.Marks.{Way, shown_ways}
+use Rattle.marked_tree.proofs.Spots.{Way}
+use Rattle.rebuild_core.proofs.Marks.{shown_ways}
 use Rattle.rebuild_core.proofs.ObjectFacts.{on_starts, in_starts, element_starts, member_starts, same_step}
 use Rattle.rebuild_core.proofs.ShownPuts.{put_adds, put_has, put_keeps, put_free, put_new_free}
 use Rattle.digest_sites.specs.declared.site.SiteKind.TheVariants.{Member, Element}
@@ -119,7 +121,7 @@ record Added (r : Text → Shown) (ds : List Text) (ms : MarkedMembers) (v : Way
   free : ShownFree (r d)
   way : In v (shown_ways (r d))
 
-one_added : (x : Shown) (ms : MarkedMembers) (v : Way) → IsAscending (marked_names ms) → MembersNoReserved (strip_members (show_member x ms)) → In v (members_ways (show_member x ms))
+one_added : (x : Shown) (ms : MarkedMembers) (v : Way) → Ascend (marked_names ms) → MembersNoReserved (strip_members (show_member x ms)) → In v (members_ways (show_member x ms))
     → (Suits Member x × ((k : Text) → Names x k → In k (marked_names ms) → ⊥) × ShownFree x × In v (shown_ways x)) ⊎ In v (members_ways ms)
 one_added nothing_shown ms v a f h = inr h
 one_added (shown i None t) ms v a f h = inr h
@@ -128,7 +130,7 @@ one_added (shown i (Some k) t) ms v a f h =
     (λ x. inl ((λ w. w), (λ l n. let e : k ≡ l = cc in subst (λ z. In z (marked_names ms) → ⊥) e x.1), put_new_free k (Some i) t ms x.1 f, x.0))
     (λ y. inr y) (put_adds k (Some i) t ms v a h)
 
-added : (r : Text → Shown) (ds : List Text) (ms : MarkedMembers) (v : Way) → IsAscending (marked_names ms) → MembersNoReserved (strip_members (show_members r ds ms))
+added : (r : Text → Shown) (ds : List Text) (ms : MarkedMembers) (v : Way) → Ascend (marked_names ms) → MembersNoReserved (strip_members (show_members r ds ms))
     → In v (members_ways (show_members r ds ms)) → Added r ds ms v ⊎ In v (members_ways ms)
 added r [] ms v a f h = inr h
 added r (d ∷ ds) ms v a f h =

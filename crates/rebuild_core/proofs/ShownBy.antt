@@ -10,7 +10,8 @@ use Rattle.rebuild_core.specs.Soundness.{IsReferencedOnce}
 use Rattle.claim_tree.proofs.Lists.{In-of_map}
 use Rattle.rebuild_core.proofs.Fixed.{fixed}
 use Rattle.rebuild_core.proofs.Found.{found}
-use Rattle.rebuild_core.proofs.Marks.{Way, shown_ways}
+use Rattle.marked_tree.proofs.Spots.{Way}
+use Rattle.rebuild_core.proofs.Marks.{shown_ways}
 
 -- one step of a way: the disclosure below, or the way goes on inside it
 pub way_step : (k i : ℕ) (above : List ℕ) (ws : List Way) → In (i, above) (way_of (Some k) ws) → ((i ≡ k) × (above ≡ [])) ⊎ ((rest : List ℕ) × (above ≡ k ∷ rest) × In (i, rest) ws)

@@ -6,11 +6,12 @@ use Rattle.std.proofs.lemmas.Map.Lookups.{exact_bytes}
 use Rattle.claim_tree.specs.Tree.{Text, depth, elements_depth, members_depth}
 use Rattle.claim_tree.specs.Lists.{In}
 use Rattle.marked_tree.specs.Marked.{Marked, MarkedElements, no_marked_elements, marked_element, MarkedMembers, no_marked_members, marked_member, put, strip, strip_elements, strip_members}
-use Rattle.marked_tree.specs.MarkedCalls.{marked_pushed, marked_names, put_all}
+use Rattle.marked_tree.specs.MarkedCalls.{marked_pushed, joined, marked_names, members_joined, put_all}
 use Rattle.marked_tree.specs.View.{marked_of, marked_members_of}
 use Rattle.marked_tree.specs.declared.marked.Marked.{Marked as Code}
+use Rattle.marked_tree.proofs.MarkSame.{joined-pushed, joined-none}
 use Rattle.rebuild_core.specs.Opening.{Shown, nothing_shown, shown, show_element, show_member, show_members}
-use Rattle.rebuild_core.specs.Whole.{joined, members_joined, shown_member, shown_members, shown_depth, shown_depths, IsNew, AllNew, IsElement}
+use Rattle.rebuild_core.specs.Whole.{shown_member, shown_members, shown_depth, shown_depths, IsNew, AllNew, IsElement}
 
 abbrev pub list_depth : MarkedElements → ℕ
 list_depth es = elements_depth (strip_elements es)
@@ -21,12 +22,7 @@ map_depth ms = members_depth (strip_members ms)
 -- ---- arrays
 
 pub joined_push : (es fs : MarkedElements) (i : Option ℕ) (t : Marked) → joined (marked_pushed es i t) fs ≡ joined es (marked_element i t fs)
-joined_push no_marked_elements fs i t = refl
-joined_push (marked_element j u es) fs i t = ap (marked_element j u) (joined_push es fs i t)
-
-pub joined_end : (es : MarkedElements) → joined es no_marked_elements ≡ es
-joined_end no_marked_elements = refl
-joined_end (marked_element i t es) = ap (marked_element i t) (joined_end es)
+joined_push es fs i t = joined-pushed es i t fs
 
 pub joined_depth : (xs ys : MarkedElements) → list_depth (joined xs ys) ≡ max (list_depth xs) (list_depth ys)
 joined_depth no_marked_elements ys = omega arith
@@ -35,7 +31,7 @@ joined_depth (marked_element i t xs) ys = omega (arith, joined_depth xs ys)
 -- after a push
 pub pushed_depth : (xs ys : MarkedElements) (t : Marked) → ((es : MarkedElements) → joined ys es ≡ joined xs (marked_element None t es)) → list_depth ys ≡ max (list_depth xs) (depth (strip t))
 pushed_depth xs ys t h =
-    let e : ys ≡ joined xs (marked_element None t no_marked_elements) = sym (joined_end ys) ∙ h no_marked_elements in
+    let e : ys ≡ joined xs (marked_element None t no_marked_elements) = sym (joined-none ys) ∙ h no_marked_elements in
     omega (arith, ap list_depth e, joined_depth xs (marked_element None t no_marked_elements))
 
 shown_element_depth : (s : Shown) (es : MarkedElements) → list_depth (show_element s es) ≤ max (shown_depth s) (list_depth es)
@@ -45,7 +41,7 @@ shown_element_depth (shown i (Some k) t) es = omega arith
 
 pub pushed_shown_depth : (xs ys : MarkedElements) (s : Shown) → ((es : MarkedElements) → joined ys es ≡ joined xs (show_element s es)) → list_depth ys ≤ max (list_depth xs) (shown_depth s)
 pushed_shown_depth xs ys s h =
-    let e : ys ≡ joined xs (show_element s no_marked_elements) = sym (joined_end ys) ∙ h no_marked_elements in
+    let e : ys ≡ joined xs (show_element s no_marked_elements) = sym (joined-none ys) ∙ h no_marked_elements in
     omega (arith, ap list_depth e, joined_depth xs (show_element s no_marked_elements), shown_element_depth s no_marked_elements)
 
 -- an element that is shown is there
@@ -60,10 +56,6 @@ pub members_joined_push : (es : List (Text × Option ℕ × Code)) (k : Text) (i
     → members_joined (marked_members_of (es ++ (k, i, t) ∷ [])) ms ≡ members_joined (marked_members_of es) (marked_member k i (marked_of t) ms)
 members_joined_push [] k i t ms = refl
 members_joined_push (e ∷ es) k i t ms = ap (marked_member e.0 e.1 (marked_of e.2)) (members_joined_push es k i t ms)
-
-pub members_joined_end : (ms : MarkedMembers) → members_joined ms no_marked_members ≡ ms
-members_joined_end no_marked_members = refl
-members_joined_end (marked_member k i t ms) = ap (marked_member k i t) (members_joined_end ms)
 
 pub members_joined_depth : (xs ys : MarkedMembers) → map_depth (members_joined xs ys) ≡ max (map_depth xs) (map_depth ys)
 members_joined_depth no_marked_members ys = omega arith

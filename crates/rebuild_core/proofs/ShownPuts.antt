@@ -12,10 +12,11 @@ use Rattle.rebuild_core.specs.Free.{HasNoReserved, IsFree}
 use Rattle.rebuild_core.proofs.FreeMembers.{MembersNoReserved}
 use Rattle.claim_tree.proofs.Lists.{In-append, In-left, In-right}
 use Rattle.claim_tree.proofs.MapPlaces.{before_after, before_through}
-use Rattle.marked_tree.proofs.Puts.{IsAscending, IsBeforeAll-not_in, never_itself}
-use Rattle.rebuild_core.proofs.Marks.{Way}
+use Rattle.marked_tree.proofs.Names.{Ascend}
+use Rattle.marked_tree.proofs.Puts.{IsBeforeAll-not_in, never_itself}
+use Rattle.marked_tree.proofs.Spots.{Way}
 
-pub put_adds : (k : Text) (i : Option ℕ) (t : Marked) (ms : MarkedMembers) (v : Way) → IsAscending (marked_names ms) → In v (members_ways (put k i t ms))
+pub put_adds : (k : Text) (i : Option ℕ) (t : Marked) (ms : MarkedMembers) (v : Way) → Ascend (marked_names ms) → In v (members_ways (put k i t ms))
     → (In v (way_of i (ways t)) × (In k (marked_names ms) → ⊥)) ⊎ In v (members_ways ms)
 put_adds k i t no_marked_members v a h = ⊎_elim (λ m. inl (m, λ z. elim z [ ])) (λ z. elim z [ ]) (In-append v (way_of i (ways t)) [] h)
 put_adds k i t (marked_member l j u ms) v a h = go (slice_cmp nat_cmp k l) refl h (put_adds k i t ms v a.1)

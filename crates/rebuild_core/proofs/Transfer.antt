@@ -2,6 +2,7 @@
 use Rattle.std.proofs.Common.{◌≡◌, ℕ, zero, suc, ◌+◌, ◌-◌, ◌<◌, ◌≤◌, List, [], ◌∷◌, ◌++◌, map, length, get_or, take, drop, Bool, true, false, cond, ◌||◌, ◌&&◌, eqb, ◌⊎◌, inl, inr, ⊎_elim, refl, sym, ap, ap₂, ◌∙◌, subst, arith, length-append}
 use Rattle.std.specs.Prelude.{bytes_eq}
 use Rattle.std.specs.List.{list_any}
+use Rattle.std.specs.Cmp.{both_ways}
 use Rattle.std.proofs.lemmas.List.{length-map, drop-drop}
 use Rattle.claim_tree.specs.Tree.{Text, Tree, IsOrdered}
 use Rattle.claim_tree.specs.Lists.{StandsAt, In, Repeats, AtNone}
@@ -133,16 +134,10 @@ repeats_recurs ix ks ds ok a q r =
 
 -- ---- rounds
 
-pub same_bool : (a b : Bool) → (a ≡ true → b ≡ true) → (b ≡ true → a ≡ true) → a ≡ b
-same_bool true true f g = refl
-same_bool false false f g = refl
-same_bool true false f g = let z = f refl in cc
-same_bool false true f g = let z = g refl in cc
-
 module _ (ix : List Text) (ok : Apart ix) where
   same_test : (j k : ℕ) (c d : Text) → StandsAt ix j c → StandsAt ix k d → eqb j k ≡ bytes_eq c d
   same_test j k c d a b =
-      same_bool (eqb j k) (bytes_eq c d)
+      both_ways (eqb j k) (bytes_eq c d)
       (λ h. let e : j ≡ k = eqb_same j k h in bytes_refl c d (At-same ix k c d (subst (λ z. StandsAt ix z c) e a) b))
       (λ h. let e : c ≡ d = bytes_same c d h in eqb_refl j k (one_place ix ok j k d (subst (λ z. StandsAt ix j z) e a) b))
 

@@ -5,7 +5,7 @@ use Rattle.claim_tree.specs.Lists.{StandsAt, In}
 use Rattle.claim_tree.specs.Removed.{removed}
 use Rattle.digest_sites.specs.Reserved.{sd_name, sd_texts, element_digest}
 use Rattle.digest_sites.specs.Given.{Given}
-use Rattle.marked_tree.specs.Marked.{Marked, marked_object, strip, MarkedElements, no_marked_elements, marked_element, MarkedMembers, no_marked_members, marked_member}
+use Rattle.marked_tree.specs.Marked.{Marked, marked_object, strip, MarkedMembers, no_marked_members, marked_member}
 use Rattle.marked_tree.specs.MarkedCalls.{marked_names, put_all}
 use Rattle.marked_tree.specs.View.{marked_of, marked_members_of}
 use Rattle.marked_tree.specs.Ways.{weight, only}
@@ -26,16 +26,6 @@ abbrev pub settled : List Given → Text → Shown
 settled given digest = reveal (length given) given digest
 
 -- ---- lists
-
--- the elements of one array, then those of another
-abbrev pub joined : MarkedElements → MarkedElements → MarkedElements
-joined no_marked_elements fs = fs
-joined (marked_element i t es) fs = marked_element i t (joined es fs)
-
--- the members of one object, then those of another
-abbrev pub members_joined : MarkedMembers → MarkedMembers → MarkedMembers
-members_joined no_marked_members ns = ns
-members_joined (marked_member name i t ms) ns = marked_member name i t (members_joined ms ns)
 
 -- what a digest shows, before these members
 abbrev pub shown_member : Shown → MarkedMembers → MarkedMembers

@@ -1,5 +1,6 @@
 -- A path followed step by step: the tree that is left, and the marks that were passed.
-use Rattle.std.proofs.Common.{◌≡◌, ℕ, List, [], Bool, true, false, ◌||◌, refl, sym, ap, ◌∙◌}
+use Rattle.std.proofs.Common.{◌≡◌, ℕ, List, [], ◌||◌, sym, ap, ◌∙◌}
+use Rattle.std.proofs.Math.Bool.{or-false}
 use Rattle.claim_tree.specs.Path.{tree_at}
 use Rattle.marked_tree.specs.Choice.{is_on_way}
 use Rattle.marked_tree.specs.Marked.{Marked, strip}
@@ -15,11 +16,7 @@ LeadsOn m whole inside rest = tree_at (strip inside) rest ≡ tree_at (strip m) 
 abbrev pub ArePassed : List ℕ → Marked → Path → List ℕ → Marked → Path → Type 0
 ArePassed before m whole marks inside rest = (i : ℕ) → (has marks i || is_on_way inside rest i) ≡ (has before i || is_on_way m whole i)
 
-or_no : (a : Bool) → (a || false) ≡ a
-or_no true = refl
-or_no false = refl
-
 pub passed_all : (before marks : List ℕ) (m : Marked) (whole : Path) (inside : Marked) → ArePassed before m whole marks inside []
     → (i : ℕ) → has marks i ≡ (has before i || is_on_way m whole i)
 passed_all before marks m whole inside passed i =
-    sym (ap (λ b. has marks i || b) (none_at_root inside i) ∙ or_no (has marks i)) ∙ passed i
+    sym (ap (λ b. has marks i || b) (none_at_root inside i) ∙ or-false (has marks i)) ∙ passed i

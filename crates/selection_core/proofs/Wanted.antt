@@ -2,6 +2,7 @@
 use Rattle.std.proofs.Common.{◌≡◌, ℕ, ◌+◌, ◌<◌, ◌≤◌, List, ◌∷◌, length, drop, get_or, Bool, true, false, ◌||◌, ◌⊎◌, inl, inr, Option, Some, None, refl, sym, ap, subst, ◌∙◌, arith}
 use Rattle.std.specs.Prelude.{is_some}
 use Rattle.std.specs.List.{list_any}
+use Rattle.std.proofs.Math.Bool.{or-false, or_assoc}
 use Rattle.std.proofs.lemmas.List.{drop_more, drop_all}
 use Rattle.claim_tree.specs.Tree.{Tree}
 use Rattle.claim_tree.specs.Lists.{StandsAt, IsLeast}
@@ -26,27 +27,19 @@ AreGathered m want marks rest = (i : ℕ) → (has marks i || ways_to m rest i) 
 abbrev pub NoneMissing : Tree → List Path → ℕ → Type 0
 NoneMissing t want k = (q : ℕ) → q < k → IsMissing t want q → ⊥
 
-or_through : (a b c : Bool) → ((a || b) || c) ≡ (a || (b || c))
-or_through true b c = refl
-or_through false b c = refl
-
-or_no : (a : Bool) → (a || false) ≡ a
-or_no true = refl
-or_no false = refl
-
 pub gathered_more : (m : Marked) (want : List Path) (marks more : List ℕ) (k : ℕ) (p : Path) → k < length want → p ≡ get_or want k p
     → AreGathered m want marks (drop k want) → ((i : ℕ) → has more i ≡ (has marks i || is_on_way m p i))
     → AreGathered m want more (drop (k + 1) want)
 gathered_more m want marks more k p l e gathered added i =
     ap (λ b. b || ways_to m (drop (k + 1) want) i) (added i)
-    ∙ or_through (has marks i) (is_on_way m p i) (ways_to m (drop (k + 1) want) i)
+    ∙ or_assoc (has marks i) (is_on_way m p i) (ways_to m (drop (k + 1) want) i)
     ∙ ap (λ (ps : List Path). has marks i || ways_to m ps i) (sym (drop_more want k p l ∙ ap (λ (q : Path). q ∷ drop (k + 1) want) (sym e)))
     ∙ gathered i
 
 pub gathered_all : (m : Marked) (want : List Path) (marks : List ℕ) (k : ℕ) → length want ≤ k → AreGathered m want marks (drop k want)
     → (i : ℕ) → has marks i ≡ chosen m want i
 gathered_all m want marks k l gathered i =
-    sym (ap (λ (ps : List Path). has marks i || ways_to m ps i) (drop_all k want l) ∙ or_no (has marks i))
+    sym (ap (λ (ps : List Path). has marks i || ways_to m ps i) (drop_all k want l) ∙ or-false (has marks i))
     ∙ gathered i ∙ sym (chosen_by_ways m want i)
 
 pub none_missing_more : (t : Tree) (want : List Path) (k : ℕ) (p : Path) → p ≡ get_or want k p → true ≡ is_some (tree_at t p)

@@ -9,7 +9,8 @@ use Rattle.issuer_core.specs.declared.errors.IssueError.TheVariants.{TooManyHidd
 use Rattle.issuer_core.specs.Order.{order_of}
 use Rattle.issuer_core.specs.Seed.{maker_of}
 use Rattle.issuer_core.specs.Written.{header_of}
-use Rattle.issuer_core.proofs.FromLaid.{order_refused, finished_issued, finished_laid, unfinished_refused, no_clash, laid_words, body_object, body_ranged, not_more}
+use Rattle.issuer_core.proofs.FromLaid.{order_refused, finished_issued, finished_laid, unfinished_refused, no_clash, laid_words, body_object, body_ranged}
+use Rattle.issuer_core.proofs.Judged.{not_more}
 use Rattle.issuer_core.proofs.issuing.issue_owned.Goals as goal
 
 pub returns-in-Err-clause-refused : goal.returns-in-Err-clause-refused

@@ -8,7 +8,7 @@ use Rattle.marked_tree.specs.MarkedCalls.{marked_elements_len}
 use Rattle.marked_tree.specs.Paths.{is_among}
 use Rattle.marked_tree.specs.Rests.{rests, headed}
 use Rattle.marked_tree.specs.View.{marked_of}
-use Rattle.marked_tree.proofs.MarkSame.{IsMarkedAt, MarksElements, elements_begin, elements_more, MarksMembers, members_begin, members_more, joined-none, joined_members-none}
+use Rattle.marked_tree.proofs.MarkSame.{IsMarkedAt, MarksElements, elements_begin, elements_more, MarksMembers, members_begin, members_more, joined-none, members_joined-none}
 use Rattle.marked_tree.proofs.HeadCounts.{decimals_more, decimals_le, taken_more, names_le, inner_le, ends_le}
 use Rattle.marked_tree.proofs.marking.+mark.Goals as goal
 
@@ -152,7 +152,7 @@ map_done t c =
     subst (λ ms. MarksMembers (rests c.args.depth c.args.paths.now) c.args.next.now c.args.trees l.marked l.next (members_of ms)) none l.invariant
 
 pub mark_map-returns-clause-marked : goal.mark_map-returns-clause-marked
-mark_map-returns-clause-marked t c = sym (joined_members-none c.loop-name.marked) ∙ (map_done t c).marked
+mark_map-returns-clause-marked t c = sym (members_joined-none c.loop-name.marked) ∙ (map_done t c).marked
 
 pub mark_map-returns-clause-next : goal.mark_map-returns-clause-next
 mark_map-returns-clause-next t c = let counted = (map_done t c).counted in omega (arith, counted)
