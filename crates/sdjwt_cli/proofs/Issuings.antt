@@ -17,7 +17,7 @@ use Rattle.sd_outside.specs.Limits.{seed_len}
 use Rattle.sdjwt_cli.specs.Issuing.{IsAsked}
 
 pub is_asked : (order_file seed_file seed : List ℕ) (said : IssueFile) → IsOrderFile order_file said → IsFirstChunk seed_file seed seed_len → IsAsked order_file seed_file (order_of said.order) said.key seed
-is_asked order_file seed_file seed said is_order chunk = record { said = said; is_order = is_order; order_is = refl; key_is = refl; enough = chunk.enough; seed_is = chunk.same }
+is_asked order_file seed_file seed said is_order chunk = record { asks = record { said = said; is_order = is_order; order_is = refl; key_is = refl }; enough = chunk.enough; seed_is = chunk.same }
 
 -- a count that is always 0 does not rise
 pub never : Rose 0 0 → ⊥
