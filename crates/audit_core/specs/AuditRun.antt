@@ -7,27 +7,19 @@ use Rattle.cli_parts.specs.Replies.{Reply, Replies}
 use Rattle.cli_parts.specs.Runs.{IsFetched, MissesWord, RunEnds}
 use Rattle.cli_parts.specs.Telling.{TellsFileFault}
 use Rattle.hmac_sign.specs.Hmac.{AlgKey, IsGood}
-use Rattle.issuer_core.specs.Order.{Order, order_of}
-use Rattle.issuer_core.specs.OrderFile.{IsOrderFile, IsOrderFileRefused}
-use Rattle.issuer_core.specs.declared.order_file.IssueFile.{IssueFile}
+use Rattle.issuer_core.specs.Order.{Order}
+use Rattle.issuer_core.specs.OrderFile.{AsksFor, IsOrderFileRefused}
 use Rattle.audit_core.specs.declared.errors.AuditError.{AuditError}
 use Rattle.audit_core.specs.Audit.{PassesAudit, FailsAudit}
 use Rattle.audit_core.specs.AuditRefusal.{audit_refusal_text}
 
 -- ---- what is answered over the bytes of the two files
 
--- the order file asks for this with this key
-pub record AsksAudit (order_file : List ℕ) (order : Order) (key : AlgKey) : Type 0 where
-  pub said : IssueFile
-  pub is_order : IsOrderFile order_file said
-  pub order_is : order ≡ order_of said.order
-  pub key_is : key ≡ said.key
-
 -- the token is what the order asks for, signed with its key, and this is the line that says so
 pub record SaysYes (order_file token_file answer : List ℕ) : Type 0 where
   pub order : Order
   pub key : AlgKey
-  pub asks : AsksAudit order_file order key
+  pub asks : AsksFor order_file order key
   pub passes : PassesAudit order key.alg (IsGood key) token_file
   pub line_is : answer ≡ line (codes "yes")
 
@@ -35,7 +27,7 @@ pub record SaysYes (order_file token_file answer : List ℕ) : Type 0 where
 pub record SaysNo (order_file token_file text : List ℕ) : Type 0 where
   pub order : Order
   pub key : AlgKey
-  pub asks : AsksAudit order_file order key
+  pub asks : AsksFor order_file order key
   pub error : AuditError
   pub fails : FailsAudit order key.alg (IsGood key) token_file error
   pub line_is : text ≡ line (audit_refusal_text error)

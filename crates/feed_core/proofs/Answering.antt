@@ -3,7 +3,8 @@ use Rattle.std.proofs.Common.{◌≡◌, ℕ, ◌+◌, List, [], ◌∷◌, ◌+
 use Rattle.std.proofs.KnownBytes.{Appends-nil, Appends-trans}
 use Rattle.std.specs.Io.KnownBytes.{Appends}
 use Rattle.verifier_core.specs.declared.policy.Policy.{Policy}
-use Rattle.feed_core.specs.Cut.{IsOneLine, IsCut, with_end}
+use Rattle.cli_parts.specs.Lines.{line}
+use Rattle.feed_core.specs.Cut.{IsOneLine, IsCut}
 use Rattle.feed_core.specs.FeedVerdict.{TellsVerdicts}
 use Rattle.feed_core.specs.Feed.{taking, kept, Takes, TakesFront, TellsFront}
 use Rattle.feed_core.proofs.Cuts.{all_append, cut_append, cut_line, cut_open, cut_of}
@@ -25,7 +26,7 @@ module _ (policy : Policy) (now : ℕ) (start piece : List ℕ) (first : ℕ) (o
   pub answered_first : IsOneLine start → Answered policy now start piece piece start first first old old
   answered_first one = record { front = start; whole = refl; ended = []; cut = cut_open start one; text = []; told = told_none policy now; written = Appends-nil old; count_is = omega arith }
 
-  line_on : (rest bytes : List ℕ) → IsOneLine rest → IsOneLine bytes → IsCut (rest ++ with_end bytes) ((rest ++ bytes) ∷ []) []
+  line_on : (rest bytes : List ℕ) → IsOneLine rest → IsOneLine bytes → IsCut (rest ++ line bytes) ((rest ++ bytes) ∷ []) []
   line_on rest bytes one two = let P : List ℕ → Type 0 = λ t. IsCut t ((rest ++ bytes) ∷ []) [] in subst P (append_assoc rest bytes (10 ∷ [])) (cut_line (rest ++ bytes) (all_append _ rest bytes one two))
 
   -- the line that ends next is told
@@ -33,10 +34,10 @@ module _ (policy : Policy) (now : ℕ) (start piece : List ℕ) (first : ℕ) (o
       → left ≡ bytes ++ 10 ∷ more → IsOneLine bytes → TellsVerdicts policy now ((rest ++ bytes) ∷ []) text → Appends mid new text
       → Answered policy now start piece more [] first (count + 1) old new
   answered_more left bytes more rest text count mid new is split one told written = record {
-    front = is.front ++ with_end bytes;
-    whole = is.whole ∙ ap (λ (t : List ℕ). is.front ++ t) (split ∙ sym (append_assoc bytes (10 ∷ []) more)) ∙ sym (append_assoc is.front (with_end bytes) more);
+    front = is.front ++ line bytes;
+    whole = is.whole ∙ ap (λ (t : List ℕ). is.front ++ t) (split ∙ sym (append_assoc bytes (10 ∷ []) more)) ∙ sym (append_assoc is.front (line bytes) more);
     ended = is.ended ++ (rest ++ bytes) ∷ [];
-    cut = cut_append is.front (with_end bytes) is.ended ((rest ++ bytes) ∷ []) rest [] is.cut (line_on rest bytes is.cut.unended one);
+    cut = cut_append is.front (line bytes) is.ended ((rest ++ bytes) ∷ []) rest [] is.cut (line_on rest bytes is.cut.unended one);
     text = is.text ++ text;
     told = told_append policy now is.ended ((rest ++ bytes) ∷ []) is.text text is.told told;
     written = Appends-trans old mid new is.text text is.written written;
@@ -66,13 +67,13 @@ module _ (policy : Policy) (now : ℕ) (start piece : List ℕ) (first : ℕ) (o
   answered_front left bytes more rest count mid new is split one front =
       let behind = cut_of more in
       let lines = is.ended ++ (rest ++ bytes) ∷ [] in
-      let so_far = cut_append is.front (with_end bytes) is.ended ((rest ++ bytes) ∷ []) rest [] is.cut (line_on rest bytes is.cut.unended one) in
-      let whole : start ++ piece ≡ (is.front ++ with_end bytes) ++ more
-      = is.whole ∙ ap (λ (t : List ℕ). is.front ++ t) (split ∙ sym (append_assoc bytes (10 ∷ []) more)) ∙ sym (append_assoc is.front (with_end bytes) more) in
+      let so_far = cut_append is.front (line bytes) is.ended ((rest ++ bytes) ∷ []) rest [] is.cut (line_on rest bytes is.cut.unended one) in
+      let whole : start ++ piece ≡ (is.front ++ line bytes) ++ more
+      = is.whole ∙ ap (λ (t : List ℕ). is.front ++ t) (split ∙ sym (append_assoc bytes (10 ∷ []) more)) ∙ sym (append_assoc is.front (line bytes) more) in
       let P : List ℕ → Type 0 = λ t. IsCut t (lines ++ behind.ended) behind.rest in
       record {
         ended = lines ++ behind.ended;
         rest = behind.rest;
-        cut = subst P (sym whole) (cut_append (is.front ++ with_end bytes) more lines behind.ended [] behind.rest so_far behind.is);
+        cut = subst P (sym whole) (cut_append (is.front ++ line bytes) more lines behind.ended [] behind.rest so_far behind.is);
         front = front_more policy now lines behind.ended old new (front_after policy now is.ended ((rest ++ bytes) ∷ []) is.text [] old mid new is.told is.written front);
       }

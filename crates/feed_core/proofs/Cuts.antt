@@ -5,7 +5,8 @@ use Rattle.std.specs.Prelude.{Bool, true, false, ◌==◌}
 use Rattle.std.specs.List.{AllByRecursion, flat_map}
 use Rattle.std.proofs.lemmas.List.Concat.{flat_map-append}
 use native.Mathlib.Decide.{dec_le}
-use Rattle.feed_core.specs.Cut.{IsOneLine, IsCut, with_end}
+use Rattle.cli_parts.specs.Lines.{line}
+use Rattle.feed_core.specs.Cut.{IsOneLine, IsCut}
 
 -- ---- what is true of each element
 
@@ -28,8 +29,8 @@ all_take P (suc n) (x ∷ xs) p = (p.0, all_take P n xs p.1)
 
 -- ---- one line
 
-pub cut_line : (text : List ℕ) → IsOneLine text → IsCut (with_end text) (text ∷ []) []
-cut_line text one = record { whole = sym (append-nil (with_end text)) ∙ sym (append-nil (with_end text ++ [])); lines = (one, tt); unended = tt }
+pub cut_line : (text : List ℕ) → IsOneLine text → IsCut (line text) (text ∷ []) []
+cut_line text one = record { whole = sym (append-nil (line text)) ∙ sym (append-nil (line text ++ [])); lines = (one, tt); unended = tt }
 
 pub cut_open : (text : List ℕ) → IsOneLine text → IsCut text [] text
 cut_open text one = record { whole = refl; lines = tt; unended = one }
@@ -39,8 +40,8 @@ cut_open text one = record { whole = refl; lines = tt; unended = one }
 pub cut_append : (text more : List ℕ) (ended others : List (List ℕ)) (rest behind : List ℕ)
     → IsCut text ended rest → IsCut (rest ++ more) others behind → IsCut (text ++ more) (ended ++ others) behind
 cut_append text more ended others rest behind cut next = record {
-  whole = ap (λ (t : List ℕ). t ++ more) cut.whole ∙ append_assoc (flat_map with_end ended) rest more ∙ ap (λ (t : List ℕ). flat_map with_end ended ++ t) next.whole
-      ∙ sym (append_assoc (flat_map with_end ended) (flat_map with_end others) behind) ∙ ap (λ (t : List ℕ). t ++ behind) (sym (flat_map-append with_end ended others));
+  whole = ap (λ (t : List ℕ). t ++ more) cut.whole ∙ append_assoc (flat_map line ended) rest more ∙ ap (λ (t : List ℕ). flat_map line ended ++ t) next.whole
+      ∙ sym (append_assoc (flat_map line ended) (flat_map line others) behind) ∙ ap (λ (t : List ℕ). t ++ behind) (sym (flat_map-append line ended others));
   lines = all_append IsOneLine ended others cut.lines next.lines;
   unended = next.unended;
 }
@@ -106,24 +107,24 @@ no_end text [] behind one same = let here : IsOneLine (10 ∷ behind) = rw same 
 no_end text (b ∷ first) behind one same = let here : IsOneLine (b ∷ (first ++ 10 ∷ behind)) = rw same at one in no_end (first ++ 10 ∷ behind) first behind here.1 refl
 
 -- the first line of a cut, and what follows it
-pub headed : (first : List ℕ) (ended : List (List ℕ)) (rest : List ℕ) → flat_map with_end (first ∷ ended) ++ rest ≡ first ++ 10 ∷ (flat_map with_end ended ++ rest)
+pub headed : (first : List ℕ) (ended : List (List ℕ)) (rest : List ℕ) → flat_map line (first ∷ ended) ++ rest ≡ first ++ 10 ∷ (flat_map line ended ++ rest)
 headed first ended rest = simp append_assoc
 
 pub one_cut : (text : List ℕ) (ended others : List (List ℕ)) (rest behind : List ℕ) → IsCut text ended rest → IsCut text others behind → (ended ≡ others) × (rest ≡ behind)
 one_cut text [] [] rest behind cut other = (refl, sym cut.whole ∙ other.whole)
-one_cut text [] (w ∷ ws) rest behind cut other = absurd (no_end rest w (flat_map with_end ws ++ behind) cut.unended (sym cut.whole ∙ other.whole ∙ headed w ws behind))
-one_cut text (v ∷ vs) [] rest behind cut other = absurd (no_end behind v (flat_map with_end vs ++ rest) other.unended (sym other.whole ∙ cut.whole ∙ headed v vs rest))
+one_cut text [] (w ∷ ws) rest behind cut other = absurd (no_end rest w (flat_map line ws ++ behind) cut.unended (sym cut.whole ∙ other.whole ∙ headed w ws behind))
+one_cut text (v ∷ vs) [] rest behind cut other = absurd (no_end behind v (flat_map line vs ++ rest) other.unended (sym other.whole ∙ cut.whole ∙ headed v vs rest))
 one_cut text (v ∷ vs) (w ∷ ws) rest behind cut other =
     let same = sym (headed v vs rest) ∙ sym cut.whole ∙ other.whole ∙ headed w ws behind in
-    let first = one_front v w (flat_map with_end vs ++ rest) (flat_map with_end ws ++ behind) cut.lines.0 other.lines.0 same in
-    let more = one_cut (flat_map with_end vs ++ rest) vs ws rest behind
+    let first = one_front v w (flat_map line vs ++ rest) (flat_map line ws ++ behind) cut.lines.0 other.lines.0 same in
+    let more = one_cut (flat_map line vs ++ rest) vs ws rest behind
     (record { whole = refl; lines = cut.lines.1; unended = cut.unended }) (record { whole = first.1; lines = other.lines.1; unended = other.unended }) in
     (ap (λ (w : List ℕ). w ∷ vs) first.0 ∙ ap (λ (ws : List (List ℕ)). w ∷ ws) more.0, more.1)
 
 -- each line has its line end
-pub lines_within : (text : List ℕ) (ended : List (List ℕ)) (rest : List ℕ) → text ≡ flat_map with_end ended ++ rest → length ended + length rest ≤ length text
+pub lines_within : (text : List ℕ) (ended : List (List ℕ)) (rest : List ℕ) → text ≡ flat_map line ended ++ rest → length ended + length rest ≤ length text
 lines_within text [] rest same = omega (arith, ap length same)
 lines_within text (w ∷ ws) rest same =
-    let more = lines_within (flat_map with_end ws ++ rest) ws rest refl in
+    let more = lines_within (flat_map line ws ++ rest) ws rest refl in
     let long = ap length (same ∙ headed w ws rest) in
-    omega (arith, more, long, length-append w (10 ∷ (flat_map with_end ws ++ rest)))
+    omega (arith, more, long, length-append w (10 ∷ (flat_map line ws ++ rest)))

@@ -17,7 +17,7 @@ use Rattle.verifier_core.specs.Verdict.{Fails}
 use Rattle.verifier_core.specs.Verdicts.{IsAcceptedAs}
 use Rattle.verifier_core.proofs.Verdicts.{file_lowest}
 use Rattle.verifier_core.proofs.OneVerdict.{accepted_not_refused, one_accepted, one_lowest}
-use Rattle.feed_core.specs.Cut.{with_end}
+use Rattle.cli_parts.specs.Lines.{line}
 use Rattle.feed_core.specs.FeedVerdict.{TellsVerdict, accepts, refuses}
 
 told : Marked → List ℕ
@@ -41,12 +41,12 @@ long_alike policy now token other text long more (refuses fault l e) =
 -- ---- the line of a verdict
 
 pub line_accepted : (policy : Policy) (now : ℕ) (token : List ℕ) (payload : Tree) → IsAcceptedAs token policy now payload → (r : Result (String Global) NoMemory)
-    → IfOk r (λ line. string_bytes line ≡ with_end (codes "accepted " ++ json_text payload)) → IfOk r (λ line. (verdict : List ℕ) × TellsVerdict policy now token verdict × (string_bytes line ≡ with_end verdict))
-line_accepted policy now token payload accepted (Ok line) is =
+    → IfOk r (λ told. string_bytes told ≡ line (codes "accepted " ++ json_text payload)) → IfOk r (λ told. (verdict : List ℕ) × TellsVerdict policy now token verdict × (string_bytes told ≡ line verdict))
+line_accepted policy now token payload accepted (Ok told) is =
     (codes "accepted " ++ json_text payload, accepts accepted.0 accepted.1 (ap (λ (t : Tree). codes "accepted " ++ json_text t) accepted.2), is)
 line_accepted policy now token payload accepted (Err e) is = tt
 
 pub line_refused : (policy : Policy) (now : ℕ) (token : List ℕ) (fault : Fault) → IsLowest (Fails token policy now) fault → (r : Result (String Global) NoMemory)
-    → IfOk r (λ line. string_bytes line ≡ with_end (fault_text fault)) → IfOk r (λ line. (verdict : List ℕ) × TellsVerdict policy now token verdict × (string_bytes line ≡ with_end verdict))
-line_refused policy now token fault lowest (Ok line) is = (fault_text fault, refuses fault lowest refl, is)
+    → IfOk r (λ told. string_bytes told ≡ line (fault_text fault)) → IfOk r (λ told. (verdict : List ℕ) × TellsVerdict policy now token verdict × (string_bytes told ≡ line verdict))
+line_refused policy now token fault lowest (Ok told) is = (fault_text fault, refuses fault lowest refl, is)
 line_refused policy now token fault lowest (Err e) is = tt

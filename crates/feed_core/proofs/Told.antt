@@ -6,7 +6,8 @@ use Rattle.std.proofs.lemmas.List.Concat.{flat_map-append}
 use Rattle.std.proofs.lemmas.List.{length-take, take_all, take-append-le, take-take, append_cancel_left}
 use Rattle.sd_outside.specs.Limits.{file_max}
 use Rattle.verifier_core.specs.declared.policy.Policy.{Policy}
-use Rattle.feed_core.specs.Cut.{IsOneLine, IsCut, last_line, with_end}
+use Rattle.cli_parts.specs.Lines.{line}
+use Rattle.feed_core.specs.Cut.{IsOneLine, IsCut, last_line}
 use Rattle.feed_core.specs.FeedVerdict.{TellsVerdict, TellsVerdicts}
 use Rattle.feed_core.specs.Feed.{kept}
 use Rattle.feed_core.proofs.FeedVerdicts.{one_verdict_text, long_alike}
@@ -25,14 +26,14 @@ module _ (policy : Policy) (now : ℕ) where
   pub told_none : TellsVerdicts policy now [] []
   told_none = record { verdicts = []; each = tt; text_is = refl }
 
-  pub told_one : (token text : List ℕ) → TellsVerdict policy now token text → TellsVerdicts policy now (token ∷ []) (with_end text)
-  told_one token text told = record { verdicts = text ∷ []; each = (told, tt); text_is = sym (append-nil (with_end text)) }
+  pub told_one : (token text : List ℕ) → TellsVerdict policy now token text → TellsVerdicts policy now (token ∷ []) (line text)
+  told_one token text told = record { verdicts = text ∷ []; each = (told, tt); text_is = sym (append-nil (line text)) }
 
   pub told_append : (tokens others : List (List ℕ)) (text more : List ℕ) → TellsVerdicts policy now tokens text → TellsVerdicts policy now others more → TellsVerdicts policy now (tokens ++ others) (text ++ more)
   told_append tokens others text more told next = record {
     verdicts = told.verdicts ++ next.verdicts;
     each = zip_append tokens others told.verdicts next.verdicts told.each next.each;
-    text_is = ap (λ (t : List ℕ). t ++ more) told.text_is ∙ ap (λ (t : List ℕ). flat_map with_end told.verdicts ++ t) next.text_is ∙ sym (flat_map-append with_end told.verdicts next.verdicts);
+    text_is = ap (λ (t : List ℕ). t ++ more) told.text_is ∙ ap (λ (t : List ℕ). flat_map line told.verdicts ++ t) next.text_is ∙ sym (flat_map-append line told.verdicts next.verdicts);
   }
 
   one_zip : (xs ts us : List (List ℕ)) → AllZip (TellsVerdict policy now) xs ts → AllZip (TellsVerdict policy now) xs us → ts ≡ us
@@ -44,14 +45,14 @@ module _ (policy : Policy) (now : ℕ) where
   one_zip (x ∷ xs) (t ∷ ts) (u ∷ us) p q = ap (λ (t : List ℕ). t ∷ ts) (one_verdict_text policy now x t u p.0 q.0) ∙ ap (λ (ts : List (List ℕ)). u ∷ ts) (one_zip xs ts us p.1 q.1)
 
   pub one_told : (tokens : List (List ℕ)) (text other : List ℕ) → TellsVerdicts policy now tokens text → TellsVerdicts policy now tokens other → text ≡ other
-  one_told tokens text other told next = told.text_is ∙ ap (flat_map with_end) (one_zip tokens told.verdicts next.verdicts told.each next.each) ∙ sym next.text_is
+  one_told tokens text other told next = told.text_is ∙ ap (flat_map line) (one_zip tokens told.verdicts next.verdicts told.each next.each) ∙ sym next.text_is
 
   -- another first line of the same verdict
   told_first : (token other : List ℕ) (tokens : List (List ℕ)) (text : List ℕ) → ((t : List ℕ) → TellsVerdict policy now token t → TellsVerdict policy now other t)
       → TellsVerdicts policy now (token ∷ tokens) text → TellsVerdicts policy now (other ∷ tokens) text
   told_first token other tokens text alike told = go told.verdicts told.each told.text_is
     where
-      go : (verdicts : List (List ℕ)) → AllZip (TellsVerdict policy now) (token ∷ tokens) verdicts → text ≡ flat_map with_end verdicts → TellsVerdicts policy now (other ∷ tokens) text
+      go : (verdicts : List (List ℕ)) → AllZip (TellsVerdict policy now) (token ∷ tokens) verdicts → text ≡ flat_map line verdicts → TellsVerdicts policy now (other ∷ tokens) text
       go [] each text_is = absurd each
       go (t ∷ ts) each text_is = record { verdicts = t ∷ ts; each = (alike t each.0, each.1); text_is = text_is }
 
@@ -114,10 +115,10 @@ module _ (policy : Policy) (now : ℕ) where
         as_many = refl;
       }
   carry_long text piece behind ended (w ∷ ws) rest long cut next =
-      let front = front_of_line (kept rest) piece w (flat_map with_end ws ++ behind) (all_take _ (file_max + 1) rest cut.unended) (next.whole ∙ headed w ws behind) in
+      let front = front_of_line (kept rest) piece w (flat_map line ws ++ behind) (all_take _ (file_max + 1) rest cut.unended) (next.whole ∙ headed w ws behind) in
       let middle : IsOneLine front.middle = all_back _ (kept rest) front.middle (rw front.first_is at next.lines.0) in
       let going : IsCut (rest ++ piece) ((rest ++ front.middle) ∷ ws) behind = record {
-        whole = ap (λ (t : List ℕ). rest ++ t) front.more_is ∙ sym (append_assoc rest front.middle (10 ∷ (flat_map with_end ws ++ behind))) ∙ sym (headed (rest ++ front.middle) ws behind);
+        whole = ap (λ (t : List ℕ). rest ++ t) front.more_is ∙ sym (append_assoc rest front.middle (10 ∷ (flat_map line ws ++ behind))) ∙ sym (headed (rest ++ front.middle) ws behind);
         lines = (all_append _ rest front.middle cut.unended middle, next.lines.1);
         unended = next.unended;
       } in

@@ -1,10 +1,7 @@
 -- A text as lines.
 use Rattle.std.specs.Prelude.{◌≡◌, ◌≢◌, ℕ, List, [], ◌∷◌, ◌++◌}
 use Rattle.std.specs.List.{AllByRecursion, flat_map}
-
--- the text with a line end behind it
-abbrev pub with_end : List ℕ → List ℕ
-with_end text = text ++ (10 ∷ [])
+use Rattle.cli_parts.specs.Lines.{line}
 
 -- no line end stands in the text
 abbrev pub IsOneLine : List ℕ → Type 0
@@ -12,7 +9,7 @@ IsOneLine text = AllByRecursion (λ byte. byte ≢ 10) text
 
 -- the lines that end in a text, each without its line end, and what stands behind the last line end
 pub record IsCut (text : List ℕ) (ended : List (List ℕ)) (rest : List ℕ) : Type 0 where
-  pub whole : text ≡ flat_map with_end ended ++ rest
+  pub whole : text ≡ flat_map line ended ++ rest
   pub lines : AllByRecursion IsOneLine ended
   pub unended : IsOneLine rest
 

@@ -5,7 +5,8 @@ use Rattle.std.specs.Io.KnownBytes.{Appends}
 use Rattle.sd_outside.specs.Causes.{AppendsPrefix}
 use Rattle.sd_outside.specs.Limits.{file_max}
 use Rattle.verifier_core.specs.declared.policy.Policy.{Policy}
-use Rattle.feed_core.specs.Cut.{IsCut, last_line, with_end}
+use Rattle.cli_parts.specs.Lines.{line}
+use Rattle.feed_core.specs.Cut.{IsCut, last_line}
 use Rattle.feed_core.specs.FeedVerdict.{TellsVerdicts}
 
 -- the policy and the moment, what is kept of the line that has not ended, how many lines were judged, and whether the feed takes no more
@@ -52,7 +53,7 @@ pub record TakesFront (before : FeedState) (piece : List ℕ) (old new : Option 
 
 -- how many lines there were
 abbrev pub count_line : ℕ → List ℕ
-count_line count = with_end (codes "lines " ++ decimal count)
+count_line count = line (codes "lines " ++ decimal count)
 
 -- the lines of a feed that ends, what is kept among them
 abbrev pub count_at_end : FeedState → ℕ

@@ -8,7 +8,7 @@ use Rattle.marked_tree.specs.Marked.{Marked, strip}
 use Rattle.verifier_core.specs.declared.policy.Policy.{Policy}
 use Rattle.compact_form.specs.RefusedText.{fault_text}
 use Rattle.verifier_core.specs.Verdict.{Fails, IsAccepted}
-use Rattle.feed_core.specs.Cut.{with_end}
+use Rattle.cli_parts.specs.Lines.{line}
 
 -- the token is accepted, and this tells its processed payload; or this tells the lowest condition that fails
 pub data TellsVerdict (policy : Policy) (now : ℕ) (token text : List ℕ) : Type 0 where
@@ -19,4 +19,4 @@ pub data TellsVerdict (policy : Policy) (now : ℕ) (token text : List ℕ) : Ty
 pub record TellsVerdicts (policy : Policy) (now : ℕ) (tokens : List (List ℕ)) (text : List ℕ) : Type 0 where
   pub verdicts : List (List ℕ)
   pub each : AllZip (TellsVerdict policy now) tokens verdicts
-  pub text_is : text ≡ flat_map with_end verdicts
+  pub text_is : text ≡ flat_map line verdicts

@@ -4,7 +4,7 @@ ghost use Rattle.claim_tree.specs.JsonText.{json_text};
 ghost use Rattle.claim_tree.specs.Tree.{IsRanged};
 ghost use Rattle.claim_tree.specs.View.{tree_of};
 ghost use Rattle.compact_form.specs.RefusedText.{fault_text};
-ghost use Rattle.feed_core.specs.Cut.{with_end};
+ghost use Rattle.cli_parts.specs.Lines.{line};
 ghost use Rattle.feed_core.specs.FeedVerdict.{TellsVerdict};
 
 use claim_tree::{Tree, write};
@@ -17,7 +17,7 @@ use verifier_core::{Policy, VerifyError, fault_line, verify_payload};
 // The line of a token that is accepted, with this payload.
 fn accepted_line(alloc: Global, payload: &Tree) -> Result<String, NoMemory>
     requires { IsRanged (tree_of payload.now) }
-    ensures { IfOk result (λ line. string_bytes line ≡ with_end (codes "accepted " ++ json_text (tree_of payload.now))) }
+    ensures { IfOk result (λ told. string_bytes told ≡ line (codes "accepted " ++ json_text (tree_of payload.now))) }
 {
     let text = write(alloc, payload)?;
     let mut line = String::from_str(alloc, "accepted ")?;
@@ -28,7 +28,7 @@ fn accepted_line(alloc: Global, payload: &Tree) -> Result<String, NoMemory>
 
 // The line of a condition that fails.
 fn refused_line(alloc: Global, fault: &Fault) -> Result<String, NoMemory>
-    ensures { IfOk result (λ line. string_bytes line ≡ with_end (fault_text fault.now)) }
+    ensures { IfOk result (λ told. string_bytes told ≡ line (fault_text fault.now)) }
 {
     let mut line = fault_line(alloc, fault)?.into_string();
     line.push_str("\n")?;
@@ -42,7 +42,7 @@ pub(crate) fn verdict_line(
     now: u64,
     token: &[u8],
 ) -> Result<String, NoMemory>
-    ensures { IfOk result (λ line. (verdict : List ℕ) × TellsVerdict policy.now now token.now verdict × (string_bytes line ≡ with_end verdict)) }
+    ensures { IfOk result (λ told. (verdict : List ℕ) × TellsVerdict policy.now now token.now verdict × (string_bytes told ≡ line verdict)) }
 {
     match verify_payload(alloc, token, policy, now, &mut Steps::new()) {
         Ok(payload) => accepted_line(alloc, &payload),

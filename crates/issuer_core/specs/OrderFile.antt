@@ -11,11 +11,12 @@ use Rattle.claim_tree.specs.FileLists.{IsListOf, IsPointer}
 use Rattle.disclosure.specs.Digest.{hash_name}
 use Rattle.disclosure.specs.declared.digests.HashAlg.{HashAlg}
 use Rattle.hmac_sign.specs.Algs.{alg_text, key_least}
-use Rattle.hmac_sign.specs.Hmac.{alg_key}
+use Rattle.hmac_sign.specs.Hmac.{AlgKey, alg_key}
 use Rattle.hmac_sign.specs.KeyText.{IsKeyBytes}
 use Rattle.hmac_sign.specs.declared.alg.Alg.{Alg}
 use Rattle.issuer_core.specs.declared.order.Decoy.{Decoy}
 use Rattle.issuer_core.specs.declared.order_file.IssueFile.{IssueFile}
+use Rattle.issuer_core.specs.Order.{Order, order_of}
 
 -- any JSON value
 abbrev pub IsValue : Tree → Tree → Type 0
@@ -82,6 +83,13 @@ pub record IsOrderFile (bytes : Text) (said : IssueFile) : Type 0 where
   pub says_alg : SaysOr (IsAlgFor (length key_bytes)) Alg.Hs256 (found members Field.Alg) alg
   pub key : said.key ≡ alg_key alg key_bytes
   pub hash : SaysOr IsHashText HashAlg.Sha256 (found members SdAlg) said.order.hash
+
+-- the file asks for this order with this key
+pub record AsksFor (bytes : Text) (order : Order) (key : AlgKey) : Type 0 where
+  pub said : IssueFile
+  pub is_order : IsOrderFile bytes said
+  pub order_is : order ≡ order_of said.order
+  pub key_is : key ≡ said.key
 
 -- why the file says no order; want of memory says nothing
 abbrev pub IsOrderFileRefused : Text → FileFault → Type 0

@@ -22,10 +22,10 @@ use Rattle.sdjwt_cli.specs.Answers.{IssueAnswers}
 -- what the files ask for is one
 module _ (order_file seed_file : List ℕ) (o p : Order) (key other : AlgKey) (seed grain : List ℕ) (this : IsAsked order_file seed_file o key seed) (that : IsAsked order_file seed_file p other grain) where
   pub same_order : o ≡ p
-  same_order = this.order_is ∙ ((orders.one_order order_file this.said that.said this.is_order that.is_order).0 ∙ sym that.order_is)
+  same_order = this.asks.order_is ∙ ((orders.one_order order_file this.asks.said that.asks.said this.asks.is_order that.asks.is_order).0 ∙ sym that.asks.order_is)
 
   same_key : key ≡ other
-  same_key = this.key_is ∙ ((orders.one_order order_file this.said that.said this.is_order that.is_order).1 ∙ sym that.key_is)
+  same_key = this.asks.key_is ∙ ((orders.one_order order_file this.asks.said that.asks.said this.asks.is_order that.asks.is_order).1 ∙ sym that.asks.key_is)
 
   same_seed : seed ≡ grain
   same_seed = this.seed_is ∙ sym that.seed_is
@@ -54,7 +54,7 @@ printed_not_refused order seed a b g h =
 
 -- what is asked for is of its form
 asked_not_unreadable : (order_file seed_file : List ℕ) (o : Order) (key : AlgKey) (seed : List ℕ) (text : List ℕ) → IsAsked order_file seed_file o key seed → HasNoOrder order_file seed_file text → ⊥
-asked_not_unreadable order_file seed_file o key seed text asked (no_order fault refused cause is) = cause (orders.not_both order_file asked.said fault asked.is_order refused)
+asked_not_unreadable order_file seed_file o key seed text asked (no_order fault refused cause is) = cause (orders.not_both order_file asked.asks.said fault asked.asks.is_order refused)
 asked_not_unreadable order_file seed_file o key seed text asked (no_seed said is_order short is) = let enough = asked.enough in omega (arith, short, enough)
 
 one_reason : (order seed : List ℕ) (a b : List ℕ) → HasNoOrder order seed a → HasNoOrder order seed b → a ≡ b

@@ -22,7 +22,7 @@ use Rattle.sd_outside.specs.Limits.{seed_len}
 use Rattle.sdjwt_cli.specs.Issuing.{IsAsked, HasNoOrder, no_order}
 
 pub is_asked : (order_file seed_file seed : List ℕ) (said : IssueFile) → IsOrderFile order_file said → IsFirstChunk seed_file seed seed_len → IsAsked order_file seed_file (order_of said.order) said.key seed
-is_asked order_file seed_file seed said is_order chunk = record { said = said; is_order = is_order; order_is = refl; key_is = refl; enough = chunk.enough; seed_is = chunk.same }
+is_asked order_file seed_file seed said is_order chunk = record { asks = record { said = said; is_order = is_order; order_is = refl; key_is = refl }; enough = chunk.enough; seed_is = chunk.same }
 
 -- what tells that the file is no order tells that the two files ask for nothing
 pub has_no_order : (order_file seed_file : List ℕ) (read : Result IssueFile FileFault) → IfErr read (IsOrderFileRefused order_file)

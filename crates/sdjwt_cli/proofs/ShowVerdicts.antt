@@ -1,7 +1,9 @@
 -- The command `show` has one verdict over a file.
-use Rattle.std.proofs.Common.{◌≡◌, ℕ, List, [], ◌∷◌, ◌++◌, length, Option, None, Some, refl, ap, ◌∙◌, sym, subst}
+use Rattle.std.proofs.Common.{◌≡◌, ◌<◌, ℕ, List, ◌∷◌, ◌++◌, length, Option, None, Some, refl, ap, ◌∙◌, sym, subst, arith}
 use Rattle.std.specs.List.{AllZip}
+use Rattle.claim_tree.specs.Lists.{StandsAt, IsSuchAt, IsLeast}
 use Rattle.claim_tree.specs.Tree.{Text, Tree}
+use Rattle.claim_tree.proofs.Lists.{At-get, At-left, At-right, At-same, least_one}
 use Rattle.jws_part.specs.Part.{IsBody, IsNoObject}
 use Rattle.jws_part.specs.Header.{IsHeaderUnreadable}
 use Rattle.jws_part.proofs.Parts as bodies
@@ -16,48 +18,29 @@ use Rattle.json_form.proofs.Tokens as tokens
 use Rattle.digest_sites.specs.Given.{Given}
 use Rattle.disclosure.specs.declared.digests.HashAlg.{HashAlg}
 use Rattle.verifier_core.specs.Verdict.{Gives, IsNoDisclosure}
-use Rattle.sdjwt_cli.specs.Show.{show_lines, IsHead, IsShownPayload, Shows, IsShowUnreadAt, IsShowRefused, form, header, payload, hash, disclosure}
-use Rattle.verifier_core.proofs.CheckSteps.{one_list, read_unread}
+use Rattle.sdjwt_cli.specs.Show.{show_lines, IsHead, IsShownPayload, Shows, IsShowRefused, form, header, payload, hash, disclosure}
+use Rattle.verifier_core.proofs.CheckSteps.{all_read, one_list}
 
--- a disclosure that is read is not one that is not
-all_read : (alg : HashAlg) (front : List Text) (d : Text) (rest : List Text) (ss : List Given) → AllZip (Gives alg) (front ++ d ∷ rest) ss → IsNoDisclosure d → ⊥
-all_read alg [] d rest [] g u = g
-all_read alg [] d rest (s ∷ ss) g u = read_unread alg d s g.0 u
-all_read alg (x ∷ front) d rest [] g u = g
-all_read alg (x ∷ front) d rest (s ∷ ss) g u = all_read alg front d rest ss g.1 u
+-- no disclosure of a front that is read is one that is not
+pub none_before : (alg : HashAlg) (front rest : List Text) (shown : List Given) (j : ℕ) → AllZip (Gives alg) front shown → j < length front → IsSuchAt IsNoDisclosure (front ++ rest) j → ⊥
+none_before alg front rest shown j read less (text, there, unread) =
+    let own = At-get front j less in
+    let same : text ≡ own.0 = At-same (front ++ rest) j text own.0 there (At-left front rest j own.0 own.1) in
+    all_read alg front shown j own.0 read own.1 (subst IsNoDisclosure same unread)
 
--- of two fronts that are read, each before a text that is not, neither is longer
-one_front : (alg other : HashAlg) (xs ys : List Text) (d e : Text) (ds es : List Text) (ss ts : List Given) → xs ++ d ∷ ds ≡ ys ++ e ∷ es
-    → AllZip (Gives alg) xs ss → AllZip (Gives other) ys ts → IsNoDisclosure d → IsNoDisclosure e → xs ≡ ys
-one_front alg other [] [] d e ds es ss ts same g h u v = refl
-one_front alg other [] (y ∷ ys) d e ds es ss [] same g h u v = absurd h
-one_front alg other [] (y ∷ ys) d e ds es ss (t ∷ ts) same g h u v =
-    let lists : d ∷ ds ≡ y ∷ (ys ++ e ∷ es) = same in
-    let first : d ≡ y = cc lists in
-    absurd (read_unread other y t h.0 (subst IsNoDisclosure first u))
-one_front alg other (x ∷ xs) [] d e ds es [] ts same g h u v = absurd g
-one_front alg other (x ∷ xs) [] d e ds es (s ∷ ss) ts same g h u v =
-    let lists : x ∷ (xs ++ d ∷ ds) ≡ e ∷ es = same in
-    let first : e ≡ x = cc lists in
-    absurd (read_unread alg x s g.0 (subst IsNoDisclosure first v))
-one_front alg other (x ∷ xs) (y ∷ ys) d e ds es [] ts same g h u v = absurd g
-one_front alg other (x ∷ xs) (y ∷ ys) d e ds es (s ∷ ss) [] same g h u v = absurd h
-one_front alg other (x ∷ xs) (y ∷ ys) d e ds es (s ∷ ss) (t ∷ ts) same g h u v =
-    let lists : x ∷ (xs ++ d ∷ ds) ≡ y ∷ (ys ++ e ∷ es) = same in
-    let first : x ≡ y = cc lists in
-    let tails : xs ++ d ∷ ds ≡ ys ++ e ∷ es = cc lists in
-    let others : xs ≡ ys = one_front alg other xs ys d e ds es ss ts tails g.1 h.1 u v in
-    cc
-
-abbrev at_front : List Text → Fault
-at_front front = placed Condition.DisclosureUnreadable (length front)
-
-one_unread : (alg other : HashAlg) (ds : List Text) (f g : Fault) → IsShowUnreadAt alg ds f → IsShowUnreadAt other ds g → f ≡ g
-one_unread alg other ds f g u v =
-    let fronts : u.front ≡ v.front = one_front alg other u.front v.front u.text v.text u.rest v.rest u.shown v.shown (sym u.stand ∙ v.stand) u.read v.read u.unread v.unread in
-    u.fault_is ∙ (ap at_front fronts ∙ sym v.fault_is)
+-- behind such a front the first that is not read
+pub first_unread : (alg : HashAlg) (front rest : List Text) (shown : List Given) (text : Text) (disclosures : List Text)
+    → AllZip (Gives alg) front shown → disclosures ≡ front ++ text ∷ rest → IsNoDisclosure text → IsLeast (IsSuchAt IsNoDisclosure disclosures) (length front)
+first_unread alg front rest shown text disclosures read stand unread =
+    subst (λ (ds : List Text). IsLeast (IsSuchAt IsNoDisclosure ds) (length front)) (sym stand) (record {
+      fails = (text, subst (λ (i : ℕ). StandsAt (front ++ text ∷ rest) i text) (omega arith) (At-right front (text ∷ rest) 0 text refl), unread);
+      first = λ j less u. none_before alg front (text ∷ rest) shown j read less u;
+    })
 
 -- over the token that one file has
+abbrev UnreadAt : Token → ℕ → Type 0
+UnreadAt token = IsSuchAt IsNoDisclosure token.parts.disclosures
+
 headless : (file : List ℕ) (p q : Token) (head : Tree) → IsToken file p → IsToken file q → IsHeaderUnreadable p.parts.signed.protected p.outer → IsHead q.parts.signed.protected q.outer head → ⊥
 headless file p q head r s u h = h.readable (subst (λ (x : Token). IsHeaderUnreadable x.parts.signed.protected x.outer) (tokens.one file p q r s) u)
 
@@ -72,8 +55,11 @@ hashless file p q b c alg r s g none h =
     let same : Some alg ≡ None = sym h.hash_is ∙ (ap payload_hash (sym (one_payload file p q b c r s g h.body)) ∙ none) in
     cc same
 
-same_unread : (file : List ℕ) (p q : Token) (alg other : HashAlg) (f g : Fault) → IsToken file p → IsToken file q → IsShowUnreadAt alg p.parts.disclosures f → IsShowUnreadAt other q.parts.disclosures g → f ≡ g
-same_unread file p q alg other f g r s u v = one_unread alg other q.parts.disclosures f g (subst (λ (x : Token). IsShowUnreadAt alg x.parts.disclosures f) (tokens.one file p q r s) u) v
+same_unread : (file : List ℕ) (p q : Token) (i j : ℕ) (f g : Fault) → IsToken file p → IsToken file q → IsLeast (UnreadAt p) i → f ≡ placed Condition.DisclosureUnreadable i
+    → IsLeast (UnreadAt q) j → g ≡ placed Condition.DisclosureUnreadable j → f ≡ g
+same_unread file p q i j f g r s u e v d =
+    let same : i ≡ j = least_one (UnreadAt q) i j (subst (λ (x : Token). IsLeast (UnreadAt x) i) (tokens.one file p q r s) u) v in
+    e ∙ (ap (placed Condition.DisclosureUnreadable) same ∙ sym d)
 
 same_lines : (h k p q : Tree) (ss ts : List Given) (b c : Option JwtParts) → h ≡ k → p ≡ q → ss ≡ ts → b ≡ c → show_lines h p ss b ≡ show_lines k q ts c
 same_lines h k p q ss ts b c heads payloads all bindings =
@@ -100,34 +86,34 @@ no_refusal file a f g (form r) = tokens.not_both file g.token f g.reads r
 no_refusal file a f g (header p r u e) = headless file p g.token g.header r g.reads u g.head
 no_refusal file a f g (payload p h r i n e) = bodiless file p g.token g.payload r g.reads n g.body.body
 no_refusal file a f g (hash p h b r i j n e) = hashless file p g.token b g.payload g.hash r g.reads j n g.body
-no_refusal file a f g (disclosure p h b alg r i j u) =
+no_refusal file a f g (disclosure p h b alg r i j n u e) =
     let same : g.token ≡ p = tokens.one file g.token p g.reads r in
     let read : AllZip (Gives g.hash) p.parts.disclosures g.shown = subst (λ (x : Token). AllZip (Gives g.hash) x.parts.disclosures g.shown) same g.disclosures in
-    all_read g.hash u.front u.text u.rest g.shown (subst (λ (ds : List Text). AllZip (Gives g.hash) ds g.shown) u.stand read) u.unread
+    all_read g.hash p.parts.disclosures g.shown n u.fails.0 read u.fails.1 u.fails.2
 
 pub same_fault : (file : List ℕ) (f g : Fault) → IsShowRefused file f → IsShowRefused file g → f ≡ g
 same_fault file f g (form r) (form s) = tokens.one_refusal file f g r s
 same_fault file f g (form r) (header q s v d) = absurd (tokens.not_both file q f s r)
 same_fault file f g (form r) (payload q k s l m d) = absurd (tokens.not_both file q f s r)
 same_fault file f g (form r) (hash q k c s l m o d) = absurd (tokens.not_both file q f s r)
-same_fault file f g (form r) (disclosure q k c other s l m v) = absurd (tokens.not_both file q f s r)
+same_fault file f g (form r) (disclosure q k c other s l m o v d) = absurd (tokens.not_both file q f s r)
 same_fault file f g (header p r u e) (form s) = absurd (tokens.not_both file p g r s)
 same_fault file f g (header p r u e) (header q s v d) = e ∙ sym d
 same_fault file f g (header p r u e) (payload q k s l m d) = absurd (headless file p q k r s u l)
 same_fault file f g (header p r u e) (hash q k c s l m o d) = absurd (headless file p q k r s u l)
-same_fault file f g (header p r u e) (disclosure q k c other s l m v) = absurd (headless file p q k r s u l)
+same_fault file f g (header p r u e) (disclosure q k c other s l m o v d) = absurd (headless file p q k r s u l)
 same_fault file f g (payload p h r i n e) (form s) = absurd (tokens.not_both file p g r s)
 same_fault file f g (payload p h r i n e) (header q s v d) = absurd (headless file q p h s r v i)
 same_fault file f g (payload p h r i n e) (payload q k s l m d) = e ∙ sym d
 same_fault file f g (payload p h r i n e) (hash q k c s l m o d) = absurd (bodiless file p q c r s n m)
-same_fault file f g (payload p h r i n e) (disclosure q k c other s l m v) = absurd (bodiless file p q c r s n m.body)
+same_fault file f g (payload p h r i n e) (disclosure q k c other s l m o v d) = absurd (bodiless file p q c r s n m.body)
 same_fault file f g (hash p h b r i j n e) (form s) = absurd (tokens.not_both file p g r s)
 same_fault file f g (hash p h b r i j n e) (header q s v d) = absurd (headless file q p h s r v i)
 same_fault file f g (hash p h b r i j n e) (payload q k s l m d) = absurd (bodiless file q p b s r m j)
 same_fault file f g (hash p h b r i j n e) (hash q k c s l m o d) = e ∙ sym d
-same_fault file f g (hash p h b r i j n e) (disclosure q k c other s l m v) = absurd (hashless file p q b c other r s j n m)
-same_fault file f g (disclosure p h b alg r i j u) (form s) = absurd (tokens.not_both file p g r s)
-same_fault file f g (disclosure p h b alg r i j u) (header q s v d) = absurd (headless file q p h s r v i)
-same_fault file f g (disclosure p h b alg r i j u) (payload q k s l m d) = absurd (bodiless file q p b s r m j.body)
-same_fault file f g (disclosure p h b alg r i j u) (hash q k c s l m o d) = absurd (hashless file q p c b alg s r m o j)
-same_fault file f g (disclosure p h b alg r i j u) (disclosure q k c other s l m v) = same_unread file p q alg other f g r s u v
+same_fault file f g (hash p h b r i j n e) (disclosure q k c other s l m o v d) = absurd (hashless file p q b c other r s j n m)
+same_fault file f g (disclosure p h b alg r i j n u e) (form s) = absurd (tokens.not_both file p g r s)
+same_fault file f g (disclosure p h b alg r i j n u e) (header q s v d) = absurd (headless file q p h s r v i)
+same_fault file f g (disclosure p h b alg r i j n u e) (payload q k s l m d) = absurd (bodiless file q p b s r m j.body)
+same_fault file f g (disclosure p h b alg r i j n u e) (hash q k c s l m o d) = absurd (hashless file q p c b alg s r m o j)
+same_fault file f g (disclosure p h b alg r i j n u e) (disclosure q k c other s l m o v d) = same_unread file p q n o f g r s u e v d

@@ -245,7 +245,7 @@ all_suits = record {
   order = order;
   key = issuer_key;
   seed = codes "a seed of bytes, no fewer than 3";
-  asked = record { said = asked; is_order = is_asked; order_is = refl; key_is = refl; enough = omega arith; seed_is = refl };
+  asked = record { asks = record { said = asked; is_order = is_asked; order_is = refl; key_is = refl }; enough = omega arith; seed_is = refl };
   said = said;
   is_said = is_said;
   policy = policy;

@@ -37,38 +37,26 @@ ConvertAnswers form file reply = Replies (Converts form file) (TellsFault (IsCon
 abbrev pub GenAnswers : ℕ → Reply → Type 0
 GenAnswers count reply = Replies (Summarizes count) (DoesNotSummarize count) (λ _. ⊥) reply
 
--- of no file, of a list of one, or of two, and of no other
-abbrev pub OfNone : Type 0 → List (List ℕ) → Type 0
-OfNone Is [] = Is
-OfNone Is _ = ⊥
-
-abbrev pub OfOne : (List ℕ → Type 0) → List (List ℕ) → Type 0
-OfOne Is (file ∷ []) = Is file
-OfOne Is _ = ⊥
-
-abbrev pub OfTwo : (List ℕ → List ℕ → Type 0) → List (List ℕ) → Type 0
-OfTwo Is (file ∷ other ∷ []) = Is file other
-OfTwo Is _ = ⊥
-
--- the verdict of a command over its files, at a moment
+-- the reply of a command over its files, at a moment
 abbrev pub Answers : Command → List (List ℕ) → ℕ → Reply → Type 0
-Answers (split token) files now verdict = OfOne (λ file. SplitAnswers file verdict) files
-Answers (show token) files now verdict = OfOne (λ file. ShowAnswers file verdict) files
-Answers (verify policy token) files now verdict = OfTwo (λ file other. VerifyAnswers file other now verdict) files
-Answers (issue order seed) files now verdict = OfTwo (λ file other. IssueAnswers file other verdict) files
-Answers (present order token) files now verdict = OfTwo (λ file other. PresentAnswers file other now verdict) files
-Answers (convert form token) files now verdict = OfOne (λ file. ConvertAnswers form file verdict) files
-Answers (gen count) files now verdict = OfNone (GenAnswers count verdict) files
+Answers (split token) (file ∷ []) now reply = SplitAnswers file reply
+Answers (show token) (file ∷ []) now reply = ShowAnswers file reply
+Answers (verify policy token) (file ∷ other ∷ []) now reply = VerifyAnswers file other now reply
+Answers (issue order seed) (file ∷ other ∷ []) now reply = IssueAnswers file other reply
+Answers (present order token) (file ∷ other ∷ []) now reply = PresentAnswers file other now reply
+Answers (convert form token) (file ∷ []) now reply = ConvertAnswers form file reply
+Answers (gen count) [] now reply = GenAnswers count reply
+Answers _ _ now reply = ⊥
 
 -- each file is what a fetch answers, where the cabinet tells it
 abbrev pub AreFetched : (List ℕ → Option (List ℕ)) → Command → List (List ℕ) → Type 0
 AreFetched holds command files = AllZip (λ (wanted : NamedFile) (file : List ℕ). IfSome (holds wanted.name) (λ content. file ≡ take wanted.most content)) (files_of command) files
 
--- the verdict of a command over what the cabinet holds
-pub record IsAnswered (holds : List ℕ → Option (List ℕ)) (command : Command) (now : ℕ) (verdict : Reply) : Type 0 where
+-- the reply of a command over what the cabinet holds
+pub record IsAnswered (holds : List ℕ → Option (List ℕ)) (command : Command) (now : ℕ) (reply : Reply) : Type 0 where
   pub files : List (List ℕ)
   pub fetched : AreFetched holds command files
-  pub answers : Answers command files now verdict
+  pub answers : Answers command files now reply
 
 -- the cabinet tells each file
 abbrev pub AreTold : (List ℕ → Option (List ℕ)) → Command → List (List ℕ) → Type 0

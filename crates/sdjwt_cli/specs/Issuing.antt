@@ -7,8 +7,8 @@ use Rattle.compact_form.specs.Compact.{compact, AreWords}
 use Rattle.hmac_sign.specs.Hmac.{AlgKey, IsGood}
 use Rattle.issuer_core.specs.declared.errors.IssueError.{IssueError}
 use Rattle.issuer_core.specs.declared.order_file.IssueFile.{IssueFile}
-use Rattle.issuer_core.specs.Order.{Order, order_of}
-use Rattle.issuer_core.specs.OrderFile.{IsOrderFile, IsOrderFileRefused}
+use Rattle.issuer_core.specs.Order.{Order}
+use Rattle.issuer_core.specs.OrderFile.{AsksFor, IsOrderFile, IsOrderFileRefused}
 use Rattle.issuer_core.specs.GoodOrder.{IsWritable}
 use Rattle.compact_form.specs.Lowest.{NoneApplies}
 use Rattle.issuer_core.specs.OrderRefusals.{AppliesToOrder, IsLowestRefusal}
@@ -20,10 +20,7 @@ use Rattle.cli_parts.specs.Lines.{line, unreadable_line, short_seed}
 
 -- what one file asks for with its order and its key, and the seed with which the other begins
 pub record IsAsked (order_file seed_file : List ℕ) (order : Order) (key : AlgKey) (seed : List ℕ) : Type 0 where
-  pub said : IssueFile
-  pub is_order : IsOrderFile order_file said
-  pub order_is : order ≡ order_of said.order
-  pub key_is : key ≡ said.key
+  pub asks : AsksFor order_file order key
   pub enough : seed_len ≤ length seed_file
   pub seed_is : seed ≡ take seed_len seed_file
 

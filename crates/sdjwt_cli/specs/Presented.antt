@@ -39,14 +39,14 @@ pub record AllSuits (order_file seed_file present_file policy_file : List ℕ) (
 
 -- ---- over files
 
--- of these verdicts each is an answer: nothing is refused, and each file is of its form
+-- of these replies each is an answer: nothing is refused, and each file is of its form
 abbrev pub OnlyGives : (Reply → Type 0) → Type 0
-OnlyGives Is = (verdict : Reply) → Is verdict → (answer : List ℕ) × (verdict ≡ gives answer)
+OnlyGives Is = (reply : Reply) → Is reply → (answer : List ℕ) × (reply ≡ gives answer)
 
 -- this answer is one of them, and there is no other
 pub record GivesAlone (Is : Reply → Type 0) (answer : List ℕ) : Type 0 where
   pub given : Is (gives answer)
-  pub alone : (verdict : Reply) → Is verdict → verdict ≡ gives answer
+  pub alone : (reply : Reply) → Is reply → reply ≡ gives answer
 
 -- of a token file nothing is refused that is asked for, and whatever is given verifies to these claims
 pub record IsShownWell (token present_file policy_file : List ℕ) (presented verified : ℕ) (claims : Tree) : Type 0 where

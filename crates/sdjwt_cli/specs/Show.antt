@@ -1,7 +1,8 @@
 -- The command `show`: what it prints of a token file, unchecked, and when it refuses one.
-use Rattle.std.specs.Prelude.{◌≡◌, ℕ, ◌+◌, length, List, [], ◌∷◌, ◌++◌, Option, None, Some, codes}
+use Rattle.std.specs.Prelude.{◌≡◌, ℕ, ◌+◌, List, [], ◌∷◌, ◌++◌, Option, None, Some, codes}
 use Rattle.std.specs.Fmt.{decimal}
 use Rattle.std.specs.List.{AllZip}
+use Rattle.claim_tree.specs.Lists.{IsSuchAt, IsLeast}
 use Rattle.claim_tree.specs.Tree.{Text, Tree, Members, leaf, text}
 use Rattle.claim_tree.specs.JsonText.{json_text}
 use Rattle.jws_part.specs.Part.{IsBody, IsNoObject}
@@ -58,21 +59,10 @@ pub record Shows (file answer : List ℕ) : Type 0 where
   pub disclosures : AllZip (Gives hash) token.parts.disclosures shown
   pub lines : answer ≡ show_lines header payload shown token.parts.binding
 
--- the first disclosure that is not read
-pub record IsShowUnreadAt (hash : HashAlg) (disclosures : List Text) (fault : Fault) : Type 0 where
-  pub front : List Text
-  pub text : Text
-  pub rest : List Text
-  pub shown : List Given
-  pub stand : disclosures ≡ front ++ text ∷ rest
-  pub read : AllZip (Gives hash) front shown
-  pub unread : IsNoDisclosure text
-  pub fault_is : fault ≡ placed Condition.DisclosureUnreadable (length front)
-
 -- the lowest condition that fails: of the form, then of the headers, of the payload, of its hash, and of the disclosures the first
 pub data IsShowRefused (file : List ℕ) (fault : Fault) : Type 0 where
   form : IsTextRefused file fault → IsShowRefused file fault
   header : (t : Token) → IsToken file t → IsHeaderUnreadable t.parts.signed.protected t.outer → fault ≡ unplaced Condition.HeaderUnreadable → IsShowRefused file fault
   payload : (t : Token) (head : Tree) → IsToken file t → IsHead t.parts.signed.protected t.outer head → IsNoObject t.parts.signed.payload → fault ≡ unplaced Condition.PayloadUnreadable → IsShowRefused file fault
   hash : (t : Token) (head body : Tree) → IsToken file t → IsHead t.parts.signed.protected t.outer head → IsBody t.parts.signed.payload body → payload_hash body ≡ None → fault ≡ unplaced Condition.HashUnknown → IsShowRefused file fault
-  disclosure : (t : Token) (head body : Tree) (alg : HashAlg) → IsToken file t → IsHead t.parts.signed.protected t.outer head → IsShownPayload t.parts.signed.payload body alg → IsShowUnreadAt alg t.parts.disclosures fault → IsShowRefused file fault
+  disclosure : (t : Token) (head body : Tree) (alg : HashAlg) → IsToken file t → IsHead t.parts.signed.protected t.outer head → IsShownPayload t.parts.signed.payload body alg → (i : ℕ) → IsLeast (IsSuchAt IsNoDisclosure t.parts.disclosures) i → fault ≡ placed Condition.DisclosureUnreadable i → IsShowRefused file fault

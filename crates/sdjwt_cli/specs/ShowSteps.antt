@@ -1,7 +1,10 @@
 -- For private functions: what the steps of `show` answer.
 use Rattle.std.specs.Prelude.{◌≡◌, ℕ, List, ◌++◌}
 use Rattle.std.specs.List.{AllZip}
+use Rattle.claim_tree.specs.Lists.{IsSuchAt, IsLeast}
 use Rattle.claim_tree.specs.Tree.{Text}
+use Rattle.compact_form.specs.Faults.{placed}
+use Rattle.compact_form.specs.declared.condition.Condition.{Condition}
 use Rattle.compact_form.specs.declared.fault.Fault.{Fault}
 use Rattle.claim_tree.specs.View.{tree_of}
 use Rattle.disclosure.specs.Digest.{digest_of}
@@ -10,7 +13,7 @@ use Rattle.disclosure.specs.declared.disclosure.Disclosed.{Disclosed}
 use Rattle.sdjwt_cli.specs.declared.show.Unshown.{Unshown}
 use Rattle.sdjwt_cli.specs.declared.show.Unshown.TheVariants.{Memory, Fails}
 use Rattle.digest_sites.specs.Given.{Given}
-use Rattle.verifier_core.specs.Verdict.{Gives}
+use Rattle.verifier_core.specs.Verdict.{Gives, IsNoDisclosure}
 use Rattle.sdjwt_cli.specs.Show.{shown_line, shown_lines}
 
 -- what is shown of a disclosure's text and of what is read of it
@@ -27,6 +30,12 @@ pub record AddsLines (hash : HashAlg) (disclosures : List Text) (old new : Text)
   pub shown : List Given
   pub are : AllZip (Gives hash) disclosures shown
   pub more : new ≡ old ++ shown_lines 0 shown
+
+-- the fault is that of the first disclosure that is not read
+pub record TellsUnread (disclosures : List Text) (fault : Fault) : Type 0 where
+  pub i : ℕ
+  pub first : IsLeast (IsSuchAt IsNoDisclosure disclosures) i
+  pub fault_is : fault ≡ placed Condition.DisclosureUnreadable i
 
 abbrev pub OnFails : Unshown → (Fault → Type 0) → Type 0
 OnFails Memory P = Unit {0}

@@ -7,9 +7,9 @@ ghost use Rattle.claim_tree.specs.View.{tree_of};
 ghost use Rattle.jws_part.specs.Header.{IsHeaderUnreadable};
 ghost use Rattle.disclosure.specs.DisclosureRefusals.{IsDisclosureRefused};
 ghost use Rattle.cli_parts.specs.Lines.{line};
-ghost use Rattle.sdjwt_cli.specs.Show.{IsHead, kind_text, shown_line, IsShowUnreadAt, Shows, IsShowRefused};
+ghost use Rattle.sdjwt_cli.specs.Show.{IsHead, kind_text, shown_line, Shows, IsShowRefused};
 ghost use Rattle.compact_form.specs.Faults.{unplaced};
-ghost use Rattle.sdjwt_cli.specs.ShowSteps.{disclosure_shown, AddsLine, AddsLines, OnFails};
+ghost use Rattle.sdjwt_cli.specs.ShowSteps.{disclosure_shown, AddsLine, AddsLines, TellsUnread, OnFails};
 ghost use Rattle.json_form.specs.Token.{IsToken};
 ghost use Rattle.sdjwt_cli.specs.declared.show.Unshown.TheVariants.{Fails};
 ghost use Rattle.cli_parts.specs.Stops.{OnRefused, OnUnread, OnUnreadable};
@@ -135,7 +135,7 @@ fn push_all_shown(
 ) -> Result<(), Unshown>
     requires { length disclosures < 2 ^ 64 }
     ensures ok { OnOk result (AddsLines hash disclosures.entry (string_bytes text.old) (string_bytes text.new)) }
-    ensures unread { IfErr result (λ e. OnFails e (IsShowUnreadAt hash disclosures.entry)) }
+    ensures unread { IfErr result (λ e. OnFails e (TellsUnread disclosures.entry)) }
 {
     for (i, part) in disclosures.enumerate() {
         match push_shown(alloc, reader, text, i, hash, part) {

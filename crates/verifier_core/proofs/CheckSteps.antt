@@ -111,7 +111,7 @@ payload_fault token rules fault passes (no_hash body has w is) = refuse_unplaced
 pub read_unread : (hash : HashAlg) (d : Text) (x : Given) → Gives hash d x → IsNoDisclosure d → ⊥
 read_unread hash d x g u = u g.1 x.name x.value g.2
 
-all_read : (hash : HashAlg) (ds : List Text) (xs : List Given) (i : ℕ) (d : Text) → AllZip (Gives hash) ds xs → StandsAt ds i d → IsNoDisclosure d → ⊥
+pub all_read : (hash : HashAlg) (ds : List Text) (xs : List Given) (i : ℕ) (d : Text) → AllZip (Gives hash) ds xs → StandsAt ds i d → IsNoDisclosure d → ⊥
 all_read hash [] xs i d all there u = there
 all_read hash (e ∷ ds) [] i d all there u = all
 all_read hash (e ∷ ds) (x ∷ xs) zero d all there u = read_unread hash e x all.0 (subst IsNoDisclosure there u)

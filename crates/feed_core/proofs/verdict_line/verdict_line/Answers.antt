@@ -1,7 +1,7 @@
 use Rattle.std.proofs.Common.{◌≡◌, IfOk, string_bytes, subst}
 use Rattle.compact_form.specs.declared.fault.Fault.{Fault}
 use Rattle.compact_form.specs.RefusedText.{fault_text}
-use Rattle.feed_core.specs.Cut.{with_end}
+use Rattle.cli_parts.specs.Lines.{line}
 use Rattle.feed_core.proofs.FeedVerdicts.{line_accepted, line_refused}
 use Rattle.feed_core.proofs.verdict_line.verdict_line.Goals as goal
 
@@ -13,4 +13,4 @@ returns-in-Err-Fault c =
     let fault = c.in-Err-Fault.fault in
     let lowest = rw c.in-Err-Fault.field-0-is at c.in-Err-Fault.ensures.refused in
     line_refused c.args.policy.now c.args.now c.args.token.now fault lowest c.refused_line.result
-    (subst (λ (f : Fault). IfOk c.refused_line.result (λ line. string_bytes line ≡ with_end (fault_text f))) c.in-Err-Fault.fault-is c.refused_line.ensures)
+    (subst (λ (f : Fault). IfOk c.refused_line.result (λ told. string_bytes told ≡ line (fault_text f))) c.in-Err-Fault.fault-is c.refused_line.ensures)

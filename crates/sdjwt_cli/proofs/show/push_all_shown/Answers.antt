@@ -1,7 +1,8 @@
-use Rattle.std.proofs.Common.{[], ◌∷◌, ◌++◌, length-append, string_bytes, append_assoc, append-nil, sym, ap, ◌∙◌, arith, rules}
+use Rattle.std.proofs.Common.{[], ◌∷◌, ◌++◌, length, length-append, string_bytes, append_assoc, append-nil, sym, ap, ◌∙◌, arith, rules}
 use Rattle.compact_form.specs.Faults.{placed}
 use Rattle.compact_form.specs.declared.condition.Condition.{Condition}
 use Rattle.verifier_core.proofs.CheckTests.{unread_of, zip_more}
+use Rattle.sdjwt_cli.proofs.ShowVerdicts.{first_unread}
 use Rattle.sdjwt_cli.proofs.Shown.{line_more}
 use Rattle.sdjwt_cli.proofs.show.push_all_shown.Goals as goal
 
@@ -36,13 +37,10 @@ loop-i-preserved c =
 pub returns-in-Err-clause-unread : goal.returns-in-Err-clause-unread
 returns-in-Err-clause-unread c =
     let l = c.loop-i.invariant in
+    let part = c.in-Some.part.now in
+    let unread = unread_of part c.in-Err.field-0 c.in-Err.ensures.refused (search rules) in
     record {
-      front = l.done;
-      text = c.in-Some.part.now;
-      rest = c.next.new.self.iter;
-      shown = l.shown;
-      stand = l.stand ∙ ap (λ w. l.done ++ w) c.in-Some.ensures.steps.0;
-      read = l.are;
-      unread = unread_of c.in-Some.part.now c.in-Err.field-0 c.in-Err.ensures.refused (search rules);
+      i = length l.done;
+      first = first_unread c.args.hash l.done c.next.new.self.iter l.shown part _ l.are (l.stand ∙ ap (λ w. l.done ++ w) c.in-Some.ensures.steps.0) unread;
       fault_is = c.fault_at.ensures ∙ ap (placed Condition.DisclosureUnreadable) (c.in-Some.ensures.steps.1 ∙ l.counted);
     }

@@ -1,5 +1,6 @@
 use Rattle.std.proofs.Common.{List, Option, Err, ◌++◌, string_bytes, ap, sym, ◌∙◌, subst, refl}
 use Rattle.std.proofs.lemmas.Result.{err_from_is_err_and}
+use Rattle.claim_tree.specs.Lists.{IsSuchAt, IsLeast}
 use Rattle.claim_tree.specs.Tree.{Text, Members}
 use Rattle.claim_tree.specs.View.{tree_of}
 use Rattle.jws_part.specs.Part.{IsBody, IsNoObject}
@@ -7,7 +8,8 @@ use Rattle.jws_part.specs.Header.{IsHeaderUnreadable}
 use Rattle.compact_form.specs.declared.fault.Fault.{Fault}
 use Rattle.sdjwt_cli.specs.declared.show.Unshown.{Unshown}
 use Rattle.sdjwt_cli.specs.declared.show.Unshown.TheVariants.{Memory, Fails}
-use Rattle.sdjwt_cli.specs.Show.{IsHead, IsShownPayload, IsShowUnreadAt, header, payload, hash, disclosure}
+use Rattle.verifier_core.specs.Verdict.{IsNoDisclosure}
+use Rattle.sdjwt_cli.specs.Show.{IsHead, IsShownPayload, header, payload, hash, disclosure}
 use Rattle.sdjwt_cli.specs.ShowSteps.{OnFails, AddsLines}
 use Rattle.compact_form.specs.declared.parts.JwtParts.{JwtParts}
 use Rattle.sdjwt_cli.specs.Split.{binding_line}
@@ -44,7 +46,7 @@ returns-in_err-push_all_shown-clause-fails c =
     let head = subst (λ (o : Members). IsHead c.args.token.now.parts.signed.protected o (tree_of c.in-Ok.head)) c.outer.ensures (subst (λ (p : Text). IsHead p c.outer.result.now (tree_of c.in-Ok.head)) (ap (λ j. j.protected) c.signed.ensures) c.in-Ok.ensures.head) in
     let body = subst (λ (p : Text). IsBody p (tree_of c.in-Ok-read_body.payload)) (ap (λ j. j.payload) c.signed.ensures) c.in-Ok-read_body.ensures.ok in
     let known : IsShownPayload c.args.token.now.parts.signed.payload (tree_of c.in-Ok-read_body.payload) c.in-Some.hash = record { body = body; hash_is = sym c.in-Some.ensures } in
-    rw (from.1, from.2) (on_fails c.in_err-push_all_shown.field-0.0 _ _ (λ fault h. disclosure c.args.token.now (tree_of c.in-Ok.head) (tree_of c.in-Ok-read_body.payload) c.in-Some.hash c.requires head known (subst (λ (ds : List Text). IsShowUnreadAt c.in-Some.hash ds fault) c.disclosures.ensures.value h)) c.in_err-push_all_shown.ensures.unread)
+    rw (from.1, from.2) (on_fails c.in_err-push_all_shown.field-0.0 _ _ (λ fault h. disclosure c.args.token.now (tree_of c.in-Ok.head) (tree_of c.in-Ok-read_body.payload) c.in-Some.hash c.requires head known h.i (subst (λ (ds : List Text). IsLeast (IsSuchAt IsNoDisclosure ds) h.i) c.disclosures.ensures.value h.first) h.fault_is) c.in_err-push_all_shown.ensures.unread)
 
 pub returns-clause-shows : goal.returns-clause-shows
 returns-clause-shows c =
