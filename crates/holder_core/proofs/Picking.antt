@@ -6,7 +6,7 @@ use Rattle.b64url_text.specs.Base64url.{IsWord}
 use Rattle.claim_tree.specs.Tree.{Text}
 use Rattle.holder_core.specs.Present.{picked}
 
-abbrev first_if : {X : Type 0} → Bool → X → List X → List X
+abbrev pub first_if : {X : Type 0} → Bool → X → List X → List X
 first_if b x xs = if b then x ∷ xs else xs
 
 pub picked_same : {X : Type 0} (s t : ℕ → Bool) → ((i : ℕ) → s i ≡ t i) → (xs : List X) → picked s xs ≡ picked t xs

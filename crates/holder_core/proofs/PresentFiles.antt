@@ -15,14 +15,12 @@ use Rattle.hmac_sign.proofs.KeySetVerdicts.{one_key_set}
 use Rattle.key_binding.specs.ShortText.{IsShortText}
 use Rattle.claim_tree.specs.FileLists.{IsListOf, IsPointer}
 use Rattle.hmac_sign.specs.KeyText.{IsKeyText}
+use Rattle.verifier_core.proofs.PolicyVersions.{one_short_text}
 use Rattle.holder_core.specs.PresentFile.{BindingSaid, IsBindingOrder, both, present_table, IsPresentFile, IsPresentFileRefused}
 use Rattle.holder_core.specs.declared.ask.BindingAsk.{BindingAsk}
 use Rattle.holder_core.specs.declared.present_file.PresentFile.{PresentFile}
 use Rattle.claim_tree.proofs.ListForms.{one_list, one_pointer}
 use Rattle.hmac_sign.proofs.KeyTexts.{one_key_text}
-
-one_short_text : SaysOne IsShortText
-one_short_text t x y h k = verdicts.one_text t x y h.is k.is
 
 binding_made : Text → Text → Text → List ℕ → BindingSaid
 binding_made kid aud nonce key = (record { kid = kid; aud = aud; nonce = nonce }, key)

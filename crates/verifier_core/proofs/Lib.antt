@@ -1,7 +1,7 @@
 pub mod LeastPlaces
 pub mod ClaimSteps
 pub mod Policies
-mod PolicyVersions
+pub mod PolicyVersions
 mod PolicyFaults
 mod VersionTwo
 pub mod TokenConditions
