@@ -4,7 +4,7 @@ use Rattle.claim_tree.specs.Lists.{In, AtNone}
 use Rattle.claim_tree.specs.Path.{tree_at}
 use Rattle.claim_tree.specs.Tree.{Tree}
 use Rattle.claim_tree.specs.View.{tree_of}
-use Rattle.marked_tree.specs.Choice.{IsClosed, KeepsTheWay}
+use Rattle.marked_tree.specs.Closed.{IsClosed, KeepsTheWay}
 use Rattle.marked_tree.specs.Marked.{Marked, strip}
 use Rattle.marked_tree.specs.Paths.{Path, mark_path}
 use Rattle.selection_core.specs.ChoiceRefusals.{IsMissing}
