@@ -6,7 +6,8 @@ ghost use Rattle.compact_form.specs.Compact.{AreWords};
 ghost use Rattle.selection_core.specs.ChoiceRefusals.{IsMissing};
 ghost use Rattle.verifier_core.specs.Verdict.{HasHash};
 ghost use Rattle.verifier_core.specs.Check.{IsContent, IsCounted, IsCountedWithin};
-ghost use Rattle.holder_core.specs.Present.{held_rules, IsUnchecked, NamesKey};
+ghost use Rattle.holder_core.specs.Present.{held_rules, NamesKey};
+ghost use Rattle.holder_core.specs.PresentCalls.{IsUnchecked};
 ghost use Rattle.holder_core.specs.PresentSteps.{IsOtherKey, IsWholeReady, IsWholeUnready, IsMadeWhole, IsUncheckedOrUnmade};
 
 use crate::presenting::{check_named, picked_parts};
