@@ -12,7 +12,8 @@ use Rattle.compact_form.specs.declared.fault.JsonPlace.{JsonPlace}
 use Rattle.compact_form.specs.declared.fault.Part.{Part}
 use Rattle.compact_form.specs.declared.fault.Place.TheVariants.{Json}
 use Rattle.compact_form.specs.Faults.{fault_at, unplaced, placed}
-use Rattle.compact_form.specs.RefusedText.{fault_text}
+use Rattle.compact_form.specs.declared.refusal.Refusal.{Refusal}
+use Rattle.compact_form.specs.RefusedText.{refused_text, fault_text}
 use Rattle.compact_form.proofs.Stops.{refused_at_byte, refused_at_end}
 
 abbrev jwt_of : List ℕ → List ℕ → List ℕ → JwtParts
@@ -103,3 +104,7 @@ a_place = refl
 a_member : fault_text (fault_at Condition.Form (Json (JsonPlace.Missing Part.KbJwt))) ≡ codes "refused 2 form at missing kb_jwt"
 unfolding digits
 a_member = refl
+
+a_refusal : refused_text Refusal.FeedTooLong None ≡ codes "refused 87 feedTooLong"
+unfolding digits
+a_refusal = refl

@@ -7,7 +7,8 @@ use Rattle.sd_outside.specs.Causes.{Rose, AppendsPrefix}
 use Rattle.verifier_core.specs.declared.policy.Policy.{Policy}
 use Rattle.feed_core.specs.Cut.{IsCut, AreLines, last_line}
 use Rattle.feed_core.specs.FeedVerdict.{TellsVerdicts}
-use Rattle.feed_core.specs.Feed.{FeedState, new_feed, taking, kept, Takes, TakesFront, TellsFront, IsEnded, count_line, count_at_end}
+use Rattle.feed_core.specs.Feed.{FeedState, taking, kept, Takes, TellsFront, count_line}
+use Rattle.feed_core.specs.FeedCalls.{new_feed, TakesFront, IsEnded, count_at_end}
 use Rattle.feed_core.specs.FeedSource.{Input, Gave, FedAll, ToldEnded, FedLong, FedPart, FedFront}
 use Rattle.feed_core.proofs.Cuts.{cut_open, lines_within}
 use Rattle.feed_core.proofs.Told.{told_none, told_append, carry, carry_all, last_tells, last_as_many}

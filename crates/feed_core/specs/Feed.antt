@@ -1,12 +1,11 @@
 -- What a feed does with a piece of its input, and at the end.
-use Rattle.std.specs.Prelude.{◌≡◌, ◌⊎◌, ◌+◌, ℕ, Bool, true, false, List, [], ◌++◌, Option, length, take, codes}
+use Rattle.std.specs.Prelude.{◌≡◌, ◌⊎◌, ◌+◌, ℕ, Bool, false, List, ◌++◌, Option, length, take, codes}
 use Rattle.std.specs.Fmt.{decimal}
-use Rattle.std.specs.Io.KnownBytes.{Appends}
 use Rattle.sd_outside.specs.Causes.{AppendsPrefix}
 use Rattle.sd_outside.specs.Limits.{file_max}
 use Rattle.verifier_core.specs.declared.policy.Policy.{Policy}
 use Rattle.cli_parts.specs.Lines.{line}
-use Rattle.feed_core.specs.Cut.{IsCut, last_line}
+use Rattle.feed_core.specs.Cut.{IsCut}
 use Rattle.feed_core.specs.FeedVerdict.{TellsVerdicts}
 
 -- the policy and the moment, what is kept of the line that has not ended, how many lines were judged, and whether the feed takes no more
@@ -20,9 +19,6 @@ pub record FeedState : Type 0 where
 -- a feed that takes more
 abbrev pub taking : Policy → ℕ → List ℕ → ℕ → FeedState
 taking policy now rest count = record { policy = policy; now = now; rest = rest; count = count; over = false }
-
-abbrev pub new_feed : Policy → ℕ → FeedState
-new_feed policy now = taking policy now [] 0
 
 -- what is kept of a line that has not ended: one byte more than the limit tells a line that is too long
 abbrev pub kept : List ℕ → List ℕ
@@ -44,23 +40,6 @@ pub record TellsFront (policy : Policy) (now : ℕ) (lines : List (List ℕ)) (b
   pub told : TellsVerdicts policy now (take count lines) text
   pub written : AppendsPrefix old new text ⊎ ((take count lines ≡ lines) × AppendsPrefix old new (text ++ behind))
 
--- no more than the lines that end in the piece were judged
-pub record TakesFront (before : FeedState) (piece : List ℕ) (old new : Option (List ℕ)) : Type 0 where
-  pub ended : List (List ℕ)
-  pub rest : List ℕ
-  pub cut : IsCut (before.rest ++ piece) ended rest
-  pub front : TellsFront before.policy before.now ended [] old new
-
 -- how many lines there were
 abbrev pub count_line : ℕ → List ℕ
 count_line count = line (codes "lines " ++ decimal count)
-
--- the lines of a feed that ends, what is kept among them
-abbrev pub count_at_end : FeedState → ℕ
-count_at_end before = before.count + length (last_line before.rest)
-
--- the end was told: this was written for what was kept, and then the number of lines
-pub record IsEnded (before : FeedState) (text : List ℕ) : Type 0 where
-  pub verdict : List ℕ
-  pub told : TellsVerdicts before.policy before.now (last_line before.rest) verdict
-  pub text_is : text ≡ verdict ++ count_line (count_at_end before)

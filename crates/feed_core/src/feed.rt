@@ -3,7 +3,8 @@ ghost use Rattle.std.specs.Io.KnownBytes.{Appends};
 ghost use Rattle.sd_outside.specs.Causes.{Rose};
 ghost use Rattle.sd_outside.specs.Limits.{file_max};
 ghost use Rattle.feed_core.specs.Cut.{IsOneLine, last_line};
-ghost use Rattle.feed_core.specs.Feed.{new_feed, taking, kept, Takes, TakesFront, TellsFront, IsEnded, count_line, count_at_end};
+ghost use Rattle.feed_core.specs.Feed.{taking, kept, Takes, TellsFront, count_line};
+ghost use Rattle.feed_core.specs.FeedCalls.{new_feed, TakesFront, IsEnded, count_at_end};
 
 use crate::FeedError;
 use crate::answer::{answer_kept, answer_last, tell_count};

@@ -3,7 +3,8 @@ ghost use Rattle.std.specs.Prelude.{◌≡◌, ◌≢◌, ◌<◌, ◌≤◌, �
 ghost use Rattle.std.specs.Io.KnownBytes.{Appends, IsAtEnd};
 ghost use Rattle.sd_outside.specs.Causes.{Rose};
 ghost use Rattle.feed_core.specs.Cut.{last_line};
-ghost use Rattle.feed_core.specs.Feed.{new_feed, Takes, TakesFront, TellsFront, IsEnded, count_line, count_at_end};
+ghost use Rattle.feed_core.specs.Feed.{Takes, TellsFront, count_line};
+ghost use Rattle.feed_core.specs.FeedCalls.{new_feed, TakesFront, IsEnded, count_at_end};
 ghost use Rattle.feed_core.specs.FeedSource.{input, feed_max, Gave, FedAll, FedLong, FedPart, FedFront};
 
 use crate::{Feed, FeedError};

@@ -6,7 +6,8 @@ use Rattle.std.proofs.lemmas.List.{ext_get_or, length-map, get_or-map, length-ap
 use Rattle.std.proofs.Math.Seq.{take-append-add}
 use Rattle.sha2.proofs.Facts256.{length-sha256}
 use Rattle.sha2.proofs.Facts512.{length-sha384, length-sha512}
-use Rattle.hmac_sign.specs.Algs.{hash_by, block_length, code_length}
+use Rattle.hmac_sign.specs.Algs.{hash_by, block_length}
+use Rattle.hmac_sign.specs.CodeLengths.{code_length}
 use Rattle.hmac_sign.specs.Hmac.{filled, key_block, xored, hmac}
 use Rattle.hmac_sign.specs.declared.alg.Alg.{Alg}
 

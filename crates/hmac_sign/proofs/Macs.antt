@@ -6,7 +6,8 @@ use Rattle.b64url_text.specs.Base64url.{AreBytes}
 use Rattle.b64url_text.proofs.Codes.{AreBytes-append, AreBytes-take}
 use Rattle.sha2.specs.Sha256.{sha256, digest_bytes}
 use Rattle.sha2.specs.Sha512 as long
-use Rattle.hmac_sign.specs.Algs.{hash_by, code_length}
+use Rattle.hmac_sign.specs.Algs.{hash_by}
+use Rattle.hmac_sign.specs.CodeLengths.{code_length}
 use Rattle.hmac_sign.specs.Hmac.{AlgKey, mac}
 use Rattle.hmac_sign.specs.declared.alg.Alg.{Alg}
 use Rattle.hmac_sign.proofs.Blocks.{length-hash_by}

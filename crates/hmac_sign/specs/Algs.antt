@@ -32,12 +32,6 @@ block_length Alg.Hs256 = 64
 block_length Alg.Hs384 = 128
 block_length Alg.Hs512 = 128
 
--- the bytes of a code, as many as the hash has
-abbrev pub code_length : Alg → ℕ
-code_length Alg.Hs256 = 32
-code_length Alg.Hs384 = 48
-code_length Alg.Hs512 = 64
-
 -- the fewest bytes of a key: as many as the hash has
 abbrev pub key_least : Alg → ℕ
 key_least Alg.Hs256 = key_min

@@ -1,4 +1,5 @@
 pub mod Algs
+pub mod CodeLengths
 pub mod Hmac
 pub mod Codes
 pub mod Signatures

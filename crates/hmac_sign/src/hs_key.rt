@@ -1,6 +1,7 @@
 // Keys for HS256, HS384 and HS512.
 ghost use Rattle.std.specs.Prelude.{◌≡◌, ◌<◌, ◌≤◌, ◌↔◌, length, IfOk, IfErr, IsTrue};
-ghost use Rattle.hmac_sign.specs.Algs.{code_length, key_least};
+ghost use Rattle.hmac_sign.specs.Algs.{key_least};
+ghost use Rattle.hmac_sign.specs.CodeLengths.{code_length};
 ghost use Rattle.hmac_sign.specs.Hmac.{alg_key, mac as mac_of, IsGood, IsGoodText};
 
 use crate::keyed_hash::{BLOCK_MAX, are_equal, inner_hasher, key_block, outer_hash};

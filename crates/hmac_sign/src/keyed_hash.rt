@@ -1,5 +1,6 @@
 ghost use Rattle.std.specs.Prelude.{◌≡◌, ◌↔◌, ◌≤◌, ◌++◌, length, take, ℕ, List, IsTrue};
-ghost use Rattle.hmac_sign.specs.Algs.{block_length, code_length, hash_by};
+ghost use Rattle.hmac_sign.specs.Algs.{block_length, hash_by};
+ghost use Rattle.hmac_sign.specs.CodeLengths.{code_length};
 ghost use Rattle.hmac_sign.specs.Codes.{IsHashing};
 ghost use Rattle.hmac_sign.specs.Hmac.{filled as filled_block, hmac as hmac_of, key_block as block_of, xored};
 ghost use Rattle.hmac_sign.specs.declared.alg.Alg.TheVariants.{Hs256};

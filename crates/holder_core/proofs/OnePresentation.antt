@@ -17,7 +17,8 @@ use Rattle.json_form.specs.declared.token.Token.{Token}
 use Rattle.key_binding.specs.Binding.{IsBinding}
 use Rattle.marked_tree.specs.Marked.{Marked, strip}
 use Rattle.marked_tree.specs.Paths.{chosen}
-use Rattle.selection_core.specs.Consent.{RuleAnswers, IsDecided, AllAllowed, IsRefusedAt}
+use Rattle.selection_core.specs.Consent.{RuleAnswers, AllAllowed, IsRefusedAt}
+use Rattle.selection_core.specs.AllowCalls.{IsDecided}
 use Rattle.selection_core.specs.ChoiceRefusals.{IsMissing}
 use Rattle.verifier_core.specs.Verdict.{TokenFails}
 use Rattle.verifier_core.proofs.Verdicts.{one_opening, one_hash}

@@ -30,8 +30,8 @@ use Rattle.holder_core.specs.declared.ask.BindingAsk.{BindingAsk}
 use Rattle.holder_core.specs.declared.errors.PresentError.{PresentError}
 use Rattle.holder_core.specs.declared.errors.PresentError.TheVariants.{Memory, Token as OnCondition, HasBinding, NoSuchPlace, ConsentRefused, BindingKeyDiffers, SignFailed, TooLong}
 use Rattle.holder_core.specs.Unchecked.{unchecked}
-use Rattle.holder_core.specs.Present.{picked, shown_for, held_rules, IsUnchecked, IsHeld, IsAgreed, NamesKey, IsAnswer, IsNoAnswer}
-use Rattle.holder_core.specs.PresentCalls.{PresentFails, of_file, of_token}
+use Rattle.holder_core.specs.Present.{picked, shown_for, held_rules, IsHeld, IsAgreed, NamesKey, IsAnswer, IsNoAnswer}
+use Rattle.holder_core.specs.PresentCalls.{IsUnchecked, PresentFails, of_file, of_token}
 use Rattle.holder_core.specs.PresentSteps.{IsUnchosen, IsChosen, IsOtherKey, IsReady, IsUnready, IsUncheckedOrUnready, IsPresentFinished, IsPresentUnfinished}
 use Rattle.marked_tree.proofs.PrunedSame.{Same, prune_same}
 use Rattle.holder_core.proofs.Picking.{picked_same, picked_words}

@@ -137,12 +137,6 @@ pub record IsPresentTooLong {F : Type 0} (answers : RuleAnswers F) (rule : F) (t
   pub is_answer : IsAnswer answers rule token ask good now answer
   pub long : compact_max < length (compact answer)
 
--- why the conditions 5 to 21 refuse a token: by the lowest that fails; want of memory says nothing
-abbrev pub IsUnchecked : Token → Rules → PresentError → Type 0
-IsUnchecked token rules Memory = Unit {0}
-IsUnchecked token rules (OnCondition fault) = IsLowest (TokenFails token rules) fault
-IsUnchecked token rules _ = ⊥
-
 -- what each refusal of a token says: that it applies, and no earlier one; want of memory says nothing
 abbrev pub IsNoAnswer : {F : Type 0} → RuleAnswers F → F → Token → Ask → Meaning → ℕ → PresentError → Type 0
 IsNoAnswer answers rule token ask good now Memory = Unit {0}

@@ -18,7 +18,8 @@ use Rattle.holder_core.specs.declared.ask.Ask.{Ask}
 use Rattle.holder_core.specs.declared.ask.BindingAsk.{BindingAsk}
 use Rattle.holder_core.specs.declared.errors.PresentError.{PresentError}
 use Rattle.holder_core.specs.declared.errors.PresentError.TheVariants.{Memory, NoSuchPlace, ConsentRefused, BindingKeyDiffers, SignFailed, TooLong}
-use Rattle.holder_core.specs.Present.{held_rules, shown_for, IsUnchecked, IsAgreed, NamesKey, IsBoundAs, PicksParts, IsWantedNotThere, IsConsentRefused, IsBindingKeyOther}
+use Rattle.holder_core.specs.Present.{held_rules, shown_for, IsAgreed, NamesKey, IsBoundAs, PicksParts, IsWantedNotThere, IsConsentRefused, IsBindingKeyOther}
+use Rattle.holder_core.specs.PresentCalls.{IsUnchecked}
 
 -- these are the marks that lead to the wanted places, which are there, and the rule may allow them
 pub record IsChosen {F : Type 0} (answers : RuleAnswers F) (rule : F) (m : Marked) (want : List Path) (marks : List ℕ) : Type 0 where

@@ -4,15 +4,16 @@ use Rattle.std.specs.List.{list_any}
 use Rattle.std.proofs.lemmas.Bool.Decides.{nat_tests}
 use Rattle.claim_tree.specs.Tree.{Tree}
 use Rattle.claim_tree.specs.Lists.{In}
-use Rattle.claim_tree.proofs.Lists.{and_split, and_join, In-of_map, list_any-In, list_any-from}
+use Rattle.claim_tree.proofs.Lists.{and_split, and_join, list_any-In, list_any-from}
 use Rattle.claim_tree.specs.Path.{is_front}
-use Rattle.marked_tree.specs.Choice.{IsClosed, is_on_way, KeepsTheWay, IsUnmixed, IsLeastChoice}
+use Rattle.marked_tree.specs.Choice.{is_on_way, IsUnmixed, IsLeastChoice}
+use Rattle.marked_tree.specs.Closed.{IsClosed, KeepsTheWay}
 use Rattle.marked_tree.specs.Laws.{Choice, HasEachMarkOnce}
 use Rattle.marked_tree.specs.Marked.{Marked}
 use Rattle.marked_tree.specs.Ways.{only}
 use Rattle.marked_tree.specs.Paths.{Path, Spot, spots, mark, hidden_count, chosen}
 use Rattle.marked_tree.proofs.MarkFacts.{up_to, up_to_le, marks_once_holds}
-use Rattle.marked_tree.proofs.Spots.{at_least_one, Way, way, ways_of_spots, spots_weigh, same_spot, leads_through, spots_above}
+use Rattle.marked_tree.proofs.Spots.{at_least_one, spots_weigh, same_spot, leads_through, spots_above}
 
 module _ (m : Marked) (want : List Path) where
   choose : (s : Spot) → In s (spots m) → (p : Path) → In p want → is_front s.at p ≡ true → chosen m want s.mark ≡ true
@@ -34,11 +35,10 @@ module _ (m : Marked) (want : List Path) where
   )
 
   is_closed : IsUnmixed m → IsClosed m (chosen m want)
-  is_closed once w n t j h =
-      let a = In-of_map way w (spots m) (subst (λ (ws : List Way). In w ws) (sym (ways_of_spots m)) n) in
-      let b = is_wanted w.0 t in
-      let same = same_spot w.0 (spots m) a.0 b.0 (omega (arith, once w.0, spots_weigh (only w.0) m)) a.1 b.1 (ap (λ (z : Way). z.0) (sym a.2)) b.2 in
-      let k : In j b.0.above = subst (λ (z : Spot). In j z.above) same (subst (λ (z : Way). In j z.1) a.2 h) in
+  is_closed once node n t j h =
+      let b = is_wanted node.mark t in
+      let same = same_spot node.mark (spots m) node b.0 (omega (arith, once node.mark, spots_weigh (only node.mark) m)) n b.1 refl b.2 in
+      let k : In j b.0.above = subst (λ (z : Spot). In j z.above) same h in
       (keeps_way b.0 b.1 b.3 b.4 b.5).1 j k
 
   pub least_choice : IsUnmixed m → IsLeastChoice m want (chosen m want)
@@ -54,7 +54,7 @@ choice_holds m want once = least_choice m want once
 -- a set with the same marks
 pub least_same : (m : Marked) (want : List Path) (s t : ℕ → Bool) → ((i : ℕ) → s i ≡ t i) → IsLeastChoice m want t → IsLeastChoice m want s
 least_same m want s t same least = record {
-  closed = λ w n e j h. same j ∙ least.closed w n (sym (same w.0) ∙ e) j h;
+  closed = λ node n e j h. same j ∙ least.closed node n (sym (same node.mark) ∙ e) j h;
   keeps = λ node n p o l. let k = least.keeps node n p o l in (same node.mark ∙ k.0, λ j h. same j ∙ k.1 j h);
   least = λ other keeps i e. least.least other keeps i (sym (same i) ∙ e);
 }

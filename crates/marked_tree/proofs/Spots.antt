@@ -8,6 +8,7 @@ use Rattle.claim_tree.specs.Path.{is_front}
 use Rattle.marked_tree.specs.Marked.{Marked, marked_leaf, marked_array, marked_object, MarkedElements, no_marked_elements, marked_element, MarkedMembers, no_marked_members, marked_member}
 use Rattle.marked_tree.specs.Ways.{ways, elements_ways, members_ways, way_of, mark_weight, weight, elements_weight, members_weight, only}
 use Rattle.claim_tree.specs.Lists.{In}
+use Rattle.marked_tree.specs.Closed.{IsClosed}
 use Rattle.marked_tree.specs.Paths.{Path, Spot, inside, own_spot, spots, elements_spots, members_spots, first_with}
 use Rattle.claim_tree.proofs.Lists.{and_split, and_join, bytes_refl, bytes_same, In-left, In-right, In-append, In-map, In-of_map}
 use Rattle.marked_tree.proofs.Sums.{sum_of, sum_of-append, sum_of-map}
@@ -46,6 +47,18 @@ mutual
   members_ways_of (marked_member k i t ms) =
       map-append way (own_spot k i ++ map (inside k i) (spots t)) (members_spots ms)
       ∙ ap₂ (λ (a b : List Way). a ++ b) (way_inside k i (spots t) ∙ ap (way_of i) (ways_of_spots t)) (members_ways_of ms)
+
+-- a set is closed just where the ways say so
+abbrev pub ClosedWays : Marked → (ℕ → Bool) → Type 0
+ClosedWays m s = (w : Way) → In w (ways m) → s w.0 ≡ true → (j : ℕ) → In j w.1 → s j ≡ true
+
+pub ways_closed : (m : Marked) (s : ℕ → Bool) → IsClosed m s → ClosedWays m s
+ways_closed m s closed w there chosen j above =
+    let a = In-of_map way w (spots m) (subst (λ (ws : List Way). In w ws) (sym (ways_of_spots m)) there) in
+    closed a.0 a.1 (subst (λ (z : Way). s z.0 ≡ true) a.2 chosen) j (subst (λ (z : Way). In j z.1) a.2 above)
+
+pub closed_by_ways : (m : Marked) (s : ℕ → Bool) → ClosedWays m s → IsClosed m s
+closed_by_ways m s closed node there = closed (way node) (subst (λ (ws : List Way). In (way node) ws) (ways_of_spots m) (In-map way node (spots m) there))
 
 -- ---- a mark on one node has one spot
 

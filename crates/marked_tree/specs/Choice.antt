@@ -1,15 +1,11 @@
 -- Not needed to believe the program's promises: choices of marks.
 use Rattle.std.specs.Prelude.{◌≡◌, ℕ, ◌≤◌, List, eqb, Bool, true, ◌&&◌, Option, Some, None, false}
 use Rattle.std.specs.List.{list_any}
-use Rattle.claim_tree.specs.Lists.{In}
 use Rattle.claim_tree.specs.Path.{is_front}
 use Rattle.marked_tree.specs.Marked.{Marked}
-use Rattle.marked_tree.specs.Ways.{ways, weight, only}
-use Rattle.marked_tree.specs.Paths.{Path, Spot, spots}
-
--- for each node whose mark is in s, so are all marks above it
-abbrev pub IsClosed : Marked → (ℕ → Bool) → Type 0
-IsClosed m s = (w : ℕ × List ℕ) → In w (ways m) → s w.0 ≡ true → (j : ℕ) → In j w.1 → s j ≡ true
+use Rattle.marked_tree.specs.Closed.{IsClosed, KeepsTheWay}
+use Rattle.marked_tree.specs.Paths.{Path, spots}
+use Rattle.marked_tree.specs.Ways.{weight, only}
 
 -- some node with mark i has a path that leads to p
 abbrev pub is_on_way : Marked → Path → ℕ → Bool
@@ -19,12 +15,6 @@ is_on_way m p i = list_any (λ s. eqb s.mark i && is_front s.at p) (spots m)
 abbrev pub has_mark : Option ℕ → ℕ → Bool
 has_mark None i = false
 has_mark (Some j) i = eqb j i
-
--- every node on the way to a wanted path stays: its own mark and all above it are in s
-abbrev pub KeepsTheWay : Marked → List Path → (ℕ → Bool) → Type 0
-KeepsTheWay m want s =
-    (node : Spot) → In node (spots m) → (p : Path) → In p want → is_front node.at p ≡ true
-    → (s node.mark ≡ true) × ((j : ℕ) → In j node.above → s j ≡ true)
 
 -- no mark of s stands on two nodes
 abbrev pub StandOnce : Marked → (ℕ → Bool) → Type 0

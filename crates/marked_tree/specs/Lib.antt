@@ -4,6 +4,7 @@ pub mod Code
 pub mod Falls
 pub mod Paths
 pub mod Steps
+pub mod Closed
 pub mod Choice
 pub mod Numbers
 pub mod NamePositions

@@ -6,7 +6,7 @@ use Rattle.claim_tree.specs.Tree.{Tree}
 use Rattle.claim_tree.specs.Lists.{StandsAt, In}
 use Rattle.digest_sites.specs.Sites.{Site, sites}
 use Rattle.digest_sites.specs.Given.{Given}
-use Rattle.marked_tree.specs.Choice.{IsClosed}
+use Rattle.marked_tree.specs.Closed.{IsClosed}
 use Rattle.marked_tree.specs.Marked.{Marked, strip, prune, remark}
 use Rattle.marked_tree.specs.Numbers.{has}
 use Rattle.marked_tree.specs.Ways.{ways}
@@ -19,6 +19,7 @@ use Rattle.rebuild_core.specs.Soundness.{IsSound}
 use Rattle.claim_tree.proofs.Lists.{or_split, and_split, In-left, In-right, In-map, In-At, At-In, At-same, At-map, At-below, list_any-In}
 use Rattle.marked_tree.proofs.NumberSets.{has-In, In-has}
 use Rattle.marked_tree.proofs.Remarks.{strip-renumbered}
+use Rattle.marked_tree.proofs.Spots.{closed_by_ways}
 use Rattle.rebuild_core.proofs.Chains.{item_of_value, in_payload, in_value, same_item, leads_up, reached_all, value_injective}
 use Rattle.rebuild_core.proofs.Fits.{Pairwise}
 use Rattle.rebuild_core.proofs.Fixed.{processed_settles}
@@ -195,7 +196,7 @@ module _ (p : Tree) (g : List Given) (readable : IsReadable p g) (sound : IsSoun
     honest =
         let s : ℕ → Bool = has h in
         let all : Enumerates s h = record { distinct = distinct-from h numbers_differ; within = λ i m. In-has h i m; whole = λ i e. has-In h i e } in
-        let closed : IsClosed (processed p g) s = λ v m t j n. In-has h j (above_all v (subst (λ z. In v (ways z)) settles m) (has-In h v.0 t) j n) in
+        let closed : IsClosed (processed p g) s = closed_by_ways (processed p g) s (λ v m t j n. In-has h j (above_all v (subst (λ z. In v (ways z)) settles m) (has-In h v.0 t) j n)) in
         let result = presentation_holds p g readable sound s
         (λ i e. let a = In-At h i (has-In h i e) in let x = pick_from g h gs pick a.0 i a.1 in At-below g i x.0 x.2)
         closed h all gs pick in

@@ -6,7 +6,7 @@ use Rattle.digest_sites.specs.Sites.{sites}
 use Rattle.digest_sites.specs.Given.{Given}
 use Rattle.marked_tree.specs.Marked.{Marked, MarkedElements, MarkedMembers, marked_leaf, marked_array, marked_object, no_marked_elements, marked_element, no_marked_members, marked_member, strip, new_mark, keep_element, keep_member, remark, remark_elements, remark_members, kept}
 use Rattle.marked_tree.specs.Ways.{weight, only}
-use Rattle.marked_tree.specs.Choice.{IsClosed}
+use Rattle.marked_tree.specs.Closed.{IsClosed}
 use Rattle.rebuild_core.specs.Opening.{Shown, reveal, opened, processed}
 use Rattle.rebuild_core.specs.Soundness.{IsReferencedOnce, IsWellNamed, IsSound}
 use Rattle.rebuild_core.specs.Laws.{IsPick, Enumerates, IsPresentation, Presentation, position_from, OneNode}

@@ -8,7 +8,8 @@ use Rattle.digest_sites.specs.Sites.{Site, sites}
 use Rattle.digest_sites.specs.Given.{Given}
 use Rattle.marked_tree.specs.Marked.{Marked}
 use Rattle.marked_tree.specs.Ways.{ways, way_of}
-use Rattle.marked_tree.specs.Choice.{IsClosed}
+use Rattle.marked_tree.specs.Closed.{IsClosed}
+use Rattle.marked_tree.proofs.Spots.{ways_closed}
 use Rattle.rebuild_core.specs.Reached.{stands, is_in_round, is_reached, Owner, payload, value_of, OwnedSite, owned_site, value_sites, met}
 use Rattle.rebuild_core.specs.Opening.{reveal, opened, processed}
 use Rattle.rebuild_core.specs.Conditions.{RepeatedDigest, Unreferenced}
@@ -92,7 +93,7 @@ module _ (p : Tree) (g : List Given) (ok : IsReferencedOnce p g) (named : IsWell
       let chain = leads_up p g ok j w.x there in
       let up = goes_up (value_of j) chain.0 chain.1 j w.x refl there (i, j ∷ []) (later_way i j [] (ways (opened (length g) g w.x.value)) below) in
       let m : In (i, up.way) (ways (processed p g)) = subst (λ z. In (i, up.way) (ways z)) (sym (processed_settles p g ok)) up.there in
-      closed (i, up.way) m si j (up.has j (inl refl)))
+      ways_closed (processed p g) s closed (i, up.way) m si j (up.has j (inl refl)))
       (met_item p g (owned_site (value_of j) e) n)
 
   module _ (s : ℕ → Bool) (closed : IsClosed (processed p g) s) (h : List ℕ) (whole : (i : ℕ) → s i ≡ true → In i h)

@@ -8,7 +8,7 @@ use Rattle.digest_sites.specs.Sites.{Site}
 use Rattle.digest_sites.specs.Given.{Given}
 use Rattle.marked_tree.specs.Marked.{Marked, strip, remark, prune}
 use Rattle.marked_tree.specs.Ways.{ranked}
-use Rattle.marked_tree.specs.Choice.{IsClosed}
+use Rattle.marked_tree.specs.Closed.{IsClosed}
 use Rattle.marked_tree.specs.Numbers.{IsRising}
 use Rattle.marked_tree.specs.Paths.{Path, chosen}
 use Rattle.marked_tree.specs.Laws.{HasEachMarkOnce}

@@ -16,9 +16,6 @@ use Rattle.json_form.specs.declared.token.Token.{Token}
 use Rattle.json_form.proofs.Tokens as tokens
 use Rattle.jws_part.specs.Part.{IsBody}
 use Rattle.marked_tree.specs.Marked.{Marked, strip}
-use Rattle.marked_tree.specs.Paths.{spots}
-use Rattle.marked_tree.proofs.NumberSets.{has-In, In-has}
-use Rattle.marked_tree.proofs.Spots.{Way, way, ways_of_spots}
 use Rattle.rebuild_core.specs.Laws.{IsPick}
 use Rattle.rebuild_core.specs.Opening.{processed}
 use Rattle.rebuild_core.specs.Reached.{given_digests}
@@ -36,7 +33,7 @@ use Rattle.issuer_core.proofs.IssuedForgery.{issued_not_forged}
 use Rattle.issuer_core.proofs.IssuedRead.{IsReadOnlyAs, read_only_as}
 use Rattle.issuer_core.proofs.IssuedSound.{issued_is_sound_holds}
 use Rattle.issuer_core.proofs.Judged.{good_order}
-use Rattle.sdjwt_cli.specs.NoForgery.{NoForgery, NoneCollides, HasAllAbove, IsChoiceOf, token_digests}
+use Rattle.sdjwt_cli.specs.NoForgery.{NoForgery, NoneCollides, IsChoiceOf, token_digests}
 
 -- ---- what stands beside each other in two lists
 
@@ -129,17 +126,12 @@ module _ (maker : Maker) (o : Order) (parts : Parts) (p : Tree) (g : List Given)
       let there = In-At token.parts.disclosures d (inside 0 d refl) in
       (text_at i there.0 x d pick.0 there.1 all.0, texts_at order hs ds pick.1 all.1 (λ k e a. inside (suc k) e a))
 
-  all_above : HasAllAbove (marked_claims o) honest.order
-  all_above spot there chosen above m =
-      has-In honest.order above
-      (honest.closed (way spot) (subst (λ (vs : List Way). In (way spot) vs) (ways_of_spots (marked_claims o)) (In-map way spot (spots (marked_claims o)) there)) (In-has honest.order spot.mark chosen) above m)
-
   choice_of : IsChoiceOf (marked_claims o) parts.disclosures token.parts.disclosures marked
   choice_of = record {
     numbers = honest.order;
     none_twice = honest.once;
     disclosures = texts_at honest.order h token.parts.disclosures honest.pick sent (λ k d a. At-In token.parts.disclosures k d a);
-    all_above = all_above;
+    all_above = honest.closed;
     shows = ap strip (opens.3 ∙ ap (λ t. processed t h) same_payload) ∙ honest.shows;
   }
 

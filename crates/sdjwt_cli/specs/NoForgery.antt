@@ -11,8 +11,8 @@ use Rattle.hmac_sign.specs.Signatures.{Meaning}
 use Rattle.hmac_sign.specs.declared.alg.Alg.{Alg}
 use Rattle.json_form.specs.Token.{IsToken}
 use Rattle.json_form.specs.declared.token.Token.{Token}
+use Rattle.marked_tree.specs.Closed.{IsClosed}
 use Rattle.marked_tree.specs.Marked.{Marked, strip, prune}
-use Rattle.marked_tree.specs.Paths.{Spot, spots}
 use Rattle.verifier_core.specs.Verdict.{IsAccepted}
 use Rattle.verifier_core.specs.declared.policy.Policy.{Policy}
 use Rattle.issuer_core.specs.Digests.{Maker, marked_claims, decoy_digests}
@@ -31,17 +31,13 @@ abbrev pub NoneCollides : Maker → Order → List Text → List Text → Type 0
 NoneCollides maker o issued sent =
     (disclosure : Text) → In disclosure sent → (In disclosure issued → ⊥) → In (digest_of o.hash disclosure) (token_digests maker o issued) → ⊥
 
--- with each hidden place that has one of the numbers, those above it have one too
-abbrev pub HasAllAbove : Marked → List ℕ → Type 0
-HasAllAbove marked numbers = (spot : Spot) → In spot (spots marked) → In spot.mark numbers → (above : ℕ) → In above spot.above → In above numbers
-
 -- the disclosures that are sent are issued ones in some order, none twice, with those of all hidden places above; and the
 -- payload shows the marked claims without the places of the others
 pub record IsChoiceOf (claims : Marked) (issued sent : List Text) (payload : Marked) : Type 0 where
   pub numbers : List ℕ
   pub none_twice : IsDistinct eqb numbers
   pub disclosures : AllZip (StandsAt issued) numbers sent
-  pub all_above : HasAllAbove claims numbers
+  pub all_above : IsClosed claims (λ i. list_any (eqb i) numbers)
   pub shows : strip payload ≡ strip (prune claims (λ i. list_any (eqb i) numbers))
 
 -- of each text that is read as a token with the signed part of these, under every policy and at every moment

@@ -1,5 +1,5 @@
 -- When a policy suits what a holder is asked to present of a token that is issued for an order.
-use Rattle.std.specs.Prelude.{◌≡◌, ◌≢◌, ◌≤◌, ℕ, ◌+◌, true, false, List, Option, None, Some}
+use Rattle.std.specs.Prelude.{◌≡◌, ◌≢◌, ◌≤◌, ℕ, ◌+◌, List, Option, None, Some}
 use Rattle.claim_tree.specs.Tree.{Text}
 use Rattle.claim_tree.specs.Lists.{In}
 use Rattle.claim_tree.specs.Path.{tree_at}
@@ -9,8 +9,8 @@ use Rattle.hmac_sign.specs.Hmac.{AlgKey}
 use Rattle.hmac_sign.specs.Keys.{key_named, picked_key}
 use Rattle.key_binding.specs.Judged.{holder_kid}
 use Rattle.key_binding.specs.declared.policy.BindingPolicy.{BindingPolicy}
-use Rattle.marked_tree.specs.Paths.{Path, mark_path, chosen}
-use Rattle.selection_core.specs.Consent.{RuleAnswers, Allows}
+use Rattle.marked_tree.specs.Paths.{Path, chosen}
+use Rattle.selection_core.specs.Consent.{RuleAnswers, NoneRefused}
 use Rattle.verifier_core.specs.Verdict.{ClaimFails}
 use Rattle.verifier_core.specs.declared.policy.Policy.{Policy}
 use Rattle.issuer_core.specs.Digests.{marked_claims}
@@ -41,7 +41,7 @@ pub record Suits {F : Type 0} (answers : RuleAnswers F) (rule : F) (o : Order) (
   pub typ : (name : Text) → policy.typ ≡ Some name → o.typ ≡ Some name
   -- each wanted path is in the payload, and the rule refuses the place of no disclosure that leads to one
   pub there : (path : Path) → In path ask.want → tree_at o.payload path ≢ None
-  pub unrefused : (i : ℕ) (at : Path) → chosen (marked_claims o) ask.want i ≡ true → mark_path (marked_claims o) i ≡ Some at → Allows answers rule at false → ⊥
+  pub unrefused : NoneRefused answers rule (marked_claims o) (chosen (marked_claims o) ask.want)
   -- where the holder is asked for a key binding token, the payload names its key (RFC 7800 section 3.4)
   pub named : (binding : BindingAsk) → ask.binding ≡ Some binding → holder_kid o.payload ≡ Some binding.kid
   -- where the verifier asks for a key binding token, so is the holder

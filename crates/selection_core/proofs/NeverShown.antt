@@ -5,7 +5,8 @@ use Rattle.std.specs.List.{AllWithin}
 use Rattle.claim_tree.specs.Lists.{In}
 use Rattle.claim_tree.specs.Path.{is_front}
 use Rattle.marked_tree.specs.Paths.{Path}
-use Rattle.selection_core.specs.Consent.{Allows, IsDecided}
+use Rattle.selection_core.specs.Consent.{Allows}
+use Rattle.selection_core.specs.AllowCalls.{IsDecided}
 use Rattle.selection_core.specs.Never.{MayBeShown, Judges, never_rule}
 
 module _ {X : Type 0} (P : X → Type 0) where

@@ -13,13 +13,13 @@ RuleAnswers F = Shared F (Bor Path × Unit {0}) Bool
 abbrev pub Allows : {F : Type 0} → RuleAnswers F → F → Path → Bool → Type 0
 Allows answers rule at answer = FnReturnsAt answers rule at answer
 
--- the rule does not both allow and refuse a place
-abbrev pub IsDecided : {F : Type 0} → RuleAnswers F → F → Type 0
-IsDecided answers rule = (at : Path) → Allows answers rule at true → Allows answers rule at false → ⊥
-
 -- the rule may allow the place of each mark of s
 abbrev pub AllAllowed : {F : Type 0} → RuleAnswers F → F → Marked → (ℕ → Bool) → Type 0
 AllAllowed answers rule m s = (i : ℕ) (at : Path) → s i ≡ true → mark_path m i ≡ Some at → Allows answers rule at true
+
+-- the rule can't refuse the place of a mark of s
+abbrev pub NoneRefused : {F : Type 0} → RuleAnswers F → F → Marked → (ℕ → Bool) → Type 0
+NoneRefused answers rule m s = (i : ℕ) (at : Path) → s i ≡ true → mark_path m i ≡ Some at → Allows answers rule at false → ⊥
 
 -- mark i is one of s whose place the rule may refuse, and it may allow that of each smaller one
 pub record IsRefusedAt {F : Type 0} (answers : RuleAnswers F) (rule : F) (m : Marked) (s : ℕ → Bool) (i : ℕ) : Type 0 where

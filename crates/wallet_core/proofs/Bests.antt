@@ -13,10 +13,12 @@ use Rattle.json_form.specs.Token.{IsToken}
 use Rattle.json_form.specs.declared.token.Token.{Token}
 use Rattle.marked_tree.specs.Marked.{Marked}
 use Rattle.marked_tree.specs.Numbers.{has}
-use Rattle.selection_core.specs.Consent.{RuleAnswers, IsDecided}
+use Rattle.selection_core.specs.Consent.{RuleAnswers}
+use Rattle.selection_core.specs.AllowCalls.{IsDecided}
 use Rattle.verifier_core.specs.Verdict.{Opens, Rules, IsChecked}
 use Rattle.verifier_core.proofs.Verdicts.{one_opening}
-use Rattle.wallet_core.specs.Meets.{Meets, MayMeet, CantFail}
+use Rattle.wallet_core.specs.Meets.{Meets, CantFail}
+use Rattle.wallet_core.specs.WalletCalls.{MayMeet}
 use Rattle.wallet_core.specs.Picked.{IsPicked, IsFewest, HasNoAnswer, sent}
 use Rattle.wallet_core.specs.Usable.{IsUsable}
 use Rattle.wallet_core.specs.WalletSteps.{choice_of, IsSent, IsPassedOver, IsUnanswered, IsTold, IsToldOf, IsBetter, IsBest}

@@ -3,8 +3,10 @@ use Rattle.std.proofs.Common.{ℕ, Bool, true, false, List, Result, Ok, Err, IfO
 use Rattle.claim_tree.specs.Tree.{Text}
 use Rattle.marked_tree.specs.Marked.{Marked}
 use Rattle.marked_tree.specs.Paths.{Path}
-use Rattle.selection_core.specs.Consent.{RuleAnswers, Allows, IsDecided}
-use Rattle.wallet_core.specs.Meets.{Meets, MayMeet, CantFail}
+use Rattle.selection_core.specs.Consent.{RuleAnswers, Allows}
+use Rattle.selection_core.specs.AllowCalls.{IsDecided}
+use Rattle.wallet_core.specs.Meets.{Meets, CantFail}
+use Rattle.wallet_core.specs.WalletCalls.{MayMeet}
 use Rattle.wallet_core.specs.Picked.{IsPicked, IsFewest, HasNoAnswer}
 use Rattle.wallet_core.specs.declared.answering.Picked.{Picked}
 use Rattle.wallet_core.specs.declared.error.WalletError.{WalletError}

@@ -1,14 +1,14 @@
 -- What a query asks, and which sets of marks answer it.
-use Rattle.std.specs.Prelude.{◌≡◌, ◌++◌, ℕ, Bool, true, false, List, map, Some}
+use Rattle.std.specs.Prelude.{◌≡◌, ◌++◌, ℕ, Bool, List, map, Some}
 use Rattle.claim_tree.specs.Lists.{In, AtNone}
 use Rattle.claim_tree.specs.Path.{tree_at}
 use Rattle.claim_tree.specs.Tree.{Tree}
 use Rattle.claim_tree.specs.View.{tree_of}
-use Rattle.marked_tree.specs.Choice.{IsClosed, KeepsTheWay}
+use Rattle.marked_tree.specs.Closed.{IsClosed, KeepsTheWay}
 use Rattle.marked_tree.specs.Marked.{Marked, strip}
-use Rattle.marked_tree.specs.Paths.{Path, mark_path}
+use Rattle.marked_tree.specs.Paths.{Path}
 use Rattle.selection_core.specs.ChoiceRefusals.{IsMissing}
-use Rattle.selection_core.specs.Consent.{RuleAnswers, Allows, AllAllowed}
+use Rattle.selection_core.specs.Consent.{RuleAnswers, AllAllowed, NoneRefused}
 use Rattle.wallet_core.specs.declared.query.Equal.{Equal}
 use Rattle.wallet_core.specs.declared.query.Query.{Query}
 
@@ -28,10 +28,6 @@ pub record Serves (marked : Marked) (query : Query) (s : ℕ → Bool) : Type 0 
   pub values : HasValues (strip marked) query.equal
   pub keeps : KeepsTheWay marked (asked_places query) s
 
--- the rule can't refuse the place of a mark of s
-abbrev pub NoneRefused : {F : Type 0} → RuleAnswers F → F → Marked → (ℕ → Bool) → Type 0
-NoneRefused answers rule marked s = (i : ℕ) (at : Path) → s i ≡ true → mark_path marked i ≡ Some at → Allows answers rule at false → ⊥
-
 -- the set serves the query, and the rule allows the place of each mark of it, and doesn't refuse it
 pub record Meets {F : Type 0} (answers : RuleAnswers F) (rule : F) (marked : Marked) (query : Query) (s : ℕ → Bool) : Type 0 where
   pub serves : Serves marked query s
@@ -39,11 +35,6 @@ pub record Meets {F : Type 0} (answers : RuleAnswers F) (rule : F) (marked : Mar
   pub unrefused : NoneRefused answers rule marked s
 
 -- ---- of a rule that may give two answers for one place
-
--- the set serves the query, and the rule may allow each place
-pub record MayMeet {F : Type 0} (answers : RuleAnswers F) (rule : F) (marked : Marked) (query : Query) (s : ℕ → Bool) : Type 0 where
-  pub serves : Serves marked query s
-  pub allowed : AllAllowed answers rule marked s
 
 -- the set serves the query, and the rule can't refuse a place: this is so of each set that meets the query
 pub record CantFail {F : Type 0} (answers : RuleAnswers F) (rule : F) (marked : Marked) (query : Query) (s : ℕ → Bool) : Type 0 where

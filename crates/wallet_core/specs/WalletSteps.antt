@@ -11,7 +11,8 @@ use Rattle.rebuild_core.specs.LookUps.{RoseWithin}
 use Rattle.selection_core.specs.Consent.{RuleAnswers}
 use Rattle.verifier_core.specs.Verdict.{IsChecked}
 use Rattle.wallet_core.specs.LookUps.{IsBound}
-use Rattle.wallet_core.specs.Meets.{MayMeet, CantFail}
+use Rattle.wallet_core.specs.Meets.{CantFail}
+use Rattle.wallet_core.specs.WalletCalls.{MayMeet}
 use Rattle.wallet_core.specs.Picked.{IsPicked, IsFewest, HasNoAnswer}
 use Rattle.wallet_core.specs.Usable.{IsUsable}
 use Rattle.wallet_core.specs.declared.answering.Picked.{Picked}

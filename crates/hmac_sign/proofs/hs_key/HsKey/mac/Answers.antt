@@ -1,6 +1,7 @@
 use Rattle.std.proofs.Common.{◌≡◌, ◌++◌, ◌∙◌, ap, ap₂, arith, List, ℕ, codes, length, take}
 use Rattle.std.proofs.lemmas.List.{length-take-le}
-use Rattle.hmac_sign.specs.Algs.{block_length, code_length, hash_by}
+use Rattle.hmac_sign.specs.Algs.{block_length, hash_by}
+use Rattle.hmac_sign.specs.CodeLengths.{code_length}
 use Rattle.hmac_sign.specs.Hmac.{xored, hmac, mac, AlgKey}
 use Rattle.hmac_sign.proofs.Blocks.{block_fits, length-hash_by, of_block}
 use Rattle.hmac_sign.proofs.hs_key.HsKey.mac.Goals as goal

@@ -1,0 +1,26 @@
+-- Not needed to believe the program's promises: what calls on a feed answer.
+use Rattle.std.specs.Prelude.{◌≡◌, ◌+◌, ℕ, List, [], ◌++◌, Option, length}
+use Rattle.verifier_core.specs.declared.policy.Policy.{Policy}
+use Rattle.feed_core.specs.Cut.{IsCut, last_line}
+use Rattle.feed_core.specs.FeedVerdict.{TellsVerdicts}
+use Rattle.feed_core.specs.Feed.{FeedState, taking, TellsFront, count_line}
+
+abbrev pub new_feed : Policy → ℕ → FeedState
+new_feed policy now = taking policy now [] 0
+
+-- no more than the lines that end in the piece were judged
+pub record TakesFront (before : FeedState) (piece : List ℕ) (old new : Option (List ℕ)) : Type 0 where
+  pub ended : List (List ℕ)
+  pub rest : List ℕ
+  pub cut : IsCut (before.rest ++ piece) ended rest
+  pub front : TellsFront before.policy before.now ended [] old new
+
+-- the lines of a feed that ends, what is kept among them
+abbrev pub count_at_end : FeedState → ℕ
+count_at_end before = before.count + length (last_line before.rest)
+
+-- the end was told: this was written for what was kept, and then the number of lines
+pub record IsEnded (before : FeedState) (text : List ℕ) : Type 0 where
+  pub verdict : List ℕ
+  pub told : TellsVerdicts before.policy before.now (last_line before.rest) verdict
+  pub text_is : text ≡ verdict ++ count_line (count_at_end before)
