@@ -2,18 +2,15 @@
 use Prim.Native.Nat.{zero}
 use Rattle.std.proofs.Common.{◌≡◌, ◌≢◌, ℕ, ◌<◌, suc, List, [], ◌∷◌, ◌++◌, Option, None, Some, length, take, set, get_or, arith, refl, Bool, true, false, cond, sym}
 use Rattle.std.specs.Prelude.{bytes_eq}
+use Rattle.std.proofs.lemmas.Bool.{false_from_ne_true}
 use Rattle.std.proofs.lemmas.Slice.Eq.{bytes_eq-Decides}
 use Rattle.sd_outside.specs.Memory.{Files, content_of}
 
 same : (n : List ℕ) → bytes_eq n n ≡ true
 same n = (bytes_eq-Decides n n).1 refl
 
-no_truth : (b : Bool) → (b ≡ true → ⊥) → b ≡ false
-no_truth true h = absurd (h refl)
-no_truth false h = refl
-
 apart : (m n : List ℕ) → n ≢ m → bytes_eq m n ≡ false
-apart m n ne = no_truth (bytes_eq m n) (λ e. ne (sym ((bytes_eq-Decides m n).0 e)))
+apart m n ne = false_from_ne_true (bytes_eq m n) (λ e. ne (sym ((bytes_eq-Decides m n).0 e)))
 
 -- a first choice that isn't taken
 passed : (b : Bool) (x y : List ℕ) (o p : Option (List ℕ)) → cond b (Some x) o ≡ None → (o ≡ None → p ≡ Some y) → cond b (Some x) p ≡ Some y

@@ -8,13 +8,14 @@ use Rattle.claim_tree.specs.Tree.{Text, Tree}
 use Rattle.claim_tree.proofs.Lists.{bytes_same, bytes_refl}
 use Rattle.digest_sites.specs.Given.{Given}
 use Rattle.digest_sites.specs.Sites.{sites}
-use Rattle.marked_tree.specs.Paths.{Path}
 use Rattle.rebuild_core.specs.Reached.{OwnedSite, owned_site, payload, value_of, value_sites, all_sites, all_digests, given_digests}
 use Rattle.issuer_core.specs.Decoys.{decoys_of}
-use Rattle.issuer_core.specs.Digests.{Maker, hidden_of, digests_from, decoy_digests, issued_digests}
+use Rattle.issuer_core.specs.Digests.{Maker, hidden_of, decoy_digests, issued_digests}
 use Rattle.issuer_core.specs.Issued.{occurs, IsIssuedFor}
 use Rattle.issuer_core.specs.Order.{Order}
+use Rattle.issuer_core.proofs.LaidIssued.{length-digests_from}
 use Rattle.holder_core.specs.Present.{picked}
+use Rattle.holder_core.proofs.Picking.{first_if}
 use Rattle.sdjwt_cli.specs.Summary.{embedded_digests}
 
 -- ---- a list in which no text is more often than in another is no longer
@@ -82,10 +83,6 @@ length_all p given =
       length_values 0 given,
     )
 
-length_decoys : (dg : ℕ → Text) (k : ℕ) (ps : List Path) → length (digests_from dg k ps) ≡ length ps
-length_decoys dg k [] = refl
-length_decoys dg k (p ∷ ps) = ap suc (length_decoys dg (suc k) ps)
-
 pub issued_count : (maker : Maker) (o : Order) (p : Tree) (given : List Given) → IsIssuedFor maker o p given → embedded_digests p given ≤ hidden_of o + length (decoys_of o)
 issued_count maker o p given issued =
     let shorter = no_longer (all_digests p given) (issued_digests maker o given) (λ d. let same = issued.each_once d in omega (arith, same)) in
@@ -96,14 +93,11 @@ issued_count maker o p given issued =
       length_all p given,
       length-append (given_digests given) (decoy_digests maker o),
       length-map given (λ (x : Given). x.digest),
-      length_decoys (λ k. maker.digest o.hash (maker.piece k)) (hidden_of o) (decoys_of o),
+      length-digests_from (λ k. maker.digest o.hash (maker.piece k)) (hidden_of o) (decoys_of o),
       count,
     )
 
 -- ---- what is picked
-
-abbrev first_if : {X : Type 0} → Bool → X → List X → List X
-first_if b x xs = if b then x ∷ xs else xs
 
 value_picked : (s : ℕ → Bool) (given : List Given) → value_count (picked s given) ≤ value_count given
 value_picked s [] = omega arith

@@ -18,7 +18,8 @@ use Rattle.selection_core.specs.Never.{never_rule}
 use Rattle.sdjwt_cli.specs.NoForgery.{NoneCollides, IsChoiceOf}
 use Rattle.sdjwt_cli.specs.Suits.{Suits}
 use Rattle.sdjwt_cli.proofs.HeldIssued.{IsTokenOf, token_of}
-use Rattle.sdjwt_cli.proofs.IssuedValues.{seed, parts, issued}
+use Rattle.issuer_core.proofs.WorkedOrders.{seed}
+use Rattle.sdjwt_cli.proofs.IssuedValues.{parts, issued}
 use Rattle.sdjwt_cli.proofs.NoForgery.{no_forgery_holds}
 use Rattle.sdjwt_cli.proofs.PresentedAccepted.{IsPresentedOf, answer_text, answer_accepted}
 use Rattle.sdjwt_cli.proofs.SuitsExample.{order, issuer_key, said, policy_with, suits, claims_hold}

@@ -20,7 +20,7 @@ use Rattle.sdjwt_cli.specs.Generated.{number, member_name, member_value, members
 use Rattle.selection_core.specs.Never.{never_rule}
 use Rattle.holder_core.specs.Present.{shown_for}
 use Rattle.sdjwt_cli.specs.Suits.{Suits}
-use Rattle.sdjwt_cli.proofs.KeptClaims.{NonePasses, claim_kept}
+use Rattle.marked_tree.proofs.KeptMembers.{NonePasses, claim_kept}
 use Rattle.selection_core.proofs.NeverShown.{unrefused}
 
 -- ---- the members

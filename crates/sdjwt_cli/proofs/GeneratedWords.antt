@@ -1,6 +1,7 @@
 -- The number of members that a word says.
 use Rattle.std.proofs.Common.{◌≡◌, ◌≢◌, ◌⊎◌, inl, inr, ℕ, zero, suc, ◌+◌, ◌<◌, ◌≤◌, ◌^◌, List, Bool, true, false, bytes_eq, decimal, Some, None, refl, sym, ap, ◌∙◌, arith}
 use Rattle.std.specs.Prelude.{if◌then◌else◌}
+use Rattle.std.proofs.Math.Arith.{le_of_le-suc-ne}
 use Rattle.std.proofs.lemmas.Fmt.{decimal_injective}
 use Rattle.claim_tree.proofs.Lists.{bytes_same, bytes_refl}
 use Rattle.sdjwt_cli.specs.Generated.{members_max, number_up_to, count_of}
@@ -13,9 +14,6 @@ number_none (suc n) word differs = go (bytes_eq (decimal (suc n)) word) refl (nu
     go true e ih = absurd (differs (suc n) (omega arith) (omega arith) (bytes_same (decimal (suc n)) word e))
     go false e ih = ih
 
-at_most : (a b : ℕ) → a ≤ suc b → (a ≡ suc b → ⊥) → a ≤ b
-at_most a b l d = grind arith
-
 number_some : (n i : ℕ) (word : List ℕ) → n < 2 ^ 64 → 0 < i → i ≤ n → decimal i ≡ word → number_up_to n word ≡ Some i
 number_some zero i word fits low high is = absurd (omega (arith, low, high))
 number_some (suc n) i word fits low high is = go (bytes_eq (decimal (suc n)) word) refl (λ more. number_some n i word (omega (arith, fits)) low more is)
@@ -23,7 +21,7 @@ number_some (suc n) i word fits low high is = go (bytes_eq (decimal (suc n)) wor
     go : (b : Bool) → bytes_eq (decimal (suc n)) word ≡ b → (i ≤ n → number_up_to n word ≡ Some i) → (if b then Some (suc n) else number_up_to n word) ≡ Some i
     go true e ih = ap Some (decimal_injective (suc n) i fits (omega (arith, high, fits)) (bytes_same (decimal (suc n)) word e ∙ sym is))
     go false e ih =
-        ih (at_most i n high (λ same. let clash : false ≡ true = sym e ∙ bytes_refl (decimal (suc n)) word (ap decimal (sym same) ∙ is) in cc clash))
+        ih (le_of_le-suc-ne {k = i} {n = n} high (λ same. let clash : false ≡ true = sym e ∙ bytes_refl (decimal (suc n)) word (ap decimal (sym same) ∙ is) in cc clash))
 
 pub counted_none : (word : List ℕ) → ((i : ℕ) → i < members_max + 1 → decimal i ≢ word) → count_of word ≡ None
 unfolding count_of

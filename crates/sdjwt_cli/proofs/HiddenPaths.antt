@@ -3,10 +3,10 @@ use Rattle.std.proofs.Common.{◌≡◌, ◌≢◌, ◌⊎◌, inl, inr, ℕ, su
 use Rattle.std.specs.Prelude.{option_and_then, if◌then◌else◌}
 use Rattle.std.specs.List.{IsDistinct, AllByRecursion}
 use Rattle.std.specs.Set.{distinct_count}
+use Rattle.std.specs.Cmp.{both_ways}
 use Rattle.std.proofs.lemmas.Fmt.{decimal_injective}
 use Rattle.std.proofs.lemmas.Map.Keys.{IsDistinct-head, IsDistinct-tail, IsDistinct-cons, IsDistinct-from_apart}
 use Rattle.std.proofs.lemmas.Map.Made.{length-from_keys}
-use Rattle.claim_tree.specs.Everywhere.{InElements, InMembers}
 use Rattle.claim_tree.specs.Tree.{Text, Tree, leaf, array, object, Elements, no_elements, element, elements_len, Members, no_members, member, member_named, names, IsOrdered, ElementsOrdered, MembersOrdered}
 use Rattle.claim_tree.specs.Lists.{In}
 use Rattle.claim_tree.specs.Path.{tree_at, element_on}
@@ -23,7 +23,7 @@ use Rattle.issuer_core.specs.Order.{Order}
 use Rattle.issuer_core.specs.OrderRefusals.{AppliesToOrder}
 use Rattle.issuer_core.specs.ShortLists.{HasShortLists}
 use Rattle.issuer_core.specs.declared.errors.IssueError.TheVariants.{RootMarked, NoSuchPlace}
-use Rattle.rebuild_core.proofs.Transfer.{same_bool}
+use Rattle.issuer_core.proofs.DecoySums.{ElementsShort, MembersShort}
 
 -- ---- lists with each path once
 
@@ -138,12 +138,6 @@ step_distinct k cs b d rootless = distinct_append (above k cs) (own_path b k) (d
         let v = own_is b k p own in
         let root : w.0 ≡ [] = other_steps k k w.0 [] (sym w.2 ∙ v.1) in
         rootless (subst (λ (q : Path). In q cs) root w.1)
-
-abbrev ElementsShort : Elements → Type 0
-ElementsShort es = InElements (λ _. Unit {0}) (λ us. elements_len us < 2 ^ 64) (λ _ _. Unit {0}) es
-
-abbrev MembersShort : Members → Type 0
-MembersShort ms = InMembers (λ _. Unit {0}) (λ us. elements_len us < 2 ^ 64) (λ _ _. Unit {0}) ms
 
 mutual
   closing_distinct : (h : Path → Bool) (t : Tree) → IsOrdered t → HasShortLists t → IsDistinct same_path (closing h t)
@@ -273,7 +267,7 @@ module _ (o : Order) (passes : NoneApplies (AppliesToOrder o)) (ordered : IsOrde
 
   same_paths : (p : Path) → is_among closed p ≡ is_among o.hide p
   same_paths p =
-      same_bool (is_among closed p) (is_among o.hide p) (λ is. closing_passes (is_among o.hide) o.payload p (of_among closed p is)) (λ is. among closed p (hidden_there p (of_among o.hide p is)))
+      both_ways (is_among closed p) (is_among o.hide p) (λ is. closing_passes (is_among o.hide) o.payload p (of_among closed p is)) (λ is. among closed p (hidden_there p (of_among o.hide p is)))
 
   pub hidden_count_is : hidden_of o ≡ distinct_count same_path o.hide
   hidden_count_is =

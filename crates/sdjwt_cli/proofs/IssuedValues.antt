@@ -1,7 +1,7 @@
 -- A token that is issued for the worked order: each premise of the law of presenting is met.
-use Rattle.std.proofs.Common.{◌≡◌, ℕ, zero, suc, ◌+◌, ◌≤◌, List, [], ◌∷◌, ◌++◌, length, length-append, true, false, bytes_eq, Option, None, Some, IsUtf8, codes, rules, refl, sym, ap, subst, ◌∙◌, arith}
+use Rattle.std.proofs.Common.{◌≡◌, ℕ, zero, suc, ◌+◌, ◌≤◌, List, [], ◌∷◌, ◌++◌, length, length-append, true, false, bytes_eq, Option, None, Some, codes, rules, refl, sym, ap, subst, ◌∙◌, arith}
 use Rattle.std.specs.Prelude.{slice_get}
-use Rattle.json.proofs.Printed.Utf8.{are_ascii, IsUtf8-are_ascii}
+use Rattle.json.proofs.Printed.Utf8.{IsUtf8-are_ascii}
 use Rattle.json.specs.Print.{escape_byte}
 use Rattle.sha2.specs.Sha256.{compress, digest_bytes, first_words, hash_after, rounds, schedule, sha256}
 use Rattle.b64url_text.specs.Base64url.{letters, bits, sixes, b64}
@@ -9,11 +9,8 @@ use Rattle.claim_tree.specs.Tree.{Text, Tree, leaf, text, array, object, no_elem
 use Rattle.disclosure.specs.Digest.{digest_of}
 use Rattle.disclosure.specs.Disclosure.{array_of, disclosure_text}
 use Rattle.disclosure.specs.declared.digests.HashAlg.{HashAlg}
-use Rattle.rand_chacha.specs.Block.{block_word, double_rounds, diagonal_round, quarter_round, column_round}
-use Rattle.rand_core.specs.Steps.{u32_at}
-use Rattle.issuer_core.specs.Salts.{salt_of, salt_piece}
-use Rattle.claim_tree.specs.Lists.{StandsAt, In, Repeats}
-use Rattle.claim_tree.proofs.Lists.{list_any-from}
+use Rattle.issuer_core.specs.Salts.{salt_of}
+use Rattle.claim_tree.specs.Lists.{StandsAt, Repeats}
 use Rattle.claim_tree.specs.Path.{tree_at}
 use Rattle.digest_sites.specs.Given.{Given}
 use Rattle.digest_sites.specs.Reserved.{sd_name, dots_name}
@@ -34,7 +31,7 @@ use Rattle.issuer_core.specs.declared.errors.IssueError.{IssueError}
 use Rattle.issuer_core.specs.declared.errors.IssueError.TheVariants.{Memory, SignFailed, PayloadNotObject, ReservedName, TooDeep, RootMarked, NoSuchPlace, ProtectedClaim, DecoyPlace, TooManyHidden, TooManyDecoys, DigestClash, TooLong}
 use Rattle.issuer_core.specs.Issue.{ClashesAt}
 use Rattle.issuer_core.specs.Laid.{IsLaid, with_alg}
-use Rattle.issuer_core.specs.OrderRefusals.{AppliesToOrder, IsProtected, protected_names}
+use Rattle.issuer_core.specs.OrderRefusals.{AppliesToOrder, IsProtected}
 use Rattle.issuer_core.specs.ReservedPaths.{reserved_paths}
 use Rattle.issuer_core.specs.Digests.{marked_claims, made_texts}
 use Rattle.issuer_core.specs.GoodOrder.{IsWritable}
@@ -42,6 +39,7 @@ use Rattle.issuer_core.specs.Written.{header_of, IsWritten}
 use Rattle.issuer_core.proofs.IssuedContent.{laid_digests_differ}
 use Rattle.issuer_core.specs.Seed.{maker_of}
 use Rattle.issuer_core.proofs.FromLaid.{one_list}
+use Rattle.issuer_core.proofs.WorkedOrders.{seed, salt_0, salt_1, unprotected}
 use Rattle.sdjwt_cli.proofs.SuitsExample.{issuer_key, named, order}
 use Rattle.sdjwt_cli.specs.Issuing.{IsIssuedBy, Issues}
 use Rattle.cli_parts.specs.Lines.{line}
@@ -50,17 +48,6 @@ use Rattle.sdjwt_cli.proofs.PresentedRuns.{presented_over_files}
 use Rattle.sdjwt_cli.proofs.PresentedShort.{spelled_more, hashed_length, compact_length}
 use Rattle.sdjwt_cli.proofs.SuitedFiles.{order_file, seed_file, present_file, policy_file, all_suits}
 use Rattle.holder_core.specs.Present.{shown_for}
-
-abbrev pub seed : List ℕ
-seed = codes "a seed of bytes, no fewer than 3"
-
-salt_0 : salt_of seed 0 ≡ codes "zmsWpmAHnM42j0qbcdYN8w"
-unfolding salt_piece u32_at block_word double_rounds diagonal_round quarter_round column_round letters bits sixes b64
-salt_0 = refl
-
-salt_1 : salt_of seed 1 ≡ codes "AoS086vrZ8wQa73AZnCrVQ"
-unfolding salt_piece u32_at block_word double_rounds diagonal_round quarter_round column_round letters bits sixes b64
-salt_1 = refl
 
 -- ---- the disclosures, and their digests
 
@@ -125,23 +112,14 @@ none_reserved : slice_get (reserved_paths order.payload) 0 ≡ None
 unfolding sd_name dots_name alg_name
 none_reserved = refl
 
-none_some : (path : Path) → ◌≡◌ {A = Option Path} None (Some path) → ⊥
-none_some path e = cc e
-
 apart : first_digest ≡ second_digest → ⊥
 apart e = let clash : true ≡ false = ap (bytes_eq first_digest) e in cc clash
-
-first_free : In (codes "family_name") protected_names → ⊥
-first_free there = let clash : false ≡ true = list_any-from (bytes_eq (codes "family_name")) protected_names (codes "family_name") there refl in cc clash
-
-second_free : In (codes "given_name") protected_names → ⊥
-second_free there = let clash : false ≡ true = list_any-from (bytes_eq (codes "given_name")) protected_names (codes "given_name") there refl in cc clash
 
 passes : (error : IssueError) → AppliesToOrder order error → ⊥
 passes Memory h = h
 passes SignFailed h = h
 passes PayloadNotObject h = h tt
-passes (ReservedName path) h = none_some path (sym none_reserved ∙ h)
+passes (ReservedName path) h = let clash : ◌≡◌ {A = Option Path} None (Some path) = sym none_reserved ∙ h in cc clash
 passes TooDeep h = omega (arith, h)
 passes (RootMarked zero) h = let is = h.1 in let root = h.2 in cc (sym is ∙ root)
 passes (RootMarked (suc zero)) h = let is = h.1 in let root = h.2 in cc (sym is ∙ root)
@@ -149,8 +127,8 @@ passes (RootMarked (suc (suc k))) h = absurd h.1
 passes (NoSuchPlace zero) h = cc (sym (ap (tree_at order.payload) h.1) ∙ h.2)
 passes (NoSuchPlace (suc zero)) h = cc (sym (ap (tree_at order.payload) h.1) ∙ h.2)
 passes (NoSuchPlace (suc (suc k))) h = absurd h.1
-passes (ProtectedClaim zero) h = first_free (subst IsProtected h.1 h.2)
-passes (ProtectedClaim (suc zero)) h = second_free (subst IsProtected h.1 h.2)
+passes (ProtectedClaim zero) h = unprotected (codes "family_name") refl (subst IsProtected h.1 h.2)
+passes (ProtectedClaim (suc zero)) h = unprotected (codes "given_name") refl (subst IsProtected h.1 h.2)
 passes (ProtectedClaim (suc (suc k))) h = absurd h.1
 passes (DecoyPlace k) h = absurd h.1
 passes TooManyHidden h = omega (arith, h)
@@ -178,20 +156,17 @@ free : HasNoReserved order.payload
 unfolding sd_name dots_name alg_name
 free = search rules
 
-ascii : (s : Text) → are_ascii s ≡ true → IsUtf8 s
-ascii s e = IsUtf8-are_ascii s e
-
 writable : IsWritable order
 writable = record {
   good = record { is_object = tt; no_reserved = free; shallow = omega arith; decoys_held = λ entry none. absurd none; ordered = claims_ordered };
   held = (
-    ascii (codes "cnf") refl,
-    (ascii (codes "kid") refl, ascii (codes "h") refl, tt),
-    (ascii (codes "family_name") refl, ascii (codes "Bee") refl, (ascii (codes "given_name") refl, ascii (codes "Ann") refl, (ascii (codes "iss") refl, ascii (codes "i") refl, tt))),
+    IsUtf8-are_ascii (codes "cnf") refl,
+    (IsUtf8-are_ascii (codes "kid") refl, IsUtf8-are_ascii (codes "h") refl, tt),
+    (IsUtf8-are_ascii (codes "family_name") refl, IsUtf8-are_ascii (codes "Bee") refl, (IsUtf8-are_ascii (codes "given_name") refl, IsUtf8-are_ascii (codes "Ann") refl, (IsUtf8-are_ascii (codes "iss") refl, IsUtf8-are_ascii (codes "i") refl, tt))),
   );
   ranged = search rules;
   kid = tt;
-  typ = ascii (codes "dc+sd-jwt") refl;
+  typ = IsUtf8-are_ascii (codes "dc+sd-jwt") refl;
 }
 
 -- ---- the token
