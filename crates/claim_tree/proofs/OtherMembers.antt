@@ -6,10 +6,8 @@ use Rattle.std.proofs.lemmas.Map.Text.{is_eq-slice_cmp}
 use Rattle.std.proofs.lemmas.Slice.Eq.{bytes_eq-Decides}
 use Rattle.claim_tree.specs.Tree.{Text, Tree, depth, Members, no_members, member, members_depth, MembersRanged, inserted, member_named}
 use Rattle.claim_tree.specs.Removed.{removed}
+use Rattle.claim_tree.proofs.Lists.{bytes_refl}
 use Rattle.claim_tree.proofs.MapPlaces.{cmp}
-
-same_bytes : (name : Text) → bytes_eq name name ≡ true
-same_bytes name = (bytes_eq-Decides name name).1 refl
 
 -- names in an order are one exactly where they tie
 tied : (a b : Text) (o : Ordering) → cmp a b ≡ o → bytes_eq a b ≡ is_eq o
@@ -77,14 +75,14 @@ depth-member_named (member k t ms) name u e = go (bytes_eq k name) e (depth-memb
 
 -- the member that is put in is there
 pub named_inserted : (ms : Members) (name : Text) (t : Tree) → member_named (inserted ms name t) name ≡ Some t
-named_inserted no_members name t = rw (same_bytes name) refl
+named_inserted no_members name t = rw (bytes_refl name name refl) refl
 named_inserted (member k u ms) name t = go (cmp k name) refl (named_inserted ms name t)
   where
     go : (o : Ordering) → cmp k name ≡ o → member_named (inserted ms name t) name ≡ Some t
         → member_named (match_ordering o (member k u (inserted ms name t)) (member name t ms) (member name t (member k u ms))) name ≡ Some t
     go Less e ih = rw (tied k name Less e) ih
-    go Equal e ih = rw (same_bytes name) refl
-    go Greater e ih = rw (same_bytes name) refl
+    go Equal e ih = rw (bytes_refl name name refl) refl
+    go Greater e ih = rw (bytes_refl name name refl) refl
 
 -- and the others are as before
 pub other_inserted : (ms : Members) (name : Text) (t : Tree) (other : Text) → bytes_eq name other ≡ false → member_named (inserted ms name t) other ≡ member_named ms other
@@ -103,7 +101,7 @@ clash false t rest e none = cc e
 
 -- a new member that is taken out again leaves the others
 pub removed_inserted : (ms : Members) (name : Text) (t : Tree) → member_named ms name ≡ None → removed (inserted ms name t) name ≡ ms
-removed_inserted no_members name t none = rw (same_bytes name) refl
+removed_inserted no_members name t none = rw (bytes_refl name name refl) refl
 removed_inserted (member k u ms) name t none = go (cmp k name) refl (removed_inserted ms name t)
   where
     later : bytes_eq k name ≡ false → member_named ms name ≡ None
@@ -113,7 +111,7 @@ removed_inserted (member k u ms) name t none = go (cmp k name) refl (removed_ins
         → removed (match_ordering o (member k u (inserted ms name t)) (member name t ms) (member name t (member k u ms))) name ≡ member k u ms
     go Less e ih = let apart : bytes_eq k name ≡ false = tied k name Less e in rw apart (ap (member k u) (ih (later apart)))
     go Equal e ih = absurd (clash (bytes_eq k name) u (member_named ms name) (tied k name Equal e) none)
-    go Greater e ih = rw (same_bytes name) (removed_absent (member k u ms) name none)
+    go Greater e ih = rw (bytes_refl name name refl) (removed_absent (member k u ms) name none)
 
 pub depth-inserted : (ms : Members) (name : Text) (t : Tree) → members_depth (inserted ms name t) ≤ max (depth t) (members_depth ms)
 depth-inserted no_members name t = omega arith

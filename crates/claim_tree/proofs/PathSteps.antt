@@ -1,5 +1,5 @@
 -- The steps of a path, in the text in which they stand.
-use Rattle.std.proofs.Common.{◌≡◌, Bool, true, false, ℕ, zero, suc, ◌+◌, ◌-◌, ◌<◌, ◌≤◌, List, [], ◌∷◌, ◌++◌, length, take, drop, get_or, Some, inl, inr, refl, sym, ap, ap₂, subst, ◌∙◌, arith, rules, length-append, append_assoc, drop-drop, IsUtf8}
+use Rattle.std.proofs.Common.{◌≡◌, true, false, ℕ, zero, suc, ◌+◌, ◌-◌, ◌<◌, ◌≤◌, List, [], ◌∷◌, ◌++◌, length, take, drop, get_or, Some, inl, inr, refl, sym, ap, ap₂, subst, ◌∙◌, arith, rules, length-append, append_assoc, drop-drop, IsUtf8}
 use Rattle.std.specs.Prelude.{slice_range, slice_get}
 use Rattle.std.specs.Prelude.{nat_eq}
 use Rattle.std.specs.List.{flat_map, starts_with}
@@ -7,6 +7,7 @@ use Rattle.claim_tree.specs.Path.{is_front}
 use Rattle.claim_tree.proofs.Lists.{bytes_same, bytes_refl}
 use Rattle.claim_tree.proofs.SamePaths.{path_same, path_refl}
 use Rattle.std.specs.Str.{IsCharBoundary}
+use Rattle.std.specs.Cmp.{both_ways}
 use Rattle.std.proofs.Math.Nat.{eq-or-lt_of_le}
 use Rattle.std.proofs.Math.Seq.{drop-append-add, drop-length, get_or-append_seam}
 use Rattle.std.proofs.lemmas.List.{take-append-le, drop-append-le, take-take, take-append-drop, drop-take, drop_more, length-take, length-take-le, length-drop, take_all, get_or-take, get_or_append_left}
@@ -186,11 +187,6 @@ one_text ends others text more are ere same = text_of_steps 0 ends text are ∙ 
 
 -- ---- one path as the front of another
 
-same_bool : (b c : Bool) → (b ≡ true → c ≡ true) → (c ≡ true → b ≡ true) → b ≡ c
-same_bool true c to from = sym (to refl)
-same_bool false true to from = from refl
-same_bool false false to from = refl
-
 -- the last step ends where the text does
 last_end : (ends text : List ℕ) → AreEnds 0 ends text → start_of 0 ends (length ends) ≡ length text
 last_end ends text are = rw (drop-length ends) at (ends_from 0 ends text (length ends) (omega arith) are)
@@ -219,7 +215,7 @@ front_by_text fronts ends front text ere are begin =
     let long : start_of 0 ends (length fronts) ≡ length front =
     sym (last_of 0 ends (length fronts) enough) ∙ ap (λ (es : List ℕ). start_of 0 es (length es)) (sym same) ∙ last_end fronts front ere in
     let cut : take (start_of 0 ends (length fronts)) text ≡ take (length front) text = ap (λ n. take n text) long in
-    same_bool (starts_with nat_eq text front) (is_front (steps_between 0 fronts front) (steps_between 0 ends text))
+    both_ways (starts_with nat_eq text front) (is_front (steps_between 0 fronts front) (steps_between 0 ends text))
     (λ yes.
     let texts : front ≡ take (start_of 0 ends (length fronts)) text = bytes_same front (take (length front) text) yes ∙ sym cut in
     path_refl (steps_between 0 fronts front) _ (ap₂ (λ es t. steps_between 0 es t) same texts ∙ there.steps))
@@ -230,7 +226,7 @@ front_by_text fronts ends front text ere are begin =
 -- and where they do not, the one is no front of the other
 pub no_front : (fronts ends front text : List ℕ) → AreEnds 0 fronts front → AreEnds 0 ends text → starts_with nat_eq ends fronts ≡ false → is_front (steps_between 0 fronts front) (steps_between 0 ends text) ≡ false
 no_front fronts ends front text ere are other =
-    same_bool (is_front (steps_between 0 fronts front) (steps_between 0 ends text)) false
+    both_ways (is_front (steps_between 0 fronts front) (steps_between 0 ends text)) false
     (λ yes.
     let steps = path_same (steps_between 0 fronts front) (take (length (steps_between 0 fronts front)) (steps_between 0 ends text)) yes in
     let count : length (steps_between 0 fronts front) ≡ length (take (length (steps_between 0 fronts front)) (steps_between 0 ends text)) = ap length steps in
