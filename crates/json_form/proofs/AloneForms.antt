@@ -2,7 +2,7 @@
 use Rattle.std.proofs.Common.{◌≡◌, ℕ, ◌+◌, ◌*◌, ◌<◌, ◌≤◌, Bool, true, false, List, [], ◌∷◌, ◌++◌, length, length-append, Option, Some, None, IfSome, IsUtf8, ◌⊎◌, inl, inr, refl, sym, ap, subst, ◌∙◌, arith}
 use Rattle.std.specs.Prelude.{◌==◌, ◌&&◌, nat_lt, not}
 use Rattle.std.specs.List.{list_all, list_any, AllByRecursion}
-use Rattle.std.proofs.lemmas.Bool.{and_parts, or_cases, eqb-true, ltb-true, ne_eqb}
+use Rattle.std.proofs.lemmas.Bool.{not-true, and_parts, or_cases, eqb-true, ltb-true, ne_eqb}
 use Rattle.std.proofs.lemmas.Grind.{flat_map-append}
 use Rattle.std.proofs.lemmas.Str.{IsUtf8-append, IsUtf8-from_ascii}
 use Rattle.json.specs.Print.{escape, escape_byte, quoted}
@@ -55,10 +55,6 @@ plain_letter : (b : ℕ) → is_letter b ≡ true → is_plain b ≡ true
 unfolding is_letter letters is_plain
 plain_letter b h = plain_among letters b refl h
 
-not_so : (b : Bool) → not b ≡ true → b ≡ false
-not_so true h = cc h
-not_so false h = refl
-
 plain_byte : (b : ℕ) → is_plain b ≡ true → escape_byte b ≡ b ∷ []
 unfolding escape_byte is_plain
 plain_byte b plain =
@@ -67,8 +63,8 @@ plain_byte b plain =
     let high : 31 < b = ltb-true 31 b p.0 in
     let low : nat_lt b 32 ≡ false = grind (arith, high) in
     rw (
-      not_so (b == 34) q.0,
-      not_so (b == 92) q.1,
+      not-true (b == 34) q.0,
+      not-true (b == 92) q.1,
       ne_eqb b 8 (λ e. omega (arith, e, high)),
       ne_eqb b 12 (λ e. omega (arith, e, high)),
       ne_eqb b 10 (λ e. omega (arith, e, high)),
