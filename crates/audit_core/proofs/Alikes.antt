@@ -21,7 +21,7 @@ use Rattle.issuer_core.proofs.IssuedForgery.{is_there}
 use Rattle.marked_tree.specs.Paths.{Path, same_path}
 use Rattle.claim_tree.proofs.SamePaths.{path_refl, path_same}
 use Rattle.audit_core.specs.Audited.{Standing, same_kind, same_standing, IsEachAsOften}
-use Rattle.audit_core.specs.AuditSteps.{kind_text, standing_text}
+use Rattle.audit_core.specs.AuditSteps.{kind_letter, standing_text}
 
 -- ---- sorting moves texts
 
@@ -83,7 +83,7 @@ one_order (x ∷ xs) (y ∷ ys) r s same = go (cmp x y) refl (one_order xs ys r.
 
 -- ---- standings and their texts
 
-kind_same : (a b : SiteKind) (p q : Text) → kind_text a ++ p ≡ kind_text b ++ q → (same_kind a b ≡ true) × (p ≡ q)
+kind_same : (a b : SiteKind) (p q : Text) → kind_letter a ++ p ≡ kind_letter b ++ q → (same_kind a b ≡ true) × (p ≡ q)
 kind_same Member Member p q e = (refl, cc)
 kind_same Element Element p q e = (refl, cc)
 kind_same Member Element p q e = let n : ◌≡◌ {A = ℕ} 109 101 = cc in absurd (omega (arith, n))
@@ -98,7 +98,7 @@ kind_is Element Member e = let w : false ≡ true = e in cc
 text_same : (x y : Standing) → same_standing x y ≡ true → standing_text y ≡ standing_text x
 text_same x y e =
     let w = and_split (same_kind x.kind y.kind) (same_path x.at y.at) e in
-    ap₂ (λ (k : SiteKind) (p : Path). kind_text k ++ pointer_text p) (sym (kind_is x.kind y.kind w.0)) (sym (path_same x.at y.at w.1))
+    ap₂ (λ (k : SiteKind) (p : Path). kind_letter k ++ pointer_text p) (sym (kind_is x.kind y.kind w.0)) (sym (path_same x.at y.at w.1))
 
 same_text : (x y : Standing) → standing_text y ≡ standing_text x → same_standing x y ≡ true
 same_text x y e =

@@ -11,12 +11,12 @@ use Rattle.hmac_sign.specs.declared.alg.Alg.{Alg}
 use Rattle.json_form.specs.declared.token.Token.{Token}
 use Rattle.issuer_core.specs.Order.{Order}
 use Rattle.audit_core.specs.declared.asked.Asked.{Asked}
-use Rattle.audit_core.specs.Asked.{IsAsked}
+use Rattle.audit_core.specs.Asked.{IsAskedFor}
 use Rattle.audit_core.specs.Audit.{DiffersIn, signed_differs, written_differs, content_differs, ContentDiffers, claims_differ, digests_differ, decoys_differ, order_differs}
 use Rattle.audit_core.specs.Audited.{GivesSalted, IsSignedFor, IsWrittenFor}
 use Rattle.audit_core.specs.AuditSteps.{NamesHash, IsWrittenWith}
 
-pub written_for : (o : Order) (asked : Asked) (parts : Parts) (body : Tree) (given : List Given) → IsAsked o asked → IsWrittenWith asked.hash asked.hidden parts body given → IsWrittenFor o parts body given
+pub written_for : (o : Order) (asked : Asked) (parts : Parts) (body : Tree) (given : List Given) → IsAskedFor o asked → IsWrittenWith asked.hash asked.hidden parts body given → IsWrittenFor o parts body given
 written_for o asked parts body given is w = record {
   payload = w.payload;
   alg = subst (λ (h : HashAlg). NamesHash h body) is.hash w.alg;
@@ -24,7 +24,7 @@ written_for o asked parts body given is w = record {
   disclosures = subst (λ (h : HashAlg). AllZip (GivesSalted h) parts.disclosures given) is.hash w.disclosures;
 }
 
-pub written_with : (o : Order) (asked : Asked) (parts : Parts) (body : Tree) (given : List Given) → IsAsked o asked → IsWrittenFor o parts body given → IsWrittenWith asked.hash asked.hidden parts body given
+pub written_with : (o : Order) (asked : Asked) (parts : Parts) (body : Tree) (given : List Given) → IsAskedFor o asked → IsWrittenFor o parts body given → IsWrittenWith asked.hash asked.hidden parts body given
 written_with o asked parts body given is w = record {
   payload = w.payload;
   alg = subst (λ (h : HashAlg). NamesHash h body) (sym is.hash) w.alg;

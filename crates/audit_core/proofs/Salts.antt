@@ -16,7 +16,7 @@ use Rattle.b64url_text.proofs.Texts.{AreBytes-text, b64_utf8}
 use Rattle.b64url_text.proofs.Lengths.{length-b64}
 use Rattle.claim_tree.specs.Tree.{Text, Tree, leaf, text, array}
 use Rattle.claim_tree.specs.JsonText.{Reads, json_text}
-use Rattle.claim_tree.specs.ListTails.{listed}
+use Rattle.claim_tree.specs.ListTails.{short_list}
 use Rattle.disclosure.specs.Disclosure.{array_of}
 use Rattle.disclosure.proofs.Arrays.{array_of-listed}
 use Rattle.audit_core.specs.Audited.{IsSaltedText}
@@ -125,7 +125,7 @@ pub salt_within : (json : Text) → IsSalt (take 22 (drop 2 json)) → 24 ≤ le
 salt_within json s = omega (arith, salt_length _ s, length-take 22 (drop 2 json), length-drop 2 json)
 
 -- the text of a list is that of a disclosure
-pub listed_text : (written first salt : Text) (second name : Option Text) (value : Tree) → written ≡ json_text (array (listed first second value)) → first ≡ salt → second ≡ name → written ≡ json_text (array_of (leaf (text salt)) name value)
+pub listed_text : (written first salt : Text) (second name : Option Text) (value : Tree) → written ≡ json_text (array (short_list first second value)) → first ≡ salt → second ≡ name → written ≡ json_text (array_of (leaf (text salt)) name value)
 listed_text written first salt second name value is f s =
     is ∙ ap json_text (array_of-listed first second value) ∙ ap (λ x. json_text (array_of (leaf (text x)) second value)) f ∙ ap (λ n. json_text (array_of (leaf (text salt)) n value)) s
 
@@ -134,8 +134,8 @@ pub coded : (disclosure json written : Text) (name : Option Text) (value : Tree)
 coded disclosure json written name value d w is utf8 = one_code disclosure json written d (record { fit = AreBytes-text written utf8; spelling = w.written.written ∙ ap b64 (sym is) })
 
 -- and the other way round
-pub salted_text : (disclosure json written salt : Text) (second name : Option Text) (value : Tree) → Decodes disclosure json → IsSalt salt → second ≡ name → json ≡ written → written ≡ json_text (array (listed salt second value))
-    → Reads written (array (listed salt second value)) → IsSaltedText disclosure name value
+pub salted_text : (disclosure json written salt : Text) (second name : Option Text) (value : Tree) → Decodes disclosure json → IsSalt salt → second ≡ name → json ≡ written → written ≡ json_text (array (short_list salt second value))
+    → Reads written (array (short_list salt second value)) → IsSaltedText disclosure name value
 salted_text disclosure json written salt second name value d s same is text_is reads =
     let list = array_of-listed salt second value ∙ ap (λ n. array_of (leaf (text salt)) n value) same in
     record {

@@ -24,7 +24,7 @@ use Rattle.disclosure.proofs.Arrays.{array_of-injective}
 use Rattle.jws_part.proofs.Parts.{one_carried}
 use Rattle.rebuild_core.specs.Payload.{without_alg}
 use Rattle.compact_form.specs.declared.parts.Parts.{Parts}
-use Rattle.audit_core.specs.AuditCalls.{IsAuditRefused, IsEarly}
+use Rattle.audit_core.specs.AuditCalls.{IsAuditRefused, IsBeforeOpening}
 use Rattle.audit_core.specs.AuditSteps.{IsWrittenWith, OnPart, OnOrderRefused}
 
 pub passes_of : {T E P : Type 0} (r : Result T E) → ((x : E) → r ≡ Err x → ⊥) → OnOk r P → P
@@ -52,11 +52,11 @@ part_told o alg accepts content token passes is (Part k) h = of_part token k pas
 
 -- what refuses a token of an order that is not refused before anything is looked up
 pub early_part : (o : Order) (alg : Alg) (accepts : Meaning) (content : Text) (token : Token) → NoneApplies (AppliesToOrder o) → IsToken content token
-    → (same : Type 0) → ((k : ℕ) → k ≤ 2 → DiffersIn o alg accepts token k → same) → (e : AuditError) → IsEarly e → FailsAudit o alg accepts content e → same
+    → (same : Type 0) → ((k : ℕ) → k ≤ 2 → DiffersIn o alg accepts token k → same) → (e : AuditError) → IsBeforeOpening e → FailsAudit o alg accepts content e → same
 early_part o alg accepts content token passes is same f e early (of_order refusal lowest at) = absurd (passes refusal lowest.applies)
 early_part o alg accepts content token passes is same f e early (of_text fault none refused at) = absurd (not_both content token fault is refused)
 early_part o alg accepts content token passes is same f e early (of_part other k none read differs at) =
-    f k (subst IsEarly at early) (subst (λ t. DiffersIn o alg accepts t k) (one_token content other token read is) differs)
+    f k (subst IsBeforeOpening at early) (subst (λ t. DiffersIn o alg accepts t k) (one_token content other token read is) differs)
 
 -- ---- one verdict
 

@@ -23,7 +23,7 @@ use Rattle.claim_tree.proofs.SamePaths.{path_same, path_refl}
 use Rattle.issuer_core.specs.declared.order.Decoy.{Decoy}
 use Rattle.issuer_core.specs.Decoys.{decoy_paths, earlier}
 use Rattle.audit_core.specs.Audited.{Standing, standing, decoy_standing, standings_from}
-use Rattle.audit_core.specs.AuditSteps.{kind_text, standing_text}
+use Rattle.audit_core.specs.AuditSteps.{kind_letter, standing_text}
 use Rattle.audit_core.specs.Wanted.{count_at, member_texts, element_texts, entry_texts}
 use Rattle.audit_core.proofs.Loops.{IsEntry}
 
@@ -145,11 +145,11 @@ plain_decimal n fits = decimal_by_steps (λ k ds. escaped ds ≡ ds) digit more 
     more : (k : ℕ) (ds : List ℕ) → 10 ≤ k → escaped ds ≡ ds → escaped (ds ++ ((48 + k % 10) ∷ [])) ≡ ds ++ ((48 + k % 10) ∷ [])
     more k ds big ih = flat_map-append escaped_byte ds ((48 + k % 10) ∷ []) ∙ ap₂ (λ (xs ys : List ℕ). xs ++ ys) ih (digit (k % 10) (mod-lt k (omega arith)))
 
-pub element_place : (at : Path) (pointer : Text) (n : ℕ) → n < 2 ^ 64 → pointer ≡ pointer_text at → ((kind_text Element ++ pointer) ++ codes "/") ++ decimal n ≡ standing_text (standing Element (at ++ decimal n ∷ []))
+pub element_place : (at : Path) (pointer : Text) (n : ℕ) → n < 2 ^ 64 → pointer ≡ pointer_text at → ((kind_letter Element ++ pointer) ++ codes "/") ++ decimal n ≡ standing_text (standing Element (at ++ decimal n ∷ []))
 element_place at pointer n fits is =
     let step : pointer_text (decimal n ∷ []) ≡ codes "/" ++ decimal n = append-nil (codes "/" ++ escaped (decimal n)) ∙ ap (λ (x : List ℕ). codes "/" ++ x) (plain_decimal n fits) in
-    append_assoc (kind_text Element ++ pointer) (codes "/") (decimal n) ∙ append_assoc (kind_text Element) pointer (codes "/" ++ decimal n)
-    ∙ ap (λ (x : Text). kind_text Element ++ x)
+    append_assoc (kind_letter Element ++ pointer) (codes "/") (decimal n) ∙ append_assoc (kind_letter Element) pointer (codes "/" ++ decimal n)
+    ∙ ap (λ (x : Text). kind_letter Element ++ x)
     (ap₂ (λ (x y : Text). x ++ y) is (sym step) ∙ sym (flat_map-append (λ (s : Text). codes "/" ++ escaped s) at (decimal n ∷ [])))
 
 -- ---- the counts in a map

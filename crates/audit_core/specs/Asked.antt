@@ -10,7 +10,7 @@ use Rattle.audit_core.specs.AuditSteps.{standing_text}
 use Rattle.audit_core.specs.declared.asked.Asked.{Asked}
 
 -- the order asks for this
-pub record IsAsked (o : Order) (asked : Asked) : Type 0 where
+pub record IsAskedFor (o : Order) (asked : Asked) : Type 0 where
   pub claims : marked_of asked.claims ≡ marked_claims o
   pub hidden : asked.hidden ≡ hidden_of o
   pub hash : asked.hash ≡ o.hash

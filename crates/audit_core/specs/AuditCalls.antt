@@ -20,11 +20,11 @@ IsAuditRefused o alg accepts content Memory = Unit {0}
 IsAuditRefused o alg accepts content error = FailsAudit o alg accepts content error
 
 -- what refuses a text before anything is looked up
-abbrev pub IsEarly : AuditError → Type 0
-IsEarly Memory = ⊥
-IsEarly (OnOrder k) = Unit {0}
-IsEarly (OnCondition fault) = Unit {0}
-IsEarly (Part k) = k ≤ 2
+abbrev pub IsBeforeOpening : AuditError → Type 0
+IsBeforeOpening Memory = ⊥
+IsBeforeOpening (OnOrder k) = Unit {0}
+IsBeforeOpening (OnCondition fault) = Unit {0}
+IsBeforeOpening (Part k) = k ≤ 2
 
 -- the look-ups: none, or no more than those of the token's own payload and disclosures
 abbrev pub IsAuditedWithin : Order → Text → ℕ → ℕ → Type 0

@@ -75,9 +75,9 @@ OnOrderRefused (Part k) o = ⊥
 -- ---- places of decoys
 
 -- where a digest stands, as one text
-abbrev pub kind_text : SiteKind → Text
-kind_text Member = codes "m"
-kind_text Element = codes "e"
+abbrev pub kind_letter : SiteKind → Text
+kind_letter Member = codes "m"
+kind_letter Element = codes "e"
 
 abbrev pub standing_text : Standing → Text
-standing_text x = kind_text x.kind ++ pointer_text x.at
+standing_text x = kind_letter x.kind ++ pointer_text x.at

@@ -7,7 +7,7 @@ ghost use Rattle.compact_form.specs.Lowest.{NoneApplies};
 ghost use Rattle.issuer_core.specs.Decoys.{decoys_of};
 ghost use Rattle.issuer_core.specs.Order.{order_of};
 ghost use Rattle.issuer_core.specs.OrderRefusals.{AppliesToOrder};
-ghost use Rattle.audit_core.specs.Asked.{IsAsked};
+ghost use Rattle.audit_core.specs.Asked.{IsAskedFor};
 
 use crate::wanted::wanted_standings;
 use disclosure::HashAlg;
@@ -44,7 +44,7 @@ fn decoy_count(order: &Order) -> usize
 pub(crate) fn asked_of(alloc: Global, order: Order) -> Result<Asked, NoMemory>
     requires depth { depth_of (tree_of order.payload) ≤ 127 }
     requires passes { NoneApplies (AppliesToOrder (order_of order)) }
-    ensures asked { IfOk result (IsAsked (order_of order)) }
+    ensures asked { IfOk result (IsAskedFor (order_of order)) }
     ensures hidden { IfOk result (λ asked. asked.hidden ≤ count_max) }
     ensures decoys { IfOk result (λ asked. asked.decoys ≤ count_max) }
 {

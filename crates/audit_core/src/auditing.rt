@@ -13,10 +13,10 @@ ghost use Rattle.issuer_core.specs.JudgeCalls.{IsOrderRefused};
 ghost use Rattle.issuer_core.specs.Order.{Order as SeenOrder, order_of};
 ghost use Rattle.issuer_core.specs.OrderRefusals.{AppliesToOrder};
 ghost use Rattle.audit_core.specs.declared.errors.AuditError.{AuditError as SeenError};
-ghost use Rattle.audit_core.specs.Asked.{IsAsked};
+ghost use Rattle.audit_core.specs.Asked.{IsAskedFor};
 ghost use Rattle.audit_core.specs.Audited.{IsAudited, IsAuditedFor, ShowsClaims, HasDigests, HasDecoys};
 ghost use Rattle.audit_core.specs.Audit.{PassesAudit, FailsAudit, DiffersIn, ContentDiffers};
-ghost use Rattle.audit_core.specs.AuditCalls.{IsAuditRefused, IsAuditedWithin, IsEarly};
+ghost use Rattle.audit_core.specs.AuditCalls.{IsAuditRefused, IsAuditedWithin, IsBeforeOpening};
 ghost use Rattle.audit_core.specs.AuditSteps.{IsTokenWithin, IsWrittenWith, OnOrderRefused, OnPart};
 ghost use Rattle.audit_core.specs.Found.{AreCounted};
 
@@ -75,8 +75,8 @@ fn judge_others(
     longest: usize,
 ) -> Result<(), AuditError>
     requires { length given.now ≡ asked.now.hidden }
-    ensures hold { OnOk result ((o : SeenOrder) → IsAsked o asked.now → AreCounted o (tree_of payload.now) given.now → HasDigests o (tree_of payload.now) given.now × HasDecoys o (tree_of payload.now) given.now) }
-    ensures differs { IfErr result (λ e. (o : SeenOrder) → IsAsked o asked.now → AreCounted o (tree_of payload.now) given.now → OnPart e (ContentDiffers o (tree_of payload.now) given.now)) }
+    ensures hold { OnOk result ((o : SeenOrder) → IsAskedFor o asked.now → AreCounted o (tree_of payload.now) given.now → HasDigests o (tree_of payload.now) given.now × HasDecoys o (tree_of payload.now) given.now) }
+    ensures differs { IfErr result (λ e. (o : SeenOrder) → IsAskedFor o asked.now → AreCounted o (tree_of payload.now) given.now → OnPart e (ContentDiffers o (tree_of payload.now) given.now)) }
 {
     if asked.decoys == 0 {
         return Ok(());
@@ -104,8 +104,8 @@ fn judge_digests(
     requires count { length given.now ≡ asked.now.hidden }
     requires few { length given.now ≤ count_max }
     requires decoys { asked.now.decoys ≤ count_max }
-    ensures audited { OnOk result ((o : SeenOrder) → IsAsked o asked.now → ShowsClaims o (tree_of payload.now) given.now → IsAuditedFor o (tree_of payload.now) given.now) }
-    ensures differs { IfErr result (λ e. (o : SeenOrder) → IsAsked o asked.now → ShowsClaims o (tree_of payload.now) given.now → OnPart e (ContentDiffers o (tree_of payload.now) given.now)) }
+    ensures audited { OnOk result ((o : SeenOrder) → IsAskedFor o asked.now → ShowsClaims o (tree_of payload.now) given.now → IsAuditedFor o (tree_of payload.now) given.now) }
+    ensures differs { IfErr result (λ e. (o : SeenOrder) → IsAskedFor o asked.now → ShowsClaims o (tree_of payload.now) given.now → OnPart e (ContentDiffers o (tree_of payload.now) given.now)) }
 {
     if !are_so_many(payload, given, given.len() + asked.decoys) {
         return Err(differs(Part::Digests));
@@ -123,8 +123,8 @@ fn judge_digests(
 fn judge_again(alloc: Global, asked: &Asked, token: &TokenView<'_>) -> Result<(), AuditError>
     requires few { asked.now.hidden ≤ count_max }
     requires decoys { asked.now.decoys ≤ count_max }
-    ensures audited { OnOk result ((o : SeenOrder) (body : SeenTree) (given : List SeenGiven) → IsAsked o asked.now → IsWrittenWith asked.now.hash asked.now.hidden token.now.parts body given → ShowsClaims o (without_alg_of body) given → IsAuditedFor o (without_alg_of body) given) }
-    ensures differs { IfErr result (λ e. (o : SeenOrder) (body : SeenTree) (given : List SeenGiven) → IsAsked o asked.now → IsWrittenWith asked.now.hash asked.now.hidden token.now.parts body given → ShowsClaims o (without_alg_of body) given → OnPart e (ContentDiffers o (without_alg_of body) given)) }
+    ensures audited { OnOk result ((o : SeenOrder) (body : SeenTree) (given : List SeenGiven) → IsAskedFor o asked.now → IsWrittenWith asked.now.hash asked.now.hidden token.now.parts body given → ShowsClaims o (without_alg_of body) given → IsAuditedFor o (without_alg_of body) given) }
+    ensures differs { IfErr result (λ e. (o : SeenOrder) (body : SeenTree) (given : List SeenGiven) → IsAskedFor o asked.now → IsWrittenWith asked.now.hash asked.now.hidden token.now.parts body given → ShowsClaims o (without_alg_of body) given → OnPart e (ContentDiffers o (without_alg_of body) given)) }
 {
     match read_written(alloc, asked.hash, asked.hidden, token)? {
         Some(written) => {
@@ -164,8 +164,8 @@ fn judge_content(
     requires values_depth { ValuesShallow written.given }
     requires payload_range { IsRanged (tree_of written.body) }
     requires values_range { ValuesRanged written.given }
-    ensures audited { OnOk result ((o : SeenOrder) → IsAsked o asked.now → IsAuditedFor o (without_alg_of (tree_of written.body)) written.given) }
-    ensures differs { IfErr result (λ e. (o : SeenOrder) → IsAsked o asked.now → OnPart e (ContentDiffers o (without_alg_of (tree_of written.body)) written.given)) }
+    ensures audited { OnOk result ((o : SeenOrder) → IsAskedFor o asked.now → IsAuditedFor o (without_alg_of (tree_of written.body)) written.given) }
+    ensures differs { IfErr result (λ e. (o : SeenOrder) → IsAskedFor o asked.now → OnPart e (ContentDiffers o (without_alg_of (tree_of written.body)) written.given)) }
     ensures risen { RoseWithin (look_ups (without_alg_of (tree_of written.body)) written.given) steps.old steps.new }
 {
     let Written { body, given, seed } = written;
@@ -223,7 +223,7 @@ pub(crate) fn audit_owned<K: Checker>(
 
     // the look-ups
     ensures within { IsAuditedWithin (order_of order) text.now steps.old steps.new }
-    ensures uncounted { (error : SeenError) → IsEarly error → FailsAudit (order_of order) alg (K.good checker.now) text.now error → steps.new ≡ steps.old }
+    ensures uncounted { (error : SeenError) → IsBeforeOpening error → FailsAudit (order_of order) alg (K.good checker.now) text.now error → steps.new ≡ steps.old }
 {
     if let Err(error) = judge_order(alloc, &order) {
         return Err(error);
@@ -256,7 +256,7 @@ pub fn audit<K: Checker>(
 
     // the look-ups
     ensures within { IsAuditedWithin (order_of order.now) text.now steps.old steps.new }
-    ensures uncounted { (error : SeenError) → IsEarly error → FailsAudit (order_of order.now) alg (K.good checker.now) text.now error → steps.new ≡ steps.old }
+    ensures uncounted { (error : SeenError) → IsBeforeOpening error → FailsAudit (order_of order.now) alg (K.good checker.now) text.now error → steps.new ≡ steps.old }
 {
     let owned = order.copy(alloc)?;
     audit_owned(alloc, owned, alg, checker, text, steps)

@@ -2,7 +2,7 @@
 ghost use Rattle.std.specs.Prelude.{◌≡◌, ◌++◌, ◌↔◌, IfOk, IsTrue, string_bytes};
 ghost use Rattle.claim_tree.specs.Path.{pointer_text};
 ghost use Rattle.issuer_core.specs.Laid.{sorted};
-ghost use Rattle.audit_core.specs.AuditSteps.{kind_text};
+ghost use Rattle.audit_core.specs.AuditSteps.{kind_letter};
 
 use claim_tree::{Path, print_path};
 use digest_sites::SiteKind;
@@ -13,7 +13,7 @@ use std::alloc::Global;
 const ROOM: usize = 22;
 
 fn kind_letter(kind: SiteKind) -> &'static str
-    ensures { result.now ≡ kind_text kind }
+    ensures { result.now ≡ kind_letter kind }
 {
     match kind {
         SiteKind::Member => "m",
@@ -23,7 +23,7 @@ fn kind_letter(kind: SiteKind) -> &'static str
 
 // The kind, and then the pointer, with room for a position behind it.
 pub(crate) fn with_kind(alloc: Global, kind: SiteKind, pointer: &str) -> Result<String, NoMemory>
-    ensures { IfOk result (λ text. string_bytes text ≡ kind_text kind ++ pointer.now) }
+    ensures { IfOk result (λ text. string_bytes text ≡ kind_letter kind ++ pointer.now) }
 {
     let mut text = String::with_capacity(alloc, pointer.len().saturating_add(ROOM))?;
     text.push_str(kind_letter(kind))?;
@@ -33,7 +33,7 @@ pub(crate) fn with_kind(alloc: Global, kind: SiteKind, pointer: &str) -> Result<
 
 // The kind of the site, and then the pointer of where it stands.
 pub(crate) fn standing_of(alloc: Global, kind: SiteKind, at: &Path) -> Result<TextBox, NoMemory>
-    ensures { IfOk result (λ text. text ≡ kind_text kind ++ pointer_text at.now) }
+    ensures { IfOk result (λ text. text ≡ kind_letter kind ++ pointer_text at.now) }
 {
     let pointer = print_path(alloc, at)?;
     Ok(TextBox::from_string(with_kind(alloc, kind, pointer.as_str())?))

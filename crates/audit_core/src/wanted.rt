@@ -9,7 +9,7 @@ ghost use Rattle.marked_tree.specs.Paths.{Path};
 ghost use Rattle.issuer_core.specs.Order.{order_of};
 ghost use Rattle.issuer_core.specs.Decoys.{decoys_of};
 ghost use Rattle.audit_core.specs.Audited.{decoys_wanted, standing};
-ghost use Rattle.audit_core.specs.AuditSteps.{kind_text, standing_text};
+ghost use Rattle.audit_core.specs.AuditSteps.{kind_letter, standing_text};
 ghost use Rattle.audit_core.specs.Wanted.{count_at, entry_texts, element_texts};
 
 use crate::standing::with_kind;
@@ -55,7 +55,7 @@ fn push_members(
     count: u32,
     wanted: &mut Vec<TextBox>,
 ) -> Result<(), NoMemory>
-    ensures { OnOk result (wanted.new.items ≡ wanted.old.items ++ replicate count (kind_text Member ++ pointer.now)) }
+    ensures { OnOk result (wanted.new.items ≡ wanted.old.items ++ replicate count (kind_letter Member ++ pointer.now)) }
 {
     for _ in 0..count {
         let text = with_kind(alloc, SiteKind::Member, pointer)?;

@@ -9,7 +9,7 @@ use Rattle.serde_json.specs.Data.{Data, array, string, item, Items, no_items}
 use Rattle.serde_json.specs.Read.{of_json, of_items, converted, read}
 use Rattle.claim_tree.specs.Tree as tree
 use Rattle.claim_tree.specs.Tree.{Text, Tree, depth, IsRanged, IsOrdered}
-use Rattle.claim_tree.specs.ListTails.{listed}
+use Rattle.claim_tree.specs.ListTails.{short_list}
 use Rattle.claim_tree.specs.Begun.{begun}
 use Rattle.claim_tree.proofs.TreeTokens.{tree_tokens}
 use Rattle.claim_tree.proofs.TreeReading.{converted_some, converted-array, item_read, items_over}
@@ -40,18 +40,18 @@ tail_read text first ts ds is tail =
 
 -- ---- such a list is written
 
-pub listed_tokens : (first : Text) (second : Option Text) (t : Tree) → begun first second ++ (tree_tokens t ++ Token.end_array ∷ []) ≡ tree_tokens (tree.array (listed first second t))
+pub listed_tokens : (first : Text) (second : Option Text) (t : Tree) → begun first second ++ (tree_tokens t ++ Token.end_array ∷ []) ≡ tree_tokens (tree.array (short_list first second t))
 listed_tokens first None t = refl
 listed_tokens first (Some second) t = refl
 
-pub listed_ranged : (first : Text) (second : Option Text) (t : Tree) → IsRanged t → IsRanged (tree.array (listed first second t))
+pub listed_ranged : (first : Text) (second : Option Text) (t : Tree) → IsRanged t → IsRanged (tree.array (short_list first second t))
 listed_ranged first None t r = (tt, (r, tt))
 listed_ranged first (Some second) t r = (tt, (tt, (r, tt)))
 
-pub listed_ordered : (first : Text) (second : Option Text) (t : Tree) → IsOrdered t → IsOrdered (tree.array (listed first second t))
+pub listed_ordered : (first : Text) (second : Option Text) (t : Tree) → IsOrdered t → IsOrdered (tree.array (short_list first second t))
 listed_ordered first None t o = (tt, (o, tt))
 listed_ordered first (Some second) t o = (tt, (tt, (o, tt)))
 
-pub listed_shallow : (first : Text) (second : Option Text) (t : Tree) → depth t ≤ 126 → depth (tree.array (listed first second t)) ≤ 127
+pub listed_shallow : (first : Text) (second : Option Text) (t : Tree) → depth t ≤ 126 → depth (tree.array (short_list first second t)) ≤ 127
 listed_shallow first None t low = omega (arith, low)
 listed_shallow first (Some second) t low = omega (arith, low)

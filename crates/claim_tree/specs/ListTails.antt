@@ -18,9 +18,9 @@ abbrev pub tail_elements : ListTail → Elements
 tail_elements tail = element (tree_of tail.second) (third_element tail.third)
 
 -- what is kept of what a text reads to
-abbrev pub kept : TailOrTree → spec.Tree
-kept (TailOrTree.Tail tail) = array (tail_elements tail)
-kept (TailOrTree.Tree t) = tree_of t
+abbrev pub kept_tree : TailOrTree → spec.Tree
+kept_tree (TailOrTree.Tail tail) = array (tail_elements tail)
+kept_tree (TailOrTree.Tree t) = tree_of t
 
 -- the text reads to this, or to the list of some text and these
 abbrev pub ReadsTail : Text → TailOrTree → Type 0
@@ -28,6 +28,6 @@ ReadsTail bytes (TailOrTree.Tail tail) = (first : Text) × Reads bytes (array (e
 ReadsTail bytes (TailOrTree.Tree t) = Reads bytes (tree_of t)
 
 -- the elements of a list: a text, another where there is one, and a tree
-abbrev pub listed : Text → Option Text → spec.Tree → Elements
-listed first None last = element (leaf (text first)) (element last no_elements)
-listed first (Some second) last = element (leaf (text first)) (element (leaf (text second)) (element last no_elements))
+abbrev pub short_list : Text → Option Text → spec.Tree → Elements
+short_list first None last = element (leaf (text first)) (element last no_elements)
+short_list first (Some second) last = element (leaf (text first)) (element (leaf (text second)) (element last no_elements))

@@ -6,7 +6,7 @@ ghost use Rattle.claim_tree.specs.Tree.{IsRanged, IsOrdered, depth as depth_of, 
 ghost use Rattle.claim_tree.specs.View.{tree_of};
 ghost use Rattle.claim_tree.specs.JsonText.{Reads, data_of, json_text};
 ghost use Rattle.claim_tree.specs.JsonRefusals.{IsReadRefused};
-ghost use Rattle.claim_tree.specs.ListTails.{ReadsTail, kept, listed};
+ghost use Rattle.claim_tree.specs.ListTails.{ReadsTail, kept_tree, short_list};
 
 use crate::build::{BuildError, build_text};
 use crate::convert::{TakeError, take};
@@ -67,9 +67,9 @@ impl JsonReader {
     /// The same, but the text that a list of two or three begins with is read and not kept.
     pub fn read_tail(&mut self, alloc: Global, bytes: &[u8]) -> Result<TailOrTree, ReadError>
         ensures ok { IfOk result (ReadsTail bytes.now) }
-        ensures ranged { IfOk result (λ found. IsRanged (kept found)) }
-        ensures ordered { IfOk result (λ found. IsOrdered (kept found)) }
-        ensures depth { IfOk result (λ found. depth_of (kept found) ≤ 127) }
+        ensures ranged { IfOk result (λ found. IsRanged (kept_tree found)) }
+        ensures ordered { IfOk result (λ found. IsOrdered (kept_tree found)) }
+        ensures depth { IfOk result (λ found. depth_of (kept_tree found) ≤ 127) }
         ensures unread { IfErr result (IsReadRefused bytes.now) }
     {
         let Ok(text) = str::from_utf8(bytes) else {
@@ -160,8 +160,8 @@ pub fn write_list(
     last: &Tree,
 ) -> Result<TextBox, NoMemory>
     requires { IsRanged (tree_of last.now) }
-    ensures ok { IfOk result (λ text. text ≡ json_text (array (listed first.now (option_map (λ s. s.now) second.entry) (tree_of last.now)))) }
-    ensures back { depth_of (tree_of last.now) ≤ 126 → IfOk result (λ text. Reads text (array (listed first.now (option_map (λ s. s.now) second.entry) (tree_of last.now)))) }
+    ensures ok { IfOk result (λ text. text ≡ json_text (array (short_list first.now (option_map (λ s. s.now) second.entry) (tree_of last.now)))) }
+    ensures back { depth_of (tree_of last.now) ≤ 126 → IfOk result (λ text. Reads text (array (short_list first.now (option_map (λ s. s.now) second.entry) (tree_of last.now)))) }
 {
     is_ordered(last);
     let mut out = new_writer(alloc)?;

@@ -1,10 +1,10 @@
 -- The list of a salt, a name and a value.
 use Rattle.std.proofs.Common.{◌≡◌, ◌≤◌, Option, Some, None, refl, sym, ap, arith}
 use Rattle.claim_tree.specs.Tree.{Text, text, Tree, leaf, array, Elements, element, no_elements, depth, IsRanged}
-use Rattle.claim_tree.specs.ListTails.{listed}
+use Rattle.claim_tree.specs.ListTails.{short_list}
 use Rattle.disclosure.specs.Disclosure.{array_of}
 
-pub array_of-listed : (salt : Text) (name : Option Text) (value : Tree) → array (listed salt name value) ≡ array_of (leaf (text salt)) name value
+pub array_of-listed : (salt : Text) (name : Option Text) (value : Tree) → array (short_list salt name value) ≡ array_of (leaf (text salt)) name value
 array_of-listed salt (Some name) value = refl
 array_of-listed salt None value = refl
 

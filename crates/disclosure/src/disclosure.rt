@@ -1,6 +1,6 @@
 ghost use Rattle.std.specs.Prelude.{◌≡◌, ◌≤◌, length, take, IfOk, IfErr, IfSome, IfNone, Option, option_map};
 ghost use Rattle.b64url_text.specs.Base64url.{Decodes};
-ghost use Rattle.claim_tree.specs.ListTails.{ReadsTail, kept, tail_elements};
+ghost use Rattle.claim_tree.specs.ListTails.{ReadsTail, kept_tree, tail_elements};
 ghost use Rattle.claim_tree.specs.JsonText.{Reads};
 ghost use Rattle.claim_tree.specs.Tree.{Text, Tree as TreeSpec, IsRanged, IsOrdered, depth, leaf, text as text_leaf, array, element};
 ghost use Rattle.claim_tree.specs.View.{tree_of};
@@ -105,8 +105,8 @@ fn given_by(tail: ListTail) -> Option<Disclosed>
 
 /// What a disclosure gives whose JSON reads to this, which is moved out of it. None where it is no disclosure.
 pub fn disclosed_by(found: TailOrTree) -> Option<Disclosed>
-    requires ranged { IsRanged (kept found) }
-    requires depth { depth (kept found) ≤ 127 }
+    requires ranged { IsRanged (kept_tree found) }
+    requires depth { depth (kept_tree found) ≤ 127 }
     ensures given { IfSome result (λ d. (json : Text) → ReadsTail json found → (salt : TreeSpec) × Reads json (array_of salt d.name (tree_of d.value))) }
     ensures ranged { IfSome result (λ d. IsRanged (tree_of d.value)) }
     ensures depth { IfSome result (λ d. depth (tree_of d.value) ≤ 126) }

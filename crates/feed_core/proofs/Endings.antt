@@ -9,7 +9,7 @@ use Rattle.sd_outside.specs.Limits.{file_max}
 use Rattle.verifier_core.specs.declared.policy.Policy.{Policy}
 use Rattle.feed_core.specs.Cut.{IsOneLine, last_line}
 use Rattle.feed_core.specs.FeedVerdict.{TellsVerdicts}
-use Rattle.feed_core.specs.Feed.{FeedState, taking, kept, Takes, TellsFront, count_line}
+use Rattle.feed_core.specs.Feed.{FeedState, taking, kept_line, Takes, TellsFront, end_line}
 use Rattle.feed_core.specs.FeedCalls.{TakesFront, IsEnded, count_at_end}
 use Rattle.feed_core.proofs.Cuts.{all_take, cut_of}
 use Rattle.feed_core.proofs.Fronts.{prefix_after, front_none, front_all}
@@ -21,20 +21,20 @@ pub record ToldLast (before : FeedState) (last : ℕ) (a b : Option (List ℕ)) 
   pub written : Appends a b text
   pub last_is : last ≡ length (last_line before.rest)
 
-pub ended_front : (before : FeedState) (last : ℕ) (a b c : Option (List ℕ)) → ToldLast before last a b → AppendsPrefix b c (count_line (before.count + last))
-    → TellsFront before.policy before.now (last_line before.rest) (count_line (count_at_end before)) a c
+pub ended_front : (before : FeedState) (last : ℕ) (a b c : Option (List ℕ)) → ToldLast before last a b → AppendsPrefix b c (end_line (before.count + last))
+    → TellsFront before.policy before.now (last_line before.rest) (end_line (count_at_end before)) a c
 ended_front before last a b c is part =
-    let P : ℕ → Type 0 = λ n. AppendsPrefix b c (count_line (before.count + n)) in
-    front_all before.policy before.now (last_line before.rest) is.text (count_line (count_at_end before)) a c is.told
-    (prefix_after a b c is.text (count_line (count_at_end before)) is.written (subst P is.last_is part))
+    let P : ℕ → Type 0 = λ n. AppendsPrefix b c (end_line (before.count + n)) in
+    front_all before.policy before.now (last_line before.rest) is.text (end_line (count_at_end before)) a c is.told
+    (prefix_after a b c is.text (end_line (count_at_end before)) is.written (subst P is.last_is part))
 
-pub ended_all : (before : FeedState) (last : ℕ) (a b c : Option (List ℕ)) → ToldLast before last a b → Appends b c (count_line (before.count + last))
+pub ended_all : (before : FeedState) (last : ℕ) (a b c : Option (List ℕ)) → ToldLast before last a b → Appends b c (end_line (before.count + last))
     → (text : List ℕ) × IsEnded before text × Appends a c text
 ended_all before last a b c is whole =
-    let P : ℕ → Type 0 = λ n. Appends b c (count_line (before.count + n)) in (
-      is.text ++ count_line (count_at_end before),
+    let P : ℕ → Type 0 = λ n. Appends b c (end_line (before.count + n)) in (
+      is.text ++ end_line (count_at_end before),
       record { verdict = is.text; told = is.told; text_is = refl },
-      Appends-trans a b c is.text (count_line (count_at_end before)) is.written (subst P is.last_is whole),
+      Appends-trans a b c is.text (end_line (count_at_end before)) is.written (subst P is.last_is whole),
     )
 
 -- nothing was taken

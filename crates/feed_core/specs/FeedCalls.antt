@@ -3,7 +3,7 @@ use Rattle.std.specs.Prelude.{◌≡◌, ◌+◌, ℕ, List, [], ◌++◌, Optio
 use Rattle.verifier_core.specs.declared.policy.Policy.{Policy}
 use Rattle.feed_core.specs.Cut.{IsCut, last_line}
 use Rattle.feed_core.specs.FeedVerdict.{TellsVerdicts}
-use Rattle.feed_core.specs.Feed.{FeedState, taking, TellsFront, count_line}
+use Rattle.feed_core.specs.Feed.{FeedState, taking, TellsFront, end_line}
 
 abbrev pub new_feed : Policy → ℕ → FeedState
 new_feed policy now = taking policy now [] 0
@@ -23,4 +23,4 @@ count_at_end before = before.count + length (last_line before.rest)
 pub record IsEnded (before : FeedState) (text : List ℕ) : Type 0 where
   pub verdict : List ℕ
   pub told : TellsVerdicts before.policy before.now (last_line before.rest) verdict
-  pub text_is : text ≡ verdict ++ count_line (count_at_end before)
+  pub text_is : text ≡ verdict ++ end_line (count_at_end before)

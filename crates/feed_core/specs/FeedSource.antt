@@ -5,7 +5,7 @@ use Rattle.sd_outside.specs.Causes.{Rose}
 use Rattle.verifier_core.specs.declared.policy.Policy.{Policy}
 use Rattle.feed_core.specs.Cut.{IsCut, AreLines}
 use Rattle.feed_core.specs.FeedVerdict.{TellsVerdicts}
-use Rattle.feed_core.specs.Feed.{TellsFront, count_line}
+use Rattle.feed_core.specs.Feed.{TellsFront, end_line}
 
 -- the most bytes that a feed may be asked to take
 abbrev pub feed_max : ℕ
@@ -35,7 +35,7 @@ pub record FedAll (policy : Policy) (now most : ℕ) (before after : Input) (old
   pub lines_are : AreLines bytes lines
   pub text : List ℕ
   pub told : TellsVerdicts policy now lines text
-  pub written : Appends old new (text ++ count_line (length lines))
+  pub written : Appends old new (text ++ end_line (length lines))
 
 -- the lines that end in these bytes are told, and no more
 pub record ToldEnded (policy : Policy) (now : ℕ) (bytes : List ℕ) (old new : Option (List ℕ)) : Type 0 where
@@ -68,4 +68,4 @@ pub record FedFront (policy : Policy) (now most : ℕ) (before after : Input) (o
   pub within : length bytes ≤ most
   pub lines : List (List ℕ)
   pub lines_are : AreLines bytes lines
-  pub front : TellsFront policy now lines (count_line (length lines)) old new
+  pub front : TellsFront policy now lines (end_line (length lines)) old new

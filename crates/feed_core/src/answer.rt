@@ -4,7 +4,7 @@ ghost use Rattle.std.specs.Io.KnownBytes.{Appends};
 ghost use Rattle.sd_outside.specs.Causes.{Rose, AppendsPrefix};
 ghost use Rattle.feed_core.specs.FeedVerdict.{TellsVerdicts};
 ghost use Rattle.feed_core.specs.Cut.{last_line};
-ghost use Rattle.feed_core.specs.Feed.{TellsFront, count_line};
+ghost use Rattle.feed_core.specs.Feed.{TellsFront, end_line};
 
 use crate::FeedError;
 use crate::verdict_line::verdict_line;
@@ -80,8 +80,8 @@ pub(crate) fn answer_last<O: Sink>(
 
 // Writes how many lines there were.
 pub(crate) fn tell_count<O: Sink>(alloc: Global, count: u64, out: &mut O) -> Result<(), FeedError>
-    ensures told { OnOk result (Appends (O.written out.old) (O.written out.new) (count_line count)) }
-    ensures front { OnErr result (AppendsPrefix (O.written out.old) (O.written out.new) (count_line count)) }
+    ensures told { OnOk result (Appends (O.written out.old) (O.written out.new) (end_line count)) }
+    ensures front { OnErr result (AppendsPrefix (O.written out.old) (O.written out.new) (end_line count)) }
     ensures cause { IsErrOf result FeedError.Unwritten → Rose (O.faults out.old) (O.faults out.new) }
     ensures open { result ≢ Err FeedError.Over }
     ensures later { O.faults out.old ≤ O.faults out.new }

@@ -3,7 +3,7 @@ ghost use Rattle.std.specs.Prelude.{◌≡◌, ◌≢◌, ◌<◌, ◌≤◌, �
 ghost use Rattle.std.specs.Io.KnownBytes.{Appends, IsAtEnd};
 ghost use Rattle.sd_outside.specs.Causes.{Rose};
 ghost use Rattle.feed_core.specs.Cut.{last_line};
-ghost use Rattle.feed_core.specs.Feed.{Takes, TellsFront, count_line};
+ghost use Rattle.feed_core.specs.Feed.{Takes, TellsFront, end_line};
 ghost use Rattle.feed_core.specs.FeedCalls.{new_feed, TakesFront, IsEnded, count_at_end};
 ghost use Rattle.feed_core.specs.FeedSource.{input, feed_max, Gave, FedAll, FedLong, FedPart, FedFront};
 
@@ -85,7 +85,7 @@ fn end_feed<O: Sink>(feed: &mut Feed, out: &mut O) -> Result<(), Halt>
     requires open { feed.old.over ≡ false }
     requires countable { feed.old.count + 1 < 2 ^ 64 }
     ensures ends { OnOk result ((text : List ℕ) × IsEnded feed.old text × Appends (O.written out.old) (O.written out.new) text) }
-    ensures front { OnErr result (TellsFront feed.old.policy feed.old.now (last_line feed.old.rest) (count_line (count_at_end feed.old)) (O.written out.old) (O.written out.new)) }
+    ensures front { OnErr result (TellsFront feed.old.policy feed.old.now (last_line feed.old.rest) (end_line (count_at_end feed.old)) (O.written out.old) (O.written out.new)) }
     ensures cause { IsErrOf result Halt.Unwritten → Rose (O.faults out.old) (O.faults out.new) }
     ensures read { result ≢ Err Halt.Unread }
     ensures short { result ≢ Err Halt.TooLong }

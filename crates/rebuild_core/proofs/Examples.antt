@@ -11,7 +11,7 @@ use Rattle.rebuild_core.specs.Opening.{processed}
 use Rattle.rebuild_core.specs.Laws.{renumbered}
 use Rattle.rebuild_core.specs.Rows.{SeenRow, all_rows, row_ends}
 use Rattle.rebuild_core.specs.DigestNumbers.{numbers}
-use Rattle.rebuild_core.specs.Graph.{cut, is_in}
+use Rattle.rebuild_core.specs.Graph.{pieces_at, is_met_in}
 
 abbrev number : ℕ → Tree
 number n = leaf (whole (pos n))
@@ -82,8 +82,8 @@ ends_are = refl
 numbers_are : numbers (given_digests given) (codes "C" ∷ codes "Z" ∷ codes "B" ∷ codes "Z" ∷ []) ≡ 2 ∷ 3 ∷ 1 ∷ 3 ∷ []
 numbers_are = refl
 
-pieces_are : cut 0 (2 ∷ 3 ∷ 3 ∷ 3 ∷ []) (0 ∷ 1 ∷ 2 ∷ []) ≡ (0 ∷ 1 ∷ []) ∷ (2 ∷ []) ∷ [] ∷ [] ∷ []
+pieces_are : pieces_at 0 (2 ∷ 3 ∷ 3 ∷ 3 ∷ []) (0 ∷ 1 ∷ 2 ∷ []) ≡ (0 ∷ 1 ∷ []) ∷ (2 ∷ []) ∷ [] ∷ [] ∷ []
 pieces_are = refl
 
-reached_by_numbers : is_in (0 ∷ 1 ∷ []) ((2 ∷ []) ∷ [] ∷ [] ∷ []) 1 2 ≡ true
+reached_by_numbers : is_met_in (0 ∷ 1 ∷ []) ((2 ∷ []) ∷ [] ∷ [] ∷ []) 1 2 ≡ true
 reached_by_numbers = refl

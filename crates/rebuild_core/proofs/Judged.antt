@@ -14,7 +14,7 @@ use Rattle.claim_tree.proofs.Lists.{At-same, At-map, In-At, one_place}
 use Rattle.rebuild_core.specs.DigestNumbers.{numbers, all_interned, row_texts, AllAt, IsFlatList, IsNumbered}
 use Rattle.rebuild_core.specs.Answer.{IsPayload}
 use Rattle.rebuild_core.specs.declared.rows.Row.{Row}
-use Rattle.rebuild_core.specs.Graph.{roots_in, rows_in, is_in, flagged_rows, Recurs, IsClear}
+use Rattle.rebuild_core.specs.Graph.{roots_in, rows_in, is_met_in, flagged_rows, Recurs, IsClear}
 use Rattle.rebuild_core.proofs.Chains.{reached_all}
 use Rattle.rebuild_core.proofs.RowFacts.{all_row_texts, rows_looked_up}
 use Rattle.rebuild_core.proofs.Transfer.{length-all_at, graph_of_flat, IsGraph, Grows, grows_texts, numbers_stand, all_at, all_below, Apart, Reaches, met_stand, digest_recurs, recurs_digest, unreferenced_clear, clear_unreferenced}
@@ -76,7 +76,7 @@ module _ (p : Tree) (g : List Given) (ix : List Text) (roots : List ℕ) (rows :
   }
 
 pub judged : (t : Tree) (g : List Given) → IsOrdered t → IsPayload t → (ix : List Text) (ks ends : List ℕ) → IsFlatList t g ix ks ends → (n : ℕ) → n ≡ length g
-    → (flags fs : List Bool) → length flags ≡ n → ((k : ℕ) → k < n → get_or flags k false ≡ is_in (roots_in ends ks) (rows_in ends ks) n k) → fs ≡ flags
+    → (flags fs : List Bool) → length flags ≡ n → ((k : ℕ) → k < n → get_or flags k false ≡ is_met_in (roots_in ends ks) (rows_in ends ks) n k) → fs ≡ flags
     → IsJudged (without_alg t) g ix fs (roots_in ends ks ++ flagged_rows fs (rows_in ends ks))
 judged t g o is ix ks ends w n many flags fs few reaches same =
     let roots = roots_in ends ks in

@@ -16,7 +16,7 @@ use Rattle.rebuild_core.specs.Answer.{IsPayload}
 use Rattle.rebuild_core.specs.Readable.{IsReadable}
 use Rattle.rebuild_core.specs.Rows.{SeenRow, all_rows}
 use Rattle.rebuild_core.specs.DigestNumbers.{IsNumbered}
-use Rattle.rebuild_core.specs.RowNames.{IsWrongRow, IsReservedRow, IsReservedIn, StandsAtRow, given_name, Names, Clashes}
+use Rattle.rebuild_core.specs.RowNames.{IsWrongRow, IsReservedRow, IsReservedIn, StandsAtRow, given_name, NamesAt, Clashes}
 use Rattle.rebuild_core.proofs.Judged.{met_all}
 use Rattle.rebuild_core.proofs.RowFacts.{row_is_item}
 use Rattle.rebuild_core.proofs.SideBySide.{both_at}
@@ -110,14 +110,14 @@ module _ (t : Tree) (given : List Given) (numbers : List ℕ) (o : IsReadable t 
         (sym (alike b.0 m.0 b.2 m.1 b.3).0 ∙ c.0, c.1, c.2, in_reserved b.0 m.0 b.2 c.1 m.1 b.3 c.3),
       )
 
-  names_at : (q : ℕ) (m : OwnedSite) (r : SeenRow) (name : Text) → StandsAt (met (without_alg t) given) q m → StandsAt (all_rows t given) q r → Discloses given m name → Names (all_rows t given) numbers given q r name
+  names_at : (q : ℕ) (m : OwnedSite) (r : SeenRow) (name : Text) → StandsAt (met (without_alg t) given) q m → StandsAt (all_rows t given) q r → Discloses given m name → NamesAt (all_rows t given) numbers given q r name
   names_at q m r name a b d =
       let i = In-At given d.1 d.2 in
       let n = At-get numbers q (omega (arith, At-below (met (without_alg t) given) q m a, w.length)) in
       let e : n.0 ≡ i.0 = w.back q n.0 i.0 m d.1 n.1 a i.1 (sym d.3) in
       (b, i.0, subst (λ z. StandsAt numbers q z) e n.1, gives_name r.kind given i.0 d.1 name ((alike q m r a b).0 ∙ d.0) i.1 d.4)
 
-  discloses_at : (q : ℕ) (m : OwnedSite) (r : SeenRow) (name : Text) → StandsAt (met (without_alg t) given) q m → Names (all_rows t given) numbers given q r name → Discloses given m name
+  discloses_at : (q : ℕ) (m : OwnedSite) (r : SeenRow) (name : Text) → StandsAt (met (without_alg t) given) q m → NamesAt (all_rows t given) numbers given q r name → Discloses given m name
   discloses_at q m r name a n =
       let x = name_given r.kind given n.1 name n.3 in
       (sym (alike q m r a n.0).0 ∙ x.0, x.1, At-In given n.1 x.1 x.2, sym (w.same q n.1 m x.1 n.2 a x.2), x.3)

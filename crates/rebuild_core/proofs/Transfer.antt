@@ -14,7 +14,7 @@ use Rattle.rebuild_core.specs.Conditions.{RepeatedDigest, Unreferenced}
 use Rattle.claim_tree.proofs.Lists.{bytes_same, bytes_refl, At-left, At-same, At-below, At-In, At-get, one_place}
 use Rattle.digest_index.specs.Index.{position_or_end, interned}
 use Rattle.rebuild_core.specs.DigestNumbers.{numbers, all_interned, AllAt, IsFlatList}
-use Rattle.rebuild_core.specs.Graph.{cut, Ascends, roots_in, rows_in, has_number, any_row, is_in, flagged_rows, Recurs}
+use Rattle.rebuild_core.specs.Graph.{pieces_at, Ascends, roots_in, rows_in, has_number, any_row, is_met_in, flagged_rows, Recurs}
 use Rattle.digest_index.proofs.Places.{place_or_end-within}
 use Rattle.digest_index.proofs.Interned.{interned-new, interned-there}
 use Rattle.rebuild_core.specs.Payload.{without_alg}
@@ -159,12 +159,12 @@ module _ (ix : List Text) (ok : Apart ix) where
   any_stands p q i (row ∷ rows) [] k d r b h = elim r [ ]
 
   pub rounds_same : (p : Tree) (g : List Given) (roots : List ℕ) (rows : List (List ℕ)) → AllAt ix roots (digests (sites p)) → Rows ix rows g
-      → ((i : ℕ) (x : Given) → StandsAt g i x → StandsAt ix i x.digest) → (r k : ℕ) (d : Text) → StandsAt ix k d → is_in roots rows r k ≡ is_in_round p g r d
+      → ((i : ℕ) (x : Given) → StandsAt g i x → StandsAt ix i x.digest) → (r k : ℕ) (d : Text) → StandsAt ix k d → is_met_in roots rows r k ≡ is_in_round p g r d
   rounds_same p g roots rows a b h zero k d c = has_stands roots (sites p) k d a c
   rounds_same p g roots rows a b h (suc r) k d c =
       ap₂ (λ (x y : Bool). x || y) (rounds_same p g roots rows a b h r k d c)
-      (any_stands (is_in roots rows r) (is_in_round p g r) 0 rows g k d b c
-      (λ j x m. let e : 0 + j ≡ j = omega arith in ap (is_in roots rows r) e ∙ rounds_same p g roots rows a b h r j x.digest (h j x m)))
+      (any_stands (is_met_in roots rows r) (is_in_round p g r) 0 rows g k d b c
+      (λ j x m. let e : 0 + j ≡ j = omega arith in ap (is_met_in roots rows r) e ∙ rounds_same p g roots rows a b h r j x.digest (h j x m)))
 
 -- ---- the met list
 
@@ -249,7 +249,7 @@ first_cut ix x g ks n h =
     let next : drop (length ds) (drop n ks) ≡ drop (n + many) ks = ap (λ m. drop m (drop n ks)) same ∙ drop-drop many n ks in
     (subst (λ m. AllAt ix (take m (drop n ks)) ds) few w.0, subst (λ us. AllAt ix us (value_digests g)) next w.1)
 
-cut_rows : (ix : List Text) (g : List Given) (ks : List ℕ) (n : ℕ) → AllAt ix (drop n ks) (value_digests g) → Rows ix (cut n (value_ends n g) ks) g
+cut_rows : (ix : List Text) (g : List Given) (ks : List ℕ) (n : ℕ) → AllAt ix (drop n ks) (value_digests g) → Rows ix (pieces_at n (value_ends n g) ks) g
 cut_rows ix [] ks n h = tt
 cut_rows ix (x ∷ g) ks n h = let w = first_cut ix x g ks n h in (w.0, cut_rows ix g ks (n + length (tree_rows false n x.value)) w.1)
 
@@ -328,7 +328,7 @@ module _ (t : Tree) (g : List Given) (o : IsOrdered t) (is : IsPayload t) (ix : 
 
 -- flags that say which numbers are reached
 abbrev pub Reaches : ℕ → List ℕ → List (List ℕ) → List Bool → Type 0
-Reaches n roots rows fs = (k : ℕ) → k < n → get_or fs k false ≡ is_in roots rows n k
+Reaches n roots rows fs = (k : ℕ) → k < n → get_or fs k false ≡ is_met_in roots rows n k
 
 module _ (p : Tree) (g : List Given) (ix : List Text) (roots : List ℕ) (rows : List (List ℕ)) (w : IsGraph p g ix roots rows) (fs : List Bool) (e : length fs ≡ length g) (h : Reaches (length g) roots rows fs) where
   pub flag_is : (k : ℕ) (x : Given) → StandsAt g k x → get_or fs k false ≡ is_reached p g x

@@ -3,7 +3,7 @@ use Rattle.std.proofs.Common.{◌≡◌, ℕ, zero, suc, ◌+◌, ◌-◌, ◌<�
 use Rattle.claim_tree.specs.Lists.{StandsAt, In}
 use Rattle.claim_tree.proofs.Counting.{before_or_at}
 use Rattle.claim_tree.proofs.Lists.{At-below, At-same, or_left, or_right, or_split, and_split, and_join}
-use Rattle.rebuild_core.specs.Graph.{has_number, any_row, is_in, Marks, mark_one, mark_all, trues, IsClear}
+use Rattle.rebuild_core.specs.Graph.{has_number, any_row, is_met_in, Marks, mark_one, mark_all, trues, IsClear}
 
 pub eqb_same : (a b : ℕ) → eqb a b ≡ true → a ≡ b
 eqb_same a b h = grind arith
@@ -232,21 +232,21 @@ At-any_row p k i (suc j) (row ∷ rows) r a h m =
     or_right (p i && has_number k row) (any_row p k (suc i) rows) (At-any_row p k (suc i) j rows r a (ap p e ∙ h) m)
 At-any_row p k i j [] r a h m = elim a [ ]
 
-later_round : (roots : List ℕ) (rows : List (List ℕ)) (a r k : ℕ) → is_in roots rows r k ≡ true → is_in roots rows (a + r) k ≡ true
+later_round : (roots : List ℕ) (rows : List (List ℕ)) (a r k : ℕ) → is_met_in roots rows r k ≡ true → is_met_in roots rows (a + r) k ≡ true
 later_round roots rows zero r k h = let e : 0 + r ≡ r = omega arith in rw e h
 later_round roots rows (suc a) r k h =
     let e : suc a + r ≡ suc (a + r) = omega arith in
-    rw e (or_left (is_in roots rows (a + r) k) (any_row (is_in roots rows (a + r)) k 0 rows) (later_round roots rows a r k h))
+    rw e (or_left (is_met_in roots rows (a + r) k) (any_row (is_met_in roots rows (a + r)) k 0 rows) (later_round roots rows a r k h))
 
-pub round_le : (roots : List ℕ) (rows : List (List ℕ)) (r m k : ℕ) → r ≤ m → is_in roots rows r k ≡ true → is_in roots rows m k ≡ true
-round_le roots rows r m k l h = let e : (m - r) + r ≡ m = omega arith in subst (λ z. is_in roots rows z k ≡ true) e (later_round roots rows (m - r) r k h)
+pub round_le : (roots : List ℕ) (rows : List (List ℕ)) (r m k : ℕ) → r ≤ m → is_met_in roots rows r k ≡ true → is_met_in roots rows m k ≡ true
+round_le roots rows r m k l h = let e : (m - r) + r ≡ m = omega arith in subst (λ z. is_met_in roots rows z k ≡ true) e (later_round roots rows (m - r) r k h)
 
 -- ---- the worklist, whose first h numbers are done
 
 pub record Fits (n : ℕ) (roots : List ℕ) (rows : List (List ℕ)) (h : ℕ) (s : Marks) : Type 0 where
   pub len : length s.0 ≡ n
   pub well : Well s
-  pub sound : (k : ℕ) → get_or s.0 k false ≡ true → is_in roots rows (length s.1) k ≡ true
+  pub sound : (k : ℕ) → get_or s.0 k false ≡ true → is_met_in roots rows (length s.1) k ≡ true
   pub rooted : (k : ℕ) → In k roots → k < n → get_or s.0 k false ≡ true
   pub closed : (i j k : ℕ) (row : List ℕ) → i < h → StandsAt s.1 i j → StandsAt rows j row → In k row → k < n → get_or s.0 k false ≡ true
 
@@ -274,8 +274,8 @@ fits_step n roots rows h j row s f a b =
       well = w.well f.well;
       sound = λ k e. ⊎_elim (λ l. round_le roots rows (length s.1) (length t.1) k w.longer (f.sound k l))
           (λ r. round_le roots rows (suc (length s.1)) (length t.1) k (omega (arith, r.1))
-          (or_right (is_in roots rows (length s.1) k) (any_row (is_in roots rows (length s.1)) k 0 rows)
-          (At-any_row (is_in roots rows (length s.1)) k 0 j rows row b (let z : 0 + j ≡ j = omega arith in rw z (f.sound j (f.well.flagged h j a))) r.0))) (w.from k e);
+          (or_right (is_met_in roots rows (length s.1) k) (any_row (is_met_in roots rows (length s.1)) k 0 rows)
+          (At-any_row (is_met_in roots rows (length s.1)) k 0 j rows row b (let z : 0 + j ≡ j = omega arith in rw z (f.sound j (f.well.flagged h j a))) r.0))) (w.from k e);
       rooted = λ k m l. w.keeps k (f.rooted k m l);
       closed = λ i j' k row' l a' b' m lt. done i j' k row' l a' b' m lt;
     }
@@ -297,22 +297,22 @@ pub short_order : (n : ℕ) (roots : List ℕ) (rows : List (List ℕ)) (h : ℕ
 short_order n roots rows h s f = omega (arith, f.len, f.well.count, trues_le s.0)
 
 complete : (n : ℕ) (roots : List ℕ) (rows : List (List ℕ)) (h : ℕ) (s : Marks) → Fits n roots rows h s → length s.1 ≤ h → length rows ≡ n
-    → (r k : ℕ) → k < n → is_in roots rows r k ≡ true → get_or s.0 k false ≡ true
+    → (r k : ℕ) → k < n → is_met_in roots rows r k ≡ true → get_or s.0 k false ≡ true
 complete n roots rows h s f l e zero k lt d = f.rooted k (has-In k roots d) lt
 complete n roots rows h s f l e (suc r) k lt d =
     ⊎_elim (λ a. complete n roots rows h s f l e r k lt a)
-    (λ b. let w = any_row-At (is_in roots rows r) k 0 rows b in
+    (λ b. let w = any_row-At (is_met_in roots rows r) k 0 rows b in
     let z : 0 + w.0 ≡ w.0 = omega arith in
-    let q = complete n roots rows h s f l e r w.0 (omega (arith, At-below rows w.0 w.1 w.2, e)) (ap (is_in roots rows r) (sym z) ∙ w.3) in
+    let q = complete n roots rows h s f l e r w.0 (omega (arith, At-below rows w.0 w.1 w.2, e)) (ap (is_met_in roots rows r) (sym z) ∙ w.3) in
     let v = f.well.listed w.0 q in
     f.closed v.0 w.0 k w.1 (omega (arith, l, At-below s.1 v.0 w.0 v.1)) v.1 w.2 w.4 lt)
-    (or_split (is_in roots rows r k) (any_row (is_in roots rows r) k 0 rows) d)
+    (or_split (is_met_in roots rows r k) (any_row (is_met_in roots rows r) k 0 rows) d)
 
 pub exact : (n : ℕ) (roots : List ℕ) (rows : List (List ℕ)) (h : ℕ) (s : Marks) → Fits n roots rows h s → length s.1 ≤ h → length rows ≡ n
-    → (k : ℕ) → k < n → get_or s.0 k false ≡ is_in roots rows n k
-exact n roots rows h s f l e k lt = go (get_or s.0 k false) refl (is_in roots rows n k) refl
+    → (k : ℕ) → k < n → get_or s.0 k false ≡ is_met_in roots rows n k
+exact n roots rows h s f l e k lt = go (get_or s.0 k false) refl (is_met_in roots rows n k) refl
   where
-    go : (a : Bool) → get_or s.0 k false ≡ a → (b : Bool) → is_in roots rows n k ≡ b → a ≡ b
+    go : (a : Bool) → get_or s.0 k false ≡ a → (b : Bool) → is_met_in roots rows n k ≡ b → a ≡ b
     go true p true q = refl
     go false p false q = refl
     go true p false q = let z = round_le roots rows (length s.1) n k (short_order n roots rows h s f) (f.sound k p) in cc

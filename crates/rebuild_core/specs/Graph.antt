@@ -4,9 +4,9 @@ use Rattle.std.specs.List.{list_any}
 use Rattle.claim_tree.specs.Lists.{StandsAt}
 
 -- a list of numbers cut at these places, the first piece from a start
-abbrev pub cut : ℕ → List ℕ → List ℕ → List (List ℕ)
-cut start [] ks = []
-cut start (end ∷ ends) ks = take (end - start) (drop start ks) ∷ cut end ends ks
+abbrev pub pieces_at : ℕ → List ℕ → List ℕ → List (List ℕ)
+pieces_at start [] ks = []
+pieces_at start (end ∷ ends) ks = take (end - start) (drop start ks) ∷ pieces_at end ends ks
 
 -- the places ascend, up to a length
 abbrev pub Ascends : ℕ → List ℕ → ℕ → Type 0
@@ -21,7 +21,7 @@ roots_in (end ∷ ends) ks = take (end - 0) (drop 0 ks)
 -- the other pieces: the numbers of each value
 abbrev pub rows_in : List ℕ → List ℕ → List (List ℕ)
 rows_in [] ks = []
-rows_in (end ∷ ends) ks = cut end ends ks
+rows_in (end ∷ ends) ks = pieces_at end ends ks
 
 abbrev pub has_number : ℕ → List ℕ → Bool
 has_number k ks = list_any (λ j. eqb j k) ks
@@ -32,9 +32,9 @@ any_row passes k i [] = false
 any_row passes k i (row ∷ rows) = (passes i && has_number k row) || any_row passes k (suc i) rows
 
 -- k stands in the roots, or in the row of a number of the round before
-abbrev pub is_in : List ℕ → List (List ℕ) → ℕ → ℕ → Bool
-is_in roots rows zero k = has_number k roots
-is_in roots rows (suc round) k = is_in roots rows round k || any_row (is_in roots rows round) k 0 rows
+abbrev pub is_met_in : List ℕ → List (List ℕ) → ℕ → ℕ → Bool
+is_met_in roots rows zero k = has_number k roots
+is_met_in roots rows (suc round) k = is_met_in roots rows round k || any_row (is_met_in roots rows round) k 0 rows
 
 -- which numbers are marked, and in which order
 abbrev pub Marks : Type 0

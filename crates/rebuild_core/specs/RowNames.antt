@@ -34,11 +34,11 @@ given_name SiteKind.Member given i = option_and_then (λ x. x.name) (slice_get g
 given_name SiteKind.Element given i = None
 
 -- at this place of the list stands this row, and a disclosure that gives this name to a member
-abbrev pub Names : List SeenRow → List ℕ → List Given → ℕ → SeenRow → Text → Type 0
-Names rows numbers given place row name = StandsAt rows place row × (i : ℕ) × StandsAt numbers place i × (given_name row.kind given i ≡ Some name)
+abbrev pub NamesAt : List SeenRow → List ℕ → List Given → ℕ → SeenRow → Text → Type 0
+NamesAt rows numbers given place row name = StandsAt rows place row × (i : ℕ) × StandsAt numbers place i × (given_name row.kind given i ≡ Some name)
 
 -- the name at this place is a member of its object, or stands at an earlier place of it
 abbrev pub Clashes : List SeenRow → List ℕ → List Given → ℕ → Type 0
 Clashes rows numbers given place =
-    (row : SeenRow) × (name : Text) × Names rows numbers given place row name
-    × (In name row.beside ⊎ ((j : ℕ) × (j < place) × (other : SeenRow) × Names rows numbers given j other name × (other.object ≡ row.object)))
+    (row : SeenRow) × (name : Text) × NamesAt rows numbers given place row name
+    × (In name row.beside ⊎ ((j : ℕ) × (j < place) × (other : SeenRow) × NamesAt rows numbers given j other name × (other.object ≡ row.object)))

@@ -1,7 +1,7 @@
 // Which disclosures are reached, and the met list, over numbers.
 ghost use Rattle.std.specs.Prelude.{◌≡◌, ◌<◌, ◌≤◌, ◌++◌, ◌∷◌, [], ℕ, suc, true, false, length, IfOk, OnOk, slice_index_or, slice_set, replicate, MatchOption};
 ghost use Rattle.claim_tree.specs.Lists.{In, AtNone, IsLeast};
-ghost use Rattle.rebuild_core.specs.Graph.{cut, Ascends, roots_in, rows_in, is_in, mark_one, mark_all, flagged_rows, Recurs, IsClear};
+ghost use Rattle.rebuild_core.specs.Graph.{pieces_at, Ascends, roots_in, rows_in, is_met_in, mark_one, mark_all, flagged_rows, Recurs, IsClear};
 
 use sd_outside::NoMemory;
 use std::alloc::Global;
@@ -40,7 +40,7 @@ impl Graph {
     fn row(&self, tree: usize) -> &[usize]
         requires ascends { Ascends 0 self.now.ends.items (length self.now.numbers.items) }
         requires tree { tree < length self.now.ends.items }
-        ensures { result.now ≡ slice_index_or (cut 0 self.now.ends.items self.now.numbers.items) tree [] }
+        ensures { result.now ≡ slice_index_or (pieces_at 0 self.now.ends.items self.now.numbers.items) tree [] }
     {
         let start = self.start(tree);
         let end = self.end(tree);
@@ -90,7 +90,7 @@ pub(crate) fn reach(alloc: Global, count: usize, graph: &Graph) -> Result<Vec<bo
     requires ascends { Ascends 0 graph.now.ends.items (length graph.now.numbers.items) }
     requires count { length graph.now.ends.items ≡ suc count }
     ensures length { IfOk result (λ flags. length flags.items ≡ count) }
-    ensures exact { IfOk result (λ flags. (k : ℕ) → k < count → slice_index_or flags.items k false ≡ is_in (roots_in graph.now.ends.items graph.now.numbers.items) (rows_in graph.now.ends.items graph.now.numbers.items) count k) }
+    ensures exact { IfOk result (λ flags. (k : ℕ) → k < count → slice_index_or flags.items k false ≡ is_met_in (roots_in graph.now.ends.items graph.now.numbers.items) (rows_in graph.now.ends.items graph.now.numbers.items) count k) }
 {
     let mut flags = cleared(alloc, count)?;
     let mut order = Vec::with_capacity(alloc, count)?;

@@ -13,7 +13,7 @@ use Rattle.key_binding.specs.ShortText.{IsShortText}
 use Rattle.key_binding.specs.declared.policy.BindingPolicy.{BindingPolicy}
 use Rattle.verifier_core.specs.PolicyFile.{IsBindingPolicy, policy_fields, IsPolicyFile}
 use Rattle.verifier_core.specs.PolicyVersion.{IsVersion, IsIssuers, IsAudiences}
-use Rattle.verifier_core.specs.VersionTwo.{listed, ListsAudience, BindingListed, SaysInTwo}
+use Rattle.verifier_core.specs.VersionTwo.{as_list, ListsAudience, BindingListed, SaysInTwo}
 use Rattle.verifier_core.specs.declared.policy.Policy.{Policy}
 use Rattle.verifier_core.specs.declared.policy_version.PolicyVersion.{PolicyVersion}
 use Rattle.verifier_core.proofs.PolicyFaults.{says_as, one_reading}
@@ -66,7 +66,7 @@ differ a b is same = let clash : false ≡ true = sym is ∙ bytes_refl a b same
 
 -- ---- members that are listed
 
-listed_issuers : (member : Option Tree) (issuers : Option (List Text)) → MaySay (IsIssuers PolicyVersion.One) member issuers → MaySay (IsIssuers PolicyVersion.Two) (listed member) issuers
+listed_issuers : (member : Option Tree) (issuers : Option (List Text)) → MaySay (IsIssuers PolicyVersion.One) member issuers → MaySay (IsIssuers PolicyVersion.Two) (as_list member) issuers
 listed_issuers None None h = h
 listed_issuers None (Some issuers) h = h
 listed_issuers (Some t) None h = h
@@ -74,7 +74,7 @@ listed_issuers (Some t) (Some issuers) h =
     let texts : array (element t no_elements) ≡ array (text_elements issuers) = ap (λ u. array (element u no_elements)) h.1 ∙ ap (λ list. array (text_elements list)) (sym h.2) in
     (texts, omega (arith, ap length h.2))
 
-listed_audiences : (member : Option Tree) (audiences : List Text) → Says (IsAudiences PolicyVersion.One) member audiences → Says (IsAudiences PolicyVersion.Two) (listed member) audiences
+listed_audiences : (member : Option Tree) (audiences : List Text) → Says (IsAudiences PolicyVersion.One) member audiences → Says (IsAudiences PolicyVersion.Two) (as_list member) audiences
 listed_audiences None audiences h = h
 listed_audiences (Some t) audiences h =
     let texts : array (element t no_elements) ≡ array (text_elements audiences) = ap (λ u. array (element u no_elements)) h.1.is ∙ ap (λ list. array (text_elements list)) (sym h.2) in
@@ -90,7 +90,7 @@ listed_binding one two binding lists h =
       members = lists.others;
       is = lists.other_is;
       four = lists.as_many ∙ (ap members_len same ∙ h.four);
-      aud = subst (λ o. Says (IsAudiences PolicyVersion.Two) o binding.aud) (sym (lists.aud ∙ ap (λ ms. listed (member_named ms (codes "aud"))) same)) (listed_audiences (member_named h.members (codes "aud")) binding.aud h.aud);
+      aud = subst (λ o. Says (IsAudiences PolicyVersion.Two) o binding.aud) (sym (lists.aud ∙ ap (λ ms. as_list (member_named ms (codes "aud"))) same)) (listed_audiences (member_named h.members (codes "aud")) binding.aud h.aud);
       nonce = subst (λ o. Says IsShortText o binding.nonce) (sym (of (codes "nonce") (differ (codes "nonce") (codes "aud") refl))) h.nonce;
       keys = subst (λ o. Says IsKeySet o binding.keys) (sym (of (codes "keys") (differ (codes "keys") (codes "aud") refl))) h.keys;
       max_age = subst (λ o. Says (IsWholeUpTo age_max) o binding.max_age) (sym (of (codes "max_age") (differ (codes "max_age") (codes "aud") refl))) h.max_age;
@@ -149,7 +149,7 @@ module _ (one two : Text) (policy : Policy) (short : length two ≤ file_max) (s
     keys = subst (λ o. Says IsKeySet o policy.keys) (sym (of (codes "keys") (differ (codes "keys") (codes "version") refl) (differ (codes "keys") (codes "iss") refl) (differ (codes "keys") (codes "binding") refl))) h.keys;
     algs = subst (λ o. SaysOr IsTexts (codes "HS256" ∷ []) o policy.algs) (sym (of (codes "algs") (differ (codes "algs") (codes "version") refl) (differ (codes "algs") (codes "iss") refl) (differ (codes "algs") (codes "binding") refl))) h.algs;
     typ = subst (λ o. MaySay IsText o policy.typ) (sym (of (codes "typ") (differ (codes "typ") (codes "version") refl) (differ (codes "typ") (codes "iss") refl) (differ (codes "typ") (codes "binding") refl))) h.typ;
-    iss = subst (λ o. MaySay (IsIssuers PolicyVersion.Two) o policy.iss) (sym (says.iss ∙ ap (λ ms. listed (found ms Iss)) same_members))
+    iss = subst (λ o. MaySay (IsIssuers PolicyVersion.Two) o policy.iss) (sym (says.iss ∙ ap (λ ms. as_list (found ms Iss)) same_members))
         (listed_issuers (found h.members Iss) policy.iss (subst (λ v. MaySay (IsIssuers v) (found h.members Iss) policy.iss) version_is h.iss));
     require = subst (λ o. SaysOr IsTexts [] o policy.require) (sym (of (codes "require") (differ (codes "require") (codes "version") refl) (differ (codes "require") (codes "iss") refl) (differ (codes "require") (codes "binding") refl))) h.require;
     skew = subst (λ o. SaysOr (IsWholeUpTo skew_max) 0 o policy.skew) (sym (of (codes "skew") (differ (codes "skew") (codes "version") refl) (differ (codes "skew") (codes "iss") refl) (differ (codes "skew") (codes "binding") refl))) h.skew;

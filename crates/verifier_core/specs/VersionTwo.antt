@@ -9,8 +9,8 @@ use Rattle.verifier_core.specs.PolicyFile.{IsReadAs}
 use Rattle.verifier_core.specs.declared.policy_version.PolicyVersion.{PolicyVersion}
 
 -- a list of one value in the place of the value
-abbrev pub listed : Option Tree → Option Tree
-listed member = option_map (λ t. array (element t no_elements)) member
+abbrev pub as_list : Option Tree → Option Tree
+as_list member = option_map (λ t. array (element t no_elements)) member
 
 -- objects of the same members, but for the audience, which the second lists
 pub record ListsAudience (one two : Tree) : Type 0 where
@@ -19,7 +19,7 @@ pub record ListsAudience (one two : Tree) : Type 0 where
   pub others : Members
   pub other_is : two ≡ object others
   pub as_many : members_len others ≡ members_len members
-  pub aud : member_named others (codes "aud") ≡ listed (member_named members (codes "aud"))
+  pub aud : member_named others (codes "aud") ≡ as_list (member_named members (codes "aud"))
   pub same : (name : Text) → name ≢ codes "aud" → member_named others name ≡ member_named members name
 
 abbrev pub BindingListed : Option Tree → Option Tree → Type 0
@@ -34,6 +34,6 @@ pub record SaysInTwo (one two : Text) : Type 0 where
   pub other_reads : Reads two (object others)
   pub first : IsReadAs PolicyVersion.One (found members Version)
   pub second : found others Version ≡ Some (leaf (whole (pos 2)))
-  pub iss : found others Iss ≡ listed (found members Iss)
+  pub iss : found others Iss ≡ as_list (found members Iss)
   pub binding : BindingListed (found members Binding) (found others Binding)
   pub same : (name : Text) → name ≢ codes "version" → name ≢ codes "iss" → name ≢ codes "binding" → member_named others name ≡ member_named members name

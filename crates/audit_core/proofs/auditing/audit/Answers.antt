@@ -2,7 +2,7 @@ use Rattle.std.proofs.Common.{◌≡◌, ◌≤◌, sym, subst}
 use Rattle.std.specs.Result.{OnOk, IfErr}
 use Rattle.claim_tree.specs.Tree.{IsRanged, depth}
 use Rattle.audit_core.specs.Audit.{PassesAudit, FailsAudit}
-use Rattle.audit_core.specs.AuditCalls.{IsAuditRefused, IsAuditedWithin, IsEarly}
+use Rattle.audit_core.specs.AuditCalls.{IsAuditRefused, IsAuditedWithin, IsBeforeOpening}
 use Rattle.audit_core.proofs.auditing.audit.Goals as goal
 
 pub audit_owned-requires-clause-depth : goal.audit_owned-requires-clause-depth
@@ -24,4 +24,4 @@ returns-clause-within g c = subst (λ o. IsAuditedWithin o c.args.text.now c.arg
 
 pub returns-clause-uncounted : goal.returns-clause-uncounted
 returns-clause-uncounted g c =
-    subst (λ o. (error : _) → IsEarly error → FailsAudit o c.args.alg (g.K.Signatures.good c.args.checker.now) c.args.text.now error → c.audit_owned.new.steps ≡ c.args.steps.now) c.in_ok-owned.ensures c.audit_owned.ensures.uncounted
+    subst (λ o. (error : _) → IsBeforeOpening error → FailsAudit o c.args.alg (g.K.Signatures.good c.args.checker.now) c.args.text.now error → c.audit_owned.new.steps ≡ c.args.steps.now) c.in_ok-owned.ensures c.audit_owned.ensures.uncounted
