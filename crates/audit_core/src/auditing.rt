@@ -25,7 +25,7 @@ use crate::asked::{Asked, asked_of};
 use crate::claims::shows;
 use crate::counts::are_so_many;
 use crate::found::{are_digests, standings_of};
-use crate::part::{Part, differs};
+use crate::part::{AuditPart, differs};
 use crate::places::others_of;
 use crate::signed::is_signed_for;
 use crate::sorted::has_sorted_digests;
@@ -83,11 +83,11 @@ fn judge_others(
     }
     let others = others_of(alloc, &asked.claims, payload, given, seed, longest)?;
     if !are_digests(asked.hash, others.elements()) {
-        return Err(differs(Part::Digests));
+        return Err(differs(AuditPart::Digests));
     }
     let standings = standings_of(alloc, others.elements())?;
     if !are_alike(standings, asked.standings.as_slice())? {
-        return Err(differs(Part::Decoys));
+        return Err(differs(AuditPart::Decoys));
     }
     Ok(())
 }
@@ -108,13 +108,13 @@ fn judge_digests(
     ensures differs { IfErr result (λ e. (o : SeenOrder) → IsAskedFor o asked.now → ShowsClaims o (tree_of payload.now) given.now → OnPart e (ContentDiffers o (tree_of payload.now) given.now)) }
 {
     if !are_so_many(payload, given, given.len() + asked.decoys) {
-        return Err(differs(Part::Digests));
+        return Err(differs(AuditPart::Digests));
     }
     if let Err(error) = judge_others(alloc, asked, payload, given, seed, longest) {
         return Err(error);
     }
     if !has_sorted_digests(payload, given) {
-        return Err(differs(Part::SdOrder));
+        return Err(differs(AuditPart::SdOrder));
     }
     Ok(())
 }
@@ -132,7 +132,7 @@ fn judge_again(alloc: Global, asked: &Asked, token: &TokenView<'_>) -> Result<()
             judge_digests(alloc, asked, &without_alg(body), &given, seed, usize::MAX)
         }
         // It was read before, so it is written as it is to be.
-        None => Err(differs(Part::Written)),
+        None => Err(differs(AuditPart::Written)),
     }
 }
 
@@ -173,7 +173,7 @@ fn judge_content(
     let longest = longest_of(asked.standings.as_slice());
     let early = judge_digests(alloc, asked, &payload, &given, seed, longest);
     if !shows(alloc, payload, given, seed, &asked.claims, steps)? {
-        return Err(differs(Part::Claims));
+        return Err(differs(AuditPart::Claims));
     }
     match early {
         Err(AuditError::Memory) => judge_again(alloc, asked, token),
@@ -198,12 +198,12 @@ fn judge_token<K: Checker>(
     ensures uncounted { (k : ℕ) → k ≤ 2 → DiffersIn (order_of order) alg (K.good checker.now) token.now k → steps.new ≡ steps.old }
 {
     if !is_signed_for(alloc, &order, alg, checker, token)? {
-        return Err(differs(Part::Signed));
+        return Err(differs(AuditPart::Signed));
     }
     let asked = asked_of(alloc, order)?;
     match read_written(alloc, asked.hash, asked.hidden, token)? {
         Some(written) => judge_content(alloc, &asked, token, written, steps),
-        None => Err(differs(Part::Written)),
+        None => Err(differs(AuditPart::Written)),
     }
 }
 

@@ -7,7 +7,7 @@ use crate::AuditError;
 
 // A part, with its number. They stand in the order in which they are judged.
 #[derive(Clone, Copy, Debug)]
-pub(crate) enum Part {
+pub(crate) enum AuditPart {
     // What is signed, and how.
     Signed = 1,
     // How payload and disclosures are written.
@@ -23,7 +23,7 @@ pub(crate) enum Part {
 }
 
 // The error that names a part as the first that differs.
-pub(crate) fn differs(part: Part) -> AuditError
+pub(crate) fn differs(part: AuditPart) -> AuditError
     ensures { result ≡ OnPart (number_of_part part) }
 {
     AuditError::Part(part as u8)

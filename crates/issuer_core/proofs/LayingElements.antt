@@ -14,11 +14,11 @@ use Rattle.marked_tree.specs.Ways.{weight, elements_weight, mark_weight}
 use Rattle.marked_tree.specs.Paths.{Path}
 use Rattle.issuer_core.specs.Laid.{digest_object, digest_elements, laid_given, laid_elements, own_given, lay, lay_elements}
 use Rattle.issuer_core.specs.Digests.{made_texts}
-use Rattle.issuer_core.specs.Laying.{digest_at, salted, elements_joined, placed_at, DecoysTell, IsPart}
+use Rattle.issuer_core.specs.Laying.{digest_at, salted, elements_joined, placed_at, DecoysTell, IsLaidNode}
 use Rattle.issuer_core.specs.Closing.{one, ElementsClose}
 use Rattle.issuer_core.specs.declared.decoys.Decoys.{Decoys}
 use Rattle.issuer_core.specs.declared.laying.Hiding.{Hiding}
-use Rattle.issuer_core.specs.declared.laying.Part.{Part}
+use Rattle.issuer_core.specs.declared.laying.LaidNode.{LaidNode}
 use Rattle.issuer_core.proofs.LayingSteps.{grown, behind, IsMade}
 
 pub joined_pushed : (es : Elements) (t : Tree) (rest : Elements) → elements_joined (pushed es t) rest ≡ elements_joined es (element t rest)
@@ -38,11 +38,11 @@ abbrev pub IsElement : (Path → List Text) → (ℕ → Text) → Option ℕ �
 IsElement dec dg None m u = u ≡ lay dec dg m
 IsElement dec dg (Some k) m u = u ≡ digest_object (dg k)
 
-pub shown_element : (dec : Path → List Text) (dg : ℕ → Text) (k : Option ℕ) (m : Marked) (t : code.Tree) → IsPart dec dg k m (Part.Shown t) → IsElement dec dg k m (tree_of t)
+pub shown_element : (dec : Path → List Text) (dg : ℕ → Text) (k : Option ℕ) (m : Marked) (t : code.Tree) → IsLaidNode dec dg k m (LaidNode.Shown t) → IsElement dec dg k m (tree_of t)
 shown_element dec dg None m t p = p
 shown_element dec dg (Some k) m t p = elim p [ ]
 
-pub hidden_element : (dec : Path → List Text) (dg : ℕ → Text) (k : Option ℕ) (m : Marked) (d : Text) (u : Tree) → IsPart dec dg k m (Part.Hidden d) → u ≡ digest_object d → IsElement dec dg k m u
+pub hidden_element : (dec : Path → List Text) (dg : ℕ → Text) (k : Option ℕ) (m : Marked) (d : Text) (u : Tree) → IsLaidNode dec dg k m (LaidNode.Hidden d) → u ≡ digest_object d → IsElement dec dg k m u
 hidden_element dec dg None m d u p e = elim p [ ]
 hidden_element dec dg (Some k) m d u p e = e ∙ ap digest_object p
 

@@ -13,11 +13,11 @@ use Rattle.marked_tree.specs.Paths.{Path}
 use Rattle.marked_tree.proofs.Names.{Ascend, ascend}
 use Rattle.issuer_core.specs.Laid.{with_sd, sorted, hidden_digests, laid_given, laid_members, own_given, lay, lay_members}
 use Rattle.issuer_core.specs.Digests.{made_texts}
-use Rattle.issuer_core.specs.Laying.{digest_at, salted, placed_at, DecoysTell, IsPart}
+use Rattle.issuer_core.specs.Laying.{digest_at, salted, placed_at, DecoysTell, IsLaidNode}
 use Rattle.issuer_core.specs.Closing.{one, MembersClose}
 use Rattle.issuer_core.specs.declared.decoys.Decoys.{Decoys}
 use Rattle.issuer_core.specs.declared.laying.Hiding.{Hiding}
-use Rattle.issuer_core.specs.declared.laying.Part.{Part}
+use Rattle.issuer_core.specs.declared.laying.LaidNode.{LaidNode}
 use Rattle.issuer_core.proofs.LaidOrdered.{lay_names_after}
 use Rattle.issuer_core.proofs.LayingSteps.{grown, behind, IsMade}
 
@@ -57,22 +57,22 @@ pub record LaysMembers (decoys : Decoys) (hiding : Hiding) (first : List Text) (
   pub low : members_depth (strip_members left) ≤ members_depth (strip_members all)
   pub few : members_nodes (strip_members left) ≤ members_nodes (strip_members all)
 
-member_laid : (dec : Path → List Text) (dg : ℕ → Text) (name : Text) (k : Option ℕ) (m : Marked) (ms : MarkedMembers) (t : code.Tree) → IsPart (λ at. dec (name ∷ at)) dg k m (Part.Shown t)
+member_laid : (dec : Path → List Text) (dg : ℕ → Text) (name : Text) (k : Option ℕ) (m : Marked) (ms : MarkedMembers) (t : code.Tree) → IsLaidNode (λ at. dec (name ∷ at)) dg k m (LaidNode.Shown t)
     → member name (tree_of t) (lay_members dec dg ms) ≡ lay_members dec dg (marked_member name k m ms)
 member_laid dec dg name None m ms t p = ap (λ (u : Tree). member name u (lay_members dec dg ms)) p
 member_laid dec dg name (Some k) m ms t p = elim p [ ]
 
-member_shown : (dec : Path → List Text) (dg : ℕ → Text) (name : Text) (k : Option ℕ) (m : Marked) (ms : MarkedMembers) (t : code.Tree) → IsPart dec dg k m (Part.Shown t)
+member_shown : (dec : Path → List Text) (dg : ℕ → Text) (name : Text) (k : Option ℕ) (m : Marked) (ms : MarkedMembers) (t : code.Tree) → IsLaidNode dec dg k m (LaidNode.Shown t)
     → hidden_digests dg ms ≡ hidden_digests dg (marked_member name k m ms)
 member_shown dec dg name None m ms t p = refl
 member_shown dec dg name (Some k) m ms t p = elim p [ ]
 
-member_left_out : (dec : Path → List Text) (dg : ℕ → Text) (below : Path → List Text) (name : Text) (k : Option ℕ) (m : Marked) (ms : MarkedMembers) (d : Text) → IsPart below dg k m (Part.Hidden d)
+member_left_out : (dec : Path → List Text) (dg : ℕ → Text) (below : Path → List Text) (name : Text) (k : Option ℕ) (m : Marked) (ms : MarkedMembers) (d : Text) → IsLaidNode below dg k m (LaidNode.Hidden d)
     → lay_members dec dg ms ≡ lay_members dec dg (marked_member name k m ms)
 member_left_out dec dg below name None m ms d p = elim p [ ]
 member_left_out dec dg below name (Some k) m ms d p = refl
 
-member_hidden : (dec : Path → List Text) (dg : ℕ → Text) (name : Text) (k : Option ℕ) (m : Marked) (ms : MarkedMembers) (d : Text) → IsPart dec dg k m (Part.Hidden d)
+member_hidden : (dec : Path → List Text) (dg : ℕ → Text) (name : Text) (k : Option ℕ) (m : Marked) (ms : MarkedMembers) (d : Text) → IsLaidNode dec dg k m (LaidNode.Hidden d)
     → d ∷ hidden_digests dg ms ≡ hidden_digests dg (marked_member name k m ms)
 member_hidden dec dg name None m ms d p = elim p [ ]
 member_hidden dec dg name (Some k) m ms d p = ap (λ (e : Text). e ∷ hidden_digests dg ms) p
@@ -80,8 +80,8 @@ member_hidden dec dg name (Some k) m ms d p = ap (λ (e : Text). e ∷ hidden_di
 module _ (decoys : Decoys) (hiding : Hiding) (first : List Text) (all : MarkedMembers) (laid : Members) (hidden texts digests : List Text) (name : Text) (k : Option ℕ) (m : Marked) (left : MarkedMembers)
     (so : LaysMembers decoys hiding first all laid hidden texts digests (marked_member name k m left))
     (below : Decoys) (step : (at : Path) → placed_at below at ≡ placed_at decoys (name ∷ at))
-    (part : Part) (texts2 digests2 : List Text)
-    (is : (dec : Path → List Text) → DecoysTell below dec → (more : List Text) → IsPart dec (digest_at hiding.hash (texts2 ++ more)) k m part)
+    (part : LaidNode) (texts2 digests2 : List Text)
+    (is : (dec : Path → List Text) → DecoysTell below dec → (more : List Text) → IsLaidNode dec (digest_at hiding.hash (texts2 ++ more)) k m part)
     (made : IsMade below hiding (Some name) k m texts texts2)
     (count : length texts2 ≡ length texts + (mark_weight one k + weight one m))
     (digested : digests2 ≡ map (digest_of hiding.hash) texts2)
@@ -140,11 +140,11 @@ module _ (decoys : Decoys) (hiding : Hiding) (first : List Text) (all : MarkedMe
       few = let old = so.few in omega (arith, old);
     }
 
-    pub member_more_shown : (t : code.Tree) → part ≡ Part.Shown t → LaysMembers decoys hiding first all (inserted laid name (tree_of t)) hidden texts2 digests2 left
+    pub member_more_shown : (t : code.Tree) → part ≡ LaidNode.Shown t → LaysMembers decoys hiding first all (inserted laid name (tree_of t)) hidden texts2 digests2 left
     member_more_shown t e = next (inserted laid name (tree_of t)) hidden (so_far, hidden_so_far)
       where
-        told : (dec : Path → List Text) → DecoysTell below dec → (more : List Text) → IsPart dec (digest_at hiding.hash (texts2 ++ more)) k m (Part.Shown t)
-        told dec tells more = subst (λ p. IsPart dec (digest_at hiding.hash (texts2 ++ more)) k m p) e (is dec tells more)
+        told : (dec : Path → List Text) → DecoysTell below dec → (more : List Text) → IsLaidNode dec (digest_at hiding.hash (texts2 ++ more)) k m (LaidNode.Shown t)
+        told dec tells more = subst (λ p. IsLaidNode dec (digest_at hiding.hash (texts2 ++ more)) k m p) e (is dec tells more)
 
         so_far : (dec : Path → List Text) → DecoysTell decoys dec → (more : List Text)
             → members_joined (inserted laid name (tree_of t)) (lay_members dec (digest_at hiding.hash (texts2 ++ more)) left) ≡ lay_members dec (digest_at hiding.hash (texts2 ++ more)) all
@@ -156,11 +156,11 @@ module _ (decoys : Decoys) (hiding : Hiding) (first : List Text) (all : MarkedMe
         hidden_so_far : (more : List Text) → hidden ++ hidden_digests (digest_at hiding.hash (texts2 ++ more)) left ≡ hidden_digests (digest_at hiding.hash (texts2 ++ more)) all
         hidden_so_far more = ap (λ (ds : List Text). hidden ++ ds) (member_shown (placed_at below) (dg more) name k m left t (told (placed_at below) (λ at. refl) more)) ∙ hidden_before more
 
-    pub member_more_hidden : (d : Text) → part ≡ Part.Hidden d → LaysMembers decoys hiding first all laid (hidden ++ d ∷ []) texts2 digests2 left
+    pub member_more_hidden : (d : Text) → part ≡ LaidNode.Hidden d → LaysMembers decoys hiding first all laid (hidden ++ d ∷ []) texts2 digests2 left
     member_more_hidden d e = next laid (hidden ++ d ∷ []) (so_far, hidden_so_far)
       where
-        told : (more : List Text) → IsPart (placed_at below) (digest_at hiding.hash (texts2 ++ more)) k m (Part.Hidden d)
-        told more = subst (λ p. IsPart (placed_at below) (digest_at hiding.hash (texts2 ++ more)) k m p) e (is (placed_at below) (λ at. refl) more)
+        told : (more : List Text) → IsLaidNode (placed_at below) (digest_at hiding.hash (texts2 ++ more)) k m (LaidNode.Hidden d)
+        told more = subst (λ p. IsLaidNode (placed_at below) (digest_at hiding.hash (texts2 ++ more)) k m p) e (is (placed_at below) (λ at. refl) more)
 
         so_far : (dec : Path → List Text) → DecoysTell decoys dec → (more : List Text) → members_joined laid (lay_members dec (digest_at hiding.hash (texts2 ++ more)) left) ≡ lay_members dec (digest_at hiding.hash (texts2 ++ more)) all
         so_far dec tells more = ap (members_joined laid) (member_left_out dec (dg more) (placed_at below) name k m left d (told more)) ∙ before more dec tells

@@ -10,11 +10,11 @@ use Rattle.marked_tree.specs.Marked.{Marked}
 use Rattle.marked_tree.specs.Paths.{Path}
 use Rattle.issuer_core.specs.Laid.{laid_given, own_given, lay}
 use Rattle.issuer_core.specs.Digests.{made_texts}
-use Rattle.issuer_core.specs.Laying.{nth, digest_at, salted, DecoysTell, IsPart}
+use Rattle.issuer_core.specs.Laying.{nth, digest_at, salted, DecoysTell, IsLaidNode}
 use Rattle.issuer_core.specs.Closing.{HasNumber}
 use Rattle.issuer_core.specs.declared.decoys.Decoys.{Decoys}
 use Rattle.issuer_core.specs.declared.laying.Hiding.{Hiding}
-use Rattle.issuer_core.specs.declared.laying.Part.{Part}
+use Rattle.issuer_core.specs.declared.laying.LaidNode.{LaidNode}
 
 -- ---- texts by their numbers
 
@@ -76,12 +76,12 @@ module _ (decoys : Decoys) (hiding : Hiding) (name : Option Text) (k : Option �
     (made : (dec : Path → List Text) → DecoysTell decoys dec → (more : List Text) → texts2 ≡ texts ++ made_texts (salted hiding.salts.now) (length texts) (laid_given dec (digest_at hiding.hash (texts2 ++ more)) m))
     (own : texts3 ≡ texts2 ++ salted hiding.salts.now (length texts2) name inside ∷ [])
   where
-    pub hidden_part : (digest_is : Text) → digest_is ≡ digest_of hiding.hash (salted hiding.salts.now (length texts2) name inside) → HasNumber k (length texts2) → (more : List Text) → (dec : Path → List Text) → IsPart dec (digest_at hiding.hash (texts3 ++ more)) k m (Part.Hidden digest_is)
+    pub hidden_part : (digest_is : Text) → digest_is ≡ digest_of hiding.hash (salted hiding.salts.now (length texts2) name inside) → HasNumber k (length texts2) → (more : List Text) → (dec : Path → List Text) → IsLaidNode dec (digest_at hiding.hash (texts3 ++ more)) k m (LaidNode.Hidden digest_is)
     hidden_part d e n more dec =
         let numbered : i ≡ length texts2 = subst (λ j. HasNumber j (length texts2)) is n in
         let there : texts3 ++ more ≡ texts2 ++ salted hiding.salts.now (length texts2) name inside ∷ more = sym (behind texts2 texts3 (salted hiding.salts.now (length texts2) name inside ∷ []) more own) in
         let found : d ≡ digest_at hiding.hash (texts3 ++ more) i = e ∙ (ap (digest_of hiding.hash) (sym (nth_seam texts2 (salted hiding.salts.now (length texts2) name inside) more)) ∙ (ap (λ (ts : List Text). digest_at hiding.hash ts (length texts2)) (sym there) ∙ ap (digest_at hiding.hash (texts3 ++ more)) (sym numbered))) in
-        subst (λ j. IsPart dec (digest_at hiding.hash (texts3 ++ more)) j m (Part.Hidden d)) (sym is) found
+        subst (λ j. IsLaidNode dec (digest_at hiding.hash (texts3 ++ more)) j m (LaidNode.Hidden d)) (sym is) found
 
     pub hidden_made : IsMade decoys hiding name k m texts texts3
     hidden_made dec tells more =

@@ -15,7 +15,7 @@ use Rattle.issuer_core.specs.Decoys.{decoys_of}
 use Rattle.issuer_core.specs.Digests.{Maker, hidden_of, made_texts}
 use Rattle.issuer_core.specs.Laid.{lay, laid_given, with_alg, IsLaid}
 use Rattle.issuer_core.specs.declared.decoys.Decoys.{Decoys}
-use Rattle.issuer_core.specs.declared.laying.Part.{Part}
+use Rattle.issuer_core.specs.declared.laying.LaidNode.{LaidNode}
 
 -- ---- texts by their numbers
 
@@ -72,10 +72,10 @@ DecoysTell d dec = (at : Path) → placed_at d at ≡ dec at
 -- ---- a part
 
 -- what is shown is laid, and what is hidden has the digest of its mark
-abbrev pub IsPart : (Path → List Text) → (ℕ → Text) → Option ℕ → Marked → Part → Type 0
-IsPart dec dg None m (Part.Shown t) = tree_of t ≡ lay dec dg m
-IsPart dec dg (Some k) m (Part.Hidden d) = d ≡ dg k
-IsPart dec dg k m part = ⊥
+abbrev pub IsLaidNode : (Path → List Text) → (ℕ → Text) → Option ℕ → Marked → LaidNode → Type 0
+IsLaidNode dec dg None m (LaidNode.Shown t) = tree_of t ≡ lay dec dg m
+IsLaidNode dec dg (Some k) m (LaidNode.Hidden d) = d ≡ dg k
+IsLaidNode dec dg k m part = ⊥
 
 -- ---- marked claims
 

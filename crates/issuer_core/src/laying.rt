@@ -17,7 +17,7 @@ ghost use Rattle.issuer_core.specs.Seed.{maker_of};
 ghost use Rattle.issuer_core.specs.Laid as spec;
 ghost use Rattle.issuer_core.specs.Laid.{sorted, with_sd, digest_elements, hidden_digests, laid_given, laid_elements, laid_members, own_given, lay_elements, lay_members};
 ghost use Rattle.issuer_core.specs.Digests.{made_texts};
-ghost use Rattle.issuer_core.specs.Laying.{digest_at, salted, elements_joined, placed_at, ArePlaced, DecoysTell, IsPart, IsLaidWith, IsLaidFor};
+ghost use Rattle.issuer_core.specs.Laying.{digest_at, salted, elements_joined, placed_at, ArePlaced, DecoysTell, IsLaidNode, IsLaidWith, IsLaidFor};
 ghost use Rattle.issuer_core.specs.Closing.{one, HasNumber, ClosesFrom, ElementsClose, MembersClose};
 
 use crate::decoys::{Decoys, sort_decoys};
@@ -57,7 +57,7 @@ struct Hiding<'a> {
 
 // A member or an element: laid, or the digest of its disclosure.
 #[derive(Debug, Drop)]
-enum Part {
+enum LaidNode {
     Shown(Tree),
     Hidden(TextBox),
 }
@@ -216,8 +216,8 @@ fn lay_list(
     for (mark, tree) in list.into_elements() {
         let below = decoys.below_element(laid.len());
         let tree = match lay_part(alloc, None, mark, tree, below, hiding, layer)? {
-            Part::Shown(tree) => tree,
-            Part::Hidden(digest) => digest_object(alloc, digest)?,
+            LaidNode::Shown(tree) => tree,
+            LaidNode::Hidden(digest) => digest_object(alloc, digest)?,
         };
         laid.push(tree)?;
     }
@@ -249,8 +249,8 @@ fn lay_map(
     for (name, mark, tree) in members.into_members() {
         let below = decoys.below(name.as_str());
         match lay_part(alloc, Some(name.as_str()), mark, tree, below, hiding, layer)? {
-            Part::Shown(tree) => laid.insert(name, tree)?,
-            Part::Hidden(digest) => digests.push(digest)?,
+            LaidNode::Shown(tree) => laid.insert(name, tree)?,
+            LaidNode::Hidden(digest) => digests.push(digest)?,
         }
     }
     push_copies(alloc, &mut digests, decoys.here())?;
@@ -268,7 +268,7 @@ fn lay_part(
     decoys: Decoys<'_>,
     hiding: Hiding<'_>,
     layer: &mut Layer,
-) -> Result<Part, NoMemory>
+) -> Result<LaidNode, NoMemory>
     requires depth { decoys.depth + depth (strip (marked_of tree)) ≤ 125 }
     requires ranged { IsRanged (strip (marked_of tree)) }
     requires decoys { ArePlaced decoys }
@@ -276,15 +276,15 @@ fn lay_part(
     requires numbered { HasNumber mark (length layer.old.texts + weight one (marked_of tree)) }
     requires salts { length layer.old.texts + (mark_weight one mark + weight one (marked_of tree)) ≤ length hiding.salts.now }
     requires digests { layer.old.digests ≡ map (digest_of hiding.hash) layer.old.texts }
-    ensures part { IfOk result (λ part. (dec : Steps → List Text) → DecoysTell decoys.entry dec → (more : List Text) → IsPart dec (digest_at hiding.entry.hash (layer.new.texts ++ more)) mark (marked_of tree) part) }
+    ensures part { IfOk result (λ part. (dec : Steps → List Text) → DecoysTell decoys.entry dec → (more : List Text) → IsLaidNode dec (digest_at hiding.entry.hash (layer.new.texts ++ more)) mark (marked_of tree) part) }
     ensures texts { OnOk result ((dec : Steps → List Text) → DecoysTell decoys.entry dec → (more : List Text) → layer.new.texts ≡ layer.old.texts ++ made_texts (salted hiding.entry.salts.now) (length layer.old.texts) (laid_given dec (digest_at hiding.entry.hash (layer.new.texts ++ more)) (marked_of tree) ++ own_given (digest_at hiding.entry.hash (layer.new.texts ++ more)) (option_map (λ n. n.now) name.entry) mark (spec.lay dec (digest_at hiding.entry.hash (layer.new.texts ++ more)) (marked_of tree)))) }
     ensures count { OnOk result (length layer.new.texts ≡ length layer.old.texts + (mark_weight one mark + weight one (marked_of tree))) }
     ensures digests { OnOk result (layer.new.digests ≡ map (digest_of hiding.entry.hash) layer.new.texts) }
 {
     let inside = lay(alloc, tree, decoys, hiding, layer)?;
     match mark {
-        None => Ok(Part::Shown(inside)),
-        Some(_) => Ok(Part::Hidden(layer.disclose(alloc, hiding, name, inside)?)),
+        None => Ok(LaidNode::Shown(inside)),
+        Some(_) => Ok(LaidNode::Hidden(layer.disclose(alloc, hiding, name, inside)?)),
     }
 }
 

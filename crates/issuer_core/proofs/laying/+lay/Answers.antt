@@ -8,7 +8,7 @@ use Rattle.marked_tree.specs.Marked.{no_marked_elements, no_marked_members, mark
 use Rattle.marked_tree.specs.View.{marked_of, marked_elements_of, marked_members_of}
 use Rattle.marked_tree.proofs.MarkedViews.{Element, Entry}
 use Rattle.issuer_core.specs.Laid.{sorted, with_sd}
-use Rattle.issuer_core.specs.Laying.{digest_at, placed_at, IsPart}
+use Rattle.issuer_core.specs.Laying.{digest_at, placed_at, IsLaidNode}
 use Rattle.issuer_core.specs.Closing.{HasNumber}
 use Rattle.issuer_core.proofs.LaidBounds.{lay_ranged, lay_depth}
 use Rattle.issuer_core.proofs.LayingSteps.{IsMade, hidden_part, hidden_made}
@@ -60,10 +60,10 @@ lay_list-loop-mark-preserved t c =
     elim c.match-branch-3.branch [
       | lay_list-in-Shown w ↦
           rw w.tree-is
-          (shown_element dec (digest_at c.args.hiding.hash (texts ++ more)) c.in-Some.mark (marked_of c.in-Some.tree) w.in-Shown.tree (subst (λ p. IsPart dec (digest_at c.args.hiding.hash (texts ++ more)) c.in-Some.mark (marked_of c.in-Some.tree) p) w.in-Shown.is (told.part dec tells more)))
+          (shown_element dec (digest_at c.args.hiding.hash (texts ++ more)) c.in-Some.mark (marked_of c.in-Some.tree) w.in-Shown.tree (subst (λ p. IsLaidNode dec (digest_at c.args.hiding.hash (texts ++ more)) c.in-Some.mark (marked_of c.in-Some.tree) p) w.in-Shown.is (told.part dec tells more)))
       | lay_list-in-Hidden+in_ok-tree-in-Hidden w ↦
           rw w.tree-is
-          (hidden_element dec (digest_at c.args.hiding.hash (texts ++ more)) c.in-Some.mark (marked_of c.in-Some.tree) w.in-Hidden.digest _ (subst (λ p. IsPart dec (digest_at c.args.hiding.hash (texts ++ more)) c.in-Some.mark (marked_of c.in-Some.tree) p) w.in-Hidden.is (told.part dec tells more)) w.in_ok-tree-in-Hidden.ensures)
+          (hidden_element dec (digest_at c.args.hiding.hash (texts ++ more)) c.in-Some.mark (marked_of c.in-Some.tree) w.in-Hidden.digest _ (subst (λ p. IsLaidNode dec (digest_at c.args.hiding.hash (texts ++ more)) c.in-Some.mark (marked_of c.in-Some.tree) p) w.in-Hidden.is (told.part dec tells more)) w.in_ok-tree-in-Hidden.ensures)
     ])
     told.texts told.count told.digests in
     subst (λ laid. LaysElements a.decoys a.hiding a.layer.now.texts a.list laid texts c.lay_part.new.layer.digests left) (sym c.in_ok-push.ensures.ok) next
