@@ -9,7 +9,7 @@ use Rattle.sd_outside.specs.Limits.{file_max}
 use Rattle.verifier_core.specs.declared.policy.Policy.{Policy}
 use Rattle.feed_core.specs.Cut.{IsOneLine, last_line}
 use Rattle.feed_core.specs.FeedVerdict.{TellsVerdicts}
-use Rattle.feed_core.specs.Feed.{FeedState, taking, kept_line, Takes, TellsFront, end_line}
+use Rattle.feed_core.specs.Feed.{FeedState, taking, kept_rest, Takes, TellsFront, end_line}
 use Rattle.feed_core.specs.FeedCalls.{TakesFront, IsEnded, count_at_end}
 use Rattle.feed_core.proofs.Cuts.{all_take, cut_of}
 use Rattle.feed_core.proofs.Fronts.{prefix_after, front_none, front_all}

@@ -6,7 +6,7 @@ use Rattle.std.proofs.lemmas.List.{take-append-drop, drop_more, take_min, take_a
 use Rattle.std.proofs.Math.Seq.{take-append-add}
 use Rattle.sd_outside.specs.Limits.{file_max}
 use Rattle.feed_core.specs.Cut.{IsOneLine}
-use Rattle.feed_core.specs.Feed.{kept_line}
+use Rattle.feed_core.specs.Feed.{kept_rest}
 
 -- no line end stands in front of a place
 pub one_line_below : (text : List ℕ) (n : ℕ) → ((k : ℕ) → k < n → k < length text → get_or text k 0 ≡ 10 → ⊥) → IsOneLine (take n text)
@@ -22,7 +22,7 @@ pub at_end : (text : List ℕ) (at : ℕ) → at < length text → get_or text a
 at_end text at within is = sym (take-append-drop at text) ∙ ap (λ (t : List ℕ). take at text ++ t) (drop_more text at 0 within ∙ ap (λ (b : ℕ). b ∷ drop (at + 1) text) is)
 
 -- what is kept of more bytes
-pub kept_more : (rest bytes : List ℕ) → length rest ≤ file_max + 1 → rest ++ take (min (file_max + 1 - length rest) (length bytes)) bytes ≡ kept_line (rest ++ bytes)
+pub kept_more : (rest bytes : List ℕ) → length rest ≤ file_max + 1 → rest ++ take (min (file_max + 1 - length rest) (length bytes)) bytes ≡ kept_rest (rest ++ bytes)
 kept_more rest bytes short =
     let room = file_max + 1 - length rest in
     let whole : length rest + room ≡ file_max + 1 = omega arith in

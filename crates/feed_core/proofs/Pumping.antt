@@ -7,7 +7,7 @@ use Rattle.sd_outside.specs.Causes.{Rose, AppendsPrefix}
 use Rattle.verifier_core.specs.declared.policy.Policy.{Policy}
 use Rattle.feed_core.specs.Cut.{IsCut, AreLines, last_line}
 use Rattle.feed_core.specs.FeedVerdict.{TellsVerdicts}
-use Rattle.feed_core.specs.Feed.{FeedState, taking, kept_line, Takes, TellsFront, end_line}
+use Rattle.feed_core.specs.Feed.{FeedState, taking, kept_rest, Takes, TellsFront, end_line}
 use Rattle.feed_core.specs.FeedCalls.{new_feed, TakesFront, IsEnded, count_at_end}
 use Rattle.feed_core.specs.FeedSource.{Input, Gave, FedAll, ToldEnded, FedLong, FedPart, FedFront}
 use Rattle.feed_core.proofs.Cuts.{cut_open, lines_within}
@@ -118,7 +118,7 @@ module _ (policy : Policy) (now most : ℕ) (before : Input) (old : Option (List
 
   -- ---- the source is at its end
 
-  count_all : (ended : List (List ℕ)) (rest : List ℕ) → count_at_end (taking policy now (kept_line rest) (0 + length ended)) ≡ length (ended ++ last_line rest)
+  count_all : (ended : List (List ℕ)) (rest : List ℕ) → count_at_end (taking policy now (kept_rest rest) (0 + length ended)) ≡ length (ended ++ last_line rest)
   count_all ended rest = omega (arith, length-append ended (last_line rest), last_as_many policy now rest)
 
   pub pumped_unended : (left : ℕ) (mid after : Input) (feed : FeedState) (new last : Option (List ℕ)) → Pumped policy now most left before mid feed old new → Gave mid after []
@@ -126,11 +126,11 @@ module _ (policy : Policy) (now most : ℕ) (before : Input) (old : Option (List
   pumped_unended left mid after feed new last is gave front =
       let takes = is.takes in
       let P : FeedState → Type 0 = λ f. TellsFront f.policy f.now (last_line f.rest) (end_line (count_at_end f)) new last in
-      let Q : ℕ → Type 0 = λ n. TellsFront policy now (last_line (kept_line takes.rest)) (end_line n) new last in
+      let Q : ℕ → Type 0 = λ n. TellsFront policy now (last_line (kept_rest takes.rest)) (end_line n) new last in
       let G : List ℕ → Type 0 = λ t. Gave before after t in
       let lines = takes.ended ++ last_line takes.rest in
       let whole = subst Q (count_all takes.ended takes.rest) (subst P takes.after_is front) in
-      let step = front_carried (last_line (kept_line takes.rest)) (last_line takes.rest) (end_line (length lines)) new last (last_as_many policy now takes.rest) (last_tells policy now takes.rest) whole in
+      let step = front_carried (last_line (kept_rest takes.rest)) (last_line takes.rest) (end_line (length lines)) new last (last_as_many policy now takes.rest) (last_tells policy now takes.rest) whole in
       record {
         bytes = is.bytes;
         gave = subst G (append-nil is.bytes) (gave_more before mid after is.bytes [] is.gave gave);
@@ -149,7 +149,7 @@ module _ (policy : Policy) (now most : ℕ) (before : Input) (old : Option (List
       let whole = subst P takes.after_is ended in
       let lines = takes.ended ++ last_line takes.rest in
       let verdict = whole.1.verdict in
-      let last_told = carry_all policy now (last_line (kept_line takes.rest)) (last_line takes.rest) verdict (last_as_many policy now takes.rest) (last_tells policy now takes.rest) whole.1.told in
+      let last_told = carry_all policy now (last_line (kept_rest takes.rest)) (last_line takes.rest) verdict (last_as_many policy now takes.rest) (last_tells policy now takes.rest) whole.1.told in
       let A : List ℕ → Type 0 = λ t. Appends old last t in
       let text_is : is.text ++ whole.0 ≡ (is.text ++ verdict) ++ end_line (length lines)
       = ap (λ (t : List ℕ). is.text ++ t) (whole.1.text_is ∙ ap (λ (n : ℕ). verdict ++ end_line n) (count_all takes.ended takes.rest))

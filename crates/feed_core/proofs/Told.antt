@@ -9,7 +9,7 @@ use Rattle.verifier_core.specs.declared.policy.Policy.{Policy}
 use Rattle.cli_parts.specs.Lines.{line}
 use Rattle.feed_core.specs.Cut.{IsOneLine, IsCut, last_line}
 use Rattle.feed_core.specs.FeedVerdict.{TellsVerdict, TellsVerdicts}
-use Rattle.feed_core.specs.Feed.{kept_line}
+use Rattle.feed_core.specs.Feed.{kept_rest}
 use Rattle.feed_core.proofs.FeedVerdicts.{one_verdict_text, long_alike}
 use Rattle.feed_core.proofs.Cuts.{all_append, all_back, all_take, cut_append, front_of_line, headed}
 
@@ -58,19 +58,19 @@ module _ (policy : Policy) (now : ℕ) where
 
   -- ---- a line of which only a front is kept
 
-  long_front : (rest more : List ℕ) → file_max + 1 ≤ length rest → file_max < length (kept_line rest ++ more)
-  long_front rest more long = omega (arith, length-append (kept_line rest) more, length-take (file_max + 1) rest, long)
+  long_front : (rest more : List ℕ) → file_max + 1 ≤ length rest → file_max < length (kept_rest rest ++ more)
+  long_front rest more long = omega (arith, length-append (kept_rest rest) more, length-take (file_max + 1) rest, long)
 
   long_whole : (rest more : List ℕ) → file_max + 1 ≤ length rest → file_max < length (rest ++ more)
   long_whole rest more long = omega (arith, length-append rest more, long)
 
   -- a line that goes on has the verdict of what is kept of it and goes on
-  pub told_kept : (rest more text : List ℕ) → TellsVerdict policy now (kept_line rest ++ more) text → TellsVerdict policy now (rest ++ more) text
+  pub told_kept : (rest more text : List ℕ) → TellsVerdict policy now (kept_rest rest ++ more) text → TellsVerdict policy now (rest ++ more) text
   told_kept rest more text told = go (short_or_long (length rest) (file_max + 1))
     where
       go : (length rest ≤ file_max + 1) ⊎ (file_max + 1 ≤ length rest) → TellsVerdict policy now (rest ++ more) text
       go (inl short) = let P : List ℕ → Type 0 = λ r. TellsVerdict policy now (r ++ more) text in subst P (take_all (file_max + 1) rest short) told
-      go (inr far) = long_alike policy now (kept_line rest ++ more) (rest ++ more) text (long_front rest more far) (long_whole rest more far) told
+      go (inr far) = long_alike policy now (kept_rest rest ++ more) (rest ++ more) text (long_front rest more far) (long_whole rest more far) told
 
   -- the lines that end in what is kept and a piece, and the lines that end in all of it: what tells the first tells the second
   pub record Carried (text : List ℕ) (ended others : List (List ℕ)) (behind piece : List ℕ) : Type 0 where
@@ -78,12 +78,12 @@ module _ (policy : Policy) (now : ℕ) where
     pub rest : List ℕ
     pub cut : IsCut (text ++ piece) (ended ++ lines) rest
     pub tells : (n : ℕ) (told : List ℕ) → TellsVerdicts policy now (take n others) told → TellsVerdicts policy now (take n lines) told
-    pub rest_kept : kept_line behind ≡ kept_line rest
+    pub rest_kept : kept_rest behind ≡ kept_rest rest
     pub as_many : length others ≡ length lines
 
-  kept_on : (rest more : List ℕ) → file_max + 1 ≤ length rest → kept_line (kept_line rest ++ more) ≡ kept_line (rest ++ more)
+  kept_on : (rest more : List ℕ) → file_max + 1 ≤ length rest → kept_rest (kept_rest rest ++ more) ≡ kept_rest (rest ++ more)
   kept_on rest more long =
-      let one = take-append-le (file_max + 1) (kept_line rest) more (omega (arith, length-take (file_max + 1) rest, long)) in
+      let one = take-append-le (file_max + 1) (kept_rest rest) more (omega (arith, length-take (file_max + 1) rest, long)) in
       let two = take-append-le (file_max + 1) rest more long in
       one ∙ take-take (file_max + 1) (file_max + 1) rest (omega arith) ∙ sym two
 
@@ -100,23 +100,23 @@ module _ (policy : Policy) (now : ℕ) where
   front_first token other tokens alike (suc n) text told = told_first token other (take n tokens) text alike told
 
   -- where it is longer
-  carry_long : (text piece behind : List ℕ) (ended others : List (List ℕ)) (rest : List ℕ) → file_max + 1 ≤ length rest → IsCut text ended rest → IsCut (kept_line rest ++ piece) others behind
+  carry_long : (text piece behind : List ℕ) (ended others : List (List ℕ)) (rest : List ℕ) → file_max + 1 ≤ length rest → IsCut text ended rest → IsCut (kept_rest rest ++ piece) others behind
       → Carried text ended others behind piece
   carry_long text piece behind ended [] rest long cut next =
       let one = next.unended in
-      let whole : IsOneLine (rest ++ piece) = all_append _ rest piece cut.unended (all_back _ (kept_line rest) piece (rw next.whole one)) in
+      let whole : IsOneLine (rest ++ piece) = all_append _ rest piece cut.unended (all_back _ (kept_rest rest) piece (rw next.whole one)) in
       let going : IsCut (rest ++ piece) [] (rest ++ piece) = record { whole = refl; lines = tt; unended = whole } in
       record {
         lines = [];
         rest = rest ++ piece;
         cut = cut_append text piece ended [] rest (rest ++ piece) cut going;
         tells = λ n told is. is;
-        rest_kept = ap kept_line (sym next.whole) ∙ kept_on rest piece long;
+        rest_kept = ap kept_rest (sym next.whole) ∙ kept_on rest piece long;
         as_many = refl;
       }
   carry_long text piece behind ended (w ∷ ws) rest long cut next =
-      let front = front_of_line (kept_line rest) piece w (flat_map line ws ++ behind) (all_take _ (file_max + 1) rest cut.unended) (next.whole ∙ headed w ws behind) in
-      let middle : IsOneLine front.middle = all_back _ (kept_line rest) front.middle (rw front.first_is at next.lines.0) in
+      let front = front_of_line (kept_rest rest) piece w (flat_map line ws ++ behind) (all_take _ (file_max + 1) rest cut.unended) (next.whole ∙ headed w ws behind) in
+      let middle : IsOneLine front.middle = all_back _ (kept_rest rest) front.middle (rw front.first_is at next.lines.0) in
       let going : IsCut (rest ++ piece) ((rest ++ front.middle) ∷ ws) behind = record {
         whole = ap (λ (t : List ℕ). rest ++ t) front.more_is ∙ sym (append_assoc rest front.middle (10 ∷ (flat_map line ws ++ behind))) ∙ sym (headed (rest ++ front.middle) ws behind);
         lines = (all_append _ rest front.middle cut.unended middle, next.lines.1);
@@ -132,7 +132,7 @@ module _ (policy : Policy) (now : ℕ) where
       }
 
   -- what is cut on from what is kept is cut on from all, and told the same
-  pub carry : (text piece behind : List ℕ) (ended others : List (List ℕ)) (rest : List ℕ) → IsCut text ended rest → IsCut (kept_line rest ++ piece) others behind
+  pub carry : (text piece behind : List ℕ) (ended others : List (List ℕ)) (rest : List ℕ) → IsCut text ended rest → IsCut (kept_rest rest ++ piece) others behind
       → Carried text ended others behind piece
   carry text piece behind ended others rest cut next = go (short_or_long (length rest) (file_max + 1))
     where
@@ -149,10 +149,10 @@ module _ (policy : Policy) (now : ℕ) where
 
   -- ---- the last line
 
-  pub last_tells : (rest : List ℕ) (n : ℕ) (text : List ℕ) → TellsVerdicts policy now (take n (last_line (kept_line rest))) text → TellsVerdicts policy now (take n (last_line rest)) text
+  pub last_tells : (rest : List ℕ) (n : ℕ) (text : List ℕ) → TellsVerdicts policy now (take n (last_line (kept_rest rest))) text → TellsVerdicts policy now (take n (last_line rest)) text
   last_tells [] n text told = told
-  last_tells (byte ∷ bytes) n text told = front_first (kept_line (byte ∷ bytes)) (byte ∷ bytes) [] (λ t p. rw append-nil at (told_kept (byte ∷ bytes) [] t (rw append-nil p))) n text told
+  last_tells (byte ∷ bytes) n text told = front_first (kept_rest (byte ∷ bytes)) (byte ∷ bytes) [] (λ t p. rw append-nil at (told_kept (byte ∷ bytes) [] t (rw append-nil p))) n text told
 
-  pub last_as_many : (rest : List ℕ) → length (last_line (kept_line rest)) ≡ length (last_line rest)
+  pub last_as_many : (rest : List ℕ) → length (last_line (kept_rest rest)) ≡ length (last_line rest)
   last_as_many [] = refl
   last_as_many (byte ∷ bytes) = refl

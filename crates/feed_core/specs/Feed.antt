@@ -21,8 +21,8 @@ abbrev pub taking : Policy → ℕ → List ℕ → ℕ → FeedState
 taking policy now rest count = record { policy = policy; now = now; rest = rest; count = count; over = false }
 
 -- what is kept of a line that has not ended: one byte more than the limit tells a line that is too long
-abbrev pub kept_line : List ℕ → List ℕ
-kept_line rest = take (file_max + 1) rest
+abbrev pub kept_rest : List ℕ → List ℕ
+kept_rest rest = take (file_max + 1) rest
 
 -- a piece was taken, and this was written for the lines that ended in it
 pub record Takes (before after : FeedState) (piece text : List ℕ) : Type 0 where
@@ -30,7 +30,7 @@ pub record Takes (before after : FeedState) (piece text : List ℕ) : Type 0 whe
   pub rest : List ℕ
   pub cut : IsCut (before.rest ++ piece) ended rest
   pub told : TellsVerdicts before.policy before.now ended text
-  pub after_is : after ≡ taking before.policy before.now (kept_line rest) (before.count + length ended)
+  pub after_is : after ≡ taking before.policy before.now (kept_rest rest) (before.count + length ended)
 
 -- the sink took a front part of the verdicts on these lines, of one after the other, and with all of them perhaps one of the text
 -- behind them

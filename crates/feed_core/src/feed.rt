@@ -3,7 +3,7 @@ ghost use Rattle.std.specs.Io.KnownBytes.{Appends};
 ghost use Rattle.sd_outside.specs.Causes.{Rose};
 ghost use Rattle.sd_outside.specs.Limits.{file_max};
 ghost use Rattle.feed_core.specs.Cut.{IsOneLine, last_line};
-ghost use Rattle.feed_core.specs.Feed.{taking, kept_line, Takes, TellsFront, end_line};
+ghost use Rattle.feed_core.specs.Feed.{taking, kept_rest, Takes, TellsFront, end_line};
 ghost use Rattle.feed_core.specs.FeedCalls.{new_feed, TakesFront, IsEnded, count_at_end};
 
 use crate::FeedError;
@@ -139,7 +139,7 @@ fn split_line(text: &[u8]) -> Option<(&[u8], &[u8])>
 // Keeps these bytes of a line that has not ended, too.
 fn keep(rest: &mut Vec<u8>, bytes: &[u8]) -> Result<(), FeedError>
     requires { length rest.old.items ≤ file_max + 1 }
-    ensures kept_line { OnOk result (rest.new.items ≡ kept_line (rest.old.items ++ bytes.now)) }
+    ensures kept { OnOk result (rest.new.items ≡ kept_rest (rest.old.items ++ bytes.now)) }
     ensures cause { result ≢ Err FeedError.Unwritten }
     ensures open { result ≢ Err FeedError.Over }
 {
