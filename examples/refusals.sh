@@ -69,12 +69,9 @@ on_page() {
         s/^### memory$/5 memory/p' ../docs/REFUSALS.md
 }
 
-# The numbers and the names of a file that gives both to each constructor.
+# The numbers and the names of a table that gives both to each constructor.
 numbered() {
-    awk '
-        $1 ~ "^(refusal_)?number(_of)?$" && $NF ~ /^[0-9]+$/ { gsub(/[()]/, "", $2); number[$2] = $NF }
-        $1 ~ "^(refusal_)?name(_of)?$" && $(NF - 1) == "codes" { gsub(/[()]/, "", $2); gsub(/"/, "", $NF); name[$2] = $NF }
-        END { for (it in name) print number[it], name[it] }' "$@"
+    sed -n 's/^[a-z_]* [A-Za-z.]* = (\([0-9]*\), codes "\([A-Za-z]*\)")$/\1 \2/p' "$@"
 }
 
 # The printed words of the members that lines name.
@@ -96,7 +93,6 @@ in_code() {
     numbered "$specs/compact_form/specs/Condition.antt" "$specs/compact_form/specs/Refusal.antt"
     sed -n 's/^reason [A-Za-z]* = codes "\([A-Za-z]*\)"$/6 \1/p; s/^short_seed .*unreadable 2 \([a-z]*\).*/6 \1/p' \
         "$specs/cli_parts/specs/Lines.antt"
-    sed -n 's/.*codes "refused \([0-9]* [A-Za-z]*\)".*/\1/p' "$specs/feed_core/specs/FeedRun.antt"
     # the payload of an order may be any value
     readers | sed -n '/^const FIELDS/,/];/p' | words_of | sed '/^payload$/d; s/^/6 wrong /'
     readers | sed -n '/key[a-z_]*_member(/p; /Missing(Field/p' | words_of | sed 's/^/6 missing /'
