@@ -7,14 +7,14 @@ use Rattle.verifier_core.specs.declared.policy.Policy.{Policy}
 use Rattle.verifier_core.specs.PolicyFile.{IsPolicyFile, IsPolicyFileRefused}
 
 -- the file says a policy, and there is no more to tell
-pub record IsRead (file text : List ℕ) : Type 0 where
+pub record IsReadPolicy (file text : List ℕ) : Type 0 where
   pub policy : Policy
   pub is_policy : IsPolicyFile file policy
   pub empty : text ≡ []
 
 -- it is read, or not of its form, and never refused
 abbrev pub PolicyAnswers : List ℕ → Reply → Type 0
-PolicyAnswers file reply = Replies (IsRead file) (λ _. ⊥) (TellsFileFault (IsPolicyFileRefused file)) reply
+PolicyAnswers file reply = Replies (IsReadPolicy file) (λ _. ⊥) (TellsFileFault (IsPolicyFileRefused file)) reply
 
 -- under a policy: what `verify` answers for each file that says it
 abbrev pub UnderAnswers : Policy → List ℕ → ℕ → Reply → Type 0
