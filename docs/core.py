@@ -24,7 +24,7 @@ from pathlib import Path
 
 TOP = Path(__file__).resolve().parent.parent
 CRATES = re.findall(r"^(\w+):", (TOP / "crates.txt").read_text(encoding="utf-8"), re.M)
-ROOTS = ["sdjwt_cli::top::run", "sdjwt_cli::laws::presented", "sdjwt_cli::laws::no_forgery", "feed_core::run::run_feed", "feed_core::laws::any_cut", "audit_core::run::run_audit", "wallet_core::run::run_wallet"]
+ROOTS = ["sdjwt_cli::top::run", "sdjwt_cli::laws::presented", "sdjwt_cli::laws::no_forgery", "sdjwt_tools::tools::run_tools", "feed_core::laws::any_cut", "cli_parts::host::exit_code"]
 
 WORD = re.compile(r"[^\W\d][\w'-]*(?:\.[^\W\d][\w'-]*)*")
 USE = re.compile(r"^\s*(?:ghost )?use ([A-Za-z_][\w.]*?)(?:\.\{(.*?)\}| as (\w+))?;?\s*$", re.M)

@@ -28,7 +28,7 @@ pub(crate) struct Written {
 }
 
 // What a text gives, where it is a disclosure that is written so and has a salt of 16 bytes.
-fn read_salted(
+fn read_one(
     alloc: Global,
     hash: HashAlg,
     reader: &mut CompactReader,
@@ -64,7 +64,7 @@ fn read_given(
 {
     let mut given = GivenList::with_capacity(alloc, count)?;
     for text in disclosures {
-        match read_salted(alloc, hash, reader, text)? {
+        match read_one(alloc, hash, reader, text)? {
             Some(one) => given.push(one)?,
             None => return Ok(None),
         }

@@ -5,3 +5,4 @@ pub mod Stops
 pub mod Outside
 pub mod Runs
 pub mod Finishing
+pub mod Endings

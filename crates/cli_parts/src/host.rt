@@ -1,4 +1,8 @@
-// What a program takes from its host before it runs a command.
+// What a program takes from its host before it runs a command, and how it ends.
+ghost use Rattle.std.specs.Prelude.{◌≡◌, ◌≤◌};
+ghost use Rattle.cli_parts.specs.Endings.{EndsWith, ending_row};
+ghost use Rattle.cli_parts.specs.Lines.{line};
+ghost use Rattle.cli_parts.specs.Outside.{Tells, stream};
 
 use crate::tell;
 use sd_outside::{Sink, Status};
@@ -20,7 +24,11 @@ pub enum Ending {
 
 impl Ending {
     // Tells it on `err`, and answers the status that it has.
-    fn tell<E: Sink>(self, err: &mut E) -> Status {
+    fn tell<E: Sink>(self, err: &mut E) -> Status
+        ensures status { result ≡ (ending_row self).0 }
+        ensures told { Tells (stream (E.written err.old) (E.faults err.old)) (stream (E.written err.new) (E.faults err.new)) (line (ending_row self).1) }
+        ensures later { E.faults err.old ≤ E.faults err.new }
+    {
         match self {
             Ending::Words => tell(err, "usage\n", Status::Usage),
             Ending::Memory => tell(err, "memory\n", Status::Memory),
@@ -56,8 +64,11 @@ pub fn seconds(rt: &impl Clock) -> Result<u64, Ending> {
     }
 }
 
-/// How the program ends. Where it ran no command, `err` is told why.
-pub fn exit_code<E: Sink>(ran: Result<Status, Ending>, err: &mut E) -> ExitCode {
+/// The exit status of the program. Where it ran no command, `err` is told why.
+pub fn exit_code<E: Sink>(ran: Result<Status, Ending>, err: &mut E) -> ExitCode
+    ensures ends { EndsWith ran (stream (E.written err.old) (E.faults err.old)) (stream (E.written err.new) (E.faults err.new)) result }
+    ensures later { E.faults err.old ≤ E.faults err.new }
+{
     let status = match ran {
         Ok(status) => status,
         Err(ending) => ending.tell(err),

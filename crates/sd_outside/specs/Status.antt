@@ -1,4 +1,4 @@
--- Not needed to believe the program's promises: the exit statuses of the program.
+-- The exit statuses of the program.
 use Rattle.std.specs.Prelude.{ℕ}
 use Rattle.sd_outside.specs.declared.status.Status.{Status}
 use Rattle.sd_outside.specs.declared.status.Status.TheVariants.{Done, Refused, Usage, Unread, Unwritten, Memory, Unreadable}

@@ -1,4 +1,4 @@
--- Not needed to believe the program's promises: which tool the words name.
+-- Which tool the words name.
 use Rattle.std.specs.Prelude.{◌≡◌, ℕ, List, ◌∷◌}
 
 -- the first word is this name
