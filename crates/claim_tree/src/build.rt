@@ -3,7 +3,6 @@ ghost use Rattle.std.specs.Prelude.{◌≡◌, ◌<◌, length, Some, IfOk, OnOk
 ghost use Rattle.json.specs.Json.{value, items, members};
 ghost use Rattle.serde_json.specs.Data.{no_members};
 ghost use Rattle.serde_json.specs.Read.{of_json, of_items, of_members, converted, read as value_of_text};
-ghost use Rattle.claim_tree.specs.Tree.{IsRanged, ElementsRanged, MembersRanged};
 ghost use Rattle.claim_tree.specs.View.{tree_of};
 ghost use Rattle.claim_tree.specs.JsonText.{data_of, elements_data, members_data};
 
@@ -50,7 +49,6 @@ pub(crate) fn build_text(
     text: &str,
 ) -> Result<Tree, BuildError>
     ensures ok { IfOk result (λ t. value_of_text text.now ≡ Some (data_of (tree_of t))) }
-    ensures ranged { IfOk result (λ t. IsRanged (tree_of t)) }
 {
     let mut reader = Reader::new(text, scratch)?;
     let tree = build(alloc, &mut reader, MOST_DEPTH)?;
@@ -68,7 +66,6 @@ pub(crate) fn build(
     depth: usize,
 ) -> Result<Tree, BuildError>
     ensures ok { IfOk result (λ t. converted of_json (value depth reader.old) ≡ Some (data_of (tree_of t), reader.new)) }
-    ensures ranged { IfOk result (λ t. IsRanged (tree_of t)) }
     ensures shorter { OnOk result (length reader.new < length reader.old) }
 {
     let token = reader.next().ok_or(BuildError::NoTree)?;
@@ -92,7 +89,6 @@ fn build_elements(
     depth: usize,
 ) -> Result<TreeList, BuildError>
     ensures ok { IfOk result (λ es. converted of_items (items (value depth) (length reader.old) reader.old) ≡ Some (elements_data es, reader.new)) }
-    ensures ranged { IfOk result ElementsRanged }
     ensures shorter { OnOk result (length reader.new < length reader.old) }
 {
     let mut trees = TreeList::new(alloc);
@@ -119,7 +115,6 @@ fn build_members(
     depth: usize,
 ) -> Result<TreeMap, BuildError>
     ensures ok { IfOk result (λ ms. converted (λ found. of_members found no_members) (members (value depth) (length reader.old) reader.old) ≡ Some (members_data ms, reader.new)) }
-    ensures ranged { IfOk result MembersRanged }
     ensures shorter { OnOk result (length reader.new < length reader.old) }
 {
     let mut trees = TreeMap::new(alloc);

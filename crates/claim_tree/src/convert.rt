@@ -4,12 +4,11 @@ ghost use Rattle.serde_json.specs.View.{view as value_view, number_view, items_v
 ghost use Rattle.serde_json.specs.Written.{has_float, items_have_float, members_have_float};
 ghost use Rattle.serde_json.specs.Data.{number as number_data};
 ghost use Rattle.serde_json.specs.Find.{is_float};
-ghost use Rattle.claim_tree.specs.Tree.{IsRanged, ElementsRanged, MembersRanged};
 ghost use Rattle.claim_tree.specs.View.{tree_of};
 ghost use Rattle.claim_tree.specs.JsonText.{data_of, elements_data, members_data};
 ghost use Rattle.claim_tree.specs.declared.convert.TakeError.TheVariants.{NotWhole};
 
-use crate::{Tree, TreeList, TreeMap};
+use crate::{Tree, TreeList, TreeMap, Whole};
 use sd_outside::{NoMemory, TextBox};
 use serde_json::{Map, Number, Value};
 use std::alloc::Global;
@@ -35,7 +34,6 @@ impl From<NoMemory> for TakeError {
 #[cycle(take)]
 pub(crate) fn take(alloc: Global, value: Value) -> Result<Tree, TakeError>
     ensures ok { IfOk result (λ t. value_view value ≡ data_of (tree_of t)) }
-    ensures ranged { IfOk result (λ t. IsRanged (tree_of t)) }
     ensures not_whole { IfErr result (λ e. e ≡ NotWhole → has_float (value_view value) ≡ true) }
 {
     match value {
@@ -50,13 +48,12 @@ pub(crate) fn take(alloc: Global, value: Value) -> Result<Tree, TakeError>
 
 fn take_number(number: Number) -> Result<Tree, TakeError>
     ensures ok { IfOk result (λ t. number_data (number_view number) ≡ data_of (tree_of t)) }
-    ensures ranged { IfOk result (λ t. IsRanged (tree_of t)) }
     ensures not_whole { IfErr result (λ _. is_float (number_view number) ≡ true) }
 {
     if let Some(n) = number.as_u64() {
-        Ok(Tree::Whole(n as i128))
+        Ok(Tree::Whole(Whole::from(n)))
     } else if let Some(n) = number.as_i64() {
-        Ok(Tree::Whole(n as i128))
+        Ok(Tree::Whole(Whole::from(n)))
     } else {
         Err(TakeError::NotWhole)
     }
@@ -65,7 +62,6 @@ fn take_number(number: Number) -> Result<Tree, TakeError>
 #[cycle(take)]
 fn take_elements(alloc: Global, values: Vec<Value>) -> Result<TreeList, TakeError>
     ensures ok { IfOk result (λ trees. items_view values.items ≡ elements_data trees) }
-    ensures ranged { IfOk result ElementsRanged }
     ensures not_whole { IfErr result (λ e. e ≡ NotWhole → items_have_float (items_view values.items) ≡ true) }
 {
     let mut trees = TreeList::new(alloc);
@@ -78,7 +74,6 @@ fn take_elements(alloc: Global, values: Vec<Value>) -> Result<TreeList, TakeErro
 #[cycle(take)]
 fn take_members(alloc: Global, members: Map<String, Value>) -> Result<TreeMap, TakeError>
     ensures ok { IfOk result (λ trees. members_view members.entries ≡ members_data trees) }
-    ensures ranged { IfOk result MembersRanged }
     ensures not_whole { IfErr result (λ e. e ≡ NotWhole → members_have_float (members_view members.entries) ≡ true) }
 {
     let mut trees = TreeMap::new(alloc);

@@ -1,6 +1,6 @@
 // What the files that a command reads have in common.
 ghost use Rattle.std.specs.Prelude.{◌≡◌, ◌≢◌, ◌≤◌, List, IfOk, IfErr, IfSome, IfNone};
-ghost use Rattle.claim_tree.specs.Tree.{Text, object, IsRanged, IsOrdered, depth as depth_of};
+ghost use Rattle.claim_tree.specs.Tree.{Text, object, IsOrdered, depth as depth_of};
 ghost use Rattle.claim_tree.specs.View.{tree_of};
 ghost use Rattle.claim_tree.specs.ListViews.{elements_of};
 ghost use Rattle.claim_tree.specs.FileForms as spec;
@@ -37,7 +37,6 @@ pub fn read_members(
     fields: &[Field],
 ) -> Result<TreeMap, FileFault>
     ensures ok { IfOk result (HasMembers most fields.now bytes.now) }
-    ensures ranged { IfOk result (λ ms. IsRanged (object ms)) }
     ensures ordered { IfOk result (λ ms. IsOrdered (object ms)) }
     ensures depth { IfOk result (λ ms. depth_of (object ms) ≤ 127) }
     ensures refused { IfErr result (HasNoMembers most fields.now bytes.now) }
@@ -117,7 +116,7 @@ pub fn whole_up_to(tree: &Tree, most: u32) -> Option<u32>
     let Tree::Whole(whole) = tree else {
         return None;
     };
-    let n = u32::try_from(*whole).ok()?;
+    let n = u32::try_from(whole.get()).ok()?;
     if n <= most { Some(n) } else { None }
 }
 

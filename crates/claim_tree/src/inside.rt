@@ -1,7 +1,7 @@
 // The trees inside a tree.
 ghost use Rattle.std.specs.Prelude.{◌≡◌, ◌≢◌, ◌<◌, ℕ, IfSome, None, drop, option_map};
 ghost use Rattle.std.specs.Fmt.{decimal};
-ghost use Rattle.claim_tree.specs.Tree.{get as get_of, IsRanged};
+ghost use Rattle.claim_tree.specs.Tree.{get as get_of};
 ghost use Rattle.claim_tree.specs.Path.{tree_at, stepped as stepped_of};
 ghost use Rattle.claim_tree.specs.View.{tree_of};
 
@@ -11,7 +11,6 @@ use itoa::Buffer;
 /// The member of an object. It takes no memory.
 pub fn get<'a>(tree: &'a Tree, name: &str) -> Option<&'a Tree>
     ensures value { option_map (λ t. tree_of t.now) result ≡ get_of (tree_of tree.now) name.now }
-    ensures ranged { IsRanged (tree_of tree.now) → IfSome result (λ t. IsRanged (tree_of t.now)) }
 {
     match tree {
         Tree::Object(members) => members.get(name),
@@ -23,7 +22,6 @@ pub fn get<'a>(tree: &'a Tree, name: &str) -> Option<&'a Tree>
 /// leading zero; `-` leads nowhere. It takes no memory.
 pub fn find<'a>(tree: &'a Tree, path: &Path) -> Option<&'a Tree>
     ensures value { option_map (λ t. tree_of t.now) result ≡ tree_at (tree_of tree.now) path.now }
-    ensures ranged { IsRanged (tree_of tree.now) → IfSome result (λ t. IsRanged (tree_of t.now)) }
 {
     find_behind(tree, path, 0)
 }
@@ -31,7 +29,6 @@ pub fn find<'a>(tree: &'a Tree, path: &Path) -> Option<&'a Tree>
 /// The same, from the tree at which the first steps of the path have come, which are so many.
 pub fn find_behind<'a>(tree: &'a Tree, path: &Path, count: usize) -> Option<&'a Tree>
     ensures value { option_map (λ t. tree_of t.now) result ≡ tree_at (tree_of tree.now) (drop count path.now) }
-    ensures ranged { IsRanged (tree_of tree.now) → IfSome result (λ t. IsRanged (tree_of t.now)) }
 {
     let mut found = tree;
     for step in path.steps_behind(count) {
@@ -43,7 +40,6 @@ pub fn find_behind<'a>(tree: &'a Tree, path: &Path, count: usize) -> Option<&'a 
 // The tree one step inside.
 fn stepped<'a>(tree: &'a Tree, step: &str) -> Option<&'a Tree>
     ensures value { option_map (λ t. tree_of t.now) result ≡ stepped_of (tree_of tree.now) step.now }
-    ensures ranged { IsRanged (tree_of tree.now) → IfSome result (λ t. IsRanged (tree_of t.now)) }
 {
     match tree {
         Tree::List(trees) => trees.at(position(step, trees.len())?),

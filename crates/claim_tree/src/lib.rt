@@ -19,6 +19,7 @@ mod tail;
 mod text;
 mod tokens;
 mod tree;
+mod whole;
 mod whole_number;
 
 pub use copies::{copy, copy_members};
@@ -34,3 +35,4 @@ pub use pointer::{PointerError, print_path, read_pointer};
 pub use tail::{ListTail, TailOrTree};
 pub use text::{JsonReader, ReadError, read, write, write_list};
 pub use tree::{Tree, TreeList, TreeMap};
+pub use whole::Whole;

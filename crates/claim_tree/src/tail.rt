@@ -2,7 +2,7 @@
 ghost use Rattle.std.specs.Prelude.{◌≡◌, length, Some, IfOk};
 ghost use Rattle.json.specs.Json.{value, items};
 ghost use Rattle.serde_json.specs.Read.{of_items, converted, read as value_of_text};
-ghost use Rattle.claim_tree.specs.Tree.{Text, text as text_leaf, leaf, array, element, ElementsRanged};
+ghost use Rattle.claim_tree.specs.Tree.{Text, text as text_leaf, leaf, array, element};
 ghost use Rattle.claim_tree.specs.JsonText.{data_of, elements_data};
 ghost use Rattle.claim_tree.specs.ListTails.{tail_elements};
 
@@ -34,7 +34,6 @@ pub(crate) fn build_tail(
     text: &str,
 ) -> Result<ListTail, BuildError>
     ensures ok { IfOk result (λ tail. (first : Text) × (value_of_text text.now ≡ Some (data_of (array (element (leaf (text_leaf first)) (tail_elements tail)))))) }
-    ensures ranged { IfOk result (λ tail. ElementsRanged (tail_elements tail)) }
 {
     let mut reader = Reader::new(text, scratch)?;
     let Some(Token::BeginArray) = reader.next() else {
@@ -57,7 +56,6 @@ fn build_one_or_two(
     depth: usize,
 ) -> Result<ListTail, BuildError>
     ensures ok { IfOk result (λ tail. converted of_items (items (value depth) (length reader.old) reader.old) ≡ Some (elements_data (tail_elements tail), reader.new)) }
-    ensures ranged { IfOk result (λ tail. ElementsRanged (tail_elements tail)) }
 {
     if reader.take_end_array() {
         return Err(BuildError::NoTree);

@@ -2,7 +2,7 @@
 ghost use Rattle.std.specs.Prelude.{◌≡◌, ◌≤◌, [], Some, option_map, IfOk, IfErr, IsUtf8};
 ghost use Rattle.json.specs.Print.{print};
 ghost use Rattle.serde_json.specs.Read.{read as value_of_text};
-ghost use Rattle.claim_tree.specs.Tree.{IsRanged, IsOrdered, depth as depth_of, array};
+ghost use Rattle.claim_tree.specs.Tree.{IsOrdered, depth as depth_of, array};
 ghost use Rattle.claim_tree.specs.View.{tree_of};
 ghost use Rattle.claim_tree.specs.JsonText.{Reads, data_of, json_text};
 ghost use Rattle.claim_tree.specs.JsonRefusals.{IsReadRefused};
@@ -12,7 +12,7 @@ use crate::build::{BuildError, build_text};
 use crate::convert::{TakeError, take};
 use crate::tail::{TailOrTree, build_tail};
 use crate::tokens::{put_texts, put_tree};
-use crate::tree::{Tree, is_ordered};
+use crate::Tree;
 use json::{Scratch, Writer};
 use sd_outside::{NoMemory, TextBox};
 use serde_json::Value;
@@ -47,8 +47,7 @@ impl JsonReader {
     /// The tree of a JSON text (RFC 8259). Of two members of one name the last is kept.
     pub fn read(&mut self, alloc: Global, bytes: &[u8]) -> Result<Tree, ReadError>
         ensures ok { IfOk result (λ t. Reads bytes.now (tree_of t)) }
-        ensures ranged { IfOk result (λ t. IsRanged (tree_of t)) }
-        ensures ordered { IfOk result (λ t. IsOrdered (tree_of t)) }
+            ensures ordered { IfOk result (λ t. IsOrdered (tree_of t)) }
         ensures depth { IfOk result (λ t. depth_of (tree_of t) ≤ 127) }
         ensures unread { IfErr result (IsReadRefused bytes.now) }
     {
@@ -60,14 +59,13 @@ impl JsonReader {
             Err(BuildError::Memory) => return Err(ReadError::Memory),
             Err(BuildError::NoTree) => read_value(alloc, text)?,
         };
-        is_ordered(&tree);
+        tree.invariant();
         Ok(tree)
     }
 
     /// The same, but the text that a list of two or three begins with is read and not kept.
     pub fn read_tail(&mut self, alloc: Global, bytes: &[u8]) -> Result<TailOrTree, ReadError>
         ensures ok { IfOk result (ReadsTail bytes.now) }
-        ensures ranged { IfOk result (λ found. IsRanged (kept_tree found)) }
         ensures ordered { IfOk result (λ found. IsOrdered (kept_tree found)) }
         ensures depth { IfOk result (λ found. depth_of (kept_tree found) ≤ 127) }
         ensures unread { IfErr result (IsReadRefused bytes.now) }
@@ -77,9 +75,9 @@ impl JsonReader {
         };
         match build_tail(alloc, &mut self.scratch, text) {
             Ok(tail) => {
-                is_ordered(&tail.second);
+                tail.second.invariant();
                 if let Some(third) = &tail.third {
-                    is_ordered(third);
+                    third.invariant();
                 }
                 Ok(TailOrTree::Tail(tail))
             }
@@ -92,7 +90,6 @@ impl JsonReader {
 /// The same, of one text.
 pub fn read(alloc: Global, bytes: &[u8]) -> Result<Tree, ReadError>
     ensures ok { IfOk result (λ t. Reads bytes.now (tree_of t)) }
-    ensures ranged { IfOk result (λ t. IsRanged (tree_of t)) }
     ensures ordered { IfOk result (λ t. IsOrdered (tree_of t)) }
     ensures depth { IfOk result (λ t. depth_of (tree_of t) ≤ 127) }
     ensures unread { IfErr result (IsReadRefused bytes.now) }
@@ -103,7 +100,6 @@ pub fn read(alloc: Global, bytes: &[u8]) -> Result<Tree, ReadError>
 // The tree of the value that `serde_json` reads of a text, or why it has none.
 fn read_value(alloc: Global, text: &str) -> Result<Tree, ReadError>
     ensures ok { IfOk result (λ t. value_of_text text.now ≡ Some (data_of (tree_of t))) }
-    ensures ranged { IfOk result (λ t. IsRanged (tree_of t)) }
     ensures unread { IsUtf8 text.now → IfErr result (IsReadRefused text.now) }
 {
     let value = match Value::from_str(alloc, text) {
@@ -142,11 +138,10 @@ fn written_text(out: Writer) -> TextBox
 
 /// The compact JSON text of a tree: no blanks, the members ascending by the bytes of their names.
 pub fn write(alloc: Global, tree: &Tree) -> Result<TextBox, NoMemory>
-    requires { IsRanged (tree_of tree.now) }
     ensures ok { IfOk result (λ text. text ≡ json_text (tree_of tree.now)) }
     ensures back { depth_of (tree_of tree.now) ≤ 127 → IfOk result (λ text. Reads text (tree_of tree.now)) }
 {
-    is_ordered(tree);
+    tree.invariant();
     let mut out = new_writer(alloc)?;
     put_tree(&mut out, tree)?;
     Ok(written_text(out))
@@ -159,11 +154,10 @@ pub fn write_list(
     second: Option<&str>,
     last: &Tree,
 ) -> Result<TextBox, NoMemory>
-    requires { IsRanged (tree_of last.now) }
     ensures ok { IfOk result (λ text. text ≡ json_text (array (short_list first.now (option_map (λ s. s.now) second.entry) (tree_of last.now)))) }
     ensures back { depth_of (tree_of last.now) ≤ 126 → IfOk result (λ text. Reads text (array (short_list first.now (option_map (λ s. s.now) second.entry) (tree_of last.now)))) }
 {
-    is_ordered(last);
+    last.invariant();
     let mut out = new_writer(alloc)?;
     put_texts(&mut out, first, second)?;
     put_tree(&mut out, last)?;

@@ -4,7 +4,7 @@ ghost use Rattle.json.specs.Token.{number};
 ghost use Rattle.json.specs.Tree.{json_tokens, items_tokens, members_tokens};
 ghost use Rattle.serde_json.specs.Find.{of_integer};
 ghost use Rattle.serde_json.specs.Written.{number_text, outline, items_outline, members_outline};
-ghost use Rattle.claim_tree.specs.Tree.{InRange, IsRanged, ElementsRanged, MembersRanged};
+ghost use Rattle.claim_tree.specs.Tree.{InRange};
 ghost use Rattle.claim_tree.specs.View.{tree_of};
 ghost use Rattle.claim_tree.specs.JsonText.{data_of, elements_data, members_data};
 ghost use Rattle.claim_tree.specs.Begun.{begun};
@@ -16,14 +16,13 @@ use std::alloc::AllocError;
 // Puts the tokens of a tree behind those that are written.
 #[cycle(put)]
 pub(crate) fn put_tree(out: &mut Writer, tree: &Tree) -> Result<(), AllocError>
-    requires { IsRanged (tree_of tree.now) }
     ensures ok { OnOk result (out.new.tokens ≡ out.old.tokens ++ json_tokens (outline (data_of (tree_of tree.now)))) }
     ensures before { out.new.before ≡ out.old.before }
 {
     match tree {
         Tree::Null => out.null(),
         Tree::Flag(flag) => out.boolean(*flag),
-        Tree::Whole(n) => put_whole(out, *n),
+        Tree::Whole(n) => put_whole(out, n.get()),
         Tree::Text(text) => out.string(text.as_str()),
         Tree::List(trees) => {
             out.begin_array()?;
@@ -67,7 +66,6 @@ fn put_whole(out: &mut Writer, n: i128) -> Result<(), AllocError>
 
 #[cycle(put)]
 fn put_elements(out: &mut Writer, trees: &TreeList) -> Result<(), AllocError>
-    requires { ElementsRanged trees.now }
     ensures ok { OnOk result (out.new.tokens ≡ out.old.tokens ++ items_tokens (items_outline (elements_data trees.now))) }
     ensures before { out.new.before ≡ out.old.before }
 {
@@ -79,7 +77,6 @@ fn put_elements(out: &mut Writer, trees: &TreeList) -> Result<(), AllocError>
 
 #[cycle(put)]
 fn put_members(out: &mut Writer, trees: &TreeMap) -> Result<(), AllocError>
-    requires { MembersRanged trees.now }
     ensures ok { OnOk result (out.new.tokens ≡ out.old.tokens ++ members_tokens (members_outline (members_data trees.now))) }
     ensures before { out.new.before ≡ out.old.before }
 {

@@ -1,13 +1,14 @@
 ghost use Rattle.std.specs.Prelude.{◌≡◌, length, OnOk, OnErr, IfOk, IfErr, IsTrue, option_map};
 ghost use Rattle.std.specs.Ordering.{nat_cmp};
 ghost use Rattle.std.specs.Cmp.Lexicographic.{slice_cmp};
-ghost use Rattle.claim_tree.specs.Tree.{text_of, no_elements, no_members, elements_len, members_len, element_at, member_named, inserted, IsOrdered, ElementsOrdered, MembersOrdered};
+ghost use Rattle.claim_tree.specs.Tree.{text_of, no_elements, no_members, elements_len, members_len, element_at, member_named, inserted, IsOrdered, ElementsOrdered, MembersOrdered, IsRanged, ElementsRanged, MembersRanged};
 ghost use Rattle.claim_tree.specs.TreeCalls.{member_at, pushed};
 ghost use Rattle.claim_tree.specs.Removed.{removed};
 ghost use Rattle.claim_tree.specs.View.{tree_of};
 ghost use Rattle.claim_tree.specs.ListViews.{elements_of, members_of};
 ghost use Rattle.claim_tree.specs.MemberPositions.{IsPosition, IsGap};
 
+use crate::Whole;
 use sd_outside::{NoMemory, TextBox};
 use std::alloc::Global;
 use std::cmp::Ordering;
@@ -19,8 +20,7 @@ use std::marker::Model;
 pub enum Tree {
     Null,
     Flag(bool),
-    /// From -2^63 to 2^64 - 1.
-    Whole(i128),
+    Whole(Whole),
     Text(TextBox),
     List(TreeList),
     Object(TreeMap),
@@ -42,13 +42,13 @@ impl Model for TreeList {
 
     ghost coded = { elements_code };
 
-    ghost use Rattle.claim_tree.specs.Tree.{ElementsOrdered};
+    ghost use Rattle.claim_tree.specs.Tree.{ElementsOrdered, ElementsRanged};
     ghost use Rattle.claim_tree.specs.Nodes.{elements_nodes};
     ghost use Rattle.claim_tree.specs.ListViews.{elements_of};
 
     ghost view = { λ l. elements_of l.trees.items };
 
-    ghost invariant = { λ l. ElementsOrdered (elements_of l.trees.items) };
+    ghost invariant = { λ l. ElementsOrdered (elements_of l.trees.items) × ElementsRanged (elements_of l.trees.items) };
 
     ghost size = { elements_nodes };
 
@@ -74,13 +74,13 @@ impl Model for TreeMap {
 
     ghost coded = { members_code };
 
-    ghost use Rattle.claim_tree.specs.Tree.{MembersOrdered};
+    ghost use Rattle.claim_tree.specs.Tree.{MembersOrdered, MembersRanged};
     ghost use Rattle.claim_tree.specs.Nodes.{members_nodes};
     ghost use Rattle.claim_tree.specs.ListViews.{members_of};
 
     ghost view = { λ m. members_of m.members.items };
 
-    ghost invariant = { λ m. MembersOrdered (members_of m.members.items) };
+    ghost invariant = { λ m. MembersOrdered (members_of m.members.items) × MembersRanged (members_of m.members.items) };
 
     ghost size = { members_nodes };
 
@@ -90,22 +90,26 @@ impl Model for TreeMap {
     ghost size_decreases = { λ m h. omega (arith, most-members m.members.items) };
 }
 
-// What every tree is, by the invariants of what it holds.
-pub(crate) fn is_ordered(tree: &Tree)
-    ensures { IsOrdered (tree_of tree.now) }
-{
-    match tree {
-        Tree::List(list) => {
-            let _ = list.trees();
-        }
-        Tree::Object(map) => {
-            let _ = map.members();
-        }
-        _ => (),
-    }
-}
-
 impl Tree {
+    /// What every tree is, by the invariants of what it holds. It does nothing, and is called for its clauses.
+    pub fn invariant(&self)
+        ensures ordered { IsOrdered (tree_of self.now) }
+        ensures ranged { IsRanged (tree_of self.now) }
+    {
+        match self {
+            Tree::Whole(whole) => {
+                let _ = whole.get();
+            }
+            Tree::List(list) => {
+                let _ = list.trees();
+            }
+            Tree::Object(map) => {
+                let _ = map.members();
+            }
+            _ => (),
+        }
+    }
+
     /// The text, where the value is a text.
     pub fn as_text(&self) -> Option<&TextBox>
         ensures { option_map (λ s. s.now) result ≡ text_of (tree_of self.now) }
@@ -140,7 +144,7 @@ impl TreeList {
         ensures ok { OnOk result (self.new ≡ pushed self.old (tree_of tree)) }
         ensures err { OnErr result (self.new ≡ self.old) }
     {
-        is_ordered(&tree);
+        tree.invariant();
         self.trees.push(tree)?;
         Ok(())
     }
@@ -149,6 +153,7 @@ impl TreeList {
     pub fn trees(&self) -> &[Tree]
         ensures value { elements_of result.now ≡ self.now }
         ensures ordered { ElementsOrdered self.now }
+        ensures ranged { ElementsRanged self.now }
     {
         self.trees.as_slice()
     }
@@ -198,6 +203,7 @@ impl TreeMap {
     pub fn members(&self) -> &[(TextBox, Tree)]
         ensures value { members_of result.now ≡ self.now }
         ensures ordered { MembersOrdered self.now }
+        ensures ranged { MembersRanged self.now }
     {
         self.members.as_slice()
     }
@@ -243,7 +249,7 @@ impl TreeMap {
         ensures ok { OnOk result (self.new ≡ inserted self.old name (tree_of tree)) }
         ensures err { OnErr result (self.new ≡ self.old) }
     {
-        is_ordered(&tree);
+        tree.invariant();
         put(&mut self.members, name, tree)
     }
 
@@ -298,9 +304,12 @@ fn search_from_end(members: &[(TextBox, Tree)], name: &str) -> Result<usize, usi
 
 fn put(members: &mut Vec<(TextBox, Tree)>, name: TextBox, tree: Tree) -> Result<(), NoMemory>
     requires members { MembersOrdered (members_of members.old.items) }
+    requires members_range { MembersRanged (members_of members.old.items) }
     requires tree { IsOrdered (tree_of tree) }
+    requires tree_range { IsRanged (tree_of tree) }
     ensures ok { OnOk result (members_of members.new.items ≡ inserted (members_of members.old.items) name (tree_of tree)) }
     ensures ordered { MembersOrdered (members_of members.new.items) }
+    ensures ranged { MembersRanged (members_of members.new.items) }
     ensures err { OnErr result (members_of members.new.items ≡ members_of members.old.items) }
 {
     match search_from_end(members.as_slice(), name.as_str()) {
@@ -311,10 +320,12 @@ fn put(members: &mut Vec<(TextBox, Tree)>, name: TextBox, tree: Tree) -> Result<
 }
 
 fn take(members: &mut Vec<(TextBox, Tree)>, name: &str) -> Option<Tree>
-    requires { MembersOrdered (members_of members.old.items) }
+    requires ordered { MembersOrdered (members_of members.old.items) }
+    requires ranged { MembersRanged (members_of members.old.items) }
     ensures tree { option_map tree_of result ≡ member_named (members_of members.old.items) name.now }
     ensures others { members_of members.new.items ≡ removed (members_of members.old.items) name.now }
     ensures ordered { MembersOrdered (members_of members.new.items) }
+    ensures ranged { MembersRanged (members_of members.new.items) }
 {
     match search(members.as_slice(), name) {
         Ok(place) => {

@@ -2,15 +2,14 @@
 ghost use Rattle.std.specs.Prelude.{◌≡◌, ◌<◌, Some, true, false, length, slice_index, ◌==◌, IfSome, IsTrue};
 ghost use Rattle.serde_json.specs.Find.{of_integer};
 ghost use Rattle.serde_json.specs.Read.{number_of, number_from};
-ghost use Rattle.claim_tree.specs.Tree.{InRange};
 
+use crate::Whole;
 use fast_float::Numeral;
 
 // The whole number that is kept of a number's text. None where it has a fraction or an exponent, is `-0`, or is out of
 // the range of 64 bits.
-pub(crate) fn whole_number(text: &str) -> Option<i128>
+pub(crate) fn whole_number(text: &str) -> Option<Whole>
     ensures value { IfSome result (λ n. number_of text.now ≡ Some (of_integer n)) }
-    ensures ranged { IfSome result InRange }
 {
     let bytes = text.as_bytes();
     if has_minus(bytes) {
@@ -27,18 +26,16 @@ fn has_minus(bytes: &[u8]) -> bool
     !bytes.is_empty() && bytes[0] == b'-'
 }
 
-fn positive(numeral: &Numeral<'_>) -> Option<i128>
+fn positive(numeral: &Numeral<'_>) -> Option<Whole>
     ensures value { IfSome result (λ n. number_from false numeral.now ≡ Some (of_integer n)) }
-    ensures ranged { IfSome result InRange }
 {
     let n = numeral.to_u64()?;
-    Some(n as i128)
+    Some(Whole::from(n))
 }
 
-fn negative(numeral: &Numeral<'_>) -> Option<i128>
+fn negative(numeral: &Numeral<'_>) -> Option<Whole>
     ensures value { IfSome result (λ n. number_from true numeral.now ≡ Some (of_integer n)) }
-    ensures ranged { IfSome result InRange }
 {
     let n = numeral.to_i64(true)?;
-    if n < 0 { Some(n as i128) } else { None }
+    if n < 0 { Some(Whole::from(n)) } else { None }
 }

@@ -1,6 +1,4 @@
 use Rattle.std.proofs.Common.{◌≡◌, ◌-◌, ◌<◌, ◌∷◌, length, Some, None, sym, ap, ◌∙◌, arith, rules}
-use mir.Syntax.{w128}
-use mir.Val.{to_z, of_z}
 use Rattle.json.specs.Token.{Token}
 use Rattle.json.specs.Json.{parse_map, after_end_array, read_key, items, members, value}
 use Rattle.json.specs.Reads.{token_of}
@@ -10,7 +8,6 @@ use Rattle.serde_json.specs.Find.{of_integer}
 use Rattle.serde_json.specs.Read.{number_of, of_json, of_items, of_members, converted}
 use Rattle.claim_tree.specs.View.{tree_of}
 use Rattle.claim_tree.specs.JsonText.{data_of, members_data}
-use Rattle.claim_tree.proofs.Datas.{ElementsRanged-pushed, MembersRanged-inserted}
 use Rattle.claim_tree.proofs.TreeReading.{converted-array, converted-object, item_read, items_over, member_read, members_over, items_before, items_before-no_items, one_more_item, members_data-put}
 use Rattle.claim_tree.proofs.build.+build.Goals as goal
 
@@ -26,8 +23,7 @@ build-returns-in_ok-ok_or-in-Number-clause-ok t c =
     let first : c.args.reader.now ≡ token_of c.in_ok-token.token ∷ c.next.new.self = grind arith in
     let is : c.args.reader.now ≡ Token.number c.in-Number.text.now ∷ c.next.new.self = grind (arith, first) in
     let whole : number_of c.in-Number.text.now ≡ Some (of_integer c.in_ok-ok_or-in-Number.field-0) = search rules in
-    let kept : to_z w128 (of_z w128 c.in_ok-ok_or-in-Number.field-0) ≡ c.in_ok-ok_or-in-Number.field-0 = search rules in
-    ap (converted of_json) (ap (value c.args.depth) is ∙ value_is c.args.depth _) ∙ rw (whole, kept)
+    ap (converted of_json) (ap (value c.args.depth) is ∙ value_is c.args.depth _) ∙ rw whole
 
 pub build-returns-in-Bool-clause-ok : goal.build-returns-in-Bool-clause-ok
 build-returns-in-Bool-clause-ok t c =
@@ -69,7 +65,6 @@ build_elements-loop-alloc-preserved t c =
       l.invariant.2 ∙ ap (parse_map (items_before l.trees)) turn ∙ one_more_item l.trees u _
           ∙ ap (λ es. parse_map (items_before es) (converted of_items (items p (n - 1) r))) (sym c.in_ok-push.ensures.ok),
       omega (arith, l.invariant.3),
-      rw c.in_ok-push.ensures.ok (ElementsRanged-pushed l.trees u l.invariant.4 done.ranged),
     )
 
 pub build_elements-returns-clause-ok : goal.build_elements-returns-clause-ok
@@ -101,7 +96,6 @@ build_members-loop-trees-preserved t c =
       l.invariant.2 ∙ member_read p (members_data l.trees) n k l.reader s r (data_of u) (omega (arith, l.invariant.1)) named done.ok
           ∙ ap (λ found. converted (λ ms. of_members ms found) (members p (n - 1) r)) (sym inserted),
       omega (arith, l.invariant.3),
-      rw c.in_ok-insert.ensures.ok (MembersRanged-inserted l.trees c.in_ok-name-2.name u l.invariant.4 done.ranged),
     )
 
 pub build_members-returns-clause-ok : goal.build_members-returns-clause-ok

@@ -19,5 +19,5 @@ returns-clause-back c shallow =
     let t = tree_of c.args.tree.now in
     record {
       utf8 = c.written_text.ensures.utf8;
-      value = ap read (returns-clause-ok c) ∙ read_of_text t c.requires c.is_ordered.ensures shallow;
+      value = ap read (returns-clause-ok c) ∙ read_of_text t c.invariant.ensures.ranged c.invariant.ensures.ordered shallow;
     }

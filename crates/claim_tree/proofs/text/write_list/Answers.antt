@@ -31,5 +31,5 @@ returns-clause-back c shallow =
     let list = array (short_list first second t) in
     record {
       utf8 = c.written_text.ensures.utf8;
-      value = ap read (returns-clause-ok c) ∙ read_of_text list (listed_ranged first second t c.requires) (listed_ordered first second t c.is_ordered.ensures) (listed_shallow first second t shallow);
+      value = ap read (returns-clause-ok c) ∙ read_of_text list (listed_ranged first second t c.invariant.ensures.ranged) (listed_ordered first second t c.invariant.ensures.ordered) (listed_shallow first second t shallow);
     }

@@ -2,7 +2,7 @@ use Rattle.std.proofs.Common.{◌≡◌, ◌++◌, ap, sym, ◌∙◌, arith}
 use Rattle.std.proofs.lemmas.List.{drop_all}
 use Rattle.std.proofs.lemmas.Result.{on_ok_weaker}
 use Rattle.claim_tree.specs.ListViews.{elements_of, members_of}
-use Rattle.claim_tree.proofs.Walks.{ranged_at, ranged_member_at, element_nodes, member_nodes}
+use Rattle.claim_tree.proofs.Walks.{element_nodes, member_nodes}
 use Rattle.claim_tree.proofs.TreeTokens.{elements_tokens, members_tokens, element_written, member_written}
 use Rattle.claim_tree.proofs.tokens.+put.Goals as goal
 
@@ -11,7 +11,7 @@ put_elements-put_tree-requires t c =
     let ts = c.trees-tree-items.result.now in
     let all : elements_of ts ≡ c.args.trees.now = c.trees-tree-items.ensures.value in
     let few = element_nodes ts c.loop-tree.tree-index c.tree-item.result c.args.trees.now c.loop-tree-test.true c.tree-item.is all in
-    (omega (arith, few), ranged_at ts c.loop-tree.tree-index c.tree-item.result c.loop-tree-test.true c.tree-item.is (rw all c.requires))
+    omega (arith, few)
 
 pub put_elements-loop-tree-preserved : goal.put_elements-loop-tree-preserved
 put_elements-loop-tree-preserved t c =
@@ -35,7 +35,7 @@ put_members-put_tree-requires t c =
     let ms = c.members-name-items.result.now in
     let all : members_of ms ≡ c.args.trees.now = c.members-name-items.ensures.value in
     let few = member_nodes ms c.loop-name.name-index c.loop-name-item.result c.args.trees.now c.loop-name-test.true c.loop-name-item.is all in
-    (omega (arith, few), ranged_member_at ms c.loop-name.name-index c.loop-name-item.result c.loop-name-test.true c.loop-name-item.is (rw all c.requires))
+    omega (arith, few)
 
 pub put_members-loop-name-preserved : goal.put_members-loop-name-preserved
 put_members-loop-name-preserved t c =
