@@ -1,11 +1,11 @@
 // The call that audits.
 ghost use Rattle.std.specs.Prelude.{◌≡◌, ◌≤◌, ℕ, List, length, OnOk, IfErr};
 ghost use Rattle.sd_outside.specs.Limits.{count_max};
-ghost use Rattle.claim_tree.specs.Tree.{Tree as SeenTree, IsRanged, depth as depth_of};
+ghost use Rattle.claim_tree.specs.Tree.{Tree as SeenTree, depth as depth_of};
 ghost use Rattle.claim_tree.specs.View.{tree_of};
 ghost use Rattle.compact_form.specs.Lowest.{NoneApplies};
 ghost use Rattle.digest_sites.specs.Given.{Given as SeenGiven};
-ghost use Rattle.rebuild_core.specs.Answer.{IsPayload, ValuesShallow, ValuesRanged};
+ghost use Rattle.rebuild_core.specs.Answer.{IsPayload, ValuesShallow};
 ghost use Rattle.rebuild_core.specs.LookUps.{look_ups, RoseWithin};
 ghost use Rattle.rebuild_core.specs.Payload.{without_alg as without_alg_of};
 ghost use Rattle.issuer_core.specs.GoodOrder.{IsGoodOrder};
@@ -162,8 +162,6 @@ fn judge_content(
     requires object { IsPayload (tree_of written.body) }
     requires payload_depth { depth_of (tree_of written.body) ≤ 127 }
     requires values_depth { ValuesShallow written.given }
-    requires payload_range { IsRanged (tree_of written.body) }
-    requires values_range { ValuesRanged written.given }
     ensures audited { OnOk result ((o : SeenOrder) → IsAskedFor o asked.now → IsAuditedFor o (without_alg_of (tree_of written.body)) written.given) }
     ensures differs { IfErr result (λ e. (o : SeenOrder) → IsAskedFor o asked.now → OnPart e (ContentDiffers o (without_alg_of (tree_of written.body)) written.given)) }
     ensures risen { RoseWithin (look_ups (without_alg_of (tree_of written.body)) written.given) steps.old steps.new }
@@ -217,7 +215,6 @@ pub(crate) fn audit_owned<K: Checker>(
     steps: &mut Steps,
 ) -> Result<(), AuditError>
     requires depth { depth_of (tree_of order.payload) ≤ 127 }
-    requires ranged { IsRanged (tree_of order.payload) }
     ensures passes { OnOk result (PassesAudit (order_of order) alg (K.good checker.now) text.now) }
     ensures refused { IfErr result (IsAuditRefused (order_of order) alg (K.good checker.now) text.now) }
 
@@ -250,7 +247,6 @@ pub fn audit<K: Checker>(
     steps: &mut Steps,
 ) -> Result<(), AuditError>
     requires depth { depth_of (tree_of order.now.payload) ≤ 127 }
-    requires ranged { IsRanged (tree_of order.now.payload) }
     ensures passes { OnOk result (PassesAudit (order_of order.now) alg (K.good checker.now) text.now) }
     ensures refused { IfErr result (IsAuditRefused (order_of order.now) alg (K.good checker.now) text.now) }
 

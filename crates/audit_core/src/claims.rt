@@ -1,9 +1,9 @@
 // The third part: what a token shows.
 ghost use Rattle.std.specs.Prelude.{◌≡◌, ◌≤◌, ◌<◌, ◌-◌, ◌^◌, ◌↔◌, length, IfOk, IsTrue};
-ghost use Rattle.claim_tree.specs.Tree.{IsRanged, depth as depth_of};
+ghost use Rattle.claim_tree.specs.Tree.{depth as depth_of};
 ghost use Rattle.claim_tree.specs.View.{tree_of};
 ghost use Rattle.marked_tree.specs.View.{marked_of};
-ghost use Rattle.rebuild_core.specs.Answer.{IsPayload, ValuesShallow, ValuesRanged};
+ghost use Rattle.rebuild_core.specs.Answer.{IsPayload, ValuesShallow};
 ghost use Rattle.rebuild_core.specs.LookUps.{look_ups, RoseWithin};
 ghost use Rattle.rebuild_core.specs.Opening.{processed};
 ghost use Rattle.rebuild_core.specs.Payload.{without_alg};
@@ -32,8 +32,6 @@ pub(crate) fn shows(
     requires bare { without_alg (tree_of payload) ≡ tree_of payload }
     requires payload_depth { depth_of (tree_of payload) ≤ 127 }
     requires values_depth { ValuesShallow given }
-    requires payload_range { IsRanged (tree_of payload) }
-    requires values_range { ValuesRanged given }
     requires few { length given < 2 ^ 32 - 1 }
     ensures shows { IfOk result (λ is. IsTrue is ↔ (IsSound (tree_of payload) given × (processed (tree_of payload) given ≡ marked_of claims.now))) }
     ensures risen { RoseWithin (look_ups (tree_of payload) given) steps.old steps.new }

@@ -2,7 +2,7 @@
 ghost use Rattle.std.specs.Prelude.{◌≡◌, ◌≤◌, ◌↔◌, length, take, IfOk, IfSome, IfNone, IsTrue, IsUtf8};
 ghost use Rattle.b64url_text.specs.Base64url.{Decodes};
 ghost use Rattle.b64url_text.specs.NotBase64.{IsNotBase64};
-ghost use Rattle.claim_tree.specs.Tree.{IsRanged, depth as depth_of};
+ghost use Rattle.claim_tree.specs.Tree.{depth as depth_of};
 ghost use Rattle.claim_tree.specs.JsonText.{json_text};
 ghost use Rattle.claim_tree.specs.View.{tree_of};
 ghost use Rattle.audit_core.specs.Audited.{IsWrittenAs, IsSaltedText};
@@ -41,7 +41,6 @@ fn decode_to(room: &mut Vec<u8>, part: &str) -> Result<Option<usize>, NoMemory>
 
 // Whether the bytes are the compact JSON text of the tree.
 fn is_text_of(alloc: Global, json: &[u8], tree: &Tree) -> Result<bool, NoMemory>
-    requires { IsRanged (tree_of tree.now) }
     ensures is { IfOk result (λ is. IsTrue is ↔ (json.now ≡ json_text (tree_of tree.now))) }
     ensures utf8 { IfOk result (λ _. IsUtf8 (json_text (tree_of tree.now))) }
 {
@@ -60,7 +59,6 @@ impl CompactReader {
     // The tree that a part carries, where the part is the text of its compact JSON.
     pub(crate) fn read(&mut self, alloc: Global, part: &str) -> Result<Option<Tree>, NoMemory>
         ensures some { IfOk result (λ read. IfSome read (λ t. IsWrittenAs part.now (tree_of t))) }
-        ensures ranged { IfOk result (λ read. IfSome read (λ t. IsRanged (tree_of t))) }
         ensures depth { IfOk result (λ read. IfSome read (λ t. depth_of (tree_of t) ≤ 127)) }
         ensures none { IfOk result (λ read. IfNone read (IsUnwritten part.now)) }
     {
@@ -90,7 +88,6 @@ impl CompactReader {
         text: &str,
     ) -> Result<Option<Disclosed>, NoMemory>
         ensures some { IfOk result (λ read. IfSome read (λ d. IsSaltedText text.now d.name (tree_of d.value))) }
-        ensures ranged { IfOk result (λ read. IfSome read (λ d. IsRanged (tree_of d.value))) }
         ensures depth { IfOk result (λ read. IfSome read (λ d. depth_of (tree_of d.value) ≤ 126)) }
         ensures none { IfOk result (λ read. IfNone read (IsUnsalted text.now)) }
     {

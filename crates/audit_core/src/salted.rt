@@ -1,7 +1,7 @@
 // Disclosures with a salt of 16 bytes, of which the salt is not kept.
 ghost use Rattle.std.specs.Prelude.{◌≡◌, ◌≤◌, take, drop, IfOk, IfSome, IfNone, IsTrue};
 ghost use Rattle.b64url_text.specs.Base64url.{Decodes};
-ghost use Rattle.claim_tree.specs.Tree.{Text, IsRanged, depth as depth_of};
+ghost use Rattle.claim_tree.specs.Tree.{Text, depth as depth_of};
 ghost use Rattle.claim_tree.specs.View.{tree_of};
 ghost use Rattle.audit_core.specs.Audited.{IsSaltedText};
 ghost use Rattle.audit_core.specs.AuditSteps.{IsSalt};
@@ -30,7 +30,6 @@ fn salt_in(json: &[u8]) -> Option<&str>
 
 // Whether the bytes are the compact JSON of a disclosure that gives this, with a salt of 16 bytes.
 pub(crate) fn is_salted(alloc: Global, json: &[u8], given: &Disclosed) -> Result<bool, NoMemory>
-    requires ranged { IsRanged (tree_of given.now.value) }
     requires depth { depth_of (tree_of given.now.value) ≤ 126 }
     ensures some { IfOk result (λ is. IsTrue is → (text : Text) → Decodes text json.now → IsSaltedText text given.now.name (tree_of given.now.value)) }
     ensures none { IfOk result (λ is. (text : Text) → Decodes text json.now → IsSaltedText text given.now.name (tree_of given.now.value) → IsTrue is) }

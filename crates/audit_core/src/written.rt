@@ -1,11 +1,11 @@
 // The second part: how a token is written.
 ghost use Rattle.std.specs.Prelude.{◌≡◌, ◌≤◌, ◌<◌, ◌^◌, ◌↔◌, ℕ, List, length, IfOk, IfSome, IfNone, IsTrue};
 ghost use Rattle.std.specs.List.{AllZip};
-ghost use Rattle.claim_tree.specs.Tree.{Tree as SeenTree, IsRanged, IsOrdered, depth as depth_of};
+ghost use Rattle.claim_tree.specs.Tree.{Tree as SeenTree, IsOrdered, depth as depth_of};
 ghost use Rattle.claim_tree.specs.View.{tree_of};
 ghost use Rattle.digest_sites.specs.Given.{Given as SeenGiven};
 ghost use Rattle.digest_sites.specs.GivenView.{given_of};
-ghost use Rattle.rebuild_core.specs.Answer.{IsPayload, ValuesShallow, ValuesRanged};
+ghost use Rattle.rebuild_core.specs.Answer.{IsPayload, ValuesShallow};
 ghost use Rattle.audit_core.specs.Audited.{IsWrittenAs, GivesSalted};
 ghost use Rattle.audit_core.specs.AuditSteps.{NamesHash, IsUnsalted, HasUnsalted, IsOtherPayload, IsWrittenWith};
 
@@ -35,7 +35,6 @@ fn read_one(
     text: &str,
 ) -> Result<Option<Given>, NoMemory>
     ensures some { IfOk result (λ given. IfSome given (λ g. GivesSalted hash text.now (given_of g))) }
-    ensures ranged { IfOk result (λ given. IfSome given (λ g. IsRanged (tree_of g.value))) }
     ensures depth { IfOk result (λ given. IfSome given (λ g. depth_of (tree_of g.value) ≤ 127)) }
     ensures none { IfOk result (λ given. IfNone given (IsUnsalted text.now)) }
 {
@@ -58,7 +57,6 @@ fn read_given(
     disclosures: Disclosures<'_>,
 ) -> Result<Option<GivenList>, NoMemory>
     ensures some { IfOk result (λ read. IfSome read (AllZip (GivesSalted hash) disclosures.entry)) }
-    ensures ranged { IfOk result (λ read. IfSome read ValuesRanged) }
     ensures shallow { IfOk result (λ read. IfSome read ValuesShallow) }
     ensures none { IfOk result (λ read. IfNone read (HasUnsalted hash disclosures.entry)) }
 {
@@ -92,7 +90,6 @@ fn read_payload(
     ensures some { IfOk result (λ read. IfSome read (λ body. IsWrittenAs part.now (tree_of body))) }
     ensures hash { IfOk result (λ read. IfSome read (λ body. NamesHash hash (tree_of body))) }
     ensures object { IfOk result (λ read. IfSome read (λ body. IsPayload (tree_of body))) }
-    ensures ranged { IfOk result (λ read. IfSome read (λ body. IsRanged (tree_of body))) }
     ensures depth { IfOk result (λ read. IfSome read (λ body. depth_of (tree_of body) ≤ 127)) }
     ensures none { IfOk result (λ read. IfNone read (IsOtherPayload hash part.now)) }
 {
@@ -114,9 +111,7 @@ pub(crate) fn read_written(
 ) -> Result<Option<Written>, NoMemory>
     ensures some { IfOk result (λ read. IfSome read (λ w. IsWrittenWith hash hidden token.now.parts (tree_of w.body) w.given)) }
     ensures object { IfOk result (λ read. IfSome read (λ w. IsPayload (tree_of w.body))) }
-    ensures ranged { IfOk result (λ read. IfSome read (λ w. IsRanged (tree_of w.body))) }
     ensures depth { IfOk result (λ read. IfSome read (λ w. depth_of (tree_of w.body) ≤ 127)) }
-    ensures values_ranged { IfOk result (λ read. IfSome read (λ w. ValuesRanged w.given)) }
     ensures shallow { IfOk result (λ read. IfSome read (λ w. ValuesShallow w.given)) }
     ensures count { IfOk result (λ read. IfSome read (λ w. length w.given ≡ hidden)) }
     ensures none { IfOk result (λ read. IfNone read ((body : SeenTree) (given : List SeenGiven) → IsWrittenWith hash hidden token.now.parts body given → ⊥)) }

@@ -1,5 +1,5 @@
 ghost use Rattle.std.specs.Prelude.{◌≤◌};
-ghost use Rattle.claim_tree.specs.Tree.{IsRanged, depth};
+ghost use Rattle.claim_tree.specs.Tree.{depth};
 ghost use Rattle.claim_tree.specs.View.{tree_of};
 
 use claim_tree::Tree;
@@ -51,7 +51,6 @@ fn what_is_no_disclosure_has_its_cause(rt: HostRuntime) {
 
 // The text of what is made.
 fn made(alloc: Global, salt: &str, name: Option<&str>, value: &Tree) -> Result<TextBox, Fail>
-    requires ranged { IsRanged (tree_of value.now) }
     requires depth { depth (tree_of value.now) ≤ 126 }
 {
     let Disclosure { text, .. } = make(alloc, salt, name, value)?;

@@ -1,6 +1,6 @@
 // What several tests read from texts: paths, values, and values with marks.
 ghost use Rattle.std.specs.Prelude.{◌≤◌, length, IfOk};
-ghost use Rattle.claim_tree.specs.Tree.{depth, IsRanged};
+ghost use Rattle.claim_tree.specs.Tree.{depth};
 ghost use Rattle.claim_tree.specs.View.{tree_of};
 ghost use Rattle.marked_tree.specs.Choice.{IsUnmixed};
 ghost use Rattle.marked_tree.specs.Marked.{strip as strip_of};
@@ -32,7 +32,6 @@ pub(crate) fn paths_of(alloc: Global, pointers: &str) -> Result<PathList, Fail>
 // The value of a JSON text.
 pub(crate) fn value(alloc: Global, text: &str) -> Result<Tree, Fail>
     ensures depth { IfOk result (λ tree. depth (tree_of tree) ≤ 127) }
-    ensures range { IfOk result (λ tree. IsRanged (tree_of tree)) }
 {
     Ok(read(alloc, text.as_bytes()).map_err(|_| "not read")?)
 }
@@ -40,7 +39,6 @@ pub(crate) fn value(alloc: Global, text: &str) -> Result<Tree, Fail>
 // The value of a JSON text with a mark at each of these places.
 pub(crate) fn marked(alloc: Global, text: &str, pointers: &str) -> Result<Marked, Fail>
     ensures depth { IfOk result (λ marked. depth (strip_of (marked_of marked)) ≤ 127) }
-    ensures range { IfOk result (λ marked. IsRanged (strip_of (marked_of marked))) }
     ensures unmixed { IfOk result (λ marked. IsUnmixed (marked_of marked)) }
 {
     let tree = value(alloc, text)?;

@@ -1,5 +1,5 @@
 ghost use Rattle.std.specs.Prelude.{◌≤◌, IfOk};
-ghost use Rattle.claim_tree.specs.Tree.{depth, IsRanged};
+ghost use Rattle.claim_tree.specs.Tree.{depth};
 ghost use Rattle.marked_tree.specs.Marked.{strip as strip_of};
 ghost use Rattle.marked_tree.specs.View.{marked_of};
 
@@ -26,7 +26,6 @@ fn chosen(alloc: Global, kept: [u32; 4]) -> Result<ChosenSet, Fail> {
 // The tree in which just these marks are kept.
 fn pruned(alloc: Global, kept: [u32; 4]) -> Result<Marked, Fail>
     ensures shallow { IfOk result (λ marked. depth (strip_of (marked_of marked)) ≤ 127) }
-    ensures ranged { IfOk result (λ marked. IsRanged (strip_of (marked_of marked))) }
 {
     let chosen = chosen(alloc, kept)?;
     let marked = marked(alloc, TREE, PLACES)?;

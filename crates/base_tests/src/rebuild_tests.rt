@@ -1,9 +1,9 @@
 ghost use Rattle.std.specs.Prelude.{◌≤◌, ◌<◌, ◌-◌, ◌^◌, length, IfOk, IsTrue};
-ghost use Rattle.claim_tree.specs.Tree.{depth, IsRanged};
+ghost use Rattle.claim_tree.specs.Tree.{depth};
 ghost use Rattle.claim_tree.specs.View.{tree_of};
 ghost use Rattle.marked_tree.specs.Marked.{strip as strip_of};
 ghost use Rattle.marked_tree.specs.View.{marked_of};
-ghost use Rattle.rebuild_core.specs.Answer.{IsPayload, ValuesShallow, ValuesRanged};
+ghost use Rattle.rebuild_core.specs.Answer.{IsPayload, ValuesShallow};
 
 use crate::from_text::value;
 use claim_tree::{Tree, print_path, write};
@@ -30,7 +30,6 @@ fn is_payload(tree: &Tree) -> bool
 fn payload(alloc: Global, text: &str) -> Result<Tree, Fail>
     ensures object { IfOk result (λ t. IsPayload (tree_of t)) }
     ensures depth { IfOk result (λ t. depth (tree_of t) ≤ 127) }
-    ensures range { IfOk result (λ t. IsRanged (tree_of t)) }
 {
     let tree = value(alloc, text)?;
     if !is_payload(&tree) {
@@ -56,10 +55,8 @@ fn add(
     text: &str,
 ) -> Result<(), Fail>
     requires depths { ValuesShallow list.old }
-    requires ranges { ValuesRanged list.old }
     requires few { length list.old < 2 ^ 32 - 1 }
     ensures depths { ValuesShallow list.new }
-    ensures ranges { ValuesRanged list.new }
     ensures few { length list.new < 2 ^ 32 - 1 }
 {
     if list.len() >= 5000 {
@@ -79,7 +76,6 @@ fn add(
 // The disclosures of a text, with `|` between them: of each its digest, its name or `-`, and its value.
 fn given(alloc: Global, text: &str) -> Result<GivenList, Fail>
     ensures depths { IfOk result ValuesShallow }
-    ensures ranges { IfOk result ValuesRanged }
     ensures few { IfOk result (λ list. length list < 2 ^ 32 - 1) }
 {
     let mut list = GivenList::new(alloc);
@@ -109,7 +105,6 @@ fn push_places(alloc: Global, marks: u32, marked: &Marked, text: &mut String) ->
 // The JSON text without marks, and the pointers to the places of the marks below a number.
 fn shown(alloc: Global, marks: u32, marked: &Marked) -> Result<String, Fail>
     requires depth { depth (strip_of (marked_of marked.now)) ≤ 127 }
-    requires range { IsRanged (strip_of (marked_of marked.now)) }
 {
     let tree = strip(alloc, marked)?;
     let json = write(alloc, &tree)?;
@@ -142,7 +137,6 @@ fn answer_on(
     steps: &mut Steps,
 ) -> Result<String, Fail>
     requires depths { ValuesShallow given.now }
-    requires ranges { ValuesRanged given.now }
     requires few { length given.now < 2 ^ 32 - 1 }
 {
     let payload = payload(alloc, text)?;
@@ -199,7 +193,6 @@ fn digests_may_lead_in_a_circle(rt: HostRuntime) -> Result<(), Fail> {
 // So many disclosures, the digest of each in the value of the one before, from the digest 1 on.
 fn chain(alloc: Global, count: usize, last: &str) -> Result<GivenList, Fail>
     ensures depths { IfOk result ValuesShallow }
-    ensures ranges { IfOk result ValuesRanged }
     ensures few { IfOk result (λ list. length list < 2 ^ 32 - 1) }
 {
     let mut list = GivenList::new(alloc);

@@ -1,5 +1,5 @@
 use crate::from_text::value;
-use claim_tree::{Tree, print_path};
+use claim_tree::{Tree, Whole, print_path};
 use digest_sites::{Given, GivenList, Site, SiteError, SiteKind, SiteList, is_misused, sites};
 use sd_outside::TextBox;
 use std::alloc::Global;
@@ -118,7 +118,7 @@ fn given(alloc: Global) -> Result<GivenList, Fail> {
     list.push(Given {
         digest: TextBox::make(alloc, "d")?,
         name: None,
-        value: Tree::Whole(7),
+        value: Tree::Whole(Whole::from(7_u64)),
     })?;
     Ok(list)
 }

@@ -1,5 +1,5 @@
 use crate::from_text::value;
-use claim_tree::{ReadError, Tree, TreeList, TreeMap, copy, depth, get, read, write};
+use claim_tree::{ReadError, Tree, TreeList, TreeMap, Whole, copy, depth, get, read, write};
 use sd_outside::TextBox;
 use std::test::Fail;
 
@@ -21,7 +21,7 @@ fn the_last_member_of_a_name_counts(rt: HostRuntime) -> Result<(), Fail> {
     let alloc = rt.alloc();
     let mut map = TreeMap::new(alloc);
     map.insert(TextBox::make(alloc, "b")?, Tree::Null)?;
-    map.insert(TextBox::make(alloc, "b")?, Tree::Whole(7))?;
+    map.insert(TextBox::make(alloc, "b")?, Tree::Whole(Whole::from(7_u64)))?;
     let tree = Tree::Object(map);
     assert_eq!(rt; write(alloc, &tree)?.as_str(), r#"{"b":7}"#);
     Ok(())

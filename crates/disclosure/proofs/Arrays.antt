@@ -1,6 +1,6 @@
 -- The list of a salt, a name and a value.
 use Rattle.std.proofs.Common.{◌≡◌, ◌≤◌, Option, Some, None, refl, sym, ap, arith}
-use Rattle.claim_tree.specs.Tree.{Text, text, Tree, leaf, array, Elements, element, no_elements, depth, IsRanged}
+use Rattle.claim_tree.specs.Tree.{Text, text, Tree, leaf, array, Elements, element, no_elements, depth}
 use Rattle.claim_tree.specs.ListTails.{short_list}
 use Rattle.disclosure.specs.Disclosure.{array_of}
 
@@ -37,10 +37,6 @@ array_of-injective salt s (Some name) None value v e = absurd (two_three v (leaf
 array_of-injective salt s None (Some n) value v e = absurd (two_three value (leaf (text n)) v (element_same _ _ _ _ (array_same _ _ e)).1)
 
 -- what holds of the list holds of its value
-pub value_ranged : (salt : Tree) (name : Option Text) (value : Tree) → IsRanged (array_of salt name value) → IsRanged value
-value_ranged salt (Some name) value h = h.1.1.0
-value_ranged salt None value h = h.1.0
-
 pub value_shallow : (salt : Tree) (name : Option Text) (value : Tree) → depth (array_of salt name value) ≤ 127 → depth value ≤ 126
 value_shallow salt (Some name) value low = omega (arith, low)
 value_shallow salt None value low = omega (arith, low)

@@ -2,7 +2,7 @@ ghost use Rattle.std.specs.Prelude.{◌≡◌, ◌≤◌, length, take, IfOk, If
 ghost use Rattle.b64url_text.specs.Base64url.{Decodes};
 ghost use Rattle.claim_tree.specs.ListTails.{ReadsTail, kept_tree, tail_elements};
 ghost use Rattle.claim_tree.specs.JsonText.{Reads};
-ghost use Rattle.claim_tree.specs.Tree.{Text, Tree as TreeSpec, IsRanged, IsOrdered, depth, leaf, text as text_leaf, array, element};
+ghost use Rattle.claim_tree.specs.Tree.{Text, Tree as TreeSpec, IsOrdered, depth, leaf, text as text_leaf, array, element};
 ghost use Rattle.claim_tree.specs.View.{tree_of};
 ghost use Rattle.disclosure.specs.Digest.{digest_of};
 ghost use Rattle.disclosure.specs.Disclosure.{IsDisclosure, array_of, disclosure_text};
@@ -105,10 +105,8 @@ fn given_by(tail: ListTail) -> Option<Disclosed>
 
 /// What a disclosure gives whose JSON reads to this, which is moved out of it. None where it is no disclosure.
 pub fn disclosed_by(found: TailOrTree) -> Option<Disclosed>
-    requires ranged { IsRanged (kept_tree found) }
     requires depth { depth (kept_tree found) ≤ 127 }
     ensures given { IfSome result (λ d. (json : Text) → ReadsTail json found → (salt : TreeSpec) × Reads json (array_of salt d.name (tree_of d.value))) }
-    ensures ranged { IfSome result (λ d. IsRanged (tree_of d.value)) }
     ensures depth { IfSome result (λ d. depth (tree_of d.value) ≤ 126) }
     ensures other { IfNone result ((json : Text) → ReadsTail json found → (t : TreeSpec) × Reads json t × IsNoArray t) }
 {
@@ -160,7 +158,6 @@ impl DisclosureReader {
         text: &str,
     ) -> Result<Disclosed, DisclosureError>
         ensures ok { IfOk result (λ d. (salt : TreeSpec) × IsDisclosure text.now salt d.name (tree_of d.value)) }
-        ensures ranged { IfOk result (λ d. IsRanged (tree_of d.value)) }
         ensures ordered { IfOk result (λ d. IsOrdered (tree_of d.value)) }
         ensures depth { IfOk result (λ d. depth (tree_of d.value) ≤ 126) }
         ensures refused { IfErr result (IsDisclosureRefused text.now) }
@@ -176,12 +173,10 @@ impl DisclosureReader {
 pub fn read_disclosure(alloc: Global, text: &str) -> Result<Disclosure, DisclosureError>
     ensures text { IfOk result (λ d. d.text ≡ text.now) }
     ensures ok { IfOk result (λ d. IsDisclosure text.now (tree_of d.salt) d.name (tree_of d.value)) }
-    ensures ranged { IfOk result (λ d. IsRanged (tree_of d.value)) }
     ensures ordered { IfOk result (λ d. IsOrdered (tree_of d.value)) }
     ensures depth { IfOk result (λ d. depth (tree_of d.value) ≤ 126) }
 
     // the salt
-    ensures salt_ranged { IfOk result (λ d. IsRanged (tree_of d.salt)) }
     ensures salt_ordered { IfOk result (λ d. IsOrdered (tree_of d.salt)) }
     ensures salt_depth { IfOk result (λ d. depth (tree_of d.salt) ≤ 126) }
 
@@ -206,7 +201,6 @@ pub fn make_text(
     name: Option<&str>,
     value: &Tree,
 ) -> Result<TextBox, NoMemory>
-    requires ranged { IsRanged (tree_of value.now) }
     requires depth { depth (tree_of value.now) ≤ 126 }
     ensures text { IfOk result (λ text. text ≡ disclosure_text (leaf (text_leaf salt.now)) (option_map (λ n. n.now) name.entry) (tree_of value.now)) }
     ensures back { IfOk result (λ text. IsDisclosure text (leaf (text_leaf salt.now)) (option_map (λ n. n.now) name.entry) (tree_of value.now)) }
@@ -231,7 +225,6 @@ pub fn make(
     name: Option<&str>,
     value: &Tree,
 ) -> Result<Disclosure, NoMemory>
-    requires ranged { IsRanged (tree_of value.now) }
     requires depth { depth (tree_of value.now) ≤ 126 }
     ensures salt { IfOk result (λ d. tree_of d.salt ≡ leaf (text_leaf salt.now)) }
     ensures name { IfOk result (λ d. d.name ≡ option_map (λ n. n.now) name.entry) }

@@ -1,6 +1,6 @@
 // One claim of a presentation that is accepted.
-ghost use Rattle.std.specs.Prelude.{◌≡◌, IfOk, IfErr, IfSome, option_map};
-ghost use Rattle.claim_tree.specs.Tree.{get, IsRanged};
+ghost use Rattle.std.specs.Prelude.{◌≡◌, IfOk, IfErr, option_map};
+ghost use Rattle.claim_tree.specs.Tree.{get};
 ghost use Rattle.claim_tree.specs.View.{tree_of};
 ghost use Rattle.compact_form.specs.Lowest.{IsLowest};
 ghost use Rattle.verifier_core.specs.Verdict.{Fails};
@@ -23,7 +23,6 @@ pub fn claim_of(
 ) -> Result<Option<Tree>, VerifyError>
     ensures claim { IfOk result (λ claim.
         IsClaim presentation.now policy.now now name.now (option_map tree_of claim)) }
-    ensures ranged { IfOk result (λ claim. IfSome claim (λ tree. IsRanged (tree_of tree))) }
     ensures refused { IfErr result (λ e. OnFault e (IsLowest (Fails presentation.now policy.now now))) }
 {
     let text = presentation.as_bytes();
@@ -33,8 +32,7 @@ pub fn claim_of(
 
 // The member of an object, taken out of it with no copy.
 fn into_member(tree: Tree, name: &str) -> Option<Tree>
-    ensures member { option_map tree_of result ≡ get (tree_of tree) name.now }
-    ensures ranged { IsRanged (tree_of tree) → IfSome result (λ member. IsRanged (tree_of member)) }
+    ensures { option_map tree_of result ≡ get (tree_of tree) name.now }
 {
     match tree {
         Tree::Object(mut members) => members.remove(name),

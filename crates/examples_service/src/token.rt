@@ -1,7 +1,7 @@
 // The token of a payload, some places of which are hidden.
 ghost use Rattle.std.specs.Prelude.{◌≡◌, ◌≤◌, IfOk, IfErr, IsErrOf};
 ghost use Rattle.sd_outside.specs.Causes.{Rose};
-ghost use Rattle.claim_tree.specs.Tree.{depth, IsRanged};
+ghost use Rattle.claim_tree.specs.Tree.{depth};
 ghost use Rattle.claim_tree.specs.View.{tree_of};
 ghost use Rattle.hmac_sign.specs.Agreement.{Agree};
 ghost use Rattle.issuer_core.specs.declared.errors.IssueError.{IssueError};
@@ -28,7 +28,6 @@ pub fn token_for<S: Signer>(
     signer: &mut S,
 ) -> Result<TextBox, IssueError>
     requires depth { depth (tree_of payload) ≤ 127 }
-    requires ranged { IsRanged (tree_of payload) }
     ensures token { IfOk result (IsTokenFor (maker_of seed.now)
         (order_for (tree_of payload) hide) (S.alg_of signer.old) (S.good signer.old)) }
     ensures refused { IfErr result (IsNotIssued (maker_of seed.now)

@@ -1,7 +1,6 @@
 // The line that tells the verdict on a token.
 ghost use Rattle.std.specs.Prelude.{◌≡◌, ◌++◌, ℕ, List, IfOk, codes, string_bytes};
 ghost use Rattle.claim_tree.specs.JsonText.{json_text};
-ghost use Rattle.claim_tree.specs.Tree.{IsRanged};
 ghost use Rattle.claim_tree.specs.View.{tree_of};
 ghost use Rattle.compact_form.specs.RefusedText.{fault_text};
 ghost use Rattle.cli_parts.specs.Lines.{line};
@@ -16,7 +15,6 @@ use verifier_core::{Policy, VerifyError, fault_line, verify_payload};
 
 // The line of a token that is accepted, with this payload.
 fn accepted_line(alloc: Global, payload: &Tree) -> Result<String, NoMemory>
-    requires { IsRanged (tree_of payload.now) }
     ensures { IfOk result (λ told. string_bytes told ≡ line (codes "accepted " ++ json_text (tree_of payload.now))) }
 {
     let text = write(alloc, payload)?;

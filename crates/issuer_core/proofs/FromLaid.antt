@@ -43,7 +43,6 @@ use Rattle.issuer_core.proofs.Judged.{good_order}
 use Rattle.issuer_core.proofs.OneLaid.{one_digest}
 use Rattle.issuer_core.proofs.ReservedPlaces.{held_short}
 use Rattle.issuer_core.proofs.WithAlg.{payload_object}
-use Rattle.issuer_core.proofs.LaidBounds.{payload_ranged}
 
 -- ---- the digests as a list
 
@@ -318,7 +317,3 @@ pub with_alg_ranged : (hash : HashAlg) (t : Tree) → IsRanged t → IsRanged (w
 with_alg_ranged hash (object ms) r = MembersRanged-inserted ms alg_name (leaf (text (hash_name hash))) r tt
 with_alg_ranged hash (leaf l) r = r
 with_alg_ranged hash (array es) r = r
-
-pub body_ranged : (seed : List ℕ) (o : Order) (body : Tree) (texts digests : List Text) → IsLaidFor (maker_of seed) o body texts digests → IsRanged o.payload → IsRanged body
-body_ranged seed o body texts digests laid ranged =
-    subst IsRanged (sym laid.payload_is) (with_alg_ranged o.hash laid.laid (payload_ranged (maker_of seed) o laid.laid laid.given laid.dg laid.is_laid ranged))

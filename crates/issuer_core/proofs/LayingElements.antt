@@ -2,7 +2,7 @@
 use Rattle.std.proofs.Common.{◌≡◌, ℕ, suc, ◌+◌, ◌≤◌, List, [], ◌∷◌, ◌++◌, length, map, drop, get_or, ◌<◌, append-nil, Option, None, Some, decimal, refl, sym, ap, subst, ◌∙◌, arith}
 use Rattle.std.proofs.lemmas.List.{drop_more}
 use Rattle.claim_tree.specs.FileForms.{text_elements}
-use Rattle.claim_tree.specs.Tree.{Text, text, leaf, Tree, Elements, no_elements, element, elements_len, elements_depth, ElementsRanged}
+use Rattle.claim_tree.specs.Tree.{Text, text, leaf, Tree, Elements, no_elements, element, elements_len, elements_depth}
 use Rattle.claim_tree.specs.TreeCalls.{pushed}
 use Rattle.claim_tree.specs.Nodes.{elements_nodes}
 use Rattle.claim_tree.specs.View.{tree_of}
@@ -60,7 +60,6 @@ pub record LaysElements (decoys : Decoys) (hiding : Hiding) (first : List Text) 
   pub closes : ElementsClose (length texts) left
   pub count : length texts + elements_weight one left ≡ length first + elements_weight one all
   pub digested : digests ≡ map (digest_of hiding.hash) texts
-  pub ranged : ElementsRanged (strip_elements left)
   pub low : elements_depth (strip_elements left) ≤ elements_depth (strip_elements all)
   pub few : elements_nodes (strip_elements left) ≤ elements_nodes (strip_elements all)
 
@@ -115,22 +114,20 @@ module _ (decoys : Decoys) (hiding : Hiding) (first : List Text) (all : MarkedEl
       closes = subst (λ n. ElementsClose n left) (sym count) so.closes.2;
       count = let old = so.count in omega (arith, old, count);
       digested = digested;
-      ranged = so.ranged.1;
       low = let old = so.low in omega (arith, old);
       few = let old = so.few in omega (arith, old);
     }
 
 -- ---- the first and the last
 
-pub elements_start : (decoys : Decoys) (hiding : Hiding) (first digests : List Text) (all : MarkedElements) → ElementsClose (length first) all → digests ≡ map (digest_of hiding.hash) first → ElementsRanged (strip_elements all)
+pub elements_start : (decoys : Decoys) (hiding : Hiding) (first digests : List Text) (all : MarkedElements) → ElementsClose (length first) all → digests ≡ map (digest_of hiding.hash) first
     → LaysElements decoys hiding first all no_elements first digests all
-elements_start decoys hiding first digests all closes digested ranged = record {
+elements_start decoys hiding first digests all closes digested = record {
   so_far = λ dec tells more. refl;
   made = λ dec tells more. refl;
   closes = closes;
   count = refl;
   digested = digested;
-  ranged = ranged;
   low = omega arith;
   few = omega arith;
 }

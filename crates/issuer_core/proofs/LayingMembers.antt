@@ -1,6 +1,6 @@
 -- One member more of an object that is laid.
 use Rattle.std.proofs.Common.{◌≡◌, ℕ, ◌+◌, ◌≤◌, List, [], ◌∷◌, ◌++◌, length, map, append_assoc, append-nil, Option, None, Some, refl, sym, ap, ap₂, subst, ◌∙◌, arith}
-use Rattle.claim_tree.specs.Tree.{Text, Tree, Members, no_members, member, inserted, names, IsBefore, IsBeforeAll, MembersOrdered, members_depth, MembersRanged}
+use Rattle.claim_tree.specs.Tree.{Text, Tree, Members, no_members, member, inserted, names, IsBefore, IsBeforeAll, MembersOrdered, members_depth}
 use Rattle.claim_tree.specs.Nodes.{members_nodes}
 use Rattle.claim_tree.specs.View.{tree_of}
 use Rattle.claim_tree.specs.declared.tree.Tree as code
@@ -53,7 +53,6 @@ pub record LaysMembers (decoys : Decoys) (hiding : Hiding) (first : List Text) (
   pub closes : MembersClose (length texts) left
   pub count : length texts + members_weight one left ≡ length first + members_weight one all
   pub digested : digests ≡ map (digest_of hiding.hash) texts
-  pub ranged : MembersRanged (strip_members left)
   pub low : members_depth (strip_members left) ≤ members_depth (strip_members all)
   pub few : members_nodes (strip_members left) ≤ members_nodes (strip_members all)
 
@@ -135,7 +134,6 @@ module _ (decoys : Decoys) (hiding : Hiding) (first : List Text) (all : MarkedMe
       closes = subst (λ n. MembersClose n left) (sym count) so.closes.2;
       count = let old = so.count in omega (arith, old, count);
       digested = digested;
-      ranged = so.ranged.1;
       low = let old = so.low in omega (arith, old);
       few = let old = so.few in omega (arith, old);
     }
@@ -172,9 +170,9 @@ module _ (decoys : Decoys) (hiding : Hiding) (first : List Text) (all : MarkedMe
 
 -- ---- the first and the last
 
-pub members_start : (decoys : Decoys) (hiding : Hiding) (first digests : List Text) (all : MarkedMembers) → MembersClose (length first) all → digests ≡ map (digest_of hiding.hash) first → MembersRanged (strip_members all) → MembersOrdered (strip_members all)
+pub members_start : (decoys : Decoys) (hiding : Hiding) (first digests : List Text) (all : MarkedMembers) → MembersClose (length first) all → digests ≡ map (digest_of hiding.hash) first → MembersOrdered (strip_members all)
     → LaysMembers decoys hiding first all no_members [] first digests all
-members_start decoys hiding first digests all closes digested ranged ordered = record {
+members_start decoys hiding first digests all closes digested ordered = record {
   so_far = λ dec tells more. refl;
   hidden_so_far = λ more. refl;
   made = λ dec tells more. refl;
@@ -182,7 +180,6 @@ members_start decoys hiding first digests all closes digested ranged ordered = r
   closes = closes;
   count = refl;
   digested = digested;
-  ranged = ranged;
   low = omega arith;
   few = omega arith;
 }

@@ -2,7 +2,7 @@
 use Rattle.std.proofs.Common.{◌≡◌, ◌≢◌, ℕ, ◌<◌, ◌≤◌, List, [], ◌∷◌, inl, inr, Option, Some, None, length, refl, sym, ap, ap₂, subst, ◌∙◌, arith, codes}
 use Rattle.sd_outside.specs.Limits.{count_max, file_max, key_min}
 use Rattle.claim_tree.specs.Tree as spec
-use Rattle.claim_tree.specs.Tree.{Text, text, leaf, object, Elements, no_elements, element, Members, member_named, depth, members_depth, IsRanged, MembersRanged}
+use Rattle.claim_tree.specs.Tree.{Text, text, leaf, object, Elements, no_elements, element, Members, member_named, depth, members_depth}
 use Rattle.claim_tree.specs.Lists.{In}
 use Rattle.claim_tree.specs.View.{tree_of}
 use Rattle.claim_tree.specs.FileForms.{IsText, IsWholeUpTo, Says, MaySay, SaysOr, HasValue, MemberMeets, MemberFails, missing, wrong, optional, found}
@@ -28,7 +28,6 @@ use Rattle.issuer_core.specs.OrderFile.{IsValue, IsDecoy, IsHashText, IsAlgText,
 use Rattle.issuer_core.specs.declared.order.Decoy.{Decoy}
 use Rattle.issuer_core.specs.declared.order_file.IssueFile.{IssueFile}
 use Rattle.claim_tree.proofs.ListForms.{one_list, one_pointer}
-use Rattle.claim_tree.proofs.Inner.{ranged-member_named}
 use Rattle.claim_tree.proofs.OtherMembers.{depth-member_named}
 use Rattle.hmac_sign.proofs.KeyTexts.{one_key_bytes}
 
@@ -73,9 +72,6 @@ value_named (Some t) u h = ap Some (sym h)
 
 pub value_depth : (ms : Members) (name : Text) (u : spec.Tree) → members_depth ms ≤ 126 → Says IsValue (member_named ms name) u → depth u ≤ 126
 value_depth ms name u low says = omega (arith, low, depth-member_named ms name u (value_named (member_named ms name) u says))
-
-pub value_ranged : (ms : Members) (name : Text) (u : spec.Tree) → MembersRanged ms → Says IsValue (member_named ms name) u → IsRanged u
-value_ranged ms name u r says = ranged-member_named ms name u r (value_named (member_named ms name) u says)
 
 -- ---- the hash
 

@@ -2,7 +2,7 @@
 ghost use Rattle.std.specs.Prelude.{◌≡◌, ◌≤◌, ◌<◌, ◌⊎◌, length, IfOk, OnOk, IfErr, IsErrOf};
 ghost use Rattle.std.specs.List.{AllByRecursion};
 ghost use Rattle.sd_outside.specs.Causes.{Rose};
-ghost use Rattle.claim_tree.specs.Tree.{depth as depth_of, IsRanged};
+ghost use Rattle.claim_tree.specs.Tree.{depth as depth_of};
 ghost use Rattle.claim_tree.specs.View.{tree_of};
 ghost use Rattle.sd_outside.specs.Limits.{count_max, issue_max};
 ghost use Rattle.compact_form.specs.Compact.{compact, AreWords};
@@ -43,7 +43,6 @@ pub fn issue<S: Signer>(
     signer: &mut S,
 ) -> Result<Parts, IssueError>
     requires depth { depth_of (tree_of order.now.payload) ≤ 127 }
-    requires ranged { IsRanged (tree_of order.now.payload) }
     ensures issued { IfOk result (IsIssued (maker_of seed.now) (order_of order.now) (S.alg_of signer.old) (S.good signer.old)) }
     ensures laid { IfOk result (IsLaidOut (maker_of seed.now) (order_of order.now) (S.alg_of signer.old) (S.good signer.old)) }
     ensures passes { IfOk result (λ _. NoneApplies (AppliesToOrder (order_of order.now))) }
@@ -72,7 +71,6 @@ pub fn issue_owned<S: Signer>(
     signer: &mut S,
 ) -> Result<Parts, IssueError>
     requires depth { depth_of (tree_of order.payload) ≤ 127 }
-    requires ranged { IsRanged (tree_of order.payload) }
     ensures issued { IfOk result (IsIssued (maker_of seed.now) (order_of order) (S.alg_of signer.old) (S.good signer.old)) }
     ensures laid { IfOk result (IsLaidOut (maker_of seed.now) (order_of order) (S.alg_of signer.old) (S.good signer.old)) }
     ensures passes { IfOk result (λ _. NoneApplies (AppliesToOrder (order_of order))) }
@@ -89,6 +87,7 @@ pub fn issue_owned<S: Signer>(
     ensures same_alg { S.alg_of signer.new ≡ S.alg_of signer.old }
     ensures later { S.faults signer.old ≤ S.faults signer.new }
 {
+    order.payload.invariant();
     if let Err(error) = judge(alloc, &order) {
         return Err(error);
     }
@@ -115,7 +114,6 @@ fn issue_laid<S: Signer>(
     laid: Laid,
     signer: &mut S,
 ) -> Result<Parts, IssueError>
-    requires ranged { IsRanged (tree_of laid.payload) }
     requires object { IsObject (tree_of laid.payload) }
     requires words { AllByRecursion IsWord laid.texts }
     ensures finished { IfOk result (IsFinished header.now (S.good signer.old) (tree_of laid.payload) laid.texts laid.digests) }
@@ -143,7 +141,6 @@ fn sign_laid<S: Signer>(
     laid: &Laid,
     signer: &mut S,
 ) -> Result<JwtParts, IssueError>
-    requires ranged { IsRanged (tree_of laid.now.payload) }
     ensures signed { IfOk result (IsSignedJwt header.now (S.good signer.old) (tree_of laid.now.payload)) }
     ensures differ { OnOk result (AtNone (Repeats laid.now.digests)) }
     ensures unsigned { IfErr result (λ e. HasClash laid.now.digests e ⊎ (AtNone (Repeats laid.now.digests) × IsUnsigned e)) }
@@ -176,7 +173,6 @@ fn sign_body<S: Signer>(
     body: &Tree,
     signer: &mut S,
 ) -> Result<JwtParts, IssueError>
-    requires ranged { IsRanged (tree_of body.now) }
     ensures signed { IfOk result (IsSignedJwt header.now (S.good signer.old) (tree_of body.now)) }
     ensures unsigned { IfErr result (IsUnsigned) }
     ensures failed { IsErrOf result IssueError.SignFailed → Rose (S.faults signer.old) (S.faults signer.new) }

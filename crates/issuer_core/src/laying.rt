@@ -3,7 +3,7 @@ ghost use Rattle.std.specs.Prelude.{◌≡◌, ◌+◌, ◌≤◌, ◌<◌, List
 ghost use Rattle.std.specs.Set.{distinct_count};
 ghost use Rattle.claim_tree.specs.FileForms.{text_elements};
 ghost use Rattle.sd_outside.specs.Limits.{count_max, depth_max};
-ghost use Rattle.claim_tree.specs.Tree.{Text, IsRanged, leaf, text as text_leaf, depth, elements_depth, members_depth, ElementsRanged, MembersRanged};
+ghost use Rattle.claim_tree.specs.Tree.{Text, leaf, text as text_leaf, depth, elements_depth, members_depth};
 ghost use Rattle.claim_tree.specs.View.{tree_of};
 ghost use Rattle.disclosure.specs.Digest.{digest_of};
 ghost use Rattle.disclosure.specs.Disclosure.{disclosure_text};
@@ -82,7 +82,6 @@ impl Layer {
         value: Tree,
     ) -> Result<TextBox, NoMemory>
         requires salts { length self.old.texts < length hiding.salts.now }
-        requires ranged { IsRanged (tree_of value) }
         requires depth { depth (tree_of value) ≤ 126 }
         requires digests { self.old.digests ≡ map (digest_of hiding.hash) self.old.texts }
         ensures text { OnOk result (self.new.texts ≡ self.old.texts ++ salted hiding.entry.salts.now (length self.old.texts) (option_map (λ n. n.now) name.entry) (tree_of value) ∷ []) }
@@ -171,7 +170,6 @@ fn lay(
     layer: &mut Layer,
 ) -> Result<Tree, NoMemory>
     requires depth { decoys.depth + depth (strip (marked_of tree)) ≤ 125 }
-    requires ranged { IsRanged (strip (marked_of tree)) }
     requires decoys { ArePlaced decoys }
     requires closes { ClosesFrom (length layer.old.texts) (marked_of tree) }
     requires salts { length layer.old.texts + weight one (marked_of tree) ≤ length hiding.salts.now }
@@ -200,7 +198,6 @@ fn lay_list(
     layer: &mut Layer,
 ) -> Result<TreeList, NoMemory>
     requires depth { decoys.depth + elements_depth (strip_elements list) ≤ 124 }
-    requires ranged { ElementsRanged (strip_elements list) }
     requires decoys { ArePlaced decoys }
     requires closes { ElementsClose (length layer.old.texts) list }
     requires salts { length layer.old.texts + elements_weight one list ≤ length hiding.salts.now }
@@ -234,7 +231,6 @@ fn lay_map(
     layer: &mut Layer,
 ) -> Result<TreeMap, NoMemory>
     requires depth { decoys.depth + members_depth (strip_members members) ≤ 124 }
-    requires ranged { MembersRanged (strip_members members) }
     requires decoys { ArePlaced decoys }
     requires closes { MembersClose (length layer.old.texts) members }
     requires salts { length layer.old.texts + members_weight one members ≤ length hiding.salts.now }
@@ -270,7 +266,6 @@ fn lay_part(
     layer: &mut Layer,
 ) -> Result<LaidNode, NoMemory>
     requires depth { decoys.depth + depth (strip (marked_of tree)) ≤ 125 }
-    requires ranged { IsRanged (strip (marked_of tree)) }
     requires decoys { ArePlaced decoys }
     requires closes { ClosesFrom (length layer.old.texts) (marked_of tree) }
     requires numbered { HasNumber mark (length layer.old.texts + weight one (marked_of tree)) }
@@ -343,7 +338,6 @@ fn push_texts(texts: &mut TextList, others: TextList) -> Result<(), NoMemory>
 // Lays an order, with the salts of a seed. Its texts are moved.
 pub(crate) fn lay_order(alloc: Global, order: Order, seed: &[u8; 32]) -> Result<Laid, NoMemory>
     requires shallow { depth (order_of order).payload ≤ depth_max }
-    requires ranged { IsRanged (order_of order).payload }
     requires few { distinct_count same_path order.hide ≤ count_max }
     requires decoys { length (decoy_paths order.decoys) ≤ count_max }
     ensures laid { IfOk result (λ laid. IsLaidFor (maker_of seed.now) (order_of order) (tree_of laid.payload) laid.texts laid.digests) }
@@ -378,7 +372,6 @@ fn lay_shown(alloc: Global, hash: HashAlg, payload: Tree) -> Result<Laid, NoMemo
 // An order with what it hides and its decoys, by the salts of a seed.
 fn lay_hidden(alloc: Global, order: Order, seed: &[u8; 32]) -> Result<Laid, NoMemory>
     requires shallow { depth (order_of order).payload ≤ depth_max }
-    requires ranged { IsRanged (order_of order).payload }
     requires few { distinct_count same_path order.hide ≤ count_max }
     requires decoys { length (decoy_paths order.decoys) ≤ count_max }
     ensures laid { IfOk result (λ laid. IsLaidFor (maker_of seed.now) (order_of order) (tree_of laid.payload) laid.texts laid.digests) }
@@ -410,7 +403,6 @@ fn lay_salted(
     hidden: usize,
 ) -> Result<Laid, NoMemory>
     requires depth { depth (strip (marked_of claims)) ≤ 125 }
-    requires ranged { IsRanged (strip (marked_of claims)) }
     requires closes { ClosesFrom 0 (marked_of claims) }
     requires hidden { weight one (marked_of claims) ≡ hidden }
     requires salts { length hiding.salts.now ≡ hidden + length (decoy_paths decoys.now) }
@@ -431,7 +423,6 @@ fn lay_claims(
     hiding: Hiding<'_>,
 ) -> Result<Laid, NoMemory>
     requires depth { decoys.depth + depth (strip (marked_of claims)) ≤ 125 }
-    requires ranged { IsRanged (strip (marked_of claims)) }
     requires decoys { ArePlaced decoys }
     requires closes { ClosesFrom 0 (marked_of claims) }
     requires salts { weight one (marked_of claims) ≤ length hiding.salts.now }

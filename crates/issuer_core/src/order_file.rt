@@ -1,7 +1,7 @@
 // The file that says an order.
 ghost use Rattle.std.specs.Prelude.{◌≡◌, ◌≤◌, List, [], length, OnOk, IfOk, IfErr, IfSome, IfNone};
 ghost use Rattle.sd_outside.specs.Limits.{count_max, key_min};
-ghost use Rattle.claim_tree.specs.Tree.{IsRanged, IsOrdered, depth as depth_of};
+ghost use Rattle.claim_tree.specs.Tree.{IsOrdered, depth as depth_of};
 ghost use Rattle.claim_tree.specs.Lists.{In};
 ghost use Rattle.claim_tree.specs.View.{tree_of};
 ghost use Rattle.claim_tree.specs.ListViews.{elements_of};
@@ -196,7 +196,6 @@ fn hash_member(members: &TreeMap) -> Result<HashAlg, FileFault>
 /// `HS256` and `sha-256`. Another member is a fault.
 pub fn read_order(alloc: Global, bytes: &[u8]) -> Result<IssueFile, FileFault>
     ensures ok { IfOk result (IsOrderFile bytes.now) }
-    ensures ranged { IfOk result (λ said. IsRanged (tree_of said.order.payload)) }
     ensures ordered { IfOk result (λ said. IsOrdered (tree_of said.order.payload)) }
     ensures depth { IfOk result (λ said. depth_of (tree_of said.order.payload) ≤ 126) }
     ensures counts { IfOk result (λ said. (entry : Seen) → In entry said.order.decoys → entry.count ≤ count_max) }

@@ -259,21 +259,21 @@ general_ordered : (parts : Parts) → IsOrdered (general_of (alone parts))
 general_ordered parts = ((refl, tt), tt, (tt, (((refl, (refl, tt)), header_ordered parts, ((refl, tt), tt, (tt, tt, tt))), tt), tt))
 
 printable_alone : (parts : Parts) → AreWords parts → IsPrintable (alone parts)
-printable_alone parts words = record { words = words; no_disclosures = refl; no_binding = refl; shallow = omega arith; ranged = tt }
+printable_alone parts words = record { words = words; no_disclosures = refl; no_binding = refl; shallow = omega arith }
 
 flat_is : (parts : Parts) → AreWords parts → IsFlat (alone parts) (json_text (flat_of (alone parts)))
 flat_is parts words =
     let token = alone parts in
     let good = printable_alone parts words in
     let within = within_flat parts words in
-    flat_says token (json_text (flat_of token)) good (record { utf8 = within.utf8; value = read_of_text (flat_of token) (flat_ranged token good) (flat_ordered parts) (flat_depth token good) })
+    flat_says token (json_text (flat_of token)) good (record { utf8 = within.utf8; value = read_of_text (flat_of token) (flat_ranged token tt) (flat_ordered parts) (flat_depth token good) })
 
 general_is : (parts : Parts) → AreWords parts → IsGeneral (alone parts) (json_text (general_of (alone parts)))
 general_is parts words =
     let token = alone parts in
     let good = printable_alone parts words in
     let within = within_general parts words in
-    general_says token (json_text (general_of token)) good (record { utf8 = within.utf8; value = read_of_text (general_of token) (general_ranged token good) (general_ordered parts) (general_depth token (omega arith)) })
+    general_says token (json_text (general_of token)) good (record { utf8 = within.utf8; value = read_of_text (general_of token) (general_ranged token tt) (general_ordered parts) (general_depth token (omega arith)) })
 
 -- ---- each form of a token that is read is read as it
 

@@ -8,8 +8,7 @@ use Rattle.claim_tree.specs.Removed.{removed}
 use Rattle.claim_tree.specs.FileForms.{Says, MaySay, SaysOr, text_elements}
 use Rattle.claim_tree.specs.JsonText.{Reads}
 use Rattle.claim_tree.proofs.Datas.{MembersRanged-inserted}
-use Rattle.claim_tree.proofs.Inner.{ranged-member_named}
-use Rattle.claim_tree.proofs.OtherMembers.{named_other, named_gone, removed_absent, ranged-removed, depth-removed, depth-member_named, named_inserted, other_inserted, removed_inserted, depth-inserted}
+use Rattle.claim_tree.proofs.OtherMembers.{named_other, named_gone, removed_absent, depth-removed, depth-member_named, named_inserted, other_inserted, removed_inserted, depth-inserted}
 use Rattle.compact_form.specs.Compact.{jwt, HasWords, AreWords}
 use Rattle.compact_form.specs.PartWords.{part_word}
 use Rattle.compact_form.specs.declared.parts.JwtParts.{JwtParts}
@@ -69,14 +68,14 @@ binding_ranged : (b : Option JwtParts) (ms : Members) → MembersRanged ms → M
 binding_ranged None ms ranged = ranged
 binding_ranged (Some j) ms ranged = MembersRanged-inserted ms (part_word KbJwt) (leaf (text (jwt j))) ranged tt
 
-header_ranged : (token : Token) → IsPrintable token → MembersRanged (written_header token)
-header_ranged token good =
-    MembersRanged-inserted (with_binding token.parts.binding token.outer) (part_word Disclosures) (array (text_elements token.parts.disclosures)) (binding_ranged token.parts.binding token.outer good.ranged) (texts_ranged token.parts.disclosures)
+header_ranged : (token : Token) → MembersRanged token.outer → MembersRanged (written_header token)
+header_ranged token ranged =
+    MembersRanged-inserted (with_binding token.parts.binding token.outer) (part_word Disclosures) (array (text_elements token.parts.disclosures)) (binding_ranged token.parts.binding token.outer ranged) (texts_ranged token.parts.disclosures)
 
 -- ---- the flattened form
 
-pub flat_ranged : (token : Token) → IsPrintable token → IsRanged (flat_of token)
-flat_ranged token good = (header_ranged token good, (tt, (tt, (tt, tt))))
+pub flat_ranged : (token : Token) → MembersRanged token.outer → IsRanged (flat_of token)
+flat_ranged token ranged = (header_ranged token ranged, (tt, (tt, (tt, tt))))
 
 pub flat_depth : (token : Token) → IsPrintable token → depth (flat_of token) ≤ 127
 flat_depth token good = omega (arith, header_depth token, good.shallow)
@@ -103,8 +102,8 @@ flat_says token bytes good reads =
 
 -- ---- the general form
 
-pub general_ranged : (token : Token) → IsPrintable token → IsRanged (general_of token)
-general_ranged token good = (tt, (((header_ranged token good, (tt, (tt, tt))), tt), tt))
+pub general_ranged : (token : Token) → MembersRanged token.outer → IsRanged (general_of token)
+general_ranged token ranged = (tt, (((header_ranged token ranged, (tt, (tt, tt))), tt), tt))
 
 -- the object that is put together
 pub general_made : (token : Token) (empty front all : Members) (none list : Elements) (entry : Members) (payload : Text) → empty ≡ no_members → none ≡ no_elements → entry ≡ entry_of token → payload ≡ token.parts.signed.payload
@@ -166,41 +165,34 @@ entry_words entry token payload says entry_says =
       binding = jwt_of_says (found_part h KbJwt) parts.binding entry_says.says.binding;
     }
 
--- the header of an entry is no deeper than the entry allows, and its numbers are in range
-record IsInside (e h : Members) : Type 0 where
-  shallow : members_depth h + 1 ≤ max 1 (members_depth e)
-  ranged : MembersRanged e → MembersRanged h
-
-inside_of : (e h : Members) → SaysOr IsObjectOf no_members (found_part e Header) h → IsInside e h
-inside_of e h says = go (found_part e Header) refl says
+-- the header of an entry is no deeper than the entry allows
+header_inside : (e h : Members) → SaysOr IsObjectOf no_members (found_part e Header) h → members_depth h + 1 ≤ max 1 (members_depth e)
+header_inside e h says = go (found_part e Header) refl says
   where
-    go : (o : Option Tree) → found_part e Header ≡ o → SaysOr IsObjectOf no_members o h → IsInside e h
-    go None at is = record { shallow = omega (arith, ap members_depth is); ranged = λ ranged. subst MembersRanged (sym is) tt }
+    go : (o : Option Tree) → found_part e Header ≡ o → SaysOr IsObjectOf no_members o h → members_depth h + 1 ≤ max 1 (members_depth e)
+    go None at is = omega (arith, ap members_depth is)
     go (Some t) at is =
-        let stands : found_part e Header ≡ Some (object h) = at ∙ ap Some is in
-        let low : suc (members_depth h) ≤ members_depth e = depth-member_named e (part_word Header) (object h) stands in
-        record { shallow = omega (arith, low); ranged = λ ranged. ranged-member_named e (part_word Header) (object h) ranged stands }
+        let low : suc (members_depth h) ≤ members_depth e = depth-member_named e (part_word Header) (object h) (at ∙ ap Some is) in
+        omega (arith, low)
 
 -- the entry of an object is no deeper than the object allows
-entry_inside : (ms : Members) (entries : Entries) → HasEntries ms entries → MembersRanged ms → (members_depth entries.first ≤ members_depth ms) × MembersRanged entries.first
-entry_inside ms entries (itself none is unstray) ranged = (omega (arith, ap members_depth is), subst MembersRanged (sym is) ranged)
-entry_inside ms entries (listed list at has alone) ranged =
-    let stands : found_part ms Signatures ≡ Some (array (element (object entries.first) has.later)) = at ∙ ap Some has.are.are in
-    let low : suc (max (suc (members_depth entries.first)) (elements_depth has.later)) ≤ members_depth ms = depth-member_named ms (part_word Signatures) (array (element (object entries.first) has.later)) stands in
-    (omega (arith, low), (ranged-member_named ms (part_word Signatures) (array (element (object entries.first) has.later)) ranged stands).0)
+entry_inside : (ms : Members) (entries : Entries) → HasEntries ms entries → members_depth entries.first ≤ members_depth ms
+entry_inside ms entries (itself none is unstray) = omega (arith, ap members_depth is)
+entry_inside ms entries (listed list at has alone) =
+    let low : suc (max (suc (members_depth entries.first)) (elements_depth has.later)) ≤ members_depth ms = depth-member_named ms (part_word Signatures) (array (element (object entries.first) has.later)) (at ∙ ap Some has.are.are) in
+    omega (arith, low)
 
-pub printable : (ms : Members) (token : Token) → MembersSay ms token → IsRanged (object ms) → depth (object ms) ≤ 127 → IsPrintable token
-printable ms token says ranged low =
+pub printable : (ms : Members) (token : Token) → MembersSay ms token → depth (object ms) ≤ 127 → IsPrintable token
+printable ms token says low =
     let e = says.entries.first in
     let h = says.entry.header in
-    let in_object = entry_inside ms says.entries says.has ranged in
-    let in_entry = inside_of e h says.entry.unprotected in
+    let in_object = entry_inside ms says.entries says.has in
+    let in_entry = header_inside e h says.entry.unprotected in
     let without = removed h (part_word Disclosures) in
     let is = says.entry.says.outer in
     record {
       words = entry_words e token (found_part ms Payload) says.payload says.entry;
       no_disclosures = ap (λ (us : Members). found_part us Disclosures) is ∙ named_other without (part_word KbJwt) (part_word Disclosures) refl ∙ named_gone h (part_word Disclosures);
       no_binding = ap (λ (us : Members). found_part us KbJwt) is ∙ named_gone without (part_word KbJwt);
-      shallow = omega (arith, ap members_depth is, depth-removed without (part_word KbJwt), depth-removed h (part_word Disclosures), in_entry.shallow, in_object.0, low);
-      ranged = subst MembersRanged (sym is) (ranged-removed without (part_word KbJwt) (ranged-removed h (part_word Disclosures) (in_entry.ranged in_object.1)));
+      shallow = omega (arith, ap members_depth is, depth-removed without (part_word KbJwt), depth-removed h (part_word Disclosures), in_entry, in_object, low);
     }

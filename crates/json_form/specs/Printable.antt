@@ -1,6 +1,6 @@
 -- Not needed to believe the program's promises: tokens that can be written.
 use Rattle.std.specs.Prelude.{◌≡◌, ◌≤◌, None}
-use Rattle.claim_tree.specs.Tree.{object, members_depth, IsRanged}
+use Rattle.claim_tree.specs.Tree.{members_depth}
 use Rattle.compact_form.specs.Compact.{AreWords}
 use Rattle.compact_form.specs.declared.fault.Part.TheVariants.{Disclosures, KbJwt}
 use Rattle.json_form.specs.declared.token.Token.{Token}
@@ -12,4 +12,3 @@ pub record IsPrintable (token : Token) : Type 0 where
   pub no_disclosures : found_part token.outer Disclosures ≡ None
   pub no_binding : found_part token.outer KbJwt ≡ None
   pub shallow : members_depth token.outer ≤ 125
-  pub ranged : IsRanged (object token.outer)

@@ -1,6 +1,6 @@
 // The JSON serializations, written.
 ghost use Rattle.std.specs.Prelude.{◌≡◌, ◌≤◌, OnOk, IfOk};
-ghost use Rattle.claim_tree.specs.Tree.{leaf, text as text_leaf, inserted, members_depth, IsRanged};
+ghost use Rattle.claim_tree.specs.Tree.{leaf, text as text_leaf, inserted, members_depth};
 ghost use Rattle.claim_tree.specs.FileForms.{text_elements};
 ghost use Rattle.claim_tree.specs.JsonText.{json_text};
 ghost use Rattle.claim_tree.specs.View.{tree_of};

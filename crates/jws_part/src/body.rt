@@ -1,7 +1,7 @@
 // Payloads, RFC 7515 section 5 and RFC 7519 section 4.
 ghost use Rattle.std.specs.Prelude.{◌≡◌, ◌≤◌, IfOk, IsErrOf};
 ghost use Rattle.b64url_text.specs.Base64url.{b64, Decodes};
-ghost use Rattle.claim_tree.specs.Tree.{object, IsRanged, IsOrdered, depth as depth_of};
+ghost use Rattle.claim_tree.specs.Tree.{object, IsOrdered, depth as depth_of};
 ghost use Rattle.claim_tree.specs.View.{tree_of};
 ghost use Rattle.claim_tree.specs.JsonText.{json_text};
 ghost use Rattle.jws_part.specs.Part.{Carries, IsBody, IsNoObject};
@@ -63,7 +63,6 @@ pub(crate) fn read_object(
     part: &str,
 ) -> Result<TreeMap, BodyError>
     ensures ok { IfOk result (λ ms. Carries part.now (object ms)) }
-    ensures ranged { IfOk result (λ ms. IsRanged (object ms)) }
     ensures ordered { IfOk result (λ ms. IsOrdered (object ms)) }
     ensures depth { IfOk result (λ ms. depth_of (object ms) ≤ 127) }
     ensures unreadable { IsErrOf result BodyError.Unreadable → IsNoObject part.now }
@@ -78,7 +77,6 @@ pub(crate) fn read_object(
 /// The JSON object that a payload carries: base64url of its JSON text. Of two members of one name the last is kept.
 pub fn read_body(alloc: Global, reader: &mut JsonReader, payload: &str) -> Result<Tree, BodyError>
     ensures ok { IfOk result (λ t. IsBody payload.now (tree_of t)) }
-    ensures ranged { IfOk result (λ t. IsRanged (tree_of t)) }
     ensures ordered { IfOk result (λ t. IsOrdered (tree_of t)) }
     ensures depth { IfOk result (λ t. depth_of (tree_of t) ≤ 127) }
     ensures unreadable { IsErrOf result BodyError.Unreadable → IsNoObject payload.now }
@@ -96,7 +94,6 @@ fn part_of(alloc: Global, text: &str) -> Result<TextBox, NoMemory>
 
 /// The payload of a tree: base64url of its compact JSON text.
 pub fn write_body(alloc: Global, tree: &Tree) -> Result<TextBox, NoMemory>
-    requires { IsRanged (tree_of tree.now) }
     ensures ok { IfOk result (λ text. text ≡ b64 (json_text (tree_of tree.now))) }
     ensures back { depth_of (tree_of tree.now) ≤ 127 → IfOk result (λ text. Carries text (tree_of tree.now)) }
 {

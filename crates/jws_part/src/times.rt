@@ -1,17 +1,14 @@
 // The times that a payload claims.
 ghost use Rattle.std.specs.Prelude.{◌≡◌, ◌↔◌, ℤ, codes, IsTrue, IfSome, IfNone};
-ghost use Rattle.claim_tree.specs.Tree.{InRange, IsRanged};
 ghost use Rattle.claim_tree.specs.View.{tree_of};
 ghost use Rattle.jws_part.specs.Times.{IsMoment, IsNoMoment, IsTimeUnreadable, IsExpired, IsNotYet};
 
-use claim_tree::{Tree, get};
+use claim_tree::{Tree, Whole, get};
 
 /// The whole number that a claim is, as the moments of RFC 7519 section 2 are.
-pub fn moment(payload: &Tree, name: &str) -> Option<i128>
-    requires { IsRanged (tree_of payload.now) }
+pub fn moment(payload: &Tree, name: &str) -> Option<Whole>
     ensures whole { IfSome result (IsMoment (tree_of payload.now) name.now) }
     ensures none { IfNone result ((moment : ℤ) → IsMoment (tree_of payload.now) name.now moment → ⊥) }
-    ensures ranged { IfSome result InRange }
 {
     match get(payload, name) {
         Some(Tree::Whole(moment)) => Some(*moment),
@@ -39,22 +36,20 @@ pub fn is_time_unreadable(payload: &Tree) -> bool
 /// Whether a payload is expired, where the clocks may differ by the skew (RFC 7519 section 4.1.4). Times are in
 /// seconds.
 pub fn is_expired(payload: &Tree, skew: u32, now: u64) -> bool
-    requires { IsRanged (tree_of payload.now) }
     ensures { IsTrue result ↔ IsExpired (tree_of payload.now) skew now }
 {
     match moment(payload, "exp") {
-        Some(moment) => moment + i128::from(skew) <= i128::from(now),
+        Some(moment) => moment.get() + i128::from(skew) <= i128::from(now),
         None => false,
     }
 }
 
 /// Whether a payload is not yet valid, where the clocks may differ by the skew (RFC 7519 section 4.1.5).
 pub fn is_not_yet(payload: &Tree, skew: u32, now: u64) -> bool
-    requires { IsRanged (tree_of payload.now) }
     ensures { IsTrue result ↔ IsNotYet (tree_of payload.now) skew now }
 {
     match moment(payload, "nbf") {
-        Some(moment) => i128::from(now) + i128::from(skew) < moment,
+        Some(moment) => i128::from(now) + i128::from(skew) < moment.get(),
         None => false,
     }
 }

@@ -16,7 +16,7 @@ ghost use Rattle.key_binding.specs.declared.errors.BindError.{BindError};
 
 use crate::BindError;
 use b64url_text::encode;
-use claim_tree::{Tree, TreeMap};
+use claim_tree::{Tree, TreeMap, Whole};
 use compact_form::JwtParts;
 use disclosure::{HashAlg, digest};
 use hmac_sign::Signer;
@@ -70,7 +70,7 @@ fn payload_part(
 {
     let mut members = TreeMap::new(alloc);
     put_text(alloc, &mut members, "aud", aud)?;
-    put(alloc, &mut members, "iat", Tree::Whole(i128::from(iat)))?;
+    put(alloc, &mut members, "iat", Tree::Whole(Whole::from(iat)))?;
     put_text(alloc, &mut members, "nonce", nonce)?;
     let sd_hash = Tree::Text(digest(alloc, hash, hashed)?);
     put(alloc, &mut members, "sd_hash", sd_hash)?;

@@ -1,5 +1,5 @@
 ghost use Rattle.std.specs.Prelude.{◌≤◌, IfOk};
-ghost use Rattle.claim_tree.specs.Tree.{depth, IsRanged};
+ghost use Rattle.claim_tree.specs.Tree.{depth};
 ghost use Rattle.claim_tree.specs.View.{tree_of};
 
 use claim_tree::{Path, PathList, Tree, read, read_pointer};
@@ -40,7 +40,6 @@ fn the_first_clash_is_named_by_its_places(rt: HostRuntime) -> Result<(), Fail> {
 
 fn payload(alloc: Global) -> Result<Tree, Fail>
     ensures shallow { IfOk result (λ tree. depth (tree_of tree) ≤ 127) }
-    ensures ranged { IfOk result (λ tree. IsRanged (tree_of tree)) }
 {
     Ok(read(alloc, br#"{"a":1,"b":2}"#).map_err(|_| "not read")?)
 }
@@ -64,7 +63,6 @@ fn decoys(alloc: Global, count: u32) -> Result<DecoyList, Fail> {
 // An order that hides `/a`, with two entries of decoys at the root.
 fn order(alloc: Global, count: u32) -> Result<Order, Fail>
     ensures shallow { IfOk result (λ order. depth (tree_of order.payload) ≤ 127) }
-    ensures ranged { IfOk result (λ order. IsRanged (tree_of order.payload)) }
 {
     let hide = hidden(alloc)?;
     let decoys = decoys(alloc, count)?;
@@ -90,7 +88,6 @@ fn decoys_are_counted_past_their_type(rt: HostRuntime) -> Result<(), Fail> {
 // often it did.
 fn asked(alloc: Global, order: &Order, call: u64) -> Result<(bool, bool, u64), Fail>
     requires shallow { depth (tree_of order.now.payload) ≤ 127 }
-    requires ranged { IsRanged (tree_of order.now.payload) }
 {
     let key = Hs256Key::new(&[1; 32]).map_err(|_| "short")?;
     let mut signer = FailSigner::new(key, call);

@@ -1,6 +1,5 @@
 // The look-ups of digests, which no run of the program shows: those of `verify`, and those of `check_token` and of a
 // borrowed token, which no run calls.
-ghost use Rattle.claim_tree.specs.Tree.{IsRanged};
 ghost use Rattle.claim_tree.specs.View.{tree_of};
 
 use claim_tree::{Tree, write};
@@ -66,7 +65,6 @@ fn refused(alloc: Global, steps: &Steps, error: VerifyError) -> Result<String, F
 
 // The look-ups, and the text of a payload that is accepted.
 fn accepted(alloc: Global, steps: &Steps, payload: &Tree) -> Result<String, Fail>
-    requires { IsRanged (tree_of payload.now) }
 {
     let text = write(alloc, payload)?;
     told(alloc, steps, text.as_str())

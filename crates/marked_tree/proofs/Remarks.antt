@@ -1,29 +1,7 @@
--- Leaving out and renumbering: the depth, what stays in range, and that renumbering changes marks alone.
+-- Leaving out and renumbering: the depth, and that renumbering changes marks alone.
 use Rattle.std.proofs.Common.{◌≡◌, ℕ, ◌≤◌, max, List, Option, Some, None, refl, ap, ap₂, arith}
-use Rattle.claim_tree.specs.Tree.{element, member, array, object, depth, elements_depth, members_depth, IsRanged, ElementsRanged, MembersRanged}
+use Rattle.claim_tree.specs.Tree.{element, member, array, object, depth, elements_depth, members_depth}
 use Rattle.marked_tree.specs.Marked.{Marked, marked_leaf, marked_array, marked_object, MarkedElements, no_marked_elements, marked_element, MarkedMembers, no_marked_members, marked_member, strip, strip_elements, strip_members, remark, remark_elements, remark_members, new_mark, keep_element, keep_member}
-
-element_kept : (o : Option (Option ℕ)) (t : Marked) (es : MarkedElements) → IsRanged (strip t) → ElementsRanged (strip_elements es) → ElementsRanged (strip_elements (keep_element o t es))
-element_kept None t es r rs = rs
-element_kept (Some i) t es r rs = (r, rs)
-
-member_kept : (name : List ℕ) (o : Option (Option ℕ)) (t : Marked) (ms : MarkedMembers) → IsRanged (strip t) → MembersRanged (strip_members ms) → MembersRanged (strip_members (keep_member name o t ms))
-member_kept name None t ms r rs = rs
-member_kept name (Some i) t ms r rs = (r, rs)
-
-mutual
-  pub ranged-remark : (f : ℕ → Option ℕ) (m : Marked) → IsRanged (strip m) → IsRanged (strip (remark f m))
-  ranged-remark f (marked_leaf l) r = r
-  ranged-remark f (marked_array es) r = ranged_elements f es r
-  ranged-remark f (marked_object ms) r = ranged_members f ms r
-
-  ranged_elements : (f : ℕ → Option ℕ) (es : MarkedElements) → ElementsRanged (strip_elements es) → ElementsRanged (strip_elements (remark_elements f es))
-  ranged_elements f no_marked_elements r = r
-  ranged_elements f (marked_element i t es) r = element_kept (new_mark f i) (remark f t) (remark_elements f es) (ranged-remark f t r.0) (ranged_elements f es r.1)
-
-  ranged_members : (f : ℕ → Option ℕ) (ms : MarkedMembers) → MembersRanged (strip_members ms) → MembersRanged (strip_members (remark_members f ms))
-  ranged_members f no_marked_members r = r
-  ranged_members f (marked_member name i t ms) r = member_kept name (new_mark f i) (remark f t) (remark_members f ms) (ranged-remark f t r.0) (ranged_members f ms r.1)
 
 element_shallow : (o : Option (Option ℕ)) (t : Marked) (es : MarkedElements) → elements_depth (strip_elements (keep_element o t es)) ≤ max (depth (strip t)) (elements_depth (strip_elements es))
 element_shallow None t es = omega arith

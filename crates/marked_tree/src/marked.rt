@@ -9,6 +9,7 @@ ghost use Rattle.marked_tree.specs.NamePositions.{IsNameGap};
 ghost use Rattle.marked_tree.specs.Steps.{marked_member_named};
 ghost use Rattle.marked_tree.specs.View.{marked_of, marked_elements_of, marked_members_of};
 
+use claim_tree::Whole;
 use sd_outside::{NoMemory, TextBox};
 use std::alloc::Global;
 use std::cmp::Ordering;
@@ -20,8 +21,7 @@ use std::marker::Model;
 pub enum Marked {
     Null,
     Flag(bool),
-    /// From -2^63 to 2^64 - 1.
-    Whole(i128),
+    Whole(Whole),
     Text(TextBox),
     List(MarkedList),
     Object(MarkedMap),

@@ -1,6 +1,6 @@
 // Trees without what is not chosen.
 ghost use Rattle.std.specs.Prelude.{◌≡◌, ◌≤◌, IfOk, is_some};
-ghost use Rattle.claim_tree.specs.Tree.{depth, elements_depth, members_depth, IsRanged};
+ghost use Rattle.claim_tree.specs.Tree.{depth, elements_depth, members_depth};
 ghost use Rattle.marked_tree.specs.Marked.{strip, strip_elements, strip_members, prune as prune_of, kept as kept_by, new_mark, remark_elements, remark_members};
 ghost use Rattle.marked_tree.specs.Numbers.{has};
 ghost use Rattle.marked_tree.specs.View.{marked_of};
@@ -15,7 +15,6 @@ pub fn prune(alloc: Global, tree: &Marked, kept: &ChosenSet) -> Result<Marked, N
     requires { depth (strip (marked_of tree.now)) ≤ 127 }
     ensures value { IfOk result (λ pruned. marked_of pruned ≡ prune_of (marked_of tree.now) (has kept.now)) }
     ensures shallow { IfOk result (λ pruned. depth (strip (marked_of pruned)) ≤ depth (strip (marked_of tree.now))) }
-    ensures ranged { IsRanged (strip (marked_of tree.now)) → IfOk result (λ pruned. IsRanged (strip (marked_of pruned))) }
 {
     prune_tree(alloc, tree, kept)
 }

@@ -41,7 +41,6 @@ pub mod ListOpening
 pub mod NextOpening
 pub mod MapOpening
 pub mod Opened
-pub mod Ranged
 pub mod FreeMembers
 pub mod ShownPuts
 pub mod ShownAt

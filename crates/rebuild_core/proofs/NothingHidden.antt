@@ -2,7 +2,7 @@
 use Rattle.std.proofs.Common.{◌≡◌, ℕ, zero, suc, ◌≤◌, ◌<◌, ◌-◌, ◌^◌, List, [], Bool, true, false, None, refl, sym, ap, ap₂, ◌∙◌, subst, arith}
 use Rattle.std.specs.Prelude.{bytes_eq, if◌then◌else◌, Result, Ok, Err, IfOk, IfErr, MatchResult}
 use Rattle.std.proofs.lemmas.Bool.{not-true}
-use Rattle.claim_tree.specs.Tree.{Text, Tree, leaf, array, object, Elements, no_elements, element, Members, no_members, member, depth, members_depth, IsRanged}
+use Rattle.claim_tree.specs.Tree.{Text, Tree, leaf, array, object, Elements, no_elements, element, Members, no_members, member, depth, members_depth}
 use Rattle.claim_tree.specs.View.{tree_of}
 use Rattle.claim_tree.specs.declared.tree.Tree as code
 use Rattle.claim_tree.specs.Removed.{removed}
@@ -18,7 +18,6 @@ use Rattle.rebuild_core.specs.Opening.{Shown, reveal, open_tree, open_elements, 
 use Rattle.rebuild_core.specs.Answer.{IsProcessRefused}
 use Rattle.rebuild_core.specs.declared.errors.ProcessError.{ProcessError}
 use Rattle.rebuild_core.specs.declared.errors.ProcessError.TheVariants.{TooDeep}
-use Rattle.rebuild_core.proofs.Ranged.{payload_ranged}
 use Rattle.rebuild_core.specs.Conditions.{IsTooDeep, Misused}
 use Rattle.rebuild_core.specs.Soundness.{IsSound, IsReferencedOnce, IsWellNamed}
 use Rattle.rebuild_core.specs.Unhidden.{is_unhidden_name, is_unhidden, elements_unhidden, members_unhidden}
@@ -187,14 +186,6 @@ module _ (p : Tree) (h : is_unhidden p ≡ true) (answer : Result code.Tree Proc
       go : (r : Result code.Tree ProcessError) → MatchResult r (λ t. (tree_of t ≡ without_alg p) × (depth (tree_of t) ≤ 100)) (λ e. (e ≡ TooDeep) × (100 < depth (without_alg p)))
           → IfOk r (λ t. tree_of t ≡ strip (processed (without_alg p) []))
       go (Ok t) w = w.0 ∙ sym (opens_to_itself (without_alg p) (without_alg_unhidden p h))
-      go (Err e) w = tt
-
-  pub answer_in_range : IsRanged p → IfOk answer (λ t. IsRanged (tree_of t))
-  answer_in_range ranged = go answer is
-    where
-      go : (r : Result code.Tree ProcessError) → MatchResult r (λ t. (tree_of t ≡ without_alg p) × (depth (tree_of t) ≤ 100)) (λ e. (e ≡ TooDeep) × (100 < depth (without_alg p)))
-          → IfOk r (λ t. IsRanged (tree_of t))
-      go (Ok t) w = subst IsRanged (sym w.0) (payload_ranged p ranged)
       go (Err e) w = tt
 
   pub answer_refused : IfErr answer (IsProcessRefused (without_alg p) [])

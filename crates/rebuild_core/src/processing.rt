@@ -1,10 +1,10 @@
 // The processed payload.
 ghost use Rattle.std.specs.Prelude.{◌≡◌, ◌≤◌, ◌<◌, ◌-◌, ◌^◌, [], true, length, IfOk, IfErr, MatchResult};
-ghost use Rattle.claim_tree.specs.Tree.{depth, IsRanged};
+ghost use Rattle.claim_tree.specs.Tree.{depth};
 ghost use Rattle.claim_tree.specs.View.{tree_of};
 ghost use Rattle.marked_tree.specs.Marked.{strip};
 ghost use Rattle.marked_tree.specs.View.{marked_of};
-ghost use Rattle.rebuild_core.specs.Answer.{IsPayload, ValuesShallow, ValuesRanged, IsProcessRefused};
+ghost use Rattle.rebuild_core.specs.Answer.{IsPayload, ValuesShallow, IsProcessRefused};
 ghost use Rattle.rebuild_core.specs.Soundness.{IsSound};
 ghost use Rattle.rebuild_core.specs.LookUps.{look_ups, counted, RoseWithin};
 ghost use Rattle.rebuild_core.specs.Opening.{processed};
@@ -37,11 +37,8 @@ fn open_judged(
     requires object { IsPayload (tree_of payload) }
     requires payload_depth { depth (tree_of payload) ≤ 127 }
     requires values_depth { ValuesShallow given }
-    requires payload_range { IsRanged (tree_of payload) }
-    requires values_range { ValuesRanged given }
     requires few { length given < 2 ^ 32 - 1 }
     ensures opened { MatchResult result (λ o. IsSound (without_alg (tree_of payload)) given × (whole_object o ≡ processed (without_alg (tree_of payload)) given)) (IsProcessRefused (without_alg (tree_of payload)) given) }
-    ensures ranged { IfOk result (λ o. IsRanged (strip (whole_object o))) }
     ensures counted { IfOk result (λ _. steps.new ≡ counted steps.old (look_ups (without_alg (tree_of payload)) given)) }
     ensures risen { RoseWithin (look_ups (without_alg (tree_of payload)) given) steps.old steps.new }
 {
@@ -94,12 +91,9 @@ pub fn process(
     requires object { IsPayload (tree_of payload.now) }
     requires payload_depth { depth (tree_of payload.now) ≤ 127 }
     requires values_depth { ValuesShallow given.now }
-    requires payload_range { IsRanged (tree_of payload.now) }
-    requires values_range { ValuesRanged given.now }
     requires few { length given.now < 2 ^ 32 - 1 }
     ensures sound { IfOk result (λ _. IsSound (without_alg (tree_of payload.now)) given.now) }
     ensures processed { IfOk result (λ marked. marked_of marked ≡ processed (without_alg (tree_of payload.now)) given.now) }
-    ensures ranged { IfOk result (λ marked. IsRanged (strip (marked_of marked))) }
     ensures refused { IfErr result (IsProcessRefused (without_alg (tree_of payload.now)) given.now) }
 
     // the look-ups
@@ -124,12 +118,9 @@ pub fn process_seeded(
     requires object { IsPayload (tree_of payload) }
     requires payload_depth { depth (tree_of payload) ≤ 127 }
     requires values_depth { ValuesShallow given }
-    requires payload_range { IsRanged (tree_of payload) }
-    requires values_range { ValuesRanged given }
     requires few { length given < 2 ^ 32 - 1 }
     ensures sound { IfOk result (λ _. IsSound (without_alg (tree_of payload)) given) }
     ensures processed { IfOk result (λ marked. marked_of marked ≡ processed (without_alg (tree_of payload)) given) }
-    ensures ranged { IfOk result (λ marked. IsRanged (strip (marked_of marked))) }
     ensures refused { IfErr result (IsProcessRefused (without_alg (tree_of payload)) given) }
 
     // the look-ups
@@ -147,12 +138,10 @@ pub fn process_seeded(
 fn open_nothing(payload: Tree, given: &GivenList, steps: &mut Steps) -> Result<Tree, ProcessError>
     requires object { IsPayload (tree_of payload) }
     requires depth { depth (tree_of payload) ≤ 127 }
-    requires range { IsRanged (tree_of payload) }
     requires unhidden { is_unhidden_of (tree_of payload) ≡ true }
     requires none { given.now ≡ [] }
     ensures sound { IfOk result (λ _. IsSound (without_alg (tree_of payload)) given.now) }
     ensures processed { IfOk result (λ tree. tree_of tree ≡ strip (processed (without_alg (tree_of payload)) given.now)) }
-    ensures ranged { IfOk result (λ tree. IsRanged (tree_of tree)) }
     ensures refused { IfErr result (IsProcessRefused (without_alg (tree_of payload)) given.now) }
     ensures counted { steps.new ≡ counted steps.old (look_ups (without_alg (tree_of payload)) given.now) }
     ensures risen { RoseWithin (look_ups (without_alg (tree_of payload)) given.now) steps.old steps.new }
@@ -174,12 +163,9 @@ pub fn process_payload(
     requires object { IsPayload (tree_of payload) }
     requires payload_depth { depth (tree_of payload) ≤ 127 }
     requires values_depth { ValuesShallow given }
-    requires payload_range { IsRanged (tree_of payload) }
-    requires values_range { ValuesRanged given }
     requires few { length given < 2 ^ 32 - 1 }
     ensures sound { IfOk result (λ _. IsSound (without_alg (tree_of payload)) given) }
     ensures processed { IfOk result (λ tree. tree_of tree ≡ strip (processed (without_alg (tree_of payload)) given)) }
-    ensures ranged { IfOk result (λ tree. IsRanged (tree_of tree)) }
     ensures refused { IfErr result (IsProcessRefused (without_alg (tree_of payload)) given) }
 
     // the look-ups

@@ -18,7 +18,6 @@ ghost use Rattle.rebuild_core.specs.Rows.{seen, all_rows as rows_of};
 use crate::errors::ProcessError;
 use crate::graph::{Graph, first_clear, first_recurring, met_numbers, reach};
 use crate::numbers::{number_given, number_rows};
-use crate::readable::is_ordered;
 use crate::rows::{Row, RowList, all_rows};
 use claim_tree::Tree;
 use digest_index::{DigestIndex, Steps};
@@ -39,7 +38,7 @@ fn first_misused(payload: &Tree, given: &GivenList) -> Option<usize>
     requires { IsPayload (tree_of payload.now) }
     ensures { MatchOption result (AtNone (Misused (without_alg (tree_of payload.now)) given.now)) (λ i. IsLeast (Misused (without_alg (tree_of payload.now)) given.now) i) }
 {
-    is_ordered(payload);
+    payload.invariant();
     if is_misused(payload) {
         return Some(0);
     }
@@ -123,7 +122,7 @@ fn number_all<'a>(
     ensures counted { IfOk result (λ _. steps.new ≡ counted steps.old (look_ups (without_alg (tree_of payload.now)) given.now)) }
     ensures risen { RoseWithin (look_ups (without_alg (tree_of payload.now)) given.now) steps.old steps.new }
 {
-    is_ordered(payload);
+    payload.invariant();
     let index = match index_given(alloc, given, seed, steps) {
         Ok(index) => index,
         Err(error) => return Err(error),
@@ -171,7 +170,7 @@ fn check_met(
     ensures referenced { OnOk result (IsReferencedOnce (without_alg (tree_of payload.now)) given.now) }
     ensures refused { IfErr result (IsProcessRefused (without_alg (tree_of payload.now)) given.now) }
 {
-    is_ordered(payload);
+    payload.invariant();
     let flags = match reach(alloc, given.len(), &numbered.graph) {
         Ok(flags) => flags,
         Err(_) => return Err(ProcessError::Memory),
@@ -208,7 +207,7 @@ pub(crate) fn check_references<'a>(
     ensures counted { IfOk result (λ _. steps.new ≡ counted steps.old (look_ups (without_alg (tree_of payload.now)) given.now)) }
     ensures risen { RoseWithin (look_ups (without_alg (tree_of payload.now)) given.now) steps.old steps.new }
 {
-    is_ordered(payload);
+    payload.invariant();
     let found = match number_all(alloc, payload, given, seed, steps) {
         Ok(found) => found,
         Err(error) => return Err(error),

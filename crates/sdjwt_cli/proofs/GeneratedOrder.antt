@@ -2,10 +2,9 @@
 use Rattle.std.proofs.Common.{◌≡◌, ◌≢◌, ◌⊎◌, inl, inr, ℕ, zero, suc, ◌%◌, ◌<◌, ◌≤◌, ◌^◌, [], ◌∷◌, ◌++◌, Bool, true, false, ◌||◌, ◌&&◌, bytes_eq, Option, Some, None, codes, refl, sym, ap, ◌∙◌, arith}
 use Rattle.std.specs.Prelude.{◌==◌, option_and_then, if◌then◌else◌}
 use Rattle.std.proofs.lemmas.List.Folds.{list_any-append}
-use Rattle.claim_tree.specs.Tree.{Text, Tree, object, members_depth, member_named, get, IsRanged, MembersRanged}
+use Rattle.claim_tree.specs.Tree.{Text, Tree, object, members_depth, member_named, get}
 use Rattle.claim_tree.specs.Lists.{In}
 use Rattle.claim_tree.specs.Path.{tree_at}
-use Rattle.claim_tree.proofs.Datas.{MembersRanged-inserted}
 use Rattle.claim_tree.proofs.Lists.{bytes_same, bytes_refl, In-append}
 use Rattle.claim_tree.proofs.OtherMembers.{named_inserted, other_inserted, depth-inserted}
 use Rattle.compact_form.specs.declared.condition.Condition.{Condition}
@@ -28,13 +27,6 @@ use Rattle.selection_core.proofs.NeverShown.{unrefused}
 pub shallow : (n : ℕ) → members_depth (members_below n) ≤ 2
 shallow zero = omega arith
 shallow (suc n) = let more = depth-inserted (members_below n) (member_name n) (member_value n) in omega (arith, more, shallow n)
-
-value_ranged : (i : ℕ) → i < 2 ^ 32 → IsRanged (member_value i)
-value_ranged i low = (omega (arith, low), ((omega (arith, low), (omega (arith, low), tt)), tt))
-
-pub all_ranged : (n : ℕ) → n ≤ 2 ^ 32 → MembersRanged (members_below n)
-all_ranged zero low = tt
-all_ranged (suc n) low = MembersRanged-inserted (members_below n) (member_name n) (member_value n) (all_ranged n (omega (arith, low))) (value_ranged n (omega (arith, low)))
 
 lower : (a b : ℕ) → a < suc b → (a ≡ b → ⊥) → a < b
 lower a b l d = grind arith

@@ -2,7 +2,7 @@
 use Rattle.std.proofs.Common.{◌≡◌, ◌≢◌, ℕ, suc, ◌+◌, ◌-◌, ◌<◌, ◌≤◌, ◌^◌, Bool, List, [], ◌∷◌, length, refl, sym, ap, ap₂, subst, ◌∙◌, arith}
 use Rattle.std.specs.List.{AllZip, count_by, range_with_len}
 use Rattle.sd_outside.specs.Limits.{count_max}
-use Rattle.claim_tree.specs.Tree.{Tree, IsRanged}
+use Rattle.claim_tree.specs.Tree.{Tree}
 use Rattle.claim_tree.specs.View.{tree_of}
 use Rattle.claim_tree.specs.JsonText.{json_text}
 use Rattle.claim_tree.specs.declared.tree.Tree as code
@@ -180,10 +180,9 @@ module _ (presented : Parts) (ok : IsAcceptable presented) (text : List ℕ) (te
   one_token : (token : Token) → IsToken text token → token ≡ alone presented
   one_token token there = tokens.one (compact presented) token (alone presented) (subst (λ (t : List ℕ). IsToken t token) text_is there) ok.1.reads
 
-  pub is_verified : (claims : code.Tree) → IsAcceptedAs text policy 0 (tree_of claims) → IsRanged (tree_of claims)
+  pub is_verified : (claims : code.Tree) → IsAcceptedAs text policy 0 (tree_of claims)
       → (old new count : ℕ) → old ≡ 0 → count ≡ new → (token : Token) → IsToken text token → IsCounted token old new → IsVerified presented claims count
-  is_verified claims accepted ranged old new count none same token there counted = record {
+  is_verified claims accepted old new count none same token there counted = record {
     accepted = subst (λ (p : Policy). IsAcceptedAs (compact presented) p 0 (tree_of claims)) policy_is (subst (λ (t : List ℕ). IsAcceptedAs t policy 0 (tree_of claims)) text_is accepted);
-    ranged = ranged;
     counted = subst (λ (many : ℕ). IsCounted (alone presented) 0 many) (sym same) (subst (λ (first : ℕ). IsCounted (alone presented) first new) none (subst (λ (t : Token). IsCounted t old new) (one_token token there) counted));
   }

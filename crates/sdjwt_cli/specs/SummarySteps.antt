@@ -1,6 +1,6 @@
 -- For private functions: what the steps of `gen` answer.
 use Rattle.std.specs.Prelude.{ℕ, []}
-use Rattle.claim_tree.specs.Tree.{Tree, IsRanged}
+use Rattle.claim_tree.specs.Tree.{Tree}
 use Rattle.claim_tree.specs.View.{tree_of}
 use Rattle.claim_tree.specs.declared.tree.Tree as code
 use Rattle.compact_form.specs.declared.parts.Parts.{Parts}
@@ -25,5 +25,4 @@ IsAcceptable presented = (claims : Tree) × IsAcceptedWith presented generated_p
 -- the claims with which the parts are accepted, and how many digests were looked up
 pub record IsVerified (presented : Parts) (claims : code.Tree) (look_ups : ℕ) : Type 0 where
   pub accepted : IsAcceptedAs (compact presented) generated_policy 0 (tree_of claims)
-  pub ranged : IsRanged (tree_of claims)
   pub counted : IsCounted (alone presented) 0 look_ups

@@ -8,7 +8,7 @@ ghost use Rattle.sdjwt_cli.specs.Generated.{members_below, hidden_below, paths_b
 ghost use Rattle.sdjwt_cli.specs.GeneratedSteps.{with_member, HasMember, HasNoOther, BeginsWith, set_tree as set_in};
 
 use b64url_text::encode;
-use claim_tree::{Path, PathList, Tree, TreeList, TreeMap, position};
+use claim_tree::{Path, PathList, Tree, TreeList, TreeMap, Whole, position};
 use disclosure::HashAlg;
 use hmac_sign::{Alg, Hs256Key, HsKey, KeySet, KeySetError, KeyShort};
 use holder_core::Ask;
@@ -65,7 +65,7 @@ fn member_name(alloc: Global, i: u32) -> Result<TextBox, NoMemory>
 fn number(i: u64) -> Tree
     ensures { tree_of result ≡ spec.number i }
 {
-    Tree::Whole(i128::from(i))
+    Tree::Whole(Whole::from(u64::from(i)))
 }
 
 fn member_value(alloc: Global, i: u32) -> Result<Tree, NoMemory>

@@ -2,7 +2,7 @@
 ghost use Rattle.std.specs.Prelude.{◌≤◌, ℕ, List, IfOk, IfErr, string_bytes};
 ghost use Rattle.std.specs.Array.{IsFirstChunk};
 ghost use Rattle.sd_outside.specs.Limits.{seed_len};
-ghost use Rattle.claim_tree.specs.Tree.{IsRanged, depth};
+ghost use Rattle.claim_tree.specs.Tree.{depth};
 ghost use Rattle.claim_tree.specs.View.{tree_of};
 ghost use Rattle.issuer_core.specs.OrderFile.{IsOrderFile};
 ghost use Rattle.issuer_core.specs.Order.{order_of as order_said};
@@ -26,7 +26,6 @@ pub(crate) fn issue_parts(
     mut key: HsKey,
 ) -> Result<Parts, Stop>
     requires depth { depth (tree_of order.payload) ≤ 127 }
-    requires ranged { IsRanged (tree_of order.payload) }
     ensures issued { IfOk result (IsIssuedBy seed.now (order_said order) key) }
     ensures refuses { IfErr result (λ stop. OnRefused stop (TellsRefusal seed.now (order_said order) key)) }
     ensures readable { IfErr result (λ stop. OnUnreadable stop (λ _. ⊥)) }
@@ -42,7 +41,6 @@ pub(crate) fn issue_parts(
 // The answer for what an order file asks for, with the seed of a file.
 fn issue_for(alloc: Global, asked: IssueFile, seed: &[u8; SEED_LEN]) -> Result<String, Stop>
     requires depth { depth (tree_of asked.order.payload) ≤ 127 }
-    requires ranged { IsRanged (tree_of asked.order.payload) }
     ensures issues { (order_file seed_file : List ℕ) → IsOrderFile order_file asked → IsFirstChunk seed_file seed.now seed_len
         → IfOk result (λ text. Issues order_file seed_file (string_bytes text)) }
     ensures refuses { (order_file seed_file : List ℕ) → IsOrderFile order_file asked → IsFirstChunk seed_file seed.now seed_len

@@ -1,7 +1,6 @@
 // The command `show`: the JSON of a token, unchecked.
 ghost use Rattle.std.specs.Prelude.{◌≡◌, ◌^◌, ◌<◌, ◌++◌, length, IfOk, IfErr, OnOk, IsErrOf, codes, string_bytes};
 ghost use Rattle.std.specs.Fmt.{decimal};
-ghost use Rattle.claim_tree.specs.Tree.{IsRanged};
 ghost use Rattle.claim_tree.specs.JsonText.{json_text};
 ghost use Rattle.claim_tree.specs.View.{tree_of};
 ghost use Rattle.jws_part.specs.Header.{IsHeaderUnreadable};
@@ -33,7 +32,6 @@ fn read_head(
     outer: &TreeMap,
 ) -> Result<Tree, BodyError>
     ensures head { IfOk result (λ t. IsHead protected.now outer.now (tree_of t)) }
-    ensures ranged { IfOk result (λ t. IsRanged (tree_of t)) }
     ensures unreadable { IsErrOf result BodyError.Unreadable → IsHeaderUnreadable protected.now outer.now }
 {
     let tree = read_body(alloc, reader, protected)?;
@@ -82,7 +80,6 @@ fn push_read(
     part: &str,
     read: &Disclosed,
 ) -> Result<(), NoMemory>
-    requires { IsRanged (tree_of read.now.value) }
     ensures { OnOk result (string_bytes text.new ≡ string_bytes text.old ++ shown_line i (disclosure_shown hash part.now read.now)) }
 {
     let digest = digest(alloc, hash, part)?;
@@ -165,8 +162,6 @@ fn push_json(text: &mut String, word: &str, json: &str) -> Result<(), NoMemory>
 
 // The lines of the header and of the payload. The text takes memory for `room` bytes at first.
 fn start(alloc: Global, head: &Tree, payload: &Tree, room: usize) -> Result<String, NoMemory>
-    requires head { IsRanged (tree_of head.now) }
-    requires payload { IsRanged (tree_of payload.now) }
     ensures { IfOk result (λ text. string_bytes text ≡ line (codes "header " ++ json_text (tree_of head.now)) ++ line (codes "payload " ++ json_text (tree_of payload.now))) }
 {
     let mut text = String::with_capacity(alloc, room)?;

@@ -1,6 +1,5 @@
 // The command `verify`: the processed payload of a token that is accepted under a policy.
 ghost use Rattle.std.specs.Prelude.{◌≡◌, ℕ, List, IfOk, IfErr, string_bytes};
-ghost use Rattle.claim_tree.specs.Tree.{IsRanged};
 ghost use Rattle.claim_tree.specs.JsonText.{json_text};
 ghost use Rattle.claim_tree.specs.View.{tree_of};
 ghost use Rattle.verifier_core.specs.PolicyFile.{IsPolicyFileRefused, IsPolicyFile};
@@ -18,7 +17,6 @@ use verifier_core::{Policy, VerifyError, verify_payload};
 
 // The JSON of a tree, as a line.
 fn json_line(alloc: Global, tree: &Tree) -> Result<String, NoMemory>
-    requires { IsRanged (tree_of tree.now) }
     ensures { IfOk result (λ text. string_bytes text ≡ line (json_text (tree_of tree.now))) }
 {
     as_line(write(alloc, tree)?)

@@ -1,7 +1,7 @@
 -- From what is read of a token to what is opened of it, and to the verdict.
 use Rattle.std.proofs.Common.{◌≡◌, ℕ, ◌<◌, ◌≤◌, ◌-◌, ◌^◌, inr, List, length, Some, refl, sym, subst}
 use Rattle.std.specs.List.{AllZip}
-use Rattle.claim_tree.specs.Tree.{Text, Tree, Members, IsRanged, depth}
+use Rattle.claim_tree.specs.Tree.{Text, Tree, Members, depth}
 use Rattle.compact_form.specs.declared.parts.JwtParts.{JwtParts}
 use Rattle.compact_form.specs.Lowest.{IsLowest}
 use Rattle.compact_form.specs.Passing.{Passes}
@@ -12,7 +12,7 @@ use Rattle.json_form.specs.Token.{IsToken}
 use Rattle.json_form.specs.declared.token.Token.{Token}
 use Rattle.jws_part.specs.Part.{IsBody}
 use Rattle.marked_tree.specs.Marked.{Marked}
-use Rattle.rebuild_core.specs.Answer.{ValuesShallow, ValuesRanged}
+use Rattle.rebuild_core.specs.Answer.{ValuesShallow}
 use Rattle.rebuild_core.specs.Soundness.{IsSound}
 use Rattle.rebuild_core.specs.LookUps.{look_ups, counted, RoseWithin}
 use Rattle.rebuild_core.specs.Opening.{processed}
@@ -62,13 +62,11 @@ module _ (token : Token) (rules : Rules) (signed : JwtParts) (outer : Members) (
           hash = (body, has_body, hash_is);
         }
 
-        pub is_openable : depth body ≤ 127 → IsRanged body → ValuesShallow given → ValuesRanged given → length token.parts.disclosures < 2 ^ 32 - 1 → IsReadyToOpen body given
-        is_openable low ranged shallow in_range few = record {
+        pub is_openable : depth body ≤ 127 → ValuesShallow given → length token.parts.disclosures < 2 ^ 32 - 1 → IsReadyToOpen body given
+        is_openable low shallow few = record {
           object = is_payload signed.payload body hash is_body hash_is;
           body_depth = low;
-          body_range = ranged;
           values_depth = shallow;
-          values_range = in_range;
           few = subst (λ n. n < 2 ^ 32 - 1) (sym (zip_length hash token.parts.disclosures given gives_all)) few;
         }
 

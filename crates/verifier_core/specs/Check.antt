@@ -1,7 +1,7 @@
 -- Not needed to believe the program's promises: what the check of a token answers, and what its steps answer.
 use Rattle.std.specs.Prelude.{◌≡◌, ◌≤◌, ℕ, Bool, true, false, List, ◌∷◌, [], ◌++◌, take, slice_get, Some, None, ◌⊎◌}
 use Rattle.std.specs.List.{AllZip}
-use Rattle.claim_tree.specs.Tree.{Text, Tree, Members, IsRanged, depth}
+use Rattle.claim_tree.specs.Tree.{Text, Tree, Members, depth}
 use Rattle.compact_form.specs.declared.fault.Fault.{Fault}
 use Rattle.compact_form.specs.declared.fault.Place.{Place}
 use Rattle.compact_form.specs.declared.parts.JwtParts.{JwtParts}
@@ -135,7 +135,6 @@ unread_at i _ = VerifyError.Fault (placed Condition.DisclosureUnreadable i)
 pub record Adds (hash : HashAlg) (disclosure : Text) (old new : List Given) : Type 0 where
   pub one : Given
   pub gives : Gives hash disclosure one
-  pub ranged : IsRanged one.value
   pub shallow : depth one.value ≤ 127
   pub more : new ≡ old ++ one ∷ []
 

@@ -1,11 +1,11 @@
 -- Not needed to believe the program's promises: what is read of a token, before it is opened.
 use Rattle.std.specs.Prelude.{◌≡◌, ◌≤◌, ◌<◌, ◌-◌, ◌^◌, ℕ, zero, suc, List, length, refl}
 use Rattle.std.specs.Coded.{Coded, coded_ℕ, coded×, code_by}
-use Rattle.claim_tree.specs.Tree.{Tree, IsRanged, depth}
+use Rattle.claim_tree.specs.Tree.{Tree, depth}
 use Rattle.digest_sites.specs.Code.{tree_code, given_code}
 use Rattle.digest_sites.specs.Given.{Given}
 use Rattle.disclosure.specs.declared.digests.HashAlg.{HashAlg}
-use Rattle.rebuild_core.specs.Answer.{IsPayload, ValuesShallow, ValuesRanged}
+use Rattle.rebuild_core.specs.Answer.{IsPayload, ValuesShallow}
 
 -- its payload, the algorithm of its digests, and what its disclosures give
 pub record Content : Type 0 where
@@ -19,9 +19,7 @@ pub record Content : Type 0 where
 pub record IsReadyToOpen (body : Tree) (given : List Given) : Type 0 where
   pub object : IsPayload body
   pub body_depth : depth body ≤ 127
-  pub body_range : IsRanged body
   pub values_depth : ValuesShallow given
-  pub values_range : ValuesRanged given
   pub few : length given < 2 ^ 32 - 1
 
 -- a code for it, by which a proof tells two of them apart

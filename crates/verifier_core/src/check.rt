@@ -1,7 +1,6 @@
 // The check of a token: the conditions 5 to 21.
 ghost use Rattle.std.specs.Prelude.{◌≡◌, ◌<◌, ◌-◌, ◌^◌, length, IfOk, IfErr};
 ghost use Rattle.std.specs.Option.{option_copied};
-ghost use Rattle.claim_tree.specs.Tree.{IsRanged};
 ghost use Rattle.claim_tree.specs.View.{tree_of};
 ghost use Rattle.marked_tree.specs.Marked.{strip as strip_of};
 ghost use Rattle.marked_tree.specs.View.{marked_of};
@@ -88,7 +87,6 @@ fn check(
     requires few { length token.now.parts.disclosures < 2 ^ 32 - 1 }
     ensures checked { IfOk result (λ c. IsChecked token.now rules.now (marked_of c.marked)) }
     ensures payload { IfOk result (λ c. tree_of c.payload ≡ strip_of (marked_of c.marked)) }
-    ensures ranged { IfOk result (λ c. IsRanged (tree_of c.payload)) }
     ensures hash { IfOk result (λ c. HasHash token.now c.hash) }
     ensures refused { IfErr result (λ e. OnFault e (IsLowest (TokenFails token.now rules.now))) }
 
@@ -128,7 +126,6 @@ pub fn check_token(
     requires few { length token.now.parts.disclosures < 2 ^ 32 - 1 }
     ensures checked { IfOk result (λ c. IsChecked token.now (asked keys.now algs.now (option_copied typ.entry)) (marked_of c.marked)) }
     ensures payload { IfOk result (λ c. tree_of c.payload ≡ strip_of (marked_of c.marked)) }
-    ensures ranged { IfOk result (λ c. IsRanged (tree_of c.payload)) }
     ensures hash { IfOk result (λ c. HasHash token.now c.hash) }
     ensures refused { IfErr result (λ e. OnFault e (IsLowest (TokenFails token.now (asked keys.now algs.now (option_copied typ.entry))))) }
 
@@ -152,7 +149,6 @@ pub fn check_view(
     requires few { length view.now.disclosures < 2 ^ 32 - 1 }
     ensures checked { IfOk result (λ c. IsChecked (alone view.now) (asked keys.now algs.now (option_copied typ.entry)) (marked_of c.marked)) }
     ensures payload { IfOk result (λ c. tree_of c.payload ≡ strip_of (marked_of c.marked)) }
-    ensures ranged { IfOk result (λ c. IsRanged (tree_of c.payload)) }
     ensures hash { IfOk result (λ c. HasHash (alone view.now) c.hash) }
     ensures refused { IfErr result (λ e. OnFault e (IsLowest (TokenFails (alone view.now) (asked keys.now algs.now (option_copied typ.entry))))) }
 

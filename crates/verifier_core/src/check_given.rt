@@ -1,7 +1,7 @@
 // What the disclosures of a token give.
 ghost use Rattle.std.specs.Prelude.{◌≡◌, ◌≤◌, ◌<◌, ◌^◌, length, IfOk, IfErr, OnOk};
 ghost use Rattle.std.specs.List.{AllZip};
-ghost use Rattle.rebuild_core.specs.Answer.{ValuesShallow, ValuesRanged};
+ghost use Rattle.rebuild_core.specs.Answer.{ValuesShallow};
 ghost use Rattle.disclosure.specs.DisclosureRefusals.{IsDisclosureRefused};
 ghost use Rattle.verifier_core.specs.Verdict.{Gives};
 ghost use Rattle.verifier_core.specs.Check.{OnFault, Adds, IsUnreadAt, unread_at};
@@ -53,7 +53,6 @@ pub(crate) fn read_given(
     requires { length disclosures < 2 ^ 64 }
     ensures ok { IfOk result (AllZip (Gives hash) disclosures.entry) }
     ensures shallow { IfOk result ValuesShallow }
-    ensures ranged { IfOk result ValuesRanged }
     ensures refused { IfErr result (λ e. OnFault e (IsUnreadAt hash disclosures.entry)) }
 {
     let mut given = GivenList::with_capacity(alloc, count)?;

@@ -1,6 +1,6 @@
 // The payload of a token, and its hash.
 ghost use Rattle.std.specs.Prelude.{◌≡◌, ◌≤◌, IfOk, IfErr, Some};
-ghost use Rattle.claim_tree.specs.Tree.{IsRanged, depth as depth_of};
+ghost use Rattle.claim_tree.specs.Tree.{depth as depth_of};
 ghost use Rattle.claim_tree.specs.View.{tree_of};
 ghost use Rattle.jws_part.specs.Part.{IsBody};
 ghost use Rattle.disclosure.specs.Digest.{payload_hash as payload_hash_of};
@@ -22,7 +22,6 @@ pub(crate) fn read_payload(
 ) -> Result<(Tree, HashAlg), VerifyError>
     ensures ok { IfOk result (λ p. IsBody payload.now (tree_of p.0)) }
     ensures hash { IfOk result (λ p. payload_hash_of (tree_of p.0) ≡ Some p.1) }
-    ensures ranged { IfOk result (λ p. IsRanged (tree_of p.0)) }
     ensures depth { IfOk result (λ p. depth_of (tree_of p.0) ≤ 127) }
     ensures refused { IfErr result (λ e. OnFault e (IsPayloadFault payload.now)) }
 {

@@ -1,6 +1,5 @@
 // What a policy wants of the key binding token.
 ghost use Rattle.std.specs.Prelude.{◌≡◌, ◌↔◌, ℕ, List, IsTrue, OnOk, IfErr};
-ghost use Rattle.claim_tree.specs.Tree.{IsRanged};
 ghost use Rattle.claim_tree.specs.View.{tree_of};
 ghost use Rattle.compact_form.specs.Lowest.{IsLowest, NoneFails};
 ghost use Rattle.key_binding.specs.JudgedSteps.{judged_of};
@@ -77,7 +76,6 @@ pub(crate) fn check_shown(
     policy: &Policy,
     now: u64,
 ) -> Result<(), VerifyError>
-    requires { IsRanged (tree_of payload.now) }
     ensures accepted { (text : List ℕ) (marked : Marked) → IsOpened text policy.now token.now marked hash → tree_of payload.now ≡ strip marked
         → OnOk result (IsAccepted text policy.now now marked) }
     ensures refused { (text : List ℕ) (marked : Marked) → IsOpened text policy.now token.now marked hash → tree_of payload.now ≡ strip marked

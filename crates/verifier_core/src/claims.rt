@@ -1,6 +1,6 @@
 // What a policy wants of the claims of the processed payload.
 ghost use Rattle.std.specs.Prelude.{◌≡◌, ◌≢◌, ◌↔◌, ℕ, Some, None, codes, IsTrue, OnOk, IfErr, IfSome, IfNone};
-ghost use Rattle.claim_tree.specs.Tree.{Text, get as get_of, IsRanged};
+ghost use Rattle.claim_tree.specs.Tree.{Text, get as get_of};
 ghost use Rattle.claim_tree.specs.Lists.{StandsAt, IsLeast};
 ghost use Rattle.claim_tree.specs.View.{tree_of};
 ghost use Rattle.verifier_core.specs.Verdict.{ClaimFails, NamesIssuer, IsIssuerRefused};
@@ -50,7 +50,6 @@ fn first_missing(payload: &Tree, names: &TextList) -> Option<usize>
 // Whether the policy accepts the claims of a processed payload, at a moment in seconds since 1970. The fault is that of
 // the lowest condition that fails.
 pub(crate) fn check_claims(payload: &Tree, policy: &Policy, now: u64) -> Result<(), Fault>
-    requires { IsRanged (tree_of payload.now) }
     ensures passes { OnOk result (NoneFails (ClaimFails (tree_of payload.now) policy.now now)) }
     ensures lowest { IfErr result (IsLowest (ClaimFails (tree_of payload.now) policy.now now)) }
 {

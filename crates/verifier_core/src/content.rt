@@ -1,6 +1,6 @@
 // What is read of a token by the conditions 5 to 13, and what is opened of it by the conditions 14 to 21.
 ghost use Rattle.std.specs.Prelude.{◌≡◌, ◌≤◌, ◌<◌, ◌-◌, ◌^◌, length, IfOk, IfErr};
-ghost use Rattle.claim_tree.specs.Tree.{IsRanged, depth};
+ghost use Rattle.claim_tree.specs.Tree.{depth};
 ghost use Rattle.claim_tree.specs.View.{tree_of};
 ghost use Rattle.compact_form.specs.Lowest.{IsLowest};
 ghost use Rattle.marked_tree.specs.Marked.{strip as strip_of};
@@ -106,7 +106,6 @@ impl Content {
     pub fn open(self, alloc: Global, steps: &mut Steps) -> Result<CheckedMarks, VerifyError>
         ensures checked { OfToken self (λ token rules. IfOk result (λ c. IsChecked token rules (marked_of c.marked))) }
         ensures shallow { IfOk result (λ c. depth (strip_of (marked_of c.marked)) ≤ 127) }
-        ensures ranged { IfOk result (λ c. IsRanged (strip_of (marked_of c.marked))) }
         ensures hash { OfToken self (λ token rules. IfOk result (λ c. HasHash token c.hash)) }
         ensures refused { OfToken self (λ token rules. IfErr result (λ e. OnFault e (IsLowest (TokenFails token rules)))) }
 
@@ -130,7 +129,6 @@ impl Content {
         steps: &mut Steps,
     ) -> Result<CheckedPayload, VerifyError>
         ensures checked { OfToken self (λ token rules. IfOk result (λ c. IsCheckedAs token rules (tree_of c.payload))) }
-        ensures ranged { IfOk result (λ c. IsRanged (tree_of c.payload)) }
         ensures hash { OfToken self (λ token rules. IfOk result (λ c. HasHash token c.hash)) }
         ensures refused { OfToken self (λ token rules. IfErr result (λ e. OnFault e (IsLowest (TokenFails token rules)))) }
 

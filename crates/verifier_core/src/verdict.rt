@@ -1,6 +1,5 @@
 // The verdict on a token file under a policy.
 ghost use Rattle.std.specs.Prelude.{◌≡◌, ◌≢◌, ◌<◌, ◌-◌, ◌^◌, ℕ, false, List, length, OnOk, IfOk, IfErr};
-ghost use Rattle.claim_tree.specs.Tree.{IsRanged};
 ghost use Rattle.claim_tree.specs.View.{tree_of};
 ghost use Rattle.marked_tree.specs.Marked.{strip as strip_of};
 ghost use Rattle.marked_tree.specs.View.{marked_of};
@@ -97,7 +96,6 @@ pub fn verify(
 ) -> Result<Accepted, VerifyError>
     ensures accepted { IfOk result (λ a. IsAccepted text.now policy.now now (marked_of a.marked)) }
     ensures payload { IfOk result (λ a. tree_of a.payload ≡ strip_of (marked_of a.marked)) }
-    ensures ranged { IfOk result (λ a. IsRanged (tree_of a.payload)) }
     ensures refused { IfErr result (λ e. OnFault e (IsLowest (Fails text.now policy.now now))) }
 
     // a compact text is judged by the conditions 1 to 3 without memory
@@ -132,7 +130,6 @@ pub fn verify_payload(
     steps: &mut Steps,
 ) -> Result<Tree, VerifyError>
     ensures accepted { IfOk result (λ payload. IsAcceptedAs text.now policy.now now (tree_of payload)) }
-    ensures ranged { IfOk result (λ payload. IsRanged (tree_of payload)) }
     ensures refused { IfErr result (λ e. OnFault e (IsLowest (Fails text.now policy.now now))) }
 
     // a compact text is judged by the conditions 1 to 3 without memory

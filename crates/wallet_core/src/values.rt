@@ -51,7 +51,7 @@ fn is_same(tree: &Marked, value: &Tree) -> bool
     match (tree, value) {
         (Marked::Null, Tree::Null) => true,
         (Marked::Flag(flag), Tree::Flag(other)) => flag == other,
-        (Marked::Whole(n), Tree::Whole(other)) => n == other,
+        (Marked::Whole(n), Tree::Whole(other)) => n.get() == other.get(),
         (Marked::Text(text), Tree::Text(other)) => text == other,
         (Marked::List(list), Tree::List(other)) => are_same(list, other),
         (Marked::Object(map), Tree::Object(other)) => have_same(map, other),

@@ -1,15 +1,12 @@
 use Rattle.std.proofs.Common.{◌≡◌, ◌≤◌, sym, subst}
 use Rattle.std.specs.Result.{OnOk, IfErr}
-use Rattle.claim_tree.specs.Tree.{IsRanged, depth}
+use Rattle.claim_tree.specs.Tree.{depth}
 use Rattle.audit_core.specs.Audit.{PassesAudit, FailsAudit}
 use Rattle.audit_core.specs.AuditCalls.{IsAuditRefused, IsAuditedWithin, IsBeforeOpening}
 use Rattle.audit_core.proofs.auditing.audit.Goals as goal
 
-pub audit_owned-requires-clause-depth : goal.audit_owned-requires-clause-depth
-audit_owned-requires-clause-depth g c = subst (λ o. depth o.payload ≤ 127) (sym c.in_ok-owned.ensures) c.requires.depth
-
-pub audit_owned-requires-clause-ranged : goal.audit_owned-requires-clause-ranged
-audit_owned-requires-clause-ranged g c = subst (λ o. IsRanged o.payload) (sym c.in_ok-owned.ensures) c.requires.ranged
+pub audit_owned-requires : goal.audit_owned-requires
+audit_owned-requires g c = record { depth = subst (λ o. depth o.payload ≤ 127) (sym c.in_ok-owned.ensures) c.requires.depth }
 
 pub returns-clause-passes : goal.returns-clause-passes
 returns-clause-passes g c =

@@ -2,7 +2,6 @@ use Rattle.std.proofs.Common.{arith}
 use Rattle.claim_tree.specs.View.{tree_of}
 use Rattle.rebuild_core.proofs.AlgFacts.{without_twice, without_is_payload}
 use Rattle.rebuild_core.proofs.NothingHidden.{without_alg_shallow}
-use Rattle.rebuild_core.proofs.Ranged.{payload_ranged}
 use Rattle.audit_core.proofs.auditing.judge_content.Goals as goal
 
 pub shows-requires-clause-object : goal.shows-requires-clause-object
@@ -13,6 +12,3 @@ shows-requires-clause-bare c = rw c.without_alg-payload.ensures (without_twice (
 
 pub shows-requires-clause-payload_depth : goal.shows-requires-clause-payload_depth
 shows-requires-clause-payload_depth c = rw c.without_alg-payload.ensures (let l = without_alg_shallow (tree_of c.args.written.body) in omega (arith, c.requires.payload_depth, l))
-
-pub shows-requires-clause-payload_range : goal.shows-requires-clause-payload_range
-shows-requires-clause-payload_range c = rw c.without_alg-payload.ensures (payload_ranged (tree_of c.args.written.body) c.requires.payload_range)

@@ -1,6 +1,6 @@
 use Rattle.std.proofs.Common.{◌≤◌, [], ◌∷◌, ◌++◌, append_assoc, sym, ap, subst, ◌∙◌, rules}
 use Rattle.std.specs.List.{AllZip}
-use Rattle.claim_tree.specs.Tree.{depth, IsRanged}
+use Rattle.claim_tree.specs.Tree.{depth}
 use Rattle.claim_tree.specs.Lists.{In}
 use Rattle.digest_sites.specs.GivenView.{given_of}
 use Rattle.audit_core.specs.Audited.{GivesSalted}
@@ -13,7 +13,6 @@ loop-text-preserved c =
     let text = c.in-Some.text.now in
     let one = given_of c.in-Some-2.one in
     let some = rw c.in-Some-2.is at c.in_ok-one.ensures.some in
-    let ranged = rw c.in-Some-2.is at c.in_ok-one.ensures.ranged in
     let shallow = rw c.in-Some-2.is at c.in_ok-one.ensures.depth in
     let more = sym c.in_ok-push-in-Some-2.ensures.ok in
     let s = c.in-Some.ensures.steps in
@@ -24,7 +23,6 @@ loop-text-preserved c =
       stand = l.stand ∙ ap (λ w. l.done ++ w) s ∙ sym (append_assoc l.done (text ∷ []) c.next.new.self);
       read = subst (λ g. AllZip (GivesSalted c.args.hash) (l.done ++ text ∷ []) g) more (zip_more c.args.hash l.done c.loop-text.given text one l.read some);
       shallow = subst (λ g. (x : _) → In x g → depth x.value ≤ 127) more (values_more c.loop-text.given one l.shallow shallow);
-      ranged = subst (λ g. (x : _) → In x g → IsRanged x.value) more (values_more c.loop-text.given one l.ranged ranged);
     }
 
 pub returns-in-None-2-clause-none : goal.returns-in-None-2-clause-none

@@ -1,7 +1,7 @@
 use Rattle.std.proofs.Common.{◌≡◌, ◌++◌, List}
 use Rattle.std.specs.List.{AllZip}
 use Rattle.claim_tree.specs.Tree.{Text}
-use Rattle.rebuild_core.specs.Answer.{ValuesShallow, ValuesRanged}
+use Rattle.rebuild_core.specs.Answer.{ValuesShallow}
 use Rattle.audit_core.specs.Audited.{GivesSalted}
 use Rattle.audit_core.proofs.written.read_given.Given as goal
 
@@ -13,5 +13,4 @@ invariant-loop-text l = record {
   stand : l.fn.disclosures ≡ done ++ l.text-iterator;
   read : AllZip (GivesSalted l.fn.hash) done l.given;
   shallow : ValuesShallow l.given;
-  ranged : ValuesRanged l.given;
 }

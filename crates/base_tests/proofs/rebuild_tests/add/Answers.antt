@@ -1,9 +1,8 @@
 use Rattle.std.proofs.Common.{◌≡◌, ◌≤◌, List, [], ◌∷◌, ◌++◌, ◌⊎◌, inl, inr, sym, subst}
-use Rattle.claim_tree.specs.Tree.{depth, IsRanged}
+use Rattle.claim_tree.specs.Tree.{depth}
 use Rattle.claim_tree.specs.Lists.{In}
 use Rattle.claim_tree.proofs.Lists.{In-append}
 use Rattle.digest_sites.specs.Given.{Given}
-use Rattle.rebuild_core.specs.Answer.{ValuesRanged}
 use Rattle.base_tests.proofs.rebuild_tests.add.Goals as goal
 
 kept : (P : Given → Type 0) (xs ys : List Given) (y : Given) → ys ≡ xs ++ y ∷ [] → ((x : Given) → In x xs → P x) → P y → (x : Given) → In x ys → P x
@@ -14,11 +13,5 @@ kept P xs ys y e all one x h = go (In-append x xs (y ∷ []) (subst (λ z. In x 
     go (inr (inl s)) = subst P (sym s) one
     go (inr (inr b)) = elim b [ ]
 
-pub returns-in_err-push-clause-ranges : goal.returns-in_err-push-clause-ranges
-returns-in_err-push-clause-ranges c = subst ValuesRanged (sym c.in_err-push.ensures.err) c.requires.ranges
-
 pub returns-clause-depths : goal.returns-clause-depths
 returns-clause-depths c = kept (λ x. depth x.value ≤ 127) c.args.list.now c.push.new.self _ c.in_ok-push.ensures.ok c.requires.depths c.in_ok-value.ensures.depth
-
-pub returns-clause-ranges : goal.returns-clause-ranges
-returns-clause-ranges c = kept (λ x. IsRanged x.value) c.args.list.now c.push.new.self _ c.in_ok-push.ensures.ok c.requires.ranges c.in_ok-value.ensures.range

@@ -1,10 +1,10 @@
 use Rattle.std.proofs.Common.{◌≤◌, subst, arith}
 use Rattle.std.proofs.lemmas.Option.{IfSome_then}
-use Rattle.claim_tree.specs.Tree.{IsRanged, depth, leaf, null, text, array, element}
+use Rattle.claim_tree.specs.Tree.{depth, leaf, null, text, array, element}
 use Rattle.claim_tree.specs.JsonText.{Reads}
 use Rattle.claim_tree.specs.ListTails.{ReadsTail, tail_elements}
 use Rattle.claim_tree.specs.View.{tree_of}
-use Rattle.disclosure.proofs.Arrays.{value_ranged, value_shallow}
+use Rattle.disclosure.proofs.Arrays.{value_shallow}
 use Rattle.disclosure.proofs.disclosure.disclosed_by.Goals as goal
 
 pub returns-in-Tail-clause-given : goal.returns-in-Tail-clause-given
@@ -13,11 +13,6 @@ returns-in-Tail-clause-given c =
     (λ d same json reads.
     let read = subst (ReadsTail json) c.in-Tail.is reads in
     (leaf (text read.0), subst (Reads json) (same (leaf (text read.0))) read.1))
-
-pub returns-in-Tail-clause-ranged : goal.returns-in-Tail-clause-ranged
-returns-in-Tail-clause-ranged c =
-    let kept : IsRanged (array (tail_elements c.in-Tail.tail)) = rw c.in-Tail.is at c.requires.ranged in
-    IfSome_then c.given_by.result c.given_by.ensures.given (λ d same. value_ranged (leaf null) d.name (tree_of d.value) (subst IsRanged (same (leaf null)) (tt, kept)))
 
 pub returns-in-Tail-clause-depth : goal.returns-in-Tail-clause-depth
 returns-in-Tail-clause-depth c =

@@ -1,6 +1,6 @@
 use Rattle.std.proofs.Common.{sym, subst}
 use Rattle.std.specs.Prelude.{IfOk, IfErr, ◌≤◌}
-use Rattle.claim_tree.specs.Tree.{depth, IsRanged}
+use Rattle.claim_tree.specs.Tree.{depth}
 use Rattle.issuer_core.specs.Order.{Order}
 use Rattle.issuer_core.specs.Seed.{maker_of}
 use Rattle.issuer_core.specs.Written.{IsIssued, IsLaidOut}
@@ -11,11 +11,8 @@ use Rattle.compact_form.specs.Lowest.{NoneApplies}
 use Rattle.issuer_core.specs.OrderRefusals.{AppliesToOrder}
 use Rattle.issuer_core.proofs.issuing.issue.Goals as goal
 
-pub issue_owned-requires-clause-depth : goal.issue_owned-requires-clause-depth
-issue_owned-requires-clause-depth g c = subst (λ (o : Order). depth o.payload ≤ 127) (sym c.in_ok-order.ensures) c.requires.depth
-
-pub issue_owned-requires-clause-ranged : goal.issue_owned-requires-clause-ranged
-issue_owned-requires-clause-ranged g c = subst (λ (o : Order). IsRanged o.payload) (sym c.in_ok-order.ensures) c.requires.ranged
+pub issue_owned-requires : goal.issue_owned-requires
+issue_owned-requires g c = record { depth = subst (λ (o : Order). depth o.payload ≤ 127) (sym c.in_ok-order.ensures) c.requires.depth }
 
 pub returns-clause-issued : goal.returns-clause-issued
 returns-clause-issued g c = subst (λ o. IfOk c.issue_owned.result (IsIssued (maker_of c.args.seed.now) o (g.S.Signer.alg_of c.args.signer.now) (g.S.Signatures.good c.args.signer.now))) c.in_ok-order.ensures c.issue_owned.ensures.issued

@@ -9,7 +9,7 @@ use Rattle.issuer_core.specs.declared.errors.IssueError.TheVariants.{TooManyHidd
 use Rattle.issuer_core.specs.Order.{order_of}
 use Rattle.issuer_core.specs.Seed.{maker_of}
 use Rattle.issuer_core.specs.Written.{header_of}
-use Rattle.issuer_core.proofs.FromLaid.{order_refused, finished_issued, finished_laid, unfinished_refused, no_clash, laid_words, body_object, body_ranged}
+use Rattle.issuer_core.proofs.FromLaid.{order_refused, finished_issued, finished_laid, unfinished_refused, no_clash, laid_words, body_object}
 use Rattle.issuer_core.proofs.Judged.{not_more}
 use Rattle.issuer_core.proofs.issuing.issue_owned.Goals as goal
 
@@ -20,7 +20,7 @@ pub returns-clause-issued : goal.returns-clause-issued
 returns-clause-issued g c =
     let l = c.in_ok-laid.laid in
     IfOk-weaker c.issue_laid.result _ _
-    (finished_issued c.args.seed.now (order_of c.args.order) (tree_of l.payload) l.texts l.digests c.in_ok-laid.ensures.laid c.in_ok-header.header (g.S.Signer.alg_of c.args.signer.now) (c.in_ok-header.ensures ∙ ap (λ alg. header_of alg (order_of c.args.order)) c.alg.ensures) (g.S.Signatures.good c.args.signer.now) c.in_default.ensures.good c.requires.ranged c.in_default.ensures.held)
+    (finished_issued c.args.seed.now (order_of c.args.order) (tree_of l.payload) l.texts l.digests c.in_ok-laid.ensures.laid c.in_ok-header.header (g.S.Signer.alg_of c.args.signer.now) (c.in_ok-header.ensures ∙ ap (λ alg. header_of alg (order_of c.args.order)) c.alg.ensures) (g.S.Signatures.good c.args.signer.now) c.in_default.ensures.good c.invariant.ensures.ranged c.in_default.ensures.held)
     c.issue_laid.ensures.finished
 
 pub returns-clause-laid : goal.returns-clause-laid
@@ -36,7 +36,7 @@ returns-clause-passes g c = IfOk-weaker c.issue_laid.result _ _ (λ parts done. 
 pub returns-clause-writable : goal.returns-clause-writable
 returns-clause-writable g c =
     let judged = c.in_default.ensures in
-    IfOk-weaker c.issue_laid.result _ _ (λ parts done. record { good = judged.good; held = judged.held; ranged = c.requires.ranged; kid = judged.kid; typ = judged.typ }) c.issue_laid.ensures.finished
+    IfOk-weaker c.issue_laid.result _ _ (λ parts done. record { good = judged.good; held = judged.held; ranged = c.invariant.ensures.ranged; kid = judged.kid; typ = judged.typ }) c.issue_laid.ensures.finished
 
 pub returns-clause-differ : goal.returns-clause-differ
 returns-clause-differ g c =
@@ -71,7 +71,6 @@ issue_laid-requires g c =
     let l = c.in_ok-laid.laid in
     let t = tree_of l.payload in
     record {
-      ranged = body_ranged c.args.seed.now o t l.texts l.digests c.in_ok-laid.ensures.laid c.requires.ranged;
       object = body_object c.args.seed.now o t l.texts l.digests c.in_default.ensures.good c.in_ok-laid.ensures.laid;
       words = laid_words c.args.seed.now o t l.texts l.digests c.in_ok-laid.ensures.laid;
     }

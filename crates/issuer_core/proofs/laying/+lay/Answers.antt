@@ -1,7 +1,7 @@
 use Rattle.std.proofs.Common.{◌≡◌, ℕ, refl, [], ◌∷◌, ◌++◌, Some, sym, ap, subst, ◌∙◌, arith, option_map, decimal}
 use Rattle.std.specs.Vec.Iter.{into_iter_items}
 use Rattle.std.proofs.lemmas.List.{nil_from_length}
-use Rattle.claim_tree.specs.Tree.{IsRanged, depth, elements_len}
+use Rattle.claim_tree.specs.Tree.{depth, elements_len}
 use Rattle.marked_tree.specs.Paths.{Path}
 use Rattle.claim_tree.specs.View.{tree_of}
 use Rattle.marked_tree.specs.Marked.{no_marked_elements, no_marked_members, marked_element, marked_member}
@@ -10,7 +10,7 @@ use Rattle.marked_tree.proofs.MarkedViews.{Element, Entry}
 use Rattle.issuer_core.specs.Laid.{sorted, with_sd}
 use Rattle.issuer_core.specs.Laying.{digest_at, placed_at, IsLaidNode}
 use Rattle.issuer_core.specs.Closing.{HasNumber}
-use Rattle.issuer_core.proofs.LaidBounds.{lay_ranged, lay_depth}
+use Rattle.issuer_core.proofs.LaidBounds.{lay_depth}
 use Rattle.issuer_core.proofs.LayingSteps.{IsMade, hidden_part, hidden_made}
 use Rattle.issuer_core.proofs.LayingElements.{LaysElements, elements_start, element_more, elements_end, elements_made, shown_element, hidden_element}
 use Rattle.issuer_core.proofs.LayingMembers.{LaysMembers, members_start, member_more_shown, member_more_hidden, members_end, members_made}
@@ -23,7 +23,7 @@ pub lay_list-loop-mark-init : goal.lay_list-loop-mark-init
 lay_list-loop-mark-init t c =
     let a = c.args in
     let all = ap marked_elements_of c.into_iter-mark-iterator.ensures.into_iter_gives.0 ∙ c.into_elements-mark-items.ensures in
-    let start = elements_start a.decoys a.hiding a.layer.now.texts a.layer.now.digests a.list c.requires.closes c.requires.digests c.requires.ranged in
+    let start = elements_start a.decoys a.hiding a.layer.now.texts a.layer.now.digests a.list c.requires.closes c.requires.digests in
     subst (λ laid. LaysElements a.decoys a.hiding a.layer.now.texts a.list laid a.layer.now.texts a.layer.now.digests (marked_elements_of (into_iter_items c.into_iter-mark-iterator.result))) (sym c.in_ok-laid.ensures)
     (subst (λ left. LaysElements a.decoys a.hiding a.layer.now.texts a.list _ a.layer.now.texts a.layer.now.digests left) (sym all) start)
 
@@ -40,7 +40,7 @@ lay_list-lay_part-requires t c =
     let deep = c.requires.depth in
     let held = c.requires.salts in
     let down = c.below_element-below.ensures.depth in
-    (omega (arith, few), (omega (arith, low, deep, down), (so.ranged.0, (c.below_element-below.ensures.placed, (so.closes.0, (so.closes.1, (omega (arith, count, held), so.digested)))))))
+    (omega (arith, few), (omega (arith, low, deep, down), (c.below_element-below.ensures.placed, (so.closes.0, (so.closes.1, (omega (arith, count, held), so.digested))))))
 
 pub lay_list-loop-mark-preserved : goal.lay_list-loop-mark-preserved
 lay_list-loop-mark-preserved t c =
@@ -100,7 +100,7 @@ pub lay_map-loop-name-init : goal.lay_map-loop-name-init
 lay_map-loop-name-init t c =
     let a = c.args in
     let all = ap marked_members_of c.into_iter-name-iterator.ensures.into_iter_gives.0 ∙ c.into_members-name-items.ensures.value in
-    let start = members_start a.decoys a.hiding a.layer.now.texts a.layer.now.digests a.members c.requires.closes c.requires.digests c.requires.ranged c.into_members-name-items.ensures.ordered in
+    let start = members_start a.decoys a.hiding a.layer.now.texts a.layer.now.digests a.members c.requires.closes c.requires.digests c.into_members-name-items.ensures.ordered in
     rw (c.new-laid.ensures, c.new-digests.ensures.items) (subst (λ left. LaysMembers a.decoys a.hiding a.layer.now.texts a.members _ [] a.layer.now.texts a.layer.now.digests left) (sym all) start)
 
 pub lay_map-lay_part-requires : goal.lay_map-lay_part-requires
@@ -116,7 +116,7 @@ lay_map-lay_part-requires t c =
     let deep = c.requires.depth in
     let held = c.requires.salts in
     let down = c.below-below.ensures.depth in
-    (omega (arith, few), (omega (arith, low, deep, down), (so.ranged.0, (c.below-below.ensures.placed, (so.closes.0, (so.closes.1, (omega (arith, count, held), so.digested)))))))
+    (omega (arith, few), (omega (arith, low, deep, down), (c.below-below.ensures.placed, (so.closes.0, (so.closes.1, (omega (arith, count, held), so.digested))))))
 
 pub lay_map-loop-name-preserved-in-Continue-branch-3 :
     goal.lay_map-loop-name-preserved-in-Continue-branch-3
@@ -180,11 +180,6 @@ pub lay_map-returns-clause-digests : goal.lay_map-returns-clause-digests
 lay_map-returns-clause-digests t c = c.loop-name.invariant.digested
 
 -- ---- parts
-
-pub lay_part-disclose-requires-clause-ranged : goal.lay_part-disclose-requires-clause-ranged
-lay_part-disclose-requires-clause-ranged t c =
-    let m = marked_of c.args.tree in
-    subst IsRanged (sym (c.in_ok-inside.ensures.laid (placed_at c.args.decoys) (λ at. refl) [])) (lay_ranged (placed_at c.args.decoys) (digest_at c.args.hiding.hash (c.lay.new.layer.texts ++ [])) m c.requires.ranged)
 
 pub lay_part-disclose-requires-clause-depth : goal.lay_part-disclose-requires-clause-depth
 lay_part-disclose-requires-clause-depth t c =

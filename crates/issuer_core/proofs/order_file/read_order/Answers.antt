@@ -10,7 +10,7 @@ use Rattle.claim_tree.proofs.FileMembers.{says_meets, may_say_meets, says_or_mee
 use Rattle.claim_tree.specs.FileLists.{IsListOf, IsPointer}
 use Rattle.hmac_sign.specs.KeyText.{IsKeyBytes}
 use Rattle.issuer_core.specs.OrderFile.{IsValue, IsDecoy, IsHashText, IsAlgFor, IsAlgOf, HasKey}
-use Rattle.issuer_core.proofs.OrderFiles.{value_ranged, value_depth, counts_within, enough_bytes, refused_as, alg_of_file, alg_meets}
+use Rattle.issuer_core.proofs.OrderFiles.{value_depth, counts_within, enough_bytes, refused_as, alg_of_file, alg_meets}
 use Rattle.issuer_core.proofs.order_file.read_order.Goals as goal
 
 abbrev payload : Entry
@@ -123,9 +123,6 @@ returns-in_err-hash-clause-refused c =
     let has : HasKey file bytes = record { members = ms; file = c.in_ok-members.ensures.ok.object; says = says } in
     let alg_meets_it = alg_meets file bytes ms c.in_ok-key.key.alg has c.in_ok-key.ensures.alg in
     rw (handed.1, handed.2) (member_refused file_max (payload ∷ hide ∷ decoys ∷ key ∷ kid ∷ typ ∷ alg file ∷ []) hash [] file ms c.in_err-hash.field-0.0 c.in_ok-members.ensures.ok (payload_meets, (hide_meets, (decoys_meet, (key_meets, (kid_meets, (typ_meets, (alg_meets_it, tt))))))) c.in_err-hash.ensures.refused)
-
-pub returns-clause-ranged : goal.returns-clause-ranged
-returns-clause-ranged c = value_ranged c.in_ok-members.members (field_word Payload) (tree_of c.into_payload.result) c.in_ok-members.ensures.ranged c.into_payload.ensures
 
 pub returns-clause-depth : goal.returns-clause-depth
 returns-clause-depth c =

@@ -1,6 +1,6 @@
 use Rattle.std.proofs.Common.{◌≡◌, ◌≤◌, sym, subst}
 use Rattle.std.proofs.lemmas.Result.{IfOk-weaker}
-use Rattle.claim_tree.specs.Tree.{depth, IsRanged}
+use Rattle.claim_tree.specs.Tree.{depth}
 use Rattle.claim_tree.specs.View.{tree_of}
 use Rattle.claim_tree.specs.JsonText.{Reads}
 use Rattle.compact_form.specs.declared.fault.JsonPlace.TheVariants.{NotObject}
@@ -34,6 +34,5 @@ returns-clause-fault c place is =
 
 pub returns-clause-printable : goal.returns-clause-printable
 returns-clause-printable c =
-    let ranged = subst (λ t. IsRanged (tree_of t)) c.in-Object.is c.in_ok-members.ensures.ranged in
     let low = subst (λ t. depth (tree_of t) ≤ 127) c.in-Object.is c.in_ok-members.ensures.depth in
-    IfOk-weaker c.token_of.result (MembersSay c.in-Object.members) IsPrintable (λ token says. printable c.in-Object.members token says ranged low) c.token_of.ensures.ok
+    IfOk-weaker c.token_of.result (MembersSay c.in-Object.members) IsPrintable (λ token says. printable c.in-Object.members token says low) c.token_of.ensures.ok

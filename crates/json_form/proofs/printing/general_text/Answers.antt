@@ -1,18 +1,11 @@
 use Rattle.std.proofs.Common.{◌≡◌, ◌≤◌, sym, ap, subst}
 use Rattle.std.proofs.lemmas.Result.{IfOk-weaker}
-use Rattle.claim_tree.specs.Tree.{object, depth, IsRanged}
+use Rattle.claim_tree.specs.Tree.{object, depth}
 use Rattle.claim_tree.specs.JsonText.{Reads}
 use Rattle.compact_form.specs.declared.parts.JwtParts.{JwtParts}
 use Rattle.json_form.specs.Json.{IsGeneral}
-use Rattle.json_form.proofs.WrittenForms.{general_ranged, general_made, general_depth, general_says}
+use Rattle.json_form.proofs.WrittenForms.{general_made, general_depth, general_says}
 use Rattle.json_form.proofs.printing.general_text.Goals as goal
-
-pub write-requires : goal.write-requires
-write-requires c =
-    let token = c.args.token.now in
-    let payload : c.signed.result.payload.now ≡ token.parts.signed.payload = ap (λ (j : JwtParts). j.payload) c.signed.ensures in
-    let made = general_made token _ _ _ _ _ _ _ c.new-members.ensures c.new-signatures.ensures c.in_ok-entry.ensures payload c.in_ok-put_text.ensures c.in_ok-push.ensures.ok c.in_ok-put.ensures in
-    subst IsRanged (sym made) (general_ranged token c.requires.printable)
 
 pub returns-clause-back : goal.returns-clause-back
 returns-clause-back c shallow =

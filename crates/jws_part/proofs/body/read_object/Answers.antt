@@ -19,7 +19,6 @@ returns c =
     let decoded : Decodes c.args.part.now c.bytes-2.result.now = rw (← c.as_bytes.ensures.value, c.bytes-2.ensures) c.in_ok-bytes.ensures.ok in
     record {
       ok = tt;
-      ranged = tt;
       ordered = tt;
       depth = tt;
       unreadable = λ _. other_tree c.args.part.now c.bytes-2.result.now c.in_ok-members.field-0 decoded c.in_ok-members.ensures.ok c.in_default.not-Object;

@@ -1,5 +1,5 @@
 use Rattle.claim_tree.specs.View.{tree_of}
-use Rattle.rebuild_core.proofs.NothingHidden.{answer_sound, answer_processed, answer_in_range, answer_refused, answer_counted}
+use Rattle.rebuild_core.proofs.NothingHidden.{answer_sound, answer_processed, answer_refused, answer_counted}
 use Rattle.rebuild_core.proofs.processing.open_nothing.Goals as goal
 
 pub returns-clause-sound : goal.returns-clause-sound
@@ -7,9 +7,6 @@ returns-clause-sound c = rw c.requires.none (answer_sound (tree_of c.args.payloa
 
 pub returns-clause-processed : goal.returns-clause-processed
 returns-clause-processed c = rw c.requires.none (answer_processed (tree_of c.args.payload) c.requires.unhidden c.move_out.result c.move_out.ensures)
-
-pub returns-clause-ranged : goal.returns-clause-ranged
-returns-clause-ranged c = answer_in_range (tree_of c.args.payload) c.requires.unhidden c.move_out.result c.move_out.ensures c.requires.range
 
 pub returns-clause-refused : goal.returns-clause-refused
 returns-clause-refused c = rw c.requires.none (answer_refused (tree_of c.args.payload) c.requires.unhidden c.move_out.result c.move_out.ensures)

@@ -5,9 +5,6 @@ use Rattle.rebuild_core.specs.Answer.{IsProcessRefused}
 use Rattle.rebuild_core.specs.Payload.{without_alg}
 use Rattle.rebuild_core.proofs.processing.process.Goals as goal
 
-pub process_seeded-requires-clause-values_range : goal.process_seeded-requires-clause-values_range
-process_seeded-requires-clause-values_range c = rw c.in_ok-given.ensures c.requires.values_range
-
 pub returns-clause-refused : goal.returns-clause-refused
 returns-clause-refused c =
     subst (λ g. IfErr c.process_seeded.result (IsProcessRefused (without_alg (tree_of c.args.payload.now)) g)) c.in_ok-given.ensures

@@ -16,12 +16,12 @@ loop-item-preserved c = λ i x l a. ⊎_elim
     let item = given_of c.item-item.result in
     let at = item_at c.items-item-items.result.now c.args.given.now c.loop-item.item-index c.item-item.result c.items-item-items.ensures c.loop-item-test.true c.item-item.is in
     let same : x ≡ item = At-same c.args.given.now c.loop-item.item-index x item (subst (λ z. StandsAt c.args.given.now z x) here a) at in
-    subst (λ (z : Given). IsOrdered z.value) (sym same) c.is_ordered-in-loop-item.ensures)
+    subst (λ (z : Given). IsOrdered z.value) (sym same) c.invariant-in-loop-item.ensures.ordered)
     (before_or_at i c.loop-item.item-index l)
 
 pub returns : goal.returns
 returns c = record {
-  in_payload = c.is_ordered.ensures;
+  in_payload = c.invariant.ensures.ordered;
   in_values = λ x h.
       let w = In-At c.args.given.now x h in
       let few : w.0 < c.loop-item.item-index =

@@ -12,5 +12,5 @@ returns-in-Ok-check_met-clause-numbers c =
 pub returns-in-Ok-check_met-clause-told : goal.returns-in-Ok-check_met-clause-told
 returns-in-Ok-check_met-clause-told c =
     let n = c.in-Ok.found in
-    told (tree_of c.args.payload.now) c.args.given.now c.is_ordered.ensures c.requires.object c.in-Ok-check_met.ensures.referenced n.index n.graph.numbers.items n.graph.ends.items c.in-Ok.ensures.flat
-    (many_ends (tree_of c.args.payload.now) c.args.given.now c.is_ordered.ensures c.requires.object n.index n.graph.numbers.items n.graph.ends.items c.in-Ok.ensures.flat)
+    told (tree_of c.args.payload.now) c.args.given.now c.invariant.ensures.ordered c.requires.object c.in-Ok-check_met.ensures.referenced n.index n.graph.numbers.items n.graph.ends.items c.in-Ok.ensures.flat
+    (many_ends (tree_of c.args.payload.now) c.args.given.now c.invariant.ensures.ordered c.requires.object n.index n.graph.numbers.items n.graph.ends.items c.in-Ok.ensures.flat)

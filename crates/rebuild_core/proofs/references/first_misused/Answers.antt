@@ -10,12 +10,12 @@ use Rattle.rebuild_core.proofs.references.first_misused.Goals as goal
 pub returns-then-is_misused : goal.returns-then-is_misused
 returns-then-is_misused c =
     let t = tree_of c.args.payload.now in
-    payload_misuses (without_alg t) c.args.given.now (misuses_without t c.is_ordered.ensures c.requires ∙ (sym c.is_misused.ensures ∙ c.if-is_misused.true))
+    payload_misuses (without_alg t) c.args.given.now (misuses_without t c.invariant.ensures.ordered c.requires ∙ (sym c.is_misused.ensures ∙ c.if-is_misused.true))
 
 pub loop-i-init : goal.loop-i-init
 loop-i-init c =
     let t = tree_of c.args.payload.now in
-    payload_is_well (without_alg t) c.args.given.now (misuses_without t c.is_ordered.ensures c.requires ∙ (sym c.is_misused.ensures ∙ c.if-is_misused.false))
+    payload_is_well (without_alg t) c.args.given.now (misuses_without t c.invariant.ensures.ordered c.requires ∙ (sym c.is_misused.ensures ∙ c.if-is_misused.false))
 
 pub returns-then-is_misused-2 : goal.returns-then-is_misused-2
 returns-then-is_misused-2 c =

@@ -1,21 +1,18 @@
 use Rattle.std.proofs.Common.{IfErr, ap, sym, subst, arith}
-use Rattle.claim_tree.specs.Tree.{depth, IsRanged}
+use Rattle.claim_tree.specs.Tree.{depth}
 use Rattle.issuer_core.specs.Order.{Order}
 use Rattle.hmac_sign.specs.Hmac.{AlgKey}
 use Rattle.sdjwt_cli.specs.Generated.{generated, generated_seed}
 use Rattle.sdjwt_cli.specs.Issuing.{TellsRefusal}
 use Rattle.cli_parts.specs.Stops.{OnRefused}
-use Rattle.sdjwt_cli.proofs.GeneratedOrder.{shallow, all_ranged}
+use Rattle.sdjwt_cli.proofs.GeneratedOrder.{shallow}
 use Rattle.sdjwt_cli.proofs.summary.issue_order.Goals as goal
 
-pub issue_parts-requires-clause-depth : goal.issue_parts-requires-clause-depth
-issue_parts-requires-clause-depth c =
+pub issue_parts-requires : goal.issue_parts-requires
+issue_parts-requires c =
     let same = ap (λ (o : Order). depth o.payload) c.in_ok-order.ensures in
     let low = shallow c.args.count in
-    omega (arith, same, low)
-
-pub issue_parts-requires-clause-ranged : goal.issue_parts-requires-clause-ranged
-issue_parts-requires-clause-ranged c = subst (λ (o : Order). IsRanged o.payload) (sym c.in_ok-order.ensures) (all_ranged c.args.count (omega (arith, c.ranges.count.fits)))
+    record { depth = omega (arith, same, low) }
 
 pub returns-clause-refuses : goal.returns-clause-refuses
 returns-clause-refuses c =

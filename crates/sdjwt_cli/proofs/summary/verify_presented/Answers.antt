@@ -11,7 +11,7 @@ pub returns-in-Ok : goal.returns-in-Ok
 returns-in-Ok c =
     let text : c.as_bytes.result.now ≡ compact c.args.presented.now = c.as_bytes.ensures.value ∙ c.as_str.ensures ∙ c.in_ok-token.ensures.spelling in
     let counted = c.in-Ok.ensures.counted in
-    is_verified c.args.presented.now c.requires.acceptable c.as_bytes.result.now text c.in_ok-policy.policy c.in_ok-policy.ensures c.in-Ok.claims c.in-Ok.ensures.accepted c.in-Ok.ensures.ranged
+    is_verified c.args.presented.now c.requires.acceptable c.as_bytes.result.now text c.in_ok-policy.policy c.in_ok-policy.ensures c.in-Ok.claims c.in-Ok.ensures.accepted
     c.new-steps.result c.verify_payload.new.steps c.count.result c.new-steps.ensures c.count.ensures counted.0 counted.1 counted.2
 
 pub unreachable-requires : goal.unreachable-requires

@@ -1,6 +1,6 @@
 use Rattle.std.proofs.Common.{◌≤◌, [], ◌∷◌, ◌++◌, length-append, append_assoc, sym, ap, subst, ◌∙◌, arith, rules}
 use Rattle.std.specs.List.{AllZip}
-use Rattle.claim_tree.specs.Tree.{depth, IsRanged}
+use Rattle.claim_tree.specs.Tree.{depth}
 use Rattle.claim_tree.specs.Lists.{In}
 use Rattle.verifier_core.specs.Verdict.{Gives}
 use Rattle.verifier_core.proofs.CheckTests.{zip_more, more_in, next_unread}
@@ -15,7 +15,6 @@ loop-i-init c = record {
   counted = search rules;
   read = rw c.in_ok-given.ensures tt;
   shallow = λ x there. absurd (subst (λ g. In x g) c.in_ok-given.ensures there);
-  ranged = λ x there. absurd (subst (λ g. In x g) c.in_ok-given.ensures there);
 }
 
 pub loop-i-preserved : goal.loop-i-preserved
@@ -31,7 +30,6 @@ loop-i-preserved c =
       counted = (let more = length-append l.done (text ∷ []) in omega (arith, more, l.counted, c.in-Some.ensures.steps.2));
       read = subst (λ g. AllZip (Gives c.args.hash) (l.done ++ text ∷ []) g) (sym adds.more) (zip_more c.args.hash l.done c.loop-i.given text adds.one l.read adds.gives);
       shallow = more_in (λ x. depth x.value ≤ 127) c.loop-i.given c.push_given.new.given adds.one adds.more l.shallow adds.shallow;
-      ranged = more_in (λ x. IsRanged x.value) c.loop-i.given c.push_given.new.given adds.one adds.more l.ranged adds.ranged;
     }
 
 pub returns-in-Err-clause-refused : goal.returns-in-Err-clause-refused

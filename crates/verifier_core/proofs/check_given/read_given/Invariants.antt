@@ -1,7 +1,7 @@
 use Rattle.std.proofs.Common.{◌≡◌, ◌++◌, List, length}
 use Rattle.std.specs.List.{AllZip}
 use Rattle.claim_tree.specs.Tree.{Text}
-use Rattle.rebuild_core.specs.Answer.{ValuesShallow, ValuesRanged}
+use Rattle.rebuild_core.specs.Answer.{ValuesShallow}
 use Rattle.verifier_core.specs.Verdict.{Gives}
 use Rattle.verifier_core.proofs.check_given.read_given.Given as goal
 
@@ -14,5 +14,4 @@ invariant-loop-i l = record {
   counted : l.i-iterator.count ≡ length done;
   read : AllZip (Gives l.fn.hash) done l.given;
   shallow : ValuesShallow l.given;
-  ranged : ValuesRanged l.given;
 }

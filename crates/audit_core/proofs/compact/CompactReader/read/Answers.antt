@@ -10,7 +10,6 @@ returns-in_default-error c =
     let unread = rw c.deref.ensures.value at c.in-Err.ensures.unread in
     record {
       some = tt;
-      ranged = tt;
       depth = tt;
       none = unread_unwritten c.args.part.now (take c.in-Some.count c.decode_to.new.room.items) c.in-Err.error c.in_default-error.not-Memory some unread;
     }

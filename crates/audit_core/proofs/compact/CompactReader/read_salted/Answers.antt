@@ -14,7 +14,6 @@ returns-in_default-error c =
     let unread = rw c.deref.ensures.value at c.in-Err.ensures.unread in
     record {
       some = tt;
-      ranged = tt;
       depth = tt;
       none = λ name value w. unread_unwritten c.args.text.now bytes c.in-Err.error c.in_default-error.not-Memory some unread _ w.written;
     }

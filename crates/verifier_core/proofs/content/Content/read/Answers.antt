@@ -19,7 +19,7 @@ pub invariant_of-result : goal.invariant_of-result
 invariant_of-result c =
     is_openable c.args.token.now c.args.rules.now (jwt_of c.signed-signed.result) c.outer.result.now c.signed-signed.ensures c.outer.ensures c.in_default.ensures.ok
     (tree_of c.in-Ok.read.0) c.in-Ok.read.1 c.in-Ok.ensures.ok c.in-Ok.ensures.hash c.disclosures.result c.disclosures.ensures.value c.in-Ok-read_given.given c.in-Ok-read_given.ensures.ok
-    c.in-Ok.ensures.depth c.in-Ok.ensures.ranged c.in-Ok-read_given.ensures.shallow c.in-Ok-read_given.ensures.ranged c.requires.few
+    c.in-Ok.ensures.depth c.in-Ok-read_given.ensures.shallow c.requires.few
 
 pub returns-clause-content : goal.returns-clause-content
 returns-clause-content c =
