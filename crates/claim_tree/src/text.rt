@@ -8,11 +8,11 @@ ghost use Rattle.claim_tree.specs.JsonText.{Reads, data_of, json_text};
 ghost use Rattle.claim_tree.specs.JsonRefusals.{IsReadRefused};
 ghost use Rattle.claim_tree.specs.ListTails.{ReadsTail, kept_tree, short_list};
 
+use crate::Tree;
 use crate::build::{BuildError, build_text};
 use crate::convert::{TakeError, take};
 use crate::tail::{TailOrTree, build_tail};
 use crate::tokens::{put_texts, put_tree};
-use crate::Tree;
 use json::{Scratch, Writer};
 use sd_outside::{NoMemory, TextBox};
 use serde_json::Value;
@@ -47,7 +47,7 @@ impl JsonReader {
     /// The tree of a JSON text (RFC 8259). Of two members of one name the last is kept.
     pub fn read(&mut self, alloc: Global, bytes: &[u8]) -> Result<Tree, ReadError>
         ensures ok { IfOk result (λ t. Reads bytes.now (tree_of t)) }
-            ensures ordered { IfOk result (λ t. IsOrdered (tree_of t)) }
+        ensures ordered { IfOk result (λ t. IsOrdered (tree_of t)) }
         ensures depth { IfOk result (λ t. depth_of (tree_of t) ≤ 127) }
         ensures unread { IfErr result (IsReadRefused bytes.now) }
     {

@@ -64,8 +64,7 @@ fn refused(alloc: Global, steps: &Steps, error: VerifyError) -> Result<String, F
 }
 
 // The look-ups, and the text of a payload that is accepted.
-fn accepted(alloc: Global, steps: &Steps, payload: &Tree) -> Result<String, Fail>
-{
+fn accepted(alloc: Global, steps: &Steps, payload: &Tree) -> Result<String, Fail> {
     let text = write(alloc, payload)?;
     told(alloc, steps, text.as_str())
 }

@@ -8,7 +8,6 @@ ghost use Rattle.marked_tree.specs.Steps.{marked_stepped, IsShortList};
 ghost use Rattle.marked_tree.specs.View.{marked_of};
 
 use crate::Marked;
-use crate::marked::is_ordered;
 use claim_tree::position;
 
 /// The mark and the tree one step inside, as [`find`](claim_tree::find) goes. It takes no memory.
@@ -17,7 +16,7 @@ pub fn stepped<'a>(tree: &'a Marked, step: &str) -> Option<(Option<u32>, &'a Mar
     ensures tree { option_map (λ e. strip (marked_of e.1.now)) result ≡ stepped_of (strip (marked_of tree.now)) step.now }
     ensures way { IfSome result (λ e. (p : Path) (i : ℕ) → is_on_way (marked_of tree.now) (step.now ∷ p) i ≡ (has_mark e.0 i || is_on_way (marked_of e.1.now) p i)) }
 {
-    is_ordered(tree);
+    tree.invariant();
     found(tree, step)
 }
 

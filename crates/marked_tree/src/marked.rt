@@ -94,18 +94,20 @@ impl Model for MarkedMap {
     ghost size_decreases = { λ m h. omega (arith, most-members m.members.items) };
 }
 
-// What every marked tree is, by the invariants of what it holds.
-pub(crate) fn is_ordered(tree: &Marked)
-    ensures { IsOrdered (strip (marked_of tree.now)) }
-{
-    match tree {
-        Marked::List(list) => {
-            let _ = list.elements();
+impl Marked {
+    // What every marked tree is, by the invariants of what it holds. It does nothing, and is called for its clause.
+    pub(crate) fn invariant(&self)
+        ensures { IsOrdered (strip (marked_of self.now)) }
+    {
+        match self {
+            Marked::List(list) => {
+                let _ = list.elements();
+            }
+            Marked::Object(map) => {
+                let _ = map.members();
+            }
+            _ => (),
         }
-        Marked::Object(map) => {
-            let _ = map.members();
-        }
-        _ => (),
     }
 }
 
@@ -132,7 +134,7 @@ impl MarkedList {
         ensures ok { OnOk result (self.new ≡ marked_pushed self.old mark (marked_of tree)) }
         ensures err { OnErr result (self.new ≡ self.old) }
     {
-        is_ordered(&tree);
+        tree.invariant();
         self.elements.push((mark, tree))?;
         Ok(())
     }
@@ -239,7 +241,7 @@ impl MarkedMap {
         ensures ok { OnOk result (self.new ≡ marked_inserted self.old name mark (marked_of tree)) }
         ensures err { OnErr result (self.new ≡ self.old) }
     {
-        is_ordered(&tree);
+        tree.invariant();
         set(&mut self.members, name, mark, tree)
     }
 
@@ -249,7 +251,7 @@ impl MarkedMap {
         ensures ok { OnOk result (self.new ≡ put name mark (marked_of tree) self.old) }
         ensures err { OnErr result (self.new ≡ self.old) }
     {
-        is_ordered(&tree);
+        tree.invariant();
         add(&mut self.members, name, mark, tree)
     }
 
@@ -293,7 +295,7 @@ fn are_ascending(members: &[(TextBox, Option<u32>, Marked)]) -> bool
     let mut from = members.len();
     while from > 0 {
         let (_, _, tree) = &members[from - 1];
-        is_ordered(tree);
+        tree.invariant();
         if from < members.len() && !is_before(&members[from - 1], &members[from]) {
             return false;
         }

@@ -6,4 +6,4 @@ pub returns-clause-tree : goal.returns-clause-tree
 returns-clause-tree c = found_strip (marked_of c.args.tree.now) c.args.step.now c.found.result c.found.ensures.value
 
 pub returns-clause-way : goal.returns-clause-way
-returns-clause-way c = found_way (marked_of c.args.tree.now) c.args.step.now c.found.result c.is_ordered.ensures c.found.ensures.short c.found.ensures.value
+returns-clause-way c = found_way (marked_of c.args.tree.now) c.args.step.now c.found.result c.invariant.ensures c.found.ensures.short c.found.ensures.value

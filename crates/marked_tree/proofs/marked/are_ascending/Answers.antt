@@ -16,7 +16,7 @@ loop-from-preserved c =
     let at : suc (from - 1) ≡ from = omega (arith, c.loop-from-test.true) in
     let behind = subst (λ (n : ℕ). MembersOrdered (strip_members (marked_members_of (drop n ms)))) (sym at) c.loop-from.invariant.1 in (
       omega (arith, c.loop-from.invariant.0),
-      ordered_from ms (from - 1) d (omega (arith, at, c.loop-from.invariant.0)) behind (subst (λ (m : Entry). IsOrdered (strip (marked_of m.2))) c.index-members-from.is c.is_ordered.ensures) (λ w.
+      ordered_from ms (from - 1) d (omega (arith, at, c.loop-from.invariant.0)) behind (subst (λ (m : Entry). IsOrdered (strip (marked_of m.2))) c.index-members-from.is c.invariant.ensures) (λ w.
           elim c.else-from-members.branch [
             | else-from-members-via-then-from-members+else-not-is_before b ↦
                 let one = get_or_read_under ms (from - 1) (length ms) b.index-members-from-then-from-members.result d b.index-members-from-then-from-members.is (omega (arith, at, w)) refl in
