@@ -1,7 +1,7 @@
 // The conditions 27 to 38, in their order.
 ghost use Rattle.std.specs.Prelude.{◌≡◌, ◌≢◌, ◌↔◌, ◌⊎◌, Some, codes, IsTrue, OnOk, IfOk, IfErr, IsErrOf};
 ghost use Rattle.std.specs.Option.{option_copied};
-ghost use Rattle.claim_tree.specs.Tree.{no_members};
+ghost use Rattle.claim_tree.specs.Tree.{InRange, no_members};
 ghost use Rattle.claim_tree.specs.View.{tree_of};
 ghost use Rattle.compact_form.specs.Condition.{number_of};
 ghost use Rattle.compact_form.specs.declared.condition.Condition.{Condition};
@@ -225,6 +225,7 @@ fn is_digest_of(alloc: Global, text: &str, hash: HashAlg, hashed: &str) -> Resul
 fn check_claims(bound: Bound<'_>, claims: Claims<'_>) -> Result<(), Condition>
     requires below { Passes (number_of Condition.BindingStale) (BindingFails (judged_of bound)) }
     requires read { HasClaims (judged_of bound).token (claims_of claims) }
+    requires ranged { InRange claims.iat }
     ensures ok { OnOk result (Passes (number_of Condition.HashDiffers) (BindingFails (judged_of bound.entry))) }
     ensures refused { IfErr result (IsLowestBinding (judged_of bound.entry)) }
 {
@@ -252,14 +253,16 @@ fn is_time_refused(body: &Tree, skew: u32, now: u64) -> bool
 
 // Whether the token was made too long ago.
 fn is_stale(claims: &Claims<'_>, max_age: u32, skew: u32, now: u64) -> bool
+    requires { InRange claims.now.iat }
     ensures { IsTrue result ↔ IsStale claims.now.iat max_age skew now }
 {
-    claims.iat.get() + i128::from(max_age) + i128::from(skew) < i128::from(now)
+    claims.iat + i128::from(max_age) + i128::from(skew) < i128::from(now)
 }
 
 // Whether the token is of the future.
 fn is_early(claims: &Claims<'_>, skew: u32, now: u64) -> bool
+    requires { InRange claims.now.iat }
     ensures { IsTrue result ↔ IsEarly claims.now.iat skew now }
 {
-    i128::from(now) + i128::from(skew) < claims.iat.get()
+    i128::from(now) + i128::from(skew) < claims.iat
 }
