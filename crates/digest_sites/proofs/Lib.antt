@@ -1,3 +1,4 @@
 pub mod Moved
+pub mod OneGiven
 mod Found
 mod Examples

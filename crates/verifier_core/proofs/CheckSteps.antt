@@ -1,5 +1,5 @@
 -- What the steps of a check say of the conditions on the token.
-use Rattle.std.proofs.Common.{◌≡◌, ℕ, zero, suc, ◌<◌, ◌≤◌, List, [], ◌∷◌, length, take, Option, Some, None, refl, sym, ap, subst, ◌∙◌, arith}
+use Rattle.std.proofs.Common.{◌≡◌, ℕ, zero, suc, ◌<◌, ◌≤◌, List, [], ◌∷◌, length, take, Some, None, refl, sym, ap, subst, ◌∙◌, arith}
 use Rattle.std.specs.List.{AllZip}
 use Rattle.claim_tree.specs.Tree.{Text, Tree, Members, leaf, null, flag, whole, text, array, object, depth}
 use Rattle.claim_tree.specs.Lists.{StandsAt, AtNone, IsLeast}
@@ -17,6 +17,7 @@ use Rattle.disclosure.specs.Digest.{payload_hash, hash_of_name}
 use Rattle.disclosure.specs.declared.digests.HashAlg.{HashAlg}
 use Rattle.disclosure.proofs.Verdicts as readings
 use Rattle.digest_sites.specs.Given.{Given}
+use Rattle.digest_sites.proofs.OneGiven.{one_given}
 use Rattle.marked_tree.specs.Marked.{Marked, strip}
 use Rattle.rebuild_core.specs.Payload.{alg_name, without_alg}
 use Rattle.rebuild_core.specs.Opening.{processed}
@@ -142,14 +143,10 @@ given_fault token rules hash fault passes u =
 
 -- ---- one content
 
-abbrev given_as : Text → Option Text → Tree → Given
-given_as digest name value = record { digest = digest; name = name; value = value }
-
-one_given : (hash : HashAlg) (d : Text) (x y : Given) → Gives hash d x → Gives hash d y → x ≡ y
-one_given hash d x y g h =
+given_same : (hash : HashAlg) (d : Text) (x y : Given) → Gives hash d x → Gives hash d y → x ≡ y
+given_same hash d x y g h =
     let same = readings.one_disclosure d g.1 h.1 x.name y.name x.value y.value g.2 h.2 in
-    let digests : x.digest ≡ y.digest = g.0 ∙ sym h.0 in
-    ap (λ (a : Text). given_as a x.name x.value) digests ∙ (ap (λ (a : Option Text). given_as y.digest a x.value) same.1 ∙ ap (λ (a : Tree). given_as y.digest y.name a) same.2)
+    one_given x y (g.0 ∙ sym h.0) same.1 same.2
 
 pub one_list : (hash : HashAlg) (ds : List Text) (xs ys : List Given) → AllZip (Gives hash) ds xs → AllZip (Gives hash) ds ys → xs ≡ ys
 one_list hash [] [] [] g h = refl
@@ -158,7 +155,7 @@ one_list hash [] (x ∷ xs) ys g h = absurd g
 one_list hash (d ∷ ds) [] ys g h = absurd g
 one_list hash (d ∷ ds) (x ∷ xs) [] g h = absurd h
 one_list hash (d ∷ ds) (x ∷ xs) (y ∷ ys) g h =
-    let first : x ≡ y = one_given hash d x y g.0 h.0 in
+    let first : x ≡ y = given_same hash d x y g.0 h.0 in
     let others : xs ≡ ys = one_list hash ds xs ys g.1 h.1 in
     cc
 
