@@ -16,7 +16,8 @@ use Rattle.digest_sites.specs.declared.site.SiteKind.{SiteKind}
 use Rattle.digest_sites.specs.declared.site.SiteKind.TheVariants.{Member, Element}
 use Rattle.issuer_core.specs.Issued.{occurs}
 use Rattle.issuer_core.specs.Laid.{sorted, sorted_with}
-use Rattle.issuer_core.proofs.SortedDigests.{NoneBelow, Rising, sorted_rising, less_then}
+use Rattle.marked_tree.proofs.RisingTexts.{NoneBelow, Rising, less_then}
+use Rattle.issuer_core.proofs.SortedDigests.{sorted_rising}
 use Rattle.issuer_core.proofs.IssuedForgery.{is_there}
 use Rattle.marked_tree.specs.Paths.{Path, same_path}
 use Rattle.claim_tree.proofs.SamePaths.{path_refl, path_same}

@@ -6,6 +6,7 @@ pub mod SpotMarks
 pub mod MarkedViews
 pub mod Names
 pub mod Lookups
+pub mod RisingTexts
 pub mod Puts
 pub mod NumberSets
 pub mod RisingSearch
@@ -13,6 +14,7 @@ pub mod MarkedWalks
 pub mod Finds
 pub mod Remarks
 pub mod PrunedSame
+pub mod StrippedSame
 pub mod MarkSame
 pub mod StepOrder
 pub mod PathOrder

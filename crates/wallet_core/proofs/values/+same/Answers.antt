@@ -8,7 +8,8 @@ use Rattle.marked_tree.specs.MarkedCalls.{marked_elements_len, marked_members_le
 use Rattle.marked_tree.specs.Marked.{MarkedElements, MarkedMembers, strip, strip_elements, strip_members}
 use Rattle.marked_tree.specs.View.{marked_of, marked_elements_of, marked_members_of}
 use Rattle.marked_tree.proofs.MarkedViews.{Element, Entry}
-use Rattle.wallet_core.proofs.Sames.{turn_same, turn_same_members, all_same, all_same_members, differs_there, differs_there_members, lists_differ, objects_differ, elements_stripped_len, members_stripped_len, element_falls, member_falls, is_not, is_so, named_same, named_other}
+use Rattle.marked_tree.proofs.StrippedSame.{turn_same, turn_same_members, all_same, all_same_members, differs_there, differs_there_members, lists_differ, objects_differ, elements_stripped_len, members_stripped_len, element_falls, member_falls}
+use Rattle.wallet_core.proofs.Sames.{is_not, is_so, named_same, named_other}
 use Rattle.wallet_core.proofs.values.+same.Goals as goal
 use Rattle.wallet_core.proofs.values.+same.Goals.{have_same-then-ne-via-then-ne, have_same-then-ne-via-else-ne+then-not-is_same}
 

@@ -2,7 +2,7 @@ use Rattle.std.proofs.Common.{◌+◌, ◌*◌}
 use Rattle.claim_tree.specs.Nodes.{nodes, elements_nodes, members_nodes}
 use Rattle.marked_tree.specs.Marked.{strip, strip_elements, strip_members}
 use Rattle.marked_tree.specs.View.{marked_of}
-use Rattle.wallet_core.proofs.Sames.{SameTo, SameMembersTo}
+use Rattle.marked_tree.proofs.StrippedSame.{SameTo, SameMembersTo}
 use Rattle.wallet_core.proofs.values.+same.Given as goal
 
 abbrev pub decreases-is_same : goal.decreases-is_same
