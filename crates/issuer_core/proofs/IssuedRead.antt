@@ -14,6 +14,7 @@ use Rattle.claim_tree.proofs.TreeTexts.{HasTexts, json_utf8}
 use Rattle.compact_form.specs.declared.parts.Parts.{Parts}
 use Rattle.digest_sites.specs.Given.{Given}
 use Rattle.digest_sites.specs.Reserved.{sd_name, sd_texts}
+use Rattle.digest_sites.proofs.OneGiven.{one_given}
 use Rattle.disclosure.specs.Digest.{digest_of, hash_of, payload_hash}
 use Rattle.disclosure.specs.Disclosure.{array_of}
 use Rattle.disclosure.specs.declared.digests.HashAlg.{HashAlg}
@@ -85,13 +86,6 @@ made_digests made digest k (x ∷ g) each =
     ap₂ (λ (a : Text) (b : List Text). a ∷ b)
     (let e : k + 0 ≡ k = omega arith in each 0 x refl ∙ ap (λ (n : ℕ). digest (made n x.name x.value)) e)
     (made_digests made digest (suc k) g (λ i y a. let e : k + suc i ≡ suc k + i = omega arith in each (suc i) y a ∙ ap (λ (n : ℕ). digest (made n y.name y.value)) e))
-
-abbrev given_as : Text → Option Text → Tree → Given
-given_as digest name value = record { digest = digest; name = name; value = value }
-
-one_given : (x y : Given) → x.digest ≡ y.digest → x.name ≡ y.name → x.value ≡ y.value → x ≡ y
-one_given x y d n v =
-    ap (λ (a : Text). given_as a x.name x.value) d ∙ (ap (λ (a : Option Text). given_as y.digest a x.value) n ∙ ap (λ (a : Tree). given_as y.digest y.name a) v)
 
 -- the parts are read as this payload and these disclosures with this hash, or not at all
 pub record IsReadOnlyAs (hash_is : HashAlg) (parts : Parts) (p : Tree) (g : List Given) : Type 0 where
