@@ -12,6 +12,7 @@ use Rattle.issuer_core.specs.Digests.{digests_from}
 use Rattle.issuer_core.specs.GoodOrder.{HoldsOthers}
 use Rattle.issuer_core.specs.ShortLists.{HasShortLists}
 use Rattle.claim_tree.proofs.Lists.{bytes_refl, bytes_same}
+use Rattle.claim_tree.proofs.Positions.{unequal}
 use Rattle.marked_tree.proofs.Puts.{IsBeforeAll-not_in}
 use Rattle.marked_tree.proofs.Sums.{sum_of, sum_of-append}
 
@@ -84,18 +85,10 @@ other_elements f d k r i (element t es) h =
 other_members : (f : Text → ℕ) (d k : Text) (r : Path) (ms : Members) → (In k (names ms) → ⊥) → members_decoy_sum f (λ q. one_at d (k ∷ r) q) ms ≡ 0
 other_members f d k r no_members h = refl
 other_members f d k r (member l t ms) h =
-    omega (arith, other_step f d k l r t (differs (bytes_eq k l) refl), other_members f d k r ms (λ m. h (inr m)))
-  where
-    differs : (b : Bool) → bytes_eq k l ≡ b → bytes_eq k l ≡ false
-    differs true e = absurd (h (inl (bytes_same k l e)))
-    differs false e = e
+    omega (arith, other_step f d k l r t (unequal k l (λ e. h (inl e))), other_members f d k r ms (λ m. h (inr m)))
 
 decimal_differs : (i j : ℕ) (k : Text) → i < j → j < 2 ^ 64 → bytes_eq k (decimal i) ≡ true → bytes_eq k (decimal j) ≡ false
-decimal_differs i j k l b e = go (bytes_eq k (decimal j)) refl
-  where
-    go : (c : Bool) → bytes_eq k (decimal j) ≡ c → bytes_eq k (decimal j) ≡ false
-    go true q = absurd (omega (arith, l, decimal_injective i j (omega (arith, l, b)) b (sym (bytes_same k (decimal i) e) ∙ bytes_same k (decimal j) q)))
-    go false q = q
+decimal_differs i j k l b e = unequal k (decimal j) (λ q. absurd (omega (arith, l, decimal_injective i j (omega (arith, l, b)) b (sym (bytes_same k (decimal i) e) ∙ q))))
 
 root_elements : (f : Text → ℕ) (d : Text) (i : ℕ) (es : Elements) → elements_decoy_sum f (λ q. one_at d [] q) i es ≡ 0
 root_elements f d i no_elements = refl
@@ -106,11 +99,7 @@ root_members f d no_members = refl
 root_members f d (member k t ms) = omega (arith, none_sum f t, root_members f d ms)
 
 turned_differs : (a b : Text) → bytes_eq a b ≡ false → bytes_eq b a ≡ false
-turned_differs a b e = go (bytes_eq b a) refl
-  where
-    go : (c : Bool) → bytes_eq b a ≡ c → bytes_eq b a ≡ false
-    go true q = let t : bytes_eq a b ≡ true = bytes_refl a b (sym (bytes_same b a q)) in cc
-    go false q = q
+turned_differs a b e = unequal b a (λ q. let clash : true ≡ false = sym (bytes_refl a b (sym q)) ∙ e in cc clash)
 
 turned_same : (a b : Text) → bytes_eq a b ≡ true → bytes_eq b a ≡ true
 turned_same a b e = bytes_refl b a (sym (bytes_same a b e))
