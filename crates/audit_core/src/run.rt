@@ -11,7 +11,7 @@ ghost use Rattle.audit_core.specs.AuditRun.{AuditAnswers, AuditEnds, AuditsFiles
 
 use crate::auditing::audit_owned;
 use crate::{AuditError, refusal_line};
-use cli_parts::{FETCH_MAX, Stop, as_line, fetch_file, finish, tell, unreadable};
+use cli_parts::{FETCH_MAX, Stop, as_line, fetch_file, finish, readable, tell};
 use digest_index::Steps;
 use hmac_sign::Signer;
 use issuer_core::{IssueFile, read_order};
@@ -38,10 +38,8 @@ pub fn audit_files(alloc: Global, order_file: &[u8], token_file: &[u8]) -> Resul
     ensures replies { IsReply (AuditAnswers order_file.now token_file.now) result }
     ensures read { IfErr result (λ stop. OnUnread stop (λ _. ⊥)) }
 {
-    match read_order(alloc, order_file) {
-        Ok(asked) => audit_for(alloc, asked, token_file),
-        Err(fault) => Err(unreadable(alloc, fault)),
-    }
+    let asked = readable(alloc, read_order(alloc, order_file))?;
+    audit_for(alloc, asked, token_file)
 }
 
 // The answer over the files that the cabinet has under these names.

@@ -13,5 +13,5 @@ pub use files::{FETCH_MAX, fetch_file};
 pub use host::{Ending, exit_code, seconds, words};
 pub use lines::{as_line, refusal_line, short_seed_line, unreadable_line};
 pub use policy_file::policy_of;
-pub use stop::{Stop, readable, refused, unreadable};
+pub use stop::{Stop, readable, refused};
 pub use telling::{finish, tell, tell_stop};

@@ -45,8 +45,8 @@ pub fn refused(alloc: Global, fault: &Fault) -> Stop
     }
 }
 
-/// The first file of a command is not of its form: its line, where there is memory for it.
-pub fn unreadable(alloc: Global, fault: FileFault) -> Stop
+// The first file of a command is not of its form: its line, where there is memory for it.
+fn unreadable(alloc: Global, fault: FileFault) -> Stop
     ensures cause { OnUnreadable result (λ _. fault ≢ FileFault.Memory) }
     ensures line { OnUnreadable result (λ text. text ≡ line_of 1 fault) }
     ensures fit { OnRefused result (λ _. ⊥) }
