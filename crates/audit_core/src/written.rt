@@ -9,7 +9,7 @@ ghost use Rattle.rebuild_core.specs.Answer.{IsPayload, ValuesShallow};
 ghost use Rattle.audit_core.specs.Audited.{IsWrittenAs, GivesSalted};
 ghost use Rattle.audit_core.specs.AuditSteps.{NamesHash, IsUnsalted, HasUnsalted, IsOtherPayload, IsWrittenWith};
 
-use crate::compact::CompactReader;
+use crate::json_parts::JsonPartReader;
 use claim_tree::{Tree, get};
 use digest_index::seed_of;
 use digest_sites::{Given, GivenList};
@@ -31,7 +31,7 @@ pub(crate) struct Written {
 fn read_one(
     alloc: Global,
     hash: HashAlg,
-    reader: &mut CompactReader,
+    reader: &mut JsonPartReader,
     text: &str,
 ) -> Result<Option<Given>, NoMemory>
     ensures some { IfOk result (λ given. IfSome given (λ g. GivesSalted hash text.now (given_of g))) }
@@ -53,7 +53,7 @@ fn read_given(
     alloc: Global,
     hash: HashAlg,
     count: usize,
-    reader: &mut CompactReader,
+    reader: &mut JsonPartReader,
     disclosures: Disclosures<'_>,
 ) -> Result<Option<GivenList>, NoMemory>
     ensures some { IfOk result (λ read. IfSome read (AllZip (GivesSalted hash) disclosures.entry)) }
@@ -84,7 +84,7 @@ fn names_hash(body: &Tree, hash: HashAlg) -> bool
 fn read_payload(
     alloc: Global,
     hash: HashAlg,
-    reader: &mut CompactReader,
+    reader: &mut JsonPartReader,
     part: &str,
 ) -> Result<Option<Tree>, NoMemory>
     ensures some { IfOk result (λ read. IfSome read (λ body. IsWrittenAs part.now (tree_of body))) }
@@ -120,7 +120,7 @@ pub(crate) fn read_written(
     if count != hidden as usize {
         return Ok(None);
     }
-    let mut reader = CompactReader::new(alloc);
+    let mut reader = JsonPartReader::new(alloc);
     let signed = token.signed();
     let Some(body) = read_payload(alloc, hash, &mut reader, signed.payload)? else {
         return Ok(None);

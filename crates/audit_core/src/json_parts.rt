@@ -17,7 +17,7 @@ use std::alloc::Global;
 
 // What reads such parts, all in the same memory.
 #[derive(Drop)]
-pub(crate) struct CompactReader {
+pub(crate) struct JsonPartReader {
     json: JsonReader,
     // What a part is decoded to.
     room: Vec<u8>,
@@ -48,9 +48,9 @@ fn is_text_of(alloc: Global, json: &[u8], tree: &Tree) -> Result<bool, NoMemory>
     Ok(json == written.as_str().as_bytes())
 }
 
-impl CompactReader {
-    pub(crate) fn new(alloc: Global) -> CompactReader {
-        CompactReader {
+impl JsonPartReader {
+    pub(crate) fn new(alloc: Global) -> JsonPartReader {
+        JsonPartReader {
             json: JsonReader::new(alloc),
             room: Vec::new(alloc),
         }

@@ -2,7 +2,7 @@ use Rattle.std.proofs.Common.{sym, ap, take, ◌∙◌}
 use Rattle.std.proofs.lemmas.Bool.{true≢false}
 use Rattle.claim_tree.specs.View.{tree_of}
 use Rattle.audit_core.proofs.Unwritten.{unread_unwritten, other_unwritten}
-use Rattle.audit_core.proofs.compact.CompactReader.read.Goals as goal
+use Rattle.audit_core.proofs.json_parts.JsonPartReader.read.Goals as goal
 
 pub returns-in_default-error : goal.returns-in_default-error
 returns-in_default-error c =

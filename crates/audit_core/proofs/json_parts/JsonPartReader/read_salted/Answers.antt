@@ -5,7 +5,7 @@ use Rattle.claim_tree.specs.ListTails.{ReadsTail}
 use Rattle.claim_tree.specs.View.{tree_of}
 use Rattle.audit_core.proofs.Unwritten.{unread_unwritten}
 use Rattle.audit_core.proofs.Writtens.{one_salted, no_array_unsalted}
-use Rattle.audit_core.proofs.compact.CompactReader.read_salted.Goals as goal
+use Rattle.audit_core.proofs.json_parts.JsonPartReader.read_salted.Goals as goal
 
 pub returns-in_default-error : goal.returns-in_default-error
 returns-in_default-error c =
