@@ -1,12 +1,12 @@
 -- The digests of what is issued that are of no disclosure stand where the order has its decoys.
-use Rattle.std.proofs.Common.{◌≡◌, ℕ, zero, suc, ◌+◌, ◌≤◌, List, [], ◌∷◌, ◌++◌, map, Bool, true, false, cond, not, filter, ⊎_elim, Option, Some, None, refl, sym, ap, ap₂, ◌∙◌, subst, arith}
+use Rattle.std.proofs.Common.{◌≡◌, ℕ, zero, suc, ◌+◌, ◌≤◌, List, [], ◌∷◌, ◌++◌, map, length, Bool, true, false, cond, not, filter, ⊎_elim, Option, Some, None, refl, sym, ap, ap₂, ◌∙◌, subst, arith}
 use Rattle.std.specs.Prelude.{bytes_eq}
 use Rattle.std.specs.List.{count_by}
 use Rattle.std.proofs.lemmas.List.Sums.{sum_by-cons}
 use Rattle.claim_tree.specs.Lists.{StandsAt, In}
 use Rattle.claim_tree.specs.Path.{tree_at}
 use Rattle.claim_tree.specs.Tree.{Text, Tree, leaf, array, object}
-use Rattle.claim_tree.proofs.Lists.{At-In, bytes_same, false_unless_true}
+use Rattle.claim_tree.proofs.Lists.{At-In, At-below, bytes_same, false_unless_true}
 use Rattle.digest_sites.specs.Given.{Given}
 use Rattle.digest_sites.specs.declared.site.SiteKind.{SiteKind}
 use Rattle.marked_tree.specs.Marked.{Marked}
@@ -20,6 +20,7 @@ use Rattle.issuer_core.specs.Order.{Order}
 use Rattle.issuer_core.specs.Seed.{maker_of}
 use Rattle.issuer_core.proofs.DecoyPlaces.{held_at}
 use Rattle.issuer_core.proofs.IssuedForgery.{is_there}
+use Rattle.issuer_core.proofs.NumberedDigests.{digest_stands}
 use Rattle.issuer_core.proofs.IssuedSound.{once_at_most, there_once, there_twice}
 use Rattle.audit_core.specs.Audited.{is_given, Standing, standing, decoy_standing, standings_from, same_standing, HasDecoys}
 use Rattle.audit_core.proofs.Founds.{in_filter}
@@ -58,13 +59,6 @@ module _ (is : Text → Bool) where
 
 -- ---- sites and decoys with the same digests
 
-digest_at : (f : ℕ → Text) (k : ℕ) (places : List Path) (j : ℕ) (at : Path) → StandsAt places j at → StandsAt (digests_from f k places) j (f (k + j))
-digest_at f k (place ∷ places) zero at a = let e : k + 0 ≡ k = omega arith in ap f e
-digest_at f k (place ∷ places) (suc j) at a =
-    let e : suc k + j ≡ k + suc j = omega arith in
-    subst (λ i. StandsAt (digests_from f (suc k) places) j (f i)) e (digest_at f (suc k) places j at a)
-digest_at f k [] j at a = absurd a
-
 occurs_site : (e : Text) (x : OwnedSite) (us vs : List OwnedSite) → occurs e (owned_digests (us ++ x ∷ vs)) ≡ cond (bytes_eq x.site.digest e) 1 0 + occurs e (owned_digests (us ++ vs))
 occurs_site e x [] vs = refl
 occurs_site e x (u ∷ us) vs = omega (arith, occurs_site e x us vs)
@@ -85,7 +79,7 @@ module _ (f : ℕ → Text) (claims : Tree) (all : List Path) (st : OwnedSite �
     stands : st x ∷ [] ≡ decoy_standing at (earlier d at all) (tree_at claims at)
 
   -- sites that have the digests of decoys, each once, stand where these do
-  matched : (k d : ℕ) (places : List Path) (xs : List OwnedSite) → ((e : Text) → occurs e (owned_digests xs) ≡ occurs e (digests_from f k places)) → ((e : Text) → occurs e (digests_from f k places) ≤ 1)
+  matched : (k d : ℕ) (places : List Path) (xs : List OwnedSite) → ((e : Text) → occurs e (owned_digests xs) ≡ occurs e (digests_from f k (length places))) → ((e : Text) → occurs e (digests_from f k (length places)) ≤ 1)
       → ((j : ℕ) (at : Path) → StandsAt places j at → IsPlaced xs (k + j) (d + j) at) → count_by test (map st xs) ≡ count_by test (standings_from claims all d places)
   matched k d [] [] same once placed = refl
   matched k d [] (x ∷ xs) same once placed = absurd (omega (arith, same x.site.digest, there_once x.site.digest (owned_digests (x ∷ xs)) 0 refl))
@@ -94,29 +88,29 @@ module _ (f : ℕ → Text) (claims : Tree) (all : List Path) (st : OwnedSite �
       let i : d + 0 ≡ d = omega arith in
       let h = subst (λ n. IsPlaced xs n d at) e (subst (λ n. IsPlaced xs (k + 0) n at) i (placed 0 at refl)) in
       let w = splits h.x xs h.there in
-      without h w.0 w.1 w.2 (λ ys fewer left. matched (suc k) (suc d) places ys fewer (λ z. omega (arith, once z)) left)
+      without h w.0 w.1 w.2 (λ ys fewer left. matched (k + 1) (suc d) places ys fewer (λ z. omega (arith, once z)) left)
     where
       -- each later decoy has its site among the others
-      later : (h : IsPlaced xs k d at) (us vs : List OwnedSite) → xs ≡ us ++ h.x ∷ vs → (j : ℕ) (place : Path) → StandsAt places j place → IsPlaced (us ++ vs) (suc k + j) (suc d + j) place
+      later : (h : IsPlaced xs k d at) (us vs : List OwnedSite) → xs ≡ us ++ h.x ∷ vs → (j : ℕ) (place : Path) → StandsAt places j place → IsPlaced (us ++ vs) (k + 1 + j) (suc d + j) place
       later h us vs split j place a =
-          let e : k + suc j ≡ suc k + j = omega arith in
+          let e : k + suc j ≡ k + 1 + j = omega arith in
           let i : d + suc j ≡ suc d + j = omega arith in
           let l = subst (λ n. IsPlaced xs n (suc d + j) place) e (subst (λ n. IsPlaced xs (k + suc j) n place) i (placed (suc j) place a)) in
           let there : In l.x (us ++ vs) =
           ⊎_elim
           (λ same_site.
-          let again : f (suc k + j) ≡ f k = sym l.digest ∙ (ap (λ (z : OwnedSite). z.site.digest) same_site ∙ h.digest) in
-          let stands = subst (λ (t : Text). StandsAt (digests_from f (suc k) places) j t) again (digest_at f (suc k) places j place a) in
-          absurd (omega (arith, once (f k), there_twice (f k) (digests_from f k (at ∷ places)) 0 (suc j) (omega arith) refl stands)))
+          let again : f (k + 1 + j) ≡ f k = sym l.digest ∙ (ap (λ (z : OwnedSite). z.site.digest) same_site ∙ h.digest) in
+          let stands = subst (λ (t : Text). StandsAt (digests_from f (k + 1) (length places)) j t) again (digest_stands f (k + 1) (length places) j (k + 1 + j) (At-below places j place a) refl) in
+          absurd (omega (arith, once (f k), there_twice (f k) (digests_from f k (suc (length places))) 0 (suc j) (omega arith) refl stands)))
           (λ m. m) (in_rest h.x l.x us vs (subst (λ (zs : List OwnedSite). In l.x zs) split l.there)) in
           record { x = l.x; there = there; digest = l.digest; stands = l.stands }
 
       without : (h : IsPlaced xs k d at) (us vs : List OwnedSite) → xs ≡ us ++ h.x ∷ vs
-          → ((ys : List OwnedSite) → ((z : Text) → occurs z (owned_digests ys) ≡ occurs z (digests_from f (suc k) places)) → ((j : ℕ) (place : Path) → StandsAt places j place → IsPlaced ys (suc k + j) (suc d + j) place)
+          → ((ys : List OwnedSite) → ((z : Text) → occurs z (owned_digests ys) ≡ occurs z (digests_from f (k + 1) (length places))) → ((j : ℕ) (place : Path) → StandsAt places j place → IsPlaced ys (k + 1 + j) (suc d + j) place)
           → count_by test (map st ys) ≡ count_by test (standings_from claims all (suc d) places))
           → count_by test (map st xs) ≡ count_by test (standings_from claims all d (at ∷ places))
       without h us vs split goes =
-          let fewer : (z : Text) → occurs z (owned_digests (us ++ vs)) ≡ occurs z (digests_from f (suc k) places) = λ z.
+          let fewer : (z : Text) → occurs z (owned_digests (us ++ vs)) ≡ occurs z (digests_from f (k + 1) (length places)) = λ z.
           omega (arith, same z, ap (λ (ys : List OwnedSite). occurs z (owned_digests ys)) split, occurs_site z h.x us vs, ap {B = ℕ} (λ (t : Text). cond (bytes_eq t z) 1 0) h.digest) in
           let rest = goes (us ++ vs) fewer (later h us vs split) in
           subst (λ (s : List Standing). count_by test (map st xs) ≡ count_by test (s ++ standings_from claims all (suc d) places)) h.stands
@@ -165,7 +159,7 @@ module _ (seed : List ℕ) (o : Order) (p : Tree) (g : List Given) (fine : IsGoo
       let w = issued.decoys j at a in
       let x = w.0 in
       let decoy : 1 ≤ occurs x.site.digest (decoy_digests (maker_of seed) o) = there_once x.site.digest (decoy_digests (maker_of seed) o) j
-      (subst (λ (t : Text). StandsAt (decoy_digests (maker_of seed) o) j t) (sym w.2) (digest_at number (hidden_of o) (decoys_of o) j at a)) in
+      (subst (λ (t : Text). StandsAt (decoy_digests (maker_of seed) o) j t) (sym w.2) (digest_stands number (hidden_of o) (length (decoys_of o)) j (hidden_of o + j) (At-below (decoys_of o) j at a) refl)) in
       let out : is_given g x.site.digest ≡ false = false_unless_true (is_given g x.site.digest)
       (λ q. absurd (omega (arith, once x.site.digest, both x.site.digest, decoy, there_some x.site.digest (given_digests g) (given_there g x.site.digest q)))) in
       record {

@@ -1,10 +1,12 @@
 -- The digests of what is issued: those of its disclosures and those of its decoys, each once.
 use Rattle.std.proofs.Common.{◌≡◌, ℕ, suc, ◌+◌, ◌≤◌, List, [], ◌∷◌, ◌++◌, length, true, false, cond, ◌⊎◌, inl, inr, ⊎_elim, refl, sym, ap, ◌∙◌, subst, arith}
 use Rattle.std.specs.Prelude.{bytes_eq}
+use Rattle.std.specs.List.{range_with_len}
 use Rattle.std.proofs.lemmas.List.{length-append, length-map}
+use Rattle.std.proofs.lemmas.List.FromFn.{length-map-range_with_len}
 use Rattle.claim_tree.specs.Lists.{In}
 use Rattle.claim_tree.specs.Tree.{Text, Tree}
-use Rattle.claim_tree.proofs.Lists.{In-At, In-append, In-left, bytes_refl, bytes_same, list_any-from, list_any-In}
+use Rattle.claim_tree.proofs.Lists.{In-At, In-append, In-left, In-of_map, bytes_refl, bytes_same, list_any-from, list_any-In}
 use Rattle.digest_sites.specs.Given.{Given}
 use Rattle.rebuild_core.specs.Reached.{given_digests, all_digests}
 use Rattle.issuer_core.specs.Decoys.{decoys_of}
@@ -15,8 +17,6 @@ use Rattle.issuer_core.specs.Order.{Order}
 use Rattle.issuer_core.specs.Salts.{salt_of}
 use Rattle.issuer_core.specs.Seed.{maker_of}
 use Rattle.issuer_core.proofs.IssuedForgery.{digest_issued, is_there}
-use Rattle.issuer_core.proofs.IssuedRead.{from_number}
-use Rattle.issuer_core.proofs.LaidIssued.{length-digests_from}
 use Rattle.issuer_core.proofs.IssuedSound.{same_occurrences, there_once}
 use Rattle.audit_core.specs.Audited.{IsDigestText, is_given, HasDigests}
 use Rattle.audit_core.proofs.IssuedHashes.{digest_formed}
@@ -78,7 +78,7 @@ module _ (seed : List ℕ) (o : Order) (p : Tree) (g : List Given) (fine : IsGoo
         length-append ds es,
         length-map g (λ (x : Given). x.digest),
         issued.count,
-        length-digests_from (λ k. (maker_of seed).digest o.hash ((maker_of seed).piece k)) (hidden_of o) (decoys_of o),
+        length-map-range_with_len (λ k. (maker_of seed).digest o.hash ((maker_of seed).piece k)) (hidden_of o) (length (decoys_of o)),
       )
 
   formed : (d : Text) → In d (all_digests p g) → is_given g d ≡ false → IsDigestText o.hash d
@@ -86,8 +86,8 @@ module _ (seed : List ℕ) (o : Order) (p : Tree) (g : List Given) (fine : IsGoo
       ⊎_elim
       (λ a. let is = given_some g d a in let clash : true ≡ false = sym is ∙ out in cc clash)
       (λ b.
-      let w = from_number (λ k. (maker_of seed).digest o.hash ((maker_of seed).piece k)) (hidden_of o) (decoys_of o) d b in
-      subst (IsDigestText o.hash) (sym w.1) (digest_formed o.hash (salt_of seed w.0)))
+      let w = In-of_map (λ k. (maker_of seed).digest o.hash ((maker_of seed).piece k)) d (range_with_len (hidden_of o) (length (decoys_of o))) b in
+      subst (IsDigestText o.hash) (sym w.2) (digest_formed o.hash (salt_of seed w.0)))
       (In-append d (given_digests g) (decoy_digests (maker_of seed) o) (digest_issued (maker_of seed) o p g fine issued d m))
 
   pub has_digests : HasDigests o p g

@@ -1,5 +1,5 @@
 -- Each decoy is laid once: its place is one object or list.
-use Rattle.std.proofs.Common.{◌≡◌, ℕ, suc, ◌+◌, ◌<◌, ◌≤◌, ◌^◌, List, [], ◌∷◌, ◌++◌, Bool, Some, ap, arith, cond, decimal, false, inl, inr, refl, subst, sym, true, ◌&&◌, ◌∙◌}
+use Rattle.std.proofs.Common.{◌≡◌, ℕ, suc, ◌+◌, ◌<◌, ◌≤◌, ◌^◌, List, [], ◌∷◌, ◌++◌, length, Bool, Some, ap, arith, cond, decimal, false, inl, inr, refl, subst, sym, true, ◌&&◌, ◌∙◌}
 use Rattle.std.proofs.lemmas.Fmt.{decimal_injective}
 use Rattle.std.specs.Prelude.{bytes_eq, option_and_then}
 use Rattle.claim_tree.specs.Everywhere.{InElements, InMembers}
@@ -147,7 +147,7 @@ mutual
       go false e h here rest = omega (arith, other_step f d k l r t (turned_differs l k e), rest h)
 
 pub decoys_sum : (f : Text → ℕ) (dg : ℕ → Text) (k : ℕ) (ps : List Path) (t : Tree) → IsOrdered t → HasShortLists t → ((q : Path) → In q ps → HoldsOthers (tree_at t q))
-    → decoy_sum f (decoys_at dg k ps) t ≡ sum_of f (digests_from dg k ps)
+    → decoy_sum f (decoys_at dg k ps) t ≡ sum_of f (digests_from dg k (length ps))
 decoys_sum f dg k [] t o n h = none_sum f t
 decoys_sum f dg k (r ∷ ps) t o n h =
-    omega (arith, join_sum f (λ q. one_at (dg k) r q) (decoys_at dg (suc k) ps) t, one_sum f (dg k) r t o n (h r (inl refl)), decoys_sum f dg (suc k) ps t o n (λ q m. h q (inr m)))
+    omega (arith, join_sum f (λ q. one_at (dg k) r q) (decoys_at dg (suc k) ps) t, one_sum f (dg k) r t o n (h r (inl refl)), decoys_sum f dg (suc k) ps t o n (λ q m. h q (inr m)), ap (λ i. sum_of f (digests_from dg i (length ps))) (let e : k + 1 ≡ suc k = omega arith in e))

@@ -1,5 +1,5 @@
 -- From what is laid and signed to what is issued, and why it is not.
-use Rattle.std.proofs.Common.{◌≡◌, ℕ, zero, suc, ◌+◌, ◌<◌, ◌≤◌, List, [], ◌∷◌, None, Option, Some, ap₂, arith, length, refl, subst, sym, ⊎_elim, ◌∙◌, IfSome}
+use Rattle.std.proofs.Common.{◌≡◌, ℕ, suc, ◌+◌, ◌≤◌, List, [], ◌∷◌, None, Option, Some, arith, length, subst, sym, ⊎_elim, ◌∙◌, IfSome}
 use Rattle.std.specs.List.{AllByRecursion}
 use Rattle.b64url_text.specs.Base64url.{IsWord, b64}
 use Rattle.b64url_text.proofs.Codes.{IsWord-b64}
@@ -24,7 +24,7 @@ use Rattle.issuer_core.specs.Order.{Order}
 use Rattle.issuer_core.specs.Decoys.{decoys_of}
 use Rattle.issuer_core.specs.GoodOrder.{IsGoodOrder, FitsMachine, IsObject}
 use Rattle.issuer_core.specs.ShortLists.{HasShortLists}
-use Rattle.issuer_core.specs.Digests.{Maker, hidden_of, made_texts}
+use Rattle.issuer_core.specs.Digests.{Maker, hidden_of, made_texts, digests_from}
 use Rattle.issuer_core.specs.IssueCalls.{AllDiffer, IsToBeSigned, IsNotIssued}
 use Rattle.issuer_core.specs.Laying.{IsLaidFor}
 use Rattle.issuer_core.specs.Laid.{IsLaid, with_alg}
@@ -36,31 +36,23 @@ use Rattle.issuer_core.specs.JudgeCalls.{IsOrderRefused}
 use Rattle.issuer_core.specs.Salts.{salt_of}
 use Rattle.issuer_core.specs.Seed.{maker_of}
 use Rattle.issuer_core.specs.Written.{header_of, IsWritten, IsIssued, IsLaidOut}
-use Rattle.issuer_core.specs.Issue.{first_digests, laid_digests, ClashesAt, IsIssueTooLong, AppliesToIssue}
+use Rattle.issuer_core.specs.Issue.{laid_digests, ClashesAt, IsIssueTooLong, AppliesToIssue}
 use Rattle.issuer_core.specs.IssueSteps.{AreSigned, IsUnsigned, HasClash, IsFinished, IsOverlong, IsUnfinished}
 use Rattle.issuer_core.proofs.LaidDecoys.{laid_is_issued_holds}
 use Rattle.issuer_core.proofs.Judged.{good_order}
+use Rattle.issuer_core.proofs.NumberedDigests.{digest_stands, are_numbered, numbered_same}
 use Rattle.issuer_core.proofs.OneLaid.{one_digest}
 use Rattle.issuer_core.proofs.ReservedPlaces.{held_short}
 use Rattle.issuer_core.proofs.WithAlg.{payload_object}
 
 -- ---- the digests as a list
 
-first_at : (dg : ℕ → Text) (n i : ℕ) → i < n → StandsAt (first_digests dg n) i (dg i)
-first_at dg zero i l = absurd (omega (arith, l))
-first_at dg (suc n) zero l = refl
-first_at dg (suc n) (suc i) l = first_at (λ k. dg (suc k)) n i (omega (arith, l))
-
-pub all_differ : (dg : ℕ → Text) (n : ℕ) → AtNone (Repeats (first_digests dg n)) → AllDiffer dg n
+pub all_differ : (dg : ℕ → Text) (n : ℕ) → AtNone (Repeats (digests_from dg 0 n)) → AllDiffer dg n
 all_differ dg n none i j less low same =
-    none j (dg i, subst (λ d. StandsAt (first_digests dg n) j d) (sym same) (first_at dg n j low), i, less, first_at dg n i (omega (arith, less, low)))
-
-first_same : (dg dh : ℕ → Text) (n : ℕ) → ((k : ℕ) → k < n → dg k ≡ dh k) → first_digests dg n ≡ first_digests dh n
-first_same dg dh zero e = refl
-first_same dg dh (suc n) e = ap₂ (λ (d : Text) (ds : List Text). d ∷ ds) (e 0 (omega arith)) (first_same (λ k. dg (suc k)) (λ k. dh (suc k)) n (λ k l. e (suc k) (omega (arith, l))))
+    none j (dg i, subst (λ d. StandsAt (digests_from dg 0 n) j d) (sym same) (digest_stands dg 0 n j j low (omega arith)), i, less, digest_stands dg 0 n i i (omega (arith, less, low)) (omega arith))
 
 pub one_list : (maker : Maker) (o : Order) (p q : Tree) (g h : List Given) (dg dh : ℕ → Text) → IsLaid maker o p g dg → IsLaid maker o q h dh → laid_digests o dg ≡ laid_digests o dh
-one_list maker o p q g h dg dh one other = first_same dg dh (hidden_of o + length (decoys_of o)) (one_digest maker o p q g h dg dh one other)
+one_list maker o p q g h dg dh one other = numbered_same dg dh 0 (hidden_of o + length (decoys_of o)) (λ i l. one_digest maker o p q g h dg dh one other (0 + i) (omega (arith, l)))
 
 -- ---- refusals
 
@@ -189,14 +181,8 @@ pub parts_are_issued_holds : (alg : Alg) (good : Meaning) → PartsAreIssued alg
 parts_are_issued_holds alg good maker o parts none ordered ranged short out differ =
     laid_out_issued maker o alg good parts (good_order o (λ error h. absurd (none error h)) ordered) ranged short out differ
 
-list_is : (ds : List Text) (dg : ℕ → Text) (n : ℕ) → length ds ≡ n → ((k : ℕ) (d : Text) → StandsAt ds k d → d ≡ dg k) → ds ≡ first_digests dg n
-list_is [] dg zero e each = refl
-list_is [] dg (suc n) e each = absurd (omega (arith, e))
-list_is (d ∷ ds) dg zero e each = absurd (omega (arith, e))
-list_is (d ∷ ds) dg (suc n) e each = ap₂ (λ (x : Text) (xs : List Text). x ∷ xs) (each 0 d refl) (list_is ds (λ k. dg (suc k)) n (omega (arith, e)) (λ k x a. each (suc k) x a))
-
 digests_are : (seed : List ℕ) (o : Order) (body : Tree) (texts digests : List Text) (laid : IsLaidFor (maker_of seed) o body texts digests) → digests ≡ laid_digests o laid.dg
-digests_are seed o body texts digests laid = list_is digests laid.dg (hidden_of o + length (decoys_of o)) laid.count laid.each
+digests_are seed o body texts digests laid = are_numbered digests laid.dg 0 (hidden_of o + length (decoys_of o)) laid.count (λ k d a. laid.each k d a ∙ ap laid.dg (omega arith))
 
 module _ (seed : List ℕ) (o : Order) (body : Tree) (texts digests : List Text) (laid : IsLaidFor (maker_of seed) o body texts digests) where
   pub clash_at : (i j : ℕ) → IsFirstClash digests i j → ClashesAt (maker_of seed) o i j

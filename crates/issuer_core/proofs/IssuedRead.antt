@@ -1,6 +1,7 @@
 -- What is written of an issued token is read as what was issued, or not at all.
-use Rattle.std.proofs.Common.{◌≡◌, ℕ, zero, suc, ◌+◌, List, [], ◌∷◌, map, length, Bool, true, false, inl, inr, ⊎_elim, Option, Some, None, IfSome, IsUtf8, refl, sym, ap, ap₂, ◌∙◌, subst, arith}
+use Rattle.std.proofs.Common.{◌≡◌, ℕ, zero, suc, ◌+◌, List, [], ◌∷◌, map, length, Bool, true, false, ⊎_elim, Option, Some, None, IfSome, IsUtf8, refl, sym, ap, ap₂, ◌∙◌, subst, arith}
 use Rattle.std.specs.Prelude.{bytes_eq, if◌then◌else◌}
+use Rattle.std.specs.List.{range_with_len}
 use Rattle.b64url_text.specs.Base64url.{Decodes}
 use Rattle.b64url_text.proofs.Codes.{one_code}
 use Rattle.b64url_text.proofs.Texts.{AreBytes-text, b64_utf8}
@@ -38,7 +39,7 @@ use Rattle.rebuild_core.proofs.Presented.{one_node_holds}
 use Rattle.rebuild_core.proofs.ShownAt.{shows_free}
 use Rattle.rebuild_core.proofs.Forgery.{payload_digest, value_digest}
 use Rattle.issuer_core.specs.Decoys.{decoys_of}
-use Rattle.issuer_core.specs.Digests.{marked_claims, hidden_of, made_texts, digests_from, decoy_digests, issued_digests}
+use Rattle.issuer_core.specs.Digests.{marked_claims, hidden_of, made_texts, decoy_digests, issued_digests}
 use Rattle.issuer_core.specs.GoodOrder.{IsObject, IsGoodOrder, FitsMachine}
 use Rattle.issuer_core.specs.Issued.{IsIssuedFor}
 use Rattle.issuer_core.specs.Laid.{with_alg}
@@ -52,13 +53,7 @@ use Rattle.issuer_core.proofs.IssuedForgery.{digest_issued}
 use Rattle.issuer_core.proofs.IssuedSound.{issued_is_sound_holds}
 use Rattle.issuer_core.proofs.WithAlg.{sd_not_alg, with_alg_ordered}
 use Rattle.issuer_core.proofs.WrittenTexts.{GivenTexts, held_texts, with_alg_texts}
-use Rattle.marked_tree.specs.Paths.{Path}
 use Rattle.issuer_core.proofs.ShownTexts.{texts_fine, shown_texts_at}
-
-pub from_number : (f : ℕ → Text) (k : ℕ) (paths : List Path) (d : Text) → In d (digests_from f k paths) → (n : ℕ) × (d ≡ f n)
-from_number f k [] d m = absurd m
-from_number f k (p ∷ paths) d (inl e) = (k, e)
-from_number f k (p ∷ paths) d (inr m) = from_number f (suc k) paths d m
 
 no_alg : (r : Text → Shown) (ms : Members) → MembersNoReserved (strip_members (open_members r ms)) → member_named ms alg_name ≡ None
 no_alg r no_members f = refl
@@ -106,8 +101,8 @@ module _ (seed : List ℕ) (o : Order) (alg : Alg) (good : Meaning) (p : Tree) (
       let k = In-At g w.0 w.1 in
       subst IsUtf8 (sym (w.2 ∙ issued.made k.0 w.0 k.1)) (b64_utf8 (hash_of o.hash ((maker_of seed).disclosure k.0 w.0.name w.0.value))))
       (λ b.
-      let w = from_number (λ k. (maker_of seed).digest o.hash ((maker_of seed).piece k)) (hidden_of o) (decoys_of o) d b in
-      subst IsUtf8 (sym w.1) (b64_utf8 (hash_of o.hash (salt_of seed w.0))))
+      let w = In-of_map (λ k. (maker_of seed).digest o.hash ((maker_of seed).piece k)) d (range_with_len (hidden_of o) (length (decoys_of o))) b in
+      subst IsUtf8 (sym w.2) (b64_utf8 (hash_of o.hash (salt_of seed w.0))))
       (In-append d (given_digests g) (decoy_digests (maker_of seed) o) m)
 
   pub settles : processed p g ≡ opened (length g) g p

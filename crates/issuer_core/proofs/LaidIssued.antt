@@ -1,5 +1,5 @@
 -- What is laid, with digests that all differ, is issued.
-use Rattle.std.proofs.Common.{◌≡◌, ℕ, suc, ◌+◌, ◌<◌, List, [], ◌∷◌, ap, ap₂, arith, cond, length, refl, subst, sym, ◌∙◌}
+use Rattle.std.proofs.Common.{◌≡◌, ℕ, ◌+◌, List, ap, arith, cond, length, refl, subst, sym, ◌∙◌}
 use Rattle.std.specs.Prelude.{bytes_eq}
 use Rattle.claim_tree.specs.Lists.{In}
 use Rattle.claim_tree.specs.Tree.{Text, Tree, IsRanged}
@@ -8,7 +8,7 @@ use Rattle.digest_sites.specs.Sites.{sites}
 use Rattle.marked_tree.specs.Paths.{Path, is_among}
 use Rattle.rebuild_core.specs.Reached.{given_digests, all_digests}
 use Rattle.issuer_core.specs.Decoys.{decoys_at, decoys_of}
-use Rattle.issuer_core.specs.Digests.{Maker, decoy_digests, digests_from, hidden_of, issued_digests, marked_claims}
+use Rattle.issuer_core.specs.Digests.{Maker, decoy_digests, hidden_of, issued_digests, marked_claims}
 use Rattle.issuer_core.specs.IssueCalls.{AllDiffer}
 use Rattle.issuer_core.specs.GoodOrder.{IsGoodOrder}
 use Rattle.issuer_core.specs.ShortLists.{HasShortLists}
@@ -24,17 +24,8 @@ use Rattle.issuer_core.proofs.LaidLists.{are_decoys, items_listed, lay_lists}
 use Rattle.issuer_core.proofs.LaidBounds.{payload_ranged, value_ranged}
 use Rattle.issuer_core.proofs.LaidOrdered.{laid_is_readable_holds}
 use Rattle.issuer_core.proofs.LaidSums.{all_sum, digest_sum, laid_sum, occurs_is, site_sum, value_sum}
+use Rattle.issuer_core.proofs.NumberedDigests.{numbered_same}
 use Rattle.issuer_core.proofs.Plain.{marked_plain}
-
-numbered_same : (f h : ℕ → Text) (k : ℕ) (qs : List Path) → ((d : ℕ) → d < length qs → f (k + d) ≡ h (k + d)) → digests_from f k qs ≡ digests_from h k qs
-numbered_same f h k [] e = refl
-numbered_same f h k (q ∷ qs) e =
-    ap₂ (λ (a : Text) (b : List Text). a ∷ b) (ap f (let z : k ≡ k + 0 = omega arith in z) ∙ e 0 (omega arith) ∙ ap h (let z : k + 0 ≡ k = omega arith in z))
-    (numbered_same f h (suc k) qs (λ d l. let z : suc k + d ≡ k + suc d = omega arith in ap f z ∙ e (suc d) (omega (arith, l)) ∙ ap h (sym z)))
-
-pub length-digests_from : (f : ℕ → Text) (k : ℕ) (places : List Path) → length (digests_from f k places) ≡ length places
-length-digests_from f k [] = refl
-length-digests_from f k (at ∷ places) = ap suc (length-digests_from f (suc k) places)
 
 module _ (mk : Maker) (o : Order) (p : Tree) (g : List Given) (dg : ℕ → Text) (good : IsGoodOrder o) (ranged : IsRanged o.payload) (short : HasShortLists o.payload) (laid : IsLaid mk o p g dg) (differ : AllDiffer dg (hidden_of o + length (decoys_of o))) where
   abbrev dec : Path → List Text
@@ -53,7 +44,7 @@ module _ (mk : Maker) (o : Order) (p : Tree) (g : List Given) (dg : ℕ → Text
         decoys_sum f dg (hidden_of o) (decoys_of o) o.payload good.ordered short (held_at o good),
         sum_of-append f (given_digests g) (decoy_digests mk o),
         sum_of-map f (λ (x : Given). x.digest) g,
-        ap (sum_of f) (numbered_same dg (λ k. mk.digest o.hash (mk.piece k)) (hidden_of o) (decoys_of o) laid.decoys),
+        ap (sum_of f) (numbered_same dg (λ k. mk.digest o.hash (mk.piece k)) (hidden_of o) (length (decoys_of o)) laid.decoys),
       )
 
   pub issued : DecoysStand mk o p g → IsIssuedFor mk o p g

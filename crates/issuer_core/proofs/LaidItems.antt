@@ -1,5 +1,5 @@
 -- What is laid for an order opens to its marked claims.
-use Rattle.std.proofs.Common.{◌≡◌, ℕ, zero, suc, ◌+◌, ◌<◌, List, [], ◌∷◌, None, Option, Some, ap, arith, length, refl, subst, sym, ⊎_elim, ◌∙◌}
+use Rattle.std.proofs.Common.{◌≡◌, ℕ, suc, ◌+◌, ◌<◌, List, None, Option, Some, ap, arith, length, refl, subst, sym, ⊎_elim, ◌∙◌}
 use Rattle.claim_tree.specs.Lists.{StandsAt, AtNone, Repeats}
 use Rattle.claim_tree.specs.Tree.{Text, Tree}
 use Rattle.digest_sites.specs.Given.{Given}
@@ -7,7 +7,7 @@ use Rattle.marked_tree.specs.Paths.{Path, is_among}
 use Rattle.rebuild_core.specs.Reached.{find, given_digests}
 use Rattle.rebuild_core.specs.Opening.{opened, processed}
 use Rattle.issuer_core.specs.Decoys.{decoys_at, decoys_of}
-use Rattle.issuer_core.specs.Digests.{Maker, decoy_digests, digests_from, hidden_of, issued_digests, marked_claims}
+use Rattle.issuer_core.specs.Digests.{Maker, decoy_digests, hidden_of, issued_digests, marked_claims}
 use Rattle.issuer_core.specs.IssueCalls.{AllDiffer}
 use Rattle.issuer_core.specs.GoodOrder.{IsGoodOrder}
 use Rattle.issuer_core.specs.Laid.{IsLaid}
@@ -18,6 +18,7 @@ use Rattle.issuer_core.proofs.Closing.{items_length, order_closes, order_marks}
 use Rattle.issuer_core.proofs.DecoyPlaces.{in_decoys}
 use Rattle.issuer_core.proofs.ItemNumbers.{depth_within, has_items, items_numbered}
 use Rattle.issuer_core.proofs.LaidOpens.{NoneFound, laid_opens}
+use Rattle.issuer_core.proofs.NumberedDigests.{numbered_at}
 use Rattle.issuer_core.proofs.Plain.{marked_plain}
 use Rattle.rebuild_core.proofs.Repeated.{length-digests}
 
@@ -39,18 +40,13 @@ module _ (mk : Maker) (o : Order) (p : Tree) (g : List Given) (dg : ℕ → Text
   pub laid_made : (k : ℕ) (x : Given) → StandsAt g k x → x.digest ≡ mk.digest o.hash (mk.disclosure k x.name x.value)
   laid_made k x a = digest_is k x a ∙ laid.disclosures k x a
 
-  numbered_at : (f : ℕ → Text) (k : ℕ) (qs : List Path) (i : ℕ) (d : Text) → StandsAt (digests_from f k qs) i d → (i < length qs) × (d ≡ f (k + i))
-  numbered_at f k (q ∷ qs) zero d h = (omega arith, h ∙ ap f (let e : k ≡ k + 0 = omega arith in e))
-  numbered_at f k (q ∷ qs) (suc i) d h = let w = numbered_at f (suc k) qs i d h in (omega (arith, w.0), w.1 ∙ ap f (let e : suc k + i ≡ k + suc i = omega arith in e))
-  numbered_at f k [] i d h = elim h [ ]
-
   -- the digest at each place is that of its number
   issued_at : (q : ℕ) (d : Text) → StandsAt (issued_digests mk o g) q d → (q < n + length (decoys_of o)) × (d ≡ dg q)
   issued_at q d h =
       ⊎_elim
       (λ a. let w = At-of_map (λ (x : Given). x.digest) g q d a in (omega (arith, At-below g q w.0 w.1, laid_count), w.2 ∙ digest_is q w.0 w.1))
       (λ b.
-      let w = numbered_at (λ k. mk.digest o.hash (mk.piece k)) n (decoys_of o) b.0 d b.2 in
+      let w = numbered_at (λ k. mk.digest o.hash (mk.piece k)) n (length (decoys_of o)) b.0 d b.2 in
       let e : n + b.0 ≡ q = omega (arith, b.1, length-digests g, laid_count) in
       (omega (arith, w.0, e), w.1 ∙ sym (laid.decoys b.0 w.0) ∙ ap dg e))
       (At-either (given_digests g) (decoy_digests mk o) q d h)

@@ -4,6 +4,7 @@ pub mod SdMembers
 pub mod LaidOpens
 pub mod DecoyPlaces
 pub mod Agrees
+pub mod NumberedDigests
 pub mod Closing
 pub mod ItemNumbers
 pub mod LaidItems

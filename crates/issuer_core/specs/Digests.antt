@@ -1,10 +1,11 @@
 -- The digests of an issued token, RFC 9901 section 4.2.3: those of its disclosures, then those of its decoys.
-use Rattle.std.specs.Prelude.{ℕ, suc, List, [], ◌∷◌, ◌++◌, Option}
+use Rattle.std.specs.Prelude.{ℕ, suc, List, [], ◌∷◌, ◌++◌, length, map, Option}
+use Rattle.std.specs.List.{range_with_len}
 use Rattle.claim_tree.specs.Tree.{Text, Tree}
 use Rattle.digest_sites.specs.Given.{Given}
 use Rattle.disclosure.specs.declared.digests.HashAlg.{HashAlg}
 use Rattle.marked_tree.specs.Marked.{Marked}
-use Rattle.marked_tree.specs.Paths.{Path, mark, hidden_count}
+use Rattle.marked_tree.specs.Paths.{mark, hidden_count}
 use Rattle.rebuild_core.specs.Reached.{given_digests}
 use Rattle.issuer_core.specs.Order.{Order}
 use Rattle.issuer_core.specs.Decoys.{decoys_of}
@@ -29,14 +30,13 @@ marked_claims o = mark o.payload o.hide
 abbrev pub hidden_of : Order → ℕ
 hidden_of o = hidden_count o.payload o.hide
 
--- the digests of some decoys, where the first has the number k
-abbrev pub digests_from : (ℕ → Text) → ℕ → List Path → List Text
-digests_from dg k [] = []
-digests_from dg k (at ∷ decoys) = dg k ∷ digests_from dg (suc k) decoys
+-- so many digests, where the first has the number k
+abbrev pub digests_from : (ℕ → Text) → ℕ → ℕ → List Text
+digests_from dg k many = map dg (range_with_len k many)
 
--- by the order's hash
+-- those of the decoys, by the order's hash
 abbrev pub decoy_digests : Maker → Order → List Text
-decoy_digests maker o = digests_from (λ k. maker.digest o.hash (maker.piece k)) (hidden_of o) (decoys_of o)
+decoy_digests maker o = digests_from (λ k. maker.digest o.hash (maker.piece k)) (hidden_of o) (length (decoys_of o))
 
 abbrev pub issued_digests : Maker → Order → List Given → List Text
 issued_digests maker o given = given_digests given ++ decoy_digests maker o

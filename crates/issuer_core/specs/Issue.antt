@@ -1,5 +1,5 @@
 -- Why an order is not issued.
-use Rattle.std.specs.Prelude.{ℕ, suc, zero, ◌+◌, ◌<◌, List, [], ◌∷◌, length}
+use Rattle.std.specs.Prelude.{ℕ, ◌+◌, ◌<◌, List, length}
 use Rattle.claim_tree.specs.Tree.{Text, Tree}
 use Rattle.sd_outside.specs.Limits.{issue_max}
 use Rattle.compact_form.specs.declared.parts.Parts.{Parts}
@@ -11,20 +11,15 @@ use Rattle.issuer_core.specs.declared.errors.IssueError.{IssueError}
 use Rattle.issuer_core.specs.declared.errors.IssueError.TheVariants.{DigestClash, TooLong}
 use Rattle.issuer_core.specs.Order.{Order}
 use Rattle.issuer_core.specs.Decoys.{decoys_of}
-use Rattle.issuer_core.specs.Digests.{Maker, hidden_of}
+use Rattle.issuer_core.specs.Digests.{Maker, hidden_of, digests_from}
 use Rattle.issuer_core.specs.Laid.{IsLaid}
 use Rattle.issuer_core.specs.Clash.{IsFirstClash}
 use Rattle.issuer_core.specs.OrderRefusals.{AppliesToOrder}
 use Rattle.issuer_core.specs.Written.{IsLaidOut}
 
--- the first n digests
-abbrev pub first_digests : (ℕ → Text) → ℕ → List Text
-first_digests dg zero = []
-first_digests dg (suc n) = dg 0 ∷ first_digests (λ k. dg (suc k)) n
-
 -- the digests of the disclosures, and then of the decoys
 abbrev pub laid_digests : Order → (ℕ → Text) → List Text
-laid_digests o dg = first_digests dg (hidden_of o + length (decoys_of o))
+laid_digests o dg = digests_from dg 0 (hidden_of o + length (decoys_of o))
 
 -- two digests of what is laid for the order are equal, first at these places
 pub record ClashesAt (maker : Maker) (o : Order) (i j : ℕ) : Type 0 where

@@ -3,6 +3,7 @@ use Rattle.std.proofs.Common.{◌≡◌, ℕ, suc, ◌+◌, ◌≤◌, List, [],
 use Rattle.std.specs.Prelude.{sum_by, if◌then◌else◌}
 use Rattle.std.specs.List.{count_by, range_with_len}
 use Rattle.std.proofs.lemmas.List.{length-map}
+use Rattle.std.proofs.lemmas.List.FromFn.{length-map-range_with_len}
 use Rattle.std.proofs.lemmas.List.Sums.{sum_by-cons}
 use Rattle.claim_tree.specs.Tree.{Text, Tree}
 use Rattle.claim_tree.proofs.Lists.{bytes_same, bytes_refl}
@@ -13,7 +14,6 @@ use Rattle.issuer_core.specs.Decoys.{decoys_of}
 use Rattle.issuer_core.specs.Digests.{Maker, hidden_of, decoy_digests, issued_digests}
 use Rattle.issuer_core.specs.Issued.{occurs, IsIssuedFor}
 use Rattle.issuer_core.specs.Order.{Order}
-use Rattle.issuer_core.proofs.LaidIssued.{length-digests_from}
 use Rattle.holder_core.specs.Present.{picked}
 use Rattle.holder_core.proofs.Picking.{first_if}
 use Rattle.sdjwt_cli.specs.Summary.{embedded_digests}
@@ -93,7 +93,7 @@ issued_count maker o p given issued =
       length_all p given,
       length-append (given_digests given) (decoy_digests maker o),
       length-map given (λ (x : Given). x.digest),
-      length-digests_from (λ k. maker.digest o.hash (maker.piece k)) (hidden_of o) (decoys_of o),
+      length-map-range_with_len (λ k. maker.digest o.hash (maker.piece k)) (hidden_of o) (length (decoys_of o)),
       count,
     )
 
