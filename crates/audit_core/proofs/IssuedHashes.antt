@@ -1,13 +1,13 @@
 -- The digests and the salts of an issuer are texts of bytes, as many as there are to be.
-use Rattle.std.proofs.Common.{◌≡◌, ℕ, zero, suc, ◌+◌, ◌*◌, ◌/◌, ◌^◌, ◌<◌, List, ◌++◌, length, refl, arith}
-use Rattle.std.specs.Int.{byte_at, bytes_low_first}
+use Rattle.std.proofs.Common.{◌≡◌, ℕ, zero, suc, ◌+◌, ◌*◌, List, ◌++◌, length, refl, arith}
+use Rattle.std.specs.Int.{bytes_low_first}
 use Rattle.b64url_text.specs.Base64url.{AreBytes}
 use Rattle.b64url_text.proofs.Codes.{AreBytes-append}
 use Rattle.disclosure.specs.Digest.{digest_of, hash_of}
 use Rattle.disclosure.specs.declared.digests.HashAlg.{HashAlg}
 use Rattle.hmac_sign.specs.declared.alg.Alg.{Alg}
 use Rattle.hmac_sign.proofs.Blocks.{length-hash_by}
-use Rattle.hmac_sign.proofs.Macs.{AreBytes-hash_by}
+use Rattle.hmac_sign.proofs.Macs.{byte_at-fits, AreBytes-hash_by}
 use Rattle.issuer_core.specs.Salts.{word_bytes, salt_piece}
 use Rattle.audit_core.specs.Audited.{hash_length, IsDigestText}
 
@@ -28,13 +28,9 @@ digest_formed hash text = record { bytes = hash_of hash text; decodes = record {
 
 -- ---- salts
 
-byte_fits : (i n : ℕ) → byte_at i n < 256
-byte_fits zero n = omega arith
-byte_fits (suc i) n = let m = n / 256 ^ suc i in omega arith
-
 low_first_bytes : (i k n : ℕ) → AreBytes (bytes_low_first i k n)
 low_first_bytes i zero n j = omega arith
-low_first_bytes i (suc k) n zero = byte_fits i n
+low_first_bytes i (suc k) n zero = byte_at-fits i n
 low_first_bytes i (suc k) n (suc j) = low_first_bytes (suc i) k n j
 
 pub salt_bytes : (seed : List ℕ) (k : ℕ) → AreBytes (salt_piece seed k)

@@ -1,46 +1,20 @@
 -- Where the salt of a disclosure stands in its JSON.
-use Rattle.std.proofs.Common.{◌≡◌, ℕ, zero, suc, ◌*◌, ◌/◌, ◌%◌, ◌<◌, ◌≤◌, Bool, true, false, ◌||◌, List, [], ◌∷◌, ◌++◌, length, map, slice_index, get_or, take, drop, length-drop, Option, Some, None, refl, sym, ap, subst, ◌∙◌, arith, append_assoc, IsUtf8}
-use Rattle.std.specs.Prelude.{not}
-use Rattle.std.specs.List.{list_all}
-use Rattle.std.proofs.lemmas.Bool.{agree_below_at, true≢false}
+use Rattle.std.proofs.Common.{◌≡◌, ℕ, zero, suc, ◌*◌, ◌/◌, ◌%◌, ◌<◌, ◌≤◌, List, [], ◌∷◌, ◌++◌, length, map, slice_index, take, drop, length-drop, Option, Some, None, refl, sym, ap, subst, ◌∙◌, arith, append_assoc, IsUtf8}
 use Rattle.std.proofs.lemmas.List.{length-take, map-append}
-use Rattle.std.proofs.lemmas.List.Folds.{list_all_at}
 use Rattle.std.proofs.Math.Seq.{take-append_seam}
 use Rattle.json.specs.Print.{escape}
-use Rattle.json.specs.Run.{is_plain}
-use Rattle.json.proofs.Printed.Plain.{escape_on_plain}
-use Rattle.b64url_text.specs.Base64url.{letters, is_letter, bits_of, bits, sixes, b64, AreBytes, Decodes}
+use Rattle.b64url_text.specs.Base64url.{letters, bits_of, bits, sixes, b64, AreBytes, Decodes}
 use Rattle.b64url_text.proofs.Codes.{letters-b64, one_code}
-use Rattle.b64url_text.proofs.Letters.{letter_below}
 use Rattle.b64url_text.proofs.Texts.{AreBytes-text, b64_utf8}
 use Rattle.b64url_text.proofs.Lengths.{length-b64}
 use Rattle.claim_tree.specs.Tree.{Text, Tree, leaf, text, array}
 use Rattle.claim_tree.specs.JsonText.{Reads, json_text}
 use Rattle.claim_tree.specs.ListTails.{short_list}
+use Rattle.json_form.proofs.PlainLetters.{plain_letters}
 use Rattle.disclosure.specs.Disclosure.{array_of}
 use Rattle.disclosure.proofs.Arrays.{array_of-listed}
 use Rattle.audit_core.specs.Audited.{IsSaltedText}
 use Rattle.audit_core.specs.AuditSteps.{IsSalt}
-
-implied : (a b : Bool) → (not a || b) ≡ true → a ≡ true → b ≡ true
-implied true b e h = e
-implied false b e h = cc h
-
--- a letter stands for itself
-plain_letter : (b : ℕ) → is_letter b ≡ true → is_plain b ≡ true
-unfolding is_letter letters
-plain_letter b h = implied (is_letter b) (is_plain b) (agree_below_at (λ c. not (is_letter c) || is_plain c) (λ c. true) 128 b refl (letter_below b h)) h
-
-letter_at : (w : List ℕ) (k : ℕ) → list_all is_letter w ≡ true → k < length w → is_letter (get_or w k 0) ≡ true
-letter_at w k h l = go (is_letter (get_or w k 0)) refl
-  where
-    go : (b : Bool) → is_letter (get_or w k 0) ≡ b → is_letter (get_or w k 0) ≡ true
-    go true e = e
-    go false e = absurd (true≢false (sym h ∙ list_all_at is_letter w k 0 l e))
-
--- and so does a text of bytes
-plain_text : (bytes : List ℕ) → escape (b64 bytes) ≡ b64 bytes
-plain_text bytes = escape_on_plain true (b64 bytes) (λ k _ l. plain_letter (get_or (b64 bytes) k 0) (letter_at (b64 bytes) k (letters-b64 bytes) l))
 
 -- it has four letters for three bytes
 letters_for : (bytes : List ℕ) → 4 * length bytes ≤ 3 * length (b64 bytes)
@@ -57,7 +31,7 @@ pub bytes_length : (salt : Text) (bytes : List ℕ) → Decodes salt bytes → l
 bytes_length salt bytes d long = omega (arith, long, ap length d.spelling, length-b64 bytes, letters_for bytes)
 
 plain_salt : (salt : Text) → IsSalt salt → escape salt ≡ salt
-plain_salt salt s = subst (λ w. escape w ≡ w) (sym s.decodes.spelling) (plain_text s.bytes)
+plain_salt salt s = subst (λ w. escape w ≡ w) (sym s.decodes.spelling) (plain_letters (b64 s.bytes) (letters-b64 s.bytes))
 
 salt_utf8 : (salt : Text) → IsSalt salt → IsUtf8 salt
 salt_utf8 salt s = subst IsUtf8 (sym s.decodes.spelling) (b64_utf8 s.bytes)

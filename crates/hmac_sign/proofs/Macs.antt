@@ -1,5 +1,5 @@
 -- The code of a head and a body is bytes, as many as its hash has.
-use Rattle.std.proofs.Common.{◌≡◌, ℕ, zero, suc, ◌/◌, ◌%◌, ◌^◌, ◌<◌, List, length, arith}
+use Rattle.std.proofs.Common.{◌≡◌, ℕ, zero, suc, ◌/◌, ◌^◌, ◌<◌, List, length, arith}
 use Rattle.std.specs.Prelude.{slice_index}
 use Rattle.std.specs.Int.{w32, w64, byte_at, bytes_high_first, to_be_bytes}
 use Rattle.b64url_text.specs.Base64url.{AreBytes}
@@ -12,12 +12,9 @@ use Rattle.hmac_sign.specs.Hmac.{AlgKey, mac}
 use Rattle.hmac_sign.specs.declared.alg.Alg.{Alg}
 use Rattle.hmac_sign.proofs.Blocks.{length-hash_by}
 
-mod_fits : (n : ℕ) → n % 256 < 256
-mod_fits n = omega arith
-
-byte_at-fits : (i n : ℕ) → byte_at i n < 256
-byte_at-fits zero n = mod_fits n
-byte_at-fits (suc i) n = mod_fits (n / 256 ^ suc i)
+pub byte_at-fits : (i n : ℕ) → byte_at i n < 256
+byte_at-fits zero n = omega arith
+byte_at-fits (suc i) n = let high = n / 256 ^ suc i in omega arith
 
 AreBytes-high_first : (k n : ℕ) → AreBytes (bytes_high_first k n)
 AreBytes-high_first zero n i = omega arith

@@ -1,8 +1,6 @@
 -- What is written of a token with no other members in its unprotected header: it is read as the token, and is not too long.
-use Rattle.std.proofs.Common.{◌≡◌, ℕ, ◌+◌, ◌*◌, ◌<◌, ◌≤◌, Bool, true, false, List, [], ◌∷◌, ◌++◌, length, length-append, Option, Some, None, IfSome, IsUtf8, ◌⊎◌, inl, inr, refl, sym, ap, subst, ◌∙◌, arith}
-use Rattle.std.specs.Prelude.{◌==◌, ◌&&◌, nat_lt, not}
-use Rattle.std.specs.List.{list_all, list_any, AllByRecursion}
-use Rattle.std.proofs.lemmas.Bool.{not-true, and_parts, or_cases, eqb-true, ltb-true, ne_eqb}
+use Rattle.std.proofs.Common.{◌≡◌, ℕ, ◌+◌, ◌*◌, ◌<◌, ◌≤◌, Bool, true, false, List, [], ◌∷◌, ◌++◌, length, length-append, Option, Some, None, IfSome, IsUtf8, inl, inr, refl, sym, ap, subst, ◌∙◌, arith}
+use Rattle.std.specs.List.{AllByRecursion}
 use Rattle.std.proofs.lemmas.Grind.{flat_map-append}
 use Rattle.std.proofs.lemmas.Str.{IsUtf8-append, IsUtf8-from_ascii}
 use Rattle.json.specs.Print.{escape, escape_byte, quoted}
@@ -32,50 +30,10 @@ use Rattle.json_form.specs.Token.{Spells, spells_compact, spells_json, IsTooMuch
 use Rattle.json_form.specs.Written.{with_binding, written_header, flat_members, flat_of, entry_of, general_members, general_of}
 use Rattle.json_form.specs.Printable.{IsPrintable}
 use Rattle.json_form.proofs.Lines.{read_json_text}
+use Rattle.json_form.proofs.PlainLetters.{plain_letters}
 use Rattle.json_form.proofs.Tokens.{read_plainly}
 use Rattle.json_form.proofs.WrittenForms.{entry_words, flat_ranged, flat_depth, flat_says, general_ranged, general_depth, general_says}
 use Rattle.claim_tree.proofs.TextElements.{texts_ordered}
-
--- ---- letters stand for themselves
-
-is_plain : ℕ → Bool
-is_plain byte = nat_lt 31 byte && (not (byte == 34) && not (byte == 92))
-
-plain_one : (x b : ℕ) (xs : List ℕ) → ((x == b) ≡ true) ⊎ (list_any (λ y. y == b) xs ≡ true) → is_plain x ≡ true → (list_any (λ y. y == b) xs ≡ true → is_plain b ≡ true) → is_plain b ≡ true
-plain_one x b xs (inl e) plain k = subst (λ (y : ℕ). is_plain y ≡ true) (eqb-true x b e) plain
-plain_one x b xs (inr h) plain k = k h
-
-plain_among : (xs : List ℕ) (b : ℕ) → list_all is_plain xs ≡ true → list_any (λ x. x == b) xs ≡ true → is_plain b ≡ true
-plain_among [] b plain h = cc h
-plain_among (x ∷ xs) b plain h =
-    let p = and_parts (is_plain x) (list_all is_plain xs) plain in
-    plain_one x b xs (or_cases (x == b) (list_any (λ y. y == b) xs) h) p.0 (plain_among xs b p.1)
-
-plain_letter : (b : ℕ) → is_letter b ≡ true → is_plain b ≡ true
-unfolding is_letter letters is_plain
-plain_letter b h = plain_among letters b refl h
-
-plain_byte : (b : ℕ) → is_plain b ≡ true → escape_byte b ≡ b ∷ []
-unfolding escape_byte is_plain
-plain_byte b plain =
-    let p = and_parts (nat_lt 31 b) (not (b == 34) && not (b == 92)) plain in
-    let q = and_parts (not (b == 34)) (not (b == 92)) p.1 in
-    let high : 31 < b = ltb-true 31 b p.0 in
-    let low : nat_lt b 32 ≡ false = grind (arith, high) in
-    rw (
-      not-true (b == 34) q.0,
-      not-true (b == 92) q.1,
-      ne_eqb b 8 (λ e. omega (arith, e, high)),
-      ne_eqb b 12 (λ e. omega (arith, e, high)),
-      ne_eqb b 10 (λ e. omega (arith, e, high)),
-      ne_eqb b 13 (λ e. omega (arith, e, high)),
-      ne_eqb b 9 (λ e. omega (arith, e, high)),
-      low,
-    ) refl
-
-plain_letters : (w : List ℕ) → list_all is_letter w ≡ true → escape w ≡ w
-plain_letters [] h = refl
-plain_letters (b ∷ w) h = let p = and_parts (is_letter b) (list_all is_letter w) h in rw (plain_byte b (plain_letter b p.0), plain_letters w p.1) refl
 
 -- ---- texts that are UTF-8 and no longer than a number
 

@@ -8,4 +8,5 @@ mod WordLists
 mod EntryLists
 pub mod Tokens
 pub mod Lines
+pub mod PlainLetters
 pub mod AloneForms

@@ -49,6 +49,10 @@ one text token other h k = one_spelled (trimmed text) token other h.spells k.spe
 pub not_both : (text : List ℕ) (token : Token) (fault : Fault) → IsToken text token → IsTextRefused text fault → ⊥
 not_both text token fault h refused = h.passes fault refused.applies
 
+-- what a model shows is what is read
+pub seen : (text : List ℕ) (view token : Token) → view ≡ token → IsToken text token → IsToken text view
+seen text view token same is = subst (IsToken text) (sym same) is
+
 -- ---- one fault
 
 pub spelled_well : (text : List ℕ) (t : Token) (place : Place) → Spells text t → IsMisformed text place → ⊥
