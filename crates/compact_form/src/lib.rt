@@ -11,6 +11,7 @@
 #![tactic(auto)]
 
 mod blanks;
+mod compact_token;
 mod condition;
 mod fault;
 mod field;
@@ -24,10 +25,10 @@ mod parts;
 mod reader;
 mod refusal;
 mod spelling;
-mod token;
 mod view;
 
 pub use blanks::trim;
+pub use compact_token::{is_json, read_view};
 pub use condition::Condition;
 pub use fault::{Fault, JsonPlace, Part, Place};
 pub use form::{FormError, check, parse};
@@ -39,5 +40,4 @@ pub use parts::{JwtParts, Parts};
 pub use reader::At;
 pub use refusal::Refusal;
 pub use spelling::{hashed_text, print, print_jwt};
-pub use token::{is_json, read_view};
 pub use view::{JwtView, Pieces, View};

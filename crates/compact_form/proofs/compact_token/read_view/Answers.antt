@@ -1,7 +1,7 @@
 use Rattle.std.proofs.Common.{◌∙◌, List, ℕ, sym, subst, arith}
 use Rattle.compact_form.specs.Compact.{IsCompact, IsMisformedAt}
 use Rattle.compact_form.proofs.Verdicts.{refused_form, refused_too_much, reads}
-use Rattle.compact_form.proofs.token.read_view.Goals as goal
+use Rattle.compact_form.proofs.compact_token.read_view.Goals as goal
 
 pub returns-in-Err-clause-err : goal.returns-in-Err-clause-err
 returns-in-Err-clause-err c =
