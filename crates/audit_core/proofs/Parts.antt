@@ -1,15 +1,14 @@
 -- Small facts of the parts of an audit.
-use Rattle.std.proofs.Common.{◌≡◌, ℕ, ◌<◌, ◌≤◌, List, [], ◌∷◌, length, Bool, true, false, cond, ◌||◌, refl, sym, ap, ◌∙◌, subst, arith}
+use Rattle.std.proofs.Common.{◌≡◌, ◌≤◌, List, [], ◌∷◌, length, Bool, true, false, cond, ◌||◌, refl, sym, ap, ◌∙◌, subst}
 use Rattle.std.specs.Prelude.{bytes_eq}
-use Rattle.std.specs.Cmp.{both_ways}
 use Rattle.std.specs.Set.{distinct_count}
 use Rattle.sd_outside.specs.Limits.{count_max}
 use Rattle.claim_tree.specs.Tree.{Text, Members, no_members, member}
 use Rattle.claim_tree.specs.View.{tree_of}
 use Rattle.claim_tree.specs.ListViews.{members_of}
-use Rattle.claim_tree.proofs.Lists.{bytes_refl, bytes_same}
 use Rattle.claim_tree.proofs.Walks.{Named}
 use Rattle.compact_form.specs.Lowest.{NoneApplies}
+use Rattle.digest_index.proofs.Places.{bytes_eq-flip}
 use Rattle.marked_tree.specs.Paths.{Path, same_path}
 use Rattle.issuer_core.specs.declared.errors.IssueError.TheVariants.{TooManyHidden, TooManyDecoys}
 use Rattle.issuer_core.specs.Decoys.{decoys_of}
@@ -39,11 +38,8 @@ few_decoys o none = not_more count_max (length (decoys_of o)) (none TooManyDecoy
 -- ---- a text that is put among others
 
 pub put_turned : (a b : Text) (x : Bool) → cond (bytes_eq a b) true x ≡ (bytes_eq b a || x)
-put_turned a b x = ap (λ (t : Bool). cond t true x) (turned a b) ∙ go (bytes_eq b a)
+put_turned a b x = ap (λ (t : Bool). cond t true x) (bytes_eq-flip a b) ∙ go (bytes_eq b a)
   where
-    turned : (c d : Text) → bytes_eq c d ≡ bytes_eq d c
-    turned c d = both_ways (bytes_eq c d) (bytes_eq d c) (λ e. bytes_refl d c (sym (bytes_same c d e))) (λ e. bytes_refl c d (sym (bytes_same d c e)))
-
     go : (t : Bool) → cond t true x ≡ (t || x)
     go true = refl
     go false = refl

@@ -1,6 +1,6 @@
 ghost use Rattle.std.specs.Prelude.{◌≡◌, ◌≢◌, IfOk, Some, IfSome, IfNone};
 ghost use Rattle.claim_tree.specs.View.{tree_of};
-ghost use Rattle.disclosure.specs.Digest.{digest_of, hash_name, hash_of_text as hash_of_text_by, hash_of_name as hash_of_name_by, payload_hash as payload_hash_by};
+ghost use Rattle.disclosure.specs.Digest.{digest_of, hash_name, hash_of_text, hash_of_name as hash_of_name_by, payload_hash as payload_hash_by};
 ghost use Rattle.disclosure.specs.declared.digests.HashAlg.{HashAlg};
 
 use b64url_text::encode;
@@ -37,6 +37,7 @@ impl HashAlg {
 pub fn hash_named(name: &str) -> Option<HashAlg>
     ensures named { IfSome result (λ alg. name.now ≡ hash_name alg) }
     ensures other { IfNone result ((alg : HashAlg) → name.now ≢ hash_name alg) }
+    ensures value { result ≡ hash_of_text name.now }
 {
     match name {
         "sha-256" => Some(HashAlg::Sha256),
@@ -46,19 +47,12 @@ pub fn hash_named(name: &str) -> Option<HashAlg>
     }
 }
 
-// The same, as one equation.
-fn hash_of_text(name: &str) -> Option<HashAlg>
-    ensures { result ≡ hash_of_text_by name.now }
-{
-    hash_named(name)
-}
-
 // The algorithm whose name the claim is.
 fn hash_of_name(name: &Tree) -> Option<HashAlg>
     ensures { result ≡ hash_of_name_by (Some (tree_of name.now)) }
 {
     match name.as_text() {
-        Some(text) => hash_of_text(text.as_str()),
+        Some(text) => hash_named(text.as_str()),
         None => None,
     }
 }
