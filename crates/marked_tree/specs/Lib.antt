@@ -9,6 +9,7 @@ pub mod Choice
 pub mod Numbers
 pub mod NamePositions
 pub mod Rests
+pub mod PathsBelow
 pub mod Laws
 pub mod MarkedCalls
 pub mod Ways

@@ -6,6 +6,7 @@ ghost use Rattle.claim_tree.specs.Tree.{depth as depth_of, elements_depth, membe
 ghost use Rattle.claim_tree.specs.View.{tree_of};
 ghost use Rattle.marked_tree.specs.Marked.{strip};
 ghost use Rattle.marked_tree.specs.Paths.{Path as Steps, same_path, mark as mark_of, hidden_count, is_among, below as test_below, one_if, hidden_in, hidden_elements, hidden_members, mark_from, mark_elements, mark_members, mark_if};
+ghost use Rattle.marked_tree.specs.PathsBelow.{rests_of};
 ghost use Rattle.marked_tree.specs.Rests.{rests, step_order, path_order, AreSorted, Every, Compares, Follows, IsStart, IsRunOfPaths, headed, inner};
 ghost use Rattle.marked_tree.specs.View.{marked_of};
 
@@ -43,8 +44,12 @@ pub fn mark_counted(alloc: Global, tree: Tree, paths: PathList) -> Result<(Marke
     ensures few { IfOk result (λ marked. marked.1 ≤ distinct_count same_path paths) }
 {
     let sorted = sorted_paths(paths)?;
+    let paths = PathsBelow {
+        sorted: sorted.as_slice(),
+        depth: 0,
+    };
     let mut next = 0;
-    let marked = mark_tree(alloc, tree, sorted.as_slice(), 0, &mut next)?;
+    let marked = mark_tree(alloc, tree, &paths, &mut next)?;
     Ok((marked, next))
 }
 
@@ -74,29 +79,28 @@ fn is_same(one: &Path, other: &Path) -> bool
     one.is_same(other)
 }
 
-// Marks a tree that the paths come to by their first `depth` steps, from the mark `next` on.
+// Marks a tree that stands at the place of the paths, from the mark `next` on.
 #[cycle(mark)]
 fn mark_tree(
     alloc: Global,
     tree: Tree,
-    paths: &[Path],
-    depth: usize,
+    paths: &PathsBelow<'_>,
     next: &mut u32,
 ) -> Result<Marked, NoMemory>
-    requires depth { depth + depth_of (tree_of tree) ≤ 127 }
-    requires sorted { AreSorted (rests depth paths.now) }
-    requires few { next.old + inner (rests depth paths.now) < 2 ^ 32 }
-    ensures marked { IfOk result (λ marked. marked_of marked ≡ mark_from (is_among (rests depth paths.now)) next.old (tree_of tree)) }
-    ensures next { OnOk result (next.new ≡ next.old + hidden_in (is_among (rests depth paths.now)) (tree_of tree)) }
-    ensures few { OnOk result (next.new ≤ next.old + inner (rests depth paths.now)) }
+    requires depth { paths.now.depth + depth_of (tree_of tree) ≤ 127 }
+    requires sorted { AreSorted (rests_of paths.now) }
+    requires few { next.old + inner (rests_of paths.now) < 2 ^ 32 }
+    ensures marked { IfOk result (λ marked. marked_of marked ≡ mark_from (is_among (rests_of paths.now)) next.old (tree_of tree)) }
+    ensures next { OnOk result (next.new ≡ next.old + hidden_in (is_among (rests_of paths.now)) (tree_of tree)) }
+    ensures few { OnOk result (next.new ≤ next.old + inner (rests_of paths.now)) }
 {
     match tree {
         Tree::Null => Ok(Marked::Null),
         Tree::Flag(flag) => Ok(Marked::Flag(flag)),
         Tree::Whole(n) => Ok(Marked::Whole(n)),
         Tree::Text(text) => Ok(Marked::Text(text)),
-        Tree::List(trees) => Ok(Marked::List(mark_list(alloc, trees, paths, depth, next)?)),
-        Tree::Object(trees) => Ok(Marked::Object(mark_map(alloc, trees, paths, depth, next)?)),
+        Tree::List(trees) => Ok(Marked::List(mark_list(alloc, trees, paths, next)?)),
+        Tree::Object(trees) => Ok(Marked::Object(mark_map(alloc, trees, paths, next)?)),
     }
 }
 
@@ -104,16 +108,15 @@ fn mark_tree(
 fn mark_list(
     alloc: Global,
     trees: TreeList,
-    paths: &[Path],
-    depth: usize,
+    paths: &PathsBelow<'_>,
     next: &mut u32,
 ) -> Result<MarkedList, NoMemory>
-    requires depth { depth + elements_depth trees ≤ 126 }
-    requires sorted { AreSorted (rests depth paths.now) }
-    requires few { next.old + inner (rests depth paths.now) < 2 ^ 32 }
-    ensures marked { IfOk result (λ marked. marked ≡ mark_elements (is_among (rests depth paths.now)) next.old 0 trees) }
-    ensures next { OnOk result (next.new ≡ next.old + hidden_elements (is_among (rests depth paths.now)) 0 trees) }
-    ensures few { OnOk result (next.new ≤ next.old + inner (rests depth paths.now)) }
+    requires depth { paths.now.depth + elements_depth trees ≤ 126 }
+    requires sorted { AreSorted (rests_of paths.now) }
+    requires few { next.old + inner (rests_of paths.now) < 2 ^ 32 }
+    ensures marked { IfOk result (λ marked. marked ≡ mark_elements (is_among (rests_of paths.now)) next.old 0 trees) }
+    ensures next { OnOk result (next.new ≡ next.old + hidden_elements (is_among (rests_of paths.now)) 0 trees) }
+    ensures few { OnOk result (next.new ≤ next.old + inner (rests_of paths.now)) }
 {
     let count = trees.len();
     let mut marked = MarkedList::with_capacity(alloc, count)?;
@@ -121,7 +124,7 @@ fn mark_list(
     for tree in trees.into_trees() {
         let mut digits = Buffer::new();
         let step = digits.format(marked.len());
-        let (mark, inside) = mark_at(alloc, step, tree, paths, depth, next, &mut near)?;
+        let (mark, inside) = mark_at(alloc, step, tree, paths, next, &mut near)?;
         marked.push(mark, inside)?;
     }
     Ok(marked)
@@ -131,21 +134,20 @@ fn mark_list(
 fn mark_map(
     alloc: Global,
     trees: TreeMap,
-    paths: &[Path],
-    depth: usize,
+    paths: &PathsBelow<'_>,
     next: &mut u32,
 ) -> Result<MarkedMap, NoMemory>
-    requires depth { depth + members_depth trees ≤ 126 }
-    requires sorted { AreSorted (rests depth paths.now) }
-    requires few { next.old + inner (rests depth paths.now) < 2 ^ 32 }
-    ensures marked { IfOk result (λ marked. marked ≡ mark_members (is_among (rests depth paths.now)) next.old trees) }
-    ensures next { OnOk result (next.new ≡ next.old + hidden_members (is_among (rests depth paths.now)) trees) }
-    ensures few { OnOk result (next.new ≤ next.old + inner (rests depth paths.now)) }
+    requires depth { paths.now.depth + members_depth trees ≤ 126 }
+    requires sorted { AreSorted (rests_of paths.now) }
+    requires few { next.old + inner (rests_of paths.now) < 2 ^ 32 }
+    ensures marked { IfOk result (λ marked. marked ≡ mark_members (is_among (rests_of paths.now)) next.old trees) }
+    ensures next { OnOk result (next.new ≡ next.old + hidden_members (is_among (rests_of paths.now)) trees) }
+    ensures few { OnOk result (next.new ≤ next.old + inner (rests_of paths.now)) }
 {
     let mut marked = MarkedMap::with_capacity(alloc, trees.len())?;
     let mut near = 0;
     for (name, tree) in trees.into_members() {
-        let (mark, inside) = mark_at(alloc, name.as_str(), tree, paths, depth, next, &mut near)?;
+        let (mark, inside) = mark_at(alloc, name.as_str(), tree, paths, next, &mut near)?;
         marked.put(name, mark, inside)?;
     }
     Ok(marked)
@@ -158,114 +160,142 @@ fn mark_at(
     alloc: Global,
     step: &str,
     tree: Tree,
-    paths: &[Path],
-    depth: usize,
+    paths: &PathsBelow<'_>,
     next: &mut u32,
     near: &mut usize,
 ) -> Result<(Option<u32>, Marked), NoMemory>
-    requires depth { depth + depth_of (tree_of tree) ≤ 126 }
-    requires sorted { AreSorted (rests depth paths.now) }
-    requires few { next.old + headed step.now (rests depth paths.now) < 2 ^ 32 }
-    ensures own { IfOk result (λ marked. marked.0 ≡ mark_if (is_among (rests depth paths.now) (step.now ∷ [])) (next.old + hidden_in (test_below step.now (is_among (rests depth paths.now))) (tree_of tree))) }
-    ensures inside { IfOk result (λ marked. marked_of marked.1 ≡ mark_from (test_below step.now (is_among (rests depth paths.now))) next.old (tree_of tree)) }
-    ensures next { OnOk result (next.new ≡ next.old + (hidden_in (test_below step.now (is_among (rests depth paths.now))) (tree_of tree) + one_if (is_among (rests depth paths.now) (step.now ∷ [])))) }
-    ensures few { OnOk result (next.new ≤ next.old + headed step.now (rests depth paths.now)) }
+    requires depth { paths.now.depth + depth_of (tree_of tree) ≤ 126 }
+    requires sorted { AreSorted (rests_of paths.now) }
+    requires few { next.old + headed step.now (rests_of paths.now) < 2 ^ 32 }
+    ensures own { IfOk result (λ marked. marked.0 ≡ mark_if (is_among (rests_of paths.now) (step.now ∷ [])) (next.old + hidden_in (test_below step.now (is_among (rests_of paths.now))) (tree_of tree))) }
+    ensures inside { IfOk result (λ marked. marked_of marked.1 ≡ mark_from (test_below step.now (is_among (rests_of paths.now))) next.old (tree_of tree)) }
+    ensures next { OnOk result (next.new ≡ next.old + (hidden_in (test_below step.now (is_among (rests_of paths.now))) (tree_of tree) + one_if (is_among (rests_of paths.now) (step.now ∷ [])))) }
+    ensures few { OnOk result (next.new ≤ next.old + headed step.now (rests_of paths.now)) }
 {
-    let below = paths_below(paths, depth, step, near);
-    let inside = mark_tree(alloc, tree, below, depth + 1, next)?;
-    let mark = own_mark(below, depth + 1, next);
+    let below = paths.below(step, near);
+    let inside = mark_tree(alloc, tree, &below, next)?;
+    let mark = below.own_mark(next);
     Ok((mark, inside))
 }
 
-// The paths whose step at the depth is this one, looked for first at `near`, which then stands behind them.
-fn paths_below<'a>(paths: &'a [Path], depth: usize, step: &str, near: &mut usize) -> &'a [Path]
-    requires fits { depth ≤ 126 }
-    requires sorted { AreSorted (rests depth paths.now) }
-    ensures sorted { AreSorted (rests (depth + 1) result.now) }
-    ensures below { (p : Steps) → is_among (rests (depth + 1) result.now) p ≡ is_among (rests depth paths.now) (step.now ∷ p) }
-    ensures count { length result.now ≡ headed step.now (rests depth paths.now) }
-{
-    let (start, count) = run_near(paths, depth, step, *near);
-    *near = start + count;
-    &paths[start..][..count]
+// Sorted paths that come to one place by their first `depth` steps.
+#[derive(Clone, Copy, Debug)]
+struct PathsBelow<'a> {
+    sorted: &'a [Path],
+    depth: usize,
 }
 
-/// Where the paths whose step at the depth is this one stand in one run, and how many they are.
-pub fn run_below(paths: &[Path], depth: usize, step: &str) -> (usize, usize)
-    requires fits { depth ≤ 126 }
-    requires sorted { AreSorted (rests depth paths.now) }
-    ensures { IsRunOfPaths depth step.now paths.now result.0 result.1 }
-{
-    run_near(paths, depth, step, 0)
-}
-
-// The same, looked for first at the place `near`: where steps are asked for in their order, it begins there.
-fn run_near(paths: &[Path], depth: usize, step: &str, near: usize) -> (usize, usize)
-    requires sorted { AreSorted (rests depth paths.now) }
-    ensures { IsRunOfPaths depth step.now paths.now result.0 result.1 }
-{
-    let start = start_near(paths, depth, step, near);
-    let count = count_same(&paths[start..], depth, step);
-    (start, count)
-}
-
-// How many paths come before the step: as many as `near`, or else they are searched by halves.
-fn start_near(paths: &[Path], depth: usize, step: &str, near: usize) -> usize
-    requires { AreSorted (rests depth paths.now) }
-    ensures { IsStart depth step.now paths.now result }
-{
-    if near <= paths.len()
-        && is_lower_before(paths, near, depth, step)
-        && !is_lower(paths, near, depth, step)
+impl<'a> PathsBelow<'a> {
+    // Those that come to the place one step further, looked for first at `near`, which then stands behind them.
+    fn below(&self, step: &str, near: &mut usize) -> PathsBelow<'a>
+        requires fits { self.now.depth ≤ 126 }
+        requires sorted { AreSorted (rests_of self.now) }
+        ensures depth { result.depth ≡ self.now.depth + 1 }
+        ensures sorted { AreSorted (rests_of result) }
+        ensures below { (p : Steps) → is_among (rests_of result) p ≡ is_among (rests_of self.now) (step.now ∷ p) }
+        ensures count { length result.sorted.now ≡ headed step.now (rests_of self.now) }
     {
-        return near;
+        let (start, count) = self.run_near(step, *near);
+        *near = start + count;
+        PathsBelow {
+            sorted: &self.sorted[start..][..count],
+            depth: self.depth + 1,
+        }
     }
-    paths.partition_point(|path| compared(path, depth, step) == Ordering::Less)
-}
 
-// Whether the path in front of the place, if there is one, comes before the step.
-fn is_lower_before(paths: &[Path], place: usize, depth: usize, step: &str) -> bool
-    requires { place ≤ length paths.now }
-    ensures { IsTrue result → (d : Steps) → 0 < place → step_order (drop depth (slice_index_or paths.now (place - 1) d)) step.now ≡ Less }
-{
-    place == 0 || compared(&paths[place - 1], depth, step) == Ordering::Less
-}
-
-// Whether there is a path at the place, and it comes before the step.
-fn is_lower(paths: &[Path], place: usize, depth: usize, step: &str) -> bool
-    ensures { IsFalse result → (d : Steps) → place < length paths.now → step_order (drop depth (slice_index_or paths.now place d)) step.now ≢ Less }
-{
-    place < paths.len() && compared(&paths[place], depth, step) == Ordering::Less
-}
-
-// How many of the paths have the step, where none comes before it. Most often none or one, or else all.
-fn count_same(paths: &[Path], depth: usize, step: &str) -> usize
-    requires sorted { AreSorted (rests depth paths.now) }
-    requires follow { Every (Follows depth step.now) paths.now }
-    ensures within { result ≤ length paths.now }
-    ensures run { Every (Compares Equal depth step.now) (take result paths.now) }
-    ensures behind { Every (Compares Greater depth step.now) (drop result paths.now) }
-{
-    if !has_step(paths, 0, depth, step) {
-        return 0;
+    // Where those with the step stand in one run, and how many they are, looked for first at the place `near`: where
+    // steps are asked for in their order, the run begins there.
+    fn run_near(&self, step: &str, near: usize) -> (usize, usize)
+        requires sorted { AreSorted (rests_of self.now) }
+        ensures { IsRunOfPaths self.now.depth step.now self.now.sorted.now result.0 result.1 }
+    {
+        let start = self.start_near(step, near);
+        let behind = PathsBelow {
+            sorted: &self.sorted[start..],
+            depth: self.depth,
+        };
+        (start, behind.count_same(step))
     }
-    if !has_step(paths, 1, depth, step) {
-        return 1;
-    }
-    let all = paths.len();
-    if has_step(paths, all - 1, depth, step) {
-        return all;
-    }
-    paths.partition_point(|path| compared(path, depth, step) == Ordering::Equal)
-}
 
-// Whether there is a path at the place, and it has the step.
-fn has_step(paths: &[Path], place: usize, depth: usize, step: &str) -> bool
-    ensures there { IsTrue result → place < length paths.now }
-    ensures has { IsTrue result → (d : Steps) → step_order (drop depth (slice_index_or paths.now place d)) step.now ≡ Equal }
-    ensures differs { IsFalse result → (d : Steps) → place < length paths.now → step_order (drop depth (slice_index_or paths.now place d)) step.now ≢ Equal }
-{
-    place < paths.len() && compared(&paths[place], depth, step) == Ordering::Equal
+    // How many come before the step: as many as `near`, or else they are searched by halves.
+    fn start_near(&self, step: &str, near: usize) -> usize
+        requires { AreSorted (rests_of self.now) }
+        ensures { IsStart self.now.depth step.now self.now.sorted.now result }
+    {
+        if near <= self.sorted.len()
+            && self.is_lower_before(near, step)
+            && !self.is_lower(near, step)
+        {
+            return near;
+        }
+        self.sorted
+            .partition_point(|path| compared(path, self.depth, step) == Ordering::Less)
+    }
+
+    // Whether the path in front of the place, if there is one, comes before the step.
+    fn is_lower_before(&self, place: usize, step: &str) -> bool
+        requires { place ≤ length self.now.sorted.now }
+        ensures { IsTrue result → (d : Steps) → 0 < place → step_order (drop self.now.depth (slice_index_or self.now.sorted.now (place - 1) d)) step.now ≡ Less }
+    {
+        place == 0 || compared(&self.sorted[place - 1], self.depth, step) == Ordering::Less
+    }
+
+    // Whether there is a path at the place, and it comes before the step.
+    fn is_lower(&self, place: usize, step: &str) -> bool
+        ensures { IsFalse result → (d : Steps) → place < length self.now.sorted.now → step_order (drop self.now.depth (slice_index_or self.now.sorted.now place d)) step.now ≢ Less }
+    {
+        place < self.sorted.len()
+            && compared(&self.sorted[place], self.depth, step) == Ordering::Less
+    }
+
+    // How many have the step, where none comes before it. Most often none or one, or else all.
+    fn count_same(&self, step: &str) -> usize
+        requires sorted { AreSorted (rests_of self.now) }
+        requires follow { Every (Follows self.now.depth step.now) self.now.sorted.now }
+        ensures within { result ≤ length self.now.sorted.now }
+        ensures run { Every (Compares Equal self.now.depth step.now) (take result self.now.sorted.now) }
+        ensures behind { Every (Compares Greater self.now.depth step.now) (drop result self.now.sorted.now) }
+    {
+        if !self.has_step(0, step) {
+            return 0;
+        }
+        if !self.has_step(1, step) {
+            return 1;
+        }
+        let all = self.sorted.len();
+        if self.has_step(all - 1, step) {
+            return all;
+        }
+        self.sorted
+            .partition_point(|path| compared(path, self.depth, step) == Ordering::Equal)
+    }
+
+    // Whether there is a path at the place, and it has the step.
+    fn has_step(&self, place: usize, step: &str) -> bool
+        ensures there { IsTrue result → place < length self.now.sorted.now }
+        ensures has { IsTrue result → (d : Steps) → step_order (drop self.now.depth (slice_index_or self.now.sorted.now place d)) step.now ≡ Equal }
+        ensures differs { IsFalse result → (d : Steps) → place < length self.now.sorted.now → step_order (drop self.now.depth (slice_index_or self.now.sorted.now place d)) step.now ≢ Equal }
+    {
+        place < self.sorted.len()
+            && compared(&self.sorted[place], self.depth, step) == Ordering::Equal
+    }
+
+    // The next mark, where one of the paths ends at the place.
+    fn own_mark(&self, next: &mut u32) -> Option<u32>
+        requires sorted { AreSorted (rests_of self.now) }
+        requires few { next.old + one_if (is_among (rests_of self.now) []) < 2 ^ 32 }
+        ensures own { result ≡ mark_if (is_among (rests_of self.now) []) next.old }
+        ensures next { next.new ≡ next.old + one_if (is_among (rests_of self.now) []) }
+    {
+        match self.sorted.first() {
+            Some(path) if path.len() <= self.depth => {
+                let mark = *next;
+                *next += 1;
+                Some(mark)
+            }
+            _ => None,
+        }
+    }
 }
 
 // How the step of a path at the depth compares with another.
@@ -278,19 +308,15 @@ fn compared(path: &Path, depth: usize, step: &str) -> Ordering
     }
 }
 
-// The next mark, where one of the paths ends at the depth.
-fn own_mark(paths: &[Path], depth: usize, next: &mut u32) -> Option<u32>
+/// Where the paths whose step at the depth is this one stand in one run, and how many they are.
+pub fn run_below(paths: &[Path], depth: usize, step: &str) -> (usize, usize)
+    requires fits { depth ≤ 126 }
     requires sorted { AreSorted (rests depth paths.now) }
-    requires few { next.old + one_if (is_among (rests depth paths.now) []) < 2 ^ 32 }
-    ensures own { result ≡ mark_if (is_among (rests depth paths.now) []) next.old }
-    ensures next { next.new ≡ next.old + one_if (is_among (rests depth paths.now) []) }
+    ensures { IsRunOfPaths depth step.now paths.now result.0 result.1 }
 {
-    match paths.first() {
-        Some(path) if path.len() <= depth => {
-            let mark = *next;
-            *next += 1;
-            Some(mark)
-        }
-        _ => None,
-    }
+    let paths = PathsBelow {
+        sorted: paths,
+        depth,
+    };
+    paths.run_near(step, 0)
 }

@@ -3,7 +3,7 @@ use Rattle.std.specs.Vec.Iter.{into_iter_items}
 use Rattle.claim_tree.specs.Nodes.{nodes, elements_nodes, members_nodes}
 use Rattle.claim_tree.specs.View.{tree_of}
 use Rattle.claim_tree.specs.ListViews.{elements_of, members_of}
-use Rattle.marked_tree.specs.Rests.{rests}
+use Rattle.marked_tree.specs.PathsBelow.{rests_of}
 use Rattle.marked_tree.proofs.MarkSame.{MarksElements, MarksMembers}
 use Rattle.marked_tree.proofs.marking.+mark.Given as goal
 
@@ -20,7 +20,7 @@ abbrev pub decreases-mark_map : goal.decreases-mark_map
 decreases-mark_map l = 3 * members_nodes l.trees + 2
 
 abbrev pub invariant-mark_list-loop-tree : goal.invariant-mark_list-loop-tree
-invariant-mark_list-loop-tree l = MarksElements (rests l.fn.depth l.fn.paths) l.fn.next l.fn.trees l.marked l.next (elements_of (into_iter_items l.tree-iterator))
+invariant-mark_list-loop-tree l = MarksElements (rests_of l.fn.paths) l.fn.next l.fn.trees l.marked l.next (elements_of (into_iter_items l.tree-iterator))
 
 abbrev pub invariant-mark_map-loop-name : goal.invariant-mark_map-loop-name
-invariant-mark_map-loop-name l = MarksMembers (rests l.fn.depth l.fn.paths) l.fn.next l.fn.trees l.marked l.next (members_of (into_iter_items l.name-iterator))
+invariant-mark_map-loop-name l = MarksMembers (rests_of l.fn.paths) l.fn.next l.fn.trees l.marked l.next (members_of (into_iter_items l.name-iterator))

@@ -3,13 +3,13 @@ use Rattle.std.proofs.lemmas.List.Sorted.{IsPartitionPoint-from_clause}
 use Rattle.marked_tree.specs.Rests.{step_order}
 use Rattle.marked_tree.proofs.PathOrder.{is_less, index_less, parted_less}
 use Rattle.marked_tree.proofs.RunSearch.{edge_point, start_is, not_less}
-use Rattle.marked_tree.proofs.marking.start_near.Goals as goal
+use Rattle.marked_tree.proofs.marking.PathsBelow.start_near.Goals as goal
 
 pub returns-then-not-is_lower : goal.returns-then-not-is_lower
 returns-then-not-is_lower c =
-    let depth = c.args.depth in
+    let depth = c.args.self.now.depth in
     let step = c.args.step.now in
-    let xs = c.args.paths.now in
+    let xs = c.args.self.now.sorted.now in
     let near = c.args.near in
     let within : near ≤ length xs = search rules in
     start_is depth step xs near within
@@ -19,8 +19,8 @@ returns-then-not-is_lower c =
 
 pub returns : goal.returns
 returns c =
-    let depth = c.args.depth in
+    let depth = c.args.self.now.depth in
     let step = c.args.step.now in
-    let xs = c.args.paths.now in
+    let xs = c.args.self.now.sorted.now in
     let point = IsPartitionPoint-from_clause (is_less depth step) _ _ c.partition_point.ensures.partitioned (parted_less depth step xs c.requires) (λ a r q k. search rules) in
     start_is depth step xs c.partition_point.result c.partition_point.ensures.bound point
