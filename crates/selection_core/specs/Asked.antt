@@ -2,7 +2,10 @@
 use Rattle.std.specs.Prelude.{◌≡◌, ℕ, ◌⊎◌, List, [], ◌∷◌, ◌++◌, map, ltb, Bool, true, false, Option, Some, None}
 use Rattle.claim_tree.specs.Lists.{In}
 use Rattle.marked_tree.specs.Paths.{Path, Spot}
+use Rattle.marked_tree.specs.Numbers.{has}
 use Rattle.selection_core.specs.Consent.{RuleAnswers, Allows}
+use Rattle.selection_core.specs.declared.allowing.Asking.{Asking}
+use Rattle.selection_core.specs.declared.allowing.Walk.{Walk}
 
 -- a mark and its place
 abbrev pub SeenMark : Type 0
@@ -26,3 +29,7 @@ pub record IsAskedOnWalk {F : Type 0} (answers : RuleAnswers F) (rule : F) (s : 
   pub allowed : (x : SeenMark) → In x seen → s x.0 ≡ true → is_below x.0 after ≡ true → Allows answers rule x.1 true
   pub falls : (i : ℕ) → is_below i after ≡ true → is_below i before ≡ true
   pub refused : (after ≡ before) ⊎ ((x : SeenMark) × In x seen × (s x.0 ≡ true) × (after ≡ Some x.0) × Allows answers rule x.1 false)
+
+-- so of a walk on which these marks were seen
+abbrev pub Asks : {F : Type 0} → RuleAnswers F → Asking F → List SeenMark → Walk → Walk → Type 0
+Asks answers asking seen before after = IsAskedOnWalk answers asking.consent.now (has asking.chosen.now) seen before.refused after.refused

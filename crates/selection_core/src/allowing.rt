@@ -6,7 +6,7 @@ ghost use Rattle.marked_tree.specs.Marked.{strip, strip_elements, strip_members}
 ghost use Rattle.marked_tree.specs.Numbers.{has};
 ghost use Rattle.marked_tree.specs.Paths.{spots, elements_spots, members_spots};
 ghost use Rattle.marked_tree.specs.View.{marked_of};
-ghost use Rattle.selection_core.specs.Asked.{own_seen, seen_from, is_below as is_below_of, IsAskedOnWalk};
+ghost use Rattle.selection_core.specs.Asked.{own_seen, seen_from, is_below as is_below_of, Asks};
 ghost use Rattle.selection_core.specs.Consent.{AllAllowed};
 ghost use Rattle.selection_core.specs.AllowCalls.{IsAllowRefused};
 
@@ -34,119 +34,113 @@ pub fn allow<F: Fn(&Path) -> bool>(
     ensures allowed { IfOk result (λ _. AllAllowed F.Fn consent.now (marked_of tree.now) (has chosen.now)) }
     ensures refused { IfErr result (IsAllowRefused F.Fn consent.now (marked_of tree.now) (has chosen.now)) }
 {
-    let mut at = Path::new(alloc);
-    let mut refused = None;
-    ask_inside(consent, tree, chosen, &mut at, &mut refused)?;
-    match refused {
+    let asking = Asking { consent, chosen };
+    let mut walk = Walk {
+        at: Path::new(alloc),
+        refused: None,
+    };
+    asking.ask_inside(tree, &mut walk)?;
+    match walk.refused {
         Some(mark) => Err(AllowError::Refused(mark)),
         None => Ok(()),
     }
 }
 
-// Asks for the places inside a tree that stands at `at`. The least mark that is refused stays in `refused`.
-#[cycle(ask)]
-fn ask_inside<F: Fn(&Path) -> bool>(
-    consent: &Consent<F>,
-    tree: &Marked,
-    chosen: &ChosenSet,
-    at: &mut Path,
-    refused: &mut Option<u32>,
-) -> Result<(), NoMemory>
-    requires callable { F.IsAlwaysCallable consent.now }
-    requires depth { depth (strip (marked_of tree.now)) ≤ 127 }
-    ensures asked { OnOk result (IsAskedOnWalk F.Fn consent.now (has chosen.now) (seen_from at.old (spots (marked_of tree.now))) refused.old refused.new) }
-    ensures at { OnOk result (at.new ≡ at.old) }
-{
-    match tree {
-        Marked::List(list) => ask_elements(consent, list, chosen, at, refused),
-        Marked::Object(map) => ask_members(consent, map, chosen, at, refused),
-        _ => Ok(()),
-    }
+// The rule, and the marks for whose places it is asked.
+#[derive(Drop)]
+struct Asking<'a, F: Fn(&Path) -> bool> {
+    consent: &'a Consent<F>,
+    chosen: &'a ChosenSet,
 }
 
-#[cycle(ask)]
-fn ask_elements<F: Fn(&Path) -> bool>(
-    consent: &Consent<F>,
-    list: &MarkedList,
-    chosen: &ChosenSet,
-    at: &mut Path,
-    refused: &mut Option<u32>,
-) -> Result<(), NoMemory>
-    requires callable { F.IsAlwaysCallable consent.now }
-    requires depth { elements_depth (strip_elements list.now) ≤ 126 }
-    ensures asked { OnOk result (IsAskedOnWalk F.Fn consent.now (has chosen.now) (seen_from at.old (elements_spots 0 list.now)) refused.old refused.new) }
-    ensures at { OnOk result (at.new ≡ at.old) }
-{
-    for (i, element) in list.elements().iter().enumerate() {
-        let (mark, tree) = element;
-        if may_hold(*mark, tree, chosen) {
-            let mut digits = Buffer::new();
-            ask_node(consent, digits.format(i), *mark, tree, chosen, at, refused)?;
+// How far a walk over a tree has come: to which place, and the least mark that is refused so far.
+#[derive(Drop)]
+struct Walk {
+    at: Path,
+    refused: Option<u32>,
+}
+
+impl<'a, F: Fn(&Path) -> bool> Asking<'a, F> {
+    // Asks for the places inside the tree to which the walk has come.
+    #[cycle(ask)]
+    fn ask_inside(&self, tree: &Marked, walk: &mut Walk) -> Result<(), NoMemory>
+        requires callable { F.IsAlwaysCallable self.now.consent.now }
+        requires depth { depth (strip (marked_of tree.now)) ≤ 127 }
+        ensures asked { OnOk result (Asks F.Fn self.now (seen_from walk.old.at (spots (marked_of tree.now))) walk.old walk.new) }
+        ensures at { OnOk result (walk.new.at ≡ walk.old.at) }
+    {
+        match tree {
+            Marked::List(list) => self.ask_elements(list, walk),
+            Marked::Object(map) => self.ask_members(map, walk),
+            _ => Ok(()),
         }
     }
-    Ok(())
-}
 
-#[cycle(ask)]
-fn ask_members<F: Fn(&Path) -> bool>(
-    consent: &Consent<F>,
-    map: &MarkedMap,
-    chosen: &ChosenSet,
-    at: &mut Path,
-    refused: &mut Option<u32>,
-) -> Result<(), NoMemory>
-    requires callable { F.IsAlwaysCallable consent.now }
-    requires depth { members_depth (strip_members map.now) ≤ 126 }
-    ensures asked { OnOk result (IsAskedOnWalk F.Fn consent.now (has chosen.now) (seen_from at.old (members_spots map.now)) refused.old refused.new) }
-    ensures at { OnOk result (at.new ≡ at.old) }
-{
-    for (name, mark, tree) in map.members() {
-        if may_hold(*mark, tree, chosen) {
-            ask_node(consent, name.as_str(), *mark, tree, chosen, at, refused)?;
+    #[cycle(ask)]
+    fn ask_elements(&self, list: &MarkedList, walk: &mut Walk) -> Result<(), NoMemory>
+        requires callable { F.IsAlwaysCallable self.now.consent.now }
+        requires depth { elements_depth (strip_elements list.now) ≤ 126 }
+        ensures asked { OnOk result (Asks F.Fn self.now (seen_from walk.old.at (elements_spots 0 list.now)) walk.old walk.new) }
+        ensures at { OnOk result (walk.new.at ≡ walk.old.at) }
+    {
+        for (i, element) in list.elements().iter().enumerate() {
+            let (mark, tree) = element;
+            if may_hold(*mark, tree, self.chosen) {
+                let mut digits = Buffer::new();
+                self.ask_node(digits.format(i), *mark, tree, walk)?;
+            }
         }
+        Ok(())
     }
-    Ok(())
-}
 
-// Asks for a node that stands one step below `at`, and for the places inside it.
-#[cycle(ask)]
-fn ask_node<F: Fn(&Path) -> bool>(
-    consent: &Consent<F>,
-    step: &str,
-    mark: Option<u32>,
-    tree: &Marked,
-    chosen: &ChosenSet,
-    at: &mut Path,
-    refused: &mut Option<u32>,
-) -> Result<(), NoMemory>
-    requires callable { F.IsAlwaysCallable consent.now }
-    requires depth { depth (strip (marked_of tree.now)) ≤ 127 }
-    ensures asked { OnOk result (IsAskedOnWalk F.Fn consent.now (has chosen.now) (own_seen mark (at.old ++ step.now ∷ []) ++ seen_from (at.old ++ step.now ∷ []) (spots (marked_of tree.now))) refused.old refused.new) }
-    ensures at { OnOk result (at.new ≡ at.old) }
-{
-    at.push(step)?;
-    ask(consent, mark, chosen, at, refused);
-    ask_inside(consent, tree, chosen, at, refused)?;
-    at.pop();
-    Ok(())
-}
+    #[cycle(ask)]
+    fn ask_members(&self, map: &MarkedMap, walk: &mut Walk) -> Result<(), NoMemory>
+        requires callable { F.IsAlwaysCallable self.now.consent.now }
+        requires depth { members_depth (strip_members map.now) ≤ 126 }
+        ensures asked { OnOk result (Asks F.Fn self.now (seen_from walk.old.at (members_spots map.now)) walk.old walk.new) }
+        ensures at { OnOk result (walk.new.at ≡ walk.old.at) }
+    {
+        for (name, mark, tree) in map.members() {
+            if may_hold(*mark, tree, self.chosen) {
+                self.ask_node(name.as_str(), *mark, tree, walk)?;
+            }
+        }
+        Ok(())
+    }
 
-// Asks for the place of a mark, where it is chosen and smaller than the one that is refused.
-fn ask<F: Fn(&Path) -> bool>(
-    consent: &Consent<F>,
-    mark: Option<u32>,
-    chosen: &ChosenSet,
-    at: &Path,
-    refused: &mut Option<u32>,
-)
-    requires callable { F.IsAlwaysCallable consent.now }
-    ensures { IsAskedOnWalk F.Fn consent.now (has chosen.now) (own_seen mark at.now) refused.old refused.new }
-{
-    let Some(mark) = mark else {
-        return;
-    };
-    if chosen.has(mark) && is_below(mark, *refused) && !consent.test(at) {
-        *refused = Some(mark);
+    // Asks for a node that stands one step further, and for the places inside it.
+    #[cycle(ask)]
+    fn ask_node(
+        &self,
+        step: &str,
+        mark: Option<u32>,
+        tree: &Marked,
+        walk: &mut Walk,
+    ) -> Result<(), NoMemory>
+        requires callable { F.IsAlwaysCallable self.now.consent.now }
+        requires depth { depth (strip (marked_of tree.now)) ≤ 127 }
+        ensures asked { OnOk result (Asks F.Fn self.now (own_seen mark (walk.old.at ++ step.now ∷ []) ++ seen_from (walk.old.at ++ step.now ∷ []) (spots (marked_of tree.now))) walk.old walk.new) }
+        ensures at { OnOk result (walk.new.at ≡ walk.old.at) }
+    {
+        walk.at.push(step)?;
+        self.ask(mark, walk);
+        self.ask_inside(tree, walk)?;
+        walk.at.pop();
+        Ok(())
+    }
+
+    // Asks for the place of a mark, where it is chosen and smaller than the one that is refused.
+    fn ask(&self, mark: Option<u32>, walk: &mut Walk)
+        requires callable { F.IsAlwaysCallable self.now.consent.now }
+        ensures asked { Asks F.Fn self.now (own_seen mark walk.old.at) walk.old walk.new }
+        ensures at { walk.new.at ≡ walk.old.at }
+    {
+        let Some(mark) = mark else {
+            return;
+        };
+        if self.chosen.has(mark) && is_below(mark, walk.refused) && !self.consent.test(&walk.at) {
+            walk.refused = Some(mark);
+        }
     }
 }
 

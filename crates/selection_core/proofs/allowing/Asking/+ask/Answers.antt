@@ -1,4 +1,4 @@
-use Rattle.std.proofs.Common.{◌++◌, List, ◌∙◌, subst, arith}
+use Rattle.std.proofs.Common.{◌++◌, List, ◌∙◌, ap, subst, arith}
 use Rattle.std.proofs.lemmas.List.{drop_all}
 use Rattle.marked_tree.specs.Numbers.{has}
 use Rattle.marked_tree.specs.Paths.{Path, spots, elements_spots, members_spots}
@@ -6,9 +6,10 @@ use Rattle.marked_tree.specs.View.{marked_of, marked_elements_of, marked_members
 use Rattle.marked_tree.proofs.MarkedViews.{Element, Entry}
 use Rattle.marked_tree.proofs.MarkedWalks.{into_element, into_member}
 use Rattle.selection_core.specs.Asked.{own_seen, seen_from, IsAskedOnWalk}
+use Rattle.selection_core.specs.declared.allowing.Walk.{Walk}
 use Rattle.selection_core.proofs.Asking.{IsAskedThrough, asked_none, asked_append, node_asked, node_skipped, element_seen, member_seen, popped}
-use Rattle.selection_core.proofs.allowing.+ask.Goals.{ask_elements-then-may_hold+in_ok-ask_node, ask_elements-else-may_hold, ask_members-then-may_hold+in_ok-ask_node, ask_members-else-may_hold}
-use Rattle.selection_core.proofs.allowing.+ask.Goals as goal
+use Rattle.selection_core.proofs.allowing.Asking.+ask.Goals.{ask_elements-then-may_hold+in_ok-ask_node, ask_elements-else-may_hold, ask_members-then-may_hold+in_ok-ask_node, ask_members-else-may_hold}
+use Rattle.selection_core.proofs.allowing.Asking.+ask.Goals as goal
 
 pub ask_elements-ask_node-requires : goal.ask_elements-ask_node-requires
 ask_elements-ask_node-requires g t c κs within =
@@ -17,25 +18,25 @@ ask_elements-ask_node-requires g t c κs within =
 
 pub ask_elements-loop-i-preserved : goal.ask_elements-loop-i-preserved
 ask_elements-loop-i-preserved g t c =
-    let seen = element_seen c.args.at.now c.loop-i.i c.elements-element-items.result.now c.element-item.result c.loop-i-test.true c.element-item.is in
+    let seen = element_seen c.args.walk.now.at c.loop-i.i c.elements-element-items.result.now c.element-item.result c.loop-i-test.true c.element-item.is in
     elim c.if-may_hold.branch [
       | ask_elements-then-may_hold+in_ok-ask_node w ↦ (
-        w.at-is ∙ w.in_ok-ask_node.ensures.at ∙ c.loop-i.invariant.0,
-        node_asked g.F.Fn c.args.consent.now (has c.args.chosen.now) _ _ _ _ _ _ _ _ _ _ _ _ _ seen c.loop-i.invariant.1 c.loop-i.invariant.0 w.format.ensures.text w.in_ok-ask_node.ensures.asked w.refused-is,
+        ap (λ (x : Walk). x.at) w.walk-is ∙ w.in_ok-ask_node.ensures.at ∙ c.loop-i.invariant.0,
+        node_asked g.F.Fn c.args.self.now.consent.now (has c.args.self.now.chosen.now) _ _ _ _ _ _ _ _ _ _ _ _ _ seen c.loop-i.invariant.1 c.loop-i.invariant.0 w.format.ensures.text w.in_ok-ask_node.ensures.asked (ap (λ (x : Walk). x.refused) w.walk-is),
       )
       | ask_elements-else-may_hold w ↦ (
-        w.at-is ∙ c.loop-i.invariant.0,
-        node_skipped g.F.Fn c.args.consent.now (has c.args.chosen.now) _ _ _ _ _ _ _ _ _ _ seen c.loop-i.invariant.1 (c.may_hold.ensures.own w.if-may_hold.false) (c.may_hold.ensures.inside w.if-may_hold.false) w.refused-is,
+        ap (λ (x : Walk). x.at) w.walk-is ∙ c.loop-i.invariant.0,
+        node_skipped g.F.Fn c.args.self.now.consent.now (has c.args.self.now.chosen.now) _ _ _ _ _ _ _ _ _ _ seen c.loop-i.invariant.1 (c.may_hold.ensures.own w.if-may_hold.false) (c.may_hold.ensures.inside w.if-may_hold.false) (ap (λ (x : Walk). x.refused) w.walk-is),
       )
     ]
 
 pub ask_elements-returns-clause-asked : goal.ask_elements-returns-clause-asked
 ask_elements-returns-clause-asked g t c =
     let es : List Element = c.elements-element-items.result.now in
-    let done = subst (λ (us : List Element). IsAskedThrough g.F.Fn c.args.consent.now (has c.args.chosen.now) (seen_from c.args.at.now (elements_spots c.loop-i.i (marked_elements_of us))) (seen_from c.args.at.now (elements_spots 0 (marked_elements_of es))) c.args.refused.now c.loop-i.refused)
+    let done = subst (λ (us : List Element). IsAskedThrough g.F.Fn c.args.self.now.consent.now (has c.args.self.now.chosen.now) (seen_from c.args.walk.now.at (elements_spots c.loop-i.i (marked_elements_of us))) (seen_from c.args.walk.now.at (elements_spots 0 (marked_elements_of es))) c.args.walk.now.refused c.loop-i.walk.refused)
     (drop_all c.loop-i.i es c.loop-i-test.false) c.loop-i.invariant.1 in
-    subst (λ us. IsAskedOnWalk g.F.Fn c.args.consent.now (has c.args.chosen.now) (seen_from c.args.at.now (elements_spots 0 us)) c.args.refused.now c.loop-i.refused) c.elements-element-items.ensures.value
-    (done c.loop-i.refused (asked_none g.F.Fn c.args.consent.now (has c.args.chosen.now) c.loop-i.refused))
+    subst (λ us. IsAskedOnWalk g.F.Fn c.args.self.now.consent.now (has c.args.self.now.chosen.now) (seen_from c.args.walk.now.at (elements_spots 0 us)) c.args.walk.now.refused c.loop-i.walk.refused) c.elements-element-items.ensures.value
+    (done c.loop-i.walk.refused (asked_none g.F.Fn c.args.self.now.consent.now (has c.args.self.now.chosen.now) c.loop-i.walk.refused))
 
 pub ask_members-ask_node-requires : goal.ask_members-ask_node-requires
 ask_members-ask_node-requires g t c κs within =
@@ -44,30 +45,30 @@ ask_members-ask_node-requires g t c κs within =
 
 pub ask_members-loop-name-preserved : goal.ask_members-loop-name-preserved
 ask_members-loop-name-preserved g t c =
-    let seen = member_seen c.args.at.now c.loop-name.name-index c.members-name-items.result.now c.loop-name-item.result c.loop-name-test.true c.loop-name-item.is in
+    let seen = member_seen c.args.walk.now.at c.loop-name.name-index c.members-name-items.result.now c.loop-name-item.result c.loop-name-test.true c.loop-name-item.is in
     elim c.if-may_hold.branch [
       | ask_members-then-may_hold+in_ok-ask_node w ↦ (
-        w.at-is ∙ w.in_ok-ask_node.ensures.at ∙ c.loop-name.invariant.0,
-        node_asked g.F.Fn c.args.consent.now (has c.args.chosen.now) _ _ _ _ _ _ _ _ _ _ _ _ _ seen c.loop-name.invariant.1 c.loop-name.invariant.0 w.as_str.ensures w.in_ok-ask_node.ensures.asked w.refused-is,
+        ap (λ (x : Walk). x.at) w.walk-is ∙ w.in_ok-ask_node.ensures.at ∙ c.loop-name.invariant.0,
+        node_asked g.F.Fn c.args.self.now.consent.now (has c.args.self.now.chosen.now) _ _ _ _ _ _ _ _ _ _ _ _ _ seen c.loop-name.invariant.1 c.loop-name.invariant.0 w.as_str.ensures w.in_ok-ask_node.ensures.asked (ap (λ (x : Walk). x.refused) w.walk-is),
       )
       | ask_members-else-may_hold w ↦ (
-        w.at-is ∙ c.loop-name.invariant.0,
-        node_skipped g.F.Fn c.args.consent.now (has c.args.chosen.now) _ _ _ _ _ _ _ _ _ _ seen c.loop-name.invariant.1 (c.may_hold.ensures.own w.if-may_hold.false) (c.may_hold.ensures.inside w.if-may_hold.false) w.refused-is,
+        ap (λ (x : Walk). x.at) w.walk-is ∙ c.loop-name.invariant.0,
+        node_skipped g.F.Fn c.args.self.now.consent.now (has c.args.self.now.chosen.now) _ _ _ _ _ _ _ _ _ _ seen c.loop-name.invariant.1 (c.may_hold.ensures.own w.if-may_hold.false) (c.may_hold.ensures.inside w.if-may_hold.false) (ap (λ (x : Walk). x.refused) w.walk-is),
       )
     ]
 
 pub ask_members-returns-clause-asked : goal.ask_members-returns-clause-asked
 ask_members-returns-clause-asked g t c =
     let ms : List Entry = c.members-name-items.result.now in
-    let done = subst (λ (us : List Entry). IsAskedThrough g.F.Fn c.args.consent.now (has c.args.chosen.now) (seen_from c.args.at.now (members_spots (marked_members_of us))) (seen_from c.args.at.now (members_spots (marked_members_of ms))) c.args.refused.now c.loop-name.refused)
+    let done = subst (λ (us : List Entry). IsAskedThrough g.F.Fn c.args.self.now.consent.now (has c.args.self.now.chosen.now) (seen_from c.args.walk.now.at (members_spots (marked_members_of us))) (seen_from c.args.walk.now.at (members_spots (marked_members_of ms))) c.args.walk.now.refused c.loop-name.walk.refused)
     (drop_all c.loop-name.name-index ms c.loop-name-test.false) c.loop-name.invariant.1 in
-    subst (λ us. IsAskedOnWalk g.F.Fn c.args.consent.now (has c.args.chosen.now) (seen_from c.args.at.now (members_spots us)) c.args.refused.now c.loop-name.refused) c.members-name-items.ensures.value
-    (done c.loop-name.refused (asked_none g.F.Fn c.args.consent.now (has c.args.chosen.now) c.loop-name.refused))
+    subst (λ us. IsAskedOnWalk g.F.Fn c.args.self.now.consent.now (has c.args.self.now.chosen.now) (seen_from c.args.walk.now.at (members_spots us)) c.args.walk.now.refused c.loop-name.walk.refused) c.members-name-items.ensures.value
+    (done c.loop-name.walk.refused (asked_none g.F.Fn c.args.self.now.consent.now (has c.args.self.now.chosen.now) c.loop-name.walk.refused))
 
 pub ask_node-returns-clause-asked : goal.ask_node-returns-clause-asked
 ask_node-returns-clause-asked g t c =
-    subst (λ (p : Path). IsAskedOnWalk g.F.Fn c.args.consent.now (has c.args.chosen.now) (own_seen c.args.mark p ++ seen_from p (spots (marked_of c.args.tree.now))) c.args.refused.now c.ask_inside.new.refused) c.in_ok-push.ensures.ok
-    (asked_append g.F.Fn c.args.consent.now (has c.args.chosen.now) (own_seen c.args.mark c.push.new.self) (seen_from c.push.new.self (spots (marked_of c.args.tree.now))) _ _ _ c.ask.ensures c.in_ok-ask_inside.ensures.asked)
+    subst (λ (p : Path). IsAskedOnWalk g.F.Fn c.args.self.now.consent.now (has c.args.self.now.chosen.now) (own_seen c.args.mark p ++ seen_from p (spots (marked_of c.args.tree.now))) c.args.walk.now.refused c.ask_inside.new.walk.refused) c.in_ok-push.ensures.ok
+    (asked_append g.F.Fn c.args.self.now.consent.now (has c.args.self.now.chosen.now) (own_seen c.args.mark c.push.new.self) (seen_from c.push.new.self (spots (marked_of c.args.tree.now))) _ _ _ c.ask.ensures.asked c.in_ok-ask_inside.ensures.asked)
 
 pub ask_node-returns-clause-at : goal.ask_node-returns-clause-at
-ask_node-returns-clause-at g t c = popped c.args.at.now c.ask_inside.new.at c.pop.new.self c.args.step.now (c.in_ok-ask_inside.ensures.at ∙ c.in_ok-push.ensures.ok) c.pop.ensures
+ask_node-returns-clause-at g t c = popped c.args.walk.now.at c.ask_inside.new.walk.at c.pop.new.self c.args.step.now (c.in_ok-ask_inside.ensures.at ∙ c.in_ok-push.ensures.ok) c.pop.ensures
