@@ -154,10 +154,10 @@ pub record HolderFails (parts : Parts) (payload : Tree) (hash : HashAlg) (policy
   pub sent : parts.binding ≡ Some token
   pub fails : BindingFails (judged token payload binding policy.skew hash (hashed parts) now) c place
 
--- what fails each condition on a token file under a policy
 abbrev pub FileFails : List ℕ → Condition → Place → Type 0
 FileFails content c place = file.TextFails content (fault_at c place)
 
+-- what fails each condition on a token file under a policy
 pub data Fails (content : List ℕ) (policy : Policy) (now : ℕ) (c : Condition) (place : Place) : Type 0 where
   of_file : FileFails content c place → Fails content policy now c place
   of_missing : (token : Token) → IsToken content token → MissingFails policy token.parts c place → Fails content policy now c place
