@@ -1,6 +1,5 @@
 -- What is said of what an order asks for is said of the order.
-use Rattle.std.proofs.Common.{ℕ, ◌≤◌, List, Result, Ok, Err, sym, ◌∙◌, subst, arith}
-use Rattle.std.specs.Result.{OnOk}
+use Rattle.std.proofs.Common.{ℕ, ◌≤◌, List, sym, ◌∙◌, subst, arith}
 use Rattle.std.specs.List.{AllZip}
 use Rattle.claim_tree.specs.Tree.{Tree}
 use Rattle.compact_form.specs.declared.parts.Parts.{Parts}
@@ -31,10 +30,6 @@ written_with o asked parts body given is w = record {
   count = w.count ∙ sym is.hidden;
   disclosures = subst (λ (h : HashAlg). AllZip (GivesSalted h) parts.disclosures given) (sym is.hash) w.disclosures;
 }
-
-pub on_ok : {T E P Q : Type 0} (r : Result T E) → (P → Q) → OnOk r P → OnOk r Q
-on_ok (Ok u) f p = f p
-on_ok (Err x) f p = p
 
 late_content : {A : Type 0} (o : Order) (p : Tree) (g : List Given) (k : ℕ) → k ≤ 2 → ContentDiffers o p g k → A
 late_content o p g k l (claims_differ e n) = absurd (omega (arith, l, e))

@@ -1,9 +1,9 @@
 use Rattle.std.proofs.Common.{inr, refl}
-use Rattle.std.proofs.lemmas.Result.{IfErr-weaker}
+use Rattle.std.proofs.lemmas.Result.{IfErr-weaker, on_ok_weaker}
 use Rattle.claim_tree.specs.View.{tree_of}
 use Rattle.issuer_core.specs.Order.{order_of}
 use Rattle.audit_core.specs.Audit.{written_differs, content_differs}
-use Rattle.audit_core.proofs.Askeds.{written_for, written_with, on_ok, not_early}
+use Rattle.audit_core.proofs.Askeds.{written_for, written_with, not_early}
 use Rattle.audit_core.proofs.Verdicts.{on_part}
 use Rattle.audit_core.proofs.auditing.judge_token.Goals as goal
 
@@ -14,7 +14,7 @@ returns-in-Some-clause-audited g c =
     let body = tree_of c.in-Some.written.body in
     let given = c.in-Some.written.given in
     let written = written_for o c.in_ok-asked.asked c.args.token.now.parts body given is (rw c.in-Some.is at c.in_ok-written.ensures.some) in
-    on_ok c.judge_content.result (λ f. record { signed = c.in_ok-is_signed_for.ensures.0 c.if-not-branch.false; body = body; given = given; written = written; audited = f o is }) c.judge_content.ensures.audited
+    on_ok_weaker c.judge_content.result (λ f. record { signed = c.in_ok-is_signed_for.ensures.0 c.if-not-branch.false; body = body; given = given; written = written; audited = f o is }) c.judge_content.ensures.audited
 
 pub returns-in-Some-clause-differs : goal.returns-in-Some-clause-differs
 returns-in-Some-clause-differs g c =

@@ -1,5 +1,5 @@
-use Rattle.std.proofs.Common.{OnOk, Result, Ok, Err, subst}
-use Rattle.std.proofs.lemmas.Result.{IfErr-weaker}
+use Rattle.std.proofs.Common.{subst}
+use Rattle.std.proofs.lemmas.Result.{IfErr-weaker, on_ok_weaker}
 use Rattle.claim_tree.specs.Tree.{Tree}
 use Rattle.claim_tree.specs.View.{tree_of}
 use Rattle.compact_form.specs.Lowest.{IsLowest, NoneFails}
@@ -9,10 +9,6 @@ use Rattle.verifier_core.proofs.CheckSteps.{on_fault}
 use Rattle.verifier_core.proofs.Verdicts.{claims_shown, holder_shown, none_shown, shown_lowest, accepted}
 use Rattle.verifier_core.proofs.check_shown.check_shown.Goals as goal
 
-on_ok_more : {U E : Type 0} (r : Result U E) (P Q : Type 0) → (P → Q) → OnOk r P → OnOk r Q
-on_ok_more (Ok u) P Q more h = more h
-on_ok_more (Err e) P Q more h = tt
-
 pub returns-in-Err-clause-refused : goal.returns-in-Err-clause-refused
 returns-in-Err-clause-refused c text marked opened same =
     let lowest = claims_shown c.args.token.now.parts (tree_of c.args.payload.now) c.args.hash c.args.policy.now c.args.now c.in-Err.fault c.in-Err.ensures.lowest in
@@ -21,7 +17,7 @@ returns-in-Err-clause-refused c text marked opened same =
 
 pub returns-clause-accepted : goal.returns-clause-accepted
 returns-clause-accepted c text marked opened same =
-    on_ok_more c.check_holder.result _ _
+    on_ok_weaker c.check_holder.result
     (λ none.
     accepted text c.args.policy.now c.args.now c.args.token.now opened.is_token opened.sent marked opened.checked c.args.hash opened.hash_is
     (subst (λ (t : Tree). NoneFails (ShownFails c.args.token.now.parts t c.args.hash c.args.policy.now c.args.now)) same

@@ -1,11 +1,9 @@
-use Rattle.std.proofs.Common.{◌≡◌, true, false, Err, refl, sym, ap, subst, ◌∙◌}
+use Rattle.std.proofs.Common.{true, false, Err, refl, sym, ap, subst, ◌∙◌}
+use Rattle.std.proofs.lemmas.Bool.{false≢true}
 use Rattle.std.specs.Option.{option_copied}
 use Rattle.verifier_core.specs.Verdict.{IsAlgRefused, IsTypeRefused}
 use Rattle.verifier_core.specs.Check.{bad_header, bad_alg, bad_type, no_key, not_signed}
 use Rattle.verifier_core.proofs.check_signed.check_signed.Goals as goal
-
-no_truth : false ≡ true → ⊥
-no_truth e = cc e
 
 pub returns-in-Err-Unreadable-clause-refused : goal.returns-in-Err-Unreadable-clause-refused
 returns-in-Err-Unreadable-clause-refused c = rw c.fails.ensures (bad_header (c.in-Err-Unreadable.ensures.unreadable (ap Err c.in-Err-Unreadable.field-0-is)) refl)
@@ -39,7 +37,7 @@ returns-then-not-is_good-clause-refused c =
     (λ w. c.if-is_type_refused.ensures (subst (λ t. IsTypeRefused (option_copied c.rules.inside.typ) t) (sym c.as_ref.ensures.value) w))
     c.in-Some-key_for.key.now
     (sym c.in-Some-key_for.ensures)
-    (λ good. no_truth (sym c.if-not-is_good.true ∙ c.in_ok-is_good.ensures.1 good))
+    (λ good. false≢true (sym c.if-not-is_good.true ∙ c.in_ok-is_good.ensures.1 good))
     refl)
 
 pub returns-clause-ok : goal.returns-clause-ok

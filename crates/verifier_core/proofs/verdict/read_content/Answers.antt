@@ -1,4 +1,5 @@
-use Rattle.std.proofs.Common.{◌≡◌, ◌<◌, ◌-◌, ◌^◌, false, true, length, Result, Ok, Err, OnOk, refl, sym, subst}
+use Rattle.std.proofs.Common.{◌<◌, ◌-◌, ◌^◌, false, true, length, Result, Ok, Err, OnOk, refl, sym, subst}
+use Rattle.std.proofs.lemmas.Bool.{false≢true}
 use Rattle.std.proofs.lemmas.Result.{IfOk-weaker, IfErr-weaker}
 use Rattle.compact_form.specs.Lowest.{IsLowest}
 use Rattle.json_form.specs.declared.token.Token.{Token}
@@ -7,9 +8,6 @@ use Rattle.verifier_core.specs.Verdict.{Rules, TokenFails, Fails, IsBindingMissi
 use Rattle.verifier_core.proofs.Verdicts.{missing_lowest}
 use Rattle.verifier_core.proofs.Contents.{token_refused}
 use Rattle.verifier_core.proofs.verdict.read_content.Goals as goal
-
-no_truth : false ≡ true → ⊥
-no_truth e = cc e
 
 on_ok_all : {U E : Type 0} (r : Result U E) (P : Type 0) → P → OnOk r P
 on_ok_all (Ok u) P h = h
@@ -25,7 +23,7 @@ read-requires c = record { few = subst (λ (t : Token). length t.parts.disclosur
 
 pub returns-clause-sent : goal.returns-clause-sent
 returns-clause-sent c =
-    on_ok_all c.read.result _ (λ missing. no_truth (c.if-is_binding_missing.ensures.1 (subst (λ (t : Token). IsBindingMissing c.args.policy.now t.parts) (sym c.view-view.ensures) missing)))
+    on_ok_all c.read.result _ (λ missing. false≢true (c.if-is_binding_missing.ensures.1 (subst (λ (t : Token). IsBindingMissing c.args.policy.now t.parts) (sym c.view-view.ensures) missing)))
 
 pub returns-clause-content : goal.returns-clause-content
 returns-clause-content c =
@@ -35,7 +33,7 @@ returns-clause-content c =
 
 pub returns-clause-refused : goal.returns-clause-refused
 returns-clause-refused c text now is =
-    let sent : IsBindingMissing c.args.policy.now c.args.token.now.parts → ⊥ = λ missing. no_truth (c.if-is_binding_missing.ensures.1 (subst (λ (t : Token). IsBindingMissing c.args.policy.now t.parts) (sym c.view-view.ensures) missing)) in
+    let sent : IsBindingMissing c.args.policy.now c.args.token.now.parts → ⊥ = λ missing. false≢true (c.if-is_binding_missing.ensures.1 (subst (λ (t : Token). IsBindingMissing c.args.policy.now t.parts) (sym c.view-view.ensures) missing)) in
     IfErr-weaker c.read.result _ _
     (λ e failed.
     token_refused text c.args.policy.now now c.args.token.now is sent e
