@@ -1,11 +1,9 @@
--- The words of an audit, what refuses a token with its line, and the bytes of a file.
-use Rattle.std.proofs.Common.{◌≡◌, ◌≢◌, ℕ, ◌+◌, ◌≤◌, ◌<◌, length, List, [], ◌∷◌, Bool, true, Option, String, Global, map, get_or, take, string_bytes, IfSome, subst, sym, refl, ap, ◌∙◌, arith}
+-- The words of an audit, and what refuses a token with its line.
+use Rattle.std.proofs.Common.{◌≡◌, ◌≢◌, ℕ, ◌≤◌, ◌<◌, length, List, [], ◌∷◌, Bool, true, String, Global, map, get_or, string_bytes, subst, sym, refl, ap, ◌∙◌, arith}
 use Rattle.std.specs.Prelude.{bytes_eq}
 use Rattle.std.proofs.lemmas.Slice.Eq.{bytes_eq-Decides}
-use Rattle.sd_outside.specs.Limits.{file_max}
 use Rattle.claim_tree.specs.Tree.{Text}
 use Rattle.cli_parts.specs.Lines.{line}
-use Rattle.cli_parts.specs.Runs.{IsFetched}
 use Rattle.hmac_sign.specs.Hmac.{IsGood}
 use Rattle.hmac_sign.specs.Signatures.{Meaning}
 use Rattle.hmac_sign.specs.declared.alg.Alg.{Alg}
@@ -51,10 +49,3 @@ says_no order_file token_file answer said alg error file same other h told = rec
   fails = subst (λ (x : Alg). FailsAudit (order_of said.order) x (IsGood said.key) token_file error) same (failed (order_of said.order) alg (IsGood said.key) token_file error other h);
   line_is = told;
 }
-
--- the bytes of a file, by what the cabinet held at another moment
-pub fetched : (holds later : List ℕ → Option (List ℕ)) (name file bytes : List ℕ) → later name ≡ holds name → bytes ≡ file
-    → IfSome (later name) (λ content. file ≡ take (file_max + 1) content) → IsFetched holds name bytes
-fetched holds later name file bytes held same f =
-    subst (λ (x : Option (List ℕ)). IfSome x (λ content. bytes ≡ take (file_max + 1) content)) held
-    (subst (λ (x : List ℕ). IfSome (later name) (λ content. x ≡ take (file_max + 1) content)) (sym same) f)

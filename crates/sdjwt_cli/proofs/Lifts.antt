@@ -1,6 +1,5 @@
 -- From the answer over files to that of the command that fetched them.
-use Rattle.std.proofs.Common.{◌≡◌, ℕ, List, [], ◌∷◌, Option, Result, String, Global, IfOk, IfErr, IfSome, take, string_bytes, sym, subst}
-use Rattle.std.specs.List.{AllZip}
+use Rattle.std.proofs.Common.{◌≡◌, ℕ, List, [], ◌∷◌, Option, Result, String, Global, IfOk, IfErr, IfSome, take, string_bytes, sym}
 use Rattle.cli_parts.specs.Replies.{gives, refuses, unreadable}
 use Rattle.cli_parts.specs.Stops.{IsReply, OnRefused, OnUnreadable}
 use Rattle.cli_parts.specs.declared.stop.Stop.{Stop}
@@ -8,24 +7,21 @@ use Rattle.cli_parts.proofs.Finished.{replied, reply_more}
 use Rattle.sdjwt_cli.specs.Command.{Command, NamedFile, files_of}
 use Rattle.sdjwt_cli.specs.Answers.{Answers, AreFetched, IsAnswered}
 
--- the bytes are what a fetch answers of a file, where it is told
-abbrev IsFetched : (List ℕ → Option (List ℕ)) → NamedFile → List ℕ → Type 0
+-- the bytes are what a fetch answers of a file, where the cabinet tells it
+abbrev pub IsFetched : (List ℕ → Option (List ℕ)) → NamedFile → List ℕ → Type 0
 IsFetched holds wanted bytes = IfSome (holds wanted.name) (λ content. bytes ≡ take wanted.most content)
 
 module _ (holds : List ℕ → Option (List ℕ)) (command : Command) where
   -- of the one file of a command: its bytes, and those of the box that was fetched
   pub one_fetched : (wanted : NamedFile) (file bytes : List ℕ) → files_of command ≡ wanted ∷ [] → IsFetched holds wanted file → bytes ≡ file → AreFetched holds command (bytes ∷ [])
   one_fetched wanted file bytes files_are fetched same =
-      subst (λ (ws : List NamedFile). AllZip (IsFetched holds) ws (bytes ∷ [])) (sym files_are) (subst (IsFetched holds wanted) (sym same) fetched, tt)
+      rw (files_are, same) (fetched, tt)
 
   -- of its two files: the second was fetched when the cabinet held what it holds later, the same under its name
   pub two_fetched : (wanted other : NamedFile) (later : List ℕ → Option (List ℕ)) (file second bytes more : List ℕ) → files_of command ≡ wanted ∷ other ∷ []
       → IsFetched holds wanted file → IsFetched later other second → later other.name ≡ holds other.name → bytes ≡ file → more ≡ second → AreFetched holds command (bytes ∷ more ∷ [])
   two_fetched wanted other later file second bytes more files_are fetched after kept same also =
-      let first = subst (IsFetched holds wanted) (sym same) fetched in
-      let there = subst (IsFetched later other) (sym also) after in
-      let then_held = subst (λ (held : Option (List ℕ)). IfSome held (λ content. more ≡ take other.most content)) kept there in
-      subst (λ (ws : List NamedFile). AllZip (IsFetched holds) ws (bytes ∷ more ∷ [])) (sym files_are) (first, (then_held, tt))
+      rw (files_are, same, also, sym kept) (fetched, (after, tt))
 
   -- what is answered over the files that were fetched is what the command answers
   pub lifted : (files : List (List ℕ)) (now : ℕ) (answer : Result (String Global) Stop) → AreFetched holds command files → IfOk answer (λ text. Answers command files now (gives (string_bytes text)))

@@ -18,6 +18,7 @@ use Rattle.cli_parts.specs.Replies.{Reply, gives, refuses, unreadable}
 use Rattle.sdjwt_cli.specs.Answers.{SplitAnswers, ShowAnswers, Answers, AreFetched, AreTold, IsAnswered}
 use Rattle.cli_parts.specs.Outside.{Outside}
 use Rattle.sdjwt_cli.specs.Run.{Ends}
+use Rattle.sdjwt_cli.proofs.Lifts.{IsFetched}
 use Rattle.sdjwt_cli.proofs.ShowVerdicts.{one_shown, no_refusal, same_fault}
 use Rattle.sdjwt_cli.proofs.VerifyVerdicts.{one_verify}
 use Rattle.sdjwt_cli.proofs.IssueVerdicts.{one_issue}
@@ -68,9 +69,6 @@ told (Some content) n x y t f = t ∙ sym f
 
 abbrev IsTold : (List ℕ → Option (List ℕ)) → NamedFile → List ℕ → Type 0
 IsTold holds wanted file = IsSomeAnd (holds wanted.name) (λ content. file ≡ take wanted.most content)
-
-abbrev IsFetched : (List ℕ → Option (List ℕ)) → NamedFile → List ℕ → Type 0
-IsFetched holds wanted file = IfSome (holds wanted.name) (λ content. file ≡ take wanted.most content)
 
 all_told : (holds : List ℕ → Option (List ℕ)) (ws : List NamedFile) (xs ys : List (List ℕ)) → AllZip (IsTold holds) ws xs → AllZip (IsFetched holds) ws ys → xs ≡ ys
 all_told holds [] [] [] t f = refl

@@ -1,6 +1,7 @@
 -- The files that were fetched, and those that were not.
 use Rattle.std.proofs.Common.{◌≡◌, Global, String, ℕ, zero, suc, ◌+◌, ◌<◌, List, [], ◌∷◌, ◌++◌, length, take, map, get_or, add-one, Option, Some, sym, ap, subst, ◌∙◌, arith, string_bytes}
 use Rattle.std.proofs.Math.Seq.{take-suc}
+use Rattle.std.proofs.lemmas.Slice.Zip.{all_zipped_more}
 use Rattle.std.specs.List.{AllZip}
 use Rattle.claim_tree.specs.Lists.{StandsAt}
 use Rattle.claim_tree.proofs.Lists.{At-map, At-get_or}
@@ -9,26 +10,17 @@ use Rattle.cli_parts.specs.Stops.{OnUnread}
 use Rattle.cli_parts.specs.declared.stop.Stop.{Stop}
 use Rattle.cli_parts.specs.declared.stop.Stop.TheVariants.{Memory, Unread, Unreadable, Refused}
 
-pub zip_more : {A B : Type 0} (R : A → B → Type 0) (xs : List A) (ys : List B) (x : A) (y : B) → AllZip R xs ys → R x y → AllZip R (xs ++ x ∷ []) (ys ++ y ∷ [])
-zip_more R [] [] x y h r = (r, tt)
-zip_more R [] (z ∷ ys) x y h r = absurd h
-zip_more R (z ∷ xs) [] x y h r = absurd h
-zip_more R (z ∷ xs) (w ∷ ys) x y h r = (h.0, zip_more R xs ys x y h.1 r)
-
 pub fetched_turn : (holds : List ℕ → Option (List ℕ)) (names : List (List ℕ)) (k : ℕ) (name : List ℕ) (files : List (List ℕ)) (file : List ℕ) → k < length names → name ≡ get_or names k name
     → AllZip (IsFetched holds) (take k names) files → IsFetched holds name file → AllZip (IsFetched holds) (take (k + 1) names) (files ++ file ∷ [])
 fetched_turn holds names k name files file within is all one =
     let more : take (k + 1) names ≡ take k names ++ name ∷ [] = rw add-one (take-suc names k name within) ∙ ap (λ (y : List ℕ). take k names ++ y ∷ []) (sym is) in
-    subst (λ (ns : List (List ℕ)). AllZip (IsFetched holds) ns (files ++ file ∷ [])) (sym more) (zip_more (IsFetched holds) (take k names) files name file all one)
-
-pub fetched_as : (holds other : List ℕ → Option (List ℕ)) (name file : List ℕ) → holds name ≡ other name → IsFetched holds name file → IsFetched other name file
-fetched_as holds other name file same is = rw (sym same) is
+    subst (λ (ns : List (List ℕ)). AllZip (IsFetched holds) ns (files ++ file ∷ [])) (sym more) (all_zipped_more (IsFetched holds) (take k names) files name file all one)
 
 pub all_fetched_as : (holds other : List ℕ → Option (List ℕ)) → ((name : List ℕ) → holds name ≡ other name) → (names files : List (List ℕ)) → AllZip (IsFetched holds) names files → AllZip (IsFetched other) names files
 all_fetched_as holds other same [] [] h = tt
 all_fetched_as holds other same [] (f ∷ files) h = absurd h
 all_fetched_as holds other same (n ∷ names) [] h = absurd h
-all_fetched_as holds other same (n ∷ names) (f ∷ files) h = (fetched_as holds other n f (same n) h.0, all_fetched_as holds other same names files h.1)
+all_fetched_as holds other same (n ∷ names) (f ∷ files) h = (rw (sym (same n)) h.0, all_fetched_as holds other same names files h.1)
 
 pub missed_at : (names : List (List ℕ)) (k : ℕ) (name : List ℕ) (missed : Option (List ℕ)) → StandsAt names k name → (stop : Stop) → OnUnread stop (λ word. word ≡ k + 1) → OnUnread stop (λ _. missed ≡ Some name)
     → OnUnread stop (λ word. (query : List ℕ) → MissesWord (query ∷ names) word missed)

@@ -2,7 +2,7 @@ use Rattle.std.proofs.Common.{rules, ◌+◌, Global, ℕ, List, map, take, stri
 use Rattle.std.proofs.lemmas.List.{length-map}
 use Rattle.std.specs.List.{AllZip}
 use Rattle.cli_parts.specs.Runs.{IsFetched}
-use Rattle.wallet_core.proofs.Fetched.{fetched_turn, fetched_as, missed_at, named_at, named_there}
+use Rattle.wallet_core.proofs.Fetched.{fetched_turn, missed_at, named_at, named_there}
 use Rattle.wallet_core.proofs.run.fetch_tokens.Goals as goal
 
 pub returns-in_err-file-clause-unread : goal.returns-in_err-file-clause-unread
@@ -13,10 +13,9 @@ returns-in_err-file-clause-unread g c =
 pub loop-k-preserved : goal.loop-k-preserved
 loop-k-preserved g c =
     let holds = g.C.Cabinet.holds c.args.cab.now in
-    let now = g.C.Cabinet.holds c.loop-k.cab in
     let names = map string_bytes c.args.names.now in
     let name = c.as_str.result.now in
-    let one = fetched_as now holds name c.in_ok-file.file (c.loop-k.invariant.1 name) c.in_ok-file.ensures.content in
+    let one : IsFetched holds name c.in_ok-file.file = rw (sym (c.loop-k.invariant.1 name)) c.in_ok-file.ensures.content in
     let all = fetched_turn holds names c.loop-k.k name c.loop-k.held c.in_ok-file.file (omega (arith, c.loop-k-test.true, length-map c.args.names.now (string_bytes {Z = Global}))) (named_there c.args.names.now c.loop-k.k c.index-names-k.result name c.loop-k-test.true c.index-names-k.is c.as_str.ensures.value) c.loop-k.invariant.0 one in
     let more = c.in_ok-push.ensures.ok in
     let later = c.in_ok-file.ensures.later in
