@@ -1,5 +1,5 @@
 -- When a text is not written as it is to be: what is read of it is the one thing that it could be the text of.
-use Rattle.std.proofs.Common.{◌≡◌, ◌<◌, ◌≤◌, arith, suc, List, [], ◌∷◌, ◌++◌, length, Option, Some, None, inl, inr, refl, sym, ap, ◌∙◌, subst}
+use Rattle.std.proofs.Common.{◌≡◌, ◌<◌, ◌≤◌, arith, List, [], ◌∷◌, ◌++◌, length, Option, Some, None, inl, inr, sym, ap, ◌∙◌, subst}
 use Rattle.claim_tree.specs.Lists.{In}
 use Rattle.claim_tree.proofs.Lists.{In-append}
 use Rattle.std.specs.List.{AllZip}
@@ -66,24 +66,12 @@ is_payload hash (array es) n = no_name _ n
 
 -- ---- several disclosures
 
-pub zip_more : (hash : HashAlg) (ds : List Text) (xs : List Given) (d : Text) (x : Given) → AllZip (GivesSalted hash) ds xs → GivesSalted hash d x → AllZip (GivesSalted hash) (ds ++ d ∷ []) (xs ++ x ∷ [])
-zip_more hash [] [] d x z g = (g, tt)
-zip_more hash [] (y ∷ xs) d x z g = absurd z
-zip_more hash (e ∷ ds) [] d x z g = absurd z
-zip_more hash (e ∷ ds) (y ∷ xs) d x z g = (z.0, zip_more hash ds xs d x z.1 g)
-
 -- one of them is none, so they give nothing
 pub one_unsalted : (hash : HashAlg) (ds : List Text) (d : Text) (es : List Text) → IsUnsalted d → (xs : List Given) → AllZip (GivesSalted hash) (ds ++ d ∷ es) xs → ⊥
 one_unsalted hash [] d es n [] z = z
 one_unsalted hash [] d es n (x ∷ xs) z = n x.name x.value z.0.salted
 one_unsalted hash (e ∷ ds) d es n [] z = z
 one_unsalted hash (e ∷ ds) d es n (x ∷ xs) z = one_unsalted hash ds d es n xs z.1
-
-pub zip_length : (hash : HashAlg) (ds : List Text) (xs : List Given) → AllZip (GivesSalted hash) ds xs → length xs ≡ length ds
-zip_length hash [] [] z = refl
-zip_length hash [] (x ∷ xs) z = absurd z
-zip_length hash (d ∷ ds) [] z = absurd z
-zip_length hash (d ∷ ds) (x ∷ xs) z = ap suc (zip_length hash ds xs z.1)
 
 pub values_more : {P : Given → Type 0} (xs : List Given) (x : Given) → ((y : Given) → In y xs → P y) → P x → (y : Given) → In y (xs ++ x ∷ []) → P y
 values_more {P} xs x h p y m = elim (In-append y xs (x ∷ []) m) [ inl a ↦ h y a | inr a ↦ last a ]

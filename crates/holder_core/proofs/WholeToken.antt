@@ -3,6 +3,7 @@ use Rattle.std.proofs.Common.{◌≡◌, ℕ, List, [], length, Bool, true, fals
 use Rattle.std.specs.Prelude.{if◌then◌else◌, ltb}
 use Rattle.std.specs.Option.{option_map, is_some}
 use Rattle.std.proofs.lemmas.Bool.Decides.{nat_tests}
+use Rattle.std.proofs.lemmas.Slice.Zip.{AllZip-long}
 use Rattle.claim_tree.specs.Tree.{Tree}
 use Rattle.claim_tree.specs.Lists.{IsLeast, AtNone}
 use Rattle.compact_form.specs.declared.parts.Parts.{Parts}
@@ -16,9 +17,8 @@ use Rattle.marked_tree.proofs.LeastChoice.{chosen_below}
 use Rattle.rebuild_core.proofs.Presented.{one_node_holds}
 use Rattle.selection_core.specs.Consent.{RuleAnswers}
 use Rattle.selection_core.specs.ChoiceRefusals.{IsMissing}
-use Rattle.verifier_core.specs.Verdict.{Rules, IsChecked}
+use Rattle.verifier_core.specs.Verdict.{Rules, Gives, IsChecked}
 use Rattle.verifier_core.specs.Verdicts.{IsCheckedAs}
-use Rattle.verifier_core.proofs.CheckSteps.{zip_length}
 use Rattle.verifier_core.proofs.ContentFacts.{content_sound, content_readable}
 use Rattle.holder_core.specs.declared.ask.Ask.{Ask}
 use Rattle.holder_core.specs.declared.errors.PresentError.{PresentError}
@@ -77,7 +77,7 @@ checked_once token rules marked none checked =
     let p = checked.opens.0 in
     let g = checked.opens.1 in
     let has_content = checked.opens.2 in
-    let few : length g ≡ 0 = zip_length has_content.hash token.parts.disclosures g has_content.disclosures ∙ none in
+    let few : length g ≡ 0 = AllZip-long (Gives has_content.hash) token.parts.disclosures g has_content.disclosures ∙ none in
     subst (λ (m : Marked). HasEachMarkOnce m 0) (sym checked.opens.3)
     (subst (HasEachMarkOnce _) few (one_node_holds p g (content_readable token p g has_content) (content_sound token rules p g has_content checked.passes)))
 

@@ -1,5 +1,6 @@
 -- The lines of the disclosures, one by one.
-use Rattle.std.proofs.Common.{◌≡◌, ℕ, suc, ◌+◌, List, [], ◌∷◌, ◌++◌, length, refl, sym, ap, ◌∙◌, arith, append_assoc, append-nil, codes}
+use Rattle.std.proofs.Common.{◌≡◌, ℕ, suc, ◌+◌, List, [], ◌∷◌, ◌++◌, length, sym, ap, ◌∙◌, arith, append_assoc, append-nil, codes}
+use Rattle.std.proofs.lemmas.Slice.Zip.{AllZip-long}
 use Rattle.std.specs.List.{AllZip}
 use Rattle.claim_tree.specs.Tree.{Text, Tree}
 use Rattle.claim_tree.specs.JsonText.{json_text}
@@ -13,12 +14,6 @@ use Rattle.sdjwt_cli.specs.Split.{binding_line}
 use Rattle.sdjwt_cli.specs.Show.{shown_line, shown_lines, IsHead, IsShownPayload, Shows}
 use Rattle.sdjwt_cli.specs.ShowSteps.{AddsLine, AddsLines}
 
-zip_length : (hash : HashAlg) (xs : List Text) (ss : List Given) → AllZip (Gives hash) xs ss → length xs ≡ length ss
-zip_length hash [] [] all = refl
-zip_length hash [] (t ∷ ss) all = absurd all
-zip_length hash (y ∷ xs) [] all = absurd all
-zip_length hash (y ∷ xs) (t ∷ ss) all = ap suc (zip_length hash xs ss all.1)
-
 lines_more : (i : ℕ) (ss : List Given) (s : Given) → shown_lines i (ss ++ s ∷ []) ≡ shown_lines i ss ++ shown_line (i + length ss) s
 lines_more i [] s = let same : i + 0 ≡ i = omega arith in rw same (append-nil (shown_line i s))
 lines_more i (t ∷ ss) s =
@@ -29,7 +24,7 @@ lines_more i (t ∷ ss) s =
 -- one line more, at its number
 pub line_more : (hash : HashAlg) (old text new : Text) (xs : List Text) (ss : List Given) (x : Text) (i : ℕ) (adds : AddsLine hash i x text new) → AllZip (Gives hash) xs ss → i ≡ length xs → text ≡ old ++ shown_lines 0 ss → new ≡ old ++ shown_lines 0 (ss ++ adds.shown ∷ [])
 line_more hash old text new xs ss x i adds all at before =
-    let same : i ≡ length ss = at ∙ zip_length hash xs ss all in
+    let same : i ≡ length ss = at ∙ sym (AllZip-long (Gives hash) xs ss all) in
     let place : i ≡ 0 + length ss = omega (arith, same) in
     let more : shown_lines 0 (ss ++ adds.shown ∷ []) ≡ shown_lines 0 ss ++ shown_line i adds.shown = lines_more 0 ss adds.shown ∙ ap (λ n. shown_lines 0 ss ++ shown_line n adds.shown) (sym place) in
     adds.more ∙ (ap (λ t. t ++ shown_line i adds.shown) before ∙ (append_assoc old (shown_lines 0 ss) (shown_line i adds.shown) ∙ ap (λ t. old ++ t) (sym more)))

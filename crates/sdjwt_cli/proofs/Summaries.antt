@@ -1,6 +1,7 @@
 -- What `gen` counts of a token that is issued, presented and verified.
-use Rattle.std.proofs.Common.{◌≡◌, ◌≢◌, ℕ, suc, ◌+◌, ◌-◌, ◌<◌, ◌≤◌, ◌^◌, Bool, List, [], ◌∷◌, length, refl, sym, ap, ap₂, subst, ◌∙◌, arith}
-use Rattle.std.specs.List.{AllZip, count_by, range_with_len}
+use Rattle.std.proofs.Common.{◌≡◌, ◌≢◌, ℕ, ◌+◌, ◌-◌, ◌<◌, ◌≤◌, ◌^◌, Bool, List, [], length, refl, sym, ap, ap₂, subst, ◌∙◌, arith}
+use Rattle.std.proofs.lemmas.Slice.Zip.{AllZip-long}
+use Rattle.std.specs.List.{count_by, range_with_len}
 use Rattle.sd_outside.specs.Limits.{count_max}
 use Rattle.claim_tree.specs.Tree.{Tree}
 use Rattle.claim_tree.specs.View.{tree_of}
@@ -48,12 +49,6 @@ use Rattle.sdjwt_cli.proofs.NothingRefused.{is_presented_of}
 use Rattle.sdjwt_cli.proofs.PresentedAccepted as holder
 use Rattle.sdjwt_cli.proofs.PresentedValues.{presented_over_values}
 
-zip_length : {X Y : Type 0} (R : X → Y → Type 0) (xs : List X) (ys : List Y) → AllZip R xs ys → length xs ≡ length ys
-zip_length R [] [] all = refl
-zip_length R [] (y ∷ ys) all = absurd all
-zip_length R (x ∷ xs) [] all = absurd all
-zip_length R (x ∷ xs) (y ∷ ys) all = ap suc (zip_length R xs ys all.1)
-
 uncapped : (many : ℕ) → many < 2 ^ 63 → counted 0 many ≡ many
 uncapped many low = omega (arith, low)
 
@@ -80,7 +75,7 @@ module _ (n : ℕ) (issued : Parts) (is_issued : IsIssuedBy generated_seed (gene
   given_count = is.has.issued.count
 
   text_count : length issued.disclosures ≡ hidden_of (generated n)
-  text_count = zip_length (IsTextOf (generated n).hash) issued.disclosures is.has.given is.has.texts ∙ given_count
+  text_count = sym (AllZip-long (IsTextOf (generated n).hash) issued.disclosures is.has.given is.has.texts) ∙ given_count
 
   hidden_is : length issued.disclosures ≡ hidden_paths n
   hidden_is = text_count ∙ hidden_count_is (generated n) is_issued.passes is_issued.writable.good.ordered (held_short (generated n).payload is_issued.writable.held)

@@ -1,5 +1,5 @@
 -- What the steps of a check say of the conditions on the token.
-use Rattle.std.proofs.Common.{◌≡◌, ℕ, zero, suc, ◌<◌, ◌≤◌, List, [], ◌∷◌, length, take, Some, None, refl, sym, ap, subst, ◌∙◌, arith}
+use Rattle.std.proofs.Common.{◌≡◌, ℕ, zero, suc, ◌<◌, ◌≤◌, List, [], ◌∷◌, take, Some, None, refl, sym, ap, subst, ◌∙◌, arith}
 use Rattle.std.specs.List.{AllZip}
 use Rattle.claim_tree.specs.Tree.{Text, Tree, Members, leaf, null, flag, whole, text, array, object, depth}
 use Rattle.claim_tree.specs.Lists.{StandsAt, AtNone, IsLeast}
@@ -241,12 +241,6 @@ module _ (token : Token) (rules : Rules) (p : Tree) (g : List Given) (has : HasC
 pub on_fault : (e : VerifyError) (P Q : Fault → Type 0) → ((fault : Fault) → P fault → Q fault) → OnFault e P → OnFault e Q
 on_fault VerifyError.Memory P Q more h = tt
 on_fault (VerifyError.Fault fault) P Q more h = more fault h
-
-pub zip_length : (hash : HashAlg) (ds : List Text) (xs : List Given) → AllZip (Gives hash) ds xs → length xs ≡ length ds
-zip_length hash [] [] all = refl
-zip_length hash [] (x ∷ xs) all = absurd all
-zip_length hash (d ∷ ds) [] all = absurd all
-zip_length hash (d ∷ ds) (x ∷ xs) all = ap suc (zip_length hash ds xs all.1)
 
 -- what names a hash is a text
 known_text : (t : Tree) (hash : HashAlg) → hash_of_name (Some t) ≡ Some hash → (s : Text) × (t ≡ leaf (text s))

@@ -54,12 +54,6 @@ unread_told hash ds i d before DisclosureError.NotDisclosure there read refused 
 
 -- ---- disclosures that come one by one
 
-pub zip_more : (hash : HashAlg) (ds : List Text) (xs : List Given) (d : Text) (x : Given) → AllZip (Gives hash) ds xs → Gives hash d x → AllZip (Gives hash) (ds ++ d ∷ []) (xs ++ x ∷ [])
-zip_more hash [] [] d x all g = (g, tt)
-zip_more hash [] (y ∷ xs) d x all g = absurd all
-zip_more hash (e ∷ ds) [] d x all g = absurd all
-zip_more hash (e ∷ ds) (y ∷ xs) d x all g = (all.0, zip_more hash ds xs d x all.1 g)
-
 front_of : (done : List Text) (d : Text) (rest : List Text) → take (length done) (done ++ d ∷ rest) ≡ done
 front_of [] d rest = refl
 front_of (x ∷ done) d rest = ap (λ t. x ∷ t) (front_of done d rest)

@@ -1,5 +1,6 @@
 -- From what is read of a token to what is opened of it, and to the verdict.
 use Rattle.std.proofs.Common.{◌≡◌, ℕ, ◌<◌, ◌≤◌, ◌-◌, ◌^◌, inr, List, length, Some, refl, sym, subst}
+use Rattle.std.proofs.lemmas.Slice.Zip.{AllZip-long}
 use Rattle.std.specs.List.{AllZip}
 use Rattle.claim_tree.specs.Tree.{Text, Tree, Members, depth}
 use Rattle.compact_form.specs.declared.parts.JwtParts.{JwtParts}
@@ -22,7 +23,7 @@ use Rattle.verifier_core.specs.Check.{OnFault, FailsAsCompact, IsContent, IsRead
 use Rattle.verifier_core.specs.Verdict.{Rules, TokenFails, Fails, HasHash, IsBindingMissing, IsChecked, Gives, rules_of}
 use Rattle.verifier_core.specs.declared.check.VerifyError.{VerifyError}
 use Rattle.verifier_core.specs.declared.policy.Policy.{Policy}
-use Rattle.verifier_core.proofs.CheckSteps.{on_fault, zip_length, is_payload, signed_passes, signed_fault, payload_passes, payload_fault, given_passes, given_fault, unopened_fault, content_checked, passed_uncounted}
+use Rattle.verifier_core.proofs.CheckSteps.{on_fault, is_payload, signed_passes, signed_fault, payload_passes, payload_fault, given_passes, given_fault, unopened_fault, content_checked, passed_uncounted}
 use Rattle.verifier_core.proofs.Verdicts.{text_uncounted, token_lowest}
 
 -- ---- what is read
@@ -67,7 +68,7 @@ module _ (token : Token) (rules : Rules) (signed : JwtParts) (outer : Members) (
           object = is_payload signed.payload body hash is_body hash_is;
           body_depth = low;
           values_depth = shallow;
-          few = subst (λ n. n < 2 ^ 32 - 1) (sym (zip_length hash token.parts.disclosures given gives_all)) few;
+          few = subst (λ n. n < 2 ^ 32 - 1) (sym (AllZip-long (Gives hash) token.parts.disclosures given gives_all)) few;
         }
 
 -- ---- what is opened

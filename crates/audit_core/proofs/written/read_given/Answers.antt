@@ -1,10 +1,11 @@
 use Rattle.std.proofs.Common.{◌≤◌, [], ◌∷◌, ◌++◌, append_assoc, sym, ap, subst, ◌∙◌, rules}
+use Rattle.std.proofs.lemmas.Slice.Zip.{all_zipped_more}
 use Rattle.std.specs.List.{AllZip}
 use Rattle.claim_tree.specs.Tree.{depth}
 use Rattle.claim_tree.specs.Lists.{In}
 use Rattle.digest_sites.specs.GivenView.{given_of}
 use Rattle.audit_core.specs.Audited.{GivesSalted}
-use Rattle.audit_core.proofs.Writtens.{zip_more, one_unsalted, values_more}
+use Rattle.audit_core.proofs.Writtens.{one_unsalted, values_more}
 use Rattle.audit_core.proofs.written.read_given.Goals as goal
 
 pub loop-text-preserved : goal.loop-text-preserved
@@ -21,7 +22,7 @@ loop-text-preserved c =
       finite = search rules;
       done = l.done ++ text ∷ [];
       stand = l.stand ∙ ap (λ w. l.done ++ w) s ∙ sym (append_assoc l.done (text ∷ []) c.next.new.self);
-      read = subst (λ g. AllZip (GivesSalted c.args.hash) (l.done ++ text ∷ []) g) more (zip_more c.args.hash l.done c.loop-text.given text one l.read some);
+      read = subst (λ g. AllZip (GivesSalted c.args.hash) (l.done ++ text ∷ []) g) more (all_zipped_more (GivesSalted c.args.hash) l.done c.loop-text.given text one l.read some);
       shallow = subst (λ g. (x : _) → In x g → depth x.value ≤ 127) more (values_more c.loop-text.given one l.shallow shallow);
     }
 

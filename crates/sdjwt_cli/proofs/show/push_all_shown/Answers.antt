@@ -1,7 +1,9 @@
 use Rattle.std.proofs.Common.{[], ◌∷◌, ◌++◌, length, length-append, string_bytes, append_assoc, append-nil, sym, ap, ◌∙◌, arith, rules}
+use Rattle.std.proofs.lemmas.Slice.Zip.{all_zipped_more}
 use Rattle.compact_form.specs.Faults.{placed}
 use Rattle.compact_form.specs.declared.condition.Condition.{Condition}
-use Rattle.verifier_core.proofs.CheckTests.{unread_of, zip_more}
+use Rattle.verifier_core.specs.Verdict.{Gives}
+use Rattle.verifier_core.proofs.CheckTests.{unread_of}
 use Rattle.sdjwt_cli.proofs.ShowVerdicts.{first_unread}
 use Rattle.sdjwt_cli.proofs.Shown.{line_more}
 use Rattle.sdjwt_cli.proofs.show.push_all_shown.Goals as goal
@@ -28,7 +30,7 @@ loop-i-preserved c =
       finite = search rules;
       done = l.done ++ part ∷ [];
       shown = l.shown ++ adds.shown ∷ [];
-      are = zip_more c.args.hash l.done l.shown part adds.shown l.are adds.is;
+      are = all_zipped_more (Gives c.args.hash) l.done l.shown part adds.shown l.are adds.is;
       stand = l.stand ∙ (ap (λ w. l.done ++ w) c.in-Some.ensures.steps.0 ∙ sym (append_assoc l.done (part ∷ []) c.next.new.self.iter));
       counted = (let more = length-append l.done (part ∷ []) in omega (arith, more, l.counted, c.in-Some.ensures.steps.2));
       so_far = line_more c.args.hash (string_bytes c.args.text.now) (string_bytes c.loop-i.text) (string_bytes c.push_shown.new.text) l.done l.shown part c.in-Some.i adds l.are (c.in-Some.ensures.steps.1 ∙ l.counted) l.so_far;

@@ -1,9 +1,10 @@
 use Rattle.std.proofs.Common.{◌≤◌, [], ◌∷◌, ◌++◌, length-append, append_assoc, sym, ap, subst, ◌∙◌, arith, rules}
+use Rattle.std.proofs.lemmas.Slice.Zip.{all_zipped_more}
 use Rattle.std.specs.List.{AllZip}
 use Rattle.claim_tree.specs.Tree.{depth}
 use Rattle.claim_tree.specs.Lists.{In}
 use Rattle.verifier_core.specs.Verdict.{Gives}
-use Rattle.verifier_core.proofs.CheckTests.{zip_more, more_in, next_unread}
+use Rattle.verifier_core.proofs.CheckTests.{more_in, next_unread}
 use Rattle.verifier_core.proofs.check_given.read_given.Goals as goal
 
 pub loop-i-init : goal.loop-i-init
@@ -28,7 +29,7 @@ loop-i-preserved c =
       done = l.done ++ text ∷ [];
       stand = l.stand ∙ (ap (λ w. l.done ++ w) c.in-Some.ensures.steps.0 ∙ sym (append_assoc l.done (text ∷ []) c.next.new.self.iter));
       counted = (let more = length-append l.done (text ∷ []) in omega (arith, more, l.counted, c.in-Some.ensures.steps.2));
-      read = subst (λ g. AllZip (Gives c.args.hash) (l.done ++ text ∷ []) g) (sym adds.more) (zip_more c.args.hash l.done c.loop-i.given text adds.one l.read adds.gives);
+      read = subst (λ g. AllZip (Gives c.args.hash) (l.done ++ text ∷ []) g) (sym adds.more) (all_zipped_more (Gives c.args.hash) l.done c.loop-i.given text adds.one l.read adds.gives);
       shallow = more_in (λ x. depth x.value ≤ 127) c.loop-i.given c.push_given.new.given adds.one adds.more l.shallow adds.shallow;
     }
 
