@@ -15,28 +15,28 @@ use Rattle.marked_tree.proofs.marking.+mark.Goals as goal
 
 pub mark_at-mark_tree-requires : goal.mark_at-mark_tree-requires
 mark_at-mark_tree-requires t c =
-    let ps = rests_of c.below.result in
-    let count = c.below.ensures.count in
-    let deeper = c.below.ensures.depth in
+    let ps = rests_of c.below-below.result in
+    let count = c.below-below.ensures.count in
+    let deeper = c.below-below.ensures.depth in
     let low : c.args.paths.now.depth + depth (tree_of c.args.tree) ≤ 126 = search rules in
     let few : c.args.next.now + headed c.args.step.now (rests_of c.args.paths.now) < 4294967296 = search rules in
-    (omega arith, (omega (arith, low, deeper), (c.below.ensures.sorted, omega (arith, inner_le ps, length-map c.below.result.sorted.now (drop c.below.result.depth), count, few))))
+    (omega arith, (omega (arith, low, deeper), (c.below-below.ensures.sorted, omega (arith, inner_le ps, length-map c.below-below.result.sorted.now (drop c.below-below.result.depth), count, few))))
 
 pub mark_at-own_mark-mark-requires-clause-few : goal.mark_at-own_mark-mark-requires-clause-few
 mark_at-own_mark-mark-requires-clause-few t c =
-    let ps = rests_of c.below.result in
-    let count = c.below.ensures.count in
+    let ps = rests_of c.below-below.result in
+    let count = c.below-below.ensures.count in
     let few : c.args.next.now + headed c.args.step.now (rests_of c.args.paths.now) < 4294967296 = search rules in
     let so_far = c.in_ok-inside.ensures.few in
-    omega (arith, ends_le ps, length-map c.below.result.sorted.now (drop c.below.result.depth), count, few, so_far)
+    omega (arith, ends_le ps, length-map c.below-below.result.sorted.now (drop c.below-below.result.depth), count, few, so_far)
 
 pub mark_at-returns-clause-few : goal.mark_at-returns-clause-few
 mark_at-returns-clause-few t c =
-    let ps = rests_of c.below.result in
-    let count = c.below.ensures.count in
+    let ps = rests_of c.below-below.result in
+    let count = c.below-below.ensures.count in
     let so_far = c.in_ok-inside.ensures.few in
     let next = c.own_mark-mark.ensures.next in
-    omega (arith, ends_le ps, length-map c.below.result.sorted.now (drop c.below.result.depth), count, so_far, next)
+    omega (arith, ends_le ps, length-map c.below-below.result.sorted.now (drop c.below-below.result.depth), count, so_far, next)
 
 -- ---- lists
 

@@ -68,7 +68,8 @@ ask_members-returns-clause-asked g t c =
 pub ask_node-returns-clause-asked : goal.ask_node-returns-clause-asked
 ask_node-returns-clause-asked g t c =
     subst (λ (p : Path). IsAskedOnWalk g.F.Fn c.args.self.now.consent.now (has c.args.self.now.chosen.now) (own_seen c.args.mark p ++ seen_from p (spots (marked_of c.args.tree.now))) c.args.walk.now.refused c.ask_inside.new.walk.refused) c.in_ok-push.ensures.ok
-    (asked_append g.F.Fn c.args.self.now.consent.now (has c.args.self.now.chosen.now) (own_seen c.args.mark c.push.new.self) (seen_from c.push.new.self (spots (marked_of c.args.tree.now))) _ _ _ c.ask.ensures.asked c.in_ok-ask_inside.ensures.asked)
+    (asked_append g.F.Fn c.args.self.now.consent.now (has c.args.self.now.chosen.now) (own_seen c.args.mark c.push.new.self) (seen_from c.push.new.self (spots (marked_of c.args.tree.now))) _ _ _ c.ask.ensures.asked
+    (subst (λ (p : Path). IsAskedOnWalk g.F.Fn c.args.self.now.consent.now (has c.args.self.now.chosen.now) (seen_from p (spots (marked_of c.args.tree.now))) c.ask.new.walk.refused c.ask_inside.new.walk.refused) c.ask.ensures.at c.in_ok-ask_inside.ensures.asked))
 
 pub ask_node-returns-clause-at : goal.ask_node-returns-clause-at
-ask_node-returns-clause-at g t c = popped c.args.walk.now.at c.ask_inside.new.walk.at c.pop.new.self c.args.step.now (c.in_ok-ask_inside.ensures.at ∙ c.in_ok-push.ensures.ok) c.pop.ensures
+ask_node-returns-clause-at g t c = popped c.args.walk.now.at c.ask_inside.new.walk.at c.pop.new.self c.args.step.now (c.in_ok-ask_inside.ensures.at ∙ c.ask.ensures.at ∙ c.in_ok-push.ensures.ok) c.pop.ensures
