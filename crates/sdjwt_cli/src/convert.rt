@@ -8,9 +8,10 @@ ghost use Rattle.cli_parts.specs.Stops.{OnRefused, OnUnread, OnUnreadable};
 ghost use Rattle.cli_parts.specs.Telling.{TellsFault};
 
 use crate::form::Form;
+use crate::token_file::token_of;
 use cli_parts::{Stop, as_line, refused};
 use compact_form::{Condition, FILE_MAX, print};
-use json_form::{TokenError, TokenText, flat_text, general_text};
+use json_form::{TokenText, flat_text, general_text};
 use sd_outside::{NoMemory, TextBox};
 use std::alloc::Global;
 
@@ -52,9 +53,8 @@ pub fn convert(alloc: Global, form: Form, file: &[u8]) -> Result<String, Stop>
     ensures read { IfErr result (λ stop. OnUnread stop (λ _. ⊥)) }
     ensures readable { IfErr result (λ stop. OnUnreadable stop (λ _. ⊥)) }
 {
-    match TokenText::read(alloc, file) {
+    match token_of(alloc, file) {
         Ok(token) => convert_token(alloc, form, token),
-        Err(TokenError::Memory) => Err(Stop::Memory),
-        Err(TokenError::Fault(fault)) => Err(refused(alloc, &fault)),
+        Err(stop) => Err(stop),
     }
 }

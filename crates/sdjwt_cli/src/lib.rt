@@ -16,6 +16,7 @@ mod present;
 mod show;
 mod split;
 mod summary;
+mod token_file;
 mod top;
 mod verify;
 

@@ -15,11 +15,12 @@ ghost use Rattle.cli_parts.specs.Stops.{OnRefused, OnUnread, OnUnreadable};
 ghost use Rattle.cli_parts.specs.Telling.{TellsFault};
 
 use crate::split::push_binding;
+use crate::token_file::token_of;
 use claim_tree::{JsonReader, Tree, TreeMap, write};
 use cli_parts::{Stop, refused};
 use compact_form::{Condition, Fault, JwtView, Place};
 use disclosure::{Disclosed, DisclosureError, DisclosureReader, HashAlg, digest, payload_hash};
-use json_form::{Disclosures, TokenError, TokenText, TokenView};
+use json_form::{Disclosures, TokenView};
 use jws_part::{BodyError, HeaderError, read_body, read_header};
 use sd_outside::{NoMemory, TextBox};
 use std::alloc::Global;
@@ -201,19 +202,6 @@ fn show_view(alloc: Global, file: &[u8], token: &TokenView<'_>) -> Result<String
     Ok(text)
 }
 
-// The lines of a token file.
-fn show_file(alloc: Global, file: &[u8]) -> Result<String, Unshown>
-    ensures shows { IfOk result (λ text. Shows file.now (string_bytes text)) }
-    ensures fails { IfErr result (λ e. OnFails e (IsShowRefused file.now)) }
-{
-    let token = match TokenText::read(alloc, file) {
-        Ok(token) => token,
-        Err(TokenError::Memory) => return Err(Unshown::Memory),
-        Err(TokenError::Fault(fault)) => return Err(Unshown::Fails(fault)),
-    };
-    show_view(alloc, file, &token.view())
-}
-
 /// The answer to a token file.
 pub fn show(alloc: Global, file: &[u8]) -> Result<String, Stop>
     ensures shows { IfOk result (λ text. Shows file.now (string_bytes text)) }
@@ -221,7 +209,11 @@ pub fn show(alloc: Global, file: &[u8]) -> Result<String, Stop>
     ensures read { IfErr result (λ stop. OnUnread stop (λ _. ⊥)) }
     ensures readable { IfErr result (λ stop. OnUnreadable stop (λ _. ⊥)) }
 {
-    match show_file(alloc, file) {
+    let token = match token_of(alloc, file) {
+        Ok(token) => token,
+        Err(stop) => return Err(stop),
+    };
+    match show_view(alloc, file, &token.view()) {
         Ok(text) => Ok(text),
         Err(Unshown::Memory) => Err(Stop::Memory),
         Err(Unshown::Fails(fault)) => Err(refused(alloc, &fault)),

@@ -9,9 +9,10 @@ ghost use Rattle.cli_parts.specs.Stops.{OnRefused, OnUnread, OnUnreadable};
 ghost use Rattle.cli_parts.specs.Telling.{TellsFault};
 ghost use Rattle.json_form.specs.Token.{IsTextRefused};
 
-use cli_parts::{Stop, refused};
+use crate::token_file::token_of;
+use cli_parts::Stop;
 use compact_form::JwtView;
-use json_form::{Disclosures, TokenError, TokenText, TokenView};
+use json_form::{Disclosures, TokenView};
 use sd_outside::NoMemory;
 use std::alloc::Global;
 
@@ -87,12 +88,7 @@ pub fn split(alloc: Global, file: &[u8]) -> Result<String, Stop>
     ensures read { IfErr result (λ stop. OnUnread stop (λ _. ⊥)) }
     ensures readable { IfErr result (λ stop. OnUnreadable stop (λ _. ⊥)) }
 {
-    match TokenText::read(alloc, file) {
-        Ok(token) => {
-            let view = token.view();
-            Ok(split_text(alloc, &view, room_for(file, view.count()))?)
-        }
-        Err(TokenError::Memory) => Err(Stop::Memory),
-        Err(TokenError::Fault(fault)) => Err(refused(alloc, &fault)),
-    }
+    let token = token_of(alloc, file)?;
+    let view = token.view();
+    Ok(split_text(alloc, &view, room_for(file, view.count()))?)
 }

@@ -1,10 +1,16 @@
-use Rattle.std.proofs.Common.{subst, refl}
+use Rattle.std.proofs.Common.{Err, subst, refl}
+use Rattle.json_form.specs.Token.{IsTextRefused}
 use Rattle.sdjwt_cli.specs.declared.show.Unshown.{Unshown}
-use Rattle.sdjwt_cli.specs.Show.{IsShowRefused}
+use Rattle.sdjwt_cli.specs.Show.{IsShowRefused, form}
 use Rattle.sdjwt_cli.specs.ShowSteps.{OnFails}
-use Rattle.cli_parts.proofs.Stopped.{of_refusal}
+use Rattle.cli_parts.proofs.Stopped.{of_refusal, of_refused}
 use Rattle.sdjwt_cli.proofs.show.show.Goals as goal
 use Rattle.cli_parts.specs.Telling.{TellsFault}
+
+pub returns-in-Err-clause-refuses : goal.returns-in-Err-clause-refuses
+returns-in-Err-clause-refuses c =
+    of_refused (TellsFault (IsTextRefused c.args.file.now)) (TellsFault (IsShowRefused c.args.file.now))
+    (λ text told. record { fault = told.fault; refused = form told.refused; line_is = told.line_is }) (Err c.in-Err.stop) c.in-Err.ensures.refuses
 
 pub returns-in-Err-Fails-clause-refuses : goal.returns-in-Err-Fails-clause-refuses
 returns-in-Err-Fails-clause-refuses c =

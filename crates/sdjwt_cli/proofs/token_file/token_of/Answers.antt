@@ -1,6 +1,6 @@
 use Rattle.std.proofs.Common.{Err, ap, refl}
 use Rattle.cli_parts.proofs.Stopped.{of_refusal}
-use Rattle.sdjwt_cli.proofs.split.split.Goals as goal
+use Rattle.sdjwt_cli.proofs.token_file.token_of.Goals as goal
 use Rattle.cli_parts.specs.Telling.{TellsFault}
 use Rattle.json_form.specs.Token.{IsTextRefused}
 
