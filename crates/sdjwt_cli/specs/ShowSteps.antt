@@ -10,8 +10,6 @@ use Rattle.claim_tree.specs.View.{tree_of}
 use Rattle.disclosure.specs.Digest.{digest_of}
 use Rattle.disclosure.specs.declared.digests.HashAlg.{HashAlg}
 use Rattle.disclosure.specs.declared.disclosure.Disclosed.{Disclosed}
-use Rattle.sdjwt_cli.specs.declared.show.Unshown.{Unshown}
-use Rattle.sdjwt_cli.specs.declared.show.Unshown.TheVariants.{Memory, Fails}
 use Rattle.digest_sites.specs.Given.{Given}
 use Rattle.verifier_core.specs.Verdict.{Gives, IsNoDisclosure}
 use Rattle.sdjwt_cli.specs.Show.{shown_line, shown_lines}
@@ -32,11 +30,7 @@ pub record AddsLines (hash : HashAlg) (disclosures : List Text) (old new : Text)
   pub more : new ≡ old ++ shown_lines 0 shown
 
 -- the fault is that of the first disclosure that is not read
-pub record TellsUnread (disclosures : List Text) (fault : Fault) : Type 0 where
+pub record IsUnread (disclosures : List Text) (fault : Fault) : Type 0 where
   pub i : ℕ
   pub first : IsLeast (IsSuchAt IsNoDisclosure disclosures) i
   pub fault_is : fault ≡ placed Condition.DisclosureUnreadable i
-
-abbrev pub OnFails : Unshown → (Fault → Type 0) → Type 0
-OnFails Memory P = Unit {0}
-OnFails (Fails fault) P = P fault

@@ -7,10 +7,8 @@ ghost use Rattle.jws_part.specs.Header.{IsHeaderUnreadable};
 ghost use Rattle.disclosure.specs.DisclosureRefusals.{IsDisclosureRefused};
 ghost use Rattle.cli_parts.specs.Lines.{line};
 ghost use Rattle.sdjwt_cli.specs.Show.{IsHead, kind_text, shown_line, Shows, IsShowRefused};
-ghost use Rattle.compact_form.specs.Faults.{unplaced};
-ghost use Rattle.sdjwt_cli.specs.ShowSteps.{disclosure_shown, AddsLine, AddsLines, TellsUnread, OnFails};
+ghost use Rattle.sdjwt_cli.specs.ShowSteps.{disclosure_shown, AddsLine, AddsLines, IsUnread};
 ghost use Rattle.json_form.specs.Token.{IsToken};
-ghost use Rattle.sdjwt_cli.specs.declared.show.Unshown.TheVariants.{Fails};
 ghost use Rattle.cli_parts.specs.Stops.{OnRefused, OnUnread, OnUnreadable};
 ghost use Rattle.cli_parts.specs.Telling.{TellsFault};
 
@@ -18,7 +16,7 @@ use crate::split::push_binding;
 use crate::token_file::token_of;
 use claim_tree::{JsonReader, Tree, TreeMap, write};
 use cli_parts::{Stop, refused};
-use compact_form::{Condition, Fault, JwtView, Place};
+use compact_form::{Condition, JwtView, Place};
 use disclosure::{Disclosed, DisclosureError, DisclosureReader, HashAlg, digest, payload_hash};
 use json_form::{Disclosures, TokenView};
 use jws_part::{BodyError, HeaderError, read_body, read_header};
@@ -106,23 +104,6 @@ fn push_shown(
     Ok(())
 }
 
-// Why a token is not shown.
-#[derive(Clone, Copy, Debug)]
-pub(crate) enum Unshown {
-    Memory,
-    Fails(Fault),
-}
-
-impl From<NoMemory> for Unshown {
-    ghost use Rattle.sdjwt_cli.specs.declared.show.Unshown.TheVariants.{Memory};
-
-    ghost from_gives = { λ _ e. e ≡ Memory };
-
-    fn from(_: NoMemory) -> Self {
-        Unshown::Memory
-    }
-}
-
 // The lines of the disclosures, up to the first that is not read.
 fn push_all_shown(
     alloc: Global,
@@ -130,28 +111,24 @@ fn push_all_shown(
     text: &mut String,
     hash: HashAlg,
     disclosures: Disclosures<'_>,
-) -> Result<(), Unshown>
+) -> Result<(), Stop>
     requires { length disclosures < 2 ^ 64 }
     ensures ok { OnOk result (AddsLines hash disclosures.entry (string_bytes text.old) (string_bytes text.new)) }
-    ensures unread { IfErr result (λ e. OnFails e (TellsUnread disclosures.entry)) }
+    ensures unread { IfErr result (λ stop. OnRefused stop (TellsFault (IsUnread disclosures.entry))) }
+    ensures read { IfErr result (λ stop. OnUnread stop (λ _. ⊥)) }
+    ensures readable { IfErr result (λ stop. OnUnreadable stop (λ _. ⊥)) }
 {
     for (i, part) in disclosures.enumerate() {
         match push_shown(alloc, reader, text, i, hash, part) {
             Ok(()) => (),
-            Err(DisclosureError::Memory) => return Err(Unshown::Memory),
+            Err(DisclosureError::Memory) => return Err(Stop::Memory),
             Err(_) => {
                 let unread = Condition::DisclosureUnreadable;
-                return Err(Unshown::Fails(unread.fault_at(Place::At(i))));
+                return Err(refused(alloc, &unread.fault_at(Place::At(i))));
             }
         }
     }
     Ok(())
-}
-
-fn fails(condition: Condition) -> Unshown
-    ensures { result ≡ Fails (unplaced condition) }
-{
-    Unshown::Fails(condition.fault())
 }
 
 fn push_json(text: &mut String, word: &str, json: &str) -> Result<(), NoMemory>
@@ -172,10 +149,12 @@ fn start(alloc: Global, head: &Tree, payload: &Tree, room: usize) -> Result<Stri
 }
 
 // The lines of a token that is read.
-fn show_view(alloc: Global, file: &[u8], token: &TokenView<'_>) -> Result<String, Unshown>
+fn show_view(alloc: Global, file: &[u8], token: &TokenView<'_>) -> Result<String, Stop>
     requires { IsToken file.now token.now }
     ensures shows { IfOk result (λ text. Shows file.now (string_bytes text)) }
-    ensures fails { IfErr result (λ e. OnFails e (IsShowRefused file.now)) }
+    ensures refuses { IfErr result (λ stop. OnRefused stop (TellsFault (IsShowRefused file.now))) }
+    ensures read { IfErr result (λ stop. OnUnread stop (λ _. ⊥)) }
+    ensures readable { IfErr result (λ stop. OnUnreadable stop (λ _. ⊥)) }
 {
     let JwtView {
         protected,
@@ -185,19 +164,26 @@ fn show_view(alloc: Global, file: &[u8], token: &TokenView<'_>) -> Result<String
     let mut reader = DisclosureReader::new(alloc);
     let head = match read_head(alloc, &mut reader.json, protected, token.outer()) {
         Ok(head) => head,
-        Err(BodyError::Unreadable) => return Err(fails(Condition::HeaderUnreadable)),
-        Err(BodyError::Memory) => return Err(Unshown::Memory),
+        Err(BodyError::Unreadable) => {
+            return Err(refused(alloc, &Condition::HeaderUnreadable.fault()));
+        }
+        Err(BodyError::Memory) => return Err(Stop::Memory),
     };
     let payload = match read_body(alloc, &mut reader.json, payload) {
         Ok(payload) => payload,
-        Err(BodyError::Unreadable) => return Err(fails(Condition::PayloadUnreadable)),
-        Err(BodyError::Memory) => return Err(Unshown::Memory),
+        Err(BodyError::Unreadable) => {
+            return Err(refused(alloc, &Condition::PayloadUnreadable.fault()));
+        }
+        Err(BodyError::Memory) => return Err(Stop::Memory),
     };
     let Some(hash) = payload_hash(&payload) else {
-        return Err(fails(Condition::HashUnknown));
+        return Err(refused(alloc, &Condition::HashUnknown.fault()));
     };
     let mut text = start(alloc, &head, &payload, file.len())?;
-    push_all_shown(alloc, &mut reader, &mut text, hash, token.disclosures())?;
+    let all = push_all_shown(alloc, &mut reader, &mut text, hash, token.disclosures());
+    if let Err(stop) = all {
+        return Err(stop);
+    }
     push_binding(&mut text, token.binding())?;
     Ok(text)
 }
@@ -213,9 +199,5 @@ pub fn show(alloc: Global, file: &[u8]) -> Result<String, Stop>
         Ok(token) => token,
         Err(stop) => return Err(stop),
     };
-    match show_view(alloc, file, &token.view()) {
-        Ok(text) => Ok(text),
-        Err(Unshown::Memory) => Err(Stop::Memory),
-        Err(Unshown::Fails(fault)) => Err(refused(alloc, &fault)),
-    }
+    show_view(alloc, file, &token.view())
 }

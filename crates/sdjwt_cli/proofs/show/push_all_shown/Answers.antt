@@ -4,6 +4,8 @@ use Rattle.compact_form.specs.Faults.{placed}
 use Rattle.compact_form.specs.declared.condition.Condition.{Condition}
 use Rattle.verifier_core.specs.Verdict.{Gives}
 use Rattle.verifier_core.proofs.CheckTests.{unread_of}
+use Rattle.cli_parts.proofs.Stopped.{of_fault}
+use Rattle.sdjwt_cli.specs.ShowSteps.{IsUnread}
 use Rattle.sdjwt_cli.proofs.ShowVerdicts.{first_unread}
 use Rattle.sdjwt_cli.proofs.Shown.{line_more}
 use Rattle.sdjwt_cli.proofs.show.push_all_shown.Goals as goal
@@ -41,8 +43,10 @@ returns-in-Err-clause-unread c =
     let l = c.loop-i.invariant in
     let part = c.in-Some.part.now in
     let unread = unread_of part c.in-Err.field-0 c.in-Err.ensures.refused (search rules) in
-    record {
+    of_fault (IsUnread c.args.disclosures) c.fault_at.result
+    (record {
       i = length l.done;
       first = first_unread c.args.hash l.done c.next.new.self.iter l.shown part _ l.are (l.stand ∙ ap (λ w. l.done ++ w) c.in-Some.ensures.steps.0) unread;
       fault_is = c.fault_at.ensures ∙ ap (placed Condition.DisclosureUnreadable) (c.in-Some.ensures.steps.1 ∙ l.counted);
-    }
+    })
+    c.refused.result c.refused.ensures.line
