@@ -1,5 +1,5 @@
 -- From what is laid and signed to what is issued, and why it is not.
-use Rattle.std.proofs.Common.{◌≡◌, ℕ, suc, ◌+◌, ◌≤◌, List, [], ◌∷◌, None, Option, Some, arith, length, subst, sym, ⊎_elim, ◌∙◌, IfSome}
+use Rattle.std.proofs.Common.{◌≡◌, ℕ, suc, ◌+◌, ◌≤◌, List, [], ◌∷◌, None, Option, Some, arith, length, subst, sym, ⊎_elim, ◌∙◌, IfSome, ap}
 use Rattle.std.specs.List.{AllByRecursion}
 use Rattle.b64url_text.specs.Base64url.{IsWord, b64}
 use Rattle.b64url_text.proofs.Codes.{IsWord-b64}
