@@ -13,7 +13,7 @@ pub(crate) fn is_same(one: &Marked, other: &Marked) -> bool
 {
     match (one, other) {
         (Marked::Null, Marked::Null) => true,
-        (Marked::Flag(a), Marked::Flag(b)) => a.get() == b.get(),
+        (Marked::Flag(a), Marked::Flag(b)) => *a == *b,
         (Marked::Whole(a), Marked::Whole(b)) => a.get() == b.get(),
         (Marked::Text(a), Marked::Text(b)) => a.as_str() == b.as_str(),
         (Marked::List(a), Marked::List(b)) => is_same_list(a, b),
