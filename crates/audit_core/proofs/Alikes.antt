@@ -2,14 +2,14 @@
 use Rattle.std.proofs.Common.{◌≡◌, ℕ, zero, suc, ◌+◌, ◌≤◌, ◌⊎◌, inl, inr, List, [], ◌∷◌, ◌++◌, map, Bool, true, false, cond, Ordering, Less, Equal, Greater, refl, sym, ap, ap₂, ◌∙◌, subst, arith}
 use Rattle.std.specs.Prelude.{bytes_eq, if◌then◌else◌}
 use Rattle.std.specs.List.{count_by}
-use Rattle.std.proofs.lemmas.Bool.{true≢false}
+use Rattle.std.proofs.lemmas.Bool.{true≢false, false_from_ne_true, and_parts, and_from}
 use Rattle.std.proofs.lemmas.List.Sums.{sum_by-cons}
 use Rattle.std.specs.Ordering.{match_ordering, is_lt}
 use Rattle.std.specs.Cmp.{both_ways}
 use Rattle.claim_tree.specs.Tree.{Text}
 use Rattle.claim_tree.specs.Lists.{In}
 use Rattle.claim_tree.specs.Path.{pointer_text}
-use Rattle.claim_tree.proofs.Lists.{bytes_refl, bytes_same, false_unless_true, and_split, and_join, In-of_map}
+use Rattle.claim_tree.proofs.Lists.{bytes_refl, bytes_same, In-of_map}
 use Rattle.claim_tree.proofs.MapPlaces.{cmp, same_name, before_after, after_before}
 use Rattle.claim_tree.proofs.PointerTexts.{pointer_text-injective}
 use Rattle.digest_sites.specs.declared.site.SiteKind.{SiteKind}
@@ -55,7 +55,7 @@ less_greater e = let w : true ≡ false = ap is_lt e in true≢false w
 absent : (x : Text) (ys : List Text) → ((y : Text) → In y ys → cmp x y ≡ Less) → occurs x ys ≡ 0
 absent x [] low = refl
 absent x (y ∷ ys) low =
-    let other : bytes_eq y x ≡ false = false_unless_true (bytes_eq y x) (λ e. let s = bytes_same y x e in let l = low y (inl refl) in apart x (subst (λ z. cmp x z ≡ Less) s l)) in
+    let other : bytes_eq y x ≡ false = false_from_ne_true (bytes_eq y x) (λ e. let s = bytes_same y x e in let l = low y (inl refl) in apart x (subst (λ z. cmp x z ≡ Less) s l)) in
     let rest = absent x ys (λ z h. low z (inr h)) in
     rw other (omega (arith, rest))
   where
@@ -98,13 +98,13 @@ kind_is Element Member e = let w : false ≡ true = e in cc
 
 text_same : (x y : Standing) → same_standing x y ≡ true → standing_text y ≡ standing_text x
 text_same x y e =
-    let w = and_split (same_kind x.kind y.kind) (same_path x.at y.at) e in
+    let w = and_parts (same_kind x.kind y.kind) (same_path x.at y.at) e in
     ap₂ (λ (k : SiteKind) (p : Path). kind_letter k ++ pointer_text p) (sym (kind_is x.kind y.kind w.0)) (sym (path_same x.at y.at w.1))
 
 same_text : (x y : Standing) → standing_text y ≡ standing_text x → same_standing x y ≡ true
 same_text x y e =
     let w = kind_same x.kind y.kind (pointer_text x.at) (pointer_text y.at) (sym e) in
-    and_join (same_kind x.kind y.kind) (same_path x.at y.at) w.0 (path_refl x.at y.at (pointer_text-injective x.at y.at w.1))
+    and_from (same_kind x.kind y.kind) (same_path x.at y.at) w.0 (path_refl x.at y.at (pointer_text-injective x.at y.at w.1))
 
 tests : (x y : Standing) → same_standing x y ≡ bytes_eq (standing_text y) (standing_text x)
 tests x y =

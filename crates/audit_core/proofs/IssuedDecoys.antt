@@ -3,10 +3,11 @@ use Rattle.std.proofs.Common.{◌≡◌, ℕ, zero, suc, ◌+◌, ◌≤◌, Lis
 use Rattle.std.specs.Prelude.{bytes_eq}
 use Rattle.std.specs.List.{count_by}
 use Rattle.std.proofs.lemmas.List.Sums.{sum_by-cons}
+use Rattle.std.proofs.lemmas.Bool.{false_from_ne_true}
 use Rattle.claim_tree.specs.Lists.{StandsAt, In}
 use Rattle.claim_tree.specs.Path.{tree_at}
 use Rattle.claim_tree.specs.Tree.{Text, Tree, leaf, array, object}
-use Rattle.claim_tree.proofs.Lists.{At-In, At-below, bytes_same, false_unless_true}
+use Rattle.claim_tree.proofs.Lists.{At-In, At-below, bytes_same}
 use Rattle.digest_sites.specs.Given.{Given}
 use Rattle.digest_sites.specs.declared.site.SiteKind.{SiteKind}
 use Rattle.marked_tree.specs.Marked.{Marked}
@@ -160,7 +161,7 @@ module _ (seed : List ℕ) (o : Order) (p : Tree) (g : List Given) (fine : IsGoo
       let x = w.0 in
       let decoy : 1 ≤ occurs x.site.digest (decoy_digests (maker_of seed) o) = there_once x.site.digest (decoy_digests (maker_of seed) o) j
       (subst (λ (t : Text). StandsAt (decoy_digests (maker_of seed) o) j t) (sym w.2) (digest_stands number (hidden_of o) (length (decoys_of o)) j (hidden_of o + j) (At-below (decoys_of o) j at a) refl)) in
-      let out : is_given g x.site.digest ≡ false = false_unless_true (is_given g x.site.digest)
+      let out : is_given g x.site.digest ≡ false = false_from_ne_true (is_given g x.site.digest)
       (λ q. absurd (omega (arith, once x.site.digest, both x.site.digest, decoy, there_some x.site.digest (given_digests g) (given_there g x.site.digest q)))) in
       record {
         x = x;

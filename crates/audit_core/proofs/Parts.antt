@@ -14,7 +14,7 @@ use Rattle.issuer_core.specs.declared.errors.IssueError.TheVariants.{TooManyHidd
 use Rattle.issuer_core.specs.Decoys.{decoys_of}
 use Rattle.issuer_core.specs.Order.{Order}
 use Rattle.issuer_core.specs.OrderRefusals.{AppliesToOrder}
-use Rattle.issuer_core.proofs.Judged.{not_more}
+use Rattle.claim_tree.proofs.Counting.{not_below}
 
 pub no_members_empty : (ms : List Named) → members_of ms ≡ no_members → length ms ≡ 0
 no_members_empty [] e = refl
@@ -30,10 +30,10 @@ no_members_empty (m ∷ ms) e = let w : no_members ≡ member m.0 (tree_of m.1) 
 -- ---- an order that nothing refuses
 
 pub few_hidden : (o : Order) → NoneApplies (AppliesToOrder o) → (hide : List Path) → hide ≡ o.hide → distinct_count same_path hide ≤ count_max
-few_hidden o none hide e = subst (λ (h : List Path). distinct_count same_path h ≤ count_max) (sym e) (not_more count_max (distinct_count same_path o.hide) (none TooManyHidden))
+few_hidden o none hide e = subst (λ (h : List Path). distinct_count same_path h ≤ count_max) (sym e) (not_below (distinct_count same_path o.hide) count_max (none TooManyHidden))
 
 pub few_decoys : (o : Order) → NoneApplies (AppliesToOrder o) → length (decoys_of o) ≤ count_max
-few_decoys o none = not_more count_max (length (decoys_of o)) (none TooManyDecoys)
+few_decoys o none = not_below (length (decoys_of o)) count_max (none TooManyDecoys)
 
 -- ---- a text that is put among others
 

@@ -4,8 +4,9 @@ use Rattle.std.specs.Prelude.{bytes_eq}
 use Rattle.std.specs.Bool.{Decides}
 use Rattle.std.specs.Ordering.{int_eq}
 use Rattle.std.proofs.lemmas.Bool.Decides.{Decides-int_eq, Decides-eqb}
+use Rattle.std.proofs.lemmas.Bool.{and_parts, and_from}
 use Rattle.claim_tree.specs.Tree.{Leaf, null, flag, whole, text}
-use Rattle.claim_tree.proofs.Lists.{bytes_refl, bytes_same, and_split, and_join}
+use Rattle.claim_tree.proofs.Lists.{bytes_refl, bytes_same}
 use Rattle.marked_tree.specs.Marked.{Marked, marked_leaf, marked_array, marked_object, MarkedElements, no_marked_elements, marked_element, MarkedMembers, no_marked_members, marked_member}
 use Rattle.audit_core.specs.SameMarked.{same_flag, same_leaf, same_mark, same_marked, same_elements, same_members}
 
@@ -76,8 +77,8 @@ mutual
   elements_are no_marked_elements (marked_element j u fs) e = let w : false ≡ true = e in cc
   elements_are (marked_element i t es) no_marked_elements e = let w : false ≡ true = e in cc
   elements_are (marked_element i t es) (marked_element j u fs) e =
-      let mark = and_split (same_mark i j) (same_marked t u && same_elements es fs) e in
-      let rest = and_split (same_marked t u) (same_elements es fs) mark.1 in
+      let mark = and_parts (same_mark i j) (same_marked t u && same_elements es fs) e in
+      let rest = and_parts (same_marked t u) (same_elements es fs) mark.1 in
       let one = is_one t u rest.0 in
       let more = elements_are es fs rest.1 in
       let same = marks i j mark.0 in
@@ -88,9 +89,9 @@ mutual
   members_are no_marked_members (marked_member l j u ns) e = let w : false ≡ true = e in cc
   members_are (marked_member k i t ms) no_marked_members e = let w : false ≡ true = e in cc
   members_are (marked_member k i t ms) (marked_member l j u ns) e =
-      let name = and_split (bytes_eq k l) (same_mark i j && (same_marked t u && same_members ms ns)) e in
-      let mark = and_split (same_mark i j) (same_marked t u && same_members ms ns) name.1 in
-      let rest = and_split (same_marked t u) (same_members ms ns) mark.1 in
+      let name = and_parts (bytes_eq k l) (same_mark i j && (same_marked t u && same_members ms ns)) e in
+      let mark = and_parts (same_mark i j) (same_marked t u && same_members ms ns) name.1 in
+      let rest = and_parts (same_marked t u) (same_members ms ns) mark.1 in
       let named = bytes_same k l name.0 in
       let same = marks i j mark.0 in
       let one = is_one t u rest.0 in
@@ -105,12 +106,12 @@ mutual
 
   elements_self : (es : MarkedElements) → same_elements es es ≡ true
   elements_self no_marked_elements = refl
-  elements_self (marked_element i t es) = and_join (same_mark i i) _ (mark_self i) (and_join (same_marked t t) _ (self t) (elements_self es))
+  elements_self (marked_element i t es) = and_from (same_mark i i) _ (mark_self i) (and_from (same_marked t t) _ (self t) (elements_self es))
 
   members_self : (ms : MarkedMembers) → same_members ms ms ≡ true
   members_self no_marked_members = refl
   members_self (marked_member k i t ms) =
-      and_join (bytes_eq k k) _ (bytes_refl k k refl) (and_join (same_mark i i) _ (mark_self i) (and_join (same_marked t t) _ (self t) (members_self ms)))
+      and_from (bytes_eq k k) _ (bytes_refl k k refl) (and_from (same_mark i i) _ (mark_self i) (and_from (same_marked t t) _ (self t) (members_self ms)))
 
 pub one_is : (a b : Marked) → a ≡ b → same_marked a b ≡ true
 one_is a b e = subst (λ c. same_marked a c ≡ true) e (self a)

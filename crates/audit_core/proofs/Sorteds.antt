@@ -3,11 +3,11 @@ use Rattle.std.proofs.Common.{◌≡◌, inl, inr, Bool, true, false, not, ◌&&
 use Rattle.std.specs.Prelude.{bytes_eq, option_map}
 use Rattle.std.specs.Ordering.{is_lt, nat_cmp}
 use Rattle.std.specs.Cmp.Lexicographic.{slice_cmp}
+use Rattle.std.proofs.lemmas.Bool.{and_parts, and_from}
 use Rattle.claim_tree.specs.Tree.{Text, Tree, leaf, null, flag, whole, text, array, object, Elements, no_elements, element, Members, no_members, member, IsBefore}
 use Rattle.claim_tree.specs.Lists.{In}
 use Rattle.digest_sites.specs.Given.{Given}
 use Rattle.claim_tree.proofs.Everywheres.{EachElementIn, EachMemberIn}
-use Rattle.claim_tree.proofs.Lists.{and_split, and_join}
 use Rattle.claim_tree.proofs.MapPlaces.{before_through, is_less}
 use Rattle.digest_sites.specs.Reserved.{sd_name, texts_of}
 use Rattle.issuer_core.specs.Issued.{Rises, IsDigestList, HasDigestLists}
@@ -33,7 +33,7 @@ record RisesAfter (d : Text) (es : Elements) : Type 0 where
 rise_is : (d : Text) (es : Elements) → rise d es ≡ true → RisesAfter d es
 rise_is d no_elements e = record { texts = []; are = refl; rises = (tt, tt) }
 rise_is d (element (leaf (text s)) es) e =
-    let w = and_split (is_before d s) (rise s es) e in
+    let w = and_parts (is_before d s) (rise s es) e in
     let r = rise_is s es w.1 in
     let less = before_is d s w.0 in
     record { texts = s ∷ r.texts; are = ap (option_map (λ (ss : List Text). s ∷ ss)) r.are; rises = ((less, before_through d s r.texts less r.rises.0), r.rises) }
@@ -58,7 +58,7 @@ is_rise d (element (leaf (text s)) es) ds e r = go (texts_of es) refl e (is_rise
     go None c f ih = nothing ds f
     go (Some ss) c f ih =
         let r2 = subst (λ xs. Rises (d ∷ xs)) (sym (some_same (s ∷ ss) ds f)) r in
-        and_join (is_before d s) (rise s es) (is_before_so d s r2.0.0) (ih ss c r2.1)
+        and_from (is_before d s) (rise s es) (is_before_so d s r2.0.0) (ih ss c r2.1)
 is_rise d (element (leaf null) es) ds e r = nothing ds e
 is_rise d (element (leaf (flag b)) es) ds e r = nothing ds e
 is_rise d (element (leaf (whole z)) es) ds e r = nothing ds e
@@ -109,13 +109,13 @@ mutual
 
   elements_are : (es : Elements) → elements_have es ≡ true → EachElementIn IsSdList es
   elements_are no_elements e = tt
-  elements_are (element t es) e = let w = and_split (has_digest_lists t) (elements_have es) e in (lists_are t w.0, elements_are es w.1)
+  elements_are (element t es) e = let w = and_parts (has_digest_lists t) (elements_have es) e in (lists_are t w.0, elements_are es w.1)
 
   members_are : (ms : Members) → members_have ms ≡ true → EachMemberIn IsSdList ms
   members_are no_members e = tt
   members_are (member name t ms) e =
-      let w = and_split (not (bytes_eq name sd_name) || is_digest_list t) (has_digest_lists t && members_have ms) e in
-      let v = and_split (has_digest_lists t) (members_have ms) w.1 in
+      let w = and_parts (not (bytes_eq name sd_name) || is_digest_list t) (has_digest_lists t && members_have ms) e in
+      let v = and_parts (has_digest_lists t) (members_have ms) w.1 in
       (member_is (bytes_eq name sd_name) t w.0, lists_are t v.0, members_are ms v.1)
 
 mutual
@@ -126,25 +126,25 @@ mutual
 
   are_elements : (es : Elements) → EachElementIn IsSdList es → elements_have es ≡ true
   are_elements no_elements h = refl
-  are_elements (element t es) h = and_join (has_digest_lists t) (elements_have es) (are_lists t h.0) (are_elements es h.1)
+  are_elements (element t es) h = and_from (has_digest_lists t) (elements_have es) (are_lists t h.0) (are_elements es h.1)
 
   are_members : (ms : Members) → EachMemberIn IsSdList ms → members_have ms ≡ true
   are_members no_members h = refl
   are_members (member name t ms) h =
-      and_join (not (bytes_eq name sd_name) || is_digest_list t) (has_digest_lists t && members_have ms) (is_member (bytes_eq name sd_name) t h.0)
-      (and_join (has_digest_lists t) (members_have ms) (are_lists t h.1) (are_members ms h.2))
+      and_from (not (bytes_eq name sd_name) || is_digest_list t) (has_digest_lists t && members_have ms) (is_member (bytes_eq name sd_name) t h.0)
+      (and_from (has_digest_lists t) (members_have ms) (are_lists t h.1) (are_members ms h.2))
 
 -- ---- values
 
 pub values_are : (given : List Given) → values_have given ≡ true → (x : Given) → In x given → HasDigestLists x.value
 values_are [] e x m = absurd m
 values_are (y ∷ given) e x (inl same) =
-    let w = and_split (has_digest_lists y.value) (values_have given) e in
+    let w = and_parts (has_digest_lists y.value) (values_have given) e in
     subst (λ (z : Given). HasDigestLists z.value) (sym same) (lists_are y.value w.0)
-values_are (y ∷ given) e x (inr m) = let w = and_split (has_digest_lists y.value) (values_have given) e in values_are given w.1 x m
+values_are (y ∷ given) e x (inr m) = let w = and_parts (has_digest_lists y.value) (values_have given) e in values_are given w.1 x m
 
 pub are_values : (given : List Given) → ((x : Given) → In x given → HasDigestLists x.value) → values_have given ≡ true
 are_values [] h = refl
-are_values (y ∷ given) h = and_join (has_digest_lists y.value) (values_have given) (are_lists y.value (h y (inl refl))) (are_values given (λ x m. h x (inr m)))
+are_values (y ∷ given) h = and_from (has_digest_lists y.value) (values_have given) (are_lists y.value (h y (inl refl))) (are_values given (λ x m. h x (inr m)))
 
 -- ---- one tree of a slice

@@ -1,17 +1,16 @@
 // What an order asks for.
-ghost use Rattle.std.specs.Prelude.{◌≡◌, ◌≤◌, length, IfOk};
+ghost use Rattle.std.specs.Prelude.{◌≤◌, IfOk};
 ghost use Rattle.sd_outside.specs.Limits.{count_max};
 ghost use Rattle.claim_tree.specs.Tree.{depth as depth_of};
 ghost use Rattle.claim_tree.specs.View.{tree_of};
 ghost use Rattle.compact_form.specs.Lowest.{NoneApplies};
-ghost use Rattle.issuer_core.specs.Decoys.{decoys_of};
 ghost use Rattle.issuer_core.specs.Order.{order_of};
 ghost use Rattle.issuer_core.specs.OrderRefusals.{AppliesToOrder};
 ghost use Rattle.audit_core.specs.Asked.{IsAskedFor};
 
 use crate::wanted::wanted_standings;
 use disclosure::HashAlg;
-use issuer_core::Order;
+use issuer_core::{Order, decoy_count};
 use marked_tree::{Marked, mark_counted};
 use sd_outside::{NoMemory, TextBox};
 use std::alloc::Global;
@@ -28,18 +27,6 @@ pub(crate) struct Asked {
     pub(crate) standings: Vec<TextBox>,
 }
 
-// How many decoys the order has.
-fn decoy_count(order: &Order) -> usize
-    requires { length (decoys_of (order_of order.now)) ≤ count_max }
-    ensures { result ≡ length (decoys_of (order_of order.now)) }
-{
-    let mut count = 0;
-    for entry in order.decoys.elements() {
-        count += entry.count as usize;
-    }
-    count
-}
-
 // What an order asks for that nothing refuses. Its claims and paths are not copied.
 pub(crate) fn asked_of(alloc: Global, order: Order) -> Result<Asked, NoMemory>
     requires depth { depth_of (tree_of order.payload) ≤ 127 }
@@ -48,7 +35,7 @@ pub(crate) fn asked_of(alloc: Global, order: Order) -> Result<Asked, NoMemory>
     ensures hidden { IfOk result (λ asked. asked.hidden ≤ count_max) }
     ensures decoys { IfOk result (λ asked. asked.decoys ≤ count_max) }
 {
-    let decoys = decoy_count(&order);
+    let decoys = decoy_count(&order.decoys);
     let mut standings = wanted_standings(alloc, &order)?;
     standings.sort()?;
     let Order {

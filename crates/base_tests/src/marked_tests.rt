@@ -81,7 +81,7 @@ fn a_mark_has_a_place(rt: HostRuntime) -> Result<(), Fail> {
 
 // A member, and some that are put to it.
 fn joined(alloc: Global) -> Result<MarkedMap, Fail> {
-    let mut map = MarkedMap::new(alloc);
+    let mut map = MarkedMap::with_capacity(alloc, 1)?;
     map.insert(TextBox::make(alloc, "b")?, Some(1), Marked::Null)?;
     let mut added = Vec::new(alloc);
     for (name, mark) in [("c", 5), ("b", 6), ("", 7), ("c", 8)] {

@@ -5,6 +5,7 @@ use Rattle.std.specs.Ordering.{match_ordering}
 use Rattle.std.specs.Map.{keys_of}
 use Rattle.std.specs.List.{AllByRecursion}
 use Rattle.std.specs.List.Sorted.{IsStrictlySortedBy}
+use Rattle.std.proofs.lemmas.Bool.{or_right}
 use Rattle.serde_json.specs.Data as port
 use Rattle.serde_json.specs.View.{view, items_view, members_view}
 use Rattle.serde_json.specs.Written.{has_float, items_have_float, members_have_float}
@@ -13,7 +14,6 @@ use Rattle.serde_json.specs.declared.value.Value.{Value}
 use Rattle.claim_tree.specs.Tree.{Text, null, flag, whole, text, Tree, leaf, array, object, Elements, no_elements, element, Members, no_members, member, depth, elements_depth, members_depth, inserted, IsRanged, ElementsRanged, MembersRanged}
 use Rattle.claim_tree.specs.TreeCalls.{pushed}
 use Rattle.claim_tree.specs.JsonText.{data_of, elements_data, members_data}
-use Rattle.claim_tree.proofs.Lists.{or_right}
 
 abbrev pub Entry : Type 0
 Entry = String Global × Value

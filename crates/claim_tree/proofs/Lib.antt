@@ -5,7 +5,6 @@ pub mod Views
 pub mod MapPlaces
 pub mod Insertions
 pub mod OtherMembers
-pub mod Inner
 pub mod Positions
 pub mod Walks
 pub mod TreeTokens

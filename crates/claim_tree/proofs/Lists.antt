@@ -1,7 +1,8 @@
 -- Elements of lists and tests on them, by cases on the list.
-use Rattle.std.proofs.Common.{◌≡◌, ℕ, zero, suc, ◌+◌, ◌<◌, List, [], ◌∷◌, ◌++◌, map, length, take, slice_get, get_or, Bool, true, false, ◌||◌, ◌&&◌, ◌⊎◌, inl, inr, ⊎_elim, Option, Some, refl, sym, ap, ◌∙◌, subst, arith}
+use Rattle.std.proofs.Common.{◌≡◌, ℕ, zero, suc, ◌+◌, ◌<◌, List, [], ◌∷◌, ◌++◌, map, length, take, slice_get, get_or, Bool, true, ◌⊎◌, inl, inr, ⊎_elim, Option, Some, refl, sym, ap, ◌∙◌, subst, arith}
 use Rattle.std.specs.Prelude.{bytes_eq}
 use Rattle.std.specs.List.{list_any}
+use Rattle.std.proofs.lemmas.Bool.{or_cases, or_left, or_right}
 use Rattle.std.proofs.lemmas.Slice.Eq.{bytes_eq-Decides}
 use Rattle.claim_tree.specs.Tree.{Text}
 use Rattle.claim_tree.specs.Lists.{StandsAt, In, Repeats, AtNone, IsLeast}
@@ -11,34 +12,6 @@ bytes_same a b h = (bytes_eq-Decides a b).0 h
 
 pub bytes_refl : (a b : Text) → a ≡ b → bytes_eq a b ≡ true
 bytes_refl a b h = (bytes_eq-Decides a b).1 h
-
-pub or_left : (a b : Bool) → a ≡ true → (a || b) ≡ true
-or_left true b h = refl
-or_left false b h = cc
-
-pub or_right : (a b : Bool) → b ≡ true → (a || b) ≡ true
-or_right true b h = refl
-or_right false b h = h
-
-pub or_split : (a b : Bool) → (a || b) ≡ true → (a ≡ true) ⊎ (b ≡ true)
-or_split true b h = inl refl
-or_split false b h = inr h
-
-pub and_split : (a b : Bool) → (a && b) ≡ true → (a ≡ true) × (b ≡ true)
-and_split true b h = (refl, h)
-and_split false b h = cc
-
-pub and_join : (a b : Bool) → a ≡ true → b ≡ true → (a && b) ≡ true
-and_join true b h k = k
-and_join false b h k = cc
-
-pub true_unless_false : (a : Bool) → (a ≡ false → ⊥) → a ≡ true
-true_unless_false true h = refl
-true_unless_false false h = absurd (h refl)
-
-pub false_unless_true : (a : Bool) → (a ≡ true → ⊥) → a ≡ false
-false_unless_true true h = absurd (h refl)
-false_unless_true false h = refl
 
 -- one of two numbers is less, or they are one
 pub compare_lt : (a b : ℕ) → (a < b) ⊎ ((a ≡ b) ⊎ (b < a))
@@ -172,7 +145,7 @@ list_any-from p [] x m h = elim m [ ]
 pub list_any-In : {X : Type 0} (p : X → Bool) (xs : List X) → list_any p xs ≡ true → (x : X) × In x xs × (p x ≡ true)
 list_any-In p [] h = cc
 list_any-In p (z ∷ xs) h =
-    ⊎_elim (λ l. (z, inl refl, l)) (λ r. let w = list_any-In p xs r in (w.0, inr w.1, w.2)) (or_split (p z) (list_any p xs) h)
+    ⊎_elim (λ l. (z, inl refl, l)) (λ r. let w = list_any-In p xs r in (w.0, inr w.1, w.2)) (or_cases (p z) (list_any p xs) h)
 
 -- two pairs in one
 pub pair_same : {X Y : Type 0} (a b : X) (c d : Y) → ◌≡◌ {A = Option (X × Y)} (Some (a, c)) (Some (b, d)) → (a ≡ b) × (c ≡ d)

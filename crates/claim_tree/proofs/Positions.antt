@@ -2,12 +2,12 @@
 use Rattle.std.proofs.Common.{◌≡◌, ◌≢◌, ℕ, zero, suc, ◌+◌, ◌<◌, ◌^◌, None, false, bytes_eq, decimal, refl, sym, ap, subst, ◌∙◌, arith}
 use Rattle.std.proofs.lemmas.Fmt.{decimal_injective}
 use Rattle.std.proofs.lemmas.Slice.Eq.{bytes_eq-Decides}
+use Rattle.std.proofs.lemmas.Bool.{false_from_ne_true}
 use Rattle.claim_tree.specs.Tree.{Text, Elements, no_elements, element, element_at, elements_len}
 use Rattle.claim_tree.specs.Path.{element_on}
-use Rattle.claim_tree.proofs.Lists.{false_unless_true}
 
 pub unequal : (a b : Text) → a ≢ b → bytes_eq a b ≡ false
-unequal a b other = false_unless_true (bytes_eq a b) (λ e. other ((bytes_eq-Decides a b).0 e))
+unequal a b other = false_from_ne_true (bytes_eq a b) (λ e. other ((bytes_eq-Decides a b).0 e))
 
 -- no position has these digits
 pub element_on-none : (es : Elements) (i : ℕ) (step : Text) → ((j : ℕ) → j < i + elements_len es → decimal j ≢ step) → element_on es i step ≡ None

@@ -86,10 +86,6 @@ pub one_more_item : (es : Elements) (t : Tree) (r : Option (Items × List Token)
 one_more_item es t None = refl
 one_more_item es t (Some p) = ap (λ ds. Some (ds, p.1)) (items_push es t p.0)
 
-pub none_before : (r : Option (Items × List Token)) → r ≡ parse_map (λ a. a) r
-none_before None = refl
-none_before (Some p) = refl
-
 -- ---- one member more
 
 put_by : (o : Ordering) (name other : Text) (t u : Tree) (ms : tree.Members) → cmp other name ≡ o → members_data (inserted ms name t) ≡ put name (data_of t) (members_data ms)

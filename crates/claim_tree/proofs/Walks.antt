@@ -2,7 +2,7 @@
 use Rattle.std.proofs.Common.{◌≡◌, ℕ, zero, suc, ◌+◌, ◌*◌, ◌<◌, ◌≤◌, List, [], ◌∷◌, ◌++◌, length, get_or, take, add-one, refl, sym, ap, subst, ◌∙◌, arith}
 use Rattle.std.proofs.Math.Seq.{take-suc}
 use Rattle.claim_tree.specs.Tree as spec
-use Rattle.claim_tree.specs.Tree.{Text, depth, elements_depth, members_depth, names, inserted, IsBefore, IsBeforeAll, MembersOrdered, IsRanged, ElementsRanged, MembersRanged}
+use Rattle.claim_tree.specs.Tree.{Text, depth, elements_depth, members_depth, names, inserted, IsBefore, IsBeforeAll, MembersOrdered}
 use Rattle.claim_tree.specs.TreeCalls.{pushed}
 use Rattle.claim_tree.specs.Nodes.{nodes, elements_nodes, members_nodes}
 use Rattle.claim_tree.specs.View.{tree_of}
@@ -15,9 +15,6 @@ abbrev pub Named : Type 0
 Named = Text × tree.Tree
 
 -- ---- what every element is
-
-pub ranged_at : (ts : List tree.Tree) (i : ℕ) (t : tree.Tree) → i < length ts → t ≡ get_or ts i t → ElementsRanged (elements_of ts) → IsRanged (tree_of t)
-ranged_at = each_place (λ ts t. ElementsRanged (elements_of ts) → IsRanged (tree_of t)) (λ t ts h. h.0) (λ u ts t rest h. rest h.1)
 
 pub nodes_at : (ts : List tree.Tree) (i : ℕ) (t : tree.Tree) → i < length ts → t ≡ get_or ts i t → nodes (tree_of t) ≤ elements_nodes (elements_of ts)
 nodes_at = each_place (λ ts t. nodes (tree_of t) ≤ elements_nodes (elements_of ts)) (λ t ts. omega arith) (λ u ts t rest. omega (arith, rest))
@@ -32,9 +29,6 @@ elements_turn ts i t within is =
     rw front (elements_of-push (take i ts) t)
 
 -- ---- what every member is
-
-pub ranged_member_at : (ms : List Named) (i : ℕ) (m : Named) → i < length ms → m ≡ get_or ms i m → MembersRanged (members_of ms) → IsRanged (tree_of m.1)
-ranged_member_at = each_place (λ (ms : List Named) (m : Named). MembersRanged (members_of ms) → IsRanged (tree_of m.1)) (λ m ms h. h.0) (λ n ms m rest h. rest h.1)
 
 pub nodes_member_at : (ms : List Named) (i : ℕ) (m : Named) → i < length ms → m ≡ get_or ms i m → nodes (tree_of m.1) ≤ members_nodes (members_of ms)
 nodes_member_at = each_place (λ (ms : List Named) (m : Named). nodes (tree_of m.1) ≤ members_nodes (members_of ms)) (λ m ms. omega arith) (λ n ms m rest. omega (arith, rest))

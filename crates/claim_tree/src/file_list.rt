@@ -1,5 +1,5 @@
 // Lists of pointers in the files that a command reads.
-ghost use Rattle.std.specs.Prelude.{◌≡◌, List, [], IfOk, IfErr, IfSome, IfNone};
+ghost use Rattle.std.specs.Prelude.{List, [], IfOk, IfErr, IfSome, IfNone};
 ghost use Rattle.claim_tree.specs.Tree.{Text};
 ghost use Rattle.claim_tree.specs.View.{tree_of};
 ghost use Rattle.claim_tree.specs.ListViews.{elements_of};

@@ -1,4 +1,4 @@
-ghost use Rattle.std.specs.Prelude.{◌≡◌, ◌↔◌, ◌<◌, List, ℕ, [], ◌∷◌, ◌++◌, length, codes, string_bytes, IfOk, OnOk, IfSome, IfNone, IsTrue};
+ghost use Rattle.std.specs.Prelude.{◌≡◌, ◌<◌, ◌∷◌, ◌++◌, length, codes, string_bytes, IfOk, OnOk, IfSome, IfNone};
 ghost use Rattle.claim_tree.specs.Path.{escaped, pointer_text};
 ghost use Rattle.claim_tree.specs.PointerRefusals.{IsNoPointer, HasLoneTilde, HasNoSlash, EndsNoEscape};
 ghost use Rattle.claim_tree.specs.declared.pointer.PointerError.TheVariants.{Memory};

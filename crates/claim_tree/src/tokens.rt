@@ -4,12 +4,11 @@ ghost use Rattle.json.specs.Token.{number};
 ghost use Rattle.json.specs.Tree.{json_tokens, items_tokens, members_tokens};
 ghost use Rattle.serde_json.specs.Find.{of_integer};
 ghost use Rattle.serde_json.specs.Written.{number_text, outline, items_outline, members_outline};
-ghost use Rattle.claim_tree.specs.Tree.{InRange};
 ghost use Rattle.claim_tree.specs.View.{tree_of};
 ghost use Rattle.claim_tree.specs.JsonText.{data_of, elements_data, members_data};
 ghost use Rattle.claim_tree.specs.Begun.{begun};
 
-use crate::{Tree, TreeList, TreeMap};
+use crate::{Tree, TreeList, TreeMap, Whole};
 use json::Writer;
 use std::alloc::AllocError;
 
@@ -22,7 +21,7 @@ pub(crate) fn put_tree(out: &mut Writer, tree: &Tree) -> Result<(), AllocError>
     match tree {
         Tree::Null => out.null(),
         Tree::Flag(flag) => out.boolean(*flag),
-        Tree::Whole(n) => put_whole(out, n.get()),
+        Tree::Whole(n) => put_whole(out, *n),
         Tree::Text(text) => out.string(text.as_str()),
         Tree::List(trees) => {
             out.begin_array()?;
@@ -52,11 +51,11 @@ pub(crate) fn put_texts(
     }
 }
 
-fn put_whole(out: &mut Writer, n: i128) -> Result<(), AllocError>
-    requires { InRange n }
-    ensures ok { OnOk result (out.new.tokens ≡ out.old.tokens ++ number (number_text (of_integer n)) ∷ []) }
+fn put_whole(out: &mut Writer, whole: Whole) -> Result<(), AllocError>
+    ensures ok { OnOk result (out.new.tokens ≡ out.old.tokens ++ number (number_text (of_integer whole)) ∷ []) }
     ensures before { out.new.before ≡ out.old.before }
 {
+    let n = whole.get();
     if n >= 0 {
         out.u64(n as u64)
     } else {

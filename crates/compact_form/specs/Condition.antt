@@ -1,5 +1,5 @@
 -- The conditions of a verifier, in the order in which they are judged: their numbers and their printed names.
-use Rattle.std.specs.Prelude.{ℕ, ◌==◌, List, [], ◌∷◌, Option, codes, find}
+use Rattle.std.specs.Prelude.{ℕ, List, codes}
 use Rattle.compact_form.specs.declared.condition.Condition.{Condition}
 
 -- its number and its name
@@ -48,49 +48,3 @@ number_of condition = (condition_row condition).0
 
 abbrev pub name_of : Condition → List ℕ
 name_of condition = (condition_row condition).1
-
-abbrev pub conditions : List Condition
-conditions =
-    Condition.TooLong
-    ∷ Condition.Form
-    ∷ Condition.TooMuch
-    ∷ Condition.BindingMissing
-    ∷ Condition.HeaderUnreadable
-    ∷ Condition.HeaderCritical
-    ∷ Condition.AlgRefused
-    ∷ Condition.TypeRefused
-    ∷ Condition.IssuerKeyUnknown
-    ∷ Condition.BadSignature
-    ∷ Condition.PayloadUnreadable
-    ∷ Condition.HashUnknown
-    ∷ Condition.DisclosureUnreadable
-    ∷ Condition.RepeatedDisclosure
-    ∷ Condition.ReservedMisused
-    ∷ Condition.RepeatedDigest
-    ∷ Condition.UnreferencedDisclosure
-    ∷ Condition.WrongShape
-    ∷ Condition.ReservedName
-    ∷ Condition.NameClash
-    ∷ Condition.TooDeep
-    ∷ Condition.IssuerRefused
-    ∷ Condition.ClaimMissing
-    ∷ Condition.TimeUnreadable
-    ∷ Condition.Expired
-    ∷ Condition.NotYet
-    ∷ Condition.HolderKeyUnknown
-    ∷ Condition.BindingHeader
-    ∷ Condition.BindingAlg
-    ∷ Condition.BindingSignature
-    ∷ Condition.BindingType
-    ∷ Condition.BindingPayload
-    ∷ Condition.BindingStale
-    ∷ Condition.BindingEarly
-    ∷ Condition.NonceDiffers
-    ∷ Condition.AudienceDiffers
-    ∷ Condition.HashDiffers
-    ∷ Condition.BindingTime
-    ∷ []
-
--- the condition of a number, where there is one
-abbrev pub condition_of : ℕ → Option Condition
-condition_of number = find (λ condition. number_of condition == number) conditions

@@ -1,19 +1,17 @@
 -- The fault that names a condition and its place, and the condition that a fault names.
-use Rattle.std.specs.Prelude.{ℕ, is_some, unwrap_or}
-use Rattle.std.proofs.Common.{ap}
+use Rattle.std.specs.Prelude.{ℕ, refl}
 use Rattle.compact_form.specs.declared.condition.Condition.{Condition}
 use Rattle.compact_form.specs.declared.fault.Fault.{Fault}
 use Rattle.compact_form.specs.declared.fault.Place.{Place}
 use Rattle.compact_form.specs.declared.fault.Place.TheVariants.{Nowhere, At}
-use Rattle.compact_form.specs.Condition.{number_of, condition_of}
-use Rattle.compact_form.specs.Numbered.{numbered}
+use Rattle.compact_form.specs.Condition.{number_of}
 
 abbrev pub fault_number : Fault → ℕ
 fault_number fault = fault.number
 
 -- the condition fails at this place
 abbrev pub fault_at : Condition → Place → Fault
-fault_at condition place = record { number = number_of condition; place = place; of_condition = ap is_some (numbered condition) }
+fault_at condition place = record { number = number_of condition; place = place; of_condition = (condition, refl) }
 
 -- it names no place
 abbrev pub unplaced : Condition → Fault
@@ -25,4 +23,4 @@ placed condition i = fault_at condition (At i)
 
 -- the condition that the fault names: by its type a fault has one
 abbrev pub failed_of : Fault → Condition
-failed_of fault = unwrap_or (condition_of fault.number) Condition.TooLong
+failed_of fault = fault.of_condition.0

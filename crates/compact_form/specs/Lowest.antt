@@ -5,6 +5,7 @@ use Rattle.compact_form.specs.declared.fault.Place.{Place}
 use Rattle.compact_form.specs.declared.fault.Place.TheVariants.{Nowhere, At}
 use Rattle.compact_form.specs.declared.condition.Condition.{Condition}
 use Rattle.compact_form.specs.Condition.{number_of}
+use Rattle.compact_form.specs.Faults.{failed_of}
 
 -- it applies, and none that applies has a lower rank
 pub record IsLowestBy {X : Type 0} (rank : X → ℕ) (Applies : X → Type 0) (x : X) : Type 0 where
@@ -29,12 +30,10 @@ abbrev pub IsNoLater : Place → Place → Type 0
 IsNoLater (At i) (At j) = i ≤ j
 IsNoLater _ _ = Unit {0}
 
--- a condition fails, with its number and at its least place, and none lower
+-- the condition that the fault names fails, at its least place, and none lower
 pub record IsLowest (FailsSo : Condition → Place → Type 0) (fault : Fault) : Type 0 where
-  pub failed : Condition
-  pub number_is : fault.number ≡ number_of failed
-  pub fails : FailsSo failed fault.place
-  pub lowest : (other : Condition) (place : Place) → FailsSo other place → (number_of failed < number_of other) ⊎ ((other ≡ failed) × IsNoLater fault.place place)
+  pub fails : FailsSo (failed_of fault) fault.place
+  pub lowest : (other : Condition) (place : Place) → FailsSo other place → (fault.number < number_of other) ⊎ ((other ≡ failed_of fault) × IsNoLater fault.place place)
 
 abbrev pub NoneFails : (Condition → Place → Type 0) → Type 0
 NoneFails FailsSo = (c : Condition) (place : Place) → FailsSo c place → ⊥

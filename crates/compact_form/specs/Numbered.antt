@@ -1,7 +1,56 @@
--- For the prover, which wants it of each fault that is made: a condition is found under its number.
-use Rattle.std.specs.Prelude.{◌≡◌, Some, refl}
+-- For the prover, which wants it of the fault: at most one condition has a number.
+use Rattle.std.specs.Prelude.{◌≡◌, ℕ, ◌==◌, List, [], ◌∷◌, find, Option, Some, refl}
+use Rattle.std.proofs.Common.{ap, sym, ◌∙◌}
+use mathlib.Core.HLevel.{Σ_prop_path}
+use Rattle.std.proofs.Math.Nat.{ℕ_set}
 use Rattle.compact_form.specs.declared.condition.Condition.{Condition}
-use Rattle.compact_form.specs.Condition.{number_of, condition_of}
+use Rattle.compact_form.specs.Condition.{number_of}
+
+abbrev conditions : List Condition
+conditions =
+    Condition.TooLong
+    ∷ Condition.Form
+    ∷ Condition.TooMuch
+    ∷ Condition.BindingMissing
+    ∷ Condition.HeaderUnreadable
+    ∷ Condition.HeaderCritical
+    ∷ Condition.AlgRefused
+    ∷ Condition.TypeRefused
+    ∷ Condition.IssuerKeyUnknown
+    ∷ Condition.BadSignature
+    ∷ Condition.PayloadUnreadable
+    ∷ Condition.HashUnknown
+    ∷ Condition.DisclosureUnreadable
+    ∷ Condition.RepeatedDisclosure
+    ∷ Condition.ReservedMisused
+    ∷ Condition.RepeatedDigest
+    ∷ Condition.UnreferencedDisclosure
+    ∷ Condition.WrongShape
+    ∷ Condition.ReservedName
+    ∷ Condition.NameClash
+    ∷ Condition.TooDeep
+    ∷ Condition.IssuerRefused
+    ∷ Condition.ClaimMissing
+    ∷ Condition.TimeUnreadable
+    ∷ Condition.Expired
+    ∷ Condition.NotYet
+    ∷ Condition.HolderKeyUnknown
+    ∷ Condition.BindingHeader
+    ∷ Condition.BindingAlg
+    ∷ Condition.BindingSignature
+    ∷ Condition.BindingType
+    ∷ Condition.BindingPayload
+    ∷ Condition.BindingStale
+    ∷ Condition.BindingEarly
+    ∷ Condition.NonceDiffers
+    ∷ Condition.AudienceDiffers
+    ∷ Condition.HashDiffers
+    ∷ Condition.BindingTime
+    ∷ []
+
+-- the condition of a number, where there is one
+abbrev pub condition_of : ℕ → Option Condition
+condition_of number = find (λ condition. number_of condition == number) conditions
 
 -- each condition is found under its number
 pub numbered : (condition : Condition) → condition_of (number_of condition) ≡ Some condition
@@ -43,3 +92,11 @@ numbered Condition.NonceDiffers = refl
 numbered Condition.AudienceDiffers = refl
 numbered Condition.HashDiffers = refl
 numbered Condition.BindingTime = refl
+
+-- two conditions of one number are one
+pub one_condition : (a b : Condition) → number_of a ≡ number_of b → a ≡ b
+one_condition a b same = let both : Some a ≡ Some b = sym (numbered a) ∙ (ap condition_of same ∙ numbered b) in cc both
+
+-- so a number has at most one
+pub one_numbered : (n : ℕ) → IsProp ((condition : Condition) × (n ≡ number_of condition))
+one_numbered n a b = Σ_prop_path (λ condition. ℕ_set n (number_of condition)) (one_condition a.0 b.0 (sym a.1 ∙ b.1))

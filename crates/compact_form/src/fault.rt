@@ -1,5 +1,7 @@
-ghost use Rattle.std.specs.Prelude.{◌≡◌, IsSome};
-ghost use Rattle.compact_form.specs.Condition.{condition_of};
+ghost use Rattle.std.specs.Prelude.{◌≡◌};
+ghost use Rattle.compact_form.specs.declared.condition.Condition.{Condition};
+ghost use Rattle.compact_form.specs.Condition.{number_of};
+ghost use Rattle.compact_form.specs.Numbered.{one_numbered};
 
 use crate::Condition;
 
@@ -9,7 +11,7 @@ pub struct Fault {
     /// The number of a [`Condition`](crate::Condition), from 1 to 38.
     pub number: u8,
     pub place: Place,
-    pub ghost of_condition: { IsSome (condition_of number) },
+    pub ghost of_condition: { (condition : Condition) × (number ≡ number_of condition) } by { one_numbered number },
 }
 
 impl Fault {

@@ -1,5 +1,5 @@
 // How long the text is that spells parts.
-ghost use Rattle.std.specs.Prelude.{◌≡◌, ◌+◌, ◌-◌, ◌<◌, ◌≤◌, ◌↔◌, length, IsTrue, SomeIff};
+ghost use Rattle.std.specs.Prelude.{◌+◌, ◌-◌, ◌<◌, ◌≤◌, ◌↔◌, length, IsTrue, SomeIff};
 ghost use Rattle.compact_form.specs.Compact.{jwt as jwt_text, spelled, compact};
 
 use crate::{JwtParts, Parts};

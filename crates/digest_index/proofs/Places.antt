@@ -4,7 +4,7 @@ use Rattle.std.specs.Prelude.{bytes_eq, slice_get, option_map}
 use Rattle.std.specs.List.{Contains, IsDistinct, AllByRecursion}
 use Rattle.std.specs.Cmp.Lexicographic.{nat_list_eq_equiv}
 use Rattle.std.proofs.lemmas.Bool.{cases_lt}
-use Rattle.std.proofs.lemmas.Option.{slice_get-get_or, get_or_from_slice_get, slice_get_within}
+use Rattle.std.proofs.lemmas.Option.{slice_get-get_or, get_or_from_slice_get}
 use Rattle.std.proofs.lemmas.Slice.Eq.{bytes_eq-Decides}
 use Rattle.std.proofs.lemmas.Map.Keys.{IsDistinct-head, IsDistinct-tail}
 use Rattle.digest_index.specs.Index.{Text, position_of, position_or_end}
@@ -51,14 +51,6 @@ is_there t xs = (
   λ c. let stands : slice_get xs c.0 ≡ Some t = slice_get-get_or xs c.0 t c.1 ∙ ap Some c.2 in omega (arith, place_or_end-first t xs c.0 stands, c.1),
 )
 
--- texts that are there and have one position are one
-pub one_text : (t u : Text) (xs : List Text) → position_or_end t xs < length xs → position_or_end t xs ≡ position_or_end u xs → t ≡ u
-one_text t u xs h e =
-    let first : slice_get xs (position_or_end t xs) ≡ Some t = slice_get-place_or_end t xs h in
-    let second : slice_get xs (position_or_end u xs) ≡ Some u = slice_get-place_or_end u xs (omega (arith, h, e)) in
-    let same : Some t ≡ Some u = sym first ∙ ap (slice_get xs) e ∙ second in
-    cc
-
 -- ---- the position, where there is one
 
 pub place_of-there : (t : Text) (xs : List Text) → position_or_end t xs < length xs → position_of t xs ≡ Some (position_or_end t xs)
@@ -101,14 +93,6 @@ slice_get-place_of t xs i h = go (cases_lt (position_or_end t xs) (length xs))
     go (inl w) = ap (slice_get xs) (sym (place_of-Some t xs i h)) ∙ slice_get-place_or_end t xs w
     go (inr w) = let e : None ≡ Some i = sym (place_of-new t xs (omega (arith, w, place_or_end-within t xs))) ∙ h in cc
 
--- there is none exactly where the text is not there
-pub no_place : (t : Text) (xs : List Text) → (position_of t xs ≡ None) ↔ ¬ (Contains xs t)
-no_place t xs = (λ h c. omega (arith, place_of-None t xs h, (is_there t xs).1 c), λ n. go n (cases_lt (position_or_end t xs) (length xs)))
-  where
-    go : ¬ (Contains xs t) → (position_or_end t xs < length xs) ⊎ (length xs ≤ position_or_end t xs) → position_of t xs ≡ None
-    go n (inl w) = absurd (n ((is_there t xs).0 w))
-    go n (inr w) = place_of-new t xs (omega (arith, w, place_or_end-within t xs))
-
 -- ---- distinct texts
 
 each_at : (P : Text → Type 0) (xs : List Text) (i : ℕ) (u : Text) → AllByRecursion P xs → slice_get xs i ≡ Some u → P u
@@ -123,7 +107,3 @@ place_or_end-at t (x ∷ xs) zero d h = let same : t ≡ x = cc in rw ((bytes_eq
 place_or_end-at t (x ∷ xs) (suc i) d h =
     let apart : bytes_eq t x ≡ false = bytes_eq-flip t x ∙ each_at (λ y. bytes_eq x y ≡ false) xs i t (IsDistinct-head bytes_eq x xs d) h in
     rw apart (ap suc (place_or_end-at t xs i (IsDistinct-tail bytes_eq x xs d) h))
-
--- and stands nowhere else
-pub one_place : (t : Text) (xs : List Text) (i j : ℕ) → IsDistinct bytes_eq xs → slice_get xs i ≡ Some t → slice_get xs j ≡ Some t → i ≡ j
-one_place t xs i j d h k = sym (place_or_end-at t xs i d h) ∙ place_or_end-at t xs j d k

@@ -6,7 +6,7 @@ use Rattle.verifier_core.specs.declared.policy.Policy.{Policy}
 use Rattle.cli_parts.specs.Lines.{line}
 use Rattle.feed_core.specs.Cut.{IsOneLine, IsCut}
 use Rattle.feed_core.specs.FeedVerdict.{TellsVerdicts}
-use Rattle.feed_core.specs.Feed.{taking, kept_rest, Takes, TellsFront}
+use Rattle.feed_core.specs.Feed.{taking, TellsFront}
 use Rattle.feed_core.specs.FeedCalls.{TakesFront}
 use Rattle.feed_core.proofs.Cuts.{all_append, cut_append, cut_line, cut_open, cut_of}
 use Rattle.feed_core.proofs.Told.{told_none, told_append}

@@ -1,5 +1,5 @@
 -- Where nothing fails, all is told, or there is no memory.
-use Rattle.std.proofs.Common.{◌≡◌, ◌⊎◌, inl, inr, ℕ, ◌+◌, ◌≤◌, List, ◌∷◌, Some, IfSome, take, refl, sym, ap, subst, ◌∙◌, arith, decimal}
+use Rattle.std.proofs.Common.{◌≡◌, ◌⊎◌, inl, inr, ℕ, ◌+◌, ◌≤◌, List, Some, IfSome, take, refl, sym, subst, ◌∙◌, arith, decimal}
 use Rattle.std.proofs.lemmas.Fmt.{decimal_injective}
 use Rattle.sd_outside.specs.Causes.{Rose}
 use Rattle.sd_outside.specs.Limits.{file_max}
@@ -29,7 +29,7 @@ module _ (words : List (List ℕ)) (before after : FeedOutside) (now : ℕ) (nam
     (written : Rose before.files.out.faults after.files.out.faults → ⊥) (within : after.source.taken ≤ before.source.taken + most) where
   not_refused : FeedRefused words before after now → ⊥
   not_refused ends =
-      let same = one_most words name ends.asks.name most ends.most named ends.asks.named in
+      let same = one_most words name ends.asks.name most ends.asks.most named ends.asks.named in
       omega (arith, within, ends.fed.gave.taken, ends.fed.over, same)
 
   not_unread : FeedUnread words before after now → ⊥

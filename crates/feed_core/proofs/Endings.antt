@@ -1,15 +1,14 @@
 -- What a feed writes at its end, and what it is left with.
-use Rattle.std.proofs.Common.{◌≡◌, ℕ, ◌+◌, ◌≤◌, List, ◌++◌, length, take, sym, ap, subst, ◌∙◌, refl, arith, Option, Result, Ok, Err, OnOk, Bool, true, false}
+use Rattle.std.proofs.Common.{◌≡◌, ℕ, ◌+◌, ◌≤◌, List, ◌++◌, length, sym, ap, subst, refl, arith, Option, Result, Ok, Err, OnOk, true, false}
 use Rattle.std.specs.Result.{is_err}
 use Rattle.std.proofs.lemmas.List.{length-take}
 use Rattle.std.proofs.KnownBytes.{Appends-trans}
 use Rattle.std.specs.Io.KnownBytes.{Appends}
 use Rattle.sd_outside.specs.Causes.{AppendsPrefix}
 use Rattle.sd_outside.specs.Limits.{file_max}
-use Rattle.verifier_core.specs.declared.policy.Policy.{Policy}
 use Rattle.feed_core.specs.Cut.{IsOneLine, last_line}
 use Rattle.feed_core.specs.FeedVerdict.{TellsVerdicts}
-use Rattle.feed_core.specs.Feed.{FeedState, taking, kept_rest, Takes, TellsFront, end_line}
+use Rattle.feed_core.specs.Feed.{FeedState, Takes, TellsFront, end_line}
 use Rattle.feed_core.specs.FeedCalls.{TakesFront, IsEnded, count_at_end}
 use Rattle.feed_core.proofs.Cuts.{all_take, cut_of}
 use Rattle.feed_core.proofs.Fronts.{prefix_after, front_none, front_all}

@@ -1,15 +1,15 @@
 -- What a feed has made of what a source gave so far.
-use Rattle.std.proofs.Common.{◌≡◌, ◌⊎◌, inl, inr, ℕ, ◌+◌, ◌≤◌, List, [], ◌∷◌, ◌++◌, length, take, refl, sym, ap, subst, ◌∙◌, arith, append_assoc, append-nil, length-append, Option, IfSome, Result, Ok, Err, OnErr, IsErrOf}
+use Rattle.std.proofs.Common.{◌≡◌, ◌⊎◌, inl, inr, ℕ, ◌+◌, ◌≤◌, List, [], ◌∷◌, ◌++◌, length, take, refl, sym, ap, subst, ◌∙◌, arith, append_assoc, append-nil, length-append, Option, Result, Ok, Err, OnErr, IsErrOf}
 use Rattle.std.proofs.lemmas.List.{take_at, take_all, length-take}
 use Rattle.std.proofs.KnownBytes.{Appends-nil, Appends-trans, Consumes-nil, Consumes-trans, Consumes-whole}
-use Rattle.std.specs.Io.KnownBytes.{Appends, Consumes, IsAtEnd}
-use Rattle.sd_outside.specs.Causes.{Rose, AppendsPrefix}
+use Rattle.std.specs.Io.KnownBytes.{Appends, IsAtEnd}
+use Rattle.sd_outside.specs.Causes.{AppendsPrefix}
 use Rattle.verifier_core.specs.declared.policy.Policy.{Policy}
-use Rattle.feed_core.specs.Cut.{IsCut, AreLines, last_line}
+use Rattle.feed_core.specs.Cut.{last_line}
 use Rattle.feed_core.specs.FeedVerdict.{TellsVerdicts}
 use Rattle.feed_core.specs.Feed.{FeedState, taking, kept_rest, Takes, TellsFront, end_line}
 use Rattle.feed_core.specs.FeedCalls.{new_feed, TakesFront, IsEnded, count_at_end}
-use Rattle.feed_core.specs.FeedSource.{Input, Gave, FedAll, ToldEnded, FedLong, FedPart, FedFront}
+use Rattle.feed_core.specs.FeedSource.{Input, Gave, FedAll, ToldEnded, FedLong, FedFront}
 use Rattle.feed_core.proofs.Cuts.{cut_open, lines_within}
 use Rattle.feed_core.proofs.Told.{told_none, told_append, carry, carry_all, last_tells, last_as_many}
 use Rattle.feed_core.proofs.Fronts.{front_after, front_more, front_behind}

@@ -1,5 +1,5 @@
--- How a run of the feed ends where there is no policy, and the line of a source that gave too much.
-use Rattle.std.proofs.Common.{◌≡◌, ◌⊎◌, inl, inr, ℕ, List, None, Some, codes, string_bytes, sym, subst}
+-- How a run of the feed ends, by why it ends.
+use Rattle.std.proofs.Common.{◌≡◌, inl, inr, ℕ, List, None, Some, codes, string_bytes, sym, subst}
 use Rattle.std.specs.Fmt.{digits}
 use Rattle.sd_outside.specs.Causes.{Rose}
 use Rattle.sd_outside.specs.declared.status.Status.{Status}
@@ -15,25 +15,49 @@ use Rattle.cli_parts.specs.Telling.{TellsFileFault}
 use Rattle.cli_parts.specs.declared.stop.Stop.{Stop}
 use Rattle.cli_parts.specs.declared.stop.Stop.TheVariants.{Memory, Unread, Unreadable, Refused}
 use Rattle.verifier_core.specs.declared.policy.Policy.{Policy}
-use Rattle.verifier_core.specs.PolicyFile.{IsPolicyFileRefused}
-use Rattle.feed_core.specs.FeedRun.{FeedOutside, IsFeed, Asks, Untouched, FeedEnds, of_policy, at_first}
+use Rattle.verifier_core.specs.PolicyFile.{IsPolicyFile, IsPolicyFileRefused}
+use Rattle.feed_core.specs.FeedRun.{FeedOutside, IsFeed, Asks, Untouched, FeedDone, FeedEnds, of_policy, of_source, at_first, later_on}
 use Rattle.feed_core.specs.Feed.{FeedState}
 use Rattle.feed_core.specs.FeedCalls.{new_feed}
-use Rattle.feed_core.specs.FeedSource.{FedLong}
+use Rattle.feed_core.specs.FeedSource.{FedAll, FedLong, FedPart, FedFront}
 
 -- the line of 87, as it is printed
 told_long : (before after : Stream) → Tells before after (codes "refused 87 feedTooLong\n") → Tells before after (line (refused_text Refusal.FeedTooLong None))
 unfolding digits
 told_long before after tells = tells
 
--- a new feed over a source that gave too much
-pub too_long : (words : List (List ℕ)) (before after : FeedOutside) (now : ℕ) (told : Status) (policy : Policy) (most : ℕ) (feed : FeedState) → Asks words before policy most
-    → feed ≡ new_feed policy now → FedLong feed.policy feed.now most before.source after.source before.files.out.written after.files.out.written
-    → told ≡ status.Refused → Tells before.files.err after.files.err (codes "refused 87 feedTooLong\n") → FeedEnds words before after now told
-too_long words before after now told policy most feed asks fresh long same tells =
-    let fed = subst (λ (f : FeedState). FedLong f.policy f.now most before.source after.source before.files.out.written after.files.out.written) fresh long in
-    subst (FeedEnds words before after now) (sym same) (record { policy = policy; most = most; asks = asks; fed = fed; err = told_long before.files.err after.files.err tells })
+-- the words ask for a feed, which was new
+module _ (words : List (List ℕ)) (before after : FeedOutside) (now : ℕ) (told : Status) (name : List ℕ) (most : ℕ) (policy : Policy) (feed : FeedState) (named : IsFeed words name most)
+    (said : (file : List ℕ) × IsFetched before.files.holds name file × IsPolicyFile file policy) (fresh : feed ≡ new_feed policy now) where
+  abbrev asks : Asks words before
+  asks = record { name = name; most = most; named = named; file = said.0; fetched = said.1; policy = policy; is_policy = said.2 }
 
+  ends_so : (s : Status) → told ≡ s → FeedEnds words before after now s → FeedEnds words before after now told
+  ends_so s same ends = subst (FeedEnds words before after now) (sym same) ends
+
+  pub all_judged : FedAll feed.policy feed.now most before.source after.source before.files.out.written after.files.out.written → after.files.err.written ≡ before.files.err.written → FeedDone words before after now
+  all_judged fed err = record { asks = asks; fed = subst (λ (f : FeedState). FedAll f.policy f.now most before.source after.source before.files.out.written after.files.out.written) fresh fed; err = err }
+
+  pub too_long : FedLong feed.policy feed.now most before.source after.source before.files.out.written after.files.out.written
+      → told ≡ status.Refused → Tells before.files.err after.files.err (codes "refused 87 feedTooLong\n") → FeedEnds words before after now told
+  too_long fed same tells = ends_so status.Refused same (record { asks = asks; fed = subst (λ (f : FeedState). FedLong f.policy f.now most before.source after.source before.files.out.written after.files.out.written) fresh fed; err = told_long before.files.err after.files.err tells })
+
+  pub source_failed : FedPart feed.policy feed.now most before.source after.source before.files.out.written after.files.out.written
+      → told ≡ status.Unread → Tells before.files.err after.files.err (codes "unread source\n") → FeedEnds words before after now told
+  source_failed fed same tells = ends_so status.Unread same (of_source (record { asks = asks; fed = subst (λ (f : FeedState). FedPart f.policy f.now most before.source after.source before.files.out.written after.files.out.written) fresh fed; err = tells }))
+
+  front : FedFront feed.policy feed.now most before.source after.source before.files.out.written after.files.out.written → FedFront policy now most before.source after.source before.files.out.written after.files.out.written
+  front fed = subst (λ (f : FeedState). FedFront f.policy f.now most before.source after.source before.files.out.written after.files.out.written) fresh fed
+
+  pub out_failed : FedFront feed.policy feed.now most before.source after.source before.files.out.written after.files.out.written → Rose before.files.out.faults after.files.out.faults
+      → told ≡ status.Unwritten → Tells before.files.err after.files.err (codes "unwritten\n") → FeedEnds words before after now told
+  out_failed fed rose same tells = ends_so status.Unwritten same (record { asks = asks; fed = front fed; rose = rose; err = tells })
+
+  pub memory_failed : FedFront feed.policy feed.now most before.source after.source before.files.out.written after.files.out.written
+      → told ≡ status.Memory → Tells before.files.err after.files.err (codes "memory\n") → FeedEnds words before after now told
+  memory_failed fed same tells = ends_so status.Memory same (later_on (record { asks = asks; fed = front fed; err = tells }))
+
+-- it ended before a feed began
 module _ (words : List (List ℕ)) (before after : FeedOutside) (now : ℕ) (told : Status) (name : List ℕ) (most : ℕ) (named : IsFeed words name most) (untouched : Untouched before after) where
   by_status : (s : Status) → told ≡ s → FeedEnds words before after now s → FeedEnds words before after now told
   by_status s same ends = subst (FeedEnds words before after now) (sym same) ends

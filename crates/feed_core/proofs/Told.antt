@@ -1,9 +1,9 @@
 -- What is told of lines, one after the other.
 use Prim.Native.Nat.{zero}
 use Rattle.std.proofs.Common.{◌≡◌, ◌⊎◌, inl, inr, ℕ, suc, ◌+◌, ◌<◌, ◌≤◌, List, [], ◌∷◌, ◌++◌, length, take, refl, sym, ap, subst, ◌∙◌, arith, append_assoc, append-nil, length-append}
-use Rattle.std.specs.List.{AllByRecursion, AllZip, flat_map}
+use Rattle.std.specs.List.{AllZip, flat_map}
 use Rattle.std.proofs.lemmas.List.Concat.{flat_map-append}
-use Rattle.std.proofs.lemmas.List.{length-take, take_all, take-append-le, take-take, append_cancel_left}
+use Rattle.std.proofs.lemmas.List.{length-take, take_all, take-append-le, take-take}
 use Rattle.sd_outside.specs.Limits.{file_max}
 use Rattle.verifier_core.specs.declared.policy.Policy.{Policy}
 use Rattle.cli_parts.specs.Lines.{line}

@@ -28,12 +28,14 @@ pub record IsFeed (words : List (List ℕ)) (policy : List ℕ) (most : ℕ) : T
   pub some : 0 < most
   pub within : most ≤ feed_max
 
--- the words are those of a feed, and its policy file says this policy
-pub record Asks (words : List (List ℕ)) (before : FeedOutside) (policy : Policy) (most : ℕ) : Type 0 where
+-- the words are those of a feed, and its policy file says a policy
+pub record Asks (words : List (List ℕ)) (before : FeedOutside) : Type 0 where
   pub name : List ℕ
+  pub most : ℕ
   pub named : IsFeed words name most
   pub file : List ℕ
   pub fetched : IsFetched before.files.holds name file
+  pub policy : Policy
   pub is_policy : IsPolicyFile file policy
 
 -- nothing was taken, and nothing written
@@ -42,18 +44,14 @@ pub record Untouched (before after : FeedOutside) : Type 0 where
   pub out : after.files.out.written ≡ before.files.out.written
 
 pub record FeedDone (words : List (List ℕ)) (before after : FeedOutside) (now : ℕ) : Type 0 where
-  pub policy : Policy
-  pub most : ℕ
-  pub asks : Asks words before policy most
-  pub fed : FedAll policy now most before.source after.source before.files.out.written after.files.out.written
+  pub asks : Asks words before
+  pub fed : FedAll asks.policy now asks.most before.source after.source before.files.out.written after.files.out.written
   pub err : after.files.err.written ≡ before.files.err.written
 
 -- the source gave more than it may
 pub record FeedRefused (words : List (List ℕ)) (before after : FeedOutside) (now : ℕ) : Type 0 where
-  pub policy : Policy
-  pub most : ℕ
-  pub asks : Asks words before policy most
-  pub fed : FedLong policy now most before.source after.source before.files.out.written after.files.out.written
+  pub asks : Asks words before
+  pub fed : FedLong asks.policy now asks.most before.source after.source before.files.out.written after.files.out.written
   pub err : Tells before.files.err after.files.err (line (refused_text Refusal.FeedTooLong None))
 
 pub record FeedUsage (words : List (List ℕ)) (before after : FeedOutside) : Type 0 where
@@ -72,10 +70,8 @@ pub record PolicyUnread (words : List (List ℕ)) (before after : FeedOutside) :
   pub err : Tells before.files.err after.files.err (unread_text 0)
 
 pub record SourceUnread (words : List (List ℕ)) (before after : FeedOutside) (now : ℕ) : Type 0 where
-  pub policy : Policy
-  pub most : ℕ
-  pub asks : Asks words before policy most
-  pub fed : FedPart policy now most before.source after.source before.files.out.written after.files.out.written
+  pub asks : Asks words before
+  pub fed : FedPart asks.policy now asks.most before.source after.source before.files.out.written after.files.out.written
   pub err : Tells before.files.err after.files.err (line (codes "unread source"))
 
 pub data FeedUnread (words : List (List ℕ)) (before after : FeedOutside) (now : ℕ) : Type 0 where
@@ -84,10 +80,8 @@ pub data FeedUnread (words : List (List ℕ)) (before after : FeedOutside) (now 
 
 -- `out` failed at a line that was due
 pub record FeedUnwritten (words : List (List ℕ)) (before after : FeedOutside) (now : ℕ) : Type 0 where
-  pub policy : Policy
-  pub most : ℕ
-  pub asks : Asks words before policy most
-  pub fed : FedFront policy now most before.source after.source before.files.out.written after.files.out.written
+  pub asks : Asks words before
+  pub fed : FedFront asks.policy now asks.most before.source after.source before.files.out.written after.files.out.written
   pub rose : Rose before.files.out.faults after.files.out.faults
   pub err : Tells before.files.err after.files.err (line (codes "unwritten"))
 
@@ -100,10 +94,8 @@ pub record NoMemoryFirst (words : List (List ℕ)) (before after : FeedOutside) 
   pub err : Tells before.files.err after.files.err (line (codes "memory"))
 
 pub record NoMemoryLater (words : List (List ℕ)) (before after : FeedOutside) (now : ℕ) : Type 0 where
-  pub policy : Policy
-  pub most : ℕ
-  pub asks : Asks words before policy most
-  pub fed : FedFront policy now most before.source after.source before.files.out.written after.files.out.written
+  pub asks : Asks words before
+  pub fed : FedFront asks.policy now asks.most before.source after.source before.files.out.written after.files.out.written
   pub err : Tells before.files.err after.files.err (line (codes "memory"))
 
 pub data FeedMemory (words : List (List ℕ)) (before after : FeedOutside) (now : ℕ) : Type 0 where

@@ -1,6 +1,5 @@
 // The text of a key, as the files that a command reads have it.
-ghost use Rattle.std.specs.Prelude.{◌≡◌, ◌≤◌, ◌<◌, length, IfOk, IfErr, IfSome, IfNone};
-ghost use Rattle.sd_outside.specs.Limits.{key_min};
+ghost use Rattle.std.specs.Prelude.{◌<◌, IfOk, IfErr, IfSome, IfNone};
 ghost use Rattle.claim_tree.specs.View.{tree_of};
 ghost use Rattle.claim_tree.specs.FileForms.{HasValue, Says, required, found};
 ghost use Rattle.claim_tree.specs.FileRefusals.{IsMemberRefused};

@@ -1,4 +1,4 @@
-ghost use Rattle.std.specs.Prelude.{◌≡◌, ◌↔◌, ◌≤◌, ◌++◌, length, take, ℕ, List, IsTrue};
+ghost use Rattle.std.specs.Prelude.{◌≡◌, ◌↔◌, ◌≤◌, ◌++◌, length, take, IsTrue};
 ghost use Rattle.hmac_sign.specs.Algs.{block_length, hash_by};
 ghost use Rattle.hmac_sign.specs.CodeLengths.{code_length};
 ghost use Rattle.hmac_sign.specs.Codes.{IsHashing};

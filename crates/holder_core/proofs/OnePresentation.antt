@@ -9,6 +9,7 @@ use Rattle.compact_form.specs.declared.fault.Fault.{Fault}
 use Rattle.sd_outside.specs.Limits.{compact_max}
 use Rattle.compact_form.specs.declared.parts.JwtParts.{JwtParts}
 use Rattle.compact_form.specs.declared.parts.Parts.{Parts}
+use Rattle.compact_form.specs.Faults.{failed_of}
 use Rattle.disclosure.specs.declared.digests.HashAlg.{HashAlg}
 use Rattle.hmac_sign.specs.Signatures.{Meaning}
 use Rattle.json_form.proofs.Tokens as tokens
@@ -91,7 +92,7 @@ module _ {F : Type 0} (answers : RuleAnswers F) (rule : F) (decided : IsDecided 
   -- ---- what a step rules out
 
   no_fault : (f : Fault) (m : Marked) → IsLowest (TokenFails token (held_rules ask.keys)) f → IsHeld token ask m → ⊥
-  no_fault f m l h = h.checked.passes l.failed f.place l.fails
+  no_fault f m l h = h.checked.passes (failed_of f) f.place l.fails
 
   no_missing : (k : ℕ) (m : Marked) → IsWantedNotThere token ask k → IsHeld token ask m → AtNone (IsMissing (strip m) ask.want) → ⊥
   no_missing k m h held there = subst (λ (x : Marked). AtNone (IsMissing (strip x) ask.want)) (one_marked m h.marked held h.held) there k h.missing.fails

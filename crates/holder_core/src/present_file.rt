@@ -1,5 +1,5 @@
 // The file that says what is asked of a holder.
-ghost use Rattle.std.specs.Prelude.{◌≡◌, [], List, ℕ, codes, option_map, IfOk, IfErr, IfSome, IfNone};
+ghost use Rattle.std.specs.Prelude.{List, ℕ, codes, option_map, IfOk, IfErr, IfSome, IfNone};
 ghost use Rattle.claim_tree.specs.Tree.{Text, member_named};
 ghost use Rattle.claim_tree.specs.View.{tree_of};
 ghost use Rattle.claim_tree.specs.FileForms.{HasValue, IsText, Says, MaySay, optional, found};

@@ -1,6 +1,7 @@
 -- The first text that repeats an earlier one, and where it stands first.
 use Rattle.std.proofs.Common.{◌≡◌, ℕ, zero, suc, ◌<◌, ◌≤◌, ◌⊎◌, inl, inr, List, [], ◌∷◌, length, take, Bool, true, false, cond, bytes_eq, refl, sym, subst, ◌∙◌, arith}
 use Rattle.std.proofs.lemmas.List.{length-take-le}
+use Rattle.std.proofs.lemmas.Bool.{cases_lt}
 use Rattle.claim_tree.specs.Tree.{Text}
 use Rattle.claim_tree.specs.Lists.{StandsAt, Repeats, AtNone}
 use Rattle.claim_tree.proofs.Lists.{bytes_refl, At-below, At-get, At-same, take-At}
@@ -45,11 +46,8 @@ clash_at ds j i d at is less none =
 -- ---- where none is the first
 
 one_further : (ds : List Text) → ((i j : ℕ) → IsFirstClash ds i j → ⊥) → (n : ℕ) (d : Text) → StandsAt ds n d → ((p : ℕ) → p < n → Repeats ds p → ⊥) → (q : ℕ) → q < suc n → Repeats ds q → ⊥
-one_further ds none n d at before q less r = go (either (position_or_end d (take n ds)) n) (sooner q n less)
+one_further ds none n d at before q less r = go (cases_lt (position_or_end d (take n ds)) n) (sooner q n less)
   where
-    either : (a b : ℕ) → (a < b) ⊎ (b ≤ a)
-    either a b = grind arith
-
     sooner : (a b : ℕ) → a < suc b → (a < b) ⊎ (a ≡ b)
     sooner a b l = grind arith
 

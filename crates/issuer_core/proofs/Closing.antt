@@ -1,5 +1,5 @@
 -- Marking numbers in closing order, so of what is laid on the way only the digests of earlier numbers count.
-use Rattle.std.proofs.Common.{◌≡◌, ℕ, zero, suc, ◌+◌, ◌<◌, ◌≤◌, List, [], ◌∷◌, ◌++◌, Bool, None, Option, Some, arith, decimal, false, length, length-append, refl, subst, true, ◌∙◌}
+use Rattle.std.proofs.Common.{◌≡◌, ℕ, zero, suc, ◌+◌, List, [], ◌∷◌, ◌++◌, Bool, None, Option, Some, arith, decimal, false, length, length-append, refl, subst, true, ◌∙◌}
 use Rattle.claim_tree.specs.Tree.{Elements, Members, Text, Tree, array, element, leaf, member, no_elements, no_members, object}
 use Rattle.marked_tree.specs.Marked.{Marked, MarkedElements, MarkedMembers, marked_array, marked_element, marked_leaf, marked_member, marked_object, no_marked_elements, no_marked_members}
 use Rattle.marked_tree.specs.Ways.{elements_weight, mark_weight, members_weight, weight}
@@ -9,7 +9,6 @@ use Rattle.issuer_core.specs.Digests.{hidden_of, marked_claims}
 use Rattle.issuer_core.specs.Laid.{laid_elements, laid_given, laid_members, lay, own_given}
 use Rattle.issuer_core.specs.Order.{Order}
 use Rattle.marked_tree.proofs.MarkFacts.{range_sum, weighs}
-use Rattle.issuer_core.proofs.Agrees.{ElementsAgree, MarkAgrees, MarksAgree, MembersAgree}
 
 range_one : (n c : ℕ) → range_sum one n c ≡ c
 range_one n zero = refl
@@ -90,42 +89,3 @@ mutual
       let own = own_given dg (Some name) k (lay s dg t) in
       let ys = laid_members dec dg ms in
       omega (arith, length-append (xs ++ own) ys, length-append xs own, items_length s dg t, own_items_length dg (Some name) k (lay s dg t), members_length dec dg ms)
-
--- ---- digests that agree on a run
-
--- the digests of c numbers from n are the same
-abbrev pub RangeAgrees : (ℕ → Text) → (ℕ → Text) → ℕ → ℕ → Type 0
-RangeAgrees dg dh n c = (k : ℕ) → n ≤ k → k < n + c → dg k ≡ dh k
-
-module _ (dg dh : ℕ → Text) where
-  own_in_range : (k : Option ℕ) (n a c : ℕ) → HasNumber k (n + a) → RangeAgrees dg dh n ((mark_weight one k + a) + c) → MarkAgrees dg dh k
-  own_in_range None n a c is r = tt
-  own_in_range (Some k) n a c is r = r k (omega (arith, is)) (omega (arith, is))
-
-  inner_range : (n a s c : ℕ) → RangeAgrees dg dh n ((s + a) + c) → RangeAgrees dg dh n a
-  inner_range n a s c r k l u = r k l (omega (arith, u))
-
-  later_range : (n a s c : ℕ) → RangeAgrees dg dh n ((s + a) + c) → RangeAgrees dg dh (n + (s + a)) c
-  later_range n a s c r k l u = r k (omega (arith, l)) (omega (arith, u))
-
-  mutual
-    pub closed_agrees : (n : ℕ) (m : Marked) → ClosesFrom n m → RangeAgrees dg dh n (weight one m) → MarksAgree dg dh m
-    closed_agrees n (marked_leaf l) is r = tt
-    closed_agrees n (marked_array es) is r = elements_closed_agrees n es is r
-    closed_agrees n (marked_object ms) is r = members_closed_agrees n ms is r
-
-    pub elements_closed_agrees : (n : ℕ) (es : MarkedElements) → ElementsClose n es → RangeAgrees dg dh n (elements_weight one es) → ElementsAgree dg dh es
-    elements_closed_agrees n no_marked_elements is r = tt
-    elements_closed_agrees n (marked_element k t es) is r = (
-      own_in_range k n (weight one t) (elements_weight one es) is.1 r,
-      closed_agrees n t is.0 (inner_range n (weight one t) (mark_weight one k) (elements_weight one es) r),
-      elements_closed_agrees (n + (mark_weight one k + weight one t)) es is.2 (later_range n (weight one t) (mark_weight one k) (elements_weight one es) r),
-    )
-
-    pub members_closed_agrees : (n : ℕ) (ms : MarkedMembers) → MembersClose n ms → RangeAgrees dg dh n (members_weight one ms) → MembersAgree dg dh ms
-    members_closed_agrees n no_marked_members is r = tt
-    members_closed_agrees n (marked_member name k t ms) is r = (
-      own_in_range k n (weight one t) (members_weight one ms) is.1 r,
-      closed_agrees n t is.0 (inner_range n (weight one t) (mark_weight one k) (members_weight one ms) r),
-      members_closed_agrees (n + (mark_weight one k + weight one t)) ms is.2 (later_range n (weight one t) (mark_weight one k) (members_weight one ms) r),
-    )

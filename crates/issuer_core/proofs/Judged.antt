@@ -1,11 +1,13 @@
 -- What the tests of an order tell.
-use Rattle.std.proofs.Common.{◌≡◌, ◌<◌, ◌≤◌, ℕ, List, [], ◌∷◌, true, inl, inr, Option, Some, None, refl, sym, subst, arith}
+use Rattle.std.proofs.Common.{◌≡◌, List, [], ◌∷◌, true, inl, inr, Option, Some, None, refl, sym, subst, arith}
 use Rattle.std.specs.Prelude.{bytes_eq, is_none, slice_get}
 use Rattle.std.specs.List.{list_any}
+use Rattle.std.proofs.lemmas.Bool.{or_left, or_right}
 use Rattle.claim_tree.specs.Tree.{Text, Tree, leaf, array, object, depth, IsOrdered}
 use Rattle.claim_tree.specs.Path.{tree_at}
 use Rattle.claim_tree.specs.Lists.{In}
-use Rattle.claim_tree.proofs.Lists.{bytes_same, bytes_refl, or_left, or_right, list_any-In, In-At}
+use Rattle.claim_tree.proofs.Lists.{bytes_same, bytes_refl, list_any-In, In-At}
+use Rattle.claim_tree.proofs.Counting.{not_below}
 use Rattle.marked_tree.specs.Paths.{Path}
 use Rattle.issuer_core.specs.declared.order.Decoy.{Decoy}
 use Rattle.issuer_core.specs.declared.errors.IssueError.TheVariants.{PayloadNotObject, ReservedName, TooDeep, DecoyPlace}
@@ -92,14 +94,11 @@ none_there : (o : Option Path) → ((path : Path) → o ≡ Some path → ⊥) �
 none_there None h = refl
 none_there (Some path) h = absurd (h path refl)
 
-pub not_more : (a b : ℕ) → (a < b → ⊥) → b ≤ a
-not_more a b h = grind arith
-
 pub good_order : (o : Order) → PassesBelow 58 o → IsOrdered o.payload → IsGoodOrder o
 good_order o below ordered = record {
   is_object = object_there o.payload (λ h. let over = below PayloadNotObject h in omega (arith, over));
   no_reserved = no_reserved o.payload (none_there (slice_get (reserved_paths o.payload) 0) (λ path e. let over = below (ReservedName path) e in omega (arith, over)));
-  shallow = not_more 100 (depth o.payload) (λ h. let over = below TooDeep h in omega (arith, over));
+  shallow = not_below (depth o.payload) 100 (λ h. let over = below TooDeep h in omega (arith, over));
   decoys_held = λ entry stands.
       let w = In-At o.decoys entry stands in
       holder_there (tree_at o.payload entry.at) (λ m. let over = below (DecoyPlace w.0) (entry, w.1, m) in omega (arith, over));

@@ -1,6 +1,8 @@
 -- The lowest refusal that applies, sought step by step.
-use Rattle.std.proofs.Common.{◌≡◌, ◌<◌, ◌≤◌, ℕ, suc, arith}
+use Rattle.std.proofs.Common.{◌≡◌, ◌≤◌, ℕ, suc, sym, arith}
+use Rattle.std.proofs.Math.Arith.{lt_of_le-ne}
 use Rattle.claim_tree.specs.Lists.{IsSuchAt, IsLeast, AtNone}
+use Rattle.claim_tree.proofs.Counting.{not_below}
 use Rattle.issuer_core.specs.declared.errors.IssueError.{IssueError}
 use Rattle.issuer_core.specs.declared.errors.IssueError.TheVariants.{RootMarked, NoSuchPlace, ProtectedClaim, DecoyPlace}
 use Rattle.issuer_core.specs.Order.{Order}
@@ -14,10 +16,7 @@ abbrev pub NoneWith : ℕ → Order → Type 0
 NoneWith number o = (error : IssueError) → AppliesToOrder o error → issue_number error ≡ number → ⊥
 
 pub one_more : (o : Order) (number : ℕ) → PassesBelow number o → NoneWith number o → PassesBelow (suc number) o
-one_more o number below none error h = at_or_above number (issue_number error) (below error h) (none error h)
-  where
-    at_or_above : (a b : ℕ) → a ≤ b → (b ≡ a → ⊥) → suc a ≤ b
-    at_or_above a b l differs = grind arith
+one_more o number below none error h = lt_of_le-ne (below error h) (λ e. none error h (sym e))
 
 pub no_54 : (o : Order) → AtNone (IsSuchAt IsRoot o.hide) → NoneWith 54 o
 no_54 o none (RootMarked k) h same = none k h
@@ -40,9 +39,6 @@ no_57 o none error h same = omega (arith, same)
 pub lowest_at : (o : Order) (error : IssueError) → PassesBelow (issue_number error) o → AppliesToOrder o error
     → ((other : IssueError) → AppliesToOrder o other → issue_number other ≡ issue_number error → refusal_place error ≤ refusal_place other) → IsLowestRefusal (AppliesToOrder o) error
 lowest_at o error below applies first = record { applies = applies; lowest = below; first = first }
-
-not_below : (a b : ℕ) → (b < a → ⊥) → a ≤ b
-not_below a b h = grind arith
 
 least_54 : (o : Order) (k : ℕ) → IsLeast (IsSuchAt IsRoot o.hide) k → (other : IssueError) → AppliesToOrder o other → issue_number other ≡ 54 → k ≤ refusal_place other
 least_54 o k least (RootMarked j) h same = not_below k j (λ less. least.first j less h)

@@ -1,5 +1,6 @@
 -- An order is laid in one way: the digests, the disclosures and the payload are determined by how texts are made.
 use Rattle.std.proofs.Common.{◌≡◌, ℕ, suc, ◌+◌, ◌-◌, ◌<◌, ◌≤◌, ◌⊎◌, inl, inr, List, [], ◌∷◌, ◌++◌, None, Option, Some, ap, arith, decimal, length, length-append, refl, subst, sym, ◌∙◌, if◌then◌else◌}
+use Rattle.std.proofs.lemmas.Bool.{cases_lt}
 use Rattle.claim_tree.specs.Lists.{StandsAt}
 use Rattle.claim_tree.specs.Tree.{Text, Tree}
 use Rattle.disclosure.specs.declared.digests.HashAlg.{HashAlg}
@@ -121,11 +122,8 @@ module _ (maker : Maker) (o : Order) (p q : Tree) (g h : List Given) (dg dh : �
   count = ap (λ (xs : List Given). length xs) this.given_laid ∙ (items_length (order_decoys o dg) dg (marked_claims o) ∙ order_marks o)
 
   below : (k n c : ℕ) → k < n + c → (k < n) ⊎ ((d : ℕ) × (d < c) × (k ≡ n + d))
-  below k n c l = go (either k n)
+  below k n c l = go (cases_lt k n)
     where
-      either : (a b : ℕ) → (a < b) ⊎ (b ≤ a)
-      either a b = grind arith
-
       go : (k < n) ⊎ (n ≤ k) → (k < n) ⊎ ((d : ℕ) × (d < c) × (k ≡ n + d))
       go (inl less) = inl less
       go (inr more) = inr (k - n, omega (arith, l, more), omega (arith, more))

@@ -69,6 +69,11 @@ EndHere d = (step : Text) (at : Path) → placed_at d (step ∷ at) ≡ []
 abbrev pub DecoysTell : Decoys → (Path → List Text) → Type 0
 DecoysTell d dec = (at : Path) → placed_at d at ≡ dec at
 
+-- it holds of the decoys' digests and of those of the texts by their numbers, whatever tells the decoys, and whatever
+-- texts come behind
+abbrev pub ForAllDigests : Decoys → HashAlg → List Text → ((Path → List Text) → (ℕ → Text) → Type 0) → Type 0
+ForAllDigests d hash texts Holds = (dec : Path → List Text) → DecoysTell d dec → (more : List Text) → Holds dec (digest_at hash (texts ++ more))
+
 -- ---- a part
 
 -- what is shown is laid, and what is hidden has the digest of its mark

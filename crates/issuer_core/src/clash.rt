@@ -1,5 +1,5 @@
 // Digests that are equal.
-ghost use Rattle.std.specs.Prelude.{ℕ, IfOk, IfSome, IfNone};
+ghost use Rattle.std.specs.Prelude.{IfOk, IfSome, IfNone};
 ghost use Rattle.claim_tree.specs.Lists.{Repeats, AtNone};
 ghost use Rattle.issuer_core.specs.Clash.{IsFirstClash};
 

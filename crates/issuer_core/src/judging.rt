@@ -25,11 +25,9 @@ use crate::{DecoyList, IssueError, Order};
 use claim_tree::{Path, PathList, Tree, depth, find, find_behind, is_prefix};
 use compact_form::COUNT_MAX;
 use marked_tree::count_different;
+use rebuild_core::DEPTH_MAX;
 use sd_outside::{NoMemory, TextBox};
 use std::alloc::Global;
-
-/// The most that the payload of an order nests.
-pub const DEPTH_MAX: usize = 100;
 
 fn is_object(tree: &Tree) -> bool
     ensures is { IsTrue result ↔ good.IsObject (tree_of tree.now) }

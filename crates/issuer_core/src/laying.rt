@@ -1,15 +1,14 @@
 // The walk that hides, RFC 9901 section 4.2.4.
-ghost use Rattle.std.specs.Prelude.{◌≡◌, ◌+◌, ◌≤◌, ◌<◌, List, ℕ, [], ◌∷◌, ◌++◌, length, map, drop, option_map, IfOk, OnOk, IsTrue};
+ghost use Rattle.std.specs.Prelude.{◌≡◌, ◌+◌, ◌≤◌, ◌<◌, List, [], ◌∷◌, ◌++◌, length, map, drop, option_map, IfOk, OnOk, IsTrue};
 ghost use Rattle.std.specs.Set.{distinct_count};
 ghost use Rattle.claim_tree.specs.FileForms.{text_elements};
 ghost use Rattle.sd_outside.specs.Limits.{count_max, depth_max};
-ghost use Rattle.claim_tree.specs.Tree.{Text, leaf, text as text_leaf, depth, elements_depth, members_depth};
+ghost use Rattle.claim_tree.specs.Tree.{Text, depth, elements_depth, members_depth};
 ghost use Rattle.claim_tree.specs.View.{tree_of};
 ghost use Rattle.disclosure.specs.Digest.{digest_of};
-ghost use Rattle.disclosure.specs.Disclosure.{disclosure_text};
 ghost use Rattle.marked_tree.specs.Marked.{strip, strip_elements, strip_members};
 ghost use Rattle.marked_tree.specs.Ways.{weight, elements_weight, members_weight, mark_weight};
-ghost use Rattle.marked_tree.specs.Paths.{Path as Steps, same_path};
+ghost use Rattle.marked_tree.specs.Paths.{same_path};
 ghost use Rattle.marked_tree.specs.View.{marked_of};
 ghost use Rattle.issuer_core.specs.Order.{order_of};
 ghost use Rattle.issuer_core.specs.Decoys.{decoy_paths};
@@ -17,12 +16,12 @@ ghost use Rattle.issuer_core.specs.Seed.{maker_of};
 ghost use Rattle.issuer_core.specs.Laid as spec;
 ghost use Rattle.issuer_core.specs.Laid.{sorted, with_sd, digest_elements, hidden_digests, laid_given, laid_elements, laid_members, own_given, lay_elements, lay_members};
 ghost use Rattle.issuer_core.specs.Digests.{made_texts};
-ghost use Rattle.issuer_core.specs.Laying.{digest_at, salted, elements_joined, placed_at, ArePlaced, DecoysTell, IsLaidNode, IsLaidWith, IsLaidFor};
+ghost use Rattle.issuer_core.specs.Laying.{salted, elements_joined, ArePlaced, ForAllDigests, IsLaidNode, IsLaidWith, IsLaidFor};
 ghost use Rattle.issuer_core.specs.Closing.{one, HasNumber, ClosesFrom, ElementsClose, MembersClose};
 
 use crate::decoys::{Decoys, sort_decoys};
 use crate::salts::salts_of;
-use crate::{DecoyList, Order};
+use crate::{DecoyList, Order, decoy_count};
 use claim_tree::{Tree, TreeList, TreeMap};
 use compact_form::COUNT_MAX;
 use disclosure::{HashAlg, digest, make_text};
@@ -174,8 +173,8 @@ fn lay(
     requires closes { ClosesFrom (length layer.old.texts) (marked_of tree) }
     requires salts { length layer.old.texts + weight one (marked_of tree) ≤ length hiding.salts.now }
     requires digests { layer.old.digests ≡ map (digest_of hiding.hash) layer.old.texts }
-    ensures laid { IfOk result (λ laid. (dec : Steps → List Text) → DecoysTell decoys.entry dec → (more : List Text) → tree_of laid ≡ spec.lay dec (digest_at hiding.entry.hash (layer.new.texts ++ more)) (marked_of tree)) }
-    ensures texts { OnOk result ((dec : Steps → List Text) → DecoysTell decoys.entry dec → (more : List Text) → layer.new.texts ≡ layer.old.texts ++ made_texts (salted hiding.entry.salts.now) (length layer.old.texts) (laid_given dec (digest_at hiding.entry.hash (layer.new.texts ++ more)) (marked_of tree))) }
+    ensures laid { IfOk result (λ laid. ForAllDigests decoys.entry hiding.entry.hash layer.new.texts (λ dec dg. tree_of laid ≡ spec.lay dec dg (marked_of tree))) }
+    ensures texts { OnOk result (ForAllDigests decoys.entry hiding.entry.hash layer.new.texts (λ dec dg. layer.new.texts ≡ layer.old.texts ++ made_texts (salted hiding.entry.salts.now) (length layer.old.texts) (laid_given dec dg (marked_of tree)))) }
     ensures count { OnOk result (length layer.new.texts ≡ length layer.old.texts + weight one (marked_of tree)) }
     ensures digests { OnOk result (layer.new.digests ≡ map (digest_of hiding.entry.hash) layer.new.texts) }
 {
@@ -202,8 +201,8 @@ fn lay_list(
     requires closes { ElementsClose (length layer.old.texts) list }
     requires salts { length layer.old.texts + elements_weight one list ≤ length hiding.salts.now }
     requires digests { layer.old.digests ≡ map (digest_of hiding.hash) layer.old.texts }
-    ensures laid { IfOk result (λ laid. (dec : Steps → List Text) → DecoysTell decoys.entry dec → (more : List Text) → laid ≡ lay_elements dec (digest_at hiding.entry.hash (layer.new.texts ++ more)) 0 list) }
-    ensures texts { OnOk result ((dec : Steps → List Text) → DecoysTell decoys.entry dec → (more : List Text) → layer.new.texts ≡ layer.old.texts ++ made_texts (salted hiding.entry.salts.now) (length layer.old.texts) (laid_elements dec (digest_at hiding.entry.hash (layer.new.texts ++ more)) 0 list)) }
+    ensures laid { IfOk result (λ laid. ForAllDigests decoys.entry hiding.entry.hash layer.new.texts (λ dec dg. laid ≡ lay_elements dec dg 0 list)) }
+    ensures texts { OnOk result (ForAllDigests decoys.entry hiding.entry.hash layer.new.texts (λ dec dg. layer.new.texts ≡ layer.old.texts ++ made_texts (salted hiding.entry.salts.now) (length layer.old.texts) (laid_elements dec dg 0 list))) }
     ensures count { OnOk result (length layer.new.texts ≡ length layer.old.texts + elements_weight one list) }
     ensures digests { OnOk result (layer.new.digests ≡ map (digest_of hiding.entry.hash) layer.new.texts) }
 {
@@ -235,8 +234,8 @@ fn lay_map(
     requires closes { MembersClose (length layer.old.texts) members }
     requires salts { length layer.old.texts + members_weight one members ≤ length hiding.salts.now }
     requires digests { layer.old.digests ≡ map (digest_of hiding.hash) layer.old.texts }
-    ensures laid { IfOk result (λ laid. (dec : Steps → List Text) → DecoysTell decoys.entry dec → (more : List Text) → laid ≡ with_sd (sorted (hidden_digests (digest_at hiding.entry.hash (layer.new.texts ++ more)) members ++ dec [])) (lay_members dec (digest_at hiding.entry.hash (layer.new.texts ++ more)) members)) }
-    ensures texts { OnOk result ((dec : Steps → List Text) → DecoysTell decoys.entry dec → (more : List Text) → layer.new.texts ≡ layer.old.texts ++ made_texts (salted hiding.entry.salts.now) (length layer.old.texts) (laid_members dec (digest_at hiding.entry.hash (layer.new.texts ++ more)) members)) }
+    ensures laid { IfOk result (λ laid. ForAllDigests decoys.entry hiding.entry.hash layer.new.texts (λ dec dg. laid ≡ with_sd (sorted (hidden_digests dg members ++ dec [])) (lay_members dec dg members))) }
+    ensures texts { OnOk result (ForAllDigests decoys.entry hiding.entry.hash layer.new.texts (λ dec dg. layer.new.texts ≡ layer.old.texts ++ made_texts (salted hiding.entry.salts.now) (length layer.old.texts) (laid_members dec dg members))) }
     ensures count { OnOk result (length layer.new.texts ≡ length layer.old.texts + members_weight one members) }
     ensures digests { OnOk result (layer.new.digests ≡ map (digest_of hiding.entry.hash) layer.new.texts) }
 {
@@ -271,8 +270,8 @@ fn lay_part(
     requires numbered { HasNumber mark (length layer.old.texts + weight one (marked_of tree)) }
     requires salts { length layer.old.texts + (mark_weight one mark + weight one (marked_of tree)) ≤ length hiding.salts.now }
     requires digests { layer.old.digests ≡ map (digest_of hiding.hash) layer.old.texts }
-    ensures part { IfOk result (λ part. (dec : Steps → List Text) → DecoysTell decoys.entry dec → (more : List Text) → IsLaidNode dec (digest_at hiding.entry.hash (layer.new.texts ++ more)) mark (marked_of tree) part) }
-    ensures texts { OnOk result ((dec : Steps → List Text) → DecoysTell decoys.entry dec → (more : List Text) → layer.new.texts ≡ layer.old.texts ++ made_texts (salted hiding.entry.salts.now) (length layer.old.texts) (laid_given dec (digest_at hiding.entry.hash (layer.new.texts ++ more)) (marked_of tree) ++ own_given (digest_at hiding.entry.hash (layer.new.texts ++ more)) (option_map (λ n. n.now) name.entry) mark (spec.lay dec (digest_at hiding.entry.hash (layer.new.texts ++ more)) (marked_of tree)))) }
+    ensures part { IfOk result (λ part. ForAllDigests decoys.entry hiding.entry.hash layer.new.texts (λ dec dg. IsLaidNode dec dg mark (marked_of tree) part)) }
+    ensures texts { OnOk result (ForAllDigests decoys.entry hiding.entry.hash layer.new.texts (λ dec dg. layer.new.texts ≡ layer.old.texts ++ made_texts (salted hiding.entry.salts.now) (length layer.old.texts) (laid_given dec dg (marked_of tree) ++ own_given dg (option_map (λ n. n.now) name.entry) mark (spec.lay dec dg (marked_of tree))))) }
     ensures count { OnOk result (length layer.new.texts ≡ length layer.old.texts + (mark_weight one mark + weight one (marked_of tree))) }
     ensures digests { OnOk result (layer.new.digests ≡ map (digest_of hiding.entry.hash) layer.new.texts) }
 {
@@ -281,18 +280,6 @@ fn lay_part(
         None => Ok(LaidNode::Shown(inside)),
         Some(_) => Ok(LaidNode::Hidden(layer.disclose(alloc, hiding, name, inside)?)),
     }
-}
-
-// How many decoys there are.
-fn count_decoys(decoys: &DecoyList) -> usize
-    requires { length (decoy_paths decoys.now) ≤ count_max }
-    ensures { result ≡ length (decoy_paths decoys.now) }
-{
-    let mut count = 0;
-    for entry in decoys.elements() {
-        count += entry.count as usize;
-    }
-    count
 }
 
 // The digests of the salts from `first` on.
@@ -386,7 +373,7 @@ fn lay_hidden(alloc: Global, order: Order, seed: &[u8; 32]) -> Result<Laid, NoMe
     } = order;
     let (claims, hidden) = mark_counted(alloc, payload, hide)?;
     let hidden = hidden as usize;
-    let salts = salts_of(alloc, seed, hidden + count_decoys(&decoys))?;
+    let salts = salts_of(alloc, seed, hidden + decoy_count(&decoys))?;
     let hiding = Hiding {
         salts: &salts,
         hash,
@@ -426,8 +413,8 @@ fn lay_claims(
     requires decoys { ArePlaced decoys }
     requires closes { ClosesFrom 0 (marked_of claims) }
     requires salts { weight one (marked_of claims) ≤ length hiding.salts.now }
-    ensures laid { IfOk result (λ laid. (dec : Steps → List Text) → DecoysTell decoys.entry dec → (more : List Text) → tree_of laid.payload ≡ spec.with_alg hiding.entry.hash (spec.lay dec (digest_at hiding.entry.hash (laid.texts ++ more)) (marked_of claims))) }
-    ensures texts { IfOk result (λ laid. (dec : Steps → List Text) → DecoysTell decoys.entry dec → (more : List Text) → laid.texts ≡ made_texts (salted hiding.entry.salts.now) 0 (laid_given dec (digest_at hiding.entry.hash (laid.texts ++ more)) (marked_of claims))) }
+    ensures laid { IfOk result (λ laid. ForAllDigests decoys.entry hiding.entry.hash laid.texts (λ dec dg. tree_of laid.payload ≡ spec.with_alg hiding.entry.hash (spec.lay dec dg (marked_of claims)))) }
+    ensures texts { IfOk result (λ laid. ForAllDigests decoys.entry hiding.entry.hash laid.texts (λ dec dg. laid.texts ≡ made_texts (salted hiding.entry.salts.now) 0 (laid_given dec dg (marked_of claims)))) }
     ensures count { IfOk result (λ laid. length laid.texts ≡ weight one (marked_of claims)) }
     ensures digests { IfOk result (λ laid. laid.digests ≡ map (digest_of hiding.entry.hash) laid.texts) }
 {

@@ -1,7 +1,9 @@
 // What an issuer is asked for.
-ghost use Rattle.std.specs.Prelude.{◌≡◌, ◌≤◌, IfOk};
+ghost use Rattle.std.specs.Prelude.{◌≡◌, ◌≤◌, length, IfOk};
+ghost use Rattle.sd_outside.specs.Limits.{count_max};
 ghost use Rattle.claim_tree.specs.Tree.{depth};
 ghost use Rattle.claim_tree.specs.View.{tree_of};
+ghost use Rattle.issuer_core.specs.Decoys.{decoy_paths};
 ghost use Rattle.issuer_core.specs.Order.{order_of};
 
 use claim_tree::{Path, PathList, Tree, copy, copy_paths};
@@ -20,6 +22,18 @@ pub struct Decoy {
 
 /// Entries of decoys in order. Contracts see the list of them.
 pub type DecoyList = ListOf<Decoy>;
+
+/// How many decoys the entries ask for.
+pub fn decoy_count(decoys: &DecoyList) -> usize
+    requires { length (decoy_paths decoys.now) ≤ count_max }
+    ensures { result ≡ length (decoy_paths decoys.now) }
+{
+    let mut count = 0;
+    for entry in decoys.elements() {
+        count += entry.count as usize;
+    }
+    count
+}
 
 // A copy of the entries.
 fn copy_decoys(alloc: Global, decoys: &DecoyList) -> Result<DecoyList, NoMemory>

@@ -1,4 +1,4 @@
-ghost use Rattle.std.specs.Prelude.{◌≡◌, IfOk, IsErrOf};
+ghost use Rattle.std.specs.Prelude.{IfOk, IsErrOf};
 ghost use Rattle.compact_form.specs.declared.fault.JsonPlace.{JsonPlace as ThePlace};
 ghost use Rattle.json_form.specs.Json.{IsJson};
 ghost use Rattle.compact_form.specs.Lowest.{IsLowestBy};

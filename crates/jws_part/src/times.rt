@@ -1,5 +1,5 @@
 // The times that a payload claims.
-ghost use Rattle.std.specs.Prelude.{◌≡◌, ◌↔◌, ℤ, codes, IsTrue, IfSome, IfNone};
+ghost use Rattle.std.specs.Prelude.{◌↔◌, ℤ, IsTrue, IfSome, IfNone};
 ghost use Rattle.claim_tree.specs.View.{tree_of};
 ghost use Rattle.jws_part.specs.Times.{IsMoment, IsNoMoment, IsTimeUnreadable, IsExpired, IsNotYet};
 

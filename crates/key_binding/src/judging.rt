@@ -1,5 +1,5 @@
 // The conditions 27 to 38, in their order.
-ghost use Rattle.std.specs.Prelude.{◌≡◌, ◌≢◌, ◌↔◌, ◌⊎◌, Some, codes, IsTrue, OnOk, IfOk, IfErr, IsErrOf};
+ghost use Rattle.std.specs.Prelude.{◌≡◌, ◌↔◌, Some, codes, IsTrue, OnOk, IfOk, IfErr, IsErrOf};
 ghost use Rattle.std.specs.Option.{option_copied};
 ghost use Rattle.claim_tree.specs.Tree.{InRange, no_members};
 ghost use Rattle.claim_tree.specs.View.{tree_of};
@@ -10,7 +10,7 @@ ghost use Rattle.compact_form.specs.Passing.{Passes};
 ghost use Rattle.disclosure.specs.Digest.{digest_of};
 ghost use Rattle.jws_part.specs.Header.{IsHeader, IsHeaderUnreadable, IsHeaderCritical};
 ghost use Rattle.jws_part.specs.Part.{IsBody};
-ghost use Rattle.key_binding.specs.Judged.{Judged, judged, holder_key as holder_key_of, HasBindingHeader, HasClaims};
+ghost use Rattle.key_binding.specs.Judged.{judged, holder_key as holder_key_of, HasBindingHeader, HasClaims};
 ghost use Rattle.key_binding.specs.JudgedSteps.{judged_of};
 ghost use Rattle.key_binding.specs.BindingConditions.{BindingFails, IsStale, IsEarly, IsTimeRefused};
 ghost use Rattle.key_binding.specs.BindingCalls.{IsLowestBinding, IsNumberOf, OnBindingFault, OnBoundFails};

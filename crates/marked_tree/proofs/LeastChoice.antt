@@ -2,9 +2,10 @@
 use Rattle.std.proofs.Common.{◌≡◌, ℕ, ◌<◌, ◌≤◌, List, [], ◌∷◌, Bool, true, false, eqb, ◌&&◌, ◌||◌, refl, sym, ap, ap₂, ◌∙◌, subst, arith, eqb-true, eq-eqb}
 use Rattle.std.specs.List.{list_any}
 use Rattle.std.proofs.lemmas.Bool.Decides.{nat_tests}
+use Rattle.std.proofs.lemmas.Bool.{and_parts, and_from}
 use Rattle.claim_tree.specs.Tree.{Tree}
 use Rattle.claim_tree.specs.Lists.{In}
-use Rattle.claim_tree.proofs.Lists.{and_split, and_join, list_any-In, list_any-from}
+use Rattle.claim_tree.proofs.Lists.{list_any-In, list_any-from}
 use Rattle.claim_tree.specs.Path.{is_front}
 use Rattle.marked_tree.specs.Choice.{is_on_way, IsUnmixed, IsLeastChoice}
 use Rattle.marked_tree.specs.Closed.{IsClosed, KeepsTheWay}
@@ -19,12 +20,12 @@ module _ (m : Marked) (want : List Path) where
   choose : (s : Spot) → In s (spots m) → (p : Path) → In p want → is_front s.at p ≡ true → chosen m want s.mark ≡ true
   choose s n p o l =
       list_any-from (λ z. eqb z.mark s.mark && list_any (is_front z.at) want) (spots m) s n
-      (and_join (eqb s.mark s.mark) (list_any (is_front s.at) want) (eq-eqb s.mark s.mark refl) (list_any-from (is_front s.at) want p o l))
+      (and_from (eqb s.mark s.mark) (list_any (is_front s.at) want) (eq-eqb s.mark s.mark refl) (list_any-from (is_front s.at) want p o l))
 
   is_wanted : (i : ℕ) → chosen m want i ≡ true → (s : Spot) × In s (spots m) × (s.mark ≡ i) × (p : Path) × In p want × (is_front s.at p ≡ true)
   is_wanted i h =
       let a = list_any-In (λ z. eqb z.mark i && list_any (is_front z.at) want) (spots m) h in
-      let b = and_split (eqb a.0.mark i) (list_any (is_front a.0.at) want) a.2 in
+      let b = and_parts (eqb a.0.mark i) (list_any (is_front a.0.at) want) a.2 in
       let c = list_any-In (is_front a.0.at) want b.1 in
       (a.0, a.1, eqb-true a.0.mark i b.0, c.0, c.1, c.2)
 
@@ -103,7 +104,7 @@ unmixed_mark t hide = unmixed_once (mark t hide) (hidden_count t hide) (marks_on
 pub chosen_below : (m : Marked) (n : ℕ) → HasEachMarkOnce m n → (want : List Path) (i : ℕ) → chosen m want i ≡ true → i < n
 chosen_below m n once want i h =
     let a = list_any-In (λ z. eqb z.mark i && list_any (is_front z.at) want) (spots m) h in
-    let b = and_split (eqb a.0.mark i) (list_any (is_front a.0.at) want) a.2 in
+    let b = and_parts (eqb a.0.mark i) (list_any (is_front a.0.at) want) a.2 in
     below_if i n (omega (arith, once i, spots_weigh (only i) m, at_least_one i (spots m) a.0 a.1 (eqb-true a.0.mark i b.0)))
   where
     below_if : (i n : ℕ) → 1 ≤ up_to i n → i < n

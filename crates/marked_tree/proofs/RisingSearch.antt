@@ -5,7 +5,7 @@ use Rattle.std.specs.List.{insert, slice_get}
 use Rattle.std.specs.List.Sorted.{IsSortedBy, IsSearchInRange, IsBinarySearchResult}
 use Rattle.std.specs.Result.{is_ok}
 use Rattle.std.specs.Ordering.{MatchOrdering, match_ordering, is_lt}
-use Rattle.std.proofs.lemmas.Bool.{ne_eqb}
+use Rattle.std.proofs.lemmas.Bool.{ne_eqb, cases_lt}
 use Rattle.std.proofs.lemmas.Cmp.{ranked, nat_cmp_total}
 use Rattle.std.proofs.lemmas.List.Sorted.{searchable_from_sorted}
 use Rattle.std.proofs.lemmas.Option.{get_or_from_slice_get}
@@ -147,11 +147,8 @@ absent : (ns : List ℕ) (n : ℕ) → ((k d : ℕ) → k < length ns → get_or
 absent [] n other = refl
 absent (m ∷ ns) n other = rw (ne_eqb n m (λ e. other 0 0 (omega arith) (sym e))) (absent ns n (λ k d l. other (suc k) d (omega arith)))
 
-below_or : (k i : ℕ) → (k < i) ⊎ (i ≤ k)
-below_or k i = grind arith
-
 pub not_at : (ns : List ℕ) (n i : ℕ) → IsPlace ns n i → has ns n ≡ false
-not_at ns n i p = absent ns n (λ k d l e. go k d l e (below_or k i))
+not_at ns n i p = absent ns n (λ k d l e. go k d l e (cases_lt k i))
   where
     go : (k d : ℕ) → k < length ns → get_or ns k d ≡ n → (k < i) ⊎ (i ≤ k) → ⊥
     go k d l e (inl low) = let b = p.before k d low in omega (arith, b, e)
@@ -175,7 +172,7 @@ front_none ns = record { within = omega arith; before = λ k d l. absurd (omega 
 
 -- where n stands at the cursor
 pub front_at : (ns : List ℕ) (i n e : ℕ) → IsRising ns → IsFront ns i n → i < length ns → get_or ns i e ≡ n → IsFront ns (i + 1) (n + 1)
-front_at ns i n e r f l is = record { within = omega (arith, l); before = λ k d h. go k d h (below_or k i); after = λ k d h m. let up = rising_over ns i k d r (omega (arith, h)) m in omega (arith, up, same_at ns i e d l, is) }
+front_at ns i n e r f l is = record { within = omega (arith, l); before = λ k d h. go k d h (cases_lt k i); after = λ k d h m. let up = rising_over ns i k d r (omega (arith, h)) m in omega (arith, up, same_at ns i e d l, is) }
   where
     go : (k d : ℕ) → k < i + 1 → (k < i) ⊎ (i ≤ k) → get_or ns k d < n + 1
     go k d h (inl low) = let b = f.before k d low in omega (arith, b)

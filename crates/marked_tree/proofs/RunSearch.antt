@@ -3,8 +3,8 @@ use Rattle.std.proofs.Common.{◌≡◌, ◌≢◌, ℕ, zero, suc, ◌-◌, ◌
 use Rattle.std.specs.Prelude.{◌==◌}
 use Rattle.std.specs.List.Sorted.{IsPartitionedBy, IsPartitionPoint}
 use Rattle.std.specs.Ordering.{ordering_index}
+use Rattle.std.proofs.lemmas.Bool.{false_from_ne_true}
 use Rattle.claim_tree.specs.Tree.{Text}
-use Rattle.claim_tree.proofs.Lists.{false_unless_true}
 use Rattle.marked_tree.specs.Paths.{Path}
 use Rattle.marked_tree.specs.Rests.{rests, step_order, AreSorted, Every, Compares, Follows, IsStart}
 use Rattle.marked_tree.proofs.Names.{behind_last}
@@ -15,7 +15,7 @@ pub edge_point : (p : Path → Bool) (xs : List Path) (c : ℕ) → IsPartitione
     → IsPartitionPoint (λ y. p y ≡ true) (λ y. p y ≡ false) xs c
 edge_point p xs c parted within low high = (
   λ k d l h. parted k (c - 1) d (omega (arith, h)) (omega (arith, h, within)) (low d (omega (arith, h))),
-  λ k d l h. false_unless_true (p (get_or xs k d)) (λ e. let holds = parted c k d l h e in let not = high d (omega (arith, l, h)) in cc),
+  λ k d l h. false_from_ne_true (p (get_or xs k d)) (λ e. let holds = parted c k d l h e in let not = high d (omega (arith, l, h)) in cc),
 )
 
 pub not_less : (o : Ordering) → o ≢ Less → (ordering_index o == 0) ≡ false

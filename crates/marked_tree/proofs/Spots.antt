@@ -3,6 +3,7 @@ use Rattle.std.proofs.Common.{◌≡◌, ℕ, suc, ◌≤◌, List, [], ◌∷�
 use Rattle.std.specs.Prelude.{bytes_eq}
 use Rattle.std.proofs.lemmas.Bool.Decides.{nat_tests}
 use Rattle.std.proofs.lemmas.List.{map-append}
+use Rattle.std.proofs.lemmas.Bool.{and_parts, and_from}
 use Rattle.claim_tree.specs.Tree.{Text}
 use Rattle.claim_tree.specs.Path.{is_front}
 use Rattle.marked_tree.specs.Marked.{Marked, marked_leaf, marked_array, marked_object, MarkedElements, no_marked_elements, marked_element, MarkedMembers, no_marked_members, marked_member}
@@ -10,7 +11,7 @@ use Rattle.marked_tree.specs.Ways.{ways, elements_ways, members_ways, way_of, ma
 use Rattle.claim_tree.specs.Lists.{In}
 use Rattle.marked_tree.specs.Closed.{IsClosed}
 use Rattle.marked_tree.specs.Paths.{Path, Spot, inside, own_spot, spots, elements_spots, members_spots, first_with}
-use Rattle.claim_tree.proofs.Lists.{and_split, and_join, bytes_refl, bytes_same, In-left, In-right, In-append, In-map, In-of_map}
+use Rattle.claim_tree.proofs.Lists.{bytes_refl, bytes_same, In-left, In-right, In-append, In-map, In-of_map}
 use Rattle.marked_tree.proofs.Sums.{sum_of, sum_of-append, sum_of-map}
 
 -- ---- each way is that of a spot
@@ -116,16 +117,16 @@ same_spot i [] s z le m n q r = elim m [ ]
 -- ---- each mark above a spot stands on its way
 
 leads_step : (k : Text) (p q : Path) → is_front p q ≡ true → is_front (k ∷ p) (k ∷ q) ≡ true
-leads_step k p q h = and_join (bytes_eq k k) (is_front p q) (bytes_refl k k refl) h
+leads_step k p q h = and_from (bytes_eq k k) (is_front p q) (bytes_refl k k refl) h
 
 pub leads_through : (p q w : Path) → is_front p q ≡ true → is_front q w ≡ true → is_front p w ≡ true
 leads_through [] q w h k = refl
 leads_through (a ∷ p) [] w h k = cc
 leads_through (a ∷ p) (b ∷ q) [] h k = cc
 leads_through (a ∷ p) (b ∷ q) (c ∷ w) h k =
-    let x = and_split (bytes_eq a b) (is_front p q) h in
-    let y = and_split (bytes_eq b c) (is_front q w) k in
-    and_join (bytes_eq a c) (is_front p w) (same_both a b c x.0 y.0) (leads_through p q w x.1 y.1)
+    let x = and_parts (bytes_eq a b) (is_front p q) h in
+    let y = and_parts (bytes_eq b c) (is_front q w) k in
+    and_from (bytes_eq a c) (is_front p w) (same_both a b c x.0 y.0) (leads_through p q w x.1 y.1)
   where
     same_both : (a b c : Text) → bytes_eq a b ≡ true → bytes_eq b c ≡ true → bytes_eq a c ≡ true
     same_both a b c x y = bytes_refl a c (bytes_same a b x ∙ bytes_same b c y)

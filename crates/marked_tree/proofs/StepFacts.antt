@@ -5,6 +5,7 @@ use Rattle.std.proofs.Math.Bool.{and-false, and-true, or-false}
 use Rattle.std.proofs.lemmas.Fmt.{decimal_injective}
 use Rattle.std.proofs.lemmas.List.Folds.{list_any-append}
 use Rattle.std.proofs.lemmas.Slice.Eq.{bytes_eq-Decides}
+use Rattle.std.proofs.lemmas.Bool.{cases_lt}
 use Rattle.claim_tree.specs.Tree.{Text, Tree, IsBeforeAll, IsOrdered, member_named}
 use Rattle.claim_tree.specs.Lists.{StandsAt}
 use Rattle.claim_tree.specs.Path.{is_front, stepped, element_on}
@@ -63,11 +64,8 @@ named_at (m ∷ ms) name (suc i) d o h = rw (before m.0 name (names_of ms) i o.0
 named_at [] name i d o h = elim h [ ]
 
 pub named_gap : (ms : List Entry) (name : Text) (i : ℕ) → IsNameGap (names_of ms) name i → marked_member_named (marked_members_of ms) name ≡ None
-named_gap ms name i gap = none ms (λ k other at. go k other at (below_or_not k i))
+named_gap ms name i gap = none ms (λ k other at. go k other at (cases_lt k i))
   where
-    below_or_not : (k i : ℕ) → (k < i) ⊎ (i ≤ k)
-    below_or_not k i = grind arith
-
     go : (k : ℕ) (other : Text) → StandsAt (names_of ms) k other → (k < i) ⊎ (i ≤ k) → bytes_eq other name ≡ false
     go k other at (inl l) = apart other name (gap.before k other at l)
     go k other at (inr l) = apart_back name other (gap.after k other at l)

@@ -5,8 +5,9 @@ use Rattle.std.specs.Ordering.{nat_cmp, ordering_reverse, ordering_then, is_eq}
 use Rattle.std.specs.Cmp.{IsTotalOrder}
 use Rattle.std.specs.Cmp.Lexicographic.{pointwise, nat_list_cmp_total}
 use Rattle.std.proofs.lemmas.Cmp.{tied_itself, then_total, nat_cmp_total, on_total}
+use Rattle.std.proofs.lemmas.Bool.{and_parts}
 use Rattle.claim_tree.specs.Tree.{Text}
-use Rattle.claim_tree.proofs.Lists.{bytes_same, bytes_refl, and_split}
+use Rattle.claim_tree.proofs.Lists.{bytes_same, bytes_refl}
 use Rattle.claim_tree.proofs.MapPlaces.{cmp, same_name}
 use Rattle.claim_tree.specs.Path.{is_front}
 use Rattle.marked_tree.specs.Rests.{step_cmp, path_order}
@@ -52,6 +53,6 @@ behind_front [] [] is longer = absurd (omega (arith, longer))
 behind_front [] (k ∷ path) is longer = refl
 behind_front (k ∷ front) [] is longer = cc is
 behind_front (k ∷ front) (l ∷ path) is longer =
-    let both = and_split (bytes_eq k l) (pointwise bytes_eq front (take (length front) path)) is in
+    let both = and_parts (bytes_eq k l) (pointwise bytes_eq front (take (length front) path)) is in
     let tied : step_cmp l k ≡ Equal = subst (λ x. step_cmp l x ≡ Equal) (sym (bytes_same k l both.0)) (tied_itself steps_total l) in
     rw tied (behind_front front path both.1 (omega (arith, longer)))

@@ -7,7 +7,7 @@ ghost use Rattle.claim_tree.specs.View.{tree_of};
 ghost use Rattle.marked_tree.specs.Marked.{strip};
 ghost use Rattle.marked_tree.specs.Paths.{Path as Steps, same_path, mark as mark_of, hidden_count, is_among, below as test_below, one_if, hidden_in, hidden_elements, hidden_members, mark_from, mark_elements, mark_members, mark_if};
 ghost use Rattle.marked_tree.specs.PathsBelow.{rests_of};
-ghost use Rattle.marked_tree.specs.Rests.{rests, step_order, path_order, AreSorted, Every, Compares, Follows, IsStart, IsRunOfPaths, headed, inner};
+ghost use Rattle.marked_tree.specs.Rests.{rests, step_order, AreSorted, Every, Compares, Follows, IsStart, IsRunOfPaths, headed, inner};
 ghost use Rattle.marked_tree.specs.View.{marked_of};
 
 use crate::compares::compare_steps;

@@ -1,6 +1,7 @@
 -- Where each disclosure is shown, each digest stands once and nothing shown is reserved, conditions 14 to 20 hold.
 use Rattle.std.proofs.Common.{◌≡◌, ℕ, zero, suc, ◌+◌, ◌<◌, ◌≤◌, List, [], ◌∷◌, ◌++◌, map, length, Bool, true, false, cond, not, is_some, ◌||◌, ◌&&◌, option_map, inl, inr, ⊎_elim, Option, Some, None, refl, sym, ap, ap₂, ◌∙◌, subst, arith}
 use Rattle.std.specs.Prelude.{bytes_eq, option_and_then}
+use Rattle.std.proofs.lemmas.Bool.{and_from, or_right}
 use Rattle.claim_tree.specs.Lists.{StandsAt, In, AtNone, Repeats}
 use Rattle.claim_tree.specs.Tree.{Elements, IsOrdered, Members, Text, Tree, text_of, array, element, leaf, member, no_elements, no_members, object}
 use Rattle.digest_sites.specs.Given.{Given}
@@ -18,7 +19,7 @@ use Rattle.rebuild_core.specs.Reached.{OwnedSite, Owner, find, is_in_round, is_r
 use Rattle.rebuild_core.specs.Opening.{Shown, nothing_shown, open_element, open_elements, open_members, open_tree, opened, processed, reveal, show_element, shown, shown_by}
 use Rattle.rebuild_core.specs.Payload.{alg_name}
 use Rattle.claim_tree.proofs.Everywheres.{EachElementIn, EachMemberIn}
-use Rattle.claim_tree.proofs.Lists.{At-In, At-below, At-left, At-map, At-right, At-same, In-At, In-append, In-left, In-map, In-of_map, In-right, and_join, bytes_refl, bytes_same, list_any-from, one_place, or_right, same_by_image}
+use Rattle.claim_tree.proofs.Lists.{At-In, At-below, At-left, At-map, At-right, At-same, In-At, In-append, In-left, In-map, In-of_map, In-right, bytes_refl, bytes_same, list_any-from, one_place, same_by_image}
 use Rattle.rebuild_core.proofs.Chains.{item_of_value}
 use Rattle.rebuild_core.proofs.Fits.{Names, Suits}
 use Rattle.rebuild_core.proofs.Fixed.{find_at}
@@ -208,7 +209,7 @@ module _ (t : Tree) (g : List Given) (readable : IsReadable t g) (is : AreAllSho
           (ih (value_of j) x.value (omega (arith, b)) (x, a, refl)
           (λ c n. or_right (is_in_round t g r c.digest) _
           (list_any-from (λ z. is_in_round t g r z.digest && stands c.digest (sites z.value)) g x (At-In g j x a)
-          (and_join (is_in_round t g r x.digest) (stands c.digest (sites x.value)) here (stands-from c.digest (sites x.value) c n refl))))
+          (and_from (is_in_round t g r x.digest) (stands c.digest (sites x.value)) here (stands-from c.digest (sites x.value) c n refl))))
           within y.0 y.1))
           m
 

@@ -2,6 +2,7 @@
 use Rattle.std.proofs.Common.{◌≡◌, ℕ, zero, suc, ◌+◌, ◌<◌, ◌≤◌, List, [], ◌∷◌, map, length, Bool, true, false, cond, eqb, ◌&&◌, ⊎_elim, refl, sym, ap, ap₂, ◌∙◌, subst, arith, eqb-true}
 use Rattle.std.specs.List.{list_any, IsDistinct, AllByRecursion}
 use Rattle.std.proofs.lemmas.Map.Steps.{length-le_from_distinct_below}
+use Rattle.std.proofs.lemmas.Bool.{or_cases, and_parts, true_from_ne_false}
 use Rattle.claim_tree.specs.Tree.{Tree}
 use Rattle.claim_tree.specs.Lists.{StandsAt, In, AtNone}
 use Rattle.digest_sites.specs.Sites.{Site, sites}
@@ -10,7 +11,7 @@ use Rattle.rebuild_core.specs.Reached.{stands, is_in_round, is_reached, Owner, p
 use Rattle.rebuild_core.specs.Conditions.{RepeatedDigest}
 use Rattle.rebuild_core.specs.Soundness.{IsReferencedOnce}
 use Rattle.rebuild_core.specs.Laws.{StandsIn, LeadsUp}
-use Rattle.claim_tree.proofs.Lists.{or_split, and_split, true_unless_false, In-left, In-right, In-map, In-At, At-same, At-below, same_by_image, list_any-In}
+use Rattle.claim_tree.proofs.Lists.{In-left, In-right, In-map, In-At, At-same, At-below, same_by_image, list_any-In}
 use Rattle.rebuild_core.proofs.Found.{stands-In}
 
 -- a site of a value that passes is an item
@@ -71,14 +72,14 @@ module _ (p : Tree) (g : List Given) (once : AtNone (RepeatedDigest p g)) where
   below : (u : Owner) (is : List ℕ) → LeadsUp p g u is → (q : ℕ) → list_any (eqb q) is ≡ true → q < length g
   below u [] h q e = cc
   below u (i ∷ is) (e, v, s, l) q h =
-      ⊎_elim (λ a. omega (arith, At-below g i s.0 s.1, eqb-true q i a)) (λ b. below v is l q b) (or_split (eqb q i) (list_any (eqb q) is) h)
+      ⊎_elim (λ a. omega (arith, At-below g i s.0 s.1, eqb-true q i a)) (λ b. below v is l q b) (or_cases (eqb q i) (list_any (eqb q) is) h)
 
   pub short : (u : Owner) (is : List ℕ) → LeadsUp p g u is → length is ≤ length g
   short u is h = length-le_from_distinct_below is (length g) (distinct u is h) (below u is h)
 
 module _ (p : Tree) (g : List Given) (ok : IsReferencedOnce p g) where
   pub reached_all : (i : ℕ) (x : Given) → StandsAt g i x → is_reached p g x ≡ true
-  reached_all i x a = true_unless_false _ (λ e. ok.no_unreferenced i (x, a, e))
+  reached_all i x a = true_from_ne_false _ (λ e. ok.no_unreferenced i (x, a, e))
 
   pub in_payload : (s : Site) → In s (sites p) → In (owned_site payload s) (met p g)
   in_payload s m = In-left _ (map (owned_site payload) (sites p)) (value_sites (is_reached p g) 0 g) (In-map (owned_site payload) s (sites p) m)
@@ -101,11 +102,11 @@ module _ (p : Tree) (g : List Given) (ok : IsReferencedOnce p g) where
       (λ l. let w = list_any-In (λ y. is_in_round p g r y.digest && stands x.digest (sites y.value)) g l in
       let y = w.0 in
       let b = In-At g y w.1 in
-      let parts = and_split (is_in_round p g r y.digest) (stands x.digest (sites y.value)) w.2 in
+      let parts = and_parts (is_in_round p g r y.digest) (stands x.digest (sites y.value)) w.2 in
       let s = stands-In x.digest (sites y.value) parts.1 in
       let up = chain r b.0 y b.1 parts.0 in
       (i ∷ up.0, (refl, value_of b.0, (x, a, s.0, in_value b.0 y s.0 b.1 s.1, s.2), up.1)))
-      (or_split (is_in_round p g r x.digest) _ h)
+      (or_cases (is_in_round p g r x.digest) _ h)
 
   pub leads_up : (i : ℕ) (x : Given) → StandsAt g i x → (is : List ℕ) × LeadsUp p g (value_of i) is
   leads_up i x a = chain (length g) i x a (reached_all i x a)

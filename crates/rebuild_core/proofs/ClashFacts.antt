@@ -1,10 +1,11 @@
 -- The first name that is there already, found in one pass.
 use Rattle.std.proofs.Common.{◌≡◌, ℕ, ◌+◌, ◌<◌, ◌≤◌, List, length, Bool, true, false, not, ◌&&◌, eqb, if◌then◌else◌, Option, Some, None, ◌⊎◌, inl, inr, ⊎_elim, refl, sym, ap, ◌∙◌, subst, arith, eqb-true, eq-eqb}
 use Rattle.std.specs.Prelude.{bytes_eq}
+use Rattle.std.proofs.lemmas.Bool.{and_parts, and_from}
 use Rattle.claim_tree.specs.Tree.{Text}
 use Rattle.claim_tree.specs.Lists.{StandsAt, In, AtNone, IsLeast}
 use Rattle.claim_tree.proofs.Counting.{before_or_at}
-use Rattle.claim_tree.proofs.Lists.{At-same, At-below, bytes_same, bytes_refl, and_split, and_join}
+use Rattle.claim_tree.proofs.Lists.{At-same, At-below, bytes_same, bytes_refl}
 use Rattle.digest_sites.specs.Given.{Given}
 use Rattle.rebuild_core.specs.Rows.{SeenRow}
 use Rattle.rebuild_core.specs.RowNames.{given_name, NamesAt, Clashes}
@@ -44,14 +45,14 @@ noted_step rows numbers g q has more s m k n b c e = record {
     taken : (o : ℕ) (l : Text) (t : Bool) → (eqb m.object o && bytes_eq k l) ≡ t → (if t then true else has o l) ≡ true
         → (j : ℕ) × (j < q + 1) × (i : SeenRow) × NamesAt rows numbers g j i l × (i.object ≡ o)
     taken o l true t h =
-        let w = and_split (eqb m.object o) (bytes_eq k l) t in
+        let w = and_parts (eqb m.object o) (bytes_eq k l) t in
         (q, omega arith, m, subst (λ z. NamesAt rows numbers g q m z) (bytes_same k l w.1) n, eqb-true m.object o w.0)
     taken o l false t h = let w = s.from o l h in (w.0, omega (arith, w.1), w.2, w.3, w.4)
 
     here : (j : ℕ) (i : SeenRow) (l : Text) → j ≡ q → NamesAt rows numbers g j i l → more i.object l ≡ true
     here j i l z d =
         let w = one_name rows numbers g q m i k l n (subst (λ y. NamesAt rows numbers g y i l) z d) in
-        let t : (eqb m.object i.object && bytes_eq k l) ≡ true = and_join (eqb m.object i.object) (bytes_eq k l) (eq-eqb m.object i.object (ap (λ (y : SeenRow). y.object) w.0)) (bytes_refl k l w.1) in
+        let t : (eqb m.object i.object && bytes_eq k l) ≡ true = and_from (eqb m.object i.object) (bytes_eq k l) (eq-eqb m.object i.object (ap (λ (y : SeenRow). y.object) w.0)) (bytes_refl k l w.1) in
         e i.object l ∙ ap (λ y. if y then true else has i.object l) t
 
     fresh : Clashes rows numbers g q → ⊥

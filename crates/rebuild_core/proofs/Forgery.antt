@@ -2,6 +2,7 @@
 -- closed choice of its own.
 use Rattle.std.proofs.Common.{◌≡◌, ℕ, zero, suc, List, [], ◌∷◌, map, length, Bool, true, false, eqb, ◌&&◌, ◌⊎◌, inl, inr, ⊎_elim, Option, Some, None, refl, sym, ap, ◌∙◌, subst, arith, eqb-true}
 use Rattle.std.specs.List.{IsDistinct, AllByRecursion}
+use Rattle.std.proofs.lemmas.Bool.{or_cases, and_parts}
 use Rattle.claim_tree.specs.Tree.{Tree}
 use Rattle.claim_tree.specs.Lists.{StandsAt, In}
 use Rattle.digest_sites.specs.Sites.{Site, sites}
@@ -16,7 +17,7 @@ use Rattle.rebuild_core.specs.Opening.{reveal, opened, processed}
 use Rattle.rebuild_core.specs.Reached.{stands, is_in_round, payload, value_of, OwnedSite, owned_site, value_sites, all_sites, all_digests, given_digests}
 use Rattle.rebuild_core.specs.Readable.{IsReadable}
 use Rattle.rebuild_core.specs.Soundness.{IsSound}
-use Rattle.claim_tree.proofs.Lists.{or_split, and_split, In-left, In-right, In-map, In-At, At-In, At-same, At-map, At-below, list_any-In}
+use Rattle.claim_tree.proofs.Lists.{In-left, In-right, In-map, In-At, At-In, At-same, At-map, At-below, list_any-In}
 use Rattle.marked_tree.proofs.NumberSets.{has-In, In-has}
 use Rattle.marked_tree.proofs.Remarks.{strip-renumbered}
 use Rattle.marked_tree.proofs.Spots.{closed_by_ways}
@@ -103,11 +104,11 @@ module _ (p : Tree) (g : List Given) (readable : IsReadable p g) (sound : IsSoun
       ⊎_elim (λ a. of_round r x m a)
       (λ b.
       let w = list_any-In (λ y. is_in_round p gs r y.digest && stands x.digest (sites y.value)) gs b in
-      let parts = and_split (is_in_round p gs r w.0.digest) (stands x.digest (sites w.0.value)) w.2 in
+      let parts = and_parts (is_in_round p gs r w.0.digest) (stands x.digest (sites w.0.value)) w.2 in
       let there = of_round r w.0 w.1 parts.0 in
       let s = stands-In x.digest (sites w.0.value) parts.1 in
       ⊎_elim (λ a. a) (λ c. absurd (c (subst (λ d. In d (all_digests p g)) s.2 (value_digest p g w.0 s.0 there s.1)))) (known x m))
-      (or_split (is_in_round p gs r x.digest) _ h)
+      (or_cases (is_in_round p gs r x.digest) _ h)
 
   issued : (x : Given) → In x gs → In x g
   issued x m = let a = In-At gs x m in of_round (length gs) x m (reached_all p gs sound_too.referenced a.0 x a.1)

@@ -1,7 +1,7 @@
 -- The least disclosure that is ill placed, found in one pass.
 use Rattle.std.proofs.Common.{◌≡◌, ℕ, zero, suc, ◌+◌, ◌<◌, ◌≤◌, List, [], ◌∷◌, map, length, get_or, ⊎_elim, refl, subst, arith}
 use Rattle.claim_tree.specs.Lists.{StandsAt, AtNone, IsLeast}
-use Rattle.claim_tree.proofs.Counting.{before_or_at}
+use Rattle.claim_tree.proofs.Counting.{before_or_at, not_below}
 use Rattle.claim_tree.proofs.Lists.{At-same, At-below, At-map}
 use Rattle.digest_sites.specs.Given.{Given}
 use Rattle.rebuild_core.specs.Rows.{SeenRow, seen}
@@ -43,14 +43,11 @@ low_pass IsIll rows numbers g q k least m s a b h = record {
   none = λ r i n y lt d e f z. ⊎_elim (λ o. s.none r i n y o d e f z) (λ o. here i n y (subst (λ v. StandsAt numbers v i) o d) (subst (λ v. StandsAt rows v n) o e) f z) (before_or_at r q lt);
 }
   where
-    order : (i j : ℕ) → (i < j → ⊥) → j ≤ i
-    order i j w = grind arith
-
     here : (i : ℕ) (n : SeenRow) (y : Given) → StandsAt numbers q i → StandsAt rows q n → StandsAt g i y → IsIll n y → least ≤ i
     here i n y d e f z =
         let w : i ≡ k = At-same numbers q i k d a in
         let v : n ≡ m = At-same rows q n m e b in
-        order i least (λ l. h y (subst (λ u. StandsAt g u y) w f) (omega (arith, w, l)) (subst (λ u. IsIll u y) v z))
+        not_below least i (λ l. h y (subst (λ u. StandsAt g u y) w f) (omega (arith, w, l)) (subst (λ u. IsIll u y) v z))
 
 pub low_found : (IsIll : SeenRow → Given → Type 0) (rows : List SeenRow) (numbers : List ℕ) (g : List Given) (q least : ℕ) → IsLow IsIll rows numbers g q least → length numbers ≤ q → least < length g → IsLeast (StandsAtRow IsIll rows numbers g) least
 low_found IsIll rows numbers g q least s l lt = record {

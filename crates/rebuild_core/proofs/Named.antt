@@ -1,5 +1,5 @@
 -- Where conditions 18 to 20 hold, the sites of the payload and of each value fit what they show.
-use Rattle.std.proofs.Common.{◌≡◌, ℕ, zero, suc, ◌+◌, ◌<◌, List, [], ◌∷◌, ◌++◌, map, Bool, true, cond, inl, inr, Option, Some, None, refl, sym, ap, ◌∙◌, subst, arith}
+use Rattle.std.proofs.Common.{◌≡◌, ℕ, zero, suc, ◌+◌, ◌<◌, List, [], ◌∷◌, map, Bool, true, cond, inl, inr, Option, Some, None, refl, sym, ap, ◌∙◌, subst, arith}
 use Rattle.claim_tree.specs.Tree.{Text, Tree}
 use Rattle.claim_tree.specs.Lists.{StandsAt, In}
 use Rattle.digest_sites.specs.Sites.{sites}
@@ -10,7 +10,7 @@ use Rattle.rebuild_core.specs.Reached.{find, is_reached, payload, value_of, Owne
 use Rattle.rebuild_core.specs.Opening.{Shown, shown_by, reveal, open_tree}
 use Rattle.rebuild_core.specs.Conditions.{IsWrong, Discloses}
 use Rattle.rebuild_core.specs.Soundness.{IsReferencedOnce, IsWellNamed}
-use Rattle.claim_tree.proofs.Lists.{In-right, In-At, At-In}
+use Rattle.claim_tree.proofs.Lists.{In-At, At-In}
 use Rattle.rebuild_core.proofs.Found.{found}
 use Rattle.rebuild_core.proofs.Chains.{in_payload, in_value, reached_all}
 use Rattle.rebuild_core.proofs.Fits.{Pairwise, Pairwise-left, Pairwise-right, Pairwise-of_map, Suits, Names, NamesApart, AreFit}
@@ -28,11 +28,6 @@ Pairwise-at R (x ∷ xs) h zero (suc q) a b l m n = subst (λ z. R z b) (sym m) 
 Pairwise-at R (x ∷ xs) h (suc j) zero a b l m n = absurd (omega arith)
 Pairwise-at R (x ∷ xs) h (suc j) (suc q) a b l m n = Pairwise-at R xs h.1 j q a b (omega arith) m n
 Pairwise-at R [] h j q a b l m n = elim m [ ]
-
-pub Pairwise-cross : {X : Type 0} (R : X → X → Type 0) (xs ys : List X) → Pairwise R (xs ++ ys) → (x y : X) → In x xs → In y ys → R x y
-Pairwise-cross R (z ∷ xs) ys h x y (inl e) n = subst (λ a. R a y) (sym e) (h.0 y (In-right y xs ys n))
-Pairwise-cross R (z ∷ xs) ys h x y (inr m) n = Pairwise-cross R xs ys h.1 x y m n
-Pairwise-cross R [] ys h x y m n = elim m [ ]
 
 -- the sites of one value among the items
 pub value_part : (R : OwnedSite → OwnedSite → Type 0) (p : Given → Bool) (g : List Given) (i k n : ℕ) (x : Given) → n ≡ i + k → StandsAt g k x → p x ≡ true

@@ -1,13 +1,12 @@
 -- Where nothing is hidden and nothing is given: no condition but the last can fail, and the payload opens to itself.
 use Rattle.std.proofs.Common.{◌≡◌, ℕ, zero, suc, ◌≤◌, ◌<◌, ◌-◌, ◌^◌, List, [], Bool, true, false, None, refl, sym, ap, ap₂, ◌∙◌, subst, arith}
 use Rattle.std.specs.Prelude.{bytes_eq, if◌then◌else◌, Result, Ok, Err, IfOk, IfErr, MatchResult}
-use Rattle.std.proofs.lemmas.Bool.{not-true}
+use Rattle.std.proofs.lemmas.Bool.{not-true, and_parts}
 use Rattle.claim_tree.specs.Tree.{Text, Tree, leaf, array, object, Elements, no_elements, element, Members, no_members, member, depth, members_depth}
 use Rattle.claim_tree.specs.View.{tree_of}
 use Rattle.claim_tree.specs.declared.tree.Tree as code
 use Rattle.claim_tree.specs.Removed.{removed}
 use Rattle.claim_tree.specs.Lists.{StandsAt, Repeats}
-use Rattle.claim_tree.proofs.Lists.{and_split}
 use Rattle.digest_sites.specs.Reserved.{sd_name, dots_name, sd_texts, element_digest, misuses, elements_misuse, members_misuse}
 use Rattle.digest_sites.specs.Sites.{sites, element_sites, member_sites}
 use Rattle.marked_tree.specs.Marked.{strip, strip_elements, strip_members}
@@ -23,22 +22,22 @@ use Rattle.rebuild_core.specs.Soundness.{IsSound, IsReferencedOnce, IsWellNamed}
 use Rattle.rebuild_core.specs.Unhidden.{is_unhidden_name, is_unhidden, elements_unhidden, members_unhidden}
 
 name_is_free : (name : Text) → is_unhidden_name name ≡ true → (bytes_eq name sd_name ≡ false) × (bytes_eq name dots_name ≡ false)
-name_is_free name h = let s = and_split _ _ h in (not-true _ s.0, not-true _ s.1)
+name_is_free name h = let s = and_parts _ _ h in (not-true _ s.0, not-true _ s.1)
 
 -- ---- no digest stands in it
 
 no_sd : (ms : Members) → members_unhidden ms ≡ true → sd_texts ms ≡ []
 no_sd no_members h = refl
 no_sd (member name t ms) h =
-    let s = and_split _ _ h in
-    let r = and_split _ _ s.1 in
+    let s = and_parts _ _ h in
+    let r = and_parts _ _ s.1 in
     rw (name_is_free name s.0).0 (no_sd ms r.1)
 
 no_digest : (t : Tree) → is_unhidden t ≡ true → element_digest t ≡ None
 no_digest (leaf l) h = refl
 no_digest (array es) h = refl
 no_digest (object no_members) h = refl
-no_digest (object (member name t no_members)) h = let s = and_split _ _ h in rw (name_is_free name s.0).1 refl
+no_digest (object (member name t no_members)) h = let s = and_parts _ _ h in rw (name_is_free name s.0).1 refl
 no_digest (object (member name t (member other u ms))) h = refl
 
 mutual
@@ -50,14 +49,14 @@ mutual
   elements_open : (r : Text → Shown) (es : Elements) → elements_unhidden es ≡ true → strip_elements (open_elements r es) ≡ es
   elements_open r no_elements h = refl
   elements_open r (element t es) h =
-      let s = and_split _ _ h in
+      let s = and_parts _ _ h in
       rw (no_digest t s.0) (ap₂ element (unhidden_opens r t s.0) (elements_open r es s.1))
 
   members_open : (r : Text → Shown) (ms : Members) → members_unhidden ms ≡ true → strip_members (open_members r ms) ≡ ms
   members_open r no_members h = refl
   members_open r (member name t ms) h =
-      let s = and_split _ _ h in
-      let q = and_split _ _ s.1 in
+      let s = and_parts _ _ h in
+      let q = and_parts _ _ s.1 in
       rw (name_is_free name s.0).0 (ap₂ (member name) (unhidden_opens r t q.0) (members_open r ms q.1))
 
 mutual
@@ -69,14 +68,14 @@ mutual
   no_element_sites : (i : ℕ) (es : Elements) → elements_unhidden es ≡ true → element_sites i es ≡ []
   no_element_sites i no_elements h = refl
   no_element_sites i (element t es) h =
-      let s = and_split _ _ h in
+      let s = and_parts _ _ h in
       rw (no_digest t s.0) (rw (unhidden_sites t s.0) (no_element_sites (suc i) es s.1))
 
   no_member_sites : (ms : Members) → members_unhidden ms ≡ true → member_sites ms ≡ []
   no_member_sites no_members h = refl
   no_member_sites (member name t ms) h =
-      let s = and_split _ _ h in
-      let q = and_split _ _ s.1 in
+      let s = and_parts _ _ h in
+      let q = and_parts _ _ s.1 in
       rw (name_is_free name s.0).0 (rw (unhidden_sites t q.0) (no_member_sites ms q.1))
 
 mutual
@@ -88,14 +87,14 @@ mutual
   elements_misuse_not : (es : Elements) → elements_unhidden es ≡ true → elements_misuse es ≡ false
   elements_misuse_not no_elements h = refl
   elements_misuse_not (element t es) h =
-      let s = and_split _ _ h in
+      let s = and_parts _ _ h in
       rw (no_digest t s.0) (rw (unhidden_misuses t s.0) (elements_misuse_not es s.1))
 
   members_misuse_not : (ms : Members) → members_unhidden ms ≡ true → members_misuse ms ≡ false
   members_misuse_not no_members h = refl
   members_misuse_not (member name t ms) h =
-      let s = and_split _ _ h in
-      let q = and_split _ _ s.1 in
+      let s = and_parts _ _ h in
+      let q = and_parts _ _ s.1 in
       rw ((name_is_free name s.0).0, (name_is_free name s.0).1) (rw (unhidden_misuses t q.0) (members_misuse_not ms q.1))
 
 -- ---- its own `_sd_alg`
@@ -117,8 +116,8 @@ without_alg_shallow (object ms) = let l = without_shallow alg_name ms in omega (
 without_unhidden : (name : Text) (ms : Members) → members_unhidden ms ≡ true → members_unhidden (removed ms name) ≡ true
 without_unhidden name no_members h = refl
 without_unhidden name (member other t ms) h =
-    let s = and_split _ _ h in
-    let q = and_split _ _ s.1 in
+    let s = and_parts _ _ h in
+    let q = and_parts _ _ s.1 in
     go (bytes_eq other name) s.0 q.0 (without_unhidden name ms q.1)
   where
     go : (b : Bool) → is_unhidden_name other ≡ true → is_unhidden t ≡ true → members_unhidden (removed ms name) ≡ true

@@ -1,5 +1,5 @@
 -- In rising order the places are the ranks.
-use Rattle.std.proofs.Common.{◌≡◌, ℕ, zero, suc, ◌<◌, ◌≤◌, List, [], ◌∷◌, Bool, true, false, cond, eqb, ◌⊎◌, inl, inr, ⊎_elim, Option, Some, None, refl, sym, ap, ap₂, ◌∙◌, arith, eq-eqb, le_trans}
+use Rattle.std.proofs.Common.{◌≡◌, ℕ, zero, suc, ◌<◌, ◌≤◌, List, [], ◌∷◌, Bool, true, false, cond, eqb, inl, inr, ⊎_elim, Option, Some, None, refl, sym, ap, ap₂, ◌∙◌, arith, eq-eqb, le_trans}
 use Rattle.std.proofs.Math.Nat.{le-suc_iff}
 use Rattle.std.proofs.lemmas.Bool.Decides.{nat_tests}
 use Rattle.claim_tree.specs.Tree.{Text}

@@ -1,7 +1,8 @@
 -- A closed choice reaches each of its disclosures.
-use Rattle.std.proofs.Common.{◌≡◌, ℕ, zero, suc, ◌≤◌, List, [], ◌∷◌, map, length, Bool, true, ◌&&◌, ◌⊎◌, inl, inr, ⊎_elim, Some, refl, sym, ap, ◌∙◌, subst, arith}
+use Rattle.std.proofs.Common.{◌≡◌, ℕ, zero, suc, ◌≤◌, List, [], ◌∷◌, map, length, Bool, true, ◌&&◌, inl, inr, ⊎_elim, Some, refl, sym, ap, ◌∙◌, subst, arith}
 use Rattle.std.specs.Prelude.{bytes_eq}
 use Rattle.std.proofs.Math.Nat.{le-suc_iff}
+use Rattle.std.proofs.lemmas.Bool.{or_left, or_right, and_from}
 use Rattle.claim_tree.specs.Tree.{Text, Tree}
 use Rattle.claim_tree.specs.Lists.{StandsAt, In, AtNone}
 use Rattle.digest_sites.specs.Sites.{Site, sites}
@@ -15,7 +16,7 @@ use Rattle.rebuild_core.specs.Opening.{reveal, opened, processed}
 use Rattle.rebuild_core.specs.Conditions.{RepeatedDigest, Unreferenced}
 use Rattle.rebuild_core.specs.Soundness.{IsReferencedOnce, IsWellNamed}
 use Rattle.rebuild_core.specs.Laws.{StandsIn, LeadsUp, IsPick}
-use Rattle.claim_tree.proofs.Lists.{bytes_refl, or_left, or_right, and_join, In-left, In-right, In-map, In-At, At-In, At-same, list_any-from}
+use Rattle.claim_tree.proofs.Lists.{bytes_refl, In-left, In-right, In-map, In-At, At-In, At-same, list_any-from}
 use Rattle.rebuild_core.proofs.Chains.{short, leads_up, item_of_value}
 use Rattle.rebuild_core.proofs.Fixed.{fixed, processed_settles}
 use Rattle.rebuild_core.proofs.Named.{payload_fits, value_fits}
@@ -164,7 +165,7 @@ module _ (p : Tree) (g : List Given) (ok : IsReferencedOnce p g) (named : IsWell
           leads = (refl, value_of up.k, (x, there, e, in_reached_value up.k up.x e up.there reached inside, d), up.leads);
           round = or_right (is_in_round p gs (length up.ks) x.digest) _
               (list_any-from (λ z. is_in_round p gs (length up.ks) z.digest && stands x.digest (sites z.value)) gs up.x (At-In gs up.k up.x up.there)
-              (and_join (is_in_round p gs (length up.ks) up.x.digest) (stands x.digest (sites up.x.value)) up.round (stands-from x.digest (sites up.x.value) e inside d)));
+              (and_from (is_in_round p gs (length up.ks) up.x.digest) (stands x.digest (sites up.x.value)) up.round (stands-from x.digest (sites up.x.value) e inside d)));
         }
 
     pub c17_holds : AtNone (Unreferenced p gs)

@@ -9,7 +9,6 @@ use Rattle.claim_tree.specs.Removed.{removed}
 use Rattle.claim_tree.proofs.Lists.{At-map, At-same}
 use Rattle.digest_sites.specs.Reserved.{sd_name, sd_texts, element_digest}
 use Rattle.digest_sites.specs.Sites.{Site, Step, to_member, to_element, sites, element_sites, member_sites, sites_on, under, own_site}
-use Rattle.digest_sites.specs.SiteCalls.{digests}
 use Rattle.digest_sites.specs.Given.{Given}
 use Rattle.digest_sites.specs.declared.site.SiteKind.{SiteKind}
 use Rattle.rebuild_core.specs.Payload.{alg_name, without_alg}
@@ -124,10 +123,6 @@ row_is_item t given o h place r m a b =
 row_digests : (rs : List SeenRow) → map (λ (l : Look). l.digest) (map row_look rs) ≡ map (λ (r : SeenRow). r.digest) rs
 row_digests [] = refl
 row_digests (r ∷ rs) = ap (λ ds. r.digest ∷ ds) (row_digests rs)
-
-site_digests : (ss : List Site) → map (λ (l : Look). l.digest) (map site_look ss) ≡ digests ss
-site_digests [] = refl
-site_digests (s ∷ ss) = ap (λ ds. s.digest ∷ ds) (site_digests ss)
 
 pub length_look : (rs : List SeenRow) (ss : List Site) → map row_look rs ≡ map site_look ss → length rs ≡ length ss
 length_look rs ss h = sym (length-map rs row_look) ∙ (ap length h ∙ length-map ss site_look)

@@ -4,6 +4,8 @@ use Rattle.std.specs.Prelude.{bytes_eq}
 use Rattle.std.specs.List.{list_any}
 use Rattle.std.specs.Cmp.{both_ways}
 use Rattle.std.proofs.lemmas.List.{length-map, drop-drop}
+use Rattle.std.proofs.lemmas.Bool.{cases_lt, eqb-true, eq-eqb}
+use Rattle.marked_tree.specs.Numbers.{has}
 use Rattle.claim_tree.specs.Tree.{Text, Tree, IsOrdered}
 use Rattle.claim_tree.specs.Lists.{StandsAt, In, Repeats, AtNone}
 use Rattle.digest_sites.specs.Sites.{Site, sites}
@@ -14,7 +16,7 @@ use Rattle.rebuild_core.specs.Conditions.{RepeatedDigest, Unreferenced}
 use Rattle.claim_tree.proofs.Lists.{bytes_same, bytes_refl, At-left, At-same, At-below, At-In, At-get, one_place}
 use Rattle.digest_index.specs.Index.{position_or_end, interned}
 use Rattle.rebuild_core.specs.DigestNumbers.{numbers, all_interned, AllAt, IsFlatList}
-use Rattle.rebuild_core.specs.Graph.{pieces_at, Ascends, roots_in, rows_in, has_number, any_row, is_met_in, flagged_rows, Recurs}
+use Rattle.rebuild_core.specs.Graph.{pieces_at, Ascends, roots_in, rows_in, any_row, is_met_in, flagged_rows, Recurs}
 use Rattle.digest_index.proofs.Places.{place_or_end-within}
 use Rattle.digest_index.proofs.Interned.{interned-new, interned-there}
 use Rattle.rebuild_core.specs.Payload.{without_alg}
@@ -22,7 +24,6 @@ use Rattle.rebuild_core.specs.Answer.{IsPayload}
 use Rattle.rebuild_core.specs.Rows.{tree_rows, value_ends}
 use Rattle.rebuild_core.proofs.RowFacts.{length_tree_rows, length_top_rows}
 use Rattle.rebuild_core.proofs.Repeated.{place_there, place_absent}
-use Rattle.rebuild_core.proofs.Worklist.{eqb_same, eqb_refl}
 use Rattle.rebuild_core.proofs.Cuts.{length-cut}
 
 -- ---- the index grows
@@ -61,11 +62,8 @@ grows_join : (ix jx kx : List Text) → Grows ix jx → Grows jx kx → Grows ix
 grows_join ix jx kx a b = record { keeps = λ k d h. b.keeps k d (a.keeps k d h); apart = λ h. b.apart (a.apart h) }
 
 pub grows_text : (ix : List Text) (d : Text) → Grows ix (interned d ix) × StandsAt (interned d ix) (position_or_end d ix) d
-grows_text ix d = go (split (position_or_end d ix) (length ix))
+grows_text ix d = go (cases_lt (position_or_end d ix) (length ix))
   where
-    split : (a b : ℕ) → (a < b) ⊎ (b ≤ a)
-    split a b = grind arith
-
     go : (position_or_end d ix < length ix) ⊎ (length ix ≤ position_or_end d ix) → Grows ix (interned d ix) × StandsAt (interned d ix) (position_or_end d ix) d
     go (inl l) = rw (interned-there d ix l) (grows_refl ix, place_there ix d l)
     go (inr l) =
@@ -78,12 +76,6 @@ grows_texts ix [] = grows_refl ix
 grows_texts ix (d ∷ ds) = grows_join ix (interned d ix) (all_interned (interned d ix) ds) (grows_text ix d).0 (grows_texts (interned d ix) ds)
 
 -- ---- numbers stand for texts
-
-pub all_grow : (ix jx : List Text) (ks : List ℕ) (ds : List Text) → Grows ix jx → AllAt ix ks ds → AllAt jx ks ds
-all_grow ix jx [] [] w h = tt
-all_grow ix jx (k ∷ ks) (d ∷ ds) w h = (w.keeps k d h.0, all_grow ix jx ks ds w h.1)
-all_grow ix jx [] (d ∷ ds) w h = elim h [ ]
-all_grow ix jx (k ∷ ks) [] w h = elim h [ ]
 
 pub numbers_stand : (ix ds : List Text) → AllAt (all_interned ix ds) (numbers ix ds) ds
 numbers_stand ix [] = tt
@@ -135,13 +127,13 @@ repeats_recurs ix ks ds ok a q r =
 -- ---- rounds
 
 module _ (ix : List Text) (ok : Apart ix) where
-  same_test : (j k : ℕ) (c d : Text) → StandsAt ix j c → StandsAt ix k d → eqb j k ≡ bytes_eq c d
+  same_test : (j k : ℕ) (c d : Text) → StandsAt ix j c → StandsAt ix k d → eqb k j ≡ bytes_eq c d
   same_test j k c d a b =
-      both_ways (eqb j k) (bytes_eq c d)
-      (λ h. let e : j ≡ k = eqb_same j k h in bytes_refl c d (At-same ix k c d (subst (λ z. StandsAt ix z c) e a) b))
-      (λ h. let e : c ≡ d = bytes_same c d h in eqb_refl j k (one_place ix ok j k d (subst (λ z. StandsAt ix j z) e a) b))
+      both_ways (eqb k j) (bytes_eq c d)
+      (λ h. let e : j ≡ k = sym (eqb-true k j h) in bytes_refl c d (At-same ix k c d (subst (λ z. StandsAt ix z c) e a) b))
+      (λ h. let e : c ≡ d = bytes_same c d h in eq-eqb k j (sym (one_place ix ok j k d (subst (λ z. StandsAt ix j z) e a) b)))
 
-  has_stands : (ks : List ℕ) (ss : List Site) (k : ℕ) (d : Text) → AllAt ix ks (digests ss) → StandsAt ix k d → has_number k ks ≡ stands d ss
+  has_stands : (ks : List ℕ) (ss : List Site) (k : ℕ) (d : Text) → AllAt ix ks (digests ss) → StandsAt ix k d → has ks k ≡ stands d ss
   has_stands [] [] k d a b = refl
   has_stands (j ∷ ks) (s ∷ ss) k d a b = ap₂ (λ (x y : Bool). x || y) (same_test j k s.digest d a.0 b) (has_stands ks ss k d a.1 b)
   has_stands [] (s ∷ ss) k d a b = elim a [ ]

@@ -1,15 +1,12 @@
 -- The worklist reaches what the rounds reach.
-use Rattle.std.proofs.Common.{◌≡◌, ℕ, zero, suc, ◌+◌, ◌-◌, ◌<◌, ◌≤◌, List, [], ◌∷◌, ◌++◌, length, get_or, set, replicate, Bool, true, false, cond, ◌&&◌, eqb, ◌⊎◌, inl, inr, ⊎_elim, refl, sym, ap, ◌∙◌, subst, arith, length-set}
+use Rattle.std.proofs.Common.{◌≡◌, ℕ, zero, suc, ◌+◌, ◌-◌, ◌<◌, ◌≤◌, List, [], ◌∷◌, ◌++◌, length, get_or, set, replicate, Bool, true, false, cond, ◌&&◌, ◌⊎◌, inl, inr, ⊎_elim, refl, sym, ap, ◌∙◌, subst, arith, length-set}
+use Rattle.std.proofs.lemmas.Bool.{or_left, or_right, or_cases, and_parts, and_from}
+use Rattle.marked_tree.specs.Numbers.{has}
+use Rattle.marked_tree.proofs.NumberSets.{has-In, In-has}
 use Rattle.claim_tree.specs.Lists.{StandsAt, In}
 use Rattle.claim_tree.proofs.Counting.{before_or_at}
-use Rattle.claim_tree.proofs.Lists.{At-below, At-same, or_left, or_right, or_split, and_split, and_join}
-use Rattle.rebuild_core.specs.Graph.{has_number, any_row, is_met_in, Marks, mark_one, mark_all, trues, IsClear}
-
-pub eqb_same : (a b : ℕ) → eqb a b ≡ true → a ≡ b
-eqb_same a b h = grind arith
-
-pub eqb_refl : (a b : ℕ) → a ≡ b → eqb a b ≡ true
-eqb_refl a b h = grind arith
+use Rattle.claim_tree.proofs.Lists.{At-below, At-same}
+use Rattle.rebuild_core.specs.Graph.{any_row, is_met_in, Marks, mark_one, mark_all, trues, IsClear}
 
 -- ---- flags
 
@@ -123,7 +120,6 @@ pub record Spread (row : List ℕ) (s t : Marks) : Type 0 where
   pub keeps : (k : ℕ) → get_or s.0 k false ≡ true → get_or t.0 k false ≡ true
   pub from : (k : ℕ) → get_or t.0 k false ≡ true → (get_or s.0 k false ≡ true) ⊎ (In k row × (length s.1 < length t.1))
   pub all : (k : ℕ) → In k row → k < length s.0 → get_or t.0 k false ≡ true
-  pub prefix : (i k : ℕ) → StandsAt s.1 i k → StandsAt t.1 i k
   pub before : (i k : ℕ) → StandsAt t.1 i k → i < length s.1 → StandsAt s.1 i k
   pub longer : length s.1 ≤ length t.1
   pub well : Well s → Well t
@@ -134,7 +130,6 @@ spread_none s = record {
   keeps = λ k h. h;
   from = λ k h. inl h;
   all = λ k h l. elim h [ ];
-  prefix = λ i k h. h;
   before = λ i k h l. h;
   longer = omega arith;
   well = λ w. w;
@@ -149,7 +144,6 @@ spread_one k s = go (get_or s.0 k true) refl
       keeps = λ j h. h;
       from = λ j h. inl h;
       all = λ j m l. one j m l e;
-      prefix = λ i j h. h;
       before = λ i j h l. h;
       longer = omega arith;
       well = λ w. w;
@@ -163,7 +157,6 @@ spread_one k s = go (get_or s.0 k true) refl
       keeps = λ j h. set_keeps s.0 k j h;
       from = λ j h. ⊎_elim (λ l. inl l) (λ r. inr (inl r, omega (arith, length-last s.1 k))) (set_from s.0 k j h);
       all = λ j m l. one j m;
-      prefix = λ i j h. At-more s.1 (k ∷ []) i j h;
       before = λ i j h l. At-less s.1 (k ∷ []) i j h l;
       longer = omega (arith, length-last s.1 k);
       well = λ w. record {
@@ -183,7 +176,6 @@ spread_join k ks s t u a b = record {
   keeps = λ j h. b.keeps j (a.keeps j h);
   from = λ j h. ⊎_elim (λ l. ⊎_elim (λ m. inl m) (λ m. inr (only j m.0, omega (arith, m.1, b.longer))) (a.from j l)) (λ r. inr (inr r.0, omega (arith, r.1, a.longer))) (b.from j h);
   all = λ j m l. every j m l;
-  prefix = λ i j h. b.prefix i j (a.prefix i j h);
   before = λ i j h l. a.before i j (b.before i j h (omega (arith, l, a.longer))) l;
   longer = omega (arith, a.longer, b.longer);
   well = λ w. b.well (a.well w);
@@ -203,33 +195,24 @@ spread (k ∷ ks) s = spread_join k ks s (mark_one k s) (mark_all ks (mark_one k
 
 -- ---- rounds
 
-has-In : (k : ℕ) (xs : List ℕ) → has_number k xs ≡ true → In k xs
-has-In k [] h = cc
-has-In k (x ∷ xs) h = ⊎_elim (λ l. inl (sym (eqb_same x k l))) (λ r. inr (has-In k xs r)) (or_split (eqb x k) (has_number k xs) h)
-
-In-has : (k : ℕ) (xs : List ℕ) → In k xs → has_number k xs ≡ true
-In-has k (x ∷ xs) (inl e) = or_left (eqb x k) (has_number k xs) (eqb_refl x k (sym e))
-In-has k (x ∷ xs) (inr m) = or_right (eqb x k) (has_number k xs) (In-has k xs m)
-In-has k [] m = elim m [ ]
-
 any_row-At : (p : ℕ → Bool) (k i : ℕ) (rows : List (List ℕ)) → any_row p k i rows ≡ true
     → (j : ℕ) × (row : List ℕ) × StandsAt rows j row × (p (i + j) ≡ true) × In k row
 any_row-At p k i [] h = cc
-any_row-At p k i (row ∷ rows) h = go (any_row-At p k (suc i) rows) (or_split (p i && has_number k row) (any_row p k (suc i) rows) h)
+any_row-At p k i (row ∷ rows) h = go (any_row-At p k (suc i) rows) (or_cases (p i && has row k) (any_row p k (suc i) rows) h)
   where
     go : (any_row p k (suc i) rows ≡ true → (j : ℕ) × (r : List ℕ) × StandsAt rows j r × (p (suc i + j) ≡ true) × In k r)
-        → ((p i && has_number k row) ≡ true) ⊎ (any_row p k (suc i) rows ≡ true) → (j : ℕ) × (r : List ℕ) × StandsAt (row ∷ rows) j r × (p (i + j) ≡ true) × In k r
-    go ih (inl l) = let w = and_split (p i) (has_number k row) l in let e : i + 0 ≡ i = omega arith in (0, row, refl, rw e w.0, has-In k row w.1)
+        → ((p i && has row k) ≡ true) ⊎ (any_row p k (suc i) rows ≡ true) → (j : ℕ) × (r : List ℕ) × StandsAt (row ∷ rows) j r × (p (i + j) ≡ true) × In k r
+    go ih (inl l) = let w = and_parts (p i) (has row k) l in let e : i + 0 ≡ i = omega arith in (0, row, refl, rw e w.0, has-In row k w.1)
     go ih (inr r) = let w = ih r in let e : i + suc w.0 ≡ suc i + w.0 = omega arith in (suc w.0, w.1, w.2, rw e w.3, w.4)
 
 At-any_row : (p : ℕ → Bool) (k i j : ℕ) (rows : List (List ℕ)) (row : List ℕ) → StandsAt rows j row → p (i + j) ≡ true → In k row → any_row p k i rows ≡ true
 At-any_row p k i zero (row ∷ rows) r a h m =
     let e : i + 0 ≡ i = omega arith in
     let q : p i ≡ true = ap p (sym e) ∙ h in
-    or_left (p i && has_number k row) (any_row p k (suc i) rows) (and_join (p i) (has_number k row) q (In-has k row (subst (λ z. In k z) a m)))
+    or_left (p i && has row k) (any_row p k (suc i) rows) (and_from (p i) (has row k) q (In-has row k (subst (λ z. In k z) a m)))
 At-any_row p k i (suc j) (row ∷ rows) r a h m =
     let e : suc i + j ≡ i + suc j = omega arith in
-    or_right (p i && has_number k row) (any_row p k (suc i) rows) (At-any_row p k (suc i) j rows r a (ap p e ∙ h) m)
+    or_right (p i && has row k) (any_row p k (suc i) rows) (At-any_row p k (suc i) j rows r a (ap p e ∙ h) m)
 At-any_row p k i j [] r a h m = elim a [ ]
 
 later_round : (roots : List ℕ) (rows : List (List ℕ)) (a r k : ℕ) → is_met_in roots rows r k ≡ true → is_met_in roots rows (a + r) k ≡ true
@@ -259,7 +242,7 @@ fits_start n roots rows =
     record {
       len = w.len ∙ length-cleared n;
       well = w.well ws;
-      sound = λ k h. ⊎_elim (λ l. absurd (cleared n k l)) (λ r. round_le roots rows 0 (length t.1) k (omega arith) (In-has k roots r.0)) (w.from k h);
+      sound = λ k h. ⊎_elim (λ l. absurd (cleared n k l)) (λ r. round_le roots rows 0 (length t.1) k (omega arith) (In-has roots k r.0)) (w.from k h);
       rooted = λ k m l. w.all k m (omega (arith, l, length-cleared n));
       closed = λ i j k row l. absurd (omega arith);
     }
@@ -298,7 +281,7 @@ short_order n roots rows h s f = omega (arith, f.len, f.well.count, trues_le s.0
 
 complete : (n : ℕ) (roots : List ℕ) (rows : List (List ℕ)) (h : ℕ) (s : Marks) → Fits n roots rows h s → length s.1 ≤ h → length rows ≡ n
     → (r k : ℕ) → k < n → is_met_in roots rows r k ≡ true → get_or s.0 k false ≡ true
-complete n roots rows h s f l e zero k lt d = f.rooted k (has-In k roots d) lt
+complete n roots rows h s f l e zero k lt d = f.rooted k (has-In roots k d) lt
 complete n roots rows h s f l e (suc r) k lt d =
     ⊎_elim (λ a. complete n roots rows h s f l e r k lt a)
     (λ b. let w = any_row-At (is_met_in roots rows r) k 0 rows b in
@@ -306,7 +289,7 @@ complete n roots rows h s f l e (suc r) k lt d =
     let q = complete n roots rows h s f l e r w.0 (omega (arith, At-below rows w.0 w.1 w.2, e)) (ap (is_met_in roots rows r) (sym z) ∙ w.3) in
     let v = f.well.listed w.0 q in
     f.closed v.0 w.0 k w.1 (omega (arith, l, At-below s.1 v.0 w.0 v.1)) v.1 w.2 w.4 lt)
-    (or_split (is_met_in roots rows r k) (any_row (is_met_in roots rows r) k 0 rows) d)
+    (or_cases (is_met_in roots rows r k) (any_row (is_met_in roots rows r) k 0 rows) d)
 
 pub exact : (n : ℕ) (roots : List ℕ) (rows : List (List ℕ)) (h : ℕ) (s : Marks) → Fits n roots rows h s → length s.1 ≤ h → length rows ≡ n
     → (k : ℕ) → k < n → get_or s.0 k false ≡ is_met_in roots rows n k

@@ -1,7 +1,7 @@
 -- For private functions: which disclosures are reached, and the met list, over numbers.
-use Rattle.std.specs.Prelude.{◌≡◌, ℕ, zero, suc, ◌+◌, ◌-◌, ◌<◌, ◌≤◌, List, [], ◌∷◌, ◌++◌, take, drop, length, Bool, true, false, ◌||◌, ◌&&◌, eqb, slice_set, slice_index_or, if◌then◌else◌}
-use Rattle.std.specs.List.{list_any}
+use Rattle.std.specs.Prelude.{◌≡◌, ℕ, zero, suc, ◌+◌, ◌-◌, ◌<◌, ◌≤◌, List, [], ◌∷◌, ◌++◌, take, drop, length, Bool, true, false, ◌||◌, ◌&&◌, slice_set, slice_index_or, if◌then◌else◌}
 use Rattle.claim_tree.specs.Lists.{StandsAt}
+use Rattle.marked_tree.specs.Numbers.{has}
 
 -- a list of numbers cut at these places, the first piece from a start
 abbrev pub pieces_at : ℕ → List ℕ → List ℕ → List (List ℕ)
@@ -23,17 +23,14 @@ abbrev pub rows_in : List ℕ → List ℕ → List (List ℕ)
 rows_in [] ks = []
 rows_in (end ∷ ends) ks = pieces_at end ends ks
 
-abbrev pub has_number : ℕ → List ℕ → Bool
-has_number k ks = list_any (λ j. eqb j k) ks
-
 -- some row has k, of those whose number passes, where the first is row i
 abbrev pub any_row : (ℕ → Bool) → ℕ → ℕ → List (List ℕ) → Bool
 any_row passes k i [] = false
-any_row passes k i (row ∷ rows) = (passes i && has_number k row) || any_row passes k (suc i) rows
+any_row passes k i (row ∷ rows) = (passes i && has row k) || any_row passes k (suc i) rows
 
 -- k stands in the roots, or in the row of a number of the round before
 abbrev pub is_met_in : List ℕ → List (List ℕ) → ℕ → ℕ → Bool
-is_met_in roots rows zero k = has_number k roots
+is_met_in roots rows zero k = has roots k
 is_met_in roots rows (suc round) k = is_met_in roots rows round k || any_row (is_met_in roots rows round) k 0 rows
 
 -- which numbers are marked, and in which order

@@ -13,6 +13,7 @@ use Rattle.rebuild_core.specs.Payload.{alg_name}
 use Rattle.rebuild_core.specs.Opening.{Shown, nothing_shown, shown, show_member, reveal, open_tree, open_members}
 use Rattle.rebuild_core.specs.Cursor.{tree_digests, TellFirst, TellEach}
 use Rattle.rebuild_core.specs.declared.errors.ProcessError.{ProcessError}
+use Rattle.rebuild_core.specs.declared.graph.Graph.{Graph}
 use Rattle.rebuild_core.specs.declared.shown.OpenedMembers.{OpenedMembers}
 use Rattle.rebuild_core.specs.declared.shown.Revealed.{Revealed}
 
@@ -142,6 +143,10 @@ pub record OpensFrom (given left : List Given) (numbers ends : List ℕ) (at : �
   pub once : (k : ℕ) → uses given k digests ≤ 1
   pub there : (k : ℕ) (x : Given) → StandsAt given k x → 0 < uses given k digests → StandsAt left k x
   pub as_many : length left ≡ length given
+
+-- so over the numbers of a graph
+abbrev pub OpensIn : Graph → List Given → List Given → ℕ → List Text → Type 0 → Type 0
+OpensIn graph given left at digests Whole = OpensFrom given left graph.numbers.items graph.ends.items at digests Whole
 
 -- those that the digests do not show stay as they are
 pub record TakesOnly (given old new : List Given) (digests : List Text) : Type 0 where

@@ -18,5 +18,5 @@ mod shown;
 mod unhidden;
 
 pub use errors::ProcessError;
-pub use processing::{process, process_payload, process_seeded};
+pub use processing::{DEPTH_MAX, process, process_payload, process_seeded};
 pub use unhidden::without_alg;

@@ -26,6 +26,9 @@ use marked_tree::{Marked, into_tree};
 use sd_outside::{NoMemory, TextBox, copy_text};
 use std::alloc::Global;
 
+/// How deep a processed payload may nest, and with it the payload that an issuer hides from.
+pub const DEPTH_MAX: usize = 100;
+
 // The members of the payload, with their disclosures in their places, or why the token is refused.
 fn open_judged(
     alloc: Global,

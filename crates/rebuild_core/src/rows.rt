@@ -1,9 +1,7 @@
 // The digests of a payload and of all given values in one flat list, by reference.
 ghost use Rattle.std.specs.Prelude.{◌≡◌, ◌≤◌, ◌++◌, ◌∷◌, [], Some, map, length, false, OnOk, IfOk, IsSome, unwrap_or};
-ghost use Rattle.claim_tree.specs.Lists.{In};
 ghost use Rattle.claim_tree.specs.Tree.{depth, elements_depth, members_depth};
 ghost use Rattle.claim_tree.specs.View.{tree_of};
-ghost use Rattle.claim_tree.specs.ListViews.{elements_of};
 ghost use Rattle.digest_sites.specs.Reserved.{texts_of, sd_texts, element_digest as digest_in};
 ghost use Rattle.rebuild_core.specs.Answer.{ValuesShallow};
 ghost use Rattle.rebuild_core.specs.Rows.{seen, own_row, beside_names, rows_on, tree_rows, element_rows, member_rows, all_rows as rows_of, row_ends};

@@ -3,7 +3,7 @@ ghost use Rattle.std.specs.Prelude.{◌≡◌, OnOk, IfOk};
 ghost use Rattle.marked_tree.specs.Marked.{MarkedElements, MarkedMembers};
 ghost use Rattle.marked_tree.specs.MarkedCalls.{joined, members_joined};
 ghost use Rattle.marked_tree.specs.View.{marked_of, marked_members_of};
-ghost use Rattle.rebuild_core.specs.Opening.{show_element, show_member};
+ghost use Rattle.rebuild_core.specs.Opening.{show_element};
 ghost use Rattle.rebuild_core.specs.Whole.{shown_of, shown_member, whole_object};
 
 use marked_tree::{Marked, MarkedList, MarkedMap};

@@ -3,13 +3,12 @@ ghost use Rattle.std.specs.Prelude.{◌≡◌, ◌≤◌, ◌<◌, true, MatchRe
 ghost use Rattle.sd_outside.specs.Limits.{depth_max};
 ghost use Rattle.claim_tree.specs.Tree.{depth as depth_of, elements_depth, members_depth};
 ghost use Rattle.claim_tree.specs.View.{tree_of};
-ghost use Rattle.rebuild_core.specs.Answer.{IsPayload};
 ghost use Rattle.rebuild_core.specs.Payload.{without_alg as without_alg_of};
 ghost use Rattle.rebuild_core.specs.Unhidden.{is_unhidden as is_unhidden_of, is_unhidden_name as is_unhidden_name_of, elements_unhidden, members_unhidden};
 ghost use Rattle.rebuild_core.specs.declared.errors.ProcessError.{ProcessError as Refusal};
 
-use crate::ProcessError;
 use crate::names::ALG;
+use crate::{DEPTH_MAX, ProcessError};
 use claim_tree::{Tree, TreeList, TreeMap, depth};
 use digest_sites::{is_dots, is_sd};
 use sd_outside::TextBox;
@@ -73,13 +72,13 @@ pub fn without_alg(payload: Tree) -> Tree
     }
 }
 
-// The same, where it nests no deeper than 100.
+// The same, where it nests no deeper than [`DEPTH_MAX`].
 pub(crate) fn move_out(payload: Tree) -> Result<Tree, ProcessError>
     requires { depth_of (tree_of payload) ≤ 127 }
     ensures { MatchResult result (λ tree. (tree_of tree ≡ without_alg_of (tree_of payload)) × (depth_of (tree_of tree) ≤ depth_max)) (λ e. (e ≡ Refusal.TooDeep) × (depth_max < depth_of (without_alg_of (tree_of payload)))) }
 {
     let tree = without_alg(payload);
-    if depth(&tree) > 100 {
+    if depth(&tree) > DEPTH_MAX {
         return Err(ProcessError::TooDeep);
     }
     Ok(tree)

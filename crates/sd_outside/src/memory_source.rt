@@ -1,5 +1,4 @@
-ghost use Rattle.std.specs.Prelude.{◌≡◌, ◌+◌, ◌<◌, ◌≤◌, ◌^◌, ℕ, Some, length, take, drop, min, [], ◌++◌, OnOk, OnErr, IfOk};
-ghost use Rattle.std.specs.Io.KnownBytes.{Consumes, IsAtEnd};
+ghost use Rattle.std.specs.Prelude.{◌≡◌, ◌+◌, ◌<◌, ◌≤◌, Some, length, take, drop, min, [], ◌++◌, OnOk, OnErr, IfOk};
 ghost use Rattle.sd_outside.specs.Causes.{Rose};
 ghost use Rattle.sd_outside.specs.Memory.{IsToFail, after_call, failing_at, no_calls, one_more};
 

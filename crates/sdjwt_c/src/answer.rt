@@ -1,6 +1,6 @@
 // An answer on its way into the room of the caller.
-ghost use Rattle.std.specs.Prelude.{◌≡◌, string_bytes};
-ghost use Rattle.sdjwt_c.specs.Handed.{IsGiven, IsLeft};
+ghost use Rattle.std.specs.Prelude.{◌≡◌};
+ghost use Rattle.sdjwt_c.specs.Handed.{IsGiven};
 ghost use Rattle.sdjwt_c.specs.Results.{IsHanded};
 
 use cli_parts::Stop;

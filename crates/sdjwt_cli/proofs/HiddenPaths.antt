@@ -7,10 +7,11 @@ use Rattle.std.specs.Cmp.{both_ways}
 use Rattle.std.proofs.lemmas.Fmt.{decimal_injective}
 use Rattle.std.proofs.lemmas.Map.Keys.{IsDistinct-head, IsDistinct-tail, IsDistinct-cons, IsDistinct-from_apart}
 use Rattle.std.proofs.lemmas.Map.Made.{length-from_keys}
+use Rattle.std.proofs.lemmas.Bool.{or_left, or_right}
 use Rattle.claim_tree.specs.Tree.{Text, Tree, leaf, array, object, Elements, no_elements, element, elements_len, Members, no_members, member, member_named, names, IsOrdered, ElementsOrdered, MembersOrdered}
 use Rattle.claim_tree.specs.Lists.{In}
 use Rattle.claim_tree.specs.Path.{tree_at, element_on}
-use Rattle.claim_tree.proofs.Lists.{bytes_same, bytes_refl, or_left, or_right, In-left, In-right, In-append, In-map, In-of_map, In-At, list_any-In}
+use Rattle.claim_tree.proofs.Lists.{bytes_same, bytes_refl, In-left, In-right, In-append, In-map, In-of_map, In-At, list_any-In}
 use Rattle.marked_tree.specs.Paths.{Path, below, is_among, same_path}
 use Rattle.marked_tree.specs.Ways.{closing, closing_elements, closing_members, own_path}
 use Rattle.marked_tree.proofs.Closing.{marks_close_holds}

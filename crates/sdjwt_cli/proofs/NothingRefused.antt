@@ -20,6 +20,7 @@ use Rattle.issuer_core.specs.Digests.{marked_claims}
 use Rattle.issuer_core.specs.Laid.{with_alg}
 use Rattle.issuer_core.specs.Order.{Order}
 use Rattle.compact_form.specs.Lowest.{NoneApplies}
+use Rattle.compact_form.specs.Faults.{failed_of}
 use Rattle.issuer_core.specs.OrderRefusals as issuing
 use Rattle.holder_core.specs.declared.ask.Ask.{Ask}
 use Rattle.holder_core.specs.declared.ask.BindingAsk.{BindingAsk}
@@ -96,7 +97,7 @@ module _ (seed : List ℕ) (o : Order) (key : AlgKey) (parts : Parts) (passes : 
     refuses_nothing Memory memory signed h = memory refl
     refuses_nothing SignFailed memory signed h = signed refl
     refuses_nothing HasBinding memory signed h = h is.has.written.unbound
-    refuses_nothing (OnCondition fault) memory signed h = held.checked.passes h.1.failed fault.place h.1.fails
+    refuses_nothing (OnCondition fault) memory signed h = held.checked.passes (failed_of fault) fault.place h.1.fails
     refuses_nothing (NoSuchPlace k) memory signed h = not_missing h.marked h.held k h.missing.fails
     refuses_nothing (ConsentRefused i) memory signed h = not_refused_at h.marked h.held i h.refused
     refuses_nothing BindingKeyDiffers memory signed h = kid_differs h.binding h.marked h.agreed.held h.asked_for h.differs

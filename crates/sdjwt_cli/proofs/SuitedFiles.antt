@@ -3,6 +3,7 @@ use Rattle.std.proofs.Common.{◌≡◌, ◌≤◌, ◌^◌, pos, negsuc, Bool, 
 use Rattle.json.specs.Print.{escape_byte}
 use Rattle.json.proofs.Printed.Utf8.{are_ascii, IsUtf8-are_ascii}
 use Rattle.std.specs.Fmt.{digits}
+use Rattle.std.proofs.lemmas.Bool.{and_parts}
 use Rattle.b64url_text.specs.Base64url.{letters, bits, sixes, b64, Decodes}
 use Rattle.b64url_text.proofs.Texts.{AreBytes-text}
 use Rattle.claim_tree.specs.declared.tree.Tree as code
@@ -16,7 +17,6 @@ use Rattle.verifier_core.specs.PolicyFile.{IsPolicyFile}
 use Rattle.verifier_core.specs.declared.policy_version.PolicyVersion.{PolicyVersion}
 use Rattle.issuer_core.specs.OrderFile.{IsOrderFile}
 use Rattle.issuer_core.specs.declared.order_file.IssueFile.{IssueFile}
-use Rattle.claim_tree.proofs.Lists.{and_split}
 use Rattle.claim_tree.proofs.TreeTexts.{HasTexts, ElementsTexts, MembersTexts, read_back}
 use Rattle.holder_core.specs.PresentFile.{IsPresentFile}
 use Rattle.sdjwt_cli.specs.Presented.{AllSuits}
@@ -107,7 +107,7 @@ mutual
   elements_texts : (es : Elements) → elements_plain es ≡ true → ElementsTexts es × ElementsRanged es
   elements_texts no_elements e = (tt, tt)
   elements_texts (element t es) e =
-      let both = and_split (is_plain t) (elements_plain es) e in
+      let both = and_parts (is_plain t) (elements_plain es) e in
       let here = plain_texts t both.0 in
       let rest = elements_texts es both.1 in
       ((here.0, rest.0), (here.1, rest.1))
@@ -115,8 +115,8 @@ mutual
   members_texts : (ms : Members) → members_plain ms ≡ true → MembersTexts ms × MembersRanged ms
   members_texts no_members e = (tt, tt)
   members_texts (member name t ms) e =
-      let both = and_split (are_ascii name) (is_plain t && members_plain ms) e in
-      let more = and_split (is_plain t) (members_plain ms) both.1 in
+      let both = and_parts (are_ascii name) (is_plain t && members_plain ms) e in
+      let more = and_parts (is_plain t) (members_plain ms) both.1 in
       let here = plain_texts t more.0 in
       let rest = members_texts ms more.1 in
       ((IsUtf8-are_ascii name both.0, here.0, rest.0), (here.1, rest.1))

@@ -1,5 +1,5 @@
 //! What the definitions of a run say together. Each law holds for every value.
-ghost use Rattle.std.specs.Prelude.{◌≡◌, ◌⊎◌, ◌+◌, ℕ, List, Option, Some};
+ghost use Rattle.std.specs.Prelude.{◌≡◌, ◌⊎◌, ◌+◌, ℕ, List, Some};
 ghost use Rattle.std.specs.Io.KnownBytes.{Appends};
 ghost use Rattle.sd_outside.specs.Causes.{Rose};
 ghost use Rattle.sd_outside.specs.declared.status.Status.{Status};

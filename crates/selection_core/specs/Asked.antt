@@ -31,5 +31,5 @@ pub record IsAskedOnWalk {F : Type 0} (answers : RuleAnswers F) (rule : F) (s : 
   pub refused : (after ≡ before) ⊎ ((x : SeenMark) × In x seen × (s x.0 ≡ true) × (after ≡ Some x.0) × Allows answers rule x.1 false)
 
 -- so of a walk on which these marks were seen
-abbrev pub Asks : {F : Type 0} → RuleAnswers F → Asking F → List SeenMark → Walk → Walk → Type 0
-Asks answers asking seen before after = IsAskedOnWalk answers asking.consent.now (has asking.chosen.now) seen before.refused after.refused
+abbrev pub AsksOnWalk : {F : Type 0} → RuleAnswers F → Asking F → List SeenMark → Walk → Walk → Type 0
+AsksOnWalk answers asking seen before after = IsAskedOnWalk answers asking.consent.now (has asking.chosen.now) seen before.refused after.refused

@@ -6,7 +6,7 @@ ghost use Rattle.marked_tree.specs.Marked.{strip, strip_elements, strip_members}
 ghost use Rattle.marked_tree.specs.Numbers.{has};
 ghost use Rattle.marked_tree.specs.Paths.{spots, elements_spots, members_spots};
 ghost use Rattle.marked_tree.specs.View.{marked_of};
-ghost use Rattle.selection_core.specs.Asked.{own_seen, seen_from, is_below as is_below_of, Asks};
+ghost use Rattle.selection_core.specs.Asked.{own_seen, seen_from, is_below as is_below_of, AsksOnWalk};
 ghost use Rattle.selection_core.specs.Consent.{AllAllowed};
 ghost use Rattle.selection_core.specs.AllowCalls.{IsAllowRefused};
 
@@ -66,7 +66,7 @@ impl<'a, F: Fn(&Path) -> bool> Asking<'a, F> {
     fn ask_inside(&self, tree: &Marked, walk: &mut Walk) -> Result<(), NoMemory>
         requires callable { F.IsAlwaysCallable self.now.consent.now }
         requires depth { depth (strip (marked_of tree.now)) ≤ 127 }
-        ensures asked { OnOk result (Asks F.Fn self.now (seen_from walk.old.at (spots (marked_of tree.now))) walk.old walk.new) }
+        ensures asked { OnOk result (AsksOnWalk F.Fn self.now (seen_from walk.old.at (spots (marked_of tree.now))) walk.old walk.new) }
         ensures at { OnOk result (walk.new.at ≡ walk.old.at) }
     {
         match tree {
@@ -80,7 +80,7 @@ impl<'a, F: Fn(&Path) -> bool> Asking<'a, F> {
     fn ask_elements(&self, list: &MarkedList, walk: &mut Walk) -> Result<(), NoMemory>
         requires callable { F.IsAlwaysCallable self.now.consent.now }
         requires depth { elements_depth (strip_elements list.now) ≤ 126 }
-        ensures asked { OnOk result (Asks F.Fn self.now (seen_from walk.old.at (elements_spots 0 list.now)) walk.old walk.new) }
+        ensures asked { OnOk result (AsksOnWalk F.Fn self.now (seen_from walk.old.at (elements_spots 0 list.now)) walk.old walk.new) }
         ensures at { OnOk result (walk.new.at ≡ walk.old.at) }
     {
         for (i, element) in list.elements().iter().enumerate() {
@@ -97,7 +97,7 @@ impl<'a, F: Fn(&Path) -> bool> Asking<'a, F> {
     fn ask_members(&self, map: &MarkedMap, walk: &mut Walk) -> Result<(), NoMemory>
         requires callable { F.IsAlwaysCallable self.now.consent.now }
         requires depth { members_depth (strip_members map.now) ≤ 126 }
-        ensures asked { OnOk result (Asks F.Fn self.now (seen_from walk.old.at (members_spots map.now)) walk.old walk.new) }
+        ensures asked { OnOk result (AsksOnWalk F.Fn self.now (seen_from walk.old.at (members_spots map.now)) walk.old walk.new) }
         ensures at { OnOk result (walk.new.at ≡ walk.old.at) }
     {
         for (name, mark, tree) in map.members() {
@@ -119,7 +119,7 @@ impl<'a, F: Fn(&Path) -> bool> Asking<'a, F> {
     ) -> Result<(), NoMemory>
         requires callable { F.IsAlwaysCallable self.now.consent.now }
         requires depth { depth (strip (marked_of tree.now)) ≤ 127 }
-        ensures asked { OnOk result (Asks F.Fn self.now (own_seen mark (walk.old.at ++ step.now ∷ []) ++ seen_from (walk.old.at ++ step.now ∷ []) (spots (marked_of tree.now))) walk.old walk.new) }
+        ensures asked { OnOk result (AsksOnWalk F.Fn self.now (own_seen mark (walk.old.at ++ step.now ∷ []) ++ seen_from (walk.old.at ++ step.now ∷ []) (spots (marked_of tree.now))) walk.old walk.new) }
         ensures at { OnOk result (walk.new.at ≡ walk.old.at) }
     {
         walk.at.push(step)?;
@@ -132,7 +132,7 @@ impl<'a, F: Fn(&Path) -> bool> Asking<'a, F> {
     // Asks for the place of a mark, where it is chosen and smaller than the one that is refused.
     fn ask(&self, mark: Option<u32>, walk: &mut Walk)
         requires callable { F.IsAlwaysCallable self.now.consent.now }
-        ensures asked { Asks F.Fn self.now (own_seen mark walk.old.at) walk.old walk.new }
+        ensures asked { AsksOnWalk F.Fn self.now (own_seen mark walk.old.at) walk.old walk.new }
         ensures at { walk.new.at ≡ walk.old.at }
     {
         let Some(mark) = mark else {

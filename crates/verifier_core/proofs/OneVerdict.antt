@@ -19,8 +19,10 @@ use Rattle.compact_form.specs.declared.condition.Condition.{Condition}
 use Rattle.verifier_core.specs.Verdict.{Rules, TokenFails, ClaimFails, MissingFails, HolderFails, FileFails, Fails, of_file, of_missing, of_token, of_claims, of_holder, rules_of, Opens, IsAccepted}
 use Rattle.verifier_core.specs.declared.policy.Policy.{Policy}
 use Rattle.compact_form.specs.Lowest.{IsNoLater, IsLowest}
-use Rattle.compact_form.proofs.Numbers.{one_condition, same_fault}
+use Rattle.compact_form.specs.Numbered.{one_condition}
+use Rattle.compact_form.proofs.Numbers.{same_fault}
 use Rattle.compact_form.proofs.Lowest.{one_failed, one_number}
+use Rattle.compact_form.specs.Faults.{failed_of}
 use Rattle.verifier_core.proofs.Verdicts.{one_opening}
 
 -- ---- the place of a condition
@@ -207,8 +209,8 @@ module _ (content : List ℕ) where
 pub one_token_fault : (token : Token) (rules : Rules) (f g : Fault) → IsLowest (TokenFails token rules) f → IsLowest (TokenFails token rules) g → f ≡ g
 one_token_fault token rules f g l m =
     let one = one_failed (TokenFails token rules) f g l m in
-    let at_g = subst (λ (c : Condition). Suits [] (kind_of c) g.place) one.0 (token_place [] token rules m.failed g.place m.fails) in
-    let places : f.place ≡ g.place = one_place [] (kind_of l.failed) f.place g.place (token_place [] token rules l.failed f.place l.fails) at_g one.1.0 one.1.1 in
+    let at_g = subst (λ (c : Condition). Suits [] (kind_of c) g.place) one.0 (token_place [] token rules (failed_of g) g.place m.fails) in
+    let places : f.place ≡ g.place = one_place [] (kind_of (failed_of f)) f.place g.place (token_place [] token rules (failed_of f) f.place l.fails) at_g one.1.0 one.1.1 in
     same_fault f g (one_number (TokenFails token rules) f g l m) places
 
 module _ (content : List ℕ) (policy : Policy) (now : ℕ) where
@@ -220,13 +222,13 @@ module _ (content : List ℕ) (policy : Policy) (now : ℕ) where
   place_of c place (of_holder token marked hash there opens has h) = holder_place content token.parts (strip marked) hash policy now c place h
 
   pub accepted_not_refused : (marked : Marked) (fault : Fault) → IsAccepted content policy now marked → IsLowest (Fails content policy now) fault → ⊥
-  accepted_not_refused marked fault accepted refused = accepted.passes refused.failed fault.place refused.fails
+  accepted_not_refused marked fault accepted refused = accepted.passes (failed_of fault) fault.place refused.fails
 
   pub one_lowest : (f g : Fault) → IsLowest (Fails content policy now) f → IsLowest (Fails content policy now) g → f ≡ g
   one_lowest f g l m =
       let one = one_failed (Fails content policy now) f g l m in
-      let at_g = subst (λ (c : Condition). Suits content (kind_of c) g.place) one.0 (place_of m.failed g.place m.fails) in
-      let places : f.place ≡ g.place = one_place content (kind_of l.failed) f.place g.place (place_of l.failed f.place l.fails) at_g one.1.0 one.1.1 in
+      let at_g = subst (λ (c : Condition). Suits content (kind_of c) g.place) one.0 (place_of (failed_of g) g.place m.fails) in
+      let places : f.place ≡ g.place = one_place content (kind_of (failed_of f)) f.place g.place (place_of (failed_of f) f.place l.fails) at_g one.1.0 one.1.1 in
       same_fault f g (one_number (Fails content policy now) f g l m) places
 
   pub one_accepted : (m n : Marked) → IsAccepted content policy now m → IsAccepted content policy now n → m ≡ n

@@ -1,7 +1,7 @@
 -- Two serializations of one token are judged alike.
 use Rattle.std.proofs.Common.{◌≡◌, ℕ, false, List, refl, subst}
 use Rattle.compact_form.specs.declared.condition.Condition.{Condition}
-use Rattle.compact_form.specs.Faults.{fault_at, unplaced}
+use Rattle.compact_form.specs.Faults.{fault_at, unplaced, failed_of}
 use Rattle.compact_form.specs.declared.fault.Fault.{Fault}
 use Rattle.compact_form.specs.declared.fault.Place.{Place}
 use Rattle.compact_form.specs.Lowest.{IsLowest}
@@ -37,9 +37,7 @@ module _ (text other : List ℕ) (token : Token) (policy : Policy) (now : ℕ) (
 
   lowest : (fault : Fault) → IsLowest (Fails text policy now) fault → IsLowest (Fails other policy now) fault
   lowest fault is = record {
-    failed = is.failed;
-    number_is = is.number_is;
-    fails = fails text other token policy now here there is.failed fault.place is.fails;
+    fails = fails text other token policy now here there (failed_of fault) fault.place is.fails;
     lowest = λ c place h. is.lowest c place (fails other text token policy now there here c place h);
   }
 

@@ -3,7 +3,7 @@ use Rattle.std.proofs.Common.{◌≡◌, ℕ, ◌<◌, ◌≤◌, ◌-◌, ◌^�
 use Rattle.claim_tree.specs.Tree.{Tree}
 use Rattle.sd_outside.specs.Limits.{count_max}
 use Rattle.compact_form.specs.declared.fault.Fault.{Fault}
-use Rattle.compact_form.specs.Faults.{fault_at, unplaced}
+use Rattle.compact_form.specs.Faults.{fault_at, unplaced, failed_of}
 use Rattle.compact_form.specs.declared.fault.Place.{Place}
 use Rattle.compact_form.specs.declared.fault.Place.TheVariants.{Nowhere, At, Json}
 use Rattle.compact_form.specs.declared.parts.JwtParts.{JwtParts}
@@ -29,7 +29,7 @@ use Rattle.verifier_core.specs.Verdict.{TokenFails, ClaimFails, MissingFails, Ho
 use Rattle.verifier_core.specs.Check.{IsUncounted, ShownFails}
 use Rattle.verifier_core.specs.declared.policy.Policy.{Policy}
 use Rattle.compact_form.specs.Lowest.{IsNoLater, IsLowest, NoneFails}
-use Rattle.compact_form.proofs.Numbers.{one_condition, same_fault}
+use Rattle.compact_form.proofs.Numbers.{fault_is}
 use Rattle.verifier_core.proofs.TokenConditions.{token_numbers}
 use Rattle.verifier_core.proofs.ClaimSteps.{claim_numbers}
 use Rattle.verifier_core.proofs.CheckSteps.{one_content}
@@ -50,36 +50,26 @@ no_later Nowhere = tt
 no_later (At i) = omega arith
 no_later (Json j) = tt
 
-pub file_condition : (content : List ℕ) (fault : Fault) → file.TextFails content fault → (c : Condition) × (fault.number ≡ number_of c)
-file_condition content fault (file.too_long e h) = (Condition.TooLong, ap (λ (x : Fault). x.number) e)
-file_condition content fault (file.form place e h) = (Condition.Form, ap (λ (x : Fault). x.number) e)
-file_condition content fault (file.too_much token e h much) = (Condition.TooMuch, ap (λ (x : Fault). x.number) e)
-
 -- a file that is no token
 pub file_lowest : (content : List ℕ) (policy : Policy) (now : ℕ) (fault : Fault) → file.IsTextRefused content fault → IsLowest (Fails content policy now) fault
-file_lowest content policy now fault refused =
-    let c = file_condition content fault refused.applies in
-    record {
-      failed = c.0;
-      number_is = c.1;
-      fails = of_file (subst (file.TextFails content) (same_fault fault (fault_at c.0 fault.place) c.1 refl) refused.applies);
-      lowest = λ other place h. go c.0 c.1 other place h;
-    }
+file_lowest content policy now fault refused = record {
+  fails = of_file (subst (file.TextFails content) (fault_is fault) refused.applies);
+  lowest = λ other place h. go other place h;
+}
   where
-    go : (c : Condition) → fault.number ≡ number_of c → (other : Condition) (place : Place) → Fails content policy now other place
-        → (number_of c < number_of other) ⊎ ((other ≡ c) × IsNoLater fault.place place)
-    go c is other place (of_missing token there h) = absurd (tokens.not_both content token fault there refused)
-    go c is other place (of_token token there h) = absurd (tokens.not_both content token fault there refused)
-    go c is other place (of_claims token marked there opens h) = absurd (tokens.not_both content token fault there refused)
-    go c is other place (of_holder token marked hash there opens has h) = absurd (tokens.not_both content token fault there refused)
-    go c is other place (of_file h) = placed (below_or_at fault.number (number_of other) (refused.lowest (fault_at other place) h))
+    go : (other : Condition) (place : Place) → Fails content policy now other place → (fault.number < number_of other) ⊎ ((other ≡ failed_of fault) × IsNoLater fault.place place)
+    go other place (of_missing token there h) = absurd (tokens.not_both content token fault there refused)
+    go other place (of_token token there h) = absurd (tokens.not_both content token fault there refused)
+    go other place (of_claims token marked there opens h) = absurd (tokens.not_both content token fault there refused)
+    go other place (of_holder token marked hash there opens has h) = absurd (tokens.not_both content token fault there refused)
+    go other place (of_file h) = placed (below_or_at fault.number (number_of other) (refused.lowest (fault_at other place) h))
       where
-        placed : (fault.number < number_of other) ⊎ (fault.number ≡ number_of other) → (number_of c < number_of other) ⊎ ((other ≡ c) × IsNoLater fault.place place)
-        placed (inl less) = inl (omega (arith, less, is))
+        placed : (fault.number < number_of other) ⊎ (fault.number ≡ number_of other) → (fault.number < number_of other) ⊎ ((other ≡ failed_of fault) × IsNoLater fault.place place)
+        placed (inl less) = inl less
         placed (inr same) =
             let twin : file.IsTextRefused content (fault_at other place) = record { applies = h; lowest = λ o k. let l = refused.lowest o k in omega (arith, l, same) } in
             let one : fault ≡ fault_at other place = tokens.one_refusal content fault (fault_at other place) refused twin in
-            inr (one_condition other c (sym same ∙ is), subst (λ (x : Fault). IsNoLater fault.place x.place) one (no_later fault.place))
+            inr (ap failed_of (sym one), subst (λ (x : Fault). IsNoLater fault.place x.place) one (no_later fault.place))
 
 -- a condition on the key binding token has a number from 27 to 38
 holder_numbers : (parts : Parts) (payload : Tree) (hash : HashAlg) (policy : Policy) (now : ℕ) (c : Condition) (place : Place) → HolderFails parts payload hash policy now c place → 26 < number_of c
@@ -100,20 +90,20 @@ module _ (parts : Parts) (payload : Tree) (hash : HashAlg) (policy : Policy) (no
 
   -- claims that are refused
   pub claims_shown : (fault : Fault) → IsLowest (ClaimFails payload policy now) fault → IsLowest (ShownFails parts payload hash policy now) fault
-  claims_shown fault l = record { failed = l.failed; number_is = l.number_is; fails = inl l.fails; lowest = λ other place h. go other place h }
+  claims_shown fault l = record { fails = inl l.fails; lowest = λ other place h. go other place h }
     where
-      go : (other : Condition) (place : Place) → ShownFails parts payload hash policy now other place → (number_of l.failed < number_of other) ⊎ ((other ≡ l.failed) × IsNoLater fault.place place)
+      go : (other : Condition) (place : Place) → ShownFails parts payload hash policy now other place → (fault.number < number_of other) ⊎ ((other ≡ failed_of fault) × IsNoLater fault.place place)
       go other place (inl h) = l.lowest other place h
       go other place (inr h) =
-          let low = claim_numbers payload policy now l.failed fault.place l.fails in
+          let low = claim_numbers payload policy now (failed_of fault) fault.place l.fails in
           let high = holder_numbers parts payload hash policy now other place h in
-          inl (omega (arith, low.1, high))
+          inl (omega (arith, low.1, high, fault.of_condition.1))
 
   -- a key binding token that is refused
   pub holder_shown : NoneFails (ClaimFails payload policy now) → (fault : Fault) → IsLowest (HolderFails parts payload hash policy now) fault → IsLowest (ShownFails parts payload hash policy now) fault
-  holder_shown none fault l = record { failed = l.failed; number_is = l.number_is; fails = inr l.fails; lowest = λ other place h. go other place h }
+  holder_shown none fault l = record { fails = inr l.fails; lowest = λ other place h. go other place h }
     where
-      go : (other : Condition) (place : Place) → ShownFails parts payload hash policy now other place → (number_of l.failed < number_of other) ⊎ ((other ≡ l.failed) × IsNoLater fault.place place)
+      go : (other : Condition) (place : Place) → ShownFails parts payload hash policy now other place → (fault.number < number_of other) ⊎ ((other ≡ failed_of fault) × IsNoLater fault.place place)
       go other place (inl h) = absurd (none other place h)
       go other place (inr h) = l.lowest other place h
 
@@ -121,8 +111,6 @@ module _ (parts : Parts) (payload : Tree) (hash : HashAlg) (policy : Policy) (no
   pub holder_lowest : (binding : BindingPolicy) (token : JwtParts) → policy.binding ≡ Some binding → parts.binding ≡ Some token → (fault : Fault)
       → IsLowest (BindingFails (judged token payload binding policy.skew hash (hashed parts) now)) fault → IsLowest (HolderFails parts payload hash policy now) fault
   holder_lowest binding token asked sent fault l = record {
-    failed = l.failed;
-    number_is = l.number_is;
     fails = record { binding = binding; asked = asked; token = token; sent = sent; fails = l.fails };
     lowest = λ other place h. l.lowest other place (same_fails binding token asked sent other place h);
   }
@@ -147,7 +135,7 @@ one_hash token a b (body, is_body, named) (other, is_other, also) =
 module _ (content : List ℕ) (policy : Policy) (now : ℕ) (token : Token) (is : IsToken content token) where
   -- a key binding token that is asked for and missing
   pub missing_lowest : IsBindingMissing policy token.parts → IsLowest (Fails content policy now) (unplaced Condition.BindingMissing)
-  missing_lowest missing = record { failed = Condition.BindingMissing; number_is = refl; fails = of_missing token is (refl, (refl, missing)); lowest = λ other place h. go other place h }
+  missing_lowest missing = record { fails = of_missing token is (refl, (refl, missing)); lowest = λ other place h. go other place h }
     where
       go : (other : Condition) (place : Place) → Fails content policy now other place → (4 < number_of other) ⊎ ((other ≡ Condition.BindingMissing) × Unit {0})
       go other place (of_file h) = absurd (is.passes (fault_at other place) h)
@@ -172,20 +160,20 @@ module _ (content : List ℕ) (policy : Policy) (now : ℕ) (token : Token) (is 
 
     -- a token that is refused
     pub token_lowest : (fault : Fault) → IsLowest (TokenFails token (rules_of policy)) fault → IsLowest (Fails content policy now) fault
-    token_lowest fault l = record { failed = l.failed; number_is = l.number_is; fails = of_token token is l.fails; lowest = λ other place h. go other place h }
+    token_lowest fault l = record { fails = of_token token is l.fails; lowest = λ other place h. go other place h }
       where
-        go : (other : Condition) (place : Place) → Fails content policy now other place → (number_of l.failed < number_of other) ⊎ ((other ≡ l.failed) × IsNoLater fault.place place)
+        go : (other : Condition) (place : Place) → Fails content policy now other place → (fault.number < number_of other) ⊎ ((other ≡ failed_of fault) × IsNoLater fault.place place)
         go other place (of_file h) = absurd (is.passes (fault_at other place) h)
         go other place (of_missing t there h) = absurd (not_missing t there other place h)
         go other place (of_token t there h) = l.lowest other place (subst (λ (x : Token). TokenFails x (rules_of policy) other place) (tokens.one content t token there is) h)
         go other place (of_claims t marked there opens h) =
-            let low = token_numbers token (rules_of policy) l.failed fault.place l.fails in
+            let low = token_numbers token (rules_of policy) (failed_of fault) fault.place l.fails in
             let high = claim_numbers (strip marked) policy now other place h in
-            inl (omega (arith, low.1, high.0))
+            inl (omega (arith, low.1, high.0, fault.of_condition.1))
         go other place (of_holder t marked hash there opens has h) =
-            let low = token_numbers token (rules_of policy) l.failed fault.place l.fails in
+            let low = token_numbers token (rules_of policy) (failed_of fault) fault.place l.fails in
             let high = holder_numbers t.parts (strip marked) hash policy now other place h in
-            inl (omega (arith, low.1, high))
+            inl (omega (arith, low.1, high, fault.of_condition.1))
 
     module _ (marked : Marked) (checked : IsChecked token (rules_of policy) marked) where
       no_token_fault : (t : Token) → IsToken content t → (c : Condition) (place : Place) → TokenFails t (rules_of policy) c place → ⊥
@@ -206,13 +194,13 @@ module _ (content : List ℕ) (policy : Policy) (now : ℕ) (token : Token) (is 
 
         -- what is shown is refused
         pub shown_lowest : (fault : Fault) → IsLowest (ShownFails token.parts (strip marked) hash policy now) fault → IsLowest (Fails content policy now) fault
-        shown_lowest fault l = record { failed = l.failed; number_is = l.number_is; fails = failing l.failed fault.place l.fails; lowest = λ other place h. go other place h }
+        shown_lowest fault l = record { fails = failing (failed_of fault) fault.place l.fails; lowest = λ other place h. go other place h }
           where
             failing : (c : Condition) (place : Place) → ShownFails token.parts (strip marked) hash policy now c place → Fails content policy now c place
             failing c place (inl h) = of_claims token marked is checked.opens h
             failing c place (inr h) = of_holder token marked hash is checked.opens has h
 
-            go : (other : Condition) (place : Place) → Fails content policy now other place → (number_of l.failed < number_of other) ⊎ ((other ≡ l.failed) × IsNoLater fault.place place)
+            go : (other : Condition) (place : Place) → Fails content policy now other place → (fault.number < number_of other) ⊎ ((other ≡ failed_of fault) × IsNoLater fault.place place)
             go other place (of_file h) = absurd (is.passes (fault_at other place) h)
             go other place (of_missing t there h) = absurd (not_missing t there other place h)
             go other place (of_token t there h) = absurd (no_token_fault t there other place h)

@@ -1,13 +1,14 @@
 -- What a policy file of version 1 says, that of version 2 with the same members says.
 use Rattle.std.proofs.Common.{◌≡◌, ◌≢◌, ◌⊎◌, inl, inr, ⊎_elim, ◌≤◌, pos, List, [], ◌∷◌, length, Bool, true, false, not, cond, bytes_eq, Option, Some, None, codes, refl, sym, ap, subst, ◌∙◌, arith}
 use Rattle.std.specs.List.{list_any}
+use Rattle.std.proofs.lemmas.Bool.{or_left, or_right}
 use Rattle.sd_outside.specs.Limits.{age_max, binding_text_max, file_max, skew_max}
 use Rattle.claim_tree.specs.Tree.{Text, leaf, whole, array, object, Tree, no_elements, element, Members, no_members, member, members_len, names, member_named}
 use Rattle.claim_tree.specs.Lists.{In}
 use Rattle.claim_tree.specs.FileForms.{IsText, IsTexts, IsWholeUpTo, text_elements, Says, MaySay, SaysOr, found, is_known, has_unknown}
 use Rattle.claim_tree.specs.declared.file_fault.Field.TheVariants.{Version, Iss, Binding}
 use Rattle.claim_tree.proofs.FileVerdicts as verdicts
-use Rattle.claim_tree.proofs.Lists.{bytes_same, bytes_refl, or_left, or_right, list_any-In}
+use Rattle.claim_tree.proofs.Lists.{bytes_same, bytes_refl, list_any-In}
 use Rattle.hmac_sign.specs.Keys.{IsKeySet}
 use Rattle.key_binding.specs.ShortText.{IsShortText}
 use Rattle.key_binding.specs.declared.policy.BindingPolicy.{BindingPolicy}

@@ -1,5 +1,5 @@
 // What the disclosures of a token give.
-ghost use Rattle.std.specs.Prelude.{◌≡◌, ◌≤◌, ◌<◌, ◌^◌, length, IfOk, IfErr, OnOk};
+ghost use Rattle.std.specs.Prelude.{◌≡◌, ◌<◌, ◌^◌, length, IfOk, IfErr, OnOk};
 ghost use Rattle.std.specs.List.{AllZip};
 ghost use Rattle.rebuild_core.specs.Answer.{ValuesShallow};
 ghost use Rattle.disclosure.specs.DisclosureRefusals.{IsDisclosureRefused};

@@ -3,7 +3,6 @@ ghost use Rattle.std.specs.Prelude.{◌≡◌, Some, IfErr, IfSome, IfNone, OnOk
 ghost use Rattle.std.specs.Option.{option_copied};
 ghost use Rattle.compact_form.specs.Views.{jwt_of};
 ghost use Rattle.hmac_sign.specs.Algs.{alg_of_text};
-ghost use Rattle.jws_part.specs.Header.{IsHeader};
 ghost use Rattle.verifier_core.specs.Verdict.{key_for as key_for_of, IsAlgRefused, IsTypeRefused};
 ghost use Rattle.verifier_core.specs.Check.{OnFault, TestTells, IsSigned, IsSignedFault};
 ghost use Rattle.compact_form.specs.Faults.{unplaced};

@@ -1,7 +1,7 @@
 // The policy of a verifier, and the file that says it.
 ghost use Rattle.std.specs.Prelude.{◌≡◌, [], ◌∷◌, codes, IfOk, IfErr};
 ghost use Rattle.sd_outside.specs.Limits.{skew_max};
-ghost use Rattle.claim_tree.specs.FileForms.{IsText, IsTexts, IsWholeUpTo, Says, SaysOr, required, optional, found};
+ghost use Rattle.claim_tree.specs.FileForms.{IsTexts, IsWholeUpTo, Says, SaysOr, required, optional, found};
 ghost use Rattle.claim_tree.specs.FileRefusals.{IsMemberRefused};
 ghost use Rattle.claim_tree.specs.declared.file_fault.Field.TheVariants.{Algs, Require, Skew};
 ghost use Rattle.hmac_sign.specs.Keys.{IsKeySet};

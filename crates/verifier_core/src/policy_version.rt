@@ -1,5 +1,5 @@
 // What the version of a policy file decides: in which form it names issuers and audiences.
-ghost use Rattle.std.specs.Prelude.{◌≡◌, ◌↔◌, [], ◌∷◌, ℕ, List, codes, IfOk, IfErr, IfSome, IfNone, IsTrue};
+ghost use Rattle.std.specs.Prelude.{◌≡◌, ◌↔◌, [], ◌∷◌, List, codes, IfOk, IfErr, IfSome, IfNone, IsTrue};
 ghost use Rattle.claim_tree.specs.Tree.{Text, member_named};
 ghost use Rattle.claim_tree.specs.FileForms.{HasValue, Says, MaySay, SaysOr, optional, found};
 ghost use Rattle.claim_tree.specs.FileRefusals.{IsMemberRefused};

@@ -1,12 +1,13 @@
 -- What the tests of values tell.
 use Rattle.std.specs.Prelude.{◌↔◌, IsTrue, not, bytes_eq}
 use Rattle.std.proofs.Math.Seq.{take-suc}
-use Rattle.std.proofs.Common.{◌≡◌, ◌++◌, ◌⊎◌, inl, inr, take, true, false, ℕ, ◌+◌, ◌<◌, List, [], ◌∷◌, length, get_or, Some, add-one, refl, sym, ap, subst, ◌∙◌, arith}
+use Rattle.std.proofs.Common.{◌≡◌, ◌++◌, ◌⊎◌, inl, inr, take, true, false, ℕ, ◌+◌, ◌<◌, List, [], ◌∷◌, length, get_or, Some, add-one, refl, sym, ap, subst, ◌∙◌}
+use Rattle.std.proofs.lemmas.Bool.{true_from_ne_false}
 use Rattle.claim_tree.specs.Tree.{Text, Tree}
 use Rattle.claim_tree.specs.Lists.{In}
 use Rattle.claim_tree.specs.Path.{tree_at}
 use Rattle.claim_tree.specs.View.{tree_of}
-use Rattle.claim_tree.proofs.Lists.{At-In, At-get_or, In-append, bytes_same, bytes_refl, true_unless_false}
+use Rattle.claim_tree.proofs.Lists.{At-In, At-get_or, In-append, bytes_same, bytes_refl}
 use Rattle.wallet_core.specs.Meets.{HasValues}
 use Rattle.wallet_core.specs.declared.query.Equal.{Equal}
 
@@ -37,7 +38,7 @@ values_more payload equals k one within is before here other among =
 -- ---- names
 
 pub named_same : (a b : Text) → false ≡ not (bytes_eq a b) → a ≡ b
-named_same a b is = bytes_same a b (true_unless_false (bytes_eq a b) (λ e. let clash : false ≡ true = is ∙ ap not e in cc clash))
+named_same a b is = bytes_same a b (true_from_ne_false (bytes_eq a b) (λ e. let clash : false ≡ true = is ∙ ap not e in cc clash))
 
 pub named_other : (a b : Text) → true ≡ not (bytes_eq a b) → a ≡ b → ⊥
 named_other a b is same = let clash : true ≡ false = is ∙ ap not (bytes_refl a b same) in cc clash

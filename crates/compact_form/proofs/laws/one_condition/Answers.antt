@@ -1,6 +1,6 @@
-use Rattle.compact_form.proofs.Numbers.{one_condition, fault_is}
-use Rattle.compact_form.specs.Numbered.{numbered}
+use Rattle.compact_form.specs.Numbered.{one_condition}
+use Rattle.compact_form.proofs.Numbers.{fault_is}
 use Rattle.compact_form.proofs.laws.one_condition.Goals as goal
 
 pub returns : goal.returns
-returns c = record { one = one_condition; found = numbered; fault = fault_is }
+returns c = record { one = one_condition; fault = fault_is }

@@ -1,4 +1,4 @@
-use Rattle.std.proofs.Common.{◌≡◌, ℕ, List, [], ◌++◌, sym, subst, ◌∙◌, append-nil}
+use Rattle.std.proofs.Common.{ℕ, List, [], sym, subst, ◌∙◌, append-nil}
 use Rattle.std.specs.Io.KnownBytes.{Appends}
 use Rattle.cli_parts.specs.Lines.{line}
 use Rattle.sd_outside.specs.Causes.{AppendsPrefix}

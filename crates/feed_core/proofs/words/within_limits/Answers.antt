@@ -1,4 +1,4 @@
-use Rattle.std.proofs.Common.{◌≡◌, arith}
+use Rattle.std.proofs.Common.{arith}
 use Rattle.std.proofs.lemmas.Fmt.{decimal_injective}
 use Rattle.feed_core.proofs.words.within_limits.Goals as goal
 use Rattle.feed_core.proofs.words.within_limits.Goals.{then-most-eq0-via-then-most-eq0, then-most-eq0-via-else-most-eq0+then-most-gt-MOST_MAX}

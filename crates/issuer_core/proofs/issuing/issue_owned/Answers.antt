@@ -4,13 +4,13 @@ use Rattle.std.specs.Set.{distinct_count}
 use Rattle.sd_outside.specs.Limits.{count_max}
 use Rattle.marked_tree.specs.Paths.{same_path}
 use Rattle.claim_tree.specs.View.{tree_of}
+use Rattle.claim_tree.proofs.Counting.{not_below}
 use Rattle.issuer_core.specs.Decoys.{decoy_paths}
 use Rattle.issuer_core.specs.declared.errors.IssueError.TheVariants.{TooManyHidden, TooManyDecoys}
 use Rattle.issuer_core.specs.Order.{order_of}
 use Rattle.issuer_core.specs.Seed.{maker_of}
 use Rattle.issuer_core.specs.Written.{header_of}
 use Rattle.issuer_core.proofs.FromLaid.{order_refused, finished_issued, finished_laid, unfinished_refused, no_clash, laid_words, body_object}
-use Rattle.issuer_core.proofs.Judged.{not_more}
 use Rattle.issuer_core.proofs.issuing.issue_owned.Goals as goal
 
 pub returns-in-Err-clause-refused : goal.returns-in-Err-clause-refused
@@ -60,10 +60,10 @@ returns-clause-refused g c =
     c.issue_laid.ensures.unfinished
 
 pub lay_order-requires-clause-few : goal.lay_order-requires-clause-few
-lay_order-requires-clause-few g c = not_more count_max (distinct_count same_path c.args.order.hide) (c.in_default.ensures.passes TooManyHidden)
+lay_order-requires-clause-few g c = not_below (distinct_count same_path c.args.order.hide) count_max (c.in_default.ensures.passes TooManyHidden)
 
 pub lay_order-requires-clause-decoys : goal.lay_order-requires-clause-decoys
-lay_order-requires-clause-decoys g c = not_more count_max (length (decoy_paths c.args.order.decoys)) (c.in_default.ensures.passes TooManyDecoys)
+lay_order-requires-clause-decoys g c = not_below (length (decoy_paths c.args.order.decoys)) count_max (c.in_default.ensures.passes TooManyDecoys)
 
 pub issue_laid-requires : goal.issue_laid-requires
 issue_laid-requires g c =

@@ -25,7 +25,7 @@ returns-clause-laid c =
     let salts = c.in_ok-salts.salts in
     let long = c.in_ok-salts.ensures.count in
     let hidden : c.in_ok-claims.hidden ≡ hidden_of o = c.in_ok-claims.ensures.count in
-    let decoys = c.count_decoys.ensures in
+    let decoys = c.decoy_count.ensures in
     let many : length salts ≡ hidden_of o + length (decoys_of o) = omega (arith, long, hidden, decoys) in
     let marked : marked_of c.in_ok-claims.claims ≡ order.marked_claims o = c.in_ok-claims.ensures.marked in
     IfOk-weaker c.lay_salted.result _ _

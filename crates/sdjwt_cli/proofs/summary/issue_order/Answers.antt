@@ -1,4 +1,4 @@
-use Rattle.std.proofs.Common.{IfErr, ap, sym, subst, arith}
+use Rattle.std.proofs.Common.{IfErr, ap, subst, arith}
 use Rattle.claim_tree.specs.Tree.{depth}
 use Rattle.issuer_core.specs.Order.{Order}
 use Rattle.hmac_sign.specs.Hmac.{AlgKey}

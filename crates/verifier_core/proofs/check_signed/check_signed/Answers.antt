@@ -1,4 +1,4 @@
-use Rattle.std.proofs.Common.{true, false, Err, refl, sym, ap, subst, ◌∙◌}
+use Rattle.std.proofs.Common.{Err, refl, sym, ap, subst, ◌∙◌}
 use Rattle.std.proofs.lemmas.Bool.{false≢true}
 use Rattle.std.specs.Option.{option_copied}
 use Rattle.verifier_core.specs.Verdict.{IsAlgRefused, IsTypeRefused}

@@ -1,4 +1,4 @@
-use Rattle.std.proofs.Common.{true, false, refl, sym, subst}
+use Rattle.std.proofs.Common.{refl, sym, subst}
 use Rattle.std.proofs.lemmas.Bool.{false≢true}
 use Rattle.claim_tree.specs.View.{tree_of}
 use Rattle.compact_form.specs.declared.condition.Condition.{Condition}

@@ -1,6 +1,7 @@
 use Rattle.holder_core.specs.Present.{held_rules}
 use Rattle.verifier_core.specs.Check.{OnFault}
 use Rattle.compact_form.specs.Lowest.{IsLowest}
+use Rattle.compact_form.specs.Faults.{failed_of}
 use Rattle.verifier_core.specs.Verdict.{TokenFails}
 use Rattle.std.proofs.Common.{subst}
 use Rattle.wallet_core.proofs.answering.open_held.Goals as goal
@@ -18,7 +19,7 @@ pub returns-in-Err-Fault-clause-none : goal.returns-in-Err-Fault-clause-none
 returns-in-Err-Fault-clause-none c marked checked =
     let rules = held_rules c.args.keys.now in
     let low = subst (λ e. OnFault e (IsLowest (TokenFails c.args.token.now rules))) c.in-Err-Fault.field-0-is (c.in-Err-Fault.ensures.refused c.args.token.now rules c.in-Ok.ensures.content) in
-    checked.passes low.failed c.in-Err-Fault.field-0-0.place low.fails
+    checked.passes (failed_of c.in-Err-Fault.field-0-0) c.in-Err-Fault.field-0-0.place low.fails
 
 pub returns-in-Err-Fault-clause-within : goal.returns-in-Err-Fault-clause-within
 returns-in-Err-Fault-clause-within c = c.open.ensures.within c.args.token.now (held_rules c.args.keys.now) c.in-Ok.ensures.content

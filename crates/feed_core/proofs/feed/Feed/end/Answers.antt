@@ -1,5 +1,5 @@
 use Rattle.feed_core.proofs.Fronts.{at_err, front_none}
-use Rattle.feed_core.proofs.Endings.{ToldLast, ended_front, ended_all}
+use Rattle.feed_core.proofs.Endings.{ended_front, ended_all}
 use Rattle.feed_core.specs.Feed.{FeedState}
 use Rattle.feed_core.proofs.feed.Feed.end.Goals as goal
 

@@ -1,4 +1,4 @@
-use Rattle.std.proofs.Common.{◌≡◌, sym, ◌∙◌}
+use Rattle.std.proofs.Common.{sym, ◌∙◌}
 use Rattle.feed_core.proofs.Endings.{taken_none, ok_holds, kept_line}
 use Rattle.feed_core.proofs.feed.Feed.take.Goals as goal
 
