@@ -8,7 +8,7 @@ use Rattle.claim_tree.specs.View.{tree_of}
 use Rattle.claim_tree.specs.ListViews.{members_of}
 use Rattle.claim_tree.proofs.Walks.{Named}
 use Rattle.compact_form.specs.Lowest.{NoneApplies}
-use Rattle.digest_index.proofs.Places.{bytes_eq-flip}
+use Rattle.digest_index.proofs.Positions.{bytes_eq-flip}
 use Rattle.marked_tree.specs.Paths.{Path, same_path}
 use Rattle.issuer_core.specs.declared.errors.IssueError.TheVariants.{TooManyHidden, TooManyDecoys}
 use Rattle.issuer_core.specs.Decoys.{decoys_of}

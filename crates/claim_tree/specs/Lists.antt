@@ -1,6 +1,5 @@
 -- Elements of a list and their positions, counted from 0.
 use Rattle.std.specs.Prelude.{◌≡◌, ℕ, zero, suc, ◌<◌, List, [], ◌∷◌, ◌⊎◌}
-use Rattle.claim_tree.specs.Tree.{Text}
 
 -- the element at position i is x
 abbrev pub StandsAt : {X : Type 0} → List X → ℕ → X → Type 0
@@ -17,15 +16,15 @@ abbrev pub In : {X : Type 0} → X → List X → Type 0
 In x [] = ⊥
 In x (y ∷ ys) = (x ≡ y) ⊎ In x ys
 
--- the text at a position equals an earlier one
-abbrev pub Repeats : List Text → ℕ → Type 0
-Repeats texts place = (text : Text) × StandsAt texts place text × (earlier : ℕ) × (earlier < place) × StandsAt texts earlier text
+-- the element at a position equals an earlier one
+abbrev pub Repeats : {X : Type 0} → List X → ℕ → Type 0
+Repeats {X} xs position = (x : X) × StandsAt xs position x × (earlier : ℕ) × (earlier < position) × StandsAt xs earlier x
 
 -- nothing fails, at any position
 abbrev pub AtNone : (ℕ → Type 0) → Type 0
-AtNone Fails = (place : ℕ) → Fails place → ⊥
+AtNone Fails = (position : ℕ) → Fails position → ⊥
 
 -- it fails at this position, and at no earlier one
-pub record IsLeast (Fails : ℕ → Type 0) (place : ℕ) : Type 0 where
-  pub fails : Fails place
-  pub first : (earlier : ℕ) → earlier < place → Fails earlier → ⊥
+pub record IsLeast (Fails : ℕ → Type 0) (position : ℕ) : Type 0 where
+  pub fails : Fails position
+  pub first : (earlier : ℕ) → earlier < position → Fails earlier → ⊥

@@ -230,7 +230,7 @@ impl TreeMap {
     {
         let members = self.members();
         match search(members, name) {
-            Ok(place) => Some(&members[place].1),
+            Ok(position) => Some(&members[position].1),
             Err(_) => None,
         }
     }
@@ -313,8 +313,8 @@ fn put(members: &mut Vec<(TextBox, Tree)>, name: TextBox, tree: Tree) -> Result<
     ensures err { OnErr result (members_of members.new.items ≡ members_of members.old.items) }
 {
     match search_from_end(members.as_slice(), name.as_str()) {
-        Ok(place) => members[place] = (name, tree),
-        Err(place) => members.insert(place, (name, tree))?,
+        Ok(position) => members[position] = (name, tree),
+        Err(position) => members.insert(position, (name, tree))?,
     }
     Ok(())
 }
@@ -328,8 +328,8 @@ fn take(members: &mut Vec<(TextBox, Tree)>, name: &str) -> Option<Tree>
     ensures ranged { MembersRanged (members_of members.new.items) }
 {
     match search(members.as_slice(), name) {
-        Ok(place) => {
-            let (_, tree) = members.remove(place);
+        Ok(position) => {
+            let (_, tree) = members.remove(position);
             Some(tree)
         }
         Err(_) => None,

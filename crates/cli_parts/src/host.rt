@@ -1,5 +1,5 @@
 // What a program takes from its host before it runs a command, and how it ends.
-ghost use Rattle.std.specs.Prelude.{◌≡◌, ◌≤◌};
+ghost use Rattle.std.specs.Prelude.{◌≡◌, ◌≢◌, ◌≤◌, IfErr};
 ghost use Rattle.cli_parts.specs.Endings.{EndsWith, ending_row};
 ghost use Rattle.cli_parts.specs.Lines.{line};
 ghost use Rattle.cli_parts.specs.Outside.{Tells, stream};
@@ -37,23 +37,30 @@ impl Ending {
     }
 }
 
-/// The words behind the program's name.
+/// The words behind the program's name. What they are is the host's to say.
 // Each is pushed, since `collect` first asks for room for all, and passes over a refusal.
-pub fn words(rt: &(impl Env + AllocGlobal)) -> Result<Vec<String>, Ending> {
-    let args = env::args(rt).map_err(|fault| match fault.kind() {
-        io::ErrorKind::InvalidData => Ending::Words,
-        _ => Ending::Memory,
-    })?;
+pub fn words(rt: &(impl Env + AllocGlobal)) -> Result<Vec<String>, Ending>
+    ensures cause { IfErr result (λ ending. ending ≢ Ending.Clock) }
+{
+    let args = match env::args(rt) {
+        Ok(args) => args,
+        Err(fault) if fault.kind() == io::ErrorKind::InvalidData => return Err(Ending::Words),
+        Err(_) => return Err(Ending::Memory),
+    };
     let mut words = Vec::new(rt.alloc());
     for word in args.skip(1) {
-        words.push(word).map_err(|_| Ending::Memory)?;
+        if words.push(word).is_err() {
+            return Err(Ending::Memory);
+        }
     }
     Ok(words)
 }
 
-/// Whole seconds since 1970, and 0 before.
+/// Whole seconds since 1970, and 0 before. What the clock says is the host's to say.
 // std tells a clock that stands before 1970 by `InvalidData`.
-pub fn seconds(rt: &impl Clock) -> Result<u64, Ending> {
+pub fn seconds(rt: &impl Clock) -> Result<u64, Ending>
+    ensures cause { IfErr result (λ ending. ending ≡ Ending.Clock) }
+{
     match SystemTime::now(rt) {
         Ok(now) => Ok(
             now.duration_since(UNIX_EPOCH)

@@ -4,7 +4,7 @@ use Rattle.std.specs.Prelude.{bytes_eq}
 use Rattle.std.specs.List.{IsDistinct, AllByRecursion}
 use Rattle.std.proofs.lemmas.Map.Keys.{IsDistinct-head, IsDistinct-tail, IsDistinct-cons}
 use Rattle.digest_index.specs.Index.{Text, position_or_end, interned}
-use Rattle.digest_index.proofs.Places.{bytes_eq-flip}
+use Rattle.digest_index.proofs.Positions.{bytes_eq-flip}
 
 -- a text that is there changes nothing
 pub interned-there : (t : Text) (xs : List Text) → position_or_end t xs < length xs → interned t xs ≡ xs

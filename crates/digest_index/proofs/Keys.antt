@@ -6,7 +6,7 @@ use Rattle.std.specs.Borrow.{Bor}
 use Rattle.std.proofs.lemmas.Bool.{cases_lt, lt-ltb, le-ltb}
 use Rattle.indexmap.specs.IndexSet.{insert_key}
 use Rattle.digest_index.specs.Index.{Text, position_of, position_or_end, interned}
-use Rattle.digest_index.proofs.Places.{place_or_end-within, place_of-there, place_of-new}
+use Rattle.digest_index.proofs.Positions.{position_or_end-within, position_of-there, position_of-new}
 use Rattle.digest_index.proofs.Interned.{IsDistinct-interned}
 
 abbrev pub Key : Type 0
@@ -27,21 +27,21 @@ length-texts : (ks : List Key) → length (texts ks) ≡ length ks
 length-texts [] = refl
 length-texts (k ∷ ks) = ap suc (length-texts ks)
 
-pub place_or_end-texts : (t : Text) (ks : List Key) → position_or_len (holds t) ks ≡ position_or_end t (texts ks)
-place_or_end-texts t [] = refl
-place_or_end-texts t (k ∷ ks) = go (holds t k) (place_or_end-texts t ks)
+pub position_or_end-texts : (t : Text) (ks : List Key) → position_or_len (holds t) ks ≡ position_or_end t (texts ks)
+position_or_end-texts t [] = refl
+position_or_end-texts t (k ∷ ks) = go (holds t k) (position_or_end-texts t ks)
   where
     go : (b : Bool) → position_or_len (holds t) ks ≡ position_or_end t (texts ks) → cond (not b) (1 + position_or_len (holds t) ks) 0 ≡ cond b 0 (suc (position_or_end t (texts ks)))
     go true ih = refl
     go false ih = omega (arith, ih)
 
-pub place_of-texts : (t : Text) (ks : List Key) → position (holds t) ks ≡ position_of t (texts ks)
-place_of-texts t ks = rw (place_or_end-texts t ks, ← length-texts ks) (go (cases_lt (position_or_end t (texts ks)) (length (texts ks))))
+pub position_of-texts : (t : Text) (ks : List Key) → position (holds t) ks ≡ position_of t (texts ks)
+position_of-texts t ks = rw (position_or_end-texts t ks, ← length-texts ks) (go (cases_lt (position_or_end t (texts ks)) (length (texts ks))))
   where
     go : (position_or_end t (texts ks) < length (texts ks)) ⊎ (length (texts ks) ≤ position_or_end t (texts ks))
         → cond (nat_lt (position_or_end t (texts ks)) (length (texts ks))) (Some (position_or_end t (texts ks))) None ≡ position_of t (texts ks)
-    go (inl w) = rw (lt-ltb (position_or_end t (texts ks)) (length (texts ks)) w) (sym (place_of-there t (texts ks) w))
-    go (inr w) = rw (le-ltb (position_or_end t (texts ks)) (length (texts ks)) w) (sym (place_of-new t (texts ks) (omega (arith, w, place_or_end-within t (texts ks)))))
+    go (inl w) = rw (lt-ltb (position_or_end t (texts ks)) (length (texts ks)) w) (sym (position_of-there t (texts ks) w))
+    go (inr w) = rw (le-ltb (position_or_end t (texts ks)) (length (texts ks)) w) (sym (position_of-new t (texts ks) (omega (arith, w, position_or_end-within t (texts ks)))))
 
 pub interned-texts : (key : Key) (ks : List Key) → texts (if list_any (same key) ks then ks else ks ++ key ∷ []) ≡ interned key.now (texts ks)
 interned-texts key [] = refl

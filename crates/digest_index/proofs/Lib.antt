@@ -1,4 +1,4 @@
-pub mod Places
+pub mod Positions
 pub mod Interned
 mod Keys
 mod Examples

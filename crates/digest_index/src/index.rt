@@ -61,7 +61,7 @@ impl<'a> DigestIndex<'a> {
     ///
     /// A text that is there takes no memory.
     pub fn intern(&mut self, text: &'a str, steps: &mut Steps) -> Result<usize, NoMemory>
-        ensures place { IfOk result (λ place. place ≡ position_or_end text.now self.old) }
+        ensures position { IfOk result (λ position. position ≡ position_or_end text.now self.old) }
         ensures ok { OnOk result (self.new ≡ interned text.now self.old) }
         ensures err { OnErr result (self.new ≡ self.old) }
         ensures only_new { OnErr result (position_of text.now self.old ≡ None) }
@@ -69,13 +69,13 @@ impl<'a> DigestIndex<'a> {
         ensures ticked { steps.new ≡ ticked steps.old }
     {
         steps.tick();
-        let (place, _) = self.texts.insert_full(text)?;
-        Ok(place)
+        let (position, _) = self.texts.insert_full(text)?;
+        Ok(position)
     }
 
     /// The position of a text, counted from 0, where it is there. It takes no memory.
     pub fn find(&self, text: &str, steps: &mut Steps) -> Option<usize>
-        ensures place { result ≡ position_of text.now self.now }
+        ensures position { result ≡ position_of text.now self.now }
         ensures distinct { IsDistinct bytes_eq self.now }
         ensures ticked { steps.new ≡ ticked steps.old }
     {

@@ -15,7 +15,7 @@ fn digits(alloc: Global, count: usize) -> Result<Vec<String>, Fail> {
 fn texts_are_numbered_by_first_sight(rt: HostRuntime) -> Result<(), Fail> {
     let mut index = DigestIndex::new(rt.alloc());
     let mut steps = Steps::new();
-    for (text, place, len) in [
+    for (text, position, len) in [
         ("jsu9yVulwQQlhFlM_3JlzMaSFzglhQG0DpfayQwLUK4", 0, 1),
         ("", 1, 2),
         ("jsu9yVulwQQlhFlM_3JlzMaSFzglhQG0DpfayQwLUK4", 0, 2),
@@ -28,8 +28,8 @@ fn texts_are_numbered_by_first_sight(rt: HostRuntime) -> Result<(), Fail> {
         ("Mo\u{308}bius", 7, 8),
         ("Möbius", 6, 8),
     ] {
-        assert_eq!(rt; index.intern(text, &mut steps)?, place);
-        assert_eq!(rt; index.find(text, &mut steps), Some(place));
+        assert_eq!(rt; index.intern(text, &mut steps)?, position);
+        assert_eq!(rt; index.find(text, &mut steps), Some(position));
         assert_eq!(rt; index.len(), len);
     }
     for text in ["Mobius", "M", " ", "jsu9"] {
@@ -41,7 +41,7 @@ fn texts_are_numbered_by_first_sight(rt: HostRuntime) -> Result<(), Fail> {
 }
 
 #[test]
-fn many_texts_keep_their_places(rt: HostRuntime) -> Result<(), Fail> {
+fn many_texts_keep_their_positions(rt: HostRuntime) -> Result<(), Fail> {
     let alloc = rt.alloc();
     let texts = digits(alloc, 1000)?;
     let mut index = DigestIndex::new(alloc);
@@ -58,7 +58,7 @@ fn many_texts_keep_their_places(rt: HostRuntime) -> Result<(), Fail> {
 }
 
 #[test]
-fn a_seed_changes_no_place(rt: HostRuntime) -> Result<(), Fail> {
+fn a_seed_changes_no_position(rt: HostRuntime) -> Result<(), Fail> {
     let alloc = rt.alloc();
     let texts = digits(alloc, 100)?;
     for seed in [0, 1, 0x8000_0000_0000_0000, 0xffff_ffff_ffff_ffff] {

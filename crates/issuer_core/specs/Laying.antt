@@ -19,13 +19,13 @@ use Rattle.issuer_core.specs.declared.laying.LaidNode.{LaidNode}
 
 -- ---- texts by their numbers
 
--- the text at a place, or an empty one
+-- the text at a position, or an empty one
 abbrev pub nth : List Text → ℕ → Text
 nth [] k = []
 nth (t ∷ ts) zero = t
 nth (t ∷ ts) (suc k) = nth ts k
 
--- the digest of the text at a place
+-- the digest of the text at a position
 abbrev pub digest_at : HashAlg → List Text → ℕ → Text
 digest_at hash texts k = digest_of hash (nth texts k)
 

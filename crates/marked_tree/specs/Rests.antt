@@ -52,7 +52,7 @@ pub record IsStart (depth : ℕ) (step : Text) (paths : List Path) (start : ℕ)
   pub before : Every (Compares Less depth step) (take start paths)
   pub behind : Every (Follows depth step) (drop start paths)
 
--- the paths with this step at the depth: so many, from the place `start` on
+-- the paths with this step at the depth: so many, from the position `start` on
 pub record IsRunOfPaths (depth : ℕ) (step : Text) (paths : List Path) (start count : ℕ) : Type 0 where
   pub within : start + count ≤ length paths
   pub before : Every (Compares Less depth step) (take start paths)

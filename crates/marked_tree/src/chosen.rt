@@ -68,8 +68,8 @@ impl ChosenSet {
         ensures has { OnOk result ((i : ℕ) → has_number self.new i ≡ (eqb i mark || has_number self.old i)) }
         ensures err { OnErr result (self.new ≡ self.old) }
     {
-        if let Err(place) = search_from_end(&self.marks, mark) {
-            self.marks.insert(place, mark)?;
+        if let Err(position) = search_from_end(&self.marks, mark) {
+            self.marks.insert(position, mark)?;
         }
         Ok(())
     }

@@ -209,8 +209,8 @@ impl MarkedMap {
     {
         let members = self.members();
         match search(members, name) {
-            Ok(place) => {
-                let (_, mark, tree) = &members[place];
+            Ok(position) => {
+                let (_, mark, tree) = &members[position];
                 Some((*mark, tree))
             }
             Err(_) => None,
@@ -361,8 +361,8 @@ fn set(
     ensures err { OnErr result (marked_members_of members.new.items ≡ marked_members_of members.old.items) }
 {
     match search_from_end(members.as_slice(), name.as_str()) {
-        Ok(place) => members[place] = (name, mark, tree),
-        Err(place) => members.insert(place, (name, mark, tree))?,
+        Ok(position) => members[position] = (name, mark, tree),
+        Err(position) => members.insert(position, (name, mark, tree))?,
     }
     Ok(())
 }
@@ -379,8 +379,8 @@ fn add(
     ensures ordered { MembersOrdered (strip_members (marked_members_of members.new.items)) }
     ensures err { OnErr result (marked_members_of members.new.items ≡ marked_members_of members.old.items) }
 {
-    if let Err(place) = search_from_end(members.as_slice(), name.as_str()) {
-        members.insert(place, (name, mark, tree))?;
+    if let Err(position) = search_from_end(members.as_slice(), name.as_str()) {
+        members.insert(position, (name, mark, tree))?;
     }
     Ok(())
 }

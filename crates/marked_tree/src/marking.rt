@@ -233,19 +233,19 @@ impl<'a> PathsBelow<'a> {
     }
 
     // Whether the path in front of the place, if there is one, comes before the step.
-    fn is_lower_before(&self, place: usize, step: &str) -> bool
-        requires { place ≤ length self.now.sorted.now }
-        ensures { IsTrue result → (d : Steps) → 0 < place → step_order (drop self.now.depth (slice_index_or self.now.sorted.now (place - 1) d)) step.now ≡ Less }
+    fn is_lower_before(&self, position: usize, step: &str) -> bool
+        requires { position ≤ length self.now.sorted.now }
+        ensures { IsTrue result → (d : Steps) → 0 < position → step_order (drop self.now.depth (slice_index_or self.now.sorted.now (position - 1) d)) step.now ≡ Less }
     {
-        place == 0 || compared(&self.sorted[place - 1], self.depth, step) == Ordering::Less
+        position == 0 || compared(&self.sorted[position - 1], self.depth, step) == Ordering::Less
     }
 
     // Whether there is a path at the place, and it comes before the step.
-    fn is_lower(&self, place: usize, step: &str) -> bool
-        ensures { IsFalse result → (d : Steps) → place < length self.now.sorted.now → step_order (drop self.now.depth (slice_index_or self.now.sorted.now place d)) step.now ≢ Less }
+    fn is_lower(&self, position: usize, step: &str) -> bool
+        ensures { IsFalse result → (d : Steps) → position < length self.now.sorted.now → step_order (drop self.now.depth (slice_index_or self.now.sorted.now position d)) step.now ≢ Less }
     {
-        place < self.sorted.len()
-            && compared(&self.sorted[place], self.depth, step) == Ordering::Less
+        position < self.sorted.len()
+            && compared(&self.sorted[position], self.depth, step) == Ordering::Less
     }
 
     // How many have the step, where none comes before it. Most often none or one, or else all.
@@ -271,13 +271,13 @@ impl<'a> PathsBelow<'a> {
     }
 
     // Whether there is a path at the place, and it has the step.
-    fn has_step(&self, place: usize, step: &str) -> bool
-        ensures there { IsTrue result → place < length self.now.sorted.now }
-        ensures has { IsTrue result → (d : Steps) → step_order (drop self.now.depth (slice_index_or self.now.sorted.now place d)) step.now ≡ Equal }
-        ensures differs { IsFalse result → (d : Steps) → place < length self.now.sorted.now → step_order (drop self.now.depth (slice_index_or self.now.sorted.now place d)) step.now ≢ Equal }
+    fn has_step(&self, position: usize, step: &str) -> bool
+        ensures there { IsTrue result → position < length self.now.sorted.now }
+        ensures has { IsTrue result → (d : Steps) → step_order (drop self.now.depth (slice_index_or self.now.sorted.now position d)) step.now ≡ Equal }
+        ensures differs { IsFalse result → (d : Steps) → position < length self.now.sorted.now → step_order (drop self.now.depth (slice_index_or self.now.sorted.now position d)) step.now ≢ Equal }
     {
-        place < self.sorted.len()
-            && compared(&self.sorted[place], self.depth, step) == Ordering::Equal
+        position < self.sorted.len()
+            && compared(&self.sorted[position], self.depth, step) == Ordering::Equal
     }
 
     // The next mark, where one of the paths ends at the place.

@@ -1,7 +1,7 @@
 -- The first four conditions, by numbers.
 use Rattle.std.proofs.Common.{◌≡◌, ℕ, suc, ◌<◌, List, [], ◌∷◌, ◌++◌, map, length, get_or, Bool, true, false, inl, inr, refl, sym, ap, ◌∙◌, subst, arith}
 use Rattle.claim_tree.specs.Tree.{Text, Tree, IsOrdered}
-use Rattle.claim_tree.specs.Lists.{StandsAt, In, AtNone, IsLeast}
+use Rattle.claim_tree.specs.Lists.{StandsAt, In, AtNone, IsLeast, Repeats}
 use Rattle.digest_sites.specs.Sites.{sites}
 use Rattle.digest_sites.specs.Given.{Given}
 use Rattle.rebuild_core.specs.Payload.{without_alg}
@@ -14,7 +14,7 @@ use Rattle.claim_tree.proofs.Lists.{At-same, At-map, In-At, one_place}
 use Rattle.rebuild_core.specs.DigestNumbers.{numbers, all_interned, row_texts, AllAt, IsFlatList, IsNumbered}
 use Rattle.rebuild_core.specs.Answer.{IsPayload}
 use Rattle.rebuild_core.specs.declared.rows.Row.{Row}
-use Rattle.rebuild_core.specs.Graph.{roots_in, rows_in, is_met_in, flagged_rows, Recurs, IsClear}
+use Rattle.rebuild_core.specs.Graph.{roots_in, rows_in, is_met_in, flagged_rows, IsClear}
 use Rattle.rebuild_core.proofs.Chains.{reached_all}
 use Rattle.rebuild_core.proofs.RowFacts.{all_row_texts, rows_looked_up}
 use Rattle.rebuild_core.proofs.Transfer.{length-all_at, graph_of_flat, IsGraph, Grows, grows_texts, numbers_stand, all_at, all_below, Apart, Reaches, met_stand, digest_recurs, recurs_digest, unreferenced_clear, clear_unreferenced}
@@ -51,8 +51,8 @@ length-items (m ∷ ms) = ap suc (length-items ms)
 -- what the numbers, the flags and the met list say of conditions 16 and 17
 pub record IsJudged (p : Tree) (g : List Given) (ix : List Text) (fs : List Bool) (ks : List ℕ) : Type 0 where
   pub below : (k : ℕ) → In k ks → k < length ix
-  pub repeated : (q : ℕ) → IsLeast (Recurs ks) q → IsLeast (RepeatedDigest p g) q
-  pub apart : AtNone (Recurs ks) → AtNone (RepeatedDigest p g)
+  pub repeated : (q : ℕ) → IsLeast (Repeats ks) q → IsLeast (RepeatedDigest p g) q
+  pub apart : AtNone (Repeats ks) → AtNone (RepeatedDigest p g)
   pub unreferenced : (i : ℕ) → IsLeast (IsClear fs) i → IsLeast (Unreferenced p g) i
   pub referenced : AtNone (IsClear fs) → AtNone (Unreferenced p g)
 
@@ -86,7 +86,7 @@ judged t g o is ix ks ends w n many flags fs few reaches same =
     graph_judged (without_alg t) g ix roots rows (graph_of_flat t g o is ix ks ends w) fs few reaches
 
 pub referenced_once : (p : Tree) (g : List Given) (ix : List Text) (fs : List Bool) (ks : List ℕ) → IsJudged p g ix fs ks → AtNone (RepeatedDisclosure g) → AtNone (Misused p g)
-    → AtNone (Recurs ks) → AtNone (IsClear fs) → IsReferencedOnce p g
+    → AtNone (Repeats ks) → AtNone (IsClear fs) → IsReferencedOnce p g
 referenced_once p g ix fs ks j a b c d = record { no_repeated_disclosure = a; no_misuse = b; no_repeated_digest = j.apart c; no_unreferenced = j.referenced d }
 
 -- the look-ups for the disclosures and those for the rows

@@ -1,9 +1,9 @@
 -- The met list by numbers.
 use Rattle.std.proofs.Common.{◌≡◌, ℕ, zero, suc, ◌+◌, ◌<◌, ◌≤◌, List, [], ◌∷◌, ◌++◌, length, get_or, set, drop, Bool, true, false, cond, ⊎_elim, refl, sym, ap, ap₂, ◌∙◌, subst, arith, length-set, append_assoc}
-use Rattle.claim_tree.specs.Lists.{StandsAt, IsLeast}
+use Rattle.claim_tree.specs.Lists.{StandsAt, IsLeast, Repeats}
 use Rattle.claim_tree.proofs.Counting.{before_or_at}
 use Rattle.claim_tree.proofs.Lists.{At-same, At-below}
-use Rattle.rebuild_core.specs.Graph.{flagged_rows, Recurs}
+use Rattle.rebuild_core.specs.Graph.{flagged_rows}
 use Rattle.rebuild_core.proofs.Worklist.{set_from, set_keeps, set_here, same_default, not_both, in_range}
 
 -- row j is taken where it is flagged
@@ -35,25 +35,25 @@ pub record IsSeen (xs : List ℕ) (n q : ℕ) (seen : List Bool) : Type 0 where
   pub len : length seen ≡ n
   pub from : (k : ℕ) → get_or seen k false ≡ true → (j : ℕ) × (j < q) × StandsAt xs j k
   pub whole : (j k : ℕ) → j < q → StandsAt xs j k → get_or seen k false ≡ true
-  pub none : (r : ℕ) → r < q → Recurs xs r → ⊥
+  pub none : (r : ℕ) → r < q → Repeats xs r → ⊥
 
 pub seen_step : (xs : List ℕ) (n q k : ℕ) (seen : List Bool) → IsSeen xs n q seen → StandsAt xs q k → get_or seen k true ≡ false → IsSeen xs n (q + 1) (set seen k true)
 seen_step xs n q k seen s a e = record {
   len = length-set seen k true ∙ s.len;
   from = λ i h. ⊎_elim (λ l. let w = s.from i l in (w.0, omega (arith, w.1), w.2)) (λ r. (q, omega arith, subst (λ z. StandsAt xs q z) (sym r) a)) (set_from seen k i h);
   whole = λ j i l b. ⊎_elim (λ m. set_keeps seen k i (s.whole j i m b)) (λ m. let same : i ≡ k = At-same xs q i k (subst (λ z. StandsAt xs z i) m b) a in rw same (set_here seen k (in_range seen k e))) (before_or_at j q l);
-  none = λ r l b. ⊎_elim (λ m. s.none r m b) (λ m. fresh (subst (λ z. Recurs xs z) m b)) (before_or_at r q l);
+  none = λ r l b. ⊎_elim (λ m. s.none r m b) (λ m. fresh (subst (λ z. Repeats xs z) m b)) (before_or_at r q l);
 }
   where
-    fresh : Recurs xs q → ⊥
+    fresh : Repeats xs q → ⊥
     fresh r =
         let same : r.0 ≡ k = At-same xs q r.0 k r.1 a in
         not_both seen k e (s.whole r.2 k r.3 (subst (λ z. StandsAt xs r.2 z) same r.4))
 
-pub seen_found : (xs : List ℕ) (n q k : ℕ) (seen : List Bool) → IsSeen xs n q seen → StandsAt xs q k → k < n → get_or seen k true ≡ true → IsLeast (Recurs xs) q
+pub seen_found : (xs : List ℕ) (n q k : ℕ) (seen : List Bool) → IsSeen xs n q seen → StandsAt xs q k → k < n → get_or seen k true ≡ true → IsLeast (Repeats xs) q
 seen_found xs n q k seen s a l e =
     let w = s.from k (same_default seen k (omega (arith, l, s.len)) e) in
     record { fails = (k, a, w.0, w.1, w.2); first = s.none }
 
-pub seen_end : (xs : List ℕ) (n q : ℕ) (seen : List Bool) → IsSeen xs n q seen → length xs ≤ q → (r : ℕ) → Recurs xs r → ⊥
+pub seen_end : (xs : List ℕ) (n q : ℕ) (seen : List Bool) → IsSeen xs n q seen → length xs ≤ q → (r : ℕ) → Repeats xs r → ⊥
 seen_end xs n q seen s l r b = s.none r (omega (arith, l, At-below xs r b.0 b.1)) b

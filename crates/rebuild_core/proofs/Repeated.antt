@@ -4,7 +4,7 @@ use Rattle.claim_tree.specs.Tree.{Text}
 use Rattle.claim_tree.specs.Lists.{StandsAt, In, Repeats}
 use Rattle.claim_tree.proofs.Lists.{bytes_same, bytes_refl, At-In, At-below, At-same, At-map, take-At}
 use Rattle.digest_index.specs.Index.{position_or_end, interned}
-use Rattle.digest_index.proofs.Places.{place_or_end-within}
+use Rattle.digest_index.proofs.Positions.{position_or_end-within}
 use Rattle.digest_index.proofs.Interned.{interned-new}
 use Rattle.digest_sites.specs.Given.{Given}
 use Rattle.digest_sites.specs.GivenView.{given_of}
@@ -65,7 +65,7 @@ repeats_new ds i d a h r =
 pub grows_new : (ds : List Text) (i : ℕ) (d : Text) → StandsAt ds i d → i ≤ position_or_end d (take i ds) → interned d (take i ds) ≡ take (suc i) ds
 grows_new ds i d a h =
     let n : length (take i ds) ≡ i = length-take-le i ds (omega (arith, At-below ds i d a)) in
-    let e : position_or_end d (take i ds) ≡ length (take i ds) = omega (arith, h, n, place_or_end-within d (take i ds)) in
+    let e : position_or_end d (take i ds) ≡ length (take i ds) = omega (arith, h, n, position_or_end-within d (take i ds)) in
     interned-new d (take i ds) e ∙ sym (take-one ds i d a)
 
 -- ---- the digests of disclosures

@@ -16,8 +16,8 @@ use Rattle.rebuild_core.specs.Conditions.{RepeatedDigest, Unreferenced}
 use Rattle.claim_tree.proofs.Lists.{bytes_same, bytes_refl, At-left, At-same, At-below, At-In, At-get, one_place}
 use Rattle.digest_index.specs.Index.{position_or_end, interned}
 use Rattle.rebuild_core.specs.DigestNumbers.{numbers, all_interned, AllAt, IsFlatList}
-use Rattle.rebuild_core.specs.Graph.{pieces_at, Ascends, roots_in, rows_in, any_row, is_met_in, flagged_rows, Recurs}
-use Rattle.digest_index.proofs.Places.{place_or_end-within}
+use Rattle.rebuild_core.specs.Graph.{pieces_at, Ascends, roots_in, rows_in, any_row, is_met_in, flagged_rows}
+use Rattle.digest_index.proofs.Positions.{position_or_end-within}
 use Rattle.digest_index.proofs.Interned.{interned-new, interned-there}
 use Rattle.rebuild_core.specs.Payload.{without_alg}
 use Rattle.rebuild_core.specs.Answer.{IsPayload}
@@ -67,7 +67,7 @@ grows_text ix d = go (cases_lt (position_or_end d ix) (length ix))
     go : (position_or_end d ix < length ix) ⊎ (length ix ≤ position_or_end d ix) → Grows ix (interned d ix) × StandsAt (interned d ix) (position_or_end d ix) d
     go (inl l) = rw (interned-there d ix l) (grows_refl ix, place_there ix d l)
     go (inr l) =
-        let e : position_or_end d ix ≡ length ix = omega (arith, l, place_or_end-within d ix) in
+        let e : position_or_end d ix ≡ length ix = omega (arith, l, position_or_end-within d ix) in
         subst (λ z. Grows ix z × StandsAt z (position_or_end d ix) d) (sym (interned-new d ix e))
         (record { keeps = λ k c h. At-left ix (d ∷ []) k c h; apart = λ a. apart_last ix d a l }, rw e (last_at ix d))
 
@@ -112,13 +112,13 @@ all_below ix [] ds a j m = elim m [ ]
 all_below ix (k ∷ ks) [] a j m = elim a [ ]
 
 -- a number repeats where its text does
-pub recurs_repeats : (ix : List Text) (ks : List ℕ) (ds : List Text) → AllAt ix ks ds → (q : ℕ) → Recurs ks q → Repeats ds q
+pub recurs_repeats : (ix : List Text) (ks : List ℕ) (ds : List Text) → AllAt ix ks ds → (q : ℕ) → Repeats ks q → Repeats ds q
 recurs_repeats ix ks ds a q r =
     let w = all_at ix ks ds q r.0 a r.1 in
     let v = all_at ix ks ds r.2 r.0 a r.4 in
     (w.0, w.1, r.2, r.3, subst (λ z. StandsAt ds r.2 z) (At-same ix r.0 v.0 w.0 v.2 w.2) v.1)
 
-pub repeats_recurs : (ix : List Text) (ks : List ℕ) (ds : List Text) → Apart ix → AllAt ix ks ds → (q : ℕ) → Repeats ds q → Recurs ks q
+pub repeats_recurs : (ix : List Text) (ks : List ℕ) (ds : List Text) → Apart ix → AllAt ix ks ds → (q : ℕ) → Repeats ds q → Repeats ks q
 repeats_recurs ix ks ds ok a q r =
     let w = all_of ix ks ds q r.0 a r.1 in
     let v = all_of ix ks ds r.2 r.0 a r.4 in
@@ -333,10 +333,10 @@ module _ (p : Tree) (g : List Given) (ix : List Text) (roots : List ℕ) (rows :
       (subst (λ z. AllAt ix roots z) (sym (digests_payload payload (sites p))) w.roots_stand)
       (rows_met ix (is_reached p g) 0 fs rows g w.table (flags_say (is_reached p g) fs g e flag_is)))
 
-  pub digest_recurs : (q : ℕ) → RepeatedDigest p g q → Recurs (roots ++ flagged_rows fs rows) q
+  pub digest_recurs : (q : ℕ) → RepeatedDigest p g q → Repeats (roots ++ flagged_rows fs rows) q
   digest_recurs q r = repeats_recurs ix (roots ++ flagged_rows fs rows) (owned_digests (met p g)) w.apart met_stand q r
 
-  pub recurs_digest : (q : ℕ) → Recurs (roots ++ flagged_rows fs rows) q → RepeatedDigest p g q
+  pub recurs_digest : (q : ℕ) → Repeats (roots ++ flagged_rows fs rows) q → RepeatedDigest p g q
   recurs_digest q r = recurs_repeats ix (roots ++ flagged_rows fs rows) (owned_digests (met p g)) met_stand q r
 
   pub unreferenced_clear : (k : ℕ) → Unreferenced p g k → (k < length g) × (get_or fs k false ≡ false)

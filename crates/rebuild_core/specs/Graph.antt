@@ -3,12 +3,12 @@ use Rattle.std.specs.Prelude.{◌≡◌, ℕ, zero, suc, ◌+◌, ◌-◌, ◌<�
 use Rattle.claim_tree.specs.Lists.{StandsAt}
 use Rattle.marked_tree.specs.Numbers.{has}
 
--- a list of numbers cut at these places, the first piece from a start
+-- a list of numbers cut at these positions, the first piece from a start
 abbrev pub pieces_at : ℕ → List ℕ → List ℕ → List (List ℕ)
 pieces_at start [] ks = []
 pieces_at start (end ∷ ends) ks = take (end - start) (drop start ks) ∷ pieces_at end ends ks
 
--- the places ascend, up to a length
+-- the positions ascend, up to a length
 abbrev pub Ascends : ℕ → List ℕ → ℕ → Type 0
 Ascends start [] len = start ≤ len
 Ascends start (end ∷ ends) len = (start ≤ end) × Ascends end ends len
@@ -51,15 +51,11 @@ flagged_rows [] rows = []
 flagged_rows (f ∷ flags) [] = []
 flagged_rows (f ∷ flags) (row ∷ rows) = (if f then row else []) ++ flagged_rows flags rows
 
--- the number at a place equals an earlier one
-abbrev pub Recurs : List ℕ → ℕ → Type 0
-Recurs ks place = (k : ℕ) × StandsAt ks place k × (earlier : ℕ) × (earlier < place) × StandsAt ks earlier k
-
 -- how many are set
 abbrev pub trues : List Bool → ℕ
 trues [] = 0
 trues (f ∷ flags) = (if f then 1 else 0) + trues flags
 
--- the flag at a place is there and not set
+-- the flag at a position is there and not set
 abbrev pub IsClear : List Bool → ℕ → Type 0
 IsClear flags i = (i < length flags) × (slice_index_or flags i false ≡ false)

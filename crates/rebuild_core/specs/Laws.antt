@@ -62,12 +62,12 @@ IsPick given [] (x ∷ xs) = ⊥
 IsPick given (i ∷ order) [] = ⊥
 IsPick given (i ∷ order) (x ∷ xs) = StandsAt given i x × IsPick given order xs
 
--- the place of a number in the list, where the first has the place k
+-- the position of a number in the list, where the first has the position k
 abbrev pub position_from : ℕ → List ℕ → ℕ → Option ℕ
 position_from k [] i = None
 position_from k (j ∷ order) i = if eqb j i then Some k else position_from (suc k) order i
 
--- each mark replaced by its place in the list
+-- each mark replaced by its position in the list
 abbrev pub renumbered : List ℕ → Marked → Marked
 renumbered order m = remark (position_from 0 order) m
 
@@ -83,7 +83,7 @@ Presentation =
     → (order : List ℕ) → Enumerates choice order → (picked : List Given) → IsPick given order picked
     → IsPresentation p given picked choice order
 
--- in rising order the places are the ranks
+-- in rising order the positions are the ranks
 abbrev pub Ranks : Type 0
 Ranks = (m : Marked) (choice : ℕ → Bool) (order : List ℕ) → Enumerates choice order → IsRising order → renumbered order (prune m choice) ≡ ranked (prune m choice) choice
 

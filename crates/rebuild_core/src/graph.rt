@@ -1,7 +1,7 @@
 // Which disclosures are reached, and the met list, over numbers.
 ghost use Rattle.std.specs.Prelude.{◌≡◌, ◌<◌, ◌≤◌, ◌++◌, ◌∷◌, [], ℕ, suc, true, false, length, IfOk, OnOk, slice_index_or, replicate, MatchOption};
-ghost use Rattle.claim_tree.specs.Lists.{In, AtNone, IsLeast};
-ghost use Rattle.rebuild_core.specs.Graph.{pieces_at, Ascends, roots_in, rows_in, is_met_in, mark_one, mark_all, flagged_rows, Recurs, IsClear};
+ghost use Rattle.claim_tree.specs.Lists.{In, AtNone, IsLeast, Repeats};
+ghost use Rattle.rebuild_core.specs.Graph.{pieces_at, Ascends, roots_in, rows_in, is_met_in, mark_one, mark_all, flagged_rows, IsClear};
 
 use sd_outside::NoMemory;
 use std::alloc::Global;
@@ -131,7 +131,7 @@ pub(crate) fn first_recurring(
     numbers: &[usize],
 ) -> Result<Option<usize>, NoMemory>
     requires { (k : ℕ) → In k numbers.now → k < count }
-    ensures { IfOk result (λ r. MatchOption r (AtNone (Recurs numbers.now)) (λ place. IsLeast (Recurs numbers.now) place)) }
+    ensures { IfOk result (λ r. MatchOption r (AtNone (Repeats numbers.now)) (λ place. IsLeast (Repeats numbers.now) place)) }
 {
     let mut seen = cleared(alloc, count)?;
     for (place, k) in numbers.iter().enumerate() {

@@ -1,6 +1,6 @@
 // Whether each disclosure stands at one place.
 ghost use Rattle.std.specs.Prelude.{◌≡◌, ◌<◌, ◌≤◌, ℕ, suc, map, length, IfOk, OnOk, IfErr, MatchOption};
-ghost use Rattle.claim_tree.specs.Lists.{In, AtNone, IsLeast};
+ghost use Rattle.claim_tree.specs.Lists.{In, AtNone, IsLeast, Repeats};
 ghost use Rattle.claim_tree.specs.Tree.{depth};
 ghost use Rattle.claim_tree.specs.View.{tree_of};
 ghost use Rattle.rebuild_core.specs.Answer.{IsPayload, ValuesShallow, IsProcessRefused};
@@ -8,7 +8,7 @@ ghost use Rattle.rebuild_core.specs.Conditions.{RepeatedDisclosure, Misused};
 ghost use Rattle.rebuild_core.specs.Soundness.{IsReferencedOnce};
 ghost use Rattle.rebuild_core.specs.Reached.{given_digests};
 ghost use Rattle.rebuild_core.specs.LookUps.{look_ups, counted, RoseWithin};
-ghost use Rattle.rebuild_core.specs.Graph.{Ascends, Recurs};
+ghost use Rattle.rebuild_core.specs.Graph.{Ascends};
 ghost use Rattle.rebuild_core.specs.Cursor.{NumbersTell};
 ghost use Rattle.rebuild_core.specs.Met.{met_in, IsGivenRefusal};
 ghost use Rattle.rebuild_core.specs.DigestNumbers.{numbers, all_interned, row_texts, IsFlatList, IsNumbered};
@@ -150,7 +150,7 @@ fn first_met_twice(
     requires ascends { Ascends 0 graph.now.ends.items (length graph.now.numbers.items) }
     requires flags { length graph.now.ends.items ≡ suc (length flags.now) }
     requires below { (k : ℕ) → In k (met_in graph.now flags.now) → k < count }
-    ensures { IfOk result (λ r. MatchOption r (AtNone (Recurs (met_in graph.now flags.now))) (λ place. IsLeast (Recurs (met_in graph.now flags.now)) place)) }
+    ensures { IfOk result (λ r. MatchOption r (AtNone (Repeats (met_in graph.now flags.now))) (λ place. IsLeast (Repeats (met_in graph.now flags.now)) place)) }
 {
     let met = met_numbers(alloc, graph, flags)?;
     first_recurring(alloc, count, met.as_slice())

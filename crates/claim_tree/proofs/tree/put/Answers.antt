@@ -8,8 +8,8 @@ use Rattle.claim_tree.proofs.tree.put.Goals as goal
 
 pub returns-in-Ok-clause-ok : goal.returns-in-Ok-clause-ok
 returns-in-Ok-clause-ok c =
-    let place = rw (c.as_slice.ensures.value, c.as_str.ensures) at c.in-Ok.ensures.found in
-    set_at c.args.members.now.items c.args.name c.args.tree c.in-Ok.place c.requires.members place
+    let position = rw (c.as_slice.ensures.value, c.as_str.ensures) at c.in-Ok.ensures.found in
+    set_at c.args.members.now.items c.args.name c.args.tree c.in-Ok.position c.requires.members position
 
 pub returns-in-Ok-clause-ordered : goal.returns-in-Ok-clause-ordered
 returns-in-Ok-clause-ordered c =
@@ -22,7 +22,7 @@ returns-in-Ok-clause-ranged c =
 pub returns-in_ok-insert-in-Err-clause-ok : goal.returns-in_ok-insert-in-Err-clause-ok
 returns-in_ok-insert-in-Err-clause-ok c =
     let gap = rw (c.as_slice.ensures.value, c.as_str.ensures) at c.in-Err.ensures.absent in
-    ap members_of c.in_ok-insert-in-Err.ensures.items ∙ insert_at c.args.members.now.items c.args.name c.args.tree c.in-Err.place gap
+    ap members_of c.in_ok-insert-in-Err.ensures.items ∙ insert_at c.args.members.now.items c.args.name c.args.tree c.in-Err.position gap
 
 pub returns-in_ok-insert-in-Err-clause-ordered : goal.returns-in_ok-insert-in-Err-clause-ordered
 returns-in_ok-insert-in-Err-clause-ordered c =

@@ -8,14 +8,14 @@ use Rattle.claim_tree.proofs.tree.take.Goals as goal
 
 pub returns-in-Ok-clause-tree : goal.returns-in-Ok-clause-tree
 returns-in-Ok-clause-tree c =
-    let place = rw c.as_slice.ensures.value at c.in-Ok.ensures.found in
+    let position = rw c.as_slice.ensures.value at c.in-Ok.ensures.found in
     ap (λ m. Some (tree_of m.1)) c.remove-tree.ensures.value
-    ∙ sym (named_at c.args.members.now.items c.args.name.now c.in-Ok.place c.remove-tree.result c.requires.ordered place)
+    ∙ sym (named_at c.args.members.now.items c.args.name.now c.in-Ok.position c.remove-tree.result c.requires.ordered position)
 
 pub returns-in-Ok-clause-others : goal.returns-in-Ok-clause-others
 returns-in-Ok-clause-others c =
-    let place = rw c.as_slice.ensures.value at c.in-Ok.ensures.found in
-    ap members_of c.remove-tree.ensures.items ∙ remove_at c.args.members.now.items c.args.name.now c.in-Ok.place c.requires.ordered place
+    let position = rw c.as_slice.ensures.value at c.in-Ok.ensures.found in
+    ap members_of c.remove-tree.ensures.items ∙ remove_at c.args.members.now.items c.args.name.now c.in-Ok.position c.requires.ordered position
 
 pub returns-in-Ok-clause-ordered : goal.returns-in-Ok-clause-ordered
 returns-in-Ok-clause-ordered c =

@@ -13,7 +13,7 @@ insert-requires c =
 pub returns-in_ok-insert-clause-ok : goal.returns-in_ok-insert-clause-ok
 returns-in_ok-insert-clause-ok c =
     let gap = rw (c.as_slice.ensures.value, c.as_str.ensures) at c.in-Err.ensures.absent in
-    ap marked_members_of c.in_ok-insert.ensures.items ∙ put_gap c.args.members.now.items c.args.name c.args.mark c.args.tree c.in-Err.place gap
+    ap marked_members_of c.in_ok-insert.ensures.items ∙ put_gap c.args.members.now.items c.args.name c.args.mark c.args.tree c.in-Err.position gap
 
 pub returns-in_ok-insert-clause-ordered : goal.returns-in_ok-insert-clause-ordered
 returns-in_ok-insert-clause-ordered c =
@@ -23,5 +23,5 @@ returns-in_ok-insert-clause-ordered c =
 pub returns-in_default-clause-ok : goal.returns-in_default-clause-ok
 returns-in_default-clause-ok c =
     let ms = c.args.members.now.items in
-    let place = rw (c.as_slice.ensures.value, c.as_str.ensures) at c.in_default.ensures.found in
-    sym (put_there ms c.args.name c.args.mark c.args.tree c.in_default.field-0 (ascend (marked_members_of ms) c.requires.members) place)
+    let position = rw (c.as_slice.ensures.value, c.as_str.ensures) at c.in_default.ensures.found in
+    sym (put_there ms c.args.name c.args.mark c.args.tree c.in_default.field-0 (ascend (marked_members_of ms) c.requires.members) position)

@@ -9,8 +9,8 @@ use Rattle.marked_tree.proofs.marked.set.Goals as goal
 pub index_mut-requires : goal.index_mut-requires
 index_mut-requires c =
     let ms = c.args.members.now.items in
-    let place = rw (c.as_slice.ensures.value, c.as_str.ensures) at c.in-Ok.ensures.found in
-    omega (arith, At-below (names_of ms) c.in-Ok.place c.args.name place, length-names ms)
+    let position = rw (c.as_slice.ensures.value, c.as_str.ensures) at c.in-Ok.ensures.found in
+    omega (arith, At-below (names_of ms) c.in-Ok.position c.args.name position, length-names ms)
 
 pub insert-requires : goal.insert-requires
 insert-requires c =
@@ -20,8 +20,8 @@ insert-requires c =
 pub returns-in-Ok-clause-ok : goal.returns-in-Ok-clause-ok
 returns-in-Ok-clause-ok c =
     let ms = c.args.members.now.items in
-    let place = rw (c.as_slice.ensures.value, c.as_str.ensures) at c.in-Ok.ensures.found in
-    set_at ms c.args.name c.args.mark c.args.tree c.in-Ok.place (ascend (marked_members_of ms) c.requires.members) place
+    let position = rw (c.as_slice.ensures.value, c.as_str.ensures) at c.in-Ok.ensures.found in
+    set_at ms c.args.name c.args.mark c.args.tree c.in-Ok.position (ascend (marked_members_of ms) c.requires.members) position
 
 pub returns-in-Ok-clause-ordered : goal.returns-in-Ok-clause-ordered
 returns-in-Ok-clause-ordered c =
@@ -31,7 +31,7 @@ returns-in-Ok-clause-ordered c =
 pub returns-in_ok-insert-in-Err-clause-ok : goal.returns-in_ok-insert-in-Err-clause-ok
 returns-in_ok-insert-in-Err-clause-ok c =
     let gap = rw (c.as_slice.ensures.value, c.as_str.ensures) at c.in-Err.ensures.absent in
-    ap marked_members_of c.in_ok-insert-in-Err.ensures.items ∙ insert_at c.args.members.now.items c.args.name c.args.mark c.args.tree c.in-Err.place gap
+    ap marked_members_of c.in_ok-insert-in-Err.ensures.items ∙ insert_at c.args.members.now.items c.args.name c.args.mark c.args.tree c.in-Err.position gap
 
 pub returns-in_ok-insert-in-Err-clause-ordered : goal.returns-in_ok-insert-in-Err-clause-ordered
 returns-in_ok-insert-in-Err-clause-ordered c =

@@ -9,7 +9,7 @@ pub returns-then-k-i-clause-repeated : goal.returns-then-k-i-clause-repeated
 returns-then-k-i-clause-repeated c =
     let ds = given_digests c.args.given.now in
     let a = at_given c.items-item-items.result.now c.args.given.now c.loop-i.i c.item-item.result c.items-item-items.ensures c.loop-i-test.true c.item-item.is in
-    let at : c.in_ok-k.k ≡ position_or_end c.item-item.result.digest (take c.loop-i.i ds) = c.in_ok-k.ensures.place ∙ ap₂ position_or_end c.as_str.ensures c.loop-i.invariant.0 in
+    let at : c.in_ok-k.k ≡ position_or_end c.item-item.result.digest (take c.loop-i.i ds) = c.in_ok-k.ensures.position ∙ ap₂ position_or_end c.as_str.ensures c.loop-i.invariant.0 in
     record { fails = repeats_there ds c.loop-i.i c.item-item.result.digest a (omega (arith, at, c.if-k-i.true)); first = c.loop-i.invariant.1 }
 
 pub loop-i-preserved : goal.loop-i-preserved
@@ -17,7 +17,7 @@ loop-i-preserved c =
     let ds = given_digests c.args.given.now in
     let d = c.item-item.result.digest in
     let a = at_given c.items-item-items.result.now c.args.given.now c.loop-i.i c.item-item.result c.items-item-items.ensures c.loop-i-test.true c.item-item.is in
-    let at : c.in_ok-k.k ≡ position_or_end d (take c.loop-i.i ds) = c.in_ok-k.ensures.place ∙ ap₂ position_or_end c.as_str.ensures c.loop-i.invariant.0 in
+    let at : c.in_ok-k.k ≡ position_or_end d (take c.loop-i.i ds) = c.in_ok-k.ensures.position ∙ ap₂ position_or_end c.as_str.ensures c.loop-i.invariant.0 in
     let new : c.loop-i.i ≤ position_or_end d (take c.loop-i.i ds) = omega (arith, at, c.if-k-i.false) in (
       c.in_ok-k.ensures.ok ∙ (ap₂ interned c.as_str.ensures c.loop-i.invariant.0 ∙ (grows_new ds c.loop-i.i d a new ∙ ap (λ n. take n ds) (sym (add-one c.loop-i.i)))),
       below_more _ _ c.loop-i.invariant.1 (repeats_new ds c.loop-i.i d a new),

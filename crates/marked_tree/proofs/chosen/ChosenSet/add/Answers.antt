@@ -10,7 +10,7 @@ use Rattle.marked_tree.proofs.chosen.ChosenSet.add.Goals as goal
 inserted : (c : In_ok-insert) → c.insert.new.self.items ≡ insert_key nat_cmp c.self.inside.marks.items c.args.mark
 inserted c =
     let ns = c.self.inside.marks.items in
-    let i = c.in-Err.place in
+    let i = c.in-Err.position in
     let within = subst (λ (ms : List ℕ). IsSearchInRange (Err i) (length ms)) c.deref.ensures.value c.in-Err.ensures.bound in
     let found = subst (λ (ms : List ℕ). IsBinarySearchResult (λ (m : ℕ). nat_cmp m c.args.mark) ms (Err i)) c.deref.ensures.value c.in-Err.ensures.position in
     c.in_ok-insert.ensures.items ∙ put_at ns c.args.mark i (place_of ns c.args.mark i c.self.invariant within found)

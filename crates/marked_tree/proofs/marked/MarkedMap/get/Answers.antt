@@ -9,24 +9,24 @@ use Rattle.marked_tree.proofs.Names.{names_of, length-names, ascend}
 use Rattle.marked_tree.proofs.StepFacts.{named_at, named_gap}
 use Rattle.marked_tree.proofs.marked.MarkedMap.get.Goals as goal
 
-pub offset_bounds-members-place : goal.offset_bounds-members-place
-offset_bounds-members-place c =
+pub offset_bounds-members-position : goal.offset_bounds-members-position
+offset_bounds-members-position c =
     let ms = c.members-members.result.now in
-    let below = At-below (names_of ms) c.in-Ok.place c.args.name.now c.in-Ok.ensures.found in
+    let below = At-below (names_of ms) c.in-Ok.position c.args.name.now c.in-Ok.ensures.found in
     omega (arith, below, length-names ms, c.members-members.type_inv.1)
 
-pub bounds-members-place : goal.bounds-members-place
-bounds-members-place c =
+pub bounds-members-position : goal.bounds-members-position
+bounds-members-position c =
     let ms = c.members-members.result.now in
-    let below = At-below (names_of ms) c.in-Ok.place c.args.name.now c.in-Ok.ensures.found in
+    let below = At-below (names_of ms) c.in-Ok.position c.args.name.now c.in-Ok.ensures.found in
     omega (arith, below, length-names ms)
 
 pub returns-in-Ok : goal.returns-in-Ok
 returns-in-Ok c =
     let ms = c.members-members.result.now in
     let ordered = subst (λ es. MembersOrdered (strip_members es)) (sym c.members-members.ensures.value) c.members-members.ensures.ordered in
-    ap (λ (m : Entry). Some (m.1, marked_of m.2)) c.index-members-place.is
-    ∙ sym (named_at ms c.args.name.now c.in-Ok.place c.index-members-place.result (ascend (marked_members_of ms) ordered) c.in-Ok.ensures.found)
+    ap (λ (m : Entry). Some (m.1, marked_of m.2)) c.index-members-position.is
+    ∙ sym (named_at ms c.args.name.now c.in-Ok.position c.index-members-position.result (ascend (marked_members_of ms) ordered) c.in-Ok.ensures.found)
     ∙ ap (λ es. marked_member_named es c.args.name.now) c.members-members.ensures.value
 
 pub returns-in-Err : goal.returns-in-Err

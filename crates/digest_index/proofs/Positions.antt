@@ -15,18 +15,18 @@ bytes_eq-flip t u = (nat_list_eq_equiv).symm t u
 
 -- ---- the position, or the length
 
-pub place_or_end-within : (t : Text) (xs : List Text) → position_or_end t xs ≤ length xs
-place_or_end-within t [] = omega arith
-place_or_end-within t (x ∷ xs) = go (bytes_eq t x) (place_or_end-within t xs)
+pub position_or_end-within : (t : Text) (xs : List Text) → position_or_end t xs ≤ length xs
+position_or_end-within t [] = omega arith
+position_or_end-within t (x ∷ xs) = go (bytes_eq t x) (position_or_end-within t xs)
   where
     go : (b : Bool) → position_or_end t xs ≤ length xs → cond b 0 (suc (position_or_end t xs)) ≤ length (x ∷ xs)
     go true ih = omega arith
     go false ih = omega (arith, ih)
 
 -- a text that is there stands at its position
-pub slice_get-place_or_end : (t : Text) (xs : List Text) → position_or_end t xs < length xs → slice_get xs (position_or_end t xs) ≡ Some t
-slice_get-place_or_end t [] h = absurd (omega (arith, h))
-slice_get-place_or_end t (x ∷ xs) h = go (bytes_eq t x) refl h (slice_get-place_or_end t xs)
+pub slice_get-position_or_end : (t : Text) (xs : List Text) → position_or_end t xs < length xs → slice_get xs (position_or_end t xs) ≡ Some t
+slice_get-position_or_end t [] h = absurd (omega (arith, h))
+slice_get-position_or_end t (x ∷ xs) h = go (bytes_eq t x) refl h (slice_get-position_or_end t xs)
   where
     go : (b : Bool) → bytes_eq t x ≡ b → cond b 0 (suc (position_or_end t xs)) < length (x ∷ xs) → (position_or_end t xs < length xs → slice_get xs (position_or_end t xs) ≡ Some t)
         → slice_get (x ∷ xs) (cond b 0 (suc (position_or_end t xs))) ≡ Some t
@@ -34,9 +34,9 @@ slice_get-place_or_end t (x ∷ xs) h = go (bytes_eq t x) refl h (slice_get-plac
     go false e h ih = ih (omega (arith, h))
 
 -- and nowhere before it
-pub place_or_end-first : (t : Text) (xs : List Text) (i : ℕ) → slice_get xs i ≡ Some t → position_or_end t xs ≤ i
-place_or_end-first t [] i h = cc
-place_or_end-first t (x ∷ xs) i h = go (bytes_eq t x) refl i h (place_or_end-first t xs)
+pub position_or_end-first : (t : Text) (xs : List Text) (i : ℕ) → slice_get xs i ≡ Some t → position_or_end t xs ≤ i
+position_or_end-first t [] i h = cc
+position_or_end-first t (x ∷ xs) i h = go (bytes_eq t x) refl i h (position_or_end-first t xs)
   where
     go : (b : Bool) → bytes_eq t x ≡ b → (i : ℕ) → slice_get (x ∷ xs) i ≡ Some t → ((i : ℕ) → slice_get xs i ≡ Some t → position_or_end t xs ≤ i)
         → cond b 0 (suc (position_or_end t xs)) ≤ i
@@ -47,51 +47,51 @@ place_or_end-first t (x ∷ xs) i h = go (bytes_eq t x) refl i h (place_or_end-f
 -- the position is below the length exactly where the text is there
 pub is_there : (t : Text) (xs : List Text) → (position_or_end t xs < length xs) ↔ Contains xs t
 is_there t xs = (
-  λ h. (position_or_end t xs, h, get_or_from_slice_get xs (position_or_end t xs) t t (slice_get-place_or_end t xs h)),
-  λ c. let stands : slice_get xs c.0 ≡ Some t = slice_get-get_or xs c.0 t c.1 ∙ ap Some c.2 in omega (arith, place_or_end-first t xs c.0 stands, c.1),
+  λ h. (position_or_end t xs, h, get_or_from_slice_get xs (position_or_end t xs) t t (slice_get-position_or_end t xs h)),
+  λ c. let stands : slice_get xs c.0 ≡ Some t = slice_get-get_or xs c.0 t c.1 ∙ ap Some c.2 in omega (arith, position_or_end-first t xs c.0 stands, c.1),
 )
 
 -- ---- the position, where there is one
 
-pub place_of-there : (t : Text) (xs : List Text) → position_or_end t xs < length xs → position_of t xs ≡ Some (position_or_end t xs)
-place_of-there t [] h = absurd (omega (arith, h))
-place_of-there t (x ∷ xs) h = go (bytes_eq t x) h (place_of-there t xs)
+pub position_of-there : (t : Text) (xs : List Text) → position_or_end t xs < length xs → position_of t xs ≡ Some (position_or_end t xs)
+position_of-there t [] h = absurd (omega (arith, h))
+position_of-there t (x ∷ xs) h = go (bytes_eq t x) h (position_of-there t xs)
   where
     go : (b : Bool) → cond b 0 (suc (position_or_end t xs)) < length (x ∷ xs) → (position_or_end t xs < length xs → position_of t xs ≡ Some (position_or_end t xs))
         → cond b (Some 0) (option_map suc (position_of t xs)) ≡ Some (cond b 0 (suc (position_or_end t xs)))
     go true h ih = refl
     go false h ih = ap (option_map suc) (ih (omega (arith, h)))
 
-pub place_of-new : (t : Text) (xs : List Text) → position_or_end t xs ≡ length xs → position_of t xs ≡ None
-place_of-new t [] h = refl
-place_of-new t (x ∷ xs) h = go (bytes_eq t x) h (place_of-new t xs)
+pub position_of-new : (t : Text) (xs : List Text) → position_or_end t xs ≡ length xs → position_of t xs ≡ None
+position_of-new t [] h = refl
+position_of-new t (x ∷ xs) h = go (bytes_eq t x) h (position_of-new t xs)
   where
     go : (b : Bool) → cond b 0 (suc (position_or_end t xs)) ≡ length (x ∷ xs) → (position_or_end t xs ≡ length xs → position_of t xs ≡ None)
         → cond b (Some 0) (option_map suc (position_of t xs)) ≡ None
     go true h ih = absurd (omega (arith, h))
     go false h ih = ap (option_map suc) (ih (omega (arith, h)))
 
-pub place_of-Some : (t : Text) (xs : List Text) (i : ℕ) → position_of t xs ≡ Some i → position_or_end t xs ≡ i
-place_of-Some t xs i h = go (cases_lt (position_or_end t xs) (length xs))
+pub position_of-Some : (t : Text) (xs : List Text) (i : ℕ) → position_of t xs ≡ Some i → position_or_end t xs ≡ i
+position_of-Some t xs i h = go (cases_lt (position_or_end t xs) (length xs))
   where
     go : (position_or_end t xs < length xs) ⊎ (length xs ≤ position_or_end t xs) → position_or_end t xs ≡ i
-    go (inl w) = let e : Some (position_or_end t xs) ≡ Some i = sym (place_of-there t xs w) ∙ h in cc
-    go (inr w) = let e : None ≡ Some i = sym (place_of-new t xs (omega (arith, w, place_or_end-within t xs))) ∙ h in cc
+    go (inl w) = let e : Some (position_or_end t xs) ≡ Some i = sym (position_of-there t xs w) ∙ h in cc
+    go (inr w) = let e : None ≡ Some i = sym (position_of-new t xs (omega (arith, w, position_or_end-within t xs))) ∙ h in cc
 
-pub place_of-None : (t : Text) (xs : List Text) → position_of t xs ≡ None → position_or_end t xs ≡ length xs
-place_of-None t xs h = go (cases_lt (position_or_end t xs) (length xs))
+pub position_of-None : (t : Text) (xs : List Text) → position_of t xs ≡ None → position_or_end t xs ≡ length xs
+position_of-None t xs h = go (cases_lt (position_or_end t xs) (length xs))
   where
     go : (position_or_end t xs < length xs) ⊎ (length xs ≤ position_or_end t xs) → position_or_end t xs ≡ length xs
-    go (inl w) = let e : Some (position_or_end t xs) ≡ None = sym (place_of-there t xs w) ∙ h in cc
-    go (inr w) = omega (arith, w, place_or_end-within t xs)
+    go (inl w) = let e : Some (position_or_end t xs) ≡ None = sym (position_of-there t xs w) ∙ h in cc
+    go (inr w) = omega (arith, w, position_or_end-within t xs)
 
 -- the text stands at its position
-pub slice_get-place_of : (t : Text) (xs : List Text) (i : ℕ) → position_of t xs ≡ Some i → slice_get xs i ≡ Some t
-slice_get-place_of t xs i h = go (cases_lt (position_or_end t xs) (length xs))
+pub slice_get-position_of : (t : Text) (xs : List Text) (i : ℕ) → position_of t xs ≡ Some i → slice_get xs i ≡ Some t
+slice_get-position_of t xs i h = go (cases_lt (position_or_end t xs) (length xs))
   where
     go : (position_or_end t xs < length xs) ⊎ (length xs ≤ position_or_end t xs) → slice_get xs i ≡ Some t
-    go (inl w) = ap (slice_get xs) (sym (place_of-Some t xs i h)) ∙ slice_get-place_or_end t xs w
-    go (inr w) = let e : None ≡ Some i = sym (place_of-new t xs (omega (arith, w, place_or_end-within t xs))) ∙ h in cc
+    go (inl w) = ap (slice_get xs) (sym (position_of-Some t xs i h)) ∙ slice_get-position_or_end t xs w
+    go (inr w) = let e : None ≡ Some i = sym (position_of-new t xs (omega (arith, w, position_or_end-within t xs))) ∙ h in cc
 
 -- ---- distinct texts
 
@@ -101,9 +101,9 @@ each_at P (x ∷ xs) zero u all h = let same : x ≡ u = cc in subst P same all.
 each_at P (x ∷ xs) (suc i) u all h = each_at P xs i u all.1 h
 
 -- a text that stands at i has this position
-pub place_or_end-at : (t : Text) (xs : List Text) (i : ℕ) → IsDistinct bytes_eq xs → slice_get xs i ≡ Some t → position_or_end t xs ≡ i
-place_or_end-at t [] i d h = cc
-place_or_end-at t (x ∷ xs) zero d h = let same : t ≡ x = cc in rw ((bytes_eq-Decides t x).1 same) refl
-place_or_end-at t (x ∷ xs) (suc i) d h =
+pub position_or_end-at : (t : Text) (xs : List Text) (i : ℕ) → IsDistinct bytes_eq xs → slice_get xs i ≡ Some t → position_or_end t xs ≡ i
+position_or_end-at t [] i d h = cc
+position_or_end-at t (x ∷ xs) zero d h = let same : t ≡ x = cc in rw ((bytes_eq-Decides t x).1 same) refl
+position_or_end-at t (x ∷ xs) (suc i) d h =
     let apart : bytes_eq t x ≡ false = bytes_eq-flip t x ∙ each_at (λ y. bytes_eq x y ≡ false) xs i t (IsDistinct-head bytes_eq x xs d) h in
-    rw apart (ap suc (place_or_end-at t xs i (IsDistinct-tail bytes_eq x xs d) h))
+    rw apart (ap suc (position_or_end-at t xs i (IsDistinct-tail bytes_eq x xs d) h))
