@@ -1,33 +1,10 @@
--- The elements and members of a slice of marked trees, one by one.
+-- Two slices of marked trees, side by side.
 use Rattle.std.proofs.Common.{◌≡◌, ◌≢◌, ℕ, zero, suc, ◌<◌, ◌≤◌, List, [], ◌∷◌, length, get_or, drop, Bool, true, false, ◌&&◌, refl, sym, ap, subst, arith}
 use Rattle.std.specs.Prelude.{bytes_eq}
-use Rattle.claim_tree.specs.Nodes.{nodes, elements_nodes, members_nodes}
 use Rattle.marked_tree.specs.Marked.{MarkedElements, MarkedMembers, strip, strip_elements, strip_members}
 use Rattle.marked_tree.specs.View.{marked_of, marked_elements_of, marked_members_of}
 use Rattle.marked_tree.proofs.MarkedViews.{Element, Entry}
 use Rattle.audit_core.specs.SameMarked.{same_mark, same_marked, same_elements, same_members}
-
-element_there : (es : List Element) (n : ℕ) (d : Element) → n < length es → nodes (strip (marked_of (get_or es n d).1)) ≤ elements_nodes (strip_elements (marked_elements_of es))
-element_there [] n d within = absurd (omega arith)
-element_there (e ∷ es) zero d within = omega arith
-element_there (e ∷ es) (suc n) d within = let rest = element_there es n d (omega arith) in omega (arith, rest)
-
-member_there : (ms : List Entry) (n : ℕ) (d : Entry) → n < length ms → nodes (strip (marked_of (get_or ms n d).2)) ≤ members_nodes (strip_members (marked_members_of ms))
-member_there [] n d within = absurd (omega arith)
-member_there (m ∷ ms) zero d within = omega arith
-member_there (m ∷ ms) (suc n) d within = let rest = member_there ms n d (omega arith) in omega (arith, rest)
-
-pub element_nodes : (es : List Element) (n : ℕ) (e : Element) (us : MarkedElements) → n < length es → e ≡ get_or es n e → marked_elements_of es ≡ us → nodes (strip (marked_of e.1)) ≤ elements_nodes (strip_elements us)
-element_nodes es n e us within is all =
-    subst (λ vs. nodes (strip (marked_of e.1)) ≤ elements_nodes (strip_elements vs)) all
-    (subst (λ (d : Element). nodes (strip (marked_of d.1)) ≤ elements_nodes (strip_elements (marked_elements_of es))) (sym is) (element_there es n e within))
-
-pub member_nodes : (ms : List Entry) (n : ℕ) (m : Entry) (us : MarkedMembers) → n < length ms → m ≡ get_or ms n m → marked_members_of ms ≡ us → nodes (strip (marked_of m.2)) ≤ members_nodes (strip_members us)
-member_nodes ms n m us within is all =
-    subst (λ vs. nodes (strip (marked_of m.2)) ≤ members_nodes (strip_members vs)) all
-    (subst (λ (d : Entry). nodes (strip (marked_of d.2)) ≤ members_nodes (strip_members (marked_members_of ms))) (sym is) (member_there ms n m within))
-
--- ---- two slices side by side
 
 abbrev pub same_lists : List Element → List Element → ℕ → Bool
 same_lists es fs n = same_elements (marked_elements_of (drop n es)) (marked_elements_of (drop n fs))

@@ -23,6 +23,7 @@ fn left_of(tree: &Tree, left: usize) -> Option<usize>
 }
 
 #[cycle(counting)]
+#[tactic(auto, using(claim_tree::proofs::Walks::into_element))]
 fn left_of_elements(trees: &TreeList, left: usize) -> Option<usize>
     ensures { MatchOption result (left < elements_count trees.now) (λ rest. rest + elements_count trees.now ≡ left) }
 {
@@ -44,6 +45,7 @@ fn left_of_element(tree: &Tree, left: usize) -> Option<usize>
 }
 
 #[cycle(counting)]
+#[tactic(auto, using(claim_tree::proofs::Walks::into_member))]
 fn left_of_members(trees: &TreeMap, left: usize) -> Option<usize>
     ensures { MatchOption result (left < members_count trees.now) (λ rest. rest + members_count trees.now ≡ left) }
 {

@@ -54,6 +54,7 @@ fn walk(search: &mut Search<'_>, given: &GivenList, claims: &Marked) -> Result<(
 }
 
 #[cycle(values)]
+#[tactic(auto, using(marked_tree::proofs::MarkedWalks::into_element))]
 fn walk_elements(
     search: &mut Search<'_>,
     given: &GivenList,
@@ -74,6 +75,7 @@ fn walk_elements(
 }
 
 #[cycle(values)]
+#[tactic(auto, using(marked_tree::proofs::MarkedWalks::into_member))]
 fn walk_members(search: &mut Search<'_>, given: &GivenList, map: &MarkedMap) -> Result<(), NoMemory>
     ensures found { OnOk result (search.new.found ≡ search.old.found ++ members_values (is_in search.old.known.keys) given.now search.old.at map.now) }
     ensures at { OnOk result (search.new.at ≡ search.old.at) }

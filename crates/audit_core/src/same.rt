@@ -33,6 +33,7 @@ fn is_same_mark(one: Option<u32>, other: Option<u32>) -> bool
 }
 
 #[cycle(same)]
+#[tactic(auto, using(marked_tree::proofs::MarkedWalks::into_element))]
 fn is_same_list(one: &MarkedList, other: &MarkedList) -> bool
     ensures { result ≡ same_elements one.now other.now }
 {
@@ -59,6 +60,7 @@ fn is_same_element(one: &(Option<u32>, Marked), other: &(Option<u32>, Marked)) -
 }
 
 #[cycle(same)]
+#[tactic(auto, using(marked_tree::proofs::MarkedWalks::into_member))]
 fn is_same_map(one: &MarkedMap, other: &MarkedMap) -> bool
     ensures { result ≡ same_members one.now other.now }
 {

@@ -53,6 +53,7 @@ fn is_sorted(tree: &Tree) -> bool
 }
 
 #[cycle(sorted)]
+#[tactic(auto, using(claim_tree::proofs::Walks::into_element))]
 fn are_elements_sorted(trees: &TreeList) -> bool
     ensures { result ≡ elements_have trees.now }
 {
@@ -65,6 +66,7 @@ fn are_elements_sorted(trees: &TreeList) -> bool
 }
 
 #[cycle(sorted)]
+#[tactic(auto, using(claim_tree::proofs::Walks::into_member))]
 fn are_members_sorted(trees: &TreeMap) -> bool
     ensures { result ≡ members_have trees.now }
 {

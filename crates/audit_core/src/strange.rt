@@ -46,6 +46,7 @@ pub(crate) fn walk(search: &mut Search<'_>, tree: &Tree) -> Result<(), NoMemory>
 }
 
 #[cycle(strange)]
+#[tactic(auto, using(claim_tree::proofs::Walks::into_element))]
 fn walk_elements(search: &mut Search<'_>, trees: &TreeList) -> Result<(), NoMemory>
     ensures found { OnOk result (search.new.found ≡ search.old.found ++ strange_elements (is_in search.old.known.keys) search.old.at 0 trees.now) }
     ensures at { OnOk result (search.new.at ≡ search.old.at) }
@@ -86,6 +87,7 @@ fn walk_position(search: &mut Search<'_>, i: usize, tree: &Tree) -> Result<(), N
 }
 
 #[cycle(strange)]
+#[tactic(auto, using(claim_tree::proofs::Walks::into_member))]
 fn walk_members(search: &mut Search<'_>, trees: &TreeMap) -> Result<(), NoMemory>
     ensures found { OnOk result (search.new.found ≡ search.old.found ++ strange_members (is_in search.old.known.keys) search.old.at trees.now) }
     ensures at { OnOk result (search.new.at ≡ search.old.at) }

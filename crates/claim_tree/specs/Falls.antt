@@ -1,5 +1,5 @@
--- For the models: a tree inside another has fewer nodes.
-use Rattle.std.specs.Prelude.{◌≤◌, List, [], ◌∷◌}
+-- For the models and the prover: a tree inside another has a smaller measure.
+use Rattle.std.specs.Prelude.{◌≤◌, ◌*◌, List, [], ◌∷◌}
 use Rattle.std.proofs.Common.{arith}
 use denote.Param.Weighed.{most}
 use Rattle.claim_tree.specs.Tree.{Text}
@@ -11,7 +11,7 @@ use Rattle.claim_tree.specs.declared.tree.TreeList.TheShapes.{weighed-TreeMap-me
 use Rattle.claim_tree.specs.View.{tree_of}
 use Rattle.claim_tree.specs.ListViews.{elements_of, members_of}
 
-deep-le : (t : Tree) → deep-Tree t ≤ nodes (tree_of t)
+pub deep-le : (t : Tree) → deep-Tree t ≤ 2 * nodes (tree_of t)
 deep-le Tree.Null = omega arith
 deep-le (Tree.Flag b) = omega arith
 deep-le (Tree.Whole n) = omega arith
@@ -19,10 +19,10 @@ deep-le (Tree.Text s) = omega arith
 deep-le (Tree.List es) = omega arith
 deep-le (Tree.Object ms) = omega arith
 
-pub most-elements : (ts : List Tree) → most (λ t. deep-Tree t) ts ≤ elements_nodes (elements_of ts)
+pub most-elements : (ts : List Tree) → most (λ t. deep-Tree t) ts ≤ 2 * elements_nodes (elements_of ts)
 most-elements [] = omega arith
 most-elements (t ∷ ts) = omega (arith, deep-le t, most-elements ts)
 
-pub most-members : (ms : List (Text × Tree)) → most (λ x. (weighed-TreeMap-members-at-2).weight the_data (λ t. deep-Tree t) x) ms ≤ members_nodes (members_of ms)
+pub most-members : (ms : List (Text × Tree)) → most (λ x. (weighed-TreeMap-members-at-2).weight the_data (λ t. deep-Tree t) x) ms ≤ 2 * members_nodes (members_of ms)
 most-members [] = omega arith
 most-members (m ∷ ms) = omega (arith, deep-le m.1, most-members ms)

@@ -1,5 +1,5 @@
 -- Not needed to believe the program's promises: how many nodes a tree has.
-use Rattle.std.specs.Prelude.{ℕ, suc, ◌+◌}
+use Rattle.std.specs.Prelude.{ℕ, suc, ◌+◌, ◌*◌}
 use Rattle.claim_tree.specs.Tree.{Elements, Members, Tree, array, element, leaf, member, no_elements, no_members, object}
 
 -- how many nodes there are
@@ -16,3 +16,10 @@ abbrev mutual
   pub members_nodes : Members → ℕ
   members_nodes no_members = 0
   members_nodes (member name t ms) = nodes t + members_nodes ms
+
+-- what the prover measures a list and an object by: more than each tree inside
+abbrev pub elements_size : Elements → ℕ
+elements_size es = suc (2 * elements_nodes es)
+
+abbrev pub members_size : Members → ℕ
+members_size ms = suc (2 * members_nodes ms)

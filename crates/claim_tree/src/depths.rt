@@ -19,6 +19,7 @@ pub fn depth(tree: &Tree) -> usize
 }
 
 #[cycle(depth)]
+#[tactic(auto, using(crate::proofs::Walks::into_element))]
 fn depth_of_elements(trees: &TreeList) -> usize
     requires { elements_depth trees.now ≤ 126 }
     ensures { result ≡ elements_depth trees.now }
@@ -31,6 +32,7 @@ fn depth_of_elements(trees: &TreeList) -> usize
 }
 
 #[cycle(depth)]
+#[tactic(auto, using(crate::proofs::Walks::into_member))]
 fn depth_of_members(trees: &TreeMap) -> usize
     requires { members_depth trees.now ≤ 126 }
     ensures { result ≡ members_depth trees.now }

@@ -64,6 +64,7 @@ fn put_whole(out: &mut Writer, whole: Whole) -> Result<(), AllocError>
 }
 
 #[cycle(put)]
+#[tactic(auto, using(crate::proofs::Walks::into_element))]
 fn put_elements(out: &mut Writer, trees: &TreeList) -> Result<(), AllocError>
     ensures ok { OnOk result (out.new.tokens ≡ out.old.tokens ++ items_tokens (items_outline (elements_data trees.now))) }
     ensures before { out.new.before ≡ out.old.before }
@@ -75,6 +76,7 @@ fn put_elements(out: &mut Writer, trees: &TreeList) -> Result<(), AllocError>
 }
 
 #[cycle(put)]
+#[tactic(auto, using(crate::proofs::Walks::into_member))]
 fn put_members(out: &mut Writer, trees: &TreeMap) -> Result<(), AllocError>
     ensures ok { OnOk result (out.new.tokens ≡ out.old.tokens ++ members_tokens (members_outline (members_data trees.now))) }
     ensures before { out.new.before ≡ out.old.before }

@@ -43,14 +43,14 @@ impl Model for TreeList {
     ghost coded = { elements_code };
 
     ghost use Rattle.claim_tree.specs.Tree.{ElementsOrdered, ElementsRanged};
-    ghost use Rattle.claim_tree.specs.Nodes.{elements_nodes};
+    ghost use Rattle.claim_tree.specs.Nodes.{elements_size};
     ghost use Rattle.claim_tree.specs.ListViews.{elements_of};
 
     ghost view = { λ l. elements_of l.trees.items };
 
     ghost invariant = { λ l. ElementsOrdered (elements_of l.trees.items) × ElementsRanged (elements_of l.trees.items) };
 
-    ghost size = { elements_nodes };
+    ghost size = { elements_size };
 
     ghost use Rattle.std.proofs.Common.{arith};
     ghost use Rattle.claim_tree.specs.Falls.{most-elements};
@@ -75,14 +75,14 @@ impl Model for TreeMap {
     ghost coded = { members_code };
 
     ghost use Rattle.claim_tree.specs.Tree.{MembersOrdered, MembersRanged};
-    ghost use Rattle.claim_tree.specs.Nodes.{members_nodes};
+    ghost use Rattle.claim_tree.specs.Nodes.{members_size};
     ghost use Rattle.claim_tree.specs.ListViews.{members_of};
 
     ghost view = { λ m. members_of m.members.items };
 
     ghost invariant = { λ m. MembersOrdered (members_of m.members.items) × MembersRanged (members_of m.members.items) };
 
-    ghost size = { members_nodes };
+    ghost size = { members_size };
 
     ghost use Rattle.std.proofs.Common.{arith};
     ghost use Rattle.claim_tree.specs.Falls.{most-members};

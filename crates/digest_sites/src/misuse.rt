@@ -20,6 +20,7 @@ pub fn is_misused(tree: &Tree) -> bool
 }
 
 #[cycle(misuse)]
+#[tactic(auto, using(claim_tree::proofs::Walks::into_element))]
 fn has_misused_element(trees: &TreeList) -> bool
     ensures { result ≡ elements_misuse trees.now }
 {
@@ -32,6 +33,7 @@ fn has_misused_element(trees: &TreeList) -> bool
 }
 
 #[cycle(misuse)]
+#[tactic(auto, using(claim_tree::proofs::Walks::into_member))]
 fn has_misused_member(trees: &TreeMap) -> bool
     ensures { result ≡ members_misuse trees.now }
 {

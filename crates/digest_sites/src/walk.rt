@@ -80,6 +80,7 @@ impl Walk {
     }
 
     #[cycle(walk)]
+    #[tactic(auto, using(claim_tree::proofs::Walks::into_element))]
     fn visit_elements(&mut self, trees: &TreeList) -> Result<(), NoMemory>
         ensures found { OnOk result (self.new.found ≡ self.old.found ++ elements_sites self.old.at 0 trees.now) }
         ensures at { OnOk result (self.new.at ≡ self.old.at) }
@@ -107,6 +108,7 @@ impl Walk {
     }
 
     #[cycle(walk)]
+    #[tactic(auto, using(claim_tree::proofs::Walks::into_member))]
     fn visit_members(&mut self, trees: &TreeMap) -> Result<(), NoMemory>
         ensures found { OnOk result (self.new.found ≡ self.old.found ++ members_sites self.old.at trees.now) }
         ensures at { OnOk result (self.new.at ≡ self.old.at) }

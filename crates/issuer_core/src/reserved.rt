@@ -64,6 +64,7 @@ fn find(alloc: Global, tree: &Tree) -> Result<Option<Vec<TextBox>>, NoMemory>
 }
 
 #[cycle(reserved)]
+#[tactic(auto, using(claim_tree::proofs::Walks::into_element))]
 fn find_in_list(alloc: Global, trees: &TreeList) -> Result<Option<Vec<TextBox>>, NoMemory>
     requires { elements_depth trees.now ≤ 126 }
     ensures first { IfOk result (λ steps. option_map (λ s. reverse s.items) steps ≡ slice_get (reserved_elements 0 trees.now) 0) }
@@ -92,6 +93,7 @@ fn find_in_object(alloc: Global, trees: &TreeMap) -> Result<Option<Vec<TextBox>>
 }
 
 #[cycle(reserved)]
+#[tactic(auto, using(claim_tree::proofs::Walks::into_member))]
 fn find_in_members(alloc: Global, trees: &TreeMap) -> Result<Option<Vec<TextBox>>, NoMemory>
     requires depth { members_depth trees.now ≤ 126 }
     requires no_sd { member_named trees.now sd_name ≡ None }

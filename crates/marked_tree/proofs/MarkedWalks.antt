@@ -2,35 +2,50 @@
 use Rattle.std.proofs.Common.{◌≡◌, ℕ, zero, suc, ◌+◌, ◌<◌, ◌≤◌, List, [], ◌∷◌, ◌++◌, length, get_or, take, Bool, true, false, cond, Option, Some, None, is_some, option_map, add-one, refl, sym, ap, subst, ◌∙◌, arith}
 use Rattle.claim_tree.specs.Tree.{Text, element, member, depth, elements_depth, members_depth, inserted, IsBefore, IsBeforeAll, MembersOrdered}
 use Rattle.claim_tree.specs.TreeCalls.{pushed}
-use Rattle.claim_tree.specs.Nodes.{nodes, elements_nodes, members_nodes}
+use Rattle.claim_tree.specs.Nodes.{elements_size, members_size}
+use Rattle.marked_tree.specs.Falls.{deep-le}
 use Rattle.marked_tree.specs.Marked as spec
 use Rattle.marked_tree.specs.Marked.{MarkedElements, marked_element, MarkedMembers, marked_member, no_marked_members, strip, strip_elements, strip_members, put, remark, remark_elements, remark_members, new_mark, kept, keep_element, keep_member}
 use Rattle.marked_tree.specs.MarkedCalls.{marked_pushed}
+use Rattle.marked_tree.specs.declared.marked.MarkedList.TheDeep.{deep-Marked}
 use Rattle.marked_tree.specs.View.{marked_of, marked_elements_of, marked_members_of}
 use Rattle.claim_tree.proofs.Lists.{each_place}
 use Rattle.marked_tree.proofs.MarkedViews.{Element, Entry, strip-pushed}
 use Rattle.marked_tree.proofs.Names.{Ascend, names_of, ascend, turned_back}
 
--- ---- what every element is
+-- ---- a call that goes into each tree of a slice: its measure is below that of the list, and it nests no deeper
 
--- it has no more nodes than all of them, and nests no deeper
-abbrev ElementWithin : List Element → Element → Type 0
-ElementWithin es e = (nodes (strip (marked_of e.1)) ≤ elements_nodes (strip_elements (marked_elements_of es))) × (depth (strip (marked_of e.1)) ≤ elements_depth (strip_elements (marked_elements_of es)))
+pub element_falls : (es : List Element) (n : ℕ) (d : Element) → n < length es → deep-Marked (get_or es n d).1 < elements_size (strip_elements (marked_elements_of es))
+element_falls [] n d within = absurd (omega arith)
+element_falls (e ∷ es) zero d within = omega (arith, deep-le e.1)
+element_falls (e ∷ es) (suc n) d within = let rest = element_falls es n d (omega arith) in omega (arith, rest)
 
--- the step of a call that goes into each tree
-pub into_element : (es : List Element) (n : ℕ) (e : Element) (us : MarkedElements) → n < length es → e ≡ get_or es n e → marked_elements_of es ≡ us → elements_depth (strip_elements us) ≤ 126
-    → (nodes (strip (marked_of e.1)) ≤ elements_nodes (strip_elements us)) × (depth (strip (marked_of e.1)) ≤ 127)
-into_element es n e us within is all low =
-    let there = each_place ElementWithin (λ e es. (omega arith, omega arith)) (λ d es e rest. (omega (arith, rest.0), omega (arith, rest.1))) es n e within is in
-    let here = subst (λ vs. (nodes (strip (marked_of e.1)) ≤ elements_nodes (strip_elements vs)) × (depth (strip (marked_of e.1)) ≤ elements_depth (strip_elements vs))) all there in
-    (here.0, omega (arith, here.1, low))
+pub element_lower : (es : List Element) (n : ℕ) (d : Element) → n < length es → depth (strip (marked_of (get_or es n d).1)) ≤ elements_depth (strip_elements (marked_elements_of es))
+element_lower [] n d within = absurd (omega arith)
+element_lower (e ∷ es) zero d within = omega arith
+element_lower (e ∷ es) (suc n) d within = let rest = element_lower es n d (omega arith) in omega (arith, rest)
+
+pub member_falls : (ms : List Entry) (n : ℕ) (d : Entry) → n < length ms → deep-Marked (get_or ms n d).2 < members_size (strip_members (marked_members_of ms))
+member_falls [] n d within = absurd (omega arith)
+member_falls (m ∷ ms) zero d within = omega (arith, deep-le m.2)
+member_falls (m ∷ ms) (suc n) d within = let rest = member_falls ms n d (omega arith) in omega (arith, rest)
+
+pub member_lower : (ms : List Entry) (n : ℕ) (d : Entry) → n < length ms → depth (strip (marked_of (get_or ms n d).2)) ≤ members_depth (strip_members (marked_members_of ms))
+member_lower [] n d within = absurd (omega arith)
+member_lower (m ∷ ms) zero d within = omega arith
+member_lower (m ∷ ms) (suc n) d within = let rest = member_lower ms n d (omega arith) in omega (arith, rest)
+
+pub ruleset into_element = (element_falls, element_lower)
+
+pub ruleset into_member = (member_falls, member_lower)
+
+-- ---- one element more
 
 element_more : (es : List Element) (n : ℕ) (d : Element) → n < length es → marked_elements_of (take (suc n) es) ≡ marked_pushed (marked_elements_of (take n es)) (get_or es n d).0 (marked_of (get_or es n d).1)
 element_more [] n d within = absurd (omega arith)
 element_more (e ∷ es) zero d within = refl
 element_more (e ∷ es) (suc n) d within = ap (marked_element e.0 (marked_of e.1)) (element_more es n d (omega arith))
 
--- one element more
 pub element_turn : (es : List Element) (n : ℕ) (e : Element) → n < length es → e ≡ get_or es n e → marked_elements_of (take (n + 1) es) ≡ marked_pushed (marked_elements_of (take n es)) e.0 (marked_of e.1)
 element_turn es n e within is =
     rw add-one (element_more es n e within ∙ ap (λ (d : Element). marked_pushed (marked_elements_of (take n es)) d.0 (marked_of d.1)) (sym is))
@@ -62,17 +77,7 @@ pub kept_turn : (f : ℕ → Option ℕ) (es : List Element) (n : ℕ) (e : Elem
     → remark_elements f (marked_elements_of (take (n + 1) es)) ≡ kept_pushed (remark_elements f (marked_elements_of (take n es))) (new_mark f e.0) (remark f (marked_of e.1))
 kept_turn f es n e within is = ap (remark_elements f) (element_turn es n e within is) ∙ remark-pushed f (marked_elements_of (take n es)) e.0 (marked_of e.1)
 
--- ---- what every member is
-
-abbrev MemberWithin : List Entry → Entry → Type 0
-MemberWithin ms m = (nodes (strip (marked_of m.2)) ≤ members_nodes (strip_members (marked_members_of ms))) × (depth (strip (marked_of m.2)) ≤ members_depth (strip_members (marked_members_of ms)))
-
-pub into_member : (ms : List Entry) (n : ℕ) (m : Entry) (us : MarkedMembers) → n < length ms → m ≡ get_or ms n m → marked_members_of ms ≡ us → members_depth (strip_members us) ≤ 126
-    → (nodes (strip (marked_of m.2)) ≤ members_nodes (strip_members us)) × (depth (strip (marked_of m.2)) ≤ 127)
-into_member ms n m us within is all low =
-    let there = each_place MemberWithin (λ m ms. (omega arith, omega arith)) (λ d ms m rest. (omega (arith, rest.0), omega (arith, rest.1))) ms n m within is in
-    let here = subst (λ vs. (nodes (strip (marked_of m.2)) ≤ members_nodes (strip_members vs)) × (depth (strip (marked_of m.2)) ≤ members_depth (strip_members vs))) all there in
-    (here.0, omega (arith, here.1, low))
+-- ---- one member more
 
 before_there : (name : Text) (ms : List Entry) (n : ℕ) (d : Entry) → n < length ms → IsBeforeAll name (names_of ms) → IsBefore name (get_or ms n d).0
 before_there name [] n d within h = absurd (omega arith)
@@ -87,7 +92,6 @@ stripped_more (m ∷ ms) (suc n) d within o =
     let rest = stripped_more ms n d (omega arith) o.1 in
     rw (before_there m.0 ms n d (omega arith) o.0) (ap (member m.0 (strip (marked_of m.2))) rest)
 
--- one member more
 pub stripped_member_turn : (ms : List Entry) (n : ℕ) (m : Entry) → n < length ms → m ≡ get_or ms n m → MembersOrdered (strip_members (marked_members_of ms))
     → strip_members (marked_members_of (take (n + 1) ms)) ≡ inserted (strip_members (marked_members_of (take n ms))) m.0 (strip (marked_of m.2))
 stripped_member_turn ms n m within is ordered =
@@ -127,25 +131,33 @@ kept_member_turn f ms n m within is ordered =
 
 -- ---- among elements and members that are taken by value
 
-element_among : (xs : List Element) (e : Element) (rest : List Element) → ElementWithin (xs ++ e ∷ rest) e
-element_among [] e rest = (omega arith, omega arith)
-element_among (x ∷ xs) e rest = let there = element_among xs e rest in (omega (arith, there.0), omega (arith, there.1))
+taken_falls : (xs : List Element) (e : Element) (rest : List Element) → deep-Marked e.1 < elements_size (strip_elements (marked_elements_of (xs ++ e ∷ rest)))
+taken_falls [] e rest = omega (arith, deep-le e.1)
+taken_falls (x ∷ xs) e rest = let there = taken_falls xs e rest in omega (arith, there)
+
+taken_lower : (xs : List Element) (e : Element) (rest : List Element) → depth (strip (marked_of e.1)) ≤ elements_depth (strip_elements (marked_elements_of (xs ++ e ∷ rest)))
+taken_lower [] e rest = omega arith
+taken_lower (x ∷ xs) e rest = let there = taken_lower xs e rest in omega (arith, there)
+
+taken_member_falls : (xs : List Entry) (m : Entry) (rest : List Entry) → deep-Marked m.2 < members_size (strip_members (marked_members_of (xs ++ m ∷ rest)))
+taken_member_falls [] m rest = omega (arith, deep-le m.2)
+taken_member_falls (x ∷ xs) m rest = let there = taken_member_falls xs m rest in omega (arith, there)
+
+taken_member_lower : (xs : List Entry) (m : Entry) (rest : List Entry) → depth (strip (marked_of m.2)) ≤ members_depth (strip_members (marked_members_of (xs ++ m ∷ rest)))
+taken_member_lower [] m rest = omega arith
+taken_member_lower (x ∷ xs) m rest = let there = taken_member_lower xs m rest in omega (arith, there)
 
 pub into_taken_element : (xs : List Element) (e : Element) (rest : List Element) (us : MarkedElements) → marked_elements_of (xs ++ e ∷ rest) ≡ us → elements_depth (strip_elements us) ≤ 126
-    → (nodes (strip (marked_of e.1)) ≤ elements_nodes (strip_elements us)) × (depth (strip (marked_of e.1)) ≤ 127)
-into_taken_element xs e rest us all low =
-    let here = subst (λ vs. (nodes (strip (marked_of e.1)) ≤ elements_nodes (strip_elements vs)) × (depth (strip (marked_of e.1)) ≤ elements_depth (strip_elements vs))) all (element_among xs e rest) in
-    (here.0, omega (arith, here.1, low))
-
-member_among : (xs : List Entry) (m : Entry) (rest : List Entry) → MemberWithin (xs ++ m ∷ rest) m
-member_among [] m rest = (omega arith, omega arith)
-member_among (x ∷ xs) m rest = let there = member_among xs m rest in (omega (arith, there.0), omega (arith, there.1))
+    → (deep-Marked e.1 < elements_size (strip_elements us)) × (depth (strip (marked_of e.1)) ≤ 127)
+into_taken_element xs e rest us all =
+    subst (λ vs. elements_depth (strip_elements vs) ≤ 126 → (deep-Marked e.1 < elements_size (strip_elements vs)) × (depth (strip (marked_of e.1)) ≤ 127)) all
+    (λ low. (taken_falls xs e rest, omega (arith, taken_lower xs e rest, low)))
 
 pub into_taken_member : (xs : List Entry) (m : Entry) (rest : List Entry) (us : MarkedMembers) → marked_members_of (xs ++ m ∷ rest) ≡ us → members_depth (strip_members us) ≤ 126
-    → (nodes (strip (marked_of m.2)) ≤ members_nodes (strip_members us)) × (depth (strip (marked_of m.2)) ≤ 127)
-into_taken_member xs m rest us all low =
-    let here = subst (λ vs. (nodes (strip (marked_of m.2)) ≤ members_nodes (strip_members vs)) × (depth (strip (marked_of m.2)) ≤ members_depth (strip_members vs))) all (member_among xs m rest) in
-    (here.0, omega (arith, here.1, low))
+    → (deep-Marked m.2 < members_size (strip_members us)) × (depth (strip (marked_of m.2)) ≤ 127)
+into_taken_member xs m rest us all =
+    subst (λ vs. members_depth (strip_members vs) ≤ 126 → (deep-Marked m.2 < members_size (strip_members vs)) × (depth (strip (marked_of m.2)) ≤ 127)) all
+    (λ low. (taken_member_falls xs m rest, omega (arith, taken_member_lower xs m rest, low)))
 
 pub stripped-taken : (xs : List Element) (e : Element) → strip_elements (marked_elements_of (xs ++ e ∷ [])) ≡ pushed (strip_elements (marked_elements_of xs)) (strip (marked_of e.1))
 stripped-taken [] e = refl

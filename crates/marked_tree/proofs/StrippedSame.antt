@@ -2,7 +2,6 @@
 use Rattle.std.proofs.Common.{◌≡◌, ℕ, zero, suc, ◌+◌, ◌<◌, ◌≤◌, List, [], ◌∷◌, length, get_or, Some, add-one, refl, sym, ap, ap₂, subst, ◌∙◌, arith}
 use Rattle.claim_tree.specs.Tree.{Text, Tree, array, object, Elements, no_elements, element, Members, no_members, member, elements_len, members_len, element_at}
 use Rattle.claim_tree.specs.TreeCalls.{member_at}
-use Rattle.claim_tree.specs.Nodes.{nodes, elements_nodes, members_nodes}
 use Rattle.claim_tree.proofs.Lists.{pair_same}
 use Rattle.marked_tree.specs.Marked.{MarkedElements, no_marked_elements, marked_element, MarkedMembers, no_marked_members, marked_member, strip, strip_elements, strip_members}
 use Rattle.marked_tree.specs.MarkedCalls.{marked_elements_len, marked_members_len}
@@ -111,21 +110,3 @@ elements_stripped_len (marked_element i t es) = ap suc (elements_stripped_len es
 pub members_stripped_len : (ms : MarkedMembers) → members_len (strip_members ms) ≡ marked_members_len ms
 members_stripped_len no_marked_members = refl
 members_stripped_len (marked_member name i t ms) = ap suc (members_stripped_len ms)
-
--- ---- what a tree inside is
-
-pub element_falls : (es : List Element) (n : ℕ) (e : Element) → n < length es → e ≡ get_or es n e → nodes (strip (marked_of e.1)) ≤ elements_nodes (strip_elements (marked_elements_of es))
-element_falls es n e within is = subst (λ (d : Element). nodes (strip (marked_of d.1)) ≤ elements_nodes (strip_elements (marked_elements_of es))) (sym is) (go es n within)
-  where
-    go : (xs : List Element) (k : ℕ) → k < length xs → nodes (strip (marked_of (get_or xs k e).1)) ≤ elements_nodes (strip_elements (marked_elements_of xs))
-    go [] k within = absurd (omega arith)
-    go (x ∷ xs) zero within = omega arith
-    go (x ∷ xs) (suc k) within = let rest = go xs k (omega arith) in omega (arith, rest)
-
-pub member_falls : (ms : List Entry) (n : ℕ) (m : Entry) → n < length ms → m ≡ get_or ms n m → nodes (strip (marked_of m.2)) ≤ members_nodes (strip_members (marked_members_of ms))
-member_falls ms n m within is = subst (λ (d : Entry). nodes (strip (marked_of d.2)) ≤ members_nodes (strip_members (marked_members_of ms))) (sym is) (go ms n within)
-  where
-    go : (xs : List Entry) (k : ℕ) → k < length xs → nodes (strip (marked_of (get_or xs k m).2)) ≤ members_nodes (strip_members (marked_members_of xs))
-    go [] k within = absurd (omega arith)
-    go (x ∷ xs) zero within = omega arith
-    go (x ∷ xs) (suc k) within = let rest = go xs k (omega arith) in omega (arith, rest)

@@ -1,5 +1,5 @@
--- For the models: a marked tree inside another has fewer nodes.
-use Rattle.std.specs.Prelude.{ℕ, ◌≤◌, List, [], ◌∷◌, Option}
+-- For the models and the prover: a marked tree inside another has a smaller measure.
+use Rattle.std.specs.Prelude.{ℕ, ◌≤◌, ◌*◌, List, [], ◌∷◌, Option}
 use Rattle.std.proofs.Common.{arith}
 use denote.Param.Weighed.{most}
 use Rattle.claim_tree.specs.Tree.{Text}
@@ -11,7 +11,7 @@ use Rattle.marked_tree.specs.declared.marked.MarkedList.TheDeep.{deep-Marked}
 use Rattle.marked_tree.specs.declared.marked.MarkedList.TheShapes.{weighed-MarkedList-elements-at-2, weighed-MarkedMap-members-at-3}
 use Rattle.marked_tree.specs.View.{marked_of, marked_elements_of, marked_members_of}
 
-deep-le : (t : Marked) → deep-Marked t ≤ nodes (strip (marked_of t))
+pub deep-le : (t : Marked) → deep-Marked t ≤ 2 * nodes (strip (marked_of t))
 deep-le Marked.Null = omega arith
 deep-le (Marked.Flag b) = omega arith
 deep-le (Marked.Whole n) = omega arith
@@ -19,10 +19,10 @@ deep-le (Marked.Text s) = omega arith
 deep-le (Marked.List es) = omega arith
 deep-le (Marked.Object ms) = omega arith
 
-pub most-elements : (es : List (Option ℕ × Marked)) → most (λ x. (weighed-MarkedList-elements-at-2).weight the_data (λ t. deep-Marked t) x) es ≤ elements_nodes (strip_elements (marked_elements_of es))
+pub most-elements : (es : List (Option ℕ × Marked)) → most (λ x. (weighed-MarkedList-elements-at-2).weight the_data (λ t. deep-Marked t) x) es ≤ 2 * elements_nodes (strip_elements (marked_elements_of es))
 most-elements [] = omega arith
 most-elements (e ∷ es) = omega (arith, deep-le e.1, most-elements es)
 
-pub most-members : (ms : List (Text × Option ℕ × Marked)) → most (λ x. (weighed-MarkedMap-members-at-3).weight the_data (λ t. deep-Marked t) x) ms ≤ members_nodes (strip_members (marked_members_of ms))
+pub most-members : (ms : List (Text × Option ℕ × Marked)) → most (λ x. (weighed-MarkedMap-members-at-3).weight the_data (λ t. deep-Marked t) x) ms ≤ 2 * members_nodes (strip_members (marked_members_of ms))
 most-members [] = omega arith
 most-members (m ∷ ms) = omega (arith, deep-le m.2, most-members ms)

@@ -44,7 +44,7 @@ impl Model for MarkedList {
     ghost coded = { marked_elements_code };
 
     ghost use Rattle.claim_tree.specs.Tree.{ElementsOrdered};
-    ghost use Rattle.claim_tree.specs.Nodes.{elements_nodes};
+    ghost use Rattle.claim_tree.specs.Nodes.{elements_size};
     ghost use Rattle.marked_tree.specs.Marked.{strip_elements};
     ghost use Rattle.marked_tree.specs.View.{marked_elements_of};
 
@@ -52,7 +52,7 @@ impl Model for MarkedList {
 
     ghost invariant = { λ l. ElementsOrdered (strip_elements (marked_elements_of l.elements.items)) };
 
-    ghost size = { λ es. elements_nodes (strip_elements es) };
+    ghost size = { λ es. elements_size (strip_elements es) };
 
     ghost use Rattle.std.proofs.Common.{arith};
     ghost use Rattle.marked_tree.specs.Falls.{most-elements};
@@ -78,7 +78,7 @@ impl Model for MarkedMap {
     ghost coded = { marked_members_code };
 
     ghost use Rattle.claim_tree.specs.Tree.{MembersOrdered};
-    ghost use Rattle.claim_tree.specs.Nodes.{members_nodes};
+    ghost use Rattle.claim_tree.specs.Nodes.{members_size};
     ghost use Rattle.marked_tree.specs.Marked.{strip_members};
     ghost use Rattle.marked_tree.specs.View.{marked_members_of};
 
@@ -86,7 +86,7 @@ impl Model for MarkedMap {
 
     ghost invariant = { λ m. MembersOrdered (strip_members (marked_members_of m.members.items)) };
 
-    ghost size = { λ ms. members_nodes (strip_members ms) };
+    ghost size = { λ ms. members_size (strip_members ms) };
 
     ghost use Rattle.std.proofs.Common.{arith};
     ghost use Rattle.marked_tree.specs.Falls.{most-members};

@@ -36,6 +36,7 @@ fn find(alloc: Global, tree: &Marked, mark: u32) -> Result<Option<Vec<TextBox>>,
 }
 
 #[cycle(find)]
+#[tactic(auto, using(crate::proofs::MarkedWalks::into_element))]
 fn find_element(
     alloc: Global,
     list: &MarkedList,
@@ -55,6 +56,7 @@ fn find_element(
 }
 
 #[cycle(find)]
+#[tactic(auto, using(crate::proofs::MarkedWalks::into_member))]
 fn find_member(alloc: Global, map: &MarkedMap, mark: u32) -> Result<Option<Vec<TextBox>>, NoMemory>
     requires { members_depth (strip_members map.now) ≤ 126 }
     ensures { IfOk result (λ steps. option_map (λ s. reverse s.items) steps ≡ first_with mark (members_spots map.now)) }

@@ -35,6 +35,7 @@ fn prune_tree(alloc: Global, tree: &Marked, kept: &ChosenSet) -> Result<Marked, 
 }
 
 #[cycle(prune)]
+#[tactic(auto, using(crate::proofs::MarkedWalks::into_element))]
 fn prune_list(alloc: Global, list: &MarkedList, kept: &ChosenSet) -> Result<MarkedList, NoMemory>
     requires { elements_depth (strip_elements list.now) ≤ 126 }
     ensures { IfOk result (λ pruned. pruned ≡ remark_elements (kept_by (has kept.now)) list.now) }
@@ -49,6 +50,7 @@ fn prune_list(alloc: Global, list: &MarkedList, kept: &ChosenSet) -> Result<Mark
 }
 
 #[cycle(prune)]
+#[tactic(auto, using(crate::proofs::MarkedWalks::into_member))]
 fn prune_map(alloc: Global, map: &MarkedMap, kept: &ChosenSet) -> Result<MarkedMap, NoMemory>
     requires { members_depth (strip_members map.now) ≤ 126 }
     ensures { IfOk result (λ pruned. pruned ≡ remark_members (kept_by (has kept.now)) map.now) }

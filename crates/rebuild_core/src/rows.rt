@@ -57,6 +57,7 @@ fn list_rows<'a>(top: bool, tree: &'a Tree, out: &mut Vec<Row<'a>>) -> Result<()
 }
 
 #[cycle(rows)]
+#[tactic(auto, using(claim_tree::proofs::Walks::into_element))]
 fn list_elements<'a>(trees: &'a TreeList, out: &mut Vec<Row<'a>>) -> Result<(), NoMemory>
     requires { elements_depth trees.now ≤ 126 }
     ensures { OnOk result (map seen out.new.items ≡ map seen out.old.items ++ element_rows (length out.old.items) trees.now) }
@@ -91,6 +92,7 @@ fn list_element<'a>(tree: &'a Tree, out: &mut Vec<Row<'a>>) -> Result<(), NoMemo
 }
 
 #[cycle(rows)]
+#[tactic(auto, using(claim_tree::proofs::Walks::into_member))]
 fn list_members<'a>(trees: &'a TreeMap, out: &mut Vec<Row<'a>>) -> Result<(), NoMemory>
     requires { members_depth trees.now ≤ 126 }
     ensures { OnOk result (map seen out.new.items ≡ map seen out.old.items ++ member_rows (length out.old.items) trees.now) }

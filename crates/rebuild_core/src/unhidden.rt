@@ -33,6 +33,7 @@ pub(crate) fn is_unhidden(tree: &Tree) -> bool
 }
 
 #[cycle(unhidden)]
+#[tactic(auto, using(claim_tree::proofs::Walks::into_element))]
 fn are_unhidden(trees: &TreeList) -> bool
     requires { elements_depth trees.now ≤ 126 }
     ensures { result ≡ elements_unhidden trees.now }
@@ -46,6 +47,7 @@ fn are_unhidden(trees: &TreeList) -> bool
 }
 
 #[cycle(unhidden)]
+#[tactic(auto, using(claim_tree::proofs::Walks::into_member))]
 fn has_nothing_hidden(members: &TreeMap) -> bool
     requires { members_depth members.now ≤ 126 }
     ensures { result ≡ members_unhidden members.now }

@@ -77,6 +77,7 @@ impl<'a, F: Fn(&Path) -> bool> Asking<'a, F> {
     }
 
     #[cycle(ask)]
+    #[tactic(auto, using(marked_tree::proofs::MarkedWalks::into_element))]
     fn ask_elements(&self, list: &MarkedList, walk: &mut Walk) -> Result<(), NoMemory>
         requires callable { F.IsAlwaysCallable self.now.consent.now }
         requires depth { elements_depth (strip_elements list.now) ≤ 126 }
@@ -94,6 +95,7 @@ impl<'a, F: Fn(&Path) -> bool> Asking<'a, F> {
     }
 
     #[cycle(ask)]
+    #[tactic(auto, using(marked_tree::proofs::MarkedWalks::into_member))]
     fn ask_members(&self, map: &MarkedMap, walk: &mut Walk) -> Result<(), NoMemory>
         requires callable { F.IsAlwaysCallable self.now.consent.now }
         requires depth { members_depth (strip_members map.now) ≤ 126 }

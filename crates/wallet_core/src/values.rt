@@ -60,6 +60,7 @@ fn is_same(tree: &Marked, value: &Tree) -> bool
 }
 
 #[cycle(same)]
+#[tactic(auto, using(marked_tree::proofs::MarkedWalks::into_element))]
 fn are_same(list: &MarkedList, values: &TreeList) -> bool
     ensures { IsTrue result ↔ (array (strip_elements list.now) ≡ array values.now) }
 {
@@ -79,6 +80,7 @@ fn are_same(list: &MarkedList, values: &TreeList) -> bool
 }
 
 #[cycle(same)]
+#[tactic(auto, using(marked_tree::proofs::MarkedWalks::into_member))]
 fn have_same(map: &MarkedMap, values: &TreeMap) -> bool
     ensures { IsTrue result ↔ (object (strip_members map.now) ≡ object values.now) }
 {

@@ -1,21 +1,7 @@
-use Rattle.std.proofs.Common.{◌≡◌, ◌+◌, ◌*◌, drop}
-use Rattle.claim_tree.specs.Nodes.{nodes, elements_nodes, members_nodes}
-use Rattle.claim_tree.specs.View.{tree_of}
+use Rattle.std.proofs.Common.{◌≡◌, ◌+◌, drop}
 use Rattle.claim_tree.specs.ListViews.{elements_of, members_of}
 use Rattle.audit_core.specs.Counts.{elements_count, members_count}
 use Rattle.audit_core.proofs.counts.+counting.Given as goal
-
-abbrev pub decreases-left_of : goal.decreases-left_of
-decreases-left_of l = 3 * nodes (tree_of l.tree.now)
-
-abbrev pub decreases-left_of_element : goal.decreases-left_of_element
-decreases-left_of_element l = 3 * nodes (tree_of l.tree.now) + 1
-
-abbrev pub decreases-left_of_elements : goal.decreases-left_of_elements
-decreases-left_of_elements l = 3 * elements_nodes l.trees.now + 2
-
-abbrev pub decreases-left_of_members : goal.decreases-left_of_members
-decreases-left_of_members l = 3 * members_nodes l.trees.now + 2
 
 abbrev pub invariant-left_of_elements-loop-tree : goal.invariant-left_of_elements-loop-tree
 invariant-left_of_elements-loop-tree l = elements_count (elements_of (drop l.tree-index l.tree-items)) + l.fn.left ≡ l.left + elements_count (elements_of l.tree-items)

@@ -1,22 +1,8 @@
-use Rattle.std.proofs.Common.{◌≡◌, ◌+◌, ◌*◌, ◌++◌, drop}
-use Rattle.claim_tree.specs.Nodes.{nodes, elements_nodes, members_nodes}
-use Rattle.marked_tree.specs.Marked.{strip, strip_elements, strip_members}
-use Rattle.marked_tree.specs.View.{marked_of, marked_elements_of, marked_members_of}
+use Rattle.std.proofs.Common.{◌≡◌, ◌++◌, drop}
+use Rattle.marked_tree.specs.View.{marked_elements_of, marked_members_of}
 use Rattle.audit_core.specs.Found.{is_in}
 use Rattle.audit_core.specs.Places.{elements_values, members_values}
 use Rattle.audit_core.proofs.places.+values.Given as goal
-
-abbrev pub decreases-walk : goal.decreases-walk
-decreases-walk l = 3 * nodes (strip (marked_of l.claims.now))
-
-abbrev pub decreases-walk_node : goal.decreases-walk_node
-decreases-walk_node l = 3 * nodes (strip (marked_of l.tree.now)) + 1
-
-abbrev pub decreases-walk_elements : goal.decreases-walk_elements
-decreases-walk_elements l = 3 * elements_nodes (strip_elements l.list.now) + 2
-
-abbrev pub decreases-walk_members : goal.decreases-walk_members
-decreases-walk_members l = 3 * members_nodes (strip_members l.map.now) + 2
 
 abbrev pub invariant-walk_elements-loop-i : goal.invariant-walk_elements-loop-i
 invariant-walk_elements-loop-i l =

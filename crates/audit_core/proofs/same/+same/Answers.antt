@@ -1,20 +1,12 @@
 use Rattle.std.proofs.Common.{arith, sym, ap₂, ◌∙◌}
 use Rattle.audit_core.specs.SameMarked.{same_elements, same_members}
-use Rattle.audit_core.proofs.Walks.{element_nodes, member_nodes, lists_end, maps_end}
+use Rattle.audit_core.proofs.Walks.{lists_end, maps_end}
 use Rattle.audit_core.proofs.same.+same.Goals as goal
 
 pub is_same_list-returns-then-elements-others : goal.is_same_list-returns-then-elements-others
 is_same_list-returns-then-elements-others t c =
     sym (sym (ap₂ same_elements c.elements-elements.ensures.value c.elements-others.ensures.value) ∙ lists_end c.elements-elements.result.now c.elements-others.result.now c.if-elements-others.true)
 
-pub is_same_list-is_same_element-requires : goal.is_same_list-is_same_element-requires
-is_same_list-is_same_element-requires t c =
-    omega (arith, element_nodes c.elements-elements.result.now c.loop-i.i c.index-elements-i.result c.args.one.now c.loop-i-test.true c.index-elements-i.is c.elements-elements.ensures.value)
-
 pub is_same_map-returns-then-members-others : goal.is_same_map-returns-then-members-others
 is_same_map-returns-then-members-others t c =
     sym (sym (ap₂ same_members c.members-members.ensures.value c.members-others.ensures.value) ∙ maps_end c.members-members.result.now c.members-others.result.now c.if-members-others.true)
-
-pub is_same_map-is_same_member-requires : goal.is_same_map-is_same_member-requires
-is_same_map-is_same_member-requires t c =
-    omega (arith, member_nodes c.members-members.result.now c.loop-i.i c.index-members-i.result c.args.one.now c.loop-i-test.true c.index-members-i.is c.members-members.ensures.value)

@@ -1,24 +1,14 @@
 use Rattle.std.proofs.Common.{◌≡◌, sym, ◌∙◌, arith}
 use Rattle.claim_tree.specs.Tree.{MembersOrdered}
 use Rattle.claim_tree.specs.ListViews.{members_of}
-use Rattle.claim_tree.proofs.Walks.{Named, into_element, into_member, elements_turn, members_turn}
+use Rattle.claim_tree.proofs.Walks.{Named, elements_turn, members_turn}
 use Rattle.claim_tree.proofs.copies.+copy.Goals as goal
-
-pub copy_elements-copy-requires : goal.copy_elements-copy-requires
-copy_elements-copy-requires t c =
-    let step = into_element c.trees-tree-items.result.now c.loop-tree.tree-index c.tree-item.result c.args.trees.now c.loop-tree-test.true c.tree-item.is c.trees-tree-items.ensures.value c.requires in
-    (omega (arith, step.0), step.1)
 
 pub copy_elements-loop-tree-preserved : goal.copy_elements-loop-tree-preserved
 copy_elements-loop-tree-preserved t c =
     let l = c.loop-tree in
     let more = elements_turn c.trees-tree-items.result.now l.tree-index c.tree-item.result c.loop-tree-test.true c.tree-item.is in
     rw (c.in_ok-push.ensures.ok, l.invariant, c.in_ok-copy.ensures.ok) (sym more)
-
-pub copy_members-copy-requires : goal.copy_members-copy-requires
-copy_members-copy-requires t c =
-    let step = into_member c.members-name-items.result.now c.loop-name.name-index c.loop-name-item.result c.args.trees.now c.loop-name-test.true c.loop-name-item.is c.members-name-items.ensures.value c.requires in
-    (omega (arith, step.0), step.1)
 
 pub copy_members-loop-name-preserved : goal.copy_members-loop-name-preserved
 copy_members-loop-name-preserved t c =

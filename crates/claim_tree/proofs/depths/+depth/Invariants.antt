@@ -1,18 +1,7 @@
-use Rattle.std.proofs.Common.{◌≡◌, ◌+◌, ◌*◌, max, drop}
+use Rattle.std.proofs.Common.{◌≡◌, max, drop}
 use Rattle.claim_tree.specs.Tree.{elements_depth, members_depth}
-use Rattle.claim_tree.specs.Nodes.{nodes, elements_nodes, members_nodes}
-use Rattle.claim_tree.specs.View.{tree_of}
 use Rattle.claim_tree.specs.ListViews.{elements_of, members_of}
 use Rattle.claim_tree.proofs.depths.+depth.Given as goal
-
-abbrev pub decreases-depth : goal.decreases-depth
-decreases-depth l = 2 * nodes (tree_of l.tree.now)
-
-abbrev pub decreases-depth_of_elements : goal.decreases-depth_of_elements
-decreases-depth_of_elements l = 2 * elements_nodes l.trees.now + 1
-
-abbrev pub decreases-depth_of_members : goal.decreases-depth_of_members
-decreases-depth_of_members l = 2 * members_nodes l.trees.now + 1
 
 abbrev pub invariant-depth_of_elements-loop-tree : goal.invariant-depth_of_elements-loop-tree
 invariant-depth_of_elements-loop-tree l = max l.most (elements_depth (elements_of (drop l.tree-index l.tree-items))) ≡ elements_depth (elements_of l.tree-items)

@@ -2,16 +2,8 @@ use Rattle.std.proofs.Common.{◌≡◌, ◌++◌, ap, sym, ◌∙◌, arith}
 use Rattle.std.proofs.lemmas.List.{drop_all}
 use Rattle.std.proofs.lemmas.Result.{on_ok_weaker}
 use Rattle.claim_tree.specs.ListViews.{elements_of, members_of}
-use Rattle.claim_tree.proofs.Walks.{element_nodes, member_nodes}
 use Rattle.claim_tree.proofs.TreeTokens.{elements_tokens, members_tokens, element_written, member_written}
 use Rattle.claim_tree.proofs.tokens.+put.Goals as goal
-
-pub put_elements-put_tree-requires : goal.put_elements-put_tree-requires
-put_elements-put_tree-requires t c =
-    let ts = c.trees-tree-items.result.now in
-    let all : elements_of ts ≡ c.args.trees.now = c.trees-tree-items.ensures.value in
-    let few = element_nodes ts c.loop-tree.tree-index c.tree-item.result c.args.trees.now c.loop-tree-test.true c.tree-item.is all in
-    omega (arith, few)
 
 pub put_elements-loop-tree-preserved : goal.put_elements-loop-tree-preserved
 put_elements-loop-tree-preserved t c =
@@ -29,13 +21,6 @@ put_elements-returns-clause-ok t c =
     let none = drop_all l.tree-index ts (omega (arith, c.loop-tree-test.false)) in
     on_ok_weaker c.end_array.result (λ e. e ∙ ap (λ us. l.out.tokens ++ elements_tokens (elements_of us)) (sym none) ∙ l.invariant.0
     ∙ ap (λ es. c.args.out.now.tokens ++ elements_tokens es) c.trees-tree-items.ensures.value) c.end_array.ensures.ok
-
-pub put_members-put_tree-requires : goal.put_members-put_tree-requires
-put_members-put_tree-requires t c =
-    let ms = c.members-name-items.result.now in
-    let all : members_of ms ≡ c.args.trees.now = c.members-name-items.ensures.value in
-    let few = member_nodes ms c.loop-name.name-index c.loop-name-item.result c.args.trees.now c.loop-name-test.true c.loop-name-item.is all in
-    omega (arith, few)
 
 pub put_members-loop-name-preserved : goal.put_members-loop-name-preserved
 put_members-loop-name-preserved t c =

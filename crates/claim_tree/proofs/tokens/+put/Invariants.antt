@@ -1,18 +1,7 @@
-use Rattle.std.proofs.Common.{◌≡◌, ◌+◌, ◌*◌, ◌++◌, drop}
-use Rattle.claim_tree.specs.Nodes.{nodes, elements_nodes, members_nodes}
-use Rattle.claim_tree.specs.View.{tree_of}
+use Rattle.std.proofs.Common.{◌≡◌, ◌++◌, drop}
 use Rattle.claim_tree.specs.ListViews.{elements_of, members_of}
 use Rattle.claim_tree.proofs.TreeTokens.{elements_tokens, members_tokens}
 use Rattle.claim_tree.proofs.tokens.+put.Given as goal
-
-abbrev pub decreases-put_tree : goal.decreases-put_tree
-decreases-put_tree l = 2 * nodes (tree_of l.tree.now)
-
-abbrev pub decreases-put_elements : goal.decreases-put_elements
-decreases-put_elements l = 2 * elements_nodes l.trees.now + 1
-
-abbrev pub decreases-put_members : goal.decreases-put_members
-decreases-put_members l = 2 * members_nodes l.trees.now + 1
 
 -- what is written and the tokens that are left are all the tokens
 abbrev pub invariant-put_elements-loop-tree : goal.invariant-put_elements-loop-tree

@@ -1,18 +1,7 @@
-use Rattle.std.proofs.Common.{◌≡◌, ◌+◌, ◌*◌, drop}
-use Rattle.claim_tree.specs.Nodes.{nodes, elements_nodes, members_nodes}
-use Rattle.claim_tree.specs.View.{tree_of}
+use Rattle.std.proofs.Common.{◌≡◌, drop}
 use Rattle.claim_tree.specs.ListViews.{elements_of, members_of}
 use Rattle.digest_sites.specs.Reserved.{elements_misuse, members_misuse}
 use Rattle.digest_sites.proofs.misuse.+misuse.Given as goal
-
-abbrev pub decreases-is_misused : goal.decreases-is_misused
-decreases-is_misused l = 2 * nodes (tree_of l.tree.now)
-
-abbrev pub decreases-has_misused_element : goal.decreases-has_misused_element
-decreases-has_misused_element l = 2 * elements_nodes l.trees.now + 1
-
-abbrev pub decreases-has_misused_member : goal.decreases-has_misused_member
-decreases-has_misused_member l = 2 * members_nodes l.trees.now + 1
 
 abbrev pub invariant-has_misused_element-loop-tree : goal.invariant-has_misused_element-loop-tree
 invariant-has_misused_element-loop-tree l = elements_misuse (elements_of (drop l.tree-index l.tree-items)) ≡ elements_misuse (elements_of l.tree-items)

@@ -4,6 +4,7 @@ use Rattle.std.proofs.lemmas.List.{nil_from_length}
 use Rattle.claim_tree.specs.Tree.{depth, elements_len}
 use Rattle.marked_tree.specs.Paths.{Path}
 use Rattle.claim_tree.specs.View.{tree_of}
+use Rattle.marked_tree.specs.Falls.{deep-le}
 use Rattle.marked_tree.specs.Marked.{no_marked_elements, no_marked_members, marked_element, marked_member}
 use Rattle.marked_tree.specs.View.{marked_of, marked_elements_of, marked_members_of}
 use Rattle.marked_tree.proofs.MarkedViews.{Element, Entry}
@@ -40,7 +41,7 @@ lay_list-lay_part-requires t c =
     let deep = c.requires.depth in
     let held = c.requires.salts in
     let down = c.below_element-below.ensures.depth in
-    (omega (arith, few), (omega (arith, low, deep, down), (c.below_element-below.ensures.placed, (so.closes.0, (so.closes.1, (omega (arith, count, held), so.digested))))))
+    (omega (arith, few, deep-le e.1), (omega (arith, low, deep, down), (c.below_element-below.ensures.placed, (so.closes.0, (so.closes.1, (omega (arith, count, held), so.digested))))))
 
 pub lay_list-loop-mark-preserved : goal.lay_list-loop-mark-preserved
 lay_list-loop-mark-preserved t c =
@@ -116,7 +117,7 @@ lay_map-lay_part-requires t c =
     let deep = c.requires.depth in
     let held = c.requires.salts in
     let down = c.below-below.ensures.depth in
-    (omega (arith, few), (omega (arith, low, deep, down), (c.below-below.ensures.placed, (so.closes.0, (so.closes.1, (omega (arith, count, held), so.digested))))))
+    (omega (arith, few, deep-le e.2), (omega (arith, low, deep, down), (c.below-below.ensures.placed, (so.closes.0, (so.closes.1, (omega (arith, count, held), so.digested))))))
 
 pub lay_map-loop-name-preserved-in-Continue-branch-3 :
     goal.lay_map-loop-name-preserved-in-Continue-branch-3

@@ -5,16 +5,11 @@ use Rattle.claim_tree.specs.Tree.{Text, elements_len}
 use Rattle.claim_tree.proofs.Views.{elements_len-of}
 use Rattle.issuer_core.proofs.ReservedPlaces.{ElementsFit, every, element_found, element_passed, member_found, member_passed, without_sd, object_with, object_without, held_element, held_member}
 use Rattle.claim_tree.specs.ListViews.{elements_of, members_of}
-use Rattle.claim_tree.proofs.Walks.{Named, into_element, into_member}
+use Rattle.claim_tree.proofs.Walks.{Named}
 use Rattle.marked_tree.specs.Paths.{Path}
 use Rattle.issuer_core.specs.ReservedPaths.{reserved_elements, reserved_members}
 use Rattle.issuer_core.proofs.reserved.+reserved.Goals as goal
 use Rattle.marked_tree.proofs.Finds.{step_behind}
-
-pub find_in_list-find-requires : goal.find_in_list-find-requires
-find_in_list-find-requires t c =
-    let step = into_element c.trees-tree-items.result.now c.loop-i.i c.tree-item.result c.args.trees.now c.loop-i-test.true c.tree-item.is c.trees-tree-items.ensures.value c.requires in
-    (omega (arith, step.0), step.1)
 
 pub find_in_list-returns-in-Some-clause-first : goal.find_in_list-returns-in-Some-clause-first
 find_in_list-returns-in-Some-clause-first t c =
@@ -35,11 +30,6 @@ find_in_list-loop-i-preserved t c =
       element_passed l.i c.trees-tree-items.result.now c.tree-item.result c.loop-i-test.true c.tree-item.is (sym here) ∙ l.invariant.0,
       λ rest. l.invariant.1 (held_element l.i c.trees-tree-items.result.now c.tree-item.result c.loop-i-test.true c.tree-item.is held rest),
     )
-
-pub find_in_members-find_at-requires : goal.find_in_members-find_at-requires
-find_in_members-find_at-requires t c =
-    let step = into_member c.members-name-items.result.now c.loop-name.name-index c.loop-name-item.result c.args.trees.now c.loop-name-test.true c.loop-name-item.is c.members-name-items.ensures.value c.requires.depth in
-    (omega (arith, step.0), step.1)
 
 pub find_in_members-returns-in-Some-clause-first : goal.find_in_members-returns-in-Some-clause-first
 find_in_members-returns-in-Some-clause-first t c =

@@ -2,6 +2,7 @@ use Rattle.std.proofs.Common.{◌≡◌, ℕ, ◌+◌, ◌<◌, ◌≤◌, [], d
 use Rattle.std.specs.Vec.Iter.{into_iter_items}
 use Rattle.std.proofs.lemmas.List.{length-map, nil_from_length}
 use Rattle.claim_tree.specs.Tree.{depth, element, no_elements, member, no_members, names}
+use Rattle.claim_tree.specs.Falls.{deep-le}
 use Rattle.claim_tree.specs.View.{tree_of}
 use Rattle.claim_tree.specs.ListViews.{elements_of, members_of}
 use Rattle.marked_tree.specs.MarkedCalls.{marked_elements_len}
@@ -62,7 +63,7 @@ mark_list-mark_at-requires t c =
     let so_far = so.few in
     let low = so.low in
     let small = so.small in
-    (omega (arith, small), (omega (arith, low, c.requires.depth), (c.requires.sorted, omega (arith, step, few, so_far, decimals_more n ps, decimals_le (suc n) ps (omega (arith, fits, count))))))
+    (omega (arith, small, deep-le c.in-Some.tree), (omega (arith, low, c.requires.depth), (c.requires.sorted, omega (arith, step, few, so_far, decimals_more n ps, decimals_le (suc n) ps (omega (arith, fits, count))))))
 
 pub mark_list-loop-tree-preserved : goal.mark_list-loop-tree-preserved
 mark_list-loop-tree-preserved t c =
@@ -126,7 +127,7 @@ mark_map-mark_at-requires t c =
     let so_far = so.few in
     let low = so.low in
     let small = so.small in
-    (omega (arith, small), (omega (arith, low, c.requires.depth), (c.requires.sorted, omega (arith, step, few, so_far, taken_more c.in-Some.name (names left) ps, names_le a.trees ps c.into_members-name-items.ensures.ordered))))
+    (omega (arith, small, deep-le c.in-Some.tree), (omega (arith, low, c.requires.depth), (c.requires.sorted, omega (arith, step, few, so_far, taken_more c.in-Some.name (names left) ps, names_le a.trees ps c.into_members-name-items.ensures.ordered))))
 
 pub mark_map-loop-name-preserved : goal.mark_map-loop-name-preserved
 mark_map-loop-name-preserved t c =

@@ -4,19 +4,8 @@ use Rattle.claim_tree.specs.Tree.{Text}
 use Rattle.marked_tree.specs.Paths.{Path, first_with, elements_spots, members_spots}
 use Rattle.marked_tree.specs.View.{marked_of}
 use Rattle.marked_tree.proofs.MarkedViews.{Entry}
-use Rattle.marked_tree.proofs.MarkedWalks.{into_element, into_member}
 use Rattle.marked_tree.proofs.Finds.{found_inside, not_own, stepped, step_behind, element_passed, element_found, member_passed, member_found}
 use Rattle.marked_tree.proofs.places.+find.Goals as goal
-
-pub find_element-find_at-requires : goal.find_element-find_at-requires
-find_element-find_at-requires t c =
-    let step = into_element c.elements-element-items.result.now c.loop-i.i c.element-item.result c.args.list.now c.loop-i-test.true c.element-item.is c.elements-element-items.ensures.value c.requires in
-    (omega (arith, step.0), step.1)
-
-pub find_member-find_at-requires : goal.find_member-find_at-requires
-find_member-find_at-requires t c =
-    let step = into_member c.members-name-items.result.now c.loop-name.name-index c.loop-name-item.result c.args.map.now c.loop-name-test.true c.loop-name-item.is c.members-name-items.ensures.value c.requires in
-    (omega (arith, step.0), step.1)
 
 pub find_at-returns : goal.find_at-returns
 find_at-returns t c =

@@ -4,19 +4,9 @@ use Rattle.marked_tree.specs.Marked.{strip_members, kept, remark, remark_element
 use Rattle.marked_tree.specs.Numbers.{has}
 use Rattle.marked_tree.specs.View.{marked_of, marked_elements_of, marked_members_of}
 use Rattle.marked_tree.proofs.MarkedViews.{Element, Entry}
-use Rattle.marked_tree.proofs.MarkedWalks.{into_element, into_member, kept_turn, kept_member_turn, kept_pushed, kept_put, kept_is, left_out_is}
+use Rattle.marked_tree.proofs.MarkedWalks.{kept_turn, kept_member_turn, kept_pushed, kept_put, kept_is, left_out_is}
 use Rattle.marked_tree.proofs.prunes.+prune.Goals.{prune_list-then-stays+in_ok-prune_tree+in_ok-push, prune_list-else-stays, prune_map-then-stays+in_ok-name+in_ok-prune_tree+in_ok-put, prune_map-else-stays}
 use Rattle.marked_tree.proofs.prunes.+prune.Goals as goal
-
-pub prune_list-prune_tree-requires : goal.prune_list-prune_tree-requires
-prune_list-prune_tree-requires t c =
-    let step = into_element c.elements-mark-items.result.now c.loop-mark.mark-index c.loop-mark-item.result c.args.list.now c.loop-mark-test.true c.loop-mark-item.is c.elements-mark-items.ensures.value c.requires in
-    (omega (arith, step.0), step.1)
-
-pub prune_map-prune_tree-requires : goal.prune_map-prune_tree-requires
-prune_map-prune_tree-requires t c =
-    let step = into_member c.members-name-items.result.now c.loop-name.name-index c.loop-name-item.result c.args.map.now c.loop-name-test.true c.loop-name-item.is c.members-name-items.ensures.value c.requires in
-    (omega (arith, step.0), step.1)
 
 pub prune_list-loop-mark-preserved : goal.prune_list-loop-mark-preserved
 prune_list-loop-mark-preserved t c =

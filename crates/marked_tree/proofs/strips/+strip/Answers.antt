@@ -3,24 +3,14 @@ use Rattle.claim_tree.specs.Tree.{MembersOrdered}
 use Rattle.marked_tree.specs.Marked.{strip_members}
 use Rattle.marked_tree.specs.View.{marked_members_of}
 use Rattle.marked_tree.proofs.MarkedViews.{Entry}
-use Rattle.marked_tree.proofs.MarkedWalks.{into_element, into_member, stripped_turn, stripped_member_turn}
+use Rattle.marked_tree.proofs.MarkedWalks.{stripped_turn, stripped_member_turn}
 use Rattle.marked_tree.proofs.strips.+strip.Goals as goal
-
-pub strip_list-strip-requires : goal.strip_list-strip-requires
-strip_list-strip-requires t c =
-    let step = into_element c.elements-tree-items.result.now c.loop-tree.tree-index c.loop-tree-item.result c.args.list.now c.loop-tree-test.true c.loop-tree-item.is c.elements-tree-items.ensures.value c.requires in
-    (omega (arith, step.0), step.1)
 
 pub strip_list-loop-tree-preserved : goal.strip_list-loop-tree-preserved
 strip_list-loop-tree-preserved t c =
     let l = c.loop-tree in
     let more = stripped_turn c.elements-tree-items.result.now l.tree-index c.loop-tree-item.result c.loop-tree-test.true c.loop-tree-item.is in
     rw (c.in_ok-push.ensures.ok, l.invariant, c.in_ok-strip.ensures) (sym more)
-
-pub strip_map-strip-requires : goal.strip_map-strip-requires
-strip_map-strip-requires t c =
-    let step = into_member c.members-name-items.result.now c.loop-name.name-index c.loop-name-item.result c.args.map.now c.loop-name-test.true c.loop-name-item.is c.members-name-items.ensures.value c.requires in
-    (omega (arith, step.0), step.1)
 
 pub strip_map-loop-name-preserved : goal.strip_map-loop-name-preserved
 strip_map-loop-name-preserved t c =

@@ -1,18 +1,7 @@
-use Rattle.std.proofs.Common.{◌≡◌, ◌+◌, ◌*◌, drop}
-use Rattle.claim_tree.specs.Nodes.{nodes, elements_nodes, members_nodes}
-use Rattle.claim_tree.specs.View.{tree_of}
+use Rattle.std.proofs.Common.{◌≡◌, drop}
 use Rattle.claim_tree.specs.ListViews.{elements_of, members_of}
 use Rattle.rebuild_core.specs.Unhidden.{elements_unhidden, members_unhidden}
 use Rattle.rebuild_core.proofs.unhidden.+unhidden.Given as goal
-
-abbrev pub decreases-is_unhidden : goal.decreases-is_unhidden
-decreases-is_unhidden l = 2 * nodes (tree_of l.tree.now)
-
-abbrev pub decreases-are_unhidden : goal.decreases-are_unhidden
-decreases-are_unhidden l = 2 * elements_nodes l.trees.now + 1
-
-abbrev pub decreases-has_nothing_hidden : goal.decreases-has_nothing_hidden
-decreases-has_nothing_hidden l = 2 * members_nodes l.members.now + 1
 
 abbrev pub invariant-are_unhidden-loop-tree : goal.invariant-are_unhidden-loop-tree
 invariant-are_unhidden-loop-tree l = elements_unhidden (elements_of (drop l.tree-index l.tree-items)) ≡ elements_unhidden (elements_of l.tree-items)

@@ -1,14 +1,13 @@
 use Rattle.std.proofs.Common.{◌≡◌, ◌≤◌, Some, sym, ap, ap₂, subst, ◌∙◌, arith}
 use Rattle.claim_tree.specs.Tree.{Text, Tree, Elements, Members, array, object, elements_len, members_len, element_at}
 use Rattle.claim_tree.specs.TreeCalls.{member_at}
-use Rattle.claim_tree.specs.Nodes.{nodes, elements_nodes, members_nodes}
 use Rattle.claim_tree.specs.View.{tree_of}
 use Rattle.claim_tree.proofs.Lists.{pair_same}
 use Rattle.marked_tree.specs.MarkedCalls.{marked_elements_len, marked_members_len}
 use Rattle.marked_tree.specs.Marked.{MarkedElements, MarkedMembers, strip, strip_elements, strip_members}
 use Rattle.marked_tree.specs.View.{marked_of, marked_elements_of, marked_members_of}
 use Rattle.marked_tree.proofs.MarkedViews.{Element, Entry}
-use Rattle.marked_tree.proofs.StrippedSame.{turn_same, turn_same_members, all_same, all_same_members, differs_there, differs_there_members, lists_differ, objects_differ, elements_stripped_len, members_stripped_len, element_falls, member_falls}
+use Rattle.marked_tree.proofs.StrippedSame.{turn_same, turn_same_members, all_same, all_same_members, differs_there, differs_there_members, lists_differ, objects_differ, elements_stripped_len, members_stripped_len}
 use Rattle.wallet_core.proofs.Sames.{is_not, is_so, named_same, named_other}
 use Rattle.wallet_core.proofs.values.+same.Goals as goal
 use Rattle.wallet_core.proofs.values.+same.Goals.{have_same-then-ne-via-then-ne, have_same-then-ne-via-else-ne+then-not-is_same}
@@ -16,12 +15,6 @@ use Rattle.wallet_core.proofs.values.+same.Goals.{have_same-then-ne-via-then-ne,
 pub are_same-returns-then-len : goal.are_same-returns-then-len
 are_same-returns-then-len t c =
     is_not _ (lists_differ c.args.list.now c.args.values.now (λ same. let lens = ap elements_len same in let own = elements_stripped_len c.args.list.now in omega (arith, c.if-len.true, c.len.ensures, c.len-2.ensures, lens, own)))
-
-pub are_same-is_same-requires : goal.are_same-is_same-requires
-are_same-is_same-requires t c =
-    let e : Element = c.element-item.result in
-    let fall = subst (λ us. nodes (strip (marked_of e.1)) ≤ elements_nodes (strip_elements us)) c.elements-element-items.ensures.value (element_falls c.elements-element-items.result.now c.loop-i.i e c.loop-i-test.true c.element-item.is) in
-    omega (arith, fall)
 
 pub are_same-returns-in_default : goal.are_same-returns-in_default
 are_same-returns-in_default t c =
@@ -59,12 +52,6 @@ are_same-returns t c =
 pub have_same-returns-then-len : goal.have_same-returns-then-len
 have_same-returns-then-len t c =
     is_not _ (objects_differ c.args.map.now c.args.values.now (λ same. let lens = ap members_len same in let own = members_stripped_len c.args.map.now in omega (arith, c.if-len.true, c.len.ensures, c.len-2.ensures, lens, own)))
-
-pub have_same-is_same-requires : goal.have_same-is_same-requires
-have_same-is_same-requires t c =
-    let m : Entry = c.member-item.result in
-    let fall = subst (λ us. nodes (strip (marked_of m.2)) ≤ members_nodes (strip_members us)) c.members-member-items.ensures.value (member_falls c.members-member-items.result.now c.loop-i.i m c.loop-i-test.true c.member-item.is) in
-    omega (arith, fall)
 
 pub have_same-returns-in_default : goal.have_same-returns-in_default
 have_same-returns-in_default t c =

@@ -1,24 +1,7 @@
-use Rattle.std.proofs.Common.{◌≡◌, ◌+◌, ◌*◌, ◌++◌, drop}
-use Rattle.claim_tree.specs.Nodes.{nodes, elements_nodes, members_nodes}
-use Rattle.claim_tree.specs.View.{tree_of}
+use Rattle.std.proofs.Common.{◌≡◌, ◌++◌, drop}
 use Rattle.claim_tree.specs.ListViews.{elements_of, members_of}
 use Rattle.digest_sites.specs.Walk.{elements_sites, members_sites}
 use Rattle.digest_sites.proofs.walk.Walk.+walk.Given as goal
-
-abbrev pub decreases-visit : goal.decreases-visit
-decreases-visit l = 3 * nodes (tree_of l.tree.now)
-
-abbrev pub decreases-visit_element : goal.decreases-visit_element
-decreases-visit_element l = 3 * nodes (tree_of l.tree.now) + 1
-
-abbrev pub decreases-visit_member : goal.decreases-visit_member
-decreases-visit_member l = 3 * nodes (tree_of l.tree.now) + 1
-
-abbrev pub decreases-visit_elements : goal.decreases-visit_elements
-decreases-visit_elements l = 3 * elements_nodes l.trees.now + 2
-
-abbrev pub decreases-visit_members : goal.decreases-visit_members
-decreases-visit_members l = 3 * members_nodes l.trees.now + 2
 
 abbrev pub invariant-visit_elements-loop-i : goal.invariant-visit_elements-loop-i
 invariant-visit_elements-loop-i l =

@@ -4,17 +4,11 @@ use Rattle.marked_tree.specs.Numbers.{has}
 use Rattle.marked_tree.specs.Paths.{Path, spots, elements_spots, members_spots}
 use Rattle.marked_tree.specs.View.{marked_of, marked_elements_of, marked_members_of}
 use Rattle.marked_tree.proofs.MarkedViews.{Element, Entry}
-use Rattle.marked_tree.proofs.MarkedWalks.{into_element, into_member}
 use Rattle.selection_core.specs.Asked.{own_seen, seen_from, IsAskedOnWalk}
 use Rattle.selection_core.specs.declared.allowing.Walk.{Walk}
 use Rattle.selection_core.proofs.Asking.{IsAskedThrough, asked_none, asked_append, node_asked, node_skipped, element_seen, member_seen, popped}
 use Rattle.selection_core.proofs.allowing.Asking.+ask.Goals.{ask_elements-then-may_hold+in_ok-ask_node, ask_elements-else-may_hold, ask_members-then-may_hold+in_ok-ask_node, ask_members-else-may_hold}
 use Rattle.selection_core.proofs.allowing.Asking.+ask.Goals as goal
-
-pub ask_elements-ask_node-requires : goal.ask_elements-ask_node-requires
-ask_elements-ask_node-requires g t c κs within =
-    let step = into_element c.elements-element-items.result.now c.loop-i.i c.element-item.result c.args.list.now c.loop-i-test.true c.element-item.is c.elements-element-items.ensures.value c.requires.depth in
-    (omega (arith, step.0), (within, (c.requires.callable, step.1)))
 
 pub ask_elements-loop-i-preserved : goal.ask_elements-loop-i-preserved
 ask_elements-loop-i-preserved g t c =
@@ -37,11 +31,6 @@ ask_elements-returns-clause-asked g t c =
     (drop_all c.loop-i.i es c.loop-i-test.false) c.loop-i.invariant.1 in
     subst (λ us. IsAskedOnWalk g.F.Fn c.args.self.now.consent.now (has c.args.self.now.chosen.now) (seen_from c.args.walk.now.at (elements_spots 0 us)) c.args.walk.now.refused c.loop-i.walk.refused) c.elements-element-items.ensures.value
     (done c.loop-i.walk.refused (asked_none g.F.Fn c.args.self.now.consent.now (has c.args.self.now.chosen.now) c.loop-i.walk.refused))
-
-pub ask_members-ask_node-requires : goal.ask_members-ask_node-requires
-ask_members-ask_node-requires g t c κs within =
-    let step = into_member c.members-name-items.result.now c.loop-name.name-index c.loop-name-item.result c.args.map.now c.loop-name-test.true c.loop-name-item.is c.members-name-items.ensures.value c.requires.depth in
-    (omega (arith, step.0), (within, (c.requires.callable, step.1)))
 
 pub ask_members-loop-name-preserved : goal.ask_members-loop-name-preserved
 ask_members-loop-name-preserved g t c =

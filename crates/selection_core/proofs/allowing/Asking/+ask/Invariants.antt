@@ -1,24 +1,10 @@
-use Rattle.std.proofs.Common.{◌≡◌, ◌+◌, ◌*◌, drop}
-use Rattle.claim_tree.specs.Nodes.{nodes, elements_nodes, members_nodes}
-use Rattle.marked_tree.specs.Marked.{strip, strip_elements, strip_members}
+use Rattle.std.proofs.Common.{◌≡◌, drop}
 use Rattle.marked_tree.specs.Numbers.{has}
 use Rattle.marked_tree.specs.Paths.{elements_spots, members_spots}
-use Rattle.marked_tree.specs.View.{marked_of, marked_elements_of, marked_members_of}
+use Rattle.marked_tree.specs.View.{marked_elements_of, marked_members_of}
 use Rattle.selection_core.specs.Asked.{seen_from}
 use Rattle.selection_core.proofs.Asking.{IsAskedThrough}
 use Rattle.selection_core.proofs.allowing.Asking.+ask.Given as goal
-
-abbrev pub decreases-ask_inside : goal.decreases-ask_inside
-decreases-ask_inside g l = 3 * nodes (strip (marked_of l.tree.now))
-
-abbrev pub decreases-ask_node : goal.decreases-ask_node
-decreases-ask_node g l = 3 * nodes (strip (marked_of l.tree.now)) + 1
-
-abbrev pub decreases-ask_elements : goal.decreases-ask_elements
-decreases-ask_elements g l = 3 * elements_nodes (strip_elements l.list.now) + 2
-
-abbrev pub decreases-ask_members : goal.decreases-ask_members
-decreases-ask_members g l = 3 * members_nodes (strip_members l.map.now) + 2
 
 abbrev pub invariant-ask_elements-loop-i : goal.invariant-ask_elements-loop-i
 invariant-ask_elements-loop-i g l =
