@@ -37,6 +37,7 @@ pub mod Clashes
 pub mod Lowest
 pub mod Judged
 pub mod OrderFiles
+pub mod OrderFaults
 pub mod PlacedDecoys
 pub mod SortedEntries
 pub mod SortedDigests

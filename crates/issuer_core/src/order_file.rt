@@ -95,6 +95,7 @@ fn decoy_of(alloc: Global, tree: &Tree) -> Result<Option<Decoy>, NoMemory>
     }
 }
 
+#[tactic(auto, using(claim_tree::proofs::ListForms::no_element, claim_tree::proofs::ListForms::each_turn))]
 fn decoys_of(alloc: Global, trees: &[Tree]) -> Result<Option<DecoyList>, NoMemory>
     ensures decoys { IfOk result (λ decoys. IfSome decoys (EachSays IsDecoy (elements_of trees.now))) }
     ensures none { IfOk result (λ decoys. IfNone decoys ((list : List Seen) → EachSays IsDecoy (elements_of trees.now) list → ⊥)) }
