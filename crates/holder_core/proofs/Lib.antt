@@ -3,6 +3,7 @@ pub mod Picking
 pub mod Steps
 pub mod WholeToken
 pub mod PresentFiles
+pub mod PresentFaults
 pub mod OnePresentation
 pub mod PickedNumbers
 pub mod OtherRules

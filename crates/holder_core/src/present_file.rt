@@ -105,6 +105,7 @@ fn binding_member(alloc: Global, members: &TreeMap) -> Result<Option<BindingOrde
 /// `want` and `never` are lists of JSON Pointers; where they are missing they are empty. `binding` is an object of just
 /// `key`, the base64url text of at least 32 bytes, `kid`, a text, and `aud` and `nonce`, texts of at most 256 bytes;
 /// where it is missing, no key binding token is asked for. Another member is a fault.
+#[tactic(auto, using(crate::proofs::PresentFaults::refused_at))]
 pub fn read_present(alloc: Global, bytes: &[u8]) -> Result<PresentFile, FileFault>
     ensures ok { IfOk result (IsPresentFile bytes.now) }
     ensures refused { IfErr result (IsPresentFileRefused bytes.now) }

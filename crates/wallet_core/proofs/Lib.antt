@@ -5,3 +5,4 @@ pub mod Bounds
 pub mod Carried
 pub mod Fetched
 pub mod WordsApart
+pub mod QueryFaults

@@ -67,6 +67,7 @@ fn equal_of(alloc: Global, tree: &Tree) -> Result<Option<Equal>, NoMemory>
     }
 }
 
+#[tactic(auto, using(claim_tree::proofs::ListForms::no_element, claim_tree::proofs::ListForms::each_turn))]
 fn equals_of(alloc: Global, trees: &[Tree]) -> Result<Option<EqualList>, NoMemory>
     ensures equals { IfOk result (λ equals. IfSome equals (EachSays IsEqual (elements_of trees.now))) }
     ensures none { IfOk result (λ equals. IfNone equals ((list : List Seen) → EachSays IsEqual (elements_of trees.now) list → ⊥)) }
@@ -102,6 +103,7 @@ fn equal_member(alloc: Global, members: &TreeMap) -> Result<EqualList, FileFault
 /// `want` and `never` are lists of JSON Pointers. `equal` is a list of objects of just `at`, a JSON Pointer, and
 /// `value`, which is null, a flag, a whole number or a text. Where one of the three is missing, it is empty. Another
 /// member is a fault.
+#[tactic(auto, using(crate::proofs::QueryFaults::refused_at))]
 pub fn read_query(alloc: Global, bytes: &[u8]) -> Result<QueryFile, FileFault>
     ensures ok { IfOk result (IsQueryFile bytes.now) }
     ensures refused { IfErr result (IsQueryFileRefused bytes.now) }
