@@ -1,23 +1,23 @@
-use Rattle.std.proofs.Common.{◌+◌, ◌++◌, length, drop, take, sym, ap, ◌∙◌, append_assoc, arith}
+use Rattle.std.proofs.Common.{◌+◌, ◌≤◌, ◌++◌, length, drop, take, sym, ap, ◌∙◌, append_assoc, arith}
+use Rattle.sd_outside.specs.Limits.{count_max}
 use Rattle.claim_tree.specs.View.{tree_of}
 use Rattle.issuer_core.specs.Decoys.{decoy_paths}
 use Rattle.audit_core.proofs.Loops.{entry}
 use Rattle.audit_core.proofs.Wanteds.{texts_of, few_before, whole_step, counts_after, texts_after, texts_end}
+use Rattle.audit_core.proofs.wanted.wanted_standings.Goals.{After-count_of-before}
 use Rattle.audit_core.proofs.wanted.wanted_standings.Goals as goal
 
-pub note-requires-clause-few : goal.note-requires-clause-few
-note-requires-clause-few c =
+few : (c : After-count_of-before) → c.count_of-before.result + c.entry-item.result.count ≤ count_max
+few c =
     let l = c.loop-entry.invariant in
     let h = entry c.elements-entry-items.result.now c.loop-entry.entry-index c.entry-item.result c.loop-entry-test.true c.entry-item.is in
-    let few = few_before c.elements-entry-items.result.now _ c.loop-entry.entry-index c.entry-item.result c.loop-entry.counts c.in_ok-pointer.pointer c.count_of-before.result h l.whole l.counts c.in_ok-pointer.ensures c.count_of-before.ensures c.elements-entry-items.ensures c.requires in
-    omega (arith, few)
+    few_before c.elements-entry-items.result.now _ c.loop-entry.entry-index c.entry-item.result c.loop-entry.counts c.in_ok-pointer.pointer c.count_of-before.result h l.whole l.counts c.in_ok-pointer.ensures c.count_of-before.ensures c.elements-entry-items.ensures c.requires
+
+pub note-requires-clause-few : goal.note-requires-clause-few
+note-requires-clause-few c = let within = few (goal.at.note-requires-clause-few c).After-count_of-before in omega (arith, within)
 
 pub push_entry-requires-clause-few : goal.push_entry-requires-clause-few
-push_entry-requires-clause-few c =
-    let l = c.loop-entry.invariant in
-    let h = entry c.elements-entry-items.result.now c.loop-entry.entry-index c.entry-item.result c.loop-entry-test.true c.entry-item.is in
-    let few = few_before c.elements-entry-items.result.now _ c.loop-entry.entry-index c.entry-item.result c.loop-entry.counts c.in_ok-pointer.pointer c.count_of-before.result h l.whole l.counts c.in_ok-pointer.ensures c.count_of-before.ensures c.elements-entry-items.ensures c.requires in
-    omega (arith, few)
+push_entry-requires-clause-few c = few (goal.at.push_entry-requires-clause-few c).After-count_of-before
 
 pub loop-entry-preserved : goal.loop-entry-preserved
 loop-entry-preserved c =
