@@ -12,17 +12,6 @@ abbrev pub IsFetched : (List ℕ → Option (List ℕ)) → NamedFile → List �
 IsFetched holds wanted bytes = IfSome (holds wanted.name) (λ content. bytes ≡ take wanted.most content)
 
 module _ (holds : List ℕ → Option (List ℕ)) (command : Command) where
-  -- of the one file of a command: its bytes, and those of the box that was fetched
-  pub one_fetched : (wanted : NamedFile) (file bytes : List ℕ) → files_of command ≡ wanted ∷ [] → IsFetched holds wanted file → bytes ≡ file → AreFetched holds command (bytes ∷ [])
-  one_fetched wanted file bytes files_are fetched same =
-      rw (files_are, same) (fetched, tt)
-
-  -- of its two files: the second was fetched when the cabinet held what it holds later, the same under its name
-  pub two_fetched : (wanted other : NamedFile) (later : List ℕ → Option (List ℕ)) (file second bytes more : List ℕ) → files_of command ≡ wanted ∷ other ∷ []
-      → IsFetched holds wanted file → IsFetched later other second → later other.name ≡ holds other.name → bytes ≡ file → more ≡ second → AreFetched holds command (bytes ∷ more ∷ [])
-  two_fetched wanted other later file second bytes more files_are fetched after kept same also =
-      rw (files_are, same, also, sym kept) (fetched, (after, tt))
-
   -- what is answered over the files that were fetched is what the command answers
   pub lifted : (files : List (List ℕ)) (now : ℕ) (answer : Result (String Global) Stop) → AreFetched holds command files → IfOk answer (λ text. Answers command files now (gives (string_bytes text)))
       → IfErr answer (λ stop. OnRefused stop (λ text. Answers command files now (refuses text))) → IfErr answer (λ stop. OnUnreadable stop (λ text. Answers command files now (unreadable text)))
@@ -30,3 +19,17 @@ module _ (holds : List ℕ → Option (List ℕ)) (command : Command) where
   lifted files now answer fetched ok refusal unfit =
       let is = replied (Answers command files now) answer ok refusal unfit in
       reply_more (Answers command files now) (IsAnswered holds command now) (λ reply h. record { files = files; fetched = fetched; answers = h }) answer is
+
+  -- of a command with one file: its bytes are those of the box that was fetched
+  pub lifted_one : (wanted : NamedFile) (file bytes : List ℕ) (now : ℕ) (answer : Result (String Global) Stop) → files_of command ≡ wanted ∷ [] → IsFetched holds wanted file → bytes ≡ file
+      → IfOk answer (λ text. Answers command (bytes ∷ []) now (gives (string_bytes text))) → IfErr answer (λ stop. OnRefused stop (λ text. Answers command (bytes ∷ []) now (refuses text)))
+      → IfErr answer (λ stop. OnUnreadable stop (λ text. Answers command (bytes ∷ []) now (unreadable text))) → IsReply (IsAnswered holds command now) answer
+  lifted_one wanted file bytes now answer files_are fetched same = lifted (bytes ∷ []) now answer (rw (files_are, same) (fetched, tt))
+
+  -- of one with two files: the second was fetched when the cabinet held what it holds later, the same under its name
+  pub lifted_two : (wanted other : NamedFile) (later : List ℕ → Option (List ℕ)) (file second bytes more : List ℕ) (now : ℕ) (answer : Result (String Global) Stop) → files_of command ≡ wanted ∷ other ∷ []
+      → IsFetched holds wanted file → IsFetched later other second → later other.name ≡ holds other.name → bytes ≡ file → more ≡ second
+      → IfOk answer (λ text. Answers command (bytes ∷ more ∷ []) now (gives (string_bytes text))) → IfErr answer (λ stop. OnRefused stop (λ text. Answers command (bytes ∷ more ∷ []) now (refuses text)))
+      → IfErr answer (λ stop. OnUnreadable stop (λ text. Answers command (bytes ∷ more ∷ []) now (unreadable text))) → IsReply (IsAnswered holds command now) answer
+  lifted_two wanted other later file second bytes more now answer files_are fetched after kept same also =
+      lifted (bytes ∷ more ∷ []) now answer (rw (files_are, same, also, sym kept) (fetched, (after, tt)))
