@@ -1,7 +1,6 @@
 -- Two slices of marked trees, side by side.
-use Rattle.std.proofs.Common.{◌≡◌, ◌≢◌, ℕ, zero, suc, ◌<◌, ◌≤◌, List, [], ◌∷◌, length, get_or, drop, Bool, true, false, ◌&&◌, refl, sym, ap, subst, arith}
+use Rattle.std.proofs.Common.{◌≡◌, ◌≢◌, ℕ, suc, List, [], ◌∷◌, length, drop, Bool, true, false, ◌&&◌, refl, ap}
 use Rattle.std.specs.Prelude.{bytes_eq}
-use Rattle.marked_tree.specs.Marked.{MarkedElements, MarkedMembers, strip, strip_elements, strip_members}
 use Rattle.marked_tree.specs.View.{marked_of, marked_elements_of, marked_members_of}
 use Rattle.marked_tree.proofs.MarkedViews.{Element, Entry}
 use Rattle.audit_core.specs.SameMarked.{same_mark, same_marked, same_elements, same_members}

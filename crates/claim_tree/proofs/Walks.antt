@@ -1,26 +1,30 @@
 -- The trees of a slice, one by one.
-use Rattle.std.proofs.Common.{◌≡◌, ℕ, zero, suc, ◌+◌, ◌*◌, ◌<◌, ◌≤◌, List, [], ◌∷◌, ◌++◌, length, get_or, take, add-one, refl, sym, ap, subst, ◌∙◌, arith}
-use Rattle.std.proofs.Math.Seq.{take-suc}
+use Rattle.std.proofs.Common.{◌≡◌, ℕ, zero, suc, ◌+◌, ◌<◌, ◌≤◌, List, [], ◌∷◌, length, get_or, take, add-one, refl, sym, ap, ◌∙◌, arith}
 use Rattle.claim_tree.specs.Tree as spec
 use Rattle.claim_tree.specs.Tree.{Text, depth, elements_depth, members_depth, names, inserted, IsBefore, IsBeforeAll, MembersOrdered}
 use Rattle.claim_tree.specs.TreeCalls.{pushed}
-use Rattle.claim_tree.specs.Nodes.{nodes, elements_nodes, members_nodes, elements_size, members_size}
+use Rattle.claim_tree.specs.Nodes.{elements_size, members_size}
 use Rattle.claim_tree.specs.Falls.{deep-le}
 use Rattle.claim_tree.specs.View.{tree_of}
 use Rattle.claim_tree.specs.ListViews.{elements_of, members_of}
 use Rattle.claim_tree.specs.declared.tree.Tree as tree
 use Rattle.claim_tree.specs.declared.tree.TreeList.TheDeep.{deep-Tree}
-use Rattle.claim_tree.proofs.Lists.{each_place}
-use Rattle.claim_tree.proofs.Views.{elements_of-push}
 
 abbrev pub Named : Type 0
 Named = Text × tree.Tree
 
--- one element more
+-- ---- one tree more
+
+pub element_turn : (ts : List tree.Tree) (i : ℕ) (d : tree.Tree) → i < length ts → elements_of (take (i + 1) ts) ≡ pushed (elements_of (take i ts)) (tree_of (get_or ts i d))
+element_turn ts i d within = rw add-one (go ts i within)
+  where
+    go : (us : List tree.Tree) (k : ℕ) → k < length us → elements_of (take (suc k) us) ≡ pushed (elements_of (take k us)) (tree_of (get_or us k d))
+    go [] k within = absurd (omega arith)
+    go (u ∷ us) zero within = refl
+    go (u ∷ us) (suc k) within = ap (spec.element (tree_of u)) (go us k (omega arith))
+
 pub elements_turn : (ts : List tree.Tree) (i : ℕ) (t : tree.Tree) → i < length ts → t ≡ get_or ts i t → elements_of (take (i + 1) ts) ≡ pushed (elements_of (take i ts)) (tree_of t)
-elements_turn ts i t within is =
-    let front : take (i + 1) ts ≡ take i ts ++ t ∷ [] = rw add-one (take-suc ts i t within ∙ ap (λ w. take i ts ++ w ∷ []) (sym is)) in
-    rw front (elements_of-push (take i ts) t)
+elements_turn ts i t within is = element_turn ts i t within ∙ ap (λ u. pushed (elements_of (take i ts)) (tree_of u)) (sym is)
 
 before_there : (name : Text) (ms : List Named) (i : ℕ) (d : Named) → i < length ms → IsBeforeAll name (names (members_of ms)) → IsBefore name (get_or ms i d).0
 before_there name [] i d within h = absurd (omega arith)
@@ -35,11 +39,8 @@ inserted_there (m ∷ ms) (suc i) d within h =
     let rest = inserted_there ms i d (omega arith) h.2 in
     rw (before_there m.0 ms i d (omega arith) h.0) (ap (spec.member m.0 (tree_of m.1)) rest)
 
--- one member more
-pub members_turn : (ms : List Named) (i : ℕ) (m : Named) → i < length ms → m ≡ get_or ms i m → MembersOrdered (members_of ms) → members_of (take (i + 1) ms) ≡ inserted (members_of (take i ms)) m.0 (tree_of m.1)
-members_turn ms i m within is ordered =
-    let at : inserted (members_of (take i ms)) (get_or ms i m).0 (tree_of (get_or ms i m).1) ≡ inserted (members_of (take i ms)) m.0 (tree_of m.1) = ap (λ (n : Named). inserted (members_of (take i ms)) n.0 (tree_of n.1)) (sym is) in
-    rw add-one (inserted_there ms i m within ordered ∙ at)
+pub member_turn : (ms : List Named) (i : ℕ) (d : Named) → i < length ms → MembersOrdered (members_of ms) → members_of (take (i + 1) ms) ≡ inserted (members_of (take i ms)) (get_or ms i d).0 (tree_of (get_or ms i d).1)
+member_turn ms i d within ordered = rw add-one (inserted_there ms i d within ordered)
 
 -- ---- a call that goes into each tree of a slice: its measure is below that of the list, and it nests no deeper
 
@@ -66,3 +67,8 @@ member_lower (m ∷ ms) (suc i) d within = let rest = member_lower ms i d (omega
 pub ruleset into_element = (element_falls, element_lower)
 
 pub ruleset into_member = (member_falls, member_lower)
+
+-- the same, and what is copied of the list has one tree more
+pub ruleset past_element = (element_falls, element_lower, element_turn)
+
+pub ruleset past_member = (member_falls, member_lower, member_turn)

@@ -24,7 +24,7 @@ pub fn copy(alloc: Global, tree: &Tree) -> Result<Tree, NoMemory>
 }
 
 #[cycle(copy)]
-#[tactic(auto, using(crate::proofs::Walks::into_element))]
+#[tactic(auto, using(crate::proofs::Walks::past_element))]
 fn copy_elements(alloc: Global, trees: &TreeList) -> Result<TreeList, NoMemory>
     requires { elements_depth trees.now ≤ 126 }
     ensures ok { IfOk result (λ copy. copy ≡ trees.now) }
@@ -38,7 +38,7 @@ fn copy_elements(alloc: Global, trees: &TreeList) -> Result<TreeList, NoMemory>
 
 /// An equal object, with texts of its own.
 #[cycle(copy)]
-#[tactic(auto, using(crate::proofs::Walks::into_member))]
+#[tactic(auto, using(crate::proofs::Walks::past_member))]
 pub fn copy_members(alloc: Global, trees: &TreeMap) -> Result<TreeMap, NoMemory>
     requires { members_depth trees.now ≤ 126 }
     ensures ok { IfOk result (λ copy. copy ≡ trees.now) }

@@ -17,12 +17,12 @@ use Rattle.marked_tree.proofs.MarkFacts.{up_to, up_to_le, marks_once_holds}
 use Rattle.marked_tree.proofs.Spots.{at_least_one, spots_weigh, same_spot, leads_through, spots_above}
 
 module _ (m : Marked) (want : List Path) where
-  choose : (s : Spot) → In s (spots m) → (p : Path) → In p want → is_front s.at p ≡ true → chosen m want s.mark ≡ true
+  pub choose : (s : Spot) → In s (spots m) → (p : Path) → In p want → is_front s.at p ≡ true → chosen m want s.mark ≡ true
   choose s n p o l =
       list_any-from (λ z. eqb z.mark s.mark && list_any (is_front z.at) want) (spots m) s n
       (and_from (eqb s.mark s.mark) (list_any (is_front s.at) want) (eq-eqb s.mark s.mark refl) (list_any-from (is_front s.at) want p o l))
 
-  is_wanted : (i : ℕ) → chosen m want i ≡ true → (s : Spot) × In s (spots m) × (s.mark ≡ i) × (p : Path) × In p want × (is_front s.at p ≡ true)
+  pub is_wanted : (i : ℕ) → chosen m want i ≡ true → (s : Spot) × In s (spots m) × (s.mark ≡ i) × (p : Path) × In p want × (is_front s.at p ≡ true)
   is_wanted i h =
       let a = list_any-In (λ z. eqb z.mark i && list_any (is_front z.at) want) (spots m) h in
       let b = and_parts (eqb a.0.mark i) (list_any (is_front a.0.at) want) a.2 in

@@ -24,4 +24,5 @@ pub mod HeadCounts
 mod Examples
 pub mod StepFacts
 pub mod LeastChoice
+pub mod LeftOut
 pub mod KeptMembers

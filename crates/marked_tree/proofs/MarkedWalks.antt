@@ -9,7 +9,6 @@ use Rattle.marked_tree.specs.Marked.{MarkedElements, marked_element, MarkedMembe
 use Rattle.marked_tree.specs.MarkedCalls.{marked_pushed}
 use Rattle.marked_tree.specs.declared.marked.MarkedList.TheDeep.{deep-Marked}
 use Rattle.marked_tree.specs.View.{marked_of, marked_elements_of, marked_members_of}
-use Rattle.claim_tree.proofs.Lists.{each_place}
 use Rattle.marked_tree.proofs.MarkedViews.{Element, Entry, strip-pushed}
 use Rattle.marked_tree.proofs.Names.{Ascend, names_of, ascend, turned_back}
 
@@ -46,13 +45,12 @@ element_more [] n d within = absurd (omega arith)
 element_more (e ∷ es) zero d within = refl
 element_more (e ∷ es) (suc n) d within = ap (marked_element e.0 (marked_of e.1)) (element_more es n d (omega arith))
 
-pub element_turn : (es : List Element) (n : ℕ) (e : Element) → n < length es → e ≡ get_or es n e → marked_elements_of (take (n + 1) es) ≡ marked_pushed (marked_elements_of (take n es)) e.0 (marked_of e.1)
-element_turn es n e within is =
-    rw add-one (element_more es n e within ∙ ap (λ (d : Element). marked_pushed (marked_elements_of (take n es)) d.0 (marked_of d.1)) (sym is))
+element_turn : (es : List Element) (n : ℕ) (d : Element) → n < length es → marked_elements_of (take (n + 1) es) ≡ marked_pushed (marked_elements_of (take n es)) (get_or es n d).0 (marked_of (get_or es n d).1)
+element_turn es n d within = rw add-one (element_more es n d within)
 
-pub stripped_turn : (es : List Element) (n : ℕ) (e : Element) → n < length es → e ≡ get_or es n e
-    → strip_elements (marked_elements_of (take (n + 1) es)) ≡ pushed (strip_elements (marked_elements_of (take n es))) (strip (marked_of e.1))
-stripped_turn es n e within is = ap strip_elements (element_turn es n e within is) ∙ strip-pushed (marked_elements_of (take n es)) e.0 (marked_of e.1)
+pub stripped_turn : (es : List Element) (n : ℕ) (d : Element) → n < length es
+    → strip_elements (marked_elements_of (take (n + 1) es)) ≡ pushed (strip_elements (marked_elements_of (take n es))) (strip (marked_of (get_or es n d).1))
+stripped_turn es n d within = ap strip_elements (element_turn es n d within) ∙ strip-pushed (marked_elements_of (take n es)) (get_or es n d).0 (marked_of (get_or es n d).1)
 
 -- the elements with one more where it is kept
 abbrev pub kept_pushed : MarkedElements → Option (Option ℕ) → spec.Marked → MarkedElements
@@ -75,7 +73,11 @@ remark-pushed f (marked_element j u es) i t = go (new_mark f j) (new_mark f i) (
 
 pub kept_turn : (f : ℕ → Option ℕ) (es : List Element) (n : ℕ) (e : Element) → n < length es → e ≡ get_or es n e
     → remark_elements f (marked_elements_of (take (n + 1) es)) ≡ kept_pushed (remark_elements f (marked_elements_of (take n es))) (new_mark f e.0) (remark f (marked_of e.1))
-kept_turn f es n e within is = ap (remark_elements f) (element_turn es n e within is) ∙ remark-pushed f (marked_elements_of (take n es)) e.0 (marked_of e.1)
+kept_turn f es n e within is =
+    let front = marked_elements_of (take n es) in
+    let d = get_or es n e in
+    ap (remark_elements f) (element_turn es n e within) ∙ remark-pushed f front d.0 (marked_of d.1)
+    ∙ ap (λ (x : Element). kept_pushed (remark_elements f front) (new_mark f x.0) (remark f (marked_of x.1))) (sym is)
 
 -- ---- one member more
 
@@ -92,10 +94,9 @@ stripped_more (m ∷ ms) (suc n) d within o =
     let rest = stripped_more ms n d (omega arith) o.1 in
     rw (before_there m.0 ms n d (omega arith) o.0) (ap (member m.0 (strip (marked_of m.2))) rest)
 
-pub stripped_member_turn : (ms : List Entry) (n : ℕ) (m : Entry) → n < length ms → m ≡ get_or ms n m → MembersOrdered (strip_members (marked_members_of ms))
-    → strip_members (marked_members_of (take (n + 1) ms)) ≡ inserted (strip_members (marked_members_of (take n ms))) m.0 (strip (marked_of m.2))
-stripped_member_turn ms n m within is ordered =
-    rw add-one (stripped_more ms n m within (ascend (marked_members_of ms) ordered) ∙ ap (λ (e : Entry). inserted (strip_members (marked_members_of (take n ms))) e.0 (strip (marked_of e.2))) (sym is))
+pub stripped_member_turn : (ms : List Entry) (n : ℕ) (d : Entry) → n < length ms → MembersOrdered (strip_members (marked_members_of ms))
+    → strip_members (marked_members_of (take (n + 1) ms)) ≡ inserted (strip_members (marked_members_of (take n ms))) (get_or ms n d).0 (strip (marked_of (get_or ms n d).2))
+stripped_member_turn ms n d within ordered = rw add-one (stripped_more ms n d within (ascend (marked_members_of ms) ordered))
 
 -- the members with one more where it is kept
 abbrev pub kept_put : MarkedMembers → Text → Option (Option ℕ) → spec.Marked → MarkedMembers
@@ -194,3 +195,9 @@ left_out_is s i e = go (new_mark (kept s) i) e
     go : (o : Option (Option ℕ)) → is_some o ≡ false → o ≡ None
     go None f = refl
     go (Some x) f = cc
+
+-- ---- what a walk cites that strips each tree
+
+pub ruleset strips_element = (element_falls, element_lower, stripped_turn)
+
+pub ruleset strips_member = (member_falls, member_lower, stripped_member_turn)

@@ -205,3 +205,13 @@ first_is i (c ∷ ss) s le m q = go (eqb c.mark i) refl m (λ n. first_is i ss s
     go false e (inl r) ih = let t : eqb c.mark i ≡ true = eq-eqb c.mark i (ap (λ (z : Spot). z.mark) (sym r) ∙ q) in cc
     go false e (inr n) ih = ih n
 first_is i [] s le m q = elim m [ ]
+
+-- the spot of a path that is found
+pub spot_of : (i : ℕ) (ss : List Spot) (at : Path) → first_with i ss ≡ Some at → (s : Spot) × In s ss × (s.mark ≡ i) × (s.at ≡ at)
+spot_of i [] at e = cc e
+spot_of i (s ∷ ss) at e = go (eqb s.mark i) refl e (spot_of i ss at)
+  where
+    go : (b : Bool) → eqb s.mark i ≡ b → cond b (Some s.at) (first_with i ss) ≡ Some at → (first_with i ss ≡ Some at → (z : Spot) × In z ss × (z.mark ≡ i) × (z.at ≡ at))
+        → (z : Spot) × In z (s ∷ ss) × (z.mark ≡ i) × (z.at ≡ at)
+    go true q f ih = let same : s.at ≡ at = cc f in (s, inl refl, eqb-true s.mark i q, same)
+    go false q f ih = let w = ih f in (w.0, inr w.1, w.2, w.3)

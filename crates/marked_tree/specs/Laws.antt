@@ -2,7 +2,8 @@
 use Rattle.std.specs.Prelude.{◌≡◌, ℕ, List, length, ltb, Some, if◌then◌else◌}
 use Rattle.claim_tree.specs.Tree.{Tree}
 use Rattle.claim_tree.specs.Lists.{StandsAt}
-use Rattle.marked_tree.specs.Marked.{Marked, strip}
+use Rattle.marked_tree.specs.LeftOut.{shown}
+use Rattle.marked_tree.specs.Marked.{Marked, strip, prune}
 use Rattle.marked_tree.specs.Ways.{weight, only, closing}
 use Rattle.marked_tree.specs.Paths.{Path, mark, hidden_count, is_among, mark_path, chosen}
 use Rattle.marked_tree.specs.Choice.{IsUnmixed, IsLeastChoice}
@@ -28,3 +29,7 @@ MarksClose = (t : Tree) (hide : List Path) → IsClosing t hide
 -- the chosen marks are closed, and the least that keep the way to each wanted path
 abbrev pub Choice : Type 0
 Choice = (m : Marked) (want : List Path) → IsUnmixed m → IsLeastChoice m want (chosen m want)
+
+-- what a choice of marks leaves is what is shown
+abbrev pub ChosenIsLeft : Type 0
+ChosenIsLeft = (t : Tree) (hide want : List Path) → strip (prune (mark t hide) (chosen (mark t hide) want)) ≡ shown hide want t

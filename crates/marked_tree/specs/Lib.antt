@@ -3,6 +3,7 @@ pub mod View
 pub mod Code
 pub mod Falls
 pub mod Paths
+pub mod LeftOut
 pub mod Steps
 pub mod Closed
 pub mod Choice

@@ -1,5 +1,5 @@
 //! What the definitions say together. Each law holds for every value.
-ghost use Rattle.marked_tree.specs.Laws.{MarkStrips, MarksOnce, MarksClose, Choice};
+ghost use Rattle.marked_tree.specs.Laws.{MarkStrips, MarksOnce, MarksClose, Choice, ChosenIsLeft};
 
 /// Marking changes no tree.
 pub fn mark_strips()
@@ -20,4 +20,10 @@ pub fn marks_close()
 /// keep the way to each wanted path.
 pub fn choice()
     ensures { Choice }
+{}
+
+/// What is left of a marked tree by the marks that lead to a wanted path is the tree without the hidden places that
+/// lead to none.
+pub fn chosen_is_left()
+    ensures { ChosenIsLeft }
 {}

@@ -27,7 +27,7 @@ pub fn strip(alloc: Global, tree: &Marked) -> Result<Tree, NoMemory>
 }
 
 #[cycle(strip)]
-#[tactic(auto, using(crate::proofs::MarkedWalks::into_element))]
+#[tactic(auto, using(crate::proofs::MarkedWalks::strips_element))]
 fn strip_list(alloc: Global, list: &MarkedList) -> Result<TreeList, NoMemory>
     requires { elements_depth (elements_stripped list.now) ≤ 126 }
     ensures { IfOk result (λ stripped. stripped ≡ elements_stripped list.now) }
@@ -40,7 +40,7 @@ fn strip_list(alloc: Global, list: &MarkedList) -> Result<TreeList, NoMemory>
 }
 
 #[cycle(strip)]
-#[tactic(auto, using(crate::proofs::MarkedWalks::into_member))]
+#[tactic(auto, using(crate::proofs::MarkedWalks::strips_member))]
 fn strip_map(alloc: Global, map: &MarkedMap) -> Result<TreeMap, NoMemory>
     requires { members_depth (members_stripped map.now) ≤ 126 }
     ensures { IfOk result (λ stripped. stripped ≡ members_stripped map.now) }

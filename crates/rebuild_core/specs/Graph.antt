@@ -1,6 +1,5 @@
 -- For private functions: which disclosures are reached, and the met list, over numbers.
 use Rattle.std.specs.Prelude.{◌≡◌, ℕ, zero, suc, ◌+◌, ◌-◌, ◌<◌, ◌≤◌, List, [], ◌∷◌, ◌++◌, take, drop, length, Bool, true, false, ◌||◌, ◌&&◌, slice_set, slice_index_or, if◌then◌else◌}
-use Rattle.claim_tree.specs.Lists.{StandsAt}
 use Rattle.marked_tree.specs.Numbers.{has}
 
 -- a list of numbers cut at these positions, the first piece from a start

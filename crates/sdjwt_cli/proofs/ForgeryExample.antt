@@ -13,10 +13,10 @@ use Rattle.verifier_core.specs.declared.policy.Policy.{Policy}
 use Rattle.issuer_core.specs.Digests.{marked_claims}
 use Rattle.issuer_core.specs.Seed.{maker_of}
 use Rattle.holder_core.specs.declared.ask.Ask.{Ask}
-use Rattle.holder_core.specs.Present.{shown_for, picked}
+use Rattle.holder_core.specs.Present.{picked}
 use Rattle.selection_core.specs.Never.{never_rule}
 use Rattle.sdjwt_cli.specs.NoForgery.{NoneCollides, IsChoiceOf}
-use Rattle.sdjwt_cli.specs.Suits.{Suits}
+use Rattle.sdjwt_cli.specs.Suits.{claims_for, Suits}
 use Rattle.sdjwt_cli.proofs.HeldIssued.{IsTokenOf, token_of}
 use Rattle.issuer_core.proofs.WorkedOrders.{seed}
 use Rattle.sdjwt_cli.proofs.IssuedValues.{parts, issued}
@@ -56,7 +56,7 @@ presented = record { presents = record { signed = refl; disclosures = refl; bind
 is_text : IsToken (compact sent) (alone sent)
 is_text = answer_text seed order issuer_key parts issued.writable.good is ask [] tt 1000 (omega arith) sent presented
 
-accepted : IsAcceptedAs (compact sent) policy 1300 (shown_for (marked_claims order) ask.want)
+accepted : IsAcceptedAs (compact sent) policy 1300 (claims_for order ask.want)
 accepted = answer_accepted seed order issuer_key parts issued.writable.good is ask [] tt 1000 (omega arith) sent presented never_rule said.never policy 1300 suits_too (compact sent) is_text
 
 -- what is sent is the second of the two that were issued

@@ -1,5 +1,5 @@
 -- What the order of `gen` says: its members, its paths, and that the policy of `gen` suits what is asked for.
-use Rattle.std.proofs.Common.{◌≡◌, ◌≢◌, ◌⊎◌, inl, inr, ℕ, zero, suc, ◌%◌, ◌<◌, ◌≤◌, [], ◌∷◌, ◌++◌, Bool, true, false, ◌||◌, ◌&&◌, bytes_eq, Option, Some, None, codes, refl, sym, ap, ◌∙◌, arith}
+use Rattle.std.proofs.Common.{◌≡◌, ◌≢◌, ◌⊎◌, inl, inr, ℕ, zero, suc, ◌%◌, ◌<◌, ◌≤◌, [], ◌∷◌, ◌++◌, Bool, true, false, ◌||◌, ◌&&◌, bytes_eq, Option, Some, None, codes, refl, sym, ap, subst, ◌∙◌, arith}
 use Rattle.std.specs.Prelude.{◌==◌, option_and_then, if◌then◌else◌}
 use Rattle.std.proofs.lemmas.List.Folds.{list_any-append}
 use Rattle.claim_tree.specs.Tree.{Text, Tree, object, members_depth, member_named, get}
@@ -20,6 +20,7 @@ use Rattle.selection_core.specs.Never.{never_rule}
 use Rattle.holder_core.specs.Present.{shown_for}
 use Rattle.sdjwt_cli.specs.Suits.{Suits}
 use Rattle.marked_tree.proofs.KeptMembers.{NonePasses, claim_kept}
+use Rattle.marked_tree.proofs.LeftOut.{chosen_is_left}
 use Rattle.selection_core.proofs.NeverShown.{unrefused}
 
 -- ---- the members
@@ -133,8 +134,8 @@ generated_suits n = record {
   alg = inl refl;
   typ = λ name asked. asked;
   there = wanted_there n;
-  unrefused = λ i at is_chosen stands. unrefused [] at (λ front none leads. none);
+  unrefused = λ place hidden leads. unrefused [] place (λ front none l. none);
   named = λ ask asked. cc asked;
   bound = λ binding asked. cc asked;
-  claims = claims_hold n;
+  claims = subst (λ (t : Tree). NoneFails (ClaimFails t generated_policy 0)) (chosen_is_left (generated n).payload (generated n).hide (generated_ask n).want) (claims_hold n);
 }

@@ -33,7 +33,7 @@ use Rattle.issuer_core.specs.Issue.{ClashesAt}
 use Rattle.issuer_core.specs.Laid.{IsLaid, with_alg}
 use Rattle.issuer_core.specs.OrderRefusals.{AppliesToOrder, IsProtected}
 use Rattle.issuer_core.specs.ReservedPaths.{reserved_paths}
-use Rattle.issuer_core.specs.Digests.{marked_claims, made_texts}
+use Rattle.issuer_core.specs.Digests.{made_texts}
 use Rattle.issuer_core.specs.GoodOrder.{IsWritable}
 use Rattle.issuer_core.specs.Written.{header_of, IsWritten}
 use Rattle.issuer_core.proofs.IssuedContent.{laid_digests_differ}
@@ -47,7 +47,7 @@ use Rattle.sdjwt_cli.specs.Presented.{IsShownWell}
 use Rattle.sdjwt_cli.proofs.PresentedRuns.{presented_over_files}
 use Rattle.sdjwt_cli.proofs.PresentedShort.{spelled_more, hashed_length, compact_length}
 use Rattle.sdjwt_cli.proofs.SuitedFiles.{order_file, seed_file, present_file, policy_file, all_suits}
-use Rattle.holder_core.specs.Present.{shown_for}
+use Rattle.sdjwt_cli.specs.Suits.{claims_for}
 
 -- ---- the disclosures, and their digests
 
@@ -256,5 +256,5 @@ issues = record {
 }
 
 -- so the law says of it what it says
-pub shown : IsShownWell (line (compact parts)) present_file policy_file 1000 1300 (shown_for (marked_claims order) all_suits.said.ask.want)
+pub shown : IsShownWell (line (compact parts)) present_file policy_file 1000 1300 (claims_for order all_suits.said.ask.want)
 shown = presented_over_files order_file seed_file present_file policy_file 1000 1300 all_suits (line (compact parts)) issues

@@ -14,6 +14,7 @@ use Rattle.key_binding.specs.Judged.{holder_kid}
 use Rattle.marked_tree.specs.Marked.{Marked, strip, prune}
 use Rattle.marked_tree.specs.Paths.{mark_path, chosen}
 use Rattle.marked_tree.proofs.MarkFacts.{mark_strips_holds}
+use Rattle.marked_tree.proofs.LeftOut.{chosen_leads}
 use Rattle.selection_core.specs.Consent.{RuleAnswers, IsRefusedAt}
 use Rattle.selection_core.specs.ChoiceRefusals.{IsMissing}
 use Rattle.issuer_core.specs.Digests.{marked_claims}
@@ -79,7 +80,8 @@ module _ (seed : List ℕ) (o : Order) (key : AlgKey) (parts : Parts) (passes : 
         let same = marked_is marked there in
         let is_chosen = subst (λ (m : Marked). chosen m ask.want i ≡ true) same r.chosen in
         let stands = subst (λ (m : Marked). mark_path m i ≡ Some r.at) same r.stands in
-        suits.unrefused i r.at is_chosen stands r.refused
+        let leads = chosen_leads o.payload o.hide ask.want i r.at is_chosen stands in
+        suits.unrefused r.at leads.0 leads.1 r.refused
 
     kid_differs : (one : BindingAsk) (marked : Marked) → IsHeld (alone parts) ask marked → ask.binding ≡ Some one → holder_kid (strip (prune marked (chosen marked ask.want))) ≢ Some one.kid → ⊥
     kid_differs one marked there is_asked differs =

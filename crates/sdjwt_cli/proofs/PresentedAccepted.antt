@@ -28,6 +28,7 @@ use Rattle.marked_tree.specs.Marked.{Marked, strip}
 use Rattle.marked_tree.specs.Laws.{HasEachMarkOnce}
 use Rattle.marked_tree.proofs.LeastChoice.{chosen_below}
 use Rattle.marked_tree.proofs.MarkFacts.{marks_once_holds}
+use Rattle.marked_tree.proofs.LeftOut.{chosen_is_left}
 use Rattle.rebuild_core.specs.Opening.{processed}
 use Rattle.selection_core.specs.Consent.{RuleAnswers}
 use Rattle.verifier_core.specs.Verdict.{TokenFails, ClaimFails, HolderFails, Fails, of_file, of_missing, of_token, of_claims, of_holder, rules_of, Opens, HasContent, HasHash, IsChecked, IsBindingMissing}
@@ -51,7 +52,7 @@ use Rattle.holder_core.proofs.PickedNumbers.{numbers, rising, enumerates, is_pic
 use Rattle.cli_parts.specs.Lines.{line}
 use Rattle.sdjwt_cli.specs.PresentedValues.{AreShort}
 use Rattle.json_form.specs.Alone.{alone}
-use Rattle.sdjwt_cli.specs.Suits.{Suits}
+use Rattle.sdjwt_cli.specs.Suits.{claims_for, Suits}
 use Rattle.sdjwt_cli.proofs.CompactLines.{line_token}
 use Rattle.sdjwt_cli.proofs.CheckedParts.{Takes, CarriesFor, content, checked}
 use Rattle.sdjwt_cli.proofs.HeldIssued.{IsTokenOf, carries_issued}
@@ -176,14 +177,14 @@ module _ (seed : List ℕ) (o : Order) (key : AlgKey) (parts : Parts) (good : Is
     none_fails c place (of_token token there h) = answer_checked.passes c place (subst (λ (t : Token). TokenFails t (rules_of policy) c place) (one_answer token there) h)
     none_fails c place (of_claims token marked there opens h) =
         let shown = answer_opens marked (subst (λ (t : Token). Opens t marked) (one_answer token there) opens) in
-        suits.claims c place (subst (λ (t : Tree). ClaimFails t policy later c place) shown h)
+        suits.claims c place (subst (λ (t : Tree). ClaimFails t policy later c place) (shown ∙ chosen_is_left o.payload o.hide ask.want) h)
     none_fails c place (of_holder token marked hash there opens has h) =
         let shown = answer_opens marked (subst (λ (t : Token). Opens t marked) (one_answer token there) opens) in
         hash_passes (strip marked) hash (subst (λ (t : Token). HasHash t hash) (one_answer token there) has) shown c place (subst (λ (t : Token). HolderFails t.parts (strip marked) hash policy later c place) (one_answer token there) h)
 
-    pub answer_accepted : IsAcceptedAs text policy later (shown_for (marked_claims o) ask.want)
+    pub answer_accepted : IsAcceptedAs text policy later (claims_for o ask.want)
     answer_accepted = (
       processed p (picked s g),
       record { passes = none_fails; token = alone answer; is_token = is_text; opens = answer_checked.opens },
-      sym what_is_shown.shows,
+      sym (what_is_shown.shows ∙ chosen_is_left o.payload o.hide ask.want),
     )

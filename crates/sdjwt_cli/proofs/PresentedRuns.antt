@@ -17,13 +17,11 @@ use Rattle.hmac_sign.specs.Hmac.{AlgKey}
 use Rattle.sdjwt_cli.specs.Presenting.{signing_key}
 use Rattle.cli_parts.specs.Outside.{Outside}
 use Rattle.sdjwt_cli.specs.Run.{Ends}
-use Rattle.sdjwt_cli.specs.Suits.{Suits}
+use Rattle.sdjwt_cli.specs.Suits.{Suits, claims_for}
 use Rattle.sdjwt_cli.proofs.IssueVerdicts.{same_order, carried}
 use Rattle.sdjwt_cli.proofs.PresentedVerified.{not_refused, verifies}
 use Rattle.sdjwt_cli.proofs.Verdicts.{same_command, answers_told}
 use Rattle.sdjwt_cli.proofs.VerifyVerdicts.{one_verify}
-use Rattle.holder_core.specs.Present.{shown_for}
-use Rattle.issuer_core.specs.Digests.{marked_claims}
 
 -- ---- over files
 
@@ -32,21 +30,21 @@ module _ (order_file seed_file present_file policy_file : List ℕ) (now later :
   suits =
       carried order_file seed_file all.order issues.order all.key issues.key all.seed issues.seed all.asked issues.asked (λ (p : Order) (k : AlgKey) (s : List ℕ). Suits never_rule all.said.never p k all.said.ask (signing_key all.said.key) all.policy now later) all.suits
 
-  claims_are : shown_for (marked_claims issues.order) all.said.ask.want ≡ shown_for (marked_claims all.order) all.said.ask.want
-  claims_are = ap (λ (p : Order). shown_for (marked_claims p) all.said.ask.want) (sym (same_order order_file seed_file all.order issues.order all.key issues.key all.seed issues.seed all.asked issues.asked))
+  claims_are : claims_for issues.order all.said.ask.want ≡ claims_for all.order all.said.ask.want
+  claims_are = ap (λ (p : Order). claims_for p all.said.ask.want) (sym (same_order order_file seed_file all.order issues.order all.key issues.key all.seed issues.seed all.asked issues.asked))
 
   only_presents : OnlyGives (PresentAnswers present_file token now)
   only_presents (gives answer) h = (answer, refl)
   only_presents (refuses text) h = absurd (not_refused order_file seed_file token present_file policy_file now later issues all.said all.is_said all.policy all.is_policy all.moment suits text h)
   only_presents (unreadable text) h = absurd (h.cause (orders.not_both present_file all.said h.fault all.is_said h.refused))
 
-  verified_alone : (answer : List ℕ) → PresentAnswers present_file token now (gives answer) → GivesAlone (VerifyAnswers policy_file answer later) (line (json_text (shown_for (marked_claims all.order) all.said.ask.want)))
+  verified_alone : (answer : List ℕ) → PresentAnswers present_file token now (gives answer) → GivesAlone (VerifyAnswers policy_file answer later) (line (json_text (claims_for all.order all.said.ask.want)))
   verified_alone answer h =
       let good = verifies order_file seed_file token present_file policy_file now later issues all.said all.is_said all.policy all.is_policy all.moment suits answer h in
       let whole = subst (λ t. VerifyAnswers policy_file answer later (gives (line (json_text t)))) claims_are good in
-      record { given = whole; alone = λ verdict other. one_verify policy_file answer later verdict (gives (line (json_text (shown_for (marked_claims all.order) all.said.ask.want)))) other whole }
+      record { given = whole; alone = λ verdict other. one_verify policy_file answer later verdict (gives (line (json_text (claims_for all.order all.said.ask.want)))) other whole }
 
-  pub shown_well : IsShownWell token present_file policy_file now later (shown_for (marked_claims all.order) all.said.ask.want)
+  pub shown_well : IsShownWell token present_file policy_file now later (claims_for all.order all.said.ask.want)
   shown_well = record { presents = only_presents; verifies = verified_alone }
 
 pub presented_over_files : PresentedOverFiles
@@ -116,4 +114,4 @@ runs_well token present_file policy_file presented verified claims well = record
 pub presented_over_runs : PresentedOverRuns
 presented_over_runs order_file seed_file present_file policy_file presented verified all order seed issued before after token run wrote =
     let issues = written_answers (issue order seed) (order_file ∷ seed_file ∷ []) issued before after Status.Done run token refl wrote in
-    runs_well token present_file policy_file presented verified (shown_for (marked_claims all.order) all.said.ask.want) (shown_well order_file seed_file present_file policy_file presented verified all token issues)
+    runs_well token present_file policy_file presented verified (claims_for all.order all.said.ask.want) (shown_well order_file seed_file present_file policy_file presented verified all token issues)

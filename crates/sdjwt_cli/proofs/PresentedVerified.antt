@@ -21,14 +21,12 @@ use Rattle.selection_core.specs.Never.{never_rule}
 use Rattle.sdjwt_cli.specs.PresentedValues.{IsShownAt, AreShort}
 use Rattle.json_form.specs.Alone.{alone}
 use Rattle.sdjwt_cli.specs.Presenting.{signing_key, Presents, DoesNotPresent, IsPresentedFor, IsNotPresentedFor}
-use Rattle.sdjwt_cli.specs.Suits.{Suits}
+use Rattle.sdjwt_cli.specs.Suits.{Suits, claims_for}
 use Rattle.sdjwt_cli.specs.Verify.{Verifies}
 use Rattle.sdjwt_cli.proofs.HeldIssued.{IsTokenOf, token_of, issued_line}
 use Rattle.sdjwt_cli.proofs.NothingRefused.{is_presented_of}
 use Rattle.sdjwt_cli.proofs.PresentedAccepted.{answer_line}
 use Rattle.sdjwt_cli.proofs.PresentedValues.{presented_over_values}
-use Rattle.holder_core.specs.Present.{shown_for}
-use Rattle.issuer_core.specs.Digests.{marked_claims}
 
 -- ---- a present order asks for a short audience and a short nonce
 
@@ -59,7 +57,7 @@ module _ (order_file seed_file token present_file policy_file : List ℕ) (now l
   there = subst (λ (x : List ℕ). IsToken x (alone issued.parts)) (sym issued.line_is) (issued_line issued.seed issued.order issued.key issued.parts is)
 
   -- what the law over values says of it
-  shown : IsShownAt never_rule said.never token said.ask (signing_key said.key) policy now later (shown_for (marked_claims issued.order) said.ask.want)
+  shown : IsShownAt never_rule said.never token said.ask (signing_key said.key) policy now later (claims_for issued.order said.ask.want)
   shown =
       let over_values = presented_over_values never_rule said.never issued.seed issued.order issued.key issued.parts issued.answered said.ask (signing_key said.key) policy now later suits (asks_short present_file said is_said) in_range in
       over_values.shown token there
@@ -69,7 +67,7 @@ module _ (order_file seed_file token present_file policy_file : List ℕ) (now l
       let same : d.said ≡ said = one_present present_file d.said said d.is_order is_said in
       shown.presents d.error d.memory d.signed (subst (λ (x : PresentFile). IsNotPresentedFor x token now d.error) same d.refused)
 
-  pub verifies : (answer : List ℕ) → Presents present_file token now answer → Verifies policy_file answer later (line (json_text (shown_for (marked_claims issued.order) said.ask.want)))
+  pub verifies : (answer : List ℕ) → Presents present_file token now answer → Verifies policy_file answer later (line (json_text (claims_for issued.order said.ask.want)))
   verifies answer p =
       let same : p.said ≡ said = one_present present_file p.said said p.is_order is_said in
       let presented = subst (λ (x : PresentFile). IsPresentedFor x token now p.parts) same p.presented in
@@ -81,5 +79,5 @@ module _ (order_file seed_file token present_file policy_file : List ℕ) (now l
           answer_line issued.seed issued.order issued.key issued.parts issued.answered.writable.good is said.ask (signing_key said.key) small now in_range parts
           (is_presented_of issued.seed issued.order issued.key issued.parts issued.answered.passes is never_rule said.never said.ask (signing_key said.key) small now in_range token there parts presented)
 
-      verified : IsAcceptedAs answer policy later (shown_for (marked_claims issued.order) said.ask.want) → Verifies policy_file answer later (line (json_text (shown_for (marked_claims issued.order) said.ask.want)))
+      verified : IsAcceptedAs answer policy later (claims_for issued.order said.ask.want) → Verifies policy_file answer later (line (json_text (claims_for issued.order said.ask.want)))
       verified (marked, accepted, is) = record { policy = policy; is_policy = is_policy; marked = marked; accepted = accepted; line_is = ap (λ t. line (json_text t)) is }

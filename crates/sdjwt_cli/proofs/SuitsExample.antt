@@ -12,20 +12,17 @@ use Rattle.hmac_sign.specs.declared.alg.Alg.{Alg}
 use Rattle.hmac_sign.specs.declared.key_set.NamedKey.{NamedKey}
 use Rattle.jws_part.specs.Times.{IsTimeUnreadable}
 use Rattle.key_binding.specs.declared.policy.BindingPolicy.{BindingPolicy}
-use Rattle.marked_tree.specs.Paths.{Path, mark_path, chosen}
-use Rattle.marked_tree.proofs.LeastChoice.{chosen_below}
-use Rattle.marked_tree.proofs.MarkFacts.{marks_once_holds}
+use Rattle.marked_tree.specs.LeftOut.{leads_to}
+use Rattle.marked_tree.specs.Paths.{Path}
 use Rattle.verifier_core.specs.Verdict.{ClaimFails}
 use Rattle.verifier_core.specs.declared.policy.Policy.{Policy}
 use Rattle.verifier_core.proofs.ClaimSteps.{claim_numbers, before_missing, before_times, before_expiry, before_start}
-use Rattle.issuer_core.specs.Digests.{marked_claims}
 use Rattle.issuer_core.specs.Order.{Order}
 use Rattle.holder_core.specs.declared.ask.BindingAsk.{BindingAsk}
 use Rattle.holder_core.specs.declared.present_file.PresentFile.{PresentFile}
 use Rattle.selection_core.specs.Never.{MayBeShown, never_rule}
-use Rattle.sdjwt_cli.specs.Suits.{Suits, BindingSuits}
+use Rattle.sdjwt_cli.specs.Suits.{Suits, BindingSuits, claims_for}
 use Rattle.selection_core.proofs.NeverShown.{unrefused}
-use Rattle.holder_core.specs.Present.{shown_for}
 
 abbrev pub named : Text → Tree
 named s = leaf (text s)
@@ -95,7 +92,7 @@ abbrev pub policy : Policy
 policy = policy_with (Some asked_binding)
 
 -- the family name is left out
-shown_are : shown_for (marked_claims order) said.ask.want
+shown_are : claims_for order said.ask.want
     ≡ object (member (codes "cnf") (object (member (codes "kid") (named (codes "h")) no_members)) (member (codes "given_name") (named (codes "Ann")) (member (codes "iss") (named (codes "i")) no_members)))
 shown_are = refl
 
@@ -103,9 +100,9 @@ there : (path : Path) → In path said.ask.want → tree_at order.payload path �
 there path (inl same) none = let found = ap (λ (p : Path). tree_at order.payload p) same in cc (sym found ∙ none)
 there path (inr other) none = absurd other
 
-pub claims_hold : (binding : Option BindingPolicy) → NoneFails (ClaimFails (shown_for (marked_claims order) said.ask.want) (policy_with binding) 1300)
+pub claims_hold : (binding : Option BindingPolicy) → NoneFails (ClaimFails (claims_for order said.ask.want) (policy_with binding) 1300)
 claims_hold binding =
-    let shown = shown_for (marked_claims order) said.ask.want in
+    let shown = claims_for order said.ask.want in
     let asks = policy_with binding in
     let issuer = before_missing shown asks 1300 (λ h. let same : codes "i" ∷ [] ≡ h.0 = cc h.1 in h.2 (codes "i", subst (λ list. In (codes "i") list) same (inl refl), refl)) in
     let required = before_times shown asks 1300 issuer wanted in
@@ -114,21 +111,25 @@ claims_hold binding =
     none_fails (ClaimFails shown asks 1300) 27 (holds_too (ClaimFails shown asks 1300) Condition.NotYet fresh (λ mark_path h. cc h.1.1))
     (λ c mark_path h. let n = claim_numbers shown asks 1300 c mark_path h in n.1)
   where
-    wanted : (i : ℕ) (name : Text) → StandsAt (policy_with binding).require i name → get (shown_for (marked_claims order) said.ask.want) name ≢ None
-    wanted zero name is none = let found = ap (get (shown_for (marked_claims order) said.ask.want)) is in cc (sym found ∙ none)
+    wanted : (i : ℕ) (name : Text) → StandsAt (policy_with binding).require i name → get (claims_for order said.ask.want) name ≢ None
+    wanted zero name is none = let found = ap (get (claims_for order said.ask.want)) is in cc (sym found ∙ none)
     wanted (suc i) name is none = absurd is
 
-    unreadable : IsTimeUnreadable (shown_for (marked_claims order) said.ask.want) → ⊥
+    unreadable : IsTimeUnreadable (claims_for order said.ask.want) → ⊥
     unreadable (inl h) = cc h.1
     unreadable (inr h) = cc h.1
 
-given_name : (at : Path) → mark_path (marked_claims order) 1 ≡ Some at → MayBeShown said.never at
-given_name at stands front (inl is) leads =
-    let placed : Some (codes "given_name" ∷ []) ≡ Some at = stands in
-    let at_is : codes "given_name" ∷ [] ≡ at = cc placed in
-    let other : false ≡ true = subst (λ (p : Path). is_front p (codes "given_name" ∷ []) ≡ true) is (subst (λ (p : Path). is_front front p ≡ true) (sym at_is) leads) in
+given_name : (place : Path) → place ≡ codes "given_name" ∷ [] → MayBeShown said.never place
+given_name place given front (inl is) never =
+    let other : false ≡ true = subst (λ (p : Path). is_front p (codes "given_name" ∷ []) ≡ true) is (subst (λ (p : Path). is_front front p ≡ true) given never) in
     cc other
-given_name at stands front (inr other) leads = absurd other
+given_name place given front (inr none) never = absurd none
+
+-- of the hidden places the given name leads to a wanted one, and may be shown
+may_be_shown : (place : Path) → In place order.hide → leads_to said.ask.want place ≡ true → MayBeShown said.never place
+may_be_shown place (inl family) leads = let other : false ≡ true = subst (λ (p : Path). leads_to said.ask.want p ≡ true) family leads in cc other
+may_be_shown place (inr (inl given)) leads = given_name place given
+may_be_shown place (inr (inr none)) leads = absurd none
 
 -- what is bound is bound as the policy asks for it
 at_work : BindingSuits said.ask.binding holder_key asked_binding policy.skew 1000 1300
@@ -149,16 +150,11 @@ suits = record {
   alg = inl refl;
   typ = λ name asked. asked;
   there = there;
-  unrefused = λ i at is_chosen stands. unrefused said.never at (may_be_shown i at is_chosen stands);
+  unrefused = λ place hidden leads. unrefused said.never place (may_be_shown place hidden leads);
   named = λ ask asked. let same : record { kid = codes "h"; aud = codes "v"; nonce = codes "7" } ≡ ask = cc asked in ap (λ (a : BindingAsk). Some a.kid) same;
   bound = bound;
   claims = claims_hold (Some asked_binding);
 }
   where
-    may_be_shown : (i : ℕ) (at : Path) → chosen (marked_claims order) said.ask.want i ≡ true → mark_path (marked_claims order) i ≡ Some at → MayBeShown said.never at
-    may_be_shown zero at is_chosen stands = cc is_chosen
-    may_be_shown (suc zero) at is_chosen stands = given_name at stands
-    may_be_shown (suc (suc i)) at is_chosen stands = absurd (let low = chosen_below (marked_claims order) 2 (marks_once_holds order.payload order.hide) said.ask.want (suc (suc i)) is_chosen in omega (arith, low))
-
     bound : (binding : BindingPolicy) → policy.binding ≡ Some binding → BindingSuits said.ask.binding holder_key binding policy.skew 1000 1300
     bound binding asked = let same : asked_binding ≡ binding = cc asked in subst (λ (b : BindingPolicy). BindingSuits said.ask.binding holder_key b policy.skew 1000 1300) same at_work

@@ -20,9 +20,7 @@ use Rattle.selection_core.specs.Never.{never_rule}
 use Rattle.sdjwt_cli.specs.Presenting.{signing_key}
 use Rattle.cli_parts.specs.Outside.{Outside}
 use Rattle.sdjwt_cli.specs.Run.{Ends}
-use Rattle.sdjwt_cli.specs.Suits.{Suits}
-use Rattle.holder_core.specs.Present.{shown_for}
-use Rattle.issuer_core.specs.Digests.{marked_claims}
+use Rattle.sdjwt_cli.specs.Suits.{Suits, claims_for}
 
 -- the files of `issue` say an order and its key, the others a present order and a policy, which suits; a moment has 64 bits
 pub record AllSuits (order_file seed_file present_file policy_file : List ℕ) (presented verified : ℕ) : Type 0 where
@@ -58,7 +56,7 @@ PresentedOverFiles =
     (order_file seed_file present_file policy_file : List ℕ) (presented verified : ℕ)
     → (all : AllSuits order_file seed_file present_file policy_file presented verified)
     → (token : List ℕ) → IssueAnswers order_file seed_file (gives token)
-    → IsShownWell token present_file policy_file presented verified (shown_for (marked_claims all.order) all.said.ask.want)
+    → IsShownWell token present_file policy_file presented verified (claims_for all.order all.said.ask.want)
 
 -- ---- over runs
 
@@ -99,4 +97,4 @@ PresentedOverRuns =
     → (all : AllSuits order_file seed_file present_file policy_file presented verified)
     → (order seed : List ℕ) (issued : ℕ) (before after : Outside) (token : List ℕ)
     → IsRun (issue order seed) (order_file ∷ seed_file ∷ []) issued before after Status.Done → Wrote before after token
-    → RunsWell token present_file policy_file presented verified (shown_for (marked_claims all.order) all.said.ask.want)
+    → RunsWell token present_file policy_file presented verified (claims_for all.order all.said.ask.want)

@@ -9,16 +9,15 @@ use Rattle.selection_core.specs.Consent.{RuleAnswers}
 use Rattle.verifier_core.specs.Verdicts.{IsAcceptedAs}
 use Rattle.verifier_core.specs.declared.policy.Policy.{Policy}
 use Rattle.issuer_core.specs.Order.{Order}
-use Rattle.holder_core.specs.Present.{shown_for, IsPresented, IsNotPresented}
+use Rattle.holder_core.specs.Present.{IsPresented, IsNotPresented}
 use Rattle.holder_core.specs.declared.ask.Ask.{Ask}
 use Rattle.holder_core.specs.declared.errors.PresentError.{PresentError}
 use Rattle.holder_core.specs.declared.errors.PresentError.TheVariants.{Memory, SignFailed}
 use Rattle.sdjwt_cli.specs.Issuing.{IsIssuedBy}
-use Rattle.sdjwt_cli.specs.Suits.{Suits}
+use Rattle.sdjwt_cli.specs.Suits.{Suits, claims_for}
 use Rattle.json_form.specs.Alone.{alone}
 use Rattle.sd_outside.specs.Limits.{binding_text_max}
 use Rattle.holder_core.specs.declared.ask.BindingAsk.{BindingAsk}
-use Rattle.issuer_core.specs.Digests.{marked_claims}
 
 -- the compact text of what is presented is read as its parts, and each text that is read as them is accepted with these claims
 pub record IsAcceptedWith (answer : Parts) (policy : Policy) (verified : ℕ) (claims : Tree) : Type 0 where
@@ -45,4 +44,4 @@ PresentedOverValues answers rule =
     (seed : List ℕ) (o : Order) (key : AlgKey) (parts : Parts) → IsIssuedBy seed o key parts
     → (ask : Ask) (signing : List ℕ) (policy : Policy) (presented verified : ℕ)
     → Suits answers rule o key ask signing policy presented verified → AreShort ask.binding → presented < 2 ^ 64
-    → IsShownOf answers rule parts ask signing policy presented verified (shown_for (marked_claims o) ask.want)
+    → IsShownOf answers rule parts ask signing policy presented verified (claims_for o ask.want)

@@ -14,12 +14,13 @@ use Rattle.marked_tree.specs.Marked.{Marked, strip}
 use Rattle.marked_tree.specs.Paths.{same_path, chosen}
 use Rattle.verifier_core.specs.Verdict.{HasContent, IsAccepted}
 use Rattle.issuer_core.specs.Digests.{marked_claims, hidden_of}
-use Rattle.holder_core.specs.Present.{shown_for, IsPresented}
+use Rattle.holder_core.specs.Present.{IsPresented}
 use Rattle.sdjwt_cli.specs.Generated.{generated, generated_seed, generated_key, generated_ask, generated_policy}
 use Rattle.sdjwt_cli.specs.Issuing.{IsIssuedBy, TellsRefusal}
 use Rattle.cli_parts.specs.Lines.{line}
 use Rattle.selection_core.specs.Never.{never_rule}
 use Rattle.json_form.specs.Alone.{alone}
+use Rattle.sdjwt_cli.specs.Suits.{claims_for}
 
 -- ---- what is counted
 
@@ -37,7 +38,7 @@ embedded_digests payload given = length (sites payload) + sum_by (λ x. length (
 
 -- the claims that are shown for what is wanted
 abbrev pub shown_claims : ℕ → Tree
-shown_claims n = shown_for (marked_claims (generated n)) (generated_ask n).want
+shown_claims n = claims_for (generated n) (generated_ask n).want
 
 -- how long they are, as JSON
 abbrev pub shown_length : ℕ → ℕ

@@ -1,5 +1,5 @@
 -- Places that a rule is asked for in turn.
-use Rattle.std.proofs.Common.{◌≡◌, ℕ, suc, ◌+◌, ◌-◌, ◌<◌, List, [], ◌∷◌, ◌++◌, map, length, take, drop, get_or, Bool, true, false, ltb, cond, eqb, eqb-true, ◌⊎◌, inl, inr, ⊎_elim, Option, Some, None, refl, sym, ap, ap₂, subst, ◌∙◌, arith, decimal}
+use Rattle.std.proofs.Common.{◌≡◌, ℕ, suc, ◌+◌, ◌-◌, ◌<◌, List, [], ◌∷◌, ◌++◌, map, length, take, drop, get_or, Bool, true, false, ltb, ◌⊎◌, inl, inr, ⊎_elim, Option, Some, None, refl, sym, ap, ap₂, subst, ◌∙◌, arith, decimal}
 use Rattle.std.proofs.lemmas.Bool.Decides.{nat_tests}
 use Rattle.std.proofs.lemmas.List.{drop_more, map-append, length-append}
 use Rattle.std.proofs.Math.Seq.{take-append_seam}
@@ -9,13 +9,14 @@ use Rattle.claim_tree.proofs.Lists.{In-left, In-right, In-append, In-map, In-of_
 use Rattle.marked_tree.specs.Marked as spec
 use Rattle.marked_tree.specs.Ways.{only}
 use Rattle.marked_tree.specs.Choice.{StandOnce}
-use Rattle.marked_tree.specs.Paths.{Path, Spot, inside, own_spot, spots, elements_spots, members_spots, first_with, mark_path}
+use Rattle.marked_tree.specs.Paths.{Path, Spot, inside, own_spot, spots, elements_spots, members_spots, mark_path}
 use Rattle.marked_tree.specs.View.{marked_of, marked_elements_of, marked_members_of}
 use Rattle.marked_tree.proofs.Finds.{node_spots}
 use Rattle.marked_tree.proofs.MarkedViews.{Element, Entry}
 use Rattle.marked_tree.proofs.Spots.{first_is, spots_weigh}
 use Rattle.selection_core.specs.Asked.{SeenMark, own_seen, seen_from, is_below, IsAskedOnWalk}
 use Rattle.selection_core.specs.Consent.{RuleAnswers, Allows, AllAllowed, IsRefusedAt}
+use Rattle.marked_tree.proofs.Spots.{spot_of}
 
 module _ {F : Type 0} (answers : RuleAnswers F) (rule : F) (s : ℕ → Bool) where
   -- what is asked of the rest from here on is asked of all from the beginning
@@ -144,15 +145,6 @@ member_seen at n ms m within is =
     ∙ ap (λ (xs : List SeenMark). xs ++ seen_from at (members_spots (marked_members_of (drop (n + 1) ms)))) (node_seen at m.0 m.1 (marked_of m.2))
 
 -- ---- all that was asked
-
-spot_of : (i : ℕ) (ss : List Spot) (at : Path) → first_with i ss ≡ Some at → (s : Spot) × In s ss × (s.mark ≡ i) × (s.at ≡ at)
-spot_of i [] at e = cc e
-spot_of i (s ∷ ss) at e = go (eqb s.mark i) refl e (spot_of i ss at)
-  where
-    go : (b : Bool) → eqb s.mark i ≡ b → cond b (Some s.at) (first_with i ss) ≡ Some at → (first_with i ss ≡ Some at → (z : Spot) × In z ss × (z.mark ≡ i) × (z.at ≡ at))
-        → (z : Spot) × In z (s ∷ ss) × (z.mark ≡ i) × (z.at ≡ at)
-    go true q f ih = let same : s.at ≡ at = cc f in (s, inl refl, eqb-true s.mark i q, same)
-    go false q f ih = let w = ih f in (w.0, inr w.1, w.2, w.3)
 
 module _ {F : Type 0} (answers : RuleAnswers F) (rule : F) (m : spec.Marked) (s : ℕ → Bool) where
   abbrev WasAsked : Option ℕ → Type 0

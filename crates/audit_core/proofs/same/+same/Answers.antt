@@ -1,4 +1,4 @@
-use Rattle.std.proofs.Common.{arith, sym, ap₂, ◌∙◌}
+use Rattle.std.proofs.Common.{sym, ap₂, ◌∙◌}
 use Rattle.audit_core.specs.SameMarked.{same_elements, same_members}
 use Rattle.audit_core.proofs.Walks.{lists_end, maps_end}
 use Rattle.audit_core.proofs.same.+same.Goals as goal

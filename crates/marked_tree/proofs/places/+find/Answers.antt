@@ -1,4 +1,4 @@
-use Rattle.std.proofs.Common.{◌∷◌, option_map, Some, decimal, reverse, sym, ◌∙◌, ap, arith}
+use Rattle.std.proofs.Common.{◌∷◌, option_map, Some, decimal, reverse, sym, ◌∙◌, ap}
 use Rattle.std.proofs.lemmas.Result.{IfOk-weaker}
 use Rattle.claim_tree.specs.Tree.{Text}
 use Rattle.marked_tree.specs.Paths.{Path, first_with, elements_spots, members_spots}

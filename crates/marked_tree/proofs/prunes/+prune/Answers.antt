@@ -1,4 +1,4 @@
-use Rattle.std.proofs.Common.{take, sym, ap, ◌∙◌, arith}
+use Rattle.std.proofs.Common.{take, sym, ap, ◌∙◌}
 use Rattle.claim_tree.specs.Tree.{MembersOrdered}
 use Rattle.marked_tree.specs.Marked.{strip_members, kept, remark, remark_elements, remark_members}
 use Rattle.marked_tree.specs.Numbers.{has}

@@ -1,4 +1,4 @@
-use Rattle.std.proofs.Common.{◌≡◌, ◌≤◌, Some, sym, ap, ap₂, subst, ◌∙◌, arith}
+use Rattle.std.proofs.Common.{◌≡◌, Some, sym, ap, ap₂, subst, ◌∙◌, arith}
 use Rattle.claim_tree.specs.Tree.{Text, Tree, Elements, Members, array, object, elements_len, members_len, element_at}
 use Rattle.claim_tree.specs.TreeCalls.{member_at}
 use Rattle.claim_tree.specs.View.{tree_of}

@@ -1,4 +1,4 @@
-use Rattle.std.proofs.Common.{◌++◌, List, ◌∙◌, ap, subst, arith}
+use Rattle.std.proofs.Common.{◌++◌, List, ◌∙◌, ap, subst}
 use Rattle.std.proofs.lemmas.List.{drop_all}
 use Rattle.marked_tree.specs.Numbers.{has}
 use Rattle.marked_tree.specs.Paths.{Path, spots, elements_spots, members_spots}
