@@ -1,2 +1,3 @@
 pub mod Claim
+pub mod EndToEnd
 pub mod Token

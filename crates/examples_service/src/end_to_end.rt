@@ -1,0 +1,122 @@
+// A credential from its issuer over its holder to a verifier.
+ghost use Rattle.std.specs.Prelude.{◌≡◌, ◌≢◌, ◌≤◌, IfOk, IfErr};
+ghost use Rattle.claim_tree.specs.Tree.{depth};
+ghost use Rattle.claim_tree.specs.View.{tree_of};
+ghost use Rattle.compact_form.specs.Lowest.{IsLowest};
+ghost use Rattle.compact_form.specs.declared.fault.Fault.{Fault};
+ghost use Rattle.hmac_sign.specs.Hmac.{hs256_key, IsGood};
+ghost use Rattle.verifier_core.specs.Verdict.{Fails};
+ghost use Rattle.verifier_core.specs.Verdicts.{IsAcceptedAs};
+ghost use Rattle.holder_core.specs.Present.{IsNotPresented};
+ghost use Rattle.holder_core.specs.declared.errors.PresentError.{PresentError as Unpresented};
+ghost use Rattle.holder_core.specs.declared.errors.PresentError.TheVariants.{Memory, SignFailed};
+ghost use Rattle.issuer_core.specs.IssueCalls.{IsNotIssued};
+ghost use Rattle.issuer_core.specs.Order.{order_of};
+ghost use Rattle.issuer_core.specs.Seed.{maker_of};
+ghost use Rattle.sdjwt_cli.specs.PresentedValues.{AreShort};
+ghost use Rattle.sdjwt_cli.specs.Suits.{Suits, claims_for};
+ghost use Rattle.examples_service.specs.EndToEnd.{IsIssuedText, IsPresentedText};
+
+use claim_tree::{Path, Tree};
+use compact_form::print;
+use digest_index::Steps;
+use hmac_sign::{Hs256Key, HsKey};
+use holder_core::{Ask, PresentError, present};
+use issuer_core::{IssueError, Order, issue_owned};
+use sd_outside::{NoMemory, TextBox};
+use sdjwt_cli::laws::presented_values;
+use selection_core::Consent;
+use std::alloc::Global;
+use verifier_core::{Policy, VerifyError, verify_payload};
+
+/// Who issues: what is asked for, the seed of the salts, and the key that signs.
+#[derive(Drop)]
+pub struct Issuer {
+    pub order: Order,
+    pub seed: [u8; 32],
+    pub key: HsKey,
+}
+
+/// Who presents: what is asked, which places may be shown, and the key that signs a key binding token.
+#[derive(Drop)]
+pub struct Holder<F: Fn(&Path) -> bool> {
+    pub ask: Ask,
+    pub consent: Consent<F>,
+    pub key: Hs256Key,
+}
+
+// The compact text of what is issued.
+fn issued(alloc: Global, issuer: Issuer) -> Result<TextBox, IssueError>
+    requires depth { depth (tree_of issuer.order.payload) ≤ 127 }
+    ensures issued { IfOk result (IsIssuedText issuer.seed (order_of issuer.order) issuer.key) }
+    ensures refused { IfErr result (IsNotIssued (maker_of issuer.seed) (order_of issuer.order) issuer.key.alg (IsGood issuer.key)) }
+{
+    let Issuer {
+        order,
+        seed,
+        mut key,
+    } = issuer;
+    let parts = issue_owned(alloc, order, &seed, &mut key)?;
+    Ok(print(alloc, &parts)?)
+}
+
+// The compact text of what is presented of a token, where nothing is refused that is asked for.
+fn presented<F: Fn(&Path) -> bool>(
+    alloc: Global,
+    token: &str,
+    holder: &mut Holder<F>,
+    now: u64,
+) -> Result<TextBox, NoMemory>
+    requires callable { F.IsAlwaysCallable holder.old.consent }
+    requires unrefused { (error : Unpresented) → error ≢ Memory → error ≢ SignFailed
+        → IsNotPresented F.Fn holder.old.consent token.now holder.old.ask (IsGood (hs256_key holder.old.key)) now error → ⊥ }
+    ensures { IfOk result (IsPresentedText F.Fn holder.old.consent token.now holder.old.ask (IsGood (hs256_key holder.old.key)) now) }
+{
+    let steps = &mut Steps::new();
+    let Holder { ask, consent, key } = holder;
+    match present(alloc, token.as_bytes(), ask, consent, key, now, steps) {
+        Ok(parts) => print(alloc, &parts),
+        Err(PresentError::Memory) => Err(NoMemory),
+        Err(_) => unreachable!(),
+    }
+}
+
+// The processed payload of a presentation of which no condition fails.
+fn verified(alloc: Global, presentation: &str, policy: &Policy, now: u64) -> Result<Tree, NoMemory>
+    requires passes { (fault : Fault) → IsLowest (Fails presentation.now policy.now now) fault → ⊥ }
+    ensures { IfOk result (λ payload. IsAcceptedAs presentation.now policy.now now (tree_of payload)) }
+{
+    let text = presentation.as_bytes();
+    match verify_payload(alloc, text, policy, now, &mut Steps::new()) {
+        Ok(payload) => Ok(payload),
+        Err(VerifyError::Memory) => Err(NoMemory),
+        Err(VerifyError::Fault(_)) => unreachable!(),
+    }
+}
+
+/// Issues a token for an order, presents what is asked of it, and answers the processed payload that a verifier finds.
+/// The moments are in seconds since 1970.
+///
+/// The policy suits what is asked (`Suits`). Then the answer is the payload of the order without the hidden places that
+/// lead to none of the wanted ones, and nothing is refused but by the issuer, for a cause that the clauses tell.
+pub fn issue_present_verify<F: Fn(&Path) -> bool>(
+    alloc: Global,
+    issuer: Issuer,
+    holder: &mut Holder<F>,
+    presented_at: u64,
+    policy: &Policy,
+    verified_at: u64,
+) -> Result<Tree, IssueError>
+    requires depth { depth (tree_of issuer.order.payload) ≤ 127 }
+    requires callable { F.IsAlwaysCallable holder.old.consent }
+    requires short { AreShort holder.old.ask.binding }
+    requires suits { Suits F.Fn holder.old.consent (order_of issuer.order) issuer.key holder.old.ask holder.old.key
+        policy.now presented_at verified_at }
+    ensures shown { IfOk result (λ payload. tree_of payload ≡ claims_for (order_of issuer.order) holder.old.ask.want) }
+    ensures refused { IfErr result (IsNotIssued (maker_of issuer.seed) (order_of issuer.order) issuer.key.alg (IsGood issuer.key)) }
+{
+    presented_values::<F>();
+    let token = issued(alloc, issuer)?;
+    let presentation = presented(alloc, token.as_str(), holder, presented_at)?;
+    Ok(verified(alloc, presentation.as_str(), policy, verified_at)?)
+}
