@@ -2,13 +2,15 @@
 """Prints the trusted core: the definitions that a reader has to believe for what stands at the top.
 
     python3 docs/core.py            for the clauses of `run`, and for the laws `presented` and `no_forgery`
-    python3 docs/core.py WORD ..    for other roots: a function, as verifier_core::verdict::verify, or a definition,
-                                    as sdjwt_cli::specs::Answers::VerifyAnswers
+    python3 docs/core.py WORD ..    for other roots: a function, as verifier_core::verdict::verify, one of its clauses,
+                                    as verifier_core::verdict::verify::accepted, or a definition, as
+                                    sdjwt_cli::specs::Answers::VerifyAnswers
+    python3 docs/core.py --headline for the two halves of the headline, as calls of the libraries have them
     python3 docs/core.py --names    besides, the definitions of each module with their lines
     python3 docs/core.py --left     besides, what is not reached of modules that are
-    python3 docs/core.py --table    the crates, as rows of the table in docs/PROVED.md
-    python3 docs/core.py --check    whether docs/PROVED.md has these rows, and each module of specs/ says in its first line
-                                    whether it is of the core; status 1 where not
+    python3 docs/core.py --table    the crates, as rows of a table in docs/PROVED.md
+    python3 docs/core.py --check    whether docs/PROVED.md has the rows of both tables, and each module of specs/ says
+                                    in its first line whether it is of the core; status 1 where not
 
 It takes the words of the clauses of each root, finds by the `use` lines where each word is defined, and goes on with
 the words of those definitions: so it follows definitions, and not whole modules. A module under `declared` is the
@@ -25,6 +27,12 @@ from pathlib import Path
 TOP = Path(__file__).resolve().parent.parent
 CRATES = re.findall(r"^(\w+):", (TOP / "crates.txt").read_text(encoding="utf-8"), re.M)
 ROOTS = ["sdjwt_cli::top::run", "sdjwt_cli::laws::presented", "sdjwt_cli::laws::no_forgery", "sdjwt_tools::tools::run_tools", "feed_core::laws::any_cut", "cli_parts::host::exit_code"]
+# The same for who takes the libraries for themselves.
+HEADLINE = [
+    "examples_service::end_to_end::issue_present_verify::shown",
+    "verifier_core::verdict::verify_payload::accepted",
+    "verifier_core::verdict::verify_payload::refused",
+]
 
 WORD = re.compile(r"[^\W\d][\w'-]*(?:\.[^\W\d][\w'-]*)*")
 USE = re.compile(r"^\s*(?:ghost )?use ([A-Za-z_][\w.]*?)(?:\.\{(.*?)\}| as (\w+))?;?\s*$", re.M)
@@ -194,18 +202,25 @@ class Core:
         return [self.meaning(now.file, word) for word in sorted(free)]
 
     def root(self, word):
-        """What the clauses of a function cite, with the traits in which it is generic; or a definition."""
+        """What the clauses of a function cite, or its conditions and one clause, with the traits in which it is generic
+        and the types of its file that it takes; or a definition."""
         try:
             crate, module, *rest = word.split("::")
             if module == "specs":
                 return [self.specs(crate, rest[0]).defined[rest[1]]]
             file = File(TOP / "crates" / crate / "src" / (module + ".rt"))
             head = re.search(r"^(?:pub(?:\(crate\))? )?fn %s\b(.*?)^\{" % rest[0], file.text, re.M | re.S).group(1)
-        except (OSError, ValueError, LookupError, AttributeError):
+            signature, *clauses = re.split(r"^(?=    (?:requires|ensures)\b)", head, flags=re.M)
+            if rest[1:]:
+                wanted = ("    requires", "    ensures %s " % rest[1])
+                clauses = [clause for clause in clauses if clause.startswith(wanted)]
+                assert any(clause.startswith(wanted[1]) for clause in clauses)
+        except (OSError, ValueError, LookupError, AttributeError, AssertionError):
             sys.exit(f"core.py: there is no {word}")
-        traits = re.findall(r"\w+: (\w+)", head.split("(")[0])
-        found = [self.meaning(file, name) for name in sorted(set(WORD.findall(head))) if name in file.imports]
-        return found + [self.type_named(crate, file, name) for name in traits]
+        here = set(re.findall(r"^pub struct (\w+)", file.text, re.M))
+        types = re.findall(r"\w+: (\w+)", signature.split("(")[0]) + sorted(here & set(WORD.findall(signature)))
+        found = [self.meaning(file, name) for name in sorted(set(WORD.findall("".join(clauses)))) if name in file.imports]
+        return found + [self.type_named(crate, file, name) for name in types]
 
     def modules(self):
         """The modules that are reached: crates from the top down, and in each as the walk came to them."""
@@ -253,11 +268,12 @@ def mistold(core):
                 yield f"{crate} {path.stem} is " + ("of the core, and says that it is not" if says_so else "not of the core, and does not say so")
 
 
-def check(core):
-    """Whether the document has just the rows of the table, and modules say whether they are of the core; prints what is wrong."""
+def check():
+    """Whether the document has just the rows of both tables, and modules say whether they are of the core; prints what is wrong."""
     text = (TOP / "docs/PROVED.md").read_text(encoding="utf-8").split("\n")
-    wrong = [row for row in table(core) if row not in text] + list(mistold(core))
-    print("\n".join(wrong) or "docs/PROVED.md has the table of the trusted core, and the modules say which of them it has")
+    cores = [Core(ROOTS), Core(HEADLINE)]
+    wrong = [row for core in cores for row in table(core) if row not in text] + list(mistold(cores[0]))
+    print("\n".join(wrong) or "docs/PROVED.md has the tables of the trusted core, and the modules say which of them it has")
     return 1 if wrong else 0
 
 
@@ -285,9 +301,10 @@ def print_totals(core):
 
 def main():
     options = {word for word in sys.argv[1:] if word.startswith("--")}
-    core = Core([word for word in sys.argv[1:] if word not in options] or ROOTS)
     if "--check" in options:
-        sys.exit(check(core))
+        sys.exit(check())
+    roots = HEADLINE if "--headline" in options else ROOTS
+    core = Core([word for word in sys.argv[1:] if word not in options] or roots)
     if "--table" in options:
         print("\n".join(table(core)))
     else:
