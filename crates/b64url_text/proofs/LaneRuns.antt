@@ -8,6 +8,7 @@ use Rattle.std.proofs.lemmas.List.Folds.{prefix_len-append}
 use Rattle.std.proofs.lemmas.List.Sums.{prefix_len-le-length}
 use Rattle.std.specs.List.{prefix_len}
 use lib.Lanes.{Each1, chunk, mask_l, top}
+use Rattle.b64url_text.specs.Base64url.{is_letter}
 use Rattle.b64url_text.specs.Lanes.{first_set}
 
 -- tests that agree on each byte give runs of one length
@@ -58,3 +59,10 @@ pub second_full : (a b n r : ℕ) → first_set b n ≡ r → eqb (bit_or a b) 0
 second_full a b n r is none =
     let clear : b ≡ 0 = omega (arith, eqb-true (bit_or a b) 0 none, le_or_r a b) in
     sym is ∙ ap (λ m. first_set m n) clear
+
+-- a place within the text up to which all are letters: those behind it count on from there
+abbrev pub IsLettersTo : List ℕ → ℕ → Type 0
+IsLettersTo text at = record {
+  within : at ≤ length text;
+  counted : at + prefix_len is_letter (drop at text) ≡ prefix_len is_letter text;
+}
