@@ -198,18 +198,15 @@ none_removed (m ∷ ms) name h = rw (h 0 m (omega arith)) (ap (member m.0 (tree_
 pub removed_gap : (ms : List Entry) (name : Text) (i : ℕ) → IsGap ms name i → members_of ms ≡ removed (members_of ms) name
 removed_gap ms name i g = none_removed ms name (λ k d l. at_gap ms name i g k d l (cases_lt k i))
 
+-- what holds of both ways of a choice holds of what is chosen
+pub of_either : (P : Members → Type 0) (b : Bool) (one other : Members) → P one → P other → P (if b then one else other)
+of_either P true one other p q = p
+of_either P false one other p q = q
+
 before_removed : (k : Text) (ms : Members) (name : Text) → IsBeforeAll k (names ms) → IsBeforeAll k (names (removed ms name))
 before_removed k no_members name all = tt
-before_removed k (member other t ms) name all = go (bytes_eq other name) (before_removed k ms name all.1)
-  where
-    go : (b : Bool) → IsBeforeAll k (names (removed ms name)) → IsBeforeAll k (names (if b then removed ms name else member other t (removed ms name)))
-    go true ih = ih
-    go false ih = (all.0, ih)
+before_removed k (member other t ms) name all = let ih = before_removed k ms name all.1 in of_either (λ ns. IsBeforeAll k (names ns)) (bytes_eq other name) _ _ ih (all.0, ih)
 
 pub ordered-removed : (ms : Members) (name : Text) → MembersOrdered ms → MembersOrdered (removed ms name)
 ordered-removed no_members name o = tt
-ordered-removed (member other t ms) name o = go (bytes_eq other name) (ordered-removed ms name o.2)
-  where
-    go : (b : Bool) → MembersOrdered (removed ms name) → MembersOrdered (if b then removed ms name else member other t (removed ms name))
-    go true ih = ih
-    go false ih = (before_removed other ms name o.0, o.1, ih)
+ordered-removed (member other t ms) name o = let ih = ordered-removed ms name o.2 in of_either MembersOrdered (bytes_eq other name) _ _ ih (before_removed other ms name o.0, o.1, ih)

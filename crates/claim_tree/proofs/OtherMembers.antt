@@ -7,7 +7,7 @@ use Rattle.std.proofs.lemmas.Slice.Eq.{bytes_eq-Decides}
 use Rattle.claim_tree.specs.Tree.{Text, Tree, depth, Members, no_members, member, members_depth, MembersRanged, inserted, member_named}
 use Rattle.claim_tree.specs.Removed.{removed}
 use Rattle.claim_tree.proofs.Lists.{bytes_refl}
-use Rattle.claim_tree.proofs.MapPlaces.{cmp}
+use Rattle.claim_tree.proofs.MapPlaces.{cmp, of_either}
 
 -- names in an order are one exactly where they tie
 tied : (a b : Text) (o : Ordering) → cmp a b ≡ o → bytes_eq a b ≡ is_eq o
@@ -47,19 +47,11 @@ removed_absent (member k t ms) name none = go (bytes_eq k name) none (removed_ab
 
 pub ranged-removed : (ms : Members) (name : Text) → MembersRanged ms → MembersRanged (removed ms name)
 ranged-removed no_members name ranged = tt
-ranged-removed (member k t ms) name ranged = go (bytes_eq k name) (ranged-removed ms name ranged.1)
-  where
-    go : (b : Bool) → MembersRanged (removed ms name) → MembersRanged (if b then removed ms name else member k t (removed ms name))
-    go true ih = ih
-    go false ih = (ranged.0, ih)
+ranged-removed (member k t ms) name ranged = let ih = ranged-removed ms name ranged.1 in of_either MembersRanged (bytes_eq k name) _ _ ih (ranged.0, ih)
 
 pub depth-removed : (ms : Members) (name : Text) → members_depth (removed ms name) ≤ members_depth ms
 depth-removed no_members name = omega arith
-depth-removed (member k t ms) name = go (bytes_eq k name) (depth-removed ms name)
-  where
-    go : (b : Bool) → members_depth (removed ms name) ≤ members_depth ms → members_depth (if b then removed ms name else member k t (removed ms name)) ≤ max (depth t) (members_depth ms)
-    go true ih = omega (arith, ih)
-    go false ih = omega (arith, ih)
+depth-removed (member k t ms) name = let ih = depth-removed ms name in of_either (λ ns. members_depth ns ≤ max (depth t) (members_depth ms)) (bytes_eq k name) _ _ (omega (arith, ih)) (omega (arith, ih))
 
 -- ---- found
 

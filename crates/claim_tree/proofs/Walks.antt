@@ -44,25 +44,24 @@ member_turn ms i d within ordered = rw add-one (inserted_there ms i d within ord
 
 -- ---- a call that goes into each tree of a slice: its measure is below that of the list, and it nests no deeper
 
+-- what is within the total of a list that begins with it is within the total of each list that it stands in
+pub within_total : {A : Type 0} (f : A → ℕ) (total : List A → ℕ) → ((x : A) (xs : List A) → (f x ≤ total (x ∷ xs)) × (total xs ≤ total (x ∷ xs)))
+    → (xs : List A) (i : ℕ) (d : A) → i < length xs → f (get_or xs i d) ≤ total xs
+within_total f total grows [] i d within = absurd (omega arith)
+within_total f total grows (x ∷ xs) zero d within = (grows x xs).0
+within_total f total grows (x ∷ xs) (suc i) d within = let rest = within_total f total grows xs i d (omega arith) in omega (arith, rest, (grows x xs).1)
+
 pub element_falls : (ts : List tree.Tree) (i : ℕ) (d : tree.Tree) → i < length ts → deep-Tree (get_or ts i d) < elements_size (elements_of ts)
-element_falls [] i d within = absurd (omega arith)
-element_falls (t ∷ ts) zero d within = omega (arith, deep-le t)
-element_falls (t ∷ ts) (suc i) d within = let rest = element_falls ts i d (omega arith) in omega (arith, rest)
+element_falls = within_total (λ t. suc (deep-Tree t)) (λ ts. elements_size (elements_of ts)) (λ t ts. (omega (arith, deep-le t), omega arith))
 
 pub element_lower : (ts : List tree.Tree) (i : ℕ) (d : tree.Tree) → i < length ts → depth (tree_of (get_or ts i d)) ≤ elements_depth (elements_of ts)
-element_lower [] i d within = absurd (omega arith)
-element_lower (t ∷ ts) zero d within = omega arith
-element_lower (t ∷ ts) (suc i) d within = let rest = element_lower ts i d (omega arith) in omega (arith, rest)
+element_lower = within_total (λ t. depth (tree_of t)) (λ ts. elements_depth (elements_of ts)) (λ t ts. (omega arith, omega arith))
 
 pub member_falls : (ms : List Named) (i : ℕ) (d : Named) → i < length ms → deep-Tree (get_or ms i d).1 < members_size (members_of ms)
-member_falls [] i d within = absurd (omega arith)
-member_falls (m ∷ ms) zero d within = omega (arith, deep-le m.1)
-member_falls (m ∷ ms) (suc i) d within = let rest = member_falls ms i d (omega arith) in omega (arith, rest)
+member_falls = within_total (λ m. suc (deep-Tree m.1)) (λ ms. members_size (members_of ms)) (λ m ms. (omega (arith, deep-le m.1), omega arith))
 
 pub member_lower : (ms : List Named) (i : ℕ) (d : Named) → i < length ms → depth (tree_of (get_or ms i d).1) ≤ members_depth (members_of ms)
-member_lower [] i d within = absurd (omega arith)
-member_lower (m ∷ ms) zero d within = omega arith
-member_lower (m ∷ ms) (suc i) d within = let rest = member_lower ms i d (omega arith) in omega (arith, rest)
+member_lower = within_total (λ m. depth (tree_of m.1)) (λ ms. members_depth (members_of ms)) (λ m ms. (omega arith, omega arith))
 
 pub ruleset into_element = (element_falls, element_lower)
 
