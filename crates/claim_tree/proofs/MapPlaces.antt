@@ -1,5 +1,5 @@
 -- Members that ascend: where a name stands among them, and what is put there.
-use Rattle.std.proofs.Common.{◌≡◌, ◌⊎◌, inl, inr, ℕ, zero, suc, ◌+◌, ◌-◌, ◌<◌, ◌≤◌, Bool, true, false, List, [], ◌∷◌, length, set, get_or, Some, None, Ordering, Less, Equal, Greater, nat_cmp, Result, Ok, Err, IfOk, IfErr, refl, sym, ap, subst, ◌∙◌, arith}
+use Rattle.std.proofs.Common.{◌≡◌, ◌⊎◌, inl, inr, ℕ, zero, suc, ◌+◌, ◌-◌, ◌<◌, ◌≤◌, Bool, true, false, List, [], ◌∷◌, length, set, get_or, Some, None, Ordering, Less, Equal, Greater, nat_cmp, Result, Ok, Err, MatchResult, refl, sym, ap, subst, ◌∙◌, arith}
 use Rattle.std.specs.Prelude.{bytes_eq, if◌then◌else◌}
 use Rattle.std.specs.List.{insert, remove}
 use Rattle.std.specs.List.Sorted.{IsSortedBy, IsSearchInRange, IsBinarySearchResult}
@@ -57,13 +57,9 @@ sorted : (ms : List Entry) → MembersOrdered (members_of ms) → IsSortedBy (λ
 sorted ms o k d l h = ap is_lt (after_before (get_or ms k d).0 (get_or ms (k + 1) d).0 (ascends ms k (k + 1) d o (omega arith) h))
 
 -- what a binary search finds
-pub found_place : (ms : List Entry) (name : Text) (r : Result ℕ ℕ) → IsSearchInRange r (length ms) → IsBinarySearchResult (λ (m : Entry). cmp m.0 name) ms r → IfOk r (IsPosition ms name)
-found_place ms name (Ok i) within is = record { within = within; named = is }
-found_place ms name (Err i) within is = tt
-
-pub found_gap : (ms : List Entry) (name : Text) (r : Result ℕ ℕ) → MembersOrdered (members_of ms) → IsSearchInRange r (length ms) → IsBinarySearchResult (λ (m : Entry). cmp m.0 name) ms r → IfErr r (IsGap ms name)
-found_gap ms name (Ok i) o within is = tt
-found_gap ms name (Err i) o within is =
+pub found : (ms : List Entry) (name : Text) (r : Result ℕ ℕ) → MembersOrdered (members_of ms) → IsSearchInRange r (length ms) → IsBinarySearchResult (λ (m : Entry). cmp m.0 name) ms r → MatchResult r (IsPosition ms name) (IsGap ms name)
+found ms name (Ok i) o within is = record { within = within; named = is }
+found ms name (Err i) o within is =
     let parted = is (searchable_from_sorted order (λ (m : Entry). m.0) ms name (sorted ms o)) in
     record { within = within; before = λ k d l. parted.0 k d (omega arith) l; after = λ k d l h. parted.1 k d l h }
 

@@ -1,6 +1,6 @@
 -- The tokens of a tree, and those of the trees of a slice that are left.
-use Rattle.std.proofs.Common.{◌≡◌, ℕ, ◌+◌, ◌<◌, List, [], ◌∷◌, ◌++◌, length, get_or, drop, sym, ap, ◌∙◌}
-use Rattle.std.proofs.lemmas.List.{drop_more, append_assoc}
+use Rattle.std.proofs.Common.{◌≡◌, ℕ, ◌+◌, ◌<◌, ◌≤◌, List, [], ◌∷◌, ◌++◌, length, get_or, drop, sym, ap, ◌∙◌}
+use Rattle.std.proofs.lemmas.List.{drop_all, drop_more, append_assoc}
 use Rattle.json.specs.Token.{Token, key}
 use Rattle.json.specs.Tree as json
 use Rattle.serde_json.specs.Written.{outline, items_outline, members_outline}
@@ -20,6 +20,10 @@ elements_tokens es = json.items_tokens (items_outline (elements_data es))
 
 abbrev pub members_tokens : spec.Members → List Token
 members_tokens ms = json.members_tokens (members_outline (members_data ms))
+
+-- none is left
+pub none_left : {A : Type 0} (tokens : List A → List Token) (xs : List A) (i : ℕ) (old all : List Token) → length xs ≤ i → old ++ tokens (drop i xs) ≡ all → old ++ tokens [] ≡ all
+none_left tokens xs i old all past so_far = ap (λ ys. old ++ tokens ys) (sym (drop_all i xs past)) ∙ so_far
 
 -- one element less is left
 pub element_written : (ts : List tree.Tree) (i : ℕ) (t : tree.Tree) (old all : List Token) → i < length ts → t ≡ get_or ts i t → old ++ elements_tokens (elements_of (drop i ts)) ≡ all

@@ -1,8 +1,7 @@
 -- What the calls of a list and of a map do, seen as elements and as members.
-use Rattle.std.proofs.Common.{◌≡◌, ℕ, zero, suc, ◌<◌, ◌≤◌, List, [], ◌∷◌, ◌++◌, length, Option, Some, None, option_map, get_or, MatchOption, Bor, refl, sym, ap, ◌∙◌, arith}
-use Rattle.std.specs.Prelude.{HoldsAt}
+use Rattle.std.proofs.Common.{◌≡◌, ℕ, zero, suc, ◌<◌, ◌≤◌, List, [], ◌∷◌, ◌++◌, length, Some, None, get_or, refl, ap, arith}
 use Rattle.claim_tree.specs.Tree as spec
-use Rattle.claim_tree.specs.Tree.{Text, Elements, element, no_elements, Members, member, no_members, elements_len, element_at, members_len, IsOrdered, ElementsOrdered}
+use Rattle.claim_tree.specs.Tree.{Text, Elements, element, no_elements, elements_len, element_at, members_len, IsOrdered, ElementsOrdered}
 use Rattle.claim_tree.specs.TreeCalls.{pushed, member_at}
 use Rattle.claim_tree.specs.declared.tree.Tree.{Tree}
 use Rattle.claim_tree.specs.View.{tree_of}
@@ -32,28 +31,22 @@ element_at-there [] i d h = absurd (omega arith)
 element_at-there (t ∷ ts) zero d h = refl
 element_at-there (t ∷ ts) (suc i) d h = element_at-there ts i d (omega arith)
 
-pub element_at-of : (ts : List Tree) (i : ℕ) (r : Option (Bor Tree)) → MatchOption r (length ts ≤ i) (λ x. (i < length ts) × HoldsAt (λ y. x.now ≡ y) ts i)
-    → option_map (λ t. tree_of t.now) r ≡ element_at (elements_of ts) i
-element_at-of ts i None h = sym (element_at-past ts i h)
-element_at-of ts i (Some x) h = ap (λ t. Some (tree_of t)) (h.1 x.now) ∙ sym (element_at-there ts i x.now h.0)
-
 -- ---- objects
 
 pub members_len-of : (ms : List (Text × Tree)) → members_len (members_of ms) ≡ length ms
 members_len-of [] = refl
 members_len-of (m ∷ ms) = ap suc (members_len-of ms)
 
-member_at-past : (ms : List (Text × Tree)) (i : ℕ) → length ms ≤ i → member_at (members_of ms) i ≡ None
+pub member_at-past : (ms : List (Text × Tree)) (i : ℕ) → length ms ≤ i → member_at (members_of ms) i ≡ None
 member_at-past [] i h = refl
 member_at-past (m ∷ ms) zero h = absurd (omega arith)
 member_at-past (m ∷ ms) (suc i) h = member_at-past ms i (omega arith)
 
-member_at-there : (ms : List (Text × Tree)) (i : ℕ) (d : Text × Tree) → i < length ms → member_at (members_of ms) i ≡ Some ((get_or ms i d).0, tree_of (get_or ms i d).1)
+pub member_at-there : (ms : List (Text × Tree)) (i : ℕ) (d : Text × Tree) → i < length ms → member_at (members_of ms) i ≡ Some ((get_or ms i d).0, tree_of (get_or ms i d).1)
 member_at-there [] i d h = absurd (omega arith)
 member_at-there (m ∷ ms) zero d h = refl
 member_at-there (m ∷ ms) (suc i) d h = member_at-there ms i d (omega arith)
 
-pub member_at-of : (ms : List (Text × Tree)) (i : ℕ) (r : Option (Bor (Text × Tree))) → MatchOption r (length ms ≤ i) (λ x. (i < length ms) × HoldsAt (λ y. ◌≡◌ {A = Text × Tree} x.now y) ms i)
-    → option_map (λ m. (m.now.0, tree_of m.now.1)) r ≡ member_at (members_of ms) i
-member_at-of ms i None h = sym (member_at-past ms i h)
-member_at-of ms i (Some x) h = ap (λ (m : Text × Tree). Some (m.0, tree_of m.1)) (h.1 x.now) ∙ sym (member_at-there ms i x.now h.0)
+-- ---- what a call cites that looks up
+
+pub ruleset looked_up = (elements_len-of, element_at-past, element_at-there, members_len-of, member_at-past, member_at-there)

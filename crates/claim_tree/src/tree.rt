@@ -1,4 +1,4 @@
-ghost use Rattle.std.specs.Prelude.{◌≡◌, length, OnOk, OnErr, IfOk, IfErr, IsTrue, option_map};
+ghost use Rattle.std.specs.Prelude.{◌≡◌, length, OnOk, OnErr, IfOk, MatchResult, IsTrue, option_map};
 ghost use Rattle.std.specs.Ordering.{nat_cmp};
 ghost use Rattle.std.specs.Cmp.Lexicographic.{slice_cmp};
 ghost use Rattle.claim_tree.specs.Tree.{text_of, no_elements, no_members, elements_len, members_len, element_at, member_named, inserted, IsOrdered, ElementsOrdered, MembersOrdered, IsRanged, ElementsRanged, MembersRanged};
@@ -167,6 +167,7 @@ impl TreeList {
     }
 
     /// The number of elements.
+    #[tactic(auto, using(crate::proofs::Views::looked_up))]
     pub fn len(&self) -> usize
         ensures { result ≡ elements_len self.now }
     {
@@ -174,6 +175,7 @@ impl TreeList {
     }
 
     /// The tree at a position, counted from 0.
+    #[tactic(auto, using(crate::proofs::Views::looked_up))]
     pub fn at(&self, i: usize) -> Option<&Tree>
         ensures { option_map (λ t. tree_of t.now) result ≡ element_at self.now i }
     {
@@ -218,6 +220,7 @@ impl TreeMap {
     }
 
     /// The number of members.
+    #[tactic(auto, using(crate::proofs::Views::looked_up))]
     pub fn len(&self) -> usize
         ensures { result ≡ members_len self.now }
     {
@@ -225,6 +228,7 @@ impl TreeMap {
     }
 
     /// The tree under a name. It takes no memory.
+    #[tactic(auto, using(crate::proofs::MapPlaces::named_at))]
     pub fn get(&self, name: &str) -> Option<&Tree>
         ensures { option_map (λ t. tree_of t.now) result ≡ member_named self.now name.now }
     {
@@ -236,6 +240,7 @@ impl TreeMap {
     }
 
     /// The member at a position, counted from 0 in ascending order.
+    #[tactic(auto, using(crate::proofs::Views::looked_up))]
     pub fn entry_at(&self, i: usize) -> Option<(&TextBox, &Tree)>
         ensures { option_map (λ m. (m.0.now, tree_of m.1.now)) result ≡ member_at self.now i }
     {
@@ -272,8 +277,7 @@ fn compared(member: &(TextBox, Tree), name: &str) -> Ordering
 // Where the name stands among ascending members, or where it would go.
 fn search(members: &[(TextBox, Tree)], name: &str) -> Result<usize, usize>
     requires { MembersOrdered (members_of members.now) }
-    ensures found { IfOk result (IsPosition members.now name.now) }
-    ensures absent { IfErr result (IsGap members.now name.now) }
+    ensures { MatchResult result (IsPosition members.now name.now) (IsGap members.now name.now) }
 {
     members.binary_search_by(|member| compared(member, name))
 }
@@ -292,8 +296,7 @@ pub(crate) fn is_behind(members: &[(TextBox, Tree)], name: &str) -> bool
 // The same as `search`, by one comparison where the name comes after all others.
 fn search_from_end(members: &[(TextBox, Tree)], name: &str) -> Result<usize, usize>
     requires { MembersOrdered (members_of members.now) }
-    ensures found { IfOk result (IsPosition members.now name.now) }
-    ensures absent { IfErr result (IsGap members.now name.now) }
+    ensures { MatchResult result (IsPosition members.now name.now) (IsGap members.now name.now) }
 {
     if is_behind(members, name) {
         Err(members.len())

@@ -69,11 +69,9 @@ build_elements-loop-alloc-preserved t c =
 
 pub build_elements-returns-clause-ok : goal.build_elements-returns-clause-ok
 build_elements-returns-clause-ok t c =
-    let p = value c.args.depth in
     let l = c.loop-alloc in
-    let n = l.invariant.0 in
     let r = c.take_end_array.new.self in
-    l.invariant.2 ∙ ap (parse_map (items_before l.trees)) (items_over p n l.reader r l.invariant.1 (grind arith)) ∙ ap (λ ds. Some (ds, r)) (items_before-no_items l.trees)
+    l.invariant.2 ∙ ap (parse_map (items_before l.trees)) (items_over (value c.args.depth) l.invariant.0 l.reader r l.invariant.1 (grind arith)) ∙ ap (λ ds. Some (ds, r)) (items_before-no_items l.trees)
 
 pub build_members-loop-trees-preserved : goal.build_members-loop-trees-preserved
 build_members-loop-trees-preserved t c =
@@ -100,7 +98,5 @@ build_members-loop-trees-preserved t c =
 
 pub build_members-returns-clause-ok : goal.build_members-returns-clause-ok
 build_members-returns-clause-ok t c =
-    let p = value c.args.depth in
     let l = c.loop-trees in
-    let n = l.invariant.0 in
-    l.invariant.2 ∙ members_over p (members_data l.trees) n l.reader c.next_key.new.self l.invariant.1 (grind arith)
+    l.invariant.2 ∙ members_over (value c.args.depth) (members_data l.trees) l.invariant.0 l.reader c.next_key.new.self l.invariant.1 (grind arith)

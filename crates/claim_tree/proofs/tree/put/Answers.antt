@@ -8,7 +8,7 @@ use Rattle.claim_tree.proofs.tree.put.Goals as goal
 
 pub returns-in-Ok-clause-ok : goal.returns-in-Ok-clause-ok
 returns-in-Ok-clause-ok c =
-    let position = rw (c.as_slice.ensures.value, c.as_str.ensures) at c.in-Ok.ensures.found in
+    let position = rw (c.as_slice.ensures.value, c.as_str.ensures) at c.in-Ok.ensures in
     set_at c.args.members.now.items c.args.name c.args.tree c.in-Ok.position c.requires.members position
 
 pub returns-in-Ok-clause-ordered : goal.returns-in-Ok-clause-ordered
@@ -21,7 +21,7 @@ returns-in-Ok-clause-ranged c =
 
 pub returns-in_ok-insert-in-Err-clause-ok : goal.returns-in_ok-insert-in-Err-clause-ok
 returns-in_ok-insert-in-Err-clause-ok c =
-    let gap = rw (c.as_slice.ensures.value, c.as_str.ensures) at c.in-Err.ensures.absent in
+    let gap = rw (c.as_slice.ensures.value, c.as_str.ensures) at c.in-Err.ensures in
     ap members_of c.in_ok-insert-in-Err.ensures.items ∙ insert_at c.args.members.now.items c.args.name c.args.tree c.in-Err.position gap
 
 pub returns-in_ok-insert-in-Err-clause-ordered : goal.returns-in_ok-insert-in-Err-clause-ordered

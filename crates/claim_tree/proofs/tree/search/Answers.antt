@@ -1,17 +1,11 @@
 use Rattle.std.proofs.Common.{rules, nat_cmp}
 use Rattle.std.specs.Cmp.Lexicographic.{slice_cmp}
 use Rattle.std.proofs.lemmas.Fn.{always_returns_same}
-use Rattle.claim_tree.proofs.MapPlaces.{found_place, found_gap}
+use Rattle.claim_tree.proofs.MapPlaces.{found}
 use Rattle.claim_tree.proofs.tree.search.Goals as goal
 
-pub returns-clause-found : goal.returns-clause-found
-returns-clause-found c =
+pub returns : goal.returns
+returns c =
     let facts = c.binary_search_by.ensures in
-    found_place c.args.members.now c.args.name.now c.binary_search_by.result facts.bound
-    (facts.position (λ m. slice_cmp nat_cmp m.0 c.args.name.now) (always_returns_same _ _ _ (λ a r g called. (search rules, search rules))))
-
-pub returns-clause-absent : goal.returns-clause-absent
-returns-clause-absent c =
-    let facts = c.binary_search_by.ensures in
-    found_gap c.args.members.now c.args.name.now c.binary_search_by.result c.requires facts.bound
+    found c.args.members.now c.args.name.now c.binary_search_by.result c.requires facts.bound
     (facts.position (λ m. slice_cmp nat_cmp m.0 c.args.name.now) (always_returns_same _ _ _ (λ a r g called. (search rules, search rules))))

@@ -8,13 +8,13 @@ use Rattle.claim_tree.proofs.tree.take.Goals as goal
 
 pub returns-in-Ok-clause-tree : goal.returns-in-Ok-clause-tree
 returns-in-Ok-clause-tree c =
-    let position = rw c.as_slice.ensures.value at c.in-Ok.ensures.found in
+    let position = rw c.as_slice.ensures.value at c.in-Ok.ensures in
     ap (λ m. Some (tree_of m.1)) c.remove-tree.ensures.value
     ∙ sym (named_at c.args.members.now.items c.args.name.now c.in-Ok.position c.remove-tree.result c.requires.ordered position)
 
 pub returns-in-Ok-clause-others : goal.returns-in-Ok-clause-others
 returns-in-Ok-clause-others c =
-    let position = rw c.as_slice.ensures.value at c.in-Ok.ensures.found in
+    let position = rw c.as_slice.ensures.value at c.in-Ok.ensures in
     ap members_of c.remove-tree.ensures.items ∙ remove_at c.args.members.now.items c.args.name.now c.in-Ok.position c.requires.ordered position
 
 pub returns-in-Ok-clause-ordered : goal.returns-in-Ok-clause-ordered
@@ -27,10 +27,10 @@ returns-in-Ok-clause-ranged c =
 
 pub returns-in-Err-clause-tree : goal.returns-in-Err-clause-tree
 returns-in-Err-clause-tree c =
-    let gap = rw c.as_slice.ensures.value at c.in-Err.ensures.absent in
+    let gap = rw c.as_slice.ensures.value at c.in-Err.ensures in
     sym (named_gap c.args.members.now.items c.args.name.now c.in-Err.field-0 gap)
 
 pub returns-in-Err-clause-others : goal.returns-in-Err-clause-others
 returns-in-Err-clause-others c =
-    let gap = rw c.as_slice.ensures.value at c.in-Err.ensures.absent in
+    let gap = rw c.as_slice.ensures.value at c.in-Err.ensures in
     removed_gap c.args.members.now.items c.args.name.now c.in-Err.field-0 gap
