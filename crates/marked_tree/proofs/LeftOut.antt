@@ -11,6 +11,7 @@ use Rattle.marked_tree.specs.Marked.{Marked, MarkedElements, MarkedMembers, stri
 use Rattle.marked_tree.specs.Paths.{Path, Spot, inside, own_spot, spots, elements_spots, members_spots, below, one_if, hidden_in, mark_if, mark_from, mark_elements, mark_members, is_among, mark, mark_path, same_path, chosen}
 use Rattle.marked_tree.specs.Ways.{only}
 use Rattle.marked_tree.proofs.LeastChoice.{choose, is_wanted, unmixed_mark}
+use Rattle.marked_tree.proofs.Finds.{node_spots}
 use Rattle.marked_tree.proofs.Spots.{spots_weigh, same_spot, spot_of}
 
 own_there : (b : Bool) (k : Text) (j : ℕ) (rest : List Spot) → b ≡ true → In (record { mark = j; at = k ∷ []; above = [] }) (own_spot k (mark_if b j) ++ rest)
@@ -37,6 +38,17 @@ module _ (s : ℕ → Bool) where
   member_left k true j true u v rest others agree inner outer = rw (agree refl) (ap₂ (member k) inner outer)
   member_left k true j false u v rest others agree inner outer = rw (agree refl) outer
 
+  -- what the set says of the place on a step, of those inside it, and of the others
+  node_agrees : (g : Path → Bool) (k : Text) (b : Bool) (j : ℕ) (u : Marked) (others : List Spot) → Agrees g (node_spots k (mark_if b j) u ++ others)
+      → (b ≡ true → s j ≡ g (k ∷ [])) × Agrees (below k g) (spots u) × Agrees g others
+  node_agrees g k b j u others agree =
+      let own = own_spot k (mark_if b j) in
+      let under = map (inside k (mark_if b j)) (spots u) in (
+        λ e. agree (record { mark = j; at = k ∷ []; above = [] }) (In-left _ (own ++ under) others (own_there b k j under e)),
+        λ a there. agree (inside k (mark_if b j) a) (In-left _ (own ++ under) others (In-right _ own under (In-map (inside k (mark_if b j)) a (spots u) there))),
+        λ a there. agree a (In-right a (own ++ under) others there),
+      )
+
   mutual
     tree_left : (h g : Path → Bool) (n : ℕ) (t : Tree) → Agrees g (spots (mark_from h n t)) → strip (remark (kept s) (mark_from h n t)) ≡ without (left h g) t
     tree_left h g n (leaf l) agree = refl
@@ -47,32 +59,14 @@ module _ (s : ℕ → Bool) where
     elements_left h g n i no_elements agree = refl
     elements_left h g n i (element t es) agree =
         let k = decimal i in
-        let b = h (k ∷ []) in
-        let j = n + hidden_in (below k h) t in
-        let more = n + (hidden_in (below k h) t + one_if b) in
-        let u = mark_from (below k h) n t in
-        let own = own_spot k (mark_if b j) in
-        let under = map (inside k (mark_if b j)) (spots u) in
-        let others = elements_spots (suc i) (mark_elements h more (suc i) es) in
-        element_left b j (g (k ∷ [])) (remark (kept s) u) (without (left (below k h) (below k g)) t) (remark_elements (kept s) (mark_elements h more (suc i) es)) (elements_without (left h g) (suc i) es)
-        (λ e. agree (record { mark = j; at = k ∷ []; above = [] }) (In-left _ (own ++ under) others (own_there b k j under e)))
-        (tree_left (below k h) (below k g) n t (λ a there. agree (inside k (mark_if b j) a) (In-left _ (own ++ under) others (In-right _ own under (In-map (inside k (mark_if b j)) a (spots u) there)))))
-        (elements_left h g more (suc i) es (λ a there. agree a (In-right a (own ++ under) others there)))
+        let parts = node_agrees g k _ _ (mark_from (below k h) n t) _ agree in
+        element_left (h (k ∷ [])) _ (g (k ∷ [])) _ _ _ _ parts.0 (tree_left (below k h) (below k g) n t parts.1) (elements_left h g _ (suc i) es parts.2)
 
     members_left : (h g : Path → Bool) (n : ℕ) (ms : Members) → Agrees g (members_spots (mark_members h n ms)) → strip_members (remark_members (kept s) (mark_members h n ms)) ≡ members_without (left h g) ms
     members_left h g n no_members agree = refl
     members_left h g n (member k t ms) agree =
-        let b = h (k ∷ []) in
-        let j = n + hidden_in (below k h) t in
-        let more = n + (hidden_in (below k h) t + one_if b) in
-        let u = mark_from (below k h) n t in
-        let own = own_spot k (mark_if b j) in
-        let under = map (inside k (mark_if b j)) (spots u) in
-        let others = members_spots (mark_members h more ms) in
-        member_left k b j (g (k ∷ [])) (remark (kept s) u) (without (left (below k h) (below k g)) t) (remark_members (kept s) (mark_members h more ms)) (members_without (left h g) ms)
-        (λ e. agree (record { mark = j; at = k ∷ []; above = [] }) (In-left _ (own ++ under) others (own_there b k j under e)))
-        (tree_left (below k h) (below k g) n t (λ a there. agree (inside k (mark_if b j) a) (In-left _ (own ++ under) others (In-right _ own under (In-map (inside k (mark_if b j)) a (spots u) there)))))
-        (members_left h g more ms (λ a there. agree a (In-right a (own ++ under) others there)))
+        let parts = node_agrees g k _ _ (mark_from (below k h) n t) _ agree in
+        member_left k (h (k ∷ [])) _ (g (k ∷ [])) _ _ _ _ parts.0 (tree_left (below k h) (below k g) n t parts.1) (members_left h g _ ms parts.2)
 
 module _ (t : Tree) (hide want : List Path) where
   -- two spots with one mark are one

@@ -3,9 +3,10 @@ use Rattle.std.proofs.Common.{◌≡◌, ℕ, zero, suc, ◌+◌, ◌<◌, ◌�
 use Rattle.claim_tree.specs.Tree.{Text, element, member, depth, elements_depth, members_depth, inserted, IsBefore, IsBeforeAll, MembersOrdered}
 use Rattle.claim_tree.specs.TreeCalls.{pushed}
 use Rattle.claim_tree.specs.Nodes.{elements_size, members_size}
+use Rattle.claim_tree.proofs.Walks.{within_total}
 use Rattle.marked_tree.specs.Falls.{deep-le}
 use Rattle.marked_tree.specs.Marked as spec
-use Rattle.marked_tree.specs.Marked.{MarkedElements, marked_element, MarkedMembers, marked_member, no_marked_members, strip, strip_elements, strip_members, put, remark, remark_elements, remark_members, new_mark, kept, keep_element, keep_member}
+use Rattle.marked_tree.specs.Marked.{MarkedElements, marked_element, MarkedMembers, no_marked_members, strip, strip_elements, strip_members, put, remark, remark_elements, remark_members, new_mark, kept, keep_element, keep_member}
 use Rattle.marked_tree.specs.MarkedCalls.{marked_pushed}
 use Rattle.marked_tree.specs.declared.marked.MarkedList.TheDeep.{deep-Marked}
 use Rattle.marked_tree.specs.View.{marked_of, marked_elements_of, marked_members_of}
@@ -14,25 +15,29 @@ use Rattle.marked_tree.proofs.Names.{Ascend, names_of, ascend, turned_back}
 
 -- ---- a call that goes into each tree of a slice: its measure is below that of the list, and it nests no deeper
 
+elements_grow : (e : Element) (es : List Element) → (deep-Marked e.1 < elements_size (strip_elements (marked_elements_of (e ∷ es)))) × (elements_size (strip_elements (marked_elements_of es)) ≤ elements_size (strip_elements (marked_elements_of (e ∷ es))))
+elements_grow e es = (omega (arith, deep-le e.1), omega arith)
+
+elements_nest : (e : Element) (es : List Element) → (depth (strip (marked_of e.1)) ≤ elements_depth (strip_elements (marked_elements_of (e ∷ es)))) × (elements_depth (strip_elements (marked_elements_of es)) ≤ elements_depth (strip_elements (marked_elements_of (e ∷ es))))
+elements_nest e es = (omega arith, omega arith)
+
+members_grow : (m : Entry) (ms : List Entry) → (deep-Marked m.2 < members_size (strip_members (marked_members_of (m ∷ ms)))) × (members_size (strip_members (marked_members_of ms)) ≤ members_size (strip_members (marked_members_of (m ∷ ms))))
+members_grow m ms = (omega (arith, deep-le m.2), omega arith)
+
+members_nest : (m : Entry) (ms : List Entry) → (depth (strip (marked_of m.2)) ≤ members_depth (strip_members (marked_members_of (m ∷ ms)))) × (members_depth (strip_members (marked_members_of ms)) ≤ members_depth (strip_members (marked_members_of (m ∷ ms))))
+members_nest m ms = (omega arith, omega arith)
+
 pub element_falls : (es : List Element) (n : ℕ) (d : Element) → n < length es → deep-Marked (get_or es n d).1 < elements_size (strip_elements (marked_elements_of es))
-element_falls [] n d within = absurd (omega arith)
-element_falls (e ∷ es) zero d within = omega (arith, deep-le e.1)
-element_falls (e ∷ es) (suc n) d within = let rest = element_falls es n d (omega arith) in omega (arith, rest)
+element_falls = within_total (λ e. suc (deep-Marked e.1)) (λ es. elements_size (strip_elements (marked_elements_of es))) elements_grow
 
 pub element_lower : (es : List Element) (n : ℕ) (d : Element) → n < length es → depth (strip (marked_of (get_or es n d).1)) ≤ elements_depth (strip_elements (marked_elements_of es))
-element_lower [] n d within = absurd (omega arith)
-element_lower (e ∷ es) zero d within = omega arith
-element_lower (e ∷ es) (suc n) d within = let rest = element_lower es n d (omega arith) in omega (arith, rest)
+element_lower = within_total (λ e. depth (strip (marked_of e.1))) (λ es. elements_depth (strip_elements (marked_elements_of es))) elements_nest
 
 pub member_falls : (ms : List Entry) (n : ℕ) (d : Entry) → n < length ms → deep-Marked (get_or ms n d).2 < members_size (strip_members (marked_members_of ms))
-member_falls [] n d within = absurd (omega arith)
-member_falls (m ∷ ms) zero d within = omega (arith, deep-le m.2)
-member_falls (m ∷ ms) (suc n) d within = let rest = member_falls ms n d (omega arith) in omega (arith, rest)
+member_falls = within_total (λ m. suc (deep-Marked m.2)) (λ ms. members_size (strip_members (marked_members_of ms))) members_grow
 
 pub member_lower : (ms : List Entry) (n : ℕ) (d : Entry) → n < length ms → depth (strip (marked_of (get_or ms n d).2)) ≤ members_depth (strip_members (marked_members_of ms))
-member_lower [] n d within = absurd (omega arith)
-member_lower (m ∷ ms) zero d within = omega arith
-member_lower (m ∷ ms) (suc n) d within = let rest = member_lower ms n d (omega arith) in omega (arith, rest)
+member_lower = within_total (λ m. depth (strip (marked_of m.2))) (λ ms. members_depth (strip_members (marked_members_of ms))) members_nest
 
 pub ruleset into_element = (element_falls, element_lower)
 
@@ -132,33 +137,21 @@ kept_member_turn f ms n m within is ordered =
 
 -- ---- among elements and members that are taken by value
 
-taken_falls : (xs : List Element) (e : Element) (rest : List Element) → deep-Marked e.1 < elements_size (strip_elements (marked_elements_of (xs ++ e ∷ rest)))
-taken_falls [] e rest = omega (arith, deep-le e.1)
-taken_falls (x ∷ xs) e rest = let there = taken_falls xs e rest in omega (arith, there)
-
-taken_lower : (xs : List Element) (e : Element) (rest : List Element) → depth (strip (marked_of e.1)) ≤ elements_depth (strip_elements (marked_elements_of (xs ++ e ∷ rest)))
-taken_lower [] e rest = omega arith
-taken_lower (x ∷ xs) e rest = let there = taken_lower xs e rest in omega (arith, there)
-
-taken_member_falls : (xs : List Entry) (m : Entry) (rest : List Entry) → deep-Marked m.2 < members_size (strip_members (marked_members_of (xs ++ m ∷ rest)))
-taken_member_falls [] m rest = omega (arith, deep-le m.2)
-taken_member_falls (x ∷ xs) m rest = let there = taken_member_falls xs m rest in omega (arith, there)
-
-taken_member_lower : (xs : List Entry) (m : Entry) (rest : List Entry) → depth (strip (marked_of m.2)) ≤ members_depth (strip_members (marked_members_of (xs ++ m ∷ rest)))
-taken_member_lower [] m rest = omega arith
-taken_member_lower (x ∷ xs) m rest = let there = taken_member_lower xs m rest in omega (arith, there)
+taken_within : {A : Type 0} (f : A → ℕ) (total : List A → ℕ) → ((x : A) (xs : List A) → (f x ≤ total (x ∷ xs)) × (total xs ≤ total (x ∷ xs))) → (xs : List A) (e : A) (rest : List A) → f e ≤ total (xs ++ e ∷ rest)
+taken_within f total grows [] e rest = (grows e rest).0
+taken_within f total grows (x ∷ xs) e rest = let there = taken_within f total grows xs e rest in omega (arith, there, (grows x (xs ++ e ∷ rest)).1)
 
 pub into_taken_element : (xs : List Element) (e : Element) (rest : List Element) (us : MarkedElements) → marked_elements_of (xs ++ e ∷ rest) ≡ us → elements_depth (strip_elements us) ≤ 126
     → (deep-Marked e.1 < elements_size (strip_elements us)) × (depth (strip (marked_of e.1)) ≤ 127)
 into_taken_element xs e rest us all =
     subst (λ vs. elements_depth (strip_elements vs) ≤ 126 → (deep-Marked e.1 < elements_size (strip_elements vs)) × (depth (strip (marked_of e.1)) ≤ 127)) all
-    (λ low. (taken_falls xs e rest, omega (arith, taken_lower xs e rest, low)))
+    (λ low. (taken_within _ _ elements_grow xs e rest, omega (arith, taken_within _ _ elements_nest xs e rest, low)))
 
 pub into_taken_member : (xs : List Entry) (m : Entry) (rest : List Entry) (us : MarkedMembers) → marked_members_of (xs ++ m ∷ rest) ≡ us → members_depth (strip_members us) ≤ 126
     → (deep-Marked m.2 < members_size (strip_members us)) × (depth (strip (marked_of m.2)) ≤ 127)
 into_taken_member xs m rest us all =
     subst (λ vs. members_depth (strip_members vs) ≤ 126 → (deep-Marked m.2 < members_size (strip_members vs)) × (depth (strip (marked_of m.2)) ≤ 127)) all
-    (λ low. (taken_member_falls xs m rest, omega (arith, taken_member_lower xs m rest, low)))
+    (λ low. (taken_within _ _ members_grow xs m rest, omega (arith, taken_within _ _ members_nest xs m rest, low)))
 
 pub stripped-taken : (xs : List Element) (e : Element) → strip_elements (marked_elements_of (xs ++ e ∷ [])) ≡ pushed (strip_elements (marked_elements_of xs)) (strip (marked_of e.1))
 stripped-taken [] e = refl
