@@ -1,5 +1,5 @@
 -- Members that ascend: where a name stands among them, and what is put there.
-use Rattle.std.proofs.Common.{◌≡◌, ◌⊎◌, inl, inr, ℕ, zero, suc, ◌+◌, ◌-◌, ◌<◌, true, List, [], ◌∷◌, length, drop, set, get_or, Option, Some, Ordering, Less, Equal, Greater, Result, Ok, Err, IfOk, IfErr, refl, sym, ap, subst, ◌∙◌, arith}
+use Rattle.std.proofs.Common.{◌≡◌, ◌⊎◌, inl, inr, ℕ, zero, suc, ◌+◌, ◌-◌, ◌<◌, true, List, [], ◌∷◌, length, drop, set, get_or, Option, Some, Ordering, Less, Equal, Greater, Result, Ok, Err, MatchResult, refl, sym, ap, subst, ◌∙◌, arith}
 use Rattle.std.specs.Prelude.{◌==◌}
 use Rattle.std.specs.List.{insert, slice_get}
 use Rattle.std.specs.List.Sorted.{IsSortedBy, IsSearchInRange, IsBinarySearchResult}
@@ -78,18 +78,15 @@ at_found (m ∷ ms) name zero l is = sym (same_name m.0 name (is m))
 at_found (m ∷ ms) name (suc i) l is = at_found ms name i (omega arith) is
 at_found [] name i l is = absurd (omega arith)
 
-pub found_name : (ms : List Entry) (name : Text) (r : Result ℕ ℕ) → IsSearchInRange r (length ms) → IsBinarySearchResult (λ (m : Entry). cmp m.0 name) ms r → IfOk r (λ i. StandsAt (names_of ms) i name)
-found_name ms name (Ok i) within is = at_found ms name i within is
-found_name ms name (Err i) within is = tt
-
 -- a member to read at, where there is one
 some_entry : (ms : List Entry) (k : ℕ) (other : Text) → StandsAt (names_of ms) k other → Entry
 some_entry (m ∷ ms) k other h = m
 some_entry [] k other h = elim h [ ]
 
-pub found_gap : (ms : List Entry) (name : Text) (r : Result ℕ ℕ) → Ascend (names_of ms) → IsSearchInRange r (length ms) → IsBinarySearchResult (λ (m : Entry). cmp m.0 name) ms r → IfErr r (IsNameGap (names_of ms) name)
-found_gap ms name (Ok i) o within is = tt
-found_gap ms name (Err i) o within is =
+pub found : (ms : List Entry) (name : Text) (r : Result ℕ ℕ) → Ascend (names_of ms) → IsSearchInRange r (length ms) → IsBinarySearchResult (λ (m : Entry). cmp m.0 name) ms r
+    → MatchResult r (λ i. StandsAt (names_of ms) i name) (IsNameGap (names_of ms) name)
+found ms name (Ok i) o within is = at_found ms name i within is
+found ms name (Err i) o within is =
     let parted = is (searchable_from_sorted order (λ (m : Entry). m.0) ms name (sorted ms o)) in
     record {
       within = rw (length-names ms) within;

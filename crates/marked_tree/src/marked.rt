@@ -1,4 +1,4 @@
-ghost use Rattle.std.specs.Prelude.{◌≡◌, ◌++◌, OnOk, OnErr, IfOk, IfErr, IsTrue, option_map};
+ghost use Rattle.std.specs.Prelude.{◌≡◌, ◌++◌, ◌<◌, ◌≤◌, length, OnOk, OnErr, IfOk, MatchResult, IsTrue, option_map};
 ghost use Rattle.std.specs.Ordering.{nat_cmp};
 ghost use Rattle.std.specs.Cmp.Lexicographic.{slice_cmp};
 ghost use Rattle.claim_tree.specs.Tree.{IsBefore, IsOrdered, ElementsOrdered, MembersOrdered};
@@ -147,6 +147,7 @@ impl MarkedList {
     }
 
     /// The number of elements.
+    #[tactic(auto, using(crate::proofs::MarkedViews::looked_up))]
     pub fn len(&self) -> usize
         ensures { result ≡ marked_elements_len self.now }
     {
@@ -154,6 +155,7 @@ impl MarkedList {
     }
 
     /// The element at a position, counted from 0.
+    #[tactic(auto, using(crate::proofs::MarkedViews::looked_up))]
     pub fn at(&self, i: usize) -> Option<(Option<u32>, &Marked)>
         ensures { option_map (λ e. (e.0, marked_of e.1.now)) result ≡ marked_element_at self.now i }
     {
@@ -189,6 +191,7 @@ impl MarkedMap {
     }
 
     /// The number of members.
+    #[tactic(auto, using(crate::proofs::MarkedViews::looked_up))]
     pub fn len(&self) -> usize
         ensures { result ≡ marked_members_len self.now }
     {
@@ -196,6 +199,7 @@ impl MarkedMap {
     }
 
     /// The member at a position, counted from 0 in ascending order.
+    #[tactic(auto, using(crate::proofs::MarkedViews::looked_up))]
     pub fn entry_at(&self, i: usize) -> Option<(&TextBox, Option<u32>, &Marked)>
         ensures { option_map (λ m. (m.0.now, m.1, marked_of m.2.now)) result ≡ marked_member_at self.now i }
     {
@@ -330,8 +334,8 @@ fn sort_by_name(members: &mut Vec<(TextBox, Option<u32>, Marked)>) -> Result<(),
 // Where the name stands among ascending members, or where it would go.
 fn search(members: &[(TextBox, Option<u32>, Marked)], name: &str) -> Result<usize, usize>
     requires { MembersOrdered (strip_members (marked_members_of members.now)) }
-    ensures found { IfOk result (λ i. StandsAt (marked_names (marked_members_of members.now)) i name.now) }
-    ensures absent { IfErr result (IsNameGap (marked_names (marked_members_of members.now)) name.now) }
+    ensures within { MatchResult result (λ i. i < length members.now) (λ i. i ≤ length members.now) }
+    ensures place { MatchResult result (λ i. StandsAt (marked_names (marked_members_of members.now)) i name.now) (IsNameGap (marked_names (marked_members_of members.now)) name.now) }
 {
     members.binary_search_by(|member| compared(member, name))
 }
@@ -339,8 +343,8 @@ fn search(members: &[(TextBox, Option<u32>, Marked)], name: &str) -> Result<usiz
 // The same as `search`, by one comparison where the name comes after all others.
 fn search_from_end(members: &[(TextBox, Option<u32>, Marked)], name: &str) -> Result<usize, usize>
     requires { MembersOrdered (strip_members (marked_members_of members.now)) }
-    ensures found { IfOk result (λ i. StandsAt (marked_names (marked_members_of members.now)) i name.now) }
-    ensures absent { IfErr result (IsNameGap (marked_names (marked_members_of members.now)) name.now) }
+    ensures within { MatchResult result (λ i. i < length members.now) (λ i. i ≤ length members.now) }
+    ensures place { MatchResult result (λ i. StandsAt (marked_names (marked_members_of members.now)) i name.now) (IsNameGap (marked_names (marked_members_of members.now)) name.now) }
 {
     match members.last() {
         Some(last) if compared(last, name) == Ordering::Less => Err(members.len()),

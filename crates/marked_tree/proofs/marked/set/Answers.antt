@@ -1,26 +1,14 @@
-use Rattle.std.proofs.Common.{ap, ◌∙◌, sym, subst, arith}
+use Rattle.std.proofs.Common.{ap, ◌∙◌, sym, subst}
 use Rattle.claim_tree.specs.Tree.{MembersOrdered}
-use Rattle.claim_tree.proofs.Lists.{At-below}
 use Rattle.marked_tree.specs.Marked.{strip_members}
 use Rattle.marked_tree.specs.View.{marked_of, marked_members_of}
-use Rattle.marked_tree.proofs.Names.{names_of, length-names, ascend, set_at, insert_at, ordered-marked_inserted}
+use Rattle.marked_tree.proofs.Names.{ascend, set_at, insert_at, ordered-marked_inserted}
 use Rattle.marked_tree.proofs.marked.set.Goals as goal
-
-pub index_mut-requires : goal.index_mut-requires
-index_mut-requires c =
-    let ms = c.args.members.now.items in
-    let position = rw (c.as_slice.ensures.value, c.as_str.ensures) at c.in-Ok.ensures.found in
-    omega (arith, At-below (names_of ms) c.in-Ok.position c.args.name position, length-names ms)
-
-pub insert-requires : goal.insert-requires
-insert-requires c =
-    let gap = rw (c.as_slice.ensures.value, c.as_str.ensures) at c.in-Err.ensures.absent in
-    omega (arith, gap.within, length-names c.args.members.now.items)
 
 pub returns-in-Ok-clause-ok : goal.returns-in-Ok-clause-ok
 returns-in-Ok-clause-ok c =
     let ms = c.args.members.now.items in
-    let position = rw (c.as_slice.ensures.value, c.as_str.ensures) at c.in-Ok.ensures.found in
+    let position = rw (c.as_slice.ensures.value, c.as_str.ensures) at c.in-Ok.ensures.place in
     set_at ms c.args.name c.args.mark c.args.tree c.in-Ok.position (ascend (marked_members_of ms) c.requires.members) position
 
 pub returns-in-Ok-clause-ordered : goal.returns-in-Ok-clause-ordered
@@ -30,7 +18,7 @@ returns-in-Ok-clause-ordered c =
 
 pub returns-in_ok-insert-in-Err-clause-ok : goal.returns-in_ok-insert-in-Err-clause-ok
 returns-in_ok-insert-in-Err-clause-ok c =
-    let gap = rw (c.as_slice.ensures.value, c.as_str.ensures) at c.in-Err.ensures.absent in
+    let gap = rw (c.as_slice.ensures.value, c.as_str.ensures) at c.in-Err.ensures.place in
     ap marked_members_of c.in_ok-insert-in-Err.ensures.items ∙ insert_at c.args.members.now.items c.args.name c.args.mark c.args.tree c.in-Err.position gap
 
 pub returns-in_ok-insert-in-Err-clause-ordered : goal.returns-in_ok-insert-in-Err-clause-ordered
