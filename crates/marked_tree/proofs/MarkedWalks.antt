@@ -58,7 +58,7 @@ pub stripped_turn : (es : List Element) (n : ℕ) (d : Element) → n < length e
 stripped_turn es n d within = ap strip_elements (element_turn es n d within) ∙ strip-pushed (marked_elements_of (take n es)) (get_or es n d).0 (marked_of (get_or es n d).1)
 
 -- the elements with one more where it is kept
-abbrev pub kept_pushed : MarkedElements → Option (Option ℕ) → spec.Marked → MarkedElements
+abbrev kept_pushed : MarkedElements → Option (Option ℕ) → spec.Marked → MarkedElements
 kept_pushed es None t = es
 kept_pushed es (Some i) t = marked_pushed es i t
 
@@ -76,13 +76,9 @@ remark-pushed f (marked_element j u es) i t = go (new_mark f j) (new_mark f i) (
     go (Some k) None ih = ap (marked_element k (remark f u)) ih
     go (Some k) (Some l) ih = ap (marked_element k (remark f u)) ih
 
-pub kept_turn : (f : ℕ → Option ℕ) (es : List Element) (n : ℕ) (e : Element) → n < length es → e ≡ get_or es n e
-    → remark_elements f (marked_elements_of (take (n + 1) es)) ≡ kept_pushed (remark_elements f (marked_elements_of (take n es))) (new_mark f e.0) (remark f (marked_of e.1))
-kept_turn f es n e within is =
-    let front = marked_elements_of (take n es) in
-    let d = get_or es n e in
-    ap (remark_elements f) (element_turn es n e within) ∙ remark-pushed f front d.0 (marked_of d.1)
-    ∙ ap (λ (x : Element). kept_pushed (remark_elements f front) (new_mark f x.0) (remark f (marked_of x.1))) (sym is)
+kept_turn : (f : ℕ → Option ℕ) (es : List Element) (n : ℕ) (d : Element) → n < length es
+    → remark_elements f (marked_elements_of (take (n + 1) es)) ≡ kept_pushed (remark_elements f (marked_elements_of (take n es))) (new_mark f (get_or es n d).0) (remark f (marked_of (get_or es n d).1))
+kept_turn f es n d within = ap (remark_elements f) (element_turn es n d within) ∙ remark-pushed f (marked_elements_of (take n es)) (get_or es n d).0 (marked_of (get_or es n d).1)
 
 -- ---- one member more
 
@@ -104,7 +100,7 @@ pub stripped_member_turn : (ms : List Entry) (n : ℕ) (d : Entry) → n < lengt
 stripped_member_turn ms n d within ordered = rw add-one (stripped_more ms n d within (ascend (marked_members_of ms) ordered))
 
 -- the members with one more where it is kept
-abbrev pub kept_put : MarkedMembers → Text → Option (Option ℕ) → spec.Marked → MarkedMembers
+abbrev kept_put : MarkedMembers → Text → Option (Option ℕ) → spec.Marked → MarkedMembers
 kept_put ms name None t = ms
 kept_put ms name (Some i) t = put name i t ms
 
@@ -129,11 +125,9 @@ kept_more f (m ∷ ms) (suc n) d within o =
     ∙ kept_later (get_or ms n d).0 (new_mark f (get_or ms n d).1) (remark f (marked_of (get_or ms n d).2)) m.0 (new_mark f m.1) (remark f (marked_of m.2)) (remark_members f (marked_members_of (take n ms)))
     (before_there m.0 ms n d (omega arith) o.0)
 
-pub kept_member_turn : (f : ℕ → Option ℕ) (ms : List Entry) (n : ℕ) (m : Entry) → n < length ms → m ≡ get_or ms n m → MembersOrdered (strip_members (marked_members_of ms))
-    → remark_members f (marked_members_of (take (n + 1) ms)) ≡ kept_put (remark_members f (marked_members_of (take n ms))) m.0 (new_mark f m.1) (remark f (marked_of m.2))
-kept_member_turn f ms n m within is ordered =
-    rw add-one (kept_more f ms n m within (ascend (marked_members_of ms) ordered)
-    ∙ ap (λ (e : Entry). kept_put (remark_members f (marked_members_of (take n ms))) e.0 (new_mark f e.1) (remark f (marked_of e.2))) (sym is))
+kept_member_turn : (f : ℕ → Option ℕ) (ms : List Entry) (n : ℕ) (d : Entry) → n < length ms → MembersOrdered (strip_members (marked_members_of ms))
+    → remark_members f (marked_members_of (take (n + 1) ms)) ≡ kept_put (remark_members f (marked_members_of (take n ms))) (get_or ms n d).0 (new_mark f (get_or ms n d).1) (remark f (marked_of (get_or ms n d).2))
+kept_member_turn f ms n d within ordered = rw add-one (kept_more f ms n d within (ascend (marked_members_of ms) ordered))
 
 -- ---- among elements and members that are taken by value
 
@@ -174,7 +168,7 @@ stripped_member-taken xs m rest o = inserted-taken xs m rest (ascend (marked_mem
 
 -- ---- what stays
 
-pub kept_is : (s : ℕ → Bool) (i : Option ℕ) → is_some (new_mark (kept s) i) ≡ true → new_mark (kept s) i ≡ Some i
+kept_is : (s : ℕ → Bool) (i : Option ℕ) → is_some (new_mark (kept s) i) ≡ true → new_mark (kept s) i ≡ Some i
 kept_is s None e = refl
 kept_is s (Some i) e = go (s i) e
   where
@@ -182,7 +176,7 @@ kept_is s (Some i) e = go (s i) e
     go true f = refl
     go false f = cc
 
-pub left_out_is : (s : ℕ → Bool) (i : Option ℕ) → is_some (new_mark (kept s) i) ≡ false → new_mark (kept s) i ≡ None
+left_out_is : (s : ℕ → Bool) (i : Option ℕ) → is_some (new_mark (kept s) i) ≡ false → new_mark (kept s) i ≡ None
 left_out_is s i e = go (new_mark (kept s) i) e
   where
     go : (o : Option (Option ℕ)) → is_some o ≡ false → o ≡ None
@@ -194,3 +188,36 @@ left_out_is s i e = go (new_mark (kept s) i) e
 pub ruleset strips_element = (element_falls, element_lower, stripped_turn)
 
 pub ruleset strips_member = (member_falls, member_lower, stripped_member_turn)
+
+-- ---- and that leaves some out
+
+pub stays_turn : (s : ℕ → Bool) (es : List Element) (n : ℕ) (e : Element) → n < length es → e ≡ get_or es n e → is_some (new_mark (kept s) e.0) ≡ true
+    → remark_elements (kept s) (marked_elements_of (take (n + 1) es)) ≡ marked_pushed (remark_elements (kept s) (marked_elements_of (take n es))) e.0 (remark (kept s) (marked_of e.1))
+stays_turn s es n e within is stays =
+    let front = remark_elements (kept s) (marked_elements_of (take n es)) in
+    kept_turn (kept s) es n e within
+    ∙ ap (λ (x : Element). kept_pushed front (new_mark (kept s) x.0) (remark (kept s) (marked_of x.1))) (sym is)
+    ∙ ap (λ o. kept_pushed front o (remark (kept s) (marked_of e.1))) (kept_is s e.0 stays)
+
+pub leaves_turn : (s : ℕ → Bool) (es : List Element) (n : ℕ) (d : Element) → n < length es → is_some (new_mark (kept s) (get_or es n d).0) ≡ false
+    → remark_elements (kept s) (marked_elements_of (take (n + 1) es)) ≡ remark_elements (kept s) (marked_elements_of (take n es))
+leaves_turn s es n d within leaves =
+    kept_turn (kept s) es n d within ∙ ap (λ o. kept_pushed (remark_elements (kept s) (marked_elements_of (take n es))) o (remark (kept s) (marked_of (get_or es n d).1))) (left_out_is s (get_or es n d).0 leaves)
+
+pub stays_member_turn : (s : ℕ → Bool) (ms : List Entry) (n : ℕ) (m : Entry) → n < length ms → m ≡ get_or ms n m → MembersOrdered (strip_members (marked_members_of ms)) → is_some (new_mark (kept s) m.1) ≡ true
+    → remark_members (kept s) (marked_members_of (take (n + 1) ms)) ≡ put m.0 m.1 (remark (kept s) (marked_of m.2)) (remark_members (kept s) (marked_members_of (take n ms)))
+stays_member_turn s ms n m within is ordered stays =
+    let front = remark_members (kept s) (marked_members_of (take n ms)) in
+    kept_member_turn (kept s) ms n m within ordered
+    ∙ ap (λ (x : Entry). kept_put front x.0 (new_mark (kept s) x.1) (remark (kept s) (marked_of x.2))) (sym is)
+    ∙ ap (λ o. kept_put front m.0 o (remark (kept s) (marked_of m.2))) (kept_is s m.1 stays)
+
+pub leaves_member_turn : (s : ℕ → Bool) (ms : List Entry) (n : ℕ) (d : Entry) → n < length ms → MembersOrdered (strip_members (marked_members_of ms)) → is_some (new_mark (kept s) (get_or ms n d).1) ≡ false
+    → remark_members (kept s) (marked_members_of (take (n + 1) ms)) ≡ remark_members (kept s) (marked_members_of (take n ms))
+leaves_member_turn s ms n d within ordered leaves =
+    kept_member_turn (kept s) ms n d within ordered
+    ∙ ap (λ o. kept_put (remark_members (kept s) (marked_members_of (take n ms))) (get_or ms n d).0 o (remark (kept s) (marked_of (get_or ms n d).2))) (left_out_is s (get_or ms n d).1 leaves)
+
+pub ruleset prunes_element = (element_falls, element_lower, leaves_turn)
+
+pub ruleset prunes_member = (member_falls, member_lower, leaves_member_turn)

@@ -35,32 +35,34 @@ fn prune_tree(alloc: Global, tree: &Marked, kept: &ChosenSet) -> Result<Marked, 
 }
 
 #[cycle(prune)]
-#[tactic(auto, using(crate::proofs::MarkedWalks::into_element))]
+#[tactic(auto, using(crate::proofs::MarkedWalks::prunes_element))]
 fn prune_list(alloc: Global, list: &MarkedList, kept: &ChosenSet) -> Result<MarkedList, NoMemory>
     requires { elements_depth (strip_elements list.now) ≤ 126 }
     ensures { IfOk result (λ pruned. pruned ≡ remark_elements (kept_by (has kept.now)) list.now) }
 {
     let mut pruned = MarkedList::with_capacity(alloc, list.len())?;
     for (mark, tree) in list.elements() {
-        if stays(*mark, kept) {
-            pruned.push(*mark, prune_tree(alloc, tree, kept)?)?;
+        if !stays(*mark, kept) {
+            continue;
         }
+        pruned.push(*mark, prune_tree(alloc, tree, kept)?)?;
     }
     Ok(pruned)
 }
 
 #[cycle(prune)]
-#[tactic(auto, using(crate::proofs::MarkedWalks::into_member))]
+#[tactic(auto, using(crate::proofs::MarkedWalks::prunes_member))]
 fn prune_map(alloc: Global, map: &MarkedMap, kept: &ChosenSet) -> Result<MarkedMap, NoMemory>
     requires { members_depth (strip_members map.now) ≤ 126 }
     ensures { IfOk result (λ pruned. pruned ≡ remark_members (kept_by (has kept.now)) map.now) }
 {
     let mut pruned = MarkedMap::with_capacity(alloc, map.len())?;
     for (name, mark, tree) in map.members() {
-        if stays(*mark, kept) {
-            let name = TextBox::make(alloc, name.as_str())?;
-            pruned.put(name, *mark, prune_tree(alloc, tree, kept)?)?;
+        if !stays(*mark, kept) {
+            continue;
         }
+        let name = TextBox::make(alloc, name.as_str())?;
+        pruned.put(name, *mark, prune_tree(alloc, tree, kept)?)?;
     }
     Ok(pruned)
 }
