@@ -28,12 +28,12 @@ less_not Less e f = cc
 less_not Equal e f = cc
 less_not Greater e f = cc
 
-pub index_tied : (o : Ordering) → o ≡ Equal → (ordering_index o == 1) ≡ true
+index_tied : (o : Ordering) → o ≡ Equal → (ordering_index o == 1) ≡ true
 index_tied Less e = cc
 index_tied Equal e = refl
 index_tied Greater e = cc
 
-pub not_tied : (o : Ordering) → o ≢ Equal → (ordering_index o == 1) ≡ false
+not_tied : (o : Ordering) → o ≢ Equal → (ordering_index o == 1) ≡ false
 not_tied Less n = refl
 not_tied Equal n = absurd (n refl)
 not_tied Greater n = refl
@@ -57,8 +57,18 @@ module _ (depth : ℕ) (step : Text) where
   pub parted_same : (xs : List Path) → AreSorted (rests depth xs) → Every (Follows depth step) xs → IsPartitionedBy (is_tied depth step) xs
   parted_same xs s all = parted_tied depth step xs s (none_lower xs all)
 
-  pub same_run : (xs : List Path) (count : ℕ) → IsPartitionPoint (λ y. is_tied depth step y ≡ true) (λ y. is_tied depth step y ≡ false) xs count → Every (Compares Equal depth step) (take count xs)
-  same_run xs count point = every_taken (Compares Equal depth step) count xs (λ k d l h. tied_is (step_order (drop depth (get_or xs k d)) step) (point.0 k d (omega arith) l))
+  -- those with the step stand in front of the others
+  pub same_parted : (xs : List Path) (count : ℕ) → Every (Follows depth step) xs → IsPartitionPoint (λ y. is_tied depth step y ≡ true) (λ y. is_tied depth step y ≡ false) xs count
+      → Every (Compares Equal depth step) (take count xs) × Every (Compares Greater depth step) (drop count xs)
+  same_parted xs count all point = (
+    every_taken (Compares Equal depth step) count xs (λ k d l h. tied_is (step_order (drop depth (get_or xs k d)) step) (point.0 k d (omega arith) l)),
+    every_dropped (Compares Greater depth step) count xs (λ k d l h. index_greater (step_order (drop depth (get_or xs k d)) step) (none_lower xs all k d h) (point.1 k d l h)),
+  )
 
-  pub same_behind : (xs : List Path) (count : ℕ) → Every (Follows depth step) xs → IsPartitionPoint (λ y. is_tied depth step y ≡ true) (λ y. is_tied depth step y ≡ false) xs count → Every (Compares Greater depth step) (drop count xs)
-  same_behind xs count all point = every_dropped (Compares Greater depth step) count xs (λ k d l h. index_greater (step_order (drop depth (get_or xs k d)) step) (none_lower xs all k d h) (point.1 k d l h))
+  -- the same by the paths at the edge
+  pub edge_parted : (xs : List Path) (count : ℕ) → AreSorted (rests depth xs) → Every (Follows depth step) xs → count ≤ length xs
+      → ((d : Path) → 0 < count → step_order (drop depth (get_or xs (count - 1) d)) step ≡ Equal) → ((d : Path) → count < length xs → step_order (drop depth (get_or xs count d)) step ≢ Equal)
+      → Every (Compares Equal depth step) (take count xs) × Every (Compares Greater depth step) (drop count xs)
+  edge_parted xs count sorted all within last next =
+      same_parted xs count all
+      (edge_point (is_tied depth step) xs count (parted_same xs sorted all) within (λ d l. index_tied (step_order (drop depth (get_or xs (count - 1) d)) step) (last d l)) (λ d l. not_tied (step_order (drop depth (get_or xs count d)) step) (next d l)))

@@ -253,8 +253,7 @@ impl<'a> PathsBelow<'a> {
         requires sorted { AreSorted (rests_of self.now) }
         requires follow { Every (Follows self.now.depth step.now) self.now.sorted.now }
         ensures within { result ≤ length self.now.sorted.now }
-        ensures run { Every (Compares Equal self.now.depth step.now) (take result self.now.sorted.now) }
-        ensures behind { Every (Compares Greater self.now.depth step.now) (drop result self.now.sorted.now) }
+        ensures parted { Every (Compares Equal self.now.depth step.now) (take result self.now.sorted.now) × Every (Compares Greater self.now.depth step.now) (drop result self.now.sorted.now) }
     {
         if !self.has_step(0, step) {
             return 0;
