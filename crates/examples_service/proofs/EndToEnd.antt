@@ -1,6 +1,7 @@
 -- What is issued for an order is presented as it is asked, and accepted with the claims that are to be shown.
-use Rattle.std.proofs.Common.{◌≡◌, ◌≢◌, ℕ, ◌<◌, List, sym, ap, subst, ◌∙◌}
+use Rattle.std.proofs.Common.{◌≡◌, ◌≢◌, ℕ, ◌<◌, List, sym, ap, subst, ◌∙◌, arith}
 use Rattle.std.specs.Prelude.{◌^◌}
+use Rattle.sd_outside.specs.Causes.{Rose}
 use Rattle.claim_tree.specs.Tree.{Tree}
 use Rattle.compact_form.specs.Lowest.{IsLowest}
 use Rattle.compact_form.specs.declared.fault.Fault.{Fault}
@@ -21,6 +22,10 @@ use Rattle.issuer_core.specs.Order.{Order}
 use Rattle.sdjwt_cli.specs.PresentedValues.{AreShort, IsShownAt, PresentedOverValues}
 use Rattle.sdjwt_cli.specs.Suits.{Suits, claims_for}
 use Rattle.examples_service.specs.EndToEnd.{IsIssuedText, IsPresentedText}
+
+-- no count of faults rose that began and ended at none
+pub never : Rose 0 0 → ⊥
+never h = omega (arith, h)
 
 module _ {F : Type 0} (answers : RuleAnswers F) (rule : F) (law : PresentedOverValues answers rule) (seed : List ℕ) (order : Order) (key : AlgKey) (token : List ℕ) (issued : IsIssuedText seed order key token)
     (ask : Ask) (signing : List ℕ) (policy : Policy) (now later : ℕ) (suits : Suits answers rule order key ask signing policy now later) (short : AreShort ask.binding) (in_range : now < 2 ^ 64) where

@@ -13,6 +13,7 @@ ghost use Rattle.holder_core.specs.declared.errors.PresentError.TheVariants.{Mem
 ghost use Rattle.issuer_core.specs.IssueCalls.{IsNotIssued};
 ghost use Rattle.issuer_core.specs.Order.{order_of};
 ghost use Rattle.issuer_core.specs.Seed.{maker_of};
+ghost use Rattle.issuer_core.specs.declared.errors.IssueError.{IssueError};
 ghost use Rattle.sdjwt_cli.specs.PresentedValues.{AreShort};
 ghost use Rattle.sdjwt_cli.specs.Suits.{Suits, claims_for};
 ghost use Rattle.examples_service.specs.EndToEnd.{IsIssuedText, IsPresentedText};
@@ -37,44 +38,48 @@ pub struct Issuer {
     pub key: HsKey,
 }
 
-/// Who presents: what is asked, which places may be shown, and the key that signs a key binding token.
+/// Who presents: what is asked, and which places may be shown.
 #[derive(Drop)]
 pub struct Holder<F: Fn(&Path) -> bool> {
     pub ask: Ask,
     pub consent: Consent<F>,
-    pub key: Hs256Key,
 }
 
 // The compact text of what is issued.
 fn issued(alloc: Global, issuer: Issuer) -> Result<TextBox, IssueError>
     requires depth { depth (tree_of issuer.order.payload) ≤ 127 }
     ensures issued { IfOk result (IsIssuedText issuer.seed (order_of issuer.order) issuer.key) }
-    ensures refused { IfErr result (IsNotIssued (maker_of issuer.seed) (order_of issuer.order) issuer.key.alg (IsGood issuer.key)) }
+    ensures refused { IfErr result
+        (IsNotIssued (maker_of issuer.seed) (order_of issuer.order) issuer.key.alg (IsGood issuer.key)) }
+    ensures signed { IfErr result (λ error. error ≢ IssueError.SignFailed) }
 {
     let Issuer {
         order,
         seed,
         mut key,
     } = issuer;
-    let parts = issue_owned(alloc, order, &seed, &mut key)?;
-    Ok(print(alloc, &parts)?)
+    match issue_owned(alloc, order, &seed, &mut key) {
+        Ok(parts) => Ok(print(alloc, &parts)?),
+        Err(error) => Err(error),
+    }
 }
 
 // The compact text of what is presented of a token, where nothing is refused that is asked for.
 fn presented<F: Fn(&Path) -> bool>(
     alloc: Global,
     token: &str,
-    holder: &mut Holder<F>,
+    holder: &Holder<F>,
+    mut key: Hs256Key,
     now: u64,
 ) -> Result<TextBox, NoMemory>
-    requires callable { F.IsAlwaysCallable holder.old.consent }
+    requires callable { F.IsAlwaysCallable holder.now.consent }
     requires unrefused { (error : Unpresented) → error ≢ Memory → error ≢ SignFailed
-        → IsNotPresented F.Fn holder.old.consent token.now holder.old.ask (IsGood (hs256_key holder.old.key)) now error → ⊥ }
-    ensures { IfOk result (IsPresentedText F.Fn holder.old.consent token.now holder.old.ask (IsGood (hs256_key holder.old.key)) now) }
+        → IsNotPresented F.Fn holder.now.consent token.now holder.now.ask (IsGood (hs256_key key)) now error → ⊥ }
+    ensures { IfOk result (IsPresentedText F.Fn holder.now.consent token.now holder.now.ask (IsGood (hs256_key key)) now) }
 {
     let steps = &mut Steps::new();
-    let Holder { ask, consent, key } = holder;
-    match present(alloc, token.as_bytes(), ask, consent, key, now, steps) {
+    let Holder { ask, consent } = holder;
+    match present(alloc, token.as_bytes(), ask, consent, &mut key, now, steps) {
         Ok(parts) => print(alloc, &parts),
         Err(PresentError::Memory) => Err(NoMemory),
         Err(_) => unreachable!(),
@@ -102,21 +107,24 @@ fn verified(alloc: Global, presentation: &str, policy: &Policy, now: u64) -> Res
 pub fn issue_present_verify<F: Fn(&Path) -> bool>(
     alloc: Global,
     issuer: Issuer,
-    holder: &mut Holder<F>,
+    holder: &Holder<F>,
+    holder_key: Hs256Key,
     presented_at: u64,
     policy: &Policy,
     verified_at: u64,
 ) -> Result<Tree, IssueError>
     requires depth { depth (tree_of issuer.order.payload) ≤ 127 }
-    requires callable { F.IsAlwaysCallable holder.old.consent }
-    requires short { AreShort holder.old.ask.binding }
-    requires suits { Suits F.Fn holder.old.consent (order_of issuer.order) issuer.key holder.old.ask holder.old.key
+    requires callable { F.IsAlwaysCallable holder.now.consent }
+    requires short { AreShort holder.now.ask.binding }
+    requires suits { Suits F.Fn holder.now.consent (order_of issuer.order) issuer.key holder.now.ask holder_key
         policy.now presented_at verified_at }
-    ensures shown { IfOk result (λ payload. tree_of payload ≡ claims_for (order_of issuer.order) holder.old.ask.want) }
-    ensures refused { IfErr result (IsNotIssued (maker_of issuer.seed) (order_of issuer.order) issuer.key.alg (IsGood issuer.key)) }
+    ensures shown { IfOk result (λ payload. tree_of payload ≡ claims_for (order_of issuer.order) holder.now.ask.want) }
+    ensures refused { IfErr result
+        (IsNotIssued (maker_of issuer.seed) (order_of issuer.order) issuer.key.alg (IsGood issuer.key)) }
+    ensures signed { IfErr result (λ error. error ≢ IssueError.SignFailed) }
 {
     presented_values::<F>();
     let token = issued(alloc, issuer)?;
-    let presentation = presented(alloc, token.as_str(), holder, presented_at)?;
+    let presentation = presented(alloc, token.as_str(), holder, holder_key, presented_at)?;
     Ok(verified(alloc, presentation.as_str(), policy, verified_at)?)
 }

@@ -13,7 +13,7 @@ presented-requires-clause-unrefused g c =
     let h = c.args.holder.now in
     let fits : c.args.presented_at < 2 ^ 64 = search rules in
     let token = subst (λ (x : List ℕ). IsIssuedText i.seed (order_of i.order) i.key x) (sym c.as_str.ensures) c.in_ok-token.ensures.issued in
-    refuses_nothing g.F.Fn h.consent (c.presented_values.ensures h.consent) i.seed (order_of i.order) i.key c.as_str.result.now token h.ask h.key c.args.policy.now c.args.presented_at c.args.verified_at c.requires.suits c.requires.short fits
+    refuses_nothing g.F.Fn h.consent (c.presented_values.ensures h.consent) i.seed (order_of i.order) i.key c.as_str.result.now token h.ask c.args.holder_key c.args.policy.now c.args.presented_at c.args.verified_at c.requires.suits c.requires.short fits
 
 pub verified-requires : goal.verified-requires
 verified-requires g c =
@@ -21,8 +21,8 @@ verified-requires g c =
     let h = c.args.holder.now in
     let fits : c.args.presented_at < 2 ^ 64 = search rules in
     let token = subst (λ (x : List ℕ). IsIssuedText i.seed (order_of i.order) i.key x) (sym c.as_str.ensures) c.in_ok-token.ensures.issued in
-    let text = subst (λ (x : List ℕ). IsPresentedText g.F.Fn h.consent c.as_str.result.now h.ask (IsGood (hs256_key h.key)) c.args.presented_at x) (sym c.as_str-2.ensures) c.in_ok-presentation.ensures in
-    record { passes = passes g.F.Fn h.consent (c.presented_values.ensures h.consent) i.seed (order_of i.order) i.key c.as_str.result.now token h.ask h.key c.args.policy.now c.args.presented_at c.args.verified_at c.requires.suits c.requires.short fits c.as_str-2.result.now text }
+    let text = subst (λ (x : List ℕ). IsPresentedText g.F.Fn h.consent c.as_str.result.now h.ask (IsGood (hs256_key c.args.holder_key)) c.args.presented_at x) (sym c.as_str-2.ensures) c.in_ok-presentation.ensures in
+    record { passes = passes g.F.Fn h.consent (c.presented_values.ensures h.consent) i.seed (order_of i.order) i.key c.as_str.result.now token h.ask c.args.holder_key c.args.policy.now c.args.presented_at c.args.verified_at c.requires.suits c.requires.short fits c.as_str-2.result.now text }
 
 pub returns-clause-shown : goal.returns-clause-shown
 returns-clause-shown g c =
@@ -30,5 +30,5 @@ returns-clause-shown g c =
     let h = c.args.holder.now in
     let fits : c.args.presented_at < 2 ^ 64 = search rules in
     let token = subst (λ (x : List ℕ). IsIssuedText i.seed (order_of i.order) i.key x) (sym c.as_str.ensures) c.in_ok-token.ensures.issued in
-    let text = subst (λ (x : List ℕ). IsPresentedText g.F.Fn h.consent c.as_str.result.now h.ask (IsGood (hs256_key h.key)) c.args.presented_at x) (sym c.as_str-2.ensures) c.in_ok-presentation.ensures in
-    found g.F.Fn h.consent (c.presented_values.ensures h.consent) i.seed (order_of i.order) i.key c.as_str.result.now token h.ask h.key c.args.policy.now c.args.presented_at c.args.verified_at c.requires.suits c.requires.short fits c.as_str-2.result.now text (tree_of c.in_ok-verified.field-0) c.in_ok-verified.ensures
+    let text = subst (λ (x : List ℕ). IsPresentedText g.F.Fn h.consent c.as_str.result.now h.ask (IsGood (hs256_key c.args.holder_key)) c.args.presented_at x) (sym c.as_str-2.ensures) c.in_ok-presentation.ensures in
+    found g.F.Fn h.consent (c.presented_values.ensures h.consent) i.seed (order_of i.order) i.key c.as_str.result.now token h.ask c.args.holder_key c.args.policy.now c.args.presented_at c.args.verified_at c.requires.suits c.requires.short fits c.as_str-2.result.now text (tree_of c.in_ok-verified.field-0) c.in_ok-verified.ensures

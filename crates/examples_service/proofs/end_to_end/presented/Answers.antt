@@ -1,18 +1,15 @@
-use Rattle.std.proofs.Common.{◌≢◌, ℕ, List, Err, ap, subst, arith, rules}
-use Rattle.sd_outside.specs.Causes.{Rose}
+use Rattle.std.proofs.Common.{◌≢◌, ℕ, List, Err, ap, subst, rules}
 use Rattle.hmac_sign.specs.Hmac.{hs256_key, IsGood}
 use Rattle.holder_core.specs.Present.{IsNotPresented}
 use Rattle.holder_core.specs.declared.errors.PresentError.TheVariants.{Memory}
 use Rattle.holder_core.proofs.OtherRules.{not_presented_by}
+use Rattle.examples_service.proofs.EndToEnd.{never}
 use Rattle.examples_service.proofs.end_to_end.presented.Goals as goal
-
-never : Rose 0 0 → ⊥
-never h = omega (arith, h)
 
 pub unreachable-requires : goal.unreachable-requires
 unreachable-requires g c =
     let h = c.args.holder.now in
-    let good = IsGood (hs256_key h.key) in
+    let good = IsGood (hs256_key c.args.key) in
     let error = c.in-Err.field-0 in
     let memory : error ≢ Memory = search rules in
     let refused = not_presented_by c.as_bytes.result.now h.ask good c.args.now (Err error) c.in-Err.ensures.refused g.F.Fn h.consent (λ at b a. record { shown = a.shown; shows = a.shows; says = a.says }) in
