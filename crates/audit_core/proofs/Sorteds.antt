@@ -7,12 +7,12 @@ use Rattle.std.proofs.lemmas.Bool.{and_parts, and_from}
 use Rattle.claim_tree.specs.Tree.{Text, Tree, leaf, null, flag, whole, text, array, object, Elements, no_elements, element, Members, no_members, member, IsBefore}
 use Rattle.claim_tree.specs.Lists.{In}
 use Rattle.digest_sites.specs.Given.{Given}
-use Rattle.claim_tree.proofs.Everywheres.{EachElementIn, EachMemberIn}
+use Rattle.claim_tree.proofs.EveryMembers.{each_is, is_each}
 use Rattle.claim_tree.proofs.MapPlaces.{before_through, is_less}
 use Rattle.digest_sites.specs.Reserved.{sd_name, texts_of}
 use Rattle.issuer_core.specs.Issued.{Rises, IsDigestList, HasDigestLists}
 use Rattle.issuer_core.proofs.LaidLists.{IsSdList}
-use Rattle.audit_core.specs.SortedLists.{is_before, rise, is_digest_list, has_digest_lists, elements_have, members_have, values_have}
+use Rattle.audit_core.specs.SortedLists.{is_before, rise, is_digest_list, has_digests_in_order, has_digest_lists, values_have}
 
 no : {A : Type 0} → false ≡ true → A
 no e = let w : false ≡ true = e in absurd (cc)
@@ -101,38 +101,11 @@ is_member : (own : Bool) (t : Tree) → (own ≡ true → IsDigestList t) → (n
 is_member true t h = is_list t (h refl)
 is_member false t h = refl
 
-mutual
-  pub lists_are : (t : Tree) → has_digest_lists t ≡ true → HasDigestLists t
-  lists_are (leaf l) e = tt
-  lists_are (array es) e = (tt, elements_are es e)
-  lists_are (object ms) e = members_are ms e
+pub lists_are : (t : Tree) → has_digest_lists t ≡ true → HasDigestLists t
+lists_are = each_is has_digests_in_order IsSdList (λ name t. member_is (bytes_eq name sd_name) t)
 
-  elements_are : (es : Elements) → elements_have es ≡ true → EachElementIn IsSdList es
-  elements_are no_elements e = tt
-  elements_are (element t es) e = let w = and_parts (has_digest_lists t) (elements_have es) e in (lists_are t w.0, elements_are es w.1)
-
-  members_are : (ms : Members) → members_have ms ≡ true → EachMemberIn IsSdList ms
-  members_are no_members e = tt
-  members_are (member name t ms) e =
-      let w = and_parts (not (bytes_eq name sd_name) || is_digest_list t) (has_digest_lists t && members_have ms) e in
-      let v = and_parts (has_digest_lists t) (members_have ms) w.1 in
-      (member_is (bytes_eq name sd_name) t w.0, lists_are t v.0, members_are ms v.1)
-
-mutual
-  pub are_lists : (t : Tree) → HasDigestLists t → has_digest_lists t ≡ true
-  are_lists (leaf l) h = refl
-  are_lists (array es) h = are_elements es h.1
-  are_lists (object ms) h = are_members ms h
-
-  are_elements : (es : Elements) → EachElementIn IsSdList es → elements_have es ≡ true
-  are_elements no_elements h = refl
-  are_elements (element t es) h = and_from (has_digest_lists t) (elements_have es) (are_lists t h.0) (are_elements es h.1)
-
-  are_members : (ms : Members) → EachMemberIn IsSdList ms → members_have ms ≡ true
-  are_members no_members h = refl
-  are_members (member name t ms) h =
-      and_from (not (bytes_eq name sd_name) || is_digest_list t) (has_digest_lists t && members_have ms) (is_member (bytes_eq name sd_name) t h.0)
-      (and_from (has_digest_lists t) (members_have ms) (are_lists t h.1) (are_members ms h.2))
+pub are_lists : (t : Tree) → HasDigestLists t → has_digest_lists t ≡ true
+are_lists = is_each has_digests_in_order IsSdList (λ name t. is_member (bytes_eq name sd_name) t)
 
 -- ---- values
 
@@ -146,5 +119,3 @@ values_are (y ∷ given) e x (inr m) = let w = and_parts (has_digest_lists y.val
 pub are_values : (given : List Given) → ((x : Given) → In x given → HasDigestLists x.value) → values_have given ≡ true
 are_values [] h = refl
 are_values (y ∷ given) h = and_from (has_digest_lists y.value) (values_have given) (are_lists y.value (h y (inl refl))) (are_values given (λ x m. h x (inr m)))
-
--- ---- one tree of a slice

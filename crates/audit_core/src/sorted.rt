@@ -3,10 +3,11 @@ ghost use Rattle.std.specs.Prelude.{◌≡◌, ◌↔◌, IsTrue};
 ghost use Rattle.claim_tree.specs.ListViews.{elements_of};
 ghost use Rattle.claim_tree.specs.View.{tree_of};
 ghost use Rattle.audit_core.specs.Audited.{HasSortedDigests};
-ghost use Rattle.audit_core.specs.SortedLists.{is_digest_list, has_digest_lists, elements_have, members_have, rise, values_have};
+ghost use Rattle.audit_core.specs.SortedLists.{is_digest_list, has_digests_in_order, has_digest_lists, rise, values_have};
 
-use claim_tree::{Tree, TreeList, TreeMap};
+use claim_tree::{MemberTest, Tree, every_member};
 use digest_sites::{GivenList, is_sd};
+use sd_outside::TextBox;
 
 // Whether the texts ascend, where `least` is the one before them.
 fn ascends(least: &str, trees: &[Tree]) -> bool
@@ -40,42 +41,22 @@ fn is_list_of_digests(value: &Tree) -> bool
     }
 }
 
+// The test that a member `_sd` is such.
+struct DigestsAscend;
+
+impl MemberTest for DigestsAscend {
+    ghost test = { has_digests_in_order };
+
+    fn passes(name: &TextBox, tree: &Tree) -> bool {
+        !is_sd(name) || is_list_of_digests(tree)
+    }
+}
+
 // Whether each member `_sd` in the tree is such.
-#[cycle(sorted)]
 fn is_sorted(tree: &Tree) -> bool
     ensures { result ≡ has_digest_lists (tree_of tree.now) }
 {
-    match tree {
-        Tree::List(trees) => are_elements_sorted(trees),
-        Tree::Object(trees) => are_members_sorted(trees),
-        _ => true,
-    }
-}
-
-#[cycle(sorted)]
-#[tactic(auto, using(claim_tree::proofs::Walks::into_element))]
-fn are_elements_sorted(trees: &TreeList) -> bool
-    ensures { result ≡ elements_have trees.now }
-{
-    for tree in trees.trees() {
-        if !is_sorted(tree) {
-            return false;
-        }
-    }
-    true
-}
-
-#[cycle(sorted)]
-#[tactic(auto, using(claim_tree::proofs::Walks::into_member))]
-fn are_members_sorted(trees: &TreeMap) -> bool
-    ensures { result ≡ members_have trees.now }
-{
-    for (name, tree) in trees.members() {
-        if is_sd(name) && !is_list_of_digests(tree) || !is_sorted(tree) {
-            return false;
-        }
-    }
-    true
+    every_member::<DigestsAscend>(tree)
 }
 
 fn are_values_sorted(given: &GivenList) -> bool

@@ -13,6 +13,7 @@ mod TreeReading
 mod ListTails
 pub mod RoundTrip
 pub mod Everywheres
+pub mod EveryMembers
 pub mod TreeTexts
 pub mod OneTree
 pub mod OwnReading

@@ -1,5 +1,6 @@
 pub mod Tree
 pub mod Everywhere
+pub mod EveryMember
 pub mod Removed
 pub mod Lists
 pub mod View

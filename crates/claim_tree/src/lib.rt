@@ -13,6 +13,7 @@ mod file_form;
 mod file_list;
 mod inside;
 pub mod laws;
+mod member_test;
 mod path;
 mod pointer;
 mod tail;
@@ -30,6 +31,7 @@ pub use file_form::{
 };
 pub use file_list::{pointer_list_member, pointer_of};
 pub use inside::{find, find_behind, get, position};
+pub use member_test::{MemberTest, every_member};
 pub use path::{Path, PathList, Steps, copy_paths, digits, is_prefix};
 pub use pointer::{PointerError, print_path, read_pointer};
 pub use tail::{ListTail, TailOrTree};

@@ -3,6 +3,7 @@ use Rattle.std.proofs.Common.{◌≡◌, ℕ, zero, suc, ◌≤◌, ◌<◌, ◌
 use Rattle.std.specs.Prelude.{bytes_eq, if◌then◌else◌, Result, Ok, Err, IfOk, IfErr, MatchResult}
 use Rattle.std.proofs.lemmas.Bool.{not-true, and_parts}
 use Rattle.claim_tree.specs.Tree.{Text, Tree, leaf, array, object, Elements, no_elements, element, Members, no_members, member, depth, members_depth}
+use Rattle.claim_tree.specs.EveryMember.{elements_pass, members_pass}
 use Rattle.claim_tree.specs.View.{tree_of}
 use Rattle.claim_tree.specs.declared.tree.Tree as code
 use Rattle.claim_tree.specs.Removed.{removed}
@@ -19,10 +20,16 @@ use Rattle.rebuild_core.specs.declared.errors.ProcessError.{ProcessError}
 use Rattle.rebuild_core.specs.declared.errors.ProcessError.TheVariants.{TooDeep}
 use Rattle.rebuild_core.specs.Conditions.{IsTooDeep, Misused}
 use Rattle.rebuild_core.specs.Soundness.{IsSound, IsReferencedOnce, IsWellNamed}
-use Rattle.rebuild_core.specs.Unhidden.{is_unhidden_name, is_unhidden, elements_unhidden, members_unhidden}
+use Rattle.rebuild_core.specs.Unhidden.{is_unhidden_member, is_unhidden}
 
-name_is_free : (name : Text) → is_unhidden_name name ≡ true → (bytes_eq name sd_name ≡ false) × (bytes_eq name dots_name ≡ false)
-name_is_free name h = let s = and_parts _ _ h in (not-true _ s.0, not-true _ s.1)
+abbrev elements_unhidden : Elements → Bool
+elements_unhidden es = elements_pass is_unhidden_member es
+
+abbrev members_unhidden : Members → Bool
+members_unhidden ms = members_pass is_unhidden_member ms
+
+name_is_free : (name : Text) (t : Tree) → is_unhidden_member name t ≡ true → (bytes_eq name sd_name ≡ false) × (bytes_eq name dots_name ≡ false)
+name_is_free name t h = let s = and_parts _ _ h in (not-true _ s.0, not-true _ s.1)
 
 -- ---- no digest stands in it
 
@@ -31,13 +38,13 @@ no_sd no_members h = refl
 no_sd (member name t ms) h =
     let s = and_parts _ _ h in
     let r = and_parts _ _ s.1 in
-    rw (name_is_free name s.0).0 (no_sd ms r.1)
+    rw (name_is_free name t s.0).0 (no_sd ms r.1)
 
 no_digest : (t : Tree) → is_unhidden t ≡ true → element_digest t ≡ None
 no_digest (leaf l) h = refl
 no_digest (array es) h = refl
 no_digest (object no_members) h = refl
-no_digest (object (member name t no_members)) h = let s = and_parts _ _ h in rw (name_is_free name s.0).1 refl
+no_digest (object (member name t no_members)) h = let s = and_parts _ _ h in rw (name_is_free name t s.0).1 refl
 no_digest (object (member name t (member other u ms))) h = refl
 
 mutual
@@ -57,7 +64,7 @@ mutual
   members_open r (member name t ms) h =
       let s = and_parts _ _ h in
       let q = and_parts _ _ s.1 in
-      rw (name_is_free name s.0).0 (ap₂ (member name) (unhidden_opens r t q.0) (members_open r ms q.1))
+      rw (name_is_free name t s.0).0 (ap₂ (member name) (unhidden_opens r t q.0) (members_open r ms q.1))
 
 mutual
   pub unhidden_sites : (t : Tree) → is_unhidden t ≡ true → sites t ≡ []
@@ -76,7 +83,7 @@ mutual
   no_member_sites (member name t ms) h =
       let s = and_parts _ _ h in
       let q = and_parts _ _ s.1 in
-      rw (name_is_free name s.0).0 (rw (unhidden_sites t q.0) (no_member_sites ms q.1))
+      rw (name_is_free name t s.0).0 (rw (unhidden_sites t q.0) (no_member_sites ms q.1))
 
 mutual
   pub unhidden_misuses : (t : Tree) → is_unhidden t ≡ true → misuses t ≡ false
@@ -95,7 +102,7 @@ mutual
   members_misuse_not (member name t ms) h =
       let s = and_parts _ _ h in
       let q = and_parts _ _ s.1 in
-      rw ((name_is_free name s.0).0, (name_is_free name s.0).1) (rw (unhidden_misuses t q.0) (members_misuse_not ms q.1))
+      rw ((name_is_free name t s.0).0, (name_is_free name t s.0).1) (rw (unhidden_misuses t q.0) (members_misuse_not ms q.1))
 
 -- ---- its own `_sd_alg`
 
@@ -120,7 +127,7 @@ without_unhidden name (member other t ms) h =
     let q = and_parts _ _ s.1 in
     go (bytes_eq other name) s.0 q.0 (without_unhidden name ms q.1)
   where
-    go : (b : Bool) → is_unhidden_name other ≡ true → is_unhidden t ≡ true → members_unhidden (removed ms name) ≡ true
+    go : (b : Bool) → is_unhidden_member other t ≡ true → is_unhidden t ≡ true → members_unhidden (removed ms name) ≡ true
         → members_unhidden (if b then removed ms name else member other t (removed ms name)) ≡ true
     go true n u ih = ih
     go false n u ih = rw (n, u) ih
