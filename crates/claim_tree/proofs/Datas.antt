@@ -14,6 +14,9 @@ use Rattle.serde_json.specs.declared.value.Value.{Value}
 use Rattle.claim_tree.specs.Tree.{Text, null, flag, whole, text, Tree, leaf, array, object, Elements, no_elements, element, Members, no_members, member, depth, elements_depth, members_depth, inserted, IsRanged, ElementsRanged, MembersRanged}
 use Rattle.claim_tree.specs.TreeCalls.{pushed}
 use Rattle.claim_tree.specs.JsonText.{data_of, elements_data, members_data}
+use Rattle.claim_tree.specs.JsonRefusals.{HasNoTree}
+use Rattle.claim_tree.specs.declared.text.ReadError.{ReadError}
+use Rattle.claim_tree.specs.declared.text.ReadError.TheVariants.{Memory, NotJson, NotWhole}
 
 abbrev pub Entry : Type 0
 Entry = String Global × Value
@@ -35,6 +38,11 @@ ElementsRanged-pushed no_elements t h r = (r, h)
 ElementsRanged-pushed (element u es) t h r = (h.0, ElementsRanged-pushed es t h.1 r)
 
 -- a float in an element is one of the list
+pub no_tree_more : {A B : Type 0} (error : ReadError) → (A → B) → HasNoTree A error → HasNoTree B error
+no_tree_more Memory more h = tt
+no_tree_more NotJson more h = absurd h
+no_tree_more NotWhole more h = more h
+
 pub items_have_float-at : (done : List Value) (v : Value) (more : List Value) → has_float (view v) ≡ true → items_have_float (items_view (done ++ v ∷ more)) ≡ true
 items_have_float-at [] v more h = rw h refl
 items_have_float-at (w ∷ done) v more h = or_right (has_float (view w)) _ (items_have_float-at done v more h)

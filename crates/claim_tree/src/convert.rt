@@ -6,35 +6,18 @@ ghost use Rattle.serde_json.specs.Data.{number as number_data};
 ghost use Rattle.serde_json.specs.Find.{is_float};
 ghost use Rattle.claim_tree.specs.View.{tree_of};
 ghost use Rattle.claim_tree.specs.JsonText.{data_of, elements_data, members_data};
-ghost use Rattle.claim_tree.specs.declared.convert.TakeError.TheVariants.{NotWhole};
+ghost use Rattle.claim_tree.specs.JsonRefusals.{HasNoTree};
 
-use crate::{Tree, TreeList, TreeMap, Whole};
-use sd_outside::{NoMemory, TextBox};
+use crate::{ReadError, Tree, TreeList, TreeMap, Whole};
+use sd_outside::TextBox;
 use serde_json::{Map, Number, Value};
 use std::alloc::Global;
 
-// Why a value is no tree.
-#[derive(Clone, Copy, Debug, PartialEq, Eq)]
-pub(crate) enum TakeError {
-    Memory,
-    NotWhole,
-}
-
-impl From<NoMemory> for TakeError {
-    ghost use Rattle.claim_tree.specs.declared.convert.TakeError.TheVariants.{Memory};
-
-    ghost from_gives = { λ _ e. e ≡ Memory };
-
-    fn from(_: NoMemory) -> Self {
-        TakeError::Memory
-    }
-}
-
 // The tree of a value, whose texts are moved.
 #[cycle(take)]
-pub(crate) fn take(alloc: Global, value: Value) -> Result<Tree, TakeError>
+pub(crate) fn take(alloc: Global, value: Value) -> Result<Tree, ReadError>
     ensures ok { IfOk result (λ t. value_view value ≡ data_of (tree_of t)) }
-    ensures not_whole { IfErr result (λ e. e ≡ NotWhole → has_float (value_view value) ≡ true) }
+    ensures unread { IfErr result (HasNoTree (has_float (value_view value) ≡ true)) }
 {
     match value {
         Value::Null => Ok(Tree::Null),
@@ -46,23 +29,23 @@ pub(crate) fn take(alloc: Global, value: Value) -> Result<Tree, TakeError>
     }
 }
 
-fn take_number(number: Number) -> Result<Tree, TakeError>
+fn take_number(number: Number) -> Result<Tree, ReadError>
     ensures ok { IfOk result (λ t. number_data (number_view number) ≡ data_of (tree_of t)) }
-    ensures not_whole { IfErr result (λ _. is_float (number_view number) ≡ true) }
+    ensures unread { IfErr result (HasNoTree (is_float (number_view number) ≡ true)) }
 {
     if let Some(n) = number.as_u64() {
         Ok(Tree::Whole(Whole::from(n)))
     } else if let Some(n) = number.as_i64() {
         Ok(Tree::Whole(Whole::from(n)))
     } else {
-        Err(TakeError::NotWhole)
+        Err(ReadError::NotWhole)
     }
 }
 
 #[cycle(take)]
-fn take_elements(alloc: Global, values: Vec<Value>) -> Result<TreeList, TakeError>
+fn take_elements(alloc: Global, values: Vec<Value>) -> Result<TreeList, ReadError>
     ensures ok { IfOk result (λ trees. items_view values.items ≡ elements_data trees) }
-    ensures not_whole { IfErr result (λ e. e ≡ NotWhole → items_have_float (items_view values.items) ≡ true) }
+    ensures unread { IfErr result (HasNoTree (items_have_float (items_view values.items) ≡ true)) }
 {
     let mut trees = TreeList::new(alloc);
     for value in values {
@@ -72,9 +55,9 @@ fn take_elements(alloc: Global, values: Vec<Value>) -> Result<TreeList, TakeErro
 }
 
 #[cycle(take)]
-fn take_members(alloc: Global, members: Map<String, Value>) -> Result<TreeMap, TakeError>
+fn take_members(alloc: Global, members: Map<String, Value>) -> Result<TreeMap, ReadError>
     ensures ok { IfOk result (λ trees. members_view members.entries ≡ members_data trees) }
-    ensures not_whole { IfErr result (λ e. e ≡ NotWhole → members_have_float (members_view members.entries) ≡ true) }
+    ensures unread { IfErr result (HasNoTree (members_have_float (members_view members.entries) ≡ true)) }
 {
     let mut trees = TreeMap::new(alloc);
     for (name, value) in members {

@@ -6,11 +6,12 @@ ghost use Rattle.claim_tree.specs.Tree.{IsOrdered, depth as depth_of, array};
 ghost use Rattle.claim_tree.specs.View.{tree_of};
 ghost use Rattle.claim_tree.specs.JsonText.{Reads, data_of, json_text};
 ghost use Rattle.claim_tree.specs.JsonRefusals.{IsReadRefused};
+ghost use Rattle.claim_tree.specs.declared.text.ReadError.{ReadError};
 ghost use Rattle.claim_tree.specs.ListTails.{ReadsTail, kept_tree, short_list};
 
 use crate::Tree;
 use crate::build::{BuildError, build_text};
-use crate::convert::{TakeError, take};
+use crate::convert::take;
 use crate::tail::{TailOrTree, build_tail};
 use crate::tokens::{put_texts, put_tree};
 use json::{Scratch, Writer};
@@ -28,6 +29,14 @@ pub enum ReadError {
     NotJson,
     /// A number has a fraction or an exponent, is `-0`, or is out of the range of 64 bits.
     NotWhole,
+}
+
+impl From<NoMemory> for ReadError {
+    ghost from_gives = { λ _ e. e ≡ ReadError.Memory };
+
+    fn from(_: NoMemory) -> Self {
+        ReadError::Memory
+    }
 }
 
 /// What reads JSON texts. One that is kept reads many texts in the same memory.
@@ -107,11 +116,7 @@ fn read_value(alloc: Global, text: &str) -> Result<Tree, ReadError>
         Err(e) if e.is_memory() => return Err(ReadError::Memory),
         Err(_) => return Err(ReadError::NotJson),
     };
-    match take(alloc, value) {
-        Ok(tree) => Ok(tree),
-        Err(TakeError::Memory) => Err(ReadError::Memory),
-        Err(TakeError::NotWhole) => Err(ReadError::NotWhole),
-    }
+    take(alloc, value)
 }
 
 // The bytes that a written text takes memory for at first.

@@ -6,15 +6,15 @@ use Rattle.std.specs.Map.{keys_of}
 use Rattle.std.specs.String.{string_cmp}
 use Rattle.std.specs.Vec.Iter.{into_iter_items}
 use Rattle.claim_tree.specs.View.{tree_of}
-use Rattle.claim_tree.proofs.Datas.{Entry, elements_data-pushed, items_have_float-at, members_have_float-at, members_data-inserted}
+use Rattle.claim_tree.proofs.Datas.{Entry, no_tree_more, elements_data-pushed, items_have_float-at, members_have_float-at, members_data-inserted}
 use Rattle.claim_tree.proofs.convert.+take.Goals as goal
 
-pub take_elements-returns-in_err-take-clause-not_whole :
-    goal.take_elements-returns-in_err-take-clause-not_whole
-take_elements-returns-in_err-take-clause-not_whole t c =
+pub take_elements-returns-in_err-take-clause-unread :
+    goal.take_elements-returns-in_err-take-clause-unread
+take_elements-returns-in_err-take-clause-unread t c =
     let p = err_from_is_err_and c.from_residual.result c.from_residual.ensures.1 in
     let all = sym c.loop-value.invariant.1 ∙ ap (λ vs. c.loop-value.yielded ++ vs) c.in-Some.ensures.steps.0 in
-    rw (p.1, p.2) (λ e. rw all (items_have_float-at c.loop-value.yielded c.in-Some.value (into_iter_items c.next.new.self) (c.in_err-take.ensures.not_whole e)))
+    rw (p.1, p.2, all) (no_tree_more _ (items_have_float-at c.loop-value.yielded c.in-Some.value (into_iter_items c.next.new.self)) c.in_err-take.ensures.unread)
 
 pub take_elements-loop-value-preserved : goal.take_elements-loop-value-preserved
 take_elements-loop-value-preserved t c =
@@ -32,13 +32,13 @@ take_elements-returns-clause-ok t c =
     let all = sym l.invariant.1 ∙ (ap (λ vs. l.yielded ++ vs) none ∙ append-nil l.yielded) in
     rw all l.invariant.0
 
-pub take_members-returns-in_err-take-clause-not_whole :
-    goal.take_members-returns-in_err-take-clause-not_whole
-take_members-returns-in_err-take-clause-not_whole t c =
+pub take_members-returns-in_err-take-clause-unread :
+    goal.take_members-returns-in_err-take-clause-unread
+take_members-returns-in_err-take-clause-unread t c =
     let p = err_from_is_err_and c.from_residual.result c.from_residual.ensures.1 in
     let e : Entry = (c.in-Some.name, c.in-Some.value) in
     let all = sym c.loop-name.invariant.1 ∙ ap (λ es. c.loop-name.yielded ++ es) c.in-Some.ensures.steps in
-    rw (p.1, p.2) (λ h. rw all (members_have_float-at c.loop-name.yielded e c.next.new.self (c.in_err-take.ensures.not_whole h)))
+    rw (p.1, p.2, all) (no_tree_more _ (members_have_float-at c.loop-name.yielded e c.next.new.self) c.in_err-take.ensures.unread)
 
 pub take_members-loop-name-preserved : goal.take_members-loop-name-preserved
 take_members-loop-name-preserved t c =
