@@ -51,10 +51,7 @@ pub fn hash_named(name: &str) -> Option<HashAlg>
 fn hash_of_name(name: &Tree) -> Option<HashAlg>
     ensures { result ≡ hash_of_name_by (Some (tree_of name.now)) }
 {
-    match name.as_text() {
-        Some(text) => hash_named(text.as_str()),
-        None => None,
-    }
+    hash_named(name.as_text()?.as_str())
 }
 
 /// The algorithm of a payload's digests, RFC 9901 section 4.1.1: that of its `_sd_alg`, or SHA-256 where it has none.

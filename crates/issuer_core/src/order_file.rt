@@ -131,10 +131,7 @@ fn alg_of(tree: &Tree) -> Option<Alg>
     ensures alg { IfSome result (IsAlgText (tree_of tree.now)) }
     ensures none { IfNone result (HasValue IsAlgText (tree_of tree.now) → ⊥) }
 {
-    match tree {
-        Tree::Text(text) => alg_named(text.as_str()),
-        _ => None,
-    }
+    alg_named(tree.as_text()?.as_str())
 }
 
 fn alg_member(members: &TreeMap) -> Result<Alg, FileFault>
@@ -169,10 +166,7 @@ fn hash_of(tree: &Tree) -> Option<HashAlg>
     ensures hash { IfSome result (IsHashText (tree_of tree.now)) }
     ensures none { IfNone result (HasValue IsHashText (tree_of tree.now) → ⊥) }
 {
-    match tree {
-        Tree::Text(text) => hash_named(text.as_str()),
-        _ => None,
-    }
+    hash_named(tree.as_text()?.as_str())
 }
 
 fn hash_member(members: &TreeMap) -> Result<HashAlg, FileFault>
