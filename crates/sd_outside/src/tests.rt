@@ -43,44 +43,34 @@ fn texts_are_ordered_by_their_bytes(rt: HostRuntime) -> Result<(), Fail> {
     Ok(())
 }
 
-#[test]
-fn objects_in_memory_count_their_failures(rt: HostRuntime) -> Result<(), Fail> {
-    let alloc = rt.alloc();
+// A cabinet that holds this content under `name`.
+fn cabinet_with(alloc: Global, content: &[u8]) -> Result<MemCabinet, Fail> {
     let mut cabinet = MemCabinet::new(alloc);
-    cabinet.add("name", b"first")?;
+    cabinet.add("name", content)?;
+    Ok(cabinet)
+}
+
+#[test]
+fn a_cabinet_in_memory_gives_what_was_added_last(rt: HostRuntime) -> Result<(), Fail> {
+    let alloc = rt.alloc();
+    let mut cabinet = cabinet_with(alloc, b"first")?;
     cabinet.add("name", b"second")?;
     let front = cabinet.fetch(alloc, "name", 3).map_err(|_| "held")?;
     assert_eq!(rt; front.bytes(), b"sec".as_slice());
     assert!(rt; matches!(cabinet.fetch(alloc, "other", 3), Err(FetchError::Failed)));
     assert_eq!(rt; cabinet.failures(), 1);
-
-    let mut sink = MemSink::new(alloc, 5)?;
-    assert_eq!(rt; sink.put(b"abc"), Ok(()));
-    assert_eq!(rt; sink.put(b"defg"), Err(Failed));
-    assert_eq!(rt; sink.written(), b"abcde".as_slice());
-    assert_eq!(rt; sink.failures(), 1);
     Ok(())
 }
 
 #[test]
-fn a_call_that_is_to_fail_fails_alone(rt: HostRuntime) -> Result<(), Fail> {
-    let alloc = rt.alloc();
-    let mut cabinet = MemCabinet::new(alloc);
-    cabinet.add("name", b"held")?;
+fn a_fetch_that_is_to_fail_fails_alone(rt: HostRuntime) -> Result<(), Fail> {
+    let mut cabinet = cabinet_with(rt.alloc(), b"held")?;
     cabinet.fail_at(1)?;
     cabinet.fail_at(3)?;
     for held in [true, false, true, false, true] {
-        assert_eq!(rt; cabinet.fetch(alloc, "name", 9).is_ok(), held);
+        assert_eq!(rt; cabinet.fetch(rt.alloc(), "name", 9).is_ok(), held);
     }
     assert_eq!(rt; cabinet.failures(), 2);
-
-    let mut sink = MemSink::new(alloc, 9)?;
-    sink.fail_at(1)?;
-    for (piece, answer) in [("a", Ok(())), ("b", Err(Failed)), ("c", Ok(()))] {
-        assert_eq!(rt; sink.put(piece.as_bytes()), answer);
-    }
-    assert_eq!(rt; sink.written(), b"ac".as_slice());
-    assert_eq!(rt; sink.failures(), 1);
     Ok(())
 }
 
@@ -96,6 +86,28 @@ fn a_source_in_memory_gives_pieces_and_fails_where_it_is_to(rt: HostRuntime) -> 
     }
     assert_eq!(rt; room[0], b'g');
     assert_eq!(rt; source.failures(), 2);
+    Ok(())
+}
+
+#[test]
+fn a_sink_in_memory_takes_what_fits(rt: HostRuntime) -> Result<(), Fail> {
+    let mut sink = MemSink::new(rt.alloc(), 5)?;
+    assert_eq!(rt; sink.put(b"abc"), Ok(()));
+    assert_eq!(rt; sink.put(b"defg"), Err(Failed));
+    assert_eq!(rt; sink.written(), b"abcde".as_slice());
+    assert_eq!(rt; sink.failures(), 1);
+    Ok(())
+}
+
+#[test]
+fn a_put_that_is_to_fail_fails_alone(rt: HostRuntime) -> Result<(), Fail> {
+    let mut sink = MemSink::new(rt.alloc(), 9)?;
+    sink.fail_at(1)?;
+    for (piece, answer) in [("a", Ok(())), ("b", Err(Failed)), ("c", Ok(()))] {
+        assert_eq!(rt; sink.put(piece.as_bytes()), answer);
+    }
+    assert_eq!(rt; sink.written(), b"ac".as_slice());
+    assert_eq!(rt; sink.failures(), 1);
     Ok(())
 }
 
