@@ -4,6 +4,7 @@ use Rattle.std.specs.Prelude.{bytes_eq, option_and_then, option_map, unwrap_or, 
 use Rattle.std.specs.Ordering.{match_ordering, nat_cmp}
 use Rattle.std.specs.Cmp.Lexicographic.{slice_cmp}
 use Rattle.claim_tree.specs.Lists.{StandsAt, In}
+use Rattle.claim_tree.specs.Everywhere.{LeafIsUtf8}
 use Rattle.claim_tree.specs.Tree.{null, flag, whole, text, Text, Tree, leaf, array, object, Elements, no_elements, element, Members, no_members, member, names, text_of, IsOrdered, ElementsOrdered, MembersOrdered}
 use Rattle.claim_tree.proofs.Everywheres.{EachElementIn, EachMemberIn}
 use Rattle.claim_tree.proofs.Lists.{In-append, In-left, In-right, In-map, bytes_same}
@@ -17,6 +18,7 @@ use Rattle.marked_tree.proofs.Puts.{IsBeforeAll-not_in}
 use Rattle.rebuild_core.specs.Opening.{Shown, nothing_shown, shown, reveal, open_tree, open_elements, open_members, open_element, show_members, show_element, show_member, opened}
 use Rattle.rebuild_core.specs.Soundness.{IsReferencedOnce}
 use Rattle.rebuild_core.proofs.ShownBy.{way_step, shown_from}
+use Rattle.rebuild_core.proofs.ShownPuts.{shows_each}
 use Rattle.marked_tree.proofs.Spots.{Way}
 use Rattle.rebuild_core.proofs.Marks.{shown_ways}
 use Rattle.issuer_core.specs.Issued.{IsDigestList, HasDigestLists}
@@ -32,16 +34,6 @@ ShownTexts (shown i name u) = IfSome name IsUtf8 × HasTexts (strip u)
 -- the way is one of what some digest shows, whose texts are UTF-8
 abbrev pub FromShown : (Text → Shown) → Way → Type 0
 FromShown r v = (d : Text) × In v (shown_ways (r d)) × ShownTexts (r d)
-
-put_texts : (k : Text) (i : Option ℕ) (t : Marked) (ms : MarkedMembers) → MembersTexts (strip_members (put k i t ms)) → MembersTexts (strip_members ms)
-put_texts k i t no_marked_members f = tt
-put_texts k i t (marked_member l j u ms) f = go (slice_cmp nat_cmp k l) f (put_texts k i t ms)
-  where
-    go : (o : Ordering) → MembersTexts (strip_members (match_ordering o (marked_member k i t (marked_member l j u ms)) (marked_member l j u ms) (marked_member l j u (put k i t ms))))
-        → (MembersTexts (strip_members (put k i t ms)) → MembersTexts (strip_members ms)) → MembersTexts (strip_members (marked_member l j u ms))
-    go Less h ih = h.2
-    go Equal h ih = h
-    go Greater h ih = (h.0, h.1, ih h.2)
 
 put_back : (k : Text) (i : Option ℕ) (t : Marked) (ms : MarkedMembers) (v : Way) → MembersTexts (strip_members (put k i t ms)) → In v (members_ways (put k i t ms))
     → (In v (way_of i (ways t)) × (IsUtf8 k × HasTexts (strip t))) ⊎ In v (members_ways ms)
@@ -59,14 +51,8 @@ put_back k i t (marked_member l j u ms) v f h = go (slice_cmp nat_cmp k l) f h (
         (λ b. ⊎_elim (λ c. inl c) (λ c. inr (In-right v (way_of j (ways u)) (members_ways ms) c)) (ih f.2 b))
         (In-append v (way_of j (ways u)) (members_ways (put k i t ms)) m)
 
-show_texts : (x : Shown) (ms : MarkedMembers) → MembersTexts (strip_members (show_member x ms)) → MembersTexts (strip_members ms)
-show_texts nothing_shown ms f = f
-show_texts (shown i None t) ms f = f
-show_texts (shown i (Some k) t) ms f = put_texts k (Some i) t ms f
-
 shows_texts : (r : Text → Shown) (ds : List Text) (ms : MarkedMembers) → MembersTexts (strip_members (show_members r ds ms)) → MembersTexts (strip_members ms)
-shows_texts r [] ms f = f
-shows_texts r (d ∷ ds) ms f = show_texts (r d) ms (shows_texts r ds (show_member (r d) ms) f)
+shows_texts r ds ms f = shows_each LeafIsUtf8 (λ _. Unit {0}) (λ name _. IsUtf8 name) r ds ms f
 
 show_back : (x : Shown) (ms : MarkedMembers) (v : Way) → MembersTexts (strip_members (show_member x ms)) → In v (members_ways (show_member x ms)) → (In v (shown_ways x) × ShownTexts x) ⊎ In v (members_ways ms)
 show_back nothing_shown ms v f h = inr h

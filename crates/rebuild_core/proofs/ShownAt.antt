@@ -19,7 +19,7 @@ use Rattle.rebuild_core.proofs.Fits.{Names, NamesApart, Suits, open_ascending, s
 use Rattle.marked_tree.proofs.Spots.{Way}
 use Rattle.rebuild_core.proofs.Marks.{shown_ways}
 use Rattle.rebuild_core.proofs.ObjectFacts.{on_starts, in_starts, element_starts, member_starts, same_step}
-use Rattle.rebuild_core.proofs.ShownPuts.{put_adds, put_has, put_keeps, put_free, put_new_free}
+use Rattle.rebuild_core.proofs.ShownPuts.{put_adds, put_has, put_keeps, put_new_free, shows_each}
 use Rattle.digest_sites.specs.declared.site.SiteKind.TheVariants.{Member, Element}
 
 -- what is shown has no reserved name
@@ -90,14 +90,8 @@ Shown_at r ss v = (s : Site) × Shows r ss s × In v (shown_ways (r s.digest))
 
 -- ---- the texts of `_sd`
 
-show_free : (x : Shown) (ms : MarkedMembers) → MembersNoReserved (strip_members (show_member x ms)) → MembersNoReserved (strip_members ms)
-show_free nothing_shown ms f = f
-show_free (shown i None t) ms f = f
-show_free (shown i (Some k) t) ms f = put_free k (Some i) t ms f
-
 pub shows_free : (r : Text → Shown) (ds : List Text) (ms : MarkedMembers) → MembersNoReserved (strip_members (show_members r ds ms)) → MembersNoReserved (strip_members ms)
-shows_free r [] ms f = f
-shows_free r (d ∷ ds) ms f = show_free (r d) ms (shows_free r ds (show_member (r d) ms) f)
+shows_free r ds ms f = shows_each (λ _. Unit {0}) (λ _. Unit {0}) (λ name _. IsFree name) r ds ms f
 
 show_keeps : (x : Shown) (ms : MarkedMembers) (l : Text) → In l (marked_names ms) → In l (marked_names (show_member x ms))
 show_keeps nothing_shown ms l m = m

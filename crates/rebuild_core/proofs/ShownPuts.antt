@@ -1,14 +1,16 @@
 -- What a member put among others adds and keeps.
-use Rattle.std.proofs.Common.{◌≡◌, ℕ, [], ◌∷◌, ◌⊎◌, inl, inr, ⊎_elim, Option, Ordering, Less, Equal, Greater, refl, sym, subst}
+use Rattle.std.proofs.Common.{◌≡◌, ℕ, List, [], ◌∷◌, ◌⊎◌, inl, inr, ⊎_elim, Option, Some, None, Ordering, Less, Equal, Greater, refl, sym, subst}
 use Rattle.std.specs.Ordering.{match_ordering, nat_cmp}
 use Rattle.std.specs.Cmp.Lexicographic.{slice_cmp}
 use Rattle.std.proofs.lemmas.Map.Lookups.{exact_bytes}
 use Rattle.claim_tree.specs.Lists.{In}
-use Rattle.claim_tree.specs.Tree.{IsBefore, Text}
+use Rattle.claim_tree.specs.Everywhere.{InMembers}
+use Rattle.claim_tree.specs.Tree.{Elements, IsBefore, Leaf, Text, Tree}
 use Rattle.marked_tree.specs.Marked.{Marked, MarkedMembers, marked_member, no_marked_members, put, strip, strip_members}
 use Rattle.marked_tree.specs.Ways.{members_ways, way_of, ways}
 use Rattle.marked_tree.specs.MarkedCalls.{marked_names}
 use Rattle.rebuild_core.specs.Free.{HasNoReserved, IsFree}
+use Rattle.rebuild_core.specs.Opening.{Shown, nothing_shown, show_member, show_members, shown}
 use Rattle.rebuild_core.proofs.FreeMembers.{MembersNoReserved}
 use Rattle.claim_tree.proofs.Lists.{In-append, In-left, In-right}
 use Rattle.claim_tree.proofs.MapPlaces.{before_after, before_through}
@@ -54,17 +56,28 @@ put_keeps k i t (marked_member n j u ms) l h = go (slice_cmp nat_cmp k n) h (put
     go Greater (inl e) ih = inl e
     go Greater (inr m) ih = inr (ih m)
 
--- a put leaves what was there free, and is free where it adds
-pub put_free : (k : Text) (i : Option ℕ) (t : Marked) (ms : MarkedMembers) → MembersNoReserved (strip_members (put k i t ms)) → MembersNoReserved (strip_members ms)
-put_free k i t no_marked_members f = tt
-put_free k i t (marked_member l j u ms) f = go (slice_cmp nat_cmp k l) f (put_free k i t ms)
-  where
-    go : (o : Ordering) → MembersNoReserved (strip_members (match_ordering o (marked_member k i t (marked_member l j u ms)) (marked_member l j u ms) (marked_member l j u (put k i t ms))))
-        → (MembersNoReserved (strip_members (put k i t ms)) → MembersNoReserved (strip_members ms)) → MembersNoReserved (strip_members (marked_member l j u ms))
-    go Less h ih = h.2
-    go Equal h ih = h
-    go Greater h ih = (h.0, h.1, ih h.2)
+module _ (P : Leaf → Type 0) (L : Elements → Type 0) (N : Text → Tree → Type 0) where
+  -- what is so everywhere in the members with one put among them is so in those that were there
+  put_each : (k : Text) (i : Option ℕ) (t : Marked) (ms : MarkedMembers) → InMembers P L N (strip_members (put k i t ms)) → InMembers P L N (strip_members ms)
+  put_each k i t no_marked_members f = tt
+  put_each k i t (marked_member l j u ms) f = go (slice_cmp nat_cmp k l) f (put_each k i t ms)
+    where
+      go : (o : Ordering) → InMembers P L N (strip_members (match_ordering o (marked_member k i t (marked_member l j u ms)) (marked_member l j u ms) (marked_member l j u (put k i t ms))))
+          → (InMembers P L N (strip_members (put k i t ms)) → InMembers P L N (strip_members ms)) → InMembers P L N (strip_members (marked_member l j u ms))
+      go Less h ih = h.2
+      go Equal h ih = h
+      go Greater h ih = (h.0, h.1, ih h.2)
 
+  show_each : (x : Shown) (ms : MarkedMembers) → InMembers P L N (strip_members (show_member x ms)) → InMembers P L N (strip_members ms)
+  show_each nothing_shown ms f = f
+  show_each (shown i None t) ms f = f
+  show_each (shown i (Some k) t) ms f = put_each k (Some i) t ms f
+
+  pub shows_each : (r : Text → Shown) (ds : List Text) (ms : MarkedMembers) → InMembers P L N (strip_members (show_members r ds ms)) → InMembers P L N (strip_members ms)
+  shows_each r [] ms f = f
+  shows_each r (d ∷ ds) ms f = show_each (r d) ms (shows_each r ds (show_member (r d) ms) f)
+
+-- what a put adds is free
 pub put_new_free : (k : Text) (i : Option ℕ) (t : Marked) (ms : MarkedMembers) → (In k (marked_names ms) → ⊥) → MembersNoReserved (strip_members (put k i t ms)) → IsFree k × HasNoReserved (strip t)
 put_new_free k i t no_marked_members new f = (f.0, f.1)
 put_new_free k i t (marked_member l j u ms) new f = go (slice_cmp nat_cmp k l) refl f (put_new_free k i t ms (λ m. new (inr m)))
