@@ -14,19 +14,17 @@ use Rattle.rebuild_core.proofs.Fixed.{find_at}
 use Rattle.issuer_core.proofs.Closing.{items_length, own_items_length}
 use Rattle.issuer_core.proofs.LaidOpens.{ElementsHaveItems, HasItems, MarkItem, MembersHaveItems, NoneFound, elements_mark_depth, mark_depth, members_mark_depth, one_deeper}
 
+-- what is so of each disclosure and its number, from the number n on
+abbrev pub EachFrom : (ℕ → Given → Type 0) → ℕ → List Given → Type 0
+EachFrom Is n xs = (q : ℕ) (x : Given) → StandsAt xs q x → Is (n + q) x
+
 -- g has the elements of xs, from place n on
 abbrev pub Holds : List Given → ℕ → List Given → Type 0
-Holds g n xs = (q : ℕ) (x : Given) → StandsAt xs q x → StandsAt g (n + q) x
-
-pub holds_first : (g : List Given) (n : ℕ) (xs ys : List Given) → Holds g n (xs ++ ys) → Holds g n xs
-holds_first g n xs ys h q x a = h q x (At-left xs ys q x a)
-
-pub holds_last : (g : List Given) (n k : ℕ) (xs ys : List Given) → k ≡ length xs → Holds g n (xs ++ ys) → Holds g (n + k) ys
-holds_last g n k xs ys e h q x a = subst (λ z. StandsAt g z x) (let c : n + (length xs + q) ≡ n + k + q = omega (arith, e) in c) (h (length xs + q) x (At-right xs ys q x a))
+Holds g n xs = EachFrom (StandsAt g) n xs
 
 -- each item has the digest of its number
 abbrev pub Numbered : (ℕ → Text) → ℕ → List Given → Type 0
-Numbered dg n xs = (q : ℕ) (x : Given) → StandsAt xs q x → x.digest ≡ dg (n + q)
+Numbered dg n xs = EachFrom (λ i x. x.digest ≡ dg i) n xs
 
 numbered_join : (dg : ℕ → Text) (n : ℕ) (xs ys : List Given) → Numbered dg n xs → Numbered dg (n + length xs) ys → Numbered dg n (xs ++ ys)
 numbered_join dg n xs ys a b q x h =
@@ -65,22 +63,28 @@ mutual
       numbered_step dg n (weight one t) k (Some name) (lay s dg t) (laid_given s dg t) (laid_members dec dg ms) (items_length s dg t) is.1
       (items_numbered s dg n t is.0) (members_numbered dec dg (n + (mark_weight one k + weight one t)) ms is.2)
 
--- what a list holds of a node's items, and of those that follow
-pub record Parts (dg : ℕ → Text) (g : List Given) (n a : ℕ) (k : Option ℕ) (name : Option Text) (v : Tree) (xs ys : List Given) : Type 0 where
-  pub inner : Holds g n xs
-  pub own : Holds g (n + a) (own_given dg name k v)
-  pub rest : Holds g (n + (mark_weight one k + a)) ys
+module _ (Is : ℕ → Given → Type 0) where
+  each_first : (n : ℕ) (xs ys : List Given) → EachFrom Is n (xs ++ ys) → EachFrom Is n xs
+  each_first n xs ys h q x a = h q x (At-left xs ys q x a)
 
-pub parts : (dg : ℕ → Text) (g : List Given) (n a : ℕ) (k : Option ℕ) (name : Option Text) (v : Tree) (xs ys : List Given) → length xs ≡ a
-    → Holds g n ((xs ++ own_given dg name k v) ++ ys) → Parts dg g n a k name v xs ys
-parts dg g n a k name v xs ys l h =
-    let o = own_given dg name k v in
-    let first = holds_first g n (xs ++ o) ys h in
-    record {
-      inner = holds_first g n xs o first;
-      own = holds_last g n a xs o (sym l) first;
-      rest = holds_last g n (mark_weight one k + a) (xs ++ o) ys (omega (arith, l, length-append xs o, own_items_length dg name k v)) h;
-    }
+  each_last : (n k : ℕ) (xs ys : List Given) → k ≡ length xs → EachFrom Is n (xs ++ ys) → EachFrom Is (n + k) ys
+  each_last n k xs ys e h q x a = subst (λ z. Is z x) (let c : n + (length xs + q) ≡ n + k + q = omega (arith, e) in c) (h (length xs + q) x (At-right xs ys q x a))
+
+  -- what is so of a node's items: those inside it, its own, and those that follow
+  pub record Parts (dg : ℕ → Text) (n a : ℕ) (k : Option ℕ) (name : Option Text) (v : Tree) (xs ys : List Given) : Type 0 where
+    pub inner : EachFrom Is n xs
+    pub own : EachFrom Is (n + a) (own_given dg name k v)
+    pub rest : EachFrom Is (n + (mark_weight one k + a)) ys
+
+  pub parts : (dg : ℕ → Text) (n a : ℕ) (k : Option ℕ) (name : Option Text) (v : Tree) (xs ys : List Given) → length xs ≡ a → EachFrom Is n ((xs ++ own_given dg name k v) ++ ys) → Parts dg n a k name v xs ys
+  parts dg n a k name v xs ys l h =
+      let o = own_given dg name k v in
+      let first = each_first n (xs ++ o) ys h in
+      record {
+        inner = each_first n xs o first;
+        own = each_last n a xs o (sym l) first;
+        rest = each_last n (mark_weight one k + a) (xs ++ o) ys (omega (arith, l, length-append xs o, own_items_length dg name k v)) h;
+      }
 
 -- ---- each mark has its item
 
@@ -102,7 +106,7 @@ module _ (g : List Given) (dg : ℕ → Text) (once : AtNone (Repeats (given_dig
     elements_have_items dec n i no_marked_elements is none all = tt
     elements_have_items dec n i (marked_element k t es) is none all =
         let s : Path → List Text = λ q. dec (decimal i ∷ q) in
-        let w = parts dg g n (weight one t) k None (lay s dg t) (laid_given s dg t) (laid_elements dec dg (suc i) es) (items_length s dg t) all in (
+        let w = parts (StandsAt g) dg n (weight one t) k None (lay s dg t) (laid_given s dg t) (laid_elements dec dg (suc i) es) (items_length s dg t) all in (
           mark_item None k (n + weight one t) (lay s dg t) is.1 w.own,
           has_items s n t is.0 (λ q. none (decimal i ∷ q)) w.inner,
           elements_have_items dec (n + (mark_weight one k + weight one t)) (suc i) es is.2 none w.rest,
@@ -113,7 +117,7 @@ module _ (g : List Given) (dg : ℕ → Text) (once : AtNone (Repeats (given_dig
     members_have_items dec n no_marked_members is none all = tt
     members_have_items dec n (marked_member name k t ms) is none all =
         let s : Path → List Text = λ q. dec (name ∷ q) in
-        let w = parts dg g n (weight one t) k (Some name) (lay s dg t) (laid_given s dg t) (laid_members dec dg ms) (items_length s dg t) all in (
+        let w = parts (StandsAt g) dg n (weight one t) k (Some name) (lay s dg t) (laid_given s dg t) (laid_members dec dg ms) (items_length s dg t) all in (
           mark_item (Some name) k (n + weight one t) (lay s dg t) is.1 w.own,
           has_items s n t is.0 (λ q. none (name ∷ q)) w.inner,
           members_have_items dec (n + (mark_weight one k + weight one t)) ms is.2 none w.rest,

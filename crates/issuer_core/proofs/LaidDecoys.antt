@@ -180,7 +180,7 @@ module _ (p : Tree) (g : List Given) (dg : ℕ → Text) (M : Marked) where
         let s : Path → List Text = λ q. dec (decimal i ∷ q) in
         let v = lay s dg t in
         let own = own_spot (decimal i) j ++ map (inside (decimal i) j) (spots t) in
-        let w = parts dg g n (weight one t) j None v (laid_given s dg t) (laid_elements dec dg (suc i) es) (items_length s dg t) all in
+        let w = parts (StandsAt g) dg n (weight one t) j None v (laid_given s dg t) (laid_elements dec dg (suc i) es) (items_length s dg t) all in
         let embs = embeds_element j pre dec i t es plain.0 emb in
         let down = descend (to_element i) pre j (n + weight one t) None t v is.1 embs.0 (λ c m. sp c (In-left c own (elements_spots (suc i) es) m)) w.own in
         go (bytes_eq (decimal i) k) refl holds
@@ -203,7 +203,7 @@ module _ (p : Tree) (g : List Given) (dg : ℕ → Text) (M : Marked) where
         let s : Path → List Text = λ q. dec (l ∷ q) in
         let v = lay s dg t in
         let own = own_spot l j ++ map (inside l j) (spots t) in
-        let w = parts dg g n (weight one t) j (Some l) v (laid_given s dg t) (laid_members dec dg ms) (items_length s dg t) all in
+        let w = parts (StandsAt g) dg n (weight one t) j (Some l) v (laid_given s dg t) (laid_members dec dg ms) (items_length s dg t) all in
         let embs = embeds_member j pre dec l t ms plain.0 emb in
         let down = descend (to_member l) pre j (n + weight one t) (Some l) t v is.1 embs.0 (λ c m. sp c (In-left c own (members_spots ms) m)) w.own in
         go (bytes_eq l k) refl holds

@@ -1,5 +1,5 @@
 -- An order is laid in one way: the digests, the disclosures and the payload are determined by how texts are made.
-use Rattle.std.proofs.Common.{◌≡◌, ℕ, suc, ◌+◌, ◌-◌, ◌<◌, ◌≤◌, ◌⊎◌, inl, inr, List, [], ◌∷◌, ◌++◌, None, Option, Some, ap, arith, decimal, length, length-append, refl, subst, sym, ◌∙◌, if◌then◌else◌}
+use Rattle.std.proofs.Common.{◌≡◌, ℕ, suc, ◌+◌, ◌-◌, ◌<◌, ◌≤◌, ◌⊎◌, inl, inr, List, [], ◌∷◌, ◌++◌, None, Option, Some, ap, arith, decimal, length, refl, subst, sym, ◌∙◌, if◌then◌else◌}
 use Rattle.std.proofs.lemmas.Bool.{cases_lt}
 use Rattle.claim_tree.specs.Lists.{StandsAt}
 use Rattle.claim_tree.specs.Tree.{Text, Tree}
@@ -13,38 +13,18 @@ use Rattle.issuer_core.specs.Digests.{Maker, hidden_of, marked_claims}
 use Rattle.issuer_core.specs.Laid.{laid_elements, laid_given, laid_members, lay, own_given, order_decoys, IsLaid}
 use Rattle.marked_tree.specs.Ways.{weight, mark_weight}
 use Rattle.issuer_core.specs.Closing.{one, HasNumber, ClosesFrom, ElementsClose, MembersClose}
-use Rattle.claim_tree.proofs.Lists.{At-get, At-left, At-right}
+use Rattle.claim_tree.proofs.Lists.{At-get}
 use Rattle.issuer_core.proofs.Agrees.{MarkAgrees, MarksAgree, ElementsAgree, MembersAgree, DecoysAgree, lay_agrees, items_agree}
-use Rattle.issuer_core.proofs.Closing.{own_items_length, items_length, order_closes, order_marks}
+use Rattle.issuer_core.proofs.Closing.{items_length, order_closes, order_marks}
+use Rattle.issuer_core.proofs.ItemNumbers.{EachFrom, parts}
 
 module _ (maker : Maker) (hash : HashAlg) where
-  -- the digest of each of the disclosures, from the number n on, is that of its text
+  -- the digest with this number is that of the disclosure
+  abbrev IsMade : (ℕ → Text) → ℕ → Given → Type 0
+  IsMade dg n x = dg n ≡ maker.digest hash (maker.disclosure n x.name x.value)
+
   abbrev Made : (ℕ → Text) → ℕ → List Given → Type 0
-  Made dg n xs = (q : ℕ) (x : Given) → StandsAt xs q x → dg (n + q) ≡ maker.digest hash (maker.disclosure (n + q) x.name x.value)
-
-  made_first : (dg : ℕ → Text) (n : ℕ) (xs ys : List Given) → Made dg n (xs ++ ys) → Made dg n xs
-  made_first dg n xs ys h q x a = h q x (At-left xs ys q x a)
-
-  made_last : (dg : ℕ → Text) (n k : ℕ) (xs ys : List Given) → k ≡ length xs → Made dg n (xs ++ ys) → Made dg (n + k) ys
-  made_last dg n k xs ys e h q x a =
-      let c : n + (length xs + q) ≡ n + k + q = omega (arith, e) in
-      subst (λ z. dg z ≡ maker.digest hash (maker.disclosure z x.name x.value)) c (h (length xs + q) x (At-right xs ys q x a))
-
-  -- what is made of a node: its inside, its own disclosure, and what follows
-  record Cut (dg : ℕ → Text) (n a : ℕ) (k : Option ℕ) (name : Option Text) (v : Tree) (xs ys : List Given) : Type 0 where
-    inner : Made dg n xs
-    own : Made dg (n + a) (own_given dg name k v)
-    rest : Made dg (n + (mark_weight one k + a)) ys
-
-  cut : (dg : ℕ → Text) (n a : ℕ) (k : Option ℕ) (name : Option Text) (v : Tree) (xs ys : List Given) → length xs ≡ a → Made dg n ((xs ++ own_given dg name k v) ++ ys) → Cut dg n a k name v xs ys
-  cut dg n a k name v xs ys l h =
-      let o = own_given dg name k v in
-      let first = made_first dg n (xs ++ o) ys h in
-      record {
-        inner = made_first dg n xs o first;
-        own = made_last dg n a xs o (sym l) first;
-        rest = made_last dg n (mark_weight one k + a) (xs ++ o) ys (omega (arith, l, length-append xs o, own_items_length dg name k v)) h;
-      }
+  Made dg n xs = EachFrom (IsMade dg) n xs
 
   module _ (dg dh : ℕ → Text) where
     own_agrees : (name : Option Text) (k : Option ℕ) (n : ℕ) (v u : Tree) → HasNumber k n → v ≡ u → Made dg n (own_given dg name k v) → Made dh n (own_given dh name k u) → MarkAgrees dg dh k
@@ -67,8 +47,8 @@ module _ (maker : Maker) (hash : HashAlg) where
           let x : Path → List Text = λ q. dec (decimal i ∷ q) in
           let y : Path → List Text = λ q. ded (decimal i ∷ q) in
           let s : DecoysAgree x y = λ q. e (decimal i ∷ q) in
-          let v = cut dg n (weight one t) k None (lay x dg t) (laid_given x dg t) (laid_elements dec dg (suc i) es) (items_length x dg t) a in
-          let w = cut dh n (weight one t) k None (lay y dh t) (laid_given y dh t) (laid_elements ded dh (suc i) es) (items_length y dh t) b in
+          let v = parts (IsMade dg) dg n (weight one t) k None (lay x dg t) (laid_given x dg t) (laid_elements dec dg (suc i) es) (items_length x dg t) a in
+          let w = parts (IsMade dh) dh n (weight one t) k None (lay y dh t) (laid_given y dh t) (laid_elements ded dh (suc i) es) (items_length y dh t) b in
           let inside = marks_agree x y s n t is.0 v.inner w.inner in (
             own_agrees None k (n + weight one t) (lay x dg t) (lay y dh t) is.1 (lay_agrees dg dh x y s t inside) v.own w.own,
             inside,
@@ -81,8 +61,8 @@ module _ (maker : Maker) (hash : HashAlg) where
           let x : Path → List Text = λ q. dec (name ∷ q) in
           let y : Path → List Text = λ q. ded (name ∷ q) in
           let s : DecoysAgree x y = λ q. e (name ∷ q) in
-          let v = cut dg n (weight one t) k (Some name) (lay x dg t) (laid_given x dg t) (laid_members dec dg ms) (items_length x dg t) a in
-          let w = cut dh n (weight one t) k (Some name) (lay y dh t) (laid_given y dh t) (laid_members ded dh ms) (items_length y dh t) b in
+          let v = parts (IsMade dg) dg n (weight one t) k (Some name) (lay x dg t) (laid_given x dg t) (laid_members dec dg ms) (items_length x dg t) a in
+          let w = parts (IsMade dh) dh n (weight one t) k (Some name) (lay y dh t) (laid_given y dh t) (laid_members ded dh ms) (items_length y dh t) b in
           let inside = marks_agree x y s n t is.0 v.inner w.inner in (
             own_agrees (Some name) k (n + weight one t) (lay x dg t) (lay y dh t) is.1 (lay_agrees dg dh x y s t inside) v.own w.own,
             inside,
