@@ -50,6 +50,17 @@ sort_sum f (d ∷ ds) = omega (arith, insert_sum f d (sorted ds), sort_sum f ds)
 
 -- ---- laid
 
+-- by how much the values of a node's items, of its own and of those that follow exceed their digests
+items_sum : (f : Text → ℕ) (xs own ys : List Given) → value_sum f ((xs ++ own) ++ ys) + (digest_sum f xs + digest_sum f own + digest_sum f ys) ≡ digest_sum f ((xs ++ own) ++ ys) + (value_sum f xs + value_sum f own + value_sum f ys)
+items_sum f xs own ys =
+    omega (
+      arith,
+      sum_of-append (λ (x : Given). site_sum f (sites x.value)) (xs ++ own) ys,
+      sum_of-append (λ (x : Given). site_sum f (sites x.value)) xs own,
+      sum_of-append (λ (x : Given). f x.digest) (xs ++ own) ys,
+      sum_of-append (λ (x : Given). f x.digest) xs own,
+    )
+
 decoy_sites : (f : Text → ℕ) (i : ℕ) (ds : List Text) → site_sum f (element_sites i (digest_elements ds)) ≡ sum_of f ds
 decoy_sites f i [] = refl
 decoy_sites f i (d ∷ ds) =
@@ -93,10 +104,7 @@ mutual
         sum_of-append (λ (s : Site). f s.digest) (sites_on (to_element i) (element_digest v) (sites v)) (element_sites (suc i) (lay_elements dec dg (suc i) es)),
         ap (λ o. site_sum f (sites_on (to_element i) o (sites v))) (laid_no_digest d dg t p.0),
         under_sum f (to_element i) (sites v),
-        sum_of-append (λ (x : Given). site_sum f (sites x.value)) (xs ++ []) ys,
-        sum_of-append (λ (x : Given). site_sum f (sites x.value)) xs [],
-        sum_of-append (λ (x : Given). f x.digest) (xs ++ []) ys,
-        sum_of-append (λ (x : Given). f x.digest) xs [],
+        items_sum f xs [] ys,
         laid_sum f d dg t p.0,
         elements_laid f dec dg (suc i) es p.1,
       )
@@ -110,10 +118,7 @@ mutual
         arith,
         sum_of-append (λ (s : Site). f s.digest) (sites_on (to_element i) (element_digest (digest_object (dg k))) (sites (digest_object (dg k)))) (element_sites (suc i) (lay_elements dec dg (suc i) es)),
         ap (λ o. site_sum f (sites_on (to_element i) o (sites (digest_object (dg k))))) (digest_read (dg k)),
-        sum_of-append (λ (x : Given). site_sum f (sites x.value)) (xs ++ own) ys,
-        sum_of-append (λ (x : Given). site_sum f (sites x.value)) xs own,
-        sum_of-append (λ (x : Given). f x.digest) (xs ++ own) ys,
-        sum_of-append (λ (x : Given). f x.digest) xs own,
+        items_sum f xs own ys,
         laid_sum f d dg t p.0,
         elements_laid f dec dg (suc i) es p.1,
       )
@@ -131,10 +136,7 @@ mutual
         sum_of-append (λ (s : Site). f s.digest) (cond (bytes_eq k sd_name) [] (map (under (to_member k)) (sites v))) (member_sites (lay_members dec dg ms)),
         ap (λ b. site_sum f (cond b [] (map (under (to_member k)) (sites v)))) p.0,
         under_sum f (to_member k) (sites v),
-        sum_of-append (λ (x : Given). site_sum f (sites x.value)) (xs ++ []) ys,
-        sum_of-append (λ (x : Given). site_sum f (sites x.value)) xs [],
-        sum_of-append (λ (x : Given). f x.digest) (xs ++ []) ys,
-        sum_of-append (λ (x : Given). f x.digest) xs [],
+        items_sum f xs [] ys,
         laid_sum f d dg t p.3,
         members_laid f dec dg ms p.4,
       )
@@ -146,10 +148,7 @@ mutual
       let ys = laid_members dec dg ms in
       omega (
         arith,
-        sum_of-append (λ (x : Given). site_sum f (sites x.value)) (xs ++ own) ys,
-        sum_of-append (λ (x : Given). site_sum f (sites x.value)) xs own,
-        sum_of-append (λ (x : Given). f x.digest) (xs ++ own) ys,
-        sum_of-append (λ (x : Given). f x.digest) xs own,
+        items_sum f xs own ys,
         laid_sum f d dg t p.3,
         members_laid f dec dg ms p.4,
       )
