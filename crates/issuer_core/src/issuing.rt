@@ -123,7 +123,10 @@ fn issue_laid<S: Signer>(
     ensures same_alg { S.alg_of signer.new ≡ S.alg_of signer.old }
     ensures later { S.faults signer.old ≤ S.faults signer.new }
 {
-    let signed = match sign_laid(alloc, header, &laid, signer) {
+    if let Err(error) = judge_digests(alloc, &laid.digests) {
+        return Err(error);
+    }
+    let signed = match sign_body(alloc, header, &laid.payload, signer) {
         Ok(signed) => signed,
         Err(error) => return Err(error),
     };
@@ -132,27 +135,6 @@ fn issue_laid<S: Signer>(
         disclosures: laid.texts,
         binding: None,
     })
-}
-
-// Signs what is laid, unless digests clash.
-fn sign_laid<S: Signer>(
-    alloc: Global,
-    header: &Header,
-    laid: &Laid,
-    signer: &mut S,
-) -> Result<JwtParts, IssueError>
-    ensures signed { IfOk result (IsSignedJwt header.now (S.good signer.old) (tree_of laid.now.payload)) }
-    ensures differ { OnOk result (AtNone (Repeats laid.now.digests)) }
-    ensures unsigned { IfErr result (λ e. HasClash laid.now.digests e ⊎ (AtNone (Repeats laid.now.digests) × IsUnsigned e)) }
-    ensures failed { IsErrOf result IssueError.SignFailed → Rose (S.faults signer.old) (S.faults signer.new) }
-    ensures same_good { Agree (S.good signer.new) (S.good signer.old) }
-    ensures same_alg { S.alg_of signer.new ≡ S.alg_of signer.old }
-    ensures later { S.faults signer.old ≤ S.faults signer.new }
-{
-    if let Err(error) = judge_digests(alloc, &laid.digests) {
-        return Err(error);
-    }
-    sign_body(alloc, header, &laid.payload, signer)
 }
 
 // Refusal 60: two digests are equal.
