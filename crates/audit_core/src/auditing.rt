@@ -30,14 +30,11 @@ use crate::places::others_of;
 use crate::signed::is_signed_for;
 use crate::sorted::has_sorted_digests;
 use crate::standing::are_alike;
-use crate::written::{Written, read_written};
-use claim_tree::Tree;
+use crate::written::{Written, bare, read_written};
 use digest_index::Steps;
-use digest_sites::GivenList;
 use hmac_sign::{Alg, Checker};
 use issuer_core::{IssueError, Order, judge, order_refusal};
 use json_form::{TokenError, TokenText, TokenView};
-use rebuild_core::without_alg;
 use sd_outside::TextBox;
 use std::alloc::Global;
 
@@ -69,19 +66,18 @@ fn order_error(error: &IssueError) -> AuditError
 fn judge_others(
     alloc: Global,
     asked: &Asked,
-    payload: &Tree,
-    given: &GivenList,
-    seed: u64,
+    content: &Written,
     longest: usize,
 ) -> Result<(), AuditError>
-    requires { length given.now ≡ asked.now.hidden }
-    ensures hold { OnOk result ((o : SeenOrder) → IsAskedFor o asked.now → AreCounted o (tree_of payload.now) given.now → HasDigests o (tree_of payload.now) given.now × HasDecoys o (tree_of payload.now) given.now) }
-    ensures differs { IfErr result (λ e. (o : SeenOrder) → IsAskedFor o asked.now → AreCounted o (tree_of payload.now) given.now → OnPart e (ContentDiffers o (tree_of payload.now) given.now)) }
+    requires { length content.now.given ≡ asked.now.hidden }
+    ensures hold { OnOk result ((o : SeenOrder) → IsAskedFor o asked.now → AreCounted o (tree_of content.now.body) content.now.given → HasDigests o (tree_of content.now.body) content.now.given × HasDecoys o (tree_of content.now.body) content.now.given) }
+    ensures differs { IfErr result (λ e. (o : SeenOrder) → IsAskedFor o asked.now → AreCounted o (tree_of content.now.body) content.now.given → OnPart e (ContentDiffers o (tree_of content.now.body) content.now.given)) }
 {
     if asked.decoys == 0 {
         return Ok(());
     }
-    let others = others_of(alloc, &asked.claims, payload, given, seed, longest)?;
+    let Written { body, given, seed } = content;
+    let others = others_of(alloc, &asked.claims, body, given, *seed, longest)?;
     if !are_digests(asked.hash, others.elements()) {
         return Err(differs(AuditPart::Digests));
     }
@@ -96,24 +92,23 @@ fn judge_others(
 fn judge_digests(
     alloc: Global,
     asked: &Asked,
-    payload: &Tree,
-    given: &GivenList,
-    seed: u64,
+    content: &Written,
     longest: usize,
 ) -> Result<(), AuditError>
-    requires count { length given.now ≡ asked.now.hidden }
-    requires few { length given.now ≤ count_max }
+    requires count { length content.now.given ≡ asked.now.hidden }
+    requires few { length content.now.given ≤ count_max }
     requires decoys { asked.now.decoys ≤ count_max }
-    ensures audited { OnOk result ((o : SeenOrder) → IsAskedFor o asked.now → ShowsClaims o (tree_of payload.now) given.now → IsAuditedFor o (tree_of payload.now) given.now) }
-    ensures differs { IfErr result (λ e. (o : SeenOrder) → IsAskedFor o asked.now → ShowsClaims o (tree_of payload.now) given.now → OnPart e (ContentDiffers o (tree_of payload.now) given.now)) }
+    ensures audited { OnOk result ((o : SeenOrder) → IsAskedFor o asked.now → ShowsClaims o (tree_of content.now.body) content.now.given → IsAuditedFor o (tree_of content.now.body) content.now.given) }
+    ensures differs { IfErr result (λ e. (o : SeenOrder) → IsAskedFor o asked.now → ShowsClaims o (tree_of content.now.body) content.now.given → OnPart e (ContentDiffers o (tree_of content.now.body) content.now.given)) }
 {
-    if !are_so_many(payload, given, given.len() + asked.decoys) {
+    let Written { body, given, .. } = content;
+    if !are_so_many(body, given, given.len() + asked.decoys) {
         return Err(differs(AuditPart::Digests));
     }
-    if let Err(error) = judge_others(alloc, asked, payload, given, seed, longest) {
+    if let Err(error) = judge_others(alloc, asked, content, longest) {
         return Err(error);
     }
-    if !has_sorted_digests(payload, given) {
+    if !has_sorted_digests(body, given) {
         return Err(differs(AuditPart::SdOrder));
     }
     Ok(())
@@ -127,10 +122,7 @@ fn judge_again(alloc: Global, asked: &Asked, token: &TokenView<'_>) -> Result<()
     ensures differs { IfErr result (λ e. (o : SeenOrder) (body : SeenTree) (given : List SeenGiven) → IsAskedFor o asked.now → IsWrittenWith asked.now.hash asked.now.hidden token.now.parts body given → ShowsClaims o (without_alg_of body) given → OnPart e (ContentDiffers o (without_alg_of body) given)) }
 {
     match read_written(alloc, asked.hash, asked.hidden, token)? {
-        Some(written) => {
-            let Written { body, given, seed } = written;
-            judge_digests(alloc, asked, &without_alg(body), &given, seed, usize::MAX)
-        }
+        Some(written) => judge_digests(alloc, asked, &bare(written), usize::MAX),
         // It was read before, so it is written as it is to be.
         None => Err(differs(AuditPart::Written)),
     }
@@ -166,11 +158,11 @@ fn judge_content(
     ensures differs { IfErr result (λ e. (o : SeenOrder) → IsAskedFor o asked.now → OnPart e (ContentDiffers o (without_alg_of (tree_of written.body)) written.given)) }
     ensures risen { RoseWithin (look_ups (without_alg_of (tree_of written.body)) written.given) steps.old steps.new }
 {
-    let Written { body, given, seed } = written;
-    let payload = without_alg(body);
+    let content = bare(written);
     let longest = longest_of(asked.standings.as_slice());
-    let early = judge_digests(alloc, asked, &payload, &given, seed, longest);
-    if !shows(alloc, payload, given, seed, &asked.claims, steps)? {
+    let early = judge_digests(alloc, asked, &content, longest);
+    let Written { body, given, seed } = content;
+    if !shows(alloc, body, given, seed, &asked.claims, steps)? {
         return Err(differs(AuditPart::Claims));
     }
     match early {

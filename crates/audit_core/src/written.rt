@@ -6,6 +6,7 @@ ghost use Rattle.claim_tree.specs.View.{tree_of};
 ghost use Rattle.digest_sites.specs.Given.{Given as SeenGiven};
 ghost use Rattle.digest_sites.specs.GivenView.{given_of};
 ghost use Rattle.rebuild_core.specs.Answer.{IsPayload, ValuesShallow};
+ghost use Rattle.rebuild_core.specs.Payload.{without_alg as without_alg_of};
 ghost use Rattle.audit_core.specs.Audited.{IsWrittenAs, GivesSalted};
 ghost use Rattle.audit_core.specs.AuditSteps.{NamesHash, IsUnsalted, HasUnsalted, IsOtherPayload, IsWrittenWith};
 
@@ -15,6 +16,7 @@ use digest_index::seed_of;
 use digest_sites::{Given, GivenList};
 use disclosure::{Disclosed, HashAlg, digest};
 use json_form::{Disclosures, TokenView};
+use rebuild_core::without_alg;
 use sd_outside::NoMemory;
 use std::alloc::Global;
 
@@ -25,6 +27,19 @@ pub(crate) struct Written {
     pub(crate) given: GivenList,
     // By which digests are hashed, so that it costs no more to look up some of them than others.
     pub(crate) seed: u64,
+}
+
+// The same, with the payload without its own `_sd_alg`.
+pub(crate) fn bare(written: Written) -> Written
+    ensures body { tree_of result.body ≡ without_alg_of (tree_of written.body) }
+    ensures given { result.given ≡ written.given }
+{
+    let Written { body, given, seed } = written;
+    Written {
+        body: without_alg(body),
+        given,
+        seed,
+    }
 }
 
 // What a text gives, where it is a disclosure that is written so and has a salt of 16 bytes.

@@ -14,7 +14,7 @@ returns-in-Some-clause-audited c =
     let read = rw c.in-Some.is at c.in_ok-written.ensures.some in
     on_ok_weaker c.judge_digests.result
     (λ f o body given is w. one_reading (λ p g. ShowsClaims o (without_alg p) g → IsAuditedFor o (without_alg p) g) asked.hash asked.hidden c.args.token.now.parts (tree_of written.body) body written.given given read w (f o is))
-    (rw c.without_alg.ensures at c.judge_digests.ensures.audited)
+    (rw (c.bare.ensures.body, c.bare.ensures.given) at c.judge_digests.ensures.audited)
 
 pub returns-in-Some-clause-differs : goal.returns-in-Some-clause-differs
 returns-in-Some-clause-differs c =
@@ -23,4 +23,4 @@ returns-in-Some-clause-differs c =
     let read = rw c.in-Some.is at c.in_ok-written.ensures.some in
     IfErr-weaker c.judge_digests.result _ _
     (λ e f o body given is w. one_reading (λ p g. ShowsClaims o (without_alg p) g → OnPart e (ContentDiffers o (without_alg p) g)) asked.hash asked.hidden c.args.token.now.parts (tree_of written.body) body written.given given read w (f o is))
-    (rw c.without_alg.ensures at c.judge_digests.ensures.differs)
+    (rw (c.bare.ensures.body, c.bare.ensures.given) at c.judge_digests.ensures.differs)

@@ -24,8 +24,8 @@ overflow_add-len c = omega (arith, c.requires.decoys, c.len.ensures, c.requires.
 
 pub returns-then-not-are_so_many-clause-differs : goal.returns-then-not-are_so_many-clause-differs
 returns-then-not-are_so_many-clause-differs c o is shows =
-    let p = tree_of c.args.payload.now in
-    let g = c.args.given.now in
+    let p = tree_of c.args.content.now.body in
+    let g = c.args.content.now.given in
     rw c.differs.ensures
     (digests_differ refl shows
     (λ h.
@@ -34,14 +34,14 @@ returns-then-not-are_so_many-clause-differs c o is shows =
 
 pub returns-in-Err-clause-differs : goal.returns-in-Err-clause-differs
 returns-in-Err-clause-differs c o is shows =
-    let p = tree_of c.args.payload.now in
-    let g = c.args.given.now in
+    let p = tree_of c.args.content.now.body in
+    let g = c.args.content.now.given in
     c.in-Err.ensures.differs o is (all_counted o p g _ _ (c.are_so_many.ensures.0 c.if-not-are_so_many.false) c.len.ensures is.decoys shows)
 
 pub returns-then-not-has_sorted_digests-clause-differs : goal.returns-then-not-has_sorted_digests-clause-differs
 returns-then-not-has_sorted_digests-clause-differs c o is shows =
-    let p = tree_of c.args.payload.now in
-    let g = c.args.given.now in
+    let p = tree_of c.args.content.now.body in
+    let g = c.args.content.now.given in
     let all = all_counted o p g _ _ (c.are_so_many.ensures.0 c.if-not-are_so_many.false) c.len.ensures is.decoys shows in
     let both = c.in_default.ensures.hold o is all in
     rw c.differs-then-not-has_sorted_digests.ensures
@@ -49,8 +49,8 @@ returns-then-not-has_sorted_digests-clause-differs c o is shows =
 
 pub returns-clause-audited : goal.returns-clause-audited
 returns-clause-audited c o is shows =
-    let p = tree_of c.args.payload.now in
-    let g = c.args.given.now in
+    let p = tree_of c.args.content.now.body in
+    let g = c.args.content.now.given in
     let all = all_counted o p g _ _ (c.are_so_many.ensures.0 c.if-not-are_so_many.false) c.len.ensures is.decoys shows in
     let both = c.in_default.ensures.hold o is all in
     record { shows = shows; digests = both.0; decoys = both.1; sorted = c.has_sorted_digests.ensures.0 c.if-not-has_sorted_digests.false }

@@ -9,12 +9,12 @@ use Rattle.audit_core.proofs.auditing.judge_others.Goals as goal
 
 pub returns-then-asked-eq0-clause-hold : goal.returns-then-asked-eq0-clause-hold
 returns-then-asked-eq0-clause-hold c o is counted =
-    no_others o (tree_of c.args.payload.now) c.args.given.now (sym is.decoys ∙ c.if-asked-eq0.true) (c.requires ∙ is.hidden) counted
+    no_others o (tree_of c.args.content.now.body) c.args.content.now.given (sym is.decoys ∙ c.if-asked-eq0.true) (c.requires ∙ is.hidden) counted
 
 pub returns-then-not-are_digests-clause-differs : goal.returns-then-not-are_digests-clause-differs
 returns-then-not-are_digests-clause-differs c o is counted =
-    let p = tree_of c.args.payload.now in
-    let g = c.args.given.now in
+    let p = tree_of c.args.content.now.body in
+    let g = c.args.content.now.given in
     let are = subst (λ claims. AreOthers claims p g c.in_ok-others.others) is.claims c.in_ok-others.ensures in
     rw c.differs.ensures
     (digests_differ refl counted.shows
@@ -24,8 +24,8 @@ returns-then-not-are_digests-clause-differs c o is counted =
 
 pub returns-then-not-branch-clause-differs : goal.returns-then-not-branch-clause-differs
 returns-then-not-branch-clause-differs c o is counted =
-    let p = tree_of c.args.payload.now in
-    let g = c.args.given.now in
+    let p = tree_of c.args.content.now.body in
+    let g = c.args.content.now.given in
     let long = c.requires ∙ is.hidden in
     let are = subst (λ claims. AreOthers claims p g c.in_ok-others.others) is.claims c.in_ok-others.ensures in
     let form = subst (AreDigests o.hash) c.elements.ensures (subst (λ hash. AreDigests hash c.elements.result.now) is.hash (c.are_digests.ensures.0 c.if-not-are_digests.false)) in
@@ -39,8 +39,8 @@ returns-then-not-branch-clause-differs c o is counted =
 
 pub returns-clause-hold : goal.returns-clause-hold
 returns-clause-hold c o is counted =
-    let p = tree_of c.args.payload.now in
-    let g = c.args.given.now in
+    let p = tree_of c.args.content.now.body in
+    let g = c.args.content.now.given in
     let long = c.requires ∙ is.hidden in
     let are = subst (λ claims. AreOthers claims p g c.in_ok-others.others) is.claims c.in_ok-others.ensures in
     let form = subst (AreDigests o.hash) c.elements.ensures (subst (λ hash. AreDigests hash c.elements.result.now) is.hash (c.are_digests.ensures.0 c.if-not-are_digests.false)) in
