@@ -13,7 +13,7 @@ use Rattle.marked_tree.specs.Paths.{Path}
 use Rattle.marked_tree.proofs.Names.{Ascend, ascend}
 use Rattle.issuer_core.specs.Laid.{with_sd, sorted, hidden_digests, laid_given, laid_members, own_given, lay, lay_members}
 use Rattle.issuer_core.specs.Digests.{made_texts}
-use Rattle.issuer_core.specs.Laying.{digest_at, salted, placed_at, DecoysTell, IsLaidNode}
+use Rattle.issuer_core.specs.Laying.{digest_at, salted, placed_at, DecoysTell, IsLaidNode, members_with, hidden_with}
 use Rattle.issuer_core.specs.Closing.{one, MembersClose}
 use Rattle.issuer_core.specs.declared.decoys.Decoys.{Decoys}
 use Rattle.issuer_core.specs.declared.laying.Hiding.{Hiding}
@@ -138,8 +138,8 @@ module _ (decoys : Decoys) (hiding : Hiding) (first : List Text) (all : MarkedMe
       few = let old = so.few in omega (arith, old);
     }
 
-    pub member_more_shown : (t : code.Tree) → part ≡ LaidNode.Shown t → LaysMembers decoys hiding first all (inserted laid name (tree_of t)) hidden texts2 digests2 left
-    member_more_shown t e = next (inserted laid name (tree_of t)) hidden (so_far, hidden_so_far)
+    shown_more : (t : code.Tree) → part ≡ LaidNode.Shown t → LaysMembers decoys hiding first all (inserted laid name (tree_of t)) hidden texts2 digests2 left
+    shown_more t e = next (inserted laid name (tree_of t)) hidden (so_far, hidden_so_far)
       where
         told : (dec : Path → List Text) → DecoysTell below dec → (more : List Text) → IsLaidNode dec (digest_at hiding.hash (texts2 ++ more)) k m (LaidNode.Shown t)
         told dec tells more = subst (λ p. IsLaidNode dec (digest_at hiding.hash (texts2 ++ more)) k m p) e (is dec tells more)
@@ -154,8 +154,8 @@ module _ (decoys : Decoys) (hiding : Hiding) (first : List Text) (all : MarkedMe
         hidden_so_far : (more : List Text) → hidden ++ hidden_digests (digest_at hiding.hash (texts2 ++ more)) left ≡ hidden_digests (digest_at hiding.hash (texts2 ++ more)) all
         hidden_so_far more = ap (λ (ds : List Text). hidden ++ ds) (member_shown (placed_at below) (dg more) name k m left t (told (placed_at below) (λ at. refl) more)) ∙ hidden_before more
 
-    pub member_more_hidden : (d : Text) → part ≡ LaidNode.Hidden d → LaysMembers decoys hiding first all laid (hidden ++ d ∷ []) texts2 digests2 left
-    member_more_hidden d e = next laid (hidden ++ d ∷ []) (so_far, hidden_so_far)
+    hidden_more : (d : Text) → part ≡ LaidNode.Hidden d → LaysMembers decoys hiding first all laid (hidden ++ d ∷ []) texts2 digests2 left
+    hidden_more d e = next laid (hidden ++ d ∷ []) (so_far, hidden_so_far)
       where
         told : (more : List Text) → IsLaidNode (placed_at below) (digest_at hiding.hash (texts2 ++ more)) k m (LaidNode.Hidden d)
         told more = subst (λ p. IsLaidNode (placed_at below) (digest_at hiding.hash (texts2 ++ more)) k m p) e (is (placed_at below) (λ at. refl) more)
@@ -167,6 +167,13 @@ module _ (decoys : Decoys) (hiding : Hiding) (first : List Text) (all : MarkedMe
         hidden_so_far more =
             append_assoc hidden (d ∷ []) (hidden_digests (dg more) left)
             ∙ (ap (λ (ds : List Text). hidden ++ ds) (member_hidden (placed_at below) (dg more) name k m left d (told more)) ∙ hidden_before more)
+
+    pub member_more : LaysMembers decoys hiding first all (members_with laid name part) (hidden_with hidden part) texts2 digests2 left
+    member_more = go part refl
+      where
+        go : (p : LaidNode) → part ≡ p → LaysMembers decoys hiding first all (members_with laid name p) (hidden_with hidden p) texts2 digests2 left
+        go (LaidNode.Shown t) e = shown_more t e
+        go (LaidNode.Hidden d) e = hidden_more d e
 
 -- ---- the first and the last
 

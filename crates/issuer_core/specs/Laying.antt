@@ -1,6 +1,6 @@
 -- For private functions: what the walk that hides has and makes.
 use Rattle.std.specs.Prelude.{◌≡◌, ℕ, zero, suc, ◌+◌, List, [], ◌∷◌, ◌++◌, length, map, drop, Option, Some, None, if◌then◌else◌}
-use Rattle.claim_tree.specs.Tree.{Text, text, Tree, leaf, Elements, no_elements, element}
+use Rattle.claim_tree.specs.Tree.{Text, text, Tree, leaf, Elements, no_elements, element, Members, inserted}
 use Rattle.claim_tree.specs.View.{tree_of}
 use Rattle.digest_sites.specs.Given.{Given}
 use Rattle.marked_tree.specs.Marked.{Marked}
@@ -81,6 +81,15 @@ abbrev pub IsLaidNode : (Path → List Text) → (ℕ → Text) → Option ℕ �
 IsLaidNode dec dg None m (LaidNode.Shown t) = tree_of t ≡ lay dec dg m
 IsLaidNode dec dg (Some k) m (LaidNode.Hidden d) = d ≡ dg k
 IsLaidNode dec dg k m part = ⊥
+
+-- the members of an object with its next part, and the digests of its hidden members
+abbrev pub members_with : Members → Text → LaidNode → Members
+members_with laid name (LaidNode.Shown t) = inserted laid name (tree_of t)
+members_with laid name (LaidNode.Hidden d) = laid
+
+abbrev pub hidden_with : List Text → LaidNode → List Text
+hidden_with hidden (LaidNode.Shown t) = hidden
+hidden_with hidden (LaidNode.Hidden d) = hidden ++ d ∷ []
 
 -- ---- marked claims
 

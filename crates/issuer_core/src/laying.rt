@@ -16,7 +16,7 @@ ghost use Rattle.issuer_core.specs.Seed.{maker_of};
 ghost use Rattle.issuer_core.specs.Laid as spec;
 ghost use Rattle.issuer_core.specs.Laid.{sorted, with_sd, digest_elements, hidden_digests, laid_given, laid_elements, laid_members, own_given, lay_elements, lay_members};
 ghost use Rattle.issuer_core.specs.Digests.{made_texts};
-ghost use Rattle.issuer_core.specs.Laying.{salted, elements_joined, ArePlaced, ForAllDigests, IsLaidNode, IsLaidWith, IsLaidFor};
+ghost use Rattle.issuer_core.specs.Laying.{salted, elements_joined, ArePlaced, ForAllDigests, IsLaidNode, IsLaidWith, IsLaidFor, members_with, hidden_with};
 ghost use Rattle.issuer_core.specs.Closing.{one, HasNumber, ClosesFrom, ElementsClose, MembersClose};
 
 use crate::decoys::{Decoys, sort_decoys};
@@ -159,6 +159,23 @@ fn put_sd(alloc: Global, laid: &mut TreeMap, mut digests: Vec<TextBox>) -> Resul
     laid.insert(TextBox::make(alloc, "_sd")?, Tree::List(list))
 }
 
+// Puts the next part of an object: a member that is shown, or the digest of a hidden one.
+fn put_part(
+    laid: &mut TreeMap,
+    digests: &mut Vec<TextBox>,
+    name: TextBox,
+    part: LaidNode,
+) -> Result<(), NoMemory>
+    ensures members { OnOk result (laid.new ≡ members_with laid.old name part) }
+    ensures digests { OnOk result (digests.new.items ≡ hidden_with digests.old.items part) }
+{
+    match part {
+        LaidNode::Shown(tree) => laid.insert(name, tree)?,
+        LaidNode::Hidden(digest) => digests.push(digest)?,
+    }
+    Ok(())
+}
+
 // The tree with its marked parts behind digests. The disclosure of a marked part is made after those inside it.
 #[cycle(lay)]
 fn lay(
@@ -243,10 +260,8 @@ fn lay_map(
     let mut digests = Vec::new(alloc);
     for (name, mark, tree) in members.into_members() {
         let below = decoys.below(name.as_str());
-        match lay_part(alloc, Some(name.as_str()), mark, tree, below, hiding, layer)? {
-            LaidNode::Shown(tree) => laid.insert(name, tree)?,
-            LaidNode::Hidden(digest) => digests.push(digest)?,
-        }
+        let part = lay_part(alloc, Some(name.as_str()), mark, tree, below, hiding, layer)?;
+        put_part(&mut laid, &mut digests, name, part)?;
     }
     push_copies(alloc, &mut digests, decoys.here())?;
     put_sd(alloc, &mut laid, digests)?;

@@ -14,7 +14,7 @@ use Rattle.issuer_core.specs.Closing.{HasNumber}
 use Rattle.issuer_core.proofs.LaidBounds.{lay_depth}
 use Rattle.issuer_core.proofs.LayingSteps.{IsMade, hidden_part, hidden_made}
 use Rattle.issuer_core.proofs.LayingElements.{LaysElements, elements_start, element_more, elements_end, elements_made, shown_element, hidden_element}
-use Rattle.issuer_core.proofs.LayingMembers.{LaysMembers, members_start, member_more_shown, member_more_hidden, members_end, members_made}
+use Rattle.issuer_core.proofs.LayingMembers.{LaysMembers, members_start, member_more, members_end, members_made}
 use Rattle.issuer_core.proofs.laying.+lay.Goals as goal
 use Rattle.issuer_core.proofs.laying.+lay.Goals.{lay_list-in-Shown, lay_list-in-Hidden+in_ok-tree-in-Hidden}
 
@@ -119,23 +119,6 @@ lay_map-lay_part-requires t c =
     let down = c.below-below.ensures.depth in
     (omega (arith, few, deep-le e.2), (omega (arith, low, deep, down), (c.below-below.ensures.placed, (so.closes.0, (so.closes.1, (omega (arith, count, held), so.digested))))))
 
-pub lay_map-loop-name-preserved-in-Continue-branch-3 :
-    goal.lay_map-loop-name-preserved-in-Continue-branch-3
-lay_map-loop-name-preserved-in-Continue-branch-3 t c =
-    let a = c.args in
-    let l = c.loop-name in
-    let e : Entry = (c.in-Some.name, c.in-Some.mark, c.in-Some.tree) in
-    let left = marked_members_of (into_iter_items c.next.new.self) in
-    let so : LaysMembers a.decoys a.hiding a.layer.now.texts a.members l.laid l.digests.items l.layer.texts l.layer.digests (marked_member e.0 e.1 (marked_of e.2) (marked_members_of (into_iter_items c.next.new.self))) =
-    subst (λ es. LaysMembers a.decoys a.hiding a.layer.now.texts a.members l.laid l.digests.items l.layer.texts l.layer.digests (marked_members_of es)) c.in-Some.ensures.steps.0 l.invariant in
-    let told = c.in_ok-tree.ensures in
-    let step : (at : Path) → placed_at c.below-below.result at ≡ placed_at a.decoys (c.in-Some.name ∷ at) =
-    λ at. c.below-below.ensures.below at ∙ ap (λ s. placed_at a.decoys (s ∷ at)) c.as_str.ensures in
-    let made = subst (λ s. IsMade c.below-below.result a.hiding (Some s) c.in-Some.mark (marked_of c.in-Some.tree) l.layer.texts c.lay_part.new.layer.texts) c.as_str-in-loop-name.ensures told.texts in
-    let next = member_more_shown a.decoys a.hiding a.layer.now.texts a.members l.laid l.digests.items l.layer.texts l.layer.digests c.in-Some.name c.in-Some.mark (marked_of c.in-Some.tree) left so c.below-below.result step
-    c.in_ok-tree.field-0 c.lay_part.new.layer.texts c.lay_part.new.layer.digests told.part made told.count told.digests c.in-Shown.tree c.in-Shown.is in
-    subst (λ laid. LaysMembers a.decoys a.hiding a.layer.now.texts a.members laid l.digests.items c.lay_part.new.layer.texts c.lay_part.new.layer.digests left) (sym c.in_ok-insert-in-Shown.ensures.ok) next
-
 pub lay_map-loop-name-preserved : goal.lay_map-loop-name-preserved
 lay_map-loop-name-preserved t c =
     let a = c.args in
@@ -144,13 +127,13 @@ lay_map-loop-name-preserved t c =
     let left = marked_members_of (into_iter_items c.next.new.self) in
     let so : LaysMembers a.decoys a.hiding a.layer.now.texts a.members l.laid l.digests.items l.layer.texts l.layer.digests (marked_member e.0 e.1 (marked_of e.2) (marked_members_of (into_iter_items c.next.new.self))) =
     subst (λ es. LaysMembers a.decoys a.hiding a.layer.now.texts a.members l.laid l.digests.items l.layer.texts l.layer.digests (marked_members_of es)) c.in-Some.ensures.steps.0 l.invariant in
-    let told = c.in_ok-tree.ensures in
+    let told = c.in_ok-part.ensures in
     let step : (at : Path) → placed_at c.below-below.result at ≡ placed_at a.decoys (c.in-Some.name ∷ at) =
     λ at. c.below-below.ensures.below at ∙ ap (λ s. placed_at a.decoys (s ∷ at)) c.as_str.ensures in
     let made = subst (λ s. IsMade c.below-below.result a.hiding (Some s) c.in-Some.mark (marked_of c.in-Some.tree) l.layer.texts c.lay_part.new.layer.texts) c.as_str-in-loop-name.ensures told.texts in
-    let next = member_more_hidden a.decoys a.hiding a.layer.now.texts a.members l.laid l.digests.items l.layer.texts l.layer.digests c.in-Some.name c.in-Some.mark (marked_of c.in-Some.tree) left so c.below-below.result step
-    c.in_ok-tree.field-0 c.lay_part.new.layer.texts c.lay_part.new.layer.digests told.part made told.count told.digests c.in-Hidden.digest c.in-Hidden.is in
-    subst (λ hidden. LaysMembers a.decoys a.hiding a.layer.now.texts a.members l.laid hidden c.lay_part.new.layer.texts c.lay_part.new.layer.digests left) (sym c.in_ok-push-in-Hidden.ensures.items) next
+    rw (c.in_ok-put_part.ensures.members, c.in_ok-put_part.ensures.digests)
+    (member_more a.decoys a.hiding a.layer.now.texts a.members l.laid l.digests.items l.layer.texts l.layer.digests c.in-Some.name c.in-Some.mark (marked_of c.in-Some.tree) left so c.below-below.result step
+    c.in_ok-part.part c.lay_part.new.layer.texts c.lay_part.new.layer.digests told.part made told.count told.digests)
 
 pub map_done : (t : ℕ) (c : goal.lay_map-In_ok-put_sd t) → LaysMembers c.args.decoys c.args.hiding c.args.layer.now.texts c.args.members c.loop-name.laid c.loop-name.digests.items c.loop-name.layer.texts c.loop-name.layer.digests no_marked_members
 map_done t c =
