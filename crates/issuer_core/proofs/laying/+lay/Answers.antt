@@ -35,13 +35,7 @@ lay_list-lay_part-requires t c =
     let e : Element = (c.in-Some.mark, c.in-Some.tree) in
     let so : LaysElements a.decoys a.hiding a.layer.now.texts a.list l.laid l.layer.texts l.layer.digests (marked_element e.0 (marked_of e.1) (marked_elements_of (into_iter_items c.next.new.self))) =
     subst (λ es. LaysElements a.decoys a.hiding a.layer.now.texts a.list l.laid l.layer.texts l.layer.digests (marked_elements_of es)) c.in-Some.ensures.steps.0 l.invariant in
-    let low = so.low in
-    let few = so.few in
-    let count = so.count in
-    let deep = c.requires.depth in
-    let held = c.requires.salts in
-    let down = c.below_element-below.ensures.depth in
-    (omega (arith, few, deep-le e.1), (omega (arith, low, deep, down), (c.below_element-below.ensures.placed, (so.closes.0, (so.closes.1, (omega (arith, count, held), so.digested))))))
+    (omega (arith, so.few, deep-le e.1), (omega (arith, so.low, c.requires.depth, c.below_element-below.ensures.depth), (c.below_element-below.ensures.placed, (so.closes.0, (so.closes.1, (omega (arith, so.count, c.requires.salts), so.digested))))))
 
 pub lay_list-loop-mark-preserved : goal.lay_list-loop-mark-preserved
 lay_list-loop-mark-preserved t c =
@@ -111,13 +105,7 @@ lay_map-lay_part-requires t c =
     let e : Entry = (c.in-Some.name, c.in-Some.mark, c.in-Some.tree) in
     let so : LaysMembers a.decoys a.hiding a.layer.now.texts a.members l.laid l.digests.items l.layer.texts l.layer.digests (marked_member e.0 e.1 (marked_of e.2) (marked_members_of (into_iter_items c.next.new.self))) =
     subst (λ es. LaysMembers a.decoys a.hiding a.layer.now.texts a.members l.laid l.digests.items l.layer.texts l.layer.digests (marked_members_of es)) c.in-Some.ensures.steps.0 l.invariant in
-    let low = so.low in
-    let few = so.few in
-    let count = so.count in
-    let deep = c.requires.depth in
-    let held = c.requires.salts in
-    let down = c.below-below.ensures.depth in
-    (omega (arith, few, deep-le e.2), (omega (arith, low, deep, down), (c.below-below.ensures.placed, (so.closes.0, (so.closes.1, (omega (arith, count, held), so.digested))))))
+    (omega (arith, so.few, deep-le e.2), (omega (arith, so.low, c.requires.depth, c.below-below.ensures.depth), (c.below-below.ensures.placed, (so.closes.0, (so.closes.1, (omega (arith, so.count, c.requires.salts), so.digested))))))
 
 pub lay_map-loop-name-preserved : goal.lay_map-loop-name-preserved
 lay_map-loop-name-preserved t c =
