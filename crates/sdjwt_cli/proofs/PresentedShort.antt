@@ -35,10 +35,10 @@ picked_short s (d ∷ ds) = go (s 0) (picked (λ k. s (suc k)) ds) (picked_short
     go true es ih = omega (arith, ih, spelled_more d es, spelled_more d ds)
     go false es ih = omega (arith, ih, spelled_more d ds)
 
-pub hashed_length : (parts : Parts) → length (hashed parts) ≡ length (jwt parts.signed) + suc (length (spelled parts.disclosures))
+hashed_length : (parts : Parts) → length (hashed parts) ≡ length (jwt parts.signed) + suc (length (spelled parts.disclosures))
 hashed_length parts = omega (arith, length-append (jwt parts.signed) (codes "~" ++ spelled parts.disclosures), length-append (codes "~") (spelled parts.disclosures))
 
-pub compact_length : (parts : Parts) → length (compact parts) ≡ length (hashed parts) + length (ending parts.binding)
+compact_length : (parts : Parts) → length (compact parts) ≡ length (hashed parts) + length (ending parts.binding)
 compact_length parts = length-append (hashed parts) (ending parts.binding)
 
 -- ---- a key binding token
