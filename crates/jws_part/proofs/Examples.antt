@@ -52,7 +52,7 @@ a_header = record {
   members = alg_alone;
   carried = a_head.carried;
   says = record { apart = refl; alg = refl; typ = refl; kid = refl };
-  plain = refl;
+  crit = refl;
 }
 
 -- {"_sd_alg":"sha-256"}

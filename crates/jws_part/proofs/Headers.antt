@@ -5,7 +5,7 @@ use Rattle.std.specs.Option.{is_some, option_or}
 use Rattle.std.proofs.lemmas.Slice.Eq.{bytes_eq-Decides}
 use Rattle.claim_tree.specs.Tree.{Text, Tree, object, Members, no_members, member, names, member_named, text_of}
 use Rattle.jws_part.specs.Part.{Carries}
-use Rattle.jws_part.specs.Header.{text_tree, has_name, shares_name, has_crit, HeadersSay, IsHeader, IsHeaderCritical, IsNoText, SayNothing, shared_name, no_alg, odd_alg, odd_typ, odd_kid, odd_outer_kid, IsHeaderUnreadable, no_object, nothing_said}
+use Rattle.jws_part.specs.Header.{text_tree, has_name, shares_name, has_crit, HeadersSay, ReadsHeader, IsHeader, IsHeaderCritical, IsNoText, SayNothing, shared_name, no_alg, odd_alg, odd_typ, odd_kid, odd_outer_kid, IsHeaderUnreadable, no_object, nothing_said}
 use Rattle.jws_part.specs.HeaderSteps.{unread_header}
 use Rattle.jws_part.specs.declared.header.Header.{Header}
 use Rattle.jws_part.specs.declared.header.HeaderError.{HeaderError}
@@ -76,24 +76,25 @@ nothing ms outer h (odd_typ n) s = odd ms (codes "typ") h.typ n s.typ
 nothing ms outer h (odd_kid n) s = odd_own ms outer (codes "kid") h.kid n s.kid
 nothing ms outer h (odd_outer_kid n) s = odd_outer ms outer (codes "kid") h.kid s.apart n s.kid
 
-says_at : (protected : Text) (ms ns outer : Members) (h : Header) → Carries protected (object ms) → Carries protected (object ns) → HeadersSay ns outer h → HeadersSay ms outer h
-says_at protected ms ns outer h c d s = subst (λ us. HeadersSay us outer h) (one_object protected ns ms d c) s
+module _ (protected : Text) (outer : Members) where
+  one_read : (h k : Header) (c d : Bool) (a : ReadsHeader protected outer h c) (b : ReadsHeader protected outer k d) → b.members ≡ a.members
+  one_read h k c d a b = one_object protected b.members a.members b.carried a.carried
 
-pub one_header : (protected : Text) (outer : Members) (h h' : Header) → IsHeader protected outer h → IsHeader protected outer h' → h ≡ h'
-one_header protected outer h h' a b = one_saying a.members outer h h' a.says (says_at protected a.members b.members outer h' a.carried b.carried b.says)
+  pub one_header : (h k : Header) → IsHeader protected outer h → IsHeader protected outer k → h ≡ k
+  one_header h k a b = one_saying a.members outer h k a.says (subst (λ ms. HeadersSay ms outer k) (one_read h k false false a b) b.says)
 
-unsaid : (protected : Text) (outer ms : Members) (h : Header) → IsHeaderUnreadable protected outer → Carries protected (object ms) → HeadersSay ms outer h → ⊥
-unsaid protected outer ms h (no_object none) c s = none ms c
-unsaid protected outer ms h (nothing_said ns d cause) c s = nothing ns outer h cause (says_at protected ns ms outer h d c s)
+  -- headers that are read are not unreadable
+  read_not_unread : (h : Header) (c : Bool) → ReadsHeader protected outer h c → IsHeaderUnreadable protected outer → ⊥
+  read_not_unread h c a (no_object none) = none a.members a.carried
+  read_not_unread h c a (nothing_said ms carried cause) = nothing ms outer h cause (subst (λ ns. HeadersSay ns outer h) (one_object protected a.members ms a.carried carried) a.says)
 
-pub read_not_unreadable : (protected : Text) (outer : Members) (h : Header) → IsHeader protected outer h → IsHeaderUnreadable protected outer → ⊥
-read_not_unreadable protected outer h a u = unsaid protected outer a.members h u a.carried a.says
+  pub read_not_unreadable : (h : Header) → IsHeader protected outer h → IsHeaderUnreadable protected outer → ⊥
+  read_not_unreadable h = read_not_unread h false
 
-pub critical_not_unreadable : (protected : Text) (outer : Members) → IsHeaderCritical protected outer → IsHeaderUnreadable protected outer → ⊥
-critical_not_unreadable protected outer a u = unsaid protected outer a.members a.header u a.carried a.says
+  pub critical_not_unreadable : IsHeaderCritical protected outer → IsHeaderUnreadable protected outer → ⊥
+  critical_not_unreadable (h, a) = read_not_unread h true a
 
-pub read_not_critical : (protected : Text) (outer : Members) (h : Header) → IsHeader protected outer h → IsHeaderCritical protected outer → ⊥
-read_not_critical protected outer h a b =
-    let same : a.members ≡ b.members = one_object protected a.members b.members a.carried b.carried in
-    let clash : true ≡ false = sym b.crit ∙ (ap (λ us. has_crit us outer) (sym same) ∙ a.plain) in
-    cc clash
+  pub read_not_critical : (h : Header) → IsHeader protected outer h → IsHeaderCritical protected outer → ⊥
+  read_not_critical h a (k, b) =
+      let clash : true ≡ false = sym b.crit ∙ (ap (λ ms. has_crit ms outer) (one_read h k false true a b) ∙ a.crit) in
+      cc clash

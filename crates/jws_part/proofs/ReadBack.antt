@@ -63,7 +63,7 @@ made_back part alg kid typ is a k t = record {
   members = header_members (made alg kid typ);
   carried = header_carried part alg kid typ is (header_texts alg kid typ a k t);
   says = says_back alg kid typ;
-  plain = no_crit alg kid typ;
+  crit = no_crit alg kid typ;
 }
 
 pub header_back : (part : Text) (h : Header) → part ≡ b64 (json_text (object (header_members h))) → IsUtf8 h.alg → IfSome h.kid IsUtf8 → IfSome h.typ IsUtf8 → IsHeader part no_members h

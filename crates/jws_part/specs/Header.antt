@@ -28,20 +28,20 @@ pub record HeadersSay (ms outer : Members) (header : Header) : Type 0 where
   pub typ : member_named ms (codes "typ") ≡ option_map text_tree header.typ
   pub kid : option_or (member_named ms (codes "kid")) (member_named outer (codes "kid")) ≡ option_map text_tree header.kid
 
--- the protected header is read, both together say this, and neither is critical
-pub record IsHeader (protected : Text) (outer : Members) (header : Header) : Type 0 where
+-- the protected header is read, both together say this, and whether one of them is critical
+pub record ReadsHeader (protected : Text) (outer : Members) (header : Header) (critical : Bool) : Type 0 where
   pub members : Members
   pub carried : Carries protected (object members)
   pub says : HeadersSay members outer header
-  pub plain : has_crit members outer ≡ false
+  pub crit : has_crit members outer ≡ critical
+
+-- the headers are read, and neither is critical
+abbrev pub IsHeader : Text → Members → Header → Type 0
+IsHeader protected outer header = ReadsHeader protected outer header false
 
 -- the headers are read, and want an extension to be understood
-pub record IsHeaderCritical (protected : Text) (outer : Members) : Type 0 where
-  pub members : Members
-  pub header : Header
-  pub carried : Carries protected (object members)
-  pub says : HeadersSay members outer header
-  pub crit : has_crit members outer ≡ true
+abbrev pub IsHeaderCritical : Text → Members → Type 0
+IsHeaderCritical protected outer = (header : Header) × ReadsHeader protected outer header true
 
 -- what stands under the name is no text
 pub record IsNoText (ms : Members) (name : Text) : Type 0 where
