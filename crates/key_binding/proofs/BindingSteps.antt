@@ -1,5 +1,5 @@
 -- The conditions on a key binding token, passed one after another.
-use Rattle.std.proofs.Common.{◌≡◌, ◌≢◌, ℕ, ℤ, ◌<◌, inl, inr, List, Option, Some, None, codes, refl, sym, ap, subst, ◌∙◌, arith}
+use Rattle.std.proofs.Common.{◌≡◌, ◌≢◌, ℕ, ℤ, ◌<◌, inl, inr, List, Option, Some, None, codes, refl, sym, ap, subst, ◌∙◌, arith, rules}
 use Rattle.claim_tree.specs.Tree.{Text, Tree, leaf, whole, no_members}
 use Rattle.compact_form.specs.declared.fault.Place.{Place}
 use Rattle.compact_form.specs.declared.fault.Place.TheVariants.{Nowhere}
@@ -23,44 +23,8 @@ use Rattle.key_binding.specs.BindingConditions.{BindingFails, OfClaims, IsStale,
 
 -- each has a number from 27 to 38
 pub binding_numbers : (j : Judged) (c : Condition) (place : Place) → BindingFails j c place → (26 < number_of c) × (number_of c < 39)
-binding_numbers j Condition.TooLong place h = absurd h
-binding_numbers j Condition.Form place h = absurd h
-binding_numbers j Condition.TooMuch place h = absurd h
-binding_numbers j Condition.BindingMissing place h = absurd h
-binding_numbers j Condition.HeaderUnreadable place h = absurd h
-binding_numbers j Condition.HeaderCritical place h = absurd h
-binding_numbers j Condition.AlgRefused place h = absurd h
-binding_numbers j Condition.TypeRefused place h = absurd h
-binding_numbers j Condition.IssuerKeyUnknown place h = absurd h
-binding_numbers j Condition.BadSignature place h = absurd h
-binding_numbers j Condition.PayloadUnreadable place h = absurd h
-binding_numbers j Condition.HashUnknown place h = absurd h
-binding_numbers j Condition.DisclosureUnreadable place h = absurd h
-binding_numbers j Condition.RepeatedDisclosure place h = absurd h
-binding_numbers j Condition.ReservedMisused place h = absurd h
-binding_numbers j Condition.RepeatedDigest place h = absurd h
-binding_numbers j Condition.UnreferencedDisclosure place h = absurd h
-binding_numbers j Condition.WrongShape place h = absurd h
-binding_numbers j Condition.ReservedName place h = absurd h
-binding_numbers j Condition.NameClash place h = absurd h
-binding_numbers j Condition.TooDeep place h = absurd h
-binding_numbers j Condition.IssuerRefused place h = absurd h
-binding_numbers j Condition.ClaimMissing place h = absurd h
-binding_numbers j Condition.TimeUnreadable place h = absurd h
-binding_numbers j Condition.Expired place h = absurd h
-binding_numbers j Condition.NotYet place h = absurd h
-binding_numbers j Condition.HolderKeyUnknown place h = (omega arith, omega arith)
-binding_numbers j Condition.BindingHeader place h = (omega arith, omega arith)
-binding_numbers j Condition.BindingAlg place h = (omega arith, omega arith)
-binding_numbers j Condition.BindingSignature place h = (omega arith, omega arith)
-binding_numbers j Condition.BindingType place h = (omega arith, omega arith)
-binding_numbers j Condition.BindingPayload place h = (omega arith, omega arith)
-binding_numbers j Condition.BindingStale place h = (omega arith, omega arith)
-binding_numbers j Condition.BindingEarly place h = (omega arith, omega arith)
-binding_numbers j Condition.NonceDiffers place h = (omega arith, omega arith)
-binding_numbers j Condition.AudienceDiffers place h = (omega arith, omega arith)
-binding_numbers j Condition.HashDiffers place h = (omega arith, omega arith)
-binding_numbers j Condition.BindingTime place h = (omega arith, omega arith)
+binding_numbers j Condition.HolderKeyUnknown place h = search rules
+binding_numbers j _ place h = search rules
 
 -- ---- what is read is one
 
