@@ -1,5 +1,5 @@
 -- What each condition on the claims says of the payload.
-use Rattle.std.proofs.Common.{◌≡◌, ◌≢◌, ℕ, true, false, Bor, option_map, is_some, ◌<◌, List, Option, Some, None, codes, sym, ◌∙◌, subst, ◌+◌, ⊎_elim, arith}
+use Rattle.std.proofs.Common.{◌≡◌, ◌≢◌, ℕ, true, false, Bor, option_map, is_some, ◌<◌, List, Option, Some, None, codes, sym, ◌∙◌, subst, ◌+◌, ⊎_elim, arith, rules}
 use Rattle.compact_form.specs.declared.fault.Place.{Place}
 use Rattle.jws_part.specs.Times.{IsTimeUnreadable, IsExpired}
 use Rattle.claim_tree.specs.Tree.{Text, Tree, get}
@@ -17,44 +17,8 @@ use Rattle.compact_form.proofs.Lowest.{holds_too}
 
 -- a condition on the claims has a number from 22 to 26
 pub claim_numbers : (payload : Tree) (policy : Policy) (now : ℕ) (c : Condition) (place : Place) → ClaimFails payload policy now c place → (21 < number_of c) × (number_of c < 27)
-claim_numbers payload policy now Condition.IssuerRefused place h = (omega arith, omega arith)
-claim_numbers payload policy now Condition.ClaimMissing place h = (omega arith, omega arith)
-claim_numbers payload policy now Condition.TimeUnreadable place h = (omega arith, omega arith)
-claim_numbers payload policy now Condition.Expired place h = (omega arith, omega arith)
-claim_numbers payload policy now Condition.NotYet place h = (omega arith, omega arith)
-claim_numbers payload policy now Condition.TooLong place h = absurd h
-claim_numbers payload policy now Condition.Form place h = absurd h
-claim_numbers payload policy now Condition.TooMuch place h = absurd h
-claim_numbers payload policy now Condition.BindingMissing place h = absurd h
-claim_numbers payload policy now Condition.HeaderUnreadable place h = absurd h
-claim_numbers payload policy now Condition.HeaderCritical place h = absurd h
-claim_numbers payload policy now Condition.AlgRefused place h = absurd h
-claim_numbers payload policy now Condition.TypeRefused place h = absurd h
-claim_numbers payload policy now Condition.IssuerKeyUnknown place h = absurd h
-claim_numbers payload policy now Condition.BadSignature place h = absurd h
-claim_numbers payload policy now Condition.PayloadUnreadable place h = absurd h
-claim_numbers payload policy now Condition.HashUnknown place h = absurd h
-claim_numbers payload policy now Condition.DisclosureUnreadable place h = absurd h
-claim_numbers payload policy now Condition.RepeatedDisclosure place h = absurd h
-claim_numbers payload policy now Condition.ReservedMisused place h = absurd h
-claim_numbers payload policy now Condition.RepeatedDigest place h = absurd h
-claim_numbers payload policy now Condition.UnreferencedDisclosure place h = absurd h
-claim_numbers payload policy now Condition.WrongShape place h = absurd h
-claim_numbers payload policy now Condition.ReservedName place h = absurd h
-claim_numbers payload policy now Condition.NameClash place h = absurd h
-claim_numbers payload policy now Condition.TooDeep place h = absurd h
-claim_numbers payload policy now Condition.HolderKeyUnknown place h = absurd h
-claim_numbers payload policy now Condition.BindingHeader place h = absurd h
-claim_numbers payload policy now Condition.BindingAlg place h = absurd h
-claim_numbers payload policy now Condition.BindingSignature place h = absurd h
-claim_numbers payload policy now Condition.BindingType place h = absurd h
-claim_numbers payload policy now Condition.BindingPayload place h = absurd h
-claim_numbers payload policy now Condition.BindingStale place h = absurd h
-claim_numbers payload policy now Condition.BindingEarly place h = absurd h
-claim_numbers payload policy now Condition.NonceDiffers place h = absurd h
-claim_numbers payload policy now Condition.AudienceDiffers place h = absurd h
-claim_numbers payload policy now Condition.HashDiffers place h = absurd h
-claim_numbers payload policy now Condition.BindingTime place h = absurd h
+claim_numbers payload policy now Condition.IssuerRefused place h = search rules
+claim_numbers payload policy now _ place h = search rules
 
 -- ---- one condition after another
 

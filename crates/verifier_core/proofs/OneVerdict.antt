@@ -1,5 +1,5 @@
 -- A text is accepted or refused, in one way.
-use Rattle.std.proofs.Common.{◌≡◌, ℕ, List, [], sym, ap, subst, ◌∙◌, arith}
+use Rattle.std.proofs.Common.{◌≡◌, ℕ, List, [], sym, ap, subst, ◌∙◌, arith, rules}
 use Rattle.compact_form.specs.declared.fault.Fault.{Fault}
 use Rattle.compact_form.specs.declared.fault.Place.{Place}
 use Rattle.compact_form.specs.declared.fault.Place.TheVariants.{Nowhere, At}
@@ -66,84 +66,12 @@ one_place content in_text p q h k l m = tokens.one_place (trimmed content) p q h
 
 module _ (content : List ℕ) where
   token_place : (token : Token) (rules : Rules) (c : Condition) (place : Place) → TokenFails token rules c place → Suits content (kind_of c) place
-  token_place token rules Condition.TooLong place h = absurd h
-  token_place token rules Condition.Form place h = absurd h
-  token_place token rules Condition.TooMuch place h = absurd h
-  token_place token rules Condition.BindingMissing place h = absurd h
-  token_place token rules Condition.HeaderUnreadable place h = h.0
-  token_place token rules Condition.HeaderCritical place h = h.0
-  token_place token rules Condition.AlgRefused place h = h.0
-  token_place token rules Condition.TypeRefused place h = h.0
-  token_place token rules Condition.IssuerKeyUnknown place h = h.0
-  token_place token rules Condition.BadSignature place h = h.0
-  token_place token rules Condition.PayloadUnreadable place h = h.0
-  token_place token rules Condition.HashUnknown place h = h.0
-  token_place token rules Condition.DisclosureUnreadable place h = (h.0, h.1)
-  token_place token rules Condition.RepeatedDisclosure place h = (h.0, h.1)
-  token_place token rules Condition.ReservedMisused place h = (h.0, h.1)
-  token_place token rules Condition.RepeatedDigest place h = (h.0, h.1)
-  token_place token rules Condition.UnreferencedDisclosure place h = (h.0, h.1)
-  token_place token rules Condition.WrongShape place h = (h.0, h.1)
-  token_place token rules Condition.ReservedName place h = (h.0, h.1)
-  token_place token rules Condition.NameClash place h = (h.0, h.1)
-  token_place token rules Condition.TooDeep place h = h.0
-  token_place token rules Condition.IssuerRefused place h = absurd h
-  token_place token rules Condition.ClaimMissing place h = absurd h
-  token_place token rules Condition.TimeUnreadable place h = absurd h
-  token_place token rules Condition.Expired place h = absurd h
-  token_place token rules Condition.NotYet place h = absurd h
-  token_place token rules Condition.HolderKeyUnknown place h = absurd h
-  token_place token rules Condition.BindingHeader place h = absurd h
-  token_place token rules Condition.BindingAlg place h = absurd h
-  token_place token rules Condition.BindingSignature place h = absurd h
-  token_place token rules Condition.BindingType place h = absurd h
-  token_place token rules Condition.BindingPayload place h = absurd h
-  token_place token rules Condition.BindingStale place h = absurd h
-  token_place token rules Condition.BindingEarly place h = absurd h
-  token_place token rules Condition.NonceDiffers place h = absurd h
-  token_place token rules Condition.AudienceDiffers place h = absurd h
-  token_place token rules Condition.HashDiffers place h = absurd h
-  token_place token rules Condition.BindingTime place h = absurd h
+  token_place _ _ Condition.HeaderUnreadable place h = search rules
+  token_place _ _ _ place h = search rules
 
   claim_place : (payload : Tree) (policy : Policy) (now : ℕ) (c : Condition) (place : Place) → ClaimFails payload policy now c place → Suits content (kind_of c) place
-  claim_place payload policy now Condition.TooLong place h = absurd h
-  claim_place payload policy now Condition.Form place h = absurd h
-  claim_place payload policy now Condition.TooMuch place h = absurd h
-  claim_place payload policy now Condition.BindingMissing place h = absurd h
-  claim_place payload policy now Condition.HeaderUnreadable place h = absurd h
-  claim_place payload policy now Condition.HeaderCritical place h = absurd h
-  claim_place payload policy now Condition.AlgRefused place h = absurd h
-  claim_place payload policy now Condition.TypeRefused place h = absurd h
-  claim_place payload policy now Condition.IssuerKeyUnknown place h = absurd h
-  claim_place payload policy now Condition.BadSignature place h = absurd h
-  claim_place payload policy now Condition.PayloadUnreadable place h = absurd h
-  claim_place payload policy now Condition.HashUnknown place h = absurd h
-  claim_place payload policy now Condition.DisclosureUnreadable place h = absurd h
-  claim_place payload policy now Condition.RepeatedDisclosure place h = absurd h
-  claim_place payload policy now Condition.ReservedMisused place h = absurd h
-  claim_place payload policy now Condition.RepeatedDigest place h = absurd h
-  claim_place payload policy now Condition.UnreferencedDisclosure place h = absurd h
-  claim_place payload policy now Condition.WrongShape place h = absurd h
-  claim_place payload policy now Condition.ReservedName place h = absurd h
-  claim_place payload policy now Condition.NameClash place h = absurd h
-  claim_place payload policy now Condition.TooDeep place h = absurd h
-  claim_place payload policy now Condition.IssuerRefused place h = h.0
-  claim_place payload policy now Condition.ClaimMissing place h = (h.0, h.1)
-  claim_place payload policy now Condition.TimeUnreadable place h = h.0
-  claim_place payload policy now Condition.Expired place h = h.0
-  claim_place payload policy now Condition.NotYet place h = h.0
-  claim_place payload policy now Condition.HolderKeyUnknown place h = absurd h
-  claim_place payload policy now Condition.BindingHeader place h = absurd h
-  claim_place payload policy now Condition.BindingAlg place h = absurd h
-  claim_place payload policy now Condition.BindingSignature place h = absurd h
-  claim_place payload policy now Condition.BindingType place h = absurd h
-  claim_place payload policy now Condition.BindingPayload place h = absurd h
-  claim_place payload policy now Condition.BindingStale place h = absurd h
-  claim_place payload policy now Condition.BindingEarly place h = absurd h
-  claim_place payload policy now Condition.NonceDiffers place h = absurd h
-  claim_place payload policy now Condition.AudienceDiffers place h = absurd h
-  claim_place payload policy now Condition.HashDiffers place h = absurd h
-  claim_place payload policy now Condition.BindingTime place h = absurd h
+  claim_place payload policy now Condition.IssuerRefused place h = search rules
+  claim_place payload policy now _ place h = search rules
 
   file_place : (c : Condition) (place : Place) → FileFails content c place → Suits content (kind_of c) place
   file_place c place (file.too_long e h) =
@@ -161,44 +89,8 @@ module _ (content : List ℕ) where
 
   -- a condition on the key binding token fails at no number
   no_number : (j : Judged) (c : Condition) (place : Place) → BindingFails j c place → Suits content (kind_of c) place
-  no_number j Condition.TooLong place h = absurd h
-  no_number j Condition.Form place h = absurd h
-  no_number j Condition.TooMuch place h = absurd h
-  no_number j Condition.BindingMissing place h = absurd h
-  no_number j Condition.HeaderUnreadable place h = absurd h
-  no_number j Condition.HeaderCritical place h = absurd h
-  no_number j Condition.AlgRefused place h = absurd h
-  no_number j Condition.TypeRefused place h = absurd h
-  no_number j Condition.IssuerKeyUnknown place h = absurd h
-  no_number j Condition.BadSignature place h = absurd h
-  no_number j Condition.PayloadUnreadable place h = absurd h
-  no_number j Condition.HashUnknown place h = absurd h
-  no_number j Condition.DisclosureUnreadable place h = absurd h
-  no_number j Condition.RepeatedDisclosure place h = absurd h
-  no_number j Condition.ReservedMisused place h = absurd h
-  no_number j Condition.RepeatedDigest place h = absurd h
-  no_number j Condition.UnreferencedDisclosure place h = absurd h
-  no_number j Condition.WrongShape place h = absurd h
-  no_number j Condition.ReservedName place h = absurd h
-  no_number j Condition.NameClash place h = absurd h
-  no_number j Condition.TooDeep place h = absurd h
-  no_number j Condition.IssuerRefused place h = absurd h
-  no_number j Condition.ClaimMissing place h = absurd h
-  no_number j Condition.TimeUnreadable place h = absurd h
-  no_number j Condition.Expired place h = absurd h
-  no_number j Condition.NotYet place h = absurd h
-  no_number j Condition.HolderKeyUnknown place h = h.0
-  no_number j Condition.BindingHeader place h = h.0
-  no_number j Condition.BindingAlg place h = h.0
-  no_number j Condition.BindingSignature place h = h.0
-  no_number j Condition.BindingType place h = h.0
-  no_number j Condition.BindingPayload place h = h.0
-  no_number j Condition.BindingStale place h = h.0
-  no_number j Condition.BindingEarly place h = h.0
-  no_number j Condition.NonceDiffers place h = h.0
-  no_number j Condition.AudienceDiffers place h = h.0
-  no_number j Condition.HashDiffers place h = h.0
-  no_number j Condition.BindingTime place h = h.0
+  no_number j Condition.HolderKeyUnknown place h = search rules
+  no_number j _ place h = search rules
 
   holder_place : (parts : Parts) (payload : Tree) (hash : HashAlg) (policy : Policy) (now : ℕ) (c : Condition) (place : Place) → HolderFails parts payload hash policy now c place → Suits content (kind_of c) place
   holder_place parts payload hash policy now c place h = no_number (judged h.token payload h.binding policy.skew hash (hashed parts) now) c place h.fails
