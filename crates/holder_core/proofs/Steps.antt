@@ -1,7 +1,9 @@
 -- From the steps of presenting to what is presented, and why it is not.
-use Rattle.std.proofs.Common.{◌≡◌, ◌≢◌, inl, inr, ℕ, Bool, true, false, List, Option, Some, None, IfSome, refl, sym, ap, subst, ◌∙◌}
+use Rattle.std.proofs.Common.{◌≡◌, ◌≢◌, inl, inr, ℕ, Bool, true, false, List, Option, Some, None, Result, IfErr, IfSome, refl, sym, ap, subst, ◌∙◌}
 use Rattle.std.specs.List.{AllByRecursion}
 use Rattle.std.specs.Option.{option_map, is_some}
+use Rattle.std.specs.Result.{IsErrAnd}
+use Rattle.std.proofs.lemmas.Result.{err_from_is_err_and}
 use Rattle.b64url_text.specs.Base64url.{IsWord}
 use Rattle.claim_tree.specs.Tree.{Text, Tree}
 use Rattle.compact_form.specs.Compact.{AreWords}
@@ -40,6 +42,13 @@ use Rattle.holder_core.proofs.Picking.{picked_same, picked_words}
 pub unchecked_told : (token : Token) (rules : Rules) (e : VerifyError) → OnFault e (IsLowest (TokenFails token rules)) → IsUnchecked token rules (unchecked e)
 unchecked_told token rules VerifyError.Memory h = tt
 unchecked_told token rules (VerifyError.Fault fault) h = h
+
+-- what refuses the token is handed on
+pub unchecked_handed : {A F : Type 0} (answers : RuleAnswers F) (rule : F) (token : Token) (ask : Ask) (r : Result A PresentError) (v : VerifyError) → IsErrAnd r (λ e. e ≡ unchecked v)
+    → OnFault v (IsLowest (TokenFails token (held_rules ask.keys))) → IfErr r (IsUncheckedOrUnready answers rule token ask)
+unchecked_handed answers rule token ask r v from low =
+    let is = err_from_is_err_and r from in
+    rw (is.1, is.2) (inl (unchecked_told token (held_rules ask.keys) v low))
 
 module _ {F : Type 0} (answers : RuleAnswers F) (rule : F) (m : Marked) (s t : ℕ → Bool) (same : Same s t) where
   pub allowed_same : AllAllowed answers rule m s → AllAllowed answers rule m t

@@ -141,14 +141,15 @@ fn ready_parts<F: Fn(&Path) -> bool>(
     ensures uncounted { IsUncounted (TokenFails token.now (held_rules ask.now.keys)) steps.old steps.new }
 {
     let content = check_held(alloc, token, &ask.keys)?;
+    let hash = content.hash();
     if token.count() == 0 {
-        let whole = content.open_payload(alloc, steps)?;
-        let unbound = wanted_parts(alloc, token, &whole.payload, ask)?;
-        return Ok((unbound, whole.hash));
+        let payload = content.open_payload(alloc, steps)?;
+        let unbound = wanted_parts(alloc, token, &payload, ask)?;
+        return Ok((unbound, hash));
     }
-    let opened = content.open(alloc, steps)?;
-    match choose_parts(alloc, token, &opened.marked, ask, consent) {
-        Ok(unbound) => Ok((unbound, opened.hash)),
+    let marked = content.open(alloc, steps)?;
+    match choose_parts(alloc, token, &marked, ask, consent) {
+        Ok(unbound) => Ok((unbound, hash)),
         Err(error) => Err(error),
     }
 }

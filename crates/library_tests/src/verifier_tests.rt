@@ -127,7 +127,7 @@ fn told_of_view(alloc: Global, text: &str) -> Result<String, Fail> {
     let content = content_of(alloc, &token.view())?;
     let mut steps = Steps::new();
     match content.open_payload(alloc, &mut steps) {
-        Ok(checked) => accepted(alloc, &steps, &checked.payload),
+        Ok(payload) => accepted(alloc, &steps, &payload),
         Err(error) => refused(alloc, &steps, error),
     }
 }

@@ -1,5 +1,5 @@
 -- What the steps of a check say of the conditions on the token.
-use Rattle.std.proofs.Common.{◌≡◌, ℕ, zero, suc, ◌<◌, ◌≤◌, List, [], ◌∷◌, take, Some, None, refl, sym, ap, subst, ◌∙◌, arith}
+use Rattle.std.proofs.Common.{◌≡◌, ℕ, zero, suc, ◌<◌, ◌≤◌, List, [], ◌∷◌, take, Some, None, refl, sym, ap, subst, ◌∙◌, arith, rules}
 use Rattle.std.specs.List.{AllZip}
 use Rattle.claim_tree.specs.Tree.{Text, Tree, Members, leaf, null, flag, whole, text, array, object, depth}
 use Rattle.claim_tree.specs.Lists.{StandsAt, AtNone, IsLeast}
@@ -27,7 +27,7 @@ use Rattle.rebuild_core.specs.Soundness as opening2
 use Rattle.rebuild_core.specs.declared.errors.ProcessError.{ProcessError}
 use Rattle.compact_form.specs.declared.condition.Condition.{Condition}
 use Rattle.verifier_core.specs.Verdict.{Rules, key_for, HasHeader, HasPayload, IsAlgRefused, IsTypeRefused, IsBadSignature, IsNoDisclosure, Gives, HasContent, OfContent, TokenFails, IsChecked}
-use Rattle.verifier_core.specs.Check.{OnFault, IsUncounted, IsUnopened, process_fault, IsSigned, IsSignedFault, bad_header, critical, bad_alg, bad_type, no_key, not_signed, IsPayloadFault, no_body, no_hash, IsUnreadAt}
+use Rattle.verifier_core.specs.Check.{OnFault, IsUncounted, process_fault, IsSigned, IsSignedFault, bad_header, critical, bad_alg, bad_type, no_key, not_signed, IsPayloadFault, no_body, no_hash, IsUnreadAt}
 use Rattle.verifier_core.specs.declared.check.VerifyError.{VerifyError}
 use Rattle.verifier_core.proofs.TokenConditions.{finish, start}
 use Rattle.compact_form.specs.Lowest.{Unplaced, Numbered, IsLowest}
@@ -150,14 +150,11 @@ given_same hash d x y g h =
 
 pub one_list : (hash : HashAlg) (ds : List Text) (xs ys : List Given) → AllZip (Gives hash) ds xs → AllZip (Gives hash) ds ys → xs ≡ ys
 one_list hash [] [] [] g h = refl
-one_list hash [] [] (y ∷ ys) g h = absurd h
-one_list hash [] (x ∷ xs) ys g h = absurd g
-one_list hash (d ∷ ds) [] ys g h = absurd g
-one_list hash (d ∷ ds) (x ∷ xs) [] g h = absurd h
 one_list hash (d ∷ ds) (x ∷ xs) (y ∷ ys) g h =
     let first : x ≡ y = given_same hash d x y g.0 h.0 in
     let others : xs ≡ ys = one_list hash ds xs ys g.1 h.1 in
     cc
+one_list hash _ _ _ g h = search rules
 
 pub one_content : (token : Token) (p q : Tree) (g h : List Given) → HasContent token p g → HasContent token q h → (p ≡ q) × (g ≡ h)
 one_content token p q g h a b =
@@ -257,10 +254,6 @@ object_payload ms hash e t there = known_text t hash (ap hash_of_name (sym there
 
 pub is_payload : (part : Text) (t : Tree) (hash : HashAlg) → IsBody part t → payload_hash t ≡ Some hash → IsPayload t
 is_payload part t hash b e = subst IsPayload (sym b.is_object) (object_payload b.members hash (subst (λ x. payload_hash x ≡ Some hash) b.is_object e))
-
-pub unopened_fault : (token : Token) (rules : Rules) (p : Tree) (g : List Given) (e : VerifyError) → HasContent token p g → Passes 14 (TokenFails token rules) → IsUnopened p g e
-    → OnFault e (IsLowest (TokenFails token rules))
-unopened_fault token rules p g e has passes w = subst (λ x. OnFault x (IsLowest (TokenFails token rules))) (sym w.1) (content_fault token rules p g has passes w.0 w.2)
 
 pub content_checked : (token : Token) (rules : Rules) (p : Tree) (g : List Given) (marked : Marked) → HasContent token p g → Passes 14 (TokenFails token rules) → opening2.IsSound p g → marked ≡ processed p g → IsChecked token rules marked
 content_checked token rules p g marked has passes sound is = record {

@@ -1,5 +1,6 @@
 -- From what is read of a token to what is opened of it, and to the verdict.
-use Rattle.std.proofs.Common.{◌≡◌, ℕ, ◌<◌, ◌≤◌, ◌-◌, ◌^◌, inr, List, length, Some, refl, sym, subst}
+use Rattle.std.proofs.Common.{◌≡◌, ℕ, ◌<◌, ◌≤◌, ◌-◌, ◌^◌, inr, List, length, Some, Result, Ok, Err, IfOk, IfErr, refl, sym, subst}
+use Rattle.std.proofs.lemmas.Result.{IfOk-weaker}
 use Rattle.std.proofs.lemmas.Slice.Zip.{AllZip-long}
 use Rattle.std.specs.List.{AllZip}
 use Rattle.claim_tree.specs.Tree.{Text, Tree, Members, depth}
@@ -13,17 +14,18 @@ use Rattle.json_form.specs.Token.{IsToken}
 use Rattle.json_form.specs.declared.token.Token.{Token}
 use Rattle.jws_part.specs.Part.{IsBody}
 use Rattle.marked_tree.specs.Marked.{Marked}
-use Rattle.rebuild_core.specs.Answer.{ValuesShallow}
+use Rattle.rebuild_core.specs.Answer.{ValuesShallow, IsProcessRefused}
+use Rattle.rebuild_core.specs.declared.errors.ProcessError.{ProcessError}
 use Rattle.rebuild_core.specs.Soundness.{IsSound}
 use Rattle.rebuild_core.specs.LookUps.{look_ups, counted, RoseWithin}
 use Rattle.rebuild_core.specs.Opening.{processed}
 use Rattle.rebuild_core.specs.Payload.{without_alg}
 use Rattle.verifier_core.specs.Content.{Content, IsReadyToOpen}
-use Rattle.verifier_core.specs.Check.{OnFault, FailsAsCompact, IsContent, IsRead, OfToken, IsCounted, IsCountedWithin, IsReadWithin, IsUncounted, IsOpened, IsUnopened, IsSigned, IsSignedFault, IsPayloadFault, IsUnreadAt}
+use Rattle.verifier_core.specs.Check.{OnFault, IsContent, IsRead, OfToken, IsCounted, IsCountedWithin, IsOpening, IsVerdict, IsUncounted, IsOpened, judged_of, IsSigned, IsSignedFault, IsPayloadFault, IsUnreadAt}
 use Rattle.verifier_core.specs.Verdict.{Rules, TokenFails, Fails, HasHash, IsBindingMissing, IsChecked, Gives, rules_of}
 use Rattle.verifier_core.specs.declared.check.VerifyError.{VerifyError}
 use Rattle.verifier_core.specs.declared.policy.Policy.{Policy}
-use Rattle.verifier_core.proofs.CheckSteps.{on_fault, is_payload, signed_passes, signed_fault, payload_passes, payload_fault, given_passes, given_fault, unopened_fault, content_checked, passed_uncounted}
+use Rattle.verifier_core.proofs.CheckSteps.{on_fault, is_payload, signed_passes, signed_fault, payload_passes, payload_fault, given_passes, given_fault, content_fault, content_checked, passed_uncounted}
 use Rattle.verifier_core.proofs.Verdicts.{text_uncounted, token_lowest}
 
 -- ---- what is read
@@ -77,17 +79,27 @@ module _ (token : Token) (rules : Rules) (content : Content) (is : IsContent tok
   pub opened : (marked : Marked) → IsSound (without_alg content.body) content.given → marked ≡ processed (without_alg content.body) content.given → IsChecked token rules marked
   opened marked sound same = content_checked token rules (without_alg content.body) content.given marked is.has is.passes sound same
 
-  pub unopened : (e : VerifyError) → IsUnopened (without_alg content.body) content.given e → OnFault e (IsLowest (TokenFails token rules))
-  unopened e w = unopened_fault token rules (without_alg content.body) content.given e is.has is.passes w
-
-  pub content_counted : (old new : ℕ) → new ≡ counted old (look_ups (without_alg content.body) content.given) → IsCounted token old new
-  content_counted old new same = (without_alg content.body, content.given, is.has, same)
-
-  pub content_within : (old new : ℕ) → RoseWithin (look_ups (without_alg content.body) content.given) old new → IsCountedWithin token old new
-  content_within old new rose = inr (without_alg content.body, content.given, is.has, rose)
+  -- where it is processed, or not
+  pub opening : {A : Type 0} (r : Result A ProcessError) (old new : ℕ) → IfErr r (IsProcessRefused (without_alg content.body) content.given) → IfOk r (λ _. new ≡ counted old (look_ups (without_alg content.body) content.given))
+      → RoseWithin (look_ups (without_alg content.body) content.given) old new → IsOpening token rules (judged_of r) old new
+  opening (Ok shown) old new refused same rose = record {
+    refused = tt;
+    counted = (without_alg content.body, content.given, is.has, same);
+    within = inr (without_alg content.body, content.given, is.has, rose);
+  }
+  opening (Err error) old new refused same rose = record {
+    refused = content_fault token rules (without_alg content.body) content.given is.has is.passes error refused;
+    counted = tt;
+    within = inr (without_alg content.body, content.given, is.has, rose);
+  }
 
   pub content_uncounted : (old new : ℕ) → IsUncounted (TokenFails token rules) old new
   content_uncounted old new = passed_uncounted (TokenFails token rules) old new is.passes
+
+-- what is shown where it is processed
+pub judged_ok : {A : Type 0} (r : Result A ProcessError) (P Q R : A → Type 0) → ((shown : A) → P shown → Q shown → R shown) → IfOk r P → IfOk r Q → IfOk (judged_of r) R
+judged_ok (Ok shown) P Q R more p q = more shown p q
+judged_ok (Err error) P Q R more p q = tt
 
 -- what a model shows is what is read
 pub content_seen : (token : Token) (rules : Rules) (seen content : Content) → seen ≡ content → IsContent token rules content → IsContent token rules seen
@@ -108,17 +120,14 @@ module _ (text : List ℕ) (policy : Policy) (token : Token) (content : Content)
   pub open_refused : (now : ℕ) (e : VerifyError) → OfToken content (λ t rules. OnFault e (IsLowest (TokenFails t rules))) → OnFault e (IsLowest (Fails text policy now))
   open_refused now e h = token_refused text policy now token read.is_token read.sent e (h token (rules_of policy) read.is_content)
 
-  pub open_counted : (old new : ℕ) → OfToken content (λ t rules. IsCounted t old new) → (t : Token) × IsToken text t × IsCounted t old new
-  open_counted old new h = (token, read.is_token, h token (rules_of policy) read.is_content)
-
-  pub open_within : (old new : ℕ) → OfToken content (λ t rules. IsCountedWithin t old new) → IsReadWithin text old new
-  open_within old new h = inr (token, read.is_token, h token (rules_of policy) read.is_content)
-
-  pub open_uncounted : (now old new : ℕ) → IsUncounted (Fails text policy now) old new
-  open_uncounted now = read_uncounted text policy now token read.is_token read.sent content read.is_content
-
   pub is_opened : (marked : Marked) (hash : HashAlg) → IsChecked token (rules_of policy) marked → OfToken content (λ t rules. HasHash t hash) → IsOpened text policy token marked hash
   is_opened marked hash checked has = record { is_token = read.is_token; sent = read.sent; checked = checked; hash_is = has token (rules_of policy) read.is_content }
 
-  pub not_refused : FailsAsCompact text → ⊥
-  not_refused failed = read.is_token.passes failed.fault failed.fails
+  -- whatever is answered after it is opened
+  pub verdict_of : {A : Type 0} (now : ℕ) (r : Result A VerifyError) (old new : ℕ) → IfOk r (λ _. IsCounted token old new) → OfToken content (λ t rules. IsCountedWithin t old new) → IsVerdict text policy now r old new
+  verdict_of now r old new counted within = record {
+    no_memory = λ failed _. read.is_token.passes failed.fault failed.fails;
+    counted = IfOk-weaker r _ _ (λ _ h. (token, read.is_token, h)) counted;
+    within = inr (token, read.is_token, within token (rules_of policy) read.is_content);
+    uncounted = read_uncounted text policy now token read.is_token read.sent content read.is_content old new;
+  }

@@ -1,5 +1,5 @@
 -- Not needed to believe the program's promises: what the check of a token answers, and what its steps answer.
-use Rattle.std.specs.Prelude.{◌≡◌, ◌≤◌, ℕ, Bool, true, false, List, ◌∷◌, [], ◌++◌, take, slice_get, Some, None, ◌⊎◌}
+use Rattle.std.specs.Prelude.{◌≡◌, ◌≢◌, ◌≤◌, ℕ, Bool, true, false, List, ◌∷◌, [], ◌++◌, take, slice_get, Some, None, Result, Ok, Err, IfOk, IfErr, ◌⊎◌}
 use Rattle.std.specs.List.{AllZip}
 use Rattle.claim_tree.specs.Tree.{Text, Tree, Members, depth}
 use Rattle.compact_form.specs.declared.fault.Fault.{Fault}
@@ -20,14 +20,14 @@ use Rattle.compact_form.specs.Trim.{trimmed, is_json}
 use Rattle.marked_tree.specs.Marked.{Marked}
 use Rattle.rebuild_core.specs.LookUps.{look_ups, counted, RoseWithin}
 use Rattle.rebuild_core.specs.Payload.{without_alg}
-use Rattle.rebuild_core.specs.Answer.{IsProcessRefused}
 use Rattle.rebuild_core.specs.declared.errors.ProcessError.{ProcessError}
 use Rattle.compact_form.specs.declared.condition.Condition.{Condition}
 use Rattle.compact_form.specs.Condition.{number_of}
 use Rattle.compact_form.specs.Faults.{unplaced, placed}
+use Rattle.compact_form.specs.Lowest.{IsLowest}
 use Rattle.compact_form.specs.Passing.{Passes}
 use Rattle.verifier_core.specs.Content.{Content}
-use Rattle.verifier_core.specs.Verdict.{Rules, TokenFails, key_for, HasContent, HasHash, IsChecked, IsBindingMissing, rules_of, ClaimFails, HolderFails, IsAlgRefused, IsTypeRefused, IsBadSignature, IsNoDisclosure, Gives}
+use Rattle.verifier_core.specs.Verdict.{Rules, TokenFails, Fails, key_for, HasContent, HasHash, IsChecked, IsBindingMissing, rules_of, ClaimFails, HolderFails, IsAlgRefused, IsTypeRefused, IsBadSignature, IsNoDisclosure, Gives}
 use Rattle.verifier_core.specs.declared.check.VerifyError.{VerifyError}
 use Rattle.verifier_core.specs.declared.policy.Policy.{Policy}
 
@@ -67,6 +67,22 @@ IsReadWithin content old new = (new ≡ old) ⊎ ((token : Token) × IsToken con
 -- where one of the conditions 1 to 13 fails, nothing is looked up, whatever is answered
 abbrev pub IsUncounted : (Condition → Place → Type 0) → ℕ → ℕ → Type 0
 IsUncounted FailsSo old new = (c : Condition) (place : Place) → FailsSo c place → number_of c ≤ 13 → new ≡ old
+
+-- what an answer says where a token is opened, beside what is opened
+pub record IsOpening {A : Type 0} (token : Token) (rules : Rules) (result : Result A VerifyError) (old new : ℕ) : Type 0 where
+  pub refused : IfErr result (λ e. OnFault e (IsLowest (TokenFails token rules)))
+  -- the look-ups
+  pub counted : IfOk result (λ _. IsCounted token old new)
+  pub within : IsCountedWithin token old new
+
+-- what a verdict on a text says, beside what is accepted and what refused
+pub record IsVerdict {A : Type 0} (text : List ℕ) (policy : Policy) (now : ℕ) (result : Result A VerifyError) (old new : ℕ) : Type 0 where
+  -- a compact text is judged by the conditions 1 to 3 without memory
+  pub no_memory : FailsAsCompact text → result ≢ Err VerifyError.Memory
+  -- the look-ups
+  pub counted : IfOk result (λ _. (token : Token) × IsToken text token × IsCounted token old new)
+  pub within : IsReadWithin text old new
+  pub uncounted : IsUncounted (Fails text policy now) old new
 
 -- ---- for private functions
 
@@ -150,6 +166,7 @@ process_fault (ProcessError.ReservedName i) = VerifyError.Fault (placed Conditio
 process_fault (ProcessError.NameClash i) = VerifyError.Fault (placed Condition.NameClash i)
 process_fault ProcessError.TooDeep = VerifyError.Fault (unplaced Condition.TooDeep)
 
--- the answer for content that is not processed
-abbrev pub IsUnopened : Tree → List Given → VerifyError → Type 0
-IsUnopened payload given e = (error : ProcessError) × (e ≡ process_fault error) × IsProcessRefused payload given error
+-- the answer to what is processed, or not
+abbrev pub judged_of : {A : Type 0} → Result A ProcessError → Result A VerifyError
+judged_of (Ok shown) = Ok shown
+judged_of (Err error) = Err (process_fault error)

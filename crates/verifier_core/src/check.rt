@@ -33,24 +33,6 @@ pub struct Checked {
     pub hash: HashAlg,
 }
 
-/// The same, without the payload.
-#[derive(Debug, Drop)]
-pub struct CheckedMarks {
-    /// The processed payload, where each node that a disclosure shows has the number of the disclosure.
-    pub marked: Marked,
-    /// The algorithm of its digests.
-    pub hash: HashAlg,
-}
-
-/// The same, without the marks.
-#[derive(Debug, Drop)]
-pub struct CheckedPayload {
-    /// The processed payload.
-    pub payload: Tree,
-    /// The algorithm of its digests.
-    pub hash: HashAlg,
-}
-
 /// Why a token is not accepted.
 #[derive(Clone, Copy, Debug, PartialEq, Eq)]
 pub enum VerifyError {
@@ -99,8 +81,9 @@ fn check(
         Ok(content) => content,
         Err(error) => return Err(error),
     };
-    let CheckedMarks { marked, hash } = match content.open(alloc, steps) {
-        Ok(opened) => opened,
+    let hash = content.hash();
+    let marked = match content.open(alloc, steps) {
+        Ok(marked) => marked,
         Err(error) => return Err(error),
     };
     let payload = strip(alloc, &marked)?;

@@ -33,31 +33,37 @@ fn check_sent(alloc: Global, bound: Bound<'_>) -> Result<(), BoundError>
     check_bound(alloc, &mut JsonReader::new(alloc), bound)
 }
 
+// What is shown of a token that is opened: its processed payload, and the algorithm of its digests.
+#[derive(Clone, Copy)]
+pub(crate) struct Shown<'a, 'text> {
+    pub(crate) token: &'a TokenText<'text>,
+    pub(crate) payload: &'a Tree,
+    pub(crate) hash: HashAlg,
+}
+
 // The conditions 27 to 38, where a key binding token is asked for.
 fn check_holder(
     alloc: Global,
-    token: &TokenText<'_>,
-    payload: &Tree,
-    hash: HashAlg,
+    shown: Shown<'_, '_>,
     policy: &Policy,
     now: u64,
 ) -> Result<(), VerifyError>
-    ensures passes { OnOk result (NoneFails (HolderFails token.now.parts (tree_of payload.now) hash policy.now now)) }
-    ensures refused { IfErr result (λ e. OnFault e (IsLowest (HolderFails token.now.parts (tree_of payload.now) hash policy.now now))) }
+    ensures passes { OnOk result (NoneFails (HolderFails shown.entry.token.now.parts (tree_of shown.entry.payload.now) shown.entry.hash policy.now now)) }
+    ensures refused { IfErr result (λ e. OnFault e (IsLowest (HolderFails shown.entry.token.now.parts (tree_of shown.entry.payload.now) shown.entry.hash policy.now now))) }
 {
     let Some(binding) = &policy.binding else {
         return Ok(());
     };
-    let Some(sent) = token.view().binding() else {
+    let Some(sent) = shown.token.view().binding() else {
         return Ok(());
     };
     let bound = Bound {
         token: sent,
-        payload,
+        payload: shown.payload,
         policy: binding,
         skew: policy.skew,
-        hash,
-        hashed: token.hashed(),
+        hash: shown.hash,
+        hashed: shown.token.hashed(),
         now,
     };
     match check_sent(alloc, bound) {
@@ -70,19 +76,17 @@ fn check_holder(
 // The conditions 22 to 38 of a token that is opened, over its processed payload and its hash.
 pub(crate) fn check_shown(
     alloc: Global,
-    token: &TokenText<'_>,
-    payload: &Tree,
-    hash: HashAlg,
+    shown: Shown<'_, '_>,
     policy: &Policy,
     now: u64,
 ) -> Result<(), VerifyError>
-    ensures accepted { (text : List ℕ) (marked : Marked) → IsOpened text policy.now token.now marked hash → tree_of payload.now ≡ strip marked
-        → OnOk result (IsAccepted text policy.now now marked) }
-    ensures refused { (text : List ℕ) (marked : Marked) → IsOpened text policy.now token.now marked hash → tree_of payload.now ≡ strip marked
-        → IfErr result (λ e. OnFault e (IsLowest (Fails text policy.now now))) }
+    ensures accepted { (text : List ℕ) (marked : Marked) → IsOpened text policy.now shown.entry.token.now marked shown.entry.hash
+        → tree_of shown.entry.payload.now ≡ strip marked → OnOk result (IsAccepted text policy.now now marked) }
+    ensures refused { (text : List ℕ) (marked : Marked) → IsOpened text policy.now shown.entry.token.now marked shown.entry.hash
+        → tree_of shown.entry.payload.now ≡ strip marked → IfErr result (λ e. OnFault e (IsLowest (Fails text policy.now now))) }
 {
-    if let Err(fault) = check_claims(payload, policy, now) {
+    if let Err(fault) = check_claims(shown.payload, policy, now) {
         return Err(VerifyError::Fault(fault));
     }
-    check_holder(alloc, token, payload, hash, policy, now)
+    check_holder(alloc, shown, policy, now)
 }

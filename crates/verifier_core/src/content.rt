@@ -7,19 +7,20 @@ ghost use Rattle.marked_tree.specs.Marked.{strip as strip_of};
 ghost use Rattle.marked_tree.specs.View.{marked_of};
 ghost use Rattle.verifier_core.specs.Verdict.{TokenFails, IsChecked, HasHash};
 ghost use Rattle.verifier_core.specs.Verdicts.{IsCheckedAs};
-ghost use Rattle.verifier_core.specs.Check.{OnFault, IsContent, OfToken, IsCounted, IsCountedWithin, process_fault};
+ghost use Rattle.verifier_core.specs.Check.{OnFault, IsContent, OfToken, IsOpening, process_fault, judged_of};
 
 use crate::check::fails_at;
 use crate::check_given::read_given;
 use crate::check_payload::read_payload;
 use crate::check_signed::{check_signed, fails};
-use crate::{CheckedMarks, CheckedPayload, Rules, VerifyError};
+use crate::{Rules, VerifyError};
 use claim_tree::Tree;
 use compact_form::Condition;
 use digest_index::{Steps, seed_of};
 use digest_sites::GivenList;
 use disclosure::{DisclosureReader, HashAlg};
 use json_form::TokenView;
+use marked_tree::Marked;
 use rebuild_core::{ProcessError, process_payload, process_seeded};
 use std::alloc::Global;
 use std::marker::Model;
@@ -66,6 +67,16 @@ fn refusal(error: ProcessError) -> VerifyError
     }
 }
 
+// The answer to what is processed, or not.
+fn judged<T>(processed: Result<T, ProcessError>) -> Result<T, VerifyError>
+    ensures { result ≡ judged_of processed }
+{
+    match processed {
+        Ok(shown) => Ok(shown),
+        Err(error) => Err(refusal(error)),
+    }
+}
+
 impl Content {
     /// Judges a token by the conditions 5 to 13, RFC 9901 section 7.3, and reads what it says. The header, the
     /// signature, the payload and the disclosures are judged in this order, and the first condition that fails is
@@ -101,47 +112,28 @@ impl Content {
         })
     }
 
-    /// Judges what was read by the conditions 14 to 21, and answers the processed payload with its marks alone. `steps`
-    /// counts the look-ups of digests.
-    pub fn open(self, alloc: Global, steps: &mut Steps) -> Result<CheckedMarks, VerifyError>
-        ensures checked { OfToken self (λ token rules. IfOk result (λ c. IsChecked token rules (marked_of c.marked))) }
-        ensures shallow { IfOk result (λ c. depth (strip_of (marked_of c.marked)) ≤ 127) }
-        ensures hash { OfToken self (λ token rules. IfOk result (λ c. HasHash token c.hash)) }
-        ensures refused { OfToken self (λ token rules. IfErr result (λ e. OnFault e (IsLowest (TokenFails token rules)))) }
-
-        // the look-ups
-        ensures counted { OfToken self (λ token rules. IfOk result (λ _. IsCounted token steps.old steps.new)) }
-        ensures within { OfToken self (λ token rules. IsCountedWithin token steps.old steps.new) }
+    /// The algorithm of the token's digests.
+    pub fn hash(&self) -> HashAlg
+        ensures { OfToken self.now (λ token rules. HasHash token result) }
     {
-        match process_seeded(alloc, self.body, self.given, self.seed, steps) {
-            Ok(marked) => Ok(CheckedMarks {
-                marked,
-                hash: self.hash,
-            }),
-            Err(error) => Err(refusal(error)),
-        }
+        self.hash
     }
 
-    /// The same, for the processed payload alone. Neither copies what the issuer signed or what the disclosures give.
-    pub fn open_payload(
-        self,
-        alloc: Global,
-        steps: &mut Steps,
-    ) -> Result<CheckedPayload, VerifyError>
-        ensures checked { OfToken self (λ token rules. IfOk result (λ c. IsCheckedAs token rules (tree_of c.payload))) }
-        ensures hash { OfToken self (λ token rules. IfOk result (λ c. HasHash token c.hash)) }
-        ensures refused { OfToken self (λ token rules. IfErr result (λ e. OnFault e (IsLowest (TokenFails token rules)))) }
-
-        // the look-ups
-        ensures counted { OfToken self (λ token rules. IfOk result (λ _. IsCounted token steps.old steps.new)) }
-        ensures within { OfToken self (λ token rules. IsCountedWithin token steps.old steps.new) }
+    /// Judges what was read by the conditions 14 to 21, and answers the processed payload, where each node that a
+    /// disclosure shows has the number of the disclosure. `steps` counts the look-ups of digests.
+    pub fn open(self, alloc: Global, steps: &mut Steps) -> Result<Marked, VerifyError>
+        ensures checked { OfToken self (λ token rules. IfOk result (λ marked. IsChecked token rules (marked_of marked))) }
+        ensures shallow { IfOk result (λ marked. depth (strip_of (marked_of marked)) ≤ 127) }
+        ensures opened { OfToken self (λ token rules. IsOpening token rules result steps.old steps.new) }
     {
-        match process_payload(alloc, self.body, self.given, self.seed, steps) {
-            Ok(payload) => Ok(CheckedPayload {
-                payload,
-                hash: self.hash,
-            }),
-            Err(error) => Err(refusal(error)),
-        }
+        judged(process_seeded(alloc, self.body, self.given, self.seed, steps))
+    }
+
+    /// The same, without the marks. Neither copies what the issuer signed or what the disclosures give.
+    pub fn open_payload(self, alloc: Global, steps: &mut Steps) -> Result<Tree, VerifyError>
+        ensures checked { OfToken self (λ token rules. IfOk result (λ payload. IsCheckedAs token rules (tree_of payload))) }
+        ensures opened { OfToken self (λ token rules. IsOpening token rules result steps.old steps.new) }
+    {
+        judged(process_payload(alloc, self.body, self.given, self.seed, steps))
     }
 }

@@ -22,7 +22,7 @@ mod rules;
 mod verdict;
 
 pub use binding_file::AGE_MAX;
-pub use check::{Checked, CheckedMarks, CheckedPayload, VerifyError, check_token, check_view};
+pub use check::{Checked, VerifyError, check_token, check_view};
 pub use compact_form::fault_line;
 pub use content::Content;
 pub use policy::{Policy, SKEW_MAX, keys_member, read_policy};

@@ -1,19 +1,18 @@
 // The verdict on a token file under a policy.
 ghost use Rattle.std.specs.Prelude.{◌≡◌, ◌≢◌, ◌<◌, ◌-◌, ◌^◌, ℕ, false, List, length, OnOk, IfOk, IfErr};
 ghost use Rattle.claim_tree.specs.View.{tree_of};
-ghost use Rattle.marked_tree.specs.Marked.{strip as strip_of};
+ghost use Rattle.marked_tree.specs.Marked.{Marked as SeenMarked, strip as strip_of};
 ghost use Rattle.marked_tree.specs.View.{marked_of};
-ghost use Rattle.json_form.specs.declared.token.Token.{Token as SeenToken};
 ghost use Rattle.json_form.specs.Token.{IsToken, IsTextRefused};
-ghost use Rattle.verifier_core.specs.Verdict.{Fails, IsAccepted, IsBindingMissing, rules_of};
+ghost use Rattle.verifier_core.specs.Verdict.{Fails, IsAccepted, IsChecked, IsBindingMissing, rules_of};
 ghost use Rattle.verifier_core.specs.Verdicts.{IsAcceptedAs};
 ghost use Rattle.compact_form.specs.Lowest.{IsLowest};
 ghost use Rattle.compact_form.specs.Trim.{trimmed, is_json as is_json_test};
-ghost use Rattle.verifier_core.specs.Check.{OnFault, FailsAsCompact, IsContent, IsRead, IsCounted, IsReadWithin, IsUncounted};
+ghost use Rattle.verifier_core.specs.Check.{OnFault, FailsAsCompact, IsContent, OfToken, IsRead, IsOpening, IsVerdict};
 
-use crate::check_shown::{check_shown, is_binding_missing};
+use crate::check_shown::{Shown, check_shown, is_binding_missing};
 use crate::check_signed::fails;
-use crate::{CheckedMarks, CheckedPayload, Content, Policy, VerifyError};
+use crate::{Content, Policy, VerifyError};
 use claim_tree::Tree;
 use compact_form::Condition;
 use digest_index::Steps;
@@ -81,6 +80,84 @@ fn read<'a>(
     }
 }
 
+// What a token is opened to: its processed payload, with its marks or alone.
+trait Opened: Drop {
+    // Whether it shows the processed payload that has these marks.
+    ghost Shows: { Self → SeenMarked → Type 0 };
+
+    // Judges what was read by the conditions 14 to 21.
+    fn open(content: Content, alloc: Global, steps: &mut Steps) -> Result<Self, VerifyError>
+        ensures checked { OfToken content (λ token rules. IfOk result (λ opened. (marked : SeenMarked) × IsChecked token rules marked × Shows opened marked)) }
+        ensures opened { OfToken content (λ token rules. IsOpening token rules result steps.old steps.new) };
+
+    // The processed payload.
+    fn payload(&self) -> &Tree
+        ensures { (marked : SeenMarked) → Shows self.now marked → tree_of result.now ≡ strip_of marked };
+}
+
+impl Opened for Accepted {
+    ghost Shows = { λ accepted marked. (marked_of accepted.marked ≡ marked) × (tree_of accepted.payload ≡ strip_of marked) };
+
+    fn open(content: Content, alloc: Global, steps: &mut Steps) -> Result<Accepted, VerifyError> {
+        let marked = match content.open(alloc, steps) {
+            Ok(marked) => marked,
+            Err(error) => return Err(error),
+        };
+        match strip(alloc, &marked) {
+            Ok(payload) => Ok(Accepted { payload, marked }),
+            Err(_) => Err(VerifyError::Memory),
+        }
+    }
+
+    fn payload(&self) -> &Tree {
+        &self.payload
+    }
+}
+
+impl Opened for Tree {
+    ghost Shows = { λ payload marked. tree_of payload ≡ strip_of marked };
+
+    fn open(content: Content, alloc: Global, steps: &mut Steps) -> Result<Tree, VerifyError> {
+        content.open_payload(alloc, steps)
+    }
+
+    fn payload(&self) -> &Tree {
+        self
+    }
+}
+
+// The verdict on a token file, with what the token is opened to.
+fn judge<T: Opened>(
+    alloc: Global,
+    text: &[u8],
+    policy: &Policy,
+    now: u64,
+    steps: &mut Steps,
+) -> Result<T, VerifyError>
+    ensures accepted { IfOk result (λ opened. (marked : SeenMarked) × IsAccepted text.now policy.now now marked × T.Shows opened marked) }
+    ensures refused { IfErr result (λ e. OnFault e (IsLowest (Fails text.now policy.now now))) }
+    ensures verdict { IsVerdict text.now policy.now now result steps.old steps.new }
+{
+    let (token, content) = match read(alloc, text, policy) {
+        Ok(read) => read,
+        Err(error) => return Err(error),
+    };
+    let hash = content.hash();
+    let opened = match T::open(content, alloc, steps) {
+        Ok(opened) => opened,
+        Err(error) => return Err(error),
+    };
+    let shown = Shown {
+        token: &token,
+        payload: opened.payload(),
+        hash,
+    };
+    if let Err(error) = check_shown(alloc, shown, policy, now) {
+        return Err(error);
+    }
+    Ok(opened)
+}
+
 /// Verifies a token as it comes from a file, RFC 9901 section 7.3, at a moment in seconds since 1970. The token is in
 /// the compact serialization or, where its text begins with `{`, in a JSON one (section 8).
 ///
@@ -97,28 +174,9 @@ pub fn verify(
     ensures accepted { IfOk result (λ a. IsAccepted text.now policy.now now (marked_of a.marked)) }
     ensures payload { IfOk result (λ a. tree_of a.payload ≡ strip_of (marked_of a.marked)) }
     ensures refused { IfErr result (λ e. OnFault e (IsLowest (Fails text.now policy.now now))) }
-
-    // a compact text is judged by the conditions 1 to 3 without memory
-    ensures no_memory { FailsAsCompact text.now → result ≢ Err VerifyError.Memory }
-
-    // the look-ups
-    ensures counted { IfOk result (λ _. (token : SeenToken) × IsToken text.now token × IsCounted token steps.old steps.new) }
-    ensures within { IsReadWithin text.now steps.old steps.new }
-    ensures uncounted { IsUncounted (Fails text.now policy.now now) steps.old steps.new }
+    ensures verdict { IsVerdict text.now policy.now now result steps.old steps.new }
 {
-    let (token, content) = match read(alloc, text, policy) {
-        Ok(read) => read,
-        Err(error) => return Err(error),
-    };
-    let CheckedMarks { marked, hash } = match content.open(alloc, steps) {
-        Ok(opened) => opened,
-        Err(error) => return Err(error),
-    };
-    let payload = strip(alloc, &marked)?;
-    if let Err(error) = check_shown(alloc, &token, &payload, hash, policy, now) {
-        return Err(error);
-    }
-    Ok(Accepted { payload, marked })
+    judge(alloc, text, policy, now, steps)
 }
 
 /// The same, for who needs no marks: the processed payload alone.
@@ -131,25 +189,7 @@ pub fn verify_payload(
 ) -> Result<Tree, VerifyError>
     ensures accepted { IfOk result (λ payload. IsAcceptedAs text.now policy.now now (tree_of payload)) }
     ensures refused { IfErr result (λ e. OnFault e (IsLowest (Fails text.now policy.now now))) }
-
-    // a compact text is judged by the conditions 1 to 3 without memory
-    ensures no_memory { FailsAsCompact text.now → result ≢ Err VerifyError.Memory }
-
-    // the look-ups
-    ensures counted { IfOk result (λ _. (token : SeenToken) × IsToken text.now token × IsCounted token steps.old steps.new) }
-    ensures within { IsReadWithin text.now steps.old steps.new }
-    ensures uncounted { IsUncounted (Fails text.now policy.now now) steps.old steps.new }
+    ensures verdict { IsVerdict text.now policy.now now result steps.old steps.new }
 {
-    let (token, content) = match read(alloc, text, policy) {
-        Ok(read) => read,
-        Err(error) => return Err(error),
-    };
-    let CheckedPayload { payload, hash } = match content.open_payload(alloc, steps) {
-        Ok(opened) => opened,
-        Err(error) => return Err(error),
-    };
-    if let Err(error) = check_shown(alloc, &token, &payload, hash, policy, now) {
-        return Err(error);
-    }
-    Ok(payload)
+    judge(alloc, text, policy, now, steps)
 }

@@ -169,7 +169,7 @@ fn open_held(
         Err(_) => return Ok(None),
     };
     match content.open(alloc, steps) {
-        Ok(opened) => Ok(Some(opened.marked)),
+        Ok(marked) => Ok(Some(marked)),
         Err(VerifyError::Memory) => Err(NoMemory),
         Err(VerifyError::Fault(_)) => Ok(None),
     }

@@ -10,7 +10,7 @@ use Rattle.sdjwt_cli.proofs.summary.verify_presented.Goals as goal
 pub returns-in-Ok : goal.returns-in-Ok
 returns-in-Ok c =
     let text : c.as_bytes.result.now ≡ compact c.args.presented.now = c.as_bytes.ensures.value ∙ c.as_str.ensures ∙ c.in_ok-token.ensures.spelling in
-    let counted = c.in-Ok.ensures.counted in
+    let counted = c.in-Ok.ensures.verdict.counted in
     is_verified c.args.presented.now c.requires.acceptable c.as_bytes.result.now text c.in_ok-policy.policy c.in_ok-policy.ensures c.in-Ok.claims c.in-Ok.ensures.accepted
     c.new-steps.result c.verify_payload.new.steps c.count.result c.new-steps.ensures c.count.ensures counted.0 counted.1 counted.2
 

@@ -16,12 +16,12 @@ use Rattle.verifier_core.proofs.check_shown.check_holder.Goals as goal
 
 pub returns-in-Err-Fails-clause-refused : goal.returns-in-Err-Fails-clause-refused
 returns-in-Err-Fails-clause-refused c =
-    let parts = c.args.token.now.parts in
-    let payload = tree_of c.args.payload.now in
+    let parts = c.args.shown.token.now.parts in
+    let payload = tree_of c.args.shown.payload.now in
     let policy = c.args.policy.now in
     let token = jwt_of c.in-Some-binding.sent in
     let fault = unplaced c.in-Err-Fails.condition in
-    let told = subst (λ e. OnBoundFails e (IsLowestBinding (judged token payload c.in-Some.binding policy.skew c.args.hash c.hashed.result.now c.args.now))) c.in-Err-Fails.field-0-is c.in-Err-Fails.ensures.refused in
-    let lowest = subst (λ (text : Text). IsLowest (BindingFails (judged token payload c.in-Some.binding policy.skew c.args.hash text c.args.now)) fault) c.hashed.ensures told in
-    subst (λ e. OnFault e (IsLowest (HolderFails parts payload c.args.hash policy c.args.now))) (sym c.fails.ensures)
-    (holder_lowest parts payload c.args.hash policy c.args.now c.in-Some.binding token c.in-Some.is (sym (c.binding.ensures ∙ ap (λ (t : Token). t.parts.binding) c.view.ensures) ∙ ap (option_map jwt_of) c.in-Some-binding.is) fault lowest)
+    let told = subst (λ e. OnBoundFails e (IsLowestBinding (judged token payload c.in-Some.binding policy.skew c.args.shown.hash c.hashed.result.now c.args.now))) c.in-Err-Fails.field-0-is c.in-Err-Fails.ensures.refused in
+    let lowest = subst (λ (text : Text). IsLowest (BindingFails (judged token payload c.in-Some.binding policy.skew c.args.shown.hash text c.args.now)) fault) c.hashed.ensures told in
+    subst (λ e. OnFault e (IsLowest (HolderFails parts payload c.args.shown.hash policy c.args.now))) (sym c.fails.ensures)
+    (holder_lowest parts payload c.args.shown.hash policy c.args.now c.in-Some.binding token c.in-Some.is (sym (c.binding.ensures ∙ ap (λ (t : Token). t.parts.binding) c.view.ensures) ∙ ap (option_map jwt_of) c.in-Some-binding.is) fault lowest)

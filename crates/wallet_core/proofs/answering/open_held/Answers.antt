@@ -10,16 +10,16 @@ pub returns-in-Ok-open-clause-checked : goal.returns-in-Ok-open-clause-checked
 returns-in-Ok-open-clause-checked c = c.in-Ok-open.ensures.checked c.args.token.now (held_rules c.args.keys.now) c.in-Ok.ensures.content
 
 pub returns-in-Ok-open-clause-within : goal.returns-in-Ok-open-clause-within
-returns-in-Ok-open-clause-within c = c.open.ensures.within c.args.token.now (held_rules c.args.keys.now) c.in-Ok.ensures.content
+returns-in-Ok-open-clause-within c = (c.open.ensures.opened c.args.token.now (held_rules c.args.keys.now) c.in-Ok.ensures.content).within
 
 pub returns-in-Err-Memory-open-clause-within : goal.returns-in-Err-Memory-open-clause-within
-returns-in-Err-Memory-open-clause-within c = c.open.ensures.within c.args.token.now (held_rules c.args.keys.now) c.in-Ok.ensures.content
+returns-in-Err-Memory-open-clause-within c = (c.open.ensures.opened c.args.token.now (held_rules c.args.keys.now) c.in-Ok.ensures.content).within
 
 pub returns-in-Err-Fault-clause-none : goal.returns-in-Err-Fault-clause-none
 returns-in-Err-Fault-clause-none c marked checked =
     let rules = held_rules c.args.keys.now in
-    let low = subst (λ e. OnFault e (IsLowest (TokenFails c.args.token.now rules))) c.in-Err-Fault.field-0-is (c.in-Err-Fault.ensures.refused c.args.token.now rules c.in-Ok.ensures.content) in
+    let low = subst (λ e. OnFault e (IsLowest (TokenFails c.args.token.now rules))) c.in-Err-Fault.field-0-is (c.in-Err-Fault.ensures.opened c.args.token.now rules c.in-Ok.ensures.content).refused in
     checked.passes (failed_of c.in-Err-Fault.field-0-0) c.in-Err-Fault.field-0-0.place low.fails
 
 pub returns-in-Err-Fault-clause-within : goal.returns-in-Err-Fault-clause-within
-returns-in-Err-Fault-clause-within c = c.open.ensures.within c.args.token.now (held_rules c.args.keys.now) c.in-Ok.ensures.content
+returns-in-Err-Fault-clause-within c = (c.open.ensures.opened c.args.token.now (held_rules c.args.keys.now) c.in-Ok.ensures.content).within

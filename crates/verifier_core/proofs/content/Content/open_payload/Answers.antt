@@ -1,19 +1,11 @@
 use Rattle.std.proofs.Common.{refl}
-use Rattle.verifier_core.proofs.Contents.{content_seen, opened, unopened, content_counted, content_within}
+use Rattle.verifier_core.proofs.Contents.{content_seen, opened, opening, judged_ok}
 use Rattle.verifier_core.proofs.content.Content.open_payload.Goals as goal
 
-pub returns-in-Ok-clause-checked : goal.returns-in-Ok-clause-checked
-returns-in-Ok-clause-checked c token rules is = (_, opened token rules _ (content_seen token rules _ _ c.self.view_is is) _ c.in-Ok.ensures.sound refl, c.in-Ok.ensures.processed)
+pub returns-clause-checked : goal.returns-clause-checked
+returns-clause-checked c token rules is =
+    rw c.judged.ensures (judged_ok c.process_payload.result _ _ _ (λ payload sound same. (_, opened token rules _ (content_seen token rules _ _ c.self.view_is is) _ sound refl, same)) c.process_payload.ensures.sound c.process_payload.ensures.processed)
 
-pub returns-in-Ok-clause-hash : goal.returns-in-Ok-clause-hash
-returns-in-Ok-clause-hash c token rules is = (content_seen token rules _ _ c.self.view_is is).hash
-
-pub returns-in-Ok-clause-counted : goal.returns-in-Ok-clause-counted
-returns-in-Ok-clause-counted c token rules is = content_counted token rules _ (content_seen token rules _ _ c.self.view_is is) _ _ c.in-Ok.ensures.counted
-
-pub returns-in-Ok-clause-within : goal.returns-in-Ok-clause-within
-returns-in-Ok-clause-within c token rules is = content_within token rules _ (content_seen token rules _ _ c.self.view_is is) _ _ c.process_payload.ensures.risen
-
-pub returns-in-Err-clause-refused : goal.returns-in-Err-clause-refused
-returns-in-Err-clause-refused c token rules is =
-    unopened token rules _ (content_seen token rules _ _ c.self.view_is is) _ (c.in-Err.error, c.refusal.ensures, c.in-Err.ensures.refused)
+pub returns-clause-opened : goal.returns-clause-opened
+returns-clause-opened c token rules is =
+    rw c.judged.ensures (opening token rules _ (content_seen token rules _ _ c.self.view_is is) c.process_payload.result _ _ c.process_payload.ensures.refused c.process_payload.ensures.counted c.process_payload.ensures.risen)
