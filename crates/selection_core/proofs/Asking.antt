@@ -48,7 +48,7 @@ module _ {F : Type 0} (answers : RuleAnswers F) (rule : F) (s : ℕ → Bool) wh
       subst (λ (ys : List SeenMark). IsAskedThrough ys all before now) e through after (asked_append xs rest now next after asked then)
 
   -- one with nothing of the set
-  asked_skipped : (own : Option ℕ) (at : Path) (ss : List Spot) (now : Option ℕ) → ((i : ℕ) → own ≡ Some i → s i ≡ false) → ss ≡ [] → IsAskedOnWalk answers rule s (own_seen own at ++ seen_from at ss) now now
+  pub asked_skipped : (own : Option ℕ) (at : Path) (ss : List Spot) (now : Option ℕ) → ((i : ℕ) → own ≡ Some i → s i ≡ false) → ss ≡ [] → IsAskedOnWalk answers rule s (own_seen own at ++ seen_from at ss) now now
   asked_skipped own at ss now none e = asked_unkept (own_seen own at ++ seen_from at ss) now (λ x m. go x (In-append x (own_seen own at) (seen_from at ss) m))
     where
       own_none : (o : Option ℕ) → own ≡ o → (x : SeenMark) → In x (own_seen o at) → s x.0 ≡ false
@@ -61,19 +61,11 @@ module _ {F : Type 0} (answers : RuleAnswers F) (rule : F) (s : ℕ → Bool) wh
       go x (inr m) = let n : In x [] = subst (λ (zs : List Spot). In x (seen_from at zs)) e m in elim n [ ]
 
   -- the next node of a list was asked for at its place
-  pub node_asked : (at l : Path) (step k : Text) (own : Option ℕ) (ss : List Spot) (seen rest all : List SeenMark) (before now next after : Option ℕ) → seen ≡ (own_seen own (at ++ step ∷ []) ++ seen_from (at ++ step ∷ []) ss) ++ rest
-      → IsAskedThrough seen all before now → l ≡ at → k ≡ step → IsAskedOnWalk answers rule s (own_seen own (l ++ k ∷ []) ++ seen_from (l ++ k ∷ []) ss) now next → after ≡ next → IsAskedThrough rest all before after
-  node_asked at l step k own ss seen rest all before now next after e through there same asked is =
-      subst (λ (o : Option ℕ). IsAskedThrough rest all before o) (sym is)
-      (through_next seen (own_seen own (at ++ step ∷ []) ++ seen_from (at ++ step ∷ []) ss) rest all before now next e through
-      (subst (λ (p : Path). IsAskedOnWalk answers rule s (own_seen own p ++ seen_from p ss) now next) (ap₂ (λ (p : Path) (w : Text). p ++ w ∷ []) there same) asked))
-
-  -- the next node of a list has nothing of the set
-  pub node_skipped : (at : Path) (step : Text) (own : Option ℕ) (ss : List Spot) (seen rest all : List SeenMark) (before now after : Option ℕ) → seen ≡ (own_seen own (at ++ step ∷ []) ++ seen_from (at ++ step ∷ []) ss) ++ rest
-      → IsAskedThrough seen all before now → ((i : ℕ) → own ≡ Some i → s i ≡ false) → ss ≡ [] → after ≡ now → IsAskedThrough rest all before after
-  node_skipped at step own ss seen rest all before now after e through none empty is =
-      subst (λ (o : Option ℕ). IsAskedThrough rest all before o) (sym is)
-      (through_next seen (own_seen own (at ++ step ∷ []) ++ seen_from (at ++ step ∷ []) ss) rest all before now now e through (asked_skipped own (at ++ step ∷ []) ss now none empty))
+  pub node_asked : (at l : Path) (step k : Text) (own : Option ℕ) (ss : List Spot) (seen rest all : List SeenMark) (before now next : Option ℕ) → seen ≡ (own_seen own (at ++ step ∷ []) ++ seen_from (at ++ step ∷ []) ss) ++ rest
+      → IsAskedThrough seen all before now → l ≡ at → k ≡ step → IsAskedOnWalk answers rule s (own_seen own (l ++ k ∷ []) ++ seen_from (l ++ k ∷ []) ss) now next → IsAskedThrough rest all before next
+  node_asked at l step k own ss seen rest all before now next e through there same asked =
+      through_next seen (own_seen own (at ++ step ∷ []) ++ seen_from (at ++ step ∷ []) ss) rest all before now next e through
+      (subst (λ (p : Path). IsAskedOnWalk answers rule s (own_seen own p ++ seen_from p ss) now next) (ap₂ (λ (p : Path) (w : Text). p ++ w ∷ []) there same) asked)
 
   pub asked_refused : (i : ℕ) (at : Path) (now : Option ℕ) → s i ≡ true → is_below i now ≡ true → Allows answers rule at false → IsAskedOnWalk answers rule s (own_seen (Some i) at) now (Some i)
   asked_refused i at now kept below hidden = record {

@@ -86,10 +86,8 @@ impl<'a, F: Fn(&Path) -> bool> Asking<'a, F> {
     {
         for (i, element) in list.elements().iter().enumerate() {
             let (mark, tree) = element;
-            if may_hold(*mark, tree, self.chosen) {
-                let mut digits = Buffer::new();
-                self.ask_node(digits.format(i), *mark, tree, walk)?;
-            }
+            let mut digits = Buffer::new();
+            self.ask_node(digits.format(i), *mark, tree, walk)?;
         }
         Ok(())
     }
@@ -103,14 +101,12 @@ impl<'a, F: Fn(&Path) -> bool> Asking<'a, F> {
         ensures at { OnOk result (walk.new.at ≡ walk.old.at) }
     {
         for (name, mark, tree) in map.members() {
-            if may_hold(*mark, tree, self.chosen) {
-                self.ask_node(name.as_str(), *mark, tree, walk)?;
-            }
+            self.ask_node(name.as_str(), *mark, tree, walk)?;
         }
         Ok(())
     }
 
-    // Asks for a node that stands one step further, and for the places inside it.
+    // Asks for a node that stands one step further, and for the places inside it, where one of them may be chosen.
     #[cycle(ask)]
     fn ask_node(
         &self,
@@ -124,6 +120,9 @@ impl<'a, F: Fn(&Path) -> bool> Asking<'a, F> {
         ensures asked { OnOk result (AsksOnWalk F.Fn self.now (own_seen mark (walk.old.at ++ step.now ∷ []) ++ seen_from (walk.old.at ++ step.now ∷ []) (spots (marked_of tree.now))) walk.old walk.new) }
         ensures at { OnOk result (walk.new.at ≡ walk.old.at) }
     {
+        if !may_hold(mark, tree, self.chosen) {
+            return Ok(());
+        }
         walk.at.push(step)?;
         self.ask(mark, walk);
         self.ask_inside(tree, walk)?;

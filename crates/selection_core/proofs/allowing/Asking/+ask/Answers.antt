@@ -1,28 +1,19 @@
-use Rattle.std.proofs.Common.{◌++◌, List, ◌∙◌, ap, subst}
+use Rattle.std.proofs.Common.{◌++◌, ◌∷◌, [], List, ◌∙◌, subst}
 use Rattle.std.proofs.lemmas.List.{drop_all}
 use Rattle.marked_tree.specs.Numbers.{has}
 use Rattle.marked_tree.specs.Paths.{Path, spots, elements_spots, members_spots}
 use Rattle.marked_tree.specs.View.{marked_of, marked_elements_of, marked_members_of}
 use Rattle.marked_tree.proofs.MarkedViews.{Element, Entry}
 use Rattle.selection_core.specs.Asked.{own_seen, seen_from, IsAskedOnWalk}
-use Rattle.selection_core.specs.declared.allowing.Walk.{Walk}
-use Rattle.selection_core.proofs.Asking.{IsAskedThrough, asked_none, asked_append, node_asked, node_skipped, element_seen, member_seen, popped}
-use Rattle.selection_core.proofs.allowing.Asking.+ask.Goals.{ask_elements-then-may_hold+in_ok-ask_node, ask_elements-else-may_hold, ask_members-then-may_hold+in_ok-ask_node, ask_members-else-may_hold}
+use Rattle.selection_core.proofs.Asking.{IsAskedThrough, asked_none, asked_append, node_asked, asked_skipped, element_seen, member_seen, popped}
 use Rattle.selection_core.proofs.allowing.Asking.+ask.Goals as goal
 
 pub ask_elements-loop-i-preserved : goal.ask_elements-loop-i-preserved
 ask_elements-loop-i-preserved g t c =
-    let seen = element_seen c.args.walk.now.at c.loop-i.i c.elements-element-items.result.now c.element-item.result c.loop-i-test.true c.element-item.is in
-    elim c.if-may_hold.branch [
-      | ask_elements-then-may_hold+in_ok-ask_node w ↦ (
-        ap (λ (x : Walk). x.at) w.walk-is ∙ w.in_ok-ask_node.ensures.at ∙ c.loop-i.invariant.0,
-        node_asked g.F.Fn c.args.self.now.consent.now (has c.args.self.now.chosen.now) _ _ _ _ _ _ _ _ _ _ _ _ _ seen c.loop-i.invariant.1 c.loop-i.invariant.0 w.format.ensures.text w.in_ok-ask_node.ensures.asked (ap (λ (x : Walk). x.refused) w.walk-is),
-      )
-      | ask_elements-else-may_hold w ↦ (
-        ap (λ (x : Walk). x.at) w.walk-is ∙ c.loop-i.invariant.0,
-        node_skipped g.F.Fn c.args.self.now.consent.now (has c.args.self.now.chosen.now) _ _ _ _ _ _ _ _ _ _ seen c.loop-i.invariant.1 (c.may_hold.ensures.own w.if-may_hold.false) (c.may_hold.ensures.inside w.if-may_hold.false) (ap (λ (x : Walk). x.refused) w.walk-is),
-      )
-    ]
+    let seen = element_seen c.args.walk.now.at c.loop-i.i c.elements-element-items.result.now c.element-item.result c.loop-i-test.true c.element-item.is in (
+      c.in_ok-ask_node.ensures.at ∙ c.loop-i.invariant.0,
+      node_asked g.F.Fn c.args.self.now.consent.now (has c.args.self.now.chosen.now) _ _ _ _ _ _ _ _ _ _ _ _ seen c.loop-i.invariant.1 c.loop-i.invariant.0 c.format.ensures.text c.in_ok-ask_node.ensures.asked,
+    )
 
 pub ask_elements-returns-clause-asked : goal.ask_elements-returns-clause-asked
 ask_elements-returns-clause-asked g t c =
@@ -34,17 +25,10 @@ ask_elements-returns-clause-asked g t c =
 
 pub ask_members-loop-name-preserved : goal.ask_members-loop-name-preserved
 ask_members-loop-name-preserved g t c =
-    let seen = member_seen c.args.walk.now.at c.loop-name.name-index c.members-name-items.result.now c.loop-name-item.result c.loop-name-test.true c.loop-name-item.is in
-    elim c.if-may_hold.branch [
-      | ask_members-then-may_hold+in_ok-ask_node w ↦ (
-        ap (λ (x : Walk). x.at) w.walk-is ∙ w.in_ok-ask_node.ensures.at ∙ c.loop-name.invariant.0,
-        node_asked g.F.Fn c.args.self.now.consent.now (has c.args.self.now.chosen.now) _ _ _ _ _ _ _ _ _ _ _ _ _ seen c.loop-name.invariant.1 c.loop-name.invariant.0 w.as_str.ensures w.in_ok-ask_node.ensures.asked (ap (λ (x : Walk). x.refused) w.walk-is),
-      )
-      | ask_members-else-may_hold w ↦ (
-        ap (λ (x : Walk). x.at) w.walk-is ∙ c.loop-name.invariant.0,
-        node_skipped g.F.Fn c.args.self.now.consent.now (has c.args.self.now.chosen.now) _ _ _ _ _ _ _ _ _ _ seen c.loop-name.invariant.1 (c.may_hold.ensures.own w.if-may_hold.false) (c.may_hold.ensures.inside w.if-may_hold.false) (ap (λ (x : Walk). x.refused) w.walk-is),
-      )
-    ]
+    let seen = member_seen c.args.walk.now.at c.loop-name.name-index c.members-name-items.result.now c.loop-name-item.result c.loop-name-test.true c.loop-name-item.is in (
+      c.in_ok-ask_node.ensures.at ∙ c.loop-name.invariant.0,
+      node_asked g.F.Fn c.args.self.now.consent.now (has c.args.self.now.chosen.now) _ _ _ _ _ _ _ _ _ _ _ _ seen c.loop-name.invariant.1 c.loop-name.invariant.0 c.as_str.ensures c.in_ok-ask_node.ensures.asked,
+    )
 
 pub ask_members-returns-clause-asked : goal.ask_members-returns-clause-asked
 ask_members-returns-clause-asked g t c =
@@ -53,6 +37,10 @@ ask_members-returns-clause-asked g t c =
     (drop_all c.loop-name.name-index ms c.loop-name-test.false) c.loop-name.invariant.1 in
     subst (λ us. IsAskedOnWalk g.F.Fn c.args.self.now.consent.now (has c.args.self.now.chosen.now) (seen_from c.args.walk.now.at (members_spots us)) c.args.walk.now.refused c.loop-name.walk.refused) c.members-name-items.ensures.value
     (done c.loop-name.walk.refused (asked_none g.F.Fn c.args.self.now.consent.now (has c.args.self.now.chosen.now) c.loop-name.walk.refused))
+
+pub ask_node-returns-then-not-may_hold-clause-asked : goal.ask_node-returns-then-not-may_hold-clause-asked
+ask_node-returns-then-not-may_hold-clause-asked g t c =
+    asked_skipped g.F.Fn c.args.self.now.consent.now (has c.args.self.now.chosen.now) c.args.mark (c.args.walk.now.at ++ c.args.step.now ∷ []) (spots (marked_of c.args.tree.now)) c.args.walk.now.refused (c.may_hold.ensures.own c.if-not-may_hold.true) (c.may_hold.ensures.inside c.if-not-may_hold.true)
 
 pub ask_node-returns-clause-asked : goal.ask_node-returns-clause-asked
 ask_node-returns-clause-asked g t c =
