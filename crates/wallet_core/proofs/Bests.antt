@@ -19,7 +19,7 @@ use Rattle.verifier_core.specs.Verdict.{Opens, Rules, IsChecked}
 use Rattle.verifier_core.proofs.Verdicts.{one_opening}
 use Rattle.wallet_core.specs.Meets.{Meets, CantFail}
 use Rattle.wallet_core.specs.WalletCalls.{MayMeet}
-use Rattle.wallet_core.specs.Picked.{IsPicked, IsFewest, HasNoAnswer, sent}
+use Rattle.wallet_core.specs.Picked.{IsPicked, OfUsable, sent}
 use Rattle.wallet_core.specs.Usable.{IsUsable}
 use Rattle.wallet_core.specs.WalletSteps.{choice_of, IsSent, IsPassedOver, IsUnanswered, IsTold, IsToldOf, IsBetter, IsBest}
 use Rattle.wallet_core.specs.declared.answering.Picked.{Picked}
@@ -40,6 +40,24 @@ last_or xs x j y h = go (At-either xs (x ∷ []) j y h)
 pub one_more : (xs : List Text) (k : ℕ) (x : Text) → k < length xs → x ≡ get_or xs k x → take (k + 1) xs ≡ take k xs ++ x ∷ []
 one_more xs k x within is = rw add-one (take-suc xs k x within) ∙ ap (λ (y : Text). take k xs ++ y ∷ []) (sym is)
 
+-- no set that can't fail has fewer disclosures than the choice, and none of a credential before it as many
+abbrev IsFew : Picked → ℕ → Token → (ℕ → Bool) → Type 0
+IsFew choice j token s = (length choice.parts.disclosures ≤ sent s token) × (sent s token ≡ length choice.parts.disclosures → choice.index ≤ j)
+
+-- what is picked from a list is so from another that has the credential at the same place, and where all such sets are such as well
+picked_too : (IsSuch IsOther : Marked → Query → (ℕ → Bool) → Type 0) (held more : List Text) (query : Query) (choice : Picked) → ((content : Text) → StandsAt held choice.index content → StandsAt more choice.index content)
+    → ((marked : Marked) (s : ℕ → Bool) → IsSuch marked query s → IsOther marked query s) → IsPicked IsSuch held query choice → IsPicked IsOther more query choice
+picked_too IsSuch IsOther held more query choice there also is = record {
+  content = is.content;
+  stands = there is.content is.stands;
+  token = is.token;
+  marked = is.marked;
+  usable = is.usable;
+  s = is.s;
+  such = also is.marked is.s is.such;
+  presents = is.presents;
+}
+
 module _ {F : Type 0} (answers : RuleAnswers F) (rule : F) (query : Query) where
   -- no set of a text that can't fail has fewer disclosures than what is sent
   fewest_of : (content : Text) (parts : Parts) → IsSent answers rule query content parts → (token : Token) (marked : Marked) (s : ℕ → Bool)
@@ -55,16 +73,7 @@ module _ {F : Type 0} (answers : RuleAnswers F) (rule : F) (query : Query) where
   module _ (xs : List Text) (x : Text) where
     -- what was picked is so among more
     kept_picked : (choice : Picked) → IsPicked (MayMeet answers rule) xs query choice → IsPicked (MayMeet answers rule) (xs ++ x ∷ []) query choice
-    kept_picked choice is = record {
-      content = is.content;
-      stands = At-left xs (x ∷ []) choice.index is.content is.stands;
-      token = is.token;
-      marked = is.marked;
-      usable = is.usable;
-      s = is.s;
-      such = is.such;
-      presents = is.presents;
-    }
+    kept_picked choice is = picked_too (MayMeet answers rule) (MayMeet answers rule) xs (xs ++ x ∷ []) query choice (At-left xs (x ∷ []) choice.index) (λ marked s such. such) is
 
     new_picked : (parts : Parts) → IsSent answers rule query x parts → IsPicked (MayMeet answers rule) (xs ++ x ∷ []) query (choice_of (length xs) parts)
     new_picked parts is = record {
@@ -78,66 +87,44 @@ module _ {F : Type 0} (answers : RuleAnswers F) (rule : F) (query : Query) where
       presents = is.is_sent.presents;
     }
 
-    module _ (passed : IsPassedOver answers rule query x) where
-      passed_none : HasNoAnswer answers rule xs query → HasNoAnswer answers rule (xs ++ x ∷ []) query
-      passed_none none j content token marked s there usable sure = go (last_or xs x j content there)
-        where
-          go : StandsAt xs j content ⊎ ((j ≡ length xs) × (content ≡ x)) → ⊥
-          go (inl h) = none j content token marked s h usable sure
-          go (inr h) = passed token marked (subst (λ (c : Text). IsUsable c query.keys token marked) h.1 usable) s sure
+    -- what is so of the others, and of one more, is so of them all
+    of_more : (IsSo : ℕ → Token → (ℕ → Bool) → Type 0) → OfUsable (CantFail answers rule) xs query IsSo
+        → ((token : Token) (marked : Marked) (s : ℕ → Bool) → IsUsable x query.keys token marked → CantFail answers rule marked query s → IsSo (length xs) token s)
+        → OfUsable (CantFail answers rule) (xs ++ x ∷ []) query IsSo
+    of_more IsSo old new j content token marked s there usable sure = go (last_or xs x j content there)
+      where
+        go : StandsAt xs j content ⊎ ((j ≡ length xs) × (content ≡ x)) → IsSo j token s
+        go (inl h) = old j content token marked s h usable sure
+        go (inr h) = subst (λ (i : ℕ). IsSo i token s) (sym h.0) (new token marked s (subst (λ (c : Text). IsUsable c query.keys token marked) h.1 usable) sure)
 
-      passed_fewest : (choice : Picked) → IsFewest answers rule xs query choice → IsFewest answers rule (xs ++ x ∷ []) query choice
-      passed_fewest choice few j content token marked s there usable sure = go (last_or xs x j content there)
-        where
-          go : StandsAt xs j content ⊎ ((j ≡ length xs) × (content ≡ x)) → (length choice.parts.disclosures ≤ sent s token) × (sent s token ≡ length choice.parts.disclosures → choice.index ≤ j)
-          go (inl h) = few j content token marked s h usable sure
-          go (inr h) = absurd (passed token marked (subst (λ (c : Text). IsUsable c query.keys token marked) h.1 usable) s sure)
-
-      pub passed_best : (best : Option Picked) → IsBest answers rule xs query best → IsBest answers rule (xs ++ x ∷ []) query best
-      passed_best None none = passed_none none
-      passed_best (Some choice) is = (kept_picked choice is.0, passed_fewest choice is.1)
+    pub passed_best : IsPassedOver answers rule query x → (best : Option Picked) → IsBest answers rule xs query best → IsBest answers rule (xs ++ x ∷ []) query best
+    passed_best passed None none = of_more (λ j token s. ⊥) none (λ token marked s usable sure. passed token marked usable s sure)
+    passed_best passed (Some choice) is = (kept_picked choice is.0, of_more (IsFew choice) is.1 (λ token marked s usable sure. absurd (passed token marked usable s sure)))
 
     module _ (parts : Parts) (is : IsSent answers rule query x parts) where
+      -- of one more no set sends fewer
+      new_few : (token : Token) (marked : Marked) (s : ℕ → Bool) → IsUsable x query.keys token marked → CantFail answers rule marked query s → IsFew (choice_of (length xs) parts) (length xs) token s
+      new_few token marked s usable sure = (fewest_of x parts is token marked s usable sure, λ _. omega arith)
+
       -- the first that answers
       pub first_best : IsBest answers rule xs query None → IsBest answers rule (xs ++ x ∷ []) query (Some (choice_of (length xs) parts))
-      first_best none = (new_picked parts is, few)
-        where
-          few : IsFewest answers rule (xs ++ x ∷ []) query (choice_of (length xs) parts)
-          few j content token marked s there usable sure = go (last_or xs x j content there)
-            where
-              go : StandsAt xs j content ⊎ ((j ≡ length xs) × (content ≡ x)) → (length parts.disclosures ≤ sent s token) × (sent s token ≡ length parts.disclosures → length xs ≤ j)
-              go (inl h) = absurd (none j content token marked s h usable sure)
-              go (inr h) = (fewest_of x parts is token marked s (subst (λ (c : Text). IsUsable c query.keys token marked) h.1 usable) sure, λ _. omega (arith, h.0))
+      first_best none = (new_picked parts is, of_more (IsFew (choice_of (length xs) parts)) (λ j content token marked s there usable sure. absurd (none j content token marked s there usable sure)) new_few)
 
       module _ (choice : Picked) (old : IsBest answers rule xs query (Some choice)) where
         -- one with no fewer
         pub kept_best : length choice.parts.disclosures ≤ length parts.disclosures → IsBest answers rule (xs ++ x ∷ []) query (Some choice)
-        kept_best no_fewer = (kept_picked choice old.0, few)
-          where
-            below : choice.index < length xs
-            below = At-below xs choice.index old.0.content old.0.stands
-
-            few : IsFewest answers rule (xs ++ x ∷ []) query choice
-            few j content token marked s there usable sure = go (last_or xs x j content there)
-              where
-                go : StandsAt xs j content ⊎ ((j ≡ length xs) × (content ≡ x)) → (length choice.parts.disclosures ≤ sent s token) × (sent s token ≡ length choice.parts.disclosures → choice.index ≤ j)
-                go (inl h) = old.1 j content token marked s h usable sure
-                go (inr h) =
-                    let least = fewest_of x parts is token marked s (subst (λ (c : Text). IsUsable c query.keys token marked) h.1 usable) sure in
-                    (omega (arith, no_fewer, least), λ _. omega (arith, below, h.0))
+        kept_best no_fewer =
+            let below : choice.index < length xs = At-below xs choice.index old.0.content old.0.stands in
+            (kept_picked choice old.0, of_more (IsFew choice) old.1 (λ token marked s usable sure. let least = fewest_of x parts is token marked s usable sure in (omega (arith, no_fewer, least), λ _. omega (arith, below))))
 
         -- one with fewer
         pub new_best : length parts.disclosures < length choice.parts.disclosures → IsBest answers rule (xs ++ x ∷ []) query (Some (choice_of (length xs) parts))
-        new_best fewer = (new_picked parts is, few)
-          where
-            few : IsFewest answers rule (xs ++ x ∷ []) query (choice_of (length xs) parts)
-            few j content token marked s there usable sure = go (last_or xs x j content there)
-              where
-                go : StandsAt xs j content ⊎ ((j ≡ length xs) × (content ≡ x)) → (length parts.disclosures ≤ sent s token) × (sent s token ≡ length parts.disclosures → length xs ≤ j)
-                go (inl h) =
-                    let least = (old.1 j content token marked s h usable sure).0 in
-                    (omega (arith, fewer, least), λ same. absurd (omega (arith, fewer, least, same)))
-                go (inr h) = (fewest_of x parts is token marked s (subst (λ (c : Text). IsUsable c query.keys token marked) h.1 usable) sure, λ _. omega (arith, h.0))
+        new_best fewer = (
+          new_picked parts is,
+          of_more (IsFew (choice_of (length xs) parts))
+              (λ j content token marked s there usable sure.
+              let least = (old.1 j content token marked s there usable sure).0 in (omega (arith, fewer, least), λ same. absurd (omega (arith, fewer, least, same)))) new_few,
+        )
 
   -- one more
   pub better_best : (xs : List Text) (x : Text) (best : Option Picked) (told : Option Parts) (better : Option Picked)
@@ -177,13 +164,6 @@ module _ {F : Type 0} (answers : RuleAnswers F) (rule : F) (query : Query) where
 
   -- a rule that has one answer for each place refuses none that it may allow
   pub decided_meets : IsDecided answers rule → (held : List Text) (choice : Picked) → IsPicked (MayMeet answers rule) held query choice → IsPicked (Meets answers rule) held query choice
-  decided_meets decided held choice is = record {
-    content = is.content;
-    stands = is.stands;
-    token = is.token;
-    marked = is.marked;
-    usable = is.usable;
-    s = is.s;
-    such = record { serves = is.such.serves; allowed = is.such.allowed; unrefused = λ i at kept stands refuses. decided at (is.such.allowed i at kept stands) refuses };
-    presents = is.presents;
-  }
+  decided_meets decided held choice is =
+      picked_too (MayMeet answers rule) (Meets answers rule) held held query choice (λ content there. there)
+      (λ marked s such. record { serves = such.serves; allowed = such.allowed; unrefused = λ i at kept stands refuses. decided at (such.allowed i at kept stands) refuses }) is
