@@ -1,13 +1,18 @@
 -- What the tests of values tell.
 use Rattle.std.specs.Prelude.{◌↔◌, IsTrue, not, bytes_eq}
 use Rattle.std.proofs.Math.Seq.{take-suc}
-use Rattle.std.proofs.Common.{◌≡◌, ◌++◌, ◌⊎◌, inl, inr, take, true, false, ℕ, ◌+◌, ◌<◌, List, [], ◌∷◌, length, get_or, Some, add-one, refl, sym, ap, subst, ◌∙◌}
+use Rattle.std.proofs.Common.{◌≡◌, ◌++◌, ◌⊎◌, inl, inr, take, true, false, ℕ, ◌+◌, ◌<◌, ◌≤◌, List, [], ◌∷◌, length, get_or, Some, add-one, refl, sym, ap, subst, ◌∙◌}
 use Rattle.std.proofs.lemmas.Bool.{true_from_ne_false}
-use Rattle.claim_tree.specs.Tree.{Text, Tree}
+use Rattle.claim_tree.specs.Tree.{Text, Tree, Elements, Members, array, object, elements_len, members_len}
 use Rattle.claim_tree.specs.Lists.{In}
 use Rattle.claim_tree.specs.Path.{tree_at}
 use Rattle.claim_tree.specs.View.{tree_of}
 use Rattle.claim_tree.proofs.Lists.{At-In, At-get_or, In-append, bytes_same, bytes_refl}
+use Rattle.marked_tree.specs.Marked.{MarkedElements, MarkedMembers, strip_elements, strip_members}
+use Rattle.marked_tree.specs.MarkedCalls.{marked_elements_len, marked_members_len}
+use Rattle.marked_tree.specs.View.{marked_elements_of, marked_members_of}
+use Rattle.marked_tree.proofs.MarkedViews.{Element, Entry}
+use Rattle.marked_tree.proofs.StrippedSame.{SameTo, SameMembersTo, all_same, all_same_members, lists_differ, objects_differ, elements_stripped_len, members_stripped_len}
 use Rattle.wallet_core.specs.Meets.{HasValues}
 use Rattle.wallet_core.specs.declared.query.Equal.{Equal}
 
@@ -18,6 +23,24 @@ is_not P none = (λ is. let no = is in cc no, λ h. absurd (none h))
 
 pub is_so : (P : Type 0) → P → IsTrue true ↔ P
 is_so P h = (λ _. h, λ _. refl)
+
+-- ---- elements and members of another number
+
+pub elements_other : (list : MarkedElements) (us : Elements) → (marked_elements_len list ≡ elements_len us → ⊥) → IsTrue false ↔ (array (strip_elements list) ≡ array us)
+elements_other list us other = is_not _ (lists_differ list us (λ same. other (sym (elements_stripped_len list) ∙ ap elements_len same)))
+
+pub members_other : (map : MarkedMembers) (us : Members) → (marked_members_len map ≡ members_len us → ⊥) → IsTrue false ↔ (object (strip_members map) ≡ object us)
+members_other map us other = is_not _ (objects_differ map us (λ same. other (sym (members_stripped_len map) ∙ ap members_len same)))
+
+-- ---- all elements, and all members
+
+pub elements_same : (k : ℕ) (es : List Element) (us : Elements) (list : MarkedElements) → length es ≤ k → marked_elements_of es ≡ list → marked_elements_len list ≡ elements_len us → SameTo k es us
+    → array (strip_elements list) ≡ array us
+elements_same k es us list done value lens h = ap array (subst (λ (vs : MarkedElements). strip_elements vs ≡ us) value (all_same k es us done (ap marked_elements_len value ∙ lens) h))
+
+pub members_same : (k : ℕ) (ms : List Entry) (us : Members) (map : MarkedMembers) → length ms ≤ k → marked_members_of ms ≡ map → marked_members_len map ≡ members_len us → SameMembersTo k ms us
+    → object (strip_members map) ≡ object us
+members_same k ms us map done value lens h = ap object (subst (λ (vs : MarkedMembers). strip_members vs ≡ us) value (all_same_members k ms us done (ap marked_members_len value ∙ lens) h))
 
 -- ---- values at their places
 

@@ -60,7 +60,7 @@ fn is_same(tree: &Marked, value: &Tree) -> bool
 }
 
 #[cycle(same)]
-#[tactic(auto, using(marked_tree::proofs::MarkedWalks::into_element))]
+#[tactic(auto, using(marked_tree::proofs::MarkedWalks::into_element, crate::proofs::Sames::elements_other))]
 fn are_same(list: &MarkedList, values: &TreeList) -> bool
     ensures { IsTrue result ↔ (array (strip_elements list.now) ≡ array values.now) }
 {
@@ -80,7 +80,7 @@ fn are_same(list: &MarkedList, values: &TreeList) -> bool
 }
 
 #[cycle(same)]
-#[tactic(auto, using(marked_tree::proofs::MarkedWalks::into_member))]
+#[tactic(auto, using(marked_tree::proofs::MarkedWalks::into_member, crate::proofs::Sames::members_other))]
 fn have_same(map: &MarkedMap, values: &TreeMap) -> bool
     ensures { IsTrue result ↔ (object (strip_members map.now) ≡ object values.now) }
 {

@@ -8,13 +8,9 @@ use Rattle.marked_tree.specs.Marked.{MarkedElements, MarkedMembers, strip, strip
 use Rattle.marked_tree.specs.View.{marked_of, marked_elements_of, marked_members_of}
 use Rattle.marked_tree.proofs.MarkedViews.{Element, Entry}
 use Rattle.marked_tree.proofs.StrippedSame.{turn_same, turn_same_members, all_same, all_same_members, differs_there, differs_there_members, lists_differ, objects_differ, elements_stripped_len, members_stripped_len}
-use Rattle.wallet_core.proofs.Sames.{is_not, is_so, named_same, named_other}
+use Rattle.wallet_core.proofs.Sames.{is_not, is_so, elements_same, members_same, named_same, named_other}
 use Rattle.wallet_core.proofs.values.+same.Goals as goal
 use Rattle.wallet_core.proofs.values.+same.Goals.{have_same-then-ne-via-then-ne, have_same-then-ne-via-else-ne+then-not-is_same}
-
-pub are_same-returns-then-len : goal.are_same-returns-then-len
-are_same-returns-then-len t c =
-    is_not _ (lists_differ c.args.list.now c.args.values.now (λ same. let lens = ap elements_len same in let own = elements_stripped_len c.args.list.now in omega (arith, c.if-len.true, c.len.ensures, c.len-2.ensures, lens, own)))
 
 pub are_same-returns-in_default : goal.are_same-returns-in_default
 are_same-returns-in_default t c =
@@ -42,16 +38,8 @@ are_same-loop-i-preserved t c =
 
 pub are_same-returns : goal.are_same-returns
 are_same-returns t c =
-    let es = c.elements-element-items.result.now in
-    let us : Elements = c.args.values.now in
-    let value : marked_elements_of es ≡ c.args.list.now = c.elements-element-items.ensures.value in
-    let lens : marked_elements_len (marked_elements_of es) ≡ elements_len us = ap marked_elements_len value ∙ omega (arith, c.if-len.false, c.len.ensures, c.len-2.ensures) in
-    let all = all_same c.loop-i.i es us (omega (arith, c.loop-i-test.false)) lens c.loop-i.invariant in
-    is_so _ (ap array (subst (λ (vs : MarkedElements). strip_elements vs ≡ us) value all))
-
-pub have_same-returns-then-len : goal.have_same-returns-then-len
-have_same-returns-then-len t c =
-    is_not _ (objects_differ c.args.map.now c.args.values.now (λ same. let lens = ap members_len same in let own = members_stripped_len c.args.map.now in omega (arith, c.if-len.true, c.len.ensures, c.len-2.ensures, lens, own)))
+    let items = c.elements-element-items in
+    is_so _ (elements_same c.loop-i.i items.result.now c.args.values.now c.args.list.now (omega (arith, c.loop-i-test.false)) items.ensures.value (omega (arith, c.if-len.false, c.len.ensures, c.len-2.ensures)) c.loop-i.invariant)
 
 pub have_same-returns-in_default : goal.have_same-returns-in_default
 have_same-returns-in_default t c =
@@ -82,9 +70,5 @@ have_same-loop-i-preserved t c =
 
 pub have_same-returns : goal.have_same-returns
 have_same-returns t c =
-    let ms = c.members-member-items.result.now in
-    let us : Members = c.args.values.now in
-    let value : marked_members_of ms ≡ c.args.map.now = c.members-member-items.ensures.value in
-    let lens : marked_members_len (marked_members_of ms) ≡ members_len us = ap marked_members_len value ∙ omega (arith, c.if-len.false, c.len.ensures, c.len-2.ensures) in
-    let all = all_same_members c.loop-i.i ms us (omega (arith, c.loop-i-test.false)) lens c.loop-i.invariant in
-    is_so _ (ap object (subst (λ (vs : MarkedMembers). strip_members vs ≡ us) value all))
+    let items = c.members-member-items in
+    is_so _ (members_same c.loop-i.i items.result.now c.args.values.now c.args.map.now (omega (arith, c.loop-i-test.false)) items.ensures.value (omega (arith, c.if-len.false, c.len.ensures, c.len-2.ensures)) c.loop-i.invariant)
