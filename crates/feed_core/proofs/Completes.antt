@@ -39,7 +39,7 @@ module _ (words : List (List ℕ)) (before after : FeedOutside) (now : ℕ) (nam
   not_unreadable : FeedUnreadable words before after → ⊥
   not_unreadable ends =
       let P : List ℕ → Type 0 = λ n. IfSome (before.files.holds n) (λ bytes. ends.file ≡ take (file_max + 1) bytes) in
-      let there : IfSome (before.files.holds name) (λ bytes. ends.file ≡ take (file_max + 1) bytes) = subst P (one_name words name ends.name most ends.most named ends.named) ends.fetched in
+      let there : IfSome (before.files.holds name) (λ bytes. ends.file ≡ take (file_max + 1) bytes) = subst P (one_name words name ends.no_feed.name most ends.no_feed.most named ends.no_feed.named) ends.fetched in
       let file : ends.file ≡ take (file_max + 1) content = told_file content ends.file refl (rw held at there) in
       let Q : List ℕ → Type 0 = λ bytes. IsPolicyFile bytes policy in
       ends.told.cause (not_both ends.file policy ends.told.fault (subst Q (sym file) is_policy) ends.told.refused)

@@ -1,5 +1,5 @@
 -- What a run of the feed does to the outside, by the status with which it ends.
-use Rattle.std.specs.Prelude.{◌≡◌, ◌<◌, ◌≤◌, ℕ, List, [], ◌∷◌, None, Some, codes}
+use Rattle.std.specs.Prelude.{◌≡◌, ◌<◌, ◌≤◌, ℕ, List, [], ◌∷◌, Option, None, Some, codes}
 use Rattle.std.specs.Fmt.{decimal}
 use Rattle.sd_outside.specs.Causes.{Rose}
 use Rattle.sd_outside.specs.declared.status.Status.{Status}
@@ -48,71 +48,61 @@ pub record FeedDone (words : List (List ℕ)) (before after : FeedOutside) (now 
   pub fed : FedAll asks.policy now asks.most before.source after.source before.files.out.written after.files.out.written
   pub err : after.files.err.written ≡ before.files.err.written
 
--- the source gave more than it may
-pub record FeedRefused (words : List (List ℕ)) (before after : FeedOutside) (now : ℕ) : Type 0 where
+-- what a source gave and what was written of it, under a policy, at a moment, where so many bytes may be taken
+abbrev pub Fed : Type 1
+Fed = Policy → ℕ → ℕ → Input → Input → Option (List ℕ) → Option (List ℕ) → Type 0
+
+-- a feed that was fed so tells this line
+pub record FeedTells (IsFed : Fed) (text : List ℕ) (words : List (List ℕ)) (before after : FeedOutside) (now : ℕ) : Type 0 where
   pub asks : Asks words before
-  pub fed : FedLong asks.policy now asks.most before.source after.source before.files.out.written after.files.out.written
-  pub err : Tells before.files.err after.files.err (line (refused_text Refusal.FeedTooLong None))
+  pub fed : IsFed asks.policy now asks.most before.source after.source before.files.out.written after.files.out.written
+  pub err : Tells before.files.err after.files.err (line text)
+
+-- the words are those of a feed, which did not begin and tells this
+pub record NoFeed (text : List ℕ) (words : List (List ℕ)) (before after : FeedOutside) : Type 0 where
+  pub name : List ℕ
+  pub most : ℕ
+  pub named : IsFeed words name most
+  pub untouched : Untouched before after
+  pub err : Tells before.files.err after.files.err text
+
+-- the source gave more than it may
+abbrev pub FeedRefused : List (List ℕ) → FeedOutside → FeedOutside → ℕ → Type 0
+FeedRefused = FeedTells FedLong (refused_text Refusal.FeedTooLong None)
 
 pub record FeedUsage (words : List (List ℕ)) (before after : FeedOutside) : Type 0 where
   pub none : (policy : List ℕ) (most : ℕ) → IsFeed words policy most → ⊥
   pub untouched : Untouched before after
   pub err : Tells before.files.err after.files.err (line (codes "usage"))
 
--- the cabinet failed at the policy file, or the source failed
+-- the cabinet failed at the policy file
 pub record PolicyUnread (words : List (List ℕ)) (before after : FeedOutside) : Type 0 where
-  pub name : List ℕ
-  pub most : ℕ
-  pub named : IsFeed words name most
-  pub missed : after.files.missed ≡ Some name
+  pub no_feed : NoFeed (unread_text 0) words before after
+  pub missed : after.files.missed ≡ Some no_feed.name
   pub rose : Rose before.files.faults after.files.faults
-  pub untouched : Untouched before after
-  pub err : Tells before.files.err after.files.err (unread_text 0)
 
-pub record SourceUnread (words : List (List ℕ)) (before after : FeedOutside) (now : ℕ) : Type 0 where
-  pub asks : Asks words before
-  pub fed : FedPart asks.policy now asks.most before.source after.source before.files.out.written after.files.out.written
-  pub err : Tells before.files.err after.files.err (line (codes "unread source"))
-
+-- or the source failed
 pub data FeedUnread (words : List (List ℕ)) (before after : FeedOutside) (now : ℕ) : Type 0 where
   of_policy : PolicyUnread words before after → FeedUnread words before after now
-  of_source : SourceUnread words before after now → FeedUnread words before after now
+  of_source : FeedTells FedPart (codes "unread source") words before after now → FeedUnread words before after now
 
 -- `out` failed at a line that was due
 pub record FeedUnwritten (words : List (List ℕ)) (before after : FeedOutside) (now : ℕ) : Type 0 where
-  pub asks : Asks words before
-  pub fed : FedFront asks.policy now asks.most before.source after.source before.files.out.written after.files.out.written
+  pub told : FeedTells FedFront (codes "unwritten") words before after now
   pub rose : Rose before.files.out.faults after.files.out.faults
-  pub err : Tells before.files.err after.files.err (line (codes "unwritten"))
 
 -- there was no memory for the policy, or behind it
-pub record NoMemoryFirst (words : List (List ℕ)) (before after : FeedOutside) : Type 0 where
-  pub name : List ℕ
-  pub most : ℕ
-  pub named : IsFeed words name most
-  pub untouched : Untouched before after
-  pub err : Tells before.files.err after.files.err (line (codes "memory"))
-
-pub record NoMemoryLater (words : List (List ℕ)) (before after : FeedOutside) (now : ℕ) : Type 0 where
-  pub asks : Asks words before
-  pub fed : FedFront asks.policy now asks.most before.source after.source before.files.out.written after.files.out.written
-  pub err : Tells before.files.err after.files.err (line (codes "memory"))
-
 pub data FeedMemory (words : List (List ℕ)) (before after : FeedOutside) (now : ℕ) : Type 0 where
-  at_first : NoMemoryFirst words before after → FeedMemory words before after now
-  later_on : NoMemoryLater words before after now → FeedMemory words before after now
+  at_first : NoFeed (line (codes "memory")) words before after → FeedMemory words before after now
+  later_on : FeedTells FedFront (codes "memory") words before after now → FeedMemory words before after now
 
 -- the policy file is not of its form
 pub record FeedUnreadable (words : List (List ℕ)) (before after : FeedOutside) : Type 0 where
-  pub name : List ℕ
-  pub most : ℕ
-  pub named : IsFeed words name most
-  pub file : List ℕ
-  pub fetched : IsFetched before.files.holds name file
   pub text : List ℕ
+  pub no_feed : NoFeed text words before after
+  pub file : List ℕ
+  pub fetched : IsFetched before.files.holds no_feed.name file
   pub told : TellsFileFault (IsPolicyFileRefused file) text
-  pub untouched : Untouched before after
-  pub err : Tells before.files.err after.files.err text
 
 abbrev pub FeedEnds : List (List ℕ) → FeedOutside → FeedOutside → ℕ → Status → Type 0
 FeedEnds words before after now Done = FeedDone words before after now
