@@ -39,3 +39,18 @@ one_refusal_line IsRefused one a b g h = g.line_is ∙ (ap refusal (one g.fault 
 pub one_unreadable_line : (IsRefused : FileFault → Type 0) → ((f g : FileFault) → IsRefused f → IsRefused g → f ≢ FileFault.Memory → g ≢ FileFault.Memory → f ≡ g)
     → IsOneLine (TellsFileFault IsRefused)
 one_unreadable_line IsRefused one a b g h = g.line_is ∙ (ap (unreadable_line 1) (one g.fault h.fault g.refused h.refused g.cause h.cause) ∙ sym h.line_is)
+
+-- where each answer and each refusal is of a first file that says something, and one that says nothing is unreadable
+module _ {Said : Type 0} (Says : Said → Type 0) (IsRefused : FileFault → Type 0) (one_fault : (f g : FileFault) → IsRefused f → IsRefused g → f ≢ FileFault.Memory → g ≢ FileFault.Memory → f ≡ g)
+    (not_both : (said : Said) (f : FileFault) → Says said → IsRefused f → f ≡ FileFault.Memory) where
+  -- each text of the kind is of a file that says something
+  abbrev pub OfFile : (List ℕ → Type 0) → Type 0
+  OfFile Is = (a : List ℕ) → Is a → (said : Said) × Says said
+
+  of_readable : (Is : List ℕ → Type 0) → OfFile Is → AreApart Is (TellsFileFault IsRefused)
+  of_readable Is of a b g h = let says = of a g in h.cause (not_both says.0 h.fault says.1 h.refused)
+
+  pub one_reply_of_file : (Gives Refuses : List ℕ → Type 0) → OfFile Gives → OfFile Refuses → IsOneLine Gives → IsOneLine Refuses → AreApart Gives Refuses
+      → (v w : Reply) → Replies Gives Refuses (TellsFileFault IsRefused) v → Replies Gives Refuses (TellsFileFault IsRefused) w → v ≡ w
+  one_reply_of_file Gives Refuses gives_of refuses_of answers refusals not_refused =
+      one_reply Gives Refuses (TellsFileFault IsRefused) answers refusals (one_unreadable_line IsRefused one_fault) not_refused (of_readable Gives gives_of) (of_readable Refuses refuses_of)

@@ -15,9 +15,8 @@ use Rattle.sdjwt_cli.specs.Presenting.{signing_key, IsPresentedFor, IsNotPresent
 use Rattle.cli_parts.specs.Replies.{Reply}
 use Rattle.sdjwt_cli.specs.Answers.{PresentAnswers}
 use Rattle.selection_core.proofs.NeverShown.{never_decided}
-use Rattle.cli_parts.specs.Telling.{TellsFileFault}
 use Rattle.holder_core.specs.PresentFile.{IsPresentFile, IsPresentFileRefused}
-use Rattle.cli_parts.proofs.OneReply.{one_reply, one_unreadable_line}
+use Rattle.cli_parts.proofs.OneReply.{one_reply_of_file}
 
 one_signature : (key : List ℕ) → HasOneSignature (IsGood (hs256_key key))
 one_signature key head body one other h k = h ∙ sym k
@@ -51,12 +50,7 @@ printed_not_refused order token now a b g h = neither (presented_not_refused nev
     neither (inl is) = h.memory is
     neither (inr is) = h.signed is
 
--- a file that says an order is not unreadable
-has_order : (order : List ℕ) (said : PresentFile) (b : List ℕ) → IsPresentFile order said → TellsFileFault (IsPresentFileRefused order) b → ⊥
-has_order order said b is h = h.cause (orders.not_both order said h.fault is h.refused)
-
 pub one_present : (order token : List ℕ) (now : ℕ) (v w : Reply) → PresentAnswers order token now v → PresentAnswers order token now w → v ≡ w
 one_present order token now =
-    one_reply (Presents order token now) (DoesNotPresent order token now) (TellsFileFault (IsPresentFileRefused order)) (printed order token now) (refused order token now)
-    (one_unreadable_line (IsPresentFileRefused order) (orders.one_fault order)) (printed_not_refused order token now)
-    (λ a b g h. has_order order g.said b g.is_order h) (λ a b g h. has_order order g.said b g.is_order h)
+    one_reply_of_file (IsPresentFile order) (IsPresentFileRefused order) (orders.one_fault order) (orders.not_both order) (Presents order token now) (DoesNotPresent order token now)
+    (λ a g. (g.said, g.is_order)) (λ a g. (g.said, g.is_order)) (printed order token now) (refused order token now) (printed_not_refused order token now)

@@ -11,9 +11,8 @@ use Rattle.cli_parts.specs.Lines.{line, refusal}
 use Rattle.sdjwt_cli.specs.Verify.{Verifies, DoesNotVerify}
 use Rattle.cli_parts.specs.Replies.{Reply}
 use Rattle.sdjwt_cli.specs.Answers.{VerifyAnswers}
-use Rattle.cli_parts.specs.Telling.{TellsFileFault}
 use Rattle.verifier_core.specs.PolicyFile.{IsPolicyFile, IsPolicyFileRefused}
-use Rattle.cli_parts.proofs.OneReply.{one_reply, one_unreadable_line}
+use Rattle.cli_parts.proofs.OneReply.{one_reply_of_file}
 
 printed : (policy token : List ℕ) (now : ℕ) (a b : List ℕ) → Verifies policy token now a → Verifies policy token now b → a ≡ b
 printed policy token now a b g h =
@@ -33,12 +32,7 @@ printed_not_refused policy token now a b g h =
     let accepted : IsAccepted token h.policy now g.marked = subst (λ (p : Policy). IsAccepted token p now g.marked) same g.accepted in
     verdicts.accepted_not_refused token h.policy now g.marked h.fault accepted h.lowest
 
--- a file that says a policy is not unreadable
-has_policy : (policy : List ℕ) (said : Policy) (b : List ℕ) → IsPolicyFile policy said → TellsFileFault (IsPolicyFileRefused policy) b → ⊥
-has_policy policy said b is h = h.cause (policies.not_both policy said h.fault is h.refused)
-
 pub one_verify : (policy token : List ℕ) (now : ℕ) (v w : Reply) → VerifyAnswers policy token now v → VerifyAnswers policy token now w → v ≡ w
 one_verify policy token now =
-    one_reply (Verifies policy token now) (DoesNotVerify policy token now) (TellsFileFault (IsPolicyFileRefused policy)) (printed policy token now) (refused policy token now)
-    (one_unreadable_line (IsPolicyFileRefused policy) (policies.one_fault policy)) (printed_not_refused policy token now)
-    (λ a b g h. has_policy policy g.policy b g.is_policy h) (λ a b g h. has_policy policy g.policy b g.is_policy h)
+    one_reply_of_file (IsPolicyFile policy) (IsPolicyFileRefused policy) (policies.one_fault policy) (policies.not_both policy) (Verifies policy token now) (DoesNotVerify policy token now)
+    (λ a g. (g.policy, g.is_policy)) (λ a g. (g.policy, g.is_policy)) (printed policy token now) (refused policy token now) (printed_not_refused policy token now)
