@@ -21,15 +21,15 @@ module _ (holds : List ℕ → Option (List ℕ)) (command : Command) where
       reply_more (Answers command files now) (IsAnswered holds command now) (λ reply h. record { files = files; fetched = fetched; answers = h }) answer is
 
   -- of a command with one file: its bytes are those of the box that was fetched
-  pub lifted_one : (wanted : NamedFile) (file bytes : List ℕ) (now : ℕ) (answer : Result (String Global) Stop) → files_of command ≡ wanted ∷ [] → IsFetched holds wanted file → bytes ≡ file
+  pub lifted_one : {wanted : NamedFile} {file bytes : List ℕ} (now : ℕ) (answer : Result (String Global) Stop) → files_of command ≡ wanted ∷ [] → IsFetched holds wanted file → bytes ≡ file
       → IfOk answer (λ text. Answers command (bytes ∷ []) now (gives (string_bytes text))) → IfErr answer (λ stop. OnRefused stop (λ text. Answers command (bytes ∷ []) now (refuses text)))
       → IfErr answer (λ stop. OnUnreadable stop (λ text. Answers command (bytes ∷ []) now (unreadable text))) → IsReply (IsAnswered holds command now) answer
-  lifted_one wanted file bytes now answer files_are fetched same = lifted (bytes ∷ []) now answer (rw (files_are, same) (fetched, tt))
+  lifted_one {bytes = bytes} now answer files_are fetched same = lifted (bytes ∷ []) now answer (rw (files_are, same) (fetched, tt))
 
   -- of one with two files: the second was fetched when the cabinet held what it holds later, the same under its name
-  pub lifted_two : (wanted other : NamedFile) (later : List ℕ → Option (List ℕ)) (file second bytes more : List ℕ) (now : ℕ) (answer : Result (String Global) Stop) → files_of command ≡ wanted ∷ other ∷ []
+  pub lifted_two : {wanted other : NamedFile} {file second bytes more : List ℕ} (later : List ℕ → Option (List ℕ)) (now : ℕ) (answer : Result (String Global) Stop) → files_of command ≡ wanted ∷ other ∷ []
       → IsFetched holds wanted file → IsFetched later other second → later other.name ≡ holds other.name → bytes ≡ file → more ≡ second
       → IfOk answer (λ text. Answers command (bytes ∷ more ∷ []) now (gives (string_bytes text))) → IfErr answer (λ stop. OnRefused stop (λ text. Answers command (bytes ∷ more ∷ []) now (refuses text)))
       → IfErr answer (λ stop. OnUnreadable stop (λ text. Answers command (bytes ∷ more ∷ []) now (unreadable text))) → IsReply (IsAnswered holds command now) answer
-  lifted_two wanted other later file second bytes more now answer files_are fetched after kept same also =
+  lifted_two {bytes = bytes} {more = more} later now answer files_are fetched after kept same also =
       lifted (bytes ∷ more ∷ []) now answer (rw (files_are, same, also, sym kept) (fetched, (after, tt)))
