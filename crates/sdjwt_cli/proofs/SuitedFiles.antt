@@ -1,5 +1,5 @@
 -- The files of the worked values: what the law of presenting asks of its files is met.
-use Rattle.std.proofs.Common.{◌≡◌, ◌≤◌, ◌^◌, pos, negsuc, Bool, true, false, ◌&&◌, nat_lt, ltb-true, [], ◌∷◌, length, None, Some, codes, rules, refl, arith}
+use Rattle.std.proofs.Common.{◌≡◌, ◌≤◌, ◌^◌, pos, negsuc, Bool, true, false, ◌&&◌, nat_lt, ltb-true, List, [], ◌∷◌, length, None, Some, codes, rules, refl, arith}
 use Rattle.json.specs.Print.{escape_byte}
 use Rattle.json.proofs.Printed.Utf8.{are_ascii, IsUtf8-are_ascii}
 use Rattle.std.specs.Fmt.{digits}
@@ -8,7 +8,9 @@ use Rattle.b64url_text.specs.Base64url.{letters, bits, sixes, b64, Decodes}
 use Rattle.b64url_text.proofs.Texts.{AreBytes-text}
 use Rattle.claim_tree.specs.declared.tree.Tree as code
 use Rattle.claim_tree.specs.Tree.{Text, Leaf, Tree, leaf, null, flag, text, whole, array, object, Elements, no_elements, element, Members, no_members, member, depth, IsOrdered, MembersOrdered, IsRanged, ElementsRanged, MembersRanged}
+use Rattle.claim_tree.specs.FileForms.{has_unknown, HasMembers}
 use Rattle.claim_tree.specs.JsonText.{json_text, Reads}
+use Rattle.claim_tree.specs.declared.file_fault.Field.{Field}
 use Rattle.sd_outside.specs.Limits.{file_max}
 use Rattle.hmac_sign.specs.Keys.{IsKeySet, key, no_keys}
 use Rattle.hmac_sign.specs.declared.alg.Alg.{Alg}
@@ -124,6 +126,11 @@ mutual
 reads_plain : (t : Tree) → is_plain t ≡ true → IsOrdered t → depth t ≤ 127 → Reads (json_text t) t
 reads_plain t e ordered shallow = let both = plain_texts t e in read_back t both.0 both.1 ordered shallow
 
+-- the text of plain members is a file of them
+file_of : (fields : List Field) (ms : Members) → length (json_text (object ms)) ≤ file_max → members_plain ms ≡ true → MembersOrdered ms → depth (object ms) ≤ 127 → has_unknown fields ms ≡ false
+    → HasMembers file_max fields (json_text (object ms)) ms
+file_of fields ms short plain ordered shallow known = record { object = record { short = short; reads = reads_plain (object ms) plain ordered shallow }; known = known }
+
 abbrev policy_members : Members
 policy_members =
     member (codes "binding") (object (member (codes "aud") (named (codes "v")) (member (codes "keys") (set_of holder_tree) (member (codes "max_age") (leaf (whole (pos 300))) (member (codes "nonce") (named (codes "7")) no_members)))))
@@ -134,17 +141,11 @@ policy_members =
 abbrev pub policy_file : Text
 policy_file = json_text (object policy_members)
 
-policy_short : length policy_file ≤ file_max
-unfolding escape_byte digits
-policy_short = omega arith
-
-policy_ordered : MembersOrdered policy_members
-policy_ordered = search rules
-
 pub is_policy : IsPolicyFile policy_file policy
+unfolding escape_byte digits
 is_policy = record {
   members = policy_members;
-  file = record { object = record { short = policy_short; reads = reads_plain (object policy_members) refl policy_ordered (omega arith) }; known = refl };
+  file = file_of _ policy_members (omega arith) refl (search rules) (omega arith) refl;
   version = PolicyVersion.One;
   version_is = refl;
   keys = issuer_set;
@@ -173,17 +174,11 @@ present_members =
 abbrev pub present_file : Text
 present_file = json_text (object present_members)
 
-present_short : length present_file ≤ file_max
-unfolding escape_byte digits
-present_short = omega arith
-
-present_ordered : MembersOrdered present_members
-present_ordered = search rules
-
 pub is_said : IsPresentFile present_file said
+unfolding escape_byte digits
 is_said = record {
   members = present_members;
-  file = record { object = record { short = present_short; reads = reads_plain (object present_members) refl present_ordered (omega arith) }; known = refl };
+  file = file_of _ present_members (omega arith) refl (search rules) (omega arith) refl;
   keys = issuer_set;
   want = record { elements = _; is = refl; each = (refl, tt) };
   never = record { elements = _; is = refl; each = (refl, tt) };
@@ -209,20 +204,14 @@ order_members =
 abbrev pub order_file : Text
 order_file = json_text (object order_members)
 
-order_short : length order_file ≤ file_max
-unfolding escape_byte digits
-order_short = omega arith
-
-order_ordered : MembersOrdered order_members
-order_ordered = search rules
-
 abbrev asked : IssueFile
 asked = record { order = record { payload = code.Tree.Object claims_members; hide = order.hide; decoys = []; kid = None; typ = order.typ; hash = order.hash }; key = issuer_key }
 
 pub is_asked : IsOrderFile order_file asked
+unfolding escape_byte digits
 is_asked = record {
   members = order_members;
-  file = record { object = record { short = order_short; reads = reads_plain (object order_members) refl order_ordered (omega arith) }; known = refl };
+  file = file_of _ order_members (omega arith) refl (search rules) (omega arith) refl;
   payload = refl;
   hide = record { elements = _; is = refl; each = (refl, (refl, tt)) };
   decoys = refl;
