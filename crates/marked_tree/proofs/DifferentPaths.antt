@@ -71,7 +71,7 @@ among_dedup : (p : Path) (xs : List Path) → is_among (dedup same_path xs) p �
 among_dedup p [] = refl
 among_dedup p (x ∷ xs) = among_from p x xs
 
-after_all : (p : Path) (xs : List Path) → AllByRecursion (λ q. path_order p q ≡ Less) xs → AfterNone p xs
+after_all : (p : Path) (xs : List Path) → AllByRecursion (λ q. path_order p q ≡ Less) xs → AfterNone path_order p xs
 after_all p [] all = tt
 after_all p (q ∷ xs) all = (not_greater (path_order p q) all.0, after_all p xs all.1)
 

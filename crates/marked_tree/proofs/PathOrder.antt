@@ -52,7 +52,7 @@ equal_before (k ∷ a) (l ∷ b) step n e = go (step_cmp k l) refl n
     go Equal c n = tie_not_greater (step_cmp k step) (subst (λ x. step_cmp x step ≡ Equal) (sym (same_step k l c)) e)
     go Greater c n = absurd (n refl)
 
-after_at : (depth : ℕ) (p : Path) (xs : List Path) (j : ℕ) (d : Path) → AfterNone p (rests depth xs) → j < length xs → path_order p (drop depth (get_or xs j d)) ≢ Greater
+after_at : (depth : ℕ) (p : Path) (xs : List Path) (j : ℕ) (d : Path) → AfterNone path_order p (rests depth xs) → j < length xs → path_order p (drop depth (get_or xs j d)) ≢ Greater
 after_at depth p [] j d s l = absurd (omega arith)
 after_at depth p (x ∷ xs) zero d s l = s.0
 after_at depth p (x ∷ xs) (suc j) d s l = after_at depth p xs j d s.1 (omega arith)
@@ -112,7 +112,7 @@ after_dropped depth (suc n) (x ∷ xs) s = after_dropped depth n xs s.1
 pub sorted_drop : (depth : ℕ) (n : ℕ) (xs : List Path) → AreSorted (rests depth xs) → AreSorted (rests depth (drop n xs))
 sorted_drop depth n xs s = after_dropped depth n xs s
 
-after_take : (depth : ℕ) (p : Path) (n : ℕ) (xs : List Path) → AfterNone p (rests depth xs) → AfterNone p (rests depth (take n xs))
+after_take : (depth : ℕ) (p : Path) (n : ℕ) (xs : List Path) → AfterNone path_order p (rests depth xs) → AfterNone path_order p (rests depth (take n xs))
 after_take depth p zero xs s = tt
 after_take depth p (suc n) [] s = tt
 after_take depth p (suc n) (x ∷ xs) s = (s.0, after_take depth p n xs s.1)
@@ -231,7 +231,7 @@ module _ (depth : ℕ) (step : Text) where
   tails_order : (p q : Path) → path_order (step ∷ p) (step ∷ q) ≡ path_order p q
   tails_order p q = rw (tied_itself steps_total step) refl
 
-  after_tails : (p : Path) (xs : List Path) → Every Within xs → AfterNone (step ∷ p) (rests depth xs) → AfterNone p (rests (depth + 1) xs)
+  after_tails : (p : Path) (xs : List Path) → Every Within xs → AfterNone path_order (step ∷ p) (rests depth xs) → AfterNone path_order p (rests (depth + 1) xs)
   after_tails p [] all s = tt
   after_tails p (x ∷ xs) all s =
       let b = begins x all.0 in
@@ -242,7 +242,7 @@ module _ (depth : ℕ) (step : Text) where
   sorted_tails [] all s = tt
   sorted_tails (x ∷ xs) all s =
       let b = begins x all.0 in
-      (subst (λ q. AfterNone q (rests (depth + 1) xs)) (sym b.further) (after_tails b.rest xs all.1 (subst (λ q. AfterNone q (rests depth xs)) b.is s.0)), sorted_tails xs all.1 s.1)
+      (subst (λ q. AfterNone path_order q (rests (depth + 1) xs)) (sym b.further) (after_tails b.rest xs all.1 (subst (λ q. AfterNone path_order q (rests depth xs)) b.is s.0)), sorted_tails xs all.1 s.1)
 
   module _ (xs : List Path) (start count : ℕ) (run : IsRunOfPaths depth step xs start count) where
     pub run_sorted : AreSorted (rests depth xs) → AreSorted (rests (depth + 1) (take count (drop start xs)))
@@ -257,7 +257,7 @@ module _ (depth : ℕ) (step : Text) where
 
 -- ---- paths that are sorted once
 
-after_sorted : (p : Path) (xs : List Path) → ((k : ℕ) (d : Path) → k < length xs → is_lt (path_order (get_or xs k d) p) ≡ false) → AfterNone p xs
+after_sorted : (p : Path) (xs : List Path) → ((k : ℕ) (d : Path) → k < length xs → is_lt (path_order (get_or xs k d) p) ≡ false) → AfterNone path_order p xs
 after_sorted p [] all = tt
 after_sorted p (x ∷ xs) all = (λ g. less_clash (path_order x p) ((paths_total).antisymm x p ∙ ap ordering_reverse g) (all 0 x (omega arith)), after_sorted p xs (λ k d l. all (suc k) d (omega arith)))
 
@@ -277,7 +277,7 @@ rests_zero (x ∷ xs) = ap (λ ys. x ∷ ys) (rests_zero xs)
 
 -- ---- a path that ends
 
-none_ends : (k : Text) (t : Path) (ps : List Path) → AfterNone (k ∷ t) ps → is_among ps [] ≡ false
+none_ends : (k : Text) (t : Path) (ps : List Path) → AfterNone path_order (k ∷ t) ps → is_among ps [] ≡ false
 none_ends k t [] s = refl
 none_ends k t ([] ∷ ps) s = absurd (s.0 refl)
 none_ends k t ((l ∷ q) ∷ ps) s = none_ends k t ps s.1
@@ -297,7 +297,7 @@ goes_on (suc depth) (k ∷ x) l = goes_on depth x (omega arith)
 pub first_goes_on : (depth : ℕ) (x : Path) (xs : List Path) → AreSorted (rests depth (x ∷ xs)) → depth < length x → is_among (rests depth (x ∷ xs)) [] ≡ false
 first_goes_on depth x xs s l =
     let w = goes_on depth x l in
-    rw w.2 (none_ends w.0 w.1 (rests depth xs) (subst (λ q. AfterNone q (rests depth xs)) w.2 s.0))
+    rw w.2 (none_ends w.0 w.1 (rests depth xs) (subst (λ q. AfterNone path_order q (rests depth xs)) w.2 s.0))
 
 pub none_ends_first : (depth : ℕ) (ps : List Path) (x : Path) → Some x ≡ slice_get ps 0 → AreSorted (rests depth ps) → depth < length x → is_among (rests depth ps) [] ≡ false
 none_ends_first depth [] x e s l = cc

@@ -8,6 +8,7 @@ use Rattle.std.proofs.lemmas.List.Sorted.{sorted_far, ranks_by}
 use Rattle.claim_tree.specs.Tree.{Text}
 use Rattle.claim_tree.proofs.Lists.{bytes_refl}
 use Rattle.claim_tree.proofs.MapPlaces.{cmp, order, same_name, before_after, less_clash}
+use Rattle.marked_tree.specs.Rests.{AfterNone, InOrder}
 use Rattle.marked_tree.proofs.Names.{tie_turned}
 use Rattle.marked_tree.proofs.Lookups.{apart, apart_back}
 
@@ -25,12 +26,10 @@ tie_is x y = go (cmp x y) refl
 -- ---- texts that do not fall
 
 abbrev pub NoneBelow : Text → List Text → Type 0
-NoneBelow x [] = Unit {0}
-NoneBelow x (y ∷ ys) = (cmp x y ≢ Greater) × NoneBelow x ys
+NoneBelow x xs = AfterNone cmp x xs
 
 abbrev pub Rising : List Text → Type 0
-Rising [] = Unit {0}
-Rising (x ∷ xs) = NoneBelow x xs × Rising xs
+Rising xs = InOrder cmp xs
 
 none_below : (x : Text) (xs : List Text) → ((k : ℕ) (d : Text) → k < length xs → is_lt (cmp (get_or xs k d) x) ≡ false) → NoneBelow x xs
 none_below x [] all = tt

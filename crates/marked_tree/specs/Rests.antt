@@ -24,15 +24,18 @@ step_order (k ∷ p) step = step_cmp k step
 abbrev pub path_order : Path → Path → Ordering
 path_order p q = slice_cmp step_cmp p q
 
--- p comes after none of the paths
-abbrev pub AfterNone : Path → List Path → Type 0
-AfterNone p [] = Unit {0}
-AfterNone p (q ∷ qs) = (path_order p q ≢ Greater) × AfterNone p qs
+-- x comes after none of the others
+abbrev pub AfterNone : {A : Type 0} → (A → A → Ordering) → A → List A → Type 0
+AfterNone order x [] = Unit {0}
+AfterNone order x (y ∷ ys) = (order x y ≢ Greater) × AfterNone order x ys
 
--- no path comes after one that stands behind it
+-- none comes after one that stands behind it
+abbrev pub InOrder : {A : Type 0} → (A → A → Ordering) → List A → Type 0
+InOrder order [] = Unit {0}
+InOrder order (x ∷ xs) = AfterNone order x xs × InOrder order xs
+
 abbrev pub AreSorted : List Path → Type 0
-AreSorted [] = Unit {0}
-AreSorted (p ∷ ps) = AfterNone p ps × AreSorted ps
+AreSorted ps = InOrder path_order ps
 
 abbrev pub Every : (Path → Type 0) → List Path → Type 0
 Every P [] = Unit {0}
