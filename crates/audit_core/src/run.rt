@@ -3,7 +3,7 @@ ghost use Rattle.std.specs.Prelude.{◌≡◌, ◌≤◌, ℕ, List, [], ◌∷�
 ghost use Rattle.sd_outside.specs.Causes.{Rose};
 ghost use Rattle.claim_tree.specs.Tree.{depth};
 ghost use Rattle.claim_tree.specs.View.{tree_of};
-ghost use Rattle.cli_parts.specs.Outside.{outside, stream};
+ghost use Rattle.cli_parts.specs.Outside.{outside};
 ghost use Rattle.cli_parts.specs.Runs.{MissesWord, RunKeeps};
 ghost use Rattle.cli_parts.specs.Stops.{IsReply, OnUnread};
 ghost use Rattle.issuer_core.specs.OrderFile.{IsOrderFile};
@@ -78,12 +78,12 @@ pub fn run_audit<C: Cabinet, O: Sink, E: Sink>(
     err: &mut E,
 ) -> Status
     ensures ends { AuditEnds (map string_bytes words.now)
-        (outside (C.holds cab.old) (C.missed cab.old) (C.faults cab.old) (stream (O.written out.old) (O.faults out.old)) (stream (E.written err.old) (E.faults err.old)))
-        (outside (C.holds cab.new) (C.missed cab.new) (C.faults cab.new) (stream (O.written out.new) (O.faults out.new)) (stream (E.written err.new) (E.faults err.new)))
+        (outside C.Cabinet O.Sink E.Sink cab.old out.old err.old)
+        (outside C.Cabinet O.Sink E.Sink cab.new out.new err.new)
         result }
     ensures keeps { RunKeeps
-        (outside (C.holds cab.old) (C.missed cab.old) (C.faults cab.old) (stream (O.written out.old) (O.faults out.old)) (stream (E.written err.old) (E.faults err.old)))
-        (outside (C.holds cab.new) (C.missed cab.new) (C.faults cab.new) (stream (O.written out.new) (O.faults out.new)) (stream (E.written err.new) (E.faults err.new))) }
+        (outside C.Cabinet O.Sink E.Sink cab.old out.old err.old)
+        (outside C.Cabinet O.Sink E.Sink cab.new out.new err.new) }
 {
     let Some((order, token)) = audit_words(words) else {
         return tell(err, "usage\n", Status::Usage);

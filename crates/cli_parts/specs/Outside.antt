@@ -2,14 +2,17 @@
 use Rattle.std.specs.Prelude.{◌⊎◌, ℕ, List, Option}
 use Rattle.std.specs.Io.KnownBytes.{Appends}
 use Rattle.sd_outside.specs.Causes.{Rose, AppendsPrefix}
+use Rattle.sd_outside.specs.declared.cabinet.Cabinet.{Ghosts as CabinetGhosts}
+use Rattle.sd_outside.specs.declared.sink.Sink.{Ghosts as SinkGhosts}
 
 -- a sink at one moment
 pub record Stream : Type 0 where
   pub written : Option (List ℕ)
   pub faults : ℕ
 
-abbrev pub stream : Option (List ℕ) → ℕ → Stream
-stream written faults = record { written = written; faults = faults }
+-- a sink, by what its type says of it
+abbrev pub stream : {S : Type 0} → SinkGhosts S → S → Stream
+stream says sink = record { written = says.written sink; faults = says.faults sink }
 
 -- the cabinet, `out` and `err` at one moment
 pub record Outside : Type 0 where
@@ -19,8 +22,9 @@ pub record Outside : Type 0 where
   pub out : Stream
   pub err : Stream
 
-abbrev pub outside : (List ℕ → Option (List ℕ)) → Option (List ℕ) → ℕ → Stream → Stream → Outside
-outside holds missed faults out err = record { holds = holds; missed = missed; faults = faults; out = out; err = err }
+abbrev pub outside : {C O E : Type 0} → CabinetGhosts C → SinkGhosts O → SinkGhosts E → C → O → E → Outside
+outside says out_says err_says cabinet out err =
+    record { holds = says.holds cabinet; missed = says.missed cabinet; faults = says.faults cabinet; out = stream out_says out; err = stream err_says err }
 
 -- the text went to the sink, or the sink failed at it
 abbrev pub Tells : Stream → Stream → List ℕ → Type 0

@@ -26,7 +26,7 @@ impl Ending {
     // Tells it on `err`, and answers the status that it has.
     fn tell<E: Sink>(self, err: &mut E) -> Status
         ensures status { result ≡ (ending_row self).0 }
-        ensures told { Tells (stream (E.written err.old) (E.faults err.old)) (stream (E.written err.new) (E.faults err.new)) (line (ending_row self).1) }
+        ensures told { Tells (stream E.Sink err.old) (stream E.Sink err.new) (line (ending_row self).1) }
         ensures later { E.faults err.old ≤ E.faults err.new }
     {
         match self {
@@ -73,7 +73,7 @@ pub fn seconds(rt: &impl Clock) -> Result<u64, Ending>
 
 /// The exit status of the program. Where it ran no command, `err` is told why.
 pub fn exit_code<E: Sink>(ran: Result<Status, Ending>, err: &mut E) -> ExitCode
-    ensures ends { EndsWith ran (stream (E.written err.old) (E.faults err.old)) (stream (E.written err.new) (E.faults err.new)) result }
+    ensures ends { EndsWith ran (stream E.Sink err.old) (stream E.Sink err.new) result }
     ensures later { E.faults err.old ≤ E.faults err.new }
 {
     let status = match ran {

@@ -12,7 +12,7 @@ use std::alloc::Global;
 /// A line on `err`, with the status that it explains. Where `err` fails, nothing else is tried.
 pub fn tell<E: Sink>(err: &mut E, text: &str, status: Status) -> Status
     ensures status { result ≡ status }
-    ensures told { Tells (stream (E.written err.old) (E.faults err.old)) (stream (E.written err.new) (E.faults err.new)) text.now }
+    ensures told { Tells (stream E.Sink err.old) (stream E.Sink err.new) text.now }
     ensures later { E.faults err.old ≤ E.faults err.new }
 {
     let _ = err.put(text.as_bytes());
@@ -29,7 +29,7 @@ fn unread_line(alloc: Global, word: usize) -> Result<String, NoMemory>
 
 // Tells the line of a file that could not be read. Those of the first two words take no memory.
 fn tell_unread<E: Sink>(alloc: Global, word: usize, err: &mut E) -> Status
-    ensures told { TellsStop (Unread word) (stream (E.written err.old) (E.faults err.old)) (stream (E.written err.new) (E.faults err.new)) result }
+    ensures told { TellsStop (Unread word) (stream E.Sink err.old) (stream E.Sink err.new) result }
     ensures later { E.faults err.old ≤ E.faults err.new }
 {
     match word {
@@ -44,7 +44,7 @@ fn tell_unread<E: Sink>(alloc: Global, word: usize, err: &mut E) -> Status
 
 /// The line that tells why there is no answer, on `err`, and the status of it.
 pub fn tell_stop<E: Sink>(alloc: Global, stop: Stop, err: &mut E) -> Status
-    ensures told { TellsStop stop (stream (E.written err.old) (E.faults err.old)) (stream (E.written err.new) (E.faults err.new)) result }
+    ensures told { TellsStop stop (stream E.Sink err.old) (stream E.Sink err.new) result }
     ensures later { E.faults err.old ≤ E.faults err.new }
 {
     match stop {
@@ -63,8 +63,8 @@ pub fn finish<O: Sink, E: Sink>(
     err: &mut E,
 ) -> Status
     ensures finishes { Finishes answer
-        (streams (stream (O.written out.old) (O.faults out.old)) (stream (E.written err.old) (E.faults err.old)))
-        (streams (stream (O.written out.new) (O.faults out.new)) (stream (E.written err.new) (E.faults err.new)))
+        (streams (stream O.Sink out.old) (stream E.Sink err.old))
+        (streams (stream O.Sink out.new) (stream E.Sink err.new))
         result }
     ensures out_later { O.faults out.old ≤ O.faults out.new }
     ensures err_later { E.faults err.old ≤ E.faults err.new }

@@ -2,6 +2,7 @@
 use Rattle.std.specs.Prelude.{◌≡◌, ◌≤◌, ◌+◌, ℕ, List, ◌++◌, Option, IfSome, length, take}
 use Rattle.std.specs.Io.KnownBytes.{Appends, Consumes}
 use Rattle.sd_outside.specs.Causes.{Rose}
+use Rattle.sd_outside.specs.declared.source.Source.{Ghosts as SourceGhosts}
 use Rattle.verifier_core.specs.declared.policy.Policy.{Policy}
 use Rattle.feed_core.specs.Cut.{IsCut, AreLines}
 use Rattle.feed_core.specs.FeedVerdict.{TellsVerdicts}
@@ -17,8 +18,8 @@ pub record Input : Type 0 where
   pub taken : ℕ
   pub faults : ℕ
 
-abbrev pub input : Option (List ℕ) → ℕ → ℕ → Input
-input left taken faults = record { left = left; taken = taken; faults = faults }
+abbrev pub input : {R : Type 0} → SourceGhosts R → R → Input
+input says source = record { left = says.left source; taken = says.taken source; faults = says.faults source }
 
 -- the source gave these bytes
 pub record Gave (before after : Input) (bytes : List ℕ) : Type 0 where

@@ -29,13 +29,13 @@ pub(crate) enum Halt {
 fn pull_piece<R: Source>(src: &mut R, room: &mut [u8], left: usize) -> Result<usize, Halt>
     requires room { 0 < length room.old }
     requires countable { R.taken src.old + length room.old < 2 ^ 64 }
-    ensures gave { IfOk result (λ count. Gave (input (R.left src.old) (R.taken src.old) (R.faults src.old)) (input (R.left src.new) (R.taken src.new) (R.faults src.new)) (take count room.new)) }
+    ensures gave { IfOk result (λ count. Gave (input R.Source src.old) (input R.Source src.new) (take count room.new)) }
     ensures within { IfOk result (λ count. count ≤ left) }
     ensures fits { IfOk result (λ count. count ≤ length room.old) }
     ensures end { IfOk result (λ count. count ≡ 0 → IsAtEnd (R.left src.old)) }
-    ensures long { IsErrOf result Halt.TooLong → (byte : ℕ) × Gave (input (R.left src.old) (R.taken src.old) (R.faults src.old)) (input (R.left src.new) (R.taken src.new) (R.faults src.new)) (byte ∷ []) }
+    ensures long { IsErrOf result Halt.TooLong → (byte : ℕ) × Gave (input R.Source src.old) (input R.Source src.new) (byte ∷ []) }
     ensures none_left { IsErrOf result Halt.TooLong → left ≡ 0 }
-    ensures unread { IsErrOf result Halt.Unread → Gave (input (R.left src.old) (R.taken src.old) (R.faults src.old)) (input (R.left src.new) (R.taken src.new) (R.faults src.new)) [] }
+    ensures unread { IsErrOf result Halt.Unread → Gave (input R.Source src.old) (input R.Source src.new) [] }
     ensures cause { IsErrOf result Halt.Unread → Rose (R.faults src.old) (R.faults src.new) }
     ensures memory { result ≢ Err Halt.Memory }
     ensures written { result ≢ Err Halt.Unwritten }
@@ -107,11 +107,11 @@ pub(crate) fn pump<R: Source, O: Sink>(
     requires fresh { feed.old ≡ new_feed feed.old.policy feed.old.now }
     requires few { most ≤ feed_max }
     requires countable { R.taken src.old ≤ 2 ^ 63 }
-    ensures all { OnOk result (FedAll feed.old.policy feed.old.now most (input (R.left src.old) (R.taken src.old) (R.faults src.old)) (input (R.left src.new) (R.taken src.new) (R.faults src.new)) (O.written out.old) (O.written out.new)) }
-    ensures long { IsErrOf result Halt.TooLong → FedLong feed.old.policy feed.old.now most (input (R.left src.old) (R.taken src.old) (R.faults src.old)) (input (R.left src.new) (R.taken src.new) (R.faults src.new)) (O.written out.old) (O.written out.new) }
-    ensures part { IsErrOf result Halt.Unread → FedPart feed.old.policy feed.old.now most (input (R.left src.old) (R.taken src.old) (R.faults src.old)) (input (R.left src.new) (R.taken src.new) (R.faults src.new)) (O.written out.old) (O.written out.new) }
-    ensures memory { IsErrOf result Halt.Memory → FedFront feed.old.policy feed.old.now most (input (R.left src.old) (R.taken src.old) (R.faults src.old)) (input (R.left src.new) (R.taken src.new) (R.faults src.new)) (O.written out.old) (O.written out.new) }
-    ensures unwritten { IsErrOf result Halt.Unwritten → FedFront feed.old.policy feed.old.now most (input (R.left src.old) (R.taken src.old) (R.faults src.old)) (input (R.left src.new) (R.taken src.new) (R.faults src.new)) (O.written out.old) (O.written out.new) }
+    ensures all { OnOk result (FedAll feed.old.policy feed.old.now most (input R.Source src.old) (input R.Source src.new) (O.written out.old) (O.written out.new)) }
+    ensures long { IsErrOf result Halt.TooLong → FedLong feed.old.policy feed.old.now most (input R.Source src.old) (input R.Source src.new) (O.written out.old) (O.written out.new) }
+    ensures part { IsErrOf result Halt.Unread → FedPart feed.old.policy feed.old.now most (input R.Source src.old) (input R.Source src.new) (O.written out.old) (O.written out.new) }
+    ensures memory { IsErrOf result Halt.Memory → FedFront feed.old.policy feed.old.now most (input R.Source src.old) (input R.Source src.new) (O.written out.old) (O.written out.new) }
+    ensures unwritten { IsErrOf result Halt.Unwritten → FedFront feed.old.policy feed.old.now most (input R.Source src.old) (input R.Source src.new) (O.written out.old) (O.written out.new) }
     ensures cause { IsErrOf result Halt.Unwritten → Rose (O.faults out.old) (O.faults out.new) }
     ensures later { O.faults out.old ≤ O.faults out.new }
     ensures source_later { R.faults src.old ≤ R.faults src.new }

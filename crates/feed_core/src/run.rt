@@ -1,7 +1,7 @@
 // A run of the feed.
 ghost use Rattle.std.specs.Prelude.{◌≡◌, ◌≤◌, ◌^◌, ℕ, List, Some, map, IfOk, IfErr, string_bytes};
 ghost use Rattle.sd_outside.specs.Causes.{Rose};
-ghost use Rattle.cli_parts.specs.Outside.{outside, stream};
+ghost use Rattle.cli_parts.specs.Outside.{outside};
 ghost use Rattle.cli_parts.specs.Runs.{IsFetched};
 ghost use Rattle.cli_parts.specs.Stops.{OnRefused, OnUnread, OnUnreadable};
 ghost use Rattle.cli_parts.specs.Telling.{TellsFileFault};
@@ -51,13 +51,13 @@ pub fn run_feed<C: Cabinet, R: Source, O: Sink, E: Sink>(
 ) -> Status
     requires { R.taken src.old ≤ 2 ^ 63 }
     ensures ends { FeedEnds (map string_bytes words.now)
-        (feed_outside (outside (C.holds cab.old) (C.missed cab.old) (C.faults cab.old) (stream (O.written out.old) (O.faults out.old)) (stream (E.written err.old) (E.faults err.old))) (input (R.left src.old) (R.taken src.old) (R.faults src.old)))
-        (feed_outside (outside (C.holds cab.new) (C.missed cab.new) (C.faults cab.new) (stream (O.written out.new) (O.faults out.new)) (stream (E.written err.new) (E.faults err.new))) (input (R.left src.new) (R.taken src.new) (R.faults src.new)))
+        (feed_outside (outside C.Cabinet O.Sink E.Sink cab.old out.old err.old) (input R.Source src.old))
+        (feed_outside (outside C.Cabinet O.Sink E.Sink cab.new out.new err.new) (input R.Source src.new))
         now
         result }
     ensures keeps { FeedKeeps
-        (feed_outside (outside (C.holds cab.old) (C.missed cab.old) (C.faults cab.old) (stream (O.written out.old) (O.faults out.old)) (stream (E.written err.old) (E.faults err.old))) (input (R.left src.old) (R.taken src.old) (R.faults src.old)))
-        (feed_outside (outside (C.holds cab.new) (C.missed cab.new) (C.faults cab.new) (stream (O.written out.new) (O.faults out.new)) (stream (E.written err.new) (E.faults err.new))) (input (R.left src.new) (R.taken src.new) (R.faults src.new))) }
+        (feed_outside (outside C.Cabinet O.Sink E.Sink cab.old out.old err.old) (input R.Source src.old))
+        (feed_outside (outside C.Cabinet O.Sink E.Sink cab.new out.new err.new) (input R.Source src.new)) }
 {
     let Some((name, most)) = feed_words(words) else {
         return tell(err, "usage\n", Status::Usage);

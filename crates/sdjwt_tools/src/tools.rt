@@ -1,6 +1,6 @@
 // The top call of the program.
 ghost use Rattle.std.specs.Prelude.{◌≡◌, ◌≤◌, ◌^◌, ◌↔◌, ◌⊎◌, map, string_bytes, codes, IsTrue};
-ghost use Rattle.cli_parts.specs.Outside.{outside, stream};
+ghost use Rattle.cli_parts.specs.Outside.{outside};
 ghost use Rattle.audit_core.specs.AuditRun.{AuditEnds};
 ghost use Rattle.feed_core.specs.FeedSource.{input};
 ghost use Rattle.feed_core.specs.FeedRun.{feed_outside, FeedEnds, FeedKeeps};
@@ -36,22 +36,22 @@ pub fn run_tools<C: Cabinet, R: Source, O: Sink, E: Sink>(
 ) -> Status
     requires { R.taken src.old ≤ 2 ^ 63 }
     ensures audit { Names (codes "audit") (map string_bytes words.now) → AuditEnds (map string_bytes words.now)
-        (outside (C.holds cab.old) (C.missed cab.old) (C.faults cab.old) (stream (O.written out.old) (O.faults out.old)) (stream (E.written err.old) (E.faults err.old)))
-        (outside (C.holds cab.new) (C.missed cab.new) (C.faults cab.new) (stream (O.written out.new) (O.faults out.new)) (stream (E.written err.new) (E.faults err.new)))
+        (outside C.Cabinet O.Sink E.Sink cab.old out.old err.old)
+        (outside C.Cabinet O.Sink E.Sink cab.new out.new err.new)
         result }
     ensures wallet { Names (codes "wallet") (map string_bytes words.now) → WalletEnds (map string_bytes words.now)
-        (outside (C.holds cab.old) (C.missed cab.old) (C.faults cab.old) (stream (O.written out.old) (O.faults out.old)) (stream (E.written err.old) (E.faults err.old)))
-        (outside (C.holds cab.new) (C.missed cab.new) (C.faults cab.new) (stream (O.written out.new) (O.faults out.new)) (stream (E.written err.new) (E.faults err.new)))
+        (outside C.Cabinet O.Sink E.Sink cab.old out.old err.old)
+        (outside C.Cabinet O.Sink E.Sink cab.new out.new err.new)
         result }
     ensures untaken { Names (codes "audit") (map string_bytes words.now) ⊎ Names (codes "wallet") (map string_bytes words.now) → src.new ≡ src.old }
     ensures ends { (Names (codes "audit") (map string_bytes words.now) → ⊥) → (Names (codes "wallet") (map string_bytes words.now) → ⊥) → FeedEnds (map string_bytes words.now)
-        (feed_outside (outside (C.holds cab.old) (C.missed cab.old) (C.faults cab.old) (stream (O.written out.old) (O.faults out.old)) (stream (E.written err.old) (E.faults err.old))) (input (R.left src.old) (R.taken src.old) (R.faults src.old)))
-        (feed_outside (outside (C.holds cab.new) (C.missed cab.new) (C.faults cab.new) (stream (O.written out.new) (O.faults out.new)) (stream (E.written err.new) (E.faults err.new))) (input (R.left src.new) (R.taken src.new) (R.faults src.new)))
+        (feed_outside (outside C.Cabinet O.Sink E.Sink cab.old out.old err.old) (input R.Source src.old))
+        (feed_outside (outside C.Cabinet O.Sink E.Sink cab.new out.new err.new) (input R.Source src.new))
         now
         result }
     ensures keeps { FeedKeeps
-        (feed_outside (outside (C.holds cab.old) (C.missed cab.old) (C.faults cab.old) (stream (O.written out.old) (O.faults out.old)) (stream (E.written err.old) (E.faults err.old))) (input (R.left src.old) (R.taken src.old) (R.faults src.old)))
-        (feed_outside (outside (C.holds cab.new) (C.missed cab.new) (C.faults cab.new) (stream (O.written out.new) (O.faults out.new)) (stream (E.written err.new) (E.faults err.new))) (input (R.left src.new) (R.taken src.new) (R.faults src.new))) }
+        (feed_outside (outside C.Cabinet O.Sink E.Sink cab.old out.old err.old) (input R.Source src.old))
+        (feed_outside (outside C.Cabinet O.Sink E.Sink cab.new out.new err.new) (input R.Source src.new)) }
 {
     if names_tool(words, "audit") {
         return run_audit(alloc, words, cab, out, err);

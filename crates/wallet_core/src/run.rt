@@ -2,7 +2,7 @@
 ghost use Rattle.std.specs.Prelude.{◌≡◌, ◌≤◌, ℕ, List, ◌∷◌, map, IfOk, IfErr, IsErrOf, string_bytes};
 ghost use Rattle.std.specs.List.{AllZip};
 ghost use Rattle.sd_outside.specs.Causes.{Rose};
-ghost use Rattle.cli_parts.specs.Outside.{outside, stream};
+ghost use Rattle.cli_parts.specs.Outside.{outside};
 ghost use Rattle.cli_parts.specs.Runs.{IsFetched, MissesWord, RunKeeps};
 ghost use Rattle.cli_parts.specs.Stops.{IsReply, OnRefused, OnUnread, OnUnreadable};
 ghost use Rattle.compact_form.specs.Compact.{AreWords};
@@ -129,12 +129,12 @@ pub fn run_wallet<C: Cabinet, O: Sink, E: Sink>(
     err: &mut E,
 ) -> Status
     ensures ends { WalletEnds (map string_bytes words.now)
-        (outside (C.holds cab.old) (C.missed cab.old) (C.faults cab.old) (stream (O.written out.old) (O.faults out.old)) (stream (E.written err.old) (E.faults err.old)))
-        (outside (C.holds cab.new) (C.missed cab.new) (C.faults cab.new) (stream (O.written out.new) (O.faults out.new)) (stream (E.written err.new) (E.faults err.new)))
+        (outside C.Cabinet O.Sink E.Sink cab.old out.old err.old)
+        (outside C.Cabinet O.Sink E.Sink cab.new out.new err.new)
         result }
     ensures keeps { RunKeeps
-        (outside (C.holds cab.old) (C.missed cab.old) (C.faults cab.old) (stream (O.written out.old) (O.faults out.old)) (stream (E.written err.old) (E.faults err.old)))
-        (outside (C.holds cab.new) (C.missed cab.new) (C.faults cab.new) (stream (O.written out.new) (O.faults out.new)) (stream (E.written err.new) (E.faults err.new))) }
+        (outside C.Cabinet O.Sink E.Sink cab.old out.old err.old)
+        (outside C.Cabinet O.Sink E.Sink cab.new out.new err.new) }
 {
     let Some((query, tokens)) = wallet_words(words) else {
         return tell(err, "usage\n", Status::Usage);
