@@ -77,13 +77,8 @@ pub fn run_audit<C: Cabinet, O: Sink, E: Sink>(
     out: &mut O,
     err: &mut E,
 ) -> Status
-    ensures ends { AuditEnds (map string_bytes words.now)
-        (outside C.Cabinet O.Sink E.Sink cab.old out.old err.old)
-        (outside C.Cabinet O.Sink E.Sink cab.new out.new err.new)
-        result }
-    ensures keeps { RunKeeps
-        (outside C.Cabinet O.Sink E.Sink cab.old out.old err.old)
-        (outside C.Cabinet O.Sink E.Sink cab.new out.new err.new) }
+    ensures ends { AuditEnds (map string_bytes words.now) (outside C.Cabinet O.Sink E.Sink cab.old out.old err.old) (outside C.Cabinet O.Sink E.Sink cab.new out.new err.new) result }
+    ensures keeps { RunKeeps (outside C.Cabinet O.Sink E.Sink cab.old out.old err.old) (outside C.Cabinet O.Sink E.Sink cab.new out.new err.new) }
 {
     let Some((order, token)) = audit_words(words) else {
         return tell(err, "usage\n", Status::Usage);

@@ -77,14 +77,8 @@ pub fn run<C: Cabinet, O: Sink, E: Sink>(
     out: &mut O,
     err: &mut E,
 ) -> Status
-    ensures ends { Ends (map string_bytes words.now)
-        (outside C.Cabinet O.Sink E.Sink cab.old out.old err.old)
-        (outside C.Cabinet O.Sink E.Sink cab.new out.new err.new)
-        now
-        result }
-    ensures keeps { RunKeeps
-        (outside C.Cabinet O.Sink E.Sink cab.old out.old err.old)
-        (outside C.Cabinet O.Sink E.Sink cab.new out.new err.new) }
+    ensures ends { Ends (map string_bytes words.now) (outside C.Cabinet O.Sink E.Sink cab.old out.old err.old) (outside C.Cabinet O.Sink E.Sink cab.new out.new err.new) now result }
+    ensures keeps { RunKeeps (outside C.Cabinet O.Sink E.Sink cab.old out.old err.old) (outside C.Cabinet O.Sink E.Sink cab.new out.new err.new) }
 {
     let Some(command) = Command::of(words) else {
         return tell(err, "usage\n", Status::Usage);

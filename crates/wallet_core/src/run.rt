@@ -128,13 +128,8 @@ pub fn run_wallet<C: Cabinet, O: Sink, E: Sink>(
     out: &mut O,
     err: &mut E,
 ) -> Status
-    ensures ends { WalletEnds (map string_bytes words.now)
-        (outside C.Cabinet O.Sink E.Sink cab.old out.old err.old)
-        (outside C.Cabinet O.Sink E.Sink cab.new out.new err.new)
-        result }
-    ensures keeps { RunKeeps
-        (outside C.Cabinet O.Sink E.Sink cab.old out.old err.old)
-        (outside C.Cabinet O.Sink E.Sink cab.new out.new err.new) }
+    ensures ends { WalletEnds (map string_bytes words.now) (outside C.Cabinet O.Sink E.Sink cab.old out.old err.old) (outside C.Cabinet O.Sink E.Sink cab.new out.new err.new) result }
+    ensures keeps { RunKeeps (outside C.Cabinet O.Sink E.Sink cab.old out.old err.old) (outside C.Cabinet O.Sink E.Sink cab.new out.new err.new) }
 {
     let Some((query, tokens)) = wallet_words(words) else {
         return tell(err, "usage\n", Status::Usage);
