@@ -1,10 +1,11 @@
 // Parts of a token that carry compact JSON.
-ghost use Rattle.std.specs.Prelude.{◌≡◌, ◌≤◌, ◌↔◌, length, take, IfOk, IfSome, IfNone, IsTrue, IsUtf8};
+ghost use Rattle.std.specs.Prelude.{◌≡◌, ◌≢◌, ◌≤◌, ◌↔◌, length, take, Ok, Err, IfOk, IfSome, IfNone, IsTrue, IsUtf8};
 ghost use Rattle.b64url_text.specs.Base64url.{Decodes};
 ghost use Rattle.b64url_text.specs.NotBase64.{IsNotBase64};
 ghost use Rattle.claim_tree.specs.Tree.{depth as depth_of};
 ghost use Rattle.claim_tree.specs.JsonText.{json_text};
 ghost use Rattle.claim_tree.specs.View.{tree_of};
+ghost use Rattle.claim_tree.specs.declared.text.ReadError.{ReadError as Unread};
 ghost use Rattle.audit_core.specs.Audited.{IsWrittenAs, IsSaltedText};
 ghost use Rattle.audit_core.specs.AuditSteps.{IsUnwritten, IsUnsalted};
 
@@ -39,6 +40,18 @@ fn decode_to(room: &mut Vec<u8>, part: &str) -> Result<Option<usize>, NoMemory>
     }
 }
 
+// What was read, or none where the text was not of its form.
+fn or_none<T>(read: Result<T, ReadError>) -> Result<Option<T>, NoMemory>
+    ensures some { IfOk result (λ found. IfSome found (λ value. read ≡ Ok value)) }
+    ensures none { IfOk result (λ found. IfNone found ((error : Unread) × (read ≡ Err error) × (error ≢ Unread.Memory))) }
+{
+    match read {
+        Ok(value) => Ok(Some(value)),
+        Err(ReadError::Memory) => Err(NoMemory),
+        Err(_) => Ok(None),
+    }
+}
+
 // Whether the bytes are the compact JSON text of the tree.
 fn is_text_of(alloc: Global, json: &[u8], tree: &Tree) -> Result<bool, NoMemory>
     ensures is { IfOk result (λ is. IsTrue is ↔ (json.now ≡ json_text (tree_of tree.now))) }
@@ -66,14 +79,8 @@ impl JsonPartReader {
             return Ok(None);
         };
         let json = &self.room[..count];
-        let tree = match self.json.read(alloc, json) {
-            Ok(tree) => tree,
-            Err(error) => {
-                return match error {
-                    ReadError::Memory => Err(NoMemory),
-                    _ => Ok(None),
-                };
-            }
+        let Some(tree) = or_none(self.json.read(alloc, json))? else {
+            return Ok(None);
         };
         if !is_text_of(alloc, json, &tree)? {
             return Ok(None);
@@ -95,14 +102,8 @@ impl JsonPartReader {
             return Ok(None);
         };
         let json = &self.room[..count];
-        let found = match self.json.read_tail(alloc, json) {
-            Ok(found) => found,
-            Err(error) => {
-                return match error {
-                    ReadError::Memory => Err(NoMemory),
-                    _ => Ok(None),
-                };
-            }
+        let Some(found) = or_none(self.json.read_tail(alloc, json))? else {
+            return Ok(None);
         };
         let Some(disclosed) = disclosed_by(found) else {
             return Ok(None);
