@@ -24,10 +24,9 @@ pub(crate) struct JsonPartReader {
     room: Vec<u8>,
 }
 
-// Decodes a part to the front of the room, which grows as it has to. The answer is how many bytes they are.
-fn decode_to(room: &mut Vec<u8>, part: &str) -> Result<Option<usize>, NoMemory>
-    ensures within { IfOk result (λ read. IfSome read (λ count. count ≤ length room.new.items)) }
-    ensures some { IfOk result (λ read. IfSome read (λ count. Decodes part.now (take count room.new.items))) }
+// The bytes of a part, at the front of the room, which grows as it has to.
+fn decoded<'a>(room: &'a mut Vec<u8>, part: &str) -> Result<Option<&'a [u8]>, NoMemory>
+    ensures some { IfOk result (λ read. IfSome read (λ bytes. Decodes part.now bytes.now)) }
     ensures none { IfOk result (λ read. IfNone read (IsNotBase64 part.now)) }
 {
     let wanted = part.len() / 4 * 3 + 3;
@@ -35,7 +34,7 @@ fn decode_to(room: &mut Vec<u8>, part: &str) -> Result<Option<usize>, NoMemory>
         room.resize(wanted, 0)?;
     }
     match decode_into(part.as_bytes(), room.as_mut_slice()) {
-        Ok(count) => Ok(Some(count)),
+        Ok(count) => Ok(Some(&room[..count])),
         Err(_) => Ok(None),
     }
 }
@@ -75,10 +74,9 @@ impl JsonPartReader {
         ensures depth { IfOk result (λ read. IfSome read (λ t. depth_of (tree_of t) ≤ 127)) }
         ensures none { IfOk result (λ read. IfNone read (IsUnwritten part.now)) }
     {
-        let Some(count) = decode_to(&mut self.room, part)? else {
+        let Some(json) = decoded(&mut self.room, part)? else {
             return Ok(None);
         };
-        let json = &self.room[..count];
         let Some(tree) = or_none(self.json.read(alloc, json))? else {
             return Ok(None);
         };
@@ -98,10 +96,9 @@ impl JsonPartReader {
         ensures depth { IfOk result (λ read. IfSome read (λ d. depth_of (tree_of d.value) ≤ 126)) }
         ensures none { IfOk result (λ read. IfNone read (IsUnsalted text.now)) }
     {
-        let Some(count) = decode_to(&mut self.room, text)? else {
+        let Some(json) = decoded(&mut self.room, text)? else {
             return Ok(None);
         };
-        let json = &self.room[..count];
         let Some(found) = or_none(self.json.read_tail(alloc, json))? else {
             return Ok(None);
         };

@@ -1,6 +1,5 @@
-use Rattle.std.proofs.Common.{sym, take, subst, ◌∙◌}
+use Rattle.std.proofs.Common.{sym, ◌∙◌}
 use Rattle.std.proofs.lemmas.Bool.{true≢false}
-use Rattle.b64url_text.specs.Base64url.{Decodes}
 use Rattle.claim_tree.specs.View.{tree_of}
 use Rattle.audit_core.proofs.Unwritten.{unread_unwritten}
 use Rattle.audit_core.proofs.Writtens.{one_salted, no_array_unsalted}
@@ -8,23 +7,21 @@ use Rattle.audit_core.proofs.json_parts.JsonPartReader.read_salted.Goals as goal
 
 pub returns-in_default-2-clause-none : goal.returns-in_default-2-clause-none
 returns-in_default-2-clause-none c =
-    let some = rw c.in-Some.is at c.in_ok-count.ensures.some in
+    let some = rw c.in-Some.is at c.in_ok-json.ensures.some in
     let why = rw c.in_default-2.is at c.in_ok-found.ensures.none in
-    let unread = rw (c.deref.ensures.value, why.1) at c.read_tail.ensures.unread in
-    λ name value w. unread_unwritten c.args.text.now (take c.in-Some.count c.decode_to.new.room.items) why.0 why.2 some unread _ w.written
+    λ name value w. unread_unwritten c.args.text.now c.in-Some.json.now why.0 why.2 some (rw why.1 at c.read_tail.ensures.unread) _ w.written
 
 pub returns-in_default-disclosed_by-clause-none : goal.returns-in_default-disclosed_by-clause-none
 returns-in_default-disclosed_by-clause-none c =
-    let bytes = take c.in-Some.count c.decode_to.new.room.items in
-    let some = rw c.in-Some.is at c.in_ok-count.ensures.some in
-    let read = c.in_default-disclosed_by.ensures.other bytes (rw (c.deref.ensures.value, rw c.in-Some-2.is at c.in_ok-found.ensures.some) at c.read_tail.ensures.ok) in
-    no_array_unsalted c.args.text.now bytes read.0 some read.1 read.2
+    let some = rw c.in-Some.is at c.in_ok-json.ensures.some in
+    let read = c.in_default-disclosed_by.ensures.other c.in-Some.json.now (rw (rw c.in-Some-2.is at c.in_ok-found.ensures.some) at c.read_tail.ensures.ok) in
+    no_array_unsalted c.args.text.now c.in-Some.json.now read.0 some read.1 read.2
 
 pub returns-then-not-branch-clause-none : goal.returns-then-not-branch-clause-none
 returns-then-not-branch-clause-none c = λ name value w.
-    let bytes = take c.in-Some.count c.decode_to.new.room.items in
+    let bytes = c.in-Some.json.now in
     let given = c.in-Some-disclosed_by.disclosed in
-    let some = rw c.in-Some.is at c.in_ok-count.ensures.some in
-    let read = c.in-Some-disclosed_by.ensures.given bytes (rw (c.deref.ensures.value, rw c.in-Some-2.is at c.in_ok-found.ensures.some) at c.read_tail.ensures.ok) in
+    let some = rw c.in-Some.is at c.in_ok-json.ensures.some in
+    let read = c.in-Some-disclosed_by.ensures.given bytes (rw (rw c.in-Some-2.is at c.in_ok-found.ensures.some) at c.read_tail.ensures.ok) in
     let one = one_salted c.args.text.now bytes read.0 given.name name (tree_of given.value) value some read.1 w in
-    true≢false (sym (c.in_ok-is_salted.ensures.none c.args.text.now (subst (λ json. Decodes c.args.text.now (take c.in-Some.count json)) (sym c.deref.ensures.value) some) one) ∙ c.if-not-branch.true)
+    true≢false (sym (c.in_ok-is_salted.ensures.none c.args.text.now some one) ∙ c.if-not-branch.true)
