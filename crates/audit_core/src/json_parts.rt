@@ -1,5 +1,5 @@
 // Parts of a token that carry compact JSON.
-ghost use Rattle.std.specs.Prelude.{◌≡◌, ◌≢◌, ◌≤◌, ◌↔◌, length, take, Ok, Err, IfOk, IfSome, IfNone, IsTrue, IsUtf8};
+ghost use Rattle.std.specs.Prelude.{◌≡◌, ◌≢◌, ◌≤◌, ◌↔◌, Ok, Err, IfOk, IfSome, IfNone, IsTrue, IsUtf8};
 ghost use Rattle.b64url_text.specs.Base64url.{Decodes};
 ghost use Rattle.b64url_text.specs.NotBase64.{IsNotBase64};
 ghost use Rattle.claim_tree.specs.Tree.{depth as depth_of};

@@ -14,6 +14,17 @@ enum Failing {
     Line(u64),
 }
 
+impl Failing {
+    // The counts of failed calls, where just so many of this object failed.
+    fn alone(self, failures: u64) -> [u64; 3] {
+        match self {
+            Fetch(_) => [failures, 0, 0],
+            Output(_) => [0, failures, 0],
+            Line(_) => [0, 0, failures],
+        }
+    }
+}
+
 // The objects of a run.
 #[derive(Drop)]
 struct Bench {
@@ -43,13 +54,13 @@ impl Bench {
         }
     }
 
-    // How many calls have failed of the object whose call is to fail.
-    fn failures(&self, failing: Failing) -> u64 {
-        match failing {
-            Fetch(_) => self.cabinet.failures(),
-            Output(_) => self.out.failures(),
-            Line(_) => self.err.failures(),
-        }
+    // How many calls have failed, of the cabinet, of the output and of the lines of errors.
+    fn failures(&self) -> [u64; 3] {
+        [
+            self.cabinet.failures(),
+            self.out.failures(),
+            self.err.failures(),
+        ]
     }
 
     // What stands on both streams behind a run of these words, and behind the status.
@@ -81,7 +92,7 @@ fn a_failure_has_its_status_and_the_objects_serve_again(rt: HostRuntime) -> Resu
         bench.fail(failing)?;
         assert_eq!(rt; bench.left_by(rt.alloc(), words)?.as_str(), first);
         assert_eq!(rt; bench.left_by(rt.alloc(), words)?.as_str(), again);
-        assert_eq!(rt; bench.failures(failing), failures);
+        assert_eq!(rt; bench.failures(), failing.alone(failures));
     }
     Ok(())
 }
