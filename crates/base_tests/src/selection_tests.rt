@@ -44,17 +44,17 @@ fn told(alloc: Global, text: &str, hide: &str, want: &str) -> Result<String, Fai
 #[test]
 fn the_marks_on_the_way_are_chosen(rt: HostRuntime) -> Result<(), Fail> {
     let alloc = rt.alloc();
-    let home = r#"{"home":{"street":"S","zip":"1"}}"#;
+    let house = r#"{"house":{"street":"S","zip":"1"}}"#;
     let names = r#"{"":{"":0},"a":{"a":{"a":1}},"a/b":2,"aa":3}"#;
     let list = r#"{"n":["A",["B"],"C",3,4,5,6,7,8,9,[10],11]}"#;
     for (text, hide, want, chosen) in [
-        (home, "/home /home/street", "/home/street", " 0 1"),
-        (home, "/home /home/street", "/home", " 1"),
-        (home, "/home /home/street", "", ""),
-        (home, "/home/street", "/home/zip", ""),
-        (home, "/home", "/home/street /home/zip", " 0"),
-        (home, "/home", "/nothing", "nowhere 0"),
-        (home, "/home", "/home /home/street/x /y", "nowhere 1"),
+        (house, "/house /house/street", "/house/street", " 0 1"),
+        (house, "/house /house/street", "/house", " 1"),
+        (house, "/house /house/street", "", ""),
+        (house, "/house/street", "/house/zip", ""),
+        (house, "/house", "/house/street /house/zip", " 0"),
+        (house, "/house", "/nothing", "nowhere 0"),
+        (house, "/house", "/house /house/street/x /y", "nowhere 1"),
         (names, "// /a/a /a /aa /a~1b", "// /a/a/a", " 0 1 2"),
         (names, "/ // /a~1b /aa", "/a~1b /aa /a~1b", " 2 3"),
         (list, "/n/0 /n/2 /n/10/0 /n/10", "/n/10/0", " 2 3"),
