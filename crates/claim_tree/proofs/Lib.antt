@@ -5,11 +5,15 @@ pub mod Views
 pub mod MapPlaces
 pub mod Insertions
 pub mod OtherMembers
+pub mod RemovedNodes
 pub mod Positions
 pub mod Walks
 pub mod TreeTokens
 pub mod Datas
+mod FloatNames
 mod TreeReading
+mod Judging
+mod Blanking
 mod ListTails
 pub mod RoundTrip
 pub mod Everywheres

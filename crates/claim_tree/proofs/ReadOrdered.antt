@@ -11,7 +11,7 @@ use Rattle.claim_tree.specs.Tree.{Text, Tree, leaf, array, object, Elements, no_
 use Rattle.claim_tree.specs.JsonText.{Reads, data_of, elements_data, members_data}
 
 -- each name comes after k
-abbrev AreAfter : Text → port.Members → Type 0
+abbrev pub AreAfter : Text → port.Members → Type 0
 AreAfter k port.no_members = Unit {0}
 AreAfter k (port.member l d ms) = IsBefore k l × AreAfter k ms
 
@@ -40,11 +40,11 @@ after_one Less j k l d e ms rest b c all ih = (b, (c, all))
 after_one Equal j k l d e ms rest b c all ih = (c, all)
 after_one Greater j k l d e ms rest b c all ih = (c, ih)
 
-after_put : (j k : Text) (d : port.Data) (ms : port.Members) → IsBefore j k → AreAfter j ms → AreAfter j (port.put k d ms)
+pub after_put : (j k : Text) (d : port.Data) (ms : port.Members) → IsBefore j k → AreAfter j ms → AreAfter j (port.put k d ms)
 after_put j k d port.no_members b all = (b, tt)
 after_put j k d (port.member l e ms) b all = after_one (slice_cmp nat_cmp k l) j k l d e ms (port.put k d ms) b all.0 all.1 (after_put j k d ms b all.1)
 
-after_through : (a b : Text) (ms : port.Members) → IsBefore a b → AreAfter b ms → AreAfter a ms
+pub after_through : (a b : Text) (ms : port.Members) → IsBefore a b → AreAfter b ms → AreAfter a ms
 after_through a b port.no_members l all = tt
 after_through a b (port.member n d ms) l all = (nat_list_cmp_total.trans a b n l all.0, after_through a b ms l all.1)
 

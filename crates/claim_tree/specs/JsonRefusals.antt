@@ -11,12 +11,6 @@ IsReadRefused bytes Memory = Unit {0}
 IsReadRefused bytes NotJson = IsNotJson bytes
 IsReadRefused bytes NotWhole = IsNotWhole bytes
 
--- why a value has no tree, where this says that a number in it is not whole
-abbrev pub HasNoTree : Type 0 → ReadError → Type 0
-HasNoTree HasFloat Memory = Unit {0}
-HasNoTree HasFloat NotJson = ⊥
-HasNoTree HasFloat NotWhole = HasFloat
-
 -- the fault of a file whose text is not read
 abbrev pub unread_fault : ReadError → FileFault
 unread_fault ReadError.Memory = FileFault.Memory

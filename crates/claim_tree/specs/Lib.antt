@@ -21,3 +21,4 @@ pub mod ListViews
 pub mod Steps
 pub mod ListTails
 pub mod Begun
+pub mod Floats

@@ -1,17 +1,21 @@
 // Trees from the tokens of a text, in one pass.
-ghost use Rattle.std.specs.Prelude.{◌≡◌, ◌<◌, length, Some, IfOk, OnOk};
-ghost use Rattle.json.specs.Json.{value, items, members};
-ghost use Rattle.serde_json.specs.Data.{no_members};
-ghost use Rattle.serde_json.specs.Read.{of_json, of_items, of_members, converted, read as value_of_text};
+ghost use Rattle.std.specs.Prelude.{◌≡◌, ◌-◌, ◌<◌, true, length, Some, None, Err, IfOk, OnOk, OnErr, option_map};
+ghost use Rattle.json.specs.Json.{value, items, members, parse_map};
+ghost use Rattle.serde_json.specs.Data.{no_members, number, put};
+ghost use Rattle.serde_json.specs.Read.{of_json, of_items, of_members, converted, number_of, read as value_of_text};
 ghost use Rattle.claim_tree.specs.View.{tree_of};
+ghost use Rattle.claim_tree.specs.ListViews.{members_of};
 ghost use Rattle.claim_tree.specs.JsonText.{data_of, elements_data, members_data};
+ghost use Rattle.claim_tree.specs.Floats.{blanked, blanked_items, blanked_members};
+ghost use Rattle.claim_tree.specs.declared.build.BuildError.TheVariants.{Memory, NoTree};
 
 use crate::tree::is_behind;
-use crate::whole_number::whole_number;
+use crate::whole_number::{NotWhole, whole_number};
 use crate::{Tree, TreeList, TreeMap};
 use json::{Invalid, Reader, Scratch, Token};
 use sd_outside::{NoMemory, TextBox};
 use std::alloc::{AllocError, Global};
+use std::collections::BTreeMap;
 
 // How deep arrays and objects nest at most.
 pub(crate) const MOST_DEPTH: usize = 127;
@@ -20,17 +24,22 @@ pub(crate) const MOST_DEPTH: usize = 127;
 #[derive(Clone, Copy, Debug, PartialEq, Eq)]
 pub(crate) enum BuildError {
     Memory,
-    // The text is no JSON, or a number is not whole, or a great object has names that do not ascend.
+    // The text is no JSON. When it is read for the first time, this may also be since a number is not whole, or since a
+    // great object has names that do not ascend.
     NoTree,
 }
 
 impl From<NoMemory> for BuildError {
+    ghost from_gives = { λ _ e. e ≡ Memory };
+
     fn from(_: NoMemory) -> Self {
         BuildError::Memory
     }
 }
 
 impl From<AllocError> for BuildError {
+    ghost from_gives = { λ _ e. e ≡ Memory };
+
     fn from(_: AllocError) -> Self {
         BuildError::Memory
     }
@@ -58,6 +67,24 @@ pub(crate) fn build_text(
     }
 }
 
+// The tree of a text that is read a second time: null stands for each number that is not whole, and names may come in
+// any order.
+pub(crate) fn build_again(
+    alloc: Global,
+    scratch: &mut Scratch,
+    text: &str,
+) -> Result<Tree, BuildError>
+    ensures ok { IfOk result (λ t. option_map (blanked true) (value_of_text text.now) ≡ Some (data_of (tree_of t))) }
+    ensures err { result ≡ Err NoTree → value_of_text text.now ≡ None }
+{
+    let mut reader = Reader::new(text, scratch)?;
+    let tree = build_value(alloc, &mut reader, MOST_DEPTH, true)?;
+    match reader.next() {
+        None => Ok(tree),
+        Some(_) => Err(BuildError::NoTree),
+    }
+}
+
 // The tree that the next tokens are.
 #[cycle(build)]
 pub(crate) fn build(
@@ -68,17 +95,64 @@ pub(crate) fn build(
     ensures ok { IfOk result (λ t. converted of_json (value depth reader.old) ≡ Some (data_of (tree_of t), reader.new)) }
     ensures shorter { OnOk result (length reader.new < length reader.old) }
 {
+    build_value(alloc, reader, depth, false)
+}
+
+// The same, when the text is read for the first or for the second time.
+#[cycle(build)]
+fn build_value(
+    alloc: Global,
+    reader: &mut Reader<'_>,
+    depth: usize,
+    again: bool,
+) -> Result<Tree, BuildError>
+    ensures ok { IfOk result (λ t. parse_map (blanked again) (converted of_json (value depth reader.old)) ≡ Some (data_of (tree_of t), reader.new)) }
+    ensures err { again ≡ true → result ≡ Err NoTree → converted of_json (value depth reader.old) ≡ None }
+    ensures shorter { OnOk result (length reader.new < length reader.old) }
+{
     let token = reader.next().ok_or(BuildError::NoTree)?;
     match token {
         Token::String(text) => Ok(Tree::Text(TextBox::make(alloc, text)?)),
-        Token::Number(text) => Ok(Tree::Whole(whole_number(text).ok_or(BuildError::NoTree)?)),
+        Token::Number(text) => Ok(number_tree(text, again)?),
         Token::Bool(flag) => Ok(Tree::Flag(flag)),
         Token::Null => Ok(Tree::Null),
-        Token::BeginArray if depth > 0 => Ok(Tree::List(build_elements(alloc, reader, depth - 1)?)),
-        Token::BeginObject if depth > 0 => {
-            Ok(Tree::Object(build_members(alloc, reader, depth - 1)?))
+        Token::BeginArray => {
+            Ok(Tree::List(build_elements(alloc, reader, inside(depth)?, again)?))
         }
-        _ => Err(BuildError::NoTree),
+        Token::BeginObject => {
+            Ok(Tree::Object(build_object(alloc, reader, inside(depth)?, again)?))
+        }
+        Token::EndObject | Token::EndArray | Token::Key(_) | Token::Bad => Err(BuildError::NoTree),
+    }
+}
+
+// How deep arrays and objects may nest inside one.
+pub(crate) fn inside(depth: usize) -> Result<usize, BuildError>
+    ensures less { IfOk result (λ inner. inner ≡ depth - 1) }
+    ensures some { OnOk result (0 < depth) }
+    ensures none { OnErr result (depth ≡ 0) }
+{
+    match depth.checked_sub(1) {
+        Some(inner) => Ok(inner),
+        None => Err(BuildError::NoTree),
+    }
+}
+
+// The tree of a number's text.
+fn number_tree(text: &str, again: bool) -> Result<Tree, BuildError>
+    ensures ok { IfOk result (λ t. option_map (λ n. blanked again (number n)) (number_of text.now) ≡ Some (data_of (tree_of t))) }
+    ensures err { again ≡ true → result ≡ Err NoTree → number_of text.now ≡ None }
+{
+    match whole_number(text) {
+        Ok(whole) => Ok(Tree::Whole(whole)),
+        Err(NotWhole::Float) => {
+            if again {
+                Ok(Tree::Null)
+            } else {
+                Err(BuildError::NoTree)
+            }
+        }
+        Err(NotWhole::TooGreat) => Err(BuildError::NoTree),
     }
 }
 
@@ -87,16 +161,37 @@ fn build_elements(
     alloc: Global,
     reader: &mut Reader<'_>,
     depth: usize,
+    again: bool,
 ) -> Result<TreeList, BuildError>
-    ensures ok { IfOk result (λ es. converted of_items (items (value depth) (length reader.old) reader.old) ≡ Some (elements_data es, reader.new)) }
+    ensures ok { IfOk result (λ es. parse_map (blanked_items again) (converted of_items (items (value depth) (length reader.old) reader.old)) ≡ Some (elements_data es, reader.new)) }
+    ensures err { again ≡ true → result ≡ Err NoTree → converted of_items (items (value depth) (length reader.old) reader.old) ≡ None }
     ensures shorter { OnOk result (length reader.new < length reader.old) }
 {
     let mut trees = TreeList::new(alloc);
     while !reader.take_end_array() {
-        let tree = build(alloc, reader, depth)?;
+        let tree = build_value(alloc, reader, depth, again)?;
         trees.push(tree)?;
     }
     Ok(trees)
+}
+
+#[cycle(build)]
+fn build_object(
+    alloc: Global,
+    reader: &mut Reader<'_>,
+    depth: usize,
+    again: bool,
+) -> Result<TreeMap, BuildError>
+    ensures ok { IfOk result (λ ms. parse_map (blanked_members again) (converted (λ found. of_members found no_members) (members (value depth) (length reader.old) reader.old)) ≡ Some (members_data ms, reader.new)) }
+    ensures err { again ≡ true → result ≡ Err NoTree → converted (λ found. of_members found no_members) (members (value depth) (length reader.old) reader.old) ≡ None }
+    ensures shorter { OnOk result (length reader.new < length reader.old) }
+{
+    if again {
+        let members = sort_members(alloc, reader, depth)?;
+        Ok(sorted_map(alloc, members)?)
+    } else {
+        build_members(alloc, reader, depth)
+    }
 }
 
 // The members that an object has at most for a name that comes out of order to be put in its place.
@@ -127,4 +222,47 @@ fn build_members(
         trees.insert(name, tree)?;
     }
     Ok(trees)
+}
+
+// The members of an object that is read a second time, whose names may come in any order.
+#[cycle(build)]
+fn sort_members(
+    alloc: Global,
+    reader: &mut Reader<'_>,
+    depth: usize,
+) -> Result<BTreeMap<TextBox, Tree>, BuildError>
+    ensures ok { IfOk result (λ ms. parse_map (blanked_members true) (converted (λ found. of_members found no_members) (members (value depth) (length reader.old) reader.old)) ≡ Some (members_data (members_of ms.entries), reader.new)) }
+    ensures err { result ≡ Err NoTree → converted (λ found. of_members found no_members) (members (value depth) (length reader.old) reader.old) ≡ None }
+    ensures shorter { OnOk result (length reader.new < length reader.old) }
+{
+    let mut found = BTreeMap::new(alloc);
+    while let Some(name) = reader.next_key()? {
+        let name = TextBox::make(alloc, name)?;
+        let tree = build_value(alloc, reader, depth, true)?;
+        put_sorted(&mut found, name, tree)?;
+    }
+    Ok(found)
+}
+
+// Puts a tree under a name, in place of the one that is there.
+fn put_sorted(
+    members: &mut BTreeMap<TextBox, Tree>,
+    name: TextBox,
+    tree: Tree,
+) -> Result<(), NoMemory>
+    ensures { OnOk result (members_data (members_of members.new.entries) ≡ put name (data_of (tree_of tree)) (members_data (members_of members.old.entries))) }
+{
+    members.insert(name, tree)?;
+    Ok(())
+}
+
+// The object of members that are sorted.
+fn sorted_map(alloc: Global, members: BTreeMap<TextBox, Tree>) -> Result<TreeMap, NoMemory>
+    ensures { IfOk result (λ map. members_data map ≡ members_data (members_of members.entries)) }
+{
+    let mut map = TreeMap::with_capacity(alloc, members.len())?;
+    for (name, tree) in members {
+        map.insert(name, tree)?;
+    }
+    Ok(map)
 }

@@ -52,9 +52,13 @@ fn stepped<'a>(tree: &'a Tree, step: &str) -> Option<&'a Tree>
 /// no memory.
 pub fn position(step: &str, len: usize) -> Option<usize>
     ensures digits { IfSome result (λ i. decimal i ≡ step.now) }
+    ensures there { IfSome result (λ i. i < len) }
     ensures none { result ≡ None → (i : ℕ) → i < len → decimal i ≢ step.now }
 {
     let i = step.parse::<usize>().ok()?;
+    if i >= len {
+        return None;
+    }
     let mut digits = Buffer::new();
     if digits.format(i) == step {
         Some(i)

@@ -1,17 +1,17 @@
-//! JSON values without floats, over `serde_json`, and the paths into them.
+//! JSON values without floats, and the paths into them.
 //!
 //! A [`Tree`] owns its texts. [`read`] and [`write`] are its JSON text (RFC 8259). A [`Path`] is a list of
 //! steps, each a text; its JSON Pointer (RFC 6901) is read by [`read_pointer`] and printed by [`print_path`].
 #![tactic(auto)]
 
 mod build;
-mod convert;
 mod copies;
 mod depths;
 mod file_fault;
 mod file_form;
 mod file_list;
 mod inside;
+mod judge;
 pub mod laws;
 mod member_test;
 mod path;

@@ -10,13 +10,12 @@ ghost use Rattle.claim_tree.specs.declared.text.ReadError.{ReadError};
 ghost use Rattle.claim_tree.specs.ListTails.{ReadsTail, kept_tree, short_list};
 
 use crate::Tree;
-use crate::build::{BuildError, build_text};
-use crate::convert::take;
+use crate::build::{BuildError, build_again, build_text};
+use crate::judge::judge_text;
 use crate::tail::{TailOrTree, build_tail};
 use crate::tokens::{put_texts, put_tree};
 use json::{Scratch, Writer};
 use sd_outside::{NoMemory, TextBox};
-use serde_json::Value;
 use std::alloc::Global;
 use std::str;
 
@@ -66,7 +65,7 @@ impl JsonReader {
         let tree = match build_text(alloc, &mut self.scratch, text) {
             Ok(tree) => tree,
             Err(BuildError::Memory) => return Err(ReadError::Memory),
-            Err(BuildError::NoTree) => read_value(alloc, text)?,
+            Err(BuildError::NoTree) => read_again(alloc, &mut self.scratch, text)?,
         };
         tree.invariant();
         Ok(tree)
@@ -106,17 +105,23 @@ pub fn read(alloc: Global, bytes: &[u8]) -> Result<Tree, ReadError>
     JsonReader::new(alloc).read(alloc, bytes)
 }
 
-// The tree of the value that `serde_json` reads of a text, or why it has none.
-fn read_value(alloc: Global, text: &str) -> Result<Tree, ReadError>
+// The tree of a text that was not read at once, or why it has none. It is judged first, so nothing is kept of one that
+// has none.
+fn read_again(alloc: Global, scratch: &mut Scratch, text: &str) -> Result<Tree, ReadError>
     ensures ok { IfOk result (λ t. value_of_text text.now ≡ Some (data_of (tree_of t))) }
     ensures unread { IsUtf8 text.now → IfErr result (IsReadRefused text.now) }
 {
-    let value = match Value::from_str(alloc, text) {
-        Ok(value) => value,
-        Err(e) if e.is_memory() => return Err(ReadError::Memory),
-        Err(_) => return Err(ReadError::NotJson),
-    };
-    take(alloc, value)
+    match judge_text(alloc, scratch, text) {
+        Ok(false) => (),
+        Ok(true) => return Err(ReadError::NotWhole),
+        Err(BuildError::NoTree) => return Err(ReadError::NotJson),
+        Err(BuildError::Memory) => return Err(ReadError::Memory),
+    }
+    match build_again(alloc, scratch, text) {
+        Ok(tree) => Ok(tree),
+        Err(BuildError::NoTree) => unreachable!(),
+        Err(BuildError::Memory) => Err(ReadError::Memory),
+    }
 }
 
 // The bytes that a written text takes memory for at first.

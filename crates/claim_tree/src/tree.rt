@@ -145,6 +145,7 @@ impl TreeList {
         ensures err { OnErr result (self.new ≡ self.old) }
     {
         tree.invariant();
+        make_room(&mut self.trees)?;
         self.trees.push(tree)?;
         Ok(())
     }
@@ -305,6 +306,18 @@ fn search_from_end(members: &[(TextBox, Tree)], name: &str) -> Result<usize, usi
     }
 }
 
+// Makes room for one more where there is none: for a first one alone, then for as many as there are. So what holds one
+// or none, as most that nest deep, takes no more memory than it needs.
+fn make_room<T>(items: &mut Vec<T>) -> Result<(), NoMemory>
+    ensures { items.new.items ≡ items.old.items }
+{
+    let count = items.len();
+    if count == items.capacity() {
+        items.reserve_exact(count.max(1))?;
+    }
+    Ok(())
+}
+
 fn put(members: &mut Vec<(TextBox, Tree)>, name: TextBox, tree: Tree) -> Result<(), NoMemory>
     requires members { MembersOrdered (members_of members.old.items) }
     requires members_range { MembersRanged (members_of members.old.items) }
@@ -317,7 +330,10 @@ fn put(members: &mut Vec<(TextBox, Tree)>, name: TextBox, tree: Tree) -> Result<
 {
     match search_from_end(members.as_slice(), name.as_str()) {
         Ok(position) => members[position] = (name, tree),
-        Err(position) => members.insert(position, (name, tree))?,
+        Err(position) => {
+            make_room(members)?;
+            members.insert(position, (name, tree))?;
+        }
     }
     Ok(())
 }

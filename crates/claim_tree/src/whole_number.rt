@@ -1,15 +1,23 @@
-// The whole numbers that the texts of numbers are.
-ghost use Rattle.std.specs.Prelude.{◌≡◌, ◌<◌, Some, true, false, length, slice_index, ◌==◌, IfSome, IsTrue};
-ghost use Rattle.serde_json.specs.Find.{of_integer};
-ghost use Rattle.serde_json.specs.Read.{number_of, number_from};
+// What the texts of numbers are.
+ghost use Rattle.std.specs.Prelude.{◌≡◌, Err, ◌<◌, true, false, length, slice_index, ◌==◌, IsTrue};
+ghost use Rattle.serde_json.specs.Read.{number_of, number_from, float_of};
+ghost use Rattle.claim_tree.specs.Floats.{IsNumber};
 
 use crate::Whole;
 use fast_float::Numeral;
 
-// The whole number that is kept of a number's text. None where it has a fraction or an exponent, is `-0`, or is out of
-// the range of 64 bits.
-pub(crate) fn whole_number(text: &str) -> Option<Whole>
-    ensures value { IfSome result (λ n. number_of text.now ≡ Some (of_integer n)) }
+// Why the text of a number is not kept as a whole number.
+#[derive(Clone, Copy)]
+pub(crate) enum NotWhole {
+    // It has a fraction or an exponent, is `-0`, or is out of the range of 64 bits.
+    Float,
+    // It is too great for a float.
+    TooGreat,
+}
+
+// The whole number that the text of a number is.
+pub(crate) fn whole_number(text: &str) -> Result<Whole, NotWhole>
+    ensures value { IsNumber (number_of text.now) result }
 {
     let bytes = text.as_bytes();
     if has_minus(bytes) {
@@ -26,16 +34,32 @@ fn has_minus(bytes: &[u8]) -> bool
     !bytes.is_empty() && bytes[0] == b'-'
 }
 
-fn positive(numeral: &Numeral<'_>) -> Option<Whole>
-    ensures value { IfSome result (λ n. number_from false numeral.now ≡ Some (of_integer n)) }
+fn positive(numeral: &Numeral<'_>) -> Result<Whole, NotWhole>
+    ensures value { IsNumber (number_from false numeral.now) result }
 {
-    let n = numeral.to_u64()?;
-    Some(Whole::from(n))
+    match numeral.to_u64() {
+        Some(n) => Ok(Whole::from(n)),
+        None => Err(not_whole(false, numeral)),
+    }
 }
 
-fn negative(numeral: &Numeral<'_>) -> Option<Whole>
-    ensures value { IfSome result (λ n. number_from true numeral.now ≡ Some (of_integer n)) }
+fn negative(numeral: &Numeral<'_>) -> Result<Whole, NotWhole>
+    ensures value { IsNumber (number_from true numeral.now) result }
 {
-    let n = numeral.to_i64(true)?;
-    if n < 0 { Some(Whole::from(n)) } else { None }
+    if let Some(n) = numeral.to_i64(true) {
+        if n < 0 {
+            return Ok(Whole::from(n));
+        }
+    }
+    Err(not_whole(true, numeral))
+}
+
+fn not_whole(negative: bool, numeral: &Numeral<'_>) -> NotWhole
+    ensures value { IsNumber (float_of negative numeral.now) (Err result) }
+{
+    if numeral.to_float::<f64>(negative).is_finite() {
+        NotWhole::Float
+    } else {
+        NotWhole::TooGreat
+    }
 }

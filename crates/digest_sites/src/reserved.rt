@@ -1,5 +1,6 @@
 // What of a tree the reserved names read.
-ghost use Rattle.std.specs.Prelude.{◌≡◌, [], Some, MatchOption, is_some, length, option_map, bytes_eq};
+ghost use Rattle.std.specs.Prelude.{◌≡◌, [], Some, MatchOption, is_some, option_and_then, length, option_map, bytes_eq};
+ghost use Rattle.claim_tree.specs.Tree.{member_named};
 ghost use Rattle.claim_tree.specs.View.{tree_of};
 ghost use Rattle.digest_sites.specs.Reserved.{texts_of, text_list, element_digest as digest_in, is_ill_named as is_ill_named_as, sd_texts, sd_name, dots_name};
 
@@ -53,7 +54,8 @@ fn is_text_list(tree: &Tree) -> bool
 /// no list of texts. It takes no memory.
 #[tactic(auto, unfolding(crate::specs::Reserved::sd_name), using(crate::proofs::Found::sd_found))]
 pub fn own_digests(members: &TreeMap) -> Option<&TreeList>
-    ensures { MatchOption result (sd_texts members.now ≡ []) (λ list. texts_of list.now ≡ Some (sd_texts members.now)) }
+    ensures texts { MatchOption result (sd_texts members.now ≡ []) (λ list. texts_of list.now ≡ Some (sd_texts members.now)) }
+    ensures exactly { is_some result ≡ is_some (option_and_then text_list (member_named members.now sd_name)) }
 {
     let Tree::List(list) = members.get(SD)? else {
         return None;

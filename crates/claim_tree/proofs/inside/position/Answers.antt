@@ -17,3 +17,10 @@ returns-else-eq-clause-none c none i below e =
     let one : c.in_ok-i.i ≡ i = cc some in
     let same : c.format.result.now ≡ c.args.step.now = c.format.ensures.text ∙ (ap decimal one ∙ e) in
     true≢false (sym ((bytes_eq-Decides c.format.result.now c.args.step.now).1 same) ∙ (sym c.eq.ensures ∙ c.if-eq.false))
+
+pub returns-then-i-len-clause-none : goal.returns-then-i-len-clause-none
+returns-then-i-len-clause-none c none i below e =
+    let parsed = parse-decimal 64 i c.args.step.now c.parse.result (omega (arith, below, c.ranges.len.fits)) (omega (arith, below, c.ranges.len.fits)) (sym e) c.parse.ensures.value.0 in
+    let some : Some c.in_ok-i.i ≡ Some i = c.in_ok-i.ensures.value ∙ ap result_ok parsed in
+    let one : c.in_ok-i.i ≡ i = cc some in
+    omega (arith, below, one, c.if-i-len.true)

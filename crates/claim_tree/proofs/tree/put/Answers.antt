@@ -1,4 +1,5 @@
 use Rattle.std.proofs.Common.{ap, ◌∙◌, sym, subst}
+use Rattle.std.specs.List.{insert}
 use Rattle.claim_tree.specs.Tree.{MembersOrdered, MembersRanged}
 use Rattle.claim_tree.specs.View.{tree_of}
 use Rattle.claim_tree.specs.ListViews.{members_of}
@@ -22,7 +23,7 @@ returns-in-Ok-clause-ranged c =
 pub returns-in_ok-insert-in-Err-clause-ok : goal.returns-in_ok-insert-in-Err-clause-ok
 returns-in_ok-insert-in-Err-clause-ok c =
     let gap = rw (c.as_slice.ensures.value, c.as_str.ensures) at c.in-Err.ensures in
-    ap members_of c.in_ok-insert-in-Err.ensures.items ∙ insert_at c.args.members.now.items c.args.name c.args.tree c.in-Err.position gap
+    ap members_of (c.in_ok-insert-in-Err.ensures.items ∙ ap (λ ms. insert ms c.in-Err.position (c.args.name, c.args.tree)) c.make_room.ensures) ∙ insert_at c.args.members.now.items c.args.name c.args.tree c.in-Err.position gap
 
 pub returns-in_ok-insert-in-Err-clause-ordered : goal.returns-in_ok-insert-in-Err-clause-ordered
 returns-in_ok-insert-in-Err-clause-ordered c =

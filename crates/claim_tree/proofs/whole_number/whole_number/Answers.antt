@@ -1,7 +1,7 @@
-use Rattle.std.proofs.Common.{◌≡◌, drop, get_or, true, false, Some, ◌==◌, IfSome, sym, ap, ◌∙◌, subst, arith, take_all, length-drop}
+use Rattle.std.proofs.Common.{◌≡◌, drop, get_or, true, false, ◌==◌, sym, ap, ◌∙◌, subst, arith, take_all, length-drop}
 use Rattle.fast_float.specs.Text.{scan}
-use Rattle.serde_json.specs.Find.{of_integer}
 use Rattle.serde_json.specs.Read.{number_of, number_from}
+use Rattle.claim_tree.specs.Floats.{IsNumber}
 use Rattle.claim_tree.proofs.whole_number.whole_number.Goals as goal
 
 pub returns-then-has_minus : goal.returns-then-has_minus
@@ -12,7 +12,7 @@ returns-then-has_minus c =
     let parts : c.scan.result ≡ scan (drop 1 s) = c.scan.ensures.parts ∙ ap scan (take_all _ (drop 1 s) (omega (arith, length-drop 1 s))) in
     let read : number_from true (scan (drop 1 s)) ≡ number_of s = rw signed in
     let all = ap (number_from true) parts ∙ read ∙ ap number_of c.as_bytes-bytes.ensures.value in
-    record { value = subst (λ o. IfSome c.negative.result (λ n. o ≡ Some (of_integer n))) all c.negative.ensures.value }
+    record { value = subst (λ o. IsNumber o c.negative.result) all c.negative.ensures.value }
 
 pub returns-else-has_minus : goal.returns-else-has_minus
 unfolding number_of
@@ -21,4 +21,4 @@ returns-else-has_minus c =
     let unsigned : (get_or s 0 0 == 45) ≡ false = sym c.if-has_minus.ensures.value in
     let read : number_from false (scan s) ≡ number_of s = rw unsigned in
     let all = ap (number_from false) c.scan-else-has_minus.ensures.parts ∙ read ∙ ap number_of c.as_bytes-bytes.ensures.value in
-    record { value = subst (λ o. IfSome c.positive.result (λ n. o ≡ Some (of_integer n))) all c.positive.ensures.value }
+    record { value = subst (λ o. IsNumber o c.positive.result) all c.positive.ensures.value }

@@ -1,4 +1,4 @@
-use Rattle.std.proofs.Common.{ap, ◌∙◌, sym, subst}
+use Rattle.std.proofs.Common.{[], ◌∷◌, ◌++◌, ap, ◌∙◌, sym, subst}
 use Rattle.claim_tree.specs.Tree.{ElementsOrdered, ElementsRanged}
 use Rattle.claim_tree.specs.TreeCalls.{pushed}
 use Rattle.claim_tree.specs.View.{tree_of}
@@ -9,7 +9,7 @@ use Rattle.claim_tree.proofs.tree.TreeList.push.Goals as goal
 
 pub invariant_of-self-2 : goal.invariant_of-self-2
 invariant_of-self-2 c =
-    let grown = ap elements_of c.in_ok-push.ensures.items ∙ elements_of-push c.self.inside.trees.items c.args.tree in
+    let grown = ap elements_of (c.in_ok-push.ensures.items ∙ ap (λ ts. ts ++ c.args.tree ∷ []) c.make_room.ensures) ∙ elements_of-push c.self.inside.trees.items c.args.tree in
     let es = elements_of c.self.inside.trees.items in
     let t = tree_of c.args.tree in (
       subst ElementsOrdered (sym grown) (ordered-pushed es t c.self.invariant.0 c.invariant.ensures.ordered),
@@ -18,4 +18,4 @@ invariant_of-self-2 c =
 
 pub returns-clause-ok : goal.returns-clause-ok
 returns-clause-ok c =
-    ap elements_of c.in_ok-push.ensures.items ∙ elements_of-push c.self.inside.trees.items c.args.tree ∙ ap (λ es. pushed es (tree_of c.args.tree)) c.self.view_is
+    ap elements_of (c.in_ok-push.ensures.items ∙ ap (λ ts. ts ++ c.args.tree ∷ []) c.make_room.ensures) ∙ elements_of-push c.self.inside.trees.items c.args.tree ∙ ap (λ es. pushed es (tree_of c.args.tree)) c.self.view_is
