@@ -7,3 +7,4 @@ mod LaneRuns
 mod LookUps
 mod Examples
 pub mod Lengths
+pub mod PlainLetters

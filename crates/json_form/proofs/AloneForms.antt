@@ -30,7 +30,7 @@ use Rattle.json_form.specs.Token.{Spells, spells_compact, spells_json, IsTooMuch
 use Rattle.json_form.specs.Written.{with_binding, written_header, flat_members, flat_of, entry_of, general_members, general_of}
 use Rattle.json_form.specs.Printable.{IsPrintable}
 use Rattle.json_form.proofs.Lines.{read_json_text}
-use Rattle.json_form.proofs.PlainLetters.{plain_letters}
+use Rattle.b64url_text.proofs.PlainLetters.{plain_letters}
 use Rattle.json_form.proofs.Tokens.{read_plainly}
 use Rattle.json_form.proofs.WrittenForms.{entry_words, flat_ranged, flat_depth, flat_says, general_ranged, general_depth, general_says}
 use Rattle.claim_tree.proofs.TextElements.{texts_ordered}

@@ -8,5 +8,4 @@ mod WordLists
 mod EntryLists
 pub mod Tokens
 pub mod Lines
-pub mod PlainLetters
 pub mod AloneForms
