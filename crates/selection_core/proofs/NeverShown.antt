@@ -1,34 +1,31 @@
 -- The rule of consent by the places that are never shown.
-use Rattle.std.proofs.Common.{◌≡◌, ℕ, zero, suc, ◌<◌, List, [], ◌∷◌, length, Bool, true, false, not, inl, inr, refl, sym, subst, arith}
-use Rattle.std.specs.Prelude.{HoldsAt, MatchBool}
-use Rattle.std.specs.List.{AllWithin}
-use Rattle.claim_tree.specs.Lists.{In}
-use Rattle.claim_tree.specs.Path.{is_front}
+use Rattle.std.proofs.Common.{◌≡◌, ◌↔◌, List, Bool, true, false, not, refl, sym, subst, ◌∙◌}
+use Rattle.std.specs.List.{list_any}
+use Rattle.claim_tree.proofs.Lists.{list_any-from, list_any-In}
 use Rattle.marked_tree.specs.Paths.{Path}
 use Rattle.selection_core.specs.Consent.{Allows}
 use Rattle.selection_core.specs.AllowCalls.{IsDecided}
 use Rattle.selection_core.specs.Never.{MayBeShown, Judges, never_rule}
+use Rattle.selection_core.proofs.OutermostPaths.{leads_to}
 
-module _ {X : Type 0} (P : X → Type 0) where
-  -- an element at a place is one of the list
-  some_in : (xs : List X) (k : ℕ) → k < length xs → HoldsAt P xs k → (x : X) × In x xs × P x
-  some_in [] k less h = absurd (omega (arith, less))
-  some_in (x ∷ xs) zero less h = (x, inl refl, h x)
-  some_in (x ∷ xs) (suc k) less h = let found = some_in xs k (omega (arith, less)) (λ d. h d) in (found.0, inr found.1, found.2)
+-- whether a path of the list leads to the place
+pub judged : (never : List Path) (at : Path) (leads : Bool) → list_any (leads_to at) never ≡ leads → Judges never at (not leads)
+judged never at true some =
+    let hit = list_any-In (leads_to at) never some in
+    (λ is. let no = is in cc no, λ free. absurd (free hit.0 hit.1 hit.2))
+judged never at false none = (λ _ front there leads. let clash = sym none ∙ list_any-from (leads_to at) never front there leads in cc clash, λ _. refl)
 
-  -- what holds at each place holds of each element
-  all_in : (xs : List X) → ((k : ℕ) (d : X) → k < length xs → HoldsAt P xs k) → (x : X) → In x xs → P x
-  all_in [] h x is = absurd is
-  all_in (y ∷ ys) h x (inl same) = subst P (sym same) (h 0 y (omega arith) y)
-  all_in (y ∷ ys) h x (inr more) = all_in ys (λ k d less e. h (suc k) d (omega (arith, less)) e) x more
+-- lists of which the one leads to the place where the other does
+pub shown_too : (never other : List Path) (at : Path) → list_any (leads_to at) never ≡ list_any (leads_to at) other → MayBeShown never at ↔ MayBeShown other at
+shown_too never other at same = (carried never other same, carried other never (sym same))
+  where
+    carried : (never other : List Path) → list_any (leads_to at) never ≡ list_any (leads_to at) other → MayBeShown never at → MayBeShown other at
+    carried never other same free front there leads =
+        let hit = list_any-In (leads_to at) never (same ∙ list_any-from (leads_to at) other front there leads) in
+        free hit.0 hit.1 hit.2
 
--- whether a path of the list was found that leads to the place
-pub judged : (never : List Path) (at : Path) (found : Bool) → MatchBool found ((k : ℕ) × (k < length never) × HoldsAt (λ front. is_front front at ≡ true) never k) (AllWithin (λ front. is_front front at ≡ true → ⊥) never 0 (length never))
-    → Judges never at (not found)
-judged never at true h =
-    let some = some_in (λ front. is_front front at ≡ true) never h.0 h.1 h.2 in
-    (λ is. let no = is in cc no, λ free. absurd (free some.0 some.1 some.2))
-judged never at false h = (λ _. all_in (λ front. is_front front at ≡ true → ⊥) never (λ k d less e. h k e (omega arith) less), λ _. refl)
+pub judges_too : (never other : List Path) (at : Path) (answer : Bool) → MayBeShown never at ↔ MayBeShown other at → Judges never at answer → Judges other at answer
+judges_too never other at answer same judges = (λ is. same.0 (judges.0 is), λ free. judges.1 (same.1 free))
 
 -- the rule does not refuse what may be shown
 pub unrefused : (never : List Path) (at : Path) → MayBeShown never at → Allows never_rule never at false → ⊥

@@ -4,3 +4,4 @@ pub mod Asked
 pub mod AllowCalls
 pub mod ChooseCalls
 pub mod Never
+pub mod Outermost

@@ -2,7 +2,7 @@
 //! whether the holder consents.
 //!
 //! [`choose`] answers the marks that are to be shown, and [`allow`] asks the rule of a [`Consent`] for the place of
-//! each. [`may_be_shown`] is the rule by places that are never shown.
+//! each. [`NeverPlaces`] is the rule by places that are never shown.
 #![tactic(auto)]
 
 mod allowing;
@@ -15,4 +15,4 @@ pub use allowing::allow;
 pub use choosing::choose;
 pub use consent::Consent;
 pub use errors::{AllowError, ChooseError};
-pub use never::may_be_shown;
+pub use never::NeverPlaces;
