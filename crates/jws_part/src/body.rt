@@ -75,7 +75,21 @@ pub(crate) fn read_object(
 }
 
 /// The JSON object that a payload carries: base64url of its JSON text. Of two members of one name the last is kept.
-pub fn read_body(alloc: Global, reader: &mut JsonReader, payload: &str) -> Result<Tree, BodyError>
+pub fn read_body(alloc: Global, payload: &str) -> Result<Tree, BodyError>
+    ensures ok { IfOk result (λ t. IsBody payload.now (tree_of t)) }
+    ensures ordered { IfOk result (λ t. IsOrdered (tree_of t)) }
+    ensures depth { IfOk result (λ t. depth_of (tree_of t) ≤ 127) }
+    ensures unreadable { IsErrOf result BodyError.Unreadable → IsNoObject payload.now }
+{
+    read_body_with(alloc, &mut JsonReader::new(alloc), payload)
+}
+
+/// The same, by a reader that is lent.
+pub fn read_body_with(
+    alloc: Global,
+    reader: &mut JsonReader,
+    payload: &str,
+) -> Result<Tree, BodyError>
     ensures ok { IfOk result (λ t. IsBody payload.now (tree_of t)) }
     ensures ordered { IfOk result (λ t. IsOrdered (tree_of t)) }
     ensures depth { IfOk result (λ t. depth_of (tree_of t) ≤ 127) }

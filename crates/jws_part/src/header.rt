@@ -91,7 +91,16 @@ fn said(alloc: Global, members: &TreeMap, outer: &TreeMap) -> Result<Header, Bod
 /// (RFC 7515 section 7.2.1).
 ///
 /// `alg` and `typ` are those of the protected header, and `kid` is that of the protected or of the outer one.
-pub fn read_header(
+pub fn read_header(alloc: Global, protected: &str, outer: &TreeMap) -> Result<Header, HeaderError>
+    ensures ok { IfOk result (IsHeader protected.now outer.now) }
+    ensures unreadable { IsErrOf result HeaderError.Unreadable → IsHeaderUnreadable protected.now outer.now }
+    ensures critical { IsErrOf result HeaderError.Critical → IsHeaderCritical protected.now outer.now }
+{
+    read_header_with(alloc, &mut JsonReader::new(alloc), protected, outer)
+}
+
+/// The same, by a reader that is lent.
+pub fn read_header_with(
     alloc: Global,
     reader: &mut JsonReader,
     protected: &str,

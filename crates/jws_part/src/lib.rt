@@ -10,6 +10,6 @@ pub mod laws;
 mod members;
 mod times;
 
-pub use body::{BodyError, read_body, write_body};
-pub use header::{Header, HeaderError, read_header, write_header};
+pub use body::{BodyError, read_body, read_body_with, write_body};
+pub use header::{Header, HeaderError, read_header, read_header_with, write_header};
 pub use times::{is_expired, is_not_yet, is_time_unreadable, moment};

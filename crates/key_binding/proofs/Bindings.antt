@@ -7,8 +7,9 @@ use Rattle.serde_json.specs.Written.{compact_text, members_text, comma_if}
 use Rattle.sha2.proofs.Facts256.{length-sha256}
 use Rattle.sha2.proofs.Facts512.{length-sha384, length-sha512}
 use Rattle.b64url_text.specs.Base64url.{IsWord, b64}
-use Rattle.b64url_text.proofs.Codes.{IsWord-b64}
+use Rattle.b64url_text.proofs.Codes.{IsWord-b64, letters-b64}
 use Rattle.b64url_text.proofs.Lengths.{length-b64}
+use Rattle.b64url_text.proofs.PlainLetters.{plain_letters}
 use Rattle.claim_tree.specs.Tree.{Text, object, Members}
 use Rattle.claim_tree.specs.JsonText.{json_text}
 use Rattle.compact_form.specs.Compact.{jwt}
@@ -70,6 +71,11 @@ end_within = omega arith
 
 -- ---- the parts
 
+digest_quoted : (hash : HashAlg) (hashed : Text) → length (quoted (digest_of hash hashed)) ≤ length (digest_of hash hashed) + 2
+digest_quoted hash hashed =
+    let plain = ap length (plain_letters (digest_of hash hashed) (letters-b64 (hash_of hash hashed))) in
+    omega (arith, length-append (escape (digest_of hash hashed)) (34 ∷ []), plain)
+
 digest_short : (hash : HashAlg) (hashed : Text) → length (digest_of hash hashed) ≤ 86
 digest_short HashAlg.Sha256 hashed = omega (arith, length-b64 (hash_of HashAlg.Sha256 hashed), length-sha256 hashed)
 digest_short HashAlg.Sha384 hashed = omega (arith, length-b64 (hash_of HashAlg.Sha384 hashed), length-sha384 hashed)
@@ -93,25 +99,25 @@ claims_data aud iat nonce sd_hash =
     (port.member (codes "aud") (port.string aud)
     (port.member (codes "iat") (port.number (port.unsigned iat)) (port.member (codes "nonce") (port.string nonce) (port.member (codes "sd_hash") (port.string sd_hash) port.no_members))))
 
-claims_data_short : (aud nonce sd_hash : Text) (iat : ℕ) → length aud ≤ 256 → length nonce ≤ 256 → length sd_hash ≤ 86 → iat < 2 ^ 64 → length (compact_text (claims_data aud iat nonce sd_hash)) ≤ 3740
+claims_data_short : (aud nonce sd_hash : Text) (iat : ℕ) → length aud ≤ 256 → length nonce ≤ 256 → length (quoted sd_hash) ≤ 88 → iat < 2 ^ 64 → length (compact_text (claims_data aud iat nonce sd_hash)) ≤ 3310
 claims_data_short aud nonce sd_hash iat a n h i =
     let last = port.member (codes "sd_hash") (port.string sd_hash) port.no_members in
     let third = port.member (codes "nonce") (port.string nonce) last in
     let second = port.member (codes "iat") (port.number (port.unsigned iat)) third in
-    let at_last = member_within true (codes "sd_hash") (port.string sd_hash) port.no_members 518 1 (text_within sd_hash 86 h) end_within in
-    let at_third = member_within true (codes "nonce") (port.string nonce) last 1538 565 (text_within nonce 256 n) at_last in
-    let at_second = member_within true (codes "iat") (port.number (port.unsigned iat)) third 20 2137 (length-decimal-le 20 iat (omega arith) (omega (arith, i)) i) at_third in
-    let at_first = member_within false (codes "aud") (port.string aud) second 1538 2179 (text_within aud 256 a) at_second in
-    braced (members_text false (port.member (codes "aud") (port.string aud) second)) 3739 at_first
+    let at_last = member_within true (codes "sd_hash") (port.string sd_hash) port.no_members 88 1 h end_within in
+    let at_third = member_within true (codes "nonce") (port.string nonce) last 1538 135 (text_within nonce 256 n) at_last in
+    let at_second = member_within true (codes "iat") (port.number (port.unsigned iat)) third 20 1707 (length-decimal-le 20 iat (omega arith) (omega (arith, i)) i) at_third in
+    let at_first = member_within false (codes "aud") (port.string aud) second 1538 1749 (text_within aud 256 a) at_second in
+    braced (members_text false (port.member (codes "aud") (port.string aud) second)) 3309 at_first
 
 claims_short : (hash : HashAlg) (hashed aud nonce : Text) (iat : ℕ) → length aud ≤ 256 → length nonce ≤ 256 → iat < 2 ^ 64
-    → length (json_text (object (claim_members (claims_for hash hashed aud nonce iat)))) ≤ 3740
-claims_short hash hashed aud nonce iat a n i = claims_data_short aud nonce (digest_of hash hashed) iat a n (digest_short hash hashed) i
+    → length (json_text (object (claim_members (claims_for hash hashed aud nonce iat)))) ≤ 3310
+claims_short hash hashed aud nonce iat a n i = claims_data_short aud nonce (digest_of hash hashed) iat a n (omega (arith, digest_quoted hash hashed, digest_short hash hashed)) i
 
 -- ---- the token
 
 pub binding_short : (key : List ℕ) (hash : HashAlg) (hashed aud nonce : Text) (iat : ℕ) (token : JwtParts) → length aud ≤ 256 → length nonce ≤ 256 → iat < 2 ^ 64 → IsBinding (IsGood (hs256_key key)) hash hashed aud nonce iat token
-    → length (jwt token) < 5500
+    → length (jwt token) < 5000
 binding_short key hash hashed aud nonce iat token a n i is =
     let protected = ap length is.protected in
     let payload = ap length is.payload in

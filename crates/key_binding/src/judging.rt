@@ -24,8 +24,8 @@ use compact_form::{Condition, JwtParts, JwtView};
 use disclosure::{HashAlg, digest};
 use hmac_sign::Hs256Key;
 use jws_part::{
-    BodyError, Header, HeaderError, is_expired, is_not_yet, is_time_unreadable, read_body,
-    read_header,
+    BodyError, Header, HeaderError, is_expired, is_not_yet, is_time_unreadable, read_body_with,
+    read_header_with,
 };
 use sd_outside::{NoMemory, TextBox};
 use std::alloc::Global;
@@ -116,7 +116,7 @@ fn header_of(alloc: Global, reader: &mut JsonReader, protected: &str) -> Result<
     ensures unreadable { IsErrOf result HeaderError.Unreadable → IsHeaderUnreadable protected.now no_members }
     ensures critical { IsErrOf result HeaderError.Critical → IsHeaderCritical protected.now no_members }
 {
-    read_header(alloc, reader, protected, &TreeMap::new(alloc))
+    read_header_with(alloc, reader, protected, &TreeMap::new(alloc))
 }
 
 // The conditions 28 to 31: its header and its signature.
@@ -180,7 +180,7 @@ fn check_payload(alloc: Global, reader: &mut JsonReader, bound: Bound<'_>) -> Re
     ensures passes { OnOk result (NoneFails (BindingFails (judged_of bound.entry))) }
     ensures refused { IfErr result (λ e. OnBoundFails e (IsLowestBinding (judged_of bound.entry))) }
 {
-    match read_body(alloc, reader, bound.token.payload) {
+    match read_body_with(alloc, reader, bound.token.payload) {
         Ok(body) => check_body(alloc, bound, &body),
         Err(BodyError::Memory) => Err(BoundError::Memory),
         Err(BodyError::Unreadable) => Err(BoundError::Fails(Condition::BindingPayload)),

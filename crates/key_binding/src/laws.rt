@@ -27,12 +27,12 @@ pub fn bound_is_accepted()
         → NoneFails (BindingFails j) }
 {}
 
-/// A key binding token is short: an audience and a nonce of at most 256 bytes each make fewer than 5,500 bytes.
+/// A key binding token is short: an audience and a nonce of at most 256 bytes each make fewer than 5,000 bytes.
 pub fn bound_is_short()
     ensures { (key : List ℕ) (hash : HashAlg) (hashed aud nonce : List ℕ) (iat : ℕ) (token : JwtParts)
         → length aud ≤ binding_text_max → length nonce ≤ binding_text_max → iat < 2 ^ 64
         → IsBinding (IsGood (hs256_key key)) hash hashed aud nonce iat token
-        → length (jwt token) < 5500 }
+        → length (jwt token) < 5000 }
 {}
 
 /// A key binding token is accepted, or refused by one condition, with a number from 27 to 38.

@@ -4,7 +4,7 @@ use Rattle.jws_part.specs.declared.header.HeaderError.{HeaderError}
 use Rattle.jws_part.specs.Header.{no_object, nothing_said}
 use Rattle.jws_part.specs.HeaderSteps.{unread_header}
 use Rattle.jws_part.proofs.Headers.{unread_back}
-use Rattle.jws_part.proofs.header.read_header.Goals as goal
+use Rattle.jws_part.proofs.header.read_header_with.Goals as goal
 
 pub returns-in_err-members-clause-unreadable : goal.returns-in_err-members-clause-unreadable
 returns-in_err-members-clause-unreadable c unreadable =

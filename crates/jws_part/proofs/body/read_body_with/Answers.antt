@@ -1,7 +1,7 @@
 use Rattle.std.proofs.Common.{◌≡◌, Err, sym, ap, ◌∙◌}
 use Rattle.std.proofs.lemmas.Result.{err_from_is_err_and}
 use Rattle.jws_part.specs.declared.body.BodyError.{BodyError}
-use Rattle.jws_part.proofs.body.read_body.Goals as goal
+use Rattle.jws_part.proofs.body.read_body_with.Goals as goal
 
 pub returns-in_err-members-clause-unreadable : goal.returns-in_err-members-clause-unreadable
 returns-in_err-members-clause-unreadable c unreadable =
