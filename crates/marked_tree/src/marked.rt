@@ -112,6 +112,15 @@ impl Marked {
 }
 
 impl MarkedList {
+    /// No elements. It takes no memory.
+    pub fn new(alloc: Global) -> MarkedList
+        ensures { result ≡ no_marked_elements }
+    {
+        MarkedList {
+            elements: Vec::new(alloc),
+        }
+    }
+
     /// No elements, with memory for so many.
     pub fn with_capacity(alloc: Global, count: usize) -> Result<MarkedList, NoMemory>
         ensures { IfOk result (λ list. list ≡ no_marked_elements) }
@@ -165,6 +174,15 @@ impl MarkedList {
 }
 
 impl MarkedMap {
+    /// No members. It takes no memory.
+    pub fn new(alloc: Global) -> MarkedMap
+        ensures { result ≡ no_marked_members }
+    {
+        MarkedMap {
+            members: Vec::new(alloc),
+        }
+    }
+
     /// No members, with memory for so many.
     pub fn with_capacity(alloc: Global, count: usize) -> Result<MarkedMap, NoMemory>
         ensures { IfOk result (λ map. map ≡ no_marked_members) }
