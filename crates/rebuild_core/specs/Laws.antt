@@ -15,6 +15,7 @@ use Rattle.marked_tree.specs.Laws.{HasEachMarkOnce}
 use Rattle.rebuild_core.specs.Reached.{Owner, payload, value_of, owned_site, met, owned_digests}
 use Rattle.rebuild_core.specs.Soundness.{IsReferencedOnce, IsSound}
 use Rattle.rebuild_core.specs.Opening.{opened, processed}
+use Rattle.rebuild_core.specs.Payload.{without_alg}
 use Rattle.rebuild_core.specs.Readable.{IsReadable}
 
 -- ---- one site for each disclosure
@@ -44,8 +45,20 @@ OneSite = (p : Tree) (given : List Given) → IsReferencedOnce p given → HasOn
 
 -- ---- no more nodes than came in
 
+-- the tree has no more nodes than the payload and the values of the disclosures together
+abbrev pub IsWithinNodes : Tree → List Given → Tree → Type 0
+IsWithinNodes p given t = nodes t ≤ nodes p + sum_by (λ x. nodes x.value) given
+
 abbrev pub SizeBound : Type 0
-SizeBound = (p : Tree) (given : List Given) → IsReferencedOnce p given → nodes (strip (processed p given)) ≤ nodes p + sum_by (λ x. nodes x.value) given
+SizeBound =
+    (p : Tree) (given : List Given) → IsReferencedOnce p given
+    → IsWithinNodes p given (strip (processed p given))
+
+-- the same of a payload that has its own `_sd_alg`
+abbrev pub PayloadSizeBound : Type 0
+PayloadSizeBound =
+    (p : Tree) (given : List Given) → IsReferencedOnce (without_alg p) given
+    → IsWithinNodes p given (strip (processed (without_alg p) given))
 
 -- ---- presenting a choice
 

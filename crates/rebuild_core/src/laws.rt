@@ -1,5 +1,5 @@
 //! Laws over every payload and every list of disclosures.
-ghost use Rattle.rebuild_core.specs.Laws.{OneSite, SizeBound, Presentation, Ranks, ChoiceShown, OneNode};
+ghost use Rattle.rebuild_core.specs.Laws.{OneSite, SizeBound, PayloadSizeBound, Presentation, Ranks, ChoiceShown, OneNode};
 ghost use Rattle.rebuild_core.specs.AllShown.{ShownIsSound};
 
 /// Where no disclosure is given twice, no digest stands twice, no reserved name is misused and each disclosure is
@@ -8,9 +8,11 @@ pub fn one_site()
     ensures { OneSite }
 {}
 
-/// There the processed payload has no more nodes than the payload and the values together.
+/// There the processed payload has no more nodes than the payload, with its own `_sd_alg` or without it, and the values
+/// together.
 pub fn size_bound()
-    ensures { SizeBound }
+    ensures opened { SizeBound }
+    ensures payload { PayloadSizeBound }
 {}
 
 /// A closed choice of the disclosures, in any order, is sound again, and opens to the processed payload without what

@@ -7,6 +7,7 @@ ghost use Rattle.marked_tree.specs.View.{marked_of};
 ghost use Rattle.rebuild_core.specs.Answer.{IsPayload, ValuesShallow, IsProcessRefused};
 ghost use Rattle.rebuild_core.specs.Soundness.{IsSound};
 ghost use Rattle.rebuild_core.specs.LookUps.{look_ups, counted, RoseWithin};
+ghost use Rattle.rebuild_core.specs.Laws.{IsWithinNodes};
 ghost use Rattle.rebuild_core.specs.Opening.{processed};
 ghost use Rattle.rebuild_core.specs.Payload.{without_alg};
 ghost use Rattle.rebuild_core.specs.Whole.{whole_object};
@@ -85,6 +86,7 @@ fn copy_given(alloc: Global, given: &GivenList) -> Result<GivenList, NoMemory>
 /// grow with n log n, and the answer is built no deeper than 100, whatever the input. `steps` counts the look-ups.
 ///
 /// Payload and disclosures are copied. [`process_seeded`] takes them, and moves what they say.
+#[tactic(auto, using(crate::proofs::Size::processed_within))]
 pub fn process(
     alloc: Global,
     payload: &Tree,
@@ -97,6 +99,8 @@ pub fn process(
     requires few { length given.now < 2 ^ 32 - 1 }
     ensures sound { IfOk result (λ _. IsSound (without_alg (tree_of payload.now)) given.now) }
     ensures processed { IfOk result (λ marked. marked_of marked ≡ processed (without_alg (tree_of payload.now)) given.now) }
+    ensures bounded { IfOk result
+        (λ marked. IsWithinNodes (tree_of payload.now) given.now (strip (marked_of marked))) }
     ensures refused { IfErr result (IsProcessRefused (without_alg (tree_of payload.now)) given.now) }
 
     // the look-ups
@@ -111,6 +115,7 @@ pub fn process(
 /// The same, of a payload and disclosures that are given away, where the digests are hashed with a seed. No answer
 /// depends on the seed, but who knows it can choose digests that are slow to look up together: who reads what others
 /// wrote gives one that they couldn't know when they chose the digests.
+#[tactic(auto, using(crate::proofs::Size::processed_within))]
 pub fn process_seeded(
     alloc: Global,
     payload: Tree,
@@ -124,6 +129,8 @@ pub fn process_seeded(
     requires few { length given < 2 ^ 32 - 1 }
     ensures sound { IfOk result (λ _. IsSound (without_alg (tree_of payload)) given) }
     ensures processed { IfOk result (λ marked. marked_of marked ≡ processed (without_alg (tree_of payload)) given) }
+    ensures bounded { IfOk result
+        (λ marked. IsWithinNodes (tree_of payload) given (strip (marked_of marked))) }
     ensures refused { IfErr result (IsProcessRefused (without_alg (tree_of payload)) given) }
 
     // the look-ups
@@ -156,6 +163,7 @@ fn open_nothing(payload: Tree, given: &GivenList, steps: &mut Steps) -> Result<T
 /// What [`process_seeded`] answers, for who needs no marks: the processed payload alone. A payload in which nothing is
 /// hidden is handed back without its own `_sd_alg`. Of any other, and of the disclosures, what is not shown is dropped
 /// before the opened members are put together. No part of either is copied.
+#[tactic(auto, using(crate::proofs::Size::shown_within))]
 pub fn process_payload(
     alloc: Global,
     payload: Tree,
@@ -169,6 +177,7 @@ pub fn process_payload(
     requires few { length given < 2 ^ 32 - 1 }
     ensures sound { IfOk result (λ _. IsSound (without_alg (tree_of payload)) given) }
     ensures processed { IfOk result (λ tree. tree_of tree ≡ strip (processed (without_alg (tree_of payload)) given)) }
+    ensures bounded { IfOk result (λ tree. IsWithinNodes (tree_of payload) given (tree_of tree)) }
     ensures refused { IfErr result (IsProcessRefused (without_alg (tree_of payload)) given) }
 
     // the look-ups
