@@ -9,8 +9,10 @@ pub mod CheckSteps
 pub mod CheckTests
 pub mod Verdicts
 pub mod Contents
+mod ReadFaults
 pub mod OneVerdict
 pub mod SameVerdict
 pub mod ContentFacts
+pub mod Bounds
 mod Examples
 pub mod BindingPolicies

@@ -23,7 +23,7 @@ use Rattle.rebuild_core.specs.Payload.{without_alg}
 use Rattle.rebuild_core.specs.declared.errors.ProcessError.{ProcessError}
 use Rattle.compact_form.specs.declared.condition.Condition.{Condition}
 use Rattle.compact_form.specs.Condition.{number_of}
-use Rattle.compact_form.specs.Faults.{unplaced, placed}
+use Rattle.compact_form.specs.Faults.{fault_number, unplaced, placed}
 use Rattle.compact_form.specs.Lowest.{IsLowest}
 use Rattle.compact_form.specs.Passing.{Passes}
 use Rattle.verifier_core.specs.Content.{Content}
@@ -35,6 +35,10 @@ use Rattle.verifier_core.specs.declared.policy.Policy.{Policy}
 abbrev pub OnFault : VerifyError → (Fault → Type 0) → Type 0
 OnFault VerifyError.Memory P = Unit {0}
 OnFault (VerifyError.Fault fault) P = P fault
+
+-- the fault is of one of the conditions 1 to 13, which are judged before a token is opened
+abbrev pub IsUnopened : Fault → Type 0
+IsUnopened fault = fault_number fault ≤ 13
 
 -- a text that is no JSON serialization fails one of the conditions 1 to 3
 pub record FailsAsCompact (text : List ℕ) : Type 0 where

@@ -11,7 +11,7 @@ use crate::check_signed::fails;
 use claim_tree::{JsonReader, Tree};
 use compact_form::Condition;
 use disclosure::{HashAlg, payload_hash};
-use jws_part::{BodyError, read_body};
+use jws_part::{BodyError, read_body_with};
 use std::alloc::Global;
 
 // The conditions 11 and 12.
@@ -25,7 +25,7 @@ pub(crate) fn read_payload(
     ensures depth { IfOk result (λ p. depth_of (tree_of p.0) ≤ 127) }
     ensures refused { IfErr result (λ e. OnFault e (IsPayloadFault payload.now)) }
 {
-    let body = match read_body(alloc, reader, payload) {
+    let body = match read_body_with(alloc, reader, payload) {
         Ok(body) => body,
         Err(BodyError::Memory) => return Err(VerifyError::Memory),
         Err(BodyError::Unreadable) => return Err(fails(Condition::PayloadUnreadable)),

@@ -12,7 +12,7 @@ use crate::{Rules, VerifyError};
 use claim_tree::{JsonReader, TreeMap};
 use compact_form::{Condition, JwtView};
 use hmac_sign::{Alg, HsKey, KeySet, alg_named};
-use jws_part::{Header, HeaderError, read_header};
+use jws_part::{Header, HeaderError, read_header_with};
 use key_binding::is_among;
 use sd_outside::{TextBox, TextList};
 use std::alloc::Global;
@@ -72,7 +72,7 @@ pub(crate) fn check_signed(
     ensures ok { OnOk result (IsSigned (jwt_of signed.entry) outer.now rules.now) }
     ensures refused { IfErr result (λ e. OnFault e (IsSignedFault (jwt_of signed.entry) outer.now rules.now)) }
 {
-    let header = match read_header(alloc, reader, signed.protected, outer) {
+    let header = match read_header_with(alloc, reader, signed.protected, outer) {
         Ok(header) => header,
         Err(HeaderError::Memory) => return Err(VerifyError::Memory),
         Err(HeaderError::Unreadable) => return Err(fails(Condition::HeaderUnreadable)),

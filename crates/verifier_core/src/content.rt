@@ -7,7 +7,7 @@ ghost use Rattle.marked_tree.specs.Marked.{strip as strip_of};
 ghost use Rattle.marked_tree.specs.View.{marked_of};
 ghost use Rattle.verifier_core.specs.Verdict.{TokenFails, IsChecked, HasHash};
 ghost use Rattle.verifier_core.specs.Verdicts.{IsCheckedAs};
-ghost use Rattle.verifier_core.specs.Check.{OnFault, IsContent, OfToken, IsOpening, process_fault, judged_of};
+ghost use Rattle.verifier_core.specs.Check.{OnFault, IsUnopened, IsContent, OfToken, IsOpening, process_fault, judged_of};
 
 use crate::check::fails_at;
 use crate::check_given::read_given;
@@ -89,6 +89,7 @@ impl Content {
         requires few { length token.now.parts.disclosures < 2 ^ 32 - 1 }
         ensures content { IfOk result (IsContent token.now rules.now) }
         ensures refused { IfErr result (λ e. OnFault e (IsLowest (TokenFails token.now rules.now))) }
+        ensures unopened { IfErr result (λ e. OnFault e IsUnopened) }
     {
         let mut reader = DisclosureReader::new(alloc);
         let signed = token.signed();

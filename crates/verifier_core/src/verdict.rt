@@ -5,7 +5,7 @@ ghost use Rattle.marked_tree.specs.Marked.{Marked as SeenMarked, strip as strip_
 ghost use Rattle.marked_tree.specs.View.{marked_of};
 ghost use Rattle.json_form.specs.Token.{IsToken, IsTextRefused};
 ghost use Rattle.verifier_core.specs.Verdict.{Fails, IsAccepted, IsChecked, IsBindingMissing, rules_of};
-ghost use Rattle.verifier_core.specs.Verdicts.{IsAcceptedAs};
+ghost use Rattle.verifier_core.specs.Verdicts.{IsAcceptedAs, IsBounded};
 ghost use Rattle.compact_form.specs.Lowest.{IsLowest};
 ghost use Rattle.compact_form.specs.Trim.{trimmed, is_json as is_json_test};
 ghost use Rattle.verifier_core.specs.Check.{OnFault, FailsAsCompact, IsContent, OfToken, IsRead, IsOpening, IsVerdict};
@@ -173,6 +173,7 @@ pub fn verify(
 ) -> Result<Accepted, VerifyError>
     ensures accepted { IfOk result (λ a. IsAccepted text.now policy.now now (marked_of a.marked)) }
     ensures payload { IfOk result (λ a. tree_of a.payload ≡ strip_of (marked_of a.marked)) }
+    ensures bounded { IfOk result (λ a. IsBounded text.now (tree_of a.payload)) }
     ensures refused { IfErr result (λ e. OnFault e (IsLowest (Fails text.now policy.now now))) }
     ensures verdict { IsVerdict text.now policy.now now result steps.old steps.new }
 {
@@ -188,6 +189,7 @@ pub fn verify_payload(
     steps: &mut Steps,
 ) -> Result<Tree, VerifyError>
     ensures accepted { IfOk result (λ payload. IsAcceptedAs text.now policy.now now (tree_of payload)) }
+    ensures bounded { IfOk result (λ payload. IsBounded text.now (tree_of payload)) }
     ensures refused { IfErr result (λ e. OnFault e (IsLowest (Fails text.now policy.now now))) }
     ensures verdict { IsVerdict text.now policy.now now result steps.old steps.new }
 {

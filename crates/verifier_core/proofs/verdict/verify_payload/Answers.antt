@@ -1,0 +1,7 @@
+use Rattle.std.proofs.lemmas.Result.{IfOk-weaker}
+use Rattle.verifier_core.proofs.Bounds.{accepted_bounded}
+use Rattle.verifier_core.proofs.verdict.verify_payload.Goals as goal
+
+pub returns-clause-bounded : goal.returns-clause-bounded
+returns-clause-bounded c =
+    IfOk-weaker c.judge.result _ _ (λ payload is. accepted_bounded c.args.text.now c.args.policy.now c.args.now is.0 _ is.1 is.2) c.judge.ensures.accepted
