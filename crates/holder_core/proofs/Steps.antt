@@ -24,6 +24,7 @@ use Rattle.marked_tree.specs.Paths.{chosen}
 use Rattle.marked_tree.specs.Marked.{Marked, strip, prune}
 use Rattle.marked_tree.specs.Numbers.{has}
 use Rattle.selection_core.specs.Consent.{RuleAnswers, AllAllowed, IsRefusedAt}
+use Rattle.compact_form.specs.declared.fault.Fault.{Fault}
 use Rattle.verifier_core.specs.Check.{OnFault, IsUncounted}
 use Rattle.verifier_core.specs.Verdict.{Rules, TokenFails, HasHash}
 use Rattle.verifier_core.specs.declared.check.VerifyError.{VerifyError}
@@ -33,7 +34,7 @@ use Rattle.holder_core.specs.declared.errors.PresentError.{PresentError}
 use Rattle.holder_core.specs.declared.errors.PresentError.TheVariants.{Memory, Token as OnCondition, HasBinding, NoSuchPlace, ConsentRefused, BindingKeyDiffers, SignFailed, TooLong}
 use Rattle.holder_core.specs.Unchecked.{unchecked}
 use Rattle.holder_core.specs.Present.{picked, shown_for, held_rules, IsHeld, IsAgreed, NamesKey, IsAnswer, IsNoAnswer}
-use Rattle.holder_core.specs.PresentCalls.{IsUnchecked, PresentFails, of_file, of_token}
+use Rattle.holder_core.specs.PresentCalls.{IsUnchecked, OnTokenFault, PresentFails, of_file, of_token}
 use Rattle.holder_core.specs.PresentSteps.{IsUnchosen, IsChosen, IsOtherKey, IsReady, IsUnready, IsUncheckedOrUnready, IsPresentFinished, IsPresentUnfinished}
 use Rattle.marked_tree.proofs.PrunedSame.{Same, prune_same}
 use Rattle.holder_core.proofs.Picking.{picked_same, picked_words}
@@ -42,6 +43,10 @@ use Rattle.holder_core.proofs.Picking.{picked_same, picked_words}
 pub unchecked_told : (token : Token) (rules : Rules) (e : VerifyError) → OnFault e (IsLowest (TokenFails token rules)) → IsUnchecked token rules (unchecked e)
 unchecked_told token rules VerifyError.Memory h = tt
 unchecked_told token rules (VerifyError.Fault fault) h = h
+
+pub fault_told : (e : VerifyError) (P : Fault → Type 0) → OnFault e P → OnTokenFault (unchecked e) P
+fault_told VerifyError.Memory P h = tt
+fault_told (VerifyError.Fault fault) P h = h
 
 -- what refuses the token is handed on
 pub unchecked_handed : {A F : Type 0} (answers : RuleAnswers F) (rule : F) (token : Token) (ask : Ask) (r : Result A PresentError) (v : VerifyError) → IsErrAnd r (λ e. e ≡ unchecked v)

@@ -1,6 +1,7 @@
 -- Not needed to believe the program's promises: conditions that keep a token from being presented.
 use Rattle.claim_tree.specs.Tree.{Text}
 use Rattle.compact_form.specs.declared.condition.Condition.{Condition}
+use Rattle.compact_form.specs.declared.fault.Fault.{Fault}
 use Rattle.compact_form.specs.declared.fault.Place.{Place}
 use Rattle.json_form.specs.Token.{IsToken}
 use Rattle.json_form.specs.declared.token.Token.{Token}
@@ -21,3 +22,8 @@ abbrev pub IsUnchecked : Token → Rules → PresentError → Type 0
 IsUnchecked token rules Memory = Unit {0}
 IsUnchecked token rules (OnCondition fault) = IsLowest (TokenFails token rules) fault
 IsUnchecked token rules _ = ⊥
+
+-- what is so of the fault, where a condition refuses the token
+abbrev pub OnTokenFault : PresentError → (Fault → Type 0) → Type 0
+OnTokenFault (OnCondition fault) P = P fault
+OnTokenFault _ P = Unit {0}

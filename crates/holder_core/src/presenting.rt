@@ -15,9 +15,9 @@ ghost use Rattle.marked_tree.specs.Marked.{strip, prune as pruned_by};
 ghost use Rattle.marked_tree.specs.Numbers.{has};
 ghost use Rattle.marked_tree.specs.View.{marked_of};
 ghost use Rattle.verifier_core.specs.Verdict.{TokenFails, HasHash, asked};
-ghost use Rattle.verifier_core.specs.Check.{OnFault, IsContent, IsCounted, IsCountedWithin, IsReadWithin, IsUncounted};
+ghost use Rattle.verifier_core.specs.Check.{OnFault, IsUnopened, IsContent, IsCounted, IsCountedWithin, IsReadWithin, IsUncounted};
 ghost use Rattle.holder_core.specs.Present.{held_rules, picked, IsHeld, IsBoundBy, IsAnswer, IsNoAnswer, IsPresented, IsNotPresented, NamesKey};
-ghost use Rattle.holder_core.specs.PresentCalls.{IsUnchecked, PresentFails};
+ghost use Rattle.holder_core.specs.PresentCalls.{IsUnchecked, OnTokenFault, PresentFails};
 ghost use Rattle.holder_core.specs.PresentSteps.{IsUnchosen, IsChosen, IsOtherKey, IsReady, IsUnready, IsPresentUnsigned, IsPresentFinished, IsPresentUnfinished, IsMadeReady, IsUncheckedOrUnready};
 ghost use Rattle.holder_core.specs.declared.errors.PresentError.{PresentError};
 ghost use Rattle.key_binding.specs.declared.errors.BindError.{BindError};
@@ -222,6 +222,7 @@ fn read_signed<'a>(
     requires few { length token.now.parts.disclosures < 2 ^ 32 - 1 }
     ensures content { IfOk result (IsContent token.now (asked keys.now algs.now None)) }
     ensures refused { IfErr result (λ e. OnFault e (IsLowest (TokenFails token.now (asked keys.now algs.now None)))) }
+    ensures unopened { IfErr result (λ e. OnFault e IsUnopened) }
 {
     let rules = Rules {
         keys,
@@ -241,6 +242,7 @@ pub fn check_held(
     requires few { length token.now.parts.disclosures < 2 ^ 32 - 1 }
     ensures content { IfOk result (IsContent token.now (held_rules keys.now)) }
     ensures refused { IfErr result (IsUnchecked token.now (held_rules keys.now)) }
+    ensures unopened { IfErr result (λ e. OnTokenFault e IsUnopened) }
 {
     let names = alg_names(alloc)?;
     Ok(read_signed(alloc, token, keys, &names)?)
