@@ -56,7 +56,7 @@ module _ (key : List ℕ) (hash : HashAlg) (text : Text) (now : ℕ) (in_range :
   ending_words (Some ask) None is = absurd is
   ending_words (Some ask) (Some token) is = binding_words key hash text ask.aud ask.nonce now token is.is_binding
 
-  pub ending_short : (asked : Option BindingAsk) (binding : Option JwtParts) → AreShort asked → IsBoundWith asked (IsGood (hs256_key key)) hash text now binding → length (ending binding) < 5500
+  pub ending_short : (asked : Option BindingAsk) (binding : Option JwtParts) → AreShort asked → IsBoundWith asked (IsGood (hs256_key key)) hash text now binding → length (ending binding) < 5000
   ending_short None binding small is = omega (arith, ap (λ b. length (ending b)) is)
   ending_short (Some ask) None small is = absurd is
   ending_short (Some ask) (Some token) small is = binding_short key hash text ask.aud ask.nonce now token small.0 small.1 in_range is.is_binding

@@ -80,4 +80,4 @@ module _ (order_file seed_file token present_file policy_file : List ℕ) (now l
           (is_presented_of issued.seed issued.order issued.key issued.parts issued.answered.passes is never_rule said.never said.ask (signing_key said.key) small now in_range token there parts presented)
 
       verified : IsAcceptedAs answer policy later (claims_for issued.order said.ask.want) → Verifies policy_file answer later (line (json_text (claims_for issued.order said.ask.want)))
-      verified (marked, accepted, is) = record { policy = policy; is_policy = is_policy; marked = marked; accepted = accepted; line_is = ap (λ t. line (json_text t)) is }
+      verified (marked, accepted, is) = record { policy = policy; is_policy = is_policy; verifies = record { marked = marked; accepted = accepted; line_is = ap (λ t. line (json_text t)) is } }

@@ -17,20 +17,23 @@ use Rattle.cli_parts.proofs.OneReply.{one_reply_of_file}
 printed : (policy token : List ℕ) (now : ℕ) (a b : List ℕ) → Verifies policy token now a → Verifies policy token now b → a ≡ b
 printed policy token now a b g h =
     let same : g.policy ≡ h.policy = policies.one_policy policy g.policy h.policy g.is_policy h.is_policy in
-    let accepted : IsAccepted token h.policy now g.marked = subst (λ (p : Policy). IsAccepted token p now g.marked) same g.accepted in
-    g.line_is ∙ (ap (λ (m : Marked). line (json_text (strip m))) (verdicts.one_accepted token h.policy now g.marked h.marked accepted h.accepted) ∙ sym h.line_is)
+    let marked = g.verifies.marked in let other = h.verifies.marked in
+    let accepted : IsAccepted token h.policy now marked = subst (λ (p : Policy). IsAccepted token p now marked) same g.verifies.accepted in
+    g.verifies.line_is ∙ (ap (λ (m : Marked). line (json_text (strip m))) (verdicts.one_accepted token h.policy now marked other accepted h.verifies.accepted) ∙ sym h.verifies.line_is)
 
 refused : (policy token : List ℕ) (now : ℕ) (a b : List ℕ) → DoesNotVerify policy token now a → DoesNotVerify policy token now b → a ≡ b
 refused policy token now a b g h =
     let same : g.policy ≡ h.policy = policies.one_policy policy g.policy h.policy g.is_policy h.is_policy in
-    let lowest : IsLowest (Fails token h.policy now) g.fault = subst (λ (p : Policy). IsLowest (Fails token p now) g.fault) same g.lowest in
-    g.line_is ∙ (ap refusal (verdicts.one_lowest token h.policy now g.fault h.fault lowest h.lowest) ∙ sym h.line_is)
+    let fault = g.refuses.fault in let other = h.refuses.fault in
+    let lowest : IsLowest (Fails token h.policy now) fault = subst (λ (p : Policy). IsLowest (Fails token p now) fault) same g.refuses.lowest in
+    g.refuses.line_is ∙ (ap refusal (verdicts.one_lowest token h.policy now fault other lowest h.refuses.lowest) ∙ sym h.refuses.line_is)
 
 printed_not_refused : (policy token : List ℕ) (now : ℕ) (a b : List ℕ) → Verifies policy token now a → DoesNotVerify policy token now b → ⊥
 printed_not_refused policy token now a b g h =
     let same : g.policy ≡ h.policy = policies.one_policy policy g.policy h.policy g.is_policy h.is_policy in
-    let accepted : IsAccepted token h.policy now g.marked = subst (λ (p : Policy). IsAccepted token p now g.marked) same g.accepted in
-    verdicts.accepted_not_refused token h.policy now g.marked h.fault accepted h.lowest
+    let marked = g.verifies.marked in
+    let accepted : IsAccepted token h.policy now marked = subst (λ (p : Policy). IsAccepted token p now marked) same g.verifies.accepted in
+    verdicts.accepted_not_refused token h.policy now marked h.refuses.fault accepted h.refuses.lowest
 
 pub one_verify : (policy token : List ℕ) (now : ℕ) (v w : Reply) → VerifyAnswers policy token now v → VerifyAnswers policy token now w → v ≡ w
 one_verify policy token now =

@@ -19,7 +19,7 @@ use compact_form::{Parts, print};
 use digest_index::Steps;
 use hmac_sign::{Hs256Key, KeyShort};
 use holder_core::{Ask, PresentError, PresentFile, read_present, refusal_line};
-use selection_core::{Consent, may_be_shown};
+use selection_core::{Consent, NeverPlaces};
 use std::alloc::Global;
 
 // The key that signs: one of zeros where no key binding token is asked for, which signs nothing.
@@ -40,20 +40,21 @@ pub(crate) fn present_parts(
     alloc: Global,
     token_file: &[u8],
     ask: &Ask,
-    never: &PathList,
+    never: PathList,
     key: &mut Hs256Key,
     now: u64,
 ) -> Result<Parts, PresentError>
-    ensures presented { IfOk result (IsPresented never_rule never.now token_file.now ask.now (IsGood (hs256_key key.old)) now) }
+    ensures presented { IfOk result (IsPresented never_rule never token_file.now ask.now (IsGood (hs256_key key.old)) now) }
     ensures words { IfOk result AreWords }
     ensures short { IfOk result (λ parts. length (compact parts) ≤ compact_max) }
-    ensures refused { IfErr result (IsNotPresented never_rule never.now token_file.now ask.now (IsGood (hs256_key key.old)) now) }
+    ensures refused { IfErr result (IsNotPresented never_rule never token_file.now ask.now (IsGood (hs256_key key.old)) now) }
     ensures signed { IfErr result (λ error. error ≢ PresentError.SignFailed) }
 {
+    let never = NeverPlaces::of(never)?;
     let consent = Consent::new(
         |place: &Path|
-            ensures { Judges never.entry.now place.now result }
-        { may_be_shown(never, place) },
+            ensures { Judges never place.now result }
+        { never.may_be_shown(place) },
     );
     let mut steps = Steps::new();
     holder_core::present(alloc, token_file, ask, &consent, key, now, &mut steps)
@@ -88,7 +89,7 @@ fn present_for(
 {
     let PresentFile { ask, never, key } = said;
     let mut key = signer(key);
-    let presented = present_parts(alloc, token_file, &ask, &never, &mut key, now);
+    let presented = present_parts(alloc, token_file, &ask, never, &mut key, now);
     told(alloc, presented)
 }
 

@@ -19,7 +19,7 @@ use cli_parts::{Stop, refused};
 use compact_form::{Condition, JwtView, Place};
 use disclosure::{Disclosed, DisclosureError, DisclosureReader, HashAlg, digest, payload_hash};
 use json_form::{Disclosures, TokenView};
-use jws_part::{BodyError, HeaderError, read_body, read_header};
+use jws_part::{BodyError, HeaderError, read_body_with, read_header_with};
 use sd_outside::{NoMemory, TextBox};
 use std::alloc::Global;
 
@@ -33,8 +33,8 @@ fn read_head(
     ensures head { IfOk result (λ t. IsHead protected.now outer.now (tree_of t)) }
     ensures unreadable { IsErrOf result BodyError.Unreadable → IsHeaderUnreadable protected.now outer.now }
 {
-    let tree = read_body(alloc, reader, protected)?;
-    match read_header(alloc, reader, protected, outer) {
+    let tree = read_body_with(alloc, reader, protected)?;
+    match read_header_with(alloc, reader, protected, outer) {
         Ok(_) => Ok(tree),
         Err(HeaderError::Critical) => Ok(tree),
         Err(HeaderError::Unreadable) => Err(BodyError::Unreadable),
@@ -169,7 +169,7 @@ fn show_view(alloc: Global, file: &[u8], token: &TokenView<'_>) -> Result<String
         }
         Err(BodyError::Memory) => return Err(Stop::Memory),
     };
-    let payload = match read_body(alloc, &mut reader.json, payload) {
+    let payload = match read_body_with(alloc, &mut reader.json, payload) {
         Ok(payload) => payload,
         Err(BodyError::Unreadable) => {
             return Err(refused(alloc, &Condition::PayloadUnreadable.fault()));

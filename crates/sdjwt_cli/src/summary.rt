@@ -47,7 +47,7 @@ fn present_issued(alloc: Global, count: u32, issued: &Parts) -> Result<Parts, No
     let ask = ask_of(alloc, count)?;
     let never = PathList::new(alloc);
     let text = token.as_str().as_bytes();
-    match present_parts(alloc, text, &ask, &never, &mut presenting_key(), NOW) {
+    match present_parts(alloc, text, &ask, never, &mut presenting_key(), NOW) {
         Ok(parts) => Ok(parts),
         Err(PresentError::Memory) => Err(NoMemory),
         Err(_) => unreachable!(),

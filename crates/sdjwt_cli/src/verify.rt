@@ -1,10 +1,10 @@
 // The command `verify`: the processed payload of a token that is accepted under a policy.
-ghost use Rattle.std.specs.Prelude.{◌≡◌, ℕ, List, IfOk, IfErr, string_bytes};
+ghost use Rattle.std.specs.Prelude.{◌≡◌, IfOk, IfErr, string_bytes};
 ghost use Rattle.claim_tree.specs.JsonText.{json_text};
 ghost use Rattle.claim_tree.specs.View.{tree_of};
-ghost use Rattle.verifier_core.specs.PolicyFile.{IsPolicyFileRefused, IsPolicyFile};
+ghost use Rattle.verifier_core.specs.PolicyFile.{IsPolicyFileRefused};
 ghost use Rattle.cli_parts.specs.Lines.{line};
-ghost use Rattle.sdjwt_cli.specs.Verify.{Verifies, DoesNotVerify};
+ghost use Rattle.sdjwt_cli.specs.Verify.{Verifies, DoesNotVerify, VerifiesUnder, DoesNotVerifyUnder};
 ghost use Rattle.cli_parts.specs.Stops.{OnRefused, OnUnread, OnUnreadable};
 ghost use Rattle.cli_parts.specs.Telling.{TellsFileFault};
 
@@ -22,15 +22,15 @@ fn json_line(alloc: Global, tree: &Tree) -> Result<String, NoMemory>
     as_line(write(alloc, tree)?)
 }
 
-/// The answer under a policy that is read, for every file that says it.
+/// The answer under a policy that is read.
 pub fn verify_under(
     alloc: Global,
     policy: &Policy,
     token_file: &[u8],
     now: u64,
 ) -> Result<String, Stop>
-    ensures verifies { (file : List ℕ) → IsPolicyFile file policy.now → IfOk result (λ text. Verifies file token_file.now now (string_bytes text)) }
-    ensures refuses { (file : List ℕ) → IsPolicyFile file policy.now → IfErr result (λ stop. OnRefused stop (DoesNotVerify file token_file.now now)) }
+    ensures verifies { IfOk result (λ text. VerifiesUnder policy.now token_file.now now (string_bytes text)) }
+    ensures refuses { IfErr result (λ stop. OnRefused stop (DoesNotVerifyUnder policy.now token_file.now now)) }
     ensures readable { IfErr result (λ stop. OnUnreadable stop (λ _. ⊥)) }
     ensures read { IfErr result (λ stop. OnUnread stop (λ _. ⊥)) }
 {

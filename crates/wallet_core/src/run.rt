@@ -13,13 +13,13 @@ ghost use Rattle.wallet_core.specs.WalletRun.{PicksFromFiles, WalletAnswers, Wal
 ghost use Rattle.wallet_core.specs.declared.error.WalletError.TheVariants.{NoAnswer};
 
 use crate::words::wallet_words;
-use crate::{CredentialList, Picked, Query, WalletError, answer, read_query};
+use crate::{CredentialList, Picked, Query, QueryFile, WalletError, answer, read_query};
 use claim_tree::{Path, PathList};
 use cli_parts::{FETCH_MAX, Stop, as_line, fetch_file, finish, readable, tell};
 use compact_form::{Place, Refusal, placed_line, print};
 use digest_index::Steps;
 use sd_outside::{Cabinet, NoMemory, Sink, Status};
-use selection_core::{Consent, may_be_shown};
+use selection_core::{Consent, NeverPlaces};
 use std::alloc::Global;
 
 // The token files of these names, which stand behind that of the query file.
@@ -49,17 +49,18 @@ fn answer_shown(
     alloc: Global,
     held: &CredentialList,
     query: &Query,
-    never: &PathList,
+    never: PathList,
 ) -> Result<Picked, WalletError>
-    ensures picked { IfOk result (IsPicked (Meets never_rule never.now) held.now query.now) }
-    ensures fewest { IfOk result (IsFewest never_rule never.now held.now query.now) }
+    ensures picked { IfOk result (IsPicked (Meets never_rule never) held.now query.now) }
+    ensures fewest { IfOk result (IsFewest never_rule never held.now query.now) }
     ensures words { IfOk result (λ choice. AreWords choice.parts) }
-    ensures none { IsErrOf result NoAnswer → HasNoAnswer never_rule never.now held.now query.now }
+    ensures none { IsErrOf result NoAnswer → HasNoAnswer never_rule never held.now query.now }
 {
+    let never = NeverPlaces::of(never)?;
     let consent = Consent::new(
         |place: &Path|
-            ensures { Judges never.entry.now place.now result }
-        { may_be_shown(never, place) },
+            ensures { Judges never place.now result }
+        { never.may_be_shown(place) },
     );
     let mut steps = Steps::new();
     answer(alloc, held, query, &consent, &mut steps)
@@ -91,7 +92,8 @@ pub fn answer_files(alloc: Global, query_file: &[u8], held: &CredentialList) -> 
     ensures read { IfErr result (λ stop. OnUnread stop (λ _. ⊥)) }
 {
     let said = readable(alloc, read_query(alloc, query_file))?;
-    match answer_shown(alloc, held, &said.query, &said.never) {
+    let QueryFile { query, never } = said;
+    match answer_shown(alloc, held, &query, never) {
         Ok(choice) => Ok(picked_lines(alloc, &choice)?),
         Err(WalletError::Memory) => Err(Stop::Memory),
         Err(WalletError::NoAnswer) => Err(Stop::Refused(none_line(alloc)?)),
