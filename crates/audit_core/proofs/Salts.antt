@@ -10,7 +10,7 @@ use Rattle.b64url_text.proofs.Lengths.{length-b64}
 use Rattle.claim_tree.specs.Tree.{Text, Tree, leaf, text, array}
 use Rattle.claim_tree.specs.JsonText.{Reads, json_text}
 use Rattle.claim_tree.specs.ListTails.{short_list}
-use Rattle.json_form.proofs.PlainLetters.{plain_letters}
+use Rattle.b64url_text.proofs.PlainLetters.{plain_letters}
 use Rattle.disclosure.specs.Disclosure.{array_of}
 use Rattle.disclosure.proofs.Arrays.{array_of-listed}
 use Rattle.audit_core.specs.Audited.{IsSaltedText}
