@@ -2,12 +2,10 @@
 //! runs one tool over them.
 #![tactic(auto)]
 
-mod tools;
-
 use cli_parts::{Ending, exit_code, seconds, words};
 use sd_outside::{HostCabinet, HostSink, HostSource, Status};
 use std::process::ExitCode;
-use tools::run_tools;
+use tools_cli::run_tools;
 
 // The tool of the words, over the files and the standard streams of the host.
 fn status(rt: &HostRuntime) -> Result<Status, Ending> {

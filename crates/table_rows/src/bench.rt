@@ -3,12 +3,10 @@
 use crate::names::Names;
 use crate::token::{binding, flattened, token};
 use crate::trouble::Trouble;
-use audit_core::run_audit;
-use feed_core::run_feed;
 use sd_outside::{MemCabinet, MemSink, MemSource, NoMemory, Status};
 use sdjwt_cli::run;
 use std::alloc::Global;
-use wallet_core::run_wallet;
+use tools_cli::run_tools;
 
 /// The moment of a run where a row sets none, in seconds since 1970.
 const NOW: u64 = 1_700_000_000;
@@ -196,11 +194,9 @@ impl Bench {
         let (alloc, now) = (self.alloc, self.now);
         let cabinet = &mut self.cabinet;
         match words.first().map(|word| word.as_str()) {
-            Some("audit") => Ok(run_audit(alloc, words, cabinet, out, err)),
-            Some("wallet") => Ok(run_wallet(alloc, words, cabinet, out, err)),
-            Some("feed") => {
+            Some("audit" | "wallet" | "feed") => {
                 let mut source = self.input.source(alloc)?;
-                Ok(run_feed(alloc, words, cabinet, &mut source, now, out, err))
+                Ok(run_tools(alloc, words, cabinet, &mut source, now, out, err))
             }
             _ => Ok(run(alloc, words, cabinet, now, out, err)),
         }

@@ -5,7 +5,7 @@ ghost use Rattle.audit_core.specs.AuditRun.{AuditEnds};
 ghost use Rattle.feed_core.specs.FeedSource.{input};
 ghost use Rattle.feed_core.specs.FeedRun.{feed_outside, FeedEnds, FeedKeeps};
 ghost use Rattle.wallet_core.specs.WalletRun.{WalletEnds};
-ghost use Rattle.sdjwt_tools.specs.Tools.{Names};
+ghost use Rattle.tools_cli.specs.Tools.{Names};
 
 use audit_core::run_audit;
 use feed_core::run_feed;
