@@ -15,7 +15,7 @@ use Rattle.cli_parts.specs.declared.stop.Stop.TheVariants.{Memory, Unread, Unrea
 use Rattle.sdjwt_c.specs.Handed.{IsLeft, IsGiven, IsTooLong, Hands, HandsBy, reply_text}
 use Rattle.sdjwt_c.specs.Results.{IsHanded}
 
-module _ (Misused : Type 0) (Is : Reply → Type 0) (before after : List ℕ) (len number : ℕ) (told : Status) (number_is : number ≡ status_number told) where
+module _ (Misused : Type 0) (kept : Misused → ⊥) (Is : Reply → Type 0) (before after : List ℕ) (len number : ℕ) (told : Status) (number_is : number ≡ status_number told) where
   by_status : (s : Status) → told ≡ s → Hands Misused Is before after len s → HandsBy Misused Is before after len number
   by_status s e hands = record { status = s; number_is = number_is ∙ ap status_number e; hands = hands }
 
@@ -40,7 +40,7 @@ module _ (Misused : Type 0) (Is : Reply → Type 0) (before after : List ℕ) (l
   handed_reply (Err (Refused text)) reply unread is = refused (string_bytes text) reply is
   handed_reply (Err (Unreadable text)) reply unread is = not_read (string_bytes text) reply is
   handed_reply (Err (Unread word)) reply unread is = absurd unread
-  handed_reply (Err Memory) reply unread is = by_status status.Memory is.0 is.1
+  handed_reply (Err Memory) reply unread is = by_status status.Memory is.0 (record { kept = kept; left = is.1 })
 
   pub handed : (answer : Result (String Global) Stop) → IfOk answer (λ text. Is (gives (string_bytes text))) → IfErr answer (λ stop. OnRefused stop (λ text. Is (refuses text)))
       → IfErr answer (λ stop. OnUnreadable stop (λ text. Is (unreadable text))) → IfErr answer (λ stop. OnUnread stop (λ _. ⊥)) → IsHanded answer before after len told → HandsBy Misused Is before after len number
@@ -49,26 +49,3 @@ module _ (Misused : Type 0) (Is : Reply → Type 0) (before after : List ℕ) (l
   -- an answer of no bytes
   pub empty : Is (gives []) → told ≡ Done → IsLeft before after len → HandsBy Misused Is before after len number
   empty is e left = by_status Done e (record { text = []; is = is; written = record { fits = omega arith; len_is = left.len_is; room_is = left.room_is } })
-
--- what is so under each file that says the policy, of what was answered under the policy
-module _ (Says : List ℕ → Type 0) where
-  pub each_ok : (P : List ℕ → List ℕ → Type 0) (answer : Result (String Global) Stop) → ((file : List ℕ) → Says file → IfOk answer (λ text. P file (string_bytes text)))
-      → IfOk answer (λ text. (file : List ℕ) → Says file → P file (string_bytes text))
-  each_ok P (Ok text) each = each
-  each_ok P (Err stop) each = tt
-
-  pub each_refused : (P : List ℕ → List ℕ → Type 0) (answer : Result (String Global) Stop) → ((file : List ℕ) → Says file → IfErr answer (λ stop. OnRefused stop (P file)))
-      → IfErr answer (λ stop. OnRefused stop (λ text. (file : List ℕ) → Says file → P file text))
-  each_refused P (Ok text) each = tt
-  each_refused P (Err (Refused text)) each = each
-  each_refused P (Err (Unreadable text)) each = tt
-  each_refused P (Err (Unread word)) each = tt
-  each_refused P (Err Memory) each = tt
-
-  pub none_unreadable : (P : List ℕ → List ℕ → Type 0) (answer : Result (String Global) Stop) → IfErr answer (λ stop. OnUnreadable stop (λ _. ⊥))
-      → IfErr answer (λ stop. OnUnreadable stop (λ text. (file : List ℕ) → Says file → P file text))
-  none_unreadable P (Ok text) none = tt
-  none_unreadable P (Err (Refused text)) none = tt
-  none_unreadable P (Err (Unreadable text)) none = absurd none
-  none_unreadable P (Err (Unread word)) none = tt
-  none_unreadable P (Err Memory) none = tt

@@ -1,5 +1,5 @@
 //! The tools, each over the bytes of its files: the audit of a token for its order, and the wallet.
-ghost use Rattle.std.specs.Prelude.{◌≡◌, IfOk, IfNone, IfSome};
+ghost use Rattle.std.specs.Prelude.{◌≡◌, ◌↔◌, IsTrue, IfOk};
 ghost use Rattle.audit_core.specs.AuditRun.{AuditAnswers};
 ghost use Rattle.wallet_core.specs.WalletRun.{WalletAnswers};
 ghost use Rattle.sdjwt_c.specs.Handed.{HandsBy};
@@ -25,31 +25,38 @@ pub extern "C" fn sdjwt_audit(
     hand(audit_files(alloc, order, token), room, len).number()
 }
 
-// The pieces of a text that have these lengths, where they are 1 to 64 and make all of it.
-fn cut(alloc: Global, text: &[u8], lengths: &[usize]) -> Result<Option<CredentialList>, NoMemory>
-    ensures pieces { IfOk result (λ cut. IfSome cut (λ held. held ≡ pieces lengths.now text.now)) }
-    ensures fit { IfOk result (λ cut. IfSome cut (λ _. AreLengths lengths.now text.now)) }
-    ensures none { IfOk result (λ cut. IfNone cut (AreLengths lengths.now text.now → ⊥)) }
+// Whether these are the lengths of 1 to 64 pieces of a text, and of all of it. It takes no memory.
+fn are_lengths(text: &[u8], lengths: &[usize]) -> bool
+    ensures { IsTrue result ↔ AreLengths lengths.now text.now }
 {
     if lengths.is_empty() || TOKENS_MAX < lengths.len() {
-        return Ok(None);
+        return false;
     }
+    let mut rest = text.len();
+    for length in lengths {
+        if rest < *length {
+            return false;
+        }
+        rest -= *length;
+    }
+    rest == 0
+}
+
+// The pieces of a text that have these lengths.
+fn cut(alloc: Global, text: &[u8], lengths: &[usize]) -> Result<CredentialList, NoMemory>
+    requires { AreLengths lengths.now text.now }
+    ensures { IfOk result (λ held. held ≡ pieces lengths.now text.now) }
+{
     let mut held = CredentialList::new(alloc);
     let mut rest = text;
     for length in lengths {
-        if rest.len() < *length {
-            return Ok(None);
-        }
         let (piece, behind) = rest.split_at(*length);
         let mut token = ByteBox::new(alloc);
         token.append(piece)?;
         held.push(token)?;
         rest = behind;
     }
-    if !rest.is_empty() {
-        return Ok(None);
-    }
-    Ok(Some(held))
+    Ok(held)
 }
 
 /// What a wallet shows for a query, of 1 to 64 tokens that stand one behind the other, with their lengths. With other
@@ -65,9 +72,11 @@ pub extern "C" fn sdjwt_wallet(
 ) -> u8
     ensures { HandsBy (AreLengths lengths.now tokens.now → ⊥) (λ reply. AreLengths lengths.now tokens.now × WalletAnswers query.now (pieces lengths.now tokens.now) reply) room.old room.new len.new result }
 {
+    if !are_lengths(tokens, lengths) {
+        return leave(Status::Usage, len).number();
+    }
     match cut(alloc, tokens, lengths) {
-        Ok(Some(held)) => hand(answer_files(alloc, query, &held), room, len).number(),
-        Ok(None) => leave(Status::Usage, len).number(),
+        Ok(held) => hand(answer_files(alloc, query, &held), room, len).number(),
         Err(NoMemory) => leave(Status::Memory, len).number(),
     }
 }

@@ -1,22 +1,16 @@
 -- Under the policy that the handle held.
-use Rattle.std.proofs.Common.{◌≡◌, ℕ, List, Option, None, Some, ap, ◌∙◌, subst}
+use Rattle.std.proofs.Common.{◌≡◌, Option, None, Some, ap, ◌∙◌, subst}
 use Rattle.std.specs.Prelude.{IsSomeAnd}
-use Rattle.cli_parts.specs.Telling.{TellsFileFault}
-use Rattle.sdjwt_cli.specs.Verify.{Verifies, DoesNotVerify}
 use Rattle.verifier_core.specs.declared.policy.Policy.{Policy}
-use Rattle.verifier_core.specs.PolicyFile.{IsPolicyFile, IsPolicyFileRefused}
 use Rattle.sdjwt_c.specs.Handed.{HandsBy}
 use Rattle.sdjwt_c.specs.Policies.{UnderAnswers}
-use Rattle.sdjwt_c.proofs.Handing.{handed, each_ok, each_refused, none_unreadable}
+use Rattle.sdjwt_c.proofs.Handing.{handed}
 use Rattle.sdjwt_c.proofs.policy.sdjwt_policy_verify.Goals as goal
 
 pub returns-clause-answers : goal.returns-clause-answers
 returns-clause-answers c =
-    let token = c.args.token.now in let now = c.args.now in let policy = c.deref.result.now in let answer = c.verify_under-answer.result in
+    let token = c.args.token.now in let now = c.args.now in let policy = c.deref.result.now in
     let Under : Option Policy → Type 0 = λ held. HandsBy (held ≡ None) (λ reply. IsSomeAnd held (λ policy. UnderAnswers policy token now reply)) c.args.room.now c.hand.new.room c.hand.new.len c.number-2.result in
-    let Says : List ℕ → Type 0 = λ file. IsPolicyFile file policy in
     subst Under (ap (λ p. Some p) c.deref.ensures ∙ c.in-Some.ensures.policy)
-    (handed (Some policy ≡ None) (λ reply. UnderAnswers policy token now reply) c.args.room.now c.hand.new.room c.hand.new.len c.number-2.result c.hand.result c.number-2.ensures answer
-    (each_ok Says (λ file text. Verifies file token now text) answer c.verify_under-answer.ensures.verifies)
-    (each_refused Says (λ file text. DoesNotVerify file token now text) answer c.verify_under-answer.ensures.refuses)
-    (none_unreadable Says (λ file text. TellsFileFault (IsPolicyFileRefused file) text) answer c.verify_under-answer.ensures.readable) c.verify_under-answer.ensures.read c.hand.ensures)
+    (handed (Some policy ≡ None) (λ none. absurd (cc none)) (λ reply. UnderAnswers policy token now reply) c.args.room.now c.hand.new.room c.hand.new.len c.number-2.result c.hand.result c.number-2.ensures c.verify_under-answer.result
+    c.verify_under-answer.ensures.verifies c.verify_under-answer.ensures.refuses c.verify_under-answer.ensures.readable c.verify_under-answer.ensures.read c.hand.ensures)
