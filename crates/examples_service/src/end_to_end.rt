@@ -2,7 +2,7 @@
 ghost use Rattle.std.specs.Prelude.{◌≡◌, ◌≢◌, ◌≤◌, IfOk, IfErr};
 ghost use Rattle.claim_tree.specs.Tree.{depth};
 ghost use Rattle.claim_tree.specs.View.{tree_of};
-ghost use Rattle.compact_form.specs.Lowest.{IsLowest};
+ghost use Rattle.compact_form.specs.Lowest.{IsLowest, NoneApplies};
 ghost use Rattle.compact_form.specs.declared.fault.Fault.{Fault};
 ghost use Rattle.hmac_sign.specs.Hmac.{hs256_key, IsGood};
 ghost use Rattle.verifier_core.specs.Verdict.{Fails};
@@ -10,6 +10,7 @@ ghost use Rattle.verifier_core.specs.Verdicts.{IsAcceptedAs};
 ghost use Rattle.holder_core.specs.Present.{IsNotPresented};
 ghost use Rattle.holder_core.specs.declared.errors.PresentError.{PresentError as Unpresented};
 ghost use Rattle.holder_core.specs.declared.errors.PresentError.TheVariants.{Memory, SignFailed};
+ghost use Rattle.issuer_core.specs.Issue.{AppliesToIssue};
 ghost use Rattle.issuer_core.specs.IssueCalls.{IsNotIssued};
 ghost use Rattle.issuer_core.specs.Order.{order_of};
 ghost use Rattle.issuer_core.specs.Seed.{maker_of};
@@ -103,7 +104,8 @@ fn verified(alloc: Global, presentation: &str, policy: &Policy, now: u64) -> Res
 /// The moments are in seconds since 1970.
 ///
 /// The policy suits what is asked (`Suits`). Then the answer is the payload of the order without the hidden places that
-/// lead to none of the wanted ones, and nothing is refused but by the issuer, for a cause that the clauses tell.
+/// lead to none of the wanted ones, and nothing is refused but by the issuer, for a cause that the clauses tell: an
+/// order to which one of the refusals applies has no answer (`issued`).
 pub fn issue_present_verify<F: Fn(&Path) -> bool>(
     alloc: Global,
     issuer: Issuer,
@@ -119,6 +121,8 @@ pub fn issue_present_verify<F: Fn(&Path) -> bool>(
     requires suits { Suits F.Fn holder.now.consent (order_of issuer.order) issuer.key holder.now.ask holder_key
         policy.now presented_at verified_at }
     ensures shown { IfOk result (λ payload. tree_of payload ≡ claims_for (order_of issuer.order) holder.now.ask.want) }
+    ensures issued { IfOk result (λ _. NoneApplies
+        (AppliesToIssue (maker_of issuer.seed) (order_of issuer.order) issuer.key.alg (IsGood issuer.key))) }
     ensures refused { IfErr result
         (IsNotIssued (maker_of issuer.seed) (order_of issuer.order) issuer.key.alg (IsGood issuer.key)) }
     ensures signed { IfErr result (λ error. error ≢ IssueError.SignFailed) }

@@ -1,11 +1,15 @@
 // The token of a payload, some places of which are hidden.
-ghost use Rattle.std.specs.Prelude.{◌≡◌, ◌≤◌, IfOk, IfErr, IsErrOf};
+ghost use Rattle.std.specs.Prelude.{◌≡◌, ◌≤◌, length, IfOk, IfErr, IsErrOf};
 ghost use Rattle.sd_outside.specs.Causes.{Rose};
+ghost use Rattle.sd_outside.specs.Limits.{issue_max};
 ghost use Rattle.claim_tree.specs.Tree.{depth};
 ghost use Rattle.claim_tree.specs.View.{tree_of};
+ghost use Rattle.compact_form.specs.Lowest.{NoneApplies};
 ghost use Rattle.hmac_sign.specs.Agreement.{Agree};
 ghost use Rattle.issuer_core.specs.declared.errors.IssueError.{IssueError};
+ghost use Rattle.issuer_core.specs.Issue.{HasNoClash};
 ghost use Rattle.issuer_core.specs.IssueCalls.{IsNotIssued};
+ghost use Rattle.issuer_core.specs.OrderRefusals.{AppliesToOrder};
 ghost use Rattle.issuer_core.specs.Seed.{maker_of};
 ghost use Rattle.examples_service.specs.Token.{order_for, IsTokenFor};
 
@@ -30,6 +34,10 @@ pub fn token_for<S: Signer>(
     requires depth { depth (tree_of payload) ≤ 127 }
     ensures token { IfOk result (IsTokenFor (maker_of seed.now)
         (order_for (tree_of payload) hide) (S.alg_of signer.old) (S.good signer.old)) }
+    ensures passes { IfOk result (λ _. NoneApplies (AppliesToOrder (order_for (tree_of payload) hide))) }
+    ensures differ { IfOk result
+        (λ _. HasNoClash (maker_of seed.now) (order_for (tree_of payload) hide)) }
+    ensures short { IfOk result (λ text. length text ≤ issue_max) }
     ensures refused { IfErr result (IsNotIssued (maker_of seed.now)
         (order_for (tree_of payload) hide) (S.alg_of signer.old) (S.good signer.old)) }
     ensures failed { IsErrOf result IssueError.SignFailed
