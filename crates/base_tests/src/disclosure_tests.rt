@@ -2,8 +2,9 @@ ghost use Rattle.std.specs.Prelude.{◌≤◌};
 ghost use Rattle.claim_tree.specs.Tree.{depth};
 ghost use Rattle.claim_tree.specs.View.{tree_of};
 
+use b64url_text::decode;
 use claim_tree::Tree;
-use disclosure::{Disclosure, DisclosureError, make, read_disclosure};
+use disclosure::{Disclosure, DisclosureError, HashAlg, digest, make, read_disclosure};
 use sd_outside::TextBox;
 use std::alloc::Global;
 use std::test::Fail;
@@ -71,5 +72,18 @@ fn disclosures_are_made_without_blanks(rt: HostRuntime) -> Result<(), Fail> {
         made(alloc, "lklxF5jMYlGTPUovMNIvCA", None, &Tree::Flag(true))?.as_str(),
         "WyJsa2x4RjVqTVlsR1RQVW92TU5JdkNBIix0cnVlXQ"
     );
+    Ok(())
+}
+
+#[test]
+fn texts_of_no_byte_and_of_one(rt: HostRuntime) -> Result<(), Fail> {
+    let alloc = rt.alloc();
+    let digest = digest(alloc, HashAlg::Sha256, "")?;
+    assert_eq!(rt;
+        digest.as_str(),
+        "47DEQpj8HBSa-_TImW-5JCeuQeRkm5NMpJWZG3hSuFU"
+    );
+    let zero = decode(alloc, b"AA").map_err(|_| "no code")?;
+    assert_eq!(rt; zero.bytes(), [0].as_slice());
     Ok(())
 }

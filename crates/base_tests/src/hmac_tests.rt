@@ -2,9 +2,10 @@ ghost use Rattle.std.specs.Prelude.{IfOk, IsTrue};
 ghost use Rattle.hmac_sign.specs.Agreement.{Agree};
 
 use b64url_text::{decode, encode};
+use claim_tree::read;
 use hmac_sign::{
-    Alg, Checker, FailSigner, Hs256Key, HsKey, KeyShort, SignError, Signer, alg_named, hmac,
-    hmac_sha256,
+    Alg, Checker, FailSigner, Hs256Key, HsKey, KeySet, KeySetError, KeyShort, SignError, Signer,
+    alg_named, hmac, hmac_sha256,
 };
 use sd_outside::TextBox;
 use std::alloc::Global;
@@ -183,5 +184,42 @@ fn one_call_fails_and_is_counted(rt: HostRuntime) -> Result<(), Fail> {
     assert_eq!(rt; is_accepted(rt.alloc(), &mut signer, &checker), Ok(true));
     assert_eq!(rt; failed(rt.alloc(), &mut signer), (true, 1));
     assert_eq!(rt; failed(rt.alloc(), &mut signer), (false, 1));
+    Ok(())
+}
+
+// The keys of a JSON text.
+fn keys(alloc: Global, text: &str) -> Result<Result<KeySet, KeySetError>, Fail> {
+    let tree = read(alloc, text.as_bytes()).map_err(|_| "not read")?;
+    Ok(KeySet::read(alloc, &tree))
+}
+
+// Two keys, the second with a name; and one of 31 bytes.
+const SET: &str =
+    r#"{"keys":[{"kty":"EC"},{"kty":"oct","k":"AQEBAQEBAQEBAQEBAQEBAQEBAQEBAQEBAQEBAQEBAQE"},{"kty":"oct","kid":"b","k":"AgICAgICAgICAgICAgICAgICAgICAgICAgICAgICAgI"}]}"#;
+
+const SHORT: &str = r#"{"keys":[{"kty":"oct","k":"AQEBAQEBAQEBAQEBAQEBAQEBAQEBAQEBAQEBAQEBAQ"}]}"#;
+
+// Whether a key is the one of 32 such bytes.
+fn is_of(key: Option<&Hs256Key>, byte: u8) -> Result<bool, Fail> {
+    let other = Hs256Key::new(&[byte; 32]).map_err(|_| "the key is short")?;
+    match key {
+        Some(key) => Ok(key.mac(HEAD, BODY) == other.mac(HEAD, BODY)),
+        None => Ok(false),
+    }
+}
+
+#[test]
+fn the_first_key_has_no_name(rt: HostRuntime) -> Result<(), Fail> {
+    let keys = keys(rt.alloc(), SET)?.map_err(|_| "no keys")?;
+    assert!(rt; is_of(keys.first(), 1)?);
+    assert!(rt; is_of(keys.find("b"), 2)?);
+    assert!(rt; keys.find("a").is_none());
+    Ok(())
+}
+
+#[test]
+fn a_short_key_is_named_by_its_place(rt: HostRuntime) -> Result<(), Fail> {
+    let refused = keys(rt.alloc(), SHORT)?.err();
+    assert_eq!(rt; refused, Some(KeySetError::KeyShort(0)));
     Ok(())
 }

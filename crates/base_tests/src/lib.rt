@@ -13,6 +13,8 @@ mod hmac_tests;
 #[cfg(test)]
 mod json_form_tests;
 #[cfg(test)]
+mod jws_tests;
+#[cfg(test)]
 mod marked_tests;
 #[cfg(test)]
 mod pointer_tests;

@@ -5,7 +5,7 @@ ghost use Rattle.marked_tree.specs.View.{marked_of};
 
 use crate::from_text::marked;
 use claim_tree::{print_path, write};
-use marked_tree::{ChosenSet, Marked, MarkedMap, place_of, prune, strip};
+use marked_tree::{ChosenSet, Marked, MarkedList, MarkedMap, place_of, prune, strip};
 use sd_outside::TextBox;
 use std::alloc::Global;
 use std::test::Fail;
@@ -81,7 +81,7 @@ fn a_mark_has_a_place(rt: HostRuntime) -> Result<(), Fail> {
 
 // A member, and some that are put to it.
 fn joined(alloc: Global) -> Result<MarkedMap, Fail> {
-    let mut map = MarkedMap::with_capacity(alloc, 1)?;
+    let mut map = MarkedMap::new(alloc);
     map.insert(TextBox::make(alloc, "b")?, Some(1), Marked::Null)?;
     let mut added = Vec::new(alloc);
     for (name, mark) in [("c", 5), ("b", 6), ("", 7), ("c", 8)] {
@@ -127,5 +127,16 @@ fn sets_keep_each_mark_once(rt: HostRuntime) -> Result<(), Fail> {
     let wanted = (4, [true; 4], [false; 2]);
     assert_eq!(rt; told(&added(rt.alloc())?), wanted);
     assert_eq!(rt; told(&made(rt.alloc())?), wanted);
+    Ok(())
+}
+
+#[test]
+fn elements_keep_their_marks(rt: HostRuntime) -> Result<(), Fail> {
+    let mut list = MarkedList::new(rt.alloc());
+    list.push(Some(3), Marked::Null)?;
+    list.push(None, Marked::Flag(true))?;
+    for (i, mark) in [(0, Some(Some(3))), (1, Some(None)), (2, None)] {
+        assert_eq!(rt; list.at(i).map(|(mark, _)| mark), mark);
+    }
     Ok(())
 }

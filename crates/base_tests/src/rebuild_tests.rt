@@ -9,7 +9,7 @@ use crate::from_text::value;
 use claim_tree::{Tree, print_path, write};
 use digest_index::Steps;
 use digest_sites::{Given, GivenList};
-use marked_tree::{Marked, place_of, strip};
+use marked_tree::{ChosenSet, Marked, place_of, prune, strip};
 use rebuild_core::{ProcessError, process};
 use sd_outside::TextBox;
 use std::alloc::Global;
@@ -187,6 +187,28 @@ fn digests_may_lead_in_a_circle(rt: HostRuntime) -> Result<(), Fail> {
         assert_eq!(rt; answer.as_str(), expected, "{payload} {disclosures}");
         assert!(rt; steps.count() <= look_ups, "{payload} {disclosures}");
     }
+    Ok(())
+}
+
+// What is left of a payload that is opened, where the first disclosure alone is kept.
+fn pruned(alloc: Global, text: &str, given: &GivenList) -> Result<Marked, Fail>
+    requires depths { ValuesShallow given.now }
+    requires few { length given.now < 2 ^ 32 - 1 }
+    ensures depth { IfOk result (λ marked. depth (strip_of (marked_of marked)) ≤ 127) }
+{
+    let payload = payload(alloc, text)?;
+    let marked = process(alloc, &payload, given, &mut Steps::new()).map_err(|_| "refused")?;
+    let mut kept = ChosenSet::new(alloc);
+    kept.add(0)?;
+    Ok(prune(alloc, &marked, &kept)?)
+}
+
+#[test]
+fn what_is_opened_keeps_its_marks(rt: HostRuntime) -> Result<(), Fail> {
+    let alloc = rt.alloc();
+    let given = given(alloc, r#"A x {"_sd":["B"]}|B y 7"#)?;
+    let pruned = pruned(alloc, r#"{"_sd":["A"]}"#, &given)?;
+    assert_eq!(rt; shown(alloc, 2, &pruned)?.as_str(), r#"{"x":{}} /x"#);
     Ok(())
 }
 

@@ -84,6 +84,18 @@ fn decoys_are_counted_past_their_type(rt: HostRuntime) -> Result<(), Fail> {
     Ok(())
 }
 
+// The first place of an order that leads nowhere.
+#[test]
+fn a_place_that_is_not_there_is_named(rt: HostRuntime) -> Result<(), Fail> {
+    let alloc = rt.alloc();
+    let mut order = order(alloc, 1)?;
+    order
+        .hide
+        .push(read_pointer(alloc, "/x").map_err(|_| "no pointer")?)?;
+    assert!(rt; matches!(judge(alloc, &order), Err(IssueError::NoSuchPlace(1))));
+    Ok(())
+}
+
 // What a signer that fails at one call makes of an order: whether it is issued, whether the signer failed, and how
 // often it did.
 fn asked(alloc: Global, order: &Order, call: u64) -> Result<(bool, bool, u64), Fail>

@@ -3,6 +3,8 @@
 #![tactic(auto)]
 
 #[cfg(test)]
+mod audit_tests;
+#[cfg(test)]
 mod binding_tests;
 #[cfg(test)]
 mod feed_tests;
@@ -10,6 +12,8 @@ mod feed_tests;
 mod holder_tests;
 #[cfg(test)]
 mod issuer_tests;
+#[cfg(test)]
+mod look_up_tests;
 #[cfg(test)]
 mod verifier_tests;
 #[cfg(test)]

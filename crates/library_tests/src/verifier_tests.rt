@@ -2,7 +2,7 @@
 // borrowed token, which no run calls.
 
 use claim_tree::{Tree, write};
-use compact_form::print;
+use compact_form::{View, print};
 use digest_index::Steps;
 use issuer_core::{IssueFile, issue_owned, read_order};
 use json_form::{Token, TokenText, TokenView, read_token};
@@ -10,7 +10,8 @@ use sd_outside::TextBox;
 use std::alloc::Global;
 use std::test::Fail;
 use verifier_core::{
-    Accepted, Checked, Content, Policy, VerifyError, check_token, fault_line, read_policy, verify,
+    Accepted, Checked, Content, Policy, VerifyError, check_token, check_view, fault_line,
+    read_policy, verify,
 };
 
 const ORDER: &str =
@@ -137,6 +138,28 @@ fn told_of_view(alloc: Global, text: &str) -> Result<String, Fail> {
 fn a_view_of_an_issued_token_is_checked(rt: HostRuntime) -> Result<(), Fail> {
     let text = issued(rt.alloc())?;
     let found = told_of_view(rt.alloc(), text.as_str())?;
+    assert_eq!(rt; found.as_str(), r#"4 {"age":40,"given":"Ann","iss":"i"}"#);
+    Ok(())
+}
+
+// The same of a compact token, by the call that reads and opens it at once.
+fn view_checked(alloc: Global, text: &str) -> Result<String, Fail> {
+    let view = View::scan(text.as_bytes()).map_err(|_| "no token")?;
+    if view.count() > 2 {
+        return Err("too many".into());
+    }
+    let Policy { keys, algs, .. } = policy(alloc)?;
+    let mut steps = Steps::new();
+    match check_view(alloc, &view, &keys, &algs, None, &mut steps) {
+        Ok(Checked { payload, .. }) => accepted(alloc, &steps, &payload),
+        Err(error) => refused(alloc, &steps, error),
+    }
+}
+
+#[test]
+fn a_borrowed_token_is_checked(rt: HostRuntime) -> Result<(), Fail> {
+    let text = issued(rt.alloc())?;
+    let found = view_checked(rt.alloc(), text.as_str())?;
     assert_eq!(rt; found.as_str(), r#"4 {"age":40,"given":"Ann","iss":"i"}"#);
     Ok(())
 }

@@ -1,10 +1,14 @@
 use crate::holder_tests::TOKEN as BOTH;
-use claim_tree::Path;
+use claim_tree::{Path, write};
+use compact_form::print;
 use digest_index::Steps;
-use sd_outside::ByteBox;
+use hmac_sign::Hs256Key;
+use holder_core::{PresentFile, present, read_present};
+use sd_outside::{ByteBox, TextBox};
 use selection_core::Consent;
 use std::alloc::Global;
 use std::test::Fail;
+use verifier_core::{read_policy, verify_payload};
 use wallet_core::{CredentialList, Picked, Query, WalletError, answer, read_query};
 
 // A token that hides an address with its street.
@@ -63,5 +67,55 @@ fn a_rule_is_asked_for_each_credential(rt: HostRuntime) -> Result<(), Fail> {
         let count = texts.len();
         assert_eq!(rt; told(rt.alloc(), most, texts)?, wanted, "{most} of {count}");
     }
+    Ok(())
+}
+
+const POLICY: &str =
+    r#"{"keys":{"keys":[{"kty":"oct","k":"AQEBAQEBAQEBAQEBAQEBAQEBAQEBAQEBAQEBAQEBAQE"}]}}"#;
+
+// What a wallet sends of these credentials.
+fn sent(alloc: Global, texts: &[&str]) -> Result<TextBox, Fail> {
+    let held = held_of(alloc, texts)?;
+    let said = read_query(alloc, QUERY.as_bytes()).map_err(|_| "no query")?;
+    let consent = Consent::new(|_: &Path| true);
+    match answer(alloc, &held, &said.query, &consent, &mut Steps::new()) {
+        Ok(Picked { parts, .. }) => Ok(print(alloc, &parts)?),
+        Err(_) => Err("no answer".into()),
+    }
+}
+
+// What is presented of it again: a query has the members of a present order that are asked for here.
+fn presented(alloc: Global, token: &str) -> Result<TextBox, Fail> {
+    let said = read_present(alloc, QUERY.as_bytes()).map_err(|_| "no order")?;
+    let PresentFile { ask, .. } = said;
+    let mut signer = Hs256Key::new(&[2; 32]).map_err(|_| "short key")?;
+    let consent = Consent::new(|_: &Path| true);
+    let text = token.as_bytes();
+    let parts = present(
+        alloc,
+        text,
+        &ask,
+        &consent,
+        &mut signer,
+        0,
+        &mut Steps::new(),
+    );
+    Ok(print(alloc, &parts.map_err(|_| "not presented")?)?)
+}
+
+// The claims that a verifier finds in it.
+fn verified(alloc: Global, text: &str) -> Result<TextBox, Fail> {
+    let policy = read_policy(alloc, POLICY.as_bytes()).map_err(|_| "no policy")?;
+    let steps = &mut Steps::new();
+    let payload = verify_payload(alloc, text.as_bytes(), &policy, 0, steps);
+    Ok(write(alloc, &payload.map_err(|_| "refused")?)?)
+}
+
+#[test]
+fn what_a_wallet_sends_is_presented_again(rt: HostRuntime) -> Result<(), Fail> {
+    let token = sent(rt.alloc(), &[BOTH, WHOLE])?;
+    let again = presented(rt.alloc(), token.as_str())?;
+    let claims = verified(rt.alloc(), again.as_str())?;
+    assert_eq!(rt; claims.as_str(), r#"{"address":{"street":"S","zip":"1"}}"#);
     Ok(())
 }
