@@ -1,10 +1,11 @@
 #!/bin/sh
 # Copies the built programs, their manual pages and their completions below a folder, and says what it did: sdjwt, and
-# sdjwt_tools where it is built.
+# sdjwt_tools where it is built. Beside them goes sdjwt-explain, which explains their refusals and is a Python program.
 #
 #   sh install.sh [--prefix DIR] [--dry-run]
 #
-# The folder is /usr/local where none is given. With --dry-run it only says what it would do.
+# The folder is /usr/local where none is given. With --dry-run it only says what it would do. What it says at its end is
+# what the shells still need to find all of this.
 set -eu
 
 usage() {
@@ -57,6 +58,14 @@ put 644 docs/sdjwt.1 share/man/man1/sdjwt.1
 put 644 completions/sdjwt.bash share/bash-completion/completions/sdjwt
 put 644 completions/_sdjwt share/zsh/site-functions/_sdjwt
 
+put 755 python/explain.py bin/sdjwt-explain
+put 644 docs/sdjwt-explain.1 share/man/man1/sdjwt-explain.1
+put 644 docs/REFUSALS.md share/sdjwt/REFUSALS.md
+put 644 python/src/sdjwt/_detail.py share/sdjwt/_detail.py
+for licence in LICENSE-MIT LICENSE-APACHE; do
+    [ ! -f "$licence" ] || put 644 "$licence" "share/doc/sdjwt/$licence"
+done
+
 tools=crates/sdjwt_tools/out/sdjwt_tools
 if [ -x "$tools" ]; then
     put 755 "$tools" bin/sdjwt_tools
@@ -64,10 +73,20 @@ if [ -x "$tools" ]; then
     put 644 completions/sdjwt_tools.bash share/bash-completion/completions/sdjwt_tools
     put 644 completions/_sdjwt_tools share/zsh/site-functions/_sdjwt_tools
 else
-    echo "sdjwt_tools is not built yet: run 'rt run' in crates/sdjwt_tools for it, and then this again"
+    echo "sdjwt_tools is not built yet: run 'sh prove.sh sdjwt_tools' for it, and then this again"
 fi
 
 case :${PATH:-}: in
     *:"$prefix/bin":*) ;;
     *) echo "$prefix/bin is not on the path: add it, as by PATH=$prefix/bin:\$PATH" ;;
 esac
+command -v python3 >/dev/null || echo "sdjwt-explain needs python3, 3.9 or later, and there is none on the path"
+
+# zsh looks for completions in the folders of fpath, to which ~/.zshrc adds what is not there from the start
+functions=$prefix/share/zsh/site-functions
+if command -v zsh >/dev/null && ! zsh -fc 'print -rl -- $fpath' | grep -qxF -- "$functions" &&
+    ! grep -qsF -- "$functions" "${ZDOTDIR:-${HOME:-/}}/.zshrc"; then
+    echo "zsh does not look into $functions: for its completions write this line into ~/.zshrc, above the one with compinit:"
+    echo "    fpath=('$functions' \$fpath)"
+    echo "Where no line there has compinit, write below it: autoload -Uz compinit && compinit"
+fi

@@ -1,6 +1,6 @@
 #!/bin/sh
-# Proves and builds `sdjwt`, saying how far it is, and runs it on the files of this folder, showing each command before
-# its output. SDJWT=path runs a program that is built already; sh examples/look.sh gives a first look without proofs.
+# Proves and builds `sdjwt` by prove.sh, and runs it on the files of this folder, showing each command before its
+# output. SDJWT=path runs a program that is built already; sh examples/look.sh gives a first look without proofs.
 set -eu
 case ${SDJWT:-} in
 '' | /*) ;;
@@ -13,115 +13,12 @@ made=$(mktemp -d)
 trap 'rm -rf "$made"' EXIT
 trap 'exit 1' HUP INT TERM
 
-# How many crates are proved side by side: one for each core, of at most four, and 3 GB of memory for each.
-side_by_side() {
-    cores=$(getconf _NPROCESSORS_ONLN 2>/dev/null || echo 1)
-    memory=$(awk '$1 == "MemAvailable:" { print int($2 / 3000000) }' /proc/meminfo 2>/dev/null || echo 1)
-    for most in "$cores" "${memory:-1}"; do
-        [ "$jobs" -le "$most" ] || jobs=$most
-    done
-    [ "$jobs" -ge 1 ] || jobs=1
-}
-
-# The crates that the program stands on, and itself; crates.txt lists them lowest first.
-crates() {
-    awk -F: '
-        /^[a-z]/ { split($1, words, " "); name[++count] = words[1]; uses[words[1]] = $2 }
-        END {
-            wanted["sdjwt"] = 1
-            for (i = count; i > 0; i--) {
-                if (!(name[i] in wanted)) continue
-                print name[i]
-                used = split(uses[name[i]], words, " ")
-                for (k = 1; k <= used; k++) wanted[words[k]] = 1
-            }
-        }' "$top/crates.txt"
-}
-
-# Each with the size of its code, definitions and proofs, by which the time that is left is guessed.
-sizes() {
-    crates | while read -r crate; do
-        echo "$crate $(find "$top/crates/$crate" -name out -prune -o -name '*.*t' -exec cat {} + | wc -c)"
-    done
-}
-
-minutes() { echo $((($1 + 30) / 60)); }
-
-# Says that a crate is done, in which way, and how long the rest may take.
-tell() {
-    count=$((count + 1))
-    size=$(sed -n "s/^$1 //p" "$made/sizes")
-    done_size=$((done_size + ${size:-0}))
-    spent=$(($(date +%s) - start))
-    left=
-    if [ "$done_size" -lt "$all_size" ] && [ "$((done_size * 20))" -ge "$all_size" ]; then
-        left=", perhaps $(minutes $((spent * (all_size - done_size) / done_size))) more"
-    fi
-    echo "$count of $all: $1 $2 ($(minutes "$spent") min$left)"
-}
-
-# Reads what rt prints, which comes crate by crate, and says of each how it went.
-follow() {
-    crate=''
-    while IFS= read -r line; do
-        printf '%s\n' "$line" >>"$made/log"
-        case $line in
-        '== '*)
-            [ -z "$crate" ] || tell "$crate" "$how"
-            crate=${line#== } how="is proved"
-            [ "$crate" != summary ] || crate=''
-            ;;
-        'logic=proved '*)
-            [ -z "$crate" ] || tell "$crate" "is proved"
-            crate=''
-            ;;
-        'rt: '*) ;;
-        *) how="is NOT proved" ;;
-        esac
-    done
-    [ -z "$crate" ] || tell "$crate" "$how"
-}
-
-prove() {
-    command -v rt >/dev/null || {
-        echo "demo.sh: there is no rt on the path: a Rattle kit has to be installed first." >&2
-        echo "With a program that is built already: SDJWT=path sh examples/demo.sh" >&2
-        exit 1
-    }
-    jobs=4
-    side_by_side
-    sizes >"$made/sizes"
-    all=$(wc -l <"$made/sizes") all=$((all))
-    all_size=$(awk '{ all += $2 } END { print all }' "$made/sizes")
-    count=0 done_size=0 start=$(date +%s)
-    echo "Proving the $all crates of sdjwt, at most $jobs side by side. From nothing this takes about 25 minutes"
-    echo "on four cores; what was proved on this machine before is not proved again."
-    { (cd "$top/crates/sdjwt" && rt all check --jobs "$jobs") 2>&1 || echo failed >"$made/failed"; } | follow
-    if [ -e "$made/failed" ]; then
-        # what rt said of the crates that are not proved, and its summary
-        awk '
-            function end() { if (bad) printf "%s", block; block = ""; bad = 0 }
-            /^== / { if (!started++) bad = 0; end() }
-            !/^(== |rt: )/ || /^== summary/ { bad = 1 }
-            /^logic=proved / { bad = 0 }
-            { block = block $0 "\n" }
-            END { end() }' "$made/log" >&2
-        exit 1
-    fi
-    echo "Building the program."
-    if ! (cd "$top/crates/sdjwt" && rt run -- split data/token) >"$made/log" 2>&1; then
-        cat "$made/log" >&2
-        exit 1
-    fi
-    echo "Proved and built in $(minutes $(($(date +%s) - start))) min: crates/sdjwt/out/sdjwt"
-    echo
-}
-
 sdjwt=${SDJWT:-$top/crates/sdjwt/out/sdjwt}
 if [ -n "${SDJWT:-}" ]; then
     [ -x "$sdjwt" ] || { echo "demo.sh: SDJWT names no program: $SDJWT" >&2 && exit 1; }
 else
-    prove
+    sh "$top/prove.sh" sdjwt
+    echo
 fi
 
 show() {

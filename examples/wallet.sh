@@ -2,7 +2,7 @@
 # Issues an identity card, a membership and a ticket, and asks the wallet that has them three queries.
 #
 # The programs are $SDJWT and $SDJWT_TOOLS, or crates/sdjwt/out/sdjwt and crates/sdjwt_tools/out/sdjwt_tools, which
-# `rt run` leaves in the folders of the crates.
+# prove.sh builds.
 set -eu
 top=$(cd "$(dirname "$0")/.." && pwd)
 sdjwt=${SDJWT:-$top/crates/sdjwt/out/sdjwt}

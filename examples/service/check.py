@@ -2,6 +2,7 @@
 """Tries service.py: by plain requests, and in a browser where python3-selenium and a chromium are installed.
 
     python3 check.py                    tries it
+    python3 check.py --browser          fails where there is no browser
     python3 check.py --picture FILE     also takes a picture of the page, at the end of the walk
 
 The package sdjwt has to be importable (python/README.md).
@@ -14,6 +15,7 @@ import sys
 import urllib.error
 import urllib.parse
 import urllib.request
+from datetime import date
 from pathlib import Path
 
 SERVICE = Path(__file__).resolve().parent / "service.py"
@@ -36,6 +38,17 @@ def field(text, name):
     return html.unescape(re.search(rf'<textarea name="{name}" rows="6">(.*?)</textarea>', text, re.S)[1])
 
 
+def of_age_alone(base):
+    """A ticket that says that its holder is not of age has the claim that the policy requires, and is not admitted."""
+    _, text = post(base, "/issue", {"name": "Eve", "seat": "B13", "year": str(date.today().year - 10)})
+    nonce = re.search(r'<code id="nonce">(.*?)</code>', text)[1]
+    _, text = post(base, "/present", {"ticket": field(text, "ticket"), "nonce": nonce, "show": ["over_18"]})
+    _, text = post(base, "/verify", {"shown": field(text, "shown")})
+    assert '<table class="refusal"><tr><th>not admitted</th>' in text and '<table class="claims">' not in text
+    assert "the claim over_18 is false, and has to be true" in text
+    assert re.search(r'<code id="nonce">(.*?)</code>', text)[1] != nonce, "the nonce of an accepted token is used up"
+
+
 def by_requests(base):
     """The walk, then hostile input to every field, then requests that are not for this service."""
     _, text = post(base, "/issue", {"name": "Ada", "seat": "B12", "year": "1990"})
@@ -47,6 +60,7 @@ def by_requests(base):
     assert "<th>over_18</th><td>true</td>" in text and "Ada" not in text.split("claims")[1]
     _, text = post(base, "/verify", {"shown": shown})
     assert "refused 35 nonceDiffers" in text
+    of_age_alone(base)
     walks = {"/issue": {"name": "Ada", "seat": "B12", "year": "1990"}, "/present": {"ticket": ticket, "nonce": nonce, "show": "seat"},
              "/verify": {"shown": shown, "ticket": ticket}}
     tried = 0
@@ -67,7 +81,7 @@ def by_requests(base):
 
 
 def by_browser(base, picture):
-    """The walk by clicks."""
+    """The walk by clicks. Answers why it can't be done, where it can't."""
     try:
         from selenium import webdriver
         from selenium.webdriver.chrome.service import Service
@@ -75,16 +89,14 @@ def by_browser(base, picture):
         from selenium.webdriver.support.expected_conditions import staleness_of
         from selenium.webdriver.support.wait import WebDriverWait
     except ImportError:
-        print("skipped: the browser (no python3-selenium)")
-        return
+        return "no python3-selenium"
     options = webdriver.ChromeOptions()
     for word in ("--headless=new", "--no-sandbox", "--disable-gpu", "--window-size=1250,900"):
         options.add_argument(word)
     try:
         browser = webdriver.Chrome(options=options, service=Service("/usr/bin/chromedriver"))
     except Exception as fault:
-        print(f"skipped: the browser ({type(fault).__name__}: is chromium-driver installed?)")
-        return
+        return f"{type(fault).__name__}: is chromium-driver installed?"
     try:
         find = browser.find_element
 
@@ -111,21 +123,26 @@ def by_browser(base, picture):
         press("issue")
         assert browser.title == "A ticket with an age mark"
         print("in a browser: the walk by clicks")
+        return None
     finally:
         browser.quit()
 
 
 def main():
     parser = argparse.ArgumentParser(description=__doc__, formatter_class=argparse.RawDescriptionHelpFormatter)
+    parser.add_argument("--browser", action="store_true")
     parser.add_argument("--picture")
     words = parser.parse_args()
     with subprocess.Popen([sys.executable, str(SERVICE), "0"], stdout=subprocess.PIPE, text=True) as service:
         try:
             base = service.stdout.readline().strip().rstrip("/")
             by_requests(base)
-            by_browser(base, words.picture)
+            missing = by_browser(base, words.picture)
         finally:
             service.terminate()
+    if missing:
+        print(f"skipped: the browser ({missing})")
+        sys.exit(words.browser)
 
 
 if __name__ == "__main__":

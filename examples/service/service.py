@@ -31,6 +31,10 @@ KEYS = {"keys": [{"kty": "oct", "kid": "office", "k": OFFICE_KEY}]}
 HOLDERS = {"keys": [{"kty": "oct", "kid": "ada", "k": ADA_KEY}]}
 
 
+class NotAdmitted(Exception):
+    """The token is good, and its claims are not those of somebody who may come in."""
+
+
 class Door:
     """The verifier. It wants an age mark, bound to a nonce that it has given out and that was not used yet."""
 
@@ -43,11 +47,17 @@ class Door:
                 "binding": {"aud": DOOR, "nonce": nonce, "max_age": 300, "keys": HOLDERS}}
 
     def admit(self, shown):
-        """The claims of what is shown. The nonce is used up by what is accepted."""
+        """The claims of what is shown, if they say that the holder is of age. The nonce is used up by what is accepted.
+
+        `require` asks that the claim is there, whatever its value is, so the value is for the door itself to judge. It compares
+        with `is True`: the issuer may have written "no", which Python takes for true.
+        """
         with self.lock:
-            claims = sdjwt.verify(self.policy(self.nonce), shown)
+            claims = sdjwt.verify(self.policy(self.nonce), shown, most=MOST)
             self.nonce = secrets.token_urlsafe(12)
-            return claims
+        if claims["over_18"] is not True:
+            raise NotAdmitted(f"the claim over_18 is {json.dumps(claims['over_18'])}, and has to be true")
+        return claims
 
 
 THE_DOOR = Door()
@@ -108,7 +118,7 @@ def page(form, chosen=(), office="", wallet="", door=""):
 <label>Ticket <textarea name="ticket" rows="6">{said['ticket']}</textarea></label>
 {boxes(ticket, chosen) if ticket else "<p>No ticket yet.</p>"}
 <label>Nonce of the door <input name="nonce" value="{nonce}"></label><button id="present">Show these</button></form>{wallet}</section>
-<section><h2>The door verifies</h2><p>It wants <b>over_18</b>, for {DOOR}, under the nonce <code id="nonce">{html.escape(THE_DOOR.nonce)}</code>.</p>
+<section><h2>The door verifies</h2><p>It wants that <b>over_18</b> is true, for {DOOR}, under the nonce <code id="nonce">{html.escape(THE_DOOR.nonce)}</code>.</p>
 <form method="post" action="/verify"><label>What is shown <textarea name="shown" rows="6">{said['shown']}</textarea></label>
 <input type="hidden" name="ticket" value="{said['ticket']}"><button id="verify">Verify</button></form>{door}</section></main></body></html>"""
 
@@ -124,6 +134,8 @@ def answer(path, form, chosen):
     except sdjwt.SdJwtError as fault:
         where = {"/issue": "office", "/present": "wallet", "/verify": "door"}[path]
         return page(form, chosen, **{where: refusal(fault)})
+    except NotAdmitted as fault:
+        return page(form, door=table("refusal", [("not admitted", fault), ("meaning", "The token is accepted, and its claims are not enough.")]))
     except (KeyError, ValueError):
         return page({}, office=table("refusal", [("form", "a field is missing, or the year is no number")]))
 
