@@ -1,43 +1,90 @@
 #!/bin/sh
 # Tests the package: builds the library, installs the package into a virtual environment without network, and runs its
-# examples and its tests there; then the service of examples/service.
+# examples and its tests there; then the service of examples/service. The last line counts what ran and what was skipped.
 #
 #   sh python/check.sh               what is missing is told and skipped
-#   sh python/check.sh --install     what is missing is installed from Debian's packages first
+#   sh python/check.sh --install     what is missing is installed from Debian's packages first, for /usr/bin/python3, which
+#                                    is then used; what would be skipped is a failure
 #
-# pytest and the implementations that it is held against, jwcrypto and joserfc, are those of the interpreter. PYTHON
-# names another one than python3.
+# pytest, mypy, selenium and the implementations that it is held against, jwcrypto and joserfc, are those of the
+# interpreter: python3, or the one that PYTHON names.
 set -eu
 
+install=no
 case ${1-} in
     '') ;;
-    --install) apt-get install -y python3-venv python3-pip python3-pytest python3-jwcrypto python3-selenium chromium-driver ;;
+    --install) install=yes ;;
     *) echo 'usage: sh python/check.sh [--install]' >&2; exit 2 ;;
 esac
-here=$(cd "$(dirname "$0")" && pwd)
 : "${PYTHON:=python3}"
-python3 "$here/refusals.py" --check
-[ -f "$here/../c/out/lib/libsdjwt.so" ] || sh "$here/../c/build.sh"
+export SDJWT_PEERS='jwcrypto joserfc'
+without=
+if [ "$install" = yes ]; then
+    PYTHON=/usr/bin/python3
+    packages='python3-venv python3-pip python3-pytest python3-jwcrypto mypy python3-selenium chromium-driver'
+    if apt-cache show python3-joserfc >/dev/null 2>&1; then
+        packages="$packages python3-joserfc"
+    else
+        SDJWT_PEERS=jwcrypto
+        without=', without joserfc, which is no package of this Debian'
+    fi
+    # shellcheck disable=SC2086 # words
+    apt-get install -y $packages
+fi
+here=$(cd "$(dirname "$0")" && pwd)
 made=$(mktemp -d)
 trap 'rm -rf "$made"' EXIT
 trap 'exit 1' HUP INT TERM
 
+# Counts what ran, and what was skipped with the reason for it. With --install nothing may be.
+ran=0
+skips=0
+skipped=
+skip() {
+    echo "skipped: $1"
+    [ "$install" = no ] || { echo "python/check.sh: with --install nothing may be skipped" >&2; exit 1; }
+    skips=$((skips + 1))
+    skipped="$skipped${skipped:+; }$1"
+}
+run() {
+    "$@"
+    ran=$((ran + 1))
+}
+has() { "$python" -c "import $1" 2>/dev/null; }
+
+run "$PYTHON" "$here/refusals.py" --check
+[ -f "$here/../c/out/lib/libsdjwt.so" ] || sh "$here/../c/build.sh"
 "$PYTHON" -m venv --system-site-packages "$made/venv"
 python=$made/venv/bin/python
 "$python" -m pip install --quiet --no-index --disable-pip-version-check "$here"
 cd "$made"
-"$python" -c "import doctest, sdjwt, sys; sys.exit(doctest.testmod(sdjwt).failed > 0)"
+run "$python" -c "import doctest, sdjwt, sys; sys.exit(doctest.testmod(sdjwt).failed > 0)"
 sed -n '/^```python$/,/^```$/p' "$here/README.md" | sed '/^```/d' >first_minute.py
-"$python" first_minute.py
-if "$python" -c 'import pytest' 2>/dev/null; then
-    "$python" -m pytest -q -rs -p no:cacheprovider "$here/tests"
+run "$python" first_minute.py
+if has pytest; then
+    for peer in $SDJWT_PEERS; do
+        has "$peer" || skip "the tests against $peer (no $peer)"
+    done
+    run "$python" -m pytest -q -p no:cacheprovider "$here/tests"
 else
-    echo 'skipped: the tests (no pytest)'
+    skip 'the tests (no pytest)'
 fi
-if "$python" -c 'import mypy' 2>/dev/null; then
-    "$python" -m mypy --strict "$here/src/sdjwt"
+if has mypy; then
+    run "$python" -m mypy --strict "$here/src/sdjwt"
 else
-    echo 'skipped: the types (no mypy)'
+    skip 'the types (no mypy)'
 fi
-"$python" "$here/../examples/service/check.py"
-echo 'python/check.sh: all passed'
+if [ "$install" = yes ]; then
+    run "$python" "$here/../examples/service/check.py" --browser
+else
+    run "$python" "$here/../examples/service/check.py" >service
+    cat service
+    browser=$(sed -n 's/^skipped: //p' service)
+    [ -z "$browser" ] || skip "$browser"
+fi
+case $("$python" -c 'import sdjwt; print(sdjwt.proved)') in
+    True) proved= ;;
+    False) proved=', of a library that is not proved' ;;
+    *) proved=', of a library of which it is not known whether it is proved' ;;
+esac
+echo "python/check.sh: $ran ran, $skips skipped${skipped:+ ($skipped)}$without$proved"

@@ -1,10 +1,12 @@
 """Builds the wheel: the files of src/sdjwt, with the library of c/out. It needs nothing but Python.
 
 This is a build backend (PEP 517), so that `pip install ./python` needs no network. The library is that of `sh c/build.sh`,
-or the one that SDJWT_LIBRARY names.
+or the one that SDJWT_LIBRARY names. Whether the first is proved says `c/out/proved`; of the second nothing is known. A wheel
+whose library is not proved has `+not.proved` behind its version, so that the last line of pip says it.
 """
 import base64
 import hashlib
+import json
 import os
 import platform
 import re
@@ -14,6 +16,7 @@ from pathlib import Path
 
 HERE = Path(__file__).resolve().parent.parent
 LIBRARY = "libsdjwt.so"
+LICENCES = ("LICENSE-APACHE", "LICENSE-MIT")
 
 
 def _field(name):
@@ -28,17 +31,38 @@ def _library():
     return path.read_bytes()
 
 
+def _licence(name):
+    """The file of a licence: at the top of the repository, or beside pyproject.toml in a source distribution."""
+    return next(path for path in (HERE / name, HERE.parent / name) if path.is_file())
+
+
+def _proved():
+    """Whether the library is proved, and None where nobody says it."""
+    said = HERE.parent / "c/out/proved"
+    if os.environ.get("SDJWT_LIBRARY") or not said.is_file():
+        return None
+    return {"yes": True, "no": False}.get(said.read_text(encoding="utf-8").strip())
+
+
+def _version():
+    return _field("version") + ("+not.proved" if _proved() is False else "")
+
+
 def _files():
     """The files of the wheel, by their names in it."""
     found = {f"sdjwt/{path.name}": path.read_bytes() for path in sorted((HERE / "src/sdjwt").iterdir())
              if path.suffix in (".py", ".json", ".typed") or path.name == "py.typed"}
     found[f"sdjwt/{LIBRARY}"] = _library()
-    info = f"sdjwt-{_field('version')}.dist-info"
+    found["sdjwt/built.json"] = json.dumps({"version": _version(), "proved": _proved()}).encode()
+    info = f"sdjwt-{_version()}.dist-info"
     found[f"{info}/METADATA"] = (
-        f"Metadata-Version: 2.1\nName: sdjwt\nVersion: {_field('version')}\nSummary: {_field('description')}\n"
+        f"Metadata-Version: 2.4\nName: sdjwt\nVersion: {_version()}\nSummary: {_field('description')}\n"
+        f"License-Expression: {_field('license')}\nLicense-File: LICENSE-APACHE\nLicense-File: LICENSE-MIT\n"
         f"Requires-Python: {_field('requires-python')}\nDescription-Content-Type: text/markdown\n\n"
     ).encode() + (HERE / "README.md").read_bytes()
     found[f"{info}/WHEEL"] = f"Wheel-Version: 1.0\nGenerator: sdjwt_wheel\nRoot-Is-Purelib: false\nTag: {_tag()}\n".encode()
+    for name in LICENCES:
+        found[f"{info}/licenses/{name}"] = _licence(name).read_bytes()
     return info, found
 
 
@@ -54,10 +78,12 @@ def build_wheel(wheel_directory, config_settings=None, metadata_directory=None):
     info, files = _files()
     lines = [f"{name},sha256={_hash(content)},{len(content)}" for name, content in files.items()]
     files[f"{info}/RECORD"] = "\n".join([*lines, f"{info}/RECORD,,", ""]).encode()
-    name = f"sdjwt-{_field('version')}-{_tag()}.whl"
+    name = f"sdjwt-{_version()}-{_tag()}.whl"
     with zipfile.ZipFile(Path(wheel_directory) / name, "w", zipfile.ZIP_DEFLATED) as wheel:
         for path, content in files.items():
             wheel.writestr(zipfile.ZipInfo(path, (2020, 1, 1, 0, 0, 0)), content)
+    print({True: "sdjwt: the library in it is proved", False: "sdjwt: the library in it is NOT PROVED",
+           None: "sdjwt: whether the library in it is proved is not known"}[_proved()], flush=True)
     return name
 
 
@@ -66,4 +92,6 @@ def build_sdist(sdist_directory, config_settings=None):
     with tarfile.open(Path(sdist_directory) / f"{name}.tar.gz", "w:gz") as archive:
         for path in ("pyproject.toml", "README.md", "build_backend", "src", "tests"):
             archive.add(HERE / path, f"{name}/{path}", filter=lambda i: None if "__pycache__" in i.name else i)
+        for licence in LICENCES:
+            archive.add(_licence(licence), f"{name}/{licence}")
     return f"{name}.tar.gz"

@@ -2,6 +2,7 @@
 import base64
 import hashlib
 import json
+import os
 
 import pytest
 
@@ -46,7 +47,9 @@ def joserfc_peer():
     return (lambda jwt: jws.deserialize_compact(jwt, key).payload), (lambda header, payload: jws.serialize_compact(header, payload, key))
 
 
-PEERS = pytest.mark.parametrize("peer", [jwcrypto_peer, joserfc_peer])
+# those that SDJWT_PEERS names, where it does
+PEERS = pytest.mark.parametrize("peer", [
+    peer for name, peer in (("jwcrypto", jwcrypto_peer), ("joserfc", joserfc_peer)) if name in os.environ.get("SDJWT_PEERS", name)])
 
 
 @PEERS

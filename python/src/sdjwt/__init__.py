@@ -1,7 +1,11 @@
 """SD-JWT (RFC 9901): issue, present and verify, by a library that is proved.
 
 An order, a policy and a query are dicts, or their JSON as str or bytes; README.md of the repository and docs/FILES.md say what
-they have in them. A token is a str or bytes, or the dict of a JSON serialization.
+they have in them. A token is a str or bytes, or the dict of a JSON serialization. Where bytes are taken, a bytearray and a
+memoryview are too. What is of another type is a TypeError that names the argument.
+
+A token may come from a stranger, so each call that takes one bounds its length in bytes by `most`, and a longer one is
+`TooLong`. The time and the memory that a call takes grow with this length.
 
 >>> import sdjwt
 >>> key = "dGhlIHRpY2tldCBvZmZpY2Uga2V5LCBub3QgeW91cnM"
@@ -18,60 +22,52 @@ from __future__ import annotations
 import json
 import secrets
 from collections.abc import Iterable, Mapping
+from dataclasses import dataclass
 from time import time as _time
-from typing import Any, Literal, NamedTuple, Union
+from typing import Any, Literal, Union
 
 from sdjwt import _library
-from sdjwt._errors import OutOfMemory, Refused, SdJwtError, Unreadable
+from sdjwt._built import PROVED as proved
+from sdjwt._built import VERSION as __version__
+from sdjwt._errors import OutOfMemory, Refused, SdJwtError, TooLong, Unreadable, unreadable
+from sdjwt._given import MOST, file_bytes, held_bytes, moment, seed_bytes, token_bytes
 
 __all__ = [
-    "OutOfMemory", "Picked", "Policy", "Refused", "SdJwtError", "Unreadable", "audit", "convert", "issue", "present", "show",
-    "split", "verify", "wallet",
+    "MOST", "OutOfMemory", "Picked", "Policy", "Refused", "SdJwtError", "TooLong", "Unreadable", "__version__", "audit",
+    "convert", "issue", "present", "proved", "show", "split", "verify", "wallet",
 ]
 
-Text = Union[str, bytes]
-Json = Union[Mapping[str, Any], Text]
+Bytes = Union[bytes, bytearray, memoryview]
+Json = Union[Mapping[str, Any], str, Bytes]
 _FORMS = {"compact": 0, "flat": 1, "general": 2}
 _DONE = _library.DONE
 
 
-def _bytes(given: Json | bytearray | memoryview) -> bytes:
-    if type(given) is bytes:
-        return given
-    if isinstance(given, str):
-        return given.encode()
-    if isinstance(given, Mapping):
-        return json.dumps(given if isinstance(given, dict) else dict(given)).encode()
-    return bytes(given)
-
-
-def _moment(now: float | None) -> int:
-    return max(0, int(_time() if now is None else now))
-
-
-def _answer(status: int, said: bytes) -> bytes:
+def _answer(status: int, said: bytes, *files: tuple[str, bytes]) -> bytes:
+    """What a call said, where it is done. `files` are its first inputs, each with its kind."""
     if status == _library.DONE:
         return said
     line = said.decode().rstrip("\n")
     if status == _library.REFUSED:
         raise Refused(line)
     if status == _library.UNREADABLE:
-        raise Unreadable(line)
+        raise unreadable(line, files)
     if status == _library.MEMORY:
         raise OutOfMemory("sdjwt: there is no memory")
     raise AssertionError(f"sdjwt: status {status}")
 
 
-def _text(name: str, *words: Any) -> str:
+def _without_end(text: bytes) -> str:
     # each answer is a line, or lines
-    return _answer(*_library.call(name, *words)).decode()[:-1]
+    return text.decode()[:-1]
 
 
-def issue(order: Json, seed: bytes | None = None) -> str:
+def issue(order: Json, seed: Bytes | None = None) -> str:
     """The token of an order, in its compact form.
 
     The salts of the hidden claims come from the seed, 32 bytes or more, which are drawn where none is given. Whoever knows
-    the seed can guess what is hidden, so give one only to get the same token again, as in a test.
+    the seed can guess what is hidden, so give one only to get the same token again, as in a test. A shorter one is
+    `Unreadable`, which is a ValueError.
 
     >>> key = "dGhlIHRpY2tldCBvZmZpY2Uga2V5LCBub3QgeW91cnM"
     >>> token = issue({"payload": {"name": "Ada"}, "hide": ["/name"], "key": key})
@@ -81,10 +77,12 @@ def issue(order: Json, seed: bytes | None = None) -> str:
     Traceback (most recent call last):
     sdjwt._errors.Refused: refused 55 noSuchPlace at 0
     """
-    return _text("issue", _bytes(order), secrets.token_bytes(32) if seed is None else bytes(seed))
+    ordered = file_bytes(order, "order")
+    salted = secrets.token_bytes(32) if seed is None else seed_bytes(seed)
+    return _without_end(_answer(*_library.call("issue", ordered, salted), ("order", ordered), ("seed", salted)))
 
 
-def present(order: Json, token: Json, now: float | None = None) -> str:
+def present(order: Json, token: Json, now: float | None = None, *, most: int = MOST) -> str:
     """What a holder presents of a token, in its compact form.
 
     The moment is in seconds since 1970, which a key binding token tells; it is now where none is given.
@@ -96,10 +94,12 @@ def present(order: Json, token: Json, now: float | None = None) -> str:
     >>> [disclosure["name"] for disclosure in show(shown)["disclosures"]]
     ['age']
     """
-    return _text("present", _bytes(order), _bytes(token), _moment(now))
+    ordered = file_bytes(order, "order")
+    called = _library.call("present", ordered, token_bytes(token, most), moment(now))
+    return _without_end(_answer(*called, ("present order", ordered)))
 
 
-def verify(policy: Json, token: Json, now: float | None = None) -> dict[str, Any]:
+def verify(policy: Json, token: Json, now: float | None = None, *, most: int = MOST) -> dict[str, Any]:
     """The claims of a token that is accepted under a policy. For many tokens under one policy take `Policy`.
 
     >>> key = "dGhlIHRpY2tldCBvZmZpY2Uga2V5LCBub3QgeW91cnM"
@@ -115,7 +115,9 @@ def verify(policy: Json, token: Json, now: float | None = None) -> dict[str, Any
     25 expired None
     The moment of the claim `exp` has come: the token is valid no longer.
     """
-    return _object(_answer(*_library.call("verify", _bytes(policy), _bytes(token), _moment(now))))
+    asked = file_bytes(policy, "policy")
+    called = _library.call("verify", asked, token_bytes(token, most), moment(now))
+    return _object(_answer(*called, ("policy", asked)))
 
 
 class Policy:
@@ -133,26 +135,27 @@ class Policy:
     __slots__ = ("_handles", "_text")
 
     def __init__(self, policy: Json) -> None:
-        self._text = _bytes(policy)
+        self._text = file_bytes(policy, "policy")
         # handles that no call uses: each call takes one, so that none is used by two
         self._handles = [self._handle()]
 
     def _handle(self) -> _library.Handle:
         status, line, handle = _library.new_handle(self._text)
-        _answer(status, line)
+        _answer(status, line, ("policy", self._text))
         return handle
 
-    def verify(self, token: Json, now: float | None = None) -> dict[str, Any]:
+    def verify(self, token: Json, now: float | None = None, *, most: int = MOST) -> dict[str, Any]:
         """The claims of a token that is accepted."""
-        given = token if type(token) is bytes else _bytes(token)
-        moment = int(_time()) if now is None else _moment(now)
+        # what needs no look at the types stands here, since this call is to be fast
+        given = token if type(token) is bytes and type(most) is int and len(token) <= most else token_bytes(token, most)
+        at = max(0, int(_time())) if now is None else moment(now)
         handles = self._handles
         try:
             handle = handles.pop()
         except IndexError:
             handle = self._handle()
         try:
-            status, said = handle.verify(given, moment)
+            status, said = handle.verify(given, at)
         finally:
             handles.append(handle)
         if status != _DONE:
@@ -170,7 +173,7 @@ def _object(text: bytes) -> dict[str, Any]:
     return found
 
 
-def show(token: Json) -> dict[str, Any]:
+def show(token: Json, *, most: int = MOST) -> dict[str, Any]:
     """What is inside a token, unchecked: `header`, `payload`, `disclosures`, and `binding` or None.
 
     A disclosure has its `digest`, its `value`, and its `name` where it is one of a member.
@@ -183,7 +186,7 @@ def show(token: Json) -> dict[str, Any]:
     [('name', 'Ada')]
     """
     inside: dict[str, Any] = {"disclosures": [], "binding": None}
-    for line in _text("show", _bytes(token)).split("\n"):
+    for line in _without_end(_answer(*_library.call("show", token_bytes(token, most)))).split("\n"):
         word, said = line.split(" ", 1)
         if word == "disclosure":
             inside["disclosures"].append(_shown(said))
@@ -202,7 +205,7 @@ def _shown(line: str) -> dict[str, Any]:
     return shown
 
 
-def split(token: Json) -> dict[str, Any]:
+def split(token: Json, *, most: int = MOST) -> dict[str, Any]:
     """The texts of the parts of a token, unchecked: `protected`, `payload`, `signature`, `disclosures`, and `binding` or None.
 
     >>> token = issue({"payload": {"name": "Ada"}, "hide": ["/name"], "key": "dGhlIHRpY2tldCBvZmZpY2Uga2V5LCBub3QgeW91cnM"})
@@ -211,7 +214,7 @@ def split(token: Json) -> dict[str, Any]:
     True
     """
     parts: dict[str, Any] = {"disclosures": [], "binding": None}
-    for line in _text("split", _bytes(token)).split("\n"):
+    for line in _without_end(_answer(*_library.call("split", token_bytes(token, most)))).split("\n"):
         word, said = line.split(" ", 1)
         if word == "disclosure":
             parts["disclosures"].append(said.split(" ", 1)[1])
@@ -220,7 +223,7 @@ def split(token: Json) -> dict[str, Any]:
     return parts
 
 
-def convert(form: Literal["compact", "flat", "general"], token: Json) -> str | dict[str, Any]:
+def convert(form: Literal["compact", "flat", "general"], token: Json, *, most: int = MOST) -> str | dict[str, Any]:
     """A token in another form, unchecked: compact as a str, and flat or general as the dict of its JSON.
 
     >>> token = issue({"payload": {"name": "Ada"}, "hide": ["/name"], "key": "dGhlIHRpY2tldCBvZmZpY2Uga2V5LCBub3QgeW91cnM"})
@@ -230,13 +233,15 @@ def convert(form: Literal["compact", "flat", "general"], token: Json) -> str | d
     >>> convert("compact", flat) == token
     True
     """
+    if not isinstance(form, str):
+        raise TypeError(f"sdjwt: form is of type {type(form).__name__}, and has to be a str")
     if form not in _FORMS:
-        raise ValueError(f"sdjwt: no form: {form!r}")
-    text = _text("convert", _FORMS[form], _bytes(token))
-    return text if form == "compact" else _object(text.encode())
+        raise ValueError(f"sdjwt: form is none of {', '.join(_FORMS)}")
+    text = _answer(*_library.call("convert", _FORMS[form], token_bytes(token, most)))
+    return _without_end(text) if form == "compact" else _object(text)
 
 
-def audit(order: Json, token: Json) -> None:
+def audit(order: Json, token: Json, *, most: int = MOST) -> None:
     """Audits a token for the order that it was issued for, as who has no seed can.
 
     Nothing is answered where the token is what the order asks for, signed with its key. Else `Refused` tells the first that
@@ -249,18 +254,22 @@ def audit(order: Json, token: Json) -> None:
     Traceback (most recent call last):
     sdjwt._errors.Refused: refused 83 payloadDiffers
     """
-    _text("audit", _bytes(order), _bytes(token))
+    ordered = file_bytes(order, "order")
+    _answer(*_library.call("audit", ordered, token_bytes(token, most)), ("order", ordered))
 
 
-class Picked(NamedTuple):
+@dataclass(frozen=True)
+class Picked:
     """The credential that a wallet picked: its index among the tokens, and what is shown of it, in its compact form."""
 
     index: int
     token: str
 
 
-def wallet(query: Json, tokens: Iterable[Json]) -> Picked:
+def wallet(query: Json, tokens: Iterable[Json], *, most: int = MOST) -> Picked:
     """Of 1 to 64 tokens that a holder has, the one that answers a query with the fewest disclosures.
+
+    `most` bounds the length of each token.
 
     >>> key = "dGhlIHRpY2tldCBvZmZpY2Uga2V5LCBub3QgeW91cnM"
     >>> ticket = issue({"payload": {"name": "Ada", "seat": "B12"}, "hide": ["/name", "/seat"], "key": key})
@@ -273,8 +282,7 @@ def wallet(query: Json, tokens: Iterable[Json]) -> Picked:
     Traceback (most recent call last):
     sdjwt._errors.Refused: refused 77 noCredentialAnswers
     """
-    held = [_bytes(token) for token in tokens]
-    if not 1 <= len(held) <= _library.TOKENS:
-        raise ValueError(f"sdjwt: 1 to {_library.TOKENS} tokens, not {len(held)}")
-    number, token = _answer(*_library.call_wallet(_bytes(query), held)).decode().split("\n", 1)
-    return Picked(int(number.removeprefix("credential ")), token[:-1])
+    asked = file_bytes(query, "query")
+    called = _library.call_wallet(asked, held_bytes(tokens, most))
+    number, token = _without_end(_answer(*called, ("query", asked))).split("\n", 1)
+    return Picked(int(number.removeprefix("credential ")), token)

@@ -3,8 +3,11 @@ from __future__ import annotations
 
 import json
 import re
+from collections.abc import Callable
 from functools import lru_cache
 from pathlib import Path
+
+from sdjwt import _detail
 
 
 @lru_cache(maxsize=None)
@@ -22,7 +25,7 @@ class SdJwtError(Exception):
         self.line = line
         self._said = _explanations().get(heading, {})
 
-    def __reduce__(self) -> tuple[type, tuple[str]]:
+    def __reduce__(self) -> tuple[type, tuple[object, ...]]:
         return type(self), (self.line,)
 
     @property
@@ -57,19 +60,73 @@ class Refused(SdJwtError):
         self.place: str | None = words[3]
 
 
-class Unreadable(SdJwtError):
+class Unreadable(SdJwtError, ValueError):
     """An order, a policy, a query or a seed is not of its form.
 
     `input` is 2 for the seed and 1 for any other, and `reason` says what is wrong with it.
     """
 
-    def __init__(self, line: str) -> None:
+    def __init__(self, line: str, detail: str | Callable[[str], str] = "") -> None:
         words = re.fullmatch(r"unreadable (\d+) (.*)", line, re.S)
         if words is None:
             raise ValueError(line)
         super().__init__(line, f"unreadable {words[2]}")
         self.input = int(words[1])
         self.reason: str = words[2]
+        self._detail = detail
+
+    def __reduce__(self) -> tuple[type, tuple[object, ...]]:
+        return type(self), (self.line, self.detail)
+
+    @property
+    def detail(self) -> str:
+        """Where it is wrong and why, as `at /keys/keys/0/k: it has = at its end, and is to be written without`.
+
+        It is looked for when it is asked for, in what was given. It has no value of that, since it may be a key, and it is
+        empty where no more is known than `reason` says.
+        """
+        if not isinstance(self._detail, str):
+            self._detail = self._detail(self.reason)
+        return self._detail
+
+
+def unreadable(line: str, files: tuple[tuple[str, bytes], ...]) -> Unreadable:
+    """What a line tells of the files that were given, each with its kind."""
+    fault = Unreadable(line)
+    if fault.input <= len(files):
+        kind, content = files[fault.input - 1]
+        fault = Unreadable(line, lambda reason: _detail.detail(reason, content, (kind,)))
+    return fault
+
+
+class TooLong(SdJwtError, ValueError):
+    """A token is longer than `most`, the greatest length in bytes that the caller takes. The library was not asked.
+
+    The program has no such line: `line` says what is too long, and by which bound.
+    """
+
+    def __init__(self, given: str, most: int) -> None:
+        super().__init__(f"sdjwt: {given} has more than {most} bytes, the most that is taken", "")
+        self.given = given
+        self.most = most
+
+    def __reduce__(self) -> tuple[type, tuple[object, ...]]:
+        return type(self), (self.given, self.most)
+
+    @property
+    def explanation(self) -> str:
+        """What the line means."""
+        return f"The token has more than {self.most:,} bytes, which is the most that this call takes."
+
+    @property
+    def cause(self) -> str:
+        """The likely cause."""
+        return "Another text was given in the place of the token, or a token carries a picture or the like."
+
+    @property
+    def remedy(self) -> str:
+        """What to do."""
+        return "Look at its length. Where such tokens are wanted, give the call a greater length by `most`."
 
 
 class OutOfMemory(MemoryError):

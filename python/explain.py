@@ -1,0 +1,165 @@
+#!/usr/bin/env python3
+"""Explains the lines with which sdjwt refuses, from docs/REFUSALS.md. install.sh installs it as sdjwt-explain.
+
+    sdjwt-explain 17                                   the entry of a number
+    sdjwt-explain wrong binding                        the entry of a name or a reason
+    sdjwt-explain refused 25 expired                   the entry of a whole line
+    sdjwt-explain 'unreadable 1 notJson' policy.json   the same, and where this file is wrong
+    sdjwt verify p.json t.txt 2>&1 | sdjwt-explain     each refusal as JSON, all other lines as they are
+
+In a pipe the status is that of the refusal, and 0 where there is none. Else it is 0 where there is an entry, 1 where there is
+none or the file could not be read, and 2 where the words are wrong. It judges nothing: what the file has in it is compared with
+the line, and where it has no such fault this is said.
+"""
+import json
+import re
+import sys
+import textwrap
+from pathlib import Path
+
+HERE = Path(__file__).resolve().parent
+# In the repository, and below the folder into which it was installed.
+INSTALLED = HERE.parent / "share/sdjwt"
+IS_INSTALLED = INSTALLED.is_dir() and HERE.name == "bin"
+PAGE = INSTALLED / "REFUSALS.md" if IS_INSTALLED else HERE.parent / "docs/REFUSALS.md"
+CASES = HERE.parent / "examples/refusals/cases.txt"
+PARTS = {"Means": "explanation", "Likely cause": "cause", "What to do": "remedy"}
+# The statuses of the lines that have no number, and how a line is told from others.
+LINES = ((1, r"refused (\d+) ([A-Za-z]+)(?: at (.+))?"), (6, r"unreadable ([12]) ([A-Za-z]+(?: [a-z_]+)?)"),
+         (3, r"(unread) (\d+|clock|source)"), (2, r"(usage)"), (4, r"(unwritten)"), (5, r"(memory)"))
+
+# nothing is written beside what was installed
+sys.dont_write_bytecode = True
+sys.path.insert(0, str(INSTALLED if IS_INSTALLED else HERE / "src/sdjwt"))
+import _detail  # noqa: E402
+
+
+def sections(page):
+    """The text of each entry, by its heading, as `refused 10 badSignature`, `unreadable notJson` or `usage`."""
+    found = {}
+    for section in re.split(r"^(?=##)", page, flags=re.M):
+        heading, _, body = section.partition("\n")
+        if heading.startswith("### "):
+            found[heading[len("### "):]] = body.strip()
+    return found
+
+
+def parts(body):
+    """What an entry says, each part in one line."""
+    texts = re.split(r"^\*\*([A-Z][a-z ]*):\*\* ", body, flags=re.M)[1:]
+    return {PARTS[name]: " ".join(text.split()) for name, text in zip(texts[::2], texts[1::2]) if name in PARTS}
+
+
+def heading_of(line):
+    """The status of a line, the heading of its entry, and its place. None where it is no line of a refusal."""
+    for status, form in LINES:
+        words = re.fullmatch(form, line)
+        if words and status == 1:
+            return status, f"refused {words[1]} {words[2]}", words[3]
+        if words and status == 6:
+            return status, f"unreadable {words[2]}", words[1]
+        if words:
+            return status, words[1], words[2] if status == 3 else None
+    return None
+
+
+def place_of(word):
+    """The place that a line tells, which is a JSON text or stands as it is."""
+    try:
+        return json.loads(word) if word and word.startswith('"') else word
+    except ValueError:
+        return word
+
+
+def as_json(line, entries):
+    """The status and the object of a line of a refusal."""
+    status, heading, place = heading_of(line)
+    number, name = heading.split(" ")[1:] if status == 1 else (None, re.sub("^unreadable ", "", heading))
+    told = {"status": status, "number": number and int(number), "name": name, "place": place_of(place)}
+    said = parts(entries.get(heading, ""))
+    told.update((part, said.get(part, "")) for part in PARTS.values())
+    return status, json.dumps(told, ensure_ascii=False, separators=(",", ":"))
+
+
+def pipe(entries):
+    """Each refusal of standard input as JSON, and other lines as they are. Answers the status of the last refusal."""
+    status = 0
+    for stream in (sys.stdin, sys.stdout):
+        stream.reconfigure(errors="surrogateescape")
+    for line in sys.stdin:
+        if heading_of(line.rstrip("\n")):
+            status, line = as_json(line.rstrip("\n"), entries)
+            line += "\n"
+        sys.stdout.write(line)
+    return status
+
+
+def found(wanted, entries):
+    """The headings that a number, a name, a reason or a line names."""
+    line = heading_of(wanted)
+    if line:
+        return [heading for heading in entries if heading == line[1]]
+    return [heading for heading in entries if wanted in names_of(heading)]
+
+
+def names_of(heading):
+    """All by which an entry may be asked for: `refused 10 badSignature` also by 10, by its name, and by both."""
+    words = heading.split(" ")
+    if words[0] == "refused":
+        return {heading, words[1], words[2], f"{words[1]} {words[2]}"}
+    return {heading, " ".join(words[1:]) if words[0] == "unreadable" else heading}
+
+
+def case_of(heading):
+    """A command of examples/refusals that gives such a line, and the line."""
+    for row in CASES.read_text(encoding="utf-8").splitlines() if CASES.is_file() else ():
+        case = re.fullmatch(r"([^#].*) = [1-6] (.*)", row)
+        if case and heading_of(case[2]) and heading_of(case[2])[1] == heading:
+            return case
+    return None
+
+
+def more_of(heading, name):
+    """What is wrong in a file, where it has the fault of this heading."""
+    reason = heading[len("unreadable "):] if heading.startswith("unreadable ") else None
+    if reason is None:
+        return f"{name}: of a file more is said where the line begins with `unreadable`"
+    with open(name, "rb") as file:
+        said = _detail.detail(reason, file.read(_detail.FILE_MAX + 1))
+    return f"In {name}: {said or 'no such fault is found. Is it another file, or was it changed since?'}"
+
+
+def tell(wanted, name, entries):
+    """Prints the entries, with what is wrong in a file where one is named."""
+    for number, heading in enumerate(found(wanted, entries)):
+        print("\n" * (number > 0) + heading + "\n\n" + entries[heading].replace("**", ""))
+        if name is not None:
+            print("\n" + textwrap.fill(more_of(heading, name), 120, break_long_words=False, break_on_hyphens=False))
+        elif case_of(heading):
+            print("\nIn examples/refusals, sdjwt {} gives:\n  {}".format(*case_of(heading).groups()))
+
+
+def main():
+    words = sys.argv[1:]
+    if words in (["-h"], ["--help"]) or not words and sys.stdin.isatty():
+        print(__doc__.strip())
+        return 0 if words else 2
+    entries = sections(PAGE.read_text(encoding="utf-8"))
+    if not words:
+        return pipe(entries)
+    wanted, name = " ".join(words), None
+    if len(words) > 1 and not found(wanted, entries) and found(" ".join(words[:-1]), entries):
+        wanted, name = " ".join(words[:-1]), words[-1]
+    if not found(wanted, entries):
+        print(f"sdjwt-explain: there is no entry of {wanted!r}", file=sys.stderr)
+        return 1
+    try:
+        tell(wanted, name, entries)
+    except OSError as fault:
+        print(f"sdjwt-explain: {name} could not be read: {fault.strerror}", file=sys.stderr)
+        return 1
+    return 0
+
+
+if __name__ == "__main__":
+    sys.exit(main())

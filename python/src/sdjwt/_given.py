@@ -1,0 +1,124 @@
+"""What a caller gives, as the bytes and the number that the library takes.
+
+Another type than the documented ones is a TypeError that names the argument, and a value that can mean nothing a ValueError.
+"""
+from __future__ import annotations
+
+import json
+from collections.abc import Iterable, Mapping
+from itertools import islice
+from time import time
+from typing import Any
+
+from sdjwt import _library
+from sdjwt._errors import TooLong
+
+# The greatest length of a token in bytes, where the caller gives none.
+MOST = 1_048_576
+
+
+def file_bytes(given: object, name: str) -> bytes:
+    """An order, a policy or a query."""
+    if isinstance(given, Mapping):
+        given = _written(given, name)
+    if isinstance(given, str):
+        try:
+            return str.encode(given)
+        except UnicodeEncodeError:
+            raise ValueError(f"sdjwt: {name} has half of a surrogate pair in it, which no text has") from None
+    return _plain_bytes(given, name, "a dict, or a JSON text as str or bytes")
+
+
+def token_bytes(given: object, most: int, name: str = "token") -> bytes:
+    """A token, if it is no longer than `most`. What no text has, as half of a surrogate pair, the library refuses."""
+    if type(most) is not int or most < 0:
+        _need_length(most)
+    if not isinstance(given, (str, bytes)) and isinstance(given, Mapping):
+        given = _written(given, name, allow_nan=True)
+    if not isinstance(given, str):
+        content = _plain_bytes(given, name, "a str, bytes, or the dict of a JSON form")
+    elif len(given) <= most:
+        content = str.encode(given, "utf-8", "surrogatepass")
+    else:
+        # no letter has less than a byte, so this text need not be copied
+        raise TooLong(name, most)
+    if len(content) > most:
+        raise TooLong(name, most)
+    return content
+
+
+def _need_length(most: object) -> None:
+    if isinstance(most, bool) or not isinstance(most, int):
+        raise TypeError(f"sdjwt: most is of type {type(most).__name__}, and has to be a number of bytes, an int")
+    if most < 0:
+        raise ValueError("sdjwt: most is below 0")
+
+
+def _plain_bytes(given: object, name: str, wanted: str) -> bytes:
+    if type(given) is bytes:
+        return given
+    if isinstance(given, (bytes, bytearray, memoryview)):
+        return memoryview(given).tobytes()
+    raise TypeError(f"sdjwt: {name} is of type {type(given).__name__}, and has to be {wanted}")
+
+
+def held_bytes(tokens: object, most: int) -> list[bytes]:
+    """The tokens of a wallet."""
+    if isinstance(tokens, (str, bytes, bytearray, memoryview, Mapping)):
+        raise TypeError(f"sdjwt: tokens is of type {type(tokens).__name__}, which is one token: give a list of them")
+    if not isinstance(tokens, Iterable):
+        raise TypeError(f"sdjwt: tokens is of type {type(tokens).__name__}, and has to be a list of tokens")
+    held = list(islice(tokens, _library.TOKENS + 1))
+    if not 1 <= len(held) <= _library.TOKENS:
+        raise ValueError(f"sdjwt: tokens has to be 1 to {_library.TOKENS} tokens")
+    return [token_bytes(token, most, f"token {i} of tokens") for i, token in enumerate(held)]
+
+
+def seed_bytes(given: object) -> bytes:
+    """A seed. That it is long enough is for the library to say."""
+    return _plain_bytes(given, "seed", "bytes")
+
+
+def moment(now: object) -> int:
+    """A moment in whole seconds since 1970, and the present one where none is given."""
+    if now is None:
+        return max(0, int(time()))
+    if isinstance(now, bool) or not isinstance(now, (int, float)):
+        raise TypeError(f"sdjwt: now is of type {type(now).__name__}, and has to be seconds since 1970, an int or a float")
+    if not 0 <= now < 2**64:
+        raise ValueError("sdjwt: now is no moment from 0 to 2**64 - 1, in seconds since 1970")
+    return int(now)
+
+
+def _written(given: Mapping[Any, Any], name: str, allow_nan: bool = False) -> str:
+    try:
+        text = json.dumps(_plain(given), ensure_ascii=False, allow_nan=allow_nan, default=_plain)
+    except RecursionError:
+        raise ValueError(f"sdjwt: {name} is nested too deep") from None
+    except TypeError as fault:
+        raise TypeError(f"sdjwt: {name} can't be written as JSON: {fault}") from None
+    except ValueError as fault:
+        raise ValueError(f"sdjwt: {name} can't be written as JSON: {fault}") from None
+    _need_names(given, name)
+    return text
+
+
+def _plain(value: object) -> dict[Any, Any]:
+    if isinstance(value, dict):
+        return value
+    if isinstance(value, Mapping):
+        return dict(value)
+    raise TypeError(f"a value is of type {type(value).__name__}")
+
+
+def _need_names(given: Mapping[Any, Any], name: str) -> None:
+    """Each name of a member has to be a str. JSON would have another one in quotes, where it meets one that stood in quotes."""
+    left: list[Any] = [given]
+    while left:
+        value = left.pop()
+        if isinstance(value, Mapping):
+            for member in value:
+                if not isinstance(member, str):
+                    raise TypeError(f"sdjwt: {name} has a name of a member that is of type {type(member).__name__}, and has to be a str")
+            value = value.values()
+        left.extend(inner for inner in value if isinstance(inner, (Mapping, list, tuple)))

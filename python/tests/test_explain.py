@@ -1,0 +1,111 @@
+"""The program python/explain.py, which is installed as sdjwt-explain, and what the wheel says of its library."""
+import importlib.util
+import json
+import re
+import shutil
+import subprocess
+import sys
+import zipfile
+from pathlib import Path
+
+import pytest
+
+TOP = Path(__file__).resolve().parent.parent.parent
+PAGE = (TOP / "docs/REFUSALS.md").read_text(encoding="utf-8")
+HEADINGS = re.findall(r"^### (.*)$", PAGE, re.M)
+LINES = re.findall(r"^[^#\n].* = ([1-6]) (.*)$", (TOP / "examples/refusals/cases.txt").read_text(encoding="utf-8"), re.M)
+POLICY = TOP / "examples/refusals/policy_short_key.json"
+
+
+def explain(*words, given=b"", program=TOP / "python/explain.py", **more):
+    return subprocess.run([sys.executable, program, *words], input=given, capture_output=True, **more)
+
+
+def loaded(path):
+    source = importlib.util.spec_from_file_location(path.stem + "_in_test", path)
+    module = importlib.util.module_from_spec(source)
+    source.loader.exec_module(module)
+    return module
+
+
+def test_each_entry_is_found_by_its_number_its_name_and_its_line():
+    program = loaded(TOP / "python/explain.py")
+    entries = program.sections(PAGE)
+    assert list(entries) == HEADINGS and len(HEADINGS) > 90
+    for heading in HEADINGS:
+        assert set(program.parts(entries[heading])) == {"explanation", "cause", "remedy"}
+        words = heading.split()
+        numbered = [words[1], words[2], " ".join(words[1:])] if words[0] == "refused" else []
+        for wanted in (heading, *numbered, " ".join(words[words[0] == "unreadable":])):
+            assert heading in program.found(wanted, entries), wanted
+    run = explain("form")
+    assert run.returncode == 0 and run.stdout.startswith(b"refused 2 form\n\nMeans: ") and b"\n\nLikely cause: " in run.stdout
+
+
+def test_each_line_of_a_pipe_is_explained():
+    assert json.loads(explain(given=b'refused 52 reservedInPayload at "/a"b"').stdout)["place"] == '"/a"b"'
+    others = ['accepted {"a":1}', "refused", "refused 10 badSignature too", "lines 3", "unreadable 3 wrong key", ""]
+    run = explain(given="\n".join([line for _, line in LINES] + others).encode() + b"\n\xff\xfe")
+    said = run.stdout.decode(errors="surrogateescape").splitlines()
+    assert run.returncode == int(LINES[-1][0]) and said[len(LINES):] == [*others, "\udcff\udcfe"]
+    for (status, line), text in zip(LINES, said):
+        told = json.loads(text)
+        assert told["status"] == int(status) and told["explanation"] and told["cause"] and told["remedy"], line
+        assert told["name"] in line and (told["place"] is None or told["place"] in line)
+        assert told["number"] is None or f" {told['number']} " in line
+    assert explain(given=b"no refusal\n").returncode == 0
+
+
+@pytest.mark.parametrize("words", [("88",), ("no", "entry"), ("",), ("refused 10 formDiffers",), ("wrong",), ("--version",), ("unreadable 1 x", POLICY)])
+def test_words_that_have_no_entry(words):
+    run = explain(*words)
+    assert (run.returncode, run.stdout) == (1, b"") and b"there is no entry" in run.stderr
+
+
+def test_what_is_said_of_a_file():
+    for words in (("unreadable 1 wrong keys",), ("unreadable", "1", "wrong", "keys"), ("wrong keys",), ("wrong", "keys")):
+        run = explain(*words, POLICY.name, cwd=POLICY.parent)
+        assert run.returncode == 0 and b"In policy_short_key.json: at /keys/keys/0/k: it codes 9 bytes" in run.stdout
+    assert b"no such fault is found" in explain("unreadable 1 notJson", POLICY).stdout
+    assert b"where the line begins with `unreadable`" in explain("refused 10 badSignature", POLICY).stdout
+    assert b"In /dev/stdin: it is a list" in explain("unreadable 1 notObject", "/dev/stdin", given=b"[]").stdout
+
+
+@pytest.mark.parametrize("name", ["no_such_file", "."])
+def test_a_file_that_is_not_there(name):
+    run = explain("unreadable 1 notJson", name, cwd=POLICY.parent)
+    assert run.returncode == 1 and b"could not be read" in run.stderr
+
+
+def test_it_finds_its_files_where_it_is_installed(tmp_path):
+    for source, target in re.findall(r"^put \d+ (python/\S+|docs/REFUSALS.md) (\S+)$", (TOP / "install.sh").read_text(encoding="utf-8"), re.M):
+        (tmp_path / target).parent.mkdir(parents=True, exist_ok=True)
+        shutil.copy(TOP / source, tmp_path / target)
+    before = sorted(tmp_path.rglob("*"))
+    run = explain("unreadable 1 wrong keys", POLICY, program=tmp_path / "bin/sdjwt-explain", cwd=tmp_path)
+    assert run.returncode == 0 and b"it codes 9 bytes" in run.stdout
+    (tmp_path / "link").symlink_to("bin/sdjwt-explain")
+    assert explain("17", program=tmp_path / "link").returncode == 0
+    assert sorted(tmp_path.rglob("*")) == sorted([*before, tmp_path / "link"])
+
+
+@pytest.mark.parametrize("said, proved, ending", [("yes\n", True, ""), ("no\n", False, "+not.proved"), ("perhaps\n", None, ""), (None, None, "")])
+def test_what_a_wheel_says_of_its_library(said, proved, ending, tmp_path, monkeypatch, capsys):
+    shutil.copytree(TOP / "python", tmp_path / "python", ignore=shutil.ignore_patterns("__pycache__"))
+    (tmp_path / "c/out/lib").mkdir(parents=True)
+    library = tmp_path / "c/out/lib/libsdjwt.so"
+    library.write_bytes(b"a library")
+    if said is not None:
+        (tmp_path / "c/out/proved").write_text(said, encoding="utf-8")
+    wheel = loaded(tmp_path / "python/build_backend/sdjwt_wheel.py")
+    for named in (None, library):
+        if named:
+            monkeypatch.setenv("SDJWT_LIBRARY", str(named))
+            proved, ending = None, ""
+        else:
+            monkeypatch.delenv("SDJWT_LIBRARY", raising=False)
+        with zipfile.ZipFile(tmp_path / wheel.build_wheel(tmp_path)) as files:
+            built = json.loads(files.read("sdjwt/built.json"))
+            assert built["proved"] is proved and built["version"].endswith(ending or built["version"])
+            assert f"sdjwt-{built['version']}.dist-info/METADATA" in files.namelist()
+        assert ("NOT PROVED" in capsys.readouterr().out) == (proved is False)
