@@ -2,7 +2,8 @@
 """Checks that sdjwt.h declares what crates/sdjwt_c exports, with parameters that fit, and no more.
 
 A slice is a pointer and a length to C, an allocator is nothing, and a handle is a struct of one pointer.
-With a library as its argument, it also checks that the library exports just these names.
+With libraries as its arguments, it also checks that they export just these names. With --calls it prints, in Rattle, a
+`main` of that crate that calls each function once: c/build.sh --look has it compiled, and with it the functions.
 """
 import pathlib
 import re
@@ -23,19 +24,43 @@ SEEN_BY_C = {
     None: ["void"],
 }
 RESULTS = {"uint8_t": "sdjwt_status"}
+ARGUMENTS = {
+    "Global": "alloc",
+    "u8": "0",
+    "u64": "0",
+    "&[u8]": 'b""',
+    "&[usize]": "&[]",
+    "&mut [u8]": "&mut room",
+    "&mut usize": "&mut len",
+    "&mut SdjwtPolicy": "&mut policy",
+}
+
+
+def functions():
+    """What the crate exports: the path of each function in it, the types of its parameters, and that of its result."""
+    for file in sorted((TOP / "crates/sdjwt_c/src").glob("*.rt")):
+        pattern = (r'#\[unsafe\(no_mangle\)\]\s*pub extern "C" fn (\w+)\((.*?)\)'
+                   r'(?:\s*->\s*(\w+))?\s*(?:\n\s*ensures|\{)')
+        for name, parameters, result in re.findall(pattern, file.read_text(), re.S):
+            types = [p.split(":", 1)[1].strip() for p in parameters.split(",") if p.strip()]
+            yield f"{file.stem}::{name}", types, result
 
 
 def exported():
-    """What the crate exports: for each name its result and its parameters, as C sees them."""
+    """The same for each name: its result and its parameters, as C sees them."""
     found = {}
-    for file in sorted((TOP / "crates/sdjwt_c/src").glob("*.rt")):
-        pattern = r'#\[unsafe\(no_mangle\)\]\s*pub extern "C" fn (\w+)\((.*?)\)(?:\s*->\s*(\w+))?\s*(?:\n\s*ensures|\{)'
-        for name, parameters, result in re.findall(pattern, file.read_text(), re.S):
-            types = [p.split(":", 1)[1].strip() for p in parameters.split(",") if p.strip()]
-            result = SEEN_BY_C[result or None][0]
-            seen = [c for t in types for c in SEEN_BY_C[t]] or ["void"]
-            found[name] = (RESULTS.get(result, result), seen)
+    for path, types, result in functions():
+        result = SEEN_BY_C[result or None][0]
+        seen = [c for t in types for c in SEEN_BY_C[t]] or ["void"]
+        found[path.split("::")[1]] = (RESULTS.get(result, result), seen)
     return found
+
+
+def calls():
+    """A `main` that calls each function."""
+    lines = [f"    let _ = {path}({', '.join(ARGUMENTS[t] for t in types)});" for path, types, _ in functions()]
+    return "\n".join(["", "fn main(rt: HostRuntime) {", "    let alloc = rt.alloc();", "    let mut room = [0u8; 64];",
+                      "    let mut len = 0usize;", "    let mut policy = handle::SdjwtPolicy::none(alloc);", *lines, "}"])
 
 
 def declared():
@@ -55,11 +80,15 @@ def declared():
 def of_library(path):
     """The names that a library defines for others."""
     shared = ["-D"] if ".so" in pathlib.Path(path).name else []
-    lines = subprocess.run(["nm", "-g", "--defined-only", *shared, path], check=True, capture_output=True, text=True).stdout
-    return {line.split()[-1] for line in lines.splitlines() if len(line.split()) == 3}
+    words = ["nm", "-g", "--defined-only", *shared, path]
+    lines = subprocess.run(words, check=True, capture_output=True, text=True).stdout.splitlines()
+    return {line.split()[-1] for line in lines if len(line.split()) == 3}
 
 
 def main():
+    if sys.argv[1:] == ["--calls"]:
+        print(calls())
+        return
     code, header = exported(), declared()
     faults = [f"{name}: the crate has {code.get(name)}, the header {header.get(name)}"
               for name in sorted({*code, *header}) if code.get(name) != header.get(name)]
