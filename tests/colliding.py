@@ -1,7 +1,7 @@
 #!/usr/bin/env python3
 """Times `verify` for tokens whose digests collide. It stands beside the gate and proves nothing.
 
-    python3 tests/colliding.py PROGRAM      PROGRAM is sdjwt, as `rt run` or install.sh makes it
+    python3 tests/colliding.py PROGRAM      PROGRAM is sdjwt, as prove.sh or install.sh makes it
 
 Each token is signed, and has 12,000 digests in the `_sd` of its payload and no disclosure. The digests are random, or
 collide under a hash with no seed: that of the kit's maps (`fold`), or that of an index with the seed 0 (`sip`). The
