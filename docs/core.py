@@ -26,7 +26,7 @@ from pathlib import Path
 
 TOP = Path(__file__).resolve().parent.parent
 CRATES = re.findall(r"^(\w+):", (TOP / "crates.txt").read_text(encoding="utf-8"), re.M)
-ROOTS = ["sdjwt_cli::top::run", "sdjwt_cli::laws::presented", "sdjwt_cli::laws::no_forgery", "sdjwt_tools::tools::run_tools", "feed_core::laws::any_cut", "cli_parts::host::exit_code"]
+ROOTS = ["sdjwt_cli::top::run", "sdjwt_cli::laws::presented", "sdjwt_cli::laws::no_forgery", "tools_cli::tools::run_tools", "feed_core::laws::any_cut", "cli_parts::host::exit_code"]
 # The same for who takes the libraries for themselves.
 HEADLINE = [
     "examples_service::end_to_end::issue_present_verify::shown",
