@@ -1,5 +1,5 @@
 -- The grammar's loops, a turn at a time, where of each value is known whether it has a number that is not whole.
-use Rattle.std.proofs.Common.{◌≡◌, ℕ, ◌-◌, ◌<◌, ◌≤◌, List, length, Bool, true, false, ◌||◌, Option, Some, None, inl, inr, ◌⊎◌, ◌∷◌, Bor, option_map, refl, sym, ap, ◌∙◌}
+use Rattle.std.proofs.Common.{◌≡◌, ℕ, ◌-◌, ◌<◌, List, Bool, true, false, ◌||◌, Option, Some, None, inl, inr, ◌⊎◌, ◌∷◌, Bor, option_map, refl, ap, ◌∙◌}
 use Rattle.json.specs.Token.{Token}
 use Rattle.json.specs.Reads.{token_of}
 use Rattle.json.specs.declared.token.Token.{Token as ReadToken}
@@ -7,9 +7,9 @@ use Rattle.json.specs.declared.token.Token.TheVariants.{String, Bool as Flag, Nu
 use Rattle.json.specs.Json as json
 use Rattle.json.proofs.Grammar.{value_is}
 use Rattle.json.specs.Json.{Parse, parse_map, after_end_array, read_key, items, members, value}
-use Rattle.serde_json.specs.Data.{Num, Data, number, array, object, Items, item, Members, no_members, put}
+use Rattle.serde_json.specs.Data.{Num, Data, number, array, object, Items, item, Members}
 use Rattle.serde_json.specs.Find.{is_float}
-use Rattle.serde_json.specs.Read.{of_json, of_items, of_members, converted}
+use Rattle.serde_json.specs.Read.{of_json, of_items, converted}
 use Rattle.serde_json.specs.Written.{has_float, items_have_float, members_have_float}
 use Rattle.claim_tree.proofs.TreeReading.{parse_some, item_read}
 

@@ -13,7 +13,7 @@ pub mod Datas
 mod FloatNames
 mod TreeReading
 mod Judging
-mod Blanking
+mod Passes
 mod ListTails
 pub mod RoundTrip
 pub mod Everywheres
@@ -22,6 +22,8 @@ pub mod TreeTexts
 pub mod OneTree
 pub mod OwnReading
 pub mod ReadOrdered
+pub mod KeptTrees
+mod KeptReading
 mod PointerEscapes
 mod PointerTildes
 mod PointerPieces

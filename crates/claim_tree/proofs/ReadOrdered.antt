@@ -1,12 +1,15 @@
 -- A tree that a text reads to has ascending names.
-use Rattle.std.proofs.Common.{◌≡◌, Option, Some, None, option_map, option_and_then, IfSome, Ordering, Less, Equal, Greater, nat_cmp, refl, ap, subst, ◌∙◌}
+use Rattle.std.specs.Prelude.{◌^◌, ◌&&◌, ◌==◌, slice_index, drop, nat_lt, nat_le, if◌then◌else◌}
+use Rattle.std.specs.Float.{binary64, float_is_finite}
+use Rattle.fast_float.specs.Text.{minus, Parts, scan, digits_of, nearest, with_sign}
+use Rattle.std.proofs.Common.{◌≡◌, ℕ, zero, suc, negsuc, List, Bool, true, false, Option, Some, None, option_map, option_and_then, IfSome, Ordering, Less, Equal, Greater, nat_cmp, refl, ap, subst, ◌∙◌}
 use Rattle.std.specs.Cmp.Lexicographic.{slice_cmp}
 use Rattle.std.specs.Ordering.{match_ordering, ordering_reverse}
 use Rattle.std.proofs.lemmas.Cmp.{nat_list_cmp_total}
 use Rattle.json.specs.Json as json
 use Rattle.json.specs.Lex.{tokens}
 use Rattle.serde_json.specs.Data as port
-use Rattle.serde_json.specs.Read.{max_depth, number_of, of_json, of_items, of_members}
+use Rattle.serde_json.specs.Read.{max_depth, is_integer, float_of, number_from, number_of, of_json, of_items, of_members, read as value_of_text}
 use Rattle.claim_tree.specs.Tree.{Text, Tree, leaf, array, object, Elements, no_elements, element, Members, no_members, member, names, IsOrdered, ElementsOrdered, MembersOrdered, IsBefore, IsBeforeAll}
 use Rattle.claim_tree.specs.JsonText.{Reads, data_of, elements_data, members_data}
 
@@ -15,20 +18,27 @@ abbrev pub AreAfter : Text → port.Members → Type 0
 AreAfter k port.no_members = Unit {0}
 AreAfter k (port.member l d ms) = IsBefore k l × AreAfter k ms
 
+-- what is read of a number's text: a whole number with a sign is below 0
+abbrev pub IsPlain : port.Num → Type 0
+IsPlain (port.unsigned n) = Unit {0}
+IsPlain (port.negative z) = (n : ℕ) × (z ≡ negsuc n)
+IsPlain (port.float x) = Unit {0}
+
+-- names ascend, and numbers are plain
 abbrev mutual
-  Ordered : port.Data → Type 0
+  pub Ordered : port.Data → Type 0
   Ordered port.null = Unit {0}
   Ordered (port.boolean b) = Unit {0}
-  Ordered (port.number n) = Unit {0}
+  Ordered (port.number n) = IsPlain n
   Ordered (port.string s) = Unit {0}
   Ordered (port.array ds) = ItemsOrdered ds
   Ordered (port.object ms) = NamesOrdered ms
 
-  ItemsOrdered : port.Items → Type 0
+  pub ItemsOrdered : port.Items → Type 0
   ItemsOrdered port.no_items = Unit {0}
   ItemsOrdered (port.item d ds) = Ordered d × ItemsOrdered ds
 
-  NamesOrdered : port.Members → Type 0
+  pub NamesOrdered : port.Members → Type 0
   NamesOrdered port.no_members = Unit {0}
   NamesOrdered (port.member k d ms) = AreAfter k ms × Ordered d × NamesOrdered ms
 
@@ -62,9 +72,39 @@ put_ordered k d (port.member l e ms) o p = put_one (slice_cmp nat_cmp k l) k l d
 
 -- ---- what is read
 
-number_read : (o : Option port.Num) → IfSome (option_map port.number o) Ordered
-number_read None = tt
-number_read (Some n) = tt
+plain_float : (sign : Bool) (p : Parts) → IfSome (float_of sign p) IsPlain
+plain_float sign p = go (float_is_finite (nearest binary64 sign p))
+  where
+    go : (finite : Bool) → IfSome (if finite then Some (port.float (nearest binary64 sign p)) else None) IsPlain
+    go true = tt
+    go false = tt
+
+plain_from : (sign : Bool) (p : Parts) → IfSome (number_from sign p) IsPlain
+plain_from false p = go (is_integer p && nat_lt (digits_of p) (2 ^ 64))
+  where
+    go : (fits : Bool) → IfSome (if fits then Some (port.unsigned (digits_of p)) else float_of false p) IsPlain
+    go true = tt
+    go false = plain_float false p
+plain_from true p = go (is_integer p) (nat_lt 0 (digits_of p)) (nat_le (digits_of p) (2 ^ 63)) (digits_of p) refl
+  where
+    go : (integer some fits : Bool) (n : ℕ) → nat_lt 0 n ≡ some → IfSome (if integer && some && fits then Some (port.negative (with_sign true n)) else float_of true p) IsPlain
+    go false some fits n e = plain_float true p
+    go true false fits n e = plain_float true p
+    go true true false n e = plain_float true p
+    go true true true zero e = absurd (cc e)
+    go true true true (suc n) e = (n, refl)
+
+plain_number : (s : List ℕ) → IfSome (number_of s) IsPlain
+unfolding number_of
+plain_number s = go (slice_index s 0 == minus)
+  where
+    go : (signed : Bool) → IfSome (if signed then number_from true (scan (drop 1 s)) else number_from false (scan s)) IsPlain
+    go true = plain_from true (scan (drop 1 s))
+    go false = plain_from false (scan s)
+
+number_read : (o : Option port.Num) → IfSome o IsPlain → IfSome (option_map port.number o) Ordered
+number_read None p = tt
+number_read (Some n) p = p
 
 array_read : (o : Option port.Items) → IfSome o ItemsOrdered → IfSome (option_map port.array o) Ordered
 array_read None h = tt
@@ -87,7 +127,7 @@ mutual
   json_read : (j : json.Json) → IfSome (of_json j) Ordered
   json_read json.null = tt
   json_read (json.boolean b) = tt
-  json_read (json.number s) = number_read (number_of s)
+  json_read (json.number s) = number_read (number_of s) (plain_number s)
   json_read (json.string s) = tt
   json_read (json.array js) = array_read (of_items js) (items_read js)
   json_read (json.object ms) = object_read (of_members ms port.no_members) (members_read ms port.no_members tt)
@@ -103,6 +143,9 @@ mutual
 any_read : (o : Option json.Json) → IfSome (option_and_then of_json o) Ordered
 any_read None = tt
 any_read (Some j) = json_read j
+
+pub data_ordered : (bytes : Text) (d : port.Data) → value_of_text bytes ≡ Some d → Ordered d
+data_ordered bytes d value = subst (λ (o : Option port.Data). IfSome o Ordered) value (any_read (option_and_then (λ p. json.if_last p.0 p.1) (json.value max_depth (tokens bytes))))
 
 -- ---- the tree
 
@@ -125,5 +168,4 @@ mutual
   members_ordered (member k t ms) o = (names_after k ms o.0, tree_ordered t o.1, members_ordered ms o.2)
 
 pub reads_ordered : (bytes : Text) (t : Tree) → Reads bytes t → IsOrdered t
-reads_ordered bytes t reads =
-    tree_ordered t (subst (λ (o : Option port.Data). IfSome o Ordered) reads.value (any_read (option_and_then (λ p. json.if_last p.0 p.1) (json.value max_depth (tokens bytes)))))
+reads_ordered bytes t reads = tree_ordered t (data_ordered bytes (data_of t) reads.value)

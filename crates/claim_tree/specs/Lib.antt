@@ -5,6 +5,7 @@ pub mod Removed
 pub mod Lists
 pub mod View
 pub mod JsonText
+pub mod Kept
 pub mod Code
 pub mod Falls
 pub mod MemberPositions
@@ -22,3 +23,4 @@ pub mod Steps
 pub mod ListTails
 pub mod Begun
 pub mod Floats
+pub mod Passes

@@ -6,11 +6,14 @@ ghost use Rattle.serde_json.specs.Read.{of_json, of_items, of_members, converted
 ghost use Rattle.claim_tree.specs.View.{tree_of};
 ghost use Rattle.claim_tree.specs.ListViews.{members_of};
 ghost use Rattle.claim_tree.specs.JsonText.{data_of, elements_data, members_data};
-ghost use Rattle.claim_tree.specs.Floats.{blanked, blanked_items, blanked_members};
+ghost use Rattle.claim_tree.specs.Passes.{is_later, seen, seen_items, seen_members};
+ghost use Rattle.claim_tree.specs.declared.pass.Pass.TheVariants.{First};
 ghost use Rattle.claim_tree.specs.declared.build.BuildError.TheVariants.{Memory, NoTree};
 
+use crate::judge::judge;
+use crate::pass::Pass;
 use crate::tree::is_behind;
-use crate::whole_number::{NotWhole, whole_number};
+use crate::whole_number::{NumberError, whole_number};
 use crate::{Tree, TreeList, TreeMap};
 use json::{Invalid, Reader, Scratch, Token};
 use sd_outside::{NoMemory, TextBox};
@@ -67,18 +70,18 @@ pub(crate) fn build_text(
     }
 }
 
-// The tree of a text that is read a second time: null stands for each number that is not whole, and names may come in
-// any order.
+// What a later pass sees of a text, as a tree.
 pub(crate) fn build_again(
     alloc: Global,
     scratch: &mut Scratch,
     text: &str,
+    pass: Pass<'_>,
 ) -> Result<Tree, BuildError>
-    ensures ok { IfOk result (λ t. option_map (blanked true) (value_of_text text.now) ≡ Some (data_of (tree_of t))) }
-    ensures err { result ≡ Err NoTree → value_of_text text.now ≡ None }
+    ensures ok { IfOk result (λ t. option_map (seen pass.entry) (value_of_text text.now) ≡ Some (data_of (tree_of t))) }
+    ensures err { is_later pass.entry ≡ true → result ≡ Err NoTree → value_of_text text.now ≡ None }
 {
     let mut reader = Reader::new(text, scratch)?;
-    let tree = build_value(alloc, &mut reader, MOST_DEPTH, true)?;
+    let tree = build_value(alloc, &mut reader, MOST_DEPTH, pass)?;
     match reader.next() {
         None => Ok(tree),
         Some(_) => Err(BuildError::NoTree),
@@ -95,32 +98,32 @@ pub(crate) fn build(
     ensures ok { IfOk result (λ t. converted of_json (value depth reader.old) ≡ Some (data_of (tree_of t), reader.new)) }
     ensures shorter { OnOk result (length reader.new < length reader.old) }
 {
-    build_value(alloc, reader, depth, false)
+    build_value(alloc, reader, depth, Pass::First)
 }
 
-// The same, when the text is read for the first or for the second time.
+// What a pass sees of it.
 #[cycle(build)]
 fn build_value(
     alloc: Global,
     reader: &mut Reader<'_>,
     depth: usize,
-    again: bool,
+    pass: Pass<'_>,
 ) -> Result<Tree, BuildError>
-    ensures ok { IfOk result (λ t. parse_map (blanked again) (converted of_json (value depth reader.old)) ≡ Some (data_of (tree_of t), reader.new)) }
-    ensures err { again ≡ true → result ≡ Err NoTree → converted of_json (value depth reader.old) ≡ None }
+    ensures ok { IfOk result (λ t. parse_map (seen pass.entry) (converted of_json (value depth reader.old)) ≡ Some (data_of (tree_of t), reader.new)) }
+    ensures err { is_later pass.entry ≡ true → result ≡ Err NoTree → converted of_json (value depth reader.old) ≡ None }
     ensures shorter { OnOk result (length reader.new < length reader.old) }
 {
     let token = reader.next().ok_or(BuildError::NoTree)?;
     match token {
         Token::String(text) => Ok(Tree::Text(TextBox::make(alloc, text)?)),
-        Token::Number(text) => Ok(number_tree(text, again)?),
+        Token::Number(text) => Ok(number_tree(text, pass)?),
         Token::Bool(flag) => Ok(Tree::Flag(flag)),
         Token::Null => Ok(Tree::Null),
         Token::BeginArray => {
-            Ok(Tree::List(build_elements(alloc, reader, inside(depth)?, again)?))
+            Ok(Tree::List(build_elements(alloc, reader, inside(depth)?, pass)?))
         }
         Token::BeginObject => {
-            Ok(Tree::Object(build_object(alloc, reader, inside(depth)?, again)?))
+            Ok(Tree::Object(build_object(alloc, reader, inside(depth)?, pass)?))
         }
         Token::EndObject | Token::EndArray | Token::Key(_) | Token::Bad => Err(BuildError::NoTree),
     }
@@ -139,20 +142,17 @@ pub(crate) fn inside(depth: usize) -> Result<usize, BuildError>
 }
 
 // The tree of a number's text.
-fn number_tree(text: &str, again: bool) -> Result<Tree, BuildError>
-    ensures ok { IfOk result (λ t. option_map (λ n. blanked again (number n)) (number_of text.now) ≡ Some (data_of (tree_of t))) }
-    ensures err { again ≡ true → result ≡ Err NoTree → number_of text.now ≡ None }
+fn number_tree(text: &str, pass: Pass<'_>) -> Result<Tree, BuildError>
+    ensures ok { IfOk result (λ t. option_map (λ n. seen pass.entry (number n)) (number_of text.now) ≡ Some (data_of (tree_of t))) }
+    ensures err { is_later pass.entry ≡ true → result ≡ Err NoTree → number_of text.now ≡ None }
 {
     match whole_number(text) {
         Ok(whole) => Ok(Tree::Whole(whole)),
-        Err(NotWhole::Float) => {
-            if again {
-                Ok(Tree::Null)
-            } else {
-                Err(BuildError::NoTree)
-            }
-        }
-        Err(NotWhole::TooGreat) => Err(BuildError::NoTree),
+        Err(NumberError::Float) => match pass {
+            Pass::First => Err(BuildError::NoTree),
+            Pass::Again | Pass::Named(_) => Ok(Tree::Null),
+        },
+        Err(NumberError::TooGreat) => Err(BuildError::NoTree),
     }
 }
 
@@ -161,15 +161,15 @@ fn build_elements(
     alloc: Global,
     reader: &mut Reader<'_>,
     depth: usize,
-    again: bool,
+    pass: Pass<'_>,
 ) -> Result<TreeList, BuildError>
-    ensures ok { IfOk result (λ es. parse_map (blanked_items again) (converted of_items (items (value depth) (length reader.old) reader.old)) ≡ Some (elements_data es, reader.new)) }
-    ensures err { again ≡ true → result ≡ Err NoTree → converted of_items (items (value depth) (length reader.old) reader.old) ≡ None }
+    ensures ok { IfOk result (λ es. parse_map (seen_items pass.entry) (converted of_items (items (value depth) (length reader.old) reader.old)) ≡ Some (elements_data es, reader.new)) }
+    ensures err { is_later pass.entry ≡ true → result ≡ Err NoTree → converted of_items (items (value depth) (length reader.old) reader.old) ≡ None }
     ensures shorter { OnOk result (length reader.new < length reader.old) }
 {
     let mut trees = TreeList::new(alloc);
     while !reader.take_end_array() {
-        let tree = build_value(alloc, reader, depth, again)?;
+        let tree = build_value(alloc, reader, depth, pass)?;
         trees.push(tree)?;
     }
     Ok(trees)
@@ -180,17 +180,18 @@ fn build_object(
     alloc: Global,
     reader: &mut Reader<'_>,
     depth: usize,
-    again: bool,
+    pass: Pass<'_>,
 ) -> Result<TreeMap, BuildError>
-    ensures ok { IfOk result (λ ms. parse_map (blanked_members again) (converted (λ found. of_members found no_members) (members (value depth) (length reader.old) reader.old)) ≡ Some (members_data ms, reader.new)) }
-    ensures err { again ≡ true → result ≡ Err NoTree → converted (λ found. of_members found no_members) (members (value depth) (length reader.old) reader.old) ≡ None }
+    ensures ok { IfOk result (λ ms. parse_map (seen_members pass.entry) (converted (λ found. of_members found no_members) (members (value depth) (length reader.old) reader.old)) ≡ Some (members_data ms, reader.new)) }
+    ensures err { is_later pass.entry ≡ true → result ≡ Err NoTree → converted (λ found. of_members found no_members) (members (value depth) (length reader.old) reader.old) ≡ None }
     ensures shorter { OnOk result (length reader.new < length reader.old) }
 {
-    if again {
-        let members = sort_members(alloc, reader, depth)?;
-        Ok(sorted_map(alloc, members)?)
-    } else {
-        build_members(alloc, reader, depth)
+    match pass {
+        Pass::First => build_members(alloc, reader, depth),
+        Pass::Again | Pass::Named(_) => {
+            let members = sort_members(alloc, reader, depth, pass)?;
+            Ok(sorted_map(alloc, members)?)
+        }
     }
 }
 
@@ -224,22 +225,30 @@ fn build_members(
     Ok(trees)
 }
 
-// The members of an object that is read a second time, whose names may come in any order.
+// The members that a later pass sees of an object, whose names may come in any order.
 #[cycle(build)]
 fn sort_members(
     alloc: Global,
     reader: &mut Reader<'_>,
     depth: usize,
+    pass: Pass<'_>,
 ) -> Result<BTreeMap<TextBox, Tree>, BuildError>
-    ensures ok { IfOk result (λ ms. parse_map (blanked_members true) (converted (λ found. of_members found no_members) (members (value depth) (length reader.old) reader.old)) ≡ Some (members_data (members_of ms.entries), reader.new)) }
-    ensures err { result ≡ Err NoTree → converted (λ found. of_members found no_members) (members (value depth) (length reader.old) reader.old) ≡ None }
+    ensures ok { IfOk result (λ ms. parse_map (seen_members pass.entry) (converted (λ found. of_members found no_members) (members (value depth) (length reader.old) reader.old)) ≡ Some (members_data (members_of ms.entries), reader.new)) }
+    ensures err { is_later pass.entry ≡ true → result ≡ Err NoTree → converted (λ found. of_members found no_members) (members (value depth) (length reader.old) reader.old) ≡ None }
     ensures shorter { OnOk result (length reader.new < length reader.old) }
 {
     let mut found = BTreeMap::new(alloc);
     while let Some(name) = reader.next_key()? {
-        let name = TextBox::make(alloc, name)?;
-        let tree = build_value(alloc, reader, depth, true)?;
-        put_sorted(&mut found, name, tree)?;
+        match pass.of_member(name) {
+            Some(inner) => {
+                let name = TextBox::make(alloc, name)?;
+                let tree = build_value(alloc, reader, depth, inner)?;
+                put_sorted(&mut found, name, tree)?;
+            }
+            None => {
+                judge(alloc, reader, depth)?;
+            }
+        }
     }
     Ok(found)
 }

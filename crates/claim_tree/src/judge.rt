@@ -8,7 +8,7 @@ ghost use Rattle.claim_tree.specs.Floats.{noted};
 ghost use Rattle.claim_tree.specs.declared.build.BuildError.TheVariants.{NoTree};
 
 use crate::build::{BuildError, MOST_DEPTH, inside};
-use crate::whole_number::{NotWhole, whole_number};
+use crate::whole_number::{NumberError, whole_number};
 use json::{Reader, Scratch, Token};
 use sd_outside::{NoMemory, TextBox};
 use std::alloc::Global;
@@ -33,7 +33,11 @@ pub(crate) fn judge_text(
 
 // The same of the value that the next tokens are. Of two members of one name the last is kept.
 #[cycle(judge)]
-fn judge(alloc: Global, reader: &mut Reader<'_>, depth: usize) -> Result<bool, BuildError>
+pub(crate) fn judge(
+    alloc: Global,
+    reader: &mut Reader<'_>,
+    depth: usize,
+) -> Result<bool, BuildError>
     ensures ok { IfOk result (λ float. parse_map has_float (converted of_json (value depth reader.old)) ≡ Some (float, reader.new)) }
     ensures err { result ≡ Err NoTree → converted of_json (value depth reader.old) ≡ None }
     ensures shorter { OnOk result (length reader.new < length reader.old) }
@@ -43,8 +47,8 @@ fn judge(alloc: Global, reader: &mut Reader<'_>, depth: usize) -> Result<bool, B
         Token::String(_) | Token::Bool(_) | Token::Null => Ok(false),
         Token::Number(text) => match whole_number(text) {
             Ok(_) => Ok(false),
-            Err(NotWhole::Float) => Ok(true),
-            Err(NotWhole::TooGreat) => Err(BuildError::NoTree),
+            Err(NumberError::Float) => Ok(true),
+            Err(NumberError::TooGreat) => Err(BuildError::NoTree),
         },
         Token::BeginArray => judge_elements(alloc, reader, inside(depth)?),
         Token::BeginObject => judge_members(alloc, reader, inside(depth)?),

@@ -14,6 +14,7 @@ mod inside;
 mod judge;
 pub mod laws;
 mod member_test;
+mod pass;
 mod path;
 mod pointer;
 mod tail;

@@ -1,10 +1,12 @@
 // JSON texts, read and written.
-ghost use Rattle.std.specs.Prelude.{◌≡◌, ◌≤◌, [], Some, option_map, IfOk, IfErr, IsUtf8};
+ghost use Rattle.std.specs.Prelude.{◌≡◌, ◌≤◌, [], true, Some, map, option_map, IfOk, IfErr, IsUtf8};
 ghost use Rattle.json.specs.Print.{print};
 ghost use Rattle.serde_json.specs.Read.{read as value_of_text};
 ghost use Rattle.claim_tree.specs.Tree.{IsOrdered, depth as depth_of, array};
 ghost use Rattle.claim_tree.specs.View.{tree_of};
 ghost use Rattle.claim_tree.specs.JsonText.{Reads, data_of, json_text};
+ghost use Rattle.claim_tree.specs.Kept.{ReadsKept};
+ghost use Rattle.claim_tree.specs.Passes.{is_later, ReadsBy};
 ghost use Rattle.claim_tree.specs.JsonRefusals.{IsReadRefused};
 ghost use Rattle.claim_tree.specs.declared.text.ReadError.{ReadError};
 ghost use Rattle.claim_tree.specs.ListTails.{ReadsTail, kept_tree, short_list};
@@ -12,6 +14,7 @@ ghost use Rattle.claim_tree.specs.ListTails.{ReadsTail, kept_tree, short_list};
 use crate::Tree;
 use crate::build::{BuildError, build_again, build_text};
 use crate::judge::judge_text;
+use crate::pass::{Pass, Wanted};
 use crate::tail::{TailOrTree, build_tail};
 use crate::tokens::{put_texts, put_tree};
 use json::{Scratch, Writer};
@@ -71,6 +74,29 @@ impl JsonReader {
         Ok(tree)
     }
 
+    /// The same, but of each object only the members with these names are kept, and of them the one named `whole` as it
+    /// stands. What is passed over takes no memory.
+    pub fn read_named(
+        &mut self,
+        alloc: Global,
+        bytes: &[u8],
+        names: &[&str],
+        whole: &str,
+    ) -> Result<Tree, ReadError>
+        ensures ok { IfOk result (λ t. ReadsKept (map (λ n. n.now) names.now) whole.now bytes.now (tree_of t)) }
+        ensures ordered { IfOk result (λ t. IsOrdered (tree_of t)) }
+        ensures depth { IfOk result (λ t. depth_of (tree_of t) ≤ 127) }
+        ensures unread { IfErr result (IsReadRefused bytes.now) }
+    {
+        let Ok(text) = str::from_utf8(bytes) else {
+            return Err(ReadError::NotJson);
+        };
+        let pass = Pass::Named(Wanted { names, whole });
+        let tree = read_judged(alloc, &mut self.scratch, text, pass)?;
+        tree.invariant();
+        Ok(tree)
+    }
+
     /// The same, but the text that a list of two or three begins with is read and not kept.
     pub fn read_tail(&mut self, alloc: Global, bytes: &[u8]) -> Result<TailOrTree, ReadError>
         ensures ok { IfOk result (ReadsTail bytes.now) }
@@ -105,10 +131,23 @@ pub fn read(alloc: Global, bytes: &[u8]) -> Result<Tree, ReadError>
     JsonReader::new(alloc).read(alloc, bytes)
 }
 
-// The tree of a text that was not read at once, or why it has none. It is judged first, so nothing is kept of one that
-// has none.
+// The tree of a text that was not read at once, or why it has none.
 fn read_again(alloc: Global, scratch: &mut Scratch, text: &str) -> Result<Tree, ReadError>
     ensures ok { IfOk result (λ t. value_of_text text.now ≡ Some (data_of (tree_of t))) }
+    ensures unread { IsUtf8 text.now → IfErr result (IsReadRefused text.now) }
+{
+    read_judged(alloc, scratch, text, Pass::Again)
+}
+
+// What a later pass sees of a text, or why it has no tree. It is judged first, so nothing is kept of one that has none.
+fn read_judged(
+    alloc: Global,
+    scratch: &mut Scratch,
+    text: &str,
+    pass: Pass<'_>,
+) -> Result<Tree, ReadError>
+    requires { is_later pass ≡ true }
+    ensures ok { IfOk result (λ t. ReadsBy pass.entry text.now (tree_of t)) }
     ensures unread { IsUtf8 text.now → IfErr result (IsReadRefused text.now) }
 {
     match judge_text(alloc, scratch, text) {
@@ -117,7 +156,7 @@ fn read_again(alloc: Global, scratch: &mut Scratch, text: &str) -> Result<Tree, 
         Err(BuildError::NoTree) => return Err(ReadError::NotJson),
         Err(BuildError::Memory) => return Err(ReadError::Memory),
     }
-    match build_again(alloc, scratch, text) {
+    match build_again(alloc, scratch, text, pass) {
         Ok(tree) => Ok(tree),
         Err(BuildError::NoTree) => unreachable!(),
         Err(BuildError::Memory) => Err(ReadError::Memory),

@@ -8,7 +8,7 @@ use fast_float::Numeral;
 
 // Why the text of a number is not kept as a whole number.
 #[derive(Clone, Copy)]
-pub(crate) enum NotWhole {
+pub(crate) enum NumberError {
     // It has a fraction or an exponent, is `-0`, or is out of the range of 64 bits.
     Float,
     // It is too great for a float.
@@ -16,7 +16,7 @@ pub(crate) enum NotWhole {
 }
 
 // The whole number that the text of a number is.
-pub(crate) fn whole_number(text: &str) -> Result<Whole, NotWhole>
+pub(crate) fn whole_number(text: &str) -> Result<Whole, NumberError>
     ensures value { IsNumber (number_of text.now) result }
 {
     let bytes = text.as_bytes();
@@ -34,16 +34,16 @@ fn has_minus(bytes: &[u8]) -> bool
     !bytes.is_empty() && bytes[0] == b'-'
 }
 
-fn positive(numeral: &Numeral<'_>) -> Result<Whole, NotWhole>
+fn positive(numeral: &Numeral<'_>) -> Result<Whole, NumberError>
     ensures value { IsNumber (number_from false numeral.now) result }
 {
     match numeral.to_u64() {
         Some(n) => Ok(Whole::from(n)),
-        None => Err(not_whole(false, numeral)),
+        None => Err(number_error(false, numeral)),
     }
 }
 
-fn negative(numeral: &Numeral<'_>) -> Result<Whole, NotWhole>
+fn negative(numeral: &Numeral<'_>) -> Result<Whole, NumberError>
     ensures value { IsNumber (number_from true numeral.now) result }
 {
     if let Some(n) = numeral.to_i64(true) {
@@ -51,15 +51,15 @@ fn negative(numeral: &Numeral<'_>) -> Result<Whole, NotWhole>
             return Ok(Whole::from(n));
         }
     }
-    Err(not_whole(true, numeral))
+    Err(number_error(true, numeral))
 }
 
-fn not_whole(negative: bool, numeral: &Numeral<'_>) -> NotWhole
+fn number_error(negative: bool, numeral: &Numeral<'_>) -> NumberError
     ensures value { IsNumber (float_of negative numeral.now) (Err result) }
 {
     if numeral.to_float::<f64>(negative).is_finite() {
-        NotWhole::Float
+        NumberError::Float
     } else {
-        NotWhole::TooGreat
+        NumberError::TooGreat
     }
 }
