@@ -2,6 +2,7 @@ mod Members
 mod Lists
 mod SayOrFail
 mod Objects
+mod KeptForms
 mod WrittenForms
 pub mod OneForm
 mod WordLists

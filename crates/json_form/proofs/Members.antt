@@ -27,7 +27,7 @@ found_other ms gone part apart = named_other ms (part_word gone) (part_word part
 pub same_members : (ms new : Members) (part : Part) (word : Text) → word ≡ part_word part → None ≡ member_named ms word → new ≡ removed ms word → new ≡ ms
 same_members ms new part word is none gone = gone ∙ removed_absent ms word (sym none)
 
-either_of : (a b c d e f : Bool) → a ≡ d → b ≡ e → c ≡ f → (a || b || c) ≡ (d || e || f)
+pub either_of : (a b c d e f : Bool) → a ≡ d → b ≡ e → c ≡ f → (a || b || c) ≡ (d || e || f)
 either_of a b c d e f p q r = cc
 
 pub beside_kept : (ms : Members) (gone : Part) → bytes_eq (part_word gone) (part_word Protected) ≡ false → bytes_eq (part_word gone) (part_word Signature) ≡ false → bytes_eq (part_word gone) (part_word Header) ≡ false

@@ -9,7 +9,7 @@ ghost use Rattle.json_form.specs.Printable.{IsPrintable};
 use crate::signature_entry::{read_entry, take_word};
 use crate::signatures::entries_of;
 use crate::{JsonFormError, Token};
-use claim_tree::{Tree, TreeMap, read};
+use claim_tree::{JsonReader, Tree, TreeMap};
 use compact_form::{JsonPlace, Part};
 use std::alloc::Global;
 
@@ -31,7 +31,7 @@ fn token_of(alloc: Global, members: TreeMap) -> Result<Token, JsonFormError>
 /// The token of its flattened or general JSON serialization (RFC 9901 section 8).
 ///
 /// A text with a member `signatures` is general, whatever stands there, and its first entry is read. Members that the
-/// form does not know are left out.
+/// form does not know are left out as the text is read.
 ///
 /// The error names the first place at which the text fails. In this order it is judged as JSON, for whole numbers and
 /// as an object; then `payload`, `signatures`, `protected`, `signature`, `header`, `disclosures` and `kb_jwt`; and at
@@ -41,7 +41,16 @@ pub fn parse_json(alloc: Global, text: &[u8]) -> Result<Token, JsonFormError>
     ensures printable { IfOk result IsPrintable }
     ensures fault { (place : ThePlace) → IsErrOf result (JsonFormError.Fault place) → IsJsonPlace text.now place }
 {
-    let Tree::Object(members) = read(alloc, text)? else {
+    let header = Part::Header.word();
+    let names = [
+        Part::Payload.word(),
+        Part::Signatures.word(),
+        Part::Protected.word(),
+        Part::Signature.word(),
+        header,
+    ];
+    let tree = JsonReader::new(alloc).read_named(alloc, text, &names, header)?;
+    let Tree::Object(members) = tree else {
         return Err(JsonFormError::Fault(JsonPlace::NotObject));
     };
     token_of(alloc, members)
