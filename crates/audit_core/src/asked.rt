@@ -1,6 +1,6 @@
 // What an order asks for.
 ghost use Rattle.std.specs.Prelude.{◌≤◌, IfOk};
-ghost use Rattle.sd_outside.specs.Limits.{count_max};
+ghost use Rattle.sd_outside.specs.Limits.{count_max, json_depth_max};
 ghost use Rattle.claim_tree.specs.Tree.{depth as depth_of};
 ghost use Rattle.claim_tree.specs.View.{tree_of};
 ghost use Rattle.compact_form.specs.Lowest.{NoneApplies};
@@ -29,7 +29,7 @@ pub(crate) struct Asked {
 
 // What an order asks for that nothing refuses. Its claims and paths are not copied.
 pub(crate) fn asked_of(alloc: Global, order: Order) -> Result<Asked, NoMemory>
-    requires depth { depth_of (tree_of order.payload) ≤ 127 }
+    requires depth { depth_of (tree_of order.payload) ≤ json_depth_max }
     requires passes { NoneApplies (AppliesToOrder (order_of order)) }
     ensures asked { IfOk result (IsAskedFor (order_of order)) }
     ensures hidden { IfOk result (λ asked. asked.hidden ≤ count_max) }

@@ -1,6 +1,6 @@
 // The call that audits.
 ghost use Rattle.std.specs.Prelude.{◌≡◌, ◌≤◌, ℕ, List, length, OnOk, IfErr};
-ghost use Rattle.sd_outside.specs.Limits.{count_max};
+ghost use Rattle.sd_outside.specs.Limits.{count_max, json_depth_max};
 ghost use Rattle.claim_tree.specs.Tree.{Tree as SeenTree, depth as depth_of};
 ghost use Rattle.claim_tree.specs.View.{tree_of};
 ghost use Rattle.compact_form.specs.Lowest.{NoneApplies};
@@ -40,7 +40,7 @@ use std::alloc::Global;
 
 // Refusal 80: the order itself is refused.
 fn judge_order(alloc: Global, order: &Order) -> Result<(), AuditError>
-    requires { depth_of (tree_of order.now.payload) ≤ 127 }
+    requires { depth_of (tree_of order.now.payload) ≤ json_depth_max }
     ensures passes { OnOk result (NoneApplies (AppliesToOrder (order_of order.now))) }
     ensures good { OnOk result (IsGoodOrder (order_of order.now)) }
     ensures refused { IfErr result (λ e. OnOrderRefused e (order_of order.now)) }
@@ -152,7 +152,7 @@ fn judge_content(
     requires few { length written.given ≤ count_max }
     requires decoys { asked.now.decoys ≤ count_max }
     requires object { IsPayload (tree_of written.body) }
-    requires payload_depth { depth_of (tree_of written.body) ≤ 127 }
+    requires payload_depth { depth_of (tree_of written.body) ≤ json_depth_max }
     requires values_depth { ValuesShallow written.given }
     ensures audited { OnOk result ((o : SeenOrder) → IsAskedFor o asked.now → IsAuditedFor o (without_alg_of (tree_of written.body)) written.given) }
     ensures differs { IfErr result (λ e. (o : SeenOrder) → IsAskedFor o asked.now → OnPart e (ContentDiffers o (without_alg_of (tree_of written.body)) written.given)) }
@@ -180,7 +180,7 @@ fn judge_token<K: Checker>(
     token: &TokenView<'_>,
     steps: &mut Steps,
 ) -> Result<(), AuditError>
-    requires depth { depth_of (tree_of order.payload) ≤ 127 }
+    requires depth { depth_of (tree_of order.payload) ≤ json_depth_max }
     requires passes { NoneApplies (AppliesToOrder (order_of order)) }
     ensures audited { OnOk result (IsAudited (order_of order) alg (K.good checker.now) token.now) }
     ensures differs { IfErr result (λ e. OnPart e (DiffersIn (order_of order) alg (K.good checker.now) token.now)) }
@@ -206,7 +206,7 @@ pub(crate) fn audit_owned<K: Checker>(
     text: &[u8],
     steps: &mut Steps,
 ) -> Result<(), AuditError>
-    requires depth { depth_of (tree_of order.payload) ≤ 127 }
+    requires depth { depth_of (tree_of order.payload) ≤ json_depth_max }
     ensures passes { OnOk result (PassesAudit (order_of order) alg (K.good checker.now) text.now) }
     ensures refused { IfErr result (IsAuditRefused (order_of order) alg (K.good checker.now) text.now) }
 
@@ -238,7 +238,7 @@ pub fn audit<K: Checker>(
     text: &[u8],
     steps: &mut Steps,
 ) -> Result<(), AuditError>
-    requires depth { depth_of (tree_of order.now.payload) ≤ 127 }
+    requires depth { depth_of (tree_of order.now.payload) ≤ json_depth_max }
     ensures passes { OnOk result (PassesAudit (order_of order.now) alg (K.good checker.now) text.now) }
     ensures refused { IfErr result (IsAuditRefused (order_of order.now) alg (K.good checker.now) text.now) }
 

@@ -1,5 +1,6 @@
 // The third part: what a token shows.
 ghost use Rattle.std.specs.Prelude.{◌≡◌, ◌≤◌, ◌<◌, ◌-◌, ◌^◌, ◌↔◌, length, IfOk, IsTrue};
+ghost use Rattle.sd_outside.specs.Limits.{json_depth_max};
 ghost use Rattle.claim_tree.specs.Tree.{depth as depth_of};
 ghost use Rattle.claim_tree.specs.View.{tree_of};
 ghost use Rattle.marked_tree.specs.View.{marked_of};
@@ -30,7 +31,7 @@ pub(crate) fn shows(
 ) -> Result<bool, NoMemory>
     requires object { IsPayload (tree_of payload) }
     requires bare { without_alg (tree_of payload) ≡ tree_of payload }
-    requires payload_depth { depth_of (tree_of payload) ≤ 127 }
+    requires payload_depth { depth_of (tree_of payload) ≤ json_depth_max }
     requires values_depth { ValuesShallow given }
     requires few { length given < 2 ^ 32 - 1 }
     ensures shows { IfOk result (λ is. IsTrue is ↔ (IsSound (tree_of payload) given × (processed (tree_of payload) given ≡ marked_of claims.now))) }

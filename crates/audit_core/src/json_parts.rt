@@ -1,5 +1,6 @@
 // Parts of a token that carry compact JSON.
 ghost use Rattle.std.specs.Prelude.{◌≡◌, ◌≢◌, ◌≤◌, ◌↔◌, Ok, Err, IfOk, IfSome, IfNone, IsTrue, IsUtf8};
+ghost use Rattle.sd_outside.specs.Limits.{json_depth_max};
 ghost use Rattle.b64url_text.specs.Base64url.{Decodes};
 ghost use Rattle.b64url_text.specs.NotBase64.{IsNotBase64};
 ghost use Rattle.claim_tree.specs.Tree.{depth as depth_of};
@@ -71,7 +72,7 @@ impl JsonPartReader {
     // The tree that a part carries, where the part is the text of its compact JSON.
     pub(crate) fn read(&mut self, alloc: Global, part: &str) -> Result<Option<Tree>, NoMemory>
         ensures some { IfOk result (λ read. IfSome read (λ t. IsWrittenAs part.now (tree_of t))) }
-        ensures depth { IfOk result (λ read. IfSome read (λ t. depth_of (tree_of t) ≤ 127)) }
+        ensures depth { IfOk result (λ read. IfSome read (λ t. depth_of (tree_of t) ≤ json_depth_max)) }
         ensures none { IfOk result (λ read. IfNone read (IsUnwritten part.now)) }
     {
         let Some(json) = decoded(&mut self.room, part)? else {

@@ -1,5 +1,6 @@
 // A run of the audit.
 ghost use Rattle.std.specs.Prelude.{◌≡◌, ◌≤◌, ℕ, List, [], ◌∷◌, None, map, IfErr, IfSome, string_bytes};
+ghost use Rattle.sd_outside.specs.Limits.{json_depth_max};
 ghost use Rattle.sd_outside.specs.Causes.{Rose};
 ghost use Rattle.claim_tree.specs.Tree.{depth};
 ghost use Rattle.claim_tree.specs.View.{tree_of};
@@ -20,7 +21,7 @@ use std::alloc::Global;
 
 // The answer for what an order file says.
 fn audit_for(alloc: Global, asked: IssueFile, token_file: &[u8]) -> Result<String, Stop>
-    requires depth { depth (tree_of asked.order.payload) ≤ 127 }
+    requires depth { depth (tree_of asked.order.payload) ≤ json_depth_max }
     ensures replies { (order_file : List ℕ) → IsOrderFile order_file asked → IsReply (AuditAnswers order_file token_file.now) result }
     ensures read { IfErr result (λ stop. OnUnread stop (λ _. ⊥)) }
 {

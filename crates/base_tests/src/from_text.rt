@@ -1,5 +1,6 @@
 // What several tests read from texts: paths, values, and values with marks.
 ghost use Rattle.std.specs.Prelude.{◌≤◌, length, IfOk};
+ghost use Rattle.sd_outside.specs.Limits.{json_depth_max};
 ghost use Rattle.claim_tree.specs.Tree.{depth};
 ghost use Rattle.claim_tree.specs.View.{tree_of};
 ghost use Rattle.marked_tree.specs.Choice.{IsUnmixed};
@@ -31,14 +32,14 @@ pub(crate) fn paths_of(alloc: Global, pointers: &str) -> Result<PathList, Fail>
 
 // The value of a JSON text.
 pub(crate) fn value(alloc: Global, text: &str) -> Result<Tree, Fail>
-    ensures depth { IfOk result (λ tree. depth (tree_of tree) ≤ 127) }
+    ensures depth { IfOk result (λ tree. depth (tree_of tree) ≤ json_depth_max) }
 {
     Ok(read(alloc, text.as_bytes()).map_err(|_| "not read")?)
 }
 
 // The value of a JSON text with a mark at each of these places.
 pub(crate) fn marked(alloc: Global, text: &str, pointers: &str) -> Result<Marked, Fail>
-    ensures depth { IfOk result (λ marked. depth (strip_of (marked_of marked)) ≤ 127) }
+    ensures depth { IfOk result (λ marked. depth (strip_of (marked_of marked)) ≤ json_depth_max) }
     ensures unmixed { IfOk result (λ marked. IsUnmixed (marked_of marked)) }
 {
     let tree = value(alloc, text)?;

@@ -1,4 +1,5 @@
 ghost use Rattle.std.specs.Prelude.{◌≤◌, IfOk};
+ghost use Rattle.sd_outside.specs.Limits.{json_depth_max};
 ghost use Rattle.claim_tree.specs.Tree.{depth};
 ghost use Rattle.marked_tree.specs.Marked.{strip as strip_of};
 ghost use Rattle.marked_tree.specs.View.{marked_of};
@@ -25,7 +26,7 @@ fn chosen(alloc: Global, kept: [u32; 4]) -> Result<ChosenSet, Fail> {
 
 // The tree in which just these marks are kept.
 fn pruned(alloc: Global, kept: [u32; 4]) -> Result<Marked, Fail>
-    ensures shallow { IfOk result (λ marked. depth (strip_of (marked_of marked)) ≤ 127) }
+    ensures shallow { IfOk result (λ marked. depth (strip_of (marked_of marked)) ≤ json_depth_max) }
 {
     let chosen = chosen(alloc, kept)?;
     let marked = marked(alloc, TREE, PLACES)?;
@@ -56,7 +57,7 @@ fn what_is_not_kept_is_left_out(rt: HostRuntime) -> Result<(), Fail> {
 
 // The pointer to the place of a mark.
 fn place(alloc: Global, marked: &Marked, mark: u32) -> Result<Option<TextBox>, Fail>
-    requires { depth (strip_of (marked_of marked.now)) ≤ 127 }
+    requires { depth (strip_of (marked_of marked.now)) ≤ json_depth_max }
 {
     match place_of(alloc, marked, mark)? {
         Some(path) => Ok(Some(print_path(alloc, &path)?)),

@@ -1,4 +1,5 @@
 ghost use Rattle.std.specs.Prelude.{◌≤◌, ◌<◌, ◌-◌, ◌^◌, length, IfOk, IsTrue};
+ghost use Rattle.sd_outside.specs.Limits.{json_depth_max};
 ghost use Rattle.claim_tree.specs.Tree.{depth};
 ghost use Rattle.claim_tree.specs.View.{tree_of};
 ghost use Rattle.marked_tree.specs.Marked.{strip as strip_of};
@@ -29,7 +30,7 @@ fn is_payload(tree: &Tree) -> bool
 
 fn payload(alloc: Global, text: &str) -> Result<Tree, Fail>
     ensures object { IfOk result (λ t. IsPayload (tree_of t)) }
-    ensures depth { IfOk result (λ t. depth (tree_of t) ≤ 127) }
+    ensures depth { IfOk result (λ t. depth (tree_of t) ≤ json_depth_max) }
 {
     let tree = value(alloc, text)?;
     if !is_payload(&tree) {
@@ -90,7 +91,7 @@ fn given(alloc: Global, text: &str) -> Result<GivenList, Fail>
 
 // Adds the pointers to the places of the marks below a number.
 fn push_places(alloc: Global, marks: u32, marked: &Marked, text: &mut String) -> Result<(), Fail>
-    requires depth { depth (strip_of (marked_of marked.now)) ≤ 127 }
+    requires depth { depth (strip_of (marked_of marked.now)) ≤ json_depth_max }
 {
     for mark in 0..marks {
         if let Some(path) = place_of(alloc, marked, mark)? {
@@ -104,7 +105,7 @@ fn push_places(alloc: Global, marks: u32, marked: &Marked, text: &mut String) ->
 
 // The JSON text without marks, and the pointers to the places of the marks below a number.
 fn shown(alloc: Global, marks: u32, marked: &Marked) -> Result<String, Fail>
-    requires depth { depth (strip_of (marked_of marked.now)) ≤ 127 }
+    requires depth { depth (strip_of (marked_of marked.now)) ≤ json_depth_max }
 {
     let tree = strip(alloc, marked)?;
     let json = write(alloc, &tree)?;
@@ -194,7 +195,7 @@ fn digests_may_lead_in_a_circle(rt: HostRuntime) -> Result<(), Fail> {
 fn pruned(alloc: Global, text: &str, given: &GivenList) -> Result<Marked, Fail>
     requires depths { ValuesShallow given.now }
     requires few { length given.now < 2 ^ 32 - 1 }
-    ensures depth { IfOk result (λ marked. depth (strip_of (marked_of marked)) ≤ 127) }
+    ensures depth { IfOk result (λ marked. depth (strip_of (marked_of marked)) ≤ json_depth_max) }
 {
     let payload = payload(alloc, text)?;
     let marked = process(alloc, &payload, given, &mut Steps::new()).map_err(|_| "refused")?;

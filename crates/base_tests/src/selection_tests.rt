@@ -1,4 +1,5 @@
 ghost use Rattle.std.specs.Prelude.{◌≡◌, ◌<◌, ◌≤◌, ℕ, true, Some, Err, length, IfOk};
+ghost use Rattle.sd_outside.specs.Limits.{json_depth_max};
 ghost use Rattle.claim_tree.specs.Tree.{depth};
 ghost use Rattle.marked_tree.specs.Choice.{IsUnmixed, StandOnce};
 ghost use Rattle.marked_tree.specs.Marked.{strip as strip_of};
@@ -84,7 +85,7 @@ fn chosen(alloc: Global, marked: &Marked, want: &str) -> Result<ChosenSet, Fail>
 
 // What a rule says that shows nothing at or below some places.
 fn asked(alloc: Global, marked: &Marked, want: &str, never: &PathList) -> Result<String, Fail>
-    requires depth { depth (strip_of (marked_of marked.now)) ≤ 127 }
+    requires depth { depth (strip_of (marked_of marked.now)) ≤ json_depth_max }
     requires unmixed { IsUnmixed (marked_of marked.now) }
 {
     let chosen = chosen(alloc, marked, want)?;
@@ -140,7 +141,7 @@ fn each_chosen_place_is_asked_for(rt: HostRuntime) -> Result<(), Fail> {
 
 // Asks a rule that allows places of one step at most: what it says of a place is known to who keeps it.
 fn judge_steps(alloc: Global, marked: &Marked, chosen: &ChosenSet) -> Result<(), AllowError>
-    requires depth { depth (strip_of (marked_of marked.now)) ≤ 127 }
+    requires depth { depth (strip_of (marked_of marked.now)) ≤ json_depth_max }
     requires once { StandOnce (marked_of marked.now) (has chosen.now) }
     ensures allowed { IfOk result (λ _. (i : ℕ) (at : Steps) → has chosen.now i ≡ true → mark_path (marked_of marked.now) i ≡ Some at → length at ≤ 1) }
     ensures refused { (i : ℕ) → result ≡ Err (Refused i) → (at : Steps) × (mark_path (marked_of marked.now) i ≡ Some at) × (1 < length at) }

@@ -1,5 +1,6 @@
 // Copies of trees.
 ghost use Rattle.std.specs.Prelude.{◌≡◌, ◌≤◌, IfOk};
+ghost use Rattle.sd_outside.specs.Limits.{json_depth_max};
 ghost use Rattle.claim_tree.specs.Tree.{depth, elements_depth, members_depth};
 ghost use Rattle.claim_tree.specs.View.{tree_of};
 
@@ -10,7 +11,7 @@ use std::alloc::Global;
 /// An equal tree, with texts of its own.
 #[cycle(copy)]
 pub fn copy(alloc: Global, tree: &Tree) -> Result<Tree, NoMemory>
-    requires { depth (tree_of tree.now) ≤ 127 }
+    requires { depth (tree_of tree.now) ≤ json_depth_max }
     ensures ok { IfOk result (λ copy. tree_of copy ≡ tree_of tree.now) }
 {
     match tree {

@@ -1,5 +1,6 @@
 // How deep arrays and objects nest.
 ghost use Rattle.std.specs.Prelude.{◌≡◌, ◌≤◌};
+ghost use Rattle.sd_outside.specs.Limits.{json_depth_max};
 ghost use Rattle.claim_tree.specs.Tree.{depth as depth_of, elements_depth, members_depth};
 ghost use Rattle.claim_tree.specs.View.{tree_of};
 
@@ -8,7 +9,7 @@ use crate::{Tree, TreeList, TreeMap};
 /// How deep a tree nests: 0 for a leaf, 1 for an empty array or object, else 1 more than the deepest inside.
 #[cycle(depth)]
 pub fn depth(tree: &Tree) -> usize
-    requires { depth_of (tree_of tree.now) ≤ 127 }
+    requires { depth_of (tree_of tree.now) ≤ json_depth_max }
     ensures { result ≡ depth_of (tree_of tree.now) }
 {
     match tree {

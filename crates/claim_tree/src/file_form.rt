@@ -1,5 +1,6 @@
 // What the files that a command reads have in common.
 ghost use Rattle.std.specs.Prelude.{◌≡◌, ◌≢◌, ◌≤◌, List, IfOk, IfErr, IfSome, IfNone};
+ghost use Rattle.sd_outside.specs.Limits.{json_depth_max};
 ghost use Rattle.claim_tree.specs.Tree.{Text, object, IsOrdered, depth as depth_of};
 ghost use Rattle.claim_tree.specs.View.{tree_of};
 ghost use Rattle.claim_tree.specs.ListViews.{elements_of};
@@ -38,7 +39,7 @@ pub fn read_members(
 ) -> Result<TreeMap, FileFault>
     ensures ok { IfOk result (HasMembers most fields.now bytes.now) }
     ensures ordered { IfOk result (λ ms. IsOrdered (object ms)) }
-    ensures depth { IfOk result (λ ms. depth_of (object ms) ≤ 127) }
+    ensures depth { IfOk result (λ ms. depth_of (object ms) ≤ json_depth_max) }
     ensures refused { IfErr result (HasNoMembers most fields.now bytes.now) }
 {
     if bytes.len() > most {

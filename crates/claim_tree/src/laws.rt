@@ -1,6 +1,7 @@
 //! What the definitions say together. Each law holds for every value.
 ghost use Rattle.std.specs.Prelude.{◌≡◌, ◌≢◌, ◌≤◌, ◌↔◌, ℕ, List, Some};
 ghost use Rattle.serde_json.specs.Read.{read as value_of_text};
+ghost use Rattle.sd_outside.specs.Limits.{json_depth_max};
 ghost use Rattle.claim_tree.specs.Tree.{Tree, IsRanged, IsOrdered, depth};
 ghost use Rattle.claim_tree.specs.JsonText.{data_of, json_text, Reads};
 ghost use Rattle.claim_tree.specs.Path.{pointer_text};
@@ -8,7 +9,7 @@ ghost use Rattle.claim_tree.specs.PointerRefusals.{IsNoPointer};
 
 /// The compact JSON text of a tree reads to this tree.
 pub fn read_of_written()
-    ensures { (t : Tree) → IsRanged t → IsOrdered t → depth t ≤ 127 → value_of_text (json_text t) ≡ Some (data_of t) }
+    ensures { (t : Tree) → IsRanged t → IsOrdered t → depth t ≤ json_depth_max → value_of_text (json_text t) ≡ Some (data_of t) }
 {}
 
 /// A text reads to at most one tree.

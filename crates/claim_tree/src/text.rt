@@ -2,6 +2,7 @@
 ghost use Rattle.std.specs.Prelude.{◌≡◌, ◌≤◌, [], true, Some, map, option_map, IfOk, IfErr, IsUtf8};
 ghost use Rattle.json.specs.Print.{print};
 ghost use Rattle.serde_json.specs.Read.{read as value_of_text};
+ghost use Rattle.sd_outside.specs.Limits.{json_depth_max};
 ghost use Rattle.claim_tree.specs.Tree.{IsOrdered, depth as depth_of, array};
 ghost use Rattle.claim_tree.specs.View.{tree_of};
 ghost use Rattle.claim_tree.specs.JsonText.{Reads, data_of, json_text};
@@ -59,7 +60,7 @@ impl JsonReader {
     pub fn read(&mut self, alloc: Global, bytes: &[u8]) -> Result<Tree, ReadError>
         ensures ok { IfOk result (λ t. Reads bytes.now (tree_of t)) }
         ensures ordered { IfOk result (λ t. IsOrdered (tree_of t)) }
-        ensures depth { IfOk result (λ t. depth_of (tree_of t) ≤ 127) }
+        ensures depth { IfOk result (λ t. depth_of (tree_of t) ≤ json_depth_max) }
         ensures unread { IfErr result (IsReadRefused bytes.now) }
     {
         let Ok(text) = str::from_utf8(bytes) else {
@@ -85,7 +86,7 @@ impl JsonReader {
     ) -> Result<Tree, ReadError>
         ensures ok { IfOk result (λ t. ReadsKept (map (λ n. n.now) names.now) whole.now bytes.now (tree_of t)) }
         ensures ordered { IfOk result (λ t. IsOrdered (tree_of t)) }
-        ensures depth { IfOk result (λ t. depth_of (tree_of t) ≤ 127) }
+        ensures depth { IfOk result (λ t. depth_of (tree_of t) ≤ json_depth_max) }
         ensures unread { IfErr result (IsReadRefused bytes.now) }
     {
         let Ok(text) = str::from_utf8(bytes) else {
@@ -101,7 +102,7 @@ impl JsonReader {
     pub fn read_tail(&mut self, alloc: Global, bytes: &[u8]) -> Result<TailOrTree, ReadError>
         ensures ok { IfOk result (ReadsTail bytes.now) }
         ensures ordered { IfOk result (λ found. IsOrdered (kept_tree found)) }
-        ensures depth { IfOk result (λ found. depth_of (kept_tree found) ≤ 127) }
+        ensures depth { IfOk result (λ found. depth_of (kept_tree found) ≤ json_depth_max) }
         ensures unread { IfErr result (IsReadRefused bytes.now) }
     {
         let Ok(text) = str::from_utf8(bytes) else {
@@ -125,7 +126,7 @@ impl JsonReader {
 pub fn read(alloc: Global, bytes: &[u8]) -> Result<Tree, ReadError>
     ensures ok { IfOk result (λ t. Reads bytes.now (tree_of t)) }
     ensures ordered { IfOk result (λ t. IsOrdered (tree_of t)) }
-    ensures depth { IfOk result (λ t. depth_of (tree_of t) ≤ 127) }
+    ensures depth { IfOk result (λ t. depth_of (tree_of t) ≤ json_depth_max) }
     ensures unread { IfErr result (IsReadRefused bytes.now) }
 {
     JsonReader::new(alloc).read(alloc, bytes)
@@ -188,7 +189,7 @@ fn written_text(out: Writer) -> TextBox
 /// The compact JSON text of a tree: no blanks, the members ascending by the bytes of their names.
 pub fn write(alloc: Global, tree: &Tree) -> Result<TextBox, NoMemory>
     ensures ok { IfOk result (λ text. text ≡ json_text (tree_of tree.now)) }
-    ensures back { depth_of (tree_of tree.now) ≤ 127 → IfOk result (λ text. Reads text (tree_of tree.now)) }
+    ensures back { depth_of (tree_of tree.now) ≤ json_depth_max → IfOk result (λ text. Reads text (tree_of tree.now)) }
 {
     tree.invariant();
     let mut out = new_writer(alloc)?;

@@ -1,4 +1,5 @@
 ghost use Rattle.std.specs.Prelude.{◌≡◌, ◌≤◌, length, take, IfOk, IfErr, IfSome, IfNone, Option, option_map};
+ghost use Rattle.sd_outside.specs.Limits.{json_depth_max};
 ghost use Rattle.b64url_text.specs.Base64url.{Decodes};
 ghost use Rattle.claim_tree.specs.ListTails.{ReadsTail, kept_tree, tail_elements};
 ghost use Rattle.claim_tree.specs.JsonText.{Reads};
@@ -105,7 +106,7 @@ fn given_by(tail: ListTail) -> Option<Disclosed>
 
 /// What a disclosure gives whose JSON reads to this, which is moved out of it. None where it is no disclosure.
 pub fn disclosed_by(found: TailOrTree) -> Option<Disclosed>
-    requires depth { depth (kept_tree found) ≤ 127 }
+    requires depth { depth (kept_tree found) ≤ json_depth_max }
     ensures given { IfSome result (λ d. (json : Text) → ReadsTail json found → (salt : TreeSpec) × Reads json (array_of salt d.name (tree_of d.value))) }
     ensures depth { IfSome result (λ d. depth (tree_of d.value) ≤ 126) }
     ensures other { IfNone result ((json : Text) → ReadsTail json found → (t : TreeSpec) × Reads json t × IsNoArray t) }

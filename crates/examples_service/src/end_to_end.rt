@@ -1,5 +1,6 @@
 // A credential from its issuer over its holder to a verifier.
 ghost use Rattle.std.specs.Prelude.{◌≡◌, ◌≢◌, ◌≤◌, IfOk, IfErr};
+ghost use Rattle.sd_outside.specs.Limits.{json_depth_max};
 ghost use Rattle.claim_tree.specs.Tree.{depth};
 ghost use Rattle.claim_tree.specs.View.{tree_of};
 ghost use Rattle.compact_form.specs.Lowest.{IsLowest, NoneApplies};
@@ -48,7 +49,7 @@ pub struct Holder<F: Fn(&Path) -> bool> {
 
 // The compact text of what is issued.
 fn issued(alloc: Global, issuer: Issuer) -> Result<TextBox, IssueError>
-    requires depth { depth (tree_of issuer.order.payload) ≤ 127 }
+    requires depth { depth (tree_of issuer.order.payload) ≤ json_depth_max }
     ensures issued { IfOk result (IsIssuedText issuer.seed (order_of issuer.order) issuer.key) }
     ensures refused { IfErr result
         (IsNotIssued (maker_of issuer.seed) (order_of issuer.order) issuer.key.alg (IsGood issuer.key)) }
@@ -115,7 +116,7 @@ pub fn issue_present_verify<F: Fn(&Path) -> bool>(
     policy: &Policy,
     verified_at: u64,
 ) -> Result<Tree, IssueError>
-    requires depth { depth (tree_of issuer.order.payload) ≤ 127 }
+    requires depth { depth (tree_of issuer.order.payload) ≤ json_depth_max }
     requires callable { F.IsAlwaysCallable holder.now.consent }
     requires short { AreShort holder.now.ask.binding }
     requires suits { Suits F.Fn holder.now.consent (order_of issuer.order) issuer.key holder.now.ask holder_key

@@ -1,7 +1,7 @@
 // The token of a payload, some places of which are hidden.
 ghost use Rattle.std.specs.Prelude.{◌≡◌, ◌≤◌, length, IfOk, IfErr, IsErrOf};
 ghost use Rattle.sd_outside.specs.Causes.{Rose};
-ghost use Rattle.sd_outside.specs.Limits.{issue_max};
+ghost use Rattle.sd_outside.specs.Limits.{issue_max, json_depth_max};
 ghost use Rattle.claim_tree.specs.Tree.{depth};
 ghost use Rattle.claim_tree.specs.View.{tree_of};
 ghost use Rattle.compact_form.specs.Lowest.{NoneApplies};
@@ -31,7 +31,7 @@ pub fn token_for<S: Signer>(
     seed: &[u8; 32],
     signer: &mut S,
 ) -> Result<TextBox, IssueError>
-    requires depth { depth (tree_of payload) ≤ 127 }
+    requires depth { depth (tree_of payload) ≤ json_depth_max }
     ensures token { IfOk result (IsTokenFor (maker_of seed.now)
         (order_for (tree_of payload) hide) (S.alg_of signer.old) (S.good signer.old)) }
     ensures passes { IfOk result (λ _. NoneApplies (AppliesToOrder (order_for (tree_of payload) hide))) }

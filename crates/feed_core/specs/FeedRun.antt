@@ -1,6 +1,7 @@
 -- What a run of the feed does to the outside, by the status with which it ends.
 use Rattle.std.specs.Prelude.{◌≡◌, ◌<◌, ◌≤◌, ℕ, List, [], ◌∷◌, Option, None, Some, codes}
 use Rattle.std.specs.Fmt.{decimal}
+use Rattle.sd_outside.specs.Limits.{feed_max}
 use Rattle.sd_outside.specs.Causes.{Rose}
 use Rattle.sd_outside.specs.declared.status.Status.{Status}
 use Rattle.sd_outside.specs.declared.status.Status.TheVariants.{Done, Refused, Usage, Unread, Unwritten, Memory, Unreadable}
@@ -12,7 +13,7 @@ use Rattle.cli_parts.specs.Runs.{IsFetched, RunKeeps}
 use Rattle.cli_parts.specs.Telling.{TellsFileFault}
 use Rattle.verifier_core.specs.PolicyFile.{IsPolicyFile, IsPolicyFileRefused}
 use Rattle.verifier_core.specs.declared.policy.Policy.{Policy}
-use Rattle.feed_core.specs.FeedSource.{Input, feed_max, FedAll, FedLong, FedPart, FedFront}
+use Rattle.feed_core.specs.FeedSource.{Input, FedAll, FedLong, FedPart, FedFront}
 
 -- all that a run of the feed reaches, at one moment
 pub record FeedOutside : Type 0 where

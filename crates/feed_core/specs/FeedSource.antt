@@ -8,10 +8,6 @@ use Rattle.feed_core.specs.Cut.{IsCut, AreLines}
 use Rattle.feed_core.specs.FeedVerdict.{TellsVerdicts}
 use Rattle.feed_core.specs.Feed.{TellsFront, end_line}
 
--- the most bytes that a feed may be asked to take
-abbrev pub feed_max : ℕ
-feed_max = 1073741824
-
 -- a source at one moment
 pub record Input : Type 0 where
   pub left : Option (List ℕ)

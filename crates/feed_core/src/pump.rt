@@ -1,11 +1,12 @@
 // All that a source gives, through a feed.
 ghost use Rattle.std.specs.Prelude.{◌≡◌, ◌≢◌, ◌<◌, ◌≤◌, ◌+◌, ◌^◌, ℕ, List, [], ◌∷◌, false, length, take, OnOk, OnErr, IfOk, IsErrOf};
 ghost use Rattle.std.specs.Io.KnownBytes.{Appends, IsAtEnd};
+ghost use Rattle.sd_outside.specs.Limits.{feed_max};
 ghost use Rattle.sd_outside.specs.Causes.{Rose};
 ghost use Rattle.feed_core.specs.Cut.{last_line};
 ghost use Rattle.feed_core.specs.Feed.{Takes, TellsFront, end_line};
 ghost use Rattle.feed_core.specs.FeedCalls.{new_feed, TakesFront, IsEnded, count_at_end};
-ghost use Rattle.feed_core.specs.FeedSource.{input, feed_max, Gave, FedAll, FedLong, FedPart, FedFront};
+ghost use Rattle.feed_core.specs.FeedSource.{input, Gave, FedAll, FedLong, FedPart, FedFront};
 
 use crate::{Feed, FeedError};
 use sd_outside::{Failed, Sink, Source};

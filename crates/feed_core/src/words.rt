@@ -1,7 +1,7 @@
 // The words of a feed.
 ghost use Rattle.std.specs.Prelude.{◌≡◌, ◌≢◌, ◌<◌, ◌≤◌, ℕ, List, [], ◌∷◌, None, map, IfSome, string_bytes};
 ghost use Rattle.std.specs.Fmt.{decimal};
-ghost use Rattle.feed_core.specs.FeedSource.{feed_max};
+ghost use Rattle.sd_outside.specs.Limits.{feed_max};
 ghost use Rattle.feed_core.specs.FeedRun.{IsFeed};
 
 use claim_tree::position;

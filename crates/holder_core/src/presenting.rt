@@ -5,7 +5,7 @@ ghost use Rattle.claim_tree.specs.Tree.{depth as depth_of};
 ghost use Rattle.claim_tree.specs.View.{tree_of};
 ghost use Rattle.compact_form.specs.Compact.{AreWords, HasWords, compact as compact_text, hashed as hashed_of};
 ghost use Rattle.compact_form.specs.Lowest.{IsLowest};
-ghost use Rattle.sd_outside.specs.Limits.{compact_max};
+ghost use Rattle.sd_outside.specs.Limits.{compact_max, json_depth_max};
 ghost use Rattle.hmac_sign.specs.Agreement.{Agree};
 ghost use Rattle.hmac_sign.specs.declared.alg.Alg.{Alg};
 ghost use Rattle.json_form.specs.Token.{IsToken};
@@ -256,7 +256,7 @@ fn choose_allowed<F: Fn(&Path) -> bool>(
     consent: &Consent<F>,
 ) -> Result<ChosenSet, PresentError>
     requires callable { F.IsAlwaysCallable consent.now }
-    requires depth { depth_of (strip (marked_of marked.now)) ≤ 127 }
+    requires depth { depth_of (strip (marked_of marked.now)) ≤ json_depth_max }
     requires unmixed { IsUnmixed (marked_of marked.now) }
     ensures chosen { IfOk result (IsChosen F.Fn consent.now (marked_of marked.now) want.now) }
     ensures refused { IfErr result (IsUnchosen F.Fn consent.now (marked_of marked.now) want.now) }
@@ -280,7 +280,7 @@ fn check_key(
     marked: &Marked,
     chosen: &ChosenSet,
 ) -> Result<(), PresentError>
-    requires depth { depth_of (strip (marked_of marked.now)) ≤ 127 }
+    requires depth { depth_of (strip (marked_of marked.now)) ≤ json_depth_max }
     ensures named { OnOk result (NamesKey binding.now (strip (pruned_by (marked_of marked.now) (has chosen.now)))) }
     ensures refused { IfErr result (IsOtherKey binding.now (strip (pruned_by (marked_of marked.now) (has chosen.now)))) }
 {

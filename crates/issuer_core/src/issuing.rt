@@ -4,7 +4,7 @@ ghost use Rattle.std.specs.List.{AllByRecursion};
 ghost use Rattle.sd_outside.specs.Causes.{Rose};
 ghost use Rattle.claim_tree.specs.Tree.{depth as depth_of};
 ghost use Rattle.claim_tree.specs.View.{tree_of};
-ghost use Rattle.sd_outside.specs.Limits.{count_max, issue_max};
+ghost use Rattle.sd_outside.specs.Limits.{count_max, issue_max, json_depth_max};
 ghost use Rattle.compact_form.specs.Compact.{compact, AreWords};
 ghost use Rattle.hmac_sign.specs.Agreement.{Agree};
 ghost use Rattle.issuer_core.specs.declared.errors.IssueError.{IssueError};
@@ -42,7 +42,7 @@ pub fn issue<S: Signer>(
     seed: &[u8; 32],
     signer: &mut S,
 ) -> Result<Parts, IssueError>
-    requires depth { depth_of (tree_of order.now.payload) ≤ 127 }
+    requires depth { depth_of (tree_of order.now.payload) ≤ json_depth_max }
     ensures issued { IfOk result (IsIssued (maker_of seed.now) (order_of order.now) (S.alg_of signer.old) (S.good signer.old)) }
     ensures laid { IfOk result (IsLaidOut (maker_of seed.now) (order_of order.now) (S.alg_of signer.old) (S.good signer.old)) }
     ensures passes { IfOk result (λ _. NoneApplies (AppliesToOrder (order_of order.now))) }
@@ -70,7 +70,7 @@ pub fn issue_owned<S: Signer>(
     seed: &[u8; 32],
     signer: &mut S,
 ) -> Result<Parts, IssueError>
-    requires depth { depth_of (tree_of order.payload) ≤ 127 }
+    requires depth { depth_of (tree_of order.payload) ≤ json_depth_max }
     ensures issued { IfOk result (IsIssued (maker_of seed.now) (order_of order) (S.alg_of signer.old) (S.good signer.old)) }
     ensures laid { IfOk result (IsLaidOut (maker_of seed.now) (order_of order) (S.alg_of signer.old) (S.good signer.old)) }
     ensures passes { IfOk result (λ _. NoneApplies (AppliesToOrder (order_of order))) }

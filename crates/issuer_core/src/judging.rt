@@ -3,7 +3,7 @@ ghost use Rattle.std.specs.Prelude.{◌≡◌, ◌≤◌, ◌<◌, ◌↔◌, le
 ghost use Rattle.std.specs.Str.{IsUtf8};
 ghost use Rattle.std.specs.List.{position_from, list_any};
 ghost use Rattle.std.specs.Set.{distinct_count};
-ghost use Rattle.sd_outside.specs.Limits.{count_max};
+ghost use Rattle.sd_outside.specs.Limits.{count_max, json_depth_max};
 ghost use Rattle.claim_tree.specs.Tree.{depth as depth_of, IsOrdered};
 ghost use Rattle.claim_tree.specs.Path.{tree_at};
 ghost use Rattle.claim_tree.specs.View.{tree_of};
@@ -147,7 +147,7 @@ fn are_too_many(decoys: &DecoyList) -> bool
 
 // The refusals 51 to 53: what the payload may be.
 fn judge_payload(alloc: Global, order: &Order) -> Result<(), IssueError>
-    requires { depth_of (tree_of order.now.payload) ≤ 127 }
+    requires { depth_of (tree_of order.now.payload) ≤ json_depth_max }
     ensures passes { OnOk result (PassesBelow (refusal_number Refusal.RootMarked) (order_of order.now)) }
     ensures ordered { OnOk result (IsOrdered (tree_of order.now.payload)) }
     ensures held { OnOk result (good.FitsMachine (tree_of order.now.payload)) }
@@ -199,7 +199,7 @@ fn spells_some(text: &Option<TextBox>)
 ///
 /// It searches the paths one by one, and costs no more than that and one walk of the payload.
 pub fn judge(alloc: Global, order: &Order) -> Result<(), IssueError>
-    requires { depth_of (tree_of order.now.payload) ≤ 127 }
+    requires { depth_of (tree_of order.now.payload) ≤ json_depth_max }
     ensures passes { OnOk result (NoneApplies (AppliesToOrder (order_of order.now))) }
     ensures good { OnOk result (IsGoodOrder (order_of order.now)) }
     ensures held { OnOk result (good.FitsMachine (tree_of order.now.payload)) }

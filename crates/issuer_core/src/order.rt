@@ -1,6 +1,6 @@
 // What an issuer is asked for.
 ghost use Rattle.std.specs.Prelude.{◌≡◌, ◌≤◌, length, IfOk};
-ghost use Rattle.sd_outside.specs.Limits.{count_max};
+ghost use Rattle.sd_outside.specs.Limits.{count_max, json_depth_max};
 ghost use Rattle.claim_tree.specs.Tree.{depth};
 ghost use Rattle.claim_tree.specs.View.{tree_of};
 ghost use Rattle.issuer_core.specs.Decoys.{decoy_paths};
@@ -71,7 +71,7 @@ pub struct Order {
 impl Order {
     /// A copy of the order.
     pub fn copy(&self, alloc: Global) -> Result<Order, NoMemory>
-        requires { depth (tree_of self.now.payload) ≤ 127 }
+        requires { depth (tree_of self.now.payload) ≤ json_depth_max }
         ensures { IfOk result (λ copy. order_of copy ≡ order_of self.now) }
     {
         let kid = copy_text(alloc, &self.kid)?;

@@ -5,6 +5,7 @@ ghost use Rattle.claim_tree.specs.View.{tree_of};
 ghost use Rattle.digest_sites.specs.Reserved.{sd_name};
 ghost use Rattle.rebuild_core.specs.Payload.{alg_name};
 ghost use Rattle.std.specs.Str.{IsUtf8};
+ghost use Rattle.sd_outside.specs.Limits.{json_depth_max};
 ghost use Rattle.issuer_core.specs.GoodOrder.{FitsMachine};
 ghost use Rattle.issuer_core.specs.ReservedPaths as spec;
 ghost use Rattle.issuer_core.specs.ReservedPaths.{own_reserved_path, reserved_paths, reserved_elements};
@@ -35,7 +36,7 @@ pub(crate) fn spells(text: &TextBox)
 
 // The path of the first member with a reserved name. Where there is none, the whole tree was walked.
 pub(crate) fn first_reserved(alloc: Global, tree: &Tree) -> Result<Option<Path>, NoMemory>
-    requires { depth (tree_of tree.now) ≤ 127 }
+    requires { depth (tree_of tree.now) ≤ json_depth_max }
     ensures first { IfOk result (λ path. path ≡ slice_get (reserved_paths (tree_of tree.now)) 0) }
     ensures held { IfOk result (λ path. IfNone path (FitsMachine (tree_of tree.now))) }
 {
@@ -48,7 +49,7 @@ pub(crate) fn first_reserved(alloc: Global, tree: &Tree) -> Result<Option<Path>,
 // The steps to the first member with a reserved name, from the last to the first.
 #[cycle(reserved)]
 fn find(alloc: Global, tree: &Tree) -> Result<Option<Vec<TextBox>>, NoMemory>
-    requires { depth (tree_of tree.now) ≤ 127 }
+    requires { depth (tree_of tree.now) ≤ json_depth_max }
     ensures first { IfOk result (λ steps. option_map (λ s. reverse s.items) steps ≡ slice_get (reserved_paths (tree_of tree.now)) 0) }
     ensures held { IfOk result (λ steps. IfNone steps (FitsMachine (tree_of tree.now))) }
 {
@@ -112,7 +113,7 @@ fn find_in_members(alloc: Global, trees: &TreeMap) -> Result<Option<Vec<TextBox>
 // The steps behind the name of a member, where it is reserved or a name inside it is.
 #[cycle(reserved)]
 fn find_at(alloc: Global, name: &TextBox, tree: &Tree) -> Result<Option<Vec<TextBox>>, NoMemory>
-    requires { depth (tree_of tree.now) ≤ 127 }
+    requires { depth (tree_of tree.now) ≤ json_depth_max }
     ensures first { IfOk result (λ steps. option_map (λ s. name.now ∷ reverse s.items) steps ≡ slice_get (own_reserved_path name.now ++ map (λ p. name.now ∷ p) (reserved_paths (tree_of tree.now))) 0) }
     ensures name { IfOk result (λ steps. IfNone steps (IsUtf8 name.now)) }
     ensures held { IfOk result (λ steps. IfNone steps (FitsMachine (tree_of tree.now))) }

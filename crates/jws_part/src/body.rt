@@ -1,5 +1,6 @@
 // Payloads, RFC 7515 section 5 and RFC 7519 section 4.
 ghost use Rattle.std.specs.Prelude.{◌≡◌, ◌≤◌, IfOk, IsErrOf};
+ghost use Rattle.sd_outside.specs.Limits.{json_depth_max};
 ghost use Rattle.b64url_text.specs.Base64url.{b64, Decodes};
 ghost use Rattle.claim_tree.specs.Tree.{object, IsOrdered, depth as depth_of};
 ghost use Rattle.claim_tree.specs.View.{tree_of};
@@ -64,7 +65,7 @@ pub(crate) fn read_object(
 ) -> Result<TreeMap, BodyError>
     ensures ok { IfOk result (λ ms. Carries part.now (object ms)) }
     ensures ordered { IfOk result (λ ms. IsOrdered (object ms)) }
-    ensures depth { IfOk result (λ ms. depth_of (object ms) ≤ 127) }
+    ensures depth { IfOk result (λ ms. depth_of (object ms) ≤ json_depth_max) }
     ensures unreadable { IsErrOf result BodyError.Unreadable → IsNoObject part.now }
 {
     let bytes = decode(alloc, part.as_bytes())?;
@@ -78,7 +79,7 @@ pub(crate) fn read_object(
 pub fn read_body(alloc: Global, payload: &str) -> Result<Tree, BodyError>
     ensures ok { IfOk result (λ t. IsBody payload.now (tree_of t)) }
     ensures ordered { IfOk result (λ t. IsOrdered (tree_of t)) }
-    ensures depth { IfOk result (λ t. depth_of (tree_of t) ≤ 127) }
+    ensures depth { IfOk result (λ t. depth_of (tree_of t) ≤ json_depth_max) }
     ensures unreadable { IsErrOf result BodyError.Unreadable → IsNoObject payload.now }
 {
     read_body_with(alloc, &mut JsonReader::new(alloc), payload)
@@ -92,7 +93,7 @@ pub fn read_body_with(
 ) -> Result<Tree, BodyError>
     ensures ok { IfOk result (λ t. IsBody payload.now (tree_of t)) }
     ensures ordered { IfOk result (λ t. IsOrdered (tree_of t)) }
-    ensures depth { IfOk result (λ t. depth_of (tree_of t) ≤ 127) }
+    ensures depth { IfOk result (λ t. depth_of (tree_of t) ≤ json_depth_max) }
     ensures unreadable { IsErrOf result BodyError.Unreadable → IsNoObject payload.now }
 {
     let members = read_object(alloc, reader, payload)?;
@@ -109,7 +110,7 @@ fn part_of(alloc: Global, text: &str) -> Result<TextBox, NoMemory>
 /// The payload of a tree: base64url of its compact JSON text.
 pub fn write_body(alloc: Global, tree: &Tree) -> Result<TextBox, NoMemory>
     ensures ok { IfOk result (λ text. text ≡ b64 (json_text (tree_of tree.now))) }
-    ensures back { depth_of (tree_of tree.now) ≤ 127 → IfOk result (λ text. Carries text (tree_of tree.now)) }
+    ensures back { depth_of (tree_of tree.now) ≤ json_depth_max → IfOk result (λ text. Carries text (tree_of tree.now)) }
 {
     let text = write(alloc, tree)?;
     part_of(alloc, text.as_str())

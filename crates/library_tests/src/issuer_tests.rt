@@ -1,4 +1,5 @@
 ghost use Rattle.std.specs.Prelude.{◌≤◌, IfOk};
+ghost use Rattle.sd_outside.specs.Limits.{json_depth_max};
 ghost use Rattle.claim_tree.specs.Tree.{depth};
 ghost use Rattle.claim_tree.specs.View.{tree_of};
 
@@ -39,7 +40,7 @@ fn the_first_clash_is_named_by_its_places(rt: HostRuntime) -> Result<(), Fail> {
 }
 
 fn payload(alloc: Global) -> Result<Tree, Fail>
-    ensures shallow { IfOk result (λ tree. depth (tree_of tree) ≤ 127) }
+    ensures shallow { IfOk result (λ tree. depth (tree_of tree) ≤ json_depth_max) }
 {
     Ok(read(alloc, br#"{"a":1,"b":2}"#).map_err(|_| "not read")?)
 }
@@ -62,7 +63,7 @@ fn decoys(alloc: Global, count: u32) -> Result<DecoyList, Fail> {
 
 // An order that hides `/a`, with two entries of decoys at the root.
 fn order(alloc: Global, count: u32) -> Result<Order, Fail>
-    ensures shallow { IfOk result (λ order. depth (tree_of order.payload) ≤ 127) }
+    ensures shallow { IfOk result (λ order. depth (tree_of order.payload) ≤ json_depth_max) }
 {
     let hide = hidden(alloc)?;
     let decoys = decoys(alloc, count)?;
@@ -99,7 +100,7 @@ fn a_place_that_is_not_there_is_named(rt: HostRuntime) -> Result<(), Fail> {
 // What a signer that fails at one call makes of an order: whether it is issued, whether the signer failed, and how
 // often it did.
 fn asked(alloc: Global, order: &Order, call: u64) -> Result<(bool, bool, u64), Fail>
-    requires shallow { depth (tree_of order.now.payload) ≤ 127 }
+    requires shallow { depth (tree_of order.now.payload) ≤ json_depth_max }
 {
     let key = Hs256Key::new(&[1; 32]).map_err(|_| "short")?;
     let mut signer = FailSigner::new(key, call);

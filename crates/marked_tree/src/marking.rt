@@ -2,6 +2,7 @@
 ghost use Rattle.std.specs.Prelude.{◌≡◌, ◌≢◌, ◌≤◌, ◌<◌, ◌+◌, ◌-◌, ◌^◌, List, ◌∷◌, [], length, IfOk, OnOk, IsTrue, IsFalse, take, drop, slice_index_or};
 ghost use Rattle.std.specs.declared.cmp.Ordering.TheVariants.{Less, Equal, Greater};
 ghost use Rattle.std.specs.Set.{distinct_count};
+ghost use Rattle.sd_outside.specs.Limits.{json_depth_max};
 ghost use Rattle.claim_tree.specs.Tree.{depth as depth_of, elements_depth, members_depth};
 ghost use Rattle.claim_tree.specs.View.{tree_of};
 ghost use Rattle.marked_tree.specs.Marked.{strip};
@@ -22,7 +23,7 @@ use std::cmp::Ordering;
 /// closing order: members go by the bytes of their names, elements by position, and a place is numbered after all
 /// inside it. The paths are sorted once. Each step down finds those below where the last ones ended, or else by halves.
 pub fn mark(alloc: Global, tree: &Tree, paths: &PathList) -> Result<Marked, NoMemory>
-    requires depth { depth_of (tree_of tree.now) ≤ 127 }
+    requires depth { depth_of (tree_of tree.now) ≤ json_depth_max }
     requires few { distinct_count same_path paths.now < 2 ^ 32 - 1 }
     ensures marked { IfOk result (λ marked. marked_of marked ≡ mark_of (tree_of tree.now) paths.now) }
     ensures strips { IfOk result (λ marked. strip (marked_of marked) ≡ tree_of tree.now) }
@@ -36,7 +37,7 @@ pub fn mark(alloc: Global, tree: &Tree, paths: &PathList) -> Result<Marked, NoMe
 
 /// The same of a tree and paths that are given away: nothing is copied. It answers how many marks there are as well.
 pub fn mark_counted(alloc: Global, tree: Tree, paths: PathList) -> Result<(Marked, u32), NoMemory>
-    requires depth { depth_of (tree_of tree) ≤ 127 }
+    requires depth { depth_of (tree_of tree) ≤ json_depth_max }
     requires few { distinct_count same_path paths < 2 ^ 32 - 1 }
     ensures marked { IfOk result (λ marked. marked_of marked.0 ≡ mark_of (tree_of tree) paths) }
     ensures strips { IfOk result (λ marked. strip (marked_of marked.0) ≡ tree_of tree) }
@@ -87,7 +88,7 @@ fn mark_tree(
     paths: &PathsBelow<'_>,
     next: &mut u32,
 ) -> Result<Marked, NoMemory>
-    requires depth { paths.now.depth + depth_of (tree_of tree) ≤ 127 }
+    requires depth { paths.now.depth + depth_of (tree_of tree) ≤ json_depth_max }
     requires sorted { AreSorted (rests_of paths.now) }
     requires few { next.old + inner (rests_of paths.now) < 2 ^ 32 }
     ensures marked { IfOk result (λ marked. marked_of marked ≡ mark_from (is_among (rests_of paths.now)) next.old (tree_of tree)) }

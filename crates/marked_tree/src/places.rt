@@ -1,5 +1,6 @@
 // Where marks stand.
 ghost use Rattle.std.specs.Prelude.{◌≡◌, ◌≤◌, ℕ, List, ◌∷◌, ◌++◌, map, reverse, IfOk, option_map};
+ghost use Rattle.sd_outside.specs.Limits.{json_depth_max};
 ghost use Rattle.claim_tree.specs.Tree.{depth, elements_depth, members_depth};
 ghost use Rattle.marked_tree.specs.Marked.{strip, strip_elements, strip_members};
 ghost use Rattle.marked_tree.specs.Paths.{mark_path, own_spot, inside, spots, elements_spots, members_spots, first_with};
@@ -13,7 +14,7 @@ use std::alloc::Global;
 /// The path, in the tree without marks, of the first node with the mark: each node comes before those inside it,
 /// members come by the bytes of their names. None where no node has the mark.
 pub fn place_of(alloc: Global, tree: &Marked, mark: u32) -> Result<Option<Path>, NoMemory>
-    requires { depth (strip (marked_of tree.now)) ≤ 127 }
+    requires { depth (strip (marked_of tree.now)) ≤ json_depth_max }
     ensures { IfOk result (λ path. path ≡ mark_path (marked_of tree.now) mark) }
 {
     match find(alloc, tree, mark)? {
@@ -25,7 +26,7 @@ pub fn place_of(alloc: Global, tree: &Marked, mark: u32) -> Result<Option<Path>,
 // The steps to the first node with the mark, from the last to the first.
 #[cycle(find)]
 fn find(alloc: Global, tree: &Marked, mark: u32) -> Result<Option<Vec<TextBox>>, NoMemory>
-    requires { depth (strip (marked_of tree.now)) ≤ 127 }
+    requires { depth (strip (marked_of tree.now)) ≤ json_depth_max }
     ensures { IfOk result (λ steps. option_map (λ s. reverse s.items) steps ≡ first_with mark (spots (marked_of tree.now))) }
 {
     match tree {
@@ -78,7 +79,7 @@ fn find_at(
     tree: &Marked,
     mark: u32,
 ) -> Result<Option<Vec<TextBox>>, NoMemory>
-    requires { depth (strip (marked_of tree.now)) ≤ 127 }
+    requires { depth (strip (marked_of tree.now)) ≤ json_depth_max }
     ensures { IfOk result (λ steps. (step : List ℕ) → option_map (λ s. step ∷ reverse s.items) steps ≡ first_with mark (own_spot step own ++ map (inside step own) (spots (marked_of tree.now)))) }
 {
     if own == Some(mark) {

@@ -1,5 +1,6 @@
 // Trees without what is not chosen.
 ghost use Rattle.std.specs.Prelude.{◌≡◌, ◌≤◌, IfOk, is_some};
+ghost use Rattle.sd_outside.specs.Limits.{json_depth_max};
 ghost use Rattle.claim_tree.specs.Tree.{depth, elements_depth, members_depth};
 ghost use Rattle.marked_tree.specs.Marked.{strip, strip_elements, strip_members, prune as prune_of, kept as kept_by, new_mark, remark_elements, remark_members};
 ghost use Rattle.marked_tree.specs.Numbers.{has};
@@ -12,7 +13,7 @@ use std::alloc::Global;
 /// The tree without each member and element whose mark is not kept, and all below it, with texts of its own. What
 /// has no mark stays.
 pub fn prune(alloc: Global, tree: &Marked, kept: &ChosenSet) -> Result<Marked, NoMemory>
-    requires { depth (strip (marked_of tree.now)) ≤ 127 }
+    requires { depth (strip (marked_of tree.now)) ≤ json_depth_max }
     ensures value { IfOk result (λ pruned. marked_of pruned ≡ prune_of (marked_of tree.now) (has kept.now)) }
     ensures shallow { IfOk result (λ pruned. depth (strip (marked_of pruned)) ≤ depth (strip (marked_of tree.now))) }
 {
@@ -21,7 +22,7 @@ pub fn prune(alloc: Global, tree: &Marked, kept: &ChosenSet) -> Result<Marked, N
 
 #[cycle(prune)]
 fn prune_tree(alloc: Global, tree: &Marked, kept: &ChosenSet) -> Result<Marked, NoMemory>
-    requires { depth (strip (marked_of tree.now)) ≤ 127 }
+    requires { depth (strip (marked_of tree.now)) ≤ json_depth_max }
     ensures { IfOk result (λ pruned. marked_of pruned ≡ prune_of (marked_of tree.now) (has kept.now)) }
 {
     match tree {

@@ -1,5 +1,6 @@
 // Trees without their marks.
 ghost use Rattle.std.specs.Prelude.{◌≡◌, ◌≤◌, IfOk};
+ghost use Rattle.sd_outside.specs.Limits.{json_depth_max};
 ghost use Rattle.claim_tree.specs.Tree.{depth, elements_depth, members_depth};
 ghost use Rattle.claim_tree.specs.View.{tree_of};
 ghost use Rattle.marked_tree.specs.Marked.{strip as strip_of, strip_elements as elements_stripped, strip_members as members_stripped};
@@ -13,7 +14,7 @@ use std::alloc::Global;
 /// The tree without its marks, with texts of its own.
 #[cycle(strip)]
 pub fn strip(alloc: Global, tree: &Marked) -> Result<Tree, NoMemory>
-    requires { depth (strip_of (marked_of tree.now)) ≤ 127 }
+    requires { depth (strip_of (marked_of tree.now)) ≤ json_depth_max }
     ensures { IfOk result (λ stripped. tree_of stripped ≡ strip_of (marked_of tree.now)) }
 {
     match tree {
@@ -56,7 +57,7 @@ fn strip_map(alloc: Global, map: &MarkedMap) -> Result<TreeMap, NoMemory>
 /// The tree without its marks, whose texts are moved.
 #[cycle(into_tree)]
 pub fn into_tree(alloc: Global, tree: Marked) -> Result<Tree, NoMemory>
-    requires { depth (strip_of (marked_of tree)) ≤ 127 }
+    requires { depth (strip_of (marked_of tree)) ≤ json_depth_max }
     ensures { IfOk result (λ stripped. tree_of stripped ≡ strip_of (marked_of tree)) }
 {
     match tree {

@@ -1,5 +1,6 @@
 // The processed payload.
 ghost use Rattle.std.specs.Prelude.{◌≡◌, ◌≤◌, ◌<◌, ◌-◌, ◌^◌, [], true, length, IfOk, IfErr, MatchResult};
+ghost use Rattle.sd_outside.specs.Limits.{json_depth_max};
 ghost use Rattle.claim_tree.specs.Tree.{depth};
 ghost use Rattle.claim_tree.specs.View.{tree_of};
 ghost use Rattle.marked_tree.specs.Marked.{strip};
@@ -39,7 +40,7 @@ fn open_judged(
     steps: &mut Steps,
 ) -> Result<OpenedMembers, ProcessError>
     requires object { IsPayload (tree_of payload) }
-    requires payload_depth { depth (tree_of payload) ≤ 127 }
+    requires payload_depth { depth (tree_of payload) ≤ json_depth_max }
     requires values_depth { ValuesShallow given }
     requires few { length given < 2 ^ 32 - 1 }
     ensures opened { MatchResult result (λ o. IsSound (without_alg (tree_of payload)) given × (whole_object o ≡ processed (without_alg (tree_of payload)) given)) (IsProcessRefused (without_alg (tree_of payload)) given) }
@@ -94,7 +95,7 @@ pub fn process(
     steps: &mut Steps,
 ) -> Result<Marked, ProcessError>
     requires object { IsPayload (tree_of payload.now) }
-    requires payload_depth { depth (tree_of payload.now) ≤ 127 }
+    requires payload_depth { depth (tree_of payload.now) ≤ json_depth_max }
     requires values_depth { ValuesShallow given.now }
     requires few { length given.now < 2 ^ 32 - 1 }
     ensures sound { IfOk result (λ _. IsSound (without_alg (tree_of payload.now)) given.now) }
@@ -124,7 +125,7 @@ pub fn process_seeded(
     steps: &mut Steps,
 ) -> Result<Marked, ProcessError>
     requires object { IsPayload (tree_of payload) }
-    requires payload_depth { depth (tree_of payload) ≤ 127 }
+    requires payload_depth { depth (tree_of payload) ≤ json_depth_max }
     requires values_depth { ValuesShallow given }
     requires few { length given < 2 ^ 32 - 1 }
     ensures sound { IfOk result (λ _. IsSound (without_alg (tree_of payload)) given) }
@@ -147,7 +148,7 @@ pub fn process_seeded(
 // What a payload in which nothing is hidden says, where no disclosure is given.
 fn open_nothing(payload: Tree, given: &GivenList, steps: &mut Steps) -> Result<Tree, ProcessError>
     requires object { IsPayload (tree_of payload) }
-    requires depth { depth (tree_of payload) ≤ 127 }
+    requires depth { depth (tree_of payload) ≤ json_depth_max }
     requires unhidden { is_unhidden_of (tree_of payload) ≡ true }
     requires none { given.now ≡ [] }
     ensures sound { IfOk result (λ _. IsSound (without_alg (tree_of payload)) given.now) }
@@ -172,7 +173,7 @@ pub fn process_payload(
     steps: &mut Steps,
 ) -> Result<Tree, ProcessError>
     requires object { IsPayload (tree_of payload) }
-    requires payload_depth { depth (tree_of payload) ≤ 127 }
+    requires payload_depth { depth (tree_of payload) ≤ json_depth_max }
     requires values_depth { ValuesShallow given }
     requires few { length given < 2 ^ 32 - 1 }
     ensures sound { IfOk result (λ _. IsSound (without_alg (tree_of payload)) given) }

@@ -1,5 +1,6 @@
 // Whether each disclosure stands at one place.
 ghost use Rattle.std.specs.Prelude.{◌≡◌, ◌<◌, ◌≤◌, ℕ, suc, map, length, IfOk, OnOk, IfErr, MatchOption};
+ghost use Rattle.sd_outside.specs.Limits.{json_depth_max};
 ghost use Rattle.claim_tree.specs.Lists.{In, AtNone, IsLeast, Repeats};
 ghost use Rattle.claim_tree.specs.Tree.{depth};
 ghost use Rattle.claim_tree.specs.View.{tree_of};
@@ -112,7 +113,7 @@ fn number_all<'a>(
     steps: &mut Steps,
 ) -> Result<Numbered<'a>, ProcessError>
     requires object { IsPayload (tree_of payload.now) }
-    requires payload { depth (tree_of payload.now) ≤ 127 }
+    requires payload { depth (tree_of payload.now) ≤ json_depth_max }
     requires values { ValuesShallow given.now }
     ensures repeated { IfOk result (λ _. AtNone (RepeatedDisclosure given.now)) }
     ensures misused { IfOk result (λ _. AtNone (Misused (without_alg (tree_of payload.now)) given.now)) }
@@ -197,7 +198,7 @@ pub(crate) fn check_references<'a>(
     steps: &mut Steps,
 ) -> Result<References<'a>, ProcessError>
     requires object { IsPayload (tree_of payload.now) }
-    requires payload { depth (tree_of payload.now) ≤ 127 }
+    requires payload { depth (tree_of payload.now) ≤ json_depth_max }
     requires values { ValuesShallow given.now }
     ensures referenced { IfOk result (λ _. IsReferencedOnce (without_alg (tree_of payload.now)) given.now) }
     ensures rows { IfOk result (λ found. map seen found.rows.items ≡ rows_of (tree_of payload.now) given.now) }

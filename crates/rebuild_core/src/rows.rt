@@ -1,5 +1,6 @@
 // The digests of a payload and of all given values in one flat list, by reference.
 ghost use Rattle.std.specs.Prelude.{◌≡◌, ◌≤◌, ◌++◌, ◌∷◌, [], Some, map, length, false, OnOk, IfOk, IsSome, unwrap_or};
+ghost use Rattle.sd_outside.specs.Limits.{json_depth_max};
 ghost use Rattle.claim_tree.specs.Tree.{depth, elements_depth, members_depth};
 ghost use Rattle.claim_tree.specs.View.{tree_of};
 ghost use Rattle.digest_sites.specs.Reserved.{texts_of, sd_texts, element_digest as digest_in};
@@ -43,7 +44,7 @@ fn push_row<'a>(out: &mut Vec<Row<'a>>, row: Row<'a>) -> Result<(), NoMemory>
 // The digests of a tree, where `top` says that it is the payload.
 #[cycle(rows)]
 fn list_rows<'a>(top: bool, tree: &'a Tree, out: &mut Vec<Row<'a>>) -> Result<(), NoMemory>
-    requires { depth (tree_of tree.now) ≤ 127 }
+    requires { depth (tree_of tree.now) ≤ json_depth_max }
     ensures { OnOk result (map seen out.new.items ≡ map seen out.old.items ++ tree_rows top (length out.old.items) (tree_of tree.now)) }
 {
     match tree {
@@ -70,7 +71,7 @@ fn list_elements<'a>(trees: &'a TreeList, out: &mut Vec<Row<'a>>) -> Result<(), 
 
 #[cycle(rows)]
 fn list_element<'a>(tree: &'a Tree, out: &mut Vec<Row<'a>>) -> Result<(), NoMemory>
-    requires { depth (tree_of tree.now) ≤ 127 }
+    requires { depth (tree_of tree.now) ≤ json_depth_max }
     ensures { OnOk result (map seen out.new.items ≡ map seen out.old.items ++ rows_on (length out.old.items) (digest_in (tree_of tree.now)) (tree_rows false (length out.old.items) (tree_of tree.now))) }
 {
     match element_digest(tree) {
@@ -148,7 +149,7 @@ pub(crate) fn all_rows<'a>(
     payload: &'a Tree,
     given: &'a GivenList,
 ) -> Result<RowList<'a>, NoMemory>
-    requires payload { depth (tree_of payload.now) ≤ 127 }
+    requires payload { depth (tree_of payload.now) ≤ json_depth_max }
     requires values { ValuesShallow given.now }
     ensures rows { IfOk result (λ list. map seen list.rows.items ≡ rows_of (tree_of payload.now) given.now) }
     ensures ends { IfOk result (λ list. list.ends.items ≡ row_ends (tree_of payload.now) given.now) }

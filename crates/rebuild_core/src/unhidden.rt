@@ -1,6 +1,6 @@
 // A payload with nothing hidden.
 ghost use Rattle.std.specs.Prelude.{◌≡◌, ◌≤◌, ◌<◌, MatchResult};
-ghost use Rattle.sd_outside.specs.Limits.{depth_max};
+ghost use Rattle.sd_outside.specs.Limits.{depth_max, json_depth_max};
 ghost use Rattle.claim_tree.specs.Tree.{depth as depth_of};
 ghost use Rattle.claim_tree.specs.View.{tree_of};
 ghost use Rattle.rebuild_core.specs.Payload.{without_alg as without_alg_of};
@@ -47,7 +47,7 @@ pub fn without_alg(payload: Tree) -> Tree
 
 // The same, where it nests no deeper than [`DEPTH_MAX`].
 pub(crate) fn move_out(payload: Tree) -> Result<Tree, ProcessError>
-    requires { depth_of (tree_of payload) ≤ 127 }
+    requires { depth_of (tree_of payload) ≤ json_depth_max }
     ensures { MatchResult result (λ tree. (tree_of tree ≡ without_alg_of (tree_of payload)) × (depth_of (tree_of tree) ≤ depth_max)) (λ e. (e ≡ Refusal.TooDeep) × (depth_max < depth_of (without_alg_of (tree_of payload)))) }
 {
     let tree = without_alg(payload);

@@ -44,3 +44,19 @@ key_min = 32
 -- the bytes of a seed
 abbrev pub seed_len : ℕ
 seed_len = 32
+
+-- the deepest a JSON text nests
+abbrev pub json_depth_max : ℕ
+json_depth_max = 127
+
+-- the most members of what `gen` issues
+abbrev pub members_max : ℕ
+members_max = 3000
+
+-- the most bytes that a feed may be asked to take
+abbrev pub feed_max : ℕ
+feed_max = 1073741824
+
+-- the most tokens that a wallet looks through
+abbrev pub tokens_max : ℕ
+tokens_max = 64

@@ -1,7 +1,7 @@
 -- The order that `gen` issues, what it asks a holder for, and the policy under which it verifies; each of a number of members.
 use Rattle.std.specs.Prelude.{ℕ, zero, suc, ◌%◌, ◌==◌, pos, List, [], ◌∷◌, ◌++◌, Option, None, Some, codes, bytes_eq, replicate, if◌then◌else◌}
 use Rattle.std.specs.Fmt.{decimal}
-use Rattle.sd_outside.specs.Limits.{seed_len, key_min}
+use Rattle.sd_outside.specs.Limits.{seed_len, key_min, members_max}
 use Rattle.claim_tree.specs.Tree.{Text, Tree, leaf, whole, array, object, no_elements, element, Members, no_members, member, inserted}
 use Rattle.disclosure.specs.declared.digests.HashAlg.{HashAlg}
 use Rattle.hmac_sign.specs.Hmac.{AlgKey, alg_key}
@@ -14,10 +14,6 @@ use Rattle.holder_core.specs.declared.ask.Ask.{Ask}
 use Rattle.verifier_core.specs.declared.policy.Policy.{Policy}
 
 -- ---- the number
-
--- the most members
-abbrev pub members_max : ℕ
-members_max = 3000
 
 -- the number up to the given one, and not 0, whose decimal digits the word is
 abbrev pub number_up_to : ℕ → List ℕ → Option ℕ

@@ -1,7 +1,7 @@
 // The command `issue`: the compact text of a new token.
 ghost use Rattle.std.specs.Prelude.{◌≤◌, ℕ, List, IfOk, IfErr, string_bytes};
 ghost use Rattle.std.specs.Array.{IsFirstChunk};
-ghost use Rattle.sd_outside.specs.Limits.{seed_len};
+ghost use Rattle.sd_outside.specs.Limits.{seed_len, json_depth_max};
 ghost use Rattle.claim_tree.specs.Tree.{depth};
 ghost use Rattle.claim_tree.specs.View.{tree_of};
 ghost use Rattle.issuer_core.specs.OrderFile.{IsOrderFile};
@@ -25,7 +25,7 @@ pub(crate) fn issue_parts(
     seed: &[u8; SEED_LEN],
     mut key: HsKey,
 ) -> Result<Parts, Stop>
-    requires depth { depth (tree_of order.payload) ≤ 127 }
+    requires depth { depth (tree_of order.payload) ≤ json_depth_max }
     ensures issued { IfOk result (IsIssuedBy seed.now (order_said order) key) }
     ensures refuses { IfErr result (λ stop. OnRefused stop (TellsRefusal seed.now (order_said order) key)) }
     ensures readable { IfErr result (λ stop. OnUnreadable stop (λ _. ⊥)) }
@@ -40,7 +40,7 @@ pub(crate) fn issue_parts(
 
 // The answer for what an order file asks for, with the seed of a file.
 fn issue_for(alloc: Global, asked: IssueFile, seed: &[u8; SEED_LEN]) -> Result<String, Stop>
-    requires depth { depth (tree_of asked.order.payload) ≤ 127 }
+    requires depth { depth (tree_of asked.order.payload) ≤ json_depth_max }
     ensures issues { (order_file seed_file : List ℕ) → IsOrderFile order_file asked → IsFirstChunk seed_file seed.now seed_len
         → IfOk result (λ text. Issues order_file seed_file (string_bytes text)) }
     ensures refuses { (order_file seed_file : List ℕ) → IsOrderFile order_file asked → IsFirstChunk seed_file seed.now seed_len

@@ -1,5 +1,6 @@
 // Whether a rule consents to all that is chosen.
 ghost use Rattle.std.specs.Prelude.{◌≡◌, ◌≤◌, ◌++◌, ◌∷◌, ℕ, false, [], None, Some, IfOk, IfErr, OnOk};
+ghost use Rattle.sd_outside.specs.Limits.{json_depth_max};
 ghost use Rattle.claim_tree.specs.Tree.{depth, elements_depth, members_depth};
 ghost use Rattle.marked_tree.specs.Choice.{StandOnce};
 ghost use Rattle.marked_tree.specs.Marked.{strip, strip_elements, strip_members};
@@ -29,7 +30,7 @@ pub fn allow<F: Fn(&Path) -> bool>(
     chosen: &ChosenSet,
 ) -> Result<(), AllowError>
     requires callable { F.IsAlwaysCallable consent.now }
-    requires depth { depth (strip (marked_of tree.now)) ≤ 127 }
+    requires depth { depth (strip (marked_of tree.now)) ≤ json_depth_max }
     requires once { StandOnce (marked_of tree.now) (has chosen.now) }
     ensures allowed { IfOk result (λ _. AllAllowed F.Fn consent.now (marked_of tree.now) (has chosen.now)) }
     ensures refused { IfErr result (IsAllowRefused F.Fn consent.now (marked_of tree.now) (has chosen.now)) }
@@ -65,7 +66,7 @@ impl<'a, F: Fn(&Path) -> bool> Asking<'a, F> {
     #[cycle(ask)]
     fn ask_inside(&self, tree: &Marked, walk: &mut Walk) -> Result<(), NoMemory>
         requires callable { F.IsAlwaysCallable self.now.consent.now }
-        requires depth { depth (strip (marked_of tree.now)) ≤ 127 }
+        requires depth { depth (strip (marked_of tree.now)) ≤ json_depth_max }
         ensures asked { OnOk result (AsksOnWalk F.Fn self.now (seen_from walk.old.at (spots (marked_of tree.now))) walk.old walk.new) }
         ensures at { OnOk result (walk.new.at ≡ walk.old.at) }
     {
@@ -116,7 +117,7 @@ impl<'a, F: Fn(&Path) -> bool> Asking<'a, F> {
         walk: &mut Walk,
     ) -> Result<(), NoMemory>
         requires callable { F.IsAlwaysCallable self.now.consent.now }
-        requires depth { depth (strip (marked_of tree.now)) ≤ 127 }
+        requires depth { depth (strip (marked_of tree.now)) ≤ json_depth_max }
         ensures asked { OnOk result (AsksOnWalk F.Fn self.now (own_seen mark (walk.old.at ++ step.now ∷ []) ++ seen_from (walk.old.at ++ step.now ∷ []) (spots (marked_of tree.now))) walk.old walk.new) }
         ensures at { OnOk result (walk.new.at ≡ walk.old.at) }
     {

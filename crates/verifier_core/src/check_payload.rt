@@ -1,5 +1,6 @@
 // The payload of a token, and its hash.
 ghost use Rattle.std.specs.Prelude.{◌≡◌, ◌≤◌, IfOk, IfErr, Some};
+ghost use Rattle.sd_outside.specs.Limits.{json_depth_max};
 ghost use Rattle.claim_tree.specs.Tree.{depth as depth_of};
 ghost use Rattle.claim_tree.specs.View.{tree_of};
 ghost use Rattle.jws_part.specs.Part.{IsBody};
@@ -22,7 +23,7 @@ pub(crate) fn read_payload(
 ) -> Result<(Tree, HashAlg), VerifyError>
     ensures ok { IfOk result (λ p. IsBody payload.now (tree_of p.0)) }
     ensures hash { IfOk result (λ p. payload_hash_of (tree_of p.0) ≡ Some p.1) }
-    ensures depth { IfOk result (λ p. depth_of (tree_of p.0) ≤ 127) }
+    ensures depth { IfOk result (λ p. depth_of (tree_of p.0) ≤ json_depth_max) }
     ensures refused { IfErr result (λ e. OnFault e (IsPayloadFault payload.now)) }
 {
     let body = match read_body_with(alloc, reader, payload) {

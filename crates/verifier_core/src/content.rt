@@ -1,5 +1,6 @@
 // What is read of a token by the conditions 5 to 13, and what is opened of it by the conditions 14 to 21.
 ghost use Rattle.std.specs.Prelude.{◌≡◌, ◌≤◌, ◌<◌, ◌-◌, ◌^◌, length, IfOk, IfErr};
+ghost use Rattle.sd_outside.specs.Limits.{json_depth_max};
 ghost use Rattle.claim_tree.specs.Tree.{depth};
 ghost use Rattle.claim_tree.specs.View.{tree_of};
 ghost use Rattle.compact_form.specs.Lowest.{IsLowest};
@@ -124,7 +125,7 @@ impl Content {
     /// disclosure shows has the number of the disclosure. `steps` counts the look-ups of digests.
     pub fn open(self, alloc: Global, steps: &mut Steps) -> Result<Marked, VerifyError>
         ensures checked { OfToken self (λ token rules. IfOk result (λ marked. IsChecked token rules (marked_of marked))) }
-        ensures shallow { IfOk result (λ marked. depth (strip_of (marked_of marked)) ≤ 127) }
+        ensures shallow { IfOk result (λ marked. depth (strip_of (marked_of marked)) ≤ json_depth_max) }
         ensures opened { OfToken self (λ token rules. IsOpening token rules result steps.old steps.new) }
     {
         judged(process_seeded(alloc, self.body, self.given, self.seed, steps))

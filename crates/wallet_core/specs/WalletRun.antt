@@ -2,6 +2,7 @@
 use Rattle.std.specs.Prelude.{◌≡◌, ◌<◌, ◌≤◌, ◌++◌, ℕ, List, ◌∷◌, length, Option, None, codes}
 use Rattle.std.specs.Fmt.{decimal}
 use Rattle.std.specs.List.{AllZip}
+use Rattle.sd_outside.specs.Limits.{tokens_max}
 use Rattle.sd_outside.specs.declared.status.Status.{Status}
 use Rattle.cli_parts.specs.Lines.{line}
 use Rattle.cli_parts.specs.Outside.{Outside}
@@ -54,7 +55,7 @@ WalletAnswers query_file held reply = Replies (PicksFewest query_file held) (Pic
 pub record IsWallet (words : List (List ℕ)) (query : List ℕ) (tokens : List (List ℕ)) : Type 0 where
   pub words_are : words ≡ codes "wallet" ∷ query ∷ tokens
   pub some : 0 < length tokens
-  pub within : length tokens ≤ 64
+  pub within : length tokens ≤ tokens_max
 
 -- the reply over the files with these names
 pub record PicksFromFiles (holds : List ℕ → Option (List ℕ)) (query : List ℕ) (tokens : List (List ℕ)) (reply : Reply) : Type 0 where

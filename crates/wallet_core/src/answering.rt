@@ -1,5 +1,6 @@
 // The credential that answers a query.
 ghost use Rattle.std.specs.Prelude.{◌≡◌, ◌≤◌, ◌<◌, ◌-◌, ◌^◌, None, Some, length, IfOk, IfSome, IfNone, IsErrOf};
+ghost use Rattle.sd_outside.specs.Limits.{json_depth_max};
 ghost use Rattle.claim_tree.specs.Tree.{depth};
 ghost use Rattle.compact_form.specs.Compact.{AreWords};
 ghost use Rattle.holder_core.specs.Present.{held_rules};
@@ -185,7 +186,7 @@ fn chosen_marks<F: Fn(&Path) -> bool>(
 ) -> Result<Option<ChosenSet>, NoMemory>
     requires callable { F.IsAlwaysCallable consent.now }
     requires asked { asked.now ≡ asked_of query.now }
-    requires depth { depth (strip (marked_of marked.now)) ≤ 127 }
+    requires depth { depth (strip (marked_of marked.now)) ≤ json_depth_max }
     requires unmixed { IsUnmixed (marked_of marked.now) }
     ensures least { IfOk result (λ chosen. IfSome chosen (IsLeastSet F.Fn consent.now (marked_of marked.now) query.now)) }
     ensures none { IfOk result (λ chosen. IfNone chosen (IsUnanswered F.Fn consent.now (marked_of marked.now) query.now)) }
