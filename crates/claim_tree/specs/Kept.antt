@@ -1,4 +1,4 @@
--- What is kept of a tree that is read in part.
+-- Not needed to believe the program's promises: what is kept of a tree that is read in part.
 use Rattle.std.specs.Prelude.{◌≡◌, List, bytes_eq, if◌then◌else◌}
 use Rattle.std.specs.List.{list_any}
 use Rattle.claim_tree.specs.Tree.{Text, Tree, leaf, array, object, Elements, no_elements, element, Members, no_members, member}
