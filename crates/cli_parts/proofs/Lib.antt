@@ -1,3 +1,4 @@
 pub mod Stopped
 pub mod Finished
 pub mod OneReply
+pub mod CompletedRuns

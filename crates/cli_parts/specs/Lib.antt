@@ -4,5 +4,6 @@ pub mod Replies
 pub mod Stops
 pub mod Outside
 pub mod Runs
+pub mod Told
 pub mod Finishing
 pub mod Endings
