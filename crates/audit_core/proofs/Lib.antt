@@ -18,6 +18,7 @@ pub mod Parts
 pub mod Verdicts
 mod Askeds
 mod Answering
+mod OneAnswer
 pub mod IssuedDepths
 pub mod IssuedHashes
 pub mod IssuedWritten
