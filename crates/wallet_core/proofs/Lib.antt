@@ -6,3 +6,6 @@ pub mod Carried
 pub mod Fetched
 pub mod WordsApart
 pub mod QueryFaults
+mod OneQuery
+mod OnePick
+mod OneAnswer

@@ -7,6 +7,7 @@
 
 mod answering;
 mod error;
+pub mod laws;
 mod query;
 mod query_file;
 mod run;
