@@ -1,23 +1,23 @@
 -- A command has one verdict over its files, and a run that nothing stops is done.
-use Rattle.std.proofs.Common.{◌≡◌, ◌⊎◌, inl, inr, ℕ, List, [], ◌∷◌, Option, None, Some, take, refl, ap, ◌∙◌, sym, subst}
-use Rattle.std.specs.Prelude.{IfSome, IsSomeAnd}
-use Rattle.std.specs.List.{AllZip}
+use Rattle.std.proofs.Common.{◌≡◌, ◌⊎◌, ℕ, List, [], ◌∷◌, Option, Some, take, ap, ◌∙◌, sym, subst}
+use Rattle.std.specs.Prelude.{IsSomeAnd}
 use Rattle.std.specs.Io.KnownBytes.{Appends}
 use Rattle.sd_outside.specs.Causes.{Rose}
 use Rattle.sd_outside.specs.declared.status.Status.{Status}
-use Rattle.sd_outside.specs.declared.status.Status.TheVariants.{Done, Refused, Usage, Unread, Unwritten, Memory, Unreadable}
+use Rattle.sd_outside.specs.declared.status.Status.TheVariants.{Done, Memory}
 use Rattle.json_form.specs.declared.token.Token.{Token}
 use Rattle.json_form.proofs.Tokens as tokens
 use Rattle.sdjwt_cli.specs.Command.{Command, split, show, verify, issue, present, convert, gen, command_of, NamedFile, files_of}
 use Rattle.cli_parts.specs.Telling.{TellsFault}
+use Rattle.cli_parts.proofs.CompletedRuns.{told_as_fetched, all_as_fetched, run_completes}
 use Rattle.cli_parts.proofs.OneReply.{one_readable_reply, one_refusal_line}
 use Rattle.json_form.specs.Token.{IsTextRefused}
 use Rattle.sdjwt_cli.specs.Split.{Splits, split_lines}
 use Rattle.sdjwt_cli.specs.Show.{Shows, IsShowRefused}
-use Rattle.cli_parts.specs.Replies.{Reply, gives, refuses, unreadable}
+use Rattle.cli_parts.specs.Replies.{Reply, gives}
 use Rattle.sdjwt_cli.specs.Answers.{SplitAnswers, ShowAnswers, Answers, AreFetched, AreTold, IsAnswered}
 use Rattle.cli_parts.specs.Outside.{Outside}
-use Rattle.sdjwt_cli.specs.Run.{Ends}
+use Rattle.sdjwt_cli.specs.Run.{Misses, Ends}
 use Rattle.sdjwt_cli.proofs.Lifts.{IsFetched}
 use Rattle.sdjwt_cli.proofs.ShowVerdicts.{one_shown, no_refusal, same_fault}
 use Rattle.sdjwt_cli.proofs.VerifyVerdicts.{one_verify}
@@ -62,31 +62,15 @@ one_answer (gen count) (file ∷ files) now v w g h = absurd g
 pub same_command : (o : Option Command) (c d : Command) → o ≡ Some c → o ≡ Some d → c ≡ d
 same_command o c d e f = cc
 
--- what the cabinet tells is what was fetched
-told : (o : Option (List ℕ)) (n : ℕ) (x y : List ℕ) → IsSomeAnd o (λ content. x ≡ take n content) → IfSome o (λ content. y ≡ take n content) → x ≡ y
-told None n x y t f = absurd t
-told (Some content) n x y t f = t ∙ sym f
-
 abbrev IsTold : (List ℕ → Option (List ℕ)) → NamedFile → List ℕ → Type 0
 IsTold holds wanted file = IsSomeAnd (holds wanted.name) (λ content. file ≡ take wanted.most content)
-
-all_told : (holds : List ℕ → Option (List ℕ)) (ws : List NamedFile) (xs ys : List (List ℕ)) → AllZip (IsTold holds) ws xs → AllZip (IsFetched holds) ws ys → xs ≡ ys
-all_told holds [] [] [] t f = refl
-all_told holds [] [] (y ∷ ys) t f = absurd f
-all_told holds [] (x ∷ xs) ys t f = absurd t
-all_told holds (w ∷ ws) [] ys t f = absurd t
-all_told holds (w ∷ ws) (x ∷ xs) [] t f = absurd f
-all_told holds (w ∷ ws) (x ∷ xs) (y ∷ ys) t f =
-    let first : x ≡ y = told (holds w.name) w.most x y t.0 f.0 in
-    let others : xs ≡ ys = all_told holds ws xs ys t.1 f.1 in
-    cc
 
 -- over files that are told the answer is one over these files
 pub answers_told : (holds : List ℕ → Option (List ℕ)) (command other : Command) (files : List (List ℕ)) (now : ℕ) (w : Reply) → other ≡ command → AreTold holds command files → IsAnswered holds other now w → Answers command files now w
 answers_told holds command other files now w same told h =
     let fetched : AreFetched holds command h.files = subst (λ (c : Command). AreFetched holds c h.files) same h.fetched in
     let answers : Answers command h.files now w = subst (λ (c : Command). Answers c h.files now w) same h.answers in
-    let files_are = all_told holds (files_of command) files h.files told fetched in
+    let files_are = all_as_fetched (IsTold holds) (IsFetched holds) (λ wanted. told_as_fetched (holds wanted.name) wanted.most) (files_of command) files h.files told fetched in
     subst (λ (fs : List (List ℕ)). Answers command fs now w) (sym files_are) answers
 
 -- and there is one verdict
@@ -94,30 +78,10 @@ told_verdict : (holds : List ℕ → Option (List ℕ)) (command other : Command
     → other ≡ command → AreTold holds command files → Answers command files now v → IsAnswered holds other now w → v ≡ w
 told_verdict holds command other files now v w same told g h = one_answer command files now v w g (answers_told holds command other files now w same told h)
 
-given_refused : (a t : List ℕ) → gives a ≡ refuses t → ⊥
-given_refused a t e = cc
-
-given_unreadable : (a t : List ℕ) → gives a ≡ unreadable t → ⊥
-given_unreadable a t e = cc
-
-given_given : (a b : List ℕ) → gives a ≡ gives b → b ≡ a
-given_given a b e = cc
-
 pub completes : (words : List (List ℕ)) (before after : Outside) (now : ℕ) (status : Status) (command : Command) (files : List (List ℕ)) (answer : List ℕ)
     → command_of words ≡ Some command → AreTold before.holds command files → Answers command files now (gives answer)
     → (Rose before.faults after.faults → ⊥) → (Rose before.out.faults after.out.faults → ⊥) → Ends words before after now status
     → ((status ≡ Done) × Appends before.out.written after.out.written answer) ⊎ (status ≡ Memory)
-completes words before after now Done command files answer named told good read written e =
-    let same = same_command (command_of words) e.asked command e.named named in
-    let is = given_given answer e.answer (told_verdict before.holds command e.asked files now (gives answer) (gives e.answer) same told good e.answered) in
-    inl (refl, subst (λ (a : List ℕ). Appends before.out.written after.out.written a) is e.out)
-completes words before after now Refused command files answer named told good read written e =
-    let same = same_command (command_of words) e.asked command e.named named in
-    absurd (given_refused answer e.text (told_verdict before.holds command e.asked files now (gives answer) (refuses e.text) same told good e.answered))
-completes words before after now Usage command files answer named told good read written e = absurd (e.none command named)
-completes words before after now Unread command files answer named told good read written e = absurd (read e.rose)
-completes words before after now Unwritten command files answer named told good read written e = absurd (written e.rose)
-completes words before after now Memory command files answer named told good read written e = inr refl
-completes words before after now Unreadable command files answer named told good read written e =
-    let same = same_command (command_of words) e.asked command e.named named in
-    absurd (given_unreadable answer e.text (told_verdict before.holds command e.asked files now (gives answer) (unreadable e.text) same told good e.answered))
+completes words before after now status command files answer named told good read written ends =
+    run_completes (λ wanted. command_of words ≡ Some wanted) (λ wanted reply. IsAnswered before.holds wanted now reply) Misses before after command named answer
+    (λ other reply also answered. told_verdict before.holds command other files now (gives answer) reply (same_command (command_of words) other command also named) told good answered) read written status ends
