@@ -1,7 +1,9 @@
 use claim_tree::Path;
+use compact_form::print;
 use digest_index::Steps;
 use hmac_sign::{FailSigner, Hs256Key};
 use holder_core::{Ask, PresentError, PresentFile, present, read_present};
+use sd_outside::TextBox;
 use selection_core::Consent;
 use std::alloc::Global;
 use std::test::Fail;
@@ -14,6 +16,17 @@ const KEYS: &str = r#"{"keys":[{"kty":"oct","k":"AQEBAQEBAQEBAQEBAQEBAQEBAQEBAQE
 
 const BINDING: &str =
     r#","binding":{"key":"AgICAgICAgICAgICAgICAgICAgICAgICAgICAgICAgI","kid":"h1","aud":"v","nonce":"n"}"#;
+
+// What is presented of a token for an order that asks for no key binding token, where all places may be shown.
+pub(crate) fn presented(alloc: Global, token: &str, order: &str) -> Result<TextBox, Fail> {
+    let said = read_present(alloc, order.as_bytes()).map_err(|_| "no order")?;
+    let PresentFile { ask, .. } = said;
+    let mut signer = Hs256Key::new(&[2; 32]).map_err(|_| "short key")?;
+    let consent = Consent::new(|_: &Path| true);
+    let steps = &mut Steps::new();
+    let parts = present(alloc, token.as_bytes(), &ask, &consent, &mut signer, 0, steps);
+    Ok(print(alloc, &parts.map_err(|_| "not presented")?)?)
+}
 
 // What a holder asks who wants a place.
 fn asked(alloc: Global, want: &str, binding: &str) -> Result<PresentFile, Fail> {

@@ -1,14 +1,11 @@
 // The look-ups of a token with many members, as `gen` makes it: each digest that it shows is looked up once, and each
 // disclosure.
 
-use claim_tree::Path;
+use crate::holder_tests::presented;
 use compact_form::print;
 use digest_index::Steps;
-use hmac_sign::Hs256Key;
-use holder_core::{PresentFile, present, read_present};
 use issuer_core::{IssueFile, issue_owned, read_order};
 use sd_outside::TextBox;
-use selection_core::Consent;
 use std::alloc::Global;
 use std::test::Fail;
 use verifier_core::{read_policy, verify_payload};
@@ -63,31 +60,16 @@ fn issued(alloc: Global, count: u32) -> Result<TextBox, Fail> {
 }
 
 // What is presented of it where the number of every fourth member is wanted.
-fn presented(alloc: Global, count: u32) -> Result<TextBox, Fail> {
+fn every_fourth(alloc: Global, count: u32) -> Result<TextBox, Fail> {
     let token = issued(alloc, count)?;
     let want = pointers(alloc, count, 4, "/a")?;
     let order = format!(in alloc; r#"{{{KEYS},"want":[{want}]}}"#)?;
-    let said = read_present(alloc, order.as_bytes()).map_err(|_| "no order")?;
-    let PresentFile { ask, .. } = said;
-    let mut signer = Hs256Key::new(&[1; 32]).map_err(|_| "short key")?;
-    let consent = Consent::new(|_: &Path| true);
-    let text = token.as_str().as_bytes();
-    let parts = present(
-        alloc,
-        text,
-        &ask,
-        &consent,
-        &mut signer,
-        0,
-        &mut Steps::new(),
-    );
-    let parts = parts.map_err(|_| "not presented")?;
-    Ok(print(alloc, &parts)?)
+    presented(alloc, token.as_str(), order.as_str())
 }
 
 // The look-ups of its verification.
 fn counted(alloc: Global, count: u32) -> Result<u64, Fail> {
-    let text = presented(alloc, count)?;
+    let text = every_fourth(alloc, count)?;
     let policy = format!(in alloc; "{{{KEYS}}}")?;
     let policy = read_policy(alloc, policy.as_bytes()).map_err(|_| "no policy")?;
     let mut steps = Steps::new();

@@ -1,9 +1,7 @@
-use crate::holder_tests::TOKEN as BOTH;
+use crate::holder_tests::{TOKEN as BOTH, presented};
 use claim_tree::{Path, write};
 use compact_form::print;
 use digest_index::Steps;
-use hmac_sign::Hs256Key;
-use holder_core::{PresentFile, present, read_present};
 use sd_outside::{ByteBox, TextBox};
 use selection_core::Consent;
 use std::alloc::Global;
@@ -84,25 +82,6 @@ fn sent(alloc: Global, texts: &[&str]) -> Result<TextBox, Fail> {
     }
 }
 
-// What is presented of it again: a query has the members of a present order that are asked for here.
-fn presented(alloc: Global, token: &str) -> Result<TextBox, Fail> {
-    let said = read_present(alloc, QUERY.as_bytes()).map_err(|_| "no order")?;
-    let PresentFile { ask, .. } = said;
-    let mut signer = Hs256Key::new(&[2; 32]).map_err(|_| "short key")?;
-    let consent = Consent::new(|_: &Path| true);
-    let text = token.as_bytes();
-    let parts = present(
-        alloc,
-        text,
-        &ask,
-        &consent,
-        &mut signer,
-        0,
-        &mut Steps::new(),
-    );
-    Ok(print(alloc, &parts.map_err(|_| "not presented")?)?)
-}
-
 // The claims that a verifier finds in it.
 fn verified(alloc: Global, text: &str) -> Result<TextBox, Fail> {
     let policy = read_policy(alloc, POLICY.as_bytes()).map_err(|_| "no policy")?;
@@ -114,7 +93,8 @@ fn verified(alloc: Global, text: &str) -> Result<TextBox, Fail> {
 #[test]
 fn what_a_wallet_sends_is_presented_again(rt: HostRuntime) -> Result<(), Fail> {
     let token = sent(rt.alloc(), &[BOTH, WHOLE])?;
-    let again = presented(rt.alloc(), token.as_str())?;
+    // A query has the members of a present order that are asked for here.
+    let again = presented(rt.alloc(), token.as_str(), QUERY)?;
     let claims = verified(rt.alloc(), again.as_str())?;
     assert_eq!(rt; claims.as_str(), r#"{"address":{"street":"S","zip":"1"}}"#);
     Ok(())
