@@ -35,6 +35,7 @@ pub mod ReservedPlaces
 pub mod SaltSteps
 pub mod Clashes
 pub mod Lowest
+pub mod DifferentPlaces
 pub mod Judged
 pub mod OrderFiles
 pub mod OrderFaults

@@ -22,7 +22,7 @@ ghost use Rattle.issuer_core.specs.OrderRefusals.{AppliesToOrder};
 ghost use Rattle.claim_tree.specs.Lists.{Repeats, AtNone};
 
 use crate::laying::{Laid, lay_order};
-use crate::{IssueError, Order, first_clash, judge};
+use crate::{IssueError, Order, first_clash, judged_places};
 use b64url_text::encode;
 use claim_tree::Tree;
 use compact_form::{ISSUE_MAX, JwtParts, Parts, is_longer_than};
@@ -88,11 +88,12 @@ pub fn issue_owned<S: Signer>(
     ensures later { S.faults signer.old ≤ S.faults signer.new }
 {
     order.payload.invariant();
-    if let Err(error) = judge(alloc, &order) {
-        return Err(error);
-    }
+    let places = match judged_places(alloc, &order) {
+        Ok(places) => places,
+        Err(error) => return Err(error),
+    };
     let header = order_header(alloc, &order, signer.alg())?;
-    let laid = lay_order(alloc, order, seed)?;
+    let laid = lay_order(alloc, order, places, seed)?;
     issue_laid(alloc, &header, laid, signer)
 }
 

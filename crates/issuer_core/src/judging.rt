@@ -7,7 +7,7 @@ ghost use Rattle.sd_outside.specs.Limits.{count_max, json_depth_max};
 ghost use Rattle.claim_tree.specs.Tree.{depth as depth_of, IsOrdered};
 ghost use Rattle.claim_tree.specs.Path.{tree_at};
 ghost use Rattle.claim_tree.specs.View.{tree_of};
-ghost use Rattle.marked_tree.specs.Paths.{same_path};
+ghost use Rattle.marked_tree.specs.Paths.{Path as Steps, same_path, is_among};
 ghost use Rattle.issuer_core.specs.Order.{order_of};
 ghost use Rattle.issuer_core.specs.Decoys.{decoy_paths};
 ghost use Rattle.issuer_core.specs.GoodOrder as good;
@@ -24,7 +24,7 @@ use crate::reserved::{first_reserved, spells};
 use crate::{DecoyList, IssueError, Order};
 use claim_tree::{Path, PathList, Tree, depth, find, find_behind, is_prefix};
 use compact_form::COUNT_MAX;
-use marked_tree::count_different;
+use marked_tree::different_paths;
 use rebuild_core::DEPTH_MAX;
 use sd_outside::{NoMemory, TextBox};
 use std::alloc::Global;
@@ -65,8 +65,8 @@ fn find_on<'a>(
     }
 }
 
-// The first path that leads nowhere in the payload.
-fn first_nowhere(payload: &Tree, hide: &PathList) -> Option<usize>
+// The first path that leads nowhere in the payload, of all paths.
+fn nowhere_in(payload: &Tree, hide: &PathList) -> Option<usize>
     ensures { result ≡ position_from (spec.is_nowhere (tree_of payload.now)) 0 hide.now }
 {
     let mut earlier = None;
@@ -77,6 +77,17 @@ fn first_nowhere(payload: &Tree, hide: &PathList) -> Option<usize>
         }
     }
     None
+}
+
+// The same, where the different ones are known: there is none unless one of them leads nowhere.
+fn first_nowhere(payload: &Tree, hide: &PathList, different: &PathList) -> Option<usize>
+    requires { (path : Steps) → is_among different.now path ≡ is_among hide.now path }
+    ensures { result ≡ position_from (spec.is_nowhere (tree_of payload.now)) 0 hide.now }
+{
+    match nowhere_in(payload, different) {
+        Some(_) => nowhere_in(payload, hide),
+        None => None,
+    }
 }
 
 // Whether a verifier cannot do without the claim (RFC 9901 section 9.7).
@@ -122,14 +133,12 @@ fn first_misplaced(payload: &Tree, decoys: &DecoyList) -> Option<usize>
         .position(|entry| is_no_holder(payload, &entry.at))
 }
 
-// Whether more paths are hidden than may be, where equal ones count once. Few paths need not be compared.
-fn hides_too_many(alloc: Global, hide: &PathList) -> Result<bool, NoMemory>
-    ensures { IfOk result (λ answer. IsTrue answer ↔ (count_max < distinct_count same_path hide.now)) }
+// Whether more paths are hidden than may be, where equal ones count once.
+fn hides_too_many(hide: &PathList, different: &PathList) -> bool
+    requires { length different.now ≡ distinct_count same_path hide.now }
+    ensures { IsTrue result ↔ (count_max < distinct_count same_path hide.now) }
 {
-    if hide.len() <= COUNT_MAX {
-        return Ok(false);
-    }
-    Ok(count_different(alloc, hide)? > COUNT_MAX)
+    different.len() > COUNT_MAX
 }
 
 fn are_too_many(decoys: &DecoyList) -> bool
@@ -166,15 +175,16 @@ fn judge_payload(alloc: Global, order: &Order) -> Result<(), IssueError>
 }
 
 // The refusals 54 to 57: what may be hidden, and where decoys may be put.
-fn judge_places(order: &Order) -> Result<(), IssueError>
-    requires { PassesBelow (refusal_number Refusal.RootMarked) (order_of order.now) }
+fn judge_places(order: &Order, different: &PathList) -> Result<(), IssueError>
+    requires same { (path : Steps) → is_among different.now path ≡ is_among order.now.hide path }
+    requires below { PassesBelow (refusal_number Refusal.RootMarked) (order_of order.now) }
     ensures passes { OnOk result (PassesBelow (refusal_number Refusal.TooManyHidden) (order_of order.now)) }
     ensures refused { IfErr result (IsOrderRefused (order_of order.now)) }
 {
     if let Some(k) = first_root(&order.hide) {
         return Err(IssueError::RootMarked(k));
     }
-    if let Some(k) = first_nowhere(&order.payload, &order.hide) {
+    if let Some(k) = first_nowhere(&order.payload, &order.hide, different) {
         return Err(IssueError::NoSuchPlace(k));
     }
     if let Some(k) = first_protected(&order.hide) {
@@ -197,7 +207,7 @@ fn spells_some(text: &Option<TextBox>)
 
 /// Whether an order is refused by what it says itself: by one of 51 to 59, the lowest that applies at its least place.
 ///
-/// It searches the paths one by one, and costs no more than that and one walk of the payload.
+/// It sorts the paths, looks for each of the different ones in the payload, and walks the payload once.
 pub fn judge(alloc: Global, order: &Order) -> Result<(), IssueError>
     requires { depth_of (tree_of order.now.payload) ≤ json_depth_max }
     ensures passes { OnOk result (NoneApplies (AppliesToOrder (order_of order.now))) }
@@ -207,9 +217,26 @@ pub fn judge(alloc: Global, order: &Order) -> Result<(), IssueError>
     ensures typ { OnOk result (IfSome order.now.typ IsUtf8) }
     ensures refused { IfErr result (IsOrderRefused (order_of order.now)) }
 {
+    let _different = judged_places(alloc, order)?;
+    Ok(())
+}
+
+/// The same. Of an order that is not refused it answers the different places that are hidden, sorted.
+pub fn judged_places(alloc: Global, order: &Order) -> Result<PathList, IssueError>
+    requires { depth_of (tree_of order.now.payload) ≤ 127 }
+    ensures same { IfOk result (λ places. (path : Steps) → is_among places path ≡ is_among order.now.hide path) }
+    ensures few { IfOk result (λ places. length places ≤ count_max) }
+    ensures passes { IfOk result (λ _. NoneApplies (AppliesToOrder (order_of order.now))) }
+    ensures good { IfOk result (λ _. IsGoodOrder (order_of order.now)) }
+    ensures held { IfOk result (λ _. good.FitsMachine (tree_of order.now.payload)) }
+    ensures kid { IfOk result (λ _. IfSome order.now.kid IsUtf8) }
+    ensures typ { IfOk result (λ _. IfSome order.now.typ IsUtf8) }
+    ensures refused { IfErr result (IsOrderRefused (order_of order.now)) }
+{
     judge_payload(alloc, order)?;
-    judge_places(order)?;
-    if hides_too_many(alloc, &order.hide)? {
+    let different = different_paths(alloc, &order.hide)?;
+    judge_places(order, &different)?;
+    if hides_too_many(&order.hide, &different) {
         return Err(IssueError::TooManyHidden);
     }
     if are_too_many(&order.decoys) {
@@ -217,5 +244,5 @@ pub fn judge(alloc: Global, order: &Order) -> Result<(), IssueError>
     }
     spells_some(&order.kid);
     spells_some(&order.typ);
-    Ok(())
+    Ok(different)
 }

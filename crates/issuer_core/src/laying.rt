@@ -1,6 +1,5 @@
 // The walk that hides, RFC 9901 section 4.2.4.
 ghost use Rattle.std.specs.Prelude.{◌≡◌, ◌+◌, ◌≤◌, ◌<◌, List, [], ◌∷◌, ◌++◌, length, map, drop, option_map, IfOk, OnOk, IsTrue};
-ghost use Rattle.std.specs.Set.{distinct_count};
 ghost use Rattle.claim_tree.specs.FileForms.{text_elements};
 ghost use Rattle.sd_outside.specs.Limits.{count_max, depth_max};
 ghost use Rattle.claim_tree.specs.Tree.{Text, depth, elements_depth, members_depth};
@@ -8,7 +7,7 @@ ghost use Rattle.claim_tree.specs.View.{tree_of};
 ghost use Rattle.disclosure.specs.Digest.{digest_of};
 ghost use Rattle.marked_tree.specs.Marked.{strip, strip_elements, strip_members};
 ghost use Rattle.marked_tree.specs.Ways.{weight, elements_weight, members_weight, mark_weight};
-ghost use Rattle.marked_tree.specs.Paths.{same_path};
+ghost use Rattle.marked_tree.specs.Paths.{Path as Steps, is_among};
 ghost use Rattle.marked_tree.specs.View.{marked_of};
 ghost use Rattle.issuer_core.specs.Order.{order_of};
 ghost use Rattle.issuer_core.specs.Decoys.{decoy_paths};
@@ -22,7 +21,7 @@ ghost use Rattle.issuer_core.specs.Closing.{one, HasNumber, ClosesFrom, Elements
 use crate::decoys::{Decoys, sort_decoys};
 use crate::salts::salts_of;
 use crate::{DecoyList, Order, decoy_count};
-use claim_tree::{Tree, TreeList, TreeMap};
+use claim_tree::{PathList, Tree, TreeList, TreeMap};
 use compact_form::COUNT_MAX;
 use disclosure::{HashAlg, digest, make_text};
 use marked_tree::{Marked, MarkedList, MarkedMap, mark_counted};
@@ -337,10 +336,16 @@ fn push_texts(texts: &mut TextList, others: TextList) -> Result<(), NoMemory>
     Ok(())
 }
 
-// Lays an order, with the salts of a seed. Its texts are moved.
-pub(crate) fn lay_order(alloc: Global, order: Order, seed: &[u8; 32]) -> Result<Laid, NoMemory>
+// Lays an order whose hidden places are told once more, each once, with the salts of a seed. Its texts are moved.
+pub(crate) fn lay_order(
+    alloc: Global,
+    order: Order,
+    places: PathList,
+    seed: &[u8; 32],
+) -> Result<Laid, NoMemory>
     requires shallow { depth (order_of order).payload ≤ depth_max }
-    requires few { distinct_count same_path order.hide ≤ count_max }
+    requires same { (path : Steps) → is_among places path ≡ is_among order.hide path }
+    requires few { length places ≤ count_max }
     requires decoys { length (decoy_paths order.decoys) ≤ count_max }
     ensures laid { IfOk result (λ laid. IsLaidFor (maker_of seed.now) (order_of order) (tree_of laid.payload) laid.texts laid.digests) }
     ensures few { IfOk result (λ laid. length laid.texts ≤ count_max) }
@@ -348,7 +353,7 @@ pub(crate) fn lay_order(alloc: Global, order: Order, seed: &[u8; 32]) -> Result<
     if hides_nothing(&order) {
         return lay_shown(alloc, order.hash, order.payload);
     }
-    lay_hidden(alloc, order, seed)
+    lay_hidden(alloc, order, places, seed)
 }
 
 // Whether it hides nothing and has no decoys.
@@ -372,21 +377,26 @@ fn lay_shown(alloc: Global, hash: HashAlg, payload: Tree) -> Result<Laid, NoMemo
 }
 
 // An order with what it hides and its decoys, by the salts of a seed.
-fn lay_hidden(alloc: Global, order: Order, seed: &[u8; 32]) -> Result<Laid, NoMemory>
+fn lay_hidden(
+    alloc: Global,
+    order: Order,
+    places: PathList,
+    seed: &[u8; 32],
+) -> Result<Laid, NoMemory>
     requires shallow { depth (order_of order).payload ≤ depth_max }
-    requires few { distinct_count same_path order.hide ≤ count_max }
+    requires same { (path : Steps) → is_among places path ≡ is_among order.hide path }
+    requires few { length places ≤ count_max }
     requires decoys { length (decoy_paths order.decoys) ≤ count_max }
     ensures laid { IfOk result (λ laid. IsLaidFor (maker_of seed.now) (order_of order) (tree_of laid.payload) laid.texts laid.digests) }
     ensures few { IfOk result (λ laid. length laid.texts ≤ count_max) }
 {
     let Order {
         payload,
-        hide,
         decoys,
         hash,
         ..
     } = order;
-    let (claims, hidden) = mark_counted(alloc, payload, hide)?;
+    let (claims, hidden) = mark_counted(alloc, payload, places)?;
     let hidden = hidden as usize;
     let salts = salts_of(alloc, seed, hidden + decoy_count(&decoys))?;
     let hiding = Hiding {

@@ -23,7 +23,7 @@ mod salts;
 pub use clash::first_clash;
 pub use errors::IssueError;
 pub use issuing::{issue, issue_owned, order_header};
-pub use judging::judge;
+pub use judging::{judge, judged_places};
 pub use order::{Decoy, DecoyList, Order, decoy_count};
 pub use order_file::{IssueFile, read_order};
 pub use rebuild_core::DEPTH_MAX;

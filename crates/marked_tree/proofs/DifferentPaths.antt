@@ -1,13 +1,15 @@
 -- Paths that are equal, and a sorted list with each of its paths once.
-use Rattle.std.proofs.Common.{◌≡◌, List, [], ◌∷◌, length, Bool, true, false, cond, ◌&&◌, ◌||◌, Ordering, Less, Equal, Greater, refl, sym, ap, ap₂, ◌∙◌, arith}
+use Rattle.std.proofs.Common.{◌≡◌, ℕ, zero, suc, ◌+◌, ◌<◌, List, [], ◌∷◌, length, map, Bool, true, false, cond, ◌&&◌, ◌||◌, Ordering, Less, Equal, Greater, refl, sym, ap, ap₂, ◌∙◌, arith}
 use Rattle.std.specs.Cmp.{IsEquivalence}
 use Rattle.std.specs.Cmp.Lexicographic.{nat_list_eq_equiv}
 use Rattle.std.specs.List.{IsDistinct, AllByRecursion, dedup, dedup_from}
 use Rattle.std.specs.List.Sorted.{IsPermutation, IsSortedBy, IsStrictlySortedBy}
 use Rattle.std.specs.Ordering.{eq_by_cmp, is_eq, ordering_then}
+use Rattle.std.specs.Prelude.{slice_index_or}
 use Rattle.std.specs.Set.{distinct_count}
+use Rattle.std.proofs.lemmas.List.{length-map}
 use Rattle.std.proofs.lemmas.List.Kept.{IsStrictlySortedBy-dedup}
-use Rattle.std.proofs.lemmas.List.Sorted.{list_any-IsPermutation}
+use Rattle.std.proofs.lemmas.List.Sorted.{list_any-IsPermutation, IsPermutation-map}
 use Rattle.std.proofs.lemmas.Map.Keys.{sorted_head, sorted_tail, IsDistinct-from_sorted, IsDistinct-head, IsDistinct-tail, IsDistinct-cons, IsDistinct-from_apart}
 use Rattle.std.proofs.lemmas.Map.Made.{length-from_keys}
 use Rattle.claim_tree.proofs.SamePaths.{path_same, path_refl}
@@ -104,3 +106,42 @@ each_once paths sorted kept moved up is =
       sorted = strictly_sorted kept strict;
       count = length-from_keys path_laws kept paths (all_distinct kept (IsDistinct-from_sorted path_order kept strict)) same;
     }
+
+-- ---- the same of what shows a path, as one that is lent
+
+module _ {A : Type 0} (f : A → Path) where
+  abbrev pub same_shown : A → A → Bool
+  same_shown x y = same_path (f x) (f y)
+
+  abbrev pub lower_shown : A → A → Bool
+  lower_shown x y = lower_path (f x) (f y)
+
+  index_map : (xs : List A) (i : ℕ) (x : A) (d : Path) → i < length xs → slice_index_or (map f xs) i d ≡ f (slice_index_or xs i x)
+  index_map [] i x d l = absurd (omega (arith, l))
+  index_map (y ∷ ys) zero x d l = refl
+  index_map (y ∷ ys) (suc i) x d l = index_map ys i x d (omega (arith, l))
+
+  sorted_map : (xs : List A) → IsSortedBy lower_shown xs → IsSortedBy lower_path (map f xs)
+  sorted_map [] s k d low high = absurd (omega (arith, high))
+  sorted_map (x ∷ xs) s k d low high =
+      let long = length-map xs f in
+      let within : k + 1 < length (x ∷ xs) = omega (arith, long, high) in
+      rw (index_map (x ∷ xs) k x d (omega (arith, within)), index_map (x ∷ xs) (k + 1) x d within) (s k x low within)
+
+  map_from : (k : A) (xs : List A) → map f (dedup_from same_shown k xs) ≡ dedup_from same_path (f k) (map f xs)
+  map_from k [] = refl
+  map_from k (x ∷ xs) = go (same_path (f x) (f k)) (map_from k xs) (map_from x xs)
+    where
+      go : (b : Bool) → map f (dedup_from same_shown k xs) ≡ dedup_from same_path (f k) (map f xs)
+          → map f (dedup_from same_shown x xs) ≡ dedup_from same_path (f x) (map f xs)
+          → map f (cond b (dedup_from same_shown k xs) (k ∷ dedup_from same_shown x xs)) ≡ cond b (dedup_from same_path (f k) (map f xs)) (f k ∷ dedup_from same_path (f x) (map f xs))
+      go true skip keep = skip
+      go false skip keep = ap (λ ps. f k ∷ ps) keep
+
+  map_dedup : (xs : List A) → map f (dedup same_shown xs) ≡ dedup same_path (map f xs)
+  map_dedup [] = refl
+  map_dedup (x ∷ xs) = map_from x xs
+
+  pub each_shown : (xs sorted kept : List A) → IsPermutation xs sorted → IsSortedBy lower_shown sorted → kept ≡ dedup same_shown sorted → IsEachOnce (map f xs) (map f kept)
+  each_shown xs sorted kept moved up is =
+      each_once (map f xs) (map f sorted) (map f kept) (IsPermutation-map f xs sorted moved) (sorted_map sorted up) (ap (map f) is ∙ map_dedup sorted)

@@ -18,7 +18,7 @@ pub use chosen::ChosenSet;
 pub use compares::compare_paths;
 pub use inside::stepped;
 pub use marked::{Marked, MarkedList, MarkedMap};
-pub use marking::{count_different, mark, mark_counted, run_below};
+pub use marking::{different_paths, mark, mark_counted, run_below};
 pub use places::place_of;
 pub use prunes::prune;
 pub use strips::{into_tree, strip};

@@ -1,5 +1,5 @@
 // The marking of a plain tree.
-ghost use Rattle.std.specs.Prelude.{◌≡◌, ◌≢◌, ◌≤◌, ◌<◌, ◌+◌, ◌-◌, ◌^◌, List, ◌∷◌, [], length, IfOk, OnOk, IsTrue, IsFalse, take, drop, slice_index_or};
+ghost use Rattle.std.specs.Prelude.{◌≡◌, ◌≢◌, ◌≤◌, ◌<◌, ◌+◌, ◌-◌, ◌^◌, List, ◌∷◌, [], length, map, IfOk, OnOk, IsTrue, IsFalse, take, drop, slice_index_or};
 ghost use Rattle.std.specs.declared.cmp.Ordering.TheVariants.{Less, Equal, Greater};
 ghost use Rattle.std.specs.Set.{distinct_count};
 ghost use Rattle.sd_outside.specs.Limits.{json_depth_max};
@@ -54,12 +54,37 @@ pub fn mark_counted(alloc: Global, tree: Tree, paths: PathList) -> Result<(Marke
     Ok((marked, next))
 }
 
-/// How many different paths these are: copies of them are sorted.
-pub fn count_different(alloc: Global, paths: &PathList) -> Result<usize, NoMemory>
-    ensures { IfOk result (λ count. count ≡ distinct_count same_path paths.now) }
+/// The different ones of the paths, in the order in which they are sorted. They alone are copied.
+pub fn different_paths(alloc: Global, paths: &PathList) -> Result<PathList, NoMemory>
+    ensures same { IfOk result (λ different. (path : Steps) → is_among different path ≡ is_among paths.now path) }
+    ensures count { IfOk result (λ different. length different ≡ distinct_count same_path paths.now) }
 {
-    let paths = copy_paths(alloc, paths)?;
-    Ok(sorted_paths(paths)?.len())
+    let mut lent = lent_paths(alloc, paths)?;
+    lent.sort_by(|one, other| compare_paths(one, other))?;
+    lent.dedup_by(|one, other| is_same(one, other));
+    copies_of(alloc, lent.as_slice())
+}
+
+// The paths, lent one by one.
+fn lent_paths<'a>(alloc: Global, paths: &'a PathList) -> Result<Vec<&'a Path>, NoMemory>
+    ensures { IfOk result (λ lent. map (λ path. path.now) lent.items ≡ paths.now) }
+{
+    let mut lent = Vec::with_capacity(alloc, paths.len())?;
+    for path in paths.elements() {
+        lent.push(path)?;
+    }
+    Ok(lent)
+}
+
+// Copies of paths that are lent.
+fn copies_of(alloc: Global, lent: &[&Path]) -> Result<PathList, NoMemory>
+    ensures { IfOk result (λ copies. copies ≡ map (λ path. path.now) lent.now) }
+{
+    let mut copies = PathList::new(alloc);
+    for path in lent {
+        copies.push(path.copy(alloc)?)?;
+    }
+    Ok(copies)
 }
 
 // The paths in their order, each once.

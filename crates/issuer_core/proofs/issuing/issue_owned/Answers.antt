@@ -20,7 +20,7 @@ pub returns-clause-issued : goal.returns-clause-issued
 returns-clause-issued g c =
     let l = c.in_ok-laid.laid in
     IfOk-weaker c.issue_laid.result _ _
-    (finished_issued c.args.seed.now (order_of c.args.order) (tree_of l.payload) l.texts l.digests c.in_ok-laid.ensures.laid c.in_ok-header.header (g.S.Signer.alg_of c.args.signer.now) (c.in_ok-header.ensures ∙ ap (λ alg. header_of alg (order_of c.args.order)) c.alg.ensures) (g.S.Signatures.good c.args.signer.now) c.in_default.ensures.good c.invariant.ensures.ranged c.in_default.ensures.held)
+    (finished_issued c.args.seed.now (order_of c.args.order) (tree_of l.payload) l.texts l.digests c.in_ok-laid.ensures.laid c.in_ok-header.header (g.S.Signer.alg_of c.args.signer.now) (c.in_ok-header.ensures ∙ ap (λ alg. header_of alg (order_of c.args.order)) c.alg.ensures) (g.S.Signatures.good c.args.signer.now) c.in-Ok.ensures.good c.invariant.ensures.ranged c.in-Ok.ensures.held)
     c.issue_laid.ensures.finished
 
 pub returns-clause-laid : goal.returns-clause-laid
@@ -31,11 +31,11 @@ returns-clause-laid g c =
     c.issue_laid.ensures.finished
 
 pub returns-clause-passes : goal.returns-clause-passes
-returns-clause-passes g c = IfOk-weaker c.issue_laid.result _ _ (λ parts done. c.in_default.ensures.passes) c.issue_laid.ensures.finished
+returns-clause-passes g c = IfOk-weaker c.issue_laid.result _ _ (λ parts done. c.in-Ok.ensures.passes) c.issue_laid.ensures.finished
 
 pub returns-clause-writable : goal.returns-clause-writable
 returns-clause-writable g c =
-    let judged = c.in_default.ensures in
+    let judged = c.in-Ok.ensures in
     IfOk-weaker c.issue_laid.result _ _ (λ parts done. record { good = judged.good; held = judged.held; ranged = c.invariant.ensures.ranged; kid = judged.kid; typ = judged.typ }) c.issue_laid.ensures.finished
 
 pub returns-clause-differ : goal.returns-clause-differ
@@ -56,14 +56,11 @@ pub returns-clause-refused : goal.returns-clause-refused
 returns-clause-refused g c =
     let l = c.in_ok-laid.laid in
     IfErr-weaker c.issue_laid.result _ _
-    (unfinished_refused c.args.seed.now (order_of c.args.order) (tree_of l.payload) l.texts l.digests c.in_ok-laid.ensures.laid c.in_ok-header.header (g.S.Signer.alg_of c.args.signer.now) (c.in_ok-header.ensures ∙ ap (λ alg. header_of alg (order_of c.args.order)) c.alg.ensures) (g.S.Signatures.good c.args.signer.now) c.in_default.ensures.passes)
+    (unfinished_refused c.args.seed.now (order_of c.args.order) (tree_of l.payload) l.texts l.digests c.in_ok-laid.ensures.laid c.in_ok-header.header (g.S.Signer.alg_of c.args.signer.now) (c.in_ok-header.ensures ∙ ap (λ alg. header_of alg (order_of c.args.order)) c.alg.ensures) (g.S.Signatures.good c.args.signer.now) c.in-Ok.ensures.passes)
     c.issue_laid.ensures.unfinished
 
-pub lay_order-requires-clause-few : goal.lay_order-requires-clause-few
-lay_order-requires-clause-few g c = not_below (distinct_count same_path c.args.order.hide) count_max (c.in_default.ensures.passes TooManyHidden)
-
 pub lay_order-requires-clause-decoys : goal.lay_order-requires-clause-decoys
-lay_order-requires-clause-decoys g c = not_below (length (decoy_paths c.args.order.decoys)) count_max (c.in_default.ensures.passes TooManyDecoys)
+lay_order-requires-clause-decoys g c = not_below (length (decoy_paths c.args.order.decoys)) count_max (c.in-Ok.ensures.passes TooManyDecoys)
 
 pub issue_laid-requires : goal.issue_laid-requires
 issue_laid-requires g c =
@@ -71,6 +68,6 @@ issue_laid-requires g c =
     let l = c.in_ok-laid.laid in
     let t = tree_of l.payload in
     record {
-      object = body_object c.args.seed.now o t l.texts l.digests c.in_default.ensures.good c.in_ok-laid.ensures.laid;
+      object = body_object c.args.seed.now o t l.texts l.digests c.in-Ok.ensures.good c.in_ok-laid.ensures.laid;
       words = laid_words c.args.seed.now o t l.texts l.digests c.in_ok-laid.ensures.laid;
     }

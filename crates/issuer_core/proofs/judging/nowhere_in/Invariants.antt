@@ -4,7 +4,7 @@ use Rattle.std.specs.List.{position_from}
 use Rattle.claim_tree.specs.Path.{tree_at}
 use Rattle.claim_tree.specs.View.{tree_of}
 use Rattle.issuer_core.specs.Judging.{is_nowhere}
-use Rattle.issuer_core.proofs.judging.first_nowhere.Given as goal
+use Rattle.issuer_core.proofs.judging.nowhere_in.Given as goal
 
 abbrev pub invariant-loop-k : goal.invariant-loop-k
 invariant-loop-k l =
