@@ -223,7 +223,7 @@ pub fn judge(alloc: Global, order: &Order) -> Result<(), IssueError>
 
 /// The same. Of an order that is not refused it answers the different places that are hidden, sorted.
 pub fn judged_places(alloc: Global, order: &Order) -> Result<PathList, IssueError>
-    requires { depth_of (tree_of order.now.payload) ≤ 127 }
+    requires { depth_of (tree_of order.now.payload) ≤ json_depth_max }
     ensures same { IfOk result (λ places. (path : Steps) → is_among places path ≡ is_among order.now.hide path) }
     ensures few { IfOk result (λ places. length places ≤ count_max) }
     ensures passes { IfOk result (λ _. NoneApplies (AppliesToOrder (order_of order.now))) }
