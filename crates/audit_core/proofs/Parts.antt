@@ -1,7 +1,6 @@
 -- Small facts of the parts of an audit.
-use Rattle.std.proofs.Common.{◌≡◌, ◌≤◌, List, [], ◌∷◌, length, Bool, true, false, cond, ◌||◌, refl, sym, ap, ◌∙◌, subst}
+use Rattle.std.proofs.Common.{◌≡◌, ◌≤◌, List, [], ◌∷◌, length, Bool, true, false, cond, ◌||◌, refl, sym, ap, ◌∙◌}
 use Rattle.std.specs.Prelude.{bytes_eq}
-use Rattle.std.specs.Set.{distinct_count}
 use Rattle.sd_outside.specs.Limits.{count_max}
 use Rattle.claim_tree.specs.Tree.{Text, Members, no_members, member}
 use Rattle.claim_tree.specs.View.{tree_of}
@@ -9,8 +8,7 @@ use Rattle.claim_tree.specs.ListViews.{members_of}
 use Rattle.claim_tree.proofs.Walks.{Named}
 use Rattle.compact_form.specs.Lowest.{NoneApplies}
 use Rattle.digest_index.proofs.Positions.{bytes_eq-flip}
-use Rattle.marked_tree.specs.Paths.{Path, same_path}
-use Rattle.issuer_core.specs.declared.errors.IssueError.TheVariants.{TooManyHidden, TooManyDecoys}
+use Rattle.issuer_core.specs.declared.errors.IssueError.TheVariants.{TooManyDecoys}
 use Rattle.issuer_core.specs.Decoys.{decoys_of}
 use Rattle.issuer_core.specs.Order.{Order}
 use Rattle.issuer_core.specs.OrderRefusals.{AppliesToOrder}
@@ -28,9 +26,6 @@ no_members_empty (m ∷ ms) e = let w : no_members ≡ member m.0 (tree_of m.1) 
     apart m ms w = let v : true ≡ false = ap is_none w in cc
 
 -- ---- an order that nothing refuses
-
-pub few_hidden : (o : Order) → NoneApplies (AppliesToOrder o) → (hide : List Path) → hide ≡ o.hide → distinct_count same_path hide ≤ count_max
-few_hidden o none hide e = subst (λ (h : List Path). distinct_count same_path h ≤ count_max) (sym e) (not_below (distinct_count same_path o.hide) count_max (none TooManyHidden))
 
 pub few_decoys : (o : Order) → NoneApplies (AppliesToOrder o) → length (decoys_of o) ≤ count_max
 few_decoys o none = not_below (length (decoys_of o)) count_max (none TooManyDecoys)

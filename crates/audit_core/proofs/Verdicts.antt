@@ -1,6 +1,5 @@
 -- A text has one verdict; and from the steps of an audit to its verdict.
-use Rattle.std.proofs.Common.{◌≡◌, ℕ, ◌≤◌, List, [], ◌∷◌, Option, Result, Ok, Err, refl, sym, ap, ap₂, ◌∙◌, subst, arith}
-use Rattle.std.specs.Result.{OnOk}
+use Rattle.std.proofs.Common.{◌≡◌, ℕ, ◌≤◌, List, [], ◌∷◌, Option, refl, sym, ap, ap₂, ◌∙◌, subst, arith}
 use Rattle.std.specs.List.{AllZip}
 use Rattle.claim_tree.specs.Tree.{Text, Tree, leaf, text}
 use Rattle.compact_form.specs.Lowest.{NoneApplies}
@@ -26,10 +25,6 @@ use Rattle.rebuild_core.specs.Payload.{without_alg}
 use Rattle.compact_form.specs.declared.parts.Parts.{Parts}
 use Rattle.audit_core.specs.AuditCalls.{IsAuditRefused, IsBeforeOpening}
 use Rattle.audit_core.specs.AuditSteps.{IsWrittenWith, OnPart, OnOrderRefused}
-
-pub passes_of : {T E P : Type 0} (r : Result T E) → ((x : E) → r ≡ Err x → ⊥) → OnOk r P → P
-passes_of (Ok u) n p = p
-passes_of (Err x) n p = absurd (n x refl)
 
 pub on_part : (e : AuditError) (P Q : ℕ → Type 0) → ((k : ℕ) → P k → Q k) → OnPart e P → OnPart e Q
 on_part Memory P Q f h = tt

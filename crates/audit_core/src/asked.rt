@@ -1,14 +1,16 @@
 // What an order asks for.
-ghost use Rattle.std.specs.Prelude.{◌≤◌, IfOk};
+ghost use Rattle.std.specs.Prelude.{◌≡◌, ◌≤◌, length, IfOk};
 ghost use Rattle.sd_outside.specs.Limits.{count_max, json_depth_max};
 ghost use Rattle.claim_tree.specs.Tree.{depth as depth_of};
 ghost use Rattle.claim_tree.specs.View.{tree_of};
 ghost use Rattle.compact_form.specs.Lowest.{NoneApplies};
+ghost use Rattle.marked_tree.specs.Paths.{Path, is_among};
 ghost use Rattle.issuer_core.specs.Order.{order_of};
 ghost use Rattle.issuer_core.specs.OrderRefusals.{AppliesToOrder};
 ghost use Rattle.audit_core.specs.Asked.{IsAskedFor};
 
 use crate::wanted::wanted_standings;
+use claim_tree::PathList;
 use disclosure::HashAlg;
 use issuer_core::{Order, decoy_count};
 use marked_tree::{Marked, mark_counted};
@@ -27,9 +29,12 @@ pub(crate) struct Asked {
     pub(crate) standings: Vec<TextBox>,
 }
 
-// What an order asks for that nothing refuses. Its claims and paths are not copied.
-pub(crate) fn asked_of(alloc: Global, order: Order) -> Result<Asked, NoMemory>
+// What an order asks for that nothing refuses, whose hidden places are told once more, each once. Its claims are not
+// copied.
+pub(crate) fn asked_of(alloc: Global, order: Order, places: PathList) -> Result<Asked, NoMemory>
     requires depth { depth_of (tree_of order.payload) ≤ json_depth_max }
+    requires same { (path : Path) → is_among places path ≡ is_among order.hide path }
+    requires few { length places ≤ count_max }
     requires passes { NoneApplies (AppliesToOrder (order_of order)) }
     ensures asked { IfOk result (IsAskedFor (order_of order)) }
     ensures hidden { IfOk result (λ asked. asked.hidden ≤ count_max) }
@@ -38,13 +43,8 @@ pub(crate) fn asked_of(alloc: Global, order: Order) -> Result<Asked, NoMemory>
     let decoys = decoy_count(&order.decoys);
     let mut standings = wanted_standings(alloc, &order)?;
     standings.sort()?;
-    let Order {
-        payload,
-        hide,
-        hash,
-        ..
-    } = order;
-    let (claims, hidden) = mark_counted(alloc, payload, hide)?;
+    let Order { payload, hash, .. } = order;
+    let (claims, hidden) = mark_counted(alloc, payload, places)?;
     Ok(Asked {
         claims,
         hidden,

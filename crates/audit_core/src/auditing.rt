@@ -1,14 +1,14 @@
 // The call that audits.
-ghost use Rattle.std.specs.Prelude.{◌≡◌, ◌≤◌, ℕ, List, length, OnOk, IfErr};
+ghost use Rattle.std.specs.Prelude.{◌≡◌, ◌≤◌, ℕ, List, length, OnOk, IfOk, IfErr};
 ghost use Rattle.sd_outside.specs.Limits.{count_max, json_depth_max};
 ghost use Rattle.claim_tree.specs.Tree.{Tree as SeenTree, depth as depth_of};
 ghost use Rattle.claim_tree.specs.View.{tree_of};
 ghost use Rattle.compact_form.specs.Lowest.{NoneApplies};
 ghost use Rattle.digest_sites.specs.Given.{Given as SeenGiven};
+ghost use Rattle.marked_tree.specs.Paths.{Path, is_among};
 ghost use Rattle.rebuild_core.specs.Answer.{IsPayload, ValuesShallow};
 ghost use Rattle.rebuild_core.specs.LookUps.{look_ups, RoseWithin};
 ghost use Rattle.rebuild_core.specs.Payload.{without_alg as without_alg_of};
-ghost use Rattle.issuer_core.specs.GoodOrder.{IsGoodOrder};
 ghost use Rattle.issuer_core.specs.JudgeCalls.{IsOrderRefused};
 ghost use Rattle.issuer_core.specs.Order.{Order as SeenOrder, order_of};
 ghost use Rattle.issuer_core.specs.OrderRefusals.{AppliesToOrder};
@@ -31,22 +31,24 @@ use crate::signed::is_signed_for;
 use crate::sorted::has_sorted_digests;
 use crate::standing::are_alike;
 use crate::written::{Written, bare, read_written};
+use claim_tree::PathList;
 use digest_index::Steps;
 use hmac_sign::{Alg, Checker};
-use issuer_core::{IssueError, Order, judge, order_refusal};
+use issuer_core::{IssueError, Order, judged_places, order_refusal};
 use json_form::{TokenError, TokenText, TokenView};
 use sd_outside::TextBox;
 use std::alloc::Global;
 
-// Refusal 80: the order itself is refused.
-fn judge_order(alloc: Global, order: &Order) -> Result<(), AuditError>
+// Refusal 80: the order itself is refused. Else the places that it hides, each once.
+fn judge_order(alloc: Global, order: &Order) -> Result<PathList, AuditError>
     requires { depth_of (tree_of order.now.payload) ≤ json_depth_max }
-    ensures passes { OnOk result (NoneApplies (AppliesToOrder (order_of order.now))) }
-    ensures good { OnOk result (IsGoodOrder (order_of order.now)) }
+    ensures same { IfOk result (λ places. (path : Path) → is_among places path ≡ is_among order.now.hide path) }
+    ensures few { IfOk result (λ places. length places ≤ count_max) }
+    ensures passes { IfOk result (λ _. NoneApplies (AppliesToOrder (order_of order.now))) }
     ensures refused { IfErr result (λ e. OnOrderRefused e (order_of order.now)) }
 {
-    match judge(alloc, order) {
-        Ok(()) => Ok(()),
+    match judged_places(alloc, order) {
+        Ok(places) => Ok(places),
         Err(error) => Err(order_error(&error)),
     }
 }
@@ -175,6 +177,7 @@ fn judge_content(
 fn judge_token<K: Checker>(
     alloc: Global,
     order: Order,
+    places: PathList,
     alg: Alg,
     checker: &K,
     token: &TokenView<'_>,
@@ -182,6 +185,8 @@ fn judge_token<K: Checker>(
 ) -> Result<(), AuditError>
     requires depth { depth_of (tree_of order.payload) ≤ json_depth_max }
     requires passes { NoneApplies (AppliesToOrder (order_of order)) }
+    requires same { (path : Path) → is_among places path ≡ is_among order.hide path }
+    requires few { length places ≤ count_max }
     ensures audited { OnOk result (IsAudited (order_of order) alg (K.good checker.now) token.now) }
     ensures differs { IfErr result (λ e. OnPart e (DiffersIn (order_of order) alg (K.good checker.now) token.now)) }
     ensures within { IsTokenWithin (order_of order) token.now steps.old steps.new }
@@ -190,7 +195,7 @@ fn judge_token<K: Checker>(
     if !is_signed_for(alloc, &order, alg, checker, token)? {
         return Err(differs(AuditPart::Signed));
     }
-    let asked = asked_of(alloc, order)?;
+    let asked = asked_of(alloc, order, places)?;
     match read_written(alloc, asked.hash, asked.hidden, token)? {
         Some(written) => judge_content(alloc, &asked, token, written, steps),
         None => Err(differs(AuditPart::Written)),
@@ -214,15 +219,16 @@ pub(crate) fn audit_owned<K: Checker>(
     ensures within { IsAuditedWithin (order_of order) text.now steps.old steps.new }
     ensures uncounted { (error : SeenError) → IsBeforeOpening error → FailsAudit (order_of order) alg (K.good checker.now) text.now error → steps.new ≡ steps.old }
 {
-    if let Err(error) = judge_order(alloc, &order) {
-        return Err(error);
-    }
+    let places = match judge_order(alloc, &order) {
+        Ok(places) => places,
+        Err(error) => return Err(error),
+    };
     let token = match TokenText::read(alloc, text) {
         Ok(token) => token,
         Err(TokenError::Fault(fault)) => return Err(AuditError::Token(fault)),
         Err(TokenError::Memory) => return Err(AuditError::Memory),
     };
-    judge_token(alloc, order, alg, checker, &token.view(), steps)
+    judge_token(alloc, order, places, alg, checker, &token.view(), steps)
 }
 
 /// Whether a token is what an order asks for, as who has no seed can tell. The order is judged first, then whether the
