@@ -24,7 +24,15 @@ pub(crate) fn presented(alloc: Global, token: &str, order: &str) -> Result<TextB
     let mut signer = Hs256Key::new(&[2; 32]).map_err(|_| "short key")?;
     let consent = Consent::new(|_: &Path| true);
     let steps = &mut Steps::new();
-    let parts = present(alloc, token.as_bytes(), &ask, &consent, &mut signer, 0, steps);
+    let parts = present(
+        alloc,
+        token.as_bytes(),
+        &ask,
+        &consent,
+        &mut signer,
+        0,
+        steps,
+    );
     Ok(print(alloc, &parts.map_err(|_| "not presented")?)?)
 }
 

@@ -1,12 +1,10 @@
 use Rattle.std.proofs.Common.{length, ap, ◌∙◌, arith}
 use Rattle.std.proofs.lemmas.Result.{IfOk-weaker, IfErr-weaker}
-use Rattle.std.specs.Set.{distinct_count}
 use Rattle.sd_outside.specs.Limits.{count_max}
-use Rattle.marked_tree.specs.Paths.{same_path}
 use Rattle.claim_tree.specs.View.{tree_of}
 use Rattle.claim_tree.proofs.Counting.{not_below}
 use Rattle.issuer_core.specs.Decoys.{decoy_paths}
-use Rattle.issuer_core.specs.declared.errors.IssueError.TheVariants.{TooManyHidden, TooManyDecoys}
+use Rattle.issuer_core.specs.declared.errors.IssueError.TheVariants.{TooManyDecoys}
 use Rattle.issuer_core.specs.Order.{order_of}
 use Rattle.issuer_core.specs.Seed.{maker_of}
 use Rattle.issuer_core.specs.Written.{header_of}

@@ -1,4 +1,4 @@
-use Rattle.std.proofs.Common.{List, length, map, sym, ap, ◌∙◌, Bor, rules}
+use Rattle.std.proofs.Common.{List, length, map, ap, ◌∙◌, Bor, rules}
 use Rattle.std.specs.List.Sorted.{IsPermutation}
 use Rattle.std.proofs.lemmas.Fn.{dedup_same}
 use Rattle.std.proofs.lemmas.List.Sorted.{ranks_by, answers_always}
