@@ -1,5 +1,5 @@
 -- An order with a hidden member and a decoy, and a token that is issued for it: the premises of the law of the audit are met.
-use Rattle.std.proofs.Common.{◌≡◌, ℕ, zero, suc, ◌+◌, ◌<◌, ◌≤◌, List, [], ◌∷◌, ◌++◌, length, length-append, true, false, bytes_eq, None, Some, codes, inl, inr, rules, refl, sym, ap, ◌∙◌, arith}
+use Rattle.std.proofs.Common.{◌≡◌, ℕ, zero, suc, ◌+◌, ◌<◌, ◌≤◌, List, [], ◌∷◌, ◌++◌, length, length-append, IsUtf8, true, false, bytes_eq, None, Some, codes, inl, inr, rules, refl, sym, ap, ◌∙◌, arith}
 use Rattle.std.specs.Fmt.{digits}
 use Rattle.std.specs.Prelude.{slice_get}
 use Rattle.json.proofs.Printed.Utf8.{IsUtf8-are_ascii}
@@ -23,7 +23,7 @@ use Rattle.json_form.specs.Token.{IsToken, IsTooMuch}
 use Rattle.json_form.proofs.AloneForms.{compact_read}
 use Rattle.json_form.proofs.Lines.{read_compact_line}
 use Rattle.rebuild_core.specs.Payload.{alg_name}
-use Rattle.issuer_core.specs.GoodOrder.{FitsMachine}
+use Rattle.issuer_core.specs.GoodOrder.{EachText}
 use Rattle.issuer_core.specs.IssueCalls.{AllDiffer}
 use Rattle.issuer_core.specs.Laid.{IsLaid}
 use Rattle.issuer_core.specs.Order.{Order}
@@ -102,8 +102,8 @@ applies_not = passes order tt none_reserved (omega arith) refl refl refl refl (o
 ordered : IsOrdered order.payload
 ordered = search rules
 
-held : FitsMachine order.payload
-held = (IsUtf8-are_ascii family refl, IsUtf8-are_ascii (codes "Bee") refl, (IsUtf8-are_ascii (codes "l") refl, (omega arith, (IsUtf8-are_ascii (codes "c") refl, tt)), tt))
+utf8 : EachText IsUtf8 order.payload
+utf8 = (IsUtf8-are_ascii family refl, IsUtf8-are_ascii (codes "Bee") refl, (IsUtf8-are_ascii (codes "l") refl, (tt, (IsUtf8-are_ascii (codes "c") refl, tt)), tt))
 
 ranged : IsRanged order.payload
 ranged = search rules
@@ -152,4 +152,4 @@ is_token = compact_read (compact parts ++ 10 ∷ []) (alone parts) (read_compact
 
 -- so the law says of it what it says
 audited : PassesAudit order key.alg (IsGood key) (compact parts)
-audited = key_issued_passes_holds key seed order parts applies_not ordered held issued is_token
+audited = key_issued_passes_holds key seed order parts applies_not ordered utf8 issued is_token

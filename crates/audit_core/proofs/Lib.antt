@@ -19,7 +19,6 @@ pub mod Verdicts
 mod Askeds
 mod Answering
 mod OneAnswer
-pub mod IssuedDepths
 pub mod IssuedHashes
 pub mod IssuedWritten
 pub mod IssuedDigests

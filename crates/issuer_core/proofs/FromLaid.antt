@@ -273,11 +273,11 @@ disclosure_word : (salt : Tree) (name : Option Text) (value : Tree) → IsWord (
 disclosure_word salt None value = IsWord-b64 (json_text (array_of salt None value)) (omega arith)
 disclosure_word salt (Some name) value = IsWord-b64 (json_text (array_of salt (Some name) value)) (omega arith)
 
-texts_words : (seed : List ℕ) (k : ℕ) (given : List Given) → AllByRecursion IsWord (made_texts (maker_of seed).disclosure k given)
+pub texts_words : (seed : List ℕ) (k : ℕ) (given : List Given) → AllByRecursion IsWord (made_texts (maker_of seed).disclosure k given)
 texts_words seed k [] = tt
 texts_words seed k (x ∷ given) = (disclosure_word (leaf (text (salt_of seed k))) x.name x.value, texts_words seed (suc k) given)
 
-object_word : (t : Tree) → IsObject t → IsWord (b64 (json_text t))
+pub object_word : (t : Tree) → IsObject t → IsWord (b64 (json_text t))
 object_word (object ms) h = IsWord-b64 (json_text (object ms)) (omega arith)
 object_word (leaf l) h = absurd h
 object_word (array es) h = absurd h

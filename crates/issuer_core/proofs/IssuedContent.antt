@@ -1,8 +1,11 @@
 -- What is known of a token that is issued: what its parts carry, that this is sound, and what it shows.
-use Rattle.std.proofs.Common.{◌≡◌, ℕ, suc, ◌+◌, List, [], ◌∷◌, length, Some, refl, sym, ap, subst, ◌∙◌, arith}
-use Rattle.std.specs.List.{AllZip}
-use Rattle.claim_tree.specs.Tree.{Text, Tree}
+use Rattle.std.proofs.Common.{◌≡◌, ℕ, suc, ◌+◌, ◌<◌, List, [], ◌∷◌, length, Some, IfSome, IsUtf8, refl, sym, ap, subst, ◌∙◌, arith}
+use Rattle.std.specs.List.{AllZip, AllByRecursion}
+use Rattle.b64url_text.specs.Base64url.{IsWord}
+use Rattle.b64url_text.proofs.Codes.{IsWord-b64}
+use Rattle.claim_tree.specs.Tree.{Text, Tree, object}
 use Rattle.claim_tree.specs.Lists.{StandsAt}
+use Rattle.compact_form.specs.Compact.{AreWords, HasWords}
 use Rattle.compact_form.specs.declared.parts.Parts.{Parts}
 use Rattle.digest_sites.specs.Given.{Given}
 use Rattle.disclosure.specs.Digest.{digest_of, hash_of_name, payload_hash}
@@ -11,24 +14,26 @@ use Rattle.disclosure.specs.declared.digests.HashAlg.{HashAlg}
 use Rattle.disclosure.proofs.HashNames.{of_its_name}
 use Rattle.hmac_sign.specs.Signatures.{Meaning}
 use Rattle.hmac_sign.specs.declared.alg.Alg.{Alg}
+use Rattle.jws_part.specs.Header.{header_members}
 use Rattle.rebuild_core.specs.Soundness.{IsSound}
 use Rattle.rebuild_core.specs.Payload.{alg_name, without_alg}
 use Rattle.issuer_core.specs.Decoys.{decoys_of}
 use Rattle.issuer_core.specs.Digests.{hidden_of, made_texts}
-use Rattle.issuer_core.specs.GoodOrder.{IsObject, IsWritable}
+use Rattle.issuer_core.specs.GoodOrder.{IsObject, IsGoodOrder, IsWritable, EachText}
 use Rattle.issuer_core.specs.Issue.{HasNoClash, laid_digests}
 use Rattle.issuer_core.specs.Issued.{IsIssuedFor}
 use Rattle.issuer_core.specs.Laid.{IsLaid, with_alg}
 use Rattle.issuer_core.specs.Order.{Order}
 use Rattle.issuer_core.specs.Seed.{maker_of}
-use Rattle.issuer_core.specs.Written.{IsWritten, IsLaidOut}
+use Rattle.issuer_core.specs.Written.{header_of, IsWritten, IsIssued}
 use Rattle.issuer_core.proofs.Clashes.{no_repeats}
-use Rattle.issuer_core.proofs.FromLaid.{all_differ}
+use Rattle.issuer_core.proofs.FromLaid.{all_differ, with_alg_object, texts_words, object_word}
+use Rattle.issuer_core.proofs.IssuedFacts.{is_object, bare as issued_bare}
 use Rattle.issuer_core.proofs.IssuedSound.{issued_is_sound_holds}
 use Rattle.issuer_core.proofs.LaidDecoys.{laid_is_issued_holds}
 use Rattle.issuer_core.proofs.ReadBack.{IsReadBack, written_back}
 use Rattle.issuer_core.proofs.ReservedPlaces.{held_short}
-use Rattle.issuer_core.proofs.WithAlg.{alg_named, payload_object, without_with_alg}
+use Rattle.issuer_core.proofs.WithAlg.{alg_named}
 
 -- the text is a disclosure of this name and value, with this digest by the hash
 abbrev pub IsTextOf : HashAlg → Text → Given → Type 0
@@ -78,23 +83,38 @@ laid_digests_differ seed o p g dg laid differ writable =
     laid_is_issued_holds (maker_of seed) o p g dg writable.good writable.ranged (held_short o.payload writable.held) laid
     (all_differ dg (hidden_of o + length (decoys_of o)) (no_repeats (laid_digests o dg) (λ i j clash. differ i j (record { payload = p; given = g; digests = dg; laid = laid; clash = clash }))))
 
-pub has_issued : (seed : List ℕ) (o : Order) (alg : Alg) (good : Meaning) (parts : Parts) → IsWritable o → HasNoClash (maker_of seed) o → IsLaidOut (maker_of seed) o alg good parts → HasIssued seed o alg good parts
-has_issued seed o alg good parts writable differ out =
-    let p = out.payload in
-    let g = out.given in
-    let issued = laid_digests_differ seed o p g out.digests out.laid differ writable in
-    let back = written_back seed o p g out.digests writable out.laid alg good parts out.written in
+-- of parts that are issued, for a good order whose texts are UTF-8
+pub has_issued : (seed : List ℕ) (o : Order) (alg : Alg) (good : Meaning) (parts : Parts) → IsGoodOrder o → EachText IsUtf8 o.payload → IfSome o.kid IsUtf8 → IfSome o.typ IsUtf8
+    → IsIssued (maker_of seed) o alg good parts → HasIssued seed o alg good parts
+has_issued seed o alg good parts good_order utf8 kid typ is =
+    let p = is.payload in
+    let g = is.given in
+    let back = written_back seed o p g good_order utf8 is.issued alg good parts kid typ is.written in
     record {
       payload = p;
       given = g;
-      issued = issued;
-      written = out.written;
+      issued = is.issued;
+      written = is.written;
       back = back;
-      sound = issued_is_sound_holds (maker_of seed) o p g writable.good issued;
-      hash = names_hash o.hash p (payload_object (maker_of seed) o p g out.digests writable.good out.laid);
-      bare = without_with_alg (maker_of seed) o p g out.digests writable.good out.laid;
+      sound = issued_is_sound_holds (maker_of seed) o p g good_order is.issued;
+      hash = names_hash o.hash p (is_object seed o p g good_order is.issued);
+      bare = issued_bare seed o p g good_order is.issued;
       texts = texts_zip o.hash parts.disclosures g
-          (subst (λ (ds : List Text). AllZip (HasDigest o.hash) ds g) (sym out.written.disclosures)
-          (digests_zip o.hash seed 0 g (λ i x a. let c : i ≡ 0 + i = omega arith in subst (λ n. x.digest ≡ digest_of o.hash ((maker_of seed).disclosure n x.name x.value)) c (issued.made i x a))))
+          (subst (λ (ds : List Text). AllZip (HasDigest o.hash) ds g) (sym is.written.disclosures)
+          (digests_zip o.hash seed 0 g (λ i x a. let c : i ≡ 0 + i = omega arith in subst (λ n. x.digest ≡ digest_of o.hash ((maker_of seed).disclosure n x.name x.value)) c (is.issued.made i x a))))
           back.disclosures;
+    }
+
+-- each text of parts that are issued is a word, where the signature is no empty text
+pub issued_words : (seed : List ℕ) (o : Order) (alg : Alg) (good : Meaning) (parts : Parts) → IsGoodOrder o → (is : IsIssued (maker_of seed) o alg good parts) → 0 < length is.written.signature → AreWords parts
+issued_words seed o alg good parts good_order is some =
+    let there = is_object seed o is.payload is.given good_order is.issued in
+    record {
+      signed = record {
+        protected = subst IsWord (sym is.written.protected) (object_word (object (header_members (header_of alg o))) tt);
+        payload = subst IsWord (sym is.written.body) (object_word (with_alg o.hash is.payload) (with_alg_object o.hash is.payload there));
+        signature = subst IsWord (sym is.written.signature_text) (IsWord-b64 is.written.signature some);
+      };
+      disclosures = subst (AllByRecursion IsWord) (sym is.written.disclosures) (texts_words seed 0 is.given);
+      binding = subst (λ b. IfSome b HasWords) (sym is.written.unbound) tt;
     }

@@ -93,45 +93,9 @@ own_value P dg name None v h x m = elim m [ ]
 own_value P dg name (Some k) v h x (inl e) = subst (λ (z : Given). P z.value) (sym e) h
 own_value P dg name (Some k) v h x (inr m) = elim m [ ]
 
-deeper : (a b : ℕ) (xs : List Given) → a ≤ b → AllValues (λ t. depth t ≤ a) xs → AllValues (λ t. depth t ≤ b) xs
-deeper a b xs l h x m = omega (arith, l, h x m)
-
 module _ (dg : ℕ → Text) where
   mutual
-    -- the value of a disclosure is no deeper than the claims
-    pub items_depth : (dec : Path → List Text) (m : Marked) → AllValues (λ t. depth t ≤ depth (strip m)) (laid_given dec dg m)
-    items_depth dec (marked_leaf l) = λ x m. elim m [ ]
-    items_depth dec (marked_array es) = elements_items_depth dec 0 es
-    items_depth dec (marked_object ms) = members_items_depth dec ms
-
-    elements_items_depth : (dec : Path → List Text) (i : ℕ) (es : MarkedElements) → AllValues (λ t. depth t ≤ suc (elements_depth (strip_elements es))) (laid_elements dec dg i es)
-    elements_items_depth dec i no_marked_elements = λ x m. elim m [ ]
-    elements_items_depth dec i (marked_element k t es) =
-        let s : Path → List Text = λ q. dec (decimal i ∷ q) in
-        let c = suc (elements_depth (strip_elements (marked_element k t es))) in
-        let xs = laid_given s dg t in
-        let own = own_given dg None k (lay s dg t) in
-        let ys = laid_elements dec dg (suc i) es in
-        values_joined (λ z. depth z ≤ c) (xs ++ own) ys
-        (values_joined (λ z. depth z ≤ c) xs own (deeper (depth (strip t)) c xs (omega arith) (items_depth s t))
-        (own_value (λ z. depth z ≤ c) dg None k (lay s dg t) (omega (arith, lay_depth s dg t))))
-        (deeper (suc (elements_depth (strip_elements es))) c ys (omega arith) (elements_items_depth dec (suc i) es))
-
-    members_items_depth : (dec : Path → List Text) (ms : MarkedMembers) → AllValues (λ t. depth t ≤ suc (members_depth (strip_members ms))) (laid_members dec dg ms)
-    members_items_depth dec no_marked_members = λ x m. elim m [ ]
-    members_items_depth dec (marked_member name k t ms) =
-        let s : Path → List Text = λ q. dec (name ∷ q) in
-        let c = suc (members_depth (strip_members (marked_member name k t ms))) in
-        let xs = laid_given s dg t in
-        let own = own_given dg (Some name) k (lay s dg t) in
-        let ys = laid_members dec dg ms in
-        values_joined (λ z. depth z ≤ c) (xs ++ own) ys
-        (values_joined (λ z. depth z ≤ c) xs own (deeper (depth (strip t)) c xs (omega arith) (items_depth s t))
-        (own_value (λ z. depth z ≤ c) dg (Some name) k (lay s dg t) (omega (arith, lay_depth s dg t))))
-        (deeper (suc (members_depth (strip_members ms))) c ys (omega arith) (members_items_depth dec ms))
-
-  mutual
-    pub items_ranged : (dec : Path → List Text) (m : Marked) → IsRanged (strip m) → AllValues IsRanged (laid_given dec dg m)
+    items_ranged : (dec : Path → List Text) (m : Marked) → IsRanged (strip m) → AllValues IsRanged (laid_given dec dg m)
     items_ranged dec (marked_leaf l) r = λ x m. elim m [ ]
     items_ranged dec (marked_array es) r = elements_items_ranged dec 0 es r
     items_ranged dec (marked_object ms) r = members_items_ranged dec ms r
@@ -156,16 +120,6 @@ module _ (dg : ℕ → Text) where
 -- ---- an order
 
 module _ (mk : Maker) (o : Order) (p : Tree) (g : List Given) (dg : ℕ → Text) (laid : IsLaid mk o p g dg) where
-  pub payload_depth : depth p ≤ suc (depth o.payload)
-  payload_depth =
-      subst (λ t. depth t ≤ suc (depth o.payload)) (sym laid.payload_laid)
-      (subst (λ t. depth (lay (order_decoys o dg) dg (marked_claims o)) ≤ suc (depth t)) (mark_strips_holds o.payload o.hide) (lay_depth (order_decoys o dg) dg (marked_claims o)))
-
-  pub value_depth : (x : Given) → In x g → depth x.value ≤ depth o.payload
-  value_depth x m =
-      subst (λ t. depth x.value ≤ depth t) (mark_strips_holds o.payload o.hide)
-      (items_depth dg (order_decoys o dg) (marked_claims o) x (subst (λ (xs : List Given). In x xs) laid.given_laid m))
-
   pub payload_ranged : IsRanged o.payload → IsRanged p
   payload_ranged r = subst IsRanged (sym laid.payload_laid) (lay_ranged (order_decoys o dg) dg (marked_claims o) (subst IsRanged (sym (mark_strips_holds o.payload o.hide)) r))
 

@@ -20,11 +20,15 @@ pub mod IssuedForgery
 pub mod WithAlg
 pub mod LaidBounds
 pub mod OneLaid
-pub mod WrittenTexts
+pub mod EachTexts
+mod JsonBytes
+pub mod ShownTexts
+pub mod IssuedDepths
+pub mod IssuedFacts
 pub mod ReadBack
 pub mod IssuedContent
-pub mod ShownTexts
 pub mod IssuedRead
+pub mod IssuedSizes
 pub mod FromLaid
 pub mod OneToken
 pub mod OneRefusal

@@ -3,7 +3,7 @@ use Rattle.std.specs.Prelude.{◌<◌, ◌≤◌, ◌^◌, Option, Some, IfSome}
 use Rattle.std.specs.Str.{IsUtf8}
 use Rattle.sd_outside.specs.Limits.{depth_max}
 use Rattle.claim_tree.specs.Everywhere.{LeafIsUtf8, Everywhere}
-use Rattle.claim_tree.specs.Tree.{Tree, array, object, depth, elements_len, IsOrdered, IsRanged}
+use Rattle.claim_tree.specs.Tree.{Text, Leaf, text, Tree, array, object, depth, elements_len, IsOrdered, IsRanged}
 use Rattle.claim_tree.specs.Lists.{In}
 use Rattle.claim_tree.specs.Path.{tree_at}
 use Rattle.rebuild_core.specs.Free.{HasNoReserved}
@@ -34,6 +34,15 @@ pub record IsGoodOrder (o : Order) : Type 0 where
 -- what is so of every tree that a machine holds: each list has fewer than 2 ^ 64 elements, and each text and each name is UTF-8
 abbrev pub FitsMachine : Tree → Type 0
 FitsMachine t = Everywhere LeafIsUtf8 (λ es. elements_len es < 2 ^ 64) (λ name _. IsUtf8 name) t
+
+-- so is each text of a leaf
+abbrev pub TextIs : (Text → Type 0) → Leaf → Type 0
+TextIs P (text s) = P s
+TextIs P _ = Unit {0}
+
+-- so are each text and each name, however deep they stand
+abbrev pub EachText : (Text → Type 0) → Tree → Type 0
+EachText P t = Everywhere (TextIs P) (λ _. Unit {0}) (λ name _. P name) t
 
 -- a good order as a machine holds it, with numbers of 64 bits: what is written for it is read again
 pub record IsWritable (o : Order) : Type 0 where
