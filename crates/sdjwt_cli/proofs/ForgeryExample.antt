@@ -17,7 +17,8 @@ use Rattle.holder_core.specs.Present.{picked}
 use Rattle.selection_core.specs.Never.{never_rule}
 use Rattle.sdjwt_cli.specs.NoForgery.{NoneCollides, IsChoiceOf}
 use Rattle.sdjwt_cli.specs.Suits.{claims_for, Suits}
-use Rattle.sdjwt_cli.proofs.HeldIssued.{IsTokenOf, token_of}
+use Rattle.sdjwt_cli.proofs.HeldIssued.{IsTokenOf, token_of, by_anyone}
+use Rattle.issuer_core.proofs.EachTexts.{held_utf8, utf8_bytes}
 use Rattle.issuer_core.proofs.WorkedOrders.{seed}
 use Rattle.sdjwt_cli.proofs.IssuedValues.{parts, issued}
 use Rattle.sdjwt_cli.proofs.NoForgery.{no_forgery_holds}
@@ -48,16 +49,16 @@ abbrev sent : Parts
 sent = record { signed = parts.signed; disclosures = picked (chosen (marked_claims order) ask.want) parts.disclosures; binding = None }
 
 is : IsTokenOf seed order issuer_key parts
-is = token_of seed order issuer_key parts issued
+is = token_of seed order issuer_key parts (by_anyone seed order issuer_key parts issued)
 
 presented : IsPresentedOf order ask [] parts 1000 sent
 presented = record { presents = record { signed = refl; disclosures = refl; binding_is = refl }; names = tt; bound = refl }
 
 is_text : IsToken (compact sent) (alone sent)
-is_text = answer_text seed order issuer_key parts issued.writable.good is ask [] tt 1000 (omega arith) sent presented
+is_text = answer_text seed order issuer_key parts is ask [] tt 1000 (omega arith) sent presented
 
 accepted : IsAcceptedAs (compact sent) policy 1300 (claims_for order ask.want)
-accepted = answer_accepted seed order issuer_key parts issued.writable.good is ask [] tt 1000 (omega arith) sent presented never_rule said.never policy 1300 suits_too (compact sent) is_text
+accepted = answer_accepted seed order issuer_key parts is ask [] tt 1000 (omega arith) sent presented never_rule said.never policy 1300 suits_too (compact sent) is_text
 
 -- what is sent is the second of the two that were issued
 sent_issued : (disclosure : Text) → In disclosure sent.disclosures → In disclosure parts.disclosures
@@ -70,5 +71,5 @@ none_collides disclosure there out stands = out (sent_issued disclosure there)
 -- so the law says of it what it says
 holds : IsChoiceOf (marked_claims order) parts.disclosures sent.disclosures accepted.0
 holds =
-    no_forgery_holds issuer_key.alg (IsGood issuer_key) seed order parts issued.passes issued.writable.good.ordered issued.writable.held issued.issued
+    no_forgery_holds issuer_key.alg (IsGood issuer_key) seed order parts issued.passes issued.writable.good.ordered (utf8_bytes order.payload (held_utf8 order.payload issued.writable.held)) issued.issued
     (compact sent) (alone sent) is_text refl policy 1300 accepted.0 accepted.1 none_collides

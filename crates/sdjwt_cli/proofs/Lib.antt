@@ -12,7 +12,7 @@ mod ConvertVerdicts
 mod Converted
 mod CompactLines
 mod CheckedParts
-mod HeldIssued
+pub mod HeldIssued
 mod PresentedShort
 mod KeptClaims
 mod PresentedAccepted

@@ -136,7 +136,7 @@ module _ (maker : Maker) (o : Order) (parts : Parts) (p : Tree) (g : List Given)
   }
 
 pub no_forgery_holds : (alg : Alg) (good : Meaning) → NoForgery alg good
-no_forgery_holds alg good seed o parts none ordered held is text token is_token same_signed policy now marked accepted collides =
+no_forgery_holds alg good seed o parts none ordered bytes is text token is_token same_signed policy now marked accepted collides =
     let fine = good_order o (λ error h. absurd (none error h)) ordered in
-    choice_of (maker_of seed) o parts is.payload is.given fine is.issued (read_only_as seed o alg good is.payload is.given parts fine held is.issued is.written)
+    choice_of (maker_of seed) o parts is.payload is.given fine is.issued (read_only_as seed o alg good is.payload is.given parts fine bytes is.issued is.written)
     text token is_token same_signed policy now marked accepted collides

@@ -20,9 +20,7 @@ use Rattle.selection_core.specs.ChoiceRefusals.{IsMissing}
 use Rattle.issuer_core.specs.Digests.{marked_claims}
 use Rattle.issuer_core.specs.Laid.{with_alg}
 use Rattle.issuer_core.specs.Order.{Order}
-use Rattle.compact_form.specs.Lowest.{NoneApplies}
 use Rattle.compact_form.specs.Faults.{failed_of}
-use Rattle.issuer_core.specs.OrderRefusals as issuing
 use Rattle.holder_core.specs.declared.ask.Ask.{Ask}
 use Rattle.holder_core.specs.declared.ask.BindingAsk.{BindingAsk}
 use Rattle.holder_core.specs.declared.errors.PresentError.{PresentError}
@@ -39,7 +37,7 @@ use Rattle.sdjwt_cli.proofs.KeptClaims.{holder_kept}
 use Rattle.sdjwt_cli.proofs.PresentedAccepted.{IsPresentedOf}
 use Rattle.sdjwt_cli.proofs.PresentedShort.{answer_short}
 
-module _ (seed : List ℕ) (o : Order) (key : AlgKey) (parts : Parts) (passes : NoneApplies (issuing.AppliesToOrder o)) (is : IsTokenOf seed o key parts)
+module _ (seed : List ℕ) (o : Order) (key : AlgKey) (parts : Parts) (is : IsTokenOf seed o key parts)
     {F : Type 0} (answers : RuleAnswers F) (rule : F) (ask : Ask) (signing : List ℕ) (small : AreShort ask.binding) (now : ℕ) (in_range : now < 2 ^ 64) (text : List ℕ) (is_text : IsToken text (alone parts)) where
   one_token : (token : Token) → IsToken text token → token ≡ alone parts
   one_token token there = tokens.one text token (alone parts) there is_text
@@ -86,7 +84,7 @@ module _ (seed : List ℕ) (o : Order) (key : AlgKey) (parts : Parts) (passes : 
     kid_differs : (one : BindingAsk) (marked : Marked) → IsHeld (alone parts) ask marked → ask.binding ≡ Some one → holder_kid (strip (prune marked (chosen marked ask.want))) ≢ Some one.kid → ⊥
     kid_differs one marked there is_asked differs =
         let same = marked_is marked there in
-        let kept : holder_kid (shown_for (marked_claims o) ask.want) ≡ Some one.kid = holder_kept o passes ask.want ∙ suits.named one is_asked in
+        let kept : holder_kid (shown_for (marked_claims o) ask.want) ≡ Some one.kid = holder_kept o is.passes ask.want ∙ suits.named one is_asked in
         differs (ap (λ (m : Marked). holder_kid (strip (prune m (chosen m ask.want)))) same ∙ kept)
 
     too_long : (answer : Parts) → IsAnswer answers rule (alone parts) ask (IsGood (hs256_key signing)) now answer → compact_max < length (compact answer) → ⊥

@@ -37,7 +37,6 @@ use Rattle.verifier_core.specs.declared.policy.Policy.{Policy}
 use Rattle.verifier_core.proofs.CheckSteps.{one_content}
 use Rattle.verifier_core.proofs.Verdicts.{one_hash}
 use Rattle.issuer_core.specs.Digests.{marked_claims, hidden_of}
-use Rattle.issuer_core.specs.GoodOrder.{IsGoodOrder}
 use Rattle.issuer_core.specs.Laid.{with_alg}
 use Rattle.issuer_core.specs.Laws.{IsShownAs}
 use Rattle.issuer_core.specs.Order.{Order}
@@ -64,7 +63,7 @@ pub record IsPresentedOf (o : Order) (ask : Ask) (signing : List ℕ) (parts : P
   pub names : NamesKey ask.binding (shown_for (marked_claims o) ask.want)
   pub bound : IsBoundAs ask.binding (IsGood (hs256_key signing)) o.hash now answer
 
-module _ (seed : List ℕ) (o : Order) (key : AlgKey) (parts : Parts) (good : IsGoodOrder o) (is : IsTokenOf seed o key parts)
+module _ (seed : List ℕ) (o : Order) (key : AlgKey) (parts : Parts) (is : IsTokenOf seed o key parts)
     (ask : Ask) (signing : List ℕ) (small : AreShort ask.binding) (now : ℕ) (in_range : now < 2 ^ 64) (answer : Parts) (presented : IsPresentedOf o ask signing parts now answer) where
   abbrev pub s : ℕ → Bool
   s = chosen (marked_claims o) ask.want
@@ -83,7 +82,7 @@ module _ (seed : List ℕ) (o : Order) (key : AlgKey) (parts : Parts) (good : Is
 
   pub what_is_shown : IsShownAs o ask.want p (picked s g)
   what_is_shown =
-      issued_is_shown_holds (maker_of seed) o p g good is.has.issued ask.want (numbers s 0 (length g)) (enumerates s (length g) few_chosen) (rising s 0 (length g)) (picked s g) (is_pick s g)
+      issued_is_shown_holds (maker_of seed) o p g is.good is.has.issued ask.want (numbers s 0 (length g)) (enumerates s (length g) few_chosen) (rising s 0 (length g)) (picked s g) (is_pick s g)
 
   pub carries_answer : CarriesFor o key p (picked s g) answer
   carries_answer =

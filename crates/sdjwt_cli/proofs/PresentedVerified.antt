@@ -18,12 +18,12 @@ use Rattle.holder_core.proofs.PresentFiles.{one_present}
 use Rattle.sdjwt_cli.specs.Issuing.{Issues}
 use Rattle.cli_parts.specs.Lines.{line}
 use Rattle.selection_core.specs.Never.{never_rule}
-use Rattle.sdjwt_cli.specs.PresentedValues.{IsShownAt, AreShort}
+use Rattle.sdjwt_cli.specs.PresentedValues.{IsIssuedByAnyone, IsShownAt, AreShort}
 use Rattle.json_form.specs.Alone.{alone}
 use Rattle.sdjwt_cli.specs.Presenting.{signing_key, Presents, DoesNotPresent, IsPresentedFor, IsNotPresentedFor}
 use Rattle.sdjwt_cli.specs.Suits.{Suits, claims_for}
 use Rattle.sdjwt_cli.specs.Verify.{Verifies}
-use Rattle.sdjwt_cli.proofs.HeldIssued.{IsTokenOf, token_of, issued_line}
+use Rattle.sdjwt_cli.proofs.HeldIssued.{IsTokenOf, token_of, by_anyone, issued_line}
 use Rattle.sdjwt_cli.proofs.NothingRefused.{is_presented_of}
 use Rattle.sdjwt_cli.proofs.PresentedAccepted.{answer_line}
 use Rattle.sdjwt_cli.proofs.PresentedValues.{presented_over_values}
@@ -50,8 +50,11 @@ asks_short bytes said is = short_by (found is.members Binding) said.ask.binding 
 
 module _ (order_file seed_file token present_file policy_file : List ℕ) (now later : ℕ) (issued : Issues order_file seed_file token) (said : PresentFile) (is_said : IsPresentFile present_file said)
     (policy : Policy) (is_policy : IsPolicyFile policy_file policy) (in_range : now < 2 ^ 64) (suits : Suits never_rule said.never issued.order issued.key said.ask (signing_key said.key) policy now later) where
+  anyone : IsIssuedByAnyone issued.seed issued.order issued.key issued.parts
+  anyone = by_anyone issued.seed issued.order issued.key issued.parts issued.answered
+
   is : IsTokenOf issued.seed issued.order issued.key issued.parts
-  is = token_of issued.seed issued.order issued.key issued.parts issued.answered
+  is = token_of issued.seed issued.order issued.key issued.parts anyone
 
   there : IsToken token (alone issued.parts)
   there = subst (λ (x : List ℕ). IsToken x (alone issued.parts)) (sym issued.line_is) (issued_line issued.seed issued.order issued.key issued.parts is)
@@ -59,7 +62,7 @@ module _ (order_file seed_file token present_file policy_file : List ℕ) (now l
   -- what the law over values says of it
   shown : IsShownAt never_rule said.never token said.ask (signing_key said.key) policy now later (claims_for issued.order said.ask.want)
   shown =
-      let over_values = presented_over_values never_rule said.never issued.seed issued.order issued.key issued.parts issued.answered said.ask (signing_key said.key) policy now later suits (asks_short present_file said is_said) in_range in
+      let over_values = presented_over_values never_rule said.never issued.seed issued.order issued.key issued.parts anyone said.ask (signing_key said.key) policy now later suits (asks_short present_file said is_said) in_range in
       over_values.shown token there
 
   pub not_refused : (text : List ℕ) → DoesNotPresent present_file token now text → ⊥
@@ -76,8 +79,8 @@ module _ (order_file seed_file token present_file policy_file : List ℕ) (now l
       line_read : (parts : Parts) → IsPresentedFor said token now parts → IsToken (line (compact parts)) (alone parts)
       line_read parts presented =
           let small = asks_short present_file said is_said in
-          answer_line issued.seed issued.order issued.key issued.parts issued.answered.writable.good is said.ask (signing_key said.key) small now in_range parts
-          (is_presented_of issued.seed issued.order issued.key issued.parts issued.answered.passes is never_rule said.never said.ask (signing_key said.key) small now in_range token there parts presented)
+          answer_line issued.seed issued.order issued.key issued.parts is said.ask (signing_key said.key) small now in_range parts
+          (is_presented_of issued.seed issued.order issued.key issued.parts is never_rule said.never said.ask (signing_key said.key) small now in_range token there parts presented)
 
       verified : IsAcceptedAs answer policy later (claims_for issued.order said.ask.want) → Verifies policy_file answer later (line (json_text (claims_for issued.order said.ask.want)))
       verified (marked, accepted, is) = record { policy = policy; is_policy = is_policy; verifies = record { marked = marked; accepted = accepted; line_is = ap (λ t. line (json_text t)) is } }

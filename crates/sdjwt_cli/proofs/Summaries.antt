@@ -37,13 +37,13 @@ use Rattle.sdjwt_cli.specs.Generated.{generated, generated_seed, generated_key, 
 use Rattle.sdjwt_cli.specs.Issuing.{IsIssuedBy}
 use Rattle.selection_core.specs.Never.{never_rule}
 use Rattle.json_form.specs.Alone.{alone}
-use Rattle.sdjwt_cli.specs.PresentedValues.{IsAcceptedWith, IsShownAt, IsShownOf}
+use Rattle.sdjwt_cli.specs.PresentedValues.{IsIssuedByAnyone, IsAcceptedWith, IsShownAt, IsShownOf}
 use Rattle.sdjwt_cli.specs.Summary.{Summarizes, hidden_paths, chosen_places, embedded_digests, shown_claims, shown_length, summary_lines}
 use Rattle.sdjwt_cli.specs.SummarySteps.{IsPresentedOf, IsAcceptable, IsVerified}
 use Rattle.sdjwt_cli.proofs.CheckedParts.{content}
 use Rattle.sdjwt_cli.proofs.EmbeddedDigests.{issued_count, fewer_embedded, length_picked, fewer_picked}
 use Rattle.sdjwt_cli.proofs.GeneratedOrder.{generated_suits}
-use Rattle.sdjwt_cli.proofs.HeldIssued.{IsTokenOf, token_of}
+use Rattle.sdjwt_cli.proofs.HeldIssued.{IsTokenOf, token_of, by_anyone}
 use Rattle.sdjwt_cli.proofs.HiddenPaths.{hidden_count_is}
 use Rattle.sdjwt_cli.proofs.NothingRefused.{is_presented_of}
 use Rattle.sdjwt_cli.proofs.PresentedAccepted as holder
@@ -56,8 +56,11 @@ module _ (n : ℕ) (issued : Parts) (is_issued : IsIssuedBy generated_seed (gene
   abbrev claims : Tree
   claims = shown_claims n
 
+  anyone : IsIssuedByAnyone generated_seed (generated n) generated_key issued
+  anyone = by_anyone generated_seed (generated n) generated_key issued is_issued
+
   through : IsShownOf never_rule [] issued (generated_ask n) generated_key.block generated_policy 0 0 claims
-  through = presented_over_values never_rule [] generated_seed (generated n) generated_key issued is_issued (generated_ask n) generated_key.block generated_policy 0 0 (generated_suits n) tt (omega arith)
+  through = presented_over_values never_rule [] generated_seed (generated n) generated_key issued anyone (generated_ask n) generated_key.block generated_policy 0 0 (generated_suits n) tt (omega arith)
 
   here : IsShownAt never_rule [] (compact issued) (generated_ask n) generated_key.block generated_policy 0 0 claims
   here = through.shown (compact issued) through.reads
@@ -66,7 +69,7 @@ module _ (n : ℕ) (issued : Parts) (is_issued : IsIssuedBy generated_seed (gene
   nothing_refused = here.presents
 
   is : IsTokenOf generated_seed (generated n) generated_key issued
-  is = token_of generated_seed (generated n) generated_key issued is_issued
+  is = token_of generated_seed (generated n) generated_key issued anyone
 
   abbrev s : ℕ → Bool
   s = chosen (marked_claims (generated n)) (generated_ask n).want
@@ -88,7 +91,7 @@ module _ (n : ℕ) (issued : Parts) (is_issued : IsIssuedBy generated_seed (gene
     acceptable = (claims, accepted_with)
 
     of : holder.IsPresentedOf (generated n) (generated_ask n) generated_key.block issued 0 presented
-    of = is_presented_of generated_seed (generated n) generated_key issued is_issued.passes is never_rule [] (generated_ask n) generated_key.block tt 0 (omega arith) (compact issued) through.reads presented is_presented
+    of = is_presented_of generated_seed (generated n) generated_key issued is never_rule [] (generated_ask n) generated_key.block tt 0 (omega arith) (compact issued) through.reads presented is_presented
 
     abbrev given : List Given
     given = picked s is.has.given
@@ -96,7 +99,7 @@ module _ (n : ℕ) (issued : Parts) (is_issued : IsIssuedBy generated_seed (gene
     has_content : HasContent (alone presented) is.has.payload given
     has_content =
         content (generated n) generated_key is.has.payload given presented
-        (holder.carries_answer generated_seed (generated n) generated_key issued is_issued.writable.good is (generated_ask n) generated_key.block tt 0 (omega arith) presented of)
+        (holder.carries_answer generated_seed (generated n) generated_key issued is (generated_ask n) generated_key.block tt 0 (omega arith) presented of)
 
     chosen_is : length presented.disclosures ≡ chosen_places n
     chosen_is = ap length of.presents.disclosures ∙ length_picked s issued.disclosures ∙ ap (λ many. count_by s (range_with_len 0 many)) text_count

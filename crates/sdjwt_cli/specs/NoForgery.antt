@@ -2,6 +2,7 @@
 -- disclosures that were issued with it, and nothing else.
 use Rattle.std.specs.Prelude.{◌≡◌, ℕ, List, ◌++◌, map, eqb}
 use Rattle.std.specs.List.{AllZip, IsDistinct, list_any}
+use Rattle.b64url_text.specs.Base64url.{AreBytes}
 use Rattle.claim_tree.specs.Lists.{StandsAt, In}
 use Rattle.claim_tree.specs.Tree.{Text, IsOrdered}
 use Rattle.compact_form.specs.declared.parts.Parts.{Parts}
@@ -16,7 +17,7 @@ use Rattle.marked_tree.specs.Marked.{Marked, strip, prune}
 use Rattle.verifier_core.specs.Verdict.{IsAccepted}
 use Rattle.verifier_core.specs.declared.policy.Policy.{Policy}
 use Rattle.issuer_core.specs.Digests.{Maker, marked_claims, decoy_digests}
-use Rattle.issuer_core.specs.GoodOrder.{FitsMachine}
+use Rattle.issuer_core.specs.GoodOrder.{EachText}
 use Rattle.issuer_core.specs.Order.{Order}
 use Rattle.issuer_core.specs.OrderRefusals.{AppliesToOrder}
 use Rattle.issuer_core.specs.Seed.{maker_of}
@@ -49,8 +50,8 @@ ShowsIssued maker o parts =
     → IsChoiceOf (marked_claims o) parts.disclosures token.parts.disclosures marked
 
 -- the parts are issued, by whoever makes these good signatures, for an order that nothing of 51 to 59 refuses, and whose
--- claims are a JSON value as a machine holds it
+-- claims are a JSON value, each text and each name of which is a list of bytes, as texts are
 abbrev pub NoForgery : Alg → Meaning → Type 0
 NoForgery alg good =
     (seed : List ℕ) (o : Order) (parts : Parts)
-    → NoneApplies (AppliesToOrder o) → IsOrdered o.payload → FitsMachine o.payload → IsIssued (maker_of seed) o alg good parts → ShowsIssued (maker_of seed) o parts
+    → NoneApplies (AppliesToOrder o) → IsOrdered o.payload → EachText AreBytes o.payload → IsIssued (maker_of seed) o alg good parts → ShowsIssued (maker_of seed) o parts

@@ -44,9 +44,9 @@ pub fn converted_again()
 {}
 
 /// What is presented of an issued token, where the policy suits, is accepted with what was asked for: of each text that
-/// is read as what `issue` gives for an order, a holder with this rule of consent refuses nothing, and each text that
-/// is read as what it presents has the verdict acceptance with the claims without the hidden places that lead to none
-/// of the wanted ones.
+/// is read as parts that are issued for an order, by whoever, a holder with this rule of consent refuses nothing, and
+/// each text that is read as what it presents has the verdict acceptance with the claims without the hidden places that
+/// lead to none of the wanted ones.
 pub fn presented_values<F: Fn(&Path) -> bool>()
     ensures { (rule : F) → PresentedOverValues F.Fn rule }
 {}
