@@ -22,7 +22,8 @@ mod PresentedVerified
 mod PresentedRuns
 mod NoForgery
 mod SuitsExample
-mod SuitedFiles
+pub mod SuitedFiles
+pub mod ReadFiles
 mod IssuedValues
 mod ForgeryExample
 mod Examples

@@ -242,3 +242,17 @@ all_suits = record {
   moment = omega arith;
   suits = suits;
 }
+
+-- ---- the files as texts
+
+pub order_text : order_file ≡ codes "{\"hide\":[\"/family_name\",\"/given_name\"],\"key\":\"dGhlIGtleSBvZiBhbiBpc3N1ZXIsIDMyIGJ5dGVzLi4\",\"payload\":{\"cnf\":{\"kid\":\"h\"},\"family_name\":\"Bee\",\"given_name\":\"Ann\",\"iss\":\"i\"},\"typ\":\"dc+sd-jwt\"}"
+unfolding escape_byte digits
+order_text = refl
+
+pub present_text : present_file ≡ codes "{\"binding\":{\"aud\":\"v\",\"key\":\"dGhlIGtleSBvZiBhIGhvbGRlciwgb2YgMzIgYnl0ZXM\",\"kid\":\"h\",\"nonce\":\"7\"},\"keys\":{\"keys\":[{\"k\":\"dGhlIGtleSBvZiBhbiBpc3N1ZXIsIDMyIGJ5dGVzLi4\",\"kty\":\"oct\"}]},\"never\":[\"/family_name\"],\"want\":[\"/given_name\"]}"
+unfolding escape_byte digits
+present_text = refl
+
+pub policy_text : policy_file ≡ codes "{\"binding\":{\"aud\":\"v\",\"keys\":{\"keys\":[{\"k\":\"dGhlIGtleSBvZiBhIGhvbGRlciwgb2YgMzIgYnl0ZXM\",\"kid\":\"h\",\"kty\":\"oct\"}]},\"max_age\":300,\"nonce\":\"7\"},\"iss\":\"i\",\"keys\":{\"keys\":[{\"k\":\"dGhlIGtleSBvZiBhbiBpc3N1ZXIsIDMyIGJ5dGVzLi4\",\"kty\":\"oct\"}]},\"require\":[\"given_name\"],\"skew\":5,\"typ\":\"dc+sd-jwt\"}"
+unfolding escape_byte digits
+policy_text = refl
