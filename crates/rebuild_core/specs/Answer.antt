@@ -1,5 +1,6 @@
 -- Not needed to believe the program's promises: what an answer of processing says, over the payload without its own `_sd_alg`.
 use Rattle.std.specs.Prelude.{◌≡◌, ◌≤◌, List, Some}
+use Rattle.sd_outside.specs.Limits.{json_depth_max}
 use Rattle.claim_tree.specs.Tree.{Text, Tree, object, leaf, text, member_named, depth}
 use Rattle.claim_tree.specs.Lists.{In, AtNone, IsLeast}
 use Rattle.digest_sites.specs.Given.{Given}
@@ -15,7 +16,7 @@ IsPayload _ = ⊥
 
 -- no value nests deeper than a tree that is read
 abbrev pub ValuesShallow : List Given → Type 0
-ValuesShallow given = (x : Given) → In x given → depth x.value ≤ 127
+ValuesShallow given = (x : Given) → In x given → depth x.value ≤ json_depth_max
 
 -- the lowest condition that fails, at its least place
 abbrev pub IsProcessRefused : Tree → List Given → ProcessError → Type 0

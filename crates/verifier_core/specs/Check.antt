@@ -1,6 +1,7 @@
 -- Not needed to believe the program's promises: what the check of a token answers, and what its steps answer.
 use Rattle.std.specs.Prelude.{◌≡◌, ◌≢◌, ◌≤◌, ℕ, Bool, true, false, List, ◌∷◌, [], ◌++◌, take, slice_get, Some, None, Result, Ok, Err, IfOk, IfErr, ◌⊎◌}
 use Rattle.std.specs.List.{AllZip}
+use Rattle.sd_outside.specs.Limits.{json_depth_max}
 use Rattle.claim_tree.specs.Tree.{Text, Tree, Members, depth}
 use Rattle.compact_form.specs.declared.fault.Fault.{Fault}
 use Rattle.compact_form.specs.declared.fault.Place.{Place}
@@ -155,7 +156,7 @@ unread_at i _ = VerifyError.Fault (placed Condition.DisclosureUnreadable i)
 pub record Adds (hash : HashAlg) (disclosure : Text) (old new : List Given) : Type 0 where
   pub one : Given
   pub gives : Gives hash disclosure one
-  pub shallow : depth one.value ≤ 127
+  pub shallow : depth one.value ≤ json_depth_max
   pub more : new ≡ old ++ one ∷ []
 
 -- the fault of a refusal to process

@@ -1,6 +1,7 @@
 -- Not needed to believe the program's promises: what is read of a token, before it is opened.
 use Rattle.std.specs.Prelude.{◌≡◌, ◌≤◌, ◌<◌, ◌-◌, ◌^◌, ℕ, zero, suc, List, length, refl}
 use Rattle.std.specs.Coded.{Coded, coded_ℕ, coded×, code_by}
+use Rattle.sd_outside.specs.Limits.{json_depth_max}
 use Rattle.claim_tree.specs.Tree.{Tree, depth}
 use Rattle.digest_sites.specs.Code.{tree_code, given_code}
 use Rattle.digest_sites.specs.Given.{Given}
@@ -18,7 +19,7 @@ pub record Content : Type 0 where
 -- what is read can be opened
 pub record IsReadyToOpen (body : Tree) (given : List Given) : Type 0 where
   pub object : IsPayload body
-  pub body_depth : depth body ≤ 127
+  pub body_depth : depth body ≤ json_depth_max
   pub values_depth : ValuesShallow given
   pub few : length given < 2 ^ 32 - 1
 
