@@ -3,6 +3,9 @@
 This is a build backend (PEP 517), so that `pip install ./python` needs no network. The library is that of `sh c/build.sh`,
 or the one that SDJWT_LIBRARY names. Whether the first is proved says `c/out/proved`; of the second nothing is known. A wheel
 whose library is not proved has `+not.proved` behind its version, so that the last line of pip says it.
+
+For a release SDJWT_PLATFORM names the platforms that the wheel is for, with a dot between two, as manylinux_2_17_x86_64; else it
+is for the machine at hand. The files in it have the date SOURCE_DATE_EPOCH, or one that is always the same.
 """
 import base64
 import hashlib
@@ -11,12 +14,16 @@ import os
 import platform
 import re
 import tarfile
+import time
 import zipfile
 from pathlib import Path
 
 HERE = Path(__file__).resolve().parent.parent
 LIBRARY = "libsdjwt.so"
 LICENCES = ("LICENSE-APACHE", "LICENSE-MIT")
+TAG = "py3-none"
+# the beginning of 2020
+FIRST_DATE = 1_577_836_800
 
 
 def _field(name):
@@ -60,14 +67,21 @@ def _files():
         f"License-Expression: {_field('license')}\nLicense-File: LICENSE-APACHE\nLicense-File: LICENSE-MIT\n"
         f"Requires-Python: {_field('requires-python')}\nDescription-Content-Type: text/markdown\n\n"
     ).encode() + (HERE / "README.md").read_bytes()
-    found[f"{info}/WHEEL"] = f"Wheel-Version: 1.0\nGenerator: sdjwt_wheel\nRoot-Is-Purelib: false\nTag: {_tag()}\n".encode()
+    found[f"{info}/WHEEL"] = b"Wheel-Version: 1.0\nGenerator: sdjwt_wheel\nRoot-Is-Purelib: false\n"
+    found[f"{info}/WHEEL"] += "".join(f"Tag: {TAG}-{name}\n" for name in _platforms().split(".")).encode()
     for name in LICENCES:
         found[f"{info}/licenses/{name}"] = _licence(name).read_bytes()
     return info, found
 
 
-def _tag():
-    return f"py3-none-linux_{platform.machine()}"
+def _platforms():
+    return os.environ.get("SDJWT_PLATFORM") or f"linux_{platform.machine()}"
+
+
+def _date():
+    """The date of the files in the wheel. A zip file has none before 1980."""
+    seconds = int(os.environ.get("SOURCE_DATE_EPOCH") or FIRST_DATE)
+    return time.gmtime(max(seconds, FIRST_DATE))[:6]
 
 
 def _hash(content):
@@ -78,10 +92,12 @@ def build_wheel(wheel_directory, config_settings=None, metadata_directory=None):
     info, files = _files()
     lines = [f"{name},sha256={_hash(content)},{len(content)}" for name, content in files.items()]
     files[f"{info}/RECORD"] = "\n".join([*lines, f"{info}/RECORD,,", ""]).encode()
-    name = f"sdjwt-{_version()}-{_tag()}.whl"
-    with zipfile.ZipFile(Path(wheel_directory) / name, "w", zipfile.ZIP_DEFLATED) as wheel:
+    name = f"sdjwt-{_version()}-{TAG}-{_platforms()}.whl"
+    with zipfile.ZipFile(Path(wheel_directory) / name, "w") as wheel:
         for path, content in files.items():
-            wheel.writestr(zipfile.ZipInfo(path, (2020, 1, 1, 0, 0, 0)), content)
+            entry = zipfile.ZipInfo(path, _date())
+            entry.external_attr = 0o100644 << 16
+            wheel.writestr(entry, content, zipfile.ZIP_DEFLATED, 9)
     print({True: "sdjwt: the library in it is proved", False: "sdjwt: the library in it is NOT PROVED",
            None: "sdjwt: whether the library in it is proved is not known"}[_proved()], flush=True)
     return name
