@@ -1,0 +1,260 @@
+#!/bin/sh
+# Makes a release by build.sh into release/out, and tests it: that one commit gives the same bytes twice, what build.sh
+# refuses, the wheel, the packages by lintian, and then all of it on a bare Debian, which is made for it in a temporary
+# folder. What is tested is what lies in release/out behind it. The last line counts what ran and what was skipped.
+#
+#   sh release/check.sh [--gate FILE]              what can't be run here is told and skipped
+#   sh release/check.sh [--gate FILE] --install    what is missing is installed from Debian's packages first, and what
+#                                                  would be skipped is a failure
+#
+# FILE has what the gate said, as for build.sh. The bare Debian is SUITE of MIRROR, and is made by debootstrap, which
+# needs root and the network; where BARE names a folder with one that has all in it, a copy of that is taken.
+set -eu
+
+usage() {
+    echo 'usage: sh release/check.sh [--gate FILE] [--install]' >&2
+    exit 2
+}
+
+install=no
+gate=
+while [ $# -gt 0 ]; do
+    case $1 in
+        --install) install=yes ;;
+        --gate) [ -n "${2-}" ] || usage; gate=$2; shift ;;
+        *) usage ;;
+    esac
+    shift
+done
+case $gate in '' | /*) ;; *) gate=$(pwd)/$gate ;; esac
+: "${SUITE:=bookworm}" "${MIRROR:=http://deb.debian.org/debian}" "${BARE:=}"
+[ "$install" = no ] || apt-get install -y git python3 binutils dpkg lintian debootstrap
+here=$(cd "$(dirname "$0")" && pwd)
+top=$(cd "$here/.." && pwd)
+version=$(sed -n 's/^version = "\(.*\)"$/\1/p' "$top/python/pyproject.toml")
+made=$(mktemp -d)
+trap 'rm -rf "$made"' EXIT
+trap 'exit 1' HUP INT TERM
+
+# Counts what ran, and what was skipped with the reason for it. With --install nothing may be.
+ran=0
+skips=0
+skipped=
+skip() {
+    echo "skipped: $1"
+    [ "$install" = no ] || { echo 'release/check.sh: with --install nothing may be skipped' >&2; exit 1; }
+    skips=$((skips + 1))
+    skipped="$skipped${skipped:+; }$1"
+}
+failed() {
+    echo "release/check.sh: FAILED: $1" >&2
+    exit 1
+}
+# Runs words under a name, and shows what they said if they fail, and else the last line.
+holds() {
+    name=$1
+    shift
+    began=$(date +%s)
+    if ! "$@" >"$made/said" 2>&1; then
+        cat "$made/said" >&2
+        failed "$name"
+    fi
+    ran=$((ran + 1))
+    last=$(tail -n 1 "$made/said")
+    echo "$name${last:+: $last} ($(($(date +%s) - began)) s)"
+}
+
+# The same bytes, from a clone in another place, and under another mask and clock.
+out=$here/out
+holds 'the release' sh "$here/build.sh" "$version" --look ${gate:+--gate "$gate"}
+clone=$made/clone
+git clone -q "$top" "$clone"
+mkdir -p "$clone/crates/sdjwt/out" "$clone/crates/sdjwt_tools/out"
+cp "$top/crates/sdjwt/out/sdjwt" "$clone/crates/sdjwt/out/"
+cp "$top/crates/sdjwt_tools/out/sdjwt_tools" "$clone/crates/sdjwt_tools/out/"
+cp -R "$top/c/out" "$clone/c/"
+again() {
+    (
+        umask 077
+        TZ=Asia/Tokyo LC_ALL=C.UTF-8 HOME=$made sh "$clone/release/build.sh" "$version" --look ${gate:+--gate "$gate"}
+    )
+    diff -r "$out" "$clone/release/out"
+    echo 'the same bytes'
+}
+holds 'made again from a clone' again
+
+# What build.sh refuses, without a word of a release.
+refuses() {
+    wanted=$1
+    shift
+    if sh "$clone/release/build.sh" "$@" --out "$made/none" >"$made/answer" 2>&1; then
+        echo "it was not refused: $*"
+        return 1
+    fi
+    grep -qF -- "$wanted" "$made/answer" || { cat "$made/answer" && return 1; }
+    [ ! -e "$made/none" ]
+}
+printf '1 passed, 1 failed\n' >"$made/failed"
+printf '0 passed, 0 failed\n' >"$made/nothing"
+printf '12 passed, 0 failed\nand more\n' >"$made/more"
+holds 'refuses another version' refuses 'it is of another version' 9.9.9 --look
+for file in failed nothing more; do
+    holds "refuses a gate whose last line is '$(tail -n 1 "$made/$file")'" refuses 'is not' "$version" --look \
+        --gate "$made/$file"
+done
+echo >>"$clone/README.md"
+holds 'refuses files that differ from the commit' refuses 'files differ from the commit' "$version" --look
+git -C "$clone" checkout -q README.md
+for file in crates/sdjwt/out/sdjwt crates/sdjwt_tools/out/sdjwt_tools c/out/lib/libsdjwt.a c/out/proved; do
+    mv "$clone/$file" "$made/away"
+    holds "refuses where $file is missing" refuses "there is no" "$version" --look
+    mv "$made/away" "$clone/$file"
+done
+echo no >"$clone/c/out/proved"
+holds 'refuses a library that is not proved' refuses 'libsdjwt. For a try' "$version"
+gate_told() {
+    printf 'all of it\n12 passed, 0 failed\n' >"$made/passed"
+    sh "$clone/release/build.sh" "$version" --look --gate "$made/passed" --out "$made/told"
+    grep -x 'gate (rt ci): 12 passed, 0 failed' "$made/told/PROVENANCE"
+}
+holds 'tells what the gate said' gate_told
+
+# The files by themselves.
+sums() { (cd "$out" && sha256sum -c SHA256SUMS && [ "$(wc -l <SHA256SUMS)" -eq "$(ls | grep -cv '^SHA256SUMS$')" ]); }
+holds 'the sums' sums
+holds 'the wheel' python3 "$here/wheel.py" "$out"/*.whl
+mkdir "$made/archive"
+tar -x -z -f "$out"/sdjwt-*.tar.gz -C "$made/archive"
+holds 'the links in the archive' python3 "$here/links.py" "$made"/archive/*
+if command -v lintian >/dev/null; then
+    holds 'lintian' sh -c 'lintian --allow-root --profile debian --fail-on error "$@" 2>&1 | tee "$0"
+        ! grep "^E:" "$0" && echo "no errors, $(grep -c "^W:" "$0") warnings"' "$made/lintian" "$out"/*.deb
+else
+    skip 'lintian (there is none)'
+fi
+
+# The bare Debian.
+bare=$made/bare
+with=python3,python3-venv,man-db,gcc,libc6-dev,pkg-config,libfaketime
+bare_made=no
+if [ "$(id -u)" -ne 0 ]; then
+    skip 'the bare Debian (it needs root)'
+elif [ -n "$BARE" ]; then
+    cp -a "$BARE" "$bare"
+    bare_made=yes
+elif ! command -v debootstrap >/dev/null; then
+    skip 'the bare Debian (there is no debootstrap)'
+elif began=$(date +%s) && debootstrap --variant=minbase --include="$with" "$SUITE" "$bare" "$MIRROR" >"$made/log" 2>&1
+then
+    echo "a bare Debian: $SUITE ($(($(date +%s) - began)) s)"
+    bare_made=yes
+else
+    tail -n 3 "$made/log"
+    skip "the bare Debian (debootstrap could not make $SUITE of $MIRROR)"
+fi
+
+# Runs a text of the shell there, in the folder with what the repository has to test programs.
+inside() {
+    chroot "$bare" /usr/bin/env -i HOME=/root PATH=/usr/local/sbin:/usr/local/bin:/usr/sbin:/usr/bin:/sbin:/bin \
+        LC_ALL=C.UTF-8 DEBIAN_FRONTEND=noninteractive MANPAGER=cat sh -euc "cd /root/repository; $1"
+}
+at='env LD_PRELOAD=/usr/lib/x86_64-linux-gnu/faketime/libfaketime.so.1 FAKETIME_FMT=%s FAKETIME={moment}'
+
+# What holds of the programs, the C library and Python wherever they are installed.
+programs() {
+    holds "$1: the programs start" inside '
+        for program in sdjwt sdjwt_tools; do
+            ! ldd "$(command -v "$program")" | grep "not found"
+            status=0
+            "$program" 2>/root/line || status=$?
+            [ "$status" -eq 2 ] && [ "$(cat /root/line)" = usage ]
+        done
+        command -v sdjwt'
+    holds "$1: the walk of README.md" inside "python3 examples/walk.py $2/sdjwt"
+    holds "$1: the vectors" inside "python3 vectors/run.py $2/sdjwt --at '$at'"
+    holds "$1: the audit" inside "SDJWT_TOOLS=$2/sdjwt_tools sh examples/audit.sh"
+    holds "$1: the wallet" inside "SDJWT_TOOLS=$2/sdjwt_tools sh examples/wallet.sh"
+    holds "$1: sdjwt-explain" inside "$2/sdjwt-explain 17 | grep '^refused 17 unreferencedDisclosure'"
+    holds "$1: the manual pages" inside '
+        for page in sdjwt sdjwt_tools sdjwt-explain; do
+            man --warnings "$page" >/root/page 2>/root/line
+            [ ! -s /root/line ] || { cat /root/line && exit 1; }
+            grep -q "^NAME" /root/page
+        done
+        man -w sdjwt'
+    holds "$1: the completions" inside "
+        for program in sdjwt sdjwt_tools; do
+            bash -n $3/share/bash-completion/completions/\$program
+            test -s $3/share/zsh/$4/_\$program
+        done"
+}
+c_library() {
+    holds "$1: C, with the shared library" inside '
+        python3 c/tests/vectors.py /root/vectors
+        cc -std=c11 -pthread c/tests/calls.c $(pkg-config --cflags --libs sdjwt) -o /root/calls
+        LD_LIBRARY_PATH='"$2"' /root/calls /root/vectors 4'
+    holds "$1: C, with the static library" inside '
+        cc -std=c11 -pthread c/tests/calls.c $(pkg-config --cflags sdjwt) \
+            "$(pkg-config --variable=libdir sdjwt)/libsdjwt.a" -o /root/calls
+        ! ldd /root/calls | grep sdjwt
+        /root/calls /root/vectors 4'
+}
+python_package() {
+    holds "$1: the first minute of python/README.md" inside "$2 /root/first_minute.py"
+    holds "$1: the examples of its docstrings" inside "cd /root && $2 -c '
+import doctest, sdjwt, importlib.metadata
+assert importlib.metadata.version(\"sdjwt\") == sdjwt.__version__
+tried = doctest.testmod(sdjwt)
+print(tried, sdjwt.__version__)
+assert tried.attempted and not tried.failed'"
+}
+
+if [ "$bare_made" = yes ]; then
+    mkdir "$bare/root/repository" "$bare/root/files"
+    git -C "$top" archive HEAD README.md examples vectors c/tests python/README.md |
+        tar -x -f - -C "$bare/root/repository"
+    cp "$out"/* "$bare/root/files/"
+    sed -n '/^```python$/,/^```$/p' "$top/python/README.md" | sed '/^```/d' >"$bare/root/first_minute.py"
+    inside 'find /usr /etc | sort' >"$made/before"
+
+    holds 'packages: installed' inside 'dpkg -i /root/files/*.deb'
+    programs packages /usr/bin /usr vendor-completions
+    c_library packages ''
+    python_package packages /usr/bin/python3
+    nothing_left() {
+        inside 'dpkg -r python3-sdjwt libsdjwt-dev libsdjwt1 sdjwt'
+        inside 'find /usr /etc | sort' >"$made/after"
+        diff "$made/before" "$made/after"
+        echo 'nothing is left in /usr and /etc'
+    }
+    holds 'packages: removed' nothing_left
+
+    wheel_installed() {
+        inside 'python3 -m venv /root/venv
+            /root/venv/bin/pip install --quiet --no-index --disable-pip-version-check /root/files/*.whl'
+    }
+    holds 'wheel: installed' wheel_installed
+    python_package wheel /root/venv/bin/python
+
+    # The archive, by the words of its README.
+    readme=$(echo "$made"/archive/*/README.md)
+    awk '/^## / { on = $0 == "## Install"; seen = 0 } on && /^    / { seen = 1; print; next } on && seen { exit }' \
+        "$readme" | sed 's/^    sudo /    /' >"$bare/root/install"
+    awk '/^## / { on = $0 == "## First commands"; next } on && /^    / { print }' "$readme" >"$bare/root/first"
+    said=$(sed -n 's/^The last prints `\(.*\)`\. .*/\1/p' "$readme")
+    holds 'archive: installed by its README.md' inside 'cd /root/files; sh -eu /root/install; ldconfig
+        ls /usr/local/lib'
+    first_commands() {
+        inside "cd /root/files/sdjwt-*-linux-x86_64; sh -eu /root/first >/root/printed; tail -n 1 /root/printed" \
+            >"$made/printed"
+        cat "$made/printed"
+        [ -n "$said" ] && [ "$(cat "$made/printed")" = "$said" ]
+    }
+    holds 'archive: its first commands' first_commands
+    programs archive /usr/local/bin /usr/local site-functions
+    c_library archive ''
+    holds 'archive: its own vectors' inside "cd /root/files/sdjwt-*-linux-x86_64; python3 vectors/run.py sdjwt"
+fi
+unproved=$(sed -n 's/^not proved: //p' "$out/PROVENANCE")
+[ "$unproved" != nothing ] || unproved=
+echo "release/check.sh: $ran ran, $skips skipped${skipped:+ ($skipped)}${unproved:+, NOT PROVED: $unproved}"
