@@ -50,7 +50,8 @@ failed() {
     echo "release/check.sh: FAILED: $1" >&2
     exit 1
 }
-# Runs words under a name, and shows what they said if they fail, and else the last line.
+# Runs words under a name, and shows what they said if they fail, and else the last line. In a function that is run so,
+# sh goes on behind a command that fails, so these are joined by &&.
 holds() {
     name=$1
     shift
@@ -74,12 +75,10 @@ cp "$top/crates/sdjwt/out/sdjwt" "$clone/crates/sdjwt/out/"
 cp "$top/crates/sdjwt_tools/out/sdjwt_tools" "$clone/crates/sdjwt_tools/out/"
 cp -R "$top/c/out" "$clone/c/"
 again() {
-    (
-        umask 077
-        TZ=Asia/Tokyo LC_ALL=C.UTF-8 HOME=$made sh "$clone/release/build.sh" "$version" --look ${gate:+--gate "$gate"}
-    )
-    diff -r "$out" "$clone/release/out"
-    echo 'the same bytes'
+    (umask 077 && TZ=Asia/Tokyo LC_ALL=C.UTF-8 HOME=$made \
+        sh "$clone/release/build.sh" "$version" --look ${gate:+--gate "$gate"}) &&
+        diff -r "$out" "$clone/release/out" &&
+        echo 'the same bytes'
 }
 holds 'made again from a clone' again
 
@@ -114,8 +113,8 @@ echo no >"$clone/c/out/proved"
 holds 'refuses a library that is not proved' refuses 'libsdjwt. For a try' "$version"
 gate_told() {
     printf 'all of it\n12 passed, 0 failed\n' >"$made/passed"
-    sh "$clone/release/build.sh" "$version" --look --gate "$made/passed" --out "$made/told"
-    grep -x 'gate (rt ci): 12 passed, 0 failed' "$made/told/PROVENANCE"
+    sh "$clone/release/build.sh" "$version" --look --gate "$made/passed" --out "$made/told" &&
+        grep -x 'gate (rt ci): 12 passed, 0 failed' "$made/told/PROVENANCE"
 }
 holds 'tells what the gate said' gate_told
 
@@ -126,9 +125,15 @@ holds 'the wheel' python3 "$here/wheel.py" "$out"/*.whl
 mkdir "$made/archive"
 tar -x -z -f "$out"/sdjwt-*.tar.gz -C "$made/archive"
 holds 'the links in the archive' python3 "$here/links.py" "$made"/archive/*
+judged() {
+    lintian --allow-root --profile debian --fail-on error "$out"/*.deb >"$made/lintian" || {
+        cat "$made/lintian"
+        return 1
+    }
+    echo "no errors, $(grep -c '^W:' "$made/lintian") warnings"
+}
 if command -v lintian >/dev/null; then
-    holds 'lintian' sh -c 'lintian --allow-root --profile debian --fail-on error "$@" 2>&1 | tee "$0"
-        ! grep "^E:" "$0" && echo "no errors, $(grep -c "^W:" "$0") warnings"' "$made/lintian" "$out"/*.deb
+    holds 'lintian' judged
 else
     skip 'lintian (there is none)'
 fi
@@ -137,8 +142,8 @@ fi
 bare=$made/bare
 with=python3,python3-venv,man-db,gcc,libc6-dev,pkg-config,libfaketime
 bare_made=no
-if [ "$(id -u)" -ne 0 ]; then
-    skip 'the bare Debian (it needs root)'
+if [ "$(id -u)" -ne 0 ] || ! unshare --mount true 2>/dev/null; then
+    skip 'the bare Debian (it needs root, and leave to mount)'
 elif [ -n "$BARE" ]; then
     cp -a "$BARE" "$bare"
     bare_made=yes
@@ -153,10 +158,14 @@ else
     skip "the bare Debian (debootstrap could not make $SUITE of $MIRROR)"
 fi
 
-# Runs a text of the shell there, in the folder with what the repository has to test programs.
+# Runs a text of the shell there, in the folder with what the repository has to test programs. What is mounted for it is
+# gone with it.
 inside() {
-    chroot "$bare" /usr/bin/env -i HOME=/root PATH=/usr/local/sbin:/usr/local/bin:/usr/sbin:/usr/bin:/sbin:/bin \
-        LC_ALL=C.UTF-8 DEBIAN_FRONTEND=noninteractive MANPAGER=cat sh -euc "cd /root/repository; $1"
+    # shellcheck disable=SC2016 # the words of the other shell
+    unshare --mount sh -euc 'mount -t proc proc "$1/proc"
+        exec chroot "$1" /usr/bin/env -i HOME=/root PATH=/usr/local/sbin:/usr/local/bin:/usr/sbin:/usr/bin:/sbin:/bin \
+            LC_ALL=C.UTF-8 DEBIAN_FRONTEND=noninteractive MANPAGER=cat sh -euc "$2"' \
+        sh "$bare" "cd /root/repository; $1" </dev/null
 }
 at='env LD_PRELOAD=/usr/lib/x86_64-linux-gnu/faketime/libfaketime.so.1 FAKETIME_FMT=%s FAKETIME={moment}'
 
@@ -164,7 +173,7 @@ at='env LD_PRELOAD=/usr/lib/x86_64-linux-gnu/faketime/libfaketime.so.1 FAKETIME_
 programs() {
     holds "$1: the programs start" inside '
         for program in sdjwt sdjwt_tools; do
-            ! ldd "$(command -v "$program")" | grep "not found"
+            if ldd "$(command -v "$program")" | grep "not found"; then exit 1; fi
             status=0
             "$program" 2>/root/line || status=$?
             [ "$status" -eq 2 ] && [ "$(cat /root/line)" = usage ]
@@ -192,11 +201,11 @@ c_library() {
     holds "$1: C, with the shared library" inside '
         python3 c/tests/vectors.py /root/vectors
         cc -std=c11 -pthread c/tests/calls.c $(pkg-config --cflags --libs sdjwt) -o /root/calls
-        LD_LIBRARY_PATH='"$2"' /root/calls /root/vectors 4'
+        /root/calls /root/vectors 4'
     holds "$1: C, with the static library" inside '
         cc -std=c11 -pthread c/tests/calls.c $(pkg-config --cflags sdjwt) \
             "$(pkg-config --variable=libdir sdjwt)/libsdjwt.a" -o /root/calls
-        ! ldd /root/calls | grep sdjwt
+        if ldd /root/calls | grep sdjwt; then exit 1; fi
         /root/calls /root/vectors 4'
 }
 python_package() {
@@ -219,21 +228,18 @@ if [ "$bare_made" = yes ]; then
 
     holds 'packages: installed' inside 'dpkg -i /root/files/*.deb'
     programs packages /usr/bin /usr vendor-completions
-    c_library packages ''
+    c_library packages
     python_package packages /usr/bin/python3
     nothing_left() {
-        inside 'dpkg -r python3-sdjwt libsdjwt-dev libsdjwt1 sdjwt'
-        inside 'find /usr /etc | sort' >"$made/after"
-        diff "$made/before" "$made/after"
-        echo 'nothing is left in /usr and /etc'
+        inside 'dpkg -r python3-sdjwt libsdjwt-dev libsdjwt1 sdjwt' &&
+            inside 'find /usr /etc | sort' >"$made/after" &&
+            diff "$made/before" "$made/after" &&
+            echo 'nothing is left in /usr and /etc'
     }
     holds 'packages: removed' nothing_left
 
-    wheel_installed() {
-        inside 'python3 -m venv /root/venv
-            /root/venv/bin/pip install --quiet --no-index --disable-pip-version-check /root/files/*.whl'
-    }
-    holds 'wheel: installed' wheel_installed
+    holds 'wheel: installed' inside 'python3 -m venv /root/venv
+        /root/venv/bin/pip install --no-index --disable-pip-version-check /root/files/*.whl'
     python_package wheel /root/venv/bin/python
 
     # The archive, by the words of its README.
@@ -246,13 +252,12 @@ if [ "$bare_made" = yes ]; then
         ls /usr/local/lib'
     first_commands() {
         inside "cd /root/files/sdjwt-*-linux-x86_64; sh -eu /root/first >/root/printed; tail -n 1 /root/printed" \
-            >"$made/printed"
-        cat "$made/printed"
-        [ -n "$said" ] && [ "$(cat "$made/printed")" = "$said" ]
+            >"$made/printed" && cat "$made/printed" &&
+            [ -n "$said" ] && [ "$(cat "$made/printed")" = "$said" ]
     }
     holds 'archive: its first commands' first_commands
     programs archive /usr/local/bin /usr/local site-functions
-    c_library archive ''
+    c_library archive
     holds 'archive: its own vectors' inside "cd /root/files/sdjwt-*-linux-x86_64; python3 vectors/run.py sdjwt"
 fi
 unproved=$(sed -n 's/^not proved: //p' "$out/PROVENANCE")
