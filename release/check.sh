@@ -182,7 +182,7 @@ programs() {
     holds "$1: the walk of README.md" inside "python3 examples/walk.py $2/sdjwt"
     holds "$1: the vectors" inside "python3 vectors/run.py $2/sdjwt --at '$at'"
     holds "$1: the audit" inside "SDJWT_TOOLS=$2/sdjwt_tools sh examples/audit.sh"
-    holds "$1: the wallet" inside "SDJWT_TOOLS=$2/sdjwt_tools sh examples/wallet.sh"
+    holds "$1: the wallet" inside "SDJWT=$2/sdjwt SDJWT_TOOLS=$2/sdjwt_tools sh examples/wallet.sh"
     holds "$1: sdjwt-explain" inside "$2/sdjwt-explain 17 | grep '^refused 17 unreferencedDisclosure'"
     holds "$1: the manual pages" inside '
         for page in sdjwt sdjwt_tools sdjwt-explain; do
