@@ -119,7 +119,9 @@ gate_told() {
 holds 'tells what the gate said' gate_told
 
 # The files by themselves.
-sums() { (cd "$out" && sha256sum -c SHA256SUMS && [ "$(wc -l <SHA256SUMS)" -eq "$(ls | grep -cv '^SHA256SUMS$')" ]); }
+sums() {
+    (cd "$out" && sha256sum -c SHA256SUMS && [ "$(($(wc -l <SHA256SUMS) + 1))" -eq "$(find . -type f | wc -l)" ])
+}
 holds 'the sums' sums
 holds 'the wheel' python3 "$here/wheel.py" "$out"/*.whl
 mkdir "$made/archive"
@@ -171,6 +173,7 @@ at='env LD_PRELOAD=/usr/lib/x86_64-linux-gnu/faketime/libfaketime.so.1 FAKETIME_
 
 # What holds of the programs, the C library and Python wherever they are installed.
 programs() {
+    # shellcheck disable=SC2016 # the words of the other shell
     holds "$1: the programs start" inside '
         for program in sdjwt sdjwt_tools; do
             if ldd "$(command -v "$program")" | grep "not found"; then exit 1; fi
@@ -184,6 +187,7 @@ programs() {
     holds "$1: the audit" inside "SDJWT_TOOLS=$2/sdjwt_tools sh examples/audit.sh"
     holds "$1: the wallet" inside "SDJWT=$2/sdjwt SDJWT_TOOLS=$2/sdjwt_tools sh examples/wallet.sh"
     holds "$1: sdjwt-explain" inside "$2/sdjwt-explain 17 | grep '^refused 17 unreferencedDisclosure'"
+    # shellcheck disable=SC2016
     holds "$1: the manual pages" inside '
         for page in sdjwt sdjwt_tools sdjwt-explain; do
             man --warnings "$page" >/root/page 2>/root/line
@@ -198,10 +202,12 @@ programs() {
         done"
 }
 c_library() {
+    # shellcheck disable=SC2016 # the words of the other shell
     holds "$1: C, with the shared library" inside '
         python3 c/tests/vectors.py /root/vectors
         cc -std=c11 -pthread c/tests/calls.c $(pkg-config --cflags --libs sdjwt) -o /root/calls
         /root/calls /root/vectors 4'
+    # shellcheck disable=SC2016
     holds "$1: C, with the static library" inside '
         cc -std=c11 -pthread c/tests/calls.c $(pkg-config --cflags sdjwt) \
             "$(pkg-config --variable=libdir sdjwt)/libsdjwt.a" -o /root/calls
@@ -220,9 +226,10 @@ assert tried.attempted and not tried.failed'"
 
 if [ "$bare_made" = yes ]; then
     mkdir "$bare/root/repository" "$bare/root/files"
-    git -C "$top" archive HEAD README.md examples vectors c/tests python/README.md |
+    git -C "$top" archive HEAD README.md examples vectors c/tests crates/sd_vectors/data python/README.md |
         tar -x -f - -C "$bare/root/repository"
     cp "$out"/* "$bare/root/files/"
+    # shellcheck disable=SC2016 # the marks of a text
     sed -n '/^```python$/,/^```$/p' "$top/python/README.md" | sed '/^```/d' >"$bare/root/first_minute.py"
     inside 'find /usr /etc | sort' >"$made/before"
 
@@ -247,6 +254,7 @@ if [ "$bare_made" = yes ]; then
     awk '/^## / { on = $0 == "## Install"; seen = 0 } on && /^    / { seen = 1; print; next } on && seen { exit }' \
         "$readme" | sed 's/^    sudo /    /' >"$bare/root/install"
     awk '/^## / { on = $0 == "## First commands"; next } on && /^    / { print }' "$readme" >"$bare/root/first"
+    # shellcheck disable=SC2016
     said=$(sed -n 's/^The last prints `\(.*\)`\. .*/\1/p' "$readme")
     holds 'archive: installed by its README.md' inside 'cd /root/files; sh -eu /root/install; ldconfig
         ls /usr/local/lib'

@@ -4,8 +4,9 @@ This is a build backend (PEP 517), so that `pip install ./python` needs no netwo
 or the one that SDJWT_LIBRARY names. Whether the first is proved says `c/out/proved`; of the second nothing is known. A wheel
 whose library is not proved has `+not.proved` behind its version, so that the last line of pip says it.
 
-For a release SDJWT_PLATFORM names the platforms that the wheel is for, with a dot between two, as manylinux_2_17_x86_64; else it
-is for the machine at hand. The files in it have the date SOURCE_DATE_EPOCH, or one that is always the same.
+For a release SDJWT_PLATFORM names the platforms that the wheel is for, with a dot between two, as
+manylinux_2_17_x86_64; else it is for the machine at hand. The files in it have the date SOURCE_DATE_EPOCH, or one that
+is always the same.
 """
 import base64
 import hashlib
