@@ -201,18 +201,23 @@ programs() {
             test -s $3/share/zsh/$4/_\$program
         done"
 }
+# The first program of docs/C.md; c/check.sh runs all vectors over the library.
 c_library() {
     # shellcheck disable=SC2016 # the words of the other shell
-    holds "$1: C, with the shared library" inside '
-        python3 c/tests/vectors.py /root/vectors
-        cc -std=c11 -pthread c/tests/calls.c $(pkg-config --cflags --libs sdjwt) -o /root/calls
-        /root/calls /root/vectors 4'
-    # shellcheck disable=SC2016
-    holds "$1: C, with the static library" inside '
-        cc -std=c11 -pthread c/tests/calls.c $(pkg-config --cflags sdjwt) \
-            "$(pkg-config --variable=libdir sdjwt)/libsdjwt.a" -o /root/calls
-        if ldd /root/calls | grep sdjwt; then exit 1; fi
-        /root/calls /root/vectors 4'
+    holds "$1: C, with the shared and the static library" inside '
+        cd examples/walk
+        sdjwt issue order.json seed.txt >/root/issued.txt
+        sdjwt present present.json /root/issued.txt >/root/shown.txt
+        sdjwt verify policy.json /root/shown.txt >/root/claims
+        cc /root/first.c $(pkg-config --cflags --libs sdjwt) -o /root/shared
+        cc /root/first.c $(pkg-config --cflags sdjwt) "$(pkg-config --variable=libdir sdjwt)/libsdjwt.a" -o /root/static
+        ldd /root/shared | grep libsdjwt.so.1
+        if ldd /root/static | grep libsdjwt; then exit 1; fi
+        for program in shared static; do
+            /root/$program </root/shown.txt >/root/said
+            cmp /root/said /root/claims
+        done
+        cat /root/said'
 }
 python_package() {
     holds "$1: the first minute of python/README.md" inside "$2 /root/first_minute.py"
@@ -226,11 +231,13 @@ assert tried.attempted and not tried.failed'"
 
 if [ "$bare_made" = yes ]; then
     mkdir "$bare/root/repository" "$bare/root/files"
-    git -C "$top" archive HEAD README.md examples vectors c/tests crates/sd_vectors/data python/README.md |
+    git -C "$top" archive HEAD README.md examples vectors |
         tar -x -f - -C "$bare/root/repository"
     cp "$out"/* "$bare/root/files/"
     # shellcheck disable=SC2016 # the marks of a text
     sed -n '/^```python$/,/^```$/p' "$top/python/README.md" | sed '/^```/d' >"$bare/root/first_minute.py"
+    # shellcheck disable=SC2016
+    sed -n '/^```c$/,/^```$/p' "$top/docs/C.md" | sed '1d; /^```/,$d' >"$bare/root/first.c"
     inside 'find /usr /etc | sort' >"$made/before"
 
     holds 'packages: installed' inside 'dpkg -i /root/files/*.deb'
