@@ -179,7 +179,7 @@ programs() {
             if ldd "$(command -v "$program")" | grep "not found"; then exit 1; fi
             status=0
             "$program" 2>/root/line || status=$?
-            [ "$status" -eq 2 ] && [ "$(cat /root/line)" = usage ]
+            [ "$status $(cat /root/line)" = "2 usage" ]
         done
         command -v sdjwt'
     holds "$1: the walk of README.md" inside "python3 examples/walk.py $2/sdjwt"
@@ -201,6 +201,7 @@ programs() {
             test -s $3/share/zsh/$4/_\$program
         done"
 }
+
 # The first program of docs/C.md; c/check.sh runs all vectors over the library.
 c_library() {
     # shellcheck disable=SC2016 # the words of the other shell
@@ -219,6 +220,7 @@ c_library() {
         done
         cat /root/said'
 }
+
 python_package() {
     holds "$1: the first minute of python/README.md" inside "$2 /root/first_minute.py"
     holds "$1: the examples of its docstrings" inside "cd /root && $2 -c '
