@@ -28,7 +28,7 @@ while [ $# -gt 0 ]; do
 done
 case $gate in '' | /*) ;; *) gate=$(pwd)/$gate ;; esac
 : "${SUITE:=bookworm}" "${MIRROR:=http://deb.debian.org/debian}" "${BARE:=}"
-[ "$install" = no ] || apt-get install -y git python3 binutils dpkg lintian debootstrap
+[ "$install" = no ] || apt-get install -y git python3 binutils lintian debootstrap
 here=$(cd "$(dirname "$0")" && pwd)
 top=$(cd "$here/.." && pwd)
 version=$(sed -n 's/^version = "\(.*\)"$/\1/p' "$top/python/pyproject.toml")
