@@ -98,6 +98,8 @@ def test_what_a_wheel_says_of_its_library(said, proved, ending, tmp_path, monkey
     if said is not None:
         (tmp_path / "c/out/proved").write_text(said, encoding="utf-8")
     wheel = loaded(tmp_path / "python/build_backend/sdjwt_wheel.py")
+    for licence in wheel.LICENCES:
+        shutil.copy(TOP / licence, tmp_path)
     for named in (None, library):
         if named:
             monkeypatch.setenv("SDJWT_LIBRARY", str(named))
