@@ -110,7 +110,7 @@ for file in crates/sdjwt/out/sdjwt crates/sdjwt_tools/out/sdjwt_tools c/out/lib/
     mv "$made/away" "$clone/$file"
 done
 echo no >"$clone/c/out/proved"
-holds 'refuses a library that is not proved' refuses 'libsdjwt. For a try' "$version"
+holds 'refuses a library that is not proved' refuses 'libsdjwt.so.1. For a try' "$version"
 gate_told() {
     printf 'all of it\n12 passed, 0 failed\n' >"$made/passed"
     sh "$clone/release/build.sh" "$version" --look --gate "$made/passed" --out "$made/told" &&
