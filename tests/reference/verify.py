@@ -1,0 +1,105 @@
+"""The verdict on a token: RFC 9901 sections 7.1 and 7.3, condition by condition in the order of their numbers."""
+
+from typing import Any, Dict, List, Optional
+
+import encoding
+import tokens
+from encoding import Key
+from files import Policy
+from json_text import Tree, is_whole
+from outcome import Refused
+from processing import Judged, process
+from tokens import Token
+
+
+def judge_signed(token: Token, keys: List[Key], algs: List[str], typ: Optional[str] = None) -> Judged:
+    """Conditions 5 to 21: the header, the signature, the disclosures and the processing."""
+    header = tokens.read_header(token.protected, token.unprotected)
+    if header is None:
+        raise Refused(5)
+    if header.critical:  # RFC 7515 section 4.1.11.
+        raise Refused(6)
+    if header.alg not in encoding.ALGORITHMS or header.alg not in algs:
+        raise Refused(7)
+    if typ is not None and header.typ != typ:
+        raise Refused(8)
+    key = encoding.pick(keys, header.alg, header.kid)
+    if key is None:
+        raise Refused(9)
+    if not encoding.is_signed(token.protected, token.payload, token.signature, key.octets, header.alg):
+        raise Refused(10)
+    claims = tokens.read_payload(token.payload)
+    hash_name = tokens.hash_of(claims)
+    return process(claims, tokens.read_disclosures(token.disclosures), hash_name)
+
+
+def verify(policy: Policy, token: Token, now: int) -> Dict[str, Tree]:
+    """The processed payload, or the lowest of conditions 4 to 38 that fails."""
+    if policy.binding is not None and token.binding is None:  # RFC 9901 section 7.3, step 1.
+        raise Refused(4)
+    judged = judge_signed(token, policy.keys, policy.algs, policy.typ)
+    claims = judged.claims
+    iss = claims.get("iss")
+    if policy.iss is not None and not (isinstance(iss, str) and iss in policy.iss):
+        raise Refused(22)
+    for number, name in enumerate(policy.require):
+        if name not in claims:
+            raise Refused(23, number)
+    fault = _time_fault(claims, now, policy.skew)  # RFC 7519 sections 4.1.4 and 4.1.5.
+    if fault is not None:
+        raise Refused(fault)
+    if policy.binding is not None and token.binding is not None:
+        _judge_binding(policy.binding, policy.skew, token, judged, now)
+    return claims
+
+
+def _time_fault(claims: Dict[str, Tree], now: int, skew: int) -> Optional[int]:
+    """Which of conditions 24 to 26 fails."""
+    if any(name in claims and not is_whole(claims[name]) for name in ("exp", "nbf")):
+        return 24
+    if "exp" in claims and now >= claims["exp"] + skew:
+        return 25
+    if "nbf" in claims and now + skew < claims["nbf"]:
+        return 26
+    return None
+
+
+def holder_kid(claims: Dict[str, Tree]) -> Optional[str]:
+    """The kid of the claim cnf (RFC 7800 section 3.4)."""
+    cnf = claims.get("cnf")
+    kid = cnf.get("kid") if isinstance(cnf, dict) else None
+    return kid if isinstance(kid, str) else None
+
+
+def _judge_binding(wish: Dict[str, Any], skew: int, token: Token, judged: Judged, now: int) -> None:
+    """RFC 9901 section 7.3, step 5: conditions 27 to 38."""
+    kid = holder_kid(judged.claims)
+    key = None if kid is None else encoding.pick(wish["keys"], "HS256", kid)
+    if key is None:
+        raise Refused(27)
+    protected, payload, signature = str(token.binding).split(".")
+    header = tokens.read_header(protected, {})
+    if header is None or header.critical:
+        raise Refused(28)
+    if header.alg != "HS256":
+        raise Refused(29)
+    if not encoding.is_signed(protected, payload, signature, key.octets, "HS256"):
+        raise Refused(30)
+    if header.typ != "kb+jwt":
+        raise Refused(31)
+    said = encoding.carried_object(payload)
+    if (said is None or not is_whole(said.get("iat"))
+            or not all(isinstance(said.get(name), str) for name in ("aud", "nonce", "sd_hash"))):
+        raise Refused(32)
+    if now > said["iat"] + wish["max_age"] + skew:
+        raise Refused(33)
+    if said["iat"] > now + skew:
+        raise Refused(34)
+    if said["nonce"] != wish["nonce"]:
+        raise Refused(35)
+    if said["aud"] not in wish["aud"]:
+        raise Refused(36)
+    if said["sd_hash"] != encoding.digest(token.hashed(), judged.hash_name):
+        raise Refused(37)
+    if _time_fault(said, now, skew) is not None:
+        raise Refused(38)
