@@ -27,6 +27,7 @@ sys.setrecursionlimit(20_000)
 import grow  # noqa: E402
 import main as reference  # noqa: E402
 from main import Answer  # noqa: E402
+from present import judge_held  # noqa: E402
 
 Case = Dict[str, Any]
 TOOL_COMMANDS = ("feed", "audit", "wallet")
@@ -205,16 +206,12 @@ class Cases:
 
     def said(self, part: Dict[str, Any]) -> Any:
         """What the reading finds in a token with all that is disclosed, to name places of it; or nothing."""
-        keys = [grow.encoding.Key(key, None) for key in (grow.KEYS["office"],)]
         try:
             token = reference.tokens.read_token(content(part))
-            question = reference.files.Question(keys, [], [])
             token.binding = None
-            header = reference.tokens.read_header(token.protected, token.unprotected)
-            if header is not None and header.kid is not None:
-                question = question._replace(keys=[grow.encoding.Key(grow.KEYS["office"], header.kid)])
-            return reference.judge_held(token, question).claims
-        except (reference.Refused, ValueError):
+            kid = reference.tokens.read_header(token.protected, token.unprotected).kid
+            return judge_held(token, [grow.encoding.Key(grow.KEYS["office"], kid)]).claims
+        except reference.Refused:
             return {"a": [{"b": 1}], "iss": 1}
 
     def present_order(self, claims: Any) -> Dict[str, Any]:

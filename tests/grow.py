@@ -599,7 +599,7 @@ def render(recipe: Recipe) -> bytes:
     protected = _spoilt(encoding.encode(octets(filled(recipe["header"]))), "header", recipe)
     said = re.sub("<fill ([0-9]+)>", lambda found: "x" * int(found[1]), filled(recipe["payload"]))
     payload = _spoilt(encoding.encode(octets(said)), "payload", recipe)
-    signature = encoding.encode(encoding.sign(protected, payload, KEYS[recipe["signer"]], recipe["alg"]))
+    signature = encoding.sign(protected, payload, KEYS[recipe["signer"]], recipe["alg"])
     signature = _spoilt(signature, "signature", recipe)
     token = Token(protected, payload, signature, [texts[number] for number in recipe["send"]])
     binding = recipe["binding"]
@@ -608,7 +608,7 @@ def render(recipe: Recipe) -> bytes:
         head = _spoilt(encoding.encode(octets(binding["header"])), "binding header", recipe)
         body = _spoilt(encoding.encode(octets(filled(binding["payload"].replace("<hash>", sd_hash)))), "binding payload",
                        recipe)
-        signed = encoding.encode(encoding.sign(head, body, KEYS[binding["signer"]], binding["alg"]))
+        signed = encoding.sign(head, body, KEYS[binding["signer"]], binding["alg"])
         token.binding = f"{head}.{body}.{_spoilt(signed, 'binding signature', recipe)}"
     data = octets(token.compact() if recipe["form"] == "compact" else _laid_out(token, recipe))
     return _edited(data, recipe["edits"])

@@ -1,42 +1,38 @@
-"""Issuing: RFC 9901 section 4.2, by the refusals of an order in their order; salts by RFC 8439."""
+"""Issuing: RFC 9901 section 4.2, by the refusals of an order in their order; salts by RFC 8439; and the command gen."""
 
 import struct
-from typing import Dict, Iterator, List, Optional, Set, Tuple
+from typing import Dict, Iterator, List, Set
 
 import encoding
-import json_text
-from files import Order
-from json_text import Tree, write
+from files import Said
+from json_text import Path, Tree, at, depth, pointer_of, write
 from outcome import COUNT_MAX, DEPTH_MAX, ISSUE_MAX, Refused
-from processing import Path
-from tokens import Token
+from present import present
+from processing import sites
+from tokens import Token, read_disclosures, read_payload
+from verify import verify
 
-
-def judge_order(order: Order) -> None:
+def judge_order(order: Said) -> None:
     """The lowest of the refusals 51 to 59 that applies."""
-    if not isinstance(order.payload, dict):
+    payload, hide = order["payload"], order["hide"]
+    if not isinstance(payload, dict):
         raise Refused(51)
-    for place in _reserved(order.payload, ()):
-        raise Refused(52, write(json_text.pointer_of(place)))
-    if json_text.depth(order.payload) > DEPTH_MAX:
+    for place in _reserved(payload, ()):
+        raise Refused(52, write(pointer_of(place)))
+    if depth(payload) > DEPTH_MAX:
         raise Refused(53)
-    for number, path in enumerate(order.hide):
-        if not path:
-            raise Refused(54, number)
-    for number, path in enumerate(order.hide):
-        if not json_text.at(order.payload, path)[0]:
-            raise Refused(55, number)
-    for number, path in enumerate(order.hide):  # RFC 9901 section 9.7.
-        if path[0] in ("iss", "aud", "exp", "nbf", "cnf"):
-            raise Refused(56, number)
-    for number, entry in enumerate(order.decoys):
-        if not isinstance(json_text.at(order.payload, entry["at"])[1], (dict, list)):
+    for refusal, applies in ((54, lambda path: not path), (55, lambda path: not at(payload, path)[0]),
+                             (56, lambda path: path[0] in ("iss", "aud", "exp", "nbf", "cnf"))):  # Section 9.7.
+        for number, path in enumerate(hide):
+            if applies(path):
+                raise Refused(refusal, number)
+    for number, entry in enumerate(order["decoys"]):
+        if not isinstance(at(payload, entry["at"])[1], (dict, list)):
             raise Refused(57, number)
-    if len(set(order.hide)) > COUNT_MAX:
+    if len(set(hide)) > COUNT_MAX:
         raise Refused(58)
-    if sum(entry["count"] for entry in order.decoys) > COUNT_MAX:
+    if sum(entry["count"] for entry in order["decoys"]) > COUNT_MAX:
         raise Refused(59)
-
 
 def _reserved(tree: Tree, path: Path) -> Iterator[Path]:
     if isinstance(tree, dict):
@@ -48,48 +44,43 @@ def _reserved(tree: Tree, path: Path) -> Iterator[Path]:
         for position, element in enumerate(tree):
             yield from _reserved(element, (*path, str(position)))
 
-
 def closing_order(tree: Tree, hidden: Set[Path], path: Path = ()) -> Iterator[Path]:
     """The hidden places, each behind all that is inside it."""
     if isinstance(tree, (dict, list)):
-        steps = sorted(tree) if isinstance(tree, dict) else map(str, range(len(tree)))
-        for step in steps:
-            yield from closing_order(tree[step] if isinstance(tree, dict) else tree[int(step)], hidden, (*path, step))
+        inner = sorted(tree.items()) if isinstance(tree, dict) else zip(map(str, range(len(tree))), tree)
+        for step, value in inner:
+            yield from closing_order(value, hidden, (*path, step))
     if path in hidden:
         yield path
 
-
-def header_text(order: Order) -> str:
+def header_text(order: Said) -> str:
     """The protected header that the issuer writes."""
-    said = {"alg": order.alg, "kid": order.kid, "typ": order.typ}
-    return encoding.encode(write({name: text for name, text in said.items() if text is not None}).encode())
-
+    return encoding.written({name: order[name] for name in ("alg", "kid", "typ") if order[name] is not None})
 
 class _Hiding:
     """Hides the places of an order, with the salts of a seed."""
 
-    def __init__(self, order: Order, seed: bytes) -> None:
-        self.order = order
-        self.hidden = set(order.hide)
-        wanted = len(self.hidden) + sum(entry["count"] for entry in order.decoys)
-        pieces = [encoding.encode(piece) for piece in chacha_pieces(seed, wanted)]
-        self.salts, behind = iter(pieces), pieces[len(self.hidden):]
-        self.texts: List[str] = []
+    def __init__(self, order: Said, seed: bytes) -> None:
+        self.hash_name, self.hidden = order["sd_alg"], set(order["hide"])
+        count = len(self.hidden) + sum(entry["count"] for entry in order["decoys"])
+        self.salts = map(encoding.encode, chacha_pieces(seed, count))
+        own = [next(self.salts) for _ in self.hidden]
         self.decoys: Dict[Path, List[str]] = {}
-        for entry in order.decoys:
-            made = [encoding.digest(piece, order.sd_alg) for piece in behind[:entry["count"]]]
+        for entry in order["decoys"]:  # RFC 9901 section 4.2.5.
+            made = [encoding.digest(next(self.salts), self.hash_name) for _ in range(entry["count"])]
             self.decoys.setdefault(entry["at"], []).extend(made)
-            behind = behind[entry["count"]:]
+        self.salts = iter(own)
+        self.texts: List[str] = []
 
     def _close(self, parts: List[Tree]) -> str:
-        self.texts.append(encoding.encode(write([next(self.salts), *parts]).encode()))
-        return encoding.digest(self.texts[-1], self.order.sd_alg)
+        self.texts.append(encoding.written([next(self.salts), *parts]))
+        return encoding.digest(self.texts[-1], self.hash_name)
 
     def hide(self, tree: Tree, path: Path = ()) -> Tree:
         """The tree with each hidden place in it hidden, and its decoys."""
+        digests = list(self.decoys.get(path, []))
         if isinstance(tree, dict):
             plain: Dict[str, Tree] = {}
-            digests = list(self.decoys.get(path, []))
             for name in sorted(tree):
                 value = self.hide(tree[name], (*path, name))
                 if (*path, name) in self.hidden:  # RFC 9901 section 4.2.4.1.
@@ -104,33 +95,23 @@ class _Hiding:
             place = (*path, str(position))
             value = self.hide(element, place)
             elements.append({"...": self._close([value])} if place in self.hidden else value)  # Section 4.2.4.2.
-        return elements + [{"...": digest} for digest in self.decoys.get(path, [])]  # Section 4.2.5.
+        return elements + [{"...": digest} for digest in digests]
 
-
-def issue(order: Order, seed: bytes) -> Token:
+def issue(order: Said, seed: bytes) -> Token:
     """The token of an order and a seed, or the refusal that applies."""
     judge_order(order)
     hiding = _Hiding(order, seed)
-    claims = {**hiding.hide(order.payload), "_sd_alg": order.sd_alg}
-    protected, payload = header_text(order), encoding.encode(write(claims).encode())
-    clash = _clash([encoding.digest(text, order.sd_alg) for text in hiding.texts]
-                   + [digest for entry in hiding.decoys.values() for digest in entry])
-    if clash is not None:
-        raise Refused(60, "{} {}".format(*clash))
-    signature = encoding.encode(encoding.sign(protected, payload, order.key, order.alg))
-    token = Token(protected, payload, signature, hiding.texts)
+    protected = header_text(order)
+    payload = encoding.written({**hiding.hide(order["payload"]), "_sd_alg": order["sd_alg"]})
+    first: Dict[str, int] = {}
+    made = [encoding.digest(text, order["sd_alg"]) for text in hiding.texts]
+    for number, digest in enumerate(made + [digest for entry in hiding.decoys.values() for digest in entry]):
+        if first.setdefault(digest, number) != number:
+            raise Refused(60, f"{first[digest]} {number}")
+    token = Token(protected, payload, encoding.sign(protected, payload, order["key"], order["alg"]), hiding.texts)
     if len(token.compact()) > ISSUE_MAX:
         raise Refused(61)
     return token
-
-
-def _clash(digests: List[str]) -> Optional[Tuple[int, int]]:
-    first: Dict[str, int] = {}
-    for number, digest in enumerate(digests):
-        if first.setdefault(digest, number) != number:
-            return first[digest], number
-    return None
-
 
 def chacha_pieces(seed: bytes, count: int) -> Iterator[bytes]:
     """RFC 8439 section 2.3 with a nonce of zeros: pieces of four words, four of them a block."""
@@ -139,18 +120,33 @@ def chacha_pieces(seed: bytes, count: int) -> Iterator[bytes]:
             block = _chacha_block(seed, number // 4)
         yield block[number % 4 * 16:][:16]
 
+_QUARTERS = [(each, each + 4, each + 8, each + 12) for each in range(4)]
+_QUARTERS += [(each, (each + 1) % 4 + 4, (each + 2) % 4 + 8, (each + 3) % 4 + 12) for each in range(4)]
 
 def _chacha_block(seed: bytes, counter: int) -> bytes:
-    start = [0x61707865, 0x3320646e, 0x79622d32, 0x6b206574, *struct.unpack("<8L", seed), counter, 0, 0, 0]
+    start = [*struct.unpack("<4L", b"expand 32-byte k"), *struct.unpack("<8L", seed), counter, 0, 0, 0]
     words = list(start)
-    for turn in range(80):
-        a, b, c, d = _QUARTERS[turn % 8]
+    for a, b, c, d in _QUARTERS * 10:
         for one, other, last, bits in ((a, b, d, 16), (c, d, b, 12), (a, b, d, 8), (c, d, b, 7)):
             words[one] = (words[one] + words[other]) & 0xffffffff
             mixed = words[last] ^ words[one]
             words[last] = (mixed << bits | mixed >> 32 - bits) & 0xffffffff
     return struct.pack("<16L", *((one + other) & 0xffffffff for one, other in zip(words, start)))
 
-
-_QUARTERS = [(each, each + 4, each + 8, each + 12) for each in range(4)]
-_QUARTERS += [(each, (each + 1) % 4 + 4, (each + 2) % 4 + 8, (each + 3) % 4 + 12) for each in range(4)]
+def generate(count: int) -> str:
+    """The command gen: an order of its own is issued, presented and verified, and four counts of it are printed."""
+    numbers = range(count)
+    hide = [(f"m{i}",) for i in numbers if i % 2 == 0] + [(f"m{i}", "a") for i in numbers if i % 3 == 0]
+    hide += [(f"m{i}", "b", "1") for i in numbers if i % 5 == 0]
+    keys = [encoding.Key(b"\1" * 32, None)]
+    token = issue({"payload": {f"m{i}": {"a": i, "b": [i, i + 1]} for i in numbers}, "hide": hide,
+                   "key": keys[0].octets, "decoys": [{"at": (), "count": 1}], "alg": "HS256", "kid": None,
+                   "typ": None, "sd_alg": "sha-256"}, bytes(32))
+    want = [(f"m{i}", "a") for i in numbers if i % 4 == 0]
+    shown = present({"keys": keys, "want": want, "never": [], "binding": None}, token, 0)
+    claims = verify({"keys": keys, "algs": ["HS256"], "typ": None, "iss": None, "require": [], "skew": 0,
+                     "binding": None}, shown, 0)
+    trees = [read_payload(shown.payload), *(each.value for each in read_disclosures(shown.disclosures))]
+    digests = sum(len(list(sites(tree))) for tree in trees)
+    return (f"hidden {len(hide)}\npresented {len(shown.disclosures)}\ndigests {digests}\n"
+            f"bytes {len(write(claims).encode())}")

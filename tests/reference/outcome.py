@@ -1,28 +1,21 @@
-"""How a run of the program ends: the numbers and names of refusals, and the two ways in which a file is turned down."""
+"""How a run ends: the limits, the numbers and names of refusals, and the two ways in which a file is turned down."""
 
 from typing import Dict, Optional
 
-NAMES: Dict[int, str] = dict(enumerate(
-    "tooLong form tooMuch bindingMissing headerUnreadable headerCritical algRefused typeRefused issuerKeyUnknown "
-    "badSignature payloadUnreadable hashUnknown disclosureUnreadable repeatedDisclosure reservedMisused "
-    "repeatedDigest unreferencedDisclosure wrongShape reservedName nameClash tooDeep issuerRefused claimMissing "
-    "timeUnreadable expired notYet holderKeyUnknown bindingHeader bindingAlg bindingSignature bindingType "
-    "bindingPayload bindingStale bindingEarly nonceDiffers audienceDiffers hashDiffers bindingTime".split(), 1))
-NAMES.update(enumerate(
-    "payloadNotObject reservedInPayload payloadTooDeep rootMarked noSuchPlace protectedClaim decoyPlace "
-    "tooManyHidden tooManyDecoys digestClash issueTooLong".split(), 51))
-NAMES.update(enumerate("hasBinding wantedNotThere consentRefused bindingKeyDiffers presentTooLong".split(), 71))
-NAMES.update({77: "noCredentialAnswers", 87: "feedTooLong"})
-NAMES.update(enumerate(
-    "orderRefused signedPartDiffers writtenFormDiffers payloadDiffers digestsDiffer decoysDiffer "
-    "sdOrderDiffers".split(), 80))
-
-FILE_MAX = 16_777_216
-COMPACT_MAX = 8_388_608
-ISSUE_MAX = 8_380_416
-COUNT_MAX = 32_768
-DEPTH_MAX = 100
-
+FILE_MAX, COMPACT_MAX, ISSUE_MAX, COUNT_MAX, DEPTH_MAX = 16_777_216, 8_388_608, 8_380_416, 32_768, 100
+_ROWS: Dict[int, str] = {
+    1: "tooLong form tooMuch bindingMissing headerUnreadable headerCritical algRefused typeRefused issuerKeyUnknown "
+       "badSignature payloadUnreadable hashUnknown disclosureUnreadable repeatedDisclosure reservedMisused "
+       "repeatedDigest unreferencedDisclosure wrongShape reservedName nameClash tooDeep issuerRefused claimMissing "
+       "timeUnreadable expired notYet holderKeyUnknown bindingHeader bindingAlg bindingSignature bindingType "
+       "bindingPayload bindingStale bindingEarly nonceDiffers audienceDiffers hashDiffers bindingTime",
+    51: "payloadNotObject reservedInPayload payloadTooDeep rootMarked noSuchPlace protectedClaim decoyPlace "
+        "tooManyHidden tooManyDecoys digestClash issueTooLong",
+    71: "hasBinding wantedNotThere consentRefused bindingKeyDiffers presentTooLong",
+    77: "noCredentialAnswers",
+    80: "orderRefused signedPartDiffers writtenFormDiffers payloadDiffers digestsDiffer decoysDiffer sdOrderDiffers",
+    87: "feedTooLong"}
+NAMES = {number: name for first, names in _ROWS.items() for number, name in enumerate(names.split(), first)}
 
 class Refused(Exception):
     """A condition that fails, or a refusal that applies: status 1."""
@@ -30,17 +23,7 @@ class Refused(Exception):
     def __init__(self, number: int, place: Optional[object] = None) -> None:
         super().__init__(number, place)
         self.number = number
-        self.place = place
-
-    def line(self) -> str:
-        """The line that tells it."""
-        at = "" if self.place is None else f" at {self.place}"
-        return f"refused {self.number} {NAMES[self.number]}{at}"
-
+        self.line = f"refused {number} {NAMES[number]}" + ("" if place is None else f" at {place}")
 
 class Unreadable(Exception):
-    """A file that a user writes is not of its form: status 6."""
-
-    def __init__(self, fault: str) -> None:
-        super().__init__(fault)
-        self.fault = fault
+    """A file that a user writes is not of its form, by the fault that is its argument: status 6."""

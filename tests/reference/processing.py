@@ -1,14 +1,11 @@
-"""Processing a payload with its disclosures: RFC 9901 section 7.1, steps 3 to 5, and the places of what is disclosed."""
+"""Processing a payload with its disclosures, and their places: RFC 9901 section 7.1, steps 3 to 5."""
 
-from typing import Dict, Iterator, List, NamedTuple, Set, Tuple
+from typing import Dict, Iterator, List, NamedTuple, Set
 
 import encoding
-from json_text import Tree
+from json_text import Members, Path, Tree, leads_to
 from outcome import DEPTH_MAX, Refused
 from tokens import Disclosure
-
-Path = Tuple[str, ...]
-
 
 class Site(NamedTuple):
     """A digest that stands in a tree: in the _sd of the object that holds it, or as an element of the array."""
@@ -17,101 +14,75 @@ class Site(NamedTuple):
     holder: Tree
     is_member: bool
 
-
 class Judged(NamedTuple):
-    """What is shown, the place of each disclosure, the digests that were met, and under which hash."""
+    """What is shown, the place of each disclosure, and the hash of the token."""
 
-    claims: Dict[str, Tree]
+    claims: Members
     places: List[Path]
-    met: List[Site]
     hash_name: str
 
-
-def hidden_digest(element: Tree) -> bool:
+def is_hidden(element: Tree) -> bool:
     """Whether an element of an array stands for a hidden one (RFC 9901 section 4.2.4.2)."""
     return isinstance(element, dict) and list(element) == ["..."] and isinstance(element["..."], str)
 
-
 def is_misused(tree: Tree) -> bool:
-    """Whether a reserved name stands where it means nothing (RFC 9901 sections 4.2.4.1 and 4.2.4.2)."""
+    """Whether a reserved name stands where it means nothing (RFC 9901 section 4.2.4)."""
     if isinstance(tree, dict):
         digests = tree.get("_sd", [])
-        if "..." in tree or not (isinstance(digests, list) and all(isinstance(each, str) for each in digests)):
+        if "..." in tree or not isinstance(digests, list) or not all(isinstance(each, str) for each in digests):
             return True
         return any(is_misused(value) for name, value in tree.items() if name != "_sd")
-    if isinstance(tree, list):
-        return any(not hidden_digest(element) and is_misused(element) for element in tree)
-    return False
-
+    return isinstance(tree, list) and any(not is_hidden(element) and is_misused(element) for element in tree)
 
 def sites(tree: Tree) -> Iterator[Site]:
     """The digests of a tree, in order."""
     if isinstance(tree, dict):
-        for digest in tree.get("_sd", []):
-            yield Site(digest, tree, True)
+        yield from (Site(digest, tree, True) for digest in tree.get("_sd", []))
         for name in sorted(tree):
             if name != "_sd":
                 yield from sites(tree[name])
     elif isinstance(tree, list):
         for element in tree:
-            if hidden_digest(element):
-                yield Site(element["..."], tree, False)
-            else:
-                yield from sites(element)
+            yield from [Site(element["..."], tree, False)] if is_hidden(element) else sites(element)
 
-
-def process(payload: Dict[str, Tree], given: List[Disclosure], hash_name: str) -> Judged:
+def process(payload: Members, given: List[Disclosure], hash_name: str) -> Judged:
     """The processed payload, or the lowest of conditions 14 to 21 that fails."""
     number_of: Dict[str, int] = {}
     for number, disclosure in enumerate(given):
-        digest = encoding.digest(disclosure.text, hash_name)
-        if digest in number_of:
+        if number_of.setdefault(encoding.digest(disclosure.text, hash_name), number) != number:
             raise Refused(14, number)
-        number_of[digest] = number
     root = {name: value for name, value in payload.items() if name != "_sd_alg"}
     for number, tree in enumerate([root, *(disclosure.value for disclosure in given)]):
         if is_misused(tree):
             raise Refused(15, number)
-    met, reached = _meet(root, given, number_of)
-    _judge_met(root, met, given, number_of, reached)
+    _judge_sites(root, given, number_of)
     places: List[Path] = [()] * len(given)
-    claims = _open(root, (), given, number_of, places)
-    return Judged(claims, places, met, hash_name)
+    return Judged(_open(root, (), given, number_of, places), places, hash_name)
 
-
-def _meet(root: Tree, given: List[Disclosure], number_of: Dict[str, int]) -> Tuple[List[Site], Set[int]]:
-    """The met list and the reached disclosures: step 3.b, and again for each value, step 3.c."""
-    inside = [list(sites(disclosure.value)) for disclosure in given]
+def _judge_sites(root: Tree, given: List[Disclosure], number_of: Dict[str, int]) -> None:
+    """Conditions 16 to 20, over the digests of the payload and of the values of the reached disclosures."""
     met = list(sites(root))
     reached: Set[int] = set()
     waiting = list(met)
-    while waiting:
+    while waiting:  # Steps 3.b and 3.c, for each value again.
         number = number_of.get(waiting.pop().digest)
         if number is not None and number not in reached:
             reached.add(number)
-            waiting.extend(inside[number])
-    for number in sorted(reached):
-        met.extend(inside[number])
-    return met, reached
-
-
-def _judge_met(root: Tree, met: List[Site], given: List[Disclosure], number_of: Dict[str, int],
-               reached: Set[int]) -> None:
-    """Conditions 16 to 20."""
-    seen: Set[str] = set()
+            waiting.extend(sites(given[number].value))
+    met.extend(site for number in sorted(reached) for site in sites(given[number].value))
+    site_of: Dict[str, Site] = {}
     for position, site in enumerate(met):  # Step 4: each digest stands once.
-        if site.digest in seen:
+        if site_of.setdefault(site.digest, site) is not site:
             raise Refused(16, position)
-        seen.add(site.digest)
     for number in range(len(given)):  # Step 5: each disclosure is referenced.
         if number not in reached:
             raise Refused(17, number)
-    site_of = {number_of[site.digest]: site for site in met if site.digest in number_of}
-    for number, disclosure in enumerate(given):  # Steps 3.c.ii.1 and 3.c.iii.1: three elements, or two.
-        if site_of[number].is_member != (disclosure.name is not None):
+    stands = [site_of[digest] for digest in number_of]
+    for number, (disclosure, site) in enumerate(zip(given, stands)):  # Steps 3.c.ii.1 and 3.c.iii.1.
+        if site.is_member != (disclosure.name is not None):
             raise Refused(18, number)
-    for number, disclosure in enumerate(given):  # Step 3.c.ii.2.
-        if disclosure.name in ("_sd", "...") or (disclosure.name == "_sd_alg" and site_of[number].holder is root):
+    for number, (disclosure, site) in enumerate(zip(given, stands)):  # Step 3.c.ii.2.
+        if disclosure.name in ("_sd", "...") or (disclosure.name == "_sd_alg" and site.holder is root):
             raise Refused(19, number)
     names: Dict[int, Set[str]] = {}
     for position, site in enumerate(met):  # Step 3.c.ii.3.
@@ -122,40 +93,33 @@ def _judge_met(root: Tree, met: List[Site], given: List[Disclosure], number_of: 
                 raise Refused(20, position)
             taken.add(name)
 
-
 def _open(tree: Tree, path: Path, given: List[Disclosure], number_of: Dict[str, int], places: List[Path]) -> Tree:
     """A tree with its disclosures in their places; or condition 21. A path has as many steps as levels are above."""
     if isinstance(tree, (dict, list)) and len(path) >= DEPTH_MAX:
         raise Refused(21)
+
+    def disclosed(digest: str, place: Path) -> Tree:
+        places[number_of[digest]] = place
+        return _open(given[number_of[digest]].value, place, given, number_of, places)
+
     if isinstance(tree, dict):
-        opened: Dict[str, Tree] = {}
-        for name, value in tree.items():
-            if name != "_sd":
-                opened[name] = _open(value, (*path, name), given, number_of, places)
+        opened = {name: _open(value, (*path, name), given, number_of, places)
+                  for name, value in tree.items() if name != "_sd"}
         for digest in tree.get("_sd", []):
             if digest in number_of:
-                number = number_of[digest]
-                places[number] = (*path, str(given[number].name))
-                opened[places[number][-1]] = _open(given[number].value, places[number], given, number_of, places)
+                name = str(given[number_of[digest]].name)
+                opened[name] = disclosed(digest, (*path, name))
         return opened
     if not isinstance(tree, list):
         return tree
     elements: List[Tree] = []
     for element in tree:
         place = (*path, str(len(elements)))
-        if not hidden_digest(element):
+        if not is_hidden(element):
             elements.append(_open(element, place, given, number_of, places))
         elif element["..."] in number_of:
-            number = number_of[element["..."]]
-            places[number] = place
-            elements.append(_open(given[number].value, place, given, number_of, places))
+            elements.append(disclosed(element["..."], place))
     return elements
-
-
-def leads_to(path: Path, other: Path) -> bool:
-    """Whether a path is a front of another."""
-    return other[:len(path)] == path
-
 
 def chosen(shown: Judged, wanted: List[Path]) -> List[int]:
     """The disclosures whose places lead to a wanted path, ascending (RFC 9901 section 7.2)."""
