@@ -34,6 +34,16 @@ TOOL_COMMANDS = ("feed", "audit", "wallet")
 COMMANDS = ("feed", "most", "verify", "present", "show", "split", "convert", "issue", "audit", "wallet", "gen", "words",
             "limits")
 LINES = 100
+# What stands in the place of a value of a file that a user writes.
+FILE_VALUES: List[Any] = [
+    None, True, 0, 1, 2, 3, -1, 256, 3600, 3601, 2**32 - 1, 2**32, "", "x", [], {}, ["x"], "/", "/a", "a", "/~", "/~2",
+    "/a~0~1", "\u00e9" * 128, "\u00e9" * 128 + "x", "HS256", "HS512", "sha-384", "ES256", [5], ["HS384"], {"keys": []}]
+ODD_LINES = ["", " ", "~", "{", "{}", "[]", "\ufeff", "a.b.c", "a.b.c~~", "a.b.c~d.", "\t{}\r"]
+FIRST_WORDS = ["split", "show", "verify", "issue", "present", "convert", "gen", "feed", "audit", "wallet", "", "help",
+               "--help", "Verify"]
+FURTHER_WORDS = ["policy.json", "token.txt", "nobody", "compact", "flat", "general", "Flat", "1", "7", "0", "07",
+                 "3001", "+1", "-1", "1 ", "\u0661", "1073741824", "1073741825", "99999999999999999999", "", "\u00e9",
+                 "."]
 
 
 def content(part: Dict[str, Any]) -> bytes:
@@ -131,10 +141,7 @@ class Cases:
                 elif change == 3:
                     holder[step] = [holder[step]]
                 else:
-                    holder[step] = grower.one([None, True, 0, 1, 2, 3, -1, 256, 3600, 3601, 2**32 - 1, 2**32, "", "x", [], {}, ["x"],
-                                               "/", "/a", "a", "/~", "/~2", "/a~0~1", "\u00e9" * 128, "\u00e9" * 128 + "x",
-                                               "HS256", "HS512", "sha-384", "ES256", [5], ["HS384"], {"keys": []},
-                                               grower.deep(grower.one([2, 123, 124, 125, 126, 127]))])
+                    holder[step] = grower.one(FILE_VALUES + [grower.deep(grower.one([2, 123, 124, 125, 126, 127]))])
         text = grower.write(tree, grower.one([0.0, 0.3]), grower.one([0.0, 0.0, 0.05]))
         if 0.7 <= kind < 1:
             text = grower.scratch(text)
@@ -154,20 +161,21 @@ class Cases:
             keys.insert(grower.rng.randrange(len(keys) + 1), {"kty": grower.one(["EC", "OCT", ""]), "k": 5, "kid": kid})
         return {"keys": keys}
 
-    def issuer_keys(self) -> Dict[str, Any]:
-        return self.key_set(self.grower.one([["office"]] * 20 + [["short", "office"], ["middle", "office"], ["stranger"], [],
-                                             ["office", "short"], ["short", "middle", "office"]]), "tickets-1")
+    def issuer_keys(self, mild: bool = True) -> Dict[str, Any]:
+        rare = [["short", "office"], ["middle", "office"], ["stranger"], [], ["office", "short"],
+                ["short", "middle", "office"]]
+        return self.key_set(self.grower.one([["office"]] * (20 if mild else 3) + rare), "tickets-1")
 
     def policy(self, bound: bool) -> Dict[str, Any]:
         """A policy that mostly lets its tokens come to the conditions behind the signature."""
         grower = self.grower
         mild = grower.maybe(0.8)
-        policy: Dict[str, Any] = {"keys": self.key_set(["office"], "tickets-1") if mild else self.issuer_keys()}
+        policy: Dict[str, Any] = {"keys": self.key_set(["office"], "tickets-1") if mild else self.issuer_keys(False)}
         second = grower.maybe(0.3)
         if second or grower.maybe(0.1):
             policy["version"] = 2 if second else 1
         if mild or grower.maybe(0.8):
-            policy["algs"] = ["HS256", "HS384", "HS512"] if mild else grower.one(
+            policy["algs"] = ["HS256", "HS384", "HS512"] if mild or grower.maybe(0.5) else grower.one(
                 [["HS256"], [], ["HS384", "HS512"], ["ES256"], ["HS256", "HS384"]])
         if not mild and grower.maybe(0.4):
             policy["typ"] = grower.one(["ticket+sd-jwt", "JWT", ""])
@@ -200,8 +208,9 @@ class Cases:
         walk(claims, "")
         picked = [grower.one(found) for _ in range(grower.one([0, 1, 1, 2, 3, 5]))]
         if grower.maybe(0.1):
-            picked.append(grower.one([grower.one(found) + "/-", grower.one(found) + "/01", "/nobody", "/", "/a/0", "/iss/0",
-                                      grower.one(found) + "/0", "/cnf/kid", "/_sd", "/_sd/0", "/_sd_alg", "/a/99999999999999999999"]))
+            behind = [grower.one(found) + step for step in ("/-", "/01", "/0", "/99999999999999999999")]
+            behind += ["/nobody", "/", "/a/0", "/iss/0", "/cnf/kid", "/_sd", "/_sd/0", "/_sd_alg"]
+            picked.append(grower.one(behind))
         return picked
 
     def said(self, part: Dict[str, Any]) -> Any:
@@ -233,8 +242,8 @@ class Cases:
             order["hide"] = [path for _ in range(3) for path in self.paths(payload)
                              if grower.maybe(0.02) or (path and not re.match("/(iss|aud|exp|nbf|cnf)(/|$)", path))]
         if grower.maybe(0.6):
-            holders = [path for path in self.paths(payload) + self.paths(payload) + [""] if grower.maybe(0.02) or isinstance(
-                grow.json_text.at(payload, grow.json_text.steps_of(path) or ())[1], (dict, list))]
+            holders = [path for path in self.paths(payload) + self.paths(payload) + [""] if grower.maybe(0.02)
+                       or isinstance(grow.json_text.at(payload, grow.json_text.steps_of(path) or ())[1], (dict, list))]
             order["decoys"] = [{"at": path, "count": grower.one([0, 1, 1, 2, 3])} for path in holders]
         for name, texts in (("kid", ["tickets-1", "", "\u00e9"]), ("typ", ["ticket+sd-jwt", ""]),
                             ("alg", ["HS256", "HS256", "HS384", "HS512"] if key == "office" else ["HS256"]),
@@ -260,9 +269,11 @@ class Cases:
             order["payload"] = {"a": 1}
             order["hide"] = []
         elif kind == 5:
-            order["hide"] = order.get("hide", []) + [grower.one(["", "/nobody", "/a/0", "/iss", "/cnf/kid", "/exp", "/aud/0"])]
+            path = grower.one(["", "/nobody", "/a/0", "/iss", "/cnf/kid", "/exp", "/aud/0"])
+            order["hide"] = order.get("hide", []) + [path]
         elif kind == 6:
-            order["decoys"] = order.get("decoys", []) + [{"at": grower.one(["/nobody", "/a", "/a/0", "/", ""]), "count": 1}]
+            path = grower.one(["/nobody", "/a", "/a/0", "/", ""])
+            order["decoys"] = order.get("decoys", []) + [{"at": path, "count": 1}]
         else:
             order["hide"] = self.paths(order["payload"]) + self.paths(order["payload"])
         return order
@@ -295,7 +306,7 @@ class Cases:
             bound = grower.maybe(0.5)
             lines = [self.token(now, [0, 1, 1, 1, 2], 0.97 if bound else 0.2) for _ in range(LINES)]
             if grower.maybe(0.2):
-                lines[0] = {"text": grower.one(["", " ", "~", "{", "{}", "[]", "\ufeff", "a.b.c", "a.b.c~~", "a.b.c~d.", "\t{}\r"])}
+                lines[0] = {"text": grower.one(ODD_LINES)}
             return {"words": ["feed", "policy.json", "100000000"],
                     "files": {"policy.json": self.spoilt_text(self.policy(bound), 0.03), "source": {"lines": lines}}}
         if command == "most":
@@ -311,7 +322,8 @@ class Cases:
             return {"words": ["present", "order.json", "token.txt"],
                     "files": {"order.json": self.spoilt_text(order, 0.2), "token.txt": token}}
         if command in ("show", "split", "convert"):
-            words = [command, *([grower.one(["compact", "flat", "general"])] if command == "convert" else []), "token.txt"]
+            forms = [grower.one(["compact", "flat", "general"])] if command == "convert" else []
+            words = [command, *forms, "token.txt"]
             return {"words": words, "files": {"token.txt": self.token(now, [0, 1, 1, 2])}}
         if command == "issue":
             order = self.order() if grower.maybe(0.6) else self._odd_order()
@@ -365,12 +377,10 @@ class Cases:
 
     def _words(self) -> Case:
         grower = self.grower
-        words = [grower.one(["split", "show", "verify", "issue", "present", "convert", "gen", "feed", "audit", "wallet", "", "help",
-                             "--help", "Verify"])]
-        pool = ["policy.json", "token.txt", "nobody", "compact", "flat", "general", "Flat", "1", "7", "0", "07", "3001", "+1", "-1",
-                "1 ", "\u0661", "1073741824", "1073741825", "99999999999999999999", "", "\u00e9", "."]
-        words += [grower.one(pool) for _ in range(grower.one([0, 1, 2, 2, 2, 3, 66]))]
-        return {"words": words, "files": {"policy.json": {"text": "{}"}, "token.txt": {"text": "a.b.c~"}, "source": {"text": "a"}}}
+        words = [grower.one(FIRST_WORDS)]
+        words += [grower.one(FURTHER_WORDS) for _ in range(grower.one([0, 1, 2, 2, 2, 3, 66]))]
+        texts = {"policy.json": "{}", "token.txt": "a.b.c~", "source": "a"}
+        return {"words": words, "files": {name: {"text": text} for name, text in texts.items()}}
 
 
 def limit_cases() -> List[Case]:
@@ -378,17 +388,17 @@ def limit_cases() -> List[Case]:
     key = grow.encoding.encode(grow.KEYS["office"])
     policy = {"text": json.dumps({"keys": {"keys": [{"kty": "oct", "k": key}]}})}
     recipe: grow.Recipe = {
-        "header": '{"alg":"HS256"}', "payload": '{"a":1}', "disclosures": [], "send": [], "hash": "sha-256", "alg": "HS256",
-        "signer": "office", "binding": None, "form": "compact", "layout": {}, "code": [], "edits": []}
+        "header": '{"alg":"HS256"}', "payload": '{"a":1}', "disclosures": [], "send": [], "hash": "sha-256",
+        "alg": "HS256", "signer": "office", "binding": None, "form": "compact", "layout": {}, "code": [], "edits": []}
     good = {"token": recipe}
     file_max, compact_max, count_max = 16_777_216, 8_388_608, 32_768
     cases: List[Case] = []
 
-    def verify(token: Dict[str, Any], wish: Dict[str, Any] = policy) -> None:
-        cases.append({"words": ["verify", "policy.json", "token.txt"], "files": {"policy.json": wish, "token.txt": token}})
-
     def other(words: List[str], **files: Dict[str, Any]) -> None:
         cases.append({"words": words, "files": {name.replace("_", "."): part for name, part in files.items()}})
+
+    def verify(token: Dict[str, Any], wish: Dict[str, Any] = policy) -> None:
+        other(["verify", "policy.json", "token.txt"], policy_json=wish, token_txt=token)
 
     for more in (0, 1):
         verify({"padded": good, "to": file_max + more})
@@ -408,7 +418,8 @@ def limit_cases() -> List[Case]:
         other(["issue", "order.json", "seed.txt"], seed_txt={"text": "x" * 32}, order_json={
             "text": f'{{"payload":{{"a":[{elements}]}},"hide":[{hide},{hide}],"key":"{key}"}}'})
         other(["issue", "order.json", "seed.txt"], seed_txt={"text": "x" * 32}, order_json={
-            "text": f'{{"payload":{{}},"decoys":[{{"at":"","count":{count_max}}},{{"at":"","count":{more}}}],"key":"{key}"}}'})
+            "text": json.dumps({"payload": {}, "decoys": [{"at": "", "count": each} for each in (count_max, more)],
+                                "key": key})})
     header = {"x": ""}
     for form in ("flat", "general"):  # The line of convert, with and without its end, at the most that it may have.
         written = len(reference.tokens.Token("a", "b", "c", [], None, header).as_json(form == "general"))
@@ -421,10 +432,12 @@ def limit_cases() -> List[Case]:
     for more in range(-3, 4):  # What is issued, and what is presented, at the most that it may have.
         for hidden in (0, 1):
             fill = (8_380_416 - 69 - hidden * 61) * 3 // 4 - 28 - hidden * 36 + more
+            hide = json.dumps(["/a"] * hidden)
             other(["issue", "order.json", "seed.txt"], seed_txt={"text": "x" * 32}, order_json={"repeated": [
-                ['{"payload":{"a":"', 1], ["x", fill], [f'"}},"hide":[{"" if not hidden else chr(34) + "/a" + chr(34)}],"key":"{key}"}}', 1]]})
+                ['{"payload":{"a":"', 1], ["x", fill], [f'"}},"hide":{hide},"key":"{key}"}}', 1]]})
         payload = f'{{"cnf":{{"kid":"ada"}},"b":1,"a":"<fill {(compact_max - 64 - 274) * 3 // 4 + 8 + more}>"}}'
-        other(["present", "order.json", "token.txt"], order_json=bound, token_txt={"token": {**recipe, "payload": payload}})
+        token = {"token": {**recipe, "payload": payload}}
+        other(["present", "order.json", "token.txt"], order_json=bound, token_txt=token)
     return cases
 
 
@@ -603,7 +616,7 @@ def main() -> int:
             if not wanted or (said.seconds and time.time() - begun > said.seconds):
                 break
             for command in wanted:
-                fuzz.one(command, number, int(begun))
+                fuzz.one(command, number, int(time.time()))
             number += 1
     if said.coverage:
         for what, times in sorted(fuzz.seen.items()):

@@ -23,19 +23,22 @@ KEYS: Dict[str, bytes] = {
     "ada": b"the key in Ada's phone, not ours",
     "stranger": b"the key of somebody quite unknown to all of the others, and long enough, too",
 }
-NAMES = ["a", "b", "c", "iss", "exp", "nbf", "aud", "iat", "cnf", "kid", "", "0", "1", "-", "a/b", "m~n", "~1", "\u00e9",
-         "\U0001f600", "\uffff", "nul\u0000", "\u007f", "x\u0080", "quote\"", "back\\", "_sd", "...", "_sd_alg", "_sd_", "...."]
+NAMES = ["a", "b", "c", "iss", "exp", "nbf", "aud", "iat", "cnf", "kid", "", "0", "1", "-", "a/b", "m~n", "~1",
+         "\u00e9", "\U0001f600", "\uffff", "nul\u0000", "\u007f", "x\u0080", "quote\"", "back\\", "_sd", "...",
+         "_sd_alg", "_sd_", "...."]
 PLAIN_NAMES = [name for name in NAMES if name not in ("_sd", "...", "_sd_alg")]
-TEXTS = ["", "x", "tickets", "hall", "B12", "\u00e9", "\U0001f600", "\u2028", "/", "\\", "\"", "\b\f\n\r\t", "\u0000\u001f\u007f",
-         "eyJ", "...", "_sd", "https://door.example", "4711", "ada"]
+TEXTS = ["", "x", "tickets", "hall", "B12", "\u00e9", "\U0001f600", "\u2028", "/", "\\", "\"", "\b\f\n\r\t",
+         "\u0000\u001f\u007f", "eyJ", "...", "_sd", "https://door.example", "4711", "ada"]
 NUMBERS = [0, 1, -1, 7, 4102444800, 2**53, 2**53 + 1, 2**63 - 1, 2**63, 2**64 - 1, -2**63, 10**18, 10**19]
 ODD = ["1.5", "1e2", "-0", "0.0", "1e400", "-1e400", "1e-400", "0e999", "18446744073709551616", "-9223372036854775809",
        "1E5", "1" + "0" * 308, "1" + "0" * 309, "9" * 309, "17976931348623158" + "0" * 292,
        "179769313486231580793728971405" + "0" * 279, "1.7976931348623157e308", "1.7976931348623159e308",
        "01", "+1", "1.", ".5", "1e", "NaN", "Infinity", "-Infinity", "-", "tru", "nul", "''", "\"\\ud800\"",
-       "\"\\ud83d\\ude00\"", "\"\\udc00\\ud800\"", "\"\\u00e9\"", "\"\\u12\"", "\"\\x41\"", "\"\\/\"", "\"\t\"", "\"\udcff\"",
-       "\"\udced\udca0\udc80\"", "\"\udcc0\udc80\"", "\"\udcf4\udc90\udc80\udc80\"", "\ufeff1", "1 2", "[1,]", "{\"a\":1,}",
-       "\"\\ud800\\u0041\"", "\"\\uD83D\\uDE00\"", "1e309", "123456789012345678901234567890", "-00", "0x1", "1_0", "\u00a01"]
+       *[f'"{text}"' for text in (
+           "\\ud83d\\ude00", "\\udc00\\ud800", "\\u00e9", "\\u12", "\\x41", "\\/", "\t", "\udcff", "\udced\udca0\udc80",
+           "\udcc0\udc80", "\udcf4\udc90\udc80\udc80", "\\ud800\\u0041", "\\uD83D\\uDE00")],
+       "\ufeff1", "1 2", "[1,]", "{\"a\":1,}", "1e309", "123456789012345678901234567890", "-00", "0x1", "1_0",
+       "\u00a01"]
 
 
 class Raw(str):
@@ -111,7 +114,8 @@ class Grower:
         if kind == 0:
             return text[:place] + text[place + self.one([1, 1, 2, 5]):]
         if kind == 1:
-            return text[:place] + self.one(list("{}[]:,\"\\ 0-.eE~aA_=+/\x00\x1f") + ["\udcff", "\u00e9", "null"]) + text[place:]
+            piece = self.one(list("{}[]:,\"\\ 0-.eE~aA_=+/\x00\x1f") + ["\udcff", "\u00e9", "null"])
+            return text[:place] + piece + text[place:]
         if kind == 2:
             return text[:place] + self.one(list("{}[]:,\"\\ 01-.e~aA_=")) + text[place + 1:]
         if kind == 3:
@@ -121,7 +125,8 @@ class Grower:
     # Tokens ---------------------------------------------------------------------------------------------------------
 
     def claims(self, now: int) -> Dict[str, Any]:
-        claims: Dict[str, Any] = {self.one(PLAIN_NAMES): self.tree(3) for _ in range(self.rng.randrange(1, 5))}
+        claims: Dict[str, Any] = {self.one(PLAIN_NAMES): self.tree(3, PLAIN_NAMES + ["_sd_alg"] * 3)
+                                  for _ in range(self.rng.randrange(1, 5))}
         for name in ("iss", "exp", "nbf", "cnf", "aud"):
             claims.pop(name, None)
         if self.maybe(0.8):
@@ -173,14 +178,16 @@ class Grower:
 
     def token(self, now: int, bound: float = 0.4) -> Recipe:
         """A recipe of a good token."""
-        alg, hash_name = self.one(["HS256"] * 5 + ["HS384", "HS512"]), self.one(["sha-256"] * 4 + ["sha-384", "sha-512"])
+        alg = self.one(["HS256"] * 5 + ["HS384", "HS512"])
+        hash_name = self.one(["sha-256"] * 4 + ["sha-384", "sha-512"])
         header: Dict[str, Any] = {"alg": alg}
         if self.maybe(0.7):
             header["kid"] = "tickets-1"
         if self.maybe(0.6):
             header["typ"] = self.one(["ticket+sd-jwt", "JWT"])
         recipe: Recipe = {"header": "", "payload": "", "disclosures": [], "send": [], "hash": hash_name, "alg": alg,
-                          "signer": "office", "binding": None, "form": "compact", "layout": {}, "code": [], "edits": []}
+                          "signer": "office", "binding": None, "form": "compact", "layout": {}, "code": [],
+                          "edits": []}
         claims = self.claims(now)
         share = self.one([0.0, 0.2, 0.5, 0.9])
         kept = {name: claims.pop(name) for name in ("iss", "exp", "nbf", "cnf") if name in claims and self.maybe(0.9)}
@@ -261,8 +268,9 @@ def _spoil_member(part: str, name: str, values: List[Any]) -> Callable[[Grower, 
 def _spoil_time(part: str, name: str) -> Callable[[Grower, Recipe, int], None]:
     """A moment is moved about now, or is no whole number."""
     def spoiler(grower: Grower, recipe: Recipe, now: int) -> None:
-        near = now + grower.one([0, 0, 1, -1, 30, -30, 29, -29, 31, -31, 60, -60, 300, -300, 330, -330, 3600, -3600])
-        value = grower.one([near] * 6 + [0, -1, -2**63, 2**63, 2**64 - 1, "1", None, True, [], {}, Raw("1.5"),
+        near = now + grower.one([0, 0, 0, 1, -1, 1, -1, 30, -30, 29, -29, 31, -31, -300, -301, -330, -331, -600, -601,
+                                 -630, 3600, -3600, -3601, -3900])
+        value = grower.one([near] * 20 + [0, -1, -2**63, 2**63, 2**64 - 1, "1", None, True, [], {}, Raw("1.5"),
                                          Raw("1e400"), Raw("-0")])
 
         def change(tree: Any) -> Any:
@@ -294,8 +302,8 @@ def _spoil_tree(part: str) -> Callable[[Grower, Recipe, int], None]:
                 holder[step] = grower.deep(grower.one([90, 95, 97, 98, 99, 100, 101, 124, 125, 126, 127, 128]))
             elif kind in (4, 5, 6) and isinstance(holder, dict):
                 name = grower.one(["_sd", "...", "_sd_alg", grower.one(NAMES)])
-                holder[name] = grower.one([[], [digest], [digest, digest], "x", None, digest, [1], ["x"], {}, 7, [["x"]],
-                                           "sha-256", "sha-512", grower.tree(1, NAMES)])
+                holder[name] = grower.one([[], [digest], [digest, digest], "x", None, digest, [1], ["x"], {}, 7,
+                                           [["x"]], "sha-256", "sha-512", grower.tree(1, NAMES)])
             elif kind in (4, 5, 6, 7) and isinstance(holder, list):
                 holder.insert(grower.rng.randrange(len(holder) + 1), grower.one(
                     [{"...": digest}, {"...": digest, "a": 1}, {"...": 5}, {"_sd": [digest]}, {"...": "x"},
@@ -336,8 +344,8 @@ def _spoil_disclosure(grower: Grower, recipe: Recipe, _now: int) -> None:
         if kind == 5:
             return [tree[0], grower.one(NAMES), tree[-1]]
         if kind == 6:
-            return tree[:-1] + [grower.one([{"...": "x"}, {"_sd": "x"}, {"_sd": []}, {"_sd_alg": "x"}, {"...": 1}, [{"...": "x"}],
-                                            grower.deep(grower.one([97, 98, 99, 100, 125, 126, 127]))])]
+            return tree[:-1] + [grower.one([{"...": "x"}, {"_sd": "x"}, {"_sd": []}, {"_sd_alg": "x"}, {"...": 1},
+                                            [{"...": "x"}], grower.deep(grower.one([97, 98, 99, 100, 125, 126, 127]))])]
         return grower.one([{"0": tree}, tree[0], None, "x", 5, [], [tree]])
     grower.change(recipe, "disclosures", change)
 
@@ -412,7 +420,8 @@ def _spoil_layout(grower: Grower, recipe: Recipe, _now: int) -> None:
     recipe["form"] = grower.one(["flat", "general"])
     layout = recipe["layout"]
     kind = grower.rng.randrange(9)
-    odd = [None, True, 5, "", "x", "a=b", "eyJ.x", "a.b.c", [], {}, [1], ["x"], ["a.b"], [""], [{}], {"disclosures": []}]
+    odd = [None, True, 5, "", "x", "a=b", "eyJ.x", "a.b.c", [], {}, [1], ["x"], ["a.b"], [""], [{}],
+           {"disclosures": []}]
     if kind == 0:
         layout["unprotected"] = grower.write({grower.one(["alg", "kid", "typ", "crit", "x", "b64", "\u00e9"]):
                                               grower.one(odd + ["HS256", "tickets-1", "tickets-2"])})
@@ -425,7 +434,8 @@ def _spoil_layout(grower: Grower, recipe: Recipe, _now: int) -> None:
     elif kind == 3:
         layout["header"] = {grower.one(["disclosures", "kb_jwt", "x"]): grower.write(grower.one(odd))}
     elif kind == 4:
-        layout["without"] = grower.one(["payload", "protected", "signature", "header", "signatures", "disclosures", "kb_jwt"])
+        layout["without"] = grower.one(["payload", "protected", "signature", "header", "signatures", "disclosures",
+                                        "kb_jwt"])
     elif kind == 5:
         entry = grower.one([{}, {"header": {}}, {"header": {"disclosures": 5}}, {"header": {"kb_jwt": None}}, 5, [],
                             {"header": []}, {"protected": 7}, {"header": {"x": 1}}, {"header": {"disclosures": []}}])
@@ -530,7 +540,7 @@ SPOILERS: Dict[str, List[Spoiler]] = {
         _spoil_member("payload", "_sd_alg", ["sha-256", "sha-384", "sha-512", "SHA-256", "", None, 5, ["sha-256"]]),
         _spoil_member("payload", "cnf", [{"kid": "eve"}, {"kid": 5}, {}, "ada", None, {"kid": "ada", "x": 1}, [],
                                          {"jwk": {}}]),
-        _spoil_time("payload", "exp"), _spoil_time("payload", "nbf"), _spoil_raw("payload"), _spoil_raw("payload")],
+        *[_spoil_time("payload", "exp"), _spoil_time("payload", "nbf")] * 3, *[_spoil_raw("payload")] * 2],
     "processing": [
         _spoil_member("payload", "a", [{"...": "x"}, {"_sd": []}, [{"...": "x"}], 5]), _spoil_tree("payload"),
         _spoil_tree("payload"), _spoil_tree("disclosures"), _spoil_tree("disclosures"), _spoil_disclosure,
@@ -589,7 +599,7 @@ def render(recipe: Recipe) -> bytes:
     digests: List[str] = []
 
     def filled(text: str) -> str:
-        text = re.sub("<([0-9]+)>", lambda found: digests[int(found[1])] if int(found[1]) < len(digests) else found[0], text)
+        text = re.sub("<([0-9]+)>", lambda found: dict(enumerate(digests)).get(int(found[1]), found[0]), text)
         return _with_sorted_digests(text) if recipe.get("sorted") else text
 
     for number, said in enumerate(recipe["disclosures"]):
@@ -606,8 +616,8 @@ def render(recipe: Recipe) -> bytes:
     if binding is not None:
         sd_hash = encoding.digest(token.hashed(), recipe["hash"])
         head = _spoilt(encoding.encode(octets(binding["header"])), "binding header", recipe)
-        body = _spoilt(encoding.encode(octets(filled(binding["payload"].replace("<hash>", sd_hash)))), "binding payload",
-                       recipe)
+        said = filled(binding["payload"].replace("<hash>", sd_hash))
+        body = _spoilt(encoding.encode(octets(said)), "binding payload", recipe)
         signed = encoding.sign(head, body, KEYS[binding["signer"]], binding["alg"])
         token.binding = f"{head}.{body}.{_spoilt(signed, 'binding signature', recipe)}"
     data = octets(token.compact() if recipe["form"] == "compact" else _laid_out(token, recipe))
@@ -676,15 +686,21 @@ def recipe_of(token: Token, order: Dict[str, Any]) -> Recipe:
 
     signer = next(name for name, key in KEYS.items() if encoding.encode(key) == order["key"])
     return {"header": (encoding.decode(token.protected) or b"").decode(), "hash": hash_name, "signer": signer,
-            "payload": marked((encoding.decode(token.payload) or b"").decode()), "disclosures": [marked(text) for text in texts],
-            "send": list(range(len(texts))), "alg": order.get("alg", "HS256"), "binding": None, "form": "compact", "layout": {},
-            "code": [], "edits": [], "sorted": True}
+            "payload": marked((encoding.decode(token.payload) or b"").decode()),
+            "disclosures": list(map(marked, texts)), "send": list(range(len(texts))),
+            "alg": order.get("alg", "HS256"), "binding": None, "form": "compact", "layout": {}, "code": [],
+            "edits": [], "sorted": True}
+
+
+def _digest_lists(tree: Any) -> List[Any]:
+    return [holder["_sd"] for holder, step in Grower(0).spots(tree)
+            if step == "_sd" and isinstance(holder["_sd"], list)]
 
 
 def _audit_digests(grower: Grower, recipe: Recipe, _now: int) -> None:
     """A digest list is empty, lacks one, has one more, or one stands elsewhere."""
     def change(tree: Any) -> Any:
-        lists = [holder["_sd"] for holder, step in [*grower.spots(tree)] if step == "_sd" and isinstance(holder["_sd"], list)]
+        lists = _digest_lists(tree)
         holders = [holder for holder, step in grower.spots(tree) if isinstance(holder, dict) and step != "_sd"]
         kind = grower.rng.randrange(6)
         extra = encoding.encode(grower.rng.randbytes(grower.one([32, 48, 64, 32, 31])))
@@ -717,7 +733,7 @@ def _audit_digests(grower: Grower, recipe: Recipe, _now: int) -> None:
 def _audit_order(grower: Grower, recipe: Recipe, _now: int) -> None:
     """A digest list in another order, or an empty one."""
     def change(tree: Any) -> Any:
-        lists = [holder["_sd"] for holder, step in grower.spots(tree) if step == "_sd" and isinstance(holder["_sd"], list)]
+        lists = _digest_lists(tree)
         if lists:
             digests = grower.one(lists)
             grower.rng.shuffle(digests)
@@ -735,7 +751,8 @@ def _audit_value(grower: Grower, recipe: Recipe, _now: int) -> None:
         if spots:
             holder, step = grower.one(spots)
             holder[step] = grower.one([1, True, "1", None, 2**64 - 1, encoding.encode(grower.rng.randbytes(16)),
-                                       encoding.encode(grower.rng.randbytes(15)), encoding.encode(bytes(16))[:-1] + "B", "sha-384"])
+                                       encoding.encode(grower.rng.randbytes(15)),
+                                       encoding.encode(bytes(16))[:-1] + "B", "sha-384"])
         return tree
     grower.change(recipe, grower.one(["payload", "disclosures", "disclosures"]), change)
 
@@ -752,8 +769,9 @@ def _audit_swap(grower: Grower, recipe: Recipe, _now: int) -> None:
 
 
 AUDIT_SPOILERS: List[Spoiler] = [
-    *[_audit_digests] * 10, *[_audit_order] * 4, *[_audit_value] * 3, *[_audit_swap] * 3, _spoil_send, _spoil_disclosure,
-    _spoil_tree("payload"), _spoil_tree("disclosures"), _spoil_raw("payload"), _spoil_raw("disclosures"), _spoil_clash,
+    *[_audit_digests] * 10, *[_audit_order] * 4, *[_audit_value] * 3, *[_audit_swap] * 3, _spoil_send,
+    _spoil_disclosure, _spoil_tree("payload"), _spoil_tree("disclosures"), _spoil_raw("payload"),
+    _spoil_raw("disclosures"), _spoil_clash,
     _spoil_reference, _spoil_raw("header"), _spoil_code, _spoil_edit, _spoil_layout, _spoil_signer, _spoil_both_algs,
     _spoil_member("payload", "_sd_alg", ["sha-256", "sha-384", "sha-512", None]), _spoil_member("header", "kid", ["x"]),
     _spoil_member("payload", "a", [1, {"...": "x"}])]
