@@ -31,8 +31,8 @@ from present import judge_held  # noqa: E402
 
 Case = Dict[str, Any]
 TOOL_COMMANDS = ("feed", "audit", "wallet")
-COMMANDS = ("feed", "most", "verify", "present", "show", "split", "convert", "issue", "audit", "wallet", "gen", "words",
-            "limits")
+COMMANDS = ("feed", "texts", "most", "verify", "present", "show", "split", "convert", "issue", "audit", "wallet", "gen",
+            "words", "limits")
 LINES = 100
 # What stands in the place of a value of a file that a user writes.
 FILE_VALUES: List[Any] = [
@@ -43,7 +43,7 @@ FIRST_WORDS = ["split", "show", "verify", "issue", "present", "convert", "gen", 
                "--help", "Verify"]
 FURTHER_WORDS = ["policy.json", "token.txt", "nobody", "compact", "flat", "general", "Flat", "1", "7", "0", "07",
                  "3001", "+1", "-1", "1 ", "\u0661", "1073741824", "1073741825", "99999999999999999999", "", "\u00e9",
-                 "."]
+                 ".", "\udcff"]
 
 
 def content(part: Dict[str, Any]) -> bytes:
@@ -137,7 +137,7 @@ class Cases:
                 elif change == 1 and isinstance(holder, dict):
                     holder[grower.one(["x", "kid", "iss", "version", "a", "count", "want", "alg"])] = grower.tree(2)
                 elif change == 2:
-                    holder[step] = grow.Raw(grower.one(grow.ODD))
+                    holder[step] = grow.Raw(grower.odd())
                 elif change == 3:
                     holder[step] = [holder[step]]
                 else:
@@ -162,15 +162,16 @@ class Cases:
         return {"keys": keys}
 
     def issuer_keys(self, mild: bool = True) -> Dict[str, Any]:
-        rare = [["short", "office"], ["middle", "office"], ["stranger"], [], ["office", "short"],
-                ["short", "middle", "office"]]
-        return self.key_set(self.grower.one([["office"]] * (20 if mild else 3) + rare), "tickets-1")
+        own = self.grower.issuer
+        rare = [["short", own], ["middle", own], ["stranger"], [], [own, "short"], ["short", "middle", own]]
+        return self.key_set(self.grower.one([[own]] * (20 if mild else 3) + rare), "tickets-1")
 
     def policy(self, bound: bool) -> Dict[str, Any]:
         """A policy that mostly lets its tokens come to the conditions behind the signature."""
         grower = self.grower
         mild = grower.maybe(0.8)
-        policy: Dict[str, Any] = {"keys": self.key_set(["office"], "tickets-1") if mild else self.issuer_keys(False)}
+        keys = self.key_set([grower.issuer], "tickets-1") if mild else self.issuer_keys(False)
+        policy: Dict[str, Any] = {"keys": keys}
         second = grower.maybe(0.3)
         if second or grower.maybe(0.1):
             policy["version"] = 2 if second else 1
@@ -219,7 +220,7 @@ class Cases:
             token = reference.tokens.read_token(content(part))
             token.binding = None
             kid = reference.tokens.read_header(token.protected, token.unprotected).kid
-            return judge_held(token, [grow.encoding.Key(grow.KEYS["office"], kid)]).claims
+            return judge_held(token, [grow.encoding.Key(grow.KEYS[self.grower.issuer], kid)]).claims
         except reference.Refused:
             return {"a": [{"b": 1}], "iss": 1}
 
@@ -236,7 +237,7 @@ class Cases:
     def order(self) -> Dict[str, Any]:
         grower = self.grower
         payload = {grower.one(grow.PLAIN_NAMES): grower.tree(4) for _ in range(grower.rng.randrange(6))}
-        key = grower.one(["office"] * 5 + ["short", "middle"])
+        key = grower.one([grower.issuer] * 5 + ["short", "middle"])
         order: Dict[str, Any] = {"payload": payload, "key": grow.encoding.encode(grow.KEYS[key])}
         if grower.maybe(0.9):
             order["hide"] = [path for _ in range(3) for path in self.paths(payload)
@@ -246,7 +247,7 @@ class Cases:
                        or isinstance(grow.json_text.at(payload, grow.json_text.steps_of(path) or ())[1], (dict, list))]
             order["decoys"] = [{"at": path, "count": grower.one([0, 1, 1, 2, 3])} for path in holders]
         for name, texts in (("kid", ["tickets-1", "", "\u00e9"]), ("typ", ["ticket+sd-jwt", ""]),
-                            ("alg", ["HS256", "HS256", "HS384", "HS512"] if key == "office" else ["HS256"]),
+                            ("alg", ["HS256", "HS256", "HS384", "HS512"] if key == grower.issuer else ["HS256"]),
                             ("sd_alg", list(grow.encoding.HASHES))):
             if grower.maybe(0.3):
                 order[name] = grower.one(texts)
@@ -309,12 +310,16 @@ class Cases:
                 lines[0] = {"text": grower.one(ODD_LINES)}
             return {"words": ["feed", "policy.json", "100000000"],
                     "files": {"policy.json": self.spoilt_text(self.policy(bound), 0.03), "source": {"lines": lines}}}
+        if command == "texts":
+            lines = [{"text": self._text()} for _ in range(5 * LINES)]
+            return {"words": ["feed", "policy.json", "100000000"],
+                    "files": {"policy.json": self.spoilt_text(self.policy(False), 0.0), "source": {"lines": lines}}}
         if command == "most":
             return self._most(now)
         if command == "verify":
             bound = grower.maybe(0.6)
             return {"words": ["verify", "policy.json", "token.txt"], "files": {
-                "policy.json": self.spoilt_text(self.policy(bound), 0.6),
+                "policy.json": self.spoilt_text(self.policy(bound), 0.4),
                 "token.txt": self.token(now, [0, 0, 1], 0.9 if bound else 0.2)}}
         if command == "present":
             token = self.token(now, [0, 0, 0, 1], 0.05)
@@ -356,12 +361,35 @@ class Cases:
             for path in self.paths(claims):
                 there, value = grow.json_text.at(claims, grow.json_text.steps_of(path) or ())
                 if there and not isinstance(value, (dict, list)) or grower.maybe(0.05):
+                    if isinstance(value, int) and value in (0, 1) and grower.maybe(0.3):
+                        value = int(value) if isinstance(value, bool) else bool(value)  # True is not 1.
                     query["equal"].append({"at": path, "value": value if grower.maybe(0.9) else grower.leaf()})
         if grower.maybe(0.2):
             query["never"] = self.paths(claims)
         names = [f"token{number}.txt" for number in range(len(tokens))]
         return {"words": ["wallet", "query.json", *names],
                 "files": {"query.json": self.spoilt_text(query, 0.1), **dict(zip(names, tokens))}}
+
+    def _text(self) -> str:
+        """A short text that is nearly a token, in its grammar or in the JSON about it."""
+        grower = self.grower
+        if grower.maybe(0.4):
+            pieces = ["a", "a", "a", ".", ".", "~", "~", "_-9", "=", " ", "\t", "a.a.a~", "a.a.a", "{", "\u00e9", "+",
+                      "\x0b"]
+            return "".join(grower.one(pieces) for _ in range(grower.rng.randrange(9)))
+        if grower.maybe(0.2):
+            letters = list("{}[]:,\"\\ 1-.eauf\x0c\x0d")
+            return "{" + "".join(grower.one(letters) for _ in range(grower.rng.randrange(9))) + "}"
+        pairs = ['"payload":"b"', '"protected":"a"', '"signature":"c"']
+        if grower.maybe(0.3):
+            behind = grower.one(["", ",{}", ',{"header":{"kb_jwt":1}}'])
+            pairs[1:] = ['"signatures":[{' + ",".join(pairs[1:]) + "}" + behind + "]"]
+        value = grower.one(["{}", "[{}]", "{\"a\":{}}", "[1,{}]"]).replace("{}", grower.odd())
+        name = grower.one(['"x"', '"x"', '"payload"', '"header"', '"kb_jwt"', grower.string()])
+        pairs.insert(grower.rng.randrange(len(pairs) + 1), f"{name}:{value}")
+        if grower.maybe(0.2):
+            pairs.append(f'"x":{grower.one(["1", "1.5", "{}"])}')
+        return "{" + ",".join(pairs) + "}"
 
     def _most(self, now: int) -> Case:
         """A feed whose input is about as long as it may be."""
@@ -378,7 +406,7 @@ class Cases:
     def _words(self) -> Case:
         grower = self.grower
         words = [grower.one(FIRST_WORDS)]
-        words += [grower.one(FURTHER_WORDS) for _ in range(grower.one([0, 1, 2, 2, 2, 3, 66]))]
+        words += [grower.one(FURTHER_WORDS) for _ in range(grower.one([0, 1, 2, 2, 2, 3, 65, 66]))]
         texts = {"policy.json": "{}", "token.txt": "a.b.c~", "source": "a"}
         return {"words": words, "files": {name: {"text": text} for name, text in texts.items()}}
 
@@ -548,7 +576,7 @@ class Fuzz:
         cases = Cases(self.seed * 1_000_003 + number * 17 + COMMANDS.index(command))
         case = self.limits[number % len(self.limits)] if command == "limits" else cases.grow(command, now)
         told, answer = self.runner.compare(case)
-        if command != "feed" or told.status:
+        if command not in ("feed", "texts") or told.status:
             self.count(command, told, case)
             if told != answer:
                 self.report(command, case, told, answer)

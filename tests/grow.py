@@ -18,6 +18,9 @@ Recipe = Dict[str, Any]
 
 KEYS: Dict[str, bytes] = {
     "office": b"the ticket office key, long enough for the longest of the three algorithms",
+    "exact": b"a key of exactly as many bytes as a block of SHA-256 has, or 64.",
+    "huge": b"a key with more bytes than a block of SHA-512 has, so that each of the three algorithms hashes it first, "
+            b"and never signs with the bytes themselves",
     "short": b"another office, of 32 bytes or so",
     "middle": b"another office, whose key has enough bytes for HS384",
     "ada": b"the key in Ada's phone, not ours",
@@ -29,7 +32,7 @@ NAMES = ["a", "b", "c", "iss", "exp", "nbf", "aud", "iat", "cnf", "kid", "", "0"
 PLAIN_NAMES = [name for name in NAMES if name not in ("_sd", "...", "_sd_alg")]
 TEXTS = ["", "x", "tickets", "hall", "B12", "\u00e9", "\U0001f600", "\u2028", "/", "\\", "\"", "\b\f\n\r\t",
          "\u0000\u001f\u007f", "eyJ", "...", "_sd", "https://door.example", "4711", "ada"]
-NUMBERS = [0, 1, -1, 7, 4102444800, 2**53, 2**53 + 1, 2**63 - 1, 2**63, 2**64 - 1, -2**63, 10**18, 10**19]
+NUMBERS = [0, 0, 1, 1, -1, 7, 4102444800, 2**53, 2**53 + 1, 2**63 - 1, 2**63, 2**64 - 1, -2**63, 10**18, 10**19]
 ODD = ["1.5", "1e2", "-0", "0.0", "1e400", "-1e400", "1e-400", "0e999", "18446744073709551616", "-9223372036854775809",
        "1E5", "1" + "0" * 308, "1" + "0" * 309, "9" * 309, "17976931348623158" + "0" * 292,
        "179769313486231580793728971405" + "0" * 279, "1.7976931348623157e308", "1.7976931348623159e308",
@@ -50,6 +53,7 @@ class Grower:
 
     def __init__(self, seed: int) -> None:
         self.rng = random.Random(seed)
+        self.issuer = self.one(["office"] * 4 + ["exact", "huge"])
 
     def maybe(self, share: float) -> bool:
         return self.rng.random() < share
@@ -97,6 +101,31 @@ class Grower:
         if isinstance(tree, list):
             return "[" + space + ("," + space).join(self.write(each, blanks, twice) for each in tree) + space + "]"
         return json.dumps(tree, ensure_ascii=bool(blanks) and self.maybe(0.2))
+
+    def number(self) -> str:
+        """A number, mostly about the greatest of a float, or what is nearly a number."""
+        rng = self.rng
+        digits = self.one(["0", "1", "9", "17976931348623157", "17976931348623158", "179769313486231580793", "2", "00"])
+        digits += "".join(self.one("0123456789") for _ in range(self.one([0, 0, 1, 3, 17])))
+        digits += self.one(["0", "9", "5"]) * self.one([0, 0, 1, rng.randrange(320)])
+        fraction = self.one(["", "", ".0", ".5", "." + "0" * rng.randrange(330) + "1", "."])
+        power = rng.randrange(330) - self.one([0, 0, len(digits), 400])
+        exponent = self.one(["", "", f"e{power}", f"E{power}", f"e{310 - len(digits)}", f"e{309 - len(digits)}",
+                             f"e+{abs(power):05}", "e99999999999999999999", "e-99999999999999999999", "e", "e+"])
+        return self.one(["", "", "-", "-", "+"]) + digits + fraction + exponent
+
+    def string(self) -> str:
+        """A text in quotes, with escapes and bytes that may be none of a text."""
+        pieces = ["a", "\u00e9", "\U0001f600", "\\n", "\\u0041", "\\uD83D", "\\uDE00", "\\ud83d\\ude00", "\\",
+                  "\\\\", "\\/", "\\\"", "\\u00", "\\uFFFF", "\\u0000", "\\U0041", "\udcc3", "\udca9",
+                  "\udcf0\udc9f\udc98\udc80", "\udce2\udc82", "\udced\udcbf\udcbf", "\udcc1\udcbf",
+                  "\udce0\udc80\udcaf", "\udcf4\udc8f\udcbf\udcbf", "\udcf5\udc80\udc80\udc80", "\x1f", "\x7f",
+                  "\\b", "\\v", "\ufeff", "\u2028", "\udcff"]
+        return '"' + "".join(self.one(pieces) for _ in range(self.one([1, 1, 2, 2, 3, 5]))) + '"'
+
+    def odd(self) -> str:
+        """A value that may be none."""
+        return self.one([lambda: self.one(ODD), self.number, self.string])()
 
     def spots(self, tree: Any) -> List[Tuple[Any, Any]]:
         """Each member and each element of a tree, as what holds it and by which name or position."""
@@ -186,7 +215,7 @@ class Grower:
         if self.maybe(0.6):
             header["typ"] = self.one(["ticket+sd-jwt", "JWT"])
         recipe: Recipe = {"header": "", "payload": "", "disclosures": [], "send": [], "hash": hash_name, "alg": alg,
-                          "signer": "office", "binding": None, "form": "compact", "layout": {}, "code": [],
+                          "signer": self.issuer, "binding": None, "form": "compact", "layout": {}, "code": [],
                           "edits": []}
         claims = self.claims(now)
         share = self.one([0.0, 0.2, 0.5, 0.9])
@@ -297,7 +326,7 @@ def _spoil_tree(part: str) -> Callable[[Grower, Recipe, int], None]:
             elif kind == 1:
                 holder[step] = grower.tree(2, NAMES)
             elif kind == 2:
-                holder[step] = Raw(grower.one(ODD))
+                holder[step] = Raw(grower.odd())
             elif kind == 3:
                 holder[step] = grower.deep(grower.one([90, 95, 97, 98, 99, 100, 101, 124, 125, 126, 127, 128]))
             elif kind in (4, 5, 6) and isinstance(holder, dict):
@@ -443,7 +472,7 @@ def _spoil_layout(grower: Grower, recipe: Recipe, _now: int) -> None:
             [grower.write({"header": {"disclosures": ["x"]}})] if grower.maybe(0.4) else [])
         recipe["form"] = "general"
     elif kind == 6:
-        layout["members"] = {grower.one(["x", "header", "payload"]): grower.one(ODD)}
+        layout["members"] = {grower.one(["x", "x", "x", "header", "payload"]): grower.odd()}
     elif kind == 7:
         layout["members"] = {"x": grower.write(grower.deep(grower.one([124, 125, 126, 127, 128])))}
     else:

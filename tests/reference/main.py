@@ -96,6 +96,8 @@ def _file_words(words: List[str]) -> Optional[List[Tuple[int, str]]]:
     """The words that name files, each with its number behind the command; None where the words are no command."""
     command, behind = (words[0], words[1:]) if words else ("", [])
     numbered = list(enumerate(behind, 1))
+    if any("\udc80" <= letter <= "\udcff" for word in words for letter in word):
+        return None  # A word that is not UTF-8: this is how Python hands its bytes on.
     if command == "wallet":
         return numbered if 2 <= len(behind) <= 65 else None
     if len(behind) != {"split": 1, "show": 1, "gen": 1}.get(command, 2):
