@@ -472,16 +472,16 @@ def limit_cases() -> List[Case]:
 # Shrinking ------------------------------------------------------------------------------------------------------------
 
 def smaller(value: Any) -> Iterator[Any]:
-    """Values that are a little smaller: without a member, an element or some letters."""
+    """Values that are a little smaller: without a disclosure, a member, an element or some letters."""
     if isinstance(value, dict):
+        if "send" in value:
+            yield from smaller_recipes(value)
         for name in value:
-            if name not in ("token", "text", "files", "words") and value[name] not in (None, "", [], {}):
-                if name in ("binding", "edits", "code", "layout", "disclosures", "send"):
-                    yield {**value, name: None if name == "binding" else type(value[name])()}
-            for inner in smaller(value[name]) if name not in ("words", "hash", "alg", "signer", "form") else ():
-                yield {**value, name: inner}
+            if name not in ("words", "hash", "alg", "signer", "form", "send"):
+                for inner in smaller(value[name]):
+                    yield {**value, name: inner}
     elif isinstance(value, list):
-        for position in range(len(value) - 1, -1, -1):
+        for position in range(len(value) - 1, -1, -1) if value and not isinstance(value[0], str) else ():
             yield value[:position] + value[position + 1:]
         for position, each in enumerate(value):
             for inner in smaller(each):
@@ -490,23 +490,43 @@ def smaller(value: Any) -> Iterator[Any]:
         yield from smaller_texts(value)
 
 
+def smaller_recipes(recipe: grow.Recipe) -> Iterator[grow.Recipe]:
+    """A recipe in a simpler form, or without a disclosure; what refers to those behind it is numbered anew."""
+    for name, simple in (("binding", None), ("edits", []), ("code", []), ("layout", {}), ("form", "compact")):
+        if recipe[name] != simple:
+            yield {**recipe, name: simple}
+    for number in range(len(recipe["disclosures"])):
+        if number in recipe["send"]:
+            yield {**recipe, "send": [each for each in recipe["send"] if each != number]}
+
+        def renumbered(text: str, gone: int = number) -> str:
+            text = re.sub(f'"<{gone}>",?|,"<{gone}>"', "", text) if gone >= 0 else text
+            return re.sub("<([0-9]+)>", lambda found: f"<{int(found[1]) - (int(found[1]) > gone)}>", text)
+
+        yield {**recipe, "payload": renumbered(recipe["payload"]),
+               "disclosures": [renumbered(text) for place, text in enumerate(recipe["disclosures"]) if place != number],
+               "send": [each - (each > number) for each in recipe["send"] if each != number]}
+
+
 def smaller_texts(text: str) -> Iterator[str]:
-    """First as JSON, without a member or an element; then without some letters."""
+    """JSON without a member or an element, or with a simpler value; another text without some letters."""
     try:
         tree = json.loads(text)
     except ValueError:
         tree = None
-    for number in range(len(grow.Grower(0).spots(tree))):
-        changed = copy.deepcopy(tree)
-        holder, step = grow.Grower(0).spots(changed)[number]
-        del holder[step]
-        yield json.dumps(changed, ensure_ascii=False, separators=(",", ":"))
-        changed = copy.deepcopy(tree)
-        holder, step = grow.Grower(0).spots(changed)[number]
-        if holder[step] not in (0, "", [], {}) and isinstance(holder[step], (list, dict)):
-            holder[step] = 0
+    spots = grow.Grower(0).spots(tree)
+    for number in range(len(spots)):
+        for simple in (None, 0, ""):
+            changed = copy.deepcopy(tree)
+            holder, step = grow.Grower(0).spots(changed)[number]
+            if simple is None:
+                del holder[step]
+            elif isinstance(holder[step], (list, dict)) == (simple == 0) and holder[step] not in (0, ""):
+                holder[step] = simple
+            else:
+                continue
             yield json.dumps(changed, ensure_ascii=False, separators=(",", ":"))
-    size = len(text) // 2
+    size = len(text) // 2 if not spots or len(text) < 100 else 0
     while size:
         for start in range(0, len(text), size):
             yield text[:start] + text[start + size:]
@@ -516,19 +536,17 @@ def smaller_texts(text: str) -> Iterator[str]:
 def shrink(case: Case, still: Callable[[Case], bool], seconds: float) -> Case:
     """The smallest case found that still differs."""
     end = time.time() + seconds
-    while time.time() < end:
-        for changed in smaller({"files": case["files"]}):
-            trial = {"words": case["words"], "files": changed["files"]}
-            try:
-                if still(trial):
-                    case = trial
-                    break
-            except (ValueError, IndexError, KeyError, TypeError, AttributeError):
-                pass
-            if time.time() > end:
-                break
-        else:
-            break
+    place, failed, trials = 0, 0, list(smaller(case["files"]))
+    while time.time() < end and failed < len(trials):
+        place %= len(trials)
+        trial = {"words": case["words"], "files": trials[place]}
+        try:
+            differs = still(trial)
+        except (ValueError, IndexError, KeyError, TypeError, AttributeError):
+            differs = False
+        place, failed = place + 1, failed + 1
+        if differs:
+            case, failed, trials = trial, 0, list(smaller(trial["files"]))
     return case
 
 
