@@ -432,7 +432,7 @@ def _spoil_edit(grower: Grower, recipe: Recipe, _now: int) -> None:
     """A byte of the whole text is changed when all is done."""
     for _ in range(grower.one([1, 1, 1, 2, 4])):
         recipe["edits"].append([grower.one(["cut", "put", "set", "end", "front"]), grower.rng.randrange(10**6),
-                                grower.one(list("~~~..aZ_-= \t{}\"=+\x00\u00e9\udcff"))])
+                                grower.one(list("~~~..aZ_-= \t{}\"=+\n\r\x00\u00e9\udcff"))])
 
 
 def _spoil_binding(grower: Grower, recipe: Recipe, _now: int) -> None:
@@ -550,6 +550,37 @@ def _spoil_reference(grower: Grower, recipe: Recipe, _now: int) -> None:
         pass
 
 
+def _spoil_chain(grower: Grower, recipe: Recipe, _now: int) -> None:
+    """Disclosures that stand inside each other, about as deep as they may."""
+    value: Any = grower.one([1, {}, [], [[]], grower.deep(grower.one([1, 2, 50]))])
+    for _ in range(grower.one([2, 5, 49, 50, 51, 96, 97, 98, 99, 100])):
+        number = len(recipe["disclosures"])
+        member = grower.maybe(0.5)
+        recipe["disclosures"].append(grower.write(["", "a", value] if member else ["", value]))
+        value = {"_sd": [f"<{number}>"]} if member else [{"...": f"<{number}>"}]
+        recipe["send"].append(number)
+    if grower.maybe(0.3):
+        recipe["send"].reverse()
+    if grower.maybe(0.1):
+        recipe["send"].pop(grower.rng.randrange(len(recipe["send"])))
+    grower.change(recipe, "payload", lambda tree: {**tree, "b": value} if isinstance(tree, dict) else tree)
+
+
+def _spoil_many(grower: Grower, recipe: Recipe, _now: int) -> None:
+    """Many disclosures in one object or one array, and many digests that belong to none."""
+    count, member = grower.one([10, 100, 300]), grower.maybe(0.5)
+    digests = [f"decoy {number}" for number in range(grower.one([0, 10, 300]))]
+    for each in range(count):
+        number = len(recipe["disclosures"])
+        recipe["disclosures"].append(grower.write(["", f"name {each}", each] if member else ["", each]))
+        digests.append(f"<{number}>")
+        if grower.maybe(0.9):
+            recipe["send"].insert(grower.rng.randrange(len(recipe["send"]) + 1), number)
+    grower.rng.shuffle(digests)
+    value = {"_sd": digests} if member else [{"...": digest} for digest in digests]
+    grower.change(recipe, "payload", lambda tree: {**tree, "b": value} if isinstance(tree, dict) else tree)
+
+
 def _spoil_writing(grower: Grower, recipe: Recipe, _now: int) -> None:
     """A JSON serialization with blanks or escapes."""
     recipe["form"] = grower.one(["flat", "general"])
@@ -574,7 +605,7 @@ SPOILERS: Dict[str, List[Spoiler]] = {
         _spoil_member("payload", "a", [{"...": "x"}, {"_sd": []}, [{"...": "x"}], 5]), _spoil_tree("payload"),
         _spoil_tree("payload"), _spoil_tree("disclosures"), _spoil_tree("disclosures"), _spoil_disclosure,
         _spoil_disclosure, _spoil_disclosure, _spoil_raw("disclosures"), _spoil_send, _spoil_send, _spoil_clash,
-        _spoil_clash, _spoil_reference, _spoil_reference],
+        _spoil_clash, _spoil_reference, _spoil_reference, _spoil_chain, _spoil_many],
     "texts": [_spoil_code, _spoil_code, _spoil_edit],
     "layout": [_spoil_layout, _spoil_layout, _spoil_writing],
     "binding": [

@@ -41,11 +41,11 @@ def read(data: bytes) -> Tree:
     """The tree of a text; or NotJson, or NotWhole. Of two members of one name the last counts."""
     try:
         text = data.decode("utf-8")
+        if text.count("[") + text.count("{") > NESTING_MAX and _nesting(text) > NESTING_MAX:
+            raise NotJson
         value = _READER.decode(text)
-    except (ValueError, RecursionError):
+    except ValueError:
         raise NotJson from None
-    if text.count("[") + text.count("{") > NESTING_MAX and _nesting(text) > NESTING_MAX:
-        raise NotJson
     if "\\u" in text and not _WHOLE_PAIRS.fullmatch(text):
         raise NotJson
     if _has_fraction(value):
