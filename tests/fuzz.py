@@ -66,41 +66,28 @@ class Runner:
     def __init__(self, program: str, tools: str, folder: str) -> None:
         self.program, self.tools, self.folder = os.path.abspath(program), os.path.abspath(tools), folder
 
-    def outside(self, case: Case) -> Tuple[Answer, int, int]:
+    def outside(self, words: List[str], files: Dict[str, bytes]) -> Tuple[Answer, int, int]:
         """What the program answers, and the moments before and after its run."""
         for name in os.listdir(self.folder):
             os.remove(os.path.join(self.folder, name))
-        source = b""
-        for name, part in case["files"].items():
-            data = content(part)
-            if name == "source":
-                source = data
-            else:
-                with open(os.path.join(self.folder, name), "wb") as file:
-                    file.write(data)
-        words = case["words"]
+        for name, data in files.items():
+            with open(os.path.join(self.folder, name), "wb") as file:
+                file.write(data)
         program = self.tools if words[:1] and words[0] in TOOL_COMMANDS else self.program
         before = int(time.time())
-        done = subprocess.run([program, *words], cwd=self.folder, input=source, capture_output=True, check=False)
+        done = subprocess.run([program, *words], cwd=self.folder, input=files.get("source", b""), capture_output=True,
+                              check=False)
         return (Answer(done.returncode, done.stdout, done.stderr.decode("utf-8", "replace").removesuffix("\n")),
                 before, int(time.time()))
 
-    @staticmethod
-    def inside(case: Case, now: int) -> Answer:
-        """What the reading answers."""
-        def fetch(name: str) -> Optional[bytes]:
-            return content(case["files"][name]) if name in case["files"] else None
-        source = content(case["files"]["source"]) if "source" in case["files"] else b""
-        return reference.run(case["words"], fetch, now, source)
-
     def compare(self, case: Case) -> Tuple[Answer, Answer]:
         """The answer of the program, and the same one or another one of the reading."""
-        told, before, after = self.outside(case)
-        answer = self.inside(case, before)
-        for now in range(before + 1, after + 1):
+        files = {name: content(part) for name, part in case["files"].items()}
+        told, before, after = self.outside(case["words"], files)
+        for now in range(before, after + 1):
+            answer = reference.run(case["words"], files.get, now, files.get("source", b""))
             if answer == told:
                 break
-            answer = self.inside(case, now)
         return told, answer
 
 

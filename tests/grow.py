@@ -44,8 +44,14 @@ ODD = ["1.5", "1e2", "-0", "0.0", "1e400", "-1e400", "1e-400", "0e999", "1844674
        "\u00a01"]
 
 
-class Raw(str):
+_PLAIN = json.JSONEncoder(ensure_ascii=False, separators=(",", ":"))
+
+
+class Raw:
     """A piece of text that is written where JSON would stand, as it is."""
+
+    def __init__(self, text: str) -> None:
+        self.text = text
 
 
 class Grower:
@@ -85,9 +91,14 @@ class Grower:
 
     def write(self, tree: Any, blanks: float = 0.0, twice: float = 0.0) -> str:
         """JSON, with blanks, escapes and members that stand twice here and there."""
+        if not blanks and not twice:
+            try:
+                return _PLAIN.encode(tree)
+            except TypeError:
+                pass  # There is a raw piece in it.
         space = self.one([" ", "\t", "\r", "  "]) if blanks and self.maybe(blanks) else ""
         if isinstance(tree, Raw):
-            return str(tree)
+            return tree.text
         if isinstance(tree, dict):
             pairs = list(tree.items())
             if blanks:
@@ -568,8 +579,8 @@ def _spoil_chain(grower: Grower, recipe: Recipe, _now: int) -> None:
 
 def _spoil_many(grower: Grower, recipe: Recipe, _now: int) -> None:
     """Many disclosures in one object or one array, and many digests that belong to none."""
-    count, member = grower.one([10, 100, 300]), grower.maybe(0.5)
-    digests = [f"decoy {number}" for number in range(grower.one([0, 10, 300]))]
+    count, member = grower.one([10, 10, 10, 30, 30, 100, 300]), grower.maybe(0.5)
+    digests = [f"decoy {number}" for number in range(grower.one([0, 10, 100]))]
     for each in range(count):
         number = len(recipe["disclosures"])
         recipe["disclosures"].append(grower.write(["", f"name {each}", each] if member else ["", each]))
@@ -605,7 +616,7 @@ SPOILERS: Dict[str, List[Spoiler]] = {
         _spoil_member("payload", "a", [{"...": "x"}, {"_sd": []}, [{"...": "x"}], 5]), _spoil_tree("payload"),
         _spoil_tree("payload"), _spoil_tree("disclosures"), _spoil_tree("disclosures"), _spoil_disclosure,
         _spoil_disclosure, _spoil_disclosure, _spoil_raw("disclosures"), _spoil_send, _spoil_send, _spoil_clash,
-        _spoil_clash, _spoil_reference, _spoil_reference, _spoil_chain, _spoil_many],
+        _spoil_clash, *[_spoil_reference] * 4, _spoil_chain, _spoil_many],
     "texts": [_spoil_code, _spoil_code, _spoil_edit],
     "layout": [_spoil_layout, _spoil_layout, _spoil_writing],
     "binding": [

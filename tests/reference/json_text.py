@@ -13,6 +13,7 @@ Members = Dict[str, Tree]
 Path = Tuple[str, ...]
 NESTING_MAX = 127
 _TEXTS = re.compile(r'"(?:[^"\\]|\\.)*"', re.DOTALL)
+_ODD_NUMBER = re.compile("[0-9][.eE]|-0|[0-9]{19}")  # Where a number may be one that is not whole.
 # Half a pair of surrogates has no UTF-8, so an escape that is no pair is none of a text.
 _WHOLE_PAIRS = re.compile(r"(?:[^\\]|\\[^u]|\\u(?!d[89a-f])|\\ud[89ab]..\\ud[c-f]..)*", re.DOTALL | re.IGNORECASE)
 
@@ -48,7 +49,7 @@ def read(data: bytes) -> Tree:
         raise NotJson from None
     if "\\u" in text and not _WHOLE_PAIRS.fullmatch(text):
         raise NotJson
-    if _has_fraction(value):
+    if _ODD_NUMBER.search(text) and _has_fraction(value):
         raise NotWhole
     return value
 
