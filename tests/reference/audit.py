@@ -5,7 +5,7 @@ from typing import Dict, Set
 import encoding
 from files import Said
 from issue import closing_order, header_text, judge_order
-from json_text import NotJson, NotWhole, Path, Tree, same
+from json_text import NotJson, NotWhole, Path, Tree, inside, same
 from outcome import Refused
 from processing import is_hidden, process, sites
 from tokens import read_disclosures, read_token
@@ -57,20 +57,16 @@ def audit(order: Said, data: bytes) -> str:
 def _decoys_stand(tree: Tree, place: Path, wanted: Dict[Path, int], decoys: Set[str]) -> bool:
     """Whether there are as many decoys as wanted in each object, and in each array behind its elements."""
     count = wanted.get(place, 0)
-    if isinstance(tree, dict):
-        return sum(digest in decoys for digest in tree.get("_sd", [])) == count and all(
-            _decoys_stand(value, (*place, name), wanted, decoys) for name, value in tree.items() if name != "_sd")
-    if not isinstance(tree, list):
-        return True
-    found = [is_hidden(element) and element["..."] in decoys for element in tree]
-    return found == [False] * (len(tree) - count) + [True] * count and all(
-        _decoys_stand(element, (*place, str(position)), wanted, decoys)
-        for position, element in enumerate(tree) if not is_hidden(element))
+    if isinstance(tree, dict) and sum(digest in decoys for digest in tree.get("_sd", [])) != count:
+        return False
+    found = [is_hidden(element) and element["..."] in decoys for element in tree] if isinstance(tree, list) else []
+    if isinstance(tree, list) and found != [False] * (len(tree) - count) + [True] * count:
+        return False
+    return all(_decoys_stand(value, (*place, step), wanted, decoys) for step, value in inside(tree)
+               if step != "_sd" and not (isinstance(tree, list) and is_hidden(value)))
 
 def _is_sorted(tree: Tree) -> bool:
     """Whether each list of digests in a tree ascends and has one."""
-    if isinstance(tree, dict):
-        digests = tree.get("_sd", [""])
-        return bool(digests) and digests == sorted(digests) and all(
-            _is_sorted(value) for name, value in tree.items() if name != "_sd")
-    return not isinstance(tree, list) or all(map(_is_sorted, tree))
+    digests = tree.get("_sd", [""]) if isinstance(tree, dict) else [""]
+    return bool(digests) and digests == sorted(digests) and all(
+        _is_sorted(value) for name, value in inside(tree) if name != "_sd")

@@ -17,34 +17,23 @@ def _check(holds: object) -> None:
     if not holds:
         raise Wrong
 
-def text(value: Tree) -> str:
-    """A text."""
-    _check(isinstance(value, str))
-    return value
-
-def short_text(value: Tree) -> str:
-    """A text of at most 256 bytes."""
-    _check(len(text(value).encode()) <= 256)
-    return value
-
-def scalar(value: Tree) -> Tree:
-    """Null, true, false, a whole number or a text."""
-    _check(not isinstance(value, (list, dict)))
-    return value
+def _form(holds: Callable[[Tree], bool]) -> Form:
+    def form(value: Tree) -> Tree:
+        _check(holds(value))
+        return value
+    return form
 
 def whole(least: int, most: int) -> Form:
     """A whole number between two."""
-    def form(value: Tree) -> int:
-        _check(is_whole(value) and least <= value <= most)
-        return value
-    return form
+    return _form(lambda value: is_whole(value) and least <= value <= most)
 
 def one_of(texts: Dict[str, Any]) -> Form:
     """One of some texts."""
-    def form(value: Tree) -> str:
-        _check(text(value) in texts)
-        return value
-    return form
+    return _form(lambda value: isinstance(value, str) and value in texts)
+
+text = _form(lambda value: isinstance(value, str))
+short_text = _form(lambda value: isinstance(value, str) and len(value.encode()) <= 256)
+scalar = _form(lambda value: not isinstance(value, (list, dict)))  # Null, true, false, a whole number or a text.
 
 def array(form: Form, least: int = 0, most: int = FILE_MAX) -> Form:
     """An array whose elements have a form."""

@@ -4,8 +4,8 @@ import struct
 from typing import Dict, Iterator, List, Set
 
 import encoding
-from files import Said
-from json_text import Path, Tree, at, depth, pointer_of, write
+from files import Said, read_order, read_policy, read_present_order
+from json_text import Path, Tree, at, depth, inside, pointer_of, write
 from outcome import COUNT_MAX, DEPTH_MAX, ISSUE_MAX, Refused
 from present import present
 from processing import sites
@@ -35,21 +35,15 @@ def judge_order(order: Said) -> None:
         raise Refused(59)
 
 def _reserved(tree: Tree, path: Path) -> Iterator[Path]:
-    if isinstance(tree, dict):
-        for name in sorted(tree, key=lambda each: (each != "_sd", each)):
-            if name in ("_sd", "_sd_alg", "..."):
-                yield (*path, name)
-            yield from _reserved(tree[name], (*path, name))
-    elif isinstance(tree, list):
-        for position, element in enumerate(tree):
-            yield from _reserved(element, (*path, str(position)))
+    for step, value in sorted(inside(tree), key=lambda member: member[0] != "_sd"):  # This one first.
+        if isinstance(tree, dict) and step in ("_sd", "_sd_alg", "..."):
+            yield (*path, step)
+        yield from _reserved(value, (*path, step))
 
 def closing_order(tree: Tree, hidden: Set[Path], path: Path = ()) -> Iterator[Path]:
     """The hidden places, each behind all that is inside it."""
-    if isinstance(tree, (dict, list)):
-        inner = sorted(tree.items()) if isinstance(tree, dict) else zip(map(str, range(len(tree))), tree)
-        for step, value in inner:
-            yield from closing_order(value, hidden, (*path, step))
+    for step, value in inside(tree):
+        yield from closing_order(value, hidden, (*path, step))
     if path in hidden:
         yield path
 
@@ -81,8 +75,8 @@ class _Hiding:
         digests = list(self.decoys.get(path, []))
         if isinstance(tree, dict):
             plain: Dict[str, Tree] = {}
-            for name in sorted(tree):
-                value = self.hide(tree[name], (*path, name))
+            for name, shown in inside(tree):
+                value = self.hide(shown, (*path, name))
                 if (*path, name) in self.hidden:  # RFC 9901 section 4.2.4.1.
                     digests.append(self._close([name, value]))
                 else:
@@ -91,10 +85,9 @@ class _Hiding:
         if not isinstance(tree, list):
             return tree
         elements = []
-        for position, element in enumerate(tree):
-            place = (*path, str(position))
-            value = self.hide(element, place)
-            elements.append({"...": self._close([value])} if place in self.hidden else value)  # Section 4.2.4.2.
+        for step, element in inside(tree):
+            value = self.hide(element, (*path, step))
+            elements.append({"...": self._close([value])} if (*path, step) in self.hidden else value)  # 4.2.4.2.
         return elements + [{"...": digest} for digest in digests]
 
 def issue(order: Said, seed: bytes) -> Token:
@@ -136,16 +129,15 @@ def _chacha_block(seed: bytes, counter: int) -> bytes:
 def generate(count: int) -> str:
     """The command gen: an order of its own is issued, presented and verified, and four counts of it are printed."""
     numbers = range(count)
-    hide = [(f"m{i}",) for i in numbers if i % 2 == 0] + [(f"m{i}", "a") for i in numbers if i % 3 == 0]
-    hide += [(f"m{i}", "b", "1") for i in numbers if i % 5 == 0]
-    keys = [encoding.Key(b"\1" * 32, None)]
-    token = issue({"payload": {f"m{i}": {"a": i, "b": [i, i + 1]} for i in numbers}, "hide": hide,
-                   "key": keys[0].octets, "decoys": [{"at": (), "count": 1}], "alg": "HS256", "kid": None,
-                   "typ": None, "sd_alg": "sha-256"}, bytes(32))
-    want = [(f"m{i}", "a") for i in numbers if i % 4 == 0]
-    shown = present({"keys": keys, "want": want, "never": [], "binding": None}, token, 0)
-    claims = verify({"keys": keys, "algs": ["HS256"], "typ": None, "iss": None, "require": [], "skew": 0,
-                     "binding": None}, shown, 0)
+    hide = [f"/m{i}" for i in numbers if i % 2 == 0] + [f"/m{i}/a" for i in numbers if i % 3 == 0]
+    hide += [f"/m{i}/b/1" for i in numbers if i % 5 == 0]
+    key = encoding.encode(b"\1" * 32)
+    keys = {"keys": [{"kty": "oct", "k": key}]}
+    order = {"payload": {f"m{i}": {"a": i, "b": [i, i + 1]} for i in numbers}, "hide": hide, "key": key,
+             "decoys": [{"at": "", "count": 1}]}
+    asked = {"keys": keys, "want": [f"/m{i}/a" for i in numbers if i % 4 == 0]}
+    shown = present(read_present_order(write(asked).encode()), issue(read_order(write(order).encode()), bytes(32)), 0)
+    claims = verify(read_policy(write({"keys": keys}).encode()), shown, 0)
     trees = [read_payload(shown.payload), *(each.value for each in read_disclosures(shown.disclosures))]
     digests = sum(len(list(sites(tree))) for tree in trees)
     return (f"hidden {len(hide)}\npresented {len(shown.disclosures)}\ndigests {digests}\n"

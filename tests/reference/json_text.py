@@ -6,7 +6,7 @@ how Python orders them, is the order of the bytes of UTF-8.
 
 import json
 import re
-from typing import Any, Dict, Optional, Tuple
+from typing import Any, Dict, Iterable, Optional, Tuple
 
 Tree = Any
 Members = Dict[str, Tree]
@@ -27,16 +27,13 @@ class _Fraction:
     """Stands in a value for a number that is not whole or out of range."""
 
 def _number(digits: str) -> object:
-    if abs(float(digits)) == float("inf"):
+    if not abs(float(digits)) < float("inf"):  # NaN and Infinity come here too, and are no JSON.
         raise NotJson
     if re.fullmatch("-?[0-9]{1,20}", digits) and digits != "-0" and -2**63 <= int(digits) < 2**64:
         return int(digits)
     return _Fraction()
 
-def _constant(_: str) -> object:
-    raise NotJson  # NaN and Infinity are no JSON.
-
-_READER = json.JSONDecoder(parse_float=_number, parse_int=_number, parse_constant=_constant)
+_READER = json.JSONDecoder(parse_float=_number, parse_int=_number, parse_constant=_number)
 
 def read(data: bytes) -> Tree:
     """The tree of a text; or NotJson, or NotWhole. Of two members of one name the last counts."""
@@ -60,10 +57,14 @@ def _nesting(text: str) -> int:
         most = max(most, now)
     return most
 
-def _has_fraction(value: object) -> bool:
-    if isinstance(value, (dict, list)):
-        return any(map(_has_fraction, value.values() if isinstance(value, dict) else value))
-    return isinstance(value, _Fraction)
+def inside(tree: Tree) -> Iterable[Tuple[str, Tree]]:
+    """The steps that lead into a tree, in their order, and what stands there."""
+    if isinstance(tree, dict):
+        return sorted(tree.items(), key=lambda member: member[0])
+    return zip(map(str, range(len(tree))), tree) if isinstance(tree, list) else ()
+
+def _has_fraction(value: Tree) -> bool:
+    return isinstance(value, _Fraction) or any(_has_fraction(inner) for _, inner in inside(value))
 
 def write(value: Tree) -> str:
     """Compact JSON: no blanks, members by the bytes of their names, each character as it stands where it may."""
@@ -71,9 +72,7 @@ def write(value: Tree) -> str:
 
 def depth(value: Tree) -> int:
     """0 of a leaf, 1 of an empty array or object, else 1 more than the greatest inside."""
-    if isinstance(value, (list, dict)):
-        return 1 + max(map(depth, value.values() if isinstance(value, dict) else value), default=0)
-    return 0
+    return int(isinstance(value, (list, dict))) + max((depth(inner) for _, inner in inside(value)), default=0)
 
 def is_whole(value: Tree) -> bool:
     """Whether a tree is a whole number: true and false are none."""

@@ -3,7 +3,7 @@
 from typing import Dict, Iterator, List, NamedTuple, Set
 
 import encoding
-from json_text import Members, Path, Tree, leads_to
+from json_text import Members, Path, Tree, inside, leads_to
 from outcome import DEPTH_MAX, Refused
 from tokens import Disclosure
 
@@ -38,9 +38,8 @@ def sites(tree: Tree) -> Iterator[Site]:
     """The digests of a tree, in order."""
     if isinstance(tree, dict):
         yield from (Site(digest, tree, True) for digest in tree.get("_sd", []))
-        for name in sorted(tree):
-            if name != "_sd":
-                yield from sites(tree[name])
+        for name, value in inside(tree):
+            yield from sites(value) if name != "_sd" else ()
     elif isinstance(tree, list):
         for element in tree:
             yield from [Site(element["..."], tree, False)] if is_hidden(element) else sites(element)
