@@ -6,6 +6,10 @@ PROGRAM is a built sdjwt and TOOLS a built sdjwt_tools. Each case is a run: word
 (tests/grow.py). Status, standard output and the line on standard error are compared. A case that differs is shrunk and
 printed with its files, and the last line tells how many cases ran and how many differed. The cases of one seed are the
 same in each run but for the moments in them, which stand about the moment of the run.
+
+Beside the names of commands there are these: feed judges tokens, a hundred in one run under one policy; texts are
+short lines that are nearly tokens, five hundred in one run; most is a feed whose input is about as long as it may be;
+words are command lines; and limits are files, tokens and orders of the greatest size.
 """
 
 import argparse

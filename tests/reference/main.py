@@ -1,4 +1,9 @@
-"""A second reading of the programs sdjwt and sdjwt_tools: python3 tests/reference/main.py WORDS.."""
+"""A second reading of the programs sdjwt and sdjwt_tools: python3 tests/reference/main.py WORDS..
+
+It is written from docs/SPECIFICATION.md and the RFCs that it names, and not from the code. Its modules are best read
+in this order: outcome (limits, numbers and names), json_text, encoding, tokens, processing, files, verify, present (and
+the wallet), issue (and gen), audit. Left out are want of memory, and an output or a source that fails.
+"""
 
 import re
 import sys
