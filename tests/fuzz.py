@@ -572,6 +572,7 @@ class Fuzz:
         self.seen: Counter[str] = collections.Counter()
         self.told: set = set()
         self.limits = limit_cases()
+        self.passing = 0  # Lines that differed in a feed and not alone, as where its run came to a next second.
 
     def count(self, command: str, answer: Answer, case: Case) -> None:
         self.ran[command] += 1
@@ -592,20 +593,23 @@ class Fuzz:
             return
         lines = case["files"]["source"]["lines"]
         answers, wanted = told.output.split(b"\n"), answer.output.split(b"\n")
-        if len(answers) != len(wanted):
-            self.report(command, case, told, answer)
+        if told != answer and (len(answers) != len(wanted) or answers[:-2] == wanted[:-2]):
+            self.report(command, case, told, answer)  # No single line is to blame.
         for line, verdict, other in zip(lines, answers, wanted):
             said = verdict.decode()
             one = {"words": ["verify", "policy.json", "token.txt"],
                    "files": {"policy.json": case["files"]["policy.json"], "token.txt": line}}
             self.count(command, Answer(0, b"", "accepted" if said.startswith("accepted ") else said), one)
             if verdict != other:
-                told, answer = self.runner.compare(one)
-                if told == answer:
-                    one = {"words": case["words"], "files": {"policy.json": case["files"]["policy.json"],
-                                                             "source": {"lines": [line]}}}
-                    told, answer = self.runner.compare(one)
-                self.report(command, one, told, answer)
+                alone = {"words": case["words"], "files": {"policy.json": case["files"]["policy.json"],
+                                                           "source": {"lines": [line]}}}
+                for trial in (one, alone):
+                    told, answer = self.runner.compare(trial)
+                    if told != answer:
+                        self.report(command, trial, told, answer)
+                        break
+                else:
+                    self.passing += 1
 
     def report(self, command: str, case: Case, told: Answer, answer: Answer) -> None:
         """Shrinks and prints a case, the first of each pair of answers."""
@@ -646,20 +650,24 @@ def main() -> int:
     begun = time.time()
     with tempfile.TemporaryDirectory(dir="/dev/shm" if os.path.isdir("/dev/shm") else None) as folder:
         fuzz = Fuzz(Runner(said.program, said.tools, folder), said.seed)
+        most = {**dict.fromkeys(commands, said.count), "gen": min(said.count, 40), "limits": len(fuzz.limits)}
         number = 0
-        while True:
-            wanted = [each for each in commands if said.seconds or fuzz.ran[each] < (
-                min(said.count, {"gen": 40, "limits": len(fuzz.limits)}.get(each, said.count)))]
-            if not wanted or (said.seconds and time.time() - begun > said.seconds):
-                break
-            for command in wanted:
-                fuzz.one(command, number, int(time.time()))
-            number += 1
+        wanted = commands
+        try:
+            while wanted and (not said.seconds or time.time() - begun < said.seconds):
+                for command in wanted:
+                    fuzz.one(command, number, int(time.time()))
+                number += 1
+                wanted = commands if said.seconds else [each for each in commands if fuzz.ran[each] < most[each]]
+        except KeyboardInterrupt:
+            pass  # What has run is told.
     if said.coverage:
         for what, times in sorted(fuzz.seen.items()):
             print(f"{times:8} {what}")
     for command in commands:
         print(f"{command}: {fuzz.ran[command]} cases, {fuzz.differed[command]} differ")
+    if fuzz.passing:
+        print(f"{fuzz.passing} lines of feeds differed once, and not again when they were judged alone")
     seconds = time.time() - begun
     print(f"{sum(fuzz.ran.values())} cases in {seconds:.0f} seconds, {sum(fuzz.differed.values())} differ")
     return 1 if fuzz.differed else 0
