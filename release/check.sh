@@ -165,9 +165,9 @@ fi
 inside() {
     # shellcheck disable=SC2016 # the words of the other shell
     unshare --mount sh -euc 'mount -t proc proc "$1/proc"
-        exec chroot "$1" /usr/bin/env -i HOME=/root PATH=/usr/local/sbin:/usr/local/bin:/usr/sbin:/usr/bin:/sbin:/bin \
+        exec chroot "$1" /usr/bin/env -i HOME=/srv PATH=/usr/local/sbin:/usr/local/bin:/usr/sbin:/usr/bin:/sbin:/bin \
             LC_ALL=C.UTF-8 DEBIAN_FRONTEND=noninteractive MANPAGER=cat sh -euc "$2"' \
-        sh "$bare" "cd /root/repository; $1" </dev/null
+        sh "$bare" "cd /srv/repository; $1" </dev/null
 }
 at='env LD_PRELOAD=/usr/lib/x86_64-linux-gnu/faketime/libfaketime.so.1 FAKETIME_FMT=%s FAKETIME={moment}'
 
@@ -178,8 +178,8 @@ programs() {
         for program in sdjwt sdjwt_tools; do
             if ldd "$(command -v "$program")" | grep "not found"; then exit 1; fi
             status=0
-            "$program" 2>/root/line || status=$?
-            [ "$status $(cat /root/line)" = "2 usage" ]
+            "$program" 2>/srv/line || status=$?
+            [ "$status $(cat /srv/line)" = "2 usage" ]
         done
         command -v sdjwt'
     holds "$1: the walk of README.md" inside "python3 examples/walk.py $2/sdjwt"
@@ -190,9 +190,9 @@ programs() {
     # shellcheck disable=SC2016
     holds "$1: the manual pages" inside '
         for page in sdjwt sdjwt_tools sdjwt-explain; do
-            man --warnings "$page" >/root/page 2>/root/line
-            [ ! -s /root/line ] || { cat /root/line && exit 1; }
-            grep -q "^NAME" /root/page
+            man --warnings "$page" >/srv/page 2>/srv/line
+            [ ! -s /srv/line ] || { cat /srv/line && exit 1; }
+            grep -q "^NAME" /srv/page
         done
         man -w sdjwt'
     holds "$1: the completions" inside "
@@ -207,23 +207,23 @@ c_library() {
     # shellcheck disable=SC2016 # the words of the other shell
     holds "$1: C, with the shared and the static library" inside '
         cd examples/walk
-        sdjwt issue order.json seed.txt >/root/issued.txt
-        sdjwt present present.json /root/issued.txt >/root/shown.txt
-        sdjwt verify policy.json /root/shown.txt >/root/claims
-        cc /root/first.c $(pkg-config --cflags --libs sdjwt) -o /root/shared
-        cc /root/first.c $(pkg-config --cflags sdjwt) "$(pkg-config --variable=libdir sdjwt)/libsdjwt.a" -o /root/static
-        ldd /root/shared | grep libsdjwt.so.1
-        if ldd /root/static | grep libsdjwt; then exit 1; fi
+        sdjwt issue order.json seed.txt >/srv/issued.txt
+        sdjwt present present.json /srv/issued.txt >/srv/shown.txt
+        sdjwt verify policy.json /srv/shown.txt >/srv/claims
+        cc /srv/first.c $(pkg-config --cflags --libs sdjwt) -o /srv/shared
+        cc /srv/first.c $(pkg-config --cflags sdjwt) "$(pkg-config --variable=libdir sdjwt)/libsdjwt.a" -o /srv/static
+        ldd /srv/shared | grep libsdjwt.so.1
+        if ldd /srv/static | grep libsdjwt; then exit 1; fi
         for program in shared static; do
-            /root/$program </root/shown.txt >/root/said
-            cmp /root/said /root/claims
+            /srv/$program </srv/shown.txt >/srv/said
+            cmp /srv/said /srv/claims
         done
-        cat /root/said'
+        cat /srv/said'
 }
 
 python_package() {
-    holds "$1: the first minute of python/README.md" inside "$2 /root/first_minute.py"
-    holds "$1: the examples of its docstrings" inside "cd /root && $2 -c '
+    holds "$1: the first minute of python/README.md" inside "$2 /srv/first_minute.py"
+    holds "$1: the examples of its docstrings" inside "cd /srv && $2 -c '
 import doctest, sdjwt, importlib.metadata
 assert importlib.metadata.version(\"sdjwt\") == sdjwt.__version__
 tried = doctest.testmod(sdjwt)
@@ -232,17 +232,17 @@ assert tried.attempted and not tried.failed'"
 }
 
 if [ "$bare_made" = yes ]; then
-    mkdir "$bare/root/repository" "$bare/root/files"
+    mkdir "$bare/srv/repository" "$bare/srv/files"
     git -C "$top" archive HEAD README.md examples vectors |
-        tar -x -f - -C "$bare/root/repository"
-    cp "$out"/* "$bare/root/files/"
+        tar -x -f - -C "$bare/srv/repository"
+    cp "$out"/* "$bare/srv/files/"
     # shellcheck disable=SC2016 # the marks of a text
-    sed -n '/^```python$/,/^```$/p' "$top/python/README.md" | sed '/^```/d' >"$bare/root/first_minute.py"
+    sed -n '/^```python$/,/^```$/p' "$top/python/README.md" | sed '/^```/d' >"$bare/srv/first_minute.py"
     # shellcheck disable=SC2016
-    sed -n '/^```c$/,/^```$/p' "$top/docs/C.md" | sed '1d; /^```/,$d' >"$bare/root/first.c"
+    sed -n '/^```c$/,/^```$/p' "$top/docs/C.md" | sed '1d; /^```/,$d' >"$bare/srv/first.c"
     inside 'find /usr /etc | sort' >"$made/before"
 
-    holds 'packages: installed' inside 'dpkg -i /root/files/*.deb'
+    holds 'packages: installed' inside 'dpkg -i /srv/files/*.deb'
     programs packages /usr/bin /usr vendor-completions
     c_library packages
     python_package packages /usr/bin/python3
@@ -254,28 +254,28 @@ if [ "$bare_made" = yes ]; then
     }
     holds 'packages: removed' nothing_left
 
-    holds 'wheel: installed' inside 'python3 -m venv /root/venv
-        /root/venv/bin/pip install --no-index --disable-pip-version-check /root/files/*.whl'
-    python_package wheel /root/venv/bin/python
+    holds 'wheel: installed' inside 'python3 -m venv /srv/venv
+        /srv/venv/bin/pip install --no-index --disable-pip-version-check /srv/files/*.whl'
+    python_package wheel /srv/venv/bin/python
 
     # The archive, by the words of its README.
     readme=$(echo "$made"/archive/*/README.md)
     awk '/^## / { on = $0 == "## Install"; seen = 0 } on && /^    / { seen = 1; print; next } on && seen { exit }' \
-        "$readme" | sed 's/^    sudo /    /' >"$bare/root/install"
-    awk '/^## / { on = $0 == "## First commands"; next } on && /^    / { print }' "$readme" >"$bare/root/first"
+        "$readme" | sed 's/^    sudo /    /' >"$bare/srv/install"
+    awk '/^## / { on = $0 == "## First commands"; next } on && /^    / { print }' "$readme" >"$bare/srv/first"
     # shellcheck disable=SC2016
     said=$(sed -n 's/^The last prints `\(.*\)`\. .*/\1/p' "$readme")
-    holds 'archive: installed by its README.md' inside 'cd /root/files; sh -eu /root/install; ldconfig
+    holds 'archive: installed by its README.md' inside 'cd /srv/files; sh -eu /srv/install; ldconfig
         ls /usr/local/lib'
     first_commands() {
-        inside "cd /root/files/sdjwt-*-linux-x86_64; sh -eu /root/first >/root/printed; tail -n 1 /root/printed" \
+        inside "cd /srv/files/sdjwt-*-linux-x86_64; sh -eu /srv/first >/srv/printed; tail -n 1 /srv/printed" \
             >"$made/printed" && cat "$made/printed" &&
             [ -n "$said" ] && [ "$(cat "$made/printed")" = "$said" ]
     }
     holds 'archive: its first commands' first_commands
     programs archive /usr/local/bin /usr/local site-functions
     c_library archive
-    holds 'archive: its own vectors' inside "cd /root/files/sdjwt-*-linux-x86_64; python3 vectors/run.py sdjwt"
+    holds 'archive: its own vectors' inside "cd /srv/files/sdjwt-*-linux-x86_64; python3 vectors/run.py sdjwt"
 fi
 unproved=$(sed -n 's/^not proved: //p' "$out/PROVENANCE")
 [ "$unproved" != nothing ] || unproved=
