@@ -76,7 +76,7 @@ impl JsonReader {
     }
 
     /// The same, but of each object only the members with these names are kept, and of them the one named `whole` as it
-    /// stands. What is passed over takes no memory.
+    /// stands. The others are judged as well, and no tree is made of them.
     pub fn read_named(
         &mut self,
         alloc: Global,

@@ -35,12 +35,12 @@ pub record IsGoodOrder (o : Order) : Type 0 where
 abbrev pub FitsMachine : Tree → Type 0
 FitsMachine t = Everywhere LeafIsUtf8 (λ es. elements_len es < 2 ^ 64) (λ name _. IsUtf8 name) t
 
--- so is each text of a leaf
+-- a leaf that is a text has this property
 abbrev pub TextIs : (Text → Type 0) → Leaf → Type 0
 TextIs P (text s) = P s
 TextIs P _ = Unit {0}
 
--- so are each text and each name, however deep they stand
+-- each text and each name of a tree has this property, however deep they stand
 abbrev pub EachText : (Text → Type 0) → Tree → Type 0
 EachText P t = Everywhere (TextIs P) (λ _. Unit {0}) (λ name _. P name) t
 

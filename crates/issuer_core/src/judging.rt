@@ -221,7 +221,7 @@ pub fn judge(alloc: Global, order: &Order) -> Result<(), IssueError>
     Ok(())
 }
 
-/// The same. Of an order that is not refused it answers the different places that are hidden, sorted.
+/// The same. Of an order that is not refused it answers the places that are hidden, in no more entries than may be.
 pub fn judged_places(alloc: Global, order: &Order) -> Result<PathList, IssueError>
     requires { depth_of (tree_of order.now.payload) ≤ json_depth_max }
     ensures same { IfOk result (λ places. (path : Steps) → is_among places path ≡ is_among order.now.hide path) }
