@@ -1,1 +1,3 @@
 mod EndToEnd
+mod OtherRules
+mod WorkedFiles

@@ -8,6 +8,8 @@
 mod claim;
 mod end_to_end;
 #[cfg(test)]
+mod end_to_end_tests;
+#[cfg(test)]
 mod tests;
 mod token;
 
