@@ -1,5 +1,5 @@
 -- What a feed writes at its end, and what it is left with.
-use Rattle.std.proofs.Common.{◌≡◌, ℕ, ◌+◌, ◌≤◌, List, ◌++◌, length, sym, ap, subst, refl, arith, Option, Result, Ok, Err, OnOk, true, false}
+use Rattle.std.proofs.Common.{◌≡◌, ℕ, Bool, ◌+◌, ◌≤◌, List, [], ◌++◌, length, sym, ap, subst, ◌∙◌, append-nil, arith, Option, Result, Ok, Err, OnOk, true, false}
 use Rattle.std.specs.Result.{is_err}
 use Rattle.std.proofs.lemmas.List.{length-take}
 use Rattle.std.proofs.KnownBytes.{Appends-trans}
@@ -8,33 +8,40 @@ use Rattle.sd_outside.specs.Causes.{AppendsPrefix}
 use Rattle.sd_outside.specs.Limits.{file_max}
 use Rattle.feed_core.specs.Cut.{IsOneLine, last_line}
 use Rattle.feed_core.specs.FeedVerdict.{TellsVerdicts}
-use Rattle.feed_core.specs.Feed.{FeedState, Takes, TellsFront, end_line}
-use Rattle.feed_core.specs.FeedCalls.{TakesFront, IsEnded, count_at_end}
+use Rattle.feed_core.specs.Feed.{FeedState, taking, Takes, TellsFront, end_line}
+use Rattle.feed_core.specs.FeedCalls.{new_feed, ToldSoFar, TakesFront, count_at_end}
 use Rattle.feed_core.proofs.Cuts.{all_take, cut_of}
-use Rattle.feed_core.proofs.Fronts.{prefix_after, front_none, front_all}
+use Rattle.feed_core.proofs.Fronts.{front_none, front_all, front_behind}
+use Rattle.feed_core.proofs.AnyCut.{goes_on}
 
--- the verdict on what was kept, before the number of lines
-pub record ToldLast (before : FeedState) (last : ℕ) (a b : Option (List ℕ)) : Type 0 where
-  pub text : List ℕ
-  pub told : TellsVerdicts before.policy before.now (last_line before.rest) text
-  pub written : Appends a b text
+-- the verdict on what was kept is held, before the number of lines
+pub record HoldsLast (before : FeedState) (last : ℕ) (held : List ℕ) : Type 0 where
+  pub told : TellsVerdicts before.policy before.now (last_line before.rest) held
   pub last_is : last ≡ length (last_line before.rest)
 
-pub ended_front : (before : FeedState) (last : ℕ) (a b c : Option (List ℕ)) → ToldLast before last a b → AppendsPrefix b c (end_line (before.count + last))
-    → TellsFront before.policy before.now (last_line before.rest) (end_line (count_at_end before)) a c
-ended_front before last a b c is part =
-    let P : ℕ → Type 0 = λ n. AppendsPrefix b c (end_line (before.count + n)) in
-    front_all before.policy before.now (last_line before.rest) is.text (end_line (count_at_end before)) a c is.told
-    (prefix_after a b c is.text (end_line (count_at_end before)) is.written (subst P is.last_is part))
+pub holds_last : (before : FeedState) (last : ℕ) (first held : List ℕ) → first ≡ [] → (text : List ℕ) × TellsVerdicts before.policy before.now (last_line before.rest) text × (held ≡ first ++ text)
+    → last ≡ length (last_line before.rest) → HoldsLast before last held
+holds_last before last first held none told last_is =
+    let P : List ℕ → Type 0 = λ t. TellsVerdicts before.policy before.now (last_line before.rest) t in
+    record { told = subst P (sym (told.2 ∙ ap (λ (t : List ℕ). t ++ told.0) none)) told.1; last_is = last_is }
 
-pub ended_all : (before : FeedState) (last : ℕ) (a b c : Option (List ℕ)) → ToldLast before last a b → Appends b c (end_line (before.count + last))
-    → (text : List ℕ) × IsEnded before text × Appends a c text
-ended_all before last a b c is whole =
-    let P : ℕ → Type 0 = λ n. Appends b c (end_line (before.count + n)) in (
-      is.text ++ end_line (count_at_end before),
-      record { verdict = is.text; told = is.told; text_is = refl },
-      Appends-trans a b c is.text (end_line (count_at_end before)) is.written (subst P is.last_is whole),
-    )
+end_is : (before : FeedState) (last : ℕ) (held : List ℕ) → HoldsLast before last held → end_line (before.count + last) ≡ end_line (count_at_end before)
+end_is before last held is = ap (λ (n : ℕ). end_line (before.count + n)) is.last_is
+
+-- there is no memory for the number of lines
+pub ended_short : (before : FeedState) (last : ℕ) (held : List ℕ) (a b : Option (List ℕ)) → HoldsLast before last held → AppendsPrefix a b held
+    → TellsFront before.policy before.now (last_line before.rest) (end_line (count_at_end before)) a b
+ended_short before last held a b is part =
+    front_behind before.policy before.now (last_line before.rest) (end_line (count_at_end before)) a b
+    (front_all before.policy before.now (last_line before.rest) held [] a b is.told (rw append-nil part))
+
+-- or it is told
+pub ended_front : (before : FeedState) (last : ℕ) (held all : List ℕ) (a b : Option (List ℕ)) → HoldsLast before last held → all ≡ held ++ end_line (before.count + last) → AppendsPrefix a b all
+    → TellsFront before.policy before.now (last_line before.rest) (end_line (count_at_end before)) a b
+ended_front before last held all a b is added part =
+    let P : List ℕ → Type 0 = λ t. AppendsPrefix a b t in
+    front_all before.policy before.now (last_line before.rest) held (end_line (count_at_end before)) a b is.told
+    (subst P (added ∙ ap (λ (t : List ℕ). held ++ t) (end_is before last held is)) part)
 
 -- nothing was taken
 pub taken_none : (before : FeedState) (piece : List ℕ) (a : Option (List ℕ)) → TakesFront before piece a a
@@ -45,6 +52,24 @@ taken_none before piece a =
 pub ok_holds : {T E P : Type 0} → (r : Result T E) → is_err r ≡ false → OnOk r P → P
 ok_holds (Ok x) e p = p
 ok_holds (Err x) e p = let clash : true ≡ false = e in absurd (cc clash)
+
+-- what was taken before a piece and in it is told
+told_on : (before after : FeedState) (bytes piece : List ℕ) (first old new : Option (List ℕ)) → ToldSoFar before bytes first old
+    → (text : List ℕ) × Takes before after piece text × Appends old new text → ToldSoFar after (bytes ++ piece) first new
+told_on before after bytes piece first old new so took =
+    let P : FeedState → Type 0 = λ f. Takes (new_feed f.policy f.now) after (bytes ++ piece) (so.text ++ took.0) in
+    record {
+      text = so.text ++ took.0;
+      takes = subst P (sym took.1.after_is) (goes_on (new_feed before.policy before.now) after bytes piece so.text took.0 before so.takes took.1);
+      written = Appends-trans first old new so.text took.0 so.written took.2;
+    }
+
+pub told_after : {T E : Type 0} (r : Result T E) (over : Bool) → over ≡ is_err r → (before : FeedState) (rest : List ℕ) (count : ℕ) (bytes piece : List ℕ) (first old new : Option (List ℕ)) → ToldSoFar before bytes first old
+    → OnOk r ((text : List ℕ) × Takes before (taking before.policy before.now rest count) piece text × Appends old new text)
+    → OnOk r (ToldSoFar (record { policy = before.policy; now = before.now; rest = rest; count = count; over = over }) (bytes ++ piece) first new)
+told_after (Ok done) over goes_on before rest count bytes piece first old new so took =
+    rw goes_on (told_on before (taking before.policy before.now rest count) bytes piece first old new so took)
+told_after (Err e) over stops before rest count bytes piece first old new so took = tt
 
 -- what is kept is a front of one line
 pub kept_line : (before after : FeedState) (piece text : List ℕ) → Takes before after piece text → IsOneLine after.rest × (length after.rest ≤ file_max + 1)

@@ -1,8 +1,7 @@
 -- A line has one verdict, and lines that are too long have the same.
-use Rattle.std.proofs.Common.{◌≡◌, ◌++◌, ℕ, ◌<◌, List, length, refl, sym, ap, ◌∙◌, Result, Ok, Err, IfOk, String, Global, string_bytes}
+use Rattle.std.proofs.Common.{◌≡◌, ◌++◌, ℕ, ◌<◌, List, length, refl, sym, ap, ◌∙◌, Result, Ok, Err, OnOk}
 use Rattle.std.specs.Prelude.{codes}
 use Rattle.sd_outside.specs.Limits.{file_max}
-use Rattle.sd_outside.specs.declared.errors.NoMemory.{NoMemory}
 use Rattle.claim_tree.specs.JsonText.{json_text}
 use Rattle.compact_form.specs.declared.condition.Condition.{Condition}
 use Rattle.compact_form.specs.declared.fault.Fault.{Fault}
@@ -38,15 +37,15 @@ long_alike policy now token other text long more (accepts m a e) = absurd (accep
 long_alike policy now token other text long more (refuses fault l e) =
     refuses (unplaced Condition.TooLong) (too_long policy now other more) (e ∙ ap fault_text (one_lowest token policy now fault (unplaced Condition.TooLong) l (too_long policy now token long)))
 
--- ---- the line of a verdict
+-- ---- the line of a verdict, behind what is held
 
-pub line_accepted : (policy : Policy) (now : ℕ) (token : List ℕ) (payload : Tree) → IsAcceptedAs token policy now payload → (r : Result (String Global) NoMemory)
-    → IfOk r (λ told. string_bytes told ≡ line (codes "accepted " ++ json_text payload)) → IfOk r (λ told. (verdict : List ℕ) × TellsVerdict policy now token verdict × (string_bytes told ≡ line verdict))
-line_accepted policy now token payload accepted (Ok told) is =
+pub line_accepted : {T E : Type 0} (policy : Policy) (now : ℕ) (token : List ℕ) (payload : Tree) → IsAcceptedAs token policy now payload → (r : Result T E) (old new : List ℕ)
+    → OnOk r (new ≡ old ++ line (codes "accepted " ++ json_text payload)) → OnOk r ((verdict : List ℕ) × TellsVerdict policy now token verdict × (new ≡ old ++ line verdict))
+line_accepted policy now token payload accepted (Ok done) old new is =
     (codes "accepted " ++ json_text payload, accepts accepted.0 accepted.1 (ap (λ (t : Tree). codes "accepted " ++ json_text t) accepted.2), is)
-line_accepted policy now token payload accepted (Err e) is = tt
+line_accepted policy now token payload accepted (Err e) old new is = tt
 
-pub line_refused : (policy : Policy) (now : ℕ) (token : List ℕ) (fault : Fault) → IsLowest (Fails token policy now) fault → (r : Result (String Global) NoMemory)
-    → IfOk r (λ told. string_bytes told ≡ line (fault_text fault)) → IfOk r (λ told. (verdict : List ℕ) × TellsVerdict policy now token verdict × (string_bytes told ≡ line verdict))
-line_refused policy now token fault lowest (Ok told) is = (fault_text fault, refuses fault lowest refl, is)
-line_refused policy now token fault lowest (Err e) is = tt
+pub line_refused : {T E : Type 0} (policy : Policy) (now : ℕ) (token : List ℕ) (fault : Fault) → IsLowest (Fails token policy now) fault → (r : Result T E) (old new : List ℕ)
+    → OnOk r (new ≡ old ++ line (fault_text fault)) → OnOk r ((verdict : List ℕ) × TellsVerdict policy now token verdict × (new ≡ old ++ line verdict))
+line_refused policy now token fault lowest (Ok done) old new is = (fault_text fault, refuses fault lowest refl, is)
+line_refused policy now token fault lowest (Err e) old new is = tt

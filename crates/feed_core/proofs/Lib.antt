@@ -4,8 +4,8 @@ pub mod Told
 pub mod Fronts
 pub mod Ends
 pub mod Answering
-pub mod Endings
 pub mod AnyCut
+pub mod Endings
 pub mod Pumping
 pub mod Completes
 mod Stopping

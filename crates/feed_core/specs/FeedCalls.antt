@@ -1,12 +1,19 @@
 -- Not needed to believe the program's promises: what calls on a feed answer.
 use Rattle.std.specs.Prelude.{◌≡◌, ◌+◌, ℕ, List, [], ◌++◌, Option, length}
+use Rattle.std.specs.Io.KnownBytes.{Appends}
 use Rattle.verifier_core.specs.declared.policy.Policy.{Policy}
 use Rattle.feed_core.specs.Cut.{IsCut, last_line}
 use Rattle.feed_core.specs.FeedVerdict.{TellsVerdicts}
-use Rattle.feed_core.specs.Feed.{FeedState, taking, TellsFront, end_line}
+use Rattle.feed_core.specs.Feed.{FeedState, taking, Takes, TellsFront, end_line}
 
 abbrev pub new_feed : Policy → ℕ → FeedState
 new_feed policy now = taking policy now [] 0
+
+-- since the feed was new it took these bytes, and the sink got the verdict on each line that ended in them, and nothing else
+pub record ToldSoFar (feed : FeedState) (bytes : List ℕ) (first last : Option (List ℕ)) : Type 0 where
+  pub text : List ℕ
+  pub takes : Takes (new_feed feed.policy feed.now) feed bytes text
+  pub written : Appends first last text
 
 -- no more than the lines that end in the piece were judged
 pub record TakesFront (before : FeedState) (piece : List ℕ) (old new : Option (List ℕ)) : Type 0 where

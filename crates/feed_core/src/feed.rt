@@ -1,22 +1,26 @@
-ghost use Rattle.std.specs.Prelude.{◌≡◌, ◌≢◌, ◌↔◌, ◌≤◌, ◌<◌, ◌+◌, ◌^◌, ℕ, List, true, false, ◌∷◌, ◌++◌, length, MatchOption, OnOk, OnErr, IfOk, IsErrOf};
+ghost use Rattle.std.specs.Prelude.{◌≡◌, ◌≢◌, ◌↔◌, ◌≤◌, ◌<◌, ◌+◌, ◌^◌, ℕ, List, Option, true, false, ◌∷◌, ◌++◌, length, MatchOption, OnOk, OnErr, IfOk, IsErrOf};
 ghost use Rattle.std.specs.Io.KnownBytes.{Appends};
 ghost use Rattle.sd_outside.specs.Causes.{Rose};
 ghost use Rattle.sd_outside.specs.Limits.{file_max};
 ghost use Rattle.feed_core.specs.Cut.{IsOneLine, last_line};
 ghost use Rattle.feed_core.specs.Feed.{taking, kept_rest, Takes, TellsFront, end_line};
-ghost use Rattle.feed_core.specs.FeedCalls.{new_feed, TakesFront, IsEnded, count_at_end};
+ghost use Rattle.feed_core.specs.FeedCalls.{new_feed, ToldSoFar, TakesFront, IsEnded, count_at_end};
 
 use crate::FeedError;
-use crate::answer::{answer_kept, answer_last, tell_count};
+use crate::answer::{add_count, answer_kept, answer_last};
+use crate::send::{send, send_full, stop};
 use compact_form::FILE_MAX;
 use memchr::memchr;
-use sd_outside::Sink;
+use sd_outside::{NoMemory, Sink};
 use std::alloc::Global;
 use std::marker::Model;
 use verifier_core::Policy;
 
 /// Judges tokens, one a line, that come in pieces, and writes one line for each: `accepted` and the processed payload
 /// as compact JSON, or the line of the lowest condition that fails.
+///
+/// The verdicts of one piece go out as one text, at the end of its [`Feed::take`], and earlier where they have grown
+/// beyond 64 KiB. So what is held is at most 64 KiB and one verdict, and nothing is held between two calls.
 ///
 /// Contracts see its policy, its moment, what it keeps of a line that has not ended, how many lines it judged, and
 /// whether it is over. It keeps one byte more of a line than a file may have, which tells that the line is too long.
@@ -65,6 +69,9 @@ impl Feed {
         ensures few { self.new.count ≤ self.old.count + length piece.now }
         ensures same_policy { self.new.policy ≡ self.old.policy }
         ensures same_now { self.new.now ≡ self.old.now }
+
+        // nothing is held back behind it: each line that ended in what was taken so far is told
+        ensures nothing_held { (bytes : List ℕ) (first : Option (List ℕ)) → ToldSoFar self.old bytes first (O.written out.old) → OnOk result (ToldSoFar self.new (bytes ++ piece.now) first (O.written out.new)) }
 
         // a feed that is over takes nothing
         ensures over { IsErrOf result FeedError.Over ↔ (self.old.over ≡ true) }
@@ -118,9 +125,13 @@ impl Feed {
             return Err(FeedError::Over);
         }
         self.over = true;
+        let mut told = String::new(self.alloc);
         let rest = self.rest.as_slice();
-        self.count += answer_last(self.alloc, &self.policy, self.now, rest, out)?;
-        tell_count(self.alloc, self.count, out)?;
+        self.count += answer_last(self.alloc, &self.policy, self.now, rest, &mut told)?;
+        if let Err(NoMemory) = add_count(self.alloc, self.count, &mut told) {
+            return Err(stop(&mut told, out));
+        }
+        send(&mut told, out)?;
         Ok(self.count)
     }
 }
@@ -148,7 +159,8 @@ fn keep(rest: &mut Vec<u8>, bytes: &[u8]) -> Result<(), FeedError>
     Ok(())
 }
 
-// Answers each line that ends in the piece, and keeps what stands behind the last line end.
+// Answers each line that ends in the piece, and keeps what stands behind the last line end. The verdicts go out as one
+// text, and earlier where they are more than may wait.
 fn answer_ended<O: Sink>(
     alloc: Global,
     policy: &Policy,
@@ -168,11 +180,16 @@ fn answer_ended<O: Sink>(
     ensures open { result ≢ Err FeedError.Over }
     ensures later { O.faults out.old ≤ O.faults out.new }
 {
+    let mut held = String::new(alloc);
     let mut left = piece;
     while let Some((line, more)) = split_line(left) {
-        answer_kept(alloc, policy, now, rest, line, out)?;
+        if let Err(NoMemory) = answer_kept(alloc, policy, now, rest, line, &mut held) {
+            return Err(stop(&mut held, out));
+        }
         *count += 1;
         left = more;
+        send_full(&mut held, out)?;
     }
+    send(&mut held, out)?;
     keep(rest, left)
 }

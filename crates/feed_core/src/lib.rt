@@ -10,6 +10,7 @@ mod feed;
 pub mod laws;
 mod pump;
 mod run;
+mod send;
 mod verdict_line;
 mod words;
 

@@ -1,10 +1,10 @@
-// The line that tells the verdict on a token.
-ghost use Rattle.std.specs.Prelude.{◌≡◌, ◌++◌, ℕ, List, IfOk, codes, string_bytes};
+// The line that tells the verdict on a token, behind those that are held.
+ghost use Rattle.std.specs.Prelude.{◌≡◌, ◌∷◌, [], ◌++◌, ℕ, List, OnOk, OnErr, codes, string_bytes};
 ghost use Rattle.claim_tree.specs.JsonText.{json_text};
 ghost use Rattle.claim_tree.specs.View.{tree_of};
 ghost use Rattle.compact_form.specs.RefusedText.{fault_text};
 ghost use Rattle.cli_parts.specs.Lines.{line};
-ghost use Rattle.feed_core.specs.FeedVerdict.{TellsVerdict};
+ghost use Rattle.feed_core.specs.FeedVerdict.{TellsVerdicts};
 
 use claim_tree::{Tree, write};
 use compact_form::Fault;
@@ -13,38 +13,50 @@ use sd_outside::NoMemory;
 use std::alloc::Global;
 use verifier_core::{Policy, VerifyError, fault_line, verify_payload};
 
-// The line of a token that is accepted, with this payload.
-fn accepted_line(alloc: Global, payload: &Tree) -> Result<String, NoMemory>
-    ensures { IfOk result (λ told. string_bytes told ≡ line (codes "accepted " ++ json_text (tree_of payload.now))) }
+// Adds a line of two parts, whole or not at all.
+fn add_line(held: &mut String, front: &str, text: &str) -> Result<(), NoMemory>
+    ensures added { OnOk result (string_bytes held.new ≡ string_bytes held.old ++ line (front.now ++ text.now)) }
+    ensures same { OnErr result (string_bytes held.new ≡ string_bytes held.old) }
+{
+    held.reserve(front.len() + text.len() + 1)?;
+    held.push_str(front)?;
+    held.push_str(text)?;
+    held.push_str("\n")?;
+    Ok(())
+}
+
+// Adds the line of a token that is accepted, with this payload.
+fn add_accepted(alloc: Global, payload: &Tree, held: &mut String) -> Result<(), NoMemory>
+    ensures added { OnOk result (string_bytes held.new ≡ string_bytes held.old ++ line (codes "accepted " ++ json_text (tree_of payload.now))) }
+    ensures same { OnErr result (string_bytes held.new ≡ string_bytes held.old) }
 {
     let text = write(alloc, payload)?;
-    let mut line = String::from_str(alloc, "accepted ")?;
-    line.push_str(text.as_str())?;
-    line.push_str("\n")?;
-    Ok(line)
+    add_line(held, "accepted ", text.as_str())
 }
 
-// The line of a condition that fails.
-fn refused_line(alloc: Global, fault: &Fault) -> Result<String, NoMemory>
-    ensures { IfOk result (λ told. string_bytes told ≡ line (fault_text fault.now)) }
+// Adds the line of a condition that fails.
+fn add_refused(alloc: Global, fault: &Fault, held: &mut String) -> Result<(), NoMemory>
+    ensures added { OnOk result (string_bytes held.new ≡ string_bytes held.old ++ line (fault_text fault.now)) }
+    ensures same { OnErr result (string_bytes held.new ≡ string_bytes held.old) }
 {
-    let mut line = fault_line(alloc, fault)?.into_string();
-    line.push_str("\n")?;
-    Ok(line)
+    let text = fault_line(alloc, fault)?;
+    add_line(held, "", text.as_str())
 }
 
-// The line that tells the verdict on a token, under a policy and at a moment.
-pub(crate) fn verdict_line(
+// Judges a token, under a policy and at a moment, and adds the line of its verdict.
+pub(crate) fn add_verdict(
     alloc: Global,
     policy: &Policy,
     now: u64,
     token: &[u8],
-) -> Result<String, NoMemory>
-    ensures { IfOk result (λ told. (verdict : List ℕ) × TellsVerdict policy.now now token.now verdict × (string_bytes told ≡ line verdict)) }
+    held: &mut String,
+) -> Result<(), NoMemory>
+    ensures told { OnOk result ((text : List ℕ) × TellsVerdicts policy.now now (token.now ∷ []) text × (string_bytes held.new ≡ string_bytes held.old ++ text)) }
+    ensures same { OnErr result (string_bytes held.new ≡ string_bytes held.old) }
 {
     match verify_payload(alloc, token, policy, now, &mut Steps::new()) {
-        Ok(payload) => accepted_line(alloc, &payload),
-        Err(VerifyError::Fault(fault)) => refused_line(alloc, &fault),
+        Ok(payload) => add_accepted(alloc, &payload, held),
+        Err(VerifyError::Fault(fault)) => add_refused(alloc, &fault, held),
         Err(VerifyError::Memory) => Err(NoMemory),
     }
 }
