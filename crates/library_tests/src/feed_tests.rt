@@ -23,3 +23,21 @@ fn a_feed_answers_lines_as_they_end_and_ends_once(rt: HostRuntime) -> Result<(),
     );
     Ok(())
 }
+
+#[test]
+fn the_verdicts_of_a_piece_go_out_as_one_text(rt: HostRuntime) -> Result<(), Fail> {
+    let policy = read_policy(rt.alloc(), POLICY).map_err(|_| "no policy")?;
+    let mut feed = Feed::new(rt.alloc(), policy, 0);
+    let mut out = MemSink::new(rt.alloc(), 100)?;
+    out.fail_at(1)?;
+    assert_eq!(rt; feed.take(b"a\nab\n", &mut out), Ok(()));
+    assert_eq!(rt; feed.take(b"abc", &mut out), Ok(()));
+    assert_eq!(rt; feed.take(b"\nabcd\n", &mut out), Err(FeedError::Unwritten));
+    assert_eq!(rt; feed.end(&mut out), Err(FeedError::Over));
+    assert_eq!(rt;
+        out.written(),
+        b"refused 2 form at 1\nrefused 2 form at 2\n".as_slice()
+    );
+    assert_eq!(rt; out.failures(), 1);
+    Ok(())
+}
