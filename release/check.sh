@@ -258,6 +258,29 @@ if [ "$bare_made" = yes ]; then
         /srv/venv/bin/pip install --no-index --disable-pip-version-check /srv/files/*.whl'
     python_package wheel /srv/venv/bin/python
 
+    # The first lines of the repository's README.md: two for the archive, one for the package and one for the wheel.
+    whole=$(sed -n '1s/^sdjwt //p' "$out/PROVENANCE")
+    awk '/^## / { on = $0 == "## Install"; next } on && sub(/^    (sudo )?/, "")' "$top/README.md" |
+        sed "s/$version/$whole/g" >"$made/lines"
+    [ "$(wc -l <"$made/lines")" -eq 4 ] || failed 'README.md has not four lines under "Install"'
+    head -n 2 "$made/lines" >"$bare/srv/unpack"
+    tail -n 2 "$made/lines" >"$bare/srv/install"
+    # shellcheck disable=SC2016 # the words of the other shell
+    holds 'README.md: from the archive' inside 'cd /srv/files
+        . /srv/unpack
+        cd /srv/repository
+        python3 examples/walk.py "$(command -v sdjwt)" >/dev/null
+        command -v sdjwt'
+    # shellcheck disable=SC2016
+    holds 'README.md: the package and the wheel' inside 'python3 -m venv /srv/readme
+        export PATH=/srv/readme/bin:$PATH PIP_NO_INDEX=1 PIP_DISABLE_PIP_VERSION_CHECK=1
+        cd /srv/files
+        . /srv/install
+        dpkg -V sdjwt
+        python3 -c "import sdjwt; print(sdjwt.__version__)"
+        dpkg -r sdjwt >/dev/null
+        rm -r /srv/files/sdjwt-*-linux-x86_64'
+
     # The archive, by the words of its README.
     readme=$(echo "$made"/archive/*/README.md)
     awk '/^## / { on = $0 == "## Install"; seen = 0 } on && /^    / { seen = 1; print; next } on && seen { exit }' \
