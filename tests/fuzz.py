@@ -22,7 +22,7 @@ import subprocess
 import sys
 import tempfile
 import time
-from typing import Any, Callable, Counter, Dict, Iterator, List, Optional, Tuple
+from typing import Any, Callable, Counter, Dict, Iterator, List, Tuple
 
 HERE = os.path.dirname(os.path.abspath(__file__))
 sys.path[:0] = [os.path.join(HERE, "reference"), HERE]
@@ -30,8 +30,10 @@ sys.setrecursionlimit(20_000)
 
 import grow  # noqa: E402
 import main as reference  # noqa: E402
+from files import pointer  # noqa: E402
 from main import Answer  # noqa: E402
-from present import judge_held  # noqa: E402
+from texts import HASHES, Key, at, encode  # noqa: E402
+from verify import judge_held  # noqa: E402
 
 Case = Dict[str, Any]
 TOOL_COMMANDS = ("feed", "audit", "wallet")
@@ -142,7 +144,7 @@ class Cases:
         grower = self.grower
         keys: List[Any] = []
         for name in names:
-            key: Dict[str, Any] = {"kty": "oct", "k": grow.encoding.encode(grow.KEYS[name])}
+            key: Dict[str, Any] = {"kty": "oct", "k": encode(grow.KEYS[name])}
             if grower.maybe(0.95):
                 key["kid"] = kid if grower.maybe(0.95) else "other"
             if grower.maybe(0.1):
@@ -210,8 +212,8 @@ class Cases:
         try:
             token = reference.tokens.read_token(content(part))
             token.binding = None
-            kid = reference.tokens.read_header(token.protected, token.unprotected).kid
-            return judge_held(token, [grow.encoding.Key(grow.KEYS[self.grower.issuer], kid)]).claims
+            kid = reference.tokens.read_header(token.protected, token.unprotected).get("kid")
+            return judge_held(token, [Key(grow.KEYS[self.grower.issuer], kid)]).claims
         except reference.Refused:
             return {"a": [{"b": 1}], "iss": 1}
 
@@ -221,7 +223,7 @@ class Cases:
         if grower.maybe(0.4):
             order["never"] = self.paths(claims)
         if grower.maybe(0.4):
-            order["binding"] = {"key": grow.encoding.encode(grow.KEYS["ada"]), "kid": grower.one(["ada"] * 8 + ["eve"]),
+            order["binding"] = {"key": encode(grow.KEYS["ada"]), "kid": grower.one(["ada"] * 8 + ["eve"]),
                                 "aud": grower.one(grow.TEXTS), "nonce": grower.one(grow.TEXTS)}
         return order
 
@@ -229,17 +231,17 @@ class Cases:
         grower = self.grower
         payload = {grower.one(grow.PLAIN_NAMES): grower.tree(4) for _ in range(grower.rng.randrange(6))}
         key = grower.one([grower.issuer] * 5 + ["short", "middle"])
-        order: Dict[str, Any] = {"payload": payload, "key": grow.encoding.encode(grow.KEYS[key])}
+        order: Dict[str, Any] = {"payload": payload, "key": encode(grow.KEYS[key])}
         if grower.maybe(0.9):
             order["hide"] = [path for _ in range(3) for path in self.paths(payload)
                              if grower.maybe(0.02) or (path and not re.match("/(iss|aud|exp|nbf|cnf)(/|$)", path))]
         if grower.maybe(0.6):
             holders = [path for path in self.paths(payload) + self.paths(payload) + [""] if grower.maybe(0.02)
-                       or isinstance(grow.json_text.at(payload, grow.json_text.steps_of(path) or ())[1], (dict, list))]
+                       or isinstance(at(payload, pointer(path))[1], (dict, list))]
             order["decoys"] = [{"at": path, "count": grower.one([0, 1, 1, 2, 3])} for path in holders]
         for name, texts in (("kid", ["tickets-1", "", "\u00e9"]), ("typ", ["ticket+sd-jwt", ""]),
                             ("alg", ["HS256", "HS256", "HS384", "HS512"] if key == grower.issuer else ["HS256"]),
-                            ("sd_alg", list(grow.encoding.HASHES))):
+                            ("sd_alg", list(HASHES))):
             if grower.maybe(0.3):
                 order[name] = grower.one(texts)
         return order
@@ -350,7 +352,7 @@ class Cases:
         if grower.maybe(0.5):
             query["equal"] = []
             for path in self.paths(claims):
-                there, value = grow.json_text.at(claims, grow.json_text.steps_of(path) or ())
+                there, value = at(claims, pointer(path))
                 if there and not isinstance(value, (dict, list)) or grower.maybe(0.05):
                     if isinstance(value, int) and value in (0, 1) and grower.maybe(0.3):
                         value = int(value) if isinstance(value, bool) else bool(value)  # True is not 1.
@@ -404,7 +406,7 @@ class Cases:
 
 def limit_cases() -> List[Case]:
     """Files, tokens and orders that are as large as they may be, or larger by a little."""
-    key = grow.encoding.encode(grow.KEYS["office"])
+    key = encode(grow.KEYS["office"])
     policy = {"text": json.dumps({"keys": {"keys": [{"kty": "oct", "k": key}]}})}
     recipe: grow.Recipe = {
         "header": '{"alg":"HS256"}', "payload": '{"a":1}', "disclosures": [], "send": [], "hash": "sha-256",
@@ -447,7 +449,7 @@ def limit_cases() -> List[Case]:
                 ['{"payload":"b","protected":"a","signature":"c","header":{"x":"', 1], ["x", file_max - written + more],
                 ['"}}', 1]]})
     bound = {"text": json.dumps({"keys": {"keys": [{"kty": "oct", "k": key}]}, "want": ["/b"], "binding": {
-        "key": grow.encoding.encode(grow.KEYS["ada"]), "kid": "ada", "aud": "d", "nonce": "n"}})}
+        "key": encode(grow.KEYS["ada"]), "kid": "ada", "aud": "d", "nonce": "n"}})}
     for more in range(-3, 4):  # What is issued, and what is presented, at the most that it may have.
         for hidden in (0, 1):
             fill = (8_380_416 - 69 - hidden * 61) * 3 // 4 - 28 - hidden * 36 + more

@@ -5,13 +5,13 @@ JSON of each part as a text, in which <3> stands for the digest of disclosure 3,
 Bytes that are not UTF-8 stand in a text as lone surrogates.
 """
 
+import hashlib
 import json
 import random
 import re
 from typing import Any, Callable, Dict, List, Optional, Tuple
 
-import encoding
-import json_text
+from texts import ALGORITHMS, HASHES, decode, digest_of, encode, sign, write as compact_json
 from tokens import Token
 
 Recipe = Dict[str, Any]
@@ -209,7 +209,7 @@ class Grower:
         return elements
 
     def decoy(self) -> str:
-        return self.one([encoding.encode(self.rng.randbytes(32)), self.one(TEXTS) + str(self.rng.randrange(10**6))])
+        return self.one([encode(self.rng.randbytes(32)), self.one(TEXTS) + str(self.rng.randrange(10**6))])
 
     def close(self, parts: List[Any], recipe: Recipe) -> str:
         salt: Any = f"salt {self.rng.randrange(10**9)}" if self.maybe(0.95) else self.one([None, 5, [], {}, ""])
@@ -282,7 +282,7 @@ class Grower:
         text = self.write(tree)
         if recipe.get("sorted") is not None and self.maybe(0.95):
             try:
-                text = json_text.write(tree)
+                text = compact_json(tree)
             except (ValueError, TypeError, RecursionError):
                 pass
         if index is None:
@@ -422,11 +422,11 @@ def _spoil_send(grower: Grower, recipe: Recipe, _now: int) -> None:
 def _spoil_signer(grower: Grower, recipe: Recipe, _now: int) -> None:
     recipe["signer"] = grower.one(list(KEYS))
     if grower.maybe(0.3):
-        recipe["alg"] = grower.one(list(encoding.ALGORITHMS))
+        recipe["alg"] = grower.one(list(ALGORITHMS))
 
 
 def _spoil_both_algs(grower: Grower, recipe: Recipe, now: int) -> None:
-    recipe["alg"] = grower.one(list(encoding.ALGORITHMS))
+    recipe["alg"] = grower.one(list(ALGORITHMS))
     grower.change(recipe, "header", lambda tree: {**tree, "alg": recipe["alg"]} if isinstance(tree, dict) else tree)
     if grower.maybe(0.3):
         _spoil_signer(grower, recipe, now)
@@ -452,7 +452,7 @@ def _spoil_binding(grower: Grower, recipe: Recipe, _now: int) -> None:
     elif grower.maybe(0.5):
         recipe["binding"]["signer"] = grower.one(list(KEYS))
     else:
-        recipe["binding"]["alg"] = grower.one(list(encoding.ALGORITHMS))
+        recipe["binding"]["alg"] = grower.one(list(ALGORITHMS))
 
 
 def _spoil_layout(grower: Grower, recipe: Recipe, _now: int) -> None:
@@ -656,12 +656,12 @@ def _with_sorted_digests(text: str) -> str:
         tree = json.loads(text)
     except ValueError:
         return text
-    if json_text.write(tree) != text:
+    if compact_json(tree) != text:
         return text
     for holder, step in Grower(0).spots(tree):
         if step == "_sd" and isinstance(holder[step], list):
             holder[step].sort(key=str)
-    return json_text.write(tree)
+    return compact_json(tree)
 
 
 def render(recipe: Recipe) -> bytes:
@@ -674,22 +674,21 @@ def render(recipe: Recipe) -> bytes:
         return _with_sorted_digests(text) if recipe.get("sorted") else text
 
     for number, said in enumerate(recipe["disclosures"]):
-        texts.append(_spoilt(encoding.encode(octets(filled(said))), str(number), recipe))
-        digests.append(encoding.encode(encoding.hashlib.new(
-            encoding.HASHES[recipe["hash"]], octets(texts[-1])).digest()))
-    protected = _spoilt(encoding.encode(octets(filled(recipe["header"]))), "header", recipe)
+        texts.append(_spoilt(encode(octets(filled(said))), str(number), recipe))
+        digests.append(encode(hashlib.new(HASHES[recipe["hash"]], octets(texts[-1])).digest()))
+    protected = _spoilt(encode(octets(filled(recipe["header"]))), "header", recipe)
     said = re.sub("<fill ([0-9]+)>", lambda found: "x" * int(found[1]), filled(recipe["payload"]))
-    payload = _spoilt(encoding.encode(octets(said)), "payload", recipe)
-    signature = encoding.sign(protected, payload, KEYS[recipe["signer"]], recipe["alg"])
+    payload = _spoilt(encode(octets(said)), "payload", recipe)
+    signature = sign(protected, payload, KEYS[recipe["signer"]], recipe["alg"])
     signature = _spoilt(signature, "signature", recipe)
     token = Token(protected, payload, signature, [texts[number] for number in recipe["send"]])
     binding = recipe["binding"]
     if binding is not None:
-        sd_hash = encoding.digest(token.hashed(), recipe["hash"])
-        head = _spoilt(encoding.encode(octets(binding["header"])), "binding header", recipe)
+        sd_hash = digest_of(token.hashed(), recipe["hash"])
+        head = _spoilt(encode(octets(binding["header"])), "binding header", recipe)
         said = filled(binding["payload"].replace("<hash>", sd_hash))
-        body = _spoilt(encoding.encode(octets(said)), "binding payload", recipe)
-        signed = encoding.sign(head, body, KEYS[binding["signer"]], binding["alg"])
+        body = _spoilt(encode(octets(said)), "binding payload", recipe)
+        signed = sign(head, body, KEYS[binding["signer"]], binding["alg"])
         token.binding = f"{head}.{body}.{_spoilt(signed, 'binding signature', recipe)}"
     data = octets(token.compact() if recipe["form"] == "compact" else _laid_out(token, recipe))
     return _edited(data, recipe["edits"])
@@ -747,17 +746,17 @@ def _edited(data: bytes, edits: List[List[Any]]) -> bytes:
 def recipe_of(token: Token, order: Dict[str, Any]) -> Recipe:
     """The recipe of a token that was issued, with its digests as places of it."""
     hash_name = order.get("sd_alg", "sha-256")
-    texts = [(encoding.decode(text) or b"").decode() for text in token.disclosures]
-    digests = [encoding.digest(text, hash_name) for text in token.disclosures]
+    texts = [(decode(text) or b"").decode() for text in token.disclosures]
+    digests = [digest_of(text, hash_name) for text in token.disclosures]
 
     def marked(text: str) -> str:
         for number, digest in enumerate(digests):
             text = text.replace(digest, f"<{number}>")
         return text
 
-    signer = next(name for name, key in KEYS.items() if encoding.encode(key) == order["key"])
-    return {"header": (encoding.decode(token.protected) or b"").decode(), "hash": hash_name, "signer": signer,
-            "payload": marked((encoding.decode(token.payload) or b"").decode()),
+    signer = next(name for name, key in KEYS.items() if encode(key) == order["key"])
+    return {"header": (decode(token.protected) or b"").decode(), "hash": hash_name, "signer": signer,
+            "payload": marked((decode(token.payload) or b"").decode()),
             "disclosures": list(map(marked, texts)), "send": list(range(len(texts))),
             "alg": order.get("alg", "HS256"), "binding": None, "form": "compact", "layout": {}, "code": [],
             "edits": [], "sorted": True}
@@ -774,7 +773,7 @@ def _audit_digests(grower: Grower, recipe: Recipe, _now: int) -> None:
         lists = _digest_lists(tree)
         holders = [holder for holder, step in grower.spots(tree) if isinstance(holder, dict) and step != "_sd"]
         kind = grower.rng.randrange(6)
-        extra = encoding.encode(grower.rng.randbytes(grower.one([32, 48, 64, 32, 31])))
+        extra = encode(grower.rng.randbytes(grower.one([32, 48, 64, 32, 31])))
         if kind == 0 and lists:
             digests = grower.one(lists)
             if digests:
@@ -821,9 +820,9 @@ def _audit_value(grower: Grower, recipe: Recipe, _now: int) -> None:
         spots = [(holder, step) for holder, step in grower.spots(tree) if not isinstance(holder[step], (dict, list))]
         if spots:
             holder, step = grower.one(spots)
-            holder[step] = grower.one([1, True, "1", None, 2**64 - 1, encoding.encode(grower.rng.randbytes(16)),
-                                       encoding.encode(grower.rng.randbytes(15)),
-                                       encoding.encode(bytes(16))[:-1] + "B", "sha-384"])
+            holder[step] = grower.one([1, True, "1", None, 2**64 - 1, encode(grower.rng.randbytes(16)),
+                                       encode(grower.rng.randbytes(15)),
+                                       encode(bytes(16))[:-1] + "B", "sha-384"])
         return tree
     grower.change(recipe, grower.one(["payload", "disclosures", "disclosures"]), change)
 

@@ -1,21 +1,18 @@
 """The files that a user writes: policy, order, present order, query and seed, each by the table of its members."""
 
-from typing import Any, Callable, Dict, List, Tuple
-
-import encoding
-from json_text import NotJson, NotWhole, Path, Tree, is_whole, read, steps_of
+import re
+from collections.abc import Callable
+from typing import Any
 from outcome import FILE_MAX, Unreadable
+from texts import ALGORITHMS, HASHES, Key, Path, Tree, decode, is_whole, read
 
-Said = Dict[str, Any]
-Form = Callable[[Tree], Any]  # Answers what a value says, or raises Wrong.
-Table = List[Tuple[str, bool, Form, Any]]  # Name, whether it is required, form, and what stands for it.
+Said = dict[str, Any]
+Form = Callable[[Tree], Any]  # Answers what a value says, or raises Unreadable.
+Table = dict[str, tuple]  # For each member its form and, if it may be missing, what stands for it.
 
-class Wrong(Exception):
-    """A value is not of the form of its member."""
-
-def _check(holds: object) -> None:
+def _check(holds: object, fault: str = "wrong") -> None:
     if not holds:
-        raise Wrong
+        raise Unreadable(fault)
 
 def _form(holds: Callable[[Tree], bool]) -> Form:
     def form(value: Tree) -> Tree:
@@ -27,7 +24,7 @@ def whole(least: int, most: int) -> Form:
     """A whole number between two."""
     return _form(lambda value: is_whole(value) and least <= value <= most)
 
-def one_of(texts: Dict[str, Any]) -> Form:
+def one_of(texts: dict[str, Any]) -> Form:
     """One of some texts."""
     return _form(lambda value: isinstance(value, str) and value in texts)
 
@@ -37,7 +34,7 @@ scalar = _form(lambda value: not isinstance(value, (list, dict)))  # Null, true,
 
 def array(form: Form, least: int = 0, most: int = FILE_MAX) -> Form:
     """An array whose elements have a form."""
-    def whole_array(value: Tree) -> List[Any]:
+    def whole_array(value: Tree) -> list[Any]:
         _check(isinstance(value, list) and least <= len(value) <= most)
         return [form(element) for element in value]
     return whole_array
@@ -50,44 +47,38 @@ def members(**forms: Form) -> Form:
     return form
 
 def pointer(value: Tree) -> Path:
-    """A JSON Pointer."""
-    steps = steps_of(text(value))
-    _check(steps is not None)
-    return steps or ()
+    """The path of a JSON Pointer (RFC 6901 section 3)."""
+    _check(text(value)[:1] in ("", "/") and not re.search("~(?![01])", value))
+    return tuple(step.replace("~1", "/").replace("~0", "~") for step in value.split("/")[1:])
+
+_PLACES = (array(pointer), [])
 
 def octets(value: Tree) -> bytes:
     """A key: the code of at least 32 bytes."""
-    key = encoding.decode(text(value)) or b""
+    key = decode(text(value)) or b""
     _check(len(key) >= 32)
     return key
 
-def key_set(value: Tree) -> List[encoding.Key]:
+def key_set(value: Tree) -> list[Key]:
     """RFC 7517 section 5: the keys of the kind oct, in their order; others are left out."""
     _check(isinstance(value, dict) and isinstance(value.get("keys"), list))
     _check(all(isinstance(each, dict) for each in value["keys"]))
-    return [encoding.Key(octets(each.get("k")), text(each["kid"]) if "kid" in each else None)
+    return [Key(octets(each.get("k")), text(each["kid"]) if "kid" in each else None)
             for each in value["keys"] if text(each.get("kty")) == "oct"]
 
 def _read_table(data: bytes, table_of: Callable[[Said], Table]) -> Said:
     """The faults in their order; of missing and wrong the first member of the table is named."""
-    if len(data) > FILE_MAX:
-        raise Unreadable("tooLong")
-    try:
-        value = read(data)
-    except (NotJson, NotWhole) as fault:
-        raise Unreadable("notJson" if isinstance(fault, NotJson) else "notWhole") from None
-    if not isinstance(value, dict):
-        raise Unreadable("notObject")
+    _check(len(data) <= FILE_MAX, "tooLong")
+    value = read(data)
+    _check(isinstance(value, dict), "notObject")
     table = table_of(value)
-    if not set(value) <= {name for name, _, _, _ in table}:
-        raise Unreadable("unknown")
+    _check(value.keys() <= table.keys(), "unknown")
     said = {}
-    for name, required, form, missing in table:
-        if required and name not in value:
-            raise Unreadable(f"missing {name}")
+    for name, (form, *missing) in table.items():
+        _check(name in value or missing, f"missing {name}")
         try:
-            said[name] = form(value[name]) if name in value else missing
-        except Wrong:
+            said[name] = form(value[name]) if name in value else missing[0]
+        except Unreadable:
             raise Unreadable(f"wrong {name}") from None
     return said
 
@@ -95,43 +86,37 @@ def read_policy(data: bytes) -> Said:
     """What a verifier wants of a token, of version 1 or 2."""
     def table(value: Said) -> Table:
         second = value.get("version") == 2
+        iss = array(text, 1) if second else lambda one: [text(one)]
         aud = array(short_text, 1, 16) if second else lambda one: [short_text(one)]
-        return [
-            ("version", False, whole(1, 2), 1), ("keys", True, key_set, None),
-            ("algs", False, array(text), ["HS256"]), ("typ", False, text, None),
-            ("iss", False, array(text, 1) if second else lambda one: [text(one)], None),
-            ("require", False, array(text), []), ("skew", False, whole(0, 3600), 0),
-            ("binding", False, members(aud=aud, nonce=short_text, keys=key_set, max_age=whole(0, 4_294_967_295)), None)]
+        binding = members(aud=aud, nonce=short_text, keys=key_set, max_age=whole(0, 4_294_967_295))
+        return {"version": (whole(1, 2), 1), "keys": (key_set,), "algs": (array(text), ["HS256"]),
+                "typ": (text, None), "iss": (iss, None), "require": (array(text), []),
+                "skew": (whole(0, 3600), 0), "binding": (binding, None)}
     return _read_table(data, table)
 
 def read_order(data: bytes) -> Said:
     """What an issuer is asked for, and the key that signs."""
     def table(value: Said) -> Table:
         def alg(name: Tree) -> str:
-            _check(len(octets(value["key"])) >= encoding.KEY_LENGTHS[one_of(encoding.KEY_LENGTHS)(name)])
+            _check(len(octets(value["key"])) >= ALGORITHMS[one_of(ALGORITHMS)(name)])
             return name
-        return [
-            ("payload", True, lambda any_value: any_value, None), ("hide", False, array(pointer), []),
-            ("decoys", False, array(members(at=pointer, count=whole(0, 32_768))), []), ("key", True, octets, None),
-            ("kid", False, text, None), ("typ", False, text, None), ("alg", False, alg, "HS256"),
-            ("sd_alg", False, one_of(encoding.HASHES), "sha-256")]
+        decoys = array(members(at=pointer, count=whole(0, 32_768)))
+        return {"payload": (lambda any_value: any_value,), "hide": _PLACES, "decoys": (decoys, []), "key": (octets,),
+                "kid": (text, None), "typ": (text, None), "alg": (alg, "HS256"), "sd_alg": (one_of(HASHES), "sha-256")}
     return _read_table(data, table)
-
-_ASKED: Table = [("keys", True, key_set, None), ("want", False, array(pointer), [])]
-_NEVER: Table = [("never", False, array(pointer), [])]
 
 def read_present_order(data: bytes) -> Said:
     """What a holder is asked to show, and under which rule."""
     binding = members(key=octets, kid=text, aud=short_text, nonce=short_text)
-    return _read_table(data, lambda _: _ASKED + _NEVER + [("binding", False, binding, None)])
+    return _read_table(data, lambda _: {
+        "keys": (key_set,), "want": _PLACES, "never": _PLACES, "binding": (binding, None)})
 
 def read_query(data: bytes) -> Said:
     """What a wallet is asked."""
     equal = array(members(at=pointer, value=scalar))
-    return _read_table(data, lambda _: _ASKED + [("equal", False, equal, [])] + _NEVER)
+    return _read_table(data, lambda _: {"keys": (key_set,), "want": _PLACES, "equal": (equal, []), "never": _PLACES})
 
 def read_seed(data: bytes) -> bytes:
     """The first 32 bytes."""
-    if len(data) < 32:
-        raise Unreadable("short")
+    _check(len(data) >= 32, "short")
     return data[:32]

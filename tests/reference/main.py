@@ -1,84 +1,78 @@
 """A second reading of the programs sdjwt and sdjwt_tools: python3 tests/reference/main.py WORDS..
 
 It is written from docs/SPECIFICATION.md and the RFCs that it names, and not from the code. Its modules are best read
-in this order: outcome (limits, numbers and names), json_text, encoding, tokens, processing, files, verify, present (and
-the wallet), issue (and gen), audit. Left out are want of memory, and an output or a source that fails.
+in this order: outcome (limits, numbers and names), texts, tokens, files, verify (and present, and the wallet), issue
+(and gen, and the audit). Left out are want of memory, and an output or a source that fails.
 """
 
+from __future__ import annotations
 import re
 import sys
 import time
-from typing import Callable, Dict, List, NamedTuple, Optional, Tuple
-
-import encoding
+from collections import namedtuple
+from collections.abc import Callable
 import files
 import tokens
-from audit import audit
-from issue import generate, issue
-from json_text import write
-from outcome import FILE_MAX, Refused, Unreadable
-from present import present, wallet
-from verify import verify
+from issue import audit, generate, issue
+from outcome import FILE_MAX, Refused, Unreadable, refuse
+from texts import carried, digest_of, write
+from verify import present, verify, wallet
 
-class Answer(NamedTuple):
-    """A status, what goes to standard output, and the line on standard error or nothing."""
+Answer = namedtuple("Answer", "status output line")  # The line on standard error, or nothing.
+_FILE = "\0[^\0]*"
+_LINE = re.compile(  # The words of a command line, with a zero byte between two: none has one in it.
+    f"(split|show){_FILE}|(verify|issue|present|audit){_FILE}{_FILE}|convert\0(compact|flat|general){_FILE}|"
+    f"wallet({_FILE}){{2,65}}|gen\0[1-9][0-9]{{0,3}}|feed{_FILE}\0[1-9][0-9]{{0,9}}")
+_MOST = {"gen": 3000, "feed": 1_073_741_824}
 
-    status: int
-    output: bytes
-    line: str
+def _lines(token: tokens.Token, lines: list[str]) -> str:
+    return "\n".join(lines + ([] if token.binding is None else [f"binding {token.binding}"]))
 
 def split(token: tokens.Token) -> str:
     """The parts of a token, as they stand."""
     lines = [f"protected {token.protected}", f"payload {token.payload}", f"signature {token.signature}"]
-    lines += [f"disclosure {number} {text}" for number, text in enumerate(token.disclosures)]
-    return "\n".join(lines + ([] if token.binding is None else [f"binding {token.binding}"]))
+    return _lines(token, lines + [f"disclosure {number} {text}" for number, text in enumerate(token.disclosures)])
 
 def show(token: tokens.Token) -> str:
     """What the parts carry; conditions 5, 11, 12 and 13 are judged, and no signature."""
-    header = tokens.read_header(token.protected, token.unprotected)
-    claims = tokens.read_payload(token.payload)
-    hash_name = tokens.hash_of(claims)
-    lines = [f"header {write(header.members)}", f"payload {write(claims)}"]
-    for number, each in enumerate(tokens.read_disclosures(token.disclosures)):
+    tokens.read_header(token.protected, token.unprotected)
+    claims, given, hash_name = tokens.read_content(token)
+    lines = [f"header {write(carried(token.protected))}", f"payload {write(claims)}"]
+    for number, each in enumerate(given):
         kind = "element" if each.name is None else f"member {write(each.name)}"
-        lines.append(f"disclosure {number} {encoding.digest(each.text, hash_name)} {kind} {write(each.value)}")
-    return "\n".join(lines + ([] if token.binding is None else [f"binding {token.binding}"]))
+        lines.append(f"disclosure {number} {digest_of(each.text, hash_name)} {kind} {write(each.value)}")
+    return _lines(token, lines)
 
 def convert(form: str, token: tokens.Token) -> str:
     """Another serialization of a token, as it stands."""
     text = token.compact() if form == "compact" else token.as_json(form == "general")
-    if len(text.encode()) + 1 > FILE_MAX:  # The line with its end.
-        raise Refused(3)
+    refuse(3, len(text.encode()) + 1 > FILE_MAX)  # The line with its end.
     return text
 
 def feed(policy: files.Said, most: int, source: bytes, now: int) -> Answer:
     """A verdict for each line of the source that has ended within the bytes that are taken."""
     lines = source[:most].split(b"\n")
-    last = lines.pop()
-    if len(source) <= most and last:
-        lines.append(last)
-    said = []
+    if len(source) > most or not lines[-1]:
+        lines.pop()
+    said = ""
     for line in lines:
         try:
-            said.append(f"accepted {write(verify(policy, tokens.read_token(line), now))}\n")
+            said += f"accepted {write(verify(policy, tokens.read_token(line), now))}\n"
         except Refused as refusal:
-            said.append(f"{refusal.line}\n")
+            said += f"{refusal}\n"
     if len(source) > most:
-        return Answer(1, "".join(said).encode(), Refused(87).line)
-    return Answer(0, "".join([*said, f"lines {len(lines)}\n"]).encode(), "")
+        return Answer(1, said.encode(), str(Refused(87)))
+    return Answer(0, f"{said}lines {len(lines)}\n".encode(), "")
 
-def run(words: List[str], fetch: Callable[[str], Optional[bytes]], now: int, source: bytes = b"") -> Answer:
+def run(words: list[str], fetch: Callable[[str], bytes | None], now: int, source: bytes = b"") -> Answer:
     """What a run answers; fetch tells what a file has, or None where it cannot be read."""
     names = _file_words(words)
     if names is None:
         return Answer(2, b"", "usage")
-    data = []
-    for word, name in names:
-        fetched = fetch(name)
-        if fetched is None:
-            return Answer(3, b"", f"unread {word}")
-        data.append(fetched)
-    answers: Dict[str, Callable[[], str]] = {
+    data = [fetch(name) for _, name in names]
+    if None in data:
+        return Answer(3, b"", f"unread {names[data.index(None)][0]}")
+    answers: dict[str, Callable[[], str]] = {
         "split": lambda: split(tokens.read_token(data[0])),
         "show": lambda: show(tokens.read_token(data[0])),
         "verify": lambda: write(verify(files.read_policy(data[0]), tokens.read_token(data[1]), now)),
@@ -93,29 +87,20 @@ def run(words: List[str], fetch: Callable[[str], Optional[bytes]], now: int, sou
             return feed(files.read_policy(data[0]), int(words[2]), source, now)
         return Answer(0, f"{answers[words[0]]()}\n".encode(), "")
     except Unreadable as fault:
-        return Answer(6, b"", f"unreadable {2 if fault.args[0] == 'short' else 1} {fault.args[0]}")
+        return Answer(6, b"", f"unreadable {2 if fault.args[0] == 'short' else 1} {fault}")
     except Refused as refusal:
-        return Answer(1, b"", refusal.line)
+        return Answer(1, b"", str(refusal))
 
-def _file_words(words: List[str]) -> Optional[List[Tuple[int, str]]]:
+def _file_words(words: list[str]) -> list[tuple[int, str]] | None:
     """The words that name files, each with its number behind the command; None where the words are no command."""
-    command, behind = (words[0], words[1:]) if words else ("", [])
-    numbered = list(enumerate(behind, 1))
-    if any("\udc80" <= letter <= "\udcff" for word in words for letter in word):
-        return None  # A word that is not UTF-8: this is how Python hands its bytes on.
-    if command == "wallet":
-        return numbered if 2 <= len(behind) <= 65 else None
-    if len(behind) != {"split": 1, "show": 1, "gen": 1}.get(command, 2):
+    line, numbered = "\0".join(words), list(enumerate(words[1:], 1))
+    if not _LINE.fullmatch(line) or re.search("[\udc80-\udcff]", line):  # So Python hands on a word that is no UTF-8.
         return None
-    if command in ("gen", "feed"):
-        most = 3000 if command == "gen" else 1_073_741_824
-        good = re.fullmatch("[1-9][0-9]{0,9}", behind[-1]) and int(behind[-1]) <= most
-        return numbered[:-1] if good else None
-    if command == "convert":
-        return numbered[1:] if behind[0] in ("compact", "flat", "general") else None
-    return numbered if command in ("split", "show", "verify", "issue", "present", "audit") else None
+    if words[0] in _MOST:
+        return numbered[:-1] if int(words[-1]) <= _MOST[words[0]] else None
+    return numbered[1:] if words[0] == "convert" else numbered
 
-def fetch_file(name: str) -> Optional[bytes]:
+def fetch_file(name: str) -> bytes | None:
     """The first bytes of a file, one more than a file may have."""
     try:
         with open(name, "rb") as file:

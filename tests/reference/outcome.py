@@ -1,9 +1,9 @@
-"""How a run ends: the limits, the numbers and names of refusals, and the two ways in which a file is turned down."""
+"""How a run ends: the limits, the numbers and names of refusals, and the two ways in which a text is turned down."""
 
-from typing import Dict, Optional
+from collections.abc import Iterable
 
 FILE_MAX, COMPACT_MAX, ISSUE_MAX, COUNT_MAX, DEPTH_MAX = 16_777_216, 8_388_608, 8_380_416, 32_768, 100
-_ROWS: Dict[int, str] = {
+_ROWS = {
     1: "tooLong form tooMuch bindingMissing headerUnreadable headerCritical algRefused typeRefused issuerKeyUnknown "
        "badSignature payloadUnreadable hashUnknown disclosureUnreadable repeatedDisclosure reservedMisused "
        "repeatedDigest unreferencedDisclosure wrongShape reservedName nameClash tooDeep issuerRefused claimMissing "
@@ -18,12 +18,21 @@ _ROWS: Dict[int, str] = {
 NAMES = {number: name for first, names in _ROWS.items() for number, name in enumerate(names.split(), first)}
 
 class Refused(Exception):
-    """A condition that fails, or a refusal that applies: status 1."""
+    """A condition that fails, or a refusal that applies, by its line: status 1."""
 
-    def __init__(self, number: int, place: Optional[object] = None) -> None:
-        super().__init__(number, place)
+    def __init__(self, number: int, place: object = None) -> None:
+        super().__init__(f"refused {number} {NAMES[number]}" + ("" if place is None else f" at {place}"))
         self.number = number
-        self.line = f"refused {number} {NAMES[number]}" + ("" if place is None else f" at {place}")
 
 class Unreadable(Exception):
-    """A file that a user writes is not of its form, by the fault that is its argument: status 6."""
+    """JSON, or a file that a user writes, is not of its form, by the fault that is the argument: status 6."""
+
+def refuse(number: int, applies: object, place: object = None) -> None:
+    """Refuses by a number where it applies."""
+    if applies:
+        raise Refused(number, place)
+
+def refuse_first(number: int, applies: Iterable[object]) -> None:
+    """Refuses by a number at the first position where it applies."""
+    for position, here in enumerate(applies):
+        refuse(number, here, position)

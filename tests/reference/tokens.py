@@ -1,13 +1,13 @@
 """A token and its three serializations: RFC 9901 sections 4 and 8, RFC 7515 section 7; and what its parts carry."""
 
+from __future__ import annotations
 import re
+from collections import namedtuple
 from dataclasses import dataclass, field
-from typing import List, NamedTuple, Optional
+from outcome import COMPACT_MAX, COUNT_MAX, FILE_MAX, Refused, Unreadable, refuse
+from texts import HASHES, Members, carried, is_base64url, read, write
 
-import encoding
-from json_text import Members, NotJson, NotWhole, Tree, read, write
-from outcome import COMPACT_MAX, COUNT_MAX, FILE_MAX, Refused
-
+Disclosure = namedtuple("Disclosure", "text salt name value")  # The name is None for an element of an array.
 _L = "[A-Za-z0-9_-]+"
 JWT = re.compile(rf"{_L}\.{_L}\.{_L}")
 TOKEN = re.compile(rf"({_L})\.({_L})\.({_L})~((?:{_L}~)*)({_L}\.{_L}\.{_L})?")
@@ -22,8 +22,8 @@ class Token:
     protected: str
     payload: str
     signature: str
-    disclosures: List[str]
-    binding: Optional[str] = None
+    disclosures: list[str]
+    binding: str | None = None
     unprotected: Members = field(default_factory=dict)
 
     def hashed(self) -> str:
@@ -41,33 +41,18 @@ class Token:
                  "header": {**self.unprotected, "disclosures": self.disclosures, **bound}}
         return write({"payload": self.payload, **({"signatures": [entry]} if general else entry)})
 
-class Header(NamedTuple):
-    """What a protected header and an unprotected one say together."""
-
-    members: Members
-    alg: str
-    typ: Optional[str]
-    kid: Optional[str]
-    critical: bool
-
-class Disclosure(NamedTuple):
-    """What a disclosure says; the name is None for an element of an array."""
-
-    text: str
-    salt: Tree
-    name: Optional[str]
-    value: Tree
+    def showing(self, numbers: list[int]) -> Token:
+        """The issuer's part with some of the disclosures."""
+        return Token(self.protected, self.payload, self.signature, [self.disclosures[number] for number in numbers])
 
 def read_token(data: bytes) -> Token:
     """The token in a file, or the lowest of conditions 1 to 3 that fails."""
-    if len(data) > FILE_MAX:
-        raise Refused(1)
+    refuse(1, len(data) > FILE_MAX)
     data = data.strip(b" \t\n\r")
-    if data[:1] != b"{" and len(data) > COMPACT_MAX:
-        raise Refused(1)
-    token = _read_json(data) if data[:1] == b"{" else _read_compact(data.decode("latin-1"))
-    if len(token.disclosures) > COUNT_MAX or len(token.compact()) > COMPACT_MAX:
-        raise Refused(3)
+    is_json = data[:1] == b"{"
+    refuse(1, not is_json and len(data) > COMPACT_MAX)
+    token = _read_json(data) if is_json else _read_compact(data.decode("latin-1"))
+    refuse(3, len(token.disclosures) > COUNT_MAX or len(token.compact()) > COMPACT_MAX)
     return token
 
 def _read_compact(text: str) -> Token:
@@ -80,69 +65,48 @@ def _read_json(data: bytes) -> Token:
     """RFC 9901 section 8, RFC 7515 section 7.2; the first place of the table that applies is named."""
     try:
         whole = read(data)
-    except (NotJson, NotWhole) as fault:
-        raise Refused(2, "notJson" if isinstance(fault, NotJson) else "notWhole") from None
+    except Unreadable as fault:
+        raise Refused(2, fault) from None
     payload = _text_member(whole, "payload")
     entries = whole.get("signatures", [whole])
     beside = "signatures" in whole and not {"protected", "signature", "header"}.isdisjoint(whole)
-    if beside or not isinstance(entries, list) or not entries or not all(isinstance(each, dict) for each in entries):
-        raise Refused(2, "wrong signatures")
+    are_objects = isinstance(entries, list) and entries and all(isinstance(each, dict) for each in entries)
+    refuse(2, beside or not are_objects, "wrong signatures")
     protected, signature = _text_member(entries[0], "protected"), _text_member(entries[0], "signature")
     header = entries[0].get("header", {})
-    if not isinstance(header, dict):
-        raise Refused(2, "wrong header")
-    disclosures, binding = header.get("disclosures", []), header.get("kb_jwt", "a.b.c")
-    if not isinstance(disclosures, list) or not all(map(encoding.is_base64url, disclosures)):
-        raise Refused(2, "wrong disclosures")
-    if not isinstance(binding, str) or not JWT.fullmatch(binding):
-        raise Refused(2, "wrong kb_jwt")
+    refuse(2, not isinstance(header, dict), "wrong header")
+    texts, binding = header.get("disclosures", []), header.get("kb_jwt", "a.b.c")
+    refuse(2, not isinstance(texts, list) or not all(map(is_base64url, texts)), "wrong disclosures")
+    refuse(2, not isinstance(binding, str) or not JWT.fullmatch(binding), "wrong kb_jwt")
     for number, each in enumerate(entries[1:], 1):
         stray = each.get("header")
-        if isinstance(stray, dict) and ("disclosures" in stray or "kb_jwt" in stray):
-            raise Refused(2, f"stray {number}")
+        refuse(2, isinstance(stray, dict) and ("disclosures" in stray or "kb_jwt" in stray), f"stray {number}")
     others = {name: value for name, value in header.items() if name not in ("disclosures", "kb_jwt")}
-    return Token(protected, payload, signature, disclosures, header.get("kb_jwt"), others)
+    return Token(protected, payload, signature, texts, header.get("kb_jwt"), others)
 
 def _text_member(members: Members, name: str) -> str:
-    if name not in members:
-        raise Refused(2, f"missing {name}")
-    if not encoding.is_base64url(members[name]):
-        raise Refused(2, f"wrong {name}")
+    refuse(2, name not in members, f"missing {name}")
+    refuse(2, not is_base64url(members[name]), f"wrong {name}")
     return members[name]
 
-def read_header(protected: str, unprotected: Members) -> Header:
-    """RFC 7515 section 4; or condition 5, where the two say nothing of the form of a header."""
-    members = encoding.carried_object(protected)
-    if members is None or not unprotected.keys().isdisjoint(members):
-        raise Refused(5)
-    both = {"kid": unprotected["kid"], **members} if "kid" in unprotected else members
-    if not isinstance(both.get("alg"), str) or not all(isinstance(both.get(name, ""), str) for name in ("typ", "kid")):
-        raise Refused(5)
-    return Header(members, both["alg"], both.get("typ"), both.get("kid"), "crit" in members or "crit" in unprotected)
+def read_header(protected: str, unprotected: Members) -> Members:
+    """The protected header with kid and crit of the unprotected one (RFC 7515 section 4); or condition 5."""
+    members = carried(protected)
+    refuse(5, members is None or not unprotected.keys().isdisjoint(members))
+    both = {**{name: unprotected[name] for name in ("kid", "crit") if name in unprotected}, **members}
+    refuse(5, not all(isinstance(each, str) for each in (both.get("alg"), both.get("typ", ""), both.get("kid", ""))))
+    return both
 
-def read_payload(text: str) -> Members:
-    """The claims that are signed, or condition 11."""
-    claims = encoding.carried_object(text)
-    if claims is None:
-        raise Refused(11)
-    return claims
-
-def hash_of(claims: Members) -> str:
-    """The hash that _sd_alg names, or SHA-256 (RFC 9901 section 4.1.1); or condition 12."""
-    name = claims.get("_sd_alg", "sha-256")
-    if not isinstance(name, str) or name not in encoding.HASHES:
-        raise Refused(12)
-    return name
-
-def read_disclosures(texts: List[str]) -> List[Disclosure]:
-    """Each disclosure (RFC 9901 section 4.2), or condition 13 at the first that is not read."""
+def read_content(token: Token) -> tuple[Members, list[Disclosure], str]:
+    """The claims that are signed, the disclosures (RFC 9901 section 4.2) and the hash; or condition 11, 12 or 13."""
+    claims = carried(token.payload)
+    refuse(11, claims is None)
+    hash_name = claims.get("_sd_alg", "sha-256")  # RFC 9901 section 4.1.1.
+    refuse(12, not isinstance(hash_name, str) or hash_name not in HASHES)
     given = []
-    for number, text in enumerate(texts):
-        try:
-            parts = encoding.carried(text)
-        except (NotJson, NotWhole):
-            parts = None
-        if not isinstance(parts, list) or not (len(parts) == 2 or (len(parts) == 3 and isinstance(parts[1], str))):
-            raise Refused(13, number)
-        given.append(Disclosure(text, parts[0], parts[1] if len(parts) == 3 else None, parts[-1]))
-    return given
+    for number, text in enumerate(token.disclosures):
+        parts = carried(text, list) or []
+        is_member = len(parts) == 3 and isinstance(parts[1], str)
+        refuse(13, not is_member and len(parts) != 2, number)
+        given.append(Disclosure(text, parts[0], parts[1] if is_member else None, parts[-1]))
+    return claims, given, hash_name
