@@ -224,12 +224,7 @@ fn read_signed<'a>(
     ensures refused { IfErr result (λ e. OnFault e (IsLowest (TokenFails token.now (asked keys.now algs.now None)))) }
     ensures unopened { IfErr result (λ e. OnFault e IsUnopened) }
 {
-    let rules = Rules {
-        keys,
-        algs,
-        typ: None,
-    };
-    Content::read(alloc, token, &rules)
+    Content::read(alloc, token, &Rules::of_keys(keys, algs, None))
 }
 
 /// Judges a token that is held by the conditions 5 to 13, but 8, RFC 9901 section 7.3: it may be signed by one of the

@@ -10,7 +10,6 @@ use Rattle.compact_form.specs.Faults.{unplaced}
 use Rattle.compact_form.specs.Passing.{Passes}
 use Rattle.compact_form.proofs.Lowest.{holds_too, none_fails, refuse_unplaced}
 use Rattle.disclosure.specs.Digest.{digest_of}
-use Rattle.hmac_sign.specs.Hmac.{IsGoodText, hs256_key}
 use Rattle.jws_part.specs.declared.header.Header.{Header}
 use Rattle.jws_part.specs.Header.{text_tree}
 use Rattle.jws_part.specs.Part.{IsBody, IsNoObject}
@@ -18,8 +17,8 @@ use Rattle.jws_part.proofs.Headers as headers
 use Rattle.jws_part.proofs.Parts as bodies
 use Rattle.key_binding.specs.Binding.{Claims}
 use Rattle.claim_tree.specs.Lists.{In}
-use Rattle.key_binding.specs.Judged.{Judged, holder_key, HasBindingHeader, HasClaims, PayloadSays}
-use Rattle.key_binding.specs.BindingConditions.{BindingFails, OfClaims, IsStale, IsEarly, IsTimeRefused}
+use Rattle.key_binding.specs.Judged.{Judged, HasBindingHeader, HasClaims, PayloadSays}
+use Rattle.key_binding.specs.BindingConditions.{BindingFails, OfClaims, IsHolderAlgRefused, IsHolderUnknown, IsBadBindingSignature, IsStale, IsEarly, IsTimeRefused}
 
 -- each has a number from 27 to 38
 pub binding_numbers : (j : Judged) (c : Condition) (place : Place) → BindingFails j c place → (26 < number_of c) × (number_of c < 39)
@@ -48,7 +47,7 @@ module _ (j : Judged) where
   one_body : (a b : Tree) → IsBody j.token.payload a → IsBody j.token.payload b → a ≡ b
   one_body a b = bodies.one_body j.token.payload a b
 
-  one_header : (a b : Header) → HasBindingHeader j.token a → HasBindingHeader j.token b → a ≡ b
+  pub one_header : (a b : Header) → HasBindingHeader j.token a → HasBindingHeader j.token b → a ≡ b
   one_header a b = headers.one_header j.token.protected no_members a b
 
   one_claims : (a b : Claims) → HasClaims j.token a → HasClaims j.token b → a ≡ b
@@ -63,8 +62,8 @@ module _ (j : Judged) where
   pub start : Passes 27 (BindingFails j)
   start c place h = let n = binding_numbers j c place h in omega (arith, n.0)
 
-  pub at28 : (key : List ℕ) → holder_key j.policy.keys j.payload ≡ Some key → Passes 28 (BindingFails j)
-  at28 key is = holds_too (BindingFails j) Condition.HolderKeyUnknown start (λ place w. let both : Some key ≡ None = sym is ∙ w.1 in cc both)
+  pub at28 : (IsHolderUnknown j.rules.holders j → ⊥) → Passes 28 (BindingFails j)
+  at28 known = holds_too (BindingFails j) Condition.HolderKeyUnknown start (λ place w. known w.1)
 
   no_refusal : (h : Header) → HasBindingHeader j.token h → (place : Place) → BindingFails j Condition.BindingHeader place → ⊥
   no_refusal h has place (is, inl w) = headers.read_not_unreadable j.token.protected no_members h has w
@@ -73,22 +72,15 @@ module _ (j : Judged) where
   pub at29 : Passes 28 (BindingFails j) → (h : Header) → HasBindingHeader j.token h → Passes 29 (BindingFails j)
   at29 passes h has = holds_too (BindingFails j) Condition.BindingHeader passes (no_refusal h has)
 
-  pub at30 : Passes 29 (BindingFails j) → (h : Header) → HasBindingHeader j.token h → h.alg ≡ codes "HS256" → Passes 30 (BindingFails j)
-  at30 passes h has alg = holds_too (BindingFails j) Condition.BindingAlg passes (λ place (is, (k, other, differs)). differs (subst (λ (x : Header). x.alg ≡ codes "HS256") (one_header h k has other) alg))
+  pub at30 : Passes 29 (BindingFails j) → (h : Header) → HasBindingHeader j.token h → (IsHolderAlgRefused j.rules.holders h.alg → ⊥) → Passes 30 (BindingFails j)
+  at30 passes h has taken = holds_too (BindingFails j) Condition.BindingAlg passes (λ place (is, (k, other, refused)). taken (subst (λ (x : Header). IsHolderAlgRefused j.rules.holders x.alg) (one_header k h other has) refused))
 
-  at31 : Passes 30 (BindingFails j) → (key : List ℕ) → holder_key j.policy.keys j.payload ≡ Some key → IsGoodText (hs256_key key) j.token.protected j.token.payload j.token.signature → Passes 31 (BindingFails j)
-  at31 passes key is good = holds_too (BindingFails j) Condition.BindingSignature passes go
-    where
-      go : (place : Place) → BindingFails j Condition.BindingSignature place → ⊥
-      go place (at, (other, other_is, bad)) =
-          let both : Some other ≡ Some key = sym other_is ∙ is in
-          let same : other ≡ key = cc both in
-          bad (subst (λ x. IsGoodText (hs256_key x) j.token.protected j.token.payload j.token.signature) (sym same) good)
+  at31 : Passes 30 (BindingFails j) → (IsBadBindingSignature j.rules.holders j → ⊥) → Passes 31 (BindingFails j)
+  at31 passes good = holds_too (BindingFails j) Condition.BindingSignature passes (λ place w. good w.1)
 
   -- up to the type that the header names, where the signature is good
-  pub at_type : (key : List ℕ) → holder_key j.policy.keys j.payload ≡ Some key → (h : Header) → HasBindingHeader j.token h → h.alg ≡ codes "HS256" → IsGoodText (hs256_key key) j.token.protected j.token.payload j.token.signature
-      → Passes 31 (BindingFails j)
-  at_type key is h has alg good = at31 (at30 (at29 (at28 key is) h has) h has alg) key is good
+  pub at_type : (IsHolderUnknown j.rules.holders j → ⊥) → (h : Header) → HasBindingHeader j.token h → (IsHolderAlgRefused j.rules.holders h.alg → ⊥) → (IsBadBindingSignature j.rules.holders j → ⊥) → Passes 31 (BindingFails j)
+  at_type known h has taken good = at31 (at30 (at29 (at28 known) h has) h has taken) good
 
   pub at32 : Passes 31 (BindingFails j) → (h : Header) → HasBindingHeader j.token h → h.typ ≡ Some (codes "kb+jwt") → Passes 32 (BindingFails j)
   at32 passes h has typ = holds_too (BindingFails j) Condition.BindingType passes (λ place (is, (k, other, differs)). differs (subst (λ (x : Header). x.typ ≡ Some (codes "kb+jwt")) (one_header h k has other) typ))
@@ -100,17 +92,17 @@ module _ (j : Judged) where
   no_claims : (P : Claims → Type 0) (claims : Claims) → HasClaims j.token claims → (P claims → ⊥) → (place : Place) → (place ≡ Nowhere) × OfClaims j P → ⊥
   no_claims P claims has none place (is, (other, other_has, p)) = none (subst P (one_claims other claims other_has has) p)
 
-  pub at34 : Passes 33 (BindingFails j) → (claims : Claims) → HasClaims j.token claims → (IsStale claims.iat j.policy.max_age j.skew j.now → ⊥) → Passes 34 (BindingFails j)
-  at34 passes claims has fresh = holds_too (BindingFails j) Condition.BindingStale passes (no_claims (λ x. IsStale x.iat j.policy.max_age j.skew j.now) claims has fresh)
+  pub at34 : Passes 33 (BindingFails j) → (claims : Claims) → HasClaims j.token claims → (IsStale claims.iat j.rules.max_age j.skew j.now → ⊥) → Passes 34 (BindingFails j)
+  at34 passes claims has fresh = holds_too (BindingFails j) Condition.BindingStale passes (no_claims (λ x. IsStale x.iat j.rules.max_age j.skew j.now) claims has fresh)
 
   pub at35 : Passes 34 (BindingFails j) → (claims : Claims) → HasClaims j.token claims → (IsEarly claims.iat j.skew j.now → ⊥) → Passes 35 (BindingFails j)
   at35 passes claims has made = holds_too (BindingFails j) Condition.BindingEarly passes (no_claims (λ x. IsEarly x.iat j.skew j.now) claims has made)
 
-  pub at36 : Passes 35 (BindingFails j) → (claims : Claims) → HasClaims j.token claims → claims.nonce ≡ j.policy.nonce → Passes 36 (BindingFails j)
-  at36 passes claims has same = holds_too (BindingFails j) Condition.NonceDiffers passes (no_claims (λ x. x.nonce ≢ j.policy.nonce) claims has (λ differs. differs same))
+  pub at36 : Passes 35 (BindingFails j) → (claims : Claims) → HasClaims j.token claims → claims.nonce ≡ j.rules.nonce → Passes 36 (BindingFails j)
+  at36 passes claims has same = holds_too (BindingFails j) Condition.NonceDiffers passes (no_claims (λ x. x.nonce ≢ j.rules.nonce) claims has (λ differs. differs same))
 
-  pub at37 : Passes 36 (BindingFails j) → (claims : Claims) → HasClaims j.token claims → In claims.aud j.policy.aud → Passes 37 (BindingFails j)
-  at37 passes claims has same = holds_too (BindingFails j) Condition.AudienceDiffers passes (no_claims (λ x. In x.aud j.policy.aud → ⊥) claims has (λ differs. differs same))
+  pub at37 : Passes 36 (BindingFails j) → (claims : Claims) → HasClaims j.token claims → In claims.aud j.rules.aud → Passes 37 (BindingFails j)
+  at37 passes claims has same = holds_too (BindingFails j) Condition.AudienceDiffers passes (no_claims (λ x. In x.aud j.rules.aud → ⊥) claims has (λ differs. differs same))
 
   pub at38 : Passes 37 (BindingFails j) → (claims : Claims) → HasClaims j.token claims → claims.sd_hash ≡ digest_of j.hash j.hashed → Passes 38 (BindingFails j)
   at38 passes claims has same = holds_too (BindingFails j) Condition.HashDiffers passes (no_claims (λ x. x.sd_hash ≢ digest_of j.hash j.hashed) claims has (λ differs. differs same))

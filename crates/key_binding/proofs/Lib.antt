@@ -1,4 +1,5 @@
 pub mod BindingSteps
+pub mod HolderSteps
 pub mod BindingTests
 pub mod Bindings
 pub mod Accepted

@@ -10,14 +10,34 @@ use Rattle.jws_part.specs.Header.{IsHeader, text_tree}
 use Rattle.jws_part.specs.Part.{IsBody}
 use Rattle.jws_part.specs.Times.{IsMoment}
 use Rattle.key_binding.specs.Binding.{Claims}
+use Rattle.key_binding.specs.Caller.{Caller}
 use Rattle.key_binding.specs.declared.policy.BindingPolicy.{BindingPolicy}
+
+-- who may sign a key binding token: the holder whose key the processed payload names, with HS256, or whom a caller says that
+-- checks signatures itself
+pub data Holders : Type 0 where
+  of_keys : List NamedKey → Holders
+  of_caller : Caller → Holders
+
+-- what is asked of a key binding token
+pub record BindingRules : Type 0 where
+  pub holders : Holders
+  -- the audiences of which it is to be for one, and the nonce
+  pub aud : List Text
+  pub nonce : Text
+  -- how old it may be, in seconds
+  pub max_age : ℕ
+
+-- the rules of a policy
+abbrev pub binding_rules : BindingPolicy → BindingRules
+binding_rules policy = record { holders = of_keys policy.keys; aud = policy.aud; nonce = policy.nonce; max_age = policy.max_age }
 
 -- a key binding token, and what it is judged by
 pub record Judged : Type 0 where
   pub token : JwtParts
   -- the processed payload of the token that it is sent with
   pub payload : Tree
-  pub policy : BindingPolicy
+  pub rules : BindingRules
   -- by how many seconds clocks may differ
   pub skew : ℕ
   -- the hash of the token that it is sent with, and its text up to and with the last tilde
@@ -26,8 +46,8 @@ pub record Judged : Type 0 where
   -- in seconds since 1970
   pub now : ℕ
 
-abbrev pub judged : JwtParts → Tree → BindingPolicy → ℕ → HashAlg → Text → ℕ → Judged
-judged token payload policy skew hash hashed now = record { token = token; payload = payload; policy = policy; skew = skew; hash = hash; hashed = hashed; now = now }
+abbrev pub judged : JwtParts → Tree → BindingRules → ℕ → HashAlg → Text → ℕ → Judged
+judged token payload rules skew hash hashed now = record { token = token; payload = payload; rules = rules; skew = skew; hash = hash; hashed = hashed; now = now }
 
 -- the name of the holder's key: the text `kid` of the object `cnf` (RFC 7800 section 3.4)
 abbrev pub holder_kid : Tree → Option Text

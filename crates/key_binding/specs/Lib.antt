@@ -1,4 +1,6 @@
 pub mod Binding
+pub mod Caller
+pub mod CallerSeen
 pub mod Judged
 pub mod BindingConditions
 pub mod Unsigned

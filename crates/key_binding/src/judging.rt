@@ -1,24 +1,28 @@
 // The conditions 27 to 38, in their order.
-ghost use Rattle.std.specs.Prelude.{◌≡◌, ◌↔◌, Some, codes, IsTrue, OnOk, IfOk, IfErr, IsErrOf};
+ghost use Rattle.std.specs.Prelude.{◌≡◌, ◌↔◌, Some, codes, IsTrue, OnOk, IfOk, IfErr, IfSome, IfNone, IsErrOf};
 ghost use Rattle.std.specs.Option.{option_copied};
 ghost use Rattle.claim_tree.specs.Tree.{InRange, no_members};
 ghost use Rattle.claim_tree.specs.View.{tree_of};
 ghost use Rattle.compact_form.specs.Condition.{number_of};
+ghost use Rattle.compact_form.specs.Views.{jwt_of};
 ghost use Rattle.compact_form.specs.declared.condition.Condition.{Condition};
 ghost use Rattle.compact_form.specs.Lowest.{NoneFails};
 ghost use Rattle.compact_form.specs.Passing.{Passes};
 ghost use Rattle.disclosure.specs.Digest.{digest_of};
 ghost use Rattle.jws_part.specs.Header.{IsHeader, IsHeaderUnreadable, IsHeaderCritical};
 ghost use Rattle.jws_part.specs.Part.{IsBody};
-ghost use Rattle.key_binding.specs.Judged.{judged, holder_key as holder_key_of, HasBindingHeader, HasClaims};
-ghost use Rattle.key_binding.specs.JudgedSteps.{judged_of};
-ghost use Rattle.key_binding.specs.BindingConditions.{BindingFails, IsStale, IsEarly, IsTimeRefused};
+ghost use Rattle.key_binding.specs.Caller.{Tells};
+ghost use Rattle.key_binding.specs.Judged.{judged, binding_rules, HasBindingHeader, HasClaims};
+ghost use Rattle.key_binding.specs.JudgedSteps.{judged_of, IsHolder, IsAlgRefusedBy, IsUnknownBy, IsBadBy};
+ghost use Rattle.key_binding.specs.BindingConditions.{BindingFails, IsHolderUnknown, IsStale, IsEarly, IsTimeRefused};
 ghost use Rattle.key_binding.specs.BindingCalls.{IsLowestBinding, IsNumberOf, OnBindingFault, OnBoundFails};
 ghost use Rattle.key_binding.specs.Read.{claims_of};
 
 use crate::holder::holder_key;
 use crate::reading::{Claims, read_claims};
-use crate::{BindingError, BindingPolicy, BoundError, is_among};
+use crate::{
+    BindingError, BindingPolicy, BindingRules, BoundError, Caller, Holders, SignatureAnswer, is_among,
+};
 use claim_tree::{JsonReader, Tree, TreeMap};
 use compact_form::{Condition, JwtParts, JwtView};
 use disclosure::{HashAlg, digest};
@@ -38,7 +42,7 @@ pub struct Bound<'a> {
     /// The processed payload of the token that it is sent with.
     pub payload: &'a Tree,
     /// What the verifier wants.
-    pub policy: &'a BindingPolicy,
+    pub rules: BindingRules<'a>,
     /// By how many seconds clocks may differ.
     pub skew: u32,
     /// The hash of the token that it is sent with.
@@ -64,13 +68,13 @@ pub fn check_binding(
     hashed: &str,
     now: u64,
 ) -> Result<(), BindingError>
-    ensures passes { OnOk result (NoneFails (BindingFails (judged token.now (tree_of payload.now) policy.now skew hash hashed.now now))) }
-    ensures refused { IfErr result (λ e. OnBindingFault e (IsNumberOf (IsLowestBinding (judged token.now (tree_of payload.now) policy.now skew hash hashed.now now)))) }
+    ensures passes { OnOk result (NoneFails (BindingFails (judged token.now (tree_of payload.now) (binding_rules policy.now) skew hash hashed.now now))) }
+    ensures refused { IfErr result (λ e. OnBindingFault e (IsNumberOf (IsLowestBinding (judged token.now (tree_of payload.now) (binding_rules policy.now) skew hash hashed.now now)))) }
 {
     let bound = Bound {
         token: token.view(),
         payload,
-        policy,
+        rules: policy.rules(),
         skew,
         hash,
         hashed,
@@ -92,13 +96,33 @@ pub fn check_bound(
     ensures passes { OnOk result (NoneFails (BindingFails (judged_of bound.entry))) }
     ensures refused { IfErr result (λ e. OnBoundFails e (IsLowestBinding (judged_of bound.entry))) }
 {
-    let Some(key) = holder_key(&bound.policy.keys, bound.payload) else {
+    let Some(holder) = holder_of(bound) else {
         return Err(BoundError::Fails(Condition::HolderKeyUnknown));
     };
-    if let Err(error) = check_signed(alloc, reader, bound, key) {
+    if let Err(error) = check_signed(alloc, reader, bound, holder) {
         return Err(error);
     }
     check_payload(alloc, reader, bound)
+}
+
+// What checks the signature of the holder.
+#[derive(Clone, Copy)]
+enum Holder<'a> {
+    // the holder's key
+    Key(&'a Hs256Key),
+    // a caller that checks signatures itself
+    Caller(Caller<'a>),
+}
+
+// What checks the signature, where it is a caller, or the key is known that the payload names.
+fn holder_of(bound: Bound<'_>) -> Option<Holder<'_>>
+    ensures some { IfSome result (IsHolder (judged_of bound.entry).rules.holders (judged_of bound.entry).payload) }
+    ensures none { IfNone result (IsHolderUnknown (judged_of bound.entry).rules.holders (judged_of bound.entry)) }
+{
+    match bound.rules.holders {
+        Holders::Keys(keys) => Some(Holder::Key(holder_key(keys, bound.payload)?)),
+        Holders::Caller(caller) => Some(Holder::Caller(caller)),
+    }
 }
 
 fn is_binding_type(typ: Option<&TextBox>) -> bool
@@ -119,54 +143,82 @@ fn header_of(alloc: Global, reader: &mut JsonReader, protected: &str) -> Result<
     read_header_with(alloc, reader, protected, &TreeMap::new(alloc))
 }
 
-// The conditions 28 to 31: its header and its signature.
+// The conditions 27 to 31, where what checks the signature is known: its header and its signature.
 fn check_signed(
     alloc: Global,
     reader: &mut JsonReader,
     bound: Bound<'_>,
-    key: &Hs256Key,
+    holder: Holder<'_>,
 ) -> Result<(), BoundError>
-    requires key { holder_key_of bound.policy.now.keys (tree_of bound.payload.now) ≡ Some key.now }
+    requires holder { IsHolder (judged_of bound).rules.holders (judged_of bound).payload holder }
     ensures ok { OnOk result (Passes (number_of Condition.BindingPayload) (BindingFails (judged_of bound.entry))) }
     ensures refused { IfErr result (λ e. OnBoundFails e (IsLowestBinding (judged_of bound.entry))) }
 {
     match header_of(alloc, reader, bound.token.protected) {
-        Ok(header) => check_header(alloc, bound, key, &header),
+        Ok(header) => check_header(alloc, bound, holder, &header),
         Err(HeaderError::Memory) => Err(BoundError::Memory),
         Err(HeaderError::Unreadable) => Err(BoundError::Fails(Condition::BindingHeader)),
         Err(HeaderError::Critical) => Err(BoundError::Fails(Condition::BindingHeader)),
     }
 }
 
-// The conditions 29 to 31, of a header that is read.
-fn check_header(
-    alloc: Global,
-    bound: Bound<'_>,
-    key: &Hs256Key,
-    header: &Header,
-) -> Result<(), BoundError>
-    requires key { holder_key_of bound.policy.now.keys (tree_of bound.payload.now) ≡ Some key.now }
-    requires read { HasBindingHeader (judged_of bound).token header.now }
-    ensures ok { OnOk result (Passes (number_of Condition.BindingPayload) (BindingFails (judged_of bound.entry))) }
-    ensures refused { IfErr result (λ e. OnBoundFails e (IsLowestBinding (judged_of bound.entry))) }
+// Whether the holder may not sign with this algorithm.
+fn is_alg_refused(holder: Holder<'_>, alg: &str) -> bool
+    ensures { IsTrue result ↔ IsAlgRefusedBy holder.entry alg.now }
 {
-    if header.alg.as_str() != "HS256" {
-        return Err(BoundError::Fails(Condition::BindingAlg));
+    match holder {
+        Holder::Key(_) => alg != "HS256",
+        Holder::Caller(caller) => caller.refuses(alg),
     }
+}
+
+// What there is to say of the signature.
+fn answer_on(
+    alloc: Global,
+    holder: Holder<'_>,
+    token: JwtView<'_>,
+) -> Result<SignatureAnswer, NoMemory>
+    ensures { IfOk result (λ answer. Tells answer (IsUnknownBy holder.entry (jwt_of token.entry)) (IsBadBy holder.entry (jwt_of token.entry))) }
+{
+    let key = match holder {
+        Holder::Key(key) => key,
+        Holder::Caller(caller) => return caller.tells(alloc, token.signature),
+    };
     let JwtView {
         protected,
         payload,
         signature,
-    } = bound.token;
-    let good = match key
+    } = token;
+    if key
         .as_key()
-        .check_text(alloc, protected, payload, signature)
+        .check_text(alloc, protected, payload, signature)?
     {
-        Ok(good) => good,
+        Ok(SignatureAnswer::Good)
+    } else {
+        Ok(SignatureAnswer::Bad)
+    }
+}
+
+// The conditions 27 and 29 to 31, of a header that is read.
+fn check_header(
+    alloc: Global,
+    bound: Bound<'_>,
+    holder: Holder<'_>,
+    header: &Header,
+) -> Result<(), BoundError>
+    requires holder { IsHolder (judged_of bound).rules.holders (judged_of bound).payload holder }
+    requires read { HasBindingHeader (judged_of bound).token header.now }
+    ensures ok { OnOk result (Passes (number_of Condition.BindingPayload) (BindingFails (judged_of bound.entry))) }
+    ensures refused { IfErr result (λ e. OnBoundFails e (IsLowestBinding (judged_of bound.entry))) }
+{
+    if is_alg_refused(holder, header.alg.as_str()) {
+        return Err(BoundError::Fails(Condition::BindingAlg));
+    }
+    match answer_on(alloc, holder, bound.token) {
+        Ok(SignatureAnswer::Good) => {}
+        Ok(SignatureAnswer::Bad) => return Err(BoundError::Fails(Condition::BindingSignature)),
+        Ok(SignatureAnswer::Unknown) => return Err(BoundError::Fails(Condition::HolderKeyUnknown)),
         Err(_) => return Err(BoundError::Memory),
-    };
-    if !good {
-        return Err(BoundError::Fails(Condition::BindingSignature));
     }
     if !is_binding_type(header.typ.as_ref()) {
         return Err(BoundError::Fails(Condition::BindingType));
@@ -229,16 +281,16 @@ fn check_claims(bound: Bound<'_>, claims: Claims<'_>) -> Result<(), Condition>
     ensures ok { OnOk result (Passes (number_of Condition.HashDiffers) (BindingFails (judged_of bound.entry))) }
     ensures refused { IfErr result (IsLowestBinding (judged_of bound.entry)) }
 {
-    if is_stale(&claims, bound.policy.max_age, bound.skew, bound.now) {
+    if is_stale(&claims, bound.rules.max_age, bound.skew, bound.now) {
         return Err(Condition::BindingStale);
     }
     if is_early(&claims, bound.skew, bound.now) {
         return Err(Condition::BindingEarly);
     }
-    if claims.nonce != bound.policy.nonce.as_str() {
+    if claims.nonce != bound.rules.nonce.as_str() {
         return Err(Condition::NonceDiffers);
     }
-    if !is_among(&bound.policy.aud, claims.aud) {
+    if !is_among(&bound.rules.aud, claims.aud) {
         return Err(Condition::AudienceDiffers);
     }
     Ok(())

@@ -11,18 +11,20 @@ ghost use Rattle.hmac_sign.specs.Hmac.{IsGood, hs256_key};
 ghost use Rattle.key_binding.specs.Binding.{IsBinding, IsReadBack};
 ghost use Rattle.key_binding.specs.BindingCalls.{IsLowestBinding};
 ghost use Rattle.key_binding.specs.BindingConditions.{BindingFails};
-ghost use Rattle.key_binding.specs.Judged.{Judged, holder_key};
+ghost use Rattle.hmac_sign.specs.declared.key_set.NamedKey.{NamedKey};
+ghost use Rattle.key_binding.specs.Judged.{Judged, of_keys, holder_key};
 ghost use Rattle.sd_outside.specs.Limits.{binding_text_max};
 
 /// What is bound is accepted: by the holder's key, for one of these audiences and this nonce, and over this text, as
 /// long as it is fresh. It is so at the very second of each limit.
 pub fn bound_is_accepted()
-    ensures { (key aud : List ℕ) (iat : ℕ) (j : Judged)
-        → IsBinding (IsGood (hs256_key key)) j.hash j.hashed aud j.policy.nonce iat j.token
-        → IsReadBack j.hash j.hashed aud j.policy.nonce iat j.token
-        → In aud j.policy.aud
-        → holder_key j.policy.keys j.payload ≡ Some key
-        → j.now ≤ iat + j.policy.max_age + j.skew
+    ensures { (keys : List NamedKey) (key aud : List ℕ) (iat : ℕ) (j : Judged)
+        → IsBinding (IsGood (hs256_key key)) j.hash j.hashed aud j.rules.nonce iat j.token
+        → IsReadBack j.hash j.hashed aud j.rules.nonce iat j.token
+        → In aud j.rules.aud
+        → j.rules.holders ≡ of_keys keys
+        → holder_key keys j.payload ≡ Some key
+        → j.now ≤ iat + j.rules.max_age + j.skew
         → iat ≤ j.now + j.skew
         → NoneFails (BindingFails j) }
 {}

@@ -7,6 +7,7 @@
 #![tactic(auto)]
 
 mod among;
+mod caller;
 mod errors;
 mod holder;
 mod judging;
@@ -17,9 +18,10 @@ mod short_text;
 mod writing;
 
 pub use among::is_among;
+pub use caller::{Caller, SignatureAnswer};
 pub use errors::{BindError, BindingError, BoundError};
 pub use holder::holder_kid;
 pub use judging::{Bound, check_binding, check_bound};
-pub use policy::BindingPolicy;
+pub use policy::{BindingPolicy, BindingRules, Holders};
 pub use short_text::{BINDING_TEXT_MAX, short_text_in};
 pub use writing::bind;

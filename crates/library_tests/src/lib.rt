@@ -13,6 +13,8 @@ mod holder_tests;
 #[cfg(test)]
 mod issuer_tests;
 #[cfg(test)]
+mod judge_tests;
+#[cfg(test)]
 mod look_up_tests;
 #[cfg(test)]
 mod verifier_tests;

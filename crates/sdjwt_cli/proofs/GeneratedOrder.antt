@@ -12,7 +12,7 @@ use Rattle.compact_form.specs.Lowest.{NoneFails}
 use Rattle.compact_form.proofs.Lowest.{holds_too, none_fails}
 use Rattle.jws_part.specs.Times.{IsTimeUnreadable}
 use Rattle.marked_tree.specs.Paths.{Path, is_among, same_path, below, chosen}
-use Rattle.verifier_core.specs.Verdict.{ClaimFails}
+use Rattle.verifier_core.specs.Verdict.{ClaimFails, demands_of}
 use Rattle.verifier_core.proofs.ClaimSteps.{claim_numbers, before_missing, before_times, before_expiry, before_start}
 use Rattle.issuer_core.specs.Digests.{marked_claims}
 use Rattle.sdjwt_cli.specs.Generated.{number, member_name, member_value, members_below, paths_below, hidden_below, to_a, to_second, generated, generated_key, generated_ask, generated_policy}
@@ -112,16 +112,16 @@ no_start n = not_shown (codes "nbf") (λ i. refl) (λ i. refl) n
 absent : (o : Option Tree) (t : Tree) → o ≡ None → o ≡ Some t → ⊥
 absent o t none some = cc (sym none ∙ some)
 
-claims_hold : (n : ℕ) → NoneFails (ClaimFails (shown_for (marked_claims (generated n)) (generated_ask n).want) generated_policy 0)
+claims_hold : (n : ℕ) → NoneFails (ClaimFails (shown_for (marked_claims (generated n)) (generated_ask n).want) (demands_of generated_policy) 0)
 claims_hold n =
     let shown = shown_for (marked_claims (generated n)) (generated_ask n).want in
-    let issuer = before_missing shown generated_policy 0 (λ h. cc h.1) in
-    let required = before_times shown generated_policy 0 issuer (λ i name is. absurd is) in
-    let readable = before_expiry shown generated_policy 0 required unreadable in
-    let fresh = before_start shown generated_policy 0 readable (λ late. absent (get shown (codes "exp")) _ (no_expiry n) late.1) in
-    none_fails (ClaimFails shown generated_policy 0) 27
-    (holds_too (ClaimFails shown generated_policy 0) Condition.NotYet fresh (λ place h. absent (get shown (codes "nbf")) _ (no_start n) h.1.1))
-    (λ c place h. let range = claim_numbers shown generated_policy 0 c place h in range.1)
+    let issuer = before_missing shown (demands_of generated_policy) 0 (λ h. cc h.1) in
+    let required = before_times shown (demands_of generated_policy) 0 issuer (λ i name is. absurd is) in
+    let readable = before_expiry shown (demands_of generated_policy) 0 required unreadable in
+    let fresh = before_start shown (demands_of generated_policy) 0 readable (λ late. absent (get shown (codes "exp")) _ (no_expiry n) late.1) in
+    none_fails (ClaimFails shown (demands_of generated_policy) 0) 27
+    (holds_too (ClaimFails shown (demands_of generated_policy) 0) Condition.NotYet fresh (λ place h. absent (get shown (codes "nbf")) _ (no_start n) h.1.1))
+    (λ c place h. let range = claim_numbers shown (demands_of generated_policy) 0 c place h in range.1)
   where
     unreadable : IsTimeUnreadable (shown_for (marked_claims (generated n)) (generated_ask n).want) → ⊥
     unreadable (inl h) = absent (get (shown_for (marked_claims (generated n)) (generated_ask n).want) (codes "exp")) h.0 (no_expiry n) h.1
@@ -137,5 +137,5 @@ generated_suits n = record {
   unrefused = λ place hidden leads. unrefused [] place (λ front none l. none);
   named = λ ask asked. cc asked;
   bound = λ binding asked. cc asked;
-  claims = subst (λ (t : Tree). NoneFails (ClaimFails t generated_policy 0)) (chosen_is_left (generated n).payload (generated n).hide (generated_ask n).want) (claims_hold n);
+  claims = subst (λ (t : Tree). NoneFails (ClaimFails t (demands_of generated_policy) 0)) (chosen_is_left (generated n).payload (generated n).hide (generated_ask n).want) (claims_hold n);
 }

@@ -1,6 +1,6 @@
 -- A token that is issued is held: it is read, no condition on it fails under the keys of a holder who finds the issuer's, and it
 -- processes to the claims with their marks.
-use Rattle.std.proofs.Common.{◌≡◌, inl, inr, ℕ, ◌<◌, ◌≤◌, List, length, map, Some, refl, subst, ◌∙◌, arith, ap, ap₂}
+use Rattle.std.proofs.Common.{◌≡◌, inl, inr, ℕ, ◌<◌, ◌≤◌, List, length, map, Some, None, refl, subst, ◌∙◌, arith, ap, ap₂}
 use Rattle.std.specs.Set.{distinct_count}
 use Rattle.std.proofs.lemmas.Slice.Zip.{AllZip-long}
 use Rattle.sd_outside.specs.Limits.{issue_max, count_max}
@@ -119,7 +119,7 @@ module _ (seed : List ℕ) (o : Order) (key : AlgKey) (parts : Parts) (is : IsTo
   issued_held ask finds = record {
     unbound = is.has.written.unbound;
     checked = subst (IsChecked (alone parts) (held_rules ask.keys)) is.has.issued.opens
-        (checked o key is.has.payload is.has.given parts (carries_issued seed o key parts is.has) (held_rules ask.keys) (record { alg = is_known key.alg; typ = λ name none. cc none; finds = finds }) is.has.sound);
+        (checked o key is.has.payload is.has.given parts (carries_issued seed o key parts is.has) ask.keys (map alg_text algs) None (record { alg = is_known key.alg; typ = λ name none. cc none; finds = finds }) is.has.sound);
   }
 
   -- it processes to nothing else

@@ -1,6 +1,6 @@
 -- What is presented of an issued token is accepted, where the policy suits, with what is asked for of the claims.
 use Rattle.std.proofs.Common.{◌≡◌, ℕ, ◌<◌, ◌^◌, Bool, true, List, length, Option, None, Some, refl, sym, ap, ap₂, subst, ◌∙◌, arith}
-use Rattle.std.specs.Prelude.{option_and_then}
+use Rattle.std.specs.Prelude.{option_and_then, option_map}
 use Rattle.std.specs.List.{AllZip}
 use Rattle.claim_tree.specs.Tree.{Text, Tree, no_members}
 use Rattle.compact_form.specs.declared.fault.Place.{Place}
@@ -21,7 +21,9 @@ use Rattle.json_form.specs.declared.token.Token.{Token}
 use Rattle.json_form.proofs.AloneForms.{compact_read}
 use Rattle.json_form.proofs.Tokens as tokens
 use Rattle.key_binding.specs.Binding.{IsBinding, IsReadBack}
-use Rattle.key_binding.specs.Judged.{judged, holder_kid, holder_key}
+use Rattle.key_binding.specs.BindingConditions.{BindingFails}
+use Rattle.key_binding.specs.declared.policy.BindingPolicy.{BindingPolicy}
+use Rattle.key_binding.specs.Judged.{judged, holder_kid, holder_key, BindingRules, binding_rules}
 use Rattle.key_binding.proofs.Accepted.{accepted}
 use Rattle.marked_tree.specs.Paths.{chosen}
 use Rattle.marked_tree.specs.Marked.{Marked, strip}
@@ -31,7 +33,7 @@ use Rattle.marked_tree.proofs.MarkFacts.{marks_once_holds}
 use Rattle.marked_tree.proofs.LeftOut.{chosen_is_left}
 use Rattle.rebuild_core.specs.Opening.{processed}
 use Rattle.selection_core.specs.Consent.{RuleAnswers}
-use Rattle.verifier_core.specs.Verdict.{TokenFails, ClaimFails, HolderFails, Fails, of_file, of_missing, of_token, of_claims, of_holder, rules_of, Opens, HasContent, HasHash, IsChecked, IsBindingMissing}
+use Rattle.verifier_core.specs.Verdict.{demands_of, TokenFails, ClaimFails, HolderFails, Fails, of_file, of_missing, of_token, of_claims, of_holder, rules_of, Opens, HasContent, HasHash, IsChecked, IsBindingMissing}
 use Rattle.verifier_core.specs.Verdicts.{IsAcceptedAs}
 use Rattle.verifier_core.specs.declared.policy.Policy.{Policy}
 use Rattle.verifier_core.proofs.CheckSteps.{one_content}
@@ -120,11 +122,11 @@ module _ (seed : List ℕ) (o : Order) (key : AlgKey) (parts : Parts) (is : IsTo
 
   -- of each text that is read as its parts no condition fails
   module _ {F : Type 0} (answers : RuleAnswers F) (rule : F) (policy : Policy) (later : ℕ) (suits : Suits answers rule o key ask signing policy now later) (text : List ℕ) (is_text : IsToken text (alone answer)) where
-    takes : Takes o key (rules_of policy)
+    takes : Takes o key policy.keys policy.algs policy.typ
     takes = record { alg = suits.alg; typ = suits.typ; finds = suits.verifier_finds }
 
     answer_checked : IsChecked (alone answer) (rules_of policy) (processed p (picked s g))
-    answer_checked = checked o key p (picked s g) answer carries_answer (rules_of policy) takes what_is_shown.sound
+    answer_checked = checked o key p (picked s g) answer carries_answer policy.keys policy.algs policy.typ takes what_is_shown.sound
 
     one_answer : (token : Token) → IsToken text token → token ≡ alone answer
     one_answer token there = tokens.one text token (alone answer) there is_text
@@ -150,36 +152,42 @@ module _ (seed : List ℕ) (o : Order) (key : AlgKey) (parts : Parts) (is : IsTo
     names_ask None one names e = cc e
     names_ask (Some a) one names e = let same : a ≡ one = cc e in subst (λ (x : BindingAsk). holder_kid (shown_for (marked_claims o) ask.want) ≡ Some x.kid) same names
 
-    binding_passes : (payload : Tree) → payload ≡ shown_for (marked_claims o) ask.want → (c : Condition) (place : Place) → HolderFails answer payload o.hash policy later c place → ⊥
+    -- what is asked of a key binding token is what the policy asks
+    binding_of : (wanted : Option BindingPolicy) (rules : BindingRules) → option_map binding_rules wanted ≡ Some rules → (b : BindingPolicy) × (wanted ≡ Some b) × (rules ≡ binding_rules b)
+    binding_of None rules e = cc e
+    binding_of (Some b) rules e = let same : binding_rules b ≡ rules = cc e in (b, (refl, sym same))
+
+    binding_passes : (payload : Tree) → payload ≡ shown_for (marked_claims o) ask.want → (c : Condition) (place : Place) → HolderFails answer payload o.hash (demands_of policy) later c place → ⊥
     binding_passes payload shown c place fails =
-        let b = fails.binding in
-        let suit = suits.bound b fails.asked in
+        let (b, (wanted, rules_are)) = binding_of policy.binding fails.binding fails.asked in
+        let suit = suits.bound b wanted in
         let made = made_binding ask.binding answer.binding suit.ask fails.token presented.bound suit.asked_for fails.sent in
-        let j = judged fails.token payload b policy.skew o.hash (hashed answer) later in
+        let j = judged fails.token payload (binding_rules b) policy.skew o.hash (hashed answer) later in
         let is_binding = subst (λ (x : Text). IsBinding (IsGood (hs256_key signing)) o.hash (hashed answer) suit.ask.aud x now fails.token) suit.nonce made.is_binding in
         let read_back = subst (λ (x : Text). IsReadBack o.hash (hashed answer) suit.ask.aud x now fails.token) suit.nonce made.read_back in
         let kid : holder_kid payload ≡ Some suit.ask.kid = ap holder_kid shown ∙ names_ask ask.binding suit.ask presented.names suit.asked_for in
         let found : holder_key b.keys payload ≡ Some signing = ap (option_and_then (key_named b.keys)) kid ∙ suit.known in
-        accepted signing suit.ask.aud now j is_binding read_back suit.aud found suit.not_stale suit.not_early c place fails.fails
+        accepted b.keys signing suit.ask.aud now j is_binding read_back suit.aud refl found suit.not_stale suit.not_early c place
+        (subst (λ (r : BindingRules). BindingFails (judged fails.token payload r policy.skew o.hash (hashed answer) later) c place) rules_are fails.fails)
 
-    hash_passes : (payload : Tree) (hash : HashAlg) → HasHash (alone answer) hash → payload ≡ shown_for (marked_claims o) ask.want → (c : Condition) (place : Place) → HolderFails answer payload hash policy later c place → ⊥
+    hash_passes : (payload : Tree) (hash : HashAlg) → HasHash (alone answer) hash → payload ≡ shown_for (marked_claims o) ask.want → (c : Condition) (place : Place) → HolderFails answer payload hash (demands_of policy) later c place → ⊥
     hash_passes payload hash has shown c place fails =
         let same = one_hash (alone answer) hash o.hash has (with_alg o.hash p, carries_answer.body, carries_answer.hash) in
-        binding_passes payload shown c place (subst (λ (h : HashAlg). HolderFails answer payload h policy later c place) same fails)
+        binding_passes payload shown c place (subst (λ (h : HashAlg). HolderFails answer payload h (demands_of policy) later c place) same fails)
 
-    missing_passes : IsBindingMissing policy answer → ⊥
-    missing_passes (binding, asked, none) = let suit = suits.bound binding asked in not_missing ask.binding answer.binding presented.bound suit.ask suit.asked_for none
+    missing_passes : IsBindingMissing (demands_of policy) answer → ⊥
+    missing_passes (rules, asked, none) = let suit = suits.bound (binding_of policy.binding rules asked).0 (binding_of policy.binding rules asked).1.0 in not_missing ask.binding answer.binding presented.bound suit.ask suit.asked_for none
 
     none_fails : NoneFails (Fails text policy later)
     none_fails c place (of_file h) = is_text.passes (fault_at c place) h
-    none_fails c place (of_missing token there h) = missing_passes (subst (λ (t : Token). IsBindingMissing policy t.parts) (one_answer token there) h.1.1)
+    none_fails c place (of_missing token there h) = missing_passes (subst (λ (t : Token). IsBindingMissing (demands_of policy) t.parts) (one_answer token there) h.1.1)
     none_fails c place (of_token token there h) = answer_checked.passes c place (subst (λ (t : Token). TokenFails t (rules_of policy) c place) (one_answer token there) h)
     none_fails c place (of_claims token marked there opens h) =
         let shown = answer_opens marked (subst (λ (t : Token). Opens t marked) (one_answer token there) opens) in
-        suits.claims c place (subst (λ (t : Tree). ClaimFails t policy later c place) (shown ∙ chosen_is_left o.payload o.hide ask.want) h)
+        suits.claims c place (subst (λ (t : Tree). ClaimFails t (demands_of policy) later c place) (shown ∙ chosen_is_left o.payload o.hide ask.want) h)
     none_fails c place (of_holder token marked hash there opens has h) =
         let shown = answer_opens marked (subst (λ (t : Token). Opens t marked) (one_answer token there) opens) in
-        hash_passes (strip marked) hash (subst (λ (t : Token). HasHash t hash) (one_answer token there) has) shown c place (subst (λ (t : Token). HolderFails t.parts (strip marked) hash policy later c place) (one_answer token there) h)
+        hash_passes (strip marked) hash (subst (λ (t : Token). HasHash t hash) (one_answer token there) has) shown c place (subst (λ (t : Token). HolderFails t.parts (strip marked) hash (demands_of policy) later c place) (one_answer token there) h)
 
     pub answer_accepted : IsAcceptedAs text policy later (claims_for o ask.want)
     answer_accepted = (

@@ -14,7 +14,7 @@ use Rattle.jws_part.specs.Times.{IsTimeUnreadable}
 use Rattle.key_binding.specs.declared.policy.BindingPolicy.{BindingPolicy}
 use Rattle.marked_tree.specs.LeftOut.{leads_to}
 use Rattle.marked_tree.specs.Paths.{Path}
-use Rattle.verifier_core.specs.Verdict.{ClaimFails}
+use Rattle.verifier_core.specs.Verdict.{ClaimFails, demands_of}
 use Rattle.verifier_core.specs.declared.policy.Policy.{Policy}
 use Rattle.verifier_core.proofs.ClaimSteps.{claim_numbers, before_missing, before_times, before_expiry, before_start}
 use Rattle.issuer_core.specs.Order.{Order}
@@ -100,10 +100,10 @@ there : (path : Path) → In path said.ask.want → tree_at order.payload path �
 there path (inl same) none = let found = ap (λ (p : Path). tree_at order.payload p) same in cc (sym found ∙ none)
 there path (inr other) none = absurd other
 
-pub claims_hold : (binding : Option BindingPolicy) → NoneFails (ClaimFails (claims_for order said.ask.want) (policy_with binding) 1300)
+pub claims_hold : (binding : Option BindingPolicy) → NoneFails (ClaimFails (claims_for order said.ask.want) (demands_of (policy_with binding)) 1300)
 claims_hold binding =
     let shown = claims_for order said.ask.want in
-    let asks = policy_with binding in
+    let asks = demands_of (policy_with binding) in
     let issuer = before_missing shown asks 1300 (λ h. let same : codes "i" ∷ [] ≡ h.0 = cc h.1 in h.2 (codes "i", subst (λ list. In (codes "i") list) same (inl refl), refl)) in
     let required = before_times shown asks 1300 issuer wanted in
     let readable = before_expiry shown asks 1300 required unreadable in

@@ -12,7 +12,7 @@ use Rattle.key_binding.specs.declared.policy.BindingPolicy.{BindingPolicy}
 use Rattle.marked_tree.specs.LeftOut.{leads_to, shown}
 use Rattle.marked_tree.specs.Paths.{Path}
 use Rattle.selection_core.specs.Consent.{RuleAnswers, Allows}
-use Rattle.verifier_core.specs.Verdict.{ClaimFails}
+use Rattle.verifier_core.specs.Verdict.{ClaimFails, demands_of}
 use Rattle.verifier_core.specs.declared.policy.Policy.{Policy}
 use Rattle.issuer_core.specs.Order.{Order}
 use Rattle.holder_core.specs.declared.ask.Ask.{Ask}
@@ -50,4 +50,4 @@ pub record Suits {F : Type 0} (answers : RuleAnswers F) (rule : F) (o : Order) (
   -- where the verifier asks for a key binding token, so is the holder
   pub bound : (binding : BindingPolicy) → policy.binding ≡ Some binding → BindingSuits ask.binding signing binding policy.skew presented verified
   -- what is shown has the claims that the verifier wants, and its times hold
-  pub claims : NoneFails (ClaimFails (claims_for o ask.want) policy verified)
+  pub claims : NoneFails (ClaimFails (claims_for o ask.want) (demands_of policy) verified)

@@ -4,15 +4,14 @@ use Rattle.claim_tree.specs.Tree.{Tree}
 use Rattle.marked_tree.specs.Marked.{Marked, strip}
 use Rattle.rebuild_core.specs.Laws.{IsWithinNodes}
 use Rattle.rebuild_core.proofs.Size.{size_bound_holds}
-use Rattle.verifier_core.specs.declared.policy.Policy.{Policy}
-use Rattle.verifier_core.specs.Verdict.{IsAccepted, rules_of, of_token}
+use Rattle.verifier_core.specs.Verdict.{Demands, IsAcceptedFor, of_token}
 use Rattle.verifier_core.specs.Verdicts.{IsBounded}
 use Rattle.verifier_core.proofs.ContentFacts.{content_sound}
 
-pub accepted_bounded : (content : List ℕ) (policy : Policy) (now : ℕ) (marked : Marked) (payload : Tree) → IsAccepted content policy now marked → payload ≡ strip marked → IsBounded content payload
-accepted_bounded content policy now marked payload accepted is =
+pub accepted_bounded : (content : List ℕ) (demands : Demands) (now : ℕ) (marked : Marked) (payload : Tree) → IsAcceptedFor content demands now marked → payload ≡ strip marked → IsBounded content payload
+accepted_bounded content demands now marked payload accepted is =
     let (signed, given, has, processed_is) = accepted.opens in
-    let sound = content_sound accepted.token (rules_of policy) signed given has (λ c place fails. accepted.passes c place (of_token accepted.token accepted.is_token fails)) in
+    let sound = content_sound accepted.token demands.rules signed given has (λ c place fails. accepted.passes c place (of_token accepted.token accepted.is_token fails)) in
     record {
       token = accepted.token;
       is_token = accepted.is_token;

@@ -8,7 +8,6 @@ use Rattle.compact_form.specs.declared.fault.Fault.{Fault}
 use Rattle.compact_form.specs.declared.fault.Place.{Place}
 use Rattle.compact_form.specs.declared.fault.Place.TheVariants.{At}
 use Rattle.json_form.specs.declared.token.Token.{Token}
-use Rattle.hmac_sign.specs.Hmac.{AlgKey}
 use Rattle.jws_part.specs.declared.header.Header.{Header}
 use Rattle.jws_part.specs.Part.{IsBody}
 use Rattle.jws_part.proofs.Headers as headers
@@ -26,7 +25,7 @@ use Rattle.rebuild_core.specs.Conditions as opening
 use Rattle.rebuild_core.specs.Soundness as opening2
 use Rattle.rebuild_core.specs.declared.errors.ProcessError.{ProcessError}
 use Rattle.compact_form.specs.declared.condition.Condition.{Condition}
-use Rattle.verifier_core.specs.Verdict.{Rules, key_for, HasHeader, HasPayload, IsAlgRefused, IsTypeRefused, IsBadSignature, IsNoDisclosure, Gives, HasContent, OfContent, TokenFails, IsChecked}
+use Rattle.verifier_core.specs.Verdict.{Rules, HasHeader, HasPayload, IsAlgRefusedBy, IsTypeRefused, IsUnknownBy, IsBadBy, IsNoDisclosure, Gives, HasContent, OfContent, TokenFails, IsChecked}
 use Rattle.verifier_core.specs.Check.{OnFault, IsUncounted, process_fault, IsSigned, IsSignedFault, bad_header, critical, bad_alg, bad_type, no_key, not_signed, IsPayloadFault, no_body, no_hash, IsUnreadAt}
 use Rattle.verifier_core.specs.declared.check.VerifyError.{VerifyError}
 use Rattle.verifier_core.proofs.TokenConditions.{finish, start}
@@ -45,36 +44,26 @@ same_header token h k a b = headers.one_header token.parts.signed.protected toke
 none_of : (P : Header → Type 0) (token : Token) (h : Header) → HasHeader token h → (P h → ⊥) → (place : Place) → Unplaced ((header : Header) × HasHeader token header × P header) place → ⊥
 none_of P token h has none place (is, (k, other, p)) = none (subst P (same_header token k h other has) p)
 
-good_signature : (token : Token) (rules : Rules) (h : Header) (key : AlgKey) → HasHeader token h → key_for rules.keys h ≡ Some key → (IsBadSignature key token.parts.signed → ⊥)
-    → (place : Place) → TokenFails token rules Condition.BadSignature place → ⊥
-good_signature token rules h key has key_is good place (is, (k, other, found, found_is, bad)) =
-    let heads : k ≡ h = same_header token k h other has in
-    let keys : Some found ≡ Some key = sym found_is ∙ (ap (λ (x : Header). key_for rules.keys x) heads ∙ key_is) in
-    let same : found ≡ key = cc keys in
-    good (subst (λ x. IsBadSignature x token.parts.signed) same bad)
-
 at7 : (token : Token) (rules : Rules) (h : Header) → HasHeader token h → Passes 7 (TokenFails token rules)
 at7 token rules h has =
     holds_too (TokenFails token rules) Condition.HeaderCritical
     (holds_too (TokenFails token rules) Condition.HeaderUnreadable (start token rules) (λ place w. headers.read_not_unreadable token.parts.signed.protected token.outer h has w.1))
     (λ place w. headers.read_not_critical token.parts.signed.protected token.outer h has w.1)
 
-at8 : (token : Token) (rules : Rules) (h : Header) → HasHeader token h → (IsAlgRefused rules.algs h.alg → ⊥) → Passes 8 (TokenFails token rules)
-at8 token rules h has alg = holds_too (TokenFails token rules) Condition.AlgRefused (at7 token rules h has) (none_of (λ x. IsAlgRefused rules.algs x.alg) token h has alg)
+at8 : (token : Token) (rules : Rules) (h : Header) → HasHeader token h → (IsAlgRefusedBy rules.issuers h.alg → ⊥) → Passes 8 (TokenFails token rules)
+at8 token rules h has alg = holds_too (TokenFails token rules) Condition.AlgRefused (at7 token rules h has) (none_of (λ x. IsAlgRefusedBy rules.issuers x.alg) token h has alg)
 
-at9 : (token : Token) (rules : Rules) (h : Header) → HasHeader token h → (IsAlgRefused rules.algs h.alg → ⊥) → (IsTypeRefused rules.typ h.typ → ⊥) → Passes 9 (TokenFails token rules)
+at9 : (token : Token) (rules : Rules) (h : Header) → HasHeader token h → (IsAlgRefusedBy rules.issuers h.alg → ⊥) → (IsTypeRefused rules.typ h.typ → ⊥) → Passes 9 (TokenFails token rules)
 at9 token rules h has alg typ = holds_too (TokenFails token rules) Condition.TypeRefused (at8 token rules h has alg) (none_of (λ x. IsTypeRefused rules.typ x.typ) token h has typ)
 
-at10 : (token : Token) (rules : Rules) (h : Header) (key : AlgKey) → HasHeader token h → (IsAlgRefused rules.algs h.alg → ⊥) → (IsTypeRefused rules.typ h.typ → ⊥) → key_for rules.keys h ≡ Some key
+at10 : (token : Token) (rules : Rules) (h : Header) → HasHeader token h → (IsAlgRefusedBy rules.issuers h.alg → ⊥) → (IsTypeRefused rules.typ h.typ → ⊥) → (IsUnknownBy rules.issuers h token.parts.signed → ⊥)
     → Passes 10 (TokenFails token rules)
-at10 token rules h key has alg typ key_is =
-    holds_too (TokenFails token rules) Condition.IssuerKeyUnknown (at9 token rules h has alg typ)
-    (none_of (λ x. key_for rules.keys x ≡ None) token h has (λ none. let both : Some key ≡ None = sym key_is ∙ none in absurd (cc both)))
+at10 token rules h has alg typ known = holds_too (TokenFails token rules) Condition.IssuerKeyUnknown (at9 token rules h has alg typ) (none_of (λ x. IsUnknownBy rules.issuers x token.parts.signed) token h has known)
 
 pub signed_passes : (token : Token) (rules : Rules) → IsSigned token.parts.signed token.outer rules → Passes 11 (TokenFails token rules)
 signed_passes token rules s =
-    holds_too (TokenFails token rules) Condition.BadSignature (at10 token rules s.header s.key s.is_header s.alg s.typ s.key_is)
-    (good_signature token rules s.header s.key s.is_header s.key_is s.good)
+    holds_too (TokenFails token rules) Condition.BadSignature (at10 token rules s.header s.is_header s.alg s.typ s.known)
+    (none_of (λ x. IsBadBy rules.issuers x token.parts.signed) token s.header s.is_header s.good)
 
 pub signed_fault : (token : Token) (rules : Rules) (fault : Fault) → IsSignedFault token.parts.signed token.outer rules fault → IsLowest (TokenFails token rules) fault
 signed_fault token rules fault (bad_header w is) = refuse_unplaced (TokenFails token rules) Condition.HeaderUnreadable fault is (start token rules) (refl, w)
@@ -85,8 +74,7 @@ signed_fault token rules fault (critical w is) =
 signed_fault token rules fault (bad_alg h has w is) = refuse_unplaced (TokenFails token rules) Condition.AlgRefused fault is (at7 token rules h has) (refl, (h, has, w))
 signed_fault token rules fault (bad_type h has alg w is) = refuse_unplaced (TokenFails token rules) Condition.TypeRefused fault is (at8 token rules h has alg) (refl, (h, has, w))
 signed_fault token rules fault (no_key h has alg typ w is) = refuse_unplaced (TokenFails token rules) Condition.IssuerKeyUnknown fault is (at9 token rules h has alg typ) (refl, (h, has, w))
-signed_fault token rules fault (not_signed h has alg typ key key_is w is) =
-    refuse_unplaced (TokenFails token rules) Condition.BadSignature fault is (at10 token rules h key has alg typ key_is) (refl, (h, has, key, key_is, w))
+signed_fault token rules fault (not_signed h has alg typ known w is) = refuse_unplaced (TokenFails token rules) Condition.BadSignature fault is (at10 token rules h has alg typ known) (refl, (h, has, w))
 
 -- ---- one payload
 

@@ -1,15 +1,23 @@
 -- What the tests of a check tell.
-use Rattle.std.proofs.Common.{◌≡◌, ◌⊎◌, inl, inr, ℕ, List, [], ◌∷◌, ◌++◌, length, take, slice_get, Bool, true, false, not, bytes_eq, Option, Some, refl, sym, ap, subst, ◌∙◌}
+use Rattle.std.proofs.Common.{◌≡◌, ◌⊎◌, inl, inr, ℕ, List, [], ◌∷◌, ◌++◌, length, take, slice_get, Bool, true, false, not, bytes_eq, Option, Some, None, is_some, IsTrue, ◌↔◌, ⊎_elim, refl, sym, ap, subst, ◌∙◌}
 use Rattle.std.specs.List.{AllZip}
-use Rattle.claim_tree.specs.Tree.{Text}
+use Rattle.std.specs.Option.{option_map}
+use Rattle.compact_form.specs.Views.{jwt_of}
+use Rattle.compact_form.specs.declared.view.JwtView.{JwtView}
+use Rattle.claim_tree.specs.Tree.{Text, Tree}
+use Rattle.compact_form.specs.declared.parts.JwtParts.{JwtParts}
+use Rattle.compact_form.specs.declared.parts.Parts.{Parts}
+use Rattle.hmac_sign.specs.Algs.{alg_of_text}
+use Rattle.hmac_sign.specs.declared.alg.Alg.{Alg}
+use Rattle.key_binding.specs.Judged.{BindingRules}
 use Rattle.claim_tree.specs.Lists.{In}
-use Rattle.claim_tree.proofs.Lists.{bytes_same, bytes_refl, In-append}
+use Rattle.claim_tree.proofs.Lists.{bytes_same, bytes_refl, In-append, In-At, At-In}
 use Rattle.disclosure.specs.declared.digests.HashAlg.{HashAlg}
 use Rattle.disclosure.specs.declared.errors.DisclosureError.{DisclosureError}
 use Rattle.disclosure.specs.DisclosureRefusals.{IsDisclosureRefused}
 use Rattle.disclosure.proofs.Verdicts as readings
 use Rattle.digest_sites.specs.Given.{Given}
-use Rattle.verifier_core.specs.Verdict.{IsTypeRefused, Gives, IsNoDisclosure}
+use Rattle.verifier_core.specs.Verdict.{Demands, IsAlgRefused, IsTypeRefused, IsIssuerRefused, NamesIssuer, IsBindingMissing, Gives, IsNoDisclosure}
 use Rattle.verifier_core.specs.Check.{TestTells, OnFault, unread_at, IsUnreadAt}
 
 pub type_told : (asked typ : Option Text) (name own : Text) → asked ≡ Some name → typ ≡ Some own → (b : Bool) → b ≡ not (bytes_eq own name) → TestTells b (IsTypeRefused asked typ)
@@ -69,3 +77,36 @@ next_unread hash ds done rest i d before e stand at read refused =
     let there : slice_get ds i ≡ Some d = subst (λ k. slice_get ds k ≡ Some d) (sym at) (subst (λ xs. slice_get xs (length done) ≡ Some d) (sym stand) (got_next done d rest)) in
     let front : take i ds ≡ done = subst (λ k. take k ds ≡ done) (sym at) (subst (λ xs. take (length done) xs ≡ done) (sym stand) (front_of done d rest)) in
     unread_told hash ds i d before e there (subst (λ xs. AllZip (Gives hash) xs before) (sym front) read) refused
+
+-- ---- what a test tells
+
+pub told : (b : Bool) (P : Type 0) → IsTrue b ↔ P → TestTells b P
+told true P is = is.0 refl
+told false P is = λ p. (let clash : false ≡ true = is.1 p in cc clash)
+
+-- whether an algorithm that is known is among those
+pub among_told : (algs : List Text) (name : Text) (alg : Alg) → alg_of_text name ≡ Some alg → (b : Bool) → IsTrue b ↔ In name algs → TestTells (not b) (IsAlgRefused algs name)
+among_told algs name alg known true is = λ refused. ⊎_elim (λ none. let clash : Some alg ≡ None = sym known ∙ none in cc clash) (λ apart. let at = In-At algs name (is.0 refl) in apart at.0 at.1) refused
+among_told algs name alg known false is = inr (λ i at. let clash : false ≡ true = is.1 (At-In algs i name at) in cc clash)
+
+-- whether the claim is none of the issuers that are asked for
+pub issuer_told : (asked : Option (List Text)) (issuers : List Text) (claim : Option Tree) → asked ≡ Some issuers → (b : Bool) → IsTrue b ↔ NamesIssuer issuers claim → IsTrue (not b) ↔ IsIssuerRefused asked claim
+issuer_told asked issuers claim is true names = (
+  λ h. cc h,
+  λ refused. (let both : Some refused.0 ≡ Some issuers = sym refused.1 ∙ is in let same : refused.0 ≡ issuers = cc both in absurd (refused.2 (subst (λ x. NamesIssuer x claim) (sym same) (names.0 refl)))),
+)
+issuer_told asked issuers claim is false names = (λ h. (issuers, is, λ named. (let clash : false ≡ true = names.1 named in cc clash)), λ refused. refl)
+
+pub some_seen : (sent : Option JwtView) → is_some (option_map jwt_of sent) ≡ is_some sent
+some_seen None = refl
+some_seen (Some token) = refl
+
+-- whether a key binding token that is asked for is missing
+pub missing_told : (demands : Demands) (parts : Parts) (rules : BindingRules) → demands.binding ≡ Some rules → (b : Bool) → is_some parts.binding ≡ not b → IsTrue b ↔ IsBindingMissing demands parts
+missing_told demands parts rules asked b is = go parts.binding refl b is
+  where
+    go : (sent : Option JwtParts) → parts.binding ≡ sent → (c : Bool) → is_some sent ≡ not c → IsTrue c ↔ IsBindingMissing demands parts
+    go None e true h = (λ t. (rules, asked, e), λ m. refl)
+    go None e false h = cc h
+    go (Some token) e true h = cc h
+    go (Some token) e false h = (λ t. cc t, λ m. (let both : Some token ≡ None = sym e ∙ m.2 in cc both))

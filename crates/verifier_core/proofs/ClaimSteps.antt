@@ -10,44 +10,43 @@ use Rattle.claim_tree.proofs.Counting.{before_or_at}
 use Rattle.claim_tree.proofs.Lists.{At-same}
 use Rattle.compact_form.specs.declared.condition.Condition.{Condition}
 use Rattle.compact_form.specs.Condition.{number_of}
-use Rattle.verifier_core.specs.Verdict.{ClaimFails, IsIssuerRefused}
-use Rattle.verifier_core.specs.declared.policy.Policy.{Policy}
+use Rattle.verifier_core.specs.Verdict.{Demands, ClaimFails, IsIssuerRefused}
 use Rattle.compact_form.specs.Passing.{Passes}
 use Rattle.compact_form.proofs.Lowest.{holds_too}
 
 -- a condition on the claims has a number from 22 to 26
-pub claim_numbers : (payload : Tree) (policy : Policy) (now : ℕ) (c : Condition) (place : Place) → ClaimFails payload policy now c place → (21 < number_of c) × (number_of c < 27)
-claim_numbers payload policy now Condition.IssuerRefused place h = search rules
-claim_numbers payload policy now _ place h = search rules
+pub claim_numbers : (payload : Tree) (demands : Demands) (now : ℕ) (c : Condition) (place : Place) → ClaimFails payload demands now c place → (21 < number_of c) × (number_of c < 27)
+claim_numbers payload demands now Condition.IssuerRefused place h = search rules
+claim_numbers payload demands now _ place h = search rules
 
 -- ---- one condition after another
 
-module _ (payload : Tree) (policy : Policy) (now : ℕ) where
-  pub before_issuer : Passes 22 (ClaimFails payload policy now)
-  before_issuer c place h = let n = claim_numbers payload policy now c place h in omega (arith, n.0)
+module _ (payload : Tree) (demands : Demands) (now : ℕ) where
+  pub before_issuer : Passes 22 (ClaimFails payload demands now)
+  before_issuer c place h = let n = claim_numbers payload demands now c place h in omega (arith, n.0)
 
-  pub before_missing : (IsIssuerRefused policy.iss (get payload (codes "iss")) → ⊥) → Passes 23 (ClaimFails payload policy now)
-  before_missing holds = holds_too (ClaimFails payload policy now) Condition.IssuerRefused before_issuer (λ place h. holds h.1)
+  pub before_missing : (IsIssuerRefused demands.iss (get payload (codes "iss")) → ⊥) → Passes 23 (ClaimFails payload demands now)
+  before_missing holds = holds_too (ClaimFails payload demands now) Condition.IssuerRefused before_issuer (λ place h. holds h.1)
 
-  pub before_times : Passes 23 (ClaimFails payload policy now) → ((i : ℕ) (name : Text) → StandsAt policy.require i name → get payload name ≢ None) → Passes 24 (ClaimFails payload policy now)
-  before_times below holds = holds_too (ClaimFails payload policy now) Condition.ClaimMissing below (λ place h. holds h.0 h.2.0 h.2.1 h.2.2)
+  pub before_times : Passes 23 (ClaimFails payload demands now) → ((i : ℕ) (name : Text) → StandsAt demands.require i name → get payload name ≢ None) → Passes 24 (ClaimFails payload demands now)
+  before_times below holds = holds_too (ClaimFails payload demands now) Condition.ClaimMissing below (λ place h. holds h.0 h.2.0 h.2.1 h.2.2)
 
-  pub before_expiry : Passes 24 (ClaimFails payload policy now) → (IsTimeUnreadable payload → ⊥) → Passes 25 (ClaimFails payload policy now)
-  before_expiry below holds = holds_too (ClaimFails payload policy now) Condition.TimeUnreadable below (λ place h. holds h.1)
+  pub before_expiry : Passes 24 (ClaimFails payload demands now) → (IsTimeUnreadable payload → ⊥) → Passes 25 (ClaimFails payload demands now)
+  before_expiry below holds = holds_too (ClaimFails payload demands now) Condition.TimeUnreadable below (λ place h. holds h.1)
 
-  pub before_start : Passes 25 (ClaimFails payload policy now) → (IsExpired payload policy.skew now → ⊥) → Passes 26 (ClaimFails payload policy now)
-  before_start below holds = holds_too (ClaimFails payload policy now) Condition.Expired below (λ place h. holds h.1)
+  pub before_start : Passes 25 (ClaimFails payload demands now) → (IsExpired payload demands.skew now → ⊥) → Passes 26 (ClaimFails payload demands now)
+  before_start below holds = holds_too (ClaimFails payload demands now) Condition.Expired below (λ place h. holds h.1)
 
   -- ---- all of them up to one
 
-  pub to_times : (IsIssuerRefused policy.iss (get payload (codes "iss")) → ⊥) → ((i : ℕ) (name : Text) → StandsAt policy.require i name → get payload name ≢ None) → Passes 24 (ClaimFails payload policy now)
+  pub to_times : (IsIssuerRefused demands.iss (get payload (codes "iss")) → ⊥) → ((i : ℕ) (name : Text) → StandsAt demands.require i name → get payload name ≢ None) → Passes 24 (ClaimFails payload demands now)
   to_times issuer claims = before_times (before_missing issuer) claims
 
-  pub to_expiry : (IsIssuerRefused policy.iss (get payload (codes "iss")) → ⊥) → ((i : ℕ) (name : Text) → StandsAt policy.require i name → get payload name ≢ None) → (IsTimeUnreadable payload → ⊥) → Passes 25 (ClaimFails payload policy now)
+  pub to_expiry : (IsIssuerRefused demands.iss (get payload (codes "iss")) → ⊥) → ((i : ℕ) (name : Text) → StandsAt demands.require i name → get payload name ≢ None) → (IsTimeUnreadable payload → ⊥) → Passes 25 (ClaimFails payload demands now)
   to_expiry issuer claims times = before_expiry (to_times issuer claims) times
 
-  pub to_start : (IsIssuerRefused policy.iss (get payload (codes "iss")) → ⊥) → ((i : ℕ) (name : Text) → StandsAt policy.require i name → get payload name ≢ None) → (IsTimeUnreadable payload → ⊥) → (IsExpired payload policy.skew now → ⊥)
-      → Passes 26 (ClaimFails payload policy now)
+  pub to_start : (IsIssuerRefused demands.iss (get payload (codes "iss")) → ⊥) → ((i : ℕ) (name : Text) → StandsAt demands.require i name → get payload name ≢ None) → (IsTimeUnreadable payload → ⊥) → (IsExpired payload demands.skew now → ⊥)
+      → Passes 26 (ClaimFails payload demands now)
   to_start issuer claims times expiry = before_start (to_expiry issuer claims times) expiry
 
 -- the first so many names are names of claims

@@ -21,10 +21,9 @@ use Rattle.rebuild_core.specs.LookUps.{look_ups, counted, RoseWithin}
 use Rattle.rebuild_core.specs.Opening.{processed}
 use Rattle.rebuild_core.specs.Payload.{without_alg}
 use Rattle.verifier_core.specs.Content.{Content, IsReadyToOpen}
-use Rattle.verifier_core.specs.Check.{OnFault, IsContent, IsRead, OfToken, IsCounted, IsCountedWithin, IsOpening, IsVerdict, IsUncounted, IsOpened, judged_of, IsSigned, IsSignedFault, IsPayloadFault, IsUnreadAt}
-use Rattle.verifier_core.specs.Verdict.{Rules, TokenFails, Fails, HasHash, IsBindingMissing, IsChecked, Gives, rules_of}
+use Rattle.verifier_core.specs.Check.{OnFault, IsContent, IsRead, OfToken, IsCounted, IsCountedWithin, IsOpening, IsVerdictFor, IsUncounted, IsOpened, judged_of, IsSigned, IsSignedFault, IsPayloadFault, IsUnreadAt}
+use Rattle.verifier_core.specs.Verdict.{Rules, Demands, TokenFails, FailsFor, HasHash, IsBindingMissing, IsChecked, Gives}
 use Rattle.verifier_core.specs.declared.check.VerifyError.{VerifyError}
-use Rattle.verifier_core.specs.declared.policy.Policy.{Policy}
 use Rattle.verifier_core.proofs.CheckSteps.{on_fault, is_payload, signed_passes, signed_fault, payload_passes, payload_fault, given_passes, given_fault, content_fault, content_checked, passed_uncounted}
 use Rattle.verifier_core.proofs.Verdicts.{text_uncounted, token_lowest}
 
@@ -107,27 +106,27 @@ content_seen token rules seen content same is = subst (IsContent token rules) (s
 
 -- ---- the verdict
 
-module _ (text : List ℕ) (policy : Policy) (now : ℕ) (token : Token) (is : IsToken text token) (sent : IsBindingMissing policy token.parts → ⊥) where
-  pub token_refused : (e : VerifyError) → OnFault e (IsLowest (TokenFails token (rules_of policy))) → OnFault e (IsLowest (Fails text policy now))
-  token_refused e = on_fault e _ _ (λ fault l. token_lowest text policy now token is sent fault l)
+module _ (text : List ℕ) (demands : Demands) (now : ℕ) (token : Token) (is : IsToken text token) (sent : IsBindingMissing demands token.parts → ⊥) where
+  pub token_refused : (e : VerifyError) → OnFault e (IsLowest (TokenFails token demands.rules)) → OnFault e (IsLowest (FailsFor text demands now))
+  token_refused e = on_fault e _ _ (λ fault l. token_lowest text demands now token is sent fault l)
 
-  pub read_uncounted : (content : Content) → IsContent token (rules_of policy) content → (old new : ℕ) → IsUncounted (Fails text policy now) old new
-  read_uncounted content has old new = text_uncounted text policy now token is sent old new (content_uncounted token (rules_of policy) content has old new)
+  pub read_uncounted : (content : Content) → IsContent token demands.rules content → (old new : ℕ) → IsUncounted (FailsFor text demands now) old new
+  read_uncounted content has old new = text_uncounted text demands now token is sent old new (content_uncounted token demands.rules content has old new)
 
 -- ---- what is opened of a text that is read
 
-module _ (text : List ℕ) (policy : Policy) (token : Token) (content : Content) (read : IsRead text policy token content) where
-  pub open_refused : (now : ℕ) (e : VerifyError) → OfToken content (λ t rules. OnFault e (IsLowest (TokenFails t rules))) → OnFault e (IsLowest (Fails text policy now))
-  open_refused now e h = token_refused text policy now token read.is_token read.sent e (h token (rules_of policy) read.is_content)
+module _ (text : List ℕ) (demands : Demands) (token : Token) (content : Content) (read : IsRead text demands token content) where
+  pub open_refused : (now : ℕ) (e : VerifyError) → OfToken content (λ t rules. OnFault e (IsLowest (TokenFails t rules))) → OnFault e (IsLowest (FailsFor text demands now))
+  open_refused now e h = token_refused text demands now token read.is_token read.sent e (h token demands.rules read.is_content)
 
-  pub is_opened : (marked : Marked) (hash : HashAlg) → IsChecked token (rules_of policy) marked → OfToken content (λ t rules. HasHash t hash) → IsOpened text policy token marked hash
-  is_opened marked hash checked has = record { is_token = read.is_token; sent = read.sent; checked = checked; hash_is = has token (rules_of policy) read.is_content }
+  pub is_opened : (marked : Marked) (hash : HashAlg) → IsChecked token demands.rules marked → OfToken content (λ t rules. HasHash t hash) → IsOpened text demands token marked hash
+  is_opened marked hash checked has = record { is_token = read.is_token; sent = read.sent; checked = checked; hash_is = has token demands.rules read.is_content }
 
   -- whatever is answered after it is opened
-  pub verdict_of : {A : Type 0} (now : ℕ) (r : Result A VerifyError) (old new : ℕ) → IfOk r (λ _. IsCounted token old new) → OfToken content (λ t rules. IsCountedWithin t old new) → IsVerdict text policy now r old new
+  pub verdict_of : {A : Type 0} (now : ℕ) (r : Result A VerifyError) (old new : ℕ) → IfOk r (λ _. IsCounted token old new) → OfToken content (λ t rules. IsCountedWithin t old new) → IsVerdictFor text demands now r old new
   verdict_of now r old new counted within = record {
     no_memory = λ failed _. read.is_token.passes failed.fault failed.fails;
     counted = IfOk-weaker r _ _ (λ _ h. (token, read.is_token, h)) counted;
-    within = inr (token, read.is_token, within token (rules_of policy) read.is_content);
-    uncounted = read_uncounted text policy now token read.is_token read.sent content read.is_content old new;
+    within = inr (token, read.is_token, within token demands.rules read.is_content);
+    uncounted = read_uncounted text demands now token read.is_token read.sent content read.is_content old new;
   }

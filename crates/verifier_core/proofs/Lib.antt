@@ -16,3 +16,7 @@ pub mod ContentFacts
 pub mod Bounds
 mod Examples
 pub mod BindingPolicies
+pub mod Asked
+pub mod HolderAsked
+pub mod Judgements
+pub mod JudgeSteps

@@ -16,8 +16,7 @@ use Rattle.json_form.proofs.Tokens as tokens
 use Rattle.claim_tree.specs.Tree.{Tree}
 use Rattle.marked_tree.specs.Marked.{Marked, strip}
 use Rattle.compact_form.specs.declared.condition.Condition.{Condition}
-use Rattle.verifier_core.specs.Verdict.{Rules, TokenFails, ClaimFails, MissingFails, HolderFails, FileFails, Fails, of_file, of_missing, of_token, of_claims, of_holder, rules_of, Opens, IsAccepted}
-use Rattle.verifier_core.specs.declared.policy.Policy.{Policy}
+use Rattle.verifier_core.specs.Verdict.{Rules, Demands, TokenFails, ClaimFails, MissingFails, HolderFails, FileFails, FailsFor, of_file, of_missing, of_token, of_claims, of_holder, Opens, IsAcceptedFor}
 use Rattle.compact_form.specs.Lowest.{IsNoLater, IsLowest}
 use Rattle.compact_form.specs.Numbered.{one_condition}
 use Rattle.compact_form.proofs.Numbers.{same_fault}
@@ -69,9 +68,9 @@ module _ (content : List ℕ) where
   token_place _ _ Condition.HeaderUnreadable place h = search rules
   token_place _ _ _ place h = search rules
 
-  claim_place : (payload : Tree) (policy : Policy) (now : ℕ) (c : Condition) (place : Place) → ClaimFails payload policy now c place → Suits content (kind_of c) place
-  claim_place payload policy now Condition.IssuerRefused place h = search rules
-  claim_place payload policy now _ place h = search rules
+  claim_place : (payload : Tree) (demands : Demands) (now : ℕ) (c : Condition) (place : Place) → ClaimFails payload demands now c place → Suits content (kind_of c) place
+  claim_place payload demands now Condition.IssuerRefused place h = search rules
+  claim_place payload demands now _ place h = search rules
 
   file_place : (c : Condition) (place : Place) → FileFails content c place → Suits content (kind_of c) place
   file_place c place (file.too_long e h) =
@@ -84,16 +83,16 @@ module _ (content : List ℕ) where
       let is : c ≡ Condition.TooMuch = one_condition c Condition.TooMuch (ap (λ (x : Fault). x.number) e) in
       subst (λ (d : Condition). Suits content (kind_of d) place) (sym is) (ap (λ (x : Fault). x.place) e)
 
-  missing_place : (policy : Policy) (parts : Parts) (c : Condition) (place : Place) → MissingFails policy parts c place → Suits content (kind_of c) place
-  missing_place policy parts c place h = subst (λ (d : Condition). Suits content (kind_of d) place) (sym h.0) h.1.0
+  missing_place : (demands : Demands) (parts : Parts) (c : Condition) (place : Place) → MissingFails demands parts c place → Suits content (kind_of c) place
+  missing_place demands parts c place h = subst (λ (d : Condition). Suits content (kind_of d) place) (sym h.0) h.1.0
 
   -- a condition on the key binding token fails at no number
   no_number : (j : Judged) (c : Condition) (place : Place) → BindingFails j c place → Suits content (kind_of c) place
   no_number j Condition.HolderKeyUnknown place h = search rules
   no_number j _ place h = search rules
 
-  holder_place : (parts : Parts) (payload : Tree) (hash : HashAlg) (policy : Policy) (now : ℕ) (c : Condition) (place : Place) → HolderFails parts payload hash policy now c place → Suits content (kind_of c) place
-  holder_place parts payload hash policy now c place h = no_number (judged h.token payload h.binding policy.skew hash (hashed parts) now) c place h.fails
+  holder_place : (parts : Parts) (payload : Tree) (hash : HashAlg) (demands : Demands) (now : ℕ) (c : Condition) (place : Place) → HolderFails parts payload hash demands now c place → Suits content (kind_of c) place
+  holder_place parts payload hash demands now c place h = no_number (judged h.token payload h.binding demands.skew hash (hashed parts) now) c place h.fails
 
 -- ---- the lowest
 
@@ -105,25 +104,25 @@ one_token_fault token rules f g l m =
     let places : f.place ≡ g.place = one_place [] (kind_of (failed_of f)) f.place g.place (token_place [] token rules (failed_of f) f.place l.fails) at_g one.1.0 one.1.1 in
     same_fault f g (one_number (TokenFails token rules) f g l m) places
 
-module _ (content : List ℕ) (policy : Policy) (now : ℕ) where
-  place_of : (c : Condition) (place : Place) → Fails content policy now c place → Suits content (kind_of c) place
+module _ (content : List ℕ) (demands : Demands) (now : ℕ) where
+  place_of : (c : Condition) (place : Place) → FailsFor content demands now c place → Suits content (kind_of c) place
   place_of c place (of_file h) = file_place content c place h
-  place_of c place (of_missing token there h) = missing_place content policy token.parts c place h
-  place_of c place (of_token token there h) = token_place content token (rules_of policy) c place h
-  place_of c place (of_claims token marked there opens h) = claim_place content (strip marked) policy now c place h
-  place_of c place (of_holder token marked hash there opens has h) = holder_place content token.parts (strip marked) hash policy now c place h
+  place_of c place (of_missing token there h) = missing_place content demands token.parts c place h
+  place_of c place (of_token token there h) = token_place content token demands.rules c place h
+  place_of c place (of_claims token marked there opens h) = claim_place content (strip marked) demands now c place h
+  place_of c place (of_holder token marked hash there opens has h) = holder_place content token.parts (strip marked) hash demands now c place h
 
-  pub accepted_not_refused : (marked : Marked) (fault : Fault) → IsAccepted content policy now marked → IsLowest (Fails content policy now) fault → ⊥
+  pub accepted_not_refused : (marked : Marked) (fault : Fault) → IsAcceptedFor content demands now marked → IsLowest (FailsFor content demands now) fault → ⊥
   accepted_not_refused marked fault accepted refused = accepted.passes (failed_of fault) fault.place refused.fails
 
-  pub one_lowest : (f g : Fault) → IsLowest (Fails content policy now) f → IsLowest (Fails content policy now) g → f ≡ g
+  pub one_lowest : (f g : Fault) → IsLowest (FailsFor content demands now) f → IsLowest (FailsFor content demands now) g → f ≡ g
   one_lowest f g l m =
-      let one = one_failed (Fails content policy now) f g l m in
+      let one = one_failed (FailsFor content demands now) f g l m in
       let at_g = subst (λ (c : Condition). Suits content (kind_of c) g.place) one.0 (place_of (failed_of g) g.place m.fails) in
       let places : f.place ≡ g.place = one_place content (kind_of (failed_of f)) f.place g.place (place_of (failed_of f) f.place l.fails) at_g one.1.0 one.1.1 in
-      same_fault f g (one_number (Fails content policy now) f g l m) places
+      same_fault f g (one_number (FailsFor content demands now) f g l m) places
 
-  pub one_accepted : (m n : Marked) → IsAccepted content policy now m → IsAccepted content policy now n → m ≡ n
+  pub one_accepted : (m n : Marked) → IsAcceptedFor content demands now m → IsAcceptedFor content demands now n → m ≡ n
   one_accepted m n a b =
       let same : a.token ≡ b.token = tokens.one content a.token b.token a.is_token b.is_token in
       one_opening b.token m n (subst (λ (t : Token). Opens t m) same a.opens) b.opens

@@ -18,7 +18,7 @@ signed_unopened signed outer rules fault (critical w is) = same_fault fault _ is
 signed_unopened signed outer rules fault (bad_alg h has w is) = same_fault fault _ is (omega arith)
 signed_unopened signed outer rules fault (bad_type h has alg w is) = same_fault fault _ is (omega arith)
 signed_unopened signed outer rules fault (no_key h has alg typ w is) = same_fault fault _ is (omega arith)
-signed_unopened signed outer rules fault (not_signed h has alg typ key key_is w is) = same_fault fault _ is (omega arith)
+signed_unopened signed outer rules fault (not_signed h has alg typ known w is) = same_fault fault _ is (omega arith)
 
 pub payload_unopened : (payload : Text) (fault : Fault) → IsPayloadFault payload fault → IsUnopened fault
 payload_unopened payload fault (no_body w is) = same_fault fault _ is (omega arith)

@@ -7,7 +7,6 @@ use Rattle.compact_form.specs.declared.fault.Fault.{Fault}
 use Rattle.compact_form.specs.declared.fault.Place.{Place}
 use Rattle.compact_form.specs.declared.parts.JwtParts.{JwtParts}
 use Rattle.compact_form.specs.declared.parts.Parts.{Parts}
-use Rattle.hmac_sign.specs.Hmac.{AlgKey}
 use Rattle.jws_part.specs.declared.header.Header.{Header}
 use Rattle.jws_part.specs.Header.{IsHeader, IsHeaderUnreadable, IsHeaderCritical}
 use Rattle.jws_part.specs.Part.{IsBody, IsNoObject}
@@ -28,7 +27,7 @@ use Rattle.compact_form.specs.Faults.{fault_number, unplaced, placed}
 use Rattle.compact_form.specs.Lowest.{IsLowest}
 use Rattle.compact_form.specs.Passing.{Passes}
 use Rattle.verifier_core.specs.Content.{Content}
-use Rattle.verifier_core.specs.Verdict.{Rules, TokenFails, Fails, key_for, HasContent, HasHash, IsChecked, IsBindingMissing, rules_of, ClaimFails, HolderFails, IsAlgRefused, IsTypeRefused, IsBadSignature, IsNoDisclosure, Gives}
+use Rattle.verifier_core.specs.Verdict.{Rules, Demands, demands_of, TokenFails, FailsFor, HasContent, HasHash, IsChecked, IsBindingMissing, ClaimFails, HolderFails, IsAlgRefusedBy, IsTypeRefused, IsUnknownBy, IsBadBy, IsNoDisclosure, Gives}
 use Rattle.verifier_core.specs.declared.check.VerifyError.{VerifyError}
 use Rattle.verifier_core.specs.declared.policy.Policy.{Policy}
 
@@ -81,31 +80,34 @@ pub record IsOpening {A : Type 0} (token : Token) (rules : Rules) (result : Resu
   pub within : IsCountedWithin token old new
 
 -- what a verdict on a text says, beside what is accepted and what refused
-pub record IsVerdict {A : Type 0} (text : List ℕ) (policy : Policy) (now : ℕ) (result : Result A VerifyError) (old new : ℕ) : Type 0 where
+pub record IsVerdictFor {A : Type 0} (text : List ℕ) (demands : Demands) (now : ℕ) (result : Result A VerifyError) (old new : ℕ) : Type 0 where
   -- a compact text is judged by the conditions 1 to 3 without memory
   pub no_memory : FailsAsCompact text → result ≢ Err VerifyError.Memory
   -- the look-ups
   pub counted : IfOk result (λ _. (token : Token) × IsToken text token × IsCounted token old new)
   pub within : IsReadWithin text old new
-  pub uncounted : IsUncounted (Fails text policy now) old new
+  pub uncounted : IsUncounted (FailsFor text demands now) old new
+
+abbrev pub IsVerdict : {A : Type 0} → List ℕ → Policy → ℕ → Result A VerifyError → ℕ → ℕ → Type 0
+IsVerdict text policy now result old new = IsVerdictFor text (demands_of policy) now result old new
 
 -- ---- for private functions
 
 -- what fails each condition on what the disclosures show: on the claims, and on the key binding token
-abbrev pub ShownFails : Parts → Tree → HashAlg → Policy → ℕ → Condition → Place → Type 0
-ShownFails parts payload hash policy now c place = ClaimFails payload policy now c place ⊎ HolderFails parts payload hash policy now c place
+abbrev pub ShownFails : Parts → Tree → HashAlg → Demands → ℕ → Condition → Place → Type 0
+ShownFails parts payload hash demands now c place = ClaimFails payload demands now c place ⊎ HolderFails parts payload hash demands now c place
 
--- the text is this token, which passes the conditions 4 to 13 under the policy, and this is read of it
-pub record IsRead (text : List ℕ) (policy : Policy) (token : Token) (content : Content) : Type 0 where
+-- the text is this token, which passes the conditions 4 to 13, and this is read of it
+pub record IsRead (text : List ℕ) (demands : Demands) (token : Token) (content : Content) : Type 0 where
   pub is_token : IsToken text token
-  pub sent : IsBindingMissing policy token.parts → ⊥
-  pub is_content : IsContent token (rules_of policy) content
+  pub sent : IsBindingMissing demands token.parts → ⊥
+  pub is_content : IsContent token demands.rules content
 
--- the text is this token, which passes the conditions 4 to 21 under the policy, with this processed payload and this hash
-pub record IsOpened (text : List ℕ) (policy : Policy) (token : Token) (marked : Marked) (hash : HashAlg) : Type 0 where
+-- the text is this token, which passes the conditions 4 to 21, with this processed payload and this hash
+pub record IsOpened (text : List ℕ) (demands : Demands) (token : Token) (marked : Marked) (hash : HashAlg) : Type 0 where
   pub is_token : IsToken text token
-  pub sent : IsBindingMissing policy token.parts → ⊥
-  pub checked : IsChecked token (rules_of policy) marked
+  pub sent : IsBindingMissing demands token.parts → ⊥
+  pub checked : IsChecked token demands.rules marked
   pub hash_is : HasHash token hash
 
 -- the answer of a test
@@ -117,20 +119,19 @@ TestTells false P = P → ⊥
 pub record IsSigned (signed : JwtParts) (outer : Members) (rules : Rules) : Type 0 where
   pub header : Header
   pub is_header : IsHeader signed.protected outer header
-  pub alg : IsAlgRefused rules.algs header.alg → ⊥
+  pub alg : IsAlgRefusedBy rules.issuers header.alg → ⊥
   pub typ : IsTypeRefused rules.typ header.typ → ⊥
-  pub key : AlgKey
-  pub key_is : key_for rules.keys header ≡ Some key
-  pub good : IsBadSignature key signed → ⊥
+  pub known : IsUnknownBy rules.issuers header signed → ⊥
+  pub good : IsBadBy rules.issuers header signed → ⊥
 
 -- the lowest of the conditions 5 to 10 that fails
 pub data IsSignedFault (signed : JwtParts) (outer : Members) (rules : Rules) (fault : Fault) : Type 0 where
   bad_header : IsHeaderUnreadable signed.protected outer → fault ≡ unplaced Condition.HeaderUnreadable → IsSignedFault signed outer rules fault
   critical : IsHeaderCritical signed.protected outer → fault ≡ unplaced Condition.HeaderCritical → IsSignedFault signed outer rules fault
-  bad_alg : (header : Header) → IsHeader signed.protected outer header → IsAlgRefused rules.algs header.alg → fault ≡ unplaced Condition.AlgRefused → IsSignedFault signed outer rules fault
-  bad_type : (header : Header) → IsHeader signed.protected outer header → (IsAlgRefused rules.algs header.alg → ⊥) → IsTypeRefused rules.typ header.typ → fault ≡ unplaced Condition.TypeRefused → IsSignedFault signed outer rules fault
-  no_key : (header : Header) → IsHeader signed.protected outer header → (IsAlgRefused rules.algs header.alg → ⊥) → (IsTypeRefused rules.typ header.typ → ⊥) → key_for rules.keys header ≡ None → fault ≡ unplaced Condition.IssuerKeyUnknown → IsSignedFault signed outer rules fault
-  not_signed : (header : Header) → IsHeader signed.protected outer header → (IsAlgRefused rules.algs header.alg → ⊥) → (IsTypeRefused rules.typ header.typ → ⊥) → (key : AlgKey) → key_for rules.keys header ≡ Some key → IsBadSignature key signed → fault ≡ unplaced Condition.BadSignature → IsSignedFault signed outer rules fault
+  bad_alg : (header : Header) → IsHeader signed.protected outer header → IsAlgRefusedBy rules.issuers header.alg → fault ≡ unplaced Condition.AlgRefused → IsSignedFault signed outer rules fault
+  bad_type : (header : Header) → IsHeader signed.protected outer header → (IsAlgRefusedBy rules.issuers header.alg → ⊥) → IsTypeRefused rules.typ header.typ → fault ≡ unplaced Condition.TypeRefused → IsSignedFault signed outer rules fault
+  no_key : (header : Header) → IsHeader signed.protected outer header → (IsAlgRefusedBy rules.issuers header.alg → ⊥) → (IsTypeRefused rules.typ header.typ → ⊥) → IsUnknownBy rules.issuers header signed → fault ≡ unplaced Condition.IssuerKeyUnknown → IsSignedFault signed outer rules fault
+  not_signed : (header : Header) → IsHeader signed.protected outer header → (IsAlgRefusedBy rules.issuers header.alg → ⊥) → (IsTypeRefused rules.typ header.typ → ⊥) → (IsUnknownBy rules.issuers header signed → ⊥) → IsBadBy rules.issuers header signed → fault ≡ unplaced Condition.BadSignature → IsSignedFault signed outer rules fault
 
 -- the lowest of the conditions 11 and 12 that fails
 pub data IsPayloadFault (payload : Text) (fault : Fault) : Type 0 where

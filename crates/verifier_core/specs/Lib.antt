@@ -2,6 +2,9 @@ pub mod PolicyFile
 pub mod PolicyVersion
 pub mod VersionTwo
 pub mod Verdict
+pub mod Seen
 pub mod Content
 pub mod Check
+pub mod Asking
+pub mod AskingSteps
 pub mod Verdicts

@@ -117,7 +117,12 @@ pub fn check_token(
     ensures within { IsCountedWithin token.now steps.old steps.new }
     ensures uncounted { IsUncounted (TokenFails token.now (asked keys.now algs.now (option_copied typ.entry))) steps.old steps.new }
 {
-    check(alloc, &token.view(), &Rules { keys, algs, typ }, steps)
+    check(
+        alloc,
+        &token.view(),
+        &Rules::of_keys(keys, algs, typ),
+        steps,
+    )
 }
 
 /// Checks a compact token whose parts are borrowed from its text, as [`check_token`] does.
@@ -142,5 +147,5 @@ pub fn check_view(
 {
     let outer = TreeMap::new(alloc);
     let token = TokenView::in_text(view.copy(), &outer);
-    check(alloc, &token, &Rules { keys, algs, typ }, steps)
+    check(alloc, &token, &Rules::of_keys(keys, algs, typ), steps)
 }

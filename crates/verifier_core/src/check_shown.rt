@@ -1,17 +1,18 @@
-// What a policy wants of the key binding token.
+// What is asked of the key binding token.
 ghost use Rattle.std.specs.Prelude.{◌≡◌, ◌↔◌, ℕ, List, IsTrue, OnOk, IfErr};
 ghost use Rattle.claim_tree.specs.View.{tree_of};
 ghost use Rattle.compact_form.specs.Lowest.{IsLowest, NoneFails};
 ghost use Rattle.key_binding.specs.JudgedSteps.{judged_of};
 ghost use Rattle.key_binding.specs.BindingConditions.{BindingFails};
 ghost use Rattle.key_binding.specs.BindingCalls.{IsLowestBinding, OnBoundFails};
-ghost use Rattle.verifier_core.specs.Verdict.{Fails, IsAccepted, IsBindingMissing, HolderFails};
+ghost use Rattle.verifier_core.specs.Verdict.{FailsFor, IsAcceptedFor, IsBindingMissing, HolderFails};
 ghost use Rattle.verifier_core.specs.Check.{OnFault, IsOpened};
 ghost use Rattle.marked_tree.specs.Marked.{Marked, strip};
 
+use crate::VerifyError;
 use crate::check_signed::fails;
 use crate::claims::check_claims;
-use crate::{Policy, VerifyError};
+use crate::rules::Demands;
 use claim_tree::{JsonReader, Tree};
 use disclosure::HashAlg;
 use json_form::{TokenText, TokenView};
@@ -19,10 +20,13 @@ use key_binding::{Bound, BoundError, check_bound};
 use std::alloc::Global;
 
 // Whether a key binding token is asked for, and there is none.
-pub(crate) fn is_binding_missing(token: &TokenView<'_>, policy: &Policy) -> bool
-    ensures { IsTrue result ↔ IsBindingMissing policy.now token.now.parts }
+pub(crate) fn is_binding_missing(token: &TokenView<'_>, demands: &Demands<'_>) -> bool
+    ensures { IsTrue result ↔ IsBindingMissing demands.now token.now.parts }
 {
-    policy.binding.is_some() && token.binding().is_none()
+    let Some(_) = demands.binding else {
+        return false;
+    };
+    token.binding().is_none()
 }
 
 // The conditions 27 to 38 of the key binding token that is sent. What reads it takes room only here.
@@ -45,13 +49,13 @@ pub(crate) struct Shown<'a, 'text> {
 fn check_holder(
     alloc: Global,
     shown: Shown<'_, '_>,
-    policy: &Policy,
+    demands: &Demands<'_>,
     now: u64,
 ) -> Result<(), VerifyError>
-    ensures passes { OnOk result (NoneFails (HolderFails shown.entry.token.now.parts (tree_of shown.entry.payload.now) shown.entry.hash policy.now now)) }
-    ensures refused { IfErr result (λ e. OnFault e (IsLowest (HolderFails shown.entry.token.now.parts (tree_of shown.entry.payload.now) shown.entry.hash policy.now now))) }
+    ensures passes { OnOk result (NoneFails (HolderFails shown.entry.token.now.parts (tree_of shown.entry.payload.now) shown.entry.hash demands.now now)) }
+    ensures refused { IfErr result (λ e. OnFault e (IsLowest (HolderFails shown.entry.token.now.parts (tree_of shown.entry.payload.now) shown.entry.hash demands.now now))) }
 {
-    let Some(binding) = &policy.binding else {
+    let Some(rules) = demands.binding else {
         return Ok(());
     };
     let Some(sent) = shown.token.view().binding() else {
@@ -60,8 +64,8 @@ fn check_holder(
     let bound = Bound {
         token: sent,
         payload: shown.payload,
-        policy: binding,
-        skew: policy.skew,
+        rules,
+        skew: demands.skew,
         hash: shown.hash,
         hashed: shown.token.hashed(),
         now,
@@ -77,16 +81,16 @@ fn check_holder(
 pub(crate) fn check_shown(
     alloc: Global,
     shown: Shown<'_, '_>,
-    policy: &Policy,
+    demands: &Demands<'_>,
     now: u64,
 ) -> Result<(), VerifyError>
-    ensures accepted { (text : List ℕ) (marked : Marked) → IsOpened text policy.now shown.entry.token.now marked shown.entry.hash
-        → tree_of shown.entry.payload.now ≡ strip marked → OnOk result (IsAccepted text policy.now now marked) }
-    ensures refused { (text : List ℕ) (marked : Marked) → IsOpened text policy.now shown.entry.token.now marked shown.entry.hash
-        → tree_of shown.entry.payload.now ≡ strip marked → IfErr result (λ e. OnFault e (IsLowest (Fails text policy.now now))) }
+    ensures accepted { (text : List ℕ) (marked : Marked) → IsOpened text demands.now shown.entry.token.now marked shown.entry.hash
+        → tree_of shown.entry.payload.now ≡ strip marked → OnOk result (IsAcceptedFor text demands.now now marked) }
+    ensures refused { (text : List ℕ) (marked : Marked) → IsOpened text demands.now shown.entry.token.now marked shown.entry.hash
+        → tree_of shown.entry.payload.now ≡ strip marked → IfErr result (λ e. OnFault e (IsLowest (FailsFor text demands.now now))) }
 {
-    if let Err(fault) = check_claims(shown.payload, policy, now) {
+    if let Err(fault) = check_claims(shown.payload, demands, now) {
         return Err(VerifyError::Fault(fault));
     }
-    check_holder(alloc, shown, policy, now)
+    check_holder(alloc, shown, demands, now)
 }

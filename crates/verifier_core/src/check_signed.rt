@@ -1,20 +1,22 @@
 // The header of a token, and its signature.
-ghost use Rattle.std.specs.Prelude.{◌≡◌, Some, IfErr, IfSome, IfNone, OnOk, option_map};
+ghost use Rattle.std.specs.Prelude.{◌≡◌, List, IfOk, IfErr, OnOk, option_map};
 ghost use Rattle.std.specs.Option.{option_copied};
 ghost use Rattle.compact_form.specs.Views.{jwt_of};
-ghost use Rattle.hmac_sign.specs.Algs.{alg_of_text};
-ghost use Rattle.verifier_core.specs.Verdict.{key_for as key_for_of, IsAlgRefused, IsTypeRefused};
+ghost use Rattle.claim_tree.specs.Tree.{Text};
+ghost use Rattle.key_binding.specs.Caller.{Tells};
+ghost use Rattle.verifier_core.specs.Verdict.{of_keys, key_for as key_for_of, IsAlgRefused, IsAlgRefusedBy, IsTypeRefused, IsUnknownBy, IsBadBy};
+ghost use Rattle.verifier_core.specs.Seen.{issuers_of};
 ghost use Rattle.verifier_core.specs.Check.{OnFault, TestTells, IsSigned, IsSignedFault};
 ghost use Rattle.compact_form.specs.Faults.{unplaced};
 ghost use Rattle.verifier_core.specs.declared.check.VerifyError as error;
 
-use crate::{Rules, VerifyError};
+use crate::{Issuers, Rules, VerifyError};
 use claim_tree::{JsonReader, TreeMap};
 use compact_form::{Condition, JwtView};
-use hmac_sign::{Alg, HsKey, KeySet, alg_named};
+use hmac_sign::{HsKey, KeySet, alg_named};
 use jws_part::{Header, HeaderError, read_header_with};
-use key_binding::is_among;
-use sd_outside::{TextBox, TextList};
+use key_binding::{SignatureAnswer, is_among};
+use sd_outside::{NoMemory, TextBox, TextList};
 use std::alloc::Global;
 
 // A condition that names no place.
@@ -25,27 +27,67 @@ pub(crate) fn fails(condition: Condition) -> VerifyError
 }
 
 // The key that a header asks for, of its algorithm.
-fn key_for<'a>(keys: &'a KeySet, header: &Header, alg: Alg) -> Option<&'a HsKey>
-    requires { alg_of_text header.now.alg ≡ Some alg }
+fn key_for<'a>(keys: &'a KeySet, header: &Header) -> Option<&'a HsKey>
     ensures { option_map (λ key. key.now) result ≡ key_for_of keys.now header.now }
 {
+    let alg = alg_named(header.alg.as_str())?;
     match &header.kid {
         Some(kid) => keys.pick(Some(kid.as_str()), alg),
         None => keys.pick(None, alg),
     }
 }
 
-// The algorithm of this name, where it is one of those.
-fn alg_among(algs: &TextList, name: &str) -> Option<Alg>
-    ensures known { IfSome result (λ alg. alg_of_text name.now ≡ Some alg) }
-    ensures taken { IfSome result (λ _. IsAlgRefused algs.now name.now → ⊥) }
-    ensures refused { IfNone result (IsAlgRefused algs.now name.now) }
+// Whether the algorithm of this name is not known, or is none of those.
+fn is_name_refused(algs: &TextList, alg: &str) -> bool
+    ensures { TestTells result (IsAlgRefused algs.now alg.now) }
 {
-    let alg = alg_named(name)?;
-    if is_among(algs, name) {
-        Some(alg)
+    let Some(_) = alg_named(alg) else {
+        return true;
+    };
+    !is_among(algs, alg)
+}
+
+// Whether signatures of this algorithm are not taken.
+fn is_alg_refused(issuers: Issuers<'_>, alg: &str) -> bool
+    ensures { TestTells result (IsAlgRefusedBy (issuers_of issuers.entry) alg.now) }
+{
+    match issuers {
+        Issuers::Keys { keys: _, algs } => is_name_refused(algs, alg),
+        Issuers::Caller(caller) => caller.refuses(alg),
+    }
+}
+
+// What there is to say of the signature under the key that the header asks for.
+fn answer_of_keys(
+    alloc: Global,
+    keys: &KeySet,
+    header: &Header,
+    signed: JwtView<'_>,
+) -> Result<SignatureAnswer, NoMemory>
+    ensures { (algs : List Text) → IfOk result (λ answer. Tells answer (IsUnknownBy (of_keys keys.now algs) header.now (jwt_of signed.entry)) (IsBadBy (of_keys keys.now algs) header.now (jwt_of signed.entry))) }
+{
+    let Some(key) = key_for(keys, header) else {
+        return Ok(SignatureAnswer::Unknown);
+    };
+    if key.check_text(alloc, signed.protected, signed.payload, signed.signature)? {
+        Ok(SignatureAnswer::Good)
     } else {
-        None
+        Ok(SignatureAnswer::Bad)
+    }
+}
+
+// What there is to say of the signature.
+fn answer_on(
+    alloc: Global,
+    issuers: Issuers<'_>,
+    header: &Header,
+    signed: JwtView<'_>,
+) -> Result<SignatureAnswer, NoMemory>
+    ensures { IfOk result (λ answer. Tells answer (IsUnknownBy (issuers_of issuers.entry) header.now (jwt_of signed.entry)) (IsBadBy (issuers_of issuers.entry) header.now (jwt_of signed.entry))) }
+{
+    match issuers {
+        Issuers::Keys { keys, algs: _ } => answer_of_keys(alloc, keys, header, signed),
+        Issuers::Caller(caller) => caller.tells(alloc, signed.signature),
     }
 }
 
@@ -78,18 +120,15 @@ pub(crate) fn check_signed(
         Err(HeaderError::Unreadable) => return Err(fails(Condition::HeaderUnreadable)),
         Err(HeaderError::Critical) => return Err(fails(Condition::HeaderCritical)),
     };
-    let Some(alg) = alg_among(rules.algs, header.alg.as_str()) else {
+    if is_alg_refused(rules.issuers, header.alg.as_str()) {
         return Err(fails(Condition::AlgRefused));
-    };
+    }
     if is_type_refused(rules.typ, header.typ.as_ref()) {
         return Err(fails(Condition::TypeRefused));
     }
-    let Some(key) = key_for(rules.keys, &header, alg) else {
-        return Err(fails(Condition::IssuerKeyUnknown));
-    };
-    let is_good = key.check_text(alloc, signed.protected, signed.payload, signed.signature)?;
-    if !is_good {
-        return Err(fails(Condition::BadSignature));
+    match answer_on(alloc, rules.issuers, &header, signed)? {
+        SignatureAnswer::Good => Ok(()),
+        SignatureAnswer::Bad => Err(fails(Condition::BadSignature)),
+        SignatureAnswer::Unknown => Err(fails(Condition::IssuerKeyUnknown)),
     }
-    Ok(())
 }

@@ -1,4 +1,4 @@
-// What a policy wants of the claims of the processed payload.
+// What is asked of the claims of the processed payload.
 ghost use Rattle.std.specs.Prelude.{◌≡◌, ◌≢◌, ◌↔◌, ℕ, Some, None, codes, IsTrue, OnOk, IfErr, IfSome, IfNone};
 ghost use Rattle.claim_tree.specs.Tree.{Text, get as get_of};
 ghost use Rattle.claim_tree.specs.Lists.{StandsAt, IsLeast};
@@ -6,7 +6,7 @@ ghost use Rattle.claim_tree.specs.View.{tree_of};
 ghost use Rattle.verifier_core.specs.Verdict.{ClaimFails, NamesIssuer, IsIssuerRefused};
 ghost use Rattle.compact_form.specs.Lowest.{IsLowest, NoneFails};
 
-use crate::Policy;
+use crate::rules::Demands;
 use claim_tree::{Tree, get};
 use compact_form::{Condition, Fault, Place};
 use jws_part::{is_expired, is_not_yet, is_time_unreadable};
@@ -24,10 +24,10 @@ fn has_issuer(payload: &Tree, issuers: &TextList) -> bool
 }
 
 // Whether an issuer is wanted, and the payload names none or another (RFC 7519 section 4.1.1).
-fn is_issuer_refused(payload: &Tree, policy: &Policy) -> bool
-    ensures { IsTrue result ↔ IsIssuerRefused policy.now.iss (get_of (tree_of payload.now) (codes "iss")) }
+fn is_issuer_refused(payload: &Tree, demands: &Demands<'_>) -> bool
+    ensures { IsTrue result ↔ IsIssuerRefused demands.now.iss (get_of (tree_of payload.now) (codes "iss")) }
 {
-    match &policy.iss {
+    match demands.iss {
         Some(issuers) => !has_issuer(payload, issuers),
         None => false,
     }
@@ -47,25 +47,25 @@ fn first_missing(payload: &Tree, names: &TextList) -> Option<usize>
     None
 }
 
-// Whether the policy accepts the claims of a processed payload, at a moment in seconds since 1970. The fault is that of
+// Whether the claims of a processed payload are as is asked, at a moment in seconds since 1970. The fault is that of
 // the lowest condition that fails.
-pub(crate) fn check_claims(payload: &Tree, policy: &Policy, now: u64) -> Result<(), Fault>
-    ensures passes { OnOk result (NoneFails (ClaimFails (tree_of payload.now) policy.now now)) }
-    ensures lowest { IfErr result (IsLowest (ClaimFails (tree_of payload.now) policy.now now)) }
+pub(crate) fn check_claims(payload: &Tree, demands: &Demands<'_>, now: u64) -> Result<(), Fault>
+    ensures passes { OnOk result (NoneFails (ClaimFails (tree_of payload.now) demands.now now)) }
+    ensures lowest { IfErr result (IsLowest (ClaimFails (tree_of payload.now) demands.now now)) }
 {
-    if is_issuer_refused(payload, policy) {
+    if is_issuer_refused(payload, demands) {
         return Err(Condition::IssuerRefused.fault());
     }
-    if let Some(i) = first_missing(payload, &policy.require) {
+    if let Some(i) = first_missing(payload, demands.require) {
         return Err(Condition::ClaimMissing.fault_at(Place::At(i)));
     }
     if is_time_unreadable(payload) {
         return Err(Condition::TimeUnreadable.fault());
     }
-    if is_expired(payload, policy.skew, now) {
+    if is_expired(payload, demands.skew, now) {
         return Err(Condition::Expired.fault());
     }
-    if is_not_yet(payload, policy.skew, now) {
+    if is_not_yet(payload, demands.skew, now) {
         return Err(Condition::NotYet.fault());
     }
     Ok(())

@@ -1,5 +1,5 @@
 // What is read of a token by the conditions 5 to 13, and what is opened of it by the conditions 14 to 21.
-ghost use Rattle.std.specs.Prelude.{◌≡◌, ◌≤◌, ◌<◌, ◌-◌, ◌^◌, length, IfOk, IfErr};
+ghost use Rattle.std.specs.Prelude.{◌≡◌, ◌≤◌, ◌<◌, ◌-◌, ◌^◌, length, IfOk, IfErr, OnOk};
 ghost use Rattle.sd_outside.specs.Limits.{json_depth_max};
 ghost use Rattle.claim_tree.specs.Tree.{depth};
 ghost use Rattle.claim_tree.specs.View.{tree_of};
@@ -7,8 +7,9 @@ ghost use Rattle.compact_form.specs.Lowest.{IsLowest};
 ghost use Rattle.marked_tree.specs.Marked.{strip as strip_of};
 ghost use Rattle.marked_tree.specs.View.{marked_of};
 ghost use Rattle.verifier_core.specs.Verdict.{TokenFails, IsChecked, HasHash};
+ghost use Rattle.verifier_core.specs.Asking.{IsEarlyOrSigned};
 ghost use Rattle.verifier_core.specs.Verdicts.{IsCheckedAs};
-ghost use Rattle.verifier_core.specs.Check.{OnFault, IsUnopened, IsContent, OfToken, IsOpening, process_fault, judged_of};
+ghost use Rattle.verifier_core.specs.Check.{OnFault, IsUnopened, IsContent, OfToken, IsOpening, IsSigned, process_fault, judged_of};
 
 use crate::check::fails_at;
 use crate::check_given::read_given;
@@ -91,6 +92,10 @@ impl Content {
         ensures content { IfOk result (IsContent token.now rules.now) }
         ensures refused { IfErr result (λ e. OnFault e (IsLowest (TokenFails token.now rules.now))) }
         ensures unopened { IfErr result (λ e. OnFault e IsUnopened) }
+
+        // whose signature is good
+        ensures signed { OnOk result (IsSigned token.now.parts.signed token.now.outer rules.now) }
+        ensures early { IfErr result (λ e. OnFault e (IsEarlyOrSigned token.now rules.now)) }
     {
         let mut reader = DisclosureReader::new(alloc);
         let signed = token.signed();

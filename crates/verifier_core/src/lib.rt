@@ -7,6 +7,7 @@
 //! condition that fails.
 #![tactic(auto)]
 
+mod asking;
 mod binding_file;
 mod check;
 mod check_given;
@@ -21,11 +22,12 @@ mod policy_version;
 mod rules;
 mod verdict;
 
+pub use asking::{Answers, JudgeError, Judgement, Question, judge};
 pub use binding_file::AGE_MAX;
 pub use check::{Checked, VerifyError, check_token, check_view};
 pub use compact_form::fault_line;
 pub use content::Content;
 pub use policy::{Policy, SKEW_MAX, keys_member, read_policy};
 pub use policy_version::{AUDIENCES_MAX, PolicyVersion};
-pub use rules::Rules;
+pub use rules::{Issuers, Rules};
 pub use verdict::{Accepted, verify, verify_payload};

@@ -1,22 +1,25 @@
 // The policy of a verifier, and the file that says it.
-ghost use Rattle.std.specs.Prelude.{◌≡◌, [], ◌∷◌, codes, IfOk, IfErr};
+ghost use Rattle.std.specs.Prelude.{◌≡◌, [], ◌∷◌, codes, IfOk, IfErr, option_map};
 ghost use Rattle.sd_outside.specs.Limits.{skew_max};
 ghost use Rattle.claim_tree.specs.FileForms.{IsTexts, IsWholeUpTo, Says, SaysOr, required, optional, found};
 ghost use Rattle.claim_tree.specs.FileRefusals.{IsMemberRefused};
 ghost use Rattle.claim_tree.specs.declared.file_fault.Field.TheVariants.{Algs, Require, Skew};
 ghost use Rattle.hmac_sign.specs.Keys.{IsKeySet};
 ghost use Rattle.verifier_core.specs.PolicyFile.{IsPolicyFile, IsPolicyFileRefused};
-ghost use Rattle.verifier_core.specs.Verdict.{rules_of};
+ghost use Rattle.key_binding.specs.Judged.{binding_rules};
+ghost use Rattle.key_binding.specs.JudgedSteps.{rules_seen};
+ghost use Rattle.verifier_core.specs.Verdict.{rules_of, demands_of};
 
 use crate::Rules;
 use crate::binding_file::binding_member;
 use crate::policy_version::{issuers_member, version_member};
+use crate::rules::Demands;
 use claim_tree::{
     Field, FileFault, TreeMap, read_members, text_list_member, text_member, whole_member,
 };
 use compact_form::FILE_MAX;
 use hmac_sign::{KeySet, KeySetError};
-use key_binding::BindingPolicy;
+use key_binding::{BindingPolicy, BindingRules};
 use sd_outside::{TextBox, TextList};
 use std::alloc::Global;
 
@@ -58,10 +61,29 @@ impl Policy {
     pub fn rules(&self) -> Rules<'_>
         ensures { result ≡ rules_of self.now }
     {
-        Rules {
-            keys: &self.keys,
-            algs: &self.algs,
-            typ: self.typ.as_ref(),
+        Rules::of_keys(&self.keys, &self.algs, self.typ.as_ref())
+    }
+
+    // What it asks of a token file.
+    pub(crate) fn demands(&self) -> Demands<'_>
+        ensures { result ≡ demands_of self.now }
+    {
+        Demands {
+            rules: self.rules(),
+            iss: self.iss.as_ref(),
+            require: &self.require,
+            skew: self.skew,
+            binding: self.binding_rules(),
+        }
+    }
+
+    // What it asks of a key binding token, where one is asked for.
+    fn binding_rules(&self) -> Option<BindingRules<'_>>
+        ensures { option_map rules_seen result ≡ option_map binding_rules self.now.binding }
+    {
+        match &self.binding {
+            Some(binding) => Some(binding.rules()),
+            None => None,
         }
     }
 }

@@ -4,14 +4,16 @@ ghost use Rattle.claim_tree.specs.View.{tree_of};
 ghost use Rattle.marked_tree.specs.Marked.{Marked as SeenMarked, strip as strip_of};
 ghost use Rattle.marked_tree.specs.View.{marked_of};
 ghost use Rattle.json_form.specs.Token.{IsToken, IsTextRefused};
-ghost use Rattle.verifier_core.specs.Verdict.{Fails, IsAccepted, IsChecked, IsBindingMissing, rules_of};
+ghost use Rattle.verifier_core.specs.Verdict.{Fails, FailsFor, IsAccepted, IsAcceptedFor, IsChecked, IsBindingMissing};
+ghost use Rattle.verifier_core.specs.Asking.{IsEarlyOrSigned};
 ghost use Rattle.verifier_core.specs.Verdicts.{IsAcceptedAs, IsBounded};
 ghost use Rattle.compact_form.specs.Lowest.{IsLowest};
 ghost use Rattle.compact_form.specs.Trim.{trimmed, is_json as is_json_test};
-ghost use Rattle.verifier_core.specs.Check.{OnFault, FailsAsCompact, IsContent, OfToken, IsRead, IsOpening, IsVerdict};
+ghost use Rattle.verifier_core.specs.Check.{OnFault, IsUnopened, FailsAsCompact, IsContent, OfToken, IsRead, IsOpening, IsVerdict, IsVerdictFor, IsSigned};
 
 use crate::check_shown::{Shown, check_shown, is_binding_missing};
 use crate::check_signed::fails;
+use crate::rules::Demands;
 use crate::{Content, Policy, VerifyError};
 use claim_tree::Tree;
 use compact_form::Condition;
@@ -30,7 +32,7 @@ pub struct Accepted {
 }
 
 // The conditions 1 to 3.
-fn read_text<'a>(alloc: Global, text: &'a [u8]) -> Result<TokenText<'a>, VerifyError>
+pub(crate) fn read_text<'a>(alloc: Global, text: &'a [u8]) -> Result<TokenText<'a>, VerifyError>
     ensures ok { IfOk result (IsToken text.now) }
     ensures refused { IfErr result (λ e. OnFault e (IsTextRefused text.now)) }
     ensures no_memory { is_json_test (trimmed text.now) ≡ false → result ≢ Err VerifyError.Memory }
@@ -43,38 +45,41 @@ fn read_text<'a>(alloc: Global, text: &'a [u8]) -> Result<TokenText<'a>, VerifyE
 }
 
 // The conditions 4 to 13 of a token that is read.
-fn read_content(
+pub(crate) fn read_content(
     alloc: Global,
     token: &TokenText<'_>,
-    policy: &Policy,
+    demands: &Demands<'_>,
 ) -> Result<Content, VerifyError>
     requires few { length token.now.parts.disclosures < 2 ^ 32 - 1 }
-    ensures sent { OnOk result (IsBindingMissing policy.now token.now.parts → ⊥) }
-    ensures content { IfOk result (IsContent token.now (rules_of policy.now)) }
-    ensures refused { (text : List ℕ) (now : ℕ) → IsToken text token.now → IfErr result (λ e. OnFault e (IsLowest (Fails text policy.now now))) }
+    ensures sent { OnOk result (IsBindingMissing demands.now token.now.parts → ⊥) }
+    ensures content { IfOk result (IsContent token.now demands.now.rules) }
+    ensures refused { (text : List ℕ) (now : ℕ) → IsToken text token.now → IfErr result (λ e. OnFault e (IsLowest (FailsFor text demands.now now))) }
+    ensures unopened { IfErr result (λ e. OnFault e IsUnopened) }
+    ensures signed { OnOk result (IsSigned token.now.parts.signed token.now.outer demands.now.rules) }
+    ensures early { IfErr result (λ e. OnFault e (IsEarlyOrSigned token.now demands.now.rules)) }
 {
     let view = token.view();
-    if is_binding_missing(&view, policy) {
+    if is_binding_missing(&view, demands) {
         return Err(fails(Condition::BindingMissing));
     }
-    Content::read(alloc, &view, &policy.rules())
+    Content::read(alloc, &view, &demands.rules)
 }
 
 // The conditions 1 to 13 of a text.
 fn read<'a>(
     alloc: Global,
     text: &'a [u8],
-    policy: &Policy,
+    demands: &Demands<'_>,
 ) -> Result<(TokenText<'a>, Content), VerifyError>
-    ensures read { IfOk result (λ r. IsRead text.now policy.now r.0 r.1) }
-    ensures refused { (now : ℕ) → IfErr result (λ e. OnFault e (IsLowest (Fails text.now policy.now now))) }
+    ensures read { IfOk result (λ r. IsRead text.now demands.now r.0 r.1) }
+    ensures refused { (now : ℕ) → IfErr result (λ e. OnFault e (IsLowest (FailsFor text.now demands.now now))) }
     ensures no_memory { FailsAsCompact text.now → result ≢ Err VerifyError.Memory }
 {
     let token = match read_text(alloc, text) {
         Ok(token) => token,
         Err(error) => return Err(error),
     };
-    match read_content(alloc, &token, policy) {
+    match read_content(alloc, &token, demands) {
         Ok(content) => Ok((token, content)),
         Err(error) => Err(error),
     }
@@ -127,18 +132,18 @@ impl Opened for Tree {
 }
 
 // The verdict on a token file, with what the token is opened to.
-fn judge<T: Opened>(
+fn judged<T: Opened>(
     alloc: Global,
     text: &[u8],
-    policy: &Policy,
+    demands: &Demands<'_>,
     now: u64,
     steps: &mut Steps,
 ) -> Result<T, VerifyError>
-    ensures accepted { IfOk result (λ opened. (marked : SeenMarked) × IsAccepted text.now policy.now now marked × T.Shows opened marked) }
-    ensures refused { IfErr result (λ e. OnFault e (IsLowest (Fails text.now policy.now now))) }
-    ensures verdict { IsVerdict text.now policy.now now result steps.old steps.new }
+    ensures accepted { IfOk result (λ opened. (marked : SeenMarked) × IsAcceptedFor text.now demands.now now marked × T.Shows opened marked) }
+    ensures refused { IfErr result (λ e. OnFault e (IsLowest (FailsFor text.now demands.now now))) }
+    ensures verdict { IsVerdictFor text.now demands.now now result steps.old steps.new }
 {
-    let (token, content) = match read(alloc, text, policy) {
+    let (token, content) = match read(alloc, text, demands) {
         Ok(read) => read,
         Err(error) => return Err(error),
     };
@@ -152,7 +157,7 @@ fn judge<T: Opened>(
         payload: opened.payload(),
         hash,
     };
-    if let Err(error) = check_shown(alloc, shown, policy, now) {
+    if let Err(error) = check_shown(alloc, shown, demands, now) {
         return Err(error);
     }
     Ok(opened)
@@ -177,7 +182,7 @@ pub fn verify(
     ensures refused { IfErr result (λ e. OnFault e (IsLowest (Fails text.now policy.now now))) }
     ensures verdict { IsVerdict text.now policy.now now result steps.old steps.new }
 {
-    judge(alloc, text, policy, now, steps)
+    judged(alloc, text, &policy.demands(), now, steps)
 }
 
 /// The same, for who needs no marks: the processed payload alone.
@@ -193,5 +198,5 @@ pub fn verify_payload(
     ensures refused { IfErr result (λ e. OnFault e (IsLowest (Fails text.now policy.now now))) }
     ensures verdict { IsVerdict text.now policy.now now result steps.old steps.new }
 {
-    judge(alloc, text, policy, now, steps)
+    judged(alloc, text, &policy.demands(), now, steps)
 }

@@ -25,7 +25,7 @@ returns-then-ne-clause-refused c =
     let fresh = at34 j c.requires.below claims c.requires.read (λ stale. no_truth _ c.if-is_stale.false (c.is_stale.ensures.1 stale)) in
     let made = at35 j fresh claims c.requires.read (λ early. no_truth _ c.if-is_early.false (c.is_early.ensures.1 early)) in
     refuse j Condition.NonceDiffers made
-    (refl, (claims, c.requires.read, told_other claims.nonce j.policy.nonce c.ne.result (c.ne.ensures ∙ ap (λ t. not (bytes_eq claims.nonce t)) c.as_str.ensures) c.if-ne.true))
+    (refl, (claims, c.requires.read, told_other claims.nonce j.rules.nonce c.ne.result (c.ne.ensures ∙ ap (λ t. not (bytes_eq claims.nonce t)) c.as_str.ensures) c.if-ne.true))
 
 pub returns-then-not-is_among-clause-refused : goal.returns-then-not-is_among-clause-refused
 returns-then-not-is_among-clause-refused c =
@@ -33,7 +33,7 @@ returns-then-not-is_among-clause-refused c =
     let claims = claims_of c.args.claims in
     let fresh = at34 j c.requires.below claims c.requires.read (λ stale. no_truth _ c.if-is_stale.false (c.is_stale.ensures.1 stale)) in
     let made = at35 j fresh claims c.requires.read (λ early. no_truth _ c.if-is_early.false (c.is_early.ensures.1 early)) in
-    let nonces = told_same claims.nonce j.policy.nonce c.ne.result (c.ne.ensures ∙ ap (λ t. not (bytes_eq claims.nonce t)) c.as_str.ensures) c.if-ne.false in
+    let nonces = told_same claims.nonce j.rules.nonce c.ne.result (c.ne.ensures ∙ ap (λ t. not (bytes_eq claims.nonce t)) c.as_str.ensures) c.if-ne.false in
     refuse j Condition.AudienceDiffers (at36 j made claims c.requires.read nonces)
     (refl, (claims, c.requires.read, λ among. no_truth _ c.if-not-is_among.true (c.is_among.ensures.1 among)))
 
@@ -43,5 +43,5 @@ returns-clause-ok c =
     let claims = claims_of c.args.claims in
     let fresh = at34 j c.requires.below claims c.requires.read (λ stale. no_truth _ c.if-is_stale.false (c.is_stale.ensures.1 stale)) in
     let made = at35 j fresh claims c.requires.read (λ early. no_truth _ c.if-is_early.false (c.is_early.ensures.1 early)) in
-    let nonces = told_same claims.nonce j.policy.nonce c.ne.result (c.ne.ensures ∙ ap (λ t. not (bytes_eq claims.nonce t)) c.as_str.ensures) c.if-ne.false in
+    let nonces = told_same claims.nonce j.rules.nonce c.ne.result (c.ne.ensures ∙ ap (λ t. not (bytes_eq claims.nonce t)) c.as_str.ensures) c.if-ne.false in
     at37 j (at36 j made claims c.requires.read nonces) claims c.requires.read (c.is_among.ensures.0 c.if-not-is_among.false)

@@ -2,14 +2,14 @@ use Rattle.std.proofs.Common.{◌≡◌, Err, ap}
 use Rattle.compact_form.specs.Lowest.{IsLowest}
 use Rattle.json_form.specs.Token.{IsTextRefused}
 use Rattle.verifier_core.specs.declared.check.VerifyError.{VerifyError}
-use Rattle.verifier_core.specs.Verdict.{Fails}
+use Rattle.verifier_core.specs.Verdict.{FailsFor}
 use Rattle.verifier_core.proofs.CheckSteps.{on_fault}
 use Rattle.verifier_core.proofs.Verdicts.{few, file_lowest}
 use Rattle.verifier_core.proofs.verdict.read.Goals as goal
 
 pub returns-in-Err-clause-refused : goal.returns-in-Err-clause-refused
 returns-in-Err-clause-refused c now =
-    on_fault c.in-Err.error (IsTextRefused c.args.text.now) (IsLowest (Fails c.args.text.now c.args.policy.now now)) (λ fault refused. file_lowest c.args.text.now c.args.policy.now now fault refused) c.in-Err.ensures.refused
+    on_fault c.in-Err.error (IsTextRefused c.args.text.now) (IsLowest (FailsFor c.args.text.now c.args.demands.now now)) (λ fault refused. file_lowest c.args.text.now c.args.demands.now now fault refused) c.in-Err.ensures.refused
 
 pub returns-in-Err-clause-no_memory : goal.returns-in-Err-clause-no_memory
 returns-in-Err-clause-no_memory c = λ failed is.

@@ -1,8 +1,7 @@
 use Rattle.std.proofs.Common.{◌≡◌, Ok, Err, inl, refl, ap}
 use Rattle.verifier_core.specs.declared.check.VerifyError.{VerifyError}
-use Rattle.verifier_core.specs.Verdict.{rules_of}
 use Rattle.verifier_core.proofs.Contents.{open_refused, is_opened, verdict_of}
-use Rattle.verifier_core.proofs.verdict.judge.Goals as goal
+use Rattle.verifier_core.proofs.verdict.judged.Goals as goal
 
 pub returns-in-Err-clause-refused : goal.returns-in-Err-clause-refused
 returns-in-Err-clause-refused g c = c.in-Err.ensures.refused c.args.now
@@ -23,7 +22,7 @@ returns-in-Err-open-clause-verdict g c = verdict_of _ _ _ _ c.in-Ok.ensures.read
 
 pub returns-in-Err-check_shown-clause-refused : goal.returns-in-Err-check_shown-clause-refused
 returns-in-Err-check_shown-clause-refused g c =
-    let told = c.in-Ok-open.ensures.checked c.in-Ok.read.0 (rules_of c.args.policy.now) c.in-Ok.ensures.read.is_content in
+    let told = c.in-Ok-open.ensures.checked c.in-Ok.read.0 c.args.demands.now.rules c.in-Ok.ensures.read.is_content in
     c.in-Err-check_shown.ensures.refused c.args.text.now told.0 (is_opened _ _ _ _ c.in-Ok.ensures.read _ _ told.1 c.hash-hash.ensures) (c.payload.ensures told.0 told.2)
 
 pub returns-in-Err-check_shown-clause-verdict : goal.returns-in-Err-check_shown-clause-verdict
@@ -31,10 +30,10 @@ returns-in-Err-check_shown-clause-verdict g c = verdict_of _ _ _ _ c.in-Ok.ensur
 
 pub returns-clause-accepted : goal.returns-clause-accepted
 returns-clause-accepted g c =
-    let told = c.in-Ok-open.ensures.checked c.in-Ok.read.0 (rules_of c.args.policy.now) c.in-Ok.ensures.read.is_content in
+    let told = c.in-Ok-open.ensures.checked c.in-Ok.read.0 c.args.demands.now.rules c.in-Ok.ensures.read.is_content in
     (told.0, c.in_default.ensures.accepted c.args.text.now told.0 (is_opened _ _ _ _ c.in-Ok.ensures.read _ _ told.1 c.hash-hash.ensures) (c.payload.ensures told.0 told.2), told.2)
 
 pub returns-clause-verdict : goal.returns-clause-verdict
 returns-clause-verdict g c =
-    let counted = (c.in-Ok-open.ensures.opened c.in-Ok.read.0 (rules_of c.args.policy.now) c.in-Ok.ensures.read.is_content).counted in
+    let counted = (c.in-Ok-open.ensures.opened c.in-Ok.read.0 c.args.demands.now.rules c.in-Ok.ensures.read.is_content).counted in
     verdict_of _ _ _ _ c.in-Ok.ensures.read c.args.now (Ok c.in-Ok-open.opened) _ _ counted (λ t rules is. (c.in-Ok-open.ensures.opened t rules is).within)

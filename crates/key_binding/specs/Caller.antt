@@ -1,0 +1,38 @@
+-- What a caller says of signatures that it checks itself, and which algorithms it takes.
+use Rattle.std.specs.Prelude.{◌≡◌, ◌⊎◌, true, List, [], Option, Some, nat_eq, codes}
+use Rattle.std.specs.List.{starts_with}
+use Rattle.b64url_text.specs.NotBase64.{IsNotBase64}
+use Rattle.claim_tree.specs.Tree.{Text}
+use Rattle.claim_tree.specs.Lists.{In}
+use Rattle.key_binding.specs.declared.caller.SignatureAnswer.{SignatureAnswer}
+
+-- the algorithms that are taken, and what is said of the signature, where it was asked
+pub record Caller : Type 0 where
+  pub algs : List Text
+  pub answer : Option SignatureAnswer
+
+-- no name, `none`, or one of a shared key, for which a public key could be taken (RFC 8725 section 3.1)
+abbrev pub IsNeverTaken : Text → Type 0
+IsNeverTaken alg = (alg ≡ []) ⊎ ((alg ≡ codes "none") ⊎ (starts_with nat_eq alg (codes "HS") ≡ true))
+
+-- signatures of the algorithm are not taken
+abbrev pub IsAlgUntaken : Caller → Text → Type 0
+IsAlgUntaken caller alg = IsNeverTaken alg ⊎ (In alg caller.algs → ⊥)
+
+-- the text is the base64url text of a signature, and this was said of it
+abbrev pub IsAnswered : Caller → SignatureAnswer → Text → Type 0
+IsAnswered caller answer text = (IsNotBase64 text → ⊥) × (caller.answer ≡ Some answer)
+
+-- there is no key for it
+abbrev pub IsUnknownTo : Caller → Text → Type 0
+IsUnknownTo caller text = IsAnswered caller SignatureAnswer.Unknown text
+
+-- it is not good
+abbrev pub IsBadTo : Caller → Text → Type 0
+IsBadTo caller text = IsAnswered caller SignatureAnswer.Good text → ⊥
+
+-- what an answer says: that the key is unknown, that it is known and the signature bad, or that neither is so
+abbrev pub Tells : SignatureAnswer → Type 0 → Type 0 → Type 0
+Tells SignatureAnswer.Unknown unknown bad = unknown
+Tells SignatureAnswer.Bad unknown bad = (unknown → ⊥) × bad
+Tells SignatureAnswer.Good unknown bad = (unknown → ⊥) × (bad → ⊥)

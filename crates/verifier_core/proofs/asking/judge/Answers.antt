@@ -1,0 +1,18 @@
+use Rattle.json_form.specs.Token.{IsTextRefused}
+use Rattle.verifier_core.specs.Asking.{caller_demands}
+use Rattle.verifier_core.proofs.Asked.{done_low}
+use Rattle.verifier_core.proofs.JudgeSteps.{at_fault, text_lowest, text_low}
+use Rattle.verifier_core.proofs.asking.judge.Goals as goal
+
+pub refused-requires-clause-lowest : goal.refused-requires-clause-lowest
+refused-requires-clause-lowest c =
+    let a = c.args in
+    text_lowest a.text.now (caller_demands a.policy.now a.binding_algs.now a.answers) a.now c.in_ok-fault_of-in-Err.field-0
+    (at_fault c.in-Err.error c.in_ok-fault_of-in-Err.field-0 (IsTextRefused a.text.now) c.in_ok-fault_of-in-Err.ensures c.in-Err.ensures.refused)
+
+pub refused-requires-clause-done : goal.refused-requires-clause-done
+refused-requires-clause-done c =
+    let a = c.args in
+    let demands = caller_demands a.policy.now a.binding_algs.now a.answers in
+    let refused = at_fault c.in-Err.error c.in_ok-fault_of-in-Err.field-0 (IsTextRefused a.text.now) c.in_ok-fault_of-in-Err.ensures c.in-Err.ensures.refused in
+    done_low a.text.now demands a.now c.in_ok-fault_of-in-Err.field-0 (text_lowest a.text.now demands a.now c.in_ok-fault_of-in-Err.field-0 refused) a.answers (text_low a.text.now demands a.now c.in_ok-fault_of-in-Err.field-0 refused)

@@ -1,0 +1,69 @@
+use Rattle.claim_tree.specs.View.{tree_of}
+use Rattle.verifier_core.proofs.Verdicts.{few}
+use Rattle.verifier_core.proofs.JudgeSteps.{opened_lowest, opened_needed, opened_done, shown_accepted, shown_lowest, shown_opened}
+use Rattle.verifier_core.proofs.asking.judge_token.Goals as goal
+
+pub read_content-requires : goal.read_content-requires
+read_content-requires c = record { few = few c.args.case.text.now c.args.token.now c.requires.token }
+
+pub returns-in_err-fault_of-in-Err-open_payload-clause-within : goal.returns-in_err-fault_of-in-Err-open_payload-clause-within
+returns-in_err-fault_of-in-Err-open_payload-clause-within c =
+    (c.open_payload.ensures.opened c.args.token.now c.caller_demands-demands.result.rules c.in-Ok.ensures.content).within
+
+pub refused-requires-clause-lowest : goal.refused-requires-clause-lowest
+refused-requires-clause-lowest c =
+    let k = c.args.case in
+    let demands = c.caller_demands-demands.result in
+    let content = c.in-Ok.content in
+    opened_lowest k.text.now k.policy.now k.binding_algs.now k.now k.answers demands c.caller_demands-demands.ensures c.args.token.now content c.requires.token c.in-Ok.ensures.sent c.in-Ok.ensures.content c.in-Ok.ensures.signed c.in-Err-open_payload.error c.in_ok-fault_of-in-Err-open_payload.field-0 c.in_ok-fault_of-in-Err-open_payload.ensures (λ t rules is. (c.in-Err-open_payload.ensures.opened t rules is).refused)
+
+pub refused-requires-clause-needed : goal.refused-requires-clause-needed
+refused-requires-clause-needed c =
+    let k = c.args.case in
+    let demands = c.caller_demands-demands.result in
+    let content = c.in-Ok.content in
+    opened_needed k.text.now k.policy.now k.binding_algs.now k.now k.answers demands c.caller_demands-demands.ensures c.args.token.now content c.requires.token c.in-Ok.ensures.sent c.in-Ok.ensures.content c.in-Ok.ensures.signed c.in-Err-open_payload.error c.in_ok-fault_of-in-Err-open_payload.field-0 c.in_ok-fault_of-in-Err-open_payload.ensures (λ t rules is. (c.in-Err-open_payload.ensures.opened t rules is).refused)
+
+pub refused-requires-clause-done : goal.refused-requires-clause-done
+refused-requires-clause-done c =
+    let k = c.args.case in
+    let demands = c.caller_demands-demands.result in
+    let content = c.in-Ok.content in
+    opened_done k.text.now k.policy.now k.binding_algs.now k.now k.answers demands c.caller_demands-demands.ensures c.args.token.now content c.requires.token c.in-Ok.ensures.sent c.in-Ok.ensures.content c.in-Ok.ensures.signed c.in-Err-open_payload.error c.in_ok-fault_of-in-Err-open_payload.field-0 c.in_ok-fault_of-in-Err-open_payload.ensures (λ t rules is. (c.in-Err-open_payload.ensures.opened t rules is).refused)
+
+pub returns-in-Err-open_payload-clause-within : goal.returns-in-Err-open_payload-clause-within
+returns-in-Err-open_payload-clause-within c =
+    (c.open_payload.ensures.opened c.args.token.now c.caller_demands-demands.result.rules c.in-Ok.ensures.content).within
+
+pub accepted-requires-clause-accepted : goal.accepted-requires-clause-accepted
+accepted-requires-clause-accepted c =
+    let k = c.args.case in
+    let demands = c.caller_demands-demands.result in
+    let content = c.in-Ok.content in
+    shown_accepted k.text.now k.policy.now k.binding_algs.now k.now k.answers demands c.caller_demands-demands.ensures c.args.token.now content c.requires.token c.in-Ok.ensures.sent c.in-Ok.ensures.content c.in-Ok.ensures.signed (tree_of c.in-Ok-open_payload.payload) (c.in-Ok-open_payload.ensures.checked c.args.token.now demands.rules c.in-Ok.ensures.content) c.hash-hash.result c.hash-hash.ensures c.in-Ok-check_shown.ensures.accepted
+
+pub returns-in_err-fault_of-in-Err-check_shown-clause-within : goal.returns-in_err-fault_of-in-Err-check_shown-clause-within
+returns-in_err-fault_of-in-Err-check_shown-clause-within c =
+    (c.open_payload.ensures.opened c.args.token.now c.caller_demands-demands.result.rules c.in-Ok.ensures.content).within
+
+pub on_shown-requires-clause-lowest : goal.on_shown-requires-clause-lowest
+on_shown-requires-clause-lowest c =
+    let k = c.args.case in
+    let demands = c.caller_demands-demands.result in
+    let content = c.in-Ok.content in
+    shown_lowest k.text.now k.policy.now k.binding_algs.now k.now k.answers demands c.caller_demands-demands.ensures c.args.token.now content c.requires.token c.in-Ok.ensures.sent c.in-Ok.ensures.content c.in-Ok.ensures.signed (tree_of c.in-Ok-open_payload.payload) (c.in-Ok-open_payload.ensures.checked c.args.token.now demands.rules c.in-Ok.ensures.content) c.hash-hash.result c.hash-hash.ensures c.in-Err-check_shown.error c.in_ok-fault_of-in-Err-check_shown.field-0 c.in_ok-fault_of-in-Err-check_shown.ensures c.in-Err-check_shown.ensures.refused
+
+pub on_shown-requires-clause-opened : goal.on_shown-requires-clause-opened
+on_shown-requires-clause-opened c =
+    let k = c.args.case in
+    let demands = c.caller_demands-demands.result in
+    let content = c.in-Ok.content in
+    shown_opened k.text.now k.policy.now k.binding_algs.now k.now k.answers demands c.caller_demands-demands.ensures c.args.token.now content c.requires.token c.in-Ok.ensures.sent c.in-Ok.ensures.content c.in-Ok.ensures.signed (tree_of c.in-Ok-open_payload.payload) (c.in-Ok-open_payload.ensures.checked c.args.token.now demands.rules c.in-Ok.ensures.content) c.hash-hash.result c.hash-hash.ensures
+
+pub returns-in-Ok-check_shown-clause-within : goal.returns-in-Ok-check_shown-clause-within
+returns-in-Ok-check_shown-clause-within c =
+    (c.open_payload.ensures.opened c.args.token.now c.caller_demands-demands.result.rules c.in-Ok.ensures.content).within
+
+pub returns-in_ok-fault_of-in-Err-check_shown-clause-within : goal.returns-in_ok-fault_of-in-Err-check_shown-clause-within
+returns-in_ok-fault_of-in-Err-check_shown-clause-within c =
+    (c.open_payload.ensures.opened c.args.token.now c.caller_demands-demands.result.rules c.in-Ok.ensures.content).within
