@@ -18,7 +18,8 @@
  *   SDJWT_USAGE       wrote nothing, since the caller broke a rule that stands at the function. `*len` is 0;
  *   SDJWT_MEMORY      wrote nothing, since malloc found no memory. `*len` is 0.
  *
- * No other status comes. What lies behind the answer in `out` stays as it was, also where the status is not SDJWT_DONE:
+ * No other status comes, but for sdjwt_judge and sdjwt_policy_judge, which have two more: SDJWT_ASKS and
+ * SDJWT_NOT_ASKED. What lies behind the answer in `out` stays as it was, also where the status is not SDJWT_DONE:
  * look at no more than `*len` bytes, and at none where nothing was written.
  *
  * POINTERS. None may be null, not even where its length is 0: pass "" for an input of no bytes, and any byte of
@@ -65,6 +66,16 @@ extern "C" {
 #define SDJWT_UNWRITTEN 4
 #define SDJWT_MEMORY 5
 #define SDJWT_UNREADABLE 6
+
+/* The statuses that sdjwt_judge has besides. The program has none of them. */
+#define SDJWT_ASKS 7
+#define SDJWT_NOT_ASKED 8
+
+/* What is said of a signature, for sdjwt_judge. */
+#define SDJWT_UNSAID 0
+#define SDJWT_UNKNOWN 1
+#define SDJWT_BAD 2
+#define SDJWT_GOOD 3
 
 /* The forms of a token, for sdjwt_convert (RFC 9901 sections 4 and 8). */
 #define SDJWT_COMPACT 0
@@ -162,6 +173,46 @@ SDJWT_CHECKED sdjwt_status sdjwt_policy_new(sdjwt_policy *handle,
 SDJWT_CHECKED sdjwt_status sdjwt_policy_verify(sdjwt_policy *handle,
                                                const uint8_t *token, size_t token_len, uint64_t now,
                                                uint8_t *out, size_t room, size_t *len);
+
+/*
+ * Verifies a presentation as sdjwt_verify does, but you check its signatures: for algorithms whose keys the library does
+ * not hold, as ES256 and EdDSA. Call with SDJWT_UNSAID twice, and again with what you found out each time it asks:
+ *
+ *   SDJWT_ASKS        wrote a question, as a line of JSON: an object with the texts `ask`, which is "issuer" or
+ *                     "holder", `alg`, and `kid` and `typ` where the header has them; with `text`, whose bytes are what
+ *                     was signed, and `signature`, which is base64url without padding; and for the holder with
+ *                     `payload`, the processed payload, whose claim `cnf` names the key. Nothing is accepted yet;
+ *   SDJWT_DONE        the token is accepted, and the answer is that of sdjwt_verify;
+ *   SDJWT_REFUSED     it is refused, by the line that sdjwt_verify would write under what you said;
+ *   SDJWT_NOT_ASKED   wrote the line "notAsked\n": you said something that was not asked for. It is no verdict.
+ *
+ * `issuer` and `holder` are what you say of the two signatures: SDJWT_UNKNOWN (you have no key for it), SDJWT_BAD, or
+ * SDJWT_GOOD. First comes that of the issuer; where you said SDJWT_GOOD of it and the policy has a `binding`, that of
+ * the holder. With other numbers, or with a word on the holder where that on the issuer is not SDJWT_GOOD, the status is
+ * SDJWT_USAGE. A question repeats what you are to check, and no call keeps anything, so give each call the same policy,
+ * algorithms, token and moment.
+ *
+ * The policy is that of sdjwt_verify. Its keys are not looked at, nor are those of its binding. Its `algs` are the
+ * algorithms that you take of the issuer, and `algs` is a JSON list of those that you take of the holder, as
+ * "[\"ES256\"]"; of no bytes it stands for the `algs` of the policy. Where it is no list of texts, the line is
+ * "unreadable 2 wrong algs\n". "none", "" and names that begin with HS are never taken, also where they stand there.
+ *
+ * YOU ANSWER for your word. Say SDJWT_GOOD only where you checked `signature` over just the bytes of `text`, with the
+ * algorithm `alg`, under a key that you trust and that serves this algorithm: for the issuer one that you had before
+ * the token came, and for the holder that of `cnf` in the `payload` of the question. Take no key out of a header.
+ */
+SDJWT_CHECKED sdjwt_status sdjwt_judge(const uint8_t *policy, size_t policy_len,
+                                       const uint8_t *algs, size_t algs_len,
+                                       const uint8_t *token, size_t token_len, uint64_t now,
+                                       uint8_t issuer, uint8_t holder,
+                                       uint8_t *out, size_t room, size_t *len);
+
+/* The same under the policy of a handle. Where that holds none, the status is SDJWT_USAGE. */
+SDJWT_CHECKED sdjwt_status sdjwt_policy_judge(sdjwt_policy *handle,
+                                              const uint8_t *algs, size_t algs_len,
+                                              const uint8_t *token, size_t token_len, uint64_t now,
+                                              uint8_t issuer, uint8_t holder,
+                                              uint8_t *out, size_t room, size_t *len);
 
 /* Frees what a handle holds. It holds nothing from then on, so to free it once more does nothing. */
 SDJWT_NONNULL void sdjwt_policy_free(sdjwt_policy *handle);

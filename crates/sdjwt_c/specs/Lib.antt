@@ -1,6 +1,10 @@
 pub mod Handed
 pub mod Held
-pub mod Policies
-pub mod Results
+pub mod Judging
+pub mod JudgingSteps
 pub mod Numbers
+pub mod Policies
+pub mod Questions
+pub mod Results
+pub mod Said
 pub mod Tokens

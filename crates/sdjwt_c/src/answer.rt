@@ -7,7 +7,7 @@ use cli_parts::Stop;
 use sd_outside::Status;
 
 // Writes the whole text, and answers the status; or nothing where there is no room for it.
-fn give(text: &str, told: Status, room: &mut [u8], len: &mut usize) -> Status
+pub(crate) fn give(text: &str, told: Status, room: &mut [u8], len: &mut usize) -> Status
     ensures { IsGiven text.now told room.old room.new len.new result }
 {
     let bytes = text.as_bytes();

@@ -1,14 +1,19 @@
 //! The commands of sdjwt for C, over bytes and into a buffer of the caller's. `c/sdjwt.h` is its header.
 //!
 //! Each function of [`commands`] is one command, and each of [`tools`] one tool. Those of [`policy`] verify many tokens
-//! under one policy, which is read once and kept behind a handle. What a call leaves in the buffer is said by `HandsBy`
-//! (`specs/Handed.antt`).
+//! under one policy, which is read once and kept behind a handle, and those of [`judging`] verify where the caller
+//! checks the signatures. What a call leaves in the buffer is said by `HandsBy` (`specs/Handed.antt`) and by
+//! `HandsVerdictBy` (`specs/Judging.antt`).
 #![tactic(auto)]
 
 mod answer;
 mod boxed;
 mod commands;
 mod handle;
+mod judging;
 mod loose;
 mod policy;
+mod question;
+mod said;
 mod tools;
+mod verdict;

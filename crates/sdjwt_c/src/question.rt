@@ -1,0 +1,82 @@
+// A question to the caller, as JSON.
+ghost use Rattle.std.specs.Prelude.{◌≡◌, OnOk, IfOk, string_bytes};
+ghost use Rattle.claim_tree.specs.JsonText.{json_text};
+ghost use Rattle.claim_tree.specs.Tree.{inserted};
+ghost use Rattle.claim_tree.specs.View.{tree_of};
+ghost use Rattle.cli_parts.specs.Lines.{line};
+ghost use Rattle.jws_part.specs.Header.{text_tree};
+ghost use Rattle.sdjwt_c.specs.Questions.{with_text, with_maybe, question_members, issuer_question, holder_question};
+
+use b64url_text::encode;
+use claim_tree::{Tree, TreeMap, write};
+use cli_parts::as_line;
+use sd_outside::{NoMemory, TextBox};
+use std::alloc::Global;
+use verifier_core::Question;
+
+fn put(alloc: Global, members: &mut TreeMap, name: &str, tree: Tree) -> Result<(), NoMemory>
+    ensures { OnOk result (members.new ≡ inserted members.old name.now (tree_of tree)) }
+{
+    members.insert(TextBox::make(alloc, name)?, tree)
+}
+
+fn put_text(alloc: Global, members: &mut TreeMap, name: &str, text: TextBox) -> Result<(), NoMemory>
+    ensures { OnOk result (members.new ≡ with_text members.old name.now text) }
+{
+    put(alloc, members, name, Tree::Text(text))
+}
+
+fn put_maybe(
+    alloc: Global,
+    members: &mut TreeMap,
+    name: &str,
+    text: Option<TextBox>,
+) -> Result<(), NoMemory>
+    ensures { OnOk result (members.new ≡ with_maybe members.old name.now text) }
+{
+    match text {
+        Some(text) => put_text(alloc, members, name, text),
+        None => Ok(()),
+    }
+}
+
+// The members of a question about the signature of the one that is named.
+fn members_of(alloc: Global, whose: &str, question: Question) -> Result<TreeMap, NoMemory>
+    ensures { IfOk result (λ members. members ≡ question_members whose.now question) }
+{
+    let Question {
+        text,
+        signature,
+        header,
+    } = question;
+    let mut members = TreeMap::new(alloc);
+    put_text(alloc, &mut members, "alg", header.alg)?;
+    put_text(alloc, &mut members, "ask", TextBox::make(alloc, whose)?)?;
+    put_maybe(alloc, &mut members, "kid", header.kid)?;
+    let signature = encode(alloc, signature.bytes())?;
+    put_text(alloc, &mut members, "signature", signature)?;
+    put_text(alloc, &mut members, "text", text)?;
+    put_maybe(alloc, &mut members, "typ", header.typ)?;
+    Ok(members)
+}
+
+// The question about the issuer's signature, as a line.
+pub(crate) fn issuer_line(alloc: Global, question: Question) -> Result<String, NoMemory>
+    ensures { IfOk result (λ text. string_bytes text ≡ line (json_text (issuer_question question))) }
+{
+    let members = members_of(alloc, "issuer", question)?;
+    as_line(write(alloc, &Tree::Object(members))?)
+}
+
+// The question about the holder's signature, beside the processed payload, as a line.
+pub(crate) fn holder_line(
+    alloc: Global,
+    question: Question,
+    payload: Tree,
+) -> Result<String, NoMemory>
+    ensures { IfOk result (λ text. string_bytes text ≡ line (json_text (holder_question question (tree_of payload)))) }
+{
+    let mut members = members_of(alloc, "holder", question)?;
+    put(alloc, &mut members, "payload", payload)?;
+    as_line(write(alloc, &Tree::Object(members))?)
+}
