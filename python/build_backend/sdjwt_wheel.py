@@ -32,6 +32,15 @@ def _field(name):
     return re.search(rf'^{name} = "(.*)"$', text, re.M)[1]
 
 
+def _extras():
+    """The lines of what may be installed beside the package."""
+    text = (HERE / "pyproject.toml").read_text(encoding="utf-8").partition("[project.optional-dependencies]\n")[2]
+    lines = []
+    for name, needed in re.findall(r'^(\w+) = \["(.*)"\]$', text, re.M):
+        lines += [f"Provides-Extra: {name}\n", f"Requires-Dist: {needed}; extra == '{name}'\n"]
+    return "".join(lines)
+
+
 def _library():
     path = Path(os.environ.get("SDJWT_LIBRARY") or HERE.parent / "c/out/lib" / LIBRARY)
     if not path.is_file():
@@ -66,7 +75,7 @@ def _files():
     found[f"{info}/METADATA"] = (
         f"Metadata-Version: 2.4\nName: sdjwt\nVersion: {_version()}\nSummary: {_field('description')}\n"
         f"License-Expression: {_field('license')}\nLicense-File: LICENSE-APACHE\nLicense-File: LICENSE-MIT\n"
-        f"Requires-Python: {_field('requires-python')}\nDescription-Content-Type: text/markdown\n\n"
+        f"Requires-Python: {_field('requires-python')}\n{_extras()}Description-Content-Type: text/markdown\n\n"
     ).encode() + (HERE / "README.md").read_bytes()
     found[f"{info}/WHEEL"] = b"Wheel-Version: 1.0\nGenerator: sdjwt_wheel\nRoot-Is-Purelib: false\n"
     found[f"{info}/WHEEL"] += "".join(f"Tag: {TAG}-{name}\n" for name in _platforms().split(".")).encode()

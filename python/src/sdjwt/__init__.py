@@ -15,7 +15,8 @@ A token may come from a stranger, so each call that takes one bounds its length 
 >>> sdjwt.verify({"keys": keys, "iss": "tickets"}, shown)
 {'iss': 'tickets', 'seat': 'B12'}
 
-Tokens are signed with shared keys (HMAC): whoever verifies a token can make one.
+What it issues is signed with shared keys (HMAC): whoever verifies such a token can make one. What it verifies may be signed
+with public keys too, by the package cryptography, which `sdjwt[keys]` installs.
 """
 from __future__ import annotations
 
@@ -27,14 +28,15 @@ from time import time as _time
 from typing import Any, Literal, Union
 
 from sdjwt import _library
+from sdjwt._asking import Asking, CheckFunction, Question, asking_of
 from sdjwt._built import PROVED as proved
 from sdjwt._built import VERSION as __version__
-from sdjwt._errors import OutOfMemory, Refused, SdJwtError, TooLong, Unreadable, unreadable
+from sdjwt._errors import NoCryptography, OutOfMemory, Refused, SdJwtError, TooLong, Unreadable, unreadable
 from sdjwt._given import MOST, file_bytes, held_bytes, moment, seed_bytes, token_bytes
 
 __all__ = [
-    "MOST", "OutOfMemory", "Picked", "Policy", "Refused", "SdJwtError", "TooLong", "Unreadable", "__version__", "audit",
-    "convert", "issue", "present", "proved", "show", "split", "verify", "wallet",
+    "MOST", "NoCryptography", "OutOfMemory", "Picked", "Policy", "Question", "Refused", "SdJwtError", "TooLong",
+    "Unreadable", "__version__", "audit", "convert", "issue", "present", "proved", "show", "split", "verify", "wallet",
 ]
 
 Bytes = Union[bytes, bytearray, memoryview]
@@ -99,8 +101,12 @@ def present(order: Json, token: Json, now: float | None = None, *, most: int = M
     return _without_end(_answer(*called, ("present order", ordered)))
 
 
-def verify(policy: Json, token: Json, now: float | None = None, *, most: int = MOST) -> dict[str, Any]:
+def verify(
+    policy: Json, token: Json, now: float | None = None, *, most: int = MOST, check: CheckFunction | None = None,
+) -> dict[str, Any]:
     """The claims of a token that is accepted under a policy. For many tokens under one policy take `Policy`.
+
+    A policy may have public keys, and `check` is a function for signatures under others: `Policy` says how.
 
     >>> key = "dGhlIHRpY2tldCBvZmZpY2Uga2V5LCBub3QgeW91cnM"
     >>> token = issue({"payload": {"iss": "tickets", "exp": 1000, "seat": "B12"}, "hide": ["/seat"], "key": key})
@@ -116,12 +122,20 @@ def verify(policy: Json, token: Json, now: float | None = None, *, most: int = M
     The moment of the claim `exp` has come: the token is valid no longer.
     """
     asked = file_bytes(policy, "policy")
+    if asking_of(asked, check) is not None:
+        return Policy(asked, check=check).verify(token, now, most=most)
     called = _library.call("verify", asked, token_bytes(token, most), moment(now))
     return _object(_answer(*called, ("policy", asked)))
 
 
 class Policy:
     """A policy that is read once, to verify many tokens. It may be used by many threads at once.
+
+    Its `keys` may have public keys beside those of the kind `oct`, where its `algs` name their algorithms: ES256, ES384,
+    ES512, EdDSA, PS256, RS256 and the like. Signatures under them are checked by the package cryptography. The key of a
+    holder is `cnf.jwk` of the token, or the key of the `keys` of the `binding` that `cnf.kid` names, and `binding` may
+    have `algs` of its own. `check` is a function that is asked of a signature for which no key is here, by a `Question`:
+    it answers True where it is good, False where it is bad, and None where it has no key for it.
 
     >>> key = "dGhlIHRpY2tldCBvZmZpY2Uga2V5LCBub3QgeW91cnM"
     >>> policy = Policy({"keys": {"keys": [{"kty": "oct", "k": key}]}, "require": ["seat"]})
@@ -132,12 +146,16 @@ class Policy:
     sdjwt._errors.Unreadable: unreadable 1 wrong skew
     """
 
-    __slots__ = ("_handles", "_text")
+    __slots__ = ("_asking", "_handles", "_text")
 
-    def __init__(self, policy: Json) -> None:
-        self._text = file_bytes(policy, "policy")
+    def __init__(self, policy: Json, *, check: CheckFunction | None = None) -> None:
+        text = file_bytes(policy, "policy")
+        self._asking: Asking | None = asking_of(text, check)
+        self._text = text if self._asking is None else self._asking.file
         # handles that no call uses: each call takes one, so that none is used by two
         self._handles = [self._handle()]
+        if self._asking is not None:
+            self._asking.read_keys()
 
     def _handle(self) -> _library.Handle:
         status, line, handle = _library.new_handle(self._text)
@@ -149,13 +167,13 @@ class Policy:
         # what needs no look at the types stands here, since this call is to be fast
         given = token if type(token) is bytes and type(most) is int and len(token) <= most else token_bytes(token, most)
         at = max(0, int(_time())) if now is None else moment(now)
-        handles = self._handles
+        handles, asking = self._handles, self._asking
         try:
             handle = handles.pop()
         except IndexError:
             handle = self._handle()
         try:
-            status, said = handle.verify(given, at)
+            status, said = handle.verify(given, at) if asking is None else asking.verify(handle, given, at)
         finally:
             handles.append(handle)
         if status != _DONE:

@@ -1,7 +1,7 @@
-"""A policy whose signatures are checked here: with its public keys, and by a function of the caller.
+"""A policy whose signatures are checked here: under its public keys, or by a function of the caller.
 
-No rule of SD-JWT stands here. The library judges the token, and asks for each signature whether it is good; what is
-answered is only by which key it is to be checked, and what cryptography says of it.
+No rule of SD-JWT stands here. The library judges the token, and asks of each signature whether it is good; what is decided
+is only under which key it is checked, and that says the package cryptography.
 """
 from __future__ import annotations
 
@@ -10,23 +10,23 @@ from collections.abc import Callable
 from dataclasses import dataclass
 from typing import Any, Optional
 
-from sdjwt import _public
-from sdjwt._errors import Unreadable
+from sdjwt._errors import NoCryptography, Unreadable
 from sdjwt._library import ASKS, BAD, GOOD, REFUSED, UNKNOWN, UNSAID, Handle
-from sdjwt._public import BadKey, Check, PublicKey, decoded, public_key, serves
+from sdjwt._public import BadKey, Check, PublicKey, decoded, find, public_key, serves
 
 _SHARED = ("HS256", "HS384", "HS512")
-# the refusal of an algorithm that is not taken
+# the line of an algorithm that is not taken begins so
 _OTHER_ALG = b"refused 7 "
+_read_json = json.JSONDecoder().raw_decode
 
 
 @dataclass(frozen=True)
 class Question:
     """A signature that a function given as `check` is to judge.
 
-    `asks` is "issuer" or "holder", `text` what is signed, `signature` its bytes, and `alg`, `kid` and `typ` are those of
-    the header, the last two None where it has none. `payload` is None for the issuer; for the holder it is the processed
-    payload, whose claim `cnf` names the key.
+    `asks` is "issuer" or "holder", `text` is what was signed, `signature` its bytes, and `alg`, `kid` and `typ` are those
+    of the header, the last two None where it has none. `payload` is None where the issuer is asked about; for the holder
+    it is the processed payload, whose claim `cnf` names the key.
     """
 
     asks: str
@@ -41,45 +41,129 @@ class Question:
 CheckFunction = Callable[[Question], Optional[bool]]
 
 
-@dataclass(frozen=True)
 class Asking:
-    """What answers the questions about tokens under a policy. `file` is the policy as the library takes it."""
+    """What answers the questions about the tokens of a policy. `file` is the policy as the library takes it."""
 
-    file: bytes
-    algs: bytes
-    # the oct keys are for the library, where the algorithm of a token is none that is asked about
-    has_shared: bool
-    jwks: list[Any]
-    holder_jwks: list[Any]
-    check: Optional[CheckFunction]
+    __slots__ = ("_algs", "_check", "_has_shared", "_holders", "_issuers", "_policy", "file")
 
-    def answerer(self) -> Answerer:
-        """What answers, once the library has taken the file."""
-        issuers = _keys(self.jwks, "keys", "/keys/keys")
-        holders = _keys(self.holder_jwks, "binding", "/binding/keys/keys")
-        if self.holder_jwks is not _NONE and self.check is None:
-            _public.need()
-        return Answerer(self.algs, self.has_shared, issuers, holders, self.check)
+    def __init__(self, policy: dict[str, Any], text: bytes, check: CheckFunction | None) -> None:
+        self._policy, self._check = policy, check
+        self._has_shared = any(jwk.get("kty") == "oct" for jwk in _jwks(policy))
+        self._issuers: list[PublicKey] = []
+        self._holders: list[PublicKey] = []
+        self._algs, self.file = b"", text
+        binding = policy.get("binding")
+        if isinstance(binding, dict) and "algs" in binding:
+            self._algs = json.dumps(binding["algs"]).encode()
+            rest = {name: value for name, value in binding.items() if name != "algs"}
+            self.file = json.dumps({**policy, "binding": rest}).encode()
 
+    def read_keys(self) -> None:
+        """Reads the public keys, of a policy that the library has taken."""
+        self._issuers = _public_keys(self._policy, "keys", "")
+        binding = self._policy.get("binding")
+        if binding is None:
+            return
+        self._holders = _public_keys(binding, "binding", "/binding")
+        algs = binding.get("algs", [])
+        if not isinstance(algs, list) or not all(isinstance(alg, str) for alg in algs):
+            raise Unreadable("unreadable 1 wrong binding", "at /binding/algs: it is to be a list of texts")
 
-_NONE: list[Any] = []
+    def verify(self, handle: Handle, token: bytes, now: int) -> tuple[int, bytes]:
+        """The status, and the claims or the line."""
+        status, said = handle.judge(self._algs, token, now, UNSAID, UNSAID)
+        if status == ASKS:
+            issuer = self._answer(said)
+            status, said = handle.judge(self._algs, token, now, issuer, UNSAID)
+            if status == ASKS:
+                status, said = handle.judge(self._algs, token, now, issuer, self._answer(said))
+        elif status == REFUSED and self._has_shared and said.startswith(_OTHER_ALG):
+            return handle.verify(token, now)
+        return status, said
 
-
-def asking(text: bytes, check: CheckFunction | None) -> Asking | None:
-    """How a policy asks. None where it has nothing to ask with, and the library checks by itself."""
-    policy = _read(text) if b"algs" in text or b"\\u" in text else None
-    jwks = _jwks(policy)
-    if not _names_others(policy) or (check is None and not any(map(serves, jwks))):
+    def _answer(self, question: bytes) -> int:
+        asked = _read_json(question.decode())[0]
+        alg, text, signature = asked["alg"], asked["text"].encode(), decoded(asked["signature"])
+        payload = asked.get("payload")
+        check = find(self._issuers, alg, asked.get("kid")) if payload is None else self._of_holder(payload, alg)
         if check is not None:
-            raise ValueError("sdjwt: check is given, and algs of the policy name no algorithm that it could be asked about")
+            return GOOD if check(signature, text) else BAD
+        if self._check is None:
+            return UNKNOWN
+        return _said(self._check(Question(asked["ask"], alg, asked.get("kid"), asked.get("typ"), text, signature, payload)))
+
+    def _of_holder(self, payload: dict[str, Any], alg: str) -> Check | None:
+        """The check under the key that `cnf` has, or names among those of the binding (RFC 7800 section 3)."""
+        confirmed = payload.get("cnf")
+        if not isinstance(confirmed, dict):
+            return None
+        if "jwk" not in confirmed:
+            kid = confirmed.get("kid")
+            return find(self._holders, alg, kid) if isinstance(kid, str) else None
+        jwk = confirmed["jwk"]
+        if not isinstance(jwk, dict) or alg not in serves(jwk):
+            return None
+        try:
+            key = public_key(jwk)
+        except (BadKey, NoCryptography):
+            return None
+        return None if key is None else key.checks[alg]
+
+
+def asking_of(text: bytes, check: CheckFunction | None) -> Asking | None:
+    """How a policy asks. None where the library checks by itself: it has oct keys alone, or takes no other algorithm."""
+    if check is not None and not callable(check):
+        raise TypeError(f"sdjwt: check is of type {type(check).__name__}, and has to be a function")
+    # in JSON a name can be written otherwise only by escapes
+    policy = _read(text) if b"algs" in text or b"\\u" in text else None
+    if policy is not None and _takes_others(policy) and (check is not None or any(jwk.get("kty") != "oct" for jwk in _jwks(policy))):
+        return Asking(policy, text, check)
+    if check is not None:
+        raise ValueError("sdjwt: check is given, and no algorithm in algs of the policy is one that it is asked about")
+    return None
+
+
+def _read(text: bytes) -> dict[str, Any] | None:
+    """The object of a policy, or None where the library is to say what is wrong with it."""
+    try:
+        policy = json.loads(text.decode(), parse_int=_whole)
+    except (ValueError, RecursionError):
         return None
-    assert policy is not None
-    binding, algs, file = policy.get("binding"), b"", text
-    if isinstance(binding, dict):
-        if "algs" in binding:
-            algs = json.dumps(_texts(binding["algs"])).encode()
-            file = json.dumps({**policy, "binding": {k: v for k, v in binding.items() if k != "algs"}}).encode()
-        holders = _jwks(binding)
-    else:
-        holders = _NONE
-    return Asking(file, algs, any(jwk.get("kty") == "oct" for jwk in jwks), jwks, holders, check)
+    return policy if isinstance(policy, dict) else None
+
+
+def _whole(digits: str) -> float:
+    # the library refuses -0, so it is to stay what it is
+    return -0.0 if digits == "-0" else int(digits)
+
+
+def _takes_others(policy: dict[str, Any]) -> bool:
+    algs = policy.get("algs")
+    return isinstance(algs, list) and any(alg not in _SHARED for alg in algs)
+
+
+def _jwks(holder: dict[str, Any]) -> list[dict[str, Any]]:
+    """The keys of the set in the member `keys`, where it is one."""
+    keys = holder.get("keys")
+    found = keys.get("keys") if isinstance(keys, dict) else None
+    return [jwk if isinstance(jwk, dict) else {} for jwk in found] if isinstance(found, list) else []
+
+
+def _public_keys(holder: dict[str, Any], member: str, place: str) -> list[PublicKey]:
+    found = []
+    for number, jwk in enumerate(_jwks(holder)):
+        try:
+            key = public_key(jwk)
+        except BadKey as fault:
+            raise Unreadable(f"unreadable 1 wrong {member}", f"at {place}/keys/keys/{number}: {fault}") from None
+        if key is not None:
+            found.append(key)
+    return found
+
+
+def _said(answer: object) -> int:
+    if answer is None:
+        return UNKNOWN
+    if not isinstance(answer, bool):
+        raise TypeError(f"sdjwt: check answered a value of type {type(answer).__name__}, and has to answer True, False or None")
+    return GOOD if answer else BAD

@@ -129,5 +129,12 @@ class TooLong(SdJwtError, ValueError):
         return "Look at its length. Where such tokens are wanted, give the call a greater length by `most`."
 
 
+class NoCryptography(SdJwtError, ImportError):
+    """A policy has public keys, and the package cryptography, which checks signatures under them, is not installed."""
+
+    def __init__(self, line: str = "sdjwt: a policy with public keys needs the package cryptography: pip install 'sdjwt[keys]'") -> None:
+        super().__init__(line, "")
+
+
 class OutOfMemory(MemoryError):
     """The library found no memory for the call."""

@@ -8,7 +8,9 @@ from ctypes import POINTER, addressof, c_char_p, c_size_t, c_uint8, c_uint32, c_
 from pathlib import Path
 from typing import Any
 
-DONE, REFUSED, USAGE, UNWRITTEN, MEMORY, UNREADABLE = 0, 1, 2, 4, 5, 6
+DONE, REFUSED, USAGE, UNWRITTEN, MEMORY, UNREADABLE, ASKS, NOT_ASKED = 0, 1, 2, 4, 5, 6, 7, 8
+# What is said of a signature.
+UNSAID, UNKNOWN, BAD, GOOD = 0, 1, 2, 3
 _ABI_VERSION = 1
 _FIRST_ROOM = 4096
 
@@ -30,6 +32,7 @@ _CALLS: dict[str, tuple[Any, ...]] = {
     "wallet": (*_IN, *_IN, POINTER(c_size_t), c_size_t, *_OUT),
     "policy_new": (c_void_p, *_IN, *_OUT),
     "policy_verify": (c_void_p, *_IN, c_uint64, *_OUT),
+    "policy_judge": (c_void_p, *_IN, *_IN, c_uint64, c_uint8, c_uint8, *_OUT),
 }
 
 
@@ -52,6 +55,7 @@ def _load() -> ctypes.CDLL:
 _LIBRARY = _load()
 _FREE = _LIBRARY.sdjwt_policy_free
 _VERIFY = _LIBRARY.sdjwt_policy_verify
+_JUDGE = _LIBRARY.sdjwt_policy_judge
 _FUNCTIONS = {name: getattr(_LIBRARY, "sdjwt_" + name) for name in _CALLS}
 
 
@@ -133,6 +137,16 @@ class Handle:
         if status == UNWRITTEN:
             room.grow(room.len.value)
             status = _VERIFY(self.at, token, len(token), now, room.at, room.size, room.at_len)
+        return status, room.buffer[: room.len.value]  # type: ignore[return-value]
+
+    def judge(self, algs: bytes, token: bytes, now: int, issuer: int, holder: int) -> tuple[int, bytes]:
+        """The status, and the claims, a question or the line, after what was said of the signatures."""
+        room = self.room
+        asked = (self.at, algs, len(algs), token, len(token), now, issuer, holder)
+        status: int = _JUDGE(*asked, room.at, room.size, room.at_len)
+        if status == UNWRITTEN:
+            room.grow(room.len.value)
+            status = _JUDGE(*asked, room.at, room.size, room.at_len)
         return status, room.buffer[: room.len.value]  # type: ignore[return-value]
 
 

@@ -1,7 +1,7 @@
 """Public keys, as JWKs (RFC 7517), and the check of a signature under one.
 
-The mathematics is that of the package cryptography, which is asked for only where a key is read. A key serves the
-algorithm of its type and no other: ES256 is for P-256 alone.
+The mathematics is that of the package cryptography, which is loaded only where a key is read. A key serves the algorithms
+of its type and no other: ES256 is for P-256 alone.
 """
 from __future__ import annotations
 
