@@ -245,6 +245,61 @@ static void rules_of_handles(const struct text policy, const struct text token, 
     CHECK(moved.held == NULL && is_filled(guarded.behind, 0, BEHIND), "it is one pointer");
 }
 
+/* A token of ES256, whose signature is one byte of 0, and what is asked about it. */
+static const char judged_policy[] = "{\"keys\":{\"keys\":[]},\"algs\":[\"ES256\",\"HS256\"]}";
+static const char judged_token[] = "eyJhbGciOiJFUzI1NiJ9.eyJhIjoxfQ.AA~";
+static const char judged_question[] = "{\"alg\":\"ES256\",\"ask\":\"issuer\",\"signature\":\"AA\",\"text\":\"eyJhbGciOiJFUzI1NiJ9.eyJhIjoxfQ\"}\n";
+
+/* What is said, and what is told: on a question with the status and the text of it. */
+static const struct { const char *algs; uint8_t issuer, holder; sdjwt_status status; const char *text; } judgements[] = {
+    {"", SDJWT_UNSAID, SDJWT_UNSAID, SDJWT_ASKS, judged_question},
+    {"[]", SDJWT_UNSAID, SDJWT_UNSAID, SDJWT_ASKS, judged_question},
+    {"", SDJWT_UNKNOWN, SDJWT_UNSAID, SDJWT_REFUSED, "refused 9 issuerKeyUnknown\n"},
+    {"", SDJWT_BAD, SDJWT_UNSAID, SDJWT_REFUSED, "refused 10 badSignature\n"},
+    {"", SDJWT_GOOD, SDJWT_UNSAID, SDJWT_DONE, "{\"a\":1}\n"},
+    {"", SDJWT_GOOD, SDJWT_GOOD, SDJWT_NOT_ASKED, "notAsked\n"},
+    {"", SDJWT_GOOD, SDJWT_BAD, SDJWT_NOT_ASKED, "notAsked\n"},
+    {"", SDJWT_UNSAID, SDJWT_GOOD, SDJWT_USAGE, ""},
+    {"", SDJWT_BAD, SDJWT_GOOD, SDJWT_USAGE, ""},
+    {"", 4, SDJWT_UNSAID, SDJWT_USAGE, ""},
+    {"", SDJWT_GOOD, 255, SDJWT_USAGE, ""},
+    {"{}", SDJWT_UNSAID, SDJWT_UNSAID, SDJWT_UNREADABLE, "unreadable 2 wrong algs\n"},
+    {"[1]", SDJWT_GOOD, SDJWT_UNSAID, SDJWT_UNREADABLE, "unreadable 2 wrong algs\n"},
+    {"[\"ES256\"", SDJWT_UNSAID, SDJWT_UNSAID, SDJWT_UNREADABLE, "unreadable 2 wrong algs\n"},
+};
+
+/* Each judgement with a room that just fits, one that is larger and those that are too small, by a policy and by a handle. */
+static void judging(void) {
+    sdjwt_policy handle = SDJWT_POLICY_INIT, none = SDJWT_POLICY_INIT;
+    const uint8_t *policy = (const uint8_t *)judged_policy, *token = (const uint8_t *)judged_token;
+    size_t policy_len = strlen(judged_policy), token_len = strlen(judged_token), len;
+    uint8_t out[256];
+    CHECK(sdjwt_policy_new(&handle, policy, policy_len, out, 0, &len) == SDJWT_DONE, "a policy");
+    for (size_t i = 0; i < sizeof judgements / sizeof *judgements; i++) {
+        const char *text = judgements[i].text, *said = judgements[i].algs;
+        size_t due = strlen(text), sizes[] = {due, due + BEHIND, due ? due - 1 : 0, 0};
+        const uint8_t *algs = (const uint8_t *)said;
+        uint8_t issuer = judgements[i].issuer, holder = judgements[i].holder;
+        for (int which = 0; which < 8; which++) {
+            size_t room = sizes[which / 2];
+            memset(out, FILL, sizeof out);
+            len = 12345;
+            sdjwt_status status = which % 2
+                ? sdjwt_policy_judge(&handle, algs, strlen(said), token, token_len, 0, issuer, holder, out, room, &len)
+                : sdjwt_judge(policy, policy_len, algs, strlen(said), token, token_len, 0, issuer, holder, out, room, &len);
+            CHECK(len == due, text);
+            if (room < due) CHECK(status == SDJWT_UNWRITTEN && is_filled(out, 0, sizeof out), text);
+            else CHECK(status == judgements[i].status && memcmp(out, text, due) == 0 && is_filled(out, due, sizeof out), text);
+        }
+    }
+    CHECK(sdjwt_policy_judge(&none, token, 0, token, token_len, 0, 0, 0, out, sizeof out, &len) == SDJWT_USAGE && len == 0, "no policy");
+    CHECK(sdjwt_judge(token, 1, token, 0, token, token_len, 0, 0, 0, out, sizeof out, &len) == SDJWT_UNREADABLE, "no policy is read");
+    CHECK(len == strlen("unreadable 1 notJson\n") && memcmp(out, "unreadable 1 notJson\n", len) == 0, "its line");
+    CHECK(sdjwt_policy_judge(&handle, token, 0, token, 0, 0, 3, 0, out, sizeof out, &len) == SDJWT_NOT_ASKED, "no token");
+    CHECK(sdjwt_policy_judge(&handle, token, 0, token, 0, 0, 0, 0, out, sizeof out, &len) == SDJWT_REFUSED, "no token");
+    sdjwt_policy_free(&handle);
+}
+
 /* A handle that another thread made is used here, and freed. */
 static void *take_over(void *handle) {
     uint8_t line[128];
@@ -349,6 +404,7 @@ int main(int count, char **words) {
     read_vectors(words[1]);
     empty_inputs();
     rules_of_lengths();
+    judging();
     for (int refused = 0; refused < 2; refused++) {
         const struct vector *vector = verifying(refused ? SDJWT_REFUSED : SDJWT_DONE);
         const struct run *run = &vector->runs[0];

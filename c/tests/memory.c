@@ -79,6 +79,13 @@ static sdjwt_status ask_wallet(struct text *out) {
     return sdjwt_wallet((const uint8_t *)query, strlen(query), tokens, shown.len + token.len, lengths, 2, out->bytes, ROOM, &out->len);
 }
 
+/* A token of ES256, and what is said of its signature. */
+static sdjwt_status ask_signature(uint8_t said, struct text *out) {
+    static const char asking[] = "{\"keys\":{\"keys\":[]},\"algs\":[\"ES256\"]}", asked[] = "eyJhbGciOiJFUzI1NiJ9.eyJhIjoxfQ.AA~";
+    return sdjwt_judge((const uint8_t *)asking, strlen(asking), (const uint8_t *)"[\"ES256\"]", 9, (const uint8_t *)asked, strlen(asked),
+                       NOW, said, SDJWT_UNSAID, out->bytes, ROOM, &out->len);
+}
+
 static sdjwt_status call(int which, struct text *out) {
     switch (which) {
     case 0: return sdjwt_issue(order.bytes, order.len, seed.bytes, seed.len, out->bytes, ROOM, &out->len);
@@ -91,11 +98,13 @@ static sdjwt_status call(int which, struct text *out) {
     case 7: return sdjwt_policy_verify(&handle, shown.bytes, shown.len, NOW, out->bytes, ROOM, &out->len);
     case 8: return sdjwt_audit(order.bytes, order.len, token.bytes, token.len, out->bytes, ROOM, &out->len);
     case 9: return ask_wallet(out);
+    case 10: return ask_signature(SDJWT_UNSAID, out);
+    case 11: return ask_signature(SDJWT_GOOD, out);
     default: return sdjwt_verify(policy.bytes, policy.len, token.bytes, token.len, NOW, out->bytes, ROOM, &out->len);
     }
 }
 
-#define CALLS 11
+#define CALLS 13
 
 int main(int count, char **words) {
     static struct text due, out;
@@ -109,7 +118,7 @@ int main(int count, char **words) {
     for (int which = 0; which < CALLS; which++) {
         refused = 0;
         sdjwt_status status = call(which, &due);
-        CHECK(status == (which == CALLS - 1 ? SDJWT_REFUSED : SDJWT_DONE), "the call");
+        CHECK(status == (which == CALLS - 1 ? SDJWT_REFUSED : which == 10 ? SDJWT_ASKS : SDJWT_DONE), "the call");
         long held = taken;
         CHECK(which == 6 || which == 7 ? held > 0 : held == 0, "what it keeps");
         for (refused = 1;; refused++) {
