@@ -21,7 +21,7 @@ export SDJWT_PEERS='jwcrypto joserfc'
 without=
 if [ "$install" = yes ]; then
     PYTHON=/usr/bin/python3
-    packages='python3-venv python3-pip python3-pytest python3-jwcrypto mypy python3-selenium chromium-driver'
+    packages='python3-venv python3-pip python3-pytest python3-cryptography python3-jwcrypto mypy python3-selenium chromium-driver'
     if apt-cache show python3-joserfc >/dev/null 2>&1; then
         packages="$packages python3-joserfc"
     else
@@ -61,6 +61,12 @@ cd "$made"
 run "$python" -c "import doctest, sdjwt, sys; sys.exit(doctest.testmod(sdjwt).failed > 0)"
 sed -n '/^```python$/,/^```$/p' "$here/README.md" | sed '/^```/d' >first_minute.py
 run "$python" first_minute.py
+if has cryptography; then
+    sed -n '/^```py$/,/^```$/p' "$here/README.md" | sed '/^```/d; s,"vectors/,"'"$here"'/../vectors/,' >public_keys.py
+    run "$python" public_keys.py
+else
+    skip 'the example of public keys (no cryptography)'
+fi
 if has pytest; then
     for peer in $SDJWT_PEERS; do
         has "$peer" || skip "the tests against $peer (no $peer)"
