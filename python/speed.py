@@ -18,9 +18,15 @@ from pathlib import Path
 
 import sdjwt
 
+
+def encoded(content):
+    return base64.urlsafe_b64encode(content).rstrip(b"=").decode()
+
+
 KEY = bytes(range(1, 33))
-TEXT = base64.urlsafe_b64encode(KEY).rstrip(b"=").decode()
-OTHER = base64.urlsafe_b64encode(bytes(32)).rstrip(b"=").decode()
+TEXT = encoded(KEY)
+OTHER = encoded(bytes(32))
+HEADER = b'"alg":"ES256","kid":"one"'
 ORDER = {"payload": {"iss": "office", "exp": 4102444800, **{f"claim_{i}": f"value of claim {i}" for i in range(10)}},
          "hide": [f"/claim_{i}" for i in range(10)], "key": TEXT, "kid": "one"}
 POLICY = {"keys": {"keys": [{"kty": "oct", "kid": "other", "k": OTHER}, {"kty": "oct", "kid": "one", "k": TEXT}]},
@@ -89,6 +95,41 @@ def peers(jwt):
         print("skipped: jwcrypto")
 
 
+class Public:
+    """The same token signed with ES256, and the parts of its verification."""
+
+    def __init__(self, shown):
+        from cryptography.hazmat.primitives import hashes
+        from cryptography.hazmat.primitives.asymmetric import ec
+        from cryptography.hazmat.primitives.asymmetric.utils import decode_dss_signature
+        pair = ec.generate_private_key(ec.SECP256R1())
+        numbers = pair.public_key().public_numbers()
+        point = {name: encoded(value.to_bytes(32, "big")) for name, value in (("x", numbers.x), ("y", numbers.y))}
+        jwk = {"kty": "EC", "crv": "P-256", "kid": "one", **point}
+        jwt, behind = shown.split("~", 1)
+        text = f"{encoded(b'{%s}' % HEADER)}.{jwt.split('.')[1]}"
+        pair_of = decode_dss_signature(pair.sign(text.encode(), ec.ECDSA(hashes.SHA256())))
+        signature = b"".join(number.to_bytes(32, "big") for number in pair_of)
+        self.token = f"{text}.{encoded(signature)}~{behind}".encode()
+        self.policy = sdjwt.Policy({**POLICY, "keys": {"keys": [jwk]}, "algs": ["ES256"]})
+        check = self.policy._asking._issuers[0].checks["ES256"]
+        self.check = lambda: check(signature, text.encode())
+        # the same, where the answer costs nothing
+        self.unchecked = sdjwt.Policy({**POLICY, "keys": {"keys": []}, "algs": ["ES256"]}, check=lambda question: True)
+
+
+def tell_public(shown, seconds):
+    """How long a token of ES256 takes, with its signature and without."""
+    try:
+        public = Public(shown)
+    except ImportError:
+        print("skipped: cryptography")
+        return
+    tell("Policy.verify of ES256", lambda: public.policy.verify(public.token), seconds)
+    tell("its signature alone, by cryptography", public.check, seconds)
+    tell("Policy.verify of ES256, but for the signature", lambda: public.unchecked.verify(public.token), seconds)
+
+
 def main():
     parser = argparse.ArgumentParser(description=__doc__, formatter_class=argparse.RawDescriptionHelpFormatter)
     parser.add_argument("--program")
@@ -105,6 +146,7 @@ def main():
     handle = policy._handles[0]
     tell("the call of the library in it", lambda: handle.verify(shown, 1_800_000_000), words.seconds)
     tell("verify, the policy read each time", lambda: sdjwt.verify(text, shown), words.seconds)
+    tell_public(shown.decode(), words.seconds)
     for name, check in peers(shown.decode().split("~")[0]):
         tell(name, check, words.seconds)
     if words.program:
