@@ -5,7 +5,6 @@ use Rattle.claim_tree.specs.View.{tree_of}
 use Rattle.cli_parts.specs.Lines.{line, refusal}
 use Rattle.cli_parts.specs.Replies.{gives, refuses, unreadable}
 use Rattle.cli_parts.specs.declared.stop.Stop.{Stop}
-use Rattle.cli_parts.specs.declared.stop.Stop.TheVariants as stop
 use Rattle.sd_outside.specs.Status.{status_number}
 use Rattle.sd_outside.specs.declared.status.Status.{Status}
 use Rattle.sdjwt_c.specs.Handed.{IsLeft}
@@ -21,10 +20,10 @@ abbrev pub OnTold : Result Verdict Stop → (Told → Type 0) → Type 0
 OnTold (Ok (Verdict.Accepted text)) Is = Is (replies (gives (string_bytes text)))
 OnTold (Ok (Verdict.Asks text)) Is = Is (asks (string_bytes text))
 OnTold (Ok Verdict.NotAsked) Is = Is unasked
-OnTold (Err (stop.Refused text)) Is = Is (replies (refuses (string_bytes text)))
-OnTold (Err (stop.Unreadable text)) Is = Is (replies (unreadable (string_bytes text)))
-OnTold (Err (stop.Unread word)) Is = ⊥
-OnTold (Err stop.Memory) Is = Unit {0}
+OnTold (Err (Stop.Refused text)) Is = Is (replies (refuses (string_bytes text)))
+OnTold (Err (Stop.Unreadable text)) Is = Is (replies (unreadable (string_bytes text)))
+OnTold (Err (Stop.Unread word)) Is = ⊥
+OnTold (Err Stop.Memory) Is = Unit {0}
 
 -- what is told of a judgement
 abbrev pub TellsJudgement : Result Judgement JudgeError → Told → Type 0

@@ -4,7 +4,6 @@ ghost use Rattle.claim_tree.specs.JsonText.{json_text};
 ghost use Rattle.claim_tree.specs.Tree.{inserted};
 ghost use Rattle.claim_tree.specs.View.{tree_of};
 ghost use Rattle.cli_parts.specs.Lines.{line};
-ghost use Rattle.jws_part.specs.Header.{text_tree};
 ghost use Rattle.sdjwt_c.specs.Questions.{with_text, with_maybe, question_members, issuer_question, holder_question};
 
 use b64url_text::encode;
