@@ -115,8 +115,10 @@ def asking_of(text: bytes, check: CheckFunction | None) -> Asking | None:
     if check is not None and not callable(check):
         raise TypeError(f"sdjwt: check is of type {type(check).__name__}, and has to be a function")
     # in JSON a name can be written otherwise only by escapes
-    policy = _read(text) if b"algs" in text or b"\\u" in text else None
-    if policy is not None and _takes_others(policy) and (check is not None or any(jwk.get("kty") != "oct" for jwk in _jwks(policy))):
+    policy = _read(text) if check is not None or b"algs" in text or b"\\u" in text else None
+    if policy is None:
+        return None
+    if _takes_others(policy) and (check is not None or any(jwk.get("kty") != "oct" for jwk in _jwks(policy))):
         return Asking(policy, text, check)
     if check is not None:
         raise ValueError("sdjwt: check is given, and no algorithm in algs of the policy is one that it is asked about")
