@@ -1,0 +1,56 @@
+#!/usr/bin/env python3
+"""Writes the vectors of vectors/ as inputs of fuzz.c: python3 c/fuzz/corpus.py FOLDER
+
+Each run of a vector becomes a file of FOLDER/CALL: the files that it reads, with a zero byte between two. What an
+earlier run keeps is found by tests/reference. Runs of other commands, of files that are not there, of files with a zero
+byte, and of more than 16 KiB are left out.
+"""
+import hashlib
+import json
+import sys
+from pathlib import Path
+
+TOP = Path(__file__).resolve().parent.parent.parent
+sys.dont_write_bytecode = True
+sys.setrecursionlimit(20_000)
+sys.path[:0] = [str(TOP / "tests" / "reference"), str(TOP / "vectors")]
+import main as reading  # noqa: E402
+import write  # noqa: E402
+
+CALLS = ("verify", "present", "issue", "show", "convert", "audit", "wallet")
+FORMS = ("compact", "flat", "general")
+SOME_MOMENT = 1_800_000_000
+LONGEST = 16_384
+
+
+def inputs(vector):
+    """The calls of a vector's runs, each with the bytes of its files."""
+    files = {name: content.encode() for name, content in vector["files"].items()}
+    for run in vector["runs"]:
+        call, *words = run["words"] or [""]
+        parts = [files.get(word) for word in words]
+        if call == "convert" and words[0] in FORMS:
+            parts = [*parts[1:], b"x" * FORMS.index(words[0])]
+        if call in CALLS and parts and None not in parts:
+            yield call, parts
+        answer = reading.run(run["words"], files.get, run.get("moment", SOME_MOMENT), files.get("source", b""))
+        if "kept_as" in run:
+            files[run["kept_as"]] = answer.output
+
+
+def main():
+    folder = Path(sys.argv[1])
+    for call in (*CALLS, "policy"):
+        (folder / call).mkdir(parents=True, exist_ok=True)
+    found = [each for path in sorted((TOP / "vectors").glob("*.json")) for each in json.loads(path.read_text("utf-8"))]
+    for vector in found + write.of_tools():
+        for call, parts in inputs(vector):
+            data = b"\0".join(parts)
+            if data.count(b"\0") == len(parts) - 1 and len(data) <= LONGEST:
+                for name in (call, "policy") if call == "verify" else (call,):
+                    (folder / name / hashlib.sha256(data).hexdigest()[:16]).write_bytes(data)
+    print(", ".join(f"{call.name}: {len(list(call.iterdir()))}" for call in sorted(folder.iterdir())))
+
+
+if __name__ == "__main__":
+    main()

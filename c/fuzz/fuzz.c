@@ -1,0 +1,191 @@
+/*
+ * Fuzzes one call of the C library, by libFuzzer: c/fuzz/run.sh builds it and tells how.
+ *
+ * The environment's SDJWT_FUZZ names the call: verify, present, issue, show, convert, audit, wallet or policy. An input
+ * is the files of the call, with a zero byte between two: what stands for its order, policy or query, then its tokens.
+ * Each comes to the call in memory of its own and of just its length. What the header promises of an answer is checked:
+ * its status, its length, the bytes behind it, and that a call with just as much room answers the same.
+ */
+#include "sdjwt.h"
+
+#include <stdio.h>
+#include <stdlib.h>
+#include <string.h>
+
+enum { PARTS = 1 + SDJWT_TOKENS, SPARE = 64, NOW = 1800000000 };
+
+typedef struct {
+    uint8_t *bytes;
+    size_t len;
+} text;
+
+typedef struct {
+    text parts[PARTS];
+    size_t count;
+} input;
+
+typedef sdjwt_status call(const input *given, uint8_t *out, size_t room, size_t *len);
+
+static void check(int holds, const char *what) {
+    if (!holds) {
+        fprintf(stderr, "fuzz.c: %s\n", what);
+        abort();
+    }
+}
+
+/* A part of the input, or one of no bytes where there is none. */
+static text part(const input *given, size_t number) {
+    static uint8_t nothing[1];
+    text none = {nothing, 0};
+    return number < given->count ? given->parts[number] : none;
+}
+
+static sdjwt_status call_verify(const input *given, uint8_t *out, size_t room, size_t *len) {
+    text policy = part(given, 0), token = part(given, 1);
+    return sdjwt_verify(policy.bytes, policy.len, token.bytes, token.len, NOW, out, room, len);
+}
+
+static sdjwt_status call_present(const input *given, uint8_t *out, size_t room, size_t *len) {
+    text order = part(given, 0), token = part(given, 1);
+    return sdjwt_present(order.bytes, order.len, token.bytes, token.len, NOW, out, room, len);
+}
+
+static sdjwt_status call_issue(const input *given, uint8_t *out, size_t room, size_t *len) {
+    text order = part(given, 0), seed = part(given, 1);
+    return sdjwt_issue(order.bytes, order.len, seed.bytes, seed.len, out, room, len);
+}
+
+static sdjwt_status call_show(const input *given, uint8_t *out, size_t room, size_t *len) {
+    text token = part(given, 0);
+    return sdjwt_show(token.bytes, token.len, out, room, len);
+}
+
+/* The form is the length of a second file. */
+static sdjwt_status call_convert(const input *given, uint8_t *out, size_t room, size_t *len) {
+    text token = part(given, 0);
+    return sdjwt_convert((uint8_t)part(given, 1).len, token.bytes, token.len, out, room, len);
+}
+
+static sdjwt_status call_audit(const input *given, uint8_t *out, size_t room, size_t *len) {
+    text order = part(given, 0), token = part(given, 1);
+    return sdjwt_audit(order.bytes, order.len, token.bytes, token.len, out, room, len);
+}
+
+static sdjwt_status call_wallet(const input *given, uint8_t *out, size_t room, size_t *len) {
+    text query = part(given, 0);
+    size_t lengths[SDJWT_TOKENS], total = 0, count = given->count - 1;
+    for (size_t i = 0; i < count; i++) {
+        lengths[i] = given->parts[i + 1].len;
+        total += lengths[i];
+    }
+    uint8_t *tokens = malloc(total + 1), *end = tokens;
+    for (size_t i = 0; i < count; i++) {
+        memcpy(end, given->parts[i + 1].bytes, lengths[i]);
+        end += lengths[i];
+    }
+    sdjwt_status status =
+        sdjwt_wallet(query.bytes, query.len, tokens, total, lengths, count, out, room, len);
+    check(count != 0 || status == SDJWT_USAGE, "a wallet of no tokens is no misuse");
+    free(tokens);
+    return status;
+}
+
+/* By a handle, which has to say what sdjwt_verify says. */
+static sdjwt_status call_policy(const input *given, uint8_t *out, size_t room, size_t *len) {
+    text policy = part(given, 0), token = part(given, 1);
+    sdjwt_policy handle = SDJWT_POLICY_INIT;
+    sdjwt_status status = sdjwt_policy_new(&handle, policy.bytes, policy.len, out, room, len);
+    if (status == SDJWT_DONE) {
+        status = sdjwt_policy_verify(&handle, token.bytes, token.len, NOW, out, room, len);
+        size_t other_len = 0;
+        uint8_t *other = malloc(room + 1);
+        sdjwt_status other_status = call_verify(given, other, room, &other_len);
+        check(status == other_status && *len == other_len, "a handle has another verdict");
+        check(status == SDJWT_UNWRITTEN || memcmp(out, other, *len) == 0, "a handle has another answer");
+        free(other);
+    }
+    sdjwt_policy_free(&handle);
+    return status;
+}
+
+static const struct {
+    const char *name;
+    call *made;
+} calls[] = {
+    {"verify", call_verify}, {"present", call_present}, {"issue", call_issue},   {"show", call_show},
+    {"convert", call_convert}, {"audit", call_audit},   {"wallet", call_wallet}, {"policy", call_policy},
+};
+
+static call *chosen;
+
+int LLVMFuzzerInitialize(int *argc, char ***argv);
+int LLVMFuzzerTestOneInput(const uint8_t *data, size_t size);
+
+int LLVMFuzzerInitialize(int *argc, char ***argv) {
+    (void)argc;
+    (void)argv;
+    const char *name = getenv("SDJWT_FUZZ");
+    for (size_t i = 0; i < sizeof calls / sizeof *calls; i++) {
+        if (name != NULL && strcmp(name, calls[i].name) == 0) {
+            chosen = calls[i].made;
+        }
+    }
+    check(chosen != NULL, "SDJWT_FUZZ names no call");
+    return 0;
+}
+
+/* One call with so much room: what is written is a line at the front, and what lies behind it stays. */
+static sdjwt_status with_room(const input *given, size_t room, uint8_t **out, size_t *len) {
+    *out = malloc(room + SPARE);
+    memset(*out, 0xa5, room + SPARE);
+    sdjwt_status status = chosen(given, *out, room, len);
+    size_t written = 0;
+    if (status == SDJWT_DONE || status == SDJWT_REFUSED || status == SDJWT_UNREADABLE) {
+        check(*len <= room, "an answer is longer than its room");
+        check(*len == 0 || (*out)[*len - 1] == '\n', "an answer does not end its line");
+        written = *len;
+    } else if (status == SDJWT_UNWRITTEN) {
+        check(*len > room, "an answer that has room is not written");
+    } else {
+        check(status == SDJWT_USAGE || status == SDJWT_MEMORY, "there is no such status");
+        check(*len == 0, "nothing was written, and its length is not 0");
+    }
+    for (size_t i = written; i < room + SPARE; i++) {
+        check((*out)[i] == 0xa5 || chosen == call_policy, "a byte behind the answer is another one");
+    }
+    return status;
+}
+
+int LLVMFuzzerTestOneInput(const uint8_t *data, size_t size) {
+    input given = {.count = 0};
+    const uint8_t *end = data + size;
+    while (given.count < PARTS) {
+        const uint8_t *zero = data < end ? memchr(data, 0, (size_t)(end - data)) : NULL;
+        size_t len = (size_t)((zero != NULL ? zero : end) - data);
+        text one = {malloc(len + (len == 0)), len};
+        if (len != 0) {
+            memcpy(one.bytes, data, len);
+        }
+        given.parts[given.count++] = one;
+        if (zero == NULL) {
+            break;
+        }
+        data = zero + 1;
+    }
+    uint8_t *out, *again;
+    size_t len, again_len;
+    sdjwt_status status = with_room(&given, size / 2, &out, &len);
+    sdjwt_status other = with_room(&given, len, &again, &again_len);
+    if (status == SDJWT_UNWRITTEN) {
+        check(other == SDJWT_DONE || other == SDJWT_REFUSED || other == SDJWT_UNREADABLE, "no answer with enough room");
+    } else {
+        check(other == status && memcmp(out, again, len) == 0, "the same call has another answer");
+    }
+    check(again_len == len, "the same call has an answer of another length");
+    free(out);
+    free(again);
+    for (size_t i = 0; i < given.count; i++) {
+        free(given.parts[i].bytes);
+    }
+    return 0;
+}
