@@ -7,7 +7,7 @@
 # It builds the library without proofs, with the counters by which libFuzzer sees which code an input reaches; so it
 # finds faults of the code and of what it stands on, and proves nothing. The inputs begin with the vectors of vectors/,
 # and what is found is kept in c/out/fuzz/CALL, where the next run goes on. An input that fails is left beside this
-# corpus, and the status is not 0. A call may take five seconds and 2 GB of memory. It needs a Rattle kit, python3, and
+# corpus, and the status is not 0. A call may take twenty seconds and 2 GB of memory. It needs a Rattle kit, python3, and
 # clang with its libFuzzer.
 set -eu
 refuse() {
@@ -53,7 +53,7 @@ python3 "$here/corpus.py" "$made/corpus"
 for call; do
     mkdir -p "$kept/$call"
     echo "run.sh: $call, $seconds seconds"
-    SDJWT_FUZZ=$call "$made/fuzz" -max_total_time="$seconds" -max_len=16384 -timeout=5 -rss_limit_mb=2048 \
+    SDJWT_FUZZ=$call "$made/fuzz" -max_total_time="$seconds" -max_len=16384 -timeout=20 -rss_limit_mb=2048 \
         -artifact_prefix="$kept/$call-" -print_final_stats=1 -verbosity=1 "$kept/$call" "$made/corpus/$call" \
         >"$made/said" 2>&1 || { tail -n 40 "$made/said" >&2 && refuse "$call fails; the input is in c/out/fuzz"; }
     grep -E 'number_of_executed_units|peak_rss_mb|slowest_unit_time_sec' "$made/said"
