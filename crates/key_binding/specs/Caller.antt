@@ -1,7 +1,7 @@
 -- What a caller says of signatures that it checks itself, and which algorithms it takes.
-use Rattle.std.specs.Prelude.{◌≡◌, ◌⊎◌, true, List, [], Option, Some, nat_eq, codes}
+use Rattle.std.specs.Prelude.{◌≡◌, ℕ, ◌⊎◌, true, List, [], Option, Some, nat_eq, codes}
 use Rattle.std.specs.List.{starts_with}
-use Rattle.b64url_text.specs.NotBase64.{IsNotBase64}
+use Rattle.b64url_text.specs.Base64url.{Decodes}
 use Rattle.claim_tree.specs.Tree.{Text}
 use Rattle.claim_tree.specs.Lists.{In}
 use Rattle.key_binding.specs.declared.caller.SignatureAnswer.{SignatureAnswer}
@@ -19,9 +19,13 @@ IsNeverTaken alg = (alg ≡ []) ⊎ ((alg ≡ codes "none") ⊎ (starts_with nat
 abbrev pub IsAlgUntaken : Caller → Text → Type 0
 IsAlgUntaken caller alg = IsNeverTaken alg ⊎ (In alg caller.algs → ⊥)
 
--- the text is the base64url text of a signature, and this was said of it
+-- the text is the base64url text of no bytes
+abbrev pub IsNoSignature : Text → Type 0
+IsNoSignature text = (signature : List ℕ) → Decodes text signature → ⊥
+
+-- the text is that of a signature, and this was said of it
 abbrev pub IsAnswered : Caller → SignatureAnswer → Text → Type 0
-IsAnswered caller answer text = (IsNotBase64 text → ⊥) × (caller.answer ≡ Some answer)
+IsAnswered caller answer text = (IsNoSignature text → ⊥) × (caller.answer ≡ Some answer)
 
 -- there is no key for it
 abbrev pub IsUnknownTo : Caller → Text → Type 0
@@ -30,9 +34,3 @@ IsUnknownTo caller text = IsAnswered caller SignatureAnswer.Unknown text
 -- it is not good
 abbrev pub IsBadTo : Caller → Text → Type 0
 IsBadTo caller text = IsAnswered caller SignatureAnswer.Good text → ⊥
-
--- what an answer says: that the key is unknown, that it is known and the signature bad, or that neither is so
-abbrev pub Tells : SignatureAnswer → Type 0 → Type 0 → Type 0
-Tells SignatureAnswer.Unknown unknown bad = unknown
-Tells SignatureAnswer.Bad unknown bad = (unknown → ⊥) × bad
-Tells SignatureAnswer.Good unknown bad = (unknown → ⊥) × (bad → ⊥)

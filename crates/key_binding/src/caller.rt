@@ -1,7 +1,7 @@
 // What a caller says of signatures that it checks itself.
 ghost use Rattle.std.specs.Prelude.{◌↔◌, IsTrue, IfOk};
-ghost use Rattle.key_binding.specs.Caller.{IsNeverTaken, IsAlgUntaken, IsUnknownTo, IsBadTo, Tells};
-ghost use Rattle.key_binding.specs.CallerSeen.{caller_of};
+ghost use Rattle.key_binding.specs.Caller.{IsNeverTaken, IsAlgUntaken, IsUnknownTo, IsBadTo};
+ghost use Rattle.key_binding.specs.CallerSeen.{Tells, caller_of};
 
 use crate::is_among;
 use b64url_text::{DecodeError, decode};

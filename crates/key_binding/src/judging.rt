@@ -11,7 +11,7 @@ ghost use Rattle.compact_form.specs.Passing.{Passes};
 ghost use Rattle.disclosure.specs.Digest.{digest_of};
 ghost use Rattle.jws_part.specs.Header.{IsHeader, IsHeaderUnreadable, IsHeaderCritical};
 ghost use Rattle.jws_part.specs.Part.{IsBody};
-ghost use Rattle.key_binding.specs.Caller.{Tells};
+ghost use Rattle.key_binding.specs.CallerSeen.{Tells};
 ghost use Rattle.key_binding.specs.Judged.{judged, binding_rules, HasBindingHeader, HasClaims};
 ghost use Rattle.key_binding.specs.JudgedSteps.{judged_of, IsHolder, IsAlgRefusedBy, IsUnknownBy, IsBadBy};
 ghost use Rattle.key_binding.specs.BindingConditions.{BindingFails, IsHolderUnknown, IsStale, IsEarly, IsTimeRefused};

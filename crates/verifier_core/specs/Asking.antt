@@ -1,7 +1,6 @@
--- Verdicts where a caller checks the signatures: what is asked of it, and when.
+-- Not needed to believe the program's promises: verdicts where a caller checks the signatures, and what is asked of it.
 use Rattle.std.specs.Prelude.{◌≡◌, ℕ, ◌≤◌, ◌⊎◌, ◌++◌, List, Option, Some, None, Result, IfOk, OnOk, IsErrOf, codes, option_map}
 use Rattle.b64url_text.specs.Base64url.{Decodes}
-use Rattle.b64url_text.specs.NotBase64.{IsNotBase64}
 use Rattle.claim_tree.specs.Tree.{Text, Tree, Members, no_members}
 use Rattle.claim_tree.specs.View.{tree_of}
 use Rattle.compact_form.specs.Faults.{fault_number}
@@ -14,7 +13,7 @@ use Rattle.compact_form.specs.Passing.{Passes}
 use Rattle.json_form.specs.declared.token.Token.{Token}
 use Rattle.json_form.specs.Token.{IsToken}
 use Rattle.jws_part.specs.Header.{IsHeader}
-use Rattle.key_binding.specs.Caller.{Caller}
+use Rattle.key_binding.specs.Caller.{Caller, IsNoSignature}
 use Rattle.key_binding.specs.Judged.{of_caller, BindingRules}
 use Rattle.key_binding.specs.declared.caller.SignatureAnswer.{SignatureAnswer}
 use Rattle.key_binding.specs.declared.policy.BindingPolicy.{BindingPolicy}
@@ -64,7 +63,7 @@ caller_demands policy binding_algs answers = record {
 pub record IsIssuerAsked (text : List ℕ) (demands : Demands) (now : ℕ) (token : Token) : Type 0 where
   pub is_token : IsToken text token
   pub passes : Passes 9 (FailsFor text demands now)
-  pub signature : IsNotBase64 token.parts.signed.signature → ⊥
+  pub signature : IsNoSignature token.parts.signed.signature → ⊥
 
 -- it is to be known whether the signature of the key binding token is good: one is asked for, and no condition below 27 fails,
 -- nor do 28 and 29, which are judged before the key is
@@ -76,7 +75,7 @@ pub record IsHolderAsked (text : List ℕ) (demands : Demands) (now : ℕ) (toke
   pub rules : BindingRules
   pub wanted : demands.binding ≡ Some rules
   pub sent : token.parts.binding ≡ Some binding
-  pub signature : IsNotBase64 binding.signature → ⊥
+  pub signature : IsNoSignature binding.signature → ⊥
 
 -- the question is about this JWT: its text up to the signature, the signature, and its header
 pub record IsQuestion (signed : JwtParts) (outer : Members) (question : Question) : Type 0 where

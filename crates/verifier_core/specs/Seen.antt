@@ -1,4 +1,4 @@
--- What contracts see of who may sign.
+-- Not needed to believe the program's promises: what contracts see of who may sign.
 use Rattle.key_binding.specs.CallerSeen.{caller_of}
 use Rattle.verifier_core.specs.Verdict.{Issuers, of_keys, of_caller}
 use Rattle.verifier_core.specs.declared.rules.Issuers as declared

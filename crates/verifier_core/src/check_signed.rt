@@ -3,7 +3,7 @@ ghost use Rattle.std.specs.Prelude.{◌≡◌, List, IfOk, IfErr, OnOk, option_m
 ghost use Rattle.std.specs.Option.{option_copied};
 ghost use Rattle.compact_form.specs.Views.{jwt_of};
 ghost use Rattle.claim_tree.specs.Tree.{Text};
-ghost use Rattle.key_binding.specs.Caller.{Tells};
+ghost use Rattle.key_binding.specs.CallerSeen.{Tells};
 ghost use Rattle.verifier_core.specs.Verdict.{of_keys, key_for as key_for_of, IsAlgRefused, IsAlgRefusedBy, IsTypeRefused, IsUnknownBy, IsBadBy};
 ghost use Rattle.verifier_core.specs.Seen.{issuers_of};
 ghost use Rattle.verifier_core.specs.Check.{OnFault, TestTells, IsSigned, IsSignedFault};

@@ -1,6 +1,6 @@
 use Rattle.std.proofs.Common.{IfOk, sym, subst}
 use Rattle.compact_form.specs.Views.{jwt_of}
-use Rattle.key_binding.specs.Caller.{Tells}
+use Rattle.key_binding.specs.CallerSeen.{Tells}
 use Rattle.verifier_core.specs.Seen.{issuers_of}
 use Rattle.verifier_core.specs.Verdict.{IsUnknownBy, IsBadBy}
 use Rattle.verifier_core.proofs.check_signed.answer_on.Goals as goal

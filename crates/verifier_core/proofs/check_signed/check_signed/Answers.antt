@@ -1,7 +1,7 @@
 use Rattle.std.proofs.Common.{Err, sym, ap, subst, refl}
 use Rattle.std.specs.Option.{option_copied}
 use Rattle.compact_form.specs.Views.{jwt_of}
-use Rattle.key_binding.specs.Caller.{Tells}
+use Rattle.key_binding.specs.CallerSeen.{Tells}
 use Rattle.verifier_core.specs.Seen.{issuers_of}
 use Rattle.verifier_core.specs.Verdict.{IsAlgRefusedBy, IsTypeRefused, IsUnknownBy, IsBadBy}
 use Rattle.verifier_core.specs.Check.{bad_header, bad_alg, bad_type, no_key, not_signed}
