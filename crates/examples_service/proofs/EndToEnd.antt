@@ -10,7 +10,7 @@ use Rattle.json_form.specs.Alone.{alone}
 use Rattle.json_form.specs.Token.{IsToken}
 use Rattle.marked_tree.specs.Marked.{strip}
 use Rattle.selection_core.specs.Consent.{RuleAnswers}
-use Rattle.verifier_core.specs.Verdict.{Fails}
+use Rattle.verifier_core.specs.Verdict.{Fails, demands_of}
 use Rattle.verifier_core.specs.Verdicts.{IsAcceptedAs}
 use Rattle.verifier_core.specs.declared.policy.Policy.{Policy}
 use Rattle.verifier_core.proofs.OneVerdict.{one_accepted, accepted_not_refused}
@@ -45,7 +45,7 @@ module _ {F : Type 0} (answers : RuleAnswers F) (rule : F) (law : PresentedOverV
         whole.accepted text (subst (λ (x : List ℕ). IsToken x (alone presented.parts)) (sym presented.text_is) whole.reads)
 
     pub passes : (fault : Fault) → IsLowest (Fails text policy later) fault → ⊥
-    passes fault lowest = accepted_not_refused text policy later accepted.0 fault accepted.1 lowest
+    passes fault lowest = accepted_not_refused text (demands_of policy) later accepted.0 fault accepted.1 lowest
 
     pub found : (payload : Tree) → IsAcceptedAs text policy later payload → payload ≡ claims_for order ask.want
-    found payload other = other.2 ∙ ap strip (one_accepted text policy later other.0 accepted.0 other.1 accepted.1) ∙ sym accepted.2
+    found payload other = other.2 ∙ ap strip (one_accepted text (demands_of policy) later other.0 accepted.0 other.1 accepted.1) ∙ sym accepted.2

@@ -12,7 +12,7 @@ use Rattle.claim_tree.specs.Tree.{Tree}
 use Rattle.marked_tree.specs.Marked.{Marked, strip}
 use Rattle.verifier_core.specs.declared.policy.Policy.{Policy}
 use Rattle.compact_form.specs.RefusedText.{fault_text}
-use Rattle.verifier_core.specs.Verdict.{Fails}
+use Rattle.verifier_core.specs.Verdict.{Fails, demands_of}
 use Rattle.verifier_core.specs.Verdicts.{IsAcceptedAs}
 use Rattle.verifier_core.proofs.Verdicts.{file_lowest}
 use Rattle.verifier_core.proofs.OneVerdict.{accepted_not_refused, one_accepted, one_lowest}
@@ -24,18 +24,18 @@ told marked = codes "accepted " ++ json_text (strip marked)
 
 pub one_verdict_text : (policy : Policy) (now : ℕ) (token text other : List ℕ) → TellsVerdict policy now token text → TellsVerdict policy now token other → text ≡ other
 unfolding told
-one_verdict_text policy now token text other (accepts m a e) (accepts n b f) = e ∙ ap told (one_accepted token policy now m n a b) ∙ sym f
-one_verdict_text policy now token text other (accepts m a e) (refuses fault l f) = absurd (accepted_not_refused token policy now m fault a l)
-one_verdict_text policy now token text other (refuses fault l e) (accepts n b f) = absurd (accepted_not_refused token policy now n fault b l)
-one_verdict_text policy now token text other (refuses fault l e) (refuses another m f) = e ∙ ap fault_text (one_lowest token policy now fault another l m) ∙ sym f
+one_verdict_text policy now token text other (accepts m a e) (accepts n b f) = e ∙ ap told (one_accepted token (demands_of policy) now m n a b) ∙ sym f
+one_verdict_text policy now token text other (accepts m a e) (refuses fault l f) = absurd (accepted_not_refused token (demands_of policy) now m fault a l)
+one_verdict_text policy now token text other (refuses fault l e) (accepts n b f) = absurd (accepted_not_refused token (demands_of policy) now n fault b l)
+one_verdict_text policy now token text other (refuses fault l e) (refuses another m f) = e ∙ ap fault_text (one_lowest token (demands_of policy) now fault another l m) ∙ sym f
 
 too_long : (policy : Policy) (now : ℕ) (token : List ℕ) → file_max < length token → IsLowest (Fails token policy now) (unplaced Condition.TooLong)
-too_long policy now token long = file_lowest token policy now (unplaced Condition.TooLong) (refused_long token (unplaced Condition.TooLong) refl long)
+too_long policy now token long = file_lowest token (demands_of policy) now (unplaced Condition.TooLong) (refused_long token (unplaced Condition.TooLong) refl long)
 
 pub long_alike : (policy : Policy) (now : ℕ) (token other text : List ℕ) → file_max < length token → file_max < length other → TellsVerdict policy now token text → TellsVerdict policy now other text
-long_alike policy now token other text long more (accepts m a e) = absurd (accepted_not_refused token policy now m (unplaced Condition.TooLong) a (too_long policy now token long))
+long_alike policy now token other text long more (accepts m a e) = absurd (accepted_not_refused token (demands_of policy) now m (unplaced Condition.TooLong) a (too_long policy now token long))
 long_alike policy now token other text long more (refuses fault l e) =
-    refuses (unplaced Condition.TooLong) (too_long policy now other more) (e ∙ ap fault_text (one_lowest token policy now fault (unplaced Condition.TooLong) l (too_long policy now token long)))
+    refuses (unplaced Condition.TooLong) (too_long policy now other more) (e ∙ ap fault_text (one_lowest token (demands_of policy) now fault (unplaced Condition.TooLong) l (too_long policy now token long)))
 
 -- ---- the line of a verdict, behind what is held
 

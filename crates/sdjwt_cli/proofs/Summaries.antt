@@ -19,7 +19,7 @@ use Rattle.json_form.specs.Token.{IsToken}
 use Rattle.json_form.specs.declared.token.Token.{Token}
 use Rattle.json_form.proofs.Tokens as tokens
 use Rattle.verifier_core.specs.Check.{IsCounted}
-use Rattle.verifier_core.specs.Verdict.{Fails, HasContent}
+use Rattle.verifier_core.specs.Verdict.{Fails, HasContent, demands_of}
 use Rattle.verifier_core.specs.Verdicts.{IsAcceptedAs}
 use Rattle.verifier_core.specs.declared.policy.Policy.{Policy}
 use Rattle.verifier_core.proofs.CheckSteps.{one_content}
@@ -143,7 +143,7 @@ module _ (n : ℕ) (issued : Parts) (is_issued : IsIssuedBy generated_seed (gene
       claims_are =
           let a = verified.accepted in
           let b = accepted_with.accepted (compact presented) accepted_with.reads in
-          a.2 ∙ (ap strip (verdicts.one_accepted (compact presented) generated_policy 0 a.0 b.0 a.1 b.1) ∙ sym b.2)
+          a.2 ∙ (ap strip (verdicts.one_accepted (compact presented) (demands_of generated_policy) 0 a.0 b.0 a.1 b.1) ∙ sym b.2)
 
       lines_are : (hidden shown bytes : ℕ) → hidden ≡ length issued.disclosures → shown ≡ length presented.disclosures → bytes ≡ length (json_text (tree_of found))
           → summary_lines hidden shown (many - shown) bytes ≡ summary_lines (hidden_paths n) (chosen_places n) (embedded_digests is.has.payload given) (shown_length n)
@@ -173,7 +173,7 @@ module _ (presented : Parts) (ok : IsAcceptable presented) (text : List ℕ) (te
       let here = subst (λ (t : List ℕ). IsLowest (Fails t policy 0) fault) text_is lowest in
       let under = subst (λ (p : Policy). IsLowest (Fails (compact presented) p 0) fault) policy_is here in
       let accepted = ok.1.accepted (compact presented) ok.1.reads in
-      verdicts.accepted_not_refused (compact presented) generated_policy 0 accepted.0 fault accepted.1 under
+      verdicts.accepted_not_refused (compact presented) (demands_of generated_policy) 0 accepted.0 fault accepted.1 under
 
   one_token : (token : Token) → IsToken text token → token ≡ alone presented
   one_token token there = tokens.one (compact presented) token (alone presented) (subst (λ (t : List ℕ). IsToken t token) text_is there) ok.1.reads
