@@ -61,7 +61,7 @@ module _ (o : Order) (key : AlgKey) (p : Tree) (g : List Given) (parts : Parts) 
         alg = taken;
         typ = typed;
         known = λ unknown. (let both : Some key ≡ None = sym found ∙ unknown in cc both);
-        good = λ other. (let both : Some other.0 ≡ Some key = sym other.1.0 ∙ found in let same : other.0 ≡ key = cc both in other.1.1 (subst (λ x. IsGoodText x parts.signed.protected parts.signed.payload parts.signed.signature) (sym same) good));
+        good = λ other. (let both : Some other.0 ≡ Some key = sym other.1 ∙ found in let same : other.0 ≡ key = cc both in other.2 (subst (λ x. IsGoodText x parts.signed.protected parts.signed.payload parts.signed.signature) (sym same) good));
       } in
       let at_payload = payload_passes (alone parts) rules (with_alg o.hash p) o.hash (signed_passes (alone parts) rules signed) carries.body carries.hash in
       content_checked (alone parts) rules p g (processed p g) content (given_passes (alone parts) rules o.hash g at_payload carries.texts) sound refl

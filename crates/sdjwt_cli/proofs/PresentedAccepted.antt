@@ -155,11 +155,11 @@ module _ (seed : List ℕ) (o : Order) (key : AlgKey) (parts : Parts) (is : IsTo
     -- what is asked of a key binding token is what the policy asks
     binding_of : (wanted : Option BindingPolicy) (rules : BindingRules) → option_map binding_rules wanted ≡ Some rules → (b : BindingPolicy) × (wanted ≡ Some b) × (rules ≡ binding_rules b)
     binding_of None rules e = cc e
-    binding_of (Some b) rules e = let same : binding_rules b ≡ rules = cc e in (b, (refl, sym same))
+    binding_of (Some b) rules e = let same : binding_rules b ≡ rules = cc e in (b, refl, sym same)
 
     binding_passes : (payload : Tree) → payload ≡ shown_for (marked_claims o) ask.want → (c : Condition) (place : Place) → HolderFails answer payload o.hash (demands_of policy) later c place → ⊥
     binding_passes payload shown c place fails =
-        let (b, (wanted, rules_are)) = binding_of policy.binding fails.binding fails.asked in
+        let (b, wanted, rules_are) = binding_of policy.binding fails.binding fails.asked in
         let suit = suits.bound b wanted in
         let made = made_binding ask.binding answer.binding suit.ask fails.token presented.bound suit.asked_for fails.sent in
         let j = judged fails.token payload (binding_rules b) policy.skew o.hash (hashed answer) later in
@@ -176,7 +176,7 @@ module _ (seed : List ℕ) (o : Order) (key : AlgKey) (parts : Parts) (is : IsTo
         binding_passes payload shown c place (subst (λ (h : HashAlg). HolderFails answer payload h (demands_of policy) later c place) same fails)
 
     missing_passes : IsBindingMissing (demands_of policy) answer → ⊥
-    missing_passes (rules, asked, none) = let suit = suits.bound (binding_of policy.binding rules asked).0 (binding_of policy.binding rules asked).1.0 in not_missing ask.binding answer.binding presented.bound suit.ask suit.asked_for none
+    missing_passes (rules, asked, none) = let suit = suits.bound (binding_of policy.binding rules asked).0 (binding_of policy.binding rules asked).1 in not_missing ask.binding answer.binding presented.bound suit.ask suit.asked_for none
 
     none_fails : NoneFails (Fails text policy later)
     none_fails c place (of_file h) = is_text.passes (fault_at c place) h
