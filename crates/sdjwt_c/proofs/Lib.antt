@@ -2,3 +2,6 @@ pub mod LooseValues
 pub mod HandleValues
 pub mod Handing
 pub mod Cutting
+pub mod ListTexts
+pub mod Numbering
+pub mod Tellings
