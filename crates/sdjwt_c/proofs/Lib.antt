@@ -3,5 +3,4 @@ pub mod HandleValues
 pub mod Handing
 pub mod Cutting
 pub mod ListTexts
-pub mod Numbering
 pub mod Tellings

@@ -1,20 +1,15 @@
 -- What is told of a judgement, and how it is handed over.
-use Rattle.std.proofs.Common.{◌≡◌, ℕ, List, inl, inr, Result, Ok, Err, refl, sym, ap, ◌∙◌}
+use Rattle.std.proofs.Common.{◌≡◌, ◌⊎◌, ℕ, List, inl, inr, Some, None, Result, Ok, Err, refl}
 use Rattle.std.specs.Prelude.{string_bytes}
 use Rattle.claim_tree.specs.View.{tree_of}
 use Rattle.cli_parts.specs.Replies.{gives, refuses, unreadable}
-use Rattle.cli_parts.specs.Stops.{OnRefused, OnUnread, OnUnreadable}
 use Rattle.cli_parts.specs.declared.stop.Stop.{Stop}
-use Rattle.sd_outside.specs.Status.{status_number}
-use Rattle.sd_outside.specs.declared.status.Status.{Status}
-use Rattle.sd_outside.specs.declared.status.Status.TheVariants.{Done, Usage}
 use Rattle.verifier_core.specs.Asking.{IsJudged}
 use Rattle.verifier_core.specs.Verdict.{Demands}
 use Rattle.verifier_core.specs.declared.asking.Answers.{Answers}
 use Rattle.verifier_core.specs.declared.asking.JudgeError.{JudgeError}
 use Rattle.verifier_core.specs.declared.asking.Judgement.{Judgement}
-use Rattle.sdjwt_c.specs.Handed.{IsGiven}
-use Rattle.sdjwt_c.specs.Judging.{Told, replies, asks, unasked, Tells, HandsAs, HandsVerdictBy, replied, asked, not_asked}
+use Rattle.sdjwt_c.specs.Judging.{Told, replies, asks, unasked, Tells, HandsVerdictBy, replied, asked, not_asked}
 use Rattle.sdjwt_c.specs.JudgingSteps.{OnTold, TellsJudgement, IsHandedVerdict}
 use Rattle.sdjwt_c.specs.declared.verdict.Verdict.{Verdict}
 use Rattle.sdjwt_c.proofs.Handing.{handed_reply}
@@ -42,32 +37,6 @@ told_more P Q follows (Err (Stop.Unreadable text)) h = follows (replies (unreada
 told_more P Q follows (Err (Stop.Unread word)) h = absurd h
 told_more P Q follows (Err Stop.Memory) h = tt
 
--- a condition fails
-pub told_refused : (Is : Told → Type 0) (Why : List ℕ → Type 0) → ((text : List ℕ) → Why text → Is (replies (refuses text)))
-    → (stop : Stop) → OnRefused stop Why → OnUnreadable stop (λ _. ⊥) → OnUnread stop (λ _. ⊥) → OnTold (Err stop) Is
-told_refused Is Why follows (Stop.Refused text) why fit read = follows (string_bytes text) why
-told_refused Is Why follows (Stop.Unreadable text) why fit read = absurd fit
-told_refused Is Why follows (Stop.Unread word) why fit read = absurd read
-told_refused Is Why follows Stop.Memory why fit read = tt
-
--- a file is not of its form
-pub told_unreadable : (Is : Told → Type 0) (Why : List ℕ → Type 0) → ((text : List ℕ) → Why text → Is (replies (unreadable text)))
-    → (stop : Stop) → OnUnreadable stop Why → OnRefused stop (λ _. ⊥) → OnUnread stop (λ _. ⊥) → OnTold (Err stop) Is
-told_unreadable Is Why follows (Stop.Refused text) why fit read = absurd fit
-told_unreadable Is Why follows (Stop.Unreadable text) why fit read = follows (string_bytes text) why
-told_unreadable Is Why follows (Stop.Unread word) why fit read = absurd read
-told_unreadable Is Why follows Stop.Memory why fit read = tt
-
--- what was given as if it were an answer has its own number
-pub given_done : (number : ℕ) (text before after : List ℕ) (len : ℕ) (status : Status) → IsGiven text Done before after len status → status ≡ Done → HandsAs number text before after len number
-given_done number text before after len status (inl w) done = inl (refl, w.1)
-given_done number text before after len status (inr n) done = let both = sym done ∙ n.0 in cc both
-
-pub given_other : (number : ℕ) (text before after : List ℕ) (len : ℕ) (status : Status) → IsGiven text Done before after len status → (status ≡ Done → ⊥)
-    → HandsAs number text before after len (status_number status)
-given_other number text before after len status (inl w) other = absurd (other w.0)
-given_other number text before after len status (inr n) other = inr (ap status_number n.0, n.1)
-
 -- what is told is handed over
 pub handed_verdict : (Misused : Type 0) → (Misused → ⊥) → (Is : Told → Type 0) (before after : List ℕ) (len number : ℕ) (verdict : Result Verdict Stop) → OnTold verdict Is → IsHandedVerdict verdict before after len number
     → HandsVerdictBy Misused Is before after len number
@@ -83,8 +52,7 @@ handed_verdict Misused kept Is before after len number (Err (Stop.Unread word)) 
 handed_verdict Misused kept Is before after len number (Err Stop.Memory) is h =
     replied (handed_reply Misused kept (λ reply. Is (replies reply)) before after len number h.0 h.1 (Err Stop.Memory) tt tt h.2)
 
--- the call is misused
-pub misused_verdict : (Misused : Type 0) → Misused → (Is : Told → Type 0) (before after : List ℕ) (len number : ℕ) (status : Status) → number ≡ status_number status → status ≡ Usage → len ≡ 0 → after ≡ before
-    → HandsVerdictBy Misused Is before after len number
-misused_verdict Misused misused Is before after len number status number_is usage len_is room_is =
-    replied (record { status = Usage; number_is = number_is ∙ ap status_number usage; hands = record { misused = misused; left = record { len_is = len_is; room_is = room_is } } })
+-- neither is missing
+pub both_there : {X Y : Type 0} (x : X) (y : Y) → (Some x ≡ None) ⊎ (Some y ≡ None) → ⊥
+both_there x y (inl e) = cc e
+both_there x y (inr e) = cc e

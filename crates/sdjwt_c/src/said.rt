@@ -56,7 +56,8 @@ fn list_of(alloc: Global, text: &[u8]) -> Result<Option<TextList>, NoMemory>
         Ok(Tree::List(list)) => texts_of(alloc, list.trees()),
         Ok(_) => Ok(None),
         Err(ReadError::Memory) => Err(NoMemory),
-        Err(_) => Ok(None),
+        Err(ReadError::NotJson) => Ok(None),
+        Err(ReadError::NotWhole) => Ok(None),
     }
 }
 
