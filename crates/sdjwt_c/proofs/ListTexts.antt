@@ -7,7 +7,7 @@ use Rattle.claim_tree.specs.ListViews.{elements_of}
 use Rattle.claim_tree.specs.Tree.{Text, Elements, array}
 use Rattle.claim_tree.specs.declared.tree.Tree as owned
 use Rattle.claim_tree.proofs.OneTree.{one_tree}
-use Rattle.sdjwt_c.specs.Said.{IsListText, IsNoListText}
+use Rattle.sdjwt_c.specs.Said.{IsNoListText}
 
 -- the elements of the one list of a text are those of no texts
 other_list : (bytes : List ℕ) (es : Elements) (ts : List owned.Tree) → Reads bytes (array es) → elements_of ts ≡ es → ((list : List Text) → text_elements list ≢ elements_of ts) → IsNoListText bytes

@@ -7,7 +7,6 @@ use Rattle.cli_parts.specs.Replies.{gives, refuses, unreadable}
 use Rattle.cli_parts.specs.declared.stop.Stop.{Stop}
 use Rattle.sd_outside.specs.Status.{status_number}
 use Rattle.sd_outside.specs.declared.status.Status.{Status}
-use Rattle.sdjwt_c.specs.Handed.{IsLeft}
 use Rattle.sdjwt_c.specs.Judging.{Told, replies, asks, unasked, unasked_line, HandsAs}
 use Rattle.sdjwt_c.specs.Questions.{issuer_question, holder_question}
 use Rattle.sdjwt_c.specs.Results.{IsHanded}
