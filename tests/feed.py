@@ -91,18 +91,18 @@ def input_fails(program, whole):
 
 
 def verdicts_go_out(program, whole):
-    """Each verdict by one write, as soon as its line has ended: a socket of packets keeps the writes apart."""
+    """The verdicts of a piece by one write, as soon as it has come: a socket of packets keeps the writes apart."""
     ours, its = socket.socketpair(socket.AF_UNIX, socket.SOCK_SEQPACKET)
     ours.settimeout(60)
     feed = subprocess.Popen([program, "feed", POLICY, MOST], stdin=subprocess.PIPE, stdout=its)
     its.close()
     said = whole.splitlines(keepends=True)
-    for piece, due in [(b"a.b", []), (b".c\n", said[:1]), (GOOD[:-1], []), (b"\n", said[1:2]), (INPUT, said),
-                       (b"x", [])]:
+    for piece, due in [(b"a.b", b""), (b".c\n", said[0]), (GOOD[:-1], b""), (b"\n", said[1]), (INPUT, whole),
+                       (b"x", b"")]:
         feed.stdin.write(piece)
         feed.stdin.flush()
-        for packet in due:
-            expect("a verdict", ours.recv(100_000), packet)
+        if due:
+            expect("the verdicts", ours.recv(100_000), due)
         ours.setblocking(False)
         try:
             expect("more than is due", ours.recv(100_000), None)
@@ -110,8 +110,7 @@ def verdicts_go_out(program, whole):
             pass
         ours.settimeout(60)
     feed.stdin.close()
-    expect("the last verdict", ours.recv(100_000), b"refused 2 form at 1\n")
-    expect("the count", ours.recv(100_000), b"lines 6\n")
+    expect("the last verdict and the count", ours.recv(100_000), b"refused 2 form at 1\nlines 6\n")
     expect("the status", feed.wait(60), 0)
     ours.close()
 

@@ -8,10 +8,10 @@ use Rattle.issuer_core.specs.Order.{Order}
 use Rattle.holder_core.specs.declared.ask.Ask.{Ask}
 use Rattle.sdjwt_cli.specs.Suits.{Suits}
 
-pub suits_by : {F G : Type 0} {answers : RuleAnswers F} {rule : F} {o : Order} {key : AlgKey} {ask : Ask} {signing : List ℕ} {policy : Policy} {presented verified : ℕ}
-    → Suits answers rule o key ask signing policy presented verified → (others : RuleAnswers G) (other : G)
+pub suits_by : {F G : Type 0} {answers : RuleAnswers F} {rule : F} {others : RuleAnswers G} {o : Order} {key : AlgKey} {ask : Ask} {signing : List ℕ} {policy : Policy} {presented verified : ℕ}
+    → Suits answers rule o key ask signing policy presented verified → (other : G)
     → ((at : Path) → Allows others other at false → Allows answers rule at false) → Suits others other o key ask signing policy presented verified
-suits_by suits others other refuses_no_more = record {
+suits_by suits other refuses_no_more = record {
   holder_finds = suits.holder_finds;
   verifier_finds = suits.verifier_finds;
   alg = suits.alg;

@@ -17,4 +17,4 @@ issue_present_verify-requires-clause-suits c =
     let list = ap (λ x. x.0.now) c.new-consent.ensures.rule in
     let kept = c.in_ok-never.never in
     let same = c.in_ok-never.ensures.same in
-    suits_by suits _ c.new-consent.result (λ at h. record { shown = h.shown; shows = h.shows; says = record { met = judges_too kept said.never h.shown.now false (same h.shown.now) (subst (λ (paths : List Path). Judges paths h.shown.now false) list h.says.met) } })
+    suits_by suits c.new-consent.result (λ at h. record { shown = h.shown; shows = h.shows; says = record { met = judges_too kept said.never h.shown.now false (same h.shown.now) (subst (λ (paths : List Path). Judges paths h.shown.now false) list h.says.met) } })
