@@ -21,7 +21,8 @@ ghost use Rattle.key_binding.specs.Read.{claims_of};
 use crate::holder::holder_key;
 use crate::reading::{Claims, read_claims};
 use crate::{
-    BindingError, BindingPolicy, BindingRules, BoundError, Caller, Holders, SignatureAnswer, is_among,
+    BindingError, BindingPolicy, BindingRules, BoundError, Caller, Holders, SignatureAnswer,
+    is_among,
 };
 use claim_tree::{JsonReader, Tree, TreeMap};
 use compact_form::{Condition, JwtParts, JwtView};

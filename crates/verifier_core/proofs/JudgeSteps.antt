@@ -39,8 +39,8 @@ module _ (text : List ℕ) (demands : Demands) (now : ℕ) (fault : Fault) (refu
 -- ---- a token that is read
 
 module _ (text : List ℕ) (policy : Policy) (algs : List Text) (now : ℕ) (answers : Answers) (demands : Demands) (same : demands ≡ caller_demands policy algs answers)
-  (token : Token) (content : Content) (is : IsToken text token) (sent : IsBindingMissing demands token.parts → ⊥) (has : IsContent token demands.rules content)
-  (signed : IsSigned token.parts.signed token.outer demands.rules) where
+    (token : Token) (content : Content) (is : IsToken text token) (sent : IsBindingMissing demands token.parts → ⊥) (has : IsContent token demands.rules content)
+    (signed : IsSigned token.parts.signed token.outer demands.rules) where
   read : IsRead text demands token content
   read = record { is_token = is; sent = sent; is_content = has }
 

@@ -22,7 +22,7 @@ returns-in-Ok-Bad-clause-refused c =
     let told = subst (λ answer. Tells answer (IsUnknownBy c.args.holder j.token) (IsBadBy c.args.holder j.token)) c.in-Ok-Bad.field-0-is c.in-Ok-Bad.ensures in
     let known = known_by j j.rules.holders c.args.holder c.requires.holder told.0 in
     let taken = alg_taken j j.rules.holders c.args.holder c.requires.holder h.alg
-        (λ refused. no_truth _ c.if-is_alg_refused.false (c.is_alg_refused.ensures.1 (subst (IsAlgRefusedBy c.args.holder) (sym c.as_str.ensures) refused))) in
+    (λ refused. no_truth _ c.if-is_alg_refused.false (c.is_alg_refused.ensures.1 (subst (IsAlgRefusedBy c.args.holder) (sym c.as_str.ensures) refused))) in
     refuse j Condition.BindingSignature (at30 j (at29 j (at28 j known) h c.requires.read) h c.requires.read taken) (refl, bad_by j j.rules.holders c.args.holder c.requires.holder told.1)
 
 pub returns-then-not-is_binding_type-clause-refused : goal.returns-then-not-is_binding_type-clause-refused
@@ -33,7 +33,7 @@ returns-then-not-is_binding_type-clause-refused c =
     let known = known_by j j.rules.holders c.args.holder c.requires.holder told.0 in
     let good = good_by j j.rules.holders c.args.holder c.requires.holder told.1 in
     let taken = alg_taken j j.rules.holders c.args.holder c.requires.holder h.alg
-        (λ refused. no_truth _ c.if-is_alg_refused.false (c.is_alg_refused.ensures.1 (subst (IsAlgRefusedBy c.args.holder) (sym c.as_str.ensures) refused))) in
+    (λ refused. no_truth _ c.if-is_alg_refused.false (c.is_alg_refused.ensures.1 (subst (IsAlgRefusedBy c.args.holder) (sym c.as_str.ensures) refused))) in
     refuse j Condition.BindingType (at_type j known h c.requires.read taken good)
     (refl, (h, c.requires.read, λ typ. no_truth _ c.if-not-is_binding_type.true (c.is_binding_type.ensures.1 (c.as_ref.ensures.value ∙ typ))))
 
@@ -45,5 +45,5 @@ returns-clause-ok c =
     let known = known_by j j.rules.holders c.args.holder c.requires.holder told.0 in
     let good = good_by j j.rules.holders c.args.holder c.requires.holder told.1 in
     let taken = alg_taken j j.rules.holders c.args.holder c.requires.holder h.alg
-        (λ refused. no_truth _ c.if-is_alg_refused.false (c.is_alg_refused.ensures.1 (subst (IsAlgRefusedBy c.args.holder) (sym c.as_str.ensures) refused))) in
+    (λ refused. no_truth _ c.if-is_alg_refused.false (c.is_alg_refused.ensures.1 (subst (IsAlgRefusedBy c.args.holder) (sym c.as_str.ensures) refused))) in
     at32 j (at_type j known h c.requires.read taken good) h c.requires.read (sym c.as_ref.ensures.value ∙ c.is_binding_type.ensures.0 c.if-not-is_binding_type.false)

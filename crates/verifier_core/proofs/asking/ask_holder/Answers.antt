@@ -11,7 +11,7 @@ pub refused-requires-clause-needed : goal.refused-requires-clause-needed
 refused-requires-clause-needed c needed =
     let k = c.args.case in
     let asked = asked_bad k.text.now k.policy.now k.binding_algs.now k.now k.answers c.args.fault c.requires.lowest c.requires.bad c.args.token.now c.requires.token (jwt_of c.args.binding) c.requires.sent
-        (λ none. none c.args.question.signature c.requires.question.signature) in
+    (λ none. none c.args.question.signature c.requires.question.signature) in
     subst (WasAsked k.text.now (demands_in k) k.now) (sym c.in-Holder.is) (c.args.token.now, jwt_of c.args.binding, asked)
 
 pub returns-in_default : goal.returns-in_default

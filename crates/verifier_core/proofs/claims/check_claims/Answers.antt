@@ -18,4 +18,3 @@ returns-in-Some-clause-lowest c =
     subst (IsLowest (ClaimFails payload demands c.args.now)) (sym c.fault_at.ensures)
     (refuse_placed (ClaimFails payload demands c.args.now) Condition.ClaimMissing _ c.in-Some.i (λ place h. h) (λ h. (c.in-Some.i, refl, h)) issuer
     (subst (λ (names : List Text). IsLeast (λ i. (name : Text) × StandsAt names i name × (get payload name ≡ None)) c.in-Some.i) (ap (λ (d : Demands). d.require) c.demands.view_is) c.in-Some.ensures.first))
-
