@@ -19,7 +19,7 @@ IsNeverTaken alg = (alg ≡ []) ⊎ ((alg ≡ codes "none") ⊎ (starts_with nat
 abbrev pub IsAlgUntaken : Caller → Text → Type 0
 IsAlgUntaken caller alg = IsNeverTaken alg ⊎ (In alg caller.algs → ⊥)
 
--- the text is the base64url text of no bytes
+-- no bytes have this text as their base64url text
 abbrev pub IsNoSignature : Text → Type 0
 IsNoSignature text = (signature : List ℕ) → Decodes text signature → ⊥
 
