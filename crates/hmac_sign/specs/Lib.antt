@@ -8,3 +8,4 @@ pub mod Keys
 pub mod KeyText
 pub mod KeyRefusals
 pub mod Agreement
+pub mod SignedJwt

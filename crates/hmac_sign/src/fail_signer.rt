@@ -1,5 +1,7 @@
 ghost use Rattle.std.specs.Prelude.{◌≡◌, ◌<◌, ◌≤◌, ◌↔◌, length, IfOk, IsErrOf};
 ghost use Rattle.sd_outside.specs.Causes.{Rose};
+ghost use Rattle.hmac_sign.specs.Algs.{alg_text};
+ghost use Rattle.hmac_sign.specs.declared.alg.Alg.TheVariants.{Hs256};
 ghost use Rattle.hmac_sign.specs.FailState.{after_call};
 ghost use Rattle.hmac_sign.specs.Hmac.{IsGood, hs256_key};
 ghost use Rattle.hmac_sign.specs.Agreement.{Agree};
@@ -39,6 +41,13 @@ impl FailSigner {
         }
     }
 
+    /// The algorithm of its key.
+    pub fn alg(&self) -> Alg
+        ensures { result ≡ Hs256 }
+    {
+        self.key.alg()
+    }
+
     /// The number of calls that failed.
     pub fn failures(&self) -> u64
         ensures { result ≡ self.now.faults }
@@ -52,14 +61,12 @@ impl Signatures for FailSigner {
 }
 
 impl Signer for FailSigner {
-    ghost use Rattle.hmac_sign.specs.declared.alg.Alg.TheVariants.{Hs256};
-
     ghost faults = { λ s. s.faults };
 
-    ghost alg_of = { λ _. Hs256 };
+    ghost alg_name_of = { λ _. alg_text Hs256 };
 
-    fn alg(&self) -> Alg {
-        self.key.alg()
+    fn alg_name(&self) -> &str {
+        self.key.alg_name()
     }
 
     fn sign(&mut self, alloc: Global, head: &str, body: &str) -> Result<ByteBox, SignError>

@@ -1,6 +1,7 @@
 // Keys for HS256, with which a holder signs.
 ghost use Rattle.std.specs.Prelude.{◌≡◌, ◌<◌, ◌≤◌, length, IfOk, IfErr};
 ghost use Rattle.sd_outside.specs.Limits.{key_min};
+ghost use Rattle.hmac_sign.specs.Algs.{alg_text};
 ghost use Rattle.hmac_sign.specs.Hmac.{key_block, hs256_key, mac as mac_of, IsGood};
 ghost use Rattle.hmac_sign.specs.declared.alg.Alg.TheVariants.{Hs256};
 
@@ -39,6 +40,13 @@ impl Hs256Key {
         })
     }
 
+    /// Its algorithm.
+    pub fn alg(&self) -> Alg
+        ensures { result ≡ Hs256 }
+    {
+        Alg::Hs256
+    }
+
     /// As a key of any algorithm.
     pub fn as_key(&self) -> &HsKey
         ensures { result.now ≡ hs256_key self.now }
@@ -67,10 +75,10 @@ impl Checker for Hs256Key {
 impl Signer for Hs256Key {
     ghost faults = { λ _. 0 };
 
-    ghost alg_of = { λ _. Hs256 };
+    ghost alg_name_of = { λ _. alg_text Hs256 };
 
-    fn alg(&self) -> Alg {
-        Alg::Hs256
+    fn alg_name(&self) -> &str {
+        Alg::Hs256.name()
     }
 
     fn sign(&mut self, alloc: Global, head: &str, body: &str) -> Result<ByteBox, SignError> {

@@ -1,6 +1,6 @@
 // Keys for HS256, HS384 and HS512.
 ghost use Rattle.std.specs.Prelude.{◌≡◌, ◌<◌, ◌≤◌, ◌↔◌, length, IfOk, IfErr, IsTrue};
-ghost use Rattle.hmac_sign.specs.Algs.{key_least};
+ghost use Rattle.hmac_sign.specs.Algs.{key_least, alg_text};
 ghost use Rattle.hmac_sign.specs.CodeLengths.{code_length};
 ghost use Rattle.hmac_sign.specs.Hmac.{alg_key, mac as mac_of, IsGood, IsGoodText};
 
@@ -47,6 +47,13 @@ impl HsKey {
             alg,
             block: key_block(alg, key),
         })
+    }
+
+    /// The algorithm that it was made for.
+    pub fn alg(&self) -> Alg
+        ensures { result ≡ self.now.alg }
+    {
+        self.alg
     }
 
     /// The HMAC of the head, a full stop and the body: the signing input of RFC 7515 section 5.1.
@@ -108,10 +115,10 @@ impl Checker for HsKey {
 impl Signer for HsKey {
     ghost faults = { λ _. 0 };
 
-    ghost alg_of = { λ key. key.alg };
+    ghost alg_name_of = { λ key. alg_text key.alg };
 
-    fn alg(&self) -> Alg {
-        self.alg
+    fn alg_name(&self) -> &str {
+        self.alg.name()
     }
 
     fn sign(&mut self, alloc: Global, head: &str, body: &str) -> Result<ByteBox, SignError> {

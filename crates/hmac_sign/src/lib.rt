@@ -1,7 +1,8 @@
 //! HMAC, RFC 2104, and who signs and who checks with it: HS256, HS384 and HS512, RFC 7518 section 3.2.
 //!
 //! A [`Signer`] signs a head and a body, and a [`Checker`] tells which signatures are good. Both have one
-//! meaning of good, so a checker that agrees with a signer accepts all that it signs.
+//! meaning of good, so a checker that agrees with a signer accepts all that it signs. An [`UnsignedJwt`] is what is to
+//! be signed.
 #![tactic(auto)]
 
 mod alg;
@@ -18,6 +19,7 @@ mod keyed_hash;
 pub mod laws;
 mod mac_code;
 mod sign;
+mod unsigned_jwt;
 
 pub use alg::{Alg, alg_named, alg_names};
 pub use fail_signer::FailSigner;
@@ -28,3 +30,4 @@ pub use key_set::{KeySet, KeySetError, NamedKey};
 pub use keyed_hash::{hmac, hmac_sha256};
 pub use mac_code::Mac;
 pub use sign::{Checker, SignError, Signatures, Signer};
+pub use unsigned_jwt::UnsignedJwt;

@@ -1,11 +1,11 @@
+// Who signs, and who checks.
 ghost use Rattle.std.specs.Prelude.{◌≡◌, ◌<◌, ◌≤◌, ◌↔◌, ℕ, length, IfOk, IsTrue, IsErrOf};
 ghost use Rattle.sd_outside.specs.Causes.{Rose};
+ghost use Rattle.claim_tree.specs.Tree.{Text};
 ghost use Rattle.hmac_sign.specs.Signatures.{Meaning};
 ghost use Rattle.hmac_sign.specs.Agreement.{Agree};
-ghost use Rattle.hmac_sign.specs.declared.alg.Alg.{Alg};
 ghost use Rattle.hmac_sign.specs.declared.sign.SignError.TheVariants.{Memory};
 
-use crate::Alg;
 use sd_outside::{ByteBox, NoMemory};
 use std::alloc::Global;
 
@@ -31,17 +31,17 @@ pub trait Signatures {
     ghost good: { Self → Meaning };
 }
 
-/// Who signs.
+/// Who signs, by an algorithm of any name: a key that is held here, or whoever keeps one elsewhere.
 pub trait Signer: Signatures {
     /// How often the signer has failed.
     ghost faults: { Self → ℕ };
 
-    /// The algorithm of its signatures.
-    ghost alg_of: { Self → Alg };
+    /// The name of the algorithm of its signatures.
+    ghost alg_name_of: { Self → Text };
 
-    /// The algorithm of the signatures.
-    fn alg(&self) -> Alg
-        ensures { result ≡ alg_of self.now };
+    /// The name of the algorithm of the signatures, as the `alg` of a JWS header has it (RFC 7515 section 4.1.1).
+    fn alg_name(&self) -> &str
+        ensures { result.now ≡ alg_name_of self.now };
 
     /// A signature of the head and the body.
     fn sign(&mut self, alloc: Global, head: &str, body: &str) -> Result<ByteBox, SignError>
@@ -51,7 +51,7 @@ pub trait Signer: Signatures {
 
         // what stays
         ensures same_good { Agree (Self.good self.new) (Self.good self.old) }
-        ensures same_alg { alg_of self.new ≡ alg_of self.old }
+        ensures same_alg { alg_name_of self.new ≡ alg_name_of self.old }
         ensures later { faults self.old ≤ faults self.new };
 }
 

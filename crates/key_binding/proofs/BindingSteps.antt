@@ -1,5 +1,5 @@
 -- The conditions on a key binding token, passed one after another.
-use Rattle.std.proofs.Common.{◌≡◌, ◌≢◌, ℕ, ℤ, ◌<◌, inl, inr, List, Option, Some, None, codes, refl, sym, ap, subst, ◌∙◌, arith, rules}
+use Rattle.std.proofs.Common.{◌≡◌, ◌≢◌, ℤ, ◌<◌, inl, inr, Option, Some, codes, refl, sym, ap, subst, ◌∙◌, arith, rules}
 use Rattle.claim_tree.specs.Tree.{Text, Tree, leaf, whole, no_members}
 use Rattle.compact_form.specs.declared.fault.Place.{Place}
 use Rattle.compact_form.specs.declared.fault.Place.TheVariants.{Nowhere}

@@ -90,7 +90,7 @@ header_data_short =
     let alg = member_within false (codes "alg") (port.string (codes "HS256")) (port.member (codes "typ") (port.string (codes "kb+jwt")) port.no_members) 32 61 (text_within (codes "HS256") 5 (omega arith)) typ in
     braced (members_text false (port.member (codes "alg") (port.string (codes "HS256")) (port.member (codes "typ") (port.string (codes "kb+jwt")) port.no_members))) 115 alg
 
-header_short : length (json_text (object (header_members binding_header))) ≤ 116
+header_short : length (json_text (object (header_members (binding_header (codes "HS256"))))) ≤ 116
 header_short = header_data_short
 
 abbrev claims_data : Text → ℕ → Text → Text → port.Data
@@ -116,7 +116,7 @@ claims_short hash hashed aud nonce iat a n i = claims_data_short aud nonce (dige
 
 -- ---- the token
 
-pub binding_short : (key : List ℕ) (hash : HashAlg) (hashed aud nonce : Text) (iat : ℕ) (token : JwtParts) → length aud ≤ 256 → length nonce ≤ 256 → iat < 2 ^ 64 → IsBinding (IsGood (hs256_key key)) hash hashed aud nonce iat token
+pub binding_short : (key : List ℕ) (hash : HashAlg) (hashed aud nonce : Text) (iat : ℕ) (token : JwtParts) → length aud ≤ 256 → length nonce ≤ 256 → iat < 2 ^ 64 → IsBinding (codes "HS256") (IsGood (hs256_key key)) hash hashed aud nonce iat token
     → length (jwt token) < 5000
 binding_short key hash hashed aud nonce iat token a n i is =
     let protected = ap length is.protected in
@@ -129,7 +129,7 @@ binding_short key hash hashed aud nonce iat token a n i is =
       payload,
       signature,
       code,
-      length-b64 (json_text (object (header_members binding_header))),
+      length-b64 (json_text (object (header_members (binding_header (codes "HS256"))))),
       length-b64 (json_text (object (claim_members (claims_for hash hashed aud nonce iat)))),
       length-b64 is.signature,
       header_short,

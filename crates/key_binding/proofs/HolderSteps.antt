@@ -1,11 +1,11 @@
 -- What is so of a key binding token, by what checks its signature.
-use Rattle.std.proofs.Common.{◌≡◌, ◌≢◌, List, Some, None, codes, refl, sym, ap, subst, ◌∙◌}
+use Rattle.std.proofs.Common.{◌≡◌, Some, sym, subst, ◌∙◌}
 use Rattle.claim_tree.specs.Tree.{Text}
 use Rattle.hmac_sign.specs.Hmac.{IsGoodText, hs256_key}
 use Rattle.jws_part.specs.declared.header.Header.{Header}
 use Rattle.key_binding.specs.Caller.{Caller, IsAlgUntaken, IsUnknownTo, IsBadTo}
 use Rattle.key_binding.specs.BindingConditions.{IsHolderAlgRefused, IsHolderUnknown, IsBadBindingSignature}
-use Rattle.key_binding.specs.Judged.{Judged, Holders, of_keys, of_caller, holder_key, HasBindingHeader}
+use Rattle.key_binding.specs.Judged.{Judged, Holders, of_keys, of_caller, HasBindingHeader}
 use Rattle.key_binding.specs.JudgedSteps.{IsHolder, IsAlgRefusedBy, IsUnknownBy, IsBadBy}
 use Rattle.key_binding.specs.declared.judging.Holder.{Holder}
 use Rattle.key_binding.proofs.BindingSteps.{one_header}

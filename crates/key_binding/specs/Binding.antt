@@ -7,6 +7,7 @@ use Rattle.compact_form.specs.declared.parts.JwtParts.{JwtParts}
 use Rattle.disclosure.specs.Digest.{digest_of}
 use Rattle.disclosure.specs.declared.digests.HashAlg.{HashAlg}
 use Rattle.hmac_sign.specs.Signatures.{Meaning}
+use Rattle.hmac_sign.specs.declared.unsigned_jwt.UnsignedJwt.{UnsignedJwt}
 use Rattle.jws_part.specs.declared.header.Header.{Header}
 use Rattle.jws_part.specs.Header.{IsHeader, header_members, text_tree}
 use Rattle.jws_part.specs.Part.{IsBody}
@@ -31,19 +32,28 @@ claim_members claims =
     member (codes "aud") (text_tree claims.aud)
     (member (codes "iat") (leaf (whole claims.iat)) (member (codes "nonce") (text_tree claims.nonce) (member (codes "sd_hash") (text_tree claims.sd_hash) no_members)))
 
--- the header of each
-abbrev pub binding_header : Header
-binding_header = record { alg = codes "HS256"; kid = None; typ = Some (codes "kb+jwt") }
+-- the header of each, by the name of the algorithm that signs
+abbrev pub binding_header : Text → Header
+binding_header alg = record { alg = alg; kid = None; typ = Some (codes "kb+jwt") }
 
--- the token is that of these claims: its header and its payload are compact JSON, and the signature is good
-pub record IsBinding (good : Meaning) (hash : HashAlg) (hashed aud nonce : Text) (iat : ℕ) (token : JwtParts) : Type 0 where
-  pub protected : token.protected ≡ b64 (json_text (object (header_members binding_header)))
+-- what is to be signed is that of these claims: its header and its payload are compact JSON
+pub record IsUnsignedBinding (alg : Text) (hash : HashAlg) (hashed aud nonce : Text) (iat : ℕ) (unsigned : UnsignedJwt) : Type 0 where
+  pub protected : unsigned.protected ≡ b64 (json_text (object (header_members (binding_header alg))))
+  pub payload : unsigned.payload ≡ b64 (json_text (object (claim_members (claims_for hash hashed aud nonce iat))))
+
+-- the token is that of these claims, and its signature, by the algorithm of this name, is good
+pub record IsBinding (alg : Text) (good : Meaning) (hash : HashAlg) (hashed aud nonce : Text) (iat : ℕ) (token : JwtParts) : Type 0 where
+  pub protected : token.protected ≡ b64 (json_text (object (header_members (binding_header alg))))
   pub payload : token.payload ≡ b64 (json_text (object (claim_members (claims_for hash hashed aud nonce iat))))
   pub signature : List ℕ
   pub signature_text : token.signature ≡ b64 signature
   pub signed : good token.protected token.payload signature
 
+-- the texts are read as those of these claims
+pub record AreReadBack (alg : Text) (hash : HashAlg) (hashed aud nonce : Text) (iat : ℕ) (protected payload : Text) : Type 0 where
+  pub header : IsHeader protected no_members (binding_header alg)
+  pub body : IsBody payload (object (claim_members (claims_for hash hashed aud nonce iat)))
+
 -- the token is read as that of these claims
-pub record IsReadBack (hash : HashAlg) (hashed aud nonce : Text) (iat : ℕ) (token : JwtParts) : Type 0 where
-  pub header : IsHeader token.protected no_members binding_header
-  pub body : IsBody token.payload (object (claim_members (claims_for hash hashed aud nonce iat)))
+abbrev pub IsReadBack : Text → HashAlg → Text → Text → Text → ℕ → JwtParts → Type 0
+IsReadBack alg hash hashed aud nonce iat token = AreReadBack alg hash hashed aud nonce iat token.protected token.payload

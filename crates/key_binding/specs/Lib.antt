@@ -4,8 +4,8 @@ pub mod CallerSeen
 pub mod Judged
 pub mod BindingConditions
 pub mod Unsigned
-pub mod SignatureText
 pub mod Read
 pub mod ShortText
 pub mod JudgedSteps
 pub mod BindingCalls
+pub mod Trusted

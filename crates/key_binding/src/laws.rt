@@ -1,5 +1,5 @@
 //! What the definitions of both ends say together. Each law holds for every value.
-ghost use Rattle.std.specs.Prelude.{◌≡◌, ◌<◌, ◌≤◌, ◌^◌, ◌+◌, ℕ, List, Some, length};
+ghost use Rattle.std.specs.Prelude.{◌≡◌, ◌<◌, ◌≤◌, ◌^◌, ◌+◌, ℕ, List, Some, length, codes};
 ghost use Rattle.claim_tree.specs.Lists.{In};
 ghost use Rattle.compact_form.specs.Compact.{jwt};
 ghost use Rattle.compact_form.specs.declared.condition.Condition.{Condition};
@@ -11,16 +11,31 @@ ghost use Rattle.hmac_sign.specs.Hmac.{IsGood, hs256_key};
 ghost use Rattle.key_binding.specs.Binding.{IsBinding, IsReadBack};
 ghost use Rattle.key_binding.specs.BindingCalls.{IsLowestBinding};
 ghost use Rattle.key_binding.specs.BindingConditions.{BindingFails};
+ghost use Rattle.key_binding.specs.Trusted.{TrustsHolder};
 ghost use Rattle.hmac_sign.specs.declared.key_set.NamedKey.{NamedKey};
 ghost use Rattle.key_binding.specs.Judged.{Judged, of_keys, holder_key};
 ghost use Rattle.sd_outside.specs.Limits.{binding_text_max};
 
-/// What is bound is accepted: by the holder's key, for one of these audiences and this nonce, and over this text, as
-/// long as it is fresh. It is so at the very second of each limit.
+use hmac_sign::Signer;
+
+/// What is bound is accepted by who trusts the signer: for one of these audiences and this nonce, and over this text, as
+/// long as it is fresh. It is so at the very second of each limit, whatever the algorithm.
+pub fn bound_is_trusted<S: Signer>()
+    ensures { (signer : S) (aud : List ℕ) (iat : ℕ) (j : Judged)
+        → IsBinding (S.alg_name_of signer) (S.good signer) j.hash j.hashed aud j.rules.nonce iat j.token
+        → IsReadBack (S.alg_name_of signer) j.hash j.hashed aud j.rules.nonce iat j.token
+        → TrustsHolder j.rules.holders j.payload (S.alg_name_of signer) (S.good signer)
+        → In aud j.rules.aud
+        → j.now ≤ iat + j.rules.max_age + j.skew
+        → iat ≤ j.now + j.skew
+        → NoneFails (BindingFails j) }
+{}
+
+/// The same of the holder's key, with HS256.
 pub fn bound_is_accepted()
     ensures { (keys : List NamedKey) (key aud : List ℕ) (iat : ℕ) (j : Judged)
-        → IsBinding (IsGood (hs256_key key)) j.hash j.hashed aud j.rules.nonce iat j.token
-        → IsReadBack j.hash j.hashed aud j.rules.nonce iat j.token
+        → IsBinding (codes "HS256") (IsGood (hs256_key key)) j.hash j.hashed aud j.rules.nonce iat j.token
+        → IsReadBack (codes "HS256") j.hash j.hashed aud j.rules.nonce iat j.token
         → In aud j.rules.aud
         → j.rules.holders ≡ of_keys keys
         → holder_key keys j.payload ≡ Some key
@@ -33,7 +48,7 @@ pub fn bound_is_accepted()
 pub fn bound_is_short()
     ensures { (key : List ℕ) (hash : HashAlg) (hashed aud nonce : List ℕ) (iat : ℕ) (token : JwtParts)
         → length aud ≤ binding_text_max → length nonce ≤ binding_text_max → iat < 2 ^ 64
-        → IsBinding (IsGood (hs256_key key)) hash hashed aud nonce iat token
+        → IsBinding (codes "HS256") (IsGood (hs256_key key)) hash hashed aud nonce iat token
         → length (jwt token) < 5000 }
 {}
 

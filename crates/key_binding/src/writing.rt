@@ -1,7 +1,7 @@
 // The call that writes a key binding token.
 ghost use Rattle.std.specs.Prelude.{◌≡◌, ◌≤◌, IfOk, OnOk, IsErrOf};
 ghost use Rattle.sd_outside.specs.Causes.{Rose};
-ghost use Rattle.b64url_text.specs.Base64url.{b64};
+ghost use Rattle.b64url_text.specs.Base64url.{IsWord, b64};
 ghost use Rattle.claim_tree.specs.Tree.{object, no_members, inserted};
 ghost use Rattle.claim_tree.specs.JsonText.{json_text};
 ghost use Rattle.claim_tree.specs.View.{tree_of};
@@ -9,26 +9,23 @@ ghost use Rattle.jws_part.specs.Header.{IsHeader, header_members, text_tree};
 ghost use Rattle.jws_part.specs.Part.{IsBody};
 ghost use Rattle.compact_form.specs.Compact.{HasWords};
 ghost use Rattle.hmac_sign.specs.Agreement.{Agree};
-ghost use Rattle.hmac_sign.specs.declared.alg.Alg.{Alg};
-ghost use Rattle.key_binding.specs.SignatureText.{IsSignatureText};
-ghost use Rattle.key_binding.specs.Binding.{IsBinding, IsReadBack, claims_for, claim_members, binding_header};
+ghost use Rattle.key_binding.specs.Binding.{IsBinding, IsUnsignedBinding, IsReadBack, AreReadBack, claims_for, claim_members, binding_header};
 ghost use Rattle.key_binding.specs.declared.errors.BindError.{BindError};
 
 use crate::BindError;
-use b64url_text::encode;
 use claim_tree::{Tree, TreeMap, Whole};
 use compact_form::JwtParts;
 use disclosure::{HashAlg, digest};
-use hmac_sign::Signer;
+use hmac_sign::{Signer, UnsignedJwt};
 use jws_part::{Header, write_body, write_header};
 use sd_outside::{NoMemory, TextBox};
 use std::alloc::Global;
 
-fn header(alloc: Global) -> Result<Header, NoMemory>
-    ensures { IfOk result (λ header. header ≡ binding_header) }
+fn header(alloc: Global, alg: &str) -> Result<Header, NoMemory>
+    ensures { IfOk result (λ header. header ≡ binding_header alg.now) }
 {
     Ok(Header {
-        alg: TextBox::make(alloc, "HS256")?,
+        alg: TextBox::make(alloc, alg)?,
         kid: None,
         typ: Some(TextBox::make(alloc, "kb+jwt")?),
     })
@@ -48,11 +45,11 @@ fn put_text(alloc: Global, members: &mut TreeMap, name: &str, text: &str) -> Res
 }
 
 // The protected header, written.
-fn header_part(alloc: Global) -> Result<TextBox, NoMemory>
-    ensures text { IfOk result (λ part. part ≡ b64 (json_text (object (header_members binding_header)))) }
-    ensures back { IfOk result (λ part. IsHeader part no_members binding_header) }
+fn header_part(alloc: Global, alg: &str) -> Result<TextBox, NoMemory>
+    ensures text { IfOk result (λ part. part ≡ b64 (json_text (object (header_members (binding_header alg.now))))) }
+    ensures back { IfOk result (λ part. IsHeader part no_members (binding_header alg.now)) }
 {
-    let header = header(alloc)?;
+    let header = header(alloc, alg)?;
     write_header(alloc, &header)
 }
 
@@ -77,36 +74,30 @@ fn payload_part(
     write_body(alloc, &Tree::Object(members))
 }
 
-// The signature of the two, written.
-fn signature_part<S: Signer>(
+/// What is to be signed of a key binding token, RFC 9901 section 4.3, for an audience, with its nonce, at a moment in
+/// seconds since 1970.
+///
+/// `alg` is the name of the algorithm that signs, `hashed` the text of the token that it is sent with, up to and with the
+/// last tilde, and `hash` the algorithm of that token's digests.
+pub fn unsigned_binding(
     alloc: Global,
-    signer: &mut S,
-    protected: &str,
-    payload: &str,
-) -> Result<TextBox, BindError>
-    ensures good { IfOk result (IsSignatureText (S.good signer.old protected.now payload.now)) }
-    ensures failed { IsErrOf result BindError.SignFailed → Rose (S.faults signer.old) (S.faults signer.new) }
-
-    // what stays
-    ensures same_good { Agree (S.good signer.new) (S.good signer.old) }
-    ensures same_alg { S.alg_of signer.new ≡ S.alg_of signer.old }
-    ensures later { S.faults signer.old ≤ S.faults signer.new }
+    alg: &str,
+    hash: HashAlg,
+    hashed: &str,
+    aud: &str,
+    nonce: &str,
+    iat: u64,
+) -> Result<UnsignedJwt, NoMemory>
+    ensures texts { IfOk result (IsUnsignedBinding alg.now hash hashed.now aud.now nonce.now iat) }
+    ensures back { IfOk result (λ unsigned. AreReadBack alg.now hash hashed.now aud.now nonce.now iat unsigned.protected unsigned.payload) }
+    ensures words { IfOk result (λ unsigned. IsWord unsigned.protected × IsWord unsigned.payload) }
 {
-    let signature = match signer.sign(alloc, protected, payload) {
-        Ok(signature) => signature,
-        Err(error) => return Err(BindError::from(error)),
-    };
-    match encode(alloc, signature.bytes()) {
-        Ok(text) => Ok(text),
-        Err(_) => Err(BindError::Memory),
-    }
+    let protected = header_part(alloc, alg)?;
+    let payload = payload_part(alloc, hash, hashed, aud, nonce, iat)?;
+    Ok(UnsignedJwt { protected, payload })
 }
 
-/// Writes a key binding token, RFC 9901 section 4.3, for an audience, with its nonce, at a moment in seconds since
-/// 1970.
-///
-/// `hashed` is the text of the token that it is sent with, up to and with the last tilde, and `hash` the algorithm of
-/// that token's digests. The signer is asked once.
+/// Writes a key binding token, as [`unsigned_binding`] says, with a signature of the signer, which is asked once.
 pub fn bind<S: Signer>(
     alloc: Global,
     signer: &mut S,
@@ -116,32 +107,22 @@ pub fn bind<S: Signer>(
     nonce: &str,
     iat: u64,
 ) -> Result<JwtParts, BindError>
-    requires hs256 { S.alg_of signer.old ≡ Alg.Hs256 }
-    ensures binding { IfOk result (IsBinding (S.good signer.old) hash hashed.now aud.now nonce.now iat) }
-    ensures back { IfOk result (IsReadBack hash hashed.now aud.now nonce.now iat) }
+    ensures binding { IfOk result (IsBinding (S.alg_name_of signer.old) (S.good signer.old) hash hashed.now aud.now nonce.now iat) }
+    ensures back { IfOk result (IsReadBack (S.alg_name_of signer.old) hash hashed.now aud.now nonce.now iat) }
     ensures words { IfOk result HasWords }
     ensures failed { IsErrOf result BindError.SignFailed → Rose (S.faults signer.old) (S.faults signer.new) }
 
     // what stays
     ensures same_good { Agree (S.good signer.new) (S.good signer.old) }
-    ensures same_alg { S.alg_of signer.new ≡ S.alg_of signer.old }
+    ensures same_alg { S.alg_name_of signer.new ≡ S.alg_name_of signer.old }
     ensures later { S.faults signer.old ≤ S.faults signer.new }
 {
-    let protected = match header_part(alloc) {
-        Ok(protected) => protected,
-        Err(_) => return Err(BindError::Memory),
+    let unsigned = match unsigned_binding(alloc, signer.alg_name(), hash, hashed, aud, nonce, iat) {
+        Ok(unsigned) => unsigned,
+        Err(NoMemory) => return Err(BindError::Memory),
     };
-    let payload = match payload_part(alloc, hash, hashed, aud, nonce, iat) {
-        Ok(payload) => payload,
-        Err(_) => return Err(BindError::Memory),
-    };
-    let signature = match signature_part(alloc, signer, protected.as_str(), payload.as_str()) {
-        Ok(signature) => signature,
-        Err(error) => return Err(error),
-    };
-    Ok(JwtParts {
-        protected,
-        payload,
-        signature,
-    })
+    match unsigned.sign(alloc, signer) {
+        Ok(token) => Ok(token),
+        Err(error) => Err(BindError::from(error)),
+    }
 }

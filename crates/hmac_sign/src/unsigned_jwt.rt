@@ -1,0 +1,47 @@
+// A JWT that has no signature yet.
+ghost use Rattle.std.specs.Prelude.{◌≡◌, ◌≤◌, ◌<◌, length, IfOk, IsErrOf};
+ghost use Rattle.sd_outside.specs.Causes.{Rose};
+ghost use Rattle.hmac_sign.specs.Agreement.{Agree};
+ghost use Rattle.hmac_sign.specs.SignedJwt.{IsSignedWith, IsSignedBy};
+
+use crate::{SignError, Signer};
+use b64url_text::encode;
+use compact_form::JwtParts;
+use sd_outside::{NoMemory, TextBox};
+use std::alloc::Global;
+
+/// What is to be signed of a JWT: its JWS header and its payload, as base64url texts. The signature is over both, with a
+/// full stop between them (RFC 7515 section 5.1).
+#[derive(Debug, Drop)]
+pub struct UnsignedJwt {
+    pub protected: TextBox,
+    pub payload: TextBox,
+}
+
+impl UnsignedJwt {
+    /// The JWT with these bytes as its signature, whoever made them.
+    pub fn with_signature(self, alloc: Global, signature: &[u8]) -> Result<JwtParts, NoMemory>
+        ensures { IfOk result (IsSignedWith self signature.now) }
+    {
+        let signature = encode(alloc, signature)?;
+        Ok(JwtParts {
+            protected: self.protected,
+            payload: self.payload,
+            signature,
+        })
+    }
+
+    /// The JWT with a signature of the signer, which is asked once.
+    pub fn sign<S: Signer>(self, alloc: Global, signer: &mut S) -> Result<JwtParts, SignError>
+        ensures signed { IfOk result (IsSignedBy self (S.good signer.old)) }
+        ensures failed { IsErrOf result SignError.Failed → Rose (S.faults signer.old) (S.faults signer.new) }
+
+        // what stays
+        ensures same_good { Agree (S.good signer.new) (S.good signer.old) }
+        ensures same_alg { S.alg_name_of signer.new ≡ S.alg_name_of signer.old }
+        ensures later { S.faults signer.old ≤ S.faults signer.new }
+    {
+        let signature = signer.sign(alloc, self.protected.as_str(), self.payload.as_str())?;
+        Ok(self.with_signature(alloc, signature.bytes())?)
+    }
+}
