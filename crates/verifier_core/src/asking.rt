@@ -192,8 +192,10 @@ fn signed_text(alloc: Global, signed: JwtView<'_>) -> Result<TextBox, NoMemory>
     Ok(TextBox::from_string(text))
 }
 
-// The question about the signature of a JWT whose header is read, where its text is that of some bytes.
-fn question_on(
+/// The question about the signature of a JWT whose header is read, where the text of its signature is that of some bytes.
+///
+/// `outer` are the unprotected members of the header (RFC 7515 section 7.2.1), of which a compact text has none.
+pub fn question_on(
     alloc: Global,
     signed: JwtView<'_>,
     outer: &TreeMap,

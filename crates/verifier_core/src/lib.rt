@@ -22,7 +22,7 @@ mod policy_version;
 mod rules;
 mod verdict;
 
-pub use asking::{Answers, JudgeError, Judgement, Question, judge};
+pub use asking::{Answers, JudgeError, Judgement, Question, judge, question_on};
 pub use binding_file::AGE_MAX;
 pub use check::{Checked, VerifyError, check_token, check_view};
 pub use compact_form::fault_line;
