@@ -8,9 +8,9 @@
     python3 docs/core.py --headline for the two halves of the headline, as calls of the libraries have them
     python3 docs/core.py --names    besides, the definitions of each module with their lines
     python3 docs/core.py --left     besides, what is not reached of modules that are
-    python3 docs/core.py --table    the crates, as rows of a table in docs/PROVED.md
-    python3 docs/core.py --check    whether docs/PROVED.md has the rows of both tables, and each module of specs/ says
-                                    in its first line whether it is of the core; status 1 where not
+    python3 docs/core.py --table    the crates, as rows of the table that docs/contracts.py writes into CONTRACTS.md
+    python3 docs/core.py --check    whether each module of specs/ says in its first line whether it is of the core, and
+                                    docs/PROVED.md has the totals; status 1 where not
 
 It takes the words of the clauses of each root, finds by the `use` lines where each word is defined, and goes on with
 the words of those definitions: so it follows definitions, and not whole modules. A module under `declared` is the
@@ -25,8 +25,9 @@ import sys
 from pathlib import Path
 
 TOP = Path(__file__).resolve().parent.parent
-CRATES = re.findall(r"^(\w+):", (TOP / "crates.txt").read_text(encoding="utf-8"), re.M)
-ROOTS = ["sdjwt_cli::top::run", "sdjwt_cli::laws::presented", "sdjwt_cli::laws::no_forgery", "tools_cli::tools::run_tools", "feed_core::laws::any_cut", "cli_parts::host::exit_code"]
+CRATES = re.findall(r"^(\w+)(?: staticlib)?:", (TOP / "crates.txt").read_text(encoding="utf-8"), re.M)
+ROOTS = ["sdjwt_cli::top::run", "sdjwt_cli::laws::presented", "sdjwt_cli::laws::no_forgery",
+         "tools_cli::tools::run_tools", "feed_core::laws::any_cut", "cli_parts::host::exit_code"]
 # The same for who takes the libraries for themselves.
 HEADLINE = [
     "examples_service::end_to_end::issue_present_verify::shown",
@@ -219,8 +220,8 @@ class Core:
             sys.exit(f"core.py: there is no {word}")
         here = set(re.findall(r"^pub struct (\w+)", file.text, re.M))
         types = re.findall(r"\w+: (\w+)", signature.split("(")[0]) + sorted(here & set(WORD.findall(signature)))
-        found = [self.meaning(file, name) for name in sorted(set(WORD.findall("".join(clauses)))) if name in file.imports]
-        return found + [self.type_named(crate, file, name) for name in types]
+        cited = sorted(set(WORD.findall("".join(clauses))) & set(file.imports))
+        return [self.meaning(file, name) for name in cited] + [self.type_named(crate, file, name) for name in types]
 
     def modules(self):
         """The modules that are reached: crates from the top down, and in each as the walk came to them."""
@@ -236,7 +237,7 @@ def lines_of(definitions):
 
 
 def table(core):
-    """The rows of the table in docs/PROVED.md: a crate each, and what they come to."""
+    """The rows of the table in docs/CONTRACTS.md: a crate each, and what they come to."""
     for crate in reversed(CRATES):
         rows = [row for row in core.modules() if row[0] == crate]
         cells, types = [], sum(lines_of(reached) for _, module, reached, _ in rows if module.startswith("src/"))
@@ -249,7 +250,8 @@ def table(core):
         if cells:
             yield f"| `{crate}` | {', '.join(cells)} | {sum(lines_of(row[2]) for row in rows)} |"
     specs, types = (totals(core, where) for where in ("specs", "src"))
-    yield f"| in all | {specs[0]} definitions in {specs[1]} lines, {types[0]} types and traits in {types[1]} | {specs[1] + types[1]} |"
+    sums = f"{specs[0]} definitions in {specs[1]} lines, {types[0]} types and traits in {types[1]}"
+    yield f"| in all | {sums} | {specs[1] + types[1]} |"
 
 
 def totals(core, where):
@@ -259,29 +261,36 @@ def totals(core, where):
 
 
 def mistold(core):
-    """The modules of specs/ that are of the core and say that nobody need read them, or that are not and do not say so."""
+    """The modules of specs/ that are of the core and say that they are not, or are not and do not say so."""
     inside = {(crate, module) for crate, module, _, _ in core.modules()}
     for crate in CRATES:
         for path in sorted((TOP / "crates" / crate / "specs").glob("*.antt")):
             says_so = path.read_text(encoding="utf-8").startswith(("-- For ", "-- Not needed to believe "))
             if path.stem != "Lib" and says_so == ((crate, path.stem) in inside):
-                yield f"{crate} {path.stem} is " + ("of the core, and says that it is not" if says_so else "not of the core, and does not say so")
+                is_so = "of the core, and says that it is not" if says_so else "not of the core, and does not say so"
+                yield f"{crate} {path.stem} is {is_so}"
 
 
 def check():
-    """Whether the document has just the rows of both tables, and modules say whether they are of the core; prints what is wrong."""
-    text = (TOP / "docs/PROVED.md").read_text(encoding="utf-8").split("\n")
-    cores = [Core(ROOTS), Core(HEADLINE)]
-    wrong = [row for core in cores for row in table(core) if row not in text] + list(mistold(cores[0]))
-    print("\n".join(wrong) or "docs/PROVED.md has the tables of the trusted core, and the modules say which of them it has")
+    """Whether modules say whether they are of the core, and docs/PROVED.md the totals; prints what is wrong."""
+    text = " ".join((TOP / "docs/PROVED.md").read_text(encoding="utf-8").split())
+    core, headline = Core(ROOTS), Core(HEADLINE)
+    wrong = list(mistold(core))
+    specs, types = (totals(headline, where)[1] for where in ("specs", "src"))
+    both = sum(totals(core, where)[1] for where in ("specs", "src"))
+    of_headline = f"some {specs // 10 * 10:,} lines of definitions, and {round(types, -2)} of types"
+    for said in (of_headline, f"some {both // 100 * 100:,} lines"):
+        if said not in text:
+            wrong.append(f"docs/PROVED.md does not say: {said}")
+    print("\n".join(wrong) or "the modules say whether they are of the trusted core, and docs/PROVED.md how much it is")
     return 1 if wrong else 0
 
 
 def print_modules(core, options):
     for crate, module, reached, every in core.modules():
         some, whole = lines_of(reached), lines_of(every)
-        count = f"{len(reached):3} of {len(every):3} definitions, {some:4} of {whole:4} lines, {100 * some // whole:3} %"
-        print(f"{crate:15} {module:18} {count}")
+        count = f"{len(reached):3} of {len(every):3} definitions, {some:4} of {whole:4} lines"
+        print(f"{crate:15} {module:18} {count}, {100 * some // whole:3} %")
         if "--names" in options:
             for now in reached:
                 doubt = f"  (binds {', '.join(sorted(now.doubtful))})" if now.doubtful else ""
@@ -312,4 +321,5 @@ def main():
         print_totals(core)
 
 
-main()
+if __name__ == "__main__":
+    main()

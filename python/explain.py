@@ -46,7 +46,7 @@ def sections(page):
 
 def parts(body):
     """What an entry says, each part in one line."""
-    texts = re.split(r"^\*\*([A-Z][a-z ]*):\*\* ", body, flags=re.M)[1:]
+    texts = re.split(r"^- \*\*([A-Z][a-z ]*):\*\* ", body, flags=re.M)[1:]
     return {PARTS[name]: " ".join(text.split()) for name, text in zip(texts[::2], texts[1::2]) if name in PARTS}
 
 
@@ -129,10 +129,15 @@ def more_of(heading, name):
     return f"In {name}: {said or 'no such fault is found. Is it another file, or was it changed since?'}"
 
 
+def plain(body):
+    """An entry as paragraphs: its parts are those of a list."""
+    return re.sub(r"^  ", "", re.sub(r"^- ", "\n", body.replace("**", ""), flags=re.M), flags=re.M).strip()
+
+
 def tell(wanted, name, entries):
     """Prints the entries, with what is wrong in a file where one is named."""
     for number, heading in enumerate(found(wanted, entries)):
-        print("\n" * (number > 0) + heading + "\n\n" + entries[heading].replace("**", ""))
+        print("\n" * (number > 0) + heading + "\n\n" + plain(entries[heading]))
         if name is not None:
             print("\n" + textwrap.fill(more_of(heading, name), 120, break_long_words=False, break_on_hyphens=False))
         elif case_of(heading):

@@ -60,6 +60,8 @@ END
 # documents and sources
 if has python3; then
     holds python3 docs/core.py --check
+    holds python3 docs/contracts.py --check
+    holds python3 docs/facts.py
     holds python3 docs/picture.py
     holds python3 vectors/write.py --check
     holds python3 python/refusals.py --check

@@ -1,0 +1,185 @@
+#!/usr/bin/env python3
+"""Holds what documents, completions and manual pages say to the definitions of specs/, and prints what differs.
+
+    python3 docs/facts.py        status 1 where something differs
+
+The numbers and names of conditions and refusals are those of `Condition` and `Refusal` of compact_form, wherever a page
+says them; docs/SPECIFICATION.md and docs/REFUSALS.md have each. The limits are those of `Limits` of sd_outside, the
+words of commands those of `Command`, `Forms` and the tools, and the members of files those of their tables. A name of
+code in docs/ARCHITECTURE.md, PROVED.md, DECISIONS.md, LIBRARY.md, SECURITY.md or in CONTRIBUTING.md stands in the code.
+Each link leads to a file that is there, and to a heading of it, and from docs/ to what a release has too.
+"""
+import re
+import sys
+from pathlib import Path
+
+TOP = Path(__file__).resolve().parent.parent
+PAGES = [TOP / name for name in ("README.md", "CHANGELOG.md", "CONTRIBUTING.md", "python/README.md")]
+PAGES += [TOP / "vectors/README.md"] + sorted((TOP / "docs").glob("*.md")) + sorted((TOP / "docs").glob("*.1"))
+OF_CODE = [TOP / f"docs/{name}.md" for name in ("ARCHITECTURE", "PROVED", "DECISIONS", "LIBRARY", "SECURITY")]
+OF_CODE += [TOP / "CONTRIBUTING.md"]
+# What these name of Rust and of the kit, and a claim.
+KNOWN = {"BTreeMap", "Vec", "Value", "Deserialize", "From", "Ord", "String", "Err", "Some", "None", "Drop", "Fn"}
+KNOWN |= {"over_18"}
+# Where a limit is said besides the specification: the file, how it says it, the limit, and what is added to it.
+LIMITS = [
+    ("README.md", r"from 1 to ([\d,]+)", "members_max", 0),
+    ("docs/sdjwt.1", r"from 1 to (\d+)", "members_max", 0),
+    ("docs/sdjwt.1", r"at most ([\d,]+) bytes", "file_max", 0),
+    ("docs/sdjwt_tools.1", r"from 1 to (\d+)", "feed_max", 0),
+    ("completions/_sdjwt", r"1 to (\d+)", "members_max", 0),
+    ("completions/_sdjwt_tools", r"1 to (\d+)", "feed_max", 0),
+    ("completions/_sdjwt_tools", r"<4-(\d+)>", "tokens_max", 3),
+    ("python/src/sdjwt/_detail.py", r"^FILE_MAX = ([\d_]+)", "file_max", 0),
+]
+# The tables of files: the heading of FILES.md, how REFUSALS.md calls it, and where its definition stands.
+TABLES = [
+    ("Order", "an order", "issuer_core", "OrderFile", "order_table"),
+    ("Present order", "a present order", "holder_core", "PresentFile", "present_table"),
+    ("Query", "a query", "wallet_core", "QueryFile", "query_table"),
+    ("Policy", "a policy", "verifier_core", "PolicyFile", "policy_table"),
+]
+# What a release has beside docs/.
+RELEASED = ("../CHANGELOG.md", "../c/sdjwt.h", "../python/README.md", "../vectors/README.md")
+RUNS = [("audit_core", "AuditRun"), ("wallet_core", "WalletRun"), ("feed_core", "FeedRun")]
+
+
+def text_of(name):
+    return (TOP / name).read_text(encoding="utf-8")
+
+
+def specs(crate, module):
+    return text_of(f"crates/{crate}/specs/{module}.antt")
+
+
+def number(text):
+    return int(re.sub("[,_]", "", text))
+
+
+def rows():
+    """The name of each number, in their order."""
+    both = specs("compact_form", "Condition") + specs("compact_form", "Refusal")
+    return {int(no): name for no, name in re.findall(r'^\w+_row \S+ = \((\d+), codes "(\w+)"\)$', both, re.M)}
+
+
+def limits():
+    return {name: int(value) for name, value in re.findall(r"^(\w+) = (\d+)$", specs("sd_outside", "Limits"), re.M)}
+
+
+def check_numbers():
+    names = rows()
+    number_of = {name: no for no, name in names.items()}
+    table = re.findall(r"^(?:\| |- \*\*)(\d+)(?: \| | `)(\w+)(?: \||`\*\*)", text_of("docs/SPECIFICATION.md"), re.M)
+    said = {int(no): name for no, name in table}
+    for no, name in names.items():
+        if said.get(no) != name:
+            yield f"SPECIFICATION.md has no row of {no} {name}"
+    headings = re.findall(r"^### refused (\d+) (\w+)$", text_of("docs/REFUSALS.md"), re.M)
+    if [(int(no), name) for no, name in headings] != sorted(names.items()):
+        yield "the headings of REFUSALS.md are not the numbers and names of specs/"
+    for page in PAGES:
+        text = page.read_text(encoding="utf-8")
+        for no, name in re.findall(r"\brefused (\d+) ([a-z]\w+)", text):
+            if names.get(int(no)) != name:
+                yield f"{page.name} says {no} {name}"
+        for no, name in re.findall(r"\b(\d+) `(\w+)`", text):
+            if name in number_of and number_of[name] != int(no):
+                yield f"{page.name} says {no} {name}"
+
+
+def check_limits():
+    known = limits()
+    table = re.findall(r"^\| [^|]+ \| ([\d,]+)[^|]* \| `(\w+)` \|$", text_of("docs/SPECIFICATION.md"), re.M)
+    if {name: number(value) for value, name in table} != known:
+        yield "the limits of SPECIFICATION.md are not those of Limits"
+    for file, pattern, limit, more in LIMITS:
+        for value in re.findall(pattern, text_of(file), re.M) or ["0"]:
+            if number(value) != known[limit] + more:
+                yield f"{file} says {value} for {limit}"
+
+
+def words_of_programs():
+    """The words of each program, and the forms of `convert`."""
+    command_of = specs("sdjwt_cli", "Command").split("command_of :")[1].split("\n--")[0]
+    found = re.compile(r'codes "(\w+)"').findall
+    tools = {re.search(r'words(?:_are : words)? ≡ codes "(\w+)"', specs(*run))[1] for run in RUNS}
+    return {"sdjwt": set(found(command_of)), "sdjwt_tools": tools}, set(found(specs("sdjwt_cli", "Forms")))
+
+
+def check_words():
+    programs, forms = words_of_programs()
+    readme = text_of("README.md")
+    for program, words in programs.items():
+        bash, zsh = f"completions/{program}.bash", f"completions/_{program}"
+        manual = f"docs/{program}.1"
+        synopsis = text_of(manual).split(".Sh SYNOPSIS")[1].split(".Sh")[0]
+        said = {
+            bash: re.search(r"1,\*\)\s+\S+ -W '([^']*)'", text_of(bash))[1].split(),
+            zsh: re.findall(r"^        '(\w+):", text_of(zsh).split("forms=")[0], re.M),
+            manual: re.findall(r"^\.Nm\n\.Cm (\w+)", synopsis, re.M),
+        }
+        yield from (f"{file} has other words than {program}" for file, its in said.items() if set(its) != words)
+        yield from (f"README.md does not say the words of {word}" for word in words if f"`{word} " not in readme)
+    bash = re.search(r"2,convert\)\s+\S+ -W '([^']*)'", text_of("completions/sdjwt.bash"))[1].split()
+    zsh = re.findall(r"^        '(\w+):", text_of("completions/_sdjwt").split("forms=")[1], re.M)
+    if set(bash) != forms or set(zsh) != forms:
+        yield "the completions have other forms of convert than the program"
+
+
+def check_members():
+    words = re.findall(r'^field_word Field\.(\w+) = codes "(\w+)"', specs("claim_tree", "FileWords"), re.M)
+    word_of = dict(words)
+    unknown = re.search(r"^### unreadable unknown\n(.*?)^###", text_of("docs/REFUSALS.md"), re.M | re.S)[1]
+    unknown = " ".join(unknown.split())
+    for title, one, crate, module, name in TABLES:
+        body = re.search(rf"^{name}(?: \w+)? =(.*?)∷ \[\]$", specs(crate, module), re.M | re.S)[1]
+        found = re.findall(r"(required|optional) (?:Field\.)?(\w+)", body)
+        entries = [(word_of[field], "yes" if kind == "required" else "no") for kind, field in found]
+        section = re.search(rf"^## {title}: .*?(?=^## )", text_of("docs/FILES.md"), re.M | re.S)[0]
+        if re.findall(r"^\| `(\w+)` \| (yes|no) \|", section, re.M) != entries:
+            yield f"FILES.md has another table of {one} than {name}"
+        listed = re.search(rf"{one} has (.*?)[;.]", unknown)
+        if listed is None or re.findall(r"`(\w+)`", listed[1]) != [word for word, _ in entries]:
+            yield f"REFUSALS.md names other members of {one} than {name}"
+
+
+def check_names():
+    folders = ("crates", "python", "tests", "c", "examples", "docs")
+    paths = [path for folder in folders for path in (TOP / folder).glob("**/*.*")]
+    code = [path.read_text(encoding="utf-8") for path in paths if path.suffix in (".rt", ".antt", ".py", ".h", ".sh")]
+    words = set(re.findall(r"\w+", "\n".join(code))) | {path.stem for path in paths} | KNOWN
+    words |= {path.name for path in (TOP / "crates").iterdir()}
+    for page in OF_CODE:
+        named = re.findall(r"`(?:\w+::)*([A-Z][a-z]\w+|[a-z]+_\w+)(?:::\w+)*`", page.read_text(encoding="utf-8"))
+        yield from (f"{page.name} names {name}, which is nowhere in the code" for name in sorted(set(named) - words))
+
+
+def anchors(page):
+    """The names by which links call the headings of a page."""
+    text = re.sub(r"^```.*?^```", "", page.read_text(encoding="utf-8"), flags=re.M | re.S)
+    headings = re.findall(r"^#+ (.*)$", text, re.M)
+    return {re.sub(r"[^\w\- ]", "", heading.lower()).replace(" ", "-") for heading in headings}
+
+
+def check_links():
+    for page in [*TOP.glob("*.md"), *TOP.glob("docs/*.md"), *TOP.glob("*/README.md")]:
+        text = re.sub(r"^```.*?^```", "", page.read_text(encoding="utf-8"), flags=re.M | re.S)
+        for link, _, anchor in re.findall(r"\]\(([^)#\s]*)(#([^)\s]+))?\)", text):
+            target = page.parent / link if link else page
+            if not re.match(r"[a-z]+:", link) and page.parent.name != "release":
+                if not target.exists() or anchor and anchor not in anchors(target):
+                    yield f"{page.name} has a link that leads nowhere: {link}{'#' * bool(anchor)}{anchor}"
+                elif page.parent.name == "docs" and link.startswith("../") and link not in RELEASED:
+                    yield f"{page.name} has a link to what is in no release: {link}"
+
+
+def main():
+    checks = (check_numbers, check_limits, check_words, check_members, check_names, check_links)
+    wrong = [line for check in checks for line in check()]
+    counts = f"{len(rows())} numbers, {len(limits())} limits"
+    print("\n".join(wrong) or f"documents, completions and manual pages agree with specs/: {counts}")
+    return bool(wrong)
+
+
+if __name__ == "__main__":
+    sys.exit(main())
