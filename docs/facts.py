@@ -7,7 +7,8 @@ The numbers and names of conditions and refusals are those of `Condition` and `R
 says them; docs/SPECIFICATION.md and docs/REFUSALS.md have each. The limits are those of `Limits` of sd_outside, the
 words of commands those of `Command`, `Forms` and the tools, and the members of files those of their tables. A name of
 code in docs/ARCHITECTURE.md, PROVED.md, DECISIONS.md, LIBRARY.md, SECURITY.md or in CONTRIBUTING.md stands in the code.
-Each link leads to a file that is there, and to a heading of it, and from docs/ to what a release has too.
+The code that LIBRARY.md shows stands there too. Each link leads to a file that is there, and to a heading of it, and
+from docs/ to what a release has too.
 """
 import re
 import sys
@@ -154,6 +155,19 @@ def check_names():
         yield from (f"{page.name} names {name}, which is nowhere in the code" for name in sorted(set(named) - words))
 
 
+def check_code():
+    """Whether the code that LIBRARY.md shows stands in the sources, but for what it says of a service of yours."""
+    def plain(text):
+        return re.sub(r"\s+", "", text).replace(",)", ")")
+
+    files = [path for path in (TOP / "crates").glob("*/*/**/*.*t") if path.suffix in (".rt", ".antt")]
+    sources = [plain(path.read_text(encoding="utf-8")) for path in files]
+    for block in re.findall(r"^ *```(?:rust)?\n(.*?)^ *```$", text_of("docs/LIBRARY.md"), re.M | re.S):
+        for piece in re.split(r"\n\n(?=  -- )", block):
+            if "may_enter" not in piece and not any(plain(piece) in source for source in sources):
+                yield f"LIBRARY.md shows code that stands nowhere: {piece.strip().splitlines()[0]}"
+
+
 def anchors(page):
     """The names by which links call the headings of a page."""
     text = re.sub(r"^```.*?^```", "", page.read_text(encoding="utf-8"), flags=re.M | re.S)
@@ -174,7 +188,7 @@ def check_links():
 
 
 def main():
-    checks = (check_numbers, check_limits, check_words, check_members, check_names, check_links)
+    checks = (check_numbers, check_limits, check_words, check_members, check_names, check_code, check_links)
     wrong = [line for check in checks for line in check()]
     counts = f"{len(rows())} numbers, {len(limits())} limits"
     print("\n".join(wrong) or f"documents, completions and manual pages agree with specs/: {counts}")
