@@ -6,9 +6,8 @@
 The numbers and names of conditions and refusals are those of `Condition` and `Refusal` of compact_form, wherever a page
 says them; docs/SPECIFICATION.md and docs/REFUSALS.md have each. The limits are those of `Limits` of sd_outside, the
 words of commands those of `Command`, `Forms` and the tools, and the members of files those of their tables. A name of
-code in docs/ARCHITECTURE.md, PROVED.md, DECISIONS.md, LIBRARY.md, SECURITY.md or in CONTRIBUTING.md stands in the code.
-The code that LIBRARY.md shows stands there too. Each link leads to a file that is there, and to a heading of it, and
-from docs/ to what a release has too.
+code in a page for whoever reads the code (OF_CODE) stands in the code, and so does the code that LIBRARY.md shows. Each
+link leads to a file that is there, and to a heading of it, and from docs/ to what a release has too.
 """
 import re
 import sys
@@ -17,7 +16,7 @@ from pathlib import Path
 TOP = Path(__file__).resolve().parent.parent
 PAGES = [TOP / name for name in ("README.md", "CHANGELOG.md", "CONTRIBUTING.md", "python/README.md")]
 PAGES += [TOP / "vectors/README.md"] + sorted((TOP / "docs").glob("*.md")) + sorted((TOP / "docs").glob("*.1"))
-OF_CODE = [TOP / f"docs/{name}.md" for name in ("ARCHITECTURE", "PROVED", "DECISIONS", "LIBRARY", "SECURITY")]
+OF_CODE = [TOP / f"docs/{name}.md" for name in ("ARCHITECTURE", "PROVED", "DECISIONS", "LIBRARY", "SECURITY", "C")]
 OF_CODE += [TOP / "CONTRIBUTING.md"]
 # What these name of Rust and of the kit, and a claim.
 KNOWN = {"BTreeMap", "Vec", "Value", "Deserialize", "From", "Ord", "String", "Err", "Some", "None", "Drop", "Fn"}
