@@ -16,7 +16,8 @@ import sys
 import textwrap
 from pathlib import Path
 
-import core
+sys.dont_write_bytecode = True  # nothing is written beside the sources but the page
+import core  # noqa: E402
 
 TOP = Path(__file__).resolve().parent.parent
 PAGE = TOP / "docs/CONTRACTS.md"

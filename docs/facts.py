@@ -85,6 +85,9 @@ def check_numbers():
         for no, name in re.findall(r"\b(\d+) `(\w+)`", text):
             if name in number_of and number_of[name] != int(no):
                 yield f"{page.name} says {no} {name}"
+        for count in re.findall(r"\b(\d+) (?:stated )?conditions\b", text):
+            if page.name != "CHANGELOG.md" and int(count) != specs("compact_form", "Condition").count("codes \""):
+                yield f"{page.name} says that there are {count} conditions"
 
 
 def check_limits():
