@@ -81,13 +81,13 @@ def check_numbers():
         text = page.read_text(encoding="utf-8")
         for no, name in re.findall(r"\brefused (\d+) ([a-z]\w+)", text):
             if names.get(int(no)) != name:
-                yield f"{page.name} says {no} {name}"
+                yield f"{page.relative_to(TOP)} says {no} {name}"
         for no, name in re.findall(r"\b(\d+) `(\w+)`", text):
             if name in number_of and number_of[name] != int(no):
-                yield f"{page.name} says {no} {name}"
-        for count in re.findall(r"\b(\d+) (?:stated )?conditions\b", text):
+                yield f"{page.relative_to(TOP)} says {no} {name}"
+        for count in re.findall(r"(?<!first )\b(\d+) (?:stated )?conditions\b", text):
             if page.name != "CHANGELOG.md" and int(count) != specs("compact_form", "Condition").count("codes \""):
-                yield f"{page.name} says that there are {count} conditions"
+                yield f"{page.relative_to(TOP)} says that there are {count} conditions"
 
 
 def check_limits():
@@ -154,7 +154,7 @@ def check_names():
     words |= {path.name for path in (TOP / "crates").iterdir()}
     for page in OF_CODE:
         named = re.findall(r"`(?:\w+::)*([A-Z][a-z]\w+|[a-z]+_\w+)(?:::\w+)*`", page.read_text(encoding="utf-8"))
-        yield from (f"{page.name} names {name}, which is nowhere in the code" for name in sorted(set(named) - words))
+        yield from (f"{page.relative_to(TOP)} names {name}, which is nowhere in the code" for name in sorted(set(named) - words))
 
 
 def check_code():
@@ -184,9 +184,9 @@ def check_links():
             target = page.parent / link if link else page
             if not re.match(r"[a-z]+:", link) and page.parent.name != "release":
                 if not target.exists() or anchor and anchor not in anchors(target):
-                    yield f"{page.name} has a link that leads nowhere: {link}{'#' * bool(anchor)}{anchor}"
+                    yield f"{page.relative_to(TOP)} has a link that leads nowhere: {link}{'#' * bool(anchor)}{anchor}"
                 elif page.parent.name == "docs" and link.startswith("../") and link not in RELEASED:
-                    yield f"{page.name} has a link to what is in no release: {link}"
+                    yield f"{page.relative_to(TOP)} has a link to what is in no release: {link}"
 
 
 def main():
