@@ -1,6 +1,6 @@
 #!/usr/bin/env python3
 """Writes docs/CONTRACTS.md from the sources: each crate with its public calls, its laws and its definitions, and the
-tables of the trusted core, which docs/core.py finds.
+trusted core, which docs/core.py finds.
 
     python3 docs/contracts.py           writes the page
     python3 docs/contracts.py --check   status 1 where the page is not what the sources say
@@ -234,11 +234,9 @@ def page():
         if modules:
             yield "**Definitions**\n\n" + "\n".join(modules) + "\n"
     yield CORE
-    yield "| Crate | Its modules, with the lines of each that are reached | In all |\n|---|---|---|"
-    yield "\n".join(core.table(core.Core(core.ROOTS))) + "\n"
+    yield "\n".join(map(listed, core.table(core.Core(core.ROOTS)))) + "\n"
     yield HEADLINE
-    yield "| Crate | Its modules, with the lines of each that are reached | In all |\n|---|---|---|"
-    yield "\n".join(core.table(core.Core(core.HEADLINE)))
+    yield "\n".join(map(listed, core.table(core.Core(core.HEADLINE))))
 
 
 def main():

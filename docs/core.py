@@ -8,7 +8,7 @@
     python3 docs/core.py --headline for the two halves of the headline, as calls of the libraries have them
     python3 docs/core.py --names    besides, the definitions of each module with their lines
     python3 docs/core.py --left     besides, what is not reached of modules that are
-    python3 docs/core.py --table    the crates, as rows of the table that docs/contracts.py writes into CONTRACTS.md
+    python3 docs/core.py --table    the crates, as docs/contracts.py writes them into CONTRACTS.md
     python3 docs/core.py --check    whether each module of specs/ says in its first line whether it is of the core, and
                                     docs/PROVED.md has the totals; status 1 where not
 
@@ -237,7 +237,7 @@ def lines_of(definitions):
 
 
 def table(core):
-    """The rows of the table in docs/CONTRACTS.md: a crate each, and what they come to."""
+    """The list in docs/CONTRACTS.md: a crate each with its lines and those of its modules, and what they come to."""
     for crate in reversed(CRATES):
         rows = [row for row in core.modules() if row[0] == crate]
         cells, types = [], sum(lines_of(reached) for _, module, reached, _ in rows if module.startswith("src/"))
@@ -248,10 +248,10 @@ def table(core):
         if types:
             cells.append(f"types {types}")
         if cells:
-            yield f"| `{crate}` | {', '.join(cells)} | {sum(lines_of(row[2]) for row in rows)} |"
+            yield f"`{crate}`, {sum(lines_of(row[2]) for row in rows)} lines: {', '.join(cells)}"
     specs, types = (totals(core, where) for where in ("specs", "src"))
     sums = f"{specs[0]} definitions in {specs[1]} lines, {types[0]} types and traits in {types[1]}"
-    yield f"| in all | {sums} | {specs[1] + types[1]} |"
+    yield f"In all {specs[1] + types[1]}: {sums}"
 
 
 def totals(core, where):
