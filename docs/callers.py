@@ -1,14 +1,14 @@
 #!/usr/bin/env python3
-"""Lists the public functions that nothing calls: no program, no row of the tables, no test and no function of the C library.
+"""Lists the public functions that nothing calls: no program, no row of a table, no test, no function of the C library.
 
     python3 docs/callers.py           lists them
     python3 docs/callers.py --tests   besides, those that only tests call, which are for programs of others
     python3 docs/callers.py --check   status 1 where there is one that nothing calls
 
 It reads bodies by their words, and knows no types. A call by a path counts for the type or the module of the path. A
-method counts for each type that has one of this name and that the file speaks of: by its name, by a field of a type that
-it speaks of, or by the answer of a function that it calls. Laws, which do nothing, and what a trait asks for count as
-called.
+method counts for each type that has one of this name and that the file speaks of: by its name, by a field of a type of
+which it speaks, or by the answer of a function that it calls. Laws, which do nothing, and what a trait asks for count
+as called.
 """
 import re
 import sys
@@ -57,7 +57,8 @@ def functions_of(path, crate):
     blocks = owners(text)
     tests = "/tests" in str(path) or path.stem.endswith("tests")
     for head in HEAD.finditer(text):
-        owner, of_trait = next(((t, trait) for begin, end, t, trait in blocks if begin < head.start() < end), (None, False))
+        inside = ((t, trait) for begin, end, t, trait in blocks if begin < head.start() < end)
+        owner, of_trait = next(inside, (None, False))
         indent = head[1]
         opens = re.compile(r"^%s\{$|^(?! *(?:ensures|requires|ghost)\b).*\{$" % indent, re.M)
         begin = opens.search(text, head.start())

@@ -154,7 +154,8 @@ def check_names():
     words |= {path.name for path in (TOP / "crates").iterdir()}
     for page in OF_CODE:
         named = re.findall(r"`(?:\w+::)*([A-Z][a-z]\w+|[a-z]+_\w+)(?:::\w+)*`", page.read_text(encoding="utf-8"))
-        yield from (f"{page.relative_to(TOP)} names {name}, which is nowhere in the code" for name in sorted(set(named) - words))
+        for name in sorted(set(named) - words):
+            yield f"{page.relative_to(TOP)} names {name}, which is nowhere in the code"
 
 
 def check_code():
