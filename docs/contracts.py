@@ -62,15 +62,17 @@ The same for the calls `issue_present_verify` and `verify_payload` alone.
 
 
 def sentence(comment):
-    """The first sentence of a comment, without the marks of links."""
-    text = paragraphs(comment)
-    first = re.match(r".*?[.:](?=\s|$)", text)
-    return first.group(0).rstrip(":.") + "." if first else text
+    """The first sentence of a comment, up to its colon; whole, or with the next, where it tells of the same as another."""
+    text = paragraphs(re.split(r"^ *///$", comment, flags=re.M)[0])
+    sentences = re.split(r"(?<=\.) (?=[A-Z`])", text)
+    if text.startswith("The same"):
+        return " ".join(sentences[:2 if sentences[0] == "The same." else 1])
+    return re.split(r":(?= )", sentences[0])[0].rstrip(".") + "."
 
 
 def paragraphs(comment):
     lines = [line.strip()[3:].strip() for line in comment.split("\n") if line.strip().startswith("///")]
-    return re.sub(r"\[(`[^`]+`)\]", r"\1", " ".join(lines))
+    return re.sub(r"\[(`[^`]+`)\](?:\([^)]*\))?", r"\1", " ".join(lines)).strip()
 
 
 def words(names):
@@ -112,8 +114,15 @@ class Crate:
         self.source = TOP / "crates" / name / "src"
         library = self.source / "lib.rt"
         self.text = (library if library.exists() else self.source / "main.rt").read_text(encoding="utf-8")
-        self.exported = set(re.findall(r"\w+", " ".join(re.findall(r"^pub use ([^;]*);", self.text, re.M | re.S))))
         self.public = set(re.findall(r"^pub mod (\w+)", self.text, re.M))
+        # a public module may hand on what others have
+        texts = [self.text] + [self.module(name) for name in self.public]
+        uses = [use for text in texts for use in re.findall(r"^pub use ([^;]*);", text, re.M | re.S)]
+        self.exported = set(re.findall(r"\w+", " ".join(uses)))
+
+    def module(self, name):
+        path = self.source / (name + ".rt")
+        return path.read_text(encoding="utf-8") if path.exists() else ""
 
     def purpose(self):
         lines = [line[3:].strip() for line in self.text.split("\n") if line.startswith("//!")]
@@ -174,7 +183,8 @@ class Crate:
             text = (library.parent / (module + ".antt")).read_text(encoding="utf-8")
             if not text.startswith("-- For "):
                 first = " ".join(line[3:] for line in text.split("\nuse ")[0].split("\n") if line.startswith("-- "))
-                yield module, re.sub(r"^Not needed to believe the program's promises: ", "", first)
+                first = re.sub(r"^Not needed to believe the program's promises: ", "", first)
+                yield module, first[0].upper() + first[1:]
 
 
 def ours_is(module):

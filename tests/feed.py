@@ -5,8 +5,8 @@
 
 Standard output that nobody reads any more, a full disk, input that is none and input that fails in its middle, and each
 request for memory refused in turn: the status and the line are those of the manual, and what was written before is a
-front of all verdicts. Verdicts go out as lines end, each by one write. Refusing memory needs a C compiler; without one
-that part is skipped. It stands beside the gate and proves nothing.
+front of all verdicts. The verdicts of a piece of the input go out when it has come, by one write. Refusing memory needs
+a C compiler; without one that part is skipped. It stands beside the gate and proves nothing.
 """
 import os
 import shutil
