@@ -62,7 +62,7 @@ The same for the calls `issue_present_verify` and `verify_payload` alone.
 
 
 def sentence(comment):
-    """The first sentence of a comment, up to its colon; whole, or with the next, where it tells of the same as another."""
+    """The first sentence of a comment, up to its colon; whole, or with the next, where it begins with "The same"."""
     text = paragraphs(re.split(r"^ *///$", comment, flags=re.M)[0])
     sentences = re.split(r"(?<=\.) (?=[A-Z`])", text)
     if text.startswith("The same"):
