@@ -4,9 +4,9 @@ use Rattle.std.specs.Prelude.{bytes_eq}
 use Rattle.std.proofs.lemmas.Slice.Eq.{bytes_eq-Decides}
 use Rattle.claim_tree.specs.Tree.{Text}
 use Rattle.cli_parts.specs.Lines.{line}
+use Rattle.hmac_sign.specs.Algs.{alg_text}
 use Rattle.hmac_sign.specs.Hmac.{IsGood}
 use Rattle.hmac_sign.specs.Signatures.{Meaning}
-use Rattle.hmac_sign.specs.declared.alg.Alg.{Alg}
 use Rattle.issuer_core.specs.Order.{Order, order_of}
 use Rattle.issuer_core.specs.OrderFile.{IsOrderFile}
 use Rattle.issuer_core.specs.declared.order_file.IssueFile.{IssueFile}
@@ -32,20 +32,20 @@ three_words (w ∷ v ∷ u ∷ []) a b c said order token name same long short i
 three_words (w ∷ v ∷ u ∷ t ∷ ts) a b c said order token name same long short is_a is_b is_c text was tells order_is token_is = absurd (omega (arith, short))
 
 -- what refuses a text, where there was memory
-failed : (o : Order) (alg : Alg) (accepts : Meaning) (content : Text) (error : AuditError) → error ≢ OnMemory → IsAuditRefused o alg accepts content error → FailsAudit o alg accepts content error
+failed : (o : Order) (alg : Text) (accepts : Meaning) (content : Text) (error : AuditError) → error ≢ OnMemory → IsAuditRefused o alg accepts content error → FailsAudit o alg accepts content error
 failed o alg accepts content OnMemory other h = absurd (other refl)
 failed o alg accepts content (OnOrder k) other h = h
 failed o alg accepts content (OnCondition fault) other h = h
 failed o alg accepts content (Part k) other h = h
 
 -- the line of what refuses it
-pub says_no : (order_file token_file answer : List ℕ) (said : IssueFile) (alg : Alg) (error : AuditError) → IsOrderFile order_file said → alg ≡ said.key.alg → error ≢ OnMemory
+pub says_no : (order_file token_file answer : List ℕ) (said : IssueFile) (alg : Text) (error : AuditError) → IsOrderFile order_file said → alg ≡ alg_text said.key.alg → error ≢ OnMemory
     → IsAuditRefused (order_of said.order) alg (IsGood said.key) token_file error → answer ≡ line (audit_refusal_text error) → SaysNo order_file token_file answer
 says_no order_file token_file answer said alg error file same other h told = record {
   order = order_of said.order;
   key = said.key;
   asks = record { said = said; is_order = file; order_is = refl; key_is = refl };
   error = error;
-  fails = subst (λ (x : Alg). FailsAudit (order_of said.order) x (IsGood said.key) token_file error) same (failed (order_of said.order) alg (IsGood said.key) token_file error other h);
+  fails = subst (λ (x : Text). FailsAudit (order_of said.order) x (IsGood said.key) token_file error) same (failed (order_of said.order) alg (IsGood said.key) token_file error other h);
   line_is = told;
 }

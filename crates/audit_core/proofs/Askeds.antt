@@ -1,12 +1,11 @@
 -- What is said of what an order asks for is said of the order.
 use Rattle.std.proofs.Common.{ℕ, ◌≤◌, List, sym, ◌∙◌, subst, arith}
 use Rattle.std.specs.List.{AllZip}
-use Rattle.claim_tree.specs.Tree.{Tree}
+use Rattle.claim_tree.specs.Tree.{Text, Tree}
 use Rattle.compact_form.specs.declared.parts.Parts.{Parts}
 use Rattle.digest_sites.specs.Given.{Given}
 use Rattle.disclosure.specs.declared.digests.HashAlg.{HashAlg}
 use Rattle.hmac_sign.specs.Signatures.{Meaning}
-use Rattle.hmac_sign.specs.declared.alg.Alg.{Alg}
 use Rattle.json_form.specs.declared.token.Token.{Token}
 use Rattle.issuer_core.specs.Order.{Order}
 use Rattle.audit_core.specs.declared.asked.Asked.{Asked}
@@ -38,7 +37,7 @@ late_content o p g k l (decoys_differ e s d n) = absurd (omega (arith, l, e))
 late_content o p g k l (order_differs e s d c n) = absurd (omega (arith, l, e))
 
 -- what is signed and written as it is to be differs in no part before the third
-pub not_early : {A : Type 0} (o : Order) (alg : Alg) (accepts : Meaning) (token : Token) (body : Tree) (given : List Given) (k : ℕ) → IsSignedFor o alg accepts token → IsWrittenFor o token.parts body given
+pub not_early : {A : Type 0} (o : Order) (alg : Text) (accepts : Meaning) (token : Token) (body : Tree) (given : List Given) (k : ℕ) → IsSignedFor o alg accepts token → IsWrittenFor o token.parts body given
     → k ≤ 2 → DiffersIn o alg accepts token k → A
 not_early o alg accepts token body given k signed written l (signed_differs e n) = absurd (n signed)
 not_early o alg accepts token body given k signed written l (written_differs e s n) = absurd (n body given written)

@@ -16,6 +16,7 @@ use Rattle.digest_sites.specs.Given.{Given}
 use Rattle.digest_sites.specs.Reserved.{sd_name, dots_name}
 use Rattle.disclosure.specs.Digest.{digest_of}
 use Rattle.disclosure.specs.declared.digests.HashAlg.{HashAlg}
+use Rattle.hmac_sign.specs.Algs.{alg_text}
 use Rattle.hmac_sign.specs.Hmac.{AlgKey, IsGood, alg_key}
 use Rattle.hmac_sign.specs.declared.alg.Alg.{Alg}
 use Rattle.json_form.specs.Alone.{alone}
@@ -121,7 +122,7 @@ differ (suc i) j less low e = omega (arith, less, low)
 abbrev parts : Parts
 parts = token key order payload given
 
-issued : IsIssued (maker_of seed) order key.alg (IsGood key) parts
+issued : IsIssued (maker_of seed) order (alg_text key.alg) (IsGood key) parts
 issued = record {
   payload = payload;
   given = given;
@@ -151,5 +152,5 @@ is_token : IsToken (compact parts) (alone parts)
 is_token = compact_read (compact parts ++ 10 ∷ []) (alone parts) (read_compact_line parts (words key order payload given (omega arith) (omega arith) (first_word, tt)) few) refl
 
 -- so the law says of it what it says
-audited : PassesAudit order key.alg (IsGood key) (compact parts)
+audited : PassesAudit order (alg_text key.alg) (IsGood key) (compact parts)
 audited = key_issued_passes_holds key seed order parts applies_not ordered utf8 issued is_token

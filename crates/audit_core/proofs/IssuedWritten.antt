@@ -13,7 +13,6 @@ use Rattle.disclosure.specs.declared.digests.HashAlg.{HashAlg}
 use Rattle.disclosure.proofs.Arrays.{depth-array_of}
 use Rattle.disclosure.proofs.ReadBack.{array_texts, array_ranged, array_ordered}
 use Rattle.hmac_sign.specs.Signatures.{Meaning}
-use Rattle.hmac_sign.specs.declared.alg.Alg.{Alg}
 use Rattle.json_form.specs.Alone.{alone}
 use Rattle.jws_part.proofs.ReadBack.{carried_back}
 use Rattle.rebuild_core.specs.Payload.{alg_name, without_alg}
@@ -47,7 +46,7 @@ made_zip hash made k (x ∷ xs) each = (
       subst (λ n. GivesSalted hash (made n y.name y.value) y) e (each (suc i) y a)),
 )
 
-module _ (seed : List ℕ) (o : Order) (alg : Alg) (good : Meaning) (p : Tree) (g : List Given) (parts : Parts) (fine : IsGoodOrder o) (utf8 : EachText IsUtf8 o.payload) (issued : IsIssuedFor (maker_of seed) o p g) (written : IsWritten (maker_of seed) o alg good p g parts) where
+module _ (seed : List ℕ) (o : Order) (alg : Text) (good : Meaning) (p : Tree) (g : List Given) (parts : Parts) (fine : IsGoodOrder o) (utf8 : EachText IsUtf8 o.payload) (issued : IsIssuedFor (maker_of seed) o p g) (written : IsWritten (maker_of seed) o alg good p g parts) where
   pub signed_for : AreBytes written.signature → IsSignedFor o alg good (alone parts)
   signed_for bytes = record {
     protected = written.protected;

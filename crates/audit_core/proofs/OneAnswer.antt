@@ -5,6 +5,7 @@ use Rattle.sd_outside.specs.Causes.{Rose}
 use Rattle.sd_outside.specs.Limits.{file_max}
 use Rattle.sd_outside.specs.declared.status.Status.{Status}
 use Rattle.sd_outside.specs.declared.status.Status.TheVariants.{Done, Memory}
+use Rattle.hmac_sign.specs.Algs.{alg_text}
 use Rattle.hmac_sign.specs.Hmac.{AlgKey, IsGood}
 use Rattle.issuer_core.specs.Order.{Order}
 use Rattle.issuer_core.specs.OrderFile.{AsksFor, IsOrderFile, IsOrderFileRefused}
@@ -39,13 +40,13 @@ module _ (order_file token_file : List ℕ) where
   one_no : (a b : List ℕ) → SaysNo order_file token_file a → SaysNo order_file token_file b → a ≡ b
   one_no a b g h =
       let fails = of_asked order_file g.order h.order g.key h.key g.asks h.asks (λ (o : Order) (k : AlgKey). FailsAudit o k.alg (IsGood k) token_file g.error) g.fails in
-      let same : g.error ≡ h.error = (one_verdict h.order h.key.alg (IsGood h.key) token_file).one_error g.error h.error fails h.fails in
+      let same : g.error ≡ h.error = (one_verdict h.order (alg_text h.key.alg) (IsGood h.key) token_file).one_error g.error h.error fails h.fails in
       g.line_is ∙ (ap (λ (e : AuditError). line (audit_refusal_text e)) same ∙ sym h.line_is)
 
   yes_not_no : (a b : List ℕ) → SaysYes order_file token_file a → SaysNo order_file token_file b → ⊥
   yes_not_no a b g h =
       let passes = of_asked order_file g.order h.order g.key h.key g.asks h.asks (λ (o : Order) (k : AlgKey). PassesAudit o k.alg (IsGood k) token_file) g.passes in
-      (one_verdict h.order h.key.alg (IsGood h.key) token_file).not_both h.error passes h.fails
+      (one_verdict h.order (alg_text h.key.alg) (IsGood h.key) token_file).not_both h.error passes h.fails
 
   pub one_answer : (v w : Reply) → AuditAnswers order_file token_file v → AuditAnswers order_file token_file w → v ≡ w
   one_answer =

@@ -5,7 +5,6 @@ use Rattle.claim_tree.specs.Tree.{Text, Tree, leaf, text}
 use Rattle.compact_form.specs.Lowest.{NoneApplies}
 use Rattle.digest_sites.specs.Given.{Given}
 use Rattle.hmac_sign.specs.Signatures.{Meaning}
-use Rattle.hmac_sign.specs.declared.alg.Alg.{Alg}
 use Rattle.json_form.specs.Token.{IsToken}
 use Rattle.json_form.specs.declared.token.Token.{Token}
 use Rattle.json_form.proofs.Tokens.{one as one_token, not_both, one_refusal}
@@ -32,13 +31,13 @@ on_part (OnOrder k) P Q f h = h
 on_part (OnCondition fault) P Q f h = h
 on_part (Part k) P Q f h = f k h
 
-pub order_told : (o : Order) (alg : Alg) (accepts : Meaning) (content : Text) (e : AuditError) → OnOrderRefused e o → IsAuditRefused o alg accepts content e
+pub order_told : (o : Order) (alg : Text) (accepts : Meaning) (content : Text) (e : AuditError) → OnOrderRefused e o → IsAuditRefused o alg accepts content e
 order_told o alg accepts content Memory h = tt
 order_told o alg accepts content (OnOrder k) h = of_order h.0 h.1 (ap OnOrder h.2)
 order_told o alg accepts content (OnCondition fault) h = absurd h
 order_told o alg accepts content (Part k) h = absurd h
 
-pub part_told : (o : Order) (alg : Alg) (accepts : Meaning) (content : Text) (token : Token) → NoneApplies (AppliesToOrder o) → IsToken content token
+pub part_told : (o : Order) (alg : Text) (accepts : Meaning) (content : Text) (token : Token) → NoneApplies (AppliesToOrder o) → IsToken content token
     → (e : AuditError) → OnPart e (DiffersIn o alg accepts token) → IsAuditRefused o alg accepts content e
 part_told o alg accepts content token passes is Memory h = tt
 part_told o alg accepts content token passes is (OnOrder k) h = absurd h
@@ -46,7 +45,7 @@ part_told o alg accepts content token passes is (OnCondition fault) h = absurd h
 part_told o alg accepts content token passes is (Part k) h = of_part token k passes is h refl
 
 -- what refuses a token of an order that is not refused before anything is looked up
-pub early_part : (o : Order) (alg : Alg) (accepts : Meaning) (content : Text) (token : Token) → NoneApplies (AppliesToOrder o) → IsToken content token
+pub early_part : (o : Order) (alg : Text) (accepts : Meaning) (content : Text) (token : Token) → NoneApplies (AppliesToOrder o) → IsToken content token
     → (same : Type 0) → ((k : ℕ) → k ≤ 2 → DiffersIn o alg accepts token k → same) → (e : AuditError) → IsBeforeOpening e → FailsAudit o alg accepts content e → same
 early_part o alg accepts content token passes is same f e early (of_order refusal lowest at) = absurd (passes refusal lowest.applies)
 early_part o alg accepts content token passes is same f e early (of_text fault none refused at) = absurd (not_both content token fault is refused)
@@ -103,7 +102,7 @@ one_content o p g k j (order_differs e s d c n) (digests_differ f t m) = absurd 
 one_content o p g k j (order_differs e s d c n) (decoys_differ f t b m) = absurd (m c)
 one_content o p g k j (order_differs e s d c n) (order_differs f t b a m) = e ∙ sym f
 
-one_part : (o : Order) (alg : Alg) (accepts : Meaning) (token : Token) (k j : ℕ) → DiffersIn o alg accepts token k → DiffersIn o alg accepts token j → k ≡ j
+one_part : (o : Order) (alg : Text) (accepts : Meaning) (token : Token) (k j : ℕ) → DiffersIn o alg accepts token k → DiffersIn o alg accepts token j → k ≡ j
 one_part o alg accepts token k j (signed_differs e n) (signed_differs f m) = e ∙ sym f
 one_part o alg accepts token k j (signed_differs e n) (written_differs f s m) = absurd (n s)
 one_part o alg accepts token k j (signed_differs e n) (content_differs s p g w d) = absurd (n s)
@@ -123,7 +122,7 @@ no_content o p g k a (digests_differ e s n) = n a.digests
 no_content o p g k a (decoys_differ e s d n) = n a.decoys
 no_content o p g k a (order_differs e s d c n) = n a.sorted
 
-no_part : (o : Order) (alg : Alg) (accepts : Meaning) (token : Token) (k : ℕ) → IsAudited o alg accepts token → DiffersIn o alg accepts token k → ⊥
+no_part : (o : Order) (alg : Text) (accepts : Meaning) (token : Token) (k : ℕ) → IsAudited o alg accepts token → DiffersIn o alg accepts token k → ⊥
 no_part o alg accepts token k a (signed_differs e n) = n a.signed
 no_part o alg accepts token k a (written_differs e s n) = n a.body a.given a.written
 no_part o alg accepts token k a (content_differs s p g w d) =
@@ -134,13 +133,13 @@ no_part o alg accepts token k a (content_differs s p g w d) =
 order_one : (o : Order) (e f : IssueError) → IsLowestRefusal (AppliesToOrder o) e → IsLowestRefusal (AppliesToOrder o) f → issue_number e ≡ issue_number f
 order_one o e f a b = let x = a.lowest f b.applies in let y = b.lowest e a.applies in omega (arith, x, y)
 
-passes_alone : (o : Order) (alg : Alg) (accepts : Meaning) (content : Text) (e : AuditError) → PassesAudit o alg accepts content → FailsAudit o alg accepts content e → ⊥
+passes_alone : (o : Order) (alg : Text) (accepts : Meaning) (content : Text) (e : AuditError) → PassesAudit o alg accepts content → FailsAudit o alg accepts content e → ⊥
 passes_alone o alg accepts content e p (of_order refusal lowest at) = p.passes refusal lowest.applies
 passes_alone o alg accepts content e p (of_text fault none refused at) = not_both content p.token fault p.is_token refused
 passes_alone o alg accepts content e p (of_part token k none read differs at) =
     no_part o alg accepts p.token k p.audited (subst (λ t. DiffersIn o alg accepts t k) (one_token content token p.token read p.is_token) differs)
 
-one_failure : (o : Order) (alg : Alg) (accepts : Meaning) (content : Text) (e f : AuditError) → FailsAudit o alg accepts content e → FailsAudit o alg accepts content f → e ≡ f
+one_failure : (o : Order) (alg : Text) (accepts : Meaning) (content : Text) (e f : AuditError) → FailsAudit o alg accepts content e → FailsAudit o alg accepts content f → e ≡ f
 one_failure o alg accepts content e f (of_order r a at) (of_order s b bt) = at ∙ ap OnOrder (order_one o r s a b) ∙ sym bt
 one_failure o alg accepts content e f (of_order r a at) (of_text x n b bt) = absurd (n r a.applies)
 one_failure o alg accepts content e f (of_order r a at) (of_part t k n b d bt) = absurd (n r a.applies)
@@ -152,5 +151,5 @@ one_failure o alg accepts content e f (of_part t k n a d at) (of_text y m b bt) 
 one_failure o alg accepts content e f (of_part t k n a d at) (of_part u j m b c bt) =
     at ∙ ap Part (one_part o alg accepts u k j (subst (λ z. DiffersIn o alg accepts z k) (one_token content t u a b) d) c) ∙ sym bt
 
-pub one_verdict : (o : Order) (alg : Alg) (accepts : Meaning) (content : Text) → HasOneVerdict o alg accepts content
+pub one_verdict : (o : Order) (alg : Text) (accepts : Meaning) (content : Text) → HasOneVerdict o alg accepts content
 one_verdict o alg accepts content = record { not_both = λ e. passes_alone o alg accepts content e; one_error = one_failure o alg accepts content }

@@ -3,7 +3,6 @@ use Rattle.std.specs.Prelude.{◌≡◌, ◌⊎◌, ◌≤◌, ℕ, List}
 use Rattle.claim_tree.specs.Tree.{Text, Tree}
 use Rattle.digest_sites.specs.Given.{Given}
 use Rattle.hmac_sign.specs.Signatures.{Meaning}
-use Rattle.hmac_sign.specs.declared.alg.Alg.{Alg}
 use Rattle.json_form.specs.Token.{IsToken}
 use Rattle.json_form.specs.declared.token.Token.{Token}
 use Rattle.rebuild_core.specs.LookUps.{look_ups, RoseWithin}
@@ -15,7 +14,7 @@ use Rattle.audit_core.specs.Audited.{IsWrittenFor}
 use Rattle.audit_core.specs.Audit.{FailsAudit}
 
 -- why a text does not pass; want of memory says nothing
-abbrev pub IsAuditRefused : Order → Alg → Meaning → Text → AuditError → Type 0
+abbrev pub IsAuditRefused : Order → Text → Meaning → Text → AuditError → Type 0
 IsAuditRefused o alg accepts content Memory = Unit {0}
 IsAuditRefused o alg accepts content error = FailsAudit o alg accepts content error
 

@@ -6,9 +6,9 @@ use Rattle.claim_tree.specs.Tree.{Text, IsOrdered}
 use Rattle.compact_form.specs.Compact.{compact}
 use Rattle.compact_form.specs.Lowest.{NoneApplies}
 use Rattle.compact_form.specs.declared.parts.Parts.{Parts}
+use Rattle.hmac_sign.specs.Algs.{alg_text}
 use Rattle.hmac_sign.specs.Hmac.{AlgKey, IsGood}
 use Rattle.hmac_sign.specs.Signatures.{Meaning}
-use Rattle.hmac_sign.specs.declared.alg.Alg.{Alg}
 use Rattle.json_form.specs.Alone.{alone}
 use Rattle.json_form.specs.Token.{IsToken}
 use Rattle.issuer_core.specs.GoodOrder.{EachText}
@@ -22,7 +22,7 @@ use Rattle.audit_core.specs.Audit.{PassesAudit, FailsAudit}
 -- what is issued with any seed for an order that nothing of 51 to 59 refuses, with a signature of bytes, passes the audit,
 -- where its compact text is read as a token; texts and names of the claims are UTF-8, as a machine holds them, since JSON with
 -- others is not read
-abbrev pub IssuedPasses : Alg → Meaning → Type 0
+abbrev pub IssuedPasses : Text → Meaning → Type 0
 IssuedPasses alg good =
     (seed : List ℕ) (o : Order) (parts : Parts)
     → NoneApplies (AppliesToOrder o) → IsOrdered o.payload → EachText IsUtf8 o.payload
@@ -34,10 +34,10 @@ abbrev pub KeyIssuedPasses : AlgKey → Type 0
 KeyIssuedPasses key =
     (seed : List ℕ) (o : Order) (parts : Parts)
     → NoneApplies (AppliesToOrder o) → IsOrdered o.payload → EachText IsUtf8 o.payload
-    → IsIssued (maker_of seed) o key.alg (IsGood key) parts
-    → IsToken (compact parts) (alone parts) → PassesAudit o key.alg (IsGood key) (compact parts)
+    → IsIssued (maker_of seed) o (alg_text key.alg) (IsGood key) parts
+    → IsToken (compact parts) (alone parts) → PassesAudit o (alg_text key.alg) (IsGood key) (compact parts)
 
 -- a text passes, or one thing refuses it
-pub record HasOneVerdict (o : Order) (alg : Alg) (accepts : Meaning) (content : Text) : Type 0 where
+pub record HasOneVerdict (o : Order) (alg : Text) (accepts : Meaning) (content : Text) : Type 0 where
   pub not_both : (error : AuditError) → PassesAudit o alg accepts content → FailsAudit o alg accepts content error → ⊥
   pub one_error : (error other : AuditError) → FailsAudit o alg accepts content error → FailsAudit o alg accepts content other → error ≡ other

@@ -6,6 +6,7 @@ use Rattle.cli_parts.specs.Outside.{Outside}
 use Rattle.cli_parts.specs.Replies.{Reply, Replies}
 use Rattle.cli_parts.specs.Runs.{IsFetched, MissesWord, RunEnds}
 use Rattle.cli_parts.specs.Telling.{TellsFileFault}
+use Rattle.hmac_sign.specs.Algs.{alg_text}
 use Rattle.hmac_sign.specs.Hmac.{AlgKey, IsGood}
 use Rattle.issuer_core.specs.Order.{Order}
 use Rattle.issuer_core.specs.OrderFile.{AsksFor, IsOrderFileRefused}
@@ -20,7 +21,7 @@ pub record SaysYes (order_file token_file answer : List ℕ) : Type 0 where
   pub order : Order
   pub key : AlgKey
   pub asks : AsksFor order_file order key
-  pub passes : PassesAudit order key.alg (IsGood key) token_file
+  pub passes : PassesAudit order (alg_text key.alg) (IsGood key) token_file
   pub line_is : answer ≡ line (codes "yes")
 
 -- the first that refuses it, with its line
@@ -29,7 +30,7 @@ pub record SaysNo (order_file token_file text : List ℕ) : Type 0 where
   pub key : AlgKey
   pub asks : AsksFor order_file order key
   pub error : AuditError
-  pub fails : FailsAudit order key.alg (IsGood key) token_file error
+  pub fails : FailsAudit order (alg_text key.alg) (IsGood key) token_file error
   pub line_is : text ≡ line (audit_refusal_text error)
 
 -- or the order file is not of its form

@@ -14,7 +14,6 @@ use Rattle.disclosure.specs.Digest.{digest_of, hash_name}
 use Rattle.disclosure.specs.Disclosure.{array_of}
 use Rattle.disclosure.specs.declared.digests.HashAlg.{HashAlg}
 use Rattle.hmac_sign.specs.Signatures.{Meaning}
-use Rattle.hmac_sign.specs.declared.alg.Alg.{Alg}
 use Rattle.json_form.specs.declared.token.Token.{Token}
 use Rattle.jws_part.specs.Header.{header_members}
 use Rattle.jws_part.specs.Part.{Carries}
@@ -33,7 +32,7 @@ use Rattle.issuer_core.specs.Written.{header_of}
 -- ---- 1: what is signed
 
 -- the header says what the order asks for, the signature is one that is accepted, and nothing stands beside
-pub record IsSignedFor (o : Order) (alg : Alg) (accepts : Meaning) (token : Token) : Type 0 where
+pub record IsSignedFor (o : Order) (alg : Text) (accepts : Meaning) (token : Token) : Type 0 where
   pub protected : token.parts.signed.protected ≡ b64 (json_text (object (header_members (header_of alg o))))
   pub signature : List ℕ
   pub signature_text : Decodes token.parts.signed.signature signature
@@ -160,7 +159,7 @@ pub record IsAuditedFor (o : Order) (payload : Tree) (given : List Given) : Type
   pub decoys : HasDecoys o payload given
   pub sorted : HasSortedDigests payload given
 
-pub record IsAudited (o : Order) (alg : Alg) (accepts : Meaning) (token : Token) : Type 0 where
+pub record IsAudited (o : Order) (alg : Text) (accepts : Meaning) (token : Token) : Type 0 where
   pub signed : IsSignedFor o alg accepts token
   pub body : Tree
   pub given : List Given

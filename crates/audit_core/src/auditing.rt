@@ -33,7 +33,7 @@ use crate::standing::are_alike;
 use crate::written::{Written, bare, read_written};
 use claim_tree::PathList;
 use digest_index::Steps;
-use hmac_sign::{Alg, Checker};
+use hmac_sign::Checker;
 use issuer_core::{IssueError, Order, judged_places, order_refusal};
 use json_form::{TokenError, TokenText, TokenView};
 use sd_outside::TextBox;
@@ -178,7 +178,7 @@ fn judge_token<K: Checker>(
     alloc: Global,
     order: Order,
     places: PathList,
-    alg: Alg,
+    alg: &str,
     checker: &K,
     token: &TokenView<'_>,
     steps: &mut Steps,
@@ -187,10 +187,10 @@ fn judge_token<K: Checker>(
     requires passes { NoneApplies (AppliesToOrder (order_of order)) }
     requires same { (path : Path) → is_among places path ≡ is_among order.hide path }
     requires few { length places ≤ count_max }
-    ensures audited { OnOk result (IsAudited (order_of order) alg (K.good checker.now) token.now) }
-    ensures differs { IfErr result (λ e. OnPart e (DiffersIn (order_of order) alg (K.good checker.now) token.now)) }
+    ensures audited { OnOk result (IsAudited (order_of order) alg.now (K.good checker.now) token.now) }
+    ensures differs { IfErr result (λ e. OnPart e (DiffersIn (order_of order) alg.now (K.good checker.now) token.now)) }
     ensures within { IsTokenWithin (order_of order) token.now steps.old steps.new }
-    ensures uncounted { (k : ℕ) → k ≤ 2 → DiffersIn (order_of order) alg (K.good checker.now) token.now k → steps.new ≡ steps.old }
+    ensures uncounted { (k : ℕ) → k ≤ 2 → DiffersIn (order_of order) alg.now (K.good checker.now) token.now k → steps.new ≡ steps.old }
 {
     if !is_signed_for(alloc, &order, alg, checker, token)? {
         return Err(differs(AuditPart::Signed));
@@ -206,18 +206,18 @@ fn judge_token<K: Checker>(
 pub(crate) fn audit_owned<K: Checker>(
     alloc: Global,
     order: Order,
-    alg: Alg,
+    alg: &str,
     checker: &K,
     text: &[u8],
     steps: &mut Steps,
 ) -> Result<(), AuditError>
     requires depth { depth_of (tree_of order.payload) ≤ json_depth_max }
-    ensures passes { OnOk result (PassesAudit (order_of order) alg (K.good checker.now) text.now) }
-    ensures refused { IfErr result (IsAuditRefused (order_of order) alg (K.good checker.now) text.now) }
+    ensures passes { OnOk result (PassesAudit (order_of order) alg.now (K.good checker.now) text.now) }
+    ensures refused { IfErr result (IsAuditRefused (order_of order) alg.now (K.good checker.now) text.now) }
 
     // the look-ups
     ensures within { IsAuditedWithin (order_of order) text.now steps.old steps.new }
-    ensures uncounted { (error : SeenError) → IsBeforeOpening error → FailsAudit (order_of order) alg (K.good checker.now) text.now error → steps.new ≡ steps.old }
+    ensures uncounted { (error : SeenError) → IsBeforeOpening error → FailsAudit (order_of order) alg.now (K.good checker.now) text.now error → steps.new ≡ steps.old }
 {
     let places = match judge_order(alloc, &order) {
         Ok(places) => places,
@@ -234,23 +234,23 @@ pub(crate) fn audit_owned<K: Checker>(
 /// Whether a token is what an order asks for, as who has no seed can tell. The order is judged first, then whether the
 /// text is a token, and then the six parts of [`AuditError::Part`], in their order: the first that differs is answered.
 ///
-/// The signature is to be one that the checker accepts, by the algorithm `alg`. Of a decoy no one can tell what it is
+/// The signature is to be one that the checker accepts, by the algorithm of the name `alg`. Of a decoy no one can tell what it is
 /// made of, so its place and its form are judged alone. `steps` counts the look-ups of digests.
 pub fn audit<K: Checker>(
     alloc: Global,
     order: &Order,
-    alg: Alg,
+    alg: &str,
     checker: &K,
     text: &[u8],
     steps: &mut Steps,
 ) -> Result<(), AuditError>
     requires depth { depth_of (tree_of order.now.payload) ≤ json_depth_max }
-    ensures passes { OnOk result (PassesAudit (order_of order.now) alg (K.good checker.now) text.now) }
-    ensures refused { IfErr result (IsAuditRefused (order_of order.now) alg (K.good checker.now) text.now) }
+    ensures passes { OnOk result (PassesAudit (order_of order.now) alg.now (K.good checker.now) text.now) }
+    ensures refused { IfErr result (IsAuditRefused (order_of order.now) alg.now (K.good checker.now) text.now) }
 
     // the look-ups
     ensures within { IsAuditedWithin (order_of order.now) text.now steps.old steps.new }
-    ensures uncounted { (error : SeenError) → IsBeforeOpening error → FailsAudit (order_of order.now) alg (K.good checker.now) text.now error → steps.new ≡ steps.old }
+    ensures uncounted { (error : SeenError) → IsBeforeOpening error → FailsAudit (order_of order.now) alg.now (K.good checker.now) text.now error → steps.new ≡ steps.old }
 {
     let owned = order.copy(alloc)?;
     audit_owned(alloc, owned, alg, checker, text, steps)

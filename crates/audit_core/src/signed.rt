@@ -11,7 +11,7 @@ ghost use Rattle.audit_core.specs.Audited.{IsSignedFor};
 
 use b64url_text::{DecodeError, decode};
 use compact_form::JwtView;
-use hmac_sign::{Alg, Checker};
+use hmac_sign::Checker;
 use issuer_core::{Order, order_header};
 use json_form::TokenView;
 use jws_part::write_header;
@@ -19,8 +19,8 @@ use sd_outside::NoMemory;
 use std::alloc::Global;
 
 // Whether the protected header is that of the order.
-fn is_header_of(alloc: Global, order: &Order, alg: Alg, protected: &str) -> Result<bool, NoMemory>
-    ensures { IfOk result (λ is. IsTrue is ↔ (protected.now ≡ b64 (json_text (object (header_members (header_of alg (order_of order.now))))))) }
+fn is_header_of(alloc: Global, order: &Order, alg: &str, protected: &str) -> Result<bool, NoMemory>
+    ensures { IfOk result (λ is. IsTrue is ↔ (protected.now ≡ b64 (json_text (object (header_members (header_of alg.now (order_of order.now))))))) }
 {
     let header = order_header(alloc, order, alg)?;
     let wanted = write_header(alloc, &header)?;
@@ -54,11 +54,11 @@ fn is_alone(token: &TokenView<'_>) -> bool
 pub(crate) fn is_signed_for<K: Checker>(
     alloc: Global,
     order: &Order,
-    alg: Alg,
+    alg: &str,
     checker: &K,
     token: &TokenView<'_>,
 ) -> Result<bool, NoMemory>
-    ensures { IfOk result (λ is. IsTrue is ↔ IsSignedFor (order_of order.now) alg (K.good checker.now) token.now) }
+    ensures { IfOk result (λ is. IsTrue is ↔ IsSignedFor (order_of order.now) alg.now (K.good checker.now) token.now) }
 {
     let signed = token.signed();
     if !is_alone(token) || !is_header_of(alloc, order, alg, signed.protected)? {

@@ -5,7 +5,6 @@ use Rattle.compact_form.specs.declared.parts.Parts.{Parts}
 use Rattle.compact_form.specs.Compact.{IsCompact}
 use Rattle.disclosure.specs.declared.digests.HashAlg.{HashAlg}
 use Rattle.hmac_sign.specs.Signatures.{Meaning}
-use Rattle.hmac_sign.specs.declared.alg.Alg.{Alg}
 use Rattle.issuer_core.specs.Order.{Order}
 use Rattle.issuer_core.specs.Digests.{Maker}
 use Rattle.issuer_core.specs.Written.{IsIssued, IsLaidOut}
@@ -16,7 +15,7 @@ order_for payload hide =
     record { payload = payload; hide = hide; decoys = []; kid = None; typ = None; hash = HashAlg.Sha256 }
 
 -- the text is the compact text of parts that are laid out and issued for the order, with signatures of this algorithm
-pub record IsTokenFor (maker : Maker) (o : Order) (alg : Alg) (good : Meaning) (text : Text) : Type 0 where
+pub record IsTokenFor (maker : Maker) (o : Order) (alg : Text) (good : Meaning) (text : Text) : Type 0 where
   pub parts : Parts
   pub issued : IsIssued maker o alg good parts
   pub laid : IsLaidOut maker o alg good parts

@@ -33,19 +33,19 @@ pub fn token_for<S: Signer>(
 ) -> Result<TextBox, IssueError>
     requires depth { depth (tree_of payload) ≤ json_depth_max }
     ensures token { IfOk result (IsTokenFor (maker_of seed.now)
-        (order_for (tree_of payload) hide) (S.alg_of signer.old) (S.good signer.old)) }
+        (order_for (tree_of payload) hide) (S.alg_name_of signer.old) (S.good signer.old)) }
     ensures passes { IfOk result (λ _. NoneApplies (AppliesToOrder (order_for (tree_of payload) hide))) }
     ensures differ { IfOk result
         (λ _. HasNoClash (maker_of seed.now) (order_for (tree_of payload) hide)) }
     ensures short { IfOk result (λ text. length text ≤ issue_max) }
     ensures refused { IfErr result (IsNotIssued (maker_of seed.now)
-        (order_for (tree_of payload) hide) (S.alg_of signer.old) (S.good signer.old)) }
+        (order_for (tree_of payload) hide) (S.alg_name_of signer.old) (S.good signer.old)) }
     ensures failed { IsErrOf result IssueError.SignFailed
         → Rose (S.faults signer.old) (S.faults signer.new) }
 
     // what stays
     ensures same_good { Agree (S.good signer.new) (S.good signer.old) }
-    ensures same_alg { S.alg_of signer.new ≡ S.alg_of signer.old }
+    ensures same_alg { S.alg_name_of signer.new ≡ S.alg_name_of signer.old }
     ensures later { S.faults signer.old ≤ S.faults signer.new }
 {
     let order = Order {

@@ -13,7 +13,6 @@ use Rattle.disclosure.specs.Disclosure.{IsDisclosure}
 use Rattle.disclosure.specs.declared.digests.HashAlg.{HashAlg}
 use Rattle.disclosure.proofs.HashNames.{of_its_name}
 use Rattle.hmac_sign.specs.Signatures.{Meaning}
-use Rattle.hmac_sign.specs.declared.alg.Alg.{Alg}
 use Rattle.jws_part.specs.Header.{header_members}
 use Rattle.rebuild_core.specs.Soundness.{IsSound}
 use Rattle.rebuild_core.specs.Payload.{alg_name, without_alg}
@@ -40,7 +39,7 @@ abbrev pub IsTextOf : HashAlg → Text → Given → Type 0
 IsTextOf hash d x = (x.digest ≡ digest_of hash d) × (salt : Tree) × IsDisclosure d salt x.name x.value
 
 -- the parts carry this payload and these disclosures, which are issued for the order
-pub record HasIssued (seed : List ℕ) (o : Order) (alg : Alg) (good : Meaning) (parts : Parts) : Type 0 where
+pub record HasIssued (seed : List ℕ) (o : Order) (alg : Text) (good : Meaning) (parts : Parts) : Type 0 where
   pub payload : Tree
   pub given : List Given
   pub issued : IsIssuedFor (maker_of seed) o payload given
@@ -84,12 +83,12 @@ laid_digests_differ seed o p g dg laid differ writable =
     (all_differ dg (hidden_of o + length (decoys_of o)) (no_repeats (laid_digests o dg) (λ i j clash. differ i j (record { payload = p; given = g; digests = dg; laid = laid; clash = clash }))))
 
 -- of parts that are issued, for a good order whose texts are UTF-8
-pub has_issued : (seed : List ℕ) (o : Order) (alg : Alg) (good : Meaning) (parts : Parts) → IsGoodOrder o → EachText IsUtf8 o.payload → IfSome o.kid IsUtf8 → IfSome o.typ IsUtf8
+pub has_issued : (seed : List ℕ) (o : Order) (alg : Text) (good : Meaning) (parts : Parts) → IsGoodOrder o → IsUtf8 alg → EachText IsUtf8 o.payload → IfSome o.kid IsUtf8 → IfSome o.typ IsUtf8
     → IsIssued (maker_of seed) o alg good parts → HasIssued seed o alg good parts
-has_issued seed o alg good parts good_order utf8 kid typ is =
+has_issued seed o alg good parts good_order named utf8 kid typ is =
     let p = is.payload in
     let g = is.given in
-    let back = written_back seed o p g good_order utf8 is.issued alg good parts kid typ is.written in
+    let back = written_back seed o p g good_order utf8 is.issued alg good parts named kid typ is.written in
     record {
       payload = p;
       given = g;
@@ -106,7 +105,7 @@ has_issued seed o alg good parts good_order utf8 kid typ is =
     }
 
 -- each text of parts that are issued is a word, where the signature is no empty text
-pub issued_words : (seed : List ℕ) (o : Order) (alg : Alg) (good : Meaning) (parts : Parts) → IsGoodOrder o → (is : IsIssued (maker_of seed) o alg good parts) → 0 < length is.written.signature → AreWords parts
+pub issued_words : (seed : List ℕ) (o : Order) (alg : Text) (good : Meaning) (parts : Parts) → IsGoodOrder o → (is : IsIssued (maker_of seed) o alg good parts) → 0 < length is.written.signature → AreWords parts
 issued_words seed o alg good parts good_order is some =
     let there = is_object seed o is.payload is.given good_order is.issued in
     record {

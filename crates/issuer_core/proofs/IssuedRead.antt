@@ -16,7 +16,6 @@ use Rattle.disclosure.specs.declared.digests.HashAlg.{HashAlg}
 use Rattle.disclosure.proofs.Arrays.{array_of-injective}
 use Rattle.disclosure.proofs.ReadBack.{array_ranged, array_ordered}
 use Rattle.hmac_sign.specs.Signatures.{Meaning}
-use Rattle.hmac_sign.specs.declared.alg.Alg.{Alg}
 use Rattle.jws_part.specs.Part.{IsBody}
 use Rattle.rebuild_core.specs.Payload.{without_alg}
 use Rattle.rebuild_core.specs.Reached.{given_digests}
@@ -58,7 +57,7 @@ pub record IsReadOnlyAs (hash_is : HashAlg) (parts : Parts) (p : Tree) (g : List
   pub disclosures : (i : ℕ) (d : Text) (x : Given) → StandsAt parts.disclosures i d → IsTextOf hash_is d x → StandsAt g i x
   pub digests : given_digests g ≡ map (digest_of hash_is) parts.disclosures
 
-module _ (seed : List ℕ) (o : Order) (alg : Alg) (good : Meaning) (p : Tree) (g : List Given) (parts : Parts) (good_order : IsGoodOrder o) (bytes : EachText AreBytes o.payload) (issued : IsIssuedFor (maker_of seed) o p g) (written : IsWritten (maker_of seed) o alg good p g parts) where
+module _ (seed : List ℕ) (o : Order) (alg : Text) (good : Meaning) (p : Tree) (g : List Given) (parts : Parts) (good_order : IsGoodOrder o) (bytes : EachText AreBytes o.payload) (issued : IsIssuedFor (maker_of seed) o p g) (written : IsWritten (maker_of seed) o alg good p g parts) where
   written_body : (body : Tree) → IsBody parts.signed.payload body → body ≡ with_alg o.hash p
   written_body body is =
       let t = with_alg o.hash p in

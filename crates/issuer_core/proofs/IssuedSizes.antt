@@ -16,7 +16,6 @@ use Rattle.digest_sites.specs.Given.{Given}
 use Rattle.disclosure.specs.Disclosure.{array_of, disclosure_text}
 use Rattle.disclosure.proofs.ReadBack.{array_ranged}
 use Rattle.hmac_sign.specs.Signatures.{Meaning}
-use Rattle.hmac_sign.specs.declared.alg.Alg.{Alg}
 use Rattle.marked_tree.specs.Marked.{strip}
 use Rattle.marked_tree.proofs.MarkFacts.{mark_strips_holds}
 use Rattle.rebuild_core.specs.Laws.{IsWithinNodes}
@@ -98,7 +97,7 @@ disclosures_spelled seed k (x ∷ g) each =
 
 -- ---- parts that are issued
 
-module _ (seed : List ℕ) (o : Order) (alg : Alg) (good : Meaning) (parts : Parts) (good_order : IsGoodOrder o) (is : IsIssued (maker_of seed) o alg good parts) where
+module _ (seed : List ℕ) (o : Order) (alg : Text) (good : Meaning) (parts : Parts) (good_order : IsGoodOrder o) (is : IsIssued (maker_of seed) o alg good parts) where
   within : IsWithinNodes (with_alg o.hash is.payload) is.given (strip (marked_claims o))
   within =
       let out = bare seed o is.payload is.given good_order is.issued in

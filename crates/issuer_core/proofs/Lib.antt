@@ -43,6 +43,7 @@ pub mod DifferentPlaces
 pub mod Judged
 pub mod OrderFiles
 pub mod OrderFaults
+mod UnsignedOrders
 pub mod PlacedDecoys
 pub mod SortedEntries
 pub mod SortedDigests

@@ -3,7 +3,6 @@ use Rattle.std.proofs.Common.{◌≡◌, ℕ, List, Some, Option, ap, ap₂, ari
 use Rattle.claim_tree.specs.Tree.{Text}
 use Rattle.claim_tree.specs.Lists.{IsLeast}
 use Rattle.hmac_sign.specs.Signatures.{Meaning}
-use Rattle.hmac_sign.specs.declared.alg.Alg.{Alg}
 use Rattle.marked_tree.specs.Paths.{Path}
 use Rattle.issuer_core.specs.declared.errors.IssueError.{IssueError}
 use Rattle.issuer_core.specs.declared.errors.IssueError.TheVariants.{Memory, SignFailed, PayloadNotObject, ReservedName, TooDeep, RootMarked, NoSuchPlace, ProtectedClaim, DecoyPlace, TooManyHidden, TooManyDecoys, DigestClash, TooLong}
@@ -30,7 +29,7 @@ module _ (maker : Maker) (o : Order) where
   one_path : (found : Option Path) (p q : Path) → found ≡ Some p → found ≡ Some q → p ≡ q
   one_path found p q e f = let same : Some p ≡ Some q = sym e ∙ f in cc same
 
-  module _ (alg : Alg) (good : Meaning) where
+  module _ (alg : Text) (good : Meaning) where
     -- the number and the place tell what applies
     by_number : (e f : IssueError) → AppliesToIssue maker o alg good e → AppliesToIssue maker o alg good f → issue_number e ≡ issue_number f → refusal_place e ≡ refusal_place f → e ≡ f
     by_number Memory f a b n p = absurd a

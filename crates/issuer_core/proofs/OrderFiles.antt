@@ -36,7 +36,7 @@ use Rattle.hmac_sign.proofs.KeyTexts.{one_key_bytes}
 entry_of : List Text → ℕ → Decoy
 entry_of at count = record { at = at; count = count }
 
-one_decoy : SaysOne IsDecoy
+pub one_decoy : SaysOne IsDecoy
 unfolding entry_of
 one_decoy t d e h k =
     let both : object h.members ≡ object k.members = sym h.is ∙ k.is in
@@ -75,7 +75,7 @@ value_depth ms name u low says = omega (arith, low, depth-member_named ms name u
 
 -- ---- the hash
 
-one_hash_text : SaysOne IsHashText
+pub one_hash_text : SaysOne IsHashText
 one_hash_text t x y h k =
     let both : leaf (text (hash_name x)) ≡ leaf (text (hash_name y)) = sym h ∙ k in
     let same : hash_name x ≡ hash_name y = cc both in

@@ -15,8 +15,6 @@ use Rattle.disclosure.specs.Disclosure.{IsDisclosure}
 use Rattle.disclosure.specs.declared.digests.HashAlg.{HashAlg}
 use Rattle.disclosure.proofs.ReadBack.{disclosure_back}
 use Rattle.hmac_sign.specs.Signatures.{Meaning}
-use Rattle.hmac_sign.specs.declared.alg.Alg.{Alg}
-use Rattle.hmac_sign.proofs.AlgNames.{text_utf8}
 use Rattle.jws_part.specs.Header.{IsHeader}
 use Rattle.jws_part.specs.Part.{Carries, IsBody}
 use Rattle.jws_part.proofs.ReadBack.{carried_back, header_back}
@@ -36,7 +34,7 @@ use Rattle.issuer_core.proofs.LaidBounds.{inserted_depth}
 use Rattle.issuer_core.proofs.WithAlg.{with_alg_ordered}
 
 -- the parts are read as what is written
-pub record IsReadBack (o : Order) (alg : Alg) (payload : Tree) (given : List Given) (parts : Parts) : Type 0 where
+pub record IsReadBack (o : Order) (alg : Text) (payload : Tree) (given : List Given) (parts : Parts) : Type 0 where
   pub header : IsHeader parts.signed.protected no_members (header_of alg o)
   pub body : IsBody parts.signed.payload (with_alg o.hash payload)
   pub disclosures : AllZip (λ (d : Text) (x : Given). (salt : Tree) × IsDisclosure d salt x.name x.value) parts.disclosures given
@@ -81,9 +79,9 @@ module _ (seed : List ℕ) (o : Order) (p : Tree) (g : List Given) (good_order :
       let low = value_shallow seed o p g good_order issued i x a in
       record { name = each.0; texts = utf8_texts x.value each.1; ranged = issued.values_ranged x there; ordered = issued.readable.in_values x there; shallow = omega (arith, low) }
 
-  pub written_back : (alg : Alg) (good : Meaning) (parts : Parts) → IfSome o.kid IsUtf8 → IfSome o.typ IsUtf8 → IsWritten (maker_of seed) o alg good p g parts → IsReadBack o alg p g parts
-  written_back alg good parts kid typ written = record {
-    header = header_back parts.signed.protected (header_of alg o) written.protected (text_utf8 alg) kid typ;
+  pub written_back : (alg : Text) (good : Meaning) (parts : Parts) → IsUtf8 alg → IfSome o.kid IsUtf8 → IfSome o.typ IsUtf8 → IsWritten (maker_of seed) o alg good p g parts → IsReadBack o alg p g parts
+  written_back alg good parts named kid typ written = record {
+    header = header_back parts.signed.protected (header_of alg o) written.protected named kid typ;
     body = body_of_object parts.signed.payload (with_alg o.hash p) (with_alg_object o.hash p (is_object seed o p g good_order issued)) (body_carried parts.signed.payload written.body);
     disclosures = subst (λ (ds : List Text). AllZip (λ (d : Text) (x : Given). (salt : Tree) × IsDisclosure d salt x.name x.value) ds g) (sym written.disclosures) (salts_back seed 0 g can_be_read);
   }

@@ -19,6 +19,7 @@ use Rattle.digest_sites.specs.Given.{Given}
 use Rattle.disclosure.specs.Digest.{digest_of}
 use Rattle.disclosure.specs.Disclosure.{array_of, disclosure_text}
 use Rattle.disclosure.specs.declared.digests.HashAlg.{HashAlg}
+use Rattle.hmac_sign.specs.Algs.{alg_text}
 use Rattle.hmac_sign.specs.CodeLengths.{code_length}
 use Rattle.hmac_sign.specs.Hmac.{AlgKey, IsGood, mac}
 use Rattle.hmac_sign.specs.declared.alg.Alg.{Alg}
@@ -115,7 +116,7 @@ code_bounds Alg.Hs512 = (omega arith, omega arith)
 
 module _ (key : AlgKey) (o : Order) (payload : Tree) (given : List Given) where
   abbrev pub head : Text
-  head = json_text (object (header_members (header_of key.alg o)))
+  head = json_text (object (header_members (header_of (alg_text key.alg) o)))
 
   abbrev pub body : Text
   body = json_text (with_alg o.hash payload)
@@ -130,7 +131,7 @@ module _ (key : AlgKey) (o : Order) (payload : Tree) (given : List Given) where
     binding = None;
   }
 
-  pub written : IsWritten (maker_of seed) o key.alg (IsGood key) payload given token
+  pub written : IsWritten (maker_of seed) o (alg_text key.alg) (IsGood key) payload given token
   written = record { protected = refl; body = refl; signature = code; signature_text = refl; signed = refl; disclosures = refl; unbound = refl }
 
   pub words : 0 < length head → 0 < length body → AllByRecursion IsWord token.disclosures → AreWords token

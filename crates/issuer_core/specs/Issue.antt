@@ -5,7 +5,6 @@ use Rattle.sd_outside.specs.Limits.{issue_max}
 use Rattle.compact_form.specs.declared.parts.Parts.{Parts}
 use Rattle.compact_form.specs.Compact.{compact}
 use Rattle.hmac_sign.specs.Signatures.{Meaning}
-use Rattle.hmac_sign.specs.declared.alg.Alg.{Alg}
 use Rattle.digest_sites.specs.Given.{Given}
 use Rattle.issuer_core.specs.declared.errors.IssueError.{IssueError}
 use Rattle.issuer_core.specs.declared.errors.IssueError.TheVariants.{DigestClash, TooLong}
@@ -33,13 +32,13 @@ abbrev pub HasNoClash : Maker → Order → Type 0
 HasNoClash maker o = (i j : ℕ) → ClashesAt maker o i j → ⊥
 
 -- what is laid for the order is too long with some good signature
-pub record IsIssueTooLong (maker : Maker) (o : Order) (alg : Alg) (good : Meaning) : Type 0 where
+pub record IsIssueTooLong (maker : Maker) (o : Order) (alg : Text) (good : Meaning) : Type 0 where
   pub parts : Parts
   pub laid : IsLaidOut maker o alg good parts
   pub long : issue_max < length (compact parts)
 
 -- what each refusal says, where none with a lower number applies
-abbrev pub AppliesToIssue : Maker → Order → Alg → Meaning → IssueError → Type 0
+abbrev pub AppliesToIssue : Maker → Order → Text → Meaning → IssueError → Type 0
 AppliesToIssue maker o alg good (DigestClash i j) = ClashesAt maker o i j
 AppliesToIssue maker o alg good TooLong = IsIssueTooLong maker o alg good
 AppliesToIssue maker o alg good error = AppliesToOrder o error

@@ -2,7 +2,6 @@
 use Rattle.std.specs.Prelude.{◌≡◌, ℕ, ◌<◌}
 use Rattle.claim_tree.specs.Tree.{Text}
 use Rattle.hmac_sign.specs.Signatures.{Meaning}
-use Rattle.hmac_sign.specs.declared.alg.Alg.{Alg}
 use Rattle.hmac_sign.specs.declared.sign.SignError.{SignError}
 use Rattle.issuer_core.specs.declared.errors.IssueError.{IssueError}
 use Rattle.issuer_core.specs.declared.errors.IssueError.TheVariants.{Memory, SignFailed}
@@ -23,7 +22,7 @@ pub record IsToBeSigned (maker : Maker) (o : Order) : Type 0 where
 
 -- why an order is not issued: by the lowest refusal that applies, or a signer failed where none of 51 to 60 does; want of memory
 -- says nothing of it
-abbrev pub IsNotIssued : Maker → Order → Alg → Meaning → IssueError → Type 0
+abbrev pub IsNotIssued : Maker → Order → Text → Meaning → IssueError → Type 0
 IsNotIssued maker o alg good Memory = Unit {0}
 IsNotIssued maker o alg good SignFailed = IsToBeSigned maker o
 IsNotIssued maker o alg good error = IsLowestRefusal (AppliesToIssue maker o alg good) error

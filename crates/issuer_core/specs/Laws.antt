@@ -10,7 +10,9 @@ use Rattle.rebuild_core.specs.Laws.{Enumerates, IsPick}
 use Rattle.rebuild_core.specs.Readable.{IsReadable}
 use Rattle.rebuild_core.specs.Opening.{processed}
 use Rattle.issuer_core.specs.Order.{Order}
-use Rattle.issuer_core.specs.GoodOrder.{IsGoodOrder}
+use Rattle.issuer_core.specs.GoodOrder.{IsGoodOrder, IsWritable}
+use Rattle.issuer_core.specs.ToSign.{IsToSign, IsTokenWith}
+use Rattle.issuer_core.specs.declared.unsigned_token.UnsignedToken.{UnsignedToken}
 use Rattle.issuer_core.specs.ShortLists.{HasShortLists}
 use Rattle.issuer_core.specs.Decoys.{decoys_of}
 use Rattle.issuer_core.specs.Digests.{Maker, marked_claims, hidden_of}
@@ -22,9 +24,9 @@ use Rattle.issuer_core.specs.Written.{IsIssued, IsLaidOut}
 use Rattle.compact_form.specs.Lowest.{NoneApplies}
 use Rattle.issuer_core.specs.OrderRefusals.{AppliesToOrder}
 use Rattle.compact_form.specs.declared.parts.Parts.{Parts}
+use Rattle.hmac_sign.specs.Algs.{alg_text}
 use Rattle.hmac_sign.specs.Hmac.{AlgKey, IsGood}
 use Rattle.hmac_sign.specs.Signatures.{Meaning}
-use Rattle.hmac_sign.specs.declared.alg.Alg.{Alg}
 
 abbrev pub LaidIsIssued : Type 0
 LaidIsIssued =
@@ -33,11 +35,18 @@ LaidIsIssued =
     → IsLaid maker o p given dg → AllDiffer dg (hidden_of o + length (decoys_of o)) → IsIssuedFor maker o p given
 
 -- the same of the parts with a good signature, for an order that nothing of 51 to 59 refuses and whose claims are a JSON value
-abbrev pub PartsAreIssued : Alg → Meaning → Type 0
+abbrev pub PartsAreIssued : Text → Meaning → Type 0
 PartsAreIssued alg good =
     (maker : Maker) (o : Order) (parts : Parts)
     → NoneApplies (AppliesToOrder o) → IsOrdered o.payload → IsRanged o.payload → HasShortLists o.payload
     → (laid : IsLaidOut maker o alg good parts) → AllDiffer laid.digests (hidden_of o + length (decoys_of o)) → IsIssued maker o alg good parts
+
+-- the same of what is to be signed, with a good signature, for an order that can be written
+abbrev pub SignedIsIssued : Text → Meaning → Type 0
+SignedIsIssued alg good =
+    (maker : Maker) (o : Order) (token : UnsignedToken) (signature : List ℕ) (parts : Parts)
+    → IsWritable o → IsToSign maker o alg token → IsTokenWith token signature parts
+    → good token.jwt.protected token.jwt.payload signature → IsIssued maker o alg good parts × IsLaidOut maker o alg good parts
 
 abbrev pub LaidIsReadable : Type 0
 LaidIsReadable =
@@ -65,4 +74,4 @@ IssuedIsShown =
 abbrev pub OneToken : Type 0
 OneToken =
     (seed : List ℕ) (o : Order) (key : AlgKey) (parts other : Parts)
-    → IsLaidOut (maker_of seed) o key.alg (IsGood key) parts → IsLaidOut (maker_of seed) o key.alg (IsGood key) other → parts ≡ other
+    → IsLaidOut (maker_of seed) o (alg_text key.alg) (IsGood key) parts → IsLaidOut (maker_of seed) o (alg_text key.alg) (IsGood key) other → parts ≡ other

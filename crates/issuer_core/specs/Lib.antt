@@ -15,10 +15,12 @@ pub mod Written
 pub mod Issue
 pub mod Closing
 pub mod OrderFile
+pub mod UnsignedOrder
 pub mod Seed
 pub mod Laying
 pub mod IssueCalls
 pub mod IssueSteps
+pub mod ToSign
 pub mod JudgeCalls
 pub mod SaltSteps
 pub mod ShortLists

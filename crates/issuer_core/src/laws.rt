@@ -3,8 +3,10 @@ ghost use Rattle.std.specs.Prelude.{◌≡◌, ◌≢◌, ℕ, List};
 ghost use Rattle.claim_tree.specs.declared.file_fault.FileFault.{FileFault};
 ghost use Rattle.issuer_core.specs.Order.{order_of};
 ghost use Rattle.issuer_core.specs.OrderFile.{IsOrderFile, IsOrderFileRefused};
+ghost use Rattle.issuer_core.specs.UnsignedOrder.{IsUnsignedOrderFile, IsUnsignedOrderRefused};
+ghost use Rattle.issuer_core.specs.declared.order.Order as code;
 ghost use Rattle.issuer_core.specs.declared.order_file.IssueFile.{IssueFile};
-ghost use Rattle.issuer_core.specs.Laws.{LaidIsIssued, PartsAreIssued, LaidIsReadable, IssuedIsSound, IssuedIsShown, OneToken};
+ghost use Rattle.issuer_core.specs.Laws.{LaidIsIssued, PartsAreIssued, SignedIsIssued, LaidIsReadable, IssuedIsSound, IssuedIsShown, OneToken};
 
 use hmac_sign::Signer;
 
@@ -17,6 +19,14 @@ pub fn one_order()
         → fault ≢ FileFault.Memory → other ≢ FileFault.Memory → fault ≡ other }
 {}
 
+/// The same of a file without a key, for who signs elsewhere.
+pub fn one_unsigned_order()
+    ensures one { (bytes : List ℕ) (order other : code.Order) → IsUnsignedOrderFile bytes order → IsUnsignedOrderFile bytes other → order_of order ≡ order_of other }
+    ensures not_both { (bytes : List ℕ) (order : code.Order) (fault : FileFault) → IsUnsignedOrderFile bytes order → IsUnsignedOrderRefused bytes fault → fault ≡ FileFault.Memory }
+    ensures one_fault { (bytes : List ℕ) (fault other : FileFault) → IsUnsignedOrderRefused bytes fault → IsUnsignedOrderRefused bytes other
+        → fault ≢ FileFault.Memory → other ≢ FileFault.Memory → fault ≡ other }
+{}
+
 /// Where the digests all differ, what is laid for a good order is issued for it.
 pub fn laid_is_issued()
     ensures { LaidIsIssued }
@@ -25,7 +35,13 @@ pub fn laid_is_issued()
 /// The same of the parts, with a signature that is good by the meaning of whoever signs: where the digests all differ,
 /// the parts of what is laid for an order that nothing of 51 to 59 refuses are issued for it.
 pub fn parts_are_issued<S: Signer>()
-    ensures { (signer : S) → PartsAreIssued (S.alg_of signer) (S.good signer) }
+    ensures { (signer : S) → PartsAreIssued (S.alg_name_of signer) (S.good signer) }
+{}
+
+/// The same in two steps: what is to be signed for an order that can be written is issued for it, once a signature that is
+/// good by the meaning of whoever signs is put to it.
+pub fn signed_is_issued<S: Signer>()
+    ensures { (signer : S) → SignedIsIssued (S.alg_name_of signer) (S.good signer) }
 {}
 
 /// The members of each object that is laid ascend by the bytes of their names.

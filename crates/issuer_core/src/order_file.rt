@@ -15,6 +15,7 @@ ghost use Rattle.hmac_sign.specs.Hmac.{alg_key};
 ghost use Rattle.hmac_sign.specs.declared.alg.Alg.{Alg};
 ghost use Rattle.issuer_core.specs.declared.order.Decoy.{Decoy as Seen};
 ghost use Rattle.issuer_core.specs.OrderFile.{IsValue, IsDecoy, IsHashText, IsAlgText, IsAlgFor, IsOrderFile, IsOrderFileRefused};
+ghost use Rattle.issuer_core.specs.UnsignedOrder.{IsUnsignedOrderFile, IsUnsignedOrderRefused};
 
 use crate::{Decoy, DecoyList, Order};
 use claim_tree::{
@@ -35,6 +36,16 @@ const FIELDS: [Field; 8] = [
     Field::Kid,
     Field::Typ,
     Field::Alg,
+    Field::SdAlg,
+];
+
+// Those of an order that someone else signs.
+const UNSIGNED_FIELDS: [Field; 6] = [
+    Field::Payload,
+    Field::Hide,
+    Field::Decoys,
+    Field::Kid,
+    Field::Typ,
     Field::SdAlg,
 ];
 
@@ -214,4 +225,30 @@ pub fn read_order(alloc: Global, bytes: &[u8]) -> Result<IssueFile, FileFault>
         hash,
     };
     Ok(IssueFile { order, key })
+}
+
+/// The order that a file says for who signs elsewhere: as [`read_order`] reads it, but `key` and `alg` are faults, since
+/// whoever signs has the key and names its algorithm.
+pub fn read_unsigned_order(alloc: Global, bytes: &[u8]) -> Result<Order, FileFault>
+    ensures ok { IfOk result (IsUnsignedOrderFile bytes.now) }
+    ensures ordered { IfOk result (λ order. IsOrdered (tree_of order.payload)) }
+    ensures depth { IfOk result (λ order. depth_of (tree_of order.payload) ≤ 126) }
+    ensures counts { IfOk result (λ order. (entry : Seen) → In entry order.decoys → entry.count ≤ count_max) }
+    ensures refused { IfErr result (IsUnsignedOrderRefused bytes.now) }
+{
+    let members = read_members(alloc, bytes, FILE_MAX, &UNSIGNED_FIELDS)?;
+    need_payload(&members)?;
+    let hide = pointer_list_member(alloc, &members, Field::Hide)?;
+    let decoys = decoys_member(alloc, &members)?;
+    let kid = text_member(alloc, &members, Field::Kid)?;
+    let typ = text_member(alloc, &members, Field::Typ)?;
+    let hash = hash_member(&members)?;
+    Ok(Order {
+        payload: into_payload(members),
+        hide,
+        decoys,
+        kid,
+        typ,
+        hash,
+    })
 }

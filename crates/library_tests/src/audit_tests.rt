@@ -20,7 +20,7 @@ fn told(alloc: Global, hide: &str) -> Result<(Option<AuditError>, u64), Fail> {
     let found = audit(
         alloc,
         &order,
-        Alg::Hs256,
+        Alg::Hs256.name(),
         &key,
         TOKEN.as_bytes(),
         &mut steps,

@@ -37,7 +37,7 @@ pub record Takes (o : Order) (key : AlgKey) (keys : List NamedKey) (algs : List 
 
 -- the parts are signed so, and carry this payload and these disclosures
 pub record CarriesFor (o : Order) (key : AlgKey) (p : Tree) (g : List Given) (parts : Parts) : Type 0 where
-  pub header : IsHeader parts.signed.protected no_members (header_of key.alg o)
+  pub header : IsHeader parts.signed.protected no_members (header_of (alg_text key.alg) o)
   pub signature : List ℕ
   pub signature_text : parts.signed.signature ≡ b64 signature
   pub good : IsGood key parts.signed.protected parts.signed.payload signature
@@ -56,7 +56,7 @@ module _ (o : Order) (key : AlgKey) (p : Tree) (g : List Given) (parts : Parts) 
       let bytes : AreBytes carries.signature = subst AreBytes (sym carries.good) (AreBytes-mac key parts.signed.protected parts.signed.payload) in
       let good : IsGoodText key parts.signed.protected parts.signed.payload parts.signed.signature = (carries.signature, record { fit = bytes; spelling = carries.signature_text }, carries.good) in
       let signed : IsSigned parts.signed no_members rules = record {
-        header = header_of key.alg o;
+        header = header_of (alg_text key.alg) o;
         is_header = carries.header;
         alg = taken;
         typ = typed;
@@ -66,7 +66,7 @@ module _ (o : Order) (key : AlgKey) (p : Tree) (g : List Given) (parts : Parts) 
       let at_payload = payload_passes (alone parts) rules (with_alg o.hash p) o.hash (signed_passes (alone parts) rules signed) carries.body carries.hash in
       content_checked (alone parts) rules p g (processed p g) content (given_passes (alone parts) rules o.hash g at_payload carries.texts) sound refl
     where
-      found : key_for keys (header_of key.alg o) ≡ Some key
+      found : key_for keys (header_of (alg_text key.alg) o) ≡ Some key
       found = ap (option_and_then (picked_key keys o.kid)) (sym (of_its_text key.alg)) ∙ takes.finds
 
       taken : IsAlgRefused algs (alg_text key.alg) → ⊥

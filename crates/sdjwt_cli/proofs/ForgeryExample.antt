@@ -4,6 +4,7 @@ use Rattle.claim_tree.specs.Lists.{In}
 use Rattle.claim_tree.specs.Tree.{Text}
 use Rattle.compact_form.specs.declared.parts.Parts.{Parts}
 use Rattle.compact_form.specs.Compact.{compact}
+use Rattle.hmac_sign.specs.Algs.{alg_text}
 use Rattle.hmac_sign.specs.Hmac.{IsGood}
 use Rattle.json_form.specs.Alone.{alone}
 use Rattle.json_form.specs.Token.{IsToken}
@@ -71,5 +72,5 @@ none_collides disclosure there out stands = out (sent_issued disclosure there)
 -- so the law says of it what it says
 holds : IsChoiceOf (marked_claims order) parts.disclosures sent.disclosures accepted.0
 holds =
-    no_forgery_holds issuer_key.alg (IsGood issuer_key) seed order parts issued.passes issued.writable.good.ordered (utf8_bytes order.payload (held_utf8 order.payload issued.writable.held)) issued.issued
+    no_forgery_holds (alg_text issuer_key.alg) (IsGood issuer_key) seed order parts issued.passes issued.writable.good.ordered (utf8_bytes order.payload (held_utf8 order.payload issued.writable.held)) issued.issued
     (compact sent) (alone sent) is_text refl policy 1300 accepted.0 accepted.1 none_collides

@@ -9,6 +9,7 @@ use Rattle.compact_form.specs.Compact.{compact, AreWords}
 use Rattle.compact_form.specs.Lowest.{NoneApplies}
 use Rattle.claim_tree.specs.Lists.{In}
 use Rattle.claim_tree.proofs.Counting.{not_below}
+use Rattle.hmac_sign.proofs.AlgNames.{text_utf8}
 use Rattle.hmac_sign.specs.Algs.{alg_text, algs}
 use Rattle.hmac_sign.specs.CodeLengths.{code_length}
 use Rattle.hmac_sign.specs.Hmac.{AlgKey, IsGood}
@@ -55,7 +56,7 @@ some_code Alg.Hs512 = omega arith
 pub record IsTokenOf (seed : List ℕ) (o : Order) (key : AlgKey) (parts : Parts) : Type 0 where
   pub passes : NoneApplies (AppliesToOrder o)
   pub good : IsGoodOrder o
-  pub has : HasIssued seed o key.alg (IsGood key) parts
+  pub has : HasIssued seed o (alg_text key.alg) (IsGood key) parts
   pub words : AreWords parts
   pub few : length parts.disclosures ≤ count_max
   pub short : length (compact parts) ≤ issue_max
@@ -64,13 +65,13 @@ module _ (seed : List ℕ) (o : Order) (key : AlgKey) (parts : Parts) (is : IsIs
   good_of : IsGoodOrder o
   good_of = good_order o (λ error h. absurd (is.passes error h)) is.ordered
 
-  has_of : HasIssued seed o key.alg (IsGood key) parts
-  has_of = has_issued seed o key.alg (IsGood key) parts good_of is.texts is.kid is.typ is.issued
+  has_of : HasIssued seed o (alg_text key.alg) (IsGood key) parts
+  has_of = has_issued seed o (alg_text key.alg) (IsGood key) parts good_of (text_utf8 key.alg) is.texts is.kid is.typ is.issued
 
   few_of : length parts.disclosures ≤ count_max
   few_of =
       let texts = AllZip-long (IsTextOf o.hash) parts.disclosures has_of.given has_of.texts in
-      let low = issued_nodes seed o key.alg (IsGood key) parts good_of is.issued in
+      let low = issued_nodes seed o (alg_text key.alg) (IsGood key) parts good_of is.issued in
       let places = hidden_count_is o is.passes is.ordered (few_short o.payload (omega (arith, low, is.short))) in
       let most = not_below (distinct_count same_path o.hide) count_max (is.passes TooManyHidden) in
       omega (arith, texts, has_of.issued.count, places, most)
@@ -79,7 +80,7 @@ module _ (seed : List ℕ) (o : Order) (key : AlgKey) (parts : Parts) (is : IsIs
   token_of =
       let w = is.issued.written in
       let some : 0 < length w.signature = omega (arith, ap length w.signed, length-mac key parts.signed.protected parts.signed.payload, some_code key.alg) in
-      record { passes = is.passes; good = good_of; has = has_of; words = issued_words seed o key.alg (IsGood key) parts good_of is.issued some; few = few_of; short = is.short }
+      record { passes = is.passes; good = good_of; has = has_of; words = issued_words seed o (alg_text key.alg) (IsGood key) parts good_of is.issued some; few = few_of; short = is.short }
 
 -- what `issue` answers is issued so
 pub by_anyone : (seed : List ℕ) (o : Order) (key : AlgKey) (parts : Parts) → IsIssuedBy seed o key parts → IsIssuedByAnyone seed o key parts
@@ -93,7 +94,7 @@ by_anyone seed o key parts is = record {
   typ = is.writable.typ;
 }
 
-pub carries_issued : (seed : List ℕ) (o : Order) (key : AlgKey) (parts : Parts) (has : HasIssued seed o key.alg (IsGood key) parts) → CarriesFor o key has.payload has.given parts
+pub carries_issued : (seed : List ℕ) (o : Order) (key : AlgKey) (parts : Parts) (has : HasIssued seed o (alg_text key.alg) (IsGood key) parts) → CarriesFor o key has.payload has.given parts
 carries_issued seed o key parts has = record {
   header = has.back.header;
   signature = has.written.signature;

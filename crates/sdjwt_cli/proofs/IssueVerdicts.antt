@@ -2,6 +2,7 @@
 use Rattle.std.proofs.Common.{◌≡◌, ℕ, List, ap, ◌∙◌, sym, subst, arith}
 use Rattle.compact_form.specs.declared.parts.Parts.{Parts}
 use Rattle.compact_form.specs.Compact.{compact}
+use Rattle.hmac_sign.specs.Algs.{alg_text}
 use Rattle.hmac_sign.specs.Hmac.{AlgKey, IsGood}
 use Rattle.issuer_core.specs.declared.errors.IssueError.{IssueError}
 use Rattle.issuer_core.specs.Order.{Order}
@@ -36,20 +37,20 @@ module _ (order_file seed_file : List ℕ) (o p : Order) (key other : AlgKey) (s
 
 printed : (order seed : List ℕ) (a b : List ℕ) → Issues order seed a → Issues order seed b → a ≡ b
 printed order seed a b g h =
-    let laid : IsLaidOut (maker_of h.seed) h.order h.key.alg (IsGood h.key) g.parts =
-    carried order seed g.order h.order g.key h.key g.seed h.seed g.asked h.asked (λ (o : Order) (k : AlgKey) (s : List ℕ). IsLaidOut (maker_of s) o k.alg (IsGood k) g.parts) g.answered.laid in
+    let laid : IsLaidOut (maker_of h.seed) h.order (alg_text h.key.alg) (IsGood h.key) g.parts =
+    carried order seed g.order h.order g.key h.key g.seed h.seed g.asked h.asked (λ (o : Order) (k : AlgKey) (s : List ℕ). IsLaidOut (maker_of s) o (alg_text k.alg) (IsGood k) g.parts) g.answered.laid in
     g.line_is ∙ (ap (λ (parts : Parts). line (compact parts)) (one_token (maker_of h.seed) h.order h.key g.parts h.parts laid h.answered.laid) ∙ sym h.line_is)
 
 refused : (order seed : List ℕ) (a b : List ℕ) → DoesNotIssue order seed a → DoesNotIssue order seed b → a ≡ b
 refused order seed a b g h =
-    let lowest : IsLowestRefusal (AppliesToIssue (maker_of h.seed) h.order h.key.alg (IsGood h.key)) g.refused.error =
-    carried order seed g.order h.order g.key h.key g.seed h.seed g.asked h.asked (λ (o : Order) (k : AlgKey) (s : List ℕ). IsLowestRefusal (AppliesToIssue (maker_of s) o k.alg (IsGood k)) g.refused.error) g.refused.lowest in
-    g.refused.line_is ∙ (ap (λ (error : IssueError). line (issue_refusal_text error)) (one_refusal (maker_of h.seed) h.order h.key.alg (IsGood h.key) g.refused.error h.refused.error lowest h.refused.lowest) ∙ sym h.refused.line_is)
+    let lowest : IsLowestRefusal (AppliesToIssue (maker_of h.seed) h.order (alg_text h.key.alg) (IsGood h.key)) g.refused.error =
+    carried order seed g.order h.order g.key h.key g.seed h.seed g.asked h.asked (λ (o : Order) (k : AlgKey) (s : List ℕ). IsLowestRefusal (AppliesToIssue (maker_of s) o (alg_text k.alg) (IsGood k)) g.refused.error) g.refused.lowest in
+    g.refused.line_is ∙ (ap (λ (error : IssueError). line (issue_refusal_text error)) (one_refusal (maker_of h.seed) h.order (alg_text h.key.alg) (IsGood h.key) g.refused.error h.refused.error lowest h.refused.lowest) ∙ sym h.refused.line_is)
 
 printed_not_refused : (order seed : List ℕ) (a b : List ℕ) → Issues order seed a → DoesNotIssue order seed b → ⊥
 printed_not_refused order seed a b g h =
-    let lowest : IsLowestRefusal (AppliesToIssue (maker_of g.seed) g.order g.key.alg (IsGood g.key)) h.refused.error =
-    carried order seed h.order g.order h.key g.key h.seed g.seed h.asked g.asked (λ (o : Order) (k : AlgKey) (s : List ℕ). IsLowestRefusal (AppliesToIssue (maker_of s) o k.alg (IsGood k)) h.refused.error) h.refused.lowest in
+    let lowest : IsLowestRefusal (AppliesToIssue (maker_of g.seed) g.order (alg_text g.key.alg) (IsGood g.key)) h.refused.error =
+    carried order seed h.order g.order h.key g.key h.seed g.seed h.asked g.asked (λ (o : Order) (k : AlgKey) (s : List ℕ). IsLowestRefusal (AppliesToIssue (maker_of s) o (alg_text k.alg) (IsGood k)) h.refused.error) h.refused.lowest in
     issued_not_refused (maker_of g.seed) g.order g.key g.parts g.answered.passes g.answered.differ g.answered.laid g.answered.short h.refused.error lowest.applies
 
 -- what is asked for is of its form

@@ -7,8 +7,8 @@ use Rattle.cli_parts.specs.Stops.{OnUnreadable}
 use Rattle.cli_parts.specs.Telling.{TellsFileFault}
 use Rattle.cli_parts.specs.declared.stop.Stop.{Stop}
 use Rattle.cli_parts.specs.declared.stop.Stop.TheVariants as stop
+use Rattle.claim_tree.specs.Tree.{Text}
 use Rattle.hmac_sign.specs.Signatures.{Meaning}
-use Rattle.hmac_sign.specs.declared.alg.Alg.{Alg}
 use Rattle.issuer_core.specs.declared.errors.IssueError.{IssueError}
 use Rattle.issuer_core.specs.declared.errors.IssueError.TheVariants.{Memory, SignFailed}
 use Rattle.issuer_core.specs.declared.order_file.IssueFile.{IssueFile}
@@ -38,7 +38,7 @@ pub never : Rose 0 0 → ⊥
 never h = omega (arith, h)
 
 -- beside want of memory and a signer that fails an error is a refusal
-module _ (maker : Maker) (o : Order) (alg : Alg) (good : Meaning) where
+module _ (maker : Maker) (o : Order) (alg : Text) (good : Meaning) where
   pub lowest : (error : IssueError) → error ≢ Memory → error ≢ SignFailed → IsNotIssued maker o alg good error → IsLowestRefusal (AppliesToIssue maker o alg good) error
   lowest Memory memory failed h = absurd (memory refl)
   lowest SignFailed memory failed h = absurd (failed refl)

@@ -10,7 +10,6 @@ use Rattle.compact_form.specs.declared.parts.Parts.{Parts}
 use Rattle.digest_sites.specs.Given.{Given}
 use Rattle.disclosure.specs.declared.digests.HashAlg.{HashAlg}
 use Rattle.hmac_sign.specs.Signatures.{Meaning}
-use Rattle.hmac_sign.specs.declared.alg.Alg.{Alg}
 use Rattle.json_form.specs.Token.{IsToken}
 use Rattle.json_form.specs.declared.token.Token.{Token}
 use Rattle.json_form.proofs.Tokens as tokens
@@ -135,7 +134,7 @@ module _ (maker : Maker) (o : Order) (parts : Parts) (p : Tree) (g : List Given)
     shows = ap strip (opens.3 ∙ ap (λ t. processed t h) same_payload) ∙ honest.shows;
   }
 
-pub no_forgery_holds : (alg : Alg) (good : Meaning) → NoForgery alg good
+pub no_forgery_holds : (alg : Text) (good : Meaning) → NoForgery alg good
 no_forgery_holds alg good seed o parts none ordered bytes is text token is_token same_signed policy now marked accepted collides =
     let fine = good_order o (λ error h. absurd (none error h)) ordered in
     choice_of (maker_of seed) o parts is.payload is.given fine is.issued (read_only_as seed o alg good is.payload is.given parts fine bytes is.issued is.written)

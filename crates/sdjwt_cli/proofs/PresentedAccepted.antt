@@ -12,6 +12,7 @@ use Rattle.compact_form.specs.declared.condition.Condition.{Condition}
 use Rattle.compact_form.specs.Lowest.{NoneFails}
 use Rattle.digest_sites.specs.Given.{Given}
 use Rattle.disclosure.specs.declared.digests.HashAlg.{HashAlg}
+use Rattle.hmac_sign.specs.Algs.{alg_text}
 use Rattle.hmac_sign.specs.Hmac.{AlgKey, hs256_key, IsGood}
 use Rattle.hmac_sign.specs.Keys.{key_named}
 use Rattle.jws_part.specs.Header.{IsHeader}
@@ -91,7 +92,7 @@ module _ (seed : List ℕ) (o : Order) (key : AlgKey) (parts : Parts) (is : IsTo
       let carries = carries_issued seed o key parts is.has in
       let same = presented.presents.signed in
       record {
-        header = subst (λ (j : JwtParts). IsHeader j.protected no_members (header_of key.alg o)) (sym same) carries.header;
+        header = subst (λ (j : JwtParts). IsHeader j.protected no_members (header_of (alg_text key.alg) o)) (sym same) carries.header;
         signature = carries.signature;
         signature_text = ap (λ (j : JwtParts). j.signature) same ∙ carries.signature_text;
         good = subst (λ (j : JwtParts). IsGood key j.protected j.payload carries.signature) (sym same) carries.good;

@@ -4,6 +4,7 @@ use Rattle.claim_tree.specs.Tree.{Tree}
 use Rattle.compact_form.specs.declared.parts.Parts.{Parts}
 use Rattle.compact_form.specs.Compact.{compact}
 use Rattle.digest_sites.specs.Given.{Given}
+use Rattle.hmac_sign.specs.Algs.{alg_text}
 use Rattle.hmac_sign.specs.Hmac.{AlgKey, IsGood}
 use Rattle.verifier_core.specs.Verdict.{HasContent}
 use Rattle.verifier_core.proofs.CheckSteps.{one_content}
@@ -42,7 +43,7 @@ module _ (n : ℕ) where
 
   refused : (a b : List ℕ) → DoesNotSummarize n a → DoesNotSummarize n b → a ≡ b
   refused a b g h =
-      g.line_is ∙ (ap (λ (error : IssueError). line (issue_refusal_text error)) (one_refusal (maker_of generated_seed) (generated n) generated_key.alg (IsGood generated_key) g.error h.error g.lowest h.lowest) ∙ sym h.line_is)
+      g.line_is ∙ (ap (λ (error : IssueError). line (issue_refusal_text error)) (one_refusal (maker_of generated_seed) (generated n) (alg_text generated_key.alg) (IsGood generated_key) g.error h.error g.lowest h.lowest) ∙ sym h.line_is)
 
   not_both : (a b : List ℕ) → Summarizes n a → DoesNotSummarize n b → ⊥
   not_both a b g h =

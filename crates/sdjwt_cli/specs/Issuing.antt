@@ -4,6 +4,7 @@ use Rattle.claim_tree.specs.declared.file_fault.FileFault.{FileFault}
 use Rattle.sd_outside.specs.Limits.{count_max, issue_max, seed_len}
 use Rattle.compact_form.specs.declared.parts.Parts.{Parts}
 use Rattle.compact_form.specs.Compact.{compact, AreWords}
+use Rattle.hmac_sign.specs.Algs.{alg_text}
 use Rattle.hmac_sign.specs.Hmac.{AlgKey, IsGood}
 use Rattle.issuer_core.specs.declared.errors.IssueError.{IssueError}
 use Rattle.issuer_core.specs.declared.order_file.IssueFile.{IssueFile}
@@ -26,8 +27,8 @@ pub record IsAsked (order_file seed_file : List ℕ) (order : Order) (key : AlgK
 
 -- what an issuer with this key answers for an order and a seed: the parts are issued, and none of the refusals applies
 pub record IsIssuedBy (seed : List ℕ) (order : Order) (key : AlgKey) (parts : Parts) : Type 0 where
-  pub issued : IsIssued (maker_of seed) order key.alg (IsGood key) parts
-  pub laid : IsLaidOut (maker_of seed) order key.alg (IsGood key) parts
+  pub issued : IsIssued (maker_of seed) order (alg_text key.alg) (IsGood key) parts
+  pub laid : IsLaidOut (maker_of seed) order (alg_text key.alg) (IsGood key) parts
   pub passes : NoneApplies (AppliesToOrder order)
   pub differ : HasNoClash (maker_of seed) order
   pub writable : IsWritable order
@@ -48,7 +49,7 @@ pub record Issues (order_file seed_file answer : List ℕ) : Type 0 where
 -- the lowest refusal that applies to the order, with its line
 pub record TellsRefusal (seed : List ℕ) (order : Order) (key : AlgKey) (text : List ℕ) : Type 0 where
   pub error : IssueError
-  pub lowest : IsLowestRefusal (AppliesToIssue (maker_of seed) order key.alg (IsGood key)) error
+  pub lowest : IsLowestRefusal (AppliesToIssue (maker_of seed) order (alg_text key.alg) (IsGood key)) error
   pub line_is : text ≡ line (issue_refusal_text error)
 
 -- what is asked for is refused

@@ -9,7 +9,6 @@ use Rattle.compact_form.specs.declared.parts.Parts.{Parts}
 use Rattle.compact_form.specs.Lowest.{NoneApplies}
 use Rattle.disclosure.specs.Digest.{digest_of}
 use Rattle.hmac_sign.specs.Signatures.{Meaning}
-use Rattle.hmac_sign.specs.declared.alg.Alg.{Alg}
 use Rattle.json_form.specs.Token.{IsToken}
 use Rattle.json_form.specs.declared.token.Token.{Token}
 use Rattle.marked_tree.specs.Closed.{IsClosed}
@@ -51,7 +50,7 @@ ShowsIssued maker o parts =
 
 -- the parts are issued, by whoever makes these good signatures, for an order that nothing of 51 to 59 refuses, and whose
 -- claims are a JSON value, each text and each name of which is a list of bytes, as texts are
-abbrev pub NoForgery : Alg → Meaning → Type 0
+abbrev pub NoForgery : Text → Meaning → Type 0
 NoForgery alg good =
     (seed : List ℕ) (o : Order) (parts : Parts)
     → NoneApplies (AppliesToOrder o) → IsOrdered o.payload → EachText AreBytes o.payload → IsIssued (maker_of seed) o alg good parts → ShowsIssued (maker_of seed) o parts

@@ -5,6 +5,7 @@ use Rattle.claim_tree.specs.Tree.{Tree, IsOrdered}
 use Rattle.compact_form.specs.declared.parts.Parts.{Parts}
 use Rattle.compact_form.specs.Compact.{compact}
 use Rattle.compact_form.specs.Lowest.{NoneApplies}
+use Rattle.hmac_sign.specs.Algs.{alg_text}
 use Rattle.hmac_sign.specs.Hmac.{AlgKey, hs256_key, IsGood}
 use Rattle.json_form.specs.Token.{IsToken}
 use Rattle.selection_core.specs.Consent.{RuleAnswers}
@@ -42,7 +43,7 @@ pub record IsShownOf {F : Type 0} (answers : RuleAnswers F) (rule : F) (parts : 
 -- the parts are issued by whoever signs with this key, however they are laid out, for an order that nothing of 51 to 59 refuses,
 -- and leave the room of 61 for a key binding token
 pub record IsIssuedByAnyone (seed : List ℕ) (o : Order) (key : AlgKey) (parts : Parts) : Type 0 where
-  pub issued : IsIssued (maker_of seed) o key.alg (IsGood key) parts
+  pub issued : IsIssued (maker_of seed) o (alg_text key.alg) (IsGood key) parts
   pub passes : NoneApplies (AppliesToOrder o)
   pub short : length (compact parts) ≤ issue_max
   -- the order is as a machine holds it

@@ -63,5 +63,5 @@ pub fn presented()
 /// above, and shows the claims without the places of the others. The premise is that no disclosure that was not issued
 /// has the digest of one that was, or of a decoy.
 pub fn no_forgery<S: Signer>()
-    ensures { (signer : S) → NoForgery (S.alg_of signer) (S.good signer) }
+    ensures { (signer : S) → NoForgery (S.alg_name_of signer) (S.good signer) }
 {}

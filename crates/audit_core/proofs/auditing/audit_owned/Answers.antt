@@ -19,10 +19,10 @@ pub returns-clause-refused : goal.returns-clause-refused
 returns-clause-refused g c =
     let passes = c.in-Ok.ensures.passes in
     let read = subst (IsToken c.args.text.now) (sym c.view.ensures) c.in-Ok-read.ensures.ok in
-    IfErr-weaker c.judge_token.result _ _ (λ e h. part_told (order_of c.args.order) c.args.alg (g.K.Signatures.good c.args.checker.now) c.args.text.now c.view.result passes read e h) c.judge_token.ensures.differs
+    IfErr-weaker c.judge_token.result _ _ (λ e h. part_told (order_of c.args.order) c.args.alg.now (g.K.Signatures.good c.args.checker.now) c.args.text.now c.view.result passes read e h) c.judge_token.ensures.differs
 
 pub returns-clause-uncounted : goal.returns-clause-uncounted
 returns-clause-uncounted g c =
     let passes = c.in-Ok.ensures.passes in
     let read = subst (IsToken c.args.text.now) (sym c.view.ensures) c.in-Ok-read.ensures.ok in
-    early_part (order_of c.args.order) c.args.alg (g.K.Signatures.good c.args.checker.now) c.args.text.now c.view.result passes read (c.judge_token.new.steps ≡ c.args.steps.now) c.judge_token.ensures.uncounted
+    early_part (order_of c.args.order) c.args.alg.now (g.K.Signatures.good c.args.checker.now) c.args.text.now c.view.result passes read (c.judge_token.new.steps ≡ c.args.steps.now) c.judge_token.ensures.uncounted

@@ -31,7 +31,7 @@ returns-in-Some-clause-within g c = inr (_, _, written g (goal.at.returns-in-Som
 
 pub returns-in-Some-clause-uncounted : goal.returns-in-Some-clause-uncounted
 returns-in-Some-clause-uncounted g c k l d =
-    not_early (order_of c.args.order) c.args.alg (g.K.Signatures.good c.args.checker.now) c.args.token.now _ _ k (c.in_ok-is_signed_for.ensures.0 c.if-not-branch.false) (written g (goal.at.returns-in-Some-clause-uncounted g c).In-Some) l d
+    not_early (order_of c.args.order) c.args.alg.now (g.K.Signatures.good c.args.checker.now) c.args.token.now _ _ k (c.in_ok-is_signed_for.ensures.0 c.if-not-branch.false) (written g (goal.at.returns-in-Some-clause-uncounted g c).In-Some) l d
 
 pub returns-clause-differs : goal.returns-clause-differs
 returns-clause-differs g c =

@@ -1,0 +1,45 @@
+use Rattle.std.proofs.Common.{arith}
+use Rattle.std.proofs.lemmas.Result.{err_from_is_err_and}
+use Rattle.claim_tree.specs.View.{tree_of}
+use Rattle.claim_tree.specs.FileForms.{found}
+use Rattle.claim_tree.specs.FileWords.{field_word}
+use Rattle.claim_tree.specs.declared.file_fault.Field.TheVariants.{Payload, Decoys}
+use Rattle.issuer_core.proofs.OrderFiles.{value_depth, counts_within}
+use Rattle.issuer_core.proofs.UnsignedOrders.{at_hide, at_decoys, at_kid, at_typ, at_hash}
+use Rattle.issuer_core.proofs.order_file.read_unsigned_order.Goals as goal
+
+pub into_payload-requires : goal.into_payload-requires
+into_payload-requires c = c.in_ok-need_payload.ensures.there
+
+pub returns-in_err-hide-clause-refused : goal.returns-in_err-hide-clause-refused
+returns-in_err-hide-clause-refused c =
+    let handed = err_from_is_err_and c.from_residual-in_err-hide.result c.from_residual-in_err-hide.ensures.1 in
+    rw (handed.1, handed.2) (at_hide c.args.bytes.now c.in_ok-members.members c.in_ok-members.ensures.ok c.in_ok-need_payload.ensures.there c.in_err-hide.field-0.0 c.in_err-hide.ensures.refused)
+
+pub returns-in_err-decoys-clause-refused : goal.returns-in_err-decoys-clause-refused
+returns-in_err-decoys-clause-refused c =
+    let handed = err_from_is_err_and c.from_residual-in_err-decoys.result c.from_residual-in_err-decoys.ensures.1 in
+    rw (handed.1, handed.2) (at_decoys c.args.bytes.now c.in_ok-members.members c.in_ok-members.ensures.ok c.in_ok-need_payload.ensures.there c.in_ok-hide.hide c.in_ok-hide.ensures.ok c.in_err-decoys.field-0.0 c.in_err-decoys.ensures.refused)
+
+pub returns-in_err-kid-clause-refused : goal.returns-in_err-kid-clause-refused
+returns-in_err-kid-clause-refused c =
+    let handed = err_from_is_err_and c.from_residual-in_err-kid.result c.from_residual-in_err-kid.ensures.1 in
+    rw (handed.1, handed.2) (at_kid c.args.bytes.now c.in_ok-members.members c.in_ok-members.ensures.ok c.in_ok-need_payload.ensures.there c.in_ok-hide.hide c.in_ok-hide.ensures.ok c.in_ok-decoys.decoys c.in_ok-decoys.ensures.ok c.in_err-kid.field-0.0 c.in_err-kid.ensures.refused)
+
+pub returns-in_err-typ-clause-refused : goal.returns-in_err-typ-clause-refused
+returns-in_err-typ-clause-refused c =
+    let handed = err_from_is_err_and c.from_residual-in_err-typ.result c.from_residual-in_err-typ.ensures.1 in
+    rw (handed.1, handed.2) (at_typ c.args.bytes.now c.in_ok-members.members c.in_ok-members.ensures.ok c.in_ok-need_payload.ensures.there c.in_ok-hide.hide c.in_ok-hide.ensures.ok c.in_ok-decoys.decoys c.in_ok-decoys.ensures.ok c.in_ok-kid.kid c.in_ok-kid.ensures.ok c.in_err-typ.field-0.0 c.in_err-typ.ensures.refused)
+
+pub returns-in_err-hash-clause-refused : goal.returns-in_err-hash-clause-refused
+returns-in_err-hash-clause-refused c =
+    let handed = err_from_is_err_and c.from_residual-in_err-hash.result c.from_residual-in_err-hash.ensures.1 in
+    rw (handed.1, handed.2) (at_hash c.args.bytes.now c.in_ok-members.members c.in_ok-members.ensures.ok c.in_ok-need_payload.ensures.there c.in_ok-hide.hide c.in_ok-hide.ensures.ok c.in_ok-decoys.decoys c.in_ok-decoys.ensures.ok c.in_ok-kid.kid c.in_ok-kid.ensures.ok c.in_ok-typ.typ c.in_ok-typ.ensures.ok c.in_err-hash.field-0.0 c.in_err-hash.ensures.refused)
+
+pub returns-clause-depth : goal.returns-clause-depth
+returns-clause-depth c =
+    let deep = c.in_ok-members.ensures.depth in
+    value_depth c.in_ok-members.members (field_word Payload) (tree_of c.into_payload.result) (omega (arith, deep)) c.into_payload.ensures
+
+pub returns-clause-counts : goal.returns-clause-counts
+returns-clause-counts c entry stands = counts_within (found c.in_ok-members.members Decoys) c.in_ok-decoys.decoys entry c.in_ok-decoys.ensures.ok stands
