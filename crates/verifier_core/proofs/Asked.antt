@@ -1,5 +1,5 @@
 -- Where a caller checks the signatures: when the issuer's was to be known, and when it is next.
-use Rattle.std.proofs.Common.{◌≡◌, ℕ, ◌<◌, ◌≤◌, ◌⊎◌, inl, inr, List, Option, Some, None, refl, sym, ap, subst, ◌∙◌, arith}
+use Rattle.std.proofs.Common.{◌≡◌, ℕ, ◌<◌, ◌≤◌, ◌⊎◌, inl, inr, List, Some, refl, sym, ap, subst, ◌∙◌, arith}
 use Rattle.b64url_text.specs.NotBase64.{IsNotBase64}
 use Rattle.claim_tree.specs.Tree.{Text}
 use Rattle.compact_form.specs.Condition.{number_of}
@@ -17,7 +17,7 @@ use Rattle.json_form.proofs.Tokens as tokens
 use Rattle.jws_part.specs.Header.{IsHeaderUnreadable, IsHeaderCritical}
 use Rattle.key_binding.specs.declared.caller.SignatureAnswer.{SignatureAnswer}
 use Rattle.compact_form.proofs.Lowest.{below_or_at}
-use Rattle.verifier_core.specs.Asking.{caller_demands, issuer_answer, IsEarlyOrSigned, WasAsked, IsAskedNext, IsIssuerAsked, IsHolderAsked, IsNeededAt}
+use Rattle.verifier_core.specs.Asking.{caller_demands, issuer_answer, IsEarlyOrSigned, WasAsked, IsAskedNext, IsIssuerAsked, IsNeededAt}
 use Rattle.verifier_core.specs.Check.{IsSigned}
 use Rattle.marked_tree.specs.Marked.{strip}
 use Rattle.json_form.specs.Token as file

@@ -37,15 +37,15 @@ use Rattle.verifier_core.proofs.TokenConditions.{token_numbers}
 -- ---- a condition on the key binding token
 
 -- what it fails of: the token, opened, and the key binding token that is sent
-record Site (text : List ℕ) (demands : Demands) (now : ℕ) (c : Condition) (place : Place) : Type 0 where
-  token : Token
-  is_token : IsToken text token
-  marked : Marked
-  opens : Opens token marked
-  hash : HashAlg
-  fails : HolderFails token.parts (strip marked) hash demands now c place
+pub record Site (text : List ℕ) (demands : Demands) (now : ℕ) (c : Condition) (place : Place) : Type 0 where
+  pub token : Token
+  pub is_token : IsToken text token
+  pub marked : Marked
+  pub opens : Opens token marked
+  pub hash : HashAlg
+  pub fails : HolderFails token.parts (strip marked) hash demands now c place
 
-site : (text : List ℕ) (demands : Demands) (now : ℕ) (c : Condition) (place : Place) → 26 < number_of c → FailsFor text demands now c place → Site text demands now c place
+pub site : (text : List ℕ) (demands : Demands) (now : ℕ) (c : Condition) (place : Place) → 26 < number_of c → FailsFor text demands now c place → Site text demands now c place
 site text demands now c place high (of_file h) = let number = file_numbers text c place h in absurd (omega (arith, high, number))
 site text demands now c place high (of_missing t there h) = let number = ap number_of h.0 in absurd (omega (arith, high, number))
 site text demands now c place high (of_token t there h) = let numbers = token_numbers t demands.rules c place h in absurd (omega (arith, high, numbers.1))
@@ -61,7 +61,7 @@ one_sent : (token : Token) (one other : JwtParts) (P : JwtParts → Type 0) → 
 one_sent token one other P sent also h = let both : Some other ≡ Some one = sym also ∙ sent in let same : other ≡ one = cc both in subst P same h
 
 -- the holder is whom the caller says
-holders_are : (algs : List Text) (answer : Option SignatureAnswer) (policy : Option BindingPolicy) (rules : BindingRules) → option_map (asked_rules algs answer) policy ≡ Some rules → rules.holders ≡ of_caller (saying algs answer)
+pub holders_are : (algs : List Text) (answer : Option SignatureAnswer) (policy : Option BindingPolicy) (rules : BindingRules) → option_map (asked_rules algs answer) policy ≡ Some rules → rules.holders ≡ of_caller (saying algs answer)
 holders_are algs answer None rules e = cc e
 holders_are algs answer (Some policy) rules e = let same : asked_rules algs answer policy ≡ rules = cc e in ap (λ (x : BindingRules). x.holders) (sym same)
 
@@ -80,6 +80,36 @@ module _ (text : List ℕ) (policy : Policy) (algs : List Text) (now : ℕ) (ans
 
     pub header_fails : IsHeaderUnreadable binding.protected no_members ⊎ IsHeaderCritical binding.protected no_members → FailsFor text (caller_demands policy algs answers) now Condition.BindingHeader Nowhere
     header_fails w = binding_fails Condition.BindingHeader Nowhere (refl, w)
+
+  -- where the caller does not know the key: the header is read and names an algorithm that is taken
+  module _ (at : Place) (s : Site text (caller_demands policy algs answers) now Condition.HolderKeyUnknown at) where
+    pub told_unknown : IsAskedOf (saying algs (holder_answer answers)) (judged s.fails.token (strip s.marked) s.fails.binding policy.skew s.hash (hashed s.token.parts) now) × IsUnknownTo (saying algs (holder_answer answers)) s.fails.token.signature
+    told_unknown =
+        subst (λ (x : Holders). IsHolderUnknown x (judged s.fails.token (strip s.marked) s.fails.binding policy.skew s.hash (hashed s.token.parts) now)) (holders_are algs (holder_answer answers) policy.binding s.fails.binding s.fails.asked) s.fails.fails.1
+
+    -- another token that is sent is the same
+    sent_here : (P : JwtParts → Type 0) (other : Token) (sent : JwtParts) → IsToken text other → other.parts.binding ≡ Some sent → P sent → P s.fails.token
+    sent_here P other sent there is h =
+        one_sent s.token s.fails.token sent P s.fails.sent (one_read text s.token other (λ (x : Token). x.parts.binding ≡ Some sent) s.is_token there is) h
+
+    read_not : (j : JwtParts) → (IsHeaderUnreadable j.protected no_members ⊎ IsHeaderCritical j.protected no_members) → (h : Header) → HasBindingHeader j h → ⊥
+    read_not j (inl w) h has = headers.read_not_unreadable j.protected no_members h has w
+    read_not j (inr w) h has = headers.read_not_critical j.protected no_members h has w
+
+    pub unknown_header : (place : Place) → FailsFor text (caller_demands policy algs answers) now Condition.BindingHeader place → ⊥
+    unknown_header place h =
+        let o = site text (caller_demands policy algs answers) now Condition.BindingHeader place (omega arith) h in
+        let w = sent_here (λ (x : JwtParts). IsHeaderUnreadable x.protected no_members ⊎ IsHeaderCritical x.protected no_members) o.token o.fails.token o.is_token o.fails.sent o.fails.fails.1 in
+        read_not s.fails.token w told_unknown.0.0 told_unknown.0.1
+
+    pub unknown_alg : (place : Place) → FailsFor text (caller_demands policy algs answers) now Condition.BindingAlg place → ⊥
+    unknown_alg place h =
+        let o = site text (caller_demands policy algs answers) now Condition.BindingAlg place (omega arith) h in
+        let of_header = o.fails.fails.1 in
+        let has = sent_here (λ (x : JwtParts). HasBindingHeader x of_header.0) o.token o.fails.token o.is_token o.fails.sent of_header.1 in
+        let same : of_header.0 ≡ told_unknown.0.0 = headers.one_header s.fails.token.protected no_members of_header.0 told_unknown.0.0 has told_unknown.0.1 in
+        let refused = subst (λ (x : Holders). IsHolderAlgRefused x of_header.0.alg) (holders_are algs (holder_answer answers) policy.binding o.fails.binding o.fails.asked) of_header.2 in
+        told_unknown.0.2 (subst (λ (x : Header). IsAlgUntaken (saying algs (holder_answer answers)) x.alg) same refused)
 
   -- ---- where a condition is the lowest
 
@@ -140,53 +170,21 @@ module _ (text : List ℕ) (policy : Policy) (algs : List Text) (now : ℕ) (ans
           let s = here (omega (arith, at)) in
           none_at text (caller_demands policy algs answers) now fault l Condition.BindingHeader (omega (arith, at)) Nowhere (header_fails token is marked opens s.fails.binding s.fails.asked binding sent w)
 
-    -- where the caller does not know the key: it was asked, since the header is read and names an algorithm that is taken
-    unknown_at : fault.number ≡ 27 → (s : Site text (caller_demands policy algs answers) now Condition.HolderKeyUnknown fault.place) → IsAskedOf (saying algs (holder_answer answers)) (judged s.fails.token (strip s.marked) s.fails.binding policy.skew s.hash (hashed s.token.parts) now)
-        × IsUnknownTo (saying algs (holder_answer answers)) s.fails.token.signature
-    unknown_at at s =
-        subst (λ (x : Holders). IsHolderUnknown x (judged s.fails.token (strip s.marked) s.fails.binding policy.skew s.hash (hashed s.token.parts) now)) (holders_are algs (holder_answer answers) policy.binding s.fails.binding s.fails.asked) s.fails.fails.1
-
+    -- where the caller does not know the key, it was asked
     at_27 : fault.number ≡ 27 → Site text (caller_demands policy algs answers) now Condition.HolderKeyUnknown fault.place
     at_27 at = site text (caller_demands policy algs answers) now Condition.HolderKeyUnknown fault.place (omega arith) (fails_at text (caller_demands policy algs answers) now fault l Condition.HolderKeyUnknown at)
 
-    module _ (at : fault.number ≡ 27) where
-      told : IsAskedOf (saying algs (holder_answer answers)) (judged (at_27 at).fails.token (strip (at_27 at).marked) (at_27 at).fails.binding policy.skew (at_27 at).hash (hashed (at_27 at).token.parts) now)
-          × IsUnknownTo (saying algs (holder_answer answers)) (at_27 at).fails.token.signature
-      told = unknown_at at (at_27 at)
-
-      -- another token that is sent is the same
-      sent_here : (P : JwtParts → Type 0) (other : Token) (sent : JwtParts) → IsToken text other → other.parts.binding ≡ Some sent → P sent → P (at_27 at).fails.token
-      sent_here P other sent there is h =
-          one_sent (at_27 at).token (at_27 at).fails.token sent P (at_27 at).fails.sent (one_read text (at_27 at).token other (λ (x : Token). x.parts.binding ≡ Some sent) (at_27 at).is_token there is) h
-
-      asked_unknown : IsHolderAsked text (caller_demands policy algs answers) now (at_27 at).token (at_27 at).fails.token
-      asked_unknown = record {
-        is_token = (at_27 at).is_token;
-        passes = passes_to text (caller_demands policy algs answers) now fault l 27 (omega (arith, at));
-        header = λ place h. header_read (site text (caller_demands policy algs answers) now Condition.BindingHeader place (omega arith) h);
-        alg = λ place h. alg_taken (site text (caller_demands policy algs answers) now Condition.BindingAlg place (omega arith) h);
-        rules = (at_27 at).fails.binding;
-        wanted = (at_27 at).fails.asked;
-        sent = (at_27 at).fails.sent;
-        signature = told.1.0;
-      }
-        where
-          read_not : (j : JwtParts) → (IsHeaderUnreadable j.protected no_members ⊎ IsHeaderCritical j.protected no_members) → (h : Header) → HasBindingHeader j h → ⊥
-          read_not j (inl w) h has = headers.read_not_unreadable j.protected no_members h has w
-          read_not j (inr w) h has = headers.read_not_critical j.protected no_members h has w
-
-          header_read : {place : Place} → Site text (caller_demands policy algs answers) now Condition.BindingHeader place → ⊥
-          header_read s =
-              let w = sent_here (λ (x : JwtParts). IsHeaderUnreadable x.protected no_members ⊎ IsHeaderCritical x.protected no_members) s.token s.fails.token s.is_token s.fails.sent s.fails.fails.1 in
-              read_not (at_27 at).fails.token w told.0.0 told.0.1
-
-          alg_taken : {place : Place} → Site text (caller_demands policy algs answers) now Condition.BindingAlg place → ⊥
-          alg_taken s =
-              let of_header = s.fails.fails.1 in
-              let has = sent_here (λ (x : JwtParts). HasBindingHeader x of_header.0) s.token s.fails.token s.is_token s.fails.sent of_header.1 in
-              let same : of_header.0 ≡ told.0.0 = headers.one_header (at_27 at).fails.token.protected no_members of_header.0 told.0.0 has told.0.1 in
-              let refused = subst (λ (x : Holders). IsHolderAlgRefused x of_header.0.alg) (holders_are algs (holder_answer answers) policy.binding s.fails.binding s.fails.asked) of_header.2 in
-              told.0.2 (subst (λ (x : Header). IsAlgUntaken (saying algs (holder_answer answers)) x.alg) same refused)
+    asked_unknown : (at : fault.number ≡ 27) → IsHolderAsked text (caller_demands policy algs answers) now (at_27 at).token (at_27 at).fails.token
+    asked_unknown at = record {
+      is_token = (at_27 at).is_token;
+      passes = passes_to text (caller_demands policy algs answers) now fault l 27 (omega (arith, at));
+      header = unknown_header fault.place (at_27 at);
+      alg = unknown_alg fault.place (at_27 at);
+      rules = (at_27 at).fails.binding;
+      wanted = (at_27 at).fails.asked;
+      sent = (at_27 at).fails.sent;
+      signature = (told_unknown fault.place (at_27 at)).1.0;
+    }
 
     -- ---- what was to be known, and is next
 
@@ -208,7 +206,7 @@ module _ (text : List ℕ) (policy : Policy) (algs : List Text) (now : ℕ) (ans
     -- nothing was said of the holder's signature
     module _ (unsaid : holder_answer answers ≡ None) (t : Token) (binding : JwtParts) (asked : IsHolderAsked text (caller_demands policy algs answers) now t binding) where
       not_27 : fault.number ≡ 27 → ⊥
-      not_27 at = let both : Some SignatureAnswer.Unknown ≡ None = sym (told at).1.1 ∙ unsaid in cc both
+      not_27 at = let both : Some SignatureAnswer.Unknown ≡ None = sym (told_unknown fault.place (at_27 at)).1.1 ∙ unsaid in cc both
 
       not_28 : fault.number ≡ 28 → ⊥
       not_28 at = asked.header fault.place (fails_at text (caller_demands policy algs answers) now fault l Condition.BindingHeader at)

@@ -1,5 +1,5 @@
 -- Where a caller checks the signatures: from what is read of a token to what is answered.
-use Rattle.std.proofs.Common.{◌≡◌, ℕ, ◌<◌, List, sym, subst, arith}
+use Rattle.std.proofs.Common.{◌≡◌, ℕ, ◌<◌, List, subst, arith}
 use Rattle.claim_tree.specs.Tree.{Text, Tree}
 use Rattle.compact_form.proofs.Numbers.{fault_is}
 use Rattle.compact_form.specs.Faults.{failed_of}
@@ -13,12 +13,12 @@ use Rattle.marked_tree.specs.Marked.{Marked, strip}
 use Rattle.verifier_core.specs.Asking.{caller_demands, WasAsked, IsAskedNext, IsNeededAt, IsAcceptedForAs, IsOpenedAs}
 use Rattle.verifier_core.specs.Check.{OnFault, IsContent, IsRead, IsOpened, IsSigned, OfToken}
 use Rattle.verifier_core.specs.Content.{Content}
-use Rattle.verifier_core.specs.Verdict.{Demands, FailsFor, TokenFails, IsBindingMissing, IsChecked, HasHash, IsAcceptedFor}
+use Rattle.verifier_core.specs.Verdict.{Demands, FailsFor, TokenFails, IsBindingMissing, HasHash, IsAcceptedFor}
 use Rattle.verifier_core.specs.Verdicts.{IsCheckedAs}
 use Rattle.verifier_core.specs.declared.asking.Answers.{Answers}
 use Rattle.verifier_core.specs.declared.check.VerifyError.{VerifyError}
 use Rattle.verifier_core.specs.declared.policy.Policy.{Policy}
-use Rattle.verifier_core.proofs.Asked.{file_numbers, signed_text, not_unsaid, said_good, needed_below, done_below, done_low}
+use Rattle.verifier_core.proofs.Asked.{file_numbers, signed_text, not_unsaid, said_good, needed_below, done_below}
 use Rattle.verifier_core.proofs.Contents.{open_refused, is_opened}
 use Rattle.verifier_core.proofs.TokenConditions.{token_numbers}
 use Rattle.verifier_core.proofs.Verdicts.{file_lowest}

@@ -1,12 +1,11 @@
 -- What is answered where a caller checks the signatures, from what was to be known.
-use Rattle.std.proofs.Common.{◌≡◌, ℕ, ◌<◌, List, Ok, Err, Some, refl, sym, ap, subst, arith}
-use Rattle.claim_tree.specs.Tree.{Text, Tree}
+use Rattle.std.proofs.Common.{◌≡◌, ℕ, List, Ok, Err, refl, sym, subst, arith}
 use Rattle.claim_tree.specs.View.{tree_of}
 use Rattle.claim_tree.specs.declared.tree.Tree as owned
 use Rattle.compact_form.specs.Lowest.{IsLowest}
 use Rattle.compact_form.specs.declared.fault.Fault.{Fault}
 use Rattle.key_binding.specs.declared.caller.SignatureAnswer.{SignatureAnswer}
-use Rattle.verifier_core.specs.Asking.{caller_demands, holder_answer, WasAsked, IsAskedNext, IsIssuerAsked, IsHolderAsked, IsJudged, AsksIssuer, AsksHolder, AreSaidGood, IsAcceptedForAs}
+use Rattle.verifier_core.specs.Asking.{WasAsked, IsAskedNext, IsJudged, AsksIssuer, AsksHolder, AreSaidGood, IsAcceptedForAs}
 use Rattle.verifier_core.specs.Verdict.{Demands, FailsFor}
 use Rattle.verifier_core.specs.declared.asking.Answers.{Answers}
 use Rattle.verifier_core.specs.declared.asking.JudgeError.{JudgeError}

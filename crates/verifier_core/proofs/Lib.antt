@@ -20,3 +20,6 @@ pub mod Asked
 pub mod HolderAsked
 pub mod Judgements
 pub mod JudgeSteps
+mod HeaderSaid
+mod Answered
+pub mod ByMeaning

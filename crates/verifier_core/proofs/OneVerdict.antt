@@ -27,12 +27,12 @@ use Rattle.verifier_core.proofs.Verdicts.{one_opening}
 -- ---- the place of a condition
 
 -- what a condition names: nothing, a number, or where the text is misformed
-data Kind : Type 0 where
+pub data Kind : Type 0 where
   no_place : Kind
   at_number : Kind
   in_text : Kind
 
-abbrev kind_of : Condition → Kind
+abbrev pub kind_of : Condition → Kind
 kind_of Condition.Form = in_text
 kind_of Condition.DisclosureUnreadable = at_number
 kind_of Condition.RepeatedDisclosure = at_number
@@ -45,7 +45,7 @@ kind_of Condition.NameClash = at_number
 kind_of Condition.ClaimMissing = at_number
 kind_of _ = no_place
 
-abbrev Suits : List ℕ → Kind → Place → Type 0
+abbrev pub Suits : List ℕ → Kind → Place → Type 0
 Suits content no_place place = place ≡ Nowhere
 Suits content at_number place = (i : ℕ) × (place ≡ At i)
 Suits content in_text place = IsMisformed (trimmed content) place
@@ -96,16 +96,21 @@ module _ (content : List ℕ) where
 
 -- ---- the lowest
 
+-- where each condition fails at places of one kind, the lowest is one
+pub one_placed : (content : List ℕ) (FailsSo : Condition → Place → Type 0) → ((c : Condition) (place : Place) → FailsSo c place → Suits content (kind_of c) place)
+    → (f g : Fault) → IsLowest FailsSo f → IsLowest FailsSo g → f ≡ g
+one_placed content FailsSo suits f g l m =
+    let one = one_failed FailsSo f g l m in
+    let at_g = subst (λ (c : Condition). Suits content (kind_of c) g.place) one.0 (suits (failed_of g) g.place m.fails) in
+    let places : f.place ≡ g.place = one_place content (kind_of (failed_of f)) f.place g.place (suits (failed_of f) f.place l.fails) at_g one.1.0 one.1.1 in
+    same_fault f g (one_number FailsSo f g l m) places
+
 -- the lowest condition on a token is one
 pub one_token_fault : (token : Token) (rules : Rules) (f g : Fault) → IsLowest (TokenFails token rules) f → IsLowest (TokenFails token rules) g → f ≡ g
-one_token_fault token rules f g l m =
-    let one = one_failed (TokenFails token rules) f g l m in
-    let at_g = subst (λ (c : Condition). Suits [] (kind_of c) g.place) one.0 (token_place [] token rules (failed_of g) g.place m.fails) in
-    let places : f.place ≡ g.place = one_place [] (kind_of (failed_of f)) f.place g.place (token_place [] token rules (failed_of f) f.place l.fails) at_g one.1.0 one.1.1 in
-    same_fault f g (one_number (TokenFails token rules) f g l m) places
+one_token_fault token rules = one_placed [] (TokenFails token rules) (token_place [] token rules)
 
 module _ (content : List ℕ) (demands : Demands) (now : ℕ) where
-  place_of : (c : Condition) (place : Place) → FailsFor content demands now c place → Suits content (kind_of c) place
+  pub place_of : (c : Condition) (place : Place) → FailsFor content demands now c place → Suits content (kind_of c) place
   place_of c place (of_file h) = file_place content c place h
   place_of c place (of_missing token there h) = missing_place content demands token.parts c place h
   place_of c place (of_token token there h) = token_place content token demands.rules c place h
@@ -116,11 +121,7 @@ module _ (content : List ℕ) (demands : Demands) (now : ℕ) where
   accepted_not_refused marked fault accepted refused = accepted.passes (failed_of fault) fault.place refused.fails
 
   pub one_lowest : (f g : Fault) → IsLowest (FailsFor content demands now) f → IsLowest (FailsFor content demands now) g → f ≡ g
-  one_lowest f g l m =
-      let one = one_failed (FailsFor content demands now) f g l m in
-      let at_g = subst (λ (c : Condition). Suits content (kind_of c) g.place) one.0 (place_of (failed_of g) g.place m.fails) in
-      let places : f.place ≡ g.place = one_place content (kind_of (failed_of f)) f.place g.place (place_of (failed_of f) f.place l.fails) at_g one.1.0 one.1.1 in
-      same_fault f g (one_number (FailsFor content demands now) f g l m) places
+  one_lowest = one_placed content (FailsFor content demands now) place_of
 
   pub one_accepted : (m n : Marked) → IsAcceptedFor content demands now m → IsAcceptedFor content demands now n → m ≡ n
   one_accepted m n a b =

@@ -1,7 +1,7 @@
 -- What is refused before a token is opened has a number of at most 13.
-use Rattle.std.proofs.Common.{◌≡◌, ◌≤◌, List, sym, subst, arith}
+use Rattle.std.proofs.Common.{◌≡◌, List, sym, subst, arith}
 use Rattle.claim_tree.specs.Tree.{Text, Members}
-use Rattle.compact_form.specs.Faults.{fault_number, unplaced, placed}
+use Rattle.compact_form.specs.Faults.{placed}
 use Rattle.compact_form.specs.declared.condition.Condition.{Condition}
 use Rattle.compact_form.specs.declared.fault.Fault.{Fault}
 use Rattle.compact_form.specs.declared.parts.JwtParts.{JwtParts}

@@ -1,5 +1,5 @@
 -- For private functions: what is judged, of what is borrowed.
-use Rattle.std.specs.Prelude.{ℕ, Result}
+use Rattle.std.specs.Prelude.{Result}
 use Rattle.compact_form.specs.declared.condition.Condition.{Condition}
 use Rattle.compact_form.specs.declared.fault.Place.{Place}
 use Rattle.verifier_core.specs.Verdict.{Demands, FailsFor}

@@ -7,4 +7,5 @@ pub mod Content
 pub mod Check
 pub mod Asking
 pub mod AskingSteps
+pub mod Meanings
 pub mod Verdicts

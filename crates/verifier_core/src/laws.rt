@@ -3,7 +3,7 @@ ghost use Rattle.std.specs.Prelude.{◌≡◌, ◌≢◌, ◌≤◌, ℕ, List, 
 ghost use Rattle.sd_outside.specs.Limits.{file_max};
 ghost use Rattle.claim_tree.specs.declared.file_fault.FileFault.{FileFault};
 ghost use Rattle.claim_tree.specs.JsonText.{json_text};
-ghost use Rattle.claim_tree.specs.Tree.{no_members};
+ghost use Rattle.claim_tree.specs.Tree.{Tree, no_members};
 ghost use Rattle.compact_form.specs.Compact.{compact};
 ghost use Rattle.compact_form.specs.declared.fault.Fault.{Fault};
 ghost use Rattle.compact_form.specs.Trim.{trimmed, is_too_long};
@@ -13,10 +13,13 @@ ghost use Rattle.json_form.specs.Written.{flat_of, general_of};
 ghost use Rattle.marked_tree.specs.Marked.{Marked};
 ghost use Rattle.verifier_core.specs.PolicyFile.{IsPolicyFile, IsPolicyFileRefused};
 ghost use Rattle.verifier_core.specs.VersionTwo.{SaysInTwo};
+ghost use Rattle.verifier_core.specs.Meanings.{meanings, AcceptedByMeaning, RefusedByMeaning, OneVerdictByMeaning, AnsweredByMeaning};
 ghost use Rattle.verifier_core.specs.Verdict.{Fails, IsAccepted};
 ghost use Rattle.verifier_core.specs.Verdicts.{HaveOneVerdict};
 ghost use Rattle.compact_form.specs.Lowest.{IsLowest};
 ghost use Rattle.verifier_core.specs.declared.policy.Policy.{Policy};
+
+use hmac_sign::Checker;
 
 /// A file says one policy or is refused, and has one fault beside want of memory.
 pub fn one_policy()
@@ -55,4 +58,14 @@ pub fn same_verdict()
         → IsToken text token → token.outer ≡ no_members → HaveOneVerdict text (json_text (flat_of token)) policy now }
     ensures general { (text : List ℕ) (token : Token) (policy : Policy) (now : ℕ)
         → IsToken text token → token.outer ≡ no_members → HaveOneVerdict text (json_text (general_of token)) policy now }
+{}
+
+/// Where a caller of [`judge`](crate::judge) said the truth and is asked no more, the verdict is that by the meaning of
+/// the signatures: the issuer's, and those of the holder whom the processed payload names. By this meaning a text has one
+/// verdict, so that it decides what `judge` answers. Who checks the signature of a question says the truth of the token.
+pub fn judged_by_meaning<I: Checker, H: Checker>()
+    ensures accepted { (issuer : I) (holder : Tree → H) → AcceptedByMeaning (meanings (I.good issuer) (λ payload. H.good (holder payload))) }
+    ensures refused { (issuer : I) (holder : Tree → H) → RefusedByMeaning (meanings (I.good issuer) (λ payload. H.good (holder payload))) }
+    ensures one_verdict { (issuer : I) (holder : Tree → H) → OneVerdictByMeaning (meanings (I.good issuer) (λ payload. H.good (holder payload))) }
+    ensures answered { (issuer : I) → AnsweredByMeaning (I.good issuer) }
 {}

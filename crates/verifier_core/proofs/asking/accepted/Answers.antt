@@ -1,12 +1,10 @@
-use Rattle.std.proofs.Common.{◌≡◌, Option, Some, None, Bool, true, false, is_some, sym, ap, subst, ◌∙◌}
+use Rattle.std.proofs.Common.{◌≡◌, true, false, is_some, sym, ap, ◌∙◌}
 use Rattle.json_form.specs.declared.token.Token.{Token}
-use Rattle.key_binding.proofs.BindingTests.{no_truth}
-use Rattle.verifier_core.specs.Asking.{WasAsked}
 use Rattle.verifier_core.specs.AskingSteps.{demands_in}
 use Rattle.verifier_core.specs.Verdict.{Opens}
 use Rattle.verifier_core.proofs.Asked.{one_read, signed_text, not_unsaid, said_good}
 use Rattle.verifier_core.proofs.HolderAsked.{accepted_needed, accepted_done, accepted_good}
-use Rattle.verifier_core.proofs.Judgements.{judged_accepted, judged_not_asked}
+use Rattle.verifier_core.proofs.Judgements.{judged_accepted}
 use Rattle.verifier_core.proofs.asking.accepted.Goals as goal
 
 pub returns-in_default : goal.returns-in_default

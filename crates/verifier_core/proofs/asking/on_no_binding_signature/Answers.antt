@@ -2,7 +2,6 @@ use Rattle.std.proofs.Common.{sym, subst, arith}
 use Rattle.compact_form.specs.Views.{jwt_of}
 use Rattle.verifier_core.specs.Asking.{WasAsked, IsAskedNext}
 use Rattle.verifier_core.specs.AskingSteps.{demands_in}
-use Rattle.verifier_core.specs.declared.asking.Answers.{Answers}
 use Rattle.verifier_core.proofs.Asked.{issuer_asked, signed_text, not_unsaid, said_good}
 use Rattle.verifier_core.proofs.HolderAsked.{unbound}
 use Rattle.verifier_core.proofs.Judgements.{judged_refused, judged_not_asked, said_of_issuer}

@@ -1,4 +1,4 @@
-use Rattle.std.proofs.Common.{inl, sym, ap, ◌∙◌}
+use Rattle.std.proofs.Common.{sym, ◌∙◌}
 use Rattle.verifier_core.proofs.CheckTests.{among_told}
 use Rattle.verifier_core.proofs.check_signed.is_name_refused.Goals as goal
 

@@ -7,7 +7,7 @@ use Rattle.compact_form.specs.declared.condition.Condition.{Condition}
 use Rattle.compact_form.specs.Lowest.{IsLowest}
 use Rattle.verifier_core.specs.Verdict.{Demands, ClaimFails}
 use Rattle.verifier_core.proofs.LeastPlaces.{refuse_placed}
-use Rattle.verifier_core.proofs.ClaimSteps.{before_issuer, before_missing}
+use Rattle.verifier_core.proofs.ClaimSteps.{before_missing}
 use Rattle.verifier_core.proofs.claims.check_claims.Goals as goal
 
 pub returns-in-Some-clause-lowest : goal.returns-in-Some-clause-lowest
