@@ -1,4 +1,4 @@
--- Where what a caller says is true, its verdict is that by the meaning of signatures.
+-- Where what a caller says is truth, its verdict is that by the meaning of signatures.
 use Rattle.std.proofs.Common.{◌≡◌, ◌↔◌, ℕ, ◌<◌, ◌≤◌, ◌⊎◌, ⊎_elim, List, Some, refl, sym, ap, subst, ◌∙◌, arith}
 use Rattle.std.specs.Option.{option_map}
 use Rattle.claim_tree.specs.Tree.{Text, Tree, Members}
@@ -89,11 +89,11 @@ module _ (by : Meanings) (text : List ℕ) (policy : Policy) (algs : List Text) 
 
   not_good : (answers : Answers) → AreTrue by text answers → (IsAskedNext text (caller_demands policy algs answers) now answers → ⊥) → Passes 9 (FailsFor text (caller_demands policy algs answers) now)
       → (token : Token) → IsToken text token → (IsAnswered (saying policy.algs (issuer_answer answers)) SignatureAnswer.Good token.parts.signed.signature → ⊥) → IsGoodBy by.issuer token.parts.signed → ⊥
-  not_good Answers.Nothing true done passes token is bad good = done (token, record { is_token = is; passes = passes; signature = λ none. none good.0 good.1 })
-  not_good (Answers.Issuer SignatureAnswer.Good) true done passes token is bad good = bad ((λ none. none good.0 good.1), refl)
-  not_good (Answers.Issuer SignatureAnswer.Bad) true done passes token is bad good = true.issuer SignatureAnswer.Bad refl token is good
-  not_good (Answers.Issuer SignatureAnswer.Unknown) true done passes token is bad good = true.issuer SignatureAnswer.Unknown refl token is good
-  not_good (Answers.Holder answer) true done passes token is bad good = bad ((λ none. none good.0 good.1), refl)
+  not_good Answers.Nothing truth done passes token is bad good = done (token, record { is_token = is; passes = passes; signature = λ none. none good.0 good.1 })
+  not_good (Answers.Issuer SignatureAnswer.Good) truth done passes token is bad good = bad ((λ none. none good.0 good.1), refl)
+  not_good (Answers.Issuer SignatureAnswer.Bad) truth done passes token is bad good = truth.issuer SignatureAnswer.Bad refl token is good
+  not_good (Answers.Issuer SignatureAnswer.Unknown) truth done passes token is bad good = truth.issuer SignatureAnswer.Unknown refl token is good
+  not_good (Answers.Holder answer) truth done passes token is bad good = bad ((λ none. none good.0 good.1), refl)
 
   -- the same of the key binding token that is sent
   module _ (token : Token) (is : IsToken text token) (marked : Marked) (opens : Opens token marked) (binding : JwtParts) (sent : token.parts.binding ≡ Some binding) where
@@ -103,25 +103,25 @@ module _ (by : Meanings) (text : List ℕ) (policy : Policy) (algs : List Text) 
     not_bound : (answers : Answers) → AreTrue by text answers → (IsAskedNext text (caller_demands policy algs answers) now answers → ⊥) → SaidGood answers
         → ((IsNoSignature binding.signature → ⊥) → IsHolderAsked text (caller_demands policy algs answers) now token binding)
         → (IsAnswered (saying algs (holder_answer answers)) SignatureAnswer.Good binding.signature → ⊥) → IsGoodBy (by.holder (strip marked)) binding → ⊥
-    not_bound Answers.Nothing true done said asked bad good = cc said
-    not_bound (Answers.Issuer answer) true done said asked bad good = done (token, binding, asked (λ none. none good.0 good.1))
-    not_bound (Answers.Holder SignatureAnswer.Good) true done said asked bad good = bad ((λ none. none good.0 good.1), refl)
-    not_bound (Answers.Holder SignatureAnswer.Bad) true done said asked bad good = true.holder SignatureAnswer.Bad refl (strip marked) binding sent_with good
-    not_bound (Answers.Holder SignatureAnswer.Unknown) true done said asked bad good = true.holder SignatureAnswer.Unknown refl (strip marked) binding sent_with good
+    not_bound Answers.Nothing truth done said asked bad good = cc said
+    not_bound (Answers.Issuer answer) truth done said asked bad good = done (token, binding, asked (λ none. none good.0 good.1))
+    not_bound (Answers.Holder SignatureAnswer.Good) truth done said asked bad good = bad ((λ none. none good.0 good.1), refl)
+    not_bound (Answers.Holder SignatureAnswer.Bad) truth done said asked bad good = truth.holder SignatureAnswer.Bad refl (strip marked) binding sent_with good
+    not_bound (Answers.Holder SignatureAnswer.Unknown) truth done said asked bad good = truth.holder SignatureAnswer.Unknown refl (strip marked) binding sent_with good
 
-  module _ (answers : Answers) (true : AreTrue by text answers) where
+  module _ (answers : Answers) (truth : AreTrue by text answers) where
     -- ---- from what was said to the meanings
 
     issuer_unknown : (place : Place) → Told text policy algs now answers Condition.IssuerKeyUnknown place → FailsUnder by text policy algs now Condition.BadSignature place
     issuer_unknown place h =
         let (token, is, fails) = token_site text policy algs now answers Condition.IssuerKeyUnknown place (omega arith) (omega arith) h in
-        (fails.0, (token, is, true.issuer SignatureAnswer.Unknown fails.1.2.1 token is))
+        (fails.0, (token, is, truth.issuer SignatureAnswer.Unknown fails.1.2.1 token is))
 
     issuer_bad : (IsAskedNext text (caller_demands policy algs answers) now answers → ⊥) → Passes 9 (Told text policy algs now answers)
         → (place : Place) → Told text policy algs now answers Condition.BadSignature place → FailsUnder by text policy algs now Condition.BadSignature place
     issuer_bad done passes place h =
         let (token, is, fails) = token_site text policy algs now answers Condition.BadSignature place (omega arith) (omega arith) h in
-        (fails.0, (token, is, not_good answers true done passes token is fails.1.2))
+        (fails.0, (token, is, not_good answers truth done passes token is fails.1.2))
 
     holder_unknown : (place : Place) → Told text policy algs now answers Condition.HolderKeyUnknown place → FailsUnder by text policy algs now Condition.BindingSignature place
     holder_unknown place h =
@@ -129,7 +129,7 @@ module _ (by : Meanings) (text : List ℕ) (policy : Policy) (algs : List Text) 
         let told = told_unknown text policy algs now answers place s in
         let (asked, asked_is, same) = policy_of algs (holder_answer answers) policy.binding s.fails.binding s.fails.asked in
         let sent = sent_with s.token s.is_token s.marked s.opens s.fails.token s.fails.sent in
-        (s.fails.fails.0, (asked, asked_is, strip s.marked, s.fails.token, sent, true.holder SignatureAnswer.Unknown told.1.1 (strip s.marked) s.fails.token sent))
+        (s.fails.fails.0, (asked, asked_is, strip s.marked, s.fails.token, sent, truth.holder SignatureAnswer.Unknown told.1.1 (strip s.marked) s.fails.token sent))
 
     holder_bad : (IsAskedNext text (caller_demands policy algs answers) now answers → ⊥) → SaidGood answers → Passes 27 (Told text policy algs now answers)
         → ((place : Place) → Told text policy algs now answers Condition.BindingHeader place → ⊥) → ((place : Place) → Told text policy algs now answers Condition.BindingAlg place → ⊥)
@@ -145,7 +145,7 @@ module _ (by : Meanings) (text : List ℕ) (policy : Policy) (algs : List Text) 
             strip s.marked,
             s.fails.token,
             sent_with s.token s.is_token s.marked s.opens s.fails.token s.fails.sent,
-            not_bound s.token s.is_token s.marked s.opens s.fails.token s.fails.sent answers true done said
+            not_bound s.token s.is_token s.marked s.opens s.fails.token s.fails.sent answers truth done said
                 (λ signature. record {
                   is_token = s.is_token;
                   passes = passes;
@@ -170,13 +170,13 @@ module _ (by : Meanings) (text : List ℕ) (policy : Policy) (algs : List Text) 
         (λ header reads. let low = passes Condition.BadSignature Nowhere (of_token token is (refl, (header, reads, λ answered. none answered.1))) in omega (arith, low)))
 
     issuer_good : Passes 11 (Told text policy algs now answers) → (place : Place) → FailsUnder by text policy algs now Condition.BadSignature place → ⊥
-    issuer_good passes place (there, (token, is, bad)) = bad (true.issuer SignatureAnswer.Good (issuer_said passes token is) token is)
+    issuer_good passes place (there, (token, is, bad)) = bad (truth.issuer SignatureAnswer.Good (issuer_said passes token is) token is)
 
     holder_good : Passes 31 (Told text policy algs now answers) → (place : Place) → FailsUnder by text policy algs now Condition.BindingSignature place → ⊥
     holder_good passes place (there, (asked, asked_is, payload, binding, sent, bad)) =
         let low = passes Condition.BindingSignature Nowhere (bad_fails text policy algs now answers sent.token sent.is_token sent.marked sent.opens
         (asked_rules algs (holder_answer answers) asked) (ap (option_map (asked_rules algs (holder_answer answers))) asked_is) binding sent.sent
-        (λ answered. bad (true.holder SignatureAnswer.Good answered.1 payload binding sent))) in
+        (λ answered. bad (truth.holder SignatureAnswer.Good answered.1 payload binding sent))) in
         omega (arith, low)
 
     passes_more : (n k : ℕ) → k ≤ n → Passes n (Told text policy algs now answers) → Passes k (Told text policy algs now answers)

@@ -11,7 +11,7 @@ use Rattle.json_form.specs.Token.{IsToken}
 use Rattle.json_form.specs.declared.token.Token.{Token}
 use Rattle.marked_tree.specs.Marked.{Marked, strip}
 use Rattle.verifier_core.specs.Asking.{caller_demands, WasAsked, IsAskedNext, IsNeededAt, IsAcceptedForAs, IsOpenedAs}
-use Rattle.verifier_core.specs.Check.{OnFault, IsContent, IsRead, IsOpened, IsSigned, OfToken}
+use Rattle.verifier_core.specs.Check.{OnFault, IsUncounted, IsContent, IsRead, IsOpened, IsSigned, OfToken}
 use Rattle.verifier_core.specs.Content.{Content}
 use Rattle.verifier_core.specs.Verdict.{Demands, FailsFor, TokenFails, IsBindingMissing, HasHash, IsAcceptedFor}
 use Rattle.verifier_core.specs.Verdicts.{IsCheckedAs}
@@ -19,7 +19,7 @@ use Rattle.verifier_core.specs.declared.asking.Answers.{Answers}
 use Rattle.verifier_core.specs.declared.check.VerifyError.{VerifyError}
 use Rattle.verifier_core.specs.declared.policy.Policy.{Policy}
 use Rattle.verifier_core.proofs.Asked.{file_numbers, signed_text, not_unsaid, said_good, needed_below, done_below}
-use Rattle.verifier_core.proofs.Contents.{open_refused, is_opened}
+use Rattle.verifier_core.proofs.Contents.{open_refused, is_opened, read_uncounted}
 use Rattle.verifier_core.proofs.TokenConditions.{token_numbers}
 use Rattle.verifier_core.proofs.Verdicts.{file_lowest}
 
@@ -46,6 +46,10 @@ module _ (text : List ℕ) (policy : Policy) (algs : List Text) (now : ℕ) (ans
 
   signed_here : IsSigned token.parts.signed token.outer (caller_demands policy algs answers).rules
   signed_here = subst (λ (d : Demands). IsSigned token.parts.signed token.outer d.rules) same signed
+
+  -- none of the conditions up to 13 fails, so that nothing is said of look-ups where one does
+  pub opened_uncounted : (old new : ℕ) → IsUncounted (FailsFor text (caller_demands policy algs answers) now) old new
+  opened_uncounted old new = subst (λ (d : Demands). IsUncounted (FailsFor text d now) old new) same (read_uncounted text demands now token is sent content has old new)
 
   -- it is not opened
   module _ (error : VerifyError) (fault : Fault) (at : error ≡ VerifyError.Fault fault) (refused : OfToken content (λ t rules. OnFault error (IsLowest (TokenFails t rules)))) where

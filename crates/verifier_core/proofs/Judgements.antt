@@ -1,17 +1,25 @@
 -- What is answered where a caller checks the signatures, from what was to be known.
-use Rattle.std.proofs.Common.{◌≡◌, ℕ, List, Ok, Err, refl, sym, subst, arith}
+use Rattle.std.specs.Prelude.{IfOk}
+use Rattle.std.proofs.Common.{◌≡◌, ℕ, List, None, Result, Ok, Err, refl, sym, subst, arith}
+use Rattle.claim_tree.specs.Tree.{Text}
 use Rattle.claim_tree.specs.View.{tree_of}
 use Rattle.claim_tree.specs.declared.tree.Tree as owned
 use Rattle.compact_form.specs.Lowest.{IsLowest}
 use Rattle.compact_form.specs.declared.fault.Fault.{Fault}
+use Rattle.compact_form.specs.Faults.{failed_of}
+use Rattle.json_form.specs.Token.{IsToken}
+use Rattle.json_form.specs.declared.token.Token.{Token}
 use Rattle.key_binding.specs.declared.caller.SignatureAnswer.{SignatureAnswer}
-use Rattle.verifier_core.specs.Asking.{WasAsked, IsAskedNext, IsJudged, AsksIssuer, AsksHolder, AreSaidGood, IsAcceptedForAs}
-use Rattle.verifier_core.specs.Verdict.{Demands, FailsFor}
+use Rattle.verifier_core.specs.Asking.{WasAsked, IsAskedNext, IsJudged, AsksIssuer, AsksHolder, AreSaidGood, IsAcceptedForAs, caller_demands, OnAccepted}
+use Rattle.verifier_core.specs.Check.{IsSigned}
+use Rattle.verifier_core.specs.Verdict.{Demands, FailsFor, Opens}
 use Rattle.verifier_core.specs.declared.asking.Answers.{Answers}
 use Rattle.verifier_core.specs.declared.asking.JudgeError.{JudgeError}
 use Rattle.verifier_core.specs.declared.asking.Judgement.{Judgement}
 use Rattle.verifier_core.specs.declared.asking.Question.{Question}
-use Rattle.verifier_core.proofs.Asked.{SaidGood, said_issuer, done_below}
+use Rattle.verifier_core.specs.declared.policy.Policy.{Policy}
+use Rattle.verifier_core.proofs.Asked.{SaidGood, said_issuer, done_below, one_read, signed_text, not_unsaid, said_good}
+use Rattle.verifier_core.proofs.HolderAsked.{accepted_needed, accepted_done, accepted_good}
 
 module _ (text : List ℕ) (demands : Demands) (now : ℕ) (answers : Answers) where
   pub judged_accepted : (payload : owned.Tree) → IsAcceptedForAs text demands now (tree_of payload) → AreSaidGood demands answers → WasAsked text demands now answers → (IsAskedNext text demands now answers → ⊥)
@@ -86,3 +94,37 @@ pub none_next_of_issuer : (text : List ℕ) (demands : Demands) (now : ℕ) (fau
 none_next_of_issuer text demands now fault l at Answers.Nothing other next = other refl
 none_next_of_issuer text demands now fault l at (Answers.Issuer answer) other next = done_below text demands now fault l (Answers.Issuer SignatureAnswer.Good) refl (omega (arith, at)) next
 none_next_of_issuer text demands now fault l at (Answers.Holder answer) other next = next
+
+-- what is answered where no condition fails, and nothing was said of a key binding token unless one is asked for
+pub judged_good : (text : List ℕ) (policy : Policy) (algs : List Text) (now : ℕ) (answers : Answers) (token : Token) (payload : owned.Tree)
+    → IsToken text token → IsSigned token.parts.signed token.outer (caller_demands policy algs answers).rules
+    → IsAcceptedForAs text (caller_demands policy algs answers) now (tree_of payload)
+    → ((answer : SignatureAnswer) → answers ≡ Answers.Holder answer → policy.binding ≡ None → ⊥)
+    → IsJudged text (caller_demands policy algs answers) now answers (Ok (Judgement.Accepted payload))
+judged_good text policy algs now answers token payload is signed (marked, accepted, payload_is) wanted =
+    let opens = one_read text token accepted.token (λ (t : Token). Opens t marked) is accepted.is_token accepted.opens in
+    let signature = signed_text policy algs answers token signed in
+    let said = said_good answers (not_unsaid policy algs answers token signed) in
+    judged_accepted text (caller_demands policy algs answers) now answers payload (marked, accepted, payload_is)
+    (record { issuer = said; holder = accepted_good text policy algs now answers accepted.passes token is marked opens signature })
+    (accepted_needed text policy algs now answers accepted.passes token is marked opens signature wanted)
+    (accepted_done text policy algs now answers accepted.passes token is marked opens signature said)
+
+-- ---- the look-ups
+
+-- what is so is so where a token is accepted
+pub where_accepted : (result : Result Judgement JudgeError) (P : Type 0) → P → IfOk result (λ j. OnAccepted j (λ _. P))
+where_accepted (Ok (Judgement.Accepted payload)) P h = h
+where_accepted (Ok (Judgement.Refused fault)) P h = tt
+where_accepted (Ok (Judgement.AsksIssuer question)) P h = tt
+where_accepted (Ok (Judgement.AsksHolder question payload)) P h = tt
+where_accepted (Err error) P h = tt
+
+-- no token is accepted of which a condition fails
+pub not_accepted : (text : List ℕ) (demands : Demands) (now : ℕ) (answers : Answers) (fault : Fault) → IsLowest (FailsFor text demands now) fault
+    → (result : Result Judgement JudgeError) (P : Type 0) → IsJudged text demands now answers result → IfOk result (λ j. OnAccepted j (λ _. P))
+not_accepted text demands now answers fault l (Ok (Judgement.Accepted payload)) P judged = absurd (judged.accepted.1.passes (failed_of fault) fault.place l.fails)
+not_accepted text demands now answers fault l (Ok (Judgement.Refused other)) P judged = tt
+not_accepted text demands now answers fault l (Ok (Judgement.AsksIssuer question)) P judged = tt
+not_accepted text demands now answers fault l (Ok (Judgement.AsksHolder question payload)) P judged = tt
+not_accepted text demands now answers fault l (Err error) P judged = tt

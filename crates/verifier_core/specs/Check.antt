@@ -60,6 +60,10 @@ OfToken content IsSo = (token : Token) (rules : Rules) → IsContent token rules
 abbrev pub IsCounted : Token → ℕ → ℕ → Type 0
 IsCounted token old new = (payload : Tree) × (given : List Given) × HasContent token payload given × (new ≡ counted old (look_ups payload given))
 
+-- the same of a text: those of the token that it is read as
+abbrev pub IsReadCounted : List ℕ → ℕ → ℕ → Type 0
+IsReadCounted content old new = (token : Token) × IsToken content token × IsCounted token old new
+
 -- the look-ups of a token that is not: no more than of one that is
 abbrev pub IsCountedWithin : Token → ℕ → ℕ → Type 0
 IsCountedWithin token old new = (new ≡ old) ⊎ ((payload : Tree) × (given : List Given) × HasContent token payload given × RoseWithin (look_ups payload given) old new)
@@ -84,7 +88,7 @@ pub record IsVerdictFor {A : Type 0} (text : List ℕ) (demands : Demands) (now 
   -- a compact text is judged by the conditions 1 to 3 without memory
   pub no_memory : FailsAsCompact text → result ≢ Err VerifyError.Memory
   -- the look-ups
-  pub counted : IfOk result (λ _. (token : Token) × IsToken text token × IsCounted token old new)
+  pub counted : IfOk result (λ _. IsReadCounted text old new)
   pub within : IsReadWithin text old new
   pub uncounted : IsUncounted (FailsFor text demands now) old new
 

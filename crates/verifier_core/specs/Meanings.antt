@@ -1,4 +1,4 @@
--- Not needed to believe the program's promises: the verdict by what signatures mean, and what the answers of a caller have to do with it.
+-- Not needed to believe the program's promises: verdicts by what signatures mean, and when a caller's answers are true.
 use Rattle.std.specs.Prelude.{◌≡◌, ◌↔◌, ℕ, List, Some}
 use Rattle.b64url_text.specs.Base64url.{Decodes}
 use Rattle.claim_tree.specs.Tree.{Text, Tree, Members}
@@ -46,12 +46,12 @@ pub record IsSentWith (text : List ℕ) (payload : Tree) (binding : JwtParts) : 
 -- ---- the verdict
 
 -- the issuer's signature is not good
-abbrev pub IsIssuerBad : Meanings → List ℕ → Type 0
-IsIssuerBad by text = (token : Token) × IsToken text token × (IsGoodBy by.issuer token.parts.signed → ⊥)
+abbrev pub IsIssuerSignatureBad : Meanings → List ℕ → Type 0
+IsIssuerSignatureBad by text = (token : Token) × IsToken text token × (IsGoodBy by.issuer token.parts.signed → ⊥)
 
 -- a key binding token is asked for, and the signature of the one that is sent is not good
-abbrev pub IsHolderBad : Meanings → List ℕ → Policy → Type 0
-IsHolderBad by text policy =
+abbrev pub IsHolderSignatureBad : Meanings → List ℕ → Policy → Type 0
+IsHolderSignatureBad by text policy =
     (asked : BindingPolicy) × (policy.binding ≡ Some asked)
     × (payload : Tree) × (binding : JwtParts) × IsSentWith text payload binding × (IsGoodBy (by.holder payload) binding → ⊥)
 
@@ -59,13 +59,15 @@ IsHolderBad by text policy =
 -- conditions are those of a caller, which no answer bears upon
 abbrev pub FailsUnder : Meanings → List ℕ → Policy → List Text → ℕ → Condition → Place → Type 0
 FailsUnder by text policy binding_algs now Condition.IssuerKeyUnknown place = ⊥
-FailsUnder by text policy binding_algs now Condition.BadSignature place = Unplaced (IsIssuerBad by text) place
+FailsUnder by text policy binding_algs now Condition.BadSignature place = Unplaced (IsIssuerSignatureBad by text) place
 FailsUnder by text policy binding_algs now Condition.HolderKeyUnknown place = ⊥
-FailsUnder by text policy binding_algs now Condition.BindingSignature place = Unplaced (IsHolderBad by text policy) place
-FailsUnder by text policy binding_algs now c place = FailsFor text (caller_demands policy binding_algs Answers.Nothing) now c place
+FailsUnder by text policy binding_algs now Condition.BindingSignature place = Unplaced (IsHolderSignatureBad by text policy) place
+FailsUnder by text policy binding_algs now c place =
+    FailsFor text (caller_demands policy binding_algs Answers.Nothing) now c place
 
 -- no condition fails, and the token processes to this payload
-pub record IsAcceptedUnder (by : Meanings) (text : List ℕ) (policy : Policy) (binding_algs : List Text) (now : ℕ) (payload : Tree) : Type 0 where
+pub record IsAcceptedUnder (by : Meanings) (text : List ℕ) (policy : Policy) (binding_algs : List Text) (now : ℕ) (payload : Tree)
+    : Type 0 where
   pub passes : NoneFails (FailsUnder by text policy binding_algs now)
   pub token : Token
   pub is_token : IsToken text token
@@ -83,13 +85,14 @@ IsTrueOf SignatureAnswer.Unknown good signed = IsGoodBy good signed → ⊥
 
 -- all that was said is true, of the token that the text is and of the key binding token that it is sent with
 pub record AreTrue (by : Meanings) (text : List ℕ) (answers : Answers) : Type 0 where
-  pub issuer : (answer : SignatureAnswer) → issuer_answer answers ≡ Some answer → (token : Token) → IsToken text token → IsTrueOf answer by.issuer token.parts.signed
+  pub issuer : (answer : SignatureAnswer) → issuer_answer answers ≡ Some answer
+      → (token : Token) → IsToken text token → IsTrueOf answer by.issuer token.parts.signed
   pub holder : (answer : SignatureAnswer) → holder_answer answers ≡ Some answer
       → (payload : Tree) (binding : JwtParts) → IsSentWith text payload binding → IsTrueOf answer (by.holder payload) binding
 
 -- all that was said is true, and nothing more is to be known
 pub record AreTold (by : Meanings) (text : List ℕ) (policy : Policy) (binding_algs : List Text) (now : ℕ) (answers : Answers) : Type 0 where
-  pub true : AreTrue by text answers
+  pub truth : AreTrue by text answers
   pub done : IsAskedNext text (caller_demands policy binding_algs answers) now answers → ⊥
 
 -- the condition that fails by the meanings, where this one fails a caller: it has no key only where the signature is not good
@@ -108,7 +111,8 @@ abbrev pub AcceptedByMeaning : Meanings → Type 0
 AcceptedByMeaning by =
     (text : List ℕ) (policy : Policy) (binding_algs : List Text) (now : ℕ) (answers : Answers) (payload : Tree)
     → AreTold by text policy binding_algs now answers
-    → IsAcceptedForAs text (caller_demands policy binding_algs answers) now payload ↔ IsAcceptedUnder by text policy binding_algs now payload
+    → IsAcceptedForAs text (caller_demands policy binding_algs answers) now payload
+    ↔ IsAcceptedUnder by text policy binding_algs now payload
 
 -- where it has, the lowest condition that fails it is the lowest by the meanings, but that a key which it does not know is a
 -- signature that is not good
@@ -121,12 +125,22 @@ RefusedByMeaning by =
 
 -- by the meanings a text is accepted with one payload or refused with one fault
 pub record HasOneVerdictUnder (by : Meanings) (text : List ℕ) (policy : Policy) (binding_algs : List Text) (now : ℕ) : Type 0 where
-  pub not_both : (payload : Tree) (fault : Fault) → IsAcceptedUnder by text policy binding_algs now payload → IsLowest (FailsUnder by text policy binding_algs now) fault → ⊥
-  pub one_payload : (payload other : Tree) → IsAcceptedUnder by text policy binding_algs now payload → IsAcceptedUnder by text policy binding_algs now other → payload ≡ other
-  pub one_fault : (fault other : Fault) → IsLowest (FailsUnder by text policy binding_algs now) fault → IsLowest (FailsUnder by text policy binding_algs now) other → fault ≡ other
+  pub not_both : (payload : Tree) (fault : Fault)
+      → IsAcceptedUnder by text policy binding_algs now payload
+      → IsLowest (FailsUnder by text policy binding_algs now) fault
+      → ⊥
+  pub one_payload : (payload other : Tree)
+      → IsAcceptedUnder by text policy binding_algs now payload
+      → IsAcceptedUnder by text policy binding_algs now other
+      → payload ≡ other
+  pub one_fault : (fault other : Fault)
+      → IsLowest (FailsUnder by text policy binding_algs now) fault
+      → IsLowest (FailsUnder by text policy binding_algs now) other
+      → fault ≡ other
 
 abbrev pub OneVerdictByMeaning : Meanings → Type 0
-OneVerdictByMeaning by = (text : List ℕ) (policy : Policy) (binding_algs : List Text) (now : ℕ) → HasOneVerdictUnder by text policy binding_algs now
+OneVerdictByMeaning by =
+    (text : List ℕ) (policy : Policy) (binding_algs : List Text) (now : ℕ) → HasOneVerdictUnder by text policy binding_algs now
 
 -- the signature of a JWT is good where that of the question about it is
 abbrev pub AnsweredByMeaning : Meaning → Type 0

@@ -8,7 +8,7 @@ ghost use Rattle.json_form.specs.Token.{IsToken};
 ghost use Rattle.jws_part.specs.Header.{IsHeaderUnreadable, IsHeaderCritical};
 ghost use Rattle.key_binding.specs.JudgedSteps.{rules_seen};
 ghost use Rattle.verifier_core.specs.Verdict.{FailsFor};
-ghost use Rattle.verifier_core.specs.Check.{IsUnopened, IsSigned, IsCountedWithin, IsReadWithin};
+ghost use Rattle.verifier_core.specs.Check.{IsUnopened, IsSigned, IsCounted, IsReadCounted, IsCountedWithin, IsReadWithin, IsUncounted};
 ghost use Rattle.verifier_core.specs.Asking.{caller_demands as demands_of_caller, asked_rules, issuer_answer as issuer_answer_of, holder_answer as holder_answer_of, OnAccepted, OnRefused, OnAsksIssuer, OnAsksHolder, IsQuestion, IsAcceptedForAs, AreSaidGood, AsksIssuer, AsksHolder, WasAsked, IsAskedNext, IsDone, IsNeededAt, IsEarlyOrSigned, IsOpenedAs};
 ghost use Rattle.verifier_core.specs.AskingSteps.{demands_in, fails_in, WasAskedIn, IsAskedNextIn, IsJudgedIn};
 ghost use Rattle.claim_tree.specs.Tree.{no_members};
@@ -425,7 +425,11 @@ fn judge_token(
 ) -> Result<Judgement, JudgeError>
     requires token { IsToken case.text.now token.now }
     ensures judged { IsJudgedIn case.entry result }
+
+    // the look-ups
+    ensures counted { IfOk result (λ j. OnAccepted j (λ _. IsCounted token.now steps.old steps.new)) }
     ensures within { IsCountedWithin token.now steps.old steps.new }
+    ensures uncounted { IsUncounted (fails_in case.entry) steps.old steps.new }
 {
     let demands = caller_demands(case);
     let content = match read_content(alloc, token, &demands) {
@@ -481,7 +485,9 @@ pub fn judge(
     ensures not_asked { IsErrOf result unjudged.JudgeError.NotAsked → WasAsked text.now (demands_of_caller policy.now binding_algs.now answers) now answers → ⊥ }
 
     // the look-ups
+    ensures counted { IfOk result (λ j. OnAccepted j (λ _. IsReadCounted text.now steps.old steps.new)) }
     ensures within { IsReadWithin text.now steps.old steps.new }
+    ensures uncounted { IsUncounted (FailsFor text.now (demands_of_caller policy.now binding_algs.now answers) now) steps.old steps.new }
 {
     let case = Case {
         text,

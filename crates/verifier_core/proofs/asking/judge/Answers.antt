@@ -2,6 +2,7 @@ use Rattle.json_form.specs.Token.{IsTextRefused}
 use Rattle.verifier_core.specs.Asking.{caller_demands}
 use Rattle.verifier_core.proofs.Asked.{done_low}
 use Rattle.verifier_core.proofs.JudgeSteps.{at_fault, text_lowest, text_low}
+use Rattle.verifier_core.proofs.Judgements.{not_accepted}
 use Rattle.verifier_core.proofs.asking.judge.Goals as goal
 
 pub refused-requires-clause-lowest : goal.refused-requires-clause-lowest
@@ -16,3 +17,11 @@ refused-requires-clause-done c =
     let demands = caller_demands a.policy.now a.binding_algs.now a.answers in
     let refused = at_fault c.in-Err.error c.in_ok-fault_of-in-Err.field-0 (IsTextRefused a.text.now) c.in_ok-fault_of-in-Err.ensures c.in-Err.ensures.refused in
     done_low a.text.now demands a.now c.in_ok-fault_of-in-Err.field-0 (text_lowest a.text.now demands a.now c.in_ok-fault_of-in-Err.field-0 refused) a.answers (text_low a.text.now demands a.now c.in_ok-fault_of-in-Err.field-0 refused)
+
+pub returns-in_ok-fault_of-in-Err-clause-counted : goal.returns-in_ok-fault_of-in-Err-clause-counted
+returns-in_ok-fault_of-in-Err-clause-counted c =
+    let a = c.args in
+    let demands = caller_demands a.policy.now a.binding_algs.now a.answers in
+    let fault = c.in_ok-fault_of-in-Err.field-0 in
+    let refused = at_fault c.in-Err.error fault (IsTextRefused a.text.now) c.in_ok-fault_of-in-Err.ensures c.in-Err.ensures.refused in
+    not_accepted a.text.now demands a.now a.answers fault (text_lowest a.text.now demands a.now fault refused) c.refused.result _ c.refused.ensures
