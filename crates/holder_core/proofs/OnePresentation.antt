@@ -40,20 +40,20 @@ HasOneSignature good = (head body one other : List ℕ) → good head body one �
 jwt_made : Text → Text → Text → JwtParts
 jwt_made protected payload signature = record { protected = protected; payload = payload; signature = signature }
 
-one_token : (good : Meaning) → HasOneSignature good → (hash : HashAlg) (text aud nonce : Text) (now : ℕ) (a b : JwtParts) → IsBinding good hash text aud nonce now a → IsBinding good hash text aud nonce now b → a ≡ b
+one_token : (alg : Text) (good : Meaning) → HasOneSignature good → (hash : HashAlg) (text aud nonce : Text) (now : ℕ) (a b : JwtParts) → IsBinding alg good hash text aud nonce now a → IsBinding alg good hash text aud nonce now b → a ≡ b
 unfolding jwt_made
-one_token good once hash text aud nonce now a b h k =
+one_token alg good once hash text aud nonce now a b h k =
     let heads : a.protected ≡ b.protected = h.protected ∙ sym k.protected in
     let bodies : a.payload ≡ b.payload = h.payload ∙ sym k.payload in
     let signed = subst (λ (p : Text). good p b.payload h.signature) heads (subst (λ (p : Text). good a.protected p h.signature) bodies h.signed) in
     let signatures : a.signature ≡ b.signature = h.signature_text ∙ (ap b64 (once b.protected b.payload h.signature k.signature signed k.signed) ∙ sym k.signature_text) in
     ap (λ (x : Text). jwt_made x a.payload a.signature) heads ∙ (ap (λ (x : Text). jwt_made b.protected x a.signature) bodies ∙ ap (λ (x : Text). jwt_made b.protected b.payload x) signatures)
 
-one_bound : (good : Meaning) → HasOneSignature good → (ask : Option BindingAsk) (hash : HashAlg) (text : Text) (now : ℕ) (a b : Option JwtParts) → IsBoundWith ask good hash text now a → IsBoundWith ask good hash text now b → a ≡ b
-one_bound good once None hash text now a b h k = h ∙ sym k
-one_bound good once (Some ask) hash text now None b h k = absurd h
-one_bound good once (Some ask) hash text now (Some a) None h k = absurd k
-one_bound good once (Some ask) hash text now (Some a) (Some b) h k = ap Some (one_token good once hash text ask.aud ask.nonce now a b h.is_binding k.is_binding)
+one_bound : (alg : Text) (good : Meaning) → HasOneSignature good → (ask : Option BindingAsk) (hash : HashAlg) (text : Text) (now : ℕ) (a b : Option JwtParts) → IsBoundWith ask alg good hash text now a → IsBoundWith ask alg good hash text now b → a ≡ b
+one_bound alg good once None hash text now a b h k = h ∙ sym k
+one_bound alg good once (Some ask) hash text now None b h k = absurd h
+one_bound alg good once (Some ask) hash text now (Some a) None h k = absurd k
+one_bound alg good once (Some ask) hash text now (Some a) (Some b) h k = ap Some (one_token alg good once hash text ask.aud ask.nonce now a b h.is_binding k.is_binding)
 
 parts_made : JwtParts → List Text → Option JwtParts → Parts
 parts_made signed disclosures binding = record { signed = signed; disclosures = disclosures; binding = binding }
@@ -69,7 +69,7 @@ refused_one answers rule decided m s i j h k = go (either i j)
     go (inr (inl more)) = absurd (decided k.at (h.smaller j k.at more k.chosen k.stands) k.refused)
     go (inr (inr same)) = same
 
-module _ {F : Type 0} (answers : RuleAnswers F) (rule : F) (decided : IsDecided answers rule) (content : Text) (token : Token) (is : IsToken content token) (ask : Ask) (good : Meaning) (once : HasOneSignature good) (now : ℕ) where
+module _ {F : Type 0} (answers : RuleAnswers F) (rule : F) (decided : IsDecided answers rule) (content : Text) (token : Token) (is : IsToken content token) (ask : Ask) (alg : Text) (good : Meaning) (once : HasOneSignature good) (now : ℕ) where
   one_marked : (m n : Marked) → IsHeld token ask m → IsHeld token ask n → m ≡ n
   one_marked m n h k = one_opening token m n h.checked.opens k.checked.opens
 
@@ -77,7 +77,7 @@ module _ {F : Type 0} (answers : RuleAnswers F) (rule : F) (decided : IsDecided 
   one_fault f g h k = one_token_fault token (held_rules ask.keys) f g h k
 
   -- the answer is one
-  pub one_answer : (a b : Parts) → IsAnswer answers rule token ask good now a → IsAnswer answers rule token ask good now b → a ≡ b
+  pub one_answer : (a b : Parts) → IsAnswer answers rule token ask alg good now a → IsAnswer answers rule token ask alg good now b → a ≡ b
   unfolding parts_made
   one_answer a b h k =
       let marks : h.marked ≡ k.marked = one_marked h.marked k.marked h.agreed.held k.agreed.held in
@@ -85,8 +85,8 @@ module _ {F : Type 0} (answers : RuleAnswers F) (rule : F) (decided : IsDecided 
       let texts : a.disclosures ≡ b.disclosures = h.presents.disclosures ∙ (ap (λ (m : Marked). picked (chosen m ask.want) token.parts.disclosures) marks ∙ sym k.presents.disclosures) in
       let hashes : h.hash ≡ k.hash = one_hash token h.hash k.hash h.has_hash k.has_hash in
       let fronts : hashed a ≡ hashed b = ap₂ (λ (j : JwtParts) (ds : List Text). hashed (parts_made j ds None)) signed texts in
-      let bound = subst (λ (x : HashAlg). IsBoundWith ask.binding good x (hashed b) now a.binding) hashes (subst (λ (x : Text). IsBoundWith ask.binding good h.hash x now a.binding) fronts h.bound) in
-      let bindings : a.binding ≡ b.binding = one_bound good once ask.binding k.hash (hashed b) now a.binding b.binding bound k.bound in
+      let bound = subst (λ (x : HashAlg). IsBoundWith ask.binding alg good x (hashed b) now a.binding) hashes (subst (λ (x : Text). IsBoundWith ask.binding alg good h.hash x now a.binding) fronts h.bound) in
+      let bindings : a.binding ≡ b.binding = one_bound alg good once ask.binding k.hash (hashed b) now a.binding b.binding bound k.bound in
       ap (λ (x : JwtParts). parts_made x a.disclosures a.binding) signed ∙ (ap (λ (x : List Text). parts_made b.signed x a.binding) texts ∙ ap (λ (x : Option JwtParts). parts_made b.signed b.disclosures x) bindings)
 
   -- ---- what a step rules out
@@ -108,7 +108,7 @@ module _ {F : Type 0} (answers : RuleAnswers F) (rule : F) (decided : IsDecided 
       h.differs (subst (λ (b : Option BindingAsk). NamesKey b (shown_for h.marked ask.want)) h.asked_for there)
 
   -- a token that is presented is not refused
-  pub answered_not_refused : (a : Parts) (e : PresentError) → IsAnswer answers rule token ask good now a → length (compact a) ≤ compact_max → IsNoAnswer answers rule token ask good now e → (e ≡ Memory) ⊎ (e ≡ SignFailed)
+  pub answered_not_refused : (a : Parts) (e : PresentError) → IsAnswer answers rule token ask alg good now a → length (compact a) ≤ compact_max → IsNoAnswer answers rule token ask alg good now e → (e ≡ Memory) ⊎ (e ≡ SignFailed)
   answered_not_refused a Memory h short r = inl refl
   answered_not_refused a SignFailed h short r = inr refl
   answered_not_refused a HasBinding h short r = absurd (r h.agreed.held.unbound)
@@ -123,7 +123,7 @@ module _ {F : Type 0} (answers : RuleAnswers F) (rule : F) (decided : IsDecided 
 
   -- a token is refused for one cause, beside want of memory and a signer that fails
   abbrev IsRefusal : PresentError → Type 0
-  IsRefusal e = IsNoAnswer answers rule token ask good now e
+  IsRefusal e = IsNoAnswer answers rule token ask alg good now e
 
   pub one_refusal : (e o : PresentError) → e ≢ Memory → e ≢ SignFailed → o ≢ Memory → o ≢ SignFailed → IsRefusal e → IsRefusal o → e ≡ o
   one_refusal Memory o a b c d x y = absurd (a refl)
@@ -179,20 +179,20 @@ module _ {F : Type 0} (answers : RuleAnswers F) (rule : F) (decided : IsDecided 
 
 -- ---- the same of a text
 
-module _ {F : Type 0} (answers : RuleAnswers F) (rule : F) (decided : IsDecided answers rule) (content : Text) (ask : Ask) (good : Meaning) (once : HasOneSignature good) (now : ℕ) where
-  pub one_presented : (a b : Parts) → IsPresented answers rule content ask good now a → IsPresented answers rule content ask good now b → a ≡ b
+module _ {F : Type 0} (answers : RuleAnswers F) (rule : F) (decided : IsDecided answers rule) (content : Text) (ask : Ask) (alg : Text) (good : Meaning) (once : HasOneSignature good) (now : ℕ) where
+  pub one_presented : (a b : Parts) → IsPresented answers rule content ask alg good now a → IsPresented answers rule content ask alg good now b → a ≡ b
   one_presented a b h k =
-      one_answer answers rule decided content k.token k.is_token ask good once now a b
-      (subst (λ (t : Token). IsAnswer answers rule t ask good now a) (tokens.one content h.token k.token h.is_token k.is_token) h.is_answer)
+      one_answer answers rule decided content k.token k.is_token ask alg good once now a b
+      (subst (λ (t : Token). IsAnswer answers rule t ask alg good now a) (tokens.one content h.token k.token h.is_token k.is_token) h.is_answer)
       k.is_answer
 
-  pub presented_not_refused : (a : Parts) (e : PresentError) → IsPresented answers rule content ask good now a → length (compact a) ≤ compact_max → IsNotPresented answers rule content ask good now e → (e ≡ Memory) ⊎ (e ≡ SignFailed)
+  pub presented_not_refused : (a : Parts) (e : PresentError) → IsPresented answers rule content ask alg good now a → length (compact a) ≤ compact_max → IsNotPresented answers rule content ask alg good now e → (e ≡ Memory) ⊎ (e ≡ SignFailed)
   presented_not_refused a e h short (no_memory is) = inl is
   presented_not_refused a e h short (not_read fault is r) = absurd (tokens.not_both content h.token fault h.is_token r)
   presented_not_refused a e h short (refused token is r) =
-      answered_not_refused answers rule decided content token is ask good once now a e (subst (λ (t : Token). IsAnswer answers rule t ask good now a) (tokens.one content h.token token h.is_token is) h.is_answer) short r
+      answered_not_refused answers rule decided content token is ask alg good once now a e (subst (λ (t : Token). IsAnswer answers rule t ask alg good now a) (tokens.one content h.token token h.is_token is) h.is_answer) short r
 
-  pub one_cause : (e o : PresentError) → e ≢ Memory → e ≢ SignFailed → o ≢ Memory → o ≢ SignFailed → IsNotPresented answers rule content ask good now e → IsNotPresented answers rule content ask good now o → e ≡ o
+  pub one_cause : (e o : PresentError) → e ≢ Memory → e ≢ SignFailed → o ≢ Memory → o ≢ SignFailed → IsNotPresented answers rule content ask alg good now e → IsNotPresented answers rule content ask alg good now o → e ≡ o
   one_cause e o a b c d (no_memory is) k = absurd (a is)
   one_cause e o a b c d (not_read f is r) (no_memory also) = absurd (c also)
   one_cause e o a b c d (refused token there r) (no_memory also) = absurd (c also)
@@ -200,4 +200,4 @@ module _ {F : Type 0} (answers : RuleAnswers F) (rule : F) (decided : IsDecided 
   one_cause e o a b c d (not_read f is r) (refused token there q) = absurd (tokens.not_both content token f there r)
   one_cause e o a b c d (refused token there r) (not_read g is q) = absurd (tokens.not_both content token g there q)
   one_cause e o a b c d (refused token there r) (refused other here q) =
-      one_refusal answers rule decided content other here ask good once now e o a b c d (subst (λ (t : Token). IsNoAnswer answers rule t ask good now e) (tokens.one content token other there here) r) q
+      one_refusal answers rule decided content other here ask alg good once now e o a b c d (subst (λ (t : Token). IsNoAnswer answers rule t ask alg good now e) (tokens.one content token other there here) r) q

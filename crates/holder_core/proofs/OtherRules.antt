@@ -28,8 +28,8 @@ module _ {F G : Type 0} {answers : RuleAnswers F} {rule : F} (others : RuleAnswe
   agreed : (token : Token) (ask : Ask) (m : Marked) → IsAgreed answers rule token ask m → IsAgreed others other token ask m
   agreed token ask m h = record { held = h.held; there = h.there; allowed = all_allowed m (chosen m ask.want) h.allowed }
 
-  module _ (token : Token) (ask : Ask) (good : Meaning) (now : ℕ) where
-    answer : (a : Parts) → IsAnswer answers rule token ask good now a → IsAnswer others other token ask good now a
+  module _ (token : Token) (ask : Ask) (alg : Text) (good : Meaning) (now : ℕ) where
+    answer : (a : Parts) → IsAnswer answers rule token ask alg good now a → IsAnswer others other token ask alg good now a
     answer a h = record {
       marked = h.marked;
       agreed = agreed token ask h.marked h.agreed;
@@ -40,7 +40,7 @@ module _ {F G : Type 0} {answers : RuleAnswers F} {rule : F} (others : RuleAnswe
       bound = h.bound;
     }
 
-    refusal : (e : PresentError) → IsNoAnswer answers rule token ask good now e → IsNoAnswer others other token ask good now e
+    refusal : (e : PresentError) → IsNoAnswer answers rule token ask alg good now e → IsNoAnswer others other token ask alg good now e
     refusal Memory h = h
     refusal HasBinding h = h
     refusal (OnCondition fault) h = h
@@ -51,18 +51,18 @@ module _ {F G : Type 0} {answers : RuleAnswers F} {rule : F} (others : RuleAnswe
     refusal TooLong h = record { answer = h.answer; is_answer = answer h.answer h.is_answer; long = h.long }
 
 -- the fact comes first, and tells the rule
-pub presented_by : {F G : Type 0} {answers : RuleAnswers F} {rule : F} (content : Text) (ask : Ask) (good : Meaning) (now : ℕ) (r : Result Parts PresentError)
-    → IfOk r (IsPresented answers rule content ask good now) → (others : RuleAnswers G) (other : G)
-    → ((at : Path) (b : Bool) → Allows answers rule at b → Allows others other at b) → IfOk r (IsPresented others other content ask good now)
-presented_by content ask good now (Ok a) h others other carries =
-    record { token = h.token; is_token = h.is_token; is_answer = answer others other carries h.token ask good now a h.is_answer }
-presented_by content ask good now (Err e) h others other carries = tt
+pub presented_by : {F G : Type 0} {answers : RuleAnswers F} {rule : F} (content : Text) (ask : Ask) (alg : Text) (good : Meaning) (now : ℕ) (r : Result Parts PresentError)
+    → IfOk r (IsPresented answers rule content ask alg good now) → (others : RuleAnswers G) (other : G)
+    → ((at : Path) (b : Bool) → Allows answers rule at b → Allows others other at b) → IfOk r (IsPresented others other content ask alg good now)
+presented_by content ask alg good now (Ok a) h others other carries =
+    record { token = h.token; is_token = h.is_token; is_answer = answer others other carries h.token ask alg good now a h.is_answer }
+presented_by content ask alg good now (Err e) h others other carries = tt
 
-pub not_presented_by : {F G : Type 0} {answers : RuleAnswers F} {rule : F} (content : Text) (ask : Ask) (good : Meaning) (now : ℕ) (r : Result Parts PresentError)
-    → IfErr r (IsNotPresented answers rule content ask good now) → (others : RuleAnswers G) (other : G)
-    → ((at : Path) (b : Bool) → Allows answers rule at b → Allows others other at b) → IfErr r (IsNotPresented others other content ask good now)
-not_presented_by content ask good now (Ok a) h others other carries = tt
-not_presented_by content ask good now (Err e) (no_memory is) others other carries = no_memory is
-not_presented_by content ask good now (Err e) (not_read fault is r) others other carries = not_read fault is r
-not_presented_by content ask good now (Err e) (refused token is r) others other carries =
-    refused token is (refusal others other carries token ask good now e r)
+pub not_presented_by : {F G : Type 0} {answers : RuleAnswers F} {rule : F} (content : Text) (ask : Ask) (alg : Text) (good : Meaning) (now : ℕ) (r : Result Parts PresentError)
+    → IfErr r (IsNotPresented answers rule content ask alg good now) → (others : RuleAnswers G) (other : G)
+    → ((at : Path) (b : Bool) → Allows answers rule at b → Allows others other at b) → IfErr r (IsNotPresented others other content ask alg good now)
+not_presented_by content ask alg good now (Ok a) h others other carries = tt
+not_presented_by content ask alg good now (Err e) (no_memory is) others other carries = no_memory is
+not_presented_by content ask alg good now (Err e) (not_read fault is r) others other carries = not_read fault is r
+not_presented_by content ask alg good now (Err e) (refused token is r) others other carries =
+    refused token is (refusal others other carries token ask alg good now e r)

@@ -125,8 +125,8 @@ module _ {F : Type 0} (answers : RuleAnswers F) (rule : F) (token : Token) (ask 
         };
       }
 
-  module _ (good : Meaning) (now : ℕ) where
-    pub unchecked_refused : (e : PresentError) → token.parts.binding ≡ None → IsUnchecked token (held_rules ask.keys) e → IsNoAnswer answers rule token ask good now e
+  module _ (alg : Text) (good : Meaning) (now : ℕ) where
+    pub unchecked_refused : (e : PresentError) → token.parts.binding ≡ None → IsUnchecked token (held_rules ask.keys) e → IsNoAnswer answers rule token ask alg good now e
     unchecked_refused Memory none h = tt
     unchecked_refused (OnCondition fault) none h = (none, h)
     unchecked_refused HasBinding none h = absurd h
@@ -136,7 +136,7 @@ module _ {F : Type 0} (answers : RuleAnswers F) (rule : F) (token : Token) (ask 
     unchecked_refused SignFailed none h = absurd h
     unchecked_refused TooLong none h = absurd h
 
-    pub unready_refused : (e : PresentError) → IsUnready answers rule token ask e → IsNoAnswer answers rule token ask good now e
+    pub unready_refused : (e : PresentError) → IsUnready answers rule token ask e → IsNoAnswer answers rule token ask alg good now e
     unready_refused Memory h = tt
     unready_refused (OnCondition fault) h = absurd h
     unready_refused HasBinding h = absurd h
@@ -146,12 +146,12 @@ module _ {F : Type 0} (answers : RuleAnswers F) (rule : F) (token : Token) (ask 
     unready_refused SignFailed h = absurd h
     unready_refused TooLong h = absurd h
 
-    pub unpresented_refused : (e : PresentError) → token.parts.binding ≡ None → IsUncheckedOrUnready answers rule token ask e → IsNoAnswer answers rule token ask good now e
+    pub unpresented_refused : (e : PresentError) → token.parts.binding ≡ None → IsUncheckedOrUnready answers rule token ask e → IsNoAnswer answers rule token ask alg good now e
     unpresented_refused e none (inl h) = unchecked_refused e none h
     unpresented_refused e none (inr h) = unready_refused e h
 
     module _ (marked : Marked) (unbound : Parts) (is : IsReady answers rule token ask marked unbound) (hash : HashAlg) (has_hash : HasHash token hash) where
-      pub answered : (answer : Parts) → IsPresentFinished ask.binding good hash now unbound answer → IsAnswer answers rule token ask good now answer
+      pub answered : (answer : Parts) → IsPresentFinished ask.binding alg good hash now unbound answer → IsAnswer answers rule token ask alg good now answer
       answered answer done = record {
         marked = marked;
         agreed = is.agreed;
@@ -162,7 +162,7 @@ module _ {F : Type 0} (answers : RuleAnswers F) (rule : F) (token : Token) (ask 
         bound = done.bound;
       }
 
-      pub unfinished_refused : (e : PresentError) → IsPresentUnfinished ask.binding good hash now unbound e → IsNoAnswer answers rule token ask good now e
+      pub unfinished_refused : (e : PresentError) → IsPresentUnfinished ask.binding alg good hash now unbound e → IsNoAnswer answers rule token ask alg good now e
       unfinished_refused Memory h = tt
       unfinished_refused (OnCondition fault) h = absurd h
       unfinished_refused HasBinding h = absurd h

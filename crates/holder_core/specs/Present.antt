@@ -69,36 +69,36 @@ NamesKey None payload = Unit {0}
 NamesKey (Some ask) payload = holder_kid payload ≡ Some ask.kid
 
 -- the key binding token is what is asked for, over this text, and is read as that
-pub record IsBoundBy (ask : BindingAsk) (good : Meaning) (hash : HashAlg) (text : Text) (now : ℕ) (token : JwtParts) : Type 0 where
-  pub is_binding : IsBinding good hash text ask.aud ask.nonce now token
-  pub read_back : IsReadBack hash text ask.aud ask.nonce now token
+pub record IsBoundBy (ask : BindingAsk) (alg : Text) (good : Meaning) (hash : HashAlg) (text : Text) (now : ℕ) (token : JwtParts) : Type 0 where
+  pub is_binding : IsBinding alg good hash text ask.aud ask.nonce now token
+  pub read_back : IsReadBack alg hash text ask.aud ask.nonce now token
 
 -- the answer has the key binding token that is asked for, over its own text, or none where none is asked for
-abbrev pub IsBoundWith : Option BindingAsk → Meaning → HashAlg → Text → ℕ → Option JwtParts → Type 0
-IsBoundWith None good hash text now binding = binding ≡ None
-IsBoundWith (Some ask) good hash text now None = ⊥
-IsBoundWith (Some ask) good hash text now (Some token) = IsBoundBy ask good hash text now token
+abbrev pub IsBoundWith : Option BindingAsk → Text → Meaning → HashAlg → Text → ℕ → Option JwtParts → Type 0
+IsBoundWith None alg good hash text now binding = binding ≡ None
+IsBoundWith (Some ask) alg good hash text now None = ⊥
+IsBoundWith (Some ask) alg good hash text now (Some token) = IsBoundBy ask alg good hash text now token
 
-abbrev pub IsBoundAs : Option BindingAsk → Meaning → HashAlg → ℕ → Parts → Type 0
-IsBoundAs ask good hash now answer = IsBoundWith ask good hash (hashed answer) now answer.binding
+abbrev pub IsBoundAs : Option BindingAsk → Text → Meaning → HashAlg → ℕ → Parts → Type 0
+IsBoundAs ask alg good hash now answer = IsBoundWith ask alg good hash (hashed answer) now answer.binding
 
 -- ---- the answer
 
--- the chosen disclosures of the token are presented as is asked, by a signer with these good signatures, at a moment in seconds since 1970
-pub record IsAnswer {F : Type 0} (answers : RuleAnswers F) (rule : F) (token : Token) (ask : Ask) (good : Meaning) (now : ℕ) (answer : Parts) : Type 0 where
+-- the chosen disclosures of the token are presented as is asked, by a signer of the algorithm of this name with these good signatures, at a moment in seconds since 1970
+pub record IsAnswer {F : Type 0} (answers : RuleAnswers F) (rule : F) (token : Token) (ask : Ask) (alg : Text) (good : Meaning) (now : ℕ) (answer : Parts) : Type 0 where
   pub marked : Marked
   pub agreed : IsAgreed answers rule token ask marked
   pub key : NamesKey ask.binding (shown_for marked ask.want)
   pub presents : PicksParts token.parts (chosen marked ask.want) answer.binding answer
   pub hash : HashAlg
   pub has_hash : HasHash token hash
-  pub bound : IsBoundAs ask.binding good hash now answer
+  pub bound : IsBoundAs ask.binding alg good hash now answer
 
 -- the same of a text
-pub record IsPresented {F : Type 0} (answers : RuleAnswers F) (rule : F) (content : Text) (ask : Ask) (good : Meaning) (now : ℕ) (answer : Parts) : Type 0 where
+pub record IsPresented {F : Type 0} (answers : RuleAnswers F) (rule : F) (content : Text) (ask : Ask) (alg : Text) (good : Meaning) (now : ℕ) (answer : Parts) : Type 0 where
   pub token : Token
   pub is_token : IsToken content token
-  pub is_answer : IsAnswer answers rule token ask good now answer
+  pub is_answer : IsAnswer answers rule token ask alg good now answer
 
 -- ---- the refusals
 
@@ -132,25 +132,25 @@ pub record IsPresentToBeSigned {F : Type 0} (answers : RuleAnswers F) (rule : F)
   pub key : holder_kid (shown_for marked ask.want) ≡ Some binding.kid
 
 -- what is presented is too long, with some good signature
-pub record IsPresentTooLong {F : Type 0} (answers : RuleAnswers F) (rule : F) (token : Token) (ask : Ask) (good : Meaning) (now : ℕ) : Type 0 where
+pub record IsPresentTooLong {F : Type 0} (answers : RuleAnswers F) (rule : F) (token : Token) (ask : Ask) (alg : Text) (good : Meaning) (now : ℕ) : Type 0 where
   pub answer : Parts
-  pub is_answer : IsAnswer answers rule token ask good now answer
+  pub is_answer : IsAnswer answers rule token ask alg good now answer
   pub long : compact_max < length (compact answer)
 
 -- what each refusal of a token says: that it applies, and no earlier one; want of memory says nothing
-abbrev pub IsNoAnswer : {F : Type 0} → RuleAnswers F → F → Token → Ask → Meaning → ℕ → PresentError → Type 0
-IsNoAnswer answers rule token ask good now Memory = Unit {0}
-IsNoAnswer answers rule token ask good now HasBinding = token.parts.binding ≢ None
-IsNoAnswer answers rule token ask good now (OnCondition fault) = (token.parts.binding ≡ None) × IsLowest (TokenFails token (held_rules ask.keys)) fault
-IsNoAnswer answers rule token ask good now (NoSuchPlace k) = IsWantedNotThere token ask k
-IsNoAnswer answers rule token ask good now (ConsentRefused i) = IsConsentRefused answers rule token ask i
-IsNoAnswer answers rule token ask good now BindingKeyDiffers = IsBindingKeyOther answers rule token ask
-IsNoAnswer answers rule token ask good now SignFailed = IsPresentToBeSigned answers rule token ask
-IsNoAnswer answers rule token ask good now TooLong = IsPresentTooLong answers rule token ask good now
+abbrev pub IsNoAnswer : {F : Type 0} → RuleAnswers F → F → Token → Ask → Text → Meaning → ℕ → PresentError → Type 0
+IsNoAnswer answers rule token ask alg good now Memory = Unit {0}
+IsNoAnswer answers rule token ask alg good now HasBinding = token.parts.binding ≢ None
+IsNoAnswer answers rule token ask alg good now (OnCondition fault) = (token.parts.binding ≡ None) × IsLowest (TokenFails token (held_rules ask.keys)) fault
+IsNoAnswer answers rule token ask alg good now (NoSuchPlace k) = IsWantedNotThere token ask k
+IsNoAnswer answers rule token ask alg good now (ConsentRefused i) = IsConsentRefused answers rule token ask i
+IsNoAnswer answers rule token ask alg good now BindingKeyDiffers = IsBindingKeyOther answers rule token ask
+IsNoAnswer answers rule token ask alg good now SignFailed = IsPresentToBeSigned answers rule token ask
+IsNoAnswer answers rule token ask alg good now TooLong = IsPresentTooLong answers rule token ask alg good now
 
 -- why nothing is presented of a text: it is no token, by the lowest of the conditions 1 to 3, or its token is refused; want of memory says
 -- nothing
-pub data IsNotPresented {F : Type 0} (answers : RuleAnswers F) (rule : F) (content : Text) (ask : Ask) (good : Meaning) (now : ℕ) (error : PresentError) : Type 0 where
-  no_memory : error ≡ Memory → IsNotPresented answers rule content ask good now error
-  not_read : (fault : Fault) → error ≡ OnCondition fault → file.IsTextRefused content fault → IsNotPresented answers rule content ask good now error
-  refused : (token : Token) → IsToken content token → IsNoAnswer answers rule token ask good now error → IsNotPresented answers rule content ask good now error
+pub data IsNotPresented {F : Type 0} (answers : RuleAnswers F) (rule : F) (content : Text) (ask : Ask) (alg : Text) (good : Meaning) (now : ℕ) (error : PresentError) : Type 0 where
+  no_memory : error ≡ Memory → IsNotPresented answers rule content ask alg good now error
+  not_read : (fault : Fault) → error ≡ OnCondition fault → file.IsTextRefused content fault → IsNotPresented answers rule content ask alg good now error
+  refused : (token : Token) → IsToken content token → IsNoAnswer answers rule token ask alg good now error → IsNotPresented answers rule content ask alg good now error

@@ -1,6 +1,6 @@
 -- For private functions: the steps of presenting.
 use Rattle.std.specs.Prelude.{◌≡◌, ◌≢◌, ◌<◌, ◌⊎◌, ℕ, List, [], length, Option, None, Some}
-use Rattle.claim_tree.specs.Tree.{Tree}
+use Rattle.claim_tree.specs.Tree.{Text, Tree}
 use Rattle.claim_tree.specs.Lists.{IsLeast, AtNone}
 use Rattle.compact_form.specs.Compact.{compact}
 use Rattle.sd_outside.specs.Limits.{compact_max}
@@ -46,23 +46,23 @@ IsPresentUnsigned binding SignFailed = (ask : BindingAsk) × (binding ≡ Some a
 IsPresentUnsigned binding _ = ⊥
 
 -- the parts have the signed part and the disclosures of others, and the key binding token that is asked for
-pub record IsPresentFinished (binding : Option BindingAsk) (good : Meaning) (hash : HashAlg) (now : ℕ) (unbound answer : Parts) : Type 0 where
+pub record IsPresentFinished (binding : Option BindingAsk) (alg : Text) (good : Meaning) (hash : HashAlg) (now : ℕ) (unbound answer : Parts) : Type 0 where
   pub signed : answer.signed ≡ unbound.signed
   pub disclosures : answer.disclosures ≡ unbound.disclosures
-  pub bound : IsBoundAs binding good hash now answer
+  pub bound : IsBoundAs binding alg good hash now answer
 
 -- these parts are too long
-pub record IsPresentOverlong (binding : Option BindingAsk) (good : Meaning) (hash : HashAlg) (now : ℕ) (unbound : Parts) : Type 0 where
+pub record IsPresentOverlong (binding : Option BindingAsk) (alg : Text) (good : Meaning) (hash : HashAlg) (now : ℕ) (unbound : Parts) : Type 0 where
   pub answer : Parts
-  pub finished : IsPresentFinished binding good hash now unbound answer
+  pub finished : IsPresentFinished binding alg good hash now unbound answer
   pub long : compact_max < length (compact answer)
 
 -- a key binding token that is asked for was not signed, or the parts are too long
-abbrev pub IsPresentUnfinished : Option BindingAsk → Meaning → HashAlg → ℕ → Parts → PresentError → Type 0
-IsPresentUnfinished binding good hash now unbound Memory = Unit {0}
-IsPresentUnfinished binding good hash now unbound SignFailed = (ask : BindingAsk) × (binding ≡ Some ask)
-IsPresentUnfinished binding good hash now unbound TooLong = IsPresentOverlong binding good hash now unbound
-IsPresentUnfinished binding good hash now unbound _ = ⊥
+abbrev pub IsPresentUnfinished : Option BindingAsk → Text → Meaning → HashAlg → ℕ → Parts → PresentError → Type 0
+IsPresentUnfinished binding alg good hash now unbound Memory = Unit {0}
+IsPresentUnfinished binding alg good hash now unbound SignFailed = (ask : BindingAsk) × (binding ≡ Some ask)
+IsPresentUnfinished binding alg good hash now unbound TooLong = IsPresentOverlong binding alg good hash now unbound
+IsPresentUnfinished binding alg good hash now unbound _ = ⊥
 
 -- the parts are those of the token with the disclosures that are asked for, and nothing is refused before they are signed
 pub record IsReady {F : Type 0} (answers : RuleAnswers F) (rule : F) (token : Token) (ask : Ask) (marked : Marked) (unbound : Parts) : Type 0 where

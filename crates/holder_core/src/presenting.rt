@@ -7,7 +7,6 @@ ghost use Rattle.compact_form.specs.Compact.{AreWords, HasWords, compact as comp
 ghost use Rattle.compact_form.specs.Lowest.{IsLowest};
 ghost use Rattle.sd_outside.specs.Limits.{compact_max, json_depth_max};
 ghost use Rattle.hmac_sign.specs.Agreement.{Agree};
-ghost use Rattle.hmac_sign.specs.declared.alg.Alg.{Alg};
 ghost use Rattle.json_form.specs.Token.{IsToken};
 ghost use Rattle.json_form.specs.declared.token.Token.{Token as SeenToken};
 ghost use Rattle.marked_tree.specs.Choice.{IsUnmixed};
@@ -52,18 +51,17 @@ pub fn present<S: Signer, F: Fn(&Path) -> bool>(
     now: u64,
     steps: &mut Steps,
 ) -> Result<Parts, PresentError>
-    requires hs256 { S.alg_of signer.old ≡ Alg.Hs256 }
     requires callable { F.IsAlwaysCallable consent.now }
-    ensures presented { IfOk result (IsPresented F.Fn consent.now text.now ask.now (S.good signer.old) now) }
+    ensures presented { IfOk result (IsPresented F.Fn consent.now text.now ask.now (S.alg_name_of signer.old) (S.good signer.old) now) }
     ensures words { IfOk result AreWords }
     ensures short { IfOk result (λ answer. length (compact_text answer) ≤ compact_max) }
-    ensures refused { IfErr result (IsNotPresented F.Fn consent.now text.now ask.now (S.good signer.old) now) }
+    ensures refused { IfErr result (IsNotPresented F.Fn consent.now text.now ask.now (S.alg_name_of signer.old) (S.good signer.old) now) }
     ensures failed { IsErrOf result PresentError.SignFailed → Rose (S.faults signer.old) (S.faults signer.new) }
 
     // what stays
     ensures unasked { ask.now.binding ≡ None → signer.new ≡ signer.old }
     ensures same_good { Agree (S.good signer.new) (S.good signer.old) }
-    ensures same_alg { S.alg_of signer.new ≡ S.alg_of signer.old }
+    ensures same_alg { S.alg_name_of signer.new ≡ S.alg_name_of signer.old }
     ensures later { S.faults signer.old ≤ S.faults signer.new }
 
     // the look-ups
@@ -97,16 +95,15 @@ fn present_token<S: Signer, F: Fn(&Path) -> bool>(
     requires few { length token.now.parts.disclosures < 2 ^ 32 - 1 }
     requires words { AreWords token.now.parts }
     requires unbound { token.now.parts.binding ≡ None }
-    requires hs256 { S.alg_of signer.old ≡ Alg.Hs256 }
     requires callable { F.IsAlwaysCallable consent.now }
-    ensures answer { IfOk result (IsAnswer F.Fn consent.now token.now ask.now (S.good signer.old) now) }
+    ensures answer { IfOk result (IsAnswer F.Fn consent.now token.now ask.now (S.alg_name_of signer.old) (S.good signer.old) now) }
     ensures words { IfOk result AreWords }
     ensures short { IfOk result (λ answer. length (compact_text answer) ≤ compact_max) }
-    ensures refused { IfErr result (IsNoAnswer F.Fn consent.now token.now ask.now (S.good signer.old) now) }
+    ensures refused { IfErr result (IsNoAnswer F.Fn consent.now token.now ask.now (S.alg_name_of signer.old) (S.good signer.old) now) }
     ensures failed { IsErrOf result PresentError.SignFailed → Rose (S.faults signer.old) (S.faults signer.new) }
     ensures unasked { ask.now.binding ≡ None → signer.new ≡ signer.old }
     ensures same_good { Agree (S.good signer.new) (S.good signer.old) }
-    ensures same_alg { S.alg_of signer.new ≡ S.alg_of signer.old }
+    ensures same_alg { S.alg_name_of signer.new ≡ S.alg_name_of signer.old }
     ensures later { S.faults signer.old ≤ S.faults signer.new }
     ensures counted { IfOk result (λ _. IsCounted token.now steps.old steps.new) }
     ensures within { IsCountedWithin token.now steps.old steps.new }
@@ -189,17 +186,16 @@ fn finish<S: Signer>(
     signer: &mut S,
     now: u64,
 ) -> Result<Parts, PresentError>
-    requires hs256 { S.alg_of signer.old ≡ Alg.Hs256 }
     requires words { AreWords unbound }
     requires none { unbound.binding ≡ None }
-    ensures finished { IfOk result (IsPresentFinished binding.now (S.good signer.old) hash now unbound) }
+    ensures finished { IfOk result (IsPresentFinished binding.now (S.alg_name_of signer.old) (S.good signer.old) hash now unbound) }
     ensures words { IfOk result AreWords }
     ensures short { IfOk result (λ answer. length (compact_text answer) ≤ compact_max) }
-    ensures unfinished { IfErr result (IsPresentUnfinished binding.now (S.good signer.old) hash now unbound) }
+    ensures unfinished { IfErr result (IsPresentUnfinished binding.now (S.alg_name_of signer.old) (S.good signer.old) hash now unbound) }
     ensures failed { IsErrOf result PresentError.SignFailed → Rose (S.faults signer.old) (S.faults signer.new) }
     ensures unasked { binding.now ≡ None → signer.new ≡ signer.old }
     ensures same_good { Agree (S.good signer.new) (S.good signer.old) }
-    ensures same_alg { S.alg_of signer.new ≡ S.alg_of signer.old }
+    ensures same_alg { S.alg_name_of signer.new ≡ S.alg_name_of signer.old }
     ensures later { S.faults signer.old ≤ S.faults signer.new }
 {
     let parts = match bound_parts(alloc, unbound, binding, hash, signer, now) {
@@ -357,13 +353,12 @@ fn binding_of<S: Signer>(
     signer: &mut S,
     now: u64,
 ) -> Result<JwtParts, BindError>
-    requires hs256 { S.alg_of signer.old ≡ Alg.Hs256 }
     requires words { AreWords unbound.now }
-    ensures bound { IfOk result (IsBoundBy asked.now (S.good signer.old) hash (hashed_of unbound.now) now) }
+    ensures bound { IfOk result (IsBoundBy asked.now (S.alg_name_of signer.old) (S.good signer.old) hash (hashed_of unbound.now) now) }
     ensures words { IfOk result HasWords }
     ensures failed { IsErrOf result BindError.SignFailed → Rose (S.faults signer.old) (S.faults signer.new) }
     ensures same_good { Agree (S.good signer.new) (S.good signer.old) }
-    ensures same_alg { S.alg_of signer.new ≡ S.alg_of signer.old }
+    ensures same_alg { S.alg_name_of signer.new ≡ S.alg_name_of signer.old }
     ensures later { S.faults signer.old ≤ S.faults signer.new }
 {
     let hashed = hashed_text(alloc, unbound)?;
@@ -381,16 +376,15 @@ fn bound_parts<S: Signer>(
     signer: &mut S,
     now: u64,
 ) -> Result<Parts, PresentError>
-    requires hs256 { S.alg_of signer.old ≡ Alg.Hs256 }
     requires words { AreWords unbound }
     requires none { unbound.binding ≡ None }
-    ensures finished { IfOk result (IsPresentFinished binding.now (S.good signer.old) hash now unbound) }
+    ensures finished { IfOk result (IsPresentFinished binding.now (S.alg_name_of signer.old) (S.good signer.old) hash now unbound) }
     ensures words { IfOk result AreWords }
     ensures unsigned { IfErr result (IsPresentUnsigned binding.now) }
     ensures failed { IsErrOf result PresentError.SignFailed → Rose (S.faults signer.old) (S.faults signer.new) }
     ensures unasked { binding.now ≡ None → signer.new ≡ signer.old }
     ensures same_good { Agree (S.good signer.new) (S.good signer.old) }
-    ensures same_alg { S.alg_of signer.new ≡ S.alg_of signer.old }
+    ensures same_alg { S.alg_name_of signer.new ≡ S.alg_name_of signer.old }
     ensures later { S.faults signer.old ≤ S.faults signer.new }
 {
     let Some(asked) = binding else {
