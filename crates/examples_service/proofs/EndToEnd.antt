@@ -1,5 +1,5 @@
 -- What is issued for an order is presented as it is asked, and accepted with the claims that are to be shown.
-use Rattle.std.proofs.Common.{◌≡◌, ◌≢◌, ℕ, ◌<◌, List, sym, ap, subst, ◌∙◌, arith}
+use Rattle.std.proofs.Common.{◌≡◌, ◌≢◌, ℕ, ◌<◌, List, sym, ap, subst, ◌∙◌, arith, codes}
 use Rattle.std.specs.Prelude.{◌^◌}
 use Rattle.sd_outside.specs.Causes.{Rose}
 use Rattle.claim_tree.specs.Tree.{Tree}
@@ -35,7 +35,7 @@ module _ {F : Type 0} (answers : RuleAnswers F) (rule : F) (law : PresentedOverV
       let over_values = law seed order key issued.parts (by_anyone seed order key issued.parts issued.issued) ask signing policy now later suits short in_range in
       over_values.shown token (subst (λ (x : List ℕ). IsToken x (alone issued.parts)) (sym issued.text_is) over_values.reads)
 
-  pub refuses_nothing : (error : PresentError) → error ≢ Memory → error ≢ SignFailed → IsNotPresented answers rule token ask (IsGood (hs256_key signing)) now error → ⊥
+  pub refuses_nothing : (error : PresentError) → error ≢ Memory → error ≢ SignFailed → IsNotPresented answers rule token ask (codes "HS256") (IsGood (hs256_key signing)) now error → ⊥
   refuses_nothing = shown_at.presents
 
   module _ (text : List ℕ) (presented : IsPresentedText answers rule token ask (IsGood (hs256_key signing)) now text) where

@@ -1,5 +1,5 @@
 -- For private functions: compact texts of what is issued and of what is presented.
-use Rattle.std.specs.Prelude.{◌≡◌, ℕ, List}
+use Rattle.std.specs.Prelude.{◌≡◌, ℕ, List, codes}
 use Rattle.compact_form.specs.declared.parts.Parts.{Parts}
 use Rattle.compact_form.specs.Compact.{compact}
 use Rattle.hmac_sign.specs.Hmac.{AlgKey}
@@ -17,5 +17,5 @@ pub record IsIssuedText (seed : List ℕ) (order : Order) (key : AlgKey) (text :
 
 pub record IsPresentedText {F : Type 0} (answers : RuleAnswers F) (rule : F) (token : List ℕ) (ask : Ask) (good : Meaning) (now : ℕ) (text : List ℕ) : Type 0 where
   pub parts : Parts
-  pub presented : IsPresented answers rule token ask good now parts
+  pub presented : IsPresented answers rule token ask (codes "HS256") good now parts
   pub text_is : text ≡ compact parts

@@ -1,10 +1,11 @@
 // A credential from its issuer over its holder to a verifier.
-ghost use Rattle.std.specs.Prelude.{◌≡◌, ◌≢◌, ◌≤◌, IfOk, IfErr};
+ghost use Rattle.std.specs.Prelude.{◌≡◌, ◌≢◌, ◌≤◌, IfOk, IfErr, codes};
 ghost use Rattle.sd_outside.specs.Limits.{json_depth_max};
 ghost use Rattle.claim_tree.specs.Tree.{depth};
 ghost use Rattle.claim_tree.specs.View.{tree_of};
 ghost use Rattle.compact_form.specs.Lowest.{IsLowest, NoneApplies};
 ghost use Rattle.compact_form.specs.declared.fault.Fault.{Fault};
+ghost use Rattle.hmac_sign.specs.Algs.{alg_text};
 ghost use Rattle.hmac_sign.specs.Hmac.{hs256_key, IsGood};
 ghost use Rattle.verifier_core.specs.Verdict.{Fails};
 ghost use Rattle.verifier_core.specs.Verdicts.{IsAcceptedAs};
@@ -52,7 +53,7 @@ fn issued(alloc: Global, issuer: Issuer) -> Result<TextBox, IssueError>
     requires depth { depth (tree_of issuer.order.payload) ≤ json_depth_max }
     ensures issued { IfOk result (IsIssuedText issuer.seed (order_of issuer.order) issuer.key) }
     ensures refused { IfErr result
-        (IsNotIssued (maker_of issuer.seed) (order_of issuer.order) issuer.key.alg (IsGood issuer.key)) }
+        (IsNotIssued (maker_of issuer.seed) (order_of issuer.order) (alg_text issuer.key.alg) (IsGood issuer.key)) }
     ensures signed { IfErr result (λ error. error ≢ IssueError.SignFailed) }
 {
     let Issuer {
@@ -76,7 +77,7 @@ fn presented<F: Fn(&Path) -> bool>(
 ) -> Result<TextBox, NoMemory>
     requires callable { F.IsAlwaysCallable holder.now.consent }
     requires unrefused { (error : Unpresented) → error ≢ Memory → error ≢ SignFailed
-        → IsNotPresented F.Fn holder.now.consent token.now holder.now.ask (IsGood (hs256_key key)) now error → ⊥ }
+        → IsNotPresented F.Fn holder.now.consent token.now holder.now.ask (codes "HS256") (IsGood (hs256_key key)) now error → ⊥ }
     ensures { IfOk result (IsPresentedText F.Fn holder.now.consent token.now holder.now.ask (IsGood (hs256_key key)) now) }
 {
     let steps = &mut Steps::new();
@@ -123,9 +124,9 @@ pub fn issue_present_verify<F: Fn(&Path) -> bool>(
         policy.now presented_at verified_at }
     ensures shown { IfOk result (λ payload. tree_of payload ≡ claims_for (order_of issuer.order) holder.now.ask.want) }
     ensures issued { IfOk result (λ _. NoneApplies
-        (AppliesToIssue (maker_of issuer.seed) (order_of issuer.order) issuer.key.alg (IsGood issuer.key))) }
+        (AppliesToIssue (maker_of issuer.seed) (order_of issuer.order) (alg_text issuer.key.alg) (IsGood issuer.key))) }
     ensures refused { IfErr result
-        (IsNotIssued (maker_of issuer.seed) (order_of issuer.order) issuer.key.alg (IsGood issuer.key)) }
+        (IsNotIssued (maker_of issuer.seed) (order_of issuer.order) (alg_text issuer.key.alg) (IsGood issuer.key)) }
     ensures signed { IfErr result (λ error. error ≢ IssueError.SignFailed) }
 {
     presented_values::<F>();

@@ -1,5 +1,5 @@
 -- Presenting refuses nothing on a text that is read as an issued token, where the policy suits.
-use Rattle.std.proofs.Common.{◌≡◌, ◌≢◌, ℕ, ◌<◌, ◌^◌, true, List, length, Some, refl, sym, ap, subst, ◌∙◌, arith}
+use Rattle.std.proofs.Common.{◌≡◌, ◌≢◌, ℕ, ◌<◌, ◌^◌, true, List, length, Some, refl, sym, ap, subst, ◌∙◌, arith, codes}
 use Rattle.claim_tree.specs.Path.{tree_at}
 use Rattle.claim_tree.proofs.Lists.{At-In}
 use Rattle.sd_outside.specs.Limits.{compact_max}
@@ -49,19 +49,19 @@ module _ (seed : List ℕ) (o : Order) (key : AlgKey) (parts : Parts) (is : IsTo
   hash_is hash has = one_hash (alone parts) hash o.hash has (with_alg o.hash is.has.payload, is.has.back.body, is.has.hash)
 
   -- what meets the definition of an answer is presented of the issued parts
-  pub answer_presented : (answer : Parts) → IsAnswer answers rule (alone parts) ask (IsGood (hs256_key signing)) now answer → IsPresentedOf o ask signing parts now answer
+  pub answer_presented : (answer : Parts) → IsAnswer answers rule (alone parts) ask (codes "HS256") (IsGood (hs256_key signing)) now answer → IsPresentedOf o ask signing parts now answer
   answer_presented answer a =
       let same = marked_is a.marked a.agreed.held in
       record {
         presents = subst (λ (m : Marked). PicksParts parts (chosen m ask.want) answer.binding answer) same a.presents;
         names = subst (λ (m : Marked). NamesKey ask.binding (strip (prune m (chosen m ask.want)))) same a.key;
-        bound = subst (λ (h : HashAlg). IsBoundAs ask.binding (IsGood (hs256_key signing)) h now answer) (hash_is a.hash a.has_hash) a.bound;
+        bound = subst (λ (h : HashAlg). IsBoundAs ask.binding (codes "HS256") (IsGood (hs256_key signing)) h now answer) (hash_is a.hash a.has_hash) a.bound;
       }
 
-  pub is_presented_of : (answer : Parts) → IsPresented answers rule text ask (IsGood (hs256_key signing)) now answer → IsPresentedOf o ask signing parts now answer
+  pub is_presented_of : (answer : Parts) → IsPresented answers rule text ask (codes "HS256") (IsGood (hs256_key signing)) now answer → IsPresentedOf o ask signing parts now answer
   is_presented_of answer presented =
       answer_presented answer
-      (subst (λ (t : Token). IsAnswer answers rule t ask (IsGood (hs256_key signing)) now answer) (one_token presented.token presented.is_token) presented.is_answer)
+      (subst (λ (t : Token). IsAnswer answers rule t ask (codes "HS256") (IsGood (hs256_key signing)) now answer) (one_token presented.token presented.is_token) presented.is_answer)
 
   module _ (policy : Policy) (later : ℕ) (suits : Suits answers rule o key ask signing policy now later) where
     held : IsHeld (alone parts) ask (marked_claims o)
@@ -87,13 +87,13 @@ module _ (seed : List ℕ) (o : Order) (key : AlgKey) (parts : Parts) (is : IsTo
         let kept : holder_kid (shown_for (marked_claims o) ask.want) ≡ Some one.kid = holder_kept o is.passes ask.want ∙ suits.named one is_asked in
         differs (ap (λ (m : Marked). holder_kid (strip (prune m (chosen m ask.want)))) same ∙ kept)
 
-    too_long : (answer : Parts) → IsAnswer answers rule (alone parts) ask (IsGood (hs256_key signing)) now answer → compact_max < length (compact answer) → ⊥
+    too_long : (answer : Parts) → IsAnswer answers rule (alone parts) ask (codes "HS256") (IsGood (hs256_key signing)) now answer → compact_max < length (compact answer) → ⊥
     too_long answer a long =
         let of = answer_presented answer a in
         let short = answer_short signing o.hash now in_range ask.binding small parts answer (chosen (marked_claims o) ask.want) of.presents of.bound is.short in
         omega (arith, short, long)
 
-    refuses_nothing : (error : PresentError) → error ≢ Memory → error ≢ SignFailed → IsNoAnswer answers rule (alone parts) ask (IsGood (hs256_key signing)) now error → ⊥
+    refuses_nothing : (error : PresentError) → error ≢ Memory → error ≢ SignFailed → IsNoAnswer answers rule (alone parts) ask (codes "HS256") (IsGood (hs256_key signing)) now error → ⊥
     refuses_nothing Memory memory signed h = memory refl
     refuses_nothing SignFailed memory signed h = signed refl
     refuses_nothing HasBinding memory signed h = h is.has.written.unbound
@@ -103,9 +103,9 @@ module _ (seed : List ℕ) (o : Order) (key : AlgKey) (parts : Parts) (is : IsTo
     refuses_nothing BindingKeyDiffers memory signed h = kid_differs h.binding h.marked h.agreed.held h.asked_for h.differs
     refuses_nothing TooLong memory signed h = too_long h.answer h.is_answer h.long
 
-    pub nothing_refused : (error : PresentError) → error ≢ Memory → error ≢ SignFailed → IsNotPresented answers rule text ask (IsGood (hs256_key signing)) now error → ⊥
+    pub nothing_refused : (error : PresentError) → error ≢ Memory → error ≢ SignFailed → IsNotPresented answers rule text ask (codes "HS256") (IsGood (hs256_key signing)) now error → ⊥
     nothing_refused error memory signed (no_memory e) = memory e
     nothing_refused error memory signed (not_read fault e h) = is_text.passes fault h.applies
     nothing_refused error memory signed (refused token there h) =
         refuses_nothing error memory signed
-        (subst (λ (t : Token). IsNoAnswer answers rule t ask (IsGood (hs256_key signing)) now error) (one_token token there) h)
+        (subst (λ (t : Token). IsNoAnswer answers rule t ask (codes "HS256") (IsGood (hs256_key signing)) now error) (one_token token there) h)

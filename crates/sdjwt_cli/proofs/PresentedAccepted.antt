@@ -1,5 +1,5 @@
 -- What is presented of an issued token is accepted, where the policy suits, with what is asked for of the claims.
-use Rattle.std.proofs.Common.{◌≡◌, ℕ, ◌<◌, ◌^◌, Bool, true, List, length, Option, None, Some, refl, sym, ap, ap₂, subst, ◌∙◌, arith}
+use Rattle.std.proofs.Common.{◌≡◌, ℕ, ◌<◌, ◌^◌, Bool, true, List, length, Option, None, Some, refl, sym, ap, ap₂, subst, ◌∙◌, arith, codes}
 use Rattle.std.specs.Prelude.{option_and_then, option_map}
 use Rattle.std.specs.List.{AllZip}
 use Rattle.claim_tree.specs.Tree.{Text, Tree, no_members}
@@ -64,7 +64,7 @@ use Rattle.sdjwt_cli.proofs.PresentedShort.{answer_words, answer_few, answer_sho
 pub record IsPresentedOf (o : Order) (ask : Ask) (signing : List ℕ) (parts : Parts) (now : ℕ) (answer : Parts) : Type 0 where
   pub presents : PicksParts parts (chosen (marked_claims o) ask.want) answer.binding answer
   pub names : NamesKey ask.binding (shown_for (marked_claims o) ask.want)
-  pub bound : IsBoundAs ask.binding (IsGood (hs256_key signing)) o.hash now answer
+  pub bound : IsBoundAs ask.binding (codes "HS256") (IsGood (hs256_key signing)) o.hash now answer
 
 module _ (seed : List ℕ) (o : Order) (key : AlgKey) (parts : Parts) (is : IsTokenOf seed o key parts)
     (ask : Ask) (signing : List ℕ) (small : AreShort ask.binding) (now : ℕ) (in_range : now < 2 ^ 64) (answer : Parts) (presented : IsPresentedOf o ask signing parts now answer) where
@@ -133,21 +133,21 @@ module _ (seed : List ℕ) (o : Order) (key : AlgKey) (parts : Parts) (is : IsTo
     one_answer token there = tokens.one text token (alone answer) there is_text
 
     -- a key binding token that the policy asks for is there
-    not_missing : (asked : Option BindingAsk) (binding : Option JwtParts) → IsBoundWith asked (IsGood (hs256_key signing)) o.hash (hashed answer) now binding → (one : BindingAsk) → asked ≡ Some one → binding ≡ None → ⊥
+    not_missing : (asked : Option BindingAsk) (binding : Option JwtParts) → IsBoundWith asked (codes "HS256") (IsGood (hs256_key signing)) o.hash (hashed answer) now binding → (one : BindingAsk) → asked ≡ Some one → binding ≡ None → ⊥
     not_missing None binding bound one e none = cc e
     not_missing (Some a) None bound one e none = bound
     not_missing (Some a) (Some token) bound one e none = cc none
 
     -- and it is the one that the holder made
-    made_binding : (asked : Option BindingAsk) (binding : Option JwtParts) (one : BindingAsk) (token : JwtParts) → IsBoundWith asked (IsGood (hs256_key signing)) o.hash (hashed answer) now binding → asked ≡ Some one → binding ≡ Some token
-        → IsBoundBy one (IsGood (hs256_key signing)) o.hash (hashed answer) now token
+    made_binding : (asked : Option BindingAsk) (binding : Option JwtParts) (one : BindingAsk) (token : JwtParts) → IsBoundWith asked (codes "HS256") (IsGood (hs256_key signing)) o.hash (hashed answer) now binding → asked ≡ Some one → binding ≡ Some token
+        → IsBoundBy one (codes "HS256") (IsGood (hs256_key signing)) o.hash (hashed answer) now token
     made_binding None binding one token bound e f = cc e
     made_binding (Some a) None one token bound e f = absurd bound
     made_binding (Some a) (Some t) one token bound e f =
         let asks : a ≡ one = cc e in
         let tokens_same : t ≡ token = cc f in
-        subst (λ (x : BindingAsk). IsBoundBy x (IsGood (hs256_key signing)) o.hash (hashed answer) now token) asks
-        (subst (λ (x : JwtParts). IsBoundBy a (IsGood (hs256_key signing)) o.hash (hashed answer) now x) tokens_same bound)
+        subst (λ (x : BindingAsk). IsBoundBy x (codes "HS256") (IsGood (hs256_key signing)) o.hash (hashed answer) now token) asks
+        (subst (λ (x : JwtParts). IsBoundBy a (codes "HS256") (IsGood (hs256_key signing)) o.hash (hashed answer) now x) tokens_same bound)
 
     names_ask : (asked : Option BindingAsk) (one : BindingAsk) → NamesKey asked (shown_for (marked_claims o) ask.want) → asked ≡ Some one → holder_kid (shown_for (marked_claims o) ask.want) ≡ Some one.kid
     names_ask None one names e = cc e
@@ -164,8 +164,8 @@ module _ (seed : List ℕ) (o : Order) (key : AlgKey) (parts : Parts) (is : IsTo
         let suit = suits.bound b wanted in
         let made = made_binding ask.binding answer.binding suit.ask fails.token presented.bound suit.asked_for fails.sent in
         let j = judged fails.token payload (binding_rules b) policy.skew o.hash (hashed answer) later in
-        let is_binding = subst (λ (x : Text). IsBinding (IsGood (hs256_key signing)) o.hash (hashed answer) suit.ask.aud x now fails.token) suit.nonce made.is_binding in
-        let read_back = subst (λ (x : Text). IsReadBack o.hash (hashed answer) suit.ask.aud x now fails.token) suit.nonce made.read_back in
+        let is_binding = subst (λ (x : Text). IsBinding (codes "HS256") (IsGood (hs256_key signing)) o.hash (hashed answer) suit.ask.aud x now fails.token) suit.nonce made.is_binding in
+        let read_back = subst (λ (x : Text). IsReadBack (codes "HS256") o.hash (hashed answer) suit.ask.aud x now fails.token) suit.nonce made.read_back in
         let kid : holder_kid payload ≡ Some suit.ask.kid = ap holder_kid shown ∙ names_ask ask.binding suit.ask presented.names suit.asked_for in
         let found : holder_key b.keys payload ≡ Some signing = ap (option_and_then (key_named b.keys)) kid ∙ suit.known in
         accepted b.keys signing suit.ask.aud now j is_binding read_back suit.aud refl found suit.not_stale suit.not_early c place

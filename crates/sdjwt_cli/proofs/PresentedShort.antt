@@ -43,20 +43,20 @@ compact_length parts = length-append (hashed parts) (ending parts.binding)
 
 -- ---- a key binding token
 
-binding_words : (key : List ℕ) (hash : HashAlg) (text aud nonce : Text) (now : ℕ) (token : JwtParts) → IsBinding (IsGood (hs256_key key)) hash text aud nonce now token → HasWords token
+binding_words : (key : List ℕ) (hash : HashAlg) (text aud nonce : Text) (now : ℕ) (token : JwtParts) → IsBinding (codes "HS256") (IsGood (hs256_key key)) hash text aud nonce now token → HasWords token
 binding_words key hash text aud nonce now token is = record {
-  protected = subst IsWord (sym is.protected) (object_word (header_members binding_header));
+  protected = subst IsWord (sym is.protected) (object_word (header_members (binding_header (codes "HS256"))));
   payload = subst IsWord (sym is.payload) (object_word (claim_members (claims_for hash text aud nonce now)));
   signature = subst IsWord (sym is.signature_text) (IsWord-b64 is.signature (omega (arith, ap length is.signed, length-mac (hs256_key key) token.protected token.payload)));
 }
 
 module _ (key : List ℕ) (hash : HashAlg) (text : Text) (now : ℕ) (in_range : now < 2 ^ 64) where
-  pub ending_words : (asked : Option BindingAsk) (binding : Option JwtParts) → IsBoundWith asked (IsGood (hs256_key key)) hash text now binding → IfSome binding HasWords
+  pub ending_words : (asked : Option BindingAsk) (binding : Option JwtParts) → IsBoundWith asked (codes "HS256") (IsGood (hs256_key key)) hash text now binding → IfSome binding HasWords
   ending_words None binding is = subst (λ b. IfSome b HasWords) (sym is) tt
   ending_words (Some ask) None is = absurd is
   ending_words (Some ask) (Some token) is = binding_words key hash text ask.aud ask.nonce now token is.is_binding
 
-  pub ending_short : (asked : Option BindingAsk) (binding : Option JwtParts) → AreShort asked → IsBoundWith asked (IsGood (hs256_key key)) hash text now binding → length (ending binding) < 5000
+  pub ending_short : (asked : Option BindingAsk) (binding : Option JwtParts) → AreShort asked → IsBoundWith asked (codes "HS256") (IsGood (hs256_key key)) hash text now binding → length (ending binding) < 5000
   ending_short None binding small is = omega (arith, ap (λ b. length (ending b)) is)
   ending_short (Some ask) None small is = absurd is
   ending_short (Some ask) (Some token) small is = binding_short key hash text ask.aud ask.nonce now token small.0 small.1 in_range is.is_binding
@@ -64,7 +64,7 @@ module _ (key : List ℕ) (hash : HashAlg) (text : Text) (now : ℕ) (in_range :
 -- ---- what is presented
 
 module _ (key : List ℕ) (hash : HashAlg) (now : ℕ) (in_range : now < 2 ^ 64) (asked : Option BindingAsk) (small : AreShort asked) (parts answer : Parts) (s : ℕ → Bool)
-    (presents : PicksParts parts s answer.binding answer) (bound : IsBoundAs asked (IsGood (hs256_key key)) hash now answer) where
+    (presents : PicksParts parts s answer.binding answer) (bound : IsBoundAs asked (codes "HS256") (IsGood (hs256_key key)) hash now answer) where
   pub answer_words : AreWords parts → AreWords answer
   answer_words words = record {
     signed = subst HasWords (sym presents.signed) words.signed;

@@ -1,5 +1,5 @@
 -- What `gen` counts of a token that is issued, presented and verified.
-use Rattle.std.proofs.Common.{◌≡◌, ◌≢◌, ℕ, ◌+◌, ◌-◌, ◌<◌, ◌≤◌, ◌^◌, Bool, List, [], length, refl, sym, ap, ap₂, subst, ◌∙◌, arith}
+use Rattle.std.proofs.Common.{◌≡◌, ◌≢◌, ℕ, ◌+◌, ◌-◌, ◌<◌, ◌≤◌, ◌^◌, Bool, List, [], length, refl, sym, ap, ap₂, subst, ◌∙◌, arith, codes}
 use Rattle.std.proofs.lemmas.Slice.Zip.{AllZip-long}
 use Rattle.std.specs.List.{count_by, range_with_len}
 use Rattle.sd_outside.specs.Limits.{count_max}
@@ -65,7 +65,7 @@ module _ (n : ℕ) (issued : Parts) (is_issued : IsIssuedBy generated_seed (gene
   here : IsShownAt never_rule [] (compact issued) (generated_ask n) generated_key.block generated_policy 0 0 claims
   here = through.shown (compact issued) through.reads
 
-  pub nothing_refused : (error : PresentError) → error ≢ Memory → error ≢ SignFailed → IsNotPresented never_rule [] (compact issued) (generated_ask n) (IsGood generated_key) 0 error → ⊥
+  pub nothing_refused : (error : PresentError) → error ≢ Memory → error ≢ SignFailed → IsNotPresented never_rule [] (compact issued) (generated_ask n) (codes "HS256") (IsGood generated_key) 0 error → ⊥
   nothing_refused = here.presents
 
   is : IsTokenOf generated_seed (generated n) generated_key issued

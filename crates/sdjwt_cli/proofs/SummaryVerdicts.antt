@@ -1,5 +1,5 @@
 -- The command `gen` has one verdict.
-use Rattle.std.proofs.Common.{◌≡◌, ℕ, List, [], ap, ap₂, subst, ◌∙◌, sym}
+use Rattle.std.proofs.Common.{◌≡◌, ℕ, List, [], ap, ap₂, subst, ◌∙◌, sym, codes}
 use Rattle.claim_tree.specs.Tree.{Tree}
 use Rattle.compact_form.specs.declared.parts.Parts.{Parts}
 use Rattle.compact_form.specs.Compact.{compact}
@@ -32,8 +32,8 @@ module _ (n : ℕ) where
   same_presented : (a b : List ℕ) (g : Summarizes n a) (h : Summarizes n b) → g.presented ≡ h.presented
   same_presented a b g h =
       let issued : g.issued ≡ h.issued = one_token (maker_of generated_seed) (generated n) generated_key g.issued h.issued g.shown.is_issued.laid h.shown.is_issued.laid in
-      let presented = subst (λ (parts : Parts). IsPresented never_rule [] (compact parts) (generated_ask n) (IsGood generated_key) 0 g.presented) issued g.shown.is_presented in
-      one_presented never_rule [] (never_decided []) (compact h.issued) (generated_ask n) (IsGood generated_key) (one_signature generated_key) 0 g.presented h.presented presented h.shown.is_presented
+      let presented = subst (λ (parts : Parts). IsPresented never_rule [] (compact parts) (generated_ask n) (codes "HS256") (IsGood generated_key) 0 g.presented) issued g.shown.is_presented in
+      one_presented never_rule [] (never_decided []) (compact h.issued) (generated_ask n) (codes "HS256") (IsGood generated_key) (one_signature generated_key) 0 g.presented h.presented presented h.shown.is_presented
 
   summarized : (a b : List ℕ) → Summarizes n a → Summarizes n b → a ≡ b
   summarized a b g h =

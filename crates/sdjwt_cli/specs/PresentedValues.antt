@@ -1,5 +1,5 @@
 -- Not needed to believe the program's promises: the law that what is presented is accepted, over values.
-use Rattle.std.specs.Prelude.{◌≢◌, ℕ, ◌<◌, ◌^◌, List, ◌≤◌, length, Option, IfSome}
+use Rattle.std.specs.Prelude.{◌≢◌, ℕ, ◌<◌, ◌^◌, List, ◌≤◌, length, Option, IfSome, codes}
 use Rattle.std.specs.Str.{IsUtf8}
 use Rattle.claim_tree.specs.Tree.{Tree, IsOrdered}
 use Rattle.compact_form.specs.declared.parts.Parts.{Parts}
@@ -32,8 +32,8 @@ pub record IsAcceptedWith (answer : Parts) (policy : Policy) (verified : ℕ) (c
 
 -- of a text that is read as the token nothing is refused that is asked for, and whatever is presented is accepted with these claims
 pub record IsShownAt {F : Type 0} (answers : RuleAnswers F) (rule : F) (token : List ℕ) (ask : Ask) (signing : List ℕ) (policy : Policy) (presented verified : ℕ) (claims : Tree) : Type 0 where
-  pub presents : (error : PresentError) → error ≢ Memory → error ≢ SignFailed → IsNotPresented answers rule token ask (IsGood (hs256_key signing)) presented error → ⊥
-  pub verifies : (answer : Parts) → IsPresented answers rule token ask (IsGood (hs256_key signing)) presented answer → IsAcceptedWith answer policy verified claims
+  pub presents : (error : PresentError) → error ≢ Memory → error ≢ SignFailed → IsNotPresented answers rule token ask (codes "HS256") (IsGood (hs256_key signing)) presented error → ⊥
+  pub verifies : (answer : Parts) → IsPresented answers rule token ask (codes "HS256") (IsGood (hs256_key signing)) presented answer → IsAcceptedWith answer policy verified claims
 
 -- the compact text of the parts is read as them, and so it is of each text that is
 pub record IsShownOf {F : Type 0} (answers : RuleAnswers F) (rule : F) (parts : Parts) (ask : Ask) (signing : List ℕ) (policy : Policy) (presented verified : ℕ) (claims : Tree) : Type 0 where

@@ -1,5 +1,5 @@
 -- The command `present`: what it prints of a token file for an order file, and when it refuses.
-use Rattle.std.specs.Prelude.{◌≡◌, ◌≢◌, ◌≤◌, ℕ, List, length, replicate, Option, None, Some}
+use Rattle.std.specs.Prelude.{◌≡◌, ◌≢◌, ◌≤◌, ℕ, List, length, replicate, Option, None, Some, codes}
 use Rattle.sd_outside.specs.Limits.{compact_max}
 use Rattle.compact_form.specs.declared.parts.Parts.{Parts}
 use Rattle.compact_form.specs.Compact.{compact}
@@ -21,11 +21,11 @@ signing_key (Some key) = key
 
 -- what is presented of the token for what an order says
 abbrev pub IsPresentedFor : PresentFile → List ℕ → ℕ → Parts → Type 0
-IsPresentedFor said token_file now parts = IsPresented never_rule said.never token_file said.ask (IsGood (hs256_key (signing_key said.key))) now parts
+IsPresentedFor said token_file now parts = IsPresented never_rule said.never token_file said.ask (codes "HS256") (IsGood (hs256_key (signing_key said.key))) now parts
 
 -- why nothing is presented
 abbrev pub IsNotPresentedFor : PresentFile → List ℕ → ℕ → PresentError → Type 0
-IsNotPresentedFor said token_file now error = IsNotPresented never_rule said.never token_file said.ask (IsGood (hs256_key (signing_key said.key))) now error
+IsNotPresentedFor said token_file now error = IsNotPresented never_rule said.never token_file said.ask (codes "HS256") (IsGood (hs256_key (signing_key said.key))) now error
 
 -- the token is presented for the order, and this is the line of its compact text
 pub record Presents (order_file token_file : List ℕ) (now : ℕ) (answer : List ℕ) : Type 0 where

@@ -57,7 +57,7 @@ summary_lines hidden presented digests bytes =
 -- are wanted, all of it at the moment 0
 pub record IsShownThrough (n : ℕ) (issued presented : Parts) : Type 0 where
   pub is_issued : IsIssuedBy generated_seed (generated n) generated_key issued
-  pub is_presented : IsPresented never_rule [] (compact issued) (generated_ask n) (IsGood generated_key) 0 presented
+  pub is_presented : IsPresented never_rule [] (compact issued) (generated_ask n) (codes "HS256") (IsGood generated_key) 0 presented
   pub marked : Marked
   pub is_accepted : IsAccepted (compact presented) generated_policy 0 marked
   pub claims_are : strip marked ≡ shown_claims n

@@ -1,5 +1,5 @@
 -- For private functions: what the steps of `gen` answer.
-use Rattle.std.specs.Prelude.{ℕ, []}
+use Rattle.std.specs.Prelude.{ℕ, [], codes}
 use Rattle.claim_tree.specs.Tree.{Tree}
 use Rattle.claim_tree.specs.View.{tree_of}
 use Rattle.claim_tree.specs.declared.tree.Tree as code
@@ -16,7 +16,7 @@ use Rattle.sdjwt_cli.specs.PresentedValues.{IsAcceptedWith}
 
 -- what is presented of the issued parts
 abbrev pub IsPresentedOf : ℕ → Parts → Parts → Type 0
-IsPresentedOf n issued presented = IsPresented never_rule [] (compact issued) (generated_ask n) (IsGood generated_key) 0 presented
+IsPresentedOf n issued presented = IsPresented never_rule [] (compact issued) (generated_ask n) (codes "HS256") (IsGood generated_key) 0 presented
 
 -- the parts are accepted with some claims
 abbrev pub IsAcceptable : Parts → Type 0

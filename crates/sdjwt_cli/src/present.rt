@@ -1,5 +1,5 @@
 // The command `present`: the compact text of what a holder shows of a token.
-ghost use Rattle.std.specs.Prelude.{◌≡◌, ◌≢◌, ◌≤◌, ℕ, List, length, IfOk, IfErr, string_bytes};
+ghost use Rattle.std.specs.Prelude.{◌≡◌, ◌≢◌, ◌≤◌, ℕ, List, length, IfOk, IfErr, string_bytes, codes};
 ghost use Rattle.compact_form.specs.Compact.{AreWords, compact};
 ghost use Rattle.sd_outside.specs.Limits.{compact_max};
 ghost use Rattle.hmac_sign.specs.Hmac.{IsGood, hs256_key};
@@ -44,10 +44,10 @@ pub(crate) fn present_parts(
     key: &mut Hs256Key,
     now: u64,
 ) -> Result<Parts, PresentError>
-    ensures presented { IfOk result (IsPresented never_rule never token_file.now ask.now (IsGood (hs256_key key.old)) now) }
+    ensures presented { IfOk result (IsPresented never_rule never token_file.now ask.now (codes "HS256") (IsGood (hs256_key key.old)) now) }
     ensures words { IfOk result AreWords }
     ensures short { IfOk result (λ parts. length (compact parts) ≤ compact_max) }
-    ensures refused { IfErr result (IsNotPresented never_rule never token_file.now ask.now (IsGood (hs256_key key.old)) now) }
+    ensures refused { IfErr result (IsNotPresented never_rule never token_file.now ask.now (codes "HS256") (IsGood (hs256_key key.old)) now) }
     ensures signed { IfErr result (λ error. error ≢ PresentError.SignFailed) }
 {
     let never = NeverPlaces::of(never)?;
