@@ -1,4 +1,5 @@
 use Rattle.std.proofs.Common.{◌≢◌, Err, ap, ◌∙◌, rules}
+use Rattle.hmac_sign.specs.Algs.{alg_text}
 use Rattle.hmac_sign.specs.Hmac.{IsGood}
 use Rattle.issuer_core.specs.declared.errors.IssueError.TheVariants.{Memory, SignFailed}
 use Rattle.issuer_core.specs.Order.{order_of}
@@ -26,6 +27,6 @@ returns-in_ok-as_line-in-Err-clause-refuses c =
     let failed : error ≢ SignFailed = λ is. never (c.in-Err.ensures.failed (ap Err is)) in
     record {
       error = error;
-      lowest = lowest (maker_of c.args.seed.now) (order_of c.args.order) c.args.key.alg (IsGood c.args.key) error memory failed c.in-Err.ensures.refused;
+      lowest = lowest (maker_of c.args.seed.now) (order_of c.args.order) (alg_text c.args.key.alg) (IsGood c.args.key) error memory failed c.in-Err.ensures.refused;
       line_is = c.in_ok-as_line-in-Err.ensures ∙ ap line c.in_ok-refusal_line-in-Err.ensures;
     }
