@@ -32,7 +32,8 @@ meanings issuer holder = record { issuer = issuer; holder = holder }
 
 -- the signature of the JWT is the base64url text of bytes that are good for its head and its body
 abbrev pub IsGoodBy : Meaning → JwtParts → Type 0
-IsGoodBy good signed = (signature : List ℕ) × Decodes signed.signature signature × good signed.protected signed.payload signature
+IsGoodBy good signed =
+    (signature : List ℕ) × Decodes signed.signature signature × good signed.protected signed.payload signature
 
 -- the text is that of a token that processes to this payload, and that is sent with this key binding token
 pub record IsSentWith (text : List ℕ) (payload : Tree) (binding : JwtParts) : Type 0 where
@@ -53,15 +54,17 @@ IsIssuerSignatureBad by text = (token : Token) × IsToken text token × (IsGoodB
 abbrev pub IsHolderSignatureBad : Meanings → List ℕ → Policy → Type 0
 IsHolderSignatureBad by text policy =
     (asked : BindingPolicy) × (policy.binding ≡ Some asked)
-    × (payload : Tree) × (binding : JwtParts) × IsSentWith text payload binding × (IsGoodBy (by.holder payload) binding → ⊥)
+    × (payload : Tree) × (binding : JwtParts) × IsSentWith text payload binding
+    × (IsGoodBy (by.holder payload) binding → ⊥)
 
--- what fails each condition, where no lower one fails: every key is known, a signature is good by its meaning, and the other
--- conditions are those of a caller, which no answer bears upon
+-- what fails each condition, where no lower one fails: every key is known, a signature is good by its meaning, and the
+-- other conditions are those of a caller, which no answer bears upon
 abbrev pub FailsUnder : Meanings → List ℕ → Policy → List Text → ℕ → Condition → Place → Type 0
 FailsUnder by text policy binding_algs now Condition.IssuerKeyUnknown place = ⊥
 FailsUnder by text policy binding_algs now Condition.BadSignature place = Unplaced (IsIssuerSignatureBad by text) place
 FailsUnder by text policy binding_algs now Condition.HolderKeyUnknown place = ⊥
-FailsUnder by text policy binding_algs now Condition.BindingSignature place = Unplaced (IsHolderSignatureBad by text policy) place
+FailsUnder by text policy binding_algs now Condition.BindingSignature place =
+    Unplaced (IsHolderSignatureBad by text policy) place
 FailsUnder by text policy binding_algs now c place =
     FailsFor text (caller_demands policy binding_algs Answers.Nothing) now c place
 
@@ -88,14 +91,16 @@ pub record AreTrue (by : Meanings) (text : List ℕ) (answers : Answers) : Type 
   pub issuer : (answer : SignatureAnswer) → issuer_answer answers ≡ Some answer
       → (token : Token) → IsToken text token → IsTrueOf answer by.issuer token.parts.signed
   pub holder : (answer : SignatureAnswer) → holder_answer answers ≡ Some answer
-      → (payload : Tree) (binding : JwtParts) → IsSentWith text payload binding → IsTrueOf answer (by.holder payload) binding
+      → (payload : Tree) (binding : JwtParts) → IsSentWith text payload binding
+      → IsTrueOf answer (by.holder payload) binding
 
 -- all that was said is true, and nothing more is to be known
 pub record AreTold (by : Meanings) (text : List ℕ) (policy : Policy) (binding_algs : List Text) (now : ℕ) (answers : Answers) : Type 0 where
   pub truth : AreTrue by text answers
   pub done : IsAskedNext text (caller_demands policy binding_algs answers) now answers → ⊥
 
--- the condition that fails by the meanings, where this one fails a caller: it has no key only where the signature is not good
+-- the condition that fails by the meanings, where this one fails a caller: a key that it does not know makes no good
+-- signature
 abbrev pub by_meaning : Condition → Condition
 by_meaning Condition.IssuerKeyUnknown = Condition.BadSignature
 by_meaning Condition.HolderKeyUnknown = Condition.BindingSignature
@@ -114,8 +119,7 @@ AcceptedByMeaning by =
     → IsAcceptedForAs text (caller_demands policy binding_algs answers) now payload
     ↔ IsAcceptedUnder by text policy binding_algs now payload
 
--- where it has, the lowest condition that fails it is the lowest by the meanings, but that a key which it does not know is a
--- signature that is not good
+-- where it has, the lowest condition that fails it is the lowest by the meanings, but for a key that it does not know
 abbrev pub RefusedByMeaning : Meanings → Type 0
 RefusedByMeaning by =
     (text : List ℕ) (policy : Policy) (binding_algs : List Text) (now : ℕ) (answers : Answers) (fault : Fault)
@@ -140,7 +144,8 @@ pub record HasOneVerdictUnder (by : Meanings) (text : List ℕ) (policy : Policy
 
 abbrev pub OneVerdictByMeaning : Meanings → Type 0
 OneVerdictByMeaning by =
-    (text : List ℕ) (policy : Policy) (binding_algs : List Text) (now : ℕ) → HasOneVerdictUnder by text policy binding_algs now
+    (text : List ℕ) (policy : Policy) (binding_algs : List Text) (now : ℕ)
+    → HasOneVerdictUnder by text policy binding_algs now
 
 -- the signature of a JWT is good where that of the question about it is
 abbrev pub AnsweredByMeaning : Meaning → Type 0

@@ -463,7 +463,8 @@ fn judge_token(
 ///
 /// The caller answers for its word: it has checked the signature over the bytes of the question and no others, with a
 /// key that serves the algorithm that the header names, and that it trusts; for the holder with the key of the claim
-/// `cnf` in the payload of the question.
+/// `cnf` in the payload of the question. Where its word is true, the verdict is that by the meaning of the signatures
+/// ([`judged_by_meaning`](crate::laws::judged_by_meaning)).
 pub fn judge(
     alloc: Global,
     text: &[u8],

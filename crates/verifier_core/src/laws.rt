@@ -60,9 +60,11 @@ pub fn same_verdict()
         → IsToken text token → token.outer ≡ no_members → HaveOneVerdict text (json_text (general_of token)) policy now }
 {}
 
-/// Where a caller of [`judge`](crate::judge) said the truth and is asked no more, the verdict is that by the meaning of
-/// the signatures: the issuer's, and those of the holder whom the processed payload names. By this meaning a text has one
-/// verdict, so that it decides what `judge` answers. Who checks the signature of a question says the truth of the token.
+/// Where what a caller said to [`judge`](crate::judge) is true and nothing more is to be known, its verdict is that by the
+/// meaning of the signatures: the issuer's, and those of the holder whom the processed payload names. It accepts just what
+/// is accepted by them, and the lowest condition that fails is the same, but that 9 is then 10 and 27 is 30: a key that
+/// the caller does not know makes no good signature. By the meanings a text has one verdict, so they decide what `judge`
+/// answers. The signature of a token is good where a checker says so of the bytes of the question.
 pub fn judged_by_meaning<I: Checker, H: Checker>()
     ensures accepted { (issuer : I) (holder : Tree → H) → AcceptedByMeaning (meanings (I.good issuer) (λ payload. H.good (holder payload))) }
     ensures refused { (issuer : I) (holder : Tree → H) → RefusedByMeaning (meanings (I.good issuer) (λ payload. H.good (holder payload))) }
