@@ -1,5 +1,5 @@
 // A JWT that has no signature yet.
-ghost use Rattle.std.specs.Prelude.{◌≡◌, ◌≤◌, ◌<◌, length, IfOk, IsErrOf};
+ghost use Rattle.std.specs.Prelude.{◌≡◌, ◌≤◌, ◌<◌, ◌++◌, codes, length, IfOk, IsErrOf};
 ghost use Rattle.sd_outside.specs.Causes.{Rose};
 ghost use Rattle.hmac_sign.specs.Agreement.{Agree};
 ghost use Rattle.hmac_sign.specs.SignedJwt.{IsSignedWith, IsSignedBy};
@@ -19,6 +19,17 @@ pub struct UnsignedJwt {
 }
 
 impl UnsignedJwt {
+    /// The text that the signature is over.
+    pub fn text(&self, alloc: Global) -> Result<TextBox, NoMemory>
+        ensures { IfOk result (λ text. text ≡ self.now.protected ++ (codes "." ++ self.now.payload)) }
+    {
+        let mut text = String::with_capacity(alloc, self.protected.as_str().len())?;
+        text.push_str(self.protected.as_str())?;
+        text.push('.')?;
+        text.push_str(self.payload.as_str())?;
+        Ok(TextBox::from_string(text))
+    }
+
     /// The JWT with these bytes as its signature, whoever made them.
     pub fn with_signature(self, alloc: Global, signature: &[u8]) -> Result<JwtParts, NoMemory>
         ensures { IfOk result (IsSignedWith self signature.now) }

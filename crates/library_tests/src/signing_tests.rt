@@ -4,7 +4,7 @@ ghost use Rattle.std.specs.Prelude.{◌<◌, length, IfOk};
 use claim_tree::{Field, FileFault};
 use compact_form::print;
 use disclosure::HashAlg;
-use hmac_sign::{Alg, HsKey, Signer};
+use hmac_sign::{Alg, HsKey, Signer, UnsignedJwt};
 use issuer_core::{IssueError, issue_owned, read_order, read_unsigned_order, to_sign};
 use key_binding::{bind, unsigned_binding};
 use sd_outside::{ByteBox, TextBox};
@@ -85,21 +85,23 @@ fn what_is_not_to_be_signed_is_told(rt: HostRuntime) -> Result<(), Fail> {
     Ok(())
 }
 
-// The key binding token of this algorithm, up to its signature.
-fn unsigned(alloc: Global, alg: &str) -> Result<(TextBox, TextBox), Fail> {
+// What is to be signed of a key binding token, by this algorithm.
+fn unsigned(alloc: Global, alg: &str) -> Result<UnsignedJwt, Fail> {
     let hash = HashAlg::Sha256;
-    let unsigned = unsigned_binding(alloc, alg, hash, "a.b.c~d~", "https://v", "n", 1000)?;
-    Ok((unsigned.protected, unsigned.payload))
+    Ok(unsigned_binding(alloc, alg, hash, "a.b.c~d~", "https://v", "n", 1000)?)
 }
 
 // Its header is `{"alg":"ES256","typ":"kb+jwt"}`.
 #[test]
 fn a_key_binding_token_names_the_algorithm_of_whoever_signs(rt: HostRuntime) -> Result<(), Fail> {
     let alloc = rt.alloc();
-    let (protected, payload) = unsigned(alloc, "ES256")?;
-    assert_eq!(rt; protected.as_str(), "eyJhbGciOiJFUzI1NiIsInR5cCI6ImtiK2p3dCJ9");
+    let unsigned = unsigned(alloc, "ES256")?;
+    let (protected, payload) = (unsigned.protected.as_str(), unsigned.payload.as_str());
+    assert_eq!(rt; protected, "eyJhbGciOiJFUzI1NiIsInR5cCI6ImtiK2p3dCJ9");
+    let text = format!(in alloc; "{protected}.{payload}")?;
+    assert_eq!(rt; unsigned.text(alloc)?.as_str(), text.as_str());
     let bound = bind(alloc, &mut key()?, HashAlg::Sha256, "a.b.c~d~", "https://v", "n", 1000);
     let bound = bound.map_err(|_| "not bound")?;
-    assert_eq!(rt; payload.as_str(), bound.payload.as_str());
+    assert_eq!(rt; payload, bound.payload.as_str());
     Ok(())
 }
