@@ -26,7 +26,14 @@ fn audit_for(alloc: Global, asked: IssueFile, token_file: &[u8]) -> Result<Strin
     ensures read { IfErr result (λ stop. OnUnread stop (λ _. ⊥)) }
 {
     let IssueFile { order, key } = asked;
-    match audit_owned(alloc, order, key.alg_name(), &key, token_file, &mut Steps::new()) {
+    match audit_owned(
+        alloc,
+        order,
+        key.alg_name(),
+        &key,
+        token_file,
+        &mut Steps::new(),
+    ) {
         Ok(()) => Ok(as_line(TextBox::make(alloc, "yes")?)?),
         Err(AuditError::Memory) => Err(Stop::Memory),
         Err(error) => Err(Stop::Refused(as_line(refusal_line(alloc, &error)?)?)),

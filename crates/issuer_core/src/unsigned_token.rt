@@ -34,11 +34,7 @@ impl UnsignedToken {
     }
 
     // The token with a signature of the signer, which is asked once.
-    pub(crate) fn sign<S: Signer>(
-        self,
-        alloc: Global,
-        signer: &mut S,
-    ) -> Result<Parts, IssueError>
+    pub(crate) fn sign<S: Signer>(self, alloc: Global, signer: &mut S) -> Result<Parts, IssueError>
         ensures signed { IfOk result (IsTokenBy self (S.good signer.old)) }
         ensures short { IfOk result (λ parts. length (compact parts) ≤ issue_max) }
         ensures refused { IfErr result (IsTokenUnmade self (S.good signer.old)) }

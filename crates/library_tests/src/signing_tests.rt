@@ -46,7 +46,11 @@ fn issued(alloc: Global) -> Result<TextBox, Fail> {
 fn issued_apart(alloc: Global) -> Result<TextBox, Fail> {
     let order = read_unsigned_order(alloc, UNKEYED.as_bytes()).map_err(|_| "no order")?;
     let token = to_sign(alloc, order, &SEED, "HS256").map_err(|_| "not to be signed")?;
-    let signature = signature(alloc, token.jwt.protected.as_str(), token.jwt.payload.as_str())?;
+    let signature = signature(
+        alloc,
+        token.jwt.protected.as_str(),
+        token.jwt.payload.as_str(),
+    )?;
     let parts = token
         .signed(alloc, signature.bytes())
         .map_err(|_| "not signed")?;
@@ -66,7 +70,10 @@ fn the_header_names_the_algorithm_of_whoever_signs(rt: HostRuntime) -> Result<()
     let alloc = rt.alloc();
     let order = read_unsigned_order(alloc, UNKEYED.as_bytes()).map_err(|_| "no order")?;
     let token = to_sign(alloc, order, &SEED, "ES256").map_err(|_| "not to be signed")?;
-    assert_eq!(rt; token.jwt.protected.as_str(), "eyJhbGciOiJFUzI1NiIsImtpZCI6ImsiLCJ0eXAiOiJ0In0");
+    assert_eq!(rt;
+        token.jwt.protected.as_str(),
+        "eyJhbGciOiJFUzI1NiIsImtpZCI6ImsiLCJ0eXAiOiJ0In0"
+    );
     assert_eq!(rt; token.disclosures.elements().len(), 2);
     Ok(())
 }
@@ -77,7 +84,12 @@ fn what_is_not_to_be_signed_is_told(rt: HostRuntime) -> Result<(), Fail> {
     let alloc = rt.alloc();
     let file = br#"{"payload":{"a":1},"hide":["/a","/x"]}"#;
     let order = read_unsigned_order(alloc, file).map_err(|_| "no order")?;
-    assert!(rt; matches!(to_sign(alloc, order, &SEED, "ES256"), Err(IssueError::NoSuchPlace(1))));
+    assert!(rt;
+        matches!(
+            to_sign(alloc, order, &SEED, "ES256"),
+            Err(IssueError::NoSuchPlace(1))
+        )
+    );
     let keyed = read_unsigned_order(alloc, KEYED.as_bytes());
     assert!(rt; matches!(keyed, Err(FileFault::Unknown)));
     let empty = read_unsigned_order(alloc, b"{}");
@@ -100,7 +112,15 @@ fn a_key_binding_token_names_the_algorithm_of_whoever_signs(rt: HostRuntime) -> 
     assert_eq!(rt; protected, "eyJhbGciOiJFUzI1NiIsInR5cCI6ImtiK2p3dCJ9");
     let text = format!(in alloc; "{protected}.{payload}")?;
     assert_eq!(rt; unsigned.text(alloc)?.as_str(), text.as_str());
-    let bound = bind(alloc, &mut key()?, HashAlg::Sha256, "a.b.c~d~", "https://v", "n", 1000);
+    let bound = bind(
+        alloc,
+        &mut key()?,
+        HashAlg::Sha256,
+        "a.b.c~d~",
+        "https://v",
+        "n",
+        1000,
+    );
     let bound = bound.map_err(|_| "not bound")?;
     assert_eq!(rt; payload, bound.payload.as_str());
     Ok(())
